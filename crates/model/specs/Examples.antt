@@ -1,0 +1,150 @@
+-- Document 01, 'Marked examples of the shop': P1 to P12, one test that the checker computes. Assumes nothing.
+use mathlib.Core.Bool.{Bool, true, false, not, _&&_, _||_}
+use mathlib.Core.List.{List, [], _∷_}
+use mathlib.Core.Option.{Option, none, some}
+use mathlib.Core.Path.{_≡_, refl}
+use Prim.Native.Nat.{ℕ, zero, suc, _+_}
+use lib.Dec.{leb, ltb, eqb}
+use lib.ListN.{getD}
+use lib.IntN.{ℤ, pos, negsuc}
+use Rattle.model.specs.Bounded.{allBelow}
+use Rattle.model.specs.Piece.{Point, Shape, Piece, pixel, turned}
+use Rattle.model.specs.Strip.{Strip, strips, runsFrom, stripsFrom}
+use Rattle.model.specs.Overlap.{OffsetRun, noFit, noFitAt, share, apartAt, depth, penalty}
+use Rattle.model.specs.Layout.{Job, Layout, Pair, origin, pairsWith, pairsFrom, pairPenalty, sumOver, weightedSum, pieceSum, inside}
+use Rattle.model.specs.Search.{Best, places, sumAt, least, searchLine}
+use Rattle.model.specs.Descent.{Descent, turnTrials, pieceTrials, trialsFrom, trials, attempt, descendFrom, descend}
+use Rattle.model.specs.declared.Turn.{Turn}
+use Rattle.model.specs.declared.Turn.the-variants.{Zero, Quarter, Half, ThreeQuarters}
+use Rattle.model.specs.declared.Direction.{Direction}
+use Rattle.model.specs.declared.Direction.the-variants.{Horizontal, Vertical}
+use Rattle.model.specs.declared.Line.the-variants.{InRow, InColumn}
+use Rattle.model.specs.declared.Placement.{Placement}
+use Rattle.model.specs.declared.End.{End}
+use Rattle.model.specs.declared.End.the-variants.{Clear, Settled, Spent}
+
+-- ── equality tests ──
+
+-- two lists of numbers are equal
+unfoldable pub same : List ℕ → List ℕ → Bool
+same [] [] = true
+same [] (b ∷ ys) = false
+same (a ∷ xs) [] = false
+same (a ∷ xs) (b ∷ ys) = eqb a b && same xs ys
+
+-- strips written out as numbers: line, first, count
+flatStrips : List Strip → List ℕ
+flatStrips [] = []
+flatStrips (t ∷ ts) = t .line ∷ t .first ∷ t .count ∷ flatStrips ts
+
+-- a signed number as its sign and its size
+signed : ℤ → List ℕ → List ℕ
+signed (pos n) rest = 0 ∷ n ∷ rest
+signed (negsuc n) rest = 1 ∷ suc n ∷ rest
+
+-- runs of offsets written out: sign, size, count
+flatRuns : List OffsetRun → List ℕ
+flatRuns [] = []
+flatRuns (r ∷ rs) = signed (r .first) (r .count ∷ flatRuns rs)
+
+-- a line search's answer written out: least sum, coordinate
+flatBest : Option Best → List ℕ
+flatBest none = []
+flatBest (some b) = b .sum ∷ b .at ∷ []
+
+-- a descent's end as a number
+endNumber : End → ℕ
+endNumber Clear = 0
+endNumber Settled = 1
+endNumber Spent = 2
+
+-- a descent written out: end, sum, trials, moves
+flatDescent : Descent → List ℕ
+flatDescent r = endNumber (r .end) ∷ r .sum ∷ r .made ∷ r .moves ∷ []
+
+-- ── the shapes ──
+
+-- A: full 2 × 2
+shapeA : Shape
+shapeA = record { columns = 2; rows = 2; has = λ x y. true }
+
+-- B: (0,0), (1,0), (0,1)
+shapeB : Shape
+shapeB = record { columns = 2; rows = 2; has = λ x y. not (eqb x 1 && eqb y 1) }
+
+-- D: 3 × 3 without its middle
+shapeD : Shape
+shapeD = record { columns = 3; rows = 3; has = λ x y. not (eqb x 1 && eqb y 1) }
+
+-- E: one pixel
+shapeE : Shape
+shapeE = record { columns = 1; rows = 1; has = λ x y. true }
+
+-- the corner (x, y)
+at : ℕ → ℕ → Point
+at a b = record { x = a; y = b }
+
+-- a placement in turn 0
+place : ℕ → ℕ → Placement
+place a b = record { turn = Zero; x = record { 0 = a }; y = record { 0 = b } }
+
+-- two full 2 × 2 pieces, o = 1, on a sheet of 2 rows and so many columns
+twoSquares : ℕ → Job
+twoSquares columns = record { rows = 2; columns = columns; count = 2; piece = λ i. record { shape = shapeA; turns = 1 } }
+
+-- ── the examples ──
+
+P1 : Bool
+P1 = same (flatStrips (strips Horizontal shapeD)) (0 ∷ 0 ∷ 3 ∷ 1 ∷ 0 ∷ 1 ∷ 1 ∷ 2 ∷ 1 ∷ 2 ∷ 0 ∷ 3 ∷ [])
+
+P2 : Bool
+P2 =
+    pixel (turned Quarter shapeB) (at 0 0) && pixel (turned Quarter shapeB) (at 1 0) && pixel (turned Quarter shapeB) (at 1 1)
+    && not (pixel (turned Quarter shapeB) (at 0 1))
+
+P3 : Bool
+P3 = same (flatRuns (noFit Horizontal shapeA shapeA (pos 1))) (1 ∷ 1 ∷ 3 ∷ [])
+
+P4 : Bool
+P4 = same (flatRuns (noFit Horizontal shapeA shapeA (pos 2))) []
+
+-- the two depths, horizontal first, and the penalty
+measures : Shape → Point → Shape → Point → List ℕ
+measures s u t v = depth Horizontal s u t v ∷ depth Vertical s u t v ∷ penalty s u t v ∷ []
+
+P5 : Bool
+P5 = same (measures shapeA (at 0 0) shapeA (at 1 0)) (1 ∷ 2 ∷ 1 ∷ [])
+
+P6 : Bool
+P6 = eqb (penalty shapeA (at 0 0) shapeA (at 0 0)) 2
+
+P7 : Bool
+P7 = eqb (penalty shapeD (at 0 0) shapeE (at 1 1)) 0
+
+P8 : Bool
+P8 = same (measures shapeD (at 0 0) shapeE (at 1 0)) (2 ∷ 1 ∷ 1 ∷ [])
+
+P9 : Bool
+P9 = eqb (penalty shapeB (at 0 0) (turned Half shapeB) (at 1 0)) 0
+
+P10 : Bool
+P10 = same (flatBest (searchLine (twoSquares 4) (3 ∷ []) (place 1 0 ∷ place 0 0 ∷ []) 1 Zero (InRow (record { 0 = 0 })))) (3 ∷ 0 ∷ [])
+
+-- the descent of the two squares from (0, 0), weight 1
+descentOf : ℕ → ℕ → List ℕ
+descentOf columns budget = flatDescent (descend (twoSquares columns) (1 ∷ []) budget (place 0 0 ∷ place 0 0 ∷ []))
+
+P11 : Bool
+P11 = same (descentOf 4 5) (0 ∷ 0 ∷ 1 ∷ 1 ∷ [])
+
+P12 : Bool
+P12 = same (descentOf 3 5) (1 ∷ 1 ∷ 5 ∷ 1 ∷ []) && same (descentOf 3 4) (2 ∷ 1 ∷ 4 ∷ 1 ∷ [])
+
+-- all of them
+pub examples : Bool
+examples = P1 && P2 && P3 && P4 && P5 && P6 && P7 && P8 && P9 && P10 && P11 && P12
+
+-- P1 to P12 hold of the definitions
+pub examples-hold : examples ≡ true
+unfolding examples P1 P2 P3 P4 P5 P6 P7 P8 P9 P10 P11 P12 same flatStrips signed flatRuns flatBest endNumber flatDescent shapeA shapeB shapeD shapeE at place twoSquares measures descentOf runsFrom stripsFrom noFitAt noFit share apartAt depth penalty pairsWith pairsFrom pairPenalty sumOver weightedSum pieceSum inside places sumAt least searchLine turnTrials pieceTrials trialsFrom trials attempt descendFrom descend Rattle.model.specs.Piece.allows
+examples-hold = refl

@@ -1,0 +1,145 @@
+-- Document 01, 'Sheet and panels' (inside), 'No-fit rows and penalty' (weights and sums), 'Start, layout text, sheet' (used
+-- length) and the check of a layout. Assumes nothing.
+use mathlib.Core.Bool.{Bool, true, false, not, _&&_, _||_}
+use mathlib.Core.List.{List, [], _∷_, _++_, map}
+use Prim.Native.Nat.{ℕ, zero, suc, _+_, _-_, _*_, min, max}
+use mathlib.Core.Option.{Option, none, some}
+use lib.Dec.{leb, ltb, eqb}
+use lib.ListN.{length, getD, replicate}
+use Rattle.model.specs.Bounded.{anyBelow, allBelow}
+use Rattle.model.specs.Piece.{Point, Shape, Piece, turned, extent, other, corner, allows}
+use Rattle.model.specs.Overlap.{share, penalty, depth}
+use Rattle.model.specs.declared.Turn.{Turn}
+use Rattle.model.specs.declared.Turn.the-variants.{Zero}
+use Rattle.model.specs.declared.Direction.{Direction}
+use Rattle.model.specs.declared.Direction.the-variants.{Horizontal, Vertical}
+use Rattle.model.specs.declared.Placement.{Placement}
+
+-- a job: a sheet of so many rows (W) and columns (L), and so many pieces (n), numbered from 0
+pub record Job : Type 0 where
+  pub rows : ℕ
+  pub columns : ℕ
+  pub count : ℕ
+  pub piece : ℕ → Piece
+
+-- the sheet's pixels along the direction: L columns, W rows
+abbrev pub sheetExtent : Direction → Job → ℕ
+sheetExtent Horizontal j = j .columns
+sheetExtent Vertical j = j .rows
+
+-- a piece in a turn
+abbrev pub turnedPiece : Job → ℕ → Turn → Shape
+turnedPiece j i t = turned t (j .piece i .shape)
+
+-- the turn is allowed to the piece
+abbrev pub allowed : Job → ℕ → Turn → Bool
+allowed j i t = allows (j .piece i .turns) t
+
+-- the turned box lies in the sheet
+unfoldable pub inside : Job → ℕ → Placement → Bool
+inside j i p =
+    leb (p .x .0 + turnedPiece j i (p .turn) .columns) (j .columns) && leb (p .y .0 + turnedPiece j i (p .turn) .rows) (j .rows)
+
+-- turn 0 at corner (0, 0)
+abbrev pub origin : Placement
+origin = record { turn = Zero; x = record { 0 = 0 }; y = record { 0 = 0 } }
+
+-- a layout: a placement for each piece, in order of number
+abbrev pub Layout : Type 0
+Layout = List Placement
+
+-- the placement of piece i
+abbrev pub placeOf : Layout → ℕ → Placement
+placeOf v i = getD v i origin
+
+-- the pixels of piece i as the layout turns it, and its corner
+abbrev pub shapeIn : Job → Layout → ℕ → Shape
+shapeIn j v i = turnedPiece j i (placeOf v i .turn)
+
+abbrev pub cornerIn : Layout → ℕ → Point
+cornerIn v i = corner (placeOf v i)
+
+-- ── pairs ──
+
+-- two piece numbers, the lower first
+pub record Pair : Type 0 where
+  pub first : ℕ
+  pub second : ℕ
+
+-- the pairs (i, k), (i, k + 1), .. of the next `left` numbers
+unfoldable pub pairsWith : ℕ → ℕ → ℕ → List Pair
+pairsWith i k zero = []
+pairsWith i k (suc left) = record { first = i; second = k } ∷ pairsWith i (suc k) left
+
+-- the pairs whose first number is one of the next `left` from i on, where i + left pieces are there
+unfoldable pub pairsFrom : ℕ → ℕ → List Pair
+pairsFrom i zero = []
+pairsFrom i (suc left) = pairsWith i (suc i) left ++ pairsFrom (suc i) left
+
+-- all pairs of n pieces, in the order (0,1), (0,2), ..
+abbrev pub pairs : ℕ → List Pair
+pairs n = pairsFrom 0 n
+
+-- the pair's pieces share a pixel in the layout
+unfoldable pub pairShares : Job → Layout → Pair → Bool
+pairShares j v p = share (shapeIn j v (p .first)) (cornerIn v (p .first)) (shapeIn j v (p .second)) (cornerIn v (p .second))
+
+-- the pair's penalty in the layout
+unfoldable pub pairPenalty : Job → Layout → Pair → ℕ
+pairPenalty j v p = penalty (shapeIn j v (p .first)) (cornerIn v (p .first)) (shapeIn j v (p .second)) (cornerIn v (p .second))
+
+-- the pair's depth along the direction in the layout
+unfoldable pub pairDepth : Direction → Job → Layout → Pair → ℕ
+pairDepth d j v p = depth d (shapeIn j v (p .first)) (cornerIn v (p .first)) (shapeIn j v (p .second)) (cornerIn v (p .second))
+
+-- the pair names piece i
+abbrev pub names : ℕ → Pair → Bool
+names i p = eqb (p .first) i || eqb (p .second) i
+
+-- ── sums ──
+
+-- weight × cost, added over the pairs that pass; the k-th weight is the k-th pair's
+unfoldable pub sumOver : (Pair → Bool) → (Pair → ℕ) → List Pair → List ℕ → ℕ
+sumOver test cost [] ws = 0
+sumOver test cost (p ∷ ps) [] = 0
+sumOver test cost (p ∷ ps) (w ∷ ws) = elim (test p) [ true ↦ w * cost p | false ↦ 0 ] + sumOver test cost ps ws
+
+-- the weighted sum: over all pairs
+unfoldable pub weightedSum : Job → List ℕ → Layout → ℕ
+weightedSum j ws v = sumOver (λ p. true) (pairPenalty j v) (pairs (j .count)) ws
+
+-- weights 1, one a pair
+unfoldable pub unitWeights : ℕ → List ℕ
+unitWeights n = replicate (length (pairs n)) 1
+
+-- the plain sum: weights 1
+unfoldable pub plainSum : Job → Layout → ℕ
+plainSum j v = weightedSum j (unitWeights (j .count)) v
+
+-- the weighted sum of the pairs that name piece i
+unfoldable pub pieceSum : Job → List ℕ → Layout → ℕ → ℕ
+pieceSum j ws v i = sumOver (names i) (pairPenalty j v) (pairs (j .count)) ws
+
+-- ── the whole layout ──
+
+-- the right end of piece i: corner x plus the turned box's columns
+abbrev pub rightEnd : Job → Layout → ℕ → ℕ
+rightEnd j v i = cornerIn v i .x + shapeIn j v i .columns
+
+-- the largest right end of the pieces below n
+unfoldable pub rightmost : Job → Layout → ℕ → ℕ
+rightmost j v zero = 0
+rightmost j v (suc n) = max (rightmost j v n) (rightEnd j v n)
+
+-- the used length: the largest right end
+unfoldable pub usedLength : Job → Layout → ℕ
+usedLength j v = rightmost j v (j .count)
+
+-- the first pair of the list that passes
+unfoldable pub firstPair : (Pair → Bool) → List Pair → Option Pair
+firstPair test [] = none
+firstPair test (p ∷ ps) = elim (test p) [ true ↦ some p | false ↦ firstPair test ps ]
+
+-- the pair that the check of a layout names: lowest first number, then lowest second
+unfoldable pub sharingPair : Job → Layout → Option Pair
+sharingPair j v = firstPair (pairShares j v) (pairs (j .count))

@@ -1,0 +1,66 @@
+// The types that every crate shares. They follow document 01, 'Sheet and panels', 'Line search', 'Descent and guidance' and
+// 'When a call says no'; what the words mean is defined in specs/.
+
+// A column number x, along the length of the sheet.
+pub struct Column(pub u16);
+
+// A row number y, across the width of the sheet.
+pub struct Row(pub u16);
+
+// A difference of two column numbers.
+pub struct ColumnOffset(pub i32);
+
+// A difference of two row numbers.
+pub struct RowOffset(pub i32);
+
+// A counterclockwise turn by 0, 90, 180 or 270 degrees.
+pub enum Turn {
+    Zero,
+    Quarter,
+    Half,
+    ThreeQuarters,
+}
+
+// The direction of a shift: along the rows or along the columns.
+pub enum Direction {
+    Horizontal,
+    Vertical,
+}
+
+// The line that a line search runs on: a held row, searched horizontally, or a held column, searched vertically.
+pub enum Line {
+    InRow(Row),
+    InColumn(Column),
+}
+
+// Where a piece lies: its turn, and the sheet pixel of its turned box's bottom-left pixel, the corner.
+pub struct Placement {
+    pub turn: Turn,
+    pub x: Column,
+    pub y: Row,
+}
+
+// A refusal: its number and two places, 0 unless named.
+pub struct Refusal {
+    pub number: u8,
+    pub first: u32,
+    pub second: u32,
+}
+
+// How a descent ends: sum zero, all trials quiet, or budget used up.
+pub enum End {
+    Clear,
+    Settled,
+    Spent,
+}
+
+// One piece's entry in the sheet record: whether it is laid and where. One that is not laid has turn 0 and corner (0, 0).
+pub struct Entry {
+    pub laid: bool,
+    pub place: Placement,
+}
+
+// The sheet record: an entry for each piece number.
+pub struct Record {
+    pub pieces: [Entry; 64],
+}

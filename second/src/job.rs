@@ -1,0 +1,186 @@
+//! Reading of the job text.
+
+use crate::shape::{Shape, Turn};
+
+/// Largest number of sheet pixels, and largest total of box areas.
+const MAX_AREA: usize = 65_536;
+
+/// A refused text: the number of the cause and the line, from 1.
+#[derive(Clone, Copy, Debug, PartialEq, Eq)]
+pub struct Refusal {
+    pub number: u8,
+    pub line: usize,
+}
+
+/// A piece: its pixels in turn 0 and the turns that it may take.
+#[derive(Clone, Debug)]
+pub struct Piece {
+    pub shape: Shape,
+    turn_sum: usize,
+}
+
+impl Piece {
+    /// A piece whose allowed turns are given as the sum of 1, 2, 4, 8.
+    pub fn new(shape: Shape, turn_sum: usize) -> Piece {
+        Piece { shape, turn_sum }
+    }
+
+    /// The allowed turns in rising order.
+    pub fn turns(&self) -> impl Iterator<Item = Turn> + '_ {
+        let allowed = |turn: &Turn| self.turn_sum & (1 << turn.index()) != 0;
+        Turn::ALL.into_iter().filter(allowed)
+    }
+}
+
+/// A sheet of `rows` by `columns` pixels and the pieces to lay on it.
+#[derive(Clone, Debug)]
+pub struct Job {
+    pub rows: usize,
+    pub columns: usize,
+    pub pieces: Vec<Piece>,
+}
+
+impl Job {
+    /// The number of unordered pairs of pieces.
+    pub fn pair_count(&self) -> usize {
+        self.pieces.len() * (self.pieces.len() - 1) / 2
+    }
+}
+
+/// Reads a whole job text; the first cause of refusal, line by line, is returned.
+pub fn read(text: &[u8]) -> Result<Job, Refusal> {
+    let mut lines = Lines { rest: text, number: 0 };
+    let (rows, columns, count) = read_job_line(&mut lines)?;
+    let mut job = Job { rows, columns, pieces: Vec::with_capacity(count) };
+    let mut area = 0;
+    for index in 0..count {
+        let header = read_piece_line(&mut lines, &job, index, &mut area)?;
+        job.pieces.push(read_rows(&mut lines, header)?);
+    }
+    lines.expect_end()?;
+    Ok(job)
+}
+
+/// The part of the text that is not yet read, and the number of the line last taken.
+struct Lines<'a> {
+    rest: &'a [u8],
+    number: usize,
+}
+
+impl<'a> Lines<'a> {
+    /// Takes the next line without its line feed; a line that has none is of wrong form.
+    fn take(&mut self) -> Result<&'a [u8], Refusal> {
+        self.number += 1;
+        let Some(end) = self.rest.iter().position(|&byte| byte == b'\n') else {
+            return Err(self.refuse(1));
+        };
+        let line = &self.rest[..end];
+        self.rest = &self.rest[end + 1..];
+        Ok(line)
+    }
+
+    /// A refusal of the line last taken.
+    fn refuse(&self, number: u8) -> Refusal {
+        Refusal { number, line: self.number }
+    }
+
+    /// Refuses the line last taken unless the condition holds.
+    fn require(&self, condition: bool, number: u8) -> Result<(), Refusal> {
+        if condition {
+            Ok(())
+        } else {
+            Err(self.refuse(number))
+        }
+    }
+
+    /// Takes a line of a word and four number fields.
+    fn take_numbers(&mut self, word: &[u8]) -> Result<[usize; 4], Refusal> {
+        let line = self.take()?;
+        numbers(line, word).ok_or_else(|| self.refuse(1))
+    }
+
+    /// Refuses anything that follows the last line.
+    fn expect_end(&mut self) -> Result<(), Refusal> {
+        if self.rest.is_empty() {
+            return Ok(());
+        }
+        self.number += 1;
+        Err(self.refuse(1))
+    }
+}
+
+/// The four numbers of a line that begins with the word, if the line is of that form.
+fn numbers(line: &[u8], word: &[u8]) -> Option<[usize; 4]> {
+    let mut fields = line.split(|&byte| byte == b',');
+    if fields.next() != Some(word) {
+        return None;
+    }
+    let mut values = [0; 4];
+    for value in &mut values {
+        *value = number(fields.next()?)?;
+    }
+    fields.next().is_none().then_some(values)
+}
+
+/// The value of a field of 1 to 5 digits with a leading zero only in 0 itself.
+fn number(field: &[u8]) -> Option<usize> {
+    let well_formed = (1..=5).contains(&field.len())
+        && field.iter().all(u8::is_ascii_digit)
+        && (field.len() == 1 || field[0] != b'0');
+    let append_digit = |value: usize, digit: &u8| 10 * value + usize::from(digit - b'0');
+    well_formed.then(|| field.iter().fold(0, append_digit))
+}
+
+/// Reads the first line: sheet rows, sheet columns and the number of pieces.
+fn read_job_line(lines: &mut Lines) -> Result<(usize, usize, usize), Refusal> {
+    let [version, rows, columns, count] = lines.take_numbers(b"job")?;
+    lines.require(version == 1, 1)?;
+    let in_range = (1..=512).contains(&rows)
+        && (1..=4096).contains(&columns)
+        && (1..=64).contains(&count);
+    lines.require(in_range, 2)?;
+    lines.require(rows * columns <= MAX_AREA, 3)?;
+    Ok((rows, columns, count))
+}
+
+/// What a piece line says of the piece.
+struct PieceHeader {
+    columns: usize,
+    rows: usize,
+    turn_sum: usize,
+}
+
+/// Reads a piece line and adds its box to the area so far.
+fn read_piece_line(
+    lines: &mut Lines,
+    job: &Job,
+    index: usize,
+    area: &mut usize,
+) -> Result<PieceHeader, Refusal> {
+    let [number, columns, rows, turn_sum] = lines.take_numbers(b"piece")?;
+    let in_range = number == index
+        && (1..=255).contains(&columns)
+        && (1..=255).contains(&rows)
+        && turn_sum <= 15
+        && turn_sum % 2 == 1;
+    lines.require(in_range, 2)?;
+    lines.require(columns <= job.columns && rows <= job.rows, 6)?;
+    *area += columns * rows;
+    lines.require(*area <= MAX_AREA, 4)?;
+    Ok(PieceHeader { columns, rows, turn_sum })
+}
+
+/// Reads the row lines of a piece, the bottom row first.
+fn read_rows(lines: &mut Lines, header: PieceHeader) -> Result<Piece, Refusal> {
+    let mut pixels = Vec::with_capacity(header.columns * header.rows);
+    for _ in 0..header.rows {
+        let marks = lines.take()?.strip_prefix(b"row,").unwrap_or_default();
+        let well_formed = marks.len() == header.columns
+            && marks.iter().all(|&mark| mark == b'#' || mark == b'.');
+        lines.require(well_formed, 1)?;
+        pixels.extend(marks.iter().map(|&mark| mark == b'#'));
+    }
+    let shape = Shape::new(header.columns, pixels);
+    lines.require(shape.is_tight(), 5)?;
+    Ok(Piece::new(shape, header.turn_sum))
+}
