@@ -8,4 +8,6 @@ pub mod Search
 pub mod Descent
 pub mod Guided
 pub mod Start
+pub mod Refusal
+pub mod Lent
 pub mod Examples

@@ -1,0 +1,111 @@
+-- A job as it is lent to a call: document 01's W, L and n, a table of n entries (l, w, o) and a store of one byte a box pixel,
+-- row by row, piece after piece. Buffers may be longer than the job needs. Assumes nothing.
+use mathlib.Core.Bool.{Bool, true, false, _&&_}
+use mathlib.Core.List.{List, [], _∷_}
+use Prim.Native.Nat.{ℕ, zero, suc, _+_, _*_, _%_}
+use lib.Dec.{leb, ltb, eqb}
+use lib.ListN.{length, getD}
+use Rattle.model.specs.Bounded.{allBelow, sumBelow}
+use Rattle.model.specs.Piece.{Shape, Piece, tight}
+use Rattle.model.specs.Layout.{Job}
+
+-- what is lent
+pub record Lent : Type 0 where
+  pub rows : ℕ
+  pub columns : ℕ
+  pub count : ℕ
+  pub table : List (List ℕ)
+  pub pixels : List ℕ
+
+-- ── document 01's limits ──
+
+-- the most rows and columns of a sheet, pieces of a job, pixels along a box side, and the largest sum of turns
+abbrev pub rowBound : ℕ
+rowBound = 512
+
+abbrev pub columnBound : ℕ
+columnBound = 4096
+
+abbrev pub pieceBound : ℕ
+pieceBound = 64
+
+abbrev pub sideBound : ℕ
+sideBound = 255
+
+abbrev pub turnsBound : ℕ
+turnsBound = 15
+
+-- the most pixels of a sheet, of all boxes together, and bytes of the program's input
+abbrev pub areaBound : ℕ
+areaBound = 65536
+
+-- from 1 to the bound
+abbrev pub upTo : ℕ → ℕ → Bool
+upTo bound k = leb 1 k && leb k bound
+
+-- ── the table ──
+
+-- entry i of the table: l columns, w rows, o the sum of the turns
+abbrev pub entryColumns : List (List ℕ) → ℕ → ℕ
+entryColumns table i = getD (getD table i []) 0 0
+
+abbrev pub entryRows : List (List ℕ) → ℕ → ℕ
+entryRows table i = getD (getD table i []) 1 0
+
+abbrev pub entryTurns : List (List ℕ) → ℕ → ℕ
+entryTurns table i = getD (getD table i []) 2 0
+
+-- the box area of entry i
+abbrev pub entryArea : List (List ℕ) → ℕ → ℕ
+entryArea table i = entryColumns table i * entryRows table i
+
+-- where piece i's pixels begin in the store; at n, how many the store has to have
+unfoldable pub pixelStart : List (List ℕ) → ℕ → ℕ
+pixelStart table i = sumBelow i (entryArea table)
+
+-- the sides are in range and the sum of turns is odd and at most 15
+unfoldable pub entryInRange : List (List ℕ) → ℕ → Bool
+entryInRange table i =
+    upTo sideBound (entryColumns table i) && upTo sideBound (entryRows table i) && eqb (entryTurns table i % 2) 1
+    && leb (entryTurns table i) turnsBound
+
+-- the box is no longer and no wider than the sheet
+unfoldable pub entryFits : ℕ → ℕ → List (List ℕ) → ℕ → Bool
+entryFits rows columns table i = leb (entryColumns table i) columns && leb (entryRows table i) rows
+
+-- ── the job ──
+
+-- the pixels of piece i
+abbrev pub lentShape : Lent → ℕ → Shape
+lentShape j i =
+    record
+      { columns = entryColumns (j .table) i
+      ; rows = entryRows (j .table) i
+      ; has = λ x y. eqb (getD (j .pixels) (pixelStart (j .table) i + (y * entryColumns (j .table) i + x)) 0) 1
+      }
+
+-- the job that is lent
+unfoldable pub jobOf : Lent → Job
+jobOf j =
+    record
+      { rows = j .rows
+      ; columns = j .columns
+      ; count = j .count
+      ; piece = λ i. record { shape = lentShape j i; turns = entryTurns (j .table) i }
+      }
+
+-- W, L and n are in range and the sheet is not too large
+unfoldable pub sheetInRange : ℕ → ℕ → ℕ → Bool
+sheetInRange rows columns count =
+    upTo rowBound rows && upTo columnBound columns && upTo pieceBound count && leb (rows * columns) areaBound
+
+-- what is lent is what some reading gives: sheet, entries, areas, store, bytes and boxes
+unfoldable pub lentWell : Lent → Bool
+lentWell j =
+    sheetInRange (j .rows) (j .columns) (j .count) && leb (j .count) (length (j .table))
+    && allBelow (j .count) (entryInRange (j .table))
+    && allBelow (j .count) (entryFits (j .rows) (j .columns) (j .table))
+    && leb (pixelStart (j .table) (j .count)) areaBound
+    && leb (pixelStart (j .table) (j .count)) (length (j .pixels))
+    && allBelow (pixelStart (j .table) (j .count)) (λ k. leb (getD (j .pixels) k 0) 1)
+    && allBelow (j .count) (λ i. tight (lentShape j i))

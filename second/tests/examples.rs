@@ -1,0 +1,167 @@
+//! The marked examples P1 to P12 and the two examples of the program.
+
+use second::job::{Job, Piece};
+use second::layout::Placement;
+use second::nofit::{BitShape, NoFit};
+use second::penalty::PenaltyMaps;
+use second::search::{Descent, End, LinePlace, Search};
+use second::shape::{Direction, Shape, Strip, Turn};
+
+/// A shape of rows of marks, the bottom row first.
+fn shape(rows: &[&str]) -> Shape {
+    let pixels = rows.concat().bytes().map(|mark| mark == b'#').collect();
+    Shape::new(rows[0].len(), pixels)
+}
+
+/// The full 2 x 2 square.
+fn a() -> Shape {
+    shape(&["##", "##"])
+}
+
+/// The pixels (0,0), (1,0), (0,1).
+fn b() -> Shape {
+    shape(&["##", "#."])
+}
+
+/// The 3 x 3 square without its middle.
+fn d() -> Shape {
+    shape(&["###", "#.#", "###"])
+}
+
+/// One pixel.
+fn e() -> Shape {
+    shape(&["#"])
+}
+
+/// A placement by degrees and corner.
+fn at(degrees: usize, x: usize, y: usize) -> Placement {
+    Placement { turn: Turn::ALL[degrees / 90], x, y }
+}
+
+/// A job with all turns sums equal.
+fn job(rows: usize, columns: usize, turn_sum: usize, shapes: Vec<Shape>) -> Job {
+    let pieces = shapes.into_iter().map(|shape| Piece::new(shape, turn_sum)).collect();
+    Job { rows, columns, pieces }
+}
+
+/// The no-fit region of two shapes.
+fn no_fit(fixed: &Shape, moving: &Shape) -> NoFit {
+    let opposite = moving.turned(Turn::ALL[2]);
+    NoFit::new(&BitShape::new(fixed), &BitShape::new(&opposite))
+}
+
+/// The no-fit row of A and A at a row offset, as column offsets.
+fn no_fit_row_of_a(row_offset: usize) -> Vec<(isize, usize)> {
+    let region = no_fit(&a(), &a());
+    // The box of offsets runs from -1 to 1; the rows beyond it are empty.
+    let row = row_offset + 1;
+    if row >= region.rows() {
+        return Vec::new();
+    }
+    region.row_runs(row).map(|(first, count)| (first as isize - 1, count)).collect()
+}
+
+/// Both depths and the penalty of two shapes in turn 0; the offset is not negative.
+fn depths_and_penalty(first: Shape, second: Shape, dx: usize, dy: usize) -> (usize, usize, u8) {
+    let region = no_fit(&first, &second);
+    let cell = (dx + second.columns() - 1, dy + second.rows() - 1);
+    let horizontal = region.depth(Direction::Horizontal, cell.0, cell.1);
+    let vertical = region.depth(Direction::Vertical, cell.0, cell.1);
+    let maps = PenaltyMaps::new(&job(9, 9, 1, vec![first, second]));
+    (horizontal, vertical, maps.penalty(0, at(0, 0, 0), 1, at(0, dx, dy)))
+}
+
+#[test]
+fn p1_row_strips() {
+    let strip = |y, first, count| Strip { y, first, count };
+    let expected = [strip(0, 0, 3), strip(1, 0, 1), strip(1, 2, 1), strip(2, 0, 3)];
+    assert_eq!(d().row_strips(), expected);
+}
+
+#[test]
+fn p2_turn_by_90() {
+    assert_eq!(b().turned(Turn::ALL[1]), shape(&["##", ".#"]));
+}
+
+#[test]
+fn p3_no_fit_row_at_1() {
+    assert_eq!(no_fit_row_of_a(1), [(-1, 3)]);
+}
+
+#[test]
+fn p4_no_fit_row_at_2() {
+    assert_eq!(no_fit_row_of_a(2), []);
+}
+
+#[test]
+fn p5_depths_of_half_overlap() {
+    assert_eq!(depths_and_penalty(a(), a(), 1, 0), (1, 2, 1));
+}
+
+#[test]
+fn p6_penalty_of_full_overlap() {
+    assert_eq!(depths_and_penalty(a(), a(), 0, 0).2, 2);
+}
+
+#[test]
+fn p7_pixel_in_a_hole() {
+    assert_eq!(depths_and_penalty(d(), e(), 1, 1), (0, 0, 0));
+}
+
+#[test]
+fn p8_pixel_beside_a_hole() {
+    assert_eq!(depths_and_penalty(d(), e(), 1, 0), (2, 1, 1));
+}
+
+#[test]
+fn p9_boxes_meet_without_overlap() {
+    let maps = PenaltyMaps::new(&job(9, 9, 5, vec![b(), b()]));
+    assert_eq!(maps.penalty(0, at(0, 0, 0), 1, at(180, 1, 0)), 0);
+    assert_eq!(maps.penalty(1, at(180, 1, 0), 0, at(0, 0, 0)), 0);
+    assert_eq!(maps.penalty(0, at(0, 0, 0), 1, at(180, 0, 0)), 1);
+}
+
+#[test]
+fn p10_line_search() {
+    let job = job(2, 4, 1, vec![a(), a()]);
+    let mut search = Search::new(&job, vec![at(0, 1, 0), at(0, 0, 0)], &[3]);
+    let found = search.line_search(1, Turn::ALL[0], Direction::Horizontal, 0);
+    assert_eq!(found, Some(LinePlace { sum: 3, coordinate: 0 }));
+}
+
+#[test]
+fn p11_descent_ends_clear() {
+    let job = job(2, 4, 1, vec![a(), a()]);
+    let mut search = Search::new(&job, vec![at(0, 0, 0); 2], &[1]);
+    let expected = Descent { end: End::Clear, sum: 0, trials: 1, moves: 1 };
+    assert_eq!(search.descent(5), expected);
+    assert_eq!(search.layout(), [at(0, 2, 0), at(0, 0, 0)]);
+}
+
+#[test]
+fn p12_descent_ends_settled_or_spent() {
+    let job = job(2, 3, 1, vec![a(), a()]);
+    let settled = Descent { end: End::Settled, sum: 1, trials: 5, moves: 1 };
+    assert_eq!(Search::new(&job, vec![at(0, 0, 0); 2], &[1]).descent(5), settled);
+    let spent = Descent { end: End::Spent, sum: 1, trials: 4, moves: 1 };
+    assert_eq!(Search::new(&job, vec![at(0, 0, 0); 2], &[1]).descent(4), spent);
+}
+
+/// The job text of two full 2 x 2 panels on a sheet of 2 rows.
+fn two_squares(columns: usize) -> String {
+    format!(
+        "job,1,2,{columns},2\npiece,0,2,2,1\nrow,##\nrow,##\npiece,1,2,2,1\nrow,##\nrow,##\n"
+    )
+}
+
+#[test]
+fn program_example_clear() {
+    let expected = "layout,1,2,4,2\nat,0,0,0,0\nat,1,0,2,0\nend,clear,0,0,0,4\n";
+    assert_eq!(second::run(two_squares(4).as_bytes()), expected);
+}
+
+#[test]
+fn program_example_open() {
+    let expected = "layout,1,2,3,2\nat,0,0,0,0\nat,1,0,1,0\nend,open,1,80,0,3\n";
+    assert_eq!(second::run(two_squares(3).as_bytes()), expected);
+}
