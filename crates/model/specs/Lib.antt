@@ -10,4 +10,5 @@ pub mod Guided
 pub mod Start
 pub mod Refusal
 pub mod Lent
+pub mod Cover
 pub mod Examples
