@@ -78,12 +78,12 @@ first-step : (f : ℕ → Bool) (t left : ℕ) (b : Bool) → f t ≡ b → Firs
 first-step f t left true h r =
     record { low = omega arith; high = omega arith; before = λ k l l′. absurd (omega arith); passing = λ _. h }
 first-step f t left false h r =
-    record
-      { low = let a = r .low in omega arith
-      ; high = let a = r .high in omega (arith, add-suc t left)
-      ; before = λ k l l′. ⊎-elim (λ e. ap f (sym e) ∙ h) (λ l″. r .before k l″ l′) (eq-or-lt-of-le l)
-      ; passing = λ l. r .passing (omega arith)
-      }
+    record {
+      low = let a = r .low in omega arith;
+      high = let a = r .high in omega (arith, add-suc t left);
+      before = λ k l l′. ⊎-elim (λ e. ap f (sym e) ∙ h) (λ l″. r .before k l″ l′) (eq-or-lt-of-le l);
+      passing = λ l. r .passing (omega arith);
+    }
 
 pub first-from : (f : ℕ → Bool) (t left : ℕ) → First f t left (firstFrom f t left)
 first-from f t zero = record { low = le-refl t; high = omega arith; before = λ k l l′. absurd (omega arith); passing = λ l. absurd (omega arith) }

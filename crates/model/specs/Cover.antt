@@ -53,18 +53,18 @@ fresh j = record { pieces = replicate pieceBound blank; counts = replicate (j .r
 -- piece i laid: its entry holds the placement, and each pixel that it covers counts one more
 unfoldable pub lay : Job → Sheet → ℕ → Placement → Sheet
 lay j s i p =
-    record
-      { pieces = set (s .pieces) i (laidAt p)
-      ; counts = mapFrom (λ k c. c + one-if (coversPixel j i p k)) 0 (s .counts)
-      }
+    record {
+      pieces = set (s .pieces) i (laidAt p);
+      counts = mapFrom (λ k c. c + one-if (coversPixel j i p k)) 0 (s .counts);
+    }
 
 -- piece i withdrawn: its entry is blank, and each pixel that it covered counts one less
 unfoldable pub withdraw : Job → Sheet → ℕ → Sheet
 withdraw j s i =
-    record
-      { pieces = set (s .pieces) i blank
-      ; counts = mapFrom (λ k c. c - one-if (coversPixel j i (entryIn (s .pieces) i .place) k)) 0 (s .counts)
-      }
+    record {
+      pieces = set (s .pieces) i blank;
+      counts = mapFrom (λ k c. c - one-if (coversPixel j i (entryIn (s .pieces) i .place) k)) 0 (s .counts);
+    }
 
 -- why a lay is refused: no such piece or turn not allowed; laid already; outside
 unfoldable pub layCauses : Job → Sheet → ℕ → Placement → List Cause

@@ -28,9 +28,10 @@ pub record Trial : Type 0 where
 -- the two trials of a piece in a turn, horizontal first, if the turn is allowed
 unfoldable pub turnTrials : Job → ℕ → Turn → List Trial
 turnTrials j i t =
-    elim (allowed j i t)
-    [ true ↦ record { piece = i; turn = t; direction = Horizontal } ∷ record { piece = i; turn = t; direction = Vertical } ∷ []
-    | false ↦ [] ]
+    elim (allowed j i t) [
+      | true ↦ record { piece = i; turn = t; direction = Horizontal } ∷ record { piece = i; turn = t; direction = Vertical } ∷ []
+      | false ↦ []
+    ]
 
 -- the trials of one piece, by turn
 unfoldable pub pieceTrials : Job → ℕ → List Trial
@@ -115,13 +116,15 @@ module _ (sum : Layout → ℕ) (try : Layout → Trial → Attempt) (ts : List 
   -- used up, spent
   unfoldable pub descendFrom : ℕ → Progress → Descent
   descendFrom zero s =
-      elim (eqb (sum (s .layout)) 0)
-      [ true ↦ ended Clear s
-      | false ↦ elim (eqb (s .quietCount) (length ts)) [ true ↦ ended Settled s | false ↦ ended Spent s ] ]
+      elim (eqb (sum (s .layout)) 0) [
+        | true ↦ ended Clear s
+        | false ↦ elim (eqb (s .quietCount) (length ts)) [ true ↦ ended Settled s | false ↦ ended Spent s ]
+      ]
   descendFrom (suc left) s =
-      elim (eqb (sum (s .layout)) 0)
-      [ true ↦ ended Clear s
-      | false ↦ elim (eqb (s .quietCount) (length ts)) [ true ↦ ended Settled s | false ↦ descendFrom left (step s) ] ]
+      elim (eqb (sum (s .layout)) 0) [
+        | true ↦ ended Clear s
+        | false ↦ elim (eqb (s .quietCount) (length ts)) [ true ↦ ended Settled s | false ↦ descendFrom left (step s) ]
+      ]
 
 -- the descent of a job by given weights, from a layout, with a budget
 unfoldable pub descend : Job → List ℕ → ℕ → Layout → Descent

@@ -78,21 +78,21 @@ entryFits rows columns table i = leb (entryColumns table i) columns && leb (entr
 -- the pixels of piece i
 abbrev pub lentShape : Lent → ℕ → Shape
 lentShape j i =
-    record
-      { columns = entryColumns (j .table) i
-      ; rows = entryRows (j .table) i
-      ; has = λ x y. eqb (getD (j .pixels) (pixelStart (j .table) i + (y * entryColumns (j .table) i + x)) 0) 1
-      }
+    record {
+      columns = entryColumns (j .table) i;
+      rows = entryRows (j .table) i;
+      has = λ x y. eqb (getD (j .pixels) (pixelStart (j .table) i + (y * entryColumns (j .table) i + x)) 0) 1;
+    }
 
 -- the job that is lent
 unfoldable pub jobOf : Lent → Job
 jobOf j =
-    record
-      { rows = j .rows
-      ; columns = j .columns
-      ; count = j .count
-      ; piece = λ i. record { shape = lentShape j i; turns = entryTurns (j .table) i }
-      }
+    record {
+      rows = j .rows;
+      columns = j .columns;
+      count = j .count;
+      piece = λ i. record { shape = lentShape j i; turns = entryTurns (j .table) i };
+    }
 
 -- W, L and n are in range and the sheet is not too large
 unfoldable pub sheetInRange : ℕ → ℕ → ℕ → Bool
