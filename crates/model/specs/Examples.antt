@@ -7,7 +7,7 @@ use Prim.Native.Nat.{ℕ, zero, suc, _+_}
 use lib.Dec.{leb, ltb, eqb}
 use lib.ListN.{getD}
 use lib.IntN.{ℤ, pos, negsuc}
-use Rattle.model.specs.Bounded.{allBelow}
+use Rattle.model.specs.Buffer.{sameNumbers}
 use Rattle.model.specs.Piece.{Point, Shape, Piece, pixel, turned}
 use Rattle.model.specs.Strip.{Strip, strips, runsFrom, stripsFrom}
 use Rattle.model.specs.Overlap.{OffsetRun, noFit, noFitAt, share, apartAt, depth, penalty}
@@ -23,14 +23,7 @@ use Rattle.model.specs.declared.Placement.{Placement}
 use Rattle.model.specs.declared.End.{End}
 use Rattle.model.specs.declared.End.the-variants.{Clear, Settled, Spent}
 
--- ── equality tests ──
-
--- two lists of numbers are equal
-unfoldable pub same : List ℕ → List ℕ → Bool
-same [] [] = true
-same [] (b ∷ ys) = false
-same (a ∷ xs) [] = false
-same (a ∷ xs) (b ∷ ys) = eqb a b && same xs ys
+-- ── answers written out as numbers ──
 
 -- strips written out as numbers: line, first, count
 flatStrips : List Strip → List ℕ
@@ -95,7 +88,7 @@ twoSquares columns = record { rows = 2; columns = columns; count = 2; piece = λ
 -- ── the examples ──
 
 P1 : Bool
-P1 = same (flatStrips (strips Horizontal shapeD)) (0 ∷ 0 ∷ 3 ∷ 1 ∷ 0 ∷ 1 ∷ 1 ∷ 2 ∷ 1 ∷ 2 ∷ 0 ∷ 3 ∷ [])
+P1 = sameNumbers (flatStrips (strips Horizontal shapeD)) (0 ∷ 0 ∷ 3 ∷ 1 ∷ 0 ∷ 1 ∷ 1 ∷ 2 ∷ 1 ∷ 2 ∷ 0 ∷ 3 ∷ [])
 
 P2 : Bool
 P2 =
@@ -103,17 +96,17 @@ P2 =
     && not (pixel (turned Quarter shapeB) (at 0 1))
 
 P3 : Bool
-P3 = same (flatRuns (noFit Horizontal shapeA shapeA (pos 1))) (1 ∷ 1 ∷ 3 ∷ [])
+P3 = sameNumbers (flatRuns (noFit Horizontal shapeA shapeA (pos 1))) (1 ∷ 1 ∷ 3 ∷ [])
 
 P4 : Bool
-P4 = same (flatRuns (noFit Horizontal shapeA shapeA (pos 2))) []
+P4 = sameNumbers (flatRuns (noFit Horizontal shapeA shapeA (pos 2))) []
 
 -- the two depths, horizontal first, and the penalty
 measures : Shape → Point → Shape → Point → List ℕ
 measures s u t v = depth Horizontal s u t v ∷ depth Vertical s u t v ∷ penalty s u t v ∷ []
 
 P5 : Bool
-P5 = same (measures shapeA (at 0 0) shapeA (at 1 0)) (1 ∷ 2 ∷ 1 ∷ [])
+P5 = sameNumbers (measures shapeA (at 0 0) shapeA (at 1 0)) (1 ∷ 2 ∷ 1 ∷ [])
 
 P6 : Bool
 P6 = eqb (penalty shapeA (at 0 0) shapeA (at 0 0)) 2
@@ -122,23 +115,23 @@ P7 : Bool
 P7 = eqb (penalty shapeD (at 0 0) shapeE (at 1 1)) 0
 
 P8 : Bool
-P8 = same (measures shapeD (at 0 0) shapeE (at 1 0)) (2 ∷ 1 ∷ 1 ∷ [])
+P8 = sameNumbers (measures shapeD (at 0 0) shapeE (at 1 0)) (2 ∷ 1 ∷ 1 ∷ [])
 
 P9 : Bool
 P9 = eqb (penalty shapeB (at 0 0) (turned Half shapeB) (at 1 0)) 0
 
 P10 : Bool
-P10 = same (flatBest (searchLine (twoSquares 4) (3 ∷ []) (place 1 0 ∷ place 0 0 ∷ []) 1 Zero (InRow (record { 0 = 0 })))) (3 ∷ 0 ∷ [])
+P10 = sameNumbers (flatBest (searchLine (twoSquares 4) (3 ∷ []) (place 1 0 ∷ place 0 0 ∷ []) 1 Zero (InRow (record { 0 = 0 })))) (3 ∷ 0 ∷ [])
 
 -- the descent of the two squares from (0, 0), weight 1
 descentOf : ℕ → ℕ → List ℕ
 descentOf columns budget = flatDescent (descend (twoSquares columns) (1 ∷ []) budget (place 0 0 ∷ place 0 0 ∷ []))
 
 P11 : Bool
-P11 = same (descentOf 4 5) (0 ∷ 0 ∷ 1 ∷ 1 ∷ [])
+P11 = sameNumbers (descentOf 4 5) (0 ∷ 0 ∷ 1 ∷ 1 ∷ [])
 
 P12 : Bool
-P12 = same (descentOf 3 5) (1 ∷ 1 ∷ 5 ∷ 1 ∷ []) && same (descentOf 3 4) (2 ∷ 1 ∷ 4 ∷ 1 ∷ [])
+P12 = sameNumbers (descentOf 3 5) (1 ∷ 1 ∷ 5 ∷ 1 ∷ []) && sameNumbers (descentOf 3 4) (2 ∷ 1 ∷ 4 ∷ 1 ∷ [])
 
 -- all of them
 pub examples : Bool
@@ -146,5 +139,5 @@ examples = P1 && P2 && P3 && P4 && P5 && P6 && P7 && P8 && P9 && P10 && P11 && P
 
 -- P1 to P12 hold of the definitions
 pub examples-hold : examples ≡ true
-unfolding examples P1 P2 P3 P4 P5 P6 P7 P8 P9 P10 P11 P12 same flatStrips signed flatRuns flatBest endNumber flatDescent shapeA shapeB shapeD shapeE at place twoSquares measures descentOf runsFrom stripsFrom noFitAt noFit share apartAt depth penalty pairsWith pairsFrom pairPenalty sumOver weightedSum pieceSum inside places sumAt least searchLine turnTrials pieceTrials trialsFrom trials attempt descendFrom descend Rattle.model.specs.Piece.allows
+unfolding examples P1 P2 P3 P4 P5 P6 P7 P8 P9 P10 P11 P12 sameNumbers flatStrips signed flatRuns flatBest endNumber flatDescent shapeA shapeB shapeD shapeE at place twoSquares measures descentOf runsFrom stripsFrom noFitAt noFit share apartAt depth penalty pairsWith pairsFrom pairPenalty sumOver weightedSum pieceSum inside places sumAt least searchLine turnTrials pieceTrials trialsFrom trials attempt descendFrom descend Rattle.model.specs.Piece.allows
 examples-hold = refl

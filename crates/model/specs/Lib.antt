@@ -10,5 +10,8 @@ pub mod Guided
 pub mod Start
 pub mod Refusal
 pub mod Lent
+pub mod Buffer
+pub mod Store
 pub mod Cover
+pub mod Calls
 pub mod Examples

@@ -1,0 +1,312 @@
+-- Document 01, 'When a call says no': what each public call gives, and its causes of refusal in their order. Reading a job and
+-- reading a layout stand in JobText and LayoutText. Assumes nothing.
+use mathlib.Core.Bool.{Bool, true, false, not, _&&_, _||_}
+use mathlib.Core.List.{List, [], _∷_, map}
+use mathlib.Core.Option.{Option, none, some}
+use Prim.Native.Nat.{ℕ, zero, suc, _+_, _*_, min, max}
+use lib.Dec.{leb, ltb, eqb}
+use lib.IntN.{ℤ}
+use lib.ListN.{length, getD}
+use Rattle.model.specs.Bounded.{anyBelow}
+use Rattle.model.specs.Piece.{Shape, tight, extent, pixel, Point}
+use Rattle.model.specs.Strip.{Strip, strips, rebuilt}
+use Rattle.model.specs.Overlap.{OffsetRun, noFit}
+use Rattle.model.specs.Layout.{Job, Layout, Pair, pairs, turnedPiece, allowed, inside, placeOf, pairShares, pairPenalty, pairDepth, weightedSum, plainSum, usedLength, sharingPair}
+use Rattle.model.specs.Search.{Best, places, searchLine}
+use Rattle.model.specs.Descent.{Descent, descend}
+use Rattle.model.specs.Guided.{Guided, guide, weightBound}
+use Rattle.model.specs.Start.{start}
+use Rattle.model.specs.Refusal.{Outcome, refused, given, Cause, cause, unless, outOfRange, wrongLength, notOurs, noSuchPiece, outside, emptyLine, sharedPixel}
+use Rattle.model.specs.Lent.{Lent, jobOf, lentWell, upTo, sideBound}
+use Rattle.model.specs.Buffer.{turnOfDegrees, passing, layoutOf, stripEntry, entryStrip, sameEntries}
+use Rattle.model.specs.Store.{pieceStrips, store, starts, storeWell, stretchIn}
+use Rattle.model.specs.Cover.{Sheet, fresh, lay, withdraw, layCauses, withdrawCauses, sheetWell}
+use Rattle.model.specs.declared.Turn.{Turn}
+use Rattle.model.specs.declared.Direction.{Direction}
+use Rattle.model.specs.declared.Direction.the-variants.{Horizontal, Vertical}
+use Rattle.model.specs.declared.Line.{Line}
+use Rattle.model.specs.declared.Placement.{Placement}
+use Rattle.model.specs.declared.Refusal.{Refusal}
+
+-- what a lent buffer holds after a call: the given value's content, or on a refusal what it held before
+abbrev pub leaving : {A B : Type 0} → (A → B) → B → Outcome A → B
+leaving content before (refused r) = before
+leaving content before (given a) = content a
+
+-- ── causes that calls share ──
+
+-- the lent job is none that reading gives
+abbrev pub jobCause : Lent → Cause
+jobCause l = cause notOurs (not (lentWell l))
+
+-- so many pixels, pieces or pairs are needed, and the buffer is not of that exact length
+abbrev pub exactly : ℕ → ℕ → Cause
+exactly needed len = cause wrongLength (not (eqb len needed))
+
+-- the buffer is shorter than needed
+abbrev pub atLeast : ℕ → ℕ → Cause
+atLeast needed len = cause wrongLength (ltb len needed)
+
+-- the degrees are a turn allowed to piece i
+unfoldable pub allowedDegrees : Job → ℕ → ℕ → Bool
+allowedDegrees j i k = passing (allowed j i) (turnOfDegrees k)
+
+-- some piece's turn in a layout buffer is not allowed
+unfoldable pub someTurnWrong : Job → List (List ℕ) → Bool
+someTurnWrong j es = anyBelow (j .count) (λ i. not (allowedDegrees j i (getD (getD es i []) 0 0)))
+
+-- some piece's placement is outside
+unfoldable pub someOutside : Job → Layout → Bool
+someOutside j v = anyBelow (j .count) (λ i. not (inside j i (placeOf v i)))
+
+-- some weight is out of range
+unfoldable pub someWeightWrong : List ℕ → Bool
+someWeightWrong [] = false
+someWeightWrong (w ∷ ws) = elim (upTo weightBound w) [ true ↦ someWeightWrong ws | false ↦ true ]
+
+-- the layout buffer is not n long
+abbrev pub layoutLength : Lent → List (List ℕ) → Cause
+layoutLength l es = exactly (l .count) (length es)
+
+-- the weight buffer has not one weight a pair
+abbrev pub weightsLength : Lent → List ℕ → Cause
+weightsLength l ws = exactly (length (pairs (l .count))) (length ws)
+
+-- a weight is out of range
+abbrev pub weightsCause : List ℕ → Cause
+weightsCause ws = cause outOfRange (someWeightWrong ws)
+
+-- a turn of the layout is not allowed
+abbrev pub turnsCause : Lent → List (List ℕ) → Cause
+turnsCause l es = cause noSuchPiece (someTurnWrong (jobOf l) es)
+
+-- a placement of the layout is outside
+abbrev pub outsideCause : Lent → List (List ℕ) → Cause
+outsideCause l es = cause outside (someOutside (jobOf l) (layoutOf es))
+
+-- ── strips, stretch, rebuild, no-fit rows and columns ──
+
+-- a list of turns is not n long, or one is not allowed
+unfoldable pub turnListWrong : Job → List ℕ → Bool
+turnListWrong j ts = not (eqb (length ts) (j .count)) || anyBelow (j .count) (λ i. not (allowedDegrees j i (getD ts i 0)))
+
+-- the two stores and their starts
+pub record Stores : Type 0 where
+  pub rowStrips : List (List ℕ)
+  pub rowStarts : List ℕ
+  pub columnStrips : List (List ℕ)
+  pub columnStarts : List ℕ
+
+-- the stores of a job in given turns
+unfoldable pub storesOf : Job → List ℕ → Stores
+storesOf j ts =
+    record {
+      rowStrips = map stripEntry (store Horizontal j ts);
+      rowStarts = starts Horizontal j ts;
+      columnStrips = map stripEntry (store Vertical j ts);
+      columnStarts = starts Vertical j ts;
+    }
+
+-- some lent store or starts are too short for the job's
+unfoldable pub storesShort : Stores → Stores → Bool
+storesShort needed lent =
+    ltb (length (lent .rowStrips)) (length (needed .rowStrips)) || ltb (length (lent .rowStarts)) (length (needed .rowStarts))
+    || ltb (length (lent .columnStrips)) (length (needed .columnStrips))
+    || ltb (length (lent .columnStarts)) (length (needed .columnStarts))
+
+-- the strips call: 8, 9, 7
+unfoldable pub stripsCall : Lent → List ℕ → Stores → Outcome Stores
+stripsCall l ts lent =
+    unless
+    (jobCause l ∷ cause noSuchPiece (turnListWrong (jobOf l) ts) ∷ cause wrongLength (storesShort (storesOf (jobOf l) ts) lent) ∷ [])
+    (storesOf (jobOf l) ts)
+
+-- both lent stores are the job's in these turns
+unfoldable pub storesWell : Job → List ℕ → Stores → Bool
+storesWell j ts lent =
+    storeWell Horizontal j ts (lent .rowStrips) (lent .rowStarts) && storeWell Vertical j ts (lent .columnStrips) (lent .columnStarts)
+
+-- the stretch of a piece, from the row store or the column store as the direction is horizontal or vertical
+abbrev pub stretchOf : Direction → Stores → ℕ → List (List ℕ)
+stretchOf Horizontal lent i = stretchIn (lent .rowStrips) (lent .rowStarts) i
+stretchOf Vertical lent i = stretchIn (lent .columnStrips) (lent .columnStarts) i
+
+-- the stretch call: 8 the job, 9, 8 a store
+unfoldable pub stretchCall : Lent → List ℕ → Stores → ℕ → Direction → Outcome (List (List ℕ))
+stretchCall l ts lent i d =
+    unless
+    (jobCause l ∷ cause noSuchPiece (turnListWrong (jobOf l) ts || not (ltb i (l .count)))
+    ∷ cause notOurs (not (storesWell (jobOf l) ts lent)) ∷ [])
+    (stretchOf d lent i)
+
+-- the part of the store that the stretch call hands out: empty on a refusal
+abbrev pub stretchGiven : Outcome (List (List ℕ)) → List (List ℕ)
+stretchGiven o = leaving (λ part. part) [] o
+
+-- a piece in a turn, with a lent stretch
+pub record Turned : Type 0 where
+  pub piece : ℕ
+  pub turn : Turn
+  pub stretch : List (List ℕ)
+
+-- there is such a piece and the turn is allowed to it
+unfoldable pub known : Job → Turned → Bool
+known j p = ltb (p .piece) (j .count) && allowed j (p .piece) (p .turn)
+
+-- the stretch is that of the piece in the turn
+unfoldable pub stretchWell : Direction → Job → Turned → Bool
+stretchWell d j p = sameEntries (p .stretch) (map stripEntry (strips d (turnedPiece j (p .piece) (p .turn))))
+
+-- the no-fit row (horizontal, by a row offset) or column (vertical, by a column offset) of two pieces
+unfoldable pub noFitOf : Direction → Job → Turned → Turned → ℤ → List OffsetRun
+noFitOf d j p q offset = noFit d (turnedPiece j (p .piece) (p .turn)) (turnedPiece j (q .piece) (q .turn)) offset
+
+-- the no-fit call: 8 the job, 9, 8 a stretch, 7
+unfoldable pub noFitCall : Direction → Lent → Turned → Turned → ℤ → ℕ → Outcome (List OffsetRun)
+noFitCall d l p q offset room =
+    unless
+    (jobCause l ∷ cause noSuchPiece (not (known (jobOf l) p && known (jobOf l) q))
+    ∷ cause notOurs (not (stretchWell d (jobOf l) p && stretchWell d (jobOf l) q))
+    ∷ atLeast (length (noFitOf d (jobOf l) p q offset)) room ∷ [])
+    (noFitOf d (jobOf l) p q offset)
+
+-- the set that rebuilding gives from a box and lent strips
+abbrev pub rebuiltFrom : Direction → ℕ → ℕ → List (List ℕ) → Shape
+rebuiltFrom d l w es = rebuilt d l w (map entryStrip es)
+
+-- a piece of that box has just these strips
+unfoldable pub stripsWell : Direction → ℕ → ℕ → List (List ℕ) → Bool
+stripsWell d l w es =
+    tight (rebuiltFrom d l w es) && sameEntries (map stripEntry (strips d (rebuiltFrom d l w es))) es
+
+-- the rebuild call: 2, 8, 7
+unfoldable pub rebuildCall : Direction → ℕ → ℕ → List (List ℕ) → ℕ → Outcome Shape
+rebuildCall d l w es room =
+    unless
+    (cause outOfRange (not (upTo sideBound l && upTo sideBound w)) ∷ cause notOurs (not (stripsWell d l w es)) ∷ atLeast (l * w) room ∷ [])
+    (rebuiltFrom d l w es)
+
+-- ── pairs, sums, used length ──
+
+-- 9 for a pair: a turn not allowed, no such piece, or a piece with itself
+abbrev pub pairCause : Lent → List (List ℕ) → ℕ → ℕ → Cause
+pairCause l es i k =
+    cause noSuchPiece (someTurnWrong (jobOf l) es || not (ltb i (l .count)) || not (ltb k (l .count)) || eqb i k)
+
+-- the causes of a call on a pair of a layout: 8, 7, 9, 10
+unfoldable pub pairCauses : Lent → List (List ℕ) → ℕ → ℕ → List Cause
+pairCauses l es i k = jobCause l ∷ layoutLength l es ∷ pairCause l es i k ∷ outsideCause l es ∷ []
+
+-- the pair of two piece numbers, in the order in which they are named
+abbrev pub pairOf : ℕ → ℕ → Pair
+pairOf i k = record { first = i; second = k }
+
+-- the shared-pixel test
+unfoldable pub shareCall : Lent → List (List ℕ) → ℕ → ℕ → Outcome Bool
+shareCall l es i k = unless (pairCauses l es i k) (pairShares (jobOf l) (layoutOf es) (pairOf i k))
+
+-- the depth along a direction
+unfoldable pub depthCall : Direction → Lent → List (List ℕ) → ℕ → ℕ → Outcome ℕ
+depthCall d l es i k = unless (pairCauses l es i k) (pairDepth d (jobOf l) (layoutOf es) (pairOf i k))
+
+-- the penalty
+unfoldable pub penaltyCall : Lent → List (List ℕ) → ℕ → ℕ → Outcome ℕ
+penaltyCall l es i k = unless (pairCauses l es i k) (pairPenalty (jobOf l) (layoutOf es) (pairOf i k))
+
+-- the weighted sum: 8, 7, 2, 9, 10
+unfoldable pub weightedSumCall : Lent → List (List ℕ) → List ℕ → Outcome ℕ
+weightedSumCall l es ws =
+    unless (jobCause l ∷ layoutLength l es ∷ weightsLength l ws ∷ weightsCause ws ∷ turnsCause l es ∷ outsideCause l es ∷ [])
+    (weightedSum (jobOf l) ws (layoutOf es))
+
+-- the causes of a call on a layout alone: 8, 7, 9, 10
+unfoldable pub layoutCauses : Lent → List (List ℕ) → List Cause
+layoutCauses l es = jobCause l ∷ layoutLength l es ∷ turnsCause l es ∷ outsideCause l es ∷ []
+
+-- the plain sum
+unfoldable pub plainSumCall : Lent → List (List ℕ) → Outcome ℕ
+plainSumCall l es = unless (layoutCauses l es) (plainSum (jobOf l) (layoutOf es))
+
+-- the used length
+unfoldable pub usedLengthCall : Lent → List (List ℕ) → Outcome ℕ
+usedLengthCall l es = unless (layoutCauses l es) (usedLength (jobOf l) (layoutOf es))
+
+-- ── line search, descent, guided run ──
+
+-- the best place, where there is one
+abbrev pub bestPlace : Option Best → Best
+bestPlace none = record { sum = 0; at = 0 }
+bestPlace (some b) = b
+
+-- the line search: 8, 7, 2, 9, 10, and 11 exactly where no inside corner lies on the line
+unfoldable pub searchCall : Lent → List (List ℕ) → List ℕ → ℕ → Turn → Line → Outcome Best
+searchCall l es ws i t line =
+    unless
+    (jobCause l ∷ layoutLength l es ∷ weightsLength l ws ∷ weightsCause ws
+    ∷ cause noSuchPiece (someTurnWrong (jobOf l) es || not (ltb i (l .count)) || not (allowed (jobOf l) i t))
+    ∷ outsideCause l es ∷ cause emptyLine (eqb (places (jobOf l) i t line) 0) ∷ [])
+    (bestPlace (searchLine (jobOf l) ws (layoutOf es) i t line))
+
+-- the largest budget and round count
+abbrev pub budgetBound : ℕ
+budgetBound = 1000000000
+
+abbrev pub roundBound : ℕ
+roundBound = 1000
+
+-- the descent: 8, 7, 2, 9, 10
+unfoldable pub descentCall : Lent → List (List ℕ) → List ℕ → ℕ → Outcome Descent
+descentCall l es ws budget =
+    unless
+    (jobCause l ∷ layoutLength l es ∷ weightsLength l ws ∷ cause outOfRange (someWeightWrong ws || ltb budgetBound budget)
+    ∷ turnsCause l es ∷ outsideCause l es ∷ [])
+    (descend (jobOf l) ws budget (layoutOf es))
+
+-- the guided run: 8, 7, 2, 9, 10
+unfoldable pub guidedCall : Lent → List (List ℕ) → List ℕ → ℕ → ℕ → Outcome Guided
+guidedCall l es ws count budget =
+    unless
+    (jobCause l ∷ layoutLength l es ∷ weightsLength l ws
+    ∷ cause outOfRange (someWeightWrong ws || ltb budgetBound budget || not (upTo roundBound count))
+    ∷ turnsCause l es ∷ outsideCause l es ∷ [])
+    (guide (jobOf l) count budget ws (layoutOf es))
+
+-- ── start, check ──
+
+-- the start layout: 8, 7
+unfoldable pub startCall : Lent → ℕ → Outcome Layout
+startCall l room = unless (jobCause l ∷ exactly (l .count) room ∷ []) (start (jobOf l))
+
+-- 12, with the pair that shares a pixel
+abbrev pub sharedCause : Option Pair → Cause
+sharedCause none = cause sharedPixel false
+sharedCause (some p) = record { there = true; number = sharedPixel; first = p .first; second = p .second }
+
+-- the check of a layout: 8, 7, 9, 10, 12
+unfoldable pub checkCall : Lent → List (List ℕ) → Outcome (Unit {0})
+checkCall l es =
+    unless
+    (jobCause l ∷ layoutLength l es ∷ turnsCause l es ∷ outsideCause l es ∷ sharedCause (sharingPair (jobOf l) (layoutOf es)) ∷ [])
+    tt
+
+-- ── the sheet of cover counts ──
+
+-- so many counts are needed: one a pixel
+abbrev pub countsLength : Lent → ℕ → Cause
+countsLength l room = exactly (l .rows * l .columns) room
+
+-- a fresh sheet: 8, 7
+unfoldable pub freshCall : Lent → ℕ → Outcome Sheet
+freshCall l room = unless (jobCause l ∷ countsLength l room ∷ []) (fresh (jobOf l))
+
+-- what is asked before a call on a sheet: 8 the job, 7, 8 the sheet
+unfoldable pub sheetCauses : Lent → Sheet → List Cause → List Cause
+sheetCauses l s more = jobCause l ∷ countsLength l (length (s .counts)) ∷ cause notOurs (not (sheetWell (jobOf l) s)) ∷ more
+
+-- lay: then 9, 13, 10
+unfoldable pub sheetLayCall : Lent → Sheet → ℕ → Placement → Outcome Sheet
+sheetLayCall l s i p = unless (sheetCauses l s (layCauses (jobOf l) s i p)) (lay (jobOf l) s i p)
+
+-- withdraw: then 9, 14
+unfoldable pub sheetWithdrawCall : Lent → Sheet → ℕ → Outcome Sheet
+sheetWithdrawCall l s i = unless (sheetCauses l s (withdrawCauses (jobOf l) s i)) (withdraw (jobOf l) s i)
