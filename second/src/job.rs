@@ -49,9 +49,16 @@ impl Job {
 
 /// Reads a whole job text; the first cause of refusal, line by line, is returned.
 pub fn read(text: &[u8]) -> Result<Job, Refusal> {
-    let mut lines = Lines { rest: text, number: 0 };
+    let mut lines = Lines {
+        rest: text,
+        number: 0,
+    };
     let (rows, columns, count) = read_job_line(&mut lines)?;
-    let mut job = Job { rows, columns, pieces: Vec::with_capacity(count) };
+    let mut job = Job {
+        rows,
+        columns,
+        pieces: Vec::with_capacity(count),
+    };
     let mut area = 0;
     for index in 0..count {
         let header = read_piece_line(&mut lines, &job, index, &mut area)?;
@@ -81,7 +88,10 @@ impl<'a> Lines<'a> {
 
     /// A refusal of the line last taken.
     fn refuse(&self, number: u8) -> Refusal {
-        Refusal { number, line: self.number }
+        Refusal {
+            number,
+            line: self.number,
+        }
     }
 
     /// Refuses the line last taken unless the condition holds.
@@ -135,9 +145,8 @@ fn number(field: &[u8]) -> Option<usize> {
 fn read_job_line(lines: &mut Lines) -> Result<(usize, usize, usize), Refusal> {
     let [version, rows, columns, count] = lines.take_numbers(b"job")?;
     lines.require(version == 1, 1)?;
-    let in_range = (1..=512).contains(&rows)
-        && (1..=4096).contains(&columns)
-        && (1..=64).contains(&count);
+    let in_range =
+        (1..=512).contains(&rows) && (1..=4096).contains(&columns) && (1..=64).contains(&count);
     lines.require(in_range, 2)?;
     lines.require(rows * columns <= MAX_AREA, 3)?;
     Ok((rows, columns, count))
@@ -167,16 +176,21 @@ fn read_piece_line(
     lines.require(columns <= job.columns && rows <= job.rows, 6)?;
     *area += columns * rows;
     lines.require(*area <= MAX_AREA, 4)?;
-    Ok(PieceHeader { columns, rows, turn_sum })
+    Ok(PieceHeader {
+        columns,
+        rows,
+        turn_sum,
+    })
 }
 
 /// Reads the row lines of a piece, the bottom row first.
 fn read_rows(lines: &mut Lines, header: PieceHeader) -> Result<Piece, Refusal> {
     let mut pixels = Vec::with_capacity(header.columns * header.rows);
     for _ in 0..header.rows {
+        // Another first word leaves no marks, which is refused below since a box has a column.
         let marks = lines.take()?.strip_prefix(b"row,").unwrap_or_default();
-        let well_formed = marks.len() == header.columns
-            && marks.iter().all(|&mark| mark == b'#' || mark == b'.');
+        let well_formed =
+            marks.len() == header.columns && marks.iter().all(|&mark| mark == b'#' || mark == b'.');
         lines.require(well_formed, 1)?;
         pixels.extend(marks.iter().map(|&mark| mark == b'#'));
     }

@@ -29,7 +29,14 @@ pub fn start(job: &Job) -> Vec<Placement> {
     let mut order: Vec<usize> = (0..job.pieces.len()).collect();
     // The sort is stable, so equally long pieces stay in the order of their numbers.
     order.sort_by_key(|&index| Reverse(job.pieces[index].shape.columns()));
-    let mut layout = vec![Placement { turn: Turn::ALL[0], x: 0, y: 0 }; order.len()];
+    let mut layout = vec![
+        Placement {
+            turn: Turn::ALL[0],
+            x: 0,
+            y: 0
+        };
+        order.len()
+    ];
     let (mut x, mut y, mut longest) = (0, 0, 0);
     for index in order {
         let shape = &job.pieces[index].shape;
@@ -49,8 +56,7 @@ pub fn start(job: &Job) -> Vec<Placement> {
 /// The largest right end of the placed pieces.
 pub fn used_length(job: &Job, layout: &[Placement]) -> usize {
     let right_end = |(index, place): (usize, &Placement)| {
-        let shape = &job.pieces[index].shape;
-        let columns = if place.turn.is_sideways() { shape.rows() } else { shape.columns() };
+        let [columns, _] = job.pieces[index].shape.turned_box(place.turn);
         place.x + columns
     };
     layout.iter().enumerate().map(right_end).max().unwrap_or(0)

@@ -44,7 +44,11 @@ fn nest(job: &Job) -> String {
     let start = layout::start(job);
     let unit_weights = vec![1; job.pair_count()];
     let guided = Search::new(job, start, &unit_weights).guided_run(ROUNDS, BUDGET);
-    let word = if guided.plain_sum == 0 { "clear" } else { "open" };
+    let word = if guided.plain_sum == 0 {
+        "clear"
+    } else {
+        "open"
+    };
     format!(
         "{}end,{},{},{},{},{}\n",
         layout::text(job, &guided.best),

@@ -7,5 +7,7 @@ fn main() -> io::Result<()> {
     let mut input = Vec::new();
     let limit = second::MAX_INPUT as u64 + 1;
     io::stdin().lock().take(limit).read_to_end(&mut input)?;
-    io::stdout().lock().write_all(second::run(&input).as_bytes())
+    io::stdout()
+        .lock()
+        .write_all(second::run(&input).as_bytes())
 }

@@ -26,7 +26,13 @@ impl BitShape {
         }
         let mut strips = shape.row_strips();
         strips.sort_by_key(|strip| strip.count);
-        BitShape { columns: shape.columns(), rows: shape.rows(), words_per_row, row_words, strips }
+        BitShape {
+            columns: shape.columns(),
+            rows: shape.rows(),
+            words_per_row,
+            row_words,
+            strips,
+        }
     }
 
     /// All rows in one bit set, `stride` bits from a row to the next.
@@ -45,10 +51,14 @@ fn or_shifted(target: &mut [u64], source: &[u64], shift: usize) {
     let (word, bit) = (shift / WORD, shift % WORD);
     let target = &mut target[word..];
     if bit == 0 {
-        target.iter_mut().zip(source).for_each(|(to, from)| *to |= from);
+        target
+            .iter_mut()
+            .zip(source)
+            .for_each(|(to, from)| *to |= from);
         return;
     }
     let carry = WORD - bit;
+    // A word takes the low part of its own source word and the high part of the one before.
     target[0] |= source[0] << bit;
     for (to, pair) in target[1..].iter_mut().zip(source.windows(2)) {
         *to |= (pair[1] << bit) | (pair[0] >> carry);
@@ -59,6 +69,7 @@ fn or_shifted(target: &mut [u64], source: &[u64], shift: usize) {
 /// Adds the set, moved up by `shift`, to itself; no bit reaches the end of the set.
 fn dilate(bits: &mut [u64], shift: usize) {
     let (word, bit) = (shift / WORD, shift % WORD);
+    // From the top down, so that a word is read before it is changed.
     for k in (word..bits.len()).rev() {
         let below = if k > word { bits[k - word - 1] } else { 0 };
         bits[k] |= (bits[k - word] << bit) | ((below >> 1) >> (WORD - 1 - bit));
@@ -86,6 +97,7 @@ impl NoFit {
         let rows = fixed.rows + opposite_moving.rows - 1;
         // The spare row takes the unused ends of bit sets that are moved to the last strips.
         let mut bits = vec![0; (columns * (rows + 1)).div_ceil(WORD) + 1];
+        // The cost is the number of bits times the number of strips; either shape may be moved.
         let fixed_cost = fixed.rows * opposite_moving.strips.len();
         let moving_cost = opposite_moving.rows * fixed.strips.len();
         let (spread, stripped) = if fixed_cost <= moving_cost {
@@ -106,7 +118,11 @@ impl NoFit {
                 or_shifted(&mut bits, &dilated, first + strip.count - reach);
             }
         }
-        NoFit { columns, rows, bits }
+        NoFit {
+            columns,
+            rows,
+            bits,
+        }
     }
 
     /// Columns of the box of offsets.
@@ -128,7 +144,12 @@ impl NoFit {
     /// The no-fit row: the maximal runs (first, count) of one row of the box, ascending.
     pub fn row_runs(&self, row: usize) -> RowRuns<'_> {
         let begin = row * self.columns;
-        RowRuns { bits: &self.bits, begin, position: begin, end: begin + self.columns }
+        RowRuns {
+            bits: &self.bits,
+            begin,
+            position: begin,
+            end: begin + self.columns,
+        }
     }
 
     /// The penetration depth along a direction at the offset of a cell of the box.
@@ -141,9 +162,15 @@ impl NoFit {
             Direction::Horizontal => self.has(at, row),
             Direction::Vertical => self.has(column, at),
         };
-        // Beyond the box there is no overlap, so a free place is met one step outside at the latest.
-        let up = (position..extent).find(|&at| !covered(at)).unwrap_or(extent) - position;
-        let down = (0..=position).rev().find(|&at| !covered(at)).map(|at| position - at);
+        // Beyond the box there is no overlap, so one step outside is free at the latest.
+        let up = (position..extent)
+            .find(|&at| !covered(at))
+            .unwrap_or(extent)
+            - position;
+        let down = (0..=position)
+            .rev()
+            .find(|&at| !covered(at))
+            .map(|at| position - at);
         up.min(down.unwrap_or(position + 1))
     }
 }
@@ -157,7 +184,7 @@ pub struct RowRuns<'a> {
 }
 
 impl RowRuns<'_> {
-    /// The next position whose bit, with all bits inverted by `inversion`, is set; else the end.
+    /// The next position whose bit, after exclusive or with `inversion`, is set; else the end.
     fn seek(&self, inversion: u64) -> usize {
         let mut word = self.position / WORD;
         let low_cleared = u64::MAX << (self.position % WORD);

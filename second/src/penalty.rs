@@ -2,7 +2,7 @@
 
 use std::cell::OnceCell;
 
-use crate::job::Job;
+use crate::job::{Job, Piece};
 use crate::layout::Placement;
 use crate::nofit::{BitShape, NoFit};
 use crate::shape::{Direction, Shape, Turn};
@@ -16,7 +16,8 @@ pub struct PenaltyMap {
     columns: usize,
     rows: usize,
     by_row: Vec<u8>,
-    by_column: Vec<u8>,
+    /// The same cells by columns, made when a column is first asked for.
+    by_column: OnceCell<Vec<u8>>,
 }
 
 impl PenaltyMap {
@@ -25,8 +26,12 @@ impl PenaltyMap {
         let (columns, rows) = (no_fit.columns(), no_fit.rows());
         let mut by_row = horizontal_depths(no_fit);
         lower_to_vertical_depths(&mut by_row, columns);
-        let by_column = transposed(&by_row, columns);
-        PenaltyMap { columns, rows, by_row, by_column }
+        PenaltyMap {
+            columns,
+            rows,
+            by_row,
+            by_column: OnceCell::new(),
+        }
     }
 
     /// One row of the map.
@@ -36,7 +41,10 @@ impl PenaltyMap {
 
     /// One column of the map.
     fn column(&self, column: usize) -> &[u8] {
-        &self.by_column[column * self.rows..][..self.rows]
+        let by_column = self
+            .by_column
+            .get_or_init(|| transposed(&self.by_row, self.columns));
+        &by_column[column * self.rows..][..self.rows]
     }
 
     /// The line along a direction of the map turned counterclockwise, and whether it runs backward.
@@ -98,7 +106,11 @@ fn lower_to_vertical_depths(depths: &mut [u8], columns: usize) {
 /// A lowered cell stays 0 exactly when it is free, so the same line serves the opposite way too.
 fn lower_line(line: &mut [u8], steps: &mut [u8]) {
     for (depth, step) in line.iter_mut().zip(steps) {
-        *step = if *depth == 0 { 0 } else { step.saturating_add(1) };
+        *step = if *depth == 0 {
+            0
+        } else {
+            step.saturating_add(1)
+        };
         *depth = (*depth).min(*step);
     }
 }
@@ -108,9 +120,10 @@ fn transposed(by_row: &[u8], columns: usize) -> Vec<u8> {
     let rows = by_row.len() / columns;
     let mut by_column = vec![0; by_row.len()];
     for (column, line) in by_column.chunks_exact_mut(rows).enumerate() {
-        for (row, cell) in line.iter_mut().enumerate() {
-            *cell = by_row[row * columns + column];
-        }
+        let cells = by_row[column..].iter().step_by(columns);
+        line.iter_mut()
+            .zip(cells)
+            .for_each(|(to, from)| *to = *from);
     }
     by_column
 }
@@ -123,6 +136,19 @@ pub struct PairLine<'a> {
     pub penalties: &'a [u8],
     /// Whether the first penalty belongs to the largest coordinate instead of the smallest.
     pub backward: bool,
+}
+
+impl PairLine<'_> {
+    /// The penalty at a coordinate of the moving piece; it is 0 where the boxes lie apart.
+    fn at(&self, coordinate: usize) -> u8 {
+        let step = coordinate as isize - self.low;
+        let last = self.penalties.len() as isize - 1;
+        let index = if self.backward { last - step } else { step };
+        let penalty = usize::try_from(index)
+            .ok()
+            .and_then(|index| self.penalties.get(index));
+        penalty.copied().unwrap_or(0)
+    }
 }
 
 /// The penalty maps of all pairs in all turns, each made when it is first asked for.
@@ -153,16 +179,12 @@ impl PenaltyMaps {
             }
         }
         let in_turns = |shape: &&Shape| Turn::ALL.map(|turn| BitShape::new(&shape.turned(turn)));
-        let upright = |shape: &Shape| [shape.columns(), shape.rows()];
-        let sideways = |shape: &Shape| [shape.rows(), shape.columns()];
-        let box_in_turns = |shape: &Shape| {
-            Turn::ALL.map(|turn| if turn.is_sideways() { sideways(shape) } else { upright(shape) })
-        };
+        let boxes = |piece: &Piece| Turn::ALL.map(|turn| piece.shape.turned_box(turn));
         PenaltyMaps {
             shape_of,
             shapes: distinct.iter().map(in_turns).collect(),
             maps: vec![OnceCell::new(); 4 * distinct.len() * distinct.len()],
-            boxes: job.pieces.iter().map(|piece| box_in_turns(&piece.shape)).collect(),
+            boxes: job.pieces.iter().map(boxes).collect(),
         }
     }
 
@@ -173,16 +195,8 @@ impl PenaltyMaps {
 
     /// The penalty of two placed pieces.
     pub fn penalty(&self, i: usize, at_i: Placement, j: usize, at_j: Placement) -> u8 {
-        let held = at_i.along(Direction::Vertical);
-        let Some(line) = self.line(i, at_i.turn, Direction::Horizontal, held, j, at_j) else {
-            return 0;
-        };
-        let step = at_i.along(Direction::Horizontal) as isize - line.low;
-        if step < 0 || step as usize >= line.penalties.len() {
-            return 0;
-        }
-        let step = step as usize;
-        line.penalties[if line.backward { line.penalties.len() - 1 - step } else { step }]
+        self.line(i, at_i.turn, Direction::Horizontal, at_i.y, j, at_j)
+            .map_or(0, |line| line.at(at_i.x))
     }
 
     /// The penalties of a moving piece with another one along a line, if the line meets its box.

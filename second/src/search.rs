@@ -5,34 +5,34 @@ use crate::layout::Placement;
 use crate::penalty::PenaltyMaps;
 use crate::shape::{Direction, Turn};
 
-/// The largest weight of a pair.
-const MAX_WEIGHT: u32 = 65_535;
-
 /// One number a pair of pieces, kept for both orders of the pair.
 struct PairTable {
     count: usize,
-    cells: Vec<u32>,
+    cells: Vec<u16>,
 }
 
 impl PairTable {
     /// A table of zeros.
     fn new(count: usize) -> PairTable {
-        PairTable { count, cells: vec![0; count * count] }
+        PairTable {
+            count,
+            cells: vec![0; count * count],
+        }
     }
 
     /// The number of a pair.
-    fn get(&self, i: usize, j: usize) -> u32 {
+    fn get(&self, i: usize, j: usize) -> u16 {
         self.cells[i * self.count + j]
     }
 
     /// Sets the number of a pair.
-    fn set(&mut self, i: usize, j: usize, value: u32) {
+    fn set(&mut self, i: usize, j: usize, value: u16) {
         self.cells[i * self.count + j] = value;
         self.cells[j * self.count + i] = value;
     }
 
     /// The numbers of one piece with every piece.
-    fn row(&self, i: usize) -> &[u32] {
+    fn row(&self, i: usize) -> &[u16] {
         &self.cells[i * self.count..][..self.count]
     }
 }
@@ -112,7 +112,7 @@ impl<'a> Search<'a> {
             line_sums: LineSums::default(),
         };
         for ((i, j), &weight) in pairs(count).zip(weights) {
-            search.weights.set(i, j, u32::from(weight));
+            search.weights.set(i, j, weight);
             search.set_penalty(i, j);
         }
         search
@@ -130,7 +130,12 @@ impl<'a> Search<'a> {
 
     /// The sum of penalties over all pairs.
     pub fn plain_sum(&self) -> u64 {
-        self.penalties.cells.iter().map(|&penalty| u64::from(penalty)).sum::<u64>() / 2
+        self.penalties
+            .cells
+            .iter()
+            .map(|&penalty| u64::from(penalty))
+            .sum::<u64>()
+            / 2
     }
 
     /// The least weighted sum of a piece's pairs over the inside places of a line.
@@ -157,7 +162,9 @@ impl<'a> Search<'a> {
         if held + self.maps.extent(piece, turn, cross) > self.sheet_extent(cross) {
             return None;
         }
-        let free = self.sheet_extent(direction).checked_sub(self.maps.extent(piece, turn, direction))?;
+        let free = self
+            .sheet_extent(direction)
+            .checked_sub(self.maps.extent(piece, turn, direction))?;
         self.line_sums.clear(free + 1);
         let weights = self.weights.row(piece);
         for (other, (&place, &weight)) in self.layout.iter().zip(weights).enumerate() {
@@ -165,7 +172,8 @@ impl<'a> Search<'a> {
                 continue;
             }
             if let Some(line) = self.maps.line(piece, turn, direction, held, other, place) {
-                self.line_sums.add(line.low, line.penalties, line.backward, weight);
+                self.line_sums
+                    .add(line.low, line.penalties, line.backward, weight);
             }
         }
         self.line_sums.least_below(bound)
@@ -198,13 +206,22 @@ impl<'a> Search<'a> {
                 quiet = if moved { 0 } else { quiet + 1 };
                 continue;
             };
-            return Descent { end, sum, trials, moves };
+            return Descent {
+                end,
+                sum,
+                trials,
+                moves,
+            };
         }
     }
 
     /// Takes one trial and says whether it was a move.
     fn take_trial(&mut self, trial: Trial) -> bool {
-        let Trial { piece, turn, direction } = trial;
+        let Trial {
+            piece,
+            turn,
+            direction,
+        } = trial;
         let present = self.piece_sums[piece];
         // No place has a sum below zero, so a piece without overlap needs no search.
         if present == 0 {
@@ -230,7 +247,7 @@ impl<'a> Search<'a> {
     fn set_penalty(&mut self, i: usize, j: usize) {
         let weight = u64::from(self.weights.get(i, j));
         let old = self.penalties.get(i, j);
-        let new = u32::from(self.maps.penalty(i, self.layout[i], j, self.layout[j]));
+        let new = u16::from(self.maps.penalty(i, self.layout[i], j, self.layout[j]));
         self.penalties.set(i, j, new);
         for piece in [i, j] {
             self.piece_sums[piece] += weight * u64::from(new);
@@ -256,18 +273,24 @@ impl<'a> Search<'a> {
             }
             self.raise_weights();
         }
-        let weight = |(i, j)| self.weights.get(i, j) as u16;
+        let weight = |(i, j)| self.weights.get(i, j);
         let weights = pairs(self.layout.len()).map(weight).collect();
-        Guided { best, plain_sum, weights, trials, moves }
+        Guided {
+            best,
+            plain_sum,
+            weights,
+            trials,
+            moves,
+        }
     }
 
-    /// Raises the weight of each pair that shares a pixel by 1, up to the largest weight.
+    /// Raises the weight of each pair that shares a pixel by 1; the largest weight, 65,535, stays.
     fn raise_weights(&mut self) {
         for (i, j) in pairs(self.layout.len()) {
             let penalty = self.penalties.get(i, j);
             let weight = self.weights.get(i, j);
             // A pair shares a pixel exactly when its penalty is not zero.
-            if penalty == 0 || weight == MAX_WEIGHT {
+            if penalty == 0 || weight == u16::MAX {
                 continue;
             }
             self.weights.set(i, j, weight + 1);
@@ -282,7 +305,11 @@ fn all_trials(job: &Job) -> Vec<Trial> {
     let mut trials = Vec::new();
     for (piece, entry) in job.pieces.iter().enumerate() {
         for turn in entry.turns() {
-            trials.extend(Direction::ALL.map(|direction| Trial { piece, turn, direction }));
+            trials.extend(Direction::ALL.map(|direction| Trial {
+                piece,
+                turn,
+                direction,
+            }));
         }
     }
     trials
@@ -314,7 +341,7 @@ impl LineSums {
     }
 
     /// Adds a pair's weighted penalties, which belong to the coordinates from `low` on.
-    fn add(&mut self, low: isize, penalties: &[u8], backward: bool, weight: u32) {
+    fn add(&mut self, low: isize, penalties: &[u8], backward: bool, weight: u16) {
         let places = self.forward.len() as isize;
         let (sums, begin) = if backward {
             (&mut self.backward, places - low - penalties.len() as isize)
@@ -329,7 +356,7 @@ impl LineSums {
         let penalties = &penalties[(inside - begin) as usize..];
         let sums = &mut sums[inside as usize..end as usize];
         for (sum, &penalty) in sums.iter_mut().zip(penalties) {
-            *sum += weight * u32::from(penalty);
+            *sum += u32::from(weight) * u32::from(penalty);
         }
     }
 
@@ -339,11 +366,11 @@ impl LineSums {
             *sum += other;
         }
         let least = *self.forward.iter().min()?;
-        let sum = u64::from(least);
-        if sum >= bound {
+        if u64::from(least) >= bound {
             return None;
         }
         let coordinate = self.forward.iter().position(|&sum| sum == least)?;
+        let sum = u64::from(least);
         Some(LinePlace { sum, coordinate })
     }
 }

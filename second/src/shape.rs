@@ -19,7 +19,7 @@ impl Turn {
     }
 
     /// Whether the turn exchanges the columns and rows of a box.
-    pub fn is_sideways(self) -> bool {
+    fn is_sideways(self) -> bool {
         self.0 % 2 == 1
     }
 
@@ -81,7 +81,11 @@ impl Shape {
     /// The shape of a box's pixels, `columns` of them a row.
     pub fn new(columns: usize, pixels: Vec<bool>) -> Shape {
         let rows = pixels.len() / columns;
-        Shape { columns, rows, pixels }
+        Shape {
+            columns,
+            rows,
+            pixels,
+        }
     }
 
     /// Columns of the box.
@@ -94,6 +98,15 @@ impl Shape {
         self.rows
     }
 
+    /// Columns and rows of the turned box.
+    pub fn turned_box(&self, turn: Turn) -> [usize; 2] {
+        if turn.is_sideways() {
+            [self.rows, self.columns]
+        } else {
+            [self.columns, self.rows]
+        }
+    }
+
     /// Whether the box cell (x, y) is a pixel.
     pub fn has(&self, x: usize, y: usize) -> bool {
         self.pixels[y * self.columns + x]
@@ -103,16 +116,13 @@ impl Shape {
     pub fn is_tight(&self) -> bool {
         let row_used = |y: usize| (0..self.columns).any(|x| self.has(x, y));
         let column_used = |x: usize| (0..self.rows).any(|y| self.has(x, y));
-        row_used(0)
-            && row_used(self.rows - 1)
-            && column_used(0)
-            && column_used(self.columns - 1)
+        row_used(0) && row_used(self.rows - 1) && column_used(0) && column_used(self.columns - 1)
     }
 
     /// The shape turned counterclockwise.
     pub fn turned(&self, turn: Turn) -> Shape {
         let (l, w) = (self.columns, self.rows);
-        let columns = if turn.is_sideways() { w } else { l };
+        let [columns, _] = self.turned_box(turn);
         let mut pixels = vec![false; l * w];
         for y in 0..w {
             for x in 0..l {
@@ -135,7 +145,11 @@ impl Shape {
             let mut x = 0;
             for run in row.chunk_by(|a, b| a == b) {
                 if run[0] {
-                    strips.push(Strip { y, first: x, count: run.len() });
+                    strips.push(Strip {
+                        y,
+                        first: x,
+                        count: run.len(),
+                    });
                 }
                 x += run.len();
             }

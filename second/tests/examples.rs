@@ -35,13 +35,24 @@ fn e() -> Shape {
 
 /// A placement by degrees and corner.
 fn at(degrees: usize, x: usize, y: usize) -> Placement {
-    Placement { turn: Turn::ALL[degrees / 90], x, y }
+    Placement {
+        turn: Turn::ALL[degrees / 90],
+        x,
+        y,
+    }
 }
 
 /// A job with all turns sums equal.
 fn job(rows: usize, columns: usize, turn_sum: usize, shapes: Vec<Shape>) -> Job {
-    let pieces = shapes.into_iter().map(|shape| Piece::new(shape, turn_sum)).collect();
-    Job { rows, columns, pieces }
+    let pieces = shapes
+        .into_iter()
+        .map(|shape| Piece::new(shape, turn_sum))
+        .collect();
+    Job {
+        rows,
+        columns,
+        pieces,
+    }
 }
 
 /// The no-fit region of two shapes.
@@ -58,7 +69,10 @@ fn no_fit_row_of_a(row_offset: usize) -> Vec<(isize, usize)> {
     if row >= region.rows() {
         return Vec::new();
     }
-    region.row_runs(row).map(|(first, count)| (first as isize - 1, count)).collect()
+    region
+        .row_runs(row)
+        .map(|(first, count)| (first as isize - 1, count))
+        .collect()
 }
 
 /// Both depths and the penalty of two shapes in turn 0; the offset is not negative.
@@ -68,13 +82,22 @@ fn depths_and_penalty(first: Shape, second: Shape, dx: usize, dy: usize) -> (usi
     let horizontal = region.depth(Direction::Horizontal, cell.0, cell.1);
     let vertical = region.depth(Direction::Vertical, cell.0, cell.1);
     let maps = PenaltyMaps::new(&job(9, 9, 1, vec![first, second]));
-    (horizontal, vertical, maps.penalty(0, at(0, 0, 0), 1, at(0, dx, dy)))
+    (
+        horizontal,
+        vertical,
+        maps.penalty(0, at(0, 0, 0), 1, at(0, dx, dy)),
+    )
 }
 
 #[test]
 fn p1_row_strips() {
     let strip = |y, first, count| Strip { y, first, count };
-    let expected = [strip(0, 0, 3), strip(1, 0, 1), strip(1, 2, 1), strip(2, 0, 3)];
+    let expected = [
+        strip(0, 0, 3),
+        strip(1, 0, 1),
+        strip(1, 2, 1),
+        strip(2, 0, 3),
+    ];
     assert_eq!(d().row_strips(), expected);
 }
 
@@ -126,14 +149,25 @@ fn p10_line_search() {
     let job = job(2, 4, 1, vec![a(), a()]);
     let mut search = Search::new(&job, vec![at(0, 1, 0), at(0, 0, 0)], &[3]);
     let found = search.line_search(1, Turn::ALL[0], Direction::Horizontal, 0);
-    assert_eq!(found, Some(LinePlace { sum: 3, coordinate: 0 }));
+    assert_eq!(
+        found,
+        Some(LinePlace {
+            sum: 3,
+            coordinate: 0
+        })
+    );
 }
 
 #[test]
 fn p11_descent_ends_clear() {
     let job = job(2, 4, 1, vec![a(), a()]);
     let mut search = Search::new(&job, vec![at(0, 0, 0); 2], &[1]);
-    let expected = Descent { end: End::Clear, sum: 0, trials: 1, moves: 1 };
+    let expected = Descent {
+        end: End::Clear,
+        sum: 0,
+        trials: 1,
+        moves: 1,
+    };
     assert_eq!(search.descent(5), expected);
     assert_eq!(search.layout(), [at(0, 2, 0), at(0, 0, 0)]);
 }
@@ -141,17 +175,31 @@ fn p11_descent_ends_clear() {
 #[test]
 fn p12_descent_ends_settled_or_spent() {
     let job = job(2, 3, 1, vec![a(), a()]);
-    let settled = Descent { end: End::Settled, sum: 1, trials: 5, moves: 1 };
-    assert_eq!(Search::new(&job, vec![at(0, 0, 0); 2], &[1]).descent(5), settled);
-    let spent = Descent { end: End::Spent, sum: 1, trials: 4, moves: 1 };
-    assert_eq!(Search::new(&job, vec![at(0, 0, 0); 2], &[1]).descent(4), spent);
+    let settled = Descent {
+        end: End::Settled,
+        sum: 1,
+        trials: 5,
+        moves: 1,
+    };
+    assert_eq!(
+        Search::new(&job, vec![at(0, 0, 0); 2], &[1]).descent(5),
+        settled
+    );
+    let spent = Descent {
+        end: End::Spent,
+        sum: 1,
+        trials: 4,
+        moves: 1,
+    };
+    assert_eq!(
+        Search::new(&job, vec![at(0, 0, 0); 2], &[1]).descent(4),
+        spent
+    );
 }
 
 /// The job text of two full 2 x 2 panels on a sheet of 2 rows.
 fn two_squares(columns: usize) -> String {
-    format!(
-        "job,1,2,{columns},2\npiece,0,2,2,1\nrow,##\nrow,##\npiece,1,2,2,1\nrow,##\nrow,##\n"
-    )
+    format!("job,1,2,{columns},2\npiece,0,2,2,1\nrow,##\nrow,##\npiece,1,2,2,1\nrow,##\nrow,##\n")
 }
 
 #[test]

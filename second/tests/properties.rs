@@ -18,7 +18,11 @@ fn job_of(problem: &Problem) -> Job {
 /// The program's form of a placement.
 fn placement(place: &Place) -> Placement {
     let (x, y) = place.corner;
-    Placement { turn: Turn::ALL[place.turn as usize], x: x as usize, y: y as usize }
+    Placement {
+        turn: Turn::ALL[place.turn as usize],
+        x: x as usize,
+        y: y as usize,
+    }
 }
 
 /// The program's form of a layout.
@@ -35,8 +39,14 @@ fn check_all_offsets(problem: &Problem, turns: [i32; 2]) {
     let base = (boxes[1].0 + 1, boxes[1].1 + 1);
     for dx in -boxes[1].0 - 1..=boxes[0].0 + 1 {
         for dy in -boxes[1].1 - 1..=boxes[0].1 + 1 {
-            let first = Place { turn: turns[0], corner: base };
-            let second = Place { turn: turns[1], corner: (base.0 + dx, base.1 + dy) };
+            let first = Place {
+                turn: turns[0],
+                corner: base,
+            };
+            let second = Place {
+                turn: turns[1],
+                corner: (base.0 + dx, base.1 + dy),
+            };
             let expected = oracle::penalty(&pixels[0], &pixels[1], (dx, dy));
             let (first, second) = (placement(&first), placement(&second));
             assert_eq!(u64::from(maps.penalty(0, first, 1, second)), expected);
@@ -51,8 +61,15 @@ fn penalty_maps_of_small_pieces() {
     for _ in 0..60 {
         let sides = [0; 4].map(|_| lcg.range(1, 6));
         let percent = lcg.range(30, 100);
-        let panels = vec![lcg.panel(sides[0], sides[1], percent), lcg.panel(sides[2], sides[3], percent)];
-        let problem = Problem { w: 30, l: 30, panels };
+        let panels = vec![
+            lcg.panel(sides[0], sides[1], percent),
+            lcg.panel(sides[2], sides[3], percent),
+        ];
+        let problem = Problem {
+            w: 30,
+            l: 30,
+            panels,
+        };
         for turns in 0..16 {
             check_all_offsets(&problem, [turns / 4, turns % 4]);
         }
@@ -64,7 +81,11 @@ fn penalty_maps_of_equal_pieces() {
     let mut lcg = Lcg(2);
     for _ in 0..20 {
         let panel = lcg.panel(4, 3, 60);
-        let problem = Problem { w: 20, l: 20, panels: vec![panel.clone(), panel] };
+        let problem = Problem {
+            w: 20,
+            l: 20,
+            panels: vec![panel.clone(), panel],
+        };
         for turns in 0..16 {
             check_all_offsets(&problem, [turns / 4, turns % 4]);
         }
@@ -74,9 +95,21 @@ fn penalty_maps_of_equal_pieces() {
 #[test]
 fn penalty_maps_of_long_pieces() {
     let mut lcg = Lcg(3);
-    for (sides, percent) in [([70, 2, 64, 1], 20), ([130, 1, 3, 3], 40), ([65, 2, 2, 66], 12), ([255, 1, 255, 1], 9)] {
-        let panels = vec![lcg.panel(sides[0], sides[1], percent), lcg.panel(sides[2], sides[3], percent)];
-        let problem = Problem { w: 100, l: 300, panels };
+    for (sides, percent) in [
+        ([70, 2, 64, 1], 20),
+        ([130, 1, 3, 3], 40),
+        ([65, 2, 2, 66], 12),
+        ([255, 1, 255, 1], 9),
+    ] {
+        let panels = vec![
+            lcg.panel(sides[0], sides[1], percent),
+            lcg.panel(sides[2], sides[3], percent),
+        ];
+        let problem = Problem {
+            w: 100,
+            l: 300,
+            panels,
+        };
         for turns in [[0, 0], [0, 1], [3, 2]] {
             check_all_offsets(&problem, turns);
         }
@@ -87,19 +120,38 @@ fn penalty_maps_of_long_pieces() {
 fn penalty_of_the_largest_full_pieces() {
     let lcg = &mut Lcg(4);
     let bar = lcg.panel(255, 1, 100);
-    let problem = Problem { w: 255, l: 255, panels: vec![bar.clone(), bar] };
+    let problem = Problem {
+        w: 255,
+        l: 255,
+        panels: vec![bar.clone(), bar],
+    };
     let maps = PenaltyMaps::new(&job_of(&problem));
-    let lying = Placement { turn: Turn::ALL[0], x: 0, y: 0 };
+    let lying = Placement {
+        turn: Turn::ALL[0],
+        x: 0,
+        y: 0,
+    };
     assert_eq!(maps.penalty(0, lying, 1, lying), 1);
-    let region = |shape: &second::shape::Shape| NoFit::new(&BitShape::new(shape), &BitShape::new(shape));
+    let region =
+        |shape: &second::shape::Shape| NoFit::new(&BitShape::new(shape), &BitShape::new(shape));
     let bar = region(&job_of(&problem).pieces[0].shape);
     assert_eq!(bar.depth(Direction::Horizontal, 254, 0), 255);
     assert_eq!(bar.depth(Direction::Vertical, 254, 0), 1);
     let full = second::shape::Shape::new(255, vec![true; 255 * 255]);
-    let pieces = vec![second::job::Piece::new(full.clone(), 1), second::job::Piece::new(full, 1)];
-    let maps = PenaltyMaps::new(&Job { rows: 255, columns: 255, pieces });
+    let pieces = vec![
+        second::job::Piece::new(full.clone(), 1),
+        second::job::Piece::new(full, 1),
+    ];
+    let maps = PenaltyMaps::new(&Job {
+        rows: 255,
+        columns: 255,
+        pieces,
+    });
     assert_eq!(maps.penalty(0, lying, 1, lying), 255);
-    assert_eq!(maps.penalty(0, lying, 1, Placement { x: 100, ..lying }), 155);
+    assert_eq!(
+        maps.penalty(0, lying, 1, Placement { x: 100, ..lying }),
+        155
+    );
     assert_eq!(maps.penalty(0, lying, 1, Placement { y: 254, ..lying }), 1);
     assert_eq!(maps.penalty(0, lying, 1, Placement { y: 255, ..lying }), 0);
 }
@@ -109,11 +161,17 @@ fn depths_and_no_fit_rows() {
     let mut lcg = Lcg(5);
     for _ in 0..60 {
         let sides = [0; 4].map(|_| lcg.range(1, 6));
-        let panels = vec![lcg.panel(sides[0], sides[1], 55), lcg.panel(sides[2], sides[3], 55)];
+        let panels = vec![
+            lcg.panel(sides[0], sides[1], 55),
+            lcg.panel(sides[2], sides[3], 55),
+        ];
         let problem = Problem { w: 9, l: 9, panels };
         let job = job_of(&problem);
         let opposite = job.pieces[1].shape.turned(Turn::ALL[2]);
-        let region = NoFit::new(&BitShape::new(&job.pieces[0].shape), &BitShape::new(&opposite));
+        let region = NoFit::new(
+            &BitShape::new(&job.pieces[0].shape),
+            &BitShape::new(&opposite),
+        );
         let (i, j) = (&problem.panels[0].pixels, &problem.panels[1].pixels);
         for row in 0..region.rows() {
             let mut covered = vec![false; region.columns()];
@@ -121,10 +179,12 @@ fn depths_and_no_fit_rows() {
             for &(first, count) in &runs {
                 covered[first..first + count].fill(true);
             }
-            assert!(runs.windows(2).all(|pair| pair[0].0 + pair[0].1 < pair[1].0));
-            for column in 0..region.columns() {
+            assert!(runs
+                .windows(2)
+                .all(|pair| pair[0].0 + pair[0].1 < pair[1].0));
+            for (column, covered) in covered.into_iter().enumerate() {
                 let d = (column as i32 - sides[2] + 1, row as i32 - sides[3] + 1);
-                assert_eq!(covered[column], oracle::shares(i, j, d));
+                assert_eq!(covered, oracle::shares(i, j, d));
                 for (direction, step) in Direction::ALL.into_iter().zip(STEPS) {
                     let depth = region.depth(direction, column, row) as u64;
                     assert_eq!(depth, oracle::depth(i, j, d, step));
@@ -153,9 +213,19 @@ fn line_searches() {
             let expected = problem.line_search(&layout, &weights, panel, turn, step, through);
             let in_words = |(sum, place): (u64, Place)| {
                 let (x, y) = place.corner;
-                (sum, if direction == Direction::Horizontal { x } else { y } as usize)
+                (
+                    sum,
+                    if direction == Direction::Horizontal {
+                        x
+                    } else {
+                        y
+                    } as usize,
+                )
             };
-            assert_eq!(found.map(|best| (best.sum, best.coordinate)), expected.map(in_words));
+            assert_eq!(
+                found.map(|best| (best.sum, best.coordinate)),
+                expected.map(in_words)
+            );
         }
     }
 }
@@ -164,7 +234,7 @@ fn line_searches() {
 fn descents() {
     let mut lcg = Lcg(7);
     for _ in 0..80 {
-        let problem = lcg.problem(6, 4);
+        let problem = lcg.crowded_problem(6, 4);
         let job = job_of(&problem);
         let (mut layout, weights) = (lcg.layout(&problem), lcg.weights(&problem));
         let budget = lcg.range(0, 90) as u64;
@@ -177,7 +247,10 @@ fn descents() {
             End::Spent => "spent",
         };
         assert_eq!(word, expected.word);
-        assert_eq!((found.sum, found.trials, found.moves), (expected.sum, expected.trials, expected.moves));
+        assert_eq!(
+            (found.sum, found.trials, found.moves),
+            (expected.sum, expected.trials, expected.moves)
+        );
         assert_eq!(search.layout(), placements(&layout));
     }
 }
@@ -186,7 +259,7 @@ fn descents() {
 fn guided_runs() {
     let mut lcg = Lcg(8);
     for _ in 0..40 {
-        let problem = lcg.problem(6, 4);
+        let problem = lcg.crowded_problem(6, 4);
         let job = job_of(&problem);
         let (layout, weights) = (lcg.layout(&problem), lcg.weights(&problem));
         let (rounds, budget) = (lcg.range(1, 8) as usize, lcg.range(0, 60) as u64);
@@ -202,7 +275,8 @@ fn guided_runs() {
 fn whole_program() {
     let mut lcg = Lcg(9);
     for _ in 0..30 {
-        let problem = lcg.problem(5, 3);
-        assert_eq!(second::run(problem.text().as_bytes()), problem.output());
+        for problem in [lcg.problem(5, 3), lcg.crowded_problem(6, 4)] {
+            assert_eq!(second::run(problem.text().as_bytes()), problem.output());
+        }
     }
 }

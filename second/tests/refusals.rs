@@ -1,8 +1,14 @@
 //! Refusals of the job reader and the limit of the input's length.
 
 /// A job of one 2 x 2 panel and one pixel, as lines without line feeds.
-const LINES: [&str; 6] =
-    ["job,1,9,8,2", "piece,0,2,2,5", "row,##", "row,.#", "piece,1,1,1,15", "row,#"];
+const LINES: [&str; 6] = [
+    "job,1,9,8,2",
+    "piece,0,2,2,5",
+    "row,##",
+    "row,.#",
+    "piece,1,1,1,15",
+    "row,#",
+];
 
 /// The output for the lines above with some of them replaced, line numbers from 1.
 fn with_lines(changes: &[(usize, &str)]) -> String {
@@ -15,7 +21,11 @@ fn with_lines(changes: &[(usize, &str)]) -> String {
 
 /// Checks the refusal for one replaced line.
 fn assert_refused(number: usize, line: &str, cause: u8) {
-    assert_eq!(with_lines(&[(number, line)]), format!("refused,{cause},{number}\n"), "{line:?}");
+    assert_eq!(
+        with_lines(&[(number, line)]),
+        format!("refused,{cause},{number}\n"),
+        "{line:?}"
+    );
 }
 
 #[test]
@@ -26,11 +36,33 @@ fn accepted_unchanged() {
 #[test]
 fn wrong_form_of_the_job_line() {
     for line in [
-        "", "job", "job,1,9,8", "job,1,9,8,2,", "job,1,9,8,2,1", "job,2,9,8,2", "job,0,9,8,2",
-        "job,01,9,8,2", "job,1,09,8,2", "job,1,9,8,02", "job,1,9,8,00", "job,1,9,8,123456",
-        "job,1,-9,8,2", "job,1,+9,8,2", "job,1, 9,8,2", "job,1,9,8,2 ", "job,1,9,8,2\r",
-        "job,1,,8,2", "job;1,9,8,2", "Job,1,9,8,2", " job,1,9,8,2", "job,1,9,8,x", "jobs,1,9,8,2",
-        "piece,0,2,2,5", "job,1,9,0x8,2", "job,1,9.0,8,2", "job,1,9,8,2\u{660}",
+        "",
+        "job",
+        "job,1,9,8",
+        "job,1,9,8,2,",
+        "job,1,9,8,2,1",
+        "job,2,9,8,2",
+        "job,0,9,8,2",
+        "job,01,9,8,2",
+        "job,1,09,8,2",
+        "job,1,9,8,02",
+        "job,1,9,8,00",
+        "job,1,9,8,123456",
+        "job,1,-9,8,2",
+        "job,1,+9,8,2",
+        "job,1, 9,8,2",
+        "job,1,9,8,2 ",
+        "job,1,9,8,2\r",
+        "job,1,,8,2",
+        "job;1,9,8,2",
+        "Job,1,9,8,2",
+        " job,1,9,8,2",
+        "job,1,9,8,x",
+        "jobs,1,9,8,2",
+        "piece,0,2,2,5",
+        "job,1,9,0x8,2",
+        "job,1,9.0,8,2",
+        "job,1,9,8,2\u{660}",
     ] {
         assert_refused(1, line, 1);
     }
@@ -48,8 +80,14 @@ fn form_comes_before_range() {
 #[test]
 fn range_of_the_job_line() {
     for line in [
-        "job,1,0,8,2", "job,1,513,8,2", "job,1,9,0,2", "job,1,9,4097,2", "job,1,9,8,0",
-        "job,1,9,8,65", "job,1,99999,99999,99999", "job,1,513,4096,2",
+        "job,1,0,8,2",
+        "job,1,513,8,2",
+        "job,1,9,0,2",
+        "job,1,9,4097,2",
+        "job,1,9,8,0",
+        "job,1,9,8,65",
+        "job,1,99999,99999,99999",
+        "job,1,513,4096,2",
     ] {
         assert_refused(1, line, 2);
     }
@@ -61,12 +99,26 @@ fn range_of_the_job_line() {
 
 #[test]
 fn piece_line() {
-    for line in ["piece,0,2,2", "piece,0,2,2,5,", "piece,00,2,2,5", "row,##", "piece 0,2,2,5"] {
+    for line in [
+        "piece,0,2,2",
+        "piece,0,2,2,5,",
+        "piece,00,2,2,5",
+        "row,##",
+        "piece 0,2,2,5",
+    ] {
         assert_refused(2, line, 1);
     }
     for line in [
-        "piece,1,2,2,5", "piece,0,0,2,5", "piece,0,2,0,5", "piece,0,256,2,5", "piece,0,2,256,5",
-        "piece,0,2,2,0", "piece,0,2,2,4", "piece,0,2,2,16", "piece,0,2,2,17", "piece,0,9,10,4",
+        "piece,1,2,2,5",
+        "piece,0,0,2,5",
+        "piece,0,2,0,5",
+        "piece,0,256,2,5",
+        "piece,0,2,256,5",
+        "piece,0,2,2,0",
+        "piece,0,2,2,4",
+        "piece,0,2,2,16",
+        "piece,0,2,2,17",
+        "piece,0,9,10,4",
     ] {
         assert_refused(2, line, 2);
     }
@@ -78,7 +130,9 @@ fn piece_line() {
 
 #[test]
 fn row_line() {
-    for line in ["row,#", "row,###", "row,#x", "row, #", "row", "row,", "rom,##", "##", "row,##,", ""] {
+    for line in [
+        "row,#", "row,###", "row,#x", "row, #", "row", "row,", "rom,##", "##", "row,##,", "",
+    ] {
         assert_refused(3, line, 1);
     }
     assert_refused(4, "piece,1,1,1,15", 1);
@@ -98,10 +152,17 @@ fn loose_box_names_the_last_row() {
 
 #[test]
 fn areas_above_the_limit() {
-    let first = format!("job,1,256,256,2\npiece,0,32,16,1\n{}", format!("row,{}\n", "#".repeat(32)).repeat(16));
+    let first = format!(
+        "job,1,256,256,2\npiece,0,32,16,1\n{}",
+        format!("row,{}\n", "#".repeat(32)).repeat(16)
+    );
     let text = first.clone() + "piece,1,255,255,1\n";
     assert_eq!(second::run(text.as_bytes()), "refused,4,19\n");
-    let below = first.replace("piece,0,32,16", "piece,0,32,15").replacen(&format!("row,{}\n", "#".repeat(32)), "", 1);
+    let below = first.replace("piece,0,32,16", "piece,0,32,15").replacen(
+        &format!("row,{}\n", "#".repeat(32)),
+        "",
+        1,
+    );
     let text = below + "piece,1,255,255,1\n";
     assert_eq!(second::run(text.as_bytes()), "refused,1,19\n");
 }
@@ -114,7 +175,10 @@ fn missing_and_extra_lines() {
     assert_eq!(second::run(text.as_bytes()), "refused,1,6\n");
     for count in 1..6 {
         let text = LINES[..count].join("\n") + "\n";
-        assert_eq!(second::run(text.as_bytes()), format!("refused,1,{}\n", count + 1));
+        assert_eq!(
+            second::run(text.as_bytes()),
+            format!("refused,1,{}\n", count + 1)
+        );
     }
     for extra in ["\n", "x", "row,#\n", "piece,2,1,1,1\n", " "] {
         let text = LINES.join("\n") + "\n" + extra;
@@ -122,7 +186,10 @@ fn missing_and_extra_lines() {
     }
     // A line without its line feed is of wrong form even where its number is out of range.
     assert_eq!(second::run(b"job,1,0,8,2"), "refused,1,1\n");
-    assert_eq!(second::run(b"job,1,1,1,1\npiece,0,1,1,1\nrow,."), "refused,1,3\n");
+    assert_eq!(
+        second::run(b"job,1,1,1,1\npiece,0,1,1,1\nrow,."),
+        "refused,1,3\n"
+    );
 }
 
 #[test]

@@ -69,7 +69,8 @@ pub fn turned_box(panel: &Panel, turn: i32) -> Point {
 
 /// Whether two pixel sets share a pixel when the second is moved by d.
 pub fn shares(i: &[Point], j: &[Point], d: Point) -> bool {
-    i.iter().any(|p| j.iter().any(|q| (p.0 - q.0, p.1 - q.1) == d))
+    i.iter()
+        .any(|p| j.iter().any(|q| (p.0 - q.0, p.1 - q.1) == d))
 }
 
 /// The depth along a direction: the least |t| that parts the sets.
@@ -95,13 +96,21 @@ impl Problem {
     /// All pairs in the order (0,1), (0,2) and so on.
     pub fn pairs(&self) -> Vec<(usize, usize)> {
         let n = self.panels.len();
-        (0..n).flat_map(|i| (i + 1..n).map(move |j| (i, j))).collect()
+        (0..n)
+            .flat_map(|i| (i + 1..n).map(move |j| (i, j)))
+            .collect()
     }
 
     /// The weighted sum over the pairs that satisfy a condition.
     pub fn sum(&self, layout: &[Place], weights: &[u16], of: impl Fn(usize, usize) -> bool) -> u64 {
-        let pairs = self.pairs().into_iter().zip(weights).filter(|((i, j), _)| of(*i, *j));
-        pairs.map(|((i, j), &weight)| u64::from(weight) * self.pair_penalty(layout, i, j)).sum()
+        let pairs = self
+            .pairs()
+            .into_iter()
+            .zip(weights)
+            .filter(|((i, j), _)| of(*i, *j));
+        pairs
+            .map(|((i, j), &weight)| u64::from(weight) * self.pair_penalty(layout, i, j))
+            .sum()
     }
 
     /// The weighted sum of one panel's pairs.
@@ -128,8 +137,10 @@ impl Problem {
     ) -> Option<(u64, Place)> {
         let mut best: Option<(u64, Place)> = None;
         for t in 0..self.l.max(self.w) {
-            let corner =
-                (through.0 * step.1 + t * step.0, through.1 * step.0 + t * step.1);
+            let corner = (
+                through.0 * step.1 + t * step.0,
+                through.1 * step.0 + t * step.1,
+            );
             let place = Place { turn, corner };
             if !self.inside(panel, place) {
                 continue;
@@ -184,7 +195,12 @@ impl Problem {
                 _ => quiet += 1,
             }
         };
-        Outcome { word, sum: self.sum(layout, weights, |_, _| true), trials, moves }
+        Outcome {
+            word,
+            sum: self.sum(layout, weights, |_, _| true),
+            trials,
+            moves,
+        }
     }
 
     /// A guided run: best layout, its plain sum, the new weights, trials and moves.
@@ -223,7 +239,13 @@ impl Problem {
     pub fn start(&self) -> Vec<Place> {
         let mut order: Vec<usize> = (0..self.panels.len()).collect();
         order.sort_by_key(|&i| (-self.panels[i].l, i));
-        let mut layout = vec![Place { turn: 0, corner: (0, 0) }; order.len()];
+        let mut layout = vec![
+            Place {
+                turn: 0,
+                corner: (0, 0)
+            };
+            order.len()
+        ];
         let (mut x, mut y, mut m) = (0, 0, 0);
         for i in order {
             let panel = &self.panels[i];
@@ -245,7 +267,13 @@ impl Problem {
         for (i, panel) in self.panels.iter().enumerate() {
             text += &format!("piece,{},{},{},{}\n", i, panel.l, panel.w, panel.o);
             for y in 0..panel.w {
-                let mark = |x| if panel.pixels.contains(&(x, y)) { '#' } else { '.' };
+                let mark = |x| {
+                    if panel.pixels.contains(&(x, y)) {
+                        '#'
+                    } else {
+                        '.'
+                    }
+                };
                 text += &format!("row,{}\n", (0..panel.l).map(mark).collect::<String>());
             }
         }
@@ -274,7 +302,10 @@ pub struct Lcg(pub u64);
 impl Lcg {
     /// A number from `low` to `high`, both included.
     pub fn range(&mut self, low: i32, high: i32) -> i32 {
-        self.0 = self.0.wrapping_mul(6_364_136_223_846_793_005).wrapping_add(1_442_695_040_888_963_407);
+        self.0 = self
+            .0
+            .wrapping_mul(6_364_136_223_846_793_005)
+            .wrapping_add(1_442_695_040_888_963_407);
         low + ((self.0 >> 33) % (high - low + 1) as u64) as i32
     }
 
@@ -305,11 +336,33 @@ impl Lcg {
         let (w, l) = (self.range(1, 2 * most_side), self.range(1, 3 * most_side));
         let mut panels = Vec::new();
         for _ in 0..self.range(1, most_panels) {
-            let (side_l, side_w) = (self.range(1, most_side.min(l)), self.range(1, most_side.min(w)));
+            let (side_l, side_w) = (
+                self.range(1, most_side.min(l)),
+                self.range(1, most_side.min(w)),
+            );
             let percent = self.range(30, 100);
             panels.push(self.panel(side_l, side_w, percent));
         }
         Problem { w, l, panels }
+    }
+
+    /// A job whose panels cover most of the sheet, so that overlap is hard to avoid.
+    pub fn crowded_problem(&mut self, most_panels: i32, most_side: i32) -> Problem {
+        let mut panels = Vec::new();
+        for _ in 0..self.range(3, most_panels) {
+            let (l, w) = (self.range(1, most_side), self.range(1, most_side));
+            let percent = self.range(40, 100);
+            panels.push(self.panel(l, w, percent));
+        }
+        let pixels: i32 = panels.iter().map(|panel| panel.pixels.len() as i32).sum();
+        let w = panels.iter().map(|panel| panel.w).max().unwrap() + self.range(0, 2);
+        let longest = panels.iter().map(|panel| panel.l).max().unwrap();
+        let percent = self.range(60, 100);
+        Problem {
+            w,
+            l: longest.max(pixels * 100 / (percent * w)),
+            panels,
+        }
     }
 
     /// An inside placement of each panel, in an allowed turn that fits the sheet.

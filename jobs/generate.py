@@ -1,0 +1,378 @@
+#!/usr/bin/env python3
+"""Writes every job of this folder.
+
+Only whole numbers and an own random generator are used, so that each run writes the same bytes.
+"""
+
+import pathlib
+
+FOLDER = pathlib.Path(__file__).resolve().parent
+
+
+class Random:
+    """A linear congruential generator with fixed constants."""
+
+    def __init__(self, seed):
+        self.state = seed
+
+    def between(self, low, high):
+        """A number from low to high, both included."""
+        self.state = (self.state * 6364136223846793005 + 1442695040888963407) % 2**64
+        return low + (self.state >> 33) % (high - low + 1)
+
+    def pick(self, choices):
+        """One of the choices."""
+        return choices[self.between(0, len(choices) - 1)]
+
+
+# Shapes are lists of rows of marks, the bottom row first.
+
+
+def trimmed(rows):
+    """The rows without empty rows and columns at the sides, so that the box is tight."""
+    while "#" not in rows[0]:
+        rows = rows[1:]
+    while "#" not in rows[-1]:
+        rows = rows[:-1]
+    while all(row[0] == "." for row in rows):
+        rows = [row[1:] for row in rows]
+    while all(row[-1] == "." for row in rows):
+        rows = [row[:-1] for row in rows]
+    return rows
+
+
+def draw(columns, rows, has):
+    """The shape of the box cells that satisfy a condition."""
+    marks = [["#" if has(x, y) else "." for x in range(columns)] for y in range(rows)]
+    return trimmed(["".join(row) for row in marks])
+
+
+def full(columns, rows):
+    """A full rectangle."""
+    return ["#" * columns] * rows
+
+
+def in_ellipse(x, y, columns, rows, part=100):
+    """Whether a cell lies in the ellipse of a box, drawn in to a percentage of its size."""
+    across = (2 * x + 1 - columns) * rows
+    up = (2 * y + 1 - rows) * columns
+    return 10000 * (across * across + up * up) <= (part * columns * rows) ** 2
+
+
+def disc(columns, rows):
+    """A filled ellipse."""
+    return draw(columns, rows, lambda x, y: in_ellipse(x, y, columns, rows))
+
+
+def ring(columns, rows, part):
+    """An ellipse with a hole of a percentage of its size."""
+    inner = lambda x, y: in_ellipse(x, y, columns, rows, part)
+    return draw(columns, rows, lambda x, y: in_ellipse(x, y, columns, rows) and not inner(x, y))
+
+
+def frame(columns, rows, border):
+    """A rectangle with a rectangular hole."""
+    inside = lambda k, size: border <= k < size - border
+    return draw(columns, rows, lambda x, y: not (inside(x, columns) and inside(y, rows)))
+
+
+def angle(columns, rows, foot, stem):
+    """An L shape."""
+    return draw(columns, rows, lambda x, y: y < foot or x < stem)
+
+
+def cross(columns, rows, bar_columns, bar_rows):
+    """Two crossing bars."""
+    upright = lambda x: abs(2 * x + 1 - columns) <= bar_columns
+    level = lambda y: abs(2 * y + 1 - rows) <= bar_rows
+    return draw(columns, rows, lambda x, y: upright(x) or level(y))
+
+
+def wedge(columns, rows):
+    """A right triangle."""
+    return draw(columns, rows, lambda x, y: x * rows + y * columns < columns * rows)
+
+
+def sail(columns, rows, lean, belly):
+    """A panel with a leaning front edge and a curved back edge."""
+
+    def has(x, y):
+        front = lean * y // rows
+        curve = 4 * belly * y * (rows - 1 - y) // (rows * rows)
+        return front <= x < columns - belly + curve - lean * y // (2 * rows)
+
+    return draw(columns, rows, has)
+
+
+def comb(columns, rows, pitch, spine):
+    """Teeth on a spine: many strips a row."""
+    return draw(columns, rows, lambda x, y: y < spine or x % pitch < pitch // 2)
+
+
+def grain(random, columns, rows, percent):
+    """Single pixels at random; the four corners are kept so that the box is tight."""
+    corner = lambda x, y: x in (0, columns - 1) and y in (0, rows - 1)
+    return draw(columns, rows, lambda x, y: random.between(1, 100) <= percent or corner(x, y))
+
+
+def blob(random, columns, rows):
+    """An irregular piece: a box with slanted corners and one or two notches."""
+    cuts = [(random.between(1, columns // 2), random.between(1, rows // 2)) for _ in range(4)]
+    notches = []
+    for _ in range(random.between(1, 2)):
+        width, height = random.between(1, columns // 3), random.between(1, rows // 3)
+        at_x = random.pick([0, columns - width, random.between(0, columns - width)])
+        at_y = random.pick([0, rows - height])
+        notches.append((at_x, at_y, width, height))
+
+    def has(x, y):
+        from_right, from_top = columns - 1 - x, rows - 1 - y
+        corners = [(x, y), (from_right, y), (x, from_top), (from_right, from_top)]
+        slanted = all(a * q + b * p >= p * q for (a, b), (p, q) in zip(corners, cuts))
+        notched = any(0 <= x - a < p and 0 <= y - b < q for a, b, p, q in notches)
+        return slanted and not notched
+
+    return draw(columns, rows, has)
+
+
+def pixels(shape):
+    """The number of pixels of a shape."""
+    return sum(row.count("#") for row in shape)
+
+
+def piece_text(number, shape, turns):
+    """The lines of one piece."""
+    lines = ["piece,%d,%d,%d,%d" % (number, len(shape[0]), len(shape), turns)]
+    return "\n".join(lines + ["row," + row for row in shape]) + "\n"
+
+
+def job_text(rows, columns, pieces):
+    """The text of a job; pieces are pairs of shape and turn sum."""
+    text = "job,1,%d,%d,%d\n" % (rows, columns, len(pieces))
+    return text + "".join(piece_text(k, shape, turns) for k, (shape, turns) in enumerate(pieces))
+
+
+def write(name, text):
+    """Writes one job."""
+    (FOLDER / (name + ".job")).write_bytes(text.encode("ascii"))
+
+
+def write_filled(name, rows, percent, pieces):
+    """Writes a job whose pixels are a percentage of its sheet, and checks the limits."""
+    area = sum(pixels(shape) for shape, _ in pieces)
+    columns = -(-100 * area // (percent * rows))
+    text = job_text(rows, columns, pieces)
+    assert 40 <= len(pieces) <= 64 and 80 * rows * columns <= 100 * area <= 95 * rows * columns
+    assert rows * columns <= 65536 and len(text) <= 65536, (name, rows, columns, len(text))
+    assert sum(len(shape) * len(shape[0]) for shape, _ in pieces) <= 65536
+    write(name, text)
+
+
+# Examples and small jobs.
+
+SQUARE = full(2, 2)
+CORNER = ["##", "#."]
+PIXEL = ["#"]
+
+
+def small_jobs():
+    """Jobs that each cover one thing."""
+    write("example-clear", job_text(2, 4, [(SQUARE, 1)] * 2))
+    write("example-open", job_text(2, 3, [(SQUARE, 1)] * 2))
+    write("pixel-one", job_text(1, 1, [(PIXEL, 15)]))
+    write("pixel-two", job_text(1, 1, [(PIXEL, 15)] * 2))
+    write("boxes-meet", job_text(2, 3, [(CORNER, 1), (CORNER, 5)]))
+    write("hole-pixels", job_text(5, 6, [(frame(5, 5, 1), 1)] + [(PIXEL, 1)] * 6))
+    write("hole-rings", job_text(12, 28, [
+        (ring(12, 12, 70), 1), (disc(8, 8), 1), (ring(8, 8, 50), 1), (disc(4, 4), 1),
+        (frame(8, 10, 2), 3), (full(4, 6), 1), (disc(3, 3), 1)]))
+    write("parts-interlock", job_text(5, 12, [
+        (["#.#.#.#"], 5), ([".#.#.#."[1:-1]], 5), (["##..##", "......", "##..##"], 1),
+        (["##", "..", "##"], 3), (["#...#", ".....", "..#.."], 15), (["#.#", "...", "#.#"], 1)]))
+    write("turns-all", job_text(7, 9, [
+        (angle(4, 3, 1, 1), 15), (angle(3, 5, 1, 1), 15), (["###", ".#.", ".#."], 15),
+        (["##.", ".##"], 15), (["####"], 15), (["#...", "####"], 15), (wedge(4, 5), 15),
+        (["#.#", "###"], 15), (["##", "##"], 15)]))
+    write("turns-sets", job_text(10, 11, [
+        (angle(4, 3, 1, 2), turns) for turns in (1, 3, 5, 7, 9, 11, 13, 15)]))
+    write("turns-without-place", job_text(3, 14, [
+        (angle(9, 3, 1, 2), 15), (full(5, 2), 3), (["#####", "..#.."], 9), (full(4, 3), 5)]))
+    write("sheet-full", job_text(6, 10, [
+        (full(10, 1), 1), (full(6, 5), 1), (angle(4, 3, 1, 1), 5), (full(3, 2), 1),
+        (angle(4, 2, 1, 1), 5), (full(3, 1), 1)]))
+    write("sheet-full-by-start", job_text(8, 16, [(full(4, 4), 15)] * 8))
+    write("sheet-rows-512", job_text(512, 128, [
+        (full(128, 60), 1), (frame(120, 110, 3), 5), (disc(100, 90), 3), (full(90, 40), 3),
+        (ring(60, 90, 60), 1), (wedge(110, 60), 15), (full(1, 255), 3), (full(40, 100), 15),
+        (full(20, 255), 1), (comb(70, 30, 6, 4), 5)]))
+    write("sheet-columns-4096", job_text(16, 4096, [
+        (full(255, 16), 1), (comb(200, 12, 4, 3), 5), (disc(180, 9), 5), (full(255, 1), 1)]
+        + [(sail(120 + 37 * k % 130, 5 + k % 8, 4, 3), (1, 5)[k % 2]) for k in range(27)]))
+    write("pieces-64", job_text(16, 24, [
+        (angle(2 + k % 4, 2 + k % 3, 1, 1), 1 + 2 * (k % 8)) for k in range(64)]))
+    write("piece-255", job_text(64, 300, [
+        (sail(255, 20, 30, 12), 5), (full(255, 30), 1), (frame(254, 25, 4), 5),
+        (full(255, 1), 1), (disc(40, 30), 15), (comb(100, 20, 6, 4), 5)]))
+    write("piece-255-upright", job_text(256, 64, [
+        (full(1, 255), 1), (full(20, 255), 5), (frame(24, 250, 3), 1), (ring(20, 60, 50), 15),
+        (sail(18, 200, 5, 4), 5), (disc(12, 30), 3)]))
+    write("start-order", job_text(7, 12, [
+        (full(2, 3), 1), (full(4, 2), 1), (full(4, 3), 1), (full(6, 2), 1), (full(2, 2), 1),
+        (full(4, 2), 1), (full(1, 7), 1), (full(6, 3), 1), (full(2, 4), 1)]))
+    random = Random(35)
+    write("weights-grow", job_text(12, 10, [
+        (blob(random, random.between(4, 7), random.between(4, 6)), 15) for _ in range(7)]))
+
+
+def damaged_jobs():
+    """Jobs that are refused, by the number of the cause."""
+    good = job_text(4, 6, [(angle(3, 2, 1, 1), 5), (SQUARE, 3)])
+    change = lambda name, old, new: write("refused-" + name, good.replace(old, new, 1))
+    assert good.count("job,1,4,6,2\n") == 1 and good.count("piece,0,3,2,5\nrow,###\nrow,#..\n") == 1
+    write("refused-1-empty", "")
+    write("refused-1-no-line-feed", good[:-1])
+    write("refused-1-extra-line", good + "\n")
+    write("refused-1-extra-bytes", good + "row,##")
+    write("refused-1-missing-row", good[: good.rindex("row,")])
+    write("refused-1-missing-piece", good[: good.index("piece,1")])
+    write("refused-1-carriage-return", good.replace("\n", "\r\n"))
+    change("1-version", "job,1,", "job,2,")
+    change("1-leading-zero", "job,1,4,6,2", "job,1,04,6,2")
+    change("1-six-digits", "job,1,4,6,2", "job,1,4,100000,2")
+    change("1-sign", "piece,0,3,", "piece,-0,3,")
+    change("1-empty-field", "piece,0,3,2,5", "piece,0,,2,5")
+    change("1-field-more", "piece,0,3,2,5", "piece,0,3,2,5,")
+    change("1-form-before-range", "piece,0,3,2,5", "piece,9,3,2,x")
+    change("1-row-short", "row,#..", "row,#.")
+    change("1-row-mark", "row,#..", "row,#.o")
+    change("1-word", "piece,1", "Piece,1")
+    change("2-sheet-rows", "job,1,4,6,2", "job,1,513,6,2")
+    change("2-sheet-columns", "job,1,4,6,2", "job,1,4,4097,2")
+    change("2-no-pieces", "job,1,4,6,2", "job,1,4,6,0")
+    change("2-pieces-65", "job,1,4,6,2", "job,1,4,6,65")
+    change("2-wrong-number", "piece,1,", "piece,0,")
+    change("2-side-zero", "piece,0,3,2,5", "piece,0,3,0,5")
+    change("2-side-256", "piece,0,3,2,5", "piece,0,256,2,5")
+    change("2-even-turns", "piece,0,3,2,5", "piece,0,3,2,6")
+    change("2-turns-17", "piece,0,3,2,5", "piece,0,3,2,17")
+    change("3-sheet-area", "job,1,4,6,2", "job,1,512,129,2")
+    small, limit = job_text(256, 256, [(full(32, 16), 1), (PIXEL, 1)]), "piece,1,1,1,1"
+    write("refused-4-box-areas", small.replace(limit, "piece,1,255,255,1"))
+    change("5-loose-top-row", "row,#..", "row,...")
+    change("5-loose-bottom-row", "row,###", "row,...")
+    change("5-loose-column", "row,###", "row,##.")
+    change("6-too-long", "piece,1,2,2,3", "piece,1,7,2,3")
+    change("6-too-wide", "piece,1,2,2,3", "piece,1,2,5,3")
+
+
+def sized_job(size):
+    """A job text of an exact number of bytes; the last piece is a bar that fills it up."""
+    shapes = [frame(40 + k % 17, 42 + k % 13, 4 + k % 9) for k in range(26)]
+    shapes.append(full(200, 2))
+    pieces = [(shape, (1, 5, 15)[k % 3]) for k, shape in enumerate(shapes)]
+    for length in range(255, 0, -1):
+        text = job_text(256, 256, pieces + [(full(length, 1), 5)])
+        if len(text) == size:
+            return text
+    raise ValueError("no bar fills the text up to %d bytes, %d" % (size, len(text)))
+
+
+# Real-sized jobs.
+
+
+def mixed_shape(random):
+    """One of many simple outlines with sides of 10 to 36 pixels."""
+    columns, rows = random.between(16, 36), random.between(14, 34)
+    third = lambda side: random.between(side // 4, side // 2)
+    return random.pick([
+        lambda: full(columns, rows),
+        lambda: angle(columns, rows, third(rows), third(columns)),
+        lambda: cross(columns, rows, third(columns), third(rows)),
+        lambda: wedge(columns, rows),
+        lambda: disc(columns, rows),
+        lambda: sail(columns, rows, random.between(2, columns // 3), random.between(2, 6)),
+        lambda: frame(columns, rows, random.between(3, 5)),
+        lambda: comb(columns, rows, random.between(6, 10), random.between(4, 8)),
+    ])()
+
+
+def real_mixed():
+    """Mixed shapes with several turn sets."""
+    random = Random(101)
+    return [(mixed_shape(random), random.pick([1, 3, 5, 9, 15])) for _ in range(60)]
+
+
+def real_rings():
+    """Rings, and for each a disc that fits its hole."""
+    random, pieces = Random(102), []
+    for _ in range(26):
+        side = random.between(24, 36)
+        pieces.append((ring(side, side, 64), random.pick([1, 5])))
+        pieces.append((disc(side * 58 // 100, side * 58 // 100), 1))
+    return pieces
+
+
+def real_strips():
+    """Long strips with slanted or toothed edges."""
+    random, pieces = Random(103), []
+    for k in range(44):
+        length, width = random.between(50, 150), random.between(8, 13)
+        shape = random.pick([
+            lambda: full(length, width),
+            lambda: sail(length, width, random.between(4, 20), random.between(2, 9)),
+            lambda: comb(length, width, random.between(8, 20), width * 2 // 3),
+            lambda: angle(length, width, width // 2 + 1, random.between(10, length)),
+        ])()
+        pieces.append((shape, random.pick([1, 5, 5, 15])))
+    return pieces
+
+
+def real_dust():
+    """Pieces with many strips a line: single grains, combs and meshes."""
+    random, pieces = Random(104), []
+    for _ in range(52):
+        columns, rows = random.between(18, 36), random.between(18, 36)
+        shape = random.pick([
+            lambda: grain(random, columns, rows, random.between(30, 60)),
+            lambda: comb(columns, rows, random.pick([2, 4]), 2),
+            lambda: draw(columns, rows, lambda x, y: (x % 3) * (y % 3) != 1),
+        ])()
+        pieces.append((shape, random.pick([1, 3, 5, 15])))
+    return pieces
+
+
+def real_large():
+    """Two very large pieces among others of usual size."""
+    random = Random(105)
+    pieces = [(sail(170, 96, 50, 24), 5), (ring(150, 110, 45), 1)]
+    for _ in range(44):
+        shape = blob(random, random.between(12, 30), random.between(12, 30))
+        pieces.append((shape, random.pick([1, 3, 5, 15])))
+    return pieces
+
+
+def real_irregular():
+    """Irregular pieces, all turns for most of them."""
+    random = Random(106)
+    return [
+        (blob(random, random.between(14, 36), random.between(12, 36)), random.pick([1, 5, 15, 15]))
+        for _ in range(64)
+    ]
+
+
+def real_jobs():
+    """The six real-sized jobs: sheet rows and percentage of the sheet that is pixels."""
+    write_filled("real-mixed", 160, 85, real_mixed())
+    write_filled("real-rings", 144, 82, real_rings())
+    write_filled("real-strips", 128, 92, real_strips())
+    write_filled("real-dust", 150, 94, real_dust())
+    write_filled("real-large", 180, 84, real_large())
+    write_filled("real-irregular", 192, 88, real_irregular())
+
+
+if __name__ == "__main__":
+    small_jobs()
+    damaged_jobs()
+    write("limit-65536-bytes", sized_job(65536))
+    write("refused-7-65537-bytes", sized_job(65537))
+    real_jobs()
