@@ -1,0 +1,134 @@
+-- Demand 2, the cover counts: "For every list of lay and withdraw calls from a fresh sheet, each pixel's count is the number of laid
+-- pieces on it." Document 01, 'Start, layout text, sheet', says which pieces are laid: those whose last call that was not refused is
+-- a lay; and that a piece that isn't laid has turn 0 and corner (0, 0). The last line is the claim, for every job of at most 64
+-- pieces and every list of calls. The count is stated twice: by the sheet record, and by the calls alone.
+-- Why it is true: Counts keeps the counts equal to the record through each call; Last follows a piece's entry through the list.
+-- Assumes nothing.
+use mathlib.Core.Bool.{Bool, true, false, _&&_}
+use mathlib.Core.Path.{_≡_, refl, subst, _∙_, ap}
+use mathlib.Core.List.{List}
+use mathlib.Core.Logic.{_⊎_, inl, inr}
+use mathlib.Core.Option.{Option, none, some}
+use Prim.Native.Nat.{ℕ, _+_, _*_, _<_, _≤_}
+use lib.ListN.{length, getD}
+use Rattle.model.specs.Bounded.{sumBelow, one-if}
+use Rattle.model.specs.Piece.{Point, corner, covers}
+use Rattle.model.specs.Layout.{Job, turnedPiece, allowed, inside}
+use Rattle.model.specs.Lent.{pieceBound}
+use Rattle.model.specs.Cover.{Sheet, blank, laidAt, entryIn, pixelAt, coversPixel, fresh}
+use Rattle.model.specs.Cover.{Call, layCall, withdrawCall, afterCalls, laidCount, lastTaken, endsLaid}
+use Rattle.model.specs.declared.Placement.{Placement}
+use Rattle.model.specs.declared.Entry.{Entry}
+use Rattle.model.proofs.Tests.{clash}
+use Rattle.cover_laws.proofs.Sums.{sum-agree}
+use Rattle.cover_laws.proofs.Counts.{LaidWell, reached-sound}
+use Rattle.cover_laws.proofs.Last.{entryAfter, LaidBy, entry-laid, last-names, reached-entry, reached-laid, reached-blank}
+use Rattle.cover_laws.proofs.Pixels.{pixel-at, number-below}
+
+-- the number of pieces that the record says are laid and that cover pixel q where they lie
+unfoldable pub laidPieces : Job → List Entry → Point → ℕ
+laidPieces j es q =
+    sumBelow (j .count)
+    (λ i. one-if (entryIn es i .laid && covers (turnedPiece j i (entryIn es i .place .turn)) (corner (entryIn es i .place)) q))
+
+-- piece i, whose last call that was not refused is the given one, lies on pixel q: the call is a lay there
+abbrev pub liesOn : Job → ℕ → Point → Option Call → Bool
+liesOn j i q none = false
+liesOn j i q (some (layCall m p)) = covers (turnedPiece j i (p .turn)) (corner p) q
+liesOn j i q (some (withdrawCall m)) = false
+
+-- the number of pieces that lie on pixel q after the calls, each by the last of its calls that was not refused
+unfoldable pub lyingPieces : Job → List Call → Point → ℕ
+lyingPieces j cs q = sumBelow (j .count) (λ i. one-if (liesOn j i q (lastTaken j (fresh j) i none cs)))
+
+-- a laid piece: its last call that was not refused is a lay of it, its entry holds that lay's placement, and it is a piece of the job,
+-- in an allowed turn and inside
+pub record LaidPiece (j : Job) (cs : List Call) (s : Sheet) (i : ℕ) : Type 0 where
+  pub place : Placement
+  pub call : lastTaken j (fresh j) i none cs ≡ some (layCall i place)
+  pub entry : entryIn (s .pieces) i ≡ laidAt place
+  pub piece : i < j .count
+  pub turn : allowed j i (place .turn) ≡ true
+  pub within : inside j i place ≡ true
+
+-- what demand 2 and document 01 say of the sheet s after the calls cs
+pub record CoverHolds (j : Job) (cs : List Call) (s : Sheet) : Type 0 where
+  -- one entry for each piece number and one count for each pixel
+  pub entries : length (s .pieces) ≡ pieceBound
+  pub pixels : length (s .counts) ≡ j .rows * j .columns
+  -- the count of pixel (x, y), by the record
+  pub counts : (x y : ℕ) → x < j .columns → y < j .rows
+      → getD (s .counts) (y * j .columns + x) 0 ≡ laidPieces j (s .pieces) (record { x = x; y = y })
+  -- the count of pixel (x, y), by the calls alone
+  pub counts-by-calls : (x y : ℕ) → x < j .columns → y < j .rows
+      → getD (s .counts) (y * j .columns + x) 0 ≡ lyingPieces j cs (record { x = x; y = y })
+  -- the count of the pixel with number k
+  pub counts-by-number : (k : ℕ) → k < j .rows * j .columns → getD (s .counts) k 0 ≡ laidCount j (s .pieces) k
+  -- a piece is laid exactly when the last of its calls that was not refused is a lay
+  pub laid : (i : ℕ) → entryIn (s .pieces) i .laid ≡ endsLaid (lastTaken j (fresh j) i none cs)
+  -- a piece that is not laid has turn 0 and corner (0, 0), after a withdraw too
+  pub unlaid : (i : ℕ) → entryIn (s .pieces) i .laid ≡ false → entryIn (s .pieces) i ≡ blank
+  -- a piece that is laid lies where that last lay put it
+  pub placed : (i : ℕ) → entryIn (s .pieces) i .laid ≡ true → LaidPiece j cs s i
+
+-- the number by coordinates is the number by the pixel's number
+laid-pieces : (j : Job) (es : List Entry) (k : ℕ) → laidCount j es k ≡ laidPieces j es (pixelAt j k)
+unfolding laidCount laidPieces coversPixel
+laid-pieces j es k = refl
+
+-- the record and the calls say the same of piece i
+lies-step : (j : Job) (i : ℕ) (q : Point) (o : Option Call)
+    → (entryAfter o .laid && covers (turnedPiece j i (entryAfter o .place .turn)) (corner (entryAfter o .place)) q) ≡ liesOn j i q o
+lies-step j i q none = refl
+lies-step j i q (some (layCall m p)) = refl
+lies-step j i q (some (withdrawCall m)) = refl
+
+-- a laid entry that is blank or laid well is laid well
+laid-entry : (j : Job) (i : ℕ) (e : Entry) → e .laid ≡ true → (e ≡ blank) ⊎ LaidWell j i e → LaidWell j i e
+laid-entry j i e laid (inl q) = absurd (clash laid (ap (λ (x : Entry). x .laid) q))
+laid-entry j i e laid (inr w) = w
+
+module _ (j : Job) (few : j .count ≤ pieceBound) (cs : List Call) where
+  -- the sheet after the calls
+  abbrev after : Sheet
+  after = afterCalls j (fresh j) cs
+
+  -- the record and the calls count the same pieces on a pixel
+  lying-pieces : (q : Point) → laidPieces j (after .pieces) q ≡ lyingPieces j cs q
+  unfolding laidPieces lyingPieces
+  lying-pieces q =
+      sum-agree (j .count) _ (λ i. one-if (liesOn j i q (lastTaken j (fresh j) i none cs)))
+      (λ i l. rw (reached-entry j few i cs) (ap one-if (lies-step j i q (lastTaken j (fresh j) i none cs))))
+
+  -- each pixel's count is the number of laid pieces on it
+  count-at : (x y : ℕ) → x < j .columns → y < j .rows
+      → getD (after .counts) (y * j .columns + x) 0 ≡ laidPieces j (after .pieces) (record { x = x; y = y })
+  count-at x y l l′ =
+      let k = y * j .columns + x in
+      reached-sound j few cs .count k (number-below j x y l l′) ∙ laid-pieces j (after .pieces) k
+      ∙ ap (λ (q : Point). laidPieces j (after .pieces) q) (pixel-at j x y l)
+
+  -- a laid piece lies where the last of its given calls put it
+  piece-placed : (i : ℕ) → entryIn (after .pieces) i .laid ≡ true → LaidPiece j cs after i
+  piece-placed i e =
+      let last = lastTaken j (fresh j) i none cs in
+      let same = reached-entry j few i cs in
+      let by : LaidBy i last = entry-laid i last (last-names j (fresh j) i none cs tt) (rw same at e) in
+      let entry : entryIn (after .pieces) i ≡ laidAt (by .place) = same ∙ by .entry in
+      let here : LaidWell j i (entryIn (after .pieces) i) = laid-entry j i (entryIn (after .pieces) i) e (reached-sound j few cs .entry i) in
+      let well : LaidWell j i (laidAt (by .place)) = subst (λ (x : Entry). LaidWell j i x) entry here in
+      record { place = by .place; call = by .call; entry = entry; piece = well .piece; turn = well .turn; within = well .within }
+
+-- demand 2, the cover counts: for every job of at most 64 pieces and every list of lay and withdraw calls from a fresh sheet
+pub demand2-cover : (j : Job) → j .count ≤ pieceBound → (cs : List Call) → CoverHolds j cs (afterCalls j (fresh j) cs)
+demand2-cover j few cs =
+    record {
+      entries = reached-sound j few cs .pieces;
+      pixels = reached-sound j few cs .counts;
+      counts = count-at j few cs;
+      counts-by-calls = λ x y l l′. count-at j few cs x y l l′ ∙ lying-pieces j few cs (record { x = x; y = y });
+      counts-by-number = reached-sound j few cs .count;
+      laid = λ i. reached-laid j few i cs;
+      unlaid = λ i. reached-blank j few i cs;
+      placed = piece-placed j few cs;
+    }

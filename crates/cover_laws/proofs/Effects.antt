@@ -1,0 +1,119 @@
+-- Document 01, 'Start, layout text, sheet' and 'When a call says no': what a single given call does to a sheet that passes the test for
+-- refusal 8, as laws for callers. The count of each pixel that the piece covers goes up or down by one and all else stays; what a
+-- withdraw takes off is there; every count is at most the number of pieces; a second lay or withdraw of the piece is refused.
+-- Assumes nothing.
+use mathlib.Core.Bool.{true, false}
+use mathlib.Core.Path.{_≡_, subst, ap}
+use mathlib.Core.Logic.{_≢_}
+use Prim.Native.Nat.{ℕ, _+_, _-_, _*_, _<_, _≤_}
+use lib.ListN.{getD}
+use borrow.Author.Tests.{lt-ltb}
+use Rattle.model.specs.Bounded.{one-if}
+use Rattle.model.specs.Layout.{Job, allowed}
+use Rattle.model.specs.Lent.{pieceBound}
+use Rattle.model.specs.Refusal.{refused, given, unless, laidAlready, notLaid}
+use Rattle.model.specs.Cover.{Sheet, blank, laidAt, entryIn, coversPixel, lay, withdraw, layCauses}
+use Rattle.model.specs.Cover.{withdrawCauses, Call, layCall, withdrawCall, called, afterwards, fresh, sheetWell}
+use Rattle.model.specs.declared.Placement.{Placement}
+use Rattle.model.specs.declared.Entry.{Entry}
+use Rattle.cover_laws.proofs.Calls.{LayTaken, WithdrawTaken, lay-given, withdraw-given}
+use Rattle.cover_laws.proofs.Counts.{Sound, lay-entry, lay-others, withdraw-entry, withdraw-others, lay-counts, withdraw-counts}
+use Rattle.cover_laws.proofs.Counts.{covered-counts, counts-bound, lay-sound, withdraw-sound, fresh-sound, call-sound}
+use Rattle.cover_laws.proofs.Reached.{well-sound, sound-well, lay-withdraw}
+
+-- what a given lay of piece i at placement p makes of s
+pub record LayGives (j : Job) (s : Sheet) (i : ℕ) (p : Placement) (s′ : Sheet) : Type 0 where
+  -- the piece's entry holds the placement, and the other entries are as before
+  pub entry : entryIn (s′ .pieces) i ≡ laidAt p
+  pub others : (m : ℕ) → m ≢ i → entryIn (s′ .pieces) m ≡ entryIn (s .pieces) m
+  -- each count is one more exactly where the piece covers the pixel, and at most the number of pieces
+  pub counts : (k : ℕ) → k < j .rows * j .columns → getD (s′ .counts) k 0 ≡ getD (s .counts) k 0 + one-if (coversPixel j i p k)
+  pub bound : (k : ℕ) → k < j .rows * j .columns → getD (s′ .counts) k 0 ≤ j .count
+  -- the sheet is one that some list of calls gives
+  pub well : sheetWell j s′ ≡ true
+  -- the same lay again is refused with 13, and a withdraw at once gives the same sheet back
+  pub again : called j s′ (layCall i p) ≡ refused (record { number = laidAlready; first = 0; second = 0 })
+  pub back : withdraw j s′ i ≡ s
+
+-- what a given withdraw of piece i makes of s
+pub record WithdrawGives (j : Job) (s : Sheet) (i : ℕ) (s′ : Sheet) : Type 0 where
+  -- the piece's entry is blank, and the other entries are as before
+  pub entry : entryIn (s′ .pieces) i ≡ blank
+  pub others : (m : ℕ) → m ≢ i → entryIn (s′ .pieces) m ≡ entryIn (s .pieces) m
+  -- the old count is at least 1 where the piece covered the pixel: the subtraction does not stop at 0
+  pub there : (k : ℕ) → k < j .rows * j .columns → one-if (coversPixel j i (entryIn (s .pieces) i .place) k) ≤ getD (s .counts) k 0
+  -- each count is one less exactly where the piece covered the pixel, and at most the number of pieces
+  pub counts : (k : ℕ) → k < j .rows * j .columns
+      → getD (s′ .counts) k 0 ≡ getD (s .counts) k 0 - one-if (coversPixel j i (entryIn (s .pieces) i .place) k)
+  pub bound : (k : ℕ) → k < j .rows * j .columns → getD (s′ .counts) k 0 ≤ j .count
+  -- the sheet is one that some list of calls gives
+  pub well : sheetWell j s′ ≡ true
+  -- a second withdraw is refused with 14
+  pub again : called j s′ (withdrawCall i) ≡ refused (record { number = notLaid; first = 0; second = 0 })
+
+-- a lay of a piece that is laid, in an allowed turn, is refused with 13
+pub laid-refused : (j : Job) (s : Sheet) (i : ℕ) (p : Placement) → i < j .count → allowed j i (p .turn) ≡ true
+    → entryIn (s .pieces) i .laid ≡ true → called j s (layCall i p) ≡ refused (record { number = laidAlready; first = 0; second = 0 })
+unfolding called layCauses unless
+laid-refused j s i p here turn laid = rw (lt-ltb i (j .count) here, turn, laid)
+
+-- a withdraw of a piece that is not laid is refused with 14
+pub unlaid-refused : (j : Job) (s : Sheet) (i : ℕ) → i < j .count → entryIn (s .pieces) i .laid ≡ false
+    → called j s (withdrawCall i) ≡ refused (record { number = notLaid; first = 0; second = 0 })
+unfolding called withdrawCauses unless
+unlaid-refused j s i here free = rw (lt-ltb i (j .count) here, free)
+
+module _ (j : Job) (few : j .count ≤ pieceBound) where
+  -- a lay that is in order, on a sound sheet
+  lay-effect : (s : Sheet) (i : ℕ) (p : Placement) → Sound j s → LayTaken j s i p → LayGives j s i p (lay j s i p)
+  lay-effect s i p sound t =
+      let after : Sound j (lay j s i p) = lay-sound j few s i p sound t in
+      let here : entryIn (lay j s i p .pieces) i ≡ laidAt p = lay-entry j few s i p sound (t .piece) in
+      record {
+        entry = here;
+        others = lay-others j s i p;
+        counts = λ k l. lay-counts j s i p k sound l;
+        bound = λ k l. counts-bound j (lay j s i p) k after l;
+        well = sound-well j (lay j s i p) after;
+        again = laid-refused j (lay j s i p) i p (t .piece) (t .turn) (ap (λ (e : Entry). e .laid) here);
+        back = lay-withdraw j few s i p sound t;
+      }
+
+  -- a withdraw that is in order, on a sound sheet
+  withdraw-effect : (s : Sheet) (i : ℕ) → Sound j s → WithdrawTaken j s i → WithdrawGives j s i (withdraw j s i)
+  withdraw-effect s i sound t =
+      let after : Sound j (withdraw j s i) = withdraw-sound j few s i sound t in
+      let here : entryIn (withdraw j s i .pieces) i ≡ blank = withdraw-entry j few s i sound (t .piece) in
+      record {
+        entry = here;
+        others = withdraw-others j s i;
+        there = λ k l. covered-counts j few s i k sound t l;
+        counts = λ k l. withdraw-counts j s i k sound l;
+        bound = λ k l. counts-bound j (withdraw j s i) k after l;
+        well = sound-well j (withdraw j s i) after;
+        again = unlaid-refused j (withdraw j s i) i (t .piece) (ap (λ (e : Entry). e .laid) here);
+      }
+
+  -- a given lay on a sheet that passes the test
+  pub lay-gives : (s s′ : Sheet) (i : ℕ) (p : Placement) → sheetWell j s ≡ true → called j s (layCall i p) ≡ given s′ → LayGives j s i p s′
+  lay-gives s s′ i p well e =
+      let known = lay-given j s s′ i p e in
+      subst (λ (t : Sheet). LayGives j s i p t) (known .1) (lay-effect s i p (well-sound j s well) (known .0))
+
+  -- a given withdraw on a sheet that passes the test
+  pub withdraw-gives : (s s′ : Sheet) (i : ℕ) → sheetWell j s ≡ true → called j s (withdrawCall i) ≡ given s′ → WithdrawGives j s i s′
+  withdraw-gives s s′ i well e =
+      let known = withdraw-given j s s′ i e in
+      subst (λ (t : Sheet). WithdrawGives j s i t) (known .1) (withdraw-effect s i (well-sound j s well) (known .0))
+
+  -- a fresh sheet passes the test
+  pub fresh-well : sheetWell j (fresh j) ≡ true
+  fresh-well = sound-well j (fresh j) (fresh-sound j)
+
+  -- after any call, given or refused, the sheet passes the test again
+  pub call-well : (s : Sheet) (c : Call) → sheetWell j s ≡ true → sheetWell j (afterwards s (called j s c)) ≡ true
+  call-well s c well = sound-well j (afterwards s (called j s c)) (call-sound j few s c (well-sound j s well))
+
+  -- every count of a sheet that passes the test is at most the number of pieces, and so at most 64
+  pub well-bound : (s : Sheet) (k : ℕ) → sheetWell j s ≡ true → k < j .rows * j .columns → getD (s .counts) k 0 ≤ j .count
+  well-bound s k well l = counts-bound j s k (well-sound j s well) l

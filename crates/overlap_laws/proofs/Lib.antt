@@ -1,0 +1,5 @@
+pub mod Share
+pub mod Depth
+pub mod Penalty
+pub mod Whole
+pub mod NoFit

@@ -1,0 +1,107 @@
+-- Lists whose elements stand in an order, an earlier one before each later one: mapped, joined, by places, and fixed by their
+-- elements. Assumes nothing.
+use mathlib.Core.List.{List, [], _∷_, _++_, map, List·Memᴰ, List·Memᴰ·head, List·Memᴰ·tail, List·Memᴰ·not-nil, List·Memᴰ·cases-cons, List·Memᴰ·append-cases}
+use mathlib.Core.Path.{_≡_, refl, sym, subst, ap, ap₂, _∙_}
+use mathlib.Core.Logic.{_⊎_, inl, inr, ⊎-elim}
+use Prim.Native.Nat.{ℕ, zero, suc, _<_}
+use native.Mathlib.Nat.{not-suc-le-zero, le-of-suc-le-suc}
+use native.Mathlib.Omega.{arith}
+use lib.ListN.{length, getD}
+
+-- each element is related to every later one
+pub data Pairwise {A : Type 0} (R : A → A → Type 0) : List A → Type 0 where
+  none : Pairwise R []
+  more : {a : A} {l : List A} → ((b : A) → List·Memᴰ b l → R a b) → Pairwise R l → Pairwise R (a ∷ l)
+
+-- an element of a mapped list comes from an element of the list
+pub record Source {A B : Type 0} (g : A → B) (l : List A) (b : B) : Type 0 where
+  pub from : A
+  pub listed : List·Memᴰ from l
+  pub image : b ≡ g from
+
+-- where an element of a mapped list comes from
+pub map-source : {A B : Type 0} (g : A → B) (l : List A) {b : B} → List·Memᴰ b (map g l) → Source g l b
+map-source g [] m = absurd (List·Memᴰ·not-nil m)
+map-source g (a ∷ l) (List·Memᴰ·head e) = record { from = a; listed = List·Memᴰ·head refl; image = e }
+map-source {A} {B} g (a ∷ l) {b} (List·Memᴰ·tail m) =
+    let s : Source g l b = map-source g l m in
+    record { from = s .from; listed = List·Memᴰ·tail (s .listed); image = s .image }
+
+-- an element of a list gives an element of the mapped list
+pub map-member : {A B : Type 0} (g : A → B) {a : A} {l : List A} → List·Memᴰ a l → List·Memᴰ (g a) (map g l)
+map-member g (List·Memᴰ·head e) = List·Memᴰ·head (ap g e)
+map-member g (List·Memᴰ·tail m) = List·Memᴰ·tail (map-member g m)
+
+-- an order is kept by a map that keeps it from element to element
+pub pairwise-map : {A B : Type 0} {R : A → A → Type 0} (S : B → B → Type 0) (g : A → B) → ((a b : A) → R a b → S (g a) (g b))
+    → {l : List A} → Pairwise R l → Pairwise S (map g l)
+pairwise-map S g h none = none
+pairwise-map S g h (more {a = a} {l = l} first rest) =
+    more
+    (λ b m.
+    let s : Source g l b = map-source g l m in
+    subst (S (g a)) (sym (s .image)) (h a (s .from) (first (s .from) (s .listed))))
+    (pairwise-map S g h rest)
+
+-- two ordered lists make one where each element of the first stands before each of the second
+pub pairwise-append : {A : Type 0} {R : A → A → Type 0} {l m : List A} → Pairwise R l → Pairwise R m
+    → ((a b : A) → List·Memᴰ a l → List·Memᴰ b m → R a b) → Pairwise R (l ++ m)
+pairwise-append none q h = q
+pairwise-append (more {a = a} {l = l} first rest) q h =
+    more (λ b m. ⊎-elim (first b) (h a b (List·Memᴰ·head refl)) (List·Memᴰ·append-cases l m))
+    (pairwise-append rest q (λ c b m n. h c b (List·Memᴰ·tail m) n))
+
+-- the element at a place is in the list
+pub member-at : {A : Type 0} (l : List A) (i : ℕ) (z : A) → i < length l → List·Memᴰ (getD l i z) l
+member-at [] i z h = absurd (not-suc-le-zero h)
+member-at (a ∷ l) zero z h = List·Memᴰ·head refl
+member-at (a ∷ l) (suc i) z h = List·Memᴰ·tail (member-at l i z (le-of-suc-le-suc h))
+
+-- the order by places: what stands at i is before what stands at a later place j, the next one among others
+pub pairwise-at : {A : Type 0} {R : A → A → Type 0} {l : List A} → Pairwise R l → (i j : ℕ) (z : A) → i < j → j < length l
+    → R (getD l i z) (getD l j z)
+pairwise-at none i j z h k = absurd (not-suc-le-zero k)
+pairwise-at (more first rest) i zero z h k = absurd (not-suc-le-zero h)
+pairwise-at (more {l = l} first rest) zero (suc j) z h k = first (getD l j z) (member-at l j z (le-of-suc-le-suc k))
+pairwise-at (more first rest) (suc i) (suc j) z h k = pairwise-at rest i j z (le-of-suc-le-suc h) (le-of-suc-le-suc k)
+
+-- a list with an element is not empty
+pub member-length : {A : Type 0} {a : A} {l : List A} → List·Memᴰ a l → 0 < length l
+member-length (List·Memᴰ·head e) = omega arith
+member-length (List·Memᴰ·tail m) = omega arith
+
+-- two elements of an ordered list are one, or one stands before the other
+pub pairwise-compare : {A : Type 0} {R : A → A → Type 0} {l : List A} → Pairwise R l → (a b : A) → List·Memᴰ a l → List·Memᴰ b l
+    → (a ≡ b) ⊎ (R a b ⊎ R b a)
+pairwise-compare none a b m n = absurd (List·Memᴰ·not-nil m)
+pairwise-compare (more first rest) a b (List·Memᴰ·head e) (List·Memᴰ·head f) = inl (e ∙ sym f)
+pairwise-compare {R = R} (more first rest) a b (List·Memᴰ·head e) (List·Memᴰ·tail n) = inr (inl (subst (λ x. R x b) (sym e) (first b n)))
+pairwise-compare {R = R} (more first rest) a b (List·Memᴰ·tail m) (List·Memᴰ·head f) = inr (inr (subst (λ x. R x a) (sym f) (first a m)))
+pairwise-compare (more first rest) a b (List·Memᴰ·tail m) (List·Memᴰ·tail n) = pairwise-compare rest a b m n
+
+-- the first elements of two ordered lists with the same elements are one
+same-head : {A : Type 0} (R : A → A → Type 0) → ((a b : A) → R a b → R b a → ⊥) → (a b : A) → (a ≡ b) ⊎ R b a → (b ≡ a) ⊎ R a b → a ≡ b
+same-head R asym a b (inl e) c = e
+same-head R asym a b (inr h) (inl e) = sym e
+same-head R asym a b (inr h) (inr k) = absurd (asym a b k h)
+
+-- an element after the first is no first element
+in-rest : {A : Type 0} (R : A → A → Type 0) → ((a b : A) → R a b → R b a → ⊥) → (a b x : A) (m : List A) → a ≡ b → R a x
+    → (x ≡ b) ⊎ List·Memᴰ x m → List·Memᴰ x m
+in-rest R asym a b x m e r (inl f) = let s : R a a = subst (R a) (f ∙ sym e) r in absurd (asym a a s s)
+in-rest R asym a b x m e r (inr n) = n
+
+-- two ordered lists with the same elements are one
+pub pairwise-unique : {A : Type 0} {R : A → A → Type 0} → ((a b : A) → R a b → R b a → ⊥) → {l m : List A} → Pairwise R l → Pairwise R m
+    → ((a : A) → List·Memᴰ a l → List·Memᴰ a m) → ((a : A) → List·Memᴰ a m → List·Memᴰ a l) → l ≡ m
+pairwise-unique asym none none f g = refl
+pairwise-unique asym none (more {a = b} q qs) f g = absurd (List·Memᴰ·not-nil (g b (List·Memᴰ·head refl)))
+pairwise-unique asym (more {a = a} p ps) none f g = absurd (List·Memᴰ·not-nil (f a (List·Memᴰ·head refl)))
+pairwise-unique {A} {R} asym (more {a = a} {l = l} p ps) (more {a = b} {l = m} q qs) f g =
+    let e : a ≡ b =
+    same-head R asym a b (⊎-elim inl (λ n. inr (q a n)) (List·Memᴰ·cases-cons (f a (List·Memᴰ·head refl))))
+    (⊎-elim inl (λ n. inr (p b n)) (List·Memᴰ·cases-cons (g b (List·Memᴰ·head refl)))) in
+    ap₂ _∷_ e
+    (pairwise-unique asym ps qs
+    (λ x n. in-rest R asym a b x m e (p x n) (List·Memᴰ·cases-cons (f x (List·Memᴰ·tail n))))
+    (λ x n. in-rest R asym b a x l (sym e) (q x n) (List·Memᴰ·cases-cons (g x (List·Memᴰ·tail n)))))
