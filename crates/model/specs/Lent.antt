@@ -8,6 +8,7 @@ use lib.ListN.{length, getD}
 use Rattle.model.specs.Bounded.{allBelow, sumBelow}
 use Rattle.model.specs.Piece.{Shape, Piece, tight}
 use Rattle.model.specs.Layout.{Job}
+use Rattle.model.specs.declared.JobSize.{JobSize}
 
 -- what is lent
 pub record Lent : Type 0 where
@@ -16,6 +17,11 @@ pub record Lent : Type 0 where
   pub count : ℕ
   pub table : List (List ℕ)
   pub pixels : List ℕ
+
+-- the job that a call is lent: its numbers, its table and its pixels
+abbrev pub lentBy : JobSize → List (List ℕ) → List ℕ → Lent
+lentBy size table pixels =
+    record { rows = size .rows; columns = size .columns; count = size .count; table = table; pixels = pixels }
 
 -- ── document 01's limits ──
 

@@ -40,6 +40,13 @@ pub struct Placement {
     pub y: Row,
 }
 
+// A job's numbers: the sheet's rows (W) and columns (L), and how many pieces there are (n). Its table and its pixels are lent beside it.
+pub struct JobSize {
+    pub rows: usize,
+    pub columns: usize,
+    pub count: usize,
+}
+
 // A refusal: its number and two places, 0 unless named.
 pub struct Refusal {
     pub number: u8,
