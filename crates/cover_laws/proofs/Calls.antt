@@ -13,7 +13,7 @@ use borrow.Author.Tests.{not-false, ltb-true, lt-ltb}
 use Rattle.model.specs.Layout.{Job, allowed, inside}
 use Rattle.model.specs.Refusal.{Outcome, refused, given, Cause, unless, refusalOf}
 use Rattle.model.specs.Cover.{Sheet, entryIn, mapFrom, lay, withdraw, layCauses, withdrawCauses}
-use Rattle.model.specs.Cover.{Call, layCall, withdrawCall, called, afterwards, afterCalls}
+use Rattle.model.specs.Cover.{Call, laying, withdrawing, called, afterwards, afterCalls}
 use Rattle.model.specs.declared.Placement.{Placement}
 use Rattle.model.specs.declared.Refusal.{Refusal}
 use Rattle.model.proofs.Tests.{and-left, and-right, and-both}
@@ -76,7 +76,7 @@ pub record WithdrawTaken (j : Job) (s : Sheet) (i : ℕ) : Type 0 where
   pub laid : entryIn (s .pieces) i .laid ≡ true
 
 -- a lay that is given is in order and gives the sheet with the piece laid
-pub lay-given : (j : Job) (s s′ : Sheet) (i : ℕ) (p : Placement) → called j s (layCall i p) ≡ given s′ → LayTaken j s i p × (lay j s i p ≡ s′)
+pub lay-given : (j : Job) (s s′ : Sheet) (i : ℕ) (p : Placement) → called j s (laying i p) ≡ given s′ → LayTaken j s i p × (lay j s i p ≡ s′)
 unfolding called layCauses
 lay-given j s s′ i p e =
     let known = given-absent (layCauses j s i p) (lay j s i p) s′ e in
@@ -91,14 +91,14 @@ lay-given j s s′ i p e =
     )
 
 -- a lay that is in order is given
-pub lay-taken : (j : Job) (s : Sheet) (i : ℕ) (p : Placement) → LayTaken j s i p → called j s (layCall i p) ≡ given (lay j s i p)
+pub lay-taken : (j : Job) (s : Sheet) (i : ℕ) (p : Placement) → LayTaken j s i p → called j s (laying i p) ≡ given (lay j s i p)
 unfolding called layCauses
 lay-taken j s i p t =
     absent-given (layCauses j s i p) (lay j s i p)
     (ap not (and-both (lt-ltb i (j .count) (t .piece)) (t .turn)), (t .free, (ap not (t .within), tt)))
 
 -- a withdraw that is given is in order and gives the sheet with the piece withdrawn
-pub withdraw-given : (j : Job) (s s′ : Sheet) (i : ℕ) → called j s (withdrawCall i) ≡ given s′ → WithdrawTaken j s i × (withdraw j s i ≡ s′)
+pub withdraw-given : (j : Job) (s s′ : Sheet) (i : ℕ) → called j s (withdrawing i) ≡ given s′ → WithdrawTaken j s i × (withdraw j s i ≡ s′)
 unfolding called withdrawCauses
 withdraw-given j s s′ i e =
     let known = given-absent (withdrawCauses j s i) (withdraw j s i) s′ e in (
@@ -110,7 +110,7 @@ withdraw-given j s s′ i e =
     )
 
 -- a withdraw that is in order is given
-pub withdraw-taken : (j : Job) (s : Sheet) (i : ℕ) → WithdrawTaken j s i → called j s (withdrawCall i) ≡ given (withdraw j s i)
+pub withdraw-taken : (j : Job) (s : Sheet) (i : ℕ) → WithdrawTaken j s i → called j s (withdrawing i) ≡ given (withdraw j s i)
 unfolding called withdrawCauses
 withdraw-taken j s i t =
     absent-given (withdrawCauses j s i) (withdraw j s i) (ap not (lt-ltb i (j .count) (t .piece)), (ap not (t .laid), tt))

@@ -18,7 +18,7 @@ use Rattle.model.specs.Layout.{Job, allowed, inside}
 use Rattle.model.specs.Lent.{pieceBound}
 use Rattle.model.specs.Refusal.{Outcome, refused, given}
 use Rattle.model.specs.Cover.{Sheet, blank, laidAt, entryIn, coversPixel, fresh, lay, withdraw}
-use Rattle.model.specs.Cover.{Call, layCall, withdrawCall, called, afterwards, afterCalls, laidOn, laidCount}
+use Rattle.model.specs.Cover.{Call, laying, withdrawing, called, afterwards, afterCalls, laidOn, laidCount}
 use Rattle.model.specs.declared.Placement.{Placement}
 use Rattle.model.specs.declared.Entry.{Entry}
 use Rattle.model.proofs.Tests.{decided}
@@ -200,9 +200,9 @@ module _ (j : Job) (few : j .count ≤ pieceBound) where
   -- a call that comes to o keeps the sheet sound
   outcome-sound : (s : Sheet) (c : Call) (o : Outcome Sheet) → Sound j s → called j s c ≡ o → Sound j (afterwards s o)
   outcome-sound s c (refused r) sound e = sound
-  outcome-sound s (layCall i p) (given s′) sound e =
+  outcome-sound s (laying i p) (given s′) sound e =
       let known = lay-given j s s′ i p e in subst (λ (t : Sheet). Sound j t) (known .1) (lay-sound s i p sound (known .0))
-  outcome-sound s (withdrawCall i) (given s′) sound e =
+  outcome-sound s (withdrawing i) (given s′) sound e =
       let known = withdraw-given j s s′ i e in subst (λ (t : Sheet). Sound j t) (known .1) (withdraw-sound s i sound (known .0))
 
   -- a call keeps the sheet sound

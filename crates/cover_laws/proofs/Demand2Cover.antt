@@ -16,7 +16,7 @@ use Rattle.model.specs.Piece.{Point, corner, covers}
 use Rattle.model.specs.Layout.{Job, turnedPiece, allowed, inside}
 use Rattle.model.specs.Lent.{pieceBound}
 use Rattle.model.specs.Cover.{Sheet, blank, laidAt, entryIn, pixelAt, coversPixel, fresh}
-use Rattle.model.specs.Cover.{Call, layCall, withdrawCall, afterCalls, laidCount, lastTaken, endsLaid}
+use Rattle.model.specs.Cover.{Call, laying, withdrawing, afterCalls, laidCount, lastTaken, endsLaid}
 use Rattle.model.specs.declared.Placement.{Placement}
 use Rattle.model.specs.declared.Entry.{Entry}
 use Rattle.model.proofs.Tests.{clash}
@@ -34,8 +34,8 @@ laidPieces j es q =
 -- piece i, whose last call that was not refused is the given one, lies on pixel q: the call is a lay there
 abbrev pub liesOn : Job → ℕ → Point → Option Call → Bool
 liesOn j i q none = false
-liesOn j i q (some (layCall m p)) = covers (turnedPiece j i (p .turn)) (corner p) q
-liesOn j i q (some (withdrawCall m)) = false
+liesOn j i q (some (laying m p)) = covers (turnedPiece j i (p .turn)) (corner p) q
+liesOn j i q (some (withdrawing m)) = false
 
 -- the number of pieces that lie on pixel q after the calls, each by the last of its calls that was not refused
 unfoldable pub lyingPieces : Job → List Call → Point → ℕ
@@ -45,7 +45,7 @@ lyingPieces j cs q = sumBelow (j .count) (λ i. one-if (liesOn j i q (lastTaken 
 -- in an allowed turn and inside
 pub record LaidPiece (j : Job) (cs : List Call) (s : Sheet) (i : ℕ) : Type 0 where
   pub place : Placement
-  pub call : lastTaken j (fresh j) i none cs ≡ some (layCall i place)
+  pub call : lastTaken j (fresh j) i none cs ≡ some (laying i place)
   pub entry : entryIn (s .pieces) i ≡ laidAt place
   pub piece : i < j .count
   pub turn : allowed j i (place .turn) ≡ true
@@ -80,8 +80,8 @@ laid-pieces j es k = refl
 lies-step : (j : Job) (i : ℕ) (q : Point) (o : Option Call)
     → (entryAfter o .laid && covers (turnedPiece j i (entryAfter o .place .turn)) (corner (entryAfter o .place)) q) ≡ liesOn j i q o
 lies-step j i q none = refl
-lies-step j i q (some (layCall m p)) = refl
-lies-step j i q (some (withdrawCall m)) = refl
+lies-step j i q (some (laying m p)) = refl
+lies-step j i q (some (withdrawing m)) = refl
 
 -- a laid entry that is blank or laid well is laid well
 laid-entry : (j : Job) (i : ℕ) (e : Entry) → e .laid ≡ true → (e ≡ blank) ⊎ LaidWell j i e → LaidWell j i e

@@ -13,7 +13,7 @@ use Rattle.model.specs.Layout.{Job, allowed}
 use Rattle.model.specs.Lent.{pieceBound}
 use Rattle.model.specs.Refusal.{refused, given, unless, laidAlready, notLaid}
 use Rattle.model.specs.Cover.{Sheet, blank, laidAt, entryIn, coversPixel, lay, withdraw, layCauses}
-use Rattle.model.specs.Cover.{withdrawCauses, Call, layCall, withdrawCall, called, afterwards, fresh, sheetWell}
+use Rattle.model.specs.Cover.{withdrawCauses, Call, laying, withdrawing, called, afterwards, fresh, sheetWell}
 use Rattle.model.specs.declared.Placement.{Placement}
 use Rattle.model.specs.declared.Entry.{Entry}
 use Rattle.cover_laws.proofs.Calls.{LayTaken, WithdrawTaken, lay-given, withdraw-given}
@@ -32,7 +32,7 @@ pub record LayGives (j : Job) (s : Sheet) (i : ℕ) (p : Placement) (s′ : Shee
   -- the sheet is one that some list of calls gives
   pub well : sheetWell j s′ ≡ true
   -- the same lay again is refused with 13, and a withdraw at once gives the same sheet back
-  pub again : called j s′ (layCall i p) ≡ refused (record { number = laidAlready; first = 0; second = 0 })
+  pub again : called j s′ (laying i p) ≡ refused (record { number = laidAlready; first = 0; second = 0 })
   pub back : withdraw j s′ i ≡ s
 
 -- what a given withdraw of piece i makes of s
@@ -49,17 +49,17 @@ pub record WithdrawGives (j : Job) (s : Sheet) (i : ℕ) (s′ : Sheet) : Type 0
   -- the sheet is one that some list of calls gives
   pub well : sheetWell j s′ ≡ true
   -- a second withdraw is refused with 14
-  pub again : called j s′ (withdrawCall i) ≡ refused (record { number = notLaid; first = 0; second = 0 })
+  pub again : called j s′ (withdrawing i) ≡ refused (record { number = notLaid; first = 0; second = 0 })
 
 -- a lay of a piece that is laid, in an allowed turn, is refused with 13
 pub laid-refused : (j : Job) (s : Sheet) (i : ℕ) (p : Placement) → i < j .count → allowed j i (p .turn) ≡ true
-    → entryIn (s .pieces) i .laid ≡ true → called j s (layCall i p) ≡ refused (record { number = laidAlready; first = 0; second = 0 })
+    → entryIn (s .pieces) i .laid ≡ true → called j s (laying i p) ≡ refused (record { number = laidAlready; first = 0; second = 0 })
 unfolding called layCauses unless
 laid-refused j s i p here turn laid = rw (lt-ltb i (j .count) here, turn, laid)
 
 -- a withdraw of a piece that is not laid is refused with 14
 pub unlaid-refused : (j : Job) (s : Sheet) (i : ℕ) → i < j .count → entryIn (s .pieces) i .laid ≡ false
-    → called j s (withdrawCall i) ≡ refused (record { number = notLaid; first = 0; second = 0 })
+    → called j s (withdrawing i) ≡ refused (record { number = notLaid; first = 0; second = 0 })
 unfolding called withdrawCauses unless
 unlaid-refused j s i here free = rw (lt-ltb i (j .count) here, free)
 
@@ -95,13 +95,13 @@ module _ (j : Job) (few : j .count ≤ pieceBound) where
       }
 
   -- a given lay on a sheet that passes the test
-  pub lay-gives : (s s′ : Sheet) (i : ℕ) (p : Placement) → sheetWell j s ≡ true → called j s (layCall i p) ≡ given s′ → LayGives j s i p s′
+  pub lay-gives : (s s′ : Sheet) (i : ℕ) (p : Placement) → sheetWell j s ≡ true → called j s (laying i p) ≡ given s′ → LayGives j s i p s′
   lay-gives s s′ i p well e =
       let known = lay-given j s s′ i p e in
       subst (λ (t : Sheet). LayGives j s i p t) (known .1) (lay-effect s i p (well-sound j s well) (known .0))
 
   -- a given withdraw on a sheet that passes the test
-  pub withdraw-gives : (s s′ : Sheet) (i : ℕ) → sheetWell j s ≡ true → called j s (withdrawCall i) ≡ given s′ → WithdrawGives j s i s′
+  pub withdraw-gives : (s s′ : Sheet) (i : ℕ) → sheetWell j s ≡ true → called j s (withdrawing i) ≡ given s′ → WithdrawGives j s i s′
   withdraw-gives s s′ i well e =
       let known = withdraw-given j s s′ i e in
       subst (λ (t : Sheet). WithdrawGives j s i t) (known .1) (withdraw-effect s i (well-sound j s well) (known .0))

@@ -11,7 +11,7 @@ use borrow.Author.Tests.{eqb-true, eqb-false, eq-eqb}
 use Rattle.model.specs.Layout.{Job}
 use Rattle.model.specs.Lent.{pieceBound}
 use Rattle.model.specs.Refusal.{Outcome, refused, given}
-use Rattle.model.specs.Cover.{Sheet, blank, laidAt, entryIn, fresh, Call, layCall, withdrawCall}
+use Rattle.model.specs.Cover.{Sheet, blank, laidAt, entryIn, fresh, Call, laying, withdrawing}
 use Rattle.model.specs.Cover.{called, afterwards, afterCalls, calledPiece, taken, lastTaken, endsLaid}
 use Rattle.model.specs.declared.Placement.{Placement}
 use Rattle.model.specs.declared.Entry.{Entry}
@@ -22,8 +22,8 @@ use Rattle.cover_laws.proofs.Counts.{Sound, lay-entry, lay-others, with
 -- the entry that a piece's last given call leaves: a lay its placement, a withdraw or none the blank entry
 abbrev pub entryAfter : Option Call → Entry
 entryAfter none = blank
-entryAfter (some (layCall i p)) = laidAt p
-entryAfter (some (withdrawCall i)) = blank
+entryAfter (some (laying i p)) = laidAt p
+entryAfter (some (withdrawing i)) = blank
 
 -- the call, if there is one, names piece i
 abbrev pub Names : ℕ → Option Call → Type 0
@@ -33,26 +33,26 @@ Names i (some c) = calledPiece c ≡ i
 -- an entry is laid exactly where the call that left it is a lay
 pub entry-ends : (o : Option Call) → entryAfter o .laid ≡ endsLaid o
 entry-ends none = refl
-entry-ends (some (layCall i p)) = refl
-entry-ends (some (withdrawCall i)) = refl
+entry-ends (some (laying i p)) = refl
+entry-ends (some (withdrawing i)) = refl
 
 -- an entry that is not laid is blank
 pub entry-blank : (o : Option Call) → entryAfter o .laid ≡ false → entryAfter o ≡ blank
 entry-blank none e = refl
-entry-blank (some (layCall i p)) e = absurd (true≢false e)
-entry-blank (some (withdrawCall i)) e = refl
+entry-blank (some (laying i p)) e = absurd (true≢false e)
+entry-blank (some (withdrawing i)) e = refl
 
 -- the call is a lay of piece i, and the entry that it leaves holds its placement
 pub record LaidBy (i : ℕ) (o : Option Call) : Type 0 where
   pub place : Placement
-  pub call : o ≡ some (layCall i place)
+  pub call : o ≡ some (laying i place)
   pub entry : entryAfter o ≡ laidAt place
 
 -- a laid entry was left by a lay
 pub entry-laid : (i : ℕ) (o : Option Call) → Names i o → entryAfter o .laid ≡ true → LaidBy i o
 entry-laid i none n e = absurd (false≢true e)
-entry-laid i (some (layCall m p)) n e = record { place = p; call = ap (λ (k : ℕ). some (layCall k p)) n; entry = refl }
-entry-laid i (some (withdrawCall m)) n e = absurd (false≢true e)
+entry-laid i (some (laying m p)) n e = record { place = p; call = ap (λ (k : ℕ). some (laying k p)) n; entry = refl }
+entry-laid i (some (withdrawing m)) n e = absurd (false≢true e)
 
 -- ── what `lastTaken` finds ──
 
@@ -116,15 +116,15 @@ module _ (j : Job) (few : j .count ≤ pieceBound) where
       → entryIn (afterwards s o .pieces) i ≡ entryAfter (elim (b && taken o) as (λ _. Option Call) [ true ↦ some c | false ↦ before ])
   last-step s i before c (refused r) true sound e same h = h
   last-step s i before c (refused r) false sound e same h = h
-  last-step s i before (layCall m p) (given s′) true sound e same h =
+  last-step s i before (laying m p) (given s′) true sound e same h =
       let known = lay-given j s s′ m p e in
       rw (← (known .1), ← (eqb-true m i same)) (lay-entry j few s m p sound (known .0 .piece))
-  last-step s i before (layCall m p) (given s′) false sound e same h =
+  last-step s i before (laying m p) (given s′) false sound e same h =
       rw (← (lay-given j s s′ m p e .1)) (lay-others j s m p i (λ q. eqb-false m i same (sym q)) ∙ h)
-  last-step s i before (withdrawCall m) (given s′) true sound e same h =
+  last-step s i before (withdrawing m) (given s′) true sound e same h =
       let known = withdraw-given j s s′ m e in
       rw (← (known .1), ← (eqb-true m i same)) (withdraw-entry j few s m sound (known .0 .piece))
-  last-step s i before (withdrawCall m) (given s′) false sound e same h =
+  last-step s i before (withdrawing m) (given s′) false sound e same h =
       rw (← (withdraw-given j s s′ m e .1)) (withdraw-others j s m i (λ q. eqb-false m i same (sym q)) ∙ h)
 
   -- after a list of calls the entry is the one that the last given call leaves

@@ -18,7 +18,7 @@ use Rattle.model.specs.Piece.{degrees}
 use Rattle.model.specs.Layout.{Job, allowed, inside}
 use Rattle.model.specs.Lent.{pieceBound}
 use Rattle.model.specs.Cover.{Sheet, blank, laidAt, entryIn, fresh, lay, withdraw}
-use Rattle.model.specs.Cover.{Call, layCall, afterCalls, laidCount, isBlank, entryWell, sheetWell}
+use Rattle.model.specs.Cover.{Call, laying, afterCalls, laidCount, isBlank, entryWell, sheetWell}
 use Rattle.model.specs.declared.Turn.{Turn}
 use Rattle.model.specs.declared.Turn.the-variants.{Zero, Quarter, Half, ThreeQuarters}
 use Rattle.model.specs.declared.Placement.{Placement}
@@ -136,7 +136,7 @@ same-sheet j s t a b same =
 -- the lays of the laid pieces below n, from piece 0 on
 unfoldable pub layCalls : List Entry → ℕ → List Call
 layCalls es zero = []
-layCalls es (suc n) = layCalls es n ++ elim (entryIn es n .laid) [ true ↦ layCall n (entryIn es n .place) ∷ [] | false ↦ [] ]
+layCalls es (suc n) = layCalls es n ++ elim (entryIn es n .laid) [ true ↦ laying n (entryIn es n .place) ∷ [] | false ↦ [] ]
 
 -- a sheet where the pieces below n have the given entries and the others are blank
 pub record LaidBelow (es : List Entry) (n : ℕ) (t : Sheet) : Type 0 where
@@ -159,7 +159,7 @@ module _ (j : Job) (few : j .count ≤ pieceBound) where
   laid-step : (es : List Entry) (n : ℕ) (t : Sheet) (b : Bool) → entryIn es n .laid ≡ b → (entryIn es n ≡ blank) ⊎ LaidWell j n (entryIn es n)
       → Sound j t → LaidBelow es n t
       → LaidBelow es (suc n)
-      (afterCalls j t (elim b as (λ _. List Call) [ true ↦ layCall n (entryIn es n .place) ∷ [] | false ↦ [] ]))
+      (afterCalls j t (elim b as (λ _. List Call) [ true ↦ laying n (entryIn es n .place) ∷ [] | false ↦ [] ]))
   unfolding afterCalls
   laid-step es n t true e (inl q) sound known = absurd (clash e (ap (λ (x : Entry). x .laid) q))
   laid-step es n t true e (inr w) sound known =
@@ -178,7 +178,7 @@ module _ (j : Job) (few : j .count ≤ pieceBound) where
   lays-give s sound zero = record { below = λ k l. absurd (not-suc-le-zero l); above = λ k l. fresh-entry j k }
   lays-give s sound (suc n) =
       rw (calls-append j (fresh j) (layCalls (s .pieces) n)
-      (elim (entryIn (s .pieces) n .laid) [ true ↦ layCall n (entryIn (s .pieces) n .place) ∷ [] | false ↦ [] ]))
+      (elim (entryIn (s .pieces) n .laid) [ true ↦ laying n (entryIn (s .pieces) n .place) ∷ [] | false ↦ [] ]))
       (laid-step (s .pieces) n (afterCalls j (fresh j) (layCalls (s .pieces) n)) (entryIn (s .pieces) n .laid) refl (sound .entry n)
       (reached-sound j few (layCalls (s .pieces) n)) (lays-give s sound n))
 

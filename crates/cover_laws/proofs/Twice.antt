@@ -8,7 +8,7 @@ use Rattle.model.specs.Piece.{allows}
 use Rattle.model.specs.Layout.{Job, inside}
 use Rattle.model.specs.Refusal.{unless}
 use Rattle.model.specs.Cover.{coversPixel, mapFrom, fresh, lay, withdraw, layCauses}
-use Rattle.model.specs.Cover.{withdrawCauses, Call, layCall, withdrawCall, called, afterCalls}
+use Rattle.model.specs.Cover.{withdrawCauses, Call, laying, withdrawing, called, afterCalls}
 use Rattle.model.specs.declared.Turn.the-variants.{Zero}
 use Rattle.model.specs.declared.Placement.{Placement}
 
@@ -31,11 +31,11 @@ countsAfter : List Call → List ℕ
 countsAfter cs = afterCalls twoSquares (fresh twoSquares) cs .counts
 
 -- two pieces laid, the second one again elsewhere, which is refused: they share column 1
-laid-twice : countsAfter (layCall 0 (atColumn 0) ∷ layCall 1 (atColumn 1) ∷ layCall 1 (atColumn 0) ∷ []) ≡ 1 ∷ 2 ∷ 1 ∷ 1 ∷ 2 ∷ 1 ∷ []
+laid-twice : countsAfter (laying 0 (atColumn 0) ∷ laying 1 (atColumn 1) ∷ laying 1 (atColumn 0) ∷ []) ≡ 1 ∷ 2 ∷ 1 ∷ 1 ∷ 2 ∷ 1 ∷ []
 unfolding countsAfter twoSquares atColumn coversPixel mapFrom fresh lay withdraw layCauses withdrawCauses called afterCalls unless inside allows
 laid-twice = refl
 
 -- the first one withdrawn, and once more, which is refused: the second one's count stays
-withdrawn-twice : countsAfter (layCall 0 (atColumn 0) ∷ layCall 1 (atColumn 1) ∷ withdrawCall 0 ∷ withdrawCall 0 ∷ []) ≡ 0 ∷ 1 ∷ 1 ∷ 0 ∷ 1 ∷ 1 ∷ []
+withdrawn-twice : countsAfter (laying 0 (atColumn 0) ∷ laying 1 (atColumn 1) ∷ withdrawing 0 ∷ withdrawing 0 ∷ []) ≡ 0 ∷ 1 ∷ 1 ∷ 0 ∷ 1 ∷ 1 ∷ []
 unfolding countsAfter twoSquares atColumn coversPixel mapFrom fresh lay withdraw layCauses withdrawCauses called afterCalls unless inside allows
 withdrawn-twice = refl

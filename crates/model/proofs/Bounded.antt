@@ -1,13 +1,13 @@
 -- What the searches below a bound find. Assumes nothing.
-use mathlib.Core.Bool.{Bool, true, false, not, true≢false, false≢true}
-use mathlib.Core.Path.{_≡_, refl, sym, subst, _∙_, ap}
+use mathlib.Core.Bool.{Bool, true, false, not, false≢true}
+use mathlib.Core.Path.{_≡_, refl, sym, _∙_, ap}
 use mathlib.Core.Logic.{_⊎_, inl, inr, ⊎-elim}
 use Prim.Native.Nat.{ℕ, zero, suc, _+_, _<_, _≤_}
-use native.Mathlib.Nat.{not-suc-le-zero, add-zero, add-suc, eq-or-lt-of-le, le-of-suc-le-suc, le-refl}
+use native.Mathlib.Nat.{not-suc-le-zero, add-suc, eq-or-lt-of-le, le-of-suc-le-suc, le-refl}
 use native.Mathlib.Omega.{arith}
 use borrow.Author.Tests.{not-true, not-false}
-use Rattle.model.specs.Bounded.{anyBelow, allBelow, firstFrom, sumBelow}
-use Rattle.model.proofs.Tests.{same-tests, fails, passes, clash}
+use Rattle.model.specs.Bounded.{anyBelow, allBelow, firstFrom}
+use Rattle.model.proofs.Tests.{same-tests, fails, clash}
 
 -- a number below n that passes
 pub record Witness (n : ℕ) (f : ℕ → Bool) : Type 0 where

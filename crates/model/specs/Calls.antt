@@ -1,32 +1,33 @@
--- Document 01, 'When a call says no': what each public call gives, and its causes of refusal in their order. Reading a job and
--- reading a layout stand in JobText and LayoutText. Assumes nothing.
+-- Document 01, 'When a call says no': what each public call gives and leaves in lent memory, and its causes of refusal in their
+-- order. How a job or a layout is read line by line stands in JobText and LayoutText. Assumes nothing.
 use mathlib.Core.Bool.{Bool, true, false, not, _&&_, _||_}
-use mathlib.Core.List.{List, [], _∷_, map}
+use mathlib.Core.List.{List, [], _∷_, _++_, map}
 use mathlib.Core.Option.{Option, none, some}
-use Prim.Native.Nat.{ℕ, zero, suc, _+_, _*_, min, max}
-use lib.Dec.{leb, ltb, eqb}
+use Prim.Native.Nat.{ℕ, _*_}
+use lib.Dec.{ltb, eqb}
 use lib.IntN.{ℤ}
 use lib.ListN.{length, getD}
 use Rattle.model.specs.Bounded.{anyBelow}
-use Rattle.model.specs.Piece.{Shape, tight, extent, pixel, Point}
-use Rattle.model.specs.Strip.{Strip, strips, rebuilt}
+use Rattle.model.specs.Piece.{Shape, tight}
+use Rattle.model.specs.Strip.{strips, rebuilt}
 use Rattle.model.specs.Overlap.{OffsetRun, noFit}
 use Rattle.model.specs.Layout.{Job, Layout, Pair, pairs, turnedPiece, allowed, inside, placeOf, pairShares, pairPenalty, pairDepth, weightedSum, plainSum, usedLength, sharingPair}
 use Rattle.model.specs.Search.{Best, places, searchLine}
 use Rattle.model.specs.Descent.{Descent, descend}
 use Rattle.model.specs.Guided.{Guided, guide, weightBound}
 use Rattle.model.specs.Start.{start}
-use Rattle.model.specs.Refusal.{Outcome, refused, given, Cause, cause, unless, outOfRange, wrongLength, notOurs, noSuchPiece, outside, emptyLine, sharedPixel}
+use Rattle.model.specs.Refusal.{Outcome, refused, given, Cause, cause, unless, outOfRange, wrongLength, notOurs, noSuchPiece, outsideSheet, emptyLine, sharedPixel}
 use Rattle.model.specs.Lent.{Lent, jobOf, lentWell, upTo, sideBound}
-use Rattle.model.specs.Buffer.{turnOfDegrees, passing, layoutOf, stripEntry, entryStrip, sameEntries}
-use Rattle.model.specs.Store.{pieceStrips, store, starts, storeWell, stretchIn}
+use Rattle.model.specs.Buffer.{turnPasses, layoutOf, entriesOf, stripEntry, entryStrip, runEntry, bytesOf, filled, sameEntries}
+use Rattle.model.specs.Text.{andThen}
+use Rattle.model.specs.LayoutText.{layoutText, readLayout}
+use Rattle.model.specs.Store.{store, starts, storeWell, stretchIn}
 use Rattle.model.specs.Cover.{Sheet, fresh, lay, withdraw, layCauses, withdrawCauses, sheetWell}
 use Rattle.model.specs.declared.Turn.{Turn}
 use Rattle.model.specs.declared.Direction.{Direction}
 use Rattle.model.specs.declared.Direction.the-variants.{Horizontal, Vertical}
 use Rattle.model.specs.declared.Line.{Line}
 use Rattle.model.specs.declared.Placement.{Placement}
-use Rattle.model.specs.declared.Refusal.{Refusal}
 
 -- what a lent buffer holds after a call: the given value's content, or on a refusal what it held before
 abbrev pub leaving : {A B : Type 0} → (A → B) → B → Outcome A → B
@@ -49,7 +50,7 @@ atLeast needed len = cause wrongLength (ltb len needed)
 
 -- the degrees are a turn allowed to piece i
 unfoldable pub allowedDegrees : Job → ℕ → ℕ → Bool
-allowedDegrees j i k = passing (allowed j i) (turnOfDegrees k)
+allowedDegrees j i k = turnPasses (allowed j i) k
 
 -- some piece's turn in a layout buffer is not allowed
 unfoldable pub someTurnWrong : Job → List (List ℕ) → Bool
@@ -82,7 +83,7 @@ turnsCause l es = cause noSuchPiece (someTurnWrong (jobOf l) es)
 
 -- a placement of the layout is outside
 abbrev pub outsideCause : Lent → List (List ℕ) → Cause
-outsideCause l es = cause outside (someOutside (jobOf l) (layoutOf es))
+outsideCause l es = cause outsideSheet (someOutside (jobOf l) (layoutOf es))
 
 -- ── strips, stretch, rebuild, no-fit rows and columns ──
 
@@ -121,6 +122,18 @@ stripsCall l ts lent =
     (jobCause l ∷ cause noSuchPiece (turnListWrong (jobOf l) ts) ∷ cause wrongLength (storesShort (storesOf (jobOf l) ts) lent) ∷ [])
     (storesOf (jobOf l) ts)
 
+-- what the lent stores hold after the strips call: strips and starts over the front, what lies beyond untouched
+abbrev pub storesAfter : Stores → Outcome Stores → Stores
+storesAfter lent o =
+    leaving
+    (λ s. record {
+      rowStrips = filled (s .rowStrips) (lent .rowStrips);
+      rowStarts = filled (s .rowStarts) (lent .rowStarts);
+      columnStrips = filled (s .columnStrips) (lent .columnStrips);
+      columnStarts = filled (s .columnStarts) (lent .columnStarts);
+    })
+    lent o
+
 -- both lent stores are the job's in these turns
 unfoldable pub storesWell : Job → List ℕ → Stores → Bool
 storesWell j ts lent =
@@ -143,26 +156,31 @@ stretchCall l ts lent i d =
 abbrev pub stretchGiven : Outcome (List (List ℕ)) → List (List ℕ)
 stretchGiven o = leaving (λ part. part) [] o
 
+-- what the second call tells: the number of the refusal, or 0 where the stretch is given
+abbrev pub stretchNumber : Outcome (List (List ℕ)) → ℕ
+stretchNumber (refused r) = r .number
+stretchNumber (given part) = 0
+
 -- a piece in a turn, with a lent stretch
-pub record Turned : Type 0 where
+pub record LentStretch : Type 0 where
   pub piece : ℕ
   pub turn : Turn
   pub stretch : List (List ℕ)
 
 -- there is such a piece and the turn is allowed to it
-unfoldable pub known : Job → Turned → Bool
+unfoldable pub known : Job → LentStretch → Bool
 known j p = ltb (p .piece) (j .count) && allowed j (p .piece) (p .turn)
 
 -- the stretch is that of the piece in the turn
-unfoldable pub stretchWell : Direction → Job → Turned → Bool
+unfoldable pub stretchWell : Direction → Job → LentStretch → Bool
 stretchWell d j p = sameEntries (p .stretch) (map stripEntry (strips d (turnedPiece j (p .piece) (p .turn))))
 
 -- the no-fit row (horizontal, by a row offset) or column (vertical, by a column offset) of two pieces
-unfoldable pub noFitOf : Direction → Job → Turned → Turned → ℤ → List OffsetRun
+unfoldable pub noFitOf : Direction → Job → LentStretch → LentStretch → ℤ → List OffsetRun
 noFitOf d j p q offset = noFit d (turnedPiece j (p .piece) (p .turn)) (turnedPiece j (q .piece) (q .turn)) offset
 
 -- the no-fit call: 8 the job, 9, 8 a stretch, 7
-unfoldable pub noFitCall : Direction → Lent → Turned → Turned → ℤ → ℕ → Outcome (List OffsetRun)
+unfoldable pub noFitCall : Direction → Lent → LentStretch → LentStretch → ℤ → ℕ → Outcome (List OffsetRun)
 noFitCall d l p q offset room =
     unless
     (jobCause l ∷ cause noSuchPiece (not (known (jobOf l) p && known (jobOf l) q))
@@ -170,21 +188,30 @@ noFitCall d l p q offset room =
     ∷ atLeast (length (noFitOf d (jobOf l) p q offset)) room ∷ [])
     (noFitOf d (jobOf l) p q offset)
 
+-- what the run buffer holds after the no-fit call
+abbrev pub runsAfter : List (List ℤ) → Outcome (List OffsetRun) → List (List ℤ)
+runsAfter before o = leaving (λ rs. filled (map runEntry rs) before) before o
+
 -- the set that rebuilding gives from a box and lent strips
 abbrev pub rebuiltFrom : Direction → ℕ → ℕ → List (List ℕ) → Shape
-rebuiltFrom d l w es = rebuilt d l w (map entryStrip es)
+rebuiltFrom d columns rows es = rebuilt d columns rows (map entryStrip es)
 
 -- a piece of that box has just these strips
 unfoldable pub stripsWell : Direction → ℕ → ℕ → List (List ℕ) → Bool
-stripsWell d l w es =
-    tight (rebuiltFrom d l w es) && sameEntries (map stripEntry (strips d (rebuiltFrom d l w es))) es
+stripsWell d columns rows es =
+    tight (rebuiltFrom d columns rows es) && sameEntries (map stripEntry (strips d (rebuiltFrom d columns rows es))) es
 
 -- the rebuild call: 2, 8, 7
 unfoldable pub rebuildCall : Direction → ℕ → ℕ → List (List ℕ) → ℕ → Outcome Shape
-rebuildCall d l w es room =
+rebuildCall d columns rows es room =
     unless
-    (cause outOfRange (not (upTo sideBound l && upTo sideBound w)) ∷ cause notOurs (not (stripsWell d l w es)) ∷ atLeast (l * w) room ∷ [])
-    (rebuiltFrom d l w es)
+    (cause outOfRange (not (upTo sideBound columns && upTo sideBound rows)) ∷ cause notOurs (not (stripsWell d columns rows es))
+    ∷ atLeast (columns * rows) room ∷ [])
+    (rebuiltFrom d columns rows es)
+
+-- what the pixel buffer holds after the rebuild call
+abbrev pub pixelsAfter : List ℕ → Outcome Shape → List ℕ
+pixelsAfter before o = leaving (λ s. filled (bytesOf s) before) before o
 
 -- ── pairs, sums, used length ──
 
@@ -271,7 +298,33 @@ guidedCall l es ws count budget =
     ∷ turnsCause l es ∷ outsideCause l es ∷ [])
     (guide (jobOf l) count budget ws (layoutOf es))
 
--- ── start, check ──
+-- ── job text, start, layout text, check ──
+
+-- what the table holds after a job is read
+abbrev pub tableAfter : List (List ℕ) → Outcome Lent → List (List ℕ)
+tableAfter before o = leaving (λ l. filled (l .table) before) before o
+
+-- what the pixel store holds after a job is read
+abbrev pub storeAfter : List ℕ → Outcome Lent → List ℕ
+storeAfter before o = leaving (λ l. filled (l .pixels) before) before o
+
+-- what a layout buffer holds after a call that gives a layout
+abbrev pub layoutAfter : List (List ℕ) → Outcome Layout → List (List ℕ)
+layoutAfter before o = leaving entriesOf before o
+
+-- writing a layout: 8, 7 for the layout's length, 9, 10, 7 for the text buffer
+unfoldable pub writeLayoutCall : Lent → List (List ℕ) → ℕ → Outcome (List ℕ)
+writeLayoutCall l es room =
+    unless (layoutCauses l es ++ (atLeast (length (layoutText (jobOf l) (layoutOf es))) room ∷ []))
+    (layoutText (jobOf l) (layoutOf es))
+
+-- what the text buffer holds after a layout is written
+abbrev pub textAfter : List ℕ → Outcome (List ℕ) → List ℕ
+textAfter before o = leaving (λ text. filled text before) before o
+
+-- reading a layout: 8, then by line, then 7
+unfoldable pub readLayoutCall : Lent → List ℕ → ℕ → Outcome Layout
+readLayoutCall l text room = andThen (unless (jobCause l ∷ []) (jobOf l)) (λ j. readLayout j text room)
 
 -- the start layout: 8, 7
 unfoldable pub startCall : Lent → ℕ → Outcome Layout
@@ -286,7 +339,7 @@ sharedCause (some p) = record { there = true; number = sharedPixel; first = p .f
 unfoldable pub checkCall : Lent → List (List ℕ) → Outcome (Unit {0})
 checkCall l es =
     unless
-    (jobCause l ∷ layoutLength l es ∷ turnsCause l es ∷ outsideCause l es ∷ sharedCause (sharingPair (jobOf l) (layoutOf es)) ∷ [])
+    (layoutCauses l es ++ (sharedCause (sharingPair (jobOf l) (layoutOf es)) ∷ []))
     tt
 
 -- ── the sheet of cover counts ──
@@ -304,9 +357,9 @@ unfoldable pub sheetCauses : Lent → Sheet → List Cause → List Cause
 sheetCauses l s more = jobCause l ∷ countsLength l (length (s .counts)) ∷ cause notOurs (not (sheetWell (jobOf l) s)) ∷ more
 
 -- lay: then 9, 13, 10
-unfoldable pub sheetLayCall : Lent → Sheet → ℕ → Placement → Outcome Sheet
-sheetLayCall l s i p = unless (sheetCauses l s (layCauses (jobOf l) s i p)) (lay (jobOf l) s i p)
+unfoldable pub layCall : Lent → Sheet → ℕ → Placement → Outcome Sheet
+layCall l s i p = unless (sheetCauses l s (layCauses (jobOf l) s i p)) (lay (jobOf l) s i p)
 
 -- withdraw: then 9, 14
-unfoldable pub sheetWithdrawCall : Lent → Sheet → ℕ → Outcome Sheet
-sheetWithdrawCall l s i = unless (sheetCauses l s (withdrawCauses (jobOf l) s i)) (withdraw (jobOf l) s i)
+unfoldable pub withdrawCall : Lent → Sheet → ℕ → Outcome Sheet
+withdrawCall l s i = unless (sheetCauses l s (withdrawCauses (jobOf l) s i)) (withdraw (jobOf l) s i)

@@ -3,14 +3,14 @@
 use mathlib.Core.Bool.{Bool, true, false, not, _&&_, _||_}
 use mathlib.Core.List.{List, [], _∷_}
 use mathlib.Core.Option.{Option, none, some}
-use Prim.Native.Nat.{ℕ, zero, suc, _+_, _-_, _*_, _/_, _%_}
-use lib.Dec.{leb, ltb, eqb}
+use Prim.Native.Nat.{ℕ, suc, _+_, _-_, _*_, _/_, _%_}
+use lib.Dec.{ltb, eqb}
 use lib.ListN.{length, getD, set, replicate}
 use Rattle.model.specs.Bounded.{allBelow, sumBelow, one-if}
 use Rattle.model.specs.Piece.{Point, corner, covers, degrees}
 use Rattle.model.specs.Layout.{Job, turnedPiece, allowed, inside, origin}
 use Rattle.model.specs.Lent.{pieceBound}
-use Rattle.model.specs.Refusal.{Outcome, refused, given, Cause, cause, unless, noSuchPiece, laidAlready, outside, notLaid}
+use Rattle.model.specs.Refusal.{Outcome, refused, given, Cause, cause, unless, noSuchPiece, laidAlready, outsideSheet, notLaid}
 use Rattle.model.specs.declared.Placement.{Placement}
 use Rattle.model.specs.declared.Entry.{Entry}
 
@@ -70,7 +70,7 @@ withdraw j s i =
 unfoldable pub layCauses : Job → Sheet → ℕ → Placement → List Cause
 layCauses j s i p =
     cause noSuchPiece (not (ltb i (j .count) && allowed j i (p .turn))) ∷ cause laidAlready (entryIn (s .pieces) i .laid)
-    ∷ cause outside (not (inside j i p)) ∷ []
+    ∷ cause outsideSheet (not (inside j i p)) ∷ []
 
 -- why a withdraw is refused: no such piece; not laid
 unfoldable pub withdrawCauses : Job → Sheet → ℕ → List Cause
@@ -78,13 +78,13 @@ withdrawCauses j s i = cause noSuchPiece (not (ltb i (j .count))) ∷ cause notL
 
 -- a call on a sheet
 pub data Call : Type 0 where
-  layCall : ℕ → Placement → Call
-  withdrawCall : ℕ → Call
+  laying : ℕ → Placement → Call
+  withdrawing : ℕ → Call
 
 -- what a call comes to
 unfoldable pub called : Job → Sheet → Call → Outcome Sheet
-called j s (layCall i p) = unless (layCauses j s i p) (lay j s i p)
-called j s (withdrawCall i) = unless (withdrawCauses j s i) (withdraw j s i)
+called j s (laying i p) = unless (layCauses j s i p) (lay j s i p)
+called j s (withdrawing i) = unless (withdrawCauses j s i) (withdraw j s i)
 
 -- the sheet after an outcome: a refusal changes nothing
 abbrev pub afterwards : Sheet → Outcome Sheet → Sheet
@@ -106,7 +106,7 @@ laidOn j es k i = entryIn es i .laid && coversPixel j i (entryIn es i .place) k
 unfoldable pub laidCount : Job → List Entry → ℕ → ℕ
 laidCount j es k = sumBelow (j .count) (λ i. one-if (laidOn j es k i))
 
--- the entry of a piece that is not laid is blank
+-- the entry is that of a piece that is not laid: turn 0, corner (0, 0)
 unfoldable pub isBlank : Entry → Bool
 isBlank e = not (e .laid) && eqb (degrees (e .place .turn)) 0 && eqb (e .place .x .0) 0 && eqb (e .place .y .0) 0
 
@@ -127,13 +127,13 @@ sheetWell j s =
 
 -- the piece that a call names
 abbrev pub calledPiece : Call → ℕ
-calledPiece (layCall i p) = i
-calledPiece (withdrawCall i) = i
+calledPiece (laying i p) = i
+calledPiece (withdrawing i) = i
 
 -- the call is a lay
 abbrev pub isLay : Call → Bool
-isLay (layCall i p) = true
-isLay (withdrawCall i) = false
+isLay (laying i p) = true
+isLay (withdrawing i) = false
 
 -- the call is taken up, and not refused
 abbrev pub taken : Outcome Sheet → Bool

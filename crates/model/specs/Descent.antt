@@ -1,10 +1,10 @@
 -- Document 01, 'Descent and guidance', first part: trials, their order, one trial's outcome, and a whole descent.
 -- A descent runs over any list of trials and knows nothing of how a trial is judged. Assumes nothing.
-use mathlib.Core.Bool.{Bool, true, false}
+use mathlib.Core.Bool.{true, false}
 use mathlib.Core.List.{List, [], _∷_, _++_}
 use mathlib.Core.Option.{Option, none, some}
-use Prim.Native.Nat.{ℕ, zero, suc, _+_, _-_}
-use lib.Dec.{leb, ltb, eqb}
+use Prim.Native.Nat.{ℕ, zero, suc}
+use lib.Dec.{ltb, eqb}
 use lib.ListN.{length, getD}
 use Rattle.model.specs.Piece.{lineThrough}
 use Rattle.model.specs.Layout.{Job, Layout, allowed, placeOf, pieceSum, weightedSum}
@@ -112,19 +112,16 @@ module _ (sum : Layout → ℕ) (try : Layout → Trial → Attempt) (ts : List 
   abbrev pub ended : End → Progress → Descent
   ended e s = record { end = e; layout = s .layout; sum = sum (s .layout); made = s .made; moves = s .moves }
 
-  -- from here on with so much of the budget left. Before each trial: sum zero, clear; else quiet count T, settled; else budget
-  -- used up, spent
+  -- the end that is reached here whatever is left of the budget: sum zero, clear; else quiet count T, settled
+  abbrev pub endsAt : Progress → Option End
+  endsAt s =
+      elim (eqb (sum (s .layout)) 0)
+      [ true ↦ some Clear | false ↦ elim (eqb (s .quietCount) (length ts)) [ true ↦ some Settled | false ↦ none ] ]
+
+  -- from here on with so much of the budget left; where no end is reached and the budget is used up, spent
   unfoldable pub descendFrom : ℕ → Progress → Descent
-  descendFrom zero s =
-      elim (eqb (sum (s .layout)) 0) [
-        | true ↦ ended Clear s
-        | false ↦ elim (eqb (s .quietCount) (length ts)) [ true ↦ ended Settled s | false ↦ ended Spent s ]
-      ]
-  descendFrom (suc left) s =
-      elim (eqb (sum (s .layout)) 0) [
-        | true ↦ ended Clear s
-        | false ↦ elim (eqb (s .quietCount) (length ts)) [ true ↦ ended Settled s | false ↦ descendFrom left (step s) ]
-      ]
+  descendFrom zero s = elim (endsAt s) [ some e ↦ ended e s | none ↦ ended Spent s ]
+  descendFrom (suc left) s = elim (endsAt s) [ some e ↦ ended e s | none ↦ descendFrom left (step s) ]
 
 -- the descent of a job by given weights, from a layout, with a budget
 unfoldable pub descend : Job → List ℕ → ℕ → Layout → Descent

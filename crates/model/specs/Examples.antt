@@ -1,24 +1,21 @@
 -- Document 01, 'Marked examples of the shop': P1 to P12, one test that the checker computes. Assumes nothing.
-use mathlib.Core.Bool.{Bool, true, false, not, _&&_, _||_}
+use mathlib.Core.Bool.{Bool, true, not, _&&_}
 use mathlib.Core.List.{List, [], _∷_}
 use mathlib.Core.Option.{Option, none, some}
 use mathlib.Core.Path.{_≡_, refl}
-use Prim.Native.Nat.{ℕ, zero, suc, _+_}
-use lib.Dec.{leb, ltb, eqb}
-use lib.ListN.{getD}
+use Prim.Native.Nat.{ℕ, suc}
+use lib.Dec.{eqb}
 use lib.IntN.{ℤ, pos, negsuc}
 use Rattle.model.specs.Buffer.{sameNumbers}
 use Rattle.model.specs.Piece.{Point, Shape, Piece, pixel, turned}
 use Rattle.model.specs.Strip.{Strip, strips, runsFrom, stripsFrom}
 use Rattle.model.specs.Overlap.{OffsetRun, noFit, noFitAt, share, apartAt, depth, penalty}
-use Rattle.model.specs.Layout.{Job, Layout, Pair, origin, pairsWith, pairsFrom, pairPenalty, sumOver, weightedSum, pieceSum, inside}
+use Rattle.model.specs.Layout.{Job, pairsWith, pairsFrom, pairPenalty, sumOver, weightedSum, pieceSum, inside}
 use Rattle.model.specs.Search.{Best, places, sumAt, least, searchLine}
 use Rattle.model.specs.Descent.{Descent, turnTrials, pieceTrials, trialsFrom, trials, attempt, descendFrom, descend}
-use Rattle.model.specs.declared.Turn.{Turn}
-use Rattle.model.specs.declared.Turn.the-variants.{Zero, Quarter, Half, ThreeQuarters}
-use Rattle.model.specs.declared.Direction.{Direction}
+use Rattle.model.specs.declared.Turn.the-variants.{Zero, Quarter, Half}
 use Rattle.model.specs.declared.Direction.the-variants.{Horizontal, Vertical}
-use Rattle.model.specs.declared.Line.the-variants.{InRow, InColumn}
+use Rattle.model.specs.declared.Line.the-variants.{InRow}
 use Rattle.model.specs.declared.Placement.{Placement}
 use Rattle.model.specs.declared.End.{End}
 use Rattle.model.specs.declared.End.the-variants.{Clear, Settled, Spent}
@@ -117,8 +114,9 @@ P7 = eqb (penalty shapeD (at 0 0) shapeE (at 1 1)) 0
 P8 : Bool
 P8 = sameNumbers (measures shapeD (at 0 0) shapeE (at 1 0)) (2 ∷ 1 ∷ 1 ∷ [])
 
+-- A fills B's box, so that the boxes meet where two of A share a pixel
 P9 : Bool
-P9 = eqb (penalty shapeB (at 0 0) (turned Half shapeB) (at 1 0)) 0
+P9 = share shapeA (at 0 0) shapeA (at 1 0) && eqb (penalty shapeB (at 0 0) (turned Half shapeB) (at 1 0)) 0
 
 P10 : Bool
 P10 = sameNumbers (flatBest (searchLine (twoSquares 4) (3 ∷ []) (place 1 0 ∷ place 0 0 ∷ []) 1 Zero (InRow (record { 0 = 0 })))) (3 ∷ 0 ∷ [])

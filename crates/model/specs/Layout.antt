@@ -1,13 +1,12 @@
 -- Document 01, 'Sheet and panels' (inside), 'No-fit rows and penalty' (weights and sums), 'Start, layout text, sheet' (used
 -- length) and the check of a layout. Assumes nothing.
-use mathlib.Core.Bool.{Bool, true, false, not, _&&_, _||_}
-use mathlib.Core.List.{List, [], _∷_, _++_, map}
-use Prim.Native.Nat.{ℕ, zero, suc, _+_, _-_, _*_, min, max}
+use mathlib.Core.Bool.{Bool, true, false, _&&_, _||_}
+use mathlib.Core.List.{List, [], _∷_, _++_}
+use Prim.Native.Nat.{ℕ, zero, suc, _+_, _*_, max}
 use mathlib.Core.Option.{Option, none, some}
-use lib.Dec.{leb, ltb, eqb}
+use lib.Dec.{leb, eqb}
 use lib.ListN.{length, getD, replicate}
-use Rattle.model.specs.Bounded.{anyBelow, allBelow}
-use Rattle.model.specs.Piece.{Point, Shape, Piece, turned, extent, other, corner, allows}
+use Rattle.model.specs.Piece.{Point, Shape, Piece, turned, corner, allows}
 use Rattle.model.specs.Overlap.{share, penalty, depth}
 use Rattle.model.specs.declared.Turn.{Turn}
 use Rattle.model.specs.declared.Turn.the-variants.{Zero}
@@ -61,7 +60,7 @@ cornerIn v i = corner (placeOf v i)
 
 -- ── pairs ──
 
--- two piece numbers, the lower first
+-- two piece numbers; in the list of pairs the lower stands first
 pub record Pair : Type 0 where
   pub first : ℕ
   pub second : ℕ
@@ -80,17 +79,22 @@ pairsFrom i (suc left) = pairsWith i (suc i) left ++ pairsFrom (suc i) left
 abbrev pub pairs : ℕ → List Pair
 pairs n = pairsFrom 0 n
 
+-- what is measured of two placed shapes, of the pair's pieces in the layout
+abbrev pub ofPair : {A : Type 0} → (Shape → Point → Shape → Point → A) → Job → Layout → Pair → A
+ofPair measure j v p =
+    measure (shapeIn j v (p .first)) (cornerIn v (p .first)) (shapeIn j v (p .second)) (cornerIn v (p .second))
+
 -- the pair's pieces share a pixel in the layout
 unfoldable pub pairShares : Job → Layout → Pair → Bool
-pairShares j v p = share (shapeIn j v (p .first)) (cornerIn v (p .first)) (shapeIn j v (p .second)) (cornerIn v (p .second))
+pairShares j v p = ofPair share j v p
 
 -- the pair's penalty in the layout
 unfoldable pub pairPenalty : Job → Layout → Pair → ℕ
-pairPenalty j v p = penalty (shapeIn j v (p .first)) (cornerIn v (p .first)) (shapeIn j v (p .second)) (cornerIn v (p .second))
+pairPenalty j v p = ofPair penalty j v p
 
 -- the pair's depth along the direction in the layout
 unfoldable pub pairDepth : Direction → Job → Layout → Pair → ℕ
-pairDepth d j v p = depth d (shapeIn j v (p .first)) (cornerIn v (p .first)) (shapeIn j v (p .second)) (cornerIn v (p .second))
+pairDepth d j v p = ofPair (depth d) j v p
 
 -- the pair names piece i
 abbrev pub names : ℕ → Pair → Bool

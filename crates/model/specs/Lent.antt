@@ -1,12 +1,12 @@
 -- A job as it is lent to a call: document 01's W, L and n, a table of n entries (l, w, o) and a store of one byte a box pixel,
 -- row by row, piece after piece. Buffers may be longer than the job needs. Assumes nothing.
-use mathlib.Core.Bool.{Bool, true, false, _&&_}
-use mathlib.Core.List.{List, [], _∷_}
-use Prim.Native.Nat.{ℕ, zero, suc, _+_, _*_, _%_}
-use lib.Dec.{leb, ltb, eqb}
+use mathlib.Core.Bool.{Bool, _&&_}
+use mathlib.Core.List.{List, []}
+use Prim.Native.Nat.{ℕ, _+_, _*_, _%_}
+use lib.Dec.{leb, eqb}
 use lib.ListN.{length, getD}
 use Rattle.model.specs.Bounded.{allBelow, sumBelow}
-use Rattle.model.specs.Piece.{Shape, Piece, tight}
+use Rattle.model.specs.Piece.{Shape, tight}
 use Rattle.model.specs.Layout.{Job}
 use Rattle.model.specs.declared.JobSize.{JobSize}
 

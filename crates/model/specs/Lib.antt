@@ -11,7 +11,12 @@ pub mod Start
 pub mod Refusal
 pub mod Lent
 pub mod Buffer
+pub mod Text
+pub mod JobText
+pub mod LayoutText
 pub mod Store
 pub mod Cover
 pub mod Calls
 pub mod Examples
+pub mod Worked
+pub mod TextExamples

@@ -1,11 +1,11 @@
 -- Document 01, 'No-fit rows and penalty': when two placed pieces share a pixel, the offsets at which they do, and how far one
 -- has to be shifted until they do not. Umetani and Murakami (2021), equations 4 and 5, over sets of pixels. Assumes nothing.
-use mathlib.Core.Bool.{Bool, true, false, not, _&&_, _||_}
-use mathlib.Core.List.{List, [], _∷_, map}
-use Prim.Native.Nat.{ℕ, zero, suc, _+_, _-_, _*_, min}
+use mathlib.Core.Bool.{Bool, not, _&&_, _||_}
+use mathlib.Core.List.{List, map}
+use Prim.Native.Nat.{ℕ, suc, _+_, min}
 use lib.IntN.{ℤ, pos, negsuc, subℕ}
 use Rattle.model.specs.Bounded.{anyBelow, firstFrom}
-use Rattle.model.specs.Piece.{Point, Shape, along, across, point, shift, extent, other, covers}
+use Rattle.model.specs.Piece.{Point, Shape, point, shift, extent, covers}
 use Rattle.model.specs.Strip.{Run, runs}
 use Rattle.model.specs.declared.Direction.{Direction}
 use Rattle.model.specs.declared.Direction.the-variants.{Horizontal, Vertical}
@@ -19,7 +19,7 @@ share s u t v =
 unfoldable pub apartAt : Direction → Shape → Point → Shape → Point → ℕ → Bool
 apartAt d s u t v k = not (share s u t (shift d k v)) || not (share s (shift d k u) t v)
 
--- a shift by this much always parts them
+-- a shift by this much parts them in at least one of the two signs
 abbrev pub reach : Direction → Shape → Shape → ℕ
 reach d s t = extent d s + extent d t
 

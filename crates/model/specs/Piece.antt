@@ -1,7 +1,7 @@
 -- Document 01, 'Sheet and panels': pixel sets in a box, their turns, and what is alike along rows and columns.
 -- A piece is document 01's panel. Assumes nothing.
-use mathlib.Core.Bool.{Bool, true, false, not, _&&_}
-use Prim.Native.Nat.{ℕ, zero, suc, _+_, _-_, _/_, _%_}
+use mathlib.Core.Bool.{Bool, _&&_}
+use Prim.Native.Nat.{ℕ, _+_, _-_, _/_, _%_}
 use lib.Dec.{leb, ltb, eqb}
 use Rattle.model.specs.Bounded.{anyBelow}
 use Rattle.model.specs.declared.Turn.{Turn}
@@ -84,7 +84,7 @@ turnPoint Quarter l w p = record { x = w - 1 - p .y; y = p .x }
 turnPoint Half l w p = record { x = l - 1 - p .x; y = w - 1 - p .y }
 turnPoint ThreeQuarters l w p = record { x = p .y; y = l - 1 - p .x }
 
--- the turned box and set: a pixel is in it exactly where the turn takes a pixel of the set (Turns, `turned-exactly`)
+-- the turned box and set: a pixel is in it exactly where the turn takes a pixel of the set (strip_laws, Turns, `turned-exactly`)
 abbrev pub turned : Turn → Shape → Shape
 turned Zero s = s
 turned Quarter s = record { columns = s .rows; rows = s .columns; has = λ x y. s .has y (s .rows - 1 - x) }

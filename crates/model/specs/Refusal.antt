@@ -69,8 +69,8 @@ abbrev pub noSuchPiece : ℕ
 noSuchPiece = 9
 
 -- a placement outside the sheet
-abbrev pub outside : ℕ
-outside = 10
+abbrev pub outsideSheet : ℕ
+outsideSheet = 10
 
 -- no inside corner on the line
 abbrev pub emptyLine : ℕ

@@ -1,10 +1,10 @@
 -- Document 01, 'Strips', second part: the stores of all pieces' strips in their present turns, the starts, and the stretch of one
 -- piece. Assumes nothing.
-use mathlib.Core.Bool.{Bool, true, false, not, _&&_}
+use mathlib.Core.Bool.{Bool, _&&_}
 use mathlib.Core.List.{List, [], _∷_, _++_, map}
 use Prim.Native.Nat.{ℕ, zero, suc, _+_, _-_}
 use lib.ListN.{length, getD, take, drop}
-use Rattle.model.specs.Buffer.{turnOfDegrees, orZero, stripEntry, sameNumbers, sameEntries}
+use Rattle.model.specs.Buffer.{turnOf, stripEntry, sameNumbers, sameEntries}
 use Rattle.model.specs.Layout.{Job, turnedPiece}
 use Rattle.model.specs.Strip.{Strip, strips}
 use Rattle.model.specs.declared.Turn.{Turn}
@@ -12,7 +12,7 @@ use Rattle.model.specs.declared.Direction.{Direction}
 
 -- the turn of piece i in a list of degrees
 abbrev pub turnIn : List ℕ → ℕ → Turn
-turnIn ts i = orZero (turnOfDegrees (getD ts i 0))
+turnIn ts i = turnOf (getD ts i 0)
 
 -- the strips of piece i in its turn: its stretch
 unfoldable pub pieceStrips : Direction → Job → List ℕ → ℕ → List Strip
@@ -38,10 +38,10 @@ starts d j ts = startsFrom d j ts 0 0 (j .count)
 
 -- a lent store and lent starts begin with the job's in these turns
 unfoldable pub storeWell : Direction → Job → List ℕ → List (List ℕ) → List ℕ → Bool
-storeWell d j ts entries places =
+storeWell d j ts entries lentStarts =
     sameEntries (take (length (store d j ts)) entries) (map stripEntry (store d j ts))
-    && sameNumbers (take (suc (j .count)) places) (starts d j ts)
+    && sameNumbers (take (suc (j .count)) lentStarts) (starts d j ts)
 
 -- the part of a lent store that is piece i's stretch, by the lent starts
 unfoldable pub stretchIn : List (List ℕ) → List ℕ → ℕ → List (List ℕ)
-stretchIn entries places i = take (getD places (suc i) 0 - getD places i 0) (drop (getD places i 0) entries)
+stretchIn entries lentStarts i = take (getD lentStarts (suc i) 0 - getD lentStarts i 0) (drop (getD lentStarts i 0) entries)

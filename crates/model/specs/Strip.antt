@@ -1,12 +1,11 @@
 -- Document 01, 'Strips': maximal runs of pixels, by row or by column, and the one pixel set that has given strips.
 -- Assumes nothing.
-use mathlib.Core.Bool.{Bool, true, false, not, _&&_}
+use mathlib.Core.Bool.{Bool, true, false, _&&_}
 use mathlib.Core.List.{List, [], _∷_, _++_, map}
 use Prim.Native.Nat.{ℕ, zero, suc, _+_, _-_}
 use lib.Dec.{leb, ltb, eqb}
 use Rattle.model.specs.Piece.{Point, Shape, along, across, extent, cell, other}
 use Rattle.model.specs.declared.Direction.{Direction}
-use Rattle.model.specs.declared.Direction.the-variants.{Horizontal, Vertical}
 
 -- a run of numbers that pass a test: the first of them and how many
 pub record Run : Type 0 where

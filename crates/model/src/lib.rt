@@ -67,7 +67,7 @@ pub struct Entry {
     pub place: Placement,
 }
 
-// The sheet record: an entry for each piece number.
+// The sheet record: an entry for each of the 64 piece numbers. Those from n on are of pieces that are not laid.
 pub struct Record {
     pub pieces: [Entry; 64],
 }

@@ -1,0 +1,230 @@
+-- Document 01, 'Descent and guidance', a whole descent: what demand 3 says of it. A trial that is no move found no place on its line
+-- with a smaller pair sum, hence none with a smaller weighted sum, since the other pairs stay as they are; a move lowers the
+-- weighted sum and keeps every piece inside in a turn allowed to it. The laws of a run do the rest. Assumes nothing.
+use mathlib.Core.Bool.{Bool, true, false}
+use mathlib.Core.Path.{_≡_, refl, sym, _∙_, ap}
+use mathlib.Core.Logic.{⊎-elim}
+use mathlib.Core.List.{List}
+use mathlib.Core.Option.{Option, none, some}
+use Prim.Native.Nat.{ℕ, _<_, _≤_}
+use native.Mathlib.Nat.{le-trans}
+use native.Mathlib.Decide.{ℕ-discrete}
+use native.Mathlib.Omega.{arith}
+use borrow.Author.Tests.{ltb-true, ltb-false, le-ltb}
+use lib.Dec.{ltb}
+use lib.ListN.{length, set, length-set}
+use lib.Seq.{getD-set-same, getD-set-other, ext-getD}
+use Rattle.model.specs.Piece.{onLine, lineThrough}
+use Rattle.model.specs.Layout.{Job, Layout, allowed, inside, origin, placeOf, weightedSum, pieceSum}
+use Rattle.model.specs.Search.{Best, movedTo, searchLine}
+use Rattle.model.specs.Descent.{Trial, Attempt, moved, quiet, Descent, trials, trialLine, judged, noTrial, attempt, descend}
+use Rattle.model.specs.declared.Turn.{Turn}
+use Rattle.model.specs.declared.Direction.{Direction}
+use Rattle.model.specs.declared.Direction.the-variants.{Horizontal, Vertical}
+use Rattle.model.specs.declared.Line.{Line}
+use Rattle.model.specs.declared.Line.the-variants.{InRow, InColumn}
+use Rattle.model.specs.declared.Placement.{Placement}
+use Rattle.descent_laws.proofs.Claims.{ValidWeights, ValidLayout, Rival, DescentClaims}
+use Rattle.descent_laws.proofs.Sums.{placed-anew, zero-exactly}
+use Rattle.descent_laws.proofs.Search.{Found, Searched, searched}
+use Rattle.descent_laws.proofs.Trials.{position, at-mem, trialOf, trial-mem, Proper, mem-trial}
+use Rattle.descent_laws.proofs.Run.{impossible, trialAt, Ran, ran}
+
+-- ── layouts ──
+
+-- a property of placements that holds of a layout's and of a new one holds after the piece is placed anew
+pub set-keeps : (P : ℕ → Placement → Type 0) (v : Layout) (i : ℕ) (p : Placement) → i < length v → P i p
+    → (k : ℕ) → P k (placeOf v k) → Dec (k ≡ i) → P k (placeOf (set v i p) k)
+set-keeps P v i p l h k g (yes e) = rw (e, getD-set-same v i p origin l) h
+set-keeps P v i p l h k g (no n) = rw (getD-set-other v i k p origin n) g
+
+-- a piece placed anew, inside and in a turn allowed to it
+pub valid-set : (j : Job) (v : Layout) (i : ℕ) (p : Placement) → ValidLayout j v → i < j .count → inside j i p ≡ true
+    → allowed j i (p .turn) ≡ true → ValidLayout j (set v i p)
+valid-set j v i p h l s a =
+    let there : i < length v = (let e = h .onePerPiece in omega arith) in
+    record {
+      onePerPiece = length-set v i p ∙ h .onePerPiece;
+      insideSheet = λ k l′. set-keeps (λ n q. inside j n q ≡ true) v i p there s k (h .insideSheet k l′) (ℕ-discrete k i);
+      turnAllowed = λ k l′. set-keeps (λ n q. allowed j n (q .turn) ≡ true) v i p there a k (h .turnAllowed k l′) (ℕ-discrete k i);
+    }
+
+-- ── one trial ──
+
+-- no place on the trial's line has a smaller weighted sum
+abbrev pub Quiet : Job → List ℕ → Layout → Trial → Type 0
+Quiet j ws v k =
+    (a : ℕ) → inside j (k .piece) (onLine (trialLine v k) (k .turn) a) ≡ true
+    → weightedSum j ws v ≤ weightedSum j ws (movedTo v (k .piece) (k .turn) (trialLine v k) a)
+
+-- w is v with piece i at an inside corner on the line, in the turn, with a smaller pair sum
+record Step (j : Job) (ws : List ℕ) (v : Layout) (i : ℕ) (t : Turn) (line : Line) (w : Layout) : Type 0 where
+  at : ℕ
+  insideSheet : inside j i (onLine line t at) ≡ true
+  result : w ≡ movedTo v i t line at
+  smaller : pieceSum j ws (movedTo v i t line at) i < pieceSum j ws v i
+
+module _ (j : Job) (ws : List ℕ) (v : Layout) (i : ℕ) (t : Turn) (line : Line) where
+  -- by the test of the least against the present sum: a move
+  moved-at : (b : Best) (w : Layout) → Found j ws v i t line b → (c : Bool) → ltb (b .sum) (pieceSum j ws v i) ≡ c
+      → elim c as (λ _. Attempt) [ true ↦ moved (movedTo v i t line (b .at)) | false ↦ quiet ] ≡ moved w → Step j ws v i t line w
+  moved-at b w f true e h =
+      let less : b .sum < pieceSum j ws v i = ltb-true _ _ e in
+      record { at = b .at; insideSheet = f .insideSheet; result = cc; smaller = rw (f .attained) at less }
+  moved-at b w f false e h = impossible (cc)
+
+  -- a move is a step
+  judged-moved : (o : Option Best) (w : Layout) → Searched j ws v i t line o
+      → judged (pieceSum j ws v i) (movedTo v i t line) o ≡ moved w → Step j ws v i t line w
+  judged-moved none w s h = impossible (cc)
+  judged-moved (some b) w s h = moved-at b w s _ refl h
+
+  -- by the same test: quiet
+  quiet-at : (b : Best) → Found j ws v i t line b → (c : Bool) → ltb (b .sum) (pieceSum j ws v i) ≡ c
+      → elim c as (λ _. Attempt) [ true ↦ moved (movedTo v i t line (b .at)) | false ↦ quiet ] ≡ quiet
+      → (a : ℕ) → inside j i (onLine line t a) ≡ true → pieceSum j ws v i ≤ pieceSum j ws (movedTo v i t line a) i
+  quiet-at b f true e h = impossible (cc)
+  quiet-at b f false e h = λ a g. le-trans (ltb-false (b .sum) (pieceSum j ws v i) e) (f .least a g)
+
+  -- a quiet trial: no inside corner on the line has a smaller pair sum
+  judged-quiet : (o : Option Best) → Searched j ws v i t line o → judged (pieceSum j ws v i) (movedTo v i t line) o ≡ quiet
+      → (a : ℕ) → inside j i (onLine line t a) ≡ true → pieceSum j ws v i ≤ pieceSum j ws (movedTo v i t line a) i
+  judged-quiet none f h = λ a g. absurd (f a g)
+  judged-quiet (some b) f h = quiet-at b f _ refl h
+
+-- a placement on a line has the turn that was asked for
+turn-on : (line : Line) (t : Turn) (a : ℕ) → onLine line t a .turn ≡ t
+turn-on (InRow r) t a = refl
+turn-on (InColumn c) t a = refl
+
+module _ (j : Job) (ws : List ℕ) (v : Layout) (i : ℕ) (t : Turn) (line : Line) where
+  -- a step keeps the layout valid, where the turn is allowed
+  step-valid : (w : Layout) → Step j ws v i t line w → ValidLayout j v → i < j .count → allowed j i t ≡ true → ValidLayout j w
+  step-valid w s h l a = rw (s .result) (valid-set j v i (onLine line t (s .at)) h l (s .insideSheet) (rw (turn-on line t (s .at)) a))
+
+  -- a step lowers the weighted sum
+  step-lower : (w : Layout) → Step j ws v i t line w → weightedSum j ws w < weightedSum j ws v
+  step-lower w s =
+      let anew = placed-anew j ws v i (onLine line t (s .at)) in
+      let less = s .smaller in
+      rw (s .result) (omega arith)
+
+-- a move keeps the layout valid and lowers the weighted sum
+pub attempt-moved : (j : Job) (ws : List ℕ) (v w : Layout) (k : Trial) → Proper j 0 (j .count) k → ValidLayout j v
+    → attempt j ws v k ≡ moved w → ValidLayout j w × (weightedSum j ws w < weightedSum j ws v)
+unfolding attempt
+attempt-moved j ws v w k p h e = (step-valid j ws v i t line w s h (p .below) (p .turnAllowed), step-lower j ws v i t line w s)
+  where
+    i : ℕ
+    i = k .piece
+
+    t : Turn
+    t = k .turn
+
+    line : Line
+    line = trialLine v k
+
+    s : Step j ws v i t line w
+    s = judged-moved j ws v i t line (searchLine j ws v i t line) w (searched j ws v i t line) e
+
+-- a quiet trial: no place on its line has a smaller weighted sum
+pub attempt-quiet : (j : Job) (ws : List ℕ) (v : Layout) (k : Trial) → attempt j ws v k ≡ quiet → Quiet j ws v k
+unfolding attempt
+attempt-quiet j ws v k e a g =
+    let i : ℕ = k .piece in
+    let t : Turn = k .turn in
+    let line : Line = trialLine v k in
+    let notLess = judged-quiet j ws v i t line (searchLine j ws v i t line) (searched j ws v i t line) e a g in
+    let anew = placed-anew j ws v i (onLine line t a) in
+    omega arith
+
+-- nothing is below 0
+zero-judged-at : (o : Option Best) (place : ℕ → Layout) → judged 0 place o ≡ quiet
+zero-judged-at none place = refl
+zero-judged-at (some b) place = rw (le-ltb (b .sum) 0 (omega arith), judged)
+
+-- a piece whose pair sum is 0 does not move: its trial needs no search
+pub zero-quiet : (j : Job) (ws : List ℕ) (v : Layout) (k : Trial) → pieceSum j ws v (k .piece) ≡ 0 → attempt j ws v k ≡ quiet
+unfolding attempt
+zero-quiet j ws v k e = rw e (zero-judged-at (searchLine j ws v (k .piece) (k .turn) (trialLine v k)) _)
+
+-- ── rivals ──
+
+-- a rival is the layout with one piece placed anew
+rival-set : (j : Job) (v w : Layout) → ValidLayout j v → (r : Rival j v w) → w ≡ set v (r .piece) (placeOf w (r .piece))
+rival-set j v w h r =
+    ext-getD origin w (set v (r .piece) (placeOf w (r .piece)))
+    (r .onePerPiece ∙ sym (length-set v (r .piece) (placeOf w (r .piece)) ∙ h .onePerPiece))
+    (λ k l. same k (let e = r .onePerPiece in omega arith) (ℕ-discrete k (r .piece)))
+  where
+    same : (k : ℕ) → k < j .count → Dec (k ≡ r .piece) → placeOf w k ≡ placeOf (set v (r .piece) (placeOf w (r .piece))) k
+    same k l (yes e) =
+        let there : r .piece < length v = (let n = h .onePerPiece in let b = r .there in omega arith) in
+        rw (e, getD-set-same v (r .piece) (placeOf w (r .piece)) origin there)
+    same k l (no n) = rw (getD-set-other v (r .piece) k (placeOf w (r .piece)) origin n) (r .othersSame k l n)
+
+-- where every trial is quiet, no rival has a smaller weighted sum
+quiet-rival : (j : Job) (ws : List ℕ) (v w : Layout) → ValidLayout j v
+    → ((m : ℕ) → m < length (trials j) → Quiet j ws v (trialAt (trials j) m)) → Rival j v w → weightedSum j ws v ≤ weightedSum j ws w
+quiet-rival j ws v w h q r = rw (rival-set j v w h r) (⊎-elim inRow inColumn (r .sameRowOrColumn))
+  where
+    i : ℕ
+    i = r .piece
+
+    p : Placement
+    p = placeOf w i
+
+    along : (d : Direction) (a : ℕ) → onLine (lineThrough d (placeOf v i)) (p .turn) a ≡ p → weightedSum j ws v ≤ weightedSum j ws (set v i p)
+    along d a e =
+        let pos = position noTrial (trials j) (trial-mem j i (p .turn) d (r .there) (r .turnAllowed)) in
+        let k : Quiet j ws v (trialOf i (p .turn) d) = rw (pos .there) at (q (pos .number) (pos .below)) in
+        rw e at (k a (rw e (r .insideSheet)))
+
+    inRow : placeOf w i .y ≡ placeOf v i .y → weightedSum j ws v ≤ weightedSum j ws (set v i p)
+    inRow e = along Horizontal (p .x .0) (ap (λ y. record { turn = p .turn; x = p .x; y = y }) (sym e))
+
+    inColumn : placeOf w i .x ≡ placeOf v i .x → weightedSum j ws v ≤ weightedSum j ws (set v i p)
+    inColumn e = along Vertical (p .y .0) (ap (λ x. record { turn = p .turn; x = x; y = p .y }) (sym e))
+
+-- ── the whole descent ──
+
+-- a job with a piece and a valid layout has a trial
+some-trial : (j : Job) (v : Layout) → 0 < j .count → ValidLayout j v → 0 < length (trials j)
+some-trial j v l h =
+    let pos = position noTrial (trials j) (trial-mem j 0 (placeOf v 0 .turn) Horizontal l (h .turnAllowed 0 l)) in
+    let b = pos .below in omega arith
+
+-- the run of the job's trials
+descent-ran : (j : Job) (ws : List ℕ) (budget : ℕ) (v : Layout) → 0 < j .count → ValidLayout j v
+    → Ran (weightedSum j ws) (trials j) (ValidLayout j) (Quiet j ws) v budget (descend j ws budget v)
+unfolding descend
+descent-ran j ws budget v l h =
+    ran (weightedSum j ws) (attempt j ws) (trials j) (ValidLayout j) (Quiet j ws) (some-trial j v l h)
+    (λ u w m b g e. attempt-moved j ws u w (trialAt (trials j) m) (mem-trial j _ (at-mem noTrial (trials j) m b)) g e)
+    (λ u m b g e. attempt-quiet j ws u (trialAt (trials j) m) e) v budget h
+
+-- demand 3's claims hold of a descent
+pub descent-claims : (j : Job) (ws : List ℕ) (budget : ℕ) (v : Layout) → 0 < j .count → ValidWeights j ws → ValidLayout j v
+    → DescentClaims j ws budget v (descend j ws budget v)
+descent-claims j ws budget v l weights h =
+    record {
+      rival =
+          λ c w r. ⊎-elim (λ e. rw (run .sumOfLayout) (quiet-rival j ws (d .layout) w (run .good) (run .settledMeansQuiet e) r))
+          (λ e. let z = run .clearMeansZero e in omega arith) c;
+      sumAtMost = let f = run .movesAtMostFall in omega arith;
+      zeroExactly = rw (run .sumOfLayout) (zero-exactly j ws (d .layout) weights);
+      movesAtMostFall = run .movesAtMostFall;
+      budgetSuffices = λ enough e. (let few = run .spentMeansFew e in let all = run .spentMeansBudget e in omega arith);
+      sumOfLayout = run .sumOfLayout;
+      valid = run .good;
+      clearExactly = (run .clearMeansZero, run .zeroMeansClear);
+      spentUsesBudget = run .spentMeansBudget;
+      madeWithinBudget = run .madeWithinBudget;
+      movesAtMostMade = run .movesAtMostMade;
+    }
+  where
+    d : Descent
+    d = descend j ws budget v
+
+    run : Ran (weightedSum j ws) (trials j) (ValidLayout j) (Quiet j ws) v budget d
+    run = descent-ran j ws budget v l h

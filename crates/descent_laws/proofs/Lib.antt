@@ -1,0 +1,12 @@
+pub mod Claims
+pub mod Sums
+pub mod Search
+pub mod Run
+pub mod Trials
+pub mod Order
+pub mod Descent
+pub mod Guided
+pub mod Demand3
+pub mod Start
+pub mod Lent
+pub mod Bounds

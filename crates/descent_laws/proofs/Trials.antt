@@ -1,0 +1,128 @@
+-- Document 01, 'Descent and guidance', trials: the list of trials has every piece in every turn allowed to it and both directions, and
+-- nothing else. Assumes nothing.
+use mathlib.Core.Bool.{Bool, true, false}
+use mathlib.Core.Path.{_≡_, refl, sym, subst}
+use mathlib.Core.Logic.{⊎-elim}
+use mathlib.Core.List.{List, [], _∷_, _++_, List·Memᴰ, List·Memᴰ·head, List·Memᴰ·tail, List·Memᴰ·cases-cons, List·Memᴰ·append-cases, List·Memᴰ·eq-of-singleton, List·Memᴰ·not-nil, Memᴰ·append-left, Memᴰ·append-right}
+use Prim.Native.Nat.{ℕ, zero, suc, _+_, _<_, _≤_}
+use native.Mathlib.Nat.{eq-or-lt-of-le}
+use native.Mathlib.Omega.{arith}
+use lib.ListN.{length, getD}
+use Rattle.model.specs.Layout.{Job, allowed}
+use Rattle.model.specs.Descent.{Trial, turnTrials, pieceTrials, trialsFrom, trials}
+use Rattle.model.specs.declared.Turn.{Turn}
+use Rattle.model.specs.declared.Turn.the-variants.{Zero, Quarter, Half, ThreeQuarters}
+use Rattle.model.specs.declared.Direction.{Direction}
+use Rattle.model.specs.declared.Direction.the-variants.{Horizontal, Vertical}
+
+-- ── members and their numbers ──
+
+-- an element of a list stands at some number
+pub record Position {A : Type 0} (a d : A) (l : List A) : Type 0 where
+  pub number : ℕ
+  pub below : number < length l
+  pub there : getD l number d ≡ a
+
+-- where an element stands
+pub position : {A : Type 0} {a : A} (d : A) (l : List A) → List·Memᴰ a l → Position a d l
+position d [] m = absurd (List·Memᴰ·not-nil m)
+position {A} {a} d (x ∷ l) m =
+    ⊎-elim (λ (e : a ≡ x). record { number = 0; below = omega arith; there = sym e })
+    (λ (m′ : List·Memᴰ a l). let r = position d l m′ in record { number = suc (r .number); below = (let h = r .below in omega arith); there = r .there })
+    (List·Memᴰ·cases-cons m)
+
+-- what stands at a number is an element
+pub at-mem : {A : Type 0} (d : A) (l : List A) (k : ℕ) → k < length l → List·Memᴰ (getD l k d) l
+at-mem d [] k h = absurd (omega arith)
+at-mem d (x ∷ l) zero h = List·Memᴰ·head refl
+at-mem d (x ∷ l) (suc k) h = List·Memᴰ·tail (at-mem d l k (omega arith))
+
+-- ── trials ──
+
+-- the trial of a piece, a turn and a direction
+abbrev pub trialOf : ℕ → Turn → Direction → Trial
+trialOf i t d = record { piece = i; turn = t; direction = d }
+
+-- both directions are there
+two-mem : (i : ℕ) (t : Turn) (d : Direction) → List·Memᴰ (trialOf i t d) (trialOf i t Horizontal ∷ trialOf i t Vertical ∷ [])
+two-mem i t Horizontal = List·Memᴰ·head refl
+two-mem i t Vertical = List·Memᴰ·tail (List·Memᴰ·head refl)
+
+-- a turn that is allowed has both its trials
+turn-mem : (j : Job) (i : ℕ) (t : Turn) (d : Direction) → allowed j i t ≡ true → List·Memᴰ (trialOf i t d) (turnTrials j i t)
+unfolding turnTrials
+turn-mem j i t d h = rw (h, turnTrials) (two-mem i t d)
+
+-- a turn's trials are among the piece's
+piece-mem : (j : Job) (i : ℕ) (t : Turn) (k : Trial) → List·Memᴰ k (turnTrials j i t) → List·Memᴰ k (pieceTrials j i)
+unfolding pieceTrials
+piece-mem j i Zero k m = Memᴰ·append-left _ (Memᴰ·append-left _ (Memᴰ·append-left _ m))
+piece-mem j i Quarter k m = Memᴰ·append-left _ (Memᴰ·append-left _ (Memᴰ·append-right (turnTrials j i Zero) m))
+piece-mem j i Half k m = Memᴰ·append-left _ (Memᴰ·append-right (turnTrials j i Zero ++ turnTrials j i Quarter) m)
+piece-mem j i ThreeQuarters k m = Memᴰ·append-right (turnTrials j i Zero ++ turnTrials j i Quarter ++ turnTrials j i Half) m
+
+-- a piece's trials are among those of the pieces from i on
+from-mem : (j : Job) (i left a : ℕ) (k : Trial) → i ≤ a → a < i + left → List·Memᴰ k (pieceTrials j a) → List·Memᴰ k (trialsFrom j i left)
+unfolding trialsFrom
+from-mem j i zero a k l h m = absurd (omega arith)
+from-mem j i (suc left) a k l h m =
+    ⊎-elim (λ (e : i ≡ a). Memᴰ·append-left _ (subst (λ (b : ℕ). List·Memᴰ k (pieceTrials j b)) (sym e) m))
+    (λ (g : i < a). Memᴰ·append-right (pieceTrials j i) (from-mem j (suc i) left a k g (omega arith) m)) (eq-or-lt-of-le l)
+
+-- every piece in every turn allowed to it and either direction is a trial
+pub trial-mem : (j : Job) (i : ℕ) (t : Turn) (d : Direction) → i < j .count → allowed j i t ≡ true → List·Memᴰ (trialOf i t d) (trials j)
+unfolding trials
+trial-mem j i t d l h = from-mem j 0 (j .count) i _ (omega arith) (omega arith) (piece-mem j i t _ (turn-mem j i t d h))
+
+-- a trial's piece lies between the two numbers, and its turn is allowed to it
+pub record Proper (j : Job) (i n : ℕ) (k : Trial) : Type 0 where
+  pub from : i ≤ k .piece
+  pub below : k .piece < n
+  pub turnAllowed : allowed j (k .piece) (k .turn) ≡ true
+
+-- the trial of an allowed turn
+proper-is : (j : Job) (i : ℕ) (t : Turn) (d : Direction) (k : Trial) → allowed j i t ≡ true → k ≡ trialOf i t d → Proper j i (suc i) k
+proper-is j i t d k h e = rw e (record { from = omega arith; below = omega arith; turnAllowed = h })
+
+-- by the test for an allowed turn
+proper-two : (j : Job) (i : ℕ) (t : Turn) (b : Bool) (k : Trial) → allowed j i t ≡ b
+    → List·Memᴰ k (elim b as (λ _. List Trial) [ true ↦ trialOf i t Horizontal ∷ trialOf i t Vertical ∷ [] | false ↦ [] ]) → Proper j i (suc i) k
+proper-two j i t true k h m =
+    ⊎-elim (proper-is j i t Horizontal k h) (λ m′. proper-is j i t Vertical k h (List·Memᴰ·eq-of-singleton m′)) (List·Memᴰ·cases-cons m)
+proper-two j i t false k h m = absurd (List·Memᴰ·not-nil m)
+
+-- the trials of a turn
+proper-turn : (j : Job) (i : ℕ) (t : Turn) (k : Trial) → List·Memᴰ k (turnTrials j i t) → Proper j i (suc i) k
+unfolding turnTrials
+proper-turn j i t k m = proper-two j i t (allowed j i t) k refl m
+
+-- an element of two lists in a row, by cases
+either : {A C : Type 0} {a : A} (s t : List A) → (List·Memᴰ a s → C) → (List·Memᴰ a t → C) → List·Memᴰ a (s ++ t) → C
+either s t f g m = ⊎-elim f g (List·Memᴰ·append-cases s m)
+
+-- the trials of a piece
+proper-piece : (j : Job) (i : ℕ) (k : Trial) → List·Memᴰ k (pieceTrials j i) → Proper j i (suc i) k
+unfolding pieceTrials
+proper-piece j i k =
+    either (turnTrials j i Zero ++ turnTrials j i Quarter ++ turnTrials j i Half) _
+    (either (turnTrials j i Zero ++ turnTrials j i Quarter) _
+    (either (turnTrials j i Zero) _ (proper-turn j i Zero k) (proper-turn j i Quarter k)) (proper-turn j i Half k))
+    (proper-turn j i ThreeQuarters k)
+
+-- the trials of the pieces from i on
+proper-from : (j : Job) (i left : ℕ) (k : Trial) → List·Memᴰ k (trialsFrom j i left) → Proper j i (i + left) k
+unfolding trialsFrom
+proper-from j i zero k m = absurd (List·Memᴰ·not-nil m)
+proper-from j i (suc left) k m =
+    either (pieceTrials j i) _
+    (λ m′. let r = proper-piece j i k m′ in record { from = r .from; below = (let l = r .below in omega arith); turnAllowed = r .turnAllowed })
+    (λ m′. let r = proper-from j (suc i) left k m′ in
+    record { from = (let l = r .from in omega arith); below = (let l = r .below in omega arith); turnAllowed = r .turnAllowed })
+    m
+
+-- every trial is of a piece of the job in a turn allowed to it
+pub mem-trial : (j : Job) (k : Trial) → List·Memᴰ k (trials j) → Proper j 0 (j .count) k
+unfolding trials
+mem-trial j k m =
+    let r = proper-from j 0 (j .count) k m in
+    record { from = r .from; below = (let l = r .below in omega arith); turnAllowed = r .turnAllowed }

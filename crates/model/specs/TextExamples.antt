@@ -1,0 +1,189 @@
+-- Document 01, 'Job text', 'Start, layout text, sheet' and 'When a call says no': a job and a layout that are read and written,
+-- and damaged texts that are refused, one test that the checker computes. Assumes nothing.
+use mathlib.Core.Bool.{Bool, true, _&&_}
+use mathlib.Core.List.{List, [], _∷_, _++_}
+use mathlib.Core.Path.{_≡_, refl}
+use Prim.Native.Nat.{ℕ}
+use Prim.Native.String.{String, _++_ as _++ᵗ_}
+use Rattle.model.specs.Piece.{tight, allows}
+use Rattle.model.specs.Layout.{Job, Layout, inside}
+use Rattle.model.specs.Refusal.{Outcome, refused, given, unless}
+use Rattle.model.specs.Lent.{Lent, jobOf, pixelStart}
+use Rattle.model.specs.Text.{bytes, standsAt, digitsFrom, numberAt, fieldAt, fieldsAt, decimal, fieldsText}
+use Rattle.model.specs.JobText.{PieceLine, jobLine, pieceLine, markAt, marksAt, rowAt, rowsAt, pieceAt, piecesAt, readJob}
+use Rattle.model.specs.Buffer.{sameNumbers, turnOfDegrees, isTurn, turnOf, entryOf}
+use Rattle.model.specs.LayoutText.{placementsText, layoutText, layoutLine, placementLine, placementsAt, readLayout}
+use Rattle.model.specs.Start.{start, stackAll, fallingOrder, insert}
+
+-- ── answers written out as numbers ──
+
+-- lists of numbers one after the other
+joined : List (List ℕ) → List ℕ
+joined [] = []
+joined (ks ∷ kss) = ks ++ joined kss
+
+-- an outcome written out: 0 and the refusal, or 1 and what is given
+flat : {A : Type 0} → (A → List ℕ) → Outcome A → List ℕ
+flat f (refused r) = 0 ∷ r .number ∷ r .first ∷ r .second ∷ []
+flat f (given a) = 1 ∷ f a
+
+-- a job written out: W, L, n, the table, the pixel bytes
+flatLent : Lent → List ℕ
+flatLent k = k .rows ∷ k .columns ∷ k .count ∷ joined (k .table) ++ k .pixels
+
+-- a piece line written out: i, l, w, o, the position after it
+flatPiece : PieceLine → List ℕ
+flatPiece h = h .number ∷ h .columns ∷ h .rows ∷ h .turns ∷ h .next ∷ []
+
+-- a layout written out: degrees, x, y of each piece
+flatLayout : Layout → List ℕ
+flatLayout [] = []
+flatLayout (p ∷ v) = entryOf p ++ flatLayout v
+
+-- ── reading a job ──
+
+-- two full 2 × 2 pieces, o = 1
+squares : String
+squares = "piece,0,2,2,1\nrow,##\nrow,##\npiece,1,2,2,1\nrow,##\nrow,##\n"
+
+-- the example: they lie on a sheet of 2 rows and 4 columns
+example : Lent
+example =
+    record {
+      rows = 2;
+      columns = 4;
+      count = 2;
+      table = (2 ∷ 2 ∷ 1 ∷ []) ∷ (2 ∷ 2 ∷ 1 ∷ []) ∷ [];
+      pixels = 1 ∷ 1 ∷ 1 ∷ 1 ∷ 1 ∷ 1 ∷ 1 ∷ 1 ∷ [];
+    }
+
+-- what reading comes to, with buffers of the given lengths
+readWith : ℕ → ℕ → String → List ℕ
+readWith tableLength pixelsLength text = flat flatLent (readJob (bytes text) tableLength pixelsLength)
+
+-- the text is refused with the number at the line, whatever the buffers
+refuses : String → ℕ → ℕ → Bool
+refuses text number line = sameNumbers (readWith 64 65536 text) (0 ∷ number ∷ line ∷ 0 ∷ []) && sameNumbers (readWith 0 0 text) (0 ∷ number ∷ line ∷ 0 ∷ [])
+
+-- the example is read with buffers that just suffice and with longer ones; rows stand bottom first; shorter ones are refused
+reads : Bool
+reads =
+    sameNumbers (readWith 2 8 ("job,1,2,4,2\n" ++ᵗ squares)) (1 ∷ flatLent example)
+    && sameNumbers (readWith 64 65536 ("job,1,2,4,2\n" ++ᵗ squares)) (1 ∷ flatLent example)
+    && sameNumbers (readWith 1 6 "job,1,12,34,1\npiece,0,3,2,15\nrow,##.\nrow,#.#\n")
+    (1 ∷ 12 ∷ 34 ∷ 1 ∷ 3 ∷ 2 ∷ 15 ∷ 1 ∷ 1 ∷ 0 ∷ 1 ∷ 0 ∷ 1 ∷ [])
+    && sameNumbers (readWith 1 8 ("job,1,2,4,2\n" ++ᵗ squares)) (0 ∷ 7 ∷ 0 ∷ 0 ∷ [])
+    && sameNumbers (readWith 2 7 ("job,1,2,4,2\n" ++ᵗ squares)) (0 ∷ 7 ∷ 0 ∷ 0 ∷ [])
+
+-- wrong form of the job line: no text, no line end, another word, version 2, a leading zero, six digits, a sign, no number, a field
+-- too few or too many, a byte before the line end, a byte 0
+jobLineForm : Bool
+jobLineForm =
+    refuses "" 1 1 && refuses "job,1,2,4,2" 1 1 && refuses "Job,1,2,4,2\n" 1 1 && refuses "job,2,2,4,2\n" 1 1
+    && refuses "job,1,02,4,2\n" 1 1
+    && refuses "job,1,00,4,2\n" 1 1
+    && refuses "job,1,2,123456,2\n" 1 1
+    && refuses "job,1,2,-4,2\n" 1 1
+    && refuses "job,1,2,,2\n" 1 1
+    && refuses "job,1,2,4\n" 1 1
+    && refuses "job,1,2,4,2,1\n" 1 1
+    && refuses "job,1,2,4,2\r\n" 1 1
+    && refuses "job,1,2,4,2\0\n" 1 1
+
+-- job lines out of range, a sheet too large, and form before range
+jobLineRange : Bool
+jobLineRange =
+    refuses "job,1,0,4,2\n" 2 1 && refuses "job,1,513,4,2\n" 2 1 && refuses "job,1,1,4097,2\n" 2 1 && refuses "job,1,2,99999,2\n" 2 1
+    && refuses "job,1,2,4,0\n" 2 1
+    && refuses "job,1,2,4,65\n" 2 1
+    && refuses "job,1,17,4096,2\n" 3 1
+    && refuses "job,1,512,4096,65\n" 2 1
+    && refuses "job,1,0,4,x\n" 1 1
+
+-- piece lines: form, number, sides, sum of turns, larger than the sheet, and their order
+pieceLines : Bool
+pieceLines =
+    refuses "job,1,2,4,2\n" 1 2 && refuses "job,1,2,4,2\npiece,0,2,2\n" 1 2 && refuses "job,1,2,4,2\npiece,1,2,2,1\n" 2 2
+    && refuses "job,1,2,4,2\npiece,0,0,2,1\n" 2 2
+    && refuses "job,1,2,4,2\npiece,0,256,2,1\n" 2 2
+    && refuses "job,1,2,4,2\npiece,0,2,2,2\n" 2 2
+    && refuses "job,1,2,4,2\npiece,0,2,2,17\n" 2 2
+    && refuses "job,1,2,4,2\npiece,0,5,2,1\n" 6 2
+    && refuses "job,1,2,4,2\npiece,0,2,3,1\n" 6 2
+    && refuses "job,1,2,4,2\npiece,0,5,2,2\n" 2 2
+    && refuses "job,1,2,4,2\npiece,0,5,2,2" 1 2
+
+-- the line of piece 1 after boxes of the given area, on line 9
+secondPiece : ℕ → List ℕ
+secondPiece area =
+    flat flatPiece (pieceLine (bytes "piece,1,2,2,1\n") (record { rows = 2; columns = 4; count = 2; next = 0 }) 1 area 0 9)
+
+-- box areas so far: up to 65,536, and above
+boxAreas : Bool
+boxAreas = sameNumbers (secondPiece 65532) (1 ∷ 1 ∷ 2 ∷ 2 ∷ 1 ∷ 14 ∷ []) && sameNumbers (secondPiece 65533) (0 ∷ 4 ∷ 9 ∷ 0 ∷ [])
+
+-- row lines: too few or too many marks, another mark, a missing row, a row without its line end, a loose box at its last row, and
+-- anything after the last line
+rowLines : Bool
+rowLines =
+    refuses "job,1,2,4,2\npiece,0,2,2,1\nrow,#\n" 1 3 && refuses "job,1,2,4,2\npiece,0,2,2,1\nrow,###\n" 1 3
+    && refuses "job,1,2,4,2\npiece,0,2,2,1\nrow,#o\n" 1 3
+    && refuses "job,1,2,4,2\npiece,0,2,2,1\nrow,##\npiece,1,2,2,1\n" 1 4
+    && refuses "job,1,2,4,1\npiece,0,2,2,1\nrow,##\nrow,##" 1 4
+    && refuses "job,1,2,4,1\npiece,0,2,2,1\nrow,#.\nrow,#." 1 4
+    && refuses "job,1,2,4,1\npiece,0,2,2,1\nrow,#.\nrow,#.\n" 5 4
+    && refuses "job,1,2,4,1\npiece,0,2,2,1\nrow,##\nrow,..\nrow,##\n" 5 4
+    && refuses ("job,1,2,4,1\n" ++ᵗ squares) 1 5
+    && refuses ("job,1,2,4,2\n" ++ᵗ squares ++ᵗ "\n") 1 8
+    && refuses ("job,1,2,4,2\n" ++ᵗ squares ++ᵗ "x") 1 8
+    && refuses ("job,1,2,4,3\n" ++ᵗ squares) 1 8
+
+-- ── the layout text ──
+
+-- what reading a layout of the example comes to, with a buffer of the given length
+layoutWith : ℕ → String → List ℕ
+layoutWith layoutLength text = flat flatLayout (readLayout (jobOf example) (bytes text) layoutLength)
+
+-- the text is refused with the number at the line, whatever the buffer
+layoutRefuses : String → ℕ → ℕ → Bool
+layoutRefuses text number line =
+    sameNumbers (layoutWith 2 text) (0 ∷ number ∷ line ∷ 0 ∷ []) && sameNumbers (layoutWith 3 text) (0 ∷ number ∷ line ∷ 0 ∷ [])
+
+-- the text of the example's start layout
+startText : String
+startText = "layout,1,2,4,2\nat,0,0,0,0\nat,1,0,2,0\n"
+
+-- it is written byte for byte and read back; a buffer of another length is refused
+layoutWritten : Bool
+layoutWritten =
+    sameNumbers (layoutText (jobOf example) (start (jobOf example))) (bytes startText)
+    && sameNumbers (layoutWith 2 startText) (1 ∷ 0 ∷ 0 ∷ 0 ∷ 0 ∷ 2 ∷ 0 ∷ [])
+    && sameNumbers (layoutWith 1 startText) (0 ∷ 7 ∷ 0 ∷ 0 ∷ [])
+    && sameNumbers (layoutWith 3 startText) (0 ∷ 7 ∷ 0 ∷ 0 ∷ [])
+
+-- damaged layout texts: form, numbers unlike the job's, degrees of no turn, a turn not allowed, a placement outside, a missing and
+-- an extra line, and the order of causes
+layoutDamaged : Bool
+layoutDamaged =
+    layoutRefuses "" 1 1 && layoutRefuses "layout,2,2,4,2\n" 1 1 && layoutRefuses "layout,1,2,5,2\n" 2 1
+    && layoutRefuses "layout,1,2,4,2\nat,0,0,0\n" 1 2
+    && layoutRefuses "layout,1,2,4,2\nat,1,0,0,0\n" 2 2
+    && layoutRefuses "layout,1,2,4,2\nat,0,45,0,0\n" 2 2
+    && layoutRefuses "layout,1,2,4,2\nat,0,90,3,0\n" 9 2
+    && layoutRefuses "layout,1,2,4,2\nat,0,0,3,0\n" 10 2
+    && layoutRefuses "layout,1,2,4,2\nat,0,0,99999,0\n" 10 2
+    && layoutRefuses "layout,1,2,4,2\nat,0,0,100000,0\n" 1 2
+    && layoutRefuses "layout,1,2,4,2\nat,0,0,0,1\n" 10 2
+    && layoutRefuses "layout,1,2,4,2\nat,0,0,0,0\n" 1 3
+    && layoutRefuses "layout,1,2,4,2\nat,0,0,0,0\nat,1,0,2,0" 1 3
+    && layoutRefuses (startText ++ᵗ "at,2,0,0,0\n") 1 4
+
+-- all of them
+pub textExamples : Bool
+textExamples =
+    reads && jobLineForm && jobLineRange && pieceLines && boxAreas && rowLines && layoutWritten && layoutDamaged
+
+-- the texts are read, written and refused as document 01 says
+pub text-examples-hold : textExamples ≡ true
+unfolding textExamples reads jobLineForm jobLineRange pieceLines boxAreas rowLines layoutWritten layoutDamaged joined flat flatLent flatPiece flatLayout squares example readWith refuses secondPiece layoutWith layoutRefuses startText sameNumbers tight allows inside unless jobOf pixelStart standsAt digitsFrom numberAt fieldAt fieldsAt decimal fieldsText jobLine pieceLine markAt marksAt rowAt rowsAt pieceAt piecesAt readJob turnOfDegrees isTurn turnOf placementsText layoutText layoutLine placementLine placementsAt readLayout start stackAll fallingOrder insert
+text-examples-hold = refl

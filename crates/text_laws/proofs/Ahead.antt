@@ -1,0 +1,59 @@
+-- What lies ahead of a position in a text. A reader that stands in front of a word, a byte or an end finds it, and after it the rest
+-- lies ahead. Readers look at single bytes of the whole text; these laws let a proof speak of the rest of the text instead.
+-- Assumes nothing.
+use mathlib.Core.Bool.{true}
+use mathlib.Core.List.{List, [], _∷_, _++_}
+use mathlib.Core.Path.{_≡_, refl, sym, ap, _∙_}
+use Prim.Native.Nat.{ℕ, suc, _+_}
+use native.Mathlib.Nat.{add-zero}
+use native.Mathlib.Numerals.{add-one}
+use native.Mathlib.Omega.{arith}
+use lib.ListN.{length, getD, drop, length-append}
+use lib.Seq.{getD-drop, drop-drop, drop-append-seam}
+use borrow.Author.Tests.{eq-eqb}
+use Rattle.model.specs.Text.{byte, Reading, standsAt, after}
+
+-- from position p on, the text is just the rest
+pub record Ahead (text : List ℕ) (p : ℕ) (rest : List ℕ) : Type 0 where
+  pub lies : drop p text ≡ rest
+  pub fits : p + length rest ≡ length text
+
+-- at the start of a text the whole text lies ahead
+pub ahead-start : (text : List ℕ) → Ahead text 0 text
+ahead-start text = record { lies = refl; fits = omega arith }
+
+-- behind what comes before, the rest lies ahead
+pub ahead-after : (before rest : List ℕ) → Ahead (before ++ rest) (length before) rest
+ahead-after before rest = record { lies = drop-append-seam before rest; fits = sym (length-append before rest) }
+
+-- the byte at the position is the first of what lies ahead
+pub ahead-byte : {text : List ℕ} {p c : ℕ} {rest : List ℕ} → Ahead text p (c ∷ rest) → byte text p ≡ c
+ahead-byte {text} {p} {c} {rest} a =
+    ap (λ (q : ℕ). getD text q 0) (sym (add-zero p)) ∙ sym (getD-drop p text 0 0) ∙ ap (λ (l : List ℕ). getD l 0 0) (a .lies)
+
+-- after a word lies what followed it
+pub ahead-word : {text : List ℕ} {p : ℕ} (word : List ℕ) {rest : List ℕ} → Ahead text p (word ++ rest) → Ahead text (p + length word) rest
+ahead-word {text} {p} word {rest} a =
+    record {
+      lies = sym (drop-drop (length word) p text) ∙ ap (λ (l : List ℕ). drop (length word) l) (a .lies) ∙ drop-append-seam word rest;
+      fits = let h = a .fits in omega (arith, length-append word rest);
+    }
+
+-- after one byte
+pub ahead-next : {text : List ℕ} {p c : ℕ} {rest : List ℕ} → Ahead text p (c ∷ rest) → Ahead text (suc p) rest
+ahead-next {text} {p} {c} {rest} a = rw add-one at (ahead-word (c ∷ []) a)
+
+-- a word that lies ahead stands at the position
+pub stands : {text : List ℕ} {p : ℕ} (word rest : List ℕ) → Ahead text p (word ++ rest) → standsAt word text p ≡ true
+unfolding standsAt
+stands [] rest a = refl
+stands {text} {p} (c ∷ word) rest a = rw (eq-eqb (byte text p) c (ahead-byte a), standsAt) (stands word rest (ahead-next a))
+
+-- reading goes on after a word that lies ahead
+pub after-ahead : {A : Type 0} {text : List ℕ} {p : ℕ} (word rest : List ℕ) (more : ℕ → Reading A)
+    → Ahead text p (word ++ rest) → after word text p more ≡ more (p + length word)
+after-ahead {A} {text} {p} word rest more a = rw (stands word rest a, after)
+
+-- where nothing lies ahead the text ends
+pub ahead-end : {text : List ℕ} {p : ℕ} → Ahead text p [] → p ≡ length text
+ahead-end {text} {p} a = let h = a .fits in omega arith

@@ -1,0 +1,319 @@
+-- Document 01, 'When a call says no', number 8: a lent job passes the check only if it is one that reading gives. Its text, written
+-- line by line, is read back as the job with just the entries and pixel bytes that it needs. Assumes nothing.
+use mathlib.Core.Bool.{Bool, true, not, _&&_, _||_}
+use mathlib.Core.List.{List, [], _∷_, _++_, map, append-assoc}
+use mathlib.Core.Path.{_≡_, refl, sym, ap, ap₂, _∙_}
+use Prim.Native.Nat.{ℕ, zero, suc, _+_, _-_, _*_, _%_, _≤_, _<_}
+use native.Mathlib.Nat.{add-zero, zero-add, suc-mul, zero-mul, mul-comm}
+use native.Mathlib.Omega.{arith}
+use lib.Dec.{eqb, leb}
+use lib.ListN.{length, getD, take}
+use lib.Seq.{length-take-le}
+use borrow.Author.Tests.{leb-true, le-ltb, eq-eqb}
+use Rattle.model.specs.Piece.{tight}
+use Rattle.model.specs.Refusal.{given}
+use Rattle.model.specs.Lent.{Lent, rowBound, columnBound, pieceBound, sideBound, turnsBound, areaBound, upTo, entryColumns, entryRows, entryTurns, pixelStart, entryInRange, entryFits, lentShape, sheetInRange, lentWell}
+use Rattle.model.specs.Text.{Reading, got, onward, after, lineEnd, threeFields, fourFields, lineAt, lineText, formed, andThen}
+use Rattle.model.specs.JobText.{jobWord, pieceWord, rowWord, JobLine, jobLineCauses, jobLine, PieceLine, pieceLineCauses, pieceLine, markAt, marksAt, rowAt, rowsAt, boxShape, PieceText, asPieceText, pieceAt, noPieces, piecesAt, readJob}
+use Rattle.model.proofs.Tests.{and-left, and-right}
+use Rattle.text_laws.proofs.Ahead.{Ahead, ahead-start, ahead-byte, ahead-next, ahead-word, after-ahead, ahead-end}
+use Rattle.text_laws.proofs.Fields.{Reads, Gives, Writable, line-ahead}
+use Rattle.text_laws.proofs.Outcomes.{NoCause, unless-given}
+use Rattle.text_laws.proofs.Store.{start-grows, start-end, in-box, tight-agree}
+use Rattle.text_laws.proofs.LentFacts.{Facts, facts}
+use Rattle.text_laws.proofs.JobRead.{AllBits}
+use Rattle.text_laws.proofs.JobWriting.{part, part-length, part-at, part-append, part-front, mark, rowText, rowsText, entryNumbers, pieceText, piecesText, jobText, entriesFrom, pixelsFrom, exactly}
+
+-- ── rows ──
+
+-- a mark that lies ahead
+mark-ahead : {text : List ℕ} {p : ℕ} (b : ℕ) (rest : List ℕ) → b ≤ 1 → Ahead text p (mark b ∷ rest) → markAt text p ≡ got b (suc p)
+unfolding markAt
+mark-ahead zero rest h a = rw (ahead-byte a, markAt) (rw (ahead-byte a))
+mark-ahead (suc zero) rest h a = rw (ahead-byte a, markAt)
+mark-ahead (suc (suc b)) rest h a = absurd (omega arith)
+
+-- marks that lie ahead
+marks-ahead : {text : List ℕ} {p : ℕ} (bs rest : List ℕ) → AllBits bs → Ahead text p (map mark bs ++ rest)
+    → Reads (marksAt text (length bs) p) bs text rest
+unfolding marksAt
+marks-ahead {text} {p} [] rest h a = record { next = p; reads = refl; ahead = a }
+marks-ahead {text} {p} (b ∷ bs) rest h a =
+    let m : markAt text p ≡ got b (suc p) = mark-ahead b (map mark bs ++ rest) (h .0) a in
+    let r : Reads (marksAt text (length bs) (suc p)) bs text rest = marks-ahead bs rest (h .1) (ahead-next a) in
+    record { next = r .next; reads = rw (m, r .reads, onward); ahead = r .ahead }
+
+-- a row line that lies ahead
+row-ahead : {text : List ℕ} {p : ℕ} (bs rest : List ℕ) → AllBits bs → Ahead text p (rowText bs ++ rest)
+    → Reads (rowAt text (length bs) p) bs text rest
+unfolding rowAt
+row-ahead {text} {p} bs rest h a =
+    let a′ : Ahead text p (rowWord ++ (map mark bs ++ (lineEnd ∷ rest))) = simp append-assoc at a in
+    let r : Reads (marksAt text (length bs) (p + length rowWord)) bs text (lineEnd ∷ rest) =
+    marks-ahead bs (lineEnd ∷ rest) h (ahead-word rowWord a′) in
+    let ending : List ℕ → ℕ → Reading (List ℕ) = λ ms q. after (lineEnd ∷ []) text q (λ n. got ms n) in
+    record {
+      next = r .next + 1;
+      reads =
+          after-ahead rowWord (map mark bs ++ (lineEnd ∷ rest)) (λ q. onward (marksAt text (length bs) q) ending) a′
+          ∙ rw (r .reads, onward) (after-ahead (lineEnd ∷ []) rest (λ n. got bs n) (r .ahead));
+      ahead = ahead-word (lineEnd ∷ []) (r .ahead);
+    }
+
+-- bytes of a part of the store
+part-bits : (ks : List ℕ) (s n : ℕ) → ((i : ℕ) → i < s + n → getD ks i 0 ≤ 1) → AllBits (part ks s n)
+part-bits ks s zero h = tt
+part-bits ks s (suc n) h = (h s (omega arith), part-bits ks (suc s) n (λ i l. h i (omega arith)))
+
+-- row lines that lie ahead
+rows-ahead : {text : List ℕ} {p : ℕ} (pixels : List ℕ) (l s left line : ℕ) (rest : List ℕ)
+    → ((i : ℕ) → i < s + left * l → getD pixels i 0 ≤ 1) → Ahead text p (rowsText pixels l s left ++ rest)
+    → Gives (rowsAt text l left p line) (λ n. record { pixels = part pixels s (left * l); next = n }) text rest
+unfolding rowsAt rowsText
+rows-ahead {text} {p} pixels l s zero line rest h a =
+    record { next = p; gives = rw zero-mul; ahead = a }
+rows-ahead {text} {p} pixels l s (suc left) line rest h a =
+    let a′ : Ahead text p (rowText (part pixels s l) ++ (rowsText pixels l (s + l) left ++ rest)) =
+    rw (append-assoc (rowText (part pixels s l)) (rowsText pixels l (s + l) left) rest) at a in
+    let size : suc left * l ≡ l + left * l = omega (arith, suc-mul left l) in
+    let f : Reads (rowAt text (length (part pixels s l)) p) (part pixels s l) text (rowsText pixels l (s + l) left ++ rest) =
+    row-ahead (part pixels s l) (rowsText pixels l (s + l) left ++ rest) (part-bits pixels s l (λ i b. h i (omega arith))) a′ in
+    let g : Gives (rowsAt text l left (f .next) (suc line)) (λ n. record { pixels = part pixels (s + l) (left * l); next = n }) text rest =
+    rows-ahead pixels l (s + l) left (suc line) rest (λ i b. h i (omega arith)) (f .ahead) in
+    let reads : rowAt text l p ≡ got (part pixels s l) (f .next) = rw part-length at (f .reads) in
+    let whole : part pixels s (suc left * l) ≡ part pixels s l ++ part pixels (s + l) (left * l) =
+    ap (λ (n : ℕ). part pixels s n) size ∙ part-append pixels s l (left * l) in
+    record { next = g .next; gives = rw (reads, g .gives, whole, formed, andThen); ahead = g .ahead }
+
+-- from 1 to the bound, as numbers
+pub record Within (bound k : ℕ) : Type 0 where
+  pub some : 0 < k
+  pub most : k ≤ bound
+
+-- the test as numbers
+within : (bound k : ℕ) → upTo bound k ≡ true → Within bound k
+within bound k e = record { some = leb-true 1 k (and-left (leb 1 k) (leb k bound) e); most = leb-true k bound (and-right (leb 1 k) (leb k bound) e) }
+
+-- ── pieces ──
+
+-- a first test in front of four
+and-front : {a : Bool} (b c d e : Bool) → a ≡ true → (b && c && d && e) ≡ true → (a && b && c && d && e) ≡ true
+and-front {a} b c d e p q = rw p q
+
+-- what the job line says of the sheet, with the position after it
+abbrev sheetLine : Lent → ℕ → JobLine
+sheetLine k next = record { rows = k .rows; columns = k .columns; count = k .count; next = next }
+
+-- what the line of piece i says
+abbrev pieceNumbers : Lent → ℕ → ℕ → PieceLine
+pieceNumbers k i next =
+    record { number = i; columns = entryColumns (k .table) i; rows = entryRows (k .table) i; turns = entryTurns (k .table) i; next = next }
+
+-- the pixel bytes of piece i
+abbrev piecePixels : Lent → ℕ → List ℕ
+piecePixels k i = part (k .pixels) (pixelStart (k .table) i) (entryRows (k .table) i * entryColumns (k .table) i)
+
+-- what the lines of piece i say
+abbrev pieceContent : Lent → ℕ → ℕ → PieceText
+pieceContent k i next = asPieceText (pieceNumbers k i next) (record { pixels = piecePixels k i; next = next })
+
+module _ (k : Lent) (facts : Facts k) (i : ℕ) (below : i < k .count) where
+  -- the sides and the sum of turns of piece i
+  sides-within : Within sideBound (entryColumns (k .table) i) × Within sideBound (entryRows (k .table) i) × (entryTurns (k .table) i ≤ turnsBound)
+  unfolding entryInRange
+  sides-within =
+      let l : ℕ = entryColumns (k .table) i in
+      let w : ℕ = entryRows (k .table) i in
+      let o : ℕ = entryTurns (k .table) i in
+      let b : Bool = upTo sideBound l in
+      let c : Bool = upTo sideBound w in
+      let d : Bool = eqb (o % 2) 1 in
+      let t : Bool = leb o turnsBound in
+      let e : (b && c && d && t) ≡ true = facts .ranges i below in
+      let bc : (b && c) ≡ true = and-left (b && c) d (and-left (b && c && d) t e) in
+      (within sideBound l (and-left b c bc), within sideBound w (and-right b c bc), leb-true o turnsBound (and-right (b && c && d) t e))
+
+  -- the box fits into the sheet
+  box-fits : (entryColumns (k .table) i ≤ k .columns) × (entryRows (k .table) i ≤ k .rows)
+  unfolding entryFits
+  box-fits =
+      let l : ℕ = entryColumns (k .table) i in
+      let w : ℕ = entryRows (k .table) i in
+      let e : (leb l (k .columns) && leb w (k .rows)) ≡ true = facts .fits i below in
+      (leb-true l (k .columns) (and-left (leb l (k .columns)) (leb w (k .rows)) e), leb-true w (k .rows) (and-right (leb l (k .columns)) (leb w (k .rows)) e))
+
+  -- its bytes are 0 or 1
+  box-bits : (m : ℕ) → m < pixelStart (k .table) i + entryRows (k .table) i * entryColumns (k .table) i → getD (k .pixels) m 0 ≤ 1
+  box-bits m l =
+      facts .bits m (let e = start-end (k .table) i (k .count) below in let c = mul-comm (entryRows (k .table) i) (entryColumns (k .table) i) in omega arith)
+
+  -- its box is tight
+  box-tight : tight (boxShape (entryColumns (k .table) i) (entryRows (k .table) i) (piecePixels k i)) ≡ true
+  box-tight =
+      let l : ℕ = entryColumns (k .table) i in
+      let w : ℕ = entryRows (k .table) i in
+      tight-agree (boxShape l w (piecePixels k i)) (lentShape k i)
+      (record {
+        columns = refl;
+        rows = refl;
+        wide = sides-within .0 .some;
+        high = sides-within .1 .some;
+        has = λ x y hx hy. ap (λ (b : ℕ). eqb b 1) (part-at (k .pixels) (pixelStart (k .table) i) (w * l) (y * l + x) (in-box hx hy));
+      })
+      ∙ facts .tightBoxes i below
+
+  -- the piece line that lies ahead
+  piece-line-ahead : {text : List ℕ} {p : ℕ} (m line : ℕ) (rest : List ℕ) → k .count ≤ pieceBound
+      → Ahead text p (lineText pieceWord fourFields (i ∷ entryNumbers (k .table) i) ++ rest)
+      → Gives (pieceLine text (sheetLine k m) i (pixelStart (k .table) i) p line) (pieceNumbers k i) text rest
+  unfolding pieceLine entryInRange
+  piece-line-ahead {text} {p} m line rest hn a =
+      let l : ℕ = entryColumns (k .table) i in
+      let w : ℕ = entryRows (k .table) i in
+      let o : ℕ = entryTurns (k .table) i in
+      let ks : List ℕ = i ∷ entryNumbers (k .table) i in
+      let sl : l ≤ sideBound = sides-within .0 .most in
+      let sw : w ≤ sideBound = sides-within .1 .most in
+      let so : o ≤ turnsBound = sides-within .2 in
+      let able : Writable fourFields ks = (refl, omega arith, (refl, omega arith, (refl, omega arith, (refl, omega arith, tt)))) in
+      let r : Reads (lineAt pieceWord fourFields text p) ks text rest = line-ahead pieceWord fourFields ks rest able a in
+      let causes = pieceLineCauses line (sheetLine k m) i (pixelStart (k .table) i) (pieceNumbers k i (r .next)) in
+      let none : NoCause causes = (
+        ap not (and-front (upTo sideBound l) (upTo sideBound w) (eqb (o % 2) 1) (leb o turnsBound) (eq-eqb i i refl) (facts .ranges i below)),
+        (
+          ap₂ (λ (x y : Bool). x || y) (le-ltb (k .columns) l (box-fits .0)) (le-ltb (k .rows) w (box-fits .1)),
+          (
+            le-ltb areaBound (pixelStart (k .table) i + l * w) (let e = start-end (k .table) i (k .count) below in let t = facts .areas in omega arith),
+            tt,
+          ),
+        ),
+      ) in
+      record {
+        next = r .next;
+        gives = rw (r .reads, formed) (unless-given causes (pieceNumbers k i (r .next)) none);
+        ahead = r .ahead;
+      }
+
+  -- the lines of the piece that lie ahead
+  piece-ahead : {text : List ℕ} {p : ℕ} (m line : ℕ) (rest : List ℕ) → k .count ≤ pieceBound → Ahead text p (pieceText k i ++ rest)
+      → Gives (pieceAt text (sheetLine k m) i (pixelStart (k .table) i) p line) (pieceContent k i) text rest
+  unfolding pieceAt
+  piece-ahead {text} {p} m line rest hn a =
+      let l : ℕ = entryColumns (k .table) i in
+      let w : ℕ = entryRows (k .table) i in
+      let s : ℕ = pixelStart (k .table) i in
+      let rows : List ℕ = rowsText (k .pixels) l s w in
+      let a′ : Ahead text p (lineText pieceWord fourFields (i ∷ entryNumbers (k .table) i) ++ (rows ++ rest)) =
+      rw (append-assoc (lineText pieceWord fourFields (i ∷ entryNumbers (k .table) i)) rows rest) at a in
+      let g : Gives (pieceLine text (sheetLine k m) i s p line) (pieceNumbers k i) text (rows ++ rest) =
+      piece-line-ahead m line (rows ++ rest) hn a′ in
+      let r : Gives (rowsAt text l w (g .next) (suc line)) (λ n. record { pixels = piecePixels k i; next = n }) text rest =
+      rows-ahead (k .pixels) l s w (suc line) rest box-bits (g .ahead) in
+      record {
+        next = r .next;
+        gives = rw (g .gives, r .gives, andThen) (unless-given _ (pieceContent k i (r .next)) (ap not box-tight, tt));
+        ahead = r .ahead;
+      }
+
+-- the lines of pieces that lie ahead, with nothing after them
+pieces-ahead : {text : List ℕ} {p : ℕ} (k : Lent) → Facts k → k .count ≤ pieceBound → (m left i line : ℕ) → i + left ≡ k .count
+    → Ahead text p (piecesText k i left)
+    → piecesAt text (sheetLine k m) left i (pixelStart (k .table) i) p line
+    ≡ given (record { table = entriesFrom (k .table) i left; pixels = pixelsFrom k i left })
+unfolding piecesAt piecesText pixelStart
+pieces-ahead {text} {p} k facts hn m zero i line e a = unless-given _ noPieces (ap not (eq-eqb p (length text) (ahead-end a)), tt)
+pieces-ahead {text} {p} k facts hn m (suc left) i line e a =
+    let g : Gives (pieceAt text (sheetLine k m) i (pixelStart (k .table) i) p line) (pieceContent k i) text (piecesText k (suc i) left) =
+    piece-ahead k facts i (omega arith) m line (piecesText k (suc i) left) hn a in
+    let later = pieces-ahead k facts hn m left (suc i) (suc (line + entryRows (k .table) i)) (omega arith) (g .ahead) in
+    rw (g .gives, later, andThen)
+
+-- the pixel bytes of pieces one after the other are a part of the store
+pixels-from : (k : Lent) (i left size : ℕ) → pixelStart (k .table) i + size ≡ pixelStart (k .table) (i + left)
+    → pixelsFrom k i left ≡ part (k .pixels) (pixelStart (k .table) i) size
+unfolding pixelStart
+pixels-from k i zero size e =
+    let z : size ≡ 0 = let e′ = rw add-zero at e in omega arith in
+    rw z
+pixels-from k i (suc left) size e =
+    let area : ℕ = entryRows (k .table) i * entryColumns (k .table) i in
+    let c = mul-comm (entryRows (k .table) i) (entryColumns (k .table) i) in
+    let s : i + suc left ≡ suc i + left = omega arith in
+    let e′ : pixelStart (k .table) i + size ≡ pixelStart (k .table) (suc i + left) = rw s at e in
+    let grows : pixelStart (k .table) (suc i) ≤ pixelStart (k .table) (suc i + left) = start-grows (k .table) (suc i) left in
+    let split : area + (size - area) ≡ size = omega arith in
+    let here : pixelStart (k .table) (suc i) ≡ pixelStart (k .table) i + area = omega arith in
+    let later : pixelsFrom k (suc i) left ≡ part (k .pixels) (pixelStart (k .table) (suc i)) (size - area) =
+    pixels-from k (suc i) left (size - area) (omega arith) in
+    ap (λ (ks : List ℕ). part (k .pixels) (pixelStart (k .table) i) area ++ ks) (later ∙ ap (λ (n : ℕ). part (k .pixels) n (size - area)) here)
+    ∙ sym (part-append (k .pixels) (pixelStart (k .table) i) area (size - area))
+    ∙ ap (λ (n : ℕ). part (k .pixels) (pixelStart (k .table) i) n) split
+
+-- the pixel bytes of all pieces are the front of the store
+exact-pixels : (k : Lent) → pixelStart (k .table) (k .count) ≤ length (k .pixels)
+    → pixelsFrom k 0 (k .count) ≡ take (pixelStart (k .table) (k .count)) (k .pixels)
+unfolding pixelStart
+exact-pixels k h =
+    let total : ℕ = pixelStart (k .table) (k .count) in
+    pixels-from k 0 (k .count) total (zero-add total ∙ ap (pixelStart (k .table)) (sym (zero-add (k .count)))) ∙ part-front (k .pixels) total h
+
+-- ── the job ──
+
+-- the sheet's numbers
+sheet-within : (k : Lent) → Facts k → Within rowBound (k .rows) × Within columnBound (k .columns) × Within pieceBound (k .count) × (k .rows * k .columns ≤ areaBound)
+unfolding sheetInRange
+sheet-within k facts =
+    let a : Bool = upTo rowBound (k .rows) in
+    let b : Bool = upTo columnBound (k .columns) in
+    let c : Bool = upTo pieceBound (k .count) in
+    let d : Bool = leb (k .rows * k .columns) areaBound in
+    let e : (a && b && c && d) ≡ true = facts .sheet in
+    let abc : (a && b && c) ≡ true = and-left (a && b && c) d e in
+    let ab : (a && b) ≡ true = and-left (a && b) c abc in (
+      within rowBound (k .rows) (and-left a b ab),
+      within columnBound (k .columns) (and-right a b ab),
+      within pieceBound (k .count) (and-right (a && b) c abc),
+      leb-true (k .rows * k .columns) areaBound (and-right (a && b && c) d e),
+    )
+
+-- the job line that lies ahead
+job-line-ahead : {text : List ℕ} (k : Lent) → Facts k → (rest : List ℕ)
+    → Ahead text 0 (lineText jobWord threeFields (k .rows ∷ k .columns ∷ k .count ∷ []) ++ rest) → Gives (jobLine text) (sheetLine k) text rest
+unfolding jobLine sheetInRange
+job-line-ahead {text} k facts rest a =
+    let w = sheet-within k facts in
+    let ks : List ℕ = k .rows ∷ k .columns ∷ k .count ∷ [] in
+    let hr : k .rows ≤ rowBound = w .0 .most in
+    let hc : k .columns ≤ columnBound = w .1 .most in
+    let hn : k .count ≤ pieceBound = w .2 .most in
+    let able : Writable threeFields ks = (refl, omega arith, (refl, omega arith, (refl, omega arith, tt))) in
+    let r : Reads (lineAt jobWord threeFields text 0) ks text rest = line-ahead jobWord threeFields ks rest able a in
+    let ranges : Bool = upTo rowBound (k .rows) && upTo columnBound (k .columns) && upTo pieceBound (k .count) in
+    record {
+      next = r .next;
+      gives =
+          rw (r .reads, formed)
+          (unless-given (jobLineCauses (sheetLine k (r .next))) (sheetLine k (r .next))
+          (ap not (and-left ranges (leb (k .rows * k .columns) areaBound) (facts .sheet)), (le-ltb areaBound (k .rows * k .columns) (w .3), tt)));
+      ahead = r .ahead;
+    }
+
+-- a lent job that passes the check is one that reading gives: its text is read, with buffers that suffice, as just that job
+pub job-read-back : (k : Lent) → lentWell k ≡ true → (tableLength pixelsLength : ℕ) → k .count ≤ tableLength
+    → pixelStart (k .table) (k .count) ≤ pixelsLength → readJob (jobText k) tableLength pixelsLength ≡ given (exactly k)
+unfolding readJob jobText pixelStart
+job-read-back k well tableLength pixelsLength ht hp =
+    let f : Facts k = facts k well in
+    let text : List ℕ = jobText k in
+    let total : ℕ = pixelStart (k .table) (k .count) in
+    let hn : k .count ≤ pieceBound = sheet-within k f .2 .most in
+    let g : Gives (jobLine text) (sheetLine k) text (piecesText k 0 (k .count)) =
+    job-line-ahead k f (piecesText k 0 (k .count)) (ahead-start text) in
+    let pixels : pixelsFrom k 0 (k .count) ≡ take total (k .pixels) = exact-pixels k (f .store) in
+    let r : piecesAt text (sheetLine k (g .next)) (k .count) 0 0 (g .next) 2
+    ≡ given (record { table = entriesFrom (k .table) 0 (k .count); pixels = take total (k .pixels) }) =
+    rw pixels at (pieces-ahead k f hn (g .next) (k .count) 0 2 (zero-add (k .count)) (g .ahead)) in
+    let size : length (take total (k .pixels)) ≡ total = length-take-le total (k .pixels) (f .store) in
+    rw (g .gives, r, andThen, readJob)
+    (unless-given _ (exactly k)
+    (ap₂ (λ (x y : Bool). x || y) (le-ltb tableLength (k .count) ht) (le-ltb pixelsLength (length (take total (k .pixels))) (omega arith)), tt))

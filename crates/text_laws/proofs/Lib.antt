@@ -1,0 +1,14 @@
+-- Laws of the texts (document 01, 'Job text' and 'Start, layout text, sheet').
+pub mod Ahead
+pub mod Numbers
+pub mod Fields
+pub mod Outcomes
+pub mod Entries
+pub mod LayoutRead
+pub mod LayoutReadBack
+pub mod Store
+pub mod LentFacts
+pub mod JobRead
+pub mod JobWriting
+pub mod JobReadBack
+pub mod LentRead

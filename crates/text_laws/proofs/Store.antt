@@ -1,0 +1,86 @@
+-- Document 01, 'Job text' (the table and the pixel store) and 'Sheet and panels' (a box that is not loose): where a piece's pixels
+-- begin in the store, parts of the store, and boxes that agree. Assumes nothing.
+use mathlib.Core.Bool.{Bool, _&&_}
+use mathlib.Core.List.{List, _∷_}
+use mathlib.Core.Path.{_≡_, ap, ap₂, _∙_}
+use Prim.Native.Nat.{ℕ, zero, suc, _+_, _-_, _*_, _≤_, _<_}
+use native.Mathlib.Nat.{add-zero, add-suc, mul-le-mul-right, suc-mul}
+use native.Mathlib.Omega.{arith}
+use lib.ListN.{getD}
+use Rattle.model.specs.Bounded.{anyBelow, sumBelow}
+use Rattle.model.specs.Piece.{Shape, tight, tightAlong, holds, extent, other}
+use Rattle.model.specs.Lent.{entryArea, pixelStart}
+use Rattle.model.specs.declared.Direction.{Direction}
+use Rattle.model.specs.declared.Direction.the-variants.{Horizontal, Vertical}
+use Rattle.model.proofs.Bounded.{any-agree}
+
+-- ── where pixels begin ──
+
+-- the first number of a sum set apart
+sum-first : (f : ℕ → ℕ) (n : ℕ) → sumBelow (suc n) f ≡ f 0 + sumBelow n (λ k. f (suc k))
+sum-first f zero = omega arith
+sum-first f (suc n) = let e = sum-first f n in omega arith
+
+-- behind a first entry every piece's pixels begin later by that entry's area
+pub start-after : (e : List ℕ) (table : List (List ℕ)) (i : ℕ) → pixelStart (e ∷ table) (suc i) ≡ getD e 0 0 * getD e 1 0 + pixelStart table i
+unfolding pixelStart
+start-after e table i = sum-first (entryArea (e ∷ table)) i
+
+-- later pieces begin no earlier
+pub start-grows : (table : List (List ℕ)) (i k : ℕ) → pixelStart table i ≤ pixelStart table (i + k)
+unfolding pixelStart
+start-grows table i zero = rw add-zero (omega arith)
+start-grows table i (suc k) = let h = start-grows table i k in rw add-suc (omega arith)
+
+-- a piece's pixels end no later than those of all pieces
+pub start-end : (table : List (List ℕ)) (i n : ℕ) → i < n → pixelStart table i + entryArea table i ≤ pixelStart table n
+unfolding pixelStart
+start-end table i n h =
+    let e : suc i + (n - suc i) ≡ n = omega arith in
+    rw e at (start-grows table (suc i) (n - suc i))
+
+-- ── a row of a box ──
+
+-- a pixel inside the box lies among the box's bytes
+pub in-box : {l w x y : ℕ} → x < l → y < w → y * l + x < w * l
+in-box {l} {w} {x} {y} hx hy = let h : suc y * l ≤ w * l = mul-le-mul-right l hy in omega (arith, suc-mul y l)
+
+-- ── boxes that agree ──
+
+-- shapes of one box that agree inside it
+pub record Agree (s t : Shape) : Type 0 where
+  pub columns : s .columns ≡ t .columns
+  pub rows : s .rows ≡ t .rows
+  pub wide : 0 < t .columns
+  pub high : 0 < t .rows
+  pub has : (x y : ℕ) → x < t .columns → y < t .rows → s .has x y ≡ t .has x y
+
+-- their lines hold a pixel alike
+holds-agree : (d : Direction) (s t : Shape) → Agree s t → (c : ℕ) → c < extent (other d) t → holds d s c ≡ holds d t c
+holds-agree Horizontal s t a c l =
+    ap (λ (n : ℕ). anyBelow n (λ x. s .has x c)) (a .columns) ∙ any-agree (t .columns) (λ x. s .has x c) (λ x. t .has x c) (λ x h. a .has x c h l)
+holds-agree Vertical s t a c l =
+    ap (λ (n : ℕ). anyBelow n (λ y. s .has c y)) (a .rows) ∙ any-agree (t .rows) (λ y. s .has c y) (λ y. t .has c y) (λ y h. a .has c y l h)
+
+-- the box has a line in each direction
+extent-some : (d : Direction) (s t : Shape) → Agree s t → 0 < extent d t
+extent-some Horizontal s t a = a .wide
+extent-some Vertical s t a = a .high
+
+-- the boxes have the same sides
+extent-same : (d : Direction) (s t : Shape) → Agree s t → extent d s ≡ extent d t
+extent-same Horizontal s t a = a .columns
+extent-same Vertical s t a = a .rows
+
+-- their first and last lines hold a pixel alike
+tight-along-agree : (d : Direction) (s t : Shape) → Agree s t → tightAlong d s ≡ tightAlong d t
+tight-along-agree d s t a =
+    let n : ℕ = extent (other d) t in
+    let h : 0 < n = extent-some (other d) s t a in
+    ap₂ (λ (p q : Bool). p && q) (holds-agree d s t a 0 h)
+    (ap (λ (m : ℕ). holds d s (m - 1)) (extent-same (other d) s t a) ∙ holds-agree d s t a (n - 1) (omega arith))
+
+-- they are tight alike
+pub tight-agree : (s t : Shape) → Agree s t → tight s ≡ tight t
+unfolding tight
+tight-agree s t a = ap₂ (λ (p q : Bool). p && q) (tight-along-agree Horizontal s t a) (tight-along-agree Vertical s t a)
