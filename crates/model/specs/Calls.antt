@@ -289,6 +289,10 @@ descentCall l es ws budget =
     ∷ turnsCause l es ∷ outsideCause l es ∷ [])
     (descend (jobOf l) ws budget (layoutOf es))
 
+-- what the layout buffer holds after a descent: the layout at the end
+abbrev pub descentAfter : List (List ℕ) → Outcome Descent → List (List ℕ)
+descentAfter before o = leaving (λ d. entriesOf (d .layout)) before o
+
 -- the guided run: 8, 7, 2, 9, 10
 unfoldable pub guidedCall : Lent → List (List ℕ) → List ℕ → ℕ → ℕ → Outcome Guided
 guidedCall l es ws count budget =
@@ -297,6 +301,14 @@ guidedCall l es ws count budget =
     ∷ cause outOfRange (someWeightWrong ws || ltb budgetBound budget || not (upTo roundBound count))
     ∷ turnsCause l es ∷ outsideCause l es ∷ [])
     (guide (jobOf l) count budget ws (layoutOf es))
+
+-- what the layout buffer holds after a guided run: the best layout
+abbrev pub bestAfterRun : List (List ℕ) → Outcome Guided → List (List ℕ)
+bestAfterRun before o = leaving (λ g. entriesOf (g .layout)) before o
+
+-- what the weight buffer holds after a guided run: the new weights
+abbrev pub weightsAfterRun : List ℕ → Outcome Guided → List ℕ
+weightsAfterRun before o = leaving (λ g. g .weights) before o
 
 -- ── job text, start, layout text, check ──
 
@@ -351,6 +363,10 @@ countsLength l room = exactly (l .rows * l .columns) room
 -- a fresh sheet: 8, 7
 unfoldable pub freshCall : Lent → ℕ → Outcome Sheet
 freshCall l room = unless (jobCause l ∷ countsLength l room ∷ []) (fresh (jobOf l))
+
+-- what the count buffer holds after a fresh sheet, a lay or a withdraw: the sheet's counts
+abbrev pub countsAfter : List ℕ → Outcome Sheet → List ℕ
+countsAfter before o = leaving (λ s. s .counts) before o
 
 -- what is asked before a call on a sheet: 8 the job, 7, 8 the sheet
 unfoldable pub sheetCauses : Lent → Sheet → List Cause → List Cause
