@@ -10,7 +10,7 @@ use Rattle.model.specs.Layout.{Job, Layout, inside}
 use Rattle.model.specs.Refusal.{Outcome, refused, given, unless}
 use Rattle.model.specs.Lent.{Lent, jobOf, pixelStart}
 use Rattle.model.specs.Text.{bytes, standsAt, digitsFrom, numberAt, fieldAt, fieldsAt, decimal, fieldsText}
-use Rattle.model.specs.JobText.{PieceLine, jobLine, pieceLine, markAt, marksAt, rowAt, rowsAt, pieceAt, piecesAt, readJob}
+use Rattle.model.specs.JobText.{PieceLine, Pieces, jobLine, pieceLine, markAt, marksAt, rowAt, rowsAt, pieceAt, piecesAt, readJob}
 use Rattle.model.specs.Buffer.{sameNumbers, turnOfDegrees, isTurn, turnOf, entryOf}
 use Rattle.model.specs.LayoutText.{placementsText, layoutText, layoutLine, placementLine, placementsAt, readLayout}
 use Rattle.model.specs.Start.{start, stackAll, fallingOrder, insert}
@@ -35,6 +35,10 @@ flatLent k = k .rows ∷ k .columns ∷ k .count ∷ joined (k .table) ++ k .pix
 flatPiece : PieceLine → List ℕ
 flatPiece h = h .number ∷ h .columns ∷ h .rows ∷ h .turns ∷ h .next ∷ []
 
+-- pieces written out: the table, the pixel bytes
+flatPieces : Pieces → List ℕ
+flatPieces r = joined (r .table) ++ r .pixels
+
 -- a layout written out: degrees, x, y of each piece
 flatLayout : Layout → List ℕ
 flatLayout [] = []
@@ -43,7 +47,7 @@ flatLayout (p ∷ v) = entryOf p ++ flatLayout v
 -- ── reading a job ──
 
 -- two full 2 × 2 pieces, o = 1
-squares : String
+abbrev pub squares : String
 squares = "piece,0,2,2,1\nrow,##\nrow,##\npiece,1,2,2,1\nrow,##\nrow,##\n"
 
 -- the example: they lie on a sheet of 2 rows and 4 columns
@@ -63,20 +67,24 @@ readWith tableLength pixelsLength text = flat flatLent (readJob (bytes text) tab
 
 -- the text is refused with the number at the line, whatever the buffers
 refuses : String → ℕ → ℕ → Bool
-refuses text number line = sameNumbers (readWith 64 65536 text) (0 ∷ number ∷ line ∷ 0 ∷ []) && sameNumbers (readWith 0 0 text) (0 ∷ number ∷ line ∷ 0 ∷ [])
+refuses text number line =
+    sameNumbers (readWith 64 65536 text) (0 ∷ number ∷ line ∷ 0 ∷ []) && sameNumbers (readWith 0 0 text) (0 ∷ number ∷ line ∷ 0 ∷ [])
 
--- the example is read with buffers that just suffice and with longer ones; rows stand bottom first; shorter ones are refused
+-- the example is read with buffers that just suffice and with longer ones; rows stand bottom first, pieces one after the other;
+-- shorter buffers are refused
 reads : Bool
 reads =
     sameNumbers (readWith 2 8 ("job,1,2,4,2\n" ++ᵗ squares)) (1 ∷ flatLent example)
     && sameNumbers (readWith 64 65536 ("job,1,2,4,2\n" ++ᵗ squares)) (1 ∷ flatLent example)
     && sameNumbers (readWith 1 6 "job,1,12,34,1\npiece,0,3,2,15\nrow,##.\nrow,#.#\n")
     (1 ∷ 12 ∷ 34 ∷ 1 ∷ 3 ∷ 2 ∷ 15 ∷ 1 ∷ 1 ∷ 0 ∷ 1 ∷ 0 ∷ 1 ∷ [])
+    && sameNumbers (readWith 2 7 "job,1,2,3,2\npiece,0,3,2,15\nrow,##.\nrow,#.#\npiece,1,1,1,3\nrow,#\n")
+    (1 ∷ 2 ∷ 3 ∷ 2 ∷ 3 ∷ 2 ∷ 15 ∷ 1 ∷ 1 ∷ 3 ∷ 1 ∷ 1 ∷ 0 ∷ 1 ∷ 0 ∷ 1 ∷ 1 ∷ [])
     && sameNumbers (readWith 1 8 ("job,1,2,4,2\n" ++ᵗ squares)) (0 ∷ 7 ∷ 0 ∷ 0 ∷ [])
     && sameNumbers (readWith 2 7 ("job,1,2,4,2\n" ++ᵗ squares)) (0 ∷ 7 ∷ 0 ∷ 0 ∷ [])
 
--- wrong form of the job line: no text, no line end, another word, version 2, a leading zero, six digits, a sign, no number, a field
--- too few or too many, a byte before the line end, a byte 0
+-- wrong form of the job line: no text, no line end, another word, version 2, a leading zero, six digits, a sign, no number, the
+-- bytes before 0 and after 9, a field too few or too many, a byte before the line end, a byte 0
 jobLineForm : Bool
 jobLineForm =
     refuses "" 1 1 && refuses "job,1,2,4,2" 1 1 && refuses "Job,1,2,4,2\n" 1 1 && refuses "job,2,2,4,2\n" 1 1
@@ -85,12 +93,14 @@ jobLineForm =
     && refuses "job,1,2,123456,2\n" 1 1
     && refuses "job,1,2,-4,2\n" 1 1
     && refuses "job,1,2,,2\n" 1 1
+    && refuses "job,1,2,/,2\n" 1 1
+    && refuses "job,1,2,:,2\n" 1 1
     && refuses "job,1,2,4\n" 1 1
     && refuses "job,1,2,4,2,1\n" 1 1
     && refuses "job,1,2,4,2\r\n" 1 1
     && refuses "job,1,2,4,2\0\n" 1 1
 
--- job lines out of range, a sheet too large, and form before range
+-- job lines out of range, a sheet too large, form before range, and the largest numbers, which pass: line 2 is what is missing
 jobLineRange : Bool
 jobLineRange =
     refuses "job,1,0,4,2\n" 2 1 && refuses "job,1,513,4,2\n" 2 1 && refuses "job,1,1,4097,2\n" 2 1 && refuses "job,1,2,99999,2\n" 2 1
@@ -99,8 +109,10 @@ jobLineRange =
     && refuses "job,1,17,4096,2\n" 3 1
     && refuses "job,1,512,4096,65\n" 2 1
     && refuses "job,1,0,4,x\n" 1 1
+    && refuses "job,1,512,128,64\n" 1 2
+    && refuses "job,1,16,4096,64\n" 1 2
 
--- piece lines: form, number, sides, sum of turns, larger than the sheet, and their order
+-- piece lines: form, number, sides, sum of turns, larger than the sheet, their order, and the longest sides, which pass
 pieceLines : Bool
 pieceLines =
     refuses "job,1,2,4,2\n" 1 2 && refuses "job,1,2,4,2\npiece,0,2,2\n" 1 2 && refuses "job,1,2,4,2\npiece,1,2,2,1\n" 2 2
@@ -112,15 +124,26 @@ pieceLines =
     && refuses "job,1,2,4,2\npiece,0,2,3,1\n" 6 2
     && refuses "job,1,2,4,2\npiece,0,5,2,2\n" 2 2
     && refuses "job,1,2,4,2\npiece,0,5,2,2" 1 2
+    && refuses "job,1,2,4,2\npiece,0,2,0,1\n" 2 2
+    && refuses "job,1,512,128,2\npiece,0,2,256,1\n" 2 2
+    && refuses "job,1,255,257,2\npiece,0,255,255,15\n" 1 3
 
 -- the line of piece 1 after boxes of the given area, on line 9
 secondPiece : ℕ → List ℕ
 secondPiece area =
     flat flatPiece (pieceLine (bytes "piece,1,2,2,1\n") (record { rows = 2; columns = 4; count = 2; next = 0 }) 1 area 0 9)
 
--- box areas so far: up to 65,536, and above
+-- pieces 1 and 2 after boxes of the given area, from line 9 on; the row lines of piece 2 are missing
+laterPieces : ℕ → List ℕ
+laterPieces area =
+    flat flatPieces (piecesAt (bytes "piece,1,1,1,1\nrow,#\npiece,2,2,2,1\n") (record { rows = 2; columns = 4; count = 3; next = 0 }) 2 1 area 0 9)
+
+-- box areas so far: up to 65,536, and above, by this box or by those before it
 boxAreas : Bool
-boxAreas = sameNumbers (secondPiece 65532) (1 ∷ 1 ∷ 2 ∷ 2 ∷ 1 ∷ 14 ∷ []) && sameNumbers (secondPiece 65533) (0 ∷ 4 ∷ 9 ∷ 0 ∷ [])
+boxAreas =
+    sameNumbers (secondPiece 65532) (1 ∷ 1 ∷ 2 ∷ 2 ∷ 1 ∷ 14 ∷ []) && sameNumbers (secondPiece 65533) (0 ∷ 4 ∷ 9 ∷ 0 ∷ [])
+    && sameNumbers (laterPieces 65531) (0 ∷ 1 ∷ 12 ∷ 0 ∷ [])
+    && sameNumbers (laterPieces 65532) (0 ∷ 4 ∷ 11 ∷ 0 ∷ [])
 
 -- row lines: too few or too many marks, another mark, a missing row, a row without its line end, a loose box at its last row, and
 -- anything after the last line
@@ -166,6 +189,9 @@ layoutWritten =
 layoutDamaged : Bool
 layoutDamaged =
     layoutRefuses "" 1 1 && layoutRefuses "layout,2,2,4,2\n" 1 1 && layoutRefuses "layout,1,2,5,2\n" 2 1
+    && layoutRefuses "layout,1,3,4,2\n" 2 1
+    && layoutRefuses "layout,1,4,2,2\n" 2 1
+    && layoutRefuses "layout,1,2,4,3\n" 2 1
     && layoutRefuses "layout,1,2,4,2\nat,0,0,0\n" 1 2
     && layoutRefuses "layout,1,2,4,2\nat,1,0,0,0\n" 2 2
     && layoutRefuses "layout,1,2,4,2\nat,0,45,0,0\n" 2 2
@@ -178,12 +204,36 @@ layoutDamaged =
     && layoutRefuses "layout,1,2,4,2\nat,0,0,0,0\nat,1,0,2,0" 1 3
     && layoutRefuses (startText ++ᵗ "at,2,0,0,0\n") 1 4
 
+-- four pieces of 2 columns and 1 row, every turn allowed, on a sheet of 12 rows and 345 columns
+bars : Lent
+bars =
+    record {
+      rows = 12;
+      columns = 345;
+      count = 4;
+      table = (2 ∷ 1 ∷ 15 ∷ []) ∷ (2 ∷ 1 ∷ 15 ∷ []) ∷ (2 ∷ 1 ∷ 15 ∷ []) ∷ (2 ∷ 1 ∷ 15 ∷ []) ∷ [];
+      pixels = 1 ∷ 1 ∷ 1 ∷ 1 ∷ 1 ∷ 1 ∷ 1 ∷ 1 ∷ [];
+    }
+
+-- their layout in the four turns, as far right and up as the turned boxes allow
+turnedText : String
+turnedText = "layout,1,12,345,4\nat,0,0,343,11\nat,1,90,344,10\nat,2,180,343,11\nat,3,270,344,10\n"
+
+-- it is read, and written byte for byte; one column or row further is outside
+turnsRead : Bool
+turnsRead =
+    sameNumbers (flat flatLayout (readLayout (jobOf bars) (bytes turnedText) 4))
+    (1 ∷ 0 ∷ 343 ∷ 11 ∷ 90 ∷ 344 ∷ 10 ∷ 180 ∷ 343 ∷ 11 ∷ 270 ∷ 344 ∷ 10 ∷ [])
+    && sameNumbers (flat (layoutText (jobOf bars)) (readLayout (jobOf bars) (bytes turnedText) 4)) (1 ∷ bytes turnedText)
+    && sameNumbers (flat flatLayout (readLayout (jobOf bars) (bytes "layout,1,12,345,4\nat,0,90,344,11\n") 4)) (0 ∷ 10 ∷ 2 ∷ 0 ∷ [])
+    && sameNumbers (flat flatLayout (readLayout (jobOf bars) (bytes "layout,1,12,345,4\nat,0,180,344,11\n") 4)) (0 ∷ 10 ∷ 2 ∷ 0 ∷ [])
+
 -- all of them
 pub textExamples : Bool
 textExamples =
-    reads && jobLineForm && jobLineRange && pieceLines && boxAreas && rowLines && layoutWritten && layoutDamaged
+    reads && jobLineForm && jobLineRange && pieceLines && boxAreas && rowLines && layoutWritten && layoutDamaged && turnsRead
 
 -- the texts are read, written and refused as document 01 says
 pub text-examples-hold : textExamples ≡ true
-unfolding textExamples reads jobLineForm jobLineRange pieceLines boxAreas rowLines layoutWritten layoutDamaged joined flat flatLent flatPiece flatLayout squares example readWith refuses secondPiece layoutWith layoutRefuses startText sameNumbers tight allows inside unless jobOf pixelStart standsAt digitsFrom numberAt fieldAt fieldsAt decimal fieldsText jobLine pieceLine markAt marksAt rowAt rowsAt pieceAt piecesAt readJob turnOfDegrees isTurn turnOf placementsText layoutText layoutLine placementLine placementsAt readLayout start stackAll fallingOrder insert
+unfolding textExamples reads jobLineForm jobLineRange pieceLines boxAreas rowLines layoutWritten layoutDamaged turnsRead joined flat flatLent flatPiece flatPieces flatLayout example bars turnedText readWith refuses secondPiece laterPieces layoutWith layoutRefuses startText sameNumbers tight allows inside unless jobOf pixelStart standsAt digitsFrom numberAt fieldAt fieldsAt decimal fieldsText jobLine pieceLine markAt marksAt rowAt rowsAt pieceAt piecesAt readJob turnOfDegrees isTurn turnOf placementsText layoutText layoutLine placementLine placementsAt readLayout start stackAll fallingOrder insert
 text-examples-hold = refl
