@@ -17,6 +17,7 @@ pub mod LayoutText
 pub mod Store
 pub mod Cover
 pub mod Calls
+pub mod Program
 pub mod Examples
 pub mod Worked
 pub mod TextExamples

@@ -1,18 +1,26 @@
--- Worked examples beside P1 to P12, one test that the checker computes: document 01's two examples of the program, and a start
--- layout with pieces of equal length and a full stack. Assumes nothing.
+-- Worked examples beside P1 to P12, one test that the checker computes: what the program prints for document 01's two examples, for
+-- a refused job and at the limit of its input, and a start layout with pieces of equal length and a full stack. Assumes nothing.
 use mathlib.Core.Bool.{Bool, true, _&&_}
 use mathlib.Core.List.{List, [], _∷_}
 use mathlib.Core.Path.{_≡_, refl}
 use Prim.Native.Nat.{ℕ}
-use lib.ListN.{getD}
-use Rattle.model.specs.Piece.{Shape, allows}
+use Prim.Native.String.{_++_ as _++ᵗ_}
+use lib.ListN.{getD, replicate}
+use Rattle.model.specs.Piece.{Shape, allows, tight}
 use Rattle.model.specs.Overlap.{share, apartAt, depth, penalty}
-use Rattle.model.specs.Layout.{Job, Layout, pairsWith, pairsFrom, pairShares, pairPenalty, sumOver, weightedSum, plainSum, pieceSum, unitWeights, rightmost, usedLength, placeOf}
+use Rattle.model.specs.Layout.{Job, Layout, pairsWith, pairsFrom, pairShares, pairPenalty, sumOver, weightedSum, plainSum, pieceSum, unitWeights, rightmost, usedLength, inside, placeOf}
 use Rattle.model.specs.Search.{places, sumAt, least, searchLine}
 use Rattle.model.specs.Descent.{turnTrials, pieceTrials, trialsFrom, trials, attempt, descendFrom, descend}
-use Rattle.model.specs.Guided.{Guided, raisedOver, raised, rounds, bestAfter, lastWeights, madeIn, movesIn, outcome, guide}
+use Rattle.model.specs.Guided.{raisedOver, raised, rounds, bestAfter, lastWeights, madeIn, movesIn, outcome, guide}
 use Rattle.model.specs.Start.{insert, fallingOrder, stackAll, start}
+use Rattle.model.specs.Refusal.{unless}
+use Rattle.model.specs.Lent.{jobOf, pixelStart}
 use Rattle.model.specs.Buffer.{sameNumbers}
+use Rattle.model.specs.Text.{bytes, comma, standsAt, digitsFrom, numberAt, fieldAt, fieldsAt, decimal, fieldsText}
+use Rattle.model.specs.JobText.{jobLine, pieceLine, markAt, marksAt, rowAt, rowsAt, pieceAt, piecesAt, readJob}
+use Rattle.model.specs.LayoutText.{placementsText, layoutText}
+use Rattle.model.specs.Program.{wordLine, runText, programRun, programText}
+use Rattle.model.specs.TextExamples.{squares}
 
 -- a full box
 full : ℕ → ℕ → Shape
@@ -20,19 +28,27 @@ full columns rows = record { columns = columns; rows = rows; has = λ x y. true 
 
 -- ── the program ──
 
+-- document 01's two full 2 × 2 pieces on a sheet of 2 rows and 4 columns, then 3; and a piece longer than the sheet
+printedText : Bool
+printedText =
+    sameNumbers (programText (bytes ("job,1,2,4,2\n" ++ᵗ squares))) (bytes "layout,1,2,4,2\nat,0,0,0,0\nat,1,0,2,0\nend,clear,0,0,0,4\n")
+    && sameNumbers (programText (bytes ("job,1,2,3,2\n" ++ᵗ squares))) (bytes "layout,1,2,3,2\nat,0,0,0,0\nat,1,0,1,0\nend,open,1,80,0,3\n")
+    && sameNumbers (programText (bytes "job,1,2,4,2\npiece,0,5,2,1\n")) (bytes "refused,6,2\n")
+
+-- an input of 65,536 bytes is read, and refused at its first line; one byte more is too much
+inputLength : Bool
+inputLength =
+    sameNumbers (programText (replicate 65536 comma)) (bytes "refused,1,1\n")
+    && sameNumbers (programText (replicate 65537 comma)) (bytes "refused,7,0\n")
+
 -- two full 2 × 2 pieces, o = 1, on a sheet of 2 rows and so many columns
 twoSquares : ℕ → Job
 twoSquares columns = record { rows = 2; columns = columns; count = 2; piece = λ i. record { shape = full 2 2; turns = 1 } }
 
--- what the program prints of its run: plain sum, trials, moves, used length; and the weight at the end
-programOf : ℕ → List ℕ
-programOf columns =
-    let g : Guided = guide (twoSquares columns) 20 1000 (unitWeights 2) (start (twoSquares columns)) in
-    g .sum ∷ g .made ∷ g .moves ∷ usedLength (twoSquares columns) (g .layout) ∷ g .weights
-
--- `end,clear,0,0,0,4` with L = 4, and `end,open,1,80,0,3` with L = 3, where each of the 20 rounds raises the weight
-program : Bool
-program = sameNumbers (programOf 4) (0 ∷ 0 ∷ 0 ∷ 4 ∷ 1 ∷ []) && sameNumbers (programOf 3) (1 ∷ 80 ∷ 0 ∷ 3 ∷ 21 ∷ [])
+-- the weight at the end of the program's run: 1 with L = 4, where the start is clear; raised by each of the 20 rounds with L = 3
+weightsLeft : Bool
+weightsLeft =
+    sameNumbers (programRun (twoSquares 4) .weights) (1 ∷ []) && sameNumbers (programRun (twoSquares 3) .weights) (21 ∷ [])
 
 -- ── a start layout ──
 
@@ -56,11 +72,11 @@ corners v =
 started : Bool
 started = sameNumbers (corners (start fourBoxes)) (0 ∷ 2 ∷ 0 ∷ 0 ∷ 3 ∷ 0 ∷ 5 ∷ 0 ∷ [])
 
--- both
+-- all of them
 pub worked : Bool
-worked = program && started
+worked = printedText && inputLength && weightsLeft && started
 
 -- the worked examples hold of the definitions
 pub worked-hold : worked ≡ true
-unfolding worked program started programOf corners twoSquares fourBoxes full sameNumbers share apartAt depth penalty pairsWith pairsFrom pairShares pairPenalty sumOver weightedSum plainSum pieceSum unitWeights rightmost usedLength places sumAt least searchLine turnTrials pieceTrials trialsFrom trials attempt descendFrom descend raisedOver raised rounds bestAfter lastWeights madeIn movesIn outcome guide insert fallingOrder stackAll start allows
+unfolding worked printedText inputLength weightsLeft started corners twoSquares fourBoxes full wordLine runText programRun programText sameNumbers share apartAt depth penalty pairsWith pairsFrom pairShares pairPenalty sumOver weightedSum plainSum pieceSum unitWeights rightmost usedLength places sumAt least searchLine turnTrials pieceTrials trialsFrom trials attempt descendFrom descend raisedOver raised rounds bestAfter lastWeights madeIn movesIn outcome guide insert fallingOrder stackAll start allows tight inside unless jobOf pixelStart standsAt digitsFrom numberAt fieldAt fieldsAt decimal fieldsText jobLine pieceLine markAt marksAt rowAt rowsAt pieceAt piecesAt readJob placementsText layoutText
 worked-hold = refl
