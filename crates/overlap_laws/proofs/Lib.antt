@@ -1,5 +1,8 @@
+-- Laws of the shared-pixel test, depths, the penalty and no-fit rows and columns (document 01, 'No-fit rows and penalty').
+-- Demand2Overlap has the claim.
 pub mod Share
 pub mod Depth
 pub mod Penalty
 pub mod Whole
 pub mod NoFit
+pub mod Demand2Overlap

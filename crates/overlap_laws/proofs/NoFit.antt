@@ -242,9 +242,11 @@ pairwise-map {A} {B} R S g f (a ∷ l) (more h p) =
     subst (λ (x : B). S (g a) x) (sym (z .image)) (f a (z .from) (h (z .from) (z .listed))))
     (pairwise-map R S g f l p)
 
--- what a no-fit line is: its runs list just the offsets of two pixels, each run is maximal, and the runs ascend
+-- what a no-fit line is: its runs list just the offsets of two pixels, each between -254 and 254, each run is maximal, and the runs
+-- ascend
 pub record NoFitLine (d : Direction) (s t : Shape) (o : ℤ) (rs : List OffsetRun) : Type 0 where
   pub exactly : (a : ℤ) → InOffsetRuns a rs ↔ PixelOffset d s t a o
+  pub inRange : (a : ℤ) → InOffsetRuns a rs → (subℕ 0 offsetBound ≤ℤ a) × (a ≤ℤ pos offsetBound)
   pub maximal : (r : OffsetRun) → List·Memᴰ r rs → MaximalOffsetRun d s t o r
   pub ascending : Pairwise OffsetRunBefore rs
 
@@ -255,6 +257,7 @@ no-fit-line d s t h k o =
     let n : ℕ = offsetBound + offsetBound + 1 in
     record {
       exactly = λ a. (no-fit-sound d s t o a, no-fit-complete d s t o h k a);
+      inRange = λ a w. offset-range d s t h k a o (no-fit-sound d s t o a w);
       maximal =
           λ r m.
           let z : Source unbiased (runs (noFitAt d s t o) n) r = map-source unbiased (runs (noFitAt d s t o) n) m in

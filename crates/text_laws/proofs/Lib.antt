@@ -1,4 +1,4 @@
--- Laws of the texts (document 01, 'Job text' and 'Start, layout text, sheet').
+-- Laws of the texts (document 01, 'Job text' and 'Start, layout text, sheet'). Demand1Text has the claim.
 pub mod Ahead
 pub mod Numbers
 pub mod Fields
@@ -12,3 +12,4 @@ pub mod JobRead
 pub mod JobWriting
 pub mod JobReadBack
 pub mod LentRead
+pub mod Demand1Text
