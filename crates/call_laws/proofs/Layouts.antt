@@ -1,0 +1,90 @@
+-- Document 01, 'When a call says no', 7, 9 and 10 of a layout and 7 and 2 of weights: lent buffers that are not refused hold a valid
+-- layout and valid weights, as demand 3 asks for. A layout buffer is read entry by entry, so what holds of each entry holds of each
+-- placement. Assumes nothing.
+use mathlib.Core.Bool.{Bool, true, false, not, false≢true, true≢false}
+use mathlib.Core.List.{List, [], _∷_}
+use mathlib.Core.Option.{Option, none, some}
+use mathlib.Core.Path.{_≡_, refl, _∙_}
+use Prim.Native.Nat.{ℕ, zero, suc, _<_}
+use native.Mathlib.Nat.{not-suc-le-zero, le-of-suc-le-suc}
+use borrow.Author.Tests.{leb-true, not-false, eqb-true}
+use lib.Dec.{leb}
+use lib.ListN.{length, getD, length-map, List·getD-map}
+use Rattle.model.specs.Layout.{Job, allowed, inside, placeOf, pairs}
+use Rattle.model.specs.Buffer.{turnOfDegrees, turnPasses, turnOf, placementOf, layoutOf}
+use Rattle.model.specs.Guided.{weightBound}
+use Rattle.model.specs.Lent.{Lent, jobOf, lentWell, upTo}
+use Rattle.model.specs.Calls.{allowedDegrees, someTurnWrong, someOutside, someWeightWrong, jobCause, layoutLength, turnsCause, outsideCause, weightsLength}
+use Rattle.model.specs.declared.Turn.{Turn}
+use Rattle.model.specs.declared.Turn.the-variants.{Zero}
+use Rattle.model.proofs.Bounded.{any-none}
+use Rattle.model.proofs.Tests.{and-left, and-right}
+use Rattle.descent_laws.proofs.Claims.{InRange, ValidWeights, ValidLayout}
+
+-- ── layouts ──
+
+-- by the turn of the degrees, if there is one
+passes-step : (test : Turn → Bool) (o : Option Turn) → elim o as (λ _. Bool) [ none ↦ false | some t ↦ test t ] ≡ true
+    → test (elim o as (λ _. Turn) [ none ↦ Zero | some t ↦ t ]) ≡ true
+passes-step test none e = absurd (false≢true e)
+passes-step test (some t) e = e
+
+-- degrees that pass are those of a turn that passes
+pub passes-turn : (test : Turn → Bool) (d : ℕ) → turnPasses test d ≡ true → test (turnOf d) ≡ true
+unfolding turnOf
+passes-turn test d e = passes-step test (turnOfDegrees d) e
+
+-- a piece's placement in a layout buffer is its entry's
+pub buffer-place : (es : List (List ℕ)) (i : ℕ) → placeOf (layoutOf es) i ≡ placementOf (getD es i [])
+unfolding turnOf turnOfDegrees
+buffer-place es i = List·getD-map placementOf es i []
+
+-- a layout buffer of the right length, none of whose turns is wrong and none of whose placements is outside, holds a valid layout
+pub buffer-valid : (j : Job) (es : List (List ℕ)) → length es ≡ j .count → someTurnWrong j es ≡ false → someOutside j (layoutOf es) ≡ false
+    → ValidLayout j (layoutOf es)
+unfolding someTurnWrong someOutside allowedDegrees
+buffer-valid j es size turns outside =
+    record {
+      onePerPiece = length-map es placementOf ∙ size;
+      insideSheet = λ i l. not-false _ (any-none (j .count) (λ k. not (inside j k (placeOf (layoutOf es) k))) outside i l);
+      turnAllowed = λ i l.
+          rw (buffer-place es i)
+          (passes-turn (allowed j i) (getD (getD es i []) 0 0)
+          (not-false _ (any-none (j .count) (λ k. not (turnPasses (allowed j k) (getD (getD es k []) 0 0))) turns i l)));
+    }
+
+-- ── weights ──
+
+-- by the test of the first weight
+weight-step : (w : ℕ) (ws : List ℕ) (b : Bool) → upTo weightBound w ≡ b
+    → elim b as (λ _. Bool) [ true ↦ someWeightWrong ws | false ↦ true ] ≡ false → InRange w × (someWeightWrong ws ≡ false)
+weight-step w ws true h e = ((leb-true 1 w (and-left _ (leb w weightBound) h), leb-true w weightBound (and-right (leb 1 w) _ h)), e)
+weight-step w ws false h e = absurd (true≢false e)
+
+-- where no weight is wrong each is in range
+weights-range : (ws : List ℕ) → someWeightWrong ws ≡ false → (k : ℕ) → k < length ws → InRange (getD ws k 0)
+unfolding someWeightWrong
+weights-range [] e k l = absurd (not-suc-le-zero l)
+weights-range (w ∷ ws) e zero l = weight-step w ws (upTo weightBound w) refl e .0
+weights-range (w ∷ ws) e (suc k) l = weights-range ws (weight-step w ws (upTo weightBound w) refl e .1) k (le-of-suc-le-suc l)
+
+-- a weight buffer with one weight a pair, none of which is wrong, holds valid weights
+pub weights-valid : (j : Job) (ws : List ℕ) → length ws ≡ length (pairs (j .count)) → someWeightWrong ws ≡ false → ValidWeights j ws
+weights-valid j ws size e = record { onePerPair = size; inRange = weights-range ws e }
+
+-- ── what the causes say ──
+
+-- the lent job passes the check
+pub job-well : (l : Lent) → jobCause l .there ≡ false → lentWell l ≡ true
+job-well l e = not-false (lentWell l) e
+
+-- the layout buffer holds a valid layout, where none of its causes is there
+pub layout-valid : (l : Lent) (es : List (List ℕ)) → layoutLength l es .there ≡ false → turnsCause l es .there ≡ false
+    → outsideCause l es .there ≡ false → ValidLayout (jobOf l) (layoutOf es)
+unfolding jobOf
+layout-valid l es size turns outside = buffer-valid (jobOf l) es (eqb-true (length es) (l .count) (not-false _ size)) turns outside
+
+-- the weight buffer holds valid weights, where none of its causes is there
+pub lent-weights-valid : (l : Lent) (ws : List ℕ) → weightsLength l ws .there ≡ false → someWeightWrong ws ≡ false → ValidWeights (jobOf l) ws
+unfolding jobOf
+lent-weights-valid l ws size e = weights-valid (jobOf l) ws (eqb-true (length ws) (length (pairs (l .count))) (not-false _ size)) e

@@ -1,0 +1,67 @@
+-- Demand 3 of the public calls (document 01, 'Line search' and 'Descent and guidance'): whatever a caller lends, a line search, a
+-- descent or a guided run that is not refused is the job's own, and what demand 3 claims holds of it. The call's causes are not
+-- there, so the lent job has a piece and the lent buffers hold a valid layout and valid weights. Assumes nothing.
+use mathlib.Core.Bool.{Bool, true, false, not, _||_}
+use mathlib.Core.List.{List}
+use mathlib.Core.Option.{Option, none, some}
+use mathlib.Core.Path.{_≡_, refl, _∙_}
+use Prim.Native.Nat.{ℕ, zero, suc, _<_}
+use native.Mathlib.Omega.{arith}
+use borrow.Author.Tests.{eqb-false, not-false, ltb-false, ltb-true}
+use lib.Dec.{ltb, eqb}
+use lib.ListN.{length}
+use Rattle.model.specs.Layout.{Job, Layout}
+use Rattle.model.specs.Buffer.{layoutOf}
+use Rattle.model.specs.Search.{Best, places, searchLine}
+use Rattle.model.specs.Descent.{Descent, descend}
+use Rattle.model.specs.Guided.{Guided, guide, rounds}
+use Rattle.model.specs.Lent.{Lent, jobOf, lentWell, upTo}
+use Rattle.model.specs.Refusal.{given}
+use Rattle.model.specs.Calls.{budgetBound, roundBound, someTurnWrong, someWeightWrong, bestPlace, searchCall, descentCall, guidedCall}
+use Rattle.model.specs.declared.Turn.{Turn}
+use Rattle.model.specs.declared.Line.{Line}
+use Rattle.model.proofs.Tests.{or-neither}
+use Rattle.text_laws.proofs.Outcomes.{given-unless}
+use Rattle.descent_laws.proofs.Claims.{ValidWeights, ValidLayout, DescentClaims, GuidedClaims}
+use Rattle.descent_laws.proofs.Search.{Found, Searched, searched, below-inside}
+use Rattle.descent_laws.proofs.Lent.{lent-some}
+use Rattle.descent_laws.proofs.Demand3.{Demand3, demand3}
+use Rattle.call_laws.proofs.Layouts.{job-well, layout-valid, lent-weights-valid}
+
+-- a descent that the call gives is the job's, and demand 3's claims hold of it
+pub descent-given : (l : Lent) (es : List (List ℕ)) (ws : List ℕ) (budget : ℕ) (d : Descent) → descentCall l es ws budget ≡ given d
+    → DescentClaims (jobOf l) ws budget (layoutOf es) d
+unfolding descentCall
+descent-given l es ws budget d e =
+    let u = given-unless _ (descend (jobOf l) ws budget (layoutOf es)) d e in
+    let range = or-neither (someWeightWrong ws) (ltb budgetBound budget) (u .none .1 .1 .1 .0) in
+    let v : ValidLayout (jobOf l) (layoutOf es) = layout-valid l es (u .none .1 .0) (u .none .1 .1 .1 .1 .0) (u .none .1 .1 .1 .1 .1 .0) in
+    let w : ValidWeights (jobOf l) ws = lent-weights-valid l ws (u .none .1 .1 .0) (range .0) in
+    rw (← u .same) (demand3 (jobOf l) ws (layoutOf es) (lent-some l (job-well l (u .none .0))) w v .descents budget)
+
+-- a guided run that the call gives is the job's, and demand 3's claims hold of it and of each of its rounds
+pub guided-given : (l : Lent) (es : List (List ℕ)) (ws : List ℕ) (K budget : ℕ) (g : Guided) → guidedCall l es ws K budget ≡ given g
+    → GuidedClaims (jobOf l) ws budget K (layoutOf es) (rounds (jobOf l) budget K ws (layoutOf es)) g
+unfolding guidedCall
+guided-given l es ws K budget g e =
+    let u = given-unless _ (guide (jobOf l) K budget ws (layoutOf es)) g e in
+    let range = or-neither (someWeightWrong ws || ltb budgetBound budget) (not (upTo roundBound K)) (u .none .1 .1 .1 .0) in
+    let v : ValidLayout (jobOf l) (layoutOf es) = layout-valid l es (u .none .1 .0) (u .none .1 .1 .1 .1 .0) (u .none .1 .1 .1 .1 .1 .0) in
+    let w : ValidWeights (jobOf l) ws = lent-weights-valid l ws (u .none .1 .1 .0) (or-neither (someWeightWrong ws) _ (range .0) .0) in
+    rw (← u .same) (demand3 (jobOf l) ws (layoutOf es) (lent-some l (job-well l (u .none .0))) w v .guidedRuns budget K)
+
+-- where an inside corner lies on the line, the answer is a best place
+place-found : (j : Job) (ws : List ℕ) (v : Layout) (i : ℕ) (t : Turn) (line : Line) (o : Option Best) → Searched j ws v i t line o
+    → 0 < places j i t line → Found j ws v i t line (bestPlace o)
+place-found j ws v i t line none h some-place = absurd (h 0 (below-inside j i t line 0 some-place))
+place-found j ws v i t line (some b) h some-place = h
+
+-- a line search that the call gives found the least sum over the inside corners on the line and the smallest coordinate that has it
+pub search-given : (l : Lent) (es : List (List ℕ)) (ws : List ℕ) (i : ℕ) (t : Turn) (line : Line) (b : Best)
+    → searchCall l es ws i t line ≡ given b → Found (jobOf l) ws (layoutOf es) i t line b
+unfolding searchCall
+search-given l es ws i t line b e =
+    let u = given-unless _ (bestPlace (searchLine (jobOf l) ws (layoutOf es) i t line)) b e in
+    let n = eqb-false (places (jobOf l) i t line) 0 (u .none .1 .1 .1 .1 .1 .1 .0) in
+    rw (← u .same) (place-found (jobOf l) ws (layoutOf es) i t line (searchLine (jobOf l) ws (layoutOf es) i t line)
+    (searched (jobOf l) ws (layoutOf es) i t line) (omega arith))

@@ -1,0 +1,134 @@
+-- Document 01, 'Strips', stores and stretches: the part of a lent store that the lent starts cut out for a piece is the piece's strips
+-- in its turn, and it is never empty. The store is the pieces' strips one after the other, and each start is the number of strips
+-- before, so the cut falls between two pieces. Assumes nothing.
+use mathlib.Core.Bool.{true, false, not, _||_}
+use mathlib.Core.List.{List, [], _∷_, _++_, map, append-assoc, map-append}
+use mathlib.Core.Logic.{_↔_, _≢_}
+use mathlib.Core.Path.{_≡_, refl, sym, _∙_, ap, ap₂, subst}
+use Prim.Native.Nat.{ℕ, zero, suc, _+_, _-_, _<_}
+use native.Mathlib.Nat.{not-suc-le-zero, le-of-suc-le-suc, add-zero, zero-add}
+use native.Mathlib.Omega.{arith}
+use borrow.Author.Tests.{not-false, ltb-true}
+use lib.Dec.{ltb}
+use lib.ListN.{length, getD, take, drop, length-append, length-map, take-append-drop}
+use lib.Seq.{getD-take, take-append-seam, drop-append-seam}
+use Rattle.model.specs.Buffer.{stripEntry, sameNumbers, sameEntries}
+use Rattle.model.specs.Layout.{Job}
+use Rattle.model.specs.Lent.{Lent, jobOf, lentWell}
+use Rattle.model.specs.Refusal.{Outcome, refused, given}
+use Rattle.model.specs.Store.{pieceStrips, storeFrom, startsFrom, store, starts, storeWell, stretchIn, turnIn}
+use Rattle.model.specs.Calls.{Stores, storesWell, stretchOf, turnListWrong, stretchCall, stretchGiven, stretchNumber}
+use Rattle.model.specs.declared.Refusal.{Refusal}
+use Rattle.model.specs.declared.Direction.{Direction}
+use Rattle.model.specs.declared.Direction.the-variants.{Horizontal, Vertical}
+use Rattle.model.proofs.Tests.{and-left, and-right, or-neither}
+use Rattle.text_laws.proofs.Outcomes.{given-unless}
+use Rattle.call_laws.proofs.Lists.{same-numbers, same-entries}
+use Rattle.call_laws.proofs.Jobs.{lent-strips-some}
+use Rattle.call_laws.proofs.Layouts.{job-well}
+use Rattle.call_laws.proofs.Refusals.{refused-numbered}
+
+module _ (d : Direction) (j : Job) (ts : List ℕ) where
+  -- the first start
+  first-start : (at i left : ℕ) → getD (startsFrom d j ts at i left) 0 0 ≡ at
+  unfolding startsFrom
+  first-start at i zero = refl
+  first-start at i (suc left) = refl
+
+  -- piece i's strips stand in front of the later pieces' strips
+  front : (i left : ℕ) (after : List (List ℕ))
+      → map stripEntry (pieceStrips d j ts i ++ storeFrom d j ts (suc i) left) ++ after
+      ≡ map stripEntry (pieceStrips d j ts i) ++ (map stripEntry (storeFrom d j ts (suc i) left) ++ after)
+  front i left after =
+      let here : List (List ℕ) = map stripEntry (pieceStrips d j ts i) in
+      let rest : List (List ℕ) = map stripEntry (storeFrom d j ts (suc i) left) in
+      ap (λ (x : List (List ℕ)). x ++ after) (map-append stripEntry (pieceStrips d j ts i) (storeFrom d j ts (suc i) left))
+      ∙ append-assoc here rest after
+
+  -- starts k and k + 1, counted from piece i on, cut out the strips of piece i + k
+  cut : (at i left k : ℕ) (before after : List (List ℕ)) → k < left → length before ≡ at
+      → take (getD (startsFrom d j ts at i left) (suc k) 0 - getD (startsFrom d j ts at i left) k 0)
+      (drop (getD (startsFrom d j ts at i left) k 0) (before ++ (map stripEntry (storeFrom d j ts i left) ++ after)))
+      ≡ map stripEntry (pieceStrips d j ts (i + k))
+  unfolding startsFrom storeFrom
+  cut at i zero k before after l e = absurd (not-suc-le-zero l)
+  cut at i (suc left) zero before after l e =
+      let here : List (List ℕ) = map stripEntry (pieceStrips d j ts i) in
+      let rest : List (List ℕ) = map stripEntry (storeFrom d j ts (suc i) left) in
+      let n : ℕ = length (pieceStrips d j ts i) in
+      let s : getD (startsFrom d j ts (at + n) (suc i) left) 0 0 ≡ at + n = first-start (at + n) (suc i) left in
+      let size : at + n - at ≡ length here = let m = length-map (pieceStrips d j ts i) stripEntry in omega arith in
+      let rests : drop at (before ++ (map stripEntry (pieceStrips d j ts i ++ storeFrom d j ts (suc i) left) ++ after)) ≡ here ++ (rest ++ after) =
+      subst (λ (m : ℕ). drop m (before ++ (map stripEntry (pieceStrips d j ts i ++ storeFrom d j ts (suc i) left) ++ after)) ≡ here ++ (rest ++ after)) e
+      (drop-append-seam before _ ∙ front i left after) in
+      rw (s, size, rests, add-zero) (take-append-seam here (rest ++ after))
+  cut at i (suc left) (suc k) before after l e =
+      let here : List (List ℕ) = map stripEntry (pieceStrips d j ts i) in
+      let rest : List (List ℕ) = map stripEntry (storeFrom d j ts (suc i) left) in
+      let n : ℕ = length (pieceStrips d j ts i) in
+      let size : length (before ++ here) ≡ at + n =
+      length-append before here ∙ (let m = length-map (pieceStrips d j ts i) stripEntry in omega arith) in
+      let later = cut (at + n) (suc i) left k (before ++ here) after (le-of-suc-le-suc l) size in
+      let s : suc i + k ≡ i + suc k = omega arith in
+      let whole : before ++ (map stripEntry (pieceStrips d j ts i ++ storeFrom d j ts (suc i) left) ++ after) ≡ (before ++ here) ++ (rest ++ after) =
+      ap (λ (x : List (List ℕ)). before ++ x) (front i left after) ∙ sym (append-assoc before here (rest ++ after)) in
+      rw (whole, ← s) later
+
+-- the part that the lent starts cut out of a lent store is the piece's strips
+pub stretch-strips : (d : Direction) (j : Job) (ts : List ℕ) (entries : List (List ℕ)) (lentStarts : List ℕ) (i : ℕ)
+    → storeWell d j ts entries lentStarts ≡ true → i < j .count → stretchIn entries lentStarts i ≡ map stripEntry (pieceStrips d j ts i)
+unfolding storeWell stretchIn
+stretch-strips d j ts entries lentStarts i e l =
+    let n : ℕ = length (store d j ts) in
+    let begins : take n entries ≡ map stripEntry (store d j ts) = same-entries _ _ (and-left _ _ e) in
+    let counted : take (suc (j .count)) lentStarts ≡ starts d j ts =
+    same-numbers _ _ (and-right (sameEntries (take n entries) (map stripEntry (store d j ts))) _ e) in
+    let at : (k : ℕ) → k < suc (j .count) → getD lentStarts k 0 ≡ getD (starts d j ts) k 0 =
+    λ k b. sym (getD-take (suc (j .count)) lentStarts k 0 b) ∙ ap (λ (x : List ℕ). getD x k 0) counted in
+    let whole : entries ≡ [] ++ (map stripEntry (store d j ts) ++ drop n entries) =
+    sym (take-append-drop n entries) ∙ ap (λ (x : List (List ℕ)). x ++ drop n entries) begins in
+    let r = cut d j ts 0 0 (j .count) i [] (drop n entries) l refl in
+    ap₂ (λ (x y : ℕ). take (y - x) (drop x entries)) (at i (omega arith)) (at (suc i) (omega arith))
+    ∙ ap (λ (x : List (List ℕ)). take (getD (starts d j ts) (suc i) 0 - getD (starts d j ts) i 0) (drop (getD (starts d j ts) i 0) x)) whole
+    ∙ (rw zero-add at r)
+
+-- the same, from the row store or the column store
+pub stretch-of : (d : Direction) (j : Job) (ts : List ℕ) (lent : Stores) (i : ℕ) → storesWell j ts lent ≡ true → i < j .count
+    → stretchOf d lent i ≡ map stripEntry (pieceStrips d j ts i)
+unfolding storesWell
+stretch-of Horizontal j ts lent i e l = stretch-strips Horizontal j ts (lent .rowStrips) (lent .rowStarts) i (and-left _ _ e) l
+stretch-of Vertical j ts lent i e l =
+    stretch-strips Vertical j ts (lent .columnStrips) (lent .columnStarts) i
+    (and-right (storeWell Horizontal j ts (lent .rowStrips) (lent .rowStarts)) _ e) l
+
+-- a stretch that the call gives: the strips of the piece in its turn, at least one
+pub record StretchClaims (l : Lent) (ts : List ℕ) (i : ℕ) (d : Direction) (part : List (List ℕ)) : Type 0 where
+  pub strips-are : part ≡ map stripEntry (pieceStrips d (jobOf l) ts i)
+  pub some : 0 < length part
+
+-- it is so, whatever is lent
+pub stretch-some : (l : Lent) (ts : List ℕ) (lent : Stores) (i : ℕ) (d : Direction) (part : List (List ℕ))
+    → stretchCall l ts lent i d ≡ given part → StretchClaims l ts i d part
+unfolding stretchCall jobOf pieceStrips
+stretch-some l ts lent i d part e =
+    let u = given-unless _ (stretchOf d lent i) part e in
+    let there : i < l .count = ltb-true i (l .count) (not-false _ (or-neither (turnListWrong (jobOf l) ts) (not (ltb i (l .count))) (u .none .1 .0) .1)) in
+    let are : part ≡ map stripEntry (pieceStrips d (jobOf l) ts i) =
+    sym (u .same) ∙ stretch-of d (jobOf l) ts lent i (not-false (storesWell (jobOf l) ts lent) (u .none .1 .1 .0)) there in
+    let size = length-map (pieceStrips d (jobOf l) ts i) stripEntry in
+    let some = lent-strips-some l (job-well l (u .none .0)) d i (turnIn ts i) there in
+    record { strips-are = are; some = omega (arith, ap length are) }
+
+-- by what the call comes to
+tells-step : (o : Outcome (List (List ℕ))) → ((part : List (List ℕ)) → o ≡ given part → 0 < length part)
+    → ((r : Refusal) → o ≡ refused r → r .number ≢ 0) → (length (stretchGiven o) ≡ 0) ↔ (stretchNumber o ≢ 0)
+tells-step (refused r) some numbered = (λ e. numbered r refl, λ n. refl)
+tells-step (given part) some numbered = (λ e. absurd (omega (arith, some part refl)), λ n. absurd (n refl))
+
+-- the stretch that is handed out is empty exactly where the second call tells a number
+pub stretch-tells : (l : Lent) (ts : List ℕ) (lent : Stores) (i : ℕ) (d : Direction)
+    → (length (stretchGiven (stretchCall l ts lent i d)) ≡ 0) ↔ (stretchNumber (stretchCall l ts lent i d) ≢ 0)
+unfolding stretchCall
+stretch-tells l ts lent i d =
+    tells-step (stretchCall l ts lent i d) (λ part e. stretch-some l ts lent i d part e .some)
+    (λ r e. refused-numbered _ (stretchOf d lent i) r (omega arith, (omega arith, (omega arith, tt))) e)
