@@ -6,3 +6,4 @@ pub mod Layouts
 pub mod Runs
 pub mod Refusals
 pub mod Stores
+pub mod Rebuilding

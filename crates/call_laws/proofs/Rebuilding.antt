@@ -1,0 +1,147 @@
+-- Document 01, 'Strips' and the refusals of rebuilding: refusal 8 comes exactly where no panel of the box has just the lent strips, and
+-- what rebuilding writes is the pixels of each panel that has them. The test rebuilds the set and compares its strips; a panel that
+-- has the strips is that set again, and sets with the same box and pixels have the same bytes. Assumes nothing.
+use mathlib.Core.Bool.{true, not, _&&_}
+use mathlib.Core.List.{List, [], _∷_, map}
+use mathlib.Core.Logic.{_↔_}
+use mathlib.Core.Path.{_≡_, refl, sym, _∙_, ap, ap₂, subst}
+use Prim.Native.Nat.{ℕ, zero, suc, _+_, _*_, _/_, _%_, _<_, _≤_}
+use native.Mathlib.Nat.{mod-lt, div-lt-iff-lt-mul, mul-comm, zero-mul}
+use native.Mathlib.Omega.{arith}
+use borrow.Author.Tests.{not-false, leb-true}
+use lib.Dec.{leb}
+use lib.ListN.{length}
+use Rattle.model.specs.Bounded.{one-if}
+use Rattle.model.specs.Piece.{Shape, tight}
+use Rattle.model.specs.Strip.{Strip, strips, rebuilt}
+use Rattle.model.specs.Buffer.{stripEntry, entryStrip, bytesFrom, bytesOf, sameEntries}
+use Rattle.model.specs.Lent.{sideBound, upTo}
+use Rattle.model.specs.Refusal.{given}
+use Rattle.model.specs.Calls.{rebuiltFrom, stripsWell, rebuildCall}
+use Rattle.model.specs.declared.Direction.{Direction}
+use Rattle.model.specs.declared.Direction.the-variants.{Horizontal}
+use Rattle.model.proofs.Tests.{and-left, and-right, and-both}
+use Rattle.text_laws.proofs.Outcomes.{given-unless}
+use Rattle.strip_laws.proofs.Boxes.{SameShape, same-cell}
+use Rattle.strip_laws.proofs.Rebuild.{HasStrips, rebuilt-columns, rebuilt-rows, rebuilt-only}
+use Rattle.strip_laws.proofs.ValidStrips.{PieceHas, piece-exactly, valid-rebuilt}
+use Rattle.call_laws.proofs.Lists.{same-entries, same-entries-exactly}
+
+-- ── bytes ──
+
+-- where there is a number below l × w, l is not 0
+some-columns : (l w k : ℕ) → k < l * w → 0 < l
+some-columns zero w k h = let e = zero-mul w in omega arith
+some-columns (suc l) w k h = omega arith
+
+-- sets with the same box and pixels have the same bytes from number k on
+bytes-agree : (s u : Shape) → SameShape s u → (k left : ℕ) → k + left ≤ s .columns * s .rows → bytesFrom s k left ≡ bytesFrom u k left
+unfolding bytesFrom
+bytes-agree s u h k zero b = refl
+bytes-agree s u h k (suc left) b =
+    let some : 0 < s .columns = some-columns (s .columns) (s .rows) k (omega arith) in
+    let row : k / s .columns < s .rows = div-lt-iff-lt-mul some .1 (omega (arith, mul-comm (s .columns) (s .rows))) in
+    let here : s .has (k % s .columns) (k / s .columns) ≡ u .has (k % u .columns) (k / u .columns) =
+    same-cell Horizontal s u h (k % s .columns) (k / s .columns) (mod-lt k some) row
+    ∙ ap (λ (l : ℕ). u .has (k % l) (k / l)) (h .columns) in
+    ap₂ (λ (a : ℕ) (l : List ℕ). a ∷ l) (ap one-if here) (bytes-agree s u h (suc k) left (omega arith))
+
+-- sets with the same box and pixels have the same bytes
+pub same-bytes : (s u : Shape) → SameShape s u → bytesOf s ≡ bytesOf u
+same-bytes s u h = bytes-agree s u h 0 (s .columns * s .rows) (omega arith) ∙ ap₂ (λ (l w : ℕ). bytesFrom u 0 (l * w)) (h .columns) (h .rows)
+
+-- ── strips as entries ──
+
+-- strips are read back from their entries
+pub strips-read-back : (ts : List Strip) → map entryStrip (map stripEntry ts) ≡ ts
+strips-read-back [] = refl
+strips-read-back (t ∷ ts) = ap (λ (l : List Strip). t ∷ l) (strips-read-back ts)
+
+-- the strips of the rebuilt set, where the test passes
+well-strips : (d : Direction) (l w : ℕ) (ts : List Strip) → sameEntries (map stripEntry (strips d (rebuilt d l w ts))) (map stripEntry ts) ≡ true
+    → strips d (rebuilt d l w ts) ≡ ts
+well-strips d l w ts e =
+    sym (strips-read-back (strips d (rebuilt d l w ts)))
+    ∙ ap (λ (es : List (List ℕ)). map entryStrip es) (same-entries (map stripEntry (strips d (rebuilt d l w ts))) (map stripEntry ts) e)
+    ∙ strips-read-back ts
+
+-- the test of strips passes exactly where a piece of the box has just these strips
+pub strips-well-exactly : (d : Direction) (l w : ℕ) (ts : List Strip) → (stripsWell d l w (map stripEntry ts) ≡ true) ↔ PieceHas d l w ts
+unfolding stripsWell
+strips-well-exactly d l w ts = (
+  λ e.
+      let both : (tight (rebuilt d l w ts) && sameEntries (map stripEntry (strips d (rebuilt d l w ts))) (map stripEntry ts)) ≡ true =
+      rw (strips-read-back ts) at e in
+      record {
+        shape = rebuilt d l w ts;
+        has = record {
+              columns = rebuilt-columns d l w ts;
+              rows = rebuilt-rows d l w ts;
+              are = well-strips d l w ts (and-right (tight (rebuilt d l w ts)) _ both);
+            };
+        is-tight = and-left (tight (rebuilt d l w ts)) _ both;
+      },
+  λ h.
+      let v = piece-exactly d l w ts .0 h in
+      rw (strips-read-back ts)
+      (and-both (v .1) (same-entries-exactly _ _ .1 (ap (λ (us : List Strip). map stripEntry us) (valid-rebuilt d l w ts (v .0))))),
+)
+
+-- a piece of the box, whose strips stand in the lent entries
+pub record PieceOf (d : Direction) (l w : ℕ) (es : List (List ℕ)) (s : Shape) : Type 0 where
+  pub columns : s .columns ≡ l
+  pub rows : s .rows ≡ w
+  pub is-tight : tight s ≡ true
+  pub are : map stripEntry (strips d s) ≡ es
+
+-- ── the call ──
+
+-- where the test passes, the rebuilt set is such a piece
+pub well-piece : (d : Direction) (l w : ℕ) (es : List (List ℕ)) → stripsWell d l w es ≡ true → PieceOf d l w es (rebuiltFrom d l w es)
+unfolding stripsWell
+well-piece d l w es e =
+    let s : Shape = rebuiltFrom d l w es in
+    record {
+      columns = rebuilt-columns d l w (map entryStrip es);
+      rows = rebuilt-rows d l w (map entryStrip es);
+      is-tight = and-left (tight s) _ e;
+      are = same-entries (map stripEntry (strips d s)) es (and-right (tight s) _ e);
+    }
+
+-- the strips of such a piece are those that the entries are read as
+piece-strips : (d : Direction) (l w : ℕ) (es : List (List ℕ)) (s : Shape) → PieceOf d l w es s → HasStrips d l w (map entryStrip es) s
+piece-strips d l w es s p =
+    record {
+      columns = p .columns;
+      rows = p .rows;
+      are = sym (strips-read-back (strips d s)) ∙ ap (λ (xs : List (List ℕ)). map entryStrip xs) (p .are);
+    }
+
+-- where there is such a piece, the test passes
+pub piece-well : (d : Direction) (l w : ℕ) (es : List (List ℕ)) (s : Shape) → PieceOf d l w es s → stripsWell d l w es ≡ true
+piece-well d l w es s p =
+    let h : PieceHas d l w (strips d s) =
+    record { shape = s; has = record { columns = p .columns; rows = p .rows; are = refl }; is-tight = p .is-tight } in
+    subst (λ (xs : List (List ℕ)). stripsWell d l w xs ≡ true) (p .are) (strips-well-exactly d l w (strips d s) .1 h)
+
+-- refusal 8 of rebuilding is not there exactly where some piece of the box has just the lent strips
+pub strips-well-piece : (d : Direction) (l w : ℕ) (es : List (List ℕ)) → (stripsWell d l w es ≡ true) ↔ ((s : Shape) × PieceOf d l w es s)
+strips-well-piece d l w es = (λ e. (rebuiltFrom d l w es, well-piece d l w es e), λ h. piece-well d l w es (h .0) (h .1))
+
+-- what rebuilding gives: a piece of the box that has the strips, the only one, and so its bytes are those of each piece that has them
+pub record RebuildClaims (d : Direction) (l w : ℕ) (es : List (List ℕ)) (s : Shape) : Type 0 where
+  pub piece : PieceOf d l w es s
+  pub only : (u : Shape) → PieceOf d l w es u → SameShape s u
+  pub bytes : (u : Shape) → PieceOf d l w es u → bytesOf s ≡ bytesOf u
+
+-- it is so, whatever is lent
+pub rebuild-given : (d : Direction) (l w : ℕ) (es : List (List ℕ)) (room : ℕ) (s : Shape) → rebuildCall d l w es room ≡ given s
+    → RebuildClaims d l w es s
+unfolding rebuildCall
+rebuild-given d l w es room s e =
+    let u = given-unless _ (rebuiltFrom d l w es) s e in
+    let well : stripsWell d l w es ≡ true = not-false (stripsWell d l w es) (u .none .1 .0) in
+    let same : (v : Shape) → PieceOf d l w es v → SameShape (rebuiltFrom d l w es) v =
+    λ v p. rebuilt-only d l w (map entryStrip es) v (piece-strips d l w es v p) in
+    rw (← u .same)
+    (record { piece = well-piece d l w es well; only = same; bytes = λ v p. same-bytes (rebuiltFrom d l w es) v (same v p) })
