@@ -7,3 +7,5 @@ pub mod Runs
 pub mod Refusals
 pub mod Stores
 pub mod Rebuilding
+pub mod Overlaps
+pub mod Checks

@@ -107,7 +107,7 @@ pub record Ordered (i n : ℕ) (p : Pair) : Type 0 where
   pub below : p .second < n
 
 -- a pair with first number i has a second number from k on
-mem-with : (i k left : ℕ) (p : Pair) → List·Memᴰ p (pairsWith i k left) → (p .first ≡ i) × (k ≤ p .second) × (p .second < k + left)
+pub mem-with : (i k left : ℕ) (p : Pair) → List·Memᴰ p (pairsWith i k left) → (p .first ≡ i) × (k ≤ p .second) × (p .second < k + left)
 unfolding pairsWith
 mem-with i k zero p m = absurd (List·Memᴰ·not-nil m)
 mem-with i k (suc left) p m =
@@ -115,7 +115,7 @@ mem-with i k (suc left) p m =
     (λ m′. let r = mem-with i (suc k) left p m′ in (r .0, omega arith, omega arith)) (List·Memᴰ·cases-cons m)
 
 -- a pair with first number from i on has a higher second number
-mem-from : (i left : ℕ) (p : Pair) → List·Memᴰ p (pairsFrom i left) → Ordered i (i + left) p
+pub mem-from : (i left : ℕ) (p : Pair) → List·Memᴰ p (pairsFrom i left) → Ordered i (i + left) p
 unfolding pairsFrom
 mem-from i zero p m = absurd (List·Memᴰ·not-nil m)
 mem-from i (suc left) p m =

@@ -1,0 +1,165 @@
+-- Document 01, 'When a call says no', checking a layout: a layout that passes is valid and no two of its pieces share a pixel; refusal 12
+-- names the pair that shares one, lowest first number, then lowest second. The pairs are listed in that order, and the check names
+-- the first that shares. Assumes nothing.
+use mathlib.Core.Bool.{Bool, true, false}
+use mathlib.Core.List.{List, [], _∷_, _++_, List·Memᴰ, List·Memᴰ·head, List·Memᴰ·tail, List·Memᴰ·not-nil, List·Memᴰ·cases-cons}
+use mathlib.Core.Logic.{_⊎_, inl, inr, ⊎-elim, _≢_}
+use mathlib.Core.Option.{Option, none, some}
+use mathlib.Core.Path.{_≡_, refl, sym, _∙_, ap, subst}
+use Prim.Native.Nat.{ℕ, zero, suc, _<_}
+use native.Mathlib.Omega.{arith}
+use Rattle.model.specs.Layout.{Job, Layout, Pair, pairsWith, pairsFrom, pairs, shapeIn, cornerIn, pairShares, firstPair, sharingPair}
+use Rattle.model.specs.Buffer.{layoutOf}
+use Rattle.model.specs.Lent.{Lent, jobOf}
+use Rattle.model.specs.Refusal.{Outcome, refused, given, Cause, unless, refusalOf, sharedPixel}
+use Rattle.model.specs.Calls.{jobCause, layoutLength, turnsCause, outsideCause, layoutCauses, sharedCause, checkCall}
+use Rattle.model.specs.declared.Refusal.{Refusal}
+use Rattle.model.proofs.Tests.{clash, fails}
+use Rattle.strip_laws.proofs.Lists.{Pairwise, none as no-more, more, pairwise-append}
+use Rattle.text_laws.proofs.Outcomes.{given-unless}
+use Rattle.overlap_laws.proofs.Share.{SharedPixel, share-exactly, share-from, share-witness}
+use Rattle.descent_laws.proofs.Claims.{ValidLayout, NoSharedPixel}
+use Rattle.descent_laws.proofs.Sums.{Ordered, pair-mem, mem-pair, mem-with, mem-from}
+use Rattle.call_laws.proofs.Layouts.{layout-valid}
+
+-- ── the order of pairs ──
+
+-- the pair p stands before the pair q: a lower first number, or the same and a lower second
+abbrev pub PairBefore : Pair → Pair → Type 0
+PairBefore p q = (p .first < q .first) ⊎ ((p .first ≡ q .first) × (p .second < q .second))
+
+-- the pairs with first number i
+with-ordered : (i k left : ℕ) → Pairwise PairBefore (pairsWith i k left)
+unfolding pairsWith
+with-ordered i k zero = no-more
+with-ordered i k (suc left) =
+    more (λ q m. let r = mem-with i (suc k) left q m in inr (sym (r .0), r .1)) (with-ordered i (suc k) left)
+
+-- the pairs with first numbers from i on
+from-ordered : (i left : ℕ) → Pairwise PairBefore (pairsFrom i left)
+unfolding pairsFrom
+from-ordered i zero = no-more
+from-ordered i (suc left) =
+    pairwise-append (with-ordered i (suc i) left) (from-ordered (suc i) left)
+    (λ p q m m′.
+    let a = mem-with i (suc i) left p m .0 in
+    let b = mem-from (suc i) left q m′ .from in
+    inl (omega arith))
+
+-- all pairs stand in order of first number, then second
+pub pairs-ordered : (n : ℕ) → Pairwise PairBefore (pairs n)
+pairs-ordered n = from-ordered 0 n
+
+-- ── the first pair that passes ──
+
+-- what is found: nothing, and then no pair passes; or a pair of the list that passes and stands before every other that passes
+abbrev pub FirstFound : (Pair → Bool) → List Pair → Option Pair → Type 0
+FirstFound test ps none = (p : Pair) → List·Memᴰ p ps → test p ≡ false
+FirstFound test ps (some p) =
+    List·Memᴰ p ps × (test p ≡ true) × ((q : Pair) → List·Memᴰ q ps → test q ≡ true → (p ≡ q) ⊎ PairBefore p q)
+
+-- by whether the first pair of the list passes
+found-step : (test : Pair → Bool) (p : Pair) (ps : List Pair) (b : Bool) → test p ≡ b → ((q : Pair) → List·Memᴰ q ps → PairBefore p q)
+    → (o : Option Pair) → FirstFound test ps o → FirstFound test (p ∷ ps) (elim b as (λ _. Option Pair) [ true ↦ some p | false ↦ o ])
+found-step test p ps true e before o found =
+    (List·Memᴰ·head refl, e, λ q m t. ⊎-elim (λ h. inl (sym h)) (λ m′. inr (before q m′)) (List·Memᴰ·cases-cons m))
+found-step test p ps false e before none found = λ q m. ⊎-elim (λ h. ap test h ∙ e) (found q) (List·Memᴰ·cases-cons m)
+found-step test p ps false e before (some r) found = (
+  List·Memᴰ·tail (found .0),
+  found .1,
+  λ q m t. ⊎-elim (λ h. absurd (clash t (ap test h ∙ e))) (λ m′. found .2 q m′ t) (List·Memᴰ·cases-cons m),
+)
+
+-- `firstPair` finds it in an ordered list
+pub first-found : (test : Pair → Bool) (ps : List Pair) → Pairwise PairBefore ps → FirstFound test ps (firstPair test ps)
+unfolding firstPair
+first-found test [] no-more = λ q m. absurd (List·Memᴰ·not-nil m)
+first-found test (p ∷ ps) (more before rest) = found-step test p ps (test p) refl before (firstPair test ps) (first-found test ps rest)
+
+-- ── the check ──
+
+-- the pair that the check names: of two pieces that share a pixel, and every other such pair stands after it
+pub record LowestPair (j : Job) (v : Layout) (p : Pair) : Type 0 where
+  pub ordered : Ordered 0 (j .count) p
+  pub shared : SharedPixel (shapeIn j v (p .first)) (cornerIn v (p .first)) (shapeIn j v (p .second)) (cornerIn v (p .second))
+  pub lowest : (i k : ℕ) → i < k → k < j .count → SharedPixel (shapeIn j v i) (cornerIn v i) (shapeIn j v k) (cornerIn v k)
+      → (p ≡ record { first = i; second = k }) ⊎ PairBefore p (record { first = i; second = k })
+
+-- what the search for a pair that shares a pixel finds
+abbrev pub Sharing : Job → Layout → Option Pair → Type 0
+Sharing j v none = NoSharedPixel j v
+Sharing j v (some p) = LowestPair j v p
+
+-- from the tests to the pixels
+sharing-step : (j : Job) (v : Layout) (o : Option Pair) → FirstFound (pairShares j v) (pairs (j .count)) o → Sharing j v o
+unfolding pairShares
+sharing-step j v none found =
+    λ i k l m w. clash (share-from _ _ _ _ w) (found (record { first = i; second = k }) (pair-mem (j .count) i k l m))
+sharing-step j v (some p) found =
+    record {
+      ordered = mem-pair (j .count) p (found .0);
+      shared = share-witness _ _ _ _ (found .1);
+      lowest = λ i k l m w. found .2 (record { first = i; second = k }) (pair-mem (j .count) i k l m) (share-from _ _ _ _ w);
+    }
+
+-- the search answers so
+pub sharing : (j : Job) (v : Layout) → Sharing j v (sharingPair j v)
+unfolding sharingPair
+sharing j v = sharing-step j v (sharingPair j v) (first-found (pairShares j v) (pairs (j .count)) (pairs-ordered (j .count)))
+
+-- a layout that passes the check
+pub record Checked (j : Job) (v : Layout) : Type 0 where
+  pub valid : ValidLayout j v
+  pub apart : NoSharedPixel j v
+
+-- where the search's cause is not there, no two pieces share a pixel
+none-shared : (j : Job) (v : Layout) (o : Option Pair) → Sharing j v o → sharedCause o .there ≡ false → NoSharedPixel j v
+none-shared j v none h e = h
+none-shared j v (some p) h e = absurd (clash refl e)
+
+-- a layout that passes the check is valid, and no two of its pieces share a pixel
+pub check-given : (l : Lent) (es : List (List ℕ)) (u : Unit {0}) → checkCall l es ≡ given u → Checked (jobOf l) (layoutOf es)
+unfolding checkCall layoutCauses
+check-given l es u e =
+    let n = given-unless (layoutCauses l es ++ (sharedCause (sharingPair (jobOf l) (layoutOf es)) ∷ [])) tt u e .none in
+    record {
+      valid = layout-valid l es (n .1 .0) (n .1 .1 .0) (n .1 .1 .1 .0);
+      apart = none-shared (jobOf l) (layoutOf es) (sharingPair (jobOf l) (layoutOf es)) (sharing (jobOf l) (layoutOf es)) (n .1 .1 .1 .1 .0);
+    }
+
+-- by whether the first cause is there
+past-step : {A : Type 0} (c : Cause) (cs : List Cause) (a : A) (r : Refusal) (t : Bool) → c .number ≢ r .number
+    → _≡_ {A = Outcome A} (elim t as (λ _. Outcome A) [ true ↦ refused (refusalOf c) | false ↦ unless cs a ]) (refused r)
+    → unless cs a ≡ refused r
+past-step c cs a r true n e = let same : refusalOf c ≡ r = cc in absurd (n (ap (λ (q : Refusal). q .number) same))
+past-step c cs a r false n e = e
+
+-- a refusal with another number than the first cause's comes from a later cause
+past : {A : Type 0} (c : Cause) (cs : List Cause) (a : A) (r : Refusal) → c .number ≢ r .number → unless (c ∷ cs) a ≡ refused r
+    → unless cs a ≡ refused r
+unfolding unless
+past c cs a r n e = past-step c cs a r (c .there) n e
+
+-- the refusal of a pair that shares a pixel
+abbrev pub sharedRefusal : Pair → Refusal
+sharedRefusal p = record { number = sharedPixel; first = p .first; second = p .second }
+
+-- the last cause names the pair that is found
+names-found : (j : Job) (v : Layout) (o : Option Pair) (p : Pair) → Sharing j v o
+    → unless (sharedCause o ∷ []) (tt {0}) ≡ refused (sharedRefusal p) → LowestPair j v p
+unfolding unless
+names-found j v none p h e = absurd (let z : _≡_ {A = ℕ} 0 1 = cc in omega arith)
+names-found j v (some q) p h e =
+    let same : sharedRefusal q ≡ sharedRefusal p = cc in
+    let pair : q ≡ p = λ i. record { first = same i .first; second = same i .second } in
+    subst (LowestPair j v) pair h
+
+-- refusal 12 names the lowest pair that shares a pixel
+pub check-shared : (l : Lent) (es : List (List ℕ)) (p : Pair) → checkCall l es ≡ refused (sharedRefusal p) → LowestPair (jobOf l) (layoutOf es) p
+unfolding checkCall layoutCauses
+check-shared l es p e =
+    let o : Option Pair = sharingPair (jobOf l) (layoutOf es) in
+    let r : Refusal = sharedRefusal p in
+    names-found (jobOf l) (layoutOf es) o p (sharing (jobOf l) (layoutOf es))
+    (past (outsideCause l es) (sharedCause o ∷ []) tt r (omega arith)
+    (past (turnsCause l es) _ tt r (omega arith) (past (layoutLength l es) _ tt r (omega arith) (past (jobCause l) _ tt r (omega arith) e))))

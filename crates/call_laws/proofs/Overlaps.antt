@@ -1,0 +1,156 @@
+-- Demand 2 of the public calls (document 01, 'No-fit rows and penalty'): whatever a caller lends, a shared-pixel test, a depth, a penalty,
+-- a no-fit row or a sum that is not refused is that of the pieces' pixel sets where the lent layout puts them. The call's causes are
+-- not there, so the two numbers are pieces of the job, and a lent job's boxes have sides of at most 255. Assumes nothing.
+use mathlib.Core.Bool.{Bool, true, false, not, _&&_, _||_}
+use mathlib.Core.List.{List}
+use mathlib.Core.Logic.{_↔_, _≢_}
+use mathlib.Core.Path.{_≡_, refl, sym, _∙_, ap}
+use Prim.Native.Nat.{ℕ, _<_, _≤_}
+use borrow.Author.Tests.{not-false, ltb-true, eqb-false}
+use lib.Dec.{ltb, eqb}
+use lib.IntN.{ℤ}
+use Rattle.model.specs.Overlap.{OffsetRun, share, depth, penalty}
+use Rattle.model.specs.Layout.{Job, Layout, turnedPiece, allowed, shapeIn, cornerIn, placeOf, pairShares, pairPenalty, pairDepth, weightedSum, plainSum, unitWeights}
+use Rattle.model.specs.Buffer.{layoutOf}
+use Rattle.model.specs.Lent.{Lent, jobOf, lentWell, sideBound}
+use Rattle.model.specs.Refusal.{Outcome, given, unless}
+use Rattle.model.specs.Calls.{someTurnWrong, someWeightWrong, pairCauses, pairOf, LentStretch, known, stretchWell, noFitOf, shareCall, depthCall, penaltyCall, noFitCall, layoutCauses, weightedSumCall, plainSumCall}
+use Rattle.model.specs.declared.Direction.{Direction}
+use Rattle.model.specs.declared.Direction.the-variants.{Horizontal}
+use Rattle.model.proofs.Tests.{and-left, and-right, or-neither}
+use Rattle.text_laws.proofs.Outcomes.{NoCause, given-unless}
+use Rattle.overlap_laws.proofs.Share.{SharedPixel}
+use Rattle.overlap_laws.proofs.Depth.{LeastShift}
+use Rattle.overlap_laws.proofs.Penalty.{PenaltyLaws, demand2-penalty}
+use Rattle.overlap_laws.proofs.NoFit.{NoFitLine}
+use Rattle.descent_laws.proofs.Claims.{ValidLayout, ValidWeights, NoSharedPixel}
+use Rattle.descent_laws.proofs.Sums.{zero-exactly}
+use Rattle.descent_laws.proofs.Guided.{plain-zero, unit-valid}
+use Rattle.descent_laws.proofs.Bounds.{sumBound, weighted-at-most}
+use Rattle.call_laws.proofs.Jobs.{lent-sheet, lent-boxes-small, lent-turned-small, lent-no-fit}
+use Rattle.call_laws.proofs.Layouts.{job-well, layout-valid, lent-weights-valid}
+
+-- ── two pieces of a layout ──
+
+-- two pieces of a lent job in a valid layout
+pub record PairGiven (l : Lent) (es : List (List ℕ)) (i k : ℕ) : Type 0 where
+  pub well : lentWell l ≡ true
+  pub valid : ValidLayout (jobOf l) (layoutOf es)
+  pub first : i < jobOf l .count
+  pub second : k < jobOf l .count
+  pub distinct : i ≢ k
+
+-- where no cause of a call on a pair is there, it is such
+pub pair-given : (l : Lent) (es : List (List ℕ)) (i k : ℕ) → NoCause (pairCauses l es i k) → PairGiven l es i k
+unfolding pairCauses jobOf
+pair-given l es i k none =
+    let turns : Bool = someTurnWrong (jobOf l) es in
+    let a : Bool = not (ltb i (l .count)) in
+    let b : Bool = not (ltb k (l .count)) in
+    let abc = or-neither (turns || a || b) (eqb i k) (none .1 .1 .0) in
+    let ab = or-neither (turns || a) b (abc .0) in
+    let t = or-neither turns a (ab .0) in
+    record {
+      well = job-well l (none .0);
+      valid = layout-valid l es (none .1 .0) (t .0) (none .1 .1 .1 .0);
+      first = ltb-true i (l .count) (not-false _ (t .1));
+      second = ltb-true k (l .count) (not-false _ (ab .1));
+      distinct = eqb-false i k (abc .1);
+    }
+
+-- demand 2's laws of the shared-pixel test and the penalty, of two pieces where the layout puts them
+abbrev pub PairLaws : Job → Layout → ℕ → ℕ → Type 0
+PairLaws j v i k = PenaltyLaws (shapeIn j v i) (cornerIn v i) (shapeIn j v k) (cornerIn v k)
+
+-- what a penalty that is given means
+pub record PenaltyClaims (j : Job) (v : Layout) (i k n : ℕ) : Type 0 where
+  -- it is the penalty of the two pieces' pixel sets, of which demand 2's laws hold
+  pub is : n ≡ penalty (shapeIn j v i) (cornerIn v i) (shapeIn j v k) (cornerIn v k)
+  pub laws : PairLaws j v i k
+  -- it is 0 exactly when they share no pixel
+  pub zero-exactly : (n ≡ 0) ↔ (¬ SharedPixel (shapeIn j v i) (cornerIn v i) (shapeIn j v k) (cornerIn v k))
+  -- it is at most 255
+  pub small : n ≤ sideBound
+
+-- a penalty that the call gives
+pub penalty-given : (l : Lent) (es : List (List ℕ)) (i k n : ℕ) → penaltyCall l es i k ≡ given n → PenaltyClaims (jobOf l) (layoutOf es) i k n
+unfolding penaltyCall pairPenalty
+penalty-given l es i k n e =
+    let j : Job = jobOf l in
+    let v : Layout = layoutOf es in
+    let u = given-unless (pairCauses l es i k) (pairPenalty j v (pairOf i k)) n e in
+    let p : PairGiven l es i k = pair-given l es i k (u .none) in
+    let laws : PairLaws j v i k = demand2-penalty _ _ _ _ in
+    rw (← u .same)
+    (record {
+      is = refl;
+      laws = laws;
+      zero-exactly = laws .zero-no-pixel;
+      small =
+          laws .bounded Horizontal (lent-turned-small l (p .well) Horizontal i (placeOf v i .turn) (p .first))
+          (lent-turned-small l (p .well) Horizontal k (placeOf v k .turn) (p .second));
+    })
+
+-- a depth that the call gives is the least |t|, t whole, such that the second piece shifted by t shares no pixel with the first
+pub depth-given : (d : Direction) (l : Lent) (es : List (List ℕ)) (i k n : ℕ) → depthCall d l es i k ≡ given n
+    → LeastShift d (shapeIn (jobOf l) (layoutOf es) i) (cornerIn (layoutOf es) i) (shapeIn (jobOf l) (layoutOf es) k) (cornerIn (layoutOf es) k) n
+unfolding depthCall pairDepth
+depth-given d l es i k n e =
+    let u = given-unless (pairCauses l es i k) (pairDepth d (jobOf l) (layoutOf es) (pairOf i k)) n e in
+    rw (← u .same) (demand2-penalty _ _ _ _ .depths d)
+
+-- a shared-pixel test that the call gives says yes exactly when the two pieces share a pixel
+pub share-given : (l : Lent) (es : List (List ℕ)) (i k : ℕ) (b : Bool) → shareCall l es i k ≡ given b
+    → (b ≡ true)
+    ↔ SharedPixel (shapeIn (jobOf l) (layoutOf es) i) (cornerIn (layoutOf es) i) (shapeIn (jobOf l) (layoutOf es) k) (cornerIn (layoutOf es) k)
+unfolding shareCall pairShares
+share-given l es i k b e =
+    let u = given-unless (pairCauses l es i k) (pairShares (jobOf l) (layoutOf es) (pairOf i k)) b e in
+    rw (← u .same) (demand2-penalty _ _ _ _ .shared-exactly)
+
+-- ── no-fit rows and columns ──
+
+-- a no-fit row or column that the call gives is as document 01 says
+pub no-fit-given : (d : Direction) (l : Lent) (p q : LentStretch) (o : ℤ) (room : ℕ) (rs : List OffsetRun) → noFitCall d l p q o room ≡ given rs
+    → NoFitLine d (turnedPiece (jobOf l) (p .piece) (p .turn)) (turnedPiece (jobOf l) (q .piece) (q .turn)) o rs
+unfolding noFitCall noFitOf known
+no-fit-given d l p q o room rs e =
+    let u = given-unless _ (noFitOf d (jobOf l) p q o) rs e in
+    let both : (known (jobOf l) p && known (jobOf l) q) ≡ true = not-false _ (u .none .1 .0) in
+    let a : p .piece < jobOf l .count = ltb-true (p .piece) (jobOf l .count) (and-left _ _ (and-left _ _ both)) in
+    let b : q .piece < jobOf l .count = ltb-true (q .piece) (jobOf l .count) (and-left _ _ (and-right (known (jobOf l) p) _ both)) in
+    rw (← u .same) (lent-no-fit l (job-well l (u .none .0)) d (p .piece) (q .piece) (p .turn) (q .turn) a b o)
+
+-- ── sums ──
+
+-- what a sum that is given means: it is 0 exactly when no two pieces share a pixel, and it is at most 2,016 × 65,535 × 255
+pub record SumClaims (j : Job) (ws : List ℕ) (v : Layout) (n : ℕ) : Type 0 where
+  pub is : n ≡ weightedSum j ws v
+  pub zero-exactly : (n ≡ 0) ↔ NoSharedPixel j v
+  pub small : n ≤ sumBound
+
+-- of a weighted sum of a lent job by valid weights
+sum-claims : (l : Lent) (ws : List ℕ) (v : Layout) → lentWell l ≡ true → ValidWeights (jobOf l) ws → SumClaims (jobOf l) ws v (weightedSum (jobOf l) ws v)
+sum-claims l ws v well weights =
+    record {
+      is = refl;
+      zero-exactly = zero-exactly (jobOf l) ws v weights;
+      small = weighted-at-most (jobOf l) ws v (lent-sheet l well .count) (lent-boxes-small l well) weights;
+    }
+
+-- a weighted sum that the call gives
+pub weighted-given : (l : Lent) (es : List (List ℕ)) (ws : List ℕ) (n : ℕ) → weightedSumCall l es ws ≡ given n
+    → SumClaims (jobOf l) ws (layoutOf es) n
+unfolding weightedSumCall
+weighted-given l es ws n e =
+    let u = given-unless _ (weightedSum (jobOf l) ws (layoutOf es)) n e in
+    rw (← u .same)
+    (sum-claims l ws (layoutOf es) (job-well l (u .none .0)) (lent-weights-valid l ws (u .none .1 .1 .0) (u .none .1 .1 .1 .0)))
+
+-- a plain sum that the call gives: weights 1
+pub plain-given : (l : Lent) (es : List (List ℕ)) (n : ℕ) → plainSumCall l es ≡ given n
+    → SumClaims (jobOf l) (unitWeights (jobOf l .count)) (layoutOf es) n
+unfolding plainSumCall plainSum layoutCauses
+plain-given l es n e =
+    let u = given-unless (layoutCauses l es) (plainSum (jobOf l) (layoutOf es)) n e in
+    rw (← u .same) (sum-claims l (unitWeights (jobOf l .count)) (layoutOf es) (job-well l (u .none .0)) (unit-valid (jobOf l)))
