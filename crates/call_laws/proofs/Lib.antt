@@ -9,3 +9,5 @@ pub mod Stores
 pub mod Rebuilding
 pub mod Overlaps
 pub mod Checks
+pub mod Texts
+pub mod Sheets

@@ -75,10 +75,10 @@ strips-well-exactly d l w ts = (
       record {
         shape = rebuilt d l w ts;
         has = record {
-              columns = rebuilt-columns d l w ts;
-              rows = rebuilt-rows d l w ts;
-              are = well-strips d l w ts (and-right (tight (rebuilt d l w ts)) _ both);
-            };
+          columns = rebuilt-columns d l w ts;
+          rows = rebuilt-rows d l w ts;
+          are = well-strips d l w ts (and-right (tight (rebuilt d l w ts)) _ both);
+        };
         is-tight = and-left (tight (rebuilt d l w ts)) _ both;
       },
   λ h.

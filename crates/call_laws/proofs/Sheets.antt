@@ -1,0 +1,94 @@
+-- Demand 2 of the public calls on a sheet (document 01, 'Start, layout text, sheet'): for every lent job and every list of lay and withdraw
+-- calls from a fresh sheet, refused ones among them, each pixel's count is the number of laid pieces on it. On a lent job that
+-- passes the check, each call also finds that its sheet is one that some list of calls gives, so the public calls are the calls
+-- that cover_laws speaks of. Assumes nothing.
+use mathlib.Core.Bool.{Bool, true, false, not}
+use mathlib.Core.List.{List, [], _∷_}
+use mathlib.Core.Path.{_≡_, refl, sym, _∙_, ap, subst}
+use Prim.Native.Nat.{ℕ, _*_, _≤_}
+use borrow.Author.Tests.{eq-eqb, not-false}
+use lib.Dec.{eqb}
+use lib.ListN.{length}
+use Rattle.model.specs.Layout.{Job}
+use Rattle.model.specs.Lent.{Lent, jobOf, lentWell, pieceBound}
+use Rattle.model.specs.Refusal.{Outcome, given, unless}
+use Rattle.model.specs.Cover.{Sheet, Call, laying, withdrawing, called, afterwards, afterCalls, fresh, lay, withdraw, layCauses, withdrawCauses, sheetWell}
+use Rattle.model.specs.Calls.{sheetCauses, freshCall, layCall, withdrawCall}
+use Rattle.model.specs.declared.Placement.{Placement}
+use Rattle.text_laws.proofs.Outcomes.{given-unless}
+use Rattle.cover_laws.proofs.Reached.{well-sound}
+use Rattle.cover_laws.proofs.Effects.{LayGives, WithdrawGives, lay-gives, withdraw-gives, fresh-well, call-well}
+use Rattle.cover_laws.proofs.Demand2Cover.{CoverHolds, demand2-cover}
+use Rattle.call_laws.proofs.Jobs.{lent-sheet}
+use Rattle.call_laws.proofs.Layouts.{job-well}
+
+-- a sheet that some list of calls gives has one count a pixel
+counts-size : (l : Lent) (s : Sheet) → sheetWell (jobOf l) s ≡ true → eqb (length (s .counts)) (l .rows * l .columns) ≡ true
+unfolding jobOf
+counts-size l s h = eq-eqb (length (s .counts)) (l .rows * l .columns) (well-sound (jobOf l) s h .counts)
+
+-- on a lent job that passes the check and a sheet that some list of calls gives, the lay call is the lay of cover_laws
+pub lay-call : (l : Lent) (s : Sheet) (i : ℕ) (p : Placement) → lentWell l ≡ true → sheetWell (jobOf l) s ≡ true
+    → layCall l s i p ≡ called (jobOf l) s (laying i p)
+unfolding layCall called sheetCauses unless
+lay-call l s i p e h = rw (e, counts-size l s h, h)
+
+-- and the withdraw call is the withdraw
+pub withdraw-call : (l : Lent) (s : Sheet) (i : ℕ) → lentWell l ≡ true → sheetWell (jobOf l) s ≡ true
+    → withdrawCall l s i ≡ called (jobOf l) s (withdrawing i)
+unfolding withdrawCall called sheetCauses unless
+withdraw-call l s i e h = rw (e, counts-size l s h, h)
+
+-- a lay that the call gives, whatever is lent
+pub lay-given : (l : Lent) (s s′ : Sheet) (i : ℕ) (p : Placement) → layCall l s i p ≡ given s′ → LayGives (jobOf l) s i p s′
+unfolding layCall sheetCauses
+lay-given l s s′ i p e =
+    let n = given-unless (sheetCauses l s (layCauses (jobOf l) s i p)) (lay (jobOf l) s i p) s′ e .none in
+    let well : lentWell l ≡ true = job-well l (n .0) in
+    let sheet : sheetWell (jobOf l) s ≡ true = not-false (sheetWell (jobOf l) s) (n .1 .1 .0) in
+    lay-gives (jobOf l) (lent-sheet l well .count) s s′ i p sheet (sym (lay-call l s i p well sheet) ∙ e)
+
+-- a withdraw that the call gives, whatever is lent
+pub withdraw-given : (l : Lent) (s s′ : Sheet) (i : ℕ) → withdrawCall l s i ≡ given s′ → WithdrawGives (jobOf l) s i s′
+unfolding withdrawCall sheetCauses
+withdraw-given l s s′ i e =
+    let n = given-unless (sheetCauses l s (withdrawCauses (jobOf l) s i)) (withdraw (jobOf l) s i) s′ e .none in
+    let well : lentWell l ≡ true = job-well l (n .0) in
+    let sheet : sheetWell (jobOf l) s ≡ true = not-false (sheetWell (jobOf l) s) (n .1 .1 .0) in
+    withdraw-gives (jobOf l) (lent-sheet l well .count) s s′ i sheet (sym (withdraw-call l s i well sheet) ∙ e)
+
+-- ── lists of calls ──
+
+-- a public call on a sheet
+abbrev pub sheetCall : Lent → Sheet → Call → Outcome Sheet
+sheetCall l s (laying i p) = layCall l s i p
+sheetCall l s (withdrawing i) = withdrawCall l s i
+
+-- the sheet after a list of public calls, where a refused one changes nothing
+unfoldable pub afterSheetCalls : Lent → Sheet → List Call → Sheet
+afterSheetCalls l s [] = s
+afterSheetCalls l s (c ∷ cs) = afterSheetCalls l (afterwards s (sheetCall l s c)) cs
+
+-- a public call is the call that cover_laws speaks of
+sheet-call : (l : Lent) (s : Sheet) (c : Call) → lentWell l ≡ true → sheetWell (jobOf l) s ≡ true → sheetCall l s c ≡ called (jobOf l) s c
+sheet-call l s (laying i p) e h = lay-call l s i p e h
+sheet-call l s (withdrawing i) e h = withdraw-call l s i e h
+
+-- and so is a list of them
+pub sheet-calls : (l : Lent) (s : Sheet) (cs : List Call) → lentWell l ≡ true → sheetWell (jobOf l) s ≡ true
+    → afterSheetCalls l s cs ≡ afterCalls (jobOf l) s cs
+unfolding afterSheetCalls afterCalls
+sheet-calls l s [] e h = refl
+sheet-calls l s (c ∷ cs) e h =
+    ap (λ (o : Outcome Sheet). afterSheetCalls l (afterwards s o) cs) (sheet-call l s c e h)
+    ∙ sheet-calls l (afterwards s (called (jobOf l) s c)) cs e (call-well (jobOf l) (lent-sheet l e .count) s c h)
+
+-- after every list of public calls from a fresh sheet, given or refused, each pixel's count is the number of laid pieces on it
+pub fresh-given : (l : Lent) (room : ℕ) (s : Sheet) → freshCall l room ≡ given s → (cs : List Call)
+    → CoverHolds (jobOf l) cs (afterSheetCalls l s cs)
+unfolding freshCall
+fresh-given l room s e cs =
+    let u = given-unless _ (fresh (jobOf l)) s e in
+    let well : lentWell l ≡ true = job-well l (u .none .0) in
+    let few : jobOf l .count ≤ pieceBound = lent-sheet l well .count in
+    rw (← u .same, sheet-calls l (fresh (jobOf l)) cs well (fresh-well (jobOf l) few)) (demand2-cover (jobOf l) few cs)
