@@ -11,3 +11,4 @@ pub mod Overlaps
 pub mod Checks
 pub mod Texts
 pub mod Sheets
+pub mod Demands

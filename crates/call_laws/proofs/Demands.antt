@@ -1,0 +1,161 @@
+-- What demands 1, 2 and 3 say of the public calls, for a lent job, layouts, weights, stores, strips, sheets, texts and numbers of any
+-- content: nothing is asked of what is lent, since a call that is not refused has found it in order. The definitions of the calls
+-- are model's Calls; each field's proof is in the file of this crate that its theorem comes from. The last three theorems are the
+-- claims. Assumes nothing.
+use mathlib.Core.Bool.{Bool, true}
+use mathlib.Core.List.{List}
+use mathlib.Core.Logic.{_↔_, _≢_}
+use mathlib.Core.Path.{_≡_}
+use Prim.Native.Nat.{ℕ, _<_}
+use lib.IntN.{ℤ}
+use lib.ListN.{length}
+use Rattle.model.specs.Piece.{Shape}
+use Rattle.model.specs.Overlap.{OffsetRun}
+use Rattle.model.specs.Layout.{Layout, Pair, turnedPiece, shapeIn, cornerIn, unitWeights}
+use Rattle.model.specs.Buffer.{layoutOf}
+use Rattle.model.specs.Search.{Best}
+use Rattle.model.specs.Descent.{Descent}
+use Rattle.model.specs.Guided.{Guided, rounds}
+use Rattle.model.specs.Cover.{Sheet, Call}
+use Rattle.model.specs.Lent.{Lent, jobOf, lentWell}
+use Rattle.model.specs.Refusal.{Outcome, refused, given, Cause, unless}
+use Rattle.model.specs.JobText.{readJob}
+use Rattle.model.specs.Calls.{leaving, Stores, stretchCall, stretchGiven, stretchNumber, LentStretch, noFitCall, stripsWell, rebuildCall, shareCall, depthCall, penaltyCall, weightedSumCall, plainSumCall, searchCall, descentCall, guidedCall, writeLayoutCall, readLayoutCall, startCall, checkCall, freshCall, layCall, withdrawCall}
+use Rattle.model.specs.declared.Turn.{Turn}
+use Rattle.model.specs.declared.Direction.{Direction}
+use Rattle.model.specs.declared.Line.{Line}
+use Rattle.model.specs.declared.Placement.{Placement}
+use Rattle.model.specs.declared.Refusal.{Refusal}
+use Rattle.text_laws.proofs.Outcomes.{Unless}
+use Rattle.text_laws.proofs.JobRead.{job-read-well}
+use Rattle.text_laws.proofs.LentRead.{Readable, lent-well-readable}
+use Rattle.overlap_laws.proofs.Share.{SharedPixel}
+use Rattle.overlap_laws.proofs.Depth.{LeastShift}
+use Rattle.overlap_laws.proofs.NoFit.{NoFitLine}
+use Rattle.cover_laws.proofs.Effects.{LayGives, WithdrawGives}
+use Rattle.cover_laws.proofs.Demand2Cover.{CoverHolds}
+use Rattle.descent_laws.proofs.Claims.{ValidLayout, DescentClaims, GuidedClaims}
+use Rattle.descent_laws.proofs.Search.{Found}
+use Rattle.call_laws.proofs.Refusals.{FirstCause, refused-exactly, given-exactly, refused-leaves}
+use Rattle.call_laws.proofs.Stores.{StretchClaims, stretch-some, stretch-tells}
+use Rattle.call_laws.proofs.Rebuilding.{PieceOf, RebuildClaims, strips-well-piece, rebuild-given}
+use Rattle.call_laws.proofs.Overlaps.{PenaltyClaims, SumClaims, penalty-given, depth-given, share-given, no-fit-given, weighted-given, plain-given}
+use Rattle.call_laws.proofs.Checks.{LowestPair, Checked, sharedRefusal, check-given, check-shared}
+use Rattle.call_laws.proofs.Texts.{start-given, layout-given, written-read-back}
+use Rattle.call_laws.proofs.Runs.{search-given, descent-given, guided-given}
+use Rattle.call_laws.proofs.Sheets.{afterSheetCalls, lay-given, withdraw-given, fresh-given}
+
+-- ── demand 1: results as laid down, and refusals ──
+
+pub record Demand1Calls : Type 1 where
+  -- a call refuses exactly by the first of its causes that is there, and gives its value exactly where none is
+  pub refuses : {A : Type 0} (cs : List Cause) (a : A) (r : Refusal) → (unless cs a ≡ refused r) ↔ FirstCause cs r
+  pub gives : {A : Type 0} (cs : List Cause) (a b : A) → (unless cs a ≡ given b) ↔ Unless cs a b
+  -- a refusal leaves lent memory as it was
+  pub leaves : {A B : Type 0} (content : A → B) (before : B) (o : Outcome A) (r : Refusal) → o ≡ refused r → leaving content before o ≡ before
+  -- refusal 8 of a lent job is not there exactly where reading some text gives the job
+  pub job-check : (l : Lent) → (lentWell l ≡ true) ↔ Readable l
+  pub job-read : (text : List ℕ) (tableLength pixelsLength : ℕ) (l : Lent) → readJob text tableLength pixelsLength ≡ given l
+      → lentWell l ≡ true
+  -- the start layout and a layout that is read are valid, and what is written is read back
+  pub starts : (l : Lent) (room : ℕ) (v : Layout) → startCall l room ≡ given v → ValidLayout (jobOf l) v
+  pub layout-read : (l : Lent) (text : List ℕ) (room : ℕ) (v : Layout) → readLayoutCall l text room ≡ given v → ValidLayout (jobOf l) v
+  pub written-read : (l : Lent) (es : List (List ℕ)) (room : ℕ) (text : List ℕ) → writeLayoutCall l es room ≡ given text
+      → readLayoutCall l text (l .count) ≡ given (layoutOf es)
+  -- a layout that passes the check is valid with no shared pixel, and refusal 12 names the lowest pair that shares one
+  pub checks : (l : Lent) (es : List (List ℕ)) (u : Unit {0}) → checkCall l es ≡ given u → Checked (jobOf l) (layoutOf es)
+  pub check-names : (l : Lent) (es : List (List ℕ)) (p : Pair) → checkCall l es ≡ refused (sharedRefusal p)
+      → LowestPair (jobOf l) (layoutOf es) p
+
+-- ── demand 2: strips, overlap, counts ──
+
+pub record Demand2Calls : Type 0 where
+  -- a stretch is the piece's strips in its turn and never empty; an empty one is a refusal's, whose number the second call tells
+  pub stretches : (l : Lent) (ts : List ℕ) (lent : Stores) (i : ℕ) (d : Direction) (part : List (List ℕ))
+      → stretchCall l ts lent i d ≡ given part → StretchClaims l ts i d part
+  pub stretch-refused : (l : Lent) (ts : List ℕ) (lent : Stores) (i : ℕ) (d : Direction)
+      → (length (stretchGiven (stretchCall l ts lent i d)) ≡ 0) ↔ (stretchNumber (stretchCall l ts lent i d) ≢ 0)
+  -- rebuilding is refused with 8 exactly where no piece of the box has just the lent strips, and gives the one piece that has them
+  pub rebuild-check : (d : Direction) (columns rows : ℕ) (es : List (List ℕ))
+      → (stripsWell d columns rows es ≡ true) ↔ ((s : Shape) × PieceOf d columns rows es s)
+  pub rebuilds : (d : Direction) (columns rows : ℕ) (es : List (List ℕ)) (room : ℕ) (s : Shape) → rebuildCall d columns rows es room ≡ given s
+      → RebuildClaims d columns rows es s
+  -- shared-pixel test, depths, penalty and no-fit rows and columns are those of the pixel sets
+  pub shares : (l : Lent) (es : List (List ℕ)) (i k : ℕ) (b : Bool) → shareCall l es i k ≡ given b
+      → (b ≡ true)
+      ↔ SharedPixel (shapeIn (jobOf l) (layoutOf es) i) (cornerIn (layoutOf es) i) (shapeIn (jobOf l) (layoutOf es) k) (cornerIn (layoutOf es) k)
+  pub depths : (d : Direction) (l : Lent) (es : List (List ℕ)) (i k n : ℕ) → depthCall d l es i k ≡ given n
+      → LeastShift d (shapeIn (jobOf l) (layoutOf es) i) (cornerIn (layoutOf es) i) (shapeIn (jobOf l) (layoutOf es) k) (cornerIn (layoutOf es) k) n
+  pub penalties : (l : Lent) (es : List (List ℕ)) (i k n : ℕ) → penaltyCall l es i k ≡ given n → PenaltyClaims (jobOf l) (layoutOf es) i k n
+  pub no-fits : (d : Direction) (l : Lent) (p q : LentStretch) (o : ℤ) (room : ℕ) (rs : List OffsetRun) → noFitCall d l p q o room ≡ given rs
+      → NoFitLine d (turnedPiece (jobOf l) (p .piece) (p .turn)) (turnedPiece (jobOf l) (q .piece) (q .turn)) o rs
+  -- after every list of lay and withdraw calls from a fresh sheet each pixel's count is the number of laid pieces on it
+  pub counts : (l : Lent) (room : ℕ) (s : Sheet) → freshCall l room ≡ given s → (cs : List Call)
+      → CoverHolds (jobOf l) cs (afterSheetCalls l s cs)
+  -- a single lay or withdraw, on a sheet of any content that is not refused
+  pub lays : (l : Lent) (s s′ : Sheet) (i : ℕ) (p : Placement) → layCall l s i p ≡ given s′ → LayGives (jobOf l) s i p s′
+  pub withdraws : (l : Lent) (s s′ : Sheet) (i : ℕ) → withdrawCall l s i ≡ given s′ → WithdrawGives (jobOf l) s i s′
+
+-- ── demand 3: sums, line search, descent, guided run ──
+
+pub record Demand3Calls : Type 0 where
+  -- a sum is 0 exactly when no two pieces share a pixel
+  pub weighted-sums : (l : Lent) (es : List (List ℕ)) (ws : List ℕ) (n : ℕ) → weightedSumCall l es ws ≡ given n
+      → SumClaims (jobOf l) ws (layoutOf es) n
+  pub plain-sums : (l : Lent) (es : List (List ℕ)) (n : ℕ) → plainSumCall l es ≡ given n
+      → SumClaims (jobOf l) (unitWeights (jobOf l .count)) (layoutOf es) n
+  -- a line search finds the least sum over every inside corner on the line, and the smallest coordinate that has it
+  pub searches : (l : Lent) (es : List (List ℕ)) (ws : List ℕ) (i : ℕ) (t : Turn) (line : Line) (b : Best)
+      → searchCall l es ws i t line ≡ given b → Found (jobOf l) ws (layoutOf es) i t line b
+  -- demand 3's claims about a descent, whatever its budget
+  pub descents : (l : Lent) (es : List (List ℕ)) (ws : List ℕ) (budget : ℕ) (d : Descent) → descentCall l es ws budget ≡ given d
+      → DescentClaims (jobOf l) ws budget (layoutOf es) d
+  -- and about a guided run and each of its rounds, whatever their number and budget
+  pub guided-runs : (l : Lent) (es : List (List ℕ)) (ws : List ℕ) (K budget : ℕ) (g : Guided) → guidedCall l es ws K budget ≡ given g
+      → GuidedClaims (jobOf l) ws budget K (layoutOf es) (rounds (jobOf l) budget K ws (layoutOf es)) g
+
+-- ── the claims ──
+
+-- demand 1 holds of the public calls
+pub demand1-calls : Demand1Calls
+demand1-calls =
+    record {
+      refuses = refused-exactly;
+      gives = given-exactly;
+      leaves = refused-leaves;
+      job-check = lent-well-readable;
+      job-read = job-read-well;
+      starts = start-given;
+      layout-read = layout-given;
+      written-read = written-read-back;
+      checks = check-given;
+      check-names = check-shared;
+    }
+
+-- demand 2 holds of the public calls
+pub demand2-calls : Demand2Calls
+demand2-calls =
+    record {
+      stretches = stretch-some;
+      stretch-refused = stretch-tells;
+      rebuild-check = strips-well-piece;
+      rebuilds = rebuild-given;
+      shares = share-given;
+      depths = depth-given;
+      penalties = penalty-given;
+      no-fits = no-fit-given;
+      counts = fresh-given;
+      lays = lay-given;
+      withdraws = withdraw-given;
+    }
+
+-- demand 3 holds of the public calls
+pub demand3-calls : Demand3Calls
+demand3-calls =
+    record {
+      weighted-sums = weighted-given;
+      plain-sums = plain-given;
+      searches = search-given;
+      descents = descent-given;
+      guided-runs = guided-given;
+    }
