@@ -8,7 +8,7 @@ use borrow.Author.Tests.{leb-true}
 use lib.Dec.{leb}
 use lib.IntN.{ℤ}
 use lib.ListN.{length}
-use Rattle.model.specs.Piece.{Shape, turned, extent}
+use Rattle.model.specs.Piece.{Shape, turned, tight, extent}
 use Rattle.model.specs.Strip.{strips}
 use Rattle.model.specs.Overlap.{noFit}
 use Rattle.model.specs.Layout.{turnedPiece}
@@ -51,45 +51,54 @@ lent-sheet l e =
 
 -- the sides of an entry in range
 entry-sides : (l : Lent) (i : ℕ) → entryInRange (l .table) i ≡ true
-    → (entryColumns (l .table) i ≤ sideBound) × (entryRows (l .table) i ≤ sideBound)
+    → (upTo sideBound (entryColumns (l .table) i) ≡ true) × (upTo sideBound (entryRows (l .table) i) ≡ true)
 unfolding entryInRange
 entry-sides l i e =
     let c : Bool = upTo sideBound (entryColumns (l .table) i) in
     let r : Bool = upTo sideBound (entryRows (l .table) i) in
     let cr : (c && r) ≡ true = and-left (c && r) _ (and-left _ _ e) in
-    (up-to sideBound (entryColumns (l .table) i) (and-left c r cr), up-to sideBound (entryRows (l .table) i) (and-right c r cr))
+    (and-left c r cr, and-right c r cr)
 
--- a lent job's boxes have sides of at most 255
-pub lent-boxes-small : (l : Lent) → lentWell l ≡ true → BoxesSmall (jobOf l)
-unfolding jobOf
-lent-boxes-small l e =
-    record { columnsSmall = λ i b. entry-sides l i (facts l e .ranges i b) .0; rowsSmall = λ i b. entry-sides l i (facts l e .ranges i b) .1 }
+-- what holds of both sides of a box holds of either side in every turn
+turned-side : (P : ℕ → Type 0) (d : Direction) (t : Turn) (s : Shape) → P (s .columns) → P (s .rows) → P (extent d (turned t s))
+turned-side P Horizontal Zero s c r = c
+turned-side P Horizontal Quarter s c r = r
+turned-side P Horizontal Half s c r = c
+turned-side P Horizontal ThreeQuarters s c r = r
+turned-side P Vertical Zero s c r = r
+turned-side P Vertical Quarter s c r = c
+turned-side P Vertical Half s c r = r
+turned-side P Vertical ThreeQuarters s c r = c
 
--- a box with sides of at most 255 has them in every turn
-turned-small : (d : Direction) (t : Turn) (s : Shape) → s .columns ≤ sideBound → s .rows ≤ sideBound → extent d (turned t s) ≤ sideBound
-turned-small Horizontal Zero s c r = c
-turned-small Horizontal Quarter s c r = r
-turned-small Horizontal Half s c r = c
-turned-small Horizontal ThreeQuarters s c r = r
-turned-small Vertical Zero s c r = r
-turned-small Vertical Quarter s c r = c
-turned-small Vertical Half s c r = r
-turned-small Vertical ThreeQuarters s c r = c
+module _ (l : Lent) (well : lentWell l ≡ true) where
+  -- a lent job's boxes have sides of 1 to 255, in every turn
+  pub lent-side-in-range : (d : Direction) (i : ℕ) (t : Turn) → i < jobOf l .count
+      → upTo sideBound (extent d (turnedPiece (jobOf l) i t)) ≡ true
+  unfolding jobOf
+  lent-side-in-range d i t b =
+      let sides = entry-sides l i (facts l well .ranges i b) in
+      turned-side (λ n. upTo sideBound n ≡ true) d t (lentShape l i) (sides .0) (sides .1)
 
--- a lent job's boxes have sides of at most 255 in every turn
-pub lent-turned-small : (l : Lent) → lentWell l ≡ true → (d : Direction) (i : ℕ) (t : Turn) → i < jobOf l .count
-    → extent d (turnedPiece (jobOf l) i t) ≤ sideBound
-lent-turned-small l e d i t b =
-    let small : BoxesSmall (jobOf l) = lent-boxes-small l e in
-    turned-small d t _ (small .columnsSmall i b) (small .rowsSmall i b)
+  -- and so of at most 255
+  pub lent-turned-small : (d : Direction) (i : ℕ) (t : Turn) → i < jobOf l .count → extent d (turnedPiece (jobOf l) i t) ≤ sideBound
+  lent-turned-small d i t b = up-to sideBound (extent d (turnedPiece (jobOf l) i t)) (lent-side-in-range d i t b)
 
--- the no-fit rows and columns of a lent job's pieces in their turns are as document 01 says
-pub lent-no-fit : (l : Lent) → lentWell l ≡ true → (d : Direction) (i k : ℕ) (t u : Turn) → i < jobOf l .count → k < jobOf l .count → (o : ℤ)
-    → NoFitLine d (turnedPiece (jobOf l) i t) (turnedPiece (jobOf l) k u) o (noFit d (turnedPiece (jobOf l) i t) (turnedPiece (jobOf l) k u) o)
-lent-no-fit l e d i k t u b c o = no-fit-line d _ _ (lent-turned-small l e d i t b) (lent-turned-small l e d k u c) o
+  -- they have it as they are lent
+  pub lent-boxes-small : BoxesSmall (jobOf l)
+  lent-boxes-small =
+      record { columnsSmall = λ i b. lent-turned-small Horizontal i Zero b; rowsSmall = λ i b. lent-turned-small Vertical i Zero b }
 
--- no piece of a lent job is without strips, in any turn and direction
-pub lent-strips-some : (l : Lent) → lentWell l ≡ true → (d : Direction) (i : ℕ) (t : Turn) → i < jobOf l .count
-    → 0 < length (strips d (turnedPiece (jobOf l) i t))
-unfolding jobOf
-lent-strips-some l e d i t b = strips-some d _ (turned-tight t (lentShape l i) (facts l e .tightBoxes i b))
+  -- they are tight, in every turn
+  pub lent-tight : (i : ℕ) (t : Turn) → i < jobOf l .count → tight (turnedPiece (jobOf l) i t) ≡ true
+  unfolding jobOf
+  lent-tight i t b = turned-tight t (lentShape l i) (facts l well .tightBoxes i b)
+
+  -- the no-fit rows and columns of a lent job's pieces in their turns are as document 01 says
+  pub lent-no-fit : (d : Direction) (i k : ℕ) (t u : Turn) → i < jobOf l .count → k < jobOf l .count → (o : ℤ)
+      → NoFitLine d (turnedPiece (jobOf l) i t) (turnedPiece (jobOf l) k u) o
+      (noFit d (turnedPiece (jobOf l) i t) (turnedPiece (jobOf l) k u) o)
+  lent-no-fit d i k t u b c o = no-fit-line d _ _ (lent-turned-small d i t b) (lent-turned-small d k u c) o
+
+  -- no piece of a lent job is without strips, in any turn and direction
+  pub lent-strips-some : (d : Direction) (i : ℕ) (t : Turn) → i < jobOf l .count → 0 < length (strips d (turnedPiece (jobOf l) i t))
+  lent-strips-some d i t b = strips-some d _ (lent-tight i t b)

@@ -5,8 +5,8 @@ pub mod Jobs
 pub mod Layouts
 pub mod Runs
 pub mod Refusals
-pub mod Stores
 pub mod Rebuilding
+pub mod Stores
 pub mod Overlaps
 pub mod Checks
 pub mod Texts

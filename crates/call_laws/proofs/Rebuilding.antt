@@ -1,15 +1,15 @@
 -- Document 01, 'Strips' and the refusals of rebuilding: refusal 8 comes exactly where no panel of the box has just the lent strips, and
 -- what rebuilding writes is the pixels of each panel that has them. The test rebuilds the set and compares its strips; a panel that
 -- has the strips is that set again, and sets with the same box and pixels have the same bytes. Assumes nothing.
-use mathlib.Core.Bool.{true, not, _&&_}
+use mathlib.Core.Bool.{true, false, not, _&&_}
 use mathlib.Core.List.{List, [], _∷_, map}
 use mathlib.Core.Logic.{_↔_}
 use mathlib.Core.Path.{_≡_, refl, sym, _∙_, ap, ap₂, subst}
 use Prim.Native.Nat.{ℕ, zero, suc, _+_, _*_, _/_, _%_, _<_, _≤_}
 use native.Mathlib.Nat.{mod-lt, div-lt-iff-lt-mul, mul-comm, zero-mul}
 use native.Mathlib.Omega.{arith}
-use borrow.Author.Tests.{not-false, leb-true}
-use lib.Dec.{leb}
+use borrow.Author.Tests.{not-false, ltb-true}
+use lib.Dec.{ltb}
 use lib.ListN.{length}
 use Rattle.model.specs.Bounded.{one-if}
 use Rattle.model.specs.Piece.{Shape, tight}
@@ -20,12 +20,16 @@ use Rattle.model.specs.Refusal.{given}
 use Rattle.model.specs.Calls.{rebuiltFrom, stripsWell, rebuildCall}
 use Rattle.model.specs.declared.Direction.{Direction}
 use Rattle.model.specs.declared.Direction.the-variants.{Horizontal}
-use Rattle.model.proofs.Tests.{and-left, and-right, and-both}
-use Rattle.text_laws.proofs.Outcomes.{given-unless}
+use Rattle.model.proofs.Tests.{and-left, and-right, and-both, fails}
+use Rattle.text_laws.proofs.Outcomes.{given-unless, unless-given}
 use Rattle.strip_laws.proofs.Boxes.{SameShape, same-cell}
 use Rattle.strip_laws.proofs.Rebuild.{HasStrips, rebuilt-columns, rebuilt-rows, rebuilt-only}
 use Rattle.strip_laws.proofs.ValidStrips.{PieceHas, piece-exactly, valid-rebuilt}
 use Rattle.call_laws.proofs.Lists.{same-entries, same-entries-exactly}
+
+-- a number that is at least another is not below it
+not-less : {m n : ℕ} → m ≤ n → ltb n m ≡ false
+not-less {m} {n} h = fails (ltb n m) (λ e. let l : n < m = ltb-true n m e in omega arith)
 
 -- ── bytes ──
 
@@ -145,3 +149,21 @@ rebuild-given d l w es room s e =
     λ v p. rebuilt-only d l w (map entryStrip es) v (piece-strips d l w es v p) in
     rw (← u .same)
     (record { piece = well-piece d l w es well; only = same; bytes = λ v p. same-bytes (rebuiltFrom d l w es) v (same v p) })
+
+-- lent strips are rebuilt as the piece s
+pub record RebuiltAs (d : Direction) (es : List (List ℕ)) (s : Shape) (room : ℕ) : Type 0 where
+  pub shape : Shape
+  pub gives : rebuildCall d (s .columns) (s .rows) es room ≡ given shape
+  pub same : SameShape shape s
+  pub bytes : bytesOf shape ≡ bytesOf s
+
+-- they are, where they are its strips, its sides are 1 to 255 and the pixel buffer has room for its box
+pub rebuilt-back : (d : Direction) (es : List (List ℕ)) (s : Shape) (room : ℕ) → PieceOf d (s .columns) (s .rows) es s
+    → upTo sideBound (s .columns) ≡ true → upTo sideBound (s .rows) ≡ true → s .columns * s .rows ≤ room → RebuiltAs d es s room
+unfolding rebuildCall
+rebuilt-back d es s room piece c r space =
+    let again : Shape = rebuiltFrom d (s .columns) (s .rows) es in
+    let gives : rebuildCall d (s .columns) (s .rows) es room ≡ given again =
+    unless-given _ again (ap not (and-both c r), (ap not (piece-well d (s .columns) (s .rows) es s piece), (not-less space, tt))) in
+    let claims : RebuildClaims d (s .columns) (s .rows) es again = rebuild-given d (s .columns) (s .rows) es room again gives in
+    record { shape = again; gives = gives; same = claims .only s piece; bytes = claims .bytes s piece }

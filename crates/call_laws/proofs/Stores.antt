@@ -1,32 +1,34 @@
 -- Document 01, 'Strips', stores and stretches: the part of a lent store that the lent starts cut out for a piece is the piece's strips
 -- in its turn, and it is never empty. The store is the pieces' strips one after the other, and each start is the number of strips
 -- before, so the cut falls between two pieces. Assumes nothing.
-use mathlib.Core.Bool.{true, false, not, _||_}
+use mathlib.Core.Bool.{Bool, true, false, not, _||_}
 use mathlib.Core.List.{List, [], _∷_, _++_, map, append-assoc, map-append}
 use mathlib.Core.Logic.{_↔_, _≢_}
 use mathlib.Core.Path.{_≡_, refl, sym, _∙_, ap, ap₂, subst}
-use Prim.Native.Nat.{ℕ, zero, suc, _+_, _-_, _<_}
+use Prim.Native.Nat.{ℕ, zero, suc, _+_, _-_, _*_, _<_, _≤_}
 use native.Mathlib.Nat.{not-suc-le-zero, le-of-suc-le-suc, add-zero, zero-add}
 use native.Mathlib.Omega.{arith}
-use borrow.Author.Tests.{not-false, ltb-true}
+use borrow.Author.Tests.{not-false, ltb-true, lt-ltb}
 use lib.Dec.{ltb}
 use lib.ListN.{length, getD, take, drop, length-append, length-map, take-append-drop}
 use lib.Seq.{getD-take, take-append-seam, drop-append-seam}
-use Rattle.model.specs.Buffer.{stripEntry, sameNumbers, sameEntries}
-use Rattle.model.specs.Layout.{Job}
+use Rattle.model.specs.Buffer.{filled, stripEntry, sameNumbers, sameEntries}
+use Rattle.model.specs.Layout.{Job, turnedPiece}
 use Rattle.model.specs.Lent.{Lent, jobOf, lentWell}
 use Rattle.model.specs.Refusal.{Outcome, refused, given}
 use Rattle.model.specs.Store.{pieceStrips, storeFrom, startsFrom, store, starts, storeWell, stretchIn, turnIn}
-use Rattle.model.specs.Calls.{Stores, storesWell, stretchOf, turnListWrong, stretchCall, stretchGiven, stretchNumber}
+use Rattle.model.specs.Calls.{Stores, storesOf, storesWell, storesAfter, stripsCall, stretchWell, stretchOf, turnListWrong, stretchCall, stretchGiven, stretchNumber}
 use Rattle.model.specs.declared.Refusal.{Refusal}
+use Rattle.model.specs.declared.Turn.{Turn}
 use Rattle.model.specs.declared.Direction.{Direction}
 use Rattle.model.specs.declared.Direction.the-variants.{Horizontal, Vertical}
-use Rattle.model.proofs.Tests.{and-left, and-right, or-neither}
-use Rattle.text_laws.proofs.Outcomes.{given-unless}
-use Rattle.call_laws.proofs.Lists.{same-numbers, same-entries}
-use Rattle.call_laws.proofs.Jobs.{lent-strips-some}
+use Rattle.model.proofs.Tests.{and-left, and-right, and-both, or-neither}
+use Rattle.text_laws.proofs.Outcomes.{given-unless, unless-given}
+use Rattle.call_laws.proofs.Lists.{same-numbers, same-entries, same-numbers-exactly, same-entries-exactly}
+use Rattle.call_laws.proofs.Jobs.{lent-strips-some, lent-tight, lent-side-in-range}
 use Rattle.call_laws.proofs.Layouts.{job-well}
 use Rattle.call_laws.proofs.Refusals.{refused-numbered}
+use Rattle.call_laws.proofs.Rebuilding.{RebuiltAs, rebuilt-back}
 
 module _ (d : Direction) (j : Job) (ts : List ℕ) where
   -- the first start
@@ -101,8 +103,12 @@ stretch-of Vertical j ts lent i e l =
     stretch-strips Vertical j ts (lent .columnStrips) (lent .columnStarts) i
     (and-right (storeWell Horizontal j ts (lent .rowStrips) (lent .rowStarts)) _ e) l
 
--- a stretch that the call gives: the strips of the piece in its turn, at least one
+-- ── the stretch call ──
+
+-- a stretch that the call gives: the strips of a piece of the lent job in its turn, at least one
 pub record StretchClaims (l : Lent) (ts : List ℕ) (i : ℕ) (d : Direction) (part : List (List ℕ)) : Type 0 where
+  pub well : lentWell l ≡ true
+  pub there : i < jobOf l .count
   pub strips-are : part ≡ map stripEntry (pieceStrips d (jobOf l) ts i)
   pub some : 0 < length part
 
@@ -116,8 +122,9 @@ stretch-some l ts lent i d part e =
     let are : part ≡ map stripEntry (pieceStrips d (jobOf l) ts i) =
     sym (u .same) ∙ stretch-of d (jobOf l) ts lent i (not-false (storesWell (jobOf l) ts lent) (u .none .1 .1 .0)) there in
     let size = length-map (pieceStrips d (jobOf l) ts i) stripEntry in
-    let some = lent-strips-some l (job-well l (u .none .0)) d i (turnIn ts i) there in
-    record { strips-are = are; some = omega (arith, ap length are) }
+    let well : lentWell l ≡ true = job-well l (u .none .0) in
+    let some = lent-strips-some l well d i (turnIn ts i) there in
+    record { well = well; there = there; strips-are = are; some = omega (arith, ap length are) }
 
 -- by what the call comes to
 tells-step : (o : Outcome (List (List ℕ))) → ((part : List (List ℕ)) → o ≡ given part → 0 < length part)
@@ -132,3 +139,63 @@ unfolding stretchCall
 stretch-tells l ts lent i d =
     tells-step (stretchCall l ts lent i d) (λ part e. stretch-some l ts lent i d part e .some)
     (λ r e. refused-numbered _ (stretchOf d lent i) r (omega arith, (omega arith, (omega arith, tt))) e)
+
+-- ── from call to call ──
+
+-- there is a start for each piece and one more
+starts-length : (d : Direction) (j : Job) (ts : List ℕ) (at i left : ℕ) → length (startsFrom d j ts at i left) ≡ suc left
+unfolding startsFrom
+starts-length d j ts at i zero = refl
+starts-length d j ts at i (suc left) = ap suc (starts-length d j ts (at + length (pieceStrips d j ts i)) (suc i) left)
+
+-- a store and starts over the front of lent ones pass the test
+store-filled : (d : Direction) (j : Job) (ts : List ℕ) (entries : List (List ℕ)) (lentStarts : List ℕ)
+    → storeWell d j ts (filled (map stripEntry (store d j ts)) entries) (filled (starts d j ts) lentStarts) ≡ true
+unfolding storeWell
+store-filled d j ts entries lentStarts =
+    let es : List (List ℕ) = map stripEntry (store d j ts) in
+    let front-entries : take (length (store d j ts)) (filled es entries) ≡ es =
+    subst (λ (n : ℕ). take n (filled es entries) ≡ es) (length-map (store d j ts) stripEntry) (take-append-seam es (drop (length es) entries)) in
+    let front-starts : take (suc (j .count)) (filled (starts d j ts) lentStarts) ≡ starts d j ts =
+    subst (λ (n : ℕ). take n (filled (starts d j ts) lentStarts) ≡ starts d j ts) (starts-length d j ts 0 0 (j .count))
+    (take-append-seam (starts d j ts) (drop (length (starts d j ts)) lentStarts)) in
+    and-both (same-entries-exactly _ _ .1 front-entries) (same-numbers-exactly _ _ .1 front-starts)
+
+-- what the strips call leaves in the lent stores is the job's in these turns
+pub strips-given : (l : Lent) (ts : List ℕ) (lent s : Stores) → stripsCall l ts lent ≡ given s
+    → storesWell (jobOf l) ts (storesAfter lent (stripsCall l ts lent)) ≡ true
+unfolding stripsCall storesOf storesWell
+strips-given l ts lent s e =
+    let j : Job = jobOf l in
+    let u = given-unless _ (storesOf j ts) s e in
+    rw (e, ← u .same)
+    (and-both (store-filled Horizontal j ts (lent .rowStrips) (lent .rowStarts))
+    (store-filled Vertical j ts (lent .columnStrips) (lent .columnStarts)))
+
+-- so each piece's stretch is handed out of it
+pub stretch-after : (l : Lent) (ts : List ℕ) (lent s : Stores) → stripsCall l ts lent ≡ given s → (i : ℕ) (d : Direction) → i < l .count
+    → stretchCall l ts (storesAfter lent (stripsCall l ts lent)) i d ≡ given (map stripEntry (pieceStrips d (jobOf l) ts i))
+unfolding stripsCall stretchCall jobOf
+stretch-after l ts lent s e i d b =
+    let n = given-unless _ (storesOf (jobOf l) ts) s e .none in
+    let after : Stores = storesAfter lent (stripsCall l ts lent) in
+    let well : storesWell (jobOf l) ts after ≡ true = strips-given l ts lent s e in
+    unless-given _ (stretchOf d after i) (n .0, (ap₂ (λ (x y : Bool). x || not y) (n .1 .0) (lt-ltb i (l .count) b), (ap not well, tt)))
+    ∙ ap given (stretch-of d (jobOf l) ts after i well b)
+
+-- a stretch that is given is taken for the piece in its turn by the no-fit calls
+pub stretch-lent : (l : Lent) (ts : List ℕ) (i : ℕ) (d : Direction) (part : List (List ℕ)) → StretchClaims l ts i d part
+    → stretchWell d (jobOf l) (record { piece = i; turn = turnIn ts i; stretch = part }) ≡ true
+unfolding stretchWell pieceStrips
+stretch-lent l ts i d part c = same-entries-exactly _ _ .1 (c .strips-are)
+
+-- and is rebuilt as the piece in its turn, box and bytes: pixels become strips and strips the same pixels again
+pub stretch-rebuilt : (l : Lent) (ts : List ℕ) (i : ℕ) (d : Direction) (part : List (List ℕ)) (room : ℕ) → StretchClaims l ts i d part
+    → turnedPiece (jobOf l) i (turnIn ts i) .columns * turnedPiece (jobOf l) i (turnIn ts i) .rows ≤ room
+    → RebuiltAs d part (turnedPiece (jobOf l) i (turnIn ts i)) room
+unfolding pieceStrips
+stretch-rebuilt l ts i d part room c space =
+    let t : Turn = turnIn ts i in
+    rebuilt-back d part (turnedPiece (jobOf l) i t) room
+    (record { columns = refl; rows = refl; is-tight = lent-tight l (c .well) i t (c .there); are = sym (c .strips-are) })
+    (lent-side-in-range l (c .well) Horizontal i t (c .there)) (lent-side-in-range l (c .well) Vertical i t (c .there)) space
