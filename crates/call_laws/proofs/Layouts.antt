@@ -4,21 +4,24 @@
 use mathlib.Core.Bool.{Bool, true, false, not, false≢true, true≢false}
 use mathlib.Core.List.{List, [], _∷_}
 use mathlib.Core.Option.{Option, none, some}
-use mathlib.Core.Path.{_≡_, refl, _∙_}
+use mathlib.Core.Path.{_≡_, refl, _∙_, ap}
 use Prim.Native.Nat.{ℕ, zero, suc, _<_}
 use native.Mathlib.Nat.{not-suc-le-zero, le-of-suc-le-suc}
-use borrow.Author.Tests.{leb-true, not-false, eqb-true}
+use native.Mathlib.Omega.{arith}
+use borrow.Author.Tests.{leb-true, le-leb, not-false, eqb-true}
 use lib.Dec.{leb}
 use lib.ListN.{length, getD, length-map, List·getD-map}
-use Rattle.model.specs.Layout.{Job, allowed, inside, placeOf, pairs}
-use Rattle.model.specs.Buffer.{turnOfDegrees, turnPasses, turnOf, placementOf, layoutOf}
+use Rattle.model.specs.Piece.{degrees}
+use Rattle.model.specs.Layout.{Job, Layout, allowed, inside, placeOf, pairs}
+use Rattle.model.specs.Buffer.{turnOfDegrees, turnPasses, turnOf, entryOf, placementOf, entriesOf, layoutOf}
 use Rattle.model.specs.Guided.{weightBound}
 use Rattle.model.specs.Lent.{Lent, jobOf, lentWell, upTo}
 use Rattle.model.specs.Calls.{allowedDegrees, someTurnWrong, someOutside, someWeightWrong, jobCause, layoutLength, turnsCause, outsideCause, weightsLength}
 use Rattle.model.specs.declared.Turn.{Turn}
-use Rattle.model.specs.declared.Turn.the-variants.{Zero}
-use Rattle.model.proofs.Bounded.{any-none}
-use Rattle.model.proofs.Tests.{and-left, and-right}
+use Rattle.model.specs.declared.Turn.the-variants.{Zero, Quarter, Half, ThreeQuarters}
+use Rattle.model.proofs.Bounded.{any-none, none-any}
+use Rattle.model.proofs.Tests.{and-left, and-right, and-both}
+use Rattle.text_laws.proofs.Entries.{entries-read-back}
 use Rattle.descent_laws.proofs.Claims.{InRange, ValidWeights, ValidLayout}
 
 -- ── layouts ──
@@ -71,6 +74,52 @@ weights-range (w ∷ ws) e (suc k) l = weights-range ws (weight-step w ws (upTo 
 -- a weight buffer with one weight a pair, none of which is wrong, holds valid weights
 pub weights-valid : (j : Job) (ws : List ℕ) → length ws ≡ length (pairs (j .count)) → someWeightWrong ws ≡ false → ValidWeights j ws
 weights-valid j ws size e = record { onePerPair = size; inRange = weights-range ws e }
+
+-- ── valid layouts and weights in buffers ──
+
+-- entry i of a layout's buffer
+entry-at : (v : Layout) (i : ℕ) → i < length v → getD (entriesOf v) i [] ≡ entryOf (placeOf v i)
+entry-at [] i l = absurd (not-suc-le-zero l)
+entry-at (p ∷ v) zero l = refl
+entry-at (p ∷ v) (suc i) l = entry-at v i (le-of-suc-le-suc l)
+
+-- a turn that passes has degrees that pass
+pub turn-passes : (test : Turn → Bool) (t : Turn) → test t ≡ true → turnPasses test (degrees t) ≡ true
+unfolding turnOfDegrees
+turn-passes test Zero e = e
+turn-passes test Quarter e = e
+turn-passes test Half e = e
+turn-passes test ThreeQuarters e = e
+
+-- no cause is there of a buffer that holds a valid layout
+pub record BufferPasses (j : Job) (es : List (List ℕ)) : Type 0 where
+  pub size : length es ≡ j .count
+  pub turns : someTurnWrong j es ≡ false
+  pub outside : someOutside j (layoutOf es) ≡ false
+
+-- a valid layout, written as entries, is refused by no call for its length, turns or placements
+pub valid-buffer : (j : Job) (v : Layout) → ValidLayout j v → BufferPasses j (entriesOf v)
+unfolding someTurnWrong someOutside allowedDegrees
+valid-buffer j v h =
+    let size : length v ≡ j .count = h .onePerPiece in
+    record {
+      size = length-map v entryOf ∙ size;
+      turns =
+          none-any (j .count) _
+          (λ i l.
+          let e : getD (entriesOf v) i [] ≡ entryOf (placeOf v i) = entry-at v i (omega arith) in
+          rw e (ap not (turn-passes (allowed j i) (placeOf v i .turn) (h .turnAllowed i l))));
+      outside = rw (entries-read-back v) (none-any (j .count) _ (λ i l. ap not (h .insideSheet i l)));
+    }
+
+-- valid weights are none of them wrong
+pub weights-pass : (ws : List ℕ) → ((k : ℕ) → k < length ws → InRange (getD ws k 0)) → someWeightWrong ws ≡ false
+unfolding someWeightWrong
+weights-pass [] h = refl
+weights-pass (w ∷ ws) h =
+    let here : InRange w = h 0 (omega arith) in
+    let e : upTo weightBound w ≡ true = and-both (le-leb 1 w (here .0)) (le-leb w weightBound (here .1)) in
+    rw (e, someWeightWrong) (weights-pass ws (λ k l. h (suc k) (omega arith)))
 
 -- ── what the causes say ──
 

@@ -1,15 +1,14 @@
 -- Document 01, 'Strips' and the refusals of rebuilding: refusal 8 comes exactly where no panel of the box has just the lent strips, and
 -- what rebuilding writes is the pixels of each panel that has them. The test rebuilds the set and compares its strips; a panel that
 -- has the strips is that set again, and sets with the same box and pixels have the same bytes. Assumes nothing.
-use mathlib.Core.Bool.{true, false, not, _&&_}
+use mathlib.Core.Bool.{true, not, _&&_}
 use mathlib.Core.List.{List, [], _∷_, map}
 use mathlib.Core.Logic.{_↔_}
 use mathlib.Core.Path.{_≡_, refl, sym, _∙_, ap, ap₂, subst}
 use Prim.Native.Nat.{ℕ, zero, suc, _+_, _*_, _/_, _%_, _<_, _≤_}
 use native.Mathlib.Nat.{mod-lt, div-lt-iff-lt-mul, mul-comm, zero-mul}
 use native.Mathlib.Omega.{arith}
-use borrow.Author.Tests.{not-false, ltb-true}
-use lib.Dec.{ltb}
+use borrow.Author.Tests.{not-false}
 use lib.ListN.{length}
 use Rattle.model.specs.Bounded.{one-if}
 use Rattle.model.specs.Piece.{Shape, tight}
@@ -20,16 +19,13 @@ use Rattle.model.specs.Refusal.{given}
 use Rattle.model.specs.Calls.{rebuiltFrom, stripsWell, rebuildCall}
 use Rattle.model.specs.declared.Direction.{Direction}
 use Rattle.model.specs.declared.Direction.the-variants.{Horizontal}
-use Rattle.model.proofs.Tests.{and-left, and-right, and-both, fails}
+use Rattle.model.proofs.Tests.{and-left, and-right, and-both}
 use Rattle.text_laws.proofs.Outcomes.{given-unless, unless-given}
 use Rattle.strip_laws.proofs.Boxes.{SameShape, same-cell}
 use Rattle.strip_laws.proofs.Rebuild.{HasStrips, rebuilt-columns, rebuilt-rows, rebuilt-only}
 use Rattle.strip_laws.proofs.ValidStrips.{PieceHas, piece-exactly, valid-rebuilt}
 use Rattle.call_laws.proofs.Lists.{same-entries, same-entries-exactly}
-
--- a number that is at least another is not below it
-not-less : {m n : ℕ} → m ≤ n → ltb n m ≡ false
-not-less {m} {n} h = fails (ltb n m) (λ e. let l : n < m = ltb-true n m e in omega arith)
+use Rattle.call_laws.proofs.Refusals.{not-less}
 
 -- ── bytes ──
 

@@ -1,15 +1,18 @@
 -- Document 01, 'When a call says no': "No number comes without its cause, and the first cause in the order below wins", and a refusal
 -- "writes nothing". Every call's outcome is `unless` of its causes in order, so what is shown here holds of every call.
 -- Assumes nothing.
-use mathlib.Core.Bool.{Bool, true, false}
+use mathlib.Core.Bool.{Bool, true, false, _||_}
 use mathlib.Core.List.{List, [], _∷_, _++_}
 use mathlib.Core.Logic.{_↔_, _≢_}
 use mathlib.Core.Path.{_≡_, refl, sym, ap, subst, _∙_}
-use Prim.Native.Nat.{ℕ}
+use Prim.Native.Nat.{ℕ, _<_, _≤_}
 use native.Mathlib.Omega.{arith}
+use borrow.Author.Tests.{ltb-true}
+use lib.Dec.{ltb}
 use Rattle.model.specs.Refusal.{Outcome, refused, given, Cause, unless, refusalOf}
 use Rattle.model.specs.Calls.{leaving}
 use Rattle.model.specs.declared.Refusal.{Refusal}
+use Rattle.model.proofs.Tests.{fails}
 use Rattle.text_laws.proofs.Outcomes.{NoCause, Unless, unless-given, given-unless}
 
 -- the first cause of the list that is there leads to the refusal
@@ -94,3 +97,13 @@ pub refused-numbered : {A : Type 0} (cs : List Cause) (a : A) (r : Refusal) → 
 unfolding unless
 refused-numbered [] a r n e = absurd (given-refused e)
 refused-numbered (c ∷ cs) a r n e = numbered-step c cs a r (c .there) (n .0) (refused-numbered cs a r (n .1)) e
+
+-- ── causes that are not there ──
+
+-- neither of two tests passes
+pub or-none : {a b : Bool} → a ≡ false → b ≡ false → (a || b) ≡ false
+or-none {a} {b} p q = rw (p, q)
+
+-- a number that is at least another is not below it
+pub not-less : {m n : ℕ} → m ≤ n → ltb n m ≡ false
+not-less {m} {n} h = fails (ltb n m) (λ e. let l : n < m = ltb-true n m e in omega arith)

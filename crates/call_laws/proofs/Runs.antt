@@ -4,29 +4,34 @@
 use mathlib.Core.Bool.{Bool, true, false, not, _||_}
 use mathlib.Core.List.{List}
 use mathlib.Core.Option.{Option, none, some}
-use mathlib.Core.Path.{_≡_, refl, _∙_}
-use Prim.Native.Nat.{ℕ, zero, suc, _<_}
+use mathlib.Core.Path.{_≡_, refl, _∙_, ap}
+use Prim.Native.Nat.{ℕ, _<_, _≤_}
 use native.Mathlib.Omega.{arith}
-use borrow.Author.Tests.{eqb-false, not-false, ltb-false, ltb-true}
+use borrow.Author.Tests.{eqb-false, eq-eqb}
 use lib.Dec.{ltb, eqb}
 use lib.ListN.{length}
-use Rattle.model.specs.Layout.{Job, Layout}
-use Rattle.model.specs.Buffer.{layoutOf}
+use Rattle.model.specs.Layout.{Job, Layout, pairs, unitWeights}
+use Rattle.model.specs.Buffer.{entriesOf, layoutOf}
 use Rattle.model.specs.Search.{Best, places, searchLine}
 use Rattle.model.specs.Descent.{Descent, descend}
 use Rattle.model.specs.Guided.{Guided, guide, rounds}
 use Rattle.model.specs.Lent.{Lent, jobOf, lentWell, upTo}
 use Rattle.model.specs.Refusal.{given}
+use Rattle.model.specs.Start.{start}
+use Rattle.model.specs.Program.{programRounds, programBudget, programRun}
 use Rattle.model.specs.Calls.{budgetBound, roundBound, someTurnWrong, someWeightWrong, bestPlace, searchCall, descentCall, guidedCall}
 use Rattle.model.specs.declared.Turn.{Turn}
 use Rattle.model.specs.declared.Line.{Line}
 use Rattle.model.proofs.Tests.{or-neither}
-use Rattle.text_laws.proofs.Outcomes.{given-unless}
+use Rattle.text_laws.proofs.Entries.{entries-read-back}
+use Rattle.text_laws.proofs.Outcomes.{given-unless, unless-given}
 use Rattle.descent_laws.proofs.Claims.{ValidWeights, ValidLayout, DescentClaims, GuidedClaims}
 use Rattle.descent_laws.proofs.Search.{Found, Searched, searched, below-inside}
-use Rattle.descent_laws.proofs.Lent.{lent-some}
+use Rattle.descent_laws.proofs.Guided.{unit-valid}
+use Rattle.descent_laws.proofs.Lent.{lent-some, lent-start-valid}
 use Rattle.descent_laws.proofs.Demand3.{Demand3, demand3}
-use Rattle.call_laws.proofs.Layouts.{job-well, layout-valid, lent-weights-valid}
+use Rattle.call_laws.proofs.Refusals.{or-none, not-less}
+use Rattle.call_laws.proofs.Layouts.{BufferPasses, valid-buffer, weights-pass, job-well, layout-valid, lent-weights-valid}
 
 -- a descent that the call gives is the job's, and demand 3's claims hold of it
 pub descent-given : (l : Lent) (es : List (List ℕ)) (ws : List ℕ) (budget : ℕ) (d : Descent) → descentCall l es ws budget ≡ given d
@@ -65,3 +70,41 @@ search-given l es ws i t line b e =
     let n = eqb-false (places (jobOf l) i t line) 0 (u .none .1 .1 .1 .1 .1 .1 .0) in
     rw (← u .same) (place-found (jobOf l) ws (layoutOf es) i t line (searchLine (jobOf l) ws (layoutOf es) i t line)
     (searched (jobOf l) ws (layoutOf es) i t line) (omega arith))
+
+-- ── runs that are not refused ──
+
+module _ (l : Lent) (well : lentWell l ≡ true) (v : Layout) (valid : ValidLayout (jobOf l) v) (ws : List ℕ) (weights : ValidWeights (jobOf l) ws) where
+  -- a descent from a valid layout by valid weights is given
+  pub descent-taken : (budget : ℕ) → budget ≤ budgetBound → descentCall l (entriesOf v) ws budget ≡ given (descend (jobOf l) ws budget v)
+  unfolding descentCall jobOf
+  descent-taken budget few =
+      let p : BufferPasses (jobOf l) (entriesOf v) = valid-buffer (jobOf l) v valid in
+      unless-given _ (descend (jobOf l) ws budget (layoutOf (entriesOf v))) (
+        ap not well,
+        (ap not (eq-eqb (length (entriesOf v)) (l .count) (p .size)),
+        (ap not (eq-eqb (length ws) (length (pairs (l .count))) (weights .onePerPair)),
+        (or-none (weights-pass ws (weights .inRange)) (not-less few), (p .turns, (p .outside, tt))))),
+      )
+      ∙ ap (λ (w : Layout). given (descend (jobOf l) ws budget w)) (entries-read-back v)
+
+  -- and so is a guided run
+  pub guided-taken : (K budget : ℕ) → upTo roundBound K ≡ true → budget ≤ budgetBound
+      → guidedCall l (entriesOf v) ws K budget ≡ given (guide (jobOf l) K budget ws v)
+  unfolding guidedCall jobOf
+  guided-taken K budget counted few =
+      let p : BufferPasses (jobOf l) (entriesOf v) = valid-buffer (jobOf l) v valid in
+      unless-given _ (guide (jobOf l) K budget ws (layoutOf (entriesOf v))) (
+        ap not well,
+        (ap not (eq-eqb (length (entriesOf v)) (l .count) (p .size)),
+        (ap not (eq-eqb (length ws) (length (pairs (l .count))) (weights .onePerPair)),
+        (or-none (or-none (weights-pass ws (weights .inRange)) (not-less few)) (ap not counted), (p .turns, (p .outside, tt))))),
+      )
+      ∙ ap (λ (w : Layout). given (guide (jobOf l) K budget ws w)) (entries-read-back v)
+
+-- the program's run of a lent job is the guided run that the call gives, from the start layout by weights 1
+pub program-run-given : (l : Lent) → lentWell l ≡ true
+    → guidedCall l (entriesOf (start (jobOf l))) (unitWeights (jobOf l .count)) programRounds programBudget ≡ given (programRun (jobOf l))
+unfolding programRun
+program-run-given l well =
+    guided-taken l well (start (jobOf l)) (lent-start-valid l well) (unitWeights (jobOf l .count)) (unit-valid (jobOf l)) programRounds programBudget refl
+    (omega arith)

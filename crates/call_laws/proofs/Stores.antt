@@ -27,7 +27,7 @@ use Rattle.text_laws.proofs.Outcomes.{given-unless, unless-given}
 use Rattle.call_laws.proofs.Lists.{same-numbers, same-entries, same-numbers-exactly, same-entries-exactly}
 use Rattle.call_laws.proofs.Jobs.{lent-strips-some, lent-tight, lent-side-in-range}
 use Rattle.call_laws.proofs.Layouts.{job-well}
-use Rattle.call_laws.proofs.Refusals.{refused-numbered}
+use Rattle.call_laws.proofs.Refusals.{refused-numbered, or-none}
 use Rattle.call_laws.proofs.Rebuilding.{RebuiltAs, rebuilt-back}
 
 module _ (d : Direction) (j : Job) (ts : List ℕ) where
@@ -180,7 +180,7 @@ stretch-after l ts lent s e i d b =
     let n = given-unless _ (storesOf (jobOf l) ts) s e .none in
     let after : Stores = storesAfter lent (stripsCall l ts lent) in
     let well : storesWell (jobOf l) ts after ≡ true = strips-given l ts lent s e in
-    unless-given _ (stretchOf d after i) (n .0, (ap₂ (λ (x y : Bool). x || not y) (n .1 .0) (lt-ltb i (l .count) b), (ap not well, tt)))
+    unless-given _ (stretchOf d after i) (n .0, (or-none (n .1 .0) (ap not (lt-ltb i (l .count) b)), (ap not well, tt)))
     ∙ ap given (stretch-of d (jobOf l) ts after i well b)
 
 -- a stretch that is given is taken for the piece in its turn by the no-fit calls
