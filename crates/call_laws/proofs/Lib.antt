@@ -11,4 +11,5 @@ pub mod Overlaps
 pub mod Checks
 pub mod Texts
 pub mod Sheets
+pub mod Reading
 pub mod Demands

@@ -1,0 +1,113 @@
+-- Document 01, 'Job text', of the calls that follow a reading: the reader fills the front of a lent table and a lent pixel store and leaves
+-- what lies beyond, and the job that then stands in them passes the check of every call, with the pieces that were read. What lies
+-- beyond plays no part, since the check and the pieces look at n entries and their boxes' bytes. Assumes nothing.
+use mathlib.Core.Bool.{true}
+use mathlib.Core.List.{List, [], _++_}
+use mathlib.Core.Path.{_≡_, refl, sym, _∙_, ap, ap₂}
+use Prim.Native.Nat.{ℕ, zero, suc, _+_, _*_, _<_, _≤_}
+use native.Mathlib.Nat.{mul-comm}
+use native.Mathlib.Omega.{arith}
+use lib.Dec.{eqb}
+use lib.ListN.{length, getD, drop, length-append, List·getD-append}
+use Rattle.model.specs.Piece.{Shape, tight}
+use Rattle.model.specs.Layout.{Job}
+use Rattle.model.specs.Lent.{Lent, entryColumns, entryRows, entryTurns, pixelStart, entryInRange, entryFits, lentShape, jobOf, lentWell}
+use Rattle.model.specs.Refusal.{Outcome, given}
+use Rattle.model.specs.JobText.{readJob}
+use Rattle.model.specs.Calls.{tableAfter, storeAfter}
+use Rattle.text_laws.proofs.Store.{start-end, in-box, Agree, tight-agree}
+use Rattle.text_laws.proofs.LentFacts.{Facts, facts, well}
+use Rattle.text_laws.proofs.JobRead.{sides-some, job-read-well}
+
+-- the job with more entries and bytes behind its own
+abbrev pub longer : Lent → List (List ℕ) → List ℕ → Lent
+longer k more bytes = record { rows = k .rows; columns = k .columns; count = k .count; table = k .table ++ more; pixels = k .pixels ++ bytes }
+
+module _ (k : Lent) (passes : lentWell k ≡ true) (more : List (List ℕ)) (bytes : List ℕ) where
+  -- its entries are the job's
+  same-entry : (i : ℕ) → i < k .count → getD (k .table ++ more) i [] ≡ getD (k .table) i []
+  same-entry i l = List·getD-append (k .table) more [] i (let e = facts k passes .entries in omega arith)
+
+  -- its pieces' pixels begin where the job's do
+  same-start : (i : ℕ) → i ≤ k .count → pixelStart (k .table ++ more) i ≡ pixelStart (k .table) i
+  unfolding pixelStart
+  same-start zero l = refl
+  same-start (suc i) l =
+      ap₂ (λ (a b : ℕ). a + b) (same-start i (omega arith)) (ap (λ (e : List ℕ). getD e 0 0 * getD e 1 0) (same-entry i (omega arith)))
+
+  -- its bytes are the job's
+  same-byte : (i : ℕ) → i < pixelStart (k .table) (k .count) → getD (k .pixels ++ bytes) i 0 ≡ getD (k .pixels) i 0
+  same-byte i l = List·getD-append (k .pixels) bytes 0 i (let e = facts k passes .store in omega arith)
+
+  -- its pieces agree with the job's
+  pub longer-agree : (i : ℕ) → i < k .count → Agree (lentShape (longer k more bytes) i) (lentShape k i)
+  unfolding entryInRange pixelStart
+  longer-agree i l =
+      let some = sides-some (entryColumns (k .table) i) (entryRows (k .table) i) (entryTurns (k .table) i) (facts k passes .ranges i l) in
+      let c : ℕ = entryColumns (k .table) i in
+      let w : ℕ = entryRows (k .table) i in
+      let s : ℕ = pixelStart (k .table) i in
+      record {
+        columns = ap (λ (e : List ℕ). getD e 0 0) (same-entry i l);
+        rows = ap (λ (e : List ℕ). getD e 1 0) (same-entry i l);
+        wide = some .0;
+        high = some .1;
+        has = λ x y hx hy.
+            ap (λ (b : ℕ). eqb b 1)
+            (ap₂ (λ (n : ℕ) (e : List ℕ). getD (k .pixels ++ bytes) (n + (y * getD e 0 0 + x)) 0) (same-start i (omega arith)) (same-entry i l)
+            ∙ same-byte (s + (y * c + x))
+            (let b : y * c + x < w * c = in-box hx hy in
+            let end : s + c * w ≤ pixelStart (k .table) (k .count) = start-end (k .table) i (k .count) l in
+            omega (arith, mul-comm c w)));
+      }
+
+  -- the longer job passes the check too
+  pub longer-well : lentWell (longer k more bytes) ≡ true
+  unfolding entryInRange entryFits
+  longer-well =
+      let f : Facts k = facts k passes in
+      let total : pixelStart (k .table ++ more) (k .count) ≡ pixelStart (k .table) (k .count) = same-start (k .count) (omega arith) in
+      well (longer k more bytes)
+      (record {
+        sheet = f .sheet;
+        entries = let e = f .entries in omega (arith, length-append (k .table) more);
+        ranges = λ i l. rw (same-entry i l) (f .ranges i l);
+        fits = λ i l. rw (same-entry i l) (f .fits i l);
+        areas = let a = f .areas in omega arith;
+        store = let a = f .store in omega (arith, length-append (k .pixels) bytes);
+        bits = λ i l. (let b : i < pixelStart (k .table) (k .count) = omega arith in rw (same-byte i b) (f .bits i b));
+        tightBoxes = λ i l. tight-agree (lentShape (longer k more bytes) i) (lentShape k i) (longer-agree i l) ∙ f .tightBoxes i l;
+      })
+
+-- the job that stands in the lent buffers after a reading
+abbrev pub jobLeft : List ℕ → List (List ℕ) → List ℕ → Lent → Lent
+jobLeft text table pixels k =
+    record {
+      rows = k .rows;
+      columns = k .columns;
+      count = k .count;
+      table = tableAfter table (readJob text (length table) (length pixels));
+      pixels = storeAfter pixels (readJob text (length table) (length pixels));
+    }
+
+-- what is said of the job that a reading leaves, where it gave k
+pub record JobLeft (k left : Lent) : Type 0 where
+  -- it passes the check that every call makes of a lent job
+  pub passes : lentWell left ≡ true
+  -- its pieces have the boxes, the pixels and the turns that were read
+  pub pieces : (i : ℕ) → i < k .count → Agree (lentShape left i) (lentShape k i)
+  pub turns : (i : ℕ) → i < k .count → entryTurns (left .table) i ≡ entryTurns (k .table) i
+
+-- it is so, for a text and buffers of any content
+pub job-given : (text : List ℕ) (table : List (List ℕ)) (pixels : List ℕ) (k : Lent) → readJob text (length table) (length pixels) ≡ given k
+    → JobLeft k (jobLeft text table pixels k)
+job-given text table pixels k e =
+    let passes : lentWell k ≡ true = job-read-well text (length table) (length pixels) k e in
+    let more : List (List ℕ) = drop (length (k .table)) table in
+    let bytes : List ℕ = drop (length (k .pixels)) pixels in
+    rw e
+    (record {
+      passes = longer-well k passes more bytes;
+      pieces = longer-agree k passes more bytes;
+      turns = λ i l. ap (λ (x : List ℕ). getD x 2 0) (same-entry k passes more bytes i l);
+    })
