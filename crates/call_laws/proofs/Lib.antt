@@ -11,5 +11,6 @@ pub mod Overlaps
 pub mod Checks
 pub mod Texts
 pub mod Sheets
+pub mod Lengths
 pub mod Reading
 pub mod Demands

@@ -2,26 +2,26 @@
 -- a no-fit row or a sum that is not refused is that of the pieces' pixel sets where the lent layout puts them. The call's causes are
 -- not there, so the two numbers are pieces of the job, and a lent job's boxes have sides of at most 255. Assumes nothing.
 use mathlib.Core.Bool.{Bool, true, false, not, _&&_, _||_}
-use mathlib.Core.List.{List}
+use mathlib.Core.List.{List, [], _∷_}
 use mathlib.Core.Logic.{_↔_, _≢_}
-use mathlib.Core.Path.{_≡_, refl, sym, _∙_, ap}
+use mathlib.Core.Path.{_≡_, refl, sym, ap, ap₂}
 use Prim.Native.Nat.{ℕ, _<_, _≤_}
-use borrow.Author.Tests.{not-false, ltb-true, eqb-false}
+use borrow.Author.Tests.{not-false, ltb-true, eqb-true, eqb-false, eq-eqb}
 use lib.Dec.{ltb, eqb}
 use lib.IntN.{ℤ}
 use Rattle.model.specs.Overlap.{OffsetRun, share, depth, penalty}
 use Rattle.model.specs.Layout.{Job, Layout, turnedPiece, allowed, shapeIn, cornerIn, placeOf, pairShares, pairPenalty, pairDepth, weightedSum, plainSum, unitWeights}
 use Rattle.model.specs.Buffer.{layoutOf}
 use Rattle.model.specs.Lent.{Lent, jobOf, lentWell, sideBound}
-use Rattle.model.specs.Refusal.{Outcome, given, unless}
-use Rattle.model.specs.Calls.{someTurnWrong, someWeightWrong, pairCauses, pairOf, LentStretch, known, stretchWell, noFitOf, shareCall, depthCall, penaltyCall, noFitCall, layoutCauses, weightedSumCall, plainSumCall}
+use Rattle.model.specs.Refusal.{given, Cause, cause, unless, noSuchPiece}
+use Rattle.model.specs.Calls.{jobCause, layoutLength, outsideCause, someTurnWrong, someWeightWrong, pairCauses, pairOf, LentStretch, known, stretchWell, noFitOf, shareCall, depthCall, penaltyCall, noFitCall, layoutCauses, weightedSumCall, plainSumCall}
 use Rattle.model.specs.declared.Direction.{Direction}
 use Rattle.model.specs.declared.Direction.the-variants.{Horizontal}
-use Rattle.model.proofs.Tests.{and-left, and-right, or-neither}
+use Rattle.model.proofs.Tests.{and-left, and-right, or-neither, same-tests}
 use Rattle.text_laws.proofs.Outcomes.{NoCause, given-unless}
-use Rattle.overlap_laws.proofs.Share.{SharedPixel}
-use Rattle.overlap_laws.proofs.Depth.{LeastShift}
-use Rattle.overlap_laws.proofs.Penalty.{PenaltyLaws, demand2-penalty}
+use Rattle.overlap_laws.proofs.Share.{SharedPixel, share-symmetric}
+use Rattle.overlap_laws.proofs.Depth.{LeastShift, depth-symmetric}
+use Rattle.overlap_laws.proofs.Penalty.{PenaltyLaws, penalty-symmetric, demand2-penalty}
 use Rattle.overlap_laws.proofs.NoFit.{NoFitLine}
 use Rattle.descent_laws.proofs.Claims.{ValidLayout, ValidWeights, NoSharedPixel}
 use Rattle.descent_laws.proofs.Sums.{zero-exactly}
@@ -154,3 +154,39 @@ unfolding plainSumCall plainSum layoutCauses
 plain-given l es n e =
     let u = given-unless (layoutCauses l es) (plainSum (jobOf l) (layoutOf es)) n e in
     rw (← u .same) (sum-claims l (unitWeights (jobOf l .count)) (layoutOf es) (job-well l (u .none .0)) (unit-valid (jobOf l)))
+
+-- ── the order in which two pieces are named ──
+
+-- a test of equal numbers does not depend on their order
+eqb-order : (i k : ℕ) → eqb i k ≡ eqb k i
+eqb-order i k = same-tests (eqb i k) (eqb k i) (λ e. eq-eqb k i (sym (eqb-true i k e))) (λ e. eq-eqb i k (sym (eqb-true k i e)))
+
+-- nor does an `or` of two tests after another
+or-order : (t a b : Bool) → (t || a || b) ≡ (t || b || a)
+or-order true a b = refl
+or-order false true true = refl
+or-order false true false = refl
+or-order false false true = refl
+or-order false false false = refl
+
+-- the causes of a call on a pair are the same for either order
+causes-order : (l : Lent) (es : List (List ℕ)) (i k : ℕ) → pairCauses l es i k ≡ pairCauses l es k i
+unfolding pairCauses
+causes-order l es i k =
+    ap (λ (b : Bool). jobCause l ∷ layoutLength l es ∷ cause noSuchPiece b ∷ outsideCause l es ∷ [])
+    (ap₂ (λ (x y : Bool). x || y) (or-order (someTurnWrong (jobOf l) es) (not (ltb i (l .count))) (not (ltb k (l .count)))) (eqb-order i k))
+
+-- the penalty call answers the same whichever piece is called first, refusals among its answers
+pub penalty-order : (l : Lent) (es : List (List ℕ)) (i k : ℕ) → penaltyCall l es i k ≡ penaltyCall l es k i
+unfolding penaltyCall pairPenalty
+penalty-order l es i k = ap₂ (λ (cs : List Cause) (n : ℕ). unless cs n) (causes-order l es i k) (penalty-symmetric _ _ _ _)
+
+-- and so does the depth call
+pub depth-order : (d : Direction) (l : Lent) (es : List (List ℕ)) (i k : ℕ) → depthCall d l es i k ≡ depthCall d l es k i
+unfolding depthCall pairDepth
+depth-order d l es i k = ap₂ (λ (cs : List Cause) (n : ℕ). unless cs n) (causes-order l es i k) (depth-symmetric d _ _ _ _)
+
+-- and the shared-pixel test
+pub share-order : (l : Lent) (es : List (List ℕ)) (i k : ℕ) → shareCall l es i k ≡ shareCall l es k i
+unfolding shareCall pairShares
+share-order l es i k = ap₂ (λ (cs : List Cause) (b : Bool). unless cs b) (causes-order l es i k) (share-symmetric _ _ _ _)

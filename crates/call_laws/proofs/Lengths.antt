@@ -1,0 +1,86 @@
+-- Document 01, 'Start, layout text, sheet', the used length of a lent layout: the largest right end, attained by a piece, and no longer
+-- than the sheet. Assumes nothing.
+use mathlib.Core.Bool.{true}
+use mathlib.Core.List.{List}
+use mathlib.Core.Logic.{⊎-elim}
+use mathlib.Core.Path.{_≡_}
+use Prim.Native.Nat.{ℕ, zero, suc, _+_, _<_, _≤_}
+use native.Mathlib.Nat.{not-suc-le-zero, eq-or-lt-of-le, le-of-suc-le-suc}
+use native.Mathlib.Omega.{arith}
+use borrow.Author.Tests.{leb-true, leb-false}
+use lib.Dec.{leb}
+use Rattle.model.specs.Layout.{Job, Layout, inside, placeOf, rightEnd, rightmost, usedLength}
+use Rattle.model.specs.Buffer.{layoutOf}
+use Rattle.model.specs.Lent.{Lent, jobOf}
+use Rattle.model.specs.Refusal.{given}
+use Rattle.model.specs.Calls.{layoutCauses, usedLengthCall}
+use Rattle.model.proofs.Tests.{and-left, decided}
+use Rattle.text_laws.proofs.Outcomes.{given-unless}
+use Rattle.descent_laws.proofs.Claims.{ValidLayout}
+use Rattle.descent_laws.proofs.Lent.{lent-some}
+use Rattle.call_laws.proofs.Layouts.{job-well, layout-valid}
+
+-- a piece below n whose right end is m
+pub record EndsAt (j : Job) (v : Layout) (n m : ℕ) : Type 0 where
+  pub piece : ℕ
+  pub below : piece < n
+  pub is : m ≡ rightEnd j v piece
+
+module _ (j : Job) (v : Layout) where
+  -- no right end is larger
+  rightmost-at-most : (n i : ℕ) → i < n → rightEnd j v i ≤ rightmost j v n
+  unfolding rightmost
+  rightmost-at-most zero i l = absurd (not-suc-le-zero l)
+  rightmost-at-most (suc n) i l =
+      ⊎-elim (λ (e : i ≡ n). rw e (omega arith)) (λ (b : i < n). let h = rightmost-at-most n i b in omega arith)
+      (eq-or-lt-of-le (le-of-suc-le-suc l))
+
+  -- and a piece has it, of n + 1
+  rightmost-next : (n : ℕ) → EndsAt j v (suc n) (rightmost j v (suc n))
+  unfolding rightmost
+  rightmost-next zero = record { piece = 0; below = omega arith; is = omega arith }
+  rightmost-next (suc n) =
+      ⊎-elim
+      (λ e.
+      let h : rightmost j v (suc n) ≤ rightEnd j v (suc n) = leb-true _ _ e in
+      record { piece = suc n; below = omega arith; is = omega arith })
+      (λ e.
+      let h : rightEnd j v (suc n) < rightmost j v (suc n) = leb-false _ _ e in
+      let w : EndsAt j v (suc n) (rightmost j v (suc n)) = rightmost-next n in
+      let below : w .piece < suc n = w .below in
+      let is : rightmost j v (suc n) ≡ rightEnd j v (w .piece) = w .is in
+      record { piece = w .piece; below = omega arith; is = omega arith })
+      (decided (leb (rightmost j v (suc n)) (rightEnd j v (suc n))))
+
+  -- of any number but 0
+  rightmost-attained : (n : ℕ) → 0 < n → EndsAt j v n (rightmost j v n)
+  rightmost-attained zero l = absurd (not-suc-le-zero l)
+  rightmost-attained (suc n) l = rightmost-next n
+
+-- what a used length that is given means
+pub record UsedClaims (j : Job) (v : Layout) (n : ℕ) : Type 0 where
+  pub at-most : (i : ℕ) → i < j .count → rightEnd j v i ≤ n
+  pub attained : EndsAt j v (j .count) n
+  pub within : n ≤ j .columns
+
+-- a right end of a valid layout lies in the sheet
+end-within : (j : Job) (v : Layout) → ValidLayout j v → (i : ℕ) → i < j .count → rightEnd j v i ≤ j .columns
+unfolding inside
+end-within j v h i l = leb-true (rightEnd j v i) (j .columns) (and-left _ _ (h .insideSheet i l))
+
+-- the used length of a valid layout of a job with a piece
+used-claims : (j : Job) (v : Layout) → 0 < j .count → ValidLayout j v → UsedClaims j v (usedLength j v)
+unfolding usedLength
+used-claims j v some h =
+    let w : EndsAt j v (j .count) (rightmost j v (j .count)) = rightmost-attained j v (j .count) some in
+    let last : rightEnd j v (w .piece) ≤ j .columns = end-within j v h (w .piece) (w .below) in
+    let is : rightmost j v (j .count) ≡ rightEnd j v (w .piece) = w .is in
+    record { at-most = rightmost-at-most j v (j .count); attained = w; within = omega arith }
+
+-- a used length that the call gives
+pub used-given : (l : Lent) (es : List (List ℕ)) (n : ℕ) → usedLengthCall l es ≡ given n → UsedClaims (jobOf l) (layoutOf es) n
+unfolding usedLengthCall layoutCauses
+used-given l es n e =
+    let u = given-unless (layoutCauses l es) (usedLength (jobOf l) (layoutOf es)) n e in
+    let v : ValidLayout (jobOf l) (layoutOf es) = layout-valid l es (u .none .1 .0) (u .none .1 .1 .0) (u .none .1 .1 .1 .0) in
+    rw (← u .same) (used-claims (jobOf l) (layoutOf es) (lent-some l (job-well l (u .none .0))) v)
