@@ -14,10 +14,10 @@ use Rattle.model.specs.Lent.{Lent, jobOf}
 use Rattle.model.specs.Refusal.{Outcome, refused, given, Cause, unless, refusalOf, sharedPixel}
 use Rattle.model.specs.Calls.{jobCause, layoutLength, turnsCause, outsideCause, layoutCauses, sharedCause, checkCall}
 use Rattle.model.specs.declared.Refusal.{Refusal}
-use Rattle.model.proofs.Tests.{clash, fails}
+use Rattle.model.proofs.Tests.{clash}
 use Rattle.strip_laws.proofs.Lists.{Pairwise, none as no-more, more, pairwise-append}
 use Rattle.text_laws.proofs.Outcomes.{given-unless}
-use Rattle.overlap_laws.proofs.Share.{SharedPixel, share-exactly, share-from, share-witness}
+use Rattle.overlap_laws.proofs.Share.{SharedPixel, share-from, share-witness}
 use Rattle.descent_laws.proofs.Claims.{ValidLayout, NoSharedPixel}
 use Rattle.descent_laws.proofs.Sums.{Ordered, pair-mem, mem-pair, mem-with, mem-from}
 use Rattle.call_laws.proofs.Layouts.{layout-valid}

@@ -3,24 +3,26 @@
 -- are model's Calls; each field's proof is in the file of this crate that its theorem comes from. The last three theorems are the
 -- claims. Assumes nothing.
 use mathlib.Core.Bool.{Bool, true}
-use mathlib.Core.List.{List}
+use mathlib.Core.List.{List, map}
 use mathlib.Core.Logic.{_↔_, _≢_}
 use mathlib.Core.Path.{_≡_}
-use Prim.Native.Nat.{ℕ, _<_}
+use Prim.Native.Nat.{ℕ, _*_, _<_, _≤_}
 use lib.IntN.{ℤ}
 use lib.ListN.{length}
 use Rattle.model.specs.Piece.{Shape}
 use Rattle.model.specs.Overlap.{OffsetRun}
 use Rattle.model.specs.Layout.{Layout, Pair, turnedPiece, shapeIn, cornerIn, unitWeights}
-use Rattle.model.specs.Buffer.{layoutOf}
+use Rattle.model.specs.Buffer.{layoutOf, stripEntry}
 use Rattle.model.specs.Search.{Best}
 use Rattle.model.specs.Descent.{Descent}
 use Rattle.model.specs.Guided.{Guided, rounds}
 use Rattle.model.specs.Cover.{Sheet, Call}
-use Rattle.model.specs.Lent.{Lent, jobOf, lentWell}
-use Rattle.model.specs.Refusal.{Outcome, refused, given, Cause, unless}
+use Rattle.model.specs.Lent.{Lent, jobOf, lentWell, pieceBound, areaBound}
+use Rattle.model.specs.Refusal.{Outcome, refused, given, Cause, unless, wrongLength}
 use Rattle.model.specs.JobText.{readJob}
-use Rattle.model.specs.Calls.{leaving, Stores, stretchCall, stretchGiven, stretchNumber, LentStretch, noFitCall, stripsWell, rebuildCall, shareCall, depthCall, penaltyCall, weightedSumCall, plainSumCall, searchCall, descentCall, guidedCall, writeLayoutCall, readLayoutCall, startCall, checkCall, freshCall, layCall, withdrawCall}
+use Rattle.model.specs.Store.{turnIn, pieceStrips}
+use Rattle.model.specs.Program.{refusalText, programText}
+use Rattle.model.specs.Calls.{leaving, Stores, stripsCall, storesAfter, stretchWell, usedLengthCall, descentAfter, bestAfterRun, weightsAfterRun, stretchCall, stretchGiven, stretchNumber, LentStretch, noFitCall, stripsWell, rebuildCall, shareCall, depthCall, penaltyCall, weightedSumCall, plainSumCall, searchCall, descentCall, guidedCall, writeLayoutCall, readLayoutCall, startCall, checkCall, freshCall, layCall, withdrawCall}
 use Rattle.model.specs.declared.Turn.{Turn}
 use Rattle.model.specs.declared.Direction.{Direction}
 use Rattle.model.specs.declared.Line.{Line}
@@ -37,12 +39,15 @@ use Rattle.cover_laws.proofs.Demand2Cover.{CoverHolds}
 use Rattle.descent_laws.proofs.Claims.{ValidLayout, DescentClaims, GuidedClaims}
 use Rattle.descent_laws.proofs.Search.{Found}
 use Rattle.call_laws.proofs.Refusals.{FirstCause, refused-exactly, given-exactly, refused-leaves}
-use Rattle.call_laws.proofs.Stores.{StretchClaims, stretch-some, stretch-tells}
-use Rattle.call_laws.proofs.Rebuilding.{PieceOf, RebuildClaims, strips-well-piece, rebuild-given}
-use Rattle.call_laws.proofs.Overlaps.{PenaltyClaims, SumClaims, penalty-given, depth-given, share-given, no-fit-given, weighted-given, plain-given}
+use Rattle.call_laws.proofs.Stores.{StretchClaims, stretch-some, stretch-tells, stretch-after, stretch-lent, stretch-rebuilt}
+use Rattle.call_laws.proofs.Rebuilding.{PieceOf, RebuildClaims, RebuiltAs, strips-well-piece, rebuild-given}
+use Rattle.call_laws.proofs.Overlaps.{PenaltyClaims, SumClaims, penalty-given, penalty-order, depth-given, share-given, no-fit-given, weighted-given, plain-given}
 use Rattle.call_laws.proofs.Checks.{LowestPair, Checked, sharedRefusal, check-given, check-shared}
 use Rattle.call_laws.proofs.Texts.{start-given, layout-given, written-read-back}
-use Rattle.call_laws.proofs.Runs.{search-given, descent-given, guided-given}
+use Rattle.call_laws.proofs.Lengths.{UsedClaims, used-given}
+use Rattle.call_laws.proofs.Reading.{jobLeft, JobLeft, job-given}
+use Rattle.call_laws.proofs.Programs.{Prints, program-prints, program-refuses, program-too-long}
+use Rattle.call_laws.proofs.Runs.{search-given, descent-given, descent-left, guided-given, guided-left}
 use Rattle.call_laws.proofs.Sheets.{afterSheetCalls, lay-given, withdraw-given, fresh-given}
 
 -- ── demand 1: results as laid down, and refusals ──
@@ -57,6 +62,9 @@ pub record Demand1Calls : Type 1 where
   pub job-check : (l : Lent) → (lentWell l ≡ true) ↔ Readable l
   pub job-read : (text : List ℕ) (tableLength pixelsLength : ℕ) (l : Lent) → readJob text tableLength pixelsLength ≡ given l
       → lentWell l ≡ true
+  -- a job that is read stands in the lent buffers, whatever lies beyond it, as a job that every call takes
+  pub job-left : (text : List ℕ) (table : List (List ℕ)) (pixels : List ℕ) (l : Lent) → readJob text (length table) (length pixels) ≡ given l
+      → JobLeft l (jobLeft text table pixels l)
   -- the start layout and a layout that is read are valid, and what is written is read back
   pub starts : (l : Lent) (room : ℕ) (v : Layout) → startCall l room ≡ given v → ValidLayout (jobOf l) v
   pub layout-read : (l : Lent) (text : List ℕ) (room : ℕ) (v : Layout) → readLayoutCall l text room ≡ given v → ValidLayout (jobOf l) v
@@ -66,15 +74,32 @@ pub record Demand1Calls : Type 1 where
   pub checks : (l : Lent) (es : List (List ℕ)) (u : Unit {0}) → checkCall l es ≡ given u → Checked (jobOf l) (layoutOf es)
   pub check-names : (l : Lent) (es : List (List ℕ)) (p : Pair) → checkCall l es ≡ refused (sharedRefusal p)
       → LowestPair (jobOf l) (layoutOf es) p
+  -- the used length is the largest right end
+  pub used-lengths : (l : Lent) (es : List (List ℕ)) (n : ℕ) → usedLengthCall l es ≡ given n → UsedClaims (jobOf l) (layoutOf es) n
+  -- the program prints the text of the run that the calls give, or the reader's refusal, or `refused,7,0` for too long an input
+  pub program : (input : List ℕ) (l : Lent) → length input ≤ areaBound → readJob input pieceBound areaBound ≡ given l → Prints input l
+  pub program-refused : (input : List ℕ) (r : Refusal) → length input ≤ areaBound → readJob input pieceBound areaBound ≡ refused r
+      → programText input ≡ refusalText r
+  pub program-long : (input : List ℕ) → areaBound < length input
+      → programText input ≡ refusalText (record { number = wrongLength; first = 0; second = 0 })
 
 -- ── demand 2: strips, overlap, counts ──
 
 pub record Demand2Calls : Type 0 where
+  -- the stores that the strips call leaves are the job's, so that each piece's stretch is handed out of them
+  pub stores-left : (l : Lent) (ts : List ℕ) (lent s : Stores) → stripsCall l ts lent ≡ given s → (i : ℕ) (d : Direction) → i < l .count
+      → stretchCall l ts (storesAfter lent (stripsCall l ts lent)) i d ≡ given (map stripEntry (pieceStrips d (jobOf l) ts i))
   -- a stretch is the piece's strips in its turn and never empty; an empty one is a refusal's, whose number the second call tells
   pub stretches : (l : Lent) (ts : List ℕ) (lent : Stores) (i : ℕ) (d : Direction) (part : List (List ℕ))
       → stretchCall l ts lent i d ≡ given part → StretchClaims l ts i d part
   pub stretch-refused : (l : Lent) (ts : List ℕ) (lent : Stores) (i : ℕ) (d : Direction)
       → (length (stretchGiven (stretchCall l ts lent i d)) ≡ 0) ↔ (stretchNumber (stretchCall l ts lent i d) ≢ 0)
+  -- the no-fit calls take a stretch that is given for the piece in its turn, and rebuilding gives the piece back, box and bytes
+  pub stretch-taken : (l : Lent) (ts : List ℕ) (i : ℕ) (d : Direction) (part : List (List ℕ)) → StretchClaims l ts i d part
+      → stretchWell d (jobOf l) (record { piece = i; turn = turnIn ts i; stretch = part }) ≡ true
+  pub pixels-again : (l : Lent) (ts : List ℕ) (i : ℕ) (d : Direction) (part : List (List ℕ)) (room : ℕ) → StretchClaims l ts i d part
+      → turnedPiece (jobOf l) i (turnIn ts i) .columns * turnedPiece (jobOf l) i (turnIn ts i) .rows ≤ room
+      → RebuiltAs d part (turnedPiece (jobOf l) i (turnIn ts i)) room
   -- rebuilding is refused with 8 exactly where no piece of the box has just the lent strips, and gives the one piece that has them
   pub rebuild-check : (d : Direction) (columns rows : ℕ) (es : List (List ℕ))
       → (stripsWell d columns rows es ≡ true) ↔ ((s : Shape) × PieceOf d columns rows es s)
@@ -87,6 +112,8 @@ pub record Demand2Calls : Type 0 where
   pub depths : (d : Direction) (l : Lent) (es : List (List ℕ)) (i k n : ℕ) → depthCall d l es i k ≡ given n
       → LeastShift d (shapeIn (jobOf l) (layoutOf es) i) (cornerIn (layoutOf es) i) (shapeIn (jobOf l) (layoutOf es) k) (cornerIn (layoutOf es) k) n
   pub penalties : (l : Lent) (es : List (List ℕ)) (i k n : ℕ) → penaltyCall l es i k ≡ given n → PenaltyClaims (jobOf l) (layoutOf es) i k n
+  -- the penalty does not depend on which piece is called first
+  pub penalty-alike : (l : Lent) (es : List (List ℕ)) (i k : ℕ) → penaltyCall l es i k ≡ penaltyCall l es k i
   pub no-fits : (d : Direction) (l : Lent) (p q : LentStretch) (o : ℤ) (room : ℕ) (rs : List OffsetRun) → noFitCall d l p q o room ≡ given rs
       → NoFitLine d (turnedPiece (jobOf l) (p .piece) (p .turn)) (turnedPiece (jobOf l) (q .piece) (q .turn)) o rs
   -- after every list of lay and withdraw calls from a fresh sheet each pixel's count is the number of laid pieces on it
@@ -110,9 +137,15 @@ pub record Demand3Calls : Type 0 where
   -- demand 3's claims about a descent, whatever its budget
   pub descents : (l : Lent) (es : List (List ℕ)) (ws : List ℕ) (budget : ℕ) (d : Descent) → descentCall l es ws budget ≡ given d
       → DescentClaims (jobOf l) ws budget (layoutOf es) d
-  -- and about a guided run and each of its rounds, whatever their number and budget
+  -- the layout at the end stands in the layout buffer
+  pub descent-leaves : (l : Lent) (es : List (List ℕ)) (ws : List ℕ) (budget : ℕ) (d : Descent) → descentCall l es ws budget ≡ given d
+      → layoutOf (descentAfter es (descentCall l es ws budget)) ≡ d .layout
+  -- demand 3's claims about a guided run and each of its rounds, whatever their number and budget
   pub guided-runs : (l : Lent) (es : List (List ℕ)) (ws : List ℕ) (K budget : ℕ) (g : Guided) → guidedCall l es ws K budget ≡ given g
       → GuidedClaims (jobOf l) ws budget K (layoutOf es) (rounds (jobOf l) budget K ws (layoutOf es)) g
+  -- the best layout and the new weights stand in their buffers
+  pub guided-leaves : (l : Lent) (es : List (List ℕ)) (ws : List ℕ) (K budget : ℕ) (g : Guided) → guidedCall l es ws K budget ≡ given g
+      → (layoutOf (bestAfterRun es (guidedCall l es ws K budget)) ≡ g .layout) × (weightsAfterRun ws (guidedCall l es ws K budget) ≡ g .weights)
 
 -- ── the claims ──
 
@@ -125,24 +158,33 @@ demand1-calls =
       leaves = refused-leaves;
       job-check = lent-well-readable;
       job-read = job-read-well;
+      job-left = job-given;
       starts = start-given;
       layout-read = layout-given;
       written-read = written-read-back;
       checks = check-given;
       check-names = check-shared;
+      used-lengths = used-given;
+      program = program-prints;
+      program-refused = program-refuses;
+      program-long = program-too-long;
     }
 
 -- demand 2 holds of the public calls
 pub demand2-calls : Demand2Calls
 demand2-calls =
     record {
+      stores-left = stretch-after;
       stretches = stretch-some;
       stretch-refused = stretch-tells;
+      stretch-taken = stretch-lent;
+      pixels-again = stretch-rebuilt;
       rebuild-check = strips-well-piece;
       rebuilds = rebuild-given;
       shares = share-given;
       depths = depth-given;
       penalties = penalty-given;
+      penalty-alike = penalty-order;
       no-fits = no-fit-given;
       counts = fresh-given;
       lays = lay-given;
@@ -157,5 +199,7 @@ demand3-calls =
       plain-sums = plain-given;
       searches = search-given;
       descents = descent-given;
+      descent-leaves = descent-left;
       guided-runs = guided-given;
+      guided-leaves = guided-left;
     }

@@ -13,4 +13,5 @@ pub mod Texts
 pub mod Sheets
 pub mod Lengths
 pub mod Reading
+pub mod Programs
 pub mod Demands

@@ -9,12 +9,12 @@ use Prim.Native.Nat.{ℕ, _<_, _≤_}
 use borrow.Author.Tests.{not-false, ltb-true, eqb-true, eqb-false, eq-eqb}
 use lib.Dec.{ltb, eqb}
 use lib.IntN.{ℤ}
-use Rattle.model.specs.Overlap.{OffsetRun, share, depth, penalty}
-use Rattle.model.specs.Layout.{Job, Layout, turnedPiece, allowed, shapeIn, cornerIn, placeOf, pairShares, pairPenalty, pairDepth, weightedSum, plainSum, unitWeights}
+use Rattle.model.specs.Overlap.{OffsetRun, penalty}
+use Rattle.model.specs.Layout.{Job, Layout, turnedPiece, shapeIn, cornerIn, placeOf, pairShares, pairPenalty, pairDepth, weightedSum, plainSum, unitWeights}
 use Rattle.model.specs.Buffer.{layoutOf}
 use Rattle.model.specs.Lent.{Lent, jobOf, lentWell, sideBound}
 use Rattle.model.specs.Refusal.{given, Cause, cause, unless, noSuchPiece}
-use Rattle.model.specs.Calls.{jobCause, layoutLength, outsideCause, someTurnWrong, someWeightWrong, pairCauses, pairOf, LentStretch, known, stretchWell, noFitOf, shareCall, depthCall, penaltyCall, noFitCall, layoutCauses, weightedSumCall, plainSumCall}
+use Rattle.model.specs.Calls.{jobCause, layoutLength, outsideCause, someTurnWrong, pairCauses, pairOf, LentStretch, known, noFitOf, shareCall, depthCall, penaltyCall, noFitCall, layoutCauses, weightedSumCall, plainSumCall}
 use Rattle.model.specs.declared.Direction.{Direction}
 use Rattle.model.specs.declared.Direction.the-variants.{Horizontal}
 use Rattle.model.proofs.Tests.{and-left, and-right, or-neither, same-tests}
@@ -25,7 +25,7 @@ use Rattle.overlap_laws.proofs.Penalty.{PenaltyLaws, penalty-symmetric, demand2
 use Rattle.overlap_laws.proofs.NoFit.{NoFitLine}
 use Rattle.descent_laws.proofs.Claims.{ValidLayout, ValidWeights, NoSharedPixel}
 use Rattle.descent_laws.proofs.Sums.{zero-exactly}
-use Rattle.descent_laws.proofs.Guided.{plain-zero, unit-valid}
+use Rattle.descent_laws.proofs.Guided.{unit-valid}
 use Rattle.descent_laws.proofs.Bounds.{sumBound, weighted-at-most}
 use Rattle.call_laws.proofs.Jobs.{lent-sheet, lent-boxes-small, lent-turned-small, lent-no-fit}
 use Rattle.call_laws.proofs.Layouts.{job-well, layout-valid, lent-weights-valid}

@@ -3,16 +3,14 @@
 -- beyond plays no part, since the check and the pieces look at n entries and their boxes' bytes. Assumes nothing.
 use mathlib.Core.Bool.{true}
 use mathlib.Core.List.{List, [], _++_}
-use mathlib.Core.Path.{_≡_, refl, sym, _∙_, ap, ap₂}
+use mathlib.Core.Path.{_≡_, refl, _∙_, ap, ap₂}
 use Prim.Native.Nat.{ℕ, zero, suc, _+_, _*_, _<_, _≤_}
 use native.Mathlib.Nat.{mul-comm}
 use native.Mathlib.Omega.{arith}
 use lib.Dec.{eqb}
 use lib.ListN.{length, getD, drop, length-append, List·getD-append}
-use Rattle.model.specs.Piece.{Shape, tight}
-use Rattle.model.specs.Layout.{Job}
-use Rattle.model.specs.Lent.{Lent, entryColumns, entryRows, entryTurns, pixelStart, entryInRange, entryFits, lentShape, jobOf, lentWell}
-use Rattle.model.specs.Refusal.{Outcome, given}
+use Rattle.model.specs.Lent.{Lent, entryColumns, entryRows, entryTurns, pixelStart, entryInRange, entryFits, lentShape, lentWell}
+use Rattle.model.specs.Refusal.{given}
 use Rattle.model.specs.JobText.{readJob}
 use Rattle.model.specs.Calls.{tableAfter, storeAfter}
 use Rattle.text_laws.proofs.Store.{start-end, in-box, Agree, tight-agree}

@@ -1,25 +1,23 @@
 -- Demand 3 of the public calls (document 01, 'Line search' and 'Descent and guidance'): whatever a caller lends, a line search, a
 -- descent or a guided run that is not refused is the job's own, and what demand 3 claims holds of it. The call's causes are not
 -- there, so the lent job has a piece and the lent buffers hold a valid layout and valid weights. Assumes nothing.
-use mathlib.Core.Bool.{Bool, true, false, not, _||_}
+use mathlib.Core.Bool.{true, not, _||_}
 use mathlib.Core.List.{List}
 use mathlib.Core.Option.{Option, none, some}
 use mathlib.Core.Path.{_≡_, refl, _∙_, ap}
 use Prim.Native.Nat.{ℕ, _<_, _≤_}
 use native.Mathlib.Omega.{arith}
 use borrow.Author.Tests.{eqb-false, eq-eqb}
-use lib.Dec.{ltb, eqb}
+use lib.Dec.{ltb}
 use lib.ListN.{length}
-use Rattle.model.specs.Layout.{Job, Layout, pairs, unitWeights}
+use Rattle.model.specs.Layout.{Job, Layout, pairs}
 use Rattle.model.specs.Buffer.{entriesOf, layoutOf}
 use Rattle.model.specs.Search.{Best, places, searchLine}
 use Rattle.model.specs.Descent.{Descent, descend}
 use Rattle.model.specs.Guided.{Guided, guide, rounds}
 use Rattle.model.specs.Lent.{Lent, jobOf, lentWell, upTo}
 use Rattle.model.specs.Refusal.{given}
-use Rattle.model.specs.Start.{start}
-use Rattle.model.specs.Program.{programRounds, programBudget, programRun}
-use Rattle.model.specs.Calls.{budgetBound, roundBound, someTurnWrong, someWeightWrong, bestPlace, searchCall, descentCall, guidedCall}
+use Rattle.model.specs.Calls.{budgetBound, roundBound, someWeightWrong, bestPlace, searchCall, descentCall, descentAfter, guidedCall, bestAfterRun, weightsAfterRun}
 use Rattle.model.specs.declared.Turn.{Turn}
 use Rattle.model.specs.declared.Line.{Line}
 use Rattle.model.proofs.Tests.{or-neither}
@@ -27,9 +25,8 @@ use Rattle.text_laws.proofs.Entries.{entries-read-back}
 use Rattle.text_laws.proofs.Outcomes.{given-unless, unless-given}
 use Rattle.descent_laws.proofs.Claims.{ValidWeights, ValidLayout, DescentClaims, GuidedClaims}
 use Rattle.descent_laws.proofs.Search.{Found, Searched, searched, below-inside}
-use Rattle.descent_laws.proofs.Guided.{unit-valid}
-use Rattle.descent_laws.proofs.Lent.{lent-some, lent-start-valid}
-use Rattle.descent_laws.proofs.Demand3.{Demand3, demand3}
+use Rattle.descent_laws.proofs.Lent.{lent-some}
+use Rattle.descent_laws.proofs.Demand3.{demand3}
 use Rattle.call_laws.proofs.Refusals.{or-none, not-less}
 use Rattle.call_laws.proofs.Layouts.{BufferPasses, valid-buffer, weights-pass, job-well, layout-valid, lent-weights-valid}
 
@@ -81,9 +78,13 @@ module _ (l : Lent) (well : lentWell l ≡ true) (v : Layout) (valid : ValidLayo
       let p : BufferPasses (jobOf l) (entriesOf v) = valid-buffer (jobOf l) v valid in
       unless-given _ (descend (jobOf l) ws budget (layoutOf (entriesOf v))) (
         ap not well,
-        (ap not (eq-eqb (length (entriesOf v)) (l .count) (p .size)),
-        (ap not (eq-eqb (length ws) (length (pairs (l .count))) (weights .onePerPair)),
-        (or-none (weights-pass ws (weights .inRange)) (not-less few), (p .turns, (p .outside, tt))))),
+        (
+          ap not (eq-eqb (length (entriesOf v)) (l .count) (p .size)),
+          (
+            ap not (eq-eqb (length ws) (length (pairs (l .count))) (weights .onePerPair)),
+            (or-none (weights-pass ws (weights .inRange)) (not-less few), (p .turns, (p .outside, tt))),
+          ),
+        ),
       )
       ∙ ap (λ (w : Layout). given (descend (jobOf l) ws budget w)) (entries-read-back v)
 
@@ -95,16 +96,24 @@ module _ (l : Lent) (well : lentWell l ≡ true) (v : Layout) (valid : ValidLayo
       let p : BufferPasses (jobOf l) (entriesOf v) = valid-buffer (jobOf l) v valid in
       unless-given _ (guide (jobOf l) K budget ws (layoutOf (entriesOf v))) (
         ap not well,
-        (ap not (eq-eqb (length (entriesOf v)) (l .count) (p .size)),
-        (ap not (eq-eqb (length ws) (length (pairs (l .count))) (weights .onePerPair)),
-        (or-none (or-none (weights-pass ws (weights .inRange)) (not-less few)) (ap not counted), (p .turns, (p .outside, tt))))),
+        (
+          ap not (eq-eqb (length (entriesOf v)) (l .count) (p .size)),
+          (
+            ap not (eq-eqb (length ws) (length (pairs (l .count))) (weights .onePerPair)),
+            (or-none (or-none (weights-pass ws (weights .inRange)) (not-less few)) (ap not counted), (p .turns, (p .outside, tt))),
+          ),
+        ),
       )
       ∙ ap (λ (w : Layout). given (guide (jobOf l) K budget ws w)) (entries-read-back v)
 
--- the program's run of a lent job is the guided run that the call gives, from the start layout by weights 1
-pub program-run-given : (l : Lent) → lentWell l ≡ true
-    → guidedCall l (entriesOf (start (jobOf l))) (unitWeights (jobOf l .count)) programRounds programBudget ≡ given (programRun (jobOf l))
-unfolding programRun
-program-run-given l well =
-    guided-taken l well (start (jobOf l)) (lent-start-valid l well) (unitWeights (jobOf l .count)) (unit-valid (jobOf l)) programRounds programBudget refl
-    (omega arith)
+-- ── what a run leaves in lent memory ──
+
+-- after a descent the layout buffer holds the layout at the end
+pub descent-left : (l : Lent) (es : List (List ℕ)) (ws : List ℕ) (budget : ℕ) (d : Descent) → descentCall l es ws budget ≡ given d
+    → layoutOf (descentAfter es (descentCall l es ws budget)) ≡ d .layout
+descent-left l es ws budget d e = rw e (entries-read-back (d .layout))
+
+-- after a guided run the layout buffer holds the best layout, and the weight buffer the new weights
+pub guided-left : (l : Lent) (es : List (List ℕ)) (ws : List ℕ) (K budget : ℕ) (g : Guided) → guidedCall l es ws K budget ≡ given g
+    → (layoutOf (bestAfterRun es (guidedCall l es ws K budget)) ≡ g .layout) × (weightsAfterRun ws (guidedCall l es ws K budget) ≡ g .weights)
+guided-left l es ws K budget g e = rw e (entries-read-back (g .layout), refl)

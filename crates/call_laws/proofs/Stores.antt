@@ -1,8 +1,8 @@
 -- Document 01, 'Strips', stores and stretches: the part of a lent store that the lent starts cut out for a piece is the piece's strips
 -- in its turn, and it is never empty. The store is the pieces' strips one after the other, and each start is the number of strips
 -- before, so the cut falls between two pieces. Assumes nothing.
-use mathlib.Core.Bool.{Bool, true, false, not, _||_}
-use mathlib.Core.List.{List, [], _∷_, _++_, map, append-assoc, map-append}
+use mathlib.Core.Bool.{true, not}
+use mathlib.Core.List.{List, [], _++_, map, append-assoc, map-append}
 use mathlib.Core.Logic.{_↔_, _≢_}
 use mathlib.Core.Path.{_≡_, refl, sym, _∙_, ap, ap₂, subst}
 use Prim.Native.Nat.{ℕ, zero, suc, _+_, _-_, _*_, _<_, _≤_}
@@ -12,7 +12,7 @@ use borrow.Author.Tests.{not-false, ltb-true, lt-ltb}
 use lib.Dec.{ltb}
 use lib.ListN.{length, getD, take, drop, length-append, length-map, take-append-drop}
 use lib.Seq.{getD-take, take-append-seam, drop-append-seam}
-use Rattle.model.specs.Buffer.{filled, stripEntry, sameNumbers, sameEntries}
+use Rattle.model.specs.Buffer.{filled, stripEntry, sameEntries}
 use Rattle.model.specs.Layout.{Job, turnedPiece}
 use Rattle.model.specs.Lent.{Lent, jobOf, lentWell}
 use Rattle.model.specs.Refusal.{Outcome, refused, given}

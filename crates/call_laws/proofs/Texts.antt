@@ -2,20 +2,19 @@
 -- what is written of a lent layout is read back as that layout. Assumes nothing.
 use mathlib.Core.Bool.{true}
 use mathlib.Core.List.{List, [], _∷_, _++_}
-use mathlib.Core.Path.{_≡_, refl, sym, _∙_, ap}
-use Prim.Native.Nat.{ℕ, _<_, _≤_}
+use mathlib.Core.Path.{_≡_}
+use Prim.Native.Nat.{ℕ}
 use native.Mathlib.Nat.{zero-add}
 use lib.ListN.{length}
 use Rattle.model.specs.Layout.{Layout}
 use Rattle.model.specs.Buffer.{layoutOf}
 use Rattle.model.specs.Start.{start}
 use Rattle.model.specs.Lent.{Lent, jobOf, lentWell}
-use Rattle.model.specs.Refusal.{Outcome, given, unless}
-use Rattle.model.specs.Text.{andThen}
+use Rattle.model.specs.Refusal.{given, unless}
 use Rattle.model.specs.LayoutText.{layoutText, readLayout}
 use Rattle.model.specs.Calls.{jobCause, layoutCauses, atLeast, startCall, writeLayoutCall, readLayoutCall}
 use Rattle.text_laws.proofs.Outcomes.{given-unless, given-before}
-use Rattle.text_laws.proofs.LayoutRead.{Placed, AllPlaced, layout-read-placed}
+use Rattle.text_laws.proofs.LayoutRead.{layout-read-placed}
 use Rattle.text_laws.proofs.LayoutReadBack.{layout-read-back}
 use Rattle.descent_laws.proofs.Claims.{ValidLayout}
 use Rattle.descent_laws.proofs.Lent.{lent-start-valid}

@@ -1,7 +1,7 @@
 -- Document 01, 'Start, layout text, sheet', last part: what the program prints, as a function of the bytes of its input. It reads a
 -- job, takes the start layout and weights 1, makes a guided run and prints the best layout and how the run ended, or the
 -- refusal. Assumes nothing.
-use mathlib.Core.Bool.{Bool, true, false}
+use mathlib.Core.Bool.{true, false}
 use mathlib.Core.List.{List, [], _∷_, _++_}
 use Prim.Native.Nat.{ℕ}
 use lib.Dec.{ltb, eqb}

@@ -1,0 +1,69 @@
+-- Document 01, 'Start, layout text, sheet', the program: what it prints for a job that is read is the text of the guided run that the public
+-- calls give, from the start layout by weights 1, which no call refuses, and demand 3's claims hold of that run. Assumes nothing.
+use mathlib.Core.Bool.{true}
+use mathlib.Core.List.{List}
+use mathlib.Core.Path.{_≡_, refl, ap, _∙_}
+use Prim.Native.Nat.{ℕ, _<_, _≤_}
+use native.Mathlib.Omega.{arith}
+use borrow.Author.Tests.{lt-ltb}
+use lib.ListN.{length}
+use Rattle.model.specs.Layout.{unitWeights}
+use Rattle.model.specs.Buffer.{entriesOf}
+use Rattle.model.specs.Guided.{rounds}
+use Rattle.model.specs.Start.{start}
+use Rattle.model.specs.Lent.{Lent, jobOf, lentWell, pieceBound, areaBound}
+use Rattle.model.specs.Refusal.{refused, given, wrongLength}
+use Rattle.model.specs.JobText.{readJob}
+use Rattle.model.specs.Program.{programRounds, programBudget, refusalText, runText, programRun, printed, programText}
+use Rattle.model.specs.Calls.{guidedCall}
+use Rattle.model.specs.declared.Refusal.{Refusal}
+use Rattle.text_laws.proofs.JobRead.{job-read-well}
+use Rattle.descent_laws.proofs.Claims.{GuidedClaims}
+use Rattle.descent_laws.proofs.Guided.{unit-valid}
+use Rattle.descent_laws.proofs.Lent.{lent-start-valid, lent-demand3}
+use Rattle.call_laws.proofs.Refusals.{not-less}
+use Rattle.call_laws.proofs.Runs.{guided-taken}
+
+-- the program's run of a lent job is the guided run that the call gives, from the start layout by weights 1
+pub program-run-given : (l : Lent) → lentWell l ≡ true
+    → guidedCall l (entriesOf (start (jobOf l))) (unitWeights (jobOf l .count)) programRounds programBudget ≡ given (programRun (jobOf l))
+unfolding programRun
+program-run-given l well =
+    guided-taken l well (start (jobOf l)) (lent-start-valid l well) (unitWeights (jobOf l .count)) (unit-valid (jobOf l)) programRounds
+    programBudget refl (omega arith)
+
+-- what the program prints for an input of at most 65,536 bytes that is read as the job l
+pub record Prints (input : List ℕ) (l : Lent) : Type 0 where
+  -- the calls give the run, and its text is printed
+  pub run : guidedCall l (entriesOf (start (jobOf l))) (unitWeights (jobOf l .count)) programRounds programBudget ≡ given (programRun (jobOf l))
+  pub text : programText input ≡ runText (jobOf l) (programRun (jobOf l))
+  -- demand 3's claims hold of the run
+  pub claims : GuidedClaims (jobOf l) (unitWeights (jobOf l .count)) programBudget programRounds (start (jobOf l))
+      (rounds (jobOf l) programBudget programRounds (unitWeights (jobOf l .count)) (start (jobOf l))) (programRun (jobOf l))
+
+-- an input that is not too long is read
+program-reads : (input : List ℕ) → length input ≤ areaBound → programText input ≡ printed (readJob input pieceBound areaBound)
+unfolding programText
+program-reads input few = rw (not-less few, programText)
+
+-- it prints so
+pub program-prints : (input : List ℕ) (l : Lent) → length input ≤ areaBound → readJob input pieceBound areaBound ≡ given l → Prints input l
+unfolding programRun
+program-prints input l few e =
+    let well : lentWell l ≡ true = job-read-well input pieceBound areaBound l e in
+    record {
+      run = program-run-given l well;
+      text = program-reads input few ∙ ap printed e;
+      claims = lent-demand3 l well .guidedRuns programBudget programRounds;
+    }
+
+-- a job that the reader refuses prints its refusal
+pub program-refuses : (input : List ℕ) (r : Refusal) → length input ≤ areaBound → readJob input pieceBound areaBound ≡ refused r
+    → programText input ≡ refusalText r
+program-refuses input r few e = program-reads input few ∙ ap printed e
+
+-- an input above 65,536 bytes prints `refused,7,0`, whatever its bytes are
+pub program-too-long : (input : List ℕ) → areaBound < length input
+    → programText input ≡ refusalText (record { number = wrongLength; first = 0; second = 0 })
+unfolding programText
+program-too-long input many = rw (lt-ltb areaBound (length input) many, programText)
