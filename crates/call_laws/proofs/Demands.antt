@@ -7,14 +7,15 @@ use mathlib.Core.List.{List, map}
 use mathlib.Core.Logic.{_↔_, _≢_}
 use mathlib.Core.Path.{_≡_}
 use Prim.Native.Nat.{ℕ, _*_, _<_, _≤_}
+use lib.Dec.{eqb}
 use lib.IntN.{ℤ}
 use lib.ListN.{length}
-use Rattle.model.specs.Piece.{Shape}
+use Rattle.model.specs.Piece.{Shape, onLine}
 use Rattle.model.specs.Overlap.{OffsetRun}
-use Rattle.model.specs.Layout.{Layout, Pair, turnedPiece, shapeIn, cornerIn, unitWeights}
+use Rattle.model.specs.Layout.{Layout, Pair, inside, turnedPiece, shapeIn, cornerIn, unitWeights}
 use Rattle.model.specs.Buffer.{layoutOf, stripEntry}
-use Rattle.model.specs.Search.{Best}
-use Rattle.model.specs.Descent.{Descent}
+use Rattle.model.specs.Search.{Best, places}
+use Rattle.model.specs.Descent.{Descent, trials}
 use Rattle.model.specs.Guided.{Guided, rounds}
 use Rattle.model.specs.Cover.{Sheet, Call}
 use Rattle.model.specs.Lent.{Lent, jobOf, lentWell, pieceBound, areaBound}
@@ -36,7 +37,8 @@ use Rattle.overlap_laws.proofs.Depth.{LeastShift}
 use Rattle.overlap_laws.proofs.NoFit.{NoFitLine}
 use Rattle.cover_laws.proofs.Effects.{LayGives, WithdrawGives}
 use Rattle.cover_laws.proofs.Demand2Cover.{CoverHolds}
-use Rattle.descent_laws.proofs.Claims.{ValidLayout, DescentClaims, GuidedClaims}
+use Rattle.descent_laws.proofs.Claims.{ValidLayout, TrialsClaims, DescentClaims, GuidedClaims}
+use Rattle.descent_laws.proofs.Order.{trials-claims}
 use Rattle.descent_laws.proofs.Search.{Found}
 use Rattle.call_laws.proofs.Refusals.{FirstCause, refused-exactly, given-exactly, refused-leaves}
 use Rattle.call_laws.proofs.Stores.{StretchClaims, stretch-some, stretch-tells, stretch-after, stretch-lent, stretch-rebuilt}
@@ -47,7 +49,7 @@ use Rattle.call_laws.proofs.Texts.{start-given, layout-given, written-r
 use Rattle.call_laws.proofs.Lengths.{UsedClaims, used-given}
 use Rattle.call_laws.proofs.Reading.{jobLeft, JobLeft, job-given}
 use Rattle.call_laws.proofs.Programs.{Prints, program-prints, program-refuses, program-too-long}
-use Rattle.call_laws.proofs.Runs.{search-given, descent-given, descent-left, guided-given, guided-left}
+use Rattle.call_laws.proofs.Runs.{search-given, empty-line-exactly, descent-given, descent-left, guided-given, guided-left}
 use Rattle.call_laws.proofs.Sheets.{afterSheetCalls, lay-given, withdraw-given, fresh-given}
 
 -- ── demand 1: results as laid down, and refusals ──
@@ -134,6 +136,11 @@ pub record Demand3Calls : Type 0 where
   -- a line search finds the least sum over every inside corner on the line, and the smallest coordinate that has it
   pub searches : (l : Lent) (es : List (List ℕ)) (ws : List ℕ) (i : ℕ) (t : Turn) (line : Line) (b : Best)
       → searchCall l es ws i t line ≡ given b → Found (jobOf l) ws (layoutOf es) i t line b
+  -- refusal 11 comes exactly where no inside corner lies on the line
+  pub empty-lines : (l : Lent) (i : ℕ) (t : Turn) (line : Line)
+      → (eqb (places (jobOf l) i t line) 0 ≡ true) ↔ ((a : ℕ) → inside (jobOf l) i (onLine line t a) ≡ true → ⊥)
+  -- the trials, T of them: every piece in every turn allowed to it and both directions, nothing else, each once
+  pub trials-listed : (l : Lent) → TrialsClaims (jobOf l) (trials (jobOf l))
   -- demand 3's claims about a descent, whatever its budget
   pub descents : (l : Lent) (es : List (List ℕ)) (ws : List ℕ) (budget : ℕ) (d : Descent) → descentCall l es ws budget ≡ given d
       → DescentClaims (jobOf l) ws budget (layoutOf es) d
@@ -198,6 +205,8 @@ demand3-calls =
       weighted-sums = weighted-given;
       plain-sums = plain-given;
       searches = search-given;
+      empty-lines = λ l. empty-line-exactly (jobOf l);
+      trials-listed = λ l. trials-claims (jobOf l);
       descents = descent-given;
       descent-leaves = descent-left;
       guided-runs = guided-given;

@@ -3,14 +3,16 @@
 -- there, so the lent job has a piece and the lent buffers hold a valid layout and valid weights. Assumes nothing.
 use mathlib.Core.Bool.{true, not, _||_}
 use mathlib.Core.List.{List}
+use mathlib.Core.Logic.{_↔_}
 use mathlib.Core.Option.{Option, none, some}
 use mathlib.Core.Path.{_≡_, refl, _∙_, ap}
 use Prim.Native.Nat.{ℕ, _<_, _≤_}
 use native.Mathlib.Omega.{arith}
-use borrow.Author.Tests.{eqb-false, eq-eqb}
-use lib.Dec.{ltb}
+use borrow.Author.Tests.{eqb-true, eqb-false, eq-eqb}
+use lib.Dec.{ltb, eqb}
 use lib.ListN.{length}
-use Rattle.model.specs.Layout.{Job, Layout, pairs}
+use Rattle.model.specs.Piece.{onLine}
+use Rattle.model.specs.Layout.{Job, Layout, inside, pairs}
 use Rattle.model.specs.Buffer.{entriesOf, layoutOf}
 use Rattle.model.specs.Search.{Best, places, searchLine}
 use Rattle.model.specs.Descent.{Descent, descend}
@@ -20,15 +22,17 @@ use Rattle.model.specs.Refusal.{given}
 use Rattle.model.specs.Calls.{budgetBound, roundBound, someWeightWrong, bestPlace, searchCall, descentCall, descentAfter, guidedCall, bestAfterRun, weightsAfterRun}
 use Rattle.model.specs.declared.Turn.{Turn}
 use Rattle.model.specs.declared.Line.{Line}
-use Rattle.model.proofs.Tests.{or-neither}
+use Rattle.model.proofs.Tests.{or-neither, passes}
 use Rattle.text_laws.proofs.Entries.{entries-read-back}
 use Rattle.text_laws.proofs.Outcomes.{given-unless, unless-given}
 use Rattle.descent_laws.proofs.Claims.{ValidWeights, ValidLayout, DescentClaims, GuidedClaims}
-use Rattle.descent_laws.proofs.Search.{Found, Searched, searched, below-inside}
+use Rattle.descent_laws.proofs.Search.{Found, Searched, searched, inside-below, below-inside}
 use Rattle.descent_laws.proofs.Lent.{lent-some}
 use Rattle.descent_laws.proofs.Demand3.{demand3}
 use Rattle.call_laws.proofs.Refusals.{or-none, not-less}
 use Rattle.call_laws.proofs.Layouts.{BufferPasses, valid-buffer, weights-pass, job-well, layout-valid, lent-weights-valid}
+
+-- ── descent and guided run ──
 
 -- a descent that the call gives is the job's, and demand 3's claims hold of it
 pub descent-given : (l : Lent) (es : List (List ℕ)) (ws : List ℕ) (budget : ℕ) (d : Descent) → descentCall l es ws budget ≡ given d
@@ -51,6 +55,16 @@ guided-given l es ws K budget g e =
     let v : ValidLayout (jobOf l) (layoutOf es) = layout-valid l es (u .none .1 .0) (u .none .1 .1 .1 .1 .0) (u .none .1 .1 .1 .1 .1 .0) in
     let w : ValidWeights (jobOf l) ws = lent-weights-valid l ws (u .none .1 .1 .0) (or-neither (someWeightWrong ws) _ (range .0) .0) in
     rw (← u .same) (demand3 (jobOf l) ws (layoutOf es) (lent-some l (job-well l (u .none .0))) w v .guidedRuns budget K)
+
+-- ── line search ──
+
+-- refusal 11 of a line search is there exactly where no inside corner lies on the line
+pub empty-line-exactly : (j : Job) (i : ℕ) (t : Turn) (line : Line)
+    → (eqb (places j i t line) 0 ≡ true) ↔ ((a : ℕ) → inside j i (onLine line t a) ≡ true → ⊥)
+empty-line-exactly j i t line = (
+  λ e a h. let n = eqb-true (places j i t line) 0 e in let b = inside-below j i t line a h in omega arith,
+  λ h. passes (eqb (places j i t line) 0) (λ e. let n = eqb-false (places j i t line) 0 e in h 0 (below-inside j i t line 0 (omega arith))),
+)
 
 -- where an inside corner lies on the line, the answer is a best place
 place-found : (j : Job) (ws : List ℕ) (v : Layout) (i : ℕ) (t : Turn) (line : Line) (o : Option Best) → Searched j ws v i t line o
