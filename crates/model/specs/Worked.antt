@@ -19,7 +19,7 @@ use Rattle.model.specs.Buffer.{sameNumbers}
 use Rattle.model.specs.Text.{bytes, comma, standsAt, digitsFrom, numberAt, fieldAt, fieldsAt, decimal, fieldsText}
 use Rattle.model.specs.JobText.{jobLine, pieceLine, markAt, marksAt, rowAt, rowsAt, pieceAt, piecesAt, readJob}
 use Rattle.model.specs.LayoutText.{placementsText, layoutText}
-use Rattle.model.specs.Program.{wordLine, runText, programRun, programText}
+use Rattle.model.specs.Program.{wordLine, endWord, runText, programRun, programText}
 use Rattle.model.specs.TextExamples.{squares}
 
 -- a full box
@@ -40,6 +40,10 @@ inputLength : Bool
 inputLength =
     sameNumbers (programText (replicate 65536 comma)) (bytes "refused,1,1\n")
     && sameNumbers (programText (replicate 65537 comma)) (bytes "refused,7,0\n")
+
+-- the last line of the largest plain sum, 2,016 pairs of penalty 255, which has more digits than a job's numbers
+largestSum : Bool
+largestSum = sameNumbers (wordLine (endWord 514080) (514080 ∷ 20000 ∷ 0 ∷ 4096 ∷ [])) (bytes "end,open,514080,20000,0,4096\n")
 
 -- two full 2 × 2 pieces, o = 1, on a sheet of 2 rows and so many columns
 twoSquares : ℕ → Job
@@ -74,9 +78,9 @@ started = sameNumbers (corners (start fourBoxes)) (0 ∷ 2 ∷ 0 ∷ 0 ∷ 3 ∷
 
 -- all of them
 pub worked : Bool
-worked = printedText && inputLength && weightsLeft && started
+worked = printedText && inputLength && largestSum && weightsLeft && started
 
 -- the worked examples hold of the definitions
 pub worked-hold : worked ≡ true
-unfolding worked printedText inputLength weightsLeft started corners twoSquares fourBoxes full wordLine runText programRun programText sameNumbers share apartAt depth penalty pairsWith pairsFrom pairShares pairPenalty sumOver weightedSum plainSum pieceSum unitWeights rightmost usedLength places sumAt least searchLine turnTrials pieceTrials trialsFrom trials attempt descendFrom descend raisedOver raised rounds bestAfter lastWeights madeIn movesIn outcome guide insert fallingOrder stackAll start allows tight inside unless jobOf pixelStart standsAt digitsFrom numberAt fieldAt fieldsAt decimal fieldsText jobLine pieceLine markAt marksAt rowAt rowsAt pieceAt piecesAt readJob placementsText layoutText
+unfolding worked printedText inputLength largestSum weightsLeft started corners twoSquares fourBoxes full wordLine runText programRun programText sameNumbers share apartAt depth penalty pairsWith pairsFrom pairShares pairPenalty sumOver weightedSum plainSum pieceSum unitWeights rightmost usedLength places sumAt least searchLine turnTrials pieceTrials trialsFrom trials attempt descendFrom descend raisedOver raised rounds bestAfter lastWeights madeIn movesIn outcome guide insert fallingOrder stackAll start allows tight inside unless jobOf pixelStart standsAt digitsFrom numberAt fieldAt fieldsAt decimal fieldsText jobLine pieceLine markAt marksAt rowAt rowsAt pieceAt piecesAt readJob placementsText layoutText
 worked-hold = refl
