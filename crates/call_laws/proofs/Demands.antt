@@ -1,7 +1,7 @@
 -- What demands 1, 2 and 3 say of the public calls, for a lent job, layouts, weights, stores, strips, sheets, texts and numbers of any
--- content: nothing is asked of what is lent, since a call that is not refused has found it in order. The definitions of the calls
--- are model's Calls; each field's proof is in the file of this crate that its theorem comes from. The last three theorems are the
--- claims. Assumes nothing.
+-- content: nothing is asked of what is lent but what an earlier call gave, since a call that is not refused has found it in order.
+-- The calls are defined in model's Calls; each theorem named here is proved in the file of this crate that it is taken from. The
+-- last three theorems are the claims. Assumes nothing.
 use mathlib.Core.Bool.{Bool, true}
 use mathlib.Core.List.{List, map}
 use mathlib.Core.Logic.{_↔_, _≢_}
@@ -47,7 +47,7 @@ use Rattle.call_laws.proofs.Overlaps.{PenaltyClaims, SumClaims, penalty
 use Rattle.call_laws.proofs.Checks.{LowestPair, Checked, sharedRefusal, check-given, check-shared}
 use Rattle.call_laws.proofs.Texts.{start-given, layout-given, written-read-back}
 use Rattle.call_laws.proofs.Lengths.{UsedClaims, used-given}
-use Rattle.call_laws.proofs.Reading.{jobLeft, JobLeft, job-given}
+use Rattle.call_laws.proofs.Reading.{jobLeft, JobLeft, FrontRead, job-given, front-given}
 use Rattle.call_laws.proofs.Programs.{Prints, program-prints, program-refuses, program-too-long}
 use Rattle.call_laws.proofs.Runs.{search-given, empty-line-exactly, descent-given, descent-left, guided-given, guided-left}
 use Rattle.call_laws.proofs.Sheets.{afterSheetCalls, lay-given, withdraw-given, fresh-given}
@@ -55,18 +55,21 @@ use Rattle.call_laws.proofs.Sheets.{afterSheetCalls, lay-given, withdra
 -- ── demand 1: results as laid down, and refusals ──
 
 pub record Demand1Calls : Type 1 where
-  -- a call refuses exactly by the first of its causes that is there, and gives its value exactly where none is
+  -- where an outcome is `unless` of causes in order, as that of every call but the two readers, the call refuses exactly by the first
+  -- cause that is there, and gives its value exactly where none is
   pub refuses : {A : Type 0} (cs : List Cause) (a : A) (r : Refusal) → (unless cs a ≡ refused r) ↔ FirstCause cs r
   pub gives : {A : Type 0} (cs : List Cause) (a b : A) → (unless cs a ≡ given b) ↔ Unless cs a b
   -- a refusal leaves lent memory as it was
   pub leaves : {A B : Type 0} (content : A → B) (before : B) (o : Outcome A) (r : Refusal) → o ≡ refused r → leaving content before o ≡ before
-  -- refusal 8 of a lent job is not there exactly where reading some text gives the job
+  -- the check that every call makes first of a lent job passes exactly where reading some text gives the job
   pub job-check : (l : Lent) → (lentWell l ≡ true) ↔ Readable l
   pub job-read : (text : List ℕ) (tableLength pixelsLength : ℕ) (l : Lent) → readJob text tableLength pixelsLength ≡ given l
       → lentWell l ≡ true
   -- a job that is read stands in the lent buffers, whatever lies beyond it, as a job that every call takes
   pub job-left : (text : List ℕ) (table : List (List ℕ)) (pixels : List ℕ) (l : Lent) → readJob text (length table) (length pixels) ≡ given l
       → JobLeft l (jobLeft text table pixels l)
+  pub job-front : (text : List ℕ) (table : List (List ℕ)) (pixels : List ℕ) (l : Lent) → readJob text (length table) (length pixels) ≡ given l
+      → FrontRead text table pixels l
   -- the start layout and a layout that is read are valid, and what is written is read back
   pub starts : (l : Lent) (room : ℕ) (v : Layout) → startCall l room ≡ given v → ValidLayout (jobOf l) v
   pub layout-read : (l : Lent) (text : List ℕ) (room : ℕ) (v : Layout) → readLayoutCall l text room ≡ given v → ValidLayout (jobOf l) v
@@ -102,7 +105,8 @@ pub record Demand2Calls : Type 0 where
   pub pixels-again : (l : Lent) (ts : List ℕ) (i : ℕ) (d : Direction) (part : List (List ℕ)) (room : ℕ) → StretchClaims l ts i d part
       → turnedPiece (jobOf l) i (turnIn ts i) .columns * turnedPiece (jobOf l) i (turnIn ts i) .rows ≤ room
       → RebuiltAs d part (turnedPiece (jobOf l) i (turnIn ts i)) room
-  -- rebuilding is refused with 8 exactly where no piece of the box has just the lent strips, and gives the one piece that has them
+  -- the test of refusal 8 of rebuilding passes exactly where a piece of the box has just the lent strips, and rebuilding gives the
+  -- one piece that has them
   pub rebuild-check : (d : Direction) (columns rows : ℕ) (es : List (List ℕ))
       → (stripsWell d columns rows es ≡ true) ↔ ((s : Shape) × PieceOf d columns rows es s)
   pub rebuilds : (d : Direction) (columns rows : ℕ) (es : List (List ℕ)) (room : ℕ) (s : Shape) → rebuildCall d columns rows es room ≡ given s
@@ -136,7 +140,7 @@ pub record Demand3Calls : Type 0 where
   -- a line search finds the least sum over every inside corner on the line, and the smallest coordinate that has it
   pub searches : (l : Lent) (es : List (List ℕ)) (ws : List ℕ) (i : ℕ) (t : Turn) (line : Line) (b : Best)
       → searchCall l es ws i t line ≡ given b → Found (jobOf l) ws (layoutOf es) i t line b
-  -- refusal 11 comes exactly where no inside corner lies on the line
+  -- the cause of refusal 11 is there exactly where no inside corner lies on the line
   pub empty-lines : (l : Lent) (i : ℕ) (t : Turn) (line : Line)
       → (eqb (places (jobOf l) i t line) 0 ≡ true) ↔ ((a : ℕ) → inside (jobOf l) i (onLine line t a) ≡ true → ⊥)
   -- the trials, T of them: every piece in every turn allowed to it and both directions, nothing else, each once
@@ -166,6 +170,7 @@ demand1-calls =
       job-check = lent-well-readable;
       job-read = job-read-well;
       job-left = job-given;
+      job-front = front-given;
       starts = start-given;
       layout-read = layout-given;
       written-read = written-read-back;

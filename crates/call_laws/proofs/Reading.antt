@@ -3,19 +3,20 @@
 -- beyond plays no part, since the check and the pieces look at n entries and their boxes' bytes. Assumes nothing.
 use mathlib.Core.Bool.{true}
 use mathlib.Core.List.{List, [], _++_}
-use mathlib.Core.Path.{_≡_, refl, _∙_, ap, ap₂}
+use mathlib.Core.Path.{_≡_, refl, _∙_, ap, ap₂, subst}
 use Prim.Native.Nat.{ℕ, zero, suc, _+_, _*_, _<_, _≤_}
 use native.Mathlib.Nat.{mul-comm}
 use native.Mathlib.Omega.{arith}
 use lib.Dec.{eqb}
-use lib.ListN.{length, getD, drop, length-append, List·getD-append}
+use lib.ListN.{length, getD, take, drop, length-append, List·getD-append}
+use lib.Seq.{take-append-seam}
 use Rattle.model.specs.Lent.{Lent, entryColumns, entryRows, entryTurns, pixelStart, entryInRange, entryFits, lentShape, lentWell}
 use Rattle.model.specs.Refusal.{given}
 use Rattle.model.specs.JobText.{readJob}
 use Rattle.model.specs.Calls.{tableAfter, storeAfter}
 use Rattle.text_laws.proofs.Store.{start-end, in-box, Agree, tight-agree}
 use Rattle.text_laws.proofs.LentFacts.{Facts, facts, well}
-use Rattle.text_laws.proofs.JobRead.{sides-some, job-read-well}
+use Rattle.text_laws.proofs.JobRead.{sides-some, JustRead, job-read-well, job-read-just}
 
 -- the job with more entries and bytes behind its own
 abbrev pub longer : Lent → List (List ℕ) → List ℕ → Lent
@@ -109,3 +110,22 @@ job-given text table pixels k e =
       pieces = longer-agree k passes more bytes;
       turns = λ i l. ap (λ (x : List ℕ). getD x 2 0) (same-entry k passes more bytes i l);
     })
+
+-- the front of the lent buffers is the job that was read, entry by entry and byte by byte
+pub record FrontRead (text : List ℕ) (table : List (List ℕ)) (pixels : List ℕ) (k : Lent) : Type 0 where
+  pub entries : take (k .count) (tableAfter table (readJob text (length table) (length pixels))) ≡ k .table
+  pub bytes : take (pixelStart (k .table) (k .count)) (storeAfter pixels (readJob text (length table) (length pixels))) ≡ k .pixels
+
+-- it is so: a call that is lent just these parts is lent the job that was read
+pub front-given : (text : List ℕ) (table : List (List ℕ)) (pixels : List ℕ) (k : Lent) → readJob text (length table) (length pixels) ≡ given k
+    → FrontRead text table pixels k
+front-given text table pixels k e =
+    let just : JustRead (length table) (length pixels) k = job-read-just text (length table) (length pixels) k e in
+    record {
+      entries =
+          subst (λ (n : ℕ). take n (tableAfter table (readJob text (length table) (length pixels))) ≡ k .table) (just .entries)
+          (rw e (take-append-seam (k .table) (drop (length (k .table)) table)));
+      bytes =
+          subst (λ (n : ℕ). take n (storeAfter pixels (readJob text (length table) (length pixels))) ≡ k .pixels) (just .bytes)
+          (rw e (take-append-seam (k .pixels) (drop (length (k .pixels)) pixels)));
+    }

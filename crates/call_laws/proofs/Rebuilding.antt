@@ -1,6 +1,6 @@
--- Document 01, 'Strips' and the refusals of rebuilding: refusal 8 comes exactly where no panel of the box has just the lent strips, and
--- what rebuilding writes is the pixels of each panel that has them. The test rebuilds the set and compares its strips; a panel that
--- has the strips is that set again, and sets with the same box and pixels have the same bytes. Assumes nothing.
+-- Document 01, 'Strips' and the refusals of rebuilding: the cause of 8 is there exactly where no panel of the box has just the lent
+-- strips, and what rebuilding writes is the pixels of each panel that has them. The test rebuilds the set and compares its strips; a
+-- panel that has the strips is that set again, and sets with the same box and pixels have the same bytes. Assumes nothing.
 use mathlib.Core.Bool.{true, not, _&&_}
 use mathlib.Core.List.{List, [], _∷_, map}
 use mathlib.Core.Logic.{_↔_}
@@ -123,7 +123,7 @@ piece-well d l w es s p =
     record { shape = s; has = record { columns = p .columns; rows = p .rows; are = refl }; is-tight = p .is-tight } in
     subst (λ (xs : List (List ℕ)). stripsWell d l w xs ≡ true) (p .are) (strips-well-exactly d l w (strips d s) .1 h)
 
--- refusal 8 of rebuilding is not there exactly where some piece of the box has just the lent strips
+-- the cause of refusal 8 of rebuilding is not there exactly where some piece of the box has just the lent strips
 pub strips-well-piece : (d : Direction) (l w : ℕ) (es : List (List ℕ)) → (stripsWell d l w es ≡ true) ↔ ((s : Shape) × PieceOf d l w es s)
 strips-well-piece d l w es = (λ e. (rebuiltFrom d l w es, well-piece d l w es e), λ h. piece-well d l w es (h .0) (h .1))
 

@@ -58,7 +58,7 @@ guided-given l es ws K budget g e =
 
 -- ── line search ──
 
--- refusal 11 of a line search is there exactly where no inside corner lies on the line
+-- the cause of refusal 11 of a line search is there exactly where no inside corner lies on the line
 pub empty-line-exactly : (j : Job) (i : ℕ) (t : Turn) (line : Line)
     → (eqb (places j i t line) 0 ≡ true) ↔ ((a : ℕ) → inside j i (onLine line t a) ≡ true → ⊥)
 empty-line-exactly j i t line = (

@@ -330,3 +330,31 @@ job-read-well text tableLength pixelsLength k e =
       bits = λ i l. bits-at (r .pixels) (w .store .bits) i;
       tightBoxes = w .tightBoxes;
     }))
+
+-- a job that reading gives has n entries and just its boxes' bytes, and the buffers have room for them
+pub record JustRead (tableLength pixelsLength : ℕ) (k : Lent) : Type 0 where
+  pub entries : length (k .table) ≡ k .count
+  pub bytes : length (k .pixels) ≡ pixelStart (k .table) (k .count)
+  pub entriesRoom : k .count ≤ tableLength
+  pub bytesRoom : length (k .pixels) ≤ pixelsLength
+
+-- it is so
+pub job-read-just : (text : List ℕ) (tableLength pixelsLength : ℕ) (k : Lent) → readJob text tableLength pixelsLength ≡ given k
+    → JustRead tableLength pixelsLength k
+unfolding readJob
+job-read-just text tableLength pixelsLength k e =
+    let b = given-before (jobLine text) _ k e in
+    let j : JobLine = b .value in
+    let b′ = given-before (piecesAt text j (j .count) 0 0 (j .next) 2) _ k (b .goes) in
+    let r : Pieces = b′ .value in
+    let u : Unless (bufferCauses tableLength pixelsLength (asLent j r)) (asLent j r) k =
+    given-unless (bufferCauses tableLength pixelsLength (asLent j r)) (asLent j r) k (b′ .goes) in
+    let w : PiecesWell j (j .count) 0 r = pieces-read text j (j .count) 0 0 (j .next) 2 r (omega arith) (b′ .gives) in
+    let room = or-neither (ltb tableLength (j .count)) (ltb pixelsLength (length (r .pixels))) (u .none .0) in
+    rw (← u .same)
+    (record {
+      entries = w .entries;
+      bytes = w .store .size;
+      entriesRoom = ltb-false tableLength (j .count) (room .0);
+      bytesRoom = ltb-false pixelsLength (length (r .pixels)) (room .1);
+    })
