@@ -22,7 +22,7 @@ use Rattle.model.specs.Cover.{Call, laying, withdrawing, called, afterwards, af
 use Rattle.model.specs.declared.Placement.{Placement}
 use Rattle.model.specs.declared.Entry.{Entry}
 use Rattle.model.proofs.Tests.{decided}
-use Rattle.cover_laws.proofs.Sums.{sum-agree, sum-grown, sum-zero, passing-bound}
+use Rattle.model.proofs.Sums.{sum-agree, sum-grown, sum-zero, passing-bound}
 use Rattle.cover_laws.proofs.Calls.{length-mapFrom, getD-mapFrom, LayTaken, WithdrawTaken, lay-given, withdraw-given}
 
 -- the entry of a piece of the job, laid inside in an allowed turn

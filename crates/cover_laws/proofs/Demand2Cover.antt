@@ -20,7 +20,7 @@ use Rattle.model.specs.Cover.{Call, laying, withdrawing, afterCalls, laidCount,
 use Rattle.model.specs.declared.Placement.{Placement}
 use Rattle.model.specs.declared.Entry.{Entry}
 use Rattle.model.proofs.Tests.{clash}
-use Rattle.cover_laws.proofs.Sums.{sum-agree}
+use Rattle.model.proofs.Sums.{sum-agree}
 use Rattle.cover_laws.proofs.Counts.{LaidWell, reached-sound}
 use Rattle.cover_laws.proofs.Last.{entryAfter, LaidBy, entry-laid, last-names, reached-entry, reached-laid, reached-blank}
 use Rattle.cover_laws.proofs.Pixels.{pixel-at, number-below}

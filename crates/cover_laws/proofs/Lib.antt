@@ -1,5 +1,4 @@
 -- The laws of the sheet of cover counts. Demand2Cover has the claim; each file names its section of document 01.
-pub mod Sums
 pub mod Calls
 pub mod Counts
 pub mod Last

@@ -13,18 +13,14 @@ use Rattle.model.specs.Lent.{entryArea, pixelStart}
 use Rattle.model.specs.declared.Direction.{Direction}
 use Rattle.model.specs.declared.Direction.the-variants.{Horizontal, Vertical}
 use Rattle.model.proofs.Bounded.{any-agree}
+use Rattle.model.proofs.Sums.{sum-first}
 
 -- ── where pixels begin ──
-
--- the first number of a sum set apart
-sum-first : (f : ℕ → ℕ) (n : ℕ) → sumBelow (suc n) f ≡ f 0 + sumBelow n (λ k. f (suc k))
-sum-first f zero = omega arith
-sum-first f (suc n) = let e = sum-first f n in omega arith
 
 -- behind a first entry every piece's pixels begin later by that entry's area
 pub start-after : (e : List ℕ) (table : List (List ℕ)) (i : ℕ) → pixelStart (e ∷ table) (suc i) ≡ getD e 0 0 * getD e 1 0 + pixelStart table i
 unfolding pixelStart
-start-after e table i = sum-first (entryArea (e ∷ table)) i
+start-after e table i = sum-first i (entryArea (e ∷ table))
 
 -- later pieces begin no earlier
 pub start-grows : (table : List (List ℕ)) (i k : ℕ) → pixelStart table i ≤ pixelStart table (i + k)

@@ -1,0 +1,11 @@
+-- The laws that fast sums, line search, descent and guided run rest on, in the shape in which loops use them.
+pub mod Pairs
+pub mod PieceSum
+pub mod BoundedSearch
+pub mod LineSearch
+pub mod Table
+pub mod TrialIndex
+pub mod Loop
+pub mod GuidedLoop
+pub mod Covering
+pub mod Marks
