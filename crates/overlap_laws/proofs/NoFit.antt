@@ -4,7 +4,7 @@
 -- offsets that pass, are maximal and ascend is the law of `runs`, carried from numbers biased by 254 to whole numbers.
 -- Assumes nothing.
 use mathlib.Core.Bool.{true}
-use mathlib.Core.List.{List, [], _∷_, map, List·Memᴰ}
+use mathlib.Core.List.{List, map, List·Memᴰ}
 use mathlib.Core.Path.{_≡_, sym, _∙_, ap, subst}
 use mathlib.Core.Logic.{_↔_, Iff·trans, Iff·symm}
 use Prim.Native.Nat.{ℕ, suc, _+_, _-_, _<_, _≤_}
@@ -16,7 +16,7 @@ use Rattle.model.specs.Strip.{Run, runs}
 use Rattle.model.specs.Overlap.{share, noFit, noFitAt, offsetBound, up, down, OffsetRun, unbiased}
 use Rattle.model.specs.declared.Direction.{Direction}
 use Rattle.model.proofs.Tests.{clash}
-use Rattle.strip_laws.proofs.Lists.{Pairwise, none, more, Source, map-source, map-member}
+use Rattle.strip_laws.proofs.Lists.{Pairwise, Source, map-source, map-member, pairwise-map}
 use Rattle.strip_laws.proofs.Runs.{MaximalRun, InRuns, RunBefore, runs-exactly, runs-maximal, runs-ascending}
 use Rattle.overlap_laws.proofs.Share.{SharedPixel, share-witness, share-from, shared-along, shared-across, shared-over, pixel-along, along-point, across-point}
 use Rattle.overlap_laws.proofs.Whole.{whole-eq, sub-whole, up-down, sub-eq, eq-sub, pred-whole, add-whole, le-whole, whole-le, lt-whole, whole-lt}
@@ -231,17 +231,6 @@ run-before r q h =
     let g = add-whole (subℕ (r .first) offsetBound) (r .count) in
     whole-lt (subℕ (r .first) offsetBound +ℤ pos (r .count)) (subℕ (q .first) offsetBound) (omega arith)
 
--- a list in an order, mapped by what keeps the order
-pairwise-map : {A B : Type 0} (R : A → A → Type 0) (S : B → B → Type 0) (g : A → B) → ((a b : A) → R a b → S (g a) (g b)) → (l : List A)
-    → Pairwise R l → Pairwise S (map g l)
-pairwise-map R S g f [] none = none
-pairwise-map {A} {B} R S g f (a ∷ l) (more h p) =
-    more
-    (λ b m.
-    let z : Source g l b = map-source g l m in
-    subst (λ (x : B). S (g a) x) (sym (z .image)) (f a (z .from) (h (z .from) (z .listed))))
-    (pairwise-map R S g f l p)
-
 -- what a no-fit line is: its runs list just the offsets of two pixels, each between -254 and 254, each run is maximal, and the runs
 -- ascend
 pub record NoFitLine (d : Direction) (s t : Shape) (o : ℤ) (rs : List OffsetRun) : Type 0 where
@@ -262,7 +251,7 @@ no-fit-line d s t h k o =
           λ r m.
           let z : Source unbiased (runs (noFitAt d s t o) n) r = map-source unbiased (runs (noFitAt d s t o) n) m in
           subst (MaximalOffsetRun d s t o) (sym (z .image)) (run-maximal d s t o h k (z .from) (runs-maximal (noFitAt d s t o) n (z .from) (z .listed)));
-      ascending = pairwise-map RunBefore OffsetRunBefore unbiased run-before (runs (noFitAt d s t o) n) (runs-ascending (noFitAt d s t o) n);
+      ascending = pairwise-map OffsetRunBefore unbiased run-before (runs-ascending (noFitAt d s t o) n);
     }
 
 -- two placed pieces share a pixel exactly when the corners' difference along the direction is listed at their difference across it

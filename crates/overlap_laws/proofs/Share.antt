@@ -10,7 +10,8 @@ use native.Mathlib.Nat.{add-zero}
 use native.Mathlib.Omega.{arith}
 use lib.Dec.{leb, ltb}
 use borrow.Author.Tests.{ltb-true, leb-true, lt-ltb, le-leb}
-use Rattle.model.specs.Piece.{Point, Shape, pixel, covers, along, across, point, shift, extent}
+pub use Rattle.strip_laws.proofs.Boxes.{along-point, across-point}
+use Rattle.model.specs.Piece.{Point, Shape, pixel, covers, along, across, shift, extent}
 use Rattle.model.specs.Overlap.{share}
 use Rattle.model.specs.declared.Direction.{Direction}
 use Rattle.model.specs.declared.Direction.the-variants.{Horizontal, Vertical}
@@ -213,16 +214,6 @@ pub same-difference : (d : Direction) (u v u′ v′ : Point) → along d u + al
     → across d u + across d v′ ≡ across d u′ + across d v → SameDifference u v u′ v′
 same-difference Horizontal u v u′ v′ e f = record { column = e; row = f }
 same-difference Vertical u v u′ v′ e f = record { column = f; row = e }
-
--- a point made of its coordinates has them: the one along
-pub along-point : (d : Direction) (a c : ℕ) → along d (point d a c) ≡ a
-along-point Horizontal a c = refl
-along-point Vertical a c = refl
-
--- and the one across
-pub across-point : (d : Direction) (a c : ℕ) → across d (point d a c) ≡ c
-across-point Horizontal a c = refl
-across-point Vertical a c = refl
 
 -- a shift moves a point along the direction
 pub along-shift : (d : Direction) (k : ℕ) (v : Point) → along d (shift d k v) ≡ along d v + k

@@ -7,7 +7,7 @@ use Prim.Native.Nat.{ℕ, zero, suc, _+_, _-_, _*_, _≤_, _<_}
 use native.Mathlib.Nat.{add-zero, add-suc, mul-le-mul-right, suc-mul}
 use native.Mathlib.Omega.{arith}
 use lib.ListN.{getD}
-use Rattle.model.specs.Bounded.{anyBelow, sumBelow}
+use Rattle.model.specs.Bounded.{anyBelow}
 use Rattle.model.specs.Piece.{Shape, tight, tightAlong, holds, extent, other}
 use Rattle.model.specs.Lent.{entryArea, pixelStart}
 use Rattle.model.specs.declared.Direction.{Direction}
