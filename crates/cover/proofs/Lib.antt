@@ -1,0 +1,10 @@
+-- The laws behind the sheet's calls; each function's proof stands in a folder of its name.
+pub mod Boxes
+pub mod Runs
+pub mod Rows
+pub mod Pieces
+pub mod Entries
+pub mod Recounts
+pub mod Causes
+pub mod Outcomes
+pub mod CallLists

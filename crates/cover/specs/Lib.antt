@@ -1,0 +1,4 @@
+pub mod Stamp
+pub mod Answers
+pub mod Ready
+pub mod CallList

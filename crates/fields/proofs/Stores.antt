@@ -1,0 +1,21 @@
+-- Runs of stores, one after the other. Assumes nothing.
+use mathlib.Core.List.{List, [], _∷_, _++_}
+use mathlib.Core.Path.{_≡_, refl, _∙_, ap}
+use Prim.Native.Nat.{ℕ, suc, _+_, _≤_, _<_}
+use native.Mathlib.Nat.{add-zero, add-suc, suc-add}
+use lib.ListN.{length, set, getD, drop, drop-of-length-le}
+use lib.Seq.{sets, drop-cons}
+
+-- two runs, the second behind the first
+pub sets-append : {A : Type 0} (l : List A) (i : ℕ) (xs ys : List A) → sets l i (xs ++ ys) ≡ sets (sets l i xs) (i + length xs) ys
+sets-append l i [] ys = rw add-zero refl
+sets-append l i (x ∷ xs) ys = sets-append (set l i x) (suc i) xs ys ∙ ap (λ (k : ℕ). sets (sets (set l i x) (suc i) xs) k ys) (rw (add-suc, suc-add) refl)
+
+-- the first of what is left of a run
+pub sets-first : (l : List ℕ) (i : ℕ) (vs : List ℕ) (k : ℕ) → k < length vs
+    → sets l i (drop k vs) ≡ sets (set l i (getD vs k 0)) (suc i) (drop (suc k) vs)
+sets-first l i vs k h = rw (drop-cons vs k 0 h)
+
+-- nothing is left of a run
+pub sets-none : (l : List ℕ) (i : ℕ) (vs : List ℕ) (k : ℕ) → length vs ≤ k → sets l i (drop k vs) ≡ l
+sets-none l i vs k h = rw (drop-of-length-le vs h)

@@ -1,0 +1,102 @@
+-- Lines of a box as evenly spaced bytes, and the parts of the check of a table. Assumes nothing.
+use mathlib.Core.Bool.{Bool, true, _&&_}
+use mathlib.Core.List.{List}
+use mathlib.Core.Path.{_≡_, ap}
+use Prim.Native.Nat.{ℕ, _+_, _-_, _*_, _%_, _≤_, _<_}
+use native.Mathlib.Nat.{mul-le-mul}
+use native.Mathlib.Omega.{arith}
+use lib.Dec.{leb, eqb}
+use lib.ListN.{length, getD}
+use borrow.Author.Tests.{leb-true}
+use Rattle.model.specs.Bounded.{allBelow}
+use Rattle.model.specs.Piece.{holds}
+use Rattle.model.specs.Lent.{areaBound, pieceBound, rowBound, columnBound, sideBound, turnsBound, upTo, entryColumns, entryRows, entryTurns, pixelStart, sheetInRange, entryInRange, entryFits}
+use Rattle.model.specs.declared.JobSize.{JobSize}
+use Rattle.model.specs.declared.Direction.the-variants.{Horizontal, Vertical}
+use Rattle.model.proofs.Tests.{and-left, and-right}
+use Rattle.model.proofs.Bounded.{any-agree, all-at}
+use Rattle.text_laws.proofs.JobRead.{sidesInRange}
+use Rattle.job.specs.Boxes.{boxIn, numbersInRange, someMark, tableWell, Side}
+use Rattle.job.proofs.Tests.{at-least, at-most}
+
+module _ (mark : ℕ) (bytes : List ℕ) (start stride l w : ℕ) where
+  -- a row of a box
+  pub row-marks : (y first : ℕ) → first ≡ start + y * stride → someMark mark bytes first 1 l ≡ holds Horizontal (boxIn mark bytes start stride l w) y
+  row-marks y first e =
+      any-agree l (λ k. eqb (getD bytes (first + k * 1) 0) mark) (λ x. eqb (getD bytes (start + (y * stride + x)) 0) mark)
+      (λ k _. ap (λ (i : ℕ). eqb (getD bytes i 0) mark) (omega arith))
+
+  -- a column of a box
+  pub column-marks : (x first : ℕ) → first ≡ start + x → someMark mark bytes first stride w ≡ holds Vertical (boxIn mark bytes start stride l w) x
+  column-marks x first e =
+      any-agree w (λ k. eqb (getD bytes (first + k * stride) 0) mark) (λ y. eqb (getD bytes (start + (y * stride + x)) 0) mark)
+      (λ k _. ap (λ (i : ℕ). eqb (getD bytes i 0) mark) (omega arith))
+
+-- sides in range
+pub sides-of : (l w o : ℕ) → sidesInRange l w o ≡ true → Side l × Side w
+sides-of l w o e =
+    let a : Bool = upTo sideBound l in
+    let b : Bool = upTo sideBound w in
+    let c : Bool = eqb (o % 2) 1 in
+    let ab : (a && b) ≡ true = and-left (a && b) c (and-left (a && b && c) (leb o turnsBound) e) in
+    let ea : a ≡ true = and-left a b ab in
+    let eb : b ≡ true = and-right a b ab in
+    (record { low = at-least sideBound l ea; high = at-most sideBound l ea }, record { low = at-least sideBound w eb; high = at-most sideBound w eb })
+
+-- the area of a box with sides in range
+pub area-of : (l w o : ℕ) → sidesInRange l w o ≡ true → l * w ≤ 255 * 255
+area-of l w o e = let s = sides-of l w o e in mul-le-mul (s .0 .high) (s .1 .high)
+
+-- the sides of an entry in range
+pub sides : (table : List (List ℕ)) (i : ℕ) → entryInRange table i ≡ true → Side (entryColumns table i) × Side (entryRows table i)
+unfolding entryInRange
+sides table i e = sides-of (entryColumns table i) (entryRows table i) (entryTurns table i) e
+
+-- at most 64 pieces in range
+pub few-count : (rows columns count : ℕ) → numbersInRange rows columns count ≡ true → count ≤ pieceBound
+few-count rows columns count e = at-most pieceBound count (and-right (upTo rowBound rows && upTo columnBound columns) (upTo pieceBound count) e)
+
+-- the pieces of a sheet in range are at most 64
+pub few-pieces : (rows columns count : ℕ) → sheetInRange rows columns count ≡ true → count ≤ pieceBound
+unfolding sheetInRange
+few-pieces rows columns count e = few-count rows columns count (and-left (numbersInRange rows columns count) (leb (rows * columns) areaBound) e)
+
+-- what the check of a table says of its entries
+pub record TableFacts (size : JobSize) (table : List (List ℕ)) : Type 0 where
+  pub few : size .count ≤ pieceBound
+  pub entries : size .count ≤ length table
+  pub ranges : (i : ℕ) → i < size .count → entryInRange table i ≡ true
+  pub areas : pixelStart table (size .count) ≤ areaBound
+
+pub table-facts : (size : JobSize) (table : List (List ℕ)) → tableWell size table ≡ true → TableFacts size table
+table-facts size table e =
+    let a : Bool = sheetInRange (size .rows) (size .columns) (size .count) in
+    let b : Bool = leb (size .count) (length table) in
+    let c : Bool = allBelow (size .count) (entryInRange table) in
+    let d : Bool = allBelow (size .count) (entryFits (size .rows) (size .columns) table) in
+    let f : Bool = leb (pixelStart table (size .count)) areaBound in
+    let ed : (a && b && c && d) ≡ true = and-left (a && b && c && d) f e in
+    let ec : (a && b && c) ≡ true = and-left (a && b && c) d ed in
+    let eb : (a && b) ≡ true = and-left (a && b) c ec in
+    record {
+      few = few-pieces (size .rows) (size .columns) (size .count) (and-left a b eb);
+      entries = leb-true (size .count) (length table) (and-right a b eb);
+      ranges = all-at (size .count) (entryInRange table) (and-right (a && b) c ec);
+      areas = leb-true (pixelStart table (size .count)) areaBound (and-right (a && b && c && d) f e);
+    }
+
+-- the last row of a box begins at most 254 strides on
+pub last-row : (rows stride : ℕ) → rows ≤ 255 → stride ≤ 512 → (rows - 1) * stride ≤ 254 * 512
+last-row rows stride r s = let h : rows - 1 ≤ 254 = omega arith in mul-le-mul h s
+
+-- W × L of numbers in range
+pub sheet-small : (rows columns count : ℕ) → numbersInRange rows columns count ≡ true → rows * columns ≤ 512 * 4096
+sheet-small rows columns count e =
+    let a : Bool = upTo rowBound rows in
+    let b : Bool = upTo columnBound columns in
+    let ab : (a && b) ≡ true = and-left (a && b) (upTo pieceBound count) e in
+    mul-le-mul (at-most rowBound rows (and-left a b ab)) (at-most columnBound columns (and-right a b ab))
+
+-- the sum of turns in range
+pub few-turns : (l w o : ℕ) → sidesInRange l w o ≡ true → o ≤ turnsBound
+few-turns l w o e = leb-true o turnsBound (and-right (upTo sideBound l && upTo sideBound w && eqb (o % 2) 1) (leb o turnsBound) e)

@@ -1,0 +1,2 @@
+-- What the functions over no-fit lines compute.
+pub mod Marks

@@ -1,0 +1,90 @@
+-- Where no cause refuses a call on a pair, both pieces are ready to be measured: their table entries are checked, and their corners
+-- lie in the sheet. Assumes nothing.
+use mathlib.Core.Bool.{Bool, true, false, not, _&&_, _||_}
+use mathlib.Core.List.{List}
+use mathlib.Core.Path.{_≡_, sym, _∙_}
+use Prim.Native.Nat.{ℕ, _+_, _<_, _≤_}
+use native.Mathlib.Omega.{arith}
+use lib.Dec.{leb, ltb, eqb}
+use lib.ListN.{length}
+use borrow.Author.Tests.{leb-true, ltb-true, eqb-true, not-false}
+use Rattle.model.specs.Layout.{inside, placeOf, turnedPiece}
+use Rattle.model.specs.Lent.{Lent, jobOf, lentWell, sheetInRange, upTo, rowBound, columnBound, pieceBound, areaBound}
+use Rattle.model.specs.Buffer.{layoutOf}
+use Rattle.model.specs.Calls.{someTurnWrong, someOutside, pairCauses}
+use Rattle.model.proofs.Bounded.{any-none}
+use Rattle.model.proofs.Tests.{and-left, and-right, or-neither}
+use Rattle.text_laws.proofs.LentFacts.{facts}
+use Rattle.text_laws.proofs.Outcomes.{NoCause}
+use Rattle.strips.proofs.Jobs.{entry-at}
+use Rattle.pairs.specs.Ready.{Ready}
+
+-- the sheet's limits
+record Limits (l : Lent) : Type 0 where
+  rows : l .rows ≤ 512
+  columns : l .columns ≤ 4096
+  count : l .count ≤ 64
+
+-- the larger half of a range
+up-to : (bound k : ℕ) → upTo bound k ≡ true → k ≤ bound
+up-to bound k e = leb-true k bound (and-right (leb 1 k) _ e)
+
+limits : (l : Lent) → lentWell l ≡ true → Limits l
+unfolding sheetInRange
+limits l w =
+    let s : sheetInRange (l .rows) (l .columns) (l .count) ≡ true = facts l w .sheet in
+    let r : Bool = upTo rowBound (l .rows) in
+    let c : Bool = upTo columnBound (l .columns) in
+    let n : Bool = upTo pieceBound (l .count) in
+    let three : ((r && c) && n) ≡ true = and-left ((r && c) && n) _ s in
+    let two : (r && c) ≡ true = and-left (r && c) n three in
+    record {
+      rows = up-to rowBound (l .rows) (and-left r c two);
+      columns = up-to columnBound (l .columns) (and-right r c two);
+      count = up-to pieceBound (l .count) (and-right (r && c) n three);
+    }
+
+-- a piece of a layout that passes
+pub piece-ready : (l : Lent) (es : List (List ℕ)) → lentWell l ≡ true → someOutside (jobOf l) (layoutOf es) ≡ false
+    → (i : ℕ) → i < l .count → Ready (l .table) i (placeOf (layoutOf es) i)
+unfolding someOutside inside jobOf
+piece-ready l es w out i b =
+    let p = placeOf (layoutOf es) i in
+    let m : Limits l = limits l w in
+    let r = m .rows in
+    let c = m .columns in
+    let n = m .count in
+    let e : inside (jobOf l) i p ≡ true = not-false (inside (jobOf l) i p) (any-none (l .count) _ out i b) in
+    let x : leb (p .x .0 + turnedPiece (jobOf l) i (p .turn) .columns) (l .columns) ≡ true = and-left _ _ e in
+    let y : leb (p .y .0 + turnedPiece (jobOf l) i (p .turn) .rows) (l .rows) ≡ true = and-right (leb (p .x .0 + turnedPiece (jobOf l) i (p .turn) .columns) (l .columns)) _ e in
+    record {
+      entry = entry-at l i w b;
+      few = omega arith;
+      x = omega (arith, leb-true (p .x .0 + turnedPiece (jobOf l) i (p .turn) .columns) (l .columns) x);
+      y = omega (arith, leb-true (p .y .0 + turnedPiece (jobOf l) i (p .turn) .rows) (l .rows) y);
+    }
+
+-- what is known of a pair that no cause refuses
+pub record Measurable (l : Lent) (es : List (List ℕ)) (i k : ℕ) : Type 0 where
+  pub first-place : i < length es
+  pub second-place : k < length es
+  pub first : Ready (l .table) i (placeOf (layoutOf es) i)
+  pub second : Ready (l .table) k (placeOf (layoutOf es) k)
+
+pub measurable : (l : Lent) (es : List (List ℕ)) (i k : ℕ) → NoCause (pairCauses l es i k) → Measurable l es i k
+unfolding pairCauses
+measurable l es i k h =
+    let w : lentWell l ≡ true = not-false (lentWell l) (h .0) in
+    let n : length es ≡ l .count = eqb-true (length es) (l .count) (not-false (eqb (length es) (l .count)) (h .1 .0)) in
+    let t : Bool = someTurnWrong (jobOf l) es in
+    let u : Bool = not (ltb i (l .count)) in
+    let v : Bool = not (ltb k (l .count)) in
+    let three = or-neither ((t || u) || v) (eqb i k) (h .1 .1 .0) .0 in
+    let a : i < l .count = ltb-true i (l .count) (not-false _ (or-neither t u (or-neither (t || u) v three .0) .1)) in
+    let b : k < l .count = ltb-true k (l .count) (not-false _ (or-neither (t || u) v three .1)) in
+    record {
+      first-place = omega arith;
+      second-place = omega arith;
+      first = piece-ready l es w (h .1 .1 .1 .0) i a;
+      second = piece-ready l es w (h .1 .1 .1 .0) k b;
+    }

@@ -1,0 +1,5 @@
+-- Laws that the proofs of this crate and of those above cite.
+pub mod Places
+pub mod Insertion
+pub mod Causes
+pub mod Stacks

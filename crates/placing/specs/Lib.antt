@@ -1,0 +1,5 @@
+-- What the contracts of this crate cite beside the model's definitions.
+pub mod Answers
+pub mod Boxes
+pub mod Order
+pub mod Stacks

@@ -1,0 +1,24 @@
+// Numbers that the placements need.
+ghost use mathlib.Core.Path.{_≡_};
+ghost use Prim.Native.Nat.{_≤_, min, max};
+
+// A box side of the table as a wide number.
+pub fn side(k: u8) -> usize
+    ensures { λ r. ⌜ (r ≡ k) × (r ≤ 255) ⌝ }
+{
+    k as usize
+}
+
+// The larger of two numbers.
+pub fn larger(a: usize, b: usize) -> usize
+    ensures { λ r. ⌜ r ≡ max a b ⌝ }
+{
+    if a < b { b } else { a }
+}
+
+// The smaller of two numbers.
+pub fn smaller(a: usize, b: usize) -> usize
+    ensures { λ r. ⌜ r ≡ min a b ⌝ }
+{
+    if a < b { a } else { b }
+}

@@ -1,0 +1,2 @@
+-- What the shapes of a job are, as two lent buffers hold them.
+pub mod Shapes
