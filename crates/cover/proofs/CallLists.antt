@@ -28,7 +28,7 @@ use Rattle.cover.specs.Ready.{SheetReady}
 use Rattle.cover.specs.declared.Reply.the-variants.{Given, Refused}
 use Rattle.cover.specs.declared.SheetAnswer.{SheetAnswer}
 use Rattle.cover.specs.CallList.{callOf, callsOf, runOutcome}
-use Rattle.cover.proofs.Pieces.{few-pieces}
+use Rattle.stamp.proofs.Pieces.{few-pieces}
 use Rattle.cover.proofs.Outcomes.{own-causes}
 
 -- the answer and the buffer after a call are the sheet after its outcome

@@ -1,8 +1,4 @@
 -- The laws behind the sheet's calls; each function's proof stands in a folder of its name.
-pub mod Boxes
-pub mod Runs
-pub mod Rows
-pub mod Pieces
 pub mod Entries
 pub mod Recounts
 pub mod Causes

@@ -22,7 +22,7 @@ use Rattle.model.proofs.Tests.{clash}
 use Rattle.cover_laws.proofs.Calls.{Absent, absent-given, LayTaken, WithdrawTaken, lay-given, withdraw-given, length-mapFrom, getD-mapFrom}
 use Rattle.cover_laws.proofs.Counts.{LaidWell}
 use Rattle.cover_laws.proofs.Reached.{well-sound}
-use Rattle.cover.specs.Stamp.{moved, movedBy}
+use Rattle.stamp.specs.Stamp.{moved, movedBy}
 use Rattle.cover.specs.Answers.{recordOf, plainRefusal, firstNumber, bufferCauses, givenAnswer, answerBy, sheetAnswer, countsAfter}
 use Rattle.cover.specs.Ready.{SheetReady}
 use Rattle.cover.specs.declared.SheetAnswer.{SheetAnswer}

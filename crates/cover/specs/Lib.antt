@@ -1,4 +1,3 @@
-pub mod Stamp
 pub mod Answers
 pub mod Ready
 pub mod CallList

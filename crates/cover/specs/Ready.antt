@@ -6,20 +6,11 @@ use Prim.Native.Nat.{ℕ, _*_, _<_}
 use lib.Dec.{eqb}
 use lib.ListN.{length, getD}
 use Rattle.model.specs.Bounded.{allBelow}
-use Rattle.model.specs.Layout.{Job, inside}
+use Rattle.model.specs.Layout.{Job}
 use Rattle.model.specs.Lent.{Lent, jobOf, lentWell, pieceBound}
 use Rattle.model.specs.Cover.{Sheet, mapFrom, laidOn, laidCount, entryWell, sheetWell}
-use Rattle.model.specs.declared.Placement.{Placement}
 use Rattle.model.specs.declared.Entry.{Entry}
-use Rattle.cover.specs.Stamp.{moved}
-
--- piece i may be laid at the placement or taken off it: the job is well, the piece is one of it, inside, and there is a count for
--- each pixel
-pub record Ready (l : Lent) (i : ℕ) (p : Placement) (room : ℕ) : Type 0 where
-  pub well : lentWell l ≡ true
-  pub piece : i < l .count
-  pub within : inside (jobOf l) i p ≡ true
-  pub full : room ≡ l .rows * l .columns
+use Rattle.stamp.specs.Stamp.{moved}
 
 -- the counts of a record may be made anew: the job is well, every entry is, and there is a count for each pixel
 pub record CanCount (l : Lent) (es : List Entry) (room : ℕ) : Type 0 where

@@ -15,7 +15,6 @@ mod call_list;
 mod reached;
 mod record;
 mod refusals;
-mod stamp;
 
 pub use call_list::run_calls;
 

@@ -1,7 +1,6 @@
 // The test for refusal 8 of lay and withdraw: a record and counts that some list of calls gives. Every entry is blank or a piece laid
 // well, and the counts are those that the laid pieces make anew.
 use crate::record;
-use crate::stamp;
 use model::Entry;
 use model::JobSize;
 use model::Record;

@@ -2,7 +2,7 @@
 use mathlib.Core.Bool.{Bool, true, false, not, _&&_}
 use mathlib.Core.List.{List, [], _∷_}
 use mathlib.Core.Option.{Option, none, some}
-use mathlib.Core.Path.{_≡_, refl, sym, _∙_, ap}
+use mathlib.Core.Path.{_≡_, refl, sym, _∙_}
 use Prim.Native.Nat.{ℕ, _+_, _<_, _≤_}
 use native.Mathlib.Omega.{arith}
 use borrow.Author.Tests.{ne-eqb, leb-true}
@@ -13,18 +13,18 @@ use Rattle.model.specs.Refusal.{Outcome, refused, given, Cause, unless, refusal
 use Rattle.model.specs.Buffer.{turnOfDegrees, turnPasses, isTurn, turnOf}
 use Rattle.model.specs.Text.{Reading, wrong, got, onward, after, comma, lineEnd, standsAt, fieldAt, fieldsAt, threeFields, fourFields, lineAt, causeIn, formed, andThen}
 use Rattle.model.specs.LayoutText.{layoutWord, atWord, layoutLine, PlacementLine, asPlacementLine, placementCauses, placementLine}
-use Rattle.model.specs.declared.Turn.{Turn}
 use Rattle.model.specs.declared.Placement.{Placement}
 use Rattle.model.specs.declared.Refusal.{Refusal}
+use Rattle.model.specs.declared.Turn.{Turn}
 use Rattle.model.proofs.Tests.{and-left, and-right}
-use Rattle.fields.specs.Answers.{numberOf, Reads}
+use Rattle.fields.proofs.Steps.{got-of, wrong-of}
+use Rattle.fields.specs.Answers.{Reads}
 use Rattle.fields.specs.declared.Number.{Number}
 use Rattle.fields.specs.declared.Number.the-variants.{Got, Wrong}
-use Rattle.fields.proofs.Steps.{got-of, wrong-of}
 use Rattle.placing.specs.Boxes.{placeAt}
 use Rattle.layout_text.specs.Readings.{turnOnLine, placeOnLine, placeAnswer, lineAnswer}
-use Rattle.layout_text.specs.declared.reading.PlaceAnswer.{PlaceAnswer}
 use Rattle.layout_text.specs.declared.reading.LineAnswer.{LineAnswer}
+use Rattle.layout_text.specs.declared.reading.PlaceAnswer.{PlaceAnswer}
 
 -- ── fields ──
 

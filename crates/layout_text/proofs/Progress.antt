@@ -1,10 +1,9 @@
 -- The lines of the pieces, read one after the other: what is read so far is at the front of the buffer, and what is left decides the
 -- whole. Assumes nothing.
-use mathlib.Core.Bool.{true, not}
+use mathlib.Core.Bool.{true}
 use mathlib.Core.List.{List, [], _∷_, _++_, append-nil, map-append}
 use mathlib.Core.Path.{_≡_, refl, sym, _∙_, ap}
-use Prim.Native.Nat.{ℕ, zero, suc, _+_, _-_, _<_, _≤_}
-use native.Mathlib.Nat.{zero-add}
+use Prim.Native.Nat.{ℕ, suc, _+_, _-_, _<_, _≤_}
 use native.Mathlib.Numerals.{add-one}
 use native.Mathlib.Omega.{arith}
 use borrow.Author.Tests.{eq-eqb, ne-eqb}
@@ -14,10 +13,9 @@ use Rattle.model.specs.Layout.{Job, Layout}
 use Rattle.model.specs.Refusal.{Outcome, refused, given, unless, refusalOf, wrongForm}
 use Rattle.model.specs.Buffer.{entryOf, entriesOf}
 use Rattle.model.specs.Text.{causeIn, andThen}
-use Rattle.model.specs.LayoutText.{PlacementLine, placementLine, placementsAt}
+use Rattle.model.specs.LayoutText.{placementLine, placementsAt}
 use Rattle.model.specs.declared.Placement.{Placement}
 use Rattle.model.specs.declared.Refusal.{Refusal}
-use Rattle.text_laws.proofs.Outcomes.{refused-given}
 use Rattle.fields.proofs.Stores.{sets-append}
 
 -- what is given is one thing

@@ -1,18 +1,16 @@
 -- What reading a layout comes to, by its parts: the job's check, the layout line, the pieces' lines, the buffer's length. Assumes
 -- nothing.
 use mathlib.Core.Bool.{true, false}
-use mathlib.Core.List.{List, [], _∷_, _++_, append-nil}
-use mathlib.Core.Path.{_≡_, refl, sym, _∙_, ap}
+use mathlib.Core.List.{List, [], _∷_, append-nil}
+use mathlib.Core.Path.{_≡_, refl, _∙_, ap}
 use Prim.Native.Nat.{ℕ, zero, suc, _+_}
 use native.Mathlib.Omega.{arith}
 use borrow.Author.Tests.{eq-eqb, ne-eqb}
-use lib.ListN.{length, drop, drop-of-length-le, length-map}
+use lib.ListN.{length, drop-of-length-le}
 use lib.Seq.{sets, sets-eq}
 use Rattle.model.specs.Layout.{Job, Layout}
 use Rattle.model.specs.Refusal.{Outcome, refused, given, cause, unless, refusalOf, wrongLength, notOurs}
 use Rattle.model.specs.Lent.{Lent, jobOf, lentWell}
-use Rattle.model.specs.Buffer.{entryOf, entriesOf}
-use Rattle.model.specs.Text.{andThen}
 use Rattle.model.specs.LayoutText.{layoutLine, placementLine, placementsAt, readLayout}
 use Rattle.model.specs.Calls.{readLayoutCall}
 use Rattle.model.specs.declared.Refusal.{Refusal}

@@ -1,6 +1,7 @@
 -- What writing a layout comes to: refused by a cause of the layout, refused for a text buffer that is too short, or written.
 -- Assumes nothing.
-use mathlib.Core.List.{List, [], _∷_, _++_}
+use mathlib.Core.Bool.{true}
+use mathlib.Core.List.{List, [], _∷_}
 use mathlib.Core.Path.{_≡_, refl, _∙_}
 use Prim.Native.Nat.{ℕ, _<_, _≤_}
 use native.Mathlib.Nat.{zero-add}
@@ -9,15 +10,14 @@ use borrow.Author.Tests.{lt-ltb, le-ltb}
 use lib.ListN.{length}
 use lib.Seq.{sets, sets-eq}
 use Rattle.model.specs.Refusal.{refused, given, cause, refusalOf, unless, wrongLength}
-use mathlib.Core.Bool.{true}
 use Rattle.model.specs.Lent.{Lent, jobOf}
 use Rattle.model.specs.Buffer.{layoutOf, filled}
 use Rattle.model.specs.LayoutText.{layoutText}
 use Rattle.model.specs.Calls.{layoutCauses, writeLayoutCall}
 use Rattle.model.specs.declared.Refusal.{Refusal}
+use Rattle.placing.proofs.Causes.{passed-none, none-then, refused-then}
 use Rattle.placing.specs.Answers.{firstCause}
 use Rattle.placing.specs.declared.CauseAnswer.{CauseAnswer}
-use Rattle.placing.proofs.Causes.{passed-none, none-then, refused-then}
 
 module _ (l : Lent) (es : List (List ℕ)) (room : ℕ) where
   -- a cause of the layout

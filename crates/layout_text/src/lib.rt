@@ -3,7 +3,6 @@ mod reading;
 mod writing;
 
 use model::Refusal;
-
 pub use reading::read_layout;
 pub use writing::write_layout;
 

@@ -18,11 +18,10 @@ ghost use Rattle.placing.specs.Answers.{turnAnswer};
 ghost use Rattle.placing.specs.Stacks.{Fitting};
 ghost use Rattle.layout_text.specs.Answers.{layoutAnswer};
 ghost use Rattle.layout_text.specs.Readings.{ThreeRead, LineRead, numbersOf, turnOnLine, placeOnLine, layoutFrom, positionAnswer, positionIn, placeAnswer, lineAnswer, nextIn};
-
 use crate::LayoutAnswer;
+use fields::Number;
 use fields::field_at;
 use fields::word_at;
-use fields::Number;
 use model::Column;
 use model::JobSize;
 use model::Placement;
@@ -138,7 +137,15 @@ fn placement_fields(text: &[u8], p: usize) -> LineFields
     let ThreeFields::Got(degrees, x, y, next) = three_at(text, after_number) else {
         return LineFields::Wrong;
     };
-    LineFields::Got(PlacementFields { number, degrees, x, y }, next)
+    LineFields::Got(
+        PlacementFields {
+            number,
+            degrees,
+            x,
+            y,
+        },
+        next,
+    )
 }
 
 // The turn on the line of piece i, if the line names that piece and the degrees are those of a turn.
@@ -155,7 +162,13 @@ fn turn_on_line(i: usize, number: usize, degrees: usize) -> TurnAnswer
 }
 
 // The placement that the numbers of piece i's line give.
-fn placement_of(size: JobSize, table: &[[u8; 3]], i: usize, line: u32, fields: PlacementFields) -> PlaceAnswer
+fn placement_of(
+    size: JobSize,
+    table: &[[u8; 3]],
+    i: usize,
+    line: u32,
+    fields: PlacementFields,
+) -> PlaceAnswer
     requires { ⌜ (i < length (now table)) × (size .rows ≤ rowBound) × (size .columns ≤ columnBound) × (fields .x ≤ 99999) × (fields .y ≤ 99999) ⌝ }
     ensures { λ r. ⌜ ((pixels : List ℕ) → r ≡ placeAnswer (placeOnLine (jobOf (lentBy size (now (table .entry)) pixels)) i line (numbersOf fields))) ⌝ }
 {
@@ -176,7 +189,14 @@ fn placement_of(size: JobSize, table: &[[u8; 3]], i: usize, line: u32, fields: P
 }
 
 // The line of piece i at position p.
-fn placement_line(size: JobSize, table: &[[u8; 3]], text: &[u8], i: usize, p: usize, line: u32) -> LineAnswer
+fn placement_line(
+    size: JobSize,
+    table: &[[u8; 3]],
+    text: &[u8],
+    i: usize,
+    p: usize,
+    line: u32,
+) -> LineAnswer
     requires { ⌜ (i < length (now table)) × (size .rows ≤ rowBound) × (size .columns ≤ columnBound) × (p ≤ length (now text)) ⌝ }
     ensures { λ r. ⌜ ((pixels : List ℕ) → r ≡ lineAnswer (placementLine (jobOf (lentBy size (now (table .entry)) pixels)) (now (text .entry)) i p line)) × (nextIn r ≤ length (now (text .entry))) ⌝ }
 {
@@ -199,7 +219,13 @@ fn set_entry(layout: &mut [[u16; 3]], i: usize, place: Placement)
 }
 
 // The lines of the pieces from position p on, into the front of a layout buffer; nothing follows the last.
-fn read_placements(size: JobSize, table: &[[u8; 3]], text: &[u8], p: usize, layout: &mut [[u16; 3]]) -> LayoutAnswer
+fn read_placements(
+    size: JobSize,
+    table: &[[u8; 3]],
+    text: &[u8],
+    p: usize,
+    layout: &mut [[u16; 3]],
+) -> LayoutAnswer
     requires { ⌜ Fitting size (now table) × (p ≤ length (now text)) ⌝ }
     ensures answer { λ r. ⌜ ((pixels : List ℕ) → r ≡ layoutAnswer (placementsAt (jobOf (lentBy size (now (table .entry)) pixels)) (now (text .entry)) (size .count) 0 p 2)) ⌝ }
     ensures memory { λ r. ⌜ ((pixels : List ℕ) (v : Layout) → placementsAt (jobOf (lentBy size (now (table .entry)) pixels)) (now (text .entry)) (size .count) 0 p 2 ≡ given v → now (layout .exit) ≡ sets (now (layout .entry)) 0 (entriesOf v)) ⌝ }
@@ -227,11 +253,23 @@ fn read_placements(size: JobSize, table: &[[u8; 3]], text: &[u8], p: usize, layo
 }
 
 // The pieces' lines into a layout buffer of the job's length. The first reading has no buffer, so that a refusal writes nothing.
-fn fill_layout(size: JobSize, table: &[[u8; 3]], text: &[u8], p: usize, layout: &mut [[u16; 3]]) -> LayoutAnswer
+fn fill_layout(
+    size: JobSize,
+    table: &[[u8; 3]],
+    text: &[u8],
+    p: usize,
+    layout: &mut [[u16; 3]],
+) -> LayoutAnswer
     requires { ⌜ Fitting size (now table) × (p ≤ length (now text)) ⌝ }
     ensures { λ r. ⌜ ((pixels : List ℕ) → (r ≡ layoutAnswer (layoutFrom (jobOf (lentBy size (now (table .entry)) pixels)) (now (text .entry)) p (length (now (layout .entry))))) × (now (layout .exit) ≡ layoutAfter (now (layout .entry)) (layoutFrom (jobOf (lentBy size (now (table .entry)) pixels)) (now (text .entry)) p (length (now (layout .entry)))))) ⌝ }
 {
-    if let LayoutAnswer::Refused(refusal) = read_placements(size, table, text, p, &mut layout[..0]) {
+    if let LayoutAnswer::Refused(refusal) = read_placements(
+        size,
+        table,
+        text,
+        p,
+        &mut layout[..0],
+    ) {
         return LayoutAnswer::Refused(refusal);
     }
     if layout.len() != size.count {
@@ -241,7 +279,13 @@ fn fill_layout(size: JobSize, table: &[[u8; 3]], text: &[u8], p: usize, layout: 
 }
 
 // Reads a layout of the job from its text, or refuses.
-pub fn read_layout(size: JobSize, table: &[[u8; 3]], pixels: &[u8], text: &[u8], layout: &mut [[u16; 3]]) -> LayoutAnswer
+pub fn read_layout(
+    size: JobSize,
+    table: &[[u8; 3]],
+    pixels: &[u8],
+    text: &[u8],
+    layout: &mut [[u16; 3]],
+) -> LayoutAnswer
     ensures answer { λ r. ⌜ r ≡ layoutAnswer (readLayoutCall (lentBy size (now (table .entry)) (now (pixels .entry))) (now (text .entry)) (length (now (layout .entry)))) ⌝ }
     ensures memory { λ r. ⌜ now (layout .exit) ≡ layoutAfter (now (layout .entry)) (readLayoutCall (lentBy size (now (table .entry)) (now (pixels .entry))) (now (text .entry)) (length (now (layout .entry)))) ⌝ }
 {

@@ -12,7 +12,6 @@ ghost use Rattle.model.specs.LayoutText.{layoutWord, placementText, placementsT
 ghost use Rattle.model.specs.Calls.{writeLayoutCall, textAfter};
 ghost use Rattle.layout_text.specs.Answers.{textAnswer};
 ghost use Rattle.layout_text.specs.Written.{Written};
-
 use crate::TextAnswer;
 use fields::put_byte;
 use fields::put_number;
@@ -45,7 +44,13 @@ fn put_layout_line(size: JobSize, text: &mut [u8]) -> usize
     ensures { λ r. ⌜ Written (now (text .entry)) 0 (lineText layoutWord threeFields (size .rows ∷ size .columns ∷ size .count ∷ [])) 27 r (now (text .exit)) ⌝ }
 {
     let next = put_word(text, 0, b"layout,1,");
-    put_three(text, next, size.rows as u32, size.columns as u32, size.count as u32)
+    put_three(
+        text,
+        next,
+        size.rows as u32,
+        size.columns as u32,
+        size.count as u32,
+    )
 }
 
 // The line of piece i at a position, and the position after it.
@@ -56,7 +61,13 @@ fn put_placement(layout: &[[u16; 3]], i: usize, text: &mut [u8], at: usize) -> u
     let entry = placing::entry_of(placing::place_at(layout, i));
     let after_word = put_word(text, at, b"at,");
     let next = put_field(text, after_word, i as u32, b',');
-    put_three(text, next, entry[0] as u32, entry[1] as u32, entry[2] as u32)
+    put_three(
+        text,
+        next,
+        entry[0] as u32,
+        entry[1] as u32,
+        entry[2] as u32,
+    )
 }
 
 // The text of a layout, and its length. What the buffer has no room for is left out.
@@ -74,7 +85,13 @@ fn put_layout(size: JobSize, layout: &[[u16; 3]], text: &mut [u8]) -> usize
 }
 
 // Writes a layout to the front of a text buffer, or refuses.
-pub fn write_layout(size: JobSize, table: &[[u8; 3]], pixels: &[u8], layout: &[[u16; 3]], text: &mut [u8]) -> TextAnswer
+pub fn write_layout(
+    size: JobSize,
+    table: &[[u8; 3]],
+    pixels: &[u8],
+    layout: &[[u16; 3]],
+    text: &mut [u8],
+) -> TextAnswer
     ensures answer { λ r. ⌜ r ≡ textAnswer (writeLayoutCall (lentBy size (now (table .entry)) (now (pixels .entry))) (now (layout .entry)) (length (now (text .entry)))) ⌝ }
     ensures memory { λ r. ⌜ now (text .exit) ≡ textAfter (now (text .entry)) (writeLayoutCall (lentBy size (now (table .entry)) (now (pixels .entry))) (now (layout .entry)) (length (now (text .entry)))) ⌝ }
 {

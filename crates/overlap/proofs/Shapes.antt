@@ -44,7 +44,7 @@ length-entries [] = refl
 length-entries (t ∷ ts) = ap suc (length-entries ts)
 
 -- it is one of the strips
-at-member : (ts : List Strip) (i : ℕ) → i < length (map stripEntry ts) → List·Memᴰ (stripAt (map stripEntry ts) i) ts
+pub at-member : (ts : List Strip) (i : ℕ) → i < length (map stripEntry ts) → List·Memᴰ (stripAt (map stripEntry ts) i) ts
 at-member ts i h = rw (strip-at ts i no-strip h) (member-at ts i no-strip (omega (arith, length-entries ts)))
 
 -- a place of a strip of the list

@@ -15,7 +15,7 @@ use Rattle.cover.specs.Answers.{sheetOf, firstNumber}
 use Rattle.cover.specs.Ready.{SheetReady}
 use Rattle.cover.proofs.lay.Tie as tie
 use Rattle.cover.proofs.lay.Statement.{statement}
-use Rattle.cover.proofs.Pieces.{few-pieces}
+use Rattle.stamp.proofs.Pieces.{few-pieces}
 use Rattle.cover.proofs.Outcomes.{sheet-ready, sheet-refused, own-refused, none-given, lay-plain, lay-order, refused-answer, given-answer, moved-lays}
 
 -- the job and the sheet that are lent

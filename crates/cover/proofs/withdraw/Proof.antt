@@ -13,7 +13,7 @@ use Rattle.cover.specs.Answers.{sheetOf, firstNumber}
 use Rattle.cover.specs.Ready.{SheetReady}
 use Rattle.cover.proofs.withdraw.Tie as tie
 use Rattle.cover.proofs.withdraw.Statement.{statement}
-use Rattle.cover.proofs.Pieces.{few-pieces}
+use Rattle.stamp.proofs.Pieces.{few-pieces}
 use Rattle.cover.proofs.Outcomes.{sheet-ready, sheet-refused, own-refused, none-given, withdraw-plain, withdraw-order, withdrawn-inside, refused-answer, given-answer, moved-withdraws}
 
 -- the job and the sheet that are lent

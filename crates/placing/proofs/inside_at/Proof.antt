@@ -21,16 +21,20 @@ unfolding jobOf
 returns c = λ pixels.
     let a = c .before .before .before .before .before .before .args in
     let sides = c .before .before .before .before .before .turned-sides in
-    rw (inside-by-sides (jobOf (lentBy (a .size) (a .table .now) pixels)) (a .i) (placeAt (a .turn) (a .x) (a .y)) _ (sides .ensures .0 (a .size) pixels),
-      le-leb _ _ (c .before .if1 .taken))
+    rw (
+      inside-by-sides (jobOf (lentBy (a .size) (a .table .now) pixels)) (a .i) (placeAt (a .turn) (a .x) (a .y)) _ (sides .ensures .0 (a .size) pixels),
+      le-leb _ _ (c .before .if1 .taken),
+    )
 
 returns-2 : tie.Need-returns-2
 unfolding jobOf
 returns-2 c = λ pixels.
     let a = c .before .before .before .before .before .args in
     let sides = c .before .before .before .before .turned-sides in
-    rw (inside-by-sides (jobOf (lentBy (a .size) (a .table .now) pixels)) (a .i) (placeAt (a .turn) (a .x) (a .y)) _ (sides .ensures .0 (a .size) pixels),
-      lt-leb _ _ (c .if1 .left))
+    rw (
+      inside-by-sides (jobOf (lentBy (a .size) (a .table .now) pixels)) (a .i) (placeAt (a .turn) (a .x) (a .y)) _ (sides .ensures .0 (a .size) pixels),
+      lt-leb _ _ (c .if1 .left),
+    )
 
 pub inside-at-spec : {M : Type 1} → statement M
 inside-at-spec = tie.close (tie.spec turned-sides-requires add-right add-top returns returns-2)

@@ -15,7 +15,7 @@ use Rattle.cover.proofs.Outcomes.{given-answer}
 use Rattle.cover.specs.Answers.{sheetOf, blankRecord, recordOf, givenAnswer}
 use Rattle.cover.proofs.call_list.run_calls.Tie as tie
 use Rattle.cover.specs.declared.SheetAnswer.{SheetAnswer}
-use Rattle.cover.proofs.Pieces.{few-pieces}
+use Rattle.stamp.proofs.Pieces.{few-pieces}
 
 fresh-requires : tie.Need-fresh-requires
 fresh-requires c κs = search needs

@@ -6,7 +6,7 @@ use borrow.Author.Needs.{needs}
 use borrow.Author.Tests.{not-true, not-false}
 use Rattle.model.specs.Lent.{lentBy, jobOf}
 use Rattle.cover.proofs.reached.add_entry.Tie as tie
-use Rattle.cover.proofs.Pieces.{few-pieces}
+use Rattle.stamp.proofs.Pieces.{few-pieces}
 use Rattle.cover.proofs.Recounts.{laid-inside, free-added, laid-added}
 use Rattle.cover.proofs.reached.add_entry.Statement.{statement}
 

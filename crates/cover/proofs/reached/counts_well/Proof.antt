@@ -7,7 +7,7 @@ use borrow.Author.Needs.{needs}
 use Rattle.text_laws.proofs.LentFacts.{facts}
 use Rattle.cover.proofs.reached.counts_well.Statement.{statement}
 use Rattle.cover.proofs.reached.counts_well.Tie as tie
-use Rattle.cover.proofs.Pieces.{sheet-facts}
+use Rattle.stamp.proofs.Pieces.{sheet-facts}
 
 slice-aggregate-counts-match : tie.Need-slice-aggregate-counts-match
 slice-aggregate-counts-match c = search needs

@@ -7,7 +7,7 @@ use lib.ListN.{length, replicate, length-replicate}
 use Rattle.model.specs.Lent.{lentBy, jobOf}
 use Rattle.cover.proofs.reached.recount.Tie as tie
 use Rattle.cover.proofs.reached.recount.Statement.{statement}
-use Rattle.cover.proofs.Pieces.{few-pieces}
+use Rattle.stamp.proofs.Pieces.{few-pieces}
 use Rattle.cover.proofs.Recounts.{CountedBelow, none-counted, added-below, all-counted, length-added}
 use Rattle.cover.specs.Ready.{addedEntry}
 

@@ -9,7 +9,7 @@ use borrow.Author.Needs.{needs}
 use Rattle.model.specs.Lent.{lentBy, lentWell}
 use Rattle.text_laws.proofs.LentFacts.{facts}
 use Rattle.cover.specs.Answers.{firstNumber}
-use Rattle.cover.proofs.Pieces.{sheet-facts}
+use Rattle.stamp.proofs.Pieces.{sheet-facts}
 use Rattle.cover.proofs.refusals.buffer_refusal.Tie as tie
 use Rattle.cover.proofs.refusals.buffer_refusal.Statement.{statement}
 

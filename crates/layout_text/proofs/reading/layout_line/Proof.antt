@@ -1,76 +1,61 @@
-use Rattle.layout_text.proofs.Lines.{word-missing, layout-line-wrong, layout-fields, layout-line-unlike, layout-line-given}
-use Rattle.model.specs.LayoutText.{layoutWord}
-use Rattle.model.specs.Text.{got, standsAt, threeFields, lineAt}
-use Rattle.model.specs.Lent.{jobOf, lentBy}
-use Rattle.model.specs.Refusal.{refusalOf}
-use borrow.Author.Tests.{not-true, not-false}
-use native.Mathlib.Omega.{arith}
-use mathlib.Core.Path.{_≡_, sym, _∙_, ap}
-use mathlib.Core.List.{[], _∷_}
+-- `layout_text::reading::layout_line` meets its contract: form first, then the three numbers. Assumes nothing.
 use mathlib.Core.Bool.{true, false}
+use mathlib.Core.List.{[], _∷_}
+use mathlib.Core.Path.{_≡_, sym, _∙_}
+use native.Mathlib.Omega.{arith}
 use borrow.Author.Needs.{needs}
+use borrow.Author.Tests.{not-true, not-false}
+use Rattle.model.specs.Lent.{jobOf, lentBy}
+use Rattle.model.specs.Text.{got, standsAt, threeFields, lineAt}
+use Rattle.model.specs.LayoutText.{layoutWord}
+use Rattle.layout_text.proofs.Lines.{word-missing, layout-line-wrong, layout-fields, layout-line-unlike, layout-line-given}
 use Rattle.layout_text.proofs.reading.layout_line.Statement.{statement}
 use Rattle.layout_text.proofs.reading.layout_line.Tie as tie
-use Rattle.layout_text.proofs.reading.layout_line.Reads as reads
-use Rattle.layout_text.proofs.reading.layout_line.Lts as lts
-use Rattle.fields.proofs.word_at.Reads as word-at-reads
-use Rattle.layout_text.proofs.reading.refused_in.Reads as refused-in-reads
-use Rattle.layout_text.proofs.reading.same_sheet.Reads as same-sheet-reads
-use Rattle.layout_text.proofs.reading.three_at.Reads as three-at-reads
 
--- src/reading.rt:115:26
 slice-aggregate-word-at : tie.Need-slice-aggregate-word-at
 slice-aggregate-word-at c = search needs
 
--- src/reading.rt:115:9
 word-at-requires : tie.Need-word-at-requires
 word-at-requires c κs = search needs
 
--- src/reading.rt:116:40
 refused-in-requires : tie.Need-refused-in-requires
 refused-in-requires c κs = search needs
 
--- src/reading.rt:116:9
 returns : tie.Need-returns
-returns c = let a = c .before .before .before .before .before .args in
+returns c =
+    let a = c .before .before .before .before .before .args in
     let w : standsAt layoutWord (a .text .now) 0 ≡ false = sym (c .before .before .word-at .ensures) ∙ not-true _ (c .before .if1 .taken) in
     (λ table pixels. rw (c .refused-in .ensures, layout-line-wrong (jobOf (lentBy (a .size) table pixels)) (a .text .now) (word-missing (a .text .now) 0 layoutWord threeFields w)), omega arith)
 
--- src/reading.rt:118:56
 three-at-requires : tie.Need-three-at-requires
 three-at-requires c κs = search needs
 
--- src/reading.rt:118:26
 enum-known-rows : tie.Need-enum-known-rows
 enum-known-rows c = search needs
 
--- src/reading.rt:119:40
 enum-told : tie.Need-enum-told
 enum-told c = search needs
 
--- src/reading.rt:119:40
 refused-in-requires-2 : tie.Need-refused-in-requires-2
 refused-in-requires-2 c κs = search needs
 
--- src/reading.rt:119:9
 returns-2 : tie.Need-returns-2
-returns-2 c = let a = c .before .before .before .before .before .before .before .before .args in
+returns-2 c =
+    let a = c .before .before .before .before .before .before .before .before .args in
     let w : standsAt layoutWord (a .text .now) 0 ≡ true = sym (c .before .before .before .before .before .word-at .ensures) ∙ not-false _ (c .before .before .before .before .if1 .left) in
     let wrong = layout-fields (jobOf (lentBy (a .size) [] [])) (a .text .now) w ∙ rw (c .before .enum-told .given .1) at (c .before .before .before .three-at .ensures .same) in
     (λ table pixels. rw (c .refused-in2 .ensures, layout-line-wrong (jobOf (lentBy (a .size) table pixels)) (a .text .now) wrong), omega arith)
 
--- src/reading.rt:121:9
 same-sheet-requires : tie.Need-same-sheet-requires
 same-sheet-requires c κs = search needs
 
--- src/reading.rt:122:40
 refused-in-requires-3 : tie.Need-refused-in-requires-3
 refused-in-requires-3 c κs = search needs
 
--- src/reading.rt:122:9
 returns-3 : tie.Need-returns-3
 unfolding jobOf
-returns-3 c = let a = c .before .before .before .before .before .before .before .before .before .before .before .args in
+returns-3 c =
+    let a = c .before .before .before .before .before .before .before .before .before .before .before .args in
     let w : standsAt layoutWord (a .text .now) 0 ≡ true = sym (c .before .before .before .before .before .before .before .before .word-at .ensures) ∙ not-false _ (c .before .before .before .before .before .before .before .if1 .left) in
     let g = c .before .before .before .before .rows .given in
     let same : lineAt layoutWord threeFields (a .text .now) 0 ≡ got (g .0 .0 ∷ g .0 .1 .0 ∷ g .0 .1 .1 .0 ∷ []) (g .0 .1 .1 .1 .0) =
@@ -78,10 +63,10 @@ returns-3 c = let a = c .before .before .before .before .before .before .before 
     let sheet = sym (c .before .before .same-sheet .ensures) in
     (λ table pixels. rw (c .refused-in3 .ensures, layout-line-unlike (jobOf (lentBy (a .size) table pixels)) (a .text .now) _ _ _ _ same (sheet ∙ not-true _ (c .before .if2 .taken))), omega arith)
 
--- src/reading.rt:112:1
 returns-4 : tie.Need-returns-4
 unfolding jobOf
-returns-4 c = let a = c .before .before .before .before .before .before .before .before .before .before .args in
+returns-4 c =
+    let a = c .before .before .before .before .before .before .before .before .before .before .args in
     let w : standsAt layoutWord (a .text .now) 0 ≡ true = sym (c .before .before .before .before .before .before .before .word-at .ensures) ∙ not-false _ (c .before .before .before .before .before .before .if1 .left) in
     let g = c .before .before .before .rows .given in
     let same : lineAt layoutWord threeFields (a .text .now) 0 ≡ got (g .0 .0 ∷ g .0 .1 .0 ∷ g .0 .1 .1 .0 ∷ []) (g .0 .1 .1 .1 .0) =

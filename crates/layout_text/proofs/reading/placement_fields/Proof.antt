@@ -1,79 +1,65 @@
-use Rattle.layout_text.proofs.Lines.{field-read, field-unread, word-missing, line-got, line-number, line-three}
-use Rattle.model.specs.LayoutText.{atWord}
-use Rattle.model.specs.Text.{got, standsAt, threeFields, fourFields, fieldsAt, lineAt}
-use borrow.Author.Tests.{not-true, not-false}
-use native.Mathlib.Omega.{arith}
-use mathlib.Core.Path.{_≡_, sym, _∙_, ap}
-use mathlib.Core.List.{[], _∷_}
+-- `layout_text::reading::placement_fields` meets its contract: the word, the number and three fields. Assumes nothing.
 use mathlib.Core.Bool.{true, false}
+use mathlib.Core.Path.{_≡_, sym, _∙_}
+use native.Mathlib.Omega.{arith}
 use borrow.Author.Needs.{needs}
+use borrow.Author.Tests.{not-true, not-false}
+use Rattle.model.specs.Text.{standsAt, fourFields}
+use Rattle.model.specs.LayoutText.{atWord}
+use Rattle.layout_text.proofs.Lines.{field-read, field-unread, word-missing, line-got, line-number, line-three}
 use Rattle.layout_text.proofs.reading.placement_fields.Statement.{statement}
 use Rattle.layout_text.proofs.reading.placement_fields.Tie as tie
-use Rattle.layout_text.proofs.reading.placement_fields.Reads as reads
-use Rattle.layout_text.proofs.reading.placement_fields.Lts as lts
-use Rattle.fields.proofs.field_at.Reads as field-at-reads
-use Rattle.fields.proofs.word_at.Reads as word-at-reads
-use Rattle.layout_text.proofs.reading.three_at.Reads as three-at-reads
 
--- src/reading.rt:132:26
 slice-aggregate-word-at : tie.Need-slice-aggregate-word-at
 slice-aggregate-word-at c = search needs
 
--- src/reading.rt:132:9
 word-at-requires : tie.Need-word-at-requires
 word-at-requires c κs = search needs
 
--- src/reading.rt:133:9
 returns : tie.Need-returns
-returns c = let a = c .before .before .before .before .args in
+returns c =
+    let a = c .before .before .before .before .args in
     let w : standsAt atWord (a .text .now) (a .p) ≡ false = sym (c .before .word-at .ensures) ∙ not-true _ (c .if1 .taken) in
     record { same = word-missing (a .text .now) (a .p) atWord fourFields w; inside = omega arith; small = tt }
 
--- src/reading.rt:135:60
 add-field-at : tie.Need-add-field-at
 add-field-at c = search needs
 
--- src/reading.rt:135:45
 field-at-requires : tie.Need-field-at-requires
 field-at-requires c κs = search needs
 
--- src/reading.rt:135:21
 enum-known-number : tie.Need-enum-known-number
 enum-known-number c = search needs
 
--- src/reading.rt:136:9
 enum-told : tie.Need-enum-told
 enum-told c = search needs
 
--- src/reading.rt:136:9
 returns-2 : tie.Need-returns-2
-returns-2 c = let a = c .before .before .before .before .before .before .before .args in
+returns-2 c =
+    let a = c .before .before .before .before .before .before .before .args in
     let w : standsAt atWord (a .text .now) (a .p) ≡ true = sym (c .before .before .before .before .word-at .ensures) ∙ not-false _ (c .before .before .before .if1 .left) in
     record { same = line-number (a .text .now) (a .p) w (field-unread (c .before .before .field-at .ensures) (c .enum-told .given .1)); inside = omega arith; small = tt }
 
--- src/reading.rt:138:49
 three-at-requires : tie.Need-three-at-requires
 three-at-requires c κs = search needs
 
--- src/reading.rt:138:26
 enum-known-degrees : tie.Need-enum-known-degrees
 enum-known-degrees c = search needs
 
--- src/reading.rt:139:9
 enum-told-2 : tie.Need-enum-told-2
 enum-told-2 c = search needs
 
--- src/reading.rt:139:9
 returns-3 : tie.Need-returns-3
-returns-3 c = let a = c .before .before .before .before .before .before .before .before .before .before .before .args in
+returns-3 c =
+    let a = c .before .before .before .before .before .before .before .before .before .before .before .args in
     let w : standsAt atWord (a .text .now) (a .p) ≡ true = sym (c .before .before .before .before .before .before .before .before .word-at .ensures) ∙ not-false _ (c .before .before .before .before .before .before .before .if1 .left) in
     let g = c .before .before .before .before .number .given in
     let f = field-read (g .0 .0) (g .0 .1 .0) (c .before .before .before .before .before .before .field-at .ensures) (g .1) in
     record { same = line-three (a .text .now) (a .p) _ _ w (f .same) (rw (c .enum-told2 .given .1) at (c .before .before .three-at .ensures .same)); inside = omega arith; small = tt }
 
--- src/reading.rt:128:1
 returns-4 : tie.Need-returns-4
-returns-4 c = let a = c .before .before .before .before .before .before .before .before .before .before .before .before .args in
+returns-4 c =
+    let a = c .before .before .before .before .before .before .before .before .before .before .before .before .args in
     let w : standsAt atWord (a .text .now) (a .p) ≡ true = sym (c .before .before .before .before .before .before .before .before .before .word-at .ensures) ∙ not-false _ (c .before .before .before .before .before .before .before .before .if1 .left) in
     let g = c .before .before .before .before .before .number .given in
     let f = field-read (g .0 .0) (g .0 .1 .0) (c .before .before .before .before .before .before .before .field-at .ensures) (g .1) in

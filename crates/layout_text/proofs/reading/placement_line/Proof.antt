@@ -1,73 +1,72 @@
-use Rattle.layout_text.proofs.Lines.{line-wrong, line-placed, place-refused, place-placed}
-use Rattle.layout_text.specs.Readings.{numbersOf, placeOnLine}
-use Rattle.model.specs.LayoutText.{atWord}
-use Rattle.model.specs.Text.{got, fourFields, lineAt, andThen}
-use Rattle.model.specs.Lent.{jobOf, lentBy}
+-- `layout_text::reading::placement_line` meets its contract: form first, then what its numbers give. Assumes nothing.
+use mathlib.Core.Path.{_≡_, sym, _∙_}
 use native.Mathlib.Omega.{arith}
-use mathlib.Core.Path.{_≡_, sym, _∙_, ap}
 use borrow.Author.Needs.{needs}
+use Rattle.model.specs.Lent.{jobOf, lentBy}
+use Rattle.model.specs.Text.{got, fourFields, lineAt, andThen}
+use Rattle.model.specs.LayoutText.{atWord}
+use Rattle.layout_text.specs.Readings.{numbersOf, placeOnLine}
+use Rattle.layout_text.proofs.Lines.{line-wrong, line-placed, place-refused, place-placed}
 use Rattle.layout_text.proofs.reading.placement_line.Statement.{statement}
 use Rattle.layout_text.proofs.reading.placement_line.Tie as tie
-use Rattle.layout_text.proofs.reading.placement_line.Reads as reads
-use Rattle.layout_text.proofs.reading.placement_line.Lts as lts
-use Rattle.layout_text.proofs.reading.placement_fields.Reads as placement-fields-reads
-use Rattle.layout_text.proofs.reading.placement_of.Reads as placement-of-reads
-use Rattle.layout_text.proofs.reading.refused_in.Reads as refused-in-reads
 
--- src/reading.rt:183:41
 placement-fields-requires : tie.Need-placement-fields-requires
 placement-fields-requires c κs = search needs
 
--- src/reading.rt:183:25
 enum-known-fields : tie.Need-enum-known-fields
 enum-known-fields c = search needs
 
--- src/reading.rt:184:36
 enum-told : tie.Need-enum-told
 enum-told c = search needs
 
--- src/reading.rt:184:36
 refused-in-requires : tie.Need-refused-in-requires
 refused-in-requires c κs = search needs
 
--- src/reading.rt:184:9
 returns : tie.Need-returns
-returns c = let a = c .before .before .before .before .before .args in
+returns c =
+    let a = c .before .before .before .before .before .args in
     let wrong = rw (c .before .enum-told .given .1) at (c .before .before .before .placement-fields .ensures .same) in
     (λ pixels. rw (c .refused-in .ensures, line-wrong (jobOf (lentBy (a .size) (a .table .now) pixels)) (a .text .now) (a .i) (a .p) (a .line) wrong), omega arith)
 
--- src/reading.rt:186:11
 placement-of-requires : tie.Need-placement-of-requires
-placement-of-requires c κs = let p = c .before .before .before .before .before .pre in
+placement-of-requires c κs =
+    let p = c .before .before .before .before .before .pre in
     let small = rw (c .before .fields .given .1) at (c .before .before .before .placement-fields .ensures .small) in
     (p .0, p .1, p .2, small .0, small .1)
 
--- src/reading.rt:187:30
 enum-known-refusal : tie.Need-enum-known-refusal
 enum-known-refusal c = search needs
 
--- src/reading.rt:188:29
 enum-known-place : tie.Need-enum-known-place
 enum-known-place c = search needs
 
--- src/reading.rt:179:1
 returns-2 : tie.Need-returns-2
-returns-2 c = let a = c .before .before .before .before .before .before .before .before .before .args in
+returns-2 c =
+    let a = c .before .before .before .before .before .before .before .before .before .args in
     let g = c .before .before .before .before .before .fields .given in
-    let numbers : lineAt atWord fourFields (a .text .now) (a .p) ≡ got (numbersOf (g .0 .0)) (g .0 .1 .0) = rw (g .1) at (c .before .before .before .before .before .before .before .placement-fields .ensures .same) in
-    (λ pixels.
-      rw (line-placed (jobOf (lentBy (a .size) (a .table .now) pixels)) (a .text .now) (a .i) (a .p) (a .line) _ _ numbers,
-        place-refused (placeOnLine (jobOf (lentBy (a .size) (a .table .now) pixels)) (a .i) (a .line) (numbersOf (g .0 .0))) _ (sym (c .before .refusal .given .1) ∙ c .before .before .before .placement-of .ensures pixels), andThen), omega arith)
+    let numbers : lineAt atWord fourFields (a .text .now) (a .p) ≡ got (numbersOf (g .0 .0)) (g .0 .1 .0) = rw (g .1) at (c .before .before .before .before .before .before .before .placement-fields .ensures .same) in (
+      λ pixels.
+          rw (
+            line-placed (jobOf (lentBy (a .size) (a .table .now) pixels)) (a .text .now) (a .i) (a .p) (a .line) _ _ numbers,
+            place-refused (placeOnLine (jobOf (lentBy (a .size) (a .table .now) pixels)) (a .i) (a .line) (numbersOf (g .0 .0))) _ (sym (c .before .refusal .given .1) ∙ c .before .before .before .placement-of .ensures pixels),
+            andThen,
+          ),
+      omega arith,
+    )
 
--- src/reading.rt:179:1
 returns-3 : tie.Need-returns-3
-returns-3 c = let a = c .before .before .before .before .before .before .before .before .before .args in
+returns-3 c =
+    let a = c .before .before .before .before .before .before .before .before .before .args in
     let g = c .before .before .before .before .before .fields .given in
-    let numbers : lineAt atWord fourFields (a .text .now) (a .p) ≡ got (numbersOf (g .0 .0)) (g .0 .1 .0) = rw (g .1) at (c .before .before .before .before .before .before .before .placement-fields .ensures .same) in
-    (λ pixels.
-      rw (line-placed (jobOf (lentBy (a .size) (a .table .now) pixels)) (a .text .now) (a .i) (a .p) (a .line) _ _ numbers,
-        place-placed (placeOnLine (jobOf (lentBy (a .size) (a .table .now) pixels)) (a .i) (a .line) (numbersOf (g .0 .0))) _ (sym (c .before .place .given .1) ∙ c .before .before .before .placement-of .ensures pixels), andThen),
-      rw (g .1) at (c .before .before .before .before .before .before .before .placement-fields .ensures .inside))
+    let numbers : lineAt atWord fourFields (a .text .now) (a .p) ≡ got (numbersOf (g .0 .0)) (g .0 .1 .0) = rw (g .1) at (c .before .before .before .before .before .before .before .placement-fields .ensures .same) in (
+      λ pixels.
+          rw (
+            line-placed (jobOf (lentBy (a .size) (a .table .now) pixels)) (a .text .now) (a .i) (a .p) (a .line) _ _ numbers,
+            place-placed (placeOnLine (jobOf (lentBy (a .size) (a .table .now) pixels)) (a .i) (a .line) (numbersOf (g .0 .0))) _ (sym (c .before .place .given .1) ∙ c .before .before .before .placement-of .ensures pixels),
+            andThen,
+          ),
+      rw (g .1) at (c .before .before .before .before .before .before .before .placement-fields .ensures .inside),
+    )
 
 pub placement-line-spec : {M : Type 1} → statement M
 placement-line-spec =

@@ -1,63 +1,53 @@
-use Rattle.layout_text.proofs.Whole.{position-refused, position-given, read-unsound, read-refused, read-from}
-use Rattle.layout_text.specs.Readings.{layoutFrom}
-use Rattle.layout_text.specs.Answers.{layoutAnswer}
-use Rattle.placing.proofs.Stacks.{fitting}
-use Rattle.model.specs.Calls.{readLayoutCall, layoutAfter}
-use Rattle.model.specs.LayoutText.{layoutLine}
-use Rattle.model.specs.Lent.{Lent, lentBy, jobOf, lentWell}
-use Rattle.model.specs.Refusal.{refused, given}
-use lib.ListN.{length}
-use borrow.Author.Tests.{not-true, not-false}
-use mathlib.Core.Path.{_≡_, sym, _∙_, ap}
+-- `layout_text::reading::read_layout` meets its contract, part by part. Assumes nothing.
 use mathlib.Core.Bool.{true, false}
+use mathlib.Core.Path.{_≡_, sym, _∙_, ap}
 use borrow.Author.Needs.{needs}
+use borrow.Author.Tests.{not-true, not-false}
+use lib.ListN.{length}
+use Rattle.model.specs.Refusal.{refused, given}
+use Rattle.model.specs.Lent.{Lent, lentBy, jobOf, lentWell}
+use Rattle.model.specs.LayoutText.{layoutLine}
+use Rattle.model.specs.Calls.{readLayoutCall, layoutAfter}
+use Rattle.placing.proofs.Stacks.{fitting}
+use Rattle.layout_text.specs.Answers.{layoutAnswer}
+use Rattle.layout_text.specs.Readings.{layoutFrom}
+use Rattle.layout_text.proofs.Whole.{position-refused, position-given, read-unsound, read-refused, read-from}
 use Rattle.layout_text.proofs.reading.read_layout.Statement.{statement}
 use Rattle.layout_text.proofs.reading.read_layout.Tie as tie
-use Rattle.layout_text.proofs.reading.read_layout.Reads as reads
-use Rattle.layout_text.proofs.reading.read_layout.Lts as lts
-use Rattle.job.proofs.check_job.Reads as check-job-reads
-use Rattle.layout_text.proofs.reading.fill_layout.Reads as fill-layout-reads
-use Rattle.layout_text.proofs.reading.layout_line.Reads as layout-line-reads
-use Rattle.placing.proofs.refusal.Reads as refusal-reads
 
--- src/reading.rt:248:9
 check-job-requires : tie.Need-check-job-requires
 check-job-requires c κs = search needs
 
--- src/reading.rt:249:38
 refusal-requires : tie.Need-refusal-requires
 refusal-requires c κs = search needs
 
--- src/reading.rt:249:9
 returns : tie.Need-returns
-returns c = let a = c .before .before .before .before .before .args in
+returns c =
+    let a = c .before .before .before .before .before .args in
     let l : Lent = lentBy (a .size) (a .table .now) (a .pixels .now) in
     let well : lentWell l ≡ false = sym (c .before .before .check-job .ensures) ∙ not-true _ (c .before .if1 .taken) in
     let o : readLayoutCall l (a .text .now) (length (a .layout .now)) ≡ refused (c .refusal .result) = read-unsound l (a .text .now) _ well ∙ sym (ap refused (c .refusal .ensures)) in
     (sym (ap layoutAnswer o), sym (ap (layoutAfter (a .layout .now)) o))
 
--- src/reading.rt:251:11
 layout-line-requires : tie.Need-layout-line-requires
 layout-line-requires c κs = search needs
 
--- src/reading.rt:252:33
 enum-known-refusal : tie.Need-enum-known-refusal
 enum-known-refusal c = search needs
 
--- src/reading.rt:253:31
 enum-known-p : tie.Need-enum-known-p
 enum-known-p c = search needs
 
--- src/reading.rt:253:37
 fill-layout-requires : tie.Need-fill-layout-requires
-fill-layout-requires c κs = let a = c .before .before .before .before .before .before .before .before .before .args in
+fill-layout-requires c κs =
+    let a = c .before .before .before .before .before .before .before .before .before .args in
     let l : Lent = lentBy (a .size) (a .table .now) (a .pixels .now) in
     let well : lentWell l ≡ true = sym (c .before .before .before .before .before .before .check-job .ensures) ∙ not-false _ (c .before .before .before .before .before .if1 .left) in
     (fitting (a .size) (a .table .now) (a .pixels .now) well, rw (c .before .before .p .given .1) at (c .before .before .before .before .layout-line .ensures .1))
 
--- src/reading.rt:244:1
 returns-2 : tie.Need-returns-2
-returns-2 c = let a = c .before .before .before .before .before .before .before .before .args in
+returns-2 c =
+    let a = c .before .before .before .before .before .before .before .before .args in
     let l : Lent = lentBy (a .size) (a .table .now) (a .pixels .now) in
     let well : lentWell l ≡ true = sym (c .before .before .before .before .before .check-job .ensures) ∙ not-false _ (c .before .before .before .before .if1 .left) in
     let o : readLayoutCall l (a .text .now) (length (a .layout .now)) ≡ refused (c .before .refusal2 .given .0 .0) =
@@ -65,13 +55,12 @@ returns-2 c = let a = c .before .before .before .before .before .before .before 
     (position-refused (layoutLine (jobOf l) (a .text .now)) _ (sym (c .before .refusal2 .given .1) ∙ c .before .before .before .layout-line .ensures .0 (a .table .now) (a .pixels .now))) in
     (sym (ap layoutAnswer o), sym (ap (layoutAfter (a .layout .now)) o))
 
--- src/reading.rt:244:1
 same-length : tie.Need-same-length
 same-length c = search needs
 
--- src/reading.rt:244:1
 returns-3 : tie.Need-returns-3
-returns-3 c = let a = c .before .before .before .before .before .before .before .before .before .before .before .args in
+returns-3 c =
+    let a = c .before .before .before .before .before .before .before .before .before .before .before .args in
     let l : Lent = lentBy (a .size) (a .table .now) (a .pixels .now) in
     let well : lentWell l ≡ true = sym (c .before .before .before .before .before .before .before .before .check-job .ensures) ∙ not-false _ (c .before .before .before .before .before .before .before .if1 .left) in
     let p = c .before .before .before .before .p .given in

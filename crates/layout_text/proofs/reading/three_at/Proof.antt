@@ -1,69 +1,58 @@
+-- `layout_text::reading::three_at` meets its contract: the first field that is wrong, or all three. Assumes nothing.
 use native.Mathlib.Omega.{arith}
-use Rattle.layout_text.proofs.Lines.{field-read, field-unread, three-got, three-first, three-second, three-third}
 use borrow.Author.Needs.{needs}
+use Rattle.layout_text.proofs.Lines.{field-read, field-unread, three-got, three-first, three-second, three-third}
 use Rattle.layout_text.proofs.reading.three_at.Statement.{statement}
 use Rattle.layout_text.proofs.reading.three_at.Tie as tie
-use Rattle.layout_text.proofs.reading.three_at.Reads as reads
-use Rattle.layout_text.proofs.reading.three_at.Lts as lts
-use Rattle.fields.proofs.field_at.Reads as field-at-reads
 
--- src/reading.rt:86:43
 field-at-requires : tie.Need-field-at-requires
 field-at-requires c κs = search needs
 
--- src/reading.rt:86:21
 enum-known-first : tie.Need-enum-known-first
 enum-known-first c = search needs
 
--- src/reading.rt:87:9
 enum-told : tie.Need-enum-told
 enum-told c = search needs
 
--- src/reading.rt:87:9
 returns : tie.Need-returns
-returns c = let a = c .before .before .before .before .args in
+returns c =
+    let a = c .before .before .before .before .args in
     record { same = three-first (a .text .now) (a .p) (field-unread (c .before .before .field-at .ensures) (c .enum-told .given .1)); inside = omega arith; small = tt }
 
--- src/reading.rt:89:45
 field-at-requires-2 : tie.Need-field-at-requires-2
 field-at-requires-2 c κs = search needs
 
--- src/reading.rt:89:21
 enum-known-second : tie.Need-enum-known-second
 enum-known-second c = search needs
 
--- src/reading.rt:90:9
 enum-told-2 : tie.Need-enum-told-2
 enum-told-2 c = search needs
 
--- src/reading.rt:90:9
 returns-2 : tie.Need-returns-2
-returns-2 c = let a = c .before .before .before .before .before .before .before .before .args in
+returns-2 c =
+    let a = c .before .before .before .before .before .before .before .before .args in
     let f = (field-read (c .before .before .before .before .first .given .0 .0) (c .before .before .before .before .first .given .0 .1 .0) (c .before .before .before .before .before .before .field-at .ensures) (c .before .before .before .before .first .given .1)) in
     record { same = three-second (a .text .now) (a .p) _ _ (f .same) (field-unread (c .before .before .field-at2 .ensures) (c .enum-told2 .given .1)); inside = omega arith; small = tt }
 
--- src/reading.rt:92:36
 field-at-requires-3 : tie.Need-field-at-requires-3
 field-at-requires-3 c κs = search needs
 
--- src/reading.rt:92:21
 enum-known-third : tie.Need-enum-known-third
 enum-known-third c = search needs
 
--- src/reading.rt:93:9
 enum-told-3 : tie.Need-enum-told-3
 enum-told-3 c = search needs
 
--- src/reading.rt:93:9
 returns-3 : tie.Need-returns-3
-returns-3 c = let a = c .before .before .before .before .before .before .before .before .before .before .before .before .args in
+returns-3 c =
+    let a = c .before .before .before .before .before .before .before .before .before .before .before .before .args in
     let f = (field-read (c .before .before .before .before .before .before .before .before .first .given .0 .0) (c .before .before .before .before .before .before .before .before .first .given .0 .1 .0) (c .before .before .before .before .before .before .before .before .before .before .field-at .ensures) (c .before .before .before .before .before .before .before .before .first .given .1)) in
     let s = (field-read (c .before .before .before .before .second .given .0 .0) (c .before .before .before .before .second .given .0 .1 .0) (c .before .before .before .before .before .before .field-at2 .ensures) (c .before .before .before .before .second .given .1)) in
     record { same = three-third (a .text .now) (a .p) _ _ _ _ (f .same) (s .same) (field-unread (c .before .before .field-at3 .ensures) (c .enum-told3 .given .1)); inside = omega arith; small = tt }
 
--- src/reading.rt:83:1
 returns-4 : tie.Need-returns-4
-returns-4 c = let a = c .before .before .before .before .before .before .before .before .before .before .before .before .before .args in
+returns-4 c =
+    let a = c .before .before .before .before .before .before .before .before .before .before .before .before .before .args in
     let f = (field-read (c .before .before .before .before .before .before .before .before .before .first .given .0 .0) (c .before .before .before .before .before .before .before .before .before .first .given .0 .1 .0) (c .before .before .before .before .before .before .before .before .before .before .before .field-at .ensures) (c .before .before .before .before .before .before .before .before .before .first .given .1)) in
     let s = (field-read (c .before .before .before .before .before .second .given .0 .0) (c .before .before .before .before .before .second .given .0 .1 .0) (c .before .before .before .before .before .before .before .field-at2 .ensures) (c .before .before .before .before .before .second .given .1)) in
     let t = (field-read (c .before .third .given .0 .0) (c .before .third .given .0 .1 .0) (c .before .before .before .field-at3 .ensures) (c .before .third .given .1)) in

@@ -1,30 +1,23 @@
+-- `layout_text::reading::turn_on_line` meets its contract: degrees above 270 are those of no turn. Assumes nothing.
+use borrow.Author.Needs.{needs}
+use borrow.Author.Tests.{eq-eqb, ne-eqb}
 use Rattle.layout_text.specs.Readings.{turnOnLine}
 use Rattle.layout_text.proofs.Lines.{no-turn-above}
-use borrow.Author.Tests.{eq-eqb, ne-eqb}
-use borrow.Author.Needs.{needs}
 use Rattle.layout_text.proofs.reading.turn_on_line.Statement.{statement}
 use Rattle.layout_text.proofs.reading.turn_on_line.Tie as tie
-use Rattle.layout_text.proofs.reading.turn_on_line.Reads as reads
-use Rattle.layout_text.proofs.reading.turn_on_line.Lts as lts
-use Rattle.placing.proofs.turn_of.Reads as turn-of-reads
 
--- src/reading.rt:149:9
 returns : tie.Need-returns
 returns c = rw (ne-eqb _ _ (c .if1 .taken), turnOnLine)
 
--- src/reading.rt:152:9
 returns-2 : tie.Need-returns-2
 returns-2 c = rw (eq-eqb _ _ (c .before .if1 .left), turnOnLine, no-turn-above _ (c .if2 .taken))
 
--- src/reading.rt:154:22
 cast-turn-of : tie.Need-cast-turn-of
 cast-turn-of c = search needs
 
--- src/reading.rt:154:5
 turn-of-requires : tie.Need-turn-of-requires
 turn-of-requires c κs = search needs
 
--- src/reading.rt:145:1
 returns-3 : tie.Need-returns-3
 returns-3 c = rw (eq-eqb _ _ (c .before .before .if1 .left), turnOnLine) (c .turn-of .ensures)
 

@@ -1,22 +1,17 @@
-use Rattle.layout_text.proofs.Sequel.{left-none, placements-end}
+-- `layout_text::writing::put_layout` meets its contract. The loop's invariant: what is still to be written comes to the same as all lines
+-- did after the layout line, and a line has at most 27 bytes. Assumes nothing.
 use mathlib.Core.List.{_++_, []}
-use Rattle.model.specs.Layout.{placeOf}
-use Rattle.model.specs.LayoutText.{layoutText, placementText}
-use Rattle.model.specs.Lent.{jobOf}
-use Rattle.layout_text.proofs.Sequel.{Left, left-after, left-then, placements-text}
-use Rattle.model.specs.LayoutText.{placementsText}
-use Rattle.model.specs.Buffer.{placementOf, layoutOf}
-use lib.ListN.{length, drop, length-map}
+use mathlib.Core.Path.{_≡_, refl, _∙_}
+use Prim.Native.Nat.{_+_, _*_, _<_, _≤_, _-_}
 use native.Mathlib.Omega.{arith}
-use mathlib.Core.Path.{_≡_, refl, sym, _∙_, ap}
-use Prim.Native.Nat.{ℕ, _+_, _*_, _<_, _≤_, _-_}
-use borrow.Author.Needs.{needs}
+use lib.ListN.{length, drop, length-map}
+use Rattle.model.specs.Layout.{placeOf}
+use Rattle.model.specs.Lent.{jobOf}
+use Rattle.model.specs.Buffer.{placementOf, layoutOf}
+use Rattle.model.specs.LayoutText.{layoutText, placementText, placementsText}
+use Rattle.layout_text.proofs.Sequel.{left-none, placements-end, Left, left-after, left-then, placements-text}
 use Rattle.layout_text.proofs.writing.put_layout.Statement.{statement}
 use Rattle.layout_text.proofs.writing.put_layout.Tie as tie
-use Rattle.layout_text.proofs.writing.put_layout.Reads as reads
-use Rattle.layout_text.proofs.writing.put_layout.Lts as lts
-use Rattle.layout_text.proofs.writing.put_layout_line.Reads as put-layout-line-reads
-use Rattle.layout_text.proofs.writing.put_placement.Reads as put-placement-reads
 
 abbrev Inv-loop : tie.InvT-loop
 Inv-loop size layout text₀ at₀ i₀ text at i =
@@ -28,47 +23,47 @@ Inv-loop size layout text₀ at₀ i₀ text at i =
 abbrev μ-loop : tie.MeasureT-loop
 μ-loop size layout text₀ at₀ i₀ text at i = size .count - i
 
--- src/writing.rt:67:9
 put-layout-line-requires : tie.Need-put-layout-line-requires Inv-loop μ-loop
 put-layout-line-requires c κs = let p = c .before .before .pre in (p .0, p .1, p .2)
 
--- src/writing.rt:69:5
 loop-holds : tie.Need-loop-holds Inv-loop μ-loop
-loop-holds c = let w = c .before .before .put-layout-line .ensures in (omega arith, refl, let e = w .end in let s = w .short in omega arith, record { end = refl; memory = refl })
+loop-holds c =
+    let w = c .before .before .put-layout-line .ensures in (omega arith, refl, let e = w .end in let s = w .short in omega arith, record { end = refl; memory = refl })
 
--- src/writing.rt:70:9
 put-placement-requires : tie.Need-put-placement-requires Inv-loop μ-loop
-put-placement-requires c κs = let p = c .before .before .before .before .before .before .before .before .before .pre in let t = c .before .if1 .taken in let k = c .before .before .before .loop .inv .2 in (let e = p .3 in omega arith, let n = p .2 in omega arith, let n = p .2 in omega arith)
+put-placement-requires c κs =
+    let p = c .before .before .before .before .before .before .before .before .before .pre in let t = c .before .if1 .taken in let k = c .before .before .before .loop .inv .2 in (let e = p .3 in omega arith, let n = p .2 in omega arith, let n = p .2 in omega arith)
 
--- src/writing.rt:71:9
 add-i : tie.Need-add-i Inv-loop μ-loop
-add-i c = let p = c .before .before .before .before .before .before .before .before .before .before .before .before .pre .2 in let t = c .before .before .before .before .if1 .taken in omega arith
+add-i c =
+    let p = c .before .before .before .before .before .before .before .before .before .before .before .before .pre .2 in let t = c .before .before .before .before .if1 .taken in omega arith
 
--- src/writing.rt:69:5
 loop-less : tie.Need-loop-less Inv-loop μ-loop
 loop-less c = omega arith
 
--- src/writing.rt:69:5
 loop-again : tie.Need-loop-again Inv-loop μ-loop
-loop-again c = let p = c .before .before .before .before .before .before .before .before .before .before .before .before .pre in
+loop-again c =
+    let p = c .before .before .before .before .before .before .before .before .before .before .before .before .pre in
     let a = c .before .before .before .before .before .before .before .before .before .before .before .before .args in
     let l = c .before .before .before .before .before .before .loop in
     let w = c .before .before .put-placement .ensures in
     let here : l .i < length (layoutOf (a .layout .now)) = let e = p .3 in let m = length-map (a .layout .now) placementOf in let t = c .before .before .before .before .if1 .taken in omega arith in
     let step : placementsText (l .i) (drop (l .i) (layoutOf (a .layout .now)))
     ≡ placementText (l .i) (placeOf (layoutOf (a .layout .now)) (l .i)) ++ placementsText (l .i + 1) (drop (l .i + 1) (layoutOf (a .layout .now))) =
-    placements-text (layoutOf (a .layout .now)) (l .i) here in
-    (omega arith, c .before .before .put-placement .kept .1 .1 .0 ∙ l .inv .1, let e = w .end in let s = w .short in let k = l .inv .2 in omega arith,
-      left-then (rw step at (l .inv .3)) (left-after w _))
+    placements-text (layoutOf (a .layout .now)) (l .i) here in (
+      omega arith,
+      c .before .before .put-placement .kept .1 .1 .0 ∙ l .inv .1,
+      let e = w .end in let s = w .short in let k = l .inv .2 in omega arith,
+      left-then (rw step at (l .inv .3)) (left-after w _),
+    )
 
--- src/writing.rt:63:1
 same-length : tie.Need-same-length Inv-loop μ-loop
 same-length c = c .before .before .loop .inv .1 ∙ c .before .before .before .before .before .put-layout-line .kept .1 .0
 
--- src/writing.rt:63:1
 returns : tie.Need-returns Inv-loop μ-loop
 unfolding layoutText jobOf
-returns c = let a = c .before .before .before .before .before .before .before .before .args in
+returns c =
+    let a = c .before .before .before .before .before .before .before .before .args in
     let l = c .before .before .loop in
     let end : placementsText (l .i) (drop (l .i) (layoutOf (a .layout .now))) ≡ [] =
     placements-end (layoutOf (a .layout .now)) (l .i) (let e = c .before .before .before .before .before .before .before .before .pre .3 in let m = length-map (a .layout .now) placementOf in let t = c .if1 .left in omega arith) in

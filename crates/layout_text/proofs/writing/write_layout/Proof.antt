@@ -1,39 +1,32 @@
-use Rattle.layout_text.proofs.Writes.{write-refused, write-short, write-given, filled-front, nothing-left}
-use Rattle.layout_text.specs.Answers.{textAnswer}
-use Rattle.placing.proofs.Stacks.{fitting}
-use Rattle.placing.proofs.Causes.{passed-none, sound}
-use Rattle.placing.specs.declared.CauseAnswer.{CauseAnswer}
-use Rattle.placing.specs.Answers.{firstCause}
-use Rattle.model.specs.Calls.{layoutCauses, textAfter, writeLayoutCall}
-use Rattle.model.specs.LayoutText.{layoutText}
-use Rattle.model.specs.Buffer.{layoutOf}
-use Rattle.model.specs.Lent.{Lent, lentBy, jobOf}
-use Rattle.model.specs.Refusal.{refused, given}
-use lib.ListN.{length}
-use native.Mathlib.Omega.{arith}
-use Prim.Native.Nat.{ℕ, _<_, _≤_}
+-- `layout_text::writing::write_layout` meets its contract: the first writing has no bytes to write to and tells the length. Assumes nothing.
+use mathlib.Core.List.{[]}
 use mathlib.Core.Path.{_≡_, sym, _∙_, ap}
-use mathlib.Core.List.{List, []}
+use Prim.Native.Nat.{_<_, _≤_}
 use borrow.Author.Needs.{needs}
+use lib.ListN.{length}
+use Rattle.model.specs.Refusal.{refused, given}
+use Rattle.model.specs.Lent.{Lent, lentBy, jobOf}
+use Rattle.model.specs.Buffer.{layoutOf}
+use Rattle.model.specs.LayoutText.{layoutText}
+use Rattle.model.specs.Calls.{layoutCauses, textAfter, writeLayoutCall}
+use Rattle.placing.proofs.Causes.{passed-none, sound}
+use Rattle.placing.proofs.Stacks.{fitting}
+use Rattle.placing.specs.Answers.{firstCause}
+use Rattle.placing.specs.declared.CauseAnswer.{CauseAnswer}
+use Rattle.layout_text.specs.Answers.{textAnswer}
+use Rattle.layout_text.proofs.Writes.{write-refused, write-short, write-given, filled-front, nothing-left}
 use Rattle.layout_text.proofs.writing.write_layout.Statement.{statement}
 use Rattle.layout_text.proofs.writing.write_layout.Tie as tie
-use Rattle.layout_text.proofs.writing.write_layout.Reads as reads
-use Rattle.layout_text.proofs.writing.write_layout.Lts as lts
-use Rattle.layout_text.proofs.writing.put_layout.Reads as put-layout-reads
-use Rattle.placing.proofs.layout_causes.Reads as layout-causes-reads
-use Rattle.placing.proofs.refusal.Reads as refusal-reads
 
--- src/writing.rt:81:44
 layout-causes-requires : tie.Need-layout-causes-requires
 layout-causes-requires c κs = search needs
 
--- src/writing.rt:81:33
 enum-known-refusal : tie.Need-enum-known-refusal
 enum-known-refusal c = search needs
 
--- src/writing.rt:82:9
 returns : tie.Need-returns
-returns c = let a = c .before .before .before .before .before .before .args in
+returns c =
+    let a = c .before .before .before .before .before .before .args in
     let l : Lent = lentBy (a .size) (a .table .now) (a .pixels .now) in
     let o : writeLayoutCall l (a .layout .now) (length (a .text .now)) ≡ refused (c .before .refusal .given .0 .0) =
     write-refused l (a .layout .now) _ _ (sym (c .before .refusal .given .1) ∙ c .before .before .before .layout-causes .ensures) in
@@ -42,34 +35,30 @@ returns c = let a = c .before .before .before .before .before .before .args in
 enum-told : tie.Need-enum-told
 enum-told c = search needs
 
--- src/writing.rt:84:43
 slice-relend-prefix-put-layout : tie.Need-slice-relend-prefix-put-layout
 slice-relend-prefix-put-layout c = search needs
 
--- src/writing.rt:84:43
 slice-aggregate-put-layout : tie.Need-slice-aggregate-put-layout
 slice-aggregate-put-layout c = search needs
 
--- src/writing.rt:84:9
 put-layout-requires : tie.Need-put-layout-requires
-put-layout-requires c κs = let a = c .before .before .before .before .before .before .args in
+put-layout-requires c κs =
+    let a = c .before .before .before .before .before .before .args in
     let l : Lent = lentBy (a .size) (a .table .now) (a .pixels .now) in
     let e : CauseAnswer.Passed ≡ firstCause (layoutCauses l (a .layout .now)) = sym (c .before .enum-told .given .1) ∙ c .before .before .before .layout-causes .ensures in
     let s = sound l (a .layout .now) (passed-none (layoutCauses l (a .layout .now)) e) in
     let f = fitting (a .size) (a .table .now) (a .pixels .now) (s .well) in
     (f .fewRows, f .fewColumns, f .fewPieces, s .whole)
 
--- src/writing.rt:86:36
 refusal-requires : tie.Need-refusal-requires
 refusal-requires c κs = search needs
 
--- src/writing.rt:86:9
 same-length : tie.Need-same-length
 same-length c = search needs
 
--- src/writing.rt:86:9
 returns-2 : tie.Need-returns-2
-returns-2 c = let a = c .before .before .before .before .before .before .before .before .before .before .before .args in
+returns-2 c =
+    let a = c .before .before .before .before .before .before .before .before .before .before .before .args in
     let l : Lent = lentBy (a .size) (a .table .now) (a .pixels .now) in
     let e : CauseAnswer.Passed ≡ firstCause (layoutCauses l (a .layout .now)) = sym (c .before .before .before .before .before .before .enum-told .given .1) ∙ c .before .before .before .before .before .before .before .before .layout-causes .ensures in
     let part = c .before .before .before .before .put-layout in
@@ -79,31 +68,31 @@ returns-2 c = let a = c .before .before .before .before .before .before .before 
     write-short l (a .layout .now) _ e long ∙ sym (ap refused (c .refusal2 .ensures)) in
     (sym (ap textAnswer o), rw none (sym (ap (textAfter (a .text .now)) o)))
 
--- src/writing.rt:88:5
 put-layout-requires-2 : tie.Need-put-layout-requires-2
-put-layout-requires-2 c κs = let a = c .before .before .before .before .before .before .before .before .before .before .before .args in
+put-layout-requires-2 c κs =
+    let a = c .before .before .before .before .before .before .before .before .before .before .before .args in
     let l : Lent = lentBy (a .size) (a .table .now) (a .pixels .now) in
     let e : CauseAnswer.Passed ≡ firstCause (layoutCauses l (a .layout .now)) = sym (c .before .before .before .before .before .before .enum-told .given .1) ∙ c .before .before .before .before .before .before .before .before .layout-causes .ensures in
     let s = sound l (a .layout .now) (passed-none (layoutCauses l (a .layout .now)) e) in
     let f = fitting (a .size) (a .table .now) (a .pixels .now) (s .well) in
     (f .fewRows, f .fewColumns, f .fewPieces, s .whole)
 
--- src/writing.rt:77:1
 same-length-2 : tie.Need-same-length-2
 same-length-2 c = search needs
 
--- src/writing.rt:77:1
 returns-3 : tie.Need-returns-3
-returns-3 c = let a = c .before .before .before .before .before .before .before .before .before .before .before .before .before .before .args in
+returns-3 c =
+    let a = c .before .before .before .before .before .before .before .before .before .before .before .before .before .before .args in
     let l : Lent = lentBy (a .size) (a .table .now) (a .pixels .now) in
     let e : CauseAnswer.Passed ≡ firstCause (layoutCauses l (a .layout .now)) = sym (c .before .before .before .before .before .before .before .before .before .enum-told .given .1) ∙ c .before .before .before .before .before .before .before .before .before .before .before .layout-causes .ensures in
     let part = c .before .before .before .before .before .before .before .put-layout in
     let none : part .last .1 .1 .0 ≡ [] = nothing-left _ (part .kept .1 .1 .0) in
     let long : length (layoutText (jobOf l) (layoutOf (a .layout .now))) ≤ length (a .text .now) = rw (none, part .ensures (a .table .now) (a .pixels .now) .0) at (c .before .before .before .before .if1 .left) in
     let o : writeLayoutCall l (a .layout .now) (length (a .text .now)) ≡ given (layoutText (jobOf l) (layoutOf (a .layout .now))) =
-    write-given l (a .layout .now) _ e long in
-    (rw (part .ensures (a .table .now) (a .pixels .now) .0) (sym (ap textAnswer o)),
-      rw none at (c .before .before .put-layout2 .ensures (a .table .now) (a .pixels .now) .1) ∙ filled-front (layoutText (jobOf l) (layoutOf (a .layout .now))) (a .text .now) long ∙ sym (ap (textAfter (a .text .now)) o))
+    write-given l (a .layout .now) _ e long in (
+      rw (part .ensures (a .table .now) (a .pixels .now) .0) (sym (ap textAnswer o)),
+      rw none at (c .before .before .put-layout2 .ensures (a .table .now) (a .pixels .now) .1) ∙ filled-front (layoutText (jobOf l) (layoutOf (a .layout .now))) (a .text .now) long ∙ sym (ap (textAfter (a .text .now)) o),
+    )
 
 pub write-layout-spec : {M : Type 1} → statement M
 write-layout-spec =

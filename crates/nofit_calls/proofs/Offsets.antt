@@ -1,0 +1,67 @@
+-- Signed offsets by how far they go up and down. Assumes nothing.
+use mathlib.Core.Bool.{Bool, true, false, false≢true, true≢false, cond}
+use mathlib.Core.Path.{_≡_, refl, sym, ap, subst, _∙_}
+use Prim.Native.Nat.{ℕ, suc, _+_, _-_, _^_, min, _<_, _≤_}
+use native.Mathlib.Omega.{arith}
+use lib.Dec.{T, ltb}
+use lib.IntN.{ℤ, pos, negsuc, natAbs, subℕ, negℤ, _+ℤ_, _-ℤ_}
+use lib.Signed.{ltZ, leZ, nonNeg, mag}
+use borrow.Author.Tests.{ltb-true, ltb-false, leb-true, leb-false}
+use mir.Syntax.{w32}
+use mir.Val.{SFits, Fits, toZ, ofZ}
+use mir.ValLaws.{toZ-ofZ}
+use Rattle.model.specs.Overlap.{up, down, offsetBound}
+
+-- ── up ──
+
+pub up-none : (z : ℤ) → ltZ z (pos 0) ≡ true → 0 ≡ min (up z) 255
+up-none (pos n) e = absurd (omega (arith, ltb-true n 0 e))
+up-none (negsuc n) e = refl
+
+pub up-far : (z : ℤ) → ltZ (pos 255) z ≡ true → 255 ≡ min (up z) 255
+up-far (pos n) e = omega (arith, ltb-true 255 n e)
+up-far (negsuc n) e = absurd (false≢true e)
+
+pub up-near : (z : ℤ) → ltZ z (pos 0) ≡ false → ltZ (pos 255) z ≡ false → natAbs z ≡ min (up z) 255
+up-near (pos n) e f = omega (arith, ltb-false 255 n f)
+up-near (negsuc n) e f = absurd (true≢false e)
+
+pub not-negative : (z : ℤ) → ltZ z (pos 0) ≡ false → T (nonNeg z)
+not-negative (pos n) e = tt
+not-negative (negsuc n) e = absurd (true≢false e)
+
+-- ── down ──
+
+pub down-none : (z : ℤ) → leZ (pos 0) z ≡ true → 0 ≡ min (down z) 255
+down-none (pos n) e = refl
+down-none (negsuc n) e = absurd (false≢true e)
+
+pub down-far : (z : ℤ) → ltZ z (negsuc 254) ≡ true → 255 ≡ min (down z) 255
+down-far (pos n) e = absurd (false≢true e)
+down-far (negsuc n) e = omega (arith, ltb-true 254 n e)
+
+-- an offset between -255 and -1, taken away from 0
+pub record Near (z : ℤ) : Type 0 where
+  pub fits : SFits w32 (pos 0 -ℤ z)
+  pub not-negative : T (nonNeg (pos 0 -ℤ z))
+  pub is : natAbs (pos 0 -ℤ z) ≡ min (down z) 255
+
+pub down-near : (z : ℤ) → leZ (pos 0) z ≡ false → ltZ z (negsuc 254) ≡ false → Near z
+down-near (pos n) e f = absurd (omega (arith, leb-false 0 n e))
+down-near (negsuc n) e f =
+    let h : n ≤ 254 = ltb-false 254 n f in
+    record { fits = record { sfits = omega arith }; not-negative = tt; is = omega arith }
+
+-- ── biased ──
+
+mag-by : (k : ℕ) (b : Bool) → ltb k 254 ≡ b → k < 512 → mag (cond b (negsuc (254 - suc k)) (pos (k - 254))) < 2 ^ 31
+mag-by k true e l = omega arith
+mag-by k false e l = omega arith
+
+-- a small number taken down by 254 fits
+pub unbiased-fits : (k : ℕ) → k < 512 → SFits w32 (subℕ k 254)
+unbiased-fits k l = record { sfits = mag-by k (ltb k 254) refl l }
+
+-- a small number read as a signed one
+pub small-signed : (k : ℕ) → k < 512 → toZ w32 k ≡ pos k
+small-signed k l = toZ-ofZ w32 (pos k) (record { sfits = omega arith })
