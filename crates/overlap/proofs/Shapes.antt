@@ -197,7 +197,7 @@ module _ (d : Direction) (s : Shape) (u : Point) (t : Shape) (v : Point) where
       }
 
   -- the depth, cut off at the bound, is the first shift at which they are apart
-  depth-cut-first : (bound : ℕ) → FirstBelow (apartAt d s u t v) bound (min (depth d s u t v) bound)
+  pub depth-cut-first : (bound : ℕ) → FirstBelow (apartAt d s u t v) bound (min (depth d s u t v) bound)
   unfolding apartAt
   depth-cut-first bound =
       record {

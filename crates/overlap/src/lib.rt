@@ -161,7 +161,7 @@ fn slide(a: &[[u8; 3]], u: Corner, b: &[[u8; 3]], v: Corner, limit: u32) -> u32
 }
 
 // The least shift of the second piece along the strips at which they share no pixel, if it is below the bound, else the bound.
-fn clear_below(a: &[[u8; 3]], u: Corner, b: &[[u8; 3]], v: Corner, bound: u32) -> u32
+pub fn clear_below(a: &[[u8; 3]], u: Corner, b: &[[u8; 3]], v: Corner, bound: u32) -> u32
     requires { ⌜ Ordered (now a) ⌝ ∗ ⌜ Ordered (now b) ⌝ ∗ ⌜ Near u × Near v ⌝ ∗ ⌜ bound ≤ shiftBound ⌝ }
     ensures { λ r. ⌜ r ≡ clearBelow (now (a .entry)) u (now (b .entry)) v bound ⌝ }
 {

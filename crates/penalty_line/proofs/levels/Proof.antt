@@ -1,0 +1,131 @@
+-- `penalty_line::levels`: before level r every place holds the lesser of what it held at first and the least shift below r that parts
+-- the pieces. Assumes nothing.
+use mathlib.Core.Path.{_≡_, refl, _∙_}
+use Prim.Native.Nat.{ℕ, _≤_, _<_, _-_}
+use native.Mathlib.Omega.{arith}
+use borrow.Author.Needs.{needs}
+use borrow.Author.Tests.{not-true}
+use lib.ListN.{length, getD}
+use Rattle.penalty_line.proofs.Across.{LineAt, line-start, line-step, line-done}
+use Rattle.penalty_line.proofs.levels.Statement.{statement}
+use Rattle.penalty_line.proofs.levels.Tie as tie
+
+abbrev Inv-loop : tie.InvT-loop
+Inv-loop a b p line₀ r₀ line r = (r ≤ 255) × (length line ≡ length line₀) × LineAt a b p r line₀ line
+
+abbrev μ-loop : tie.MeasureT-loop
+μ-loop a b p line₀ r₀ line r = 255 - r
+
+loop-holds : tie.Need-loop-holds Inv-loop μ-loop
+loop-holds c =
+    let s = c .before .args in
+    (omega arith, refl, line-start (s .a .now) (s .b .now) (s .p) (s .line .now) (c .before .pre .1 .1 .1))
+
+above-requires : tie.Need-above-requires Inv-loop μ-loop
+above-requires c κs = search needs
+
+same-length : tie.Need-same-length Inv-loop μ-loop
+same-length c = c .before .before .before .before .loop .inv .1
+
+returns : tie.Need-returns Inv-loop μ-loop
+returns c =
+    let s = c .before .before .before .before .before .before .args in
+    let w = c .before .before .before .before .loop in
+    let e = w .inv .1 in
+    line-done (s .a .now) (s .b .now) (s .p) (w .r) (s .line .now) (w .line) e
+    (λ k l. let b = c .before .before .before .before .before .slice-known .given k in omega arith)
+    (λ k l. c .before .above .ensures .none (not-true _ (c .if1 .taken)) k (omega arith)) (w .inv .2)
+
+wide-requires : tie.Need-wide-requires Inv-loop μ-loop
+wide-requires c κs = search needs
+
+add-t13 : tie.Need-add-t13 Inv-loop μ-loop
+add-t13 c =
+    let p = c .before .before .before .before .before .before .before .before .pre .1 .1 .0 in
+    let w = c .before .wide .ensures in
+    omega arith
+
+lower-requires : tie.Need-lower-requires Inv-loop μ-loop
+lower-requires c κs =
+    let p = c .before .before .before .before .before .before .before .before .before .pre in
+    let q = p .1 .1 .0 in
+    let reach = q .0 in
+    let w = c .before .before .wide .ensures in
+    let e = c .before .before .before .before .before .before .before .loop .inv .1 in
+    (p .0, (p .1 .0, record { bias = reach .bias; moved = omega arith; standing = reach .standing; places = omega arith }))
+
+wide-requires-2 : tie.Need-wide-requires-2 Inv-loop μ-loop
+wide-requires-2 c κs = search needs
+
+add-t13-2 : tie.Need-add-t13-2 Inv-loop μ-loop
+add-t13-2 c =
+    let p = c .before .before .before .before .before .before .before .before .before .before .before .before .before .before .pre .1 .1 .0 in
+    let w = c .before .wide2 .ensures in
+    omega arith
+
+lower-requires-2 : tie.Need-lower-requires-2 Inv-loop μ-loop
+lower-requires-2 c κs =
+    let p = c .before .before .before .before .before .before .before .before .before .before .before .before .before .before .before .pre in
+    let q = p .1 .1 .0 in
+    let reach = q .0 in
+    let w = c .before .before .wide2 .ensures in
+    let e = c .before .before .before .before .before .before .before .before .before .before .before .before .before .loop .inv .1 in
+    let f = c .before .before .before .before .before .lower .ensures .same in
+    (p .0, (p .1 .0, record { bias = reach .bias; moved = reach .moved; standing = omega arith; places = omega arith }))
+
+add-r : tie.Need-add-r Inv-loop μ-loop
+add-r c =
+    let l = c .before .before .before .before .before .before .before .before .before .before .before .before .before .before .before .loop-test .taken in
+    omega arith
+
+loop-less : tie.Need-loop-less Inv-loop μ-loop
+loop-less c =
+    let l = c .before .before .before .before .before .before .before .before .before .before .before .before .before .before .before .loop-test .taken in
+    omega arith
+
+loop-again : tie.Need-loop-again Inv-loop μ-loop
+loop-again c =
+    let s = c .before .before .before .before .before .before .before .before .before .before .before .before .before .before .before .before .before .before .args in
+    let w = c .before .before .before .before .before .before .before .before .before .before .before .before .before .before .before .before .loop in
+    let l = c .before .before .before .before .before .before .before .before .before .before .before .before .before .before .before .loop-test .taken in
+    let up = c .before .before .before .before .before .before .before .before .lower .ensures in
+    let down = c .before .before .lower2 .ensures in (
+      omega arith,
+      down .same ∙ up .same ∙ w .inv .1,
+      line-step (s .a .now) (s .b .now) (s .p) (w .r) (c .before .before .before .before .before .before .before .before .before .before .before .wide .result) (c .before .before .before .before .before .wide2 .result) (s .line .now) (w .line)
+          (c .before .before .before .before .before .before .before .before .before .before .before .wide .ensures .0) (c .before .before .before .before .before .wide2 .ensures .0) (w .inv .1) up down (w .inv .2),
+    )
+
+same-length-2 : tie.Need-same-length-2 Inv-loop μ-loop
+same-length-2 c = c .before .loop .inv .1
+
+returns-2 : tie.Need-returns-2 Inv-loop μ-loop
+returns-2 c =
+    let s = c .before .before .before .args in
+    let w = c .before .loop in
+    let l = c .loop-test .left in
+    let b : (k : ℕ) → k < length (s .line .now) → getD (s .line .now) k 0 ≤ 255 = λ k m. let q = c .before .before .slice-known .given k in omega arith in
+    line-done (s .a .now) (s .b .now) (s .p) (w .r) (s .line .now) (w .line) (w .inv .1) b
+    (λ k m. let most = w .inv .2 k m .most in let q = b k m in omega arith) (w .inv .2)
+
+pub levels-spec : {M : Type 1} → statement M
+levels-spec =
+    tie.close
+    (tie.spec
+    Inv-loop
+    μ-loop
+    loop-holds
+    above-requires
+    same-length
+    returns
+    wide-requires
+    add-t13
+    lower-requires
+    wide-requires-2
+    add-t13-2
+    lower-requires-2
+    add-r
+    loop-less
+    loop-again
+    same-length-2
+    returns-2)

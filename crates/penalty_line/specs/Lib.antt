@@ -1,0 +1,2 @@
+-- What the line of penalties of two pieces is. Assumes nothing.
+pub mod Line
