@@ -1,0 +1,5 @@
+-- What the contracts of this crate cite beside the model's definitions.
+pub mod Drawn
+pub mod Table
+pub mod Sharing
+pub mod Answers
