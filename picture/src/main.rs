@@ -1,0 +1,50 @@
+//! Draws a layout as SVG: `picture JOB LAYOUT > layout.svg`.
+//!
+//! `job` and `layout` read the two texts by their `lines`, `grid` turns pixel sets, `outline` finds
+//! their edges, `label` the places of the numbers, `colour` the colours, and `svg` draws.
+
+mod colour;
+mod grid;
+mod job;
+mod label;
+mod layout;
+mod lines;
+mod outline;
+mod svg;
+
+use std::io::{self, Write};
+use std::process::ExitCode;
+use std::{env, fs};
+
+/// Prints the picture, or a message on standard error and nothing else.
+fn main() -> ExitCode {
+    let arguments: Vec<String> = env::args().skip(1).collect();
+    match picture(&arguments).and_then(|picture| print(&picture)) {
+        Ok(()) => ExitCode::SUCCESS,
+        Err(message) => {
+            eprintln!("{message}");
+            ExitCode::FAILURE
+        }
+    }
+}
+
+/// The picture of the job and the layout that the arguments name.
+fn picture(arguments: &[String]) -> Result<String, String> {
+    let [job, layout] = arguments else {
+        return Err("usage: picture JOB LAYOUT".to_string());
+    };
+    let job = job::read(&text(job)?)?;
+    let layout = layout::read(&job, &text(layout)?)?;
+    Ok(svg::draw(&layout))
+}
+
+/// The text of a file.
+fn text(file: &str) -> Result<String, String> {
+    fs::read_to_string(file).map_err(|error| format!("{file}: {error}"))
+}
+
+/// Prints a text on standard output.
+fn print(text: &str) -> Result<(), String> {
+    let printed = io::stdout().write_all(text.as_bytes());
+    printed.map_err(|error| format!("standard output: {error}"))
+}

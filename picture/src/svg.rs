@@ -1,0 +1,306 @@
+//! The picture of a layout.
+
+use crate::colour::colours;
+use crate::grid::Grid;
+use crate::label::largest_square;
+use crate::layout::{Layout, Placed};
+use crate::outline::outlines;
+
+/// Free space left of the sheet, for the numbers of rows.
+const LEFT: usize = 44;
+
+/// Free space right of the sheet.
+const RIGHT: usize = 24;
+
+/// Free space above the sheet, for the used length.
+const TOP: usize = 34;
+
+/// Free space below the sheet, for the numbers of columns and the caption.
+const BOTTOM: usize = 56;
+
+/// The least width of the picture, so that the caption has room.
+const LEAST_WIDTH: usize = 540;
+
+/// The hatching of shared pixels.
+const HATCHING: &str = r##"<defs>
+<pattern id="shared" width="6" height="6" patternUnits="userSpaceOnUse" patternTransform="rotate(45)">
+<rect width="6" height="6" fill="#ffffff" fill-opacity="0.6"/>
+<rect width="3" height="6" fill="#d80000"/>
+</pattern>
+</defs>
+"##;
+
+/// The SVG text of a layout.
+pub fn draw(layout: &Layout) -> String {
+    let picture = Picture::new(layout);
+    let width = LEAST_WIDTH.max(picture.x(layout.columns) + RIGHT);
+    let height = picture.y(0) + BOTTOM;
+    // What is drawn later lies in front.
+    [
+        format!(
+            "<svg xmlns=\"http://www.w3.org/2000/svg\" width=\"{width}\" height=\"{height}\" \
+             viewBox=\"0 0 {width} {height}\" font-family=\"sans-serif\">\n"
+        ),
+        format!("<title>{}</title>\n", picture.caption()),
+        HATCHING.to_string(),
+        format!("<rect width=\"{width}\" height=\"{height}\" fill=\"#ffffff\"/>\n"),
+        picture.sheet(),
+        picture.pieces(),
+        picture.shared_pixels(),
+        picture.piece_numbers(),
+        picture.used_length(),
+        picture.caption_text(height - 14),
+        "</svg>\n".to_string(),
+    ]
+    .concat()
+}
+
+/// A layout and what is needed to draw it.
+struct Picture<'a> {
+    layout: &'a Layout,
+    shared: Grid,
+    /// The side of a pixel in the picture.
+    scale: usize,
+}
+
+impl Picture<'_> {
+    /// Chooses a size that fills a usual screen and in which every pixel can be seen.
+    fn new(layout: &Layout) -> Picture<'_> {
+        let scale = (1200 / layout.columns).min(900 / layout.rows);
+        Picture {
+            layout,
+            shared: layout.shared(),
+            scale: scale.clamp(2, 96),
+        }
+    }
+
+    /// The picture's x of a column's left side.
+    fn x(&self, column: usize) -> usize {
+        LEFT + column * self.scale
+    }
+
+    /// The picture's y of a row's lower side: rows are counted upward, the picture's y downward.
+    fn y(&self, row: usize) -> usize {
+        TOP + (self.layout.rows - row) * self.scale
+    }
+
+    /// What the picture shows, in words.
+    fn caption(&self) -> String {
+        format!(
+            "{}, {} by {}, used length {}, {}",
+            counted(self.layout.pieces.len(), "piece"),
+            counted(self.layout.rows, "row"),
+            counted(self.layout.columns, "column"),
+            self.layout.used_length(),
+            counted(self.shared.count(), "shared pixel"),
+        )
+    }
+
+    /// The caption as a line of the picture.
+    fn caption_text(&self, y: usize) -> String {
+        let caption = self.caption();
+        format!("<text x=\"{LEFT}\" y=\"{y}\" font-size=\"13\" fill=\"#333333\">{caption}</text>\n")
+    }
+
+    /// The sheet and the numbers of columns and rows along its sides.
+    fn sheet(&self) -> String {
+        let (rows, columns) = (self.layout.rows, self.layout.columns);
+        let (left, right, top, bottom) = (self.x(0), self.x(columns), self.y(rows), self.y(0));
+        let (width, height) = (right - left, bottom - top);
+        let column_number = |column: usize| {
+            let (x, y) = (self.x(column), bottom + 18);
+            format!("<text x=\"{x}\" y=\"{y}\" text-anchor=\"middle\">{column}</text>\n")
+        };
+        let row_number = |row: usize| {
+            let (x, y) = (left - 8, self.y(row) + 4);
+            format!("<text x=\"{x}\" y=\"{y}\" text-anchor=\"end\">{row}</text>\n")
+        };
+        let tick_x = |column: usize| format!("M{} {bottom}v5", self.x(column));
+        let tick_y = |row: usize| format!("M{left} {}h-5", self.y(row));
+        let columns: Vec<usize> = (0..=columns).step_by(self.tick_step(40)).collect();
+        let rows: Vec<usize> = (0..=rows).step_by(self.tick_step(24)).collect();
+        [
+            format!("<rect x=\"{left}\" y=\"{top}\" width=\"{width}\" height=\"{height}\" "),
+            "fill=\"#f6f5f1\" stroke=\"#333333\" stroke-width=\"1.5\"/>\n".to_string(),
+            "<g font-size=\"11\" fill=\"#555555\">\n".to_string(),
+            columns.iter().copied().map(column_number).collect(),
+            rows.iter().copied().map(row_number).collect(),
+            "</g>\n<path stroke=\"#333333\" d=\"".to_string(),
+            columns.iter().copied().map(tick_x).collect(),
+            rows.iter().copied().map(tick_y).collect(),
+            "\"/>\n".to_string(),
+        ]
+        .concat()
+    }
+
+    /// The least of 1, 2, 5, 10 and so on whose ticks are a number of units apart.
+    fn tick_step(&self, apart: usize) -> usize {
+        let steps = (0..).flat_map(|power| [1, 2, 5].map(|first| first * 10_usize.pow(power)));
+        let mut wide = steps.filter(|step| step * self.scale >= apart);
+        wide.next().unwrap_or(1)
+    }
+
+    /// The pieces, each a single path in its colours.
+    fn pieces(&self) -> String {
+        let piece = |(number, piece): (usize, &Placed)| {
+            let colours = colours(number);
+            format!(
+                "<path fill=\"{}\" stroke=\"{}\" d=\"{}\"><title>piece {number}, turn {}, corner ({}, {})</title></path>\n",
+                colours.fill,
+                colours.outline,
+                self.path(&piece.grid, piece.x, piece.y),
+                piece.degrees,
+                piece.x,
+                piece.y,
+            )
+        };
+        let pieces: String = self.layout.pieces.iter().enumerate().map(piece).collect();
+        format!("<g fill-rule=\"evenodd\" fill-opacity=\"0.85\" stroke-linejoin=\"round\">\n{pieces}</g>\n")
+    }
+
+    /// The pixels that several pieces cover, hatched.
+    fn shared_pixels(&self) -> String {
+        let path = self.path(&self.shared, 0, 0);
+        if path.is_empty() {
+            return path;
+        }
+        format!(
+            "<path fill=\"url(#shared)\" fill-rule=\"evenodd\" stroke=\"#d80000\" d=\"{path}\"/>\n"
+        )
+    }
+
+    /// The outline of a pixel set whose box has its corner at a column and row.
+    fn path(&self, grid: &Grid, column: usize, row: usize) -> String {
+        let line = |corners: Vec<(usize, usize)>| {
+            let (x, y) = corners[0];
+            let mut path = format!("M{} {}", self.x(column + x), self.y(row + y));
+            for (from, to) in corners.iter().zip(&corners[1..]) {
+                path += &self.segment(*from, *to);
+            }
+            path + "z"
+        };
+        outlines(grid).into_iter().map(line).collect()
+    }
+
+    /// A straight part of a path, along a row or a column.
+    fn segment(&self, from: (usize, usize), to: (usize, usize)) -> String {
+        let length = |from: usize, to: usize| (to as isize - from as isize) * self.scale as isize;
+        if from.1 == to.1 {
+            format!("h{}", length(from.0, to.0))
+        } else {
+            format!("v{}", length(to.1, from.1))
+        }
+    }
+
+    /// The numbers of the pieces.
+    fn piece_numbers(&self) -> String {
+        let numbers: String = (0..self.layout.pieces.len())
+            .map(|number| self.piece_number(number))
+            .collect();
+        format!(
+            "<g text-anchor=\"middle\" fill=\"#111111\" stroke=\"#ffffff\" stroke-opacity=\"0.8\" \
+             paint-order=\"stroke\">\n{numbers}</g>\n"
+        )
+    }
+
+    /// The number of a piece, where the piece is widest, on pixels of its own if it has any.
+    fn piece_number(&self, number: usize) -> String {
+        let piece = &self.layout.pieces[number];
+        let own = Grid::new(piece.grid.columns, piece.grid.rows, |x, y| {
+            piece.grid.has(x, y) && !self.shared.has(piece.x + x, piece.y + y)
+        });
+        let square = largest_square(&own).or_else(|| largest_square(&piece.grid));
+        let Some(square) = square else {
+            return String::new();
+        };
+        let side = square.side * self.scale;
+        let size = (side * 6 / 10).clamp(10, 26);
+        let (x, y) = (
+            self.x(piece.x + square.x) + side / 2,
+            self.y(piece.y + square.y) - side / 2,
+        );
+        format!(
+            "<text x=\"{x}\" y=\"{}\" font-size=\"{size}\" stroke-width=\"{}\">{number}</text>\n",
+            // Digits are some seven tenths as high as their size says.
+            y + size * 36 / 100,
+            size.div_ceil(8),
+        )
+    }
+
+    /// The used length: a line across the sheet and its number above.
+    fn used_length(&self) -> String {
+        let length = self.layout.used_length();
+        let (x, top, bottom) = (self.x(length), TOP - 10, self.y(0) + 5);
+        // The words stay on the side of the line that has more room.
+        let (anchor, words_x) = if 2 * length > self.layout.columns {
+            ("end", x + 4)
+        } else {
+            ("start", x - 4)
+        };
+        format!(
+            "<path stroke=\"#0050c8\" stroke-width=\"2\" stroke-dasharray=\"7 4\" d=\"M{x} {top}V{bottom}\"/>\n\
+             <text x=\"{words_x}\" y=\"{}\" text-anchor=\"{anchor}\" font-size=\"13\" fill=\"#0050c8\">used length {length}</text>\n",
+            top - 5,
+        )
+    }
+}
+
+/// A number and a noun, with an s unless the number is 1.
+fn counted(number: usize, noun: &str) -> String {
+    let ending = if number == 1 { "" } else { "s" };
+    format!("{number} {noun}{ending}")
+}
+
+#[cfg(test)]
+mod tests {
+    use super::*;
+    use crate::{job, layout};
+
+    /// The picture of a corner piece and a square on a sheet of 10 rows and 12 columns, scale 90.
+    fn picture(places: &str) -> String {
+        let job = job::read(
+            "job,1,10,12,2\npiece,0,2,2,15\nrow,##\nrow,#.\npiece,1,2,2,1\nrow,##\nrow,##\n",
+        )
+        .expect("the job is right");
+        let text = format!("layout,1,10,12,2\n{places}");
+        draw(&layout::read(&job, &text).expect("the layout is right"))
+    }
+
+    #[test]
+    fn rows_are_counted_upward() {
+        // The corner piece lies in the bottom left of the sheet; its notch is at the top right.
+        let text = picture("at,0,0,0,0\nat,1,0,8,8\n");
+        assert!(
+            text.contains("d=\"M44 934h180v-90h-90v-90h-90z\""),
+            "{text}"
+        );
+        // Turned by 90 degrees, its notch is at the top left.
+        let text = picture("at,0,90,0,0\nat,1,0,8,8\n");
+        assert!(
+            text.contains("d=\"M44 934h180v-180h-90v90h-90z\""),
+            "{text}"
+        );
+    }
+
+    #[test]
+    fn shared_pixels_are_hatched_only_where_there_are_any() {
+        let apart = picture("at,0,0,0,0\nat,1,0,2,0\n");
+        assert!(!apart.contains("url(#shared)") && apart.contains("0 shared pixels</title>"));
+        let meeting = picture("at,0,0,0,0\nat,1,0,1,0\n");
+        assert!(meeting.contains("url(#shared)") && meeting.contains("1 shared pixel</title>"));
+        assert!(meeting.contains("d=\"M134 934h90v-90h-90z\""));
+    }
+
+    #[test]
+    fn used_length_is_marked() {
+        let text = picture("at,0,0,0,0\nat,1,0,3,0\n");
+        assert!(text.contains("d=\"M494 24V939\"") && text.contains(">used length 5</text>"));
+    }
+
+    #[test]
+    fn each_piece_has_its_number() {
+        let text = picture("at,0,0,0,0\nat,1,0,0,0\n");
+        assert!(text.contains(">0</text>") && text.contains(">1</text>"));
+        assert!(text.contains("<title>piece 1, turn 0, corner (0, 0)</title>"));
+    }
+}

@@ -1,0 +1,219 @@
+//! Runs a program on generated inputs and compares its output, byte for byte, with that of the second program.
+//!
+//! `jobs` makes jobs that are accepted, `damage` inputs that mostly are not, both from `shapes` and
+//! `random` numbers of fixed seeds; `tally` counts how the inputs ended.
+
+mod damage;
+mod jobs;
+mod kind;
+mod random;
+mod shapes;
+mod tally;
+
+use std::io::{self, Write};
+use std::path::PathBuf;
+use std::process::{Command, ExitCode, Stdio};
+use std::{env, fs, process, thread};
+
+use kind::Kind;
+use tally::Tally;
+
+/// Compares the program that the only argument names; 0 means that no output is different.
+fn main() -> ExitCode {
+    let arguments: Vec<String> = env::args().skip(1).collect();
+    let [program] = arguments.as_slice() else {
+        eprintln!("usage: differ PROGRAM");
+        return ExitCode::from(2);
+    };
+    match compare_all(program) {
+        Ok(true) => ExitCode::SUCCESS,
+        Ok(false) => ExitCode::FAILURE,
+        Err(error) => {
+            eprintln!("{program}: {error}");
+            ExitCode::from(2)
+        }
+    }
+}
+
+/// All inputs, kind by kind.
+fn all_kinds() -> Vec<Kind> {
+    let mut kinds = jobs::kinds();
+    kinds.extend(damage::kinds());
+    kinds
+}
+
+/// Runs the program on every input, prints the summary and says whether all is well.
+fn compare_all(program: &str) -> io::Result<bool> {
+    let mut total = Tally::default();
+    let mut first_difference = None;
+    println!("{}", Tally::head());
+    for kind in all_kinds() {
+        let (tally, difference) = compare_kind(program, &kind)?;
+        println!("{}", tally.line(kind.name));
+        total += tally;
+        first_difference = first_difference.or(difference);
+    }
+    println!("{}", total.line("all"));
+    if let Some(difference) = &first_difference {
+        println!("first difference: {}", difference.report()?);
+    }
+    // A cause that never comes leaves a part of the reader untried.
+    for cause in total.missing_causes() {
+        println!("no input is refused by {cause}");
+    }
+    Ok(total.different == 0 && total.missing_causes().is_empty())
+}
+
+/// Runs the program on the inputs of a kind; also gives the first difference.
+fn compare_kind(program: &str, kind: &Kind) -> io::Result<(Tally, Option<Difference>)> {
+    let mut tally = Tally::default();
+    let mut first_difference = None;
+    for (number, input) in kind.inputs.iter().enumerate() {
+        let expected = second::run(input);
+        let found = output(program, input)?;
+        let same = found == expected.as_bytes();
+        tally.count(&expected, same);
+        if !same && first_difference.is_none() {
+            first_difference = Some(Difference {
+                kind: kind.name,
+                number,
+                input: input.clone(),
+                expected,
+                found,
+            });
+        }
+    }
+    Ok((tally, first_difference))
+}
+
+/// What the program prints for an input.
+fn output(program: &str, input: &[u8]) -> io::Result<Vec<u8>> {
+    let mut child = Command::new(program)
+        .stdin(Stdio::piped())
+        .stdout(Stdio::piped())
+        .spawn()?;
+    let pipe = child.stdin.take();
+    thread::scope(|scope| {
+        scope.spawn(move || {
+            // A program may stop reading where an input is too long; only its output counts.
+            let _ = pipe.map(|mut pipe| pipe.write_all(input));
+        });
+        Ok(child.wait_with_output()?.stdout)
+    })
+}
+
+/// An input for which the program's output is not the expected one.
+struct Difference {
+    kind: &'static str,
+    number: usize,
+    input: Vec<u8>,
+    expected: String,
+    found: Vec<u8>,
+}
+
+impl Difference {
+    /// Writes the input to a file and names it, with the first line in which the outputs differ.
+    fn report(&self) -> io::Result<String> {
+        let file = self.save()?;
+        let found = String::from_utf8_lossy(&self.found);
+        let (line, expected, found) = differing_line(&self.expected, &found);
+        Ok(format!(
+            "{} {}, input in {}\noutput line {line}: expected {expected:?}, found {found:?}",
+            self.kind,
+            self.number,
+            file.display()
+        ))
+    }
+
+    /// Writes the input to a file of the system's temporary folder.
+    fn save(&self) -> io::Result<PathBuf> {
+        let file = env::temp_dir().join(format!("differ-{}.job", process::id()));
+        fs::write(&file, &self.input)?;
+        Ok(file)
+    }
+}
+
+/// The number of the first line, from 1, in which two different texts differ, and that line of both.
+fn differing_line<'a>(one: &'a str, other: &'a str) -> (usize, &'a str, &'a str) {
+    let (mut ones, mut others) = (one.split_inclusive('\n'), other.split_inclusive('\n'));
+    let mut number = 1;
+    loop {
+        let lines = (ones.next(), others.next());
+        if lines.0 != lines.1 || lines.0.is_none() {
+            return (number, lines.0.unwrap_or(""), lines.1.unwrap_or(""));
+        }
+        number += 1;
+    }
+}
+
+#[cfg(test)]
+mod tests {
+    use super::*;
+    use second::job::{self, Job};
+
+    /// The jobs that a kind's inputs are read as.
+    fn jobs_of(kind: &Kind) -> Vec<Job> {
+        let read = |input: &Vec<u8>| {
+            assert!(input.len() <= second::MAX_INPUT, "{}", kind.name);
+            job::read(input).expect(kind.name)
+        };
+        kind.inputs.iter().map(read).collect()
+    }
+
+    #[test]
+    fn enough_inputs_and_the_same_ones_each_time() {
+        let (kinds, again) = (all_kinds(), all_kinds());
+        assert!(kinds.iter().map(|kind| kind.inputs.len()).sum::<usize>() >= 2_000);
+        for (kind, again) in kinds.iter().zip(&again) {
+            assert!(kind.inputs == again.inputs, "{}", kind.name);
+        }
+    }
+
+    #[test]
+    fn jobs_are_accepted_and_reach_the_limits() {
+        let jobs: Vec<Job> = jobs::kinds().iter().flat_map(jobs_of).collect();
+        for count in [1, 64] {
+            assert!(jobs.iter().any(|job| job.pieces.len() == count));
+        }
+        for sheet in jobs::LARGEST_SHEETS {
+            assert!(jobs.iter().any(|job| (job.rows, job.columns) == sheet));
+        }
+        let turn_sets = |job: &Job| -> Vec<usize> {
+            let sum = |turn: second::shape::Turn| 1 << turn.index();
+            job.pieces
+                .iter()
+                .map(|piece| piece.turns().map(sum).sum())
+                .collect()
+        };
+        let found: Vec<usize> = jobs.iter().flat_map(turn_sets).collect();
+        assert!((1..16).step_by(2).all(|sum| found.contains(&sum)));
+    }
+
+    #[test]
+    fn damaged_inputs_are_refused_by_every_cause() {
+        let mut tally = Tally::default();
+        for input in damage::kinds().iter().flat_map(|kind| &kind.inputs) {
+            tally.count(&second::run(input), true);
+        }
+        assert_eq!(tally.missing_causes(), []);
+    }
+
+    #[test]
+    fn lengths_are_exact() {
+        let kinds = damage::kinds();
+        let inputs = &kinds.last().expect("there are kinds").inputs;
+        let accepted = |input: &&Vec<u8>| second::run(input).starts_with("layout,");
+        let longest = inputs.iter().filter(accepted).map(Vec::len).max();
+        assert_eq!(longest, Some(second::MAX_INPUT));
+        assert!(inputs
+            .iter()
+            .any(|input| input.len() == second::MAX_INPUT + 1));
+    }
+
+    #[test]
+    fn first_differing_line() {
+        assert_eq!(differing_line("a\nb\nc\n", "a\nx\nc\n"), (2, "b\n", "x\n"));
+        assert_eq!(differing_line("a\n", "a\nb"), (2, "", "b"));
+        assert_eq!(differing_line("a\n", "a"), (1, "a\n", "a"));
+    }
+}
