@@ -1,6 +1,3 @@
 -- Laws that the proofs of this crate's functions cite.
 pub mod Tests
 pub mod Boxes
-pub mod Forms
-pub mod Marks
-pub mod Filling

@@ -1,15 +1,8 @@
-// A job as document 01 describes it: the check of a lent job and the reader of a job text.
+// A lent job: the check that every call makes of it first, and the tests that it shares with the reader of a job text.
 mod lent;
-mod lines;
-mod reader;
-mod rows;
 
+pub use lent::box_tight;
 pub use lent::check_job;
+pub use lent::numbers_in_range;
 pub use lent::pixel_start;
-pub use reader::read_job;
-
-// What reading a job answers: the job's numbers, its table and pixels being filled, or a refusal.
-pub enum JobAnswer {
-    Read(model::JobSize),
-    Refused(model::Refusal),
-}
+pub use lent::sides_in_range;

@@ -1,6 +1,6 @@
 // Reads document 01's example job and some others, each from its text, and writes what the reader answers: the job's numbers, its first
 // entry, its first eight pixel bytes and whether the check of a lent job passes; or the refusal's number and line.
-use job::JobAnswer;
+use job_text::JobAnswer;
 
 // A number behind a comma.
 fn put(n: u64) {
@@ -36,7 +36,7 @@ fn put_marks(b: [u8; 4]) {
 fn show(text: &[u8]) {
     let mut table = [[0u8; 3]; 4];
     let mut pixels = [0u8; 16];
-    match job::read_job(text, &mut table, &mut pixels) {
+    match job_text::read_job(text, &mut table, &mut pixels) {
         JobAnswer::Refused(r) => {
             io::write_all(1, b"refused");
             put(r.number as u64);

@@ -1,0 +1,4 @@
+-- What the crate's own functions find, as document 01's definitions have it.
+pub mod Lines
+pub mod Stores
+pub mod Reading
