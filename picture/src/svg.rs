@@ -239,7 +239,8 @@ impl Picture<'_> {
         };
         format!(
             "<path stroke=\"#0050c8\" stroke-width=\"2\" stroke-dasharray=\"7 4\" d=\"M{x} {top}V{bottom}\"/>\n\
-             <text x=\"{words_x}\" y=\"{}\" text-anchor=\"{anchor}\" font-size=\"13\" fill=\"#0050c8\">used length {length}</text>\n",
+             <text x=\"{words_x}\" y=\"{}\" text-anchor=\"{anchor}\" font-size=\"13\" \
+             fill=\"#0050c8\">used length {length}</text>\n",
             top - 5,
         )
     }

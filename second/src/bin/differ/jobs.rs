@@ -171,22 +171,22 @@ fn overfull(random: &mut Random) -> Job {
     Job::filled(pieces, random.between(0, 3), random.between(120, 300))
 }
 
-/// Pieces of almost the sheet's size, so that the depths and the sums are as large as they can be.
+/// Pieces of about the sheet's size, so that the depths and the sums are as large as a text allows.
 fn stacked(random: &mut Random) -> Job {
-    let (count, side) = random.pick(&[(2, 170), (3, 135), (8, 80), (20, 50), (64, 27)]);
+    let (count, side) = random.pick(&[(2, 175), (3, 140), (8, 85), (20, 50), (64, 29)]);
+    let uneven = random.pick(&[0, 5]);
     let pieces = pieces(random, count, |random| {
-        let (columns, rows) = (
-            random.between(side - 5, side),
-            random.between(side - 5, side),
-        );
-        match random.between(0, 3) {
-            0 => shapes::any(random, columns, rows),
-            _ => shapes::full(columns, rows),
+        let length = random.between(side - uneven, side);
+        let width = random.between(side - uneven, side);
+        if uneven > 0 && random.chance(25) {
+            shapes::any(random, length, width)
+        } else {
+            shapes::full(length, width)
         }
     });
     Job {
-        rows: side + random.between(0, 4),
-        columns: side + random.between(0, 20),
+        rows: side + random.between(0, 2),
+        columns: side + random.pick(&[0, 1, 3, 20]),
         pieces,
     }
 }
