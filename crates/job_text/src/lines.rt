@@ -1,10 +1,10 @@
 // The job line and the piece lines: document 01, 'Job text' and 'When a call says no', reading a job. A line's form comes before its
 // ranges.
-use job::numbers_in_range;
-use job::sides_in_range;
 use fields::Number;
 use fields::field_at;
 use fields::word_at;
+use job::numbers_in_range;
+use job::sides_in_range;
 use model::Refusal;
 ghost use mathlib.Core.Path.{_≡_};
 ghost use Prim.Native.Nat.{_+_, _*_, _<_, _≤_, _^_};

@@ -1,7 +1,6 @@
 // The reader of a job text: document 01, 'Job text' and 'When a call says no', reading a job. A first run over empty buffers finds every
 // refusal and how much room the job needs; only a second run writes.
 use crate::JobAnswer;
-use job::box_tight;
 use crate::lines::JobHead;
 use crate::lines::JobLineAnswer;
 use crate::lines::PieceHead;
@@ -11,6 +10,7 @@ use crate::lines::piece_line;
 use crate::lines::refusal;
 use crate::rows::RowsAnswer;
 use crate::rows::fill_rows;
+use job::box_tight;
 use model::JobSize;
 use model::Refusal;
 ghost use mathlib.Core.List.{[], _∷_};

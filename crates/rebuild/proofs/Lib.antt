@@ -6,3 +6,4 @@ pub mod Validity
 pub mod Edges
 pub mod Painting
 pub mod Written
+pub mod Again

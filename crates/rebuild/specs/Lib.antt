@@ -2,3 +2,4 @@
 pub mod Answer
 pub mod Check
 pub mod Paint
+pub mod Again

@@ -7,6 +7,7 @@ ghost use lib.ListN.{length};
 ghost use Rattle.model.specs.Calls.{rebuildCall, pixelsAfter};
 ghost use Rattle.model.specs.Lent.{upTo, sideBound};
 ghost use Rattle.rebuild.specs.Answer.{rebuildAnswer};
+ghost use Rattle.rebuild.specs.Again.{Again};
 
 mod check;
 mod paint;
@@ -48,6 +49,7 @@ pub fn rebuild(
 ) -> RebuildAnswer
     ensures answer { λ r. ⌜ r ≡ rebuildAnswer (rebuildCall direction columns rows (now (strips .entry)) (length (now (pixels .entry)))) ⌝ }
     ensures memory { λ r. ⌜ now (pixels .exit) ≡ pixelsAfter (now (pixels .entry)) (rebuildCall direction columns rows (now (strips .entry)) (length (now (pixels .entry)))) ⌝ }
+    ensures again { λ r. ⌜ Again direction columns rows (now (strips .entry)) (now (pixels .entry)) (now (pixels .exit)) ⌝ }
 {
     if !side_in_range(columns) {
         return refused(2);

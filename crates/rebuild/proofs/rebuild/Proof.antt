@@ -10,6 +10,7 @@ use lib.ListN.{length}
 use Rattle.model.specs.Lent.{upTo, sideBound}
 use Rattle.model.specs.Calls.{stripsWell, pixelsAfter}
 use Rattle.rebuild.specs.Answer.{rebuildAnswer}
+use Rattle.rebuild.proofs.Again.{after-again}
 use Rattle.rebuild.proofs.Outcomes.{side-range, refused-columns, refused-rows, refused-strips, refused-room, given-set}
 use borrow.Author.Needs.{needs}
 use Rattle.rebuild.proofs.rebuild.Statement.{statement}
@@ -25,7 +26,8 @@ returns : tie.Need-returns
 returns c =
     let a = c .before .before .before .before .args in
     let out = refused-columns (a .direction) (a .columns) (a .rows) (a .strips .now) (length (a .pixels .now)) (sym (c .before .before .side-in-range .ensures) ∙ not-true _ (c .before .if1 .taken)) in
-    (c .refused .ensures ∙ ap rebuildAnswer (sym out), ap (pixelsAfter (a .pixels .now)) (sym out))
+    let left = ap (pixelsAfter (a .pixels .now)) (sym out) in
+    (c .refused .ensures ∙ ap rebuildAnswer (sym out), (left, after-again _ _ _ _ _ _ left))
 
 side-in-range-requires-2 : tie.Need-side-in-range-requires-2
 side-in-range-requires-2 c κs = search needs
@@ -37,7 +39,8 @@ returns-2 : tie.Need-returns-2
 returns-2 c =
     let a = c .before .before .before .before .before .before .args in
     let out = refused-rows (a .direction) (a .columns) (a .rows) (a .strips .now) (length (a .pixels .now)) (sym (c .before .before .side-in-range2 .ensures) ∙ not-true _ (c .before .if2 .taken)) in
-    (c .refused2 .ensures ∙ ap rebuildAnswer (sym out), ap (pixelsAfter (a .pixels .now)) (sym out))
+    let left = ap (pixelsAfter (a .pixels .now)) (sym out) in
+    (c .refused2 .ensures ∙ ap rebuildAnswer (sym out), (left, after-again _ _ _ _ _ _ left))
 
 -- both sides are in range
 sides : (c : tie.Else2)
@@ -58,7 +61,8 @@ returns-3 : tie.Need-returns-3
 returns-3 c =
     let a = c .before .before .before .before .before .before .before .before .args in
     let out = refused-strips (a .direction) (a .columns) (a .rows) (a .strips .now) (length (a .pixels .now)) (sides (c .before .before .before) .0) (sides (c .before .before .before) .1) (sym (c .before .before .strips-well .ensures) ∙ not-true _ (c .before .if3 .taken)) in
-    (c .refused3 .ensures ∙ ap rebuildAnswer (sym out), ap (pixelsAfter (a .pixels .now)) (sym out))
+    let left = ap (pixelsAfter (a .pixels .now)) (sym out) in
+    (c .refused3 .ensures ∙ ap rebuildAnswer (sym out), (left, after-again _ _ _ _ _ _ left))
 
 -- some piece of the box has just these strips
 well : (c : tie.Else3)
@@ -81,7 +85,8 @@ returns-4 : tie.Need-returns-4
 returns-4 c =
     let a = c .before .before .before .before .before .before .before .before .before .args in
     let out = refused-room (a .direction) (a .columns) (a .rows) (a .strips .now) (length (a .pixels .now)) (sides (c .before .before .before .before) .0) (sides (c .before .before .before .before) .1) (well (c .before .before)) (c .before .if4 .taken) in
-    (c .refused4 .ensures ∙ ap rebuildAnswer (sym out), ap (pixelsAfter (a .pixels .now)) (sym out))
+    let left = ap (pixelsAfter (a .pixels .now)) (sym out) in
+    (c .refused4 .ensures ∙ ap rebuildAnswer (sym out), (left, after-again _ _ _ _ _ _ left))
 
 write-requires : tie.Need-write-requires
 write-requires c κs =
@@ -104,7 +109,8 @@ returns-5 c =
     let a = c .before .before .before .before .before .before .before .before .before .before .before .before .args in
     let s = sides (c .before .before .before .before .before .before .before) in
     let out = given-set (a .direction) (a .columns) (a .rows) (a .strips .now) (length (a .pixels .now)) (s .0) (s .1) (well (c .before .before .before .before .before)) (c .before .before .before .before .if4 .left) in
-    (ap rebuildAnswer (sym out), c .before .before .write .ensures ∙ ap (pixelsAfter (a .pixels .now)) (sym out))
+    let left = c .before .before .write .ensures ∙ ap (pixelsAfter (a .pixels .now)) (sym out) in
+    (ap rebuildAnswer (sym out), (left, after-again _ _ _ _ _ _ left))
 
 pub rebuild-spec : {M : Type 1} → statement M
 rebuild-spec =
