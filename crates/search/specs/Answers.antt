@@ -1,0 +1,40 @@
+-- The answers of this crate's calls, by the model's outcomes: a refusal keeps its number and places. Assumes nothing.
+use mathlib.Core.Bool.{true, not, _||_}
+use mathlib.Core.List.{List, [], _∷_, _++_}
+use mathlib.Core.Option.{Option, none, some}
+use Prim.Native.Nat.{ℕ}
+use lib.Dec.{ltb}
+use Rattle.model.specs.Layout.{allowed}
+use Rattle.model.specs.Search.{Best}
+use Rattle.model.specs.Lent.{Lent, jobOf}
+use Rattle.model.specs.Refusal.{Outcome, refused, given, Cause, cause, refusalOf, noSuchPiece, emptyLine}
+use Rattle.model.specs.Calls.{someTurnWrong, outsideCause}
+use Rattle.model.specs.declared.Turn.{Turn}
+use Rattle.sums.specs.Answers.{lengthCauses}
+use Rattle.search.specs.declared.Found.{Found}
+use Rattle.search.specs.declared.Found.the-variants.{At, Nothing}
+use Rattle.search.specs.declared.SearchAnswer.{SearchAnswer}
+
+-- the sum and the coordinate that has it, or nothing
+abbrev pub foundAnswer : Option Best → Found
+foundAnswer none = Nothing
+foundAnswer (some b) = At (b .sum) (b .at)
+
+-- where nothing is found, no inside corner lies on the line
+abbrev pub bestAnswer : Found → SearchAnswer
+bestAnswer (At sum at) = SearchAnswer.Best sum at
+bestAnswer Nothing = SearchAnswer.Refused (refusalOf (cause emptyLine true))
+
+-- a line search
+abbrev pub searchAnswer : Outcome Best → SearchAnswer
+searchAnswer (refused r) = SearchAnswer.Refused r
+searchAnswer (given b) = SearchAnswer.Best (b .sum) (b .at)
+
+-- the causes that the layout and the piece have: 9, 10
+abbrev pub pieceCauses : Lent → List (List ℕ) → ℕ → Turn → List Cause
+pieceCauses l es i t =
+    cause noSuchPiece (someTurnWrong (jobOf l) es || not (ltb i (l .count)) || not (allowed (jobOf l) i t)) ∷ outsideCause l es ∷ []
+
+-- those before the line's: 8, 7, 7, 2, 9, 10
+abbrev pub searchCauses : Lent → List (List ℕ) → List ℕ → ℕ → Turn → List Cause
+searchCauses l es ws i t = lengthCauses l es ws ++ pieceCauses l es i t

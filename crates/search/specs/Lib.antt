@@ -1,0 +1,6 @@
+-- What the contracts of this crate cite beside the model's definitions.
+pub mod Answers
+pub mod Added
+pub mod Boxes
+pub mod Ready
+pub mod Summing
