@@ -1,0 +1,5 @@
+-- What the contracts of this crate cite beside the model's definitions.
+pub mod Trials
+pub mod Ready
+pub mod Steps
+pub mod Answers
