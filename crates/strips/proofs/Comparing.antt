@@ -41,7 +41,7 @@ stand-out : (t : Strip) (ts : List Strip) (store : List (List ℕ)) (at : ℕ) �
 unfolding sameEntries
 stand-out t ts store at h = rw (none-there t store at h, drop-of-length-le store h)
 
-stand-step : (t : Strip) (ts : List Strip) (store : List (List ℕ)) (at : ℕ)
+pub stand-step : (t : Strip) (ts : List Strip) (store : List (List ℕ)) (at : ℕ)
     → standIn (t ∷ ts) store at ≡ (sameNumbers (getD store at []) (stripEntry t) && standIn ts store (at + 1))
 stand-step t ts store at =
     ⊎-elim (λ h. stand-in t ts store at (ltb-true at (length store) h)) (λ h. stand-out t ts store at (ltb-false at (length store) h))
