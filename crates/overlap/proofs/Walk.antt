@@ -15,7 +15,7 @@ use borrow.Author.Tests.{ltb-true, lt-ltb, eqb-true, eq-eqb}
 use Rattle.model.specs.Strip.{Strip}
 use Rattle.model.proofs.Bounded.{any-witness, any-from}
 use Rattle.model.proofs.Tests.{and-left, and-right, and-both, fails}
-use Rattle.overlap.specs.Meet.{stripAt, begin, Ordered, Crossing, Passed, Skipped, baseOf, shifted, meet, stretchesShare, clearAt, clearBelow, depthBelow}
+use Rattle.overlap.specs.Meet.{stripAt, begin, Ordered, Crossing, Passed, Skipped, shiftBound, baseOf, shifted, meet, stretchesShare, clearAt, clearBelow, depthBelow}
 use Rattle.overlap.specs.declared.Corner.{Corner}
 use Rattle.overlap.proofs.Firsts.{below-or, first-found, first-unique, first-cut}
 
@@ -124,8 +124,8 @@ module _ (es : List (List ℕ)) (x : ℕ) (fs : List (List ℕ)) (y : ℕ) (i j 
             (eq-or-lt-of-le (q .1)),
       )
 
--- a strip that begins 256 before a place ends before it, and so does every earlier one
-pub skip-to : (es : List (List ℕ)) (x place m n : ℕ) → Ordered es → m + 1 ≡ n → n ≤ length es → begin (stripAt es m) + x + 256 ≤ place
+-- a strip that begins 1,280 before a place ends before it also when it is shifted, and so does every earlier one
+pub skip-to : (es : List (List ℕ)) (x place m n : ℕ) → Ordered es → m + 1 ≡ n → n ≤ length es → begin (stripAt es m) + x + 1280 ≤ place
     → Skipped es x place n
 skip-to es x place m n o e l h =
     record { within = l; before = λ k b. omega (arith, o .order k m (omega arith) (omega arith), o .short k (omega arith)) }
@@ -141,6 +141,18 @@ module _ (es : List (List ℕ)) (x : ℕ) (fs : List (List ℕ)) (y : ℕ) (i j 
   second-skipped o p s k l m n c =
       let q = p k l m n c in
       (q .0, by-contra j l (λ (b : l < j). omega (arith, s .before l b, o .order i k (q .0) m, c .first-before)))
+
+module _ (es : List (List ℕ)) (x : ℕ) (fs : List (List ℕ)) (y : ℕ) (i j : ℕ) where
+  -- and so they are when the second is shifted on
+  pub first-onwards : Ordered fs → Skipped es x (begin (stripAt fs 0) + y) i → (m : ℕ) → Passed es x fs (y + m) i 0
+  first-onwards o s m k l a b c =
+      (by-contra i k (λ (d : k < i). omega (arith, s .before k d, o .order 0 l (omega arith) b, c .second-before)), omega arith)
+
+  pub second-onwards : Ordered es → Skipped fs y (begin (stripAt es i) + x) j → (m : ℕ) → m ≤ shiftBound → Passed es x fs (y + m) i 0
+      → Passed es x fs (y + m) i j
+  second-onwards o s m h p k l a b c =
+      let q = p k l a b c in
+      (q .0, by-contra j l (λ (d : l < j). omega (arith, s .before l d, o .order i k (q .0) a, c .first-before)))
 
 -- where one stretch is passed whole, they hold no common pixel
 pub passed-free : (es : List (List ℕ)) (u : Corner) (fs : List (List ℕ)) (v : Corner) (x y : ℕ) → x ≡ baseOf u → y ≡ baseOf v
@@ -193,6 +205,15 @@ module _ (es : List (List ℕ)) (u : Corner) (fs : List (List ℕ)) (v : Corner)
       ∙ ap (stretchesShare es u fs) (sym (shifted-more r (k - r) v))
       ∙ b (k - r) (omega arith))
       (below-or k r)
+
+  -- what is free at r and at every further shift up to q is so at every shift from r on
+  pub free-more : (r q : ℕ) → ((k : ℕ) → k ≤ q → stretchesShare es u fs (shifted k (shifted r v)) ≡ false)
+      → (k : ℕ) → r ≤ k → k < r + q + 1 → stretchesShare es u fs (shifted k v) ≡ false
+  free-more r q a k l m =
+      let e : r + (k - r) ≡ k = omega arith in
+      ap (λ (z : ℕ). stretchesShare es u fs (shifted z v)) (sym e)
+      ∙ ap (stretchesShare es u fs) (sym (shifted-more r (k - r) v))
+      ∙ a (k - r) (omega arith)
 
   -- covered below r and free at r: r is the least shift
   pub clear-first : (bound r : ℕ) → r ≤ bound → ((k : ℕ) → k < r → stretchesShare es u fs (shifted k v) ≡ true)

@@ -12,6 +12,8 @@ use Rattle.model.specs.Buffer.{entryStrip}
 use Rattle.model.specs.Strip.{Strip}
 use Rattle.overlap.specs.declared.Corner.{Corner}
 use Rattle.overlap.specs.declared.Heads.{Heads}
+use Rattle.overlap.specs.declared.Shifts.{Shifts}
+use Rattle.overlap.specs.declared.Leeway.{Leeway}
 use Rattle.overlap.specs.declared.Span.{Span}
 
 -- the strip at place i of a stretch
@@ -61,16 +63,17 @@ pub record Crossing (s : Strip) (x : ℕ) (t : Strip) (y : ℕ) : Type 0 where
 abbrev pub Passed : List (List ℕ) → ℕ → List (List ℕ) → ℕ → ℕ → ℕ → Type 0
 Passed es x fs y i j = (k l : ℕ) → k < length es → l < length fs → Crossing (stripAt es k) x (stripAt fs l) y → (i ≤ k) × (j ≤ l)
 
--- where a walk over two stretches may begin
+-- where a walk over two stretches may begin, also when the second is shifted along the strips
 pub record Begun (es : List (List ℕ)) (x : ℕ) (fs : List (List ℕ)) (y : ℕ) (r : Heads) : Type 0 where
   pub first : r .first ≤ length es
   pub second : r .second ≤ length fs
   pub passed : Passed es x fs y (r .first) (r .second)
+  pub onwards : (m : ℕ) → m ≤ shiftBound → Passed es x fs (y + m) (r .first) (r .second)
 
--- the first r strips of a stretch, whose piece's corner adds `base`, end before a place
+-- the first r strips of a stretch, whose piece's corner adds `base`, end before a place, also when they are shifted
 pub record Skipped (es : List (List ℕ)) (base place r : ℕ) : Type 0 where
   pub within : r ≤ length es
-  pub before : (k : ℕ) → k < r → begin (stripAt es k) + base + stripAt es k .count ≤ place
+  pub before : (k : ℕ) → k < r → begin (stripAt es k) + base + stripAt es k .count + shiftBound ≤ place
 
 -- the corner shifted by k along the strips
 abbrev pub shifted : ℕ → Corner → Corner
@@ -107,8 +110,19 @@ abbrev pub penaltyBelow : List (List ℕ) → List (List ℕ) → Corner → Lis
 penaltyBelow rows columns u rows′ columns′ v bound =
     min (depthBelow rows u rows′ v bound) (depthBelow columns (crossed u) columns′ (crossed v) bound)
 
--- what one walk tells of the shifts of the second: at all below r they hold a common pixel; at 0 they hold none if r is 0
-pub record Slid (es : List (List ℕ)) (u : Corner) (fs : List (List ℕ)) (v : Corner) (limit r : ℕ) : Type 0 where
-  pub within : r ≤ limit
-  pub covered : (k : ℕ) → k < r → stretchesShare es u fs (shifted k v) ≡ true
-  pub free : r ≡ 0 → stretchesShare es u fs v ≡ false
+-- what one walk tells of the shifts of the second: at all below r's shift they hold a common pixel; if that is 0 they hold none at
+-- any up to r's room
+pub record Slid (es : List (List ℕ)) (u : Corner) (fs : List (List ℕ)) (v : Corner) (limit : ℕ) (r : Leeway) : Type 0 where
+  pub within : r .shift ≤ limit
+  pub covered : (k : ℕ) → k < r .shift → stretchesShare es u fs (shifted k v) ≡ true
+  pub free : r .shift ≡ 0 → (k : ℕ) → k ≤ r .room → stretchesShare es u fs (shifted k v) ≡ false
+  pub short : r .room < limit
+
+-- the least shift of the second below the bound at which they hold no common pixel, or the bound, and shifts from it on at which they
+-- hold none either
+pub record ClearStretch (es : List (List ℕ)) (u : Corner) (fs : List (List ℕ)) (v : Corner) (bound : ℕ) (r : Shifts) : Type 0 where
+  pub least : r .first ≡ clearBelow es u fs v bound
+  pub some : r .first < bound → r .first < r .end
+  pub order : r .first ≤ r .end
+  pub within : r .end ≤ bound
+  pub free : (k : ℕ) → r .first ≤ k → k < r .end → stretchesShare es u fs (shifted k v) ≡ false

@@ -2,9 +2,9 @@
 // strips for each piece, as (line, first, count) ordered by line, then first, all row strips or all column strips, and each
 // piece's corner. The contracts speak of the lent lists; proofs/Shapes.antt says what they come to for the strips of a pixel set.
 ghost use mathlib.Core.Path.{_≡_};
-ghost use Prim.Native.Nat.{_+_, _<_, _≤_};
+ghost use Prim.Native.Nat.{_+_, _<_, _≤_, min};
 ghost use lib.ListN.{length};
-ghost use Rattle.overlap.specs.Meet.{stripAt, baseOf, Ordered, Near, NearShifted, shiftBound, SpanOf, Skipped, Begun, Slid, stretchesShare, clearBelow, depthBelow, penaltyBelow};
+ghost use Rattle.overlap.specs.Meet.{stripAt, baseOf, Ordered, Near, NearShifted, shiftBound, SpanOf, Skipped, Begun, Slid, ClearStretch, stretchesShare, clearBelow, depthBelow, penaltyBelow};
 
 // A piece's corner as its strips' direction sees it: the coordinate along them and the one across them.
 pub struct Corner {
@@ -22,6 +22,28 @@ pub struct Span {
 pub struct Heads {
     pub first: usize,
     pub second: usize,
+}
+
+// What a walk tells of the shifts of a piece: how far it has to go at least, and if that is 0, how far it may.
+pub struct Leeway {
+    pub shift: u32,
+    pub room: u32,
+}
+
+// Shifts from a first one up to an end.
+pub struct Shifts {
+    pub first: u32,
+    pub end: u32,
+}
+
+// The lesser of two numbers.
+fn lesser(x: u32, y: u32) -> u32
+    ensures { λ r. ⌜ r ≡ min x y ⌝ }
+{
+    if x < y {
+        return x;
+    }
+    y
 }
 
 // A corner's part of a place in that order.
@@ -52,7 +74,7 @@ fn span_at(s: &[[u8; 3]], i: usize, from: u32) -> Span
 }
 
 // How many strips of a stretch lie in lines before a place, as far as jumps tell: a jump passes as many strips as lines are missing,
-// so one is enough where each line has one strip.
+// so one is enough where each line has one strip. What is passed lies so far before the place that no shift brings it there.
 fn skip(s: &[[u8; 3]], from: u32, place: u32) -> usize
     requires { ⌜ Ordered (now s) ⌝ ∗ ⌜ from < 2000000000 ⌝ }
     ensures { λ r. ⌜ Skipped (now (s .entry)) from place r ⌝ }
@@ -71,7 +93,7 @@ fn skip(s: &[[u8; 3]], from: u32, place: u32) -> usize
             return i;
         }
         let q = span_at(s, i + lines - 1, from);
-        if place < q.begin + 256 {
+        if place < q.begin + 1280 {
             return i;
         }
         i += lines;
@@ -128,8 +150,9 @@ pub fn shares(a: &[[u8; 3]], u: Corner, b: &[[u8; 3]], v: Corner) -> bool
 }
 
 // How far the second piece has at least to be shifted along the strips until they share no pixel, as far as one walk tells: each
-// pair of strips that meet pushes it on, and the walk goes on with the shift so far.
-fn slide(a: &[[u8; 3]], u: Corner, b: &[[u8; 3]], v: Corner, limit: u32) -> u32
+// pair of strips that meet pushes it on, and the walk goes on with the shift so far. If none meet, the walk also tells how far
+// the second piece may be shifted before one of its strips meets the next one.
+fn slide(a: &[[u8; 3]], u: Corner, b: &[[u8; 3]], v: Corner, limit: u32) -> Leeway
     requires { ⌜ Ordered (now a) ⌝ ∗ ⌜ Ordered (now b) ⌝ ∗ ⌜ NearShifted u × NearShifted v ⌝ ∗ ⌜ (0 < limit) × (limit ≤ shiftBound) ⌝ }
     ensures { λ r. ⌜ Slid (now (a .entry)) u (now (b .entry)) v limit r ⌝ }
 {
@@ -137,33 +160,36 @@ fn slide(a: &[[u8; 3]], u: Corner, b: &[[u8; 3]], v: Corner, limit: u32) -> u32
     let y = base(v);
     let start = walk_start(a, x, b, y);
     let mut t = 0;
+    let mut room = limit - 1;
     let mut i = start.first;
     let mut j = start.second;
     while i < a.len() {
         if b.len() <= j {
-            return t;
+            return Leeway { shift: t, room };
         }
         let p = span_at(a, i, x);
         let q = span_at(b, j, y + t);
         if p.end <= q.begin {
             i += 1;
         } else if q.end <= p.begin {
+            room = lesser(room, p.begin - q.end);
             j += 1;
         } else {
             t += p.end - q.begin;
             if limit <= t {
-                return limit;
+                return Leeway { shift: limit, room };
             }
             i += 1;
         }
     }
-    t
+    Leeway { shift: t, room }
 }
 
-// The least shift of the second piece along the strips at which they share no pixel, if it is below the bound, else the bound.
-pub fn clear_below(a: &[[u8; 3]], u: Corner, b: &[[u8; 3]], v: Corner, bound: u32) -> u32
+// The least shift of the second piece along the strips at which they share no pixel, if it is below the bound, else the bound, and
+// the shifts from it on at which the last walk finds none shared.
+pub fn clear_stretch(a: &[[u8; 3]], u: Corner, b: &[[u8; 3]], v: Corner, bound: u32) -> Shifts
     requires { ⌜ Ordered (now a) ⌝ ∗ ⌜ Ordered (now b) ⌝ ∗ ⌜ Near u × Near v ⌝ ∗ ⌜ bound ≤ shiftBound ⌝ }
-    ensures { λ r. ⌜ r ≡ clearBelow (now (a .entry)) u (now (b .entry)) v bound ⌝ }
+    ensures { λ r. ⌜ ClearStretch (now (a .entry)) u (now (b .entry)) v bound r ⌝ }
 {
     let mut r = 0;
     while r < bound {
@@ -172,12 +198,27 @@ pub fn clear_below(a: &[[u8; 3]], u: Corner, b: &[[u8; 3]], v: Corner, bound: u3
             across: v.across,
         };
         let s = slide(a, u, b, w, bound - r);
-        if s == 0 {
-            return r;
+        if s.shift == 0 {
+            return Shifts {
+                first: r,
+                end: r + s.room + 1,
+            };
         }
-        r += s;
+        r += s.shift;
     }
-    bound
+    Shifts {
+        first: bound,
+        end: bound,
+    }
+}
+
+// The least shift of the second piece along the strips at which they share no pixel, if it is below the bound, else the bound.
+pub fn clear_below(a: &[[u8; 3]], u: Corner, b: &[[u8; 3]], v: Corner, bound: u32) -> u32
+    requires { ⌜ Ordered (now a) ⌝ ∗ ⌜ Ordered (now b) ⌝ ∗ ⌜ Near u × Near v ⌝ ∗ ⌜ bound ≤ shiftBound ⌝ }
+    ensures { λ r. ⌜ r ≡ clearBelow (now (a .entry)) u (now (b .entry)) v bound ⌝ }
+{
+    let s = clear_stretch(a, u, b, v, bound);
+    s.first
 }
 
 // The depth along the strips if it is below the bound, else the bound: the least shift of either piece at which they share no

@@ -10,8 +10,9 @@ use lib.ListN.{length, getD}
 use borrow.Author.Tests.{not-true, not-false}
 use Rattle.model.specs.Bounded.{firstFrom}
 use Rattle.model.proofs.Tests.{same-tests, decided, fails}
-use Rattle.overlap.specs.Meet.{stripAt, shifted, stretchesShare, clearAt, clearBelow}
+use Rattle.overlap.specs.Meet.{stripAt, shifted, stretchesShare, clearAt, clearBelow, ClearStretch}
 use Rattle.overlap.specs.declared.Corner.{Corner}
+use Rattle.overlap.specs.declared.Shifts.{Shifts}
 use Rattle.overlap.proofs.Firsts.{FirstBelow, first-found, first-unique}
 use Rattle.overlap.proofs.Walk.{Meeting, meet-facts, facts-meet, meet-share, StripsMeet, share-meet}
 use Rattle.penalty_line.specs.declared.Pair.{Pair}
@@ -185,19 +186,26 @@ module _ (es fs : List (List ℕ)) (p : Pair) where
       (λ (t : takenAt es fs p k ≡ false). absurd (omega (arith, first-now (ahead k) bound (ahead-now k ∙ ap not t))))
       (decided (takenAt es fs p k))
 
-  -- the least free place from k on
-  pub free-first : (k limit shift : ℕ) → k ≤ limit → shift ≡ clearBelow fs (standingAt p) es (movedAt p k) (limit - k)
-      → FreeFrom (takenAt es fs p) k limit (k + shift)
+  -- the least free place from k on, and free places from it on
+  pub free-first : (k limit : ℕ) (s : Shifts) → k ≤ limit → ClearStretch fs (standingAt p) es (movedAt p k) (limit - k) s
+      → FreeFrom (takenAt es fs p) k limit record { at = k + s .first; end = k + s .end }
   unfolding clearBelow
-  free-first k limit shift l e =
+  free-first k limit s l c =
       let w : FirstBelow (ahead k) (limit - k) (firstFrom (ahead k) 0 (limit - k)) = first-found (ahead k) (limit - k) in
-      let h = w .within in
+      let e = c .least in
+      let order = c .order in
+      let high = c .within in
       record {
         low = omega arith;
+        order = omega arith;
         high = omega arith;
+        some = λ a. let b = c .some (omega arith) in omega arith;
         before =
             λ j a b.
             let z : k + (j - k) ≡ j = omega arith in
             ap (takenAt es fs p) (sym z) ∙ not-false _ (w .before (j - k) (omega arith));
-        free = λ a. ap (λ (z : ℕ). takenAt es fs p (k + z)) e ∙ not-true _ (w .passing (omega arith));
+        free =
+            λ j a b.
+            let z : k + (j - k) ≡ j = omega arith in
+            ap (takenAt es fs p) (sym z) ∙ c .free (j - k) (omega arith) (omega arith);
       }

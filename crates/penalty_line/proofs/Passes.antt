@@ -9,9 +9,10 @@ use native.Mathlib.Numerals.{add-one}
 use native.Mathlib.Omega.{arith}
 use lib.ListN.{length, getD, set, length-set}
 use lib.Seq.{getD-set-same, getD-set-other}
-use Rattle.model.proofs.Tests.{clash}
+use Rattle.model.proofs.Tests.{clash, decided}
 use Rattle.overlap.proofs.Firsts.{below-or}
-use Rattle.penalty_line.specs.Line.{FreeFrom, Lowered, farther, risen, fallen}
+use Rattle.penalty_line.specs.declared.Gap.{Gap}
+use Rattle.penalty_line.specs.Line.{Outside, FreeFrom, Capped, Lowered, LastAbove, FirstAbove, farther, risen, fallen}
 
 -- the places below k are done, each as P says, and the others are as they were
 pub record Passing (P : ℕ → ℕ → Type 0) (xs ys : List ℕ) (k : ℕ) : Type 0 where
@@ -74,9 +75,52 @@ module _ (P : ℕ → ℕ → Type 0) (xs ys : List ℕ) (k : ℕ) where
 
 -- ── lowering ──
 
+-- what a place holds after a stretch from `from` on is lowered
+abbrev pub cappedAt : ℕ → ℕ → List ℕ → ℕ → ℕ → Type 0
+cappedAt r from xs j y = (j < from → y ≡ getD xs j 0) × (from ≤ j → y ≡ min (getD xs j 0) r)
+
+-- places before the stretch are passed at first
+pub cap-none : (r from : ℕ) (xs : List ℕ) → Passing (cappedAt r from xs) xs xs from
+cap-none r from xs =
+    pass-over (cappedAt r from xs) xs xs 0 from (omega arith) (λ j a b. (λ l. refl, λ l. absurd (omega arith)))
+    (pass-none (cappedAt r from xs) xs)
+
+-- a place of the stretch is lowered
+pub cap-set : (r from : ℕ) (xs ys : List ℕ) (k v : ℕ) → from ≤ k → k < length ys → v ≡ min (getD ys k 0) r → Passing (cappedAt r from xs) xs ys k
+    → Passing (cappedAt r from xs) xs (set ys k v) (k + 1)
+cap-set r from xs ys k v a l e w =
+    let o = w .rest k (omega arith) in
+    pass-set (cappedAt r from xs) xs ys k v l (λ b. absurd (omega arith), λ b. omega arith) w
+
+-- all places of the stretch are passed
+pub cap-done : (r from end : ℕ) (xs ys : List ℕ) (k : ℕ) → k ≡ end → from ≤ end → Passing (cappedAt r from xs) xs ys k → Capped r from end xs ys
+cap-done r from end xs ys k e l w =
+    record {
+      same = w .same;
+      before = λ j a. w .done j (omega arith) .0 a;
+      inside = λ j a b. w .done j (omega arith) .1 a;
+      after = λ j a. w .rest j (omega arith);
+    }
+
 -- what a lowered place holds
 abbrev pub loweredAt : (ℕ → Bool) → ℕ → List ℕ → ℕ → ℕ → Type 0
 loweredAt f r xs j y = (f j ≡ true → y ≡ getD xs j 0) × (f j ≡ false → y ≡ min (getD xs j 0) r)
+
+-- a place at r or below holds what it held
+low-stays : (f : ℕ → Bool) (r : ℕ) (xs : List ℕ) (j : ℕ) → getD xs j 0 ≤ r → loweredAt f r xs j (getD xs j 0)
+low-stays f r xs j l = (λ t. refl, λ t. omega arith)
+
+-- a search for free places goes on
+pub gap-goes-on : (f : ℕ → Bool) (k limit : ℕ) (g : Gap) → FreeFrom f k limit g → k < limit → k < g .end
+gap-goes-on f k limit g free l =
+    let low = free .low in
+    let order = free .order in
+    ⊎-elim (λ (b : g .at < limit). let m = free .some b in omega arith) (λ (b : limit ≤ g .at). omega arith) (below-or (g .at) limit)
+
+-- places before the stretch are passed at first
+pub lower-none : (f : ℕ → Bool) (r : ℕ) (xs : List ℕ) (from end : ℕ) → Outside xs r from end → Passing (loweredAt f r xs) xs xs from
+lower-none f r xs from end out =
+    pass-over (loweredAt f r xs) xs xs 0 from (omega arith) (λ j a b. low-stays f r xs j (out .before j b)) (pass-none (loweredAt f r xs) xs)
 
 module _ (f : ℕ → Bool) (r : ℕ) (xs ys : List ℕ) (k : ℕ) where
   -- a place at r or below stays as it is
@@ -90,23 +134,97 @@ module _ (f : ℕ → Bool) (r : ℕ) (xs ys : List ℕ) (k : ℕ) where
       let m : getD xs j 0 ≤ r = subst (λ (i : ℕ). getD xs i 0 ≤ r) z low in
       (λ t. refl, λ t. omega arith)) w
 
-  -- places at which a pixel is shared stay as they are
-  pub lower-jump : (limit at : ℕ) → FreeFrom f k limit at → Passing (loweredAt f r xs) xs ys k → Passing (loweredAt f r xs) xs ys at
-  lower-jump limit at free w =
-      pass-over (loweredAt f r xs) xs ys k at (free .low) (λ j a b. (λ t. refl, λ t. absurd (clash (free .before j a b) t))) w
+  -- places at which a pixel is shared stay as they are, and the free ones after them are lowered
+  pub lower-gap : (limit : ℕ) (g : Gap) {zs : List ℕ} → FreeFrom f k limit g → Capped r (g .at) (g .end) ys zs → Passing (loweredAt f r xs) xs ys k
+      → Passing (loweredAt f r xs) xs zs (g .end)
+  lower-gap limit g {zs} free cap w =
+      let order = free .order in
+      let q =
+      pass-over (loweredAt f r xs) xs ys k (g .at) (free .low) (λ j a b. (λ t. refl, λ t. absurd (clash (free .before j a b) t))) w in
+      record {
+        same = cap .same ∙ q .same;
+        done =
+            λ j b.
+            ⊎-elim (λ (c : j < g .at). subst (loweredAt f r xs j) (sym (cap .before j c)) (q .done j c))
+            (λ (c : g .at ≤ j).
+            let e = cap .inside j c b in
+            let o = q .rest j c in
+            (λ t. absurd (clash t (free .free j c b)), λ t. omega arith))
+            (below-or j (g .at));
+        rest = λ j b. cap .after j b ∙ q .rest j (omega arith);
+      }
 
-  -- a free place is lowered
-  pub lower-set : (limit at v : ℕ) → FreeFrom f k limit at → at < limit → at < length ys → v ≡ min (getD ys at 0) r
-      → Passing (loweredAt f r xs) xs ys k → Passing (loweredAt f r xs) xs (set ys at v) (at + 1)
-  lower-set limit at v free l m e w =
-      let q = lower-jump limit at free w in
-      let same = q .rest at (omega arith) in
-      pass-set (loweredAt f r xs) xs ys at v m (λ t. absurd (clash t (free .free l)), λ t. omega arith) q
+  -- the places of the stretch are passed
+  pub lower-done : (from end : ℕ) → Outside xs r from end → end ≤ k → k ≤ length xs → Passing (loweredAt f r xs) xs ys k → Lowered f r xs ys
+  lower-done from end out l m w =
+      let q = pass-over (loweredAt f r xs) xs ys k (length xs) m (λ j a b. low-stays f r xs j (out .after j (omega arith) b)) w in
+      record { same = q .same; kept = λ j b. q .done j b .0; cut = λ j b. q .done j b .1 }
 
-  -- all places are passed
-  pub lower-done : length xs ≤ k → Passing (loweredAt f r xs) xs ys k → Lowered f r xs ys
-  lower-done l w =
-      record { same = w .same; kept = λ j m. w .done j (omega arith) .0; cut = λ j m. w .done j (omega arith) .1 }
+-- lowering lowers
+pub lowered-most : (f : ℕ → Bool) (r : ℕ) (xs ys : List ℕ) → Lowered f r xs ys → (k : ℕ) → k < length xs → getD ys k 0 ≤ getD xs k 0
+lowered-most f r xs ys w k l =
+    ⊎-elim
+    (λ (t : f k ≡ true). let e = w .kept k l t in omega arith)
+    (λ (t : f k ≡ false). let e = w .cut k l t in omega arith)
+    (decided (f k))
+
+-- ── outside of a stretch ──
+
+-- the whole line has nothing outside
+pub outside-none : (xs : List ℕ) (r : ℕ) → Outside xs r 0 (length xs)
+outside-none xs r =
+    record { order = omega arith; last = omega arith; before = λ k l. absurd (omega arith); after = λ k l m. absurd (omega arith) }
+
+module _ (xs : List ℕ) (r from end : ℕ) (out : Outside xs r from end) where
+  -- for a larger number
+  pub outside-more : Outside xs (r + 1) from end
+  outside-more =
+      record {
+        order = out .order;
+        last = out .last;
+        before = λ k l. let h = out .before k l in omega arith;
+        after = λ k l m. let h = out .after k l m in omega arith;
+      }
+
+  -- for a lowered line
+  pub outside-lowered : (f : ℕ → Bool) (v : ℕ) (ys : List ℕ) → Lowered f v xs ys → Outside ys r from end
+  outside-lowered f v ys w =
+      let e = w .same in
+      let o = out .order in
+      let a = out .last in
+      record {
+        order = o;
+        last = omega arith;
+        before = λ k l. let h = out .before k l in let m = lowered-most f v xs ys w k (omega arith) in omega arith;
+        after = λ k l b. let h = out .after k l (omega arith) in let m = lowered-most f v xs ys w k (omega arith) in omega arith;
+      }
+
+  -- up to the last place above r
+  pub outside-last : (q : ℕ) → LastAbove xs r from end q → Outside xs r from q
+  outside-last q w =
+      let h = w .high in
+      let a = out .last in
+      record {
+        order = w .low;
+        last = omega arith;
+        before = out .before;
+        after = λ k l m. ⊎-elim (λ (b : k < end). w .after k l b) (λ (b : end ≤ k). out .after k b m) (below-or k end);
+      }
+
+  -- from the first place above r on
+  pub outside-first : (q : ℕ) → FirstAbove xs r from end q → Outside xs r q end
+  outside-first q w =
+      record {
+        order = w .high;
+        last = out .last;
+        before = λ k l. ⊎-elim (λ (b : k < from). out .before k b) (λ (b : from ≤ k). w .before k b l) (below-or k from);
+        after = out .after;
+      }
+
+  -- an empty stretch: no place is above r
+  pub outside-all : end ≤ from → (k : ℕ) → k < length xs → getD xs k 0 ≤ r
+  outside-all e k l =
+      ⊎-elim (λ (b : k < from). out .before k b) (λ (b : from ≤ k). out .after k (omega arith) l) (below-or k from)
 
 -- ── distances ──
 

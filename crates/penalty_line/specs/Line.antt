@@ -8,6 +8,7 @@ use lib.ListN.{length, getD}
 use Rattle.model.specs.Bounded.{firstFrom}
 use Rattle.overlap.specs.Meet.{stripAt, stretchesShare, depthBelow}
 use Rattle.overlap.specs.declared.Corner.{Corner}
+use Rattle.penalty_line.specs.declared.Gap.{Gap}
 use Rattle.penalty_line.specs.declared.Pair.{Pair}
 
 -- the standing piece's corner
@@ -76,19 +77,35 @@ pub record Boxed (es fs : List (List ℕ)) (p : Pair) (n : ℕ) : Type 0 where
 abbrev pub Grounded : (ℕ → Bool) → List ℕ → Type 0
 Grounded f xs = (k : ℕ) → k < length xs → 0 < getD xs k 0 → f k ≡ true
 
+-- outside of a stretch no place is above r
+pub record Outside (xs : List ℕ) (r from end : ℕ) : Type 0 where
+  pub order : from ≤ end
+  pub last : end ≤ length xs
+  pub before : (k : ℕ) → k < from → getD xs k 0 ≤ r
+  pub after : (k : ℕ) → end ≤ k → k < length xs → getD xs k 0 ≤ r
+
 -- ── what the functions do ──
 
--- r is the least place from k on that fails the test, or the limit
-pub record FreeFrom (f : ℕ → Bool) (k limit r : ℕ) : Type 0 where
-  pub low : k ≤ r
-  pub high : r ≤ limit
-  pub before : (j : ℕ) → k ≤ j → j < r → f j ≡ true
-  pub free : r < limit → f r ≡ false
+-- r begins at the least place from k on that fails the test, or at the limit, and all of its places fail
+pub record FreeFrom (f : ℕ → Bool) (k limit : ℕ) (r : Gap) : Type 0 where
+  pub low : k ≤ r .at
+  pub order : r .at ≤ r .end
+  pub high : r .end ≤ limit
+  pub some : r .at < limit → r .at < r .end
+  pub before : (j : ℕ) → k ≤ j → j < r .at → f j ≡ true
+  pub free : (j : ℕ) → r .at ≤ j → j < r .end → f j ≡ false
 
 -- every place holds v
 pub record Filled (v : ℕ) (xs ys : List ℕ) : Type 0 where
   pub same : length ys ≡ length xs
   pub at : (k : ℕ) → k < length xs → getD ys k 0 ≡ v
+
+-- every place of a stretch is lowered to r
+pub record Capped (r from end : ℕ) (xs ys : List ℕ) : Type 0 where
+  pub same : length ys ≡ length xs
+  pub before : (k : ℕ) → k < from → getD ys k 0 ≡ getD xs k 0
+  pub inside : (k : ℕ) → from ≤ k → k < end → getD ys k 0 ≡ min (getD xs k 0) r
+  pub after : (k : ℕ) → end ≤ k → getD ys k 0 ≡ getD xs k 0
 
 -- every place that fails the test is lowered to r
 pub record Lowered (f : ℕ → Bool) (r : ℕ) (xs ys : List ℕ) : Type 0 where
@@ -121,10 +138,19 @@ pub record Fallen (xs ys : List ℕ) : Type 0 where
   pub same : length ys ≡ length xs
   pub at : (k : ℕ) → k < length xs → getD ys k 0 ≡ min (getD xs k 0) (fallen xs k (length xs - k))
 
--- whether some place is above r
-pub record Above (xs : List ℕ) (r : ℕ) (q : Bool) : Type 0 where
-  pub some : q ≡ true → r < 255
-  pub none : q ≡ false → (k : ℕ) → k < length xs → getD xs k 0 ≤ r
+-- q is the end of the last place from `from` up to `end` that is above r, or `from`
+pub record LastAbove (xs : List ℕ) (r from end q : ℕ) : Type 0 where
+  pub low : from ≤ q
+  pub high : q ≤ end
+  pub after : (k : ℕ) → q ≤ k → k < end → getD xs k 0 ≤ r
+  pub above : from < q → r < getD xs (q - 1) 0
+
+-- q is the first place from `from` up to `end` that is above r, or `end`
+pub record FirstAbove (xs : List ℕ) (r from end q : ℕ) : Type 0 where
+  pub low : from ≤ q
+  pub high : q ≤ end
+  pub before : (k : ℕ) → from ≤ k → k < q → getD xs k 0 ≤ r
+  pub above : q < end → r < getD xs q 0
 
 -- every place is lowered to the depth across
 pub record Levelled (es fs : List (List ℕ)) (p : Pair) (xs ys : List ℕ) : Type 0 where

@@ -6,7 +6,7 @@ ghost use mathlib.Core.Path.{_≡_};
 ghost use Prim.Native.Nat.{_<_, _≤_, min};
 ghost use lib.ListN.{length};
 ghost use Rattle.overlap.specs.Meet.{Ordered};
-ghost use Rattle.penalty_line.specs.Line.{takenAt, penaltyLine, Reach, Boxed, Grounded, FreeFrom, Filled, Lowered, farther, Risen, Fallen, Above, Levelled};
+ghost use Rattle.penalty_line.specs.Line.{takenAt, penaltyLine, Reach, Boxed, Grounded, FreeFrom, Filled, Capped, Lowered, farther, Risen, Fallen, LastAbove, FirstAbove, Outside, Levelled};
 use overlap::Corner;
 
 // The line of two pieces: the standing piece's coordinate along it, and both pieces' coordinates across it.
@@ -14,6 +14,12 @@ pub struct Pair {
     pub bias: u32,
     pub moved: u32,
     pub standing: u32,
+}
+
+// A stretch of free places: where it begins and ends.
+pub struct Gap {
+    pub at: usize,
+    pub end: usize,
 }
 
 // A byte as a number that sums fit in.
@@ -46,8 +52,8 @@ fn distance(x: u8, d: u8) -> u8
     d + 1
 }
 
-// The least place from k on at which the pieces share no pixel, or the limit.
-fn free_from(a: &[[u8; 3]], b: &[[u8; 3]], p: Pair, k: usize, limit: usize) -> usize
+// The least place from k on at which the pieces share no pixel, or the limit, and how far the places from it on are known to be free.
+fn free_from(a: &[[u8; 3]], b: &[[u8; 3]], p: Pair, k: usize, limit: usize) -> Gap
     requires { ⌜ Ordered (now a) ⌝ ∗ ⌜ Ordered (now b) ⌝ ∗ ⌜ Reach p limit ⌝ ∗ ⌜ k ≤ limit ⌝ }
     ensures { λ r. ⌜ FreeFrom (takenAt (now (a .entry)) (now (b .entry)) p) k limit r ⌝ }
 {
@@ -59,8 +65,11 @@ fn free_from(a: &[[u8; 3]], b: &[[u8; 3]], p: Pair, k: usize, limit: usize) -> u
         along: k as u32,
         across: p.moved,
     };
-    let shift = overlap::clear_below(b, standing, a, moved, (limit - k) as u32);
-    k + shift as usize
+    let shifts = overlap::clear_stretch(b, standing, a, moved, (limit - k) as u32);
+    Gap {
+        at: k + shifts.first as usize,
+        end: k + shifts.end as usize,
+    }
 }
 
 // Sets every place of the line to the largest byte.
@@ -74,23 +83,32 @@ fn fill(line: &mut [u8])
     }
 }
 
+// Lowers to r every place of a stretch.
+fn cap(r: u8, from: usize, end: usize, line: &mut [u8])
+    requires { ⌜ (from ≤ end) × (end ≤ length (now line)) ⌝ }
+    ensures { λ x. ⌜ Capped r from end (now (line .entry)) (now (line .exit)) ⌝ }
+{
+    let mut k = from;
+    while k < end {
+        line[k] = lesser(line[k], r);
+        k += 1;
+    }
+}
+
 // Lowers to r every place at which the pieces share no pixel. Places at r or below stay as they are either way, so they are passed
-// without a look at the strips.
-fn lower(a: &[[u8; 3]], b: &[[u8; 3]], p: Pair, r: u8, line: &mut [u8])
-    requires { ⌜ Ordered (now a) ⌝ ∗ ⌜ Ordered (now b) ⌝ ∗ ⌜ Reach p (length (now line)) ⌝ }
+// without a look at the strips, and so is all that lies outside of the stretch in which places are above r.
+fn lower(a: &[[u8; 3]], b: &[[u8; 3]], p: Pair, r: u8, from: usize, end: usize, line: &mut [u8])
+    requires { ⌜ Ordered (now a) ⌝ ∗ ⌜ Ordered (now b) ⌝ ∗ ⌜ Reach p (length (now line)) ⌝ ∗ ⌜ Outside (now line) r from end ⌝ }
     ensures { λ x. ⌜ Lowered (takenAt (now (a .entry)) (now (b .entry)) p) r (now (line .entry)) (now (line .exit)) ⌝ }
 {
-    let mut k = 0;
-    while k < line.len() {
+    let mut k = from;
+    while k < end {
         if line[k] <= r {
             k += 1;
         } else {
-            let at = free_from(a, b, p, k, line.len());
-            if line.len() <= at {
-                return;
-            }
-            line[at] = lesser(line[at], r);
-            k = at + 1;
+            let gap = free_from(a, b, p, k, end);
+            cap(r, gap.at, gap.end, line);
+            k = gap.end;
         }
     }
 }
@@ -121,18 +139,34 @@ fn fall(line: &mut [u8])
     }
 }
 
-// Whether some place of the line is above r.
-fn above(line: &[u8], r: u8) -> bool
-    ensures { λ q. ⌜ Above (now (line .entry)) r q ⌝ }
+// The end of the last place of a stretch that is above r, or the stretch's begin.
+fn last_above(line: &[u8], r: u8, from: usize, end: usize) -> usize
+    requires { ⌜ (from ≤ end) × (end ≤ length (now line)) ⌝ }
+    ensures { λ q. ⌜ LastAbove (now (line .entry)) r from end q ⌝ }
 {
-    let mut k = 0;
-    while k < line.len() {
+    let mut k = end;
+    while from < k {
+        if r < line[k - 1] {
+            return k;
+        }
+        k -= 1;
+    }
+    k
+}
+
+// The first place of a stretch that is above r, or the stretch's end.
+fn first_above(line: &[u8], r: u8, from: usize, end: usize) -> usize
+    requires { ⌜ (from ≤ end) × (end ≤ length (now line)) ⌝ }
+    ensures { λ q. ⌜ FirstAbove (now (line .entry)) r from end q ⌝ }
+{
+    let mut k = from;
+    while k < end {
         if r < line[k] {
-            return true;
+            return k;
         }
         k += 1;
     }
-    false
+    k
 }
 
 // Lowers every place to the depth across: level r lowers to r the places that a shift across by r parts, until none is above r.
@@ -141,22 +175,26 @@ fn levels(a: &[[u8; 3]], b: &[[u8; 3]], p: Pair, line: &mut [u8])
     ensures { λ r. ⌜ Levelled (now (a .entry)) (now (b .entry)) p (now (line .entry)) (now (line .exit)) ⌝ }
 {
     let mut r: u8 = 1;
+    let mut from = 0;
+    let mut end = line.len();
     while r < 255 {
-        if !above(line, r) {
+        end = last_above(line, r, from, end);
+        if end <= from {
             return;
         }
+        from = first_above(line, r, from, end);
         let raised = Pair {
             bias: p.bias,
             moved: p.moved + wide(r),
             standing: p.standing,
         };
-        lower(a, b, raised, r, line);
+        lower(a, b, raised, r, from, end, line);
         let sunk = Pair {
             bias: p.bias,
             moved: p.moved,
             standing: p.standing + wide(r),
         };
-        lower(a, b, sunk, r, line);
+        lower(a, b, sunk, r, from, end, line);
         r += 1;
     }
 }
@@ -167,7 +205,8 @@ pub fn penalties(a: &[[u8; 3]], b: &[[u8; 3]], p: Pair, line: &mut [u8])
     ensures { λ r. ⌜ now (line .exit) ≡ penaltyLine (now (a .entry)) (now (b .entry)) p (length (now (line .entry))) ⌝ }
 {
     fill(line);
-    lower(a, b, p, 0, line);
+    let end = line.len();
+    lower(a, b, p, 0, 0, end, line);
     rise(line);
     fall(line);
     levels(a, b, p, line);

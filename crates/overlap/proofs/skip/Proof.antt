@@ -1,4 +1,5 @@
--- `overlap::skip`: a strip that begins 256 before a place ends before it, and so does every earlier one. Assumes nothing.
+-- `overlap::skip`: a strip that begins 1,280 before a place ends before it also when it is shifted, and so does every earlier one.
+-- Assumes nothing.
 use Prim.Native.Nat.{_+_, _-_, _/_}
 use native.Mathlib.Nat.{pos-of-ne-zero}
 use native.Mathlib.Omega.{arith}

@@ -1,7 +1,7 @@
--- `overlap::slide`: while nothing was pushed, no two strips that cross are passed; and each shift smaller than the one so far has
--- two strips that cross: a pair that meets goes on meeting until the shift takes the second strip past the end of the first.
--- Each turn passes a strip. Assumes nothing.
-use mathlib.Core.Path.{_≡_, sym, _∙_}
+-- `overlap::slide`: while nothing was pushed, no two strips that cross are passed, nor any that cross at a shift up to the room; and
+-- each shift smaller than the one so far has two strips that cross: a pair that meets goes on meeting until the shift takes the
+-- second strip past the end of the first. Each turn passes a strip. Assumes nothing.
+use mathlib.Core.Path.{_≡_}
 use mathlib.Core.Logic.{inl, inr}
 use Prim.Native.Nat.{ℕ, _+_, _-_, _≤_, _<_}
 use native.Mathlib.Omega.{arith}
@@ -13,11 +13,12 @@ use Rattle.overlap.proofs.slide.Statement.{statement}
 use Rattle.overlap.proofs.slide.Tie as tie
 
 abbrev Inv-loop : tie.InvT-loop
-Inv-loop a b limit x y t₀ i₀ j₀ t i j =
-    (i ≤ length a) × (j ≤ length b) × (t < limit) × (t ≡ 0 → Passed a x b y i j) × ((m : ℕ) → m < t → Found a x b (y + m))
+Inv-loop a b limit x y t₀ room₀ i₀ j₀ t room i j =
+    (i ≤ length a) × (j ≤ length b) × (t < limit) × (t ≡ 0 → (m : ℕ) → m ≤ room → Passed a x b (y + m) i j)
+    × ((m : ℕ) → m < t → Found a x b (y + m)) × (room < limit)
 
 abbrev μ-loop : tie.MeasureT-loop
-μ-loop a b limit x y t₀ i₀ j₀ t i j = (length a - i) + (length b - j)
+μ-loop a b limit x y t₀ room₀ i₀ j₀ t room i j = (length a - i) + (length b - j)
 
 base-requires : tie.Need-base-requires Inv-loop μ-loop
 base-requires c κs = search needs
@@ -30,8 +31,14 @@ walk-start-requires c κs =
     let p = c .before .before .pre in
     (p .0, (p .1 .0, omega (arith, c .before .base .ensures, c .base2 .ensures, c .before .before .pre .1 .1 .0)))
 
+sub-room : tie.Need-sub-room Inv-loop μ-loop
+sub-room c = let few = c .before .before .before .pre .1 .1 .1 in omega arith
+
 loop-holds : tie.Need-loop-holds Inv-loop μ-loop
-loop-holds c = let w = c .walk-start .ensures in (w .first, w .second, omega arith, λ e. w .passed, λ m l. absurd (omega arith))
+loop-holds c =
+    let w = c .walk-start .ensures in
+    let few = c .before .before .before .pre .1 .1 .1 in
+    (w .first, w .second, omega arith, λ e m l. w .onwards m (omega arith), λ m l. absurd (omega arith), omega arith)
 
 returns : tie.Need-returns Inv-loop μ-loop
 returns c =
@@ -45,7 +52,11 @@ returns c =
           λ k l.
           found-shares (s .a .now) (s .u) (s .b .now) (shifted k (s .v)) (c .before .before .before .before .before .base .result) (c .before .before .before .before .base2 .result + k) (c .before .before .before .before .before .base .ensures)
           (omega (arith, c .before .before .before .before .base2 .ensures)) (omega arith) (omega arith) (inv .4 k l);
-      free = λ e. passed-free (s .a .now) (s .u) (s .b .now) (s .v) _ _ (c .before .before .before .before .before .base .ensures) (c .before .before .before .before .base2 .ensures) _ _ (inr (c .if1 .taken)) (inv .3 e);
+      free =
+          λ e k l.
+          passed-free (s .a .now) (s .u) (s .b .now) (shifted k (s .v)) (c .before .before .before .before .before .base .result) (c .before .before .before .before .base2 .result + k) (c .before .before .before .before .before .base .ensures)
+          (omega (arith, c .before .before .before .before .base2 .ensures)) _ _ (inr (c .if1 .taken)) (inv .3 e k l);
+      short = inv .5;
     }
 
 span-at-requires : tie.Need-span-at-requires Inv-loop μ-loop
@@ -72,29 +83,38 @@ loop-again c =
       omega arith,
       omega arith,
       w .inv .2,
-      λ e. pass-first (s .a .now) (c .before .before .before .before .before .before .before .before .before .before .base .result) (s .b .now) (c .before .before .before .before .before .before .before .before .before .base2 .result) (w .i) (w .j) (c .before .before .before .before .before .before .before .before .before .before .before .pre .1 .0) (w .inv .3 e)
+      λ e m l. pass-first (s .a .now) (c .before .before .before .before .before .before .before .before .before .before .base .result) (s .b .now) (c .before .before .before .before .before .before .before .before .before .base2 .result + m) (w .i) (w .j) (c .before .before .before .before .before .before .before .before .before .before .before .pre .1 .0) (w .inv .3 e m l)
           (omega (arith, c .if2 .taken)),
       w .inv .4,
+      w .inv .5,
     )
 
+lesser-requires : tie.Need-lesser-requires Inv-loop μ-loop
+lesser-requires c κs = search needs
+
 add-j : tie.Need-add-j Inv-loop μ-loop
-add-j c = omega arith
+add-j c = let l = c .before .before .before .before .before .before .before .before .before .before .before .if1 .left in let few = c .before .before .before .before .before .before .before .before .before .before .before .before .before .before .before .before .before .good .1 .1 .0 .0 in omega arith
 
 loop-less-2 : tie.Need-loop-less-2 Inv-loop μ-loop
-loop-less-2 c = omega arith
+loop-less-2 c = let l = c .before .before .before .before .before .before .before .before .before .before .before .if1 .left in omega arith
 
 loop-again-2 : tie.Need-loop-again-2 Inv-loop μ-loop
 loop-again-2 c =
-    let p = c .before .before .before .before .before .before .before .span-at .ensures in
-    let q = c .before .before .before .before .before .before .span-at2 .ensures in
-    let s = c .before .before .before .before .before .before .before .before .before .before .before .before .before .before .args in
-    let w = c .before .before .before .before .before .before .before .before .before .before .loop in (
+    let p = c .before .before .before .before .before .before .before .before .before .before .span-at .ensures in
+    let q = c .before .before .before .before .before .before .before .before .before .span-at2 .ensures in
+    let s = c .before .before .before .before .before .before .before .before .before .before .before .before .before .before .before .before .before .args in
+    let w = c .before .before .before .before .before .before .before .before .before .before .before .before .before .loop in
+    let least = c .lesser .ensures in
+    let apart = c .before .before .before .if3 .taken in
+    let more = c .before .before .before .before .before .before .before .before .before .before .before .if1 .left in
+    let short = w .inv .5 in (
       omega arith,
       omega arith,
       w .inv .2,
-      λ e. pass-second (s .a .now) (c .before .before .before .before .before .before .before .before .before .before .before .before .before .base .result) (s .b .now) (c .before .before .before .before .before .before .before .before .before .before .before .before .base2 .result) (w .i) (w .j) (c .before .before .before .before .before .before .before .before .before .before .before .before .before .before .pre .0) (w .inv .3 e)
-          (omega (arith, c .if3 .taken)),
+      λ e m l. pass-second (s .a .now) (c .before .before .before .before .before .before .before .before .before .before .before .before .before .before .before .before .base .result) (s .b .now) (c .before .before .before .before .before .before .before .before .before .before .before .before .before .before .before .base2 .result + m) (w .i) (w .j) (c .before .before .before .before .before .before .before .before .before .before .before .before .before .before .before .before .before .pre .0) (w .inv .3 e m (omega arith))
+          (omega arith),
       w .inv .4,
+      omega arith,
     )
 
 sub-t : tie.Need-sub-t Inv-loop μ-loop
@@ -124,6 +144,7 @@ returns-2 c =
           found-shares (s .a .now) (s .u) (s .b .now) (shifted k (s .v)) (c .before .before .before .before .before .before .before .before .before .before .before .before .before .before .before .before .base .result) (c .before .before .before .before .before .before .before .before .before .before .before .before .before .before .before .base2 .result + k) (c .before .before .before .before .before .before .before .before .before .before .before .before .before .before .before .before .base .ensures)
           (omega (arith, c .before .before .before .before .before .before .before .before .before .before .before .before .before .before .before .base2 .ensures)) (omega arith) (omega arith) (found k (omega (arith, c .if4 .taken)));
       free = λ e. absurd (omega arith);
+      short = w .inv .5;
     }
 
 add-i-2 : tie.Need-add-i-2 Inv-loop μ-loop
@@ -146,6 +167,7 @@ loop-again-3 c =
       c .if4 .left,
       λ e. absurd (omega (arith, c .before .before .before .before .before .before .if2 .left)),
       λ m l. found m (omega arith),
+      w .inv .5,
     )
 
 returns-3 : tie.Need-returns-3 Inv-loop μ-loop
@@ -160,7 +182,11 @@ returns-3 c =
           λ k l.
           found-shares (s .a .now) (s .u) (s .b .now) (shifted k (s .v)) (c .before .before .before .before .base .result) (c .before .before .before .base2 .result + k) (c .before .before .before .before .base .ensures)
           (omega (arith, c .before .before .before .base2 .ensures)) (omega arith) (omega arith) (inv .4 k l);
-      free = λ e. passed-free (s .a .now) (s .u) (s .b .now) (s .v) _ _ (c .before .before .before .before .base .ensures) (c .before .before .before .base2 .ensures) _ _ (inl (c .loop-test .left)) (inv .3 e);
+      free =
+          λ e k l.
+          passed-free (s .a .now) (s .u) (s .b .now) (shifted k (s .v)) (c .before .before .before .before .base .result) (c .before .before .before .base2 .result + k) (c .before .before .before .before .base .ensures)
+          (omega (arith, c .before .before .before .base2 .ensures)) _ _ (inl (c .loop-test .left)) (inv .3 e k l);
+      short = inv .5;
     }
 
 pub slide-spec : {M : Type 1} → statement M
@@ -172,6 +198,7 @@ slide-spec =
     base-requires
     base-requires-2
     walk-start-requires
+    sub-room
     loop-holds
     returns
     span-at-requires
@@ -180,6 +207,7 @@ slide-spec =
     add-i
     loop-less
     loop-again
+    lesser-requires
     add-j
     loop-less-2
     loop-again-2

@@ -1,10 +1,11 @@
--- `overlap::walk_start`: strips that end before the other stretch begins cross none of its strips. Assumes nothing.
+-- `overlap::walk_start`: strips that end before the other stretch begins cross none of its strips, also when the second is shifted.
+-- Assumes nothing.
 use mathlib.Core.Path.{subst}
 use Prim.Native.Nat.{ℕ}
 use native.Mathlib.Omega.{arith}
 use borrow.Author.Needs.{needs}
 use Rattle.overlap.specs.Meet.{Skipped}
-use Rattle.overlap.proofs.Walk.{first-skipped, second-skipped}
+use Rattle.overlap.proofs.Walk.{first-skipped, second-skipped, first-onwards, second-onwards}
 use Rattle.overlap.proofs.walk_start.Statement.{statement}
 use Rattle.overlap.proofs.walk_start.Tie as tie
 
@@ -20,13 +21,14 @@ skip-requires c κs = search needs
 returns-2 : tie.Need-returns-2
 returns-2 c =
     let s = c .before .before .before .before .args in
-    let w = c .before .skip .ensures in
+    let i = c .before .skip .result in
+    let o = c .before .before .before .before .pre .1 .0 in
+    let w = subst (λ (p : ℕ). Skipped (s .a .now) (s .x) p i) (c .before .before .span-at .ensures .begins) (c .before .skip .ensures) in
     record {
-      first = w .within;
+      first = c .before .skip .ensures .within;
       second = omega arith;
-      passed =
-          first-skipped (s .a .now) (s .x) (s .b .now) (s .y) _ 0 (c .before .before .before .before .pre .1 .0)
-          (subst (λ (p : ℕ). Skipped (s .a .now) (s .x) p (c .before .skip .result)) (c .before .before .span-at .ensures .begins) w);
+      passed = first-skipped (s .a .now) (s .x) (s .b .now) (s .y) i 0 o w;
+      onwards = λ m l. first-onwards (s .a .now) (s .x) (s .b .now) (s .y) i 0 o w m;
     }
 
 span-at-requires-2 : tie.Need-span-at-requires-2
@@ -40,14 +42,19 @@ returns-3 c =
     let s = c .before .before .before .before .before .before .args in
     let i = c .before .before .before .skip .result in
     let j = c .skip2 .result in
+    let o = c .before .before .before .before .before .before .pre .0 in
+    let o′ = c .before .before .before .before .before .before .pre .1 .0 in
+    let w = subst (λ (p : ℕ). Skipped (s .a .now) (s .x) p i) (c .before .before .before .before .span-at .ensures .begins) (c .before .before .before .skip .ensures) in
+    let v = subst (λ (p : ℕ). Skipped (s .b .now) (s .y) p j) (c .before .span-at2 .ensures .begins) (c .skip2 .ensures) in
     record {
       first = c .before .before .before .skip .ensures .within;
       second = c .skip2 .ensures .within;
       passed =
-          second-skipped (s .a .now) (s .x) (s .b .now) (s .y) i j (c .before .before .before .before .before .before .pre .0)
-          (first-skipped (s .a .now) (s .x) (s .b .now) (s .y) i j (c .before .before .before .before .before .before .pre .1 .0)
-          (subst (λ (p : ℕ). Skipped (s .a .now) (s .x) p i) (c .before .before .before .before .span-at .ensures .begins) (c .before .before .before .skip .ensures)))
-          (subst (λ (p : ℕ). Skipped (s .b .now) (s .y) p j) (c .before .span-at2 .ensures .begins) (c .skip2 .ensures));
+          second-skipped (s .a .now) (s .x) (s .b .now) (s .y) i j o (first-skipped (s .a .now) (s .x) (s .b .now) (s .y) i j o′ w) v;
+      onwards =
+          λ m l.
+          second-onwards (s .a .now) (s .x) (s .b .now) (s .y) i j o v m l
+          (first-onwards (s .a .now) (s .x) (s .b .now) (s .y) i j o′ w m);
     }
 
 pub walk-start-spec : {M : Type 1} → statement M

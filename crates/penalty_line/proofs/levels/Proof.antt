@@ -1,28 +1,30 @@
 -- `penalty_line::levels`: before level r every place holds the lesser of what it held at first and the least shift below r that parts
--- the pieces. Assumes nothing.
+-- the pieces, and outside of the stretch no place is above r. Assumes nothing.
 use mathlib.Core.Path.{_≡_, refl, _∙_}
 use Prim.Native.Nat.{ℕ, _≤_, _<_, _-_}
 use native.Mathlib.Omega.{arith}
 use borrow.Author.Needs.{needs}
-use borrow.Author.Tests.{not-true}
 use lib.ListN.{length, getD}
+use Rattle.penalty_line.specs.Line.{Outside}
+use Rattle.penalty_line.proofs.Passes.{outside-none, outside-more, outside-lowered, outside-last, outside-first, outside-all}
 use Rattle.penalty_line.proofs.Across.{LineAt, line-start, line-step, line-done}
 use Rattle.penalty_line.proofs.levels.Statement.{statement}
 use Rattle.penalty_line.proofs.levels.Tie as tie
 
 abbrev Inv-loop : tie.InvT-loop
-Inv-loop a b p line₀ r₀ line r = (r ≤ 255) × (length line ≡ length line₀) × LineAt a b p r line₀ line
+Inv-loop a b p line₀ r₀ from₀ end₀ line r from end =
+    (r ≤ 255) × (length line ≡ length line₀) × LineAt a b p r line₀ line × Outside line r from end
 
 abbrev μ-loop : tie.MeasureT-loop
-μ-loop a b p line₀ r₀ line r = 255 - r
+μ-loop a b p line₀ r₀ from₀ end₀ line r from end = 255 - r
 
 loop-holds : tie.Need-loop-holds Inv-loop μ-loop
 loop-holds c =
     let s = c .before .args in
-    (omega arith, refl, line-start (s .a .now) (s .b .now) (s .p) (s .line .now) (c .before .pre .1 .1 .1))
+    (omega arith, refl, line-start (s .a .now) (s .b .now) (s .p) (s .line .now) (c .before .pre .1 .1 .1), outside-none (s .line .now) _)
 
-above-requires : tie.Need-above-requires Inv-loop μ-loop
-above-requires c κs = search needs
+last-above-requires : tie.Need-last-above-requires Inv-loop μ-loop
+last-above-requires c κs = let out = c .before .before .loop .inv .3 in (out .order, out .last)
 
 same-length : tie.Need-same-length Inv-loop μ-loop
 same-length c = c .before .before .before .before .loop .inv .1
@@ -32,68 +34,114 @@ returns c =
     let s = c .before .before .before .before .before .before .args in
     let w = c .before .before .before .before .loop in
     let e = w .inv .1 in
+    let q = c .before .last-above .result in
+    let out = outside-last (w .line) (w .r) (w .from) (w .end) (w .inv .3) q (c .before .last-above .ensures) in
     line-done (s .a .now) (s .b .now) (s .p) (w .r) (s .line .now) (w .line) e
     (λ k l. let b = c .before .before .before .before .before .slice-known .given k in omega arith)
-    (λ k l. c .before .above .ensures .none (not-true _ (c .if1 .taken)) k (omega arith)) (w .inv .2)
+    (λ k l. outside-all (w .line) (w .r) (w .from) q out (c .if1 .taken) k (omega arith)) (w .inv .2)
+
+first-above-requires : tie.Need-first-above-requires Inv-loop μ-loop
+first-above-requires c κs =
+    let w = c .before .before .before .before .before .loop .inv in
+    let last = c .before .before .last-above .ensures in
+    let high = last .high in
+    let m = w .3 .last in
+    (last .low, omega arith)
 
 wide-requires : tie.Need-wide-requires Inv-loop μ-loop
 wide-requires c κs = search needs
 
-add-t13 : tie.Need-add-t13 Inv-loop μ-loop
-add-t13 c =
-    let p = c .before .before .before .before .before .before .before .before .pre .1 .1 .0 in
+add-t16 : tie.Need-add-t16 Inv-loop μ-loop
+add-t16 c =
+    let p = c .before .before .before .before .before .before .before .before .before .before .pre .1 .1 .0 in
     let w = c .before .wide .ensures in
     omega arith
 
 lower-requires : tie.Need-lower-requires Inv-loop μ-loop
 lower-requires c κs =
-    let p = c .before .before .before .before .before .before .before .before .before .pre in
+    let p = c .before .before .before .before .before .before .before .before .before .before .before .pre in
     let q = p .1 .1 .0 in
     let reach = q .0 in
     let w = c .before .before .wide .ensures in
-    let e = c .before .before .before .before .before .before .before .loop .inv .1 in
-    (p .0, (p .1 .0, record { bias = reach .bias; moved = omega arith; standing = reach .standing; places = omega arith }))
+    let v = c .before .before .before .before .before .before .before .before .before .loop in
+    let e = v .inv .1 in
+    let last = c .before .before .before .before .before .before .last-above in
+    let first = c .before .before .before .first-above in (
+      p .0,
+      (
+        p .1 .0,
+        (
+          record { bias = reach .bias; moved = omega arith; standing = reach .standing; places = omega arith },
+          outside-first (v .line) (v .r) (v .from) (last .result)
+              (outside-last (v .line) (v .r) (v .from) (v .end) (v .inv .3) (last .result) (last .ensures)) (first .result) (first .ensures),
+        ),
+      ),
+    )
 
 wide-requires-2 : tie.Need-wide-requires-2 Inv-loop μ-loop
 wide-requires-2 c κs = search needs
 
-add-t13-2 : tie.Need-add-t13-2 Inv-loop μ-loop
-add-t13-2 c =
-    let p = c .before .before .before .before .before .before .before .before .before .before .before .before .before .before .pre .1 .1 .0 in
+add-t16-2 : tie.Need-add-t16-2 Inv-loop μ-loop
+add-t16-2 c =
+    let p = c .before .before .before .before .before .before .before .before .before .before .before .before .before .before .before .before .pre .1 .1 .0 in
     let w = c .before .wide2 .ensures in
     omega arith
 
 lower-requires-2 : tie.Need-lower-requires-2 Inv-loop μ-loop
 lower-requires-2 c κs =
-    let p = c .before .before .before .before .before .before .before .before .before .before .before .before .before .before .before .pre in
+    let p = c .before .before .before .before .before .before .before .before .before .before .before .before .before .before .before .before .before .pre in
     let q = p .1 .1 .0 in
     let reach = q .0 in
     let w = c .before .before .wide2 .ensures in
-    let e = c .before .before .before .before .before .before .before .before .before .before .before .before .before .loop .inv .1 in
-    let f = c .before .before .before .before .before .lower .ensures .same in
-    (p .0, (p .1 .0, record { bias = reach .bias; moved = reach .moved; standing = omega arith; places = omega arith }))
+    let u = c .before .before .before .before .before .before .before .before .wide .ensures in
+    let v = c .before .before .before .before .before .before .before .before .before .before .before .before .before .before .before .loop in
+    let e = v .inv .1 in
+    let up = c .before .before .before .before .before .lower in
+    let f = up .ensures .same in
+    let last = c .before .before .before .before .before .before .before .before .before .before .before .before .last-above in
+    let first = c .before .before .before .before .before .before .before .before .before .first-above in (
+      p .0,
+      (
+        p .1 .0,
+        (
+          record { bias = reach .bias; moved = omega arith; standing = omega arith; places = omega arith },
+          outside-lowered (v .line) (v .r) (first .result) (last .result)
+              (outside-first (v .line) (v .r) (v .from) (last .result)
+              (outside-last (v .line) (v .r) (v .from) (v .end) (v .inv .3) (last .result) (last .ensures)) (first .result) (first .ensures))
+              _ _ _ (up .ensures),
+        ),
+      ),
+    )
 
 add-r : tie.Need-add-r Inv-loop μ-loop
 add-r c =
-    let l = c .before .before .before .before .before .before .before .before .before .before .before .before .before .before .before .loop-test .taken in
+    let l = c .before .before .before .before .before .before .before .before .before .before .before .before .before .before .before .before .before .loop-test .taken in
     omega arith
 
 loop-less : tie.Need-loop-less Inv-loop μ-loop
 loop-less c =
-    let l = c .before .before .before .before .before .before .before .before .before .before .before .before .before .before .before .loop-test .taken in
+    let l = c .before .before .before .before .before .before .before .before .before .before .before .before .before .before .before .before .before .loop-test .taken in
     omega arith
 
 loop-again : tie.Need-loop-again Inv-loop μ-loop
 loop-again c =
-    let s = c .before .before .before .before .before .before .before .before .before .before .before .before .before .before .before .before .before .before .args in
-    let w = c .before .before .before .before .before .before .before .before .before .before .before .before .before .before .before .before .loop in
-    let l = c .before .before .before .before .before .before .before .before .before .before .before .before .before .before .before .loop-test .taken in
+    let s = c .before .before .before .before .before .before .before .before .before .before .before .before .before .before .before .before .before .before .before .before .args in
+    let w = c .before .before .before .before .before .before .before .before .before .before .before .before .before .before .before .before .before .before .loop in
+    let l = c .before .before .before .before .before .before .before .before .before .before .before .before .before .before .before .before .before .loop-test .taken in
     let up = c .before .before .before .before .before .before .before .before .lower .ensures in
-    let down = c .before .before .lower2 .ensures in (
+    let down = c .before .before .lower2 .ensures in
+    let last = c .before .before .before .before .before .before .before .before .before .before .before .before .before .before .before .last-above in
+    let first = c .before .before .before .before .before .before .before .before .before .before .before .before .first-above in (
       omega arith,
       down .same ∙ up .same ∙ w .inv .1,
       line-step (s .a .now) (s .b .now) (s .p) (w .r) (c .before .before .before .before .before .before .before .before .before .before .before .wide .result) (c .before .before .before .before .before .wide2 .result) (s .line .now) (w .line)
           (c .before .before .before .before .before .before .before .before .before .before .before .wide .ensures .0) (c .before .before .before .before .before .wide2 .ensures .0) (w .inv .1) up down (w .inv .2),
+      outside-more _ (w .r) (first .result) (last .result)
+          (outside-lowered _ (w .r) (first .result) (last .result)
+          (outside-lowered (w .line) (w .r) (first .result) (last .result)
+          (outside-first (w .line) (w .r) (w .from) (last .result)
+          (outside-last (w .line) (w .r) (w .from) (w .end) (w .inv .3) (last .result) (last .ensures)) (first .result) (first .ensures))
+          _ _ _ up) _ _ _ down),
     )
 
 same-length-2 : tie.Need-same-length-2 Inv-loop μ-loop
@@ -115,14 +163,15 @@ levels-spec =
     Inv-loop
     μ-loop
     loop-holds
-    above-requires
+    last-above-requires
     same-length
     returns
+    first-above-requires
     wide-requires
-    add-t13
+    add-t16
     lower-requires
     wide-requires-2
-    add-t13-2
+    add-t16-2
     lower-requires-2
     add-r
     loop-less

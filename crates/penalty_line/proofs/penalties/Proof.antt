@@ -3,6 +3,7 @@ use mathlib.Core.Path.{_≡_, _∙_}
 use native.Mathlib.Omega.{arith}
 use borrow.Author.Needs.{needs}
 use lib.ListN.{length}
+use Rattle.penalty_line.proofs.Passes.{outside-none}
 use Rattle.penalty_line.proofs.Lines.{ds-length, ds-grounded, line-whole}
 use Rattle.penalty_line.proofs.penalties.Statement.{statement}
 use Rattle.penalty_line.proofs.penalties.Tie as tie
@@ -15,7 +16,7 @@ lower-requires c κs =
     let p = c .before .before .before .before .before .before .pre in
     let reach = p .1 .1 .0 .0 in
     let e = c .before .before .before .fill .ensures .same in
-    (p .0, (p .1 .0, record { bias = reach .bias; moved = reach .moved; standing = reach .standing; places = omega arith }))
+    (p .0, (p .1 .0, (record { bias = reach .bias; moved = reach .moved; standing = reach .standing; places = omega arith }, outside-none _ _)))
 
 rise-requires : tie.Need-rise-requires
 rise-requires c κs = search needs
