@@ -1,0 +1,169 @@
+-- `guided::memory::with_column_lines` meets its contract: fresh tags name no line, the table is the layout's, and the layout at hand begins as
+-- the given one. Assumes nothing.
+use mathlib.Core.List.{List, [], _∷_, _++_}
+use mathlib.Core.Path.{_≡_, refl, sym, _∙_, ap, subst}
+use Prim.Native.Nat.{ℕ, _≤_}
+use native.Mathlib.Omega.{arith}
+use lib.ListN.{length, take, drop, replicate, length-replicate, length-append}
+use lib.Seq.{length-take-le, take-at}
+use Rattle.model.specs.Lent.{Lent, lentBy, jobOf, pieceBound}
+use Rattle.model.specs.Buffer.{layoutOf}
+use Rattle.model.specs.declared.Direction.the-variants.{Vertical}
+use Rattle.search_laws.proofs.Table.{PenaltyTable}
+use Rattle.shapes.proofs.Jobs.{sheet}
+use Rattle.sums.specs.Drawn.{Drawn}
+use Rattle.descent.specs.Ready.{LaidOut}
+use Rattle.descent.proofs.Readies.{given-length, given-laid}
+use Rattle.descent.proofs.Fresh.{tags-lent, store-fresh}
+use Rattle.guided.specs.Rounds.{Ran}
+use borrow.Author.Needs.{needs}
+use Rattle.guided.proofs.memory.with_column_lines.Statement.{statement}
+use Rattle.guided.proofs.memory.with_column_lines.Tie as tie
+
+-- the lent job
+abbrev job : tie.Start → Lent
+job s = lentBy (s .args .size) (s .args .table .now) (s .args .pixels .now)
+
+-- it has at most 64 pieces
+few : (s : tie.Start) → s .args .size .count ≤ pieceBound
+few s = sheet (job s) (s .pre .0 .well) .pieces
+
+-- the layout has an entry for each
+whole : (s : tie.Start) → length (s .args .layout .now) ≡ s .args .size .count
+whole s = given-length (job s) (s .args .layout .now) (s .args .weights .now) (s .args .budget) (s .pre .0)
+
+-- the strips and the layout
+drawn : (s : tie.Start)
+    → Drawn (job s) (s .args .rows .now) (s .args .row-starts .now) (s .args .columns .now) (s .args .column-starts .now) (s .args .layout .now)
+drawn s =
+    let tools = s .pre .1 .1 .0 in
+    let laid = given-laid (job s) (s .args .layout .now) (s .args .weights .now) (s .args .budget) (s .pre .0) in
+    record { inRows = record { laid = laid; horizontal = tools .horizontal }; vertical = tools .vertical }
+
+-- a fresh array
+abbrev fresh : List (List ℕ)
+fresh = replicate 64 (0 ∷ 0 ∷ 0 ∷ [])
+
+-- as much of it as the layout is long
+fresh-part : (n : ℕ) → n ≤ pieceBound → length (take n fresh) ≡ n
+fresh-part n l = length-take-le n fresh (let e = length-replicate {A = List ℕ} 64 (0 ∷ 0 ∷ 0 ∷ []) in omega arith)
+
+-- that part after the layout is copied
+copied-part : (s : tie.Start) (copied rest : List (List ℕ)) → copied ≡ s .args .layout .now → take (s .args .size .count) (copied ++ rest) ≡ s .args .layout .now
+copied-part s copied rest e = take-at copied rest (s .args .size .count) (ap (λ es. length es) e ∙ whole s) ∙ e
+
+-- the whole is long enough for that part
+copied-room : (s : tie.Start) (copied rest : List (List ℕ)) → copied ≡ s .args .layout .now → s .args .size .count ≤ length (copied ++ rest)
+copied-room s copied rest e =
+    let all = length-append copied rest in
+    let same : length copied ≡ length (s .args .layout .now) = ap (λ es. length es) e in
+    let pieces = whole s in
+    omega arith
+
+slot-count-requires : tie.Need-slot-count-requires
+slot-count-requires c κs = search needs
+
+slice-aggregate-fill-table : tie.Need-slice-aggregate-fill-table
+slice-aggregate-fill-table c = search needs
+
+fill-table-requires : tie.Need-fill-table-requires
+fill-table-requires c κs = let s = c .before .before .before .before .before .before .before .before .before in (record { size = s .args .size; pixels = s .args .pixels .now; drawn = drawn s }, refl)
+
+array-borrow-prefix-present : tie.Need-array-borrow-prefix-present
+array-borrow-prefix-present c = few (c .before .before .before .before .before .before .before .before .before .before .before .before)
+
+slice-aggregate-copy : tie.Need-slice-aggregate-copy
+slice-aggregate-copy c = let s = c .before .before .before .before .before .before .before .before .before .before .before .before .before in sym (fresh-part (s .args .size .count) (few s))
+
+copy-requires : tie.Need-copy-requires
+copy-requires c κs = let s = c .before .before .before .before .before .before .before .before .before .before .before .before .before in fresh-part (s .args .size .count) (few s) ∙ sym (whole s)
+
+array-borrow-prefix-present-2 : tie.Need-array-borrow-prefix-present-2
+array-borrow-prefix-present-2 c = copied-room (c .before .before .before .before .before .before .before .before .before .before .before .before .before .before .before) _ _ (c .before .copy .ensures)
+
+slice-aggregate-rounds : tie.Need-slice-aggregate-rounds
+slice-aggregate-rounds c = let s = c .before .before .before .before .before .before .before .before .before .before .before .before .before .before .before .before in sym (ap (λ es. length es) (copied-part s _ _ (c .before .before .copy .ensures)) ∙ whole s)
+
+slice-aggregate-rounds-2 : tie.Need-slice-aggregate-rounds-2
+slice-aggregate-rounds-2 c = search needs
+
+slice-aggregate-rounds-3 : tie.Need-slice-aggregate-rounds-3
+slice-aggregate-rounds-3 c = search needs
+
+array-borrow-prefix-tags : tie.Need-array-borrow-prefix-tags
+array-borrow-prefix-tags c = search needs
+
+slice-aggregate-rounds-4 : tie.Need-slice-aggregate-rounds-4
+slice-aggregate-rounds-4 c = sym (tags-lent (c .before .before .before .before .before .before .before .before .before .before .before .before .before .before .before .before .before .before .before .before .before .before .before .args .width) (c .before .before .before .before .before .before .before .before .before .before .before .before .before .before .before .before .slot-count .result) (c .before .before .before .before .before .before .before .before .before .before .before .before .before .before .before .before .slot-count .ensures))
+
+rounds-requires : tie.Need-rounds-requires
+rounds-requires c κs =
+    let s = c .before .before .before .before .before .before .before .before .before .before .before .before .before .before .before .before .before .before .before .before .before .before .before in
+    let given = s .pre .0 in
+    let penalties = c .before .before .before .before .before .before .before .before .before .before .before .before .before .fill-table .last .1 .1 .1 .1 .1 .1 .0 in
+    let present = copied-part s _ _ (c .before .before .before .before .before .before .before .before .before .copy .ensures) in
+    let table = c .before .before .before .before .before .before .before .before .before .before .before .before .before .fill-table .ensures (s .args .size) (s .args .pixels .now) (drawn s) in
+    let laid : LaidOut (job s) (s .args .layout .now) penalties =
+    record {
+      valid = given .valid;
+      written = given .written;
+      table = subst (λ n. PenaltyTable (jobOf (job s)) (layoutOf (s .args .layout .now)) n penalties) (whole s) table;
+    } in (
+      s .pre .1 .1 .0,
+      (
+        given .weights,
+        (
+          subst (λ v. LaidOut (job s) v penalties) (sym present) laid,
+          (
+            record {
+              inRows = s .pre .1 .1 .1;
+              inColumns = store-fresh Vertical (jobOf (job s)) (s .args .width) (c .before .before .before .before .before .before .before .before .before .before .before .before .before .before .before .before .slot-count .result) (c .before .before .before .before .before .before .before .before .before .before .before .before .before .before .before .before .slot-count .ensures);
+            },
+            (sym present, (s .pre .1 .0, given .few)),
+          ),
+        ),
+      ),
+    )
+
+same-length : tie.Need-same-length
+same-length c = search needs
+
+same-length-2 : tie.Need-same-length-2
+same-length-2 c = search needs
+
+same-length-3 : tie.Need-same-length-3
+same-length-3 c = search needs
+
+same-length-4 : tie.Need-same-length-4
+same-length-4 c = search needs
+
+returns : tie.Need-returns
+returns c =
+    let s = c .before .before .before .before .before .before .before .before .before .before .before .before .before .before .before .before .before .before .before .before .before .before .before .before .before .before .before .before .before .before .before .before .before .before .before in
+    let made = c .before .before .before .before .before .before .before .before .before .before .before .rounds in
+    subst
+    (λ v. Ran (job s) v (s .args .weights .now) (s .args .count) (s .args .budget) (made .result) (made .last .1 .1 .1 .1 .1 .1 .1 .1 .1 .1 .1 .0) (made .last .1 .1 .1 .1 .1 .1 .1 .1 .1 .1 .1 .1 .0))
+    (copied-part s _ _ (c .before .before .before .before .before .before .before .before .before .before .before .before .before .before .before .before .before .before .before .before .before .copy .ensures)) (made .ensures)
+
+pub with-column-lines-spec : {M : Type 1} → statement M
+with-column-lines-spec =
+    tie.close
+    (tie.spec
+    slot-count-requires
+    slice-aggregate-fill-table
+    fill-table-requires
+    array-borrow-prefix-present
+    slice-aggregate-copy
+    copy-requires
+    array-borrow-prefix-present-2
+    slice-aggregate-rounds
+    slice-aggregate-rounds-2
+    slice-aggregate-rounds-3
+    array-borrow-prefix-tags
+    slice-aggregate-rounds-4
+    rounds-requires
+    same-length
+    same-length-2
+    same-length-3
+    same-length-4
+    returns)

@@ -1,0 +1,77 @@
+// The guided run: rounds of descent with weights raised in between. Document 01, 'Descent and guidance' and 'When a call says no'.
+pub mod memory;
+pub mod rounds;
+
+use descent::memory::write_entries;
+use descent::run_causes;
+use memory::with_strips;
+use model::JobSize;
+use model::Refusal;
+use placing::CauseAnswer;
+ghost use mathlib.Core.Path.{_≡_};
+ghost use Rattle.model.specs.Guided as model;
+ghost use Rattle.model.specs.Lent.{lentBy, jobOf};
+ghost use Rattle.model.specs.Buffer.{layoutOf};
+ghost use Rattle.model.specs.Calls.{guidedCall, bestAfterRun, weightsAfterRun};
+ghost use Rattle.descent_laws.proofs.Claims.{GuidedClaims};
+ghost use Rattle.search_laws.proofs.GuidedLoop.{guidedOf};
+ghost use Rattle.guided.specs.Answers.{guidedAnswer, numbersWrong};
+
+// What a guided run comes to beside the best layout and the new weights: the best layout's plain sum, and the trials and moves of all
+// rounds.
+pub struct Run {
+    pub sum: u64,
+    pub made: u64,
+    pub moves: u64,
+}
+
+// A guided run, or why it is refused.
+pub enum GuidedAnswer {
+    Ran(Run),
+    Refused(Refusal),
+}
+
+// Whether the budget or the round count is out of range.
+fn numbers_wrong(rounds: u32, budget: u32) -> bool
+    ensures { λ r. ⌜ r ≡ numbersWrong rounds budget ⌝ }
+{
+    if 1000000000 < budget {
+        return true;
+    }
+    if rounds == 0 {
+        return true;
+    }
+    1000 < rounds
+}
+
+// A guided run of at most so many rounds, each with the budget. The layout buffer holds the best layout after it, the weight buffer the
+// new weights; on a refusal nothing is written. Demand 3's claims hold of the run and of each of its rounds.
+pub fn guided_run(
+    size: JobSize,
+    table: &[[u8; 3]],
+    pixels: &[u8],
+    layout: &mut [[u16; 3]],
+    weights: &mut [u32],
+    rounds: u32,
+    budget: u32,
+) -> GuidedAnswer
+    ensures answer { λ r. ⌜ r ≡ guidedAnswer (guidedCall (lentBy size (now (table .entry)) (now (pixels .entry))) (now (layout .entry)) (now (weights .entry)) rounds budget) ⌝ }
+    ensures layout { λ r. ⌜ now (layout .exit) ≡ bestAfterRun (now (layout .entry)) (guidedCall (lentBy size (now (table .entry)) (now (pixels .entry))) (now (layout .entry)) (now (weights .entry)) rounds budget) ⌝ }
+    ensures weights { λ r. ⌜ now (weights .exit) ≡ weightsAfterRun (now (weights .entry)) (guidedCall (lentBy size (now (table .entry)) (now (pixels .entry))) (now (layout .entry)) (now (weights .entry)) rounds budget) ⌝ }
+    ensures claims { λ r. ⌜ ((run : Run) → r ≡ GuidedAnswer.Ran run → GuidedClaims (jobOf (lentBy size (now (table .entry)) (now (pixels .entry)))) (now (weights .entry)) budget rounds (layoutOf (now (layout .entry))) (model.rounds (jobOf (lentBy size (now (table .entry)) (now (pixels .entry)))) budget rounds (now (weights .entry)) (layoutOf (now (layout .entry)))) (guidedOf (layoutOf (now (layout .exit))) (run .sum) (now (weights .exit)) (run .made) (run .moves))) ⌝ }
+{
+    match run_causes(
+        size,
+        table,
+        pixels,
+        layout,
+        weights,
+        numbers_wrong(rounds, budget),
+    ) {
+        CauseAnswer::Refused(refusal) => GuidedAnswer::Refused(refusal),
+        CauseAnswer::Passed => {
+            write_entries(layout);
+            GuidedAnswer::Ran(with_strips(size, table, pixels, rounds, budget, layout, weights))
+        }
+    }
+}
