@@ -1,0 +1,7 @@
+-- Laws that the proofs of this crate cite.
+pub mod Words
+pub mod Short
+pub mod Taken
+pub mod Printing
+pub mod Running
+pub mod Front
