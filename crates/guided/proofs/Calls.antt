@@ -10,8 +10,8 @@ use Rattle.model.specs.Layout.{Layout}
 use Rattle.model.specs.Guided.{Guided, rounds, guide}
 use Rattle.model.specs.Lent.{Lent, jobOf, upTo}
 use Rattle.model.specs.Buffer.{layoutOf, entriesOf}
-use Rattle.model.specs.Refusal.{refused, given, Cause, cause, unless, outOfRange}
-use Rattle.model.specs.Calls.{budgetBound, roundBound, someWeightWrong, jobCause, layoutLength, weightsLength, turnsCause, outsideCause, guidedCall}
+use Rattle.model.specs.Refusal.{refused, given, unless}
+use Rattle.model.specs.Calls.{budgetBound, roundBound, someWeightWrong, guidedCall}
 use Rattle.model.specs.declared.Refusal.{Refusal}
 use Rattle.model.proofs.Tests.{and-right, or-neither}
 use Rattle.text_laws.proofs.Entries.{entries-read-back}

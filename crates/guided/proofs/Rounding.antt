@@ -5,27 +5,26 @@ use mathlib.Core.List.{List}
 use mathlib.Core.Logic.{_≢_}
 use mathlib.Core.Path.{_≡_, refl, sym, _∙_, ap}
 use Prim.Native.Nat.{ℕ, _+_, _*_, _-_, _<_, _≤_}
-use native.Mathlib.Nat.{mul-le-mul}
+use native.Mathlib.Nat.{mul-le-mul, mul-le-mul-right}
 use native.Mathlib.Omega.{arith}
 use lib.Dec.{ltb}
-use lib.ListN.{length, length-map}
+use lib.ListN.{length}
 use Rattle.model.specs.Layout.{Job, Layout, plainSum}
 use Rattle.model.specs.Descent.{descend}
 use Rattle.model.specs.Guided.{raised, bestOf, guide}
 use Rattle.model.specs.Lent.{Lent, jobOf, lentWell}
-use Rattle.model.specs.Buffer.{placementOf, layoutOf, entriesOf}
+use Rattle.model.specs.Buffer.{layoutOf, entriesOf}
 use Rattle.model.specs.Calls.{budgetBound, roundBound}
-use Rattle.model.specs.declared.End.the-variants.{Clear}
-use Rattle.descent_laws.proofs.Claims.{ValidWeights, ValidLayout}
-use Rattle.descent_laws.proofs.Lent.{lent-some}
-use Rattle.search_laws.proofs.Table.{PenaltyTable}
-use Rattle.search_laws.proofs.GuidedLoop.{guiding, GuidedUnderway, guidedOf, guided-begin, guided-done, guided-clear, guided-open}
+use Rattle.model.specs.declared.End.{End}
+use Rattle.model.specs.declared.End.the-variants.{Clear, Settled, Spent}
+use Rattle.descent_laws.proofs.Claims.{ValidWeights, ValidLayout, DescentClaims}
+use Rattle.search_laws.proofs.GuidedLoop.{Guiding, guiding, guide-done, GuidedUnderway, guidedOf, guided-begin, guided-done, round-claims, guided-clear, guided-open}
 use Rattle.shapes.proofs.Jobs.{sheet}
 use Rattle.sums.specs.Table.{Weighed}
 use Rattle.descent.specs.Ready.{LaidOut, Stores}
 use Rattle.descent.specs.Steps.{descentOf}
 use Rattle.descent.specs.declared.run.Ended.{Ended}
-use Rattle.guided.specs.Rounds.{better, betterSum}
+use Rattle.guided.specs.Rounds.{better, betterSum, leftAfter, raisedAfter}
 
 -- ── the better of two layouts ──
 
@@ -33,11 +32,16 @@ use Rattle.guided.specs.Rounds.{better, betterSum}
 abbrev picked : Bool → List (List ℕ) → List (List ℕ) → List (List ℕ)
 picked b end best = elim b as (λ _. List (List ℕ)) [ true ↦ end | false ↦ best ]
 
--- it holds one of the two layouts
+-- it holds one of the two layouts, and where both are valid a valid one
 picked-layout : (b : Bool) (end best : List (List ℕ))
     → elim b as (λ _. Layout) [ true ↦ layoutOf end | false ↦ layoutOf best ] ≡ layoutOf (picked b end best)
 picked-layout true end best = refl
 picked-layout false end best = refl
+
+picked-valid : (j : Job) (b : Bool) (end best : List (List ℕ)) → ValidLayout j (layoutOf end) → ValidLayout j (layoutOf best)
+    → ValidLayout j (layoutOf (picked b end best))
+picked-valid j true end best v w = v
+picked-valid j false end best v w = w
 
 -- its plain sum is one of the two
 picked-sum : (j : Job) (b : Bool) (end best : List (List ℕ))
@@ -72,6 +76,14 @@ pub weighed : (l : Lent) {layout : List (List ℕ)} {penalties ws : List ℕ} �
     → Weighed (l .count) penalties ws
 unfolding jobOf
 weighed l well h w = record { few = sheet l well .pieces; size = h .table .size; onePerPair = w .onePerPair }
+
+-- ── the rounds that are left ──
+
+-- each round leaves fewer
+pub left-falls : (end : End) (left : ℕ) → 0 < left → leftAfter end left < left
+left-falls Clear left l = l
+left-falls Settled left l = omega arith
+left-falls Spent left l = omega arith
 
 -- ── before each round ──
 
@@ -151,27 +163,73 @@ module _ {l : Lent} {width : ℕ} {ws₀ : List ℕ} {budget count : ℕ} {v₀ 
               ∙ ap (λ b. plainSum (jobOf l) (layoutOf b)) (sym (r .bestIs))
 
           -- the best layout stands as its entries are written
-          pub round-written : entriesOf (layoutOf best′) ≡ best′
+          round-written : entriesOf (layoutOf best′) ≡ best′
           round-written = rw (r .bestIs) (picked-written (ltb plain sum) layout′ best (r .laid .written) (h .written))
 
-          -- a clear round: what the run gives
-          pub round-clear : e .end ≡ Clear
-              → guide (jobOf l) count budget ws₀ v₀ ≡ guidedOf (layoutOf best′) sum′ weights (made + e .made) (moves + e .moves)
-          round-clear c =
-              guided-clear (jobOf l) ws₀ budget count v₀ some-piece left _ sum (h .underway) (descentOf e (layoutOf layout′)) (layoutOf best′) sum′ more
-              (r .result) round-best round-sum c
+          -- demand 3's claims hold of its descent
+          round-said : DescentClaims (jobOf l) weights budget (layoutOf layout) (descentOf e (layoutOf layout′))
+          round-said =
+              round-claims (jobOf l) ws₀ budget count v₀ some-piece left _ sum (h .underway) (descentOf e (layoutOf layout′)) (layoutOf best′) sum′ more (r .result)
+              round-best round-sum
 
-          -- any other: what holds before the next
-          pub round-open : {weights′ : List ℕ} → e .end ≢ Clear → weights′ ≡ raised (jobOf l) (layoutOf layout′) weights
-              → Rounding l width ws₀ budget count v₀ layout′ best′ weights′ penalties′ rowLines′ rowTags′ columnLines′ columnTags′ sum′ (made + e .made)
-              (moves + e .moves) (left - 1)
-          round-open c w =
+          -- a clear round ends the run: what holds with no round left
+          round-clear : e .end ≡ Clear
+              → Rounding l width ws₀ budget count v₀ layout′ best′ weights penalties′ rowLines′ rowTags′ columnLines′ columnTags′ sum′ (made + e .made) (moves + e .moves) 0
+          round-clear c =
+              let s : Guiding = guiding (layoutOf layout′) weights (layoutOf best′) (made + e .made) (moves + e .moves) in
+              let few = h .underway .madeFew in
+              let within = round-said .madeWithinBudget in
+              let one : 1 * budget ≤ left * budget = mul-le-mul-right budget more in
+              let least = h .underway .movesMade in
+              let fewer = round-said .movesAtMostMade in
               record {
                 laid = r .laid;
                 stores = r .stores;
                 underway =
-                    rw w
-                    (guided-open (jobOf l) ws₀ budget count v₀ some-piece left _ sum (h .underway) (descentOf e (layoutOf layout′)) (layoutOf best′) sum′
-                    more (r .result) round-best round-sum c);
+                    record {
+                      result =
+                          guided-clear (jobOf l) ws₀ budget count v₀ some-piece left _ sum (h .underway) (descentOf e (layoutOf layout′)) (layoutOf best′) sum′
+                          more (r .result) round-best round-sum c
+                          ∙ ap (λ x. guidedOf (layoutOf best′) x weights (made + e .made) (moves + e .moves)) round-sum ∙ sym (guide-done (jobOf l) budget s);
+                      bestSumIs = round-sum;
+                      validLayout = r .laid .valid;
+                      validBest = rw (r .bestIs) (picked-valid (jobOf l) (ltb plain sum) layout′ best (r .laid .valid) (h .underway .validBest));
+                      validWeights = h .underway .validWeights;
+                      madeFew = omega arith;
+                      movesMade = omega arith;
+                    };
                 written = round-written;
               }
+
+          -- any other: what holds before the next
+          round-open : e .end ≢ Clear
+              → Rounding l width ws₀ budget count v₀ layout′ best′ (raised (jobOf l) (layoutOf layout′) weights) penalties′ rowLines′ rowTags′ columnLines′ columnTags′ sum′
+              (made + e .made) (moves + e .moves) (left - 1)
+          round-open c =
+              record {
+                laid = r .laid;
+                stores = r .stores;
+                underway =
+                    guided-open (jobOf l) ws₀ budget count v₀ some-piece left _ sum (h .underway) (descentOf e (layoutOf layout′)) (layoutOf best′) sum′ more
+                    (r .result) round-best round-sum c;
+                written = round-written;
+              }
+
+          -- by its end
+          round-at : (end : End) → e .end ≡ end
+              → Rounding l width ws₀ budget count v₀ layout′ best′ (raisedAfter (jobOf l) (layoutOf layout′) end weights) penalties′ rowLines′ rowTags′ columnLines′
+              columnTags′ sum′ (made + e .made) (moves + e .moves) (leftAfter end left)
+          round-at Clear c = round-clear c
+          round-at Settled c = round-open (λ q. never (sym c ∙ q))
+            where
+              never : Settled ≡ Clear → ⊥
+              never q = let z : _≡_ {A = ℕ} 0 1 = cc in omega arith
+          round-at Spent c = round-open (λ q. never (sym c ∙ q))
+            where
+              never : Spent ≡ Clear → ⊥
+              never q = let z : _≡_ {A = ℕ} 0 1 = cc in omega arith
+
+          -- what holds after a round
+          pub round-next : {weights′ : List ℕ} {left′ : ℕ} → weights′ ≡ raisedAfter (jobOf l) (layoutOf layout′) (e .end) weights → left′ ≡ leftAfter (e .end) left
+              → Rounding l width ws₀ budget count v₀ layout′ best′ weights′ penalties′ rowLines′ rowTags′ columnLines′ columnTags′ sum′ (made + e .made) (moves + e .moves) left′
+          round-next w m = rw (w, m) (round-at (e .end) refl)

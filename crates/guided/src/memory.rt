@@ -34,7 +34,10 @@ fn with_column_lines(
     row_lines: &mut [u8],
     row_tags: &mut [u32],
 ) -> Run
-    requires { ⌜ Given (lentBy size (now table) (now pixels)) (now layout) (now weights) budget ⌝ ∗ ⌜ count ≤ roundBound ⌝ ∗ ⌜ Tools (lentBy size (now table) (now pixels)) (now rows) (now «row_starts») (now columns) (now «column_starts») width ⌝ ∗ ⌜ Store Direction.Horizontal (jobOf (lentBy size (now table) (now pixels))) width (now «row_lines») (now «row_tags») ⌝ }
+    requires { ⌜ Given (lentBy size (now table) (now pixels)) (now layout) (now weights) budget ⌝
+        ∗ ⌜ count ≤ roundBound ⌝
+        ∗ ⌜ Tools (lentBy size (now table) (now pixels)) (now rows) (now «row_starts») (now columns) (now «column_starts») width ⌝
+        ∗ ⌜ Store Direction.Horizontal (jobOf (lentBy size (now table) (now pixels))) width (now «row_lines») (now «row_tags») ⌝ }
     ensures { λ r. ⌜ Ran (lentBy size (now (table .entry)) (now (pixels .entry))) (now (layout .entry)) (now (weights .entry)) count budget r (now (layout .exit)) (now (weights .exit)) ⌝ }
 {
     let mut lines = [0u8; 524288];
@@ -89,7 +92,10 @@ fn with_row_lines(
     layout: &mut [[u16; 3]],
     weights: &mut [u32],
 ) -> Run
-    requires { ⌜ Given (lentBy size (now table) (now pixels)) (now layout) (now weights) budget ⌝ ∗ ⌜ count ≤ roundBound ⌝ ∗ ⌜ Shapes Direction.Horizontal (jobOf (lentBy size (now table) (now pixels))) (now rows) (now «row_starts») ⌝ ∗ ⌜ Shapes Direction.Vertical (jobOf (lentBy size (now table) (now pixels))) (now columns) (now «column_starts») ⌝ }
+    requires { ⌜ Given (lentBy size (now table) (now pixels)) (now layout) (now weights) budget ⌝
+        ∗ ⌜ count ≤ roundBound ⌝
+        ∗ ⌜ Shapes Direction.Horizontal (jobOf (lentBy size (now table) (now pixels))) (now rows) (now «row_starts») ⌝
+        ∗ ⌜ Shapes Direction.Vertical (jobOf (lentBy size (now table) (now pixels))) (now columns) (now «column_starts») ⌝ }
     ensures { λ r. ⌜ Ran (lentBy size (now (table .entry)) (now (pixels .entry))) (now (layout .entry)) (now (weights .entry)) count budget r (now (layout .exit)) (now (weights .exit)) ⌝ }
 {
     let mut lines = [0u8; 524288];

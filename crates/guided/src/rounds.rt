@@ -7,13 +7,17 @@ use model::JobSize;
 use sums::table::plain_total;
 use sums::table::raise;
 ghost use mathlib.Core.Path.{_≡_};
-ghost use Prim.Native.Nat.{_≤_};
+ghost use Prim.Native.Nat.{_<_, _≤_};
 ghost use lib.ListN.{length};
+ghost use Rattle.model.specs.Layout.{Job, Layout};
+ghost use Rattle.model.specs.Guided.{isClear};
 ghost use Rattle.model.specs.Lent.{lentBy, jobOf};
 ghost use Rattle.model.specs.Calls.{budgetBound, roundBound};
 ghost use Rattle.descent_laws.proofs.Claims.{ValidWeights};
+ghost use Rattle.search_laws.proofs.Table.{PenaltyTable};
+ghost use Rattle.sums.specs.Table.{Weighed};
 ghost use Rattle.descent.specs.Ready.{Tools, LaidOut, Stores};
-ghost use Rattle.guided.specs.Rounds.{better, betterSum, Ran};
+ghost use Rattle.guided.specs.Rounds.{better, betterSum, leftAfter, raisedAfter, Ran};
 
 // Copies a layout buffer.
 pub fn copy(from: &[[u16; 3]], to: &mut [[u16; 3]])
@@ -40,6 +44,32 @@ fn keep_better(end: &[[u16; 3]], sum: u64, best: &mut [[u16; 3]], best_sum: u64)
     best_sum
 }
 
+// The round ended clear.
+fn is_clear(end: End) -> bool
+    ensures { λ r. ⌜ r ≡ isClear end ⌝ }
+{
+    match end {
+        End::Clear => true,
+        End::Settled => false,
+        End::Spent => false,
+    }
+}
+
+// How many rounds are left after a round, of those that were left before it: none after a clear one. After any other, the last included,
+// the weights are raised.
+fn after_round(end: End, left: u32, penalties: &[u8], weights: &mut [u32], n: usize) -> u32
+    requires { ⌜ Weighed n (now penalties) (now weights) ⌝ ∗ ⌜ 0 < left ⌝ }
+    ensures left { λ r. ⌜ r ≡ leftAfter end left ⌝ }
+    ensures weights { λ r. ⌜ ((j : Job) (v : Layout) → j .count ≡ n → PenaltyTable j v n (now (penalties .entry)) → ValidWeights j (now (weights .entry)) → now (weights .exit) ≡ raisedAfter j v end (now (weights .entry))) ⌝ }
+{
+    let clear = is_clear(end);
+    if clear {
+        return 0;
+    }
+    raise(penalties, weights, n);
+    left - 1
+}
+
 // At most so many rounds from the layout `present` on, which is the best so far. The best layout stands in `best` at the end.
 pub fn rounds(
     size: JobSize,
@@ -61,11 +91,15 @@ pub fn rounds(
     column_lines: &mut [u8],
     column_tags: &mut [u32],
 ) -> Run
-    requires { ⌜ Tools (lentBy size (now table) (now pixels)) (now rows) (now «row_starts») (now columns) (now «column_starts») width ⌝ ∗ ⌜ ValidWeights (jobOf (lentBy size (now table) (now pixels))) (now weights) ⌝ ∗ ⌜ LaidOut (lentBy size (now table) (now pixels)) (now present) (now penalties) ⌝ ∗ ⌜ Stores (jobOf (lentBy size (now table) (now pixels))) width (now «row_lines») (now «row_tags») (now «column_lines») (now «column_tags») ⌝ }
+    requires { ⌜ Tools (lentBy size (now table) (now pixels)) (now rows) (now «row_starts») (now columns) (now «column_starts») width ⌝
+        ∗ ⌜ ValidWeights (jobOf (lentBy size (now table) (now pixels))) (now weights) ⌝
+        ∗ ⌜ LaidOut (lentBy size (now table) (now pixels)) (now present) (now penalties) ⌝
+        ∗ ⌜ Stores (jobOf (lentBy size (now table) (now pixels))) width (now «row_lines») (now «row_tags») (now «column_lines») (now «column_tags») ⌝ }
     requires { ⌜ now best ≡ now present ⌝ ∗ ⌜ (count ≤ roundBound) × (budget ≤ budgetBound) ⌝ }
     ensures { λ r. ⌜ Ran (lentBy size (now (table .entry)) (now (pixels .entry))) (now (present .entry)) (now (weights .entry)) count budget r (now (best .exit)) (now (weights .exit)) ⌝ }
 {
-    let mut sum = plain_total(penalties, size.count);
+    let n = size.count;
+    let mut sum = plain_total(penalties, n);
     let mut made: u64 = 0;
     let mut moves: u64 = 0;
     let mut left = count;
@@ -88,15 +122,12 @@ pub fn rounds(
             column_lines,
             column_tags,
         );
-        made += round.made as u64;
-        moves += round.moves as u64;
-        sum = keep_better(present, plain_total(penalties, size.count), best, sum);
+        made = made + round.made as u64;
+        moves = moves + round.moves as u64;
+        let plain = plain_total(penalties, n);
+        sum = keep_better(present, plain, best, sum);
         let end = round.end;
-        if let End::Clear = end {
-            return Run { sum, made, moves };
-        }
-        raise(penalties, weights, size.count);
-        left -= 1;
+        left = after_round(end, left, penalties, weights, n);
     }
     Run { sum, made, moves }
 }

@@ -19,7 +19,7 @@ use Rattle.call_laws.proofs.Jobs.{lent-turned-small}
 use Rattle.descent_laws.proofs.Claims.{ValidWeights}
 use Rattle.search_laws.proofs.PieceSum.{weightBetween, penaltyOn, weight-bound}
 use Rattle.sums.specs.Drawn.{Laid}
-use Rattle.lines.specs.Kept.{linePlaces, lineAt, HoldsLine, Kept, Wide}
+use Rattle.lines.specs.Kept.{linePlaces, HoldsLine, Kept}
 use Rattle.lines.specs.Making.{Asked}
 use Rattle.lines.specs.declared.Two.{Two}
 use Rattle.lines.proofs.Placed.{line-on}
@@ -29,7 +29,7 @@ use Rattle.search.specs.declared.boxes.Track.{Track}
 use Rattle.search.specs.declared.boxes.Standing.{Standing}
 use Rattle.search.specs.declared.boxes.Reach.{Reach}
 use Rattle.search.specs.Added.{Added}
-use Rattle.search.specs.Boxes.{trackOf, standingOf, Touching}
+use Rattle.search.specs.Boxes.{standingOf, Touching}
 use Rattle.search.specs.Ready.{LinesReady, OnTrack, IsStanding}
 use Rattle.search.specs.Summing.{moverPenalty, partAt, LineRead, PartAdded}
 

@@ -3,13 +3,12 @@ use mathlib.Core.Bool.{true}
 use mathlib.Core.List.{List}
 use mathlib.Core.Option.{Option, none, some}
 use mathlib.Core.Path.{_≡_, refl, sym, ap, _∙_, subst}
-use Prim.Native.Nat.{ℕ, zero, suc, _-_, _<_, _≤_}
+use Prim.Native.Nat.{ℕ, zero, suc, _<_, _≤_}
 use native.Mathlib.Decide.{decLt}
 use native.Mathlib.Omega.{arith}
 use lib.ListN.{length, getD, take, replicate, length-map, length-replicate}
 use lib.Seq.{length-take-le}
-use Rattle.model.specs.Bounded.{sumBelow}
-use Rattle.model.specs.Piece.{extent, lineDirection}
+use Rattle.model.specs.Piece.{lineDirection}
 use Rattle.model.specs.Layout.{Job, Layout, turnedPiece}
 use Rattle.model.specs.Search.{Best, sumAt}
 use Rattle.model.specs.Lent.{Lent, jobOf, lentWell}
@@ -27,7 +26,7 @@ use Rattle.search.specs.declared.Mover.{Mover}
 use Rattle.search.specs.declared.boxes.Track.{Track}
 use Rattle.search.specs.Boxes.{trackOf, SmallTrack}
 use Rattle.search.specs.Ready.{SearchReady, LinesReady, OnTrack}
-use Rattle.search.specs.Summing.{partAt, moverPlaces, Summed}
+use Rattle.search.specs.Summing.{moverPlaces, Summed}
 use Rattle.search.proofs.Scans.{sumOf}
 
 -- ── before the search ──

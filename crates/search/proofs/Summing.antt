@@ -1,6 +1,6 @@
 -- The sums along a line when one more piece is taken into account: it changes only the sums in its reach, and those need not be exact where
 -- they are at the bound already. Assumes nothing.
-use mathlib.Core.Bool.{Bool, true, false}
+use mathlib.Core.Bool.{true, false}
 use mathlib.Core.List.{List}
 use mathlib.Core.Logic.{_⊎_, inl, inr, ⊎-elim}
 use mathlib.Core.Path.{_≡_, refl, sym, ap, _∙_, subst}
@@ -29,7 +29,7 @@ use Rattle.search.specs.declared.Mover.{Mover}
 use Rattle.search.specs.declared.boxes.Track.{Track}
 use Rattle.search.specs.declared.boxes.Standing.{Standing}
 use Rattle.search.specs.declared.boxes.Reach.{Reach}
-use Rattle.search.specs.Boxes.{trackOf, standingOf, BoxesMeet, Reached}
+use Rattle.search.specs.Boxes.{BoxesMeet, Reached}
 use Rattle.search.specs.Ready.{OnTrack, IsStanding}
 use Rattle.search.specs.Summing.{moverPenalty, partAt, moverPlaces, Summed, PartAdded, ToAdd}
 

@@ -4,8 +4,7 @@ use mathlib.Core.Path.{_≡_, sym, subst}
 use Prim.Native.Nat.{ℕ, suc, _+_, _-_, _<_, _≤_, min}
 use native.Mathlib.Omega.{arith}
 use borrow.Author.Tests.{le-leb, lt-leb}
-use Rattle.model.specs.Piece.{Shape}
-use Rattle.model.specs.Layout.{Job, Layout, turnedPiece, placeOf, shapeIn}
+use Rattle.model.specs.Layout.{Job, Layout, turnedPiece, placeOf}
 use Rattle.model.specs.Search.{places}
 use Rattle.model.specs.declared.Direction.{Direction}
 use Rattle.model.specs.declared.Direction.the-variants.{Horizontal, Vertical}
@@ -19,8 +18,7 @@ use Rattle.placing.specs.Boxes.{sidesOf}
 use Rattle.search.specs.declared.Mover.{Mover}
 use Rattle.search.specs.declared.boxes.Track.{Track}
 use Rattle.search.specs.declared.boxes.Standing.{Standing}
-use Rattle.search.specs.declared.boxes.Reach.{Reach}
-use Rattle.search.specs.Boxes.{roomOn, trackOn, trackOf, standingOf, SmallTrack, SmallStanding, BoxesMeet, Touching, Reached}
+use Rattle.search.specs.Boxes.{roomOn, trackOn, trackOf, standingOf, SmallTrack, SmallStanding, BoxesMeet, Reached}
 
 -- a line that leaves the sheet's height has no place
 pub room-none : (length width held sheet height : ℕ) → height < held + width → 0 ≡ roomOn length width held sheet height

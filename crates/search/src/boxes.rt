@@ -6,7 +6,7 @@ use model::Line;
 use model::Turn;
 ghost use mathlib.Core.Path.{_≡_};
 ghost use mathlib.Core.List.{List};
-ghost use Prim.Native.Nat.{ℕ, suc, min, _+_, _-_, _<_, _≤_};
+ghost use Prim.Native.Nat.{ℕ, min, _+_, _-_, _<_, _≤_};
 ghost use lib.ListN.{length};
 ghost use Rattle.model.specs.Piece.{lineDirection};
 ghost use Rattle.model.specs.Lent.{lentBy, jobOf};

@@ -5,9 +5,6 @@ use Rattle.search.specs.declared.SearchAnswer.the-variants.{Refused}
 use borrow.Author.Needs.{needs}
 use Rattle.search.proofs.best_answer.Statement.{statement}
 use Rattle.search.proofs.best_answer.Tie as tie
-use Rattle.search.proofs.best_answer.Reads as reads
-use Rattle.search.proofs.best_answer.Lts as lts
-use Rattle.placing.proofs.refusal.Reads as refusal-reads
 
 enum-known-found : tie.Need-enum-known-found
 enum-known-found c = search needs

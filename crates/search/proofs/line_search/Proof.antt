@@ -14,11 +14,6 @@ use Rattle.search.proofs.Answering.{search-ready, best-is}
 use borrow.Author.Needs.{needs}
 use Rattle.search.proofs.line_search.Statement.{statement}
 use Rattle.search.proofs.line_search.Tie as tie
-use Rattle.search.proofs.line_search.Reads as reads
-use Rattle.search.proofs.line_search.Lts as lts
-use Rattle.search.proofs.best_answer.Reads as best-answer-reads
-use Rattle.search.proofs.search_alone.Reads as search-alone-reads
-use Rattle.search.proofs.search_causes.Reads as search-causes-reads
 
 search-causes-requires : tie.Need-search-causes-requires
 search-causes-requires c κs = search needs

@@ -9,12 +9,6 @@ use Rattle.search.proofs.Answering.{first-there, first-absent, wrong-la
 use borrow.Author.Needs.{needs}
 use Rattle.search.proofs.piece_causes.Statement.{statement}
 use Rattle.search.proofs.piece_causes.Tie as tie
-use Rattle.search.proofs.piece_causes.Reads as reads
-use Rattle.search.proofs.piece_causes.Lts as lts
-use Rattle.placing.proofs.allows.Reads as allows-reads
-use Rattle.placing.proofs.refusal.Reads as refusal-reads
-use Rattle.placing.proofs.some_outside.Reads as some-outside-reads
-use Rattle.placing.proofs.some_turn_wrong.Reads as some-turn-wrong-reads
 
 some-turn-wrong-requires : tie.Need-some-turn-wrong-requires
 some-turn-wrong-requires c κs = search needs

@@ -11,10 +11,6 @@ use Rattle.search.proofs.Renewing.{mover-placed}
 use borrow.Author.Needs.{needs}
 use Rattle.search.proofs.renew_placed.Statement.{statement}
 use Rattle.search.proofs.renew_placed.Tie as tie
-use Rattle.search.proofs.renew_placed.Reads as reads
-use Rattle.search.proofs.renew_placed.Lts as lts
-use Rattle.search.proofs.boxes.track_of.Reads as track-of-reads
-use Rattle.search.proofs.others.renew_others.Reads as renew-others-reads
 
 track-of-requires : tie.Need-track-of-requires
 track-of-requires c κs =

@@ -9,11 +9,6 @@ use Rattle.search.proofs.Answering.{store-wide, store-fresh, store-leng
 use borrow.Author.Needs.{needs}
 use Rattle.search.proofs.search_alone.Statement.{statement}
 use Rattle.search.proofs.search_alone.Tie as tie
-use Rattle.search.proofs.search_alone.Reads as reads
-use Rattle.search.proofs.search_alone.Lts as lts
-use Rattle.search.proofs.boxes.direction_of.Reads as direction-of-reads
-use Rattle.search.proofs.search_below.Reads as search-below-reads
-use Rattle.shapes.proofs.make_shapes.Reads as make-shapes-reads
 
 direction-of-requires : tie.Need-direction-of-requires
 direction-of-requires c κs = search needs

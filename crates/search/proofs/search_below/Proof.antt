@@ -6,10 +6,6 @@ use Rattle.search.proofs.Searching.{lines-ready, track-asked, on-track,
 use borrow.Author.Needs.{needs}
 use Rattle.search.proofs.search_below.Statement.{statement}
 use Rattle.search.proofs.search_below.Tie as tie
-use Rattle.search.proofs.search_below.Reads as reads
-use Rattle.search.proofs.search_below.Lts as lts
-use Rattle.search.proofs.boxes.track_of.Reads as track-of-reads
-use Rattle.search.proofs.search_over.Reads as search-over-reads
 
 track-of-requires : tie.Need-track-of-requires
 track-of-requires c κs =

@@ -11,10 +11,6 @@ use Rattle.search.specs.Answers.{pieceCauses}
 use borrow.Author.Needs.{needs}
 use Rattle.search.proofs.search_causes.Statement.{statement}
 use Rattle.search.proofs.search_causes.Tie as tie
-use Rattle.search.proofs.search_causes.Reads as reads
-use Rattle.search.proofs.search_causes.Lts as lts
-use Rattle.search.proofs.piece_causes.Reads as piece-causes-reads
-use Rattle.sums.proofs.length_causes.Reads as length-causes-reads
 
 length-causes-requires : tie.Need-length-causes-requires
 length-causes-requires c κs = search needs

@@ -6,10 +6,6 @@ use Rattle.search.proofs.Searching.{summed-found}
 use borrow.Author.Needs.{needs}
 use Rattle.search.proofs.search_over.Statement.{statement}
 use Rattle.search.proofs.search_over.Tie as tie
-use Rattle.search.proofs.search_over.Reads as reads
-use Rattle.search.proofs.search_over.Lts as lts
-use Rattle.search.proofs.along.least_below.Reads as least-below-reads
-use Rattle.search.proofs.others.add_others.Reads as add-others-reads
 
 add-others-requires : tie.Need-add-others-requires
 add-others-requires c κs = let e = c .before .before .before .before .before .before .before .before .before in (e .pre .0, (e .pre .1 .0, (e .pre .1 .1 .0, e .pre .1 .1 .1 .0)))

@@ -4,7 +4,7 @@ use mathlib.Core.List.{List, [], _∷_, _++_}
 use mathlib.Core.Path.{_≡_, refl, sym, _∙_, ap, subst}
 use Prim.Native.Nat.{ℕ, _≤_}
 use native.Mathlib.Omega.{arith}
-use lib.ListN.{length, take, drop, replicate, length-replicate, length-append}
+use lib.ListN.{length, take, replicate, length-replicate, length-append}
 use lib.Seq.{length-take-le, take-at}
 use Rattle.model.specs.Lent.{Lent, lentBy, jobOf, pieceBound}
 use Rattle.model.specs.Buffer.{layoutOf}

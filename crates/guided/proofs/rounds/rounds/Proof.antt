@@ -1,28 +1,25 @@
--- `guided::rounds::rounds` meets its contract. Before each round the run is what comes from where the loop stands; a clear round ends it, any
--- other keeps it with one round less. Assumes nothing.
-use mathlib.Core.Logic.{⊎-elim, _≢_}
-use mathlib.Core.Path.{_≡_, refl, sym, _∙_, ap}
-use Prim.Native.Nat.{ℕ, _<_, _≤_}
+-- `guided::rounds::rounds` meets its contract. Before each round the run is what comes from where the loop stands (`Rounding`), and a round
+-- keeps that (`round-next`); with no round left it is what the loop has. Assumes nothing.
+use mathlib.Core.Path.{refl, sym, _∙_, ap}
+use Prim.Native.Nat.{_<_}
 use native.Mathlib.Omega.{arith}
 use borrow.Author.Needs.{needs}
 use lib.ListN.{length}
-use Rattle.model.specs.Layout.{plainSum}
 use Rattle.model.specs.Lent.{Lent, lentBy, jobOf}
 use Rattle.model.specs.Buffer.{layoutOf}
-use Rattle.model.specs.declared.End.the-variants.{Clear}
 use Rattle.descent_laws.proofs.Lent.{lent-some}
 use Rattle.shapes.proofs.Jobs.{sheet}
-use Rattle.guided.proofs.Rounding.{Rounding, Sizes, Rounded, job-count, weighed, rounding-begin, rounding-few, rounding-done, round-written, round-clear, round-open}
+use Rattle.guided.proofs.Rounding.{job-count, weighed, left-falls, Rounding, Sizes, Rounded, rounding-begin, rounding-few, rounding-done, round-next}
 use Rattle.guided.proofs.rounds.rounds.Statement.{statement}
 use Rattle.guided.proofs.rounds.rounds.Tie as tie
 
 abbrev Inv-loop : tie.InvT-loop
-Inv-loop size table pixels rows row-starts columns column-starts count budget width present₀ best₀ weights₀ penalties₀ row-lines₀ row-tags₀ column-lines₀ column-tags₀ sum₀ made₀ moves₀ left₀ present best weights penalties row-lines row-tags column-lines column-tags sum made moves left =
+Inv-loop size table pixels rows row-starts columns column-starts count budget width present₀ best₀ weights₀ penalties₀ row-lines₀ row-tags₀ column-lines₀ column-tags₀ n sum₀ made₀ moves₀ left₀ present best weights penalties row-lines row-tags column-lines column-tags sum made moves left =
     Rounding (lentBy size table pixels) width weights₀ budget count (layoutOf present₀) present best weights penalties row-lines row-tags column-lines column-tags sum made moves left
     × Sizes present best weights penalties row-lines row-tags column-lines column-tags present₀ best₀ weights₀ penalties₀ row-lines₀ row-tags₀ column-lines₀ column-tags₀
 
 abbrev μ-loop : tie.MeasureT-loop
-μ-loop size table pixels rows row-starts columns column-starts count budget width present₀ best₀ weights₀ penalties₀ row-lines₀ row-tags₀ column-lines₀ column-tags₀ sum₀ made₀ moves₀ left₀ present best weights penalties row-lines row-tags column-lines column-tags sum made moves left =
+μ-loop size table pixels rows row-starts columns column-starts count budget width present₀ best₀ weights₀ penalties₀ row-lines₀ row-tags₀ column-lines₀ column-tags₀ n sum₀ made₀ moves₀ left₀ present best weights penalties row-lines row-tags column-lines column-tags sum made moves left =
     left
 
 -- ── places ──
@@ -36,23 +33,24 @@ abbrev entry : tie.At-loop Inv-loop μ-loop → tie.Start Inv-loop μ-loop
 entry h = h .before .before .before .before .before .before .before .before .before .before .before .before
 
 -- the loop's head, from where the better layout is kept
-abbrev head : tie.After-best Inv-loop μ-loop → tie.At-loop Inv-loop μ-loop
-head c = c .before .before .before .before .before .before .before .before .before .before .before .before .before .before .before .before .before .before .before .before .before .before .before .before .before .before .before .before
+abbrev head : tie.After-keep-better Inv-loop μ-loop → tie.At-loop Inv-loop μ-loop
+head c = c .before .before .before .before .before .before .before .before .before .before .before .before .before .before .before .before .before .before .before .before .before .before .before .before .before .before .before
 
 -- the descent
-abbrev descended : tie.After-best Inv-loop μ-loop → tie.After-descend Inv-loop μ-loop
-descended c = c .before .before .before .before .before .before .before .before .before .before .before .before .before .before .before .before .before .before .before
+abbrev descended : tie.After-keep-better Inv-loop μ-loop → tie.After-descend Inv-loop μ-loop
+descended c = c .before .before .before .before .before .before .before .before .before .before .before .before .before .before .before .before .before .before
 
 -- ── laws at these places ──
 
+-- the job has a piece
 some-piece : (s : tie.Start Inv-loop μ-loop) → 0 < jobOf (job s) .count
 some-piece s = lent-some (job s) (s .pre .0 .well)
 
 -- what a round does
-rounded : (c : tie.After-best Inv-loop μ-loop)
+rounded : (c : tie.After-keep-better Inv-loop μ-loop)
     → Rounded (job (entry (head c))) (entry (head c) .args .width) (entry (head c) .args .budget) (head c .loop .present) (head c .loop .best) (head c .loop .weights)
-    (head c .loop .sum) (descended c .descend .result) (descended c .descend .last .1 .1 .1 .1 .1 .1 .1 .1 .1 .1 .0) (c .before .keep-better .last .1 .1 .0) (descended c .descend .last .1 .1 .1 .1 .1 .1 .1 .1 .1 .1 .1 .0) (descended c .descend .last .1 .1 .1 .1 .1 .1 .1 .1 .1 .1 .1 .1 .0) (descended c .descend .last .1 .1 .1 .1 .1 .1 .1 .1 .1 .1 .1 .1 .1 .0) (descended c .descend .last .1 .1 .1 .1 .1 .1 .1 .1 .1 .1 .1 .1 .1 .1 .0) (descended c .descend .last .1 .1 .1 .1 .1 .1 .1 .1 .1 .1 .1 .1 .1 .1 .1 .0)
-    (c .before .before .before .plain-total2 .result) (c .before .keep-better .result)
+    (head c .loop .sum) (descended c .descend .result) (descended c .descend .last .1 .1 .1 .1 .1 .1 .1 .1 .1 .1 .0) (c .keep-better .last .1 .1 .0) (descended c .descend .last .1 .1 .1 .1 .1 .1 .1 .1 .1 .1 .1 .0) (descended c .descend .last .1 .1 .1 .1 .1 .1 .1 .1 .1 .1 .1 .1 .0) (descended c .descend .last .1 .1 .1 .1 .1 .1 .1 .1 .1 .1 .1 .1 .1 .0) (descended c .descend .last .1 .1 .1 .1 .1 .1 .1 .1 .1 .1 .1 .1 .1 .1 .0) (descended c .descend .last .1 .1 .1 .1 .1 .1 .1 .1 .1 .1 .1 .1 .1 .1 .1 .0)
+    (c .before .before .before .plain-total2 .result) (c .keep-better .result)
 rounded c =
     let said = descended c .descend .ensures in
     let l = job (entry (head c)) in
@@ -61,26 +59,8 @@ rounded c =
       laid = said .1 .0;
       stores = said .1 .1;
       plainIs = c .before .before .before .plain-total2 .ensures (jobOf l) (layoutOf (descended c .descend .last .1 .1 .1 .1 .1 .1 .1 .1 .1 .1 .0)) (job-count l) (said .1 .0 .table);
-      bestIs = c .before .keep-better .ensures .0;
-      sumIs = c .before .keep-better .ensures .1;
-    }
-
--- the buffers keep their lengths
-sizes : (c : tie.After-best Inv-loop μ-loop)
-    → Sizes (descended c .descend .last .1 .1 .1 .1 .1 .1 .1 .1 .1 .1 .0) (c .before .keep-better .last .1 .1 .0) (head c .loop .weights) (descended c .descend .last .1 .1 .1 .1 .1 .1 .1 .1 .1 .1 .1 .0) (descended c .descend .last .1 .1 .1 .1 .1 .1 .1 .1 .1 .1 .1 .1 .0) (descended c .descend .last .1 .1 .1 .1 .1 .1 .1 .1 .1 .1 .1 .1 .1 .0) (descended c .descend .last .1 .1 .1 .1 .1 .1 .1 .1 .1 .1 .1 .1 .1 .1 .0) (descended c .descend .last .1 .1 .1 .1 .1 .1 .1 .1 .1 .1 .1 .1 .1 .1 .1 .0)
-    (entry (head c) .args .present .now) (entry (head c) .args .best .now) (entry (head c) .args .weights .now) (entry (head c) .args .penalties .now)
-    (entry (head c) .args .row-lines .now) (entry (head c) .args .row-tags .now) (entry (head c) .args .column-lines .now) (entry (head c) .args .column-tags .now)
-sizes c =
-    let before = head c .loop .inv .1 in
-    record {
-      sameLayout = descended c .descend .kept .1 .1 .1 .1 .1 .1 .1 .1 .1 .1 .0 ∙ before .sameLayout;
-      sameBest = c .before .keep-better .kept .1 .1 .0 ∙ before .sameBest;
-      sameWeights = before .sameWeights;
-      samePenalties = descended c .descend .kept .1 .1 .1 .1 .1 .1 .1 .1 .1 .1 .1 .0 ∙ before .samePenalties;
-      sameRowLines = descended c .descend .kept .1 .1 .1 .1 .1 .1 .1 .1 .1 .1 .1 .1 .0 ∙ before .sameRowLines;
-      sameRowTags = descended c .descend .kept .1 .1 .1 .1 .1 .1 .1 .1 .1 .1 .1 .1 .1 .0 ∙ before .sameRowTags;
-      sameColumnLines = descended c .descend .kept .1 .1 .1 .1 .1 .1 .1 .1 .1 .1 .1 .1 .1 .1 .0 ∙ before .sameColumnLines;
-      sameColumnTags = descended c .descend .kept .1 .1 .1 .1 .1 .1 .1 .1 .1 .1 .1 .1 .1 .1 .1 .0 ∙ before .sameColumnTags;
+      bestIs = c .keep-better .ensures .0;
+      sumIs = c .keep-better .ensures .1;
     }
 
 -- ── the needs ──
@@ -134,8 +114,8 @@ add-moves c =
 
 plain-total-requires-2 : tie.Need-plain-total-requires-2 Inv-loop μ-loop
 plain-total-requires-2 c κs =
-    let s = entry (c .before .before .before .before .before .before .before .before .before .before .before .before .before .before .before .before .before .before .before .before .before .before .before .before) in
-    (sheet (job s) (s .pre .0 .well) .pieces, c .before .before .before .before .before .before .before .before .before .before .before .before .before .before .before .descend .ensures .1 .0 .table .size)
+    let s = entry (c .before .before .before .before .before .before .before .before .before .before .before .before .before .before .before .before .before .before .before .before .before .before .before) in
+    (sheet (job s) (s .pre .0 .well) .pieces, c .before .before .before .before .before .before .before .before .before .before .before .before .before .before .descend .ensures .1 .0 .table .size)
 
 keep-better-requires : tie.Need-keep-better-requires Inv-loop μ-loop
 keep-better-requires c κs =
@@ -143,102 +123,68 @@ keep-better-requires c κs =
     let before = h .loop .inv .1 in
     before .sameBest ∙ ap (λ b. length b) (entry h .pre .1 .1 .1 .1 .0) ∙ sym (before .sameLayout) ∙ sym (c .before .before .before .before .before .before .before .before .before .before .before .before .before .before .before .before .before .descend .kept .1 .1 .1 .1 .1 .1 .1 .1 .1 .1 .0)
 
-enum-told : tie.Need-enum-told Inv-loop μ-loop
-enum-told c = search needs
-
-same-length : tie.Need-same-length Inv-loop μ-loop
-same-length c = sizes (c .before .before) .sameLayout
-
-same-length-2 : tie.Need-same-length-2 Inv-loop μ-loop
-same-length-2 c = sizes (c .before .before) .sameBest
-
-same-length-3 : tie.Need-same-length-3 Inv-loop μ-loop
-same-length-3 c = sizes (c .before .before) .sameWeights
-
-same-length-4 : tie.Need-same-length-4 Inv-loop μ-loop
-same-length-4 c = sizes (c .before .before) .samePenalties
-
-same-length-5 : tie.Need-same-length-5 Inv-loop μ-loop
-same-length-5 c = sizes (c .before .before) .sameRowLines
-
-same-length-6 : tie.Need-same-length-6 Inv-loop μ-loop
-same-length-6 c = sizes (c .before .before) .sameRowTags
-
-same-length-7 : tie.Need-same-length-7 Inv-loop μ-loop
-same-length-7 c = sizes (c .before .before) .sameColumnLines
-
-same-length-8 : tie.Need-same-length-8 Inv-loop μ-loop
-same-length-8 c = sizes (c .before .before) .sameColumnTags
-
-returns : tie.Need-returns Inv-loop μ-loop
-returns c =
-    let b = c .before .before in
-    let some = some-piece (entry (head b)) in
-    let stands = head b .loop .inv .0 in
-    let more = b .before .before .before .before .before .before .before .before .before .before .before .before .before .before .before .before .before .before .before .before .before .before .before .before .before .before .before .loop-test .taken in
-    record { result = round-clear some stands more (rounded b) (c .enum-told .given .1); written = round-written some stands more (rounded b) }
-
-raise-requires : tie.Need-raise-requires Inv-loop μ-loop
-raise-requires c κs =
+after-round-requires : tie.Need-after-round-requires Inv-loop μ-loop
+after-round-requires c κs =
     let b = c .before .before .before in
     let s = entry (head b) in
-    weighed (job s) (s .pre .0 .well) (rounded b .laid) (head b .loop .inv .0 .underway .validWeights)
-
-sub-left : tie.Need-sub-left Inv-loop μ-loop
-sub-left c = let more = c .before .before .before .before .before .before .before .before .before .before .before .before .before .before .before .before .before .before .before .before .before .before .before .before .before .before .before .before .before .before .before .before .before .loop-test .taken in omega arith
+    (weighed (job s) (s .pre .0 .well) (rounded b .laid) (head b .loop .inv .0 .underway .validWeights), b .before .before .before .before .before .before .before .before .before .before .before .before .before .before .before .before .before .before .before .before .before .before .before .before .before .before .loop-test .taken)
 
 loop-less : tie.Need-loop-less Inv-loop μ-loop
-loop-less c = let more = c .before .before .before .before .before .before .before .before .before .before .before .before .before .before .before .before .before .before .before .before .before .before .before .before .before .before .before .before .before .before .before .before .before .loop-test .taken in omega arith
+loop-less c =
+    let b = c .before .before .before .before .before .before in
+    let falls = left-falls (descended b .descend .result .end) (head b .loop .left) (b .before .before .before .before .before .before .before .before .before .before .before .before .before .before .before .before .before .before .before .before .before .before .before .before .before .before .loop-test .taken) in
+    let left = c .before .before .after-round .ensures .0 in
+    omega arith
 
 loop-again : tie.Need-loop-again Inv-loop μ-loop
 loop-again c =
     let b = c .before .before .before .before .before .before in
     let s = entry (head b) in
     let stands = head b .loop .inv .0 in
-    let more = b .before .before .before .before .before .before .before .before .before .before .before .before .before .before .before .before .before .before .before .before .before .before .before .before .before .before .before .loop-test .taken in
+    let before = head b .loop .inv .1 in
     let round = rounded b in
-    let kept = sizes b in (
-      round-open (some-piece s) stands more round
-          (λ e. ⊎-elim (λ (k : _≡_ {A = ℕ} 0 1). omega arith) (λ (k : _≡_ {A = ℕ} 0 2). omega arith) (rw e at (c .before .before .before .before .before .match .keys2)))
-          (c .before .before .raise .ensures (jobOf (job s)) _ (job-count (job s)) (round .laid .table) (stands .underway .validWeights)),
+    let after = c .before .before .after-round in
+    let kept = descended b .descend .kept in (
+      round-next (some-piece s) stands (b .before .before .before .before .before .before .before .before .before .before .before .before .before .before .before .before .before .before .before .before .before .before .before .before .before .before .loop-test .taken) round
+          (after .ensures .1 (jobOf (job s)) _ (job-count (job s)) (round .laid .table) (stands .underway .validWeights)) (after .ensures .0),
       record {
-        sameLayout = kept .sameLayout;
-        sameBest = kept .sameBest;
-        sameWeights = c .before .before .raise .kept .1 .0 ∙ kept .sameWeights;
-        samePenalties = kept .samePenalties;
-        sameRowLines = kept .sameRowLines;
-        sameRowTags = kept .sameRowTags;
-        sameColumnLines = kept .sameColumnLines;
-        sameColumnTags = kept .sameColumnTags;
+        sameLayout = kept .1 .1 .1 .1 .1 .1 .1 .1 .1 .1 .0 ∙ before .sameLayout;
+        sameBest = b .keep-better .kept .1 .1 .0 ∙ before .sameBest;
+        sameWeights = after .kept .1 .1 .1 .0 ∙ before .sameWeights;
+        samePenalties = kept .1 .1 .1 .1 .1 .1 .1 .1 .1 .1 .1 .0 ∙ before .samePenalties;
+        sameRowLines = kept .1 .1 .1 .1 .1 .1 .1 .1 .1 .1 .1 .1 .0 ∙ before .sameRowLines;
+        sameRowTags = kept .1 .1 .1 .1 .1 .1 .1 .1 .1 .1 .1 .1 .1 .0 ∙ before .sameRowTags;
+        sameColumnLines = kept .1 .1 .1 .1 .1 .1 .1 .1 .1 .1 .1 .1 .1 .1 .0 ∙ before .sameColumnLines;
+        sameColumnTags = kept .1 .1 .1 .1 .1 .1 .1 .1 .1 .1 .1 .1 .1 .1 .1 .0 ∙ before .sameColumnTags;
       },
     )
 
-same-length-9 : tie.Need-same-length-9 Inv-loop μ-loop
-same-length-9 c = c .before .loop .inv .1 .sameLayout
+same-length : tie.Need-same-length Inv-loop μ-loop
+same-length c = c .before .loop .inv .1 .sameLayout
 
-same-length-10 : tie.Need-same-length-10 Inv-loop μ-loop
-same-length-10 c = c .before .loop .inv .1 .sameBest
+same-length-2 : tie.Need-same-length-2 Inv-loop μ-loop
+same-length-2 c = c .before .loop .inv .1 .sameBest
 
-same-length-11 : tie.Need-same-length-11 Inv-loop μ-loop
-same-length-11 c = c .before .loop .inv .1 .sameWeights
+same-length-3 : tie.Need-same-length-3 Inv-loop μ-loop
+same-length-3 c = c .before .loop .inv .1 .sameWeights
 
-same-length-12 : tie.Need-same-length-12 Inv-loop μ-loop
-same-length-12 c = c .before .loop .inv .1 .samePenalties
+same-length-4 : tie.Need-same-length-4 Inv-loop μ-loop
+same-length-4 c = c .before .loop .inv .1 .samePenalties
 
-same-length-13 : tie.Need-same-length-13 Inv-loop μ-loop
-same-length-13 c = c .before .loop .inv .1 .sameRowLines
+same-length-5 : tie.Need-same-length-5 Inv-loop μ-loop
+same-length-5 c = c .before .loop .inv .1 .sameRowLines
 
-same-length-14 : tie.Need-same-length-14 Inv-loop μ-loop
-same-length-14 c = c .before .loop .inv .1 .sameRowTags
+same-length-6 : tie.Need-same-length-6 Inv-loop μ-loop
+same-length-6 c = c .before .loop .inv .1 .sameRowTags
 
-same-length-15 : tie.Need-same-length-15 Inv-loop μ-loop
-same-length-15 c = c .before .loop .inv .1 .sameColumnLines
+same-length-7 : tie.Need-same-length-7 Inv-loop μ-loop
+same-length-7 c = c .before .loop .inv .1 .sameColumnLines
 
-same-length-16 : tie.Need-same-length-16 Inv-loop μ-loop
-same-length-16 c = c .before .loop .inv .1 .sameColumnTags
+same-length-8 : tie.Need-same-length-8 Inv-loop μ-loop
+same-length-8 c = c .before .loop .inv .1 .sameColumnTags
 
-returns-2 : tie.Need-returns-2 Inv-loop μ-loop
-returns-2 c =
+returns : tie.Need-returns Inv-loop μ-loop
+returns c =
     let h = c .before in
     let none = c .loop-test .left in
     record { result = rounding-done (some-piece (entry h)) (h .loop .inv .0) (omega arith); written = h .loop .inv .0 .written }
@@ -258,7 +204,9 @@ rounds-spec =
     add-moves
     plain-total-requires-2
     keep-better-requires
-    enum-told
+    after-round-requires
+    loop-less
+    loop-again
     same-length
     same-length-2
     same-length-3
@@ -267,17 +215,4 @@ rounds-spec =
     same-length-6
     same-length-7
     same-length-8
-    returns
-    raise-requires
-    sub-left
-    loop-less
-    loop-again
-    same-length-9
-    same-length-10
-    same-length-11
-    same-length-12
-    same-length-13
-    same-length-14
-    same-length-15
-    same-length-16
-    returns-2)
+    returns)

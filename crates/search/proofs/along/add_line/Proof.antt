@@ -7,8 +7,6 @@ use Rattle.penalty_line.proofs.Passes.{Passing}
 use Rattle.search.proofs.Scans.{part-small, Raised, raise-begin, raise-step, raise-end}
 use Rattle.search.proofs.along.add_line.Statement.{statement}
 use Rattle.search.proofs.along.add_line.Tie as tie
-use Rattle.search.proofs.along.add_line.Reads as reads
-use Rattle.search.proofs.along.add_line.Lts as lts
 
 abbrev Inv-loop : tie.InvT-loop
 Inv-loop sums₀ low line weight k₀ sums k = (k ≤ length line) × Passing (Raised weight low line sums₀) sums₀ sums (low + k)

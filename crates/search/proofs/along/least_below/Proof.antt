@@ -1,15 +1,12 @@
 -- `search::along::least_below` meets its contract. The loop's invariant: `low` and `at` are the search's answer for the sums passed.
 -- Assumes nothing.
 use mathlib.Core.Logic.{⊎-elim}
-use mathlib.Core.Path.{_≡_}
-use Prim.Native.Nat.{ℕ, _≤_, _-_}
+use Prim.Native.Nat.{_≤_, _-_}
 use native.Mathlib.Omega.{arith}
-use lib.ListN.{length, getD}
+use lib.ListN.{length}
 use Rattle.search.proofs.Scans.{Scanned, scan-begin, scan-lower, scan-keep, scan-found, scan-none}
 use Rattle.search.proofs.along.least_below.Statement.{statement}
 use Rattle.search.proofs.along.least_below.Tie as tie
-use Rattle.search.proofs.along.least_below.Reads as reads
-use Rattle.search.proofs.along.least_below.Lts as lts
 
 abbrev Inv-loop : tie.InvT-loop
 Inv-loop sums bound low₀ at₀ a₀ low at a = (a ≤ length sums) × Scanned sums bound low at a

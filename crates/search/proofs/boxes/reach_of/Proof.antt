@@ -4,10 +4,6 @@ use Rattle.search.proofs.Tracks.{reach-meeting}
 use borrow.Author.Needs.{needs}
 use Rattle.search.proofs.boxes.reach_of.Statement.{statement}
 use Rattle.search.proofs.boxes.reach_of.Tie as tie
-use Rattle.search.proofs.boxes.reach_of.Reads as reads
-use Rattle.search.proofs.boxes.reach_of.Lts as lts
-use Rattle.search.proofs.boxes.lesser.Reads as lesser-reads
-use Rattle.search.proofs.boxes.low_of.Reads as low-of-reads
 
 add-if1 : tie.Need-add-if1
 add-if1 c = search needs

@@ -4,8 +4,6 @@ use Rattle.search.proofs.Tracks.{room-none, room-some}
 use borrow.Author.Needs.{needs}
 use Rattle.search.proofs.boxes.room_on.Statement.{statement}
 use Rattle.search.proofs.boxes.room_on.Tie as tie
-use Rattle.search.proofs.boxes.room_on.Reads as reads
-use Rattle.search.proofs.boxes.room_on.Lts as lts
 
 add-if1 : tie.Need-add-if1
 add-if1 c = search needs

@@ -5,10 +5,6 @@ use Rattle.search.proofs.Tracks.{standing-row, standing-column}
 use borrow.Author.Needs.{needs}
 use Rattle.search.proofs.boxes.standing_of.Statement.{statement}
 use Rattle.search.proofs.boxes.standing_of.Tie as tie
-use Rattle.search.proofs.boxes.standing_of.Reads as reads
-use Rattle.search.proofs.boxes.standing_of.Lts as lts
-use Rattle.placing.proofs.place_at.Reads as place-at-reads
-use Rattle.placing.proofs.turned_sides.Reads as turned-sides-reads
 
 place-at-requires : tie.Need-place-at-requires
 place-at-requires c κs = search needs

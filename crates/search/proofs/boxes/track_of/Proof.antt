@@ -5,10 +5,6 @@ use Rattle.search.proofs.Tracks.{track-row, track-column}
 use borrow.Author.Needs.{needs}
 use Rattle.search.proofs.boxes.track_of.Statement.{statement}
 use Rattle.search.proofs.boxes.track_of.Tie as tie
-use Rattle.search.proofs.boxes.track_of.Reads as reads
-use Rattle.search.proofs.boxes.track_of.Lts as lts
-use Rattle.placing.proofs.turned_sides.Reads as turned-sides-reads
-use Rattle.search.proofs.boxes.room_on.Reads as room-on-reads
 
 turned-sides-requires : tie.Need-turned-sides-requires
 turned-sides-requires c κs = search needs

@@ -12,12 +12,6 @@ use Rattle.search.proofs.Summing.{summed-self, sums-to-add, summed-left
 use borrow.Author.Needs.{needs}
 use Rattle.search.proofs.others.add_other.Statement.{statement}
 use Rattle.search.proofs.others.add_other.Tie as tie
-use Rattle.search.proofs.others.add_other.Reads as reads
-use Rattle.search.proofs.others.add_other.Lts as lts
-use Rattle.search.proofs.along.any_below.Reads as any-below-reads
-use Rattle.search.proofs.boxes.reach_of.Reads as reach-of-reads
-use Rattle.search.proofs.others.add_reached.Reads as add-reached-reads
-use Rattle.search.proofs.others.beside.Reads as beside-reads
 
 returns : tie.Need-returns
 returns c =

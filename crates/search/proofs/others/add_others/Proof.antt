@@ -9,12 +9,8 @@ use Rattle.model.specs.Buffer.{layoutOf}
 use Rattle.sums.proofs.Causes.{few-pieces}
 use Rattle.search.specs.Ready.{LinesReady}
 use Rattle.search.specs.Summing.{Summed}
-use borrow.Author.Needs.{needs}
 use Rattle.search.proofs.others.add_others.Statement.{statement}
 use Rattle.search.proofs.others.add_others.Tie as tie
-use Rattle.search.proofs.others.add_others.Reads as reads
-use Rattle.search.proofs.others.add_others.Lts as lts
-use Rattle.search.proofs.others.add_other.Reads as add-other-reads
 
 abbrev Inv-loop : tie.InvT-loop
 Inv-loop size table pixels strips starts layout weights mover track bound width lines₀ tags₀ sums₀ k₀ lines tags sums k =

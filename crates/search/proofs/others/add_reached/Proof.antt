@@ -8,11 +8,6 @@ use Rattle.search.proofs.Readings.{weight-pairs, weight-small, reach-wi
 use borrow.Author.Needs.{needs}
 use Rattle.search.proofs.others.add_reached.Statement.{statement}
 use Rattle.search.proofs.others.add_reached.Tie as tie
-use Rattle.search.proofs.others.add_reached.Reads as reads
-use Rattle.search.proofs.others.add_reached.Lts as lts
-use Rattle.search.proofs.along.add_line.Reads as add-line-reads
-use Rattle.search.proofs.others.line_with.Reads as line-with-reads
-use Rattle.sums.proofs.table.weight_between.Reads as weight-between-reads
 
 weight-between-requires : tie.Need-weight-between-requires
 weight-between-requires c κs =

@@ -2,10 +2,6 @@
 use borrow.Author.Needs.{needs}
 use Rattle.search.proofs.others.beside.Statement.{statement}
 use Rattle.search.proofs.others.beside.Tie as tie
-use Rattle.search.proofs.others.beside.Reads as reads
-use Rattle.search.proofs.others.beside.Lts as lts
-use Rattle.search.proofs.boxes.direction_of.Reads as direction-of-reads
-use Rattle.search.proofs.boxes.standing_of.Reads as standing-of-reads
 
 direction-of-requires : tie.Need-direction-of-requires
 direction-of-requires c κs = search needs

@@ -4,10 +4,6 @@ use Rattle.search.proofs.Readings.{line-asked, line-kept, line-ready, l
 use borrow.Author.Needs.{needs}
 use Rattle.search.proofs.others.line_with.Statement.{statement}
 use Rattle.search.proofs.others.line_with.Tie as tie
-use Rattle.search.proofs.others.line_with.Reads as reads
-use Rattle.search.proofs.others.line_with.Lts as lts
-use Rattle.search.proofs.boxes.direction_of.Reads as direction-of-reads
-use Rattle.lines.proofs.keep_line.Reads as keep-line-reads
 
 add-t18 : tie.Need-add-t18
 add-t18 c = search needs

@@ -9,11 +9,6 @@ use Rattle.search.proofs.Summing.{outside-zero}
 use borrow.Author.Needs.{needs}
 use Rattle.search.proofs.others.penalty_at.Statement.{statement}
 use Rattle.search.proofs.others.penalty_at.Tie as tie
-use Rattle.search.proofs.others.penalty_at.Reads as reads
-use Rattle.search.proofs.others.penalty_at.Lts as lts
-use Rattle.search.proofs.boxes.reach_of.Reads as reach-of-reads
-use Rattle.search.proofs.others.beside.Reads as beside-reads
-use Rattle.search.proofs.others.line_with.Reads as line-with-reads
 
 beside-requires : tie.Need-beside-requires
 beside-requires c κs =

@@ -12,9 +12,6 @@ use Rattle.search.proofs.Renewing.{renewed-own}
 use borrow.Author.Needs.{needs}
 use Rattle.search.proofs.others.renew_other.Statement.{statement}
 use Rattle.search.proofs.others.renew_other.Tie as tie
-use Rattle.search.proofs.others.renew_other.Reads as reads
-use Rattle.search.proofs.others.renew_other.Lts as lts
-use Rattle.search.proofs.others.penalty_at.Reads as penalty-at-reads
 
 returns : tie.Need-returns
 returns c =

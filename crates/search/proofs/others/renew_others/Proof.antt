@@ -10,12 +10,8 @@ use Rattle.model.specs.Buffer.{layoutOf}
 use Rattle.search_laws.proofs.Table.{Renewed}
 use Rattle.sums.proofs.Causes.{few-pieces}
 use Rattle.search.specs.Ready.{LinesReady}
-use borrow.Author.Needs.{needs}
 use Rattle.search.proofs.others.renew_others.Statement.{statement}
 use Rattle.search.proofs.others.renew_others.Tie as tie
-use Rattle.search.proofs.others.renew_others.Reads as reads
-use Rattle.search.proofs.others.renew_others.Lts as lts
-use Rattle.search.proofs.others.renew_other.Reads as renew-other-reads
 
 abbrev Inv-loop : tie.InvT-loop
 Inv-loop size table pixels strips starts layout mover track at width lines₀ tags₀ penalties₀ k₀ lines tags penalties k =
