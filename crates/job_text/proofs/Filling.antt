@@ -1,16 +1,15 @@
 -- A piece and all pieces: its box in the text, and storing piece after piece. Assumes nothing.
 use mathlib.Core.Bool.{Bool, true, false, not, _||_}
-use mathlib.Core.List.{List, [], _∷_, _++_}
+use mathlib.Core.List.{List, [], _∷_}
 use mathlib.Core.Path.{_≡_, refl, sym, _∙_, ap, subst}
 use Prim.Native.Nat.{ℕ, zero, suc, _+_, _*_, _≤_, _<_}
-use native.Mathlib.Nat.{add-zero, zero-add, mul-comm}
+use native.Mathlib.Nat.{add-zero, mul-comm}
 use native.Mathlib.Omega.{arith}
 use lib.Dec.{ltb, eqb}
-use lib.ListN.{length, length-append, drop, set}
-use lib.Seq.{sets, sets-eq}
+use lib.ListN.{length, length-append, set}
+use lib.Seq.{sets}
 use Rattle.model.specs.Refusal.{Outcome, refused, given, cause, unless, wrongForm, looseBox, wrongLength}
 use Rattle.model.specs.Lent.{Lent}
-use Rattle.model.specs.Buffer.{filled}
 use Rattle.model.specs.Piece.{tight}
 use Rattle.model.specs.Text.{andThen, causeIn}
 use Rattle.model.specs.JobText.{JobLine, PieceLine, Rows, rowsAt, boxShape, PieceText, rowsCauses, asPieceText, pieceLine, pieceAt, Pieces, withPiece, noPieces, piecesAt, asLent, bufferCauses, jobLine, readJob}
@@ -287,12 +286,6 @@ pieces-count text j (suc left) i area p line x e =
 pub no-prefix : {A : Type 0} (l t : List A) → length l ≡ 0 → l ++ t ≡ t
 no-prefix [] t e = refl
 no-prefix (x ∷ l) t e = absurd (omega arith)
-
--- a run of stores from the start, with room for it
-pub sets-filled : {A : Type 0} (l vs : List A) → length vs ≤ length l → sets l 0 vs ≡ filled vs l
-sets-filled l vs h =
-    let h′ : 0 + length vs ≤ length l = omega arith in
-    sets-eq vs l 0 h′ ∙ ap (λ (n : ℕ). vs ++ drop n l) (zero-add (length vs))
 
 module _ (text : List ℕ) (j : JobLine) (tableLength pixelsLength : ℕ) where
   -- the rest of reading behind the pieces

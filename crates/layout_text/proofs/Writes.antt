@@ -4,14 +4,12 @@ use mathlib.Core.Bool.{true}
 use mathlib.Core.List.{List, [], _∷_}
 use mathlib.Core.Path.{_≡_, refl, _∙_}
 use Prim.Native.Nat.{ℕ, _<_, _≤_}
-use native.Mathlib.Nat.{zero-add}
 use native.Mathlib.Omega.{arith}
 use borrow.Author.Tests.{lt-ltb, le-ltb}
 use lib.ListN.{length}
-use lib.Seq.{sets, sets-eq}
 use Rattle.model.specs.Refusal.{refused, given, cause, refusalOf, unless, wrongLength}
 use Rattle.model.specs.Lent.{Lent, jobOf}
-use Rattle.model.specs.Buffer.{layoutOf, filled}
+use Rattle.model.specs.Buffer.{layoutOf}
 use Rattle.model.specs.LayoutText.{layoutText}
 use Rattle.model.specs.Calls.{layoutCauses, writeLayoutCall}
 use Rattle.model.specs.declared.Refusal.{Refusal}
@@ -36,10 +34,6 @@ module _ (l : Lent) (es : List (List ℕ)) (room : ℕ) where
       → writeLayoutCall l es room ≡ given (layoutText (jobOf l) (layoutOf es))
   unfolding writeLayoutCall unless
   write-given e h = none-then (layoutCauses l es) _ _ (passed-none (layoutCauses l es) e) ∙ rw (le-ltb _ _ h)
-
--- bytes set at the front of a buffer that has room for them fill it
-pub filled-front : (text before : List ℕ) → length text ≤ length before → sets before 0 text ≡ filled text before
-filled-front text before h = sets-eq text before 0 (omega arith) ∙ rw zero-add
 
 -- a part of nothing stays so
 pub nothing-left : {A : Type 0} (xs : List A) → length xs ≡ 0 → xs ≡ []

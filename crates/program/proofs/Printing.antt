@@ -11,7 +11,7 @@ use Rattle.model.specs.Buffer.{filled}
 use Rattle.model.specs.JobText.{readJob}
 use Rattle.model.specs.Program.{printed, programText}
 use Rattle.layout_text.specs.Written.{Written}
-use Rattle.layout_text.proofs.Writes.{filled-front}
+use Rattle.fields.proofs.Stores.{sets-filled}
 use Rattle.program.specs.Output.{outputBound, outputText}
 
 -- a larger bound
@@ -54,4 +54,4 @@ text-printed input before bytes most r after h few e w =
     let short = w .short in
     let end = w .end in
     subst⁻¹ (λ (t : List ℕ). Prints t before r after) (output-text input (length before) h ∙ e)
-    (omega arith, (w .memory ∙ filled-front bytes before (omega arith), omega arith))
+    (omega arith, (w .memory ∙ sets-filled before bytes (omega arith), omega arith))

@@ -27,7 +27,7 @@ use Rattle.placing.proofs.Causes.{Sound, sound, none-then}
 use Rattle.layout_text.specs.Answers.{textAnswer}
 use Rattle.layout_text.specs.Written.{Written}
 use Rattle.layout_text.specs.declared.TextAnswer.{TextAnswer}
-use Rattle.layout_text.proofs.Writes.{filled-front}
+use Rattle.fields.proofs.Stores.{sets-filled}
 use Rattle.program.proofs.Short.{layout-short}
 
 -- the start layout is given
@@ -100,7 +100,7 @@ module _ (l : Lent) (es : List (List ℕ)) (none : NoCause (layoutCauses l es)) 
         record {
           end = end ∙ sym (zero-add _);
           short = short;
-          memory = m ∙ ap (textAfter before) text-given ∙ sym (filled-front (layoutText (jobOf l) (layoutOf es)) before (omega arith));
+          memory = m ∙ ap (textAfter before) text-given ∙ sym (sets-filled before (layoutText (jobOf l) (layoutOf es)) (omega arith));
         }
 
     -- and the answer is no refusal

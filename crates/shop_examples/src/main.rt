@@ -29,7 +29,32 @@ const TABLE: [[u8; 3]; 6] = [
 ];
 
 const PIXELS: [u8; 26] = [
-    1, 1, 1, 1, 1, 1, 1, 1, 1, 1, 1, 0, 1, 1, 1, 0, 1, 1, 1, 1, 0, 1, 1, 1, 1, 1,
+    1,
+    1,
+    1,
+    1,
+    1,
+    1,
+    1,
+    1,
+    1,
+    1,
+    1,
+    0,
+    1,
+    1,
+    1,
+    0,
+    1,
+    1,
+    1,
+    1,
+    0,
+    1,
+    1,
+    1,
+    1,
+    1,
 ];
 
 // The row strips of a piece in these turns, and the pixels that they give again in a box of the side. The buffer holds nine 2s before.
@@ -96,24 +121,8 @@ fn show_no_fit(offset: i32) {
 fn show_pair(layout: [[u16; 3]; 6], i: usize, k: usize) {
     let table = TABLE;
     let pixels = PIXELS;
-    put_amount(pairs::depth(
-        SIZE,
-        &table,
-        &pixels,
-        &layout,
-        i,
-        k,
-        Direction::Horizontal,
-    ));
-    put_amount(pairs::depth(
-        SIZE,
-        &table,
-        &pixels,
-        &layout,
-        i,
-        k,
-        Direction::Vertical,
-    ));
+    put_amount(pairs::depth(SIZE, &table, &pixels, &layout, i, k, Direction::Horizontal));
+    put_amount(pairs::depth(SIZE, &table, &pixels, &layout, i, k, Direction::Vertical));
     put_amount(pairs::penalty(SIZE, &table, &pixels, &layout, i, k));
     end_line();
 }
@@ -129,31 +138,66 @@ fn main() {
     show_no_fit(2);
     io::write_all(1, b"P5");
     show_pair(
-        [[0, 0, 0], [0, 1, 0], [0, 0, 0], [0, 0, 0], [0, 0, 0], [0, 0, 0]],
+        [
+            [0, 0, 0],
+            [0, 1, 0],
+            [0, 0, 0],
+            [0, 0, 0],
+            [0, 0, 0],
+            [0, 0, 0],
+        ],
         0,
         1,
     );
     io::write_all(1, b"P6");
     show_pair(
-        [[0, 0, 0], [0, 0, 0], [0, 0, 0], [0, 0, 0], [0, 0, 0], [0, 0, 0]],
+        [
+            [0, 0, 0],
+            [0, 0, 0],
+            [0, 0, 0],
+            [0, 0, 0],
+            [0, 0, 0],
+            [0, 0, 0],
+        ],
         0,
         1,
     );
     io::write_all(1, b"P7");
     show_pair(
-        [[0, 0, 0], [0, 0, 0], [0, 0, 0], [0, 0, 0], [0, 0, 0], [0, 1, 1]],
+        [
+            [0, 0, 0],
+            [0, 0, 0],
+            [0, 0, 0],
+            [0, 0, 0],
+            [0, 0, 0],
+            [0, 1, 1],
+        ],
         4,
         5,
     );
     io::write_all(1, b"P8");
     show_pair(
-        [[0, 0, 0], [0, 0, 0], [0, 0, 0], [0, 0, 0], [0, 0, 0], [0, 1, 0]],
+        [
+            [0, 0, 0],
+            [0, 0, 0],
+            [0, 0, 0],
+            [0, 0, 0],
+            [0, 0, 0],
+            [0, 1, 0],
+        ],
         4,
         5,
     );
     io::write_all(1, b"P9");
     show_pair(
-        [[0, 0, 0], [0, 0, 0], [0, 0, 0], [180, 1, 0], [0, 0, 0], [0, 0, 0]],
+        [
+            [0, 0, 0],
+            [0, 0, 0],
+            [0, 0, 0],
+            [180, 1, 0],
+            [0, 0, 0],
+            [0, 0, 0],
+        ],
         2,
         3,
     );

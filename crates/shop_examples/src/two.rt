@@ -55,7 +55,14 @@ fn show_descent(columns: usize, budget: u32) {
     let pixels = PIXELS;
     let mut layout = [[0u16, 0, 0], [0, 0, 0]];
     let weights = [1u32];
-    match descent::descent(sheet(columns), &table, &pixels, &mut layout, &weights, budget) {
+    match descent::descent(
+        sheet(columns),
+        &table,
+        &pixels,
+        &mut layout,
+        &weights,
+        budget,
+    ) {
         DescentAnswer::Refused(refusal) => put_refused(refusal.number),
         DescentAnswer::Ended(ended) => {
             put_end(ended.end);

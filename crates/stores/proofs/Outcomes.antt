@@ -17,7 +17,7 @@ use Rattle.model.specs.Calls.{Stores, storesOf, storesShort, storesWell, stores
 use Rattle.model.specs.declared.Direction.{Direction}
 use Rattle.model.specs.declared.Direction.the-variants.{Horizontal, Vertical}
 use Rattle.model.proofs.Tests.{and-left, and-right, or-right, or-neither}
-use Rattle.job.proofs.Filling.{sets-filled}
+use Rattle.fields.proofs.Stores.{sets-filled}
 use Rattle.stores.specs.Stores.{Filled, Cut, storesBy}
 use Rattle.stores.specs.Rooms.{roomOf, roomFor, hasRoom}
 use Rattle.stores.proofs.Cutting.{cut-from}

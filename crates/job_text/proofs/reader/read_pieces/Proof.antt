@@ -13,7 +13,8 @@ use Rattle.job_text.specs.Lines.{jobLineOf}
 use Rattle.job_text.specs.Reading.{PiecesStored, Filled, roomed, Leaves}
 use Rattle.job_text.specs.declared.JobAnswer.the-variants as answer
 use Rattle.job_text.specs.declared.reader.PiecesAnswer.the-variants as pieces
-use Rattle.job_text.proofs.Filling.{pieces-told, pieces-not, pieces-count, no-prefix, sets-filled, room-denied, room-short, room-given, leaves-refused}
+use Rattle.fields.proofs.Stores.{sets-filled}
+use Rattle.job_text.proofs.Filling.{pieces-told, pieces-not, pieces-count, no-prefix, room-denied, room-short, room-given, leaves-refused}
 use borrow.Author.Needs.{needs}
 use Rattle.job_text.proofs.reader.read_pieces.Statement.{statement}
 use Rattle.job_text.proofs.reader.read_pieces.Tie as tie

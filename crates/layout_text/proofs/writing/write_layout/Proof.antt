@@ -14,7 +14,8 @@ use Rattle.placing.proofs.Stacks.{fitting}
 use Rattle.placing.specs.Answers.{firstCause}
 use Rattle.placing.specs.declared.CauseAnswer.{CauseAnswer}
 use Rattle.layout_text.specs.Answers.{textAnswer}
-use Rattle.layout_text.proofs.Writes.{write-refused, write-short, write-given, filled-front, nothing-left}
+use Rattle.fields.proofs.Stores.{sets-filled}
+use Rattle.layout_text.proofs.Writes.{write-refused, write-short, write-given, nothing-left}
 use Rattle.layout_text.proofs.writing.write_layout.Statement.{statement}
 use Rattle.layout_text.proofs.writing.write_layout.Tie as tie
 
@@ -91,7 +92,7 @@ returns-3 c =
     let o : writeLayoutCall l (a .layout .now) (length (a .text .now)) ≡ given (layoutText (jobOf l) (layoutOf (a .layout .now))) =
     write-given l (a .layout .now) _ e long in (
       rw (part .ensures (a .table .now) (a .pixels .now) .0) (sym (ap textAnswer o)),
-      rw none at (c .before .before .put-layout2 .ensures (a .table .now) (a .pixels .now) .1) ∙ filled-front (layoutText (jobOf l) (layoutOf (a .layout .now))) (a .text .now) long ∙ sym (ap (textAfter (a .text .now)) o),
+      rw none at (c .before .before .put-layout2 .ensures (a .table .now) (a .pixels .now) .1) ∙ sets-filled (a .text .now) (layoutText (jobOf l) (layoutOf (a .layout .now))) long ∙ sym (ap (textAfter (a .text .now)) o),
     )
 
 pub write-layout-spec : {M : Type 1} → statement M
