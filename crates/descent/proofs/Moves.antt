@@ -9,7 +9,7 @@ use native.Mathlib.Omega.{arith}
 use lib.Dec.{leb}
 use lib.ListN.{set}
 use Rattle.model.specs.Piece.{extent, other, lineDirection, held}
-use Rattle.model.specs.Layout.{Layout, sheetExtent, turnedPiece}
+use Rattle.model.specs.Layout.{sheetExtent, turnedPiece}
 use Rattle.model.specs.Lent.{Lent, jobOf, lentWell}
 use Rattle.model.specs.Buffer.{entryOf, placementOf, layoutOf, entriesOf}
 use Rattle.model.specs.Search.{Best, places}

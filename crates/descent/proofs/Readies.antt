@@ -3,12 +3,12 @@
 use mathlib.Core.Bool.{true}
 use mathlib.Core.List.{List}
 use mathlib.Core.Option.{Option, none, some}
-use mathlib.Core.Path.{_≡_, refl, sym, ap, ap₂, _∙_, subst}
+use mathlib.Core.Path.{_≡_, refl, sym, ap₂, _∙_, subst}
 use Prim.Native.Nat.{ℕ, _≤_}
 use native.Mathlib.Omega.{arith}
 use lib.ListN.{length, length-map}
 use Rattle.model.specs.Piece.{lineDirection, lineThrough, onLine}
-use Rattle.model.specs.Layout.{Job, Layout, pieceSum, placeOf}
+use Rattle.model.specs.Layout.{Job, pieceSum}
 use Rattle.model.specs.Lent.{Lent, jobOf, lentWell}
 use Rattle.model.specs.Buffer.{placementOf, layoutOf, entriesOf}
 use Rattle.model.specs.Search.{Best}
@@ -20,7 +20,7 @@ use Rattle.model.specs.declared.Placement.{Placement}
 use Rattle.descent_laws.proofs.Claims.{ValidWeights, ValidLayout}
 use Rattle.descent_laws.proofs.Trials.{Proper}
 use Rattle.search_laws.proofs.Table.{PenaltyTable}
-use Rattle.search_laws.proofs.Loop.{trialSearch, trialMoved, trial-valid}
+use Rattle.search_laws.proofs.Loop.{trialSearch, trial-valid}
 use Rattle.shapes.specs.Shapes.{Shapes}
 use Rattle.sums.specs.Drawn.{Laid}
 use Rattle.lines.specs.Kept.{Kept, Wide}

@@ -9,7 +9,7 @@ use model::JobSize;
 use model::Turn;
 use sums::table::total;
 ghost use mathlib.Core.Path.{_≡_};
-ghost use Prim.Native.Nat.{ℕ, _≤_};
+ghost use Prim.Native.Nat.{_≤_};
 ghost use Rattle.model.specs.Lent.{lentBy, jobOf};
 ghost use Rattle.model.specs.Buffer.{layoutOf};
 ghost use Rattle.model.specs.Descent.{descend};
@@ -84,8 +84,9 @@ pub fn descend(
     ensures laid { λ r. ⌜ LaidOut (lentBy size (now (table .entry)) (now (pixels .entry))) (now (layout .exit)) (now (penalties .exit)) ⌝ }
     ensures stores { λ r. ⌜ Stores (jobOf (lentBy size (now (table .entry)) (now (pixels .entry)))) width (now («row_lines» .exit)) (now («row_tags» .exit)) (now («column_lines» .exit)) (now («column_tags» .exit)) ⌝ }
 {
+    let pieces = size.count;
     let count = trial_count(size, table);
-    let mut at = beginning(total(penalties, weights, size.count));
+    let mut at = beginning(total(penalties, weights, pieces));
     loop {
         if at.sum == 0 {
             return end_at(End::Clear, at);

@@ -258,6 +258,7 @@ pub fn step(
     ensures laid { λ r. ⌜ LaidOut (lentBy size (now (table .entry)) (now (pixels .entry))) (now (layout .exit)) (now (penalties .exit)) ⌝ }
     ensures stores { λ r. ⌜ Stores (jobOf (lentBy size (now (table .entry)) (now (pixels .entry)))) width (now («row_lines» .exit)) (now («row_tags» .exit)) (now («column_lines» .exit)) (now («column_tags» .exit)) ⌝ }
 {
+    let sum = at.sum;
     let trial = at.trial;
     let next = next_trial(size, table, trial);
     let present = row_sum(penalties, weights, size.count, trial.piece);
@@ -285,5 +286,5 @@ pub fn step(
     ) else {
         return after_quiet(at, next);
     };
-    after_move(at, next, at.sum - present + found as u64)
+    after_move(at, next, sum - present + found as u64)
 }

@@ -7,7 +7,7 @@ use model::Turn;
 use placing::allows;
 ghost use mathlib.Core.Path.{_≡_};
 ghost use mathlib.Core.List.{List};
-ghost use Prim.Native.Nat.{ℕ, suc, _<_, _≤_};
+ghost use Prim.Native.Nat.{ℕ, _<_, _≤_};
 ghost use lib.ListN.{length};
 ghost use Rattle.model.specs.Bounded.{one-if};
 ghost use Rattle.model.specs.Lent.{lentBy, jobOf, pieceBound};

@@ -3,14 +3,10 @@ use Rattle.descent.proofs.Fresh.{slots-of}
 use borrow.Author.Needs.{needs}
 use Rattle.descent.proofs.memory.slot_count.Statement.{statement}
 use Rattle.descent.proofs.memory.slot_count.Tie as tie
-use Rattle.descent.proofs.memory.slot_count.Reads as reads
-use Rattle.descent.proofs.memory.slot_count.Lts as lts
 
--- src/memory.rt:25:5
 div-result : tie.Need-div-result
 div-result c = search needs
 
--- src/memory.rt:21:1
 returns : tie.Need-returns
 returns c = slots-of (c .args .width) (c .pre .0) (c .pre .1)
 

@@ -1,76 +1,75 @@
 -- `descent::memory::with_column_lines` meets its contract: fresh tags name no line, and the table is the layout's. Assumes nothing.
-use Rattle.descent.proofs.Readies.{given-laid, given-length}
-use Rattle.descent.proofs.Fresh.{tags-lent, store-fresh}
-use Rattle.sums.specs.Drawn.{Drawn}
-use Rattle.search_laws.proofs.Table.{PenaltyTable}
-use Rattle.model.specs.declared.Direction.the-variants.{Vertical}
-use Rattle.model.specs.Buffer.{layoutOf}
+use mathlib.Core.Path.{refl, sym, subst}
+use Prim.Native.Nat.{ℕ}
 use Rattle.model.specs.Lent.{Lent, lentBy, jobOf}
-use mathlib.Core.Path.{_≡_, refl, sym, subst}
+use Rattle.model.specs.Buffer.{layoutOf}
+use Rattle.model.specs.declared.Direction.the-variants.{Vertical}
+use Rattle.search_laws.proofs.Table.{PenaltyTable}
+use Rattle.sums.specs.Drawn.{Drawn}
+use Rattle.descent.proofs.Fresh.{tags-lent, store-fresh}
+use Rattle.descent.proofs.Readies.{given-laid, given-length}
 use borrow.Author.Needs.{needs}
 use Rattle.descent.proofs.memory.with_column_lines.Statement.{statement}
 use Rattle.descent.proofs.memory.with_column_lines.Tie as tie
-use Rattle.descent.proofs.memory.with_column_lines.Reads as reads
-use Rattle.descent.proofs.memory.with_column_lines.Lts as lts
-use Rattle.descent.proofs.memory.slot_count.Reads as slot-count-reads
-use Rattle.descent.proofs.run.descend.Reads as descend-reads
-use Rattle.sums.proofs.table.fill_table.Reads as fill-table-reads
 
--- src/memory.rt:54:9
+-- the lent job
+abbrev lent : tie.Start → Lent
+lent e = lentBy (e .args .size) (e .args .table .now) (e .args .pixels .now)
+
+-- the layout and the strips of its pieces
+drawn : (e : tie.Start)
+    → Drawn (lent e) (e .args .rows .now) (e .args .row-starts .now) (e .args .columns .now) (e .args .column-starts .now) (e .args .layout .now)
+drawn e =
+    let tools = e .pre .1 .0 in
+    let laid = given-laid (lent e) (e .args .layout .now) (e .args .weights .now) (e .args .budget) (e .pre .0) in
+    record { inRows = record { laid = laid; horizontal = tools .horizontal }; vertical = tools .vertical }
+
 slot-count-requires : tie.Need-slot-count-requires
 slot-count-requires c κs = search needs
 
--- src/memory.rt:55:73
 slice-aggregate-fill-table : tie.Need-slice-aggregate-fill-table
 slice-aggregate-fill-table c = search needs
 
--- src/memory.rt:55:5
 fill-table-requires : tie.Need-fill-table-requires
 fill-table-requires c κs =
-    let a = c .before .before .before .before .before .before .before .before .before .args in
-    let l : Lent = lentBy (a .size) (a .table .now) (a .pixels .now) in
-    let tools = c .before .before .before .before .before .before .before .before .before .pre .1 .0 in
-    (record { size = a .size; pixels = a .pixels .now; drawn = record { inRows = record { laid = given-laid l (a .layout .now) (a .weights .now) (a .budget) (c .before .before .before .before .before .before .before .before .before .pre .0); horizontal = tools .horizontal }; vertical = tools .vertical } }, refl)
+    let e = c .before .before .before .before .before .before .before .before .before in (record { size = e .args .size; pixels = e .args .pixels .now; drawn = drawn e }, refl)
 
--- src/memory.rt:57:104
 slice-aggregate-descend : tie.Need-slice-aggregate-descend
 slice-aggregate-descend c = search needs
 
--- src/memory.rt:57:141
 slice-aggregate-descend-2 : tie.Need-slice-aggregate-descend-2
 slice-aggregate-descend-2 c = search needs
 
--- src/memory.rt:57:153
 array-borrow-prefix-tags : tie.Need-array-borrow-prefix-tags
 array-borrow-prefix-tags c = search needs
 
--- src/memory.rt:57:153
 slice-aggregate-descend-3 : tie.Need-slice-aggregate-descend-3
-slice-aggregate-descend-3 c = sym (tags-lent (c .before .before .before .before .before .before .before .before .before .before .before .before .before .before .before .before .before .args .width) (c .before .before .before .before .before .before .before .before .before .before .slot-count .result) (c .before .before .before .before .before .before .before .before .before .before .slot-count .ensures))
+slice-aggregate-descend-3 c =
+    sym (tags-lent _ _ (c .before .before .before .before .before .before .before .before .before .before .slot-count .ensures))
 
--- src/memory.rt:56:5
 descend-requires : tie.Need-descend-requires
 descend-requires c κs =
-    let a = c .before .before .before .before .before .before .before .before .before .before .before .before .before .before .before .before .before .args in
-    let l : Lent = lentBy (a .size) (a .table .now) (a .pixels .now) in
-    let tools = c .before .before .before .before .before .before .before .before .before .before .before .before .before .before .before .before .before .pre .1 .0 in
-    let drawn : Drawn l (a .rows .now) (a .«row-starts» .now) (a .columns .now) (a .«column-starts» .now) (a .layout .now) = record { inRows = record { laid = given-laid l (a .layout .now) (a .weights .now) (a .budget) (c .before .before .before .before .before .before .before .before .before .before .before .before .before .before .before .before .before .pre .0); horizontal = tools .horizontal }; vertical = tools .vertical } in
-    let table : PenaltyTable (jobOf l) (layoutOf (a .layout .now)) (a .size .count) (c .before .before .before .before .before .before .before .fill-table .last .1 .1 .1 .1 .1 .1 .0) = subst (λ n. PenaltyTable (jobOf l) (layoutOf (a .layout .now)) n (c .before .before .before .before .before .before .before .fill-table .last .1 .1 .1 .1 .1 .1 .0)) (given-length l (a .layout .now) (a .weights .now) (a .budget) (c .before .before .before .before .before .before .before .before .before .before .before .before .before .before .before .before .before .pre .0)) (c .before .before .before .before .before .before .before .fill-table .ensures (a .size) (a .pixels .now) drawn) in
-    (tools, (c .before .before .before .before .before .before .before .before .before .before .before .before .before .before .before .before .before .pre .0 .weights, (record { valid = c .before .before .before .before .before .before .before .before .before .before .before .before .before .before .before .before .before .pre .0 .valid; written = c .before .before .before .before .before .before .before .before .before .before .before .before .before .before .before .before .before .pre .0 .written; table = table }, (record { inRows = c .before .before .before .before .before .before .before .before .before .before .before .before .before .before .before .before .before .pre .1 .1; inColumns = store-fresh Vertical (jobOf l) (a .width) (c .before .before .before .before .before .before .before .before .before .before .slot-count .result) (c .before .before .before .before .before .before .before .before .before .before .slot-count .ensures) }, c .before .before .before .before .before .before .before .before .before .before .before .before .before .before .before .before .before .pre .0 .few))))
+    let e = c .before .before .before .before .before .before .before .before .before .before .before .before .before .before .before .before .before in
+    let g = e .pre .0 in
+    let f = c .before .before .before .before .before .before .before .fill-table in
+    let T = f .last .1 .1 .1 .1 .1 .1 .0 in
+    let whole = given-length (lent e) (e .args .layout .now) (e .args .weights .now) (e .args .budget) g in
+    let table : PenaltyTable (jobOf (lent e)) (layoutOf (e .args .layout .now)) (e .args .size .count) T =
+    subst (λ (n : ℕ). PenaltyTable (jobOf (lent e)) (layoutOf (e .args .layout .now)) n T) whole (f .ensures (e .args .size) (e .args .pixels .now) (drawn e)) in
+    let stores = store-fresh Vertical (jobOf (lent e)) (e .args .width) (c .before .before .before .before .before .before .before .before .before .before .slot-count .result) (c .before .before .before .before .before .before .before .before .before .before .slot-count .ensures) in (
+      e .pre .1 .0,
+      (g .weights, (record { valid = g .valid; written = g .written; table = table }, (record { inRows = e .pre .1 .1; inColumns = stores }, g .few))),
+    )
 
--- src/memory.rt:29:1
 same-length : tie.Need-same-length
 same-length c = search needs
 
--- src/memory.rt:29:1
 same-length-2 : tie.Need-same-length-2
 same-length-2 c = search needs
 
--- src/memory.rt:29:1
 same-length-3 : tie.Need-same-length-3
 same-length-3 c = search needs
 
--- src/memory.rt:29:1
 returns : tie.Need-returns
 returns c = search needs
 

@@ -3,60 +3,43 @@ use Rattle.sums.proofs.Causes.{room}
 use borrow.Author.Needs.{needs}
 use Rattle.descent.proofs.memory.with_strips.Statement.{statement}
 use Rattle.descent.proofs.memory.with_strips.Tie as tie
-use Rattle.descent.proofs.memory.with_strips.Reads as reads
-use Rattle.descent.proofs.memory.with_strips.Lts as lts
-use Rattle.descent.proofs.memory.with_row_lines.Reads as with-row-lines-reads
-use Rattle.shapes.proofs.make_shapes.Reads as make-shapes-reads
 
--- src/memory.rt:107:61
 slice-aggregate-make-shapes : tie.Need-slice-aggregate-make-shapes
 slice-aggregate-make-shapes c = search needs
 
--- src/memory.rt:107:72
 slice-aggregate-make-shapes-2 : tie.Need-slice-aggregate-make-shapes-2
 slice-aggregate-make-shapes-2 c = search needs
 
--- src/memory.rt:107:5
 make-shapes-requires : tie.Need-make-shapes-requires
 make-shapes-requires c κs = (c .before .before .before .before .pre .well, room)
 
--- src/memory.rt:108:59
 slice-aggregate-make-shapes-3 : tie.Need-slice-aggregate-make-shapes-3
 slice-aggregate-make-shapes-3 c = search needs
 
--- src/memory.rt:108:73
 slice-aggregate-make-shapes-4 : tie.Need-slice-aggregate-make-shapes-4
 slice-aggregate-make-shapes-4 c = search needs
 
--- src/memory.rt:108:5
 make-shapes-requires-2 : tie.Need-make-shapes-requires-2
 make-shapes-requires-2 c κs = (c .before .before .before .before .before .before .before .before .before .pre .well, room)
 
--- src/memory.rt:110:30
 slice-aggregate-with-row-lines : tie.Need-slice-aggregate-with-row-lines
 slice-aggregate-with-row-lines c = search needs
 
--- src/memory.rt:110:37
 slice-aggregate-with-row-lines-2 : tie.Need-slice-aggregate-with-row-lines-2
 slice-aggregate-with-row-lines-2 c = search needs
 
--- src/memory.rt:110:50
 slice-aggregate-with-row-lines-3 : tie.Need-slice-aggregate-with-row-lines-3
 slice-aggregate-with-row-lines-3 c = search needs
 
--- src/memory.rt:110:60
 slice-aggregate-with-row-lines-4 : tie.Need-slice-aggregate-with-row-lines-4
 slice-aggregate-with-row-lines-4 c = search needs
 
--- src/memory.rt:109:5
 with-row-lines-requires : tie.Need-with-row-lines-requires
 with-row-lines-requires c κs = search needs
 
--- src/memory.rt:91:1
 same-length : tie.Need-same-length
 same-length c = search needs
 
--- src/memory.rt:91:1
 returns : tie.Need-returns
 returns c = search needs
 

@@ -2,26 +2,19 @@
 use borrow.Author.Needs.{needs}
 use Rattle.descent.proofs.step.place_on.Statement.{statement}
 use Rattle.descent.proofs.step.place_on.Tie as tie
-use Rattle.descent.proofs.step.place_on.Reads as reads
-use Rattle.descent.proofs.step.place_on.Lts as lts
 
--- src/step.rt:58:16
 cast-here : tie.Need-cast-here
 cast-here c = search needs
 
--- src/step.rt:60:21
 enum-known-line : tie.Need-enum-known-line
 enum-known-line c = search needs
 
--- src/step.rt:65:24
 enum-known-line-2 : tie.Need-enum-known-line-2
 enum-known-line-2 c = search needs
 
--- src/step.rt:54:1
 returns : tie.Need-returns
 returns c = rw (c .before .line .given .1)
 
--- src/step.rt:54:1
 returns-2 : tie.Need-returns-2
 returns-2 c = rw (c .before .line2 .given .1)
 

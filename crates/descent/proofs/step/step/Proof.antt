@@ -1,216 +1,236 @@
 -- `descent::step::step` meets its contract: a piece whose pair sum is 0 is quiet without a search, else the search decides. Assumes nothing.
-use Rattle.descent.proofs.Passes.{present-small, total-small, quiet-passed, moved-passed, moved-layout}
-use Rattle.descent.proofs.Moves.{MovedTo, tried-quiet, tried-moved}
-use Rattle.descent.specs.declared.step.Standing.{Standing}
-use Rattle.descent.specs.Steps.{entriesAfter, standingAs}
-use Rattle.descent.specs.Trials.{trialAs}
-use Rattle.shapes.proofs.Jobs.{sheet}
-use Rattle.search_laws.proofs.Loop.{trialSearch, trialMoved, trial-moved, trial-quiet, trial-sum, trial-place}
-use Rattle.search_laws.proofs.TrialIndex.{nextTrial}
-use Rattle.descent_laws.proofs.Descent.{zero-quiet}
-use Rattle.descent_laws.proofs.Sums.{piece-at-most}
-use Rattle.text_laws.proofs.LentFacts.{facts}
-use Rattle.model.specs.Descent.{trialLine, attempt, moved}
-use Rattle.model.specs.Buffer.{layoutOf}
-use Rattle.model.specs.Lent.{Lent, lentBy, jobOf}
-use Rattle.model.specs.Layout.{Layout, pieceSum, weightedSum}
-use native.Mathlib.Omega.{arith}
-use Prim.Native.Nat.{ℕ, _+_, _-_, _<_, _≤_}
+use mathlib.Core.Option.{Option, none}
 use mathlib.Core.Path.{_≡_, refl, sym, ap, _∙_}
-use mathlib.Core.Option.{none, some}
+use Prim.Native.Nat.{_+_, _-_}
+use native.Mathlib.Omega.{arith}
+use Rattle.model.specs.Layout.{Layout, pieceSum, weightedSum}
+use Rattle.model.specs.Lent.{Lent, lentBy, jobOf}
+use Rattle.model.specs.Buffer.{layoutOf}
+use Rattle.model.specs.Search.{Best}
+use Rattle.model.specs.Descent as model
+use Rattle.model.specs.Descent.{trialLine, attempt, moved}
+use Rattle.text_laws.proofs.LentFacts.{facts}
+use Rattle.descent_laws.proofs.Sums.{piece-at-most}
+use Rattle.descent_laws.proofs.Descent.{zero-quiet}
+use Rattle.search_laws.proofs.TrialIndex.{nextTrial}
+use Rattle.search_laws.proofs.Loop.{trialSearch, trialMoved, trial-moved, trial-quiet, trial-sum, trial-place}
+use Rattle.shapes.proofs.Jobs.{sheet}
+use Rattle.descent.specs.Trials.{trialAs}
+use Rattle.descent.specs.Steps.{entriesAfter, standingAs}
+use Rattle.descent.specs.declared.step.Standing.{Standing}
+use Rattle.descent.proofs.Moves.{MovedTo, tried-quiet, tried-moved}
+use Rattle.descent.proofs.Passes.{present-small, total-small, quiet-passed, moved-passed, moved-layout}
 use borrow.Author.Needs.{needs}
 use Rattle.descent.proofs.step.step.Statement.{statement}
 use Rattle.descent.proofs.step.step.Tie as tie
-use Rattle.descent.proofs.step.step.Reads as reads
-use Rattle.descent.proofs.step.step.Lts as lts
-use Rattle.descent.proofs.step.after_move.Reads as after-move-reads
-use Rattle.descent.proofs.step.after_quiet.Reads as after-quiet-reads
-use Rattle.descent.proofs.step.try_trial.Reads as try-trial-reads
-use Rattle.descent.proofs.trial.next_trial.Reads as next-trial-reads
-use Rattle.sums.proofs.table.row_sum.Reads as row-sum-reads
 
--- src/step.rt:221:9
+-- the lent job, the layout at hand, the trial and what its search comes to
+abbrev lent : tie.Start → Lent
+lent e = lentBy (e .args .size) (e .args .table .now) (e .args .pixels .now)
+
+abbrev layoutAt : tie.Start → Layout
+layoutAt e = layoutOf (e .args .layout .now)
+
+abbrev trialAt : tie.Start → model.Trial
+trialAt e = trialAs (e .args .at .trial)
+
+abbrev sought : tie.Start → Option Best
+sought e = trialSearch (jobOf (lent e)) (e .args .weights .now) (layoutAt e) (trialAt e)
+
 next-trial-requires : tie.Need-next-trial-requires
 next-trial-requires c κs =
-    let a = c .before .before .before .before .before .before .before .before .before .before .args in
-    let l : Lent = lentBy (a .size) (a .table .now) (a .pixels .now) in
-    (c .before .before .before .before .before .before .before .before .before .before .pre .1 .1 .1 .1 .0 .below, (facts l (c .before .before .before .before .before .before .before .before .before .before .pre .0 .well) .entries, sheet l (c .before .before .before .before .before .before .before .before .before .before .pre .0 .well) .pieces))
+    let e = c .before .before .before .before .before .before .before .before .before .before in
+    (e .pre .1 .1 .1 .1 .0 .below, (facts (lent e) (e .pre .0 .well) .entries, sheet (lent e) (e .pre .0 .well) .pieces))
 
--- src/step.rt:222:9
 row-sum-requires : tie.Need-row-sum-requires
 unfolding jobOf
 row-sum-requires c κs =
-    let a = c .before .before .before .before .before .before .before .before .before .before .before .before .args in
-    let l : Lent = lentBy (a .size) (a .table .now) (a .pixels .now) in
-    (record { few = sheet l (c .before .before .before .before .before .before .before .before .before .before .before .before .pre .0 .well) .pieces; size = c .before .before .before .before .before .before .before .before .before .before .before .before .pre .1 .1 .0 .table .size; onePerPair = c .before .before .before .before .before .before .before .before .before .before .before .before .pre .1 .0 .onePerPair }, c .before .before .before .before .before .before .before .before .before .before .before .before .pre .1 .1 .1 .1 .0 .below)
+    let e = c .before .before .before .before .before .before .before .before .before .before .before .before in
+    let t = e .pre .1 .1 .0 .table in
+    (record { few = sheet (lent e) (e .pre .0 .well) .pieces; size = t .size; onePerPair = e .pre .1 .0 .onePerPair }, e .pre .1 .1 .1 .1 .0 .below)
 
--- src/step.rt:224:9
+-- the entry, from where the present pair sum is known
+abbrev entry : tie.After-row-sum → tie.Start
+entry c = c .before .before .before .before .before .before .before .before .before .before .before .before .before
+
+-- the present pair sum
+present : (c : tie.After-row-sum)
+    → c .row-sum .result ≡ pieceSum (jobOf (lent (entry c))) (entry c .args .weights .now) (layoutAt (entry c)) (entry c .args .at .trial .piece)
+unfolding jobOf
+present c = let e = entry c in c .row-sum .ensures (jobOf (lent e)) (layoutAt e) refl (e .pre .1 .1 .0 .table)
+
+-- the trial that comes next
+next : (c : tie.After-row-sum) → trialAs (c .before .before .next-trial .result) ≡ nextTrial (jobOf (lent (entry c))) (trialAt (entry c))
+next c = c .before .before .next-trial .ensures (entry c .args .pixels .now)
+
 after-quiet-requires : tie.Need-after-quiet-requires
-after-quiet-requires c κs = (c .before .before .before .before .before .before .before .before .before .before .before .before .before .before .pre .1 .1 .1 .1 .1 .1 .0, c .before .before .before .before .before .before .before .before .before .before .before .before .before .before .pre .1 .1 .1 .1 .1 .1 .1 .0)
+after-quiet-requires c κs =
+    let n = c .before .before .before .before .before .before .before .before .before .before .before .before .before .before .pre .1 .1 .1 .1 .1 .1 in (n .0, n .1 .0)
 
--- src/step.rt:224:9
 same-length : tie.Need-same-length
 same-length c = search needs
 
--- src/step.rt:224:9
 returns : tie.Need-returns
-unfolding jobOf
 returns c =
-    let a = c .before .before .before .before .before .before .before .before .before .before .before .before .before .before .before .args in
-    let l : Lent = lentBy (a .size) (a .table .now) (a .pixels .now) in
-    let v : Layout = layoutOf (a .layout .now) in
-    let present : c .before .before .row-sum .result ≡ pieceSum (jobOf l) (a .weights .now) v (a .at .trial .piece) = c .before .before .row-sum .ensures (jobOf l) v refl (c .before .before .before .before .before .before .before .before .before .before .before .before .before .before .before .pre .1 .1 .0 .table) in
-    let next : trialAs (c .before .before .before .before .next-trial .result) ≡ nextTrial (jobOf l) (trialAs (a .at .trial)) = c .before .before .before .before .next-trial .ensures (a .pixels .now) in
-    (quiet-passed (jobOf l) (a .weights .now) v (a .at) (c .before .before .before .before .next-trial .result) next (c .after-quiet .result) (c .after-quiet .ensures) (zero-quiet (jobOf l) (a .weights .now) v (trialAs (a .at .trial)) (sym present ∙ c .before .if1 .taken)), (ap (λ (s : Standing). s .sum) (c .after-quiet .ensures) ∙ c .before .before .before .before .before .before .before .before .before .before .before .before .before .before .before .pre .1 .1 .1 .1 .1 .0, (c .before .before .before .before .before .before .before .before .before .before .before .before .before .before .before .pre .1 .1 .0, c .before .before .before .before .before .before .before .before .before .before .before .before .before .before .before .pre .1 .1 .1 .0)))
+    let b = c .before .before in
+    let e = entry b in
+    let j = jobOf (lent e) in
+    let r = c .after-quiet in
+    let still = zero-quiet j (e .args .weights .now) (layoutAt e) (trialAt e) (sym (present b) ∙ c .before .if1 .taken) in (
+      quiet-passed j (e .args .weights .now) (layoutAt e) (e .args .at) _ (next b) (r .result) (r .ensures) still,
+      (ap (λ (s : Standing). s .sum) (r .ensures) ∙ e .pre .1 .1 .1 .1 .1 .0, (e .pre .1 .1 .0, e .pre .1 .1 .1 .0)),
+    )
 
--- src/step.rt:227:88
 cast-try-trial : tie.Need-cast-try-trial
-unfolding jobOf
 cast-try-trial c =
-    let a = c .before .before .before .before .before .before .before .before .before .before .before .before .before .before .args in
-    let l : Lent = lentBy (a .size) (a .table .now) (a .pixels .now) in
-    let v : Layout = layoutOf (a .layout .now) in
-    let present : c .before .row-sum .result ≡ pieceSum (jobOf l) (a .weights .now) v (a .at .trial .piece) = c .before .row-sum .ensures (jobOf l) v refl (c .before .before .before .before .before .before .before .before .before .before .before .before .before .before .pre .1 .1 .0 .table) in
-    let small = present-small l (c .before .before .before .before .before .before .before .before .before .before .before .before .before .before .pre .0 .well) (a .weights .now) (c .before .before .before .before .before .before .before .before .before .before .before .before .before .before .pre .1 .0) v (a .at .trial .piece) (c .before .before .before .before .before .before .before .before .before .before .before .before .before .before .pre .1 .1 .1 .1 .0 .below) in
+    let b = c .before in
+    let e = entry b in
+    let is = present b in
+    let small = present-small (lent e) (e .pre .0 .well) (e .args .weights .now) (e .pre .1 .0) (layoutAt e) (e .args .at .trial .piece) (e .pre .1 .1 .1 .1 .0 .below) in
     omega arith
 
--- src/step.rt:226:31
 try-trial-requires : tie.Need-try-trial-requires
-unfolding jobOf
 try-trial-requires c κs =
-    let a = c .before .before .before .before .before .before .before .before .before .before .before .before .before .before .before .before .before .before .before .before .args in
-    let l : Lent = lentBy (a .size) (a .table .now) (a .pixels .now) in
-    let v : Layout = layoutOf (a .layout .now) in
-    let present : c .before .before .before .before .before .before .before .row-sum .result ≡ pieceSum (jobOf l) (a .weights .now) v (a .at .trial .piece) = c .before .before .before .before .before .before .before .row-sum .ensures (jobOf l) v refl (c .before .before .before .before .before .before .before .before .before .before .before .before .before .before .before .before .before .before .before .before .pre .1 .1 .0 .table) in
-    (c .before .before .before .before .before .before .before .before .before .before .before .before .before .before .before .before .before .before .before .before .pre .0, (c .before .before .before .before .before .before .before .before .before .before .before .before .before .before .before .before .before .before .before .before .pre .1 .0, (c .before .before .before .before .before .before .before .before .before .before .before .before .before .before .before .before .before .before .before .before .pre .1 .1 .0, (c .before .before .before .before .before .before .before .before .before .before .before .before .before .before .before .before .before .before .before .before .pre .1 .1 .1 .0, (c .before .before .before .before .before .before .before .before .before .before .before .before .before .before .before .before .before .before .before .before .pre .1 .1 .1 .1 .0, present)))))
+    let b = c .before .before .before .before .before .before .before in
+    let e = entry b in
+    (e .pre .0, (e .pre .1 .0, (e .pre .1 .1 .0, (e .pre .1 .1 .1 .0, (e .pre .1 .1 .1 .1 .0, present b)))))
 
--- src/step.rt:226:22
 enum-known-found : tie.Need-enum-known-found
 enum-known-found c = search needs
 
--- src/step.rt:229:9
 enum-told : tie.Need-enum-told
 enum-told c = search needs
 
--- src/step.rt:229:9
-after-quiet-requires-2 : tie.Need-after-quiet-requires-2
-after-quiet-requires-2 c κs = (c .before .before .before .before .before .before .before .before .before .before .before .before .before .before .before .before .before .before .before .before .before .before .before .before .before .before .before .before .before .before .before .before .before .before .pre .1 .1 .1 .1 .1 .1 .0, c .before .before .before .before .before .before .before .before .before .before .before .before .before .before .before .before .before .before .before .before .before .before .before .before .before .before .before .before .before .before .before .before .before .before .pre .1 .1 .1 .1 .1 .1 .1 .0)
+-- the present pair sum, from where the trial was taken
+abbrev summed : tie.After-try-trial → tie.After-row-sum
+summed c = c .before .before .before .before .before .before .before .before
 
--- src/step.rt:229:9
+-- what the layout buffer holds after the trial
+abbrev left : tie.After-try-trial → Layout
+left c = layoutOf (c .try-trial .last .1 .1 .1 .1 .1 .1 .1 .1 .1 .1 .1 .0)
+
+-- and what it is by the search
+after : (c : tie.After-try-trial) (o : Option Best) → sought (entry (summed c)) ≡ o
+    → c .try-trial .last .1 .1 .1 .1 .1 .1 .1 .1 .1 .1 .1 .0
+    ≡ entriesAfter (entry (summed c) .args .layout .now) (trialAt (entry (summed c)) .piece) (trialAt (entry (summed c)) .turn)
+    (trialLine (layoutAt (entry (summed c))) (trialAt (entry (summed c)))) o
+after c o found =
+    let e = entry (summed c) in
+    c .try-trial .ensures .1 .0
+    ∙ ap (entriesAfter (e .args .layout .now) (trialAt e .piece) (trialAt e .turn) (trialLine (layoutAt e) (trialAt e))) found
+
+after-quiet-requires-2 : tie.Need-after-quiet-requires-2
+after-quiet-requires-2 c κs =
+    let n = c .before .before .before .before .before .before .before .before .before .before .before .before .before .before .before .before .before .before .before .before .before .before .before .before .before .before .before .before .before .before .before .before .before .before .pre .1 .1 .1 .1 .1 .1 in (n .0, n .1 .0)
+
 same-length-2 : tie.Need-same-length-2
 same-length-2 c = search needs
 
--- src/step.rt:229:9
 same-length-3 : tie.Need-same-length-3
 same-length-3 c = search needs
 
--- src/step.rt:229:9
 same-length-4 : tie.Need-same-length-4
 same-length-4 c = search needs
 
--- src/step.rt:229:9
 same-length-5 : tie.Need-same-length-5
 same-length-5 c = search needs
 
--- src/step.rt:229:9
 same-length-6 : tie.Need-same-length-6
 same-length-6 c = search needs
 
--- src/step.rt:229:9
 same-length-7 : tie.Need-same-length-7
 same-length-7 c = search needs
 
--- src/step.rt:229:9
 returns-2 : tie.Need-returns-2
-unfolding jobOf
 returns-2 c =
-    let a = c .before .before .before .before .before .before .before .before .before .before .before .before .before .before .before .before .before .before .before .before .before .before .before .before .before .before .before .before .before .before .before .before .before .before .before .args in
-    let l : Lent = lentBy (a .size) (a .table .now) (a .pixels .now) in
-    let v : Layout = layoutOf (a .layout .now) in
-    let next : trialAs (c .before .before .before .before .before .before .before .before .before .before .before .before .before .before .before .before .before .before .before .before .before .before .before .before .next-trial .result) ≡ nextTrial (jobOf l) (trialAs (a .at .trial)) = c .before .before .before .before .before .before .before .before .before .before .before .before .before .before .before .before .before .before .before .before .before .before .before .before .next-trial .ensures (a .pixels .now) in
-    let wrote : (c .before .before .before .before .before .before .before .before .before .before .before .before .before .before .try-trial .last .1 .1 .1 .1 .1 .1 .1 .1 .1 .1 .1 .0) ≡ entriesAfter (a .layout .now) (a .at .trial .piece) (a .at .trial .turn) (trialLine v (trialAs (a .at .trial))) (trialSearch (jobOf l) (a .weights .now) v (trialAs (a .at .trial))) = c .before .before .before .before .before .before .before .before .before .before .before .before .before .before .try-trial .ensures .1 .0 in
-    let nothing : trialSearch (jobOf l) (a .weights .now) v (trialAs (a .at .trial)) ≡ none = tried-quiet _ (sym (c .before .enum-told .given .1) ∙ c .before .before .before .before .before .before .before .before .before .before .before .before .before .before .try-trial .ensures .0) in
-    let same : (c .before .before .before .before .before .before .before .before .before .before .before .before .before .before .try-trial .last .1 .1 .1 .1 .1 .1 .1 .1 .1 .1 .1 .0) ≡ a .layout .now = wrote ∙ ap (entriesAfter (a .layout .now) (a .at .trial .piece) (a .at .trial .turn) (trialLine v (trialAs (a .at .trial)))) nothing in
-    (ap (λ (w : Layout). standingAs w (c .after-quiet2 .result)) (ap layoutOf same) ∙ quiet-passed (jobOf l) (a .weights .now) v (a .at) (c .before .before .before .before .before .before .before .before .before .before .before .before .before .before .before .before .before .before .before .before .before .before .before .before .next-trial .result) next (c .after-quiet2 .result) (c .after-quiet2 .ensures) (trial-quiet (jobOf l) (a .weights .now) v (trialAs (a .at .trial)) nothing), (ap (λ (s : Standing). s .sum) (c .after-quiet2 .ensures) ∙ c .before .before .before .before .before .before .before .before .before .before .before .before .before .before .before .before .before .before .before .before .before .before .before .before .before .before .before .before .before .before .before .before .before .before .before .pre .1 .1 .1 .1 .1 .0 ∙ sym (ap (λ (w : Layout). weightedSum (jobOf l) (a .weights .now) w) (ap layoutOf same)), (c .before .before .before .before .before .before .before .before .before .before .before .before .before .before .try-trial .ensures .1 .1 .0, c .before .before .before .before .before .before .before .before .before .before .before .before .before .before .try-trial .ensures .1 .1 .1)))
+    let t = c .before .before .before .before .before .before .before .before .before .before .before .before .before .before in
+    let b = summed t in
+    let e = entry b in
+    let j = jobOf (lent e) in
+    let ws = e .args .weights .now in
+    let r = c .after-quiet2 in
+    let nothing : sought e ≡ none = tried-quiet (sought e) (sym (c .before .enum-told .given .1) ∙ t .try-trial .ensures .0) in
+    let same : left t ≡ layoutAt e = ap layoutOf (after t none nothing) in
+    let passed = quiet-passed j ws (layoutAt e) (e .args .at) _ (next b) (r .result) (r .ensures) (trial-quiet j ws (layoutAt e) (trialAt e) nothing) in (
+      ap (λ (w : Layout). standingAs w (r .result)) same ∙ passed,
+      (
+        ap (λ (s : Standing). s .sum) (r .ensures) ∙ e .pre .1 .1 .1 .1 .1 .0 ∙ sym (ap (weightedSum j ws) same),
+        (t .try-trial .ensures .1 .1 .0, t .try-trial .ensures .1 .1 .1),
+      ),
+    )
 
--- src/step.rt:231:26
+-- the place that was found
+place : (c : tie.After-found) → MovedTo (sought (entry (summed (c .before .before .before .before .before .before .before .before .before .before .before .before .before)))) (c .found .given .0 .0)
+place c = tried-moved _ _ (sym (c .found .given .1) ∙ c .before .before .before .before .before .before .before .before .before .before .before .before .before .try-trial .ensures .0)
+
 sub-after-move : tie.Need-sub-after-move
-unfolding jobOf
 sub-after-move c =
-    let a = c .before .before .before .before .before .before .before .before .before .before .before .before .before .before .before .before .before .before .before .before .before .before .before .before .before .before .before .before .before .before .before .before .before .before .before .before .args in
-    let l : Lent = lentBy (a .size) (a .table .now) (a .pixels .now) in
-    let v : Layout = layoutOf (a .layout .now) in
-    let present : c .before .before .before .before .before .before .before .before .before .before .before .before .before .before .before .before .before .before .before .before .before .before .before .row-sum .result ≡ pieceSum (jobOf l) (a .weights .now) v (a .at .trial .piece) = c .before .before .before .before .before .before .before .before .before .before .before .before .before .before .before .before .before .before .before .before .before .before .before .row-sum .ensures (jobOf l) v refl (c .before .before .before .before .before .before .before .before .before .before .before .before .before .before .before .before .before .before .before .before .before .before .before .before .before .before .before .before .before .before .before .before .before .before .before .before .pre .1 .1 .0 .table) in
-    let most = piece-at-most (jobOf l) (a .weights .now) v (a .at .trial .piece) in
-    let sum = c .before .before .before .before .before .before .before .before .before .before .before .before .before .before .before .before .before .before .before .before .before .before .before .before .before .before .before .before .before .before .before .before .before .before .before .before .pre .1 .1 .1 .1 .1 .0 in
+    let b = c .before .before .before .before .before .before .before .before .before .before .before .before .before .before .before .before .before .before .before .before .before .before in
+    let e = entry b in
+    let is = present b in
+    let most = piece-at-most (jobOf (lent e)) (e .args .weights .now) (layoutAt e) (e .args .at .trial .piece) in
+    let sum = e .pre .1 .1 .1 .1 .1 .0 in
     omega arith
 
--- src/step.rt:231:45
 cast-after-move : tie.Need-cast-after-move
 cast-after-move c = search needs
 
--- src/step.rt:231:26
 add-after-move : tie.Need-add-after-move
-unfolding jobOf
 add-after-move c =
-    let a = c .before .before .before .before .before .before .before .before .before .before .before .before .before .before .before .before .before .before .before .before .before .before .before .before .before .before .before .before .before .before .before .before .before .before .before .before .args in
-    let l : Lent = lentBy (a .size) (a .table .now) (a .pixels .now) in
-    let v : Layout = layoutOf (a .layout .now) in
-    let present : c .before .before .before .before .before .before .before .before .before .before .before .before .before .before .before .before .before .before .before .before .before .before .before .row-sum .result ≡ pieceSum (jobOf l) (a .weights .now) v (a .at .trial .piece) = c .before .before .before .before .before .before .before .before .before .before .before .before .before .before .before .before .before .before .before .before .before .before .before .row-sum .ensures (jobOf l) v refl (c .before .before .before .before .before .before .before .before .before .before .before .before .before .before .before .before .before .before .before .before .before .before .before .before .before .before .before .before .before .before .before .before .before .before .before .before .pre .1 .1 .0 .table) in
-    let m : MovedTo (trialSearch (jobOf l) (a .weights .now) v (trialAs (a .at .trial))) (c .before .before .found .given .0 .0) = tried-moved _ _ (sym (c .before .before .found .given .1) ∙ c .before .before .before .before .before .before .before .before .before .before .before .before .before .before .before .try-trial .ensures .0) in
-    let most = piece-at-most (jobOf l) (a .weights .now) v (a .at .trial .piece) in
-    let sum = c .before .before .before .before .before .before .before .before .before .before .before .before .before .before .before .before .before .before .before .before .before .before .before .before .before .before .before .before .before .before .before .before .before .before .before .before .pre .1 .1 .1 .1 .1 .0 in
-    let small = total-small l (c .before .before .before .before .before .before .before .before .before .before .before .before .before .before .before .before .before .before .before .before .before .before .before .before .before .before .before .before .before .before .before .before .before .before .before .before .pre .0 .well) (a .weights .now) (c .before .before .before .before .before .before .before .before .before .before .before .before .before .before .before .before .before .before .before .before .before .before .before .before .before .before .before .before .before .before .before .before .before .before .before .before .pre .1 .0) v in
-    let less = trial-place (jobOf l) (a .weights .now) v (trialAs (a .at .trial)) (m .best) (m .found) .1 in
-    let is = m .sum in
+    let b = c .before .before .before .before .before .before .before .before .before .before .before .before .before .before .before .before .before .before .before .before .before .before in
+    let e = entry b in
+    let j = jobOf (lent e) in
+    let m = place (c .before) in
+    let is = present b in
+    let most = piece-at-most j (e .args .weights .now) (layoutAt e) (e .args .at .trial .piece) in
+    let small = total-small (lent e) (e .pre .0 .well) (e .args .weights .now) (e .pre .1 .0) (layoutAt e) in
+    let less = trial-place j (e .args .weights .now) (layoutAt e) (trialAt e) (m .best) (m .found) .1 in
+    let sum = e .pre .1 .1 .1 .1 .1 .0 in
+    let least = m .sum in
     omega arith
 
--- src/step.rt:231:5
 after-move-requires : tie.Need-after-move-requires
-after-move-requires c κs = (c .before .before .before .before .before .before .before .before .before .before .before .before .before .before .before .before .before .before .before .before .before .before .before .before .before .before .before .before .before .before .before .before .before .before .before .before .pre .1 .1 .1 .1 .1 .1 .1 .0, c .before .before .before .before .before .before .before .before .before .before .before .before .before .before .before .before .before .before .before .before .before .before .before .before .before .before .before .before .before .before .before .before .before .before .before .before .pre .1 .1 .1 .1 .1 .1 .1 .1)
+after-move-requires c κs =
+    let n = c .before .before .before .before .before .before .before .before .before .before .before .before .before .before .before .before .before .before .before .before .before .before .before .before .before .before .before .before .before .before .before .before .before .before .before .pre .1 .1 .1 .1 .1 .1 in (n .1 .0, n .1 .1)
 
--- src/step.rt:188:1
 same-length-8 : tie.Need-same-length-8
 same-length-8 c = search needs
 
--- src/step.rt:188:1
 same-length-9 : tie.Need-same-length-9
 same-length-9 c = search needs
 
--- src/step.rt:188:1
 same-length-10 : tie.Need-same-length-10
 same-length-10 c = search needs
 
--- src/step.rt:188:1
 same-length-11 : tie.Need-same-length-11
 same-length-11 c = search needs
 
--- src/step.rt:188:1
 same-length-12 : tie.Need-same-length-12
 same-length-12 c = search needs
 
--- src/step.rt:188:1
 same-length-13 : tie.Need-same-length-13
 same-length-13 c = search needs
 
--- src/step.rt:188:1
 returns-3 : tie.Need-returns-3
-unfolding jobOf
 returns-3 c =
-    let a = c .before .before .before .before .before .before .before .before .before .before .before .before .before .before .before .before .before .before .before .before .before .before .before .before .before .before .before .before .before .before .before .before .before .before .before .before .before .args in
-    let l : Lent = lentBy (a .size) (a .table .now) (a .pixels .now) in
-    let v : Layout = layoutOf (a .layout .now) in
-    let present : c .before .before .before .before .before .before .before .before .before .before .before .before .before .before .before .before .before .before .before .before .before .before .before .before .row-sum .result ≡ pieceSum (jobOf l) (a .weights .now) v (a .at .trial .piece) = c .before .before .before .before .before .before .before .before .before .before .before .before .before .before .before .before .before .before .before .before .before .before .before .before .row-sum .ensures (jobOf l) v refl (c .before .before .before .before .before .before .before .before .before .before .before .before .before .before .before .before .before .before .before .before .before .before .before .before .before .before .before .before .before .before .before .before .before .before .before .before .before .pre .1 .1 .0 .table) in
-    let next : trialAs (c .before .before .before .before .before .before .before .before .before .before .before .before .before .before .before .before .before .before .before .before .before .before .before .before .before .before .next-trial .result) ≡ nextTrial (jobOf l) (trialAs (a .at .trial)) = c .before .before .before .before .before .before .before .before .before .before .before .before .before .before .before .before .before .before .before .before .before .before .before .before .before .before .next-trial .ensures (a .pixels .now) in
-    let wrote : (c .before .before .before .before .before .before .before .before .before .before .before .before .before .before .before .before .try-trial .last .1 .1 .1 .1 .1 .1 .1 .1 .1 .1 .1 .0) ≡ entriesAfter (a .layout .now) (a .at .trial .piece) (a .at .trial .turn) (trialLine v (trialAs (a .at .trial))) (trialSearch (jobOf l) (a .weights .now) v (trialAs (a .at .trial))) = c .before .before .before .before .before .before .before .before .before .before .before .before .before .before .before .before .try-trial .ensures .1 .0 in
-    let m : MovedTo (trialSearch (jobOf l) (a .weights .now) v (trialAs (a .at .trial))) (c .before .before .before .found .given .0 .0) = tried-moved _ _ (sym (c .before .before .before .found .given .1) ∙ c .before .before .before .before .before .before .before .before .before .before .before .before .before .before .before .before .try-trial .ensures .0) in
-    let there : layoutOf (c .before .before .before .before .before .before .before .before .before .before .before .before .before .before .before .before .try-trial .last .1 .1 .1 .1 .1 .1 .1 .1 .1 .1 .1 .0) ≡ trialMoved v (trialAs (a .at .trial)) (m .best .at) = moved-layout (a .layout .now) (c .before .before .before .before .before .before .before .before .before .before .before .before .before .before .before .before .try-trial .last .1 .1 .1 .1 .1 .1 .1 .1 .1 .1 .1 .0) (trialAs (a .at .trial)) (m .best) (wrote ∙ ap (entriesAfter (a .layout .now) (a .at .trial .piece) (a .at .trial .turn) (trialLine v (trialAs (a .at .trial)))) (m .found)) in
-    let took : attempt (jobOf l) (a .weights .now) v (trialAs (a .at .trial)) ≡ moved (layoutOf (c .before .before .before .before .before .before .before .before .before .before .before .before .before .before .before .before .try-trial .last .1 .1 .1 .1 .1 .1 .1 .1 .1 .1 .1 .0)) = trial-moved (jobOf l) (a .weights .now) v (trialAs (a .at .trial)) (m .best) (m .found) ∙ ap moved (sym there) in
-    let after : weightedSum (jobOf l) (a .weights .now) (layoutOf (c .before .before .before .before .before .before .before .before .before .before .before .before .before .before .before .before .try-trial .last .1 .1 .1 .1 .1 .1 .1 .1 .1 .1 .1 .0)) ≡ weightedSum (jobOf l) (a .weights .now) v - pieceSum (jobOf l) (a .weights .now) v (a .at .trial .piece) + m .best .sum = ap (weightedSum (jobOf l) (a .weights .now)) there ∙ trial-sum (jobOf l) (a .weights .now) v (trialAs (a .at .trial)) (m .best) (m .found) in
-    let sum = c .before .before .before .before .before .before .before .before .before .before .before .before .before .before .before .before .before .before .before .before .before .before .before .before .before .before .before .before .before .before .before .before .before .before .before .before .before .pre .1 .1 .1 .1 .1 .0 in
-    let is = m .sum in
-    let is-sum : c .after-move .result .sum ≡ a .at .sum - c .before .before .before .before .before .before .before .before .before .before .before .before .before .before .before .before .before .before .before .before .before .before .before .before .row-sum .result + c .before .before .before .found .given .0 .0 = ap (λ (s : Standing). s .sum) (c .after-move .ensures) in
-    (moved-passed (jobOf l) (a .weights .now) v (a .at) (c .before .before .before .before .before .before .before .before .before .before .before .before .before .before .before .before .before .before .before .before .before .before .before .before .before .before .next-trial .result) next (layoutOf (c .before .before .before .before .before .before .before .before .before .before .before .before .before .before .before .before .try-trial .last .1 .1 .1 .1 .1 .1 .1 .1 .1 .1 .1 .0)) (c .after-move .result) _ (c .after-move .ensures) took, (omega arith, (c .before .before .before .before .before .before .before .before .before .before .before .before .before .before .before .before .try-trial .ensures .1 .1 .0, c .before .before .before .before .before .before .before .before .before .before .before .before .before .before .before .before .try-trial .ensures .1 .1 .1)))
+    let t = c .before .before .before .before .before .before .before .before .before .before .before .before .before .before .before in
+    let b = summed t in
+    let e = entry b in
+    let j = jobOf (lent e) in
+    let ws = e .args .weights .now in
+    let m = place (c .before .before) in
+    let r = c .after-move in
+    let there : left t ≡ trialMoved (layoutAt e) (trialAt e) (m .best .at) = moved-layout (e .args .layout .now) _ (trialAt e) (m .best) (after t _ (m .found)) in
+    let took : attempt j ws (layoutAt e) (trialAt e) ≡ moved (left t) = trial-moved j ws (layoutAt e) (trialAt e) (m .best) (m .found) ∙ ap moved (sym there) in
+    let lowered : weightedSum j ws (left t) ≡ weightedSum j ws (layoutAt e) - pieceSum j ws (layoutAt e) (e .args .at .trial .piece) + m .best .sum =
+    ap (weightedSum j ws) there ∙ trial-sum j ws (layoutAt e) (trialAt e) (m .best) (m .found) in
+    let now : r .result .sum ≡ e .args .at .sum - b .row-sum .result + c .before .before .found .given .0 .0 = ap (λ (s : Standing). s .sum) (r .ensures) in
+    let is = present b in
+    let sum = e .pre .1 .1 .1 .1 .1 .0 in
+    let least = m .sum in (
+      moved-passed j ws (layoutAt e) (e .args .at) _ (next b) (left t) (r .result) _ (r .ensures) took,
+      (omega arith, (t .try-trial .ensures .1 .1 .0, t .try-trial .ensures .1 .1 .1)),
+    )
 
 pub step-spec : {M : Type 1} → statement M
 step-spec =

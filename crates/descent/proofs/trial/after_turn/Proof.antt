@@ -1,106 +1,92 @@
 -- `descent::trial::after_turn` meets its contract: the turns after the given one are asked in their order. Assumes nothing.
-use Rattle.descent.specs.Trials.{trialAs}
-use Rattle.model.specs.declared.Turn.the-variants.{Quarter, Half, ThreeQuarters}
-use Rattle.model.specs.Layout.{Job}
-use Rattle.search_laws.proofs.TrialIndex.{afterTurn, pieceStart, inTurn}
-use Rattle.model.specs.Lent.{lentBy, jobOf}
-use native.Mathlib.Numerals.{add-one}
-use Prim.Native.Nat.{ℕ, suc}
-use mathlib.Core.Path.{_≡_, refl, ap, _∙_}
 use mathlib.Core.List.{List}
+use mathlib.Core.Path.{_≡_, refl, ap, _∙_}
+use Prim.Native.Nat.{ℕ, suc}
+use native.Mathlib.Numerals.{add-one}
+use Rattle.model.specs.Layout.{Job}
+use Rattle.model.specs.Lent.{lentBy, jobOf}
+use Rattle.model.specs.Descent.{Trial}
+use Rattle.model.specs.declared.Turn.the-variants.{Quarter, Half, ThreeQuarters}
+use Rattle.search_laws.proofs.TrialIndex.{pieceStart, inTurn, afterTurn}
+use Rattle.descent.specs.Trials.{trialAs}
 use borrow.Author.Needs.{needs}
 use Rattle.descent.proofs.trial.after_turn.Statement.{statement}
 use Rattle.descent.proofs.trial.after_turn.Tie as tie
-use Rattle.descent.proofs.trial.after_turn.Reads as reads
-use Rattle.descent.proofs.trial.after_turn.Lts as lts
-use Rattle.descent.proofs.trial.in_turn.Reads as in-turn-reads
-use Rattle.descent.proofs.trial.piece_start.Reads as piece-start-reads
 
--- src/trial.rt:67:40
 add-piece-start : tie.Need-add-piece-start
 add-piece-start c = search needs
 
--- src/trial.rt:67:9
 piece-start-requires : tie.Need-piece-start-requires
 piece-start-requires c κs = search needs
 
--- src/trial.rt:68:9
 in-turn-requires : tie.Need-in-turn-requires
 in-turn-requires c κs = search needs
 
--- src/trial.rt:69:9
 in-turn-requires-2 : tie.Need-in-turn-requires-2
 in-turn-requires-2 c κs = search needs
 
--- src/trial.rt:71:41
+-- a job with the lent table, and what comes after the third turn, the second and the first
+abbrev jobWith : tie.Start → List ℕ → Job
+jobWith e pixels = jobOf (lentBy (e .args .size) (e .args .table .now) pixels)
+
+abbrev lastFrom : tie.Start → List ℕ → Trial
+lastFrom e pixels = pieceStart (jobWith e pixels) (suc (e .args .i))
+
+abbrev thirdFrom : tie.Start → List ℕ → Trial
+thirdFrom e pixels = inTurn (jobWith e pixels) (e .args .i) ThreeQuarters (lastFrom e pixels)
+
+abbrev secondFrom : tie.Start → List ℕ → Trial
+secondFrom e pixels = inTurn (jobWith e pixels) (e .args .i) Half (thirdFrom e pixels)
+
+-- they are what the code finds
+last : (c : tie.After-piece-start) (pixels : List ℕ) → trialAs (c .piece-start .result) ≡ lastFrom (c .before) pixels
+unfolding jobOf
+last c pixels = c .piece-start .ensures (jobWith (c .before) pixels) refl ∙ ap (pieceStart (jobWith (c .before) pixels)) (add-one (c .before .args .i))
+
+third : (c : tie.After-in-turn) (pixels : List ℕ) → trialAs (c .in-turn .result) ≡ thirdFrom (c .before .before) pixels
+third c pixels =
+    let e = c .before .before in
+    c .in-turn .ensures (e .args .size) pixels ∙ ap (inTurn (jobWith e pixels) (e .args .i) ThreeQuarters) (last (c .before) pixels)
+
+second : (c : tie.After-in-turn2) (pixels : List ℕ) → trialAs (c .in-turn2 .result) ≡ secondFrom (c .before .before .before) pixels
+second c pixels =
+    let e = c .before .before .before in
+    c .in-turn2 .ensures (e .args .size) pixels ∙ ap (inTurn (jobWith e pixels) (e .args .i) Half) (third (c .before) pixels)
+
 enum-told : tie.Need-enum-told
 enum-told c = search needs
 
--- src/trial.rt:71:23
 in-turn-requires-3 : tie.Need-in-turn-requires-3
 in-turn-requires-3 c κs = search needs
 
--- src/trial.rt:72:26
 enum-told-2 : tie.Need-enum-told-2
 enum-told-2 c = search needs
 
--- src/trial.rt:73:23
 enum-told-3 : tie.Need-enum-told-3
 enum-told-3 c = search needs
 
--- src/trial.rt:74:32
 enum-told-4 : tie.Need-enum-told-4
 enum-told-4 c = search needs
 
--- src/trial.rt:63:1
 returns : tie.Need-returns
-unfolding afterTurn jobOf
+unfolding afterTurn
 returns c =
     λ pixels.
-    let a = c .before .before .before .before .before .before .args in
-    let j : Job = jobOf (lentBy (a .size) (a .table .now) pixels) in
-    let last : trialAs (c .before .before .before .before .before .piece-start .result) ≡ pieceStart j (suc (a .i)) = c .before .before .before .before .before .piece-start .ensures j refl ∙ ap (pieceStart j) (add-one (a .i)) in
-    let third : trialAs (c .before .before .before .before .in-turn .result) ≡ inTurn j (a .i) ThreeQuarters (pieceStart j (suc (a .i))) =
-    c .before .before .before .before .in-turn .ensures (a .size) pixels ∙ ap (inTurn j (a .i) ThreeQuarters) last in
-    let second : trialAs (c .before .before .before .in-turn2 .result) ≡ inTurn j (a .i) Half (inTurn j (a .i) ThreeQuarters (pieceStart j (suc (a .i)))) =
-    c .before .before .before .in-turn2 .ensures (a .size) pixels ∙ ap (inTurn j (a .i) Half) third in
-    rw (c .before .enum-told .given .1) (c .in-turn3 .ensures (a .size) pixels ∙ ap (inTurn j (a .i) Quarter) second)
+    let e = c .before .before .before .before .before .before in
+    rw (c .before .enum-told .given .1)
+    (c .in-turn3 .ensures (e .args .size) pixels ∙ ap (inTurn (jobWith e pixels) (e .args .i) Quarter) (second (c .before .before .before) pixels))
 
--- src/trial.rt:63:1
 returns-2 : tie.Need-returns-2
-unfolding afterTurn jobOf
-returns-2 c =
-    λ pixels.
-    let a = c .before .before .before .before .before .args in
-    let j : Job = jobOf (lentBy (a .size) (a .table .now) pixels) in
-    let last : trialAs (c .before .before .before .before .piece-start .result) ≡ pieceStart j (suc (a .i)) = c .before .before .before .before .piece-start .ensures j refl ∙ ap (pieceStart j) (add-one (a .i)) in
-    let third : trialAs (c .before .before .before .in-turn .result) ≡ inTurn j (a .i) ThreeQuarters (pieceStart j (suc (a .i))) =
-    c .before .before .before .in-turn .ensures (a .size) pixels ∙ ap (inTurn j (a .i) ThreeQuarters) last in
-    let second : trialAs (c .before .before .in-turn2 .result) ≡ inTurn j (a .i) Half (inTurn j (a .i) ThreeQuarters (pieceStart j (suc (a .i)))) =
-    c .before .before .in-turn2 .ensures (a .size) pixels ∙ ap (inTurn j (a .i) Half) third in
-    rw (c .enum-told2 .given .1) second
+unfolding afterTurn
+returns-2 c = λ pixels. rw (c .enum-told2 .given .1) (second (c .before .before) pixels)
 
--- src/trial.rt:63:1
 returns-3 : tie.Need-returns-3
-unfolding afterTurn jobOf
-returns-3 c =
-    λ pixels.
-    let a = c .before .before .before .before .before .args in
-    let j : Job = jobOf (lentBy (a .size) (a .table .now) pixels) in
-    let last : trialAs (c .before .before .before .before .piece-start .result) ≡ pieceStart j (suc (a .i)) = c .before .before .before .before .piece-start .ensures j refl ∙ ap (pieceStart j) (add-one (a .i)) in
-    let third : trialAs (c .before .before .before .in-turn .result) ≡ inTurn j (a .i) ThreeQuarters (pieceStart j (suc (a .i))) =
-    c .before .before .before .in-turn .ensures (a .size) pixels ∙ ap (inTurn j (a .i) ThreeQuarters) last in
-    rw (c .enum-told3 .given .1) third
+unfolding afterTurn
+returns-3 c = λ pixels. rw (c .enum-told3 .given .1) (third (c .before .before .before) pixels)
 
--- src/trial.rt:63:1
 returns-4 : tie.Need-returns-4
-unfolding afterTurn jobOf
-returns-4 c =
-    λ pixels.
-    let a = c .before .before .before .before .before .args in
-    let j : Job = jobOf (lentBy (a .size) (a .table .now) pixels) in
-    let last : trialAs (c .before .before .before .before .piece-start .result) ≡ pieceStart j (suc (a .i)) = c .before .before .before .before .piece-start .ensures j refl ∙ ap (pieceStart j) (add-one (a .i)) in
-    rw (c .enum-told4 .given .1) last
+unfolding afterTurn
+returns-4 c = λ pixels. rw (c .enum-told4 .given .1) (last (c .before .before .before .before) pixels)
 
 pub after-turn-spec : {M : Type 1} → statement M
 after-turn-spec =

@@ -1,36 +1,27 @@
 -- `descent::trial::in_turn` meets its contract, by whether the turn is allowed. Assumes nothing.
-use Rattle.search_laws.proofs.TrialIndex.{in-turn, past-turn}
-use Rattle.model.specs.Lent.{jobOf}
 use mathlib.Core.Path.{sym, _∙_}
+use Rattle.model.specs.Lent.{jobOf}
+use Rattle.search_laws.proofs.TrialIndex.{in-turn, past-turn}
 use borrow.Author.Needs.{needs}
 use Rattle.descent.proofs.trial.in_turn.Statement.{statement}
 use Rattle.descent.proofs.trial.in_turn.Tie as tie
-use Rattle.descent.proofs.trial.in_turn.Reads as reads
-use Rattle.descent.proofs.trial.in_turn.Lts as lts
-use Rattle.placing.proofs.allows.Reads as allows-reads
 
--- src/trial.rt:52:15
 mul-allows : tie.Need-mul-allows
 mul-allows c = search needs
 
--- src/trial.rt:52:15
 index-1-allows : tie.Need-index-1-allows
 index-1-allows c = search needs
 
--- src/trial.rt:52:15
 index-2-allows : tie.Need-index-2-allows
 index-2-allows c = search needs
 
--- src/trial.rt:52:8
 allows-requires : tie.Need-allows-requires
 allows-requires c κs = search needs
 
--- src/trial.rt:53:9
 returns : tie.Need-returns
 unfolding jobOf
 returns c = λ size pixels. sym (in-turn _ _ _ _ (sym (c .before .allows .ensures) ∙ c .if1 .taken))
 
--- src/trial.rt:48:1
 returns-2 : tie.Need-returns-2
 unfolding jobOf
 returns-2 c = λ size pixels. sym (past-turn _ _ _ _ (sym (c .before .allows .ensures) ∙ c .if1 .left))

@@ -1,16 +1,11 @@
 -- `descent::trial::piece_start` meets its contract, by the test for a piece i. Assumes nothing.
 use borrow.Author.Tests.{lt-ltb, le-ltb}
-use borrow.Author.Needs.{needs}
 use Rattle.descent.proofs.trial.piece_start.Statement.{statement}
 use Rattle.descent.proofs.trial.piece_start.Tie as tie
-use Rattle.descent.proofs.trial.piece_start.Reads as reads
-use Rattle.descent.proofs.trial.piece_start.Lts as lts
 
--- src/trial.rt:34:9
 returns : tie.Need-returns
 returns c = λ j e. rw (e, lt-ltb _ _ (c .if1 .taken))
 
--- src/trial.rt:30:1
 returns-2 : tie.Need-returns-2
 returns-2 c = λ j e. rw (e, le-ltb _ _ (c .if1 .left))
 
