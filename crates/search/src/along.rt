@@ -41,7 +41,7 @@ pub fn least_below(sums: &[u32], bound: u32) -> Found
     ensures { λ r. ⌜ r ≡ foundAnswer (belowBound (λ a. getD (now (sums .entry)) a 0) (length (now (sums .entry))) bound) ⌝ }
 {
     let mut low = bound;
-    let mut at = 0;
+    let mut at: usize = 0;
     let mut a = 0;
     while a < sums.len() {
         if sums[a] < low {

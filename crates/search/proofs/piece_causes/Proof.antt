@@ -1,6 +1,7 @@
 -- `search::piece_causes` meets its contract: the causes in their order. Assumes nothing.
 use mathlib.Core.List.{[], _∷_}
 use mathlib.Core.Path.{sym, _∙_}
+use native.Mathlib.Omega.{arith}
 use borrow.Author.Tests.{not-true, not-false}
 use Rattle.model.specs.Lent.{lentBy, jobOf}
 use Rattle.model.specs.Refusal.{unless}
@@ -29,7 +30,7 @@ returns-2 : tie.Need-returns-2
 returns-2 c = λ pixels.
     let a = c .before .before .before .before .before .args in
     let l = lentBy (a .size) (a .table .now) pixels in
-    first-there 9 _ _ (c .refusal2 .result) (c .refusal2 .ensures) (wrong-number l (a .layout .now) (a .piece) (a .turn) (c .before .if2 .taken))
+    first-there 9 _ _ (c .refusal2 .result) (c .refusal2 .ensures) (wrong-number l (a .layout .now) (a .piece) (a .turn) (omega (arith, c .before .if2 .taken)))
 
 mul-allows : tie.Need-mul-allows
 mul-allows c = search needs

@@ -70,7 +70,9 @@ part-any-below-end c =
     let l = lentBy (a .size) (a .table .now) (a .pixels .now) in
     let b = c .before .before .before .beside in
     let r = c .before .before .reach-of in
-    sums-to-add l (a .weights .now) (layoutOf (a .layout .now)) (a .mover) (a .track) (b .result) (a .bound) (a .k) (r .result) (a .sums .now) (e .pre .1 .1 .0) (b .ensures (a .size) (a .pixels .now)) (r .ensures) (e .pre .1 .1 .1 .1) (c .before .if2 .left) (let f = few-pieces l (e .pre .0 .laid .well) in let k = e .pre .1 .1 .1 .0 in omega arith) .within
+    let h = sums-to-add l (a .weights .now) (layoutOf (a .layout .now)) (a .mover) (a .track) (b .result) (a .bound) (a .k) (r .result) (a .sums .now) (e .pre .1 .1 .0) (b .ensures (a .size) (a .pixels .now)) (r .ensures) (e .pre .1 .1 .1 .1) (c .before .if2 .left) (let f = few-pieces l (e .pre .0 .laid .well) in let k = e .pre .1 .1 .1 .0 in omega arith) .within in
+    let o = c .before .if2 .left in
+    omega arith
 
 any-below-requires : tie.Need-any-below-requires
 any-below-requires c κs = search needs

@@ -14,7 +14,9 @@ weight-between-requires c κs =
     let e = c .before .before .before .before .before .before in
     let a = e .args in
     let l = lentBy (a .size) (a .table .now) (a .pixels .now) in
-    ((few-pieces l (e .pre .0 .laid .well), (e .pre .1 .1 .0 .piece, e .pre .1 .1 .1 .1 .0)), weight-pairs l (a .weights .now) (e .pre .1 .0))
+    let i = e .pre .1 .1 .0 .piece in
+    let k = e .pre .1 .1 .1 .1 .0 in
+    ((few-pieces l (e .pre .0 .laid .well), (omega arith, omega arith)), weight-pairs l (a .weights .now) (e .pre .1 .0))
 
 cast-weight : tie.Need-cast-weight
 cast-weight c = search needs
