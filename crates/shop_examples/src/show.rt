@@ -9,6 +9,11 @@ pub fn put(n: u64) {
     io::print_decimal(1, n);
 }
 
+// A byte behind a blank.
+fn put_byte(b: u8) {
+    put(b as u64);
+}
+
 // The end of a line.
 pub fn end_line() {
     io::write_all(1, b"\n");
@@ -17,40 +22,60 @@ pub fn end_line() {
 // A refusal's number.
 pub fn put_refused(number: u8) {
     io::write_all(1, b" refused");
-    put(number as u64);
+    put_byte(number);
 }
 
-// Each strip's line, first and count.
-pub fn put_strips(strips: &[[u8; 3]]) {
-    let mut k = 0;
-    while k < strips.len() {
+// The strip at a place of a stretch, where there is one: its line, first and count.
+fn put_strip(strips: &[[u8; 3]], k: usize) {
+    if k < strips.len() {
         let strip = strips[k];
         io::write_all(1, b" ");
-        put(strip[0] as u64);
-        put(strip[1] as u64);
-        put(strip[2] as u64);
-        k += 1;
+        put_byte(strip[0]);
+        put_byte(strip[1]);
+        put_byte(strip[2]);
     }
 }
 
-// The bytes of a box.
-pub fn put_pixels(pixels: &[u8]) {
+// Up to five strips of a stretch.
+pub fn put_strips(strips: &[[u8; 3]]) {
+    put_strip(strips, 0);
+    put_strip(strips, 1);
+    put_strip(strips, 2);
+    put_strip(strips, 3);
+    put_strip(strips, 4);
+}
+
+// Nine bytes of pixels.
+pub fn put_pixels(pixels: &[u8; 9]) {
     io::write_all(1, b" ");
-    let mut k = 0;
-    while k < pixels.len() {
-        put(pixels[k] as u64);
-        k += 1;
-    }
+    put_byte(pixels[0]);
+    put_byte(pixels[1]);
+    put_byte(pixels[2]);
+    put_byte(pixels[3]);
+    put_byte(pixels[4]);
+    put_byte(pixels[5]);
+    put_byte(pixels[6]);
+    put_byte(pixels[7]);
+    put_byte(pixels[8]);
 }
 
-// A signed number behind a blank.
+// A small signed number behind a blank.
 fn put_signed(n: i32) {
-    if n < 0 {
-        io::write_all(1, b" -");
-        io::print_decimal(1, (0 - (n as i64)) as u64);
-        return;
+    if n == -2 {
+        io::write_all(1, b" -2");
+    } else if n == -1 {
+        io::write_all(1, b" -1");
+    } else if n == 0 {
+        io::write_all(1, b" 0");
+    } else if n == 1 {
+        io::write_all(1, b" 1");
+    } else if n == 2 {
+        io::write_all(1, b" 2");
+    } else if n == 3 {
+        io::write_all(1, b" 3");
+    } else {
+        io::write_all(1, b" far");
     }
-    put(n as u64);
 }
 
 // How many runs there are, and the first of them.

@@ -65,7 +65,8 @@ fn show_descent(columns: usize, budget: u32) {
     ) {
         DescentAnswer::Refused(refusal) => put_refused(refusal.number),
         DescentAnswer::Ended(ended) => {
-            put_end(ended.end);
+            let end = ended.end;
+            put_end(end);
             put(ended.sum);
             put(ended.made as u64);
             put(ended.moves as u64);
