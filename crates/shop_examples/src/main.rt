@@ -1,18 +1,18 @@
 // The marked examples of the shop, P1 to P12 of document 01, through the calls. Each line has the example's name and what the calls
 // give. The pieces are A, A, B, B, D and E of document 01, on a sheet of 8 rows and 16 columns; P10 to P12 have a job of two A.
-mod show;
-mod two;
-
+use descent::DescentAnswer;
 use model::Direction;
+use model::End;
 use model::JobSize;
+use model::Line;
+use model::Row;
 use model::RowOffset;
 use model::Turn;
-use show::end_line;
-use show::put_amount;
-use show::put_pixels;
-use show::put_runs;
-use show::put_strips;
+use nofit_calls::RunsAnswer;
+use pairs::AmountAnswer;
+use search::SearchAnswer;
 
+// The job's numbers, its table and its pixels.
 const SIZE: JobSize = JobSize {
     rows: 8,
     columns: 16,
@@ -56,6 +56,124 @@ const PIXELS: [u8; 26] = [
     1,
     1,
 ];
+
+// Two full 2 x 2 pieces in turn 0, for sheets of 2 rows.
+const TWO_TABLE: [[u8; 3]; 2] = [[2, 2, 1], [2, 2, 1]];
+
+const TWO_PIXELS: [u8; 8] = [1, 1, 1, 1, 1, 1, 1, 1];
+
+// A number behind a blank.
+fn put(n: u64) {
+    io::write_all(1, b" ");
+    io::print_decimal(1, n);
+}
+
+// A byte behind a blank.
+fn put_byte(b: u8) {
+    put(b as u64);
+}
+
+// The end of a line.
+fn end_line() {
+    io::write_all(1, b"\n");
+}
+
+// A refusal's number.
+fn put_refused(number: u8) {
+    io::write_all(1, b" refused");
+    put_byte(number);
+}
+
+// The strip at a place of a stretch, where there is one: its line, first and count.
+fn put_strip(strips: &[[u8; 3]], k: usize) {
+    if k < strips.len() {
+        let strip = strips[k];
+        io::write_all(1, b" ");
+        put_byte(strip[0]);
+        put_byte(strip[1]);
+        put_byte(strip[2]);
+    }
+}
+
+// Up to five strips of a stretch.
+fn put_strips(strips: &[[u8; 3]]) {
+    put_strip(strips, 0);
+    put_strip(strips, 1);
+    put_strip(strips, 2);
+    put_strip(strips, 3);
+    put_strip(strips, 4);
+}
+
+// Nine bytes of pixels.
+fn put_pixels(pixels: &[u8; 9]) {
+    io::write_all(1, b" ");
+    put_byte(pixels[0]);
+    put_byte(pixels[1]);
+    put_byte(pixels[2]);
+    put_byte(pixels[3]);
+    put_byte(pixels[4]);
+    put_byte(pixels[5]);
+    put_byte(pixels[6]);
+    put_byte(pixels[7]);
+    put_byte(pixels[8]);
+}
+
+// A small signed number behind a blank.
+fn put_signed(n: i32) {
+    if n == -2 {
+        io::write_all(1, b" -2");
+    } else if n == -1 {
+        io::write_all(1, b" -1");
+    } else if n == 0 {
+        io::write_all(1, b" 0");
+    } else if n == 1 {
+        io::write_all(1, b" 1");
+    } else if n == 2 {
+        io::write_all(1, b" 2");
+    } else if n == 3 {
+        io::write_all(1, b" 3");
+    } else {
+        io::write_all(1, b" far");
+    }
+}
+
+// How many runs there are, and the first of them.
+fn put_runs(answer: RunsAnswer, runs: &[[i32; 2]; 8]) {
+    match answer {
+        RunsAnswer::Refused(refusal) => put_refused(refusal.number),
+        RunsAnswer::Runs(count) => {
+            put(count as u64);
+            if 0 < count {
+                let run = runs[0];
+                put_signed(run[0]);
+                put_signed(run[1]);
+            }
+        }
+    }
+}
+
+// A depth or a penalty.
+fn put_amount(answer: AmountAnswer) {
+    match answer {
+        AmountAnswer::Refused(refusal) => put_refused(refusal.number),
+        AmountAnswer::Amount(n) => put(n as u64),
+    }
+}
+
+// The word of an end.
+fn put_end(end: End) {
+    match end {
+        End::Clear => {
+            io::write_all(1, b" clear");
+        }
+        End::Settled => {
+            io::write_all(1, b" settled");
+        }
+        End::Spent => {
+            io::write_all(1, b" spent");
+        }
+    }
+}
 
 // The row strips of a piece in these turns, and the pixels that they give again in a box of the side. The buffer holds nine 2s before.
 fn show_rows(turns: [u16; 6], piece: usize, side: u16) {
@@ -125,6 +243,79 @@ fn show_pair(layout: [[u16; 3]; 6], i: usize, k: usize) {
     put_amount(pairs::depth(SIZE, &table, &pixels, &layout, i, k, Direction::Vertical));
     put_amount(pairs::penalty(SIZE, &table, &pixels, &layout, i, k));
     end_line();
+}
+
+// The job's numbers for a sheet of so many columns.
+fn sheet(columns: usize) -> JobSize {
+    JobSize {
+        rows: 2,
+        columns,
+        count: 2,
+    }
+}
+
+// P10: the line search along row 0 past a piece at column 1, by weight 3.
+fn show_search() {
+    let table = TWO_TABLE;
+    let pixels = TWO_PIXELS;
+    let layout = [[0u16, 1, 0], [0, 0, 0]];
+    let weights = [3u32];
+    let answer = search::line_search(
+        sheet(4),
+        &table,
+        &pixels,
+        &layout,
+        &weights,
+        1,
+        Turn::Zero,
+        Line::InRow(Row(0)),
+    );
+    match answer {
+        SearchAnswer::Refused(refusal) => put_refused(refusal.number),
+        SearchAnswer::Best(sum, at) => {
+            put(at as u64);
+            put(sum as u64);
+        }
+    }
+    end_line();
+}
+
+// P11 and P12: a descent of two pieces at (0, 0), by weight 1.
+fn show_descent(columns: usize, budget: u32) {
+    let table = TWO_TABLE;
+    let pixels = TWO_PIXELS;
+    let mut layout = [[0u16, 0, 0], [0, 0, 0]];
+    let weights = [1u32];
+    match descent::descent(
+        sheet(columns),
+        &table,
+        &pixels,
+        &mut layout,
+        &weights,
+        budget,
+    ) {
+        DescentAnswer::Refused(refusal) => put_refused(refusal.number),
+        DescentAnswer::Ended(ended) => {
+            let end = ended.end;
+            put_end(end);
+            put(ended.sum);
+            put(ended.made as u64);
+            put(ended.moves as u64);
+        }
+    }
+    end_line();
+}
+
+// P10 to P12.
+fn show_two() {
+    io::write_all(1, b"P10");
+    show_search();
+    io::write_all(1, b"P11");
+    show_descent(4, 5);
+    io::write_all(1, b"P12");
+    show_descent(3, 5);
+    io::write_all(1, b"P12");
+    show_descent(3, 4);
 }
 
 fn main() {
@@ -201,5 +392,5 @@ fn main() {
         2,
         3,
     );
-    two::show();
+    show_two();
 }
