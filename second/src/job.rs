@@ -3,7 +3,7 @@
 use crate::shape::{Shape, Turn};
 
 /// Largest number of sheet pixels, and largest total of box areas.
-const MAX_AREA: usize = 65_536;
+pub const MAX_AREA: usize = 65_536;
 
 /// A refused text: the number of the cause and the line, from 1.
 #[derive(Clone, Copy, Debug, PartialEq, Eq)]
@@ -23,6 +23,11 @@ impl Piece {
     /// A piece whose allowed turns are given as the sum of 1, 2, 4, 8.
     pub fn new(shape: Shape, turn_sum: usize) -> Piece {
         Piece { shape, turn_sum }
+    }
+
+    /// The allowed turns as the sum of 1, 2, 4, 8.
+    pub fn turn_sum(&self) -> usize {
+        self.turn_sum
     }
 
     /// The allowed turns in rising order.
@@ -49,10 +54,7 @@ impl Job {
 
 /// Reads a whole job text; the first cause of refusal, line by line, is returned.
 pub fn read(text: &[u8]) -> Result<Job, Refusal> {
-    let mut lines = Lines {
-        rest: text,
-        number: 0,
-    };
+    let mut lines = Lines::new(text);
     let (rows, columns, count) = read_job_line(&mut lines)?;
     let mut job = Job {
         rows,
@@ -69,12 +71,20 @@ pub fn read(text: &[u8]) -> Result<Job, Refusal> {
 }
 
 /// The part of the text that is not yet read, and the number of the line last taken.
-struct Lines<'a> {
+pub(crate) struct Lines<'a> {
     rest: &'a [u8],
     number: usize,
 }
 
 impl<'a> Lines<'a> {
+    /// Begins with a whole text.
+    pub(crate) fn new(text: &'a [u8]) -> Lines<'a> {
+        Lines {
+            rest: text,
+            number: 0,
+        }
+    }
+
     /// Takes the next line without its line feed; a line that has none is of wrong form.
     fn take(&mut self) -> Result<&'a [u8], Refusal> {
         self.number += 1;
@@ -87,7 +97,7 @@ impl<'a> Lines<'a> {
     }
 
     /// A refusal of the line last taken.
-    fn refuse(&self, number: u8) -> Refusal {
+    pub(crate) fn refuse(&self, number: u8) -> Refusal {
         Refusal {
             number,
             line: self.number,
@@ -95,7 +105,7 @@ impl<'a> Lines<'a> {
     }
 
     /// Refuses the line last taken unless the condition holds.
-    fn require(&self, condition: bool, number: u8) -> Result<(), Refusal> {
+    pub(crate) fn require(&self, condition: bool, number: u8) -> Result<(), Refusal> {
         if condition {
             Ok(())
         } else {
@@ -104,13 +114,13 @@ impl<'a> Lines<'a> {
     }
 
     /// Takes a line of a word and four number fields.
-    fn take_numbers(&mut self, word: &[u8]) -> Result<[usize; 4], Refusal> {
+    pub(crate) fn take_numbers(&mut self, word: &[u8]) -> Result<[usize; 4], Refusal> {
         let line = self.take()?;
         numbers(line, word).ok_or_else(|| self.refuse(1))
     }
 
     /// Refuses anything that follows the last line.
-    fn expect_end(&mut self) -> Result<(), Refusal> {
+    pub(crate) fn expect_end(&mut self) -> Result<(), Refusal> {
         if self.rest.is_empty() {
             return Ok(());
         }

@@ -2,8 +2,11 @@
 //!
 //! `job` reads the job text, `shape` turns pieces and makes strips, `nofit` finds the offsets at
 //! which two pieces overlap, `penalty` turns these into penalty maps, `search` moves the pieces
-//! and `layout` makes the start layout and the layout text.
+//! and `layout` makes the start layout and the layout text. `calls` has the calls over lent buffers
+//! with their refusals, and `inputs` makes what other programs are compared on.
 
+pub mod calls;
+pub mod inputs;
 pub mod job;
 pub mod layout;
 pub mod nofit;

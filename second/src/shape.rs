@@ -112,6 +112,23 @@ impl Shape {
         self.pixels[y * self.columns + x]
     }
 
+    /// The box cells row by row, the bottom row first.
+    pub fn cells(&self) -> impl Iterator<Item = bool> + '_ {
+        self.pixels.iter().copied()
+    }
+
+    /// The pixels (x, y), row by row.
+    pub fn pixels(&self) -> impl Iterator<Item = (usize, usize)> + '_ {
+        let cells = (0..self.rows).flat_map(|y| (0..self.columns).map(move |x| (x, y)));
+        cells.filter(|&(x, y)| self.has(x, y))
+    }
+
+    /// The shape with columns and rows exchanged.
+    pub fn transposed(&self) -> Shape {
+        let cells = (0..self.columns).flat_map(|x| (0..self.rows).map(move |y| self.has(x, y)));
+        Shape::new(self.rows, cells.collect())
+    }
+
     /// Whether the first and last row and column each hold a pixel.
     pub fn is_tight(&self) -> bool {
         let row_used = |y: usize| (0..self.columns).any(|x| self.has(x, y));

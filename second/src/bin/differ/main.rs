@@ -1,13 +1,7 @@
 //! Runs a program on generated inputs and compares its output, byte for byte, with that of the second program.
 //!
-//! `jobs` makes jobs that are accepted, `damage` inputs that mostly are not, both from `shapes` and
-//! `random` numbers of fixed seeds; `tally` counts how the inputs ended.
+//! The library's `inputs` makes the inputs; `tally` counts how they ended.
 
-mod damage;
-mod jobs;
-mod kind;
-mod random;
-mod shapes;
 mod tally;
 
 use std::io::{self, Write};
@@ -15,7 +9,8 @@ use std::path::PathBuf;
 use std::process::{Command, ExitCode, Stdio};
 use std::{env, fs, process, thread};
 
-use kind::Kind;
+use second::inputs::kind::Kind;
+use second::inputs::{damage, jobs};
 use tally::Tally;
 
 /// Compares the program that the only argument names; 0 means that no output is different.

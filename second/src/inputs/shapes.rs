@@ -1,6 +1,6 @@
 //! Pixel sets of many forms.
 
-use crate::random::Random;
+use super::random::Random;
 
 /// A pixel set as rows of cells, the bottom row first.
 pub type Shape = Vec<Vec<bool>>;

@@ -1,6 +1,6 @@
 //! A kind of inputs: a name and the inputs made under it.
 
-use crate::random::Random;
+use super::random::Random;
 
 /// Inputs of one kind under the name that the summary prints.
 pub struct Kind {

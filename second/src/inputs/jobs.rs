@@ -2,9 +2,9 @@
 
 use std::fmt::Write;
 
-use crate::kind::Kind;
-use crate::random::Random;
-use crate::shapes::{self, Shape};
+use super::kind::Kind;
+use super::random::Random;
+use super::shapes::{self, Shape};
 
 /// The largest box side of a piece.
 pub const MAX_SIDE: usize = 255;

@@ -1,0 +1,156 @@
+/* Nests the pieces of a job round by round through sigbrol.h. Reads the job text from standard input, tells the progress on standard
+ * error and prints the best layout and how the search ended, as the program `nest` does in one go. */
+#include <inttypes.h>
+#include <stdio.h>
+#include <stdlib.h>
+#include <string.h>
+
+#include "sigbrol.h"
+
+#define ROUNDS 20
+#define BUDGET 1000
+
+/* A layout text has at most 65 lines of at most 18 bytes. */
+#define LAYOUT_TEXT 2048
+
+/* C takes a layout that a call only reads as one of const entries; the cast is needed up to C17. */
+#define READ_ONLY(layout) ((const uint16_t(*)[3])(layout))
+
+/* What the search holds: the present layout and weights, the best layout so far with its plain sum, and the work of all rounds. */
+typedef struct {
+    uint16_t layout[SIGBROL_PIECES][3];
+    uint32_t weights[SIGBROL_PAIRS(SIGBROL_PIECES)];
+    uint16_t best[SIGBROL_PIECES][3];
+    uint64_t best_sum;
+    uint64_t trials;
+    uint64_t moves;
+} search;
+
+static const char *const end_names[] = {"clear", "settled", "spent"};
+
+/* Ends the program where a call is refused. After a job has been read that is a mistake of this program, such as a wrong length. */
+static void must(const char *call, sigbrol_reply reply)
+{
+    if (reply.number != 0) {
+        fprintf(stderr, "%s refused: %" PRIu32 ", places %" PRIu32 " and %" PRIu32 "\n", call, reply.number, reply.first, reply.second);
+        exit(EXIT_FAILURE);
+    }
+}
+
+/* The plain sum of a layout. */
+static uint64_t plain_sum(const sigbrol_job *job, uint16_t (*layout)[3])
+{
+    uint64_t sum = 0;
+    must("sigbrol_plain_sum", sigbrol_plain_sum(SIGBROL_LENT(job), READ_ONLY(layout), job->count, &sum));
+    return sum;
+}
+
+/* The start layout with unit weights, which is the best one so far. */
+static void begin(const sigbrol_job *job, search *s)
+{
+    must("sigbrol_start", sigbrol_start(SIGBROL_LENT(job), s->layout, job->count));
+    for (size_t pair = 0; pair < SIGBROL_PAIRS(job->count); pair++) {
+        s->weights[pair] = 1;
+    }
+    memcpy(s->best, s->layout, sizeof s->best);
+    s->best_sum = plain_sum(job, s->layout);
+    s->trials = 0;
+    s->moves = 0;
+}
+
+/* Raises the weight of each pair that shares a pixel by 1; the largest weight stays. */
+static void raise_weights(const sigbrol_job *job, search *s)
+{
+    size_t pair = 0;
+    for (size_t i = 0; i < job->count; i++) {
+        for (size_t k = i + 1; k < job->count; k++, pair++) {
+            uint8_t shares = 0;
+            must("sigbrol_shares_pixel",
+                 sigbrol_shares_pixel(SIGBROL_LENT(job), READ_ONLY(s->layout), job->count, i, k, &shares));
+            if (shares && s->weights[pair] < 65535) {
+                s->weights[pair]++;
+            }
+        }
+    }
+}
+
+/* One round: a descent from the present layout, the best layout kept. Gives how the descent ended. */
+static uint8_t run_round(const sigbrol_job *job, search *s, int number)
+{
+    uint8_t end = 0;
+    uint64_t weighted = 0;
+    uint32_t trials = 0, moves = 0;
+    must("sigbrol_descent", sigbrol_descent(SIGBROL_LENT(job), s->layout, job->count, s->weights, SIGBROL_PAIRS(job->count), BUDGET,
+                                            &end, &weighted, &trials, &moves));
+    s->trials += trials;
+    s->moves += moves;
+
+    uint64_t sum = plain_sum(job, s->layout);
+    if (sum < s->best_sum) {
+        s->best_sum = sum;
+        memcpy(s->best, s->layout, sizeof s->best);
+    }
+    fprintf(stderr, "round %d: %s, weighted sum %" PRIu64 ", plain sum %" PRIu64 ", %" PRIu32 " trials, %" PRIu32 " moves\n", number,
+            end_names[end], weighted, sum, trials, moves);
+    return end;
+}
+
+/* Prints the best layout and the last line. A layout that is called clear has passed the check before. */
+static void print_best(const sigbrol_job *job, search *s)
+{
+    if (s->best_sum == 0) {
+        must("sigbrol_check", sigbrol_check(SIGBROL_LENT(job), READ_ONLY(s->best), job->count));
+    }
+    uint8_t text[LAYOUT_TEXT];
+    size_t written = 0, used = 0;
+    must("sigbrol_write_layout",
+         sigbrol_write_layout(SIGBROL_LENT(job), READ_ONLY(s->best), job->count, text, sizeof text, &written));
+    must("sigbrol_used_length", sigbrol_used_length(SIGBROL_LENT(job), READ_ONLY(s->best), job->count, &used));
+    fwrite(text, 1, written, stdout);
+    printf("end,%s,%" PRIu64 ",%" PRIu64 ",%" PRIu64 ",%zu\n", s->best_sum == 0 ? "clear" : "open", s->best_sum, s->trials, s->moves,
+           used);
+}
+
+/* Reads the job from standard input. A refusal is printed as the output, and the job's buffers are as they were. */
+static int read_job(sigbrol_job *job)
+{
+    /* One byte more than a job text may have, so that a longer input is seen as such. */
+    static uint8_t text[SIGBROL_TEXT + 1];
+    size_t length = fread(text, 1, sizeof text, stdin);
+    if (ferror(stdin)) {
+        perror("standard input");
+        exit(EXIT_FAILURE);
+    }
+    if (length > SIGBROL_TEXT) {
+        printf("refused,7,0\n");
+        return 0;
+    }
+    sigbrol_reply reply = sigbrol_read_job(text, length, job->table, SIGBROL_PIECES, job->pixels, SIGBROL_PIXELS, &job->rows,
+                                           &job->columns, &job->count);
+    if (reply.number != 0) {
+        printf("refused,%" PRIu32 ",%" PRIu32 "\n", reply.number, reply.first);
+        return 0;
+    }
+    return 1;
+}
+
+int main(void)
+{
+    static sigbrol_job job;
+    static search s;
+    if (read_job(&job)) {
+        begin(&job, &s);
+        for (int number = 1; number <= ROUNDS; number++) {
+            if (run_round(&job, &s, number) == SIGBROL_CLEAR) {
+                break;
+            }
+            raise_weights(&job, &s);
+        }
+        print_best(&job, &s);
+    }
+    if (fflush(stdout) != 0 || ferror(stdout)) {
+        perror("standard output");
+        return EXIT_FAILURE;
+    }
+    return EXIT_SUCCESS;
+}

@@ -1,0 +1,131 @@
+//! Nests the pieces of a job round by round through the interface for C. Reads the job text from standard input, tells the progress on
+//! standard error and prints the best layout and how the search ended, as the program `nest` does in one go.
+
+mod sigbrol;
+
+use std::error::Error;
+use std::io::{self, Read, Write};
+use std::process::ExitCode;
+
+use sigbrol::{End, Job, Place, Reply};
+
+const ROUNDS: usize = 20;
+const BUDGET: u32 = 1_000;
+
+fn main() -> ExitCode {
+    match run() {
+        Ok(()) => ExitCode::SUCCESS,
+        Err(error) => {
+            eprintln!("{error}");
+            ExitCode::FAILURE
+        }
+    }
+}
+
+/// Reads the input and prints the output: the result of a job or the refusal of a text.
+fn run() -> Result<(), Box<dyn Error>> {
+    let mut text = Vec::new();
+    // One byte more than a job text may have, so that a longer input is seen as such.
+    let limit = sigbrol::TEXT as u64 + 1;
+    io::stdin().lock().take(limit).read_to_end(&mut text)?;
+
+    let output = if text.len() > sigbrol::TEXT {
+        b"refused,7,0\n".to_vec()
+    } else {
+        match Job::read(&text) {
+            Ok(job) => nest(&job).map_err(|reply| reply.to_string())?,
+            Err(reply) => format!("refused,{},{}\n", reply.number, reply.first).into_bytes(),
+        }
+    };
+    io::stdout().lock().write_all(&output)?;
+    Ok(())
+}
+
+/// What the search holds: the present layout and weights, the best layout so far with its plain sum, and the work of all rounds.
+struct Search {
+    layout: Vec<Place>,
+    weights: Vec<u32>,
+    best: Vec<Place>,
+    best_sum: u64,
+    trials: u64,
+    moves: u64,
+}
+
+/// Runs the rounds from the start layout with unit weights and gives what is printed.
+///
+/// After a job has been read a refusal is a mistake of this program, such as a wrong length.
+fn nest(job: &Job) -> Result<Vec<u8>, Reply> {
+    let layout = job.start()?;
+    let mut search = Search {
+        weights: vec![1; job.count() * (job.count() - 1) / 2],
+        best: layout.clone(),
+        best_sum: job.plain_sum(&layout)?,
+        layout,
+        trials: 0,
+        moves: 0,
+    };
+    for number in 1..=ROUNDS {
+        if search.round(job, number)? == End::Clear {
+            break;
+        }
+        search.raise_weights(job)?;
+    }
+    search.output(job)
+}
+
+impl Search {
+    /// One round: a descent from the present layout, the best layout kept. Gives how the descent ended.
+    fn round(&mut self, job: &Job, number: usize) -> Result<End, Reply> {
+        let descent = job.descent(&mut self.layout, &self.weights, BUDGET)?;
+        self.trials += u64::from(descent.trials);
+        self.moves += u64::from(descent.moves);
+
+        let sum = job.plain_sum(&self.layout)?;
+        if sum < self.best_sum {
+            self.best_sum = sum;
+            self.best.clone_from(&self.layout);
+        }
+        let name = match descent.end {
+            End::Clear => "clear",
+            End::Settled => "settled",
+            End::Spent => "spent",
+        };
+        eprintln!(
+            "round {number}: {name}, weighted sum {}, plain sum {sum}, {} trials, {} moves",
+            descent.sum, descent.trials, descent.moves
+        );
+        Ok(descent.end)
+    }
+
+    /// Raises the weight of each pair that shares a pixel by 1; the largest weight, 65,535, stays.
+    fn raise_weights(&mut self, job: &Job) -> Result<(), Reply> {
+        let count = job.count();
+        let pairs = (0..count).flat_map(|i| (i + 1..count).map(move |k| (i, k)));
+        for ((i, k), weight) in pairs.zip(&mut self.weights) {
+            if job.shares_pixel(&self.layout, i, k)? {
+                *weight = (*weight + 1).min(65_535);
+            }
+        }
+        Ok(())
+    }
+
+    /// The best layout's text and the last line. A layout that is called clear has passed the check before.
+    fn output(&self, job: &Job) -> Result<Vec<u8>, Reply> {
+        let word = if self.best_sum == 0 {
+            job.check(&self.best)?;
+            "clear"
+        } else {
+            "open"
+        };
+        let mut output = job.write_layout(&self.best)?;
+        let last = format!(
+            "end,{word},{},{},{},{}\n",
+            self.best_sum,
+            self.trials,
+            self.moves,
+            job.used_length(&self.best)?
+        );
+        output.extend(last.bytes());
+        Ok(output)
+    }
+}

@@ -1,0 +1,249 @@
+//! Holds another side's calls against the second program's and counts how they ended.
+
+use std::collections::BTreeMap;
+
+use second::calls::Cause;
+
+use crate::expected::{self, Returned};
+use crate::kind::Kind;
+use crate::memory::{result, Memory};
+
+/// The largest number by which a call is refused.
+const NUMBERS: u32 = 14;
+
+/// The ends of a descent, in the order of their numbers.
+const ENDS: [&str; 3] = ["clear", "settled", "spent"];
+
+/// Differences that are described at the end.
+const DESCRIBED: usize = 5;
+
+/// The other side: makes a call on a caller's memory.
+pub type Side<'a> = &'a (dyn Fn(Kind, &mut Memory) -> Returned + Sync);
+
+/// Where an input comes from: the job and what was done to it.
+pub struct Origin<'a> {
+    pub scene: &'a str,
+    pub damages: &'a [&'static str],
+}
+
+/// A call on which the sides differ.
+struct Difference {
+    size: usize,
+    text: String,
+}
+
+/// The other side, and how the calls so far ended.
+pub struct Comparison<'a> {
+    other: Side<'a>,
+    /// Calls by kind and cause, those that are accepted under no cause.
+    ended: BTreeMap<(Kind, Option<Cause>), usize>,
+    /// Accepted descents by their end: clear, settled, spent.
+    descents: [usize; 3],
+    /// For each kind the number of differences and the one with the smallest input.
+    different: BTreeMap<Kind, (usize, Difference)>,
+}
+
+impl<'a> Comparison<'a> {
+    /// Begins with no calls.
+    pub fn new(other: Side<'a>) -> Comparison<'a> {
+        Comparison {
+            other,
+            ended: BTreeMap::new(),
+            descents: [0; 3],
+            different: BTreeMap::new(),
+        }
+    }
+
+    /// Makes a call on both sides; the memory becomes what it has to be after the call.
+    pub fn call(&mut self, kind: Kind, memory: &mut Memory, origin: &Origin) {
+        let (before, mut found) = (memory.clone(), memory.clone());
+        let expected = expected::call(kind, memory);
+        let returned = (self.other)(kind, &mut found);
+        *self.ended.entry((kind, expected.cause)).or_default() += 1;
+        if kind == Kind::Descent && expected.cause.is_none() {
+            self.descents[usize::from(memory.bytes.get()[result(0)])] += 1;
+        }
+        let change = memory.difference(&found);
+        if returned == expected.returned && change.is_none() {
+            return;
+        }
+        let size = before.size();
+        let text = describe(kind, &before, origin, expected.returned, returned, change);
+        self.add_differences(kind, 1, Difference { size, text });
+    }
+
+    /// Counts differences of a kind, of which one has the smallest input.
+    fn add_differences(&mut self, kind: Kind, count: usize, difference: Difference) {
+        let (so_far, smallest) = match self.different.remove(&kind) {
+            Some((so_far, kept)) if kept.size <= difference.size => (so_far, kept),
+            Some((so_far, _)) => (so_far, difference),
+            None => (0, difference),
+        };
+        self.different.insert(kind, (so_far + count, smallest));
+    }
+
+    /// Adds the calls of another comparison.
+    pub fn add(&mut self, part: Comparison) {
+        for (ended, count) in part.ended {
+            *self.ended.entry(ended).or_default() += count;
+        }
+        for (count, more) in self.descents.iter_mut().zip(part.descents) {
+            *count += more;
+        }
+        for (kind, (count, difference)) in part.different {
+            self.add_differences(kind, count, difference);
+        }
+    }
+
+    /// The kinds of calls on which the sides differ.
+    pub fn different_kinds(&self) -> Vec<Kind> {
+        self.different.keys().copied().collect()
+    }
+
+    /// Whether no call was different and every cause of every call came up.
+    pub fn is_well(&self) -> bool {
+        self.different.is_empty() && self.missing().is_empty()
+    }
+
+    /// How many calls of a kind ended in some way.
+    fn count(&self, kind: Kind, fits: impl Fn(Option<Cause>) -> bool) -> usize {
+        let of_kind = self.ended.iter().filter(|((of, _), _)| *of == kind);
+        of_kind
+            .filter(|((_, cause), _)| fits(*cause))
+            .map(|(_, count)| count)
+            .sum()
+    }
+
+    /// In words, each way for a call to end that did not come up.
+    pub fn missing(&self) -> Vec<String> {
+        let mut missing = Vec::new();
+        for kind in Kind::ALL {
+            if self.count(kind, |cause| cause.is_none()) == 0 {
+                missing.push(format!("no call of {kind:?} is accepted"));
+            }
+            for cause in kind.causes() {
+                if self.count(kind, |found| found == Some(cause)) == 0 {
+                    let number = cause.number();
+                    missing.push(format!(
+                        "no call of {kind:?} is refused by {number}, {cause:?}"
+                    ));
+                }
+            }
+        }
+        for (end, count) in ENDS.iter().zip(self.descents) {
+            if count == 0 {
+                missing.push(format!("no descent ends {end}"));
+            }
+        }
+        missing
+    }
+
+    /// The table of all calls, the missing causes, the smallest differences and the totals.
+    pub fn summary(&self) -> String {
+        let numbers: String = (1..=NUMBERS)
+            .map(|number| format!("{:>6}", format!("by {number}")))
+            .collect();
+        let mut lines = vec![format!(
+            "{:<16}{:>7}{:>9}{numbers}{:>10}",
+            "call", "calls", "accepted", "different"
+        )];
+        lines.extend(Kind::ALL.map(|kind| self.line(kind)));
+        let ends = ENDS.iter().zip(self.descents);
+        let ends: Vec<String> = ends.map(|(end, count)| format!("{count} {end}")).collect();
+        lines.push(format!("descents that ended: {}", ends.join(", ")));
+        lines.extend(self.missing());
+        let mut differences: Vec<&(usize, Difference)> = self.different.values().collect();
+        differences.sort_by_key(|(_, difference)| difference.size);
+        let described = differences.iter().take(DESCRIBED);
+        lines.extend(described.map(|(_, difference)| format!("different: {}", difference.text)));
+        let calls: usize = self.ended.values().sum();
+        let different: usize = self.different.values().map(|(count, _)| count).sum();
+        lines.push(format!("{calls} calls, {different} different"));
+        lines.join("\n")
+    }
+
+    /// The table's line of a kind.
+    fn line(&self, kind: Kind) -> String {
+        let by = |number: u32| {
+            let count = self.count(kind, |cause| {
+                cause.is_some_and(|cause| cause.number() == number)
+            });
+            format!(
+                "{:>6}",
+                if count == 0 {
+                    "-".to_string()
+                } else {
+                    count.to_string()
+                }
+            )
+        };
+        let numbers: String = (1..=NUMBERS).map(by).collect();
+        let calls = self.count(kind, |_| true);
+        let accepted = self.count(kind, |cause| cause.is_none());
+        let different = self.different.get(&kind).map_or(0, |(count, _)| *count);
+        format!(
+            "{:<16}{calls:>7}{accepted:>9}{numbers}{different:>10}",
+            format!("{kind:?}")
+        )
+    }
+}
+
+/// Describes a difference: the call, its input as far as it is short, and what differs.
+fn describe(
+    kind: Kind,
+    before: &Memory,
+    origin: &Origin,
+    expected: Returned,
+    found: Returned,
+    change: Option<String>,
+) -> String {
+    let mut text = format!(
+        "{kind:?} on {}, damaged: {:?}",
+        origin.scene, origin.damages
+    );
+    if expected != found {
+        text += &format!("\n  expected {expected:?}\n  found    {found:?}");
+    }
+    if let Some(change) = change {
+        text += &format!("\n  {change}");
+    }
+    let Memory {
+        rows,
+        columns,
+        count,
+        numbers,
+        ..
+    } = before;
+    text += &format!("\n  W {rows}, L {columns}, n {count}, {numbers:?}");
+    macro_rules! show {
+        ($($field:ident),*) => {$(
+            if before.$field.length() > 0 {
+                let shown = shown(before.$field.get());
+                text += &format!("\n  {} {shown:?}", stringify!($field));
+            }
+        )*};
+    }
+    show!(
+        table,
+        pixels,
+        turns,
+        row_strips,
+        row_starts,
+        column_strips,
+        column_starts
+    );
+    show!(layout, weights, counts);
+    if before.counts.length() > 0 {
+        text += &format!("\n  record {:?}", before.record.get());
+    }
+    if before.text.length() > 0 {
+        let lent = String::from_utf8_lossy(shown(before.text.get()));
+        text += &format!("\n  text {lent:?}");
+    }
+    text
+}
+
+/// The front of a buffer.
+fn shown<T>(buffer: &[T]) -> &[T] {
+    &buffer[..buffer.len().min(200)]
+}

@@ -1,0 +1,141 @@
+//! The calls, and for each the causes by which it may be refused.
+
+use second::calls::Cause::{self, *};
+
+/// A function of the interface for C.
+#[derive(Clone, Copy, Debug, PartialEq, Eq, PartialOrd, Ord)]
+pub enum Kind {
+    ReadJob,
+    Strips,
+    Stretch,
+    StretchRefusal,
+    Rebuild,
+    NoFitRow,
+    NoFitColumn,
+    SharesPixel,
+    Depth,
+    Penalty,
+    WeightedSum,
+    PlainSum,
+    UsedLength,
+    Check,
+    Start,
+    WriteLayout,
+    ReadLayout,
+    LineSearch,
+    Descent,
+    GuidedRun,
+    Program,
+    Fresh,
+    Lay,
+    Withdraw,
+}
+
+/// The causes of a lent job.
+const JOB: [Cause; 9] = [
+    LentSheet, LentCount, LentTable, LentBox, LentTurns, LentAreas, LentPixels, LentPixel,
+    LentLoose,
+];
+
+impl Kind {
+    /// All calls, in the header's order.
+    pub const ALL: [Kind; 24] = {
+        use Kind::*;
+        [
+            ReadJob,
+            Strips,
+            Stretch,
+            StretchRefusal,
+            Rebuild,
+            NoFitRow,
+            NoFitColumn,
+            SharesPixel,
+            Depth,
+            Penalty,
+            WeightedSum,
+            PlainSum,
+            UsedLength,
+            Check,
+            Start,
+            WriteLayout,
+            ReadLayout,
+            LineSearch,
+            Descent,
+            GuidedRun,
+            Program,
+            Fresh,
+            Lay,
+            Withdraw,
+        ]
+    };
+
+    /// Whether the call is lent a job.
+    pub fn is_lent_a_job(self) -> bool {
+        !matches!(self, Kind::ReadJob | Kind::Rebuild | Kind::Program)
+    }
+
+    /// The causes of the call itself, those of a lent job left out.
+    fn own_causes(self) -> &'static [Cause] {
+        match self {
+            Kind::ReadJob => &[
+                Form,
+                TextNumber,
+                SheetArea,
+                BoxAreas,
+                LooseBox,
+                BoxAboveSheet,
+                BufferShort,
+            ],
+            Kind::Strips => &[TurnsLength, Turn, BufferShort],
+            Kind::Stretch | Kind::StretchRefusal => &[NoPiece, TurnsLength, Turn, Store],
+            Kind::Rebuild => &[Side, Strips, BufferShort],
+            Kind::NoFitRow | Kind::NoFitColumn => &[NoPiece, Turn, Stretch, BufferShort],
+            Kind::SharesPixel | Kind::Depth | Kind::Penalty => {
+                &[LayoutLength, NoPiece, SamePiece, LayoutTurn, Outside]
+            }
+            Kind::WeightedSum => &[LayoutLength, WeightsLength, Weight, LayoutTurn, Outside],
+            Kind::PlainSum | Kind::UsedLength => &[LayoutLength, LayoutTurn, Outside],
+            Kind::Check => &[LayoutLength, LayoutTurn, Outside, Shared],
+            Kind::Start => &[LayoutLength],
+            Kind::WriteLayout => &[LayoutLength, LayoutTurn, Outside, BufferShort],
+            Kind::ReadLayout => &[Form, TextNumber, Turn, Outside, LayoutLength],
+            Kind::LineSearch => &[
+                LayoutLength,
+                WeightsLength,
+                Weight,
+                NoPiece,
+                Turn,
+                LayoutTurn,
+                Outside,
+                NoPlace,
+            ],
+            Kind::Descent => &[
+                LayoutLength,
+                WeightsLength,
+                Weight,
+                Budget,
+                LayoutTurn,
+                Outside,
+            ],
+            Kind::GuidedRun => &[
+                LayoutLength,
+                WeightsLength,
+                Weight,
+                Budget,
+                Rounds,
+                LayoutTurn,
+                Outside,
+            ],
+            Kind::Program => &[BufferShort],
+            Kind::Fresh => &[CountsLength],
+            Kind::Lay => &[CountsLength, Record, Counts, NoPiece, Turn, Laid, Outside],
+            Kind::Withdraw => &[CountsLength, Record, Counts, NoPiece, NotLaid],
+        }
+    }
+
+    /// Every cause by which the call may be refused.
+    pub fn causes(self) -> Vec<Cause> {
+        let job: &[Cause] = if self.is_lent_a_job() { &JOB } else { &[] };
+        [job, self.own_causes()].concat()
+    }
+}

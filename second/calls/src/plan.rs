@@ -1,0 +1,358 @@
+//! All inputs, of fixed seeds: jobs of every kind, each with calls that are accepted, with every damage alone and with several.
+
+use std::thread;
+
+use second::inputs::random::Random;
+use second::inputs::{damage as texts, jobs};
+
+use crate::comparison::{Comparison, Origin, Side};
+use crate::damage::{damages, Damage};
+use crate::guarded::Guarded;
+use crate::kind::Kind;
+use crate::layout_text;
+use crate::memory::Memory;
+use crate::scene::Scene;
+
+/// Calls of each kind on a job: as accepted, with one damage, with several damages.
+const ACCEPTED: usize = 2;
+const ALONE: usize = 2;
+const SEVERAL: usize = 3;
+
+/// Damaged layout texts of a job.
+const LAYOUT_TEXTS: usize = 6;
+
+/// Lays and withdraws from a fresh sheet of a job, at most.
+const SHEET_CALLS: usize = 60;
+
+/// Inputs whose program run is compared; the program itself is compared elsewhere on all of them.
+const PROGRAM_TEXT: usize = 2_000;
+
+/// Every job, the largest ones last.
+pub fn scenes() -> Vec<Scene> {
+    let mut scenes = Vec::new();
+    for kind in jobs::kinds() {
+        for (number, text) in kind.inputs.into_iter().enumerate() {
+            scenes.push(Scene::new(format!("{} {number}", kind.name), text));
+        }
+    }
+    scenes.extend(full_stores());
+    scenes
+}
+
+/// Jobs whose boxes have as many pixels together as a job may have.
+fn full_stores() -> [Scene; 2] {
+    let full = |number: usize, columns: usize, rows: usize| {
+        let row = format!("row,{}\n", "#".repeat(columns));
+        format!("piece,{number},{columns},{rows},15\n{}", row.repeat(rows))
+    };
+    let squares: String = (0..64).map(|number| full(number, 32, 32)).collect();
+    let boxes = [(255, 255), (255, 2), (1, 1)];
+    let boxes: String = boxes
+        .iter()
+        .enumerate()
+        .map(|(number, &(columns, rows))| full(number, columns, rows))
+        .collect();
+    let scene = |name: &str, text: String| Scene::new(name.to_string(), text.into_bytes());
+    [
+        scene(
+            "full store of squares",
+            format!("job,1,256,256,64\n{squares}"),
+        ),
+        scene("full store of boxes", format!("job,1,256,256,3\n{boxes}")),
+    ]
+}
+
+/// Makes every call of the comparison, in a number of threads that have the given stack.
+pub fn run(other: Side, threads: usize, stack: usize) -> Comparison {
+    let scenes = scenes();
+    let part = |part: usize| {
+        let mut comparison = Comparison::new(other);
+        for (number, scene) in scenes.iter().enumerate().skip(part).step_by(threads) {
+            run_scene(&mut comparison, scene, number);
+        }
+        if part == 0 {
+            run_texts(&mut comparison);
+        }
+        comparison
+    };
+    thread::scope(|scope| {
+        let begin = |number| {
+            let thread = thread::Builder::new().stack_size(stack);
+            thread.spawn_scoped(scope, move || part(number))
+        };
+        let parts: Vec<_> = (0..threads).map(begin).collect();
+        let mut whole = Comparison::new(other);
+        for part in parts {
+            let part = part.expect("a thread begins").join();
+            whole.add(part.expect("a thread ends with its comparison"));
+        }
+        whole
+    })
+}
+
+/// Every call on a job.
+fn run_scene(comparison: &mut Comparison, scene: &Scene, number: usize) {
+    let random = &mut Random::new(number as u64);
+    for kind in Kind::ALL {
+        let (own, job) = damages(kind);
+        let all = [&own, job].concat();
+        for _ in 0..accepted(scene, kind) {
+            call(comparison, random, scene, kind, &[]);
+        }
+        for turn in 0..ALONE {
+            let damage = all[(ALONE * number + turn) % all.len()];
+            call(comparison, random, scene, kind, &[damage]);
+        }
+        // A damaged job hides every other cause, so it is left alone mostly.
+        let some = |random: &mut Random| {
+            let known = if random.chance(10) { &all } else { &own };
+            random.pick(known)
+        };
+        for _ in 0..SEVERAL.min(own.len()) {
+            let count = random.between(2, 4);
+            let damages: Vec<Damage> = (0..count).map(|_| some(random)).collect();
+            call(comparison, random, scene, kind, &damages);
+        }
+    }
+    run_layout_texts(comparison, random, scene);
+    run_sheet(comparison, random, scene);
+}
+
+/// How many calls are made as they are accepted: fewer of what takes long on large jobs.
+fn accepted(scene: &Scene, kind: Kind) -> usize {
+    match kind {
+        Kind::Program if !scene.is_small() || scene.text.len() > PROGRAM_TEXT => 0,
+        Kind::Descent | Kind::GuidedRun if !scene.is_small() => 1,
+        _ => ACCEPTED,
+    }
+}
+
+/// One call on a job, with some damages done one after the other.
+fn call(
+    comparison: &mut Comparison,
+    random: &mut Random,
+    scene: &Scene,
+    kind: Kind,
+    damages: &[Damage],
+) {
+    let mut memory = scene.memory(random, kind);
+    for damage in damages {
+        (damage.apply)(random, &mut memory);
+    }
+    let names: Vec<&'static str> = damages.iter().map(|damage| damage.name).collect();
+    let origin = Origin {
+        scene: &scene.name,
+        damages: &names,
+    };
+    comparison.call(kind, &mut memory, &origin);
+}
+
+/// Damaged layout texts of a job, now and then with a damage beside.
+fn run_layout_texts(comparison: &mut Comparison, random: &mut Random, scene: &Scene) {
+    let (own, job) = damages(Kind::ReadLayout);
+    let known = [&own, job].concat();
+    for turn in 0..LAYOUT_TEXTS {
+        let mut memory = scene.memory(random, Kind::ReadLayout);
+        let mut text = memory.text.get().to_vec();
+        for _ in 0..random.pick(&[1, 1, 2, 3]) {
+            text = layout_text::damaged(random, &text);
+            if text.is_empty() {
+                break;
+            }
+        }
+        memory.text = Guarded::new(&text);
+        if turn == 0 {
+            (random.pick(&known).apply)(random, &mut memory);
+        }
+        let origin = Origin {
+            scene: &scene.name,
+            damages: &["layout text"],
+        };
+        comparison.call(Kind::ReadLayout, &mut memory, &origin);
+    }
+}
+
+/// A long list of lays and withdraws from a fresh sheet, some of them refused; the memory is carried from call to call.
+fn run_sheet(comparison: &mut Comparison, random: &mut Random, scene: &Scene) {
+    let origin = Origin {
+        scene: &scene.name,
+        damages: &["list of lays and withdraws"],
+    };
+    let mut memory = scene.memory(random, Kind::Fresh);
+    comparison.call(Kind::Fresh, &mut memory, &origin);
+    let (own, _) = damages(Kind::Lay);
+    let refused: Vec<Damage> = own
+        .into_iter()
+        .filter(|damage| ["no such piece", "turn", "place to lay"].contains(&damage.name))
+        .collect();
+    for _ in 0..SHEET_CALLS.min(4 * scene.count() + 10) {
+        scene.choose_lay(random, &mut memory);
+        if random.chance(15) {
+            (random.pick(&refused).apply)(random, &mut memory);
+        }
+        let kind = random.pick(&[Kind::Lay, Kind::Lay, Kind::Withdraw]);
+        comparison.call(kind, &mut memory, &origin);
+    }
+}
+
+/// Damaged job texts through the reader and, where they are short, through the program.
+fn run_texts(comparison: &mut Comparison) {
+    let mut random = Random::new(0);
+    for kind in texts::kinds() {
+        for (number, text) in kind.inputs.iter().enumerate() {
+            let origin = Origin {
+                scene: &format!("{} {number}", kind.name),
+                damages: &[],
+            };
+            let mut memory = Memory::new(&mut random);
+            memory.text = Guarded::new(text);
+            // Some buffers are too short for some of the texts that are read.
+            let (table, pixels) = (
+                random.pick(&[64, 64, 3]),
+                random.pick(&[65_536, 700, 700, 40]),
+            );
+            memory.table = Guarded::junk(&mut random, table);
+            memory.pixels = Guarded::junk(&mut random, pixels);
+            comparison.call(Kind::ReadJob, &mut memory, &origin);
+            let far_too_long = text.len() > second::MAX_INPUT;
+            if text.len() <= PROGRAM_TEXT || far_too_long {
+                let length = random.pick(&[4_095, 4_096, 4_096, 5_000]);
+                memory.output = Guarded::junk(&mut random, length);
+                comparison.call(Kind::Program, &mut memory, &origin);
+            }
+        }
+    }
+}
+
+#[cfg(test)]
+mod tests {
+    use super::*;
+    use crate::expected::{self, Returned};
+    use crate::memory::result;
+
+    /// The second program as the other side.
+    fn same(kind: Kind, memory: &mut Memory) -> Returned {
+        expected::call(kind, memory).returned
+    }
+
+    /// Compares a side on some small jobs of each kind.
+    fn compared(side: Side) -> Comparison {
+        let mut comparison = Comparison::new(side);
+        for (number, scene) in scenes().iter().enumerate() {
+            if number % 30 == 0 && scene.is_small() {
+                run_scene(&mut comparison, scene, number);
+            }
+        }
+        comparison
+    }
+
+    /// Compares a side that is wrong about a kind of call; it has to be told, and nothing else.
+    fn assert_told(kind: Kind, side: Side) {
+        let comparison = compared(side);
+        let summary = comparison.summary();
+        assert!(!comparison.is_well(), "{kind:?}");
+        assert_eq!(comparison.different_kinds(), [kind], "{summary}");
+        assert!(summary.contains(&format!("\ndifferent: {kind:?} on ")));
+    }
+
+    #[test]
+    fn the_same_side_differs_nowhere() {
+        let summary = compared(&same).summary();
+        assert!(summary.ends_with(" calls, 0 different"), "{summary}");
+    }
+
+    #[test]
+    fn the_same_inputs_each_time() {
+        assert_eq!(compared(&same).summary(), compared(&same).summary());
+    }
+
+    #[test]
+    fn the_places_of_a_pair_the_other_way_round() {
+        assert_told(Kind::Check, &|kind, memory| {
+            let mut returned = same(kind, memory);
+            if kind == Kind::Check {
+                returned.reply.swap(1, 2);
+            }
+            returned
+        });
+    }
+
+    #[test]
+    fn a_withdraw_that_does_nothing() {
+        assert_told(Kind::Withdraw, &|kind, memory| match kind {
+            Kind::Withdraw => same(kind, &mut memory.clone()),
+            _ => same(kind, memory),
+        });
+    }
+
+    #[test]
+    fn a_refused_lay_that_writes() {
+        assert_told(Kind::Lay, &|kind, memory| {
+            let returned = same(kind, memory);
+            let refused = kind == Kind::Lay && returned.reply[0] == 13;
+            if let Some(count) = memory.counts.get_mut().first_mut().filter(|_| refused) {
+                *count += 1;
+            }
+            returned
+        });
+    }
+
+    #[test]
+    fn a_trial_invented() {
+        assert_told(Kind::Descent, &|kind, memory| {
+            let returned = same(kind, memory);
+            if kind == Kind::Descent && returned.reply[0] == 0 {
+                memory.halves.get_mut()[result(0)] += 1;
+            }
+            returned
+        });
+    }
+
+    #[test]
+    fn a_text_that_goes_beyond_what_is_written() {
+        assert_told(Kind::WriteLayout, &|kind, memory| {
+            let returned = same(kind, memory);
+            let written = memory.sizes.get()[result(0)];
+            if kind == Kind::WriteLayout && returned.reply[0] == 0 {
+                let beyond = memory.output.get_mut().get_mut(written);
+                beyond.into_iter().for_each(|byte| *byte ^= 255);
+            }
+            returned
+        });
+    }
+
+    #[test]
+    fn a_later_cause_that_wins() {
+        // A corner that is outside in every turn is told before a turn that is not allowed.
+        assert_told(Kind::PlainSum, &|kind, memory| {
+            let mut returned = same(kind, memory);
+            let mut corners = memory.layout.get().iter();
+            let outside = corners.any(|&[_, x, y]| x >= 4_096 || y >= 4_096);
+            if kind == Kind::PlainSum && returned.reply[0] == 9 && outside {
+                returned.reply[0] = 10;
+            }
+            returned
+        });
+    }
+
+    #[test]
+    fn another_number_of_the_stretch() {
+        assert_told(Kind::StretchRefusal, &|kind, memory| {
+            let mut returned = same(kind, memory);
+            if kind == Kind::StretchRefusal && returned.value == 9 {
+                returned.value = 8;
+            }
+            returned
+        });
+    }
+
+    #[test]
+    fn causes_that_do_not_come_up_are_named() {
+        let comparison = Comparison::new(&same);
+        let causes: usize = Kind::ALL.iter().map(|kind| kind.causes().len()).sum();
+        let missing = comparison.missing();
+        assert_eq!(missing.len(), causes + Kind::ALL.len() + 3);
+        assert!(missing.contains(&"no call of Lay is refused by 13, Laid".to_string()));
+        assert!(!comparison.is_well());
+    }
+}

@@ -1,0 +1,189 @@
+//! Whole layouts: sums, used length, check, start layout, line search, descent and guided run.
+
+use super::lent::{allowed, placements, write_placements};
+use super::{require, Cause, Lent, Refusal};
+use crate::job::Job;
+use crate::layout::{self, Placement};
+use crate::search::{Descent, End, LinePlace, Search};
+use crate::shape::Direction;
+
+/// The largest budget and the largest number of rounds.
+const MAX_BUDGET: u32 = 1_000_000_000;
+const MAX_ROUNDS: u32 = 1_000;
+
+/// A lent layout and weights.
+#[derive(Clone, Copy)]
+pub struct Weighted<'a> {
+    pub layout: &'a [[u16; 3]],
+    pub weights: &'a [u32],
+}
+
+impl Weighted<'_> {
+    /// Causes 7 and, of the weights, 2; gives the weights.
+    fn weights(&self, job: &Job) -> Result<Vec<u16>, Refusal> {
+        require(self.layout.len() == job.pieces.len(), Cause::LayoutLength)?;
+        require(self.weights.len() == job.pair_count(), Cause::WeightsLength)?;
+        let weight = |&weight: &u32| u16::try_from(weight).ok().filter(|&weight| weight > 0);
+        let weights = self.weights.iter().map(weight).collect();
+        Option::ok_or(weights, Cause::Weight.into())
+    }
+}
+
+/// The placements of a layout that is lent without weights: causes 8, 7, 9 and 10.
+fn plain(lent: &Lent, layout: &[[u16; 3]]) -> Result<(Job, Vec<Placement>), Refusal> {
+    let job = lent.job()?;
+    require(layout.len() == lent.count, Cause::LayoutLength)?;
+    let places = placements(&job, layout)?;
+    Ok((job, places))
+}
+
+/// The weighted sum of a layout.
+pub fn weighted_sum(lent: &Lent, given: Weighted) -> Result<u64, Refusal> {
+    let job = lent.job()?;
+    let weights = given.weights(&job)?;
+    let places = placements(&job, given.layout)?;
+    Ok(Search::new(&job, places, &weights).weighted_sum())
+}
+
+/// The plain sum of a layout.
+pub fn plain_sum(lent: &Lent, layout: &[[u16; 3]]) -> Result<u64, Refusal> {
+    let (job, places) = plain(lent, layout)?;
+    let unit_weights = vec![1; job.pair_count()];
+    Ok(Search::new(&job, places, &unit_weights).plain_sum())
+}
+
+/// The used length of a layout.
+pub fn used_length(lent: &Lent, layout: &[[u16; 3]]) -> Result<usize, Refusal> {
+    let (job, places) = plain(lent, layout)?;
+    Ok(layout::used_length(&job, &places))
+}
+
+/// Passes a layout in which no two pieces share a pixel.
+pub fn check(lent: &Lent, layout: &[[u16; 3]]) -> Result<(), Refusal> {
+    let (job, places) = plain(lent, layout)?;
+    // The piece that holds each sheet pixel is told by painting; of all pairs that meet in a pixel the lowest is named.
+    let mut holders: Vec<Vec<usize>> = vec![Vec::new(); job.rows * job.columns];
+    let mut lowest = None;
+    for (number, (piece, place)) in job.pieces.iter().zip(&places).enumerate() {
+        let shape = piece.shape.turned(place.turn);
+        for (x, y) in shape.pixels() {
+            let cell = &mut holders[(place.y + y) * job.columns + place.x + x];
+            let met = cell.iter().map(|&other| [other, number]).min();
+            lowest = [lowest, met].into_iter().flatten().min();
+            cell.push(number);
+        }
+    }
+    match lowest {
+        None => Ok(()),
+        Some(places) => Err(Refusal {
+            cause: Cause::Shared,
+            places,
+        }),
+    }
+}
+
+/// Fills the start layout.
+pub fn start(lent: &Lent, layout: &mut [[u16; 3]]) -> Result<(), Refusal> {
+    let job = lent.job()?;
+    require(layout.len() == lent.count, Cause::LayoutLength)?;
+    write_placements(layout, &layout::start(&job));
+    Ok(())
+}
+
+/// A line on which a piece is searched a place.
+#[derive(Clone, Copy)]
+pub struct Line {
+    pub piece: usize,
+    pub turn: u16,
+    pub vertical: bool,
+    pub held: u16,
+}
+
+/// The least sum of a piece's pairs on a line, and the smallest coordinate that has it.
+pub fn line_search(lent: &Lent, given: Weighted, line: Line) -> Result<LinePlace, Refusal> {
+    let job = lent.job()?;
+    let weights = given.weights(&job)?;
+    let piece = job.pieces.get(line.piece).ok_or(Cause::NoPiece)?;
+    let turn = allowed(piece, usize::from(line.turn)).ok_or(Cause::Turn)?;
+    let places = placements(&job, given.layout)?;
+    let direction = Direction::ALL[usize::from(line.vertical)];
+    let mut search = Search::new(&job, places, &weights);
+    let found = search.line_search(line.piece, turn, direction, usize::from(line.held));
+    found.ok_or(Cause::NoPlace.into())
+}
+
+/// What a descent gives: its end as the interface numbers it, sum, trials and moves.
+#[derive(Clone, Copy, Debug, PartialEq, Eq)]
+pub struct Ended {
+    pub end: u8,
+    pub sum: u64,
+    pub trials: u64,
+    pub moves: u64,
+}
+
+/// Runs a descent; the layout becomes the one at its end.
+pub fn descent(
+    lent: &Lent,
+    layout: &mut [[u16; 3]],
+    weights: &[u32],
+    budget: u32,
+) -> Result<Ended, Refusal> {
+    let job = lent.job()?;
+    let given = Weighted { layout, weights };
+    let weights = given.weights(&job)?;
+    require(budget <= MAX_BUDGET, Cause::Budget)?;
+    let places = placements(&job, layout)?;
+    let mut search = Search::new(&job, places, &weights);
+    let Descent {
+        end,
+        sum,
+        trials,
+        moves,
+    } = search.descent(u64::from(budget));
+    write_placements(layout, search.layout());
+    let end = match end {
+        End::Clear => 0,
+        End::Settled => 1,
+        End::Spent => 2,
+    };
+    Ok(Ended {
+        end,
+        sum,
+        trials,
+        moves,
+    })
+}
+
+/// What a guided run gives: the best layout's plain sum, trials and moves.
+#[derive(Clone, Copy, Debug, PartialEq, Eq)]
+pub struct Run {
+    pub sum: u64,
+    pub trials: u64,
+    pub moves: u64,
+}
+
+/// Makes a guided run; the layout becomes the best one and the weights the new ones.
+pub fn guided_run(
+    lent: &Lent,
+    layout: &mut [[u16; 3]],
+    weights: &mut [u32],
+    rounds: u32,
+    budget: u32,
+) -> Result<Run, Refusal> {
+    let job = lent.job()?;
+    let begun = Weighted { layout, weights }.weights(&job)?;
+    require(budget <= MAX_BUDGET, Cause::Budget)?;
+    require((1..=MAX_ROUNDS).contains(&rounds), Cause::Rounds)?;
+    let places = placements(&job, layout)?;
+    let search = Search::new(&job, places, &begun);
+    let guided = search.guided_run(rounds as usize, u64::from(budget));
+    write_placements(layout, &guided.best);
+    for (weight, &new) in weights.iter_mut().zip(&guided.weights) {
+        *weight = u32::from(new);
+    }
+    Ok(Run {
+        sum: guided.plain_sum,
+        trials: guided.trials,
+        moves: guided.moves,
+    })
+}

@@ -1,0 +1,94 @@
+//! A job in a caller's buffers: cause 8 of every call that is lent one, and the causes of a layout beside it.
+
+use super::{require, Cause, Refusal};
+use crate::job::{Job, Piece, MAX_AREA};
+use crate::layout::Placement;
+use crate::shape::{Shape, Turn};
+
+/// W, L, n, the piece table {l, w, o} and the pixel bytes.
+#[derive(Clone, Copy, Debug)]
+pub struct Lent<'a> {
+    pub rows: usize,
+    pub columns: usize,
+    pub count: usize,
+    pub table: &'a [[u8; 3]],
+    pub pixels: &'a [u8],
+}
+
+impl Lent<'_> {
+    /// The job, if reading gives it from some text.
+    pub fn job(&self) -> Result<Job, Refusal> {
+        let sheet = (1..=512).contains(&self.rows) && (1..=4096).contains(&self.columns);
+        require(
+            sheet && self.rows * self.columns <= MAX_AREA,
+            Cause::LentSheet,
+        )?;
+        require((1..=64).contains(&self.count), Cause::LentCount)?;
+        let table = self.table.get(..self.count).ok_or(Cause::LentTable)?;
+        for &[columns, rows, turns] in table {
+            let fits = |side: u8, sheet: usize| (1..=sheet).contains(&usize::from(side));
+            require(
+                fits(columns, self.columns) && fits(rows, self.rows),
+                Cause::LentBox,
+            )?;
+            require(turns % 2 == 1 && turns <= 15, Cause::LentTurns)?;
+        }
+        let area = |&[columns, rows, _]: &[u8; 3]| usize::from(columns) * usize::from(rows);
+        let total: usize = table.iter().map(area).sum();
+        require(total <= MAX_AREA, Cause::LentAreas)?;
+        let pixels = self.pixels.get(..total).ok_or(Cause::LentPixels)?;
+        require(pixels.iter().all(|&byte| byte <= 1), Cause::LentPixel)?;
+
+        let mut rest = pixels;
+        let mut pieces = Vec::with_capacity(table.len());
+        for entry in table {
+            let (own, others) = rest.split_at(area(entry));
+            rest = others;
+            let bits = own.iter().map(|&byte| byte == 1).collect();
+            let shape = Shape::new(usize::from(entry[0]), bits);
+            require(shape.is_tight(), Cause::LentLoose)?;
+            pieces.push(Piece::new(shape, usize::from(entry[2])));
+        }
+        Ok(Job {
+            rows: self.rows,
+            columns: self.columns,
+            pieces,
+        })
+    }
+}
+
+/// The turn of so many degrees, if the piece may take it.
+pub fn allowed(piece: &Piece, degrees: usize) -> Option<Turn> {
+    piece.turns().find(|turn| turn.degrees() == degrees)
+}
+
+/// Whether a placed piece's turned box lies in the sheet.
+pub fn inside(job: &Job, piece: &Piece, place: &Placement) -> bool {
+    let [columns, rows] = piece.shape.turned_box(place.turn);
+    place.x + columns <= job.columns && place.y + rows <= job.rows
+}
+
+/// The placements of a layout of n entries: causes 9 and 10, each over the whole layout before the next.
+pub fn placements(job: &Job, layout: &[[u16; 3]]) -> Result<Vec<Placement>, Refusal> {
+    let mut places = Vec::with_capacity(layout.len());
+    for (piece, &[degrees, x, y]) in job.pieces.iter().zip(layout) {
+        places.push(Placement {
+            turn: allowed(piece, usize::from(degrees)).ok_or(Cause::LayoutTurn)?,
+            x: usize::from(x),
+            y: usize::from(y),
+        });
+    }
+    let mut placed = job.pieces.iter().zip(&places);
+    require(
+        placed.all(|(piece, place)| inside(job, piece, place)),
+        Cause::Outside,
+    )?;
+    Ok(places)
+}
+
+/// Writes placements into a layout buffer of the same length.
+pub fn write_placements(layout: &mut [[u16; 3]], places: &[Placement]) {
+    for (entry, place) in layout.iter_mut().zip(places) {
+        *entry = [place.turn.degrees(), place.x, place.y].map(|number| number as u16);
+    }
+}

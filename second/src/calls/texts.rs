@@ -1,0 +1,83 @@
+//! The texts: a job read, a layout written and read, the program.
+
+use super::lent::{allowed, inside, placements, write_placements};
+use super::{require, Cause, Lent, Refusal};
+use crate::job::{self, Job, Lines};
+use crate::layout::{self, Placement};
+
+/// The length that the program's output buffer has at least.
+pub const OUTPUT: usize = 4_096;
+
+/// Reads a job text into a table and a pixel store; gives W, L and n.
+pub fn read_job(
+    text: &[u8],
+    table: &mut [[u8; 3]],
+    pixels: &mut [u8],
+) -> Result<[usize; 3], Refusal> {
+    let job = job::read(text)?;
+    let shapes = || job.pieces.iter().map(|piece| &piece.shape);
+    let total: usize = shapes().map(|shape| shape.columns() * shape.rows()).sum();
+    require(table.len() >= job.pieces.len(), Cause::BufferShort)?;
+    require(pixels.len() >= total, Cause::BufferShort)?;
+    for (entry, piece) in table.iter_mut().zip(&job.pieces) {
+        let shape = &piece.shape;
+        *entry = [shape.columns(), shape.rows(), piece.turn_sum()].map(|number| number as u8);
+    }
+    for (byte, pixel) in pixels
+        .iter_mut()
+        .zip(shapes().flat_map(|shape| shape.cells()))
+    {
+        *byte = u8::from(pixel);
+    }
+    Ok([job.rows, job.columns, job.pieces.len()])
+}
+
+/// Writes a layout's text into a buffer; gives its length.
+pub fn write_layout(lent: &Lent, layout: &[[u16; 3]], text: &mut [u8]) -> Result<usize, Refusal> {
+    let job = lent.job()?;
+    require(layout.len() == lent.count, Cause::LayoutLength)?;
+    let places = placements(&job, layout)?;
+    let written = layout::text(&job, &places);
+    let front = text.get_mut(..written.len()).ok_or(Cause::BufferShort)?;
+    front.copy_from_slice(written.as_bytes());
+    Ok(written.len())
+}
+
+/// Reads a layout text of a job into a layout buffer.
+pub fn read_layout(lent: &Lent, text: &[u8], layout: &mut [[u16; 3]]) -> Result<(), Refusal> {
+    let job = lent.job()?;
+    let mut lines = Lines::new(text);
+    let [version, rows, columns, count] = lines.take_numbers(b"layout")?;
+    lines.require(version == 1, 1)?;
+    let same = [rows, columns, count] == [job.rows, job.columns, job.pieces.len()];
+    lines.require(same, 2)?;
+    let places = (0..count)
+        .map(|index| read_place(&job, &mut lines, index))
+        .collect::<Result<Vec<Placement>, job::Refusal>>()?;
+    lines.expect_end()?;
+    require(layout.len() == count, Cause::LayoutLength)?;
+    write_placements(layout, &places);
+    Ok(())
+}
+
+/// Reads the line of one piece's placement.
+fn read_place(job: &Job, lines: &mut Lines, index: usize) -> Result<Placement, job::Refusal> {
+    let [number, degrees, x, y] = lines.take_numbers(b"at")?;
+    let in_range = number == index && [0, 90, 180, 270].contains(&degrees);
+    lines.require(in_range, 2)?;
+    let piece = &job.pieces[index];
+    let turn = allowed(piece, degrees).ok_or_else(|| lines.refuse(9))?;
+    let place = Placement { turn, x, y };
+    lines.require(inside(job, piece, &place), 10)?;
+    Ok(place)
+}
+
+/// The program's output for an input; gives its length, or 0 where the buffer is shorter than it has to be.
+pub fn program(input: &[u8], output: &mut [u8]) -> usize {
+    if output.len() < OUTPUT {
+        return 0;
+    }
+    let printed = crate::run(input);
+    output[..printed.len()].copy_from_slice(printed.as_bytes());
+    printed.len()
+}

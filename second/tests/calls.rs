@@ -1,0 +1,362 @@
+//! The calls over lent buffers: the shop's examples, the order of the causes, and random jobs compared with the definitions over pixel sets.
+
+mod oracle;
+
+use oracle::{Lcg, Place, Problem, STEPS};
+use second::calls::{self, Cause, Counts, Lent, Line, Refusal, Stretch, Weighted, RECORD};
+
+/// A job in buffers of its own.
+struct Buffers {
+    numbers: [usize; 3],
+    table: Vec<[u8; 3]>,
+    pixels: Vec<u8>,
+}
+
+impl Buffers {
+    /// Reads a text; what lies beyond the job in the buffers is no part of it.
+    fn read(text: &str) -> Buffers {
+        let (mut table, mut pixels) = (vec![[9; 3]; 64], vec![9; 65_536]);
+        let numbers = calls::read_job(text.as_bytes(), &mut table, &mut pixels);
+        let numbers = numbers.expect("the text is that of a job");
+        Buffers {
+            numbers,
+            table,
+            pixels,
+        }
+    }
+
+    fn lent(&self) -> Lent<'_> {
+        let [rows, columns, count] = self.numbers;
+        Lent {
+            rows,
+            columns,
+            count,
+            table: &self.table,
+            pixels: &self.pixels,
+        }
+    }
+}
+
+/// A job of pieces that are given by their rows, the bottom row first, all in every turn.
+fn job(rows: usize, columns: usize, pieces: &[&[&str]]) -> Buffers {
+    let mut text = format!("job,1,{rows},{columns},{}\n", pieces.len());
+    for (number, marks) in pieces.iter().enumerate() {
+        text += &format!("piece,{number},{},{},15\n", marks[0].len(), marks.len());
+        marks.iter().for_each(|row| text += &format!("row,{row}\n"));
+    }
+    Buffers::read(&text)
+}
+
+const A: &[&str] = &["##", "##"];
+const B: &[&str] = &["##", "#."];
+const D: &[&str] = &["###", "#.#", "###"];
+const E: &[&str] = &["#"];
+
+/// The row strips of the first piece of a job in a turn.
+fn strips(job: &Buffers, turn: u16) -> Vec<[u8; 3]> {
+    let mut turns = vec![0; job.numbers[2]];
+    turns[0] = turn;
+    let (mut rows, mut columns) = (([[0; 3]; 99], [0; 65]), ([[0; 3]; 99], [0; 65]));
+    let stores = [
+        (&mut rows.0[..], &mut rows.1[..]),
+        (&mut columns.0[..], &mut columns.1[..]),
+    ];
+    calls::strips(&job.lent(), &turns, stores).expect("turns and buffers are right");
+    rows.0[..rows.1[1] as usize].to_vec()
+}
+
+#[test]
+fn strips_turns_and_rebuilding() {
+    let ring = strips(&job(9, 9, &[D]), 0);
+    assert_eq!(ring, [[0, 0, 3], [1, 0, 1], [1, 2, 1], [2, 0, 3]]);
+    assert_eq!(strips(&job(9, 9, &[B]), 90), [[0, 0, 2], [1, 1, 1]]);
+    let mut pixels = [7; 10];
+    // The ring is its own transpose, so the same strips serve both directions.
+    for vertical in [false, true] {
+        assert_eq!(calls::rebuild(3, 3, vertical, &ring, &mut pixels), Ok(()));
+        assert_eq!(pixels, [1, 1, 1, 1, 0, 1, 1, 1, 1, 7]);
+    }
+    let mut pixels = [7; 4];
+    assert_eq!(
+        calls::rebuild(2, 2, true, &[[0, 0, 2], [1, 0, 1]], &mut pixels),
+        Ok(())
+    );
+    assert_eq!(pixels, [1, 1, 1, 0]);
+}
+
+#[test]
+fn no_fit_rows_of_squares() {
+    let job = job(9, 9, &[A, A]);
+    let strips = strips(&job, 0);
+    let square = |piece| Stretch {
+        piece,
+        turn: 0,
+        strips: &strips,
+    };
+    let mut runs = [[0; 2]; 4];
+    let mut count = |offset| {
+        calls::no_fit_line(
+            &job.lent(),
+            [square(0), square(1)],
+            false,
+            offset,
+            &mut runs,
+        )
+    };
+    assert_eq!(count(2), Ok(0));
+    assert_eq!(count(i32::MIN), Ok(0));
+    assert_eq!(count(1), Ok(1));
+    assert_eq!(runs[0], [-1, 3]);
+}
+
+#[test]
+fn depths_and_penalties_of_the_shop() {
+    let depths = |pieces: &[&[&str]], layout: [[u16; 3]; 2]| {
+        let job = job(9, 9, pieces);
+        let depth = |vertical| calls::depth(&job.lent(), &layout, 0, 1, vertical);
+        let penalty = calls::penalty(&job.lent(), &layout, 1, 0);
+        [depth(false), depth(true), penalty].map(|number| number.expect("the layout is right"))
+    };
+    assert_eq!(depths(&[A, A], [[0, 3, 3], [0, 4, 3]]), [1, 2, 1]);
+    assert_eq!(depths(&[A, A], [[0, 3, 3], [0, 3, 3]]), [2, 2, 2]);
+    assert_eq!(depths(&[D, E], [[0, 3, 3], [0, 4, 4]]), [0, 0, 0]);
+    assert_eq!(depths(&[D, E], [[0, 3, 3], [0, 4, 3]]), [2, 1, 1]);
+    assert_eq!(depths(&[B, B], [[0, 3, 3], [180, 4, 3]])[2], 0);
+}
+
+#[test]
+fn searches_of_the_shop() {
+    let given = Weighted {
+        layout: &[[0, 1, 0], [0, 1, 0]],
+        weights: &[3],
+    };
+    let line = Line {
+        piece: 1,
+        turn: 0,
+        vertical: false,
+        held: 0,
+    };
+    let found = calls::line_search(&job(2, 4, &[A, A]).lent(), given, line);
+    let found = found.expect("there is a place");
+    assert_eq!((found.coordinate, found.sum), (0, 3));
+
+    let text = |columns| {
+        let square = "2,2,1\nrow,##\nrow,##\n";
+        format!("job,1,2,{columns},2\npiece,0,{square}piece,1,{square}")
+    };
+    let descent = |columns, budget| {
+        let mut layout = [[0; 3]; 2];
+        let job = Buffers::read(&text(columns));
+        let ended = calls::descent(&job.lent(), &mut layout, &[1], budget);
+        let ended = ended.expect("the layout is right");
+        (ended.end, ended.sum, ended.trials, ended.moves)
+    };
+    assert_eq!(descent(4, 5), (0, 0, 1, 1));
+    assert_eq!(descent(3, 5), (1, 1, 5, 1));
+    assert_eq!(descent(3, 4), (2, 1, 4, 1));
+}
+
+#[test]
+fn the_first_cause_wins() {
+    let job = job(4, 5, &[A, B, E]);
+    let right = [[0, 0, 0], [90, 2, 0], [0, 4, 3]];
+    let spoilt_turn = [[0, 9, 9], [90, 2, 0], [45, 4, 3]];
+    let sum = |layout: &[[u16; 3]], weights: &[u32]| {
+        calls::weighted_sum(&job.lent(), Weighted { layout, weights })
+            .map_err(|refusal| refusal.cause)
+    };
+    assert!(sum(&right, &[1, 2, 3]).is_ok());
+    assert_eq!(sum(&spoilt_turn[..2], &[0, 2, 3]), Err(Cause::LayoutLength));
+    assert_eq!(sum(&spoilt_turn, &[0, 2]), Err(Cause::WeightsLength));
+    assert_eq!(sum(&spoilt_turn, &[0, 2, 3]), Err(Cause::Weight));
+    assert_eq!(sum(&spoilt_turn, &[1, 65_536, 3]), Err(Cause::Weight));
+    assert_eq!(sum(&spoilt_turn, &[1, 2, 3]), Err(Cause::LayoutTurn));
+    assert_eq!(
+        sum(&[[0, 9, 9], right[1], right[2]], &[1, 2, 3]),
+        Err(Cause::Outside)
+    );
+
+    let mut lent = job.lent();
+    lent.count = usize::MAX;
+    let refused = calls::plain_sum(&lent, &[]).map_err(|refusal| refusal.cause);
+    assert_eq!(refused, Err(Cause::LentCount));
+}
+
+#[test]
+fn the_lowest_pair_is_named() {
+    let job = job(4, 9, &[A, A, A, A]);
+    let check = |layout| calls::check(&job.lent(), layout);
+    let shared = |first, second| {
+        let places = [first, second];
+        let cause = Cause::Shared;
+        Err(Refusal { cause, places })
+    };
+    assert_eq!(check(&[[0, 0, 0], [0, 2, 0], [0, 4, 0], [0, 6, 0]]), Ok(()));
+    assert_eq!(
+        check(&[[0, 0, 0], [0, 3, 0], [0, 3, 0], [0, 1, 1]]),
+        shared(0, 3)
+    );
+    assert_eq!(
+        check(&[[0, 0, 0], [0, 3, 0], [0, 4, 1], [0, 4, 0]]),
+        shared(1, 2)
+    );
+}
+
+#[test]
+fn refusals_of_a_layout_text() {
+    let job = job(4, 9, &[B, E]);
+    let read = |text: &str, length: usize| {
+        let mut layout = vec![[7; 3]; length];
+        let outcome = calls::read_layout(&job.lent(), text.as_bytes(), &mut layout);
+        outcome
+            .map(|()| layout)
+            .map_err(|refusal| (refusal.cause.number(), refusal.places[0]))
+    };
+    let head = "layout,1,4,9,2\n";
+    let text = |lines: &str| format!("{head}{lines}");
+    let right = text("at,0,90,7,2\nat,1,0,0,3\n");
+    assert_eq!(read(&right, 2), Ok(vec![[90, 7, 2], [0, 0, 3]]));
+    for (text, number, line) in [
+        (String::new(), 1, 1),
+        ("layout,2,4,9,2\n".to_string(), 1, 1),
+        ("layout,1,4,8,2\n".to_string(), 2, 1),
+        (text("at,0,90,7,2"), 1, 2),
+        (text("at,1,45,99,99\n"), 2, 2),
+        (text("at,0,45,99,99\n"), 2, 2),
+        (text("at,0,0,99999,0\n"), 10, 2),
+        (text("at,0,90,7,2\n"), 1, 3),
+        (right.clone() + "\n", 1, 4),
+        (right.clone(), 7, 0),
+    ] {
+        assert_eq!(read(&text, 3), Err((number, line)), "{text:?}");
+    }
+}
+
+#[test]
+fn a_sheet_through_its_calls() {
+    let job = job(3, 3, &[A, B]);
+    let (mut record, mut counts) = ([[5; 4]; RECORD], [5; 9]);
+    macro_rules! on {
+        ($call:ident $(, $argument:expr)*) => {{
+            let sheet = Counts { record: &mut record, counts: &mut counts };
+            calls::$call(&job.lent(), sheet $(, $argument)*).map_err(|refusal| refusal.cause)
+        }};
+    }
+    assert_eq!(on!(withdraw, 9), Err(Cause::Record));
+    assert_eq!(on!(fresh), Ok(()));
+    assert_eq!(on!(lay, 0, [0, 1, 1]), Ok(()));
+    assert_eq!(on!(lay, 1, [90, 0, 0]), Ok(()));
+    assert_eq!(counts, [1, 1, 0, 0, 2, 1, 0, 1, 1]);
+    assert_eq!(record[..3], [[1, 0, 1, 1], [1, 90, 0, 0], [0; 4]]);
+    assert_eq!(on!(lay, 2, [45, 9, 9]), Err(Cause::NoPiece));
+    assert_eq!(on!(lay, 1, [45, 9, 9]), Err(Cause::Turn));
+    assert_eq!(on!(lay, 1, [0, 9, 9]), Err(Cause::Laid));
+    assert_eq!(on!(withdraw, 1), Ok(()));
+    assert_eq!(on!(withdraw, 1), Err(Cause::NotLaid));
+    assert_eq!(on!(lay, 1, [0, 2, 0]), Err(Cause::Outside));
+    assert_eq!(counts, [0, 0, 0, 0, 1, 1, 0, 1, 1]);
+    counts[8] = 2;
+    assert_eq!(on!(lay, 0, [0, 0, 0]), Err(Cause::Counts));
+    record[2] = [1, 0, 0, 0];
+    assert_eq!(on!(withdraw, 7), Err(Cause::Record));
+}
+
+/// The buffers of a layout.
+fn entries(layout: &[Place]) -> Vec<[u16; 3]> {
+    let entry = |place: &Place| [90 * place.turn, place.corner.0, place.corner.1];
+    layout
+        .iter()
+        .map(|place| entry(place).map(|number| number as u16))
+        .collect()
+}
+
+/// Compares every call about two pieces with the definitions.
+fn check_pairs(problem: &Problem, layout: &[Place]) {
+    let (job, given) = (Buffers::read(&problem.text()), entries(layout));
+    let mut lowest = Ok(());
+    for (i, k) in problem.pairs() {
+        let pixels = [i, k].map(|piece| oracle::turned(&problem.panels[piece], layout[piece].turn));
+        let (from, to) = (layout[i].corner, layout[k].corner);
+        let offset = (to.0 - from.0, to.1 - from.1);
+        let expected =
+            STEPS.map(|step| oracle::depth(&pixels[0], &pixels[1], offset, step) as usize);
+        for (vertical, depth) in [false, true].into_iter().zip(expected) {
+            assert_eq!(calls::depth(&job.lent(), &given, i, k, vertical), Ok(depth));
+            assert_eq!(calls::depth(&job.lent(), &given, k, i, vertical), Ok(depth));
+        }
+        let shares = oracle::shares(&pixels[0], &pixels[1], offset);
+        assert_eq!(calls::shares_pixel(&job.lent(), &given, i, k), Ok(shares));
+        if shares && lowest.is_ok() {
+            let places = [i, k];
+            let cause = Cause::Shared;
+            lowest = Err(Refusal { cause, places });
+        }
+    }
+    assert_eq!(calls::check(&job.lent(), &given), lowest);
+}
+
+#[test]
+fn pairs_of_random_layouts() {
+    let mut lcg = Lcg(77);
+    for _ in 0..150 {
+        let problem = lcg.problem(5, 6);
+        let layout = lcg.layout(&problem);
+        check_pairs(&problem, &layout);
+    }
+}
+
+#[test]
+fn no_fit_lines_of_random_pieces() {
+    let mut lcg = Lcg(78);
+    for _ in 0..100 {
+        let (l, w) = (lcg.range(1, 6), lcg.range(1, 6));
+        let panels = vec![lcg.panel(l, w, 60), lcg.panel(w, l, 60)];
+        let (w, l) = (9, 9);
+        let problem = Problem { w, l, panels };
+        let job = Buffers::read(&problem.text());
+        for vertical in [false, true] {
+            check_lines(&problem, &job, vertical);
+        }
+    }
+}
+
+/// Compares the no-fit lines of two panels in turn 0 with the definitions.
+fn check_lines(problem: &Problem, job: &Buffers, vertical: bool) {
+    let pixels = [0, 1].map(|piece: usize| &problem.panels[piece].pixels);
+    let (mut rows, mut columns) = (([[0; 3]; 99], [0; 3]), ([[0; 3]; 99], [0; 3]));
+    let stores = [
+        (&mut rows.0[..], &mut rows.1[..]),
+        (&mut columns.0[..], &mut columns.1[..]),
+    ];
+    assert_eq!(calls::strips(&job.lent(), &[0, 0], stores), Ok(()));
+    let lent = [(&rows.0[..], &rows.1[..]), (&columns.0[..], &columns.1[..])];
+    let stretch = |piece| {
+        let range = calls::stretch(&job.lent(), &[0, 0], lent, piece, vertical);
+        Stretch {
+            piece,
+            turn: 0,
+            strips: &lent[usize::from(vertical)].0[range.expect("the stores are right")],
+        }
+    };
+    for offset in -8..=8 {
+        let mut runs = [[0; 2]; 20];
+        let pair = [stretch(0), stretch(1)];
+        let count = calls::no_fit_line(&job.lent(), pair, vertical, offset, &mut runs);
+        let covered = |&along: &i32| {
+            let d = if vertical {
+                (offset, along)
+            } else {
+                (along, offset)
+            };
+            oracle::shares(pixels[0], pixels[1], d)
+        };
+        let found = &runs[..count.expect("the stretches are right")];
+        let listed = found
+            .iter()
+            .flat_map(|&[first, count]| first..first + count);
+        assert!(listed.eq((-20..20).filter(covered)));
+        assert!(found
+            .windows(2)
+            .all(|pair| pair[0][0] + pair[0][1] < pair[1][0]));
+    }
+}
