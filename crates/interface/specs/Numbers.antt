@@ -1,0 +1,38 @@
+-- How the numbers that an exported call is handed stand for document 01's types. Every number stands for something, so that no
+-- content is left without a meaning. Assumes nothing.
+use mathlib.Core.Bool.{true, false}
+use mathlib.Core.List.{List}
+use Prim.Native.Nat.{ℕ}
+use lib.Dec.{eqb}
+use Rattle.model.specs.Lent.{Lent, pieceBound}
+use Rattle.model.specs.Buffer.{isTurn}
+use Rattle.model.specs.declared.Direction.{Direction}
+use Rattle.model.specs.declared.Direction.the-variants.{Horizontal, Vertical}
+use Rattle.model.specs.declared.Line.{Line}
+use Rattle.model.specs.declared.Line.the-variants.{InRow, InColumn}
+use Rattle.model.specs.declared.End.{End}
+use Rattle.model.specs.declared.End.the-variants.{Clear, Settled, Spent}
+
+-- the job that the numbers, the table and the pixels lend
+abbrev pub lentAs : ℕ → ℕ → ℕ → List (List ℕ) → List ℕ → Lent
+lentAs rows columns count table pixels =
+    record { rows = rows; columns = columns; count = count; table = table; pixels = pixels }
+
+-- 0 is horizontal, every other number vertical
+abbrev pub directionOf : ℕ → Direction
+directionOf vertical = elim (eqb vertical 0) [ true ↦ Horizontal | false ↦ Vertical ]
+
+-- the line in a held row, or in a held column if vertical
+abbrev pub lineOf : ℕ → ℕ → Line
+lineOf vertical held =
+    elim (eqb vertical 0) [ true ↦ InRow (record { 0 = held }) | false ↦ InColumn (record { 0 = held }) ]
+
+-- the piece's number, or one that no piece has where the degrees are no turn's: no piece is allowed such a turn
+abbrev pub turnedPiece : ℕ → ℕ → ℕ
+turnedPiece degrees i = elim (isTurn degrees) [ true ↦ i | false ↦ pieceBound ]
+
+-- how a descent ended
+abbrev pub endNumber : End → ℕ
+endNumber Clear = 0
+endNumber Settled = 1
+endNumber Spent = 2

@@ -1,0 +1,4 @@
+-- The laws behind the exported calls; each function's proof stands in a folder of its name.
+pub mod Told
+pub mod Stretches
+pub mod Sheets

@@ -1,0 +1,63 @@
+-- `sigbrol::layouts::sigbrol_check` meets its contract by what the answer tells. Assumes nothing.
+use mathlib.Core.Path.{_≡_, sym, _∙_}
+use Rattle.model.specs.Refusal.{Outcome}
+use Rattle.model.specs.Calls.{checkCall}
+use Rattle.interface.specs.Numbers.{lentAs}
+use Rattle.sums.specs.Answers.{checkAnswer}
+use Rattle.sigbrol.proofs.Told.{reply-by, check-told}
+use Rattle.sigbrol.proofs.layouts.sigbrol_check.Statement.{statement}
+use Rattle.sigbrol.proofs.layouts.sigbrol_check.Tie as tie
+
+-- the outcome of the call
+outcome : tie.Start → Outcome (Unit {0})
+outcome s = let a = s .args in checkCall (lentAs (a .rows) (a .columns) (a .count) (a .table .now) (a .pixels .now)) (a .layout .now)
+
+-- its answer tells that outcome
+answered : (c : tie.After-check) → c .check .result ≡ checkAnswer (outcome (c .before .before .before))
+unfolding outcome
+answered c = rw (c .before .size-of .ensures) at (c .check .ensures)
+
+size-of-requires : tie.Need-size-of-requires
+size-of-requires c κs = tt
+
+check-requires : tie.Need-check-requires
+check-requires c κs = tt
+
+enum-told : tie.Need-enum-told
+enum-told c = c .match .keys1
+
+done-requires : tie.Need-done-requires
+done-requires c κs = tt
+
+enum-known-refusal : tie.Need-enum-known-refusal
+enum-known-refusal c = c .match .keys2
+
+refused-requires : tie.Need-refused-requires
+refused-requires c κs = tt
+
+returns : tie.Need-returns
+unfolding outcome
+returns c =
+    let o = outcome (c .before .before .before .before .before .before) in
+    let t = check-told o (sym (c .before .enum-told .given .1) ∙ answered (c .before .before .before)) in
+    c .done .ensures ∙ reply-by (λ u. tt) o t
+
+returns-2 : tie.Need-returns-2
+unfolding outcome
+returns-2 c =
+    let o = outcome (c .before .before .before .before .before .before .before) in
+    let t = check-told o (sym (c .before .before .refusal .given .1) ∙ answered (c .before .before .before .before)) in
+    c .refused .ensures ∙ reply-by (λ u. tt) o t
+
+pub sigbrol-check-spec : {M : Type 1} → statement M
+sigbrol-check-spec =
+    tie.close
+    (tie.spec
+    size-of-requires
+    check-requires
+    enum-told
+    done-requires
+    enum-known-refusal
+    refused-requires
+    returns
+    returns-2)

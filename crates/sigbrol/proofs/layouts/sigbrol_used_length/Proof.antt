@@ -1,0 +1,64 @@
+-- `sigbrol::layouts::sigbrol_used_length` meets its contract by what the answer tells. Assumes nothing.
+use mathlib.Core.Path.{_≡_, sym, _∙_}
+use Prim.Native.Nat.{ℕ}
+use Rattle.model.specs.Refusal.{Outcome}
+use Rattle.model.specs.Calls.{usedLengthCall}
+use Rattle.interface.specs.Numbers.{lentAs}
+use Rattle.placing.specs.Answers.{lengthAnswer}
+use Rattle.sigbrol.proofs.Told.{reply-by, leaves-by, length-told}
+use Rattle.sigbrol.proofs.layouts.sigbrol_used_length.Statement.{statement}
+use Rattle.sigbrol.proofs.layouts.sigbrol_used_length.Tie as tie
+
+-- the outcome of the call
+outcome : tie.Start → Outcome ℕ
+outcome s = let a = s .args in usedLengthCall (lentAs (a .rows) (a .columns) (a .count) (a .table .now) (a .pixels .now)) (a .layout .now)
+
+-- its answer tells that outcome
+answered : (c : tie.After-used-length) → c .used-length .result ≡ lengthAnswer (outcome (c .before .before .before))
+unfolding outcome
+answered c = rw (c .before .size-of .ensures) at (c .used-length .ensures)
+
+size-of-requires : tie.Need-size-of-requires
+size-of-requires c κs = tt
+
+used-length-requires : tie.Need-used-length-requires
+used-length-requires c κs = tt
+
+enum-known-length : tie.Need-enum-known-length
+enum-known-length c = c .match .keys1
+
+done-requires : tie.Need-done-requires
+done-requires c κs = tt
+
+enum-known-refusal : tie.Need-enum-known-refusal
+enum-known-refusal c = c .match .keys2
+
+refused-requires : tie.Need-refused-requires
+refused-requires c κs = tt
+
+returns : tie.Need-returns
+unfolding outcome
+returns c =
+    let o = outcome (c .before .before .before .before .before .before .before) in
+    let t = length-told o (sym (c .before .before .length .given .1) ∙ answered (c .before .before .before .before)) in
+    (c .done .ensures ∙ reply-by (λ k. k) o t, leaves-by (λ k. k) (λ k. k) _ o t)
+
+returns-2 : tie.Need-returns-2
+unfolding outcome
+returns-2 c =
+    let o = outcome (c .before .before .before .before .before .before .before) in
+    let t = length-told o (sym (c .before .before .refusal .given .1) ∙ answered (c .before .before .before .before)) in
+    (c .refused .ensures ∙ reply-by (λ k. k) o t, leaves-by (λ k. k) (λ k. k) _ o t)
+
+pub sigbrol-used-length-spec : {M : Type 1} → statement M
+sigbrol-used-length-spec =
+    tie.close
+    (tie.spec
+    size-of-requires
+    used-length-requires
+    enum-known-length
+    done-requires
+    enum-known-refusal
+    refused-requires
+    returns
+    returns-2)

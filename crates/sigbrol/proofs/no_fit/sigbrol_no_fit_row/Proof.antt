@@ -1,0 +1,110 @@
+-- `sigbrol::no_fit::sigbrol_no_fit_row` meets its contract by what the answer tells. Assumes nothing.
+use mathlib.Core.List.{List}
+use mathlib.Core.Path.{_≡_, sym, subst, _∙_}
+use lib.IntN.{ℤ}
+use lib.ListN.{length}
+use mir.Syntax.{w32}
+use mir.Val.{toZ, ofZ}
+use mir.ValLaws.{toZ-ofZ}
+use Rattle.model.specs.Overlap.{OffsetRun}
+use Rattle.model.specs.Refusal.{Outcome}
+use Rattle.model.specs.Buffer.{turnOf}
+use Rattle.model.specs.Calls.{noFitCall, runsAfter}
+use Rattle.model.specs.declared.Direction.the-variants.{Horizontal}
+use Rattle.nofit_calls.specs.Lines.{lentStretch, runsAnswer}
+use Rattle.interface.specs.Numbers.{lentAs, turnedPiece}
+use Rattle.sigbrol.proofs.Told.{reply-by, leaves-by, runs-told}
+use Rattle.sigbrol.proofs.no_fit.sigbrol_no_fit_row.Statement.{statement}
+use Rattle.sigbrol.proofs.no_fit.sigbrol_no_fit_row.Tie as tie
+
+-- the outcome of the call at an offset
+outcome : tie.Start → ℤ → Outcome (List OffsetRun)
+outcome s offset =
+    let a = s .args in
+    noFitCall Horizontal (lentAs (a .rows) (a .columns) (a .count) (a .table .now) (a .pixels .now))
+    (lentStretch (turnedPiece (a .i-turn) (a .i)) (turnOf (a .i-turn)) (a .i-strips .now))
+    (lentStretch (turnedPiece (a .k-turn) (a .k)) (turnOf (a .k-turn)) (a .k-strips .now)) offset (length (a .runs .now))
+
+-- answer and runs are those of an outcome
+Tells : (c : tie.After-no-fit-row) → Outcome (List OffsetRun) → Type 0
+Tells c o = (c .no-fit-row .result ≡ runsAnswer o) × (c .no-fit-row .last .1 .1 .1 .1 .1 .1 .1 .1 .1 .1 .0 ≡ runsAfter (c .before .before .before .before .before .before .before .before .args .runs .now) o)
+
+-- they are the call's, the offset being handed on as it is
+told : (c : tie.After-no-fit-row) → Tells c (outcome (c .before .before .before .before .before .before .before .before) (c .before .before .before .before .before .before .before .before .args .offset))
+unfolding outcome Tells
+told c =
+    let s = c .before .before .before .before .before .before .before .before in
+    let e : toZ w32 (ofZ w32 (s .args .offset)) ≡ s .args .offset = toZ-ofZ w32 (s .args .offset) (s .fits .offset) in
+    subst (λ (z : ℤ). Tells c (outcome s z)) e
+    (rw (c .before .before .before .before .before .before .size-of .ensures, c .before .before .before .before .before .turned-piece .ensures, c .before .before .before .before .turn-or-zero .ensures, c .before .before .before .turned-piece2 .ensures, c .before .before .turn-or-zero2 .ensures) at (c .no-fit-row .ensures))
+
+size-of-requires : tie.Need-size-of-requires
+size-of-requires c κs = tt
+
+turned-piece-requires : tie.Need-turned-piece-requires
+turned-piece-requires c κs = tt
+
+turn-or-zero-requires : tie.Need-turn-or-zero-requires
+turn-or-zero-requires c κs = tt
+
+turned-piece-requires-2 : tie.Need-turned-piece-requires-2
+turned-piece-requires-2 c κs = tt
+
+turn-or-zero-requires-2 : tie.Need-turn-or-zero-requires-2
+turn-or-zero-requires-2 c κs = tt
+
+no-fit-row-requires : tie.Need-no-fit-row-requires
+no-fit-row-requires c κs = tt
+
+enum-known-found : tie.Need-enum-known-found
+enum-known-found c = c .match .keys1
+
+done-requires : tie.Need-done-requires
+done-requires c κs = tt
+
+enum-known-refusal : tie.Need-enum-known-refusal
+enum-known-refusal c = c .match .keys2
+
+refused-requires : tie.Need-refused-requires
+refused-requires c κs = tt
+
+same-length : tie.Need-same-length
+same-length c = c .before .before .before .before .before .no-fit-row .kept .1 .1 .1 .1 .1 .1 .1 .1 .1 .1 .0
+
+returns : tie.Need-returns
+unfolding outcome Tells
+returns c =
+    let o = outcome (c .before .before .before .before .before .before .before .before .before .before .before .before .before) (c .before .before .before .before .before .before .before .before .before .before .before .before .before .args .offset) in
+    let p = told (c .before .before .before .before .before) in
+    let t = runs-told o (sym (c .before .before .found .given .1) ∙ p .0) in
+    (c .done .ensures ∙ reply-by (λ rs. length rs) o t, (p .1, leaves-by (λ rs. length rs) (λ n. n) _ o t))
+
+same-length-2 : tie.Need-same-length-2
+same-length-2 c = c .before .before .before .before .before .no-fit-row .kept .1 .1 .1 .1 .1 .1 .1 .1 .1 .1 .0
+
+returns-2 : tie.Need-returns-2
+unfolding outcome Tells
+returns-2 c =
+    let o = outcome (c .before .before .before .before .before .before .before .before .before .before .before .before .before) (c .before .before .before .before .before .before .before .before .before .before .before .before .before .args .offset) in
+    let p = told (c .before .before .before .before .before) in
+    let t = runs-told o (sym (c .before .before .refusal .given .1) ∙ p .0) in
+    (c .refused .ensures ∙ reply-by (λ rs. length rs) o t, (p .1, leaves-by (λ rs. length rs) (λ n. n) _ o t))
+
+pub sigbrol-no-fit-row-spec : {M : Type 1} → statement M
+sigbrol-no-fit-row-spec =
+    tie.close
+    (tie.spec
+    size-of-requires
+    turned-piece-requires
+    turn-or-zero-requires
+    turned-piece-requires-2
+    turn-or-zero-requires-2
+    no-fit-row-requires
+    enum-known-found
+    done-requires
+    enum-known-refusal
+    refused-requires
+    same-length
+    returns
+    same-length-2
+    returns-2)

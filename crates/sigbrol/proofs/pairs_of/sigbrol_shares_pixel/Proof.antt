@@ -1,0 +1,69 @@
+-- `sigbrol::pairs_of::sigbrol_shares_pixel` meets its contract by what the answer tells. Assumes nothing.
+use mathlib.Core.Path.{_≡_, sym, _∙_}
+use mathlib.Core.Bool.{Bool}
+use Rattle.model.specs.Bounded.{one-if}
+use Rattle.model.specs.Refusal.{Outcome}
+use Rattle.model.specs.Calls.{shareCall}
+use Rattle.interface.specs.Numbers.{lentAs}
+use Rattle.pairs.specs.Answers.{shareAnswer}
+use Rattle.sigbrol.proofs.Told.{reply-by, leaves-by, share-told}
+use Rattle.sigbrol.proofs.pairs_of.sigbrol_shares_pixel.Statement.{statement}
+use Rattle.sigbrol.proofs.pairs_of.sigbrol_shares_pixel.Tie as tie
+
+-- the outcome of the call
+outcome : tie.Start → Outcome Bool
+outcome s = let a = s .args in shareCall (lentAs (a .rows) (a .columns) (a .count) (a .table .now) (a .pixels .now)) (a .layout .now) (a .i) (a .k)
+
+-- its answer tells that outcome
+answered : (c : tie.After-shares-pixel) → c .shares-pixel .result ≡ shareAnswer (outcome (c .before .before .before))
+unfolding outcome
+answered c = rw (c .before .size-of .ensures) at (c .shares-pixel .ensures)
+
+size-of-requires : tie.Need-size-of-requires
+size-of-requires c κs = tt
+
+shares-pixel-requires : tie.Need-shares-pixel-requires
+shares-pixel-requires c κs = tt
+
+enum-known-yes : tie.Need-enum-known-yes
+enum-known-yes c = c .match .keys1
+
+bit-of-requires : tie.Need-bit-of-requires
+bit-of-requires c κs = tt
+
+done-requires : tie.Need-done-requires
+done-requires c κs = tt
+
+enum-known-refusal : tie.Need-enum-known-refusal
+enum-known-refusal c = c .match .keys2
+
+refused-requires : tie.Need-refused-requires
+refused-requires c κs = tt
+
+returns : tie.Need-returns
+unfolding outcome
+returns c =
+    let o = outcome (c .before .before .before .before .before .before .before .before) in
+    let t = share-told o (sym (c .before .before .before .yes .given .1) ∙ answered (c .before .before .before .before .before)) in
+    (c .done .ensures ∙ reply-by (λ a. a) o t, c .before .bit-of .ensures ∙ leaves-by (λ a. a) (λ a. one-if a) _ o t)
+
+returns-2 : tie.Need-returns-2
+unfolding outcome
+returns-2 c =
+    let o = outcome (c .before .before .before .before .before .before .before) in
+    let t = share-told o (sym (c .before .before .refusal .given .1) ∙ answered (c .before .before .before .before)) in
+    (c .refused .ensures ∙ reply-by (λ a. a) o t, leaves-by (λ a. a) (λ a. one-if a) _ o t)
+
+pub sigbrol-shares-pixel-spec : {M : Type 1} → statement M
+sigbrol-shares-pixel-spec =
+    tie.close
+    (tie.spec
+    size-of-requires
+    shares-pixel-requires
+    enum-known-yes
+    bit-of-requires
+    done-requires
+    enum-known-refusal
+    refused-requires
+    returns
+    returns-2)

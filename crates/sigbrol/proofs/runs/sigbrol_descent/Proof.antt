@@ -1,0 +1,76 @@
+-- `sigbrol::runs::sigbrol_descent` meets its contract by what the answer tells. Assumes nothing.
+use mathlib.Core.Path.{_≡_, sym, _∙_}
+use Rattle.model.specs.Descent.{Descent}
+use Rattle.model.specs.Refusal.{Outcome}
+use Rattle.model.specs.Calls.{descentCall}
+use Rattle.descent.specs.Answers.{descentAnswer, endedOf}
+use Rattle.interface.specs.Numbers.{lentAs, endNumber}
+use Rattle.sigbrol.proofs.Told.{reply-by, leaves-by, ended-told}
+use Rattle.sigbrol.proofs.runs.sigbrol_descent.Statement.{statement}
+use Rattle.sigbrol.proofs.runs.sigbrol_descent.Tie as tie
+
+-- the outcome of the call
+outcome : tie.Start → Outcome Descent
+outcome s = let a = s .args in descentCall (lentAs (a .rows) (a .columns) (a .count) (a .table .now) (a .pixels .now)) (a .layout .now) (a .weights .now) (a .budget)
+
+-- its answer tells that outcome
+answered : (c : tie.After-descent) → c .descent .result ≡ descentAnswer (outcome (c .before .before .before .before .before))
+unfolding outcome
+answered c = rw (c .before .before .size-of .ensures) at (c .descent .ensures .0)
+
+size-of-requires : tie.Need-size-of-requires
+size-of-requires c κs = tt
+
+descent-requires : tie.Need-descent-requires
+descent-requires c κs = tt
+
+enum-known-ended : tie.Need-enum-known-ended
+enum-known-ended c = c .match .keys1
+
+end-number-requires : tie.Need-end-number-requires
+end-number-requires c κs = tt
+
+done-requires : tie.Need-done-requires
+done-requires c κs = tt
+
+enum-known-refusal : tie.Need-enum-known-refusal
+enum-known-refusal c = c .match .keys2
+
+refused-requires : tie.Need-refused-requires
+refused-requires c κs = tt
+
+same-length : tie.Need-same-length
+same-length c = c .before .before .before .before .before .before .descent .kept .1 .1 .1 .0
+
+returns : tie.Need-returns
+unfolding outcome
+returns c =
+    let o = outcome (c .before .before .before .before .before .before .before .before .before .before .before) in
+    let t = ended-told o (sym (c .before .before .before .ended .given .1) ∙ answered (c .before .before .before .before .before .before)) in
+    (c .done .ensures ∙ reply-by endedOf o t, (rw (c .before .before .before .before .before .before .before .before .size-of .ensures) at (c .before .before .before .before .before .before .descent .ensures .1 .0), (c .before .end-number .ensures ∙ leaves-by endedOf (λ e. endNumber (e .end)) _ o t, (leaves-by endedOf (λ e. e .sum) _ o t, (leaves-by endedOf (λ e. e .made) _ o t, leaves-by endedOf (λ e. e .moves) _ o t)))))
+
+same-length-2 : tie.Need-same-length-2
+same-length-2 c = c .before .before .before .before .before .descent .kept .1 .1 .1 .0
+
+returns-2 : tie.Need-returns-2
+unfolding outcome
+returns-2 c =
+    let o = outcome (c .before .before .before .before .before .before .before .before .before .before) in
+    let t = ended-told o (sym (c .before .before .refusal .given .1) ∙ answered (c .before .before .before .before .before)) in
+    (c .refused .ensures ∙ reply-by endedOf o t, (rw (c .before .before .before .before .before .before .before .size-of .ensures) at (c .before .before .before .before .before .descent .ensures .1 .0), (leaves-by endedOf (λ e. endNumber (e .end)) _ o t, (leaves-by endedOf (λ e. e .sum) _ o t, (leaves-by endedOf (λ e. e .made) _ o t, leaves-by endedOf (λ e. e .moves) _ o t)))))
+
+pub sigbrol-descent-spec : {M : Type 1} → statement M
+sigbrol-descent-spec =
+    tie.close
+    (tie.spec
+    size-of-requires
+    descent-requires
+    enum-known-ended
+    end-number-requires
+    done-requires
+    enum-known-refusal
+    refused-requires
+    same-length
+    returns
+    same-length-2
+    returns-2)

@@ -1,0 +1,80 @@
+-- `sigbrol::runs::sigbrol_guided_run` meets its contract by what the answer tells. Assumes nothing.
+use mathlib.Core.Path.{_≡_, sym, _∙_}
+use Rattle.model.specs.Guided.{Guided}
+use Rattle.model.specs.Refusal.{Outcome}
+use Rattle.model.specs.Calls.{guidedCall}
+use Rattle.guided.specs.Answers.{guidedAnswer}
+use Rattle.interface.specs.Numbers.{lentAs}
+use Rattle.sigbrol.proofs.Told.{reply-by, leaves-by, ran-told, runOf}
+use Rattle.sigbrol.proofs.runs.sigbrol_guided_run.Statement.{statement}
+use Rattle.sigbrol.proofs.runs.sigbrol_guided_run.Tie as tie
+
+-- the outcome of the call
+outcome : tie.Start → Outcome Guided
+outcome s = let a = s .args in guidedCall (lentAs (a .rows) (a .columns) (a .count) (a .table .now) (a .pixels .now)) (a .layout .now) (a .weights .now) (a .rounds) (a .budget)
+
+-- its answer tells that outcome
+answered : (c : tie.After-guided-run) → c .guided-run .result ≡ guidedAnswer (outcome (c .before .before .before .before .before .before))
+unfolding outcome
+answered c = rw (c .before .before .before .size-of .ensures) at (c .guided-run .ensures .0)
+
+size-of-requires : tie.Need-size-of-requires
+size-of-requires c κs = tt
+
+guided-run-requires : tie.Need-guided-run-requires
+guided-run-requires c κs = tt
+
+enum-known-run : tie.Need-enum-known-run
+enum-known-run c = c .match .keys1
+
+done-requires : tie.Need-done-requires
+done-requires c κs = tt
+
+enum-known-refusal : tie.Need-enum-known-refusal
+enum-known-refusal c = c .match .keys2
+
+refused-requires : tie.Need-refused-requires
+refused-requires c κs = tt
+
+same-length : tie.Need-same-length
+same-length c = c .before .before .before .before .before .before .before .guided-run .kept .1 .1 .1 .0
+
+same-length-2 : tie.Need-same-length-2
+same-length-2 c = c .before .before .before .before .before .before .before .guided-run .kept .1 .1 .1 .1 .0
+
+returns : tie.Need-returns
+unfolding outcome
+returns c =
+    let o = outcome (c .before .before .before .before .before .before .before .before .before .before .before .before .before) in
+    let t = ran-told o (sym (c .before .before .run .given .1) ∙ answered (c .before .before .before .before .before .before .before)) in
+    (c .done .ensures ∙ reply-by runOf o t, (rw (c .before .before .before .before .before .before .before .before .before .before .size-of .ensures) at (c .before .before .before .before .before .before .before .guided-run .ensures .1 .0), (rw (c .before .before .before .before .before .before .before .before .before .before .size-of .ensures) at (c .before .before .before .before .before .before .before .guided-run .ensures .1 .1 .0), (leaves-by runOf (λ r. r .sum) _ o t, (leaves-by runOf (λ r. r .made) _ o t, leaves-by runOf (λ r. r .moves) _ o t)))))
+
+same-length-3 : tie.Need-same-length-3
+same-length-3 c = c .before .before .before .before .before .before .before .guided-run .kept .1 .1 .1 .0
+
+same-length-4 : tie.Need-same-length-4
+same-length-4 c = c .before .before .before .before .before .before .before .guided-run .kept .1 .1 .1 .1 .0
+
+returns-2 : tie.Need-returns-2
+unfolding outcome
+returns-2 c =
+    let o = outcome (c .before .before .before .before .before .before .before .before .before .before .before .before .before) in
+    let t = ran-told o (sym (c .before .before .refusal .given .1) ∙ answered (c .before .before .before .before .before .before .before)) in
+    (c .refused .ensures ∙ reply-by runOf o t, (rw (c .before .before .before .before .before .before .before .before .before .before .size-of .ensures) at (c .before .before .before .before .before .before .before .guided-run .ensures .1 .0), (rw (c .before .before .before .before .before .before .before .before .before .before .size-of .ensures) at (c .before .before .before .before .before .before .before .guided-run .ensures .1 .1 .0), (leaves-by runOf (λ r. r .sum) _ o t, (leaves-by runOf (λ r. r .made) _ o t, leaves-by runOf (λ r. r .moves) _ o t)))))
+
+pub sigbrol-guided-run-spec : {M : Type 1} → statement M
+sigbrol-guided-run-spec =
+    tie.close
+    (tie.spec
+    size-of-requires
+    guided-run-requires
+    enum-known-run
+    done-requires
+    enum-known-refusal
+    refused-requires
+    same-length
+    same-length-2
+    returns
+    same-length-3
+    same-length-4
+    returns-2)

@@ -1,0 +1,77 @@
+-- `sigbrol::runs::sigbrol_line_search` meets its contract by what the answer tells. Assumes nothing.
+use mathlib.Core.Path.{_≡_, sym, _∙_}
+use Rattle.model.specs.Buffer.{turnOf}
+use Rattle.model.specs.Search.{Best}
+use Rattle.model.specs.Refusal.{Outcome}
+use Rattle.model.specs.Calls.{searchCall}
+use Rattle.interface.specs.Numbers.{lentAs, turnedPiece, lineOf}
+use Rattle.search.specs.Answers.{searchAnswer}
+use Rattle.sigbrol.proofs.Told.{reply-by, leaves-by, best-told}
+use Rattle.sigbrol.proofs.runs.sigbrol_line_search.Statement.{statement}
+use Rattle.sigbrol.proofs.runs.sigbrol_line_search.Tie as tie
+
+-- the outcome of the call
+outcome : tie.Start → Outcome Best
+outcome s = let a = s .args in searchCall (lentAs (a .rows) (a .columns) (a .count) (a .table .now) (a .pixels .now)) (a .layout .now) (a .weights .now) (turnedPiece (a .turn) (a .piece)) (turnOf (a .turn)) (lineOf (a .vertical) (a .held))
+
+-- its answer tells that outcome
+answered : (c : tie.After-line-search) → c .line-search .result ≡ searchAnswer (outcome (c .before .before .before .before .before .before .before))
+unfolding outcome
+answered c = rw (c .before .before .before .before .size-of .ensures, c .before .before .before .turned-piece .ensures, c .before .before .turn-or-zero .ensures, c .before .line-of .ensures) at (c .line-search .ensures)
+
+size-of-requires : tie.Need-size-of-requires
+size-of-requires c κs = tt
+
+turned-piece-requires : tie.Need-turned-piece-requires
+turned-piece-requires c κs = tt
+
+turn-or-zero-requires : tie.Need-turn-or-zero-requires
+turn-or-zero-requires c κs = tt
+
+line-of-requires : tie.Need-line-of-requires
+line-of-requires c κs = tt
+
+line-search-requires : tie.Need-line-search-requires
+line-search-requires c κs = tt
+
+enum-known-least : tie.Need-enum-known-least
+enum-known-least c = c .match .keys1
+
+done-requires : tie.Need-done-requires
+done-requires c κs = tt
+
+enum-known-refusal : tie.Need-enum-known-refusal
+enum-known-refusal c = c .match .keys2
+
+refused-requires : tie.Need-refused-requires
+refused-requires c κs = tt
+
+returns : tie.Need-returns
+unfolding outcome
+returns c =
+    let o = outcome (c .before .before .before .before .before .before .before .before .before .before .before) in
+    let t = best-told o (sym (c .before .before .least .given .1) ∙ answered (c .before .before .before .before)) in
+    (c .done .ensures ∙ reply-by (λ b. b) o t, (leaves-by (λ b. b) (λ b. b .sum) _ o t, leaves-by (λ b. b) (λ b. b .at) _ o t))
+
+returns-2 : tie.Need-returns-2
+unfolding outcome
+returns-2 c =
+    let o = outcome (c .before .before .before .before .before .before .before .before .before .before .before) in
+    let t = best-told o (sym (c .before .before .refusal .given .1) ∙ answered (c .before .before .before .before)) in
+    (c .refused .ensures ∙ reply-by (λ b. b) o t, (leaves-by (λ b. b) (λ b. b .sum) _ o t, leaves-by (λ b. b) (λ b. b .at) _ o t))
+
+pub sigbrol-line-search-spec : {M : Type 1} → statement M
+sigbrol-line-search-spec =
+    tie.close
+    (tie.spec
+    size-of-requires
+    turned-piece-requires
+    turn-or-zero-requires
+    line-of-requires
+    line-search-requires
+    enum-known-least
+    done-requires
+    enum-known-refusal
+    refused-requires
+    returns
+    returns-2)

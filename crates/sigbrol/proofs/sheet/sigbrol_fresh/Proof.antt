@@ -1,0 +1,81 @@
+-- `sigbrol_fresh` meets its contract by what `fresh` answers. Assumes nothing.
+use mathlib.Core.Path.{_≡_, _∙_}
+use lib.ListN.{length}
+use borrow.Author.Needs.{needs}
+use Rattle.model.specs.Refusal.{Outcome}
+use Rattle.model.specs.Calls.{freshCall, countsAfter}
+use Rattle.model.specs.Cover.{Sheet}
+use Rattle.cover.specs.Answers.{blankRecord, sheetAnswer}
+use Rattle.interface.specs.Numbers.{lentAs}
+use Rattle.sigbrol.proofs.Sheets.{taken-up, turned-down}
+use Rattle.sigbrol.proofs.sheet.sigbrol_fresh.Statement.{statement}
+use Rattle.sigbrol.proofs.sheet.sigbrol_fresh.Tie as tie
+
+-- what the call comes to
+abbrev outcome : tie.After-fresh → Outcome Sheet
+outcome c =
+    let a = c .before .before .before .before .before .args in
+    freshCall (lentAs (a .rows) (a .columns) (a .count) (a .table .now) (a .pixels .now)) (length (a .counts .now))
+
+-- what `fresh` answers
+answered : (c : tie.After-fresh) → c .fresh .result ≡ sheetAnswer blankRecord (outcome c)
+answered c = rw (c .before .before .size-of .ensures) at (c .fresh .ensures .0)
+
+-- what it leaves in the count buffer
+counted : (c : tie.After-fresh) → c .fresh .last .1 .1 .1 .0 ≡ countsAfter (c .before .before .before .before .before .args .counts .now) (outcome c)
+counted c = rw (c .before .before .size-of .ensures) at (c .fresh .ensures .1)
+
+size-of-requires : tie.Need-size-of-requires
+size-of-requires c κs = search needs
+
+fresh-requires : tie.Need-fresh-requires
+fresh-requires c κs = search needs
+
+enum-told : tie.Need-enum-told
+enum-told c = search needs
+
+write-record-requires : tie.Need-write-record-requires
+write-record-requires c κs = search needs
+
+done-requires : tie.Need-done-requires
+done-requires c κs = search needs
+
+enum-known-reply : tie.Need-enum-known-reply
+enum-known-reply c = search needs
+
+refused-requires : tie.Need-refused-requires
+refused-requires c κs = search needs
+
+same-length : tie.Need-same-length
+same-length c = search needs
+
+returns : tie.Need-returns
+returns c =
+    let d = c .before .before .before .before .before .before .before in
+    let t = taken-up blankRecord (outcome d) (d .fresh .result) (d .before .before .before .before .before .args .entries .now) (answered d) (c .before .before .before .enum-told .given .1) in
+    (c .done .ensures ∙ t .0, (c .before .write-record .ensures ∙ t .1, counted d))
+
+same-length-2 : tie.Need-same-length-2
+same-length-2 c = search needs
+
+returns-2 : tie.Need-returns-2
+returns-2 c =
+    let d = c .before .before .before .before .before .before in
+    let t = turned-down blankRecord (outcome d) (d .fresh .result) (d .before .before .before .before .before .args .entries .now) _ (answered d) (c .before .before .reply .given .1) in
+    (c .refused .ensures ∙ t .0, (t .1, counted d))
+
+pub sigbrol-fresh-spec : {M : Type 1} → statement M
+sigbrol-fresh-spec =
+    tie.close
+    (tie.spec
+    size-of-requires
+    fresh-requires
+    enum-told
+    write-record-requires
+    done-requires
+    enum-known-reply
+    refused-requires
+    same-length
+    returns
+    same-length-2
+    returns-2)

@@ -1,0 +1,76 @@
+-- `sigbrol::strips::sigbrol_rebuild` meets its contract by what the answer tells. Assumes nothing.
+use mathlib.Core.Path.{_≡_, sym, _∙_}
+use lib.ListN.{length}
+use Rattle.model.specs.Piece.{Shape}
+use Rattle.model.specs.Refusal.{Outcome}
+use Rattle.model.specs.Calls.{rebuildCall, pixelsAfter}
+use Rattle.interface.specs.Numbers.{directionOf}
+use Rattle.rebuild.specs.Answer.{rebuildAnswer}
+use Rattle.sigbrol.proofs.Told.{reply-by, rebuild-told}
+use Rattle.sigbrol.proofs.strips.sigbrol_rebuild.Statement.{statement}
+use Rattle.sigbrol.proofs.strips.sigbrol_rebuild.Tie as tie
+
+-- the outcome of the call
+outcome : tie.Start → Outcome Shape
+outcome s = let a = s .args in rebuildCall (directionOf (a .vertical)) (a .columns) (a .rows) (a .strips .now) (length (a .pixels .now))
+
+-- its answer tells that outcome
+answered : (c : tie.After-rebuild) → c .rebuild .result ≡ rebuildAnswer (outcome (c .before .before .before .before))
+unfolding outcome
+answered c = rw (c .before .before .direction-of .ensures) at (c .rebuild .ensures .0)
+
+-- and so do the pixels
+left : (c : tie.After-rebuild) → c .rebuild .last .1 .1 .1 .1 .0 ≡ pixelsAfter (c .before .before .before .before .args .pixels .now) (outcome (c .before .before .before .before))
+unfolding outcome
+left c = rw (c .before .before .direction-of .ensures) at (c .rebuild .ensures .1 .0)
+
+direction-of-requires : tie.Need-direction-of-requires
+direction-of-requires c κs = tt
+
+rebuild-requires : tie.Need-rebuild-requires
+rebuild-requires c κs = tt
+
+enum-told : tie.Need-enum-told
+enum-told c = c .match .keys1
+
+done-requires : tie.Need-done-requires
+done-requires c κs = tt
+
+enum-known-refusal : tie.Need-enum-known-refusal
+enum-known-refusal c = c .match .keys2
+
+refused-requires : tie.Need-refused-requires
+refused-requires c κs = tt
+
+same-length : tie.Need-same-length
+same-length c = c .before .before .before .before .before .rebuild .kept .1 .1 .1 .1 .0
+
+returns : tie.Need-returns
+unfolding outcome
+returns c =
+    let o = outcome (c .before .before .before .before .before .before .before .before .before) in
+    (c .done .ensures ∙ reply-by (λ s. tt) o (rebuild-told o (sym (c .before .enum-told .given .1) ∙ answered (c .before .before .before .before .before))), left (c .before .before .before .before .before))
+
+same-length-2 : tie.Need-same-length-2
+same-length-2 c = c .before .before .before .before .before .before .rebuild .kept .1 .1 .1 .1 .0
+
+returns-2 : tie.Need-returns-2
+unfolding outcome
+returns-2 c =
+    let o = outcome (c .before .before .before .before .before .before .before .before .before .before) in
+    (c .refused .ensures ∙ reply-by (λ s. tt) o (rebuild-told o (sym (c .before .before .refusal .given .1) ∙ answered (c .before .before .before .before .before .before))), left (c .before .before .before .before .before .before))
+
+pub sigbrol-rebuild-spec : {M : Type 1} → statement M
+sigbrol-rebuild-spec =
+    tie.close
+    (tie.spec
+    direction-of-requires
+    rebuild-requires
+    enum-told
+    done-requires
+    enum-known-refusal
+    refused-requires
+    same-length
+    returns
+    same-length-2
+    returns-2)

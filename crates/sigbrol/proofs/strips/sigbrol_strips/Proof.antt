@@ -1,0 +1,102 @@
+-- `sigbrol::strips::sigbrol_strips` meets its contract by what the answer tells. Assumes nothing.
+use mathlib.Core.Path.{_≡_, sym, _∙_}
+use Rattle.model.specs.Refusal.{Outcome}
+use Rattle.model.specs.Calls.{Stores, stripsCall, storesAfter}
+use Rattle.interface.specs.Numbers.{lentAs}
+use Rattle.stores.specs.Stores.{storesBy, stripsAnswer}
+use Rattle.sigbrol.proofs.Told.{reply-by, strips-told}
+use Rattle.sigbrol.proofs.strips.sigbrol_strips.Statement.{statement}
+use Rattle.sigbrol.proofs.strips.sigbrol_strips.Tie as tie
+
+-- the lent stores
+lentStores : tie.Start → Stores
+lentStores s = let a = s .args in storesBy (a .row-strips .now) (a .row-starts .now) (a .column-strips .now) (a .column-starts .now)
+
+-- the outcome of the call
+outcome : tie.Start → Outcome Stores
+outcome s = let a = s .args in stripsCall (lentAs (a .rows) (a .columns) (a .count) (a .table .now) (a .pixels .now)) (a .turns .now) (lentStores s)
+
+-- its answer tells that outcome
+answered : (c : tie.After-strips) → c .strips .result ≡ stripsAnswer (outcome (c .before .before .before .before .before .before .before .before .before .before))
+unfolding outcome lentStores
+answered c = rw (c .before .before .before .before .before .size-of .ensures) at (c .strips .ensures .0)
+
+-- and so do the stores
+left : (c : tie.After-strips) → storesBy (c .strips .last .1 .1 .1 .1 .0) (c .strips .last .1 .1 .1 .1 .1 .0) (c .strips .last .1 .1 .1 .1 .1 .1 .0) (c .strips .last .1 .1 .1 .1 .1 .1 .1 .0) ≡ storesAfter (lentStores (c .before .before .before .before .before .before .before .before .before .before)) (outcome (c .before .before .before .before .before .before .before .before .before .before))
+unfolding outcome lentStores
+left c = rw (c .before .before .before .before .before .size-of .ensures) at (c .strips .ensures .1)
+
+size-of-requires : tie.Need-size-of-requires
+size-of-requires c κs = tt
+
+strips-requires : tie.Need-strips-requires
+strips-requires c κs = tt
+
+enum-told : tie.Need-enum-told
+enum-told c = c .match .keys1
+
+done-requires : tie.Need-done-requires
+done-requires c κs = tt
+
+enum-known-refusal : tie.Need-enum-known-refusal
+enum-known-refusal c = c .match .keys2
+
+refused-requires : tie.Need-refused-requires
+refused-requires c κs = tt
+
+same-length : tie.Need-same-length
+same-length c = c .before .before .before .before .before .before .before .before .before .strips .kept .1 .1 .1 .1 .0
+
+same-length-2 : tie.Need-same-length-2
+same-length-2 c = c .before .before .before .before .before .before .before .before .before .strips .kept .1 .1 .1 .1 .1 .0
+
+same-length-3 : tie.Need-same-length-3
+same-length-3 c = c .before .before .before .before .before .before .before .before .before .strips .kept .1 .1 .1 .1 .1 .1 .0
+
+same-length-4 : tie.Need-same-length-4
+same-length-4 c = c .before .before .before .before .before .before .before .before .before .strips .kept .1 .1 .1 .1 .1 .1 .1 .0
+
+returns : tie.Need-returns
+unfolding outcome lentStores
+returns c =
+    let o = outcome (c .before .before .before .before .before .before .before .before .before .before .before .before .before .before .before .before .before .before .before) in
+    (c .done .ensures ∙ reply-by (λ s. tt) o (strips-told o (sym (c .before .enum-told .given .1) ∙ answered (c .before .before .before .before .before .before .before .before .before))), left (c .before .before .before .before .before .before .before .before .before))
+
+same-length-5 : tie.Need-same-length-5
+same-length-5 c = c .before .before .before .before .before .before .before .before .before .before .strips .kept .1 .1 .1 .1 .0
+
+same-length-6 : tie.Need-same-length-6
+same-length-6 c = c .before .before .before .before .before .before .before .before .before .before .strips .kept .1 .1 .1 .1 .1 .0
+
+same-length-7 : tie.Need-same-length-7
+same-length-7 c = c .before .before .before .before .before .before .before .before .before .before .strips .kept .1 .1 .1 .1 .1 .1 .0
+
+same-length-8 : tie.Need-same-length-8
+same-length-8 c = c .before .before .before .before .before .before .before .before .before .before .strips .kept .1 .1 .1 .1 .1 .1 .1 .0
+
+returns-2 : tie.Need-returns-2
+unfolding outcome lentStores
+returns-2 c =
+    let o = outcome (c .before .before .before .before .before .before .before .before .before .before .before .before .before .before .before .before .before .before .before .before) in
+    (c .refused .ensures ∙ reply-by (λ s. tt) o (strips-told o (sym (c .before .before .refusal .given .1) ∙ answered (c .before .before .before .before .before .before .before .before .before .before))), left (c .before .before .before .before .before .before .before .before .before .before))
+
+pub sigbrol-strips-spec : {M : Type 1} → statement M
+sigbrol-strips-spec =
+    tie.close
+    (tie.spec
+    size-of-requires
+    strips-requires
+    enum-told
+    done-requires
+    enum-known-refusal
+    refused-requires
+    same-length
+    same-length-2
+    same-length-3
+    same-length-4
+    returns
+    same-length-5
+    same-length-6
+    same-length-7
+    same-length-8
+    returns-2)

@@ -1,0 +1,73 @@
+-- `sigbrol::texts::sigbrol_read_layout` meets its contract by what the answer tells. Assumes nothing.
+use mathlib.Core.Path.{_≡_, sym, _∙_}
+use lib.ListN.{length}
+use Rattle.model.specs.Layout.{Layout}
+use Rattle.model.specs.Refusal.{Outcome}
+use Rattle.model.specs.Calls.{readLayoutCall}
+use Rattle.interface.specs.Numbers.{lentAs}
+use Rattle.layout_text.specs.Answers.{layoutAnswer}
+use Rattle.sigbrol.proofs.Told.{reply-by, layout-told}
+use Rattle.sigbrol.proofs.texts.sigbrol_read_layout.Statement.{statement}
+use Rattle.sigbrol.proofs.texts.sigbrol_read_layout.Tie as tie
+
+-- the outcome of the call
+outcome : tie.Start → Outcome Layout
+outcome s = let a = s .args in readLayoutCall (lentAs (a .rows) (a .columns) (a .count) (a .table .now) (a .pixels .now)) (a .text .now) (length (a .layout .now))
+
+-- its answer tells that outcome
+answered : (c : tie.After-read-layout) → c .read-layout .result ≡ layoutAnswer (outcome (c .before .before .before .before .before))
+unfolding outcome
+answered c = rw (c .before .before .size-of .ensures) at (c .read-layout .ensures .0)
+
+size-of-requires : tie.Need-size-of-requires
+size-of-requires c κs = tt
+
+read-layout-requires : tie.Need-read-layout-requires
+read-layout-requires c κs = tt
+
+enum-told : tie.Need-enum-told
+enum-told c = c .match .keys1
+
+done-requires : tie.Need-done-requires
+done-requires c κs = tt
+
+enum-known-refusal : tie.Need-enum-known-refusal
+enum-known-refusal c = c .match .keys2
+
+refused-requires : tie.Need-refused-requires
+refused-requires c κs = tt
+
+same-length : tie.Need-same-length
+same-length c = c .before .before .before .before .read-layout .kept .1 .1 .1 .1 .0
+
+returns : tie.Need-returns
+unfolding outcome
+returns c =
+    let o = outcome (c .before .before .before .before .before .before .before .before .before) in
+    let t = layout-told o (sym (c .before .enum-told .given .1) ∙ answered (c .before .before .before .before)) in
+    (c .done .ensures ∙ reply-by (λ v. tt) o t, rw (c .before .before .before .before .before .before .size-of .ensures) at (c .before .before .before .before .read-layout .ensures .1))
+
+same-length-2 : tie.Need-same-length-2
+same-length-2 c = c .before .before .before .before .before .read-layout .kept .1 .1 .1 .1 .0
+
+returns-2 : tie.Need-returns-2
+unfolding outcome
+returns-2 c =
+    let o = outcome (c .before .before .before .before .before .before .before .before .before .before) in
+    let t = layout-told o (sym (c .before .before .refusal .given .1) ∙ answered (c .before .before .before .before .before)) in
+    (c .refused .ensures ∙ reply-by (λ v. tt) o t, rw (c .before .before .before .before .before .before .before .size-of .ensures) at (c .before .before .before .before .before .read-layout .ensures .1))
+
+pub sigbrol-read-layout-spec : {M : Type 1} → statement M
+sigbrol-read-layout-spec =
+    tie.close
+    (tie.spec
+    size-of-requires
+    read-layout-requires
+    enum-told
+    done-requires
+    enum-known-refusal
+    refused-requires
+    same-length
+    returns
+    same-length-2
+    returns-2)

@@ -1,0 +1,2 @@
+-- What the exported calls' contracts cite beside the definitions below.
+pub mod Places

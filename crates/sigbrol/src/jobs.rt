@@ -1,0 +1,38 @@
+// Reading a job.
+use interface::Reply;
+use interface::done;
+use interface::refused;
+use job_text::JobAnswer;
+ghost use mathlib.Core.Path.{_≡_};
+ghost use lib.ListN.{length};
+ghost use Rattle.model.specs.JobText.{readJob};
+ghost use Rattle.model.specs.Calls.{leaving, tableAfter, storeAfter};
+ghost use Rattle.interface.specs.Replies.{replyTo};
+
+// Reads a job text: the numbers, the table and the pixels are filled.
+#[no_mangle]
+pub extern "C" fn sigbrol_read_job(
+    text: &[u8],
+    table: &mut [[u8; 3]],
+    pixels: &mut [u8],
+    rows: &mut usize,
+    columns: &mut usize,
+    count: &mut usize,
+) -> Reply
+    ensures answer { λ r. ⌜ r ≡ replyTo (readJob (now (text .entry)) (length (now (table .entry))) (length (now (pixels .entry)))) ⌝ }
+    ensures entries { λ r. ⌜ now (table .exit) ≡ tableAfter (now (table .entry)) (readJob (now (text .entry)) (length (now (table .entry))) (length (now (pixels .entry)))) ⌝ }
+    ensures bytes { λ r. ⌜ now (pixels .exit) ≡ storeAfter (now (pixels .entry)) (readJob (now (text .entry)) (length (now (table .entry))) (length (now (pixels .entry)))) ⌝ }
+    ensures rows { λ r. ⌜ now (rows .exit) ≡ leaving (λ a. a .rows) (now (rows .entry)) (readJob (now (text .entry)) (length (now (table .entry))) (length (now (pixels .entry)))) ⌝ }
+    ensures columns { λ r. ⌜ now (columns .exit) ≡ leaving (λ a. a .columns) (now (columns .entry)) (readJob (now (text .entry)) (length (now (table .entry))) (length (now (pixels .entry)))) ⌝ }
+    ensures count { λ r. ⌜ now (count .exit) ≡ leaving (λ a. a .count) (now (count .entry)) (readJob (now (text .entry)) (length (now (table .entry))) (length (now (pixels .entry)))) ⌝ }
+{
+    match job_text::read_job(text, table, pixels) {
+        JobAnswer::Read(size) => {
+            *rows = size.rows;
+            *columns = size.columns;
+            *count = size.count;
+            done()
+        }
+        JobAnswer::Refused(refusal) => refused(refusal),
+    }
+}

@@ -1,0 +1,127 @@
+// A layout: its sums, its used length, its check, and the start layout.
+use interface::Reply;
+use interface::done;
+use interface::refused;
+use interface::size_of;
+use placing::LengthAnswer;
+use placing::StartAnswer;
+use sums::CheckAnswer;
+use sums::SumAnswer;
+ghost use mathlib.Core.Path.{_≡_};
+ghost use lib.ListN.{length};
+ghost use Rattle.model.specs.Calls.{leaving, layoutAfter, weightedSumCall, plainSumCall, usedLengthCall, checkCall, startCall};
+ghost use Rattle.interface.specs.Numbers.{lentAs};
+ghost use Rattle.interface.specs.Replies.{replyTo};
+
+// The weighted sum of a layout.
+#[no_mangle]
+pub extern "C" fn sigbrol_weighted_sum(
+    rows: usize,
+    columns: usize,
+    count: usize,
+    table: &[[u8; 3]],
+    pixels: &[u8],
+    layout: &[[u16; 3]],
+    weights: &[u32],
+    sum: &mut u64,
+) -> Reply
+    ensures answer { λ r. ⌜ r ≡ replyTo (weightedSumCall (lentAs rows columns count (now (table .entry)) (now (pixels .entry))) (now (layout .entry)) (now (weights .entry))) ⌝ }
+    ensures sum { λ r. ⌜ now (sum .exit) ≡ leaving (λ a. a) (now (sum .entry)) (weightedSumCall (lentAs rows columns count (now (table .entry)) (now (pixels .entry))) (now (layout .entry)) (now (weights .entry))) ⌝ }
+{
+    match sums::weighted_sum(
+        size_of(rows, columns, count),
+        table,
+        pixels,
+        layout,
+        weights,
+    ) {
+        SumAnswer::Sum(total) => {
+            *sum = total;
+            done()
+        }
+        SumAnswer::Refused(refusal) => refused(refusal),
+    }
+}
+
+// The plain sum of a layout.
+#[no_mangle]
+pub extern "C" fn sigbrol_plain_sum(
+    rows: usize,
+    columns: usize,
+    count: usize,
+    table: &[[u8; 3]],
+    pixels: &[u8],
+    layout: &[[u16; 3]],
+    sum: &mut u64,
+) -> Reply
+    ensures answer { λ r. ⌜ r ≡ replyTo (plainSumCall (lentAs rows columns count (now (table .entry)) (now (pixels .entry))) (now (layout .entry))) ⌝ }
+    ensures sum { λ r. ⌜ now (sum .exit) ≡ leaving (λ a. a) (now (sum .entry)) (plainSumCall (lentAs rows columns count (now (table .entry)) (now (pixels .entry))) (now (layout .entry))) ⌝ }
+{
+    match sums::plain_sum(size_of(rows, columns, count), table, pixels, layout) {
+        SumAnswer::Sum(total) => {
+            *sum = total;
+            done()
+        }
+        SumAnswer::Refused(refusal) => refused(refusal),
+    }
+}
+
+// The used length of a layout.
+#[no_mangle]
+pub extern "C" fn sigbrol_used_length(
+    rows: usize,
+    columns: usize,
+    count: usize,
+    table: &[[u8; 3]],
+    pixels: &[u8],
+    layout: &[[u16; 3]],
+    used: &mut usize,
+) -> Reply
+    ensures answer { λ r. ⌜ r ≡ replyTo (usedLengthCall (lentAs rows columns count (now (table .entry)) (now (pixels .entry))) (now (layout .entry))) ⌝ }
+    ensures used { λ r. ⌜ now (used .exit) ≡ leaving (λ a. a) (now (used .entry)) (usedLengthCall (lentAs rows columns count (now (table .entry)) (now (pixels .entry))) (now (layout .entry))) ⌝ }
+{
+    match placing::used_length(size_of(rows, columns, count), table, pixels, layout) {
+        LengthAnswer::Length(length) => {
+            *used = length;
+            done()
+        }
+        LengthAnswer::Refused(refusal) => refused(refusal),
+    }
+}
+
+// The check of a layout.
+#[no_mangle]
+pub extern "C" fn sigbrol_check(
+    rows: usize,
+    columns: usize,
+    count: usize,
+    table: &[[u8; 3]],
+    pixels: &[u8],
+    layout: &[[u16; 3]],
+) -> Reply
+    ensures answer { λ r. ⌜ r ≡ replyTo (checkCall (lentAs rows columns count (now (table .entry)) (now (pixels .entry))) (now (layout .entry))) ⌝ }
+{
+    match sums::check(size_of(rows, columns, count), table, pixels, layout) {
+        CheckAnswer::Passes => done(),
+        CheckAnswer::Refused(refusal) => refused(refusal),
+    }
+}
+
+// The start layout.
+#[no_mangle]
+pub extern "C" fn sigbrol_start(
+    rows: usize,
+    columns: usize,
+    count: usize,
+    table: &[[u8; 3]],
+    pixels: &[u8],
+    layout: &mut [[u16; 3]],
+) -> Reply
+    ensures answer { λ r. ⌜ r ≡ replyTo (startCall (lentAs rows columns count (now (table .entry)) (now (pixels .entry))) (length (now (layout .entry)))) ⌝ }
+    ensures memory { λ r. ⌜ now (layout .exit) ≡ layoutAfter (now (layout .entry)) (startCall (lentAs rows columns count (now (table .entry)) (now (pixels .entry))) (length (now (layout .entry)))) ⌝ }
+{
+    match placing::start(size_of(rows, columns, count), table, pixels, layout) {
+        StartAnswer::Laid => done(),
+        StartAnswer::Refused(refusal) => refused(refusal),
+    }
+}

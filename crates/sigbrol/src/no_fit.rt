@@ -1,0 +1,106 @@
+// No-fit rows and columns of two pieces.
+use interface::Reply;
+use interface::done;
+use interface::refused;
+use interface::size_of;
+use interface::turned_piece;
+use model::ColumnOffset;
+use model::RowOffset;
+use nofit_calls::RunsAnswer;
+use placing::turn_or_zero;
+ghost use mathlib.Core.Path.{_≡_};
+ghost use lib.ListN.{length};
+ghost use Rattle.model.specs.Buffer.{turnOf};
+ghost use Rattle.model.specs.Calls.{leaving, noFitCall, runsAfter};
+ghost use Rattle.model.specs.declared.Direction.the-variants.{Horizontal, Vertical};
+ghost use Rattle.nofit_calls.specs.Lines.{lentStretch};
+ghost use Rattle.interface.specs.Numbers.{lentAs, turnedPiece};
+ghost use Rattle.interface.specs.Replies.{replyTo};
+
+// The no-fit row of two pieces at a row offset: the column offsets at which they share a pixel.
+#[no_mangle]
+pub extern "C" fn sigbrol_no_fit_row(
+    rows: usize,
+    columns: usize,
+    count: usize,
+    table: &[[u8; 3]],
+    pixels: &[u8],
+    i: usize,
+    i_turn: u16,
+    i_strips: &[[u8; 3]],
+    k: usize,
+    k_turn: u16,
+    k_strips: &[[u8; 3]],
+    offset: i32,
+    runs: &mut [[i32; 2]],
+    runs_count: &mut usize,
+) -> Reply
+    ensures answer { λ r. ⌜ r ≡ replyTo (noFitCall Horizontal (lentAs rows columns count (now (table .entry)) (now (pixels .entry))) (lentStretch (turnedPiece «i_turn» i) (turnOf «i_turn») (now («i_strips» .entry))) (lentStretch (turnedPiece «k_turn» k) (turnOf «k_turn») (now («k_strips» .entry))) offset (length (now (runs .entry)))) ⌝ }
+    ensures memory { λ r. ⌜ now (runs .exit) ≡ runsAfter (now (runs .entry)) (noFitCall Horizontal (lentAs rows columns count (now (table .entry)) (now (pixels .entry))) (lentStretch (turnedPiece «i_turn» i) (turnOf «i_turn») (now («i_strips» .entry))) (lentStretch (turnedPiece «k_turn» k) (turnOf «k_turn») (now («k_strips» .entry))) offset (length (now (runs .entry)))) ⌝ }
+    ensures counted { λ r. ⌜ now («runs_count» .exit) ≡ leaving (λ a. length a) (now («runs_count» .entry)) (noFitCall Horizontal (lentAs rows columns count (now (table .entry)) (now (pixels .entry))) (lentStretch (turnedPiece «i_turn» i) (turnOf «i_turn») (now («i_strips» .entry))) (lentStretch (turnedPiece «k_turn» k) (turnOf «k_turn») (now («k_strips» .entry))) offset (length (now (runs .entry)))) ⌝ }
+{
+    let size = size_of(rows, columns, count);
+    match nofit_calls::no_fit_row(
+        size,
+        table,
+        pixels,
+        turned_piece(i_turn, i),
+        turn_or_zero(i_turn),
+        i_strips,
+        turned_piece(k_turn, k),
+        turn_or_zero(k_turn),
+        k_strips,
+        RowOffset(offset),
+        runs,
+    ) {
+        RunsAnswer::Runs(found) => {
+            *runs_count = found;
+            done()
+        }
+        RunsAnswer::Refused(refusal) => refused(refusal),
+    }
+}
+
+// The no-fit column of two pieces at a column offset: the row offsets at which they share a pixel.
+#[no_mangle]
+pub extern "C" fn sigbrol_no_fit_column(
+    rows: usize,
+    columns: usize,
+    count: usize,
+    table: &[[u8; 3]],
+    pixels: &[u8],
+    i: usize,
+    i_turn: u16,
+    i_strips: &[[u8; 3]],
+    k: usize,
+    k_turn: u16,
+    k_strips: &[[u8; 3]],
+    offset: i32,
+    runs: &mut [[i32; 2]],
+    runs_count: &mut usize,
+) -> Reply
+    ensures answer { λ r. ⌜ r ≡ replyTo (noFitCall Vertical (lentAs rows columns count (now (table .entry)) (now (pixels .entry))) (lentStretch (turnedPiece «i_turn» i) (turnOf «i_turn») (now («i_strips» .entry))) (lentStretch (turnedPiece «k_turn» k) (turnOf «k_turn») (now («k_strips» .entry))) offset (length (now (runs .entry)))) ⌝ }
+    ensures memory { λ r. ⌜ now (runs .exit) ≡ runsAfter (now (runs .entry)) (noFitCall Vertical (lentAs rows columns count (now (table .entry)) (now (pixels .entry))) (lentStretch (turnedPiece «i_turn» i) (turnOf «i_turn») (now («i_strips» .entry))) (lentStretch (turnedPiece «k_turn» k) (turnOf «k_turn») (now («k_strips» .entry))) offset (length (now (runs .entry)))) ⌝ }
+    ensures counted { λ r. ⌜ now («runs_count» .exit) ≡ leaving (λ a. length a) (now («runs_count» .entry)) (noFitCall Vertical (lentAs rows columns count (now (table .entry)) (now (pixels .entry))) (lentStretch (turnedPiece «i_turn» i) (turnOf «i_turn») (now («i_strips» .entry))) (lentStretch (turnedPiece «k_turn» k) (turnOf «k_turn») (now («k_strips» .entry))) offset (length (now (runs .entry)))) ⌝ }
+{
+    let size = size_of(rows, columns, count);
+    match nofit_calls::no_fit_column(
+        size,
+        table,
+        pixels,
+        turned_piece(i_turn, i),
+        turn_or_zero(i_turn),
+        i_strips,
+        turned_piece(k_turn, k),
+        turn_or_zero(k_turn),
+        k_strips,
+        ColumnOffset(offset),
+        runs,
+    ) {
+        RunsAnswer::Runs(found) => {
+            *runs_count = found;
+            done()
+        }
+        RunsAnswer::Refused(refusal) => refused(refusal),
+    }
+}

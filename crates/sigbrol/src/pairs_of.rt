@@ -1,0 +1,97 @@
+// Two pieces of a layout.
+use interface::Reply;
+use interface::direction_of;
+use interface::done;
+use interface::refused;
+use interface::size_of;
+use pairs::AmountAnswer;
+use pairs::ShareAnswer;
+ghost use mathlib.Core.Path.{_≡_};
+ghost use Rattle.model.specs.Bounded.{one-if};
+ghost use Rattle.model.specs.Calls.{leaving, shareCall, depthCall, penaltyCall};
+ghost use Rattle.interface.specs.Numbers.{lentAs, directionOf};
+ghost use Rattle.interface.specs.Replies.{replyTo};
+
+// 1 for yes, 0 for no.
+fn bit_of(yes: bool) -> u8
+    ensures { λ r. ⌜ r ≡ one-if yes ⌝ }
+{
+    if yes { 1 } else { 0 }
+}
+
+// Whether two pieces of a layout share a pixel: 1 or 0.
+#[no_mangle]
+pub extern "C" fn sigbrol_shares_pixel(
+    rows: usize,
+    columns: usize,
+    count: usize,
+    table: &[[u8; 3]],
+    pixels: &[u8],
+    layout: &[[u16; 3]],
+    i: usize,
+    k: usize,
+    shares: &mut u8,
+) -> Reply
+    ensures answer { λ r. ⌜ r ≡ replyTo (shareCall (lentAs rows columns count (now (table .entry)) (now (pixels .entry))) (now (layout .entry)) i k) ⌝ }
+    ensures shares { λ r. ⌜ now (shares .exit) ≡ leaving (λ a. one-if a) (now (shares .entry)) (shareCall (lentAs rows columns count (now (table .entry)) (now (pixels .entry))) (now (layout .entry)) i k) ⌝ }
+{
+    match pairs::shares_pixel(size_of(rows, columns, count), table, pixels, layout, i, k) {
+        ShareAnswer::Shares(yes) => {
+            *shares = bit_of(yes);
+            done()
+        }
+        ShareAnswer::Refused(refusal) => refused(refusal),
+    }
+}
+
+// The depth of two pieces of a layout along the rows, or along the columns if vertical.
+#[no_mangle]
+pub extern "C" fn sigbrol_depth(
+    rows: usize,
+    columns: usize,
+    count: usize,
+    table: &[[u8; 3]],
+    pixels: &[u8],
+    layout: &[[u16; 3]],
+    i: usize,
+    k: usize,
+    vertical: u8,
+    depth: &mut u32,
+) -> Reply
+    ensures answer { λ r. ⌜ r ≡ replyTo (depthCall (directionOf vertical) (lentAs rows columns count (now (table .entry)) (now (pixels .entry))) (now (layout .entry)) i k) ⌝ }
+    ensures depth { λ r. ⌜ now (depth .exit) ≡ leaving (λ a. a) (now (depth .entry)) (depthCall (directionOf vertical) (lentAs rows columns count (now (table .entry)) (now (pixels .entry))) (now (layout .entry)) i k) ⌝ }
+{
+    let size = size_of(rows, columns, count);
+    match pairs::depth(size, table, pixels, layout, i, k, direction_of(vertical)) {
+        AmountAnswer::Amount(amount) => {
+            *depth = amount;
+            done()
+        }
+        AmountAnswer::Refused(refusal) => refused(refusal),
+    }
+}
+
+// The penalty of two pieces of a layout.
+#[no_mangle]
+pub extern "C" fn sigbrol_penalty(
+    rows: usize,
+    columns: usize,
+    count: usize,
+    table: &[[u8; 3]],
+    pixels: &[u8],
+    layout: &[[u16; 3]],
+    i: usize,
+    k: usize,
+    penalty: &mut u32,
+) -> Reply
+    ensures answer { λ r. ⌜ r ≡ replyTo (penaltyCall (lentAs rows columns count (now (table .entry)) (now (pixels .entry))) (now (layout .entry)) i k) ⌝ }
+    ensures penalty { λ r. ⌜ now (penalty .exit) ≡ leaving (λ a. a) (now (penalty .entry)) (penaltyCall (lentAs rows columns count (now (table .entry)) (now (pixels .entry))) (now (layout .entry)) i k) ⌝ }
+{
+    match pairs::penalty(size_of(rows, columns, count), table, pixels, layout, i, k) {
+        AmountAnswer::Amount(amount) => {
+            *penalty = amount;
+            done()
+        }
+        AmountAnswer::Refused(refusal) => refused(refusal),
+    }
+}

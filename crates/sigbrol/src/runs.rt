@@ -1,0 +1,136 @@
+// Line search, descent and guided run.
+use descent::DescentAnswer;
+use guided::GuidedAnswer;
+use interface::Reply;
+use interface::done;
+use interface::end_number;
+use interface::line_of;
+use interface::refused;
+use interface::size_of;
+use interface::turned_piece;
+use placing::turn_or_zero;
+use search::SearchAnswer;
+ghost use mathlib.Core.Path.{_≡_};
+ghost use Rattle.model.specs.Buffer.{turnOf};
+ghost use Rattle.model.specs.Calls.{leaving, searchCall, descentCall, descentAfter, guidedCall, bestAfterRun, weightsAfterRun};
+ghost use Rattle.interface.specs.Numbers.{lentAs, lineOf, turnedPiece, endNumber};
+ghost use Rattle.interface.specs.Replies.{replyTo};
+
+// The best place of a piece on a line.
+#[no_mangle]
+pub extern "C" fn sigbrol_line_search(
+    rows: usize,
+    columns: usize,
+    count: usize,
+    table: &[[u8; 3]],
+    pixels: &[u8],
+    layout: &[[u16; 3]],
+    weights: &[u32],
+    piece: usize,
+    turn: u16,
+    vertical: u8,
+    held: u16,
+    sum: &mut u64,
+    at: &mut usize,
+) -> Reply
+    ensures answer { λ r. ⌜ r ≡ replyTo (searchCall (lentAs rows columns count (now (table .entry)) (now (pixels .entry))) (now (layout .entry)) (now (weights .entry)) (turnedPiece turn piece) (turnOf turn) (lineOf vertical held)) ⌝ }
+    ensures sum { λ r. ⌜ now (sum .exit) ≡ leaving (λ a. a .sum) (now (sum .entry)) (searchCall (lentAs rows columns count (now (table .entry)) (now (pixels .entry))) (now (layout .entry)) (now (weights .entry)) (turnedPiece turn piece) (turnOf turn) (lineOf vertical held)) ⌝ }
+    ensures at { λ r. ⌜ now (at .exit) ≡ leaving (λ a. a .at) (now (at .entry)) (searchCall (lentAs rows columns count (now (table .entry)) (now (pixels .entry))) (now (layout .entry)) (now (weights .entry)) (turnedPiece turn piece) (turnOf turn) (lineOf vertical held)) ⌝ }
+{
+    let size = size_of(rows, columns, count);
+    match search::line_search(
+        size,
+        table,
+        pixels,
+        layout,
+        weights,
+        turned_piece(turn, piece),
+        turn_or_zero(turn),
+        line_of(vertical, held),
+    ) {
+        SearchAnswer::Best(least, place) => {
+            *sum = least;
+            *at = place;
+            done()
+        }
+        SearchAnswer::Refused(refusal) => refused(refusal),
+    }
+}
+
+// A descent: the layout at its end, how it ended, its sum, trials and moves.
+#[no_mangle]
+pub extern "C" fn sigbrol_descent(
+    rows: usize,
+    columns: usize,
+    count: usize,
+    table: &[[u8; 3]],
+    pixels: &[u8],
+    layout: &mut [[u16; 3]],
+    weights: &[u32],
+    budget: u32,
+    end: &mut u8,
+    sum: &mut u64,
+    trials: &mut u32,
+    moves: &mut u32,
+) -> Reply
+    ensures answer { λ r. ⌜ r ≡ replyTo (descentCall (lentAs rows columns count (now (table .entry)) (now (pixels .entry))) (now (layout .entry)) (now (weights .entry)) budget) ⌝ }
+    ensures memory { λ r. ⌜ now (layout .exit) ≡ descentAfter (now (layout .entry)) (descentCall (lentAs rows columns count (now (table .entry)) (now (pixels .entry))) (now (layout .entry)) (now (weights .entry)) budget) ⌝ }
+    ensures end { λ r. ⌜ now (end .exit) ≡ leaving (λ a. endNumber (a .end)) (now (end .entry)) (descentCall (lentAs rows columns count (now (table .entry)) (now (pixels .entry))) (now (layout .entry)) (now (weights .entry)) budget) ⌝ }
+    ensures sum { λ r. ⌜ now (sum .exit) ≡ leaving (λ a. a .sum) (now (sum .entry)) (descentCall (lentAs rows columns count (now (table .entry)) (now (pixels .entry))) (now (layout .entry)) (now (weights .entry)) budget) ⌝ }
+    ensures trials { λ r. ⌜ now (trials .exit) ≡ leaving (λ a. a .made) (now (trials .entry)) (descentCall (lentAs rows columns count (now (table .entry)) (now (pixels .entry))) (now (layout .entry)) (now (weights .entry)) budget) ⌝ }
+    ensures moves { λ r. ⌜ now (moves .exit) ≡ leaving (λ a. a .moves) (now (moves .entry)) (descentCall (lentAs rows columns count (now (table .entry)) (now (pixels .entry))) (now (layout .entry)) (now (weights .entry)) budget) ⌝ }
+{
+    match descent::descent(
+        size_of(rows, columns, count),
+        table,
+        pixels,
+        layout,
+        weights,
+        budget,
+    ) {
+        DescentAnswer::Ended(ended) => {
+            let how = ended.end;
+            *end = end_number(how);
+            *sum = ended.sum;
+            *trials = ended.made;
+            *moves = ended.moves;
+            done()
+        }
+        DescentAnswer::Refused(refusal) => refused(refusal),
+    }
+}
+
+// A guided run: the best layout, the weights after it, the best layout's plain sum, trials and moves.
+#[no_mangle]
+pub extern "C" fn sigbrol_guided_run(
+    rows: usize,
+    columns: usize,
+    count: usize,
+    table: &[[u8; 3]],
+    pixels: &[u8],
+    layout: &mut [[u16; 3]],
+    weights: &mut [u32],
+    rounds: u32,
+    budget: u32,
+    sum: &mut u64,
+    trials: &mut u64,
+    moves: &mut u64,
+) -> Reply
+    ensures answer { λ r. ⌜ r ≡ replyTo (guidedCall (lentAs rows columns count (now (table .entry)) (now (pixels .entry))) (now (layout .entry)) (now (weights .entry)) rounds budget) ⌝ }
+    ensures best { λ r. ⌜ now (layout .exit) ≡ bestAfterRun (now (layout .entry)) (guidedCall (lentAs rows columns count (now (table .entry)) (now (pixels .entry))) (now (layout .entry)) (now (weights .entry)) rounds budget) ⌝ }
+    ensures raised { λ r. ⌜ now (weights .exit) ≡ weightsAfterRun (now (weights .entry)) (guidedCall (lentAs rows columns count (now (table .entry)) (now (pixels .entry))) (now (layout .entry)) (now (weights .entry)) rounds budget) ⌝ }
+    ensures sum { λ r. ⌜ now (sum .exit) ≡ leaving (λ a. a .sum) (now (sum .entry)) (guidedCall (lentAs rows columns count (now (table .entry)) (now (pixels .entry))) (now (layout .entry)) (now (weights .entry)) rounds budget) ⌝ }
+    ensures trials { λ r. ⌜ now (trials .exit) ≡ leaving (λ a. a .made) (now (trials .entry)) (guidedCall (lentAs rows columns count (now (table .entry)) (now (pixels .entry))) (now (layout .entry)) (now (weights .entry)) rounds budget) ⌝ }
+    ensures moves { λ r. ⌜ now (moves .exit) ≡ leaving (λ a. a .moves) (now (moves .entry)) (guidedCall (lentAs rows columns count (now (table .entry)) (now (pixels .entry))) (now (layout .entry)) (now (weights .entry)) rounds budget) ⌝ }
+{
+    let size = size_of(rows, columns, count);
+    match guided::guided_run(size, table, pixels, layout, weights, rounds, budget) {
+        GuidedAnswer::Ran(run) => {
+            *sum = run.sum;
+            *trials = run.made;
+            *moves = run.moves;
+            done()
+        }
+        GuidedAnswer::Refused(refusal) => refused(refusal),
+    }
+}

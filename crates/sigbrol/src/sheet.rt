@@ -1,0 +1,117 @@
+// The sheet of cover counts.
+use cover::Reply as SheetReply;
+use interface::Reply;
+use interface::done;
+use interface::placement_of;
+use interface::record::read_record;
+use interface::record::write_record;
+use interface::refused;
+use interface::size_of;
+use interface::turned_piece;
+ghost use mathlib.Core.Path.{_≡_};
+ghost use lib.ListN.{length};
+ghost use Rattle.model.specs.Buffer.{placement};
+ghost use Rattle.model.specs.Calls.{freshCall, layCall, withdrawCall, countsAfter};
+ghost use Rattle.cover.specs.Answers.{sheetOf};
+ghost use Rattle.interface.specs.Numbers.{lentAs, turnedPiece};
+ghost use Rattle.interface.specs.Records.{recordIn, recordAfter};
+ghost use Rattle.interface.specs.Replies.{replyTo};
+
+// A fresh sheet: nothing is laid and all counts are 0.
+#[no_mangle]
+pub extern "C" fn sigbrol_fresh(
+    rows: usize,
+    columns: usize,
+    count: usize,
+    table: &[[u8; 3]],
+    pixels: &[u8],
+    entries: &mut [[u16; 4]; 64],
+    counts: &mut [u8],
+) -> Reply
+    ensures answer { λ r. ⌜ r ≡ replyTo (freshCall (lentAs rows columns count (now (table .entry)) (now (pixels .entry))) (length (now (counts .entry)))) ⌝ }
+    ensures laid { λ r. ⌜ now (entries .exit) ≡ recordAfter (now (entries .entry)) (freshCall (lentAs rows columns count (now (table .entry)) (now (pixels .entry))) (length (now (counts .entry)))) ⌝ }
+    ensures pixels { λ r. ⌜ now (counts .exit) ≡ countsAfter (now (counts .entry)) (freshCall (lentAs rows columns count (now (table .entry)) (now (pixels .entry))) (length (now (counts .entry)))) ⌝ }
+{
+    let answer = cover::fresh(size_of(rows, columns, count), table, pixels, counts);
+    let reply = answer.reply;
+    match reply {
+        SheetReply::Given => {
+            write_record(entries, answer.sheet);
+            done()
+        }
+        SheetReply::Refused(refusal) => refused(refusal),
+    }
+}
+
+// Lays a piece.
+#[no_mangle]
+pub extern "C" fn sigbrol_lay(
+    rows: usize,
+    columns: usize,
+    count: usize,
+    table: &[[u8; 3]],
+    pixels: &[u8],
+    entries: &mut [[u16; 4]; 64],
+    counts: &mut [u8],
+    piece: usize,
+    turn: u16,
+    x: u16,
+    y: u16,
+) -> Reply
+    ensures answer { λ r. ⌜ r ≡ replyTo (layCall (lentAs rows columns count (now (table .entry)) (now (pixels .entry))) (sheetOf (recordIn (now (entries .entry))) (now (counts .entry))) (turnedPiece turn piece) (placement turn x y)) ⌝ }
+    ensures laid { λ r. ⌜ now (entries .exit) ≡ recordAfter (now (entries .entry)) (layCall (lentAs rows columns count (now (table .entry)) (now (pixels .entry))) (sheetOf (recordIn (now (entries .entry))) (now (counts .entry))) (turnedPiece turn piece) (placement turn x y)) ⌝ }
+    ensures pixels { λ r. ⌜ now (counts .exit) ≡ countsAfter (now (counts .entry)) (layCall (lentAs rows columns count (now (table .entry)) (now (pixels .entry))) (sheetOf (recordIn (now (entries .entry))) (now (counts .entry))) (turnedPiece turn piece) (placement turn x y)) ⌝ }
+{
+    let answer = cover::lay(
+        size_of(rows, columns, count),
+        table,
+        pixels,
+        read_record(entries),
+        counts,
+        turned_piece(turn, piece),
+        placement_of(turn, x, y),
+    );
+    let reply = answer.reply;
+    match reply {
+        SheetReply::Given => {
+            write_record(entries, answer.sheet);
+            done()
+        }
+        SheetReply::Refused(refusal) => refused(refusal),
+    }
+}
+
+// Withdraws a piece.
+#[no_mangle]
+pub extern "C" fn sigbrol_withdraw(
+    rows: usize,
+    columns: usize,
+    count: usize,
+    table: &[[u8; 3]],
+    pixels: &[u8],
+    entries: &mut [[u16; 4]; 64],
+    counts: &mut [u8],
+    piece: usize,
+) -> Reply
+    ensures answer { λ r. ⌜ r ≡ replyTo (withdrawCall (lentAs rows columns count (now (table .entry)) (now (pixels .entry))) (sheetOf (recordIn (now (entries .entry))) (now (counts .entry))) piece) ⌝ }
+    ensures laid { λ r. ⌜ now (entries .exit) ≡ recordAfter (now (entries .entry)) (withdrawCall (lentAs rows columns count (now (table .entry)) (now (pixels .entry))) (sheetOf (recordIn (now (entries .entry))) (now (counts .entry))) piece) ⌝ }
+    ensures pixels { λ r. ⌜ now (counts .exit) ≡ countsAfter (now (counts .entry)) (withdrawCall (lentAs rows columns count (now (table .entry)) (now (pixels .entry))) (sheetOf (recordIn (now (entries .entry))) (now (counts .entry))) piece) ⌝ }
+{
+    let sheet = read_record(entries);
+    let answer = cover::withdraw(
+        size_of(rows, columns, count),
+        table,
+        pixels,
+        sheet,
+        counts,
+        piece,
+    );
+    let reply = answer.reply;
+    match reply {
+        SheetReply::Given => {
+            write_record(entries, answer.sheet);
+            done()
+        }
+        SheetReply::Refused(refusal) => refused(refusal),
+    }
+}

@@ -1,0 +1,68 @@
+// A layout as text, and the program from text to text.
+use interface::Reply;
+use interface::done;
+use interface::refused;
+use interface::size_of;
+use layout_text::LayoutAnswer;
+use layout_text::TextAnswer;
+ghost use mathlib.Core.Path.{_≡_};
+ghost use lib.ListN.{length};
+ghost use Rattle.model.specs.Buffer.{filled};
+ghost use Rattle.model.specs.Calls.{leaving, layoutAfter, textAfter, writeLayoutCall, readLayoutCall};
+ghost use Rattle.program.specs.Output.{outputText};
+ghost use Rattle.interface.specs.Numbers.{lentAs};
+ghost use Rattle.interface.specs.Replies.{replyTo};
+
+// Writes a layout as text, and how many bytes it has.
+#[no_mangle]
+pub extern "C" fn sigbrol_write_layout(
+    rows: usize,
+    columns: usize,
+    count: usize,
+    table: &[[u8; 3]],
+    pixels: &[u8],
+    layout: &[[u16; 3]],
+    text: &mut [u8],
+    written: &mut usize,
+) -> Reply
+    ensures answer { λ r. ⌜ r ≡ replyTo (writeLayoutCall (lentAs rows columns count (now (table .entry)) (now (pixels .entry))) (now (layout .entry)) (length (now (text .entry)))) ⌝ }
+    ensures memory { λ r. ⌜ now (text .exit) ≡ textAfter (now (text .entry)) (writeLayoutCall (lentAs rows columns count (now (table .entry)) (now (pixels .entry))) (now (layout .entry)) (length (now (text .entry)))) ⌝ }
+    ensures written { λ r. ⌜ now (written .exit) ≡ leaving (λ a. length a) (now (written .entry)) (writeLayoutCall (lentAs rows columns count (now (table .entry)) (now (pixels .entry))) (now (layout .entry)) (length (now (text .entry)))) ⌝ }
+{
+    match layout_text::write_layout(size_of(rows, columns, count), table, pixels, layout, text) {
+        TextAnswer::Written(length) => {
+            *written = length;
+            done()
+        }
+        TextAnswer::Refused(refusal) => refused(refusal),
+    }
+}
+
+// Reads a layout from its text.
+#[no_mangle]
+pub extern "C" fn sigbrol_read_layout(
+    rows: usize,
+    columns: usize,
+    count: usize,
+    table: &[[u8; 3]],
+    pixels: &[u8],
+    text: &[u8],
+    layout: &mut [[u16; 3]],
+) -> Reply
+    ensures answer { λ r. ⌜ r ≡ replyTo (readLayoutCall (lentAs rows columns count (now (table .entry)) (now (pixels .entry))) (now (text .entry)) (length (now (layout .entry)))) ⌝ }
+    ensures memory { λ r. ⌜ now (layout .exit) ≡ layoutAfter (now (layout .entry)) (readLayoutCall (lentAs rows columns count (now (table .entry)) (now (pixels .entry))) (now (text .entry)) (length (now (layout .entry)))) ⌝ }
+{
+    match layout_text::read_layout(size_of(rows, columns, count), table, pixels, text, layout) {
+        LayoutAnswer::Read => done(),
+        LayoutAnswer::Refused(refusal) => refused(refusal),
+    }
+}
+
+// What the program prints for an input, and how many bytes it has.
+#[no_mangle]
+pub extern "C" fn sigbrol_program(input: &[u8], output: &mut [u8]) -> usize
+    ensures answer { λ r. ⌜ r ≡ length (outputText (now (input .entry)) (length (now (output .entry)))) ⌝ }
+    ensures memory { λ r. ⌜ now (output .exit) ≡ filled (outputText (now (input .entry)) (length (now (output .entry)))) (now (output .entry)) ⌝ }
+{
+    program::print_run(input, output)
+}
