@@ -18,9 +18,10 @@
  * unless said below), and not a byte of the caller's memory has changed. Of several causes the first in the order that the comment gives
  * wins. Every call that is lent a job begins with cause 8: the job is none that sigbrol_read_job gives.
  *
- * What the caller sees to: a pointer has as many elements behind it as its length says, one without a length has one element (a record
- * sixty-four entries), and no buffer that a call writes overlaps another of its arguments. A pointer is never kept. No function allocates,
- * keeps state or does input and output, so any number of threads may call. A line search, a descent and a guided run take up to 3 MB of stack. */
+ * What the caller sees to: a pointer has as many elements behind it as its length says (it may be null where that is 0), one without a length has one
+ * element (a record sixty-four entries), and no buffer that a call writes overlaps another of its arguments. A pointer is never kept. No function allocates,
+ * keeps state or does input and output, so any number of threads may call. A thread needs up to 3 MB of stack: sigbrol_descent,
+ * sigbrol_guided_run and sigbrol_program take the most. */
 #ifndef SIGBROL_H
 #define SIGBROL_H
 

@@ -58,16 +58,30 @@ static void begin(const sigbrol_job *job, search *s)
     s->moves = 0;
 }
 
+/* Whether two placed pieces share a pixel. Where their boxes lie apart there is none, which spares most of the calls. */
+static int shares_pixel(const sigbrol_job *job, uint16_t (*layout)[3], size_t i, size_t k)
+{
+    for (int axis = 0; axis < 2; axis++) {
+        /* Columns and rows of a box change places at 90 and 270 degrees. */
+        int i_side = job->table[i][layout[i][0] % 180 == 0 ? axis : 1 - axis];
+        int k_side = job->table[k][layout[k][0] % 180 == 0 ? axis : 1 - axis];
+        int i_from = layout[i][1 + axis], k_from = layout[k][1 + axis];
+        if (i_from + i_side <= k_from || k_from + k_side <= i_from) {
+            return 0;
+        }
+    }
+    uint8_t shares = 0;
+    must("sigbrol_shares_pixel", sigbrol_shares_pixel(SIGBROL_LENT(job), READ_ONLY(layout), job->count, i, k, &shares));
+    return shares;
+}
+
 /* Raises the weight of each pair that shares a pixel by 1; the largest weight stays. */
 static void raise_weights(const sigbrol_job *job, search *s)
 {
     size_t pair = 0;
     for (size_t i = 0; i < job->count; i++) {
         for (size_t k = i + 1; k < job->count; k++, pair++) {
-            uint8_t shares = 0;
-            must("sigbrol_shares_pixel",
-                 sigbrol_shares_pixel(SIGBROL_LENT(job), READ_ONLY(s->layout), job->count, i, k, &shares));
-            if (shares && s->weights[pair] < 65535) {
+            if (s->weights[pair] < 65535 && shares_pixel(job, s->layout, i, k)) {
                 s->weights[pair]++;
             }
         }

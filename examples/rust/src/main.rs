@@ -102,7 +102,8 @@ impl Search {
         let count = job.count();
         let pairs = (0..count).flat_map(|i| (i + 1..count).map(move |k| (i, k)));
         for ((i, k), weight) in pairs.zip(&mut self.weights) {
-            if job.shares_pixel(&self.layout, i, k)? {
+            // Boxes lie apart mostly, which spares most of the calls.
+            if job.boxes_meet(&self.layout, i, k) && job.shares_pixel(&self.layout, i, k)? {
                 *weight = (*weight + 1).min(65_535);
             }
         }

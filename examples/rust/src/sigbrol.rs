@@ -278,6 +278,19 @@ impl Job {
         })
     }
 
+    /// Whether the boxes of two pieces meet; where they lie apart the pieces share no pixel.
+    pub fn boxes_meet(&self, layout: &[Place], i: usize, k: usize) -> bool {
+        // The first and the end column and row of a turned box; its sides change places at 90 and 270 degrees.
+        let ranges = |piece: usize| {
+            let [turn, x, y] = layout[piece];
+            let [l, w, _] = self.table[piece].map(u16::from);
+            let (l, w) = if turn % 180 == 0 { (l, w) } else { (w, l) };
+            [(x, x + l), (y, y + w)]
+        };
+        let mut axes = ranges(i).into_iter().zip(ranges(k));
+        axes.all(|(one, other)| one.0 < other.1 && other.0 < one.1)
+    }
+
     /// Whether two pieces share a pixel.
     pub fn shares_pixel(&self, layout: &[Place], i: usize, k: usize) -> Result<bool, Reply> {
         let mut shares = 0;
