@@ -4,3 +4,4 @@ pub mod Depths
 pub mod Across
 pub mod Lines
 pub mod Sets
+pub mod Outlining

@@ -12,7 +12,7 @@ use lib.Seq.{getD-set-same, getD-set-other}
 use Rattle.model.proofs.Tests.{clash, decided}
 use Rattle.overlap.proofs.Firsts.{below-or}
 use Rattle.penalty_line.specs.declared.Gap.{Gap}
-use Rattle.penalty_line.specs.Line.{Outside, FreeFrom, Capped, Lowered, LastAbove, FirstAbove, farther, risen, fallen}
+use Rattle.penalty_line.specs.Line.{Outside, Spared, FreeFrom, Capped, Lowered, LastAbove, FirstAbove, farther, risen, fallen}
 
 -- the places below k are done, each as P says, and the others are as they were
 pub record Passing (P : ℕ → ℕ → Type 0) (xs ys : List ℕ) (k : ℕ) : Type 0 where
@@ -106,9 +106,9 @@ cap-done r from end xs ys k e l w =
 abbrev pub loweredAt : (ℕ → Bool) → ℕ → List ℕ → ℕ → ℕ → Type 0
 loweredAt f r xs j y = (f j ≡ true → y ≡ getD xs j 0) × (f j ≡ false → y ≡ min (getD xs j 0) r)
 
--- a place at r or below holds what it held
-low-stays : (f : ℕ → Bool) (r : ℕ) (xs : List ℕ) (j : ℕ) → getD xs j 0 ≤ r → loweredAt f r xs j (getD xs j 0)
-low-stays f r xs j l = (λ t. refl, λ t. omega arith)
+-- a place that is at r or below if it fails holds what it held
+low-stays : (f : ℕ → Bool) (r : ℕ) (xs : List ℕ) (j : ℕ) → (f j ≡ false → getD xs j 0 ≤ r) → loweredAt f r xs j (getD xs j 0)
+low-stays f r xs j l = (λ t. refl, λ t. let m = l t in omega arith)
 
 -- a search for free places goes on
 pub gap-goes-on : (f : ℕ → Bool) (k limit : ℕ) (g : Gap) → FreeFrom f k limit g → k < limit → k < g .end
@@ -118,7 +118,7 @@ gap-goes-on f k limit g free l =
     ⊎-elim (λ (b : g .at < limit). let m = free .some b in omega arith) (λ (b : limit ≤ g .at). omega arith) (below-or (g .at) limit)
 
 -- places before the stretch are passed at first
-pub lower-none : (f : ℕ → Bool) (r : ℕ) (xs : List ℕ) (from end : ℕ) → Outside xs r from end → Passing (loweredAt f r xs) xs xs from
+pub lower-none : (f : ℕ → Bool) (r : ℕ) (xs : List ℕ) (from end : ℕ) → Spared f xs r from end → Passing (loweredAt f r xs) xs xs from
 lower-none f r xs from end out =
     pass-over (loweredAt f r xs) xs xs 0 from (omega arith) (λ j a b. low-stays f r xs j (out .before j b)) (pass-none (loweredAt f r xs) xs)
 
@@ -155,7 +155,7 @@ module _ (f : ℕ → Bool) (r : ℕ) (xs ys : List ℕ) (k : ℕ) where
       }
 
   -- the places of the stretch are passed
-  pub lower-done : (from end : ℕ) → Outside xs r from end → end ≤ k → k ≤ length xs → Passing (loweredAt f r xs) xs ys k → Lowered f r xs ys
+  pub lower-done : (from end : ℕ) → Spared f xs r from end → end ≤ k → k ≤ length xs → Passing (loweredAt f r xs) xs ys k → Lowered f r xs ys
   lower-done from end out l m w =
       let q = pass-over (loweredAt f r xs) xs ys k (length xs) m (λ j a b. low-stays f r xs j (out .after j (omega arith) b)) w in
       record { same = q .same; kept = λ j b. q .done j b .0; cut = λ j b. q .done j b .1 }
@@ -219,6 +219,16 @@ module _ (xs : List ℕ) (r from end : ℕ) (out : Outside xs r from end) where
         last = out .last;
         before = λ k l. ⊎-elim (λ (b : k < from). out .before k b) (λ (b : from ≤ k). w .before k b l) (below-or k from);
         after = out .after;
+      }
+
+  -- places at its begin that pass the test are spared
+  pub outside-spared : (f : ℕ → Bool) (to : ℕ) → to ≤ end → ((k : ℕ) → from ≤ k → k < to → f k ≡ true) → Spared f xs r to end
+  outside-spared f to l h =
+      record {
+        order = l;
+        last = out .last;
+        before = λ k b t. ⊎-elim (λ (c : k < from). out .before k c) (λ (c : from ≤ k). absurd (clash (h k c b) t)) (below-or k from);
+        after = λ k a b t. out .after k a b;
       }
 
   -- an empty stretch: no place is above r

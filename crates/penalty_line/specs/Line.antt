@@ -84,6 +84,13 @@ pub record Outside (xs : List ℕ) (r from end : ℕ) : Type 0 where
   pub before : (k : ℕ) → k < from → getD xs k 0 ≤ r
   pub after : (k : ℕ) → end ≤ k → k < length xs → getD xs k 0 ≤ r
 
+-- outside of a stretch no place that fails the test is above r
+pub record Spared (f : ℕ → Bool) (xs : List ℕ) (r from end : ℕ) : Type 0 where
+  pub order : from ≤ end
+  pub last : end ≤ length xs
+  pub before : (k : ℕ) → k < from → f k ≡ false → getD xs k 0 ≤ r
+  pub after : (k : ℕ) → end ≤ k → k < length xs → f k ≡ false → getD xs k 0 ≤ r
+
 -- ── what the functions do ──
 
 -- r begins at the least place from k on that fails the test, or at the limit, and all of its places fail

@@ -12,16 +12,16 @@ use Rattle.penalty_line.proofs.levels.Statement.{statement}
 use Rattle.penalty_line.proofs.levels.Tie as tie
 
 abbrev Inv-loop : tie.InvT-loop
-Inv-loop a b p line₀ r₀ from₀ end₀ line r from end =
+Inv-loop a moved ml b standing sl p line₀ r₀ from₀ end₀ line r from end =
     (r ≤ 255) × (length line ≡ length line₀) × LineAt a b p r line₀ line × Outside line r from end
 
 abbrev μ-loop : tie.MeasureT-loop
-μ-loop a b p line₀ r₀ from₀ end₀ line r from end = 255 - r
+μ-loop a moved ml b standing sl p line₀ r₀ from₀ end₀ line r from end = 255 - r
 
 loop-holds : tie.Need-loop-holds Inv-loop μ-loop
 loop-holds c =
     let s = c .before .args in
-    (omega arith, refl, line-start (s .a .now) (s .b .now) (s .p) (s .line .now) (c .before .pre .1 .1 .1), outside-none (s .line .now) _)
+    (omega arith, refl, line-start (s .a .now) (s .b .now) (s .p) (s .line .now) (c .before .pre .1 .1 .1 .0), outside-none (s .line .now) _)
 
 last-above-requires : tie.Need-last-above-requires Inv-loop μ-loop
 last-above-requires c κs = let out = c .before .before .loop .inv .3 in (out .order, out .last)
@@ -51,14 +51,14 @@ first-above-requires c κs =
 wide-requires : tie.Need-wide-requires Inv-loop μ-loop
 wide-requires c κs = search needs
 
-add-t16 : tie.Need-add-t16 Inv-loop μ-loop
-add-t16 c =
+add-t20 : tie.Need-add-t20 Inv-loop μ-loop
+add-t20 c =
     let p = c .before .before .before .before .before .before .before .before .before .before .pre .1 .1 .0 in
     let w = c .before .wide .ensures in
     omega arith
 
-lower-requires : tie.Need-lower-requires Inv-loop μ-loop
-lower-requires c κs =
+level-requires : tie.Need-level-requires Inv-loop μ-loop
+level-requires c κs =
     let p = c .before .before .before .before .before .before .before .before .before .before .before .pre in
     let q = p .1 .1 .0 in
     let reach = q .0 in
@@ -72,8 +72,11 @@ lower-requires c κs =
         p .1 .0,
         (
           record { bias = reach .bias; moved = omega arith; standing = reach .standing; places = omega arith },
-          outside-first (v .line) (v .r) (v .from) (last .result)
-              (outside-last (v .line) (v .r) (v .from) (v .end) (v .inv .3) (last .result) (last .ensures)) (first .result) (first .ensures),
+          (
+            outside-first (v .line) (v .r) (v .from) (last .result)
+                (outside-last (v .line) (v .r) (v .from) (v .end) (v .inv .3) (last .result) (last .ensures)) (first .result) (first .ensures),
+            p .1 .1 .1 .1,
+          ),
         ),
       ),
     )
@@ -81,14 +84,14 @@ lower-requires c κs =
 wide-requires-2 : tie.Need-wide-requires-2 Inv-loop μ-loop
 wide-requires-2 c κs = search needs
 
-add-t16-2 : tie.Need-add-t16-2 Inv-loop μ-loop
-add-t16-2 c =
+add-t20-2 : tie.Need-add-t20-2 Inv-loop μ-loop
+add-t20-2 c =
     let p = c .before .before .before .before .before .before .before .before .before .before .before .before .before .before .before .before .pre .1 .1 .0 in
     let w = c .before .wide2 .ensures in
     omega arith
 
-lower-requires-2 : tie.Need-lower-requires-2 Inv-loop μ-loop
-lower-requires-2 c κs =
+level-requires-2 : tie.Need-level-requires-2 Inv-loop μ-loop
+level-requires-2 c κs =
     let p = c .before .before .before .before .before .before .before .before .before .before .before .before .before .before .before .before .before .pre in
     let q = p .1 .1 .0 in
     let reach = q .0 in
@@ -96,7 +99,7 @@ lower-requires-2 c κs =
     let u = c .before .before .before .before .before .before .before .before .wide .ensures in
     let v = c .before .before .before .before .before .before .before .before .before .before .before .before .before .before .before .loop in
     let e = v .inv .1 in
-    let up = c .before .before .before .before .before .lower in
+    let up = c .before .before .before .before .before .level in
     let f = up .ensures .same in
     let last = c .before .before .before .before .before .before .before .before .before .before .before .before .last-above in
     let first = c .before .before .before .before .before .before .before .before .before .first-above in (
@@ -105,10 +108,13 @@ lower-requires-2 c κs =
         p .1 .0,
         (
           record { bias = reach .bias; moved = omega arith; standing = omega arith; places = omega arith },
-          outside-lowered (v .line) (v .r) (first .result) (last .result)
-              (outside-first (v .line) (v .r) (v .from) (last .result)
-              (outside-last (v .line) (v .r) (v .from) (v .end) (v .inv .3) (last .result) (last .ensures)) (first .result) (first .ensures))
-              _ _ _ (up .ensures),
+          (
+            outside-lowered (v .line) (v .r) (first .result) (last .result)
+                (outside-first (v .line) (v .r) (v .from) (last .result)
+                (outside-last (v .line) (v .r) (v .from) (v .end) (v .inv .3) (last .result) (last .ensures)) (first .result) (first .ensures))
+                _ _ _ (up .ensures),
+            p .1 .1 .1 .1,
+          ),
         ),
       ),
     )
@@ -128,8 +134,8 @@ loop-again c =
     let s = c .before .before .before .before .before .before .before .before .before .before .before .before .before .before .before .before .before .before .before .before .args in
     let w = c .before .before .before .before .before .before .before .before .before .before .before .before .before .before .before .before .before .before .loop in
     let l = c .before .before .before .before .before .before .before .before .before .before .before .before .before .before .before .before .before .loop-test .taken in
-    let up = c .before .before .before .before .before .before .before .before .lower .ensures in
-    let down = c .before .before .lower2 .ensures in
+    let up = c .before .before .before .before .before .before .before .before .level .ensures in
+    let down = c .before .before .level2 .ensures in
     let last = c .before .before .before .before .before .before .before .before .before .before .before .before .before .before .before .last-above in
     let first = c .before .before .before .before .before .before .before .before .before .before .before .before .first-above in (
       omega arith,
@@ -168,11 +174,11 @@ levels-spec =
     returns
     first-above-requires
     wide-requires
-    add-t16
-    lower-requires
+    add-t20
+    level-requires
     wide-requires-2
-    add-t16-2
-    lower-requires-2
+    add-t20-2
+    level-requires-2
     add-r
     loop-less
     loop-again
