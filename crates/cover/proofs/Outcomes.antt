@@ -26,7 +26,7 @@ use Rattle.stamp.specs.Stamp.{moved, movedBy}
 use Rattle.cover.specs.Answers.{recordOf, plainRefusal, firstNumber, bufferCauses, givenAnswer, answerBy, sheetAnswer, countsAfter}
 use Rattle.cover.specs.Ready.{SheetReady}
 use Rattle.cover.specs.declared.SheetAnswer.{SheetAnswer}
-use Rattle.cover.proofs.Recounts.{moved-up, moved-down}
+use Rattle.sheet_check.proofs.Recounts.{moved-up, moved-down}
 use Rattle.cover.proofs.Causes.{Plain, first-refuses, none-there, none-refuses, number-front, number-end}
 
 -- the job is well and there is a count for each pixel

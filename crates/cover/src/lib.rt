@@ -11,12 +11,8 @@ ghost use Rattle.model.specs.Lent.{lentBy};
 ghost use Rattle.model.specs.Calls.{freshCall, layCall, withdrawCall};
 ghost use Rattle.cover.specs.Answers.{sheetOf, blankRecord, sheetAnswer, countsAfter};
 
-mod call_list;
-mod reached;
 mod record;
 mod refusals;
-
-pub use call_list::run_calls;
 
 // Whether a call was taken up or refused.
 pub enum Reply {
@@ -92,7 +88,7 @@ pub fn withdraw(
     if withdrawing != 0 {
         return record::answer(withdrawing, sheet);
     }
-    let entry = record::entry_of(sheet, piece);
+    let entry = sheet_check::entry_of(sheet, piece);
     let place = entry.place;
     stamp::move_piece(size, table, pixels, piece, place, false, counts);
     let off = record::origin();

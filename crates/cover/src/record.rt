@@ -1,4 +1,4 @@
-// The sheet record: entries read and replaced, and answers made of it.
+// The sheet record: entries made and replaced, and answers made of it.
 use crate::Reply;
 use crate::SheetAnswer;
 use model::Column;
@@ -10,7 +10,6 @@ use model::Turn;
 ghost use mathlib.Core.Path.{_≡_};
 ghost use Prim.Native.Nat.{_<_};
 ghost use Rattle.model.specs.Layout.{origin};
-ghost use Rattle.model.specs.Cover.{entryIn};
 ghost use Rattle.cover.specs.Answers.{blankRecord, withEntry, answerBy};
 
 // Turn 0 at corner (0, 0): the place in the entry of a piece that is not laid.
@@ -34,14 +33,6 @@ pub fn blank_record() -> Record
     };
     let pieces = [entry; 64];
     Record { pieces }
-}
-
-// The entry of piece i.
-pub fn entry_of(sheet: Record, i: usize) -> Entry
-    requires { ⌜ i < 64 ⌝ }
-    ensures { λ r. ⌜ r ≡ entryIn (sheet .pieces) i ⌝ }
-{
-    sheet.pieces[i]
 }
 
 // The record with another entry for piece i.

@@ -1,9 +1,10 @@
 // Why a call on the sheet is refused, by document 01's number, or 0: the first cause in the call's order.
-use crate::reached;
-use crate::record;
 use model::JobSize;
 use model::Placement;
 use model::Record;
+use sheet_check::entry_of;
+use sheet_check::known;
+use sheet_check::sheet_well;
 ghost use mathlib.Core.Path.{_≡_};
 ghost use mathlib.Core.List.{List, []};
 ghost use Prim.Native.Nat.{ℕ, _≤_};
@@ -40,7 +41,7 @@ pub fn sheet_refusal(
     if number != 0 {
         return number;
     }
-    if !reached::sheet_well(size, table, pixels, sheet, counts) {
+    if !sheet_well(size, table, pixels, sheet, counts) {
         return 8;
     }
     0
@@ -58,10 +59,10 @@ pub fn lay_refusal(
     ensures { λ r. ⌜ ((pixels counts : List ℕ) → r ≡ firstNumber (layCauses (jobOf (lentBy size (now (table .entry)) pixels)) (sheetOf sheet counts) piece place)) ⌝ }
 {
     let turn = place.turn;
-    if !reached::known(size, table, piece, turn) {
+    if !known(size, table, piece, turn) {
         return 9;
     }
-    let entry = record::entry_of(sheet, piece);
+    let entry = entry_of(sheet, piece);
     if entry.laid {
         return 13;
     }
@@ -79,7 +80,7 @@ pub fn withdraw_refusal(size: JobSize, sheet: Record, piece: usize) -> u8
     if size.count <= piece {
         return 9;
     }
-    let entry = record::entry_of(sheet, piece);
+    let entry = entry_of(sheet, piece);
     if !entry.laid {
         return 14;
     }

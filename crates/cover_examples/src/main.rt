@@ -113,7 +113,7 @@ fn run(counts: &mut [u8; 8]) {
         [1, 0, 0, 0, 0],
     ];
     show(
-        cover::run_calls(SIZE, &table, &pixels, &calls, counts),
+        cover_calls::run_calls(SIZE, &table, &pixels, &calls, counts),
         counts,
     );
 }

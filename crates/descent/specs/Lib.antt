@@ -1,5 +1,2 @@
 -- What the contracts of this crate cite beside the model's definitions.
-pub mod Trials
-pub mod Ready
-pub mod Steps
 pub mod Answers

@@ -1,26 +1,26 @@
 // Descent: trials taken one after the other until nothing overlaps, nothing helps or the budget is used up. Document 01, 'Descent and
 // guidance'.
-pub mod memory;
-pub mod run;
-pub mod step;
-pub mod trial;
-
-use memory::with_strips;
-use memory::write_entries;
+use descend::Ended;
+use model::End;
 use model::JobSize;
 use model::Refusal;
 use placing::CauseAnswer;
-use placing::refusal;
-use run::Ended;
+use runs::memory::Outcome;
+use runs::memory::Plan;
+use runs::memory::with_strips;
+use runs::run_causes;
+use runs::write_entries;
 ghost use mathlib.Core.Path.{_≡_};
+ghost use lib.ListN.{length};
 ghost use Rattle.model.specs.Lent.{lentBy, jobOf};
 ghost use Rattle.model.specs.Buffer.{layoutOf};
 ghost use Rattle.model.specs.Calls.{descentCall, descentAfter};
 ghost use Rattle.descent_laws.proofs.Claims.{DescentClaims};
-ghost use Rattle.placing.specs.Answers.{firstCause};
-ghost use Rattle.descent.specs.Steps.{descentOf};
-ghost use Rattle.descent.specs.Answers.{descentAnswer, runCauses};
-ghost use Rattle.descent.specs.declared.run.Ended.{Ended};
+ghost use Rattle.descend.specs.Descents.{descentOf};
+ghost use Rattle.descend.specs.declared.Ended.{Ended};
+ghost use Rattle.runs.specs.Ready.{Given};
+ghost use Rattle.runs.specs.Done.{Descended};
+ghost use Rattle.descent.specs.Answers.{descentAnswer};
 
 // How a descent ended, or why it is refused.
 pub enum DescentAnswer {
@@ -28,25 +28,49 @@ pub enum DescentAnswer {
     Refused(Refusal),
 }
 
-// The causes of a run's refusal: 8, 7, 7, 2, 9, 10. `wrong` tells whether a number besides the weights is out of range.
-pub fn run_causes(
+// Copies weights.
+fn copy_weights(from: &[u32], to: &mut [u32])
+    requires { ⌜ length (now to) ≡ length (now from) ⌝ }
+    ensures { λ r. ⌜ now (to .exit) ≡ now (from .entry) ⌝ }
+{
+    let mut k = 0;
+    while k < from.len() {
+        to[k] = from[k];
+        k += 1;
+    }
+}
+
+// The descent, over weights of its own: a run's memory takes weights that may be raised.
+fn run_alone(
     size: JobSize,
     table: &[[u8; 3]],
     pixels: &[u8],
-    layout: &[[u16; 3]],
     weights: &[u32],
-    wrong: bool,
-) -> CauseAnswer
-    ensures { λ r. ⌜ r ≡ firstCause (runCauses (lentBy size (now (table .entry)) (now (pixels .entry))) (now (layout .entry)) (now (weights .entry)) wrong) ⌝ }
+    budget: u32,
+    layout: &mut [[u16; 3]],
+) -> Ended
+    requires { ⌜ Given (lentBy size (now table) (now pixels)) (now layout) (now weights) budget ⌝ }
+    ensures { λ r. ⌜ Descended (lentBy size (now (table .entry)) (now (pixels .entry))) (now (layout .entry)) (now (weights .entry)) budget r (now (layout .exit)) ⌝ }
 {
-    match sums::length_causes(size, table, pixels, layout, weights) {
-        CauseAnswer::Refused(refusal) => CauseAnswer::Refused(refusal),
-        CauseAnswer::Passed => {
-            if wrong {
-                return CauseAnswer::Refused(refusal(2));
-            }
-            sums::place_causes(size, table, layout)
-        }
+    let mut own = [0u32; 2016];
+    let n = weights.len();
+    copy_weights(weights, &mut own[..n]);
+    match with_strips(
+        size,
+        table,
+        pixels,
+        Plan::Alone,
+        budget,
+        layout,
+        &mut own[..n],
+    ) {
+        Outcome::Alone(ended) => ended,
+        Outcome::Rounds(_) => Ended {
+            end: End::Clear,
+            sum: 0,
+            made: 0,
+            moves: 0,
+        },
     }
 }
 
@@ -67,7 +91,7 @@ pub fn descent(
         CauseAnswer::Refused(refusal) => DescentAnswer::Refused(refusal),
         CauseAnswer::Passed => {
             write_entries(layout);
-            DescentAnswer::Ended(with_strips(size, table, pixels, weights, budget, layout))
+            DescentAnswer::Ended(run_alone(size, table, pixels, weights, budget, layout))
         }
     }
 }

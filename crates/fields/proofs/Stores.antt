@@ -27,3 +27,8 @@ pub sets-filled : {A : Type 0} (l vs : List A) → length vs ≤ length l → se
 sets-filled l vs h =
     let h′ : 0 + length vs ≤ length l = omega arith in
     sets-eq vs l 0 h′ ∙ ap (λ (n : ℕ). vs ++ drop n l) (zero-add (length vs))
+
+-- a part of nothing is nothing
+pub nothing-left : {A : Type 0} (xs : List A) → length xs ≡ 0 → xs ≡ []
+nothing-left [] e = refl
+nothing-left (x ∷ xs) e = absurd (omega arith)

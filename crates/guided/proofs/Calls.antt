@@ -16,17 +16,15 @@ use Rattle.model.specs.declared.Refusal.{Refusal}
 use Rattle.model.proofs.Tests.{and-right, or-neither}
 use Rattle.text_laws.proofs.Entries.{entries-read-back}
 use Rattle.text_laws.proofs.Outcomes.{NoCause, unless-given}
-use Rattle.descent_laws.proofs.Claims.{ValidLayout, GuidedClaims}
-use Rattle.call_laws.proofs.Layouts.{job-well, layout-valid, lent-weights-valid}
+use Rattle.descent_laws.proofs.Claims.{GuidedClaims}
 use Rattle.call_laws.proofs.Runs.{guided-given}
 use Rattle.search_laws.proofs.GuidedLoop.{guidedOf}
 use Rattle.placing.specs.Answers.{firstCause}
 use Rattle.placing.specs.declared.CauseAnswer.{CauseAnswer}
 use Rattle.placing.proofs.Causes.{refused-alone}
-use Rattle.descent.specs.Answers.{runCauses}
-use Rattle.descent.specs.Ready.{Given}
-use Rattle.guided.specs.Answers.{numbersWrong}
-use Rattle.guided.specs.Rounds.{Ran}
+use Rattle.runs.specs.Answers.{runCauses}
+use Rattle.guided.specs.Answers.{tallyOf, numbersWrong}
+use Rattle.rounds.specs.Rounds.{Ran}
 use Rattle.guided.specs.declared.Run.{Run}
 use Rattle.guided.specs.declared.GuidedAnswer.{GuidedAnswer}
 
@@ -55,22 +53,12 @@ module _ (l : Lent) (es : List (List ℕ)) (ws : List ℕ) (count budget : ℕ) 
     pub few-rounds : count ≤ roundBound
     few-rounds = leb-true count roundBound (and-right (leb 1 count) _ (not-false (upTo roundBound count) (range .1)))
 
-    -- the layout as its entries are written, the weights and the budget are such as a run takes
-    pub run-given : (written : List (List ℕ)) → written ≡ entriesOf (layoutOf es) → Given l written ws budget
-    run-given written e =
-        let weights = or-neither (someWeightWrong ws) (numbersWrong count budget) (none .1 .1 .1 .0) in
-        let v : ValidLayout (jobOf l) (layoutOf es) = layout-valid l es (none .1 .0) (none .1 .1 .1 .1 .0) (none .1 .1 .1 .1 .1 .0) in
-        let same : layoutOf written ≡ layoutOf es = ap layoutOf e ∙ entries-read-back (layoutOf es) in
-        record {
-          well = job-well l (none .0);
-          valid = rw same v;
-          written = ap entriesOf same ∙ sym e;
-          weights = lent-weights-valid l ws (none .1 .1 .0) (weights .0);
-          few = ltb-false budgetBound budget (range .0);
-        }
+    -- and so is the budget
+    pub few-trials : budget ≤ budgetBound
+    few-trials = ltb-false budgetBound budget (range .0)
 
     module _ (written : List (List ℕ)) (again : written ≡ entriesOf (layoutOf es)) (run : Run) (best : List (List ℕ)) (raised : List ℕ)
-        (ran : Ran l written ws count budget run best raised)
+        (ran : Ran l written ws count budget (tallyOf run) best raised)
       where
         -- the run is given
         pub call-given : guidedCall l es ws count budget ≡ given (guidedOf (layoutOf best) (run .sum) raised (run .made) (run .moves))

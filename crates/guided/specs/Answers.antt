@@ -6,7 +6,13 @@ use Rattle.model.specs.Guided.{Guided}
 use Rattle.model.specs.Refusal.{Outcome, refused, given}
 use Rattle.model.specs.Lent.{upTo}
 use Rattle.model.specs.Calls.{budgetBound, roundBound}
+use Rattle.rounds.specs.declared.Tally.{Tally}
+use Rattle.guided.specs.declared.Run.{Run}
 use Rattle.guided.specs.declared.GuidedAnswer.{GuidedAnswer}
+
+-- what the rounds come to
+abbrev pub tallyOf : Run → Tally
+tallyOf r = record { sum = r .sum; made = r .made; moves = r .moves }
 
 -- a guided run, whose best layout and new weights stand in the buffers
 abbrev pub guidedAnswer : Outcome Guided → GuidedAnswer

@@ -1,21 +1,23 @@
 // The guided run: rounds of descent with weights raised in between. Document 01, 'Descent and guidance' and 'When a call says no'.
-pub mod memory;
-pub mod rounds;
-
-use descent::memory::write_entries;
-use descent::run_causes;
-use memory::with_strips;
 use model::JobSize;
 use model::Refusal;
 use placing::CauseAnswer;
+use runs::memory::Outcome;
+use runs::memory::Plan;
+use runs::memory::with_strips;
+use runs::run_causes;
+use runs::write_entries;
 ghost use mathlib.Core.Path.{_≡_};
+ghost use Prim.Native.Nat.{_≤_};
 ghost use Rattle.model.specs.Guided as model;
 ghost use Rattle.model.specs.Lent.{lentBy, jobOf};
 ghost use Rattle.model.specs.Buffer.{layoutOf};
-ghost use Rattle.model.specs.Calls.{guidedCall, bestAfterRun, weightsAfterRun};
+ghost use Rattle.model.specs.Calls.{roundBound, guidedCall, bestAfterRun, weightsAfterRun};
 ghost use Rattle.descent_laws.proofs.Claims.{GuidedClaims};
 ghost use Rattle.search_laws.proofs.GuidedLoop.{guidedOf};
-ghost use Rattle.guided.specs.Answers.{guidedAnswer, numbersWrong};
+ghost use Rattle.rounds.specs.Rounds.{Ran};
+ghost use Rattle.runs.specs.Ready.{Given};
+ghost use Rattle.guided.specs.Answers.{tallyOf, guidedAnswer, numbersWrong};
 
 // What a guided run comes to beside the best layout and the new weights: the best layout's plain sum, and the trials and moves of all
 // rounds.
@@ -42,6 +44,41 @@ fn numbers_wrong(rounds: u32, budget: u32) -> bool
         return true;
     }
     1000 < rounds
+}
+
+// The rounds, in a run's memory.
+fn run_rounds(
+    size: JobSize,
+    table: &[[u8; 3]],
+    pixels: &[u8],
+    rounds: u32,
+    budget: u32,
+    layout: &mut [[u16; 3]],
+    weights: &mut [u32],
+) -> Run
+    requires { ⌜ Given (lentBy size (now table) (now pixels)) (now layout) (now weights) budget ⌝ ∗ ⌜ rounds ≤ roundBound ⌝ }
+    ensures { λ r. ⌜ Ran (lentBy size (now (table .entry)) (now (pixels .entry))) (now (layout .entry)) (now (weights .entry)) rounds budget (tallyOf r) (now (layout .exit)) (now (weights .exit)) ⌝ }
+{
+    match with_strips(
+        size,
+        table,
+        pixels,
+        Plan::Rounds(rounds),
+        budget,
+        layout,
+        weights,
+    ) {
+        Outcome::Rounds(told) => Run {
+            sum: told.sum,
+            made: told.made,
+            moves: told.moves,
+        },
+        Outcome::Alone(_) => Run {
+            sum: 0,
+            made: 0,
+            moves: 0,
+        },
+    }
 }
 
 // A guided run of at most so many rounds, each with the budget. The layout buffer holds the best layout after it, the weight buffer the
@@ -71,7 +108,7 @@ pub fn guided_run(
         CauseAnswer::Refused(refusal) => GuidedAnswer::Refused(refusal),
         CauseAnswer::Passed => {
             write_entries(layout);
-            GuidedAnswer::Ran(with_strips(size, table, pixels, rounds, budget, layout, weights))
+            GuidedAnswer::Ran(run_rounds(size, table, pixels, rounds, budget, layout, weights))
         }
     }
 }

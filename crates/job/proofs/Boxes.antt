@@ -10,14 +10,14 @@ use lib.ListN.{length, getD}
 use borrow.Author.Tests.{leb-true}
 use Rattle.model.specs.Bounded.{allBelow}
 use Rattle.model.specs.Piece.{holds}
-use Rattle.model.specs.Lent.{areaBound, pieceBound, rowBound, columnBound, sideBound, turnsBound, upTo, entryColumns, entryRows, entryTurns, pixelStart, sheetInRange, entryInRange, entryFits}
+use Rattle.model.specs.Lent.{areaBound, pieceBound, sideBound, turnsBound, upTo, entryColumns, entryRows, entryTurns, pixelStart, sheetInRange, entryInRange, entryFits}
 use Rattle.model.specs.declared.JobSize.{JobSize}
 use Rattle.model.specs.declared.Direction.the-variants.{Horizontal, Vertical}
 use Rattle.model.proofs.Tests.{and-left, and-right}
 use Rattle.model.proofs.Bounded.{any-agree, all-at}
 use Rattle.text_laws.proofs.JobRead.{sidesInRange}
-use Rattle.job.specs.Boxes.{boxIn, numbersInRange, someMark, tableWell, Side}
-use Rattle.job.proofs.Tests.{at-least, at-most}
+use Rattle.job.specs.Boxes.{boxIn, someMark, tableWell, Side}
+use Rattle.limits.proofs.Ranges.{at-least, at-most, few-pieces}
 
 module _ (mark : ℕ) (bytes : List ℕ) (start stride l w : ℕ) where
   -- a row of a box
@@ -52,15 +52,6 @@ pub sides : (table : List (List ℕ)) (i : ℕ) → entryInRange table i ≡ tru
 unfolding entryInRange
 sides table i e = sides-of (entryColumns table i) (entryRows table i) (entryTurns table i) e
 
--- at most 64 pieces in range
-pub few-count : (rows columns count : ℕ) → numbersInRange rows columns count ≡ true → count ≤ pieceBound
-few-count rows columns count e = at-most pieceBound count (and-right (upTo rowBound rows && upTo columnBound columns) (upTo pieceBound count) e)
-
--- the pieces of a sheet in range are at most 64
-pub few-pieces : (rows columns count : ℕ) → sheetInRange rows columns count ≡ true → count ≤ pieceBound
-unfolding sheetInRange
-few-pieces rows columns count e = few-count rows columns count (and-left (numbersInRange rows columns count) (leb (rows * columns) areaBound) e)
-
 -- what the check of a table says of its entries
 pub record TableFacts (size : JobSize) (table : List (List ℕ)) : Type 0 where
   pub few : size .count ≤ pieceBound
@@ -88,15 +79,3 @@ table-facts size table e =
 -- the last row of a box begins at most 254 strides on
 pub last-row : (rows stride : ℕ) → rows ≤ 255 → stride ≤ 512 → (rows - 1) * stride ≤ 254 * 512
 last-row rows stride r s = let h : rows - 1 ≤ 254 = omega arith in mul-le-mul h s
-
--- W × L of numbers in range
-pub sheet-small : (rows columns count : ℕ) → numbersInRange rows columns count ≡ true → rows * columns ≤ 512 * 4096
-sheet-small rows columns count e =
-    let a : Bool = upTo rowBound rows in
-    let b : Bool = upTo columnBound columns in
-    let ab : (a && b) ≡ true = and-left (a && b) (upTo pieceBound count) e in
-    mul-le-mul (at-most rowBound rows (and-left a b ab)) (at-most columnBound columns (and-right a b ab))
-
--- the sum of turns in range
-pub few-turns : (l w o : ℕ) → sidesInRange l w o ≡ true → o ≤ turnsBound
-few-turns l w o e = leb-true o turnsBound (and-right (upTo sideBound l && upTo sideBound w && eqb (o % 2) 1) (leb o turnsBound) e)

@@ -6,7 +6,7 @@ use lib.Dec.{leb, eqb}
 use lib.ListN.{length, getD}
 use Rattle.model.specs.Bounded.{allBelow, anyBelow}
 use Rattle.model.specs.Piece.{Shape}
-use Rattle.model.specs.Lent.{areaBound, sideBound, rowBound, columnBound, pieceBound, upTo, entryColumns, entryRows, pixelStart, entryInRange, entryFits, sheetInRange}
+use Rattle.model.specs.Lent.{areaBound, sideBound, entryColumns, entryRows, pixelStart, entryInRange, entryFits, sheetInRange}
 use Rattle.model.specs.declared.JobSize.{JobSize}
 
 -- a box of l columns and w rows whose pixels stand in a list of bytes from `start` on, each row `stride` after the last; a pixel is the
@@ -28,10 +28,6 @@ pub record Side (k : ℕ) : Type 0 where
 -- one of `count` bytes from `first` on, each `step` after the last, is the mark
 abbrev pub someMark : ℕ → List ℕ → ℕ → ℕ → ℕ → Bool
 someMark mark bytes first step count = anyBelow count (λ k. eqb (getD bytes (first + k * step) 0) mark)
-
--- W, L and n are in range
-abbrev pub numbersInRange : ℕ → ℕ → ℕ → Bool
-numbersInRange rows columns count = upTo rowBound rows && upTo columnBound columns && upTo pieceBound count
 
 -- every byte below the bound is 0 or 1
 abbrev pub allBits : List ℕ → ℕ → Bool

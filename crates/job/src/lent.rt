@@ -1,5 +1,7 @@
 // The check of a lent job: document 01, 'When a call says no', number 8. Each function answers one part of the check; none trusts what
 // the parts before it have not shown.
+use limits::sheet_in_range;
+use limits::sides_in_range;
 use model::JobSize;
 ghost use mathlib.Core.Path.{_≡_};
 ghost use mathlib.Core.Bool.{true};
@@ -7,9 +9,8 @@ ghost use Prim.Native.Nat.{ℕ, _+_, _*_, _<_, _≤_, _^_};
 ghost use lib.ListN.{length};
 ghost use Rattle.model.specs.Bounded.{allBelow};
 ghost use Rattle.model.specs.Piece.{tight};
-ghost use Rattle.model.specs.Lent.{lentBy, lentWell, lentShape, upTo, sheetInRange, entryInRange, entryFits, pixelStart};
-ghost use Rattle.text_laws.proofs.JobRead.{sidesInRange};
-ghost use Rattle.job.specs.Boxes.{Side, numbersInRange, boxIn, storedBox, someMark, allBits, tableWell};
+ghost use Rattle.model.specs.Lent.{lentBy, lentWell, entryInRange, entryFits, pixelStart};
+ghost use Rattle.job.specs.Boxes.{Side, boxIn, storedBox, someMark, allBits, tableWell};
 
 // A byte as a count.
 fn wide(x: u8) -> usize
@@ -23,55 +24,6 @@ fn box_area(columns: u8, rows: u8) -> usize
     ensures { λ r. ⌜ (r ≡ columns * rows) × (r ≤ 65025) ⌝ }
 {
     wide(columns) * wide(rows)
-}
-
-// From 1 to the bound.
-fn up_to(bound: usize, k: usize) -> bool
-    ensures { λ r. ⌜ r ≡ upTo bound k ⌝ }
-{
-    if k < 1 {
-        return false;
-    }
-    k <= bound
-}
-
-// W, L and n are in range.
-pub fn numbers_in_range(rows: usize, columns: usize, count: usize) -> bool
-    ensures { λ r. ⌜ r ≡ numbersInRange rows columns count ⌝ }
-{
-    if !up_to(512, rows) {
-        return false;
-    }
-    if !up_to(4096, columns) {
-        return false;
-    }
-    up_to(64, count)
-}
-
-// W, L and n are in range and the sheet is not too large.
-fn sheet_in_range(size: JobSize) -> bool
-    ensures { λ r. ⌜ r ≡ sheetInRange (size .rows) (size .columns) (size .count) ⌝ }
-{
-    if !numbers_in_range(size.rows, size.columns, size.count) {
-        return false;
-    }
-    size.rows * size.columns <= 65536
-}
-
-// The sides are in range and the sum of turns is odd and at most 15.
-pub fn sides_in_range(columns: usize, rows: usize, turns: usize) -> bool
-    ensures { λ r. ⌜ r ≡ sidesInRange columns rows turns ⌝ }
-{
-    if !up_to(255, columns) {
-        return false;
-    }
-    if !up_to(255, rows) {
-        return false;
-    }
-    if turns % 2 != 1 {
-        return false;
-    }
-    turns <= 15
 }
 
 // The entry is in range.

@@ -19,20 +19,20 @@ use Rattle.text_laws.proofs.Outcomes.{refused-given, given-before, Unless, give
 use Rattle.text_laws.proofs.Store.{tight-agree}
 use Rattle.fields.proofs.Stores.{sets-append}
 use Rattle.job.specs.Boxes.{boxIn}
-use Rattle.job_text.specs.Lines.{refusalAt, headOf, jobLineOf, jobAnswer, pieceOf, pieceLineOf, pieceAnswer}
-use Rattle.job_text.specs.Stores.{rowsAnswer, RowsStored}
+use Rattle.job_lines.specs.Lines.{refusalAt, headOf, jobLineOf, jobAnswer, pieceOf, pieceLineOf, pieceAnswer}
+use Rattle.row_lines.specs.Stores.{rowsAnswer, RowsStored}
 use Rattle.job_text.specs.Reading.{boxAt, placeAnswer, BoxStored, Entered, PieceStored, piecesAnswer, PiecesStored, roomed, Leaves}
 use Rattle.job_text.specs.declared.JobAnswer.{JobAnswer}
 use Rattle.job_text.specs.declared.JobAnswer.the-variants as answer
-use Rattle.job_text.specs.declared.lines.JobHead.{JobHead}
-use Rattle.job_text.specs.declared.lines.JobLineAnswer.the-variants as job
-use Rattle.job_text.specs.declared.lines.PieceHead.{PieceHead}
-use Rattle.job_text.specs.declared.lines.PieceLineAnswer.the-variants as piece
+use Rattle.job_lines.specs.declared.JobHead.{JobHead}
+use Rattle.job_lines.specs.declared.JobLineAnswer.the-variants as job
+use Rattle.job_lines.specs.declared.PieceHead.{PieceHead}
+use Rattle.job_lines.specs.declared.PieceLineAnswer.the-variants as piece
 use Rattle.job_text.specs.declared.reader.Place.{Place}
 use Rattle.job_text.specs.declared.reader.PieceAnswer.the-variants as place
 use Rattle.job_text.specs.declared.reader.PiecesAnswer.the-variants as pieces
-use Rattle.job_text.specs.declared.rows.RowsAnswer.the-variants as rows
-use Rattle.job_text.proofs.Marks.{rows-facts}
+use Rattle.row_lines.specs.declared.RowsAnswer.the-variants as rows
+use Rattle.row_lines.proofs.Marks.{rows-facts}
 
 -- ── the box of a piece ──
 

@@ -1,4 +1,2 @@
 -- What the crate's own functions find, as document 01's definitions have it.
-pub mod Lines
-pub mod Stores
 pub mod Reading

@@ -1,7 +1,5 @@
 // The reader of a job text: document 01, 'Job text' and 'When a call says no', reading a job.
-mod lines;
 mod reader;
-mod rows;
 
 pub use reader::read_job;
 

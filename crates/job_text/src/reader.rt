@@ -1,25 +1,25 @@
 // The reader of a job text: document 01, 'Job text' and 'When a call says no', reading a job. A first run over empty buffers finds every
 // refusal and how much room the job needs; only a second run writes.
 use crate::JobAnswer;
-use crate::lines::JobHead;
-use crate::lines::JobLineAnswer;
-use crate::lines::PieceHead;
-use crate::lines::PieceLineAnswer;
-use crate::lines::job_line;
-use crate::lines::piece_line;
-use crate::lines::refusal;
-use crate::rows::RowsAnswer;
-use crate::rows::fill_rows;
 use job::box_tight;
+use job_lines::JobHead;
+use job_lines::JobLineAnswer;
+use job_lines::PieceHead;
+use job_lines::PieceLineAnswer;
+use job_lines::job_line;
+use job_lines::piece_line;
+use job_lines::refusal;
 use model::JobSize;
 use model::Refusal;
+use row_lines::RowsAnswer;
+use row_lines::fill_rows;
 ghost use mathlib.Core.List.{[], _∷_};
 ghost use mathlib.Core.Path.{_≡_};
 ghost use Prim.Native.Nat.{_+_, _*_, _<_, _≤_, _^_};
 ghost use lib.ListN.{length, set};
 ghost use Rattle.model.specs.JobText.{pieceAt, piecesAt, readJob};
 ghost use Rattle.job.specs.Boxes.{Side};
-ghost use Rattle.job_text.specs.Lines.{jobLineOf, pieceLineOf};
+ghost use Rattle.job_lines.specs.Lines.{jobLineOf, pieceLineOf};
 ghost use Rattle.job_text.specs.Reading.{Within, boxAt, placeAnswer, BoxStored, PieceStored, piecesAnswer, PiecesStored, roomed, Leaves};
 
 // Where reading stands: the areas of the boxes so far, the position and the line of what follows.

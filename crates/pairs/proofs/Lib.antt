@@ -1,4 +1,2 @@
--- Laws of strips in local stores, of pieces that a call on a pair may measure, and of what is measured.
-pub mod Stores
+-- Laws of pieces that a call on a pair may measure.
 pub mod Readies
-pub mod Amounts

@@ -17,7 +17,7 @@ use Rattle.model.proofs.Tests.{and-left, and-right, or-neither}
 use Rattle.text_laws.proofs.LentFacts.{facts}
 use Rattle.text_laws.proofs.Outcomes.{NoCause}
 use Rattle.strips.proofs.Jobs.{entry-at}
-use Rattle.pairs.specs.Ready.{Ready}
+use Rattle.placed_pair.specs.Ready.{Ready}
 
 -- the sheet's limits
 record Limits (l : Lent) : Type 0 where

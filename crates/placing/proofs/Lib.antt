@@ -1,5 +1,4 @@
 -- Laws that the proofs of this crate and of those above cite.
 pub mod Places
-pub mod Insertion
 pub mod Causes
-pub mod Stacks
+pub mod Fitting

@@ -2,14 +2,12 @@
 use mathlib.Core.List.{List}
 use mathlib.Core.Option.{Option, none, some}
 use Prim.Native.Nat.{ℕ}
-use Rattle.model.specs.Layout.{Layout}
 use Rattle.model.specs.Refusal.{Outcome, refused, given, Cause, unless}
 use Rattle.model.specs.declared.Turn.{Turn}
 use Rattle.placing.specs.declared.TurnAnswer.{TurnAnswer}
 use Rattle.placing.specs.declared.TurnAnswer.the-variants.{Known, Unknown}
 use Rattle.placing.specs.declared.CauseAnswer.{CauseAnswer}
 use Rattle.placing.specs.declared.LengthAnswer.{LengthAnswer}
-use Rattle.placing.specs.declared.StartAnswer.{StartAnswer}
 
 -- the turn that degrees are, if there is one
 abbrev pub turnAnswer : Option Turn → TurnAnswer
@@ -33,8 +31,3 @@ firstCause cs = causeAnswer (outcomeOf cs)
 abbrev pub lengthAnswer : Outcome ℕ → LengthAnswer
 lengthAnswer (refused r) = LengthAnswer.Refused r
 lengthAnswer (given k) = LengthAnswer.Length k
-
--- the start layout, which stands in the layout buffer
-abbrev pub startAnswer : Outcome Layout → StartAnswer
-startAnswer (refused r) = StartAnswer.Refused r
-startAnswer (given v) = StartAnswer.Laid

@@ -1,5 +1,5 @@
-// Placements as a layout buffer holds them: turns as degrees, turned boxes, the inside test, what calls on a layout refuse, the
-// used length and the start layout. Document 01, 'Sheet and panels', 'Start, layout text, sheet' and 'When a call says no'.
+// Placements as a layout buffer holds them: turns as degrees, turned boxes, the inside test, what calls on a layout refuse and the
+// used length. Document 01, 'Sheet and panels', 'Start, layout text, sheet' and 'When a call says no'.
 ghost use mathlib.Core.Path.{_≡_};
 ghost use mathlib.Core.Bool.{true};
 ghost use mathlib.Core.List.{List};
@@ -10,14 +10,12 @@ ghost use Rattle.model.specs.Layout.{turnedPiece, inside, placeOf, rightEnd, us
 ghost use Rattle.model.specs.Refusal.{cause, refusalOf};
 ghost use Rattle.model.specs.Lent.{lentBy, jobOf};
 ghost use Rattle.model.specs.Buffer.{turnOfDegrees, turnOf, entryOf, layoutOf};
-ghost use Rattle.model.specs.Calls.{allowedDegrees, someTurnWrong, someOutside, layoutCauses, usedLengthCall, layoutAfter, startCall};
+ghost use Rattle.model.specs.Calls.{allowedDegrees, someTurnWrong, someOutside, layoutCauses, usedLengthCall};
 ghost use Rattle.model.specs.declared.JobSize.{JobSize};
-ghost use Rattle.placing.specs.Answers.{turnAnswer, firstCause, lengthAnswer, startAnswer};
+ghost use Rattle.placing.specs.Answers.{turnAnswer, firstCause, lengthAnswer};
 ghost use Rattle.placing.specs.Boxes.{sidesOf, placeAt};
 
-mod numbers;
-mod order;
-mod stack;
+pub mod numbers;
 
 use model::Column;
 use model::JobSize;
@@ -43,12 +41,6 @@ pub enum CauseAnswer {
 // The used length, or why it is refused.
 pub enum LengthAnswer {
     Length(usize),
-    Refused(Refusal),
-}
-
-// The start layout is laid out, or why it is refused.
-pub enum StartAnswer {
-    Laid,
     Refused(Refusal),
 }
 
@@ -294,25 +286,4 @@ pub fn used_length(
         CauseAnswer::Refused(refusal) => LengthAnswer::Refused(refusal),
         CauseAnswer::Passed => LengthAnswer::Length(longest_end(size, table, layout)),
     }
-}
-
-// The start layout, or its refusal.
-pub fn start(
-    size: JobSize,
-    table: &[[u8; 3]],
-    pixels: &[u8],
-    layout: &mut [[u16; 3]],
-) -> StartAnswer
-    ensures answer { λ r. ⌜ r ≡ startAnswer (startCall (lentBy size (now (table .entry)) (now (pixels .entry))) (length (now (layout .entry)))) ⌝ }
-    ensures memory { λ r. ⌜ now (layout .exit) ≡ layoutAfter (now (layout .entry)) (startCall (lentBy size (now (table .entry)) (now (pixels .entry))) (length (now (layout .entry)))) ⌝ }
-{
-    if !job::check_job(size, table, pixels) {
-        return StartAnswer::Refused(refusal(8));
-    }
-    if layout.len() != size.count {
-        return StartAnswer::Refused(refusal(7));
-    }
-    let order = order::falling_order(size, table);
-    stack::stack_all(size, table, &order, layout);
-    StartAnswer::Laid
 }

@@ -10,7 +10,7 @@ use Rattle.model.specs.Refusal.{Outcome}
 use Rattle.model.specs.Buffer.{filled}
 use Rattle.model.specs.JobText.{readJob}
 use Rattle.model.specs.Program.{printed, programText}
-use Rattle.layout_text.specs.Written.{Written}
+use Rattle.layout_writer.specs.Written.{Written}
 use Rattle.fields.proofs.Stores.{sets-filled}
 use Rattle.program.specs.Output.{outputBound, outputText}
 

@@ -20,8 +20,8 @@ use Rattle.model.specs.declared.Refusal.{Refusal}
 use Rattle.text_laws.proofs.Entries.{entries-read-back}
 use Rattle.descent_laws.proofs.Bounds.{pairs-at-most}
 use Rattle.call_laws.proofs.Programs.{program-run-given}
-use Rattle.layout_text.specs.Written.{Written}
-use Rattle.layout_text.proofs.Sequel.{written-then}
+use Rattle.layout_writer.specs.Written.{Written}
+use Rattle.layout_writer.proofs.Sequel.{written-then}
 use Rattle.guided.specs.Answers.{guidedAnswer}
 use Rattle.guided.specs.declared.Run.{Run}
 use Rattle.guided.specs.declared.GuidedAnswer.{GuidedAnswer}

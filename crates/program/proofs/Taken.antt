@@ -24,9 +24,9 @@ use Rattle.call_laws.proofs.Layouts.{BufferPasses, valid-buffer}
 use Rattle.placing.specs.Answers.{lengthAnswer}
 use Rattle.placing.specs.declared.LengthAnswer.{LengthAnswer}
 use Rattle.placing.proofs.Causes.{Sound, sound, none-then}
-use Rattle.layout_text.specs.Answers.{textAnswer}
-use Rattle.layout_text.specs.Written.{Written}
-use Rattle.layout_text.specs.declared.TextAnswer.{TextAnswer}
+use Rattle.layout_writer.specs.Answers.{textAnswer}
+use Rattle.layout_writer.specs.Written.{Written}
+use Rattle.layout_writer.specs.declared.TextAnswer.{TextAnswer}
 use Rattle.fields.proofs.Stores.{sets-filled}
 use Rattle.program.proofs.Short.{layout-short}
 

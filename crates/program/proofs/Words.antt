@@ -9,7 +9,7 @@ use lib.Seq.{sets}
 use Rattle.model.specs.Text.{bytes, decimal}
 use Rattle.model.specs.Program.{endWord}
 use Rattle.fields.proofs.Steps.{decimal-short}
-use Rattle.layout_text.specs.Written.{Written}
+use Rattle.layout_writer.specs.Written.{Written}
 
 module _ (before : List ℕ) (at next : ℕ) (after : List ℕ) where
   -- a number has at most 10 digits

@@ -3,7 +3,7 @@ ghost use mathlib.Core.List.{[], _∷_};
 ghost use Prim.Native.Nat.{_≤_};
 ghost use Rattle.model.specs.Text.{comma, decimal};
 ghost use Rattle.model.specs.Program.{wordLine, refusalText, endWord};
-ghost use Rattle.layout_text.specs.Written.{Written};
+ghost use Rattle.layout_writer.specs.Written.{Written};
 ghost use Rattle.program.specs.Output.{outputBound};
 use fields::put_byte;
 use fields::put_decimal;

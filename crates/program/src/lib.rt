@@ -11,7 +11,7 @@ ghost use Rattle.model.specs.Refusal.{given};
 ghost use Rattle.model.specs.JobText.{readJob};
 ghost use Rattle.model.specs.Program.{runText, programRun, printed};
 ghost use Rattle.text_laws.proofs.Outcomes.{NoCause};
-ghost use Rattle.layout_text.specs.Written.{Written};
+ghost use Rattle.layout_writer.specs.Written.{Written};
 ghost use Rattle.program.specs.Output.{outputBound, outputText};
 ghost use Rattle.program.specs.Runs.{Gives, runWith};
 
@@ -23,17 +23,17 @@ use guided::GuidedAnswer;
 use guided::Run;
 use guided::guided_run;
 use job_text::JobAnswer;
-use layout_text::TextAnswer;
+use layout_writer::TextAnswer;
 use model::JobSize;
+use pair_sums::pair_count;
 use placing::LengthAnswer;
-use sums::table::pair_count;
 
 // The run of a job: from the start layout, by weights 1, 20 rounds of budget 1,000. The best layout is left in the layout buffer.
 fn run_job(size: JobSize, table: &[[u8; 3]], pixels: &[u8], layout: &mut [[u16; 3]]) -> Run
     requires { ⌜ (lentWell (lentBy size (now table) (now pixels)) ≡ true) × (length (now layout) ≡ size .count) ⌝ }
     ensures { λ r. ⌜ Gives r (now (layout .exit)) (programRun (jobOf (lentBy size (now (table .entry)) (now (pixels .entry))))) ⌝ }
 {
-    placing::start(size, table, pixels, layout);
+    start_layout::start(size, table, pixels, layout);
     let mut weights = [1u32; 2016];
     let pairs = pair_count(size.count);
     match guided_run(size, table, pixels, layout, &mut weights[..pairs], 20, 1000) {
@@ -63,7 +63,7 @@ fn write_run(
     let LengthAnswer::Length(used) = placing::used_length(size, table, pixels, layout) else {
         return 0;
     };
-    let TextAnswer::Written(next) = layout_text::write_layout(size, table, pixels, layout, text)
+    let TextAnswer::Written(next) = layout_writer::write_layout(size, table, pixels, layout, text)
     else {
         return 0;
     };

@@ -27,11 +27,12 @@ use Rattle.search_laws.proofs.BoundedSearch.{belowBound}
 use Rattle.search_laws.proofs.LineSearch.{search-unbounded}
 use Rattle.placing.specs.Answers.{firstCause}
 use Rattle.placing.specs.declared.CauseAnswer.{CauseAnswer}
-use Rattle.sums.specs.Drawn.{Laid}
+use Rattle.pair_table.specs.Drawn.{Laid}
 use Rattle.sums.proofs.Causes.{few-pieces, layout-laid}
 use Rattle.lines.specs.Kept.{Kept, Wide}
 use Rattle.lines.proofs.Keeping.{none-kept, twice-wide}
-use Rattle.search.specs.Answers.{foundAnswer, bestAnswer, searchAnswer, searchCauses}
+use Rattle.line_sums.specs.Answers.{foundAnswer}
+use Rattle.search.specs.Answers.{bestAnswer, searchAnswer, searchCauses}
 
 -- ── causes ──
 

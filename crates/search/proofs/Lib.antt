@@ -1,8 +1,2 @@
--- Laws of the line search.
-pub mod Scans
-pub mod Tracks
-pub mod Readings
-pub mod Summing
-pub mod Renewing
-pub mod Searching
+-- Laws of the line search as a call.
 pub mod Answering

@@ -1,7 +1,6 @@
 -- The answers of this crate's calls, by the model's outcomes: a refusal keeps its number and places. Assumes nothing.
 use mathlib.Core.Bool.{true, not, _||_}
 use mathlib.Core.List.{List, [], _∷_, _++_}
-use mathlib.Core.Option.{Option, none, some}
 use Prim.Native.Nat.{ℕ}
 use lib.Dec.{ltb}
 use Rattle.model.specs.Layout.{allowed}
@@ -11,14 +10,9 @@ use Rattle.model.specs.Refusal.{Outcome, refused, given, Cause, cause, refusalO
 use Rattle.model.specs.Calls.{someTurnWrong, outsideCause}
 use Rattle.model.specs.declared.Turn.{Turn}
 use Rattle.sums.specs.Answers.{lengthCauses}
-use Rattle.search.specs.declared.Found.{Found}
-use Rattle.search.specs.declared.Found.the-variants.{At, Nothing}
+use Rattle.line_sums.specs.declared.Found.{Found}
+use Rattle.line_sums.specs.declared.Found.the-variants.{At, Nothing}
 use Rattle.search.specs.declared.SearchAnswer.{SearchAnswer}
-
--- the sum and the coordinate that has it, or nothing
-abbrev pub foundAnswer : Option Best → Found
-foundAnswer none = Nothing
-foundAnswer (some b) = At (b .sum) (b .at)
 
 -- where nothing is found, no inside corner lies on the line
 abbrev pub bestAnswer : Found → SearchAnswer

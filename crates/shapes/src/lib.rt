@@ -3,6 +3,7 @@
 ghost use mathlib.Core.Path.{_≡_};
 ghost use mathlib.Core.Bool.{true};
 ghost use Prim.Native.Nat.{ℕ, _<_};
+ghost use lib.ListN.{length};
 ghost use Rattle.model.specs.Lent.{lentBy, jobOf, lentWell};
 ghost use Rattle.model.specs.Layout.{Job, turnedPiece};
 ghost use Rattle.model.specs.declared.Direction.{Direction};
@@ -33,6 +34,13 @@ fn numbered_turn(number: usize) -> Turn
         2 => Turn::Half,
         _ => Turn::ThreeQuarters,
     }
+}
+
+// A store with room for the strips of every piece in every turn. What it holds plays no part, so that no caller's proof computes with it.
+pub fn empty_store() -> [[u8; 3]; 262144]
+    ensures { λ r. ⌜ length r ≡ 262144 ⌝ }
+{
+    [[0u8; 3]; 262144]
 }
 
 // Makes the strips of every piece in every turn along the direction, allowed or not.

@@ -14,20 +14,22 @@ use Rattle.model.specs.Descent.{Descent}
 use Rattle.model.specs.Guided.{Guided}
 use Rattle.model.specs.Layout.{Layout}
 use Rattle.model.specs.Search.{Best}
-use Rattle.placing.specs.Answers.{lengthAnswer, startAnswer}
+use Rattle.placing.specs.Answers.{lengthAnswer}
 use Rattle.placing.specs.declared.LengthAnswer.{LengthAnswer}
-use Rattle.placing.specs.declared.StartAnswer.{StartAnswer}
+use Rattle.start_layout.specs.Answers.{startAnswer}
+use Rattle.start_layout.specs.declared.StartAnswer.{StartAnswer}
 use Rattle.sums.specs.Answers.{checkAnswer, sumAnswer}
 use Rattle.sums.specs.declared.CheckAnswer.{CheckAnswer}
 use Rattle.sums.specs.declared.SumAnswer.{SumAnswer}
-use Rattle.layout_text.specs.Answers.{layoutAnswer, textAnswer}
-use Rattle.layout_text.specs.declared.LayoutAnswer.{LayoutAnswer}
-use Rattle.layout_text.specs.declared.TextAnswer.{TextAnswer}
+use Rattle.layout_writer.specs.Answers.{textAnswer}
+use Rattle.layout_writer.specs.declared.TextAnswer.{TextAnswer}
+use Rattle.layout_reader.specs.Answers.{layoutAnswer}
+use Rattle.layout_reader.specs.declared.LayoutAnswer.{LayoutAnswer}
 use Rattle.search.specs.Answers.{searchAnswer}
 use Rattle.search.specs.declared.SearchAnswer.{SearchAnswer}
 use Rattle.descent.specs.Answers.{descentAnswer, endedOf}
 use Rattle.descent.specs.declared.DescentAnswer.{DescentAnswer}
-use Rattle.descent.specs.declared.run.Ended.{Ended}
+use Rattle.descend.specs.declared.Ended.{Ended}
 use Rattle.guided.specs.Answers.{guidedAnswer}
 use Rattle.guided.specs.declared.GuidedAnswer.{GuidedAnswer}
 use Rattle.guided.specs.declared.Run.{Run}

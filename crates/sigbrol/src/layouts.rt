@@ -4,7 +4,7 @@ use interface::done;
 use interface::refused;
 use interface::size_of;
 use placing::LengthAnswer;
-use placing::StartAnswer;
+use start_layout::StartAnswer;
 use sums::CheckAnswer;
 use sums::SumAnswer;
 ghost use mathlib.Core.Path.{_≡_};
@@ -120,7 +120,7 @@ pub extern "C" fn sigbrol_start(
     ensures answer { λ r. ⌜ r ≡ replyTo (startCall (lentAs rows columns count (now (table .entry)) (now (pixels .entry))) (length (now (layout .entry)))) ⌝ }
     ensures memory { λ r. ⌜ now (layout .exit) ≡ layoutAfter (now (layout .entry)) (startCall (lentAs rows columns count (now (table .entry)) (now (pixels .entry))) (length (now (layout .entry)))) ⌝ }
 {
-    match placing::start(size_of(rows, columns, count), table, pixels, layout) {
+    match start_layout::start(size_of(rows, columns, count), table, pixels, layout) {
         StartAnswer::Laid => done(),
         StartAnswer::Refused(refusal) => refused(refusal),
     }

@@ -3,8 +3,8 @@ use interface::Reply;
 use interface::done;
 use interface::refused;
 use interface::size_of;
-use layout_text::LayoutAnswer;
-use layout_text::TextAnswer;
+use layout_reader::LayoutAnswer;
+use layout_writer::TextAnswer;
 ghost use mathlib.Core.Path.{_≡_};
 ghost use lib.ListN.{length};
 ghost use Rattle.model.specs.Buffer.{filled};
@@ -29,7 +29,7 @@ pub extern "C" fn sigbrol_write_layout(
     ensures memory { λ r. ⌜ now (text .exit) ≡ textAfter (now (text .entry)) (writeLayoutCall (lentAs rows columns count (now (table .entry)) (now (pixels .entry))) (now (layout .entry)) (length (now (text .entry)))) ⌝ }
     ensures written { λ r. ⌜ now (written .exit) ≡ leaving (λ a. length a) (now (written .entry)) (writeLayoutCall (lentAs rows columns count (now (table .entry)) (now (pixels .entry))) (now (layout .entry)) (length (now (text .entry)))) ⌝ }
 {
-    match layout_text::write_layout(size_of(rows, columns, count), table, pixels, layout, text) {
+    match layout_writer::write_layout(size_of(rows, columns, count), table, pixels, layout, text) {
         TextAnswer::Written(length) => {
             *written = length;
             done()
@@ -52,7 +52,7 @@ pub extern "C" fn sigbrol_read_layout(
     ensures answer { λ r. ⌜ r ≡ replyTo (readLayoutCall (lentAs rows columns count (now (table .entry)) (now (pixels .entry))) (now (text .entry)) (length (now (layout .entry)))) ⌝ }
     ensures memory { λ r. ⌜ now (layout .exit) ≡ layoutAfter (now (layout .entry)) (readLayoutCall (lentAs rows columns count (now (table .entry)) (now (pixels .entry))) (now (text .entry)) (length (now (layout .entry)))) ⌝ }
 {
-    match layout_text::read_layout(size_of(rows, columns, count), table, pixels, text, layout) {
+    match layout_reader::read_layout(size_of(rows, columns, count), table, pixels, text, layout) {
         LayoutAnswer::Read => done(),
         LayoutAnswer::Refused(refusal) => refused(refusal),
     }

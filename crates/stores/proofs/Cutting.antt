@@ -14,7 +14,7 @@ use Rattle.model.specs.declared.Direction.{Direction}
 use Rattle.model.proofs.Tests.{and-left, and-right}
 use Rattle.call_laws.proofs.Lists.{same-numbers, same-entries}
 use Rattle.stores.specs.Stores.{Cut}
-use Rattle.stores.proofs.Filling.{starts-length}
+use Rattle.strip_store.proofs.Filling.{starts-length}
 
 -- a start is the number of strips before
 start-at : (d : Direction) (j : Job) (ts : List ℕ) (at i left k : ℕ) → k ≤ left

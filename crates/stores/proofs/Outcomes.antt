@@ -18,8 +18,10 @@ use Rattle.model.specs.declared.Direction.{Direction}
 use Rattle.model.specs.declared.Direction.the-variants.{Horizontal, Vertical}
 use Rattle.model.proofs.Tests.{and-left, and-right, or-right, or-neither}
 use Rattle.fields.proofs.Stores.{sets-filled}
-use Rattle.stores.specs.Stores.{Filled, Cut, storesBy}
-use Rattle.stores.specs.Rooms.{roomOf, roomFor, hasRoom}
+use Rattle.strip_store.specs.Made.{Filled}
+use Rattle.stores.specs.Stores.{Cut, storesBy}
+use Rattle.strip_store.specs.Rooms.{roomOf, roomFor}
+use Rattle.stores.specs.Rooms.{hasRoom}
 use Rattle.stores.proofs.Cutting.{cut-from}
 
 -- ── the stretch call ──

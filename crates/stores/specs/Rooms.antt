@@ -1,23 +1,12 @@
 -- Room for the stores of a job's strips. Assumes nothing.
-use mathlib.Core.Bool.{Bool, not, _&&_}
+use mathlib.Core.Bool.{Bool, _&&_}
 use mathlib.Core.List.{List}
 use Prim.Native.Nat.{ℕ}
-use lib.Dec.{ltb}
-use lib.ListN.{length}
 use Rattle.model.specs.Layout.{Job}
-use Rattle.model.specs.Store.{store, starts}
 use Rattle.model.specs.Calls.{Stores}
-use Rattle.model.specs.declared.Direction.{Direction}
 use Rattle.model.specs.declared.Direction.the-variants.{Horizontal, Vertical}
-use Rattle.stores.specs.declared.fill.Room.{Room}
-
--- the room of a lent store with its starts
-abbrev pub roomOf : List (List ℕ) → List ℕ → Room
-roomOf lentStrips lentStarts = record { strips = length lentStrips; starts = length lentStarts }
-
--- there is room for the job's store and starts
-abbrev pub roomFor : Direction → Job → List ℕ → Room → Bool
-roomFor d j ts r = not (ltb (r .strips) (length (store d j ts))) && not (ltb (r .starts) (length (starts d j ts)))
+use Rattle.strip_store.specs.Rooms.{roomOf, roomFor}
+use Rattle.strip_store.specs.declared.fill.Room.{Room}
 
 -- there is room for both
 abbrev pub roomForBoth : Job → List ℕ → Room → Room → Bool

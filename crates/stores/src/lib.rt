@@ -2,6 +2,7 @@
 
 use model::JobSize;
 use model::Refusal;
+use strip_store::fill::room_for;
 
 mod compare;
 mod fill;
@@ -39,8 +40,8 @@ pub fn strips(
     if turns::wrong(size, table, turns) {
         return StripsAnswer::Refused(placing::refusal(9));
     }
-    let rows = fill::room_for(row_strips.len(), row_starts.len());
-    let columns = fill::room_for(column_strips.len(), column_starts.len());
+    let rows = room_for(row_strips.len(), row_starts.len());
+    let columns = room_for(column_strips.len(), column_starts.len());
     if !fill::both_have_room(size, table, pixels, turns, rows, columns) {
         return StripsAnswer::Refused(placing::refusal(7));
     }

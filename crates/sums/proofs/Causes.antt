@@ -22,7 +22,7 @@ use Rattle.placing.proofs.Causes.{sound}
 use Rattle.shapes.specs.Shapes.{Room}
 use Rattle.shapes.proofs.Jobs.{sheet}
 use Rattle.sums.specs.Answers.{checkAnswer, sharingAnswer, sharedAnswer, lengthCauses, placeCauses}
-use Rattle.sums.specs.Drawn.{Laid}
+use Rattle.pair_table.specs.Drawn.{Laid}
 
 -- ── weights ──
 
@@ -80,10 +80,6 @@ layout-laid l es h = let s = sound l es h in laid-by l es (s .well) (s .whole) (
 pub few-pieces : (l : Lent) → lentWell l ≡ true → l .count ≤ pieceBound
 few-pieces l w = sheet l w .pieces
 
--- so has a layout of it
-pub few-placed : (l : Lent) (es : List (List ℕ)) → Laid l es → length es ≤ pieceBound
-few-placed l es h = let few = few-pieces l (h .well) in let whole = h .whole in omega arith
-
 -- a job that passes its check, a layout buffer of its length and one weight a pair
 pub record Ready (l : Lent) (es : List (List ℕ)) (ws : List ℕ) : Type 0 where
   pub well : lentWell l ≡ true
@@ -107,13 +103,13 @@ sum-ready l es ws h =
 
 -- ── stores ──
 
--- fresh stores hold the strips of every job
+-- a store of 262,144 strips with 257 starts holds the strips of every job
+pub room-of : (store : List (List ℕ)) → length store ≡ 262144 → Room store (replicate 257 0)
+room-of store e = record { wide = omega (arith, e); long = omega (arith, length-replicate {A = ℕ} 257 0) }
+
+-- so does a fresh one
 pub room : Room (replicate 262144 (0 ∷ 0 ∷ 0 ∷ [])) (replicate 257 0)
-room =
-    record {
-      wide = omega (arith, length-replicate {A = List ℕ} 262144 (0 ∷ 0 ∷ 0 ∷ []));
-      long = omega (arith, length-replicate {A = ℕ} 257 0);
-    }
+room = room-of (replicate 262144 (0 ∷ 0 ∷ 0 ∷ [])) (length-replicate {A = List ℕ} 262144 (0 ∷ 0 ∷ 0 ∷ []))
 
 -- ── the check ──
 

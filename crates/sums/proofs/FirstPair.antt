@@ -11,7 +11,7 @@ use Rattle.model.specs.Layout.{Pair, pairsWith, pairsFrom, pairShares, firstPai
 use Rattle.model.specs.Lent.{Lent, jobOf}
 use Rattle.model.specs.Buffer.{layoutOf}
 use Rattle.search_laws.proofs.Pairs.{pairOf}
-use Rattle.sums.specs.Drawn.{Laid}
+use Rattle.pair_table.specs.Drawn.{Laid}
 use Rattle.sums.specs.Sharing.{rowBefore, RowFirst}
 
 module _ (test : Pair → Bool) (n i : ℕ) (rest : List Pair) where

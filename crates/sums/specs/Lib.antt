@@ -1,5 +1,3 @@
 -- What the contracts of this crate cite beside the model's definitions.
-pub mod Drawn
-pub mod Table
 pub mod Sharing
 pub mod Answers

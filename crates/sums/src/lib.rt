@@ -1,20 +1,18 @@
 // Sums over the pairs of a layout, and its check. Document 01, 'No-fit rows and penalty' (weights and sums) and 'When a call says
-// no'. The modules below hold what a descent keeps and renews; the calls here refuse by number and measure a whole layout.
-pub mod pair;
-pub mod sharing;
-pub mod table;
+// no'. The calls here refuse by number and measure a whole layout.
+mod sharing;
 
 use model::Direction;
 use model::JobSize;
 use model::Refusal;
+use pair_sums::pair_count;
+use pair_sums::plain_total;
+use pair_sums::total;
+use pair_table::fill_table;
 use placing::CauseAnswer;
 use placing::refusal;
 use sharing::SharingPair;
 use sharing::sharing_pair;
-use table::fill_table;
-use table::pair_count;
-use table::plain_total;
-use table::total;
 ghost use mathlib.Core.Path.{_≡_};
 ghost use mathlib.Core.List.{List, _++_};
 ghost use Prim.Native.Nat.{ℕ, _≤_};
@@ -24,7 +22,7 @@ ghost use Rattle.model.specs.Buffer.{layoutOf};
 ghost use Rattle.model.specs.Calls.{someWeightWrong, weightedSumCall, plainSumCall, checkCall};
 ghost use Rattle.search_laws.proofs.Table.{PenaltyTable};
 ghost use Rattle.placing.specs.Answers.{firstCause};
-ghost use Rattle.sums.specs.Drawn.{Laid};
+ghost use Rattle.pair_table.specs.Drawn.{Laid};
 ghost use Rattle.sums.specs.Answers.{sumAnswer, checkAnswer, sharedAnswer, lengthCauses, placeCauses};
 
 // A sum, or why it is refused.
@@ -116,9 +114,9 @@ fn penalties_of(size: JobSize, table: &[[u8; 3]], pixels: &[u8], layout: &[[u16;
     requires { ⌜ Laid (lentBy size (now table) (now pixels)) (now layout) ⌝ }
     ensures { λ r. ⌜ PenaltyTable (jobOf (lentBy size (now (table .entry)) (now (pixels .entry)))) (layoutOf (now (layout .entry))) (size .count) r ⌝ }
 {
-    let mut rows = [[0u8; 3]; 262144];
+    let mut rows = shapes::empty_store();
     let mut row_starts = [0u32; 257];
-    let mut columns = [[0u8; 3]; 262144];
+    let mut columns = shapes::empty_store();
     let mut column_starts = [0u32; 257];
     let mut penalties = [0u8; 4096];
     shapes::make_shapes(

@@ -1,7 +1,7 @@
 // The first pair of a layout that shares a pixel: lowest first number, then lowest second.
-use super::pair::pair_shares;
 use model::Direction;
 use model::JobSize;
+use pair_table::pair::pair_shares;
 ghost use mathlib.Core.Path.{_≡_};
 ghost use mathlib.Core.List.{List};
 ghost use Prim.Native.Nat.{ℕ, _<_};
@@ -10,7 +10,7 @@ ghost use Rattle.model.specs.Layout.{pairShares, sharingPair};
 ghost use Rattle.model.specs.Lent.{lentBy, jobOf};
 ghost use Rattle.model.specs.Buffer.{layoutOf};
 ghost use Rattle.model.specs.declared.JobSize.{JobSize};
-ghost use Rattle.sums.specs.Drawn.{Laid, RowsDrawn, SomeRowsDrawn};
+ghost use Rattle.pair_table.specs.Drawn.{Laid, RowsDrawn, SomeRowsDrawn};
 ghost use Rattle.sums.specs.Answers.{sharingAnswer};
 ghost use Rattle.sums.specs.Sharing.{RowFirst};
 
@@ -72,7 +72,7 @@ pub fn sharing_pair(
     requires { ⌜ Laid (lentBy size (now table) (now pixels)) (now layout) ⌝ }
     ensures { λ r. ⌜ r ≡ sharingAnswer (sharingPair (jobOf (lentBy size (now (table .entry)) (now (pixels .entry)))) (layoutOf (now (layout .entry)))) ⌝ }
 {
-    let mut rows = [[0u8; 3]; 262144];
+    let mut rows = shapes::empty_store();
     let mut row_starts = [0u32; 257];
     shapes::make_shapes(
         size,

@@ -8,8 +8,10 @@ use Rattle.model.specs.Lent.{Lent, lentBy}
 use Rattle.model.specs.Calls.{budgetBound, descentAfter}
 use Rattle.text_laws.proofs.Outcomes.{NoCause}
 use Rattle.placing.proofs.Causes.{passed-none}
-use Rattle.descent.specs.Answers.{descentAnswer, runCauses}
-use Rattle.descent.proofs.Calls.{call-refused, run-given, call-given, call-claims}
+use Rattle.descent.specs.Answers.{descentAnswer}
+use Rattle.runs.specs.Answers.{runCauses}
+use Rattle.runs.proofs.Causes.{run-given}
+use Rattle.descent.proofs.Calls.{call-refused, few-trials, call-given, call-claims}
 use borrow.Author.Needs.{needs}
 use Rattle.descent.proofs.descent.Statement.{statement}
 use Rattle.descent.proofs.descent.Tie as tie
@@ -35,10 +37,10 @@ none c = passed-none _ (sym (c .enum-told .given .1) ∙ c .before .before .run-
 write-entries-requires : tie.Need-write-entries-requires
 write-entries-requires c κs = search needs
 
-with-strips-requires : tie.Need-with-strips-requires
-with-strips-requires c κs =
+run-alone-requires : tie.Need-run-alone-requires
+run-alone-requires c κs =
     let e = c .before .before .before .before .before .before .before .before .before .before in
-    run-given (lent e) (e .args .layout .now) (e .args .weights .now) (e .args .budget) (none (c .before .before .before .before)) _ (c .before .before .write-entries .ensures)
+    run-given (lent e) (e .args .layout .now) (e .args .weights .now) (ltb budgetBound (e .args .budget)) (e .args .budget) (none (c .before .before .before .before)) (few-trials (lent e) (e .args .layout .now) (e .args .weights .now) (e .args .budget) (none (c .before .before .before .before))) _ (c .before .before .write-entries .ensures)
 
 same-length : tie.Need-same-length
 same-length c = search needs
@@ -55,12 +57,12 @@ same-length-2 c = search needs
 returns-2 : tie.Need-returns-2
 returns-2 c =
     let e = c .before .before .before .before .before .before .before .before .before .before .before .before in
-    let r = c .before .with-strips in
+    let r = c .before .run-alone in
     let new = r .last .1 .1 .1 .1 .1 .0 in
     let again = c .before .before .before .before .write-entries .ensures in
-    let is = call-given (lent e) (e .args .layout .now) (e .args .weights .now) (e .args .budget) (none (c .before .before .before .before .before .before)) _ again (r .result) new (r .ensures .0) in
-    let claims = call-claims (lent e) (e .args .layout .now) (e .args .weights .now) (e .args .budget) (none (c .before .before .before .before .before .before)) _ again (r .result) new (r .ensures .0) in
-    (sym (ap descentAnswer is), (sym (ap (descentAfter (e .args .layout .now)) is ∙ r .ensures .1), claims))
+    let is = call-given (lent e) (e .args .layout .now) (e .args .weights .now) (e .args .budget) (none (c .before .before .before .before .before .before)) _ again (r .result) new (r .ensures) in
+    let claims = call-claims (lent e) (e .args .layout .now) (e .args .weights .now) (e .args .budget) (none (c .before .before .before .before .before .before)) _ again (r .result) new (r .ensures) in
+    (sym (ap descentAnswer is), (sym (ap (descentAfter (e .args .layout .now)) is ∙ r .ensures .written), claims))
 
 pub descent-spec : {M : Type 1} → statement M
 descent-spec =
@@ -70,7 +72,7 @@ descent-spec =
     enum-known-refusal
     enum-told
     write-entries-requires
-    with-strips-requires
+    run-alone-requires
     same-length
     returns
     same-length-2

@@ -8,9 +8,10 @@ use Rattle.model.specs.Calls.{bestAfterRun, weightsAfterRun}
 use Rattle.text_laws.proofs.Outcomes.{NoCause}
 use Rattle.placing.specs.Answers.{firstCause}
 use Rattle.placing.proofs.Causes.{passed-none}
-use Rattle.descent.specs.Answers.{runCauses}
+use Rattle.runs.specs.Answers.{runCauses}
 use Rattle.guided.specs.Answers.{guidedAnswer, numbersWrong}
-use Rattle.guided.proofs.Calls.{call-refused, few-rounds, run-given, call-given, call-claims}
+use Rattle.runs.proofs.Causes.{run-given}
+use Rattle.guided.proofs.Calls.{call-refused, few-rounds, few-trials, call-given, call-claims}
 use borrow.Author.Needs.{needs}
 use Rattle.guided.proofs.guided_run.Statement.{statement}
 use Rattle.guided.proofs.guided_run.Tie as tie
@@ -30,13 +31,13 @@ enum-told c = search needs
 write-entries-requires : tie.Need-write-entries-requires
 write-entries-requires c κs = search needs
 
-with-strips-requires : tie.Need-with-strips-requires
-with-strips-requires c κs =
+run-rounds-requires : tie.Need-run-rounds-requires
+run-rounds-requires c κs =
     let a = c .before .before .before .before .before .before .before .before .before .before .before .before .before .args in
     let l : Lent = lentBy (a .size) (a .table .now) (a .pixels .now) in
     let none : NoCause (runCauses l (a .layout .now) (a .weights .now) (numbersWrong (a .rounds) (a .budget))) =
     passed-none _ (sym (c .before .before .before .before .before .enum-told .given .1) ∙ c .before .before .before .before .before .before .before .run-causes .ensures ∙ ap (λ b. firstCause (runCauses l (a .layout .now) (a .weights .now) b)) (c .before .before .before .before .before .before .before .before .numbers-wrong .ensures)) in (
-      run-given l (a .layout .now) (a .weights .now) (a .rounds) (a .budget) none (c .before .before .before .write-entries .last .0) (c .before .before .before .write-entries .ensures),
+      run-given l (a .layout .now) (a .weights .now) (numbersWrong (a .rounds) (a .budget)) (a .budget) none (few-trials l (a .layout .now) (a .weights .now) (a .rounds) (a .budget) none) (c .before .before .before .write-entries .last .0) (c .before .before .before .write-entries .ensures),
       few-rounds l (a .layout .now) (a .weights .now) (a .rounds) (a .budget) none,
     )
 
@@ -73,7 +74,7 @@ returns-2 c =
     let none : NoCause (runCauses l (a .layout .now) (a .weights .now) (numbersWrong (a .rounds) (a .budget))) =
     passed-none _ (sym (c .before .before .before .before .before .before .before .before .before .enum-told .given .1) ∙ c .before .before .before .before .before .before .before .before .before .before .before .run-causes .ensures ∙ ap (λ b. firstCause (runCauses l (a .layout .now) (a .weights .now) b)) (c .before .before .before .before .before .before .before .before .before .before .before .before .numbers-wrong .ensures)) in
     let written = c .before .before .before .before .before .before .before .write-entries in
-    let ran = c .before .before .before .with-strips in
+    let ran = c .before .before .before .run-rounds in
     let is = call-given l (a .layout .now) (a .weights .now) (a .rounds) (a .budget) none (written .last .0) (written .ensures) (ran .result) (ran .last .1 .1 .1 .1 .1 .0) (ran .last .1 .1 .1 .1 .1 .1 .0) (ran .ensures) in (
       sym (ap guidedAnswer is),
       (
@@ -94,7 +95,7 @@ guided-run-spec =
     enum-known-refusal
     enum-told
     write-entries-requires
-    with-strips-requires
+    run-rounds-requires
     same-length
     same-length-2
     returns

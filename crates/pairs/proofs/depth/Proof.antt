@@ -13,9 +13,9 @@ use Rattle.model.specs.Buffer.{layoutOf}
 use Rattle.model.specs.Calls.{pairCauses, depthCall}
 use Rattle.text_laws.proofs.Outcomes.{NoCause, unless-given}
 use Rattle.placing.proofs.Causes.{passed-none, refused-alone}
-use Rattle.pairs.specs.Ready.{Ready}
+use Rattle.placed_pair.specs.Ready.{Ready}
 use Rattle.pairs.proofs.Readies.{Measurable, measurable}
-use Rattle.pairs.proofs.Amounts.{ready-whole, placed-at}
+use Rattle.placed_pair.proofs.Amounts.{ready-whole, placed-at}
 use Rattle.pairs.proofs.depth.Statement.{statement}
 use Rattle.pairs.proofs.depth.Tie as tie
 

@@ -5,8 +5,8 @@ use Prim.Native.Nat.{ℕ}
 use borrow.Author.Needs.{needs}
 use Rattle.model.specs.Lent.{Lent, lentBy, jobOf}
 use Rattle.model.specs.Program.{programRun}
-use Rattle.placing.proofs.Stacks.{fitting}
-use Rattle.layout_text.specs.Written.{Written}
+use Rattle.placing.proofs.Fitting.{fitting}
+use Rattle.layout_writer.specs.Written.{Written}
 use Rattle.program.specs.Output.{outputBound}
 use Rattle.program.proofs.Taken.{best-passes}
 use Rattle.program.proofs.Running.{front-length, run-text}

@@ -7,7 +7,7 @@ use Rattle.model.specs.Start.{start}
 use Rattle.model.specs.Lent.{Lent, lentBy, jobOf}
 use Rattle.model.specs.Program.{programRun}
 use Rattle.model.specs.Calls.{layoutAfter}
-use Rattle.placing.proofs.Stacks.{fitting}
+use Rattle.placing.proofs.Fitting.{fitting}
 use Rattle.program.proofs.Taken.{start-taken}
 use Rattle.program.proofs.Running.{front-length, pairs-few, ones, run-given, run-gives, run-not-refused}
 use Rattle.program.proofs.run_job.Statement.{statement}

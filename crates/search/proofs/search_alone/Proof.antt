@@ -1,10 +1,12 @@
 -- `search::search_alone` meets its contract: the largest bound is above every sum. Assumes nothing.
 use mathlib.Core.Path.{ap, _∙_}
+use Prim.Native.Nat.{ℕ}
 use native.Mathlib.Omega.{arith}
+use lib.ListN.{length-replicate}
 use Rattle.model.specs.Piece.{lineDirection}
 use Rattle.model.specs.Lent.{lentBy}
 use Rattle.sums.proofs.Causes.{room}
-use Rattle.search.specs.Answers.{foundAnswer}
+use Rattle.line_sums.specs.Answers.{foundAnswer}
 use Rattle.search.proofs.Answering.{store-wide, store-fresh, store-length, search-whole}
 use borrow.Author.Needs.{needs}
 use Rattle.search.proofs.search_alone.Statement.{statement}
@@ -34,30 +36,33 @@ slice-aggregate-search-below-3 c = search needs
 slice-aggregate-search-below-4 : tie.Need-slice-aggregate-search-below-4
 slice-aggregate-search-below-4 c = search needs
 
+slice-aggregate-search-below-5 : tie.Need-slice-aggregate-search-below-5
+slice-aggregate-search-below-5 c = search needs
+
 search-below-requires : tie.Need-search-below-requires
 search-below-requires c κs =
-    let e = c .before .before .before .before .before .before .before .before .before .before .before .before in
+    let e = c .before .before .before .before .before .before .before .before .before .before .before .before .before in
     let a = e .args in
     let l = lentBy (a .size) (a .table .now) (a .pixels .now) in
-    let d = c .before .before .before .before .before .before .before .before .before .direction-of in (
+    let d = c .before .before .before .before .before .before .before .before .before .before .direction-of in (
       record {
         laid = e .pre .0;
-        shapes = rw (d .ensures) at (c .before .before .before .before .before .before .make-shapes .ensures);
+        shapes = rw (d .ensures) at (c .before .before .before .before .before .before .before .make-shapes .ensures);
         weighed = e .pre .1 .0;
         wide = store-wide l (e .pre .0 .well);
         narrow = omega arith;
         kept = store-fresh (lineDirection (a .mover .line)) l;
         fits = store-length;
       },
-      e .pre .1 .1,
+      (e .pre .1 .1, let n = length-replicate {A = ℕ} 4096 0 in omega arith),
     )
 
 returns : tie.Need-returns
 returns c =
-    let e = c .before .before .before .before .before .before .before .before .before .before .before .before .before .before .before in
+    let e = c .before .before .before .before .before .before .before .before .before .before .before .before .before .before .before .before .before in
     let a = e .args in
     let l = lentBy (a .size) (a .table .now) (a .pixels .now) in
-    c .before .before .search-below .ensures .0
+    c .before .before .before .search-below .ensures .0
     ∙ ap foundAnswer (search-whole l (a .weights .now) (a .layout .now) (a .mover .piece) (a .mover .turn) (a .mover .line) (e .pre .0) (e .pre .1 .0) (e .pre .1 .1))
 
 pub search-alone-spec : {M : Type 1} → statement M
@@ -72,5 +77,6 @@ search-alone-spec =
     slice-aggregate-search-below-2
     slice-aggregate-search-below-3
     slice-aggregate-search-below-4
+    slice-aggregate-search-below-5
     search-below-requires
     returns)

@@ -5,10 +5,11 @@ use mathlib.Core.Path.{_≡_, sym, ap, ap₂, _∙_}
 use borrow.Author.Tests.{not-true, not-false}
 use Rattle.model.specs.Lent.{Lent, lentBy, lentWell, jobOf}
 use Rattle.model.specs.Calls.{Stores, turnListWrong, storesAfter}
-use Rattle.stores.specs.Stores.{storesBy, stripsAnswer, Ready}
+use Rattle.strip_store.specs.Made.{Ready}
+use Rattle.stores.specs.Stores.{storesBy, stripsAnswer}
 use Rattle.stores.specs.Rooms.{roomForBoth, hasRoom}
 use Rattle.stores.specs.declared.StripsAnswer.the-variants.{Refused}
-use Rattle.stores.proofs.Filling.{count-small, made-ready}
+use Rattle.strip_store.proofs.Filling.{count-small, made-ready}
 use Rattle.stores.proofs.Outcomes.{strips-job, strips-turns, strips-short, strips-given}
 use borrow.Author.Needs.{needs}
 use Rattle.stores.proofs.strips.Statement.{statement}

@@ -2,7 +2,7 @@
 use native.Mathlib.Omega.{arith}
 use borrow.Author.Tests.{lt-leb, le-leb}
 use Rattle.fields.proofs.Tests.{said-no, said-yes}
-use Rattle.job.proofs.Boxes.{few-pieces}
+use Rattle.limits.proofs.Ranges.{few-pieces}
 use borrow.Author.Needs.{needs}
 use Rattle.job.proofs.lent.table_well.Statement.{statement}
 use Rattle.job.proofs.lent.table_well.Tie as tie

@@ -1,4 +1,4 @@
--- `job::reader::fill_box`: the rows, then the box, whose pixels are those of the store. Assumes nothing.
+-- `job_text::reader::fill_box`: the rows, then the box, whose pixels are those of the store. Assumes nothing.
 use mathlib.Core.Bool.{true, false}
 use mathlib.Core.Path.{_≡_, sym, _∙_, ap, subst}
 use Prim.Native.Nat.{suc, _+_, _≤_}
@@ -9,12 +9,12 @@ use Rattle.model.specs.Refusal.{given}
 use Rattle.model.specs.Piece.{tight}
 use Rattle.model.specs.JobText.{rowsAt, boxShape}
 use Rattle.fields.proofs.Tests.{said-no, said-yes}
-use Rattle.job_text.specs.Lines.{pieceLineOf}
-use Rattle.job_text.specs.Stores.{rowsAnswer, RowsStored}
+use Rattle.job_lines.specs.Lines.{pieceLineOf}
+use Rattle.row_lines.specs.Stores.{rowsAnswer, RowsStored}
 use Rattle.job_text.specs.Reading.{placeAnswer}
-use Rattle.job_text.specs.declared.rows.RowsAnswer.the-variants as rows
+use Rattle.row_lines.specs.declared.RowsAnswer.the-variants as rows
 use Rattle.job_text.specs.declared.reader.PieceAnswer.the-variants as piece
-use Rattle.job_text.proofs.Marks.{rows-facts}
+use Rattle.row_lines.proofs.Marks.{rows-facts}
 use Rattle.job_text.proofs.Filling.{rows-told, rows-denied, box-same, box-denied, box-loose, box-given}
 use borrow.Author.Needs.{needs}
 use Rattle.job_text.proofs.reader.fill_box.Statement.{statement}

@@ -1,13 +1,14 @@
--- `job::reader::fill_piece`: the line, then entry and rows. Assumes nothing.
+-- `job_text::reader::fill_piece`: the line, then entry and rows. Assumes nothing.
 use mathlib.Core.Path.{_≡_, refl, sym, _∙_, ap, subst}
 use Prim.Native.Nat.{_≤_}
 use native.Mathlib.Omega.{arith}
 use lib.ListN.{length}
 use Rattle.model.specs.JobText.{pieceLine}
-use Rattle.job_text.specs.Lines.{jobLineOf, pieceLineOf, Ranged}
+use Rattle.job_lines.specs.Lines.{jobLineOf, pieceLineOf, Ranged}
 use Rattle.job_text.specs.Reading.{boxAt, placeAnswer, PieceStored}
-use Rattle.job_text.specs.declared.lines.PieceLineAnswer.the-variants as piece
-use Rattle.job.proofs.Boxes.{sides-of, few-turns}
+use Rattle.job_lines.specs.declared.PieceLineAnswer.the-variants as piece
+use Rattle.job.proofs.Boxes.{sides-of}
+use Rattle.limits.proofs.Ranges.{few-turns}
 use Rattle.job_text.proofs.Filling.{line-denied, line-told, piece-denied, piece-boxed, box-entered}
 use borrow.Author.Needs.{needs}
 use Rattle.job_text.proofs.reader.fill_piece.Statement.{statement}

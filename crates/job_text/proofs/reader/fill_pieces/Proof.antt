@@ -1,4 +1,4 @@
--- `job::reader::fill_pieces`: storing the pieces that are left, behind those that are stored, is what is left of storing all. Assumes nothing.
+-- `job_text::reader::fill_pieces`: storing the pieces that are left, behind those that are stored, is what is left of storing all. Assumes nothing.
 use mathlib.Core.Path.{_≡_, refl, sym, _∙_, ap, subst}
 use Prim.Native.Nat.{suc, _+_, _-_, _*_, _≤_}
 use native.Mathlib.Nat.{sub-zero}
@@ -7,7 +7,7 @@ use native.Mathlib.Omega.{arith}
 use lib.ListN.{length}
 use Rattle.model.specs.Refusal.{refused, given, wrongForm}
 use Rattle.model.specs.JobText.{pieceAt, piecesAt}
-use Rattle.job_text.specs.Lines.{refusalAt, jobLineOf}
+use Rattle.job_lines.specs.Lines.{refusalAt, jobLineOf}
 use Rattle.job_text.specs.Reading.{Within}
 use Rattle.job_text.specs.declared.reader.PieceAnswer.the-variants as place
 use Rattle.job_text.specs.declared.reader.PiecesAnswer.the-variants as pieces

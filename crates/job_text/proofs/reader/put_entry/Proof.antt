@@ -1,4 +1,4 @@
--- `job::reader::put_entry`: a store past the end changes nothing. Assumes nothing.
+-- `job_text::reader::put_entry`: a store past the end changes nothing. Assumes nothing.
 use mathlib.Core.Path.{sym}
 use lib.Seq.{set-out}
 use borrow.Author.Needs.{needs}

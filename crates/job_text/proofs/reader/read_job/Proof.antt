@@ -1,11 +1,11 @@
--- `job::reader::read_job`: the job line, then the pieces. Assumes nothing.
+-- `job_text::reader::read_job`: the job line, then the pieces. Assumes nothing.
 use mathlib.Core.Path.{_≡_, refl, sym, _∙_, subst}
 use Prim.Native.Nat.{_≤_}
 use lib.ListN.{length}
 use Rattle.model.specs.JobText.{jobLine, readJob}
-use Rattle.job_text.specs.Lines.{jobLineOf}
+use Rattle.job_lines.specs.Lines.{jobLineOf}
 use Rattle.job_text.specs.Reading.{Leaves}
-use Rattle.job_text.specs.declared.lines.JobLineAnswer.the-variants as job
+use Rattle.job_lines.specs.declared.JobLineAnswer.the-variants as job
 use Rattle.job_text.proofs.Filling.{head-denied, head-told, job-denied, job-roomed, leaves-refused}
 use borrow.Author.Needs.{needs}
 use Rattle.job_text.proofs.reader.read_job.Statement.{statement}

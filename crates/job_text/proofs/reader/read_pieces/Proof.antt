@@ -1,4 +1,4 @@
--- `job::reader::read_pieces`: a run over empty buffers writes nothing; with room for both, the second run fills them. Assumes nothing.
+-- `job_text::reader::read_pieces`: a run over empty buffers writes nothing; with room for both, the second run fills them. Assumes nothing.
 use mathlib.Core.Bool.{true, false, _||_}
 use mathlib.Core.List.{List, _++_}
 use mathlib.Core.Path.{_≡_, refl, sym, _∙_, ap, subst}
@@ -9,7 +9,7 @@ use lib.Seq.{sets}
 use borrow.Author.Tests.{lt-ltb, le-ltb}
 use Rattle.model.specs.Refusal.{given}
 use Rattle.model.specs.JobText.{piecesAt, asLent}
-use Rattle.job_text.specs.Lines.{jobLineOf}
+use Rattle.job_lines.specs.Lines.{jobLineOf}
 use Rattle.job_text.specs.Reading.{PiecesStored, Filled, roomed, Leaves}
 use Rattle.job_text.specs.declared.JobAnswer.the-variants as answer
 use Rattle.job_text.specs.declared.reader.PiecesAnswer.the-variants as pieces

@@ -2,7 +2,7 @@
 use borrow.Author.Needs.{needs}
 use Rattle.model.specs.Text.{lineEnd}
 use Rattle.model.specs.Program.{wordLine}
-use Rattle.layout_text.proofs.Sequel.{byte-written, written-then}
+use Rattle.layout_writer.proofs.Sequel.{byte-written, written-then}
 use Rattle.program.proofs.end_lines.put_end_line.Statement.{statement}
 use Rattle.program.proofs.end_lines.put_end_line.Tie as tie
 

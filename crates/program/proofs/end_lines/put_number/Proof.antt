@@ -1,7 +1,7 @@
 -- `program::end_lines::put_number` meets its contract: a comma and the digits behind it. Assumes nothing.
 use borrow.Author.Needs.{needs}
 use Rattle.model.specs.Text.{comma}
-use Rattle.layout_text.proofs.Sequel.{byte-written, written-then}
+use Rattle.layout_writer.proofs.Sequel.{byte-written, written-then}
 use Rattle.program.proofs.Words.{decimal-written}
 use Rattle.program.proofs.end_lines.put_number.Statement.{statement}
 use Rattle.program.proofs.end_lines.put_number.Tie as tie

@@ -5,7 +5,7 @@ use Rattle.model.specs.Layout.{Layout}
 use Rattle.model.specs.Refusal.{Outcome}
 use Rattle.model.specs.Calls.{readLayoutCall}
 use Rattle.interface.specs.Numbers.{lentAs}
-use Rattle.layout_text.specs.Answers.{layoutAnswer}
+use Rattle.layout_reader.specs.Answers.{layoutAnswer}
 use Rattle.sigbrol.proofs.Told.{reply-by, layout-told}
 use Rattle.sigbrol.proofs.texts.sigbrol_read_layout.Statement.{statement}
 use Rattle.sigbrol.proofs.texts.sigbrol_read_layout.Tie as tie

@@ -6,7 +6,7 @@ use lib.ListN.{length}
 use Rattle.model.specs.Refusal.{Outcome}
 use Rattle.model.specs.Calls.{writeLayoutCall}
 use Rattle.interface.specs.Numbers.{lentAs}
-use Rattle.layout_text.specs.Answers.{textAnswer}
+use Rattle.layout_writer.specs.Answers.{textAnswer}
 use Rattle.sigbrol.proofs.Told.{reply-by, leaves-by, text-told}
 use Rattle.sigbrol.proofs.texts.sigbrol_write_layout.Statement.{statement}
 use Rattle.sigbrol.proofs.texts.sigbrol_write_layout.Tie as tie

@@ -4,7 +4,7 @@ use mathlib.Core.Path.{sym, ap, ap₂, _∙_}
 use borrow.Author.Tests.{not-true, not-false}
 use Rattle.model.specs.Lent.{lentBy, jobOf}
 use Rattle.model.specs.declared.Direction.the-variants.{Vertical}
-use Rattle.stores.specs.Rooms.{roomFor}
+use Rattle.strip_store.specs.Rooms.{roomFor}
 use borrow.Author.Needs.{needs}
 use Rattle.stores.proofs.fill.both_have_room.Statement.{statement}
 use Rattle.stores.proofs.fill.both_have_room.Tie as tie

@@ -5,7 +5,7 @@ use borrow.Author.Tests.{not-true, not-false}
 use Rattle.model.specs.Lent.{Lent, lentBy, lentWell, jobOf}
 use Rattle.model.specs.Calls.{Stores, turnListWrong, stretchNumber}
 use Rattle.stores.specs.Stores.{storesBy}
-use Rattle.stores.proofs.Filling.{count-small, made-ready}
+use Rattle.strip_store.proofs.Filling.{count-small, made-ready}
 use Rattle.stores.proofs.Outcomes.{stretch-job, stretch-turns, stretch-piece, stretch-store, stretch-given}
 use borrow.Author.Needs.{needs}
 use Rattle.stores.proofs.stretch.stretch_refusal.Statement.{statement}

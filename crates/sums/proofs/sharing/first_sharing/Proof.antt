@@ -10,8 +10,8 @@ use Rattle.model.specs.Lent.{lentBy, jobOf}
 use Rattle.model.specs.Buffer.{layoutOf}
 use Rattle.model.specs.declared.JobSize.{JobSize}
 use Rattle.sums.specs.Answers.{sharingAnswer}
-use Rattle.sums.specs.Drawn.{RowsDrawn}
-use Rattle.sums.proofs.Causes.{few-placed}
+use Rattle.pair_table.specs.Drawn.{RowsDrawn}
+use Rattle.pair_table.proofs.Placed.{few-placed}
 use Rattle.sums.proofs.FirstPair.{rows-begin, rows-left, rows-done}
 use Rattle.sums.proofs.sharing.first_sharing.Statement.{statement}
 use Rattle.sums.proofs.sharing.first_sharing.Tie as tie

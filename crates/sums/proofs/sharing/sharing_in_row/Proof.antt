@@ -9,7 +9,7 @@ use Rattle.model.specs.Layout.{pairShares}
 use Rattle.model.specs.Lent.{lentBy, jobOf}
 use Rattle.model.specs.Buffer.{layoutOf}
 use Rattle.model.specs.declared.JobSize.{JobSize}
-use Rattle.sums.specs.Drawn.{RowsDrawn}
+use Rattle.pair_table.specs.Drawn.{RowsDrawn}
 use Rattle.sums.proofs.FirstPair.{LeftInRow, row-begin, row-first, row-next, row-none}
 use Rattle.sums.proofs.sharing.sharing_in_row.Statement.{statement}
 use Rattle.sums.proofs.sharing.sharing_in_row.Tie as tie

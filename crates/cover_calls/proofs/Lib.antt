@@ -1,0 +1,2 @@
+-- The laws behind a list of calls.
+pub mod CallLists

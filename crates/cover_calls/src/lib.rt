@@ -1,0 +1,90 @@
+// Lists of calls from a fresh sheet, each through the public calls: what demand 2 says of every such list holds of what this code leaves.
+use cover::Reply;
+use cover::SheetAnswer;
+use model::Column;
+use model::JobSize;
+use model::Placement;
+use model::Record;
+use model::Row;
+ghost use mathlib.Core.Path.{_≡_};
+ghost use lib.ListN.{length};
+ghost use Rattle.model.specs.Lent.{lentBy, jobOf};
+ghost use Rattle.model.specs.Cover.{afterwards, called, afterCalls};
+ghost use Rattle.cover_laws.proofs.Demand2Cover.{CoverHolds};
+ghost use Rattle.cover.specs.Answers.{sheetOf, blankRecord, sheetAnswer, countsAfter};
+ghost use Rattle.cover.specs.Ready.{SheetReady};
+ghost use Rattle.cover_calls.specs.CallList.{callOf, callsOf, runOutcome};
+ghost use Rattle.cover.specs.declared.Reply.the-variants.{Given};
+
+// One call of a list (specs/CallList.antt says how five numbers are a call): the record after it.
+fn run_call(
+    size: JobSize,
+    table: &[[u8; 3]],
+    pixels: &[u8],
+    sheet: Record,
+    counts: &mut [u8],
+    call: [u16; 5],
+) -> Record
+    requires { ⌜ SheetReady (lentBy size (now table) (now pixels)) (sheetOf sheet (now counts)) ⌝ }
+    ensures { λ r. ⌜ sheetOf r (now (counts .exit)) ≡ afterwards (sheetOf sheet (now (counts .entry))) (called (jobOf (lentBy size (now (table .entry)) (now (pixels .entry)))) (sheetOf sheet (now (counts .entry))) (callOf call)) ⌝ }
+{
+    let piece = call[1] as usize;
+    if call[0] != 0 {
+        let answer = cover::withdraw(size, table, pixels, sheet, counts, piece);
+        return answer.sheet;
+    }
+    let place = Placement {
+        turn: placing::turn_or_zero(call[2]),
+        x: Column(call[3]),
+        y: Row(call[4]),
+    };
+    let answer = cover::lay(size, table, pixels, sheet, counts, piece, place);
+    answer.sheet
+}
+
+// The calls of a list, one after another, from a sheet that passes the test: the record after them.
+fn run_from(
+    size: JobSize,
+    table: &[[u8; 3]],
+    pixels: &[u8],
+    first: Record,
+    calls: &[[u16; 5]],
+    counts: &mut [u8],
+) -> Record
+    requires { ⌜ SheetReady (lentBy size (now table) (now pixels)) (sheetOf first (now counts)) ⌝ }
+    ensures { λ r. ⌜ sheetOf r (now (counts .exit)) ≡ afterCalls (jobOf (lentBy size (now (table .entry)) (now (pixels .entry)))) (sheetOf first (now (counts .entry))) (callsOf (now (calls .entry))) ⌝ }
+{
+    let mut sheet = first;
+    let mut k = 0;
+    while k < calls.len() {
+        sheet = run_call(size, table, pixels, sheet, counts, calls[k]);
+        k += 1;
+    }
+    sheet
+}
+
+// The calls of a list from a fresh sheet, which is refused as `fresh` is. In the end each pixel's count is the number of laid pieces on it.
+pub fn run_calls(
+    size: JobSize,
+    table: &[[u8; 3]],
+    pixels: &[u8],
+    calls: &[[u16; 5]],
+    counts: &mut [u8],
+) -> SheetAnswer
+    ensures { λ r. ⌜ r ≡ sheetAnswer blankRecord (runOutcome (lentBy size (now (table .entry)) (now (pixels .entry))) (length (now (counts .entry))) (now (calls .entry))) ⌝ }
+    ensures { λ _. ⌜ now (counts .exit) ≡ countsAfter (now (counts .entry)) (runOutcome (lentBy size (now (table .entry)) (now (pixels .entry))) (length (now (counts .entry))) (now (calls .entry))) ⌝ }
+    ensures { λ r. ⌜ (r .reply ≡ Given → CoverHolds (jobOf (lentBy size (now (table .entry)) (now (pixels .entry)))) (callsOf (now (calls .entry))) (sheetOf (r .sheet) (now (counts .exit)))) ⌝ }
+{
+    let start = cover::fresh(size, table, pixels, counts);
+    let reply = start.reply;
+    if let Reply::Refused(_) = reply {
+        return start;
+    }
+    let first = start.sheet;
+    let sheet = run_from(size, table, pixels, first, calls, counts);
+    let taken = Reply::Given;
+    SheetAnswer {
+        reply: taken,
+        sheet,
+    }
+}

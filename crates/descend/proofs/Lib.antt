@@ -1,0 +1,2 @@
+-- Laws of a descent under way.
+pub mod Passes

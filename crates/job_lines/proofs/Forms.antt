@@ -1,0 +1,114 @@
+-- The form of a line, field by field, and what its refusal says. Assumes nothing.
+use mathlib.Core.Bool.{Bool, true, false}
+use mathlib.Core.List.{List, [], _∷_}
+use mathlib.Core.Path.{_≡_, refl, sym, ap}
+use Prim.Native.Nat.{ℕ, _≤_}
+use native.Mathlib.Nat.{le-refl}
+use native.Mathlib.Omega.{arith}
+use Rattle.model.specs.Refusal.{Outcome, refused, given, Cause, refusalOf, unless, wrongForm}
+use Rattle.model.specs.Text.{Reading, wrong, got, fieldAt, fieldsAt, threeFields, fourFields, lineAt, formed}
+use Rattle.model.specs.JobText.{JobLine, PieceLine, jobWord, pieceWord, asJobLine, asPieceLine, jobLine, jobLineCauses, pieceLine, pieceLineCauses}
+use Rattle.job_lines.specs.Lines.{refusalAt, headOf, jobLineOf, jobAnswer, jobForm, headNext, pieceOf, pieceLineOf, pieceAnswer, pieceForm, pieceNext}
+use Rattle.model.specs.declared.Refusal.{Refusal}
+use Rattle.job_lines.specs.declared.JobHead.{JobHead}
+use Rattle.job_lines.specs.declared.JobLineAnswer.the-variants as job
+use Rattle.job_lines.specs.declared.PieceHead.{PieceHead}
+use Rattle.job_lines.specs.declared.PieceLineAnswer.the-variants as piece
+
+-- ── fields ──
+
+module _ (end : ℕ) (ends text : List ℕ) (p : ℕ) where
+  -- the first field is wrong
+  pub fields-none : fieldAt end text p ≡ wrong → fieldsAt (end ∷ ends) text p ≡ wrong
+  unfolding fieldsAt
+  fields-none e = rw (e, fieldsAt)
+
+  -- a later field is wrong
+  pub fields-not : {k q : ℕ} → fieldAt end text p ≡ got k q → fieldsAt ends text q ≡ wrong → fieldsAt (end ∷ ends) text p ≡ wrong
+  unfolding fieldsAt
+  fields-not e f = rw (e, fieldsAt, f)
+
+  -- all fields are there
+  pub fields-got : {k q r : ℕ} {ks : List ℕ} → fieldAt end text p ≡ got k q → fieldsAt ends text q ≡ got ks r
+      → fieldsAt (end ∷ ends) text p ≡ got (k ∷ ks) r
+  unfolding fieldsAt
+  fields-got e f = rw (e, fieldsAt, f)
+
+-- no field is left
+pub fields-end : (text : List ℕ) (p : ℕ) → fieldsAt [] text p ≡ got [] p
+unfolding fieldsAt
+fields-end text p = refl
+
+-- ── form, then ranges ──
+
+-- a line's answer: the answers of a refusal and of a line differ, and a line's answer tells the line
+module _ {L Answer : Type 0} (line : ℕ) (say : List ℕ → ℕ → L) (causes : L → List Cause) (answer : Outcome L → Answer)
+    (apart : (s : Refusal) (l : L) → answer (refused s) ≡ answer (given l) → ⊥)
+    (same : (k l : L) → answer (given k) ≡ answer (given l) → k ≡ l) where
+  -- a line of wrong form is refused
+  pub form-refused : (r : Reading (List ℕ)) (s : Refusal) → answer (refused s) ≡ answer (formed line r (λ ks next. given (say ks next)))
+      → answer (formed line r (λ ks next. unless (causes (say ks next)) (say ks next))) ≡ answer (refused (refusalAt wrongForm line))
+  form-refused wrong s e = refl
+  form-refused (got ks p) s e = absurd (apart s (say ks p) e)
+
+  -- a line of right form goes on to its ranges
+  pub form-given : (r : Reading (List ℕ)) (l : L) → answer (given l) ≡ answer (formed line r (λ ks next. given (say ks next)))
+      → answer (formed line r (λ ks next. unless (causes (say ks next)) (say ks next))) ≡ answer (unless (causes l) l)
+  form-given wrong l e = absurd (apart (refusalAt wrongForm line) l (sym e))
+  form-given (got ks p) l e = ap (λ (k : L). answer (unless (causes k) k)) (same (say ks p) l (sym e))
+
+-- a number that no refusal makes larger
+pub unless-at-most : {L : Type 0} (f : Outcome L → ℕ) (n : ℕ) (l : L) → ((s : Refusal) → f (refused s) ≤ n) → f (given l) ≤ n → (cs : List Cause)
+    → f (unless cs l) ≤ n
+unfolding unless
+unless-at-most f n l h k [] = k
+unless-at-most f n l h k (c ∷ cs) = go (c .there) (unless-at-most f n l h k cs)
+  where
+    go : (b : Bool) → f (unless cs l) ≤ n → f (elim b as (λ _. Outcome _) [ true ↦ refused (refusalOf c) | false ↦ unless cs l ]) ≤ n
+    go true e = h (refusalOf c)
+    go false e = e
+
+-- ── the job line ──
+
+job-apart : (s : Refusal) (l : JobLine) → jobAnswer (refused s) ≡ jobAnswer (given l) → ⊥
+job-apart s l e = let z : _≡_ {A = ℕ} 0 1 = cc in omega arith
+
+job-same : (k l : JobLine) → jobAnswer (given k) ≡ jobAnswer (given l) → k ≡ l
+job-same k l e = let h : headOf k ≡ headOf l = cc in ap jobLineOf h
+
+pub job-line-refused : (text : List ℕ) (s : Refusal) → job.Refused s ≡ jobAnswer (jobForm text) → jobAnswer (jobLine text) ≡ job.Refused (refusalAt wrongForm 1)
+unfolding jobLine
+job-line-refused text s e = form-refused 1 asJobLine jobLineCauses jobAnswer job-apart job-same (lineAt jobWord threeFields text 0) s e
+
+pub job-line-ranged : (text : List ℕ) (j : JobHead) → job.Line j ≡ jobAnswer (jobForm text)
+    → jobAnswer (jobLine text) ≡ jobAnswer (unless (jobLineCauses (jobLineOf j)) (jobLineOf j))
+unfolding jobLine
+job-line-ranged text j e =
+    form-given 1 asJobLine jobLineCauses jobAnswer job-apart job-same (lineAt jobWord threeFields text 0) (jobLineOf j) e
+
+pub job-next : (j : JobLine) → headNext (jobAnswer (unless (jobLineCauses j) j)) ≤ j .next
+job-next j = unless-at-most (λ o. headNext (jobAnswer o)) (j .next) j (λ s. omega arith) (le-refl (j .next)) (jobLineCauses j)
+
+-- ── a piece line ──
+
+piece-apart : (s : Refusal) (l : PieceLine) → pieceAnswer (refused s) ≡ pieceAnswer (given l) → ⊥
+piece-apart s l e = let z : _≡_ {A = ℕ} 0 1 = cc in omega arith
+
+piece-same : (k l : PieceLine) → pieceAnswer (given k) ≡ pieceAnswer (given l) → k ≡ l
+piece-same k l e = let h : pieceOf k ≡ pieceOf l = cc in ap pieceLineOf h
+
+module _ (text : List ℕ) (j : JobLine) (i area p line : ℕ) where
+  pub piece-line-refused : (s : Refusal) → piece.Refused s ≡ pieceAnswer (pieceForm text p line)
+      → pieceAnswer (pieceLine text j i area p line) ≡ piece.Refused (refusalAt wrongForm line)
+  unfolding pieceLine
+  piece-line-refused s e =
+      form-refused line asPieceLine (pieceLineCauses line j i area) pieceAnswer piece-apart piece-same (lineAt pieceWord fourFields text p) s e
+
+  pub piece-line-ranged : (h : PieceHead) → piece.Line h ≡ pieceAnswer (pieceForm text p line)
+      → pieceAnswer (pieceLine text j i area p line) ≡ pieceAnswer (unless (pieceLineCauses line j i area (pieceLineOf h)) (pieceLineOf h))
+  unfolding pieceLine
+  piece-line-ranged h e =
+      form-given line asPieceLine (pieceLineCauses line j i area) pieceAnswer piece-apart piece-same (lineAt pieceWord fourFields text p) (pieceLineOf h) e
+
+pub piece-next : (cs : List Cause) (h : PieceLine) → pieceNext (pieceAnswer (unless cs h)) ≤ h .next
+piece-next cs h = unless-at-most (λ o. pieceNext (pieceAnswer o)) (h .next) h (λ s. omega arith) (le-refl (h .next)) cs

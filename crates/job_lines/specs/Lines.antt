@@ -1,0 +1,74 @@
+-- From the lines of a job text as document 01's definitions read them to the answers of this crate's calls. Assumes nothing.
+use mathlib.Core.Bool.{true}
+use mathlib.Core.List.{List}
+use mathlib.Core.Path.{_≡_}
+use Prim.Native.Nat.{ℕ, _+_, _*_, _≤_}
+use Rattle.model.specs.Refusal.{Outcome, refused, given}
+use Rattle.model.specs.Text.{threeFields, fourFields, lineAt, formed}
+use Rattle.model.specs.JobText.{JobLine, PieceLine, jobWord, pieceWord, asJobLine, asPieceLine}
+use Rattle.model.specs.declared.Refusal.{Refusal}
+use Rattle.text_laws.proofs.JobRead.{sidesInRange}
+use Rattle.job_lines.specs.declared.JobHead.{JobHead}
+use Rattle.job_lines.specs.declared.PieceHead.{PieceHead}
+use Rattle.job_lines.specs.declared.JobLineAnswer.{JobLineAnswer}
+use Rattle.job_lines.specs.declared.JobLineAnswer.the-variants as job
+use Rattle.job_lines.specs.declared.PieceLineAnswer.{PieceLineAnswer}
+use Rattle.job_lines.specs.declared.PieceLineAnswer.the-variants as piece
+
+-- a refusal that names a line
+abbrev pub refusalAt : ℕ → ℕ → Refusal
+refusalAt number line = record { number = number; first = line; second = 0 }
+
+-- ── the job line ──
+
+abbrev pub headOf : JobLine → JobHead
+headOf j = record { rows = j .rows; columns = j .columns; count = j .count; next = j .next }
+
+abbrev pub jobLineOf : JobHead → JobLine
+jobLineOf j = record { rows = j .rows; columns = j .columns; count = j .count; next = j .next }
+
+-- the job line, or its refusal
+abbrev pub jobAnswer : Outcome JobLine → JobLineAnswer
+jobAnswer (refused r) = job.Refused r
+jobAnswer (given j) = job.Line (headOf j)
+
+-- the form of the job line alone
+abbrev pub jobForm : List ℕ → Outcome JobLine
+jobForm text = formed 1 (lineAt jobWord threeFields text 0) (λ ks next. given (asJobLine ks next))
+
+-- the position after the line; 0 where it is refused
+abbrev pub headNext : JobLineAnswer → ℕ
+headNext (job.Line j) = j .next
+headNext (job.Refused r) = 0
+
+-- the pieces that the line says; 0 where it is refused
+abbrev pub headCount : JobLineAnswer → ℕ
+headCount (job.Line j) = j .count
+headCount (job.Refused r) = 0
+
+-- ── a piece line ──
+
+abbrev pub pieceOf : PieceLine → PieceHead
+pieceOf h = record { number = h .number; columns = h .columns; rows = h .rows; turns = h .turns; next = h .next }
+
+abbrev pub pieceLineOf : PieceHead → PieceLine
+pieceLineOf h = record { number = h .number; columns = h .columns; rows = h .rows; turns = h .turns; next = h .next }
+
+-- a piece line, or its refusal
+abbrev pub pieceAnswer : Outcome PieceLine → PieceLineAnswer
+pieceAnswer (refused r) = piece.Refused r
+pieceAnswer (given h) = piece.Line (pieceOf h)
+
+-- the form of a piece line alone
+abbrev pub pieceForm : List ℕ → ℕ → ℕ → Outcome PieceLine
+pieceForm text p line = formed line (lineAt pieceWord fourFields text p) (λ ks next. given (asPieceLine ks next))
+
+-- the position after the line; 0 where it is refused
+abbrev pub pieceNext : PieceLineAnswer → ℕ
+pieceNext (piece.Line h) = h .next
+pieceNext (piece.Refused r) = 0
+
+-- sides and turns are in range and the areas so far are within 65,536
+abbrev pub Ranged : ℕ → PieceLineAnswer → Type 0
+Ranged area (piece.Line h) = (sidesInRange (h .columns) (h .rows) (h .turns) ≡ true) × (area + h .columns * h .rows ≤ 65536)
+Ranged area (piece.Refused r) = Unit {0}

@@ -1,0 +1,173 @@
+// The job line and the piece lines: document 01, 'Job text' and 'When a call says no', reading a job. A line's form comes before its
+// ranges.
+use fields::Number;
+use fields::field_at;
+use fields::word_at;
+use limits::numbers_in_range;
+use limits::sides_in_range;
+use model::Refusal;
+ghost use mathlib.Core.Path.{_≡_};
+ghost use Prim.Native.Nat.{_+_, _*_, _<_, _≤_, _^_};
+ghost use lib.ListN.{length};
+ghost use Rattle.model.specs.Refusal.{unless};
+ghost use Rattle.model.specs.JobText.{jobLine, jobLineCauses, pieceLine, pieceLineCauses};
+ghost use Rattle.job_lines.specs.Lines.{refusalAt, jobLineOf, jobAnswer, jobForm, headNext, headCount, pieceLineOf, pieceAnswer, pieceForm, pieceNext, Ranged};
+
+// What the job line says: W rows, L columns, n pieces; and the position after it.
+pub struct JobHead {
+    pub rows: usize,
+    pub columns: usize,
+    pub count: usize,
+    pub next: usize,
+}
+
+// The job line, or why it is refused.
+pub enum JobLineAnswer {
+    Line(JobHead),
+    Refused(Refusal),
+}
+
+// What a piece line says: its number, l columns, w rows, the sum of turns; and the position after it.
+pub struct PieceHead {
+    pub number: usize,
+    pub columns: usize,
+    pub rows: usize,
+    pub turns: usize,
+    pub next: usize,
+}
+
+// A piece line, or why it is refused.
+pub enum PieceLineAnswer {
+    Line(PieceHead),
+    Refused(Refusal),
+}
+
+// The refusal that names a line.
+pub fn refusal(number: u8, line: usize) -> Refusal
+    requires { ⌜ line < 2 ^ 32 ⌝ }
+    ensures { λ r. ⌜ r ≡ refusalAt number line ⌝ }
+{
+    Refusal {
+        number,
+        first: line as u32,
+        second: 0,
+    }
+}
+
+// The form of the job line, `job,1,W,L,n`.
+fn job_fields(text: &[u8]) -> JobLineAnswer
+    ensures { λ r. ⌜ (r ≡ jobAnswer (jobForm (now (text .entry)))) × (headNext r ≤ length (now (text .entry))) ⌝ }
+{
+    if !word_at(text, 0, b"job,1,") {
+        return JobLineAnswer::Refused(refusal(1, 1));
+    }
+    let Number::Got(rows, p) = field_at(text, 6, b',') else {
+        return JobLineAnswer::Refused(refusal(1, 1));
+    };
+    let Number::Got(columns, q) = field_at(text, p, b',') else {
+        return JobLineAnswer::Refused(refusal(1, 1));
+    };
+    let Number::Got(count, next) = field_at(text, q, b'\n') else {
+        return JobLineAnswer::Refused(refusal(1, 1));
+    };
+    JobLineAnswer::Line(JobHead {
+        rows,
+        columns,
+        count,
+        next,
+    })
+}
+
+// The ranges of the job line: a number out of range, then the sheet too large.
+fn job_ranges(j: JobHead) -> JobLineAnswer
+    ensures { λ r. ⌜ (r ≡ jobAnswer (unless (jobLineCauses (jobLineOf j)) (jobLineOf j))) × (headCount r ≤ 64) ⌝ }
+{
+    if !numbers_in_range(j.rows, j.columns, j.count) {
+        return JobLineAnswer::Refused(refusal(2, 1));
+    }
+    if 65536 < j.rows * j.columns {
+        return JobLineAnswer::Refused(refusal(3, 1));
+    }
+    JobLineAnswer::Line(j)
+}
+
+// The job line.
+pub fn job_line(text: &[u8]) -> JobLineAnswer
+    ensures { λ r. ⌜ (r ≡ jobAnswer (jobLine (now (text .entry)))) × (headNext r ≤ length (now (text .entry))) × (headCount r ≤ 64) ⌝ }
+{
+    let JobLineAnswer::Line(j) = job_fields(text) else {
+        return JobLineAnswer::Refused(refusal(1, 1));
+    };
+    job_ranges(j)
+}
+
+// The form of a piece line, `piece,i,l,w,o`.
+fn piece_fields(text: &[u8], p: usize, line: usize) -> PieceLineAnswer
+    requires { ⌜ (p ≤ length (now text)) × (line < 2 ^ 32) ⌝ }
+    ensures { λ r. ⌜ (r ≡ pieceAnswer (pieceForm (now (text .entry)) p line)) × (pieceNext r ≤ length (now (text .entry))) ⌝ }
+{
+    if !word_at(text, p, b"piece,") {
+        return PieceLineAnswer::Refused(refusal(1, line));
+    }
+    let Number::Got(number, q) = field_at(text, p + 6, b',') else {
+        return PieceLineAnswer::Refused(refusal(1, line));
+    };
+    let Number::Got(columns, r) = field_at(text, q, b',') else {
+        return PieceLineAnswer::Refused(refusal(1, line));
+    };
+    let Number::Got(rows, s) = field_at(text, r, b',') else {
+        return PieceLineAnswer::Refused(refusal(1, line));
+    };
+    let Number::Got(turns, next) = field_at(text, s, b'\n') else {
+        return PieceLineAnswer::Refused(refusal(1, line));
+    };
+    PieceLineAnswer::Line(PieceHead {
+        number,
+        columns,
+        rows,
+        turns,
+        next,
+    })
+}
+
+// The ranges of the line of piece i, with the areas of the boxes before it: a number out of range, the box longer or wider than the
+// sheet, box areas so far too large.
+fn piece_ranges(j: JobHead, i: usize, area: usize, h: PieceHead, line: usize) -> PieceLineAnswer
+    requires { ⌜ (area ≤ 65536) × (line < 2 ^ 32) ⌝ }
+    ensures { λ r. ⌜ (r ≡ pieceAnswer (unless (pieceLineCauses line (jobLineOf j) i area (pieceLineOf h)) (pieceLineOf h))) × Ranged area r ⌝ }
+{
+    if h.number != i {
+        return PieceLineAnswer::Refused(refusal(2, line));
+    }
+    if !sides_in_range(h.columns, h.rows, h.turns) {
+        return PieceLineAnswer::Refused(refusal(2, line));
+    }
+    if j.columns < h.columns {
+        return PieceLineAnswer::Refused(refusal(6, line));
+    }
+    if j.rows < h.rows {
+        return PieceLineAnswer::Refused(refusal(6, line));
+    }
+    if 65536 < area + h.columns * h.rows {
+        return PieceLineAnswer::Refused(refusal(4, line));
+    }
+    PieceLineAnswer::Line(h)
+}
+
+// The line of piece i at position p.
+pub fn piece_line(
+    text: &[u8],
+    j: JobHead,
+    i: usize,
+    area: usize,
+    p: usize,
+    line: usize,
+) -> PieceLineAnswer
+    requires { ⌜ (area ≤ 65536) × (p ≤ length (now text)) × (line < 2 ^ 32) ⌝ }
+    ensures { λ r. ⌜ (r ≡ pieceAnswer (pieceLine (now (text .entry)) (jobLineOf j) i area p line)) × (pieceNext r ≤ length (now (text .entry))) × Ranged area r ⌝ }
+{
+    let PieceLineAnswer::Line(h) = piece_fields(text, p, line) else {
+        return PieceLineAnswer::Refused(refusal(1, line));
+    };
+    piece_ranges(j, i, area, h, line)
+}

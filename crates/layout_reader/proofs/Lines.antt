@@ -1,0 +1,199 @@
+-- The fields and the causes of a line, as the reader meets them one after the other. Assumes nothing.
+use mathlib.Core.Bool.{Bool, true, false, not, _&&_}
+use mathlib.Core.List.{List, [], _∷_}
+use mathlib.Core.Option.{Option, none, some}
+use mathlib.Core.Path.{_≡_, refl, sym, _∙_}
+use Prim.Native.Nat.{ℕ, _+_, _<_, _≤_}
+use native.Mathlib.Omega.{arith}
+use borrow.Author.Tests.{ne-eqb, leb-true}
+use lib.Dec.{leb, eqb}
+use lib.ListN.{length}
+use Rattle.model.specs.Layout.{Job, allowed, inside, turnedPiece}
+use Rattle.model.specs.Refusal.{Outcome, refused, given, Cause, unless, refusalOf, wrongForm, outOfRange, noSuchPiece, outsideSheet}
+use Rattle.model.specs.Buffer.{turnOfDegrees, turnPasses, isTurn, turnOf}
+use Rattle.model.specs.Text.{Reading, wrong, got, onward, after, comma, lineEnd, standsAt, fieldAt, fieldsAt, threeFields, fourFields, lineAt, causeIn, formed, andThen}
+use Rattle.model.specs.LayoutText.{layoutWord, atWord, layoutLine, PlacementLine, asPlacementLine, placementCauses, placementLine}
+use Rattle.model.specs.declared.Placement.{Placement}
+use Rattle.model.specs.declared.Refusal.{Refusal}
+use Rattle.model.specs.declared.Turn.{Turn}
+use Rattle.model.proofs.Tests.{and-left, and-right}
+use Rattle.fields.proofs.Steps.{got-of, wrong-of}
+use Rattle.fields.specs.Answers.{Reads}
+use Rattle.fields.specs.declared.Number.{Number}
+use Rattle.fields.specs.declared.Number.the-variants.{Got, Wrong}
+use Rattle.placing.specs.Boxes.{placeAt}
+use Rattle.layout_reader.specs.Readings.{turnOnLine, placeOnLine, placeAnswer, lineAnswer}
+use Rattle.layout_reader.specs.declared.LineAnswer.{LineAnswer}
+use Rattle.layout_reader.specs.declared.PlaceAnswer.{PlaceAnswer}
+
+-- ── fields ──
+
+-- a field that is read: what it is, where it ends, and that it has at most 5 digits
+pub record Field (reading : Reading ℕ) (k p : ℕ) (text : List ℕ) : Type 0 where
+  pub same : reading ≡ got k p
+  pub inside : p ≤ length text
+  pub small : k ≤ 99999
+
+pub field-read : {r : Number} {reading : Reading ℕ} {text : List ℕ} (k p : ℕ) → Reads r reading text → r ≡ Got k p → Field reading k p text
+field-read k p h e = record { same = got-of _ k p (sym e ∙ h .same); inside = rw e at (h .inside); small = rw e at (h .small) }
+
+-- a field that is not
+pub field-unread : {r : Number} {reading : Reading ℕ} {text : List ℕ} → Reads r reading text → r ≡ Wrong → reading ≡ wrong
+field-unread h e = wrong-of _ (sym e ∙ h .same)
+
+module _ (text : List ℕ) (p : ℕ) where
+  -- three fields, or the first that is wrong
+  pub three-got : (a b c q r s : ℕ) → fieldAt comma text p ≡ got a q → fieldAt comma text q ≡ got b r → fieldAt lineEnd text r ≡ got c s
+      → fieldsAt threeFields text p ≡ got (a ∷ b ∷ c ∷ []) s
+  unfolding fieldsAt
+  three-got a b c q r s e f g = rw (e, f, g, fieldsAt, onward)
+
+  pub three-first : fieldAt comma text p ≡ wrong → fieldsAt threeFields text p ≡ wrong
+  unfolding fieldsAt
+  three-first e = rw (e, fieldsAt, onward)
+
+  pub three-second : (a q : ℕ) → fieldAt comma text p ≡ got a q → fieldAt comma text q ≡ wrong → fieldsAt threeFields text p ≡ wrong
+  unfolding fieldsAt
+  three-second a q e f = rw (e, f, fieldsAt, onward)
+
+  pub three-third : (a b q r : ℕ) → fieldAt comma text p ≡ got a q → fieldAt comma text q ≡ got b r → fieldAt lineEnd text r ≡ wrong
+      → fieldsAt threeFields text p ≡ wrong
+  unfolding fieldsAt
+  three-third a b q r e f g = rw (e, f, g, fieldsAt, onward)
+
+  -- a line whose word is not there
+  pub word-missing : (word ends : List ℕ) → standsAt word text p ≡ false → lineAt word ends text p ≡ wrong
+  word-missing word ends e = rw (e, after)
+
+  -- a piece's line: the word, the number and three fields
+  pub line-got : (k q a b c s : ℕ) → standsAt atWord text p ≡ true → fieldAt comma text (p + 3) ≡ got k q → fieldsAt threeFields text q ≡ got (a ∷ b ∷ c ∷ []) s
+      → lineAt atWord fourFields text p ≡ got (k ∷ a ∷ b ∷ c ∷ []) s
+  unfolding fieldsAt
+  line-got k q a b c s w e f = rw (w, after, e, onward, f, onward)
+
+  pub line-number : standsAt atWord text p ≡ true → fieldAt comma text (p + 3) ≡ wrong → lineAt atWord fourFields text p ≡ wrong
+  unfolding fieldsAt
+  line-number w e = rw (w, after, e, onward)
+
+  pub line-three : (k q : ℕ) → standsAt atWord text p ≡ true → fieldAt comma text (p + 3) ≡ got k q → fieldsAt threeFields text q ≡ wrong
+      → lineAt atWord fourFields text p ≡ wrong
+  unfolding fieldsAt
+  line-three k q w e f = rw (w, after, e, onward, f, onward)
+
+-- ── turns ──
+
+-- degrees above 270 are those of no turn
+pub no-turn-above : (d : ℕ) → 270 < d → turnOfDegrees d ≡ none
+unfolding turnOfDegrees
+no-turn-above d h = rw (ne-eqb d 0 (λ e. omega arith), ne-eqb d 90 (λ e. omega arith), ne-eqb d 180 (λ e. omega arith), ne-eqb d 270 (λ e. omega arith), turnOfDegrees)
+
+-- by the test whether the line names the piece
+turn-known-at : (d : ℕ) (t : Turn) (b : Bool) → elim b as (λ _. Option Turn) [ true ↦ turnOfDegrees d | false ↦ none ] ≡ some t
+    → ((b && isTurn d) ≡ true) × (turnOf d ≡ t)
+unfolding isTurn turnOf
+turn-known-at d t true e = (rw (e, turnPasses), rw (e, turnOf))
+turn-known-at d t false e = let z : _≡_ {A = ℕ} 0 1 = cc in absurd (omega arith)
+
+turn-unknown-at : (d : ℕ) (b : Bool) → _≡_ {A = Option Turn} (elim b as (λ _. Option Turn) [ true ↦ turnOfDegrees d | false ↦ none ]) none → (b && isTurn d) ≡ false
+unfolding isTurn
+turn-unknown-at d true e = rw (e, turnPasses)
+turn-unknown-at d false e = refl
+
+-- ── the layout line ──
+
+module _ (j : Job) (text : List ℕ) where
+  pub layout-line-wrong : lineAt layoutWord threeFields text 0 ≡ wrong → layoutLine j text ≡ refused (refusalOf (causeIn 1 wrongForm true))
+  unfolding layoutLine
+  layout-line-wrong e = rw (e, formed)
+
+  -- the word is there, so the fields decide
+  pub layout-fields : standsAt layoutWord text 0 ≡ true → lineAt layoutWord threeFields text 0 ≡ fieldsAt threeFields text 9
+  layout-fields e = rw (e, after)
+
+  module _ (a b c next : ℕ) (e : lineAt layoutWord threeFields text 0 ≡ got (a ∷ b ∷ c ∷ []) next) where
+    pub layout-line-unlike : (eqb a (j .rows) && eqb b (j .columns) && eqb c (j .count)) ≡ false
+        → layoutLine j text ≡ refused (refusalOf (causeIn 1 outOfRange true))
+    unfolding layoutLine unless
+    layout-line-unlike h = rw (e, formed, h, unless)
+
+    pub layout-line-given : (eqb a (j .rows) && eqb b (j .columns) && eqb c (j .count)) ≡ true → layoutLine j text ≡ given next
+    unfolding layoutLine unless
+    layout-line-given h = rw (e, formed, h, unless)
+
+-- ── the line of a piece ──
+
+module _ (j : Job) (i line n d x y : ℕ) where
+  -- the line names another piece or degrees of no turn
+  pub place-unknown : turnOnLine i n d ≡ none → placeOnLine j i line (n ∷ d ∷ x ∷ y ∷ []) ≡ refused (refusalOf (causeIn line outOfRange true))
+  unfolding unless
+  place-unknown e = rw (turn-unknown-at d (eqb n i) e, unless)
+
+  module _ (t : Turn) (e : turnOnLine i n d ≡ some t) where
+    -- the turn is not allowed
+    pub place-forbidden : allowed j i t ≡ false → placeOnLine j i line (n ∷ d ∷ x ∷ y ∷ []) ≡ refused (refusalOf (causeIn line noSuchPiece true))
+    unfolding unless
+    place-forbidden h = let k = turn-known-at d t (eqb n i) e in rw (k .0, k .1, h)
+
+    -- the placement is outside
+    pub place-outside : allowed j i t ≡ true → inside j i (placeAt t x y) ≡ false
+        → placeOnLine j i line (n ∷ d ∷ x ∷ y ∷ []) ≡ refused (refusalOf (causeIn line outsideSheet true))
+    unfolding unless
+    place-outside h w = let k = turn-known-at d t (eqb n i) e in rw (k .0, k .1, h, w)
+
+    -- the placement
+    pub place-given : allowed j i t ≡ true → inside j i (placeAt t x y) ≡ true → placeOnLine j i line (n ∷ d ∷ x ∷ y ∷ []) ≡ given (placeAt t x y)
+    unfolding unless
+    place-given h w = let k = turn-known-at d t (eqb n i) e in rw (k .0, k .1, h, w)
+
+-- the corner of a placement inside lies in the sheet
+pub corner-inside : (j : Job) (i : ℕ) (t : Turn) (x y : ℕ) → inside j i (placeAt t x y) ≡ true → (x ≤ j .columns) × (y ≤ j .rows)
+unfolding inside
+corner-inside j i t x y e =
+    let s = turnedPiece j i t in
+    let a : x + s .columns ≤ j .columns = leb-true _ _ (and-left _ (leb (y + s .rows) (j .rows)) e) in
+    let b : y + s .rows ≤ j .rows = leb-true _ _ (and-right (leb (x + s .columns) (j .columns)) _ e) in
+    (omega arith, omega arith)
+
+-- by the first cause
+unless-made-at : {A B : Type 0} (f : A → B) (c : Cause) (cs : List Cause) (a : A) → unless cs (f a) ≡ andThen (unless cs a) (λ a′. given (f a′)) → (b : Bool)
+    → elim b as (λ _. Outcome B) [ true ↦ refused (refusalOf c) | false ↦ unless cs (f a) ]
+    ≡ andThen (elim b as (λ _. Outcome A) [ true ↦ refused (refusalOf c) | false ↦ unless cs a ]) (λ a′. given (f a′))
+unless-made-at f c cs a later true = refl
+unless-made-at f c cs a later false = later
+
+-- a value that is made of another is given where the other is
+unless-made : {A B : Type 0} (f : A → B) (cs : List Cause) (a : A) → unless cs (f a) ≡ andThen (unless cs a) (λ a′. given (f a′))
+unfolding unless
+unless-made f [] a = refl
+unless-made f (c ∷ cs) a = unless-made-at f c cs a (unless-made f cs a) (c .there)
+
+-- the line is wrong
+pub line-wrong : (j : Job) (text : List ℕ) (i p line : ℕ) → lineAt atWord fourFields text p ≡ wrong
+    → placementLine j text i p line ≡ refused (refusalOf (causeIn line wrongForm true))
+unfolding placementLine
+line-wrong j text i p line e = rw (e, formed)
+
+-- else its numbers give the placement
+pub line-placed : (j : Job) (text : List ℕ) (i p line : ℕ) (ks : List ℕ) (next : ℕ) → lineAt atWord fourFields text p ≡ got ks next
+    → placementLine j text i p line ≡ andThen (placeOnLine j i line ks) (λ q. given (record { place = q; next = next }))
+unfolding placementLine
+line-placed j text i p line ks next e =
+    rw (e, formed) (unless-made (λ (q : Placement). record { place = q; next = next }) (placementCauses line j i ks (asPlacementLine ks 0 .place)) _)
+
+-- what the answers say of the outcomes
+pub place-refused : (o : Outcome Placement) (r : Refusal) → PlaceAnswer.Refused r ≡ placeAnswer o → o ≡ refused r
+place-refused (refused s) r e = cc
+place-refused (given p) r e = let z : _≡_ {A = ℕ} 0 1 = cc in absurd (omega arith)
+
+pub place-placed : (o : Outcome Placement) (q : Placement) → PlaceAnswer.Placed q ≡ placeAnswer o → o ≡ given q
+place-placed (refused s) q e = let z : _≡_ {A = ℕ} 0 1 = cc in absurd (omega arith)
+place-placed (given p) q e = cc
+
+pub line-refused : (o : Outcome PlacementLine) (r : Refusal) → LineAnswer.Refused r ≡ lineAnswer o → o ≡ refused r
+line-refused (refused s) r e = cc
+line-refused (given p) r e = let z : _≡_ {A = ℕ} 0 1 = cc in absurd (omega arith)
+
+pub line-read : (o : Outcome PlacementLine) (q : Placement) (next : ℕ) → LineAnswer.Read q next ≡ lineAnswer o → o ≡ given (record { place = q; next = next })
+line-read (refused s) q next e = let z : _≡_ {A = ℕ} 0 1 = cc in absurd (omega arith)
+line-read (given h) q next e =
+    let a : h .place ≡ q = cc in let b : h .next ≡ next = cc in λ i. given (record { place = a i; next = b i })

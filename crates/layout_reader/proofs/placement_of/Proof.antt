@@ -1,0 +1,118 @@
+-- `layout_reader::placement_of` meets its contract, cause by cause; a corner inside is small enough for its type. Assumes nothing.
+use mathlib.Core.List.{[]}
+use mathlib.Core.Option.{none, some}
+use mathlib.Core.Path.{_≡_, sym, _∙_}
+use native.Mathlib.Omega.{arith}
+use borrow.Author.Needs.{needs}
+use borrow.Author.Tests.{not-true, not-false}
+use Rattle.model.specs.Lent.{jobOf, lentBy}
+use Rattle.placing.proofs.Places.{unknown-none, known-some}
+use Rattle.layout_reader.specs.Readings.{turnOnLine}
+use Rattle.layout_reader.proofs.Lines.{place-unknown, place-forbidden, place-outside, place-given, corner-inside}
+use Rattle.layout_reader.proofs.placement_of.Statement.{statement}
+use Rattle.layout_reader.proofs.placement_of.Tie as tie
+
+turn-on-line-requires : tie.Need-turn-on-line-requires
+turn-on-line-requires c κs = search needs
+
+enum-known-turn : tie.Need-enum-known-turn
+enum-known-turn c = search needs
+
+enum-told : tie.Need-enum-told
+enum-told c = search needs
+
+refused-in-requires : tie.Need-refused-in-requires
+refused-in-requires c κs = search needs
+
+returns : tie.Need-returns
+returns c =
+    let a = c .before .before .before .before .args in
+    let f = a .fields in
+    let unknown : turnOnLine (a .i) (f .number) (f .degrees) ≡ none = unknown-none _ (sym (c .before .enum-told .given .1) ∙ c .before .before .before .turn-on-line .ensures) in
+    λ pixels. rw (c .refused-in .ensures, place-unknown (jobOf (lentBy (a .size) (a .table .now) pixels)) (a .i) (a .line) (f .number) (f .degrees) (f .x) (f .y) unknown)
+
+mul-allows : tie.Need-mul-allows
+mul-allows c = search needs
+
+index-1-allows : tie.Need-index-1-allows
+index-1-allows c = search needs
+
+index-2-allows : tie.Need-index-2-allows
+index-2-allows c = search needs
+
+allows-requires : tie.Need-allows-requires
+allows-requires c κs = search needs
+
+refused-in-requires-2 : tie.Need-refused-in-requires-2
+refused-in-requires-2 c κs = search needs
+
+returns-2 : tie.Need-returns-2
+unfolding jobOf
+returns-2 c =
+    let a = c .before .before .before .before .before .before .before .before .args in
+    let f = a .fields in
+    let t = c .before .before .before .before .before .turn .given .0 .0 in
+    let known : turnOnLine (a .i) (f .number) (f .degrees) ≡ some t = known-some _ t (sym (c .before .before .before .before .before .turn .given .1) ∙ c .before .before .before .before .before .before .before .turn-on-line .ensures) in
+    λ pixels. rw (c .refused-in2 .ensures, place-forbidden (jobOf (lentBy (a .size) (a .table .now) pixels)) (a .i) (a .line) (f .number) (f .degrees) (f .x) (f .y) t known (sym (c .before .before .allows .ensures) ∙ not-true _ (c .before .if1 .taken)))
+
+inside-at-requires : tie.Need-inside-at-requires
+inside-at-requires c κs = search needs
+
+refused-in-requires-3 : tie.Need-refused-in-requires-3
+refused-in-requires-3 c κs = search needs
+
+returns-3 : tie.Need-returns-3
+unfolding jobOf
+returns-3 c =
+    let a = c .before .before .before .before .before .before .before .before .before .before .args in
+    let f = a .fields in
+    let t = c .before .before .before .before .before .before .before .turn .given .0 .0 in
+    let known : turnOnLine (a .i) (f .number) (f .degrees) ≡ some t = known-some _ t (sym (c .before .before .before .before .before .before .before .turn .given .1) ∙ c .before .before .before .before .before .before .before .before .before .turn-on-line .ensures) in
+    λ pixels. rw (c .refused-in3 .ensures, place-outside (jobOf (lentBy (a .size) (a .table .now) pixels)) (a .i) (a .line) (f .number) (f .degrees) (f .x) (f .y) t known (sym (c .before .before .before .before .allows .ensures) ∙ not-false _ (c .before .before .before .if1 .left)) (sym (c .before .before .inside-at .ensures pixels) ∙ not-true _ (c .before .if2 .taken)))
+
+cast-t18 : tie.Need-cast-t18
+unfolding jobOf
+cast-t18 c =
+    let a = c .before .before .before .before .before .before .before .before .before .before .args in
+    let f = a .fields in
+    let h = corner-inside (jobOf (lentBy (a .size) (a .table .now) [])) (a .i) (c .before .before .before .before .before .before .before .turn .given .0 .0) (f .x) (f .y) (sym (c .before .before .inside-at .ensures []) ∙ not-false _ (c .before .if2 .left)) .0 in
+    let p = c .before .before .before .before .before .before .before .before .before .before .pre .2 in omega arith
+
+cast-t20 : tie.Need-cast-t20
+unfolding jobOf
+cast-t20 c =
+    let a = c .before .before .before .before .before .before .before .before .before .before .before .args in
+    let f = a .fields in
+    let h = corner-inside (jobOf (lentBy (a .size) (a .table .now) [])) (a .i) (c .before .before .before .before .before .before .before .before .turn .given .0 .0) (f .x) (f .y) (sym (c .before .before .before .inside-at .ensures []) ∙ not-false _ (c .before .before .if2 .left)) .1 in
+    let p = c .before .before .before .before .before .before .before .before .before .before .before .pre .1 in omega arith
+
+returns-4 : tie.Need-returns-4
+unfolding jobOf
+returns-4 c =
+    let a = c .before .before .before .before .before .before .before .before .before .before .before .args in
+    let f = a .fields in
+    let t = c .before .before .before .before .before .before .before .before .turn .given .0 .0 in
+    let known : turnOnLine (a .i) (f .number) (f .degrees) ≡ some t = known-some _ t (sym (c .before .before .before .before .before .before .before .before .turn .given .1) ∙ c .before .before .before .before .before .before .before .before .before .before .turn-on-line .ensures) in
+    λ pixels. rw (place-given (jobOf (lentBy (a .size) (a .table .now) pixels)) (a .i) (a .line) (f .number) (f .degrees) (f .x) (f .y) t known (sym (c .before .before .before .before .before .allows .ensures) ∙ not-false _ (c .before .before .before .before .if1 .left)) (sym (c .before .before .before .inside-at .ensures pixels) ∙ not-false _ (c .before .before .if2 .left)))
+
+pub placement-of-spec : {M : Type 1} → statement M
+placement-of-spec =
+    tie.close
+    (tie.spec
+    turn-on-line-requires
+    enum-known-turn
+    enum-told
+    refused-in-requires
+    returns
+    mul-allows
+    index-1-allows
+    index-2-allows
+    allows-requires
+    refused-in-requires-2
+    returns-2
+    inside-at-requires
+    refused-in-requires-3
+    returns-3
+    cast-t18
+    cast-t20
+    returns-4)

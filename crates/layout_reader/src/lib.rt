@@ -1,0 +1,304 @@
+// The reader of a layout text: the layout line, a line for each piece, and nothing behind them. Each line is asked for its form
+// first, then for its numbers. Document 01, 'Start, layout text, sheet' and 'When a call says no'.
+ghost use mathlib.Core.Path.{_≡_};
+ghost use mathlib.Core.Bool.{true, _&&_};
+ghost use mathlib.Core.List.{List};
+ghost use Prim.Native.Nat.{ℕ, _<_, _≤_};
+ghost use lib.Dec.{eqb};
+ghost use lib.ListN.{length, set};
+ghost use lib.Seq.{sets};
+ghost use Rattle.model.specs.Layout.{Layout};
+ghost use Rattle.model.specs.Refusal.{given, refusalOf};
+ghost use Rattle.model.specs.Lent.{lentBy, jobOf, rowBound, columnBound};
+ghost use Rattle.model.specs.Buffer.{entryOf, entriesOf};
+ghost use Rattle.model.specs.Text.{threeFields, fourFields, fieldsAt, lineAt, causeIn};
+ghost use Rattle.model.specs.LayoutText.{atWord, layoutLine, placementLine, placementsAt};
+ghost use Rattle.model.specs.Calls.{readLayoutCall, layoutAfter};
+ghost use Rattle.placing.specs.Answers.{turnAnswer};
+ghost use Rattle.placing.specs.Fitting.{Fitting};
+ghost use Rattle.layout_reader.specs.Answers.{layoutAnswer};
+ghost use Rattle.layout_reader.specs.Readings.{ThreeRead, LineRead, numbersOf, turnOnLine, placeOnLine, layoutFrom, positionAnswer, positionIn, placeAnswer, lineAnswer, nextIn};
+use fields::Number;
+use fields::field_at;
+use fields::word_at;
+use model::Column;
+use model::JobSize;
+use model::Placement;
+use model::Refusal;
+use model::Row;
+use placing::TurnAnswer;
+
+// The layout is read, or why it is refused.
+pub enum LayoutAnswer {
+    Read,
+    Refused(Refusal),
+}
+
+// The last three fields of a line and the position after them, or wrong form.
+enum ThreeFields {
+    Got(usize, usize, usize, usize),
+    Wrong,
+}
+
+// The numbers of a piece's line.
+struct PlacementFields {
+    number: usize,
+    degrees: usize,
+    x: usize,
+    y: usize,
+}
+
+// The numbers of a piece's line and the position after them, or wrong form.
+enum LineFields {
+    Got(PlacementFields, usize),
+    Wrong,
+}
+
+// The position after the layout line, or why it is refused.
+enum PositionAnswer {
+    After(usize),
+    Refused(Refusal),
+}
+
+// A piece's placement, or why it is refused.
+enum PlaceAnswer {
+    Placed(Placement),
+    Refused(Refusal),
+}
+
+// The placement on a piece's line and the position after it, or why it is refused.
+enum LineAnswer {
+    Read(Placement, usize),
+    Refused(Refusal),
+}
+
+// A refusal that names a line.
+fn refused_in(line: u32, number: u8) -> Refusal
+    ensures { λ r. ⌜ r ≡ refusalOf (causeIn line number true) ⌝ }
+{
+    Refusal {
+        number,
+        first: line,
+        second: 0,
+    }
+}
+
+// The last three fields of a line.
+fn three_at(text: &[u8], p: usize) -> ThreeFields
+    ensures { λ r. ⌜ ThreeRead r (fieldsAt threeFields (now (text .entry)) p) (now (text .entry)) ⌝ }
+{
+    let Number::Got(first, after_first) = field_at(text, p, b',') else {
+        return ThreeFields::Wrong;
+    };
+    let Number::Got(second, after_second) = field_at(text, after_first, b',') else {
+        return ThreeFields::Wrong;
+    };
+    let Number::Got(third, next) = field_at(text, after_second, b'\n') else {
+        return ThreeFields::Wrong;
+    };
+    ThreeFields::Got(first, second, third, next)
+}
+
+// W, L and n of the layout line are the job's.
+fn same_sheet(size: JobSize, rows: usize, columns: usize, count: usize) -> bool
+    ensures { λ r. ⌜ r ≡ (eqb rows (size .rows) && eqb columns (size .columns) && eqb count (size .count)) ⌝ }
+{
+    if rows != size.rows {
+        return false;
+    }
+    if columns != size.columns {
+        return false;
+    }
+    count == size.count
+}
+
+// The layout line, `layout,1,W,L,n`: the position after it.
+fn layout_line(size: JobSize, text: &[u8]) -> PositionAnswer
+    ensures { λ r. ⌜ ((table : List (List ℕ)) (pixels : List ℕ) → r ≡ positionAnswer (layoutLine (jobOf (lentBy size table pixels)) (now (text .entry)))) × (positionIn r ≤ length (now (text .entry))) ⌝ }
+{
+    if !word_at(text, 0, b"layout,1,") {
+        return PositionAnswer::Refused(refused_in(1, 1));
+    }
+    let ThreeFields::Got(rows, columns, count, next) = three_at(text, 9) else {
+        return PositionAnswer::Refused(refused_in(1, 1));
+    };
+    if !same_sheet(size, rows, columns, count) {
+        return PositionAnswer::Refused(refused_in(1, 2));
+    }
+    PositionAnswer::After(next)
+}
+
+// The numbers of a piece's line at position p, `at,i,turn,x,y`.
+fn placement_fields(text: &[u8], p: usize) -> LineFields
+    requires { ⌜ p ≤ length (now text) ⌝ }
+    ensures { λ r. ⌜ LineRead r (lineAt atWord fourFields (now (text .entry)) p) (now (text .entry)) ⌝ }
+{
+    if !word_at(text, p, b"at,") {
+        return LineFields::Wrong;
+    }
+    let Number::Got(number, after_number) = field_at(text, p + 3, b',') else {
+        return LineFields::Wrong;
+    };
+    let ThreeFields::Got(degrees, x, y, next) = three_at(text, after_number) else {
+        return LineFields::Wrong;
+    };
+    LineFields::Got(
+        PlacementFields {
+            number,
+            degrees,
+            x,
+            y,
+        },
+        next,
+    )
+}
+
+// The turn on the line of piece i, if the line names that piece and the degrees are those of a turn.
+fn turn_on_line(i: usize, number: usize, degrees: usize) -> TurnAnswer
+    ensures { λ r. ⌜ r ≡ turnAnswer (turnOnLine i number degrees) ⌝ }
+{
+    if number != i {
+        return TurnAnswer::Unknown;
+    }
+    if 270 < degrees {
+        return TurnAnswer::Unknown;
+    }
+    placing::turn_of(degrees as u16)
+}
+
+// The placement that the numbers of piece i's line give.
+fn placement_of(
+    size: JobSize,
+    table: &[[u8; 3]],
+    i: usize,
+    line: u32,
+    fields: PlacementFields,
+) -> PlaceAnswer
+    requires { ⌜ (i < length (now table)) × (size .rows ≤ rowBound) × (size .columns ≤ columnBound) × (fields .x ≤ 99999) × (fields .y ≤ 99999) ⌝ }
+    ensures { λ r. ⌜ ((pixels : List ℕ) → r ≡ placeAnswer (placeOnLine (jobOf (lentBy size (now (table .entry)) pixels)) i line (numbersOf fields))) ⌝ }
+{
+    let TurnAnswer::Known(turn) = turn_on_line(i, fields.number, fields.degrees) else {
+        return PlaceAnswer::Refused(refused_in(line, 2));
+    };
+    if !placing::allows(table[i][2], turn) {
+        return PlaceAnswer::Refused(refused_in(line, 9));
+    }
+    if !placing::inside_at(size, table, i, turn, fields.x, fields.y) {
+        return PlaceAnswer::Refused(refused_in(line, 10));
+    }
+    PlaceAnswer::Placed(Placement {
+        turn,
+        x: Column(fields.x as u16),
+        y: Row(fields.y as u16),
+    })
+}
+
+// The line of piece i at position p.
+fn placement_line(
+    size: JobSize,
+    table: &[[u8; 3]],
+    text: &[u8],
+    i: usize,
+    p: usize,
+    line: u32,
+) -> LineAnswer
+    requires { ⌜ (i < length (now table)) × (size .rows ≤ rowBound) × (size .columns ≤ columnBound) × (p ≤ length (now text)) ⌝ }
+    ensures { λ r. ⌜ ((pixels : List ℕ) → r ≡ lineAnswer (placementLine (jobOf (lentBy size (now (table .entry)) pixels)) (now (text .entry)) i p line)) × (nextIn r ≤ length (now (text .entry))) ⌝ }
+{
+    let LineFields::Got(fields, next) = placement_fields(text, p) else {
+        return LineAnswer::Refused(refused_in(line, 1));
+    };
+    match placement_of(size, table, i, line, fields) {
+        PlaceAnswer::Refused(refusal) => LineAnswer::Refused(refusal),
+        PlaceAnswer::Placed(place) => LineAnswer::Read(place, next),
+    }
+}
+
+// Sets the entry of piece i, where the layout buffer has one.
+fn set_entry(layout: &mut [[u16; 3]], i: usize, place: Placement)
+    ensures { λ r. ⌜ now (layout .exit) ≡ set (now (layout .entry)) i (entryOf place) ⌝ }
+{
+    if i < layout.len() {
+        layout[i] = placing::entry_of(place);
+    }
+}
+
+// The lines of the pieces from position p on, into the front of a layout buffer; nothing follows the last.
+fn read_placements(
+    size: JobSize,
+    table: &[[u8; 3]],
+    text: &[u8],
+    p: usize,
+    layout: &mut [[u16; 3]],
+) -> LayoutAnswer
+    requires { ⌜ Fitting size (now table) × (p ≤ length (now text)) ⌝ }
+    ensures answer { λ r. ⌜ ((pixels : List ℕ) → r ≡ layoutAnswer (placementsAt (jobOf (lentBy size (now (table .entry)) pixels)) (now (text .entry)) (size .count) 0 p 2)) ⌝ }
+    ensures memory { λ r. ⌜ ((pixels : List ℕ) (v : Layout) → placementsAt (jobOf (lentBy size (now (table .entry)) pixels)) (now (text .entry)) (size .count) 0 p 2 ≡ given v → now (layout .exit) ≡ sets (now (layout .entry)) 0 (entriesOf v)) ⌝ }
+{
+    let mut at = p;
+    let mut line = 2;
+    let mut i = 0;
+    while i < size.count {
+        match placement_line(size, table, text, i, at, line) {
+            LineAnswer::Refused(refusal) => {
+                return LayoutAnswer::Refused(refusal);
+            }
+            LineAnswer::Read(place, next) => {
+                set_entry(layout, i, place);
+                at = next;
+            }
+        }
+        line += 1;
+        i += 1;
+    }
+    if at != text.len() {
+        return LayoutAnswer::Refused(refused_in(line, 1));
+    }
+    LayoutAnswer::Read
+}
+
+// The pieces' lines into a layout buffer of the job's length. The first reading has no buffer, so that a refusal writes nothing.
+fn fill_layout(
+    size: JobSize,
+    table: &[[u8; 3]],
+    text: &[u8],
+    p: usize,
+    layout: &mut [[u16; 3]],
+) -> LayoutAnswer
+    requires { ⌜ Fitting size (now table) × (p ≤ length (now text)) ⌝ }
+    ensures { λ r. ⌜ ((pixels : List ℕ) → (r ≡ layoutAnswer (layoutFrom (jobOf (lentBy size (now (table .entry)) pixels)) (now (text .entry)) p (length (now (layout .entry))))) × (now (layout .exit) ≡ layoutAfter (now (layout .entry)) (layoutFrom (jobOf (lentBy size (now (table .entry)) pixels)) (now (text .entry)) p (length (now (layout .entry)))))) ⌝ }
+{
+    if let LayoutAnswer::Refused(refusal) = read_placements(
+        size,
+        table,
+        text,
+        p,
+        &mut layout[..0],
+    ) {
+        return LayoutAnswer::Refused(refusal);
+    }
+    if layout.len() != size.count {
+        return LayoutAnswer::Refused(placing::refusal(7));
+    }
+    read_placements(size, table, text, p, layout)
+}
+
+// Reads a layout of the job from its text, or refuses.
+pub fn read_layout(
+    size: JobSize,
+    table: &[[u8; 3]],
+    pixels: &[u8],
+    text: &[u8],
+    layout: &mut [[u16; 3]],
+) -> LayoutAnswer
+    ensures answer { λ r. ⌜ r ≡ layoutAnswer (readLayoutCall (lentBy size (now (table .entry)) (now (pixels .entry))) (now (text .entry)) (length (now (layout .entry)))) ⌝ }
+    ensures memory { λ r. ⌜ now (layout .exit) ≡ layoutAfter (now (layout .entry)) (readLayoutCall (lentBy size (now (table .entry)) (now (pixels .entry))) (now (text .entry)) (length (now (layout .entry)))) ⌝ }
+{
+    if !job::check_job(size, table, pixels) {
+        return LayoutAnswer::Refused(placing::refusal(8));
+    }
+    match layout_line(size, text) {
+        PositionAnswer::Refused(refusal) => LayoutAnswer::Refused(refusal),
+        PositionAnswer::After(p) => fill_layout(size, table, text, p, layout),
+    }
+}

@@ -1,4 +1,0 @@
--- What the contracts of this crate cite beside the model's definitions.
-pub mod Answers
-pub mod Written
-pub mod Readings

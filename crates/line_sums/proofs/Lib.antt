@@ -1,0 +1,2 @@
+-- Laws of loops over sums.
+pub mod Scans

@@ -1,0 +1,3 @@
+-- Laws of the table's rows and of the weights that rise.
+pub mod Rows
+pub mod Rising

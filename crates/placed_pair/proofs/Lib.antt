@@ -1,0 +1,3 @@
+-- Laws of strips in local stores and of what is measured.
+pub mod Stores
+pub mod Amounts

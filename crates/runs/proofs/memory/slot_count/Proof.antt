@@ -1,0 +1,14 @@
+-- `runs::memory::slot_count` meets its contract. Assumes nothing.
+use Rattle.runs.proofs.Fresh.{slots-of}
+use borrow.Author.Needs.{needs}
+use Rattle.runs.proofs.memory.slot_count.Statement.{statement}
+use Rattle.runs.proofs.memory.slot_count.Tie as tie
+
+div-result : tie.Need-div-result
+div-result c = search needs
+
+returns : tie.Need-returns
+returns c = slots-of (c .args .width) (c .pre .0) (c .pre .1)
+
+pub slot-count-spec : {M : Type 1} → statement M
+slot-count-spec = tie.close (tie.spec div-result returns)

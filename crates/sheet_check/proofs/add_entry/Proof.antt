@@ -1,0 +1,53 @@
+-- `add_entry`: a piece that is not laid changes nothing; a laid one is inside, by the test of its entry.
+-- Assumes nothing.
+use mathlib.Core.Path.{_∙_}
+use native.Mathlib.Omega.{arith}
+use borrow.Author.Needs.{needs}
+use borrow.Author.Tests.{not-true, not-false}
+use Rattle.model.specs.Lent.{lentBy, jobOf}
+use Rattle.sheet_check.proofs.add_entry.Tie as tie
+use Rattle.stamp.proofs.Pieces.{few-pieces}
+use Rattle.sheet_check.proofs.Recounts.{laid-inside, free-added, laid-added}
+use Rattle.sheet_check.proofs.add_entry.Statement.{statement}
+
+entry-of-requires : tie.Need-entry-of-requires
+entry-of-requires c κs =
+    let pre = c .before .before .pre in
+    let few = few-pieces _ (pre .0 .well) in
+    let here = pre .1 in
+    omega arith
+
+returns : tie.Need-returns
+returns c =
+    let a = c .before .before .before .before .before .args in
+    free-added (jobOf (lentBy (a .size) (a .table .now) (a .pixels .now))) (a .sheet .pieces) (a .i) _ (a .made .now) (c .before .before .entry-of .ensures)
+    (not-true _ (c .if1 .taken))
+
+move-piece-requires : tie.Need-move-piece-requires
+move-piece-requires c κs =
+    let a = c .before .before .before .before .before .before .before .args in
+    let pre = c .before .before .before .before .before .before .before .pre in
+    let few = few-pieces _ (pre .0 .well) in
+    record {
+      well = pre .0 .well;
+      piece = pre .1;
+      within =
+          laid-inside (jobOf (lentBy (a .size) (a .table .now) (a .pixels .now))) (a .sheet .pieces) (a .i) _
+          (c .before .before .before .before .entry-of .ensures) (pre .0 .entries) (let here = pre .1 in omega arith)
+          (not-false _ (c .before .before .if1 .left));
+      full = pre .0 .full;
+    }
+
+same-length : tie.Need-same-length
+same-length c = search needs
+
+returns-2 : tie.Need-returns-2
+returns-2 c =
+    let a = c .before .before .before .before .before .before .before .before .before .before .args in
+    c .before .before .move-piece .ensures
+    ∙ laid-added (jobOf (lentBy (a .size) (a .table .now) (a .pixels .now))) (a .sheet .pieces) (a .i) _ (a .made .now)
+    (c .before .before .before .before .before .before .before .entry-of .ensures) (not-false _ (c .before .before .before .before .before .if1 .left))
+
+pub add-entry-spec : {M : Type 1} → statement M
+add-entry-spec =
+    tie.close (tie.spec entry-of-requires returns move-piece-requires same-length returns-2)

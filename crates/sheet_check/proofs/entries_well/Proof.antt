@@ -1,0 +1,58 @@
+-- `entries_well`: every entry that the loop has passed is well.
+-- Assumes nothing.
+use mathlib.Core.Bool.{true}
+use mathlib.Core.List.{List}
+use mathlib.Core.Path.{_≡_, _∙_, sym}
+use Prim.Native.Nat.{ℕ, _≤_, _<_, _-_}
+use native.Mathlib.Omega.{arith}
+use borrow.Author.Tests.{not-true, not-false}
+use borrow.Author.Needs.{needs}
+use borrow.Author.Count.{below-more}
+use Rattle.model.proofs.Tests.{fails, clash}
+use Rattle.model.specs.Lent.{lentBy, jobOf}
+use Rattle.model.proofs.Bounded.{all-at, all-from}
+use Rattle.model.specs.Cover.{entryWell}
+use Rattle.sheet_check.proofs.entries_well.Statement.{statement}
+use Rattle.sheet_check.proofs.entries_well.Tie as tie
+
+abbrev Inv-loop : tie.InvT-loop
+Inv-loop size table sheet i₀ i =
+    (i ≤ 64)
+    × ((pixels : List ℕ) (k : ℕ) → k < i → entryWell (jobOf (lentBy size table pixels)) (sheet .pieces) k ≡ true)
+
+abbrev μ-loop : tie.MeasureT-loop
+μ-loop size table sheet i₀ i = 64 - i
+
+loop-holds : tie.Need-loop-holds Inv-loop μ-loop
+loop-holds c = (omega arith, λ pixels k l. absurd (omega arith))
+
+entry-well-requires : tie.Need-entry-well-requires Inv-loop μ-loop
+entry-well-requires c κs = search needs
+
+returns : tie.Need-returns Inv-loop μ-loop
+returns c = λ pixels.
+    let a = c .before .before .before .before .args in
+    let here = c .before .entry-well .ensures pixels in
+    sym (fails _ (λ t. clash (all-at 64 (entryWell (jobOf (lentBy (a .size) (a .table .now) pixels)) (a .sheet .pieces)) t (c .before .before .before .loop .i) (c .before .before .loop-test .taken)) (sym here ∙ not-true _ (c .if1 .taken))))
+
+add-i : tie.Need-add-i Inv-loop μ-loop
+add-i c = omega arith
+
+loop-less : tie.Need-loop-less Inv-loop μ-loop
+loop-less c = omega arith
+
+loop-again : tie.Need-loop-again Inv-loop μ-loop
+loop-again c = (
+  omega arith,
+  λ pixels.
+      below-more _ (c .before .before .before .loop .i) (c .before .before .before .loop .inv .1 pixels)
+      (sym (c .before .entry-well .ensures pixels) ∙ not-false (c .before .entry-well .result) (c .if1 .left)),
+)
+
+returns-2 : tie.Need-returns-2 Inv-loop μ-loop
+returns-2 c = λ pixels. sym (all-from 64 _ (λ k l. c .before .loop .inv .1 pixels k (let out = c .loop-test .left in omega arith)))
+
+pub entries-well-spec : {M : Type 1} → statement M
+entries-well-spec =
+    tie.close
+    (tie.spec Inv-loop μ-loop loop-holds entry-well-requires returns add-i loop-less loop-again returns-2)

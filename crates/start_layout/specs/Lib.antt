@@ -1,0 +1,4 @@
+-- What the contracts of this crate cite beside the model's definitions.
+pub mod Answers
+pub mod Order
+pub mod Stacks

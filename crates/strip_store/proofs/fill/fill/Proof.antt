@@ -1,0 +1,123 @@
+-- `stores::fill::fill` meets its contract. The loop's invariant: storing the strips and starts of the pieces from `i` on is all that is
+-- left to do. Assumes nothing.
+use Prim.Native.Nat.{_-_, _≤_}
+use native.Mathlib.Omega.{arith}
+use mathlib.Core.Path.{_∙_}
+use Rattle.model.specs.Lent.{lentBy, jobOf}
+use Rattle.strips.proofs.Jobs.{entry-at}
+use Rattle.strip_store.proofs.Filling.{Filling, fill-start, fill-step, fill-end, fill-lengths, count-small, store-small, appended-piece}
+use borrow.Author.Needs.{needs}
+use Rattle.strip_store.proofs.fill.fill.Statement.{statement}
+use Rattle.strip_store.proofs.fill.fill.Tie as tie
+
+abbrev Inv-loop : tie.InvT-loop
+Inv-loop size table pixels turns direction strips₀ starts₀ at₀ i₀ strips starts at i =
+    (i ≤ size .count)
+    × Filling direction (jobOf (lentBy size table pixels)) turns strips₀ starts₀ strips starts at i (size .count - i)
+
+abbrev μ-loop : tie.MeasureT-loop
+μ-loop size table pixels turns direction strips₀ starts₀ at₀ i₀ strips starts at i = size .count - i
+
+loop-holds : tie.Need-loop-holds Inv-loop μ-loop
+unfolding jobOf
+loop-holds c = let a = c .before .before .before .args in (omega arith, fill-start (a .direction) (jobOf (lentBy (a .size) (a .table .now) (a .pixels .now))) (a .turns .now) (a .strips .now) (a .starts .now))
+
+put-start-requires : tie.Need-put-start-requires Inv-loop μ-loop
+put-start-requires c κs =
+    let a = c .before .before .before .before .before .before .before .args in
+    let r = c .before .before .before .before .before .before .before .pre in
+    let s = store-small (a .direction) (lentBy (a .size) (a .table .now) (a .pixels .now)) (a .turns .now) (r .well) in
+    let n = c .before .before .before .loop .inv .1 .counted in
+    omega arith
+
+pixel-start-requires : tie.Need-pixel-start-requires Inv-loop μ-loop
+pixel-start-requires c κs =
+    let a = c .before .before .before .before .before .before .before .before .before .before .args in
+    let r = c .before .before .before .before .before .before .before .before .before .before .pre in
+    let n = count-small (lentBy (a .size) (a .table .now) (a .pixels .now)) (r .well) in
+    let t = c .before .before .before .before .if1 .taken in
+    omega arith
+
+mul-turn-or-zero : tie.Need-mul-turn-or-zero Inv-loop μ-loop
+mul-turn-or-zero c =
+    let a = c .before .before .before .before .before .before .before .before .before .before .before .args in
+    let r = c .before .before .before .before .before .before .before .before .before .before .before .pre in
+    let n = count-small (lentBy (a .size) (a .table .now) (a .pixels .now)) (r .well) in
+    let t = c .before .before .before .before .before .if1 .taken in
+    omega arith
+
+shared-slice-read-turn-or-zero : tie.Need-shared-slice-read-turn-or-zero Inv-loop μ-loop
+shared-slice-read-turn-or-zero c = let r = c .before .before .before .before .before .before .before .before .before .before .before .before .pre .turns in let t = c .before .before .before .before .before .before .if1 .taken in omega arith
+
+turn-or-zero-requires : tie.Need-turn-or-zero-requires Inv-loop μ-loop
+turn-or-zero-requires c κs = search needs
+
+put-piece-requires : tie.Need-put-piece-requires Inv-loop μ-loop
+put-piece-requires c κs =
+    let a = c .before .before .before .before .before .before .before .before .before .before .before .before .before .before .args in
+    let r = c .before .before .before .before .before .before .before .before .before .before .before .before .before .before .pre in
+    let s = store-small (a .direction) (lentBy (a .size) (a .table .now) (a .pixels .now)) (a .turns .now) (r .well) in
+    let n = c .before .before .before .before .before .before .before .before .before .before .loop .inv .1 .counted in
+    let l = lentBy (a .size) (a .table .now) (a .pixels .now) in
+    (rw (c .before .before .before .pixel-start .ensures) (entry-at l (c .before .before .before .before .before .before .before .before .before .before .loop .i) (r .well) (c .before .before .before .before .before .before .before .before .if1 .taken)), omega arith)
+
+add-i : tie.Need-add-i Inv-loop μ-loop
+add-i c =
+    let a = c .before .before .before .before .before .before .before .before .before .before .before .before .before .before .before .before .args in
+    let r = c .before .before .before .before .before .before .before .before .before .before .before .before .before .before .before .before .pre in
+    let n = count-small (lentBy (a .size) (a .table .now) (a .pixels .now)) (r .well) in
+    let t = c .before .before .before .before .before .before .before .before .before .before .if1 .taken in
+    omega arith
+
+loop-less : tie.Need-loop-less Inv-loop μ-loop
+loop-less c = let t = c .before .before .before .before .before .before .before .before .before .before .if1 .taken in omega arith
+
+loop-again : tie.Need-loop-again Inv-loop μ-loop
+loop-again c =
+    let a = c .before .before .before .before .before .before .before .before .before .before .before .before .before .before .before .before .args in
+    let t = c .before .before .before .before .before .before .before .before .before .before .if1 .taken in (
+      omega arith,
+      rw (c .before .before .before .before .before .before .before .before .put-start .ensures)
+          (fill-step (a .size .count) t (appended-piece (a .direction) (jobOf (lentBy (a .size) (a .table .now) (a .pixels .now))) (a .turns .now) (c .before .before .before .before .before .before .before .before .before .before .before .before .loop .i) (c .before .before .before .turn-or-zero .ensures) (c .before .put-piece .ensures (a .size))) (c .before .before .before .before .before .before .before .before .before .before .before .before .loop .inv .1)),
+    )
+
+put-start-requires-2 : tie.Need-put-start-requires-2 Inv-loop μ-loop
+put-start-requires-2 c κs =
+    let a = c .before .before .before .before .before .before .before .args in
+    let r = c .before .before .before .before .before .before .before .pre in
+    let s = store-small (a .direction) (lentBy (a .size) (a .table .now) (a .pixels .now)) (a .turns .now) (r .well) in
+    let n = c .before .before .before .loop .inv .1 .counted in
+    omega arith
+
+same-length : tie.Need-same-length Inv-loop μ-loop
+same-length c = fill-lengths (c .before .before .before .before .before .before .loop .inv .1) .0
+
+same-length-2 : tie.Need-same-length-2 Inv-loop μ-loop
+same-length-2 c = c .before .before .put-start2 .kept .0 ∙ fill-lengths (c .before .before .before .before .before .before .loop .inv .1) .1
+
+returns : tie.Need-returns Inv-loop μ-loop
+returns c =
+    let l = c .before .before .before .before .before .before .loop .inv .0 in
+    let t = c .before .before .before .before .if1 .left in
+    rw (c .before .before .put-start2 .ensures) (fill-end (c .before .before .before .before .before .before .before .before .before .before .args .size .count) (omega arith) (c .before .before .before .before .before .before .loop .inv .1))
+
+pub fill-spec : {M : Type 1} → statement M
+fill-spec =
+    tie.close
+    (tie.spec
+    Inv-loop
+    μ-loop
+    loop-holds
+    put-start-requires
+    pixel-start-requires
+    mul-turn-or-zero
+    shared-slice-read-turn-or-zero
+    turn-or-zero-requires
+    put-piece-requires
+    add-i
+    loop-less
+    loop-again
+    put-start-requires-2
+    same-length
+    same-length-2
+    returns)

@@ -1,0 +1,2 @@
+-- Laws of boxes beside a line.
+pub mod Tracks
