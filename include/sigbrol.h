@@ -10,18 +10,24 @@
  *   {l, w, o} a piece) and the pixel bytes with their length (1 or 0, row by row, piece after piece). sigbrol_read_job fills all of
  *   it. Table and pixels may be longer than the job needs; what lies beyond is not looked at.
  * - A layout has an entry {turn, x, y} a piece, weights one number (1 to 65,535) a pair in the order (0,1), (0,2), .., (1,2), ..:
- *   both have exactly that length, SIGBROL_PAIRS(n) for the weights.
+ *   both have exactly that length, SIGBROL_PAIRS(n) for the weights. Up to C17 a layout or store that is not const needs a cast where
+ *   a call only reads it: (const uint16_t(*)[3])layout.
  * - A strip is {line, first, count}: in a row store {y, first x, count}, in a column store {x, first y, count}.
  * - `vertical` is 0 for a shift along the rows (horizontal) and any other number for one along the columns.
  *
  * Replies. A call replies {0, 0, 0} when it did its work. Otherwise it is refused: `number` says why, `first` and `second` where (0
- * unless said below), and not a byte of the caller's memory has changed. Of several causes the first in the order that the comment gives
- * wins. Every call that is lent a job begins with cause 8: the job is none that sigbrol_read_job gives.
+ * unless said below), and not a byte of the caller's memory has changed. Of several causes the first in the order that the comment
+ * gives wins; README.md has a table of all numbers with what to do. Every call that is lent a job begins with cause 8: the job is none
+ * that sigbrol_read_job gives. Where a comment says 9 and 10 and no more, 9 is a turn of the layout that is not allowed and 10 a
+ * placement that leaves the sheet.
  *
- * What the caller sees to: a pointer has as many elements behind it as its length says (it may be null where that is 0), one without a length has one
- * element (a record sixty-four entries), and no buffer that a call writes overlaps another of its arguments. A pointer is never kept. No function allocates,
- * keeps state or does input and output, so any number of threads may call. A thread needs up to 3 MB of stack: sigbrol_descent,
- * sigbrol_guided_run and sigbrol_program take the most. */
+ * Memory. A call writes what its comment says that it fills, and nothing else: what lies beyond the front of a buffer stays untouched.
+ *
+ * What the caller sees to: a pointer has as many elements behind it as its length says (it may be null where that is 0), one without
+ * a length has one element (a record sixty-four entries), and no buffer that a call writes overlaps another of its arguments. A pointer
+ * is never kept. No function allocates, keeps state or does input and output, so any number of threads may call. A thread needs up to
+ * 3 MB of stack: sigbrol_descent, sigbrol_guided_run and sigbrol_program take the most. This, and the lengths below that suffice, are
+ * counted and not proved. */
 #ifndef SIGBROL_H
 #define SIGBROL_H
 
@@ -57,21 +63,25 @@ typedef struct {
 } sigbrol_job;
 
 #define SIGBROL_LENT(job) \
-    (job)->rows, (job)->columns, (job)->count, (const uint8_t(*)[3])(job)->table, (size_t)SIGBROL_PIECES, (job)->pixels, (size_t)SIGBROL_PIXELS
+    (job)->rows, (job)->columns, (job)->count, (const uint8_t(*)[3])(job)->table, (size_t)SIGBROL_PIECES, (job)->pixels, \
+        (size_t)SIGBROL_PIXELS
 
 /* ---- a job ---- */
 
-/* Reads a job text: fills `rows` (W), `columns` (L), `count` (n), the front of the table and the front of the pixels.
- * Refused, by line, first = the line from 1: 1 wrong form, a missing or an extra line; 2 a number out of range, a wrong piece number, an even
- * o; 3 W x L above 65,536; 6 a box longer or wider than the sheet; 4 box areas above 65,536; 5 a loose box (the line of its last
- * row). Then 7, first = 0: the table or the pixel buffer is too short. */
+/* Reads a job text of any length: fills `rows` (W), `columns` (L), `count` (n), the front of the table (n entries) and the front of the
+ * pixels (a byte a box pixel). A table of SIGBROL_PIECES and SIGBROL_PIXELS bytes suffice for every job.
+ * Refused, by line, first = the line from 1: 1 wrong form, a missing or an extra line; 2 a number out of range, a wrong piece number,
+ * an even o; 3 W x L above 65,536; 6 a box longer or wider than the sheet; 4 box areas above 65,536; 5 a loose box (the line of its
+ * last row). Then 7, first = 0: the table or the pixel buffer is too short. */
 sigbrol_reply sigbrol_read_job(const uint8_t *text, size_t text_length, uint8_t (*table)[3], size_t table_length, uint8_t *pixels,
                                size_t pixels_length, size_t *rows, size_t *columns, size_t *count);
 
 /* ---- strips ---- */
 
-/* Fills the row store and the column store of all pieces in the given turns (n degrees), and the n + 1 starts of each; what lies beyond is
- * untouched. Refused: 8 the job; 9 not n turns, or a turn that is not allowed; 7 a store or starts too short. */
+/* Fills the front of the row store and of the column store with the strips of all pieces in the given turns (n degrees), piece after
+ * piece, and the front of the starts of each with n + 1 numbers: where each piece's strips begin, and the total. SIGBROL_PIXELS strips
+ * a store suffice for every job.
+ * Refused: 8 the job; 9 not n turns, or a turn that is not allowed; 7 a store or starts too short. */
 sigbrol_reply sigbrol_strips(size_t rows, size_t columns, size_t count, const uint8_t (*table)[3], size_t table_length,
                              const uint8_t *pixels, size_t pixels_length, const uint16_t *turns, size_t turns_length,
                              uint8_t (*row_strips)[3], size_t row_strips_length, uint32_t *row_starts, size_t row_starts_length,
@@ -86,32 +96,33 @@ size_t sigbrol_stretch(size_t rows, size_t columns, size_t count, const uint8_t 
                        const uint8_t (*column_strips)[3], size_t column_strips_length, const uint32_t *column_starts,
                        size_t column_starts_length, size_t piece, uint8_t vertical, size_t *first);
 
-/* The number by which sigbrol_stretch is refused on the same arguments, 0 where it is not: 8 the job; 9 no such piece, not n turns, or a turn
- * that is not allowed; 8 stores or starts that are not the job's in these turns. Writes nothing. */
+/* The number by which sigbrol_stretch is refused on the same arguments, 0 where it is not: 8 the job; 9 no such piece, not n turns, or
+ * a turn that is not allowed; 8 stores or starts that are not the job's in these turns. Writes nothing. */
 uint32_t sigbrol_stretch_refusal(size_t rows, size_t columns, size_t count, const uint8_t (*table)[3], size_t table_length,
                                  const uint8_t *pixels, size_t pixels_length, const uint16_t *turns, size_t turns_length,
                                  const uint8_t (*row_strips)[3], size_t row_strips_length, const uint32_t *row_starts,
                                  size_t row_starts_length, const uint8_t (*column_strips)[3], size_t column_strips_length,
                                  const uint32_t *column_starts, size_t column_starts_length, size_t piece, uint8_t vertical);
 
-/* The pixels of the one piece with a box of `columns` by `rows` that has just these row strips (column strips if vertical): fills
- * columns x rows bytes, 1 or 0, row by row. Refused: 2 a side that is none of 1 to 255; 8 no piece of that box has just these strips; 7 the
- * buffer is too short. */
+/* The pixels of the one piece with a box of `columns` by `rows` that has just these row strips (column strips if vertical): fills the
+ * front of `pixels`, columns x rows bytes, 1 or 0, row by row. No job is lent; `columns` stands first here.
+ * Refused: 2 a side that is none of 1 to 255; 8 no piece of that box has just these strips; 7 the buffer is too short. */
 sigbrol_reply sigbrol_rebuild(uint16_t columns, uint16_t rows, uint8_t vertical, const uint8_t (*strips)[3], size_t strips_length,
                               uint8_t *pixels, size_t pixels_length);
 
 /* ---- two pieces ---- */
 
-/* The column offsets at which pieces i and k, turned, share a pixel when k's corner is `offset` rows above i's: fills the front of `runs` with
- * {first, count}, ascending, and `runs_count`. The strips are the pieces' stretches from the row store.
+/* The column offsets at which pieces i and k, turned, share a pixel when k's corner is `offset` rows above i's: fills the front of
+ * `runs` with {first, count}, ascending, and `runs_count`. The strips are the pieces' stretches from the row store. 255 runs suffice for
+ * every two pieces.
  * Refused: 8 the job; 9 no such piece, or a turn that is not allowed; 8 a stretch that is not that piece's; 7 `runs` is too short. */
 sigbrol_reply sigbrol_no_fit_row(size_t rows, size_t columns, size_t count, const uint8_t (*table)[3], size_t table_length,
                                  const uint8_t *pixels, size_t pixels_length, size_t i, uint16_t i_turn, const uint8_t (*i_strips)[3],
                                  size_t i_strips_length, size_t k, uint16_t k_turn, const uint8_t (*k_strips)[3],
                                  size_t k_strips_length, int32_t offset, int32_t (*runs)[2], size_t runs_length, size_t *runs_count);
 
-/* The same along a column: the row offsets at which they share a pixel when k's corner is `offset` columns to the right of i's. The strips are
- * the pieces' stretches from the column store. Refused as sigbrol_no_fit_row. */
+/* The same along a column: the row offsets at which they share a pixel when k's corner is `offset` columns to the right of i's. The
+ * strips are the pieces' stretches from the column store. Fills and is refused as sigbrol_no_fit_row. */
 sigbrol_reply sigbrol_no_fit_column(size_t rows, size_t columns, size_t count, const uint8_t (*table)[3], size_t table_length,
                                     const uint8_t *pixels, size_t pixels_length, size_t i, uint16_t i_turn,
                                     const uint8_t (*i_strips)[3], size_t i_strips_length, size_t k, uint16_t k_turn,
@@ -119,13 +130,14 @@ sigbrol_reply sigbrol_no_fit_column(size_t rows, size_t columns, size_t count, c
                                     size_t runs_length, size_t *runs_count);
 
 /* Whether pieces i and k share a pixel in the layout: fills `shares` with 1 or 0.
- * Refused: 8 the job; 7 the layout's length; 9 no such piece, i = k, or a turn of the layout that is not allowed; 10 a placement outside. */
+ * Refused: 8 the job; 7 the layout's length; 9 no such piece, i = k, or a turn of the layout that is not allowed; 10 a placement
+ * outside, of any piece. */
 sigbrol_reply sigbrol_shares_pixel(size_t rows, size_t columns, size_t count, const uint8_t (*table)[3], size_t table_length,
                                    const uint8_t *pixels, size_t pixels_length, const uint16_t (*layout)[3], size_t layout_length,
                                    size_t i, size_t k, uint8_t *shares);
 
-/* How many pixels piece k has to be shifted along the rows (the columns if vertical), either way, until it shares none with i: fills `depth`.
- * Refused as sigbrol_shares_pixel. */
+/* The least number of pixels by which piece k has to be shifted along the rows (the columns if vertical), either way, until it shares
+ * none with i, be it over the sheet's edge: fills `depth`. Refused as sigbrol_shares_pixel. */
 sigbrol_reply sigbrol_depth(size_t rows, size_t columns, size_t count, const uint8_t (*table)[3], size_t table_length,
                             const uint8_t *pixels, size_t pixels_length, const uint16_t (*layout)[3], size_t layout_length, size_t i,
                             size_t k, uint8_t vertical, uint32_t *depth);
@@ -138,8 +150,7 @@ sigbrol_reply sigbrol_penalty(size_t rows, size_t columns, size_t count, const u
 /* ---- a layout ---- */
 
 /* Weight x penalty over all pairs: fills `sum`.
- * Refused: 8 the job; 7 the length of the layout or the weights; 2 a weight that is none of 1 to 65,535; 9 a turn that is not allowed; 10 a
- * placement outside. */
+ * Refused: 8 the job; 7 the length of the layout or the weights; 2 a weight that is none of 1 to 65,535; 9; 10. */
 sigbrol_reply sigbrol_weighted_sum(size_t rows, size_t columns, size_t count, const uint8_t (*table)[3], size_t table_length,
                                    const uint8_t *pixels, size_t pixels_length, const uint16_t (*layout)[3], size_t layout_length,
                                    const uint32_t *weights, size_t weights_length, uint64_t *sum);
@@ -155,7 +166,8 @@ sigbrol_reply sigbrol_used_length(size_t rows, size_t columns, size_t count, con
                                   size_t *used);
 
 /* Passes exactly the layouts that the knife may follow: all inside in allowed turns, and no two pieces share a pixel. Writes nothing.
- * Refused: 8 the job; 7 the layout's length; 9; 10; 12 two pieces share a pixel, first and second = the pair, lowest first, then lowest second. */
+ * Refused: 8 the job; 7 the layout's length; 9; 10; 12 two pieces share a pixel, first and second = the pair with the lowest first
+ * number, then the lowest second. */
 sigbrol_reply sigbrol_check(size_t rows, size_t columns, size_t count, const uint8_t (*table)[3], size_t table_length,
                             const uint8_t *pixels, size_t pixels_length, const uint16_t (*layout)[3], size_t layout_length);
 
@@ -163,45 +175,46 @@ sigbrol_reply sigbrol_check(size_t rows, size_t columns, size_t count, const uin
 sigbrol_reply sigbrol_start(size_t rows, size_t columns, size_t count, const uint8_t (*table)[3], size_t table_length,
                             const uint8_t *pixels, size_t pixels_length, uint16_t (*layout)[3], size_t layout_length);
 
-/* The layout as text: fills the front of `text` and `written`, how many bytes. What lies beyond is untouched.
+/* The layout as text: fills the front of `text` and `written`, how many bytes. 2,048 bytes suffice for every layout.
  * Refused: 8 the job; 7 the layout's length; 9; 10; 7 the text buffer is too short. */
 sigbrol_reply sigbrol_write_layout(size_t rows, size_t columns, size_t count, const uint8_t (*table)[3], size_t table_length,
                                    const uint8_t *pixels, size_t pixels_length, const uint16_t (*layout)[3], size_t layout_length,
                                    uint8_t *text, size_t text_length, size_t *written);
 
 /* Reads a layout text of this job: fills `layout`.
- * Refused: 8 the job; by line, first = the line from 1: 1 wrong form, a missing or an extra line; 2 W, L, n or a piece number unlike the job's,
- * or a turn that is none of the four; 9 a turn that is not allowed; 10 outside. Then 7, first = 0: the layout's length. */
+ * Refused: 8 the job; by line, first = the line from 1: 1 wrong form, a missing or an extra line; 2 W, L, n or a piece number unlike
+ * the job's, or a turn that is none of the four; 9 a turn that is not allowed; 10 outside. Then 7, first = 0: the layout's length. */
 sigbrol_reply sigbrol_read_layout(size_t rows, size_t columns, size_t count, const uint8_t (*table)[3], size_t table_length,
                                   const uint8_t *pixels, size_t pixels_length, const uint8_t *text, size_t text_length,
                                   uint16_t (*layout)[3], size_t layout_length);
 
 /* ---- search ---- */
 
-/* The best place of a piece on a line, the others fixed: over every inside corner in row `held` (in column `held` if vertical), in the turn,
- * fills `sum` with the least weighted sum of this piece's pairs and `at` with the smallest coordinate that has it.
- * Refused: 8 the job; 7 the length of the layout or the weights; 2 a weight; 9 no such piece, a turn that is not allowed, here or in the layout; 10 a
- * placement outside; 11 no inside corner lies on the line. */
+/* The best place of a piece on a line, the others fixed: over every inside corner in row `held` (in column `held` if vertical), in the
+ * turn, fills `sum` with the least weighted sum of this piece's pairs and `at` with the smallest coordinate that has it.
+ * Refused: 8 the job; 7 the length of the layout or the weights; 2 a weight; 9 no such piece, a turn that is not allowed, here or in
+ * the layout; 10 a placement of the layout outside; 11 no inside corner lies on the line. */
 sigbrol_reply sigbrol_line_search(size_t rows, size_t columns, size_t count, const uint8_t (*table)[3], size_t table_length,
                                   const uint8_t *pixels, size_t pixels_length, const uint16_t (*layout)[3], size_t layout_length,
                                   const uint32_t *weights, size_t weights_length, size_t piece, uint16_t turn, uint8_t vertical,
                                   uint16_t held, uint64_t *sum, size_t *at);
 
-/* How a descent ended. */
+/* How a descent ended: its sum is 0; no trial moves any more; the budget is used up. */
 #define SIGBROL_CLEAR 0
 #define SIGBROL_SETTLED 1
 #define SIGBROL_SPENT 2
 
-/* A descent of at most `budget` trials (0 to 1,000,000,000): the layout becomes the one at the end; fills `end`, `sum` (its weighted
- * sum), `trials` and `moves`.
- * Refused: 8 the job; 7 the length of the layout or the weights; 2 a weight or the budget; 9 a turn that is not allowed; 10 a placement outside. */
+/* A descent of at most `budget` trials (0 to 1,000,000,000). A trial searches one line for a better place of one piece in one turn; a
+ * move is a trial that found one. The layout becomes the one at the end; fills `end`, `sum` (its weighted sum), `trials` and `moves`.
+ * Refused: 8 the job; 7 the length of the layout or the weights; 2 a weight or the budget; 9; 10. */
 sigbrol_reply sigbrol_descent(size_t rows, size_t columns, size_t count, const uint8_t (*table)[3], size_t table_length,
                               const uint8_t *pixels, size_t pixels_length, uint16_t (*layout)[3], size_t layout_length,
                               const uint32_t *weights, size_t weights_length, uint32_t budget, uint8_t *end, uint64_t *sum,
                               uint32_t *trials, uint32_t *moves);
 
-/* A guided run of at most `rounds` descents (1 to 1,000), each of at most `budget` trials: the layout becomes the best one, the weights the new
- * ones; fills `sum` (the best layout's plain sum), `trials` and `moves` of all rounds.
+/* A guided run of at most `rounds` descents (1 to 1,000), each of at most `budget` trials; after each that is not clear the weight of
+ * every pair that shares a pixel grows by 1, up to 65,535. The layout becomes the best one, the weights the new ones; fills `sum` (the
+ * best layout's plain sum), `trials` and `moves` of all rounds.
  * Refused: 8 the job; 7 the length of the layout or the weights; 2 a weight, the budget or the rounds; 9; 10. */
 sigbrol_reply sigbrol_guided_run(size_t rows, size_t columns, size_t count, const uint8_t (*table)[3], size_t table_length,
                                  const uint8_t *pixels, size_t pixels_length, uint16_t (*layout)[3], size_t layout_length,
@@ -223,9 +236,10 @@ sigbrol_reply sigbrol_fresh(size_t rows, size_t columns, size_t count, const uin
                             const uint8_t *pixels, size_t pixels_length, uint16_t (*record)[4], uint8_t *counts,
                             size_t counts_length);
 
-/* Lays a piece: its entry of the record becomes {1, turn, x, y}, and each pixel that it covers counts one more. Laid pieces may share pixels.
- * Refused: 8 the job; 7 not W x L counts; 8 a record or counts that no list of calls gives; 9 no such piece, or a turn that is not allowed; 13 laid
- * already; 10 outside. */
+/* Lays a piece: its entry of the record becomes {1, turn, x, y}, and each pixel that it covers counts one more. Laid pieces may share
+ * pixels: a count above 1 says where.
+ * Refused: 8 the job; 7 not W x L counts; 8 a record or counts that no list of calls gives; 9 no such piece, or a turn that is not
+ * allowed; 13 laid already; 10 outside. */
 sigbrol_reply sigbrol_lay(size_t rows, size_t columns, size_t count, const uint8_t (*table)[3], size_t table_length,
                           const uint8_t *pixels, size_t pixels_length, uint16_t (*record)[4], uint8_t *counts, size_t counts_length,
                           size_t piece, uint16_t turn, uint16_t x, uint16_t y);

@@ -10,7 +10,7 @@
 #define ROUNDS 20
 #define BUDGET 1000
 
-/* A layout text has at most 65 lines of at most 18 bytes. */
+/* A layout text has a line of at most 20 bytes and at most 64 of at most 18. */
 #define LAYOUT_TEXT 2048
 
 /* C takes a layout that a call only reads as one of const entries; the cast is needed up to C17. */

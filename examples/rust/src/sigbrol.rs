@@ -10,7 +10,7 @@ const PIECES: usize = 64;
 const PIXELS: usize = 65_536;
 pub const TEXT: usize = 65_536;
 
-/// A layout text has at most 65 lines of at most 18 bytes.
+/// A layout text has a line of at most 20 bytes and at most 64 of at most 18.
 const LAYOUT_TEXT: usize = 2_048;
 
 /// The layout entry of a piece: turn in degrees, corner x, corner y.
