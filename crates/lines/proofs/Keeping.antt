@@ -22,7 +22,7 @@ use Rattle.strip_laws.proofs.Turns.{swaps, turned-box}
 use Rattle.shapes.specs.Shapes.{turnNumber, numberedShape, shapeNumber}
 use Rattle.shapes.proofs.Numbers.{turn-below, number-back}
 use Rattle.lines.specs.Kept.{keyOf, HoldsLine, Kept, Wide}
-use Rattle.lines.specs.Making.{LineMade, Forgotten}
+use Rattle.lines.specs.Making.{LineMade}
 
 -- ── keys ──
 
@@ -53,10 +53,6 @@ module _ (d : Direction) (j : Job) (width : ℕ) where
         some = some;
         holds = λ m i k t u offset l a b c e. absurd (let z = none m l in omega arith);
       }
-
-  -- in particular after its tags are forgotten
-  pub forgotten-kept : (lines old tags : List ℕ) → Forgotten old tags → length tags * width ≤ length lines → 0 < length tags → Kept d j width lines tags
-  forgotten-kept lines old tags f room some = let same = f .same in none-kept lines tags room some (λ m l. f .at m (omega arith))
 
   module _ (lines tags : List ℕ) (kept : Kept d j width lines tags) where
     -- a slot lies in the store

@@ -43,8 +43,3 @@ pub record LineMade (d : Direction) (s t : Shape) (offset : ℕ) (old : List ℕ
   pub line : HoldsLine d s t offset new at
   pub before : (k : ℕ) → k < at → getD new k 0 ≡ getD old k 0
   pub after : (k : ℕ) → at + linePlaces d s t ≤ k → getD new k 0 ≡ getD old k 0
-
--- no slot has a tag
-pub record Forgotten (old new : List ℕ) : Type 0 where
-  pub same : length new ≡ length old
-  pub at : (k : ℕ) → k < length old → getD new k 0 ≡ 0

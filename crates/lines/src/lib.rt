@@ -10,11 +10,12 @@ ghost use Rattle.model.specs.Lent.{lentBy, jobOf};
 ghost use Rattle.model.specs.declared.JobSize.{JobSize};
 ghost use Rattle.shapes.specs.Shapes.{shapeNumber};
 ghost use Rattle.lines.specs.Kept.{linePlaces, HoldsLine, Kept, Wide};
-ghost use Rattle.lines.specs.Making.{movedShape, standingShape, keyOfTwo, Small, Asked, LineMade, Forgotten};
+ghost use Rattle.lines.specs.Making.{movedShape, standingShape, keyOfTwo, Small, Asked, LineMade};
 use model::Direction;
 use model::JobSize;
 use model::Turn;
 use penalty_line::Pair;
+use placing::numbers::larger;
 
 // Two pieces in their turns, and the standing one's offset across the line, counted from the moved one's middle.
 pub struct Two {
@@ -23,13 +24,6 @@ pub struct Two {
     pub standing: usize,
     pub standing_turn: Turn,
     pub offset: usize,
-}
-
-// The larger of two numbers.
-fn larger(a: usize, b: usize) -> usize
-    ensures { λ r. ⌜ r ≡ max a b ⌝ }
-{
-    if a < b { b } else { a }
 }
 
 // How many bytes a slot has to have: twice the largest box side of the job, and at least 64.
@@ -47,17 +41,6 @@ pub fn slot_width(size: JobSize, table: &[[u8; 3]]) -> usize
         i += 1;
     }
     side * 2
-}
-
-// Begins with no line kept: every tag 0.
-pub fn forget(tags: &mut [u32])
-    ensures { λ r. ⌜ Forgotten (now (tags .entry)) (now (tags .exit)) ⌝ }
-{
-    let mut k = 0;
-    while k < tags.len() {
-        tags[k] = 0;
-        k += 1;
-    }
 }
 
 // The number of a piece in a turn.
