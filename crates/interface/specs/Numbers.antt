@@ -28,8 +28,8 @@ lineOf vertical held =
     elim (eqb vertical 0) [ true ↦ InRow (record { 0 = held }) | false ↦ InColumn (record { 0 = held }) ]
 
 -- the piece's number, or one that no piece has where the degrees are no turn's: no piece is allowed such a turn
-abbrev pub turnedPiece : ℕ → ℕ → ℕ
-turnedPiece degrees i = elim (isTurn degrees) [ true ↦ i | false ↦ pieceBound ]
+abbrev pub pieceWithTurn : ℕ → ℕ → ℕ
+pieceWithTurn degrees i = elim (isTurn degrees) [ true ↦ i | false ↦ pieceBound ]
 
 -- how a descent ended
 abbrev pub endNumber : End → ℕ

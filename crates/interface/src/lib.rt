@@ -11,7 +11,7 @@ use model::Row;
 use placing::TurnAnswer;
 ghost use mathlib.Core.Path.{_≡_};
 ghost use Rattle.model.specs.Buffer.{placement};
-ghost use Rattle.interface.specs.Numbers.{directionOf, lineOf, turnedPiece, endNumber};
+ghost use Rattle.interface.specs.Numbers.{directionOf, lineOf, pieceWithTurn, endNumber};
 ghost use Rattle.interface.specs.Replies.{done, refusedBy};
 
 pub mod record;
@@ -92,8 +92,8 @@ pub fn placement_of(turn: u16, x: u16, y: u16) -> Placement
 }
 
 // The piece's number, or one that no piece has where the degrees are no turn's.
-pub fn turned_piece(turn: u16, piece: usize) -> usize
-    ensures { λ r. ⌜ r ≡ turnedPiece turn piece ⌝ }
+pub fn piece_with_turn(turn: u16, piece: usize) -> usize
+    ensures { λ r. ⌜ r ≡ pieceWithTurn turn piece ⌝ }
 {
     match placing::turn_of(turn) {
         TurnAnswer::Known(_) => piece,

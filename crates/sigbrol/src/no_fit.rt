@@ -1,9 +1,9 @@
 // No-fit rows and columns of two pieces.
 use interface::Reply;
 use interface::done;
+use interface::piece_with_turn;
 use interface::refused;
 use interface::size_of;
-use interface::turned_piece;
 use model::ColumnOffset;
 use model::RowOffset;
 use nofit_calls::RunsAnswer;
@@ -14,7 +14,7 @@ ghost use Rattle.model.specs.Buffer.{turnOf};
 ghost use Rattle.model.specs.Calls.{leaving, noFitCall, runsAfter};
 ghost use Rattle.model.specs.declared.Direction.the-variants.{Horizontal, Vertical};
 ghost use Rattle.nofit_calls.specs.Lines.{lentStretch};
-ghost use Rattle.interface.specs.Numbers.{lentAs, turnedPiece};
+ghost use Rattle.interface.specs.Numbers.{lentAs, pieceWithTurn};
 ghost use Rattle.interface.specs.Replies.{replyTo};
 
 // The no-fit row of two pieces at a row offset: the column offsets at which they share a pixel.
@@ -35,19 +35,19 @@ pub extern "C" fn sigbrol_no_fit_row(
     runs: &mut [[i32; 2]],
     runs_count: &mut usize,
 ) -> Reply
-    ensures answer { λ r. ⌜ r ≡ replyTo (noFitCall Horizontal (lentAs rows columns count (now (table .entry)) (now (pixels .entry))) (lentStretch (turnedPiece «i_turn» i) (turnOf «i_turn») (now («i_strips» .entry))) (lentStretch (turnedPiece «k_turn» k) (turnOf «k_turn») (now («k_strips» .entry))) offset (length (now (runs .entry)))) ⌝ }
-    ensures memory { λ r. ⌜ now (runs .exit) ≡ runsAfter (now (runs .entry)) (noFitCall Horizontal (lentAs rows columns count (now (table .entry)) (now (pixels .entry))) (lentStretch (turnedPiece «i_turn» i) (turnOf «i_turn») (now («i_strips» .entry))) (lentStretch (turnedPiece «k_turn» k) (turnOf «k_turn») (now («k_strips» .entry))) offset (length (now (runs .entry)))) ⌝ }
-    ensures counted { λ r. ⌜ now («runs_count» .exit) ≡ leaving (λ a. length a) (now («runs_count» .entry)) (noFitCall Horizontal (lentAs rows columns count (now (table .entry)) (now (pixels .entry))) (lentStretch (turnedPiece «i_turn» i) (turnOf «i_turn») (now («i_strips» .entry))) (lentStretch (turnedPiece «k_turn» k) (turnOf «k_turn») (now («k_strips» .entry))) offset (length (now (runs .entry)))) ⌝ }
+    ensures answer { λ r. ⌜ r ≡ replyTo (noFitCall Horizontal (lentAs rows columns count (now (table .entry)) (now (pixels .entry))) (lentStretch (pieceWithTurn «i_turn» i) (turnOf «i_turn») (now («i_strips» .entry))) (lentStretch (pieceWithTurn «k_turn» k) (turnOf «k_turn») (now («k_strips» .entry))) offset (length (now (runs .entry)))) ⌝ }
+    ensures memory { λ r. ⌜ now (runs .exit) ≡ runsAfter (now (runs .entry)) (noFitCall Horizontal (lentAs rows columns count (now (table .entry)) (now (pixels .entry))) (lentStretch (pieceWithTurn «i_turn» i) (turnOf «i_turn») (now («i_strips» .entry))) (lentStretch (pieceWithTurn «k_turn» k) (turnOf «k_turn») (now («k_strips» .entry))) offset (length (now (runs .entry)))) ⌝ }
+    ensures counted { λ r. ⌜ now («runs_count» .exit) ≡ leaving (λ a. length a) (now («runs_count» .entry)) (noFitCall Horizontal (lentAs rows columns count (now (table .entry)) (now (pixels .entry))) (lentStretch (pieceWithTurn «i_turn» i) (turnOf «i_turn») (now («i_strips» .entry))) (lentStretch (pieceWithTurn «k_turn» k) (turnOf «k_turn») (now («k_strips» .entry))) offset (length (now (runs .entry)))) ⌝ }
 {
     let size = size_of(rows, columns, count);
     match nofit_calls::no_fit_row(
         size,
         table,
         pixels,
-        turned_piece(i_turn, i),
+        piece_with_turn(i_turn, i),
         turn_or_zero(i_turn),
         i_strips,
-        turned_piece(k_turn, k),
+        piece_with_turn(k_turn, k),
         turn_or_zero(k_turn),
         k_strips,
         RowOffset(offset),
@@ -79,19 +79,19 @@ pub extern "C" fn sigbrol_no_fit_column(
     runs: &mut [[i32; 2]],
     runs_count: &mut usize,
 ) -> Reply
-    ensures answer { λ r. ⌜ r ≡ replyTo (noFitCall Vertical (lentAs rows columns count (now (table .entry)) (now (pixels .entry))) (lentStretch (turnedPiece «i_turn» i) (turnOf «i_turn») (now («i_strips» .entry))) (lentStretch (turnedPiece «k_turn» k) (turnOf «k_turn») (now («k_strips» .entry))) offset (length (now (runs .entry)))) ⌝ }
-    ensures memory { λ r. ⌜ now (runs .exit) ≡ runsAfter (now (runs .entry)) (noFitCall Vertical (lentAs rows columns count (now (table .entry)) (now (pixels .entry))) (lentStretch (turnedPiece «i_turn» i) (turnOf «i_turn») (now («i_strips» .entry))) (lentStretch (turnedPiece «k_turn» k) (turnOf «k_turn») (now («k_strips» .entry))) offset (length (now (runs .entry)))) ⌝ }
-    ensures counted { λ r. ⌜ now («runs_count» .exit) ≡ leaving (λ a. length a) (now («runs_count» .entry)) (noFitCall Vertical (lentAs rows columns count (now (table .entry)) (now (pixels .entry))) (lentStretch (turnedPiece «i_turn» i) (turnOf «i_turn») (now («i_strips» .entry))) (lentStretch (turnedPiece «k_turn» k) (turnOf «k_turn») (now («k_strips» .entry))) offset (length (now (runs .entry)))) ⌝ }
+    ensures answer { λ r. ⌜ r ≡ replyTo (noFitCall Vertical (lentAs rows columns count (now (table .entry)) (now (pixels .entry))) (lentStretch (pieceWithTurn «i_turn» i) (turnOf «i_turn») (now («i_strips» .entry))) (lentStretch (pieceWithTurn «k_turn» k) (turnOf «k_turn») (now («k_strips» .entry))) offset (length (now (runs .entry)))) ⌝ }
+    ensures memory { λ r. ⌜ now (runs .exit) ≡ runsAfter (now (runs .entry)) (noFitCall Vertical (lentAs rows columns count (now (table .entry)) (now (pixels .entry))) (lentStretch (pieceWithTurn «i_turn» i) (turnOf «i_turn») (now («i_strips» .entry))) (lentStretch (pieceWithTurn «k_turn» k) (turnOf «k_turn») (now («k_strips» .entry))) offset (length (now (runs .entry)))) ⌝ }
+    ensures counted { λ r. ⌜ now («runs_count» .exit) ≡ leaving (λ a. length a) (now («runs_count» .entry)) (noFitCall Vertical (lentAs rows columns count (now (table .entry)) (now (pixels .entry))) (lentStretch (pieceWithTurn «i_turn» i) (turnOf «i_turn») (now («i_strips» .entry))) (lentStretch (pieceWithTurn «k_turn» k) (turnOf «k_turn») (now («k_strips» .entry))) offset (length (now (runs .entry)))) ⌝ }
 {
     let size = size_of(rows, columns, count);
     match nofit_calls::no_fit_column(
         size,
         table,
         pixels,
-        turned_piece(i_turn, i),
+        piece_with_turn(i_turn, i),
         turn_or_zero(i_turn),
         i_strips,
-        turned_piece(k_turn, k),
+        piece_with_turn(k_turn, k),
         turn_or_zero(k_turn),
         k_strips,
         ColumnOffset(offset),

@@ -5,15 +5,15 @@ use interface::Reply;
 use interface::done;
 use interface::end_number;
 use interface::line_of;
+use interface::piece_with_turn;
 use interface::refused;
 use interface::size_of;
-use interface::turned_piece;
 use placing::turn_or_zero;
 use search::SearchAnswer;
 ghost use mathlib.Core.Path.{_≡_};
 ghost use Rattle.model.specs.Buffer.{turnOf};
 ghost use Rattle.model.specs.Calls.{leaving, searchCall, descentCall, descentAfter, guidedCall, bestAfterRun, weightsAfterRun};
-ghost use Rattle.interface.specs.Numbers.{lentAs, lineOf, turnedPiece, endNumber};
+ghost use Rattle.interface.specs.Numbers.{lentAs, lineOf, pieceWithTurn, endNumber};
 ghost use Rattle.interface.specs.Replies.{replyTo};
 
 // The best place of a piece on a line.
@@ -33,9 +33,9 @@ pub extern "C" fn sigbrol_line_search(
     sum: &mut u64,
     at: &mut usize,
 ) -> Reply
-    ensures answer { λ r. ⌜ r ≡ replyTo (searchCall (lentAs rows columns count (now (table .entry)) (now (pixels .entry))) (now (layout .entry)) (now (weights .entry)) (turnedPiece turn piece) (turnOf turn) (lineOf vertical held)) ⌝ }
-    ensures sum { λ r. ⌜ now (sum .exit) ≡ leaving (λ a. a .sum) (now (sum .entry)) (searchCall (lentAs rows columns count (now (table .entry)) (now (pixels .entry))) (now (layout .entry)) (now (weights .entry)) (turnedPiece turn piece) (turnOf turn) (lineOf vertical held)) ⌝ }
-    ensures at { λ r. ⌜ now (at .exit) ≡ leaving (λ a. a .at) (now (at .entry)) (searchCall (lentAs rows columns count (now (table .entry)) (now (pixels .entry))) (now (layout .entry)) (now (weights .entry)) (turnedPiece turn piece) (turnOf turn) (lineOf vertical held)) ⌝ }
+    ensures answer { λ r. ⌜ r ≡ replyTo (searchCall (lentAs rows columns count (now (table .entry)) (now (pixels .entry))) (now (layout .entry)) (now (weights .entry)) (pieceWithTurn turn piece) (turnOf turn) (lineOf vertical held)) ⌝ }
+    ensures sum { λ r. ⌜ now (sum .exit) ≡ leaving (λ a. a .sum) (now (sum .entry)) (searchCall (lentAs rows columns count (now (table .entry)) (now (pixels .entry))) (now (layout .entry)) (now (weights .entry)) (pieceWithTurn turn piece) (turnOf turn) (lineOf vertical held)) ⌝ }
+    ensures at { λ r. ⌜ now (at .exit) ≡ leaving (λ a. a .at) (now (at .entry)) (searchCall (lentAs rows columns count (now (table .entry)) (now (pixels .entry))) (now (layout .entry)) (now (weights .entry)) (pieceWithTurn turn piece) (turnOf turn) (lineOf vertical held)) ⌝ }
 {
     let size = size_of(rows, columns, count);
     match search::line_search(
@@ -44,7 +44,7 @@ pub extern "C" fn sigbrol_line_search(
         pixels,
         layout,
         weights,
-        turned_piece(turn, piece),
+        piece_with_turn(turn, piece),
         turn_or_zero(turn),
         line_of(vertical, held),
     ) {

@@ -2,18 +2,18 @@
 use cover::Reply as SheetReply;
 use interface::Reply;
 use interface::done;
+use interface::piece_with_turn;
 use interface::placement_of;
 use interface::record::read_record;
 use interface::record::write_record;
 use interface::refused;
 use interface::size_of;
-use interface::turned_piece;
 ghost use mathlib.Core.Path.{_≡_};
 ghost use lib.ListN.{length};
 ghost use Rattle.model.specs.Buffer.{placement};
 ghost use Rattle.model.specs.Calls.{freshCall, layCall, withdrawCall, countsAfter};
 ghost use Rattle.cover.specs.Answers.{sheetOf};
-ghost use Rattle.interface.specs.Numbers.{lentAs, turnedPiece};
+ghost use Rattle.interface.specs.Numbers.{lentAs, pieceWithTurn};
 ghost use Rattle.interface.specs.Records.{recordIn, recordAfter};
 ghost use Rattle.interface.specs.Replies.{replyTo};
 
@@ -58,9 +58,9 @@ pub extern "C" fn sigbrol_lay(
     x: u16,
     y: u16,
 ) -> Reply
-    ensures answer { λ r. ⌜ r ≡ replyTo (layCall (lentAs rows columns count (now (table .entry)) (now (pixels .entry))) (sheetOf (recordIn (now (entries .entry))) (now (counts .entry))) (turnedPiece turn piece) (placement turn x y)) ⌝ }
-    ensures laid { λ r. ⌜ now (entries .exit) ≡ recordAfter (now (entries .entry)) (layCall (lentAs rows columns count (now (table .entry)) (now (pixels .entry))) (sheetOf (recordIn (now (entries .entry))) (now (counts .entry))) (turnedPiece turn piece) (placement turn x y)) ⌝ }
-    ensures pixels { λ r. ⌜ now (counts .exit) ≡ countsAfter (now (counts .entry)) (layCall (lentAs rows columns count (now (table .entry)) (now (pixels .entry))) (sheetOf (recordIn (now (entries .entry))) (now (counts .entry))) (turnedPiece turn piece) (placement turn x y)) ⌝ }
+    ensures answer { λ r. ⌜ r ≡ replyTo (layCall (lentAs rows columns count (now (table .entry)) (now (pixels .entry))) (sheetOf (recordIn (now (entries .entry))) (now (counts .entry))) (pieceWithTurn turn piece) (placement turn x y)) ⌝ }
+    ensures laid { λ r. ⌜ now (entries .exit) ≡ recordAfter (now (entries .entry)) (layCall (lentAs rows columns count (now (table .entry)) (now (pixels .entry))) (sheetOf (recordIn (now (entries .entry))) (now (counts .entry))) (pieceWithTurn turn piece) (placement turn x y)) ⌝ }
+    ensures pixels { λ r. ⌜ now (counts .exit) ≡ countsAfter (now (counts .entry)) (layCall (lentAs rows columns count (now (table .entry)) (now (pixels .entry))) (sheetOf (recordIn (now (entries .entry))) (now (counts .entry))) (pieceWithTurn turn piece) (placement turn x y)) ⌝ }
 {
     let answer = cover::lay(
         size_of(rows, columns, count),
@@ -68,7 +68,7 @@ pub extern "C" fn sigbrol_lay(
         pixels,
         read_record(entries),
         counts,
-        turned_piece(turn, piece),
+        piece_with_turn(turn, piece),
         placement_of(turn, x, y),
     );
     let reply = answer.reply;

@@ -12,7 +12,7 @@ use Rattle.model.specs.Buffer.{turnOf}
 use Rattle.model.specs.Calls.{noFitCall, runsAfter}
 use Rattle.model.specs.declared.Direction.the-variants.{Horizontal}
 use Rattle.nofit_calls.specs.Lines.{lentStretch, runsAnswer}
-use Rattle.interface.specs.Numbers.{lentAs, turnedPiece}
+use Rattle.interface.specs.Numbers.{lentAs, pieceWithTurn}
 use Rattle.sigbrol.proofs.Told.{reply-by, leaves-by, runs-told}
 use Rattle.sigbrol.proofs.no_fit.sigbrol_no_fit_row.Statement.{statement}
 use Rattle.sigbrol.proofs.no_fit.sigbrol_no_fit_row.Tie as tie
@@ -22,8 +22,8 @@ outcome : tie.Start → ℤ → Outcome (List OffsetRun)
 outcome s offset =
     let a = s .args in
     noFitCall Horizontal (lentAs (a .rows) (a .columns) (a .count) (a .table .now) (a .pixels .now))
-    (lentStretch (turnedPiece (a .i-turn) (a .i)) (turnOf (a .i-turn)) (a .i-strips .now))
-    (lentStretch (turnedPiece (a .k-turn) (a .k)) (turnOf (a .k-turn)) (a .k-strips .now)) offset (length (a .runs .now))
+    (lentStretch (pieceWithTurn (a .i-turn) (a .i)) (turnOf (a .i-turn)) (a .i-strips .now))
+    (lentStretch (pieceWithTurn (a .k-turn) (a .k)) (turnOf (a .k-turn)) (a .k-strips .now)) offset (length (a .runs .now))
 
 -- answer and runs are those of an outcome
 Tells : (c : tie.After-no-fit-row) → Outcome (List OffsetRun) → Type 0
@@ -36,19 +36,19 @@ told c =
     let s = c .before .before .before .before .before .before .before .before in
     let e : toZ w32 (ofZ w32 (s .args .offset)) ≡ s .args .offset = toZ-ofZ w32 (s .args .offset) (s .fits .offset) in
     subst (λ (z : ℤ). Tells c (outcome s z)) e
-    (rw (c .before .before .before .before .before .before .size-of .ensures, c .before .before .before .before .before .turned-piece .ensures, c .before .before .before .before .turn-or-zero .ensures, c .before .before .before .turned-piece2 .ensures, c .before .before .turn-or-zero2 .ensures) at (c .no-fit-row .ensures))
+    (rw (c .before .before .before .before .before .before .size-of .ensures, c .before .before .before .before .before .piece-with-turn .ensures, c .before .before .before .before .turn-or-zero .ensures, c .before .before .before .piece-with-turn2 .ensures, c .before .before .turn-or-zero2 .ensures) at (c .no-fit-row .ensures))
 
 size-of-requires : tie.Need-size-of-requires
 size-of-requires c κs = tt
 
-turned-piece-requires : tie.Need-turned-piece-requires
-turned-piece-requires c κs = tt
+piece-with-turn-requires : tie.Need-piece-with-turn-requires
+piece-with-turn-requires c κs = tt
 
 turn-or-zero-requires : tie.Need-turn-or-zero-requires
 turn-or-zero-requires c κs = tt
 
-turned-piece-requires-2 : tie.Need-turned-piece-requires-2
-turned-piece-requires-2 c κs = tt
+piece-with-turn-requires-2 : tie.Need-piece-with-turn-requires-2
+piece-with-turn-requires-2 c κs = tt
 
 turn-or-zero-requires-2 : tie.Need-turn-or-zero-requires-2
 turn-or-zero-requires-2 c κs = tt
@@ -95,9 +95,9 @@ sigbrol-no-fit-row-spec =
     tie.close
     (tie.spec
     size-of-requires
-    turned-piece-requires
+    piece-with-turn-requires
     turn-or-zero-requires
-    turned-piece-requires-2
+    piece-with-turn-requires-2
     turn-or-zero-requires-2
     no-fit-row-requires
     enum-known-found

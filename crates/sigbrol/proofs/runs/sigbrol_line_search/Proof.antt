@@ -4,7 +4,7 @@ use Rattle.model.specs.Buffer.{turnOf}
 use Rattle.model.specs.Search.{Best}
 use Rattle.model.specs.Refusal.{Outcome}
 use Rattle.model.specs.Calls.{searchCall}
-use Rattle.interface.specs.Numbers.{lentAs, turnedPiece, lineOf}
+use Rattle.interface.specs.Numbers.{lentAs, pieceWithTurn, lineOf}
 use Rattle.search.specs.Answers.{searchAnswer}
 use Rattle.sigbrol.proofs.Told.{reply-by, leaves-by, best-told}
 use Rattle.sigbrol.proofs.runs.sigbrol_line_search.Statement.{statement}
@@ -12,18 +12,18 @@ use Rattle.sigbrol.proofs.runs.sigbrol_line_search.Tie as tie
 
 -- the outcome of the call
 outcome : tie.Start → Outcome Best
-outcome s = let a = s .args in searchCall (lentAs (a .rows) (a .columns) (a .count) (a .table .now) (a .pixels .now)) (a .layout .now) (a .weights .now) (turnedPiece (a .turn) (a .piece)) (turnOf (a .turn)) (lineOf (a .vertical) (a .held))
+outcome s = let a = s .args in searchCall (lentAs (a .rows) (a .columns) (a .count) (a .table .now) (a .pixels .now)) (a .layout .now) (a .weights .now) (pieceWithTurn (a .turn) (a .piece)) (turnOf (a .turn)) (lineOf (a .vertical) (a .held))
 
 -- its answer tells that outcome
 answered : (c : tie.After-line-search) → c .line-search .result ≡ searchAnswer (outcome (c .before .before .before .before .before .before .before))
 unfolding outcome
-answered c = rw (c .before .before .before .before .size-of .ensures, c .before .before .before .turned-piece .ensures, c .before .before .turn-or-zero .ensures, c .before .line-of .ensures) at (c .line-search .ensures)
+answered c = rw (c .before .before .before .before .size-of .ensures, c .before .before .before .piece-with-turn .ensures, c .before .before .turn-or-zero .ensures, c .before .line-of .ensures) at (c .line-search .ensures)
 
 size-of-requires : tie.Need-size-of-requires
 size-of-requires c κs = tt
 
-turned-piece-requires : tie.Need-turned-piece-requires
-turned-piece-requires c κs = tt
+piece-with-turn-requires : tie.Need-piece-with-turn-requires
+piece-with-turn-requires c κs = tt
 
 turn-or-zero-requires : tie.Need-turn-or-zero-requires
 turn-or-zero-requires c κs = tt
@@ -65,7 +65,7 @@ sigbrol-line-search-spec =
     tie.close
     (tie.spec
     size-of-requires
-    turned-piece-requires
+    piece-with-turn-requires
     turn-or-zero-requires
     line-of-requires
     line-search-requires

@@ -6,7 +6,7 @@ use Rattle.model.specs.Refusal.{Outcome}
 use Rattle.model.specs.Calls.{layCall, countsAfter}
 use Rattle.model.specs.Cover.{Sheet}
 use Rattle.cover.specs.Answers.{sheetOf, sheetAnswer}
-use Rattle.interface.specs.Numbers.{lentAs, turnedPiece}
+use Rattle.interface.specs.Numbers.{lentAs, pieceWithTurn}
 use Rattle.interface.specs.Records.{recordIn}
 use Rattle.sigbrol.proofs.Sheets.{taken-up, turned-down}
 use Rattle.sigbrol.proofs.sheet.sigbrol_lay.Statement.{statement}
@@ -16,14 +16,14 @@ use Rattle.sigbrol.proofs.sheet.sigbrol_lay.Tie as tie
 abbrev outcome : tie.After-lay → Outcome Sheet
 outcome c =
     let a = c .before .before .before .before .before .before .before .before .before .args in
-    layCall (lentAs (a .rows) (a .columns) (a .count) (a .table .now) (a .pixels .now)) (sheetOf (recordIn (a .entries .now)) (a .counts .now)) (turnedPiece (a .turn) (a .piece)) (placement (a .turn) (a .x) (a .y))
+    layCall (lentAs (a .rows) (a .columns) (a .count) (a .table .now) (a .pixels .now)) (sheetOf (recordIn (a .entries .now)) (a .counts .now)) (pieceWithTurn (a .turn) (a .piece)) (placement (a .turn) (a .x) (a .y))
 
 -- what `lay` answers
 answered : (c : tie.After-lay) → c .lay .result ≡ sheetAnswer (recordIn (c .before .before .before .before .before .before .before .before .before .args .entries .now)) (outcome c)
 answered c = rw (
   c .before .before .before .before .before .before .size-of .ensures,
   c .before .before .before .before .read-record .ensures,
-  c .before .before .turned-piece .ensures,
+  c .before .before .piece-with-turn .ensures,
   c .before .placement-of .ensures,
 ) at (c .lay .ensures .0)
 
@@ -32,7 +32,7 @@ counted : (c : tie.After-lay) → c .lay .last .1 .1 .1 .1 .0 ≡ countsAfter (c
 counted c = rw (
   c .before .before .before .before .before .before .size-of .ensures,
   c .before .before .before .before .read-record .ensures,
-  c .before .before .turned-piece .ensures,
+  c .before .before .piece-with-turn .ensures,
   c .before .placement-of .ensures,
 ) at (c .lay .ensures .1)
 
@@ -42,8 +42,8 @@ size-of-requires c κs = search needs
 read-record-requires : tie.Need-read-record-requires
 read-record-requires c κs = search needs
 
-turned-piece-requires : tie.Need-turned-piece-requires
-turned-piece-requires c κs = search needs
+piece-with-turn-requires : tie.Need-piece-with-turn-requires
+piece-with-turn-requires c κs = search needs
 
 placement-of-requires : tie.Need-placement-of-requires
 placement-of-requires c κs = search needs
@@ -90,7 +90,7 @@ sigbrol-lay-spec =
     (tie.spec
     size-of-requires
     read-record-requires
-    turned-piece-requires
+    piece-with-turn-requires
     placement-of-requires
     lay-requires
     enum-told
