@@ -16,8 +16,9 @@ use Rattle.model.specs.declared.Turn.{Turn}
 use Rattle.text_laws.proofs.LentFacts.{facts}
 use Rattle.overlap_laws.proofs.Penalty.{penalty-bound}
 use Rattle.call_laws.proofs.Jobs.{lent-turned-small}
-use Rattle.descent_laws.proofs.Claims.{ValidWeights}
-use Rattle.search_laws.proofs.PieceSum.{weightBetween, penaltyOn, weight-bound}
+use Rattle.descent_laws.specs.Claims.{ValidWeights}
+use Rattle.search_laws.specs.PieceSum.{weightBetween, penaltyOn}
+use Rattle.search_laws.proofs.PieceSum.{weight-bound}
 use Rattle.pair_table.specs.Drawn.{Laid}
 use Rattle.lines.specs.Kept.{linePlaces, HoldsLine, Kept}
 use Rattle.lines.specs.Making.{Asked}

@@ -8,7 +8,8 @@ use Rattle.model.specs.Layout.{Job, Layout}
 use Rattle.model.specs.Lent.{Lent}
 use Rattle.model.specs.Buffer.{layoutOf, placementOf}
 use Rattle.model.specs.declared.Placement.{Placement}
-use Rattle.search_laws.proofs.Table.{Renewed, renewed-self}
+use Rattle.search_laws.specs.Table.{Renewed}
+use Rattle.search_laws.proofs.Table.{renewed-self}
 use Rattle.pair_table.specs.Drawn.{Laid}
 
 -- the mover itself is passed over

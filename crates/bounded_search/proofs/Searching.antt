@@ -17,8 +17,9 @@ use Rattle.model.specs.declared.Direction.{Direction}
 use Rattle.strip_laws.proofs.Tight.{tight-side}
 use Rattle.text_laws.proofs.LentFacts.{facts}
 use Rattle.call_laws.proofs.Jobs.{lent-tight}
-use Rattle.descent_laws.proofs.Claims.{ValidWeights}
-use Rattle.search_laws.proofs.BoundedSearch.{Serves, limit, belowBound, Bounded, bounded-is, search-serves, whole-serves}
+use Rattle.descent_laws.specs.Claims.{ValidWeights}
+use Rattle.search_laws.specs.BoundedSearch.{Serves, limit, belowBound}
+use Rattle.search_laws.proofs.BoundedSearch.{Bounded, bounded-is, search-serves, whole-serves}
 use Rattle.search_laws.proofs.PieceSum.{sum-at}
 use Rattle.shapes.proofs.Jobs.{sheet}
 use Rattle.pair_table.specs.Drawn.{Laid}

@@ -22,8 +22,10 @@ use Rattle.model.proofs.Bounded.{any-none}
 use Rattle.model.proofs.Sums.{sum-step}
 use Rattle.model.proofs.Tests.{fails}
 use Rattle.overlap.proofs.Firsts.{below-or}
-use Rattle.search_laws.proofs.BoundedSearch.{Serves, serves-skip, serves-stop}
-use Rattle.search_laws.proofs.PieceSum.{weightBetween, weight-self}
+use Rattle.search_laws.specs.BoundedSearch.{Serves}
+use Rattle.search_laws.proofs.BoundedSearch.{serves-skip, serves-stop}
+use Rattle.search_laws.specs.PieceSum.{weightBetween}
+use Rattle.search_laws.proofs.PieceSum.{weight-self}
 use Rattle.search_laws.proofs.Covering.{meets, apart-penalty, meets-along, meets-across}
 use Rattle.tracks.specs.declared.Mover.{Mover}
 use Rattle.tracks.specs.declared.Track.{Track}

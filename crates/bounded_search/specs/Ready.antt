@@ -7,7 +7,7 @@ use lib.ListN.{length}
 use Rattle.model.specs.Lent.{Lent, jobOf}
 use Rattle.model.specs.Layout.{Job, Layout}
 use Rattle.model.specs.declared.Direction.{Direction}
-use Rattle.descent_laws.proofs.Claims.{ValidWeights}
+use Rattle.descent_laws.specs.Claims.{ValidWeights}
 use Rattle.shapes.specs.Shapes.{Shapes}
 use Rattle.pair_table.specs.Drawn.{Laid}
 use Rattle.lines.specs.Kept.{Kept, Wide}

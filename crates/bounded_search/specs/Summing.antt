@@ -7,8 +7,8 @@ use Rattle.model.specs.Bounded.{sumBelow}
 use Rattle.model.specs.Piece.{along, extent, lineDirection}
 use Rattle.model.specs.Layout.{Job, Layout, turnedPiece, shapeIn, cornerIn}
 use Rattle.model.specs.Search.{places}
-use Rattle.search_laws.proofs.BoundedSearch.{Serves}
-use Rattle.search_laws.proofs.PieceSum.{weightBetween, penaltyOn}
+use Rattle.search_laws.specs.BoundedSearch.{Serves}
+use Rattle.search_laws.specs.PieceSum.{weightBetween, penaltyOn}
 use Rattle.lines.specs.Kept.{linePlaces}
 use Rattle.tracks.specs.declared.Mover.{Mover}
 use Rattle.tracks.specs.declared.Track.{Track}

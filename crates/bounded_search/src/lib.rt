@@ -19,10 +19,10 @@ ghost use Rattle.model.specs.Piece.{lineDirection};
 ghost use Rattle.model.specs.Search.{places, sumAt, movedTo};
 ghost use Rattle.model.specs.Lent.{lentBy, jobOf};
 ghost use Rattle.model.specs.Buffer.{layoutOf};
-ghost use Rattle.search_laws.proofs.BoundedSearch.{belowBound};
-ghost use Rattle.search_laws.proofs.Table.{PenaltyTable};
+ghost use Rattle.search_laws.specs.BoundedSearch.{belowBound};
+ghost use Rattle.search_laws.specs.Table.{PenaltyTable};
 ghost use Rattle.lines.specs.Kept.{Kept};
-ghost use Rattle.descent_laws.proofs.Claims.{ValidWeights};
+ghost use Rattle.descent_laws.specs.Claims.{ValidWeights};
 ghost use Rattle.line_sums.specs.Answers.{foundAnswer};
 ghost use Rattle.bounded_search.specs.Ready.{SearchReady, LinesReady, OnTrack};
 

@@ -20,8 +20,8 @@ ghost use Rattle.model.specs.Piece.{lineDirection, onLine};
 ghost use Rattle.model.specs.declared.JobSize.{JobSize};
 ghost use Rattle.model.specs.Lent.{lentBy, jobOf};
 ghost use Rattle.model.specs.Buffer.{layoutOf};
-ghost use Rattle.descent_laws.proofs.Claims.{ValidWeights};
-ghost use Rattle.search_laws.proofs.Table.{Renewed};
+ghost use Rattle.descent_laws.specs.Claims.{ValidWeights};
+ghost use Rattle.search_laws.specs.Table.{Renewed};
 ghost use Rattle.bounded_search.specs.Ready.{LinesReady, OnTrack, IsStanding};
 ghost use Rattle.bounded_search.specs.Summing.{moverPenalty, LineRead, ToAdd, PartAdded, Summed};
 

@@ -6,27 +6,25 @@ use mathlib.Core.List.{List, [], _∷_, _++_, List·Memᴰ, List·Memᴰ·head, 
 use mathlib.Core.Logic.{_⊎_, inl, inr, ⊎-elim, _≢_}
 use mathlib.Core.Option.{Option, none, some}
 use mathlib.Core.Path.{_≡_, refl, sym, _∙_, ap, subst}
-use Prim.Native.Nat.{ℕ, zero, suc, _<_}
+use Prim.Native.Nat.{ℕ, zero, suc}
 use native.Mathlib.Omega.{arith}
-use Rattle.model.specs.Layout.{Job, Layout, Pair, pairsWith, pairsFrom, pairs, shapeIn, cornerIn, pairShares, firstPair, sharingPair}
+use Rattle.model.specs.Layout.{Job, Layout, Pair, pairsWith, pairsFrom, pairs, pairShares, firstPair, sharingPair}
 use Rattle.model.specs.Buffer.{layoutOf}
 use Rattle.model.specs.Lent.{Lent, jobOf}
-use Rattle.model.specs.Refusal.{Outcome, refused, given, Cause, unless, refusalOf, sharedPixel}
+use Rattle.model.specs.Refusal.{Outcome, refused, given, Cause, unless, refusalOf}
 use Rattle.model.specs.Calls.{jobCause, layoutLength, turnsCause, outsideCause, layoutCauses, sharedCause, checkCall}
 use Rattle.model.specs.declared.Refusal.{Refusal}
 use Rattle.model.proofs.Tests.{clash}
-use Rattle.strip_laws.proofs.Lists.{Pairwise, none as no-more, more, pairwise-append}
+use Rattle.strip_laws.specs.Lists.{Pairwise, none as no-more, more}
+use Rattle.strip_laws.proofs.Lists.{pairwise-append}
 use Rattle.text_laws.proofs.Outcomes.{given-unless}
-use Rattle.overlap_laws.proofs.Share.{SharedPixel, share-from, share-witness}
-use Rattle.descent_laws.proofs.Claims.{ValidLayout, NoSharedPixel}
-use Rattle.descent_laws.proofs.Sums.{Ordered, pair-mem, mem-pair, mem-with, mem-from}
+use Rattle.overlap_laws.proofs.Share.{share-from, share-witness}
+use Rattle.descent_laws.specs.Claims.{NoSharedPixel}
+use Rattle.descent_laws.proofs.Sums.{pair-mem, mem-pair, mem-with, mem-from}
+use Rattle.call_laws.specs.Checks.{PairBefore, LowestPair, Checked, sharedRefusal}
 use Rattle.call_laws.proofs.Layouts.{layout-valid}
 
 -- ── the order of pairs ──
-
--- the pair p stands before the pair q: a lower first number, or the same and a lower second
-abbrev pub PairBefore : Pair → Pair → Type 0
-PairBefore p q = (p .first < q .first) ⊎ ((p .first ≡ q .first) × (p .second < q .second))
 
 -- the pairs with first number i
 with-ordered : (i k left : ℕ) → Pairwise PairBefore (pairsWith i k left)
@@ -78,13 +76,6 @@ first-found test (p ∷ ps) (more before rest) = found-step test p ps (test p) r
 
 -- ── the check ──
 
--- the pair that the check names: of two pieces that share a pixel, and every other such pair stands after it
-pub record LowestPair (j : Job) (v : Layout) (p : Pair) : Type 0 where
-  pub ordered : Ordered 0 (j .count) p
-  pub shared : SharedPixel (shapeIn j v (p .first)) (cornerIn v (p .first)) (shapeIn j v (p .second)) (cornerIn v (p .second))
-  pub lowest : (i k : ℕ) → i < k → k < j .count → SharedPixel (shapeIn j v i) (cornerIn v i) (shapeIn j v k) (cornerIn v k)
-      → (p ≡ record { first = i; second = k }) ⊎ PairBefore p (record { first = i; second = k })
-
 -- what the search for a pair that shares a pixel finds
 abbrev pub Sharing : Job → Layout → Option Pair → Type 0
 Sharing j v none = NoSharedPixel j v
@@ -106,11 +97,6 @@ sharing-step j v (some p) found =
 pub sharing : (j : Job) (v : Layout) → Sharing j v (sharingPair j v)
 unfolding sharingPair
 sharing j v = sharing-step j v (sharingPair j v) (first-found (pairShares j v) (pairs (j .count)) (pairs-ordered (j .count)))
-
--- a layout that passes the check
-pub record Checked (j : Job) (v : Layout) : Type 0 where
-  pub valid : ValidLayout j v
-  pub apart : NoSharedPixel j v
 
 -- where the search's cause is not there, no two pieces share a pixel
 none-shared : (j : Job) (v : Layout) (o : Option Pair) → Sharing j v o → sharedCause o .there ≡ false → NoSharedPixel j v
@@ -139,10 +125,6 @@ past : {A : Type 0} (c : Cause) (cs : List Cause) (a : A) (r : Refusal) → c .n
     → unless cs a ≡ refused r
 unfolding unless
 past c cs a r n e = past-step c cs a r (c .there) n e
-
--- the refusal of a pair that shares a pixel
-abbrev pub sharedRefusal : Pair → Refusal
-sharedRefusal p = record { number = sharedPixel; first = p .first; second = p .second }
 
 -- the last cause names the pair that is found
 names-found : (j : Job) (v : Layout) (o : Option Pair) (p : Pair) → Sharing j v o

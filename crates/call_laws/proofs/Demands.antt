@@ -29,28 +29,37 @@ use Rattle.model.specs.declared.Direction.{Direction}
 use Rattle.model.specs.declared.Line.{Line}
 use Rattle.model.specs.declared.Placement.{Placement}
 use Rattle.model.specs.declared.Refusal.{Refusal}
-use Rattle.text_laws.proofs.Outcomes.{Unless}
+use Rattle.text_laws.specs.Outcomes.{Unless}
 use Rattle.text_laws.proofs.JobRead.{job-read-well}
-use Rattle.text_laws.proofs.LentRead.{Readable, lent-well-readable}
-use Rattle.overlap_laws.proofs.Share.{SharedPixel}
-use Rattle.overlap_laws.proofs.Depth.{LeastShift}
-use Rattle.overlap_laws.proofs.NoFit.{NoFitLine}
-use Rattle.cover_laws.proofs.Effects.{LayGives, WithdrawGives}
-use Rattle.cover_laws.proofs.Demand2Cover.{CoverHolds}
-use Rattle.descent_laws.proofs.Claims.{ValidLayout, TrialsClaims, DescentClaims, GuidedClaims}
+use Rattle.text_laws.specs.Texts.{Readable}
+use Rattle.text_laws.proofs.LentRead.{lent-well-readable}
+use Rattle.overlap_laws.specs.Overlap.{SharedPixel, LeastShift}
+use Rattle.overlap_laws.specs.NoFit.{NoFitLine}
+use Rattle.cover_laws.specs.Effects.{LayGives, WithdrawGives}
+use Rattle.cover_laws.specs.CoverClaims.{CoverHolds}
+use Rattle.descent_laws.specs.Claims.{ValidLayout, TrialsClaims, DescentClaims, GuidedClaims}
 use Rattle.descent_laws.proofs.Order.{trials-claims}
-use Rattle.descent_laws.proofs.Search.{Found}
-use Rattle.call_laws.proofs.Refusals.{FirstCause, refused-exactly, given-exactly, refused-leaves}
-use Rattle.call_laws.proofs.Stores.{StretchClaims, stretch-some, stretch-tells, stretch-after, stretch-lent, stretch-rebuilt}
-use Rattle.call_laws.proofs.Rebuilding.{PieceOf, RebuildClaims, RebuiltAs, strips-well-piece, rebuild-given}
-use Rattle.call_laws.proofs.Overlaps.{PenaltyClaims, SumClaims, penalty-given, penalty-order, depth-given, share-given, no-fit-given, weighted-given, plain-given}
-use Rattle.call_laws.proofs.Checks.{LowestPair, Checked, sharedRefusal, check-given, check-shared}
+use Rattle.descent_laws.specs.Search.{Found}
+use Rattle.call_laws.specs.Refusals.{FirstCause}
+use Rattle.call_laws.proofs.Refusals.{refused-exactly, given-exactly, refused-leaves}
+use Rattle.call_laws.specs.Stores.{StretchClaims}
+use Rattle.call_laws.proofs.Stores.{stretch-some, stretch-tells, stretch-after, stretch-lent, stretch-rebuilt}
+use Rattle.call_laws.specs.Rebuilding.{PieceOf, RebuildClaims, RebuiltAs}
+use Rattle.call_laws.proofs.Rebuilding.{strips-well-piece, rebuild-given}
+use Rattle.call_laws.specs.Overlaps.{PenaltyClaims, SumClaims}
+use Rattle.call_laws.proofs.Overlaps.{penalty-given, penalty-order, depth-given, share-given, no-fit-given, weighted-given, plain-given}
+use Rattle.call_laws.specs.Checks.{LowestPair, Checked, sharedRefusal}
+use Rattle.call_laws.proofs.Checks.{check-given, check-shared}
 use Rattle.call_laws.proofs.Texts.{start-given, layout-given, written-read-back}
-use Rattle.call_laws.proofs.Lengths.{UsedClaims, used-given}
-use Rattle.call_laws.proofs.Reading.{jobLeft, JobLeft, FrontRead, job-given, front-given}
-use Rattle.call_laws.proofs.Programs.{Prints, program-prints, program-refuses, program-too-long}
+use Rattle.call_laws.specs.Lengths.{UsedClaims}
+use Rattle.call_laws.proofs.Lengths.{used-given}
+use Rattle.call_laws.specs.Reading.{jobLeft, JobLeft, FrontRead}
+use Rattle.call_laws.proofs.Reading.{job-given, front-given}
+use Rattle.call_laws.specs.Programs.{Prints}
+use Rattle.call_laws.proofs.Programs.{program-prints, program-refuses, program-too-long}
 use Rattle.call_laws.proofs.Runs.{search-given, empty-line-exactly, descent-given, descent-left, guided-given, guided-left}
-use Rattle.call_laws.proofs.Sheets.{afterSheetCalls, lay-given, withdraw-given, fresh-given}
+use Rattle.call_laws.specs.Sheets.{afterSheetCalls}
+use Rattle.call_laws.proofs.Sheets.{lay-given, withdraw-given, fresh-given}
 
 -- ── demand 1: results as laid down, and refusals ──
 

@@ -20,7 +20,8 @@ use Rattle.model.specs.declared.Direction.the-variants.{Horizontal, Vertical}
 use Rattle.model.proofs.Tests.{and-left, and-right}
 use Rattle.strip_laws.proofs.Turns.{turned-tight}
 use Rattle.strip_laws.proofs.Rebuild.{strips-some}
-use Rattle.overlap_laws.proofs.NoFit.{NoFitLine, no-fit-line}
+use Rattle.overlap_laws.specs.NoFit.{NoFitLine}
+use Rattle.overlap_laws.proofs.NoFit.{no-fit-line}
 use Rattle.text_laws.proofs.LentFacts.{facts}
 use Rattle.descent_laws.proofs.Bounds.{BoxesSmall}
 

@@ -22,7 +22,7 @@ use Rattle.model.specs.declared.Turn.the-variants.{Zero, Quarter, Half, ThreeQu
 use Rattle.model.proofs.Bounded.{any-none, none-any}
 use Rattle.model.proofs.Tests.{and-left, and-right, and-both}
 use Rattle.text_laws.proofs.Entries.{entries-read-back}
-use Rattle.descent_laws.proofs.Claims.{InRange, ValidWeights, ValidLayout}
+use Rattle.descent_laws.specs.Claims.{InRange, ValidWeights, ValidLayout}
 
 -- ── layouts ──
 

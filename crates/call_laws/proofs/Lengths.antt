@@ -15,15 +15,10 @@ use Rattle.model.specs.Refusal.{given}
 use Rattle.model.specs.Calls.{layoutCauses, usedLengthCall}
 use Rattle.model.proofs.Tests.{and-left, decided}
 use Rattle.text_laws.proofs.Outcomes.{given-unless}
-use Rattle.descent_laws.proofs.Claims.{ValidLayout}
+use Rattle.descent_laws.specs.Claims.{ValidLayout}
 use Rattle.descent_laws.proofs.Lent.{lent-some}
+use Rattle.call_laws.specs.Lengths.{EndsAt, UsedClaims}
 use Rattle.call_laws.proofs.Layouts.{job-well, layout-valid}
-
--- a piece below n whose right end is m
-pub record EndsAt (j : Job) (v : Layout) (n m : ℕ) : Type 0 where
-  pub piece : ℕ
-  pub below : piece < n
-  pub is : m ≡ rightEnd j v piece
 
 module _ (j : Job) (v : Layout) where
   -- no right end is larger
@@ -55,12 +50,6 @@ module _ (j : Job) (v : Layout) where
   rightmost-attained : (n : ℕ) → 0 < n → EndsAt j v n (rightmost j v n)
   rightmost-attained zero l = absurd (not-suc-le-zero l)
   rightmost-attained (suc n) l = rightmost-next n
-
--- what a used length that is given means
-pub record UsedClaims (j : Job) (v : Layout) (n : ℕ) : Type 0 where
-  pub at-most : (i : ℕ) → i < j .count → rightEnd j v i ≤ n
-  pub attained : EndsAt j v (j .count) n
-  pub within : n ≤ j .columns
 
 -- a right end of a valid layout lies in the sheet
 end-within : (j : Job) (v : Layout) → ValidLayout j v → (i : ℕ) → i < j .count → rightEnd j v i ≤ j .columns

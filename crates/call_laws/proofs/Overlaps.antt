@@ -5,28 +5,31 @@ use mathlib.Core.Bool.{Bool, true, false, not, _&&_, _||_}
 use mathlib.Core.List.{List, [], _∷_}
 use mathlib.Core.Logic.{_↔_, _≢_}
 use mathlib.Core.Path.{_≡_, refl, sym, ap, ap₂}
-use Prim.Native.Nat.{ℕ, _<_, _≤_}
+use Prim.Native.Nat.{ℕ, _<_}
 use borrow.Author.Tests.{not-false, ltb-true, eqb-true, eqb-false, eq-eqb}
 use lib.Dec.{ltb, eqb}
 use lib.IntN.{ℤ}
-use Rattle.model.specs.Overlap.{OffsetRun, penalty}
+use Rattle.model.specs.Overlap.{OffsetRun}
 use Rattle.model.specs.Layout.{Job, Layout, turnedPiece, shapeIn, cornerIn, placeOf, pairShares, pairPenalty, pairDepth, weightedSum, plainSum, unitWeights}
 use Rattle.model.specs.Buffer.{layoutOf}
-use Rattle.model.specs.Lent.{Lent, jobOf, lentWell, sideBound}
+use Rattle.model.specs.Lent.{Lent, jobOf, lentWell}
 use Rattle.model.specs.Refusal.{given, Cause, cause, unless, noSuchPiece}
 use Rattle.model.specs.Calls.{jobCause, layoutLength, outsideCause, someTurnWrong, pairCauses, pairOf, LentStretch, known, noFitOf, shareCall, depthCall, penaltyCall, noFitCall, layoutCauses, weightedSumCall, plainSumCall}
 use Rattle.model.specs.declared.Direction.{Direction}
 use Rattle.model.specs.declared.Direction.the-variants.{Horizontal}
 use Rattle.model.proofs.Tests.{and-left, and-right, or-neither, same-tests}
-use Rattle.text_laws.proofs.Outcomes.{NoCause, given-unless}
-use Rattle.overlap_laws.proofs.Share.{SharedPixel, share-symmetric}
-use Rattle.overlap_laws.proofs.Depth.{LeastShift, depth-symmetric}
-use Rattle.overlap_laws.proofs.Penalty.{PenaltyLaws, penalty-symmetric, demand2-penalty}
-use Rattle.overlap_laws.proofs.NoFit.{NoFitLine}
-use Rattle.descent_laws.proofs.Claims.{ValidLayout, ValidWeights, NoSharedPixel}
+use Rattle.text_laws.specs.Outcomes.{NoCause}
+use Rattle.text_laws.proofs.Outcomes.{given-unless}
+use Rattle.overlap_laws.specs.Overlap.{SharedPixel, LeastShift}
+use Rattle.overlap_laws.proofs.Share.{share-symmetric}
+use Rattle.overlap_laws.proofs.Depth.{depth-symmetric}
+use Rattle.overlap_laws.proofs.Penalty.{penalty-symmetric, demand2-penalty}
+use Rattle.overlap_laws.specs.NoFit.{NoFitLine}
+use Rattle.descent_laws.specs.Claims.{ValidLayout, ValidWeights}
 use Rattle.descent_laws.proofs.Sums.{zero-exactly}
 use Rattle.descent_laws.proofs.Guided.{unit-valid}
-use Rattle.descent_laws.proofs.Bounds.{sumBound, weighted-at-most}
+use Rattle.descent_laws.proofs.Bounds.{weighted-at-most}
+use Rattle.call_laws.specs.Overlaps.{PairLaws, PenaltyClaims, SumClaims}
 use Rattle.call_laws.proofs.Jobs.{lent-sheet, lent-boxes-small, lent-turned-small, lent-no-fit}
 use Rattle.call_laws.proofs.Layouts.{job-well, layout-valid, lent-weights-valid}
 
@@ -57,20 +60,6 @@ pair-given l es i k none =
       second = ltb-true k (l .count) (not-false _ (ab .1));
       distinct = eqb-false i k (abc .1);
     }
-
--- demand 2's laws of the shared-pixel test and the penalty, of two pieces where the layout puts them
-abbrev pub PairLaws : Job → Layout → ℕ → ℕ → Type 0
-PairLaws j v i k = PenaltyLaws (shapeIn j v i) (cornerIn v i) (shapeIn j v k) (cornerIn v k)
-
--- what a penalty that is given means
-pub record PenaltyClaims (j : Job) (v : Layout) (i k n : ℕ) : Type 0 where
-  -- it is the penalty of the two pieces' pixel sets, of which demand 2's laws hold
-  pub is : n ≡ penalty (shapeIn j v i) (cornerIn v i) (shapeIn j v k) (cornerIn v k)
-  pub laws : PairLaws j v i k
-  -- it is 0 exactly when they share no pixel
-  pub zero-exactly : (n ≡ 0) ↔ (¬ SharedPixel (shapeIn j v i) (cornerIn v i) (shapeIn j v k) (cornerIn v k))
-  -- it is at most 255
-  pub small : n ≤ sideBound
 
 -- a penalty that the call gives
 pub penalty-given : (l : Lent) (es : List (List ℕ)) (i k n : ℕ) → penaltyCall l es i k ≡ given n → PenaltyClaims (jobOf l) (layoutOf es) i k n
@@ -122,12 +111,6 @@ no-fit-given d l p q o room rs e =
     rw (← u .same) (lent-no-fit l (job-well l (u .none .0)) d (p .piece) (q .piece) (p .turn) (q .turn) a b o)
 
 -- ── sums ──
-
--- what a sum that is given means: it is 0 exactly when no two pieces share a pixel, and it is at most 2,016 × 65,535 × 255
-pub record SumClaims (j : Job) (ws : List ℕ) (v : Layout) (n : ℕ) : Type 0 where
-  pub is : n ≡ weightedSum j ws v
-  pub zero-exactly : (n ≡ 0) ↔ NoSharedPixel j v
-  pub small : n ≤ sumBound
 
 -- of a weighted sum of a lent job by valid weights
 sum-claims : (l : Lent) (ws : List ℕ) (v : Layout) → lentWell l ≡ true → ValidWeights (jobOf l) ws → SumClaims (jobOf l) ws v (weightedSum (jobOf l) ws v)

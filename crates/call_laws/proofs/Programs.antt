@@ -9,18 +9,17 @@ use borrow.Author.Tests.{lt-ltb}
 use lib.ListN.{length}
 use Rattle.model.specs.Layout.{unitWeights}
 use Rattle.model.specs.Buffer.{entriesOf}
-use Rattle.model.specs.Guided.{rounds}
 use Rattle.model.specs.Start.{start}
 use Rattle.model.specs.Lent.{Lent, jobOf, lentWell, pieceBound, areaBound}
 use Rattle.model.specs.Refusal.{refused, given, wrongLength}
 use Rattle.model.specs.JobText.{readJob}
-use Rattle.model.specs.Program.{programRounds, programBudget, refusalText, runText, programRun, printed, programText}
+use Rattle.model.specs.Program.{programRounds, programBudget, refusalText, programRun, printed, programText}
 use Rattle.model.specs.Calls.{guidedCall}
 use Rattle.model.specs.declared.Refusal.{Refusal}
 use Rattle.text_laws.proofs.JobRead.{job-read-well}
-use Rattle.descent_laws.proofs.Claims.{GuidedClaims}
 use Rattle.descent_laws.proofs.Guided.{unit-valid}
 use Rattle.descent_laws.proofs.Lent.{lent-start-valid, lent-demand3}
+use Rattle.call_laws.specs.Programs.{Prints}
 use Rattle.call_laws.proofs.Refusals.{not-less}
 use Rattle.call_laws.proofs.Runs.{guided-taken}
 
@@ -31,15 +30,6 @@ unfolding programRun
 program-run-given l well =
     guided-taken l well (start (jobOf l)) (lent-start-valid l well) (unitWeights (jobOf l .count)) (unit-valid (jobOf l)) programRounds
     programBudget refl (omega arith)
-
--- what the program prints for an input of at most 65,536 bytes that is read as the job l
-pub record Prints (input : List ℕ) (l : Lent) : Type 0 where
-  -- the calls give the run, and its text is printed
-  pub run : guidedCall l (entriesOf (start (jobOf l))) (unitWeights (jobOf l .count)) programRounds programBudget ≡ given (programRun (jobOf l))
-  pub text : programText input ≡ runText (jobOf l) (programRun (jobOf l))
-  -- demand 3's claims hold of the run
-  pub claims : GuidedClaims (jobOf l) (unitWeights (jobOf l .count)) programBudget programRounds (start (jobOf l))
-      (rounds (jobOf l) programBudget programRounds (unitWeights (jobOf l .count)) (start (jobOf l))) (programRun (jobOf l))
 
 -- an input that is not too long is read
 program-reads : (input : List ℕ) → length input ≤ areaBound → programText input ≡ printed (readJob input pieceBound areaBound)

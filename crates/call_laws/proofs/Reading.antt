@@ -14,9 +14,11 @@ use Rattle.model.specs.Lent.{Lent, entryColumns, entryRows, entryTurns, pixelSt
 use Rattle.model.specs.Refusal.{given}
 use Rattle.model.specs.JobText.{readJob}
 use Rattle.model.specs.Calls.{tableAfter, storeAfter}
-use Rattle.text_laws.proofs.Store.{start-end, in-box, Agree, tight-agree}
+use Rattle.text_laws.specs.Texts.{Agree}
+use Rattle.text_laws.proofs.Store.{start-end, in-box, tight-agree}
 use Rattle.text_laws.proofs.LentFacts.{Facts, facts, well}
 use Rattle.text_laws.proofs.JobRead.{sides-some, JustRead, job-read-well, job-read-just}
+use Rattle.call_laws.specs.Reading.{jobLeft, JobLeft, FrontRead}
 
 -- the job with more entries and bytes behind its own
 abbrev pub longer : Lent → List (List ℕ) → List ℕ → Lent
@@ -78,25 +80,6 @@ module _ (k : Lent) (passes : lentWell k ≡ true) (more : List (List ℕ)) (byt
         tightBoxes = λ i l. tight-agree (lentShape (longer k more bytes) i) (lentShape k i) (longer-agree i l) ∙ f .tightBoxes i l;
       })
 
--- the job that stands in the lent buffers after a reading
-abbrev pub jobLeft : List ℕ → List (List ℕ) → List ℕ → Lent → Lent
-jobLeft text table pixels k =
-    record {
-      rows = k .rows;
-      columns = k .columns;
-      count = k .count;
-      table = tableAfter table (readJob text (length table) (length pixels));
-      pixels = storeAfter pixels (readJob text (length table) (length pixels));
-    }
-
--- what is said of the job that a reading leaves, where it gave k
-pub record JobLeft (k left : Lent) : Type 0 where
-  -- it passes the check that every call makes of a lent job
-  pub passes : lentWell left ≡ true
-  -- its pieces have the boxes, the pixels and the turns that were read
-  pub pieces : (i : ℕ) → i < k .count → Agree (lentShape left i) (lentShape k i)
-  pub turns : (i : ℕ) → i < k .count → entryTurns (left .table) i ≡ entryTurns (k .table) i
-
 -- it is so, for a text and buffers of any content
 pub job-given : (text : List ℕ) (table : List (List ℕ)) (pixels : List ℕ) (k : Lent) → readJob text (length table) (length pixels) ≡ given k
     → JobLeft k (jobLeft text table pixels k)
@@ -110,11 +93,6 @@ job-given text table pixels k e =
       pieces = longer-agree k passes more bytes;
       turns = λ i l. ap (λ (x : List ℕ). getD x 2 0) (same-entry k passes more bytes i l);
     })
-
--- the front of the lent buffers is the job that was read, entry by entry and byte by byte
-pub record FrontRead (text : List ℕ) (table : List (List ℕ)) (pixels : List ℕ) (k : Lent) : Type 0 where
-  pub entries : take (k .count) (tableAfter table (readJob text (length table) (length pixels))) ≡ k .table
-  pub bytes : take (pixelStart (k .table) (k .count)) (storeAfter pixels (readJob text (length table) (length pixels))) ≡ k .pixels
 
 -- it is so: a call that is lent just these parts is lent the job that was read
 pub front-given : (text : List ℕ) (table : List (List ℕ)) (pixels : List ℕ) (k : Lent) → readJob text (length table) (length pixels) ≡ given k

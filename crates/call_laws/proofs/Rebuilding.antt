@@ -20,9 +20,12 @@ use Rattle.model.specs.declared.Direction.{Direction}
 use Rattle.model.specs.declared.Direction.the-variants.{Horizontal}
 use Rattle.model.proofs.Tests.{and-left, and-right, and-both}
 use Rattle.text_laws.proofs.Outcomes.{given-unless, unless-given}
-use Rattle.strip_laws.proofs.Boxes.{SameShape, same-cell}
-use Rattle.strip_laws.proofs.Rebuild.{HasStrips, rebuilt-columns, rebuilt-rows, rebuilt-only}
+use Rattle.strip_laws.specs.Boxes.{SameShape}
+use Rattle.strip_laws.proofs.Boxes.{same-cell}
+use Rattle.strip_laws.specs.Strips.{HasStrips}
+use Rattle.strip_laws.proofs.Rebuild.{rebuilt-columns, rebuilt-rows, rebuilt-only}
 use Rattle.strip_laws.proofs.ValidStrips.{PieceHas, piece-exactly, valid-rebuilt}
+use Rattle.call_laws.specs.Rebuilding.{PieceOf, RebuildClaims, RebuiltAs}
 use Rattle.call_laws.proofs.Lists.{same-entries, same-entries-exactly}
 use Rattle.call_laws.proofs.Refusals.{not-less}
 
@@ -86,13 +89,6 @@ strips-well-exactly d l w ts = (
       (and-both (v .1) (same-entries-exactly _ _ .1 (ap (λ (us : List Strip). map stripEntry us) (valid-rebuilt d l w ts (v .0))))),
 )
 
--- a piece of the box, whose strips stand in the lent entries
-pub record PieceOf (d : Direction) (l w : ℕ) (es : List (List ℕ)) (s : Shape) : Type 0 where
-  pub columns : s .columns ≡ l
-  pub rows : s .rows ≡ w
-  pub is-tight : tight s ≡ true
-  pub are : map stripEntry (strips d s) ≡ es
-
 -- ── the call ──
 
 -- where the test passes, the rebuilt set is such a piece
@@ -127,12 +123,6 @@ piece-well d l w es s p =
 pub strips-well-piece : (d : Direction) (l w : ℕ) (es : List (List ℕ)) → (stripsWell d l w es ≡ true) ↔ ((s : Shape) × PieceOf d l w es s)
 strips-well-piece d l w es = (λ e. (rebuiltFrom d l w es, well-piece d l w es e), λ h. piece-well d l w es (h .0) (h .1))
 
--- what rebuilding gives: a piece of the box that has the strips, the only one, and so its bytes are those of each piece that has them
-pub record RebuildClaims (d : Direction) (l w : ℕ) (es : List (List ℕ)) (s : Shape) : Type 0 where
-  pub piece : PieceOf d l w es s
-  pub only : (u : Shape) → PieceOf d l w es u → SameShape s u
-  pub bytes : (u : Shape) → PieceOf d l w es u → bytesOf s ≡ bytesOf u
-
 -- it is so, whatever is lent
 pub rebuild-given : (d : Direction) (l w : ℕ) (es : List (List ℕ)) (room : ℕ) (s : Shape) → rebuildCall d l w es room ≡ given s
     → RebuildClaims d l w es s
@@ -144,13 +134,6 @@ rebuild-given d l w es room s e =
     λ v p. rebuilt-only d l w (map entryStrip es) v (piece-strips d l w es v p) in
     rw (← u .same)
     (record { piece = well-piece d l w es well; only = same; bytes = λ v p. same-bytes (rebuiltFrom d l w es) v (same v p) })
-
--- lent strips are rebuilt as the piece s
-pub record RebuiltAs (d : Direction) (es : List (List ℕ)) (s : Shape) (room : ℕ) : Type 0 where
-  pub shape : Shape
-  pub gives : rebuildCall d (s .columns) (s .rows) es room ≡ given shape
-  pub same : SameShape shape s
-  pub bytes : bytesOf shape ≡ bytesOf s
 
 -- they are, where they are its strips, its sides are 1 to 255 and the pixel buffer has room for its box
 pub rebuilt-back : (d : Direction) (es : List (List ℕ)) (s : Shape) (room : ℕ) → PieceOf d (s .columns) (s .rows) es s

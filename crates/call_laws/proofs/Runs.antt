@@ -25,8 +25,9 @@ use Rattle.model.specs.declared.Line.{Line}
 use Rattle.model.proofs.Tests.{or-neither, passes}
 use Rattle.text_laws.proofs.Entries.{entries-read-back}
 use Rattle.text_laws.proofs.Outcomes.{given-unless, unless-given}
-use Rattle.descent_laws.proofs.Claims.{ValidWeights, ValidLayout, DescentClaims, GuidedClaims}
-use Rattle.descent_laws.proofs.Search.{Found, Searched, searched, inside-below, below-inside}
+use Rattle.descent_laws.specs.Claims.{ValidWeights, ValidLayout, DescentClaims, GuidedClaims}
+use Rattle.descent_laws.specs.Search.{Found}
+use Rattle.descent_laws.proofs.Search.{Searched, searched, inside-below, below-inside}
 use Rattle.descent_laws.proofs.Lent.{lent-some}
 use Rattle.descent_laws.proofs.Demand3.{demand3}
 use Rattle.call_laws.proofs.Refusals.{or-none, not-less}

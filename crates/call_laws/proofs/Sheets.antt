@@ -16,8 +16,11 @@ use Rattle.model.specs.Calls.{sheetCauses, freshCall, layCall, withdrawCall}
 use Rattle.model.specs.declared.Placement.{Placement}
 use Rattle.text_laws.proofs.Outcomes.{given-unless}
 use Rattle.cover_laws.proofs.Reached.{well-sound}
-use Rattle.cover_laws.proofs.Effects.{LayGives, WithdrawGives, lay-gives, withdraw-gives, fresh-well, call-well}
-use Rattle.cover_laws.proofs.Demand2Cover.{CoverHolds, demand2-cover}
+use Rattle.cover_laws.specs.Effects.{LayGives, WithdrawGives}
+use Rattle.cover_laws.proofs.Effects.{lay-gives, withdraw-gives, fresh-well, call-well}
+use Rattle.cover_laws.specs.CoverClaims.{CoverHolds}
+use Rattle.cover_laws.proofs.Demand2Cover.{demand2-cover}
+use Rattle.call_laws.specs.Sheets.{sheetCall, afterSheetCalls}
 use Rattle.call_laws.proofs.Jobs.{lent-sheet}
 use Rattle.call_laws.proofs.Layouts.{job-well}
 
@@ -57,16 +60,6 @@ withdraw-given l s s′ i e =
     withdraw-gives (jobOf l) (lent-sheet l well .count) s s′ i sheet (sym (withdraw-call l s i well sheet) ∙ e)
 
 -- ── lists of calls ──
-
--- a public call on a sheet
-abbrev pub sheetCall : Lent → Sheet → Call → Outcome Sheet
-sheetCall l s (laying i p) = layCall l s i p
-sheetCall l s (withdrawing i) = withdrawCall l s i
-
--- the sheet after a list of public calls, where a refused one changes nothing
-unfoldable pub afterSheetCalls : Lent → Sheet → List Call → Sheet
-afterSheetCalls l s [] = s
-afterSheetCalls l s (c ∷ cs) = afterSheetCalls l (afterwards s (sheetCall l s c)) cs
 
 -- a public call is the call that cover_laws speaks of
 sheet-call : (l : Lent) (s : Sheet) (c : Call) → lentWell l ≡ true → sheetWell (jobOf l) s ≡ true → sheetCall l s c ≡ called (jobOf l) s c

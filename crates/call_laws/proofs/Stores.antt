@@ -24,11 +24,13 @@ use Rattle.model.specs.declared.Direction.{Direction}
 use Rattle.model.specs.declared.Direction.the-variants.{Horizontal, Vertical}
 use Rattle.model.proofs.Tests.{and-left, and-right, and-both, or-neither}
 use Rattle.text_laws.proofs.Outcomes.{given-unless, unless-given}
+use Rattle.call_laws.specs.Stores.{StretchClaims}
 use Rattle.call_laws.proofs.Lists.{same-numbers, same-entries, same-numbers-exactly, same-entries-exactly}
 use Rattle.call_laws.proofs.Jobs.{lent-strips-some, lent-tight, lent-side-in-range}
 use Rattle.call_laws.proofs.Layouts.{job-well}
 use Rattle.call_laws.proofs.Refusals.{refused-numbered, or-none}
-use Rattle.call_laws.proofs.Rebuilding.{RebuiltAs, rebuilt-back}
+use Rattle.call_laws.specs.Rebuilding.{RebuiltAs}
+use Rattle.call_laws.proofs.Rebuilding.{rebuilt-back}
 
 module _ (d : Direction) (j : Job) (ts : List ℕ) where
   -- the first start
@@ -104,13 +106,6 @@ stretch-of Vertical j ts lent i e l =
     (and-right (storeWell Horizontal j ts (lent .rowStrips) (lent .rowStarts)) _ e) l
 
 -- ── the stretch call ──
-
--- a stretch that the call gives: the strips of a piece of the lent job in its turn, at least one
-pub record StretchClaims (l : Lent) (ts : List ℕ) (i : ℕ) (d : Direction) (part : List (List ℕ)) : Type 0 where
-  pub well : lentWell l ≡ true
-  pub there : i < jobOf l .count
-  pub strips-are : part ≡ map stripEntry (pieceStrips d (jobOf l) ts i)
-  pub some : 0 < length part
 
 -- it is so, whatever is lent
 pub stretch-some : (l : Lent) (ts : List ℕ) (lent : Stores) (i : ℕ) (d : Direction) (part : List (List ℕ))

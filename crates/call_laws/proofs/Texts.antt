@@ -16,7 +16,7 @@ use Rattle.model.specs.Calls.{jobCause, layoutCauses, atLeast, startCall, write
 use Rattle.text_laws.proofs.Outcomes.{given-unless, given-before}
 use Rattle.text_laws.proofs.LayoutRead.{layout-read-placed}
 use Rattle.text_laws.proofs.LayoutReadBack.{layout-read-back}
-use Rattle.descent_laws.proofs.Claims.{ValidLayout}
+use Rattle.descent_laws.specs.Claims.{ValidLayout}
 use Rattle.descent_laws.proofs.Lent.{lent-start-valid}
 use Rattle.call_laws.proofs.Jobs.{SheetSmall, lent-sheet}
 use Rattle.call_laws.proofs.Layouts.{job-well, layout-valid}

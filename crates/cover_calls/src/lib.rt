@@ -10,7 +10,7 @@ ghost use mathlib.Core.Path.{_≡_};
 ghost use lib.ListN.{length};
 ghost use Rattle.model.specs.Lent.{lentBy, jobOf};
 ghost use Rattle.model.specs.Cover.{afterwards, called, afterCalls};
-ghost use Rattle.cover_laws.proofs.Demand2Cover.{CoverHolds};
+ghost use Rattle.cover_laws.specs.CoverClaims.{CoverHolds};
 ghost use Rattle.cover.specs.Answers.{sheetOf, blankRecord, sheetAnswer, countsAfter};
 ghost use Rattle.cover.specs.Ready.{SheetReady};
 ghost use Rattle.cover_calls.specs.CallList.{callOf, callsOf, runOutcome};

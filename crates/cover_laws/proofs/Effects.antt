@@ -4,52 +4,21 @@
 -- Assumes nothing.
 use mathlib.Core.Bool.{true, false}
 use mathlib.Core.Path.{_≡_, subst, ap}
-use mathlib.Core.Logic.{_≢_}
-use Prim.Native.Nat.{ℕ, _+_, _-_, _*_, _<_, _≤_}
+use Prim.Native.Nat.{ℕ, _*_, _<_, _≤_}
 use lib.ListN.{getD}
 use borrow.Author.Tests.{lt-ltb}
-use Rattle.model.specs.Bounded.{one-if}
 use Rattle.model.specs.Layout.{Job, allowed}
 use Rattle.model.specs.Lent.{pieceBound}
 use Rattle.model.specs.Refusal.{refused, given, unless, laidAlready, notLaid}
-use Rattle.model.specs.Cover.{Sheet, blank, laidAt, entryIn, coversPixel, lay, withdraw, layCauses}
+use Rattle.model.specs.Cover.{Sheet, blank, laidAt, entryIn, lay, withdraw, layCauses}
 use Rattle.model.specs.Cover.{withdrawCauses, Call, laying, withdrawing, called, afterwards, fresh, sheetWell}
 use Rattle.model.specs.declared.Placement.{Placement}
 use Rattle.model.specs.declared.Entry.{Entry}
+use Rattle.cover_laws.specs.Effects.{LayGives, WithdrawGives}
 use Rattle.cover_laws.proofs.Calls.{LayTaken, WithdrawTaken, lay-given, withdraw-given}
 use Rattle.cover_laws.proofs.Counts.{Sound, lay-entry, lay-others, withdraw-entry, withdraw-others, lay-counts, withdraw-counts}
 use Rattle.cover_laws.proofs.Counts.{covered-counts, counts-bound, lay-sound, withdraw-sound, fresh-sound, call-sound}
 use Rattle.cover_laws.proofs.Reached.{well-sound, sound-well, lay-withdraw}
-
--- what a given lay of piece i at placement p makes of s
-pub record LayGives (j : Job) (s : Sheet) (i : ℕ) (p : Placement) (s′ : Sheet) : Type 0 where
-  -- the piece's entry holds the placement, and the other entries are as before
-  pub entry : entryIn (s′ .pieces) i ≡ laidAt p
-  pub others : (m : ℕ) → m ≢ i → entryIn (s′ .pieces) m ≡ entryIn (s .pieces) m
-  -- each count is one more exactly where the piece covers the pixel, and at most the number of pieces
-  pub counts : (k : ℕ) → k < j .rows * j .columns → getD (s′ .counts) k 0 ≡ getD (s .counts) k 0 + one-if (coversPixel j i p k)
-  pub bound : (k : ℕ) → k < j .rows * j .columns → getD (s′ .counts) k 0 ≤ j .count
-  -- the sheet is one that some list of calls gives
-  pub well : sheetWell j s′ ≡ true
-  -- the same lay again is refused with 13, and a withdraw at once gives the same sheet back
-  pub again : called j s′ (laying i p) ≡ refused (record { number = laidAlready; first = 0; second = 0 })
-  pub back : withdraw j s′ i ≡ s
-
--- what a given withdraw of piece i makes of s
-pub record WithdrawGives (j : Job) (s : Sheet) (i : ℕ) (s′ : Sheet) : Type 0 where
-  -- the piece's entry is blank, and the other entries are as before
-  pub entry : entryIn (s′ .pieces) i ≡ blank
-  pub others : (m : ℕ) → m ≢ i → entryIn (s′ .pieces) m ≡ entryIn (s .pieces) m
-  -- the old count is at least 1 where the piece covered the pixel: the subtraction does not stop at 0
-  pub there : (k : ℕ) → k < j .rows * j .columns → one-if (coversPixel j i (entryIn (s .pieces) i .place) k) ≤ getD (s .counts) k 0
-  -- each count is one less exactly where the piece covered the pixel, and at most the number of pieces
-  pub counts : (k : ℕ) → k < j .rows * j .columns
-      → getD (s′ .counts) k 0 ≡ getD (s .counts) k 0 - one-if (coversPixel j i (entryIn (s .pieces) i .place) k)
-  pub bound : (k : ℕ) → k < j .rows * j .columns → getD (s′ .counts) k 0 ≤ j .count
-  -- the sheet is one that some list of calls gives
-  pub well : sheetWell j s′ ≡ true
-  -- a second withdraw is refused with 14
-  pub again : called j s′ (withdrawing i) ≡ refused (record { number = notLaid; first = 0; second = 0 })
 
 -- a lay of a piece that is laid, in an allowed turn, is refused with 13
 pub laid-refused : (j : Job) (s : Sheet) (i : ℕ) (p : Placement) → i < j .count → allowed j i (p .turn) ≡ true

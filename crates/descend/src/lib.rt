@@ -14,7 +14,7 @@ ghost use Rattle.model.specs.Lent.{lentBy, jobOf};
 ghost use Rattle.model.specs.Buffer.{layoutOf};
 ghost use Rattle.model.specs.Descent.{descend};
 ghost use Rattle.model.specs.Calls.{budgetBound};
-ghost use Rattle.descent_laws.proofs.Claims.{ValidWeights};
+ghost use Rattle.descent_laws.specs.Claims.{ValidWeights};
 ghost use Rattle.trial_step.specs.Ready.{Tools, LaidOut, Stores};
 ghost use Rattle.descend.specs.Descents.{startingAt, descentOf};
 

@@ -13,8 +13,9 @@ use Rattle.model.specs.Calls.{budgetBound, someWeightWrong, descentCall}
 use Rattle.model.specs.declared.Refusal.{Refusal}
 use Rattle.model.proofs.Tests.{or-neither}
 use Rattle.text_laws.proofs.Entries.{entries-read-back}
-use Rattle.text_laws.proofs.Outcomes.{NoCause, unless-given}
-use Rattle.descent_laws.proofs.Claims.{DescentClaims}
+use Rattle.text_laws.specs.Outcomes.{NoCause}
+use Rattle.text_laws.proofs.Outcomes.{unless-given}
+use Rattle.descent_laws.specs.Claims.{DescentClaims}
 use Rattle.call_laws.proofs.Runs.{descent-given}
 use Rattle.placing.specs.Answers.{firstCause}
 use Rattle.placing.specs.declared.CauseAnswer.{CauseAnswer}

@@ -15,7 +15,7 @@ ghost use lib.ListN.{length};
 ghost use Rattle.model.specs.Lent.{lentBy, jobOf};
 ghost use Rattle.model.specs.Buffer.{layoutOf};
 ghost use Rattle.model.specs.Calls.{descentCall, descentAfter};
-ghost use Rattle.descent_laws.proofs.Claims.{DescentClaims};
+ghost use Rattle.descent_laws.specs.Claims.{DescentClaims};
 ghost use Rattle.descend.specs.Descents.{descentOf};
 ghost use Rattle.descend.specs.declared.Ended.{Ended};
 ghost use Rattle.runs.specs.Ready.{Given};

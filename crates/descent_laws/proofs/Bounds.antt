@@ -15,8 +15,9 @@ use Rattle.model.specs.declared.Turn.{Turn}
 use Rattle.model.specs.declared.Turn.the-variants.{Zero, Quarter, Half, ThreeQuarters}
 use Rattle.model.specs.declared.Direction.the-variants.{Horizontal}
 use Rattle.overlap_laws.proofs.Penalty.{penalty-bound}
-use Rattle.descent_laws.proofs.Claims.{ValidWeights, RoundClaims}
-use Rattle.descent_laws.proofs.Sums.{Ordered, mem-pair, piece-at-most}
+use Rattle.descent_laws.specs.Sums.{sumBound, Ordered}
+use Rattle.descent_laws.specs.Claims.{ValidWeights, RoundClaims}
+use Rattle.descent_laws.proofs.Sums.{mem-pair, piece-at-most}
 
 -- ── how many pairs ──
 
@@ -85,10 +86,6 @@ pair-penalty-at-most j small v p m =
     let second : p .second < j .count = o .below in
     let first : p .first < j .count = (let l = o .rising in omega arith) in
     penalty-bound _ _ _ _ Horizontal (piece-columns j small v (p .first) first) (piece-columns j small v (p .second) second)
-
--- the largest weighted sum: 2,016 pairs, each of weight 65,535 and penalty 255
-abbrev pub sumBound : ℕ
-sumBound = 2016 * (weightBound * sideBound)
 
 -- a weighted sum of at most 64 pieces
 pub weighted-at-most : (j : Job) (ws : List ℕ) (v : Layout) → j .count ≤ pieceBound → BoxesSmall j → ValidWeights j ws → weightedSum j ws v ≤ sumBound

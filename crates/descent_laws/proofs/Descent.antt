@@ -24,10 +24,12 @@ use Rattle.model.specs.declared.Direction.the-variants.{Horizontal, Vertical}
 use Rattle.model.specs.declared.Line.{Line}
 use Rattle.model.specs.declared.Line.the-variants.{InRow, InColumn}
 use Rattle.model.specs.declared.Placement.{Placement}
-use Rattle.descent_laws.proofs.Claims.{ValidWeights, ValidLayout, Rival, DescentClaims}
+use Rattle.descent_laws.specs.Claims.{ValidWeights, ValidLayout, Rival, DescentClaims}
 use Rattle.descent_laws.proofs.Sums.{placed-anew, zero-exactly}
-use Rattle.descent_laws.proofs.Search.{Found, Searched, searched}
-use Rattle.descent_laws.proofs.Trials.{position, at-mem, trialOf, trial-mem, Proper, mem-trial}
+use Rattle.descent_laws.specs.Search.{Found}
+use Rattle.descent_laws.proofs.Search.{Searched, searched}
+use Rattle.descent_laws.specs.Trials.{trialOf, Proper}
+use Rattle.descent_laws.proofs.Trials.{position, at-mem, trial-mem, mem-trial}
 use Rattle.descent_laws.proofs.Run.{impossible, trialAt, Ran, ran}
 
 -- ── layouts ──

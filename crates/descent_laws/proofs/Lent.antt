@@ -15,10 +15,11 @@ use Rattle.model.specs.Lent.{Lent, rowBound, columnBound, pieceBound, sideBound
 use Rattle.model.specs.declared.Turn.the-variants.{Zero}
 use Rattle.model.proofs.Tests.{and-left, and-right}
 use Rattle.model.proofs.Bounded.{all-at}
-use Rattle.descent_laws.proofs.Claims.{ValidLayout}
-use Rattle.descent_laws.proofs.Start.{BoxesFit, start-valid}
+use Rattle.descent_laws.specs.Claims.{ValidLayout, Demand3}
+use Rattle.descent_laws.specs.Start.{BoxesFit}
+use Rattle.descent_laws.proofs.Start.{start-valid}
 use Rattle.descent_laws.proofs.Guided.{unit-valid}
-use Rattle.descent_laws.proofs.Demand3.{Demand3, demand3}
+use Rattle.descent_laws.proofs.Demand3.{demand3}
 
 -- the parts of the check that are used here
 record Passed (l : Lent) : Type 0 where

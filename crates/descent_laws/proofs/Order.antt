@@ -14,8 +14,9 @@ use Rattle.model.specs.declared.Turn.{Turn}
 use Rattle.model.specs.declared.Turn.the-variants.{Zero, Quarter, Half, ThreeQuarters}
 use Rattle.model.specs.declared.Direction.{Direction}
 use Rattle.model.specs.declared.Direction.the-variants.{Horizontal, Vertical}
-use Rattle.descent_laws.proofs.Claims.{TrialsClaims}
-use Rattle.descent_laws.proofs.Trials.{trialOf, trial-mem, mem-trial}
+use Rattle.descent_laws.specs.Claims.{TrialsClaims}
+use Rattle.descent_laws.specs.Trials.{trialOf}
+use Rattle.descent_laws.proofs.Trials.{trial-mem, mem-trial}
 
 -- ── rising lists ──
 

@@ -11,12 +11,13 @@ use native.Mathlib.Omega.{arith}
 use borrow.Author.Tests.{leb-true, le-leb, ltb-true, ltb-false}
 use lib.Dec.{leb, ltb}
 use Rattle.model.specs.Piece.{extent, other, lineDirection, held, onLine}
-use Rattle.model.specs.Layout.{Job, Layout, sheetExtent, turnedPiece, inside, pieceSum}
-use Rattle.model.specs.Search.{Best, places, movedTo, sumAt, least, searchLine}
+use Rattle.model.specs.Layout.{Job, Layout, sheetExtent, turnedPiece, inside}
+use Rattle.model.specs.Search.{Best, places, sumAt, least, searchLine}
 use Rattle.model.specs.declared.Turn.{Turn}
 use Rattle.model.specs.declared.Line.{Line}
 use Rattle.model.specs.declared.Line.the-variants.{InRow, InColumn}
 use Rattle.model.proofs.Tests.{and-left, and-right, and-both}
+use Rattle.descent_laws.specs.Search.{Found}
 
 -- ── the inside corners on a line ──
 
@@ -93,13 +94,6 @@ least-is f zero =
 least-is f (suc n) = least-step f n (least f n) (least-is f n) _ refl
 
 -- ── the line search ──
-
--- b is attained at an inside corner, no inside corner has a smaller sum, and every smaller coordinate has a larger one
-pub record Found (j : Job) (ws : List ℕ) (v : Layout) (i : ℕ) (t : Turn) (line : Line) (b : Best) : Type 0 where
-  pub insideSheet : inside j i (onLine line t (b .at)) ≡ true
-  pub attained : b .sum ≡ pieceSum j ws (movedTo v i t line (b .at)) i
-  pub least : (a : ℕ) → inside j i (onLine line t a) ≡ true → b .sum ≤ pieceSum j ws (movedTo v i t line a) i
-  pub smallest : (a : ℕ) → a < b .at → b .sum < pieceSum j ws (movedTo v i t line a) i
 
 -- what an answer of the line search means: none, no inside corner lies on the line; or the best is found
 abbrev pub Searched : Job → List ℕ → Layout → ℕ → Turn → Line → Option Best → Type 0

@@ -19,7 +19,8 @@ use Rattle.model.specs.declared.Placement.{Placement}
 use Rattle.model.proofs.Tests.{or-neither, clash, fails}
 use Rattle.overlap_laws.proofs.Share.{share-from, share-witness}
 use Rattle.overlap_laws.proofs.Penalty.{zero-penalty, penalty-zero}
-use Rattle.descent_laws.proofs.Claims.{ValidWeights, NoSharedPixel}
+use Rattle.descent_laws.specs.Sums.{Ordered}
+use Rattle.descent_laws.specs.Claims.{ValidWeights, NoSharedPixel}
 
 -- ── sums over pairs ──
 
@@ -99,12 +100,6 @@ from-mem i (suc left) a b l m h =
 -- every two numbers below n are one of the pairs
 pub pair-mem : (n i k : ℕ) → i < k → k < n → List·Memᴰ (record { first = i; second = k }) (pairs n)
 pair-mem n i k l h = from-mem 0 n i k (omega arith) l (omega arith)
-
--- two numbers from i on and below n, the lower first
-pub record Ordered (i n : ℕ) (p : Pair) : Type 0 where
-  pub from : i ≤ p .first
-  pub rising : p .first < p .second
-  pub below : p .second < n
 
 -- a pair with first number i has a second number from k on
 pub mem-with : (i k left : ℕ) (p : Pair) → List·Memᴰ p (pairsWith i k left) → (p .first ≡ i) × (k ≤ p .second) × (p .second < k + left)

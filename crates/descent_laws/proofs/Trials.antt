@@ -14,6 +14,7 @@ use Rattle.model.specs.declared.Turn.{Turn}
 use Rattle.model.specs.declared.Turn.the-variants.{Zero, Quarter, Half, ThreeQuarters}
 use Rattle.model.specs.declared.Direction.{Direction}
 use Rattle.model.specs.declared.Direction.the-variants.{Horizontal, Vertical}
+use Rattle.descent_laws.specs.Trials.{trialOf, Proper}
 
 -- ── members and their numbers ──
 
@@ -38,10 +39,6 @@ at-mem d (x ∷ l) zero h = List·Memᴰ·head refl
 at-mem d (x ∷ l) (suc k) h = List·Memᴰ·tail (at-mem d l k (omega arith))
 
 -- ── trials ──
-
--- the trial of a piece, a turn and a direction
-abbrev pub trialOf : ℕ → Turn → Direction → Trial
-trialOf i t d = record { piece = i; turn = t; direction = d }
 
 -- both directions are there
 two-mem : (i : ℕ) (t : Turn) (d : Direction) → List·Memᴰ (trialOf i t d) (trialOf i t Horizontal ∷ trialOf i t Vertical ∷ [])
@@ -73,12 +70,6 @@ from-mem j i (suc left) a k l h m =
 pub trial-mem : (j : Job) (i : ℕ) (t : Turn) (d : Direction) → i < j .count → allowed j i t ≡ true → List·Memᴰ (trialOf i t d) (trials j)
 unfolding trials
 trial-mem j i t d l h = from-mem j 0 (j .count) i _ (omega arith) (omega arith) (piece-mem j i t _ (turn-mem j i t d h))
-
--- a trial's piece lies between the two numbers, and its turn is allowed to it
-pub record Proper (j : Job) (i n : ℕ) (k : Trial) : Type 0 where
-  pub from : i ≤ k .piece
-  pub below : k .piece < n
-  pub turnAllowed : allowed j (k .piece) (k .turn) ≡ true
 
 -- the trial of an allowed turn
 proper-is : (j : Job) (i : ℕ) (t : Turn) (d : Direction) (k : Trial) → allowed j i t ≡ true → k ≡ trialOf i t d → Proper j i (suc i) k

@@ -15,10 +15,11 @@ use Rattle.model.specs.Calls.{budgetBound, roundBound, someWeightWrong, guidedC
 use Rattle.model.specs.declared.Refusal.{Refusal}
 use Rattle.model.proofs.Tests.{and-right, or-neither}
 use Rattle.text_laws.proofs.Entries.{entries-read-back}
-use Rattle.text_laws.proofs.Outcomes.{NoCause, unless-given}
-use Rattle.descent_laws.proofs.Claims.{GuidedClaims}
+use Rattle.text_laws.specs.Outcomes.{NoCause}
+use Rattle.text_laws.proofs.Outcomes.{unless-given}
+use Rattle.descent_laws.specs.Claims.{GuidedClaims}
 use Rattle.call_laws.proofs.Runs.{guided-given}
-use Rattle.search_laws.proofs.GuidedLoop.{guidedOf}
+use Rattle.search_laws.specs.GuidedLoop.{guidedOf}
 use Rattle.placing.specs.Answers.{firstCause}
 use Rattle.placing.specs.declared.CauseAnswer.{CauseAnswer}
 use Rattle.placing.proofs.Causes.{refused-alone}

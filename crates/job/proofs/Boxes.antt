@@ -15,7 +15,7 @@ use Rattle.model.specs.declared.JobSize.{JobSize}
 use Rattle.model.specs.declared.Direction.the-variants.{Horizontal, Vertical}
 use Rattle.model.proofs.Tests.{and-left, and-right}
 use Rattle.model.proofs.Bounded.{any-agree, all-at}
-use Rattle.text_laws.proofs.JobRead.{sidesInRange}
+use Rattle.text_laws.specs.Limits.{sidesInRange}
 use Rattle.job.specs.Boxes.{boxIn, someMark, tableWell, Side}
 use Rattle.limits.proofs.Ranges.{at-least, at-most, few-pieces}
 

@@ -7,7 +7,7 @@ use Rattle.model.specs.Refusal.{Outcome, refused, given}
 use Rattle.model.specs.Text.{threeFields, fourFields, lineAt, formed}
 use Rattle.model.specs.JobText.{JobLine, PieceLine, jobWord, pieceWord, asJobLine, asPieceLine}
 use Rattle.model.specs.declared.Refusal.{Refusal}
-use Rattle.text_laws.proofs.JobRead.{sidesInRange}
+use Rattle.text_laws.specs.Limits.{sidesInRange}
 use Rattle.job_lines.specs.declared.JobHead.{JobHead}
 use Rattle.job_lines.specs.declared.PieceHead.{PieceHead}
 use Rattle.job_lines.specs.declared.JobLineAnswer.{JobLineAnswer}

@@ -15,7 +15,8 @@ use Rattle.model.specs.Text.{andThen, causeIn}
 use Rattle.model.specs.JobText.{JobLine, PieceLine, Rows, rowsAt, boxShape, PieceText, rowsCauses, asPieceText, pieceLine, pieceAt, Pieces, withPiece, noPieces, piecesAt, asLent, bufferCauses, jobLine, readJob}
 use Rattle.model.specs.declared.Refusal.{Refusal}
 use borrow.Author.Tests.{eq-eqb, ne-eqb}
-use Rattle.text_laws.proofs.Outcomes.{refused-given, given-before, Unless, given-unless}
+use Rattle.text_laws.specs.Outcomes.{Unless}
+use Rattle.text_laws.proofs.Outcomes.{refused-given, given-before, given-unless}
 use Rattle.text_laws.proofs.Store.{tight-agree}
 use Rattle.fields.proofs.Stores.{sets-append}
 use Rattle.job.specs.Boxes.{boxIn}

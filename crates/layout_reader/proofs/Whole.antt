@@ -14,7 +14,8 @@ use Rattle.model.specs.Lent.{Lent, jobOf, lentWell}
 use Rattle.model.specs.LayoutText.{layoutLine, placementLine, placementsAt, readLayout}
 use Rattle.model.specs.Calls.{readLayoutCall}
 use Rattle.model.specs.declared.Refusal.{Refusal}
-use Rattle.text_laws.proofs.Outcomes.{Unless, given-unless, given-before}
+use Rattle.text_laws.specs.Outcomes.{Unless}
+use Rattle.text_laws.proofs.Outcomes.{given-unless, given-before}
 use Rattle.layout_reader.specs.Answers.{layoutAnswer}
 use Rattle.layout_reader.specs.Readings.{layoutFrom, positionAnswer}
 use Rattle.layout_reader.specs.declared.LayoutAnswer.{LayoutAnswer}

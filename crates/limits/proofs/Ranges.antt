@@ -7,7 +7,7 @@ use lib.Dec.{leb, eqb}
 use borrow.Author.Tests.{leb-true}
 use Rattle.model.specs.Lent.{areaBound, pieceBound, rowBound, columnBound, sideBound, turnsBound, upTo, sheetInRange}
 use Rattle.model.proofs.Tests.{and-left, and-right}
-use Rattle.text_laws.proofs.JobRead.{sidesInRange}
+use Rattle.text_laws.specs.Limits.{sidesInRange}
 use Rattle.limits.specs.Ranges.{numbersInRange}
 
 -- a number in range is at most the bound

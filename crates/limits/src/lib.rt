@@ -3,7 +3,7 @@
 use model::JobSize;
 ghost use mathlib.Core.Path.{_≡_};
 ghost use Rattle.model.specs.Lent.{upTo, sheetInRange};
-ghost use Rattle.text_laws.proofs.JobRead.{sidesInRange};
+ghost use Rattle.text_laws.specs.Limits.{sidesInRange};
 ghost use Rattle.limits.specs.Ranges.{numbersInRange};
 
 // From 1 to the bound.

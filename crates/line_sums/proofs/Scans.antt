@@ -6,7 +6,8 @@ use native.Mathlib.Nat.{mul-le-mul}
 use native.Mathlib.Omega.{arith}
 use lib.ListN.{length, getD, set}
 use Rattle.penalty_line.proofs.Passes.{Passing, pass-none, pass-over, pass-set}
-use Rattle.search_laws.proofs.BoundedSearch.{belowBound, answerOf, answer-begin, answer-lower, answer-keep, answer-some, answer-none, whole-serves}
+use Rattle.search_laws.specs.BoundedSearch.{belowBound}
+use Rattle.search_laws.proofs.BoundedSearch.{answerOf, answer-begin, answer-lower, answer-keep, answer-some, answer-none, whole-serves}
 use Rattle.line_sums.specs.Answers.{foundAnswer}
 use Rattle.line_sums.specs.Added.{Added}
 use Rattle.line_sums.specs.declared.Found.the-variants.{At, Nothing}

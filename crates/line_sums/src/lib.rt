@@ -4,7 +4,7 @@ ghost use Prim.Native.Nat.{ℕ, _+_, _*_, _<_, _≤_};
 ghost use lib.Dec.{ltb};
 ghost use lib.ListN.{length, getD};
 ghost use Rattle.model.specs.Bounded.{anyBelow};
-ghost use Rattle.search_laws.proofs.BoundedSearch.{belowBound};
+ghost use Rattle.search_laws.specs.BoundedSearch.{belowBound};
 ghost use Rattle.line_sums.specs.Answers.{foundAnswer};
 ghost use Rattle.line_sums.specs.Added.{Added};
 

@@ -12,7 +12,7 @@ use Rattle.model.specs.declared.Line.the-variants.{InRow, InColumn}
 use Rattle.model.specs.declared.Turn.{Turn}
 use Rattle.overlap_laws.proofs.Share.{same-difference, along-point, across-point}
 use Rattle.overlap_laws.proofs.Penalty.{penalty-difference}
-use Rattle.search_laws.proofs.PieceSum.{penaltyOn}
+use Rattle.search_laws.specs.PieceSum.{penaltyOn}
 use Rattle.lines.specs.Kept.{middle, lineAt}
 
 -- where the corner of a placement on a line is along it, and across it

@@ -25,7 +25,7 @@ use Rattle.model.specs.declared.Refusal.{Refusal}
 use Rattle.model.specs.declared.Turn.{Turn}
 use Rattle.model.specs.declared.Turn.the-variants.{Zero, Quarter, Half, ThreeQuarters}
 use Rattle.model.proofs.Tests.{and-left, and-right, same-tests}
-use Rattle.text_laws.proofs.Outcomes.{NoCause}
+use Rattle.text_laws.specs.Outcomes.{NoCause}
 use Rattle.strip_laws.proofs.Runs.{runs-agree}
 use Rattle.strip_laws.proofs.Strips.{strips-maximal}
 use Rattle.strips.proofs.Jobs.{entry-at}

@@ -18,9 +18,12 @@ use Rattle.model.specs.Overlap.{share, apartAt, depth, penalty}
 use Rattle.model.specs.declared.Direction.{Direction}
 use Rattle.model.specs.declared.Direction.the-variants.{Horizontal, Vertical}
 use Rattle.model.proofs.Tests.{or-left, or-right, same-tests}
-use Rattle.strip_laws.proofs.Lists.{Pairwise, member-at, pairwise-at}
-use Rattle.strip_laws.proofs.Strips.{InStrips, MaximalStrip, StripBefore, have-in, strips-exactly, strips-maximal, strips-ordered}
-use Rattle.overlap_laws.proofs.Share.{SharedPixel, share-witness, share-from, share-symmetric, shared-along, shared-across, shared-over, along-point, across-point, along-shift, across-shift}
+use Rattle.strip_laws.specs.Lists.{Pairwise}
+use Rattle.strip_laws.proofs.Lists.{member-at, pairwise-at}
+use Rattle.strip_laws.specs.Strips.{MaximalStrip, StripBefore}
+use Rattle.strip_laws.proofs.Strips.{InStrips, have-in, strips-exactly, strips-maximal, strips-ordered}
+use Rattle.overlap_laws.specs.Overlap.{SharedPixel}
+use Rattle.overlap_laws.proofs.Share.{share-witness, share-from, share-symmetric, shared-along, shared-across, shared-over, along-point, across-point, along-shift, across-shift}
 use Rattle.overlap_laws.proofs.Depth.{depth-before, depth-apart, apart-cases}
 use Rattle.overlap.specs.Meet.{stripAt, begin, Ordered, crossed, shifted, meet, stretchesShare, clearAt, clearBelow, depthBelow, penaltyBelow}
 pub use Rattle.overlap.specs.Seen.{entries, seen}

@@ -9,8 +9,10 @@ use lib.IntN.{ℤ, subℕ}
 use Rattle.model.specs.Piece.{Point, Shape, along, across, extent}
 use Rattle.model.specs.Overlap.{share, noFit}
 use Rattle.model.specs.declared.Direction.{Direction}
-use Rattle.overlap_laws.proofs.Penalty.{PenaltyLaws, demand2-penalty}
-use Rattle.overlap_laws.proofs.NoFit.{InOffsetRuns, NoFitLine, no-fit-line, no-fit-share}
+use Rattle.overlap_laws.specs.Overlap.{PenaltyLaws}
+use Rattle.overlap_laws.proofs.Penalty.{demand2-penalty}
+use Rattle.overlap_laws.specs.NoFit.{InOffsetRuns, NoFitLine}
+use Rattle.overlap_laws.proofs.NoFit.{no-fit-line, no-fit-share}
 
 -- what demand 2 says of two shapes' shared pixels
 pub record Demand2Overlap : Type 0 where

@@ -3,7 +3,7 @@
 -- parts the two, so all before it share a pixel; and it does not run out, since a shift by half the sum of the two extents, or
 -- more, parts them for one of the signs: pixels shared at both signs would lie farther apart than the boxes reach.
 -- Assumes nothing.
-use mathlib.Core.Bool.{Bool, true, false, not}
+use mathlib.Core.Bool.{true, false, not}
 use mathlib.Core.Path.{_≡_, refl, sym, _∙_, ap}
 use mathlib.Core.Logic.{_⊎_, inl, inr, ⊎-elim}
 use Prim.Native.Nat.{ℕ, zero, suc, _+_, _<_, _≤_}
@@ -12,12 +12,13 @@ use native.Mathlib.Omega.{arith, by-contra}
 use lib.IntN.{ℤ, pos, negsuc, natAbs}
 use borrow.Author.Tests.{not-true, not-false}
 use Rattle.model.specs.Piece.{Point, Shape, shift, extent}
-use Rattle.model.specs.Overlap.{share, apartAt, reach, depth, up, down}
+use Rattle.model.specs.Overlap.{share, apartAt, reach, depth}
 use Rattle.model.specs.declared.Direction.{Direction}
 use Rattle.model.specs.declared.Direction.the-variants.{Horizontal, Vertical}
 use Rattle.model.proofs.Bounded.{First, first-from}
 use Rattle.model.proofs.Tests.{or-cases, or-left, or-right, or-neither, passes, clash}
-use Rattle.overlap_laws.proofs.Share.{SharedPixel, SameDifference, SamePixels, share-pixels, share-witness, share-symmetric, share-difference, shared-along, pixel-along, along-shift, shift-zero}
+use Rattle.overlap_laws.specs.Overlap.{sharesShifted, PartingShift, LeastShift, SharedPixel}
+use Rattle.overlap_laws.proofs.Share.{SameDifference, SamePixels, share-pixels, share-witness, share-symmetric, share-difference, shared-along, pixel-along, along-shift, shift-zero}
 
 -- ── what it is to be apart at a shift ──
 
@@ -172,21 +173,6 @@ depth-pixels d s u t v s′ t′ e f =
     (depth-least-pixels d s′ u t′ v s t (λ p. sym (e p)) (λ p. sym (f p)))
 
 -- ── over whole shifts ──
-
--- t shifted by the whole number z in the direction shares a pixel with s: shifting t down by n is shifting s up by n
-abbrev pub sharesShifted : Direction → Shape → Point → Shape → Point → ℤ → Bool
-sharesShifted d s u t v z = share s (shift d (down z) u) t (shift d (up z) v)
-
--- a whole shift with |z| = m that parts them
-pub record PartingShift (d : Direction) (s : Shape) (u : Point) (t : Shape) (v : Point) (m : ℕ) : Type 0 where
-  pub amount : ℤ
-  pub size : natAbs amount ≡ m
-  pub apart : sharesShifted d s u t v amount ≡ false
-
--- m is the least |z|, z whole, such that t shifted by z shares no pixel with s
-pub record LeastShift (d : Direction) (s : Shape) (u : Point) (t : Shape) (v : Point) (m : ℕ) : Type 0 where
-  pub parting : PartingShift d s u t v m
-  pub least : (z : ℤ) → sharesShifted d s u t v z ≡ false → m ≤ natAbs z
 
 -- t shifted up by m
 shift-up : (d : Direction) (s : Shape) (u : Point) (t : Shape) (v : Point) (m : ℕ) → share s u t (shift d m v) ≡ false → PartingShift d s u t v m

@@ -4,7 +4,7 @@
 -- offsets that pass, are maximal and ascend is the law of `runs`, carried from numbers biased by 254 to whole numbers.
 -- Assumes nothing.
 use mathlib.Core.Bool.{true}
-use mathlib.Core.List.{List, map, List·Memᴰ}
+use mathlib.Core.List.{List, map}
 use mathlib.Core.Path.{_≡_, sym, _∙_, ap, subst}
 use mathlib.Core.Logic.{_↔_, Iff·trans, Iff·symm}
 use Prim.Native.Nat.{ℕ, suc, _+_, _-_, _<_, _≤_}
@@ -16,21 +16,14 @@ use Rattle.model.specs.Strip.{Run, runs}
 use Rattle.model.specs.Overlap.{share, noFit, noFitAt, offsetBound, up, down, OffsetRun, unbiased}
 use Rattle.model.specs.declared.Direction.{Direction}
 use Rattle.model.proofs.Tests.{clash}
-use Rattle.strip_laws.proofs.Lists.{Pairwise, Source, map-source, map-member, pairwise-map}
+use Rattle.strip_laws.proofs.Lists.{Source, map-source, map-member, pairwise-map}
 use Rattle.strip_laws.proofs.Runs.{MaximalRun, InRuns, RunBefore, runs-exactly, runs-maximal, runs-ascending}
-use Rattle.overlap_laws.proofs.Share.{SharedPixel, share-witness, share-from, shared-along, shared-across, shared-over, pixel-along, along-point, across-point}
+use Rattle.overlap_laws.specs.NoFit.{PixelOffset, InOffsetRuns, MaximalOffsetRun, OffsetRunBefore, NoFitLine}
+use Rattle.overlap_laws.specs.Overlap.{SharedPixel}
+use Rattle.overlap_laws.proofs.Share.{share-witness, share-from, shared-along, shared-across, shared-over, pixel-along, along-point, across-point}
 use Rattle.overlap_laws.proofs.Whole.{whole-eq, sub-whole, up-down, sub-eq, eq-sub, pred-whole, add-whole, le-whole, whole-le, lt-whole, whole-lt}
 
 -- ── offsets ──
-
--- pixels p of s and q of t with p - q = a along the direction and p - q = o across it
-pub record PixelOffset (d : Direction) (s t : Shape) (a o : ℤ) : Type 0 where
-  pub p : Point
-  pub q : Point
-  pub of-first : pixel s p ≡ true
-  pub of-second : pixel t q ≡ true
-  pub along-is : a ≡ subℕ (along d p) (along d q)
-  pub across-is : o ≡ subℕ (across d p) (across d q)
 
 -- they share a pixel exactly when the corners' difference is an offset of two pixels, d = p - q
 pub share-offset : (d : Direction) (s : Shape) (u : Point) (t : Shape) (v : Point)
@@ -126,13 +119,6 @@ offset-range d s t h k a o w =
 
 -- ── the runs of a no-fit line ──
 
--- the offset a lies in a run of the list: first ≤ a < first + count
-pub record InOffsetRuns (a : ℤ) (rs : List OffsetRun) : Type 0 where
-  pub run : OffsetRun
-  pub listed : List·Memᴰ run rs
-  pub low : run .first ≤ℤ a
-  pub high : a <ℤ (run .first +ℤ pos (run .count))
-
 -- where a run holds the biased number k, the unbiased run holds the offset of k
 listed-biased : (k : ℕ) (rs : List Run) → InRuns k rs → InOffsetRuns (subℕ k offsetBound) (map unbiased rs)
 listed-biased k rs w =
@@ -188,16 +174,6 @@ module _ (d : Direction) (s t : Shape) (o : ℤ) where
       let e : noFitAt d s t o (b .number) ≡ true = no-fit-at d s t o (b .number) .1 (rw (b .is) at w) in
       rw (b .is) (listed-biased (b .number) _ (runs-exactly (noFitAt d s t o) _ (b .number) .1 (b .below, e)))
 
--- a run is maximal: it is not empty, and neither the number before its first nor the number after its last is an offset
-pub record MaximalOffsetRun (d : Direction) (s t : Shape) (o : ℤ) (r : OffsetRun) : Type 0 where
-  pub some : 0 < r .count
-  pub before : ¬ PixelOffset d s t (predℤ (r .first)) o
-  pub after : ¬ PixelOffset d s t (r .first +ℤ pos (r .count)) o
-
--- a run ends before another begins, with a gap
-abbrev pub OffsetRunBefore : OffsetRun → OffsetRun → Type 0
-OffsetRunBefore r q = (r .first +ℤ pos (r .count)) <ℤ q .first
-
 -- a maximal run of biased numbers is a maximal run of offsets
 run-maximal : (d : Direction) (s t : Shape) (o : ℤ) → extent d s ≤ 255 → extent d t ≤ 255 → (r : Run)
     → MaximalRun (noFitAt d s t o) (offsetBound + offsetBound + 1) r → MaximalOffsetRun d s t o (unbiased r)
@@ -230,14 +206,6 @@ run-before r q h =
     let f = sub-whole (q .first) offsetBound in
     let g = add-whole (subℕ (r .first) offsetBound) (r .count) in
     whole-lt (subℕ (r .first) offsetBound +ℤ pos (r .count)) (subℕ (q .first) offsetBound) (omega arith)
-
--- what a no-fit line is: its runs list just the offsets of two pixels, each between -254 and 254, each run is maximal, and the runs
--- ascend
-pub record NoFitLine (d : Direction) (s t : Shape) (o : ℤ) (rs : List OffsetRun) : Type 0 where
-  pub exactly : (a : ℤ) → InOffsetRuns a rs ↔ PixelOffset d s t a o
-  pub inRange : (a : ℤ) → InOffsetRuns a rs → (subℕ 0 offsetBound ≤ℤ a) × (a ≤ℤ pos offsetBound)
-  pub maximal : (r : OffsetRun) → List·Memᴰ r rs → MaximalOffsetRun d s t o r
-  pub ascending : Pairwise OffsetRunBefore rs
 
 -- the no-fit row (horizontal) at a row offset, or the no-fit column (vertical) at a column offset, for boxes with sides of at most 255
 pub no-fit-line : (d : Direction) (s t : Shape) → extent d s ≤ 255 → extent d t ≤ 255 → (o : ℤ) → NoFitLine d s t o (noFit d s t o)

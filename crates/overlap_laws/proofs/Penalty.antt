@@ -1,7 +1,7 @@
 -- Document 01, 'No-fit rows and penalty' and demand 2: the penalty is the smaller of the two depths. It is 0 exactly when no pixel
 -- is shared, since each depth is, and it does not depend on which piece is called first, since neither depth does.
 -- Assumes nothing.
-use mathlib.Core.Bool.{true, false}
+use mathlib.Core.Bool.{false}
 use mathlib.Core.Path.{_≡_, sym, _∙_}
 use mathlib.Core.Logic.{_⊎_, inl, inr, ⊎-elim, _↔_, Iff·trans}
 use Prim.Native.Nat.{ℕ, _≤_, min}
@@ -12,8 +12,9 @@ use Rattle.model.specs.Overlap.{share, depth, penalty}
 use Rattle.model.specs.declared.Direction.{Direction}
 use Rattle.model.specs.declared.Direction.the-variants.{Horizontal, Vertical}
 use Rattle.model.proofs.Tests.{clash, fails}
-use Rattle.overlap_laws.proofs.Share.{SharedPixel, SameDifference, SamePixels, share-exactly, share-from, share-witness}
-use Rattle.overlap_laws.proofs.Depth.{LeastShift, depth-exactly, depth-zero, zero-depth, depth-symmetric, depth-difference, depth-pixels, depth-bound}
+use Rattle.overlap_laws.specs.Overlap.{PenaltyLaws, SharedPixel}
+use Rattle.overlap_laws.proofs.Share.{SameDifference, SamePixels, share-exactly, share-from, share-witness}
+use Rattle.overlap_laws.proofs.Depth.{depth-exactly, depth-zero, zero-depth, depth-symmetric, depth-difference, depth-pixels, depth-bound}
 
 -- the smaller of two numbers is one of them
 min-one : (a b : ℕ) → (min a b ≡ a) ⊎ (min a b ≡ b)
@@ -61,24 +62,6 @@ unfolding penalty
 penalty-pixels s u t v s′ t′ e f = rw (depth-pixels Horizontal s u t v s′ t′ e f, depth-pixels Vertical s u t v s′ t′ e f)
 
 -- ── demand 2 ──
-
--- what demand 2 says of the shared-pixel test and the penalty of s at corner u and t at corner v, over their pixel sets
-pub record PenaltyLaws (s : Shape) (u : Point) (t : Shape) (v : Point) : Type 0 where
-  -- the test says yes exactly when u + p = v + q for some pixels p of s and q of t
-  pub shared-exactly : (share s u t v ≡ true) ↔ SharedPixel s u t v
-  -- the penalty is 0 exactly when the test says no
-  pub zero-exactly : (penalty s u t v ≡ 0) ↔ (share s u t v ≡ false)
-  -- the penalty is 0 exactly when there are no such pixels
-  pub zero-no-pixel : (penalty s u t v ≡ 0) ↔ (¬ SharedPixel s u t v)
-  -- each depth is the least |z|, z whole, such that t shifted by z in its direction shares no pixel with s
-  pub depths : (d : Direction) → LeastShift d s u t v (depth d s u t v)
-  -- the penalty is the smaller of the two depths
-  pub at-most : (d : Direction) → penalty s u t v ≤ depth d s u t v
-  pub attained : (penalty s u t v ≡ depth Horizontal s u t v) ⊎ (penalty s u t v ≡ depth Vertical s u t v)
-  -- the penalty does not depend on which of the two is called first
-  pub symmetric : penalty s u t v ≡ penalty t v s u
-  -- the penalty is at most 255 for boxes with sides at most 255
-  pub bounded : (d : Direction) → extent d s ≤ 255 → extent d t ≤ 255 → penalty s u t v ≤ 255
 
 -- no two pixels are at one place exactly when the test says no
 no-pixel : (s : Shape) (u : Point) (t : Shape) (v : Point) → (share s u t v ≡ false) ↔ (¬ SharedPixel s u t v)

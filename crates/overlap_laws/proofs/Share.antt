@@ -17,6 +17,7 @@ use Rattle.model.specs.declared.Direction.{Direction}
 use Rattle.model.specs.declared.Direction.the-variants.{Horizontal, Vertical}
 use Rattle.model.proofs.Bounded.{any-witness, any-from}
 use Rattle.model.proofs.Tests.{and-left, and-right, and-both, same-tests}
+use Rattle.overlap_laws.specs.Overlap.{SharedPixel}
 
 -- ── a pixel of a shape ──
 
@@ -73,15 +74,6 @@ covers-from s v r c =
     and-both (and-both (le-leb _ _ h) (le-leb _ _ k)) (rw (a, b) (c .is-pixel))
 
 -- ── sharing a pixel ──
-
--- pixels p of s and q of t at the same place of the sheet: u + p = v + q, so the corners' difference v - u is p - q
-pub record SharedPixel (s : Shape) (u : Point) (t : Shape) (v : Point) : Type 0 where
-  pub p : Point
-  pub q : Point
-  pub of-first : pixel s p ≡ true
-  pub of-second : pixel t q ≡ true
-  pub column : u .x + p .x ≡ v .x + q .x
-  pub row : u .y + p .y ≡ v .y + q .y
 
 -- where the search says that they share a pixel, there are two such pixels
 pub share-witness : (s : Shape) (u : Point) (t : Shape) (v : Point) → share s u t v ≡ true → SharedPixel s u t v

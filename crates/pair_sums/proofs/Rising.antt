@@ -9,10 +9,13 @@ use lib.Dec.{eqb, ltb}
 use lib.ListN.{length, getD, set}
 use Rattle.model.specs.Layout.{Job, Layout, pairs}
 use Rattle.model.specs.Guided.{weightBound, raised}
-use Rattle.descent_laws.proofs.Claims.{ValidWeights}
-use Rattle.search_laws.proofs.Pairs.{pairIndex, pair-below, rowStart, last-index}
-use Rattle.search_laws.proofs.Table.{entry, PenaltyTable, table-shares}
-use Rattle.search_laws.proofs.GuidedLoop.{Raising, raising-more, raising-full, raising-apart, raising-end}
+use Rattle.descent_laws.specs.Claims.{ValidWeights}
+use Rattle.search_laws.specs.Pairs.{pairIndex, rowStart}
+use Rattle.search_laws.proofs.Pairs.{pair-below, last-index}
+use Rattle.search_laws.specs.Table.{entry, PenaltyTable}
+use Rattle.search_laws.proofs.Table.{table-shares}
+use Rattle.search_laws.specs.GuidedLoop.{Raising}
+use Rattle.search_laws.proofs.GuidedLoop.{raising-more, raising-full, raising-apart, raising-end}
 use Rattle.pair_sums.specs.Table.{raisedBy, raisedAt}
 
 -- a penalty of 0 raises nothing

@@ -10,9 +10,12 @@ use Rattle.model.specs.Bounded.{sumBelow}
 use Rattle.model.specs.Layout.{Job, Layout, pairs, pieceSum, weightedSum, unitWeights}
 use Rattle.descent_laws.proofs.Bounds.{pairs-at-most}
 use Rattle.model.proofs.Sums.{sum-step, sum-agree}
-use Rattle.search_laws.proofs.Pairs.{rowStart, pairIndex, pair-below, row-start-twice}
-use Rattle.search_laws.proofs.PieceSum.{weightBetween, weighted-rows}
-use Rattle.search_laws.proofs.Table.{entry, PenaltyTable, table-piece-sum}
+use Rattle.search_laws.specs.Pairs.{rowStart, pairIndex}
+use Rattle.search_laws.proofs.Pairs.{pair-below, row-start-twice}
+use Rattle.search_laws.specs.PieceSum.{weightBetween}
+use Rattle.search_laws.proofs.PieceSum.{weighted-rows}
+use Rattle.search_laws.specs.Table.{entry, PenaltyTable}
+use Rattle.search_laws.proofs.Table.{table-piece-sum}
 use Rattle.pair_sums.specs.Table.{Weighed, rowPart}
 
 -- ── positions ──

@@ -9,7 +9,7 @@ use Rattle.model.specs.Bounded.{sumBelow}
 use Rattle.model.specs.Layout.{pairs}
 use Rattle.model.specs.Guided.{weightBound}
 use Rattle.model.specs.Lent.{pieceBound}
-use Rattle.search_laws.proofs.Table.{entry}
+use Rattle.search_laws.specs.Table.{entry}
 
 -- a table of at most 64 pieces and one weight a pair
 pub record Weighed (n : ℕ) (T ws : List ℕ) : Type 0 where

@@ -7,11 +7,11 @@ ghost use Prim.Native.Nat.{ℕ, _+_, _<_, _≤_, _^_};
 ghost use lib.ListN.{length, replicate};
 ghost use Rattle.model.specs.Layout.{Job, Layout, pairs, pieceSum, weightedSum, plainSum};
 ghost use Rattle.model.specs.Guided.{raised};
-ghost use Rattle.descent_laws.proofs.Claims.{ValidWeights};
-ghost use Rattle.search_laws.proofs.Pairs.{rowStart, pairIndex};
-ghost use Rattle.search_laws.proofs.PieceSum.{weightBetween};
-ghost use Rattle.search_laws.proofs.Table.{PenaltyTable};
-ghost use Rattle.search_laws.proofs.GuidedLoop.{Raising};
+ghost use Rattle.descent_laws.specs.Claims.{ValidWeights};
+ghost use Rattle.search_laws.specs.Pairs.{rowStart, pairIndex};
+ghost use Rattle.search_laws.specs.PieceSum.{weightBetween};
+ghost use Rattle.search_laws.specs.Table.{PenaltyTable};
+ghost use Rattle.search_laws.specs.GuidedLoop.{Raising};
 ghost use Rattle.pair_sums.specs.Table.{Weighed, rowPart, raisedAt};
 
 // How many pairs n pieces have.

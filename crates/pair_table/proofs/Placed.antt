@@ -23,8 +23,8 @@ use Rattle.overlap.specs.declared.Corner.{Corner}
 use Rattle.overlap.specs.Seen.{seen}
 use Rattle.overlap.proofs.Shapes.{entries-share, entries-penalty}
 use Rattle.search_laws.proofs.Covering.{share-boxes}
-use Rattle.search_laws.proofs.Pairs.{pairOf}
-use Rattle.search_laws.proofs.PieceSum.{penaltyPlaced}
+use Rattle.search_laws.specs.Pairs.{pairOf}
+use Rattle.search_laws.specs.PieceSum.{penaltyPlaced}
 use Rattle.shapes.specs.Shapes.{Shapes, StripsOf}
 use Rattle.shapes.proofs.Jobs.{sheet}
 use Rattle.pair_table.specs.Drawn.{Laid, shareAt, penaltyAt, OnSheet}

@@ -12,7 +12,7 @@ ghost use lib.ListN.{length};
 ghost use Rattle.model.specs.Lent.{lentBy, jobOf};
 ghost use Rattle.model.specs.Buffer.{layoutOf};
 ghost use Rattle.model.specs.declared.JobSize.{JobSize};
-ghost use Rattle.search_laws.proofs.Table.{PenaltyTable, Renewed};
+ghost use Rattle.search_laws.specs.Table.{PenaltyTable, Renewed};
 ghost use Rattle.pair_table.specs.Drawn.{Drawn, SomeDrawn, OnSheet};
 
 // Makes the entries of pieces i, placed as given, and k.

@@ -15,8 +15,8 @@ ghost use Rattle.model.specs.Buffer.{layoutOf};
 ghost use Rattle.model.specs.declared.JobSize.{JobSize};
 ghost use Rattle.model.specs.declared.Direction.{Direction};
 ghost use Rattle.overlap.specs.Seen.{seen};
-ghost use Rattle.search_laws.proofs.Pairs.{pairOf};
-ghost use Rattle.search_laws.proofs.PieceSum.{penaltyPlaced};
+ghost use Rattle.search_laws.specs.Pairs.{pairOf};
+ghost use Rattle.search_laws.specs.PieceSum.{penaltyPlaced};
 ghost use Rattle.pair_table.specs.Drawn.{RowsDrawn, SomeRowsDrawn, Drawn, SomeDrawn, shareAt, OnSheet};
 
 // The corner of a placement as row strips see it.

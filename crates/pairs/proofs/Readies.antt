@@ -15,7 +15,7 @@ use Rattle.model.specs.Calls.{someTurnWrong, someOutside, pairCauses}
 use Rattle.model.proofs.Bounded.{any-none}
 use Rattle.model.proofs.Tests.{and-left, and-right, or-neither}
 use Rattle.text_laws.proofs.LentFacts.{facts}
-use Rattle.text_laws.proofs.Outcomes.{NoCause}
+use Rattle.text_laws.specs.Outcomes.{NoCause}
 use Rattle.strips.proofs.Jobs.{entry-at}
 use Rattle.placed_pair.specs.Ready.{Ready}
 

@@ -14,7 +14,8 @@ use Rattle.model.specs.Buffer.{layoutOf}
 use Rattle.model.specs.Calls.{someTurnWrong, someOutside, layoutCauses}
 use Rattle.model.specs.declared.Refusal.{Refusal}
 use Rattle.text_laws.proofs.LentFacts.{facts}
-use Rattle.text_laws.proofs.Outcomes.{NoCause, given-unless}
+use Rattle.text_laws.specs.Outcomes.{NoCause}
+use Rattle.text_laws.proofs.Outcomes.{given-unless}
 use Rattle.placing.specs.Answers.{causeAnswer, outcomeOf, firstCause}
 use Rattle.placing.specs.declared.CauseAnswer.{CauseAnswer}
 

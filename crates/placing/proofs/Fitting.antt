@@ -10,7 +10,7 @@ use Rattle.model.specs.declared.JobSize.{JobSize}
 use Rattle.model.proofs.Tests.{and-left, and-right}
 use Rattle.text_laws.proofs.LentFacts.{facts}
 use Rattle.descent_laws.proofs.Lent.{lent-boxes-fit}
-use Rattle.descent_laws.proofs.Start.{BoxesFit}
+use Rattle.descent_laws.specs.Start.{BoxesFit}
 use Rattle.placing.specs.Fitting.{Fitting}
 
 -- a lent job that passes the check fits its sheet

@@ -13,7 +13,8 @@ use Rattle.model.specs.declared.Refusal.{Refusal}
 use Rattle.job_text.specs.Reading.{readAnswer, Leaves}
 use Rattle.job_text.specs.declared.JobAnswer.{JobAnswer}
 use Rattle.text_laws.proofs.JobRead.{JustRead, job-read-well, job-read-just}
-use Rattle.call_laws.proofs.Reading.{FrontRead, front-given}
+use Rattle.call_laws.specs.Reading.{FrontRead}
+use Rattle.call_laws.proofs.Reading.{front-given}
 
 -- ── what the answers say of the outcome ──
 

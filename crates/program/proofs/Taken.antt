@@ -16,8 +16,9 @@ use Rattle.model.specs.LayoutText.{layoutText}
 use Rattle.model.specs.Program.{programRounds, programBudget, programRun}
 use Rattle.model.specs.Calls.{layoutCauses, usedLengthCall, writeLayoutCall, textAfter, startCall}
 use Rattle.model.specs.declared.Refusal.{Refusal}
-use Rattle.text_laws.proofs.Outcomes.{NoCause, unless-given}
-use Rattle.descent_laws.proofs.Claims.{ValidLayout}
+use Rattle.text_laws.specs.Outcomes.{NoCause}
+use Rattle.text_laws.proofs.Outcomes.{unless-given}
+use Rattle.descent_laws.specs.Claims.{ValidLayout}
 use Rattle.descent_laws.proofs.Lent.{lent-demand3}
 use Rattle.call_laws.proofs.Jobs.{lent-sheet}
 use Rattle.call_laws.proofs.Layouts.{BufferPasses, valid-buffer}

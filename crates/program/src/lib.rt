@@ -10,7 +10,7 @@ ghost use Rattle.model.specs.Calls.{layoutCauses};
 ghost use Rattle.model.specs.Refusal.{given};
 ghost use Rattle.model.specs.JobText.{readJob};
 ghost use Rattle.model.specs.Program.{runText, programRun, printed};
-ghost use Rattle.text_laws.proofs.Outcomes.{NoCause};
+ghost use Rattle.text_laws.specs.Outcomes.{NoCause};
 ghost use Rattle.layout_writer.specs.Written.{Written};
 ghost use Rattle.program.specs.Output.{outputBound, outputText};
 ghost use Rattle.program.specs.Runs.{Gives, runWith};

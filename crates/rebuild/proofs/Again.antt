@@ -7,7 +7,8 @@ use Rattle.model.specs.Piece.{Shape}
 use Rattle.model.specs.Buffer.{bytesOf, filled}
 use Rattle.model.specs.Calls.{rebuildCall, pixelsAfter}
 use Rattle.model.specs.declared.Direction.{Direction}
-use Rattle.call_laws.proofs.Rebuilding.{PieceOf, RebuiltAs, rebuilt-back}
+use Rattle.call_laws.specs.Rebuilding.{PieceOf, RebuiltAs}
+use Rattle.call_laws.proofs.Rebuilding.{rebuilt-back}
 use Rattle.rebuild.specs.Again.{Again}
 
 -- the buffer after the call holds the set's pixels

@@ -19,10 +19,11 @@ use Rattle.model.proofs.Tests.{and-left, and-right, and-both, same-tests, fails
 use Rattle.model.proofs.Bounded.{Witness, any-witness, any-from, all-at, all-from}
 use Rattle.strip_laws.proofs.Boxes.{along-point, across-point}
 use Rattle.strip_laws.proofs.Strips.{InStrips, have-in, in-have}
-use Rattle.strip_laws.proofs.Rebuild.{HasStrips}
-use Rattle.strip_laws.proofs.ValidStrips.{side, StripFits, ValidStrips, rebuilt-extent, valid-rebuilt, has-valid}
+use Rattle.strip_laws.specs.Strips.{HasStrips, side, StripFits, ValidStrips}
+use Rattle.strip_laws.proofs.ValidStrips.{rebuilt-extent, valid-rebuilt, has-valid}
 use Rattle.call_laws.proofs.Lists.{same-entries-exactly}
-use Rattle.call_laws.proofs.Rebuilding.{PieceOf, well-piece, strips-read-back}
+use Rattle.call_laws.specs.Rebuilding.{PieceOf}
+use Rattle.call_laws.proofs.Rebuilding.{well-piece, strips-read-back}
 use Rattle.rebuild.specs.Check.{stripIn, reaches, wellAt, Whole}
 use Rattle.rebuild.proofs.Validity.{stripsOf, Place, strip-listed, strip-place, valid-from, valid-to}
 

@@ -22,7 +22,7 @@ use Rattle.model.proofs.Tests.{and-left, and-right, and-both, or-cases, or-left
 use Rattle.text_laws.proofs.Store.{in-box}
 use Rattle.strip_laws.proofs.Runs.{below-or-not}
 use Rattle.strip_laws.proofs.Strips.{InStrips, have-in}
-use Rattle.strip_laws.proofs.ValidStrips.{side, StripFits, ValidStrips}
+use Rattle.strip_laws.specs.Strips.{side, StripFits, ValidStrips}
 use Rattle.rebuild.specs.Check.{stripIn}
 use Rattle.rebuild.specs.Paint.{over, samePoint, Painted, Room}
 use Rattle.rebuild.proofs.Validity.{stripsOf}

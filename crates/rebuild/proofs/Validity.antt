@@ -14,9 +14,9 @@ use Rattle.model.specs.Strip.{Strip}
 use Rattle.model.specs.Buffer.{stripEntry, entryStrip}
 use Rattle.model.specs.declared.Direction.{Direction}
 use Rattle.model.proofs.Tests.{and-left, and-right, and-both, or-cases, or-left, or-right}
-use Rattle.strip_laws.proofs.Lists.{Pairwise, none, more, member-at, pairwise-at}
-use Rattle.strip_laws.proofs.Strips.{StripBefore}
-use Rattle.strip_laws.proofs.ValidStrips.{side, StripFits, ValidStrips}
+use Rattle.strip_laws.specs.Lists.{Pairwise, none, more}
+use Rattle.strip_laws.proofs.Lists.{member-at, pairwise-at}
+use Rattle.strip_laws.specs.Strips.{StripBefore, side, StripFits, ValidStrips}
 use Rattle.rebuild.specs.Check.{stripIn, fitsIn, standsBefore, follows, wellAt, Whole}
 
 -- ── places and members ──

@@ -21,7 +21,7 @@ use Rattle.text_laws.proofs.Store.{in-box}
 use Rattle.strip_laws.proofs.Runs.{below-or-not}
 use Rattle.strip_laws.proofs.Strips.{InStrips, have-in}
 use Rattle.strip_laws.proofs.Rebuild.{rebuilt-columns}
-use Rattle.strip_laws.proofs.ValidStrips.{side, StripFits, ValidStrips}
+use Rattle.strip_laws.specs.Strips.{side, StripFits, ValidStrips}
 use Rattle.rebuild.specs.Paint.{over, Painted, Room}
 use Rattle.rebuild.proofs.Validity.{stripsOf}
 

@@ -8,7 +8,7 @@ use Rattle.model.specs.Piece.{Shape}
 use Rattle.model.specs.Lent.{upTo, sideBound}
 use Rattle.model.specs.Buffer.{bytesOf, filled}
 use Rattle.model.specs.declared.Direction.{Direction}
-use Rattle.call_laws.proofs.Rebuilding.{PieceOf}
+use Rattle.call_laws.specs.Rebuilding.{PieceOf}
 
 -- where the strips are those of a set in a box with sides from 1 to 255, and the buffer has room for it, that set's pixels stand in
 -- the buffer afterwards

@@ -10,7 +10,7 @@ ghost use mathlib.Core.List.{[]};
 ghost use Rattle.model.specs.Bounded.{anyBelow, allBelow};
 ghost use Rattle.model.specs.Piece.{other};
 ghost use Rattle.model.specs.Calls.{stripsWell};
-ghost use Rattle.strip_laws.proofs.ValidStrips.{side};
+ghost use Rattle.strip_laws.specs.Strips.{side};
 ghost use Rattle.rebuild.specs.Check.{ReadOf, asStrip, stripIn, fitsIn, standsBefore, follows, wellAt, reaches, Whole};
 
 // A strip of a buffer.

@@ -12,7 +12,7 @@ ghost use Rattle.model.specs.Piece.{Point, point, other};
 ghost use Rattle.model.specs.Strip.{stripHas, stripsHave};
 ghost use Rattle.model.specs.Buffer.{entryStrip, filled, bytesOf};
 ghost use Rattle.model.specs.Calls.{rebuiltFrom, stripsWell};
-ghost use Rattle.strip_laws.proofs.ValidStrips.{StripFits};
+ghost use Rattle.strip_laws.specs.Strips.{StripFits};
 ghost use Rattle.rebuild.specs.Check.{asStrip, stripIn};
 ghost use Rattle.rebuild.specs.Paint.{Room, Painted, samePoint};
 

@@ -9,8 +9,8 @@ use Rattle.model.specs.Refusal.{Outcome, refused, Cause, cause, refusalOf, unle
 use Rattle.model.specs.Calls.{budgetBound, someWeightWrong, jobCause, layoutLength, weightsLength}
 use Rattle.model.proofs.Tests.{or-neither}
 use Rattle.text_laws.proofs.Entries.{entries-read-back}
-use Rattle.text_laws.proofs.Outcomes.{NoCause}
-use Rattle.descent_laws.proofs.Claims.{ValidLayout}
+use Rattle.text_laws.specs.Outcomes.{NoCause}
+use Rattle.descent_laws.specs.Claims.{ValidLayout}
 use Rattle.call_laws.proofs.Layouts.{job-well, layout-valid, lent-weights-valid}
 use Rattle.sums.specs.Answers.{lengthCauses, placeCauses}
 use Rattle.runs.specs.Ready.{Given}

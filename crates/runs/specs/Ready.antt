@@ -6,7 +6,7 @@ use Prim.Native.Nat.{ℕ, _*_, _<_, _≤_}
 use Rattle.model.specs.Lent.{Lent, jobOf, lentWell}
 use Rattle.model.specs.Buffer.{layoutOf, entriesOf}
 use Rattle.model.specs.Calls.{budgetBound}
-use Rattle.descent_laws.proofs.Claims.{ValidWeights, ValidLayout}
+use Rattle.descent_laws.specs.Claims.{ValidWeights, ValidLayout}
 
 -- what a run is given: a job that passes its check, a buffer that holds a valid layout just as its entries are written, valid weights and a
 -- budget in range

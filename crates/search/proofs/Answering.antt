@@ -19,11 +19,12 @@ use Rattle.model.specs.declared.Line.{Line}
 use Rattle.model.specs.declared.Refusal.{Refusal}
 use Rattle.model.specs.declared.Turn.{Turn}
 use Rattle.model.proofs.Tests.{or-left, or-right, or-neither}
-use Rattle.text_laws.proofs.Outcomes.{NoCause, unless-given}
-use Rattle.descent_laws.proofs.Claims.{ValidWeights}
+use Rattle.text_laws.specs.Outcomes.{NoCause}
+use Rattle.text_laws.proofs.Outcomes.{unless-given}
+use Rattle.descent_laws.specs.Claims.{ValidWeights}
 use Rattle.call_laws.proofs.Jobs.{lent-boxes-small}
 use Rattle.call_laws.proofs.Layouts.{lent-weights-valid}
-use Rattle.search_laws.proofs.BoundedSearch.{belowBound}
+use Rattle.search_laws.specs.BoundedSearch.{belowBound}
 use Rattle.search_laws.proofs.LineSearch.{search-unbounded}
 use Rattle.placing.specs.Answers.{firstCause}
 use Rattle.placing.specs.declared.CauseAnswer.{CauseAnswer}

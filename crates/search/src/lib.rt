@@ -20,7 +20,7 @@ ghost use Rattle.model.specs.Buffer.{layoutOf};
 ghost use Rattle.model.specs.Calls.{searchCall};
 ghost use Rattle.placing.specs.Answers.{firstCause};
 ghost use Rattle.pair_table.specs.Drawn.{Laid};
-ghost use Rattle.descent_laws.proofs.Claims.{ValidWeights};
+ghost use Rattle.descent_laws.specs.Claims.{ValidWeights};
 ghost use Rattle.line_sums.specs.Answers.{foundAnswer};
 ghost use Rattle.search.specs.Answers.{bestAnswer, searchAnswer, pieceCauses, searchCauses};
 

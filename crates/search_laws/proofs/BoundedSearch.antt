@@ -16,26 +16,7 @@ use lib.Dec.{ltb}
 use Rattle.model.specs.Bounded.{sumBelow}
 use Rattle.model.specs.Search.{Best}
 use Rattle.model.proofs.Sums.{sum-grows}
-
--- ── the search ──
-
--- a sum and the number that has it
-abbrev pub bestAt : ℕ → ℕ → Best
-bestAt x n = record { sum = x; at = n }
-
--- what a value has to be below: the best sum so far, else the bound
-abbrev pub limit : ℕ → Option Best → ℕ
-limit B none = B
-limit B (some b) = b .sum
-
--- one more value x, at number n
-unfoldable pub lowered : ℕ → Option Best → ℕ → ℕ → Option Best
-lowered B o x n = elim (ltb x (limit B o)) [ true ↦ some (bestAt x n) | false ↦ o ]
-
--- the least of f 0, .., f (n - 1) and the smallest number that has it, if it is below B
-unfoldable pub belowBound : (ℕ → ℕ) → ℕ → ℕ → Option Best
-belowBound f zero B = none
-belowBound f (suc n) B = lowered B (belowBound f n B) (f n) n
+use Rattle.search_laws.specs.BoundedSearch.{bestAt, limit, lowered, belowBound, Serves}
 
 -- ── one value ──
 
@@ -63,11 +44,6 @@ pub step-keep : (f : ℕ → ℕ) (n B : ℕ) → limit B (belowBound f n B) ≤
 step-keep f n B l = step-value f n B ∙ lowered-kept B (belowBound f n B) (f n) n l
 
 -- ── values that are not known exactly ──
-
--- y serves for x where only values below L count: it is x where x is below L, else it too reaches L
-pub record Serves (L x y : ℕ) : Type 0 where
-  pub exact : x < L → y ≡ x
-  pub reaches : L ≤ x → L ≤ y
 
 -- what serves gives the same result
 pub serves-lowered : (B : ℕ) (o : Option Best) (x y n : ℕ) → Serves (limit B o) x y → lowered B o y n ≡ lowered B o x n

@@ -18,10 +18,12 @@ use Rattle.model.specs.Descent.{Descent, descend}
 use Rattle.model.specs.Guided.{weightBound, raisedOver, raised, Round, isClear, weightsAfter, roundFrom, rounds, bestOf, bestAfter, lastWeights, madeIn, movesIn, Guided, outcome, guide}
 use Rattle.model.specs.declared.End.{End}
 use Rattle.model.specs.declared.End.the-variants.{Clear, Settled, Spent}
-use Rattle.descent_laws.proofs.Claims.{ValidWeights, ValidLayout, DescentClaims}
+use Rattle.descent_laws.specs.Claims.{ValidWeights, ValidLayout, DescentClaims}
 use Rattle.descent_laws.proofs.Descent.{descent-claims}
 use Rattle.descent_laws.proofs.Guided.{raised-valid}
-use Rattle.search_laws.proofs.Pairs.{pairIndex, pairOf, pair-at, pair-below}
+use Rattle.search_laws.specs.GuidedLoop.{guidedOf, Raising}
+use Rattle.search_laws.specs.Pairs.{pairIndex, pairOf}
+use Rattle.search_laws.proofs.Pairs.{pair-at, pair-below}
 use Rattle.search_laws.proofs.PieceSum.{noPair}
 
 -- ── where the loop stands ──
@@ -191,10 +193,6 @@ pub record GuidedUnderway (j : Job) (ws : List ℕ) (budget count : ℕ) (v : La
   pub madeFew : s .made + left * budget ≤ count * budget
   pub movesMade : s .moves ≤ s .made
 
--- what a guided run gives that ends with these
-abbrev pub guidedOf : Layout → ℕ → List ℕ → ℕ → ℕ → Guided
-guidedOf best bestSum ws made moves = record { layout = best; sum = bestSum; weights = ws; made = made; moves = moves }
-
 -- by the test of the plain sums
 best-valid-at : (j : Job) (best v : Layout) (b : Bool) → ValidLayout j best → ValidLayout j v
     → ValidLayout j (elim b as (λ _. Layout) [ true ↦ v | false ↦ best ])
@@ -274,12 +272,6 @@ raised-over-at test ps [] c l h = absurd (omega arith)
 raised-over-at test [] (w ∷ ws) c l h = absurd (omega arith)
 raised-over-at test (p ∷ ps) (w ∷ ws) zero l h = refl
 raised-over-at test (p ∷ ps) (w ∷ ws) (suc c) l h = raised-over-at test ps ws c (omega arith) (omega arith)
-
--- the weights of the pairs at positions below c are raised, the others are as before
-pub record Raising (j : Job) (v : Layout) (ws : List ℕ) (c : ℕ) (now : List ℕ) : Type 0 where
-  pub size : length now ≡ length ws
-  pub done : (k : ℕ) → k < c → getD now k 0 ≡ getD (raised j v ws) k 0
-  pub rest : (k : ℕ) → c ≤ k → getD now k 0 ≡ getD ws k 0
 
 -- before the first pair
 pub raising-begin : (j : Job) (v : Layout) (ws : List ℕ) → Raising j v ws 0 ws

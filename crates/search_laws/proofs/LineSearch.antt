@@ -17,11 +17,13 @@ use Rattle.model.specs.Lent.{pieceBound}
 use Rattle.model.specs.declared.Turn.{Turn}
 use Rattle.model.specs.declared.Line.{Line}
 use Rattle.descent_laws.proofs.Search.{Least, least-is}
-use Rattle.descent_laws.proofs.Claims.{ValidWeights}
+use Rattle.descent_laws.specs.Claims.{ValidWeights}
 use Rattle.descent_laws.proofs.Bounds.{BoxesSmall}
 use Rattle.descent_laws.proofs.Run.{impossible}
-use Rattle.search_laws.proofs.PieceSum.{penaltyBetween, piece-sum, pieceSumBound, running-bound, between-bound}
-use Rattle.search_laws.proofs.BoundedSearch.{belowBound, bounded-answer, none-answer}
+use Rattle.search_laws.specs.PieceSum.{penaltyBetween}
+use Rattle.search_laws.proofs.PieceSum.{piece-sum, pieceSumBound, running-bound, between-bound}
+use Rattle.search_laws.specs.BoundedSearch.{belowBound}
+use Rattle.search_laws.proofs.BoundedSearch.{bounded-answer, none-answer}
 
 -- ── the least of all ──
 

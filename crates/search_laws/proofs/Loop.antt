@@ -15,33 +15,24 @@ use lib.Dec.{ltb, eqb}
 use lib.ListN.{length, getD}
 use Rattle.model.specs.Layout.{Job, Layout, allowed, weightedSum, pieceSum}
 use Rattle.model.specs.Piece.{onLine}
-use Rattle.model.specs.Search.{Best, places, movedTo, sumAt}
+use Rattle.model.specs.Search.{Best, movedTo, sumAt}
 use Rattle.model.specs.Descent.{Trial, Attempt, moved, quiet, Progress, Descent, trials, trialLine, attempt, begin, proceed, noTrial, step, descendFrom, descend}
 use Rattle.model.specs.declared.Turn.the-variants.{Zero}
 use Rattle.model.specs.declared.Direction.the-variants.{Horizontal}
 use Rattle.model.specs.declared.End.{End}
 use Rattle.model.specs.declared.End.the-variants.{Clear, Settled, Spent}
-use Rattle.descent_laws.proofs.Trials.{Position, position, trialOf, trial-mem, Proper}
-use Rattle.descent_laws.proofs.Claims.{ValidLayout}
+use Rattle.descent_laws.specs.Trials.{trialOf, Proper}
+use Rattle.descent_laws.proofs.Trials.{Position, position, trial-mem}
+use Rattle.descent_laws.specs.Claims.{ValidLayout}
 use Rattle.descent_laws.proofs.Descent.{attempt-moved, zero-quiet}
+use Rattle.search_laws.specs.Loop.{Standing, standing, passed, trialSums, trialPlaces, trialSearch}
 use Rattle.search_laws.proofs.PieceSum.{moved-sum}
-use Rattle.search_laws.proofs.BoundedSearch.{belowBound, Lowest, bounded-is}
+use Rattle.search_laws.proofs.BoundedSearch.{Lowest, bounded-is}
 use Rattle.search_laws.proofs.LineSearch.{taken, attempt-below}
-use Rattle.search_laws.proofs.TrialIndex.{nextTrial, first-trial, next-trial, next-proper}
+use Rattle.search_laws.specs.TrialIndex.{nextTrial}
+use Rattle.search_laws.proofs.TrialIndex.{first-trial, next-trial, next-proper}
 
 -- ── where the loop stands ──
-
--- the layout, the quiet count, trials made, moves, and the trial that comes next
-pub record Standing : Type 0 where
-  pub layout : Layout
-  pub quietCount : ℕ
-  pub made : ℕ
-  pub moves : ℕ
-  pub trial : Trial
-
--- the same from its parts
-abbrev pub standing : Layout → ℕ → ℕ → ℕ → Trial → Standing
-standing v quietCount made moves k = record { layout = v; quietCount = quietCount; made = made; moves = moves; trial = k }
 
 -- the end that is reached here whatever is left of the budget
 abbrev pub endsNow : Job → List ℕ → Standing → Option End
@@ -52,11 +43,6 @@ endsNow j ws s =
 -- the descent ends here
 abbrev pub endedAt : Job → List ℕ → End → Standing → Descent
 endedAt j ws e s = record { end = e; layout = s .layout; sum = weightedSum j ws (s .layout); made = s .made; moves = s .moves }
-
--- after a trial that came to the given attempt
-abbrev pub passed : Job → Standing → Attempt → Standing
-passed j s (moved v) = standing v 0 (s .made + 1) (s .moves + 1) (nextTrial j (s .trial))
-passed j s quiet = standing (s .layout) (s .quietCount + 1) (s .made + 1) (s .moves) (nextTrial j (s .trial))
 
 -- what a descent gives from here on, with so much of the budget left
 unfoldable pub onward : Job → List ℕ → ℕ → Standing → Descent
@@ -102,18 +88,6 @@ module _ (j : Job) (ws : List ℕ) (s : Standing) where
         ap (λ n. onward j ws n s) more ∙ onward-suc (left - 1) ∙ ap (λ b. onward j ws (left - 1) (passed j s b)) e
 
 -- ── the trial, as the search with a bound ──
-
--- the sums on a trial's line
-abbrev pub trialSums : Job → List ℕ → Layout → Trial → ℕ → ℕ
-trialSums j ws v k = sumAt j ws v (k .piece) (k .turn) (trialLine v k)
-
--- how many places a trial's line has
-abbrev pub trialPlaces : Job → Layout → Trial → ℕ
-trialPlaces j v k = places j (k .piece) (k .turn) (trialLine v k)
-
--- what a trial searches for: the least sum below the piece's present one
-abbrev pub trialSearch : Job → List ℕ → Layout → Trial → Option Best
-trialSearch j ws v k = belowBound (trialSums j ws v k) (trialPlaces j v k) (pieceSum j ws v (k .piece))
 
 -- the layout after a move to coordinate a
 abbrev pub trialMoved : Layout → Trial → ℕ → Layout

@@ -14,24 +14,12 @@ use lib.Seq.{drop-drop, drop-at, getD-drop}
 use Rattle.model.specs.Layout.{Pair, pairsWith, pairsFrom, pairs, firstPair}
 use Rattle.model.specs.Lent.{pieceBound}
 use Rattle.descent_laws.proofs.Bounds.{pairs-length, pairs-at-most}
-
--- how many pairs have a first number below i: where the pairs with first number i begin
-unfoldable pub rowStart : ℕ → ℕ → ℕ
-rowStart n zero = 0
-rowStart n (suc i) = rowStart n i + (n - suc i)
+use Rattle.search_laws.specs.Pairs.{rowStart, pairIndex, pairOf}
 
 -- where the next row begins
 pub row-next : (n i : ℕ) → rowStart n (i + 1) ≡ rowStart n i + (n - (i + 1))
 unfolding rowStart
 row-next n i = rw (add-one i)
-
--- the position of the pair (i, k) among the pairs of n pieces
-abbrev pub pairIndex : ℕ → ℕ → ℕ → ℕ
-pairIndex n i k = rowStart n i + (k - suc i)
-
--- the pair of two numbers
-abbrev pub pairOf : ℕ → ℕ → Pair
-pairOf i k = record { first = i; second = k }
 
 -- ── the list of pairs ──
 

@@ -14,9 +14,8 @@ use lib.Dec.{ltb, eqb}
 use lib.ListN.{length, getD, set, List·getD-eq-default}
 use lib.Seq.{getD-set-same, getD-set-other}
 use Rattle.model.specs.Bounded.{sumBelow}
-use Rattle.model.specs.Piece.{corner, onLine}
-use Rattle.model.specs.Overlap.{penalty}
-use Rattle.model.specs.Layout.{Job, Layout, Pair, turnedPiece, origin, placeOf, shapeIn, cornerIn, pairs, pairPenalty, names, sumOver, weightedSum, pieceSum}
+use Rattle.model.specs.Piece.{onLine}
+use Rattle.model.specs.Layout.{Job, Layout, Pair, origin, shapeIn, cornerIn, pairs, pairPenalty, names, sumOver, weightedSum, pieceSum}
 use Rattle.model.specs.Search.{sumAt}
 use Rattle.model.specs.Guided.{weightBound}
 use Rattle.model.specs.Lent.{sideBound, pieceBound}
@@ -26,27 +25,16 @@ use Rattle.model.specs.declared.Line.the-variants.{InRow, InColumn}
 use Rattle.model.specs.declared.Placement.{Placement}
 use Rattle.model.proofs.Tests.{or-left, or-right}
 use Rattle.overlap_laws.proofs.Penalty.{penalty-symmetric}
-use Rattle.descent_laws.proofs.Claims.{ValidWeights}
+use Rattle.descent_laws.specs.Claims.{ValidWeights}
 use Rattle.descent_laws.proofs.Sums.{pair-mem, piece-at-most, placed-anew}
-use Rattle.descent_laws.proofs.Bounds.{BoxesSmall, pair-penalty-at-most, sumBound, weighted-at-most}
+use Rattle.descent_laws.specs.Sums.{sumBound}
+use Rattle.descent_laws.proofs.Bounds.{BoxesSmall, pair-penalty-at-most, weighted-at-most}
 use Rattle.model.proofs.Sums.{sum-agree, sum-zero, sum-single, sum-add, sum-first, sum-bound, sum-grows, sum-changed, term-at-most, three-parts}
-use Rattle.search_laws.proofs.Pairs.{rowStart, pairIndex, pairOf, pair-at, pair-below, row-at, last-index}
+use Rattle.search_laws.specs.PieceSum.{weightBetween, penaltyPlaced, penaltyBetween, penaltyOn}
+use Rattle.search_laws.specs.Pairs.{rowStart, pairIndex, pairOf}
+use Rattle.search_laws.proofs.Pairs.{pair-at, pair-below, row-at, last-index}
 
 -- ── what is added ──
-
--- the weight of the pair of i and k, in either order; 0 where they are one
-unfoldable pub weightBetween : ℕ → List ℕ → ℕ → ℕ → ℕ
-weightBetween n ws i k =
-    elim (ltb i k)
-    [ true ↦ getD ws (pairIndex n i k) 0 | false ↦ elim (ltb k i) [ true ↦ getD ws (pairIndex n k i) 0 | false ↦ 0 ] ]
-
--- the penalty of piece i, placed at p, and piece k as the layout places it
-unfoldable pub penaltyPlaced : Job → Layout → ℕ → Placement → ℕ → ℕ
-penaltyPlaced j v i p k = penalty (turnedPiece j i (p .turn)) (corner p) (shapeIn j v k) (cornerIn v k)
-
--- the penalty of pieces i and k in the layout
-abbrev pub penaltyBetween : Job → Layout → ℕ → ℕ → ℕ
-penaltyBetween j v i k = penaltyPlaced j v i (placeOf v i) k
 
 -- never looked up: every position below the number of pairs has its pair
 abbrev pub noPair : Pair
@@ -280,10 +268,6 @@ placed-sum j ws v i p l g e =
 turn-on : (line : Line) (t : Turn) (a : ℕ) → onLine line t a .turn ≡ t
 turn-on (InRow r) t a = refl
 turn-on (InColumn c) t a = refl
-
--- the penalty of piece i in the turn at coordinate a on the line, and piece k as the layout places it
-unfoldable pub penaltyOn : Job → Layout → ℕ → Turn → Line → ℕ → ℕ → ℕ
-penaltyOn j v i t line a k = penalty (turnedPiece j i t) (corner (onLine line t a)) (shapeIn j v k) (cornerIn v k)
 
 -- it is the penalty of the placement there
 pub penalty-on : (j : Job) (v : Layout) (i : ℕ) (t : Turn) (line : Line) (a k : ℕ)

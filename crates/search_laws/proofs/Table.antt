@@ -18,26 +18,13 @@ use Rattle.model.specs.Layout.{Job, Layout, placeOf, pairs, pairShares, pieceSu
 use Rattle.model.specs.declared.Placement.{Placement}
 use Rattle.overlap_laws.proofs.Penalty.{zero-penalty, penalty-zero}
 use Rattle.model.proofs.Tests.{same-tests, passes, clash}
-use Rattle.descent_laws.proofs.Claims.{ValidWeights}
+use Rattle.descent_laws.specs.Claims.{ValidWeights}
 use Rattle.model.proofs.Sums.{sum-agree, sum-zero, term-at-most}
-use Rattle.search_laws.proofs.Pairs.{rowStart, pairIndex, pairOf, pair-below}
-use Rattle.search_laws.proofs.PieceSum.{weightBetween, penaltyPlaced, penaltyBetween, pairTerm, share-agree, weight-positive, pair-term, piece-sum, placed-penalty, others-penalty, between-symmetric, weighted-sum, positions-rows, moved-sum}
-
--- the place of pieces i and k in the table
-abbrev pub entry : ℕ → ℕ → ℕ
-entry i k = i * 64 + k
-
--- the table holds the penalties of the pieces below n
-pub record PenaltyTable (j : Job) (v : Layout) (n : ℕ) (T : List ℕ) : Type 0 where
-  pub size : length T ≡ 4096
-  pub holds : (i k : ℕ) → i < n → k < n → i ≢ k → getD T (entry i k) 0 ≡ penaltyBetween j v i k
-
--- piece i, placed at p, has its penalties with the pieces below k; those of two other pieces are the layout's
-pub record Renewed (j : Job) (v : Layout) (n i : ℕ) (p : Placement) (k : ℕ) (T : List ℕ) : Type 0 where
-  pub size : length T ≡ 4096
-  pub others : (a b : ℕ) → a < n → b < n → a ≢ b → a ≢ i → b ≢ i → getD T (entry a b) 0 ≡ penaltyBetween j v a b
-  pub row : (b : ℕ) → b < k → i ≢ b → getD T (entry i b) 0 ≡ penaltyPlaced j v i p b
-  pub column : (b : ℕ) → b < k → i ≢ b → getD T (entry b i) 0 ≡ penaltyPlaced j v i p b
+use Rattle.search_laws.specs.Table.{entry, PenaltyTable, Renewed}
+use Rattle.search_laws.specs.Pairs.{rowStart, pairIndex, pairOf}
+use Rattle.search_laws.proofs.Pairs.{pair-below}
+use Rattle.search_laws.specs.PieceSum.{weightBetween, penaltyPlaced, penaltyBetween}
+use Rattle.search_laws.proofs.PieceSum.{pairTerm, share-agree, weight-positive, pair-term, piece-sum, placed-penalty, others-penalty, between-symmetric, weighted-sum, positions-rows, moved-sum}
 
 -- a table of no pieces
 pub table-empty : (j : Job) (v : Layout) (T : List ℕ) → length T ≡ 4096 → PenaltyTable j v 0 T

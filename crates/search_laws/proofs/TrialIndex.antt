@@ -16,18 +16,11 @@ use Rattle.model.specs.declared.Turn.{Turn}
 use Rattle.model.specs.declared.Turn.the-variants.{Zero, Quarter, Half, ThreeQuarters}
 use Rattle.model.specs.declared.Direction.{Direction}
 use Rattle.model.specs.declared.Direction.the-variants.{Horizontal, Vertical}
-use Rattle.descent_laws.proofs.Trials.{trialOf, Proper}
+use Rattle.descent_laws.specs.Trials.{trialOf, Proper}
 use Rattle.model.proofs.Sums.{sum-first, sum-agree}
+use Rattle.search_laws.specs.TrialIndex.{pieceStart, inTurn, afterTurn, nextIn, nextTrial}
 
 -- ── the next trial ──
-
--- the first trial of piece i, or of piece 0 where there is no piece i
-abbrev pub pieceStart : Job → ℕ → Trial
-pieceStart j i = trialOf (elim (ltb i (j .count)) [ true ↦ i | false ↦ 0 ]) Zero Horizontal
-
--- the piece's horizontal trial in the turn, if that is allowed, else what comes later
-unfoldable pub inTurn : Job → ℕ → Turn → Trial → Trial
-inTurn j i t later = elim (allowed j i t) [ true ↦ trialOf i t Horizontal | false ↦ later ]
 
 -- an allowed turn has its trial
 pub in-turn : (j : Job) (i : ℕ) (t : Turn) (later : Trial) → allowed j i t ≡ true → inTurn j i t later ≡ trialOf i t Horizontal
@@ -38,22 +31,6 @@ in-turn j i t later a = rw (a, inTurn)
 pub past-turn : (j : Job) (i : ℕ) (t : Turn) (later : Trial) → allowed j i t ≡ false → inTurn j i t later ≡ later
 unfolding inTurn
 past-turn j i t later a = rw (a, inTurn)
-
--- what comes after the piece's trials in a turn
-unfoldable pub afterTurn : Job → ℕ → Turn → Trial
-afterTurn j i Zero = inTurn j i Quarter (inTurn j i Half (inTurn j i ThreeQuarters (pieceStart j (suc i))))
-afterTurn j i Quarter = inTurn j i Half (inTurn j i ThreeQuarters (pieceStart j (suc i)))
-afterTurn j i Half = inTurn j i ThreeQuarters (pieceStart j (suc i))
-afterTurn j i ThreeQuarters = pieceStart j (suc i)
-
--- what comes after the piece's trial in a turn and a direction
-abbrev pub nextIn : Job → ℕ → Turn → Direction → Trial
-nextIn j i t Horizontal = trialOf i t Vertical
-nextIn j i t Vertical = afterTurn j i t
-
--- the trial after a trial
-unfoldable pub nextTrial : Job → Trial → Trial
-nextTrial j k = nextIn j (k .piece) (k .turn) (k .direction)
 
 -- ── lists of trials that follow one another ──
 

@@ -10,11 +10,7 @@ use Rattle.model.specs.Piece.{Point, Shape, pixel, other, along, across, point,
 use Rattle.model.specs.declared.Direction.{Direction}
 use Rattle.model.specs.declared.Direction.the-variants.{Horizontal, Vertical}
 use Rattle.model.proofs.Tests.{and-left, and-right, fails}
-
--- a point lies in the box
-pub record InBox (s : Shape) (p : Point) : Type 0 where
-  pub column : p .x < s .columns
-  pub row : p .y < s .rows
+use Rattle.strip_laws.specs.Boxes.{InBox, SameShape}
 
 -- a pixel lies in the box
 pub pixel-in-box : (s : Shape) (p : Point) → pixel s p ≡ true → InBox s p
@@ -76,12 +72,6 @@ no-pixel-past d s a c h =
     let e : along d (point d a c) ≡ a = along-point d a c in
     fails (pixel s (point d a c))
     (λ p. let b : along d (point d a c) < extent d s = box-along d s (point d a c) (pixel-in-box s (point d a c) p) in omega arith)
-
--- two shapes have the same box and the same pixels
-pub record SameShape (s u : Shape) : Type 0 where
-  pub columns : s .columns ≡ u .columns
-  pub rows : s .rows ≡ u .rows
-  pub pixels : (p : Point) → pixel s p ≡ pixel u p
 
 -- and the other way round
 pub same-sym : {s u : Shape} → SameShape s u → SameShape u s

@@ -7,11 +7,7 @@ use Prim.Native.Nat.{ℕ, zero, suc, _<_}
 use native.Mathlib.Nat.{not-suc-le-zero, le-of-suc-le-suc}
 use native.Mathlib.Omega.{arith}
 use lib.ListN.{length, getD}
-
--- each element is related to every later one
-pub data Pairwise {A : Type 0} (R : A → A → Type 0) : List A → Type 0 where
-  none : Pairwise R []
-  more : {a : A} {l : List A} → ((b : A) → List·Memᴰ b l → R a b) → Pairwise R l → Pairwise R (a ∷ l)
+use Rattle.strip_laws.specs.Lists.{Pairwise, none, more}
 
 -- an element of a mapped list comes from an element of the list
 pub record Source {A B : Type 0} (g : A → B) (l : List A) (b : B) : Type 0 where

@@ -9,8 +9,10 @@ use Rattle.model.specs.Piece.{Point, Shape, pixel, tight, point}
 use Rattle.model.specs.Strip.{Strip, strips, stripsHave, rebuilt}
 use Rattle.model.specs.declared.Direction.{Direction}
 use Rattle.model.proofs.Tests.{same-tests}
+use Rattle.strip_laws.specs.Strips.{HasStrips}
 use Rattle.strip_laws.proofs.Lists.{member-length}
-use Rattle.strip_laws.proofs.Boxes.{InBox, pixel-in-box, pixel-in, SameShape, same-sym}
+use Rattle.strip_laws.specs.Boxes.{InBox, SameShape}
+use Rattle.strip_laws.proofs.Boxes.{pixel-in-box, pixel-in, same-sym}
 use Rattle.strip_laws.proofs.Tight.{LinePixel, tight-pixel, same-tight}
 use Rattle.strip_laws.proofs.Strips.{InStrips, have-in, strips-exactly, strips-agree}
 
@@ -53,12 +55,6 @@ pub rebuilt-strips : (d e : Direction) (s : Shape) → strips e (rebuilt d (s .c
 rebuilt-strips d e s = strips-agree e (rebuilt d (s .columns) (s .rows) (strips d s)) s (rebuilt-same d s)
 
 -- ── strips of some shape of a box ──
-
--- a shape of the box has just these strips
-pub record HasStrips (d : Direction) (l w : ℕ) (ts : List Strip) (s : Shape) : Type 0 where
-  pub columns : s .columns ≡ l
-  pub rows : s .rows ≡ w
-  pub are : strips d s ≡ ts
 
 -- a shape of the box that has the strips is the rebuilt one
 pub rebuilt-only : (d : Direction) (l w : ℕ) (ts : List Strip) (s : Shape) → HasStrips d l w ts s → SameShape (rebuilt d l w ts) s

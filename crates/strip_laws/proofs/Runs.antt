@@ -13,7 +13,7 @@ use borrow.Author.Tests.{ltb-true, ltb-false}
 use lib.Dec.{ltb}
 use Rattle.model.specs.Strip.{Run, closing, runsFrom, runs}
 use Rattle.model.proofs.Tests.{decided, fails, clash, same-tests}
-use Rattle.strip_laws.proofs.Lists.{Pairwise, none, more}
+use Rattle.strip_laws.specs.Lists.{Pairwise, none, more}
 
 -- a run is maximal among the numbers below n that pass: it is not empty, lies below n, all its numbers pass, the number before
 -- it, if there is one, fails, and the number after it fails or is n

@@ -4,19 +4,22 @@
 use mathlib.Core.Bool.{Bool, true, false, _&&_, false≢true}
 use mathlib.Core.List.{List, [], _∷_, _++_, map, List·Memᴰ, List·Memᴰ·head, List·Memᴰ·tail, List·Memᴰ·not-nil, List·Memᴰ·append-cases, Memᴰ·append-left, Memᴰ·append-right}
 use mathlib.Core.Path.{_≡_, refl, sym, subst, ap, ap₂, _∙_}
-use mathlib.Core.Logic.{_⊎_, inl, inr, ⊎-elim}
+use mathlib.Core.Logic.{inl, inr, ⊎-elim}
 use Prim.Native.Nat.{ℕ, zero, suc, _+_, _<_, _≤_}
 use native.Mathlib.Nat.{eq-or-lt-of-le, le-refl}
 use native.Mathlib.Omega.{arith}
 use lib.Dec.{leb, ltb, eqb}
 use borrow.Author.Tests.{ltb-true, lt-ltb, leb-true, le-leb, eqb-true, eq-eqb}
-use Rattle.model.specs.Piece.{Point, Shape, pixel, other, along, across, point, extent, cell}
+use Rattle.model.specs.Piece.{Point, Shape, pixel, other, along, across, extent, cell}
 use Rattle.model.specs.Strip.{Run, runs, Strip, stripOf, lineStrips, stripsFrom, strips, stripHas, stripsHave}
 use Rattle.model.specs.declared.Direction.{Direction}
 use Rattle.model.proofs.Tests.{and-left, and-right, and-both, same-tests}
-use Rattle.strip_laws.proofs.Lists.{Pairwise, none, Source, map-source, map-member, pairwise-map, pairwise-append}
+use Rattle.strip_laws.specs.Strips.{MaximalStrip, StripBefore}
+use Rattle.strip_laws.specs.Lists.{Pairwise, none}
+use Rattle.strip_laws.proofs.Lists.{Source, map-source, map-member, pairwise-map, pairwise-append}
 use Rattle.strip_laws.proofs.Runs.{MaximalRun, InRuns, runs-exactly, runs-maximal, runs-ascending, runs-agree}
-use Rattle.strip_laws.proofs.Boxes.{InBox, pixel-in-box, box-from, box-along, box-across, pixel-cell, pixel-point, no-pixel-past, SameShape, same-extent, same-cell}
+use Rattle.strip_laws.specs.Boxes.{InBox, SameShape}
+use Rattle.strip_laws.proofs.Boxes.{pixel-in-box, box-from, box-along, box-across, pixel-cell, pixel-point, no-pixel-past, same-extent, same-cell}
 
 -- ── which strips are listed ──
 
@@ -176,16 +179,6 @@ strips-exactly d s p =
 
 -- ── each strip is maximal in its line ──
 
--- a strip is not empty, lies in the box, all its points are pixels, and the point before it and the one after it are none: they
--- are no pixels of the set or lie outside the box
-pub record MaximalStrip (d : Direction) (s : Shape) (t : Strip) : Type 0 where
-  pub some : 0 < t .count
-  pub line : t .line < extent (other d) s
-  pub within : t .first + t .count ≤ extent d s
-  pub pixels : (a : ℕ) → t .first ≤ a → a < t .first + t .count → pixel s (point d a (t .line)) ≡ true
-  pub before : (a : ℕ) → suc a ≡ t .first → pixel s (point d a (t .line)) ≡ false
-  pub after : pixel s (point d (t .first + t .count) (t .line)) ≡ false
-
 -- each strip of a shape is maximal
 pub strips-maximal : (d : Direction) (s : Shape) (t : Strip) → List·Memᴰ t (strips d s) → MaximalStrip d s t
 strips-maximal d s t m =
@@ -211,10 +204,6 @@ strips-maximal d s t m =
     }
 
 -- ── the strips are ordered by line, then first ──
-
--- a strip stands before another: in an earlier line, or in the same line and ending before the other begins, with a gap
-abbrev pub StripBefore : Strip → Strip → Type 0
-StripBefore t u = (t .line < u .line) ⊎ ((t .line ≡ u .line) × (t .first + t .count < u .first))
 
 -- the strips of one line are ordered as its runs are
 line-ordered : (d : Direction) (s : Shape) (c : ℕ) → Pairwise StripBefore (lineStrips d s c)

@@ -10,7 +10,8 @@ use Rattle.model.specs.declared.Direction.{Direction}
 use Rattle.model.specs.declared.Direction.the-variants.{Horizontal, Vertical}
 use Rattle.model.proofs.Tests.{and-left, and-right, and-both}
 use Rattle.model.proofs.Bounded.{Witness, any-witness, any-agree}
-use Rattle.strip_laws.proofs.Boxes.{SameShape, same-extent, same-cell, pixel-point}
+use Rattle.strip_laws.specs.Boxes.{SameShape}
+use Rattle.strip_laws.proofs.Boxes.{same-extent, same-cell, pixel-point}
 
 -- the outer lines of a box each hold a pixel
 pub record Edges (s : Shape) : Type 0 where

@@ -3,7 +3,6 @@
 -- subtractions undo each other, so the tests agree. Assumes nothing.
 use mathlib.Core.Bool.{Bool, true, false}
 use mathlib.Core.Path.{_≡_, refl, sym, ap₂, _∙_}
-use mathlib.Core.Logic.{_↔_}
 use Prim.Native.Nat.{ℕ, _-_, _<_}
 use native.Mathlib.Omega.{arith}
 use Rattle.model.specs.Bounded.{anyBelow}
@@ -11,12 +10,10 @@ use Rattle.model.specs.Piece.{Point, Shape, pixel, tight, turnPoint, turned}
 use Rattle.model.specs.declared.Turn.{Turn}
 use Rattle.model.specs.declared.Turn.the-variants.{Zero, Quarter, Half, ThreeQuarters}
 use Rattle.model.proofs.Bounded.{Witness, any-witness, any-from}
-use Rattle.strip_laws.proofs.Boxes.{InBox, pixel-in}
+use Rattle.strip_laws.specs.Turns.{image, TurnedExactly}
+use Rattle.strip_laws.specs.Boxes.{InBox}
+use Rattle.strip_laws.proofs.Boxes.{pixel-in}
 use Rattle.strip_laws.proofs.Tight.{Edges, tight-edges, edges-tight}
-
--- the point that the turn takes pixel p of the shape's box to
-abbrev pub image : Turn → Shape → Point → Point
-image t s p = turnPoint t (s .columns) (s .rows) p
 
 -- the point of the shape's box that the turn takes to q
 abbrev pub source : Turn → Shape → Point → Point
@@ -61,19 +58,6 @@ image-source Half s q b =
     λ i. record { x = e i; y = f i }
 image-source ThreeQuarters s q b =
     let f : s .columns - 1 - (s .columns - 1 - q .y) ≡ q .y = let v = b .row in omega arith in λ i. record { x = q .x; y = f i }
-
--- a point of the shape's box that the turn takes to q
-pub record Origin (t : Turn) (s : Shape) (q : Point) : Type 0 where
-  pub from : Point
-  pub in-box : InBox s from
-  pub goes : image t s from ≡ q
-
--- the turned shape is the image of the shape: the turn takes the box into the turned box, a point is a pixel exactly when its
--- image is one, and each point of the turned box is the image of a point of the box
-pub record TurnedExactly (t : Turn) (s : Shape) : Type 0 where
-  pub inside : (p : Point) → InBox s p → InBox (turned t s) (image t s p)
-  pub pixels : (p : Point) → InBox s p → (pixel s p ≡ true) ↔ (pixel (turned t s) (image t s p) ≡ true)
-  pub onto : (q : Point) → InBox (turned t s) q → Origin t s q
 
 -- a point of the box and its image are pixels alike
 pub image-pixel : (t : Turn) (s : Shape) (p : Point) → InBox s p → pixel (turned t s) (image t s p) ≡ pixel s p

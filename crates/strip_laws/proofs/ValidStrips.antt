@@ -13,31 +13,17 @@ use Rattle.model.specs.Strip.{Strip, strips, rebuilt}
 use Rattle.model.specs.declared.Direction.{Direction}
 use Rattle.model.specs.declared.Direction.the-variants.{Horizontal, Vertical}
 use Rattle.model.proofs.Tests.{fails, clash}
-use Rattle.strip_laws.proofs.Lists.{Pairwise, pairwise-compare, pairwise-unique}
-use Rattle.strip_laws.proofs.Boxes.{InBox, pixel-in-box, along-point, across-point, box-from}
-use Rattle.strip_laws.proofs.Strips.{InStrips, have-in, in-have, strips-exactly, MaximalStrip, strips-maximal, StripBefore, strips-ordered}
-use Rattle.strip_laws.proofs.Rebuild.{HasStrips, rebuilt-columns, rebuilt-rows, rebuilt-pixel, rebuilt-tight}
-
--- a box's pixels along the direction, from its columns and rows
-abbrev pub side : Direction → ℕ → ℕ → ℕ
-side Horizontal l w = l
-side Vertical l w = w
+use Rattle.strip_laws.specs.Strips.{side, StripFits, ValidStrips, MaximalStrip, StripBefore, HasStrips}
+use Rattle.strip_laws.proofs.Lists.{pairwise-compare, pairwise-unique}
+use Rattle.strip_laws.specs.Boxes.{InBox}
+use Rattle.strip_laws.proofs.Boxes.{pixel-in-box, along-point, across-point, box-from}
+use Rattle.strip_laws.proofs.Strips.{InStrips, have-in, in-have, strips-exactly, strips-maximal, strips-ordered}
+use Rattle.strip_laws.proofs.Rebuild.{rebuilt-columns, rebuilt-rows, rebuilt-pixel, rebuilt-tight}
 
 -- the rebuilt set's box
 pub rebuilt-extent : (e d : Direction) (l w : ℕ) (ts : List Strip) → extent e (rebuilt d l w ts) ≡ side e l w
 rebuilt-extent Horizontal d l w ts = rebuilt-columns d l w ts
 rebuilt-extent Vertical d l w ts = rebuilt-rows d l w ts
-
--- a strip is not empty and lies in the box
-pub record StripFits (d : Direction) (l w : ℕ) (t : Strip) : Type 0 where
-  pub some : 0 < t .count
-  pub line : t .line < side (other d) l w
-  pub within : t .first + t .count ≤ side d l w
-
--- each strip fits, and they are ordered by line, then first, with a gap in a line
-pub record ValidStrips (d : Direction) (l w : ℕ) (ts : List Strip) : Type 0 where
-  pub fits : (t : Strip) → List·Memᴰ t ts → StripFits d l w t
-  pub ordered : Pairwise StripBefore ts
 
 -- ── maximal strips ──
 

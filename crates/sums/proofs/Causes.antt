@@ -17,7 +17,7 @@ use Rattle.model.specs.Guided.{weightBound}
 use Rattle.model.specs.Buffer.{layoutOf}
 use Rattle.model.specs.Calls.{someWeightWrong, someOutside, layoutCauses, sharedCause}
 use Rattle.model.proofs.Bounded.{any-none}
-use Rattle.text_laws.proofs.Outcomes.{NoCause}
+use Rattle.text_laws.specs.Outcomes.{NoCause}
 use Rattle.placing.proofs.Causes.{sound}
 use Rattle.shapes.specs.Shapes.{Room}
 use Rattle.shapes.proofs.Jobs.{sheet}

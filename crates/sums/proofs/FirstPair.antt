@@ -10,7 +10,7 @@ use lib.ListN.{length}
 use Rattle.model.specs.Layout.{Pair, pairsWith, pairsFrom, pairShares, firstPair, sharingPair}
 use Rattle.model.specs.Lent.{Lent, jobOf}
 use Rattle.model.specs.Buffer.{layoutOf}
-use Rattle.search_laws.proofs.Pairs.{pairOf}
+use Rattle.search_laws.specs.Pairs.{pairOf}
 use Rattle.pair_table.specs.Drawn.{Laid}
 use Rattle.sums.specs.Sharing.{rowBefore, RowFirst}
 

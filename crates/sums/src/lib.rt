@@ -20,7 +20,7 @@ ghost use lib.ListN.{length};
 ghost use Rattle.model.specs.Lent.{lentBy, jobOf};
 ghost use Rattle.model.specs.Buffer.{layoutOf};
 ghost use Rattle.model.specs.Calls.{someWeightWrong, weightedSumCall, plainSumCall, checkCall};
-ghost use Rattle.search_laws.proofs.Table.{PenaltyTable};
+ghost use Rattle.search_laws.specs.Table.{PenaltyTable};
 ghost use Rattle.placing.specs.Answers.{firstCause};
 ghost use Rattle.pair_table.specs.Drawn.{Laid};
 ghost use Rattle.sums.specs.Answers.{sumAnswer, checkAnswer, sharedAnswer, lengthCauses, placeCauses};

@@ -17,7 +17,9 @@ use Rattle.model.specs.Lent.{Lent, rowBound, columnBound, pieceBound, sideBound
 use Rattle.model.specs.Text.{byte, Reading, wrong, got, onward, after, lineEnd, threeFields, fourFields, lineAt}
 use Rattle.model.specs.JobText.{jobWord, pieceWord, rowWord, JobLine, asJobLine, jobLineCauses, jobLine, PieceLine, asPieceLine, pieceInRange, pieceLineCauses, pieceLine, markAt, marksAt, rowAt, Rows, rowsAt, boxShape, PieceText, rowsCauses, asPieceText, pieceAt, Pieces, noPieces, withPiece, piecesAt, asLent, bufferCauses, readJob}
 use Rattle.model.proofs.Tests.{and-left, and-right, and-both, or-neither}
-use Rattle.text_laws.proofs.Outcomes.{Unless, given-unless, given-before, given-formed, wrong-got, Onward, got-onward, got-after}
+use Rattle.text_laws.specs.Limits.{sidesInRange}
+use Rattle.text_laws.specs.Outcomes.{Unless}
+use Rattle.text_laws.proofs.Outcomes.{given-unless, given-before, given-formed, wrong-got, Onward, got-onward, got-after}
 use Rattle.text_laws.proofs.LentFacts.{well}
 use Rattle.text_laws.proofs.Store.{start-after, in-box, tight-agree}
 
@@ -102,10 +104,6 @@ rows-read text l (suc left) p line r e =
     })
 
 -- ── a piece ──
-
--- the sides are in range and the sum of turns is odd and at most 15
-abbrev pub sidesInRange : ℕ → ℕ → ℕ → Bool
-sidesInRange l w o = upTo sideBound l && upTo sideBound w && eqb (o % 2) 1 && leb o turnsBound
 
 -- what is known of a piece line that is given, with the areas of the boxes before it
 pub record LineWell (j : JobLine) (area l w o : ℕ) : Type 0 where

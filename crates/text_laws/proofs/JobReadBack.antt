@@ -18,11 +18,13 @@ use Rattle.model.specs.JobText.{jobWord, pieceWord, rowWord, JobLine, jobLineCa
 use Rattle.model.proofs.Tests.{and-left, and-right}
 use Rattle.text_laws.proofs.Ahead.{Ahead, ahead-start, ahead-byte, ahead-next, ahead-word, after-ahead, ahead-end}
 use Rattle.text_laws.proofs.Fields.{Reads, Gives, Writable, line-ahead}
-use Rattle.text_laws.proofs.Outcomes.{NoCause, unless-given}
+use Rattle.text_laws.specs.Outcomes.{NoCause}
+use Rattle.text_laws.proofs.Outcomes.{unless-given}
 use Rattle.text_laws.proofs.Store.{start-grows, start-end, in-box, tight-agree}
 use Rattle.text_laws.proofs.LentFacts.{Facts, facts}
 use Rattle.text_laws.proofs.JobRead.{AllBits}
-use Rattle.text_laws.proofs.JobWriting.{part, part-length, part-at, part-append, part-front, mark, rowText, rowsText, entryNumbers, pieceText, piecesText, jobText, entriesFrom, pixelsFrom, exactly}
+use Rattle.text_laws.specs.Texts.{entryNumbers, entriesFrom, exactly}
+use Rattle.text_laws.proofs.JobWriting.{part, part-length, part-at, part-append, part-front, mark, rowText, rowsText, pieceText, piecesText, jobText, pixelsFrom}
 
 -- ── rows ──
 

@@ -9,9 +9,10 @@ use native.Mathlib.Omega.{arith}
 use lib.Dec.{eqb}
 use lib.ListN.{length, getD, take}
 use lib.Seq.{ext-getD, getD-take, length-take-le}
-use Rattle.model.specs.Lent.{Lent, entryColumns, entryRows, entryTurns, pixelStart}
+use Rattle.model.specs.Lent.{Lent, entryColumns, entryRows, pixelStart}
 use Rattle.model.specs.Text.{lineEnd, threeFields, fourFields, lineText}
 use Rattle.model.specs.JobText.{jobWord, pieceWord, rowWord}
+use Rattle.text_laws.specs.Texts.{entryNumbers}
 
 -- n numbers of the list from place s on
 abbrev pub part : List ℕ → ℕ → ℕ → List ℕ
@@ -31,10 +32,6 @@ unfoldable pub rowsText : List ℕ → ℕ → ℕ → ℕ → List ℕ
 rowsText pixels l s zero = []
 rowsText pixels l s (suc left) = rowText (part pixels s l) ++ rowsText pixels l (s + l) left
 
--- the numbers l, w, o of entry i
-abbrev pub entryNumbers : List (List ℕ) → ℕ → List ℕ
-entryNumbers table i = entryColumns table i ∷ entryRows table i ∷ entryTurns table i ∷ []
-
 -- the lines of piece i
 abbrev pub pieceText : Lent → ℕ → List ℕ
 pieceText k i =
@@ -52,27 +49,11 @@ jobText k = lineText jobWord threeFields (k .rows ∷ k .columns ∷ k .count �
 
 -- ── the job that the text gives ──
 
--- `left` entries from number i on
-abbrev pub entriesFrom : List (List ℕ) → ℕ → ℕ → List (List ℕ)
-entriesFrom table i zero = []
-entriesFrom table i (suc left) = entryNumbers table i ∷ entriesFrom table (suc i) left
-
 -- the pixel bytes of `left` pieces from number i on
 abbrev pub pixelsFrom : Lent → ℕ → ℕ → List ℕ
 pixelsFrom k i zero = []
 pixelsFrom k i (suc left) =
     part (k .pixels) (pixelStart (k .table) i) (entryRows (k .table) i * entryColumns (k .table) i) ++ pixelsFrom k (suc i) left
-
--- the lent job without what lies beyond it in its buffers
-abbrev pub exactly : Lent → Lent
-exactly k =
-    record {
-      rows = k .rows;
-      columns = k .columns;
-      count = k .count;
-      table = entriesFrom (k .table) 0 (k .count);
-      pixels = take (pixelStart (k .table) (k .count)) (k .pixels);
-    }
 
 -- ── parts ──
 

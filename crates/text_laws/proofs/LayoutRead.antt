@@ -1,6 +1,5 @@
 -- Document 01, 'When a call says no', reading a layout: a layout that reading gives has a placement for each piece, in an allowed
 -- turn and inside, so that no call refuses it with 7, 9 or 10. Assumes nothing.
-use mathlib.Core.Bool.{true}
 use mathlib.Core.List.{List, [], _∷_}
 use mathlib.Core.Path.{_≡_, refl, ap}
 use Prim.Native.Nat.{ℕ, zero, suc, _+_, _<_}
@@ -14,12 +13,9 @@ use Rattle.model.specs.Refusal.{Outcome, given}
 use Rattle.model.specs.Text.{fourFields, lineAt}
 use Rattle.model.specs.LayoutText.{atWord, PlacementLine, asPlacementLine, placementCauses, layoutLine, placementLine, placementsAt, readLayout}
 use Rattle.model.specs.declared.Placement.{Placement}
-use Rattle.text_laws.proofs.Outcomes.{Unless, given-unless, given-before, given-formed}
-
--- what the calls ask of piece i's placement
-pub record Placed (j : Job) (i : ℕ) (p : Placement) : Type 0 where
-  pub turn : allowed j i (p .turn) ≡ true
-  pub within : inside j i p ≡ true
+use Rattle.text_laws.specs.Texts.{Placed}
+use Rattle.text_laws.specs.Outcomes.{Unless}
+use Rattle.text_laws.proofs.Outcomes.{given-unless, given-before, given-formed}
 
 -- a placement for each of `left` pieces from number i on
 pub record AllPlaced (j : Job) (i left : ℕ) (v : Layout) : Type 0 where

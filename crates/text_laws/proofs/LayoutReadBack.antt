@@ -24,7 +24,7 @@ use Rattle.model.proofs.Tests.{and-left, and-right, and-both}
 use Rattle.text_laws.proofs.Ahead.{Ahead, ahead-start, ahead-end}
 use Rattle.text_laws.proofs.Fields.{Reads, Gives, Writable, line-ahead}
 use Rattle.text_laws.proofs.Outcomes.{unless-given}
-use Rattle.text_laws.proofs.LayoutRead.{Placed}
+use Rattle.text_laws.specs.Texts.{Placed}
 use Rattle.text_laws.proofs.Entries.{degrees-turn, entry-read-back}
 
 -- degrees have at most 5 digits

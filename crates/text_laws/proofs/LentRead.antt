@@ -13,13 +13,13 @@ use lib.Dec.{eqb, leb}
 use lib.ListN.{length, getD, take}
 use lib.Seq.{getD-take}
 use Rattle.model.specs.Piece.{tight}
-use Rattle.model.specs.Refusal.{given}
 use Rattle.model.specs.Lent.{Lent, entryColumns, entryRows, entryTurns, pixelStart, entryInRange, entryFits, lentShape, lentWell}
-use Rattle.model.specs.JobText.{readJob}
+use Rattle.text_laws.specs.Texts.{Readable, entryNumbers, entriesFrom, exactly}
 use Rattle.text_laws.proofs.Store.{start-end, in-box, tight-agree}
 use Rattle.text_laws.proofs.LentFacts.{Facts, facts, well}
-use Rattle.text_laws.proofs.JobRead.{sidesInRange, sides-some, job-read-well}
-use Rattle.text_laws.proofs.JobWriting.{entryNumbers, jobText, entriesFrom, exactly}
+use Rattle.text_laws.specs.Limits.{sidesInRange}
+use Rattle.text_laws.proofs.JobRead.{sides-some, job-read-well}
+use Rattle.text_laws.proofs.JobWriting.{jobText}
 use Rattle.text_laws.proofs.JobReadBack.{job-read-back}
 
 -- the entries from number i on
@@ -100,13 +100,6 @@ module _ (k : Lent) where
         bits = λ i l. rw (getD-take (pixelStart (k .table) (k .count)) (k .pixels) i 0 l) at (f .bits i (omega arith));
         tightBoxes = λ i l. sym (same-tight i l (f .ranges i l)) ∙ f .tightBoxes i l;
       })
-
--- W, L, n, n entries and box pixels are there, and reading some text gives them
-pub record Readable (k : Lent) : Type 0 where
-  pub entries : k .count ≤ length (k .table)
-  pub store : pixelStart (k .table) (k .count) ≤ length (k .pixels)
-  pub text : List ℕ
-  pub reads : readJob text (length (k .table)) (length (k .pixels)) ≡ given (exactly k)
 
 -- the check of a lent job passes exactly those
 pub lent-well-readable : (k : Lent) → (lentWell k ≡ true) ↔ Readable k

@@ -9,11 +9,7 @@ use lib.ListN.{length}
 use Rattle.model.specs.Refusal.{Outcome, refused, given, Cause, unless, refusalOf}
 use Rattle.model.specs.Text.{Reading, wrong, got, onward, formed, andThen, standsAt, after}
 use Rattle.model.specs.declared.Refusal.{Refusal}
-
--- none of the causes is there
-abbrev pub NoCause : List Cause → Type 0
-NoCause [] = Unit {0}
-NoCause (c ∷ cs) = (c .there ≡ false) × NoCause cs
+use Rattle.text_laws.specs.Outcomes.{NoCause, Unless}
 
 -- then the value is given
 pub unless-given : {A : Type 0} (cs : List Cause) (a : A) → NoCause cs → unless cs a ≡ given a
@@ -24,11 +20,6 @@ unless-given (c ∷ cs) a h = rw (h .0, unless) (unless-given cs a (h .1))
 -- a refusal is no value
 pub refused-given : {A : Type 0} {r : Refusal} {a : A} → refused r ≡ given a → ⊥
 refused-given {A} {r} {a} e = let z : _≡_ {A = ℕ} 0 1 = cc in omega arith
-
--- what is given where causes were looked at
-pub record Unless {A : Type 0} (cs : List Cause) (a b : A) : Type 0 where
-  pub none : NoCause cs
-  pub same : a ≡ b
 
 -- the first cause is not there
 given-step : {A : Type 0} (c : Cause) (cs : List Cause) (a b : A) (t : Bool) → c .there ≡ t → (unless cs a ≡ given b → Unless cs a b)

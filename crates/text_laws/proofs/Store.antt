@@ -14,6 +14,7 @@ use Rattle.model.specs.declared.Direction.{Direction}
 use Rattle.model.specs.declared.Direction.the-variants.{Horizontal, Vertical}
 use Rattle.model.proofs.Bounded.{any-agree}
 use Rattle.model.proofs.Sums.{sum-first}
+use Rattle.text_laws.specs.Texts.{Agree}
 
 -- ── where pixels begin ──
 
@@ -42,14 +43,6 @@ pub in-box : {l w x y : ℕ} → x < l → y < w → y * l + x < w * l
 in-box {l} {w} {x} {y} hx hy = let h : suc y * l ≤ w * l = mul-le-mul-right l hy in omega (arith, suc-mul y l)
 
 -- ── boxes that agree ──
-
--- shapes of one box that agree inside it
-pub record Agree (s t : Shape) : Type 0 where
-  pub columns : s .columns ≡ t .columns
-  pub rows : s .rows ≡ t .rows
-  pub wide : 0 < t .columns
-  pub high : 0 < t .rows
-  pub has : (x y : ℕ) → x < t .columns → y < t .rows → s .has x y ≡ t .has x y
 
 -- their lines hold a pixel alike
 holds-agree : (d : Direction) (s t : Shape) → Agree s t → (c : ℕ) → c < extent (other d) t → holds d s c ≡ holds d t c

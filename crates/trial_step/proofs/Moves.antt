@@ -18,7 +18,8 @@ use Rattle.model.specs.declared.Line.{Line}
 use Rattle.model.specs.declared.Line.the-variants.{InRow, InColumn}
 use Rattle.model.specs.declared.Placement.{Placement}
 use Rattle.text_laws.proofs.Entries.{entry-read-back}
-use Rattle.search_laws.proofs.BoundedSearch.{bestAt, belowBound, Lowest, bounded-is}
+use Rattle.search_laws.specs.BoundedSearch.{bestAt, belowBound}
+use Rattle.search_laws.proofs.BoundedSearch.{Lowest, bounded-is}
 use Rattle.shapes.proofs.Jobs.{sheet}
 use Rattle.line_sums.specs.Answers.{foundAnswer}
 use Rattle.line_sums.specs.declared.Found.{Found}

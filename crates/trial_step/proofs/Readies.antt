@@ -17,10 +17,11 @@ use Rattle.model.specs.declared.Direction.{Direction}
 use Rattle.model.specs.declared.Direction.the-variants.{Horizontal, Vertical}
 use Rattle.model.specs.declared.Line.{Line}
 use Rattle.model.specs.declared.Placement.{Placement}
-use Rattle.descent_laws.proofs.Claims.{ValidWeights, ValidLayout}
-use Rattle.descent_laws.proofs.Trials.{Proper}
-use Rattle.search_laws.proofs.Table.{PenaltyTable}
-use Rattle.search_laws.proofs.Loop.{trialSearch, trial-valid}
+use Rattle.descent_laws.specs.Claims.{ValidWeights, ValidLayout}
+use Rattle.descent_laws.specs.Trials.{Proper}
+use Rattle.search_laws.specs.Table.{PenaltyTable}
+use Rattle.search_laws.specs.Loop.{trialSearch}
+use Rattle.search_laws.proofs.Loop.{trial-valid}
 use Rattle.shapes.specs.Shapes.{Shapes}
 use Rattle.pair_table.specs.Drawn.{Laid}
 use Rattle.lines.specs.Kept.{Kept, Wide}

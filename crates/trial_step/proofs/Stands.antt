@@ -13,11 +13,14 @@ use Rattle.model.specs.Search.{Best}
 use Rattle.model.specs.Descent.{moved, quiet, trialLine, attempt}
 use Rattle.model.specs.Descent as model
 use Rattle.call_laws.proofs.Jobs.{lent-boxes-small}
-use Rattle.descent_laws.proofs.Claims.{ValidWeights}
-use Rattle.descent_laws.proofs.Bounds.{sumBound, weighted-at-most}
-use Rattle.search_laws.proofs.PieceSum.{penaltyBetween, piece-sum, pieceSumBound, running-bound, between-bound}
-use Rattle.search_laws.proofs.TrialIndex.{nextTrial}
-use Rattle.search_laws.proofs.Loop as loop
+use Rattle.descent_laws.specs.Claims.{ValidWeights}
+use Rattle.descent_laws.specs.Sums.{sumBound}
+use Rattle.descent_laws.proofs.Bounds.{weighted-at-most}
+use Rattle.search_laws.specs.PieceSum.{penaltyBetween}
+use Rattle.search_laws.proofs.PieceSum.{piece-sum, pieceSumBound, running-bound, between-bound}
+use Rattle.search_laws.specs.TrialIndex.{nextTrial}
+use Rattle.search_laws.specs.Loop as loop
+use Rattle.search_laws.proofs.Loop.{trialMoved}
 use Rattle.shapes.proofs.Jobs.{sheet}
 use Rattle.trials.specs.Trials.{trialAs}
 use Rattle.trial_step.specs.Steps.{entriesAfter, standingAs, afterQuiet, afterMove}
@@ -62,5 +65,5 @@ module _ (j : Job) (ws : List ℕ) (v : Layout) (s : Standing) (next : Trial) (i
 
 -- the layout after a move
 pub moved-layout : (es new : List (List ℕ)) (k : model.Trial) (b : Best)
-    → new ≡ entriesAfter es (k .piece) (k .turn) (trialLine (layoutOf es) k) (some b) → layoutOf new ≡ loop.trialMoved (layoutOf es) k (b .at)
+    → new ≡ entriesAfter es (k .piece) (k .turn) (trialLine (layoutOf es) k) (some b) → layoutOf new ≡ trialMoved (layoutOf es) k (b .at)
 moved-layout es new k b e = ap layoutOf e ∙ layout-set es (k .piece) (onLine (trialLine (layoutOf es) k) (k .turn) (b .at))

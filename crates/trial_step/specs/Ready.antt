@@ -10,8 +10,8 @@ use Rattle.model.specs.Lent.{Lent, jobOf, lentWell}
 use Rattle.model.specs.Buffer.{layoutOf, entriesOf}
 use Rattle.model.specs.declared.Direction.{Direction}
 use Rattle.model.specs.declared.Direction.the-variants.{Horizontal, Vertical}
-use Rattle.descent_laws.proofs.Claims.{ValidWeights, ValidLayout}
-use Rattle.search_laws.proofs.Table.{PenaltyTable}
+use Rattle.descent_laws.specs.Claims.{ValidWeights, ValidLayout}
+use Rattle.search_laws.specs.Table.{PenaltyTable}
 use Rattle.shapes.specs.Shapes.{Shapes}
 use Rattle.lines.specs.Kept.{Kept, Wide}
 

@@ -9,8 +9,8 @@ use Rattle.model.specs.Search.{Best, places, sumAt}
 use Rattle.model.specs.Buffer.{entryOf}
 use Rattle.model.specs.declared.Turn.{Turn}
 use Rattle.model.specs.declared.Line.{Line}
-use Rattle.search_laws.proofs.BoundedSearch.{belowBound}
-use Rattle.search_laws.proofs.Loop as loop
+use Rattle.search_laws.specs.BoundedSearch.{belowBound}
+use Rattle.search_laws.specs.Loop as loop
 use Rattle.tracks.specs.declared.Mover.{Mover}
 use Rattle.trial_step.specs.declared.Tried.{Tried}
 use Rattle.trial_step.specs.declared.Standing.{Standing}

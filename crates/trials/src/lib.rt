@@ -16,7 +16,7 @@ ghost use Rattle.model.specs.Buffer.{layoutOf};
 ghost use Rattle.model.specs.Descent.{trials, trialLine};
 ghost use Rattle.model.specs.declared.JobSize.{JobSize};
 ghost use Rattle.model.specs.declared.Turn.{Turn};
-ghost use Rattle.search_laws.proofs.TrialIndex.{pieceStart, inTurn, afterTurn, nextTrial};
+ghost use Rattle.search_laws.specs.TrialIndex.{pieceStart, inTurn, afterTurn, nextTrial};
 ghost use Rattle.trials.specs.Trials.{trialAs, turnsIn};
 
 // A piece, a turn allowed to it and a direction.

@@ -6,7 +6,8 @@ use native.Mathlib.Omega.{arith}
 use borrow.Author.Needs.{needs}
 use Rattle.model.specs.Lent.{lentBy, jobOf}
 use Rattle.model.specs.Cover.{Sheet, fresh, afterCalls}
-use Rattle.cover_laws.proofs.Demand2Cover.{CoverHolds, demand2-cover}
+use Rattle.cover_laws.specs.CoverClaims.{CoverHolds}
+use Rattle.cover_laws.proofs.Demand2Cover.{demand2-cover}
 use Rattle.cover.specs.Ready.{SheetReady}
 use Rattle.cover_calls.proofs.run_calls.Statement.{statement}
 use Rattle.cover_calls.specs.CallList.{callsOf}

@@ -12,7 +12,7 @@ use Rattle.model.specs.declared.End.{End}
 use Rattle.model.specs.declared.End.the-variants.{Clear, Settled, Spent}
 use Rattle.text_laws.proofs.LentFacts.{facts}
 use Rattle.descent_laws.proofs.Lent.{lent-some, lent-zero-allowed}
-use Rattle.search_laws.proofs.Loop as loop
+use Rattle.search_laws.specs.Loop as loop
 use Rattle.search_laws.proofs.Loop.{Underway, beginning, underway-begin, underway-clear, underway-settled, underway-spent}
 use Rattle.shapes.proofs.Jobs.{sheet}
 use Rattle.trials.specs.Trials.{trialAs}

@@ -6,7 +6,7 @@ use native.Mathlib.Omega.{arith}
 use lib.Dec.{ltb}
 use Rattle.model.specs.Lent.{Lent, lentBy}
 use Rattle.model.specs.Calls.{budgetBound, descentAfter}
-use Rattle.text_laws.proofs.Outcomes.{NoCause}
+use Rattle.text_laws.specs.Outcomes.{NoCause}
 use Rattle.placing.proofs.Causes.{passed-none}
 use Rattle.descent.specs.Answers.{descentAnswer}
 use Rattle.runs.specs.Answers.{runCauses}

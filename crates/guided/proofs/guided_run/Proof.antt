@@ -5,7 +5,7 @@ use Prim.Native.Nat.{ℕ}
 use native.Mathlib.Omega.{arith}
 use Rattle.model.specs.Lent.{Lent, lentBy}
 use Rattle.model.specs.Calls.{bestAfterRun, weightsAfterRun}
-use Rattle.text_laws.proofs.Outcomes.{NoCause}
+use Rattle.text_laws.specs.Outcomes.{NoCause}
 use Rattle.placing.specs.Answers.{firstCause}
 use Rattle.placing.proofs.Causes.{passed-none}
 use Rattle.runs.specs.Answers.{runCauses}

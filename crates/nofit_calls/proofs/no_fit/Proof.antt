@@ -8,7 +8,7 @@ use mir.Val.{SFits, toZ, ofZ}
 use mir.ValLaws.{toZ-ofZ}
 use Rattle.model.specs.Lent.{Lent, lentBy}
 use Rattle.model.specs.Calls.{LentStretch, noFitCall, runsAfter}
-use Rattle.text_laws.proofs.Outcomes.{NoCause}
+use Rattle.text_laws.specs.Outcomes.{NoCause}
 use Rattle.placing.proofs.Causes.{passed-none}
 use Rattle.nofit_calls.specs.Lines.{lentStretch, stretchCauses, lineOutcome, lineAfter, runsAnswer}
 use Rattle.nofit_calls.proofs.NoFits.{Called, first-ordered, second-ordered, line-called, refused-called}

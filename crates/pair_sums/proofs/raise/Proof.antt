@@ -5,10 +5,12 @@ use native.Mathlib.Omega.{arith}
 use lib.ListN.{length}
 use Rattle.model.specs.Layout.{Job, Layout}
 use Rattle.descent_laws.proofs.Bounds.{pairs-at-most}
-use Rattle.descent_laws.proofs.Claims.{ValidWeights}
-use Rattle.search_laws.proofs.Pairs.{rowStart, row-next, row-below}
-use Rattle.search_laws.proofs.Table.{PenaltyTable}
-use Rattle.search_laws.proofs.GuidedLoop.{Raising, raising-begin}
+use Rattle.descent_laws.specs.Claims.{ValidWeights}
+use Rattle.search_laws.specs.Pairs.{rowStart}
+use Rattle.search_laws.proofs.Pairs.{row-next, row-below}
+use Rattle.search_laws.specs.Table.{PenaltyTable}
+use Rattle.search_laws.specs.GuidedLoop.{Raising}
+use Rattle.search_laws.proofs.GuidedLoop.{raising-begin}
 use Rattle.pair_sums.proofs.Rising.{raise-end}
 use Rattle.pair_sums.proofs.raise.Statement.{statement}
 use Rattle.pair_sums.proofs.raise.Tie as tie

@@ -6,10 +6,11 @@ use Prim.Native.Nat.{ℕ, _+_, _*_, _-_, _≤_}
 use native.Mathlib.Omega.{arith}
 use lib.ListN.{length, getD}
 use Rattle.model.specs.Layout.{Job, Layout}
-use Rattle.descent_laws.proofs.Claims.{ValidWeights}
-use Rattle.search_laws.proofs.Pairs.{pairIndex, rowStart, row-next}
-use Rattle.search_laws.proofs.Table.{PenaltyTable}
-use Rattle.search_laws.proofs.GuidedLoop.{Raising}
+use Rattle.descent_laws.specs.Claims.{ValidWeights}
+use Rattle.search_laws.specs.Pairs.{pairIndex, rowStart}
+use Rattle.search_laws.proofs.Pairs.{row-next}
+use Rattle.search_laws.specs.Table.{PenaltyTable}
+use Rattle.search_laws.specs.GuidedLoop.{Raising}
 use Rattle.pair_sums.specs.Table.{raisedAt}
 use Rattle.pair_sums.proofs.Rows.{Place, row-place}
 use Rattle.pair_sums.proofs.Rising.{raise-step}

@@ -5,7 +5,8 @@ use Prim.Native.Nat.{_*_, _-_, _≤_}
 use native.Mathlib.Omega.{arith}
 use Rattle.model.specs.Bounded.{sumBelow}
 use Rattle.descent_laws.proofs.Bounds.{pairs-at-most}
-use Rattle.search_laws.proofs.Pairs.{rowStart, row-next, row-below}
+use Rattle.search_laws.specs.Pairs.{rowStart}
+use Rattle.search_laws.proofs.Pairs.{row-next, row-below}
 use Rattle.pair_sums.specs.Table.{rowPart}
 use Rattle.pair_sums.proofs.Rows.{all-parts, parts-more}
 use Rattle.pair_sums.proofs.total.Statement.{statement}

@@ -7,7 +7,8 @@ use lib.ListN.{length}
 use Rattle.model.specs.Lent.{lentBy, jobOf}
 use Rattle.model.specs.Buffer.{layoutOf}
 use Rattle.model.specs.declared.JobSize.{JobSize}
-use Rattle.search_laws.proofs.Table.{PenaltyTable, Renewed, table-empty, added-begin, added-end}
+use Rattle.search_laws.specs.Table.{PenaltyTable, Renewed}
+use Rattle.search_laws.proofs.Table.{table-empty, added-begin, added-end}
 use Rattle.pair_table.specs.Drawn.{Drawn}
 use Rattle.pair_table.proofs.Placed.{on-sheet}
 use Rattle.pair_table.proofs.fill_table.Statement.{statement}

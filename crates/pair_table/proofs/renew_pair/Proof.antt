@@ -5,7 +5,8 @@ use native.Mathlib.Omega.{arith}
 use lib.ListN.{length, length-set}
 use Rattle.model.specs.Lent.{lentBy, jobOf}
 use Rattle.model.specs.Buffer.{layoutOf}
-use Rattle.search_laws.proofs.Table.{Renewed, entry, renewed-self, renewed-step}
+use Rattle.search_laws.specs.Table.{Renewed, entry}
+use Rattle.search_laws.proofs.Table.{renewed-self, renewed-step}
 use Rattle.pair_table.proofs.Placed.{few-placed}
 use borrow.Author.Needs.{needs}
 use Rattle.pair_table.proofs.renew_pair.Statement.{statement}

@@ -8,7 +8,7 @@ use lib.ListN.{length}
 use Rattle.model.specs.Lent.{lentBy, jobOf}
 use Rattle.model.specs.Buffer.{layoutOf}
 use Rattle.model.specs.declared.JobSize.{JobSize}
-use Rattle.search_laws.proofs.Table.{Renewed}
+use Rattle.search_laws.specs.Table.{Renewed}
 use Rattle.pair_table.specs.Drawn.{Drawn}
 use Rattle.pair_table.proofs.renew_row.Statement.{statement}
 use Rattle.pair_table.proofs.renew_row.Tie as tie

@@ -11,7 +11,8 @@ use lib.Dec.{eqb}
 use Rattle.model.specs.Lent.{Lent, lentBy, jobOf}
 use Rattle.model.specs.Buffer.{layoutOf}
 use Rattle.model.specs.Calls.{pairCauses, depthCall}
-use Rattle.text_laws.proofs.Outcomes.{NoCause, unless-given}
+use Rattle.text_laws.specs.Outcomes.{NoCause}
+use Rattle.text_laws.proofs.Outcomes.{unless-given}
 use Rattle.placing.proofs.Causes.{passed-none, refused-alone}
 use Rattle.placed_pair.specs.Ready.{Ready}
 use Rattle.pairs.proofs.Readies.{Measurable, measurable}

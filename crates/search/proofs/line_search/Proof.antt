@@ -7,7 +7,7 @@ use Rattle.model.specs.Refusal.{cause, emptyLine}
 use Rattle.model.specs.Lent.{lentBy, jobOf}
 use Rattle.model.specs.Buffer.{layoutOf}
 use Rattle.model.specs.Calls.{bestPlace, searchCall}
-use Rattle.text_laws.proofs.Outcomes.{NoCause}
+use Rattle.text_laws.specs.Outcomes.{NoCause}
 use Rattle.placing.proofs.Causes.{passed-none, none-then, refused-then}
 use Rattle.search.specs.Answers.{bestAnswer, searchAnswer, searchCauses}
 use Rattle.search.proofs.Answering.{search-ready, best-is}

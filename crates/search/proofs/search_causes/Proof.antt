@@ -2,7 +2,7 @@
 use mathlib.Core.Path.{sym, ap, _∙_}
 use Rattle.model.specs.Lent.{lentBy}
 use Rattle.text_laws.proofs.LentFacts.{facts}
-use Rattle.text_laws.proofs.Outcomes.{NoCause}
+use Rattle.text_laws.specs.Outcomes.{NoCause}
 use Rattle.placing.specs.Answers.{causeAnswer}
 use Rattle.placing.proofs.Causes.{passed-none, none-then, refused-then}
 use Rattle.sums.specs.Answers.{lengthCauses}

@@ -5,7 +5,7 @@ use Rattle.model.specs.Layout.{sharingPair}
 use Rattle.model.specs.Lent.{Lent, lentBy, jobOf}
 use Rattle.model.specs.Buffer.{layoutOf}
 use Rattle.model.specs.Calls.{layoutCauses, sharedCause, checkCall}
-use Rattle.text_laws.proofs.Outcomes.{NoCause}
+use Rattle.text_laws.specs.Outcomes.{NoCause}
 use Rattle.placing.proofs.Causes.{passed-none, none-then, refused-then}
 use Rattle.sums.specs.Answers.{checkAnswer, sharedAnswer}
 use Rattle.sums.proofs.Causes.{layout-laid, shared-check}

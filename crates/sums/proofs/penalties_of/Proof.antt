@@ -2,7 +2,7 @@
 use mathlib.Core.Path.{refl, sym, subst}
 use Rattle.model.specs.Lent.{lentBy, jobOf}
 use Rattle.model.specs.Buffer.{layoutOf}
-use Rattle.search_laws.proofs.Table.{PenaltyTable}
+use Rattle.search_laws.specs.Table.{PenaltyTable}
 use Rattle.pair_table.specs.Drawn.{Drawn}
 use Rattle.sums.proofs.Causes.{room-of}
 use borrow.Author.Needs.{needs}

@@ -4,7 +4,8 @@ use mathlib.Core.Path.{refl, sym, ap, _∙_}
 use Rattle.model.specs.Lent.{Lent, lentBy, jobOf}
 use Rattle.model.specs.Buffer.{layoutOf}
 use Rattle.model.specs.Calls.{weightedSumCall}
-use Rattle.text_laws.proofs.Outcomes.{NoCause, unless-given}
+use Rattle.text_laws.specs.Outcomes.{NoCause}
+use Rattle.text_laws.proofs.Outcomes.{unless-given}
 use Rattle.placing.proofs.Causes.{passed-none, refused-alone}
 use Rattle.sums.specs.Answers.{sumAnswer, lengthCauses, placeCauses}
 use Rattle.sums.proofs.Causes.{few-pieces, sum-ready}

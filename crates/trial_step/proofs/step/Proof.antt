@@ -12,8 +12,9 @@ use Rattle.model.specs.Descent.{trialLine, attempt, moved}
 use Rattle.text_laws.proofs.LentFacts.{facts}
 use Rattle.descent_laws.proofs.Sums.{piece-at-most}
 use Rattle.descent_laws.proofs.Descent.{zero-quiet}
-use Rattle.search_laws.proofs.TrialIndex.{nextTrial}
-use Rattle.search_laws.proofs.Loop.{trialSearch, trialMoved, trial-moved, trial-quiet, trial-sum, trial-place}
+use Rattle.search_laws.specs.TrialIndex.{nextTrial}
+use Rattle.search_laws.specs.Loop.{trialSearch}
+use Rattle.search_laws.proofs.Loop.{trialMoved, trial-moved, trial-quiet, trial-sum, trial-place}
 use Rattle.shapes.proofs.Jobs.{sheet}
 use Rattle.trials.specs.Trials.{trialAs}
 use Rattle.trial_step.specs.Steps.{entriesAfter, standingAs}

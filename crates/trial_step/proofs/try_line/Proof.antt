@@ -10,8 +10,8 @@ use Rattle.model.specs.Layout.{Layout}
 use Rattle.model.specs.Lent.{Lent, lentBy, jobOf}
 use Rattle.model.specs.Buffer.{layoutOf, entryOf}
 use Rattle.model.specs.Search.{Best, places}
-use Rattle.search_laws.proofs.BoundedSearch.{bestAt}
-use Rattle.search_laws.proofs.Table.{PenaltyTable}
+use Rattle.search_laws.specs.BoundedSearch.{bestAt}
+use Rattle.search_laws.specs.Table.{PenaltyTable}
 use Rattle.shapes.proofs.Jobs.{sheet}
 use Rattle.trial_step.specs.Steps.{moverSearch, triedAnswer, entriesAfter}
 use Rattle.trial_step.proofs.Moves.{layout-set, places-few, found-nothing, found-at, found-there}

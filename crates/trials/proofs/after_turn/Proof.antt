@@ -7,7 +7,7 @@ use Rattle.model.specs.Layout.{Job}
 use Rattle.model.specs.Lent.{lentBy, jobOf}
 use Rattle.model.specs.Descent.{Trial}
 use Rattle.model.specs.declared.Turn.the-variants.{Quarter, Half, ThreeQuarters}
-use Rattle.search_laws.proofs.TrialIndex.{pieceStart, inTurn, afterTurn}
+use Rattle.search_laws.specs.TrialIndex.{pieceStart, inTurn, afterTurn}
 use Rattle.trials.specs.Trials.{trialAs}
 use borrow.Author.Needs.{needs}
 use Rattle.trials.proofs.after_turn.Statement.{statement}

@@ -1,5 +1,5 @@
 -- `trials::next_trial` meets its contract, by the direction. Assumes nothing.
-use Rattle.search_laws.proofs.TrialIndex.{nextTrial}
+use Rattle.search_laws.specs.TrialIndex.{nextTrial}
 use borrow.Author.Needs.{needs}
 use Rattle.trials.proofs.next_trial.Statement.{statement}
 use Rattle.trials.proofs.next_trial.Tie as tie

@@ -7,7 +7,7 @@ use lib.ListN.{length}
 use Rattle.model.specs.Piece.{lineDirection, onLine}
 use Rattle.model.specs.Lent.{lentBy, jobOf}
 use Rattle.model.specs.Buffer.{layoutOf}
-use Rattle.search_laws.proofs.Table.{Renewed}
+use Rattle.search_laws.specs.Table.{Renewed}
 use Rattle.sums.proofs.Causes.{few-pieces}
 use Rattle.bounded_search.specs.Ready.{LinesReady}
 use Rattle.bounded_search.proofs.others.renew_others.Statement.{statement}

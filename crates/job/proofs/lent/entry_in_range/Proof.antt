@@ -1,7 +1,7 @@
 -- `job::lent::entry_in_range` takes the three numbers from the table. Assumes nothing.
 use mathlib.Core.Path.{_≡_, _∙_}
 use Rattle.model.specs.Lent.{entryInRange, entryColumns, entryRows, entryTurns}
-use Rattle.text_laws.proofs.JobRead.{sidesInRange}
+use Rattle.text_laws.specs.Limits.{sidesInRange}
 use borrow.Author.Needs.{needs}
 use Rattle.job.proofs.lent.entry_in_range.Statement.{statement}
 use Rattle.job.proofs.lent.entry_in_range.Tie as tie

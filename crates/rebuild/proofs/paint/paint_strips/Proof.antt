@@ -7,7 +7,7 @@ use native.Mathlib.Omega.{arith}
 use lib.ListN.{length, drop}
 use Rattle.model.specs.Strip.{stripHas, stripsHave}
 use Rattle.model.specs.Buffer.{entryStrip}
-use Rattle.strip_laws.proofs.ValidStrips.{StripFits}
+use Rattle.strip_laws.specs.Strips.{StripFits}
 use Rattle.rebuild.specs.Check.{stripIn}
 use Rattle.rebuild.specs.Paint.{Painted}
 use Rattle.rebuild.proofs.Reading.{read-is}

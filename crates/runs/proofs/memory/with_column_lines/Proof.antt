@@ -6,7 +6,7 @@ use lib.ListN.{length-replicate}
 use Rattle.model.specs.Lent.{Lent, lentBy, jobOf}
 use Rattle.model.specs.Buffer.{layoutOf}
 use Rattle.model.specs.declared.Direction.the-variants.{Vertical}
-use Rattle.search_laws.proofs.Table.{PenaltyTable}
+use Rattle.search_laws.specs.Table.{PenaltyTable}
 use Rattle.pair_table.specs.Drawn.{Drawn}
 use Rattle.runs.proofs.Fresh.{tags-lent, store-fresh}
 use Rattle.runs.proofs.Givens.{given-laid, given-length}

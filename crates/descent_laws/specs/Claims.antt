@@ -1,5 +1,5 @@
--- What demand 3 says of whole runs, in the words of document 01, 'Descent and guidance': definitions only. The theorem that they hold
--- is `demand3` in Demand3. Assumes nothing.
+-- What demand 3 says of whole runs, in the words of document 01, 'Descent and guidance'. The theorem that it holds is `demand3` in
+-- proofs/Demand3. Assumes nothing.
 use mathlib.Core.Bool.{true}
 use mathlib.Core.Path.{_≡_}
 use mathlib.Core.Logic.{_⊎_, _≢_, _↔_}
@@ -8,11 +8,11 @@ use Prim.Native.Nat.{ℕ, suc, _+_, _*_, _<_, _≤_}
 use lib.ListN.{length, getD}
 use Rattle.model.specs.Layout.{Job, Layout, allowed, inside, placeOf, shapeIn, cornerIn, pairs, weightedSum, plainSum}
 use Rattle.model.specs.Descent.{Trial, noTrial, Descent, trials, descend}
-use Rattle.model.specs.Guided.{weightBound, raised, Round, Guided}
+use Rattle.model.specs.Guided.{weightBound, raised, Round, Guided, rounds, guide}
 use Rattle.model.specs.declared.Turn.{Turn}
 use Rattle.model.specs.declared.Direction.{Direction}
 use Rattle.model.specs.declared.End.the-variants.{Clear, Settled, Spent}
-use Rattle.overlap_laws.proofs.Share.{SharedPixel}
+use Rattle.overlap_laws.specs.Overlap.{SharedPixel}
 
 -- ── what is given ──
 
@@ -137,3 +137,12 @@ pub record GuidedClaims (j : Job) (ws : List ℕ) (budget K : ℕ) (v : Layout) 
   -- each piece lies inside in a turn allowed to it, and the weights stay between 1 and 65,535
   pub validLayout : ValidLayout j (g .layout)
   pub validWeights : ValidWeights j (g .weights)
+
+-- ── demand 3 ──
+
+-- what demand 3 says of the job's runs from the layout v by the weights ws: of every descent, whatever its budget, and of every
+-- guided run, whatever its number of rounds K and its budget, each of its rounds included; T is the length of the list of trials
+pub record Demand3 (j : Job) (ws : List ℕ) (v : Layout) : Type 0 where
+  pub trialsListed : TrialsClaims j (trials j)
+  pub descents : (budget : ℕ) → DescentClaims j ws budget v (descend j ws budget v)
+  pub guidedRuns : (budget K : ℕ) → GuidedClaims j ws budget K v (rounds j budget K ws v) (guide j K budget ws v)

@@ -1,0 +1,10 @@
+-- The words in which the theorems of the public calls speak; the theorems are proved in proofs/, and Demands there gathers them.
+pub mod Refusals
+pub mod Stores
+pub mod Rebuilding
+pub mod Overlaps
+pub mod Checks
+pub mod Lengths
+pub mod Reading
+pub mod Programs
+pub mod Sheets

@@ -1,0 +1,34 @@
+-- What reading a job leaves in the lent buffers (document 01, 'Job text'). The theorems are in proofs/Reading. Assumes nothing.
+use mathlib.Core.Bool.{true}
+use mathlib.Core.List.{List}
+use mathlib.Core.Path.{_≡_}
+use Prim.Native.Nat.{ℕ, _<_}
+use lib.ListN.{length, take}
+use Rattle.model.specs.Lent.{Lent, entryTurns, lentShape, lentWell, pixelStart}
+use Rattle.model.specs.JobText.{readJob}
+use Rattle.model.specs.Calls.{tableAfter, storeAfter}
+use Rattle.text_laws.specs.Texts.{Agree}
+
+-- the job that stands in the lent buffers after a reading
+abbrev pub jobLeft : List ℕ → List (List ℕ) → List ℕ → Lent → Lent
+jobLeft text table pixels k =
+    record {
+      rows = k .rows;
+      columns = k .columns;
+      count = k .count;
+      table = tableAfter table (readJob text (length table) (length pixels));
+      pixels = storeAfter pixels (readJob text (length table) (length pixels));
+    }
+
+-- what is said of the job that a reading leaves, where it gave k
+pub record JobLeft (k left : Lent) : Type 0 where
+  -- it passes the check that every call makes of a lent job
+  pub passes : lentWell left ≡ true
+  -- its pieces have the boxes, the pixels and the turns that were read
+  pub pieces : (i : ℕ) → i < k .count → Agree (lentShape left i) (lentShape k i)
+  pub turns : (i : ℕ) → i < k .count → entryTurns (left .table) i ≡ entryTurns (k .table) i
+
+-- the front of the lent buffers is the job that was read, entry by entry and byte by byte
+pub record FrontRead (text : List ℕ) (table : List (List ℕ)) (pixels : List ℕ) (k : Lent) : Type 0 where
+  pub entries : take (k .count) (tableAfter table (readJob text (length table) (length pixels))) ≡ k .table
+  pub bytes : take (pixelStart (k .table) (k .count)) (storeAfter pixels (readJob text (length table) (length pixels))) ≡ k .pixels

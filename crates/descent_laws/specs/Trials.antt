@@ -1,0 +1,18 @@
+-- A trial, and when it is one of a job's (document 01, 'Descent and guidance'). Assumes nothing.
+use mathlib.Core.Bool.{true}
+use mathlib.Core.Path.{_≡_}
+use Prim.Native.Nat.{ℕ, _<_, _≤_}
+use Rattle.model.specs.Descent.{Trial}
+use Rattle.model.specs.declared.Turn.{Turn}
+use Rattle.model.specs.declared.Direction.{Direction}
+use Rattle.model.specs.Layout.{Job, allowed}
+
+-- the trial of a piece, a turn and a direction
+abbrev pub trialOf : ℕ → Turn → Direction → Trial
+trialOf i t d = record { piece = i; turn = t; direction = d }
+
+-- a trial's piece lies between the two numbers, and its turn is allowed to it
+pub record Proper (j : Job) (i n : ℕ) (k : Trial) : Type 0 where
+  pub from : i ≤ k .piece
+  pub below : k .piece < n
+  pub turnAllowed : allowed j (k .piece) (k .turn) ≡ true

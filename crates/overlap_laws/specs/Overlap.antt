@@ -1,0 +1,53 @@
+-- What demand 2 says of the shared-pixel test, the depths and the penalty (document 01, 'No-fit rows and penalty'), over pixel sets. The
+-- theorem is `demand2-penalty` in proofs/Penalty. Assumes nothing.
+use mathlib.Core.Bool.{true, Bool, false}
+use mathlib.Core.Logic.{_⊎_, _↔_}
+use mathlib.Core.Path.{_≡_}
+use Prim.Native.Nat.{_+_, ℕ, _≤_}
+use lib.IntN.{ℤ, natAbs}
+use Rattle.model.specs.Piece.{Point, Shape, pixel, shift, extent}
+use Rattle.model.specs.Overlap.{share, up, down, depth, penalty}
+use Rattle.model.specs.declared.Direction.{Direction}
+use Rattle.model.specs.declared.Direction.the-variants.{Horizontal, Vertical}
+
+-- pixels p of s and q of t at the same place of the sheet: u + p = v + q, so the corners' difference v - u is p - q
+pub record SharedPixel (s : Shape) (u : Point) (t : Shape) (v : Point) : Type 0 where
+  pub p : Point
+  pub q : Point
+  pub of-first : pixel s p ≡ true
+  pub of-second : pixel t q ≡ true
+  pub column : u .x + p .x ≡ v .x + q .x
+  pub row : u .y + p .y ≡ v .y + q .y
+
+-- t shifted by the whole number z in the direction shares a pixel with s: shifting t down by n is shifting s up by n
+abbrev pub sharesShifted : Direction → Shape → Point → Shape → Point → ℤ → Bool
+sharesShifted d s u t v z = share s (shift d (down z) u) t (shift d (up z) v)
+
+-- a whole shift with |z| = m that parts them
+pub record PartingShift (d : Direction) (s : Shape) (u : Point) (t : Shape) (v : Point) (m : ℕ) : Type 0 where
+  pub amount : ℤ
+  pub size : natAbs amount ≡ m
+  pub apart : sharesShifted d s u t v amount ≡ false
+
+-- m is the least |z|, z whole, such that t shifted by z shares no pixel with s
+pub record LeastShift (d : Direction) (s : Shape) (u : Point) (t : Shape) (v : Point) (m : ℕ) : Type 0 where
+  pub parting : PartingShift d s u t v m
+  pub least : (z : ℤ) → sharesShifted d s u t v z ≡ false → m ≤ natAbs z
+
+-- what demand 2 says of the shared-pixel test and the penalty of s at corner u and t at corner v, over their pixel sets
+pub record PenaltyLaws (s : Shape) (u : Point) (t : Shape) (v : Point) : Type 0 where
+  -- the test says yes exactly when u + p = v + q for some pixels p of s and q of t
+  pub shared-exactly : (share s u t v ≡ true) ↔ SharedPixel s u t v
+  -- the penalty is 0 exactly when the test says no
+  pub zero-exactly : (penalty s u t v ≡ 0) ↔ (share s u t v ≡ false)
+  -- the penalty is 0 exactly when there are no such pixels
+  pub zero-no-pixel : (penalty s u t v ≡ 0) ↔ (¬ SharedPixel s u t v)
+  -- each depth is the least |z|, z whole, such that t shifted by z in its direction shares no pixel with s
+  pub depths : (d : Direction) → LeastShift d s u t v (depth d s u t v)
+  -- the penalty is the smaller of the two depths
+  pub at-most : (d : Direction) → penalty s u t v ≤ depth d s u t v
+  pub attained : (penalty s u t v ≡ depth Horizontal s u t v) ⊎ (penalty s u t v ≡ depth Vertical s u t v)
+  -- the penalty does not depend on which of the two is called first
+  pub symmetric : penalty s u t v ≡ penalty t v s u
+  -- the penalty is at most 255 for boxes with sides at most 255
+  pub bounded : (d : Direction) → extent d s ≤ 255 → extent d t ≤ 255 → penalty s u t v ≤ 255

@@ -1,0 +1,8 @@
+-- What the contracts of sums, line search, descent and guided run cite beside the model's definitions; the laws of it stand in proofs/.
+pub mod Pairs
+pub mod PieceSum
+pub mod Table
+pub mod BoundedSearch
+pub mod TrialIndex
+pub mod Loop
+pub mod GuidedLoop
