@@ -1,1 +1,1 @@
-// What document 01's theorems say of the public calls: theorems only, in proofs/. No code.
+// What document 01's theorems say of the public calls: their words stand in specs/, the theorems in proofs/. No code.

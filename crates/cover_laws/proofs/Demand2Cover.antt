@@ -2,8 +2,8 @@
 -- pieces on it." Document 01, 'Start, layout text, sheet', says which pieces are laid: those whose last call that was not refused is
 -- a lay; and that a piece that isn't laid has turn 0 and corner (0, 0). The last line is the claim, for every job of at most 64
 -- pieces and every list of calls. The count is stated twice: by the sheet record, and by the calls alone.
--- Why it is true: Counts keeps the counts equal to the record through each call; Last follows a piece's entry through the list.
--- Assumes nothing.
+-- What the words mean is in specs/CoverClaims. Why it is true: Counts keeps the counts equal to the record through each call; Last
+-- follows a piece's entry through the list. Assumes nothing.
 use mathlib.Core.Bool.{true, _&&_}
 use mathlib.Core.Path.{_≡_, refl, subst, _∙_, ap}
 use mathlib.Core.List.{List}

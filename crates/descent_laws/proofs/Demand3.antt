@@ -1,5 +1,5 @@
--- Demand 3, whole: one claim about whole runs, from the given layout to the end. What the words mean is in Claims; why it is true
--- is in Descent and Guided. Assumes nothing.
+-- Demand 3, whole: one claim about whole runs, from the given layout to the end. What the words mean is in specs/Claims; why it is
+-- true is in Descent and Guided. Assumes nothing.
 use mathlib.Core.List.{List}
 use Prim.Native.Nat.{ℕ, _<_}
 use Rattle.model.specs.Layout.{Job, Layout}

@@ -1,4 +1,4 @@
--- What a line search finds (document 01, 'Line search'). The theorem is `search-found` in proofs/Search. Assumes nothing.
+-- What a line search finds (document 01, 'Line search'). The theorem is `searched` in proofs/Search. Assumes nothing.
 use mathlib.Core.Bool.{true}
 use mathlib.Core.List.{List}
 use mathlib.Core.Path.{_≡_}

@@ -19,7 +19,7 @@ use Rattle.text_laws.specs.Outcomes.{NoCause}
 use Rattle.text_laws.proofs.Outcomes.{unless-given}
 use Rattle.descent_laws.specs.Claims.{GuidedClaims}
 use Rattle.call_laws.proofs.Runs.{guided-given}
-use Rattle.search_laws.specs.GuidedLoop.{guidedOf}
+use Rattle.search_laws.specs.Results.{guidedOf}
 use Rattle.placing.specs.Answers.{firstCause}
 use Rattle.placing.specs.declared.CauseAnswer.{CauseAnswer}
 use Rattle.placing.proofs.Causes.{refused-alone}

@@ -14,7 +14,7 @@ ghost use Rattle.model.specs.Lent.{lentBy, jobOf};
 ghost use Rattle.model.specs.Buffer.{layoutOf};
 ghost use Rattle.model.specs.Calls.{roundBound, guidedCall, bestAfterRun, weightsAfterRun};
 ghost use Rattle.descent_laws.specs.Claims.{GuidedClaims};
-ghost use Rattle.search_laws.specs.GuidedLoop.{guidedOf};
+ghost use Rattle.search_laws.specs.Results.{guidedOf};
 ghost use Rattle.rounds.specs.Rounds.{Ran};
 ghost use Rattle.runs.specs.Ready.{Given};
 ghost use Rattle.guided.specs.Answers.{tallyOf, guidedAnswer, numbersWrong};

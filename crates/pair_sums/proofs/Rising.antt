@@ -14,7 +14,7 @@ use Rattle.search_laws.specs.Pairs.{pairIndex, rowStart}
 use Rattle.search_laws.proofs.Pairs.{pair-below, last-index}
 use Rattle.search_laws.specs.Table.{entry, PenaltyTable}
 use Rattle.search_laws.proofs.Table.{table-shares}
-use Rattle.search_laws.specs.GuidedLoop.{Raising}
+use Rattle.search_laws.specs.Raising.{Raising}
 use Rattle.search_laws.proofs.GuidedLoop.{raising-more, raising-full, raising-apart, raising-end}
 use Rattle.pair_sums.specs.Table.{raisedBy, raisedAt}
 

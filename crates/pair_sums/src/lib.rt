@@ -11,7 +11,7 @@ ghost use Rattle.descent_laws.specs.Claims.{ValidWeights};
 ghost use Rattle.search_laws.specs.Pairs.{rowStart, pairIndex};
 ghost use Rattle.search_laws.specs.PieceSum.{weightBetween};
 ghost use Rattle.search_laws.specs.Table.{PenaltyTable};
-ghost use Rattle.search_laws.specs.GuidedLoop.{Raising};
+ghost use Rattle.search_laws.specs.Raising.{Raising};
 ghost use Rattle.pair_sums.specs.Table.{Weighed, rowPart, raisedAt};
 
 // How many pairs n pieces have.

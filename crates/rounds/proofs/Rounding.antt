@@ -18,7 +18,7 @@ use Rattle.model.specs.Calls.{budgetBound, roundBound}
 use Rattle.model.specs.declared.End.{End}
 use Rattle.model.specs.declared.End.the-variants.{Clear, Settled, Spent}
 use Rattle.descent_laws.specs.Claims.{ValidWeights, ValidLayout, DescentClaims}
-use Rattle.search_laws.specs.GuidedLoop.{guidedOf}
+use Rattle.search_laws.specs.Results.{guidedOf}
 use Rattle.search_laws.proofs.GuidedLoop.{Guiding, guiding, guide-done, GuidedUnderway, guided-begin, guided-done, round-claims, guided-clear, guided-open}
 use Rattle.shapes.proofs.Jobs.{sheet}
 use Rattle.pair_sums.specs.Table.{Weighed}

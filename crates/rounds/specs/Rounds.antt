@@ -9,7 +9,7 @@ use Rattle.model.specs.Guided.{raised, isClear, guide}
 use Rattle.model.specs.Lent.{Lent, jobOf}
 use Rattle.model.specs.Buffer.{layoutOf, entriesOf}
 use Rattle.model.specs.declared.End.{End}
-use Rattle.search_laws.specs.GuidedLoop.{guidedOf}
+use Rattle.search_laws.specs.Results.{guidedOf}
 use Rattle.rounds.specs.declared.Tally.{Tally}
 
 -- the better of a round's end and the best layout so far, by their plain sums

@@ -21,7 +21,8 @@ use Rattle.model.specs.declared.End.the-variants.{Clear, Settled, Spent}
 use Rattle.descent_laws.specs.Claims.{ValidWeights, ValidLayout, DescentClaims}
 use Rattle.descent_laws.proofs.Descent.{descent-claims}
 use Rattle.descent_laws.proofs.Guided.{raised-valid}
-use Rattle.search_laws.specs.GuidedLoop.{guidedOf, Raising}
+use Rattle.search_laws.specs.Results.{guidedOf}
+use Rattle.search_laws.specs.Raising.{Raising}
 use Rattle.search_laws.specs.Pairs.{pairIndex, pairOf}
 use Rattle.search_laws.proofs.Pairs.{pair-at, pair-below}
 use Rattle.search_laws.proofs.PieceSum.{noPair}

@@ -5,4 +5,5 @@ pub mod Table
 pub mod BoundedSearch
 pub mod TrialIndex
 pub mod Loop
-pub mod GuidedLoop
+pub mod Results
+pub mod Raising

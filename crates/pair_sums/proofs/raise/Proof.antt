@@ -9,7 +9,7 @@ use Rattle.descent_laws.specs.Claims.{ValidWeights}
 use Rattle.search_laws.specs.Pairs.{rowStart}
 use Rattle.search_laws.proofs.Pairs.{row-next, row-below}
 use Rattle.search_laws.specs.Table.{PenaltyTable}
-use Rattle.search_laws.specs.GuidedLoop.{Raising}
+use Rattle.search_laws.specs.Raising.{Raising}
 use Rattle.search_laws.proofs.GuidedLoop.{raising-begin}
 use Rattle.pair_sums.proofs.Rising.{raise-end}
 use Rattle.pair_sums.proofs.raise.Statement.{statement}

@@ -10,7 +10,7 @@ use Rattle.descent_laws.specs.Claims.{ValidWeights}
 use Rattle.search_laws.specs.Pairs.{pairIndex, rowStart}
 use Rattle.search_laws.proofs.Pairs.{row-next}
 use Rattle.search_laws.specs.Table.{PenaltyTable}
-use Rattle.search_laws.specs.GuidedLoop.{Raising}
+use Rattle.search_laws.specs.Raising.{Raising}
 use Rattle.pair_sums.specs.Table.{raisedAt}
 use Rattle.pair_sums.proofs.Rows.{Place, row-place}
 use Rattle.pair_sums.proofs.Rising.{raise-step}

@@ -1,14 +1,10 @@
--- A guided run's result, and the weights while they are raised pair after pair. Assumes nothing.
+-- The weights while they are raised pair after pair. Assumes nothing.
 use mathlib.Core.List.{List}
 use mathlib.Core.Path.{_≡_}
 use Prim.Native.Nat.{ℕ, _<_, _≤_}
 use lib.ListN.{length, getD}
-use Rattle.model.specs.Layout.{Layout, Job}
-use Rattle.model.specs.Guided.{Guided, raised}
-
--- what a guided run gives that ends with these
-abbrev pub guidedOf : Layout → ℕ → List ℕ → ℕ → ℕ → Guided
-guidedOf best bestSum ws made moves = record { layout = best; sum = bestSum; weights = ws; made = made; moves = moves }
+use Rattle.model.specs.Layout.{Job, Layout}
+use Rattle.model.specs.Guided.{raised}
 
 -- the weights of the pairs at positions below c are raised, the others are as before
 pub record Raising (j : Job) (v : Layout) (ws : List ℕ) (c : ℕ) (now : List ℕ) : Type 0 where
