@@ -7,13 +7,16 @@ use mathlib.Core.Logic.{_⊎_, inl, inr, ⊎-elim, _↔_, Iff·trans}
 use Prim.Native.Nat.{ℕ, _≤_, min}
 use native.Mathlib.Nat.{min-le-left, min-le-right, eq-or-lt-of-le}
 use native.Mathlib.Omega.{arith}
+use lib.IntN.{ℤ, pos}
 use Rattle.model.specs.Piece.{Point, Shape, extent}
 use Rattle.model.specs.Overlap.{share, depth, penalty}
 use Rattle.model.specs.declared.Direction.{Direction}
 use Rattle.model.specs.declared.Direction.the-variants.{Horizontal, Vertical}
 use Rattle.model.proofs.Tests.{clash, fails}
+use Rattle.overlap_laws.specs.PixelDepth.{SharesAtShift, DepthOverPixels, PenaltyOverPixels}
 use Rattle.overlap_laws.proofs.Share.{SharedPixel, SameDifference, SamePixels, share-exactly, share-from, share-witness}
-use Rattle.overlap_laws.proofs.Depth.{LeastShift, depth-exactly, depth-zero, zero-depth, depth-symmetric, depth-difference, depth-pixels, depth-bound}
+use Rattle.overlap_laws.proofs.Depth.{LeastShift, sharesShifted, depth-exactly, depth-zero, zero-depth, depth-symmetric, depth-difference, depth-pixels, depth-bound}
+use Rattle.overlap_laws.proofs.PixelDepth.{shares-at-shift, shares-unshifted, depth-over-pixels, over-pixels-depth, penalty-over-pixels, over-pixels-penalty}
 
 -- the smaller of two numbers is one of them
 min-one : (a b : ℕ) → (min a b ≡ a) ⊎ (min a b ≡ b)
@@ -72,6 +75,13 @@ pub record PenaltyLaws (s : Shape) (u : Point) (t : Shape) (v : Point) : Type 0 
   pub zero-no-pixel : (penalty s u t v ≡ 0) ↔ (¬ SharedPixel s u t v)
   -- each depth is the least |z|, z whole, such that t shifted by z in its direction shares no pixel with s
   pub depths : (d : Direction) → LeastShift d s u t v (depth d s u t v)
+  -- the same over pixels and whole shifts: shifted by k in a direction they share a pixel exactly when the corners' difference with k
+  -- added is p - q for some pixels, and each depth is the least |k| that parts them so; no other number is
+  pub shared-at : (d : Direction) → (share s u t v ≡ true) ↔ SharesAtShift d s u t v (pos 0)
+  pub shared-shifted : (d : Direction) (k : ℤ) → (sharesShifted d s u t v k ≡ true) ↔ SharesAtShift d s u t v k
+  pub pixel-depths : (d : Direction) (n : ℕ) → DepthOverPixels d s u t v n ↔ (n ≡ depth d s u t v)
+  -- and the penalty is the smaller of these two; no other number is
+  pub pixel-penalty : (n : ℕ) → PenaltyOverPixels s u t v n ↔ (n ≡ penalty s u t v)
   -- the penalty is the smaller of the two depths
   pub at-most : (d : Direction) → penalty s u t v ≤ depth d s u t v
   pub attained : (penalty s u t v ≡ depth Horizontal s u t v) ⊎ (penalty s u t v ≡ depth Vertical s u t v)
@@ -93,6 +103,10 @@ demand2-penalty s u t v =
       zero-exactly = none-shared;
       zero-no-pixel = Iff·trans none-shared (no-pixel s u t v);
       depths = λ d. depth-exactly d s u t v;
+      shared-at = λ d. shares-unshifted d s u t v;
+      shared-shifted = λ d. shares-at-shift d s u t v;
+      pixel-depths = λ d n. (over-pixels-depth d s u t v n, λ e. rw e (depth-over-pixels d s u t v));
+      pixel-penalty = λ n. (over-pixels-penalty s u t v n, λ e. rw e (penalty-over-pixels s u t v));
       at-most = penalty-le s u t v;
       attained = penalty-attained s u t v;
       symmetric = penalty-symmetric s u t v;
