@@ -15,16 +15,7 @@ use Rattle.model.specs.Calls.{leaving}
 use Rattle.model.specs.declared.Refusal.{Refusal}
 use Rattle.model.proofs.Tests.{fails}
 use Rattle.text_laws.proofs.Outcomes.{NoCause, Unless, unless-given, given-unless}
-
--- the first cause of the list that is there leads to the refusal
-pub record FirstCause (cs : List Cause) (r : Refusal) : Type 0 where
-  pub before : List Cause
-  pub first : Cause
-  pub later : List Cause
-  pub listed : cs ≡ before ++ (first ∷ later)
-  pub none-before : NoCause before
-  pub there : first .there ≡ true
-  pub tells : refusalOf first ≡ r
+pub use Rattle.call_laws.specs.Clause.{FirstCause}
 
 -- a value is no refusal
 given-refused : {A : Type 0} {r : Refusal} {a : A} → given a ≡ refused r → ⊥

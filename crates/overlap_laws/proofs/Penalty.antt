@@ -75,12 +75,13 @@ pub record PenaltyLaws (s : Shape) (u : Point) (t : Shape) (v : Point) : Type 0 
   pub zero-no-pixel : (penalty s u t v ≡ 0) ↔ (¬ SharedPixel s u t v)
   -- each depth is the least |z|, z whole, such that t shifted by z in its direction shares no pixel with s
   pub depths : (d : Direction) → LeastShift d s u t v (depth d s u t v)
-  -- the same over pixels and whole shifts: shifted by k in a direction they share a pixel exactly when the corners' difference with k
-  -- added is p - q for some pixels, and each depth is the least |k| that parts them so; no other number is
+  -- the test over pixels: not shifted, they share a pixel exactly when the corners' difference is p - q for some pixels
   pub shared-at : (d : Direction) → (share s u t v ≡ true) ↔ SharesAtShift d s u t v (pos 0)
+  -- shifted by k, exactly when that difference, k added along the direction, is p - q for some pixels
   pub shared-shifted : (d : Direction) (k : ℤ) → (sharesShifted d s u t v k ≡ true) ↔ SharesAtShift d s u t v k
+  -- each depth over pixels: the least |k|, k whole, such that t shifted by k shares no pixel with s, and no other number
   pub pixel-depths : (d : Direction) (n : ℕ) → DepthOverPixels d s u t v n ↔ (n ≡ depth d s u t v)
-  -- and the penalty is the smaller of these two; no other number is
+  -- the penalty over pixels: the smaller of these two, and no other number
   pub pixel-penalty : (n : ℕ) → PenaltyOverPixels s u t v n ↔ (n ≡ penalty s u t v)
   -- the penalty is the smaller of the two depths
   pub at-most : (d : Direction) → penalty s u t v ≤ depth d s u t v
