@@ -19,6 +19,7 @@ use Rattle.model.specs.declared.Direction.{Direction}
 use Rattle.model.specs.declared.Direction.the-variants.{Horizontal}
 use Rattle.model.proofs.Tests.{and-left, and-right, or-neither, same-tests}
 use Rattle.text_laws.proofs.Outcomes.{NoCause, given-unless}
+use Rattle.overlap_laws.specs.PixelDepth.{DepthOverPixels, PenaltyOverPixels}
 use Rattle.overlap_laws.proofs.Share.{SharedPixel, share-symmetric}
 use Rattle.overlap_laws.proofs.Depth.{LeastShift, depth-symmetric}
 use Rattle.overlap_laws.proofs.Penalty.{PenaltyLaws, penalty-symmetric, demand2-penalty}
@@ -67,6 +68,9 @@ pub record PenaltyClaims (j : Job) (v : Layout) (i k n : ℕ) : Type 0 where
   -- it is the penalty of the two pieces' pixel sets, of which demand 2's laws hold
   pub is : n ≡ penalty (shapeIn j v i) (cornerIn v i) (shapeIn j v k) (cornerIn v k)
   pub laws : PairLaws j v i k
+  -- over pixels: it is the smaller of the least |t|, t whole, in rows and the least in columns such that the second piece shifted by t
+  -- shares no pixel with the first
+  pub over-pixels : PenaltyOverPixels (shapeIn j v i) (cornerIn v i) (shapeIn j v k) (cornerIn v k) n
   -- it is 0 exactly when they share no pixel
   pub zero-exactly : (n ≡ 0) ↔ (¬ SharedPixel (shapeIn j v i) (cornerIn v i) (shapeIn j v k) (cornerIn v k))
   -- it is at most 255
@@ -85,19 +89,28 @@ penalty-given l es i k n e =
     (record {
       is = refl;
       laws = laws;
+      over-pixels = laws .pixel-penalty _ .1 refl;
       zero-exactly = laws .zero-no-pixel;
       small =
           laws .bounded Horizontal (lent-turned-small l (p .well) Horizontal i (placeOf v i .turn) (p .first))
           (lent-turned-small l (p .well) Horizontal k (placeOf v k .turn) (p .second));
     })
 
--- a depth that the call gives is the least |t|, t whole, such that the second piece shifted by t shares no pixel with the first
+-- what a depth that is given means: it is the least |t|, t whole, such that the second piece shifted by t shares no pixel with the first
+pub record DepthClaims (d : Direction) (j : Job) (v : Layout) (i k n : ℕ) : Type 0 where
+  -- by the shared-pixel test
+  pub shifts : LeastShift d (shapeIn j v i) (cornerIn v i) (shapeIn j v k) (cornerIn v k) n
+  -- over pixels
+  pub over-pixels : DepthOverPixels d (shapeIn j v i) (cornerIn v i) (shapeIn j v k) (cornerIn v k) n
+
+-- a depth that the call gives
 pub depth-given : (d : Direction) (l : Lent) (es : List (List ℕ)) (i k n : ℕ) → depthCall d l es i k ≡ given n
-    → LeastShift d (shapeIn (jobOf l) (layoutOf es) i) (cornerIn (layoutOf es) i) (shapeIn (jobOf l) (layoutOf es) k) (cornerIn (layoutOf es) k) n
+    → DepthClaims d (jobOf l) (layoutOf es) i k n
 unfolding depthCall pairDepth
 depth-given d l es i k n e =
     let u = given-unless (pairCauses l es i k) (pairDepth d (jobOf l) (layoutOf es) (pairOf i k)) n e in
-    rw (← u .same) (demand2-penalty _ _ _ _ .depths d)
+    let laws : PairLaws (jobOf l) (layoutOf es) i k = demand2-penalty _ _ _ _ in
+    rw (← u .same) (record { shifts = laws .depths d; over-pixels = laws .pixel-depths d _ .1 refl })
 
 -- a shared-pixel test that the call gives says yes exactly when the two pieces share a pixel
 pub share-given : (l : Lent) (es : List (List ℕ)) (i k : ℕ) (b : Bool) → shareCall l es i k ≡ given b
