@@ -30,7 +30,8 @@ pub unless-claims : {A : Type 0} (cs : List Cause) (a : A) → CallClaims cs a (
 unless-claims cs a = record { refuses = refused-exactly cs a; gives = given-exactly cs a }
 
 -- what is left in a lent buffer
-pub leaving-claims : {A B : Type 0} (content : A → B) (before : B) (o : Outcome A) → BufferClaims content before (leaving content before o) o
+pub leaving-claims : {A B : Type 0} (content : A → B) (before : B) (o : Outcome A)
+    → BufferClaims content before (leaving content before o) o
 leaving-claims content before o = record { kept = refused-leaves content before o; written = λ a e. rw e }
 
 -- an outcome is a refusal or a value
@@ -87,7 +88,9 @@ program-clause input = program-test input (ltb areaBound (length input))
 
 -- every public call keeps its clause
 pub call-clauses : CallClauses
-unfolding stripsCall stretchCall noFitCall rebuildCall pairCauses shareCall depthCall penaltyCall weightedSumCall layoutCauses plainSumCall usedLengthCall searchCall descentCall guidedCall startCall writeLayoutCall checkCall freshCall sheetCauses layCall layCauses withdrawCall withdrawCauses
+unfolding stripsCall stretchCall noFitCall rebuildCall pairCauses shareCall depthCall penaltyCall weightedSumCall layoutCauses
+    plainSumCall usedLengthCall searchCall descentCall guidedCall startCall writeLayoutCall checkCall freshCall sheetCauses
+    layCall layCauses withdrawCall withdrawCauses
 call-clauses =
     record {
       read-job = λ text m n. answers (readJob text m n);

@@ -1,7 +1,7 @@
 -- Document 01, 'When a call says no': "No number comes without its cause, and the first cause in the order below wins", and a refusal
 -- "writes nothing". The outcome of every call but the two that read a text is `unless` of its causes in order, so that what is shown
--- here holds of each of them; the two readers refuse a line of wrong form with 1 and take the line's other causes so. Assumes
--- nothing.
+-- here holds of each of them (Clauses says it call by call); the two readers refuse a line of wrong form with 1 and take the line's
+-- other causes so. Assumes nothing.
 use mathlib.Core.Bool.{Bool, true, false, _||_}
 use mathlib.Core.List.{List, [], _∷_, _++_}
 use mathlib.Core.Logic.{_↔_, _≢_}

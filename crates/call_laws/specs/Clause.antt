@@ -1,5 +1,5 @@
--- Document 01, 'When a call says no', of a single call: "No number comes without its cause, and the first cause in the order below wins", and a
--- refusal "writes nothing". These are the words in which Clauses speaks of each call. Assumes nothing.
+-- Document 01, 'When a call says no', of a single call: "No number comes without its cause, and the first cause in the order below wins",
+-- and a refusal "writes nothing". These are the words in which Clauses speaks of each call. Assumes nothing.
 use mathlib.Core.Bool.{true}
 use mathlib.Core.List.{List, _∷_, _++_}
 use mathlib.Core.Logic.{_↔_, _⊎_}

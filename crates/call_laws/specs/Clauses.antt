@@ -1,6 +1,6 @@
--- Document 01, 'When a call says no', one clause a public call: its causes in document 01's order, each with its number, the value that it gives
--- where none of them is there, and what each lent buffer that it writes holds afterwards. A buffer that is not named is not written.
--- `cause` leaves both places 0. Assumes nothing.
+-- Document 01, 'When a call says no', one clause a public call: its causes in document 01's order, each with its number, the value that it
+-- gives where none of them is there, and what each lent buffer that it writes holds afterwards; a buffer that is not named is lent
+-- for reading only. The two places of a `cause` are 0. Assumes nothing.
 use mathlib.Core.Bool.{true, false, not, _&&_, _||_}
 use mathlib.Core.List.{List, [], _∷_, map}
 use mathlib.Core.Path.{_≡_}
