@@ -10,7 +10,7 @@ use lib.Dec.{ltb}
 use lib.ListN.{length}
 use Rattle.model.specs.Lent.{Lent, jobOf, lentWell, pieceBound, areaBound}
 use Rattle.model.specs.Cover.{Sheet, afterwards, layCauses, withdrawCauses}
-use Rattle.model.specs.Refusal.{Outcome, refused, given, Cause, cause, unless, refusalOf, wrongLength, notOurs}
+use Rattle.model.specs.Refusal.{Outcome, refused, given, Cause, cause, unless, wrongLength, notOurs}
 use Rattle.model.specs.Text.{andThen}
 use Rattle.model.specs.JobText.{readJob}
 use Rattle.model.specs.LayoutText.{readLayout}

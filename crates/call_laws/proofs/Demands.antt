@@ -1,7 +1,7 @@
 -- What demands 1, 2 and 3 say of the public calls, for a lent job, layouts, weights, stores, strips, sheets, texts and numbers of any
 -- content: nothing is asked of what is lent but what an earlier call gave, since a call that is not refused has found it in order.
--- The calls are defined in model's Calls; each theorem named here is proved in the file of this crate that it is taken from. The
--- last three theorems are the claims. Assumes nothing.
+-- The calls are defined in model's Calls; each theorem named here is proved in the file that it is taken from. The last three theorems
+-- are the claims. Assumes nothing.
 use mathlib.Core.Bool.{Bool, true}
 use mathlib.Core.List.{List, map}
 use mathlib.Core.Logic.{_↔_, _≢_}

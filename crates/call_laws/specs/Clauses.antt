@@ -35,6 +35,7 @@ use Rattle.model.specs.declared.Placement.{Placement}
 use Rattle.model.specs.declared.Refusal.{Refusal}
 use Rattle.call_laws.specs.Clause.{CallClaims, BufferClaims, Answers}
 
+-- one clause a public call, in document 01's order, the program last
 pub record CallClauses : Type 0 where
   -- ── reading a job ──
   -- it ends in a refusal or in a job; the causes, line by line, stand in JobText
