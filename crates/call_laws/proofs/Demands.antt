@@ -1,7 +1,7 @@
 -- What demands 1, 2 and 3 say of the public calls, for a lent job, layouts, weights, stores, strips, sheets, texts and numbers of any
 -- content: nothing is asked of what is lent but what an earlier call gave, since a call that is not refused has found it in order.
--- The calls are defined in model's Calls; each theorem named here is proved in the file of this crate that it is taken from. The
--- last three theorems are the claims. Assumes nothing.
+-- The calls are defined in model's Calls; each theorem named here is proved in the file that it is taken from. The last three theorems
+-- are the claims. Assumes nothing.
 use mathlib.Core.Bool.{Bool, true}
 use mathlib.Core.List.{List, map}
 use mathlib.Core.Logic.{_↔_, _≢_}
@@ -17,19 +17,18 @@ use Rattle.model.specs.Buffer.{layoutOf, stripEntry}
 use Rattle.model.specs.Search.{Best, places}
 use Rattle.model.specs.Descent.{Descent, trials}
 use Rattle.model.specs.Guided.{Guided, rounds}
-use Rattle.model.specs.Cover.{Sheet, Call}
+use Rattle.model.specs.Cover.{Sheet, Call, laying, withdrawing, called, sheetWell}
 use Rattle.model.specs.Lent.{Lent, jobOf, lentWell, pieceBound, areaBound}
-use Rattle.model.specs.Refusal.{Outcome, refused, given, Cause, unless, wrongLength}
+use Rattle.model.specs.Refusal.{refused, given, wrongLength}
 use Rattle.model.specs.JobText.{readJob}
 use Rattle.model.specs.Store.{turnIn, pieceStrips}
 use Rattle.model.specs.Program.{refusalText, programText}
-use Rattle.model.specs.Calls.{leaving, Stores, stripsCall, storesAfter, stretchWell, usedLengthCall, descentAfter, bestAfterRun, weightsAfterRun, stretchCall, stretchGiven, stretchNumber, LentStretch, noFitCall, stripsWell, rebuildCall, shareCall, depthCall, penaltyCall, weightedSumCall, plainSumCall, searchCall, descentCall, guidedCall, writeLayoutCall, readLayoutCall, startCall, checkCall, freshCall, layCall, withdrawCall}
+use Rattle.model.specs.Calls.{Stores, stripsCall, storesAfter, stretchWell, usedLengthCall, descentAfter, bestAfterRun, weightsAfterRun, stretchCall, stretchGiven, stretchNumber, LentStretch, noFitCall, stripsWell, rebuildCall, shareCall, depthCall, penaltyCall, weightedSumCall, plainSumCall, searchCall, descentCall, guidedCall, writeLayoutCall, readLayoutCall, startCall, checkCall, freshCall, layCall, withdrawCall}
 use Rattle.model.specs.declared.Turn.{Turn}
 use Rattle.model.specs.declared.Direction.{Direction}
 use Rattle.model.specs.declared.Line.{Line}
 use Rattle.model.specs.declared.Placement.{Placement}
 use Rattle.model.specs.declared.Refusal.{Refusal}
-use Rattle.text_laws.specs.Outcomes.{Unless}
 use Rattle.text_laws.proofs.JobRead.{job-read-well}
 use Rattle.text_laws.specs.Texts.{Readable}
 use Rattle.text_laws.proofs.LentRead.{lent-well-readable}
@@ -40,16 +39,18 @@ use Rattle.cover_laws.specs.CoverClaims.{CoverHolds}
 use Rattle.descent_laws.specs.Claims.{ValidLayout, TrialsClaims, DescentClaims, GuidedClaims}
 use Rattle.descent_laws.proofs.Order.{trials-claims}
 use Rattle.descent_laws.specs.Search.{Found}
-use Rattle.call_laws.specs.Refusals.{FirstCause}
-use Rattle.call_laws.proofs.Refusals.{refused-exactly, given-exactly, refused-leaves}
 use Rattle.call_laws.specs.Stores.{StretchClaims}
 use Rattle.call_laws.proofs.Stores.{stretch-some, stretch-tells, stretch-after, stretch-lent, stretch-rebuilt}
 use Rattle.call_laws.specs.Rebuilding.{PieceOf, RebuildClaims, RebuiltAs}
 use Rattle.call_laws.proofs.Rebuilding.{strips-well-piece, rebuild-given}
-use Rattle.call_laws.specs.Overlaps.{PenaltyClaims, SumClaims}
+use Rattle.call_laws.specs.Overlaps.{PenaltyClaims, SumClaims, DepthClaims}
 use Rattle.call_laws.proofs.Overlaps.{penalty-given, penalty-order, depth-given, share-given, no-fit-given, weighted-given, plain-given}
 use Rattle.call_laws.specs.Checks.{LowestPair, Checked, sharedRefusal}
 use Rattle.call_laws.proofs.Checks.{check-given, check-shared}
+use Rattle.strip_laws.specs.Turns.{TurnedExactly}
+use Rattle.strip_laws.proofs.Turns.{turned-exactly}
+use Rattle.call_laws.specs.Clauses.{CallClauses}
+use Rattle.call_laws.proofs.Clauses.{call-clauses}
 use Rattle.call_laws.proofs.Texts.{start-given, layout-given, written-read-back}
 use Rattle.call_laws.specs.Lengths.{UsedClaims}
 use Rattle.call_laws.proofs.Lengths.{used-given}
@@ -59,21 +60,21 @@ use Rattle.call_laws.specs.Programs.{Prints}
 use Rattle.call_laws.proofs.Programs.{program-prints, program-refuses, program-too-long}
 use Rattle.call_laws.proofs.Runs.{search-given, empty-line-exactly, descent-given, descent-left, guided-given, guided-left}
 use Rattle.call_laws.specs.Sheets.{afterSheetCalls}
-use Rattle.call_laws.proofs.Sheets.{lay-given, withdraw-given, fresh-given}
+use Rattle.call_laws.proofs.Sheets.{lay-given, withdraw-given, fresh-given, lay-call, withdraw-call, sheet-reached}
 
 -- ── demand 1: results as laid down, and refusals ──
 
-pub record Demand1Calls : Type 1 where
-  -- where an outcome is `unless` of causes in order, as that of every call but the two readers, the call refuses exactly by the first
-  -- cause that is there, and gives its value exactly where none is
-  pub refuses : {A : Type 0} (cs : List Cause) (a : A) (r : Refusal) → (unless cs a ≡ refused r) ↔ FirstCause cs r
-  pub gives : {A : Type 0} (cs : List Cause) (a b : A) → (unless cs a ≡ given b) ↔ Unless cs a b
-  -- a refusal leaves lent memory as it was
-  pub leaves : {A B : Type 0} (content : A → B) (before : B) (o : Outcome A) (r : Refusal) → o ≡ refused r → leaving content before o ≡ before
+pub record Demand1Calls : Type 0 where
+  -- one clause a call, in Clauses of specs/: it refuses exactly by the first of its causes in document 01's order that is there, it gives
+  -- its value exactly where none is, and after a refusal each lent buffer holds what it held before
+  pub each-call : CallClauses
   -- the check that every call makes first of a lent job passes exactly where reading some text gives the job
   pub job-check : (l : Lent) → (lentWell l ≡ true) ↔ Readable l
   pub job-read : (text : List ℕ) (tableLength pixelsLength : ℕ) (l : Lent) → readJob text tableLength pixelsLength ≡ given l
       → lentWell l ≡ true
+  -- the check of a lent sheet that lay and withdraw make passes exactly where some list of calls from a fresh sheet gives the sheet
+  pub sheet-check : (l : Lent) (room : ℕ) (f : Sheet) → freshCall l room ≡ given f → (s : Sheet)
+      → (sheetWell (jobOf l) s ≡ true) ↔ ((cs : List Call) × (afterSheetCalls l f cs ≡ s))
   -- a job that is read stands in the lent buffers, whatever lies beyond it, as a job that every call takes
   pub job-left : (text : List ℕ) (table : List (List ℕ)) (pixels : List ℕ) (l : Lent) → readJob text (length table) (length pixels) ≡ given l
       → JobLeft l (jobLeft text table pixels l)
@@ -100,6 +101,8 @@ pub record Demand1Calls : Type 1 where
 -- ── demand 2: strips, overlap, counts ──
 
 pub record Demand2Calls : Type 0 where
+  -- a piece in a turn, of which every call on pixels speaks, is the image of the piece under document 01's map of that turn
+  pub turns : (t : Turn) (s : Shape) → TurnedExactly t s
   -- the stores that the strips call leaves are the job's, so that each piece's stretch is handed out of them
   pub stores-left : (l : Lent) (ts : List ℕ) (lent s : Stores) → stripsCall l ts lent ≡ given s → (i : ℕ) (d : Direction) → i < l .count
       → stretchCall l ts (storesAfter lent (stripsCall l ts lent)) i d ≡ given (map stripEntry (pieceStrips d (jobOf l) ts i))
@@ -125,7 +128,7 @@ pub record Demand2Calls : Type 0 where
       → (b ≡ true)
       ↔ SharedPixel (shapeIn (jobOf l) (layoutOf es) i) (cornerIn (layoutOf es) i) (shapeIn (jobOf l) (layoutOf es) k) (cornerIn (layoutOf es) k)
   pub depths : (d : Direction) (l : Lent) (es : List (List ℕ)) (i k n : ℕ) → depthCall d l es i k ≡ given n
-      → LeastShift d (shapeIn (jobOf l) (layoutOf es) i) (cornerIn (layoutOf es) i) (shapeIn (jobOf l) (layoutOf es) k) (cornerIn (layoutOf es) k) n
+      → DepthClaims d (jobOf l) (layoutOf es) i k n
   pub penalties : (l : Lent) (es : List (List ℕ)) (i k n : ℕ) → penaltyCall l es i k ≡ given n → PenaltyClaims (jobOf l) (layoutOf es) i k n
   -- the penalty does not depend on which piece is called first
   pub penalty-alike : (l : Lent) (es : List (List ℕ)) (i k : ℕ) → penaltyCall l es i k ≡ penaltyCall l es k i
@@ -134,6 +137,11 @@ pub record Demand2Calls : Type 0 where
   -- after every list of lay and withdraw calls from a fresh sheet each pixel's count is the number of laid pieces on it
   pub counts : (l : Lent) (room : ℕ) (s : Sheet) → freshCall l room ≡ given s → (cs : List Call)
       → CoverHolds (jobOf l) cs (afterSheetCalls l s cs)
+  -- of a lent job and a sheet that pass their checks, lay and withdraw are the calls of the sheet's own rules (Cover of the model)
+  pub lay-calls : (l : Lent) (s : Sheet) (i : ℕ) (p : Placement) → lentWell l ≡ true → sheetWell (jobOf l) s ≡ true
+      → layCall l s i p ≡ called (jobOf l) s (laying i p)
+  pub withdraw-calls : (l : Lent) (s : Sheet) (i : ℕ) → lentWell l ≡ true → sheetWell (jobOf l) s ≡ true
+      → withdrawCall l s i ≡ called (jobOf l) s (withdrawing i)
   -- a single lay or withdraw, on a sheet of any content that is not refused
   pub lays : (l : Lent) (s s′ : Sheet) (i : ℕ) (p : Placement) → layCall l s i p ≡ given s′ → LayGives (jobOf l) s i p s′
   pub withdraws : (l : Lent) (s s′ : Sheet) (i : ℕ) → withdrawCall l s i ≡ given s′ → WithdrawGives (jobOf l) s i s′
@@ -173,11 +181,10 @@ pub record Demand3Calls : Type 0 where
 pub demand1-calls : Demand1Calls
 demand1-calls =
     record {
-      refuses = refused-exactly;
-      gives = given-exactly;
-      leaves = refused-leaves;
+      each-call = call-clauses;
       job-check = lent-well-readable;
       job-read = job-read-well;
+      sheet-check = sheet-reached;
       job-left = job-given;
       job-front = front-given;
       starts = start-given;
@@ -195,6 +202,7 @@ demand1-calls =
 pub demand2-calls : Demand2Calls
 demand2-calls =
     record {
+      turns = turned-exactly;
       stores-left = stretch-after;
       stretches = stretch-some;
       stretch-refused = stretch-tells;
@@ -208,6 +216,8 @@ demand2-calls =
       penalty-alike = penalty-order;
       no-fits = no-fit-given;
       counts = fresh-given;
+      lay-calls = lay-call;
+      withdraw-calls = withdraw-call;
       lays = lay-given;
       withdraws = withdraw-given;
     }

@@ -5,6 +5,7 @@ pub mod Jobs
 pub mod Layouts
 pub mod Runs
 pub mod Refusals
+pub mod Clauses
 pub mod Rebuilding
 pub mod Stores
 pub mod Overlaps

@@ -20,16 +20,17 @@ use Rattle.model.specs.declared.Direction.the-variants.{Horizontal}
 use Rattle.model.proofs.Tests.{and-left, and-right, or-neither, same-tests}
 use Rattle.text_laws.specs.Outcomes.{NoCause}
 use Rattle.text_laws.proofs.Outcomes.{given-unless}
-use Rattle.overlap_laws.specs.Overlap.{SharedPixel, LeastShift}
+use Rattle.overlap_laws.specs.Overlap.{SharedPixel, LeastShift, PenaltyLaws}
 use Rattle.overlap_laws.proofs.Share.{share-symmetric}
 use Rattle.overlap_laws.proofs.Depth.{depth-symmetric}
 use Rattle.overlap_laws.proofs.Penalty.{penalty-symmetric, demand2-penalty}
 use Rattle.overlap_laws.specs.NoFit.{NoFitLine}
-use Rattle.descent_laws.specs.Claims.{ValidLayout, ValidWeights}
+use Rattle.descent_laws.specs.Claims.{ValidLayout, ValidWeights, NoSharedPixel}
+use Rattle.overlap_laws.specs.PixelDepth.{DepthOverPixels, PenaltyOverPixels}
 use Rattle.descent_laws.proofs.Sums.{zero-exactly}
 use Rattle.descent_laws.proofs.Guided.{unit-valid}
 use Rattle.descent_laws.proofs.Bounds.{weighted-at-most}
-use Rattle.call_laws.specs.Overlaps.{PairLaws, PenaltyClaims, SumClaims}
+use Rattle.call_laws.specs.Overlaps.{PairLaws, DepthClaims, PenaltyClaims, SumClaims}
 use Rattle.call_laws.proofs.Jobs.{lent-sheet, lent-boxes-small, lent-turned-small, lent-no-fit}
 use Rattle.call_laws.proofs.Layouts.{job-well, layout-valid, lent-weights-valid}
 
@@ -74,19 +75,21 @@ penalty-given l es i k n e =
     (record {
       is = refl;
       laws = laws;
+      over-pixels = laws .pixel-penalty _ .1 refl;
       zero-exactly = laws .zero-no-pixel;
       small =
           laws .bounded Horizontal (lent-turned-small l (p .well) Horizontal i (placeOf v i .turn) (p .first))
           (lent-turned-small l (p .well) Horizontal k (placeOf v k .turn) (p .second));
     })
 
--- a depth that the call gives is the least |t|, t whole, such that the second piece shifted by t shares no pixel with the first
+-- a depth that the call gives
 pub depth-given : (d : Direction) (l : Lent) (es : List (List ℕ)) (i k n : ℕ) → depthCall d l es i k ≡ given n
-    → LeastShift d (shapeIn (jobOf l) (layoutOf es) i) (cornerIn (layoutOf es) i) (shapeIn (jobOf l) (layoutOf es) k) (cornerIn (layoutOf es) k) n
+    → DepthClaims d (jobOf l) (layoutOf es) i k n
 unfolding depthCall pairDepth
 depth-given d l es i k n e =
     let u = given-unless (pairCauses l es i k) (pairDepth d (jobOf l) (layoutOf es) (pairOf i k)) n e in
-    rw (← u .same) (demand2-penalty _ _ _ _ .depths d)
+    let laws : PairLaws (jobOf l) (layoutOf es) i k = demand2-penalty _ _ _ _ in
+    rw (← u .same) (record { shifts = laws .depths d; over-pixels = laws .pixel-depths d _ .1 refl })
 
 -- a shared-pixel test that the call gives says yes exactly when the two pieces share a pixel
 pub share-given : (l : Lent) (es : List (List ℕ)) (i k : ℕ) (b : Bool) → shareCall l es i k ≡ given b

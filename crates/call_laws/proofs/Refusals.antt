@@ -1,7 +1,7 @@
 -- Document 01, 'When a call says no': "No number comes without its cause, and the first cause in the order below wins", and a refusal
 -- "writes nothing". The outcome of every call but the two that read a text is `unless` of its causes in order, so that what is shown
--- here holds of each of them; the two readers refuse a line of wrong form with 1 and take the line's other causes so. Assumes
--- nothing.
+-- here holds of each of them (Clauses says it call by call); the two readers refuse a line of wrong form with 1 and take the line's
+-- other causes so. Assumes nothing.
 use mathlib.Core.Bool.{Bool, true, false, _||_}
 use mathlib.Core.List.{List, [], _∷_, _++_}
 use mathlib.Core.Logic.{_↔_, _≢_}
@@ -16,7 +16,8 @@ use Rattle.model.specs.declared.Refusal.{Refusal}
 use Rattle.model.proofs.Tests.{fails}
 use Rattle.text_laws.specs.Outcomes.{NoCause, Unless}
 use Rattle.text_laws.proofs.Outcomes.{unless-given, given-unless}
-use Rattle.call_laws.specs.Refusals.{FirstCause}
+use Rattle.call_laws.specs.Clause.{FirstCause}
+pub use Rattle.call_laws.specs.Clause.{FirstCause}
 
 -- a value is no refusal
 given-refused : {A : Type 0} {r : Refusal} {a : A} → given a ≡ refused r → ⊥

@@ -4,6 +4,7 @@
 -- that cover_laws speaks of. Assumes nothing.
 use mathlib.Core.Bool.{true}
 use mathlib.Core.List.{List, [], _∷_}
+use mathlib.Core.Logic.{_↔_}
 use mathlib.Core.Path.{_≡_, refl, sym, _∙_, ap}
 use Prim.Native.Nat.{ℕ, _*_, _≤_}
 use borrow.Author.Tests.{eq-eqb, not-false}
@@ -15,7 +16,7 @@ use Rattle.model.specs.Cover.{Sheet, Call, laying, withdrawing, called, afterwa
 use Rattle.model.specs.Calls.{sheetCauses, freshCall, layCall, withdrawCall}
 use Rattle.model.specs.declared.Placement.{Placement}
 use Rattle.text_laws.proofs.Outcomes.{given-unless}
-use Rattle.cover_laws.proofs.Reached.{well-sound}
+use Rattle.cover_laws.proofs.Reached.{well-sound, well-exactly}
 use Rattle.cover_laws.specs.Effects.{LayGives, WithdrawGives}
 use Rattle.cover_laws.proofs.Effects.{lay-gives, withdraw-gives, fresh-well, call-well}
 use Rattle.cover_laws.specs.CoverClaims.{CoverHolds}
@@ -84,3 +85,18 @@ fresh-given l room s e cs =
     let well : lentWell l ≡ true = job-well l (u .none .0) in
     let few : jobOf l .count ≤ pieceBound = lent-sheet l well .count in
     rw (← u .same, sheet-calls l (fresh (jobOf l)) cs well (fresh-well (jobOf l) few)) (demand2-cover (jobOf l) few cs)
+
+-- the check of a lent sheet, refusal 8 of lay and withdraw, passes exactly the sheets that some list of public calls from a fresh one gives
+pub sheet-reached : (l : Lent) (room : ℕ) (f : Sheet) → freshCall l room ≡ given f → (s : Sheet)
+    → (sheetWell (jobOf l) s ≡ true) ↔ ((cs : List Call) × (afterSheetCalls l f cs ≡ s))
+unfolding freshCall
+sheet-reached l room f e s =
+    let u = given-unless _ (fresh (jobOf l)) f e in
+    let well : lentWell l ≡ true = job-well l (u .none .0) in
+    let few : jobOf l .count ≤ pieceBound = lent-sheet l well .count in
+    let same : (cs : List Call) → afterSheetCalls l (fresh (jobOf l)) cs ≡ afterCalls (jobOf l) (fresh (jobOf l)) cs =
+    λ cs. sheet-calls l (fresh (jobOf l)) cs well (fresh-well (jobOf l) few) in
+    rw (← u .same) (
+      λ h. (let r = well-exactly (jobOf l) few s .0 h in (r .0, same (r .0) ∙ r .1)),
+      λ r. well-exactly (jobOf l) few s .1 (r .0, sym (same (r .0)) ∙ r .1),
+    )

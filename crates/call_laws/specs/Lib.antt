@@ -1,5 +1,6 @@
 -- The words in which the theorems of the public calls speak; the theorems are proved in proofs/, and Demands there gathers them.
-pub mod Refusals
+pub mod Clause
+pub mod Clauses
 pub mod Stores
 pub mod Rebuilding
 pub mod Overlaps

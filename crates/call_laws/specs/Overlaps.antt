@@ -1,4 +1,4 @@
--- What a penalty and a sum that are given say of the layout (document 01, 'No-fit rows and penalty'). The theorems are in
+-- What a depth, a penalty and a sum that are given say of the layout (document 01, 'No-fit rows and penalty'). The theorems are in
 -- proofs/Overlaps. Assumes nothing.
 use mathlib.Core.List.{List}
 use mathlib.Core.Logic.{_↔_}
@@ -7,7 +7,9 @@ use Prim.Native.Nat.{ℕ, _≤_}
 use Rattle.model.specs.Layout.{Job, Layout, shapeIn, cornerIn, weightedSum}
 use Rattle.model.specs.Overlap.{penalty}
 use Rattle.model.specs.Lent.{sideBound}
-use Rattle.overlap_laws.specs.Overlap.{PenaltyLaws, SharedPixel}
+use Rattle.model.specs.declared.Direction.{Direction}
+use Rattle.overlap_laws.specs.PixelDepth.{DepthOverPixels, PenaltyOverPixels}
+use Rattle.overlap_laws.specs.Overlap.{PenaltyLaws, SharedPixel, LeastShift}
 use Rattle.descent_laws.specs.Claims.{NoSharedPixel}
 use Rattle.descent_laws.specs.Sums.{sumBound}
 
@@ -15,11 +17,21 @@ use Rattle.descent_laws.specs.Sums.{sumBound}
 abbrev pub PairLaws : Job → Layout → ℕ → ℕ → Type 0
 PairLaws j v i k = PenaltyLaws (shapeIn j v i) (cornerIn v i) (shapeIn j v k) (cornerIn v k)
 
+-- what a depth that is given means: it is the least |t|, t whole, such that the second piece shifted by t shares no pixel with the first
+pub record DepthClaims (d : Direction) (j : Job) (v : Layout) (i k n : ℕ) : Type 0 where
+  -- by the shared-pixel test
+  pub shifts : LeastShift d (shapeIn j v i) (cornerIn v i) (shapeIn j v k) (cornerIn v k) n
+  -- over pixels
+  pub over-pixels : DepthOverPixels d (shapeIn j v i) (cornerIn v i) (shapeIn j v k) (cornerIn v k) n
+
 -- what a penalty that is given means
 pub record PenaltyClaims (j : Job) (v : Layout) (i k n : ℕ) : Type 0 where
   -- it is the penalty of the two pieces' pixel sets, of which demand 2's laws hold
   pub is : n ≡ penalty (shapeIn j v i) (cornerIn v i) (shapeIn j v k) (cornerIn v k)
   pub laws : PairLaws j v i k
+  -- over pixels: it is the smaller of the least |t|, t whole, in rows and the least in columns such that the second piece shifted by t
+  -- shares no pixel with the first
+  pub over-pixels : PenaltyOverPixels (shapeIn j v i) (cornerIn v i) (shapeIn j v k) (cornerIn v k) n
   -- it is 0 exactly when they share no pixel
   pub zero-exactly : (n ≡ 0) ↔ (¬ SharedPixel (shapeIn j v i) (cornerIn v i) (shapeIn j v k) (cornerIn v k))
   -- it is at most 255

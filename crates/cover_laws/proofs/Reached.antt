@@ -26,8 +26,7 @@ use Rattle.model.specs.declared.Entry.{Entry}
 use Rattle.model.proofs.Tests.{and-left, and-right, and-both, or-cases, or-right, clash, decided}
 use Rattle.model.proofs.Bounded.{all-at, all-from}
 use Rattle.cover_laws.proofs.Calls.{LayTaken, WithdrawTaken, lay-taken, calls-append}
-use Rattle.cover_laws.proofs.Counts.{Sound, LaidWell, lay-entry, lay-others, withdraw-entry, withdraw-others}
-use Rattle.cover_laws.proofs.Counts.{lay-sound, withdraw-sound, fresh-entry, reached-sound, same-count}
+use Rattle.cover_laws.proofs.Counts.{Sound, LaidWell, lay-entry, lay-others, withdraw-entry, withdraw-others, lay-sound, withdraw-sound, fresh-entry, reached-sound, same-count}
 
 -- ── the test of a sheet ──
 

@@ -22,7 +22,8 @@ use Rattle.overlap.specs.Meet.{shifted, stretchesShare}
 use Rattle.overlap.specs.declared.Corner.{Corner}
 use Rattle.overlap.proofs.Walk.{StripsMeet, share-meet}
 use Rattle.overlap.proofs.Firsts.{below-or}
-use Rattle.overlap.proofs.Shapes.{entries, seen, entries-share}
+use Rattle.overlap.specs.Seen.{entries, seen}
+use Rattle.overlap.proofs.Shapes.{entries-share}
 use Rattle.nofit.specs.Marks.{flagsFrom, sharesAt, marksOf, Reached, AllMarked, Swept, farthest}
 
 -- ── flags ──

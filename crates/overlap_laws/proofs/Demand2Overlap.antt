@@ -1,6 +1,6 @@
 -- Demand 2, shared pixel, penalty and no-fit rows (document 01, 'No-fit rows and penalty'): the last theorem says it whole, over the
--- pixel sets of two shapes at any corners and over the direction; its parts are proved in Share, Depth, Penalty and NoFit. Boxes
--- have sides of at most 255, as every panel's has, where the no-fit lines need it. Assumes nothing.
+-- pixel sets of two shapes at any corners and over the direction; its parts are proved in Share, Depth, PixelDepth, Penalty and
+-- NoFit. Boxes have sides of at most 255, as every panel's has, where the no-fit lines need it. Assumes nothing.
 use mathlib.Core.Bool.{true}
 use mathlib.Core.Path.{_≡_}
 use mathlib.Core.Logic.{_↔_}
@@ -16,7 +16,7 @@ use Rattle.overlap_laws.proofs.NoFit.{no-fit-line, no-fit-share}
 
 -- what demand 2 says of two shapes' shared pixels
 pub record Demand2Overlap : Type 0 where
-  -- shared-pixel test, depths and penalty of s at corner u and t at corner v
+  -- shared-pixel test, depths and penalty of s at corner u and t at corner v, over pixels and whole shifts
   pub penalties : (s : Shape) (u : Point) (t : Shape) (v : Point) → PenaltyLaws s u t v
   -- the no-fit row (horizontal) at a row offset, or the no-fit column (vertical) at a column offset
   pub no-fit-lines : (d : Direction) (s t : Shape) → extent d s ≤ 255 → extent d t ≤ 255 → (o : ℤ) → NoFitLine d s t o (noFit d s t o)

@@ -2,7 +2,8 @@
 -- Demand2Overlap has the claim.
 pub mod Share
 pub mod Depth
-pub mod Penalty
 pub mod Whole
 pub mod NoFit
+pub mod PixelDepth
+pub mod Penalty
 pub mod Demand2Overlap

@@ -50,6 +50,13 @@ pub add-whole : (z : ℤ) (n : ℕ) → up (z +ℤ pos n) + down z ≡ up z + n 
 add-whole (pos a) n = omega arith
 add-whole (negsuc a) n = omega (arith, sub-whole n (suc a))
 
+-- the sum of two whole numbers
+pub add-signed : (y z : ℤ) → up (y +ℤ z) + down y + down z ≡ up y + up z + down (y +ℤ z)
+add-signed (pos a) (pos b) = omega arith
+add-signed (pos a) (negsuc b) = omega (arith, sub-whole a (suc b))
+add-signed (negsuc a) (pos b) = omega (arith, sub-whole b (suc a))
+add-signed (negsuc a) (negsuc b) = omega arith
+
 -- the order as one of ℕ
 pub le-whole : (y z : ℤ) → y ≤ℤ z → up y + down z ≤ up z + down y
 le-whole (pos a) (pos b) h = omega (arith, leb→le a b (h .le))

@@ -4,11 +4,12 @@ use mathlib.Core.Bool.{true, Bool, false}
 use mathlib.Core.Logic.{_⊎_, _↔_}
 use mathlib.Core.Path.{_≡_}
 use Prim.Native.Nat.{_+_, ℕ, _≤_}
-use lib.IntN.{ℤ, natAbs}
+use lib.IntN.{ℤ, pos, natAbs}
 use Rattle.model.specs.Piece.{Point, Shape, pixel, shift, extent}
 use Rattle.model.specs.Overlap.{share, up, down, depth, penalty}
 use Rattle.model.specs.declared.Direction.{Direction}
 use Rattle.model.specs.declared.Direction.the-variants.{Horizontal, Vertical}
+use Rattle.overlap_laws.specs.PixelDepth.{SharesAtShift, DepthOverPixels, PenaltyOverPixels}
 
 -- pixels p of s and q of t at the same place of the sheet: u + p = v + q, so the corners' difference v - u is p - q
 pub record SharedPixel (s : Shape) (u : Point) (t : Shape) (v : Point) : Type 0 where
@@ -44,6 +45,14 @@ pub record PenaltyLaws (s : Shape) (u : Point) (t : Shape) (v : Point) : Type 0 
   pub zero-no-pixel : (penalty s u t v ≡ 0) ↔ (¬ SharedPixel s u t v)
   -- each depth is the least |z|, z whole, such that t shifted by z in its direction shares no pixel with s
   pub depths : (d : Direction) → LeastShift d s u t v (depth d s u t v)
+  -- the test over pixels: not shifted, they share a pixel exactly when the corners' difference is p - q for some pixels
+  pub shared-at : (d : Direction) → (share s u t v ≡ true) ↔ SharesAtShift d s u t v (pos 0)
+  -- shifted by k, exactly when that difference, k added along the direction, is p - q for some pixels
+  pub shared-shifted : (d : Direction) (k : ℤ) → (sharesShifted d s u t v k ≡ true) ↔ SharesAtShift d s u t v k
+  -- each depth over pixels: the least |k|, k whole, such that t shifted by k shares no pixel with s, and no other number
+  pub pixel-depths : (d : Direction) (n : ℕ) → DepthOverPixels d s u t v n ↔ (n ≡ depth d s u t v)
+  -- the penalty over pixels: the smaller of these two, and no other number
+  pub pixel-penalty : (n : ℕ) → PenaltyOverPixels s u t v n ↔ (n ≡ penalty s u t v)
   -- the penalty is the smaller of the two depths
   pub at-most : (d : Direction) → penalty s u t v ≤ depth d s u t v
   pub attained : (penalty s u t v ≡ depth Horizontal s u t v) ⊎ (penalty s u t v ≡ depth Vertical s u t v)

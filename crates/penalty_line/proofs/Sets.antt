@@ -17,7 +17,8 @@ use Rattle.overlap_laws.proofs.Depth.{depth-bound}
 use Rattle.overlap_laws.proofs.Penalty.{penalty-symmetric}
 use Rattle.overlap.specs.Meet.{depthBelow}
 use Rattle.overlap.proofs.Firsts.{first-unique}
-use Rattle.overlap.proofs.Shapes.{entries, seen, at-member, entries-share, depth-cut-first, entries-depth}
+use Rattle.overlap.specs.Seen.{entries, seen}
+use Rattle.overlap.proofs.Shapes.{at-member, entries-share, depth-cut-first, entries-depth}
 use Rattle.penalty_line.specs.declared.Pair.{Pair}
 use Rattle.penalty_line.specs.Line.{standingAt, movedAt, apartAcross, acrossBelow, alongAt, penaltyAt, valuesFrom, penaltyLine, Boxed}
 use Rattle.penalty_line.proofs.Lines.{values-at}

@@ -14,8 +14,7 @@ use Rattle.placing.proofs.Fitting.{fitting}
 use Rattle.placing.specs.Answers.{firstCause}
 use Rattle.placing.specs.declared.CauseAnswer.{CauseAnswer}
 use Rattle.layout_writer.specs.Answers.{textAnswer}
-use Rattle.fields.proofs.Stores.{sets-filled}
-use Rattle.fields.proofs.Stores.{nothing-left}
+use Rattle.fields.proofs.Stores.{sets-filled, nothing-left}
 use Rattle.layout_writer.proofs.Writes.{write-refused, write-short, write-given}
 use Rattle.layout_writer.proofs.write_layout.Statement.{statement}
 use Rattle.layout_writer.proofs.write_layout.Tie as tie

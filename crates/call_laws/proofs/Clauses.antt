@@ -1,0 +1,139 @@
+-- Document 01, 'When a call says no': each public call keeps its clause. The outcome of every call but the two readers is `unless` of its
+-- causes in order, so the law of `unless` in Refusals is the call's, at the causes that the call names; what a call leaves in a
+-- lent buffer goes by whether the outcome is a refusal. Assumes nothing.
+use mathlib.Core.Bool.{Bool, true, false}
+use mathlib.Core.List.{List, [], _∷_}
+use mathlib.Core.Logic.{inl, inr}
+use mathlib.Core.Path.{_≡_, refl}
+use Prim.Native.Nat.{ℕ}
+use lib.Dec.{ltb}
+use lib.ListN.{length}
+use Rattle.model.specs.Lent.{Lent, jobOf, lentWell, pieceBound, areaBound}
+use Rattle.model.specs.Cover.{Sheet, afterwards, layCauses, withdrawCauses}
+use Rattle.model.specs.Refusal.{Outcome, refused, given, Cause, cause, unless, wrongLength, notOurs}
+use Rattle.model.specs.Text.{andThen}
+use Rattle.model.specs.JobText.{readJob}
+use Rattle.model.specs.LayoutText.{readLayout}
+use Rattle.model.specs.Program.{refusalText, printed, programText}
+use Rattle.model.specs.Calls.{leaving, stretchNumber, stripsCall, stretchCall, noFitCall, rebuildCall, pairCauses, shareCall, depthCall, penaltyCall}
+use Rattle.model.specs.Calls.{weightedSumCall, layoutCauses, plainSumCall, usedLengthCall, searchCall, descentCall, guidedCall, startCall, writeLayoutCall}
+use Rattle.model.specs.Calls.{readLayoutCall, checkCall, freshCall, sheetCauses, layCall, withdrawCall}
+use Rattle.model.specs.declared.Refusal.{Refusal}
+use Rattle.call_laws.specs.Clause.{CallClaims, BufferClaims, Answers}
+use Rattle.call_laws.specs.Clauses.{CallClauses}
+use Rattle.call_laws.proofs.Refusals.{refused-exactly, given-exactly, refused-leaves}
+
+-- ── of every call ──
+
+-- an outcome that is `unless` of causes in order
+pub unless-claims : {A : Type 0} (cs : List Cause) (a : A) → CallClaims cs a (unless cs a)
+unless-claims cs a = record { refuses = refused-exactly cs a; gives = given-exactly cs a }
+
+-- what is left in a lent buffer
+pub leaving-claims : {A B : Type 0} (content : A → B) (before : B) (o : Outcome A)
+    → BufferClaims content before (leaving content before o) o
+leaving-claims content before o = record { kept = refused-leaves content before o; written = λ a e. rw e }
+
+-- an outcome is a refusal or a value
+pub answers : {A : Type 0} (o : Outcome A) → Answers o
+answers (refused r) = inl (r, refl)
+answers (given a) = inr (a, refl)
+
+-- ── the sheet, the stretch's refusal, the readers ──
+
+-- the sheet after an outcome
+sheet-claims : (s : Sheet) (o : Outcome Sheet) → BufferClaims (λ (s′ : Sheet). s′) s (afterwards s o) o
+sheet-claims s o = record { kept = λ r e. rw e; written = λ s′ e. rw e }
+
+-- the number that the second call tells
+number-refused : (o : Outcome (List (List ℕ))) (r : Refusal) → o ≡ refused r → stretchNumber o ≡ r .number
+number-refused o r e = rw e
+
+-- it is 0 where the stretch is given
+number-given : (o : Outcome (List (List ℕ))) (part : List (List ℕ)) → o ≡ given part → stretchNumber o ≡ 0
+number-given o part e = rw e
+
+-- a layout is not read of a job that no reading gives
+layout-not-ours : (l : Lent) (text : List ℕ) (room : ℕ) → lentWell l ≡ false
+    → readLayoutCall l text room ≡ refused (record { number = notOurs; first = 0; second = 0 })
+unfolding readLayoutCall unless
+layout-not-ours l text room e = rw e
+
+-- of another it is read line by line
+layout-by-line : (l : Lent) (text : List ℕ) (room : ℕ) → lentWell l ≡ true → readLayoutCall l text room ≡ readLayout (jobOf l) text room
+unfolding readLayoutCall unless
+layout-by-line l text room e = rw e
+
+-- ── the program ──
+
+-- by whether the input is too long
+program-test : (input : List ℕ) (t : Bool)
+    → elim t as (λ _. List ℕ) [
+      | true ↦ refusalText (record { number = wrongLength; first = 0; second = 0 })
+      | false ↦ printed (readJob input pieceBound areaBound)
+    ]
+    ≡ printed (andThen (unless (cause wrongLength t ∷ []) input) (λ text. readJob text pieceBound areaBound))
+unfolding unless
+program-test input true = refl
+program-test input false = refl
+
+-- the program refuses too long an input by 7, and else as the reader does
+program-clause : (input : List ℕ)
+    → programText input
+    ≡ printed (andThen (unless (cause wrongLength (ltb areaBound (length input)) ∷ []) input) (λ text. readJob text pieceBound areaBound))
+unfolding programText
+program-clause input = program-test input (ltb areaBound (length input))
+
+-- ── each call ──
+
+-- every public call keeps its clause
+pub call-clauses : CallClauses
+unfolding stripsCall stretchCall noFitCall rebuildCall pairCauses shareCall depthCall penaltyCall weightedSumCall layoutCauses
+    plainSumCall usedLengthCall searchCall descentCall guidedCall startCall writeLayoutCall checkCall freshCall sheetCauses
+    layCall layCauses withdrawCall withdrawCauses
+call-clauses =
+    record {
+      read-job = λ text m n. answers (readJob text m n);
+      read-job-table = λ text table n. leaving-claims _ table _;
+      read-job-pixels = λ text m pixels. leaving-claims _ pixels _;
+      strips = λ l ts lent. unless-claims _ _;
+      strips-stores = λ l ts lent. leaving-claims _ lent _;
+      stretch = λ l ts lent i d. unless-claims _ _;
+      stretch-part = λ l ts lent i d. leaving-claims _ [] _;
+      stretch-refusal = λ l ts lent i d. number-refused _;
+      stretch-no-refusal = λ l ts lent i d. number-given _;
+      no-fit = λ d l p q offset room. unless-claims _ _;
+      no-fit-runs = λ d l p q offset before. leaving-claims _ before _;
+      rebuild = λ d columns rows es room. unless-claims _ _;
+      rebuild-pixels = λ d columns rows es before. leaving-claims _ before _;
+      shared-pixel-test = λ l es i k. unless-claims _ _;
+      depth = λ d l es i k. unless-claims _ _;
+      penalty = λ l es i k. unless-claims _ _;
+      weighted-sum = λ l es ws. unless-claims _ _;
+      plain-sum = λ l es. unless-claims _ _;
+      used-length = λ l es. unless-claims _ _;
+      line-search = λ l es ws i t line. unless-claims _ _;
+      descent = λ l es ws budget. unless-claims _ _;
+      descent-layout = λ l es ws budget. leaving-claims _ es _;
+      guided-run = λ l es ws count budget. unless-claims _ _;
+      guided-run-layout = λ l es ws count budget. leaving-claims _ es _;
+      guided-run-weights = λ l es ws count budget. leaving-claims _ ws _;
+      start-layout = λ l room. unless-claims _ _;
+      start-layout-buffer = λ l before. leaving-claims _ before _;
+      write-layout = λ l es room. unless-claims _ _;
+      write-layout-text = λ l es before. leaving-claims _ before _;
+      read-layout = λ l text room. answers (readLayoutCall l text room);
+      read-layout-not-ours = layout-not-ours;
+      read-layout-by-line = layout-by-line;
+      read-layout-buffer = λ l text before. leaving-claims _ before _;
+      check = λ l es. unless-claims _ _;
+      fresh-sheet = λ l room. unless-claims _ _;
+      fresh-sheet-counts = λ l before. leaving-claims _ before _;
+      lays = λ l s i p. unless-claims _ _;
+      lay-sheet = λ l s i p. sheet-claims s _;
+      lay-counts = λ l s i p. leaving-claims _ (s .counts) _;
+      withdraws = λ l s i. unless-claims _ _;
+      withdraw-sheet = λ l s i. sheet-claims s _;
+      withdraw-counts = λ l s i. leaving-claims _ (s .counts) _;
+      program = program-clause;
+    }
