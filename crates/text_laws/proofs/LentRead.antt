@@ -19,7 +19,7 @@ use Rattle.model.specs.JobText.{readJob}
 use Rattle.text_laws.proofs.Store.{start-end, in-box, tight-agree}
 use Rattle.text_laws.proofs.LentFacts.{Facts, facts, well}
 use Rattle.text_laws.proofs.JobRead.{sidesInRange, sides-some, job-read-well}
-use Rattle.text_laws.proofs.JobWriting.{entryNumbers, jobText, entriesFrom, exactly}
+use Rattle.text_laws.specs.JobWriting.{entryNumbers, jobText, entriesFrom, exactly}
 use Rattle.text_laws.proofs.JobReadBack.{job-read-back}
 
 -- the entries from number i on

@@ -3,9 +3,11 @@ pub mod Ahead
 pub mod Numbers
 pub mod Fields
 pub mod Outcomes
+pub mod Spelling
 pub mod Entries
 pub mod LayoutRead
 pub mod LayoutReadBack
+pub mod LayoutExact
 pub mod Store
 pub mod LentFacts
 pub mod JobRead
