@@ -18,6 +18,9 @@ use Rattle.model.specs.Buffer.{isTurn, turnOf, entryOf, placementOf}
 use Rattle.model.specs.Text.{threeFields, fourFields, lineAt, lineText, field}
 use Rattle.model.specs.LayoutText.{layoutWord, atWord, placementText, placementsText, sheetNumbers, layoutText, PlacementLine, asPlacementLine, layoutLineCauses, placementCauses, layoutLine, placementLine, placementsAt, readLayout}
 use Rattle.model.proofs.Tests.{and-left, and-right}
+use Rattle.text_laws.specs.Exact.{LayoutWritten}
+use Rattle.text_laws.proofs.LayoutRead.{Placed, AllPlaced, layout-read-placed}
+use Rattle.text_laws.proofs.LayoutReadBack.{layout-read-back}
 use Rattle.text_laws.proofs.Outcomes.{Unless, given-unless, given-before, given-formed}
 use Rattle.text_laws.proofs.Entries.{entry-written-back}
 use Rattle.text_laws.proofs.Spelling.{Spells, spells-none, spells-then, spells-same, spells-whole, LineRead, line-spelled, three-fields, four-fields}
@@ -95,3 +98,23 @@ layout-only-text j text layoutLength v e =
     (spells-then (layout-line-spelled j text (b .value) (b .gives))
     (placements-spelled j text (j .count) 0 (b .value) 2 (b′ .value) (b′ .gives)))
     refl (ap (layoutText j) (u .same)))
+
+-- reading gives a layout exactly where the text is its text, it is placed whole and the buffer has its length
+pub layout-read-exactly : (j : Job) → j .rows ≤ rowBound → j .columns ≤ columnBound → j .count ≤ pieceBound
+    → (text : List ℕ) (layoutLength : ℕ) (v : Layout) → (readLayout j text layoutLength ≡ given v) ↔ LayoutWritten j text layoutLength v
+layout-read-exactly j hr hc hn text layoutLength v = (
+  (λ e.
+      let r = layout-read-placed j text layoutLength v e in
+      let all : AllPlaced j 0 (j .count) v = r .1 in
+      let placed : (i : ℕ) → i < j .count → Placed j i (placeOf v i) = λ i l. rw zero-add at (all .placed i l) in
+      record {
+        written = layout-only-text j text layoutLength v e;
+        size = all .size;
+        turns = λ i l. placed i l .turn;
+        within = λ i l. placed i l .within;
+        room = r .0;
+      }),
+  (λ w.
+      rw (w .written, w .room)
+      (layout-read-back j v hr hc hn (w .size) (λ i l. record { turn = w .turns i l; within = w .within i l }))),
+)

@@ -13,5 +13,6 @@ pub mod LentFacts
 pub mod JobRead
 pub mod JobWriting
 pub mod JobReadBack
+pub mod JobExact
 pub mod LentRead
 pub mod Demand1Text

@@ -62,6 +62,11 @@ pub spells-none : (text : List ℕ) (p : ℕ) → Spells text p p []
 unfolding standsAt
 spells-none text p = record { next = sym (add-zero p); stands = refl }
 
+-- one byte
+pub spells-byte : (text : List ℕ) (p c : ℕ) → byte text p ≡ c → Spells text p (suc p) (c ∷ [])
+unfolding standsAt
+spells-byte text p c h = record { next = omega arith; stands = stands-cons c [] text p h refl }
+
 -- one after the other
 pub spells-then : {text : List ℕ} {p q r : ℕ} {ds es : List ℕ} → Spells text p q ds → Spells text q r es → Spells text p r (ds ++ es)
 spells-then {text} {p} {q} {r} {ds} {es} a b =
