@@ -4,10 +4,13 @@ pub mod Numbers
 pub mod Fields
 pub mod Outcomes
 pub mod Spelling
+pub mod LineCounts
+pub mod Refused
 pub mod Entries
 pub mod LayoutRead
 pub mod LayoutReadBack
 pub mod LayoutExact
+pub mod LayoutRefused
 pub mod Store
 pub mod LentFacts
 pub mod JobRead

@@ -1,3 +1,7 @@
--- The words of the claims about the texts, beside the model's definitions: how a job is written as a text.
+-- The words of the claims about the texts, beside the model's definitions: how a job is written as a text, when a reader gives what,
+-- where a line begins, and the cause that each refusal of a reader has.
 pub mod JobWriting
 pub mod Exact
+pub mod LinePlaces
+pub mod JobRefusals
+pub mod LayoutRefusals
