@@ -17,5 +17,6 @@ pub mod JobRead
 pub mod JobWriting
 pub mod JobReadBack
 pub mod JobExact
+pub mod JobRefused
 pub mod LentRead
 pub mod Demand1Text
