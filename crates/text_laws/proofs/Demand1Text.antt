@@ -1,11 +1,26 @@
 -- Demand 1, the texts (document 01, 'Job text', 'Start, layout text, sheet' and 'When a call says no'): what reading gives and what
--- writing gives belong together. The last theorem says it whole; its parts are proved in JobRead, JobReadBack, LentRead and
--- LayoutReadBack. Assumes nothing.
+-- writing gives belong together, no other text is accepted, and no refusal comes without its cause. The last theorem says it
+-- whole; its parts are proved in JobRead, JobReadBack, LentRead, JobExact, JobRefused, LayoutReadBack, LayoutExact and LayoutRefused,
+-- and its words stand in specs/. Assumes nothing.
 use Rattle.text_laws.specs.Texts.{Demand1Text}
 use Rattle.text_laws.proofs.LayoutReadBack.{layout-read-back}
 use Rattle.text_laws.proofs.JobRead.{job-read-well}
 use Rattle.text_laws.proofs.LentRead.{lent-well-readable}
+use Rattle.text_laws.proofs.JobExact.{job-read-exactly}
+use Rattle.text_laws.proofs.JobRefused.{job-refusals}
+use Rattle.text_laws.proofs.LayoutExact.{layout-only-text, layout-read-exactly}
+use Rattle.text_laws.proofs.LayoutRefused.{layout-refusals}
 
 -- it holds
 pub demand1-text : Demand1Text
-demand1-text = record { read-passes = job-read-well; check-exactly = lent-well-readable; written-read = layout-read-back }
+demand1-text =
+    record {
+      read-passes = job-read-well;
+      check-exactly = lent-well-readable;
+      written-read = layout-read-back;
+      job-exactly = job-read-exactly;
+      layout-only = layout-only-text;
+      layout-exactly = layout-read-exactly;
+      job-refused = job-refusals;
+      layout-refused = layout-refusals;
+    }

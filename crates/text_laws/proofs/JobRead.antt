@@ -113,7 +113,7 @@ pub record LineWell (j : JobLine) (area l w o : ℕ) : Type 0 where
   pub areas : area + l * w ≤ areaBound
 
 -- a piece line that is given
-piece-line-read : (text : List ℕ) (j : JobLine) (i area p line : ℕ) (h : PieceLine) → pieceLine text j i area p line ≡ given h
+pub piece-line-read : (text : List ℕ) (j : JobLine) (i area p line : ℕ) (h : PieceLine) → pieceLine text j i area p line ≡ given h
     → LineWell j area (h .columns) (h .rows) (h .turns)
 unfolding pieceLine
 piece-line-read text j i area p line h e =

@@ -23,8 +23,8 @@ use Rattle.text_laws.proofs.Outcomes.{unless-given}
 use Rattle.text_laws.proofs.Store.{start-grows, start-end, in-box, tight-agree}
 use Rattle.text_laws.proofs.LentFacts.{Facts, facts}
 use Rattle.text_laws.proofs.JobRead.{AllBits}
-use Rattle.text_laws.specs.Texts.{entryNumbers, entriesFrom, exactly}
-use Rattle.text_laws.proofs.JobWriting.{part, part-length, part-at, part-append, part-front, mark, rowText, rowsText, pieceText, piecesText, jobText, pixelsFrom}
+use Rattle.text_laws.specs.JobWriting.{part, mark, rowText, rowsText, entryNumbers, pieceText, piecesText, jobText, entriesFrom, exactly}
+use Rattle.text_laws.proofs.JobWriting.{part-length, part-at, part-append, part-front, pixelsFrom}
 
 -- ── rows ──
 

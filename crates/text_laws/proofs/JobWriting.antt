@@ -1,53 +1,14 @@
--- A lent job written as a job text (document 01, 'Job text'), and the job with just the entries and pixel bytes that it needs. No call
--- writes a job; the text serves to show that every lent job that passes the check is one that reading gives. Assumes nothing.
-use mathlib.Core.Bool.{true, false}
-use mathlib.Core.List.{List, [], _∷_, _++_, map}
+-- Laws of the written job text (document 01, 'Job text'): parts of the pixel store, and the pixel bytes of pieces one after the other.
+-- Assumes nothing.
+use mathlib.Core.List.{List, [], _∷_, _++_}
 use mathlib.Core.Path.{_≡_, refl, sym, ap, _∙_}
 use Prim.Native.Nat.{ℕ, zero, suc, _+_, _*_, _≤_, _<_}
 use native.Mathlib.Nat.{add-zero, zero-add, suc-add}
 use native.Mathlib.Omega.{arith}
-use lib.Dec.{eqb}
 use lib.ListN.{length, getD, take}
 use lib.Seq.{ext-getD, getD-take, length-take-le}
 use Rattle.model.specs.Lent.{Lent, entryColumns, entryRows, pixelStart}
-use Rattle.model.specs.Text.{lineEnd, threeFields, fourFields, lineText}
-use Rattle.model.specs.JobText.{jobWord, pieceWord, rowWord}
-use Rattle.text_laws.specs.Texts.{entryNumbers}
-
--- n numbers of the list from place s on
-abbrev pub part : List ℕ → ℕ → ℕ → List ℕ
-part ks s zero = []
-part ks s (suc n) = getD ks s 0 ∷ part ks (suc s) n
-
--- the mark of a pixel byte
-abbrev pub mark : ℕ → ℕ
-mark b = elim (eqb b 1) [ true ↦ 35 | false ↦ 46 ]
-
--- a row line
-abbrev pub rowText : List ℕ → List ℕ
-rowText row = rowWord ++ (map mark row ++ (lineEnd ∷ []))
-
--- `left` row lines of l marks, from place s of the store on
-unfoldable pub rowsText : List ℕ → ℕ → ℕ → ℕ → List ℕ
-rowsText pixels l s zero = []
-rowsText pixels l s (suc left) = rowText (part pixels s l) ++ rowsText pixels l (s + l) left
-
--- the lines of piece i
-abbrev pub pieceText : Lent → ℕ → List ℕ
-pieceText k i =
-    lineText pieceWord fourFields (i ∷ entryNumbers (k .table) i)
-    ++ rowsText (k .pixels) (entryColumns (k .table) i) (pixelStart (k .table) i) (entryRows (k .table) i)
-
--- the lines of `left` pieces from number i on
-unfoldable pub piecesText : Lent → ℕ → ℕ → List ℕ
-piecesText k i zero = []
-piecesText k i (suc left) = pieceText k i ++ piecesText k (suc i) left
-
--- the text of a lent job
-unfoldable pub jobText : Lent → List ℕ
-jobText k = lineText jobWord threeFields (k .rows ∷ k .columns ∷ k .count ∷ []) ++ piecesText k 0 (k .count)
-
--- ── the job that the text gives ──
+use Rattle.text_laws.specs.JobWriting.{part}
 
 -- the pixel bytes of `left` pieces from number i on
 abbrev pub pixelsFrom : Lent → ℕ → ℕ → List ℕ

@@ -14,12 +14,12 @@ use lib.ListN.{length, getD, take}
 use lib.Seq.{getD-take}
 use Rattle.model.specs.Piece.{tight}
 use Rattle.model.specs.Lent.{Lent, entryColumns, entryRows, entryTurns, pixelStart, entryInRange, entryFits, lentShape, lentWell}
-use Rattle.text_laws.specs.Texts.{Readable, entryNumbers, entriesFrom, exactly}
+use Rattle.text_laws.specs.Texts.{Readable}
 use Rattle.text_laws.proofs.Store.{start-end, in-box, tight-agree}
 use Rattle.text_laws.proofs.LentFacts.{Facts, facts, well}
 use Rattle.text_laws.specs.Limits.{sidesInRange}
 use Rattle.text_laws.proofs.JobRead.{sides-some, job-read-well}
-use Rattle.text_laws.proofs.JobWriting.{jobText}
+use Rattle.text_laws.specs.JobWriting.{entryNumbers, jobText, entriesFrom, exactly}
 use Rattle.text_laws.proofs.JobReadBack.{job-read-back}
 
 -- the entries from number i on

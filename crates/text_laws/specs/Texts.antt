@@ -1,38 +1,23 @@
 -- What demand 1 says of texts (document 01, 'Job text' and 'Start, layout text, sheet'): which lent jobs reading gives, and what is read
 -- back. The theorem is `demand1-text` in proofs/Demand1Text. Assumes nothing.
 use mathlib.Core.Bool.{true}
-use mathlib.Core.List.{List, [], _∷_}
+use mathlib.Core.List.{List}
 use mathlib.Core.Logic.{_↔_}
 use mathlib.Core.Path.{_≡_}
-use Prim.Native.Nat.{ℕ, zero, suc, _≤_, _<_}
-use lib.ListN.{take, length}
-use Rattle.model.specs.Lent.{entryColumns, entryRows, entryTurns, Lent, pixelStart, rowBound, columnBound, pieceBound, lentWell}
-use Rattle.model.specs.Refusal.{given}
+use Prim.Native.Nat.{ℕ, _≤_, _<_}
+use lib.ListN.{length}
+use Rattle.model.specs.Lent.{Lent, pixelStart, rowBound, columnBound, pieceBound, lentWell}
+use Rattle.model.specs.Refusal.{refused, given}
 use Rattle.model.specs.JobText.{readJob}
 use Rattle.model.specs.Piece.{Shape}
 use Rattle.model.specs.Layout.{Job, allowed, inside, Layout, placeOf}
 use Rattle.model.specs.declared.Placement.{Placement}
 use Rattle.model.specs.LayoutText.{layoutText, readLayout}
-
--- the numbers l, w, o of entry i
-abbrev pub entryNumbers : List (List ℕ) → ℕ → List ℕ
-entryNumbers table i = entryColumns table i ∷ entryRows table i ∷ entryTurns table i ∷ []
-
--- `left` entries from number i on
-abbrev pub entriesFrom : List (List ℕ) → ℕ → ℕ → List (List ℕ)
-entriesFrom table i zero = []
-entriesFrom table i (suc left) = entryNumbers table i ∷ entriesFrom table (suc i) left
-
--- the lent job without what lies beyond it in its buffers
-abbrev pub exactly : Lent → Lent
-exactly k =
-    record {
-      rows = k .rows;
-      columns = k .columns;
-      count = k .count;
-      table = entriesFrom (k .table) 0 (k .count);
-      pixels = take (pixelStart (k .table) (k .count)) (k .pixels);
-    }
+use Rattle.model.specs.declared.Refusal.{Refusal}
+use Rattle.text_laws.specs.JobWriting.{exactly}
+use Rattle.text_laws.specs.Exact.{JobWritten, LayoutWritten}
+use Rattle.text_laws.specs.JobRefusals.{JobRefusalClaims}
+use Rattle.text_laws.specs.LayoutRefusals.{LayoutRefusalClaims}
 
 -- W, L, n, n entries and box pixels are there, and reading some text gives them
 pub record Readable (k : Lent) : Type 0 where
@@ -65,3 +50,19 @@ pub record Demand1Text : Type 0 where
   pub written-read : (j : Job) (v : Layout) → j .rows ≤ rowBound → j .columns ≤ columnBound → j .count ≤ pieceBound
       → length v ≡ j .count → ((i : ℕ) → i < j .count → Placed j i (placeOf v i))
       → readLayout j (layoutText j v) (j .count) ≡ given v
+  -- reading gives a job exactly where the text is the job's text, the job passes the check and the buffers suffice
+  pub job-exactly : (text : List ℕ) (tableLength pixelsLength : ℕ) (k : Lent)
+      → (readJob text tableLength pixelsLength ≡ given k) ↔ JobWritten text tableLength pixelsLength k
+  -- a text that is read as a layout is that layout's text, whatever the job
+  pub layout-only : (j : Job) (text : List ℕ) (layoutLength : ℕ) (v : Layout) → readLayout j text layoutLength ≡ given v
+      → text ≡ layoutText j v
+  -- reading gives a layout of a job in the bounds exactly where the text is the layout's text, every placement is inside in an
+  -- allowed turn and the buffer has the layout's length
+  pub layout-exactly : (j : Job) → j .rows ≤ rowBound → j .columns ≤ columnBound → j .count ≤ pieceBound
+      → (text : List ℕ) (layoutLength : ℕ) (v : Layout) → (readLayout j text layoutLength ≡ given v) ↔ LayoutWritten j text layoutLength v
+  -- a refusal of reading a job has its cause on the line that it names, and that line begins where the line ends before it say
+  pub job-refused : (text : List ℕ) (tableLength pixelsLength : ℕ) (r : Refusal) → readJob text tableLength pixelsLength ≡ refused r
+      → JobRefusalClaims text tableLength pixelsLength r
+  -- so has a refusal of reading a layout
+  pub layout-refused : (j : Job) (text : List ℕ) (layoutLength : ℕ) (r : Refusal) → readLayout j text layoutLength ≡ refused r
+      → LayoutRefusalClaims j text layoutLength r

@@ -1,0 +1,355 @@
+-- Document 01, 'Job text' and 'When a call says no': a text that is read as a job is just the text of that job, so no other text is
+-- accepted. Line by line: a line that is read is written there in its one spelling; the rows of a piece are its part of the pixel
+-- store; nothing follows the last line. Assumes nothing.
+use mathlib.Core.Bool.{Bool, true, false, not, _&&_}
+use mathlib.Core.List.{List, [], _∷_, _++_, map, append-assoc}
+use mathlib.Core.Path.{_≡_, refl, sym, ap, ap₂, subst, _∙_}
+use mathlib.Core.Logic.{_↔_}
+use Prim.Native.Nat.{ℕ, zero, suc, _+_, _*_, _%_, _≤_, _<_}
+use native.Mathlib.Nat.{add-zero, zero-add, suc-mul, zero-mul, mul-comm}
+use native.Mathlib.Omega.{arith}
+use lib.Dec.{eqb, leb}
+use lib.ListN.{length, getD, length-append, List·getD-append}
+use lib.Seq.{getD-append-add}
+use borrow.Author.Tests.{not-false, eqb-true}
+use Rattle.model.specs.Refusal.{Outcome, given}
+use Rattle.model.specs.Lent.{Lent, sideBound, turnsBound, upTo, entryColumns, entryRows, entryTurns, pixelStart, lentWell}
+use Rattle.model.specs.Text.{byte, lineEnd, Reading, wrong, got, onward, after, threeFields, fourFields, lineAt, lineText, field}
+use Rattle.model.specs.JobText.{jobWord, pieceWord, rowWord, JobLine, asJobLine, jobLineCauses, jobLine, PieceLine, asPieceLine, pieceInRange, pieceLineCauses, pieceLine, markAt, marksAt, rowAt, Rows, rowsAt, PieceText, rowsCauses, asPieceText, pieceAt, Pieces, noPieces, withPiece, piecesAt, asLent, bufferCauses, readJob}
+use Rattle.model.proofs.Tests.{and-left}
+use Rattle.text_laws.specs.JobWriting.{part, mark, rowText, rowsText, entryNumbers, pieceText, piecesText, jobText, exactly}
+use Rattle.text_laws.specs.Exact.{JobWritten}
+use Rattle.text_laws.specs.Outcomes.{Unless}
+use Rattle.text_laws.proofs.Outcomes.{given-unless, given-before, given-formed, wrong-got, Onward, got-onward}
+use Rattle.text_laws.proofs.LentFacts.{Facts, facts}
+use Rattle.text_laws.proofs.JobRead.{JustRead, job-read-just, job-read-well}
+use Rattle.text_laws.proofs.JobReadBack.{job-read-back}
+use Rattle.text_laws.proofs.Spelling.{Spells, spells-none, spells-byte, spells-then, spells-same, spells-whole, Passed, passed, LineRead, line-spelled, three-fields, four-fields}
+
+-- ── rows ──
+
+mark-step : (text : List ℕ) (p m q : ℕ) (pixel none : Bool) → eqb (byte text p) 35 ≡ pixel → eqb (byte text p) 46 ≡ none
+    → elim pixel as (λ _. Reading ℕ) [ true ↦ got 1 (suc p) | false ↦ elim none as (λ _. Reading ℕ) [ true ↦ got 0 (suc p) | false ↦ wrong ] ] ≡ got m q
+    → Spells text p q (mark m ∷ [])
+mark-step text p m q true none h k e =
+    let value : _≡_ {A = ℕ} 1 m = cc in
+    let next : suc p ≡ q = cc in
+    spells-same (spells-byte text p 35 (eqb-true (byte text p) 35 h)) next (ap (λ (b : ℕ). mark b ∷ []) value)
+mark-step text p m q false true h k e =
+    let value : _≡_ {A = ℕ} 0 m = cc in
+    let next : suc p ≡ q = cc in
+    spells-same (spells-byte text p 46 (eqb-true (byte text p) 46 k)) next (ap (λ (b : ℕ). mark b ∷ []) value)
+mark-step text p m q false false h k e = absurd (wrong-got e)
+
+-- a mark that is read
+mark-spelled : (text : List ℕ) (p m q : ℕ) → markAt text p ≡ got m q → Spells text p q (mark m ∷ [])
+unfolding markAt
+mark-spelled text p m q e = mark-step text p m q (eqb (byte text p) 35) (eqb (byte text p) 46) refl refl e
+
+-- marks that are read
+record MarksRead (text : List ℕ) (left p q : ℕ) (ms : List ℕ) : Type 0 where
+  size : length ms ≡ left
+  spells : Spells text p q (map mark ms)
+
+marks-spelled : (text : List ℕ) (left p : ℕ) (ms : List ℕ) (q : ℕ) → marksAt text left p ≡ got ms q → MarksRead text left p q ms
+unfolding marksAt
+marks-spelled text zero p ms q e =
+    let value : [] ≡ ms = cc in
+    let next : p ≡ q = cc in
+    rw (← value, ← next) (record { size = refl; spells = spells-none text p })
+marks-spelled text (suc left) p ms q e =
+    let o = got-onward (markAt text p) _ ms q e in
+    let o′ = got-onward (marksAt text left (o .next)) _ ms q (o .goes) in
+    let g : _≡_ {A = Reading (List ℕ)} (got (o .value ∷ o′ .value) (o′ .next)) (got ms q) = o′ .goes in
+    let value : o .value ∷ o′ .value ≡ ms = cc in
+    let next : o′ .next ≡ q = cc in
+    let later : MarksRead text left (o .next) (o′ .next) (o′ .value) = marks-spelled text left (o .next) (o′ .value) (o′ .next) (o′ .reads) in
+    record {
+      size = ap length (sym value) ∙ ap suc (later .size);
+      spells = spells-same (spells-then (mark-spelled text p (o .value) (o .next) (o .reads)) (later .spells)) next (ap (map mark) value);
+    }
+
+-- a row line that is read has l marks and is written there
+pub record RowRead (text : List ℕ) (l p q : ℕ) (ms : List ℕ) : Type 0 where
+  pub size : length ms ≡ l
+  pub spells : Spells text p q (rowText ms)
+
+-- it is so
+pub row-spelled : (text : List ℕ) (l p : ℕ) (ms : List ℕ) (q : ℕ) → rowAt text l p ≡ got ms q → RowRead text l p q ms
+unfolding rowAt
+row-spelled text l p ms q e =
+    let ending : List ℕ → ℕ → Reading (List ℕ) = λ ms′ r. after (lineEnd ∷ []) text r (λ n. got ms′ n) in
+    let w = passed rowWord text p (λ r. onward (marksAt text l r) ending) ms q e in
+    let o : Onward (marksAt text l (p + length rowWord)) ending ms q = got-onward (marksAt text l (p + length rowWord)) ending ms q (w .goes) in
+    let w′ = passed (lineEnd ∷ []) text (o .next) (λ n. got (o .value) n) ms q (o .goes) in
+    let g : _≡_ {A = Reading (List ℕ)} (got (o .value) (o .next + 1)) (got ms q) = w′ .goes in
+    let value : o .value ≡ ms = cc in
+    let next : o .next + 1 ≡ q = cc in
+    let m : MarksRead text l (p + length rowWord) (o .next) (o .value) =
+    marks-spelled text l (p + length rowWord) (o .value) (o .next) (o .reads) in
+    record {
+      size = ap length (sym value) ∙ m .size;
+      spells = spells-same (spells-then (w .spells) (spells-then (m .spells) (w′ .spells))) next (ap rowText value);
+    }
+
+-- parts of stores that agree
+part-agree : (xs ys : List ℕ) (s t n : ℕ) → ((i : ℕ) → i < n → getD xs (s + i) 0 ≡ getD ys (t + i) 0) → part xs s n ≡ part ys t n
+part-agree xs ys s t zero h = refl
+part-agree xs ys s t (suc n) h =
+    let first : getD xs s 0 ≡ getD ys t 0 = simp add-zero at (h 0 (omega arith)) in
+    ap₂ (λ (b : ℕ) (l : List ℕ). b ∷ l) first
+    (part-agree xs ys (suc s) (suc t) n
+    (λ i l.
+    let x : suc s + i ≡ s + suc i = omega arith in
+    let y : suc t + i ≡ t + suc i = omega arith in
+    rw (x, y) (h (suc i) (omega arith))))
+
+-- the rows of stores that agree
+rows-agree : (xs ys : List ℕ) (l s t left : ℕ) → ((i : ℕ) → i < left * l → getD xs (s + i) 0 ≡ getD ys (t + i) 0)
+    → rowsText xs l s left ≡ rowsText ys l t left
+unfolding rowsText
+rows-agree xs ys l s t zero h = refl
+rows-agree xs ys l s t (suc left) h =
+    let size : suc left * l ≡ left * l + l = suc-mul left l in
+    ap₂ (λ (a b : List ℕ). a ++ b) (ap rowText (part-agree xs ys s t l (λ i b. h i (omega arith))))
+    (rows-agree xs ys l (s + l) (t + l) left
+    (λ i b.
+    let x : s + l + i ≡ s + (l + i) = omega arith in
+    let y : t + l + i ≡ t + (l + i) = omega arith in
+    rw (x, y) (h (l + i) (omega arith))))
+
+-- the front of a list is its part from 0 on
+part-whole : (ms rest : List ℕ) (l : ℕ) → length ms ≡ l → part (ms ++ rest) 0 l ≡ ms
+part-whole [] rest zero h = refl
+part-whole [] rest (suc l) h = absurd (omega arith)
+part-whole (m ∷ ms) rest zero h = absurd (omega arith)
+part-whole (m ∷ ms) rest (suc l) h =
+    ap (λ (k : List ℕ). m ∷ k)
+    (part-agree (m ∷ (ms ++ rest)) (ms ++ rest) 1 0 l
+    (λ i b.
+    let x : 1 + i ≡ suc i = omega arith in
+    let y : 0 + i ≡ i = omega arith in
+    rw (x, y))
+    ∙ part-whole ms rest l (omega arith))
+
+-- row lines that are read
+pub record RowsRead (text : List ℕ) (l left p : ℕ) (r : Rows) : Type 0 where
+  pub size : length (r .pixels) ≡ left * l
+  pub spells : Spells text p (r .next) (rowsText (r .pixels) l 0 left)
+
+-- a row in front of the others
+rows-in-front : (l left : ℕ) (ms rest : List ℕ) → length ms ≡ l → rowsText (ms ++ rest) l 0 (suc left) ≡ rowText ms ++ rowsText rest l 0 left
+unfolding rowsText
+rows-in-front l left ms rest h =
+    ap₂ (λ (a b : List ℕ). a ++ b) (ap rowText (part-whole ms rest l h))
+    (rows-agree (ms ++ rest) rest l (0 + l) 0 left
+    (λ i b.
+    let x : 0 + l + i ≡ length ms + i = omega arith in
+    let y : 0 + i ≡ i = omega arith in
+    rw (x, y) (getD-append-add ms rest i 0)))
+
+-- they are written there
+pub rows-spelled : (text : List ℕ) (l left p line : ℕ) (r : Rows) → rowsAt text l left p line ≡ given r → RowsRead text l left p r
+unfolding rowsAt rowsText
+rows-spelled text l zero p line r e =
+    let z : _≡_ {A = Rows} (record { pixels = []; next = p }) r = cc in
+    rw (← z) (record { size = sym (zero-mul l); spells = spells-none text p })
+rows-spelled text l (suc left) p line r e =
+    let f = given-formed line (rowAt text l p) _ r e in
+    let b = given-before (rowsAt text l left (f .next) (suc line)) _ r (f .goes) in
+    let first : RowRead text l p (f .next) (f .value) = row-spelled text l p (f .value) (f .next) (f .reads) in
+    let later : RowsRead text l left (f .next) (b .value) = rows-spelled text l left (f .next) (suc line) (b .value) (b .gives) in
+    let whole : Rows = record { pixels = f .value ++ b .value .pixels; next = b .value .next } in
+    let g : _≡_ {A = Outcome Rows} (given whole) (given r) = b .goes in
+    let z : whole ≡ r = cc in
+    let spelled : Spells text p (b .value .next) (rowsText (f .value ++ b .value .pixels) l 0 (suc left)) =
+    spells-same (spells-then (first .spells) (later .spells)) refl (sym (rows-in-front l left (f .value) (b .value .pixels) (first .size))) in
+    let all : RowsRead text l (suc left) p whole =
+    record {
+      size = length-append (f .value) (b .value .pixels) ∙ (let h = first .size in let k = later .size in omega (arith, suc-mul left l));
+      spells = spelled;
+    } in
+    subst (RowsRead text l (suc left) p) z all
+
+-- ── a piece ──
+
+-- the numbers of a piece line
+abbrev pub lineNumbers : ℕ → ℕ → ℕ → ℕ → List ℕ
+lineNumbers i l w o = i ∷ l ∷ w ∷ o ∷ []
+
+-- a piece line that is given is written with the piece's number
+pub piece-line-spelled : (text : List ℕ) (j : JobLine) (i area p line : ℕ) (h : PieceLine) → pieceLine text j i area p line ≡ given h
+    → Spells text p (h .next) (lineText pieceWord fourFields (lineNumbers i (h .columns) (h .rows) (h .turns)))
+unfolding pieceLine
+piece-line-spelled text j i area p line h e =
+    let f = given-formed line (lineAt pieceWord fourFields text p) _ h e in
+    let ks : List ℕ = f .value in
+    let k : PieceLine = asPieceLine ks (f .next) in
+    let u : Unless (pieceLineCauses line j i area k) k h = given-unless (pieceLineCauses line j i area k) k h (f .goes) in
+    let r : LineRead pieceWord fourFields text p (f .next) ks = line-spelled pieceWord fourFields text p ks (f .next) (f .reads) in
+    let a : Bool = eqb (k .number) i in
+    let b : Bool = upTo sideBound (k .columns) in
+    let c : Bool = upTo sideBound (k .rows) in
+    let d : Bool = eqb (k .turns % 2) 1 in
+    let t : Bool = leb (k .turns) turnsBound in
+    let ranges : (a && b && c && d && t) ≡ true = not-false (a && b && c && d && t) (u .none .0) in
+    let number : k .number ≡ i =
+    eqb-true (k .number) i (and-left a b (and-left (a && b) c (and-left (a && b && c) d (and-left (a && b && c && d) t ranges)))) in
+    let numbers : ks ≡ lineNumbers i (k .columns) (k .rows) (k .turns) =
+    sym (four-fields ks (r .size)) ∙ ap (λ (n : ℕ). n ∷ k .columns ∷ k .rows ∷ k .turns ∷ []) number in
+    let spelled : Spells text p (k .next) (lineText pieceWord fourFields (lineNumbers i (k .columns) (k .rows) (k .turns))) =
+    spells-same (r .spells) refl (ap (lineText pieceWord fourFields) numbers) in
+    rw (← u .same) spelled
+
+-- the lines of a piece that is given
+record PieceRead (text : List ℕ) (i p : ℕ) (h : PieceText) : Type 0 where
+  size : length (h .pixels) ≡ h .rows * h .columns
+  spells : Spells text p (h .next)
+      (lineText pieceWord fourFields (lineNumbers i (h .columns) (h .rows) (h .turns)) ++ rowsText (h .pixels) (h .columns) 0 (h .rows))
+
+-- they are written there
+piece-spelled : (text : List ℕ) (j : JobLine) (i area p line : ℕ) (h : PieceText) → pieceAt text j i area p line ≡ given h → PieceRead text i p h
+unfolding pieceAt
+piece-spelled text j i area p line h e =
+    let b = given-before (pieceLine text j i area p line) _ h e in
+    let k : PieceLine = b .value in
+    let b′ = given-before (rowsAt text (k .columns) (k .rows) (k .next) (suc line)) _ h (b .goes) in
+    let r : Rows = b′ .value in
+    let u : Unless (rowsCauses line k r) (asPieceText k r) h = given-unless (rowsCauses line k r) (asPieceText k r) h (b′ .goes) in
+    let rows : RowsRead text (k .columns) (k .rows) (k .next) r =
+    rows-spelled text (k .columns) (k .rows) (k .next) (suc line) r (b′ .gives) in
+    let all : PieceRead text i p (asPieceText k r) =
+    record { size = rows .size; spells = spells-then (piece-line-spelled text j i area p line k (b .gives)) (rows .spells) } in
+    subst (PieceRead text i p) (u .same) all
+
+-- ── the pieces ──
+
+-- the pieces of a job from number i on are those that are read
+record Continues (k : Lent) (i left : ℕ) (r : Pieces) : Type 0 where
+  entries : (m : ℕ) → m < left → getD (k .table) (i + m) [] ≡ getD (r .table) m []
+  bytes : (m : ℕ) → m < length (r .pixels) → getD (k .pixels) (pixelStart (k .table) i + m) 0 ≡ getD (r .pixels) m 0
+
+-- the lines of one piece in the job
+piece-in-job : (k : Lent) (i : ℕ) (h : PieceText) (rest : List ℕ) → length (h .pixels) ≡ h .rows * h .columns
+    → getD (k .table) i [] ≡ h .columns ∷ h .rows ∷ h .turns ∷ []
+    → ((m : ℕ) → m < length (h .pixels ++ rest) → getD (k .pixels) (pixelStart (k .table) i + m) 0 ≡ getD (h .pixels ++ rest) m 0)
+    → lineText pieceWord fourFields (lineNumbers i (h .columns) (h .rows) (h .turns)) ++ rowsText (h .pixels) (h .columns) 0 (h .rows)
+    ≡ pieceText k i
+piece-in-job k i h rest size entry bytes =
+    let l : entryColumns (k .table) i ≡ h .columns = ap (λ (e : List ℕ). getD e 0 0) entry in
+    let w : entryRows (k .table) i ≡ h .rows = ap (λ (e : List ℕ). getD e 1 0) entry in
+    let o : entryTurns (k .table) i ≡ h .turns = ap (λ (e : List ℕ). getD e 2 0) entry in
+    let rows : rowsText (h .pixels) (h .columns) 0 (h .rows) ≡ rowsText (k .pixels) (h .columns) (pixelStart (k .table) i) (h .rows) =
+    rows-agree (h .pixels) (k .pixels) (h .columns) 0 (pixelStart (k .table) i) (h .rows)
+    (λ m b.
+    let within : m < length (h .pixels) = omega arith in
+    ap (λ (n : ℕ). getD (h .pixels) n 0) (zero-add m)
+    ∙ sym (List·getD-append (h .pixels) rest 0 m within)
+    ∙ sym (bytes m (let a = length-append (h .pixels) rest in omega arith))) in
+    rw (l, w, o, rows)
+
+-- the pieces that are given reach to the end of the text and are those of the job
+pieces-spelled : (text : List ℕ) (j : JobLine) (k : Lent) (left i area p line : ℕ) (r : Pieces) → Continues k i left r
+    → piecesAt text j left i area p line ≡ given r → Spells text p (length text) (piecesText k i left)
+unfolding piecesAt piecesText pixelStart
+pieces-spelled text j k zero i area p line r c e =
+    let u : Unless _ noPieces r = given-unless _ noPieces r e in
+    let end : p ≡ length text = eqb-true p (length text) (not-false (eqb p (length text)) (u .none .0)) in
+    spells-same (spells-none text p) end refl
+pieces-spelled text j k (suc left) i area p line r c e =
+    let b = given-before (pieceAt text j i area p line) _ r e in
+    let h : PieceText = b .value in
+    let b′ = given-before (piecesAt text j left (suc i) (area + h .columns * h .rows) (h .next) (suc (line + h .rows))) _ r (b .goes) in
+    let r′ : Pieces = b′ .value in
+    let g : _≡_ {A = Outcome Pieces} (given (withPiece h r′)) (given r) = b′ .goes in
+    let z : withPiece h r′ ≡ r = cc in
+    let c′ : Continues k i (suc left) (withPiece h r′) = subst (Continues k i (suc left)) (sym z) c in
+    let first : PieceRead text i p h = piece-spelled text j i area p line h (b .gives) in
+    let entry : getD (k .table) i [] ≡ h .columns ∷ h .rows ∷ h .turns ∷ [] = rw add-zero at (c′ .entries 0 (omega arith)) in
+    let here = piece-in-job k i h (r′ .pixels) (first .size) entry (c′ .bytes) in
+    let l : entryColumns (k .table) i ≡ h .columns = ap (λ (e : List ℕ). getD e 0 0) entry in
+    let w : entryRows (k .table) i ≡ h .rows = ap (λ (e : List ℕ). getD e 1 0) entry in
+    let start : pixelStart (k .table) (suc i) ≡ pixelStart (k .table) i + length (h .pixels) =
+    let a : entryColumns (k .table) i * entryRows (k .table) i ≡ h .columns * h .rows = rw (l, w) in
+    let s = first .size in
+    omega (arith, mul-comm (h .rows) (h .columns)) in
+    let later : Continues k (suc i) left r′ =
+    record {
+      entries = λ m b″. let x : suc i + m ≡ i + suc m = omega arith in rw x (c′ .entries (suc m) (omega arith));
+      bytes = λ m b″.
+          let x : pixelStart (k .table) (suc i) + m ≡ pixelStart (k .table) i + (length (h .pixels) + m) = omega arith in
+          ap (λ (n : ℕ). getD (k .pixels) n 0) x
+          ∙ c′ .bytes (length (h .pixels) + m) (let a = length-append (h .pixels) (r′ .pixels) in omega arith)
+          ∙ getD-append-add (h .pixels) (r′ .pixels) m 0;
+    } in
+    spells-then (spells-same (first .spells) refl here)
+    (pieces-spelled text j k left (suc i) (area + h .columns * h .rows) (h .next) (suc (line + h .rows)) r′ later (b′ .gives))
+
+-- ── the job ──
+
+-- the job line that is given is written there
+pub job-line-spelled : (text : List ℕ) (j : JobLine) → jobLine text ≡ given j
+    → Spells text 0 (j .next) (lineText jobWord threeFields (j .rows ∷ j .columns ∷ j .count ∷ []))
+unfolding jobLine
+job-line-spelled text j e =
+    let f = given-formed 1 (lineAt jobWord threeFields text 0) _ j e in
+    let ks : List ℕ = f .value in
+    let k : JobLine = asJobLine ks (f .next) in
+    let u : Unless (jobLineCauses k) k j = given-unless (jobLineCauses k) k j (f .goes) in
+    let r : LineRead jobWord threeFields text 0 (f .next) ks = line-spelled jobWord threeFields text 0 ks (f .next) (f .reads) in
+    let spelled : Spells text 0 (k .next) (lineText jobWord threeFields (k .rows ∷ k .columns ∷ k .count ∷ [])) =
+    spells-same (r .spells) refl (ap (lineText jobWord threeFields) (sym (three-fields ks (r .size)))) in
+    rw (← u .same) spelled
+
+-- a job line and pieces that are given make just the job's text
+pub pieces-only-text : (text : List ℕ) (j : JobLine) (r : Pieces) → jobLine text ≡ given j
+    → piecesAt text j (j .count) 0 0 (j .next) 2 ≡ given r → text ≡ jobText (asLent j r)
+unfolding jobText pixelStart
+pieces-only-text text j r e f =
+    let k : Lent = asLent j r in
+    let all : Continues k 0 (j .count) r =
+    record { entries = λ m b. rw zero-add; bytes = λ m b. ap (λ (n : ℕ). getD (r .pixels) n 0) (zero-add m) } in
+    spells-whole (spells-then (job-line-spelled text j e) (pieces-spelled text j k (j .count) 0 0 (j .next) 2 r all f))
+
+-- a text that is read as a job is the text of that job
+pub job-only-text : (text : List ℕ) (tableLength pixelsLength : ℕ) (k : Lent) → readJob text tableLength pixelsLength ≡ given k → text ≡ jobText k
+unfolding readJob
+job-only-text text tableLength pixelsLength k e =
+    let b = given-before (jobLine text) _ k e in
+    let j : JobLine = b .value in
+    let b′ = given-before (piecesAt text j (j .count) 0 0 (j .next) 2) _ k (b .goes) in
+    let r : Pieces = b′ .value in
+    let u : Unless (bufferCauses tableLength pixelsLength (asLent j r)) (asLent j r) k =
+    given-unless (bufferCauses tableLength pixelsLength (asLent j r)) (asLent j r) k (b′ .goes) in
+    rw (← u .same) (pieces-only-text text j r (b .gives) (b′ .gives))
+
+-- a job that is read is all that its buffers hold of it
+read-whole : (text : List ℕ) (tableLength pixelsLength : ℕ) (k : Lent) → readJob text tableLength pixelsLength ≡ given k → exactly k ≡ k
+read-whole text tableLength pixelsLength k e =
+    let just : JustRead tableLength pixelsLength k = job-read-just text tableLength pixelsLength k e in
+    let again : readJob (jobText k) tableLength pixelsLength ≡ given (exactly k) =
+    job-read-back k (job-read-well text tableLength pixelsLength k e) tableLength pixelsLength (just .entriesRoom)
+    (let b = just .bytes in let r = just .bytesRoom in omega arith) in
+    let same : _≡_ {A = Outcome Lent} (given (exactly k)) (given k) =
+    sym again ∙ ap (λ (t : List ℕ). readJob t tableLength pixelsLength) (sym (job-only-text text tableLength pixelsLength k e)) ∙ e in
+    cc
+
+-- reading gives a job exactly where the text is its text, it passes the check, nothing lies beyond it and the buffers suffice
+pub job-read-exactly : (text : List ℕ) (tableLength pixelsLength : ℕ) (k : Lent)
+    → (readJob text tableLength pixelsLength ≡ given k) ↔ JobWritten text tableLength pixelsLength k
+job-read-exactly text tableLength pixelsLength k = (
+  (λ e.
+      let just : JustRead tableLength pixelsLength k = job-read-just text tableLength pixelsLength k e in
+      record {
+        written = job-only-text text tableLength pixelsLength k e;
+        well = job-read-well text tableLength pixelsLength k e;
+        whole = read-whole text tableLength pixelsLength k e;
+        entriesRoom = just .entriesRoom;
+        bytesRoom = just .bytesRoom;
+      }),
+  (λ w.
+      let f : Facts k = facts k (w .well) in
+      rw (w .written)
+      (job-read-back k (w .well) tableLength pixelsLength (w .entriesRoom) (let s = f .store in let r = w .bytesRoom in omega arith)
+      ∙ ap (λ (l : Lent). given l) (w .whole))),
+)

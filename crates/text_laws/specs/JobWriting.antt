@@ -1,0 +1,66 @@
+-- A lent job written as a job text (document 01, 'Job text'), and the job with just the entries and pixel bytes that it needs. No call
+-- writes a job; the text says what a reader takes, and that every lent job that passes the check is one that reading gives.
+-- Assumes nothing.
+use mathlib.Core.Bool.{true, false}
+use mathlib.Core.List.{List, [], _∷_, _++_, map}
+use Prim.Native.Nat.{ℕ, zero, suc, _+_}
+use lib.Dec.{eqb}
+use lib.ListN.{getD, take}
+use Rattle.model.specs.Lent.{Lent, entryColumns, entryRows, entryTurns, pixelStart}
+use Rattle.model.specs.Text.{lineEnd, threeFields, fourFields, lineText}
+use Rattle.model.specs.JobText.{jobWord, pieceWord, rowWord}
+
+-- n numbers of the list from place s on
+abbrev pub part : List ℕ → ℕ → ℕ → List ℕ
+part ks s zero = []
+part ks s (suc n) = getD ks s 0 ∷ part ks (suc s) n
+
+-- the mark of a pixel byte
+abbrev pub mark : ℕ → ℕ
+mark b = elim (eqb b 1) [ true ↦ 35 | false ↦ 46 ]
+
+-- a row line
+abbrev pub rowText : List ℕ → List ℕ
+rowText row = rowWord ++ (map mark row ++ (lineEnd ∷ []))
+
+-- `left` row lines of l marks, from place s of the store on
+unfoldable pub rowsText : List ℕ → ℕ → ℕ → ℕ → List ℕ
+rowsText pixels l s zero = []
+rowsText pixels l s (suc left) = rowText (part pixels s l) ++ rowsText pixels l (s + l) left
+
+-- the numbers l, w, o of entry i
+abbrev pub entryNumbers : List (List ℕ) → ℕ → List ℕ
+entryNumbers table i = entryColumns table i ∷ entryRows table i ∷ entryTurns table i ∷ []
+
+-- the lines of piece i
+abbrev pub pieceText : Lent → ℕ → List ℕ
+pieceText k i =
+    lineText pieceWord fourFields (i ∷ entryNumbers (k .table) i)
+    ++ rowsText (k .pixels) (entryColumns (k .table) i) (pixelStart (k .table) i) (entryRows (k .table) i)
+
+-- the lines of `left` pieces from number i on
+unfoldable pub piecesText : Lent → ℕ → ℕ → List ℕ
+piecesText k i zero = []
+piecesText k i (suc left) = pieceText k i ++ piecesText k (suc i) left
+
+-- the text of a lent job
+unfoldable pub jobText : Lent → List ℕ
+jobText k = lineText jobWord threeFields (k .rows ∷ k .columns ∷ k .count ∷ []) ++ piecesText k 0 (k .count)
+
+-- ── the job that the text gives ──
+
+-- `left` entries from number i on
+abbrev pub entriesFrom : List (List ℕ) → ℕ → ℕ → List (List ℕ)
+entriesFrom table i zero = []
+entriesFrom table i (suc left) = entryNumbers table i ∷ entriesFrom table (suc i) left
+
+-- the lent job without what lies beyond it in its buffers
+abbrev pub exactly : Lent → Lent
+exactly k =
+    record {
+      rows = k .rows;
+      columns = k .columns;
+      count = k .count;
+      table = entriesFrom (k .table) 0 (k .count);
+      pixels = take (pixelStart (k .table) (k .count)) (k .pixels);
+    }
