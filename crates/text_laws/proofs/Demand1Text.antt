@@ -1,7 +1,7 @@
 -- Demand 1, the texts (document 01, 'Job text', 'Start, layout text, sheet' and 'When a call says no'): what reading gives and what
 -- writing gives belong together, no other text is accepted, and no refusal comes without its cause. The last theorem says it
--- whole; its parts are proved in JobRead, JobReadBack, LentRead, JobExact, JobRefused, LayoutReadBack, LayoutExact and LayoutRefused,
--- and its words stand in specs/. Assumes nothing.
+-- whole; its parts are proved in JobRead, JobReadBack, LentRead, JobExact, JobRefused, JobCauses, LayoutReadBack, LayoutExact,
+-- LayoutRefused and LayoutCauses, and its words stand in specs/. Assumes nothing.
 use mathlib.Core.Bool.{true}
 use mathlib.Core.List.{List}
 use mathlib.Core.Path.{_≡_}
@@ -15,16 +15,18 @@ use Rattle.model.specs.JobText.{readJob}
 use Rattle.model.specs.LayoutText.{layoutText, readLayout}
 use Rattle.model.specs.declared.Refusal.{Refusal}
 use Rattle.text_laws.specs.Exact.{JobWritten, LayoutWritten}
-use Rattle.text_laws.specs.JobRefusals.{JobRefusalClaims}
-use Rattle.text_laws.specs.LayoutRefusals.{LayoutRefusalClaims}
+use Rattle.text_laws.specs.JobRefusals.{JobRefusalClaims, JobCausesRefuse}
+use Rattle.text_laws.specs.LayoutRefusals.{LayoutRefusalClaims, LayoutCausesRefuse}
 use Rattle.text_laws.proofs.LayoutRead.{Placed}
 use Rattle.text_laws.proofs.LayoutReadBack.{layout-read-back}
 use Rattle.text_laws.proofs.JobRead.{job-read-well}
 use Rattle.text_laws.proofs.LentRead.{Readable, lent-well-readable}
 use Rattle.text_laws.proofs.JobExact.{job-read-exactly}
 use Rattle.text_laws.proofs.JobRefused.{job-refusals}
+use Rattle.text_laws.proofs.JobCauses.{job-causes}
 use Rattle.text_laws.proofs.LayoutExact.{layout-only-text, layout-read-exactly}
 use Rattle.text_laws.proofs.LayoutRefused.{layout-refusals}
+use Rattle.text_laws.proofs.LayoutCauses.{layout-causes}
 
 -- what is said of the texts
 pub record Demand1Text : Type 0 where
@@ -50,9 +52,13 @@ pub record Demand1Text : Type 0 where
   -- a refusal of reading a job has its cause on the line that it names, and that line begins where the line ends before it say
   pub job-refused : (text : List ℕ) (tableLength pixelsLength : ℕ) (r : Refusal) → readJob text tableLength pixelsLength ≡ refused r
       → JobRefusalClaims text tableLength pixelsLength r
+  -- and each such cause leads to its refusal
+  pub job-caused : (text : List ℕ) (tableLength pixelsLength : ℕ) → JobCausesRefuse text tableLength pixelsLength
   -- so has a refusal of reading a layout
   pub layout-refused : (j : Job) (text : List ℕ) (layoutLength : ℕ) (r : Refusal) → readLayout j text layoutLength ≡ refused r
       → LayoutRefusalClaims j text layoutLength r
+  -- and so does each cause there
+  pub layout-caused : (j : Job) (text : List ℕ) (layoutLength : ℕ) → LayoutCausesRefuse j text layoutLength
 
 -- it holds
 pub demand1-text : Demand1Text
@@ -65,5 +71,7 @@ demand1-text =
       layout-only = layout-only-text;
       layout-exactly = layout-read-exactly;
       job-refused = job-refusals;
+      job-caused = job-causes;
       layout-refused = layout-refusals;
+      layout-caused = layout-causes;
     }

@@ -3,7 +3,7 @@
 use mathlib.Core.Bool.{Bool, true, false}
 use mathlib.Core.List.{List, [], _∷_}
 use mathlib.Core.Logic.{_⊎_, inl, inr}
-use mathlib.Core.Path.{_≡_, refl, sym}
+use mathlib.Core.Path.{_≡_, refl, sym, ap}
 use lib.Dec.{eqb}
 use borrow.Author.Tests.{eqb-true}
 use Prim.Native.Nat.{ℕ}
@@ -27,6 +27,13 @@ pub refused-unless : {A : Type 0} (cs : List Cause) (a : A) (r : Refusal) → un
 unfolding unless
 refused-unless [] a r e = refused-given (sym e)
 refused-unless (c ∷ cs) a r e = refuses-step c cs a r (c .there) refl (refused-unless cs a r) e
+
+-- and the first cause that is there refuses
+pub unless-refused : {A : Type 0} (cs : List Cause) (a : A) (r : Refusal) → Refuses cs r → unless cs a ≡ refused r
+unfolding unless
+unless-refused [] a r h = absurd h
+unless-refused (c ∷ cs) a r (inl h) = rw (h .0, unless) (ap (λ (q : Refusal). refused q) (h .1))
+unless-refused (c ∷ cs) a r (inr h) = rw (h .0, unless) (unless-refused cs a r (h .1))
 
 -- a value after which the call refuses
 pub record ThenRefused {A B : Type 0} (o : Outcome A) (more : A → Outcome B) (r : Refusal) : Type 0 where
