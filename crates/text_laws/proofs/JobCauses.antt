@@ -1,10 +1,10 @@
 -- Document 01, 'When a call says no', reading a job: each cause leads to its refusal. The lines before the cause's line are read, so the
 -- reader comes to that line and stops there. Assumes nothing.
-use mathlib.Core.Bool.{Bool, true, false, not, _||_}
+use mathlib.Core.Bool.{Bool, true, not, _||_}
 use mathlib.Core.List.{List}
 use mathlib.Core.Logic.{inl, inr, ⊎-elim}
-use mathlib.Core.Path.{_≡_, refl, sym, ap, ap₂, subst, _∙_}
-use Prim.Native.Nat.{ℕ, zero, suc, _+_, _-_, _*_, _≤_, _<_}
+use mathlib.Core.Path.{_≡_, refl, sym, ap, ap₂, subst}
+use Prim.Native.Nat.{ℕ, suc, _+_, _-_, _*_}
 use native.Mathlib.Nat.{add-zero, zero-add}
 use native.Mathlib.Omega.{arith}
 use lib.Dec.{eqb, ltb}
@@ -12,12 +12,12 @@ use lib.ListN.{length}
 use borrow.Author.Tests.{ne-eqb, lt-ltb, le-ltb}
 use Rattle.model.specs.Refusal.{refused, given, wrongForm, outOfRange, sheetTooLarge, boxesTooLarge, looseBox, boxTooLarge, wrongLength}
 use Rattle.model.specs.Lent.{Lent, areaBound}
-use Rattle.model.specs.Text.{wrong, formed, andThen}
-use Rattle.model.specs.JobText.{JobLine, asJobLine, jobLineCauses, jobLine, PieceLine, asPieceLine, pieceLineCauses, pieceLine, rowAt, rowsAt, rowsCauses, asPieceText, pieceAt, Pieces, noPieces, piecesAt, asLent, bufferCauses, readJob}
+use Rattle.model.specs.Text.{formed, andThen}
+use Rattle.model.specs.JobText.{JobLine, asJobLine, jobLineCauses, jobLine, PieceLine, asPieceLine, pieceLineCauses, pieceLine, rowsAt, rowsCauses, asPieceText, pieceAt, noPieces, piecesAt, asLent, bufferCauses, readJob}
 use Rattle.model.specs.declared.Refusal.{Refusal}
 use Rattle.model.proofs.Tests.{or-left, or-right}
 use Rattle.text_laws.specs.LinePlaces.{refusalAt}
-use Rattle.text_laws.specs.JobRefusals.{RowsBefore, no-row, row-then, PiecesBefore, no-piece, piece-then, PiecePlace, RowPlace, EndPlace, SheetNumbers, PieceNumbers, JobFormWrong, wrong-job-line, wrong-piece-line, wrong-row-line, line-too-many, JobOutOfRange, sheet-out-of-range, piece-out-of-range, SheetTooLarge, BoxTooLarge, BoxesTooLarge, LooseBox, BufferShort, JobCausesRefuse}
+use Rattle.text_laws.specs.JobRefusals.{RowsBefore, no-row, row-then, PiecesBefore, no-piece, piece-then, PiecePlace, RowPlace, SheetNumbers, PieceNumbers, JobFormWrong, wrong-job-line, wrong-piece-line, wrong-row-line, line-too-many, JobOutOfRange, sheet-out-of-range, piece-out-of-range, SheetTooLarge, BoxTooLarge, BoxesTooLarge, LooseBox, BufferShort, JobCausesRefuse}
 use Rattle.text_laws.proofs.Outcomes.{Unless, given-unless, given-before}
 use Rattle.text_laws.proofs.Refused.{Refuses, unless-refused}
 

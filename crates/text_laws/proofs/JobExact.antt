@@ -1,11 +1,11 @@
 -- Document 01, 'Job text' and 'When a call says no': a text that is read as a job is just the text of that job, so no other text is
 -- accepted. Line by line: a line that is read is written there in its one spelling; the rows of a piece are its part of the pixel
 -- store; nothing follows the last line. Assumes nothing.
-use mathlib.Core.Bool.{Bool, true, false, not, _&&_}
-use mathlib.Core.List.{List, [], _∷_, _++_, map, append-assoc}
+use mathlib.Core.Bool.{Bool, true, false, _&&_}
+use mathlib.Core.List.{List, [], _∷_, _++_, map}
 use mathlib.Core.Path.{_≡_, refl, sym, ap, ap₂, subst, _∙_}
 use mathlib.Core.Logic.{_↔_}
-use Prim.Native.Nat.{ℕ, zero, suc, _+_, _*_, _%_, _≤_, _<_}
+use Prim.Native.Nat.{ℕ, zero, suc, _+_, _*_, _%_, _<_}
 use native.Mathlib.Nat.{add-zero, zero-add, suc-mul, zero-mul, mul-comm}
 use native.Mathlib.Omega.{arith}
 use lib.Dec.{eqb, leb}
@@ -13,17 +13,17 @@ use lib.ListN.{length, getD, length-append, List·getD-append}
 use lib.Seq.{getD-append-add}
 use borrow.Author.Tests.{not-false, eqb-true}
 use Rattle.model.specs.Refusal.{Outcome, given}
-use Rattle.model.specs.Lent.{Lent, sideBound, turnsBound, upTo, entryColumns, entryRows, entryTurns, pixelStart, lentWell}
-use Rattle.model.specs.Text.{byte, lineEnd, Reading, wrong, got, onward, after, threeFields, fourFields, lineAt, lineText, field}
-use Rattle.model.specs.JobText.{jobWord, pieceWord, rowWord, JobLine, asJobLine, jobLineCauses, jobLine, PieceLine, asPieceLine, pieceInRange, pieceLineCauses, pieceLine, markAt, marksAt, rowAt, Rows, rowsAt, PieceText, rowsCauses, asPieceText, pieceAt, Pieces, noPieces, withPiece, piecesAt, asLent, bufferCauses, readJob}
+use Rattle.model.specs.Lent.{Lent, sideBound, turnsBound, upTo, entryColumns, entryRows, entryTurns, pixelStart}
+use Rattle.model.specs.Text.{byte, lineEnd, Reading, wrong, got, onward, after, threeFields, fourFields, lineAt, lineText}
+use Rattle.model.specs.JobText.{jobWord, pieceWord, rowWord, JobLine, asJobLine, jobLineCauses, jobLine, PieceLine, asPieceLine, pieceLineCauses, pieceLine, markAt, marksAt, rowAt, Rows, rowsAt, PieceText, rowsCauses, asPieceText, pieceAt, Pieces, noPieces, withPiece, piecesAt, asLent, bufferCauses, readJob}
 use Rattle.model.proofs.Tests.{and-left}
-use Rattle.text_laws.specs.JobWriting.{part, mark, rowText, rowsText, entryNumbers, pieceText, piecesText, jobText, exactly}
+use Rattle.text_laws.specs.JobWriting.{part, mark, rowText, rowsText, pieceText, piecesText, jobText, exactly}
 use Rattle.text_laws.specs.Exact.{JobWritten}
 use Rattle.text_laws.proofs.Outcomes.{Unless, given-unless, given-before, given-formed, wrong-got, Onward, got-onward}
 use Rattle.text_laws.proofs.LentFacts.{Facts, facts}
 use Rattle.text_laws.proofs.JobRead.{JustRead, job-read-just, job-read-well}
 use Rattle.text_laws.proofs.JobReadBack.{job-read-back}
-use Rattle.text_laws.proofs.Spelling.{Spells, spells-none, spells-byte, spells-then, spells-same, spells-whole, Passed, passed, LineRead, line-spelled, three-fields, four-fields}
+use Rattle.text_laws.proofs.Spelling.{Spells, spells-none, spells-byte, spells-then, spells-same, spells-whole, passed, LineRead, line-spelled, three-fields, four-fields}
 
 -- ── rows ──
 

@@ -4,22 +4,22 @@ use mathlib.Core.Bool.{Bool, true, false, not, _&&_}
 use mathlib.Core.List.{List, []}
 use mathlib.Core.Logic.{inl, inr}
 use mathlib.Core.Path.{_≡_, refl, sym, ap, subst, _∙_}
-use Prim.Native.Nat.{ℕ, zero, suc, _+_, _-_, _≤_, _<_}
-use native.Mathlib.Nat.{add-zero, zero-add}
+use Prim.Native.Nat.{ℕ, suc, _+_, _-_}
+use native.Mathlib.Nat.{add-zero}
 use native.Mathlib.Omega.{arith}
 use lib.Dec.{eqb}
 use lib.ListN.{length}
 use borrow.Author.Tests.{ne-eqb, eqb-true}
 use Rattle.model.specs.Layout.{Job, Layout}
-use Rattle.model.specs.Refusal.{refused, given, wrongForm, outOfRange, noSuchPiece, outsideSheet, wrongLength}
-use Rattle.model.specs.Text.{threeFields, lineAt, field, formed, andThen}
+use Rattle.model.specs.Refusal.{refused, wrongForm, outOfRange, noSuchPiece, outsideSheet, wrongLength}
+use Rattle.model.specs.Text.{threeFields, field, formed, andThen}
 use Rattle.model.specs.LayoutText.{layoutWord, sheetNumbers, layoutLineCauses, layoutLine, PlacementLine, asPlacementLine, placementCauses, placementLine, placementsAt, readLayout}
 use Rattle.model.specs.declared.Refusal.{Refusal}
 use Rattle.model.proofs.Tests.{and-left, and-right, fails}
 use Rattle.text_laws.specs.LinePlaces.{refusalAt}
-use Rattle.text_laws.specs.LayoutRefusals.{PlacementsBefore, no-placement, placement-then, PlacementPlace, LayoutEnd, PlacementNumbers, LayoutFormWrong, wrong-layout-line, wrong-placement-line, line-too-many, LayoutOutOfRange, sheet-unlike, placement-out-of-range, TurnNotAllowed, PlacementOutside, LayoutLengthWrong, LayoutCausesRefuse}
+use Rattle.text_laws.specs.LayoutRefusals.{PlacementsBefore, no-placement, placement-then, PlacementPlace, PlacementNumbers, LayoutFormWrong, wrong-layout-line, wrong-placement-line, line-too-many, LayoutOutOfRange, sheet-unlike, placement-out-of-range, TurnNotAllowed, PlacementOutside, LayoutLengthWrong, LayoutCausesRefuse}
 use Rattle.text_laws.proofs.Outcomes.{given-before}
-use Rattle.text_laws.proofs.Spelling.{LineRead, line-spelled, three-fields}
+use Rattle.text_laws.proofs.Spelling.{line-spelled, three-fields}
 use Rattle.text_laws.proofs.Refused.{Refuses, unless-refused}
 
 -- ── the reader comes to the line ──

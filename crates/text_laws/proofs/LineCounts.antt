@@ -1,21 +1,21 @@
 -- Document 01, 'When a call says no', reading: "First place: line, from 1". A line that is read has one line end, its last byte, so the
 -- next line begins just behind it and its number is one more. Assumes nothing.
 use mathlib.Core.Bool.{Bool, true, false}
-use mathlib.Core.List.{List, [], _∷_, _++_, map, append-assoc}
+use mathlib.Core.List.{List, [], _∷_, _++_, map}
 use mathlib.Core.Logic.{inl, inr}
-use mathlib.Core.Path.{_≡_, refl, sym, ap, ap₂, _∙_}
+use mathlib.Core.Path.{_≡_, refl, sym, ap, _∙_}
 use Prim.Native.Nat.{ℕ, zero, suc, _+_, _/_, _%_, _≤_, _<_}
 use native.Mathlib.Nat.{add-zero}
 use native.Mathlib.Omega.{arith}
 use lib.Dec.{eqb, ltb}
-use lib.ListN.{length, getD, List·getD-eq-default}
+use lib.ListN.{length, List·getD-eq-default}
 use borrow.Author.Tests.{ne-eqb, ltb-true, ltb-false}
 use Rattle.model.specs.Bounded.{one-if}
-use Rattle.model.specs.Text.{byte, lineEnd, digitZero, got, standsAt, threeFields, fourFields, lineAt, decimal, digits, fieldsText, lineText}
-use Rattle.model.specs.JobText.{rowWord, rowAt}
+use Rattle.model.specs.Text.{byte, lineEnd, digitZero, standsAt, threeFields, fourFields, decimal, digits, fieldsText, lineText}
+use Rattle.model.specs.JobText.{rowWord}
 use Rattle.text_laws.specs.JobWriting.{mark, rowText}
 use Rattle.text_laws.specs.LinePlaces.{lineEnds, Behind, LineBegins}
-use Rattle.text_laws.proofs.Spelling.{Spells, stands-first, LineRead}
+use Rattle.text_laws.proofs.Spelling.{Spells, stands-first}
 
 -- ── line ends among bytes ──
 
