@@ -52,7 +52,8 @@ module _ (text : List ℕ) (tl pl : ℕ) (r : Refusal) where
   job-line-stops e = rw (e, andThen, readJob)
 
   -- pieces that refuse
-  pieces-stop : (j : JobLine) → jobLine text ≡ given j → piecesAt text j (j .count) 0 0 (j .next) 2 ≡ refused r → readJob text tl pl ≡ refused r
+  pieces-stop : (j : JobLine) → jobLine text ≡ given j → piecesAt text j (j .count) 0 0 (j .next) 2 ≡ refused r
+      → readJob text tl pl ≡ refused r
   unfolding readJob
   pieces-stop j e f = rw (e, f, andThen, readJob)
 
@@ -142,7 +143,8 @@ box-refuses text tl pl line c =
     let long : Bool = ltb (j .columns) (h .columns) in
     let high : Bool = ltb (j .rows) (h .rows) in
     let above : (long || high) ≡ true =
-    ⊎-elim (λ l. or-left long high (lt-ltb (j .columns) (h .columns) l)) (λ l. or-right long high (lt-ltb (j .rows) (h .rows) l)) (c .above) in
+    ⊎-elim (λ l. or-left long high (lt-ltb (j .columns) (h .columns) l))
+    (λ l. or-right long high (lt-ltb (j .rows) (h .rows) l)) (c .above) in
     numbers-stop text tl pl (refusalAt boxTooLarge line) line a (inr (ap not (c .ranges), inl (above, refl)))
 
 -- boxes too large together

@@ -28,7 +28,9 @@ use Rattle.text_laws.proofs.Spelling.{Spells, spells-none, spells-byte,
 -- ── rows ──
 
 mark-step : (text : List ℕ) (p m q : ℕ) (pixel none : Bool) → eqb (byte text p) 35 ≡ pixel → eqb (byte text p) 46 ≡ none
-    → elim pixel as (λ _. Reading ℕ) [ true ↦ got 1 (suc p) | false ↦ elim none as (λ _. Reading ℕ) [ true ↦ got 0 (suc p) | false ↦ wrong ] ] ≡ got m q
+    → elim pixel as (λ _. Reading ℕ)
+    [ true ↦ got 1 (suc p) | false ↦ elim none as (λ _. Reading ℕ) [ true ↦ got 0 (suc p) | false ↦ wrong ] ]
+    ≡ got m q
     → Spells text p q (mark m ∷ [])
 mark-step text p m q true none h k e =
     let value : _≡_ {A = ℕ} 1 m = cc in
@@ -62,7 +64,8 @@ marks-spelled text (suc left) p ms q e =
     let g : _≡_ {A = Reading (List ℕ)} (got (o .value ∷ o′ .value) (o′ .next)) (got ms q) = o′ .goes in
     let value : o .value ∷ o′ .value ≡ ms = cc in
     let next : o′ .next ≡ q = cc in
-    let later : MarksRead text left (o .next) (o′ .next) (o′ .value) = marks-spelled text left (o .next) (o′ .value) (o′ .next) (o′ .reads) in
+    let later : MarksRead text left (o .next) (o′ .next) (o′ .value) =
+    marks-spelled text left (o .next) (o′ .value) (o′ .next) (o′ .reads) in
     record {
       size = ap length (sym value) ∙ ap suc (later .size);
       spells = spells-same (spells-then (mark-spelled text p (o .value) (o .next) (o .reads)) (later .spells)) next (ap (map mark) value);
@@ -79,7 +82,8 @@ unfolding rowAt
 row-spelled text l p ms q e =
     let ending : List ℕ → ℕ → Reading (List ℕ) = λ ms′ r. after (lineEnd ∷ []) text r (λ n. got ms′ n) in
     let w = passed rowWord text p (λ r. onward (marksAt text l r) ending) ms q e in
-    let o : Onward (marksAt text l (p + length rowWord)) ending ms q = got-onward (marksAt text l (p + length rowWord)) ending ms q (w .goes) in
+    let o : Onward (marksAt text l (p + length rowWord)) ending ms q =
+    got-onward (marksAt text l (p + length rowWord)) ending ms q (w .goes) in
     let w′ = passed (lineEnd ∷ []) text (o .next) (λ n. got (o .value) n) ms q (o .goes) in
     let g : _≡_ {A = Reading (List ℕ)} (got (o .value) (o .next + 1)) (got ms q) = w′ .goes in
     let value : o .value ≡ ms = cc in
@@ -137,7 +141,8 @@ pub record RowsRead (text : List ℕ) (l left p : ℕ) (r : Rows) : Type 0 where
   pub spells : Spells text p (r .next) (rowsText (r .pixels) l 0 left)
 
 -- a row in front of the others
-rows-in-front : (l left : ℕ) (ms rest : List ℕ) → length ms ≡ l → rowsText (ms ++ rest) l 0 (suc left) ≡ rowText ms ++ rowsText rest l 0 left
+rows-in-front : (l left : ℕ) (ms rest : List ℕ) → length ms ≡ l
+    → rowsText (ms ++ rest) l 0 (suc left) ≡ rowText ms ++ rowsText rest l 0 left
 unfolding rowsText
 rows-in-front l left ms rest h =
     ap₂ (λ (a b : List ℕ). a ++ b) (ap rowText (part-whole ms rest l h))
@@ -162,7 +167,8 @@ rows-spelled text l (suc left) p line r e =
     let g : _≡_ {A = Outcome Rows} (given whole) (given r) = b .goes in
     let z : whole ≡ r = cc in
     let spelled : Spells text p (b .value .next) (rowsText (f .value ++ b .value .pixels) l 0 (suc left)) =
-    spells-same (spells-then (first .spells) (later .spells)) refl (sym (rows-in-front l left (f .value) (b .value .pixels) (first .size))) in
+    spells-same (spells-then (first .spells) (later .spells)) refl
+    (sym (rows-in-front l left (f .value) (b .value .pixels) (first .size))) in
     let all : RowsRead text l (suc left) p whole =
     record {
       size = length-append (f .value) (b .value .pixels) ∙ (let h = first .size in let k = later .size in omega (arith, suc-mul left l));
@@ -207,7 +213,8 @@ record PieceRead (text : List ℕ) (i p : ℕ) (h : PieceText) : Type 0 where
       (lineText pieceWord fourFields (lineNumbers i (h .columns) (h .rows) (h .turns)) ++ rowsText (h .pixels) (h .columns) 0 (h .rows))
 
 -- they are written there
-piece-spelled : (text : List ℕ) (j : JobLine) (i area p line : ℕ) (h : PieceText) → pieceAt text j i area p line ≡ given h → PieceRead text i p h
+piece-spelled : (text : List ℕ) (j : JobLine) (i area p line : ℕ) (h : PieceText) → pieceAt text j i area p line ≡ given h
+    → PieceRead text i p h
 unfolding pieceAt
 piece-spelled text j i area p line h e =
     let b = given-before (pieceLine text j i area p line) _ h e in
@@ -311,7 +318,8 @@ pieces-only-text text j r e f =
     spells-whole (spells-then (job-line-spelled text j e) (pieces-spelled text j k (j .count) 0 0 (j .next) 2 r all f))
 
 -- a text that is read as a job is the text of that job
-pub job-only-text : (text : List ℕ) (tableLength pixelsLength : ℕ) (k : Lent) → readJob text tableLength pixelsLength ≡ given k → text ≡ jobText k
+pub job-only-text : (text : List ℕ) (tableLength pixelsLength : ℕ) (k : Lent) → readJob text tableLength pixelsLength ≡ given k
+    → text ≡ jobText k
 unfolding readJob
 job-only-text text tableLength pixelsLength k e =
     let b = given-before (jobLine text) _ k e in

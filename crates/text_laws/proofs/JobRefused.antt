@@ -79,7 +79,8 @@ record LastRow (text : List ℕ) (l start top w : ℕ) : Type 0 where
   begins : LineBegins text (suc (top + row)) at
 
 -- there is one
-last-row : {text : List ℕ} (l start top w : ℕ) (left y p line : ℕ) (r : Rows) → y + suc left ≡ w → RowsBefore text l start y p → line ≡ suc (top + y)
+last-row : {text : List ℕ} (l start top w : ℕ) (left y p line : ℕ) (r : Rows) → y + suc left ≡ w → RowsBefore text l start y p
+    → line ≡ suc (top + y)
     → LineBegins text line p → rowsAt text l (suc left) p line ≡ given r → LastRow text l start top w
 unfolding rowsAt
 last-row {text} l start top w zero y p line r all before n b e =
@@ -184,7 +185,8 @@ module _ (text : List ℕ) (tl pl : ℕ) where
       (refused-unless (pieceLineCauses line j i (a .area) h) h r (f .goes)))
       (refused-formed line (lineAt pieceWord fourFields text (a .at)) _ r e)
 
-  module _ (top : ℕ) (a : PiecePlace text top) (h : PieceLine) (heads : pieceLine text (a .job) (a .number) (a .area) (a .at) top ≡ given h) where
+  module _ (top : ℕ) (a : PiecePlace text top) (h : PieceLine)
+      (heads : pieceLine text (a .job) (a .number) (a .area) (a .at) top ≡ given h) where
     -- row lines that refuse
     rows-refused : (left y p line : ℕ) → y + left ≡ h .rows → RowsBefore text (h .columns) (h .next) y p → line ≡ suc (top + y)
         → LineBegins text line p → (r : Refusal) → rowsAt text (h .columns) left p line ≡ refused r → Caused text tl pl r
@@ -277,7 +279,8 @@ module _ (text : List ℕ) (tl pl : ℕ) where
       (refused-before (pieceLine text (a .job) (a .number) (a .area) (a .at) line) _ r e)
 
   -- pieces that refuse
-  pieces-refused : (j : JobLine) → jobLine text ≡ given j → (left i area p line : ℕ) → i + left ≡ j .count → PiecesBefore text j i area p line
+  pieces-refused : (j : JobLine) → jobLine text ≡ given j → (left i area p line : ℕ) → i + left ≡ j .count
+      → PiecesBefore text j i area p line
       → LineBegins text line p → (r : Refusal) → piecesAt text j left i area p line ≡ refused r → Caused text tl pl r
   unfolding piecesAt
   pieces-refused j sheet zero i area p line all before begins r e =
@@ -339,7 +342,8 @@ module _ (text : List ℕ) (tl pl : ℕ) where
         readable =
             rw (f .gives, g .gives, andThen, readJob)
             (unless-given _ k (
-              ap₂ (λ (x y : Bool). x || y) (le-ltb (k .count) (k .count) (omega arith)) (le-ltb (length (k .pixels)) (length (k .pixels)) (omega arith)),
+              ap₂ (λ (x y : Bool). x || y) (le-ltb (k .count) (k .count) (omega arith))
+                  (le-ltb (length (k .pixels)) (length (k .pixels)) (omega arith)),
               tt,
             ));
         short =

@@ -25,7 +25,8 @@ use Rattle.text_laws.proofs.Refused.{Refuses, unless-refused}
 -- ── the reader comes to the line ──
 
 -- where the reading of the later lines is refused, so is the whole
-placements-resume : {j : Job} {text : List ℕ} {i p line : ℕ} (room : ℕ) (r : Refusal) → PlacementsBefore j text i p line → (left : ℕ) → i + left ≡ j .count
+placements-resume : {j : Job} {text : List ℕ} {i p line : ℕ} (room : ℕ) (r : Refusal) → PlacementsBefore j text i p line → (left : ℕ)
+    → i + left ≡ j .count
     → placementsAt j text left i p line ≡ refused r → readLayout j text room ≡ refused r
 unfolding placementsAt readLayout
 placements-resume {j} {text} room r (no-placement {p = p} gives) left all e =
@@ -64,7 +65,8 @@ module _ (j : Job) (text : List ℕ) (room : ℕ) (r : Refusal) where
 -- ── each cause ──
 
 -- a line of wrong form
-form-refuses : (j : Job) (text : List ℕ) (room line : ℕ) → LayoutFormWrong j text line → readLayout j text room ≡ refused (refusalAt wrongForm line)
+form-refuses : (j : Job) (text : List ℕ) (room line : ℕ) → LayoutFormWrong j text line
+    → readLayout j text room ≡ refused (refusalAt wrongForm line)
 unfolding layoutLine placementLine placementsAt
 form-refuses j text room line (wrong-layout-line n e) =
     rw n (layout-line-stops j text room (refusalAt wrongForm 1) (rw (e, formed)))
@@ -90,17 +92,21 @@ unlike j ks size ne =
     ne (sym (three-fields ks size) ∙ rw (ha, hb, hc)))
 
 -- a number out of range
-range-refuses : (j : Job) (text : List ℕ) (room line : ℕ) → LayoutOutOfRange j text line → readLayout j text room ≡ refused (refusalAt outOfRange line)
+range-refuses : (j : Job) (text : List ℕ) (room line : ℕ) → LayoutOutOfRange j text line
+    → readLayout j text room ≡ refused (refusalAt outOfRange line)
 unfolding layoutLine
 range-refuses j text room line (sheet-unlike ks next n e ne) =
     let r : Refusal = refusalAt outOfRange 1 in
     let size : length ks ≡ 3 = line-spelled layoutWord threeFields text 0 ks next e .size in
-    rw n (layout-line-stops j text room r (rw (e, formed) (unless-refused (layoutLineCauses j ks) next r (inl (ap not (unlike j ks size ne), refl)))))
+    rw n
+    (layout-line-stops j text room r
+    (rw (e, formed) (unless-refused (layoutLineCauses j ks) next r (inl (ap not (unlike j ks size ne), refl)))))
 range-refuses j text room line (placement-out-of-range a e) =
     numbers-stop j text room (refusalAt outOfRange line) line a (inl (ap not e, refl))
 
 -- a turn that is not allowed
-turn-refuses : (j : Job) (text : List ℕ) (room line : ℕ) → TurnNotAllowed j text line → readLayout j text room ≡ refused (refusalAt noSuchPiece line)
+turn-refuses : (j : Job) (text : List ℕ) (room line : ℕ) → TurnNotAllowed j text line
+    → readLayout j text room ≡ refused (refusalAt noSuchPiece line)
 turn-refuses j text room line c =
     numbers-stop j text room (refusalAt noSuchPiece line) line (c .piece) (inr (ap not (c .ranges), inl (ap not (c .unallowed), refl)))
 

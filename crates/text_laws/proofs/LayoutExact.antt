@@ -86,7 +86,8 @@ placements-spelled j text (suc left) i p line v e =
     refl (ap (placementsText i) z)
 
 -- a text that is read as a layout is the text of that layout
-pub layout-only-text : (j : Job) (text : List ℕ) (layoutLength : ℕ) (v : Layout) → readLayout j text layoutLength ≡ given v → text ≡ layoutText j v
+pub layout-only-text : (j : Job) (text : List ℕ) (layoutLength : ℕ) (v : Layout) → readLayout j text layoutLength ≡ given v
+    → text ≡ layoutText j v
 unfolding readLayout layoutText
 layout-only-text j text layoutLength v e =
     let b = given-before (layoutLine j text) _ v e in

@@ -61,7 +61,8 @@ module _ (j : Job) (text : List ℕ) (room : ℕ) where
       (λ same.
       clash
       (and-both
-      (and-both (eq-eqb (field ks 0) (j .rows) (ap (λ (l : List ℕ). field l 0) same)) (eq-eqb (field ks 1) (j .columns) (ap (λ (l : List ℕ). field l 1) same)))
+      (and-both (eq-eqb (field ks 0) (j .rows) (ap (λ (l : List ℕ). field l 0) same))
+      (eq-eqb (field ks 1) (j .columns) (ap (λ (l : List ℕ). field l 1) same)))
       (eq-eqb (field ks 2) (j .count) (ap (λ (l : List ℕ). field l 2) same)))
       (not-true (a && b && c) (w .0)))))
       (λ n. absurd (n .1))
@@ -69,7 +70,8 @@ module _ (j : Job) (text : List ℕ) (room : ℕ) where
       (refused-formed 1 (lineAt layoutWord threeFields text 0) _ r e)
 
   -- the line of a piece that refuses
-  placement-line-refused : (line : ℕ) (a : PlacementPlace j text line) (r : Refusal) → placementLine j text (a .number) (a .at) line ≡ refused r
+  placement-line-refused : (line : ℕ) (a : PlacementPlace j text line) (r : Refusal)
+      → placementLine j text (a .number) (a .at) line ≡ refused r
       → Caused j text room r
   unfolding placementLine
   placement-line-refused line a r e =

@@ -85,7 +85,8 @@ pub record OneLine (ds : List ℕ) : Type 0 where
   pub last : lastOf ds ≡ lineEnd
 
 -- behind a line begins the next
-pub line-then : {text : List ℕ} {line p q : ℕ} {ds : List ℕ} → LineBegins text line p → Spells text p q ds → OneLine ds → LineBegins text (suc line) q
+pub line-then : {text : List ℕ} {line p q : ℕ} {ds : List ℕ} → LineBegins text line p → Spells text p q ds → OneLine ds
+    → LineBegins text (suc line) q
 line-then {text} {line} {p} {q} {ds} b s o =
     let behind : Behind text q = rw (s .next) (last-stands ds text p (s .stands) (o .last)) in
     record {
@@ -111,7 +112,8 @@ digit-no-end : (d : ℕ) → one-if (eqb (digitZero + d) lineEnd) ≡ 0
 digit-no-end d = rw (ne-eqb (digitZero + d) lineEnd (λ e. omega arith))
 
 decimal-step : (places k : ℕ) (t : Bool) → endsIn (decimal places (k / 10)) ≡ 0
-    → endsIn (elim t as (λ _. List ℕ) [ true ↦ (digitZero + k) ∷ [] | false ↦ decimal places (k / 10) ++ ((digitZero + (k % 10)) ∷ []) ]) ≡ 0
+    → endsIn (elim t as (λ _. List ℕ) [ true ↦ (digitZero + k) ∷ [] | false ↦ decimal places (k / 10) ++ ((digitZero + (k % 10)) ∷ []) ])
+    ≡ 0
 decimal-step places k true h = let d = digit-no-end k in omega arith
 decimal-step places k false h =
     let d = digit-no-end (k % 10) in

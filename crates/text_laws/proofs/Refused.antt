@@ -17,8 +17,10 @@ abbrev pub Refuses : List Cause → Refusal → Type 0
 Refuses [] r = ⊥
 Refuses (c ∷ cs) r = ((c .there ≡ true) × (refusalOf c ≡ r)) ⊎ ((c .there ≡ false) × Refuses cs r)
 
-refuses-step : {A : Type 0} (c : Cause) (cs : List Cause) (a : A) (r : Refusal) (t : Bool) → c .there ≡ t → (unless cs a ≡ refused r → Refuses cs r)
-    → _≡_ {A = Outcome A} (elim t as (λ _. Outcome A) [ true ↦ refused (refusalOf c) | false ↦ unless cs a ]) (refused r) → Refuses (c ∷ cs) r
+refuses-step : {A : Type 0} (c : Cause) (cs : List Cause) (a : A) (r : Refusal) (t : Bool) → c .there ≡ t
+    → (unless cs a ≡ refused r → Refuses cs r)
+    → _≡_ {A = Outcome A} (elim t as (λ _. Outcome A) [ true ↦ refused (refusalOf c) | false ↦ unless cs a ]) (refused r)
+    → Refuses (c ∷ cs) r
 refuses-step c cs a r true h later e = inl (h, cc)
 refuses-step c cs a r false h later e = inr (h, later e)
 

@@ -63,7 +63,8 @@ namesPiece i ks = eqb (field ks 0) i && isTurn (field ks 1)
 pub data LayoutOutOfRange (j : Job) (text : List ℕ) (line : ℕ) : Type 0 where
   sheet-unlike : (ks : List ℕ) (next : ℕ) → line ≡ 1 → lineAt layoutWord threeFields text 0 ≡ got ks next → (ks ≡ sheetNumbers j → ⊥)
       → LayoutOutOfRange j text line
-  placement-out-of-range : (a : PlacementNumbers j text line) → namesPiece (a .place .number) (a .numbers) ≡ false → LayoutOutOfRange j text line
+  placement-out-of-range : (a : PlacementNumbers j text line) → namesPiece (a .place .number) (a .numbers) ≡ false
+      → LayoutOutOfRange j text line
 
 -- 9: the line names the piece and a turn, and the turn is not allowed
 pub record TurnNotAllowed (j : Job) (text : List ℕ) (line : ℕ) : Type 0 where
@@ -90,7 +91,8 @@ pub record LayoutLengthWrong (j : Job) (text : List ℕ) (layoutLength line : �
 -- what is known of a refusal: its number is one of five, each has its cause on the line that the first place names, the line of
 -- each but 7 begins somewhere in the text, and the second place is 0
 pub record LayoutRefusalClaims (j : Job) (text : List ℕ) (layoutLength : ℕ) (r : Refusal) : Type 0 where
-  pub numbers : (r .number ≡ wrongForm) ⊎ ((r .number ≡ outOfRange) ⊎ ((r .number ≡ noSuchPiece) ⊎ ((r .number ≡ outsideSheet) ⊎ (r .number ≡ wrongLength))))
+  pub numbers : (r .number ≡ wrongForm) ⊎ ((r .number ≡ outOfRange)
+      ⊎ ((r .number ≡ noSuchPiece) ⊎ ((r .number ≡ outsideSheet) ⊎ (r .number ≡ wrongLength))))
   pub form : r .number ≡ wrongForm → LayoutFormWrong j text (r .first)
   pub range : r .number ≡ outOfRange → LayoutOutOfRange j text (r .first)
   pub turn : r .number ≡ noSuchPiece → TurnNotAllowed j text (r .first)
@@ -105,4 +107,5 @@ pub record LayoutCausesRefuse (j : Job) (text : List ℕ) (layoutLength : ℕ) :
   pub range : (line : ℕ) → LayoutOutOfRange j text line → readLayout j text layoutLength ≡ refused (refusalAt outOfRange line)
   pub turn : (line : ℕ) → TurnNotAllowed j text line → readLayout j text layoutLength ≡ refused (refusalAt noSuchPiece line)
   pub outside : (line : ℕ) → PlacementOutside j text line → readLayout j text layoutLength ≡ refused (refusalAt outsideSheet line)
-  pub buffer : (line : ℕ) → LayoutLengthWrong j text layoutLength line → readLayout j text layoutLength ≡ refused (refusalAt wrongLength line)
+  pub buffer : (line : ℕ) → LayoutLengthWrong j text layoutLength line
+      → readLayout j text layoutLength ≡ refused (refusalAt wrongLength line)
