@@ -27,6 +27,7 @@ use Rattle.text_laws.proofs.Spelling.{Spells, spells-none, spells-byte,
 
 -- ── rows ──
 
+-- the two marks
 mark-step : (text : List ℕ) (p m q : ℕ) (pixel none : Bool) → eqb (byte text p) 35 ≡ pixel → eqb (byte text p) 46 ≡ none
     → elim pixel as (λ _. Reading ℕ)
     [ true ↦ got 1 (suc p) | false ↦ elim none as (λ _. Reading ℕ) [ true ↦ got 0 (suc p) | false ↦ wrong ] ]
@@ -52,6 +53,7 @@ record MarksRead (text : List ℕ) (left p q : ℕ) (ms : List ℕ) : Type 0 whe
   size : length ms ≡ left
   spells : Spells text p q (map mark ms)
 
+-- they are written there
 marks-spelled : (text : List ℕ) (left p : ℕ) (ms : List ℕ) (q : ℕ) → marksAt text left p ≡ got ms q → MarksRead text left p q ms
 unfolding marksAt
 marks-spelled text zero p ms q e =

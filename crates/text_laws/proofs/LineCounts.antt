@@ -111,6 +111,7 @@ first-line text = record { counted = refl; behind = inl refl; within = omega ari
 digit-no-end : (d : ℕ) → one-if (eqb (digitZero + d) lineEnd) ≡ 0
 digit-no-end d = rw (ne-eqb (digitZero + d) lineEnd (λ e. omega arith))
 
+-- the last digit, alone or behind the others
 decimal-step : (places k : ℕ) (t : Bool) → endsIn (decimal places (k / 10)) ≡ 0
     → endsIn (elim t as (λ _. List ℕ) [ true ↦ (digitZero + k) ∷ [] | false ↦ decimal places (k / 10) ++ ((digitZero + (k % 10)) ∷ []) ])
     ≡ 0

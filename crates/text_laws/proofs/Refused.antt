@@ -17,6 +17,7 @@ abbrev pub Refuses : List Cause → Refusal → Type 0
 Refuses [] r = ⊥
 Refuses (c ∷ cs) r = ((c .there ≡ true) × (refusalOf c ≡ r)) ⊎ ((c .there ≡ false) × Refuses cs r)
 
+-- the first cause is there, or a later one
 refuses-step : {A : Type 0} (c : Cause) (cs : List Cause) (a : A) (r : Refusal) (t : Bool) → c .there ≡ t
     → (unless cs a ≡ refused r → Refuses cs r)
     → _≡_ {A = Outcome A} (elim t as (λ _. Outcome A) [ true ↦ refused (refusalOf c) | false ↦ unless cs a ]) (refused r)
@@ -73,6 +74,7 @@ abbrev pub chosen : Bool → Type 0 → Type 0 → Type 0
 chosen true A B = A
 chosen false A B = B
 
+-- the test passes or fails
 choose-step : {A B C : Type 0} (n k : ℕ) (t : Bool) → eqb n k ≡ t → (n ≡ k → A → C) → (B → C) → chosen t A B → C
 choose-step n k true h here later x = here (eqb-true n k h) x
 choose-step n k false h here later x = later x

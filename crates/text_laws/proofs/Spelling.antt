@@ -96,6 +96,7 @@ pub record Passed {A : Type 0} (word text : List ℕ) (p : ℕ) (more : ℕ → 
   pub spells : Spells text p (p + length word) word
   pub goes : more (p + length word) ≡ got a q
 
+-- the word is there, or nothing is read
 passed-step : {A : Type 0} (word text : List ℕ) (p : ℕ) (more : ℕ → Reading A) (a : A) (q : ℕ) (t : Bool) → standsAt word text p ≡ t
     → elim t as (λ _. Reading A) [ true ↦ more (p + length word) | false ↦ wrong ] ≡ got a q → Passed word text p more a q
 passed-step word text p more a q true h e = record { spells = record { next = refl; stands = h }; goes = e }
@@ -116,6 +117,7 @@ record Run (text : List ℕ) (p v left : ℕ) (d : Digits) : Type 0 where
   value : d .value ≡ valueFrom v bytes
   short : length bytes ≤ left
 
+-- one digit more, or the run ends
 run-step : (text : List ℕ) (p v left : ℕ) (t : Bool) → isDigit (byte text p) ≡ t
     → Run text (suc p) (v * 10 + (byte text p - digitZero)) left (digitsFrom text (suc p) (v * 10 + (byte text p - digitZero)) left)
     → Run text p v (suc left)
@@ -219,6 +221,7 @@ number-bytes text p q (d ∷ (c ∷ ds)) all a short e =
     (λ (n : eqb q (suc p) ≡ true). let l : q ≡ suc p = eqb-true q (suc p) n in let k = a .next in omega arith)
     (or-cases (not (eqb (byte text p) digitZero)) (eqb q (suc p)) lead))
 
+-- the digits are a number, or nothing is read
 number-step : (text : List ℕ) (p k q : ℕ) (d : Digits) → Run text p 0 digitBound d → (t : Bool) → isNumber text p (d .next) ≡ t
     → elim t as (λ _. Reading ℕ) [ true ↦ got (d .value) (d .next) | false ↦ wrong ] ≡ got k q → Spells text p q (digits k)
 number-step text p k q d r true h e =
