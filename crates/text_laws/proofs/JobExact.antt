@@ -1,11 +1,11 @@
 -- Document 01, 'Job text' and 'When a call says no': a text that is read as a job is just the text of that job, so no other text is
 -- accepted. Line by line: a line that is read is written there in its one spelling; the rows of a piece are its part of the pixel
 -- store; nothing follows the last line. Assumes nothing.
-use mathlib.Core.Bool.{Bool, true, false, not, _&&_}
-use mathlib.Core.List.{List, [], _∷_, _++_, map, append-assoc}
+use mathlib.Core.Bool.{Bool, true, false, _&&_}
+use mathlib.Core.List.{List, [], _∷_, _++_, map}
 use mathlib.Core.Path.{_≡_, refl, sym, ap, ap₂, subst, _∙_}
 use mathlib.Core.Logic.{_↔_}
-use Prim.Native.Nat.{ℕ, zero, suc, _+_, _*_, _%_, _≤_, _<_}
+use Prim.Native.Nat.{ℕ, zero, suc, _+_, _*_, _%_, _<_}
 use native.Mathlib.Nat.{add-zero, zero-add, suc-mul, zero-mul, mul-comm}
 use native.Mathlib.Omega.{arith}
 use lib.Dec.{eqb, leb}
@@ -13,23 +13,26 @@ use lib.ListN.{length, getD, length-append, List·getD-append}
 use lib.Seq.{getD-append-add}
 use borrow.Author.Tests.{not-false, eqb-true}
 use Rattle.model.specs.Refusal.{Outcome, given}
-use Rattle.model.specs.Lent.{Lent, sideBound, turnsBound, upTo, entryColumns, entryRows, entryTurns, pixelStart, lentWell}
-use Rattle.model.specs.Text.{byte, lineEnd, Reading, wrong, got, onward, after, threeFields, fourFields, lineAt, lineText, field}
-use Rattle.model.specs.JobText.{jobWord, pieceWord, rowWord, JobLine, asJobLine, jobLineCauses, jobLine, PieceLine, asPieceLine, pieceInRange, pieceLineCauses, pieceLine, markAt, marksAt, rowAt, Rows, rowsAt, PieceText, rowsCauses, asPieceText, pieceAt, Pieces, noPieces, withPiece, piecesAt, asLent, bufferCauses, readJob}
+use Rattle.model.specs.Lent.{Lent, sideBound, turnsBound, upTo, entryColumns, entryRows, entryTurns, pixelStart}
+use Rattle.model.specs.Text.{byte, lineEnd, Reading, wrong, got, onward, after, threeFields, fourFields, lineAt, lineText}
+use Rattle.model.specs.JobText.{jobWord, pieceWord, rowWord, JobLine, asJobLine, jobLineCauses, jobLine, PieceLine, asPieceLine, pieceLineCauses, pieceLine, markAt, marksAt, rowAt, Rows, rowsAt, PieceText, rowsCauses, asPieceText, pieceAt, Pieces, noPieces, withPiece, piecesAt, asLent, bufferCauses, readJob}
 use Rattle.model.proofs.Tests.{and-left}
-use Rattle.text_laws.specs.JobWriting.{part, mark, rowText, rowsText, entryNumbers, pieceText, piecesText, jobText, exactly}
+use Rattle.text_laws.specs.JobWriting.{part, mark, rowText, rowsText, pieceText, piecesText, jobText, exactly}
 use Rattle.text_laws.specs.Exact.{JobWritten}
 use Rattle.text_laws.specs.Outcomes.{Unless}
 use Rattle.text_laws.proofs.Outcomes.{given-unless, given-before, given-formed, wrong-got, Onward, got-onward}
 use Rattle.text_laws.proofs.LentFacts.{Facts, facts}
 use Rattle.text_laws.proofs.JobRead.{JustRead, job-read-just, job-read-well}
 use Rattle.text_laws.proofs.JobReadBack.{job-read-back}
-use Rattle.text_laws.proofs.Spelling.{Spells, spells-none, spells-byte, spells-then, spells-same, spells-whole, Passed, passed, LineRead, line-spelled, three-fields, four-fields}
+use Rattle.text_laws.proofs.Spelling.{Spells, spells-none, spells-byte, spells-then, spells-same, spells-whole, passed, LineRead, line-spelled, three-fields, four-fields}
 
 -- ── rows ──
 
+-- the two marks
 mark-step : (text : List ℕ) (p m q : ℕ) (pixel none : Bool) → eqb (byte text p) 35 ≡ pixel → eqb (byte text p) 46 ≡ none
-    → elim pixel as (λ _. Reading ℕ) [ true ↦ got 1 (suc p) | false ↦ elim none as (λ _. Reading ℕ) [ true ↦ got 0 (suc p) | false ↦ wrong ] ] ≡ got m q
+    → elim pixel as (λ _. Reading ℕ)
+    [ true ↦ got 1 (suc p) | false ↦ elim none as (λ _. Reading ℕ) [ true ↦ got 0 (suc p) | false ↦ wrong ] ]
+    ≡ got m q
     → Spells text p q (mark m ∷ [])
 mark-step text p m q true none h k e =
     let value : _≡_ {A = ℕ} 1 m = cc in
@@ -51,6 +54,7 @@ record MarksRead (text : List ℕ) (left p q : ℕ) (ms : List ℕ) : Type 0 whe
   size : length ms ≡ left
   spells : Spells text p q (map mark ms)
 
+-- they are written there
 marks-spelled : (text : List ℕ) (left p : ℕ) (ms : List ℕ) (q : ℕ) → marksAt text left p ≡ got ms q → MarksRead text left p q ms
 unfolding marksAt
 marks-spelled text zero p ms q e =
@@ -63,7 +67,8 @@ marks-spelled text (suc left) p ms q e =
     let g : _≡_ {A = Reading (List ℕ)} (got (o .value ∷ o′ .value) (o′ .next)) (got ms q) = o′ .goes in
     let value : o .value ∷ o′ .value ≡ ms = cc in
     let next : o′ .next ≡ q = cc in
-    let later : MarksRead text left (o .next) (o′ .next) (o′ .value) = marks-spelled text left (o .next) (o′ .value) (o′ .next) (o′ .reads) in
+    let later : MarksRead text left (o .next) (o′ .next) (o′ .value) =
+    marks-spelled text left (o .next) (o′ .value) (o′ .next) (o′ .reads) in
     record {
       size = ap length (sym value) ∙ ap suc (later .size);
       spells = spells-same (spells-then (mark-spelled text p (o .value) (o .next) (o .reads)) (later .spells)) next (ap (map mark) value);
@@ -80,7 +85,8 @@ unfolding rowAt
 row-spelled text l p ms q e =
     let ending : List ℕ → ℕ → Reading (List ℕ) = λ ms′ r. after (lineEnd ∷ []) text r (λ n. got ms′ n) in
     let w = passed rowWord text p (λ r. onward (marksAt text l r) ending) ms q e in
-    let o : Onward (marksAt text l (p + length rowWord)) ending ms q = got-onward (marksAt text l (p + length rowWord)) ending ms q (w .goes) in
+    let o : Onward (marksAt text l (p + length rowWord)) ending ms q =
+    got-onward (marksAt text l (p + length rowWord)) ending ms q (w .goes) in
     let w′ = passed (lineEnd ∷ []) text (o .next) (λ n. got (o .value) n) ms q (o .goes) in
     let g : _≡_ {A = Reading (List ℕ)} (got (o .value) (o .next + 1)) (got ms q) = w′ .goes in
     let value : o .value ≡ ms = cc in
@@ -138,7 +144,8 @@ pub record RowsRead (text : List ℕ) (l left p : ℕ) (r : Rows) : Type 0 where
   pub spells : Spells text p (r .next) (rowsText (r .pixels) l 0 left)
 
 -- a row in front of the others
-rows-in-front : (l left : ℕ) (ms rest : List ℕ) → length ms ≡ l → rowsText (ms ++ rest) l 0 (suc left) ≡ rowText ms ++ rowsText rest l 0 left
+rows-in-front : (l left : ℕ) (ms rest : List ℕ) → length ms ≡ l
+    → rowsText (ms ++ rest) l 0 (suc left) ≡ rowText ms ++ rowsText rest l 0 left
 unfolding rowsText
 rows-in-front l left ms rest h =
     ap₂ (λ (a b : List ℕ). a ++ b) (ap rowText (part-whole ms rest l h))
@@ -163,7 +170,8 @@ rows-spelled text l (suc left) p line r e =
     let g : _≡_ {A = Outcome Rows} (given whole) (given r) = b .goes in
     let z : whole ≡ r = cc in
     let spelled : Spells text p (b .value .next) (rowsText (f .value ++ b .value .pixels) l 0 (suc left)) =
-    spells-same (spells-then (first .spells) (later .spells)) refl (sym (rows-in-front l left (f .value) (b .value .pixels) (first .size))) in
+    spells-same (spells-then (first .spells) (later .spells)) refl
+    (sym (rows-in-front l left (f .value) (b .value .pixels) (first .size))) in
     let all : RowsRead text l (suc left) p whole =
     record {
       size = length-append (f .value) (b .value .pixels) ∙ (let h = first .size in let k = later .size in omega (arith, suc-mul left l));
@@ -208,7 +216,8 @@ record PieceRead (text : List ℕ) (i p : ℕ) (h : PieceText) : Type 0 where
       (lineText pieceWord fourFields (lineNumbers i (h .columns) (h .rows) (h .turns)) ++ rowsText (h .pixels) (h .columns) 0 (h .rows))
 
 -- they are written there
-piece-spelled : (text : List ℕ) (j : JobLine) (i area p line : ℕ) (h : PieceText) → pieceAt text j i area p line ≡ given h → PieceRead text i p h
+piece-spelled : (text : List ℕ) (j : JobLine) (i area p line : ℕ) (h : PieceText) → pieceAt text j i area p line ≡ given h
+    → PieceRead text i p h
 unfolding pieceAt
 piece-spelled text j i area p line h e =
     let b = given-before (pieceLine text j i area p line) _ h e in
@@ -312,7 +321,8 @@ pieces-only-text text j r e f =
     spells-whole (spells-then (job-line-spelled text j e) (pieces-spelled text j k (j .count) 0 0 (j .next) 2 r all f))
 
 -- a text that is read as a job is the text of that job
-pub job-only-text : (text : List ℕ) (tableLength pixelsLength : ℕ) (k : Lent) → readJob text tableLength pixelsLength ≡ given k → text ≡ jobText k
+pub job-only-text : (text : List ℕ) (tableLength pixelsLength : ℕ) (k : Lent) → readJob text tableLength pixelsLength ≡ given k
+    → text ≡ jobText k
 unfolding readJob
 job-only-text text tableLength pixelsLength k e =
     let b = given-before (jobLine text) _ k e in

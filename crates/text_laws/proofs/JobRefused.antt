@@ -1,10 +1,10 @@
 -- Document 01, 'When a call says no', reading a job: each refusal has its cause, and the line that it names begins where the count of
 -- line ends says. The reader goes from line to line; at each the lines before it are read. Assumes nothing.
-use mathlib.Core.Bool.{Bool, true, false, not, _&&_, _||_}
+use mathlib.Core.Bool.{Bool, true, false, not, _||_}
 use mathlib.Core.List.{List, [], _++_}
-use mathlib.Core.Logic.{_⊎_, inl, inr, ⊎-elim}
-use mathlib.Core.Path.{_≡_, refl, sym, ap, ap₂, subst, _∙_}
-use Prim.Native.Nat.{ℕ, zero, suc, _+_, _*_, _≤_, _<_}
+use mathlib.Core.Logic.{inl, inr, ⊎-elim}
+use mathlib.Core.Path.{_≡_, refl, sym, ap₂, subst}
+use Prim.Native.Nat.{ℕ, zero, suc, _+_, _*_, _<_}
 use native.Mathlib.Nat.{add-zero, zero-add}
 use native.Mathlib.Omega.{arith}
 use lib.Dec.{eqb, ltb}
@@ -14,7 +14,7 @@ use Rattle.model.specs.Piece.{tight}
 use Rattle.model.specs.Refusal.{Outcome, refused, given, Cause, cause, refusalOf, wrongForm, outOfRange, sheetTooLarge, boxesTooLarge, looseBox, boxTooLarge, wrongLength}
 use Rattle.model.specs.Lent.{Lent, areaBound, upTo}
 use Rattle.model.specs.Text.{threeFields, fourFields, lineAt, got, causeIn, andThen}
-use Rattle.model.specs.JobText.{jobWord, pieceWord, JobLine, asJobLine, jobLineCauses, jobLine, PieceLine, asPieceLine, pieceInRange, pieceLineCauses, pieceLine, rowAt, Rows, rowsAt, boxShape, PieceText, rowsCauses, asPieceText, pieceAt, Pieces, noPieces, piecesAt, asLent, bufferCauses, readJob}
+use Rattle.model.specs.JobText.{jobWord, pieceWord, JobLine, asJobLine, jobLineCauses, jobLine, PieceLine, asPieceLine, pieceInRange, pieceLineCauses, pieceLine, rowAt, Rows, rowsAt, boxShape, PieceText, rowsCauses, asPieceText, pieceAt, noPieces, piecesAt, asLent, bufferCauses, readJob}
 use Rattle.model.specs.declared.Refusal.{Refusal}
 use Rattle.model.proofs.Tests.{or-cases, or-neither}
 use Rattle.text_laws.specs.LinePlaces.{LineBegins, LineThere}
@@ -80,7 +80,8 @@ record LastRow (text : List ℕ) (l start top w : ℕ) : Type 0 where
   begins : LineBegins text (suc (top + row)) at
 
 -- there is one
-last-row : {text : List ℕ} (l start top w : ℕ) (left y p line : ℕ) (r : Rows) → y + suc left ≡ w → RowsBefore text l start y p → line ≡ suc (top + y)
+last-row : {text : List ℕ} (l start top w : ℕ) (left y p line : ℕ) (r : Rows) → y + suc left ≡ w → RowsBefore text l start y p
+    → line ≡ suc (top + y)
     → LineBegins text line p → rowsAt text l (suc left) p line ≡ given r → LastRow text l start top w
 unfolding rowsAt
 last-row {text} l start top w zero y p line r all before n b e =
@@ -185,7 +186,8 @@ module _ (text : List ℕ) (tl pl : ℕ) where
       (refused-unless (pieceLineCauses line j i (a .area) h) h r (f .goes)))
       (refused-formed line (lineAt pieceWord fourFields text (a .at)) _ r e)
 
-  module _ (top : ℕ) (a : PiecePlace text top) (h : PieceLine) (heads : pieceLine text (a .job) (a .number) (a .area) (a .at) top ≡ given h) where
+  module _ (top : ℕ) (a : PiecePlace text top) (h : PieceLine)
+      (heads : pieceLine text (a .job) (a .number) (a .area) (a .at) top ≡ given h) where
     -- row lines that refuse
     rows-refused : (left y p line : ℕ) → y + left ≡ h .rows → RowsBefore text (h .columns) (h .next) y p → line ≡ suc (top + y)
         → LineBegins text line p → (r : Refusal) → rowsAt text (h .columns) left p line ≡ refused r → Caused text tl pl r
@@ -278,7 +280,8 @@ module _ (text : List ℕ) (tl pl : ℕ) where
       (refused-before (pieceLine text (a .job) (a .number) (a .area) (a .at) line) _ r e)
 
   -- pieces that refuse
-  pieces-refused : (j : JobLine) → jobLine text ≡ given j → (left i area p line : ℕ) → i + left ≡ j .count → PiecesBefore text j i area p line
+  pieces-refused : (j : JobLine) → jobLine text ≡ given j → (left i area p line : ℕ) → i + left ≡ j .count
+      → PiecesBefore text j i area p line
       → LineBegins text line p → (r : Refusal) → piecesAt text j left i area p line ≡ refused r → Caused text tl pl r
   unfolding piecesAt
   pieces-refused j sheet zero i area p line all before begins r e =
@@ -340,7 +343,8 @@ module _ (text : List ℕ) (tl pl : ℕ) where
         readable =
             rw (f .gives, g .gives, andThen, readJob)
             (unless-given _ k (
-              ap₂ (λ (x y : Bool). x || y) (le-ltb (k .count) (k .count) (omega arith)) (le-ltb (length (k .pixels)) (length (k .pixels)) (omega arith)),
+              ap₂ (λ (x y : Bool). x || y) (le-ltb (k .count) (k .count) (omega arith))
+                  (le-ltb (length (k .pixels)) (length (k .pixels)) (omega arith)),
               tt,
             ));
         short =

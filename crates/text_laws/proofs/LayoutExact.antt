@@ -1,20 +1,19 @@
 -- Document 01, 'Start, layout text, sheet' and 'When a call says no': a text that is read as a layout is just the text that the
 -- layout's writer writes, so no other text is accepted. Line by line: a line that is read is written there in its one spelling, and its
 -- numbers are the job's or the placement's; nothing follows the last line. Assumes nothing.
-use mathlib.Core.Bool.{Bool, true, not, _&&_}
-use mathlib.Core.List.{List, [], _∷_, _++_}
+use mathlib.Core.Bool.{Bool, true, _&&_}
+use mathlib.Core.List.{List, [], _∷_}
 use mathlib.Core.Path.{_≡_, refl, sym, ap, ap₂, _∙_}
 use mathlib.Core.Logic.{_↔_}
 use Prim.Native.Nat.{ℕ, zero, suc, _≤_, _<_}
 use native.Mathlib.Nat.{zero-add}
-use native.Mathlib.Omega.{arith}
 use lib.Dec.{eqb}
 use lib.ListN.{length}
 use borrow.Author.Tests.{not-false, eqb-true}
 use Rattle.model.specs.Layout.{Job, Layout, placeOf}
 use Rattle.model.specs.Refusal.{Outcome, given}
 use Rattle.model.specs.Lent.{rowBound, columnBound, pieceBound}
-use Rattle.model.specs.Buffer.{isTurn, turnOf, entryOf, placementOf}
+use Rattle.model.specs.Buffer.{isTurn, entryOf}
 use Rattle.model.specs.Text.{threeFields, fourFields, lineAt, lineText, field}
 use Rattle.model.specs.LayoutText.{layoutWord, atWord, placementText, placementsText, sheetNumbers, layoutText, PlacementLine, asPlacementLine, layoutLineCauses, placementCauses, layoutLine, placementLine, placementsAt, readLayout}
 use Rattle.model.proofs.Tests.{and-left, and-right}
@@ -89,7 +88,8 @@ placements-spelled j text (suc left) i p line v e =
     refl (ap (placementsText i) z)
 
 -- a text that is read as a layout is the text of that layout
-pub layout-only-text : (j : Job) (text : List ℕ) (layoutLength : ℕ) (v : Layout) → readLayout j text layoutLength ≡ given v → text ≡ layoutText j v
+pub layout-only-text : (j : Job) (text : List ℕ) (layoutLength : ℕ) (v : Layout) → readLayout j text layoutLength ≡ given v
+    → text ≡ layoutText j v
 unfolding readLayout layoutText
 layout-only-text j text layoutLength v e =
     let b = given-before (layoutLine j text) _ v e in

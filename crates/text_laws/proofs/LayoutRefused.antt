@@ -1,20 +1,20 @@
 -- Document 01, 'When a call says no', reading a layout: each refusal has its cause, and the line that it names begins where the count of
 -- line ends says. The reader goes from line to line; at each the lines before it are read. Assumes nothing.
-use mathlib.Core.Bool.{Bool, true, false, not, _&&_, _||_}
-use mathlib.Core.List.{List, [], _∷_}
-use mathlib.Core.Logic.{_⊎_, inl, inr, ⊎-elim}
-use mathlib.Core.Path.{_≡_, refl, sym, ap, subst, _∙_}
-use Prim.Native.Nat.{ℕ, zero, suc, _+_, _≤_, _<_}
+use mathlib.Core.Bool.{Bool, true, not, _&&_}
+use mathlib.Core.List.{List, []}
+use mathlib.Core.Logic.{inl, inr, ⊎-elim}
+use mathlib.Core.Path.{_≡_, refl, sym, ap, subst}
+use Prim.Native.Nat.{ℕ, zero, suc, _+_}
 use native.Mathlib.Nat.{zero-add}
 use native.Mathlib.Omega.{arith}
 use lib.Dec.{eqb}
 use lib.ListN.{length}
-use borrow.Author.Tests.{not-true, not-false, eq-eqb, eqb-true, eqb-false}
+use borrow.Author.Tests.{not-true, not-false, eq-eqb, eqb-false}
 use Rattle.model.specs.Piece.{degrees}
 use Rattle.model.specs.Layout.{Job, Layout, allowed, inside}
-use Rattle.model.specs.Refusal.{Outcome, refused, given, Cause, cause, refusalOf, wrongForm, outOfRange, noSuchPiece, outsideSheet, wrongLength}
+use Rattle.model.specs.Refusal.{refused, Cause, cause, refusalOf, wrongForm, outOfRange, noSuchPiece, outsideSheet, wrongLength}
 use Rattle.model.specs.Text.{threeFields, fourFields, lineAt, field, causeIn, andThen}
-use Rattle.model.specs.LayoutText.{layoutWord, atWord, sheetNumbers, layoutLineCauses, layoutLine, PlacementLine, asPlacementLine, placementCauses, placementLine, placementsAt, readLayout}
+use Rattle.model.specs.LayoutText.{layoutWord, atWord, layoutLineCauses, layoutLine, PlacementLine, asPlacementLine, placementCauses, placementLine, placementsAt, readLayout}
 use Rattle.model.specs.declared.Refusal.{Refusal}
 use Rattle.model.proofs.Tests.{and-both, clash}
 use Rattle.text_laws.specs.LinePlaces.{LineBegins, LineThere}
@@ -61,7 +61,8 @@ module _ (j : Job) (text : List ℕ) (room : ℕ) where
       (λ same.
       clash
       (and-both
-      (and-both (eq-eqb (field ks 0) (j .rows) (ap (λ (l : List ℕ). field l 0) same)) (eq-eqb (field ks 1) (j .columns) (ap (λ (l : List ℕ). field l 1) same)))
+      (and-both (eq-eqb (field ks 0) (j .rows) (ap (λ (l : List ℕ). field l 0) same))
+      (eq-eqb (field ks 1) (j .columns) (ap (λ (l : List ℕ). field l 1) same)))
       (eq-eqb (field ks 2) (j .count) (ap (λ (l : List ℕ). field l 2) same)))
       (not-true (a && b && c) (w .0)))))
       (λ n. absurd (n .1))
@@ -69,7 +70,8 @@ module _ (j : Job) (text : List ℕ) (room : ℕ) where
       (refused-formed 1 (lineAt layoutWord threeFields text 0) _ r e)
 
   -- the line of a piece that refuses
-  placement-line-refused : (line : ℕ) (a : PlacementPlace j text line) (r : Refusal) → placementLine j text (a .number) (a .at) line ≡ refused r
+  placement-line-refused : (line : ℕ) (a : PlacementPlace j text line) (r : Refusal)
+      → placementLine j text (a .number) (a .at) line ≡ refused r
       → Caused j text room r
   unfolding placementLine
   placement-line-refused line a r e =

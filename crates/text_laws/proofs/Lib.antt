@@ -11,6 +11,7 @@ pub mod LayoutRead
 pub mod LayoutReadBack
 pub mod LayoutExact
 pub mod LayoutRefused
+pub mod LayoutCauses
 pub mod Store
 pub mod LentFacts
 pub mod JobRead
@@ -18,5 +19,6 @@ pub mod JobWriting
 pub mod JobReadBack
 pub mod JobExact
 pub mod JobRefused
+pub mod JobCauses
 pub mod LentRead
 pub mod Demand1Text

@@ -1,21 +1,21 @@
 -- Document 01, 'When a call says no', reading: "First place: line, from 1". A line that is read has one line end, its last byte, so the
 -- next line begins just behind it and its number is one more. Assumes nothing.
 use mathlib.Core.Bool.{Bool, true, false}
-use mathlib.Core.List.{List, [], _∷_, _++_, map, append-assoc}
+use mathlib.Core.List.{List, [], _∷_, _++_, map}
 use mathlib.Core.Logic.{inl, inr}
-use mathlib.Core.Path.{_≡_, refl, sym, ap, ap₂, _∙_}
+use mathlib.Core.Path.{_≡_, refl, sym, ap, _∙_}
 use Prim.Native.Nat.{ℕ, zero, suc, _+_, _/_, _%_, _≤_, _<_}
 use native.Mathlib.Nat.{add-zero}
 use native.Mathlib.Omega.{arith}
 use lib.Dec.{eqb, ltb}
-use lib.ListN.{length, getD, List·getD-eq-default}
+use lib.ListN.{length, List·getD-eq-default}
 use borrow.Author.Tests.{ne-eqb, ltb-true, ltb-false}
 use Rattle.model.specs.Bounded.{one-if}
-use Rattle.model.specs.Text.{byte, lineEnd, digitZero, got, standsAt, threeFields, fourFields, lineAt, decimal, digits, fieldsText, lineText}
-use Rattle.model.specs.JobText.{rowWord, rowAt}
+use Rattle.model.specs.Text.{byte, lineEnd, digitZero, standsAt, threeFields, fourFields, decimal, digits, fieldsText, lineText}
+use Rattle.model.specs.JobText.{rowWord}
 use Rattle.text_laws.specs.JobWriting.{mark, rowText}
 use Rattle.text_laws.specs.LinePlaces.{lineEnds, Behind, LineBegins}
-use Rattle.text_laws.proofs.Spelling.{Spells, stands-first, LineRead}
+use Rattle.text_laws.proofs.Spelling.{Spells, stands-first}
 
 -- ── line ends among bytes ──
 
@@ -85,7 +85,8 @@ pub record OneLine (ds : List ℕ) : Type 0 where
   pub last : lastOf ds ≡ lineEnd
 
 -- behind a line begins the next
-pub line-then : {text : List ℕ} {line p q : ℕ} {ds : List ℕ} → LineBegins text line p → Spells text p q ds → OneLine ds → LineBegins text (suc line) q
+pub line-then : {text : List ℕ} {line p q : ℕ} {ds : List ℕ} → LineBegins text line p → Spells text p q ds → OneLine ds
+    → LineBegins text (suc line) q
 line-then {text} {line} {p} {q} {ds} b s o =
     let behind : Behind text q = rw (s .next) (last-stands ds text p (s .stands) (o .last)) in
     record {
@@ -110,8 +111,10 @@ first-line text = record { counted = refl; behind = inl refl; within = omega ari
 digit-no-end : (d : ℕ) → one-if (eqb (digitZero + d) lineEnd) ≡ 0
 digit-no-end d = rw (ne-eqb (digitZero + d) lineEnd (λ e. omega arith))
 
+-- the last digit, alone or behind the others
 decimal-step : (places k : ℕ) (t : Bool) → endsIn (decimal places (k / 10)) ≡ 0
-    → endsIn (elim t as (λ _. List ℕ) [ true ↦ (digitZero + k) ∷ [] | false ↦ decimal places (k / 10) ++ ((digitZero + (k % 10)) ∷ []) ]) ≡ 0
+    → endsIn (elim t as (λ _. List ℕ) [ true ↦ (digitZero + k) ∷ [] | false ↦ decimal places (k / 10) ++ ((digitZero + (k % 10)) ∷ []) ])
+    ≡ 0
 decimal-step places k true h = let d = digit-no-end k in omega arith
 decimal-step places k false h =
     let d = digit-no-end (k % 10) in

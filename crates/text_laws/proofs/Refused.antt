@@ -3,7 +3,7 @@
 use mathlib.Core.Bool.{Bool, true, false}
 use mathlib.Core.List.{List, [], _∷_}
 use mathlib.Core.Logic.{_⊎_, inl, inr}
-use mathlib.Core.Path.{_≡_, refl, sym}
+use mathlib.Core.Path.{_≡_, refl, sym, ap}
 use lib.Dec.{eqb}
 use borrow.Author.Tests.{eqb-true}
 use Prim.Native.Nat.{ℕ}
@@ -17,8 +17,11 @@ abbrev pub Refuses : List Cause → Refusal → Type 0
 Refuses [] r = ⊥
 Refuses (c ∷ cs) r = ((c .there ≡ true) × (refusalOf c ≡ r)) ⊎ ((c .there ≡ false) × Refuses cs r)
 
-refuses-step : {A : Type 0} (c : Cause) (cs : List Cause) (a : A) (r : Refusal) (t : Bool) → c .there ≡ t → (unless cs a ≡ refused r → Refuses cs r)
-    → _≡_ {A = Outcome A} (elim t as (λ _. Outcome A) [ true ↦ refused (refusalOf c) | false ↦ unless cs a ]) (refused r) → Refuses (c ∷ cs) r
+-- the first cause is there, or a later one
+refuses-step : {A : Type 0} (c : Cause) (cs : List Cause) (a : A) (r : Refusal) (t : Bool) → c .there ≡ t
+    → (unless cs a ≡ refused r → Refuses cs r)
+    → _≡_ {A = Outcome A} (elim t as (λ _. Outcome A) [ true ↦ refused (refusalOf c) | false ↦ unless cs a ]) (refused r)
+    → Refuses (c ∷ cs) r
 refuses-step c cs a r true h later e = inl (h, cc)
 refuses-step c cs a r false h later e = inr (h, later e)
 
@@ -27,6 +30,13 @@ pub refused-unless : {A : Type 0} (cs : List Cause) (a : A) (r : Refusal) → un
 unfolding unless
 refused-unless [] a r e = refused-given (sym e)
 refused-unless (c ∷ cs) a r e = refuses-step c cs a r (c .there) refl (refused-unless cs a r) e
+
+-- and the first cause that is there refuses
+pub unless-refused : {A : Type 0} (cs : List Cause) (a : A) (r : Refusal) → Refuses cs r → unless cs a ≡ refused r
+unfolding unless
+unless-refused [] a r h = absurd h
+unless-refused (c ∷ cs) a r (inl h) = rw (h .0, unless) (ap (λ (q : Refusal). refused q) (h .1))
+unless-refused (c ∷ cs) a r (inr h) = rw (h .0, unless) (unless-refused cs a r (h .1))
 
 -- a value after which the call refuses
 pub record ThenRefused {A B : Type 0} (o : Outcome A) (more : A → Outcome B) (r : Refusal) : Type 0 where
@@ -64,6 +74,7 @@ abbrev pub chosen : Bool → Type 0 → Type 0 → Type 0
 chosen true A B = A
 chosen false A B = B
 
+-- the test passes or fails
 choose-step : {A B C : Type 0} (n k : ℕ) (t : Bool) → eqb n k ≡ t → (n ≡ k → A → C) → (B → C) → chosen t A B → C
 choose-step n k true h here later x = here (eqb-true n k h) x
 choose-step n k false h here later x = later x

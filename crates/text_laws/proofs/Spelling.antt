@@ -12,7 +12,7 @@ use lib.Dec.{eqb, leb, ltb}
 use lib.ListN.{length, getD, length-append}
 use lib.Seq.{ext-getD}
 use borrow.Author.Tests.{eq-eqb, eqb-true, eqb-false, lt-ltb, le-ltb, leb-true, ltb-true, not-true}
-use Rattle.model.specs.Text.{byte, digitZero, isDigit, Reading, wrong, got, onward, standsAt, after, Digits, digitsFrom, digitBound, isNumber, asNumber, numberAt, fieldAt, fieldsAt, lineAt, decimal, digits, fieldsText, lineText}
+use Rattle.model.specs.Text.{byte, digitZero, isDigit, Reading, wrong, got, standsAt, after, Digits, digitsFrom, digitBound, isNumber, numberAt, fieldAt, fieldsAt, lineAt, decimal, digits, fieldsText, lineText}
 use Rattle.model.proofs.Tests.{and-left, and-right, or-cases, clash}
 use Rattle.text_laws.proofs.Numbers.{AllDigits, valueFrom}
 use Rattle.text_laws.proofs.Outcomes.{wrong-got, Onward, got-onward}
@@ -26,12 +26,14 @@ pub record Spells (text : List ℕ) (p q : ℕ) (ds : List ℕ) : Type 0 where
 
 -- the first byte of a word
 first-step : (c p : ℕ) (cs text : List ℕ) (t : Bool) → eqb (byte text p) c ≡ t
-    → elim t as (λ _. Bool) [ true ↦ standsAt cs text (suc p) | false ↦ false ] ≡ true → (byte text p ≡ c) × (standsAt cs text (suc p) ≡ true)
+    → elim t as (λ _. Bool) [ true ↦ standsAt cs text (suc p) | false ↦ false ] ≡ true
+    → (byte text p ≡ c) × (standsAt cs text (suc p) ≡ true)
 first-step c p cs text true h e = (eqb-true (byte text p) c h, e)
 first-step c p cs text false h e = absurd (false≢true e)
 
 -- a word that stands at p: its first byte, and the others behind it
-pub stands-first : (c : ℕ) (cs text : List ℕ) (p : ℕ) → standsAt (c ∷ cs) text p ≡ true → (byte text p ≡ c) × (standsAt cs text (suc p) ≡ true)
+pub stands-first : (c : ℕ) (cs text : List ℕ) (p : ℕ) → standsAt (c ∷ cs) text p ≡ true
+    → (byte text p ≡ c) × (standsAt cs text (suc p) ≡ true)
 unfolding standsAt
 stands-first c cs text p e = first-step c p cs text (eqb (byte text p) c) refl e
 
@@ -94,6 +96,7 @@ pub record Passed {A : Type 0} (word text : List ℕ) (p : ℕ) (more : ℕ → 
   pub spells : Spells text p (p + length word) word
   pub goes : more (p + length word) ≡ got a q
 
+-- the word is there, or nothing is read
 passed-step : {A : Type 0} (word text : List ℕ) (p : ℕ) (more : ℕ → Reading A) (a : A) (q : ℕ) (t : Bool) → standsAt word text p ≡ t
     → elim t as (λ _. Reading A) [ true ↦ more (p + length word) | false ↦ wrong ] ≡ got a q → Passed word text p more a q
 passed-step word text p more a q true h e = record { spells = record { next = refl; stands = h }; goes = e }
@@ -114,10 +117,12 @@ record Run (text : List ℕ) (p v left : ℕ) (d : Digits) : Type 0 where
   value : d .value ≡ valueFrom v bytes
   short : length bytes ≤ left
 
+-- one digit more, or the run ends
 run-step : (text : List ℕ) (p v left : ℕ) (t : Bool) → isDigit (byte text p) ≡ t
     → Run text (suc p) (v * 10 + (byte text p - digitZero)) left (digitsFrom text (suc p) (v * 10 + (byte text p - digitZero)) left)
     → Run text p v (suc left)
-    (elim t as (λ _. Digits) [ true ↦ digitsFrom text (suc p) (v * 10 + (byte text p - digitZero)) left | false ↦ record { value = v; next = p } ])
+    (elim t as (λ _. Digits)
+    [ true ↦ digitsFrom text (suc p) (v * 10 + (byte text p - digitZero)) left | false ↦ record { value = v; next = p } ])
 run-step text p v left true h r =
     record {
       bytes = byte text p ∷ r .bytes;
@@ -143,7 +148,9 @@ run text p v (suc left) =
 -- a digit's value
 digit-value : (d : ℕ) → isDigit d ≡ true → (digitZero ≤ d) × (d < digitZero + 10)
 digit-value d e =
-    (leb-true digitZero d (and-left (leb digitZero d) (ltb d (digitZero + 10)) e), ltb-true d (digitZero + 10) (and-right (leb digitZero d) (ltb d (digitZero + 10)) e))
+    let low : Bool = leb digitZero d in
+    let high : Bool = ltb d (digitZero + 10) in
+    (leb-true digitZero d (and-left low high e), ltb-true d (digitZero + 10) (and-right low high e))
 
 -- one digit more is written behind the others
 decimal-snoc : (places v d : ℕ) → 0 < v → isDigit d ≡ true → decimal (suc places) (v * 10 + (d - digitZero)) ≡ decimal places v ++ (d ∷ [])
@@ -189,7 +196,8 @@ one-spelling d ds all short ne =
     ∙ ap (λ (l : List ℕ). l ++ ds) (decimal-one m d (all .0))
 
 -- so are the digits of a number
-number-bytes : (text : List ℕ) (p q : ℕ) (ds : List ℕ) → AllDigits ds → Spells text p q ds → length ds ≤ digitBound → isNumber text p q ≡ true
+number-bytes : (text : List ℕ) (p q : ℕ) (ds : List ℕ) → AllDigits ds → Spells text p q ds → length ds ≤ digitBound
+    → isNumber text p q ≡ true
     → digits (valueFrom 0 ds) ≡ ds
 number-bytes text p q [] all a short e =
     let same : q ≡ p = let n = a .next in omega arith in
@@ -207,10 +215,13 @@ number-bytes text p q (d ∷ (c ∷ ds)) all a short e =
     and-right (isDigit (byte text p) && not (isDigit (byte text q))) (not (eqb (byte text p) digitZero) || eqb q (suc p)) e in
     one-spelling d (c ∷ ds) all short
     (λ z.
-    ⊎-elim (λ (n : not (eqb (byte text p) digitZero) ≡ true). eqb-false (byte text p) digitZero (not-true (eqb (byte text p) digitZero) n) (first ∙ z))
+    ⊎-elim
+    (λ (n : not (eqb (byte text p) digitZero) ≡ true).
+    eqb-false (byte text p) digitZero (not-true (eqb (byte text p) digitZero) n) (first ∙ z))
     (λ (n : eqb q (suc p) ≡ true). let l : q ≡ suc p = eqb-true q (suc p) n in let k = a .next in omega arith)
     (or-cases (not (eqb (byte text p) digitZero)) (eqb q (suc p)) lead))
 
+-- the digits are a number, or nothing is read
 number-step : (text : List ℕ) (p k q : ℕ) (d : Digits) → Run text p 0 digitBound d → (t : Bool) → isNumber text p (d .next) ≡ t
     → elim t as (λ _. Reading ℕ) [ true ↦ got (d .value) (d .next) | false ↦ wrong ] ≡ got k q → Spells text p q (digits k)
 number-step text p k q d r true h e =
@@ -236,7 +247,8 @@ unfolding fieldAt
 field-spelled end text p k q e =
     let ending : ℕ → ℕ → Reading ℕ = λ k′ r. after (end ∷ []) text r (λ n. got k′ n) in
     let o : Onward (numberAt text p) ending k q = got-onward (numberAt text p) ending k q e in
-    let w : Passed (end ∷ []) text (o .next) (λ n. got (o .value) n) k q = passed (end ∷ []) text (o .next) (λ n. got (o .value) n) k q (o .goes) in
+    let w : Passed (end ∷ []) text (o .next) (λ n. got (o .value) n) k q =
+    passed (end ∷ []) text (o .next) (λ n. got (o .value) n) k q (o .goes) in
     let g : _≡_ {A = Reading ℕ} (got (o .value) (o .next + 1)) (got k q) = w .goes in
     let value : o .value ≡ k = cc in
     let next : o .next + 1 ≡ q = cc in
@@ -262,7 +274,8 @@ fields-spelled (end ∷ ends) text p ks q e =
     let value : o .value ∷ o′ .value ≡ ks = cc in
     let next : o′ .next ≡ q = cc in
     let first : Spells text p (o .next) (digits (o .value) ++ (end ∷ [])) = field-spelled end text p (o .value) (o .next) (o .reads) in
-    let later : FieldsRead ends text (o .next) (o′ .next) (o′ .value) = fields-spelled ends text (o .next) (o′ .value) (o′ .next) (o′ .reads) in
+    let later : FieldsRead ends text (o .next) (o′ .next) (o′ .value) =
+    fields-spelled ends text (o .next) (o′ .value) (o′ .next) (o′ .reads) in
     let here : Spells text p (o′ .next) (digits (o .value) ++ (end ∷ fieldsText ends (o′ .value))) =
     rw append-assoc at (spells-then first (later .spells)) in
     record {
@@ -276,7 +289,8 @@ pub record LineRead (word ends text : List ℕ) (p q : ℕ) (ks : List ℕ) : Ty
   pub spells : Spells text p q (lineText word ends ks)
 
 -- it is written there
-pub line-spelled : (word ends text : List ℕ) (p : ℕ) (ks : List ℕ) (q : ℕ) → lineAt word ends text p ≡ got ks q → LineRead word ends text p q ks
+pub line-spelled : (word ends text : List ℕ) (p : ℕ) (ks : List ℕ) (q : ℕ) → lineAt word ends text p ≡ got ks q
+    → LineRead word ends text p q ks
 line-spelled word ends text p ks q e =
     let w : Passed word text p (fieldsAt ends text) ks q = passed word text p (fieldsAt ends text) ks q e in
     let f : FieldsRead ends text (p + length word) q ks = fields-spelled ends text (p + length word) ks q (w .goes) in

@@ -8,12 +8,12 @@ use mathlib.Core.Path.{_≡_}
 use Prim.Native.Nat.{ℕ, suc, _+_, _*_, _≤_, _<_}
 use lib.ListN.{length}
 use Rattle.model.specs.Piece.{tight}
-use Rattle.model.specs.Refusal.{given, wrongForm, outOfRange, sheetTooLarge, boxesTooLarge, looseBox, boxTooLarge, wrongLength}
+use Rattle.model.specs.Refusal.{refused, given, wrongForm, outOfRange, sheetTooLarge, boxesTooLarge, looseBox, boxTooLarge, wrongLength}
 use Rattle.model.specs.Lent.{Lent, rowBound, columnBound, pieceBound, areaBound, upTo}
 use Rattle.model.specs.Text.{wrong, got, threeFields, fourFields, lineAt}
 use Rattle.model.specs.JobText.{jobWord, pieceWord, JobLine, asJobLine, jobLine, PieceLine, asPieceLine, pieceInRange, pieceLine, rowAt, Rows, rowsAt, boxShape, PieceText, pieceAt, readJob}
 use Rattle.model.specs.declared.Refusal.{Refusal}
-use Rattle.text_laws.specs.LinePlaces.{LineBegins, LineThere}
+use Rattle.text_laws.specs.LinePlaces.{LineBegins, LineThere, refusalAt}
 
 -- ── which line ──
 
@@ -28,7 +28,8 @@ pub data PiecesBefore (text : List ℕ) (j : JobLine) : ℕ → ℕ → ℕ → 
   piece-then : {i area p line : ℕ} {h : PieceText} → PiecesBefore text j i area p line → pieceAt text j i area p line ≡ given h
       → PiecesBefore text j (suc i) (area + h .columns * h .rows) (h .next) (suc (line + h .rows))
 
--- the line is a piece line: the job line and the lines of the pieces before it are read
+-- the line is the piece line of the piece of that number: the job line and the lines of the pieces before it are read, with the
+-- areas of their boxes
 pub record PiecePlace (text : List ℕ) (line : ℕ) : Type 0 where
   pub job : JobLine
   pub number : ℕ
@@ -147,3 +148,14 @@ pub record JobRefusalClaims (text : List ℕ) (tableLength pixelsLength : ℕ) (
   pub buffers : r .number ≡ wrongLength → BufferShort text tableLength pixelsLength (r .first)
   pub line : (r .number ≡ wrongLength → ⊥) → LineThere text (r .first)
   pub second : r .second ≡ 0
+
+-- each cause leads to its refusal, so that a text has one of them at most, on one line
+pub record JobCausesRefuse (text : List ℕ) (tableLength pixelsLength : ℕ) : Type 0 where
+  pub form : (line : ℕ) → JobFormWrong text line → readJob text tableLength pixelsLength ≡ refused (refusalAt wrongForm line)
+  pub range : (line : ℕ) → JobOutOfRange text line → readJob text tableLength pixelsLength ≡ refused (refusalAt outOfRange line)
+  pub sheet : (line : ℕ) → SheetTooLarge text line → readJob text tableLength pixelsLength ≡ refused (refusalAt sheetTooLarge line)
+  pub boxes : (line : ℕ) → BoxesTooLarge text line → readJob text tableLength pixelsLength ≡ refused (refusalAt boxesTooLarge line)
+  pub loose : (line : ℕ) → LooseBox text line → readJob text tableLength pixelsLength ≡ refused (refusalAt looseBox line)
+  pub box : (line : ℕ) → BoxTooLarge text line → readJob text tableLength pixelsLength ≡ refused (refusalAt boxTooLarge line)
+  pub buffers : (line : ℕ) → BufferShort text tableLength pixelsLength line
+      → readJob text tableLength pixelsLength ≡ refused (refusalAt wrongLength line)

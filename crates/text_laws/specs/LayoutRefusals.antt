@@ -9,12 +9,12 @@ use Prim.Native.Nat.{ℕ, suc, _<_}
 use lib.Dec.{eqb}
 use lib.ListN.{length}
 use Rattle.model.specs.Layout.{Job, Layout, allowed, inside}
-use Rattle.model.specs.Refusal.{given, wrongForm, outOfRange, noSuchPiece, outsideSheet, wrongLength}
+use Rattle.model.specs.Refusal.{refused, given, wrongForm, outOfRange, noSuchPiece, outsideSheet, wrongLength}
 use Rattle.model.specs.Buffer.{isTurn}
 use Rattle.model.specs.Text.{wrong, got, threeFields, fourFields, lineAt, field}
 use Rattle.model.specs.LayoutText.{layoutWord, atWord, sheetNumbers, layoutLine, PlacementLine, asPlacementLine, placementLine, readLayout}
 use Rattle.model.specs.declared.Refusal.{Refusal}
-use Rattle.text_laws.specs.LinePlaces.{LineBegins, LineThere}
+use Rattle.text_laws.specs.LinePlaces.{LineBegins, LineThere, refusalAt}
 
 -- ── which line ──
 
@@ -24,7 +24,7 @@ pub data PlacementsBefore (j : Job) (text : List ℕ) : ℕ → ℕ → ℕ → 
   placement-then : {i p line : ℕ} {h : PlacementLine} → PlacementsBefore j text i p line → placementLine j text i p line ≡ given h
       → PlacementsBefore j text (suc i) (h .next) (suc line)
 
--- the line is that of a piece: the lines before it are read
+-- the line is that of the piece of that number: the lines before it are read
 pub record PlacementPlace (j : Job) (text : List ℕ) (line : ℕ) : Type 0 where
   pub number : ℕ
   pub at : ℕ
@@ -63,7 +63,8 @@ namesPiece i ks = eqb (field ks 0) i && isTurn (field ks 1)
 pub data LayoutOutOfRange (j : Job) (text : List ℕ) (line : ℕ) : Type 0 where
   sheet-unlike : (ks : List ℕ) (next : ℕ) → line ≡ 1 → lineAt layoutWord threeFields text 0 ≡ got ks next → (ks ≡ sheetNumbers j → ⊥)
       → LayoutOutOfRange j text line
-  placement-out-of-range : (a : PlacementNumbers j text line) → namesPiece (a .place .number) (a .numbers) ≡ false → LayoutOutOfRange j text line
+  placement-out-of-range : (a : PlacementNumbers j text line) → namesPiece (a .place .number) (a .numbers) ≡ false
+      → LayoutOutOfRange j text line
 
 -- 9: the line names the piece and a turn, and the turn is not allowed
 pub record TurnNotAllowed (j : Job) (text : List ℕ) (line : ℕ) : Type 0 where
@@ -90,7 +91,8 @@ pub record LayoutLengthWrong (j : Job) (text : List ℕ) (layoutLength line : �
 -- what is known of a refusal: its number is one of five, each has its cause on the line that the first place names, the line of
 -- each but 7 begins somewhere in the text, and the second place is 0
 pub record LayoutRefusalClaims (j : Job) (text : List ℕ) (layoutLength : ℕ) (r : Refusal) : Type 0 where
-  pub numbers : (r .number ≡ wrongForm) ⊎ ((r .number ≡ outOfRange) ⊎ ((r .number ≡ noSuchPiece) ⊎ ((r .number ≡ outsideSheet) ⊎ (r .number ≡ wrongLength))))
+  pub numbers : (r .number ≡ wrongForm) ⊎ ((r .number ≡ outOfRange)
+      ⊎ ((r .number ≡ noSuchPiece) ⊎ ((r .number ≡ outsideSheet) ⊎ (r .number ≡ wrongLength))))
   pub form : r .number ≡ wrongForm → LayoutFormWrong j text (r .first)
   pub range : r .number ≡ outOfRange → LayoutOutOfRange j text (r .first)
   pub turn : r .number ≡ noSuchPiece → TurnNotAllowed j text (r .first)
@@ -98,3 +100,12 @@ pub record LayoutRefusalClaims (j : Job) (text : List ℕ) (layoutLength : ℕ) 
   pub buffer : r .number ≡ wrongLength → LayoutLengthWrong j text layoutLength (r .first)
   pub line : (r .number ≡ wrongLength → ⊥) → LineThere text (r .first)
   pub second : r .second ≡ 0
+
+-- each cause leads to its refusal, so that a text has one of them at most, on one line
+pub record LayoutCausesRefuse (j : Job) (text : List ℕ) (layoutLength : ℕ) : Type 0 where
+  pub form : (line : ℕ) → LayoutFormWrong j text line → readLayout j text layoutLength ≡ refused (refusalAt wrongForm line)
+  pub range : (line : ℕ) → LayoutOutOfRange j text line → readLayout j text layoutLength ≡ refused (refusalAt outOfRange line)
+  pub turn : (line : ℕ) → TurnNotAllowed j text line → readLayout j text layoutLength ≡ refused (refusalAt noSuchPiece line)
+  pub outside : (line : ℕ) → PlacementOutside j text line → readLayout j text layoutLength ≡ refused (refusalAt outsideSheet line)
+  pub buffer : (line : ℕ) → LayoutLengthWrong j text layoutLength line
+      → readLayout j text layoutLength ≡ refused (refusalAt wrongLength line)

@@ -8,6 +8,7 @@ use lib.Dec.{eqb}
 use lib.ListN.{length}
 use Rattle.model.specs.Bounded.{sumBelow, one-if}
 use Rattle.model.specs.Text.{byte, lineEnd}
+use Rattle.model.specs.declared.Refusal.{Refusal}
 
 -- how many line ends (byte 10) stand among the first p bytes
 unfoldable pub lineEnds : List ℕ → ℕ → ℕ
@@ -30,3 +31,7 @@ pub record LineBegins (text : List ℕ) (line p : ℕ) : Type 0 where
 pub record LineThere (text : List ℕ) (line : ℕ) : Type 0 where
   pub at : ℕ
   pub begins : LineBegins text line at
+
+-- the refusal of a number on a line
+abbrev pub refusalAt : ℕ → ℕ → Refusal
+refusalAt number line = record { number = number; first = line; second = 0 }

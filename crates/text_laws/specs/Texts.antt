@@ -16,8 +16,8 @@ use Rattle.model.specs.LayoutText.{layoutText, readLayout}
 use Rattle.model.specs.declared.Refusal.{Refusal}
 use Rattle.text_laws.specs.JobWriting.{exactly}
 use Rattle.text_laws.specs.Exact.{JobWritten, LayoutWritten}
-use Rattle.text_laws.specs.JobRefusals.{JobRefusalClaims}
-use Rattle.text_laws.specs.LayoutRefusals.{LayoutRefusalClaims}
+use Rattle.text_laws.specs.JobRefusals.{JobRefusalClaims, JobCausesRefuse}
+use Rattle.text_laws.specs.LayoutRefusals.{LayoutRefusalClaims, LayoutCausesRefuse}
 
 -- W, L, n, n entries and box pixels are there, and reading some text gives them
 pub record Readable (k : Lent) : Type 0 where
@@ -63,6 +63,10 @@ pub record Demand1Text : Type 0 where
   -- a refusal of reading a job has its cause on the line that it names, and that line begins where the line ends before it say
   pub job-refused : (text : List ℕ) (tableLength pixelsLength : ℕ) (r : Refusal) → readJob text tableLength pixelsLength ≡ refused r
       → JobRefusalClaims text tableLength pixelsLength r
+  -- and each such cause leads to its refusal
+  pub job-caused : (text : List ℕ) (tableLength pixelsLength : ℕ) → JobCausesRefuse text tableLength pixelsLength
   -- so has a refusal of reading a layout
   pub layout-refused : (j : Job) (text : List ℕ) (layoutLength : ℕ) (r : Refusal) → readLayout j text layoutLength ≡ refused r
       → LayoutRefusalClaims j text layoutLength r
+  -- and so does each cause there
+  pub layout-caused : (j : Job) (text : List ℕ) (layoutLength : ℕ) → LayoutCausesRefuse j text layoutLength
