@@ -3,10 +3,10 @@
 -- weighted sum and keeps every piece inside in a turn allowed to it. The laws of a run do the rest. Assumes nothing.
 use mathlib.Core.Bool.{Bool, true, false}
 use mathlib.Core.Path.{_≡_, refl, sym, _∙_, ap}
-use mathlib.Core.Logic.{⊎-elim}
+use mathlib.Core.Logic.{⊎-elim, _≢_}
 use mathlib.Core.List.{List}
 use mathlib.Core.Option.{Option, none, some}
-use Prim.Native.Nat.{ℕ, _<_, _≤_}
+use Prim.Native.Nat.{ℕ, _+_, _*_, _<_, _≤_}
 use native.Mathlib.Nat.{le-trans}
 use native.Mathlib.Decide.{ℕ-discrete}
 use native.Mathlib.Omega.{arith}
@@ -21,6 +21,7 @@ use Rattle.model.specs.Descent.{Trial, Attempt, moved, quiet, Descent, trials, 
 use Rattle.model.specs.declared.Turn.{Turn}
 use Rattle.model.specs.declared.Direction.{Direction}
 use Rattle.model.specs.declared.Direction.the-variants.{Horizontal, Vertical}
+use Rattle.model.specs.declared.End.the-variants.{Spent}
 use Rattle.model.specs.declared.Line.{Line}
 use Rattle.model.specs.declared.Line.the-variants.{InRow, InColumn}
 use Rattle.model.specs.declared.Placement.{Placement}
@@ -213,10 +214,10 @@ descent-claims j ws budget v l weights h =
       rival =
           λ c w r. ⊎-elim (λ e. rw (run .sumOfLayout) (quiet-rival j ws (d .layout) w (run .good) (run .settledMeansQuiet e) r))
           (λ e. let z = run .clearMeansZero e in omega arith) c;
-      sumAtMost = let f = run .movesAtMostFall in omega arith;
+      sumAtMost = atMost;
       zeroExactly = rw (run .sumOfLayout) (zero-exactly j ws (d .layout) weights);
       movesAtMostFall = run .movesAtMostFall;
-      budgetSuffices = λ enough e. (let few = run .spentMeansFew e in let all = run .spentMeansBudget e in omega arith);
+      budgetSuffices = suffices;
       sumOfLayout = run .sumOfLayout;
       valid = run .good;
       clearExactly = (run .clearMeansZero, run .zeroMeansClear);
@@ -230,3 +231,10 @@ descent-claims j ws budget v l weights h =
 
     run : Ran (weightedSum j ws) (trials j) (ValidLayout j) (Quiet j ws) v budget d
     run = descent-ran j ws budget v l h
+
+    -- arithmetic proves these two claims and every weaker one, so they are said in full here too
+    atMost : d .sum ≤ weightedSum j ws v
+    atMost = let f = run .movesAtMostFall in omega arith
+
+    suffices : length (trials j) * (weightedSum j ws v + 1) ≤ budget → d .end ≢ Spent
+    suffices enough e = let few = run .spentMeansFew e in let all = run .spentMeansBudget e in omega arith

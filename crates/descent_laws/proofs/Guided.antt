@@ -111,7 +111,7 @@ round-more j ws budget K v r rs h begins by unclear later =
     record {
       each = λ s m. ⊎-elim (λ (e : s ≡ r). rw e h) (later .each s) (List·Memᴰ·cases-cons m);
       some = λ _. omega arith;
-      atMost = let l = later .atMost in omega arith;
+      atMost = let l : length rs ≤ K = later .atMost in omega arith;
       first = λ _. (begins, by);
       next = follows;
       fewerMeansClear = last;
