@@ -5,16 +5,8 @@
 
 use std::fmt;
 
-pub use sigbrol::Place;
-use sigbrol::Reply;
-
-/// The largest numbers of a job: pieces, bytes of all boxes together, bytes of a job text that the program reads.
-const PIECES: usize = 64;
-const PIXELS: usize = 65_536;
-pub const TEXT: usize = 65_536;
-
-/// A layout text has a line of at most 20 bytes and at most 64 of at most 18.
-const LAYOUT_TEXT: usize = 2_048;
+pub use sigbrol::{Place, TEXT};
+use sigbrol::{Reply, LAYOUT_TEXT, PIECES, PIXELS};
 
 /// A call that is refused, and by what.
 #[derive(Clone, Copy, Debug, PartialEq, Eq)]

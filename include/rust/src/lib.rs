@@ -3,6 +3,15 @@
 
 #![no_std]
 
+/// The largest numbers of a job: pieces, bytes of all boxes together, bytes of a job text that the program reads.
+pub const PIECES: usize = 64;
+pub const PIXELS: usize = 65_536;
+pub const TEXT: usize = 65_536;
+
+/// Lengths that suffice for every job: bytes of a layout text and of the program's output.
+pub const LAYOUT_TEXT: usize = 2_048;
+pub const OUTPUT: usize = 4_096;
+
 /// A piece's entry of the table: l, w, o.
 pub type Entry = [u8; 3];
 
