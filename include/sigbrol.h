@@ -10,8 +10,8 @@
  *   {l, w, o} a piece) and the pixel bytes with their length (1 or 0, row by row, piece after piece). sigbrol_read_job fills all of
  *   it. Table and pixels may be longer than the job needs; what lies beyond is not looked at.
  * - A layout has an entry {turn, x, y} a piece, weights one number (1 to 65,535) a pair in the order (0,1), (0,2), .., (1,2), ..:
- *   both have exactly that length, SIGBROL_PAIRS(n) for the weights. Up to C17 a layout or store that is not const needs a cast where
- *   a call only reads it: (const uint16_t(*)[3])layout.
+ *   both have exactly that length, SIGBROL_PAIRS(n) for the weights. Where a call only reads a layout that is not const, C up to C17
+ *   asks for a cast: SIGBROL_PLACES(layout) has it, and SIGBROL_LENT and SIGBROL_READ_STORES have theirs.
  * - A strip is {line, first, count}: in a row store {y, first x, count}, in a column store {x, first y, count}.
  * - `vertical` is 0 for a shift along the rows (horizontal) and any other number for one along the columns.
  *
@@ -38,13 +38,53 @@
 extern "C" {
 #endif
 
+/* The version of this interface. It grows by 1 where anything below changes for a caller. */
+#define SIGBROL_VERSION 2
+
 /* The largest numbers of a job: pieces, bytes of all boxes together, bytes of a job text that the program reads. */
 #define SIGBROL_PIECES 64
 #define SIGBROL_PIXELS 65536
 #define SIGBROL_TEXT 65536
 
-/* How many pairs n pieces have, so how many weights. */
+/* Lengths that suffice for every job: strips of a store, its starts, runs of a no-fit row or column, bytes of a layout text and of the
+ * program's output. */
+#define SIGBROL_STRIPS SIGBROL_PIXELS
+#define SIGBROL_STARTS (SIGBROL_PIECES + 1)
+#define SIGBROL_RUNS 255
+#define SIGBROL_LAYOUT_TEXT 2048
+#define SIGBROL_OUTPUT 4096
+
+/* How many pairs n pieces have, so how many weights, and the largest weight. */
 #define SIGBROL_PAIRS(n) ((size_t)(n) * ((size_t)(n) - 1) / 2)
+#define SIGBROL_WEIGHT 65535
+
+/* Turns, in degrees, and each one's part of the sum o of the turns that a piece may take. */
+#define SIGBROL_TURN_0 0
+#define SIGBROL_TURN_90 90
+#define SIGBROL_TURN_180 180
+#define SIGBROL_TURN_270 270
+#define SIGBROL_ALLOWS(turn) (1 << (turn) / 90)
+
+/* Directions, for `vertical`. */
+#define SIGBROL_HORIZONTAL 0
+#define SIGBROL_VERTICAL 1
+
+/* The numbers of refusals. README.md says what to do about each. */
+#define SIGBROL_DONE 0
+#define SIGBROL_WRONG_FORM 1
+#define SIGBROL_OUT_OF_RANGE 2
+#define SIGBROL_SHEET_TOO_LARGE 3
+#define SIGBROL_BOXES_TOO_LARGE 4
+#define SIGBROL_LOOSE_BOX 5
+#define SIGBROL_BOX_TOO_LARGE 6
+#define SIGBROL_WRONG_LENGTH 7
+#define SIGBROL_NOT_OURS 8
+#define SIGBROL_NO_SUCH_PIECE 9
+#define SIGBROL_OUTSIDE 10
+#define SIGBROL_EMPTY_LINE 11
+#define SIGBROL_SHARED_PIXEL 12
+#define SIGBROL_LAID_ALREADY 13
+#define SIGBROL_NOT_LAID 14
 
 /* What a call replies: number 0, or why and where it is refused. */
 typedef struct {
@@ -66,6 +106,30 @@ typedef struct {
     (job)->rows, (job)->columns, (job)->count, (const uint8_t(*)[3])(job)->table, (size_t)SIGBROL_PIECES, (job)->pixels, \
         (size_t)SIGBROL_PIXELS
 
+/* A layout as an argument of a call that only reads it. */
+#define SIGBROL_PLACES(layout) ((const uint16_t(*)[3])(layout))
+
+/* The strips of all pieces in the caller's memory: the row store and the column store, each with its starts. The eight arguments by which
+ * sigbrol_strips fills them, and those by which sigbrol_stretch and sigbrol_stretch_refusal read them. */
+typedef struct {
+    uint8_t row_strips[SIGBROL_STRIPS][3];
+    uint32_t row_starts[SIGBROL_STARTS];
+    uint8_t column_strips[SIGBROL_STRIPS][3];
+    uint32_t column_starts[SIGBROL_STARTS];
+} sigbrol_stores;
+
+#define SIGBROL_FILL_STORES(stores) \
+    (stores)->row_strips, (size_t)SIGBROL_STRIPS, (stores)->row_starts, (size_t)SIGBROL_STARTS, (stores)->column_strips, \
+        (size_t)SIGBROL_STRIPS, (stores)->column_starts, (size_t)SIGBROL_STARTS
+
+#define SIGBROL_READ_STORES(stores) \
+    (const uint8_t(*)[3])(stores)->row_strips, (size_t)SIGBROL_STRIPS, (stores)->row_starts, (size_t)SIGBROL_STARTS, \
+        (const uint8_t(*)[3])(stores)->column_strips, (size_t)SIGBROL_STRIPS, (stores)->column_starts, (size_t)SIGBROL_STARTS
+
+/* The first strip of a stretch, as an argument: `first` is what sigbrol_stretch has filled. */
+#define SIGBROL_STRETCH(stores, vertical, first) \
+    ((const uint8_t(*)[3])((vertical) ? (stores)->column_strips : (stores)->row_strips) + (first))
+
 /* ---- a job ---- */
 
 /* Reads a job text of any length: fills `rows` (W), `columns` (L), `count` (n), the front of the table (n entries) and the front of the
@@ -79,8 +143,8 @@ sigbrol_reply sigbrol_read_job(const uint8_t *text, size_t text_length, uint8_t 
 /* ---- strips ---- */
 
 /* Fills the front of the row store and of the column store with the strips of all pieces in the given turns (n degrees), piece after
- * piece, and the front of the starts of each with n + 1 numbers: where each piece's strips begin, and the total. SIGBROL_PIXELS strips
- * a store suffice for every job.
+ * piece, and the front of the starts of each with n + 1 numbers: where each piece's strips begin, and the total. SIGBROL_STRIPS strips
+ * a store and SIGBROL_STARTS starts suffice for every job.
  * Refused: 8 the job; 9 not n turns, or a turn that is not allowed; 7 a store or starts too short. */
 sigbrol_reply sigbrol_strips(size_t rows, size_t columns, size_t count, const uint8_t (*table)[3], size_t table_length,
                              const uint8_t *pixels, size_t pixels_length, const uint16_t *turns, size_t turns_length,
@@ -113,8 +177,8 @@ sigbrol_reply sigbrol_rebuild(uint16_t columns, uint16_t rows, uint8_t vertical,
 /* ---- two pieces ---- */
 
 /* The column offsets at which pieces i and k, turned, share a pixel when k's corner is `offset` rows above i's: fills the front of
- * `runs` with {first, count}, ascending, and `runs_count`. The strips are the pieces' stretches from the row store. 255 runs suffice for
- * every two pieces.
+ * `runs` with {first, count}, ascending, and `runs_count`. The strips are the pieces' stretches from the row store. SIGBROL_RUNS runs
+ * suffice for every two pieces.
  * Refused: 8 the job; 9 no such piece, or a turn that is not allowed; 8 a stretch that is not that piece's; 7 `runs` is too short. */
 sigbrol_reply sigbrol_no_fit_row(size_t rows, size_t columns, size_t count, const uint8_t (*table)[3], size_t table_length,
                                  const uint8_t *pixels, size_t pixels_length, size_t i, uint16_t i_turn, const uint8_t (*i_strips)[3],
@@ -175,7 +239,8 @@ sigbrol_reply sigbrol_check(size_t rows, size_t columns, size_t count, const uin
 sigbrol_reply sigbrol_start(size_t rows, size_t columns, size_t count, const uint8_t (*table)[3], size_t table_length,
                             const uint8_t *pixels, size_t pixels_length, uint16_t (*layout)[3], size_t layout_length);
 
-/* The layout as text: fills the front of `text` and `written`, how many bytes. 2,048 bytes suffice for every layout.
+/* The layout as text: fills the front of `text` and `written`, how many bytes. SIGBROL_LAYOUT_TEXT bytes suffice for
+ * every layout.
  * Refused: 8 the job; 7 the layout's length; 9; 10; 7 the text buffer is too short. */
 sigbrol_reply sigbrol_write_layout(size_t rows, size_t columns, size_t count, const uint8_t (*table)[3], size_t table_length,
                                    const uint8_t *pixels, size_t pixels_length, const uint16_t (*layout)[3], size_t layout_length,

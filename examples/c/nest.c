@@ -10,12 +10,6 @@
 #define ROUNDS 20
 #define BUDGET 1000
 
-/* A layout text has a line of at most 20 bytes and at most 64 of at most 18. */
-#define LAYOUT_TEXT 2048
-
-/* C takes a layout that a call only reads as one of const entries; the cast is needed up to C17. */
-#define READ_ONLY(layout) ((const uint16_t(*)[3])(layout))
-
 /* What the search holds: the present layout and weights, the best layout so far with its plain sum, and the work of all rounds. */
 typedef struct {
     uint16_t layout[SIGBROL_PIECES][3];
@@ -31,7 +25,7 @@ static const char *const end_names[] = {"clear", "settled", "spent"};
 /* Ends the program where a call is refused. After a job has been read that is a mistake of this program, such as a wrong length. */
 static void must(const char *call, sigbrol_reply reply)
 {
-    if (reply.number != 0) {
+    if (reply.number != SIGBROL_DONE) {
         fprintf(stderr, "%s refused: %" PRIu32 ", places %" PRIu32 " and %" PRIu32 "\n", call, reply.number, reply.first, reply.second);
         exit(EXIT_FAILURE);
     }
@@ -41,7 +35,7 @@ static void must(const char *call, sigbrol_reply reply)
 static uint64_t plain_sum(const sigbrol_job *job, uint16_t (*layout)[3])
 {
     uint64_t sum = 0;
-    must("sigbrol_plain_sum", sigbrol_plain_sum(SIGBROL_LENT(job), READ_ONLY(layout), job->count, &sum));
+    must("sigbrol_plain_sum", sigbrol_plain_sum(SIGBROL_LENT(job), SIGBROL_PLACES(layout), job->count, &sum));
     return sum;
 }
 
@@ -71,7 +65,7 @@ static int shares_pixel(const sigbrol_job *job, uint16_t (*layout)[3], size_t i,
         }
     }
     uint8_t shares = 0;
-    must("sigbrol_shares_pixel", sigbrol_shares_pixel(SIGBROL_LENT(job), READ_ONLY(layout), job->count, i, k, &shares));
+    must("sigbrol_shares_pixel", sigbrol_shares_pixel(SIGBROL_LENT(job), SIGBROL_PLACES(layout), job->count, i, k, &shares));
     return shares;
 }
 
@@ -81,7 +75,7 @@ static void raise_weights(const sigbrol_job *job, search *s)
     size_t pair = 0;
     for (size_t i = 0; i < job->count; i++) {
         for (size_t k = i + 1; k < job->count; k++, pair++) {
-            if (s->weights[pair] < 65535 && shares_pixel(job, s->layout, i, k)) {
+            if (s->weights[pair] < SIGBROL_WEIGHT && shares_pixel(job, s->layout, i, k)) {
                 s->weights[pair]++;
             }
         }
@@ -113,13 +107,13 @@ static uint8_t run_round(const sigbrol_job *job, search *s, int number)
 static void print_best(const sigbrol_job *job, search *s)
 {
     if (s->best_sum == 0) {
-        must("sigbrol_check", sigbrol_check(SIGBROL_LENT(job), READ_ONLY(s->best), job->count));
+        must("sigbrol_check", sigbrol_check(SIGBROL_LENT(job), SIGBROL_PLACES(s->best), job->count));
     }
-    uint8_t text[LAYOUT_TEXT];
+    uint8_t text[SIGBROL_LAYOUT_TEXT];
     size_t written = 0, used = 0;
     must("sigbrol_write_layout",
-         sigbrol_write_layout(SIGBROL_LENT(job), READ_ONLY(s->best), job->count, text, sizeof text, &written));
-    must("sigbrol_used_length", sigbrol_used_length(SIGBROL_LENT(job), READ_ONLY(s->best), job->count, &used));
+         sigbrol_write_layout(SIGBROL_LENT(job), SIGBROL_PLACES(s->best), job->count, text, sizeof text, &written));
+    must("sigbrol_used_length", sigbrol_used_length(SIGBROL_LENT(job), SIGBROL_PLACES(s->best), job->count, &used));
     fwrite(text, 1, written, stdout);
     printf("end,%s,%" PRIu64 ",%" PRIu64 ",%" PRIu64 ",%zu\n", s->best_sum == 0 ? "clear" : "open", s->best_sum, s->trials, s->moves,
            used);
@@ -136,12 +130,12 @@ static int read_job(sigbrol_job *job)
         exit(EXIT_FAILURE);
     }
     if (length > SIGBROL_TEXT) {
-        printf("refused,7,0\n");
+        printf("refused,%d,0\n", SIGBROL_WRONG_LENGTH);
         return 0;
     }
     sigbrol_reply reply = sigbrol_read_job(text, length, job->table, SIGBROL_PIECES, job->pixels, SIGBROL_PIXELS, &job->rows,
                                            &job->columns, &job->count);
-    if (reply.number != 0) {
+    if (reply.number != SIGBROL_DONE) {
         printf("refused,%" PRIu32 ",%" PRIu32 "\n", reply.number, reply.first);
         return 0;
     }

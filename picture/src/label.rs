@@ -13,7 +13,7 @@ pub struct Square {
 /// A largest square inside a set, nearest to the middle of the box, if the set has a cell.
 pub fn largest_square(grid: &Grid) -> Option<Square> {
     // A square's side at its top-right cell is one more than the least of its three neighbours there.
-    let mut sides = vec![0; grid.area()];
+    let mut sides = vec![0; grid.columns * grid.rows];
     let mut best: Option<Square> = None;
     for (x, y) in grid.cells() {
         let side_at = |x: usize, y: usize| sides[y * grid.columns + x];

@@ -1,8 +1,9 @@
-//! Reading of the layout text, and where its pieces lie.
+//! A job and its layout, read by the second program's library, and where the pieces lie.
+
+use second::job::{self, Job, Refusal};
+use second::layout;
 
 use crate::grid::Grid;
-use crate::job::Job;
-use crate::lines::Lines;
 
 /// A piece where it lies: its turned pixels and the corner of its turned box.
 pub struct Placed {
@@ -40,65 +41,71 @@ impl Layout {
     }
 }
 
-/// Reads a layout of a job's pieces; what follows from a line `end,..` on is not read.
-pub fn read(job: &Job, text: &str) -> Result<Layout, String> {
-    let mut lines = Lines::new("layout", text);
-    let [version, rows, columns, count] = lines.take_numbers("layout")?;
-    lines.require(version == 1, "has a version other than 1")?;
-    let same = (rows, columns, count) == (job.rows, job.columns, job.pieces.len());
-    lines.require(same, "has another sheet or number of pieces than the job")?;
-    let mut layout = Layout {
-        rows,
-        columns,
-        pieces: Vec::new(),
-    };
-    for _ in 0..count {
-        let placed = read_place(&mut lines, job, layout.pieces.len())?;
-        layout.pieces.push(placed);
-    }
-    let ended = lines.next()?.is_none_or(|line| line.starts_with("end,"));
-    lines.require(ended, "follows the last line")?;
-    Ok(layout)
+/// Reads a job and a layout of its pieces; what follows from a line `end,..` on is not read.
+pub fn read(job: &[u8], layout: &[u8]) -> Result<Layout, String> {
+    let job = job::read(job).map_err(|refusal| said("job", refusal))?;
+    let places = layout::read(&job, layout_part(layout));
+    let places = places.map_err(|refusal| said("layout", refusal))?;
+    Ok(Layout {
+        rows: job.rows,
+        columns: job.columns,
+        pieces: placed(&job, &places),
+    })
 }
 
-/// Reads the line of one piece.
-fn read_place(lines: &mut Lines, job: &Job, index: usize) -> Result<Placed, String> {
-    let [number, degrees, x, y] = lines.take_numbers("at")?;
-    lines.require(
-        number == index,
-        "has another piece number than its place says",
-    )?;
-    let piece = &job.pieces[index];
-    lines.require(
-        piece.allows(degrees),
-        "has a turn that the piece may not take",
-    )?;
-    let grid = piece.grid.turned(degrees / 90);
-    let inside = x + grid.columns <= job.columns && y + grid.rows <= job.rows;
-    lines.require(inside, "places the piece outside the sheet")?;
-    Ok(Placed {
-        grid,
-        degrees,
-        x,
-        y,
-    })
+/// The pieces of a job where a layout puts them.
+fn placed(job: &Job, places: &[layout::Placement]) -> Vec<Placed> {
+    let pieces = job.pieces.iter().zip(places);
+    let placed = pieces.map(|(piece, place)| Placed {
+        grid: Grid::of_shape(&piece.shape.turned(place.turn)),
+        degrees: place.turn.degrees(),
+        x: place.x,
+        y: place.y,
+    });
+    placed.collect()
+}
+
+/// The lines of an output in front of the line `end,..`, all where there is none.
+fn layout_part(text: &[u8]) -> &[u8] {
+    let is_end = |at: &usize| text[*at..].starts_with(b"\nend,");
+    let end = (0..text.len()).find(is_end);
+    end.map_or(text, |at| &text[..at + 1])
+}
+
+/// What is wrong with a line of a text, in words.
+fn said(name: &str, refusal: Refusal) -> String {
+    let words = match refusal.number {
+        1 => "has the wrong form, is missing or is one too many",
+        2 => "has a number out of range or unlike the job's",
+        3 => "has too large a sheet",
+        4 => "has too large a total of box areas",
+        5 => "ends a piece whose box is loose",
+        6 => "has a piece larger than the sheet",
+        9 => "has a turn that the piece may not take",
+        _ => "places the piece outside the sheet",
+    };
+    format!("{name}: line {} {words}", refusal.line)
 }
 
 #[cfg(test)]
 mod tests {
     use super::*;
-    use crate::job;
 
     /// Two corner pieces that may take turn 180 on a sheet of 2 rows and 4 columns.
-    fn job() -> Job {
+    fn job() -> String {
         let piece = |number| format!("piece,{number},2,2,5\nrow,##\nrow,#.\n");
-        job::read(&format!("job,1,2,4,2\n{}{}", piece(0), piece(1))).expect("the job is right")
+        format!("job,1,2,4,2\n{}{}", piece(0), piece(1))
+    }
+
+    /// The layout of the two pieces that a text says.
+    fn layout(text: &str) -> Result<Layout, String> {
+        read(job().as_bytes(), text.as_bytes())
     }
 
     #[test]
     fn pieces_lie_turned_at_their_corners() {
         let text = "layout,1,2,4,2\nat,0,0,0,0\nat,1,180,1,0\nend,clear,0,0,0,3\nand more";
-        let layout = read(&job(), text).expect("the layout is right");
+        let layout = layout(text).expect("the layout is right");
         assert_eq!(layout.used_length(), 3);
         assert_eq!(layout.shared().count(), 0);
         assert!(!layout.pieces[1].grid.has(0, 0) && layout.pieces[1].grid.has(1, 0));
@@ -107,35 +114,32 @@ mod tests {
     #[test]
     fn shared_pixels() {
         let text = "layout,1,2,4,2\nat,0,0,1,0\nat,1,0,2,0\n";
-        let shared = read(&job(), text).expect("the layout is right").shared();
+        let shared = layout(text).expect("the layout is right").shared();
         assert_eq!(shared.count(), 1);
         assert!(shared.has(2, 0));
     }
 
     #[test]
-    fn wrong_layouts_name_their_line() {
+    fn wrong_texts_name_their_line() {
         let right = "layout,1,2,4,2\nat,0,0,0,0\nat,1,0,2,0\n";
-        assert!(read(&job(), right).is_ok());
+        assert!(layout(right).is_ok());
         for (text, line) in [
             ("", 1),
             ("refused,1,1\n", 1),
             ("layout,1,2,5,2\n", 1),
-            ("layout,2,2,4,2\n", 1),
-            ("layout,1,2,4,2\nat,1,0,0,0\n", 2),
             ("layout,1,2,4,2\nat,0,90,0,0\n", 2),
-            ("layout,1,2,4,2\nat,0,45,0,0\n", 2),
             ("layout,1,2,4,2\nat,0,0,3,0\n", 2),
-            ("layout,1,2,4,2\nat,0,0,0,1\n", 2),
-            ("layout,1,2,4,2\nat,0,0,0,0\n", 3),
             ("layout,1,2,4,2\nat,0,0,0,0\nend,clear,0,0,0,4\n", 3),
             ("layout,1,2,4,2\nat,0,0,0,0\nat,1,0,2,0", 3),
             ("layout,1,2,4,2\nat,0,0,0,0\nat,1,0,2,0\nat,2,0,0,0\n", 4),
         ] {
-            let found = read(&job(), text).err().unwrap_or_default();
-            assert!(
-                found.starts_with(&format!("layout: line {line} ")),
-                "{text}: {found}"
-            );
+            let found = layout(text).err().unwrap_or_default();
+            let place = format!("layout: line {line} ");
+            assert!(found.starts_with(&place), "{text}: {found}");
         }
+        let loose = job().replacen("row,#.", "row,..", 1);
+        let found = read(loose.as_bytes(), right.as_bytes()).err();
+        let expected = "job: line 4 ends a piece whose box is loose";
+        assert_eq!(found.as_deref(), Some(expected));
     }
 }

@@ -1,14 +1,12 @@
 //! Draws a layout as SVG: `picture JOB LAYOUT > layout.svg`.
 //!
-//! `job` and `layout` read the two texts by their `lines`, `grid` turns pixel sets, `outline` finds
-//! their edges, `label` the places of the numbers, `colour` the colours, and `svg` draws.
+//! `layout` reads the two texts through the second program's library, `grid` has pixel sets, `outline`
+//! finds their edges, `label` the places of the numbers, `colour` the colours, and `svg` draws.
 
 mod colour;
 mod grid;
-mod job;
 mod label;
 mod layout;
-mod lines;
 mod outline;
 mod svg;
 
@@ -33,14 +31,13 @@ fn picture(arguments: &[String]) -> Result<String, String> {
     let [job, layout] = arguments else {
         return Err("usage: picture JOB LAYOUT".to_string());
     };
-    let job = job::read(&text(job)?)?;
-    let layout = layout::read(&job, &text(layout)?)?;
+    let layout = layout::read(&bytes(job)?, &bytes(layout)?)?;
     Ok(svg::draw(&layout))
 }
 
-/// The text of a file.
-fn text(file: &str) -> Result<String, String> {
-    fs::read_to_string(file).map_err(|error| format!("{file}: {error}"))
+/// The bytes of a file.
+fn bytes(file: &str) -> Result<Vec<u8>, String> {
+    fs::read(file).map_err(|error| format!("{file}: {error}"))
 }
 
 /// Prints a text on standard output.

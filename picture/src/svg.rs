@@ -255,16 +255,13 @@ fn counted(number: usize, noun: &str) -> String {
 #[cfg(test)]
 mod tests {
     use super::*;
-    use crate::{job, layout};
+    use crate::layout;
 
     /// The picture of a corner piece and a square on a sheet of 10 rows and 12 columns, scale 90.
     fn picture(places: &str) -> String {
-        let job = job::read(
-            "job,1,10,12,2\npiece,0,2,2,15\nrow,##\nrow,#.\npiece,1,2,2,1\nrow,##\nrow,##\n",
-        )
-        .expect("the job is right");
+        let job = b"job,1,10,12,2\npiece,0,2,2,15\nrow,##\nrow,#.\npiece,1,2,2,1\nrow,##\nrow,##\n";
         let text = format!("layout,1,10,12,2\n{places}");
-        draw(&layout::read(&job, &text).expect("the layout is right"))
+        draw(&layout::read(job, text.as_bytes()).expect("job and layout are right"))
     }
 
     #[test]

@@ -35,6 +35,11 @@ impl Piece {
         let allowed = |turn: &Turn| self.turn_sum & (1 << turn.index()) != 0;
         Turn::ALL.into_iter().filter(allowed)
     }
+
+    /// The turn of so many degrees, if the piece may take it.
+    pub fn turn_of(&self, degrees: usize) -> Option<Turn> {
+        self.turns().find(|turn| turn.degrees() == degrees)
+    }
 }
 
 /// A sheet of `rows` by `columns` pixels and the pieces to lay on it.

@@ -1,9 +1,9 @@
-//! Placements of pieces, the start layout, the used length and the layout text.
+//! Placements of pieces, the start layout, the used length and the layout text, written and read.
 
 use std::cmp::Reverse;
 use std::fmt::Write;
 
-use crate::job::Job;
+use crate::job::{Job, Lines, Piece, Refusal};
 use crate::shape::{Direction, Turn};
 
 /// A turn and the corner, which is the bottom-left pixel of the turned box.
@@ -71,4 +71,37 @@ pub fn text(job: &Job, layout: &[Placement]) -> String {
             .expect("writing to a string succeeds");
     }
     text
+}
+
+/// Reads the layout text of a job; the first cause of refusal, line by line, is returned.
+pub fn read(job: &Job, text: &[u8]) -> Result<Vec<Placement>, Refusal> {
+    let mut lines = Lines::new(text);
+    let [version, rows, columns, count] = lines.take_numbers(b"layout")?;
+    lines.require(version == 1, 1)?;
+    let same = [rows, columns, count] == [job.rows, job.columns, job.pieces.len()];
+    lines.require(same, 2)?;
+    let mut places = Vec::with_capacity(count);
+    for index in 0..count {
+        places.push(read_place(job, &mut lines, index)?);
+    }
+    lines.expect_end()?;
+    Ok(places)
+}
+
+/// Reads the line of one piece's placement.
+fn read_place(job: &Job, lines: &mut Lines, index: usize) -> Result<Placement, Refusal> {
+    let [number, degrees, x, y] = lines.take_numbers(b"at")?;
+    let in_range = number == index && [0, 90, 180, 270].contains(&degrees);
+    lines.require(in_range, 2)?;
+    let piece = &job.pieces[index];
+    let turn = piece.turn_of(degrees).ok_or_else(|| lines.refuse(9))?;
+    let place = Placement { turn, x, y };
+    lines.require(inside(job, piece, &place), 10)?;
+    Ok(place)
+}
+
+/// Whether a placed piece's turned box lies in the sheet.
+pub fn inside(job: &Job, piece: &Piece, place: &Placement) -> bool {
+    let [columns, rows] = piece.shape.turned_box(place.turn);
+    place.x + columns <= job.columns && place.y + rows <= job.rows
 }

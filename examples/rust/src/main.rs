@@ -1,13 +1,13 @@
 //! Nests the pieces of a job round by round through the interface for C. Reads the job text from standard input, tells the progress on
 //! standard error and prints the best layout and how the search ended, as the program `nest` does in one go.
 
-mod sigbrol;
+mod calls;
 
 use std::error::Error;
 use std::io::{self, Read, Write};
 use std::process::ExitCode;
 
-use sigbrol::{End, Job, Place, Reply};
+use calls::{End, Job, Place, Refused, TEXT};
 
 const ROUNDS: usize = 20;
 const BUDGET: u32 = 1_000;
@@ -26,15 +26,17 @@ fn main() -> ExitCode {
 fn run() -> Result<(), Box<dyn Error>> {
     let mut text = Vec::new();
     // One byte more than a job text may have, so that a longer input is seen as such.
-    let limit = sigbrol::TEXT as u64 + 1;
+    let limit = TEXT as u64 + 1;
     io::stdin().lock().take(limit).read_to_end(&mut text)?;
 
-    let output = if text.len() > sigbrol::TEXT {
+    let output = if text.len() > TEXT {
         b"refused,7,0\n".to_vec()
     } else {
         match Job::read(&text) {
-            Ok(job) => nest(&job).map_err(|reply| reply.to_string())?,
-            Err(reply) => format!("refused,{},{}\n", reply.number, reply.first).into_bytes(),
+            Ok(job) => nest(&job).map_err(|refused| refused.to_string())?,
+            Err(Refused(reply)) => {
+                format!("refused,{},{}\n", reply.number, reply.first).into_bytes()
+            }
         }
     };
     io::stdout().lock().write_all(&output)?;
@@ -54,7 +56,7 @@ struct Search {
 /// Runs the rounds from the start layout with unit weights and gives what is printed.
 ///
 /// After a job has been read a refusal is a mistake of this program, such as a wrong length.
-fn nest(job: &Job) -> Result<Vec<u8>, Reply> {
+fn nest(job: &Job) -> Result<Vec<u8>, Refused> {
     let layout = job.start()?;
     let mut search = Search {
         weights: vec![1; job.count() * (job.count() - 1) / 2],
@@ -75,7 +77,7 @@ fn nest(job: &Job) -> Result<Vec<u8>, Reply> {
 
 impl Search {
     /// One round: a descent from the present layout, the best layout kept. Gives how the descent ended.
-    fn round(&mut self, job: &Job, number: usize) -> Result<End, Reply> {
+    fn round(&mut self, job: &Job, number: usize) -> Result<End, Refused> {
         let descent = job.descent(&mut self.layout, &self.weights, BUDGET)?;
         self.trials += u64::from(descent.trials);
         self.moves += u64::from(descent.moves);
@@ -98,7 +100,7 @@ impl Search {
     }
 
     /// Raises the weight of each pair that shares a pixel by 1; the largest weight, 65,535, stays.
-    fn raise_weights(&mut self, job: &Job) -> Result<(), Reply> {
+    fn raise_weights(&mut self, job: &Job) -> Result<(), Refused> {
         let count = job.count();
         let pairs = (0..count).flat_map(|i| (i + 1..count).map(move |k| (i, k)));
         for ((i, k), weight) in pairs.zip(&mut self.weights) {
@@ -111,7 +113,7 @@ impl Search {
     }
 
     /// The best layout's text and the last line. A layout that is called clear has passed the check before.
-    fn output(&self, job: &Job) -> Result<Vec<u8>, Reply> {
+    fn output(&self, job: &Job) -> Result<Vec<u8>, Refused> {
         let word = if self.best_sum == 0 {
             job.check(&self.best)?;
             "clear"

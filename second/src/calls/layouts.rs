@@ -1,6 +1,6 @@
 //! Whole layouts: sums, used length, check, start layout, line search, descent and guided run.
 
-use super::lent::{allowed, placements, write_placements};
+use super::lent::{placements, write_placements};
 use super::{require, Cause, Lent, Refusal};
 use crate::job::Job;
 use crate::layout::{self, Placement};
@@ -104,7 +104,7 @@ pub fn line_search(lent: &Lent, given: Weighted, line: Line) -> Result<LinePlace
     let job = lent.job()?;
     let weights = given.weights(&job)?;
     let piece = job.pieces.get(line.piece).ok_or(Cause::NoPiece)?;
-    let turn = allowed(piece, usize::from(line.turn)).ok_or(Cause::Turn)?;
+    let turn = piece.turn_of(usize::from(line.turn)).ok_or(Cause::Turn)?;
     let places = placements(&job, given.layout)?;
     let direction = Direction::ALL[usize::from(line.vertical)];
     let mut search = Search::new(&job, places, &weights);

@@ -2,8 +2,8 @@
 
 use super::{require, Cause, Refusal};
 use crate::job::{Job, Piece, MAX_AREA};
-use crate::layout::Placement;
-use crate::shape::{Shape, Turn};
+use crate::layout::{inside, Placement};
+use crate::shape::Shape;
 
 /// W, L, n, the piece table {l, w, o} and the pixel bytes.
 #[derive(Clone, Copy, Debug)]
@@ -57,23 +57,14 @@ impl Lent<'_> {
     }
 }
 
-/// The turn of so many degrees, if the piece may take it.
-pub fn allowed(piece: &Piece, degrees: usize) -> Option<Turn> {
-    piece.turns().find(|turn| turn.degrees() == degrees)
-}
-
-/// Whether a placed piece's turned box lies in the sheet.
-pub fn inside(job: &Job, piece: &Piece, place: &Placement) -> bool {
-    let [columns, rows] = piece.shape.turned_box(place.turn);
-    place.x + columns <= job.columns && place.y + rows <= job.rows
-}
-
 /// The placements of a layout of n entries: causes 9 and 10, each over the whole layout before the next.
 pub fn placements(job: &Job, layout: &[[u16; 3]]) -> Result<Vec<Placement>, Refusal> {
     let mut places = Vec::with_capacity(layout.len());
     for (piece, &[degrees, x, y]) in job.pieces.iter().zip(layout) {
         places.push(Placement {
-            turn: allowed(piece, usize::from(degrees)).ok_or(Cause::LayoutTurn)?,
+            turn: piece
+                .turn_of(usize::from(degrees))
+                .ok_or(Cause::LayoutTurn)?,
             x: usize::from(x),
             y: usize::from(y),
         });

@@ -1,6 +1,6 @@
 //! Two pieces: no-fit lines, shared pixel, depths and penalty.
 
-use super::lent::{allowed, placements};
+use super::lent::placements;
 use super::strips::entries;
 use super::{require, Cause, Lent, Refusal};
 use crate::job::Job;
@@ -33,7 +33,7 @@ pub fn no_fit_line(
     let mut shapes = Vec::new();
     for Stretch { piece, turn, .. } in pair {
         let piece = job.pieces.get(piece).ok_or(Cause::NoPiece)?;
-        let turn = allowed(piece, usize::from(turn)).ok_or(Cause::Turn)?;
+        let turn = piece.turn_of(usize::from(turn)).ok_or(Cause::Turn)?;
         shapes.push(piece.shape.turned(turn));
     }
     for (shape, stretch) in shapes.iter().zip(pair) {

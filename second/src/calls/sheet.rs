@@ -1,9 +1,8 @@
 //! The sheet of cover counts: fresh, lay and withdraw.
 
-use super::lent::{allowed, inside};
 use super::{require, Cause, Lent, Refusal};
 use crate::job::{Job, Piece};
-use crate::layout::Placement;
+use crate::layout::{inside, Placement};
 
 /// The entries of a sheet record.
 pub const RECORD: usize = 64;
@@ -19,7 +18,7 @@ pub struct Counts<'a> {
 
 /// A placement in an allowed turn, inside or not.
 fn placement(piece: &Piece, [degrees, x, y]: [u16; 3]) -> Option<Placement> {
-    let turn = allowed(piece, usize::from(degrees))?;
+    let turn = piece.turn_of(usize::from(degrees))?;
     let (x, y) = (usize::from(x), usize::from(y));
     Some(Placement { turn, x, y })
 }

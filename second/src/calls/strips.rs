@@ -2,7 +2,6 @@
 
 use std::ops::Range;
 
-use super::lent::allowed;
 use super::{require, Cause, Lent, Refusal};
 use crate::job::Job;
 use crate::shape::{Shape, Turn};
@@ -40,8 +39,9 @@ fn store(job: &Job, turns: &[Turn], vertical: bool) -> (Vec<[u8; 3]>, Vec<u32>) 
 /// A list of n allowed turns.
 fn read_turns(job: &Job, turns: &[u16]) -> Result<Vec<Turn>, Refusal> {
     require(turns.len() == job.pieces.len(), Cause::TurnsLength)?;
-    let turn = |(piece, &degrees)| allowed(piece, usize::from(degrees)).ok_or(Cause::Turn.into());
-    job.pieces.iter().zip(turns).map(turn).collect()
+    let pieces = job.pieces.iter().zip(turns);
+    let turned = pieces.map(|(piece, &degrees)| piece.turn_of(usize::from(degrees)));
+    turned.map(|turn| turn.ok_or(Cause::Turn.into())).collect()
 }
 
 /// Fills the stores of all pieces' strips in the given turns, and their starts.

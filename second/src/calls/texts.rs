@@ -1,9 +1,8 @@
 //! The texts: a job read, a layout written and read, the program.
 
-use super::lent::{allowed, inside, placements, write_placements};
+use super::lent::{placements, write_placements};
 use super::{require, Cause, Lent, Refusal};
-use crate::job::{self, Job, Lines};
-use crate::layout::{self, Placement};
+use crate::{job, layout};
 
 /// The length that the program's output buffer has at least.
 pub const OUTPUT: usize = 4_096;
@@ -46,30 +45,10 @@ pub fn write_layout(lent: &Lent, layout: &[[u16; 3]], text: &mut [u8]) -> Result
 /// Reads a layout text of a job into a layout buffer.
 pub fn read_layout(lent: &Lent, text: &[u8], layout: &mut [[u16; 3]]) -> Result<(), Refusal> {
     let job = lent.job()?;
-    let mut lines = Lines::new(text);
-    let [version, rows, columns, count] = lines.take_numbers(b"layout")?;
-    lines.require(version == 1, 1)?;
-    let same = [rows, columns, count] == [job.rows, job.columns, job.pieces.len()];
-    lines.require(same, 2)?;
-    let places = (0..count)
-        .map(|index| read_place(&job, &mut lines, index))
-        .collect::<Result<Vec<Placement>, job::Refusal>>()?;
-    lines.expect_end()?;
-    require(layout.len() == count, Cause::LayoutLength)?;
+    let places = layout::read(&job, text)?;
+    require(layout.len() == places.len(), Cause::LayoutLength)?;
     write_placements(layout, &places);
     Ok(())
-}
-
-/// Reads the line of one piece's placement.
-fn read_place(job: &Job, lines: &mut Lines, index: usize) -> Result<Placement, job::Refusal> {
-    let [number, degrees, x, y] = lines.take_numbers(b"at")?;
-    let in_range = number == index && [0, 90, 180, 270].contains(&degrees);
-    lines.require(in_range, 2)?;
-    let piece = &job.pieces[index];
-    let turn = allowed(piece, degrees).ok_or_else(|| lines.refuse(9))?;
-    let place = Placement { turn, x, y };
-    lines.require(inside(job, piece, &place), 10)?;
-    Ok(place)
 }
 
 /// The program's output for an input; gives its length, or 0 where the buffer is shorter than it has to be.

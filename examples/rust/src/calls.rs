@@ -1,167 +1,33 @@
-//! The calls of include/sigbrol.h that the example uses, and a thin safe layer over them.
+//! A thin safe layer over the calls that the example uses.
 //!
 //! The layer is sound because a call trusts no byte that it is lent, keeps no pointer and writes only inside the lengths that it is
 //! given: every length below is that of a slice, and what a call writes is borrowed for it alone.
 
 use std::fmt;
 
-/// The largest numbers of a job: pieces, bytes of all boxes together, bytes of a job text that the program reads.
-const PIECES: usize = 64;
-const PIXELS: usize = 65_536;
-pub const TEXT: usize = 65_536;
+pub use sigbrol::{Place, TEXT};
+use sigbrol::{Reply, LAYOUT_TEXT, PIECES, PIXELS};
 
-/// A layout text has a line of at most 20 bytes and at most 64 of at most 18.
-const LAYOUT_TEXT: usize = 2_048;
-
-/// The layout entry of a piece: turn in degrees, corner x, corner y.
-pub type Place = [u16; 3];
-
-/// What a call replies: number 0, or why and where it is refused.
-#[repr(C)]
+/// A call that is refused, and by what.
 #[derive(Clone, Copy, Debug, PartialEq, Eq)]
-pub struct Reply {
-    pub number: u32,
-    pub first: u32,
-    pub second: u32,
-}
+pub struct Refused(pub Reply);
 
-impl Reply {
-    /// A refusal as an error.
-    fn accepted(self) -> Result<(), Reply> {
-        if self.number == 0 {
-            Ok(())
-        } else {
-            Err(self)
-        }
+/// A refusal as an error.
+fn accepted(reply: Reply) -> Result<(), Refused> {
+    match reply.number {
+        0 => Ok(()),
+        _ => Err(Refused(reply)),
     }
 }
 
-impl fmt::Display for Reply {
+impl fmt::Display for Refused {
     fn fmt(&self, to: &mut fmt::Formatter) -> fmt::Result {
         let Reply {
             number,
             first,
             second,
-        } = self;
+        } = self.0;
         write!(to, "refused: {number}, places {first} and {second}")
-    }
-}
-
-/// The declarations, as in the header. A job is lent as the first seven arguments.
-mod c {
-    use super::{Place, Reply};
-
-    extern "C" {
-        pub fn sigbrol_read_job(
-            text: *const u8,
-            text_length: usize,
-            table: *mut [u8; 3],
-            table_length: usize,
-            pixels: *mut u8,
-            pixels_length: usize,
-            rows: *mut usize,
-            columns: *mut usize,
-            count: *mut usize,
-        ) -> Reply;
-
-        pub fn sigbrol_start(
-            rows: usize,
-            columns: usize,
-            count: usize,
-            table: *const [u8; 3],
-            table_length: usize,
-            pixels: *const u8,
-            pixels_length: usize,
-            layout: *mut Place,
-            layout_length: usize,
-        ) -> Reply;
-
-        pub fn sigbrol_descent(
-            rows: usize,
-            columns: usize,
-            count: usize,
-            table: *const [u8; 3],
-            table_length: usize,
-            pixels: *const u8,
-            pixels_length: usize,
-            layout: *mut Place,
-            layout_length: usize,
-            weights: *const u32,
-            weights_length: usize,
-            budget: u32,
-            end: *mut u8,
-            sum: *mut u64,
-            trials: *mut u32,
-            moves: *mut u32,
-        ) -> Reply;
-
-        pub fn sigbrol_shares_pixel(
-            rows: usize,
-            columns: usize,
-            count: usize,
-            table: *const [u8; 3],
-            table_length: usize,
-            pixels: *const u8,
-            pixels_length: usize,
-            layout: *const Place,
-            layout_length: usize,
-            i: usize,
-            k: usize,
-            shares: *mut u8,
-        ) -> Reply;
-
-        pub fn sigbrol_plain_sum(
-            rows: usize,
-            columns: usize,
-            count: usize,
-            table: *const [u8; 3],
-            table_length: usize,
-            pixels: *const u8,
-            pixels_length: usize,
-            layout: *const Place,
-            layout_length: usize,
-            sum: *mut u64,
-        ) -> Reply;
-
-        pub fn sigbrol_used_length(
-            rows: usize,
-            columns: usize,
-            count: usize,
-            table: *const [u8; 3],
-            table_length: usize,
-            pixels: *const u8,
-            pixels_length: usize,
-            layout: *const Place,
-            layout_length: usize,
-            used: *mut usize,
-        ) -> Reply;
-
-        pub fn sigbrol_write_layout(
-            rows: usize,
-            columns: usize,
-            count: usize,
-            table: *const [u8; 3],
-            table_length: usize,
-            pixels: *const u8,
-            pixels_length: usize,
-            layout: *const Place,
-            layout_length: usize,
-            text: *mut u8,
-            text_length: usize,
-            written: *mut usize,
-        ) -> Reply;
-
-        pub fn sigbrol_check(
-            rows: usize,
-            columns: usize,
-            count: usize,
-            table: *const [u8; 3],
-            table_length: usize,
-            pixels: *const u8,
-            pixels_length: usize,
-            layout: *const Place,
-            layout_length: usize,
-        ) -> Reply;
     }
 }
 
@@ -195,22 +61,21 @@ macro_rules! lend {
     ($job:expr, $call:ident, $($argument:expr),*) => {{
         let Job { rows, columns, count, table, pixels } = $job;
         // Sound by what the head of this file says.
-        unsafe {
-            c::$call(*rows, *columns, *count, table.as_ptr(), table.len(), pixels.as_ptr(), pixels.len(), $($argument),*)
-        }
-        .accepted()
+        accepted(unsafe {
+            sigbrol::$call(*rows, *columns, *count, table.as_ptr(), table.len(), pixels.as_ptr(), pixels.len(), $($argument),*)
+        })
     }};
 }
 
 impl Job {
     /// Reads a job text.
-    pub fn read(text: &[u8]) -> Result<Job, Reply> {
+    pub fn read(text: &[u8]) -> Result<Job, Refused> {
         let (mut rows, mut columns, mut count) = (0, 0, 0);
         let mut table = vec![[0; 3]; PIECES];
         let mut pixels = vec![0; PIXELS];
         // Sound by what the head of this file says.
         let reply = unsafe {
-            c::sigbrol_read_job(
+            sigbrol::sigbrol_read_job(
                 text.as_ptr(),
                 text.len(),
                 table.as_mut_ptr(),
@@ -222,7 +87,7 @@ impl Job {
                 &mut count,
             )
         };
-        reply.accepted()?;
+        accepted(reply)?;
         Ok(Job {
             rows,
             columns,
@@ -238,7 +103,7 @@ impl Job {
     }
 
     /// The start layout.
-    pub fn start(&self) -> Result<Vec<Place>, Reply> {
+    pub fn start(&self) -> Result<Vec<Place>, Refused> {
         let mut layout = vec![[0; 3]; self.count];
         lend!(self, sigbrol_start, layout.as_mut_ptr(), layout.len())?;
         Ok(layout)
@@ -250,7 +115,7 @@ impl Job {
         layout: &mut [Place],
         weights: &[u32],
         budget: u32,
-    ) -> Result<Descent, Reply> {
+    ) -> Result<Descent, Refused> {
         let (mut end, mut sum, mut trials, mut moves) = (0, 0, 0, 0);
         lend!(
             self,
@@ -292,7 +157,7 @@ impl Job {
     }
 
     /// Whether two pieces share a pixel.
-    pub fn shares_pixel(&self, layout: &[Place], i: usize, k: usize) -> Result<bool, Reply> {
+    pub fn shares_pixel(&self, layout: &[Place], i: usize, k: usize) -> Result<bool, Refused> {
         let mut shares = 0;
         lend!(
             self,
@@ -307,7 +172,7 @@ impl Job {
     }
 
     /// The penalties of all pairs together.
-    pub fn plain_sum(&self, layout: &[Place]) -> Result<u64, Reply> {
+    pub fn plain_sum(&self, layout: &[Place]) -> Result<u64, Refused> {
         let mut sum = 0;
         lend!(
             self,
@@ -320,7 +185,7 @@ impl Job {
     }
 
     /// The largest right end of a piece.
-    pub fn used_length(&self, layout: &[Place]) -> Result<usize, Reply> {
+    pub fn used_length(&self, layout: &[Place]) -> Result<usize, Refused> {
         let mut used = 0;
         lend!(
             self,
@@ -333,7 +198,7 @@ impl Job {
     }
 
     /// The layout as text.
-    pub fn write_layout(&self, layout: &[Place]) -> Result<Vec<u8>, Reply> {
+    pub fn write_layout(&self, layout: &[Place]) -> Result<Vec<u8>, Refused> {
         let mut text = vec![0; LAYOUT_TEXT];
         let mut written = 0;
         lend!(
@@ -350,7 +215,7 @@ impl Job {
     }
 
     /// Passes exactly the layouts that the knife may follow.
-    pub fn check(&self, layout: &[Place]) -> Result<(), Reply> {
+    pub fn check(&self, layout: &[Place]) -> Result<(), Refused> {
         lend!(self, sigbrol_check, layout.as_ptr(), layout.len())
     }
 }

@@ -1,0 +1,252 @@
+//! The functions of include/sigbrol.h, declared for Rust in the header's order; what each does and refuses stands there. A program that
+//! calls them links the archive that `rt staticlib sigbrol` makes (examples/rust/build.rs shows how).
+
+#![no_std]
+
+/// The largest numbers of a job: pieces, bytes of all boxes together, bytes of a job text that the program reads.
+pub const PIECES: usize = 64;
+pub const PIXELS: usize = 65_536;
+pub const TEXT: usize = 65_536;
+
+/// Lengths that suffice for every job: bytes of a layout text and of the program's output.
+pub const LAYOUT_TEXT: usize = 2_048;
+pub const OUTPUT: usize = 4_096;
+
+/// A piece's entry of the table: l, w, o.
+pub type Entry = [u8; 3];
+
+/// A strip: line, first, count.
+pub type Strip = [u8; 3];
+
+/// A piece's entry of a layout: turn in degrees, corner x, corner y.
+pub type Place = [u16; 3];
+
+/// A piece's entry of the sheet record: laid, turn, x, y.
+pub type RecordEntry = [u16; 4];
+
+/// A run of offsets: first, count.
+pub type Run = [i32; 2];
+
+/// What a call replies: number 0, or why and where it is refused.
+#[repr(C)]
+#[derive(Clone, Copy, Debug, PartialEq, Eq)]
+pub struct Reply {
+    pub number: u32,
+    pub first: u32,
+    pub second: u32,
+}
+
+/// Declares functions whose first seven arguments lend a job.
+macro_rules! lent_a_job {
+    ($(fn $name:ident($($argument:ident: $kind:ty),* $(,)?) -> $result:ty;)*) => {
+        extern "C" {
+            $(pub fn $name(
+                rows: usize,
+                columns: usize,
+                count: usize,
+                table: *const Entry,
+                table_length: usize,
+                pixels: *const u8,
+                pixels_length: usize,
+                $($argument: $kind),*
+            ) -> $result;)*
+        }
+    };
+}
+
+extern "C" {
+    pub fn sigbrol_read_job(
+        text: *const u8,
+        text_length: usize,
+        table: *mut Entry,
+        table_length: usize,
+        pixels: *mut u8,
+        pixels_length: usize,
+        rows: *mut usize,
+        columns: *mut usize,
+        count: *mut usize,
+    ) -> Reply;
+
+    pub fn sigbrol_rebuild(
+        columns: u16,
+        rows: u16,
+        vertical: u8,
+        strips: *const Strip,
+        strips_length: usize,
+        pixels: *mut u8,
+        pixels_length: usize,
+    ) -> Reply;
+
+    pub fn sigbrol_program(
+        input: *const u8,
+        input_length: usize,
+        output: *mut u8,
+        output_length: usize,
+    ) -> usize;
+}
+
+lent_a_job! {
+    fn sigbrol_strips(
+        turns: *const u16,
+        turns_length: usize,
+        row_strips: *mut Strip,
+        row_strips_length: usize,
+        row_starts: *mut u32,
+        row_starts_length: usize,
+        column_strips: *mut Strip,
+        column_strips_length: usize,
+        column_starts: *mut u32,
+        column_starts_length: usize,
+    ) -> Reply;
+
+    fn sigbrol_stretch(
+        turns: *const u16,
+        turns_length: usize,
+        row_strips: *const Strip,
+        row_strips_length: usize,
+        row_starts: *const u32,
+        row_starts_length: usize,
+        column_strips: *const Strip,
+        column_strips_length: usize,
+        column_starts: *const u32,
+        column_starts_length: usize,
+        piece: usize,
+        vertical: u8,
+        first: *mut usize,
+    ) -> usize;
+
+    fn sigbrol_stretch_refusal(
+        turns: *const u16,
+        turns_length: usize,
+        row_strips: *const Strip,
+        row_strips_length: usize,
+        row_starts: *const u32,
+        row_starts_length: usize,
+        column_strips: *const Strip,
+        column_strips_length: usize,
+        column_starts: *const u32,
+        column_starts_length: usize,
+        piece: usize,
+        vertical: u8,
+    ) -> u32;
+
+    fn sigbrol_no_fit_row(
+        i: usize,
+        i_turn: u16,
+        i_strips: *const Strip,
+        i_strips_length: usize,
+        k: usize,
+        k_turn: u16,
+        k_strips: *const Strip,
+        k_strips_length: usize,
+        offset: i32,
+        runs: *mut Run,
+        runs_length: usize,
+        runs_count: *mut usize,
+    ) -> Reply;
+
+    fn sigbrol_no_fit_column(
+        i: usize,
+        i_turn: u16,
+        i_strips: *const Strip,
+        i_strips_length: usize,
+        k: usize,
+        k_turn: u16,
+        k_strips: *const Strip,
+        k_strips_length: usize,
+        offset: i32,
+        runs: *mut Run,
+        runs_length: usize,
+        runs_count: *mut usize,
+    ) -> Reply;
+
+    fn sigbrol_shares_pixel(layout: *const Place, layout_length: usize, i: usize, k: usize, shares: *mut u8) -> Reply;
+
+    fn sigbrol_depth(
+        layout: *const Place,
+        layout_length: usize,
+        i: usize,
+        k: usize,
+        vertical: u8,
+        depth: *mut u32,
+    ) -> Reply;
+
+    fn sigbrol_penalty(layout: *const Place, layout_length: usize, i: usize, k: usize, penalty: *mut u32) -> Reply;
+
+    fn sigbrol_weighted_sum(
+        layout: *const Place,
+        layout_length: usize,
+        weights: *const u32,
+        weights_length: usize,
+        sum: *mut u64,
+    ) -> Reply;
+
+    fn sigbrol_plain_sum(layout: *const Place, layout_length: usize, sum: *mut u64) -> Reply;
+
+    fn sigbrol_used_length(layout: *const Place, layout_length: usize, used: *mut usize) -> Reply;
+
+    fn sigbrol_check(layout: *const Place, layout_length: usize) -> Reply;
+
+    fn sigbrol_start(layout: *mut Place, layout_length: usize) -> Reply;
+
+    fn sigbrol_write_layout(
+        layout: *const Place,
+        layout_length: usize,
+        text: *mut u8,
+        text_length: usize,
+        written: *mut usize,
+    ) -> Reply;
+
+    fn sigbrol_read_layout(text: *const u8, text_length: usize, layout: *mut Place, layout_length: usize) -> Reply;
+
+    fn sigbrol_line_search(
+        layout: *const Place,
+        layout_length: usize,
+        weights: *const u32,
+        weights_length: usize,
+        piece: usize,
+        turn: u16,
+        vertical: u8,
+        held: u16,
+        sum: *mut u64,
+        at: *mut usize,
+    ) -> Reply;
+
+    fn sigbrol_descent(
+        layout: *mut Place,
+        layout_length: usize,
+        weights: *const u32,
+        weights_length: usize,
+        budget: u32,
+        end: *mut u8,
+        sum: *mut u64,
+        trials: *mut u32,
+        moves: *mut u32,
+    ) -> Reply;
+
+    fn sigbrol_guided_run(
+        layout: *mut Place,
+        layout_length: usize,
+        weights: *mut u32,
+        weights_length: usize,
+        rounds: u32,
+        budget: u32,
+        sum: *mut u64,
+        trials: *mut u64,
+        moves: *mut u64,
+    ) -> Reply;
+
+    fn sigbrol_fresh(record: *mut RecordEntry, counts: *mut u8, counts_length: usize) -> Reply;
+
+    fn sigbrol_lay(
+        record: *mut RecordEntry,
+        counts: *mut u8,
+        counts_length: usize,
+        piece: usize,
+        turn: u16,
+        x: u16,
+        y: u16,
+    ) -> Reply;
+
+    fn sigbrol_withdraw(record: *mut RecordEntry, counts: *mut u8, counts_length: usize, piece: usize) -> Reply;
+}
