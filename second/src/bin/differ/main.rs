@@ -1,4 +1,5 @@
-//! Runs a program on generated inputs and compares its output, byte for byte, with that of the second program.
+//! Runs a program on generated inputs and compares its output, byte for byte, with that of the second program. An exit status other
+//! than 0, that of a crash among them, is a difference too.
 //!
 //! The library's `inputs` makes the inputs; `tally` counts how they ended.
 
@@ -6,7 +7,7 @@ mod tally;
 
 use std::io::{self, Write};
 use std::path::PathBuf;
-use std::process::{Command, ExitCode, Stdio};
+use std::process::{Command, ExitCode, Output, Stdio};
 use std::{env, fs, process, thread};
 
 use second::inputs::kind::Kind;
@@ -66,7 +67,7 @@ fn compare_kind(program: &str, kind: &Kind) -> io::Result<(Tally, Option<Differe
     for (number, input) in kind.inputs.iter().enumerate() {
         let expected = second::run(input);
         let found = output(program, input)?;
-        let same = found == expected.as_bytes();
+        let same = is_as_expected(&found, &expected);
         tally.count(&expected, same);
         if !same && first_difference.is_none() {
             first_difference = Some(Difference {
@@ -81,8 +82,13 @@ fn compare_kind(program: &str, kind: &Kind) -> io::Result<(Tally, Option<Differe
     Ok((tally, first_difference))
 }
 
-/// What the program prints for an input.
-fn output(program: &str, input: &[u8]) -> io::Result<Vec<u8>> {
+/// Whether a program ended well and printed just what was expected.
+fn is_as_expected(found: &Output, expected: &str) -> bool {
+    found.status.success() && found.stdout == expected.as_bytes()
+}
+
+/// What the program prints for an input, and how it ends.
+fn output(program: &str, input: &[u8]) -> io::Result<Output> {
     let mut child = Command::new(program)
         .stdin(Stdio::piped())
         .stdout(Stdio::piped())
@@ -90,33 +96,34 @@ fn output(program: &str, input: &[u8]) -> io::Result<Vec<u8>> {
     let pipe = child.stdin.take();
     thread::scope(|scope| {
         scope.spawn(move || {
-            // A program may stop reading where an input is too long; only its output counts.
+            // A program may stop reading where an input is too long; its output and exit status count.
             let _ = pipe.map(|mut pipe| pipe.write_all(input));
         });
-        Ok(child.wait_with_output()?.stdout)
+        child.wait_with_output()
     })
 }
 
-/// An input for which the program's output is not the expected one.
+/// An input for which the program's output is not the expected one, or its exit status not 0.
 struct Difference {
     kind: &'static str,
     number: usize,
     input: Vec<u8>,
     expected: String,
-    found: Vec<u8>,
+    found: Output,
 }
 
 impl Difference {
-    /// Writes the input to a file and names it, with the first line in which the outputs differ.
+    /// Writes the input to a file and names it, with how the program ended and the first line in which the outputs differ.
     fn report(&self) -> io::Result<String> {
         let file = self.save()?;
-        let found = String::from_utf8_lossy(&self.found);
+        let found = String::from_utf8_lossy(&self.found.stdout);
         let (line, expected, found) = differing_line(&self.expected, &found);
         Ok(format!(
-            "{} {}, input in {}\noutput line {line}: expected {expected:?}, found {found:?}",
+            "{} {}, input in {}, {}\noutput line {line}: expected {expected:?}, found {found:?}",
             self.kind,
             self.number,
-            file.display()
+            file.display(),
+            self.found.status
         ))
     }
 
@@ -203,6 +210,20 @@ mod tests {
         assert!(inputs
             .iter()
             .any(|input| input.len() == second::MAX_INPUT + 1));
+    }
+
+    /// Runs a shell's command as the program and compares it with an expected output.
+    fn shell_is_as_expected(command: &str, expected: &str) -> bool {
+        let found = Command::new("sh").args(["-c", command]).output();
+        is_as_expected(&found.expect("there is a shell"), expected)
+    }
+
+    #[test]
+    fn the_exit_status_counts() {
+        assert!(shell_is_as_expected("printf a", "a"));
+        assert!(!shell_is_as_expected("printf b", "a"));
+        assert!(!shell_is_as_expected("printf a; exit 1", "a"));
+        assert!(!shell_is_as_expected("printf a; kill -s SEGV $$", "a"));
     }
 
     #[test]
