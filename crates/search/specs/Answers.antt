@@ -16,7 +16,7 @@ use Rattle.line_sums.specs.declared.Found.{Found}
 use Rattle.line_sums.specs.declared.Found.the-variants.{At, Nothing}
 use Rattle.search.specs.declared.SearchAnswer.{SearchAnswer}
 
--- what is found is the number of some row or column
+-- the place that is found is small enough for the number of a column or a row
 abbrev pub InReach : Found → Type 0
 InReach (At sum at) = at ≤ 65535
 InReach Nothing = Unit {0}
