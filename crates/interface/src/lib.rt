@@ -1,6 +1,7 @@
 // What the exported calls share: the reply, and the core's types made of the numbers that a call is handed.
 
 use model::Column;
+use model::Coordinate;
 use model::Direction;
 use model::End;
 use model::JobSize;
@@ -10,6 +11,7 @@ use model::Refusal;
 use model::Row;
 use placing::TurnAnswer;
 ghost use mathlib.Core.Path.{_≡_};
+ghost use Rattle.model.specs.Piece.{coordinateNumber};
 ghost use Rattle.model.specs.Buffer.{placement};
 ghost use Rattle.interface.specs.Numbers.{directionOf, lineOf, pieceWithTurn, endNumber};
 ghost use Rattle.interface.specs.Replies.{done, refusedBy};
@@ -109,5 +111,15 @@ pub fn end_number(end: End) -> u8
         End::Clear => 0,
         End::Settled => 1,
         End::Spent => 2,
+    }
+}
+
+// The number that a coordinate stands for.
+pub fn coordinate_number(coordinate: Coordinate) -> usize
+    ensures { λ r. ⌜ r ≡ coordinateNumber coordinate ⌝ }
+{
+    match coordinate {
+        Coordinate::AtColumn(x) => x.0 as usize,
+        Coordinate::AtRow(y) => y.0 as usize,
     }
 }

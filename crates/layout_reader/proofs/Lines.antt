@@ -2,14 +2,15 @@
 use mathlib.Core.Bool.{Bool, true, false, not, _&&_}
 use mathlib.Core.List.{List, [], _∷_}
 use mathlib.Core.Option.{Option, none, some}
-use mathlib.Core.Path.{_≡_, refl, sym, _∙_}
-use Prim.Native.Nat.{ℕ, _+_, _<_, _≤_}
+use mathlib.Core.Path.{_≡_, refl, sym, ap₂, _∙_}
+use Prim.Native.Nat.{ℕ, _+_, _<_, _≤_, min}
 use native.Mathlib.Omega.{arith}
-use borrow.Author.Tests.{ne-eqb, leb-true}
+use borrow.Author.Tests.{ne-eqb, leb-true, leb-false, lt-leb}
 use lib.Dec.{leb, eqb}
 use lib.ListN.{length}
 use Rattle.model.specs.Layout.{Job, allowed, inside, turnedPiece}
 use Rattle.model.specs.Refusal.{Outcome, refused, given, Cause, unless, refusalOf, wrongForm, outOfRange, noSuchPiece, outsideSheet}
+use Rattle.model.specs.Lent.{rowBound, columnBound}
 use Rattle.model.specs.Buffer.{turnOfDegrees, turnPasses, isTurn, turnOf}
 use Rattle.model.specs.Text.{Reading, wrong, got, onward, after, comma, lineEnd, standsAt, fieldAt, fieldsAt, threeFields, fourFields, lineAt, causeIn, formed, andThen}
 use Rattle.model.specs.LayoutText.{layoutWord, atWord, layoutLine, PlacementLine, asPlacementLine, placementCauses, placementLine}
@@ -28,14 +29,13 @@ use Rattle.layout_reader.specs.declared.PlaceAnswer.{PlaceAnswer}
 
 -- ── fields ──
 
--- a field that is read: what it is, where it ends, and that it has at most 5 digits
+-- a field that is read: what it is and where it ends
 pub record Field (reading : Reading ℕ) (k p : ℕ) (text : List ℕ) : Type 0 where
   pub same : reading ≡ got k p
   pub inside : p ≤ length text
-  pub small : k ≤ 99999
 
 pub field-read : {r : Number} {reading : Reading ℕ} {text : List ℕ} (k p : ℕ) → Reads r reading text → r ≡ Got k p → Field reading k p text
-field-read k p h e = record { same = got-of _ k p (sym e ∙ h .same); inside = rw e at (h .inside); small = rw e at (h .small) }
+field-read k p h e = record { same = got-of _ k p (sym e ∙ h .same); inside = rw e at (h .inside) }
 
 -- a field that is not
 pub field-unread : {r : Number} {reading : Reading ℕ} {text : List ℕ} → Reads r reading text → r ≡ Wrong → reading ≡ wrong
@@ -146,13 +146,37 @@ module _ (j : Job) (i line n d x y : ℕ) where
     place-given h w = let k = turn-known-at d t (eqb n i) e in rw (k .0, k .1, h, w)
 
 -- the corner of a placement inside lies in the sheet
-pub corner-inside : (j : Job) (i : ℕ) (t : Turn) (x y : ℕ) → inside j i (placeAt t x y) ≡ true → (x ≤ j .columns) × (y ≤ j .rows)
+corner-inside : (j : Job) (i : ℕ) (t : Turn) (x y : ℕ) → inside j i (placeAt t x y) ≡ true → (x ≤ j .columns) × (y ≤ j .rows)
 unfolding inside
 corner-inside j i t x y e =
     let s = turnedPiece j i t in
     let a : x + s .columns ≤ j .columns = leb-true _ _ (and-left _ (leb (y + s .rows) (j .rows)) e) in
     let b : y + s .rows ≤ j .rows = leb-true _ _ (and-right (leb (x + s .columns) (j .columns)) _ e) in
     (omega arith, omega arith)
+
+-- a clipped field is past the sheet's end where the field is, since no sheet has 65,535 rows or columns
+clipped-past : (u x k n : ℕ) → u ≡ min x 65535 → n < 65535 → leb (u + k) n ≡ leb (x + k) n
+clipped-past u x k n e h = at (leb x 65535) refl
+  where
+    at : (b : Bool) → leb x 65535 ≡ b → leb (u + k) n ≡ leb (x + k) n
+    at true t = let g = leb-true x 65535 t in let s : u ≡ x = omega arith in rw s
+    at false t = let g = leb-false x 65535 t in lt-leb (u + k) n (omega arith) ∙ sym (lt-leb (x + k) n (omega arith))
+
+module _ (j : Job) (i : ℕ) (t : Turn) (x y u v : ℕ) (rows : j .rows ≤ rowBound) (columns : j .columns ≤ columnBound) (a : u ≡ min x 65535) (b : v ≡ min y 65535) where
+  -- the corner by its clipped fields is inside exactly where the corner is
+  pub clipped-inside : inside j i (placeAt t u v) ≡ inside j i (placeAt t x y)
+  unfolding inside
+  clipped-inside =
+      let s = turnedPiece j i t in
+      ap₂ _&&_ (clipped-past u x (s .columns) (j .columns) a (omega arith)) (clipped-past v y (s .rows) (j .rows) b (omega arith))
+
+  -- and then it is the corner
+  pub clipped-same : inside j i (placeAt t x y) ≡ true → placeAt t u v ≡ placeAt t x y
+  clipped-same e =
+      let h = corner-inside j i t x y e in
+      let same-x : u ≡ x = (let g = h .0 in omega arith) in
+      let same-y : v ≡ y = (let g = h .1 in omega arith) in
+      ap₂ (placeAt t) same-x same-y
 
 -- by the first cause
 unless-made-at : {A B : Type 0} (f : A → B) (c : Cause) (cs : List Cause) (a : A) → unless cs (f a) ≡ andThen (unless cs a) (λ a′. given (f a′)) → (b : Bool)

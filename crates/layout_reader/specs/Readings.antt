@@ -32,16 +32,10 @@ abbrev pub afterThree : ThreeFields → ℕ
 afterThree ThreeFields.Wrong = 0
 afterThree (ThreeFields.Got a b c p) = p
 
--- the second and the third number have at most 5 digits
-abbrev pub SmallThree : ThreeFields → Type 0
-SmallThree ThreeFields.Wrong = Unit {0}
-SmallThree (ThreeFields.Got a b c p) = (b ≤ 99999) × (c ≤ 99999)
-
--- the answer is the definition's, lies in the text and is small
+-- the answer is the definition's and lies in the text
 pub record ThreeRead (r : ThreeFields) (reading : Reading (List ℕ)) (text : List ℕ) : Type 0 where
   pub same : reading ≡ threeReading r
   pub inside : afterThree r ≤ length text
-  pub small : SmallThree r
 
 -- the numbers of a piece's line
 abbrev pub numbersOf : PlacementFields → List ℕ
@@ -57,16 +51,10 @@ abbrev pub afterLine : LineFields → ℕ
 afterLine LineFields.Wrong = 0
 afterLine (LineFields.Got f p) = p
 
--- x and y have at most 5 digits
-abbrev pub SmallLine : LineFields → Type 0
-SmallLine LineFields.Wrong = Unit {0}
-SmallLine (LineFields.Got f p) = (f .x ≤ 99999) × (f .y ≤ 99999)
-
--- the answer is the definition's, lies in the text and is small
+-- the answer is the definition's and lies in the text
 pub record LineRead (r : LineFields) (reading : Reading (List ℕ)) (text : List ℕ) : Type 0 where
   pub same : reading ≡ lineReading r
   pub inside : afterLine r ≤ length text
-  pub small : SmallLine r
 
 -- ── lines ──
 

@@ -3,7 +3,7 @@
 ghost use mathlib.Core.Path.{_≡_};
 ghost use mathlib.Core.Bool.{true, _&&_};
 ghost use mathlib.Core.List.{List};
-ghost use Prim.Native.Nat.{ℕ, _<_, _≤_};
+ghost use Prim.Native.Nat.{ℕ, _<_, _≤_, min};
 ghost use lib.Dec.{eqb};
 ghost use lib.ListN.{length, set};
 ghost use lib.Seq.{sets};
@@ -166,6 +166,16 @@ fn turn_on_line(i: usize, number: usize, degrees: usize) -> TurnAnswer
     placing::turn_of(degrees as u16)
 }
 
+// A field as a coordinate. One above 65,535 stands as 65,535: both lie outside every sheet.
+fn clipped(field: usize) -> u16
+    ensures { λ r. ⌜ r ≡ min field 65535 ⌝ }
+{
+    if 65535 < field {
+        return 65535;
+    }
+    field as u16
+}
+
 // The placement that the numbers of piece i's line give.
 fn placement_of(
     size: JobSize,
@@ -174,7 +184,7 @@ fn placement_of(
     line: u32,
     fields: PlacementFields,
 ) -> PlaceAnswer
-    requires { ⌜ (i < length (now table)) × (size .rows ≤ rowBound) × (size .columns ≤ columnBound) × (fields .x ≤ 99999) × (fields .y ≤ 99999) ⌝ }
+    requires { ⌜ (i < length (now table)) × (size .rows ≤ rowBound) × (size .columns ≤ columnBound) ⌝ }
     ensures { λ r. ⌜ ((pixels : List ℕ) → r ≡ placeAnswer (placeOnLine (jobOf (lentBy size (now (table .entry)) pixels)) i line (numbersOf fields))) ⌝ }
 {
     let TurnAnswer::Known(turn) = turn_on_line(i, fields.number, fields.degrees) else {
@@ -183,14 +193,12 @@ fn placement_of(
     if !placing::allows(table[i][2], turn) {
         return PlaceAnswer::Refused(refused_in(line, 9));
     }
-    if !placing::inside_at(size, table, i, turn, fields.x, fields.y) {
+    let x = Column(clipped(fields.x));
+    let y = Row(clipped(fields.y));
+    if !placing::inside_at(size, table, i, turn, x, y) {
         return PlaceAnswer::Refused(refused_in(line, 10));
     }
-    PlaceAnswer::Placed(Placement {
-        turn,
-        x: Column(fields.x as u16),
-        y: Row(fields.y as u16),
-    })
+    PlaceAnswer::Placed(Placement { turn, x, y })
 }
 
 // The line of piece i at position p.

@@ -10,6 +10,8 @@ use Rattle.model.specs.declared.Direction.{Direction}
 use Rattle.model.specs.declared.Direction.the-variants.{Horizontal, Vertical}
 use Rattle.model.specs.declared.Line.{Line}
 use Rattle.model.specs.declared.Line.the-variants.{InRow, InColumn}
+use Rattle.model.specs.declared.Coordinate.{Coordinate}
+use Rattle.model.specs.declared.Coordinate.the-variants.{AtColumn, AtRow}
 use Rattle.model.specs.declared.Placement.{Placement}
 
 -- a pixel's place: column x, row y, both from 0 at the bottom left
@@ -138,6 +140,16 @@ held (InColumn c) = c .0
 abbrev pub onLine : Line → Turn → ℕ → Placement
 onLine (InRow r) t a = record { turn = t; x = record { 0 = a }; y = r }
 onLine (InColumn c) t a = record { turn = t; x = c; y = record { 0 = a } }
+
+-- a coordinate of the line: a column on a held row, a row on a held column
+abbrev pub coordinateOn : Line → ℕ → Coordinate
+coordinateOn (InRow r) a = AtColumn (record { 0 = a })
+coordinateOn (InColumn c) a = AtRow (record { 0 = a })
+
+-- the number that a coordinate stands for: that of its column or of its row
+abbrev pub coordinateNumber : Coordinate → ℕ
+coordinateNumber (AtColumn x) = x .0
+coordinateNumber (AtRow y) = y .0
 
 -- the line in the direction through a placement's corner
 abbrev pub lineThrough : Direction → Placement → Line

@@ -33,6 +33,12 @@ pub enum Line {
     InColumn(Column),
 }
 
+// A coordinate on such a line, with its axis: a column where a row is held, a row where a column is held.
+pub enum Coordinate {
+    AtColumn(Column),
+    AtRow(Row),
+}
+
 // Where a piece lies: its turn, and the sheet pixel of its turned box's bottom-left pixel, the corner.
 pub struct Placement {
     pub turn: Turn,

@@ -152,14 +152,14 @@ pub fn turned_sides(table: &[[u8; 3]], i: usize, turn: Turn) -> Sides
     }
 }
 
-// The box of piece i, turned, with its corner at column x and row y, lies in the sheet. The two are wide numbers, as a text has them.
-pub fn inside_at(size: JobSize, table: &[[u8; 3]], i: usize, turn: Turn, x: usize, y: usize) -> bool
-    requires { ⌜ (i < length (now table)) × (x ≤ 99999) × (y ≤ 99999) ⌝ }
-    ensures { λ r. ⌜ ((pixels : List ℕ) → r ≡ inside (jobOf (lentBy size (now (table .entry)) pixels)) i (placeAt turn x y)) ⌝ }
+// The box of piece i, turned, with its corner at column x and row y, lies in the sheet.
+pub fn inside_at(size: JobSize, table: &[[u8; 3]], i: usize, turn: Turn, x: Column, y: Row) -> bool
+    requires { ⌜ i < length (now table) ⌝ }
+    ensures { λ r. ⌜ ((pixels : List ℕ) → r ≡ inside (jobOf (lentBy size (now (table .entry)) pixels)) i (placeAt turn (x .0) (y .0))) ⌝ }
 {
     let sides = turned_sides(table, i, turn);
-    let right = x + sides.columns;
-    let top = y + sides.rows;
+    let right = x.0 as usize + sides.columns;
+    let top = y.0 as usize + sides.rows;
     right <= size.columns && top <= size.rows
 }
 
@@ -169,7 +169,9 @@ pub fn inside(size: JobSize, table: &[[u8; 3]], i: usize, place: Placement) -> b
     ensures { λ r. ⌜ ((pixels : List ℕ) → r ≡ inside (jobOf (lentBy size (now (table .entry)) pixels)) i place) ⌝ }
 {
     let turn = place.turn;
-    inside_at(size, table, i, turn, place.x.0 as usize, place.y.0 as usize)
+    let x = place.x;
+    let y = place.y;
+    inside_at(size, table, i, turn, x, y)
 }
 
 // The degrees are a turn allowed to piece i.

@@ -22,18 +22,20 @@ use Rattle.model.proofs.Tests.{or-left, or-right, or-neither}
 use Rattle.text_laws.specs.Outcomes.{NoCause}
 use Rattle.text_laws.proofs.Outcomes.{unless-given}
 use Rattle.descent_laws.specs.Claims.{ValidWeights}
+use Rattle.descent_laws.proofs.Search.{least-is}
 use Rattle.call_laws.proofs.Jobs.{lent-boxes-small}
 use Rattle.call_laws.proofs.Layouts.{lent-weights-valid}
 use Rattle.search_laws.specs.BoundedSearch.{belowBound}
 use Rattle.search_laws.proofs.LineSearch.{search-unbounded}
 use Rattle.placing.specs.Answers.{firstCause}
 use Rattle.placing.specs.declared.CauseAnswer.{CauseAnswer}
+use Rattle.shapes.proofs.Jobs.{places-few}
 use Rattle.pair_table.specs.Drawn.{Laid}
 use Rattle.sums.proofs.Causes.{few-pieces, layout-laid}
 use Rattle.lines.specs.Kept.{Kept, Wide}
 use Rattle.lines.proofs.Keeping.{none-kept, twice-wide}
 use Rattle.line_sums.specs.Answers.{foundAnswer}
-use Rattle.search.specs.Answers.{bestAnswer, searchAnswer, searchCauses}
+use Rattle.search.specs.Answers.{InReach, bestAnswer, searchAnswer, searchCauses}
 
 -- ── causes ──
 
@@ -123,13 +125,24 @@ abbrev leastOf : (ℕ → ℕ) → ℕ → Option Best
 leastOf f n = elim n [ zero ↦ none | suc n ↦ some (least f n) ]
 
 -- nothing is found exactly where the line has no place
-best-of : (f : ℕ → ℕ) (n : ℕ) → bestAnswer (foundAnswer (leastOf f n)) ≡ searchAnswer (unless (cause emptyLine (eqb n 0) ∷ []) (bestPlace (leastOf f n)))
+best-of : (line : Line) (f : ℕ → ℕ) (n : ℕ)
+    → bestAnswer line (foundAnswer (leastOf f n)) ≡ searchAnswer line (unless (cause emptyLine (eqb n 0) ∷ []) (bestPlace (leastOf f n)))
 unfolding unless
-best-of f zero = refl
-best-of f (suc n) = sym (ap searchAnswer (unless-given (cause emptyLine (eqb (suc n) 0) ∷ []) (least f n) (ne-eqb (suc n) 0 (λ e. omega arith), tt)))
+best-of line f zero = refl
+best-of line f (suc n) = sym (ap (searchAnswer line) (unless-given (cause emptyLine (eqb (suc n) 0) ∷ []) (least f n) (ne-eqb (suc n) 0 (λ e. omega arith), tt)))
 
 pub best-is : (j : Job) (ws : List ℕ) (v : Layout) (i : ℕ) (t : Turn) (line : Line)
-    → bestAnswer (foundAnswer (searchLine j ws v i t line))
-    ≡ searchAnswer (unless (cause emptyLine (eqb (places j i t line) 0) ∷ []) (bestPlace (searchLine j ws v i t line)))
+    → bestAnswer line (foundAnswer (searchLine j ws v i t line))
+    ≡ searchAnswer line (unless (cause emptyLine (eqb (places j i t line) 0) ∷ []) (bestPlace (searchLine j ws v i t line)))
 unfolding searchLine
-best-is j ws v i t line = best-of (sumAt j ws v i t line) (places j i t line)
+best-is j ws v i t line = best-of line (sumAt j ws v i t line) (places j i t line)
+
+-- what is found is one of the line's places
+reach-of : (f : ℕ → ℕ) (n : ℕ) → n ≤ 4097 → InReach (foundAnswer (leastOf f n))
+reach-of f zero h = tt
+reach-of f (suc n) h = let b = least-is f n .there in omega arith
+
+pub best-in-reach : (l : Lent) → lentWell l ≡ true → (ws : List ℕ) (v : Layout) (i : ℕ) (t : Turn) (line : Line)
+    → InReach (foundAnswer (searchLine (jobOf l) ws v i t line))
+unfolding searchLine
+best-in-reach l w ws v i t line = reach-of (sumAt (jobOf l) ws v i t line) (places (jobOf l) i t line) (places-few l w i t line)

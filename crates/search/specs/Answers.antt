@@ -1,28 +1,35 @@
 -- The answers of this crate's calls, by the model's outcomes: a refusal keeps its number and places. Assumes nothing.
 use mathlib.Core.Bool.{true, not, _||_}
 use mathlib.Core.List.{List, [], _∷_, _++_}
-use Prim.Native.Nat.{ℕ}
+use Prim.Native.Nat.{ℕ, _≤_}
 use lib.Dec.{ltb}
+use Rattle.model.specs.Piece.{coordinateOn}
 use Rattle.model.specs.Layout.{allowed}
 use Rattle.model.specs.Search.{Best}
 use Rattle.model.specs.Lent.{Lent, jobOf}
 use Rattle.model.specs.Refusal.{Outcome, refused, given, Cause, cause, refusalOf, noSuchPiece, emptyLine}
 use Rattle.model.specs.Calls.{someTurnWrong, outsideCause}
+use Rattle.model.specs.declared.Line.{Line}
 use Rattle.model.specs.declared.Turn.{Turn}
 use Rattle.sums.specs.Answers.{lengthCauses}
 use Rattle.line_sums.specs.declared.Found.{Found}
 use Rattle.line_sums.specs.declared.Found.the-variants.{At, Nothing}
 use Rattle.search.specs.declared.SearchAnswer.{SearchAnswer}
 
--- where nothing is found, no inside corner lies on the line
-abbrev pub bestAnswer : Found → SearchAnswer
-bestAnswer (At sum at) = SearchAnswer.Best sum at
-bestAnswer Nothing = SearchAnswer.Refused (refusalOf (cause emptyLine true))
+-- the place that is found is small enough for the number of a column or a row
+abbrev pub InReach : Found → Type 0
+InReach (At sum at) = at ≤ 65535
+InReach Nothing = Unit {0}
 
--- a line search
-abbrev pub searchAnswer : Outcome Best → SearchAnswer
-searchAnswer (refused r) = SearchAnswer.Refused r
-searchAnswer (given b) = SearchAnswer.Best (b .sum) (b .at)
+-- where nothing is found, no inside corner lies on the line
+abbrev pub bestAnswer : Line → Found → SearchAnswer
+bestAnswer line (At sum at) = SearchAnswer.Best sum (coordinateOn line at)
+bestAnswer line Nothing = SearchAnswer.Refused (refusalOf (cause emptyLine true))
+
+-- a line search: the sum, and the coordinate by the line's axis
+abbrev pub searchAnswer : Line → Outcome Best → SearchAnswer
+searchAnswer line (refused r) = SearchAnswer.Refused r
+searchAnswer line (given b) = SearchAnswer.Best (b .sum) (coordinateOn line (b .at))
 
 -- the causes that the layout and the piece have: 9, 10
 abbrev pub pieceCauses : Lent → List (List ℕ) → ℕ → Turn → List Cause

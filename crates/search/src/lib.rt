@@ -1,9 +1,12 @@
 // The line search as a call. Document 01, 'Line search' and 'When a call says no'.
 use bounded_search::search_below;
 use line_sums::Found;
+use model::Column;
+use model::Coordinate;
 use model::JobSize;
 use model::Line;
 use model::Refusal;
+use model::Row;
 use model::Turn;
 use placing::CauseAnswer;
 use placing::refusal;
@@ -14,6 +17,7 @@ ghost use mathlib.Core.Path.{_≡_};
 ghost use mathlib.Core.List.{List};
 ghost use Prim.Native.Nat.{ℕ, _<_, _≤_};
 ghost use lib.ListN.{length};
+ghost use Rattle.model.specs.Piece.{coordinateOn};
 ghost use Rattle.model.specs.Search.{searchLine};
 ghost use Rattle.model.specs.Lent.{lentBy, jobOf};
 ghost use Rattle.model.specs.Buffer.{layoutOf};
@@ -22,11 +26,11 @@ ghost use Rattle.placing.specs.Answers.{firstCause};
 ghost use Rattle.pair_table.specs.Drawn.{Laid};
 ghost use Rattle.descent_laws.specs.Claims.{ValidWeights};
 ghost use Rattle.line_sums.specs.Answers.{foundAnswer};
-ghost use Rattle.search.specs.Answers.{bestAnswer, searchAnswer, pieceCauses, searchCauses};
+ghost use Rattle.search.specs.Answers.{InReach, bestAnswer, searchAnswer, pieceCauses, searchCauses};
 
 // The least pair sum on a line and the smallest coordinate that has it, or why the search is refused.
 pub enum SearchAnswer {
-    Best(u64, usize),
+    Best(u64, Coordinate),
     Refused(Refusal),
 }
 
@@ -119,12 +123,23 @@ fn search_causes(
     }
 }
 
-// What a search without a bound says: refusal 11 where it finds nothing, since then the line has no place.
-fn best_answer(found: Found) -> SearchAnswer
-    ensures { λ r. ⌜ r ≡ bestAnswer found ⌝ }
+// A coordinate of the line.
+fn coordinate_on(line: Line, at: u16) -> Coordinate
+    ensures { λ r. ⌜ r ≡ coordinateOn line at ⌝ }
+{
+    match line {
+        Line::InRow(_) => Coordinate::AtColumn(Column(at)),
+        Line::InColumn(_) => Coordinate::AtRow(Row(at)),
+    }
+}
+
+// What a search on the line without a bound says: refusal 11 where it finds nothing, since then the line has no place.
+fn best_answer(line: Line, found: Found) -> SearchAnswer
+    requires { ⌜ InReach found ⌝ }
+    ensures { λ r. ⌜ r ≡ bestAnswer line found ⌝ }
 {
     match found {
-        Found::At(sum, at) => SearchAnswer::Best(sum as u64, at as usize),
+        Found::At(sum, at) => SearchAnswer::Best(sum as u64, coordinate_on(line, at as u16)),
         Found::Nothing => SearchAnswer::Refused(refusal(11)),
     }
 }
@@ -141,7 +156,7 @@ pub fn line_search(
     turn: Turn,
     line: Line,
 ) -> SearchAnswer
-    ensures { λ r. ⌜ r ≡ searchAnswer (searchCall (lentBy size (now (table .entry)) (now (pixels .entry))) (now (layout .entry)) (now (weights .entry)) piece turn line) ⌝ }
+    ensures { λ r. ⌜ r ≡ searchAnswer line (searchCall (lentBy size (now (table .entry)) (now (pixels .entry))) (now (layout .entry)) (now (weights .entry)) piece turn line) ⌝ }
 {
     match search_causes(size, table, pixels, layout, weights, piece, turn) {
         CauseAnswer::Refused(refusal) => SearchAnswer::Refused(refusal),
@@ -151,7 +166,10 @@ pub fn line_search(
                 turn: turn,
                 line: line,
             };
-            best_answer(search_alone(size, table, pixels, layout, weights, mover))
+            best_answer(
+                line,
+                search_alone(size, table, pixels, layout, weights, mover),
+            )
         }
     }
 }

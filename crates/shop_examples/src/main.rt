@@ -1,6 +1,7 @@
 // The marked examples of the shop, P1 to P12 of document 01, through the calls. Each line has the example's name and what the calls
 // give. The pieces are A, A, B, B, D and E of document 01, on a sheet of 8 rows and 16 columns; P10 to P12 have a job of two A.
 use descent::DescentAnswer;
+use model::Coordinate;
 use model::Direction;
 use model::End;
 use model::JobSize;
@@ -254,6 +255,20 @@ fn sheet(columns: usize) -> JobSize {
     }
 }
 
+// A coordinate: its axis and its number.
+fn put_coordinate(place: Coordinate) {
+    match place {
+        Coordinate::AtColumn(x) => {
+            io::write_all(1, b" x");
+            put(x.0 as u64);
+        }
+        Coordinate::AtRow(y) => {
+            io::write_all(1, b" y");
+            put(y.0 as u64);
+        }
+    }
+}
+
 // P10: the line search along row 0 past a piece at column 1, by weight 3.
 fn show_search() {
     let table = TWO_TABLE;
@@ -272,8 +287,8 @@ fn show_search() {
     );
     match answer {
         SearchAnswer::Refused(refusal) => put_refused(refusal.number),
-        SearchAnswer::Best(sum, at) => {
-            put(at as u64);
+        SearchAnswer::Best(sum, place) => {
+            put_coordinate(place);
             put(sum as u64);
         }
     }

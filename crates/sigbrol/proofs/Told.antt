@@ -5,11 +5,13 @@ use mathlib.Core.List.{List}
 use mathlib.Core.Path.{_≡_, refl, _∙_, ap}
 use Prim.Native.Nat.{ℕ}
 use lib.ListN.{length}
-use Rattle.model.specs.Piece.{Shape}
+use Rattle.model.specs.Piece.{Shape, coordinateNumber}
 use Rattle.model.specs.Lent.{Lent}
 use Rattle.model.specs.Refusal.{Outcome, refused, given}
 use Rattle.model.specs.Calls.{leaving, Stores}
 use Rattle.model.specs.declared.JobSize.{JobSize}
+use Rattle.model.specs.declared.Line.{Line}
+use Rattle.model.specs.declared.Line.the-variants.{InRow, InColumn}
 use Rattle.model.specs.Descent.{Descent}
 use Rattle.model.specs.Guided.{Guided}
 use Rattle.model.specs.Layout.{Layout}
@@ -186,11 +188,12 @@ layout-told (given v) e = ap layoutTold e
 -- the best place on a line
 abbrev pub bestTold : SearchAnswer → Outcome Best
 bestTold (SearchAnswer.Refused r) = refused r
-bestTold (SearchAnswer.Best sum at) = given (record { sum = sum; at = at })
+bestTold (SearchAnswer.Best sum place) = given (record { sum = sum; at = coordinateNumber place })
 
-pub best-told : (o : Outcome Best) {x : SearchAnswer} → x ≡ searchAnswer o → bestTold x ≡ telling (λ b. b) o
-best-told (refused r) e = ap bestTold e
-best-told (given b) e = ap bestTold e
+pub best-told : (line : Line) (o : Outcome Best) {x : SearchAnswer} → x ≡ searchAnswer line o → bestTold x ≡ telling (λ b. b) o
+best-told line (refused r) e = ap bestTold e
+best-told (InRow r) (given b) e = ap bestTold e
+best-told (InColumn c) (given b) e = ap bestTold e
 
 -- how a descent ended
 abbrev pub endedTold : DescentAnswer → Outcome Ended

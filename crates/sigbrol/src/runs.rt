@@ -2,6 +2,7 @@
 use descent::DescentAnswer;
 use guided::GuidedAnswer;
 use interface::Reply;
+use interface::coordinate_number;
 use interface::done;
 use interface::end_number;
 use interface::line_of;
@@ -50,7 +51,7 @@ pub extern "C" fn sigbrol_line_search(
     ) {
         SearchAnswer::Best(least, place) => {
             *sum = least;
-            *at = place;
+            *at = coordinate_number(place);
             done()
         }
         SearchAnswer::Refused(refusal) => refused(refusal),

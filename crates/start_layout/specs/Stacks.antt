@@ -12,7 +12,7 @@ use Rattle.start_layout.specs.declared.stack.Pile.{Pile}
 
 -- a pile as the model's stack
 abbrev pub stackOf : Pile → Stack
-stackOf p = record { left = p .left; height = p .height; length = p .length }
+stackOf p = record { left = p .left .0; height = p .height .0; length = p .length }
 
 -- the empty stack at the left edge
 abbrev pub emptyStack : Stack
@@ -26,11 +26,11 @@ stackEntries j (i ∷ is) s es = stackEntries j is (stacked j i (roomFor j i s))
 -- the pile has room for piece i on top, and its right end is no further than before
 pub record Room (size : JobSize) (table : List (List ℕ)) (i : ℕ) (before after : Pile) : Type 0 where
   pub same : (pixels : List ℕ) → stackOf after ≡ roomFor (jobOf (lentBy size table pixels)) i (stackOf before)
-  pub onTop : after .height + entryRows table i ≤ size .rows
-  pub end : after .left + after .length ≤ before .left + before .length
+  pub onTop : after .height .0 + entryRows table i ≤ size .rows
+  pub end : after .left .0 + after .length ≤ before .left .0 + before .length
 
 -- the pile with piece i on it
 pub record Piled (size : JobSize) (table : List (List ℕ)) (i : ℕ) (before after : Pile) : Type 0 where
   pub same : (pixels : List ℕ) → stackOf after ≡ stacked (jobOf (lentBy size table pixels)) i (stackOf before)
-  pub height : after .height ≤ size .rows
-  pub end : after .left + after .length ≤ before .left + before .length + 255
+  pub height : after .height .0 ≤ size .rows
+  pub end : after .left .0 + after .length ≤ before .left .0 + before .length + 255

@@ -1,26 +1,16 @@
--- A layout buffer with one entry written anew, how many places a line has, and what the answers of a search and of a trial tell.
--- Assumes nothing.
-use mathlib.Core.Bool.{Bool, true, false}
+-- A layout buffer with one entry written anew, and what the answers of a search and of a trial tell. Assumes nothing.
 use mathlib.Core.List.{List, [], _∷_, map}
 use mathlib.Core.Option.{Option, none, some}
 use mathlib.Core.Path.{_≡_, refl, ap, ap₂, _∙_}
-use Prim.Native.Nat.{ℕ, zero, suc, _+_, _-_, _<_, _≤_}
+use Prim.Native.Nat.{ℕ, zero, suc, _<_}
 use native.Mathlib.Omega.{arith}
-use lib.Dec.{leb}
 use lib.ListN.{set}
-use Rattle.model.specs.Piece.{extent, other, lineDirection, held}
-use Rattle.model.specs.Layout.{sheetExtent, turnedPiece}
-use Rattle.model.specs.Lent.{Lent, jobOf, lentWell}
 use Rattle.model.specs.Buffer.{entryOf, placementOf, layoutOf, entriesOf}
-use Rattle.model.specs.Search.{Best, places}
-use Rattle.model.specs.declared.Turn.{Turn}
-use Rattle.model.specs.declared.Line.{Line}
-use Rattle.model.specs.declared.Line.the-variants.{InRow, InColumn}
+use Rattle.model.specs.Search.{Best}
 use Rattle.model.specs.declared.Placement.{Placement}
 use Rattle.text_laws.proofs.Entries.{entry-read-back}
 use Rattle.search_laws.specs.BoundedSearch.{bestAt, belowBound}
 use Rattle.search_laws.proofs.BoundedSearch.{Lowest, bounded-is}
-use Rattle.shapes.proofs.Jobs.{sheet}
 use Rattle.line_sums.specs.Answers.{foundAnswer}
 use Rattle.line_sums.specs.declared.Found.{Found}
 use Rattle.trial_step.specs.Steps.{triedAnswer}
@@ -42,27 +32,6 @@ layout-set es i p = map-set placementOf es i (entryOf p) ∙ ap (set (layoutOf e
 pub written-set : (es : List (List ℕ)) (i : ℕ) (p : Placement) → entriesOf (layoutOf es) ≡ es
     → entriesOf (layoutOf (set es i (entryOf p))) ≡ set es i (entryOf p)
 written-set es i p e = ap entriesOf (layout-set es i p) ∙ map-set entryOf (layoutOf es) i p ∙ ap (λ (z : List (List ℕ)). set z i (entryOf p)) e
-
--- ── places ──
-
--- by the test across the line
-places-at : (b : Bool) (n m : ℕ) → n ≤ 4096 → elim b as (λ _. ℕ) [ true ↦ suc n - m | false ↦ 0 ] ≤ 4097
-places-at true n m h = omega arith
-places-at false n m h = omega arith
-
--- the sheet's pixels along the line
-line-extent : (l : Lent) → lentWell l ≡ true → (line : Line) → sheetExtent (lineDirection line) (jobOf l) ≤ 4096
-unfolding jobOf
-line-extent l w (InRow r) = sheet l w .columns
-line-extent l w (InColumn c) = let h = sheet l w .rows in omega arith
-
--- a line has at most 4,097 places
-pub places-few : (l : Lent) → lentWell l ≡ true → (i : ℕ) (t : Turn) (line : Line) → places (jobOf l) i t line ≤ 4097
-unfolding places
-places-few l w i t line =
-    places-at
-    (leb (held line + extent (other (lineDirection line)) (turnedPiece (jobOf l) i t)) (sheetExtent (other (lineDirection line)) (jobOf l)))
-    (sheetExtent (lineDirection line) (jobOf l)) (extent (lineDirection line) (turnedPiece (jobOf l) i t)) (line-extent l w line)
 
 -- ── answers ──
 

@@ -20,7 +20,7 @@ returns : tie.Need-returns
 returns c =
     let a = c .before .before .before .before .args in
     let w : standsAt atWord (a .text .now) (a .p) ≡ false = sym (c .before .word-at .ensures) ∙ not-true _ (c .if1 .taken) in
-    record { same = word-missing (a .text .now) (a .p) atWord fourFields w; inside = omega arith; small = tt }
+    record { same = word-missing (a .text .now) (a .p) atWord fourFields w; inside = omega arith }
 
 add-field-at : tie.Need-add-field-at
 add-field-at c = search needs
@@ -38,7 +38,7 @@ returns-2 : tie.Need-returns-2
 returns-2 c =
     let a = c .before .before .before .before .before .before .before .args in
     let w : standsAt atWord (a .text .now) (a .p) ≡ true = sym (c .before .before .before .before .word-at .ensures) ∙ not-false _ (c .before .before .before .if1 .left) in
-    record { same = line-number (a .text .now) (a .p) w (field-unread (c .before .before .field-at .ensures) (c .enum-told .given .1)); inside = omega arith; small = tt }
+    record { same = line-number (a .text .now) (a .p) w (field-unread (c .before .before .field-at .ensures) (c .enum-told .given .1)); inside = omega arith }
 
 three-at-requires : tie.Need-three-at-requires
 three-at-requires c κs = search needs
@@ -55,7 +55,7 @@ returns-3 c =
     let w : standsAt atWord (a .text .now) (a .p) ≡ true = sym (c .before .before .before .before .before .before .before .before .word-at .ensures) ∙ not-false _ (c .before .before .before .before .before .before .before .if1 .left) in
     let g = c .before .before .before .before .number .given in
     let f = field-read (g .0 .0) (g .0 .1 .0) (c .before .before .before .before .before .before .field-at .ensures) (g .1) in
-    record { same = line-three (a .text .now) (a .p) _ _ w (f .same) (rw (c .enum-told2 .given .1) at (c .before .before .three-at .ensures .same)); inside = omega arith; small = tt }
+    record { same = line-three (a .text .now) (a .p) _ _ w (f .same) (rw (c .enum-told2 .given .1) at (c .before .before .three-at .ensures .same)); inside = omega arith }
 
 returns-4 : tie.Need-returns-4
 returns-4 c =
@@ -68,7 +68,6 @@ returns-4 c =
     record {
       same = line-got (a .text .now) (a .p) _ _ _ _ _ _ w (f .same) (rw (h .1) at (t .same));
       inside = rw (h .1) at (t .inside);
-      small = rw (h .1) at (t .small);
     }
 
 pub placement-fields-spec : {M : Type 1} → statement M

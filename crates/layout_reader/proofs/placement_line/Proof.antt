@@ -31,8 +31,7 @@ returns c =
 placement-of-requires : tie.Need-placement-of-requires
 placement-of-requires c κs =
     let p = c .before .before .before .before .before .pre in
-    let small = rw (c .before .fields .given .1) at (c .before .before .before .placement-fields .ensures .small) in
-    (p .0, p .1, p .2, small .0, small .1)
+    (p .0, p .1, p .2)
 
 enum-known-refusal : tie.Need-enum-known-refusal
 enum-known-refusal c = search needs

@@ -17,7 +17,7 @@ enum-told c = search needs
 returns : tie.Need-returns
 returns c =
     let a = c .before .before .before .before .args in
-    record { same = three-first (a .text .now) (a .p) (field-unread (c .before .before .field-at .ensures) (c .enum-told .given .1)); inside = omega arith; small = tt }
+    record { same = three-first (a .text .now) (a .p) (field-unread (c .before .before .field-at .ensures) (c .enum-told .given .1)); inside = omega arith }
 
 field-at-requires-2 : tie.Need-field-at-requires-2
 field-at-requires-2 c κs = search needs
@@ -32,7 +32,7 @@ returns-2 : tie.Need-returns-2
 returns-2 c =
     let a = c .before .before .before .before .before .before .before .before .args in
     let f = (field-read (c .before .before .before .before .first .given .0 .0) (c .before .before .before .before .first .given .0 .1 .0) (c .before .before .before .before .before .before .field-at .ensures) (c .before .before .before .before .first .given .1)) in
-    record { same = three-second (a .text .now) (a .p) _ _ (f .same) (field-unread (c .before .before .field-at2 .ensures) (c .enum-told2 .given .1)); inside = omega arith; small = tt }
+    record { same = three-second (a .text .now) (a .p) _ _ (f .same) (field-unread (c .before .before .field-at2 .ensures) (c .enum-told2 .given .1)); inside = omega arith }
 
 field-at-requires-3 : tie.Need-field-at-requires-3
 field-at-requires-3 c κs = search needs
@@ -48,7 +48,7 @@ returns-3 c =
     let a = c .before .before .before .before .before .before .before .before .before .before .before .before .args in
     let f = (field-read (c .before .before .before .before .before .before .before .before .first .given .0 .0) (c .before .before .before .before .before .before .before .before .first .given .0 .1 .0) (c .before .before .before .before .before .before .before .before .before .before .field-at .ensures) (c .before .before .before .before .before .before .before .before .first .given .1)) in
     let s = (field-read (c .before .before .before .before .second .given .0 .0) (c .before .before .before .before .second .given .0 .1 .0) (c .before .before .before .before .before .before .field-at2 .ensures) (c .before .before .before .before .second .given .1)) in
-    record { same = three-third (a .text .now) (a .p) _ _ _ _ (f .same) (s .same) (field-unread (c .before .before .field-at3 .ensures) (c .enum-told3 .given .1)); inside = omega arith; small = tt }
+    record { same = three-third (a .text .now) (a .p) _ _ _ _ (f .same) (s .same) (field-unread (c .before .before .field-at3 .ensures) (c .enum-told3 .given .1)); inside = omega arith }
 
 returns-4 : tie.Need-returns-4
 returns-4 c =
@@ -56,7 +56,7 @@ returns-4 c =
     let f = (field-read (c .before .before .before .before .before .before .before .before .before .first .given .0 .0) (c .before .before .before .before .before .before .before .before .before .first .given .0 .1 .0) (c .before .before .before .before .before .before .before .before .before .before .before .field-at .ensures) (c .before .before .before .before .before .before .before .before .before .first .given .1)) in
     let s = (field-read (c .before .before .before .before .before .second .given .0 .0) (c .before .before .before .before .before .second .given .0 .1 .0) (c .before .before .before .before .before .before .before .field-at2 .ensures) (c .before .before .before .before .before .second .given .1)) in
     let t = (field-read (c .before .third .given .0 .0) (c .before .third .given .0 .1 .0) (c .before .before .before .field-at3 .ensures) (c .before .third .given .1)) in
-    record { same = three-got (a .text .now) (a .p) _ _ _ _ _ _ (f .same) (s .same) (t .same); inside = t .inside; small = (s .small, t .small) }
+    record { same = three-got (a .text .now) (a .p) _ _ _ _ _ _ (f .same) (s .same) (t .same); inside = t .inside }
 
 pub three-at-spec : {M : Type 1} → statement M
 three-at-spec =

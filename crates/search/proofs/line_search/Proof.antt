@@ -1,6 +1,6 @@
 -- `search::line_search` meets its contract: the causes refuse, or none is there and the search decides. Assumes nothing.
 use mathlib.Core.List.{[], _∷_}
-use mathlib.Core.Path.{sym, ap, _∙_}
+use mathlib.Core.Path.{sym, ap, subst, _∙_}
 use lib.Dec.{eqb}
 use Rattle.model.specs.Search.{places, searchLine}
 use Rattle.model.specs.Refusal.{cause, emptyLine}
@@ -9,8 +9,8 @@ use Rattle.model.specs.Buffer.{layoutOf}
 use Rattle.model.specs.Calls.{bestPlace, searchCall}
 use Rattle.text_laws.specs.Outcomes.{NoCause}
 use Rattle.placing.proofs.Causes.{passed-none, none-then, refused-then}
-use Rattle.search.specs.Answers.{bestAnswer, searchAnswer, searchCauses}
-use Rattle.search.proofs.Answering.{search-ready, best-is}
+use Rattle.search.specs.Answers.{InReach, bestAnswer, searchAnswer, searchCauses}
+use Rattle.search.proofs.Answering.{search-ready, best-is, best-in-reach}
 use borrow.Author.Needs.{needs}
 use Rattle.search.proofs.line_search.Statement.{statement}
 use Rattle.search.proofs.line_search.Tie as tie
@@ -33,7 +33,12 @@ search-alone-requires c κs =
     search-ready l (a .layout .now) (a .weights .now) (a .piece) (a .turn) none
 
 best-answer-requires : tie.Need-best-answer-requires
-best-answer-requires c κs = search needs
+best-answer-requires c κs =
+    let a = c .before .before .before .before .before .before .args in
+    let l = lentBy (a .size) (a .table .now) (a .pixels .now) in
+    let none : NoCause (searchCauses l (a .layout .now) (a .weights .now) (a .piece) (a .turn)) = passed-none _ (sym (c .before .enum-told .given .1) ∙ c .before .before .before .search-causes .ensures) in
+    let well = search-ready l (a .layout .now) (a .weights .now) (a .piece) (a .turn) none .0 .well in
+    subst InReach (sym (c .search-alone .ensures)) (best-in-reach l well (a .weights .now) (layoutOf (a .layout .now)) (a .piece) (a .turn) (a .line))
 
 returns : tie.Need-returns
 unfolding searchCall
@@ -41,7 +46,7 @@ returns c =
     let e = c .before .before .before .before .before .before in
     let a = e .args in
     let l = lentBy (a .size) (a .table .now) (a .pixels .now) in
-    sym (ap searchAnswer (refused-then (searchCauses l (a .layout .now) (a .weights .now) (a .piece) (a .turn)) (cause emptyLine (eqb (places (jobOf l) (a .piece) (a .turn) (a .line)) 0) ∷ []) (bestPlace (searchLine (jobOf l) (a .weights .now) (layoutOf (a .layout .now)) (a .piece) (a .turn) (a .line))) _ (sym (c .before .refusal .given .1) ∙ c .before .before .before .search-causes .ensures)))
+    sym (ap (searchAnswer (a .line)) (refused-then (searchCauses l (a .layout .now) (a .weights .now) (a .piece) (a .turn)) (cause emptyLine (eqb (places (jobOf l) (a .piece) (a .turn) (a .line)) 0) ∷ []) (bestPlace (searchLine (jobOf l) (a .weights .now) (layoutOf (a .layout .now)) (a .piece) (a .turn) (a .line))) _ (sym (c .before .refusal .given .1) ∙ c .before .before .before .search-causes .ensures)))
 
 returns-2 : tie.Need-returns-2
 unfolding searchCall
@@ -51,9 +56,9 @@ returns-2 c =
     let l = lentBy (a .size) (a .table .now) (a .pixels .now) in
     let none : NoCause (searchCauses l (a .layout .now) (a .weights .now) (a .piece) (a .turn)) = passed-none _ (sym (c .before .before .enum-told .given .1) ∙ c .before .before .before .before .search-causes .ensures) in
     c .best-answer .ensures
-    ∙ ap bestAnswer (c .before .search-alone .ensures)
+    ∙ ap (bestAnswer (a .line)) (c .before .search-alone .ensures)
     ∙ best-is (jobOf l) (a .weights .now) (layoutOf (a .layout .now)) (a .piece) (a .turn) (a .line)
-    ∙ sym (ap searchAnswer (none-then (searchCauses l (a .layout .now) (a .weights .now) (a .piece) (a .turn)) (cause emptyLine (eqb (places (jobOf l) (a .piece) (a .turn) (a .line)) 0) ∷ []) (bestPlace (searchLine (jobOf l) (a .weights .now) (layoutOf (a .layout .now)) (a .piece) (a .turn) (a .line))) none))
+    ∙ sym (ap (searchAnswer (a .line)) (none-then (searchCauses l (a .layout .now) (a .weights .now) (a .piece) (a .turn)) (cause emptyLine (eqb (places (jobOf l) (a .piece) (a .turn) (a .line)) 0) ∷ []) (bestPlace (searchLine (jobOf l) (a .weights .now) (layoutOf (a .layout .now)) (a .piece) (a .turn) (a .line))) none))
 
 pub line-search-spec : {M : Type 1} → statement M
 line-search-spec =

@@ -12,9 +12,9 @@ use Rattle.model.specs.Buffer.{layoutOf, entryOf}
 use Rattle.model.specs.Search.{Best, places}
 use Rattle.search_laws.specs.BoundedSearch.{bestAt}
 use Rattle.search_laws.specs.Table.{PenaltyTable}
-use Rattle.shapes.proofs.Jobs.{sheet}
+use Rattle.shapes.proofs.Jobs.{sheet, places-few}
 use Rattle.trial_step.specs.Steps.{moverSearch, triedAnswer, entriesAfter}
-use Rattle.trial_step.proofs.Moves.{layout-set, places-few, found-nothing, found-at, found-there}
+use Rattle.trial_step.proofs.Moves.{layout-set, found-nothing, found-at, found-there}
 use borrow.Author.Needs.{needs}
 use Rattle.trial_step.proofs.try_line.Statement.{statement}
 use Rattle.trial_step.proofs.try_line.Tie as tie

@@ -4,6 +4,7 @@ use Rattle.model.specs.Buffer.{turnOf}
 use Rattle.model.specs.Search.{Best}
 use Rattle.model.specs.Refusal.{Outcome}
 use Rattle.model.specs.Calls.{searchCall}
+use Rattle.model.specs.declared.Line.{Line}
 use Rattle.interface.specs.Numbers.{lentAs, pieceWithTurn, lineOf}
 use Rattle.search.specs.Answers.{searchAnswer}
 use Rattle.sigbrol.proofs.Told.{reply-by, leaves-by, best-told}
@@ -14,9 +15,14 @@ use Rattle.sigbrol.proofs.runs.sigbrol_line_search.Tie as tie
 outcome : tie.Start → Outcome Best
 outcome s = let a = s .args in searchCall (lentAs (a .rows) (a .columns) (a .count) (a .table .now) (a .pixels .now)) (a .layout .now) (a .weights .now) (pieceWithTurn (a .turn) (a .piece)) (turnOf (a .turn)) (lineOf (a .vertical) (a .held))
 
+-- its line
+line : tie.Start → Line
+line s = lineOf (s .args .vertical) (s .args .held)
+
 -- its answer tells that outcome
-answered : (c : tie.After-line-search) → c .line-search .result ≡ searchAnswer (outcome (c .before .before .before .before .before .before .before))
-unfolding outcome
+answered : (c : tie.After-line-search)
+    → c .line-search .result ≡ searchAnswer (line (c .before .before .before .before .before .before .before)) (outcome (c .before .before .before .before .before .before .before))
+unfolding outcome line
 answered c = rw (c .before .before .before .before .size-of .ensures, c .before .before .before .piece-with-turn .ensures, c .before .before .turn-or-zero .ensures, c .before .line-of .ensures) at (c .line-search .ensures)
 
 size-of-requires : tie.Need-size-of-requires
@@ -37,6 +43,9 @@ line-search-requires c κs = tt
 enum-known-least : tie.Need-enum-known-least
 enum-known-least c = c .match .keys1
 
+coordinate-number-requires : tie.Need-coordinate-number-requires
+coordinate-number-requires c κs = tt
+
 done-requires : tie.Need-done-requires
 done-requires c κs = tt
 
@@ -47,17 +56,19 @@ refused-requires : tie.Need-refused-requires
 refused-requires c κs = tt
 
 returns : tie.Need-returns
-unfolding outcome
+unfolding outcome line
 returns c =
-    let o = outcome (c .before .before .before .before .before .before .before .before .before .before .before) in
-    let t = best-told o (sym (c .before .before .least .given .1) ∙ answered (c .before .before .before .before)) in
-    (c .done .ensures ∙ reply-by (λ b. b) o t, (leaves-by (λ b. b) (λ b. b .sum) _ o t, leaves-by (λ b. b) (λ b. b .at) _ o t))
+    let s = c .before .before .before .before .before .before .before .before .before .before .before .before in
+    let o = outcome s in
+    let t = best-told (line s) o (sym (c .before .before .before .least .given .1) ∙ answered (c .before .before .before .before .before)) in
+    (c .done .ensures ∙ reply-by (λ b. b) o t, (leaves-by (λ b. b) (λ b. b .sum) _ o t, c .before .coordinate-number .ensures ∙ leaves-by (λ b. b) (λ b. b .at) _ o t))
 
 returns-2 : tie.Need-returns-2
-unfolding outcome
+unfolding outcome line
 returns-2 c =
-    let o = outcome (c .before .before .before .before .before .before .before .before .before .before .before) in
-    let t = best-told o (sym (c .before .before .refusal .given .1) ∙ answered (c .before .before .before .before)) in
+    let s = c .before .before .before .before .before .before .before .before .before .before .before in
+    let o = outcome s in
+    let t = best-told (line s) o (sym (c .before .before .refusal .given .1) ∙ answered (c .before .before .before .before)) in
     (c .refused .ensures ∙ reply-by (λ b. b) o t, (leaves-by (λ b. b) (λ b. b .sum) _ o t, leaves-by (λ b. b) (λ b. b .at) _ o t))
 
 pub sigbrol-line-search-spec : {M : Type 1} → statement M
@@ -70,6 +81,7 @@ sigbrol-line-search-spec =
     line-of-requires
     line-search-requires
     enum-known-least
+    coordinate-number-requires
     done-requires
     enum-known-refusal
     refused-requires

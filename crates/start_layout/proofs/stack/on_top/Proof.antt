@@ -4,6 +4,9 @@ use Rattle.model.specs.Lent.{jobOf}
 use Rattle.start_layout.proofs.stack.on_top.Statement.{statement}
 use Rattle.start_layout.proofs.stack.on_top.Tie as tie
 
+cast-smaller : tie.Need-cast-smaller
+cast-smaller c = search needs
+
 mul-side : tie.Need-mul-side
 mul-side c = search needs
 
@@ -22,11 +25,8 @@ sub-smaller c = search needs
 smaller-requires : tie.Need-smaller-requires
 smaller-requires c κs = search needs
 
-cast-t13 : tie.Need-cast-t13
-cast-t13 c = search needs
-
-cast-t14 : tie.Need-cast-t14
-cast-t14 c = search needs
+cast-t16 : tie.Need-cast-t16
+cast-t16 c = search needs
 
 returns : tie.Need-returns
 unfolding jobOf
@@ -36,12 +36,12 @@ pub on-top-spec : {M : Type 1} → statement M
 on-top-spec =
     tie.close
     (tie.spec
+    cast-smaller
     mul-side
     index-1-side
     index-2-side
     side-requires
     sub-smaller
     smaller-requires
-    cast-t13
-    cast-t14
+    cast-t16
     returns)

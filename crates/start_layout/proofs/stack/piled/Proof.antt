@@ -5,6 +5,9 @@ use Rattle.model.specs.Lent.{jobOf}
 use Rattle.start_layout.proofs.stack.piled.Statement.{statement}
 use Rattle.start_layout.proofs.stack.piled.Tie as tie
 
+cast-top : tie.Need-cast-top
+cast-top c = search needs
+
 mul-side : tie.Need-mul-side
 mul-side c = search needs
 
@@ -17,8 +20,12 @@ index-2-side c = search needs
 side-requires : tie.Need-side-requires
 side-requires c κs = search needs
 
-add-t11 : tie.Need-add-t11
-add-t11 c = search needs
+add-top : tie.Need-add-top
+add-top c = search needs
+
+cast-t14 : tie.Need-cast-t14
+cast-t14 c =
+    let e = c .side .ensures .0 in let p = c .before .before .before .before .pre .1 in let r = c .before .before .before .before .pre .2 in omega arith
 
 mul-side-2 : tie.Need-mul-side-2
 mul-side-2 c = search needs
@@ -38,8 +45,8 @@ larger-requires c κs = search needs
 returns : tie.Need-returns
 unfolding jobOf
 returns c = record {
-  same = λ pixels. rw (c .larger .ensures, c .before .before .before .before .side .ensures .0, c .before .side2 .ensures .0);
-  height = let e = c .before .before .before .before .side .ensures .0 in let p = c .before .before .before .before .before .before .pre .1 in omega arith;
+  same = λ pixels. rw (c .larger .ensures, c .before .before .before .side .ensures .0, c .before .side2 .ensures .0);
+  height = let e = c .before .before .before .side .ensures .0 in let p = c .before .before .before .before .before .before .before .pre .1 in omega arith;
   end = let m = c .larger .ensures in let s = c .before .side2 .ensures .1 in omega arith;
 }
 
@@ -47,11 +54,13 @@ pub piled-spec : {M : Type 1} → statement M
 piled-spec =
     tie.close
     (tie.spec
+    cast-top
     mul-side
     index-1-side
     index-2-side
     side-requires
-    add-t11
+    add-top
+    cast-t14
     mul-side-2
     index-1-side-2
     index-2-side-2

@@ -1,12 +1,13 @@
 -- `start_layout::stack::stack_all` meets its contract. The loop's invariant: stacking what is left of the order comes to what stacking all
 -- of it comes to; the pile ends within 255 columns a piece and stays below the sheet's top. Assumes nothing.
 use mathlib.Core.List.{List, []}
-use mathlib.Core.Path.{_≡_, refl, sym, _∙_}
+use mathlib.Core.Path.{_≡_, refl, sym, ap, _∙_}
 use Prim.Native.Nat.{ℕ, _+_, _*_, _≤_, _<_, _-_}
 use native.Mathlib.Omega.{arith}
 use lib.ListN.{length, getD, take, drop, length-set, length-take, drop-of-length-le}
 use lib.Seq.{getD-take, length-take-le}
 use Rattle.model.specs.Lent.{lentBy, jobOf}
+use Rattle.model.specs.Buffer.{entryOf}
 use Rattle.start_layout.specs.Stacks.{stackOf, emptyStack, stackEntries}
 use Rattle.start_layout.proofs.Stacks.{stack-step}
 use Rattle.start_layout.proofs.stack.stack_all.Statement.{statement}
@@ -16,8 +17,8 @@ abbrev Inv-loop : tie.InvT-loop
 Inv-loop size table order layout₀ pile₀ k₀ layout pile k =
     (k ≤ size .count)
     × (length layout ≡ size .count)
-    × (pile .height ≤ size .rows)
-    × (pile .left + pile .length ≤ 255 * k)
+    × (pile .height .0 ≤ size .rows)
+    × (pile .left .0 + pile .length ≤ 255 * k)
     × ((pixels : List ℕ)
     → stackEntries (jobOf (lentBy size table pixels)) (drop k (take (size .count) order)) (stackOf pile) layout
     ≡ stackEntries (jobOf (lentBy size table pixels)) (take (size .count) order) emptyStack layout₀)
@@ -54,47 +55,50 @@ on-top-requires : tie.Need-on-top-requires Inv-loop μ-loop
 on-top-requires c κs =
     let f = c .before .before .before .before .before .pre .0 in
     let i = listed (c .before) in
-    (let e = f .entries in omega arith, f .columnsFit _ i, f .fewColumns, let r = f .fewRows in let h = c .room-for .ensures .onTop in omega arith)
+    (let e = f .entries in omega arith, f .columnsFit _ i, f .fewColumns)
 
-mul-t9 : tie.Need-mul-t9 Inv-loop μ-loop
-mul-t9 c =
-    let i = listed (c .before .before) in let n = c .before .before .before .before .before .before .pre .0 .fewPieces in omega arith
+entry-of-requires : tie.Need-entry-of-requires Inv-loop μ-loop
+entry-of-requires c κs = tt
+
+mul-t11 : tie.Need-mul-t11 Inv-loop μ-loop
+mul-t11 c =
+    let i = listed (c .before .before .before) in let n = c .before .before .before .before .before .before .before .pre .0 .fewPieces in omega arith
 
 slice-set-from-layout : tie.Need-slice-set-from-layout Inv-loop μ-loop
 slice-set-from-layout c =
-    let i = listed (c .before .before) in let n = c .before .before .before .before .before .loop .inv .1 in omega arith
+    let i = listed (c .before .before .before) in let n = c .before .before .before .before .before .before .loop .inv .1 in omega arith
 
 piled-requires : tie.Need-piled-requires Inv-loop μ-loop
 piled-requires c κs =
-    let f = c .before .before .before .before .before .before .pre .0 in
-    let i = listed (c .before .before) in
-    (let e = f .entries in omega arith, c .before .room-for .ensures .onTop, f .fewRows)
+    let f = c .before .before .before .before .before .before .before .pre .0 in
+    let i = listed (c .before .before .before) in
+    (let e = f .entries in omega arith, c .before .before .room-for .ensures .onTop, f .fewRows)
 
 add-k : tie.Need-add-k Inv-loop μ-loop
 add-k c =
-    let n = c .before .before .before .before .before .before .before .pre .0 .fewPieces in let t = c .before .before .before .before .if1 .taken in omega arith
+    let n = c .before .before .before .before .before .before .before .before .pre .0 .fewPieces in let t = c .before .before .before .before .before .if1 .taken in omega arith
 
 loop-less : tie.Need-loop-less Inv-loop μ-loop
 loop-less c = omega arith
 
 loop-again : tie.Need-loop-again Inv-loop μ-loop
 loop-again c =
-    let a = c .before .before .before .before .before .before .before .args in
-    let l = c .before .before .before .before .before .before .loop in
-    let room = c .before .before .room-for .ensures in
+    let a = c .before .before .before .before .before .before .before .before .args in
+    let l = c .before .before .before .before .before .before .before .loop in
+    let room = c .before .before .before .room-for .ensures in
     let top = c .piled .ensures in
     let order : List ℕ = take (a .size .count) (a .order .now) in
-    let here : getD order (l .k) 0 ≡ getD (a .order .now) (l .k) 0 = getD-take (a .size .count) (a .order .now) (l .k) 0 (c .before .before .before .before .if1 .taken) in
+    let here : getD order (l .k) 0 ≡ getD (a .order .now) (l .k) 0 = getD-take (a .size .count) (a .order .now) (l .k) 0 (c .before .before .before .before .before .if1 .taken) in
     let long : length order ≡ a .size .count =
-    length-take-le (a .size .count) (a .order .now) (let n = c .before .before .before .before .before .before .before .pre .2 in let f = c .before .before .before .before .before .before .before .pre .0 .fewPieces in omega arith) in (
+    length-take-le (a .size .count) (a .order .now) (let n = c .before .before .before .before .before .before .before .before .pre .2 in let f = c .before .before .before .before .before .before .before .before .pre .0 .fewPieces in omega arith) in (
       omega arith,
-      length-set (l .layout) _ (c .before .on-top .result) ∙ l .inv .1,
+      length-set (l .layout) _ (c .before .entry-of .result) ∙ l .inv .1,
       top .height,
       let e = l .inv .3 in let r = room .end in let t = top .end in omega arith,
       λ pixels.
           stack-step (jobOf (lentBy (a .size) (a .table .now) pixels)) order (l .k) (getD (a .order .now) (l .k) 0) (stackOf (l .pile))
-          (stackOf (c .before .before .room-for .result)) (stackOf (c .piled .result)) (c .before .on-top .result) (l .layout)
-          (let t = c .before .before .before .before .if1 .taken in omega arith) here (room .same pixels) (c .before .on-top .ensures pixels) (top .same pixels)
+          (stackOf (c .before .before .before .room-for .result)) (stackOf (c .piled .result)) (c .before .entry-of .result) (l .layout)
+          (let t = c .before .before .before .before .before .if1 .taken in omega arith) here (room .same pixels) (c .before .entry-of .ensures ∙ ap entryOf (c .before .before .on-top .ensures pixels)) (top .same pixels)
           ∙ l .inv .4 pixels,
     )
 
@@ -121,7 +125,8 @@ stack-all-spec =
     element-copy-out-i
     room-for-requires
     on-top-requires
-    mul-t9
+    entry-of-requires
+    mul-t11
     slice-set-from-layout
     piled-requires
     add-k
