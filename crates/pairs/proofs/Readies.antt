@@ -1,23 +1,26 @@
--- Where no cause refuses a call on a pair, both pieces are ready to be measured: their table entries are checked, and their corners
--- lie in the sheet. Assumes nothing.
+-- Where no cause refuses a call on a pair, both pieces are ready to be measured: their table entries are checked, their corners lie in
+-- the sheet, and as two pieces of one job they have no more pixels than its boxes. Assumes nothing.
 use mathlib.Core.Bool.{Bool, true, false, not, _&&_, _||_}
 use mathlib.Core.List.{List}
 use mathlib.Core.Path.{_≡_, sym, _∙_}
+use mathlib.Core.Logic.{⊎-elim}
 use Prim.Native.Nat.{ℕ, _+_, _<_, _≤_}
+use native.Mathlib.Nat.{eq-or-lt-of-le}
 use native.Mathlib.Omega.{arith}
 use lib.Dec.{leb, ltb, eqb}
 use lib.ListN.{length}
-use borrow.Author.Tests.{leb-true, ltb-true, eqb-true, not-false}
+use borrow.Author.Tests.{leb-true, ltb-true, ltb-false, eqb-true, eqb-false, not-false}
 use Rattle.model.specs.Layout.{inside, placeOf, turnedPiece}
 use Rattle.model.specs.Lent.{Lent, jobOf, lentWell, sheetInRange, upTo, rowBound, columnBound, pieceBound, areaBound}
 use Rattle.model.specs.Buffer.{layoutOf}
 use Rattle.model.specs.Calls.{someTurnWrong, someOutside, pairCauses}
 use Rattle.model.proofs.Bounded.{any-none}
-use Rattle.model.proofs.Tests.{and-left, and-right, or-neither}
+use Rattle.model.proofs.Tests.{and-left, and-right, or-neither, decided}
 use Rattle.text_laws.proofs.LentFacts.{facts}
 use Rattle.text_laws.specs.Outcomes.{NoCause}
+use Rattle.text_laws.proofs.Store.{start-end}
 use Rattle.strips.proofs.Jobs.{entry-at}
-use Rattle.placed_pair.specs.Ready.{Ready}
+use Rattle.placed_pair.specs.Ready.{Ready, Together}
 
 -- the sheet's limits
 record Limits (l : Lent) : Type 0 where
@@ -64,12 +67,26 @@ piece-ready l es w out i b =
       y = omega (arith, leb-true (p .y .0 + turnedPiece (jobOf l) i (p .turn) .rows) (l .rows) y);
     }
 
+-- of two pieces the earlier one's pixels end before the later one's begin
+pub pair-together : (l : Lent) → lentWell l ≡ true → (i k : ℕ) → i < l .count → k < l .count → eqb i k ≡ false → Together (l .table) i k
+pair-together l w i k a b e =
+    let all = facts l w .areas in
+    ⊎-elim
+    (λ h. omega (arith, start-end (l .table) i k (ltb-true i k h), start-end (l .table) k (l .count) b))
+    (λ h.
+    ⊎-elim
+    (λ (q : k ≡ i). absurd (eqb-false i k e (sym q)))
+    (λ (m : k < i). omega (arith, start-end (l .table) k i m, start-end (l .table) i (l .count) a))
+    (eq-or-lt-of-le (ltb-false i k h)))
+    (decided (ltb i k))
+
 -- what is known of a pair that no cause refuses
 pub record Measurable (l : Lent) (es : List (List ℕ)) (i k : ℕ) : Type 0 where
   pub first-place : i < length es
   pub second-place : k < length es
   pub first : Ready (l .table) i (placeOf (layoutOf es) i)
   pub second : Ready (l .table) k (placeOf (layoutOf es) k)
+  pub together : Together (l .table) i k
 
 pub measurable : (l : Lent) (es : List (List ℕ)) (i k : ℕ) → NoCause (pairCauses l es i k) → Measurable l es i k
 unfolding pairCauses
@@ -87,4 +104,5 @@ measurable l es i k h =
       second-place = omega arith;
       first = piece-ready l es w (h .1 .1 .1 .0) i a;
       second = piece-ready l es w (h .1 .1 .1 .0) k b;
+      together = pair-together l w i k a b (or-neither ((t || u) || v) (eqb i k) (h .1 .1 .0) .1);
     }

@@ -1,3 +1,4 @@
--- Laws of strips in local stores and of what is measured.
+-- Laws of how many strips there are, of strips in a local store and of what is measured.
+pub mod Rooms
 pub mod Stores
 pub mod Amounts

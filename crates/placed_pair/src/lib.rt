@@ -1,5 +1,5 @@
-// Depth and penalty of two placed pieces. Document 01, 'No-fit rows and penalty'. The pieces' strips in their turns are made in local
-// stores, and the functions of the crate overlap walk over them.
+// Depth and penalty of two placed pieces. Document 01, 'No-fit rows and penalty'. The strips of both pieces in their turns are put into
+// one local store, the second piece's behind the first's, and the functions of the crate overlap are lent each piece's part of it.
 //
 // What a penalty costs: a walk over two stretches takes a step for each strip of the lines that both pieces have, and a depth a few
 // walks for each sign, two where each line has one strip; the penalty is at most two depths, the second cut off at the first.
@@ -8,7 +8,8 @@ use model::Placement;
 use model::Turn;
 use overlap::Corner;
 ghost use mathlib.Core.Path.{_≡_};
-ghost use Prim.Native.Nat.{min, _≤_};
+ghost use Prim.Native.Nat.{min, _≤_, _^_};
+ghost use lib.ListN.{length};
 ghost use Rattle.model.specs.Piece.{corner};
 ghost use Rattle.model.specs.Strip.{strips};
 ghost use Rattle.model.specs.Overlap.{depth, penalty};
@@ -17,9 +18,16 @@ ghost use Rattle.model.specs.Lent.{lentBy, jobOf, pixelStart};
 ghost use Rattle.model.specs.declared.JobSize.{JobSize};
 ghost use Rattle.strips.specs.Put.{Appended, EntryAt};
 ghost use Rattle.overlap.specs.Seen.{seen};
-ghost use Rattle.placed_pair.specs.Ready.{Ready};
+ghost use Rattle.placed_pair.specs.Ready.{Ready, Together, pairRoom};
 
-// Puts the strips of a piece in a turn into the front of a store, and tells how many there are.
+// A store with room for the strips of any two pieces of a job along a direction. What it holds plays no part.
+fn empty_store() -> [[u8; 3]; 33023]
+    ensures { λ r. ⌜ length r ≡ pairRoom ⌝ }
+{
+    [[0u8; 3]; 33023]
+}
+
+// Puts the strips of a piece in a turn into a store from `at` on, and tells where the next strip would stand.
 fn fill(
     table: &[[u8; 3]],
     pixels: &[u8],
@@ -27,12 +35,13 @@ fn fill(
     turn: Turn,
     direction: Direction,
     store: &mut [[u8; 3]],
+    at: usize,
 ) -> usize
-    requires { ⌜ EntryAt (now table) i (pixelStart (now table) i) × (i ≤ 64) ⌝ }
-    ensures { λ r. ⌜ ((size : JobSize) → Appended (strips direction (turnedPiece (jobOf (lentBy size (now (table .entry)) (now (pixels .entry)))) i turn)) (now (store .entry)) 0 (now (store .exit)) r) ⌝ }
+    requires { ⌜ EntryAt (now table) i (pixelStart (now table) i) × (i ≤ 64) ⌝ ∗ ⌜ at ≤ 2 ^ 32 ⌝ }
+    ensures { λ r. ⌜ ((size : JobSize) → Appended (strips direction (turnedPiece (jobOf (lentBy size (now (table .entry)) (now (pixels .entry)))) i turn)) (now (store .entry)) at (now (store .exit)) r) ⌝ }
 {
     let start = job::pixel_start(table, i);
-    strips::put::put_piece(table, pixels, i, start, turn, direction, store, 0)
+    strips::put::put_piece(table, pixels, i, start, turn, direction, store, at)
 }
 
 // A placement's corner as a direction sees it.
@@ -53,6 +62,31 @@ fn corner_along(place: Placement, direction: Direction) -> Corner
     }
 }
 
+// The depth of two placed pieces along a direction, cut off at a bound, with their strips in a lent store.
+fn depth_in(
+    table: &[[u8; 3]],
+    pixels: &[u8],
+    i: usize,
+    p: Placement,
+    k: usize,
+    q: Placement,
+    direction: Direction,
+    bound: u32,
+    store: &mut [[u8; 3]],
+) -> u32
+    requires { ⌜ Ready (now table) i p ⌝ ∗ ⌜ Ready (now table) k q ⌝ ∗ ⌜ Together (now table) i k ⌝ ∗ ⌜ bound ≤ 256 ⌝ ∗ ⌜ length (now store) ≡ pairRoom ⌝ }
+    ensures { λ r. ⌜ ((size : JobSize) → r ≡ min (depth direction (turnedPiece (jobOf (lentBy size (now (table .entry)) (now (pixels .entry)))) i (p .turn)) (corner p) (turnedPiece (jobOf (lentBy size (now (table .entry)) (now (pixels .entry)))) k (q .turn)) (corner q)) bound) ⌝ }
+{
+    let first = p.turn;
+    let second = q.turn;
+    let middle = fill(table, pixels, i, first, direction, store, 0);
+    let end = fill(table, pixels, k, second, direction, store, middle);
+    let u = corner_along(p, direction);
+    let v = corner_along(q, direction);
+    let strips = &store[..];
+    overlap::depth_below(&strips[..middle], u, &strips[middle..end], v, bound)
+}
+
 // The depth of two placed pieces along a direction, cut off at a bound. With the bound 1 it tells whether they share a pixel, and the
 // walk ends at the first.
 pub fn placed_depth(
@@ -65,21 +99,15 @@ pub fn placed_depth(
     direction: Direction,
     bound: u32,
 ) -> u32
-    requires { ⌜ Ready (now table) i p ⌝ ∗ ⌜ Ready (now table) k q ⌝ ∗ ⌜ bound ≤ 256 ⌝ }
+    requires { ⌜ Ready (now table) i p ⌝ ∗ ⌜ Ready (now table) k q ⌝ ∗ ⌜ Together (now table) i k ⌝ ∗ ⌜ bound ≤ 256 ⌝ }
     ensures { λ r. ⌜ ((size : JobSize) → r ≡ min (depth direction (turnedPiece (jobOf (lentBy size (now (table .entry)) (now (pixels .entry)))) i (p .turn)) (corner p) (turnedPiece (jobOf (lentBy size (now (table .entry)) (now (pixels .entry)))) k (q .turn)) (corner q)) bound) ⌝ }
 {
-    let mut a = [[0u8; 3]; 65536];
-    let mut b = [[0u8; 3]; 65536];
-    let first = p.turn;
-    let second = q.turn;
-    let m = fill(table, pixels, i, first, direction, &mut a);
-    let n = fill(table, pixels, k, second, direction, &mut b);
-    let u = corner_along(p, direction);
-    let v = corner_along(q, direction);
-    overlap::depth_below(&a[..m], u, &b[..n], v, bound)
+    let mut store = empty_store();
+    depth_in(table, pixels, i, p, k, q, direction, bound, &mut store)
 }
 
-// The penalty of two placed pieces: the lesser depth. The second depth is cut off at the first.
+// The penalty of two placed pieces: the lesser depth. The store holds the row strips, then the column strips; the second depth is cut
+// off at the first, and not asked for where that is 0.
 pub fn placed_penalty(
     table: &[[u8; 3]],
     pixels: &[u8],
@@ -88,9 +116,33 @@ pub fn placed_penalty(
     k: usize,
     q: Placement,
 ) -> u32
-    requires { ⌜ Ready (now table) i p ⌝ ∗ ⌜ Ready (now table) k q ⌝ }
+    requires { ⌜ Ready (now table) i p ⌝ ∗ ⌜ Ready (now table) k q ⌝ ∗ ⌜ Together (now table) i k ⌝ }
     ensures { λ r. ⌜ ((size : JobSize) → r ≡ penalty (turnedPiece (jobOf (lentBy size (now (table .entry)) (now (pixels .entry)))) i (p .turn)) (corner p) (turnedPiece (jobOf (lentBy size (now (table .entry)) (now (pixels .entry)))) k (q .turn)) (corner q)) ⌝ }
 {
-    let along_rows = placed_depth(table, pixels, i, p, k, q, Direction::Horizontal, 256);
-    placed_depth(table, pixels, i, p, k, q, Direction::Vertical, along_rows)
+    let mut store = empty_store();
+    let along_rows = depth_in(
+        table,
+        pixels,
+        i,
+        p,
+        k,
+        q,
+        Direction::Horizontal,
+        256,
+        &mut store,
+    );
+    if along_rows == 0 {
+        return 0;
+    }
+    depth_in(
+        table,
+        pixels,
+        i,
+        p,
+        k,
+        q,
+        Direction::Vertical,
+        along_rows,
+        &mut store,
+    )
 }

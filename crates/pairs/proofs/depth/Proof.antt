@@ -52,7 +52,7 @@ placed-depth-requires c κs =
     let none : NoCause (pairCauses l (a .layout .now) (a .i) (a .k)) = passed-none _ (sym (c .before .before .enum-told .given .1) ∙ c .before .before .before .before .pair-causes .ensures) in
     let m : Measurable l (a .layout .now) (a .i) (a .k) = measurable l (a .layout .now) (a .i) (a .k) none in (
       subst (Ready (a .table .now) (a .i)) (sym (c .before .place-at .ensures)) (m .first),
-      (subst (Ready (a .table .now) (a .k)) (sym (c .place-at2 .ensures)) (m .second), omega arith),
+      (subst (Ready (a .table .now) (a .k)) (sym (c .place-at2 .ensures)) (m .second), (m .together, omega arith)),
     )
 
 returns : tie.Need-returns

@@ -1,5 +1,6 @@
--- `placed_pair::placed_penalty`: a depth is at most 255, so the first bound cuts nothing off. Assumes nothing.
-use mathlib.Core.Path.{_≡_}
+-- `placed_pair::placed_penalty`: a depth is at most 255, so the first bound cuts nothing off, and where the first depth is 0 so is the
+-- lesser one. Assumes nothing.
+use mathlib.Core.Path.{_≡_, _∙_}
 use native.Mathlib.Omega.{arith}
 use borrow.Author.Needs.{needs}
 use Rattle.placed_pair.proofs.Stores.{anySize}
@@ -7,19 +8,46 @@ use Rattle.placed_pair.proofs.Amounts.{lesser-penalty, depth-cut-low}
 use Rattle.placed_pair.proofs.placed_penalty.Statement.{statement}
 use Rattle.placed_pair.proofs.placed_penalty.Tie as tie
 
-placed-depth-requires : tie.Need-placed-depth-requires
-placed-depth-requires c κs = search needs
+empty-store-requires : tie.Need-empty-store-requires
+empty-store-requires c κs = search needs
 
-placed-depth-requires-2 : tie.Need-placed-depth-requires-2
-placed-depth-requires-2 c κs =
-    let p = c .before .before .pre in
-    (p .0, (p .1, depth-cut-low _ _ (c .placed-depth .ensures anySize)))
+slice-aggregate-depth-in : tie.Need-slice-aggregate-depth-in
+slice-aggregate-depth-in c = search needs
+
+depth-in-requires : tie.Need-depth-in-requires
+depth-in-requires c κs = search needs
 
 returns : tie.Need-returns
 returns c =
     λ size.
-    let s = c .before .before .before .args in
-    lesser-penalty size (s .table .now) (s .pixels .now) (s .i) (s .p) (c .before .before .before .pre .0) (s .k) (s .q) (c .before .before .before .pre .1) _ _ (c .before .placed-depth .ensures size) (c .placed-depth2 .ensures size)
+    let s = c .before .before .before .before .before .before .args in
+    let r = c .before .before .before .before .before .before .pre in
+    lesser-penalty size (s .table .now) (s .pixels .now) (s .i) (s .p) (r .0) (s .k) (s .q) (r .1 .0) _ _ (c .before .before .depth-in .ensures size) (omega (arith, c .if1 .taken))
+
+slice-aggregate-depth-in-2 : tie.Need-slice-aggregate-depth-in-2
+slice-aggregate-depth-in-2 c = search needs
+
+depth-in-requires-2 : tie.Need-depth-in-requires-2
+depth-in-requires-2 c κs =
+    let r = c .before .before .before .before .before .before .before .pre in
+    let kept = c .before .before .before .depth-in .kept .1 .1 .1 .1 .1 .1 .1 .1 .0 in
+    (r .0, (r .1 .0, (r .1 .1, (depth-cut-low _ _ (c .before .before .before .depth-in .ensures anySize), kept ∙ c .before .before .before .before .before .empty-store .ensures))))
+
+returns-2 : tie.Need-returns-2
+returns-2 c =
+    λ size.
+    let s = c .before .before .before .before .before .before .before .before .before .args in
+    let r = c .before .before .before .before .before .before .before .before .before .pre in
+    lesser-penalty size (s .table .now) (s .pixels .now) (s .i) (s .p) (r .0) (s .k) (s .q) (r .1 .0) _ _ (c .before .before .before .before .before .depth-in .ensures size) (c .before .depth-in2 .ensures size)
 
 pub placed-penalty-spec : {M : Type 1} → statement M
-placed-penalty-spec = tie.close (tie.spec placed-depth-requires placed-depth-requires-2 returns)
+placed-penalty-spec =
+    tie.close
+    (tie.spec
+    empty-store-requires
+    slice-aggregate-depth-in
+    depth-in-requires
+    returns
+    slice-aggregate-depth-in-2
+    depth-in-requires-2
+    returns-2)
