@@ -1,5 +1,29 @@
 -- Document 01, 'When a call says no': what each public call gives and leaves in lent memory, and its causes of refusal in their
 -- order. How a job or a layout is read line by line stands in JobText and LayoutText. Assumes nothing.
+--
+-- The refusals of each call, in their order; places are 0 unless named. Refusal gives each number its name.
+--   read a job             by line (first place): 1, 2, then 3 (job line) or 6, 4 (piece line); 5 at a piece's last row;
+--                          1 for anything after the last line; then 7                      JobText, readJob
+--   strips                 8 the job, 9, 7                                                 stripsCall
+--   stretch, its refusal   8 the job, 9, 8 a store                                         stretchCall, stretchNumber
+--   no-fit row, column     8 the job, 9, 8 a stretch, 7                                    noFitCall
+--   rebuild                2, 8, 7                                                         rebuildCall
+--   shared pixel, depths   8, 7, 9, 10                                                     shareCall, depthCall
+--   penalty                8, 7, 9, 10                                                     penaltyCall
+--   weighted sum           8, 7, 2, 9, 10                                                  weightedSumCall
+--   plain sum              8, 7, 9, 10                                                     plainSumCall
+--   used length            8, 7, 9, 10                                                     usedLengthCall
+--   line search            8, 7, 2, 9, 10, 11                                              searchCall
+--   descent, guided run    8, 7, 2, 9, 10                                                  descentCall, guidedCall
+--   start                  8, 7                                                            startCall
+--   write a layout         8, 7 the layout's length, 9, 10, 7 the text buffer              writeLayoutCall
+--   read a layout          8; by line (first place): 1, 2, 9, 10; 1 for anything after the last line; then 7
+--                                                                                          readLayoutCall; LayoutText, readLayout
+--   check a layout         8, 7, 9, 10, 12 (both places: the pair)                         checkCall
+--   fresh sheet            8, 7                                                            freshCall
+--   lay                    8 the job, 7, 8 the sheet, 9, 13, 10                            layCall; Cover, layCauses
+--   withdraw               8 the job, 7, 8 the sheet, 9, 14                                withdrawCall; Cover, withdrawCauses
+--   the program            7 (line 0) for too long an input; else the reader's             Program, programText
 use mathlib.Core.Bool.{Bool, true, false, not, _&&_, _||_}
 use mathlib.Core.List.{List, [], _∷_, _++_, map}
 use mathlib.Core.Option.{Option, none, some}

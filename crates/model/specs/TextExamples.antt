@@ -1,11 +1,12 @@
 -- Document 01, 'Job text', 'Start, layout text, sheet' and 'When a call says no': a job and a layout that are read and written,
--- and damaged texts that are refused, one test that the checker computes. Assumes nothing.
+-- and damaged texts that are refused, one test that the checker computes; and one of which row line is y = 0. Assumes nothing.
 use mathlib.Core.Bool.{Bool, true, _&&_}
 use mathlib.Core.List.{List, [], _∷_, _++_}
 use mathlib.Core.Path.{_≡_, refl}
 use Prim.Native.Nat.{ℕ}
 use Prim.Native.String.{String, _++_ as _++ᵗ_}
-use Rattle.model.specs.Piece.{tight, allows}
+use Rattle.model.specs.Bounded.{one-if}
+use Rattle.model.specs.Piece.{Shape, tight, allows}
 use Rattle.model.specs.Layout.{Job, Layout, inside}
 use Rattle.model.specs.Refusal.{Outcome, refused, given, unless}
 use Rattle.model.specs.Lent.{Lent, jobOf, pixelStart}
@@ -45,6 +46,23 @@ flatLayout [] = []
 flatLayout (p ∷ v) = entryOf p ++ flatLayout v
 
 -- ── reading a job ──
+
+-- row y of a set of 3 columns: 1 for a pixel, else 0
+rowOf : Shape → ℕ → List ℕ
+rowOf s y = one-if (s .has 0 y) ∷ one-if (s .has 1 y) ∷ one-if (s .has 2 y) ∷ []
+
+-- the first row line is y = 0: of the row lines `###` and `#..` row 0 has three pixels, row 1 has one
+pub firstRowLine : Bool
+firstRowLine =
+    sameNumbers
+    (flat (λ l. rowOf (jobOf l .piece 0 .shape) 0 ++ rowOf (jobOf l .piece 0 .shape) 1)
+    (readJob (bytes "job,1,2,3,1\npiece,0,3,2,1\nrow,###\nrow,#..\n") 1 6))
+    (1 ∷ 1 ∷ 1 ∷ 1 ∷ 1 ∷ 0 ∷ 0 ∷ [])
+
+-- a piece is read so
+pub first-row-line-holds : firstRowLine ≡ true
+unfolding firstRowLine rowOf flat sameNumbers tight unless jobOf pixelStart standsAt digitsFrom numberAt fieldAt fieldsAt jobLine pieceLine markAt marksAt rowAt rowsAt pieceAt piecesAt readJob
+first-row-line-holds = refl
 
 -- two full 2 × 2 pieces, o = 1
 abbrev pub squares : String

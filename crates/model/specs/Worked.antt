@@ -1,12 +1,15 @@
 -- Worked examples beside P1 to P12, one test that the checker computes: what the program prints for document 01's two examples, for
--- a refused job and at the limit of its input, and a start layout with pieces of equal length and a full stack. Assumes nothing.
-use mathlib.Core.Bool.{Bool, true, _&&_}
-use mathlib.Core.List.{List, [], _∷_}
+-- a refused job and at the limit of its input, a start layout with pieces of equal length and a full stack, and a piece of separate
+-- parts. Assumes nothing.
+use mathlib.Core.Bool.{Bool, true, _&&_, _||_}
+use mathlib.Core.List.{List, [], _∷_, map}
 use mathlib.Core.Path.{_≡_, refl}
 use Prim.Native.Nat.{ℕ}
 use Prim.Native.String.{_++_ as _++ᵗ_}
+use lib.Dec.{eqb}
 use lib.ListN.{getD, replicate}
 use Rattle.model.specs.Piece.{Shape, allows, tight}
+use Rattle.model.specs.Strip.{runsFrom, stripsFrom, strips}
 use Rattle.model.specs.Overlap.{share, apartAt, depth, penalty}
 use Rattle.model.specs.Layout.{Job, Layout, pairsWith, pairsFrom, pairShares, pairPenalty, sumOver, weightedSum, plainSum, pieceSum, unitWeights, rightmost, usedLength, inside, placeOf}
 use Rattle.model.specs.Search.{places, sumAt, least, searchLine}
@@ -15,12 +18,14 @@ use Rattle.model.specs.Guided.{raisedOver, raised, rounds, bestAfter, la
 use Rattle.model.specs.Start.{insert, fallingOrder, stackAll, start}
 use Rattle.model.specs.Refusal.{unless}
 use Rattle.model.specs.Lent.{jobOf, pixelStart}
-use Rattle.model.specs.Buffer.{sameNumbers}
+use Rattle.model.specs.Buffer.{turnOfDegrees, turnOf, placement, stripEntry, sameNumbers, sameEntries}
 use Rattle.model.specs.Text.{bytes, comma, standsAt, digitsFrom, numberAt, fieldAt, fieldsAt, decimal, fieldsText}
 use Rattle.model.specs.JobText.{jobLine, pieceLine, markAt, marksAt, rowAt, rowsAt, pieceAt, piecesAt, readJob}
 use Rattle.model.specs.LayoutText.{placementsText, layoutText}
 use Rattle.model.specs.Program.{wordLine, endWord, runText, programRun, programText}
+use Rattle.model.specs.Cover.{coversPixel, mapFrom, fresh, lay, layCauses, laying, called, afterCalls}
 use Rattle.model.specs.TextExamples.{squares}
+use Rattle.model.specs.declared.Direction.the-variants.{Horizontal, Vertical}
 
 -- a full box
 full : ℕ → ℕ → Shape
@@ -76,11 +81,43 @@ corners v =
 started : Bool
 started = sameNumbers (corners (start fourBoxes)) (0 ∷ 2 ∷ 0 ∷ 0 ∷ 3 ∷ 0 ∷ 5 ∷ 0 ∷ [])
 
+-- ── a piece of separate parts ──
+
+-- two pixels, (0, 0) and (2, 1), in a box of 3 columns and 2 rows; they do not touch, and column 1 has none
+parts : Shape
+parts = record { columns = 3; rows = 2; has = λ x y. (eqb x 0 && eqb y 0) || (eqb x 2 && eqb y 1) }
+
+-- its penalty with a single pixel at (x, y) of its box
+beside : ℕ → ℕ → ℕ
+beside x y = penalty parts (record { x = 0; y = 0 }) (full 1 1) (record { x = x; y = y })
+
+-- the piece of two parts and a single pixel on a sheet of 2 rows and 4 columns
+partsAndPixel : Job
+partsAndPixel =
+    record {
+      rows = 2;
+      columns = 4;
+      count = 2;
+      piece = λ i. record { shape = getD (parts ∷ full 1 1 ∷ []) i (full 1 1); turns = 1 };
+    }
+
+-- its box is not loose; each part is a row strip and a column strip; a pixel between the parts has penalty 0, one on a part has 1;
+-- laid at (1, 0), with the single pixel between the parts at (2, 0), it counts on its own two pixels only
+separateParts : Bool
+separateParts =
+    tight parts && sameEntries (map stripEntry (strips Horizontal parts)) ((0 ∷ 0 ∷ 1 ∷ []) ∷ (1 ∷ 2 ∷ 1 ∷ []) ∷ [])
+    && sameEntries (map stripEntry (strips Vertical parts)) ((0 ∷ 0 ∷ 1 ∷ []) ∷ (2 ∷ 1 ∷ 1 ∷ []) ∷ [])
+    && sameNumbers (beside 1 0 ∷ beside 1 1 ∷ beside 0 0 ∷ beside 2 1 ∷ []) (0 ∷ 0 ∷ 1 ∷ 1 ∷ [])
+    && sameNumbers (afterCalls partsAndPixel (fresh partsAndPixel) (laying 0 (placement 0 1 0) ∷ []) .counts)
+    (0 ∷ 1 ∷ 0 ∷ 0 ∷ 0 ∷ 0 ∷ 0 ∷ 1 ∷ [])
+    && sameNumbers (afterCalls partsAndPixel (fresh partsAndPixel) (laying 0 (placement 0 1 0) ∷ laying 1 (placement 0 2 0) ∷ []) .counts)
+    (0 ∷ 1 ∷ 1 ∷ 0 ∷ 0 ∷ 0 ∷ 0 ∷ 1 ∷ [])
+
 -- all of them
 pub worked : Bool
-worked = printedText && inputLength && largestSum && weightsLeft && started
+worked = printedText && inputLength && largestSum && weightsLeft && started && separateParts
 
 -- the worked examples hold of the definitions
 pub worked-hold : worked ≡ true
-unfolding worked printedText inputLength largestSum weightsLeft started corners twoSquares fourBoxes full wordLine runText programRun programText sameNumbers share apartAt depth penalty pairsWith pairsFrom pairShares pairPenalty sumOver weightedSum plainSum pieceSum unitWeights rightmost usedLength places sumAt least searchLine turnTrials pieceTrials trialsFrom trials attempt descendFrom descend raisedOver raised rounds bestAfter lastWeights madeIn movesIn outcome guide insert fallingOrder stackAll start allows tight inside unless jobOf pixelStart standsAt digitsFrom numberAt fieldAt fieldsAt decimal fieldsText jobLine pieceLine markAt marksAt rowAt rowsAt pieceAt piecesAt readJob placementsText layoutText
+unfolding worked printedText inputLength largestSum weightsLeft started separateParts parts beside partsAndPixel sameEntries turnOfDegrees turnOf runsFrom stripsFrom coversPixel mapFrom fresh lay layCauses called afterCalls corners twoSquares fourBoxes full wordLine runText programRun programText sameNumbers share apartAt depth penalty pairsWith pairsFrom pairShares pairPenalty sumOver weightedSum plainSum pieceSum unitWeights rightmost usedLength places sumAt least searchLine turnTrials pieceTrials trialsFrom trials attempt descendFrom descend raisedOver raised rounds bestAfter lastWeights madeIn movesIn outcome guide insert fallingOrder stackAll start allows tight inside unless jobOf pixelStart standsAt digitsFrom numberAt fieldAt fieldsAt decimal fieldsText jobLine pieceLine markAt marksAt rowAt rowsAt pieceAt piecesAt readJob placementsText layoutText
 worked-hold = refl
