@@ -1,5 +1,5 @@
--- The strips of a job's piece in a local store: they are few enough to fit it, and its front is the piece's stretch, which the
--- functions over strips can take. Assumes nothing.
+-- The strips of two pieces of a job in a local store: they are few enough to fit it, and each piece's part of it is its stretch, which
+-- the functions over strips can take. Assumes nothing.
 use mathlib.Core.List.{List, map, _++_, append-assoc}
 use mathlib.Core.Path.{_≡_, refl, sym, subst, ap, _∙_}
 use Prim.Native.Nat.{ℕ, _+_, _*_, _-_, _<_, _≤_}
@@ -44,7 +44,7 @@ anySize = record { rows = 0; columns = 0; count = 0 }
 pub record Behind (ts us : List Strip) (after : List (List ℕ)) (middle end : ℕ) : Type 0 where
   pub order : middle ≤ end
   pub within : end ≤ length after
-  pub first : take middle after ≡ map stripEntry ts
+  pub first : take (middle - 0) (drop 0 after) ≡ map stripEntry ts
   pub second : take (end - middle) (drop middle after) ≡ map stripEntry us
 
 -- strips that are put into a store one after the other
@@ -66,7 +66,7 @@ both-put ts us before between after middle end room a b =
     record {
       order = omega arith;
       within = omega arith;
-      first = ap (take middle) is ∙ take-at vs (ws ++ rest) middle m;
+      first = ap (take (middle - 0)) is ∙ take-at vs (ws ++ rest) (middle - 0) (omega arith);
       second =
           ap (λ (z : List (List ℕ)). take (end - middle) (drop middle z)) is
           ∙ ap (take (end - middle)) (drop-at vs (ws ++ rest) middle m)

@@ -79,12 +79,13 @@ fn depth_in(
 {
     let first = p.turn;
     let second = q.turn;
-    let middle = fill(table, pixels, i, first, direction, store, 0);
+    let front = 0;
+    let middle = fill(table, pixels, i, first, direction, store, front);
     let end = fill(table, pixels, k, second, direction, store, middle);
     let u = corner_along(p, direction);
     let v = corner_along(q, direction);
     let strips = &store[..];
-    overlap::depth_below(&strips[..middle], u, &strips[middle..end], v, bound)
+    overlap::depth_below(&strips[front..middle], u, &strips[middle..end], v, bound)
 }
 
 // The depth of two placed pieces along a direction, cut off at a bound. With the bound 1 it tells whether they share a pixel, and the

@@ -1,19 +1,15 @@
 -- `placed_pair::depth_in`: the store holds the first piece's stretch up to the middle and the second's from there on, and the bounded depth
 -- of the stretches is the pieces' depth, cut off. Assumes nothing.
-use mathlib.Core.List.{List}
-use mathlib.Core.Path.{_≡_, sym, subst, ap, _∙_}
-use Prim.Native.Nat.{ℕ, min, _-_, _≤_}
+use mathlib.Core.Path.{sym, subst, _∙_}
+use Prim.Native.Nat.{ℕ}
 use native.Mathlib.Omega.{arith}
 use borrow.Author.Needs.{needs}
-use lib.ListN.{length, take, drop}
-use lib.Seq.{length-take-le}
 use Rattle.model.specs.Piece.{Shape, corner}
 use Rattle.model.specs.Strip.{strips}
-use Rattle.model.specs.Overlap.{depth}
 use Rattle.model.specs.Layout.{turnedPiece}
 use Rattle.model.specs.Lent.{lentBy, jobOf}
 use Rattle.model.specs.declared.JobSize.{JobSize}
-use Rattle.overlap.specs.Meet.{Ordered, depthBelow}
+use Rattle.overlap.specs.Meet.{Ordered}
 use Rattle.overlap.proofs.Shapes.{entries-depth}
 use Rattle.placed_pair.proofs.Stores.{anySize, Behind, both-few, both-behind, piece-ordered, seen-near, same-depth}
 use Rattle.placed_pair.proofs.depth_in.Statement.{statement}
@@ -64,22 +60,29 @@ corner-along-requires c κs = search needs
 corner-along-requires-2 : tie.Need-corner-along-requires-2
 corner-along-requires-2 c κs = search needs
 
-slice-aggregate-depth-below : tie.Need-slice-aggregate-depth-below
-slice-aggregate-depth-below c =
-    let b = behind anySize (c .before .before .before .before) in
-    sym (length-take-le _ _ (omega (arith, b .order, b .within)))
-
 mul-depth-below : tie.Need-mul-depth-below
-mul-depth-below c = let b = behind anySize (c .before .before .before .before) in omega (arith, b .order, b .within)
+mul-depth-below c = search needs
 
 sub-depth-below : tie.Need-sub-depth-below
-sub-depth-below c = behind anySize (c .before .before .before .before) .order
+sub-depth-below c = search needs
 
 part-depth-below-start : tie.Need-part-depth-below-start
-part-depth-below-start c = behind anySize (c .before .before .before .before) .order
+part-depth-below-start c = search needs
 
 part-depth-below-end : tie.Need-part-depth-below-end
-part-depth-below-end c = behind anySize (c .before .before .before .before) .within
+part-depth-below-end c = let b = behind anySize (c .before .before .before) in omega (arith, b .order, b .within)
+
+mul-depth-below-2 : tie.Need-mul-depth-below-2
+mul-depth-below-2 c = let b = behind anySize (c .before .before .before .before) in omega (arith, b .order, b .within)
+
+sub-depth-below-2 : tie.Need-sub-depth-below-2
+sub-depth-below-2 c = let b = behind anySize (c .before .before .before .before) in omega (arith, b .order)
+
+part-depth-below-start-2 : tie.Need-part-depth-below-start-2
+part-depth-below-start-2 c = let b = behind anySize (c .before .before .before .before) in omega (arith, b .order)
+
+part-depth-below-end-2 : tie.Need-part-depth-below-end-2
+part-depth-below-end-2 c = behind anySize (c .before .before .before .before) .within
 
 depth-below-requires : tie.Need-depth-below-requires
 depth-below-requires c κs =
@@ -121,11 +124,14 @@ depth-in-spec =
     fill-requires-2
     corner-along-requires
     corner-along-requires-2
-    slice-aggregate-depth-below
     mul-depth-below
     sub-depth-below
     part-depth-below-start
     part-depth-below-end
+    mul-depth-below-2
+    sub-depth-below-2
+    part-depth-below-start-2
+    part-depth-below-end-2
     depth-below-requires
     same-length
     returns)
