@@ -8,11 +8,11 @@ use borrow.Author.Tests.{leb-true}
 use lib.Dec.{leb}
 use lib.IntN.{ℤ}
 use lib.ListN.{length}
-use Rattle.model.specs.Piece.{Shape, turned, tight, extent}
+use Rattle.model.specs.Piece.{Shape, turned, tight, extent, sideBound}
 use Rattle.model.specs.Strip.{strips}
 use Rattle.model.specs.Overlap.{noFit}
 use Rattle.model.specs.Layout.{turnedPiece}
-use Rattle.model.specs.Lent.{Lent, jobOf, lentWell, upTo, rowBound, columnBound, pieceBound, sideBound, entryColumns, entryRows, entryInRange, lentShape, sheetInRange}
+use Rattle.model.specs.Lent.{Lent, jobOf, lentWell, upTo, rowBound, columnBound, pieceBound, entryColumns, entryRows, entryInRange, lentShape, sheetInRange}
 use Rattle.model.specs.declared.Turn.{Turn}
 use Rattle.model.specs.declared.Turn.the-variants.{Zero, Quarter, Half, ThreeQuarters}
 use Rattle.model.specs.declared.Direction.{Direction}

@@ -10,10 +10,10 @@ use native.Mathlib.Nat.{mod-lt, div-lt-iff-lt-mul, mul-comm, zero-mul}
 use native.Mathlib.Omega.{arith}
 use borrow.Author.Tests.{not-false}
 use Rattle.model.specs.Bounded.{one-if}
-use Rattle.model.specs.Piece.{Shape, tight}
+use Rattle.model.specs.Piece.{Shape, tight, sideBound}
 use Rattle.model.specs.Strip.{Strip, strips, rebuilt}
 use Rattle.model.specs.Buffer.{stripEntry, entryStrip, bytesFrom, bytesOf, sameEntries}
-use Rattle.model.specs.Lent.{sideBound, upTo}
+use Rattle.model.specs.Lent.{upTo}
 use Rattle.model.specs.Refusal.{given}
 use Rattle.model.specs.Calls.{rebuiltFrom, stripsWell, rebuildCall}
 use Rattle.model.specs.declared.Direction.{Direction}

@@ -8,7 +8,7 @@ use Prim.Native.Nat.{ℕ, _*_}
 use lib.Dec.{ltb, eqb}
 use lib.IntN.{ℤ}
 use lib.ListN.{length}
-use Rattle.model.specs.Piece.{Shape}
+use Rattle.model.specs.Piece.{Shape, sideBound}
 use Rattle.model.specs.Layout.{pairs, allowed, inside, pairShares, pairDepth, pairPenalty, weightedSum, plainSum, usedLength, sharingPair}
 use Rattle.model.specs.Buffer.{layoutOf, entriesOf, runEntry, bytesOf, filled}
 use Rattle.model.specs.Search.{places, searchLine}
@@ -16,7 +16,7 @@ use Rattle.model.specs.Descent.{descend}
 use Rattle.model.specs.Guided.{guide}
 use Rattle.model.specs.Start.{start}
 use Rattle.model.specs.Cover.{Sheet, entryIn, fresh, lay, withdraw, afterwards, sheetWell}
-use Rattle.model.specs.Lent.{Lent, jobOf, lentWell, upTo, sideBound, pieceBound, areaBound}
+use Rattle.model.specs.Lent.{Lent, jobOf, lentWell, upTo, pieceBound, areaBound}
 use Rattle.model.specs.Refusal.{refused, given, cause, unless, outOfRange, wrongLength, notOurs, noSuchPiece, outsideSheet, emptyLine, laidAlready, notLaid}
 use Rattle.model.specs.Text.{andThen}
 use Rattle.model.specs.JobText.{readJob}

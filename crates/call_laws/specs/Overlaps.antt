@@ -6,7 +6,7 @@ use mathlib.Core.Path.{_≡_}
 use Prim.Native.Nat.{ℕ, _≤_}
 use Rattle.model.specs.Layout.{Job, Layout, shapeIn, cornerIn, weightedSum}
 use Rattle.model.specs.Overlap.{penalty}
-use Rattle.model.specs.Lent.{sideBound}
+use Rattle.model.specs.Piece.{sideBound}
 use Rattle.model.specs.declared.Direction.{Direction}
 use Rattle.overlap_laws.specs.PixelDepth.{DepthOverPixels, PenaltyOverPixels}
 use Rattle.overlap_laws.specs.Overlap.{PenaltyLaws, SharedPixel, LeastShift}

@@ -27,6 +27,7 @@ use Rattle.cover.specs.Answers.{sheetOf, recordOf, blankRecord, givenAnswer, sh
 use Rattle.cover.specs.Ready.{SheetReady}
 use Rattle.cover.specs.declared.Reply.the-variants.{Given, Refused}
 use Rattle.cover.specs.declared.SheetAnswer.{SheetAnswer}
+use Rattle.interface.specs.Numbers.{pieceWithTurn}
 use Rattle.cover_calls.specs.CallList.{callOf, callsOf, runOutcome}
 use Rattle.stamp.proofs.Pieces.{few-pieces}
 use Rattle.cover.proofs.Outcomes.{own-causes}
@@ -57,7 +58,8 @@ module _ (l : Lent) (s : Sheet) (ready : SheetReady l s) where
       record { well = ready .well; full = well-sound (jobOf l) (afterwards s (called (jobOf l) s c)) again .counts; sheet = again }
 
 -- five numbers of kind 0 are a lay, of another kind a withdraw
-pub call-lays : (e : List ℕ) → getD e 0 0 ≡ 0 → callOf e ≡ laying (getD e 1 0) (placement (getD e 2 0) (getD e 3 0) (getD e 4 0))
+pub call-lays : (e : List ℕ) → getD e 0 0 ≡ 0
+    → callOf e ≡ laying (pieceWithTurn (getD e 2 0) (getD e 1 0)) (placement (getD e 2 0) (getD e 3 0) (getD e 4 0))
 unfolding callOf
 call-lays e h = rw (eq-eqb (getD e 0 0) 0 h, callOf)
 

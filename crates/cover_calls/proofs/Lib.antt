@@ -1,2 +1,3 @@
 -- The laws behind a list of calls.
 pub mod CallLists
+pub mod ExportedCover

@@ -1,6 +1,7 @@
 -- A list of calls from a fresh sheet, as numbers: each call is kind, piece, degrees, x, y. Kind 0 lays the piece in the turn of so many
--- degrees (turn 0 where they are those of none) with its corner at (x, y); every other kind withdraws it, and its degrees, x and y play no
--- part. Any numbers are a call; one that is refused changes nothing. Assumes nothing.
+-- degrees with its corner at (x, y); where they are those of no turn it names a piece that no job has, so that it is refused by 9. Every
+-- other kind withdraws the piece, and its degrees, x and y play no part. Any numbers are a call; one that is refused changes nothing.
+-- Assumes nothing.
 use mathlib.Core.Bool.{true, false}
 use mathlib.Core.List.{List, map}
 use Prim.Native.Nat.{ℕ}
@@ -11,12 +12,13 @@ use Rattle.model.specs.Buffer.{placement}
 use Rattle.model.specs.Refusal.{Outcome, unless}
 use Rattle.model.specs.Cover.{Sheet, fresh, Call, laying, withdrawing, afterCalls}
 use Rattle.cover.specs.Answers.{bufferCauses}
+use Rattle.interface.specs.Numbers.{pieceWithTurn}
 
 -- the call that five numbers are
 unfoldable pub callOf : List ℕ → Call
 callOf e =
     elim (eqb (getD e 0 0) 0) [
-      | true ↦ laying (getD e 1 0) (placement (getD e 2 0) (getD e 3 0) (getD e 4 0))
+      | true ↦ laying (pieceWithTurn (getD e 2 0) (getD e 1 0)) (placement (getD e 2 0) (getD e 3 0) (getD e 4 0))
       | false ↦ withdrawing (getD e 1 0)
     ]
 

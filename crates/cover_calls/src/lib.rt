@@ -1,11 +1,10 @@
 // Lists of calls from a fresh sheet, each through the public calls: what demand 2 says of every such list holds of what this code leaves.
 use cover::Reply;
 use cover::SheetAnswer;
-use model::Column;
+use interface::piece_with_turn;
+use interface::placement_of;
 use model::JobSize;
-use model::Placement;
 use model::Record;
-use model::Row;
 ghost use mathlib.Core.Path.{_≡_};
 ghost use lib.ListN.{length};
 ghost use Rattle.model.specs.Lent.{lentBy, jobOf};
@@ -33,12 +32,9 @@ fn run_call(
         let answer = cover::withdraw(size, table, pixels, sheet, counts, piece);
         return answer.sheet;
     }
-    let place = Placement {
-        turn: placing::turn_or_zero(call[2]),
-        x: Column(call[3]),
-        y: Row(call[4]),
-    };
-    let answer = cover::lay(size, table, pixels, sheet, counts, piece, place);
+    let known = piece_with_turn(call[2], piece);
+    let place = placement_of(call[2], call[3], call[4]);
+    let answer = cover::lay(size, table, pixels, sheet, counts, known, place);
     answer.sheet
 }
 

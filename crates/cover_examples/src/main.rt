@@ -101,7 +101,7 @@ fn fresh(counts: &mut [u8; 8]) -> Record {
     answer.sheet
 }
 
-// The same calls as one list.
+// The same calls as one list, and after them a lay by degrees of no turn, which is refused like a turn that is not allowed.
 fn run(counts: &mut [u8; 8]) {
     let table = TABLE;
     let pixels = PIXELS;
@@ -111,6 +111,7 @@ fn run(counts: &mut [u8; 8]) {
         [0, 1, 0, 1, 0],
         [1, 0, 0, 0, 0],
         [1, 0, 0, 0, 0],
+        [0, 0, 45, 0, 0],
     ];
     show(
         cover_calls::run_calls(SIZE, &table, &pixels, &calls, counts),

@@ -7,10 +7,10 @@ use Prim.Native.Nat.{ℕ, zero, suc, _+_, _*_, _<_, _≤_}
 use native.Mathlib.Nat.{le-trans, suc-mul, mul-suc, mul-le-mul, mul-le-mul-left, mul-le-mul-right}
 use native.Mathlib.Omega.{arith}
 use lib.ListN.{length, getD, length-append}
-use Rattle.model.specs.Piece.{Shape, turned}
+use Rattle.model.specs.Piece.{Shape, turned, sideBound}
 use Rattle.model.specs.Layout.{Job, Layout, Pair, placeOf, shapeIn, pairs, pairsWith, pairsFrom, pairPenalty, sumOver, weightedSum, pieceSum}
 use Rattle.model.specs.Guided.{weightBound, Round, madeIn, movesIn}
-use Rattle.model.specs.Lent.{sideBound, pieceBound}
+use Rattle.model.specs.Lent.{pieceBound}
 use Rattle.model.specs.declared.Turn.{Turn}
 use Rattle.model.specs.declared.Turn.the-variants.{Zero, Quarter, Half, ThreeQuarters}
 use Rattle.model.specs.declared.Direction.the-variants.{Horizontal}

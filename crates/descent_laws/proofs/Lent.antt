@@ -8,10 +8,10 @@ use borrow.Author.Tests.{leb-true}
 use lib.Dec.{leb, eqb}
 use lib.ListN.{length}
 use Rattle.model.specs.Bounded.{allBelow}
-use Rattle.model.specs.Piece.{allows}
+use Rattle.model.specs.Piece.{allows, sideBound}
 use Rattle.model.specs.Layout.{allowed, unitWeights}
 use Rattle.model.specs.Start.{start}
-use Rattle.model.specs.Lent.{Lent, rowBound, columnBound, pieceBound, sideBound, upTo, entryColumns, entryRows, entryTurns, entryInRange, entryFits, jobOf, sheetInRange, lentWell}
+use Rattle.model.specs.Lent.{Lent, rowBound, columnBound, pieceBound, upTo, entryColumns, entryRows, entryTurns, entryInRange, entryFits, jobOf, sheetInRange, lentWell}
 use Rattle.model.specs.declared.Turn.the-variants.{Zero}
 use Rattle.model.proofs.Tests.{and-left, and-right}
 use Rattle.model.proofs.Bounded.{all-at}

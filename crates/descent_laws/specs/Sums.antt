@@ -2,7 +2,7 @@
 use Prim.Native.Nat.{ℕ, _<_, _≤_, _*_}
 use Rattle.model.specs.Layout.{Pair}
 use Rattle.model.specs.Guided.{weightBound}
-use Rattle.model.specs.Lent.{sideBound}
+use Rattle.model.specs.Piece.{sideBound}
 
 -- two numbers from i on and below n, the lower first
 pub record Ordered (i n : ℕ) (p : Pair) : Type 0 where

@@ -9,8 +9,8 @@ use lib.Dec.{leb, eqb}
 use lib.ListN.{length, getD}
 use borrow.Author.Tests.{leb-true}
 use Rattle.model.specs.Bounded.{allBelow}
-use Rattle.model.specs.Piece.{holds}
-use Rattle.model.specs.Lent.{areaBound, pieceBound, sideBound, turnsBound, upTo, entryColumns, entryRows, entryTurns, pixelStart, sheetInRange, entryInRange, entryFits}
+use Rattle.model.specs.Piece.{holds, sideBound}
+use Rattle.model.specs.Lent.{areaBound, pieceBound, turnsBound, upTo, entryColumns, entryRows, entryTurns, pixelStart, sheetInRange, entryInRange, entryFits}
 use Rattle.model.specs.declared.JobSize.{JobSize}
 use Rattle.model.specs.declared.Direction.the-variants.{Horizontal, Vertical}
 use Rattle.model.proofs.Tests.{and-left, and-right}

@@ -5,8 +5,8 @@ use Prim.Native.Nat.{ℕ, _+_, _*_, _≤_}
 use lib.Dec.{leb, eqb}
 use lib.ListN.{length, getD}
 use Rattle.model.specs.Bounded.{allBelow, anyBelow}
-use Rattle.model.specs.Piece.{Shape}
-use Rattle.model.specs.Lent.{areaBound, sideBound, entryColumns, entryRows, pixelStart, entryInRange, entryFits, sheetInRange}
+use Rattle.model.specs.Piece.{Shape, sideBound}
+use Rattle.model.specs.Lent.{areaBound, entryColumns, entryRows, pixelStart, entryInRange, entryFits, sheetInRange}
 use Rattle.model.specs.declared.JobSize.{JobSize}
 
 -- a box of l columns and w rows whose pixels stand in a list of bytes from `start` on, each row `stride` after the last; a pixel is the

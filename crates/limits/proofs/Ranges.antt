@@ -5,7 +5,8 @@ use Prim.Native.Nat.{ℕ, _*_, _%_, _≤_}
 use native.Mathlib.Nat.{mul-le-mul}
 use lib.Dec.{leb, eqb}
 use borrow.Author.Tests.{leb-true}
-use Rattle.model.specs.Lent.{areaBound, pieceBound, rowBound, columnBound, sideBound, turnsBound, upTo, sheetInRange}
+use Rattle.model.specs.Lent.{areaBound, pieceBound, rowBound, columnBound, turnsBound, upTo, sheetInRange}
+use Rattle.model.specs.Piece.{sideBound}
 use Rattle.model.proofs.Tests.{and-left, and-right}
 use Rattle.text_laws.specs.Limits.{sidesInRange}
 use Rattle.limits.specs.Ranges.{numbersInRange}

@@ -5,9 +5,9 @@ use Prim.Native.Nat.{ℕ, _+_, _-_, _<_, _≤_}
 use native.Mathlib.Omega.{arith}
 use lib.ListN.{length, getD, take, drop, length-append, length-drop, List·getD-append}
 use lib.Seq.{length-take-le, getD-append-add, getD-take, getD-drop}
-use Rattle.model.specs.Piece.{extent}
+use Rattle.model.specs.Piece.{extent, sideBound}
 use Rattle.model.specs.Layout.{Job, turnedPiece}
-use Rattle.model.specs.Lent.{Lent, jobOf, sideBound, pieceBound}
+use Rattle.model.specs.Lent.{Lent, jobOf, pieceBound}
 use Rattle.model.specs.declared.Direction.{Direction}
 use Rattle.strip_laws.proofs.Tight.{tight-side}
 use Rattle.text_laws.proofs.LentFacts.{facts}

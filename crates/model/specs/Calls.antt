@@ -32,7 +32,7 @@ use lib.Dec.{ltb, eqb}
 use lib.IntN.{ℤ}
 use lib.ListN.{length, getD}
 use Rattle.model.specs.Bounded.{anyBelow}
-use Rattle.model.specs.Piece.{Shape, tight}
+use Rattle.model.specs.Piece.{Shape, tight, sideBound}
 use Rattle.model.specs.Strip.{strips, rebuilt}
 use Rattle.model.specs.Overlap.{OffsetRun, noFit}
 use Rattle.model.specs.Layout.{Job, Layout, Pair, pairs, turnedPiece, allowed, inside, placeOf, pairShares, pairPenalty, pairDepth, weightedSum, plainSum, usedLength, sharingPair}
@@ -41,7 +41,7 @@ use Rattle.model.specs.Descent.{Descent, descend}
 use Rattle.model.specs.Guided.{Guided, guide, weightBound}
 use Rattle.model.specs.Start.{start}
 use Rattle.model.specs.Refusal.{Outcome, refused, given, Cause, cause, unless, outOfRange, wrongLength, notOurs, noSuchPiece, outsideSheet, emptyLine, sharedPixel}
-use Rattle.model.specs.Lent.{Lent, jobOf, lentWell, upTo, sideBound}
+use Rattle.model.specs.Lent.{Lent, jobOf, lentWell, upTo}
 use Rattle.model.specs.Buffer.{turnPasses, layoutOf, entriesOf, stripEntry, entryStrip, runEntry, bytesOf, filled, sameEntries}
 use Rattle.model.specs.Text.{andThen}
 use Rattle.model.specs.LayoutText.{layoutText, readLayout}

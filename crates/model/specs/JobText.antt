@@ -5,9 +5,9 @@ use mathlib.Core.List.{List, [], _∷_, _++_}
 use Prim.Native.Nat.{ℕ, zero, suc, _+_, _*_, _%_}
 use lib.Dec.{leb, ltb, eqb}
 use lib.ListN.{length, getD}
-use Rattle.model.specs.Piece.{Shape, tight}
+use Rattle.model.specs.Piece.{Shape, tight, sideBound}
 use Rattle.model.specs.Refusal.{Outcome, given, Cause, cause, unless, wrongForm, outOfRange, sheetTooLarge, boxesTooLarge, looseBox, boxTooLarge, wrongLength}
-use Rattle.model.specs.Lent.{Lent, rowBound, columnBound, pieceBound, sideBound, turnsBound, areaBound, upTo}
+use Rattle.model.specs.Lent.{Lent, rowBound, columnBound, pieceBound, turnsBound, areaBound, upTo}
 use Rattle.model.specs.Text.{bytes, byte, lineEnd, Reading, wrong, got, onward, after, threeFields, fourFields, lineAt, field, causeIn, formed, andThen}
 
 -- the word that begins the job line; 1 is the version

@@ -9,7 +9,8 @@ use lib.ListN.{length}
 use Rattle.model.specs.Layout.{Job, unitWeights, usedLength}
 use Rattle.model.specs.Guided.{Guided, guide}
 use Rattle.model.specs.Start.{start}
-use Rattle.model.specs.Refusal.{Outcome, refused, given, wrongLength}
+use Rattle.model.specs.Refusal.{Outcome, refused, given, unless, wrongLength}
+use Rattle.model.specs.Calls.{atLeast}
 use Rattle.model.specs.Lent.{Lent, jobOf, pieceBound, areaBound}
 use Rattle.model.specs.Text.{bytes, comma, lineEnd, decimal}
 use Rattle.model.specs.JobText.{readJob}
@@ -57,3 +58,7 @@ programText input =
       | true ↦ refusalText (record { number = wrongLength; first = 0; second = 0 })
       | false ↦ printed (readJob input pieceBound areaBound)
     ]
+
+-- the program over a lent output buffer of so many bytes: 7 exactly where what it prints does not fit
+unfoldable pub programCall : List ℕ → ℕ → Outcome (List ℕ)
+programCall input room = unless (atLeast (length (programText input)) room ∷ []) (programText input)

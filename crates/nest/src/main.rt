@@ -1,4 +1,5 @@
 // The program: standard input in, what document 01 says of it out. What is printed is decided and proved in `program`.
+use layout_writer::TextAnswer;
 use libc::STDERR_FILENO;
 use libc::STDIN_FILENO;
 use libc::STDOUT_FILENO;
@@ -9,7 +10,10 @@ fn main() {
     let mut input = [0u8; 65537];
     let read = io::read_full(STDIN_FILENO, &mut input);
     let mut output = [0u8; 4096];
-    let count = program::print_run(&input[..read], &mut output);
+    // No output has more bytes than this buffer, so that it is not refused.
+    let TextAnswer::Written(count) = program::print_run(&input[..read], &mut output) else {
+        return;
+    };
     if !io::write_all(STDOUT_FILENO, &output[..count]) {
         io::write_all(STDERR_FILENO, b"nest: the output could not be written\n");
     }

@@ -5,20 +5,22 @@ ghost use mathlib.Core.Bool.{true};
 ghost use Prim.Native.Nat.{_≤_};
 ghost use lib.ListN.{length};
 ghost use Rattle.model.specs.Lent.{lentBy, jobOf, lentWell, pieceBound, areaBound};
-ghost use Rattle.model.specs.Buffer.{layoutOf, filled};
-ghost use Rattle.model.specs.Calls.{layoutCauses};
+ghost use Rattle.model.specs.Buffer.{layoutOf};
+ghost use Rattle.model.specs.Calls.{layoutCauses, textAfter};
 ghost use Rattle.model.specs.Refusal.{given};
 ghost use Rattle.model.specs.JobText.{readJob};
-ghost use Rattle.model.specs.Program.{runText, programRun, printed};
+ghost use Rattle.model.specs.Program.{runText, programRun, printed, programText, programCall};
 ghost use Rattle.text_laws.specs.Outcomes.{NoCause};
+ghost use Rattle.layout_writer.specs.Answers.{textAnswer};
 ghost use Rattle.layout_writer.specs.Written.{Written};
-ghost use Rattle.program.specs.Output.{outputBound, outputText};
+ghost use Rattle.program.specs.Output.{outputBound};
 ghost use Rattle.program.specs.Runs.{Gives, runWith};
 
 mod end_lines;
 
 use end_lines::put_end_line;
 use end_lines::put_refusal_line;
+use fields::put_word;
 use guided::GuidedAnswer;
 use guided::Run;
 use guided::guided_run;
@@ -63,12 +65,12 @@ fn write_run(
         return 0;
     };
     let TextAnswer::Written(next) = layout_writer::write_layout(size, table, pixels, layout, text)
-        // The layout has no cause of refusal: this does not happen.
+    // The layout has no cause of refusal: this does not happen.
     else {
         return 0;
     };
     put_end_line(text, next, run, used)
-        // It has none, and the buffer has room for its text: this does not happen.
+    // It has none, and the buffer has room for its text: this does not happen.
 }
 
 // Runs a job that was read and writes how the run went.
@@ -101,18 +103,29 @@ fn read_and_print(input: &[u8], text: &mut [u8]) -> usize
     }
 }
 
-// What the program prints for its input, written to the front of an output buffer, and how many bytes that are: at most 4,096. A buffer
-// of fewer bytes is left as it is, and the answer is 0.
-pub fn print_run(input: &[u8], output: &mut [u8]) -> usize
-    ensures count { λ r. ⌜ r ≡ length (outputText (now (input .entry)) (length (now (output .entry)))) ⌝ }
-    ensures memory { λ r. ⌜ now (output .exit) ≡ filled (outputText (now (input .entry)) (length (now (output .entry)))) (now (output .entry)) ⌝ }
-    ensures fits { λ r. ⌜ r ≤ outputBound ⌝ }
+// What the program prints for its input, at the front of a buffer that every output fits, and how many bytes that are.
+fn print_text(input: &[u8], text: &mut [u8]) -> usize
+    requires { ⌜ outputBound ≤ length (now text) ⌝ }
+    ensures { λ r. ⌜ Written (now (text .entry)) 0 (programText (now (input .entry))) outputBound r (now (text .exit)) ⌝ }
 {
-    if output.len() < 4096 {
-        return 0;
-    }
     if 65536 < input.len() {
-        return put_refusal_line(output, placing::refusal(7));
+        return put_refusal_line(text, placing::refusal(7));
     }
-    read_and_print(input, output)
+    read_and_print(input, text)
+}
+
+// What the program prints for its input, written to the front of an output buffer, and how many bytes that are: at most 4,096. A buffer
+// that the text does not fit is refused by 7 and left as it is.
+pub fn print_run(input: &[u8], output: &mut [u8]) -> TextAnswer
+    ensures answer { λ r. ⌜ r ≡ textAnswer (programCall (now (input .entry)) (length (now (output .entry)))) ⌝ }
+    ensures memory { λ r. ⌜ now (output .exit) ≡ textAfter (now (output .entry)) (programCall (now (input .entry)) (length (now (output .entry)))) ⌝ }
+    ensures fits { λ r. ⌜ length (programText (now (input .entry))) ≤ outputBound ⌝ }
+{
+    let mut text = [0u8; 4096];
+    let count = print_text(input, &mut text);
+    if output.len() < count {
+        return TextAnswer::Refused(placing::refusal(7));
+    }
+    put_word(output, 0, &text[..count]);
+    TextAnswer::Written(count)
 }

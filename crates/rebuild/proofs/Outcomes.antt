@@ -5,7 +5,8 @@ use mathlib.Core.Path.{_≡_, refl, sym, ap, _∙_}
 use Prim.Native.Nat.{ℕ, _*_, _<_, _≤_}
 use borrow.Author.Tests.{lt-ltb, le-ltb, leb-true}
 use lib.Dec.{leb}
-use Rattle.model.specs.Lent.{upTo, sideBound}
+use Rattle.model.specs.Lent.{upTo}
+use Rattle.model.specs.Piece.{sideBound}
 use Rattle.model.specs.Refusal.{unless, refused, given}
 use Rattle.model.specs.Calls.{rebuildCall, stripsWell, rebuiltFrom}
 use Rattle.model.specs.declared.Direction.{Direction}

@@ -4,8 +4,8 @@ use mathlib.Core.List.{List}
 use mathlib.Core.Path.{_≡_}
 use Prim.Native.Nat.{ℕ, _*_, _≤_}
 use lib.ListN.{length}
-use Rattle.model.specs.Piece.{Shape}
-use Rattle.model.specs.Lent.{upTo, sideBound}
+use Rattle.model.specs.Piece.{Shape, sideBound}
+use Rattle.model.specs.Lent.{upTo}
 use Rattle.model.specs.Buffer.{bytesOf, filled}
 use Rattle.model.specs.declared.Direction.{Direction}
 use Rattle.call_laws.specs.Rebuilding.{PieceOf}

@@ -5,8 +5,7 @@ use mathlib.Core.Path.{_≡_}
 use Prim.Native.Nat.{ℕ, _+_, _*_, _≤_, _<_}
 use lib.Dec.{eqb}
 use lib.ListN.{length, getD}
-use Rattle.model.specs.Piece.{Point}
-use Rattle.model.specs.Lent.{sideBound}
+use Rattle.model.specs.Piece.{Point, sideBound}
 
 -- the box has a pixel, its sides are in range, and the buffer has room for it
 pub record Room (columns rows : ℕ) (pixels : List ℕ) : Type 0 where

@@ -5,7 +5,8 @@ use model::Refusal;
 ghost use mathlib.Core.Path.{_≡_};
 ghost use lib.ListN.{length};
 ghost use Rattle.model.specs.Calls.{rebuildCall, pixelsAfter};
-ghost use Rattle.model.specs.Lent.{upTo, sideBound};
+ghost use Rattle.model.specs.Lent.{upTo};
+ghost use Rattle.model.specs.Piece.{sideBound};
 ghost use Rattle.rebuild.specs.Answer.{rebuildAnswer};
 ghost use Rattle.rebuild.specs.Again.{Again};
 

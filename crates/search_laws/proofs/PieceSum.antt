@@ -14,11 +14,11 @@ use lib.Dec.{ltb, eqb}
 use lib.ListN.{length, getD, set, List·getD-eq-default}
 use lib.Seq.{getD-set-same, getD-set-other}
 use Rattle.model.specs.Bounded.{sumBelow}
-use Rattle.model.specs.Piece.{onLine}
+use Rattle.model.specs.Piece.{onLine, sideBound}
 use Rattle.model.specs.Layout.{Job, Layout, Pair, origin, shapeIn, cornerIn, pairs, pairPenalty, names, sumOver, weightedSum, pieceSum}
 use Rattle.model.specs.Search.{sumAt}
 use Rattle.model.specs.Guided.{weightBound}
-use Rattle.model.specs.Lent.{sideBound, pieceBound}
+use Rattle.model.specs.Lent.{pieceBound}
 use Rattle.model.specs.declared.Turn.{Turn}
 use Rattle.model.specs.declared.Line.{Line}
 use Rattle.model.specs.declared.Line.the-variants.{InRow, InColumn}

@@ -9,11 +9,11 @@ use native.Mathlib.Nat.{eq-or-lt-of-le}
 use native.Mathlib.Omega.{arith}
 use lib.ListN.{length, getD, take, drop, set, length-set, length-take, length-drop, length-map, length-append, take-append-drop}
 use lib.Seq.{sets, sets-eq, length-sets, take-append-le, drop-append-le, take-at, drop-at, getD-set-same, getD-set-other}
-use Rattle.model.specs.Piece.{Shape, extent}
+use Rattle.model.specs.Piece.{Shape, extent, sideBound}
 use Rattle.model.specs.Strip.{Strip, strips}
 use Rattle.model.specs.Buffer.{stripEntry}
 use Rattle.model.specs.Layout.{Job, turnedPiece}
-use Rattle.model.specs.Lent.{Lent, jobOf, lentWell, sideBound, pieceBound}
+use Rattle.model.specs.Lent.{Lent, jobOf, lentWell, pieceBound}
 use Rattle.model.specs.declared.Direction.{Direction}
 use Rattle.model.specs.declared.Turn.{Turn}
 use Rattle.text_laws.proofs.LentFacts.{facts}

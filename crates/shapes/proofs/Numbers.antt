@@ -9,10 +9,10 @@ use native.Mathlib.Numerals.{add-one}
 use native.Mathlib.Omega.{arith}
 use lib.ListN.{length}
 use Rattle.model.specs.Bounded.{sumBelow}
-use Rattle.model.specs.Piece.{Shape, extent, turned}
+use Rattle.model.specs.Piece.{Shape, extent, turned, sideBound}
 use Rattle.model.specs.Strip.{strips}
 use Rattle.model.specs.Layout.{Job, turnedPiece}
-use Rattle.model.specs.Lent.{Lent, jobOf, pixelStart, entryArea, entryColumns, entryRows, sideBound}
+use Rattle.model.specs.Lent.{Lent, jobOf, pixelStart, entryArea, entryColumns, entryRows}
 use Rattle.model.specs.declared.Direction.{Direction}
 use Rattle.model.specs.declared.Direction.the-variants.{Horizontal, Vertical}
 use Rattle.model.specs.declared.Turn.{Turn}

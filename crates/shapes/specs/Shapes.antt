@@ -4,10 +4,9 @@ use mathlib.Core.List.{List, map}
 use mathlib.Core.Path.{_≡_}
 use Prim.Native.Nat.{ℕ, zero, suc, _+_, _*_, _-_, _/_, _%_, _≤_, _<_}
 use lib.ListN.{length, getD, take, drop}
-use Rattle.model.specs.Piece.{Shape, extent}
+use Rattle.model.specs.Piece.{Shape, extent, sideBound}
 use Rattle.model.specs.Strip.{strips}
 use Rattle.model.specs.Layout.{Job, turnedPiece}
-use Rattle.model.specs.Lent.{sideBound}
 use Rattle.model.specs.Buffer.{stripEntry}
 use Rattle.model.specs.declared.Direction.{Direction}
 use Rattle.model.specs.declared.Turn.{Turn}

@@ -1,17 +1,19 @@
 -- What an exported call makes of an answer. An answer tells an outcome, some of what is given left out; reply and lent memory follow from
 -- what is told. Assumes nothing.
-use mathlib.Core.Bool.{Bool}
-use mathlib.Core.List.{List}
+use mathlib.Core.Bool.{Bool, true, false}
+use mathlib.Core.List.{List, [], _∷_}
 use mathlib.Core.Path.{_≡_, refl, _∙_, ap}
-use Prim.Native.Nat.{ℕ}
+use Prim.Native.Nat.{ℕ, _<_}
+use native.Mathlib.Omega.{arith}
 use lib.ListN.{length}
 use Rattle.model.specs.Piece.{Shape, coordinateNumber}
 use Rattle.model.specs.Lent.{Lent}
-use Rattle.model.specs.Refusal.{Outcome, refused, given}
+use Rattle.model.specs.Refusal.{Outcome, refused, given, Cause, refusalOf, unless}
 use Rattle.model.specs.Calls.{leaving, Stores}
 use Rattle.model.specs.declared.JobSize.{JobSize}
 use Rattle.model.specs.declared.Line.{Line}
 use Rattle.model.specs.declared.Line.the-variants.{InRow, InColumn}
+use Rattle.model.specs.declared.Refusal.{Refusal}
 use Rattle.model.specs.Descent.{Descent}
 use Rattle.model.specs.Guided.{Guided}
 use Rattle.model.specs.Layout.{Layout}
@@ -71,6 +73,33 @@ reply-by f o e = ap replyTo e ∙ telling-reply f o
 pub leaves-by : {A B C : Type 0} (f : A → B) (g : B → C) (before : C) (o : Outcome A) {t : Outcome B} → t ≡ telling f o
     → leaving g before t ≡ leaving (λ a. g (f a)) before o
 leaves-by f g before o e = ap (leaving g before) e ∙ telling-leaves f g before o
+
+-- ── a reply of number 0 ──
+
+-- every cause has a number, and none is 0
+abbrev pub Numbered : List Cause → Type 0
+Numbered [] = Unit {0}
+Numbered (c ∷ cs) = (0 < c .number) × Numbered cs
+
+-- a cause that is there gives its number
+numbered-step : {A : Type 0} (t : Bool) (c : Cause) (o : Outcome A) (r : Refusal) → 0 < c .number → (o ≡ refused r → 0 < r .number)
+    → _≡_ {A = Outcome A} (elim t as (λ _. Outcome A) [ true ↦ refused (refusalOf c) | false ↦ o ]) (refused r) → 0 < r .number
+numbered-step true c o r l later e =
+    let same : refusalOf c ≡ r = cc in
+    let number : c .number ≡ r .number = ap (λ (q : Refusal). q .number) same in
+    omega arith
+numbered-step false c o r l later e = later e
+
+-- a refusal by such causes has a number other than 0
+pub refused-numbered : {A : Type 0} (cs : List Cause) (a : A) (r : Refusal) → Numbered cs → unless cs a ≡ refused r → 0 < r .number
+unfolding unless
+refused-numbered [] a r n e = let z : _≡_ {A = ℕ} 0 1 = cc in absurd (omega arith)
+refused-numbered (c ∷ cs) a r n e = numbered-step (c .there) c (unless cs a) r (n .0) (refused-numbered cs a r (n .1)) e
+
+-- an outcome that is told as a refusal is that refusal
+pub refusal-told : {A B : Type 0} (f : A → B) (o : Outcome A) (r : Refusal) → refused r ≡ telling f o → o ≡ refused r
+refusal-told f (refused s) r e = cc
+refusal-told f (given a) r e = let z : _≡_ {A = ℕ} 0 1 = cc in absurd (omega arith)
 
 -- ── what each answer tells ──
 

@@ -1,2 +1,3 @@
 -- What the exported calls' contracts cite beside the definitions below.
 pub mod Places
+pub mod Runs

@@ -12,10 +12,14 @@ use interface::size_of;
 use placing::turn_or_zero;
 use search::SearchAnswer;
 ghost use mathlib.Core.Path.{_≡_};
-ghost use Rattle.model.specs.Buffer.{turnOf};
+ghost use Rattle.model.specs.Guided as model;
+ghost use Rattle.model.specs.Lent.{jobOf};
+ghost use Rattle.model.specs.Buffer.{turnOf, layoutOf};
 ghost use Rattle.model.specs.Calls.{leaving, searchCall, descentCall, descentAfter, guidedCall, bestAfterRun, weightsAfterRun};
+ghost use Rattle.descent_laws.specs.Claims.{DescentClaims, GuidedClaims};
 ghost use Rattle.interface.specs.Numbers.{lentAs, lineOf, pieceWithTurn, endNumber};
 ghost use Rattle.interface.specs.Replies.{replyTo};
+ghost use Rattle.sigbrol.specs.Runs.{descentTold, guidedTold};
 
 // The best place of a piece on a line.
 #[no_mangle]
@@ -80,6 +84,7 @@ pub extern "C" fn sigbrol_descent(
     ensures sum { λ r. ⌜ now (sum .exit) ≡ leaving (λ a. a .sum) (now (sum .entry)) (descentCall (lentAs rows columns count (now (table .entry)) (now (pixels .entry))) (now (layout .entry)) (now (weights .entry)) budget) ⌝ }
     ensures trials { λ r. ⌜ now (trials .exit) ≡ leaving (λ a. a .made) (now (trials .entry)) (descentCall (lentAs rows columns count (now (table .entry)) (now (pixels .entry))) (now (layout .entry)) (now (weights .entry)) budget) ⌝ }
     ensures moves { λ r. ⌜ now (moves .exit) ≡ leaving (λ a. a .moves) (now (moves .entry)) (descentCall (lentAs rows columns count (now (table .entry)) (now (pixels .entry))) (now (layout .entry)) (now (weights .entry)) budget) ⌝ }
+    ensures demand3 { λ r. ⌜ (r .number ≡ 0 → DescentClaims (jobOf (lentAs rows columns count (now (table .entry)) (now (pixels .entry)))) (now (weights .entry)) budget (layoutOf (now (layout .entry))) (descentTold (now (end .exit)) (now (sum .exit)) (now (trials .exit)) (now (moves .exit)) (layoutOf (now (layout .exit))))) ⌝ }
 {
     match descent::descent(
         size_of(rows, columns, count),
@@ -123,6 +128,7 @@ pub extern "C" fn sigbrol_guided_run(
     ensures sum { λ r. ⌜ now (sum .exit) ≡ leaving (λ a. a .sum) (now (sum .entry)) (guidedCall (lentAs rows columns count (now (table .entry)) (now (pixels .entry))) (now (layout .entry)) (now (weights .entry)) rounds budget) ⌝ }
     ensures trials { λ r. ⌜ now (trials .exit) ≡ leaving (λ a. a .made) (now (trials .entry)) (guidedCall (lentAs rows columns count (now (table .entry)) (now (pixels .entry))) (now (layout .entry)) (now (weights .entry)) rounds budget) ⌝ }
     ensures moves { λ r. ⌜ now (moves .exit) ≡ leaving (λ a. a .moves) (now (moves .entry)) (guidedCall (lentAs rows columns count (now (table .entry)) (now (pixels .entry))) (now (layout .entry)) (now (weights .entry)) rounds budget) ⌝ }
+    ensures demand3 { λ r. ⌜ (r .number ≡ 0 → GuidedClaims (jobOf (lentAs rows columns count (now (table .entry)) (now (pixels .entry)))) (now (weights .entry)) budget rounds (layoutOf (now (layout .entry))) (model.rounds (jobOf (lentAs rows columns count (now (table .entry)) (now (pixels .entry)))) budget rounds (now (weights .entry)) (layoutOf (now (layout .entry)))) (guidedTold (now (sum .exit)) (now (trials .exit)) (now (moves .exit)) (layoutOf (now (layout .exit))) (now (weights .exit)))) ⌝ }
 {
     let size = size_of(rows, columns, count);
     match guided::guided_run(size, table, pixels, layout, weights, rounds, budget) {

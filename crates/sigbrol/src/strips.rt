@@ -10,6 +10,7 @@ ghost use mathlib.Core.Path.{_≡_};
 ghost use Prim.Native.Nat.{_<_};
 ghost use lib.ListN.{length};
 ghost use Rattle.model.specs.Calls.{leaving, stripsCall, storesAfter, stretchCall, stretchGiven, stretchNumber, rebuildCall, pixelsAfter};
+ghost use Rattle.rebuild.specs.Again.{Again};
 ghost use Rattle.stores.specs.Stores.{storesBy};
 ghost use Rattle.interface.specs.Numbers.{lentAs, directionOf};
 ghost use Rattle.interface.specs.Replies.{replyTo};
@@ -147,6 +148,7 @@ pub extern "C" fn sigbrol_rebuild(
 ) -> Reply
     ensures answer { λ r. ⌜ r ≡ replyTo (rebuildCall (directionOf vertical) columns rows (now (strips .entry)) (length (now (pixels .entry)))) ⌝ }
     ensures memory { λ r. ⌜ now (pixels .exit) ≡ pixelsAfter (now (pixels .entry)) (rebuildCall (directionOf vertical) columns rows (now (strips .entry)) (length (now (pixels .entry)))) ⌝ }
+    ensures again { λ r. ⌜ Again (directionOf vertical) columns rows (now (strips .entry)) (now (pixels .entry)) (now (pixels .exit)) ⌝ }
 {
     match rebuild::rebuild(columns, rows, direction_of(vertical), strips, pixels) {
         RebuildAnswer::Rebuilt => done(),

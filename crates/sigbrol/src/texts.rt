@@ -6,10 +6,11 @@ use interface::size_of;
 use layout_reader::LayoutAnswer;
 use layout_writer::TextAnswer;
 ghost use mathlib.Core.Path.{_≡_};
+ghost use Prim.Native.Nat.{_≤_};
 ghost use lib.ListN.{length};
-ghost use Rattle.model.specs.Buffer.{filled};
 ghost use Rattle.model.specs.Calls.{leaving, layoutAfter, textAfter, writeLayoutCall, readLayoutCall};
-ghost use Rattle.program.specs.Output.{outputText};
+ghost use Rattle.model.specs.Program.{programText, programCall};
+ghost use Rattle.program.specs.Output.{outputBound};
 ghost use Rattle.interface.specs.Numbers.{lentAs};
 ghost use Rattle.interface.specs.Replies.{replyTo};
 
@@ -58,11 +59,19 @@ pub extern "C" fn sigbrol_read_layout(
     }
 }
 
-// What the program prints for an input, and how many bytes it has.
+// What the program prints for an input, and how many bytes it has: at most 4,096.
 #[no_mangle]
-pub extern "C" fn sigbrol_program(input: &[u8], output: &mut [u8]) -> usize
-    ensures answer { λ r. ⌜ r ≡ length (outputText (now (input .entry)) (length (now (output .entry)))) ⌝ }
-    ensures memory { λ r. ⌜ now (output .exit) ≡ filled (outputText (now (input .entry)) (length (now (output .entry)))) (now (output .entry)) ⌝ }
+pub extern "C" fn sigbrol_program(input: &[u8], output: &mut [u8], written: &mut usize) -> Reply
+    ensures answer { λ r. ⌜ r ≡ replyTo (programCall (now (input .entry)) (length (now (output .entry)))) ⌝ }
+    ensures memory { λ r. ⌜ now (output .exit) ≡ textAfter (now (output .entry)) (programCall (now (input .entry)) (length (now (output .entry)))) ⌝ }
+    ensures written { λ r. ⌜ now (written .exit) ≡ leaving (λ a. length a) (now (written .entry)) (programCall (now (input .entry)) (length (now (output .entry)))) ⌝ }
+    ensures fits { λ r. ⌜ length (programText (now (input .entry))) ≤ outputBound ⌝ }
 {
-    program::print_run(input, output)
+    match program::print_run(input, output) {
+        TextAnswer::Written(count) => {
+            *written = count;
+            done()
+        }
+        TextAnswer::Refused(refusal) => refused(refusal),
+    }
 }

@@ -6,9 +6,9 @@ use Prim.Native.Nat.{ℕ, _+_, _*_, _≤_, _<_}
 use native.Mathlib.Omega.{arith}
 use borrow.Author.Tests.{leb-true}
 use lib.Dec.{leb}
-use Rattle.model.specs.Piece.{Shape, turned}
+use Rattle.model.specs.Piece.{Shape, turned, sideBound}
 use Rattle.model.specs.Layout.{turnedPiece}
-use Rattle.model.specs.Lent.{Lent, lentBy, jobOf, lentWell, entryColumns, entryRows, entryTurns, entryArea, entryInRange, pixelStart, upTo, sideBound}
+use Rattle.model.specs.Lent.{Lent, lentBy, jobOf, lentWell, entryColumns, entryRows, entryTurns, entryArea, entryInRange, pixelStart, upTo}
 use Rattle.model.specs.declared.Turn.{Turn}
 use Rattle.model.specs.declared.JobSize.{JobSize}
 use Rattle.model.proofs.Tests.{and-left, and-right}

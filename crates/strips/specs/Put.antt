@@ -6,7 +6,8 @@ use lib.ListN.{length}
 use lib.Seq.{sets}
 use Rattle.model.specs.Strip.{Strip}
 use Rattle.model.specs.Buffer.{stripEntry}
-use Rattle.model.specs.Lent.{entryColumns, entryRows, pixelStart, areaBound, sideBound}
+use Rattle.model.specs.Lent.{entryColumns, entryRows, pixelStart, areaBound}
+use Rattle.model.specs.Piece.{sideBound}
 
 -- the strips stand in the store from `at` on, as far as there is room, and the next one would stand at `next`
 pub record Appended (ts : List Strip) (before : List (List ℕ)) (at : ℕ) (after : List (List ℕ)) (next : ℕ) : Type 0 where

@@ -4,9 +4,9 @@ use mathlib.Core.Path.{_≡_}
 use Prim.Native.Nat.{ℕ, zero, suc, _+_, _*_, _-_, _≤_, _<_}
 use lib.Dec.{eqb}
 use lib.ListN.{getD}
-use Rattle.model.specs.Piece.{Shape, turned, extent, other, cell}
+use Rattle.model.specs.Piece.{Shape, turned, extent, other, cell, sideBound}
 use Rattle.model.specs.Strip.{Strip, stripOf, runsFrom, stripsFrom}
-use Rattle.model.specs.Lent.{areaBound, sideBound, entryColumns, entryRows}
+use Rattle.model.specs.Lent.{areaBound, entryColumns, entryRows}
 use Rattle.model.specs.declared.Turn.{Turn}
 use Rattle.model.specs.declared.Turn.the-variants.{Zero, Quarter, Half, ThreeQuarters}
 use Rattle.model.specs.declared.Direction.{Direction}

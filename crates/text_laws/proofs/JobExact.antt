@@ -13,7 +13,8 @@ use lib.ListN.{length, getD, length-append, List·getD-append}
 use lib.Seq.{getD-append-add}
 use borrow.Author.Tests.{not-false, eqb-true}
 use Rattle.model.specs.Refusal.{Outcome, given}
-use Rattle.model.specs.Lent.{Lent, sideBound, turnsBound, upTo, entryColumns, entryRows, entryTurns, pixelStart}
+use Rattle.model.specs.Lent.{Lent, turnsBound, upTo, entryColumns, entryRows, entryTurns, pixelStart}
+use Rattle.model.specs.Piece.{sideBound}
 use Rattle.model.specs.Text.{byte, lineEnd, Reading, wrong, got, onward, after, threeFields, fourFields, lineAt, lineText}
 use Rattle.model.specs.JobText.{jobWord, pieceWord, rowWord, JobLine, asJobLine, jobLineCauses, jobLine, PieceLine, asPieceLine, pieceLineCauses, pieceLine, markAt, marksAt, rowAt, Rows, rowsAt, PieceText, rowsCauses, asPieceText, pieceAt, Pieces, noPieces, withPiece, piecesAt, asLent, bufferCauses, readJob}
 use Rattle.model.proofs.Tests.{and-left}

@@ -11,9 +11,9 @@ use lib.Dec.{eqb, leb, ltb}
 use lib.ListN.{length, getD, length-append, List·getD-append}
 use lib.Seq.{getD-append-add}
 use borrow.Author.Tests.{leb-true, ltb-false, le-leb, not-false}
-use Rattle.model.specs.Piece.{Shape, tight}
+use Rattle.model.specs.Piece.{Shape, tight, sideBound}
 use Rattle.model.specs.Refusal.{Outcome, given}
-use Rattle.model.specs.Lent.{Lent, rowBound, columnBound, pieceBound, sideBound, turnsBound, areaBound, upTo, entryColumns, entryRows, pixelStart, entryInRange, entryFits, lentShape, sheetInRange, lentWell}
+use Rattle.model.specs.Lent.{Lent, rowBound, columnBound, pieceBound, turnsBound, areaBound, upTo, entryColumns, entryRows, pixelStart, entryInRange, entryFits, lentShape, sheetInRange, lentWell}
 use Rattle.model.specs.Text.{byte, Reading, wrong, got, onward, after, lineEnd, threeFields, fourFields, lineAt}
 use Rattle.model.specs.JobText.{jobWord, pieceWord, rowWord, JobLine, asJobLine, jobLineCauses, jobLine, PieceLine, asPieceLine, pieceInRange, pieceLineCauses, pieceLine, markAt, marksAt, rowAt, Rows, rowsAt, boxShape, PieceText, rowsCauses, asPieceText, pieceAt, Pieces, noPieces, withPiece, piecesAt, asLent, bufferCauses, readJob}
 use Rattle.model.proofs.Tests.{and-left, and-right, and-both, or-neither}

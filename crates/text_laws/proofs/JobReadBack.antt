@@ -10,9 +10,9 @@ use lib.Dec.{eqb, leb}
 use lib.ListN.{length, getD, take}
 use lib.Seq.{length-take-le}
 use borrow.Author.Tests.{leb-true, le-ltb, eq-eqb}
-use Rattle.model.specs.Piece.{tight}
+use Rattle.model.specs.Piece.{tight, sideBound}
 use Rattle.model.specs.Refusal.{given}
-use Rattle.model.specs.Lent.{Lent, rowBound, columnBound, pieceBound, sideBound, turnsBound, areaBound, upTo, entryColumns, entryRows, entryTurns, pixelStart, entryInRange, entryFits, lentShape, sheetInRange, lentWell}
+use Rattle.model.specs.Lent.{Lent, rowBound, columnBound, pieceBound, turnsBound, areaBound, upTo, entryColumns, entryRows, entryTurns, pixelStart, entryInRange, entryFits, lentShape, sheetInRange, lentWell}
 use Rattle.model.specs.Text.{Reading, got, onward, after, lineEnd, threeFields, fourFields, lineAt, lineText, formed, andThen}
 use Rattle.model.specs.JobText.{jobWord, pieceWord, rowWord, JobLine, jobLineCauses, jobLine, PieceLine, pieceLineCauses, pieceLine, markAt, marksAt, rowAt, rowsAt, boxShape, PieceText, asPieceText, pieceAt, noPieces, piecesAt, readJob}
 use Rattle.model.proofs.Tests.{and-left, and-right}

@@ -2,7 +2,8 @@
 use mathlib.Core.Bool.{Bool, _&&_}
 use Prim.Native.Nat.{ℕ, _%_}
 use lib.Dec.{eqb, leb}
-use Rattle.model.specs.Lent.{sideBound, turnsBound, upTo}
+use Rattle.model.specs.Piece.{sideBound}
+use Rattle.model.specs.Lent.{turnsBound, upTo}
 
 -- the sides are in range and the sum of turns is odd and at most 15
 abbrev pub sidesInRange : ℕ → ℕ → ℕ → Bool

@@ -82,7 +82,8 @@ extern "C" {
         input_length: usize,
         output: *mut u8,
         output_length: usize,
-    ) -> usize;
+        written: *mut usize,
+    ) -> Reply;
 }
 
 lent_a_job! {

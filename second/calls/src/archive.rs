@@ -54,7 +54,7 @@ pub fn call(kind: Kind, memory: &mut Memory) -> Returned {
         match kind {
             Kind::Stretch => value(stretch(memory)),
             Kind::StretchRefusal => value(stretch_refusal(memory) as usize),
-            Kind::Program => value(program(memory)),
+            Kind::Program => reply(program(memory)),
             Kind::ReadJob => reply(read_job(memory)),
             Kind::Strips => reply(strips(memory)),
             Kind::Rebuild => reply(rebuild(memory)),
@@ -356,10 +356,11 @@ unsafe fn guided_run(memory: &mut Memory) -> Reply {
 }
 
 /// The program.
-unsafe fn program(memory: &mut Memory) -> usize {
+unsafe fn program(memory: &mut Memory) -> Reply {
     let (input, input_length) = (at(&memory.text), memory.text.length());
     let (output, output_length) = (at_mut(&mut memory.output), memory.output.length());
-    sigbrol_program(input, input_length, output, output_length)
+    let written = to!(memory.sizes, 0);
+    sigbrol_program(input, input_length, output, output_length, written)
 }
 
 /// Fresh, lay and withdraw.

@@ -410,8 +410,8 @@ const OUTPUT_SHORT: [Damage; 1] = [damage(
     "output buffer short",
     Cause::BufferShort,
     |random, memory| {
-        let length = random.pick(&[0, 12, 100, 4_095]);
-        memory.output.cut(length.min(memory.output.length()));
+        let needed = second::run(memory.text.get()).len();
+        shorten(random, &mut memory.output, needed);
     },
 )];
 

@@ -40,7 +40,7 @@ pub fn call(kind: Kind, memory: &mut Memory) -> Expected {
     match kind {
         Kind::Stretch => stretch(memory),
         Kind::StretchRefusal => stretch_refusal(memory),
-        Kind::Program => program(memory),
+        Kind::Program => reply(program(memory)),
         Kind::ReadJob => reply(read_job(memory)),
         Kind::Strips | Kind::Rebuild => reply(strips(kind, memory)),
         Kind::NoFitRow | Kind::NoFitColumn => reply(no_fit(kind, memory)),
@@ -259,15 +259,10 @@ fn guided_run(memory: &mut Memory) -> Result<(), Refusal> {
 }
 
 /// The program.
-fn program(memory: &mut Memory) -> Expected {
-    let value = calls::program(memory.text.get(), memory.output.get_mut());
-    let returned = Returned {
-        value,
-        ..Returned::default()
-    };
-    // A refused text is told in the output; only a buffer that is too short refuses the call itself.
-    let cause = (value == 0).then_some(Cause::BufferShort);
-    Expected { returned, cause }
+fn program(memory: &mut Memory) -> Result<(), Refusal> {
+    let written = calls::program(memory.text.get(), memory.output.get_mut())?;
+    memory.sizes.get_mut()[result(0)] = written;
+    Ok(())
 }
 
 /// Fresh, lay and withdraw.

@@ -94,9 +94,14 @@ pub fn run(other: Side, threads: usize, stack: usize) -> Comparison {
 fn run_scene(comparison: &mut Comparison, scene: &Scene, number: usize) {
     let random = &mut Random::new(number as u64);
     for kind in Kind::ALL {
+        // A call that is never accepted here takes long even where it is refused.
+        let taken = accepted(scene, kind);
+        if taken == 0 {
+            continue;
+        }
         let (own, job) = damages(kind);
         let all = [&own, job].concat();
-        for _ in 0..accepted(scene, kind) {
+        for _ in 0..taken {
             call(comparison, random, scene, kind, &[]);
         }
         for turn in 0..ALONE {
@@ -216,7 +221,9 @@ fn run_texts(comparison: &mut Comparison) {
             comparison.call(Kind::ReadJob, &mut memory, &origin);
             let far_too_long = text.len() > second::MAX_INPUT;
             if text.len() <= PROGRAM_TEXT || far_too_long {
-                let length = random.pick(&[4_095, 4_096, 4_096, 5_000]);
+                // Buffers that the output fits exactly, and by one byte not.
+                let needed = second::run(text).len();
+                let length = random.pick(&[0, needed - 1, needed, needed + 1, 4_096]);
                 memory.output = Guarded::junk(&mut random, length);
                 comparison.call(Kind::Program, &mut memory, &origin);
             }

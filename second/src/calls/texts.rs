@@ -4,7 +4,7 @@ use super::lent::{placements, write_placements};
 use super::{require, Cause, Lent, Refusal};
 use crate::{job, layout};
 
-/// The length that the program's output buffer has at least.
+/// No output of the program is longer.
 pub const OUTPUT: usize = 4_096;
 
 /// Reads a job text into a table and a pixel store; gives W, L and n.
@@ -51,12 +51,10 @@ pub fn read_layout(lent: &Lent, text: &[u8], layout: &mut [[u16; 3]]) -> Result<
     Ok(())
 }
 
-/// The program's output for an input; gives its length, or 0 where the buffer is shorter than it has to be.
-pub fn program(input: &[u8], output: &mut [u8]) -> usize {
-    if output.len() < OUTPUT {
-        return 0;
-    }
+/// The program's output for an input; gives its length.
+pub fn program(input: &[u8], output: &mut [u8]) -> Result<usize, Refusal> {
     let printed = crate::run(input);
-    output[..printed.len()].copy_from_slice(printed.as_bytes());
-    printed.len()
+    let front = output.get_mut(..printed.len()).ok_or(Cause::BufferShort)?;
+    front.copy_from_slice(printed.as_bytes());
+    Ok(printed.len())
 }

@@ -34,17 +34,23 @@ returns c =
     rw (answer .0, answer .1, call-withdraws (a .t6) (c .before .before .before .before .before .if1 .taken))
     (answer-after (withdrawCall l s _) (a .sheet) (a .counts .now) ∙ ap (afterwards s) (withdraw-called l s (c .before .before .before .before .before .before .before .before .pre) _))
 
-array-read-turn-or-zero : tie.Need-array-read-turn-or-zero
-array-read-turn-or-zero c = search needs
+array-read-piece-with-turn : tie.Need-array-read-piece-with-turn
+array-read-piece-with-turn c = search needs
 
-turn-or-zero-requires : tie.Need-turn-or-zero-requires
-turn-or-zero-requires c κs = search needs
+piece-with-turn-requires : tie.Need-piece-with-turn-requires
+piece-with-turn-requires c κs = search needs
 
-array-read-t25 : tie.Need-array-read-t25
-array-read-t25 c = search needs
+array-read-placement-of : tie.Need-array-read-placement-of
+array-read-placement-of c = search needs
 
-array-read-t29 : tie.Need-array-read-t29
-array-read-t29 c = search needs
+array-read-placement-of-2 : tie.Need-array-read-placement-of-2
+array-read-placement-of-2 c = search needs
+
+array-read-placement-of-3 : tie.Need-array-read-placement-of-3
+array-read-placement-of-3 c = search needs
+
+placement-of-requires : tie.Need-placement-of-requires
+placement-of-requires c κs = search needs
 
 lay-requires : tie.Need-lay-requires
 lay-requires c κs = search needs
@@ -54,14 +60,14 @@ same-length-2 c = search needs
 
 returns-2 : tie.Need-returns-2
 returns-2 c =
-    let a = c .before .before .before .before .before .before .before .before .before .args in
+    let a = c .before .before .before .before .before .before .before .before .before .before .args in
     let l = lentBy (a .size) (a .table .now) (a .pixels .now) in
     let s = sheetOf (a .sheet) (a .counts .now) in
     let answer = c .before .before .before .lay .ensures in
-    rw (answer .0, answer .1, call-lays (a .t6) (c .before .before .before .before .before .before .if1 .left), ← (c .before .before .before .before .before .turn-or-zero .ensures))
-    (answer-after (layCall l s _ _) (a .sheet) (a .counts .now) ∙ ap (afterwards s) (lay-called l s (c .before .before .before .before .before .before .before .before .before .pre) _ _))
+    rw (answer .0, answer .1, call-lays (a .t6) (c .before .before .before .before .before .before .before .if1 .left), ← (c .before .before .before .before .before .placement-of .ensures), ← (c .before .before .before .before .before .before .piece-with-turn .ensures))
+    (answer-after (layCall l s _ _) (a .sheet) (a .counts .now) ∙ ap (afterwards s) (lay-called l s (c .before .before .before .before .before .before .before .before .before .before .pre) _ _))
 
 pub run-call-spec : {M : Type 1} → statement M
 run-call-spec =
     tie.close
-    (tie.spec array-read-piece cast-piece array-read-if1 withdraw-requires same-length returns array-read-turn-or-zero turn-or-zero-requires array-read-t25 array-read-t29 lay-requires same-length-2 returns-2)
+    (tie.spec array-read-piece cast-piece array-read-if1 withdraw-requires same-length returns array-read-piece-with-turn piece-with-turn-requires array-read-placement-of array-read-placement-of-2 array-read-placement-of-3 placement-of-requires lay-requires same-length-2 returns-2)

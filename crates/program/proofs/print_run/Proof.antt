@@ -1,51 +1,71 @@
--- `program::print_run` meets its contract, by the length of the buffer and of the input. Assumes nothing.
-use mathlib.Core.Path.{sym, _∙_, ap}
+-- `program::print_run` meets its contract: the text stands at the front of the local buffer, and is copied where the lent one has room for it.
+-- Assumes nothing.
+use mathlib.Core.Path.{_≡_, sym, _∙_, ap}
+use Prim.Native.Nat.{ℕ, _≤_}
+use native.Mathlib.Nat.{le-of-eq}
 use native.Mathlib.Omega.{arith}
 use borrow.Author.Needs.{needs}
-use Rattle.model.specs.Program.{refusalText}
-use Rattle.call_laws.proofs.Programs.{program-too-long}
-use Rattle.program.proofs.Printing.{program-read, nothing-printed, text-printed}
+use lib.ListN.{length, length-replicate}
+use lib.Seq.{sets, length-take-le}
+use Rattle.model.specs.Program.{programText}
+use Rattle.fields.proofs.Stores.{sets-filled}
+use Rattle.program.specs.Output.{outputBound}
+use Rattle.program.proofs.Printing.{front-written, leaves-short, leaves-written}
 use Rattle.program.proofs.print_run.Statement.{statement}
 use Rattle.program.proofs.print_run.Tie as tie
 
-returns : tie.Need-returns
-returns c = nothing-printed (c .before .before .before .args .input .now) (c .before .before .before .args .output .now) (c .if1 .taken)
+slice-aggregate-print-text : tie.Need-slice-aggregate-print-text
+slice-aggregate-print-text c = search needs
+
+print-text-requires : tie.Need-print-text-requires
+print-text-requires c κs = search needs
 
 refusal-requires : tie.Need-refusal-requires
 refusal-requires c κs = search needs
 
-put-refusal-line-requires : tie.Need-put-refusal-line-requires
-put-refusal-line-requires c κs = search needs
+returns : tie.Need-returns
+returns c =
+    let a = c .before .before .before .before .before .before .before .args in
+    let w = c .before .before .before .print-text .ensures in
+    let end = w .end in
+    let long = c .before .if1 .taken in
+    rw (c .refusal .ensures) (leaves-short (a .input .now) (a .output .now) (omega arith) (w .short))
+
+array-share-prefix-text : tie.Need-array-share-prefix-text
+array-share-prefix-text c = search needs
+
+slice-aggregate-put-word : tie.Need-slice-aggregate-put-word
+slice-aggregate-put-word c = sym (length-take-le _ _ (search needs))
+
+put-word-requires : tie.Need-put-word-requires
+put-word-requires c κs = search needs
 
 same-length : tie.Need-same-length
 same-length c = search needs
 
 returns-2 : tie.Need-returns-2
 returns-2 c =
-    let a = c .before .before .before .before .before .before .before .before .before .args in
-    text-printed (a .input .now) (a .output .now) _ _ _ _ (c .before .before .before .before .before .before .if1 .left) (omega arith) (program-too-long (a .input .now) (c .before .before .before .before .before .if2 .taken) ∙ ap refusalText (sym (c .before .before .before .refusal .ensures)))
-    (c .before .before .put-refusal-line .ensures)
-
-read-and-print-requires : tie.Need-read-and-print-requires
-read-and-print-requires c κs = search needs
-
-same-length-2 : tie.Need-same-length-2
-same-length-2 c = search needs
-
-returns-3 : tie.Need-returns-3
-returns-3 c =
-    let a = c .before .before .before .before .before .before .before .before .args in
-    text-printed (a .input .now) (a .output .now) _ _ _ _ (c .before .before .before .before .before .if1 .left) (omega arith) (program-read (a .input .now) (c .before .before .before .before .if2 .left)) (c .before .before .read-and-print .ensures)
+    let a = c .before .before .before .before .before .before .before .before .before .before .before .args in
+    let w = c .before .before .before .before .before .before .before .print-text .ensures in
+    let end = w .end in
+    let short = w .short in
+    let room = c .before .before .before .before .before .if1 .left in
+    let fits : length (programText (a .input .now)) ≤ length (a .output .now) = omega arith in
+    let front = front-written _ (programText (a .input .now)) outputBound _ _ (le-of-eq (sym (length-replicate {A = ℕ} 4096 0))) w in
+    leaves-written (a .input .now) (a .output .now) _ _ (omega arith)
+    (c .before .before .put-word .ensures .1 ∙ ap (sets (a .output .now) 0) front ∙ sets-filled (a .output .now) (programText (a .input .now)) fits)
+    (omega arith) (omega arith)
 
 pub print-run-spec : {M : Type 1} → statement M
 print-run-spec =
     tie.close
     (tie.spec
-    returns
+    slice-aggregate-print-text
+    print-text-requires
     refusal-requires
-    put-refusal-line-requires
+    returns
+    array-share-prefix-text
+    slice-aggregate-put-word
+    put-word-requires
     same-length
-    returns-2
-    read-and-print-requires
-    same-length-2
-    returns-3)
+    returns-2)

@@ -7,7 +7,8 @@ use native.Mathlib.Nat.{mul-le-mul}
 use native.Mathlib.Omega.{arith}
 use borrow.Author.Tests.{not-true, not-false}
 use lib.ListN.{length}
-use Rattle.model.specs.Lent.{upTo, sideBound}
+use Rattle.model.specs.Lent.{upTo}
+use Rattle.model.specs.Piece.{sideBound}
 use Rattle.model.specs.Calls.{stripsWell, pixelsAfter}
 use Rattle.rebuild.specs.Answer.{rebuildAnswer}
 use Rattle.rebuild.proofs.Again.{after-again}

@@ -1,11 +1,15 @@
--- `sigbrol::runs::sigbrol_descent` meets its contract by what the answer tells. Assumes nothing.
-use mathlib.Core.Path.{_≡_, sym, _∙_}
+-- `sigbrol::runs::sigbrol_descent` meets its contract by what the answer tells; demand 3 is what the inner call says of the
+-- descent, by the numbers that tell it. Assumes nothing.
+use mathlib.Core.Path.{_≡_, sym, _∙_, ap}
+use native.Mathlib.Omega.{arith}
 use Rattle.model.specs.Descent.{Descent}
 use Rattle.model.specs.Refusal.{Outcome}
 use Rattle.model.specs.Calls.{descentCall}
 use Rattle.descent.specs.Answers.{descentAnswer, endedOf}
 use Rattle.interface.specs.Numbers.{lentAs, endNumber}
-use Rattle.sigbrol.proofs.Told.{reply-by, leaves-by, ended-told}
+use Rattle.interface.specs.declared.Reply.{Reply}
+use Rattle.sigbrol.proofs.Told.{reply-by, leaves-by, refusal-told, ended-told}
+use Rattle.sigbrol.proofs.Claimed.{descent-claimed, descent-numbered}
 use Rattle.sigbrol.proofs.runs.sigbrol_descent.Statement.{statement}
 use Rattle.sigbrol.proofs.runs.sigbrol_descent.Tie as tie
 
@@ -47,7 +51,7 @@ unfolding outcome
 returns c =
     let o = outcome (c .before .before .before .before .before .before .before .before .before .before .before) in
     let t = ended-told o (sym (c .before .before .before .ended .given .1) ∙ answered (c .before .before .before .before .before .before)) in
-    (c .done .ensures ∙ reply-by endedOf o t, (rw (c .before .before .before .before .before .before .before .before .size-of .ensures) at (c .before .before .before .before .before .before .descent .ensures .1 .0), (c .before .end-number .ensures ∙ leaves-by endedOf (λ e. endNumber (e .end)) _ o t, (leaves-by endedOf (λ e. e .sum) _ o t, (leaves-by endedOf (λ e. e .made) _ o t, leaves-by endedOf (λ e. e .moves) _ o t)))))
+    (c .done .ensures ∙ reply-by endedOf o t, (rw (c .before .before .before .before .before .before .before .before .size-of .ensures) at (c .before .before .before .before .before .before .descent .ensures .1 .0), (c .before .end-number .ensures ∙ leaves-by endedOf (λ e. endNumber (e .end)) _ o t, (leaves-by endedOf (λ e. e .sum) _ o t, (leaves-by endedOf (λ e. e .made) _ o t, (leaves-by endedOf (λ e. e .moves) _ o t, λ zero. descent-claimed _ _ _ _ _ _ _ (c .before .end-number .ensures) (rw (c .before .before .before .before .before .before .before .before .size-of .ensures) at (c .before .before .before .before .before .before .descent .ensures .1 .1 _ (c .before .before .before .ended .given .1)))))))))
 
 same-length-2 : tie.Need-same-length-2
 same-length-2 c = c .before .before .before .before .before .descent .kept .1 .1 .1 .0
@@ -57,7 +61,12 @@ unfolding outcome
 returns-2 c =
     let o = outcome (c .before .before .before .before .before .before .before .before .before .before) in
     let t = ended-told o (sym (c .before .before .refusal .given .1) ∙ answered (c .before .before .before .before .before)) in
-    (c .refused .ensures ∙ reply-by endedOf o t, (rw (c .before .before .before .before .before .before .before .size-of .ensures) at (c .before .before .before .before .before .descent .ensures .1 .0), (leaves-by endedOf (λ e. endNumber (e .end)) _ o t, (leaves-by endedOf (λ e. e .sum) _ o t, (leaves-by endedOf (λ e. e .made) _ o t, leaves-by endedOf (λ e. e .moves) _ o t)))))
+    let a = c .before .before .before .before .before .before .before .before .before .before .args in
+    let positive =
+    descent-numbered (lentAs (a .rows) (a .columns) (a .count) (a .table .now) (a .pixels .now)) (a .layout .now) (a .weights .now) (a .budget) _
+    (refusal-told endedOf o _ t) in
+    let number = ap (λ (x : Reply). x .number) (c .refused .ensures) in
+    (c .refused .ensures ∙ reply-by endedOf o t, (rw (c .before .before .before .before .before .before .before .size-of .ensures) at (c .before .before .before .before .before .descent .ensures .1 .0), (leaves-by endedOf (λ e. endNumber (e .end)) _ o t, (leaves-by endedOf (λ e. e .sum) _ o t, (leaves-by endedOf (λ e. e .made) _ o t, (leaves-by endedOf (λ e. e .moves) _ o t, λ zero. absurd (omega (arith, positive, number, zero))))))))
 
 pub sigbrol-descent-spec : {M : Type 1} → statement M
 sigbrol-descent-spec =

@@ -5,6 +5,7 @@ use Rattle.model.specs.Piece.{Shape}
 use Rattle.model.specs.Refusal.{Outcome}
 use Rattle.model.specs.Calls.{rebuildCall, pixelsAfter}
 use Rattle.interface.specs.Numbers.{directionOf}
+use Rattle.rebuild.specs.Again.{Again}
 use Rattle.rebuild.specs.Answer.{rebuildAnswer}
 use Rattle.sigbrol.proofs.Told.{reply-by, rebuild-told}
 use Rattle.sigbrol.proofs.strips.sigbrol_rebuild.Statement.{statement}
@@ -23,6 +24,10 @@ answered c = rw (c .before .before .direction-of .ensures) at (c .rebuild .ensur
 left : (c : tie.After-rebuild) → c .rebuild .last .1 .1 .1 .1 .0 ≡ pixelsAfter (c .before .before .before .before .args .pixels .now) (outcome (c .before .before .before .before))
 unfolding outcome
 left c = rw (c .before .before .direction-of .ensures) at (c .rebuild .ensures .1 .0)
+
+-- the pixels of a set stand in the buffer again
+again : (c : tie.After-rebuild) → Again (directionOf (c .before .before .before .before .args .vertical)) (c .before .before .before .before .args .columns) (c .before .before .before .before .args .rows) (c .before .before .before .before .args .strips .now) (c .before .before .before .before .args .pixels .now) (c .rebuild .last .1 .1 .1 .1 .0)
+again c = rw (c .before .before .direction-of .ensures) at (c .rebuild .ensures .1 .1)
 
 direction-of-requires : tie.Need-direction-of-requires
 direction-of-requires c κs = tt
@@ -49,7 +54,7 @@ returns : tie.Need-returns
 unfolding outcome
 returns c =
     let o = outcome (c .before .before .before .before .before .before .before .before .before) in
-    (c .done .ensures ∙ reply-by (λ s. tt) o (rebuild-told o (sym (c .before .enum-told .given .1) ∙ answered (c .before .before .before .before .before))), left (c .before .before .before .before .before))
+    (c .done .ensures ∙ reply-by (λ s. tt) o (rebuild-told o (sym (c .before .enum-told .given .1) ∙ answered (c .before .before .before .before .before))), (left (c .before .before .before .before .before), again (c .before .before .before .before .before)))
 
 same-length-2 : tie.Need-same-length-2
 same-length-2 c = c .before .before .before .before .before .before .rebuild .kept .1 .1 .1 .1 .0
@@ -58,7 +63,7 @@ returns-2 : tie.Need-returns-2
 unfolding outcome
 returns-2 c =
     let o = outcome (c .before .before .before .before .before .before .before .before .before .before) in
-    (c .refused .ensures ∙ reply-by (λ s. tt) o (rebuild-told o (sym (c .before .before .refusal .given .1) ∙ answered (c .before .before .before .before .before .before))), left (c .before .before .before .before .before .before))
+    (c .refused .ensures ∙ reply-by (λ s. tt) o (rebuild-told o (sym (c .before .before .refusal .given .1) ∙ answered (c .before .before .before .before .before .before))), (left (c .before .before .before .before .before .before), again (c .before .before .before .before .before .before)))
 
 pub sigbrol-rebuild-spec : {M : Type 1} → statement M
 sigbrol-rebuild-spec =

@@ -1,0 +1,47 @@
+-- What demand 3 says of a run, over the numbers that C is given: they are those of the run, and a reply of number 0 tells that there was one,
+-- since every cause of a refusal has a number other than 0. Assumes nothing.
+use mathlib.Core.List.{List}
+use mathlib.Core.Path.{_≡_, refl, sym, subst, _∙_, ap}
+use Prim.Native.Nat.{ℕ, _<_}
+use native.Mathlib.Omega.{arith}
+use Rattle.model.specs.Layout.{Job, Layout}
+use Rattle.model.specs.Lent.{Lent}
+use Rattle.model.specs.Descent.{Descent}
+use Rattle.model.specs.Refusal.{refused}
+use Rattle.model.specs.Calls.{descentCall, guidedCall}
+use Rattle.model.specs.declared.End.{End}
+use Rattle.model.specs.declared.End.the-variants.{Clear, Settled, Spent}
+use Rattle.model.specs.declared.Refusal.{Refusal}
+use Rattle.descent_laws.specs.Claims.{DescentClaims}
+use Rattle.descend.specs.Descents.{descentOf}
+use Rattle.descend.specs.declared.Ended.{Ended}
+use Rattle.interface.specs.Numbers.{endNumber}
+use Rattle.sigbrol.specs.Runs.{endTold, descentTold}
+use Rattle.sigbrol.proofs.Told.{refused-numbered}
+
+-- the number of an end tells that end
+pub end-back : (e : End) → endTold (endNumber e) ≡ e
+end-back Clear = refl
+end-back Settled = refl
+end-back Spent = refl
+
+-- what holds of a descent holds of the one that its numbers tell
+pub descent-claimed : (j : Job) (ws : List ℕ) (budget : ℕ) (from to : Layout) (e : Ended) (k : ℕ) → k ≡ endNumber (e .end)
+    → DescentClaims j ws budget from (descentOf e to) → DescentClaims j ws budget from (descentTold k (e .sum) (e .made) (e .moves) to)
+descent-claimed j ws budget from to e k h claims =
+    subst (λ (end : End). DescentClaims j ws budget from (record { end = end; layout = to; sum = e .sum; made = e .made; moves = e .moves }))
+    (sym (ap endTold h ∙ end-back (e .end))) claims
+
+-- a refused descent has a number
+pub descent-numbered : (l : Lent) (es : List (List ℕ)) (ws : List ℕ) (budget : ℕ) (r : Refusal) → descentCall l es ws budget ≡ refused r
+    → 0 < r .number
+unfolding descentCall
+descent-numbered l es ws budget r e =
+    refused-numbered _ _ r (omega arith, (omega arith, (omega arith, (omega arith, (omega arith, (omega arith, tt)))))) e
+
+-- and so has a refused guided run
+pub guided-numbered : (l : Lent) (es : List (List ℕ)) (ws : List ℕ) (count budget : ℕ) (r : Refusal) → guidedCall l es ws count budget ≡ refused r
+    → 0 < r .number
+unfolding guidedCall
+guided-numbered l es ws count budget r e =
+    refused-numbered _ _ r (omega arith, (omega arith, (omega arith, (omega arith, (omega arith, (omega arith, tt)))))) e

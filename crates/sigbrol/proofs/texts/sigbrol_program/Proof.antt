@@ -1,0 +1,69 @@
+-- `sigbrol::texts::sigbrol_program` meets its contract by what the answer tells. Assumes nothing.
+use mathlib.Core.Path.{_≡_, sym, _∙_}
+use mathlib.Core.List.{List}
+use Prim.Native.Nat.{ℕ}
+use lib.ListN.{length}
+use Rattle.model.specs.Refusal.{Outcome}
+use Rattle.model.specs.Program.{programCall}
+use Rattle.layout_writer.specs.Answers.{textAnswer}
+use Rattle.sigbrol.proofs.Told.{reply-by, leaves-by, text-told}
+use Rattle.sigbrol.proofs.texts.sigbrol_program.Statement.{statement}
+use Rattle.sigbrol.proofs.texts.sigbrol_program.Tie as tie
+
+-- the outcome of the call
+outcome : tie.Start → Outcome (List ℕ)
+outcome s = let a = s .args in programCall (a .input .now) (length (a .output .now))
+
+-- its answer tells that outcome
+answered : (c : tie.After-print-run) → c .print-run .result ≡ textAnswer (outcome (c .before .before .before .before))
+unfolding outcome
+answered c = c .print-run .ensures .0
+
+print-run-requires : tie.Need-print-run-requires
+print-run-requires c κs = tt
+
+enum-known-count : tie.Need-enum-known-count
+enum-known-count c = c .match .keys1
+
+done-requires : tie.Need-done-requires
+done-requires c κs = tt
+
+enum-known-refusal : tie.Need-enum-known-refusal
+enum-known-refusal c = c .match .keys2
+
+refused-requires : tie.Need-refused-requires
+refused-requires c κs = tt
+
+same-length : tie.Need-same-length
+same-length c = c .before .before .before .before .before .before .print-run .kept .1 .0
+
+returns : tie.Need-returns
+unfolding outcome
+returns c =
+    let o = outcome (c .before .before .before .before .before .before .before .before .before .before) in
+    let t = text-told o (sym (c .before .before .count .given .1) ∙ answered (c .before .before .before .before .before .before)) in
+    (c .done .ensures ∙ reply-by (λ text. length text) o t, (c .before .before .before .before .before .before .print-run .ensures .1 .0, (leaves-by (λ text. length text) (λ k. k) _ o t, c .before .before .before .before .before .before .print-run .ensures .1 .1)))
+
+same-length-2 : tie.Need-same-length-2
+same-length-2 c = c .before .before .before .before .before .before .print-run .kept .1 .0
+
+returns-2 : tie.Need-returns-2
+unfolding outcome
+returns-2 c =
+    let o = outcome (c .before .before .before .before .before .before .before .before .before .before) in
+    let t = text-told o (sym (c .before .before .refusal .given .1) ∙ answered (c .before .before .before .before .before .before)) in
+    (c .refused .ensures ∙ reply-by (λ text. length text) o t, (c .before .before .before .before .before .before .print-run .ensures .1 .0, (leaves-by (λ text. length text) (λ k. k) _ o t, c .before .before .before .before .before .before .print-run .ensures .1 .1)))
+
+pub sigbrol-program-spec : {M : Type 1} → statement M
+sigbrol-program-spec =
+    tie.close
+    (tie.spec
+    print-run-requires
+    enum-known-count
+    done-requires
+    enum-known-refusal
+    refused-requires
+    same-length
+    returns
+    same-length-2
+    returns-2)
