@@ -1,6 +1,8 @@
 // The marked examples of the shop, P1 to P12 of document 01, through the calls. Each line has the example's name and what the calls
-// give. The pieces are A, A, B, B, D and E of document 01, on a sheet of 8 rows and 16 columns; P10 to P12 have a job of two A.
+// give. The pieces are A, A, B, B, D and E of document 01, on a sheet of 8 rows and 16 columns; P10 to P12 have a job of two A. The lines
+// with two pieces for a name are further no-fit lines: a row past D's hole, and a column of B in another turn.
 use descent::DescentAnswer;
+use model::ColumnOffset;
 use model::Coordinate;
 use model::Direction;
 use model::End;
@@ -138,16 +140,26 @@ fn put_signed(n: i32) {
     }
 }
 
-// How many runs there are, and the first of them.
+// The run at a place: its first and count.
+fn put_run(runs: &[[i32; 2]; 8], k: usize) {
+    if k < 8 {
+        let run = runs[k];
+        put_signed(run[0]);
+        put_signed(run[1]);
+    }
+}
+
+// How many runs there are, and up to two of them.
 fn put_runs(answer: RunsAnswer, runs: &[[i32; 2]; 8]) {
     match answer {
         RunsAnswer::Refused(refusal) => put_refused(refusal.number),
         RunsAnswer::Runs(count) => {
             put(count as u64);
             if 0 < count {
-                let run = runs[0];
-                put_signed(run[0]);
-                put_signed(run[1]);
+                put_run(runs, 0);
+            }
+            if 1 < count {
+                put_run(runs, 1);
             }
         }
     }
@@ -213,27 +225,123 @@ fn show_rows(turns: [u16; 6], piece: usize, side: u16) {
     end_line();
 }
 
-// The no-fit row of A and A at a row offset.
-fn show_no_fit(offset: i32) {
+// The no-fit row (the no-fit column if vertical) of two pieces at an offset, from their stretches: parts of the row store (the column
+// store), which do not begin at its front but for piece 0. The second piece lies in turn 0.
+fn put_no_fit<'a>(
+    turns: &[u16],
+    row_strips: &'a [[u8; 3]],
+    row_starts: &[u32],
+    column_strips: &'a [[u8; 3]],
+    column_starts: &[u32],
+    i: usize,
+    first: Turn,
+    k: usize,
+    direction: Direction,
+    offset: i32,
+) {
     let table = TABLE;
     let pixels = PIXELS;
-    let strips = [[0u8, 0, 2], [1, 0, 2]];
-    let mut runs = [[0i32; 2]; 8];
-    let answer = nofit_calls::no_fit_row(
+    let a = stores::stretch::stretch(
         SIZE,
         &table,
         &pixels,
-        0,
-        Turn::Zero,
-        &strips,
-        1,
-        Turn::Zero,
-        &strips,
-        RowOffset(offset),
-        &mut runs,
+        turns,
+        row_strips,
+        row_starts,
+        column_strips,
+        column_starts,
+        i,
+        direction,
     );
-    put_runs(answer, &runs);
+    let b = stores::stretch::stretch(
+        SIZE,
+        &table,
+        &pixels,
+        turns,
+        row_strips,
+        row_starts,
+        column_strips,
+        column_starts,
+        k,
+        direction,
+    );
+    let mut runs = [[0i32; 2]; 8];
+    match direction {
+        Direction::Horizontal => {
+            let row = RowOffset(offset);
+            let answer = nofit_calls::no_fit_row(
+                SIZE,
+                &table,
+                &pixels,
+                i,
+                first,
+                a,
+                k,
+                Turn::Zero,
+                b,
+                row,
+                &mut runs,
+            );
+            put_runs(answer, &runs);
+        }
+        Direction::Vertical => {
+            let column = ColumnOffset(offset);
+            let answer = nofit_calls::no_fit_column(
+                SIZE,
+                &table,
+                &pixels,
+                i,
+                first,
+                a,
+                k,
+                Turn::Zero,
+                b,
+                column,
+                &mut runs,
+            );
+            put_runs(answer, &runs);
+        }
+    }
     end_line();
+}
+
+// The no-fit row or column of two pieces in these turns, with the stores that the strips call fills.
+fn show_no_fit(
+    turns: [u16; 6],
+    i: usize,
+    first: Turn,
+    k: usize,
+    direction: Direction,
+    offset: i32,
+) {
+    let table = TABLE;
+    let pixels = PIXELS;
+    let mut rows = [[0u8; 3]; 26];
+    let mut row_starts = [0u32; 7];
+    let mut columns = [[0u8; 3]; 26];
+    let mut column_starts = [0u32; 7];
+    stores::strips(
+        SIZE,
+        &table,
+        &pixels,
+        &turns,
+        &mut rows,
+        &mut row_starts,
+        &mut columns,
+        &mut column_starts,
+    );
+    put_no_fit(
+        &turns,
+        &rows,
+        &row_starts,
+        &columns,
+        &column_starts,
+        i,
+        first,
+        k,
+        direction,
+        offset,
+    );
 }
 
 // The depths and the penalty of two pieces of a layout.
@@ -333,15 +441,62 @@ fn show_two() {
     show_descent(3, 4);
 }
 
+// P3 and P4; the row of D and E at row offset 1, where E fits into D's hole; the column of B at 90 and E at column offset 1, where B has
+// both pixels, and at 0, where it has the lower one.
+fn show_no_fits() {
+    io::write_all(1, b"P3");
+    show_no_fit(
+        [0, 0, 0, 0, 0, 0],
+        0,
+        Turn::Zero,
+        1,
+        Direction::Horizontal,
+        1,
+    );
+    io::write_all(1, b"P4");
+    show_no_fit(
+        [0, 0, 0, 0, 0, 0],
+        0,
+        Turn::Zero,
+        1,
+        Direction::Horizontal,
+        2,
+    );
+    io::write_all(1, b"D E");
+    show_no_fit(
+        [0, 0, 0, 0, 0, 0],
+        4,
+        Turn::Zero,
+        5,
+        Direction::Horizontal,
+        1,
+    );
+    io::write_all(1, b"B E");
+    show_no_fit(
+        [0, 0, 90, 0, 0, 0],
+        2,
+        Turn::Quarter,
+        5,
+        Direction::Vertical,
+        1,
+    );
+    io::write_all(1, b"B E");
+    show_no_fit(
+        [0, 0, 90, 0, 0, 0],
+        2,
+        Turn::Quarter,
+        5,
+        Direction::Vertical,
+        0,
+    );
+}
+
 fn main() {
     io::write_all(1, b"P1");
     show_rows([0, 0, 0, 0, 0, 0], 4, 3);
     io::write_all(1, b"P2");
     show_rows([0, 0, 90, 0, 0, 0], 2, 2);
-    io::write_all(1, b"P3");
-    show_no_fit(1);
-    io::write_all(1, b"P4");
-    show_no_fit(2);
+    show_no_fits();
     io::write_all(1, b"P5");
     show_pair(
         [
