@@ -65,6 +65,7 @@ fn run_alone(
         &mut own[..n],
     ) {
         Outcome::Alone(ended) => ended,
+        // One descent is planned: this does not happen.
         Outcome::Rounds(_) => Ended {
             end: End::Clear,
             sum: 0,

@@ -45,6 +45,7 @@ pub fn put_decimal(text: &mut [u8], at: usize, places: usize, k: u64) -> usize
     ensures { λ r. ⌜ (r ≡ at + length (decimal places k)) × (now (text .exit) ≡ sets (now (text .entry)) at (decimal places k)) ⌝ }
 {
     if places == 0 {
+        // Every number that is written has at most as many digits as places: this does not happen.
         return at;
     }
     if k < 10 {

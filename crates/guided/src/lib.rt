@@ -73,6 +73,7 @@ fn run_rounds(
             made: told.made,
             moves: told.moves,
         },
+        // Rounds are planned: this does not happen.
         Outcome::Alone(_) => Run {
             sum: 0,
             made: 0,

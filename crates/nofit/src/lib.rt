@@ -67,6 +67,7 @@ fn keep(far: &mut [u16], low: u32, high: u32)
     let at = low as usize;
     let end = high as u16;
     if far.len() <= at {
+        // Two boxes of at most 255 meet at none of the shifts past 508, and a no-fit line has 509 marks: this does not happen.
         return;
     }
     if far[at] < end {

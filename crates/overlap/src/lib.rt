@@ -107,6 +107,7 @@ fn walk_start(a: &[[u8; 3]], x: u32, b: &[[u8; 3]], y: u32) -> Heads
     ensures { λ r. ⌜ Begun (now (a .entry)) x (now (b .entry)) y r ⌝ }
 {
     if b.len() == 0 {
+        // A piece has a strip: this does not happen.
         return Heads {
             first: 0,
             second: 0,

@@ -20,6 +20,7 @@ pub fn pair_count(n: usize) -> usize
     ensures { λ r. ⌜ r ≡ length (pairs n) ⌝ }
 {
     if n == 0 {
+        // A job that passed its check has a piece: this does not happen.
         return 0;
     }
     n * (n - 1) / 2

@@ -47,8 +47,7 @@ fn run_job(size: JobSize, table: &[[u8; 3]], pixels: &[u8], layout: &mut [[u16; 
     }
 }
 
-// The text of a layout and the end line of the run that gave it, at the front, and the position after them. No call refuses the layout,
-// so that neither of the answers 0 is given.
+// The text of a layout and the end line of the run that gave it, at the front, and the position after them.
 fn write_run(
     size: JobSize,
     table: &[[u8; 3]],
@@ -61,10 +60,12 @@ fn write_run(
     ensures { λ r. ⌜ Written (now (text .entry)) 0 (runText (jobOf (lentBy size (now (table .entry)) (now (pixels .entry)))) (runWith run (layoutOf (now (layout .entry))))) outputBound r (now (text .exit)) ⌝ }
 {
     let LengthAnswer::Length(used) = placing::used_length(size, table, pixels, layout) else {
+        // The layout has no cause of refusal: this does not happen.
         return 0;
     };
     let TextAnswer::Written(next) = layout_writer::write_layout(size, table, pixels, layout, text)
     else {
+        // It has none, and the buffer has room for its text: this does not happen.
         return 0;
     };
     put_end_line(text, next, run, used)

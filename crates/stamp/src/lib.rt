@@ -34,11 +34,13 @@ fn moved_count(count: u8, on: bool, up: bool) -> u8
         if count < 255 {
             return count + 1;
         }
+        // At most 64 pieces lie on a pixel: this does not happen.
         return count;
     }
     if 0 < count {
         return count - 1;
     }
+    // A laid piece counts on each of its pixels: this does not happen.
     0
 }
 

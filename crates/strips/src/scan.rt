@@ -121,6 +121,7 @@ fn has_pixel(pixels: &[u8], piece: TurnedPiece, x: usize, y: usize) -> bool
     if index < pixels.len() {
         return pixels[index] == 1;
     }
+    // The store of a job that passed its check has every pixel of its boxes: this does not happen.
     false
 }
 
