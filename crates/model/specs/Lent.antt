@@ -7,6 +7,7 @@ use lib.Dec.{leb, eqb}
 use lib.ListN.{length, getD}
 use Rattle.model.specs.Bounded.{allBelow, sumBelow}
 use Rattle.model.specs.Piece.{Shape, tight}
+pub use Rattle.model.specs.Piece.{sideBound}
 use Rattle.model.specs.Layout.{Job}
 use Rattle.model.specs.declared.JobSize.{JobSize}
 
@@ -25,7 +26,8 @@ lentBy size table pixels =
 
 -- ── document 01's limits ──
 
--- the most rows and columns of a sheet, pieces of a job, pixels along a box side, and the largest sum of turns
+-- the most rows and columns of a sheet, pieces of a job, and the largest sum of turns; the most pixels along a box side is Piece's
+-- `sideBound`
 abbrev pub rowBound : ℕ
 rowBound = 512
 
@@ -34,9 +36,6 @@ columnBound = 4096
 
 abbrev pub pieceBound : ℕ
 pieceBound = 64
-
-abbrev pub sideBound : ℕ
-sideBound = 255
 
 abbrev pub turnsBound : ℕ
 turnsBound = 15

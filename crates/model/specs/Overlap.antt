@@ -2,10 +2,10 @@
 -- has to be shifted until they do not. Umetani and Murakami (2021), equations 4 and 5, over sets of pixels. Assumes nothing.
 use mathlib.Core.Bool.{Bool, not, _&&_, _||_}
 use mathlib.Core.List.{List, map}
-use Prim.Native.Nat.{ℕ, suc, _+_, min}
+use Prim.Native.Nat.{ℕ, suc, _+_, _-_, min}
 use lib.IntN.{ℤ, pos, negsuc, subℕ}
 use Rattle.model.specs.Bounded.{anyBelow, firstFrom}
-use Rattle.model.specs.Piece.{Point, Shape, point, shift, extent, covers}
+use Rattle.model.specs.Piece.{Point, Shape, sideBound, point, shift, extent, covers}
 use Rattle.model.specs.Strip.{Run, runs}
 use Rattle.model.specs.declared.Direction.{Direction}
 use Rattle.model.specs.declared.Direction.the-variants.{Horizontal, Vertical}
@@ -33,9 +33,9 @@ penalty s u t v = min (depth Horizontal s u t v) (depth Vertical s u t v)
 
 -- ── no-fit rows and columns ──
 
--- the largest offset between two pieces that share a pixel; every offset lies between -offsetBound and offsetBound
+-- the largest offset between two pieces that share a pixel, 254; every offset lies between -offsetBound and offsetBound
 abbrev pub offsetBound : ℕ
-offsetBound = 254
+offsetBound = sideBound - 1
 
 -- how far an offset goes up, and how far down
 abbrev pub up : ℤ → ℕ

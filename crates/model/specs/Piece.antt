@@ -17,6 +17,10 @@ pub record Point : Type 0 where
   pub x : ℕ
   pub y : ℕ
 
+-- the most pixels along a box side
+abbrev pub sideBound : ℕ
+sideBound = 255
+
 -- a set of pixels in a box of so many columns and rows; what `has` says outside the box plays no part
 pub record Shape : Type 0 where
   pub columns : ℕ
