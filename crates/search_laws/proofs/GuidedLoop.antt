@@ -13,7 +13,7 @@ use borrow.Author.Tests.{lt-ltb, le-ltb}
 use lib.Dec.{ltb}
 use lib.ListN.{length, getD, set, length-set}
 use lib.Seq.{getD-set-same, getD-set-other, set-getD, ext-getD}
-use Rattle.model.specs.Layout.{Job, Layout, Pair, pairs, pairShares, plainSum}
+use Rattle.model.specs.Layout.{Job, Layout, Pair, pairOf, pairs, pairShares, plainSum}
 use Rattle.model.specs.Descent.{Descent, descend}
 use Rattle.model.specs.Guided.{weightBound, raisedOver, raised, Round, isClear, weightsAfter, roundFrom, rounds, bestOf, bestAfter, lastWeights, madeIn, movesIn, Guided, outcome, guide}
 use Rattle.model.specs.declared.End.{End}
@@ -21,7 +21,7 @@ use Rattle.model.specs.declared.End.the-variants.{Clear, Settled, Spent}
 use Rattle.descent_laws.proofs.Claims.{ValidWeights, ValidLayout, DescentClaims}
 use Rattle.descent_laws.proofs.Descent.{descent-claims}
 use Rattle.descent_laws.proofs.Guided.{raised-valid}
-use Rattle.search_laws.proofs.Pairs.{pairIndex, pairOf, pair-at, pair-below}
+use Rattle.search_laws.proofs.Pairs.{pairIndex, pair-at, pair-below}
 use Rattle.search_laws.proofs.PieceSum.{noPair}
 
 -- ── where the loop stands ──

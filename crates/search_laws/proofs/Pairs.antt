@@ -11,7 +11,7 @@ use native.Mathlib.Numerals.{add-one}
 use native.Mathlib.Omega.{arith}
 use lib.ListN.{length, getD, drop, length-append, List·getD-append}
 use lib.Seq.{drop-drop, drop-at, getD-drop}
-use Rattle.model.specs.Layout.{Pair, pairsWith, pairsFrom, pairs, firstPair}
+use Rattle.model.specs.Layout.{Pair, pairOf, pairsWith, pairsFrom, pairs, firstPair}
 use Rattle.model.specs.Lent.{pieceBound}
 use Rattle.descent_laws.proofs.Bounds.{pairs-length, pairs-at-most}
 
@@ -28,10 +28,6 @@ row-next n i = rw (add-one i)
 -- the position of the pair (i, k) among the pairs of n pieces
 abbrev pub pairIndex : ℕ → ℕ → ℕ → ℕ
 pairIndex n i k = rowStart n i + (k - suc i)
-
--- the pair of two numbers
-abbrev pub pairOf : ℕ → ℕ → Pair
-pairOf i k = record { first = i; second = k }
 
 -- ── the list of pairs ──
 

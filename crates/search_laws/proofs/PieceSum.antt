@@ -16,7 +16,7 @@ use lib.Seq.{getD-set-same, getD-set-other}
 use Rattle.model.specs.Bounded.{sumBelow}
 use Rattle.model.specs.Piece.{corner, onLine}
 use Rattle.model.specs.Overlap.{penalty}
-use Rattle.model.specs.Layout.{Job, Layout, Pair, turnedPiece, origin, placeOf, shapeIn, cornerIn, pairs, pairPenalty, names, sumOver, weightedSum, pieceSum}
+use Rattle.model.specs.Layout.{Job, Layout, Pair, pairOf, turnedPiece, origin, placeOf, shapeIn, cornerIn, pairs, pairPenalty, names, sumOver, weightedSum, pieceSum}
 use Rattle.model.specs.Search.{sumAt}
 use Rattle.model.specs.Guided.{weightBound}
 use Rattle.model.specs.Lent.{sideBound, pieceBound}
@@ -30,7 +30,7 @@ use Rattle.descent_laws.proofs.Claims.{ValidWeights}
 use Rattle.descent_laws.proofs.Sums.{pair-mem, piece-at-most, placed-anew}
 use Rattle.descent_laws.proofs.Bounds.{BoxesSmall, pair-penalty-at-most, sumBound, weighted-at-most}
 use Rattle.model.proofs.Sums.{sum-agree, sum-zero, sum-single, sum-add, sum-first, sum-bound, sum-grows, sum-changed, term-at-most, three-parts}
-use Rattle.search_laws.proofs.Pairs.{rowStart, pairIndex, pairOf, pair-at, pair-below, row-at, last-index}
+use Rattle.search_laws.proofs.Pairs.{rowStart, pairIndex, pair-at, pair-below, row-at, last-index}
 
 -- ── what is added ──
 

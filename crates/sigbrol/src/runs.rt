@@ -11,9 +11,9 @@ use interface::size_of;
 use placing::turn_or_zero;
 use search::SearchAnswer;
 ghost use mathlib.Core.Path.{_≡_};
-ghost use Rattle.model.specs.Buffer.{turnOf};
+ghost use Rattle.model.specs.Buffer.{turnOf, endNumber};
 ghost use Rattle.model.specs.Calls.{leaving, searchCall, descentCall, descentAfter, guidedCall, bestAfterRun, weightsAfterRun};
-ghost use Rattle.interface.specs.Numbers.{lentAs, lineOf, pieceWithTurn, endNumber};
+ghost use Rattle.interface.specs.Numbers.{lentAs, lineOf, pieceWithTurn};
 ghost use Rattle.interface.specs.Replies.{replyTo};
 
 // The best place of a piece on a line.

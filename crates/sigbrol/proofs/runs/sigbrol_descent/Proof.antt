@@ -1,10 +1,11 @@
 -- `sigbrol::runs::sigbrol_descent` meets its contract by what the answer tells. Assumes nothing.
 use mathlib.Core.Path.{_≡_, sym, _∙_}
+use Rattle.model.specs.Buffer.{endNumber}
 use Rattle.model.specs.Descent.{Descent}
 use Rattle.model.specs.Refusal.{Outcome}
 use Rattle.model.specs.Calls.{descentCall}
 use Rattle.descent.specs.Answers.{descentAnswer, endedOf}
-use Rattle.interface.specs.Numbers.{lentAs, endNumber}
+use Rattle.interface.specs.Numbers.{lentAs}
 use Rattle.sigbrol.proofs.Told.{reply-by, leaves-by, ended-told}
 use Rattle.sigbrol.proofs.runs.sigbrol_descent.Statement.{statement}
 use Rattle.sigbrol.proofs.runs.sigbrol_descent.Tie as tie
