@@ -14,7 +14,7 @@ use Rattle.model.specs.Layout.{Job, Layout, turnedPiece, shapeIn, cornerIn, pla
 use Rattle.model.specs.Buffer.{layoutOf}
 use Rattle.model.specs.Lent.{Lent, jobOf, lentWell}
 use Rattle.model.specs.Refusal.{given, Cause, cause, unless, noSuchPiece}
-use Rattle.model.specs.Calls.{jobCause, layoutLength, outsideCause, someTurnWrong, pairCauses, pairOf, LentStretch, known, noFitOf, shareCall, depthCall, penaltyCall, noFitCall, layoutCauses, weightedSumCall, plainSumCall}
+use Rattle.model.specs.Calls.{jobCause, layoutLength, outsideCause, someTurnWrong, pairCauses, LentStretch, known, noFitOf, shareCall, depthCall, penaltyCall, noFitCall, layoutCauses, weightedSumCall, plainSumCall}
 use Rattle.model.specs.declared.Direction.{Direction}
 use Rattle.model.specs.declared.Direction.the-variants.{Horizontal}
 use Rattle.model.proofs.Tests.{and-left, and-right, or-neither, same-tests}

@@ -44,7 +44,7 @@ program-prints input l few e =
     record {
       run = program-run-given l well;
       text = program-reads input few ∙ ap printed e;
-      claims = lent-demand3 l well .guidedRuns programBudget programRounds;
+      claims = lent-demand3 l well .guidedRuns programRounds programBudget;
     }
 
 -- a job that the reader refuses prints its refusal

@@ -24,7 +24,7 @@ use Rattle.model.specs.LayoutText.{layoutText, readLayout}
 use Rattle.model.specs.Program.{printed, programText}
 use Rattle.model.specs.Calls.{someTurnWrong, someOutside, someWeightWrong, turnListWrong, Stores, storesOf, storesShort, storesWell, storesAfter, stripsCall}
 use Rattle.model.specs.Calls.{stretchOf, stretchCall, stretchGiven, stretchNumber, LentStretch, known, stretchWell, noFitOf, noFitCall, runsAfter}
-use Rattle.model.specs.Calls.{rebuiltFrom, stripsWell, rebuildCall, pixelsAfter, pairOf, shareCall, depthCall, penaltyCall, weightedSumCall, plainSumCall}
+use Rattle.model.specs.Calls.{rebuiltFrom, stripsWell, rebuildCall, pixelsAfter, shareCall, depthCall, penaltyCall, weightedSumCall, plainSumCall}
 use Rattle.model.specs.Calls.{usedLengthCall, bestPlace, searchCall, budgetBound, roundBound, descentCall, descentAfter, guidedCall, bestAfterRun, weightsAfterRun}
 use Rattle.model.specs.Calls.{tableAfter, storeAfter, layoutAfter, writeLayoutCall, textAfter, readLayoutCall, startCall, sharedCause, checkCall}
 use Rattle.model.specs.Calls.{freshCall, countsAfter, layCall, withdrawCall}
@@ -33,6 +33,7 @@ use Rattle.model.specs.declared.Direction.{Direction}
 use Rattle.model.specs.declared.Line.{Line}
 use Rattle.model.specs.declared.Placement.{Placement}
 use Rattle.model.specs.declared.Refusal.{Refusal}
+use Rattle.model.specs.Layout.{pairOf}
 use Rattle.call_laws.specs.Clause.{CallClaims, BufferClaims, Answers}
 
 -- one clause a public call, in document 01's order, the program last

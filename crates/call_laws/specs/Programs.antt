@@ -19,5 +19,5 @@ pub record Prints (input : List ℕ) (l : Lent) : Type 0 where
   pub run : guidedCall l (entriesOf (start (jobOf l))) (unitWeights (jobOf l .count)) programRounds programBudget ≡ given (programRun (jobOf l))
   pub text : programText input ≡ runText (jobOf l) (programRun (jobOf l))
   -- demand 3's claims hold of the run
-  pub claims : GuidedClaims (jobOf l) (unitWeights (jobOf l .count)) programBudget programRounds (start (jobOf l))
-      (rounds (jobOf l) programBudget programRounds (unitWeights (jobOf l .count)) (start (jobOf l))) (programRun (jobOf l))
+  pub claims : GuidedClaims (jobOf l) (unitWeights (jobOf l .count)) programRounds programBudget (start (jobOf l))
+      (rounds (jobOf l) programRounds programBudget (unitWeights (jobOf l .count)) (start (jobOf l))) (programRun (jobOf l))

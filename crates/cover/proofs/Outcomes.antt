@@ -13,7 +13,7 @@ use Rattle.model.specs.Bounded.{one-if}
 use Rattle.model.specs.Layout.{Job, inside}
 use Rattle.model.specs.Lent.{Lent, jobOf, lentWell}
 use Rattle.model.specs.Refusal.{Outcome, refused, given, Cause, cause, unless, notOurs}
-use Rattle.model.specs.Calls.{sheetCauses, freshCall}
+use Rattle.model.specs.Calls.{sheetCauses, freshCall, countsAfter}
 use Rattle.model.specs.Cover.{Sheet, entryIn, mapFrom, coversPixel, fresh, lay, withdraw, layCauses, withdrawCauses, called, sheetWell}
 use Rattle.model.specs.declared.Placement.{Placement}
 use Rattle.model.specs.declared.Entry.{Entry}
@@ -23,7 +23,7 @@ use Rattle.cover_laws.proofs.Calls.{Absent, absent-given, LayTaken, WithdrawTak
 use Rattle.cover_laws.proofs.Counts.{LaidWell}
 use Rattle.cover_laws.proofs.Reached.{well-sound}
 use Rattle.stamp.specs.Stamp.{moved, movedBy}
-use Rattle.cover.specs.Answers.{recordOf, plainRefusal, firstNumber, bufferCauses, givenAnswer, answerBy, sheetAnswer, countsAfter}
+use Rattle.cover.specs.Answers.{recordOf, plainRefusal, firstNumber, bufferCauses, givenAnswer, answerBy, sheetAnswer}
 use Rattle.cover.specs.Ready.{SheetReady}
 use Rattle.cover.specs.declared.SheetAnswer.{SheetAnswer}
 use Rattle.sheet_check.proofs.Recounts.{moved-up, moved-down}

@@ -1,4 +1,4 @@
--- What the calls on a sheet answer: document 01's outcome as a reply with the sheet record beside it, and what the count buffer holds.
+-- What the calls on a sheet answer: document 01's outcome as a reply with the sheet record beside it.
 -- On a refusal the record is the one that was passed, and of a fresh sheet the blank one. Assumes nothing.
 use mathlib.Core.Bool.{true, false}
 use mathlib.Core.List.{List, [], _∷_}
@@ -7,7 +7,7 @@ use lib.Dec.{eqb}
 use lib.ListN.{set, replicate}
 use Rattle.model.specs.Lent.{Lent, pieceBound}
 use Rattle.model.specs.Refusal.{Outcome, refused, given, Cause}
-use Rattle.model.specs.Calls.{leaving, jobCause, countsLength}
+use Rattle.model.specs.Calls.{jobCause, countsLength}
 use Rattle.model.specs.Cover.{Sheet, blank}
 use Rattle.model.specs.declared.Entry.{Entry}
 use Rattle.model.specs.declared.Record.{Record}
@@ -61,7 +61,3 @@ answerBy number r =
 abbrev pub sheetAnswer : Record → Outcome Sheet → SheetAnswer
 sheetAnswer before (refused r) = record { reply = Refused r; sheet = before }
 sheetAnswer before (given s) = givenAnswer (recordOf s)
-
--- what the count buffer holds after a call
-abbrev pub countsAfter : List ℕ → Outcome Sheet → List ℕ
-countsAfter before o = leaving (λ s. s .counts) before o

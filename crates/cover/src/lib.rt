@@ -8,8 +8,8 @@ use model::Refusal;
 ghost use mathlib.Core.Path.{_≡_};
 ghost use lib.ListN.{length};
 ghost use Rattle.model.specs.Lent.{lentBy};
-ghost use Rattle.model.specs.Calls.{freshCall, layCall, withdrawCall};
-ghost use Rattle.cover.specs.Answers.{sheetOf, blankRecord, sheetAnswer, countsAfter};
+ghost use Rattle.model.specs.Calls.{freshCall, layCall, withdrawCall, countsAfter};
+ghost use Rattle.cover.specs.Answers.{sheetOf, blankRecord, sheetAnswer};
 
 mod record;
 mod refusals;

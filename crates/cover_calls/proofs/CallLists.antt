@@ -14,7 +14,7 @@ use Rattle.model.specs.Layout.{Job}
 use Rattle.model.specs.Lent.{Lent, jobOf, lentWell}
 use Rattle.model.specs.Buffer.{placement}
 use Rattle.model.specs.Refusal.{Outcome, refused, given, Cause, refusalOf, unless}
-use Rattle.model.specs.Calls.{layCall, withdrawCall, freshCall}
+use Rattle.model.specs.Calls.{layCall, withdrawCall, freshCall, countsAfter}
 use Rattle.model.specs.Cover.{Sheet, fresh, lay, withdraw, layCauses, withdrawCauses, Call, laying, withdrawing, called, afterwards, afterCalls}
 use Rattle.model.specs.declared.Placement.{Placement}
 use Rattle.model.specs.declared.Record.{Record}
@@ -23,7 +23,7 @@ use Rattle.cover_laws.proofs.Calls.{Absent, absent-given}
 use Rattle.cover_laws.proofs.Counts.{fresh-sound}
 use Rattle.cover_laws.proofs.Reached.{well-sound}
 use Rattle.cover_laws.proofs.Effects.{fresh-well, call-well}
-use Rattle.cover.specs.Answers.{sheetOf, recordOf, blankRecord, givenAnswer, sheetAnswer, countsAfter, bufferCauses}
+use Rattle.cover.specs.Answers.{sheetOf, recordOf, blankRecord, givenAnswer, sheetAnswer, bufferCauses}
 use Rattle.cover.specs.Ready.{SheetReady}
 use Rattle.cover.specs.declared.Reply.the-variants.{Given, Refused}
 use Rattle.cover.specs.declared.SheetAnswer.{SheetAnswer}

@@ -27,15 +27,15 @@ atColumn : ℕ → Placement
 atColumn x = record { turn = Zero; x = record { 0 = x }; y = record { 0 = 0 } }
 
 -- the counts after a list of calls
-countsAfter : List Call → List ℕ
-countsAfter cs = afterCalls twoSquares (fresh twoSquares) cs .counts
+countsLeft : List Call → List ℕ
+countsLeft cs = afterCalls twoSquares (fresh twoSquares) cs .counts
 
 -- two pieces laid, the second one again elsewhere, which is refused: they share column 1
-laid-twice : countsAfter (laying 0 (atColumn 0) ∷ laying 1 (atColumn 1) ∷ laying 1 (atColumn 0) ∷ []) ≡ 1 ∷ 2 ∷ 1 ∷ 1 ∷ 2 ∷ 1 ∷ []
-unfolding countsAfter twoSquares atColumn coversPixel mapFrom fresh lay withdraw layCauses withdrawCauses called afterCalls unless inside allows
+laid-twice : countsLeft (laying 0 (atColumn 0) ∷ laying 1 (atColumn 1) ∷ laying 1 (atColumn 0) ∷ []) ≡ 1 ∷ 2 ∷ 1 ∷ 1 ∷ 2 ∷ 1 ∷ []
+unfolding countsLeft twoSquares atColumn coversPixel mapFrom fresh lay withdraw layCauses withdrawCauses called afterCalls unless inside allows
 laid-twice = refl
 
 -- the first one withdrawn, and once more, which is refused: the second one's count stays
-withdrawn-twice : countsAfter (laying 0 (atColumn 0) ∷ laying 1 (atColumn 1) ∷ withdrawing 0 ∷ withdrawing 0 ∷ []) ≡ 0 ∷ 1 ∷ 1 ∷ 0 ∷ 1 ∷ 1 ∷ []
-unfolding countsAfter twoSquares atColumn coversPixel mapFrom fresh lay withdraw layCauses withdrawCauses called afterCalls unless inside allows
+withdrawn-twice : countsLeft (laying 0 (atColumn 0) ∷ laying 1 (atColumn 1) ∷ withdrawing 0 ∷ withdrawing 0 ∷ []) ≡ 0 ∷ 1 ∷ 1 ∷ 0 ∷ 1 ∷ 1 ∷ []
+unfolding countsLeft twoSquares atColumn coversPixel mapFrom fresh lay withdraw layCauses withdrawCauses called afterCalls unless inside allows
 withdrawn-twice = refl

@@ -14,5 +14,5 @@ demand3 j ws v some weights layout =
     record {
       trialsListed = trials-claims j;
       descents = λ budget. descent-claims j ws budget v some weights layout;
-      guidedRuns = λ budget K. guided-claims j ws budget K v some weights layout;
+      guidedRuns = λ K budget. guided-claims j ws K budget v some weights layout;
     }

@@ -10,8 +10,6 @@ use Rattle.model.specs.declared.Direction.{Direction}
 use Rattle.model.specs.declared.Direction.the-variants.{Horizontal, Vertical}
 use Rattle.model.specs.declared.Line.{Line}
 use Rattle.model.specs.declared.Line.the-variants.{InRow, InColumn}
-use Rattle.model.specs.declared.End.{End}
-use Rattle.model.specs.declared.End.the-variants.{Clear, Settled, Spent}
 
 -- the job that the numbers, the table and the pixels lend
 abbrev pub lentAs : ℕ → ℕ → ℕ → List (List ℕ) → List ℕ → Lent
@@ -30,9 +28,3 @@ lineOf vertical held =
 -- the piece's number, or one that no piece has where the degrees are no turn's: no piece is allowed such a turn
 abbrev pub pieceWithTurn : ℕ → ℕ → ℕ
 pieceWithTurn degrees i = elim (isTurn degrees) [ true ↦ i | false ↦ pieceBound ]
-
--- how a descent ended
-abbrev pub endNumber : End → ℕ
-endNumber Clear = 0
-endNumber Settled = 1
-endNumber Spent = 2

@@ -12,8 +12,8 @@ use model::Row;
 use placing::TurnAnswer;
 ghost use mathlib.Core.Path.{_≡_};
 ghost use Rattle.model.specs.Piece.{coordinateNumber};
-ghost use Rattle.model.specs.Buffer.{placement};
-ghost use Rattle.interface.specs.Numbers.{directionOf, lineOf, pieceWithTurn, endNumber};
+ghost use Rattle.model.specs.Buffer.{placement, endNumber};
+ghost use Rattle.interface.specs.Numbers.{directionOf, lineOf, pieceWithTurn};
 ghost use Rattle.interface.specs.Replies.{done, refusedBy};
 
 pub mod record;

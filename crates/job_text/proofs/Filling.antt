@@ -12,7 +12,7 @@ use Rattle.model.specs.Refusal.{Outcome, refused, given, cause, unless, wrongFo
 use Rattle.model.specs.Lent.{Lent}
 use Rattle.model.specs.Piece.{tight}
 use Rattle.model.specs.Text.{andThen, causeIn}
-use Rattle.model.specs.JobText.{JobLine, PieceLine, Rows, rowsAt, boxShape, PieceText, rowsCauses, asPieceText, pieceLine, pieceAt, Pieces, withPiece, noPieces, piecesAt, asLent, bufferCauses, jobLine, readJob}
+use Rattle.model.specs.JobText.{JobLine, PieceLine, pixelMark, Rows, rowsAt, boxShape, PieceText, rowsCauses, asPieceText, pieceLine, pieceAt, Pieces, withPiece, noPieces, piecesAt, asLent, bufferCauses, jobLine, readJob}
 use Rattle.model.specs.declared.Refusal.{Refusal}
 use borrow.Author.Tests.{eq-eqb, ne-eqb}
 use Rattle.text_laws.specs.Outcomes.{Unless}
@@ -39,9 +39,9 @@ use Rattle.row_lines.proofs.Marks.{rows-facts}
 
 -- a box is tight in the store exactly when it is in the text
 pub box-same : (text : List ℕ) (l w p line : ℕ) (r : Rows) → 0 < l → 0 < w → rowsAt text l w p line ≡ given r
-    → tight (boxShape l w (r .pixels)) ≡ tight (boxIn 35 text (p + 4) (l + 5) l w)
+    → tight (boxShape l w (r .pixels)) ≡ tight (boxIn pixelMark text (p + 4) (l + 5) l w)
 box-same text l w p line r hl hw e =
-    tight-agree (boxShape l w (r .pixels)) (boxIn 35 text (p + 4) (l + 5) l w)
+    tight-agree (boxShape l w (r .pixels)) (boxIn pixelMark text (p + 4) (l + 5) l w)
     (record { columns = refl; rows = refl; wide = hl; high = hw; has = rows-facts text l w p line r e .pixel })
 
 -- what an answer says of row lines

@@ -15,7 +15,7 @@ use Rattle.call_laws.proofs.Jobs.{lent-sheet, lent-turned-small, lent-tight}
 use Rattle.penalty_line.specs.declared.Pair.{Pair}
 use Rattle.penalty_line.specs.Line.{penaltyAt, penaltyLine, Reach, Boxed}
 use Rattle.penalty_line.proofs.Lines.{values-at}
-use Rattle.penalty_line.proofs.Sets.{pairOf, line-penalty, line-boxed}
+use Rattle.penalty_line.proofs.Sets.{biasedPair, line-penalty, line-boxed}
 use Rattle.shapes.specs.Shapes.{shapeNumber, Held, Shapes, StripsOf}
 use Rattle.lines.specs.declared.Two.{Two}
 use Rattle.lines.specs.Kept.{middle, linePlaces, lineAt}
@@ -121,7 +121,7 @@ module _ (l : Lent) (d : Direction) (store : List (List ℕ)) (starts : List ℕ
     where
       -- the line of the two
       abbrev pair : Pair
-      pair = pairOf (la - 1) middle (two .offset)
+      pair = biasedPair (la - 1) middle (two .offset)
 
       -- the places are those at which the boxes meet
       line-places : n ≡ linePlaces d (movedShape l two) (standingShape l two)

@@ -1,6 +1,6 @@
 -- How turns, placements, strips, runs and pixels stand in lent buffers: a turn as its degrees, a placement as three numbers
--- (degrees, x, y), a strip as three numbers (line, first, count), a run of offsets as two (first, count), a pixel as 1 or 0.
--- Assumes nothing.
+-- (degrees, x, y), a strip as three numbers (line, first, count), a run of offsets as two (first, count), a pixel as 1 or 0,
+-- and how a descent ended as one number. Assumes nothing.
 use mathlib.Core.Bool.{Bool, true, false, _&&_}
 use mathlib.Core.List.{List, [], _∷_, _++_, map}
 use mathlib.Core.Option.{Option, none, some}
@@ -16,6 +16,8 @@ use Rattle.model.specs.Layout.{Layout}
 use Rattle.model.specs.declared.Turn.{Turn}
 use Rattle.model.specs.declared.Turn.the-variants.{Zero, Quarter, Half, ThreeQuarters}
 use Rattle.model.specs.declared.Placement.{Placement}
+use Rattle.model.specs.declared.End.{End}
+use Rattle.model.specs.declared.End.the-variants.{Clear, Settled, Spent}
 
 -- ── turns ──
 
@@ -87,6 +89,14 @@ bytesFrom s k (suc left) = one-if (s .has (k % s .columns) (k / s .columns)) ∷
 -- the bytes of a set, as the pixel store holds them
 abbrev pub bytesOf : Shape → List ℕ
 bytesOf s = bytesFrom s 0 (s .columns * s .rows)
+
+-- ── how a descent ended ──
+
+-- the end of a descent as a number
+abbrev pub endNumber : End → ℕ
+endNumber Clear = 0
+endNumber Settled = 1
+endNumber Spent = 2
 
 -- ── lists ──
 

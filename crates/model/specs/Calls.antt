@@ -35,7 +35,7 @@ use Rattle.model.specs.Bounded.{anyBelow}
 use Rattle.model.specs.Piece.{Shape, tight, sideBound}
 use Rattle.model.specs.Strip.{strips, rebuilt}
 use Rattle.model.specs.Overlap.{OffsetRun, noFit}
-use Rattle.model.specs.Layout.{Job, Layout, Pair, pairs, turnedPiece, allowed, inside, placeOf, pairShares, pairPenalty, pairDepth, weightedSum, plainSum, usedLength, sharingPair}
+use Rattle.model.specs.Layout.{Job, Layout, Pair, pairOf, pairs, turnedPiece, allowed, inside, placeOf, pairShares, pairPenalty, pairDepth, weightedSum, plainSum, usedLength, sharingPair}
 use Rattle.model.specs.Search.{Best, places, searchLine}
 use Rattle.model.specs.Descent.{Descent, descend}
 use Rattle.model.specs.Guided.{Guided, guide, weightBound}
@@ -247,10 +247,6 @@ pairCause l es i k =
 -- the causes of a call on a pair of a layout: 8, 7, 9, 10
 unfoldable pub pairCauses : Lent → List (List ℕ) → ℕ → ℕ → List Cause
 pairCauses l es i k = jobCause l ∷ layoutLength l es ∷ pairCause l es i k ∷ outsideCause l es ∷ []
-
--- the pair of two piece numbers, in the order in which they are named
-abbrev pub pairOf : ℕ → ℕ → Pair
-pairOf i k = record { first = i; second = k }
 
 -- the shared-pixel test
 unfoldable pub shareCall : Lent → List (List ℕ) → ℕ → ℕ → Outcome Bool

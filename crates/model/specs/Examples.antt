@@ -6,7 +6,7 @@ use mathlib.Core.Path.{_≡_, refl}
 use Prim.Native.Nat.{ℕ, suc}
 use lib.Dec.{eqb}
 use lib.IntN.{ℤ, pos, negsuc}
-use Rattle.model.specs.Buffer.{sameNumbers}
+use Rattle.model.specs.Buffer.{endNumber, sameNumbers}
 use Rattle.model.specs.Piece.{Point, Shape, Piece, pixel, turned}
 use Rattle.model.specs.Strip.{Strip, strips, runsFrom, stripsFrom}
 use Rattle.model.specs.Overlap.{OffsetRun, noFit, noFitAt, share, apartAt, depth, penalty}
@@ -17,8 +17,6 @@ use Rattle.model.specs.declared.Turn.the-variants.{Zero, Quarter, Half}
 use Rattle.model.specs.declared.Direction.the-variants.{Horizontal, Vertical}
 use Rattle.model.specs.declared.Line.the-variants.{InRow}
 use Rattle.model.specs.declared.Placement.{Placement}
-use Rattle.model.specs.declared.End.{End}
-use Rattle.model.specs.declared.End.the-variants.{Clear, Settled, Spent}
 
 -- ── answers written out as numbers ──
 
@@ -41,12 +39,6 @@ flatRuns (r ∷ rs) = signed (r .first) (r .count ∷ flatRuns rs)
 flatBest : Option Best → List ℕ
 flatBest none = []
 flatBest (some b) = b .sum ∷ b .at ∷ []
-
--- a descent's end as a number
-endNumber : End → ℕ
-endNumber Clear = 0
-endNumber Settled = 1
-endNumber Spent = 2
 
 -- a descent written out: end, sum, trials, moves
 flatDescent : Descent → List ℕ
@@ -137,5 +129,5 @@ examples = P1 && P2 && P3 && P4 && P5 && P6 && P7 && P8 && P9 && P10 && P11 && P
 
 -- P1 to P12 hold of the definitions
 pub examples-hold : examples ≡ true
-unfolding examples P1 P2 P3 P4 P5 P6 P7 P8 P9 P10 P11 P12 sameNumbers flatStrips signed flatRuns flatBest endNumber flatDescent shapeA shapeB shapeD shapeE at place twoSquares measures descentOf runsFrom stripsFrom noFitAt noFit share apartAt depth penalty pairsWith pairsFrom pairPenalty sumOver weightedSum pieceSum inside places sumAt least searchLine turnTrials pieceTrials trialsFrom trials attempt descendFrom descend Rattle.model.specs.Piece.allows
+unfolding examples P1 P2 P3 P4 P5 P6 P7 P8 P9 P10 P11 P12 sameNumbers flatStrips signed flatRuns flatBest flatDescent shapeA shapeB shapeD shapeE at place twoSquares measures descentOf runsFrom stripsFrom noFitAt noFit share apartAt depth penalty pairsWith pairsFrom pairPenalty sumOver weightedSum pieceSum inside places sumAt least searchLine turnTrials pieceTrials trialsFrom trials attempt descendFrom descend Rattle.model.specs.Piece.allows
 examples-hold = refl

@@ -83,11 +83,19 @@ pieceLine text j i area p line =
 
 -- ── row lines ──
 
+-- the mark `#`, a pixel
+abbrev pub pixelMark : ℕ
+pixelMark = 35
+
+-- the mark `.`, none
+abbrev pub emptyMark : ℕ
+emptyMark = 46
+
 -- the pixel byte of a mark, `#` pixel, `.` none
 unfoldable pub markAt : List ℕ → ℕ → Reading ℕ
 markAt text p =
-    elim (eqb (byte text p) 35)
-    [ true ↦ got 1 (suc p) | false ↦ elim (eqb (byte text p) 46) [ true ↦ got 0 (suc p) | false ↦ wrong ] ]
+    elim (eqb (byte text p) pixelMark)
+    [ true ↦ got 1 (suc p) | false ↦ elim (eqb (byte text p) emptyMark) [ true ↦ got 0 (suc p) | false ↦ wrong ] ]
 
 -- the pixel bytes of `left` marks from position p on
 unfoldable pub marksAt : List ℕ → ℕ → ℕ → Reading (List ℕ)

@@ -65,10 +65,14 @@ pub record Pair : Type 0 where
   pub first : ℕ
   pub second : ℕ
 
+-- the pair of two piece numbers, in the order in which they are named
+abbrev pub pairOf : ℕ → ℕ → Pair
+pairOf i k = record { first = i; second = k }
+
 -- the pairs (i, k), (i, k + 1), .. of the next `left` numbers
 unfoldable pub pairsWith : ℕ → ℕ → ℕ → List Pair
 pairsWith i k zero = []
-pairsWith i k (suc left) = record { first = i; second = k } ∷ pairsWith i (suc k) left
+pairsWith i k (suc left) = pairOf i k ∷ pairsWith i (suc k) left
 
 -- the pairs whose first number is one of the next `left` from i on, where i + left pieces are there
 unfoldable pub pairsFrom : ℕ → ℕ → List Pair

@@ -9,7 +9,7 @@ use lib.Dec.{ltb, leb}
 use lib.ListN.{length}
 use Rattle.model.specs.Piece.{Point, Shape, corner, along, extent}
 use Rattle.model.specs.Overlap.{share}
-use Rattle.model.specs.Layout.{Layout, turnedPiece, inside, placeOf, pairShares}
+use Rattle.model.specs.Layout.{Layout, turnedPiece, inside, placeOf, pairOf, pairShares}
 use Rattle.model.specs.Lent.{Lent, jobOf, pieceBound}
 use Rattle.model.specs.Buffer.{layoutOf}
 use Rattle.model.specs.declared.Direction.{Direction}
@@ -23,7 +23,6 @@ use Rattle.overlap.specs.declared.Corner.{Corner}
 use Rattle.overlap.specs.Seen.{seen}
 use Rattle.overlap.proofs.Shapes.{entries-share, entries-penalty}
 use Rattle.search_laws.proofs.Covering.{share-boxes}
-use Rattle.search_laws.specs.Pairs.{pairOf}
 use Rattle.search_laws.specs.PieceSum.{penaltyPlaced}
 use Rattle.shapes.specs.Shapes.{Shapes, StripsOf}
 use Rattle.shapes.proofs.Jobs.{sheet}

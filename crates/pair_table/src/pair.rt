@@ -10,12 +10,11 @@ ghost use lib.Dec.{ltb};
 ghost use lib.ListN.{length};
 ghost use Rattle.model.specs.Piece.{corner};
 ghost use Rattle.model.specs.Lent.{lentBy, jobOf};
-ghost use Rattle.model.specs.Layout.{pairShares};
+ghost use Rattle.model.specs.Layout.{pairOf, pairShares};
 ghost use Rattle.model.specs.Buffer.{layoutOf};
 ghost use Rattle.model.specs.declared.JobSize.{JobSize};
 ghost use Rattle.model.specs.declared.Direction.{Direction};
 ghost use Rattle.overlap.specs.Seen.{seen};
-ghost use Rattle.search_laws.specs.Pairs.{pairOf};
 ghost use Rattle.search_laws.specs.PieceSum.{penaltyPlaced};
 ghost use Rattle.pair_table.specs.Drawn.{RowsDrawn, SomeRowsDrawn, Drawn, SomeDrawn, shareAt, OnSheet};
 

@@ -62,11 +62,13 @@ fn write_run(
     ensures { λ r. ⌜ Written (now (text .entry)) 0 (runText (jobOf (lentBy size (now (table .entry)) (now (pixels .entry)))) (runWith run (layoutOf (now (layout .entry))))) outputBound r (now (text .exit)) ⌝ }
 {
     let LengthAnswer::Length(used) = placing::used_length(size, table, pixels, layout) else {
+        // The layout has no cause of refusal: this does not happen.
         return 0;
     };
     let TextAnswer::Written(next) = layout_writer::write_layout(size, table, pixels, layout, text)
     // The layout has no cause of refusal: this does not happen.
     else {
+        // It has none, and the buffer has room for its text: this does not happen.
         return 0;
     };
     put_end_line(text, next, run, used)

@@ -12,7 +12,7 @@ use lib.Seq.{sets, getD-append-add}
 use borrow.Author.Tests.{eqb-true, eqb-false}
 use Rattle.model.specs.Refusal.{Outcome, refused, given, wrongForm}
 use Rattle.model.specs.Text.{byte, Reading, wrong, got, onward, after, standsAt, lineEnd, formed, andThen}
-use Rattle.model.specs.JobText.{rowWord, markAt, marksAt, rowAt, Rows, rowsAt}
+use Rattle.model.specs.JobText.{rowWord, pixelMark, emptyMark, markAt, marksAt, rowAt, Rows, rowsAt}
 use Rattle.model.proofs.Tests.{decided, clash}
 use Rattle.text_laws.proofs.Outcomes.{wrong-got, refused-given, Onward, got-onward, got-after, given-formed, given-before}
 use Rattle.fields.proofs.Steps.{byte-inside, after-not, after-word, one-not, one-stands}
@@ -39,7 +39,7 @@ mark-one p false false h = absurd (omega arith)
 
 pub mark-read : (text : List ℕ) (p : ℕ) → markBit (byte text p) ≤ 1 → markAt text p ≡ got (markBit (byte text p)) (suc p)
 unfolding markAt
-mark-read text p h = mark-one p (eqb (byte text p) 35) (eqb (byte text p) 46) h
+mark-read text p h = mark-one p (eqb (byte text p) pixelMark) (eqb (byte text p) emptyMark) h
 
 -- another byte is wrong
 mark-not : (p : ℕ) (pixel none : Bool) → 1 < bit pixel none → mark p pixel none ≡ wrong
@@ -49,12 +49,12 @@ mark-not p false false h = refl
 
 pub mark-none : (text : List ℕ) (p : ℕ) → 1 < markBit (byte text p) → markAt text p ≡ wrong
 unfolding markAt
-mark-none text p h = mark-not p (eqb (byte text p) 35) (eqb (byte text p) 46) h
+mark-none text p h = mark-not p (eqb (byte text p) pixelMark) (eqb (byte text p) emptyMark) h
 
 -- what a mark that is read tells
 record Mark (text : List ℕ) (p m q : ℕ) : Type 0 where
   next : q ≡ suc p
-  pixel : eqb m 1 ≡ eqb (byte text p) 35
+  pixel : eqb m 1 ≡ eqb (byte text p) pixelMark
 
 mark-told : (p m q : ℕ) (pixel none : Bool) → mark p pixel none ≡ got m q → (q ≡ suc p) × (eqb m 1 ≡ pixel)
 mark-told p m q true none e = let z : _≡_ {A = ℕ} 1 m = cc in let y : suc p ≡ q = cc in (sym y, rw (← z) refl)
@@ -64,7 +64,7 @@ mark-told p m q false false e = absurd (wrong-got e)
 mark-facts : (text : List ℕ) (p m q : ℕ) → markAt text p ≡ got m q → Mark text p m q
 unfolding markAt
 mark-facts text p m q e =
-    let t = mark-told p m q (eqb (byte text p) 35) (eqb (byte text p) 46) e in
+    let t = mark-told p m q (eqb (byte text p) pixelMark) (eqb (byte text p) emptyMark) e in
     record { next = t .0; pixel = t .1 }
 
 -- ── marks ──
@@ -128,14 +128,14 @@ stored-lost at before last r (got ms q) h e = absurd (clash (h .0) e)
 pub record Marks (text : List ℕ) (p n : ℕ) (ms : List ℕ) (q : ℕ) : Type 0 where
   pub next : q ≡ p + n
   pub size : length ms ≡ n
-  pub pixel : (k : ℕ) → k < n → eqb (getD ms k 0) 1 ≡ eqb (byte text (p + k)) 35
+  pub pixel : (k : ℕ) → k < n → eqb (getD ms k 0) 1 ≡ eqb (byte text (p + k)) pixelMark
 
-marks-first : (text : List ℕ) (p n m : ℕ) (ms : List ℕ) (q : ℕ) → eqb m 1 ≡ eqb (byte text p) 35 → Marks text (suc p) n ms q → Marks text p (suc n) (m ∷ ms) q
+marks-first : (text : List ℕ) (p n m : ℕ) (ms : List ℕ) (q : ℕ) → eqb m 1 ≡ eqb (byte text p) pixelMark → Marks text (suc p) n ms q → Marks text p (suc n) (m ∷ ms) q
 marks-first text p n m ms q e h = record { next = let a = h .next in omega arith; size = ap suc (h .size); pixel = at }
   where
-    at : (k : ℕ) → k < suc n → eqb (getD (m ∷ ms) k 0) 1 ≡ eqb (byte text (p + k)) 35
-    at zero l = e ∙ ap (λ (i : ℕ). eqb (byte text i) 35) (sym (add-zero p))
-    at (suc k) l = h .pixel k (omega arith) ∙ ap (λ (i : ℕ). eqb (byte text i) 35) (omega arith)
+    at : (k : ℕ) → k < suc n → eqb (getD (m ∷ ms) k 0) 1 ≡ eqb (byte text (p + k)) pixelMark
+    at zero l = e ∙ ap (λ (i : ℕ). eqb (byte text i) pixelMark) (sym (add-zero p))
+    at (suc k) l = h .pixel k (omega arith) ∙ ap (λ (i : ℕ). eqb (byte text i) pixelMark) (omega arith)
 
 pub marks-facts : (text : List ℕ) (left p : ℕ) (ms : List ℕ) (q : ℕ) → marksAt text left p ≡ got ms q → Marks text p left ms q
 unfolding marksAt
@@ -214,7 +214,7 @@ pub record Row (text : List ℕ) (p l : ℕ) (ms : List ℕ) (q : ℕ) : Type 0 
   pub next : q ≡ p + (l + 5)
   pub size : length ms ≡ l
   pub inside : q ≤ length text
-  pub pixel : (k : ℕ) → k < l → eqb (getD ms k 0) 1 ≡ eqb (byte text (p + 4 + k)) 35
+  pub pixel : (k : ℕ) → k < l → eqb (getD ms k 0) 1 ≡ eqb (byte text (p + 4 + k)) pixelMark
 
 pub row-facts : (text : List ℕ) (l p : ℕ) (ms : List ℕ) (q : ℕ) → rowAt text l p ≡ got ms q → Row text p l ms q
 unfolding rowAt
@@ -314,7 +314,7 @@ pub record RowLines (text : List ℕ) (p l w : ℕ) (r : Rows) : Type 0 where
   pub next : r .next ≡ p + w * (l + 5)
   pub size : length (r .pixels) ≡ w * l
   pub inside : p ≤ length text → r .next ≤ length text
-  pub pixel : (x y : ℕ) → x < l → y < w → eqb (getD (r .pixels) (y * l + x) 0) 1 ≡ eqb (byte text (p + 4 + (y * (l + 5) + x))) 35
+  pub pixel : (x y : ℕ) → x < l → y < w → eqb (getD (r .pixels) (y * l + x) 0) 1 ≡ eqb (byte text (p + 4 + (y * (l + 5) + x))) pixelMark
 
 rows-first : (text : List ℕ) (p l w : ℕ) (ms : List ℕ) (q : ℕ) (r : Rows) → Row text p l ms q → RowLines text q l w r
     → RowLines text p l (suc w) (record { pixels = ms ++ r .pixels; next = r .next })
@@ -326,7 +326,7 @@ rows-first text p l w ms q r h k =
       pixel = at;
     }
   where
-    at : (x y : ℕ) → x < l → y < suc w → eqb (getD (ms ++ r .pixels) (y * l + x) 0) 1 ≡ eqb (byte text (p + 4 + (y * (l + 5) + x))) 35
+    at : (x y : ℕ) → x < l → y < suc w → eqb (getD (ms ++ r .pixels) (y * l + x) 0) 1 ≡ eqb (byte text (p + 4 + (y * (l + 5) + x))) pixelMark
     at x zero lx ly =
         let i : 0 * l + x ≡ x = omega arith in
         let i′ : p + 4 + (0 * (l + 5) + x) ≡ p + 4 + x = omega arith in

@@ -7,13 +7,13 @@ use lib.Dec.{eqb}
 use lib.Seq.{sets}
 use Rattle.model.specs.Refusal.{Outcome, refused, given}
 use Rattle.model.specs.Text.{Reading, wrong, got}
-use Rattle.model.specs.JobText.{Rows}
+use Rattle.model.specs.JobText.{pixelMark, emptyMark, Rows}
 use Rattle.row_lines.specs.declared.RowsAnswer.{RowsAnswer}
 use Rattle.row_lines.specs.declared.RowsAnswer.the-variants as rows
 
 -- the pixel byte of a mark, `#` pixel, `.` none; 2 for a byte that is no mark
 abbrev pub markBit : ℕ → ℕ
-markBit b = elim (eqb b 35) [ true ↦ 1 | false ↦ elim (eqb b 46) [ true ↦ 0 | false ↦ 2 ] ]
+markBit b = elim (eqb b pixelMark) [ true ↦ 1 | false ↦ elim (eqb b emptyMark) [ true ↦ 0 | false ↦ 2 ] ]
 
 -- wrong form is answered no; what is read is answered yes and stored from `at` on
 abbrev pub Stored : ℕ → List ℕ → List ℕ → Bool → Reading (List ℕ) → Type 0

@@ -11,10 +11,10 @@ use native.Mathlib.Numerals.{add-one}
 use native.Mathlib.Omega.{arith}
 use lib.ListN.{length, getD, drop, length-append, List·getD-append}
 use lib.Seq.{drop-drop, drop-at, getD-drop}
-use Rattle.model.specs.Layout.{Pair, pairsWith, pairsFrom, pairs, firstPair}
+use Rattle.model.specs.Layout.{Pair, pairOf, pairsWith, pairsFrom, pairs, firstPair}
 use Rattle.model.specs.Lent.{pieceBound}
 use Rattle.descent_laws.proofs.Bounds.{pairs-length, pairs-at-most}
-use Rattle.search_laws.specs.Pairs.{rowStart, pairIndex, pairOf}
+use Rattle.search_laws.specs.Pairs.{rowStart, pairIndex}
 
 -- where the next row begins
 pub row-next : (n i : ℕ) → rowStart n (i + 1) ≡ rowStart n i + (n - (i + 1))

@@ -30,8 +30,9 @@ use Rattle.descent_laws.proofs.Sums.{pair-mem, piece-at-most, placed-anew}
 use Rattle.descent_laws.specs.Sums.{sumBound}
 use Rattle.descent_laws.proofs.Bounds.{BoxesSmall, pair-penalty-at-most, weighted-at-most}
 use Rattle.model.proofs.Sums.{sum-agree, sum-zero, sum-single, sum-add, sum-first, sum-bound, sum-grows, sum-changed, term-at-most, three-parts}
+use Rattle.model.specs.Layout.{pairOf}
 use Rattle.search_laws.specs.PieceSum.{weightBetween, penaltyPlaced, penaltyBetween, penaltyOn}
-use Rattle.search_laws.specs.Pairs.{rowStart, pairIndex, pairOf}
+use Rattle.search_laws.specs.Pairs.{rowStart, pairIndex}
 use Rattle.search_laws.proofs.Pairs.{pair-at, pair-below, row-at, last-index}
 
 -- ── what is added ──

@@ -14,14 +14,14 @@ use lib.Dec.{eqb}
 use lib.ListN.{length, getD, set, length-set, length-replicate, getD-replicate}
 use lib.Seq.{getD-set-same, getD-set-other}
 use Rattle.model.specs.Bounded.{sumBelow}
-use Rattle.model.specs.Layout.{Job, Layout, placeOf, pairs, pairShares, pieceSum, unitWeights, plainSum}
+use Rattle.model.specs.Layout.{Job, Layout, placeOf, pairOf, pairs, pairShares, pieceSum, unitWeights, plainSum}
 use Rattle.model.specs.declared.Placement.{Placement}
 use Rattle.overlap_laws.proofs.Penalty.{zero-penalty, penalty-zero}
 use Rattle.model.proofs.Tests.{same-tests, passes, clash}
 use Rattle.descent_laws.specs.Claims.{ValidWeights}
 use Rattle.model.proofs.Sums.{sum-agree, sum-zero, term-at-most}
 use Rattle.search_laws.specs.Table.{entry, PenaltyTable, Renewed}
-use Rattle.search_laws.specs.Pairs.{rowStart, pairIndex, pairOf}
+use Rattle.search_laws.specs.Pairs.{rowStart, pairIndex}
 use Rattle.search_laws.proofs.Pairs.{pair-below}
 use Rattle.search_laws.specs.PieceSum.{weightBetween, penaltyPlaced, penaltyBetween}
 use Rattle.search_laws.proofs.PieceSum.{pairTerm, share-agree, weight-positive, pair-term, piece-sum, placed-penalty, others-penalty, between-symmetric, weighted-sum, positions-rows, moved-sum}

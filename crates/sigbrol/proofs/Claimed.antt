@@ -12,10 +12,10 @@ use Rattle.model.specs.Calls.{descentCall, guidedCall}
 use Rattle.model.specs.declared.End.{End}
 use Rattle.model.specs.declared.End.the-variants.{Clear, Settled, Spent}
 use Rattle.model.specs.declared.Refusal.{Refusal}
+use Rattle.model.specs.Buffer.{endNumber}
 use Rattle.descent_laws.specs.Claims.{DescentClaims}
 use Rattle.descend.specs.Descents.{descentOf}
 use Rattle.descend.specs.declared.Ended.{Ended}
-use Rattle.interface.specs.Numbers.{endNumber}
 use Rattle.sigbrol.specs.Runs.{endTold, descentTold}
 use Rattle.sigbrol.proofs.Told.{refused-numbered}
 

@@ -14,10 +14,10 @@ use search::SearchAnswer;
 ghost use mathlib.Core.Path.{_≡_};
 ghost use Rattle.model.specs.Guided as model;
 ghost use Rattle.model.specs.Lent.{jobOf};
-ghost use Rattle.model.specs.Buffer.{turnOf, layoutOf};
+ghost use Rattle.model.specs.Buffer.{turnOf, layoutOf, endNumber};
 ghost use Rattle.model.specs.Calls.{leaving, searchCall, descentCall, descentAfter, guidedCall, bestAfterRun, weightsAfterRun};
 ghost use Rattle.descent_laws.specs.Claims.{DescentClaims, GuidedClaims};
-ghost use Rattle.interface.specs.Numbers.{lentAs, lineOf, pieceWithTurn, endNumber};
+ghost use Rattle.interface.specs.Numbers.{lentAs, lineOf, pieceWithTurn};
 ghost use Rattle.interface.specs.Replies.{replyTo};
 ghost use Rattle.sigbrol.specs.Runs.{descentTold, guidedTold};
 
@@ -128,7 +128,7 @@ pub extern "C" fn sigbrol_guided_run(
     ensures sum { λ r. ⌜ now (sum .exit) ≡ leaving (λ a. a .sum) (now (sum .entry)) (guidedCall (lentAs rows columns count (now (table .entry)) (now (pixels .entry))) (now (layout .entry)) (now (weights .entry)) rounds budget) ⌝ }
     ensures trials { λ r. ⌜ now (trials .exit) ≡ leaving (λ a. a .made) (now (trials .entry)) (guidedCall (lentAs rows columns count (now (table .entry)) (now (pixels .entry))) (now (layout .entry)) (now (weights .entry)) rounds budget) ⌝ }
     ensures moves { λ r. ⌜ now (moves .exit) ≡ leaving (λ a. a .moves) (now (moves .entry)) (guidedCall (lentAs rows columns count (now (table .entry)) (now (pixels .entry))) (now (layout .entry)) (now (weights .entry)) rounds budget) ⌝ }
-    ensures demand3 { λ r. ⌜ (r .number ≡ 0 → GuidedClaims (jobOf (lentAs rows columns count (now (table .entry)) (now (pixels .entry)))) (now (weights .entry)) budget rounds (layoutOf (now (layout .entry))) (model.rounds (jobOf (lentAs rows columns count (now (table .entry)) (now (pixels .entry)))) budget rounds (now (weights .entry)) (layoutOf (now (layout .entry)))) (guidedTold (now (sum .exit)) (now (trials .exit)) (now (moves .exit)) (layoutOf (now (layout .exit))) (now (weights .exit)))) ⌝ }
+    ensures demand3 { λ r. ⌜ (r .number ≡ 0 → GuidedClaims (jobOf (lentAs rows columns count (now (table .entry)) (now (pixels .entry)))) (now (weights .entry)) rounds budget (layoutOf (now (layout .entry))) (model.rounds (jobOf (lentAs rows columns count (now (table .entry)) (now (pixels .entry)))) rounds budget (now (weights .entry)) (layoutOf (now (layout .entry)))) (guidedTold (now (sum .exit)) (now (trials .exit)) (now (moves .exit)) (layoutOf (now (layout .exit))) (now (weights .exit)))) ⌝ }
 {
     let size = size_of(rows, columns, count);
     match guided::guided_run(size, table, pixels, layout, weights, rounds, budget) {

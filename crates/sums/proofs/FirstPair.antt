@@ -7,10 +7,9 @@ use Prim.Native.Nat.{ℕ, suc, _+_, _-_, _<_, _≤_}
 use native.Mathlib.Numerals.{add-one}
 use native.Mathlib.Omega.{arith}
 use lib.ListN.{length}
-use Rattle.model.specs.Layout.{Pair, pairsWith, pairsFrom, pairShares, firstPair, sharingPair}
+use Rattle.model.specs.Layout.{Pair, pairOf, pairsWith, pairsFrom, pairShares, firstPair, sharingPair}
 use Rattle.model.specs.Lent.{Lent, jobOf}
 use Rattle.model.specs.Buffer.{layoutOf}
-use Rattle.search_laws.specs.Pairs.{pairOf}
 use Rattle.pair_table.specs.Drawn.{Laid}
 use Rattle.sums.specs.Sharing.{rowBefore, RowFirst}
 

@@ -16,7 +16,7 @@ use Rattle.model.specs.Refusal.{Outcome, given}
 use Rattle.model.specs.Lent.{Lent, turnsBound, upTo, entryColumns, entryRows, entryTurns, pixelStart}
 use Rattle.model.specs.Piece.{sideBound}
 use Rattle.model.specs.Text.{byte, lineEnd, Reading, wrong, got, onward, after, threeFields, fourFields, lineAt, lineText}
-use Rattle.model.specs.JobText.{jobWord, pieceWord, rowWord, JobLine, asJobLine, jobLineCauses, jobLine, PieceLine, asPieceLine, pieceLineCauses, pieceLine, markAt, marksAt, rowAt, Rows, rowsAt, PieceText, rowsCauses, asPieceText, pieceAt, Pieces, noPieces, withPiece, piecesAt, asLent, bufferCauses, readJob}
+use Rattle.model.specs.JobText.{jobWord, pieceWord, rowWord, JobLine, asJobLine, jobLineCauses, jobLine, PieceLine, asPieceLine, pieceLineCauses, pieceLine, markAt, marksAt, rowAt, Rows, rowsAt, PieceText, rowsCauses, asPieceText, pieceAt, Pieces, noPieces, withPiece, piecesAt, asLent, bufferCauses, readJob, pixelMark, emptyMark}
 use Rattle.model.proofs.Tests.{and-left}
 use Rattle.text_laws.specs.JobWriting.{part, mark, rowText, rowsText, pieceText, piecesText, jobText, exactly}
 use Rattle.text_laws.specs.Exact.{JobWritten}
@@ -30,7 +30,7 @@ use Rattle.text_laws.proofs.Spelling.{Spells, spells-none, spells-byte,
 -- ── rows ──
 
 -- the two marks
-mark-step : (text : List ℕ) (p m q : ℕ) (pixel none : Bool) → eqb (byte text p) 35 ≡ pixel → eqb (byte text p) 46 ≡ none
+mark-step : (text : List ℕ) (p m q : ℕ) (pixel none : Bool) → eqb (byte text p) pixelMark ≡ pixel → eqb (byte text p) emptyMark ≡ none
     → elim pixel as (λ _. Reading ℕ)
     [ true ↦ got 1 (suc p) | false ↦ elim none as (λ _. Reading ℕ) [ true ↦ got 0 (suc p) | false ↦ wrong ] ]
     ≡ got m q
@@ -38,17 +38,17 @@ mark-step : (text : List ℕ) (p m q : ℕ) (pixel none : Bool) → eqb (byte te
 mark-step text p m q true none h k e =
     let value : _≡_ {A = ℕ} 1 m = cc in
     let next : suc p ≡ q = cc in
-    spells-same (spells-byte text p 35 (eqb-true (byte text p) 35 h)) next (ap (λ (b : ℕ). mark b ∷ []) value)
+    spells-same (spells-byte text p pixelMark (eqb-true (byte text p) pixelMark h)) next (ap (λ (b : ℕ). mark b ∷ []) value)
 mark-step text p m q false true h k e =
     let value : _≡_ {A = ℕ} 0 m = cc in
     let next : suc p ≡ q = cc in
-    spells-same (spells-byte text p 46 (eqb-true (byte text p) 46 k)) next (ap (λ (b : ℕ). mark b ∷ []) value)
+    spells-same (spells-byte text p emptyMark (eqb-true (byte text p) emptyMark k)) next (ap (λ (b : ℕ). mark b ∷ []) value)
 mark-step text p m q false false h k e = absurd (wrong-got e)
 
 -- a mark that is read
 mark-spelled : (text : List ℕ) (p m q : ℕ) → markAt text p ≡ got m q → Spells text p q (mark m ∷ [])
 unfolding markAt
-mark-spelled text p m q e = mark-step text p m q (eqb (byte text p) 35) (eqb (byte text p) 46) refl refl e
+mark-spelled text p m q e = mark-step text p m q (eqb (byte text p) pixelMark) (eqb (byte text p) emptyMark) refl refl e
 
 -- marks that are read
 record MarksRead (text : List ℕ) (left p q : ℕ) (ms : List ℕ) : Type 0 where

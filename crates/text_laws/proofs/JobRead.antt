@@ -15,7 +15,7 @@ use Rattle.model.specs.Piece.{Shape, tight, sideBound}
 use Rattle.model.specs.Refusal.{Outcome, given}
 use Rattle.model.specs.Lent.{Lent, rowBound, columnBound, pieceBound, turnsBound, areaBound, upTo, entryColumns, entryRows, pixelStart, entryInRange, entryFits, lentShape, sheetInRange, lentWell}
 use Rattle.model.specs.Text.{byte, Reading, wrong, got, onward, after, lineEnd, threeFields, fourFields, lineAt}
-use Rattle.model.specs.JobText.{jobWord, pieceWord, rowWord, JobLine, asJobLine, jobLineCauses, jobLine, PieceLine, asPieceLine, pieceInRange, pieceLineCauses, pieceLine, markAt, marksAt, rowAt, Rows, rowsAt, boxShape, PieceText, rowsCauses, asPieceText, pieceAt, Pieces, noPieces, withPiece, piecesAt, asLent, bufferCauses, readJob}
+use Rattle.model.specs.JobText.{jobWord, pieceWord, rowWord, JobLine, asJobLine, jobLineCauses, jobLine, PieceLine, asPieceLine, pieceInRange, pieceLineCauses, pieceLine, pixelMark, emptyMark, markAt, marksAt, rowAt, Rows, rowsAt, boxShape, PieceText, rowsCauses, asPieceText, pieceAt, Pieces, noPieces, withPiece, piecesAt, asLent, bufferCauses, readJob}
 use Rattle.model.proofs.Tests.{and-left, and-right, and-both, or-neither}
 use Rattle.text_laws.specs.Limits.{sidesInRange}
 use Rattle.text_laws.specs.Outcomes.{Unless}
@@ -57,7 +57,7 @@ mark-step p m q false false e = absurd (wrong-got e)
 -- a mark that is read is 0 or 1
 mark-read : (text : List ℕ) (p m q : ℕ) → markAt text p ≡ got m q → m ≤ 1
 unfolding markAt
-mark-read text p m q e = mark-step p m q (eqb (byte text p) 35) (eqb (byte text p) 46) e
+mark-read text p m q e = mark-step p m q (eqb (byte text p) pixelMark) (eqb (byte text p) emptyMark) e
 
 -- marks that are read are so many bytes
 marks-read : (text : List ℕ) (left p : ℕ) (ms : List ℕ) (q : ℕ) → marksAt text left p ≡ got ms q → Bits left ms

@@ -12,7 +12,7 @@ use lib.ListN.{length, List·getD-eq-default}
 use borrow.Author.Tests.{ne-eqb, ltb-true, ltb-false}
 use Rattle.model.specs.Bounded.{one-if}
 use Rattle.model.specs.Text.{byte, lineEnd, digitZero, standsAt, threeFields, fourFields, decimal, digits, fieldsText, lineText}
-use Rattle.model.specs.JobText.{rowWord}
+use Rattle.model.specs.JobText.{rowWord, pixelMark, emptyMark}
 use Rattle.text_laws.specs.JobWriting.{mark, rowText}
 use Rattle.text_laws.specs.LinePlaces.{lineEnds, Behind, LineBegins}
 use Rattle.text_laws.proofs.Spelling.{Spells, stands-first}
@@ -164,7 +164,7 @@ line-one word ends ks w o h =
 -- ── row lines ──
 
 -- a mark is no line end
-mark-no-end : (t : Bool) → one-if (eqb (elim t as (λ _. ℕ) [ true ↦ 35 | false ↦ 46 ]) lineEnd) ≡ 0
+mark-no-end : (t : Bool) → one-if (eqb (elim t as (λ _. ℕ) [ true ↦ pixelMark | false ↦ emptyMark ]) lineEnd) ≡ 0
 mark-no-end true = refl
 mark-no-end false = refl
 

@@ -8,7 +8,7 @@ use lib.Dec.{eqb}
 use lib.ListN.{getD, take}
 use Rattle.model.specs.Lent.{Lent, entryColumns, entryRows, entryTurns, pixelStart}
 use Rattle.model.specs.Text.{lineEnd, threeFields, fourFields, lineText}
-use Rattle.model.specs.JobText.{jobWord, pieceWord, rowWord}
+use Rattle.model.specs.JobText.{jobWord, pieceWord, rowWord, pixelMark, emptyMark}
 
 -- n numbers of the list from place s on
 abbrev pub part : List ℕ → ℕ → ℕ → List ℕ
@@ -17,7 +17,7 @@ part ks s (suc n) = getD ks s 0 ∷ part ks (suc s) n
 
 -- the mark of a pixel byte
 abbrev pub mark : ℕ → ℕ
-mark b = elim (eqb b 1) [ true ↦ 35 | false ↦ 46 ]
+mark b = elim (eqb b 1) [ true ↦ pixelMark | false ↦ emptyMark ]
 
 -- a row line
 abbrev pub rowText : List ℕ → List ℕ
