@@ -10,7 +10,7 @@ use borrow.Author.Tests.{not-false, ltb-true, eqb-true, eqb-false, eq-eqb}
 use lib.Dec.{ltb, eqb}
 use lib.IntN.{ℤ}
 use Rattle.model.specs.Overlap.{OffsetRun}
-use Rattle.model.specs.Layout.{Job, Layout, turnedPiece, shapeIn, cornerIn, placeOf, pairShares, pairPenalty, pairDepth, weightedSum, plainSum, unitWeights}
+use Rattle.model.specs.Layout.{Job, Layout, turnedPiece, shapeIn, cornerIn, placeOf, pairOf, pairShares, pairPenalty, pairDepth, weightedSum, plainSum, unitWeights}
 use Rattle.model.specs.Buffer.{layoutOf}
 use Rattle.model.specs.Lent.{Lent, jobOf, lentWell}
 use Rattle.model.specs.Refusal.{given, Cause, cause, unless, noSuchPiece}
