@@ -153,7 +153,7 @@ pub record Demand3Calls : Type 0 where
       → layoutOf (descentAfter es (descentCall l es ws budget)) ≡ d .layout
   -- demand 3's claims about a guided run and each of its rounds, whatever their number and budget
   pub guided-runs : (l : Lent) (es : List (List ℕ)) (ws : List ℕ) (K budget : ℕ) (g : Guided) → guidedCall l es ws K budget ≡ given g
-      → GuidedClaims (jobOf l) ws budget K (layoutOf es) (rounds (jobOf l) budget K ws (layoutOf es)) g
+      → GuidedClaims (jobOf l) ws K budget (layoutOf es) (rounds (jobOf l) K budget ws (layoutOf es)) g
   -- the best layout and the new weights stand in their buffers
   pub guided-leaves : (l : Lent) (es : List (List ℕ)) (ws : List ℕ) (K budget : ℕ) (g : Guided) → guidedCall l es ws K budget ≡ given g
       → (layoutOf (bestAfterRun es (guidedCall l es ws K budget)) ≡ g .layout) × (weightsAfterRun ws (guidedCall l es ws K budget) ≡ g .weights)

@@ -38,8 +38,8 @@ pub record Prints (input : List ℕ) (l : Lent) : Type 0 where
   pub run : guidedCall l (entriesOf (start (jobOf l))) (unitWeights (jobOf l .count)) programRounds programBudget ≡ given (programRun (jobOf l))
   pub text : programText input ≡ runText (jobOf l) (programRun (jobOf l))
   -- demand 3's claims hold of the run
-  pub claims : GuidedClaims (jobOf l) (unitWeights (jobOf l .count)) programBudget programRounds (start (jobOf l))
-      (rounds (jobOf l) programBudget programRounds (unitWeights (jobOf l .count)) (start (jobOf l))) (programRun (jobOf l))
+  pub claims : GuidedClaims (jobOf l) (unitWeights (jobOf l .count)) programRounds programBudget (start (jobOf l))
+      (rounds (jobOf l) programRounds programBudget (unitWeights (jobOf l .count)) (start (jobOf l))) (programRun (jobOf l))
 
 -- an input that is not too long is read
 program-reads : (input : List ℕ) → length input ≤ areaBound → programText input ≡ printed (readJob input pieceBound areaBound)
@@ -54,7 +54,7 @@ program-prints input l few e =
     record {
       run = program-run-given l well;
       text = program-reads input few ∙ ap printed e;
-      claims = lent-demand3 l well .guidedRuns programBudget programRounds;
+      claims = lent-demand3 l well .guidedRuns programRounds programBudget;
     }
 
 -- a job that the reader refuses prints its refusal

@@ -47,14 +47,14 @@ descent-given l es ws budget d e =
 
 -- a guided run that the call gives is the job's, and demand 3's claims hold of it and of each of its rounds
 pub guided-given : (l : Lent) (es : List (List ℕ)) (ws : List ℕ) (K budget : ℕ) (g : Guided) → guidedCall l es ws K budget ≡ given g
-    → GuidedClaims (jobOf l) ws budget K (layoutOf es) (rounds (jobOf l) budget K ws (layoutOf es)) g
+    → GuidedClaims (jobOf l) ws K budget (layoutOf es) (rounds (jobOf l) K budget ws (layoutOf es)) g
 unfolding guidedCall
 guided-given l es ws K budget g e =
     let u = given-unless _ (guide (jobOf l) K budget ws (layoutOf es)) g e in
     let range = or-neither (someWeightWrong ws || ltb budgetBound budget) (not (upTo roundBound K)) (u .none .1 .1 .1 .0) in
     let v : ValidLayout (jobOf l) (layoutOf es) = layout-valid l es (u .none .1 .0) (u .none .1 .1 .1 .1 .0) (u .none .1 .1 .1 .1 .1 .0) in
     let w : ValidWeights (jobOf l) ws = lent-weights-valid l ws (u .none .1 .1 .0) (or-neither (someWeightWrong ws) _ (range .0) .0) in
-    rw (← u .same) (demand3 (jobOf l) ws (layoutOf es) (lent-some l (job-well l (u .none .0))) w v .guidedRuns budget K)
+    rw (← u .same) (demand3 (jobOf l) ws (layoutOf es) (lent-some l (job-well l (u .none .0))) w v .guidedRuns K budget)
 
 -- ── line search ──
 

@@ -108,7 +108,7 @@ roundAt rs k = getD rs k noRound
 
 -- the rounds of a guided run: at most K, each a descent, the first from the given layout and weights, each next from where the one
 -- before it ended, and fewer than K only if the last is clear
-pub record RoundsClaims (j : Job) (ws : List ℕ) (budget K : ℕ) (v : Layout) (rs : List Round) : Type 0 where
+pub record RoundsClaims (j : Job) (ws : List ℕ) (K budget : ℕ) (v : Layout) (rs : List Round) : Type 0 where
   pub each : (r : Round) → List·Memᴰ r rs → RoundClaims j budget r
   pub some : 0 < K → 0 < length rs
   pub atMost : length rs ≤ K
@@ -123,7 +123,7 @@ pub record RoundEnd (rs : List Round) (v : Layout) : Type 0 where
   pub atEnd : v ≡ round .descent .layout
 
 -- what is said of a guided run g of at most K rounds from v by the weights ws, each with the budget, whose rounds are rs
-pub record GuidedClaims (j : Job) (ws : List ℕ) (budget K : ℕ) (v : Layout) (rs : List Round) (g : Guided) : Type 0 where
+pub record GuidedClaims (j : Job) (ws : List ℕ) (K budget : ℕ) (v : Layout) (rs : List Round) (g : Guided) : Type 0 where
   -- the layout is handed back with its own plain sum
   pub sumOfLayout : g .sum ≡ plainSum j (g .layout)
   -- zero exactly when no two pieces share a pixel
@@ -133,7 +133,7 @@ pub record GuidedClaims (j : Job) (ws : List ℕ) (budget K : ℕ) (v : Layout) 
   pub atMostGiven : g .sum ≤ plainSum j v
   pub atMostRoundEnds : (r : Round) → List·Memᴰ r rs → g .sum ≤ plainSum j (r .descent .layout)
   -- each round meets what is said of a descent, and the rounds follow one another
-  pub roundsClaims : RoundsClaims j ws budget K v rs
+  pub roundsClaims : RoundsClaims j ws K budget v rs
   -- each piece lies inside in a turn allowed to it, and the weights stay between 1 and 65,535
   pub validLayout : ValidLayout j (g .layout)
   pub validWeights : ValidWeights j (g .weights)

@@ -15,7 +15,7 @@ use Rattle.descent_laws.proofs.Guided.{guided-claims}
 pub record Demand3 (j : Job) (ws : List ℕ) (v : Layout) : Type 0 where
   pub trialsListed : TrialsClaims j (trials j)
   pub descents : (budget : ℕ) → DescentClaims j ws budget v (descend j ws budget v)
-  pub guidedRuns : (budget K : ℕ) → GuidedClaims j ws budget K v (rounds j budget K ws v) (guide j K budget ws v)
+  pub guidedRuns : (K budget : ℕ) → GuidedClaims j ws K budget v (rounds j K budget ws v) (guide j K budget ws v)
 
 -- demand 3 holds for every job with a piece, every valid layout and all valid weights
 pub demand3 : (j : Job) (ws : List ℕ) (v : Layout) → 0 < j .count → ValidWeights j ws → ValidLayout j v → Demand3 j ws v
@@ -23,5 +23,5 @@ demand3 j ws v some weights layout =
     record {
       trialsListed = trials-claims j;
       descents = λ budget. descent-claims j ws budget v some weights layout;
-      guidedRuns = λ budget K. guided-claims j ws budget K v some weights layout;
+      guidedRuns = λ K budget. guided-claims j ws K budget v some weights layout;
     }

@@ -91,9 +91,9 @@ not-clear Settled h = λ g. impossible (cc)
 not-clear Spent h = λ g. impossible (cc)
 
 -- one round, the last because it is clear
-clear-round : (j : Job) (ws : List ℕ) (budget K : ℕ) (v : Layout) (r : Round) → RoundClaims j budget r → r .layout ≡ v → r .weights ≡ ws
-    → r .descent .end ≡ Clear → RoundsClaims j ws budget (suc K) v (r ∷ [])
-clear-round j ws budget K v r h begins by clear =
+clear-round : (j : Job) (ws : List ℕ) (K budget : ℕ) (v : Layout) (r : Round) → RoundClaims j budget r → r .layout ≡ v → r .weights ≡ ws
+    → r .descent .end ≡ Clear → RoundsClaims j ws (suc K) budget v (r ∷ [])
+clear-round j ws K budget v r h begins by clear =
     record {
       each = λ s m. ⊎-elim (λ (e : s ≡ r). rw e h) (λ m′. absurd (List·Memᴰ·not-nil m′)) (List·Memᴰ·cases-cons m);
       some = λ _. omega arith;
@@ -104,10 +104,10 @@ clear-round j ws budget K v r h begins by clear =
     }
 
 -- one round that is not clear, and the rounds after it
-round-more : (j : Job) (ws : List ℕ) (budget K : ℕ) (v : Layout) (r : Round) (rs : List Round) → RoundClaims j budget r → r .layout ≡ v
+round-more : (j : Job) (ws : List ℕ) (K budget : ℕ) (v : Layout) (r : Round) (rs : List Round) → RoundClaims j budget r → r .layout ≡ v
     → r .weights ≡ ws → r .descent .end ≢ Clear
-    → RoundsClaims j (raised j (r .descent .layout) (r .weights)) budget K (r .descent .layout) rs → RoundsClaims j ws budget (suc K) v (r ∷ rs)
-round-more j ws budget K v r rs h begins by unclear later =
+    → RoundsClaims j (raised j (r .descent .layout) (r .weights)) K budget (r .descent .layout) rs → RoundsClaims j ws (suc K) budget v (r ∷ rs)
+round-more j ws K budget v r rs h begins by unclear later =
     record {
       each = λ s m. ⊎-elim (λ (e : s ≡ r). rw e h) (later .each s) (List·Memᴰ·cases-cons m);
       some = λ _. omega arith;
@@ -126,20 +126,20 @@ round-more j ws budget K v r rs h begins by unclear later =
     last (suc k) e l = later .fewerMeansClear k (omega arith) (omega arith)
 
 -- a round and what follows, by the test for a clear end
-rounds-at : (j : Job) (ws : List ℕ) (budget K : ℕ) (v : Layout) (r : Round) → RoundClaims j budget r → r .layout ≡ v → r .weights ≡ ws
+rounds-at : (j : Job) (ws : List ℕ) (K budget : ℕ) (v : Layout) (r : Round) → RoundClaims j budget r → r .layout ≡ v → r .weights ≡ ws
     → (b : Bool) → isClear (r .descent .end) ≡ b
-    → (b ≡ false → RoundsClaims j (raised j (r .descent .layout) (r .weights)) budget K (r .descent .layout)
-    (rounds j budget K (weightsAfter j r) (r .descent .layout)))
-    → RoundsClaims j ws budget (suc K) v
-    (r ∷ elim b as (λ _. List Round) [ true ↦ [] | false ↦ rounds j budget K (weightsAfter j r) (r .descent .layout) ])
-rounds-at j ws budget K v r h begins by true e later = clear-round j ws budget K v r h begins by (is-clear _ e)
-rounds-at j ws budget K v r h begins by false e later = round-more j ws budget K v r _ h begins by (not-clear _ e) (later refl)
+    → (b ≡ false → RoundsClaims j (raised j (r .descent .layout) (r .weights)) K budget (r .descent .layout)
+    (rounds j K budget (weightsAfter j r) (r .descent .layout)))
+    → RoundsClaims j ws (suc K) budget v
+    (r ∷ elim b as (λ _. List Round) [ true ↦ [] | false ↦ rounds j K budget (weightsAfter j r) (r .descent .layout) ])
+rounds-at j ws K budget v r h begins by true e later = clear-round j ws K budget v r h begins by (is-clear _ e)
+rounds-at j ws K budget v r h begins by false e later = round-more j ws K budget v r _ h begins by (not-clear _ e) (later refl)
 
 -- the rounds of a guided run are so
-pub rounds-claims : (j : Job) (ws : List ℕ) (budget K : ℕ) (v : Layout) → 0 < j .count → ValidWeights j ws → ValidLayout j v
-    → RoundsClaims j ws budget K v (rounds j budget K ws v)
+pub rounds-claims : (j : Job) (ws : List ℕ) (K budget : ℕ) (v : Layout) → 0 < j .count → ValidWeights j ws → ValidLayout j v
+    → RoundsClaims j ws K budget v (rounds j K budget ws v)
 unfolding rounds
-rounds-claims j ws budget zero v l weights h =
+rounds-claims j ws zero budget v l weights h =
     record {
       each = λ r m. absurd (List·Memᴰ·not-nil m);
       some = λ b. b;
@@ -148,13 +148,13 @@ rounds-claims j ws budget zero v l weights h =
       next = λ k b. absurd (omega arith);
       fewerMeansClear = λ k e b. absurd (omega arith);
     }
-rounds-claims j ws budget (suc K) v l weights h =
+rounds-claims j ws (suc K) budget v l weights h =
     let c : DescentClaims j ws budget v (descend j ws budget v) = descent-claims j ws budget v l weights h in
     let d : Descent = descend j ws budget v in
-    rounds-at j ws budget K v (roundFrom j budget ws v)
+    rounds-at j ws K budget v (roundFrom j budget ws v)
     (record { isDescent = refl; validLayout = h; validWeights = weights; claims = c }) refl refl _ refl
     (λ (e : isClear (d .end) ≡ false).
-    rw (e, weightsAfter) (rounds-claims j (raised j (d .layout) ws) budget K (d .layout) l (raised-valid j (d .layout) ws weights) (c .valid)))
+    rw (e, weightsAfter) (rounds-claims j (raised j (d .layout) ws) K budget (d .layout) l (raised-valid j (d .layout) ws weights) (c .valid)))
 
 -- ── the best layout ──
 
@@ -215,10 +215,10 @@ last-valid j ws (r ∷ rs) h each =
     last-valid j (weightsAfter j r) rs (after-valid j r (each r (List·Memᴰ·head refl))) (λ s m. each s (List·Memᴰ·tail m))
 
 -- demand 3's claims hold of a guided run
-pub guided-claims : (j : Job) (ws : List ℕ) (budget K : ℕ) (v : Layout) → 0 < j .count → ValidWeights j ws → ValidLayout j v
-    → GuidedClaims j ws budget K v (rounds j budget K ws v) (guide j K budget ws v)
+pub guided-claims : (j : Job) (ws : List ℕ) (K budget : ℕ) (v : Layout) → 0 < j .count → ValidWeights j ws → ValidLayout j v
+    → GuidedClaims j ws K budget v (rounds j K budget ws v) (guide j K budget ws v)
 unfolding guide outcome
-guided-claims j ws budget K v l weights h =
+guided-claims j ws K budget v l weights h =
     record {
       sumOfLayout = refl;
       zeroExactly = plain-zero j best;
@@ -232,7 +232,7 @@ guided-claims j ws budget K v l weights h =
     }
   where
     rs : List Round
-    rs = rounds j budget K ws v
+    rs = rounds j K budget ws v
 
     best : Layout
     best = bestAfter j v rs
@@ -240,5 +240,5 @@ guided-claims j ws budget K v l weights h =
     b : BestClaims j v rs best
     b = best-claims j v rs
 
-    c : RoundsClaims j ws budget K v rs
-    c = rounds-claims j ws budget K v l weights h
+    c : RoundsClaims j ws K budget v rs
+    c = rounds-claims j ws K budget v l weights h

@@ -70,11 +70,11 @@ module _ (l : Lent) (es : List (List ℕ)) (ws : List ℕ) (count budget : ℕ) 
 
         -- what demand 3 claims holds of it
         pub call-claims : (told : Run) → GuidedAnswer.Ran run ≡ GuidedAnswer.Ran told
-            → GuidedClaims (jobOf l) ws budget count (layoutOf es) (rounds (jobOf l) budget count ws (layoutOf es))
+            → GuidedClaims (jobOf l) ws count budget (layoutOf es) (rounds (jobOf l) count budget ws (layoutOf es))
             (guidedOf (layoutOf best) (told .sum) raised (told .made) (told .moves))
         call-claims told e =
             let same : run ≡ told = cc in
             subst
-            (λ (z : Run). GuidedClaims (jobOf l) ws budget count (layoutOf es) (rounds (jobOf l) budget count ws (layoutOf es))
+            (λ (z : Run). GuidedClaims (jobOf l) ws count budget (layoutOf es) (rounds (jobOf l) count budget ws (layoutOf es))
             (guidedOf (layoutOf best) (z .sum) raised (z .made) (z .moves)))
             same (guided-given l es ws count budget _ call-given)

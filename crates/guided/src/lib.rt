@@ -96,7 +96,7 @@ pub fn guided_run(
     ensures answer { λ r. ⌜ r ≡ guidedAnswer (guidedCall (lentBy size (now (table .entry)) (now (pixels .entry))) (now (layout .entry)) (now (weights .entry)) rounds budget) ⌝ }
     ensures layout { λ r. ⌜ now (layout .exit) ≡ bestAfterRun (now (layout .entry)) (guidedCall (lentBy size (now (table .entry)) (now (pixels .entry))) (now (layout .entry)) (now (weights .entry)) rounds budget) ⌝ }
     ensures weights { λ r. ⌜ now (weights .exit) ≡ weightsAfterRun (now (weights .entry)) (guidedCall (lentBy size (now (table .entry)) (now (pixels .entry))) (now (layout .entry)) (now (weights .entry)) rounds budget) ⌝ }
-    ensures demand3 { λ r. ⌜ ((run : Run) → r ≡ GuidedAnswer.Ran run → GuidedClaims (jobOf (lentBy size (now (table .entry)) (now (pixels .entry)))) (now (weights .entry)) budget rounds (layoutOf (now (layout .entry))) (model.rounds (jobOf (lentBy size (now (table .entry)) (now (pixels .entry)))) budget rounds (now (weights .entry)) (layoutOf (now (layout .entry)))) (guidedOf (layoutOf (now (layout .exit))) (run .sum) (now (weights .exit)) (run .made) (run .moves))) ⌝ }
+    ensures demand3 { λ r. ⌜ ((run : Run) → r ≡ GuidedAnswer.Ran run → GuidedClaims (jobOf (lentBy size (now (table .entry)) (now (pixels .entry)))) (now (weights .entry)) rounds budget (layoutOf (now (layout .entry))) (model.rounds (jobOf (lentBy size (now (table .entry)) (now (pixels .entry)))) rounds budget (now (weights .entry)) (layoutOf (now (layout .entry)))) (guidedOf (layoutOf (now (layout .exit))) (run .sum) (now (weights .exit)) (run .made) (run .moves))) ⌝ }
 {
     match run_causes(
         size,

@@ -45,10 +45,10 @@ roundFrom j budget ws v = record { layout = v; weights = ws; descent = descend j
 
 -- the rounds of a guided run, at most so many: each begins where the one before it ended, and clear ends the run
 unfoldable pub rounds : Job → ℕ → ℕ → List ℕ → Layout → List Round
-rounds j budget zero ws v = []
-rounds j budget (suc left) ws v =
+rounds j zero budget ws v = []
+rounds j (suc left) budget ws v =
     let r : Round = roundFrom j budget ws v in
-    r ∷ elim (isClear (r .descent .end)) [ true ↦ [] | false ↦ rounds j budget left (weightsAfter j r) (r .descent .layout) ]
+    r ∷ elim (isClear (r .descent .end)) [ true ↦ [] | false ↦ rounds j left budget (weightsAfter j r) (r .descent .layout) ]
 
 -- the best layout so far, and a round's end: the end where its plain sum is smaller
 abbrev pub bestOf : Job → Layout → Layout → Layout
@@ -89,4 +89,4 @@ outcome j ws v rs =
 
 -- a guided run of at most so many rounds, each with the budget
 unfoldable pub guide : Job → ℕ → ℕ → List ℕ → Layout → Guided
-guide j count budget ws v = outcome j ws v (rounds j budget count ws v)
+guide j count budget ws v = outcome j ws v (rounds j count budget ws v)

@@ -88,12 +88,12 @@ left-falls Spent left l = omega arith
 -- ── before each round ──
 
 -- the buffers of the loop, and so many rounds left
-pub record Rounding (l : Lent) (width : ℕ) (ws₀ : List ℕ) (budget count : ℕ) (v₀ : Layout) (layout best : List (List ℕ))
+pub record Rounding (l : Lent) (width : ℕ) (ws₀ : List ℕ) (count budget : ℕ) (v₀ : Layout) (layout best : List (List ℕ))
     (weights penalties rowLines rowTags columnLines columnTags sums : List ℕ) (sum made moves left : ℕ) : Type 0
   where
     pub laid : LaidOut l layout penalties
     pub stores : Stores (jobOf l) width rowLines rowTags columnLines columnTags sums
-    pub underway : GuidedUnderway (jobOf l) ws₀ budget count v₀ left (guiding (layoutOf layout) weights (layoutOf best) made moves) sum
+    pub underway : GuidedUnderway (jobOf l) ws₀ count budget v₀ left (guiding (layoutOf layout) weights (layoutOf best) made moves) sum
     pub written : entriesOf (layoutOf best) ≡ best
 
 -- the buffers are as long as at the beginning
@@ -122,21 +122,21 @@ pub record Rounded (l : Lent) (width budget : ℕ) (layout best : List (List ℕ
     pub sumIs : sum′ ≡ betterSum plain sum
 
 -- before the first round the given layout is the best
-pub rounding-begin : {l : Lent} {width : ℕ} (budget count : ℕ) {layout best : List (List ℕ)} {weights penalties rowLines rowTags columnLines columnTags sums : List ℕ}
+pub rounding-begin : {l : Lent} {width : ℕ} (count budget : ℕ) {layout best : List (List ℕ)} {weights penalties rowLines rowTags columnLines columnTags sums : List ℕ}
     {sum : ℕ} → 0 < jobOf l .count → LaidOut l layout penalties → Stores (jobOf l) width rowLines rowTags columnLines columnTags sums
     → ValidWeights (jobOf l) weights → best ≡ layout → sum ≡ plainSum (jobOf l) (layoutOf layout)
-    → Rounding l width weights budget count (layoutOf layout) layout best weights penalties rowLines rowTags columnLines columnTags sums sum 0 0 count
-rounding-begin {l} budget count {layout} {best} {weights} some-piece h stores w e f =
+    → Rounding l width weights count budget (layoutOf layout) layout best weights penalties rowLines rowTags columnLines columnTags sums sum 0 0 count
+rounding-begin {l} count budget {layout} {best} {weights} some-piece h stores w e f =
     record {
       laid = h;
       stores = stores;
-      underway = rw (e, f) (guided-begin (jobOf l) weights budget count (layoutOf layout) some-piece (h .valid) w);
+      underway = rw (e, f) (guided-begin (jobOf l) weights count budget (layoutOf layout) some-piece (h .valid) w);
       written = rw e (h .written);
     }
 
-module _ {l : Lent} {width : ℕ} {ws₀ : List ℕ} {budget count : ℕ} {v₀ : Layout} (some-piece : 0 < jobOf l .count) where
+module _ {l : Lent} {width : ℕ} {ws₀ : List ℕ} {count budget : ℕ} {v₀ : Layout} (some-piece : 0 < jobOf l .count) where
   module _ {layout best : List (List ℕ)} {weights penalties rowLines rowTags columnLines columnTags sums : List ℕ} {sum made moves left : ℕ}
-      (h : Rounding l width ws₀ budget count v₀ layout best weights penalties rowLines rowTags columnLines columnTags sums sum made moves left)
+      (h : Rounding l width ws₀ count budget v₀ layout best weights penalties rowLines rowTags columnLines columnTags sums sum made moves left)
     where
       -- the trials and moves of all rounds so far are few
       pub rounding-few : count ≤ roundBound → budget ≤ budgetBound → (made ≤ 1000000000000) × (moves ≤ 1000000000000)
@@ -148,7 +148,7 @@ module _ {l : Lent} {width : ℕ} {ws₀ : List ℕ} {budget count : ℕ} {v₀ 
 
       -- no round left: what the run gives
       pub rounding-done : left ≡ 0 → guide (jobOf l) count budget ws₀ v₀ ≡ guidedOf (layoutOf best) sum weights made moves
-      rounding-done e = guided-done (jobOf l) ws₀ budget count v₀ some-piece left _ sum (h .underway) e
+      rounding-done e = guided-done (jobOf l) ws₀ count budget v₀ some-piece left _ sum (h .underway) e
 
       module _ {e : Ended} {layout′ best′ : List (List ℕ)} {penalties′ rowLines′ rowTags′ columnLines′ columnTags′ sums′ : List ℕ} {plain sum′ : ℕ} (more : 0 < left)
           (r : Rounded l width budget layout best weights sum e layout′ best′ penalties′ rowLines′ rowTags′ columnLines′ columnTags′ sums′ plain sum′)
@@ -170,12 +170,12 @@ module _ {l : Lent} {width : ℕ} {ws₀ : List ℕ} {budget count : ℕ} {v₀ 
           -- demand 3's claims hold of its descent
           round-said : DescentClaims (jobOf l) weights budget (layoutOf layout) (descentOf e (layoutOf layout′))
           round-said =
-              round-claims (jobOf l) ws₀ budget count v₀ some-piece left _ sum (h .underway) (descentOf e (layoutOf layout′)) (layoutOf best′) sum′ more (r .result)
+              round-claims (jobOf l) ws₀ count budget v₀ some-piece left _ sum (h .underway) (descentOf e (layoutOf layout′)) (layoutOf best′) sum′ more (r .result)
               round-best round-sum
 
           -- a clear round ends the run: what holds with no round left
           round-clear : e .end ≡ Clear
-              → Rounding l width ws₀ budget count v₀ layout′ best′ weights penalties′ rowLines′ rowTags′ columnLines′ columnTags′ sums′ sum′ (made + e .made) (moves + e .moves) 0
+              → Rounding l width ws₀ count budget v₀ layout′ best′ weights penalties′ rowLines′ rowTags′ columnLines′ columnTags′ sums′ sum′ (made + e .made) (moves + e .moves) 0
           round-clear c =
               let s : Guiding = guiding (layoutOf layout′) weights (layoutOf best′) (made + e .made) (moves + e .moves) in
               let few = h .underway .madeFew in
@@ -189,7 +189,7 @@ module _ {l : Lent} {width : ℕ} {ws₀ : List ℕ} {budget count : ℕ} {v₀ 
                 underway =
                     record {
                       result =
-                          guided-clear (jobOf l) ws₀ budget count v₀ some-piece left _ sum (h .underway) (descentOf e (layoutOf layout′)) (layoutOf best′) sum′
+                          guided-clear (jobOf l) ws₀ count budget v₀ some-piece left _ sum (h .underway) (descentOf e (layoutOf layout′)) (layoutOf best′) sum′
                           more (r .result) round-best round-sum c
                           ∙ ap (λ x. guidedOf (layoutOf best′) x weights (made + e .made) (moves + e .moves)) round-sum ∙ sym (guide-done (jobOf l) budget s);
                       bestSumIs = round-sum;
@@ -204,21 +204,21 @@ module _ {l : Lent} {width : ℕ} {ws₀ : List ℕ} {budget count : ℕ} {v₀ 
 
           -- any other: what holds before the next
           round-open : e .end ≢ Clear
-              → Rounding l width ws₀ budget count v₀ layout′ best′ (raised (jobOf l) (layoutOf layout′) weights) penalties′ rowLines′ rowTags′ columnLines′ columnTags′ sums′ sum′
+              → Rounding l width ws₀ count budget v₀ layout′ best′ (raised (jobOf l) (layoutOf layout′) weights) penalties′ rowLines′ rowTags′ columnLines′ columnTags′ sums′ sum′
               (made + e .made) (moves + e .moves) (left - 1)
           round-open c =
               record {
                 laid = r .laid;
                 stores = r .stores;
                 underway =
-                    guided-open (jobOf l) ws₀ budget count v₀ some-piece left _ sum (h .underway) (descentOf e (layoutOf layout′)) (layoutOf best′) sum′ more
+                    guided-open (jobOf l) ws₀ count budget v₀ some-piece left _ sum (h .underway) (descentOf e (layoutOf layout′)) (layoutOf best′) sum′ more
                     (r .result) round-best round-sum c;
                 written = round-written;
               }
 
           -- by its end
           round-at : (end : End) → e .end ≡ end
-              → Rounding l width ws₀ budget count v₀ layout′ best′ (raisedAfter (jobOf l) (layoutOf layout′) end weights) penalties′ rowLines′ rowTags′ columnLines′
+              → Rounding l width ws₀ count budget v₀ layout′ best′ (raisedAfter (jobOf l) (layoutOf layout′) end weights) penalties′ rowLines′ rowTags′ columnLines′
               columnTags′ sums′ sum′ (made + e .made) (moves + e .moves) (leftAfter end left)
           round-at Clear c = round-clear c
           round-at Settled c = round-open (λ q. never (sym c ∙ q))
@@ -232,5 +232,5 @@ module _ {l : Lent} {width : ℕ} {ws₀ : List ℕ} {budget count : ℕ} {v₀ 
 
           -- what holds after a round
           pub round-next : {weights′ : List ℕ} {left′ : ℕ} → weights′ ≡ raisedAfter (jobOf l) (layoutOf layout′) (e .end) weights → left′ ≡ leftAfter (e .end) left
-              → Rounding l width ws₀ budget count v₀ layout′ best′ weights′ penalties′ rowLines′ rowTags′ columnLines′ columnTags′ sums′ sum′ (made + e .made) (moves + e .moves) left′
+              → Rounding l width ws₀ count budget v₀ layout′ best′ weights′ penalties′ rowLines′ rowTags′ columnLines′ columnTags′ sums′ sum′ (made + e .made) (moves + e .moves) left′
           round-next w m = rw (w, m) (round-at (e .end) refl)

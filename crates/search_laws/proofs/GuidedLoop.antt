@@ -52,11 +52,11 @@ guidedAt j s = record { layout = s .best; sum = plainSum j (s .best); weights = 
 
 -- what a guided run gives from here on, with so many rounds left
 unfoldable pub guideOn : Job → ℕ → ℕ → Guiding → Guided
-guideOn j budget zero s = guidedAt j s
-guideOn j budget (suc left) s =
+guideOn j zero budget s = guidedAt j s
+guideOn j (suc left) budget s =
     elim (isClear (descentOf j budget s .end)) [
       | true ↦ guidedAt j (rounded j s (descentOf j budget s) (s .weights))
-      | false ↦ guideOn j budget left (rounded j s (descentOf j budget s) (raised j (descentOf j budget s .layout) (s .weights)))
+      | false ↦ guideOn j left budget (rounded j s (descentOf j budget s) (raised j (descentOf j budget s .layout) (s .weights)))
     ]
 
 -- ── one round ──
@@ -67,38 +67,39 @@ clear-test Clear d = absurd (d refl)
 clear-test Settled d = refl
 clear-test Spent d = refl
 
-module _ (j : Job) (budget : ℕ) (s : Guiding) where
-  -- no round left: the run ends
-  pub guide-done : guideOn j budget 0 s ≡ guidedAt j s
-  unfolding guideOn
-  guide-done = refl
+-- no round left: the run ends
+pub guide-done : (j : Job) (budget : ℕ) (s : Guiding) → guideOn j 0 budget s ≡ guidedAt j s
+unfolding guideOn
+guide-done j budget s = refl
 
-  -- a round that is clear ends the run, its weights as they are
-  clear-suc : (left : ℕ) → descentOf j budget s .end ≡ Clear → guideOn j budget (suc left) s ≡ guidedAt j (rounded j s (descentOf j budget s) (s .weights))
-  unfolding guideOn
-  clear-suc left e = rw (e, guideOn)
+-- a round that is clear ends the run, its weights as they are
+clear-suc : (j : Job) (left budget : ℕ) (s : Guiding) → descentOf j budget s .end ≡ Clear
+    → guideOn j (suc left) budget s ≡ guidedAt j (rounded j s (descentOf j budget s) (s .weights))
+unfolding guideOn
+clear-suc j left budget s e = rw (e, guideOn)
 
-  -- a clear round, its descent given
-  pub guide-clear : (left : ℕ) (d : Descent) → 0 < left → descentOf j budget s ≡ d → d .end ≡ Clear
-      → guideOn j budget left s ≡ guidedAt j (rounded j s d (s .weights))
-  guide-clear left d l e c =
-      let more : left ≡ suc (left - 1) = omega arith in
-      ap (λ n. guideOn j budget n s) more ∙ clear-suc (left - 1) (ap (λ x. x .end) e ∙ c) ∙ ap (λ x. guidedAt j (rounded j s x (s .weights))) e
+-- a clear round, its descent given
+pub guide-clear : (j : Job) (left budget : ℕ) (s : Guiding) (d : Descent) → 0 < left → descentOf j budget s ≡ d → d .end ≡ Clear
+    → guideOn j left budget s ≡ guidedAt j (rounded j s d (s .weights))
+guide-clear j left budget s d l e c =
+    let more : left ≡ suc (left - 1) = omega arith in
+    ap (λ n. guideOn j n budget s) more ∙ clear-suc j (left - 1) budget s (ap (λ x. x .end) e ∙ c)
+    ∙ ap (λ x. guidedAt j (rounded j s x (s .weights))) e
 
-  -- one that is not raises the weights, the last round too
-  open-suc : (left : ℕ) → isClear (descentOf j budget s .end) ≡ false
-      → guideOn j budget (suc left) s ≡ guideOn j budget left (rounded j s (descentOf j budget s) (raised j (descentOf j budget s .layout) (s .weights)))
-  unfolding guideOn
-  open-suc left e = rw (e, guideOn)
+-- one that is not raises the weights, the last round too
+open-suc : (j : Job) (left budget : ℕ) (s : Guiding) → isClear (descentOf j budget s .end) ≡ false
+    → guideOn j (suc left) budget s ≡ guideOn j left budget (rounded j s (descentOf j budget s) (raised j (descentOf j budget s .layout) (s .weights)))
+unfolding guideOn
+open-suc j left budget s e = rw (e, guideOn)
 
-  -- a round that is not clear, its descent given
-  pub guide-open : (left : ℕ) (d : Descent) → 0 < left → descentOf j budget s ≡ d → d .end ≢ Clear
-      → guideOn j budget left s ≡ guideOn j budget (left - 1) (rounded j s d (raised j (d .layout) (s .weights)))
-  guide-open left d l e c =
-      let more : left ≡ suc (left - 1) = omega arith in
-      ap (λ n. guideOn j budget n s) more
-      ∙ open-suc (left - 1) (ap (λ x. isClear (x .end)) e ∙ clear-test (d .end) c)
-      ∙ ap (λ x. guideOn j budget (left - 1) (rounded j s x (raised j (x .layout) (s .weights)))) e
+-- a round that is not clear, its descent given
+pub guide-open : (j : Job) (left budget : ℕ) (s : Guiding) (d : Descent) → 0 < left → descentOf j budget s ≡ d → d .end ≢ Clear
+    → guideOn j left budget s ≡ guideOn j (left - 1) budget (rounded j s d (raised j (d .layout) (s .weights)))
+guide-open j left budget s d l e c =
+    let more : left ≡ suc (left - 1) = omega arith in
+    ap (λ n. guideOn j n budget s) more
+    ∙ open-suc j (left - 1) budget s (ap (λ x. isClear (x .end)) e ∙ clear-test (d .end) c)
+    ∙ ap (λ x. guideOn j (left - 1) budget (rounded j s x (raised j (x .layout) (s .weights)))) e
 
 -- a round's end with a smaller plain sum is the best now
 pub best-replaced : (j : Job) (best v : Layout) → plainSum j v < plainSum j best → bestOf j best v ≡ v
@@ -134,56 +135,56 @@ after-test j r b e = rw (e, weightsAfter)
 
 -- a round that comes to d, and the rounds after it by the weights ws
 abbrev following : Job → ℕ → ℕ → Guiding → Descent → List ℕ → Guided
-following j budget left s d ws =
+following j left budget s d ws =
     record {
-      layout = bestAfter j (bestOf j (s .best) (d .layout)) (rounds j budget left ws (d .layout));
-      sum = plainSum j (bestAfter j (bestOf j (s .best) (d .layout)) (rounds j budget left ws (d .layout)));
-      weights = lastWeights j ws (rounds j budget left ws (d .layout));
-      made = s .made + (d .made + madeIn (rounds j budget left ws (d .layout)));
-      moves = s .moves + (d .moves + movesIn (rounds j budget left ws (d .layout)));
+      layout = bestAfter j (bestOf j (s .best) (d .layout)) (rounds j left budget ws (d .layout));
+      sum = plainSum j (bestAfter j (bestOf j (s .best) (d .layout)) (rounds j left budget ws (d .layout)));
+      weights = lastWeights j ws (rounds j left budget ws (d .layout));
+      made = s .made + (d .made + madeIn (rounds j left budget ws (d .layout)));
+      moves = s .moves + (d .moves + movesIn (rounds j left budget ws (d .layout)));
     }
 
 -- one round and those after it, by the test for a clear end
-round-on : (j : Job) (budget left : ℕ) (s : Guiding) (b : Bool) → isClear (descentOf j budget s .end) ≡ b
-    → ((t : Guiding) → guideOn j budget left t ≡ totalled j t (rounds j budget left (t .weights) (t .layout)))
+round-on : (j : Job) (left budget : ℕ) (s : Guiding) (b : Bool) → isClear (descentOf j budget s .end) ≡ b
+    → ((t : Guiding) → guideOn j left budget t ≡ totalled j t (rounds j left budget (t .weights) (t .layout)))
     → elim b as (λ _. Guided) [
       | true ↦ guidedAt j (rounded j s (descentOf j budget s) (s .weights))
-      | false ↦ guideOn j budget left (rounded j s (descentOf j budget s) (raised j (descentOf j budget s .layout) (s .weights)))
+      | false ↦ guideOn j left budget (rounded j s (descentOf j budget s) (raised j (descentOf j budget s .layout) (s .weights)))
     ]
     ≡ totalled j s (roundFrom j budget (s .weights) (s .layout) ∷ elim b as (λ _. List Round) [
       | true ↦ []
-      | false ↦ rounds j budget left (weightsAfter j (roundFrom j budget (s .weights) (s .layout))) (descentOf j budget s .layout)
+      | false ↦ rounds j left budget (weightsAfter j (roundFrom j budget (s .weights) (s .layout))) (descentOf j budget s .layout)
     ])
 unfolding bestAfter lastWeights madeIn movesIn
-round-on j budget left s true e later =
+round-on j left budget s true e later =
     guided-parts j (bestOf j (s .best) (descentOf j budget s .layout)) _ _ _ _ _ _ (sym (after-test j (roundFrom j budget (s .weights) (s .layout)) true e))
     (omega arith) (omega arith)
-round-on j budget left s false e later =
+round-on j left budget s false e later =
     let d : Descent = descentOf j budget s in
     let ws : List ℕ = raised j (d .layout) (s .weights) in
     later (rounded j s d ws)
-    ∙ guided-parts j (bestAfter j (bestOf j (s .best) (d .layout)) (rounds j budget left ws (d .layout))) _ _ _ _ _ _ refl
+    ∙ guided-parts j (bestAfter j (bestOf j (s .best) (d .layout)) (rounds j left budget ws (d .layout))) _ _ _ _ _ _ refl
     (add-assoc (s .made) (d .made) _) (add-assoc (s .moves) (d .moves) _)
-    ∙ ap (following j budget left s d) (sym (after-test j (roundFrom j budget (s .weights) (s .layout)) false e))
+    ∙ ap (following j left budget s d) (sym (after-test j (roundFrom j budget (s .weights) (s .layout)) false e))
 
 -- from any point on
-on-totalled : (j : Job) (budget left : ℕ) (s : Guiding) → guideOn j budget left s ≡ totalled j s (rounds j budget left (s .weights) (s .layout))
+on-totalled : (j : Job) (left budget : ℕ) (s : Guiding) → guideOn j left budget s ≡ totalled j s (rounds j left budget (s .weights) (s .layout))
 unfolding guideOn rounds bestAfter lastWeights madeIn movesIn
-on-totalled j budget zero s = guided-parts j (s .best) _ _ _ _ _ _ refl (omega arith) (omega arith)
-on-totalled j budget (suc left) s = round-on j budget left s _ refl (on-totalled j budget left)
+on-totalled j zero budget s = guided-parts j (s .best) _ _ _ _ _ _ refl (omega arith) (omega arith)
+on-totalled j (suc left) budget s = round-on j left budget s _ refl (on-totalled j left budget)
 
 -- the guided run is what comes from its beginning on
-pub guide-on : (j : Job) (count budget : ℕ) (ws : List ℕ) (v : Layout) → guide j count budget ws v ≡ guideOn j budget count (guiding v ws v 0 0)
+pub guide-on : (j : Job) (count budget : ℕ) (ws : List ℕ) (v : Layout) → guide j count budget ws v ≡ guideOn j count budget (guiding v ws v 0 0)
 unfolding guide outcome
 guide-on j count budget ws v =
-    guided-parts j (bestAfter j v (rounds j budget count ws v)) _ _ _ _ _ _ refl (omega arith) (omega arith)
-    ∙ sym (on-totalled j budget count (guiding v ws v 0 0))
+    guided-parts j (bestAfter j v (rounds j count budget ws v)) _ _ _ _ _ _ refl (omega arith) (omega arith)
+    ∙ sym (on-totalled j count budget (guiding v ws v 0 0))
 
 -- ── what holds before each round ──
 
 -- the loop of the guided run from v by ws stands at s, with `left` rounds, and the best layout's plain sum is kept beside it
-pub record GuidedUnderway (j : Job) (ws : List ℕ) (budget count : ℕ) (v : Layout) (left : ℕ) (s : Guiding) (bestSum : ℕ) : Type 0 where
-  pub result : guide j count budget ws v ≡ guideOn j budget left s
+pub record GuidedUnderway (j : Job) (ws : List ℕ) (count budget : ℕ) (v : Layout) (left : ℕ) (s : Guiding) (bestSum : ℕ) : Type 0 where
+  pub result : guide j count budget ws v ≡ guideOn j left budget s
   pub bestSumIs : bestSum ≡ plainSum j (s .best)
   pub validLayout : ValidLayout j (s .layout)
   pub validBest : ValidLayout j (s .best)
@@ -205,9 +206,9 @@ best-valid-at j best v false h g = h
 best-valid : (j : Job) (best v : Layout) → ValidLayout j best → ValidLayout j v → ValidLayout j (bestOf j best v)
 best-valid j best v h g = best-valid-at j best v (ltb (plainSum j v) (plainSum j best)) h g
 
-module _ (j : Job) (ws : List ℕ) (budget count : ℕ) (v : Layout) (some-piece : 0 < j .count) where
+module _ (j : Job) (ws : List ℕ) (count budget : ℕ) (v : Layout) (some-piece : 0 < j .count) where
   -- it holds before the first round
-  pub guided-begin : ValidLayout j v → ValidWeights j ws → GuidedUnderway j ws budget count v count (guiding v ws v 0 0) (plainSum j v)
+  pub guided-begin : ValidLayout j v → ValidWeights j ws → GuidedUnderway j ws count budget v count (guiding v ws v 0 0) (plainSum j v)
   guided-begin h w =
       record {
         result = guide-on j count budget ws v;
@@ -219,11 +220,11 @@ module _ (j : Job) (ws : List ℕ) (budget count : ℕ) (v : Layout) (some-piece
         movesMade = omega arith;
       }
 
-  module _ (left : ℕ) (s : Guiding) (bestSum : ℕ) (u : GuidedUnderway j ws budget count v left s bestSum) where
+  module _ (left : ℕ) (s : Guiding) (bestSum : ℕ) (u : GuidedUnderway j ws count budget v left s bestSum) where
     -- no round left: what the run gives
     pub guided-done : left ≡ 0 → guide j count budget ws v ≡ guidedOf (s .best) bestSum (s .weights) (s .made) (s .moves)
     guided-done e =
-        u .result ∙ ap (λ n. guideOn j budget n s) e ∙ guide-done j budget s
+        u .result ∙ ap (λ n. guideOn j n budget s) e ∙ guide-done j budget s
         ∙ ap (λ x. guidedOf (s .best) x (s .weights) (s .made) (s .moves)) (sym (u .bestSumIs))
 
     -- the round, its end, and the better of the best so far and the round's end, with its plain sum
@@ -237,20 +238,20 @@ module _ (j : Job) (ws : List ℕ) (budget count : ℕ) (v : Layout) (some-piece
         -- a clear round: what the run gives
         pub guided-clear : d .end ≡ Clear → guide j count budget ws v ≡ guidedOf best sum (s .weights) (s .made + d .made) (s .moves + d .moves)
         guided-clear e =
-            u .result ∙ guide-clear j budget s left d more isRound e
+            u .result ∙ guide-clear j left budget s d more isRound e
             ∙ ap (λ b. guidedOf b (plainSum j b) (s .weights) (s .made + d .made) (s .moves + d .moves)) isBest
             ∙ ap (λ x. guidedOf best x (s .weights) (s .made + d .made) (s .moves + d .moves)) (sym isSum)
 
         -- any other: what holds before the next round
         pub guided-open : d .end ≢ Clear
-            → GuidedUnderway j ws budget count v (left - 1)
+            → GuidedUnderway j ws count budget v (left - 1)
             (guiding (d .layout) (raised j (d .layout) (s .weights)) best (s .made + d .made) (s .moves + d .moves)) sum
         guided-open e =
             let c : DescentClaims j (s .weights) budget (s .layout) d = round-claims in
             record {
               result =
-                  u .result ∙ guide-open j budget s left d more isRound e
-                  ∙ ap (λ b. guideOn j budget (left - 1) (guiding (d .layout) (raised j (d .layout) (s .weights)) b (s .made + d .made) (s .moves + d .moves))) isBest;
+                  u .result ∙ guide-open j left budget s d more isRound e
+                  ∙ ap (λ b. guideOn j (left - 1) budget (guiding (d .layout) (raised j (d .layout) (s .weights)) b (s .made + d .made) (s .moves + d .moves))) isBest;
               bestSumIs = isSum;
               validLayout = c .valid;
               validBest = rw isBest at (best-valid j (s .best) (d .layout) (u .validBest) (c .valid));

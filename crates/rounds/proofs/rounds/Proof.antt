@@ -15,7 +15,7 @@ use Rattle.rounds.proofs.rounds.Tie as tie
 
 abbrev Inv-loop : tie.InvT-loop
 Inv-loop size table pixels rows row-starts columns column-starts count budget width present₀ best₀ weights₀ penalties₀ row-lines₀ row-tags₀ column-lines₀ column-tags₀ sums₀ n sum₀ made₀ moves₀ left₀ present best weights penalties row-lines row-tags column-lines column-tags sums sum made moves left =
-    Rounding (lentBy size table pixels) width weights₀ budget count (layoutOf present₀) present best weights penalties row-lines row-tags column-lines column-tags sums sum made moves left
+    Rounding (lentBy size table pixels) width weights₀ count budget (layoutOf present₀) present best weights penalties row-lines row-tags column-lines column-tags sums sum made moves left
     × Sizes present best weights penalties row-lines row-tags column-lines column-tags sums present₀ best₀ weights₀ penalties₀ row-lines₀ row-tags₀ column-lines₀ column-tags₀ sums₀
 
 abbrev μ-loop : tie.MeasureT-loop
@@ -72,7 +72,7 @@ loop-holds : tie.Need-loop-holds Inv-loop μ-loop
 loop-holds c =
     let s = c .before .before .before .before .before .before .before .before .before .before .before .before in
     let laid = s .pre .1 .1 .0 in (
-      rounding-begin (s .args .budget) (s .args .count) (some-piece s) laid (s .pre .1 .1 .1 .0) (s .pre .1 .0) (s .pre .1 .1 .1 .1 .0)
+      rounding-begin (s .args .count) (s .args .budget) (some-piece s) laid (s .pre .1 .1 .1 .0) (s .pre .1 .0) (s .pre .1 .1 .1 .1 .0)
           (c .plain-total .ensures (jobOf (job s)) (layoutOf (s .args .present .now)) (job-count (job s)) (laid .table)),
       record {
         sameLayout = refl;
