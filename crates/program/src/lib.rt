@@ -28,6 +28,9 @@ use model::JobSize;
 use pair_sums::pair_count;
 use placing::LengthAnswer;
 
+// The most bytes that an input may have.
+pub const INPUT_BOUND: usize = 65536;
+
 // The run of a job: from the start layout, by weights 1, 20 rounds of budget 1,000. The best layout is left in the layout buffer.
 fn run_job(size: JobSize, table: &[[u8; 3]], pixels: &[u8], layout: &mut [[u16; 3]]) -> Run
     requires { ⌜ (lentWell (lentBy size (now table) (now pixels)) ≡ true) × (length (now layout) ≡ size .count) ⌝ }
@@ -111,7 +114,7 @@ pub fn print_run(input: &[u8], output: &mut [u8]) -> usize
     if output.len() < 4096 {
         return 0;
     }
-    if 65536 < input.len() {
+    if INPUT_BOUND < input.len() {
         return put_refusal_line(output, placing::refusal(7));
     }
     read_and_print(input, output)
