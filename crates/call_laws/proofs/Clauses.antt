@@ -14,7 +14,7 @@ use Rattle.model.specs.Refusal.{Outcome, refused, given, Cause, cause, unless, 
 use Rattle.model.specs.Text.{andThen}
 use Rattle.model.specs.JobText.{readJob}
 use Rattle.model.specs.LayoutText.{readLayout}
-use Rattle.model.specs.Program.{refusalText, printed, programText}
+use Rattle.model.specs.Program.{refusalText, printed, programText, inputBound, programCall}
 use Rattle.model.specs.Calls.{leaving, stretchNumber, stripsCall, stretchCall, noFitCall, rebuildCall, pairCauses, shareCall, depthCall, penaltyCall}
 use Rattle.model.specs.Calls.{weightedSumCall, layoutCauses, plainSumCall, usedLengthCall, searchCall, descentCall, guidedCall, startCall, writeLayoutCall}
 use Rattle.model.specs.Calls.{readLayoutCall, checkCall, freshCall, sheetCauses, layCall, withdrawCall}
@@ -80,9 +80,9 @@ program-test input false = refl
 -- the program refuses too long an input by 7, and else as the reader does
 program-clause : (input : List ℕ)
     → programText input
-    ≡ printed (andThen (unless (cause wrongLength (ltb areaBound (length input)) ∷ []) input) (λ text. readJob text pieceBound areaBound))
+    ≡ printed (andThen (unless (cause wrongLength (ltb inputBound (length input)) ∷ []) input) (λ text. readJob text pieceBound areaBound))
 unfolding programText
-program-clause input = program-test input (ltb areaBound (length input))
+program-clause input = program-test input (ltb inputBound (length input))
 
 -- ── each call ──
 
@@ -90,7 +90,7 @@ program-clause input = program-test input (ltb areaBound (length input))
 pub call-clauses : CallClauses
 unfolding stripsCall stretchCall noFitCall rebuildCall pairCauses shareCall depthCall penaltyCall weightedSumCall layoutCauses
     plainSumCall usedLengthCall searchCall descentCall guidedCall startCall writeLayoutCall checkCall freshCall sheetCauses
-    layCall layCauses withdrawCall withdrawCauses
+    layCall layCauses withdrawCall withdrawCauses programCall
 call-clauses =
     record {
       read-job = λ text m n. answers (readJob text m n);
@@ -136,4 +136,6 @@ call-clauses =
       withdraw-sheet = λ l s i. sheet-claims s _;
       withdraw-counts = λ l s i. leaving-claims _ (s .counts) _;
       program = program-clause;
+      program-output = λ input room. unless-claims _ _;
+      program-output-text = λ input before. leaving-claims _ before _;
     }

@@ -22,7 +22,7 @@ use Rattle.model.specs.Lent.{Lent, jobOf, lentWell, pieceBound, areaBound}
 use Rattle.model.specs.Refusal.{refused, given, wrongLength}
 use Rattle.model.specs.JobText.{readJob}
 use Rattle.model.specs.Store.{turnIn, pieceStrips}
-use Rattle.model.specs.Program.{refusalText, programText}
+use Rattle.model.specs.Program.{inputBound, refusalText, programText}
 use Rattle.model.specs.Calls.{Stores, stripsCall, storesAfter, stretchWell, usedLengthCall, descentAfter, bestAfterRun, weightsAfterRun, stretchCall, stretchGiven, stretchNumber, LentStretch, noFitCall, stripsWell, rebuildCall, shareCall, depthCall, penaltyCall, weightedSumCall, plainSumCall, searchCall, descentCall, guidedCall, writeLayoutCall, readLayoutCall, startCall, checkCall, freshCall, layCall, withdrawCall}
 use Rattle.model.specs.declared.Turn.{Turn}
 use Rattle.model.specs.declared.Direction.{Direction}
@@ -92,10 +92,10 @@ pub record Demand1Calls : Type 0 where
   -- the used length is the largest right end
   pub used-lengths : (l : Lent) (es : List (List ℕ)) (n : ℕ) → usedLengthCall l es ≡ given n → UsedClaims (jobOf l) (layoutOf es) n
   -- the program prints the text of the run that the calls give, or the reader's refusal, or `refused,7,0` for too long an input
-  pub program : (input : List ℕ) (l : Lent) → length input ≤ areaBound → readJob input pieceBound areaBound ≡ given l → Prints input l
-  pub program-refused : (input : List ℕ) (r : Refusal) → length input ≤ areaBound → readJob input pieceBound areaBound ≡ refused r
+  pub program : (input : List ℕ) (l : Lent) → length input ≤ inputBound → readJob input pieceBound areaBound ≡ given l → Prints input l
+  pub program-refused : (input : List ℕ) (r : Refusal) → length input ≤ inputBound → readJob input pieceBound areaBound ≡ refused r
       → programText input ≡ refusalText r
-  pub program-long : (input : List ℕ) → areaBound < length input
+  pub program-long : (input : List ℕ) → inputBound < length input
       → programText input ≡ refusalText (record { number = wrongLength; first = 0; second = 0 })
 
 -- ── demand 2: strips, overlap, counts ──

@@ -13,7 +13,7 @@ use Rattle.model.specs.Start.{start}
 use Rattle.model.specs.Lent.{Lent, jobOf, lentWell, pieceBound, areaBound}
 use Rattle.model.specs.Refusal.{refused, given, wrongLength}
 use Rattle.model.specs.JobText.{readJob}
-use Rattle.model.specs.Program.{programRounds, programBudget, refusalText, programRun, printed, programText}
+use Rattle.model.specs.Program.{programRounds, programBudget, inputBound, refusalText, programRun, printed, programText}
 use Rattle.model.specs.Calls.{guidedCall}
 use Rattle.model.specs.declared.Refusal.{Refusal}
 use Rattle.text_laws.proofs.JobRead.{job-read-well}
@@ -32,12 +32,12 @@ program-run-given l well =
     programBudget refl (omega arith)
 
 -- an input that is not too long is read
-program-reads : (input : List ℕ) → length input ≤ areaBound → programText input ≡ printed (readJob input pieceBound areaBound)
+program-reads : (input : List ℕ) → length input ≤ inputBound → programText input ≡ printed (readJob input pieceBound areaBound)
 unfolding programText
 program-reads input few = rw (not-less few, programText)
 
 -- it prints so
-pub program-prints : (input : List ℕ) (l : Lent) → length input ≤ areaBound → readJob input pieceBound areaBound ≡ given l → Prints input l
+pub program-prints : (input : List ℕ) (l : Lent) → length input ≤ inputBound → readJob input pieceBound areaBound ≡ given l → Prints input l
 unfolding programRun
 program-prints input l few e =
     let well : lentWell l ≡ true = job-read-well input pieceBound areaBound l e in
@@ -48,12 +48,12 @@ program-prints input l few e =
     }
 
 -- a job that the reader refuses prints its refusal
-pub program-refuses : (input : List ℕ) (r : Refusal) → length input ≤ areaBound → readJob input pieceBound areaBound ≡ refused r
+pub program-refuses : (input : List ℕ) (r : Refusal) → length input ≤ inputBound → readJob input pieceBound areaBound ≡ refused r
     → programText input ≡ refusalText r
 program-refuses input r few e = program-reads input few ∙ ap printed e
 
 -- an input above 65,536 bytes prints `refused,7,0`, whatever its bytes are
-pub program-too-long : (input : List ℕ) → areaBound < length input
+pub program-too-long : (input : List ℕ) → inputBound < length input
     → programText input ≡ refusalText (record { number = wrongLength; first = 0; second = 0 })
 unfolding programText
-program-too-long input many = rw (lt-ltb areaBound (length input) many, programText)
+program-too-long input many = rw (lt-ltb inputBound (length input) many, programText)

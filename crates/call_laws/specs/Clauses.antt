@@ -21,7 +21,7 @@ use Rattle.model.specs.Refusal.{refused, given, cause, unless, outOfRange, wron
 use Rattle.model.specs.Text.{andThen}
 use Rattle.model.specs.JobText.{readJob}
 use Rattle.model.specs.LayoutText.{layoutText, readLayout}
-use Rattle.model.specs.Program.{printed, programText}
+use Rattle.model.specs.Program.{inputBound, printed, programText, programCall}
 use Rattle.model.specs.Calls.{someTurnWrong, someOutside, someWeightWrong, turnListWrong, Stores, storesOf, storesShort, storesWell, storesAfter, stripsCall}
 use Rattle.model.specs.Calls.{stretchOf, stretchCall, stretchGiven, stretchNumber, LentStretch, known, stretchWell, noFitOf, noFitCall, runsAfter}
 use Rattle.model.specs.Calls.{rebuiltFrom, stripsWell, rebuildCall, pixelsAfter, shareCall, depthCall, penaltyCall, weightedSumCall, plainSumCall}
@@ -278,4 +278,11 @@ pub record CallClauses : Type 0 where
   pub program : (input : List ℕ)
       → programText input
       ≡ printed
-      (andThen (unless (cause wrongLength (ltb areaBound (length input)) ∷ []) input) (λ text. readJob text pieceBound areaBound))
+      (andThen (unless (cause wrongLength (ltb inputBound (length input)) ∷ []) input) (λ text. readJob text pieceBound areaBound))
+  -- over a lent output buffer: 7
+  pub program-output : (input : List ℕ) (room : ℕ)
+      → CallClaims (cause wrongLength (ltb room (length (programText input))) ∷ []) (programText input) (programCall input room)
+  -- the output buffer: what is printed over its front
+  pub program-output-text : (input before : List ℕ)
+      → BufferClaims (λ text. filled text before) before (textAfter before (programCall input (length before)))
+      (programCall input (length before))

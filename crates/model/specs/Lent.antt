@@ -40,7 +40,7 @@ pieceBound = 64
 abbrev pub turnsBound : ℕ
 turnsBound = 15
 
--- the most pixels of a sheet, of all boxes together, and bytes of the program's input
+-- the most pixels of a sheet, and of all boxes together
 abbrev pub areaBound : ℕ
 areaBound = 65536
 

@@ -24,6 +24,10 @@ programRounds = 20
 abbrev pub programBudget : ℕ
 programBudget = 1000
 
+-- the most bytes of the program's input
+abbrev pub inputBound : ℕ
+inputBound = 65536
+
 -- a line: a word, numbers of at most 10 digits, each behind a comma, and byte 10
 unfoldable pub wordLine : List ℕ → List ℕ → List ℕ
 wordLine word [] = word ++ (lineEnd ∷ [])
@@ -54,7 +58,7 @@ printed (given l) = runText (jobOf l) (programRun (jobOf l))
 -- what the program prints for its input: above 65,536 bytes `refused,7,0`, whatever they are
 unfoldable pub programText : List ℕ → List ℕ
 programText input =
-    elim (ltb areaBound (length input)) [
+    elim (ltb inputBound (length input)) [
       | true ↦ refusalText (record { number = wrongLength; first = 0; second = 0 })
       | false ↦ printed (readJob input pieceBound areaBound)
     ]

@@ -4,10 +4,10 @@ use libc::STDERR_FILENO;
 use libc::STDIN_FILENO;
 use libc::STDOUT_FILENO;
 
-// One byte above the 65,536 that an input may have tells that it is too long. A read that fails counts as the end of the input; a job
+// One byte above those that an input may have tells that it is too long. A read that fails counts as the end of the input; a job
 // that has lost its end is refused. A program has no exit status of its own, so that a write that fails is told on standard error.
 fn main() {
-    let mut input = [0u8; 65537];
+    let mut input = [0u8; program::INPUT_BOUND + 1];
     let read = io::read_full(STDIN_FILENO, &mut input);
     let mut output = [0u8; 4096];
     // No output has more bytes than this buffer, so that it is not refused.

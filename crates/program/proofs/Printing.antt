@@ -14,7 +14,7 @@ use Rattle.model.specs.declared.Refusal.{Refusal}
 use Rattle.model.specs.Buffer.{filled}
 use Rattle.model.specs.JobText.{readJob}
 use Rattle.model.specs.Calls.{textAfter}
-use Rattle.model.specs.Program.{printed, programText, programCall}
+use Rattle.model.specs.Program.{inputBound, printed, programText, programCall}
 use Rattle.layout_writer.specs.Answers.{textAnswer}
 use Rattle.layout_writer.specs.Written.{Written}
 use Rattle.layout_writer.specs.declared.TextAnswer.{TextAnswer}
@@ -32,9 +32,9 @@ pub written-printed : {before after : List ℕ} {most next : ℕ} (o p : Outcome
 written-printed o p e w h = rw e (written-more w h)
 
 -- an input that is not too long is read
-pub program-read : (input : List ℕ) → length input ≤ areaBound → programText input ≡ printed (readJob input pieceBound areaBound)
+pub program-read : (input : List ℕ) → length input ≤ inputBound → programText input ≡ printed (readJob input pieceBound areaBound)
 unfolding programText
-program-read input few = rw (le-ltb areaBound (length input) few, programText)
+program-read input few = rw (le-ltb inputBound (length input) few, programText)
 
 -- ── the output buffer ──
 

@@ -46,7 +46,7 @@ layout-passes l v well valid =
 -- the best layout of the program's run is valid
 best-valid : (l : Lent) → lentWell l ≡ true → ValidLayout (jobOf l) (programRun (jobOf l) .layout)
 unfolding programRun
-best-valid l well = lent-demand3 l well .guidedRuns programBudget programRounds .validLayout
+best-valid l well = lent-demand3 l well .guidedRuns programRounds programBudget .validLayout
 
 -- a buffer that holds it has none of a layout's causes
 pub best-passes : (l : Lent) (es : List (List ℕ)) → lentWell l ≡ true → es ≡ entriesOf (programRun (jobOf l) .layout) → NoCause (layoutCauses l es)

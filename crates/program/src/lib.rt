@@ -30,6 +30,9 @@ use model::JobSize;
 use pair_sums::pair_count;
 use placing::LengthAnswer;
 
+// The most bytes that an input may have.
+pub const INPUT_BOUND: usize = 65536;
+
 // The run of a job: from the start layout, by weights 1, 20 rounds of budget 1,000. The best layout is left in the layout buffer.
 fn run_job(size: JobSize, table: &[[u8; 3]], pixels: &[u8], layout: &mut [[u16; 3]]) -> Run
     requires { ⌜ (lentWell (lentBy size (now table) (now pixels)) ≡ true) × (length (now layout) ≡ size .count) ⌝ }
@@ -110,7 +113,7 @@ fn print_text(input: &[u8], text: &mut [u8]) -> usize
     requires { ⌜ outputBound ≤ length (now text) ⌝ }
     ensures { λ r. ⌜ Written (now (text .entry)) 0 (programText (now (input .entry))) outputBound r (now (text .exit)) ⌝ }
 {
-    if 65536 < input.len() {
+    if INPUT_BOUND < input.len() {
         return put_refusal_line(text, placing::refusal(7));
     }
     read_and_print(input, text)
