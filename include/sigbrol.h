@@ -286,8 +286,8 @@ sigbrol_reply sigbrol_guided_run(size_t rows, size_t columns, size_t count, cons
                                  uint32_t *weights, size_t weights_length, uint32_t rounds, uint32_t budget, uint64_t *sum,
                                  uint64_t *trials, uint64_t *moves);
 
-/* The whole program on a job text: fills the front of `output` with what `nest` prints for this input and `written` with how many bytes that
- * are, at most SIGBROL_OUTPUT. A job that is refused is told in that text.
+/* The whole program on a job text: fills the front of `output` with what `nest` prints for this input and `written` with how many bytes
+ * that are, at most SIGBROL_OUTPUT. A job that is refused is told in that text.
  * Refused: 7 the output buffer is shorter than the text. */
 sigbrol_reply sigbrol_program(const uint8_t *input, size_t input_length, uint8_t *output, size_t output_length, size_t *written);
 

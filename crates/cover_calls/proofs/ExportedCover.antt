@@ -1,7 +1,7 @@
 -- Demand 2 of the exported calls: after a fresh sheet that is not refused, for every list of lay and withdraw calls with any numbers, each
 -- pixel's count in the caller's buffer is the number of laid pieces on it, and the record's buffer holds which pieces these are.
--- Why it is true: what a call leaves in the buffers is read as the sheet after it (`buffers-back`), and on a sheet that is ready an exported
--- call comes to what the definition of a list of calls says; so the buffers hold the sheet that the list gives, of which
+-- Why it is true: what a call leaves in the buffers is read as the sheet after it (`buffers-back`), and on a sheet that is ready an
+-- exported call comes to what the definition of a list of calls says; so the buffers hold the sheet that the list gives, of which
 -- `demand2-cover` speaks. Assumes nothing.
 use mathlib.Core.Bool.{Bool, true, false}
 use mathlib.Core.List.{List, [], _∷_}
@@ -22,7 +22,8 @@ use Rattle.cover.specs.Ready.{SheetReady}
 use Rattle.interface.specs.Replies.{replyTo}
 use Rattle.interface.proofs.Records.{buffers-back}
 use Rattle.stamp.proofs.Pieces.{few-pieces}
-use Rattle.cover_calls.specs.Exported.{Buffers, ExportedCall, lays, withdraws, callMeant, callsMeant, sheetHeld, exported, buffersAfter, afterExported, freshExported, fromFresh}
+use Rattle.cover_calls.specs.Exported.{Buffers, ExportedCall, lays, withdraws, callMeant, callsMeant, sheetHeld}
+use Rattle.cover_calls.specs.Exported.{exported, buffersAfter, afterExported, freshExported, fromFresh}
 use Rattle.cover_calls.proofs.CallLists.{lay-called, withdraw-called, ready-after, fresh-ready}
 
 -- on a ready sheet an exported call comes to what the definition of a call says
@@ -51,7 +52,8 @@ held-list l b (c ∷ cs) ready =
 
 -- a cause whose number is not in the reply is not there
 reply-step : (t : Bool) (c : Cause) (o : Outcome Sheet) → 0 < c .number
-    → replyTo {A = Sheet} (elim t as (λ _. Outcome Sheet) [ true ↦ refused (refusalOf c) | false ↦ o ]) .number ≡ 0 → (t ≡ false) × (replyTo o .number ≡ 0)
+    → replyTo {A = Sheet} (elim t as (λ _. Outcome Sheet) [ true ↦ refused (refusalOf c) | false ↦ o ]) .number ≡ 0
+    → (t ≡ false) × (replyTo o .number ≡ 0)
 reply-step true c o l e = absurd (omega arith)
 reply-step false c o l e = (refl, e)
 
