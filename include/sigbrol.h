@@ -168,10 +168,10 @@ uint32_t sigbrol_stretch_refusal(size_t rows, size_t columns, size_t count, cons
                                  size_t row_starts_length, const uint8_t (*column_strips)[3], size_t column_strips_length,
                                  const uint32_t *column_starts, size_t column_starts_length, size_t piece, uint8_t vertical);
 
-/* The pixels of the one piece with a box of `columns` by `rows` that has just these row strips (column strips if vertical): fills the
- * front of `pixels`, columns x rows bytes, 1 or 0, row by row. No job is lent; `columns` stands first here.
+/* The pixels of the one piece with a box of `rows` by `columns` that has just these row strips (column strips if vertical): fills the
+ * front of `pixels`, rows x columns bytes, 1 or 0, row by row. No job is lent.
  * Refused: 2 a side that is none of 1 to 255; 8 no piece of that box has just these strips; 7 the buffer is too short. */
-sigbrol_reply sigbrol_rebuild(uint16_t columns, uint16_t rows, uint8_t vertical, const uint8_t (*strips)[3], size_t strips_length,
+sigbrol_reply sigbrol_rebuild(uint16_t rows, uint16_t columns, uint8_t vertical, const uint8_t (*strips)[3], size_t strips_length,
                               uint8_t *pixels, size_t pixels_length);
 
 /* ---- two pieces ---- */
@@ -275,7 +275,7 @@ sigbrol_reply sigbrol_line_search(size_t rows, size_t columns, size_t count, con
 sigbrol_reply sigbrol_descent(size_t rows, size_t columns, size_t count, const uint8_t (*table)[3], size_t table_length,
                               const uint8_t *pixels, size_t pixels_length, uint16_t (*layout)[3], size_t layout_length,
                               const uint32_t *weights, size_t weights_length, uint32_t budget, uint8_t *end, uint64_t *sum,
-                              uint32_t *trials, uint32_t *moves);
+                              uint64_t *trials, uint64_t *moves);
 
 /* A guided run of at most `rounds` descents (1 to 1,000), each of at most `budget` trials; after each that is not clear the weight of
  * every pair that shares a pixel grows by 1, up to 65,535. The layout becomes the best one, the weights the new ones; fills `sum` (the

@@ -86,8 +86,7 @@ static void raise_weights(const sigbrol_job *job, search *s)
 static uint8_t run_round(const sigbrol_job *job, search *s, int number)
 {
     uint8_t end = 0;
-    uint64_t weighted = 0;
-    uint32_t trials = 0, moves = 0;
+    uint64_t weighted = 0, trials = 0, moves = 0;
     must("sigbrol_descent", sigbrol_descent(SIGBROL_LENT(job), s->layout, job->count, s->weights, SIGBROL_PAIRS(job->count), BUDGET,
                                             &end, &weighted, &trials, &moves));
     s->trials += trials;
@@ -98,7 +97,7 @@ static uint8_t run_round(const sigbrol_job *job, search *s, int number)
         s->best_sum = sum;
         memcpy(s->best, s->layout, sizeof s->best);
     }
-    fprintf(stderr, "round %d: %s, weighted sum %" PRIu64 ", plain sum %" PRIu64 ", %" PRIu32 " trials, %" PRIu32 " moves\n", number,
+    fprintf(stderr, "round %d: %s, weighted sum %" PRIu64 ", plain sum %" PRIu64 ", %" PRIu64 " trials, %" PRIu64 " moves\n", number,
             end_names[end], weighted, sum, trials, moves);
     return end;
 }

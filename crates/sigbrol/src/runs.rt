@@ -75,8 +75,8 @@ pub extern "C" fn sigbrol_descent(
     budget: u32,
     end: &mut u8,
     sum: &mut u64,
-    trials: &mut u32,
-    moves: &mut u32,
+    trials: &mut u64,
+    moves: &mut u64,
 ) -> Reply
     ensures answer { λ r. ⌜ r ≡ replyTo (descentCall (lentAs rows columns count (now (table .entry)) (now (pixels .entry))) (now (layout .entry)) (now (weights .entry)) budget) ⌝ }
     ensures memory { λ r. ⌜ now (layout .exit) ≡ descentAfter (now (layout .entry)) (descentCall (lentAs rows columns count (now (table .entry)) (now (pixels .entry))) (now (layout .entry)) (now (weights .entry)) budget) ⌝ }
@@ -98,8 +98,8 @@ pub extern "C" fn sigbrol_descent(
             let how = ended.end;
             *end = end_number(how);
             *sum = ended.sum;
-            *trials = ended.made;
-            *moves = ended.moves;
+            *trials = ended.made as u64;
+            *moves = ended.moves as u64;
             done()
         }
         DescentAnswer::Refused(refusal) => refused(refusal),

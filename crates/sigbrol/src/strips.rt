@@ -140,8 +140,8 @@ pub extern "C" fn sigbrol_stretch_refusal(
 // Writes the pixel bytes of the one set in the box that has just these strips.
 #[no_mangle]
 pub extern "C" fn sigbrol_rebuild(
-    columns: u16,
     rows: u16,
+    columns: u16,
     vertical: u8,
     strips: &[[u8; 3]],
     pixels: &mut [u8],

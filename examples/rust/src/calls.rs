@@ -43,8 +43,8 @@ pub enum End {
 pub struct Descent {
     pub end: End,
     pub sum: u64,
-    pub trials: u32,
-    pub moves: u32,
+    pub trials: u64,
+    pub moves: u64,
 }
 
 /// A job that has been read.

@@ -79,8 +79,8 @@ impl Search {
     /// One round: a descent from the present layout, the best layout kept. Gives how the descent ended.
     fn round(&mut self, job: &Job, number: usize) -> Result<End, Refused> {
         let descent = job.descent(&mut self.layout, &self.weights, BUDGET)?;
-        self.trials += u64::from(descent.trials);
-        self.moves += u64::from(descent.moves);
+        self.trials += descent.trials;
+        self.moves += descent.moves;
 
         let sum = job.plain_sum(&self.layout)?;
         if sum < self.best_sum {

@@ -68,8 +68,8 @@ extern "C" {
     ) -> Reply;
 
     pub fn sigbrol_rebuild(
-        columns: u16,
         rows: u16,
+        columns: u16,
         vertical: u8,
         strips: *const Strip,
         strips_length: usize,
@@ -221,8 +221,8 @@ lent_a_job! {
         budget: u32,
         end: *mut u8,
         sum: *mut u64,
-        trials: *mut u32,
-        moves: *mut u32,
+        trials: *mut u64,
+        moves: *mut u64,
     ) -> Reply;
 
     fn sigbrol_guided_run(

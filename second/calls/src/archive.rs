@@ -186,8 +186,8 @@ unsafe fn rebuild(memory: &mut Memory) -> Reply {
     let (strips, strips_length) = (at(&memory.row_strips), memory.row_strips.length());
     let (pixels, pixels_length) = (at_mut(&mut memory.output), memory.output.length());
     sigbrol_rebuild(
-        numbers.box_columns,
         numbers.box_rows,
+        numbers.box_columns,
         numbers.vertical,
         strips,
         strips_length,
@@ -318,7 +318,7 @@ unsafe fn descent(memory: &mut Memory) -> Reply {
     let (layout, length) = (at_mut(&mut memory.layout), memory.layout.length());
     let (weights, weights_length) = (at(&memory.weights), memory.weights.length());
     let (end, sum) = (to!(memory.bytes, 0), to!(memory.words, 0));
-    let (trials, moves) = (to!(memory.halves, 0), to!(memory.halves, 1));
+    let (trials, moves) = (to!(memory.words, 1), to!(memory.words, 2));
     lend!(
         memory,
         sigbrol_descent,

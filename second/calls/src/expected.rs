@@ -236,8 +236,8 @@ fn descent(memory: &mut Memory) -> Result<(), Refusal> {
     memory.layout = layout;
     memory.bytes.get_mut()[result(0)] = ended.end;
     memory.words.get_mut()[result(0)] = ended.sum;
-    memory.halves.get_mut()[result(0)] = ended.trials as u32;
-    memory.halves.get_mut()[result(1)] = ended.moves as u32;
+    memory.words.get_mut()[result(1)] = ended.trials;
+    memory.words.get_mut()[result(2)] = ended.moves;
     Ok(())
 }
 

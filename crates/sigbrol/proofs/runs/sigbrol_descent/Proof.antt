@@ -11,6 +11,7 @@ use Rattle.interface.specs.Numbers.{lentAs}
 use Rattle.interface.specs.declared.Reply.{Reply}
 use Rattle.sigbrol.proofs.Told.{reply-by, leaves-by, refusal-told, ended-told}
 use Rattle.sigbrol.proofs.Claimed.{descent-claimed, descent-numbered}
+use borrow.Author.Needs.{needs}
 use Rattle.sigbrol.proofs.runs.sigbrol_descent.Statement.{statement}
 use Rattle.sigbrol.proofs.runs.sigbrol_descent.Tie as tie
 
@@ -35,6 +36,12 @@ enum-known-ended c = c .match .keys1
 end-number-requires : tie.Need-end-number-requires
 end-number-requires c κs = tt
 
+cast-trials : tie.Need-cast-trials
+cast-trials c = search needs
+
+cast-moves : tie.Need-cast-moves
+cast-moves c = search needs
+
 done-requires : tie.Need-done-requires
 done-requires c κs = tt
 
@@ -45,14 +52,14 @@ refused-requires : tie.Need-refused-requires
 refused-requires c κs = tt
 
 same-length : tie.Need-same-length
-same-length c = c .before .before .before .before .before .before .descent .kept .1 .1 .1 .0
+same-length c = c .before .before .before .before .before .before .before .before .descent .kept .1 .1 .1 .0
 
 returns : tie.Need-returns
 unfolding outcome
 returns c =
-    let o = outcome (c .before .before .before .before .before .before .before .before .before .before .before) in
-    let t = ended-told o (sym (c .before .before .before .ended .given .1) ∙ answered (c .before .before .before .before .before .before)) in
-    (c .done .ensures ∙ reply-by endedOf o t, (rw (c .before .before .before .before .before .before .before .before .size-of .ensures) at (c .before .before .before .before .before .before .descent .ensures .1 .0), (c .before .end-number .ensures ∙ leaves-by endedOf (λ e. endNumber (e .end)) _ o t, (leaves-by endedOf (λ e. e .sum) _ o t, (leaves-by endedOf (λ e. e .made) _ o t, (leaves-by endedOf (λ e. e .moves) _ o t, λ zero. descent-claimed _ _ _ _ _ _ _ (c .before .end-number .ensures) (rw (c .before .before .before .before .before .before .before .before .size-of .ensures) at (c .before .before .before .before .before .before .descent .ensures .1 .1 _ (c .before .before .before .ended .given .1)))))))))
+    let o = outcome (c .before .before .before .before .before .before .before .before .before .before .before .before .before) in
+    let t = ended-told o (sym (c .before .before .before .before .before .ended .given .1) ∙ answered (c .before .before .before .before .before .before .before .before)) in
+    (c .done .ensures ∙ reply-by endedOf o t, (rw (c .before .before .before .before .before .before .before .before .before .before .size-of .ensures) at (c .before .before .before .before .before .before .before .before .descent .ensures .1 .0), (c .before .before .before .end-number .ensures ∙ leaves-by endedOf (λ e. endNumber (e .end)) _ o t, (leaves-by endedOf (λ e. e .sum) _ o t, (leaves-by endedOf (λ e. e .made) _ o t, (leaves-by endedOf (λ e. e .moves) _ o t, λ zero. descent-claimed _ _ _ _ _ _ _ (c .before .before .before .end-number .ensures) (rw (c .before .before .before .before .before .before .before .before .before .before .size-of .ensures) at (c .before .before .before .before .before .before .before .before .descent .ensures .1 .1 _ (c .before .before .before .before .before .ended .given .1)))))))))
 
 same-length-2 : tie.Need-same-length-2
 same-length-2 c = c .before .before .before .before .before .descent .kept .1 .1 .1 .0
@@ -77,6 +84,8 @@ sigbrol-descent-spec =
     descent-requires
     enum-known-ended
     end-number-requires
+    cast-trials
+    cast-moves
     done-requires
     enum-known-refusal
     refused-requires
