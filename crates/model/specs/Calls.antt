@@ -23,7 +23,9 @@
 --   fresh sheet            8, 7                                                            freshCall
 --   lay                    8 the job, 7, 8 the sheet, 9, 13, 10                            layCall; Cover, layCauses
 --   withdraw               8 the job, 7, 8 the sheet, 9, 14                                withdrawCall; Cover, withdrawCauses
---   the program            7 (line 0) for too long an input; else the reader's             Program, programText
+--   the program            in its text: 7 (line 0) for too long an input, else the reader's
+--                                                                                          Program, programText
+--                          7 where a lent output buffer is shorter than the text           Program, programCall
 use mathlib.Core.Bool.{Bool, true, false, not, _&&_, _||_}
 use mathlib.Core.List.{List, [], _∷_, _++_, map}
 use mathlib.Core.Option.{Option, none, some}

@@ -151,7 +151,7 @@ pieceAt text j i area p line =
 
 -- ── the pieces ──
 
--- the panel table and the pixel store, as far as pieces are read
+-- the piece table and the pixel store, as far as pieces are read
 pub record Pieces : Type 0 where
   pub table : List (List ℕ)
   pub pixels : List ℕ

@@ -71,7 +71,7 @@ fourBoxes =
       piece = λ i. record { shape = getD (full 2 2 ∷ full 3 2 ∷ full 2 2 ∷ full 1 4 ∷ []) i (full 1 1); turns = 1 };
     }
 
--- the corners of the next pieces of a layout
+-- the corners of the first four pieces of a layout, x and y of each
 corners : Layout → List ℕ
 corners v =
     placeOf v 0 .x .0 ∷ placeOf v 0 .y .0 ∷ placeOf v 1 .x .0 ∷ placeOf v 1 .y .0 ∷ placeOf v 2 .x .0 ∷ placeOf v 2 .y .0

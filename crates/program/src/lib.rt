@@ -69,13 +69,11 @@ fn write_run(
         return 0;
     };
     let TextAnswer::Written(next) = layout_writer::write_layout(size, table, pixels, layout, text)
-    // The layout has no cause of refusal: this does not happen.
     else {
         // It has none, and the buffer has room for its text: this does not happen.
         return 0;
     };
     put_end_line(text, next, run, used)
-    // It has none, and the buffer has room for its text: this does not happen.
 }
 
 // Runs a job that was read and writes how the run went.

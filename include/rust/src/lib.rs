@@ -1,5 +1,6 @@
-//! The functions of include/sigbrol.h, declared for Rust in the header's order; what each does and refuses stands there. A program that
-//! calls them links the archive that `rt staticlib sigbrol` makes (examples/rust/build.rs shows how).
+//! The functions of include/sigbrol.h, declared for Rust: first those that are lent no job, then the others, in the header's order. What
+//! each does and refuses stands there. A program that calls them links the archive that `rt staticlib sigbrol` makes
+//! (examples/rust/build.rs shows how).
 
 #![no_std]
 
