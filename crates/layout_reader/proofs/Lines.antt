@@ -1,5 +1,5 @@
 -- The causes of a line, as the reader meets them one after the other. Assumes nothing.
-use mathlib.Core.Bool.{Bool, true, false, not, _&&_}
+use mathlib.Core.Bool.{Bool, true, false, _&&_}
 use mathlib.Core.List.{List, [], _∷_}
 use mathlib.Core.Option.{Option, none, some}
 use mathlib.Core.Path.{_≡_, refl, sym, ap₂, _∙_}
@@ -11,7 +11,7 @@ use Rattle.model.specs.Layout.{Job, allowed, inside, turnedPiece}
 use Rattle.model.specs.Refusal.{Outcome, refused, given, Cause, unless, refusalOf, wrongForm, outOfRange, noSuchPiece, outsideSheet}
 use Rattle.model.specs.Lent.{rowBound, columnBound}
 use Rattle.model.specs.Buffer.{turnOfDegrees, turnPasses, isTurn, turnOf}
-use Rattle.model.specs.Text.{wrong, got, threeFields, fourFields, lineAt, causeIn, formed, andThen}
+use Rattle.model.specs.Text.{wrong, got, threeFields, fourFields, lineAt, field, causeIn, formed, andThen}
 use Rattle.model.specs.LayoutText.{layoutWord, atWord, layoutLine, PlacementLine, asPlacementLine, placementCauses, placementLine}
 use Rattle.model.specs.declared.Placement.{Placement}
 use Rattle.model.specs.declared.Refusal.{Refusal}
@@ -48,13 +48,13 @@ module _ (j : Job) (text : List ℕ) where
   unfolding layoutLine
   layout-line-wrong e = rw (e, formed)
 
-  module _ (a b c next : ℕ) (e : lineAt layoutWord threeFields text 0 ≡ got (a ∷ b ∷ c ∷ []) next) where
-    pub layout-line-unlike : (eqb a (j .rows) && eqb b (j .columns) && eqb c (j .count)) ≡ false
+  module _ (ks : List ℕ) (next : ℕ) (e : lineAt layoutWord threeFields text 0 ≡ got ks next) where
+    pub layout-line-unlike : (eqb (field ks 0) (j .rows) && eqb (field ks 1) (j .columns) && eqb (field ks 2) (j .count)) ≡ false
         → layoutLine j text ≡ refused (refusalOf (causeIn 1 outOfRange true))
     unfolding layoutLine unless
     layout-line-unlike h = rw (e, formed, h, unless)
 
-    pub layout-line-given : (eqb a (j .rows) && eqb b (j .columns) && eqb c (j .count)) ≡ true → layoutLine j text ≡ given next
+    pub layout-line-given : (eqb (field ks 0) (j .rows) && eqb (field ks 1) (j .columns) && eqb (field ks 2) (j .count)) ≡ true → layoutLine j text ≡ given next
     unfolding layoutLine unless
     layout-line-given h = rw (e, formed, h, unless)
 

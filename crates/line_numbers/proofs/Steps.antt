@@ -48,7 +48,8 @@ front-none numbers wrong = refl
 front-none numbers (got ks next) = refl
 
 -- nothing is read yet
-pub read-none : (text numbers : List ℕ) (p count : ℕ) → readOn numbers 0 (fieldsAt (fieldEnds (count - 0)) text p) ≡ fieldsAt (fieldEnds count) text p
+pub read-none : (text numbers : List ℕ) (p count : ℕ)
+    → readOn numbers 0 (fieldsAt (fieldEnds (count - 0)) text p) ≡ fieldsAt (fieldEnds count) text p
 read-none text numbers p count =
     let all : count - 0 ≡ count = omega arith in
     front-none numbers (fieldsAt (fieldEnds (count - 0)) text p) ∙ ap (λ (n : ℕ). fieldsAt (fieldEnds n) text p) all
@@ -79,7 +80,8 @@ module _ (text numbers : List ℕ) (p k count end : ℕ) (below : k < count) (en
 
   -- it is read and stored
   pub read-more : (v q : ℕ) → k < length numbers → fieldAt end text p ≡ got v q
-      → readOn (set numbers k v) (k + 1) (fieldsAt (fieldEnds (count - (k + 1))) text q) ≡ readOn numbers k (fieldsAt (fieldEnds (count - k)) text p)
+      → readOn (set numbers k v) (k + 1) (fieldsAt (fieldEnds (count - (k + 1))) text q)
+      ≡ readOn numbers k (fieldsAt (fieldEnds (count - k)) text p)
   read-more v q h e =
       let one : k + 1 ≡ suc k = omega arith in
       let rest : count - (k + 1) ≡ count - k - 1 = omega arith in

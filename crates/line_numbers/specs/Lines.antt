@@ -33,6 +33,6 @@ afterForm LineForm.Wrong = 0
 afterForm (LineForm.Right next) = next
 
 -- the first `count` numbers and the form are what the definition reads, and the line lies in the text
-pub record LineRead (r : LineNumbers) (count : ℕ) (reading : Reading (List ℕ)) (text : List ℕ) : Type 0 where
+pub record ReadsLine (r : LineNumbers) (count : ℕ) (reading : Reading (List ℕ)) (text : List ℕ) : Type 0 where
   pub same : reading ≡ formReading (inFront (r .numbers) count []) (r .form)
   pub inside : afterForm (r .form) ≤ length text

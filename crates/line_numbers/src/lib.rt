@@ -7,7 +7,7 @@ ghost use Prim.Native.Nat.{_+_, _<_, _≤_};
 ghost use mathlib.Core.Path.{_≡_};
 ghost use lib.ListN.{length};
 ghost use Rattle.model.specs.Text.{fieldsAt, lineAt};
-ghost use Rattle.line_numbers.specs.Lines.{endByte, fieldEnds, LineRead};
+ghost use Rattle.line_numbers.specs.Lines.{endByte, fieldEnds, ReadsLine};
 
 // The position after a line, or wrong form.
 pub enum LineForm {
@@ -34,7 +34,7 @@ fn end_byte(behind: usize) -> u8
 // So many numbers from position p on, each with its end byte.
 fn fields_at(text: &[u8], p: usize, count: usize) -> LineNumbers
     requires { ⌜ (0 < count) × (count ≤ 8) ⌝ }
-    ensures { λ r. ⌜ LineRead r count (fieldsAt (fieldEnds count) (now (text .entry)) p) (now (text .entry)) ⌝ }
+    ensures { λ r. ⌜ ReadsLine r count (fieldsAt (fieldEnds count) (now (text .entry)) p) (now (text .entry)) ⌝ }
 {
     let mut numbers = [0usize; 8];
     let mut next = p;
@@ -55,7 +55,7 @@ fn fields_at(text: &[u8], p: usize, count: usize) -> LineNumbers
 // The line of the word and so many numbers at position p.
 pub fn line_at(text: &[u8], p: usize, word: &[u8], count: usize) -> LineNumbers
     requires { ⌜ (p ≤ length (now text)) × (0 < count) × (count ≤ 8) ⌝ }
-    ensures { λ r. ⌜ LineRead r count (lineAt (now (word .entry)) (fieldEnds count) (now (text .entry)) p) (now (text .entry)) ⌝ }
+    ensures { λ r. ⌜ ReadsLine r count (lineAt (now (word .entry)) (fieldEnds count) (now (text .entry)) p) (now (text .entry)) ⌝ }
 {
     if !word_at(text, p, word) {
         let numbers = [0usize; 8];

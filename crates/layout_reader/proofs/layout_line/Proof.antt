@@ -1,63 +1,74 @@
+-- `layout_reader::layout_line` meets its contract: form first, then the three numbers. Assumes nothing.
+use mathlib.Core.List.{[]}
+use mathlib.Core.Path.{_≡_}
+use native.Mathlib.Omega.{arith}
+use Rattle.model.specs.Lent.{jobOf, lentBy}
+use Rattle.model.specs.Text.{wrong, got, threeFields, lineAt}
+use Rattle.model.specs.LayoutText.{layoutWord}
+use Rattle.fields.proofs.Tests.{said-no, said-yes}
+use Rattle.line_numbers.specs.Lines.{inFront}
+use Rattle.layout_reader.proofs.Lines.{layout-line-wrong, layout-line-unlike, layout-line-given}
 use borrow.Author.Needs.{needs}
 use Rattle.layout_reader.proofs.layout_line.Statement.{statement}
 use Rattle.layout_reader.proofs.layout_line.Tie as tie
-use Rattle.layout_reader.proofs.layout_line.Reads as reads
-use Rattle.layout_reader.proofs.layout_line.Lts as lts
-use Rattle.layout_reader.proofs.refused_in.Reads as refused-in-reads
-use Rattle.layout_reader.proofs.same_sheet.Reads as same-sheet-reads
-use Rattle.line_numbers.proofs.line_at.Reads as line-at-reads
 
--- src/lib.rt:90:33
 slice-aggregate-line-at : tie.Need-slice-aggregate-line-at
 slice-aggregate-line-at c = search needs
 
--- src/lib.rt:90:9
 line-at-requires : tie.Need-line-at-requires
 line-at-requires c κs = search needs
 
--- src/lib.rt:92:25
 enum-known-form : tie.Need-enum-known-form
 enum-known-form c = search needs
 
--- src/lib.rt:93:40
 enum-told : tie.Need-enum-told
 enum-told c = search needs
 
--- src/lib.rt:93:40
 refused-in-requires : tie.Need-refused-in-requires
 refused-in-requires c κs = search needs
 
--- src/lib.rt:93:9
 returns : tie.Need-returns
-returns c = ?
+returns c =
+    let a = c .before .before .before .before .before .before .args in
+    let e : lineAt layoutWord threeFields (a .text .now) 0 ≡ wrong = rw (c .before .enum-told .given .1) at (c .before .before .before .line-at .ensures .same) in
+    (λ table pixels. rw (c .refused-in .ensures, layout-line-wrong (jobOf (lentBy (a .size) table pixels)) (a .text .now) e), omega arith)
 
--- src/lib.rt:96:26
 array-read-same-sheet : tie.Need-array-read-same-sheet
 array-read-same-sheet c = search needs
 
--- src/lib.rt:96:38
 array-read-same-sheet-2 : tie.Need-array-read-same-sheet-2
 array-read-same-sheet-2 c = search needs
 
--- src/lib.rt:96:50
 array-read-same-sheet-3 : tie.Need-array-read-same-sheet-3
 array-read-same-sheet-3 c = search needs
 
--- src/lib.rt:96:9
 same-sheet-requires : tie.Need-same-sheet-requires
 same-sheet-requires c κs = search needs
 
--- src/lib.rt:97:40
 refused-in-requires-2 : tie.Need-refused-in-requires-2
 refused-in-requires-2 c κs = search needs
 
--- src/lib.rt:97:9
 returns-2 : tie.Need-returns-2
-returns-2 c = ?
+unfolding jobOf
+returns-2 c =
+    let a = c .before .before .before .before .before .before .before .before .before .before .args in
+    let read = c .before .before .before .before .before .before .before .line-at in
+    let ks = inFront (read .result .numbers) 3 [] in
+    let next = c .before .before .before .before .before .form .given .0 .0 in
+    let e : lineAt layoutWord threeFields (a .text .now) 0 ≡ got ks next = rw (c .before .before .before .before .before .form .given .1) at (read .ensures .same) in
+    let unlike = said-no (c .before .before .same-sheet .ensures) (c .before .if1 .taken) in
+    (λ table pixels. rw (c .refused-in2 .ensures, layout-line-unlike (jobOf (lentBy (a .size) table pixels)) (a .text .now) ks next e unlike), omega arith)
 
--- src/lib.rt:87:1
 returns-3 : tie.Need-returns-3
-returns-3 c = ?
+unfolding jobOf
+returns-3 c =
+    let a = c .before .before .before .before .before .before .before .before .before .args in
+    let read = c .before .before .before .before .before .before .line-at in
+    let ks = inFront (read .result .numbers) 3 [] in
+    let next = c .before .before .before .before .form .given .0 .0 in
+    let e : lineAt layoutWord threeFields (a .text .now) 0 ≡ got ks next = rw (c .before .before .before .before .form .given .1) at (read .ensures .same) in
+    let like = said-yes (c .before .same-sheet .ensures) (c .if1 .left) in
+    (λ table pixels. rw (layout-line-given (jobOf (lentBy (a .size) table pixels)) (a .text .now) ks next e like), rw (c .before .before .before .before .form .given .1) at (read .ensures .inside))
 
 pub layout-line-spec : {M : Type 1} → statement M
 layout-line-spec =

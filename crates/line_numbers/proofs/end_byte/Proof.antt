@@ -1,6 +1,4 @@
 -- `line_numbers::end_byte` meets its contract: byte 10 where no field is behind, a comma else. Assumes nothing.
-use mathlib.Core.Path.{_≡_, refl}
-use Prim.Native.Nat.{ℕ, zero, suc}
 use native.Mathlib.Omega.{arith}
 use borrow.Author.Needs.{needs}
 use Rattle.line_numbers.proofs.Steps.{comma-before}
