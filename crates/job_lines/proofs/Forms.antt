@@ -1,4 +1,4 @@
--- The form of a line, field by field, and what its refusal says. Assumes nothing.
+-- The form of a line and then its ranges, and what its refusal says. Assumes nothing.
 use mathlib.Core.Bool.{Bool, true, false}
 use mathlib.Core.List.{List, [], _∷_}
 use mathlib.Core.Path.{_≡_, refl, sym, ap}
@@ -6,7 +6,7 @@ use Prim.Native.Nat.{ℕ, _≤_}
 use native.Mathlib.Nat.{le-refl}
 use native.Mathlib.Omega.{arith}
 use Rattle.model.specs.Refusal.{Outcome, refused, given, Cause, refusalOf, unless, wrongForm}
-use Rattle.model.specs.Text.{Reading, wrong, got, fieldAt, fieldsAt, threeFields, fourFields, lineAt, formed}
+use Rattle.model.specs.Text.{Reading, wrong, got, threeFields, fourFields, lineAt, formed}
 use Rattle.model.specs.JobText.{JobLine, PieceLine, jobWord, pieceWord, asJobLine, asPieceLine, jobLine, jobLineCauses, pieceLine, pieceLineCauses}
 use Rattle.job_lines.specs.Lines.{refusalAt, headOf, jobLineOf, jobAnswer, jobForm, headNext, pieceOf, pieceLineOf, pieceAnswer, pieceForm, pieceNext}
 use Rattle.model.specs.declared.Refusal.{Refusal}
@@ -14,30 +14,6 @@ use Rattle.job_lines.specs.declared.JobHead.{JobHead}
 use Rattle.job_lines.specs.declared.JobLineAnswer.the-variants as job
 use Rattle.job_lines.specs.declared.PieceHead.{PieceHead}
 use Rattle.job_lines.specs.declared.PieceLineAnswer.the-variants as piece
-
--- ── fields ──
-
-module _ (end : ℕ) (ends text : List ℕ) (p : ℕ) where
-  -- the first field is wrong
-  pub fields-none : fieldAt end text p ≡ wrong → fieldsAt (end ∷ ends) text p ≡ wrong
-  unfolding fieldsAt
-  fields-none e = rw (e, fieldsAt)
-
-  -- a later field is wrong
-  pub fields-not : {k q : ℕ} → fieldAt end text p ≡ got k q → fieldsAt ends text q ≡ wrong → fieldsAt (end ∷ ends) text p ≡ wrong
-  unfolding fieldsAt
-  fields-not e f = rw (e, fieldsAt, f)
-
-  -- all fields are there
-  pub fields-got : {k q r : ℕ} {ks : List ℕ} → fieldAt end text p ≡ got k q → fieldsAt ends text q ≡ got ks r
-      → fieldsAt (end ∷ ends) text p ≡ got (k ∷ ks) r
-  unfolding fieldsAt
-  fields-got e f = rw (e, fieldsAt, f)
-
--- no field is left
-pub fields-end : (text : List ℕ) (p : ℕ) → fieldsAt [] text p ≡ got [] p
-unfolding fieldsAt
-fields-end text p = refl
 
 -- ── form, then ranges ──
 

@@ -1,10 +1,9 @@
 // The job line and the piece lines: document 01, 'Job text' and 'When a call says no', reading a job. A line's form comes before its
 // ranges.
-use fields::Number;
-use fields::field_at;
-use fields::word_at;
 use limits::numbers_in_range;
 use limits::sides_in_range;
+use line_numbers::LineForm;
+use line_numbers::line_at;
 use model::Refusal;
 ghost use mathlib.Core.Path.{_≡_};
 ghost use Prim.Native.Nat.{_+_, _*_, _<_, _≤_, _^_};
@@ -58,22 +57,16 @@ pub fn refusal(number: u8, line: usize) -> Refusal
 fn job_fields(text: &[u8]) -> JobLineAnswer
     ensures { λ r. ⌜ (r ≡ jobAnswer (jobForm (now (text .entry)))) × (headNext r ≤ length (now (text .entry))) ⌝ }
 {
-    if !word_at(text, 0, b"job,1,") {
-        return JobLineAnswer::Refused(refusal(1, 1));
-    }
-    let Number::Got(rows, p) = field_at(text, 6, b',') else {
-        return JobLineAnswer::Refused(refusal(1, 1));
-    };
-    let Number::Got(columns, q) = field_at(text, p, b',') else {
+    let line = line_at(text, 0, b"job,1,", 3);
+    let form = line.form;
+    let LineForm::Right(next) = form else {
         return JobLineAnswer::Refused(refusal(1, 1));
     };
-    let Number::Got(count, next) = field_at(text, q, b'\n') else {
-        return JobLineAnswer::Refused(refusal(1, 1));
-    };
+    let numbers = line.numbers;
     JobLineAnswer::Line(JobHead {
-        rows,
-        columns,
-        count,
+        rows: numbers[0],
+        columns: numbers[1],
+        count: numbers[2],
         next,
     })
 }
@@ -106,26 +99,17 @@ fn piece_fields(text: &[u8], p: usize, line: usize) -> PieceLineAnswer
     requires { ⌜ (p ≤ length (now text)) × (line < 2 ^ 32) ⌝ }
     ensures { λ r. ⌜ (r ≡ pieceAnswer (pieceForm (now (text .entry)) p line)) × (pieceNext r ≤ length (now (text .entry))) ⌝ }
 {
-    if !word_at(text, p, b"piece,") {
-        return PieceLineAnswer::Refused(refusal(1, line));
-    }
-    let Number::Got(number, q) = field_at(text, p + 6, b',') else {
-        return PieceLineAnswer::Refused(refusal(1, line));
-    };
-    let Number::Got(columns, r) = field_at(text, q, b',') else {
+    let read = line_at(text, p, b"piece,", 4);
+    let form = read.form;
+    let LineForm::Right(next) = form else {
         return PieceLineAnswer::Refused(refusal(1, line));
     };
-    let Number::Got(rows, s) = field_at(text, r, b',') else {
-        return PieceLineAnswer::Refused(refusal(1, line));
-    };
-    let Number::Got(turns, next) = field_at(text, s, b'\n') else {
-        return PieceLineAnswer::Refused(refusal(1, line));
-    };
+    let numbers = read.numbers;
     PieceLineAnswer::Line(PieceHead {
-        number,
-        columns,
-        rows,
-        turns,
+        number: numbers[0],
+        columns: numbers[1],
+        rows: numbers[2],
+        turns: numbers[3],
         next,
     })
 }

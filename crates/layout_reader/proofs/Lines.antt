@@ -1,5 +1,5 @@
--- The fields and the causes of a line, as the reader meets them one after the other. Assumes nothing.
-use mathlib.Core.Bool.{Bool, true, false, not, _&&_}
+-- The causes of a line, as the reader meets them one after the other. Assumes nothing.
+use mathlib.Core.Bool.{Bool, true, false, _&&_}
 use mathlib.Core.List.{List, [], _∷_}
 use mathlib.Core.Option.{Option, none, some}
 use mathlib.Core.Path.{_≡_, refl, sym, ap₂, _∙_}
@@ -7,78 +7,20 @@ use Prim.Native.Nat.{ℕ, _+_, _<_, _≤_, min}
 use native.Mathlib.Omega.{arith}
 use borrow.Author.Tests.{ne-eqb, leb-true, leb-false, lt-leb}
 use lib.Dec.{leb, eqb}
-use lib.ListN.{length}
 use Rattle.model.specs.Layout.{Job, allowed, inside, turnedPiece}
 use Rattle.model.specs.Refusal.{Outcome, refused, given, Cause, unless, refusalOf, wrongForm, outOfRange, noSuchPiece, outsideSheet}
 use Rattle.model.specs.Lent.{rowBound, columnBound}
 use Rattle.model.specs.Buffer.{turnOfDegrees, turnPasses, isTurn, turnOf}
-use Rattle.model.specs.Text.{Reading, wrong, got, onward, after, comma, lineEnd, standsAt, fieldAt, fieldsAt, threeFields, fourFields, lineAt, causeIn, formed, andThen}
+use Rattle.model.specs.Text.{wrong, got, threeFields, fourFields, lineAt, field, causeIn, formed, andThen}
 use Rattle.model.specs.LayoutText.{layoutWord, atWord, layoutLine, PlacementLine, asPlacementLine, placementCauses, placementLine}
 use Rattle.model.specs.declared.Placement.{Placement}
 use Rattle.model.specs.declared.Refusal.{Refusal}
 use Rattle.model.specs.declared.Turn.{Turn}
 use Rattle.model.proofs.Tests.{and-left, and-right}
-use Rattle.fields.proofs.Steps.{got-of, wrong-of}
-use Rattle.fields.specs.Answers.{Reads}
-use Rattle.fields.specs.declared.Number.{Number}
-use Rattle.fields.specs.declared.Number.the-variants.{Got, Wrong}
 use Rattle.placing.specs.Boxes.{placeAt}
 use Rattle.layout_reader.specs.Readings.{turnOnLine, placeOnLine, placeAnswer, lineAnswer}
 use Rattle.layout_reader.specs.declared.LineAnswer.{LineAnswer}
 use Rattle.layout_reader.specs.declared.PlaceAnswer.{PlaceAnswer}
-
--- ── fields ──
-
--- a field that is read: what it is and where it ends
-pub record Field (reading : Reading ℕ) (k p : ℕ) (text : List ℕ) : Type 0 where
-  pub same : reading ≡ got k p
-  pub inside : p ≤ length text
-
-pub field-read : {r : Number} {reading : Reading ℕ} {text : List ℕ} (k p : ℕ) → Reads r reading text → r ≡ Got k p → Field reading k p text
-field-read k p h e = record { same = got-of _ k p (sym e ∙ h .same); inside = rw e at (h .inside) }
-
--- a field that is not
-pub field-unread : {r : Number} {reading : Reading ℕ} {text : List ℕ} → Reads r reading text → r ≡ Wrong → reading ≡ wrong
-field-unread h e = wrong-of _ (sym e ∙ h .same)
-
-module _ (text : List ℕ) (p : ℕ) where
-  -- three fields, or the first that is wrong
-  pub three-got : (a b c q r s : ℕ) → fieldAt comma text p ≡ got a q → fieldAt comma text q ≡ got b r → fieldAt lineEnd text r ≡ got c s
-      → fieldsAt threeFields text p ≡ got (a ∷ b ∷ c ∷ []) s
-  unfolding fieldsAt
-  three-got a b c q r s e f g = rw (e, f, g, fieldsAt, onward)
-
-  pub three-first : fieldAt comma text p ≡ wrong → fieldsAt threeFields text p ≡ wrong
-  unfolding fieldsAt
-  three-first e = rw (e, fieldsAt, onward)
-
-  pub three-second : (a q : ℕ) → fieldAt comma text p ≡ got a q → fieldAt comma text q ≡ wrong → fieldsAt threeFields text p ≡ wrong
-  unfolding fieldsAt
-  three-second a q e f = rw (e, f, fieldsAt, onward)
-
-  pub three-third : (a b q r : ℕ) → fieldAt comma text p ≡ got a q → fieldAt comma text q ≡ got b r → fieldAt lineEnd text r ≡ wrong
-      → fieldsAt threeFields text p ≡ wrong
-  unfolding fieldsAt
-  three-third a b q r e f g = rw (e, f, g, fieldsAt, onward)
-
-  -- a line whose word is not there
-  pub word-missing : (word ends : List ℕ) → standsAt word text p ≡ false → lineAt word ends text p ≡ wrong
-  word-missing word ends e = rw (e, after)
-
-  -- a piece's line: the word, the number and three fields
-  pub line-got : (k q a b c s : ℕ) → standsAt atWord text p ≡ true → fieldAt comma text (p + 3) ≡ got k q → fieldsAt threeFields text q ≡ got (a ∷ b ∷ c ∷ []) s
-      → lineAt atWord fourFields text p ≡ got (k ∷ a ∷ b ∷ c ∷ []) s
-  unfolding fieldsAt
-  line-got k q a b c s w e f = rw (w, after, e, onward, f, onward)
-
-  pub line-number : standsAt atWord text p ≡ true → fieldAt comma text (p + 3) ≡ wrong → lineAt atWord fourFields text p ≡ wrong
-  unfolding fieldsAt
-  line-number w e = rw (w, after, e, onward)
-
-  pub line-three : (k q : ℕ) → standsAt atWord text p ≡ true → fieldAt comma text (p + 3) ≡ got k q → fieldsAt threeFields text q ≡ wrong
-      → lineAt atWord fourFields text p ≡ wrong
-  unfolding fieldsAt
-  line-three k q w e f = rw (w, after, e, onward, f, onward)
 
 -- ── turns ──
 
@@ -106,17 +48,13 @@ module _ (j : Job) (text : List ℕ) where
   unfolding layoutLine
   layout-line-wrong e = rw (e, formed)
 
-  -- the word is there, so the fields decide
-  pub layout-fields : standsAt layoutWord text 0 ≡ true → lineAt layoutWord threeFields text 0 ≡ fieldsAt threeFields text 9
-  layout-fields e = rw (e, after)
-
-  module _ (a b c next : ℕ) (e : lineAt layoutWord threeFields text 0 ≡ got (a ∷ b ∷ c ∷ []) next) where
-    pub layout-line-unlike : (eqb a (j .rows) && eqb b (j .columns) && eqb c (j .count)) ≡ false
+  module _ (ks : List ℕ) (next : ℕ) (e : lineAt layoutWord threeFields text 0 ≡ got ks next) where
+    pub layout-line-unlike : (eqb (field ks 0) (j .rows) && eqb (field ks 1) (j .columns) && eqb (field ks 2) (j .count)) ≡ false
         → layoutLine j text ≡ refused (refusalOf (causeIn 1 outOfRange true))
     unfolding layoutLine unless
     layout-line-unlike h = rw (e, formed, h, unless)
 
-    pub layout-line-given : (eqb a (j .rows) && eqb b (j .columns) && eqb c (j .count)) ≡ true → layoutLine j text ≡ given next
+    pub layout-line-given : (eqb (field ks 0) (j .rows) && eqb (field ks 1) (j .columns) && eqb (field ks 2) (j .count)) ≡ true → layoutLine j text ≡ given next
     unfolding layoutLine unless
     layout-line-given h = rw (e, formed, h, unless)
 

@@ -2,61 +2,23 @@
 use mathlib.Core.Bool.{true, false, not}
 use mathlib.Core.List.{List, [], _∷_}
 use mathlib.Core.Option.{Option, none}
-use mathlib.Core.Path.{_≡_}
-use Prim.Native.Nat.{ℕ, _≤_}
+use Prim.Native.Nat.{ℕ}
 use lib.Dec.{eqb}
-use lib.ListN.{length}
 use Rattle.model.specs.Layout.{Job, Layout}
 use Rattle.model.specs.Refusal.{Outcome, refused, given, cause, unless, wrongLength}
 use Rattle.model.specs.Buffer.{turnOfDegrees}
-use Rattle.model.specs.Text.{Reading, wrong, got, andThen}
+use Rattle.model.specs.Text.{andThen}
 use Rattle.model.specs.LayoutText.{PlacementLine, asPlacementLine, placementCauses, placementsAt}
 use Rattle.model.specs.declared.Turn.{Turn}
 use Rattle.model.specs.declared.Placement.{Placement}
-use Rattle.layout_reader.specs.declared.ThreeFields.{ThreeFields}
-use Rattle.layout_reader.specs.declared.LineFields.{LineFields}
 use Rattle.layout_reader.specs.declared.PlacementFields.{PlacementFields}
 use Rattle.layout_reader.specs.declared.PositionAnswer.{PositionAnswer}
 use Rattle.layout_reader.specs.declared.PlaceAnswer.{PlaceAnswer}
 use Rattle.layout_reader.specs.declared.LineAnswer.{LineAnswer}
 
--- ── fields ──
-
--- three numbers and the position after them, or wrong form
-abbrev pub threeReading : ThreeFields → Reading (List ℕ)
-threeReading ThreeFields.Wrong = wrong
-threeReading (ThreeFields.Got a b c p) = got (a ∷ b ∷ c ∷ []) p
-
--- the position after them; 0 where the form is wrong
-abbrev pub afterThree : ThreeFields → ℕ
-afterThree ThreeFields.Wrong = 0
-afterThree (ThreeFields.Got a b c p) = p
-
--- the answer is the definition's and lies in the text
-pub record ThreeRead (r : ThreeFields) (reading : Reading (List ℕ)) (text : List ℕ) : Type 0 where
-  pub same : reading ≡ threeReading r
-  pub inside : afterThree r ≤ length text
-
 -- the numbers of a piece's line
 abbrev pub numbersOf : PlacementFields → List ℕ
 numbersOf f = f .number ∷ f .degrees ∷ f .x ∷ f .y ∷ []
-
--- the numbers and the position after them, or wrong form
-abbrev pub lineReading : LineFields → Reading (List ℕ)
-lineReading LineFields.Wrong = wrong
-lineReading (LineFields.Got f p) = got (numbersOf f) p
-
--- the position after them; 0 where the form is wrong
-abbrev pub afterLine : LineFields → ℕ
-afterLine LineFields.Wrong = 0
-afterLine (LineFields.Got f p) = p
-
--- the answer is the definition's and lies in the text
-pub record LineRead (r : LineFields) (reading : Reading (List ℕ)) (text : List ℕ) : Type 0 where
-  pub same : reading ≡ lineReading r
-  pub inside : afterLine r ≤ length text
-
--- ── lines ──
 
 -- the turn on the line of piece i, where the line names that piece and the degrees are those of a turn
 abbrev pub turnOnLine : ℕ → ℕ → ℕ → Option Turn

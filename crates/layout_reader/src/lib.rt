@@ -11,16 +11,15 @@ ghost use Rattle.model.specs.Layout.{Layout};
 ghost use Rattle.model.specs.Refusal.{given, refusalOf};
 ghost use Rattle.model.specs.Lent.{lentBy, jobOf, rowBound, columnBound};
 ghost use Rattle.model.specs.Buffer.{entryOf, entriesOf};
-ghost use Rattle.model.specs.Text.{threeFields, fourFields, fieldsAt, lineAt, causeIn};
-ghost use Rattle.model.specs.LayoutText.{atWord, layoutLine, placementLine, placementsAt};
+ghost use Rattle.model.specs.Text.{causeIn};
+ghost use Rattle.model.specs.LayoutText.{layoutLine, placementLine, placementsAt};
 ghost use Rattle.model.specs.Calls.{readLayoutCall, layoutAfter};
 ghost use Rattle.placing.specs.Answers.{turnAnswer};
 ghost use Rattle.placing.specs.Fitting.{Fitting};
 ghost use Rattle.layout_reader.specs.Answers.{layoutAnswer};
-ghost use Rattle.layout_reader.specs.Readings.{ThreeRead, LineRead, numbersOf, turnOnLine, placeOnLine, layoutFrom, positionAnswer, positionIn, placeAnswer, lineAnswer, nextIn};
-use fields::Number;
-use fields::field_at;
-use fields::word_at;
+ghost use Rattle.layout_reader.specs.Readings.{numbersOf, turnOnLine, placeOnLine, layoutFrom, positionAnswer, positionIn, placeAnswer, lineAnswer, nextIn};
+use line_numbers::LineForm;
+use line_numbers::line_at;
 use model::Column;
 use model::JobSize;
 use model::Placement;
@@ -34,24 +33,12 @@ pub enum LayoutAnswer {
     Refused(Refusal),
 }
 
-// The last three fields of a line and the position after them, or wrong form.
-enum ThreeFields {
-    Got(usize, usize, usize, usize),
-    Wrong,
-}
-
 // The numbers of a piece's line.
 struct PlacementFields {
     number: usize,
     degrees: usize,
     x: usize,
     y: usize,
-}
-
-// The numbers of a piece's line and the position after them, or wrong form.
-enum LineFields {
-    Got(PlacementFields, usize),
-    Wrong,
 }
 
 // The position after the layout line, or why it is refused.
@@ -83,22 +70,6 @@ fn refused_in(line: u32, number: u8) -> Refusal
     }
 }
 
-// The last three fields of a line.
-fn three_at(text: &[u8], p: usize) -> ThreeFields
-    ensures { λ r. ⌜ ThreeRead r (fieldsAt threeFields (now (text .entry)) p) (now (text .entry)) ⌝ }
-{
-    let Number::Got(first, after_first) = field_at(text, p, b',') else {
-        return ThreeFields::Wrong;
-    };
-    let Number::Got(second, after_second) = field_at(text, after_first, b',') else {
-        return ThreeFields::Wrong;
-    };
-    let Number::Got(third, next) = field_at(text, after_second, b'\n') else {
-        return ThreeFields::Wrong;
-    };
-    ThreeFields::Got(first, second, third, next)
-}
-
 // W, L and n of the layout line are the job's.
 fn same_sheet(size: JobSize, rows: usize, columns: usize, count: usize) -> bool
     ensures { λ r. ⌜ r ≡ (eqb rows (size .rows) && eqb columns (size .columns) && eqb count (size .count)) ⌝ }
@@ -116,41 +87,16 @@ fn same_sheet(size: JobSize, rows: usize, columns: usize, count: usize) -> bool
 fn layout_line(size: JobSize, text: &[u8]) -> PositionAnswer
     ensures { λ r. ⌜ ((table : List (List ℕ)) (pixels : List ℕ) → r ≡ positionAnswer (layoutLine (jobOf (lentBy size table pixels)) (now (text .entry)))) × (positionIn r ≤ length (now (text .entry))) ⌝ }
 {
-    if !word_at(text, 0, b"layout,1,") {
-        return PositionAnswer::Refused(refused_in(1, 1));
-    }
-    let ThreeFields::Got(rows, columns, count, next) = three_at(text, 9) else {
+    let line = line_at(text, 0, b"layout,1,", 3);
+    let form = line.form;
+    let LineForm::Right(next) = form else {
         return PositionAnswer::Refused(refused_in(1, 1));
     };
-    if !same_sheet(size, rows, columns, count) {
+    let numbers = line.numbers;
+    if !same_sheet(size, numbers[0], numbers[1], numbers[2]) {
         return PositionAnswer::Refused(refused_in(1, 2));
     }
     PositionAnswer::After(next)
-}
-
-// The numbers of a piece's line at position p, `at,i,turn,x,y`.
-fn placement_fields(text: &[u8], p: usize) -> LineFields
-    requires { ⌜ p ≤ length (now text) ⌝ }
-    ensures { λ r. ⌜ LineRead r (lineAt atWord fourFields (now (text .entry)) p) (now (text .entry)) ⌝ }
-{
-    if !word_at(text, p, b"at,") {
-        return LineFields::Wrong;
-    }
-    let Number::Got(number, after_number) = field_at(text, p + 3, b',') else {
-        return LineFields::Wrong;
-    };
-    let ThreeFields::Got(degrees, x, y, next) = three_at(text, after_number) else {
-        return LineFields::Wrong;
-    };
-    LineFields::Got(
-        PlacementFields {
-            number,
-            degrees,
-            x,
-            y,
-        },
-        next,
-    )
 }
 
 // The turn on the line of piece i, if the line names that piece and the degrees are those of a turn.
@@ -201,7 +147,7 @@ fn placement_of(
     PlaceAnswer::Placed(Placement { turn, x, y })
 }
 
-// The line of piece i at position p.
+// The line of piece i at position p, `at,i,turn,x,y`.
 fn placement_line(
     size: JobSize,
     table: &[[u8; 3]],
@@ -213,8 +159,17 @@ fn placement_line(
     requires { ⌜ (i < length (now table)) × (size .rows ≤ rowBound) × (size .columns ≤ columnBound) × (p ≤ length (now text)) ⌝ }
     ensures { λ r. ⌜ ((pixels : List ℕ) → r ≡ lineAnswer (placementLine (jobOf (lentBy size (now (table .entry)) pixels)) (now (text .entry)) i p line)) × (nextIn r ≤ length (now (text .entry))) ⌝ }
 {
-    let LineFields::Got(fields, next) = placement_fields(text, p) else {
+    let read = line_at(text, p, b"at,", 4);
+    let form = read.form;
+    let LineForm::Right(next) = form else {
         return LineAnswer::Refused(refused_in(line, 1));
+    };
+    let numbers = read.numbers;
+    let fields = PlacementFields {
+        number: numbers[0],
+        degrees: numbers[1],
+        x: numbers[2],
+        y: numbers[3],
     };
     match placement_of(size, table, i, line, fields) {
         PlaceAnswer::Refused(refusal) => LineAnswer::Refused(refusal),

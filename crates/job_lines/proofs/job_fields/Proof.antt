@@ -1,155 +1,69 @@
--- `job_lines::job_fields`: the word and then each field, the first that is wrong ending the line. Assumes nothing.
-use mathlib.Core.Bool.{true}
-use mathlib.Core.List.{List, [], _∷_}
+-- `job_lines::job_fields`: the form is that of the line's reading, and its numbers are the fields. Assumes nothing.
+use mathlib.Core.List.{List, []}
 use mathlib.Core.Path.{_≡_, sym, _∙_, ap}
 use Prim.Native.Nat.{ℕ, _≤_}
 use native.Mathlib.Omega.{arith}
 use lib.ListN.{length}
 use Rattle.model.specs.Refusal.{given}
-use Rattle.model.specs.Text.{Reading, wrong, got, standsAt, fieldAt, fieldsAt, lineAt, formed, threeFields}
+use Rattle.model.specs.Text.{Reading, wrong, got, threeFields, lineAt, formed}
 use Rattle.model.specs.JobText.{jobWord, asJobLine}
-use Rattle.fields.specs.declared.Number.the-variants.{Got}
-use Rattle.fields.proofs.Tests.{said-no, said-yes}
-use Rattle.fields.proofs.Steps.{got-of, wrong-of, after-not, after-word}
+use Rattle.line_numbers.specs.Lines.{inFront}
 use Rattle.job_lines.specs.Lines.{jobAnswer}
 use Rattle.job_lines.specs.declared.JobLineAnswer.the-variants as job
-use Rattle.job_lines.proofs.Forms.{fields-none, fields-not, fields-got, fields-end}
 use borrow.Author.Needs.{needs}
 use Rattle.job_lines.proofs.job_fields.Statement.{statement}
 use Rattle.job_lines.proofs.job_fields.Tie as tie
 
-slice-aggregate-word-at : tie.Need-slice-aggregate-word-at
-slice-aggregate-word-at c = search needs
+slice-aggregate-line-at : tie.Need-slice-aggregate-line-at
+slice-aggregate-line-at c = search needs
 
-word-at-requires : tie.Need-word-at-requires
-word-at-requires c κs = search needs
+line-at-requires : tie.Need-line-at-requires
+line-at-requires c κs = search needs
+
+enum-known-form : tie.Need-enum-known-form
+enum-known-form c = search needs
+
+enum-told : tie.Need-enum-told
+enum-told c = search needs
 
 refusal-requires : tie.Need-refusal-requires
 refusal-requires c κs = search needs
 
 returns : tie.Need-returns
 returns c =
-    let text = c .before .before .before .before .before .args .text .now in
-    let e : lineAt jobWord threeFields text 0 ≡ wrong = after-not jobWord text 0 (fieldsAt threeFields text) (said-no (c .before .before .word-at .ensures) (c .before .if1 .taken)) in
+    let a = c .before .before .before .before .before .before .args in
+    let e : lineAt jobWord threeFields (a .text .now) 0 ≡ wrong = rw (c .before .enum-told .given .1) at (c .before .before .before .line-at .ensures .same) in
     (ap job.Refused (c .refusal .ensures) ∙ sym (ap (λ (r : Reading (List ℕ)). jobAnswer (formed 1 r (λ ks next. given (asJobLine ks next)))) e), omega arith)
 
-field-at-requires : tie.Need-field-at-requires
-field-at-requires c κs = search needs
+array-read-t12 : tie.Need-array-read-t12
+array-read-t12 c = search needs
 
-enum-known-rows : tie.Need-enum-known-rows
-enum-known-rows c = search needs
+array-read-t15 : tie.Need-array-read-t15
+array-read-t15 c = search needs
 
-enum-told : tie.Need-enum-told
-enum-told c = search needs
-
-refusal-requires-2 : tie.Need-refusal-requires-2
-refusal-requires-2 c κs = search needs
+array-read-t18 : tie.Need-array-read-t18
+array-read-t18 c = search needs
 
 returns-2 : tie.Need-returns-2
 returns-2 c =
-    let text = c .before .before .before .before .before .before .before .before .args .text .now in
-    let s : standsAt jobWord text 0 ≡ true = said-yes (c .before .before .before .before .before .word-at .ensures) (c .before .before .before .before .if1 .left) in
-    let w : fieldAt 44 text 6 ≡ wrong = wrong-of (fieldAt 44 text 6) (sym (c .before .enum-told .given .1) ∙ c .before .before .before .field-at .ensures .same) in
-    let f : fieldsAt threeFields text 6 ≡ wrong = fields-none 44 (44 ∷ 10 ∷ []) text 6 w in
-    let e : lineAt jobWord threeFields text 0 ≡ wrong = after-word jobWord text 0 (fieldsAt threeFields text) s ∙ f in
-    (ap job.Refused (c .refusal2 .ensures) ∙ sym (ap (λ (r : Reading (List ℕ)). jobAnswer (formed 1 r (λ ks next. given (asJobLine ks next)))) e), omega arith)
-
-field-at-requires-2 : tie.Need-field-at-requires-2
-field-at-requires-2 c κs = search needs
-
-enum-known-columns : tie.Need-enum-known-columns
-enum-known-columns c = search needs
-
-enum-told-2 : tie.Need-enum-told-2
-enum-told-2 c = search needs
-
-refusal-requires-3 : tie.Need-refusal-requires-3
-refusal-requires-3 c κs = search needs
-
-returns-3 : tie.Need-returns-3
-returns-3 c =
-    let text = c .before .before .before .before .before .before .before .before .before .before .before .before .args .text .now in
-    let s : standsAt jobWord text 0 ≡ true = said-yes (c .before .before .before .before .before .before .before .before .before .word-at .ensures) (c .before .before .before .before .before .before .before .before .if1 .left) in
-    let k1 = c .before .before .before .before .before .rows .given .0 .0 in
-    let q1 = c .before .before .before .before .before .rows .given .0 .1 .0 in
-    let g1 : Got k1 q1 ≡ c .before .before .before .before .before .before .before .field-at .result = sym (c .before .before .before .before .before .rows .given .1) in
-    let e1 : fieldAt 44 text 6 ≡ got k1 q1 = got-of (fieldAt 44 text 6) k1 q1 (g1 ∙ c .before .before .before .before .before .before .before .field-at .ensures .same) in
-    let w : fieldAt 44 text q1 ≡ wrong = wrong-of (fieldAt 44 text q1) (sym (c .before .enum-told2 .given .1) ∙ c .before .before .before .field-at2 .ensures .same) in
-    let f : fieldsAt threeFields text 6 ≡ wrong = fields-not 44 (44 ∷ 10 ∷ []) text 6 e1 (fields-none 44 (10 ∷ []) text q1 w) in
-    let e : lineAt jobWord threeFields text 0 ≡ wrong = after-word jobWord text 0 (fieldsAt threeFields text) s ∙ f in
-    (ap job.Refused (c .refusal3 .ensures) ∙ sym (ap (λ (r : Reading (List ℕ)). jobAnswer (formed 1 r (λ ks next. given (asJobLine ks next)))) e), omega arith)
-
-field-at-requires-3 : tie.Need-field-at-requires-3
-field-at-requires-3 c κs = search needs
-
-enum-known-count : tie.Need-enum-known-count
-enum-known-count c = search needs
-
-enum-told-3 : tie.Need-enum-told-3
-enum-told-3 c = search needs
-
-refusal-requires-4 : tie.Need-refusal-requires-4
-refusal-requires-4 c κs = search needs
-
-returns-4 : tie.Need-returns-4
-returns-4 c =
-    let text = c .before .before .before .before .before .before .before .before .before .before .before .before .before .before .before .before .args .text .now in
-    let s : standsAt jobWord text 0 ≡ true = said-yes (c .before .before .before .before .before .before .before .before .before .before .before .before .before .word-at .ensures) (c .before .before .before .before .before .before .before .before .before .before .before .before .if1 .left) in
-    let k1 = c .before .before .before .before .before .before .before .before .before .rows .given .0 .0 in
-    let q1 = c .before .before .before .before .before .before .before .before .before .rows .given .0 .1 .0 in
-    let g1 : Got k1 q1 ≡ c .before .before .before .before .before .before .before .before .before .before .before .field-at .result = sym (c .before .before .before .before .before .before .before .before .before .rows .given .1) in
-    let e1 : fieldAt 44 text 6 ≡ got k1 q1 = got-of (fieldAt 44 text 6) k1 q1 (g1 ∙ c .before .before .before .before .before .before .before .before .before .before .before .field-at .ensures .same) in
-    let k2 = c .before .before .before .before .before .columns .given .0 .0 in
-    let q2 = c .before .before .before .before .before .columns .given .0 .1 .0 in
-    let g2 : Got k2 q2 ≡ c .before .before .before .before .before .before .before .field-at2 .result = sym (c .before .before .before .before .before .columns .given .1) in
-    let e2 : fieldAt 44 text q1 ≡ got k2 q2 = got-of (fieldAt 44 text q1) k2 q2 (g2 ∙ c .before .before .before .before .before .before .before .field-at2 .ensures .same) in
-    let w : fieldAt 10 text q2 ≡ wrong = wrong-of (fieldAt 10 text q2) (sym (c .before .enum-told3 .given .1) ∙ c .before .before .before .field-at3 .ensures .same) in
-    let f : fieldsAt threeFields text 6 ≡ wrong = fields-not 44 (44 ∷ 10 ∷ []) text 6 e1 (fields-not 44 (10 ∷ []) text q1 e2 (fields-none 10 [] text q2 w)) in
-    let e : lineAt jobWord threeFields text 0 ≡ wrong = after-word jobWord text 0 (fieldsAt threeFields text) s ∙ f in
-    (ap job.Refused (c .refusal4 .ensures) ∙ sym (ap (λ (r : Reading (List ℕ)). jobAnswer (formed 1 r (λ ks next. given (asJobLine ks next)))) e), omega arith)
-
-returns-5 : tie.Need-returns-5
-returns-5 c =
-    let text = c .before .before .before .before .before .before .before .before .before .before .before .before .before .before .before .before .args .text .now in
-    let s : standsAt jobWord text 0 ≡ true = said-yes (c .before .before .before .before .before .before .before .before .before .before .before .before .before .word-at .ensures) (c .before .before .before .before .before .before .before .before .before .before .before .before .if1 .left) in
-    let k1 = c .before .before .before .before .before .before .before .before .before .rows .given .0 .0 in
-    let q1 = c .before .before .before .before .before .before .before .before .before .rows .given .0 .1 .0 in
-    let g1 : Got k1 q1 ≡ c .before .before .before .before .before .before .before .before .before .before .before .field-at .result = sym (c .before .before .before .before .before .before .before .before .before .rows .given .1) in
-    let e1 : fieldAt 44 text 6 ≡ got k1 q1 = got-of (fieldAt 44 text 6) k1 q1 (g1 ∙ c .before .before .before .before .before .before .before .before .before .before .before .field-at .ensures .same) in
-    let k2 = c .before .before .before .before .before .columns .given .0 .0 in
-    let q2 = c .before .before .before .before .before .columns .given .0 .1 .0 in
-    let g2 : Got k2 q2 ≡ c .before .before .before .before .before .before .before .field-at2 .result = sym (c .before .before .before .before .before .columns .given .1) in
-    let e2 : fieldAt 44 text q1 ≡ got k2 q2 = got-of (fieldAt 44 text q1) k2 q2 (g2 ∙ c .before .before .before .before .before .before .before .field-at2 .ensures .same) in
-    let k3 = c .before .count .given .0 .0 in
-    let q3 = c .before .count .given .0 .1 .0 in
-    let g3 : Got k3 q3 ≡ c .before .before .before .field-at3 .result = sym (c .before .count .given .1) in
-    let e3 : fieldAt 10 text q2 ≡ got k3 q3 = got-of (fieldAt 10 text q2) k3 q3 (g3 ∙ c .before .before .before .field-at3 .ensures .same) in
-    let f : fieldsAt threeFields text 6 ≡ got (k1 ∷ k2 ∷ k3 ∷ []) q3 = fields-got 44 (44 ∷ 10 ∷ []) text 6 e1 (fields-got 44 (10 ∷ []) text q1 e2 (fields-got 10 [] text q2 e3 (fields-end text q3))) in
-    let e : lineAt jobWord threeFields text 0 ≡ got (k1 ∷ k2 ∷ k3 ∷ []) q3 = after-word jobWord text 0 (fieldsAt threeFields text) s ∙ f in
-    let i : q3 ≤ length text = rw (sym g3) at (c .before .before .before .field-at3 .ensures .inside) in
+    let a = c .before .before .before .before .before .before .before .args in
+    let read = c .before .before .before .before .line-at in
+    let next = c .before .before .form .given .0 .0 in
+    let e : lineAt jobWord threeFields (a .text .now) 0 ≡ got (inFront (read .result .numbers) 3 []) next = rw (c .before .before .form .given .1) at (read .ensures .same) in
+    let i : next ≤ length (a .text .now) = rw (c .before .before .form .given .1) at (read .ensures .inside) in
     (sym (ap (λ (r : Reading (List ℕ)). jobAnswer (formed 1 r (λ ks next. given (asJobLine ks next)))) e), i)
 
 pub job-fields-spec : {M : Type 1} → statement M
 job-fields-spec =
     tie.close
     (tie.spec
-    slice-aggregate-word-at
-    word-at-requires
+    slice-aggregate-line-at
+    line-at-requires
+    enum-known-form
+    enum-told
     refusal-requires
     returns
-    field-at-requires
-    enum-known-rows
-    enum-told
-    refusal-requires-2
-    returns-2
-    field-at-requires-2
-    enum-known-columns
-    enum-told-2
-    refusal-requires-3
-    returns-3
-    field-at-requires-3
-    enum-known-count
-    enum-told-3
-    refusal-requires-4
-    returns-4
-    returns-5)
+    array-read-t12
+    array-read-t15
+    array-read-t18
+    returns-2)
