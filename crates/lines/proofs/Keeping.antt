@@ -2,36 +2,28 @@
 use mathlib.Core.Bool.{Bool, true, false}
 use mathlib.Core.List.{List}
 use mathlib.Core.Logic.{⊎-elim}
-use mathlib.Core.Path.{_≡_, refl, sym, ap, _∙_}
-use Prim.Native.Nat.{ℕ, suc, _+_, _*_, _/_, _<_, _≤_}
+use mathlib.Core.Path.{_≡_, sym, ap, _∙_}
+use Prim.Native.Nat.{ℕ, suc, _+_, _*_, _<_, _≤_}
 use native.Mathlib.Decide.{ℕ-discrete}
 use native.Mathlib.Nat.{mul-le-mul-right, suc-mul}
 use native.Mathlib.Omega.{arith}
 use lib.ListN.{length, getD, set, length-set}
 use lib.Seq.{getD-set-same, getD-set-other}
-use Rattle.model.specs.Piece.{Shape, degrees, extent, turned}
+use Rattle.model.specs.Piece.{Shape, extent, turned}
 use Rattle.model.specs.Layout.{Job, turnedPiece}
 use Rattle.model.specs.Lent.{lentBy, jobOf, pieceBound, entryColumns, entryRows}
 use Rattle.model.specs.declared.Direction.{Direction}
 use Rattle.model.specs.declared.Direction.the-variants.{Horizontal, Vertical}
 use Rattle.model.specs.declared.JobSize.{JobSize}
 use Rattle.model.specs.declared.Turn.{Turn}
-use Rattle.model.specs.declared.Turn.the-variants.{Zero, Quarter, Half, ThreeQuarters}
 use Rattle.strip_laws.proofs.Runs.{below-or-not}
 use Rattle.strip_laws.proofs.Turns.{swaps, turned-box}
-use Rattle.shapes.specs.Shapes.{turnNumber, numberedShape, shapeNumber}
+use Rattle.shapes.specs.Shapes.{numberedShape, shapeNumber}
 use Rattle.shapes.proofs.Numbers.{turn-below, number-back}
 use Rattle.lines.specs.Kept.{keyOf, HoldsLine, Kept, Wide}
 use Rattle.lines.specs.Making.{LineMade}
 
 -- ── keys ──
-
--- a turn's number, by its degrees
-pub turn-degrees : (t : Turn) → degrees t / 90 ≡ turnNumber t
-turn-degrees Zero = refl
-turn-degrees Quarter = refl
-turn-degrees Half = refl
-turn-degrees ThreeQuarters = refl
 
 -- pieces and turns of one number have one shape
 pub same-shape : (j : Job) (i k : ℕ) (t u : Turn) → shapeNumber i t ≡ shapeNumber k u → turnedPiece j i t ≡ turnedPiece j k u

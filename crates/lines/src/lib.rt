@@ -8,7 +8,6 @@ ghost use Rattle.model.specs.Piece.{extent};
 ghost use Rattle.model.specs.Layout.{turnedPiece};
 ghost use Rattle.model.specs.Lent.{lentBy, jobOf};
 ghost use Rattle.model.specs.declared.JobSize.{JobSize};
-ghost use Rattle.shapes.specs.Shapes.{shapeNumber};
 ghost use Rattle.lines.specs.Kept.{linePlaces, HoldsLine, Kept, Wide};
 ghost use Rattle.lines.specs.Making.{movedShape, standingShape, keyOfTwo, Small, Asked, LineMade};
 use model::Direction;
@@ -43,14 +42,6 @@ pub fn slot_width(size: JobSize, table: &[[u8; 3]]) -> usize
     side * 2
 }
 
-// The number of a piece in a turn.
-fn shape_number(piece: usize, turn: Turn) -> usize
-    requires { ⌜ piece < 64 ⌝ }
-    ensures { λ r. ⌜ (r ≡ shapeNumber piece turn) × (r < 256) ⌝ }
-{
-    piece * 4 + (placing::degrees_of(turn) / 90) as usize
-}
-
 // The key of two pieces in their turns and an offset.
 fn key_of(two: Two) -> u32
     requires { ⌜ Small two ⌝ }
@@ -58,8 +49,8 @@ fn key_of(two: Two) -> u32
 {
     let moved_turn = two.moved_turn;
     let standing_turn = two.standing_turn;
-    let a = shape_number(two.moved, moved_turn);
-    let b = shape_number(two.standing, standing_turn);
+    let a = shapes::shape_number(two.moved, moved_turn);
+    let b = shapes::shape_number(two.standing, standing_turn);
     (a * 262144 + b * 1024 + two.offset + 1) as u32
 }
 
@@ -69,7 +60,7 @@ fn slot_of(two: Two, slots: usize) -> usize
     ensures { λ r. ⌜ r < slots ⌝ }
 {
     let turn = two.moved_turn;
-    (shape_number(two.moved, turn) * 64 + two.standing) % slots
+    (shapes::shape_number(two.moved, turn) * 64 + two.standing) % slots
 }
 
 // The pixels of a turned box along the direction.

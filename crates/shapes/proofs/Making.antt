@@ -15,12 +15,11 @@ use Rattle.model.specs.Buffer.{stripEntry}
 use Rattle.model.specs.Layout.{Job, turnedPiece}
 use Rattle.model.specs.Lent.{Lent, jobOf, lentWell, pieceBound}
 use Rattle.model.specs.declared.Direction.{Direction}
-use Rattle.model.specs.declared.Turn.{Turn}
 use Rattle.text_laws.proofs.LentFacts.{facts}
 use Rattle.strips.specs.Put.{Appended}
 use Rattle.strips.proofs.Jobs.{entry-at}
 use Rattle.overlap.proofs.Shapes.{entries-ordered}
-use Rattle.shapes.specs.Shapes.{turnNumber, shapeNumber, numberedShape, part, Held, ShapeAt, Shapes, StripsOf, Room}
+use Rattle.shapes.specs.Shapes.{shapeNumber, numberedShape, part, ShapeAt, Shapes, StripsOf, Room}
 use Rattle.shapes.proofs.Jobs.{sheet}
 use Rattle.shapes.proofs.Numbers.{turn-below, number-back, reached, reached-next, reached-few, shape-few, shape-small}
 
@@ -189,8 +188,3 @@ made-all d l store starts k at h m =
 pub strips-of : (d : Direction) (s : Shape) (store : List (List ℕ)) (starts : List ℕ) (k : ℕ) → ShapeAt d s store starts k
     → StripsOf d s (part store starts k)
 strips-of d s store starts k a = record { same = a .holds; ordered = rw (a .holds) (entries-ordered d s (a .small)) }
-
--- the part that the code takes
-pub held-at : (store : List (List ℕ)) (starts : List ℕ) (i n : ℕ) (t : Turn) → n ≡ turnNumber t → Held store starts (shapeNumber i t)
-    → Held store starts (i * 4 + n)
-held-at store starts i n t e h = rw e h

@@ -2,7 +2,7 @@
 // 4 i + t is piece i in turn t; specs/Shapes.antt says how the buffers hold it.
 ghost use mathlib.Core.Path.{_≡_};
 ghost use mathlib.Core.Bool.{true};
-ghost use Prim.Native.Nat.{ℕ, _<_};
+ghost use Prim.Native.Nat.{ℕ, _+_, _*_, _<_, _^_};
 ghost use lib.ListN.{length};
 ghost use Rattle.model.specs.Lent.{lentBy, jobOf, lentWell};
 ghost use Rattle.model.specs.Layout.{Job, turnedPiece};
@@ -34,6 +34,14 @@ fn numbered_turn(number: usize) -> Turn
         2 => Turn::Half,
         _ => Turn::ThreeQuarters,
     }
+}
+
+// The number of a piece in a turn.
+pub fn shape_number(piece: usize, turn: Turn) -> usize
+    requires { ⌜ piece < 2 ^ 62 ⌝ }
+    ensures { λ r. ⌜ (r ≡ shapeNumber piece turn) × (r < piece * 4 + 4) ⌝ }
+{
+    piece * 4 + turn_number(turn)
 }
 
 // A store with room for the strips of every piece in every turn. What it holds plays no part, so that no caller's proof computes with it.
@@ -79,7 +87,7 @@ pub fn shape_strips<'a>(
     requires { ⌜ Held (now store) (now starts) (shapeNumber piece turn) ⌝ }
     ensures { λ r. ⌜ ((d : Direction) (j : Job) → Shapes d j (now (store .entry)) (now (starts .entry)) → piece < j .count → StripsOf d (turnedPiece j piece turn) (now r)) ⌝ }
 {
-    let number = piece * 4 + turn_number(turn);
+    let number = shape_number(piece, turn);
     let from = starts[number] as usize;
     let to = starts[number + 1] as usize;
     &store[from..to]

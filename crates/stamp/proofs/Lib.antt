@@ -1,5 +1,4 @@
 -- The laws behind the moves of counts; each function's proof stands in a folder of its name.
-pub mod Boxes
 pub mod Runs
 pub mod Rows
 pub mod Pieces

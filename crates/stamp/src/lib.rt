@@ -1,27 +1,14 @@
 // A piece's pixels added to the counts of a sheet, or taken off: row by row of its turned box. It knows no sheet record.
 use model::JobSize;
 use model::Placement;
-use model::Turn;
+use turned_pixels::TurnedPiece;
 ghost use mathlib.Core.Path.{_≡_};
 ghost use Prim.Native.Nat.{ℕ, _+_, _*_, _<_, _≤_};
 ghost use lib.ListN.{length, replicate};
 ghost use Rattle.model.specs.Lent.{lentBy, jobOf};
-ghost use Rattle.stamp.specs.Stamp.{moved, movedBy, boxAt, sourceIn, Stored, InBox, Room, onAt, movedRun, movedRows};
+ghost use Rattle.turned_pixels.specs.Turned.{InBox, Stored};
+ghost use Rattle.stamp.specs.Stamp.{moved, movedBy, Room, onAt, movedRun, movedRows};
 ghost use Rattle.stamp.specs.Ready.{Ready};
-
-// A piece's box: the turn in which it is read, where its pixels begin in the store, its columns and rows before the turn.
-pub struct TurnedBox {
-    pub turn: Turn,
-    pub start: usize,
-    pub columns: usize,
-    pub rows: usize,
-}
-
-// A pixel's place in a box.
-pub struct Spot {
-    pub x: usize,
-    pub y: usize,
-}
 
 // The count after a piece is laid (up) or withdrawn that covers the pixel or not.
 fn moved_count(count: u8, on: bool, up: bool) -> u8
@@ -44,43 +31,10 @@ fn moved_count(count: u8, on: bool, up: bool) -> u8
     0
 }
 
-// The pixel of the box that the turn takes to (x, y).
-fn source(piece: TurnedBox, x: usize, y: usize) -> Spot
-    requires { ⌜ InBox piece x y ⌝ }
-    ensures { λ r. ⌜ (r .x ≡ sourceIn piece x y .x) × (r .y ≡ sourceIn piece x y .y) × (r .x < piece .columns) × (r .y < piece .rows) ⌝ }
-{
-    let turn = piece.turn;
-    match turn {
-        Turn::Zero => Spot { x, y },
-        Turn::Quarter => Spot {
-            x: y,
-            y: piece.rows - 1 - x,
-        },
-        Turn::Half => Spot {
-            x: piece.columns - 1 - x,
-            y: piece.rows - 1 - y,
-        },
-        Turn::ThreeQuarters => Spot {
-            x: piece.columns - 1 - y,
-            y: x,
-        },
-    }
-}
-
-// The turned piece has the pixel (x, y).
-fn on_at(pixels: &[u8], piece: TurnedBox, x: usize, y: usize) -> bool
-    requires { ⌜ Stored (now pixels) piece × InBox piece x y ⌝ }
-    ensures { λ r. ⌜ r ≡ onAt (now (pixels .entry)) piece y x ⌝ }
-{
-    let spot = source(piece, x, y);
-    let at = piece.start + (spot.y * piece.columns + spot.x);
-    pixels[at] == 1
-}
-
 // One row of the turned piece, from the count with number `from` on.
 fn move_row(
     pixels: &[u8],
-    piece: TurnedBox,
+    piece: TurnedPiece,
     y: usize,
     from: usize,
     width: usize,
@@ -92,7 +46,7 @@ fn move_row(
 {
     let mut x = 0;
     while x < width {
-        let on = on_at(pixels, piece, x, y);
+        let on = turned_pixels::stored_pixel(pixels, piece, x, y);
         let at = from + x;
         counts[at] = moved_count(counts[at], on, up);
         x += 1;
@@ -102,7 +56,7 @@ fn move_row(
 // The turned piece's rows, the first from the count with number `first` on, each `sheet` counts after the last.
 fn move_rows(
     pixels: &[u8],
-    piece: TurnedBox,
+    piece: TurnedPiece,
     first: usize,
     sheet: usize,
     width: usize,
@@ -133,31 +87,11 @@ pub fn clear(counts: &mut [u8])
     }
 }
 
-// A box side of the table as a wide number.
-fn side(k: u8) -> usize
-    ensures { λ r. ⌜ r ≡ k ⌝ }
-{
-    k as usize
-}
-
 // A coordinate as a wide number.
 fn wide(k: u16) -> usize
     ensures { λ r. ⌜ (r ≡ k) × (r < 65536) ⌝ }
 {
     k as usize
-}
-
-// Piece i's box in a turn.
-fn stored_box(table: &[[u8; 3]], i: usize, turn: Turn) -> TurnedBox
-    requires { ⌜ (i < length (now table)) × (i < 64) ⌝ }
-    ensures { λ r. ⌜ r ≡ boxAt (now (table .entry)) i turn ⌝ }
-{
-    TurnedBox {
-        turn,
-        start: job::pixel_start(table, i),
-        columns: side(table[i][0]),
-        rows: side(table[i][1]),
-    }
 }
 
 // The number of the count at a placement's corner.
@@ -182,8 +116,9 @@ pub fn move_piece(
     ensures { λ _. ⌜ now (counts .exit) ≡ movedBy up (jobOf (lentBy size (now (table .entry)) (now (pixels .entry)))) i place (now (counts .entry)) ⌝ }
 {
     let turn = place.turn;
-    let sides = placing::turned_sides(table, i, turn);
-    let piece = stored_box(table, i, turn);
+    let sides = turned_pixels::turned_sides(table, i, turn);
+    let start = job::pixel_start(table, i);
+    let piece = turned_pixels::turned_piece(table, i, start, turn);
     let first = corner_number(size.columns, place);
     move_rows(
         pixels,

@@ -1,23 +1,9 @@
--- Where a piece's pixels stand in the store, and the first cell of a line that is wanted. Assumes nothing.
+-- The first cell of a line that is wanted, over the cells from t on and below n. Assumes nothing.
 use mathlib.Core.Bool.{Bool, true, false}
-use mathlib.Core.Path.{_≡_, refl, ap, ap₂, sym, _∙_}
-use Prim.Native.Nat.{ℕ, zero, suc, _+_, _*_, _-_, _≤_, _<_}
-use native.Mathlib.Nat.{mul-le-mul}
+use mathlib.Core.Path.{_≡_}
+use Prim.Native.Nat.{ℕ, suc, _+_, _-_, _≤_, _<_}
 use native.Mathlib.Omega.{arith}
 use Rattle.model.specs.Bounded.{firstFrom}
-use Rattle.strips.specs.Scan.{Small}
-use Rattle.strips.specs.declared.scan.TurnedPiece.{TurnedPiece}
-
--- a pixel of a small box stands among the box's first pixels
-pub area-small : {p : TurnedPiece} {x y : ℕ} → Small p → x < p .columns → y < p .rows → y * p .columns + x < 65281
-area-small {p} {x} {y} s a b =
-    let l : p .columns ≤ 255 = s .columns in
-    let r : p .rows ≤ 255 = s .rows in
-    let k : y ≤ 255 = omega arith in
-    let h : y * p .columns ≤ 255 * 255 = mul-le-mul k l in
-    omega arith
-
--- ── the first cell that is wanted, over the cells from t on and below n ──
 
 -- a cell that is wanted
 pub first-stop : (f : ℕ → Bool) (t n : ℕ) → t < n → f t ≡ true → firstFrom f t (n - t) ≡ t

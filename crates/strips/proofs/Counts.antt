@@ -12,8 +12,8 @@ use Rattle.model.specs.declared.Turn.{Turn}
 use Rattle.model.specs.declared.Turn.the-variants.{Zero, Quarter, Half, ThreeQuarters}
 use Rattle.model.specs.declared.Direction.{Direction}
 use Rattle.model.specs.declared.Direction.the-variants.{Horizontal, Vertical}
-use Rattle.strips.specs.Scan.{storedBy, shownBy, Small}
-use Rattle.strips.specs.declared.scan.TurnedPiece.{TurnedPiece}
+use Rattle.turned_pixels.specs.Turned.{storedBy, shownBy, Small}
+use Rattle.turned_pixels.specs.declared.TurnedPiece.{TurnedPiece}
 
 -- a run that ends adds one at most
 closing-few : (i run left : ℕ) (later : List Run) → length later ≤ left → length (closing i run later) ≤ suc left + run

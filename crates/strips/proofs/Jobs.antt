@@ -1,46 +1,23 @@
--- A job's pieces as the code reads them out of the table and the pixel store. Assumes nothing.
-use mathlib.Core.Bool.{Bool, true, _&&_}
+-- The entries of a job's table as the code reads them. Assumes nothing.
+use mathlib.Core.Bool.{true}
 use mathlib.Core.List.{List}
-use mathlib.Core.Path.{_≡_, refl, ap}
-use Prim.Native.Nat.{ℕ, _+_, _*_, _≤_, _<_}
+use mathlib.Core.Path.{_≡_, refl}
+use Prim.Native.Nat.{ℕ, _<_}
 use native.Mathlib.Omega.{arith}
-use borrow.Author.Tests.{leb-true}
-use lib.Dec.{leb}
-use Rattle.model.specs.Piece.{Shape, turned, sideBound}
-use Rattle.model.specs.Layout.{turnedPiece}
-use Rattle.model.specs.Lent.{Lent, lentBy, jobOf, lentWell, entryColumns, entryRows, entryTurns, entryArea, entryInRange, pixelStart, upTo}
+use Rattle.model.specs.Lent.{Lent, lentWell, pixelStart}
 use Rattle.model.specs.declared.Turn.{Turn}
-use Rattle.model.specs.declared.JobSize.{JobSize}
-use Rattle.model.proofs.Tests.{and-left, and-right}
-use Rattle.text_laws.proofs.LentFacts.{Facts, facts}
-use Rattle.text_laws.proofs.Store.{start-end}
-use Rattle.strips.specs.Scan.{madeOf, shownBy, Small}
+use Rattle.model.specs.declared.Turn.the-variants.{Zero}
+use Rattle.text_laws.proofs.LentFacts.{facts}
+use Rattle.turned_pixels.specs.Turned.{madeOf, Small}
+use Rattle.turned_pixels.proofs.Jobs.{entry-small}
 use Rattle.strips.specs.Put.{EntryAt}
-
--- the turned piece of a table entry shows the job's piece in the turn
-pub shown-piece : (size : JobSize) (table : List (List ℕ)) (pixels : List ℕ) (i start : ℕ) (t : Turn) → start ≡ pixelStart table i
-    → shownBy pixels (madeOf table i start t) ≡ turnedPiece (jobOf (lentBy size table pixels)) i t
-unfolding jobOf
-shown-piece size table pixels i start t e = ap (λ k. shownBy pixels (madeOf table i k t)) e
 
 -- an entry of a job that passes the check
 pub entry-at : (l : Lent) (i : ℕ) → lentWell l ≡ true → i < l .count → EntryAt (l .table) i (pixelStart (l .table) i)
-unfolding entryInRange
 entry-at l i e h =
-    let f : Facts l = facts l e in
-    let n = f .entries in
-    let a = start-end (l .table) i (l .count) h in
-    let b = f .areas in
-    let columns : Bool = upTo sideBound (entryColumns (l .table) i) in
-    let rows : Bool = upTo sideBound (entryRows (l .table) i) in
-    let both : (columns && rows) ≡ true = and-left _ _ (and-left _ _ (f .ranges i h)) in
-    record {
-      within = omega arith;
-      columns = leb-true _ _ (and-right (leb 1 (entryColumns (l .table) i)) _ (and-left columns rows both));
-      rows = leb-true _ _ (and-right (leb 1 (entryRows (l .table) i)) _ (and-right columns rows both));
-      begins = refl;
-      small = omega arith;
-    }
+    let n = facts l e .entries in
+    let s = entry-small l i Zero e h in
+    record { within = omega arith; columns = s .columns; rows = s .rows; begins = refl; small = s .start }
 
 -- the turned piece of a table entry is small
 pub made-small : (table : List (List ℕ)) (i start : ℕ) (t : Turn) → EntryAt table i start → Small (madeOf table i start t)

@@ -16,26 +16,18 @@ use Rattle.model.specs.declared.Direction.{Direction}
 use Rattle.model.specs.declared.Direction.the-variants.{Horizontal, Vertical}
 use Rattle.model.proofs.Bounded.{First, first-from}
 use Rattle.model.proofs.Tests.{clash}
-use Rattle.strips.specs.Scan.{storedBy, shownBy, turnedSide, Small, stripsIn, stripsAt, NextStripIs}
-use Rattle.strips.specs.declared.scan.TurnedPiece.{TurnedPiece}
+use Rattle.turned_pixels.specs.Turned.{storedBy, shownBy, Small}
+use Rattle.turned_pixels.specs.declared.Sides.{Sides}
+use Rattle.turned_pixels.specs.declared.TurnedPiece.{TurnedPiece}
+use Rattle.turned_pixels.proofs.Cells.{shown-sides}
+use Rattle.strips.specs.Scan.{turnedSide, stripsIn, stripsAt, NextStripIs}
 
 -- ── the box of a turned piece ──
 
--- the box does not depend on the pixels
-same-side : (d : Direction) (t : Turn) (pixels : List ℕ) (p : TurnedPiece)
-    → extent d (turned t (storedBy [] p)) ≡ extent d (turned t (storedBy pixels p))
-same-side Horizontal Zero pixels p = refl
-same-side Horizontal Quarter pixels p = refl
-same-side Horizontal Half pixels p = refl
-same-side Horizontal ThreeQuarters pixels p = refl
-same-side Vertical Zero pixels p = refl
-same-side Vertical Quarter pixels p = refl
-same-side Vertical Half pixels p = refl
-same-side Vertical ThreeQuarters pixels p = refl
-
--- the sides of the turned box are those of the turned piece
+-- the sides of the turned box are those of the turned piece: the box does not depend on the pixels
 pub side-of : (d : Direction) (pixels : List ℕ) (p : TurnedPiece) → turnedSide d p ≡ extent d (shownBy pixels p)
-side-of d pixels p = same-side d (p .turn) pixels p
+side-of Horizontal pixels p = ap (λ (s : Sides). s .columns) (shown-sides pixels p)
+side-of Vertical pixels p = ap (λ (s : Sides). s .rows) (shown-sides pixels p)
 
 -- the sides of a small box are small
 small-side : (d : Direction) (t : Turn) (p : TurnedPiece) → Small p → extent d (turned t (storedBy [] p)) ≤ 255

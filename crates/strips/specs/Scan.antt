@@ -1,42 +1,18 @@
--- A piece as the pixel store holds it, seen in a turn, and its strips from a cell on. Assumes nothing.
+-- The strips of a turned piece from a cell on. Assumes nothing.
 use mathlib.Core.List.{List, [], _∷_, _++_, map}
 use mathlib.Core.Path.{_≡_}
-use Prim.Native.Nat.{ℕ, zero, suc, _+_, _*_, _-_, _≤_, _<_}
-use lib.Dec.{eqb}
-use lib.ListN.{getD}
-use Rattle.model.specs.Piece.{Shape, turned, extent, other, cell, sideBound}
+use Prim.Native.Nat.{ℕ, zero, suc, _+_, _-_, _≤_, _<_}
+use Rattle.model.specs.Piece.{Shape, extent, other, cell}
 use Rattle.model.specs.Strip.{Strip, stripOf, runsFrom, stripsFrom}
-use Rattle.model.specs.Lent.{areaBound, entryColumns, entryRows}
-use Rattle.model.specs.declared.Turn.{Turn}
-use Rattle.model.specs.declared.Turn.the-variants.{Zero, Quarter, Half, ThreeQuarters}
 use Rattle.model.specs.declared.Direction.{Direction}
-use Rattle.model.specs.declared.Direction.the-variants.{Horizontal, Vertical}
-use Rattle.strips.specs.declared.scan.TurnedPiece.{TurnedPiece}
+use Rattle.turned_pixels.specs.Turned.{shownBy}
+use Rattle.turned_pixels.specs.declared.TurnedPiece.{TurnedPiece}
 use Rattle.strips.specs.declared.scan.NextStrip.{NextStrip}
 use Rattle.strips.specs.declared.scan.NextStrip.the-variants.{Found, Done}
-
--- the turned piece of a table entry
-abbrev pub madeOf : List (List ℕ) → ℕ → ℕ → Turn → TurnedPiece
-madeOf table i start t = record { start = start; columns = entryColumns table i; rows = entryRows table i; turn = t }
-
--- the box as it lies in the store, before the turn
-abbrev pub storedBy : List ℕ → TurnedPiece → Shape
-storedBy pixels p =
-    record { columns = p .columns; rows = p .rows; has = λ x y. eqb (getD pixels (p .start + (y * p .columns + x)) 0) 1 }
-
--- the pixels of the turned piece
-abbrev pub shownBy : List ℕ → TurnedPiece → Shape
-shownBy pixels p = turned (p .turn) (storedBy pixels p)
 
 -- the turned box's pixels along the direction
 abbrev pub turnedSide : Direction → TurnedPiece → ℕ
 turnedSide d p = extent d (shownBy [] p)
-
--- the box is within document 01's bounds, and so is where its pixels begin
-pub record Small (p : TurnedPiece) : Type 0 where
-  pub start : p .start ≤ areaBound
-  pub columns : p .columns ≤ sideBound
-  pub rows : p .rows ≤ sideBound
 
 -- the strips from cell a of line c on, where c is the first of `left` lines
 unfoldable pub stripsIn : Direction → Shape → ℕ → ℕ → ℕ → List Strip

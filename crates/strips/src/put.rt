@@ -1,11 +1,11 @@
 // Strips put into a lent store. What there is no room for is counted and left out, so that one function counts and writes.
 
 use super::scan::NextStrip;
-use super::scan::TurnedPiece;
 use super::scan::next_strip;
-use super::scan::turned_piece;
 use model::Direction;
 use model::Turn;
+use turned_pixels::TurnedPiece;
+use turned_pixels::turned_piece;
 ghost use mathlib.Core.Path.{_≡_};
 ghost use mathlib.Core.List.{[], _∷_};
 ghost use Prim.Native.Nat.{ℕ, _<_, _≤_, _^_};
@@ -14,7 +14,7 @@ ghost use Rattle.model.specs.Strip.{strips};
 ghost use Rattle.model.specs.Lent.{lentBy, jobOf};
 ghost use Rattle.model.specs.Layout.{turnedPiece};
 ghost use Rattle.model.specs.declared.JobSize.{JobSize};
-ghost use Rattle.strips.specs.Scan.{shownBy, Small};
+ghost use Rattle.turned_pixels.specs.Turned.{shownBy, Small};
 ghost use Rattle.strips.specs.Put.{Appended, EntryAt};
 
 // Stores a strip, where there is room for it.

@@ -1,20 +1,14 @@
 -- `shapes::shape_strips` meets its contract: two neighbouring starts bound the part, which is the shape's strips. Assumes nothing.
 use native.Mathlib.Omega.{arith}
-use Prim.Native.Nat.{_*_, _+_}
+use Prim.Native.Nat.{_+_}
 use Rattle.shapes.specs.Shapes.{Held}
-use Rattle.shapes.proofs.Making.{held-at, strips-of}
+use Rattle.shapes.proofs.Making.{strips-of}
 use borrow.Author.Needs.{needs}
 use Rattle.shapes.proofs.shape_strips.Statement.{statement}
 use Rattle.shapes.proofs.shape_strips.Tie as tie
 
-mul-number : tie.Need-mul-number
-mul-number c = search needs
-
-turn-number-requires : tie.Need-turn-number-requires
-turn-number-requires c κs = search needs
-
-add-number : tie.Need-add-number
-add-number c = search needs
+shape-number-requires : tie.Need-shape-number-requires
+shape-number-requires c κs = let h = c .before .pre .started in omega arith
 
 mul-from : tie.Need-mul-from
 mul-from c = search needs
@@ -23,7 +17,7 @@ shared-slice-read-from : tie.Need-shared-slice-read-from
 shared-slice-read-from c = search needs
 
 cast-from : tie.Need-cast-from
-cast-from c = omega (arith, c .shared-slice-known2 .given (c .before .before .before .args .piece * 4 + c .before .turn-number .result))
+cast-from c = omega (arith, c .shared-slice-known2 .given (c .before .shape-number .result))
 
 add-to : tie.Need-add-to
 add-to c = search needs
@@ -35,15 +29,13 @@ shared-slice-read-to : tie.Need-shared-slice-read-to
 shared-slice-read-to c = search needs
 
 cast-to : tie.Need-cast-to
-cast-to c = omega (arith, c .shared-slice-known3 .given (c .before .before .before .before .args .piece * 4 + c .before .before .turn-number .result + 1))
+cast-to c = omega (arith, c .shared-slice-known3 .given (c .before .before .shape-number .result + 1))
 
 -- the starts bound a part of the store
 bounds : (c : tie.After-shared-slice-known3)
     → Held (c .before .before .before .before .args .store .now) (c .before .before .before .before .args .starts .now)
-    (c .before .before .before .before .args .piece * 4 + c .before .before .turn-number .result)
-bounds c =
-    let a = c .before .before .before .before .args in
-    held-at (a .store .now) (a .starts .now) (a .piece) _ (a .turn) (c .before .before .turn-number .ensures) (c .before .before .before .before .pre)
+    (c .before .before .shape-number .result)
+bounds c = rw (c .before .before .shape-number .ensures .0) (c .before .before .before .before .pre)
 
 mul-result : tie.Need-mul-result
 mul-result c = let h = bounds c in omega arith
@@ -60,15 +52,13 @@ part-result-end c = bounds c .within
 returns : tie.Need-returns
 returns c = λ d j shapes there.
     let a = c .before .before .before .before .before .args in
-    rw (c .before .before .before .turn-number .ensures) (strips-of d _ (a .store .now) (a .starts .now) _ (shapes .at (a .piece) (a .turn) there))
+    rw (c .before .before .before .shape-number .ensures .0) (strips-of d _ (a .store .now) (a .starts .now) _ (shapes .at (a .piece) (a .turn) there))
 
 pub shape-strips-spec : {M : Type 1} → statement M
 shape-strips-spec =
     tie.close
     (tie.spec
-    mul-number
-    turn-number-requires
-    add-number
+    shape-number-requires
     mul-from
     shared-slice-read-from
     cast-from

@@ -21,8 +21,8 @@ abbrev μ-loop : tie.MeasureT-loop
 loop-holds : tie.Need-loop-holds Inv-loop μ-loop
 loop-holds c = (omega arith, refl, rw sub-zero)
 
-on-at-requires : tie.Need-on-at-requires Inv-loop μ-loop
-on-at-requires c κs =
+stored-pixel-requires : tie.Need-stored-pixel-requires Inv-loop μ-loop
+stored-pixel-requires c κs =
     let pre = c .before .before .before .before .pre in
     (pre .0, pre .1 _ (c .loop-test .taken))
 
@@ -48,7 +48,7 @@ loop-again : tie.Need-loop-again Inv-loop μ-loop
 loop-again c =
     let a = c .before .before .before .before .before .before .before .args in
     let now = c .before .before .before .before .loop in
-    let on = c .before .before .on-at .ensures in
+    let on = c .before .before .stored-pixel .ensures in
     let count = c .moved-count .ensures in (
       omega arith,
       simp length-set (now .inv .1),
@@ -67,5 +67,5 @@ returns c =
 pub move-row-spec : {M : Type 1} → statement M
 move-row-spec =
     tie.close
-    (tie.spec Inv-loop μ-loop loop-holds on-at-requires add-at slice-read-moved-count moved-count-requires slice-write-counts add-x loop-less
+    (tie.spec Inv-loop μ-loop loop-holds stored-pixel-requires add-at slice-read-moved-count moved-count-requires slice-write-counts add-x loop-less
     loop-again same-length returns)

@@ -1,15 +1,15 @@
 -- `strips::compare::compare_piece` meets its contract: the turned piece of the table's entry shows the job's piece. Assumes nothing.
 use mathlib.Core.Path.{ap, _∙_}
 use Rattle.model.specs.Strip.{strips}
-use Rattle.strips.specs.Scan.{shownBy}
+use Rattle.turned_pixels.specs.Turned.{shownBy}
+use Rattle.turned_pixels.proofs.Jobs.{shown-piece}
 use Rattle.strips.specs.Compare.{compared}
-use Rattle.strips.proofs.Jobs.{made-small, shown-piece}
-use borrow.Author.Needs.{needs}
+use Rattle.strips.proofs.Jobs.{made-small}
 use Rattle.strips.proofs.compare.compare_piece.Statement.{statement}
 use Rattle.strips.proofs.compare.compare_piece.Tie as tie
 
 turned-piece-requires : tie.Need-turned-piece-requires
-turned-piece-requires c κs = search needs
+turned-piece-requires c κs = c .before .pre .0 .within
 
 compare-strips-requires : tie.Need-compare-strips-requires
 compare-strips-requires c κs =

@@ -6,7 +6,8 @@ use native.Mathlib.Omega.{arith}
 use lib.ListN.{length}
 use borrow.Author.Tests.{not-true, not-false}
 use Rattle.model.specs.Strip.{strips}
-use Rattle.strips.specs.Scan.{shownBy, turnedSide, stripsAt, NextIs, NextStripIs}
+use Rattle.turned_pixels.specs.Turned.{shownBy}
+use Rattle.strips.specs.Scan.{turnedSide, stripsAt, NextIs, NextStripIs}
 use Rattle.strips.proofs.Scanning.{all-strips, side-of, side-small}
 use Rattle.strips.proofs.Counts.{piece-few}
 use Rattle.strips.proofs.Comparing.{Comparing, compare-start, compare-step, compare-unlike, compare-end}

@@ -7,7 +7,7 @@ use Prim.Native.Nat.{ℕ, _-_, _≤_, _<_}
 use native.Mathlib.Omega.{arith}
 use Rattle.model.specs.Bounded.{firstFrom}
 use Rattle.model.specs.Piece.{cell}
-use Rattle.strips.specs.Scan.{shownBy}
+use Rattle.turned_pixels.specs.Turned.{shownBy}
 use Rattle.strips.proofs.Cells.{first-stop, first-go, first-end}
 use Rattle.strips.proofs.scan.find.Statement.{statement}
 use Rattle.strips.proofs.scan.find.Tie as tie

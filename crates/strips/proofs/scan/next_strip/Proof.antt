@@ -8,7 +8,8 @@ use native.Mathlib.Omega.{arith}
 use Rattle.model.specs.Bounded.{firstFrom}
 use Rattle.model.specs.Piece.{cell}
 use Rattle.model.proofs.Bounded.{first-from}
-use Rattle.strips.specs.Scan.{shownBy, turnedSide, stripsAt}
+use Rattle.turned_pixels.specs.Turned.{shownBy}
+use Rattle.strips.specs.Scan.{turnedSide, stripsAt}
 use Rattle.strips.proofs.Scanning.{piece-found, piece-line-done, piece-none-left}
 use Rattle.strips.proofs.scan.next_strip.Statement.{statement}
 use Rattle.strips.proofs.scan.next_strip.Tie as tie

@@ -1,8 +1,8 @@
--- `strips::scan::cell_index` meets its contract: each turn reads the box at the point that it takes there. Assumes nothing.
+-- `turned_pixels::cell_index` meets its contract: each turn reads the box at the point that it takes there. Assumes nothing.
 use native.Mathlib.Omega.{arith}
 use borrow.Author.Needs.{needs}
-use Rattle.strips.proofs.scan.cell_index.Statement.{statement}
-use Rattle.strips.proofs.scan.cell_index.Tie as tie
+use Rattle.turned_pixels.proofs.cell_index.Statement.{statement}
+use Rattle.turned_pixels.proofs.cell_index.Tie as tie
 
 enum-told : tie.Need-enum-told
 enum-told c = search needs
@@ -53,16 +53,16 @@ stored-index-requires-4 : tie.Need-stored-index-requires-4
 stored-index-requires-4 c κs = let h = rw (c .before .enum-told4 .given .1) at (c .before .before .before .pre .1) in (c .before .before .before .pre .0, omega arith)
 
 returns : tie.Need-returns
-returns c = λ pixels. rw (c .stored-index .ensures, c .before .enum-told .given .1)
+returns c = (λ pixels. rw (c .stored-index .ensures .0, c .before .enum-told .given .1), c .stored-index .ensures .1)
 
 returns-2 : tie.Need-returns-2
-returns-2 c = λ pixels. rw (c .stored-index2 .ensures, c .before .before .enum-told2 .given .1)
+returns-2 c = (λ pixels. rw (c .stored-index2 .ensures .0, c .before .before .enum-told2 .given .1), c .stored-index2 .ensures .1)
 
 returns-3 : tie.Need-returns-3
-returns-3 c = λ pixels. rw (c .stored-index3 .ensures, c .before .before .before .enum-told3 .given .1)
+returns-3 c = (λ pixels. rw (c .stored-index3 .ensures .0, c .before .before .before .enum-told3 .given .1), c .stored-index3 .ensures .1)
 
 returns-4 : tie.Need-returns-4
-returns-4 c = λ pixels. rw (c .stored-index4 .ensures, c .before .before .enum-told4 .given .1)
+returns-4 c = (λ pixels. rw (c .stored-index4 .ensures .0, c .before .before .enum-told4 .given .1), c .stored-index4 .ensures .1)
 
 pub cell-index-spec : {M : Type 1} → statement M
 cell-index-spec =
