@@ -30,7 +30,8 @@ use Rattle.model.specs.declared.Line.{Line}
 use Rattle.model.specs.declared.Placement.{Placement}
 use Rattle.model.specs.declared.Refusal.{Refusal}
 use Rattle.text_laws.proofs.JobRead.{job-read-well}
-use Rattle.text_laws.specs.Texts.{Readable}
+use Rattle.text_laws.specs.Texts.{Readable, Demand1Text}
+use Rattle.text_laws.proofs.Demand1Text.{demand1-text}
 use Rattle.text_laws.proofs.LentRead.{lent-well-readable}
 use Rattle.overlap_laws.specs.Overlap.{SharedPixel, LeastShift}
 use Rattle.overlap_laws.specs.NoFit.{NoFitLine}
@@ -68,6 +69,8 @@ pub record Demand1Calls : Type 0 where
   -- one clause a call, in Clauses of specs/: it refuses exactly by the first of its causes in document 01's order that is there, it gives
   -- its value exactly where none is, and after a refusal each lent buffer holds what it held before
   pub each-call : CallClauses
+  -- the readers, both ways: which text is read as what, and each refusal's cause on the line that it names
+  pub texts : Demand1Text
   -- the check that every call makes first of a lent job passes exactly where reading some text gives the job
   pub job-check : (l : Lent) → (lentWell l ≡ true) ↔ Readable l
   pub job-read : (text : List ℕ) (tableLength pixelsLength : ℕ) (l : Lent) → readJob text tableLength pixelsLength ≡ given l
@@ -182,6 +185,7 @@ pub demand1-calls : Demand1Calls
 demand1-calls =
     record {
       each-call = call-clauses;
+      texts = demand1-text;
       job-check = lent-well-readable;
       job-read = job-read-well;
       sheet-check = sheet-reached;

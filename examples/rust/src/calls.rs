@@ -6,7 +6,7 @@
 use std::fmt;
 
 pub use sigbrol::{Place, TEXT};
-use sigbrol::{Reply, LAYOUT_TEXT, PIECES, PIXELS};
+use sigbrol::{Reply, CLEAR, DONE, LAYOUT_TEXT, PIECES, PIXELS, SETTLED};
 
 /// A call that is refused, and by what.
 #[derive(Clone, Copy, Debug, PartialEq, Eq)]
@@ -15,7 +15,7 @@ pub struct Refused(pub Reply);
 /// A refusal as an error.
 fn accepted(reply: Reply) -> Result<(), Refused> {
     match reply.number {
-        0 => Ok(()),
+        DONE => Ok(()),
         _ => Err(Refused(reply)),
     }
 }
@@ -131,8 +131,8 @@ impl Job {
             &mut moves
         )?;
         let end = match end {
-            0 => End::Clear,
-            1 => End::Settled,
+            CLEAR => End::Clear,
+            SETTLED => End::Settled,
             _ => End::Spent,
         };
         Ok(Descent {

@@ -4,14 +4,46 @@
 
 #![no_std]
 
+/// The version of the interface.
+pub const VERSION: u32 = 2;
+
 /// The largest numbers of a job: pieces, bytes of all boxes together, bytes of a job text that the program reads.
 pub const PIECES: usize = 64;
 pub const PIXELS: usize = 65_536;
 pub const TEXT: usize = 65_536;
 
-/// Lengths that suffice for every job: bytes of a layout text and of the program's output.
+/// Lengths that suffice for every job: strips of a store, its starts, runs of a no-fit row or column, bytes of a layout text and of
+/// the program's output.
+pub const STRIPS: usize = PIXELS;
+pub const STARTS: usize = PIECES + 1;
+pub const RUNS: usize = 255;
 pub const LAYOUT_TEXT: usize = 2_048;
 pub const OUTPUT: usize = 4_096;
+
+/// The largest weight.
+pub const WEIGHT: u32 = 65_535;
+
+/// How a descent ended.
+pub const CLEAR: u8 = 0;
+pub const SETTLED: u8 = 1;
+pub const SPENT: u8 = 2;
+
+/// The numbers of refusals, 0 for a call that did its work.
+pub const DONE: u32 = 0;
+pub const WRONG_FORM: u32 = 1;
+pub const OUT_OF_RANGE: u32 = 2;
+pub const SHEET_TOO_LARGE: u32 = 3;
+pub const BOXES_TOO_LARGE: u32 = 4;
+pub const LOOSE_BOX: u32 = 5;
+pub const BOX_TOO_LARGE: u32 = 6;
+pub const WRONG_LENGTH: u32 = 7;
+pub const NOT_OURS: u32 = 8;
+pub const NO_SUCH_PIECE: u32 = 9;
+pub const OUTSIDE: u32 = 10;
+pub const EMPTY_LINE: u32 = 11;
+pub const SHARED_PIXEL: u32 = 12;
+pub const LAID_ALREADY: u32 = 13;
+pub const NOT_LAID: u32 = 14;
 
 /// A piece's entry of the table: l, w, o.
 pub type Entry = [u8; 3];
