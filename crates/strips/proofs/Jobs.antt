@@ -1,19 +1,15 @@
 -- A job's pieces as the code reads them out of the table and the pixel store. Assumes nothing.
-use mathlib.Core.Bool.{Bool, true, _&&_}
+use mathlib.Core.Bool.{true}
 use mathlib.Core.List.{List}
 use mathlib.Core.Path.{_≡_, refl, ap}
 use Prim.Native.Nat.{ℕ, _+_, _*_, _≤_, _<_}
 use native.Mathlib.Omega.{arith}
-use borrow.Author.Tests.{leb-true}
-use lib.Dec.{leb}
-use Rattle.model.specs.Piece.{Shape, turned, sideBound}
+use Rattle.model.specs.Piece.{Shape, turned}
 use Rattle.model.specs.Layout.{turnedPiece}
-use Rattle.model.specs.Lent.{Lent, lentBy, jobOf, lentWell, entryColumns, entryRows, entryTurns, entryArea, entryInRange, pixelStart, upTo}
+use Rattle.model.specs.Lent.{Lent, lentBy, jobOf, lentWell, entryTurns, entryArea, pixelStart}
 use Rattle.model.specs.declared.Turn.{Turn}
 use Rattle.model.specs.declared.JobSize.{JobSize}
-use Rattle.model.proofs.Tests.{and-left, and-right}
-use Rattle.text_laws.proofs.LentFacts.{Facts, facts}
-use Rattle.text_laws.proofs.Store.{start-end}
+use Rattle.job_laws.proofs.Checked.{Facts, facts}
 use Rattle.strips.specs.Scan.{madeOf, shownBy, Small}
 use Rattle.strips.specs.Put.{EntryAt}
 
@@ -25,22 +21,12 @@ shown-piece size table pixels i start t e = ap (λ k. shownBy pixels (madeOf tab
 
 -- an entry of a job that passes the check
 pub entry-at : (l : Lent) (i : ℕ) → lentWell l ≡ true → i < l .count → EntryAt (l .table) i (pixelStart (l .table) i)
-unfolding entryInRange
 entry-at l i e h =
     let f : Facts l = facts l e in
     let n = f .entries in
-    let a = start-end (l .table) i (l .count) h in
+    let a = f .ends i h in
     let b = f .areas in
-    let columns : Bool = upTo sideBound (entryColumns (l .table) i) in
-    let rows : Bool = upTo sideBound (entryRows (l .table) i) in
-    let both : (columns && rows) ≡ true = and-left _ _ (and-left _ _ (f .ranges i h)) in
-    record {
-      within = omega arith;
-      columns = leb-true _ _ (and-right (leb 1 (entryColumns (l .table) i)) _ (and-left columns rows both));
-      rows = leb-true _ _ (and-right (leb 1 (entryRows (l .table) i)) _ (and-right columns rows both));
-      begins = refl;
-      small = omega arith;
-    }
+    record { within = omega arith; columns = f .columnsSmall i h; rows = f .rowsSmall i h; begins = refl; small = omega arith }
 
 -- the turned piece of a table entry is small
 pub made-small : (table : List (List ℕ)) (i start : ℕ) (t : Turn) → EntryAt table i start → Small (madeOf table i start t)

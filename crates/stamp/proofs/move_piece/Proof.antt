@@ -3,10 +3,10 @@
 use mathlib.Core.Path.{refl, _∙_}
 use borrow.Author.Needs.{needs}
 use Rattle.model.specs.Lent.{lentBy}
-use Rattle.text_laws.proofs.LentFacts.{facts}
+use Rattle.job_laws.proofs.Checked.{facts}
 use Rattle.stamp.proofs.move_piece.Statement.{statement}
 use Rattle.stamp.proofs.move_piece.Tie as tie
-use Rattle.stamp.proofs.Pieces.{range, entry-there, piece-few, stored, rows-room, piece-moved}
+use Rattle.stamp.proofs.Pieces.{entry-there, piece-few, stored, rows-room, piece-moved}
 
 turned-sides-requires : tie.Need-turned-sides-requires
 turned-sides-requires c κs = entry-there _ _ _ _ (c .before .before .pre)
@@ -15,7 +15,7 @@ stored-box-requires : tie.Need-stored-box-requires
 stored-box-requires c κs = let pre = c .before .before .before .pre in (entry-there _ _ _ _ pre, piece-few _ _ _ _ pre)
 
 corner-number-requires : tie.Need-corner-number-requires
-corner-number-requires c κs = range _ _ _ _ (c .before .before .before .before .pre) .columns-few
+corner-number-requires c κs = facts _ (c .before .before .before .before .pre .well) .fewColumns
 
 move-rows-requires : tie.Need-move-rows-requires
 move-rows-requires c κs =
