@@ -13,9 +13,8 @@ use Rattle.model.specs.Buffer.{layoutOf}
 use Rattle.model.specs.declared.Direction.{Direction}
 use Rattle.model.specs.declared.Direction.the-variants.{Horizontal}
 use Rattle.model.specs.declared.Turn.{Turn}
-use Rattle.text_laws.proofs.LentFacts.{facts}
+use Rattle.job_laws.proofs.Checked.{facts, lent-turned-small}
 use Rattle.overlap_laws.proofs.Penalty.{penalty-bound}
-use Rattle.call_laws.proofs.Jobs.{lent-turned-small}
 use Rattle.descent_laws.specs.Claims.{ValidWeights}
 use Rattle.search_laws.specs.PieceSum.{weightBetween, penaltyOn}
 use Rattle.search_laws.proofs.PieceSum.{weight-bound}

@@ -15,13 +15,12 @@ use Rattle.model.specs.Lent.{Lent, jobOf, lentWell}
 use Rattle.model.specs.Buffer.{layoutOf, placementOf}
 use Rattle.model.specs.declared.Direction.{Direction}
 use Rattle.strip_laws.proofs.Tight.{tight-side}
-use Rattle.text_laws.proofs.LentFacts.{facts}
+use Rattle.job_laws.proofs.Checked.{facts}
 use Rattle.call_laws.proofs.Jobs.{lent-tight}
 use Rattle.descent_laws.specs.Claims.{ValidWeights}
 use Rattle.search_laws.specs.BoundedSearch.{Serves, limit, belowBound}
 use Rattle.search_laws.proofs.BoundedSearch.{Bounded, bounded-is, search-serves, whole-serves}
 use Rattle.search_laws.proofs.PieceSum.{sum-at}
-use Rattle.shapes.proofs.Jobs.{sheet}
 use Rattle.pair_table.specs.Drawn.{Laid}
 use Rattle.tracks.specs.declared.Mover.{Mover}
 use Rattle.tracks.specs.declared.Track.{Track}
@@ -43,8 +42,8 @@ lines-ready s =
 pub track-asked : (l : Lent) (i : ℕ) → lentWell l ≡ true → i < l .count → (i < length (l .table)) × ((l .columns ≤ 4096) × (l .rows ≤ 4096))
 track-asked l i w b =
     let e = facts l w .entries in
-    let c = sheet l w .columns in
-    let r = sheet l w .rows in
+    let c = facts l w .fewColumns in
+    let r = facts l w .fewRows in
     (omega arith, (omega arith, omega arith))
 
 -- the mover's track

@@ -14,9 +14,9 @@ use Rattle.model.specs.Lent.{Lent, jobOf}
 use Rattle.model.specs.Refusal.{given}
 use Rattle.model.specs.Calls.{layoutCauses, usedLengthCall}
 use Rattle.model.proofs.Tests.{and-left, decided}
+use Rattle.job_laws.proofs.Checked.{lent-some}
 use Rattle.text_laws.proofs.Outcomes.{given-unless}
 use Rattle.descent_laws.specs.Claims.{ValidLayout}
-use Rattle.descent_laws.proofs.Lent.{lent-some}
 use Rattle.call_laws.specs.Lengths.{EndsAt, UsedClaims}
 use Rattle.call_laws.proofs.Layouts.{job-well, layout-valid}
 

@@ -18,6 +18,7 @@ use Rattle.model.specs.Calls.{jobCause, layoutLength, outsideCause, someTurnWro
 use Rattle.model.specs.declared.Direction.{Direction}
 use Rattle.model.specs.declared.Direction.the-variants.{Horizontal}
 use Rattle.model.proofs.Tests.{and-left, and-right, or-neither, same-tests}
+use Rattle.job_laws.proofs.Checked.{lent-few, lent-turned-small}
 use Rattle.text_laws.specs.Outcomes.{NoCause}
 use Rattle.text_laws.proofs.Outcomes.{given-unless}
 use Rattle.overlap_laws.specs.Overlap.{SharedPixel, LeastShift, PenaltyLaws}
@@ -31,7 +32,7 @@ use Rattle.descent_laws.proofs.Sums.{zero-exactly}
 use Rattle.descent_laws.proofs.Guided.{unit-valid}
 use Rattle.descent_laws.proofs.Bounds.{weighted-at-most}
 use Rattle.call_laws.specs.Overlaps.{PairLaws, DepthClaims, PenaltyClaims, SumClaims}
-use Rattle.call_laws.proofs.Jobs.{lent-sheet, lent-boxes-small, lent-turned-small, lent-no-fit}
+use Rattle.call_laws.proofs.Jobs.{lent-boxes-small, lent-no-fit}
 use Rattle.call_laws.proofs.Layouts.{job-well, layout-valid, lent-weights-valid}
 
 -- ── two pieces of a layout ──
@@ -121,7 +122,7 @@ sum-claims l ws v well weights =
     record {
       is = refl;
       zero-exactly = zero-exactly (jobOf l) ws v weights;
-      small = weighted-at-most (jobOf l) ws v (lent-sheet l well .count) (lent-boxes-small l well) weights;
+      small = weighted-at-most (jobOf l) ws v (lent-few l well) (lent-boxes-small l well) weights;
     }
 
 -- a weighted sum that the call gives

@@ -32,7 +32,7 @@ program-run-given l well =
     programBudget refl (omega arith)
 
 -- an input that is not too long is read
-program-reads : (input : List ℕ) → length input ≤ inputBound → programText input ≡ printed (readJob input pieceBound areaBound)
+pub program-reads : (input : List ℕ) → length input ≤ inputBound → programText input ≡ printed (readJob input pieceBound areaBound)
 unfolding programText
 program-reads input few = rw (not-less few, programText)
 

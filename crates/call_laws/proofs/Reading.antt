@@ -15,8 +15,9 @@ use Rattle.model.specs.Refusal.{given}
 use Rattle.model.specs.JobText.{readJob}
 use Rattle.model.specs.Calls.{tableAfter, storeAfter}
 use Rattle.text_laws.specs.Texts.{Agree}
-use Rattle.text_laws.proofs.Store.{start-end, in-box, tight-agree}
-use Rattle.text_laws.proofs.LentFacts.{Facts, facts, well}
+use Rattle.job_laws.proofs.Starts.{start-end}
+use Rattle.text_laws.proofs.Store.{in-box, tight-agree}
+use Rattle.job_laws.proofs.Checked.{Facts, facts, well}
 use Rattle.text_laws.proofs.JobRead.{sides-some, JustRead, job-read-well, job-read-just}
 use Rattle.call_laws.specs.Reading.{jobLeft, JobLeft, FrontRead}
 

@@ -23,12 +23,12 @@ use Rattle.model.specs.Calls.{budgetBound, roundBound, someWeightWrong, bestPla
 use Rattle.model.specs.declared.Turn.{Turn}
 use Rattle.model.specs.declared.Line.{Line}
 use Rattle.model.proofs.Tests.{or-neither, passes}
+use Rattle.job_laws.proofs.Checked.{lent-some}
 use Rattle.text_laws.proofs.Entries.{entries-read-back}
 use Rattle.text_laws.proofs.Outcomes.{given-unless, unless-given}
 use Rattle.descent_laws.specs.Claims.{ValidWeights, ValidLayout, DescentClaims, GuidedClaims}
 use Rattle.descent_laws.specs.Search.{Found}
 use Rattle.descent_laws.proofs.Search.{Searched, searched, inside-below, below-inside}
-use Rattle.descent_laws.proofs.Lent.{lent-some}
 use Rattle.descent_laws.proofs.Demand3.{demand3}
 use Rattle.call_laws.proofs.Refusals.{or-none, not-less}
 use Rattle.call_laws.proofs.Layouts.{BufferPasses, valid-buffer, weights-pass, job-well, layout-valid, lent-weights-valid}

@@ -15,6 +15,7 @@ use Rattle.model.specs.Refusal.{Outcome, given, unless}
 use Rattle.model.specs.Cover.{Sheet, Call, laying, withdrawing, called, afterwards, afterCalls, fresh, lay, withdraw, layCauses, withdrawCauses, sheetWell}
 use Rattle.model.specs.Calls.{sheetCauses, freshCall, layCall, withdrawCall}
 use Rattle.model.specs.declared.Placement.{Placement}
+use Rattle.job_laws.proofs.Checked.{lent-few}
 use Rattle.text_laws.proofs.Outcomes.{given-unless}
 use Rattle.cover_laws.proofs.Reached.{well-sound, well-exactly}
 use Rattle.cover_laws.specs.Effects.{LayGives, WithdrawGives}
@@ -22,7 +23,6 @@ use Rattle.cover_laws.proofs.Effects.{lay-gives, withdraw-gives, fresh-well, ca
 use Rattle.cover_laws.specs.CoverClaims.{CoverHolds}
 use Rattle.cover_laws.proofs.Demand2Cover.{demand2-cover}
 use Rattle.call_laws.specs.Sheets.{sheetCall, afterSheetCalls}
-use Rattle.call_laws.proofs.Jobs.{lent-sheet}
 use Rattle.call_laws.proofs.Layouts.{job-well}
 
 -- a sheet that some list of calls gives has one count a pixel
@@ -49,7 +49,7 @@ lay-given l s s′ i p e =
     let n = given-unless (sheetCauses l s (layCauses (jobOf l) s i p)) (lay (jobOf l) s i p) s′ e .none in
     let well : lentWell l ≡ true = job-well l (n .0) in
     let sheet : sheetWell (jobOf l) s ≡ true = not-false (sheetWell (jobOf l) s) (n .1 .1 .0) in
-    lay-gives (jobOf l) (lent-sheet l well .count) s s′ i p sheet (sym (lay-call l s i p well sheet) ∙ e)
+    lay-gives (jobOf l) (lent-few l well) s s′ i p sheet (sym (lay-call l s i p well sheet) ∙ e)
 
 -- a withdraw that the call gives, whatever is lent
 pub withdraw-given : (l : Lent) (s s′ : Sheet) (i : ℕ) → withdrawCall l s i ≡ given s′ → WithdrawGives (jobOf l) s i s′
@@ -58,7 +58,7 @@ withdraw-given l s s′ i e =
     let n = given-unless (sheetCauses l s (withdrawCauses (jobOf l) s i)) (withdraw (jobOf l) s i) s′ e .none in
     let well : lentWell l ≡ true = job-well l (n .0) in
     let sheet : sheetWell (jobOf l) s ≡ true = not-false (sheetWell (jobOf l) s) (n .1 .1 .0) in
-    withdraw-gives (jobOf l) (lent-sheet l well .count) s s′ i sheet (sym (withdraw-call l s i well sheet) ∙ e)
+    withdraw-gives (jobOf l) (lent-few l well) s s′ i sheet (sym (withdraw-call l s i well sheet) ∙ e)
 
 -- ── lists of calls ──
 
@@ -74,7 +74,7 @@ unfolding afterSheetCalls afterCalls
 sheet-calls l s [] e h = refl
 sheet-calls l s (c ∷ cs) e h =
     ap (λ (o : Outcome Sheet). afterSheetCalls l (afterwards s o) cs) (sheet-call l s c e h)
-    ∙ sheet-calls l (afterwards s (called (jobOf l) s c)) cs e (call-well (jobOf l) (lent-sheet l e .count) s c h)
+    ∙ sheet-calls l (afterwards s (called (jobOf l) s c)) cs e (call-well (jobOf l) (lent-few l e) s c h)
 
 -- after every list of public calls from a fresh sheet, given or refused, each pixel's count is the number of laid pieces on it
 pub fresh-given : (l : Lent) (room : ℕ) (s : Sheet) → freshCall l room ≡ given s → (cs : List Call)
@@ -83,7 +83,7 @@ unfolding freshCall
 fresh-given l room s e cs =
     let u = given-unless _ (fresh (jobOf l)) s e in
     let well : lentWell l ≡ true = job-well l (u .none .0) in
-    let few : jobOf l .count ≤ pieceBound = lent-sheet l well .count in
+    let few : jobOf l .count ≤ pieceBound = lent-few l well in
     rw (← u .same, sheet-calls l (fresh (jobOf l)) cs well (fresh-well (jobOf l) few)) (demand2-cover (jobOf l) few cs)
 
 -- the check of a lent sheet, refusal 8 of lay and withdraw, passes exactly the sheets that some list of public calls from a fresh one gives
@@ -93,7 +93,7 @@ unfolding freshCall
 sheet-reached l room f e s =
     let u = given-unless _ (fresh (jobOf l)) f e in
     let well : lentWell l ≡ true = job-well l (u .none .0) in
-    let few : jobOf l .count ≤ pieceBound = lent-sheet l well .count in
+    let few : jobOf l .count ≤ pieceBound = lent-few l well in
     let same : (cs : List Call) → afterSheetCalls l (fresh (jobOf l)) cs ≡ afterCalls (jobOf l) (fresh (jobOf l)) cs =
     λ cs. sheet-calls l (fresh (jobOf l)) cs well (fresh-well (jobOf l) few) in
     rw (← u .same) (

@@ -13,12 +13,12 @@ use Rattle.model.specs.Lent.{Lent, jobOf, lentWell}
 use Rattle.model.specs.Refusal.{given, unless}
 use Rattle.model.specs.LayoutText.{layoutText, readLayout}
 use Rattle.model.specs.Calls.{jobCause, layoutCauses, atLeast, startCall, writeLayoutCall, readLayoutCall}
+use Rattle.job_laws.proofs.Checked.{Facts, facts}
 use Rattle.text_laws.proofs.Outcomes.{given-unless, given-before}
 use Rattle.text_laws.proofs.LayoutRead.{layout-read-placed}
 use Rattle.text_laws.proofs.LayoutReadBack.{layout-read-back}
 use Rattle.descent_laws.specs.Claims.{ValidLayout}
 use Rattle.descent_laws.proofs.Lent.{lent-start-valid}
-use Rattle.call_laws.proofs.Jobs.{SheetSmall, lent-sheet}
 use Rattle.call_laws.proofs.Layouts.{job-well, layout-valid}
 
 -- a start layout that the call gives is valid
@@ -50,8 +50,8 @@ written-read-back l es room text e =
     given-unless (layoutCauses l es ++ (atLeast (length (layoutText (jobOf l) (layoutOf es))) room ∷ [])) (layoutText (jobOf l) (layoutOf es)) text e in
     let well : lentWell l ≡ true = job-well l (u .none .0) in
     let v : ValidLayout (jobOf l) (layoutOf es) = layout-valid l es (u .none .1 .0) (u .none .1 .1 .0) (u .none .1 .1 .1 .0) in
-    let s : SheetSmall l = lent-sheet l well in
+    let s : Facts l = facts l well in
     let r : readLayout (jobOf l) (layoutText (jobOf l) (layoutOf es)) (l .count) ≡ given (layoutOf es) =
-    layout-read-back (jobOf l) (layoutOf es) (s .rows) (s .columns) (s .count) (v .onePerPiece)
+    layout-read-back (jobOf l) (layoutOf es) (s .fewRows) (s .fewColumns) (s .fewPieces) (v .onePerPiece)
     (λ i b. record { turn = v .turnAllowed i b; within = v .insideSheet i b }) in
     rw (← u .same, well) r

@@ -7,7 +7,7 @@ use Prim.Native.Nat.{ℕ, _<_}
 use native.Mathlib.Omega.{arith}
 use Rattle.model.specs.Refusal.{Outcome, refused, Cause, refusalOf, unless}
 use Rattle.model.specs.declared.Refusal.{Refusal}
-use Rattle.cover_laws.proofs.Calls.{Absent}
+use Rattle.text_laws.specs.Outcomes.{NoCause}
 use Rattle.cover.specs.Answers.{plainRefusal, firstNumber}
 
 -- the causes have a number and no places
@@ -37,7 +37,7 @@ absent-step true m k l e = absurd (omega arith)
 absent-step false m k l e = (refl, e)
 
 -- 0 says that none is there
-pub none-there : (cs : List Cause) → Plain cs → firstNumber cs ≡ 0 → Absent cs
+pub none-there : (cs : List Cause) → Plain cs → firstNumber cs ≡ 0 → NoCause cs
 unfolding firstNumber
 none-there [] p e = tt
 none-there (c ∷ cs) p e =
@@ -45,7 +45,7 @@ none-there (c ∷ cs) p e =
     (here .0, none-there cs (p .2) (here .1))
 
 -- and the causes after them decide
-pub none-refuses : {A : Type 0} (cs ds : List Cause) (a : A) → Absent cs → unless (cs ++ ds) a ≡ unless ds a
+pub none-refuses : {A : Type 0} (cs ds : List Cause) (a : A) → NoCause cs → unless (cs ++ ds) a ≡ unless ds a
 unfolding unless
 none-refuses [] ds a h = refl
 none-refuses (c ∷ cs) ds a h = rw (h .0) (none-refuses cs ds a (h .1))
@@ -63,7 +63,7 @@ number-front (c ∷ cs) ds n e some =
     number-step (c .there) (c .number) (firstNumber cs) (firstNumber (cs ++ ds)) n e (λ e′. number-front cs ds n e′ some)
 
 -- and else that of its end
-pub number-end : (cs ds : List Cause) → Absent cs → firstNumber (cs ++ ds) ≡ firstNumber ds
+pub number-end : (cs ds : List Cause) → NoCause cs → firstNumber (cs ++ ds) ≡ firstNumber ds
 unfolding firstNumber
 number-end [] ds h = refl
 number-end (c ∷ cs) ds h = rw (h .0) (number-end cs ds (h .1))

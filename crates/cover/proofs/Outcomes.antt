@@ -19,7 +19,9 @@ use Rattle.model.specs.declared.Placement.{Placement}
 use Rattle.model.specs.declared.Entry.{Entry}
 use Rattle.model.specs.declared.Record.{Record}
 use Rattle.model.proofs.Tests.{clash}
-use Rattle.cover_laws.proofs.Calls.{Absent, absent-given, LayTaken, WithdrawTaken, lay-given, withdraw-given, length-mapFrom, getD-mapFrom}
+use Rattle.text_laws.proofs.Outcomes.{unless-given}
+use Rattle.text_laws.specs.Outcomes.{NoCause}
+use Rattle.cover_laws.proofs.Calls.{LayTaken, WithdrawTaken, lay-given, withdraw-given, length-mapFrom, getD-mapFrom}
 use Rattle.cover_laws.proofs.Counts.{LaidWell}
 use Rattle.cover_laws.proofs.Reached.{well-sound}
 use Rattle.stamp.specs.Stamp.{moved, movedBy}
@@ -33,7 +35,7 @@ use Rattle.cover.proofs.Causes.{Plain, first-refuses, none-there, none-
 pub record BufferPassed (l : Lent) (room : ℕ) : Type 0 where
   pub well : lentWell l ≡ true
   pub full : room ≡ l .rows * l .columns
-  pub absent : Absent (bufferCauses l room)
+  pub absent : NoCause (bufferCauses l room)
 
 buffer-plain : (l : Lent) (room : ℕ) → Plain (bufferCauses l room)
 buffer-plain l room = (refl, omega arith, (refl, omega arith, tt))
@@ -85,7 +87,7 @@ sheet-ready l s e =
     }
 
 -- and the other way
-ready-absent : (l : Lent) (s : Sheet) → SheetReady l s → Absent (sheetCauses l s [])
+ready-absent : (l : Lent) (s : Sheet) → SheetReady l s → NoCause (sheetCauses l s [])
 unfolding sheetCauses
 ready-absent l s ready =
     (ap not (ready .well), (ap not (eq-eqb (length (s .counts)) (l .rows * l .columns) (ready .full)), (ap not (ready .sheet), tt)))
@@ -106,7 +108,7 @@ module _ {A : Type 0} (l : Lent) (s : Sheet) (more : List Cause) (a : A) where
       own-causes ready ∙ ap (λ (cs : List Cause). unless cs a) (sym (append-nil more)) ∙ first-refuses more [] a n plain (sym e) some
 
   pub none-given : Plain more → SheetReady l s → firstNumber more ≡ 0 → unless (sheetCauses l s more) a ≡ given a
-  none-given plain ready e = own-causes ready ∙ absent-given more a (none-there more plain e)
+  none-given plain ready e = own-causes ready ∙ unless-given more a (none-there more plain e)
 
 -- the causes of a lay and of a withdraw have no places
 pub lay-plain : (j : Job) (s : Sheet) (i : ℕ) (p : Placement) → Plain (layCauses j s i p)
@@ -120,13 +122,13 @@ withdraw-plain j s i = (refl, omega arith, (refl, omega arith, tt))
 -- a lay and a withdraw without a cause are in order
 pub lay-order : (j : Job) (s : Sheet) (i : ℕ) (p : Placement) → firstNumber (layCauses j s i p) ≡ 0 → LayTaken j s i p
 unfolding called
-lay-order j s i p e = lay-given j s (lay j s i p) i p (absent-given (layCauses j s i p) (lay j s i p) (none-there (layCauses j s i p) (lay-plain j s i p) e)) .0
+lay-order j s i p e = lay-given j s (lay j s i p) i p (unless-given (layCauses j s i p) (lay j s i p) (none-there (layCauses j s i p) (lay-plain j s i p) e)) .0
 
 pub withdraw-order : (j : Job) (s : Sheet) (i : ℕ) → firstNumber (withdrawCauses j s i) ≡ 0 → WithdrawTaken j s i
 unfolding called
 withdraw-order j s i e =
     withdraw-given j s (withdraw j s i) i
-    (absent-given (withdrawCauses j s i) (withdraw j s i) (none-there (withdrawCauses j s i) (withdraw-plain j s i) e)) .0
+    (unless-given (withdrawCauses j s i) (withdraw j s i) (none-there (withdrawCauses j s i) (withdraw-plain j s i) e)) .0
 
 -- ── a fresh sheet ──
 
@@ -136,7 +138,7 @@ fresh-refused l room n e some = first-refuses (bufferCauses l room) [] (fresh (j
 
 pub fresh-given : (l : Lent) (room : ℕ) → firstNumber (bufferCauses l room) ≡ 0 → freshCall l room ≡ given (fresh (jobOf l))
 unfolding freshCall
-fresh-given l room e = absent-given (bufferCauses l room) (fresh (jobOf l)) (buffer-passed l room e .absent)
+fresh-given l room e = unless-given (bufferCauses l room) (fresh (jobOf l)) (buffer-passed l room e .absent)
 
 -- ── answers ──
 

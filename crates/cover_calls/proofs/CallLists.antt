@@ -19,7 +19,9 @@ use Rattle.model.specs.Cover.{Sheet, fresh, lay, withdraw, layCauses, withdrawC
 use Rattle.model.specs.declared.Placement.{Placement}
 use Rattle.model.specs.declared.Record.{Record}
 use Rattle.model.specs.declared.Refusal.{Refusal}
-use Rattle.cover_laws.proofs.Calls.{Absent, absent-given}
+use Rattle.text_laws.proofs.Outcomes.{unless-given}
+use Rattle.text_laws.specs.Outcomes.{NoCause}
+use Rattle.job_laws.proofs.Checked.{facts}
 use Rattle.cover_laws.proofs.Counts.{fresh-sound}
 use Rattle.cover_laws.proofs.Reached.{well-sound}
 use Rattle.cover_laws.proofs.Effects.{fresh-well, call-well}
@@ -29,7 +31,6 @@ use Rattle.cover.specs.declared.Reply.the-variants.{Given, Refused}
 use Rattle.cover.specs.declared.SheetAnswer.{SheetAnswer}
 use Rattle.interface.specs.Numbers.{pieceWithTurn}
 use Rattle.cover_calls.specs.CallList.{callOf, callsOf, runOutcome}
-use Rattle.stamp.proofs.Pieces.{few-pieces}
 use Rattle.cover.proofs.Outcomes.{own-causes}
 
 -- the answer and the buffer after a call are the sheet after its outcome
@@ -54,7 +55,7 @@ module _ (l : Lent) (s : Sheet) (ready : SheetReady l s) where
   pub ready-after : (c : Call) → SheetReady l (afterwards s (called (jobOf l) s c))
   unfolding jobOf
   ready-after c =
-      let again = call-well (jobOf l) (few-pieces l (ready .well)) s c (ready .sheet) in
+      let again = call-well (jobOf l) (facts l (ready .well) .fewPieces) s c (ready .sheet) in
       record { well = ready .well; full = well-sound (jobOf l) (afterwards s (called (jobOf l) s c)) again .counts; sheet = again }
 
 -- five numbers of kind 0 are a lay, of another kind a withdraw
@@ -72,7 +73,7 @@ call-withdraws e h = rw (ne-eqb (getD e 0 0) 0 h, callOf)
 -- a fresh sheet of a job that is well is ready
 pub fresh-ready : (l : Lent) → lentWell l ≡ true → SheetReady l (fresh (jobOf l))
 unfolding jobOf
-fresh-ready l well = record { well = well; full = fresh-sound (jobOf l) .counts; sheet = fresh-well (jobOf l) (few-pieces l well) }
+fresh-ready l well = record { well = well; full = fresh-sound (jobOf l) .counts; sheet = fresh-well (jobOf l) (facts l well .fewPieces) }
 
 -- the first of the calls that are left
 pub calls-step : (j : Job) (s : Sheet) (es : List (List ℕ)) (k : ℕ) → k < length es
@@ -93,15 +94,15 @@ pub record Alike {A B : Type 0} (x : Outcome A) (y : Outcome B) : Type 0 where
   pub first : x ≡ refused refusal
   pub second : y ≡ refused refusal
 
-alike-step : {A B : Type 0} (c : Cause) (cs : List Cause) (t : Bool) → c .there ≡ t → (x : Outcome A) (y : Outcome B) → Alike x y ⊎ Absent cs
+alike-step : {A B : Type 0} (c : Cause) (cs : List Cause) (t : Bool) → c .there ≡ t → (x : Outcome A) (y : Outcome B) → Alike x y ⊎ NoCause cs
     → Alike {A = A} {B = B} (elim t as (λ _. Outcome A) [ true ↦ refused (refusalOf c) | false ↦ x ])
     (elim t as (λ _. Outcome B) [ true ↦ refused (refusalOf c) | false ↦ y ])
-    ⊎ Absent (c ∷ cs)
+    ⊎ NoCause (c ∷ cs)
 alike-step c cs true e x y earlier = inl (record { refusal = refusalOf c; first = refl; second = refl })
 alike-step c cs false e x y (inl same) = inl same
 alike-step c cs false e x y (inr none) = inr (e, none)
 
-alike : {A B : Type 0} (cs : List Cause) (a : A) (b : B) → Alike (unless cs a) (unless cs b) ⊎ Absent cs
+alike : {A B : Type 0} (cs : List Cause) (a : A) (b : B) → Alike (unless cs a) (unless cs b) ⊎ NoCause cs
 unfolding unless
 alike [] a b = inr tt
 alike (c ∷ cs) a b = alike-step c cs (c .there) refl (unless cs a) (unless cs b) (alike cs a b)
@@ -121,8 +122,8 @@ run-cases l room es =
     inr
     (record {
       well = not-false (lentWell l) (none .0);
-      start = absent-given (bufferCauses l room) (fresh (jobOf l)) none;
-      run = absent-given (bufferCauses l room) (afterCalls (jobOf l) (fresh (jobOf l)) (callsOf es)) none;
+      start = unless-given (bufferCauses l room) (fresh (jobOf l)) none;
+      run = unless-given (bufferCauses l room) (afterCalls (jobOf l) (fresh (jobOf l)) (callsOf es)) none;
     }))
     (alike (bufferCauses l room) (fresh (jobOf l)) (afterCalls (jobOf l) (fresh (jobOf l)) (callsOf es)))
 

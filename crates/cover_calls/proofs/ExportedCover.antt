@@ -14,14 +14,15 @@ use Rattle.model.specs.Lent.{Lent, jobOf, lentWell}
 use Rattle.model.specs.Refusal.{Outcome, refused, given, Cause, refusalOf, unless}
 use Rattle.model.specs.Calls.{jobCause, countsLength, freshCall}
 use Rattle.model.specs.Cover.{Sheet, fresh, called, afterwards, afterCalls}
-use Rattle.cover_laws.proofs.Calls.{Absent, absent-given}
+use Rattle.text_laws.proofs.Outcomes.{unless-given}
+use Rattle.text_laws.specs.Outcomes.{NoCause}
+use Rattle.job_laws.proofs.Checked.{facts}
 use Rattle.cover_laws.specs.CoverClaims.{CoverHolds}
 use Rattle.cover_laws.proofs.Demand2Cover.{demand2-cover}
 use Rattle.cover.specs.Answers.{bufferCauses}
 use Rattle.cover.specs.Ready.{SheetReady}
 use Rattle.interface.specs.Replies.{replyTo}
 use Rattle.interface.proofs.Records.{buffers-back}
-use Rattle.stamp.proofs.Pieces.{few-pieces}
 use Rattle.cover_calls.specs.Exported.{Buffers, ExportedCall, lays, withdraws, callMeant, callsMeant, sheetHeld}
 use Rattle.cover_calls.specs.Exported.{exported, buffersAfter, afterExported, freshExported, fromFresh}
 use Rattle.cover_calls.proofs.CallLists.{lay-called, withdraw-called, ready-after, fresh-ready}
@@ -58,7 +59,7 @@ reply-step true c o l e = absurd (omega arith)
 reply-step false c o l e = (refl, e)
 
 -- a fresh sheet whose reply has the number 0 has no cause of refusal
-fresh-absent : (l : Lent) (room : ℕ) → replyTo (freshCall l room) .number ≡ 0 → Absent (bufferCauses l room)
+fresh-absent : (l : Lent) (room : ℕ) → replyTo (freshCall l room) .number ≡ 0 → NoCause (bufferCauses l room)
 unfolding freshCall unless
 fresh-absent l room e =
     let job = reply-step (jobCause l .there) (jobCause l) (unless (countsLength l room ∷ []) (fresh (jobOf l))) (omega arith) e in
@@ -74,9 +75,9 @@ exported-cover l b cs e =
     let well : lentWell l ≡ true = not-false (lentWell l) (none .0) in
     let start : sheetHeld (buffersAfter b (freshExported l b)) ≡ fresh (jobOf l) =
     buffers-back (b .entries) (b .counts) (freshExported l b)
-    ∙ ap (afterwards (sheetHeld b)) (absent-given (bufferCauses l (length (b .counts))) (fresh (jobOf l)) none) in
+    ∙ ap (afterwards (sheetHeld b)) (unless-given (bufferCauses l (length (b .counts))) (fresh (jobOf l)) none) in
     let ready : SheetReady l (sheetHeld (buffersAfter b (freshExported l b))) =
     subst (λ (t : Sheet). SheetReady l t) (sym start) (fresh-ready l well) in
     let after : sheetHeld (fromFresh l b cs) ≡ afterCalls (jobOf l) (fresh (jobOf l)) (callsMeant cs) =
     held-list l (buffersAfter b (freshExported l b)) cs ready ∙ ap (λ (t : Sheet). afterCalls (jobOf l) t (callsMeant cs)) start in
-    subst (λ (t : Sheet). CoverHolds (jobOf l) (callsMeant cs) t) (sym after) (demand2-cover (jobOf l) (few-pieces l well) (callsMeant cs))
+    subst (λ (t : Sheet). CoverHolds (jobOf l) (callsMeant cs) t) (sym after) (demand2-cover (jobOf l) (facts l well .fewPieces) (callsMeant cs))

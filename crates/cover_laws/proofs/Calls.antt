@@ -1,7 +1,7 @@
 -- Document 01, 'Start, layout text, sheet' and 'When a call says no': when a lay or a withdraw is given, what a refused one leaves,
 -- and lists of calls one after another. A call is given exactly when none of its causes is there, since the first cause refuses.
 -- Assumes nothing.
-use mathlib.Core.Bool.{Bool, true, false, not, _&&_}
+use mathlib.Core.Bool.{true, false, not, _&&_}
 use mathlib.Core.Path.{_≡_, refl, sym, _∙_, ap}
 use mathlib.Core.List.{List, [], _∷_, _++_}
 use Prim.Native.Nat.{ℕ, zero, suc, _+_, _<_}
@@ -11,12 +11,13 @@ use lib.Dec.{ltb}
 use lib.ListN.{length, getD}
 use borrow.Author.Tests.{not-false, ltb-true, lt-ltb}
 use Rattle.model.specs.Layout.{Job, allowed, inside}
-use Rattle.model.specs.Refusal.{Outcome, refused, given, Cause, unless, refusalOf}
+use Rattle.model.specs.Refusal.{refused, given}
 use Rattle.model.specs.Cover.{Sheet, entryIn, mapFrom, lay, withdraw, layCauses, withdrawCauses}
 use Rattle.model.specs.Cover.{Call, laying, withdrawing, called, afterwards, afterCalls}
 use Rattle.model.specs.declared.Placement.{Placement}
 use Rattle.model.specs.declared.Refusal.{Refusal}
 use Rattle.model.proofs.Tests.{and-left, and-right, and-both}
+use Rattle.text_laws.proofs.Outcomes.{unless-given, given-unless}
 
 -- ── a count for each pixel ──
 
@@ -32,34 +33,6 @@ unfolding mapFrom
 getD-mapFrom f k [] m l = absurd (not-suc-le-zero l)
 getD-mapFrom f k (c ∷ cs) zero l = rw add-zero
 getD-mapFrom f k (c ∷ cs) (suc m) l = getD-mapFrom f (suc k) cs m (le-of-suc-le-suc l) ∙ ap (λ (n : ℕ). f n (getD cs m 0)) (omega arith)
-
--- ── causes ──
-
--- none of the causes is there
-abbrev pub Absent : List Cause → Type 0
-Absent [] = Unit {0}
-Absent (c ∷ cs) = (c .there ≡ false) × Absent cs
-
--- a choice between a refusal and an outcome that gives a value took the outcome
-absent-step : {A : Type 0} (t : Bool) (r : Refusal) (o : Outcome A) (b : A)
-    → elim t as (λ _. Outcome A) [ true ↦ refused r | false ↦ o ] ≡ given b → (t ≡ false) × (o ≡ given b)
-absent-step true r o b e = absurd (let z : _≡_ {A = ℕ} 0 1 = cc in omega arith)
-absent-step false r o b e = (refl, e)
-
--- where a value is given, no cause is there, and it is the call's
-pub given-absent : {A : Type 0} (cs : List Cause) (a b : A) → unless cs a ≡ given b → Absent cs × (a ≡ b)
-unfolding unless
-given-absent [] a b e = (tt, cc)
-given-absent (c ∷ cs) a b e =
-    let here = absent-step (c .there) (refusalOf c) (unless cs a) b e in
-    let later : Absent cs × (a ≡ b) = given-absent cs a b (here .1) in
-    ((here .0, later .0), later .1)
-
--- where no cause is there, the value is given
-pub absent-given : {A : Type 0} (cs : List Cause) (a : A) → Absent cs → unless cs a ≡ given a
-unfolding unless
-absent-given [] a h = refl
-absent-given (c ∷ cs) a h = rw (h .0) (absent-given cs a (h .1))
 
 -- ── when a call is given ──
 
@@ -79,41 +52,41 @@ pub record WithdrawTaken (j : Job) (s : Sheet) (i : ℕ) : Type 0 where
 pub lay-given : (j : Job) (s s′ : Sheet) (i : ℕ) (p : Placement) → called j s (laying i p) ≡ given s′ → LayTaken j s i p × (lay j s i p ≡ s′)
 unfolding called layCauses
 lay-given j s s′ i p e =
-    let known = given-absent (layCauses j s i p) (lay j s i p) s′ e in
-    let named = not-false (ltb i (j .count) && allowed j i (p .turn)) (known .0 .0) in (
+    let known = given-unless (layCauses j s i p) (lay j s i p) s′ e in
+    let named = not-false (ltb i (j .count) && allowed j i (p .turn)) (known .none .0) in (
       record {
         piece = ltb-true i (j .count) (and-left (ltb i (j .count)) (allowed j i (p .turn)) named);
         turn = and-right (ltb i (j .count)) (allowed j i (p .turn)) named;
-        free = known .0 .1 .0;
-        within = not-false (inside j i p) (known .0 .1 .1 .0);
+        free = known .none .1 .0;
+        within = not-false (inside j i p) (known .none .1 .1 .0);
       },
-      known .1,
+      known .same,
     )
 
 -- a lay that is in order is given
 pub lay-taken : (j : Job) (s : Sheet) (i : ℕ) (p : Placement) → LayTaken j s i p → called j s (laying i p) ≡ given (lay j s i p)
 unfolding called layCauses
 lay-taken j s i p t =
-    absent-given (layCauses j s i p) (lay j s i p)
+    unless-given (layCauses j s i p) (lay j s i p)
     (ap not (and-both (lt-ltb i (j .count) (t .piece)) (t .turn)), (t .free, (ap not (t .within), tt)))
 
 -- a withdraw that is given is in order and gives the sheet with the piece withdrawn
 pub withdraw-given : (j : Job) (s s′ : Sheet) (i : ℕ) → called j s (withdrawing i) ≡ given s′ → WithdrawTaken j s i × (withdraw j s i ≡ s′)
 unfolding called withdrawCauses
 withdraw-given j s s′ i e =
-    let known = given-absent (withdrawCauses j s i) (withdraw j s i) s′ e in (
+    let known = given-unless (withdrawCauses j s i) (withdraw j s i) s′ e in (
       record {
-        piece = ltb-true i (j .count) (not-false (ltb i (j .count)) (known .0 .0));
-        laid = not-false (entryIn (s .pieces) i .laid) (known .0 .1 .0);
+        piece = ltb-true i (j .count) (not-false (ltb i (j .count)) (known .none .0));
+        laid = not-false (entryIn (s .pieces) i .laid) (known .none .1 .0);
       },
-      known .1,
+      known .same,
     )
 
 -- a withdraw that is in order is given
 pub withdraw-taken : (j : Job) (s : Sheet) (i : ℕ) → WithdrawTaken j s i → called j s (withdrawing i) ≡ given (withdraw j s i)
 unfolding called withdrawCauses
 withdraw-taken j s i t =
-    absent-given (withdrawCauses j s i) (withdraw j s i) (ap not (lt-ltb i (j .count) (t .piece)), (ap not (t .laid), tt))
+    unless-given (withdrawCauses j s i) (withdraw j s i) (ap not (lt-ltb i (j .count) (t .piece)), (ap not (t .laid), tt))
 
 -- ── lists of calls ──
 

@@ -7,13 +7,12 @@ use Prim.Native.Nat.{ℕ, zero, suc, _+_, _*_, _<_, _≤_}
 use native.Mathlib.Nat.{le-trans, suc-mul, mul-suc, mul-le-mul, mul-le-mul-left, mul-le-mul-right}
 use native.Mathlib.Omega.{arith}
 use lib.ListN.{length, getD, length-append}
-use Rattle.model.specs.Piece.{Shape, turned, sideBound}
+use Rattle.model.specs.Piece.{sideBound}
 use Rattle.model.specs.Layout.{Job, Layout, Pair, placeOf, shapeIn, pairs, pairsWith, pairsFrom, pairPenalty, sumOver, weightedSum, pieceSum}
 use Rattle.model.specs.Guided.{weightBound, Round, madeIn, movesIn}
 use Rattle.model.specs.Lent.{pieceBound}
-use Rattle.model.specs.declared.Turn.{Turn}
-use Rattle.model.specs.declared.Turn.the-variants.{Zero, Quarter, Half, ThreeQuarters}
 use Rattle.model.specs.declared.Direction.the-variants.{Horizontal}
+use Rattle.job_laws.proofs.Turned.{turned-extent}
 use Rattle.overlap_laws.proofs.Penalty.{penalty-bound}
 use Rattle.descent_laws.specs.Sums.{sumBound, Ordered}
 use Rattle.descent_laws.specs.Claims.{ValidWeights, RoundClaims}
@@ -67,16 +66,9 @@ pub record BoxesSmall (j : Job) : Type 0 where
   pub columnsSmall : (i : ℕ) → i < j .count → j .piece i .shape .columns ≤ sideBound
   pub rowsSmall : (i : ℕ) → i < j .count → j .piece i .shape .rows ≤ sideBound
 
--- a box with sides of at most 255 has at most 255 columns in every turn
-turned-columns : (t : Turn) (s : Shape) → s .columns ≤ sideBound → s .rows ≤ sideBound → turned t s .columns ≤ sideBound
-turned-columns Zero s c r = c
-turned-columns Quarter s c r = r
-turned-columns Half s c r = c
-turned-columns ThreeQuarters s c r = r
-
 -- a piece of the layout has at most 255 columns
 piece-columns : (j : Job) → BoxesSmall j → (v : Layout) (i : ℕ) → i < j .count → shapeIn j v i .columns ≤ sideBound
-piece-columns j small v i l = turned-columns (placeOf v i .turn) (j .piece i .shape) (small .columnsSmall i l) (small .rowsSmall i l)
+piece-columns j small v i l = turned-extent Horizontal (placeOf v i .turn) (j .piece i .shape) sideBound (small .columnsSmall i l) (small .rowsSmall i l)
 
 -- a pair's penalty is at most 255
 pub pair-penalty-at-most : (j : Job) → BoxesSmall j → (v : Layout) (p : Pair) → List·Memᴰ p (pairs (j .count)) → pairPenalty j v p ≤ sideBound

@@ -4,8 +4,8 @@ use mathlib.Core.Bool.{Bool, true, false, not, _||_}
 use mathlib.Core.List.{List}
 use mathlib.Core.Path.{_≡_, refl, sym, ap, _∙_, subst}
 use Prim.Native.Nat.{ℕ, _≤_}
-use borrow.Author.Tests.{leb-true, ltb-false, not-false}
-use lib.Dec.{ltb, leb}
+use borrow.Author.Tests.{ltb-false, not-false}
+use lib.Dec.{ltb}
 use Rattle.model.specs.Layout.{Layout}
 use Rattle.model.specs.Guided.{Guided, rounds, guide}
 use Rattle.model.specs.Lent.{Lent, jobOf, upTo}
@@ -13,7 +13,8 @@ use Rattle.model.specs.Buffer.{layoutOf, entriesOf}
 use Rattle.model.specs.Refusal.{refused, given, unless}
 use Rattle.model.specs.Calls.{budgetBound, roundBound, someWeightWrong, guidedCall}
 use Rattle.model.specs.declared.Refusal.{Refusal}
-use Rattle.model.proofs.Tests.{and-right, or-neither}
+use Rattle.model.proofs.Tests.{or-neither}
+use Rattle.job_laws.proofs.Ranges.{up-to}
 use Rattle.text_laws.proofs.Entries.{entries-read-back}
 use Rattle.text_laws.specs.Outcomes.{NoCause}
 use Rattle.text_laws.proofs.Outcomes.{unless-given}
@@ -52,7 +53,7 @@ module _ (l : Lent) (es : List (List ℕ)) (ws : List ℕ) (count budget : ℕ) 
 
     -- the rounds are few
     pub few-rounds : count ≤ roundBound
-    few-rounds = leb-true count roundBound (and-right (leb 1 count) _ (not-false (upTo roundBound count) (range .1)))
+    few-rounds = up-to roundBound count (not-false (upTo roundBound count) (range .1))
 
     -- and so is the budget
     pub few-trials : budget ≤ budgetBound

@@ -2,7 +2,7 @@
 use mathlib.Core.Bool.{Bool, true, _&&_}
 use mathlib.Core.List.{List}
 use mathlib.Core.Path.{_≡_, ap}
-use Prim.Native.Nat.{ℕ, _+_, _-_, _*_, _%_, _≤_, _<_}
+use Prim.Native.Nat.{ℕ, _+_, _-_, _*_, _≤_, _<_}
 use native.Mathlib.Nat.{mul-le-mul}
 use native.Mathlib.Omega.{arith}
 use lib.Dec.{leb, eqb}
@@ -10,14 +10,14 @@ use lib.ListN.{length, getD}
 use borrow.Author.Tests.{leb-true}
 use Rattle.model.specs.Bounded.{allBelow}
 use Rattle.model.specs.Piece.{holds, sideBound}
-use Rattle.model.specs.Lent.{areaBound, pieceBound, turnsBound, upTo, entryColumns, entryRows, entryTurns, pixelStart, sheetInRange, entryInRange, entryFits}
+use Rattle.model.specs.Lent.{areaBound, pieceBound, entryColumns, entryRows, entryTurns, pixelStart, sheetInRange, entryInRange, entryFits}
 use Rattle.model.specs.declared.JobSize.{JobSize}
 use Rattle.model.specs.declared.Direction.the-variants.{Horizontal, Vertical}
 use Rattle.model.proofs.Tests.{and-left, and-right}
 use Rattle.model.proofs.Bounded.{any-agree, all-at}
 use Rattle.text_laws.specs.Limits.{sidesInRange}
 use Rattle.job.specs.Boxes.{boxIn, someMark, tableWell, Side}
-use Rattle.limits.proofs.Ranges.{at-least, at-most, few-pieces}
+use Rattle.job_laws.proofs.Ranges.{at-least, up-to, side-facts, sheet-few}
 
 module _ (mark : ℕ) (bytes : List ℕ) (start stride l w : ℕ) where
   -- a row of a box
@@ -35,13 +35,10 @@ module _ (mark : ℕ) (bytes : List ℕ) (start stride l w : ℕ) where
 -- sides in range
 pub sides-of : (l w o : ℕ) → sidesInRange l w o ≡ true → Side l × Side w
 sides-of l w o e =
-    let a : Bool = upTo sideBound l in
-    let b : Bool = upTo sideBound w in
-    let c : Bool = eqb (o % 2) 1 in
-    let ab : (a && b) ≡ true = and-left (a && b) c (and-left (a && b && c) (leb o turnsBound) e) in
-    let ea : a ≡ true = and-left a b ab in
-    let eb : b ≡ true = and-right a b ab in
-    (record { low = at-least sideBound l ea; high = at-most sideBound l ea }, record { low = at-least sideBound w eb; high = at-most sideBound w eb })
+    let s = side-facts l w o e in (
+      record { low = at-least sideBound l (s .columns); high = up-to sideBound l (s .columns) },
+      record { low = at-least sideBound w (s .rows); high = up-to sideBound w (s .rows) },
+    )
 
 -- the area of a box with sides in range
 pub area-of : (l w o : ℕ) → sidesInRange l w o ≡ true → l * w ≤ 255 * 255
@@ -70,7 +67,7 @@ table-facts size table e =
     let ec : (a && b && c) ≡ true = and-left (a && b && c) d ed in
     let eb : (a && b) ≡ true = and-left (a && b) c ec in
     record {
-      few = few-pieces (size .rows) (size .columns) (size .count) (and-left a b eb);
+      few = sheet-few (size .rows) (size .columns) (size .count) (and-left a b eb);
       entries = leb-true (size .count) (length table) (and-right a b eb);
       ranges = all-at (size .count) (entryInRange table) (and-right (a && b) c ec);
       areas = leb-true (pixelStart table (size .count)) areaBound (and-right (a && b && c && d) f e);

@@ -1,5 +1,4 @@
 -- How the store stays right: one with no tag is, and one stays so when a slot is made anew. Assumes nothing.
-use mathlib.Core.Bool.{Bool, true, false}
 use mathlib.Core.List.{List}
 use mathlib.Core.Logic.{⊎-elim}
 use mathlib.Core.Path.{_≡_, sym, ap, _∙_}
@@ -9,15 +8,13 @@ use native.Mathlib.Nat.{mul-le-mul-right, suc-mul}
 use native.Mathlib.Omega.{arith}
 use lib.ListN.{length, getD, set, length-set}
 use lib.Seq.{getD-set-same, getD-set-other}
-use Rattle.model.specs.Piece.{Shape, extent, turned}
 use Rattle.model.specs.Layout.{Job, turnedPiece}
 use Rattle.model.specs.Lent.{lentBy, jobOf, pieceBound, entryColumns, entryRows}
 use Rattle.model.specs.declared.Direction.{Direction}
-use Rattle.model.specs.declared.Direction.the-variants.{Horizontal, Vertical}
 use Rattle.model.specs.declared.JobSize.{JobSize}
 use Rattle.model.specs.declared.Turn.{Turn}
+use Rattle.job_laws.proofs.Turned.{turned-extent}
 use Rattle.strip_laws.proofs.Runs.{below-or-not}
-use Rattle.strip_laws.proofs.Turns.{swaps, turned-box}
 use Rattle.shapes.specs.Shapes.{numberedShape, shapeNumber}
 use Rattle.shapes.proofs.Numbers.{turn-below, number-back}
 use Rattle.lines.specs.Kept.{keyOf, HoldsLine, Kept, Wide}
@@ -108,21 +105,11 @@ module _ (d : Direction) (j : Job) (width : ℕ) where
 
 -- ── how wide a slot is ──
 
--- what holds of both of two numbers holds of either
-either : (b : Bool) (x y n : ℕ) → x ≤ n → y ≤ n → elim b [ true ↦ x | false ↦ y ] ≤ n
-either true x y n p q = p
-either false x y n p q = q
-
--- a turned box has the sides of the box
-turned-side : (d : Direction) (t : Turn) (s : Shape) (n : ℕ) → s .columns ≤ n → s .rows ≤ n → extent d (turned t s) ≤ n
-turned-side Horizontal t s n c r = rw (turned-box t s .0) (either (swaps t) _ _ n r c)
-turned-side Vertical t s n c r = rw (turned-box t s .1) (either (swaps t) _ _ n c r)
-
 -- twice the largest side is wide enough
 pub twice-wide : (j : Job) (n : ℕ) → ((i : ℕ) → i < j .count → (j .piece i .shape .columns ≤ n) × (j .piece i .shape .rows ≤ n)) → Wide j (n * 2)
 twice-wide j n small i k t u d a b =
-    let x = turned-side d t (j .piece i .shape) n (small i a .0) (small i a .1) in
-    let y = turned-side d u (j .piece k .shape) n (small k b .0) (small k b .1) in
+    let x = turned-extent d t (j .piece i .shape) n (small i a .0) (small i a .1) in
+    let y = turned-extent d u (j .piece k .shape) n (small k b .0) (small k b .1) in
     omega arith
 
 -- no side of the first n entries is above the number

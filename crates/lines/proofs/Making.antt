@@ -7,11 +7,11 @@ use lib.ListN.{length, getD, take, drop, length-append, length-drop, List·getD-
 use lib.Seq.{length-take-le, getD-append-add, getD-take, getD-drop}
 use Rattle.model.specs.Piece.{extent, sideBound}
 use Rattle.model.specs.Layout.{Job, turnedPiece}
-use Rattle.model.specs.Lent.{Lent, jobOf, pieceBound}
+use Rattle.model.specs.Lent.{Lent, jobOf}
 use Rattle.model.specs.declared.Direction.{Direction}
 use Rattle.strip_laws.proofs.Tight.{tight-side}
-use Rattle.text_laws.proofs.LentFacts.{facts}
-use Rattle.call_laws.proofs.Jobs.{lent-sheet, lent-turned-small, lent-tight}
+use Rattle.job_laws.proofs.Checked.{facts, lent-few, lent-turned-small}
+use Rattle.call_laws.proofs.Jobs.{lent-tight}
 use Rattle.penalty_line.specs.declared.Pair.{Pair}
 use Rattle.penalty_line.specs.Line.{penaltyAt, penaltyLine, Reach, Boxed}
 use Rattle.penalty_line.proofs.Lines.{values-at}
@@ -71,14 +71,10 @@ module _ (l : Lent) (d : Direction) (store : List (List ℕ)) (starts : List ℕ
   unfolding jobOf
   standing-there = asked .standing
 
-  -- at most 64 pieces
-  pub few-pieces : jobOf l .count ≤ pieceBound
-  few-pieces = lent-sheet l (asked .well) .count
-
   -- the numbers have room in a key
   pub small-two : Small two
   small-two =
-      let f = few-pieces in
+      let f = lent-few l (asked .well) in
       let m = moved-there in
       let s = standing-there in
       record { moved = omega arith; standing = omega arith; offset = asked .offset }

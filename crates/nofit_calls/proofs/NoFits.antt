@@ -11,25 +11,21 @@ use lib.IntN.{ℤ, pos, negsuc}
 use lib.ListN.{length, take, drop, length-map}
 use lib.Seq.{sets, sets-eq}
 use borrow.Author.Tests.{not-false, ltb-false}
-use Rattle.model.specs.Piece.{Shape, extent, other, turned}
+use Rattle.model.specs.Piece.{Shape, extent, other}
 use Rattle.model.specs.Strip.{Strip, Run, runs, strips}
 use Rattle.model.specs.Overlap.{OffsetRun, unbiased, noFit, noFitAt, up, down}
 use Rattle.model.specs.Buffer.{runEntry, stripEntry, filled, sameEntries}
 use Rattle.model.specs.Layout.{turnedPiece}
 use Rattle.model.specs.Refusal.{Outcome, refused, given, cause, refusalOf, unless, wrongLength}
-use Rattle.model.specs.Lent.{Lent, jobOf, lentShape, lentWell}
+use Rattle.model.specs.Lent.{Lent, jobOf, lentWell}
 use Rattle.model.specs.Calls.{LentStretch, known, stretchWell, noFitOf, noFitCall, runsAfter, atLeast}
 use Rattle.model.specs.declared.Direction.{Direction}
-use Rattle.model.specs.declared.Direction.the-variants.{Horizontal, Vertical}
 use Rattle.model.specs.declared.Refusal.{Refusal}
-use Rattle.model.specs.declared.Turn.{Turn}
-use Rattle.model.specs.declared.Turn.the-variants.{Zero, Quarter, Half, ThreeQuarters}
 use Rattle.model.proofs.Tests.{and-left, and-right, same-tests}
+use Rattle.job_laws.proofs.Checked.{facts}
 use Rattle.text_laws.specs.Outcomes.{NoCause}
 use Rattle.strip_laws.proofs.Runs.{runs-agree}
 use Rattle.strip_laws.proofs.Strips.{strips-maximal}
-use Rattle.strips.proofs.Jobs.{entry-at}
-use Rattle.strips.specs.Put.{EntryAt}
 use Rattle.placing.proofs.Causes.{none-then, refused-then}
 use Rattle.placing.specs.Answers.{firstCause}
 use Rattle.placing.specs.declared.CauseAnswer.{CauseAnswer}
@@ -119,24 +115,10 @@ pub record Called (es fs : List (List ℕ)) (o : ℤ) (before : List (List ℤ))
   pub answer : runsAnswer (lineOutcome es fs o (length before)) ≡ runsAnswer call
   pub memory : lineAfter before (lineOutcome es fs o (length before)) ≡ runsAfter before call
 
--- a turned box's sides are sides of the box
-turned-extent : (d : Direction) (t : Turn) (s : Shape) → s .columns ≤ 255 → s .rows ≤ 255 → extent d (turned t s) ≤ 255
-turned-extent Horizontal Zero s a b = a
-turned-extent Horizontal Quarter s a b = b
-turned-extent Horizontal Half s a b = a
-turned-extent Horizontal ThreeQuarters s a b = b
-turned-extent Vertical Zero s a b = b
-turned-extent Vertical Quarter s a b = a
-turned-extent Vertical Half s a b = b
-turned-extent Vertical ThreeQuarters s a b = a
-
 -- the sides of a job's piece are at most 255
 piece-lines : (d : Direction) (l : Lent) (p : LentStretch) → lentWell l ≡ true → known (jobOf l) p ≡ true
     → extent d (turnedPiece (jobOf l) (p .piece) (p .turn)) ≤ 255
-unfolding jobOf
-piece-lines d l p w e =
-    let f : EntryAt (l .table) (p .piece) _ = entry-at l (p .piece) w (known-below l p e) in
-    turned-extent d (p .turn) (lentShape l (p .piece)) (f .columns) (f .rows)
+piece-lines d l p w e = facts l w .turnedSmall d (p .piece) (p .turn) (known-below l p e)
 
 module _ (d : Direction) (l : Lent) (p q : LentStretch) (none : NoCause (stretchCauses d l p q)) where
   well : lentWell l ≡ true

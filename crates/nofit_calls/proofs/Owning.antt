@@ -1,20 +1,19 @@
 -- A lent stretch is the piece's own exactly when comparing it with the piece's strips ends at its end. Assumes nothing.
-use mathlib.Core.Bool.{Bool, true, false, _&&_, false≢true}
+use mathlib.Core.Bool.{Bool, true, false, false≢true}
 use mathlib.Core.List.{List, [], _∷_, map}
 use mathlib.Core.Path.{_≡_, refl, sym, ap, ap₂, _∙_}
-use Prim.Native.Nat.{ℕ, suc, _+_, _<_, _≤_}
+use Prim.Native.Nat.{ℕ, suc, _+_, _<_}
 use native.Mathlib.Omega.{arith}
-use lib.Dec.{leb, ltb, eqb}
+use lib.Dec.{ltb, eqb}
 use lib.ListN.{length, take, length-map}
 use lib.Seq.{take-all}
-use borrow.Author.Tests.{eqb-true, eq-eqb, leb-true, ltb-true}
+use borrow.Author.Tests.{eqb-true, eq-eqb, ltb-true}
 use Rattle.model.specs.Strip.{Strip}
 use Rattle.model.specs.Layout.{allowed}
-use Rattle.model.specs.Lent.{Lent, jobOf, lentWell, sheetInRange, upTo, rowBound, columnBound, pieceBound}
+use Rattle.model.specs.Lent.{Lent, jobOf}
 use Rattle.model.specs.Buffer.{stripEntry, sameNumbers, sameEntries}
 use Rattle.model.specs.Calls.{LentStretch, known}
 use Rattle.model.proofs.Tests.{and-left, and-right, same-tests, fails, clash}
-use Rattle.text_laws.proofs.LentFacts.{facts}
 use Rattle.strips.specs.Compare.{standIn, comparedBy, compared}
 use Rattle.strips.specs.declared.compare.Compared.{Compared}
 use Rattle.strips.specs.declared.compare.Compared.the-variants.{Until, Unlike}
@@ -73,13 +72,3 @@ module _ (ts : List Strip) (store : List (List ℕ)) where
 pub known-below : (l : Lent) (p : LentStretch) → known (jobOf l) p ≡ true → p .piece < l .count
 unfolding known jobOf
 known-below l p e = ltb-true (p .piece) (l .count) (and-left (ltb (p .piece) (l .count)) _ e)
-
--- a job has at most 64 pieces
-pub few-pieces : (l : Lent) → lentWell l ≡ true → l .count ≤ 64
-unfolding sheetInRange
-few-pieces l w =
-    let s : sheetInRange (l .rows) (l .columns) (l .count) ≡ true = facts l w .sheet in
-    let r : Bool = upTo rowBound (l .rows) in
-    let c : Bool = upTo columnBound (l .columns) in
-    let n : Bool = upTo pieceBound (l .count) in
-    leb-true (l .count) pieceBound (and-right (leb 1 (l .count)) _ (and-right (r && c) n (and-left ((r && c) && n) _ s)))

@@ -16,7 +16,7 @@ use Rattle.model.specs.declared.Direction.{Direction}
 use Rattle.model.specs.declared.Direction.the-variants.{Horizontal, Vertical}
 use Rattle.model.specs.declared.Placement.{Placement}
 use Rattle.model.proofs.Tests.{and-left, and-right}
-use Rattle.text_laws.proofs.LentFacts.{facts}
+use Rattle.job_laws.proofs.Checked.{facts}
 use Rattle.overlap_laws.proofs.Penalty.{penalty-zero, penalty-bound}
 use Rattle.overlap.specs.Meet.{Near, stretchesShare, penaltyBelow}
 use Rattle.overlap.specs.declared.Corner.{Corner}
@@ -25,12 +25,11 @@ use Rattle.overlap.proofs.Shapes.{entries-share, entries-penalty}
 use Rattle.search_laws.proofs.Covering.{share-boxes}
 use Rattle.search_laws.specs.PieceSum.{penaltyPlaced}
 use Rattle.shapes.specs.Shapes.{Shapes, StripsOf}
-use Rattle.shapes.proofs.Jobs.{sheet}
 use Rattle.pair_table.specs.Drawn.{Laid, shareAt, penaltyAt, OnSheet}
 
 -- a layout of a job that passes its check has at most 64 placements
 pub few-placed : (l : Lent) (es : List (List ℕ)) → Laid l es → length es ≤ pieceBound
-few-placed l es h = let few = sheet l (h .well) .pieces in let whole = h .whole in omega arith
+few-placed l es h = let few = facts l (h .well) .fewPieces in let whole = h .whole in omega arith
 
 -- boxes that do not meet along a direction
 pub boxes-apart : (d : Direction) (s : Shape) (u : Point) (t : Shape) (v : Point)
@@ -63,9 +62,9 @@ module _ (l : Lent) (layout : List (List ℕ)) (laid : Laid l layout) where
   unfolding inside jobOf
   on-sheet i b =
       let p = placeOf (layoutOf layout) i in
-      let s = sheet l (laid .well) in
-      let columns = s .columns in
-      let rows = s .rows in
+      let s = facts l (laid .well) in
+      let columns = s .fewColumns in
+      let rows = s .fewRows in
       let e : inside (jobOf l) i p ≡ true = laid .within i (piece-there i b) in
       let x = leb-true (p .x .0 + turnedPiece (jobOf l) i (p .turn) .columns) (l .columns) (and-left _ (leb (p .y .0 + turnedPiece (jobOf l) i (p .turn) .rows) (l .rows)) e) in
       let y = leb-true (p .y .0 + turnedPiece (jobOf l) i (p .turn) .rows) (l .rows) (and-right (leb (p .x .0 + turnedPiece (jobOf l) i (p .turn) .columns) (l .columns)) _ e) in

@@ -1,51 +1,26 @@
 -- Where no cause refuses a call on a pair, both pieces are ready to be measured: their table entries are checked, their corners lie in
 -- the sheet, and as two pieces of one job they have no more pixels than its boxes. Assumes nothing.
-use mathlib.Core.Bool.{Bool, true, false, not, _&&_, _||_}
+use mathlib.Core.Bool.{Bool, true, false, not, _||_}
 use mathlib.Core.List.{List}
 use mathlib.Core.Path.{_≡_, sym, _∙_}
 use mathlib.Core.Logic.{⊎-elim}
-use Prim.Native.Nat.{ℕ, _+_, _<_, _≤_}
+use Prim.Native.Nat.{ℕ, _+_, _<_}
 use native.Mathlib.Nat.{eq-or-lt-of-le}
 use native.Mathlib.Omega.{arith}
 use lib.Dec.{leb, ltb, eqb}
 use lib.ListN.{length}
 use borrow.Author.Tests.{leb-true, ltb-true, ltb-false, eqb-true, eqb-false, not-false}
 use Rattle.model.specs.Layout.{inside, placeOf, turnedPiece}
-use Rattle.model.specs.Lent.{Lent, jobOf, lentWell, sheetInRange, upTo, rowBound, columnBound, pieceBound, areaBound}
+use Rattle.model.specs.Lent.{Lent, jobOf, lentWell, areaBound}
 use Rattle.model.specs.Buffer.{layoutOf}
 use Rattle.model.specs.Calls.{someTurnWrong, someOutside, pairCauses}
 use Rattle.model.proofs.Bounded.{any-none}
 use Rattle.model.proofs.Tests.{and-left, and-right, or-neither, decided}
-use Rattle.text_laws.proofs.LentFacts.{facts}
+use Rattle.job_laws.proofs.Checked.{facts, Facts}
 use Rattle.text_laws.specs.Outcomes.{NoCause}
-use Rattle.text_laws.proofs.Store.{start-end}
+use Rattle.job_laws.proofs.Starts.{start-end}
 use Rattle.strips.proofs.Jobs.{entry-at}
 use Rattle.placed_pair.specs.Ready.{Ready, Together}
-
--- the sheet's limits
-record Limits (l : Lent) : Type 0 where
-  rows : l .rows ≤ 512
-  columns : l .columns ≤ 4096
-  count : l .count ≤ 64
-
--- the larger half of a range
-up-to : (bound k : ℕ) → upTo bound k ≡ true → k ≤ bound
-up-to bound k e = leb-true k bound (and-right (leb 1 k) _ e)
-
-limits : (l : Lent) → lentWell l ≡ true → Limits l
-unfolding sheetInRange
-limits l w =
-    let s : sheetInRange (l .rows) (l .columns) (l .count) ≡ true = facts l w .sheet in
-    let r : Bool = upTo rowBound (l .rows) in
-    let c : Bool = upTo columnBound (l .columns) in
-    let n : Bool = upTo pieceBound (l .count) in
-    let three : ((r && c) && n) ≡ true = and-left ((r && c) && n) _ s in
-    let two : (r && c) ≡ true = and-left (r && c) n three in
-    record {
-      rows = up-to rowBound (l .rows) (and-left r c two);
-      columns = up-to columnBound (l .columns) (and-right r c two);
-      count = up-to pieceBound (l .count) (and-right (r && c) n three);
-    }
 
 -- a piece of a layout that passes
 pub piece-ready : (l : Lent) (es : List (List ℕ)) → lentWell l ≡ true → someOutside (jobOf l) (layoutOf es) ≡ false
@@ -53,10 +28,10 @@ pub piece-ready : (l : Lent) (es : List (List ℕ)) → lentWell l ≡ true → 
 unfolding someOutside inside jobOf
 piece-ready l es w out i b =
     let p = placeOf (layoutOf es) i in
-    let m : Limits l = limits l w in
-    let r = m .rows in
-    let c = m .columns in
-    let n = m .count in
+    let m : Facts l = facts l w in
+    let r = m .fewRows in
+    let c = m .fewColumns in
+    let n = m .fewPieces in
     let e : inside (jobOf l) i p ≡ true = not-false (inside (jobOf l) i p) (any-none (l .count) _ out i b) in
     let x : leb (p .x .0 + turnedPiece (jobOf l) i (p .turn) .columns) (l .columns) ≡ true = and-left _ _ e in
     let y : leb (p .y .0 + turnedPiece (jobOf l) i (p .turn) .rows) (l .rows) ≡ true = and-right (leb (p .x .0 + turnedPiece (jobOf l) i (p .turn) .columns) (l .columns)) _ e in

@@ -6,7 +6,7 @@ use Prim.Native.Nat.{ℕ, _+_, _*_, _-_, _<_, _≤_}
 use native.Mathlib.Omega.{arith}
 use lib.ListN.{length, take, drop, length-map}
 use lib.Seq.{sets-eq, length-sets, take-at, drop-at}
-use Rattle.model.specs.Piece.{Shape, turned, extent, other, corner}
+use Rattle.model.specs.Piece.{Shape, extent, other, corner}
 use Rattle.model.specs.Strip.{Strip, strips}
 use Rattle.model.specs.Layout.{turnedPiece}
 use Rattle.model.specs.Lent.{lentBy, jobOf, lentShape, pixelStart, entryArea}
@@ -14,9 +14,9 @@ use Rattle.model.specs.Buffer.{stripEntry}
 use Rattle.model.specs.declared.JobSize.{JobSize}
 use Rattle.model.specs.declared.Placement.{Placement}
 use Rattle.model.specs.declared.Turn.{Turn}
-use Rattle.model.specs.declared.Turn.the-variants.{Zero, Quarter, Half, ThreeQuarters}
 use Rattle.model.specs.declared.Direction.{Direction}
 use Rattle.model.specs.declared.Direction.the-variants.{Horizontal, Vertical}
+use Rattle.job_laws.proofs.Turned.{turned-extent}
 use Rattle.strips.specs.Put.{Appended, EntryAt}
 use Rattle.overlap.specs.Meet.{Ordered, Near, depthBelow}
 use Rattle.overlap.specs.declared.Corner.{Corner}
@@ -24,17 +24,6 @@ use Rattle.overlap.specs.Seen.{entries, seen}
 use Rattle.overlap.proofs.Shapes.{entries-ordered}
 use Rattle.placed_pair.specs.Ready.{Together, pairRoom}
 use Rattle.placed_pair.proofs.Rooms.{strips-half}
-
--- a turned box's sides are sides of the box
-turned-extent : (d : Direction) (t : Turn) (s : Shape) → s .columns ≤ 255 → s .rows ≤ 255 → extent d (turned t s) ≤ 255
-turned-extent Horizontal Zero s a b = a
-turned-extent Horizontal Quarter s a b = b
-turned-extent Horizontal Half s a b = a
-turned-extent Horizontal ThreeQuarters s a b = b
-turned-extent Vertical Zero s a b = b
-turned-extent Vertical Quarter s a b = a
-turned-extent Vertical Half s a b = b
-turned-extent Vertical ThreeQuarters s a b = a
 
 -- the shapes of a job do not depend on its sheet: any will do
 pub anySize : JobSize
@@ -77,14 +66,14 @@ module _ (size : JobSize) (table : List (List ℕ)) (pixels : List ℕ) (i : ℕ
   -- its sides are at most 255
   pub piece-extent : extent d (turnedPiece (jobOf (lentBy size table pixels)) i t) ≤ 255
   unfolding jobOf
-  piece-extent = turned-extent d t (lentShape (lentBy size table pixels) i) (e .columns) (e .rows)
+  piece-extent = turned-extent d t (lentShape (lentBy size table pixels) i) 255 (e .columns) (e .rows)
 
   -- twice its strips are at most its pixels and one for each line
   piece-few : 2 * length (strips d (turnedPiece (jobOf (lentBy size table pixels)) i t)) ≤ entryArea table i + 255
   unfolding jobOf
   piece-few =
       let s : Shape = lentShape (lentBy size table pixels) i in
-      omega (arith, strips-half d t s, turned-extent (other d) t s (e .columns) (e .rows))
+      omega (arith, strips-half d t s, turned-extent (other d) t s 255 (e .columns) (e .rows))
 
   -- its stretch is in order
   pub piece-ordered : Ordered (entries d (turnedPiece (jobOf (lentBy size table pixels)) i t))

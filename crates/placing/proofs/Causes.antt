@@ -13,7 +13,7 @@ use Rattle.model.specs.Lent.{Lent, jobOf, lentWell}
 use Rattle.model.specs.Buffer.{layoutOf}
 use Rattle.model.specs.Calls.{someTurnWrong, someOutside, layoutCauses}
 use Rattle.model.specs.declared.Refusal.{Refusal}
-use Rattle.text_laws.proofs.LentFacts.{facts}
+use Rattle.job_laws.proofs.Checked.{facts}
 use Rattle.text_laws.specs.Outcomes.{NoCause}
 use Rattle.text_laws.proofs.Outcomes.{given-unless}
 use Rattle.placing.specs.Answers.{causeAnswer, outcomeOf, firstCause}

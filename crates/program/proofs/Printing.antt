@@ -8,13 +8,12 @@ use borrow.Author.Tests.{lt-ltb, le-ltb}
 use lib.Dec.{ltb}
 use lib.ListN.{length, take}
 use lib.Seq.{take-at}
-use Rattle.model.specs.Lent.{Lent, pieceBound, areaBound}
+use Rattle.model.specs.Lent.{Lent}
 use Rattle.model.specs.Refusal.{Outcome, refused, given, cause, refusalOf, unless, wrongLength}
 use Rattle.model.specs.declared.Refusal.{Refusal}
 use Rattle.model.specs.Buffer.{filled}
-use Rattle.model.specs.JobText.{readJob}
 use Rattle.model.specs.Calls.{textAfter}
-use Rattle.model.specs.Program.{inputBound, printed, programText, programCall}
+use Rattle.model.specs.Program.{printed, programText, programCall}
 use Rattle.layout_writer.specs.Answers.{textAnswer}
 use Rattle.layout_writer.specs.Written.{Written}
 use Rattle.layout_writer.specs.declared.TextAnswer.{TextAnswer}
@@ -30,11 +29,6 @@ written-more w h = let s = w .short in record { end = w .end; short = omega arit
 pub written-printed : {before after : List ℕ} {most next : ℕ} (o p : Outcome Lent) → o ≡ p → Written before 0 (printed p) most next after → most ≤ outputBound
     → Written before 0 (printed o) outputBound next after
 written-printed o p e w h = rw e (written-more w h)
-
--- an input that is not too long is read
-pub program-read : (input : List ℕ) → length input ≤ inputBound → programText input ≡ printed (readJob input pieceBound areaBound)
-unfolding programText
-program-read input few = rw (le-ltb inputBound (length input) few, programText)
 
 -- ── the output buffer ──
 

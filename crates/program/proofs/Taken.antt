@@ -16,11 +16,11 @@ use Rattle.model.specs.LayoutText.{layoutText}
 use Rattle.model.specs.Program.{programRounds, programBudget, programRun}
 use Rattle.model.specs.Calls.{layoutCauses, usedLengthCall, writeLayoutCall, textAfter, startCall}
 use Rattle.model.specs.declared.Refusal.{Refusal}
+use Rattle.job_laws.proofs.Checked.{lent-few}
 use Rattle.text_laws.specs.Outcomes.{NoCause}
 use Rattle.text_laws.proofs.Outcomes.{unless-given}
 use Rattle.descent_laws.specs.Claims.{ValidLayout}
 use Rattle.descent_laws.proofs.Lent.{lent-demand3}
-use Rattle.call_laws.proofs.Jobs.{lent-sheet}
 use Rattle.call_laws.proofs.Layouts.{BufferPasses, valid-buffer}
 use Rattle.placing.specs.Answers.{lengthAnswer}
 use Rattle.placing.specs.declared.LengthAnswer.{LengthAnswer}
@@ -76,7 +76,7 @@ module _ (l : Lent) (es : List (List ℕ)) (none : NoCause (layoutCauses l es)) 
   unfolding jobOf
   text-short =
       let s : Sound l es = sound l es none in
-      let few = lent-sheet l (s .well) .count in
+      let few = lent-few l (s .well) in
       let whole = s .whole in
       let same = length-map es placementOf in
       let h = layout-short (jobOf l) (layoutOf es) in

@@ -3,15 +3,14 @@ use mathlib.Core.Bool.{true, false, not, _&&_}
 use mathlib.Core.List.{List}
 use mathlib.Core.Path.{_≡_, refl, sym, ap, _∙_}
 use Prim.Native.Nat.{ℕ, _*_, _<_, _≤_}
-use borrow.Author.Tests.{lt-ltb, le-ltb, leb-true}
-use lib.Dec.{leb}
+use borrow.Author.Tests.{lt-ltb, le-ltb}
 use Rattle.model.specs.Lent.{upTo}
 use Rattle.model.specs.Piece.{sideBound}
 use Rattle.model.specs.Refusal.{unless, refused, given}
 use Rattle.model.specs.Calls.{rebuildCall, stripsWell, rebuiltFrom}
 use Rattle.model.specs.declared.Direction.{Direction}
 use Rattle.model.specs.declared.Refusal.{Refusal}
-use Rattle.model.proofs.Tests.{and-left, and-right}
+use Rattle.job_laws.proofs.Ranges.{at-least, up-to}
 use Rattle.rebuild.proofs.Searches.{first-fails, second-fails}
 
 -- a refusal without places
@@ -20,7 +19,7 @@ numbered n = record { number = n; first = 0; second = 0 }
 
 -- a side in range
 pub side-range : (k : ℕ) → upTo sideBound k ≡ true → (0 < k) × (k ≤ 255)
-side-range k e = (leb-true 1 k (and-left _ _ e), leb-true k 255 (and-right (leb 1 k) _ e))
+side-range k e = (at-least sideBound k e, up-to sideBound k e)
 
 module _ (d : Direction) (l w : ℕ) (es : List (List ℕ)) (room : ℕ) where
   -- 2, by the columns

@@ -17,10 +17,10 @@ use Rattle.model.specs.Buffer.{layoutOf, entriesOf}
 use Rattle.model.specs.Calls.{budgetBound, roundBound}
 use Rattle.model.specs.declared.End.{End}
 use Rattle.model.specs.declared.End.the-variants.{Clear, Settled, Spent}
+use Rattle.job_laws.proofs.Checked.{facts}
 use Rattle.descent_laws.specs.Claims.{ValidWeights, ValidLayout, DescentClaims}
 use Rattle.search_laws.specs.Results.{guidedOf}
 use Rattle.search_laws.proofs.GuidedLoop.{Guiding, guiding, guide-done, GuidedUnderway, guided-begin, guided-done, round-claims, guided-clear, guided-open}
-use Rattle.shapes.proofs.Jobs.{sheet}
 use Rattle.pair_sums.specs.Table.{Weighed}
 use Rattle.trial_step.specs.Ready.{LaidOut, Stores}
 use Rattle.descend.specs.Descents.{descentOf}
@@ -76,7 +76,7 @@ job-count l = refl
 pub weighed : (l : Lent) {layout : List (List ℕ)} {penalties ws : List ℕ} → lentWell l ≡ true → LaidOut l layout penalties → ValidWeights (jobOf l) ws
     → Weighed (l .count) penalties ws
 unfolding jobOf
-weighed l well h w = record { few = sheet l well .pieces; size = h .table .size; onePerPair = w .onePerPair }
+weighed l well h w = record { few = facts l well .fewPieces; size = h .table .size; onePerPair = w .onePerPair }
 
 -- ── the rounds that are left ──
 

@@ -19,6 +19,7 @@ use Rattle.model.specs.declared.Line.{Line}
 use Rattle.model.specs.declared.Refusal.{Refusal}
 use Rattle.model.specs.declared.Turn.{Turn}
 use Rattle.model.proofs.Tests.{or-left, or-right, or-neither}
+use Rattle.job_laws.proofs.Checked.{facts}
 use Rattle.text_laws.specs.Outcomes.{NoCause}
 use Rattle.text_laws.proofs.Outcomes.{unless-given}
 use Rattle.descent_laws.specs.Claims.{ValidWeights}
@@ -31,7 +32,7 @@ use Rattle.placing.specs.Answers.{firstCause}
 use Rattle.placing.specs.declared.CauseAnswer.{CauseAnswer}
 use Rattle.shapes.proofs.Jobs.{places-few}
 use Rattle.pair_table.specs.Drawn.{Laid}
-use Rattle.sums.proofs.Causes.{few-pieces, layout-laid}
+use Rattle.sums.proofs.Causes.{layout-laid}
 use Rattle.lines.specs.Kept.{Kept, Wide}
 use Rattle.lines.proofs.Keeping.{none-kept, twice-wide}
 use Rattle.line_sums.specs.Answers.{foundAnswer}
@@ -117,7 +118,7 @@ pub search-whole : (l : Lent) (ws : List ℕ) (layout : List (List ℕ)) (i : �
     ≡ searchLine (jobOf l) ws (layoutOf layout) i t line
 unfolding jobOf
 search-whole l ws layout i t line laid w b =
-    sym (search-unbounded (jobOf l) ws (layoutOf layout) i t line 4294967295 (few-pieces l (laid .well)) (lent-boxes-small l (laid .well)) w b
+    sym (search-unbounded (jobOf l) ws (layoutOf layout) i t line 4294967295 (facts l (laid .well) .fewPieces) (lent-boxes-small l (laid .well)) w b
     (length-map layout placementOf ∙ laid .whole) (omega arith))
 
 -- the least of so many places, where there is one

@@ -15,12 +15,11 @@ use Rattle.model.specs.Buffer.{stripEntry}
 use Rattle.model.specs.Layout.{Job, turnedPiece}
 use Rattle.model.specs.Lent.{Lent, jobOf, lentWell, pieceBound}
 use Rattle.model.specs.declared.Direction.{Direction}
-use Rattle.text_laws.proofs.LentFacts.{facts}
+use Rattle.job_laws.proofs.Checked.{facts}
 use Rattle.strips.specs.Put.{Appended}
 use Rattle.strips.proofs.Jobs.{entry-at}
 use Rattle.overlap.proofs.Shapes.{entries-ordered}
 use Rattle.shapes.specs.Shapes.{shapeNumber, numberedShape, part, ShapeAt, Shapes, StripsOf, Room}
-use Rattle.shapes.proofs.Jobs.{sheet}
 use Rattle.shapes.proofs.Numbers.{turn-below, number-back, reached, reached-next, reached-few, shape-few, shape-small}
 
 -- a part of the front does not depend on what follows it
@@ -89,7 +88,7 @@ fits-next d l store starts k at e h m =
     let areas = f .areas in
     record {
       piece = p;
-      few = sheet l e .pieces;
+      few = facts l e .fewPieces;
       entries = f .entries;
       strips = omega (arith, shape-few d l k, reached-few (l .table) k (l .count) h);
       small = shape-small d l k (g .columns) (g .rows);

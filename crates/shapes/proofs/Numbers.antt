@@ -9,16 +9,16 @@ use native.Mathlib.Numerals.{add-one}
 use native.Mathlib.Omega.{arith}
 use lib.ListN.{length}
 use Rattle.model.specs.Bounded.{sumBelow}
-use Rattle.model.specs.Piece.{Shape, extent, turned, sideBound}
+use Rattle.model.specs.Piece.{extent, sideBound}
 use Rattle.model.specs.Strip.{strips}
 use Rattle.model.specs.Layout.{Job, turnedPiece}
 use Rattle.model.specs.Lent.{Lent, jobOf, pixelStart, entryArea, entryColumns, entryRows}
 use Rattle.model.specs.declared.Direction.{Direction}
-use Rattle.model.specs.declared.Direction.the-variants.{Horizontal, Vertical}
 use Rattle.model.specs.declared.Turn.{Turn}
 use Rattle.model.specs.declared.Turn.the-variants.{Zero, Quarter, Half, ThreeQuarters}
+use Rattle.job_laws.proofs.Turned.{turned-extent}
 use Rattle.strip_laws.proofs.Runs.{below-or-not}
-use Rattle.text_laws.proofs.Store.{start-end}
+use Rattle.job_laws.proofs.Starts.{start-end}
 use Rattle.strips.proofs.Counts.{strips-few}
 use Rattle.shapes.specs.Shapes.{turnNumber, numberedTurn, shapeNumber, numberedShape}
 
@@ -94,17 +94,6 @@ reached-few table k n h =
 pub shape-few : (d : Direction) (l : Lent) (k : ℕ) → length (strips d (numberedShape (jobOf l) k)) ≤ entryArea (l .table) (k / 4)
 unfolding jobOf
 shape-few d l k = strips-few d (numberedTurn (k % 4)) (jobOf l .piece (k / 4) .shape)
-
--- a turned box has the sides of the box
-turned-extent : (d : Direction) (t : Turn) (s : Shape) (b : ℕ) → s .columns ≤ b → s .rows ≤ b → extent d (turned t s) ≤ b
-turned-extent Horizontal Zero s b c r = c
-turned-extent Horizontal Quarter s b c r = r
-turned-extent Horizontal Half s b c r = c
-turned-extent Horizontal ThreeQuarters s b c r = r
-turned-extent Vertical Zero s b c r = r
-turned-extent Vertical Quarter s b c r = c
-turned-extent Vertical Half s b c r = r
-turned-extent Vertical ThreeQuarters s b c r = c
 
 -- a shape's sides are within document 01's bound where its entry's are
 pub shape-small : (d : Direction) (l : Lent) (k : ℕ) → entryColumns (l .table) (k / 4) ≤ sideBound → entryRows (l .table) (k / 4) ≤ sideBound

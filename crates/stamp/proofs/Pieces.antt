@@ -1,6 +1,6 @@
 -- A piece that passed its checks: its places are on the sheet, and moving its rows is what the sheet's definition says of the piece.
 -- Assumes nothing.
-use mathlib.Core.Bool.{Bool, true, _&&_}
+use mathlib.Core.Bool.{Bool}
 use mathlib.Core.Path.{_≡_, ap, _∙_}
 use mathlib.Core.List.{List, []}
 use Prim.Native.Nat.{ℕ, suc, _+_, _*_, _<_, _≤_}
@@ -11,12 +11,12 @@ use lib.ListN.{length}
 use borrow.Author.Tests.{leb-true}
 use Rattle.model.specs.Piece.{corner}
 use Rattle.model.specs.Layout.{turnedPiece, inside}
-use Rattle.model.specs.Lent.{Lent, jobOf, pixelStart, lentWell, sheetInRange, upTo, rowBound, columnBound, pieceBound, areaBound}
+use Rattle.model.specs.Lent.{Lent, jobOf, pixelStart}
 use Rattle.model.specs.Cover.{coversPixel}
 use Rattle.model.specs.declared.Turn.{Turn}
 use Rattle.model.specs.declared.Placement.{Placement}
 use Rattle.model.proofs.Tests.{and-left, and-right}
-use Rattle.text_laws.proofs.LentFacts.{Facts, facts}
+use Rattle.job_laws.proofs.Checked.{Facts, facts}
 use Rattle.turned_pixels.specs.Turned.{sidesOf, madeOf, shownBy}
 use Rattle.turned_pixels.specs.declared.Sides.{Sides}
 use Rattle.turned_pixels.specs.declared.TurnedPiece.{TurnedPiece}
@@ -24,32 +24,6 @@ use Rattle.turned_pixels.proofs.Cells.{shown-sides}
 use Rattle.stamp.specs.Stamp.{movedBy, Room, onAt, movedRows}
 use Rattle.stamp.specs.Ready.{Ready}
 use Rattle.stamp.proofs.Rows.{stamped}
-
--- ── the sheet ──
-
--- the sheet's numbers in range
-pub record SheetFacts (rows columns count : ℕ) : Type 0 where
-  pub columns-few : columns ≤ columnBound
-  pub pieces-few : count ≤ pieceBound
-  pub area : rows * columns ≤ areaBound
-
-pub sheet-facts : (rows columns count : ℕ) → sheetInRange rows columns count ≡ true → SheetFacts rows columns count
-unfolding sheetInRange
-sheet-facts rows columns count h =
-    let r : Bool = upTo rowBound rows in
-    let c : Bool = upTo columnBound columns in
-    let n : Bool = upTo pieceBound count in
-    let a : Bool = leb (rows * columns) areaBound in
-    let rcn : (r && c && n) ≡ true = and-left (r && c && n) a h in
-    record {
-      columns-few = leb-true columns columnBound (and-right (leb 1 columns) (leb columns columnBound) (and-right r c (and-left (r && c) n rcn)));
-      pieces-few = leb-true count pieceBound (and-right (leb 1 count) (leb count pieceBound) (and-right (r && c) n rcn));
-      area = leb-true (rows * columns) areaBound (and-right (r && c && n) a h);
-    }
-
--- a job that is well has at most 64 pieces
-pub few-pieces : (l : Lent) → lentWell l ≡ true → l .count ≤ pieceBound
-few-pieces l well = sheet-facts (l .rows) (l .columns) (l .count) (facts l well .sheet) .pieces-few
 
 -- ── the piece's turned box ──
 
@@ -68,16 +42,13 @@ module _ (l : Lent) (i : ℕ) (p : Placement) (room : ℕ) (ready : Ready l i p 
   abbrev known : Facts l
   known = facts l (ready .well)
 
-  pub range : SheetFacts (l .rows) (l .columns) (l .count)
-  range = sheet-facts (l .rows) (l .columns) (l .count) (known .sheet)
-
   -- the table has the piece's entry
   pub entry-there : i < length (l .table)
   entry-there = let few = known .entries in let here = ready .piece in omega arith
 
   -- piece numbers are below 64
   pub piece-few : i < 64
-  piece-few = let few = range .pieces-few in let here = ready .piece in omega arith
+  piece-few = let few = known .fewPieces in let here = ready .piece in omega arith
 
   -- the turned box lies in the sheet
   within-columns : p .x .0 + turnedPiece (jobOf l) i (p .turn) .columns ≤ l .columns
@@ -103,7 +74,7 @@ module _ (l : Lent) (i : ℕ) (p : Placement) (room : ℕ) (ready : Ready l i p 
             let columns = ap (λ (s : Sides). s .columns) sides in
             let rows = ap (λ (s : Sides). s .rows) sides in
             (omega arith, omega arith);
-        sheets = range .columns-few;
+        sheets = known .fewColumns;
         tall = omega arith;
         rows = λ d h.
             let high : suc (p .y .0 + d) * l .columns ≤ l .rows * l .columns = mul-le-mul-right (l .columns) (let wide = within-rows in omega arith) in

@@ -1,25 +1,25 @@
 -- Stores filled piece after piece: what is left of the store and the starts is still to be stored, and no store is larger than the
 -- boxes. Assumes nothing.
-use mathlib.Core.Bool.{true, false, not, _&&_}
+use mathlib.Core.Bool.{true, false, not}
 use mathlib.Core.List.{List, _++_, map, map-append}
 use mathlib.Core.Path.{_≡_, refl, sym, subst, ap, ap₂, _∙_}
 use mathlib.Core.Logic.{⊎-elim}
 use Prim.Native.Nat.{ℕ, zero, suc, _+_, _-_, _≤_, _<_}
 use native.Mathlib.Omega.{arith}
-use borrow.Author.Tests.{leb-true, lt-ltb, le-ltb, ltb-true, ltb-false, eqb-true, not-false}
-use lib.Dec.{leb, ltb}
+use borrow.Author.Tests.{lt-ltb, le-ltb, ltb-true, ltb-false, eqb-true, not-false}
+use lib.Dec.{ltb}
 use lib.ListN.{length, set, length-append, length-map}
 use lib.Seq.{sets, length-sets}
 use Rattle.model.specs.Strip.{Strip, strips}
 use Rattle.model.specs.Buffer.{stripEntry}
 use Rattle.model.specs.Layout.{Job, turnedPiece}
-use Rattle.model.specs.Lent.{Lent, jobOf, lentShape, lentWell, sheetInRange, upTo, rowBound, columnBound, pixelStart}
+use Rattle.model.specs.Lent.{Lent, jobOf, lentShape, lentWell, pixelStart}
 use Rattle.model.specs.Store.{turnIn, pieceStrips, storeFrom, startsFrom, store, starts}
 use Rattle.model.specs.Calls.{turnListWrong}
 use Rattle.model.specs.declared.Turn.{Turn}
 use Rattle.model.specs.declared.Direction.{Direction}
-use Rattle.model.proofs.Tests.{and-left, and-right, or-neither, decided}
-use Rattle.text_laws.proofs.LentFacts.{facts}
+use Rattle.model.proofs.Tests.{or-neither, decided}
+use Rattle.job_laws.proofs.Checked.{facts}
 use Rattle.fields.proofs.Stores.{sets-append}
 use Rattle.strips.specs.Put.{Appended}
 use Rattle.strips.proofs.Counts.{strips-few}
@@ -125,14 +125,6 @@ room-by-starts d j ts room e h =
     rw (le-ltb (room .strips) (length (store d j ts)) (omega arith), starts-length d j ts 0 0 (j .count)) (room-above (j .count) (room .starts))
 
 -- ── what a job that passes its check gives ──
-
--- its pieces are in the table, and there are few
-pub count-small : (l : Lent) → lentWell l ≡ true → (l .count ≤ length (l .table)) × (l .count ≤ 64)
-unfolding sheetInRange
-count-small l e =
-    let f = facts l e in
-    let three = and-left _ _ (f .sheet) in
-    (f .entries, leb-true (l .count) 64 (and-right (leb 1 (l .count)) _ (and-right (upTo rowBound (l .rows) && upTo columnBound (l .columns)) _ three)))
 
 -- its store is small
 pub store-small : (d : Direction) (l : Lent) (ts : List ℕ) → lentWell l ≡ true → length (store d (jobOf l) ts) ≤ 65536

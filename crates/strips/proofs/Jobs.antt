@@ -6,18 +6,18 @@ use Prim.Native.Nat.{ℕ, _<_}
 use native.Mathlib.Omega.{arith}
 use Rattle.model.specs.Lent.{Lent, lentWell, pixelStart}
 use Rattle.model.specs.declared.Turn.{Turn}
-use Rattle.model.specs.declared.Turn.the-variants.{Zero}
-use Rattle.text_laws.proofs.LentFacts.{facts}
+use Rattle.job_laws.proofs.Checked.{Facts, facts}
 use Rattle.turned_pixels.specs.Turned.{madeOf, Small}
-use Rattle.turned_pixels.proofs.Jobs.{entry-small}
 use Rattle.strips.specs.Put.{EntryAt}
 
 -- an entry of a job that passes the check
 pub entry-at : (l : Lent) (i : ℕ) → lentWell l ≡ true → i < l .count → EntryAt (l .table) i (pixelStart (l .table) i)
 entry-at l i e h =
-    let n = facts l e .entries in
-    let s = entry-small l i Zero e h in
-    record { within = omega arith; columns = s .columns; rows = s .rows; begins = refl; small = s .start }
+    let f : Facts l = facts l e in
+    let n = f .entries in
+    let a = f .ends i h in
+    let b = f .areas in
+    record { within = omega arith; columns = f .columnsSmall i h; rows = f .rowsSmall i h; begins = refl; small = omega arith }
 
 -- the turned piece of a table entry is small
 pub made-small : (table : List (List ℕ)) (i start : ℕ) (t : Turn) → EntryAt table i start → Small (madeOf table i start t)

@@ -12,7 +12,7 @@ use lib.ListN.{length, getD, drop, replicate, length-replicate}
 use lib.Seq.{drop-cons, drop-length}
 use Rattle.model.specs.Layout.{Pair, inside, placeOf, pairs}
 use Rattle.model.specs.Refusal.{unless}
-use Rattle.model.specs.Lent.{Lent, jobOf, lentWell, upTo, pieceBound}
+use Rattle.model.specs.Lent.{Lent, jobOf, lentWell, upTo}
 use Rattle.model.specs.Guided.{weightBound}
 use Rattle.model.specs.Buffer.{layoutOf}
 use Rattle.model.specs.Calls.{someWeightWrong, someOutside, layoutCauses, sharedCause}
@@ -20,7 +20,6 @@ use Rattle.model.proofs.Bounded.{any-none}
 use Rattle.text_laws.specs.Outcomes.{NoCause}
 use Rattle.placing.proofs.Causes.{sound}
 use Rattle.shapes.specs.Shapes.{Room}
-use Rattle.shapes.proofs.Jobs.{sheet}
 use Rattle.sums.specs.Answers.{checkAnswer, sharingAnswer, sharedAnswer, lengthCauses, placeCauses}
 use Rattle.pair_table.specs.Drawn.{Laid}
 
@@ -75,10 +74,6 @@ laid-by l es w n out =
 -- where no cause of a call on a layout is there
 pub layout-laid : (l : Lent) (es : List (List ℕ)) → NoCause (layoutCauses l es) → Laid l es
 layout-laid l es h = let s = sound l es h in laid-by l es (s .well) (s .whole) (s .within)
-
--- a job that passes its check has at most 64 pieces
-pub few-pieces : (l : Lent) → lentWell l ≡ true → l .count ≤ pieceBound
-few-pieces l w = sheet l w .pieces
 
 -- a job that passes its check, a layout buffer of its length and one weight a pair
 pub record Ready (l : Lent) (es : List (List ℕ)) (ws : List ℕ) : Type 0 where

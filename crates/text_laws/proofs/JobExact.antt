@@ -22,7 +22,7 @@ use Rattle.text_laws.specs.JobWriting.{part, mark, rowText, rowsText, pi
 use Rattle.text_laws.specs.Exact.{JobWritten}
 use Rattle.text_laws.specs.Outcomes.{Unless}
 use Rattle.text_laws.proofs.Outcomes.{given-unless, given-before, given-formed, wrong-got, Onward, got-onward}
-use Rattle.text_laws.proofs.LentFacts.{Facts, facts}
+use Rattle.job_laws.proofs.Checked.{Facts, facts}
 use Rattle.text_laws.proofs.JobRead.{JustRead, job-read-just, job-read-well}
 use Rattle.text_laws.proofs.JobReadBack.{job-read-back}
 use Rattle.text_laws.proofs.Spelling.{Spells, spells-none, spells-byte, spells-then, spells-same, spells-whole, passed, LineRead, line-spelled, three-fields, four-fields}

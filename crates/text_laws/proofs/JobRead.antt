@@ -10,17 +10,18 @@ use native.Mathlib.Omega.{arith}
 use lib.Dec.{eqb, leb, ltb}
 use lib.ListN.{length, getD, length-append, List·getD-append}
 use lib.Seq.{getD-append-add}
-use borrow.Author.Tests.{leb-true, ltb-false, le-leb, not-false}
+use borrow.Author.Tests.{ltb-false, le-leb, not-false}
 use Rattle.model.specs.Piece.{Shape, tight, sideBound}
 use Rattle.model.specs.Refusal.{Outcome, given}
 use Rattle.model.specs.Lent.{Lent, rowBound, columnBound, pieceBound, turnsBound, areaBound, upTo, entryColumns, entryRows, pixelStart, entryInRange, entryFits, lentShape, sheetInRange, lentWell}
 use Rattle.model.specs.Text.{byte, Reading, wrong, got, onward, after, lineEnd, threeFields, fourFields, lineAt}
 use Rattle.model.specs.JobText.{jobWord, pieceWord, rowWord, JobLine, asJobLine, jobLineCauses, jobLine, PieceLine, asPieceLine, pieceInRange, pieceLineCauses, pieceLine, pixelMark, emptyMark, markAt, marksAt, rowAt, Rows, rowsAt, boxShape, PieceText, rowsCauses, asPieceText, pieceAt, Pieces, noPieces, withPiece, piecesAt, asLent, bufferCauses, readJob}
 use Rattle.model.proofs.Tests.{and-left, and-right, and-both, or-neither}
+use Rattle.job_laws.proofs.Ranges.{at-least, side-facts}
 use Rattle.text_laws.specs.Limits.{sidesInRange}
 use Rattle.text_laws.specs.Outcomes.{Unless}
 use Rattle.text_laws.proofs.Outcomes.{given-unless, given-before, given-formed, wrong-got, Onward, got-onward, got-after}
-use Rattle.text_laws.proofs.LentFacts.{well}
+use Rattle.job_laws.proofs.Checked.{well}
 use Rattle.text_laws.proofs.Store.{start-after, in-box, tight-agree}
 
 -- ── rows ──
@@ -177,18 +178,9 @@ pub record PiecesWell (j : JobLine) (left area : ℕ) (r : Pieces) : Type 0 wher
   pub store : Bits (pixelStart (r .table) left) (r .pixels)
   pub tightBoxes : (i : ℕ) → i < left → tight (storedShape r i) ≡ true
 
--- from 1 to the bound is above nought
-up-to-some : (bound k : ℕ) → upTo bound k ≡ true → 0 < k
-up-to-some bound k e = leb-true 1 k (and-left (leb 1 k) (leb k bound) e)
-
 -- sides in range are above nought
 pub sides-some : (l w o : ℕ) → sidesInRange l w o ≡ true → (0 < l) × (0 < w)
-sides-some l w o e =
-    let b : Bool = upTo sideBound l in
-    let c : Bool = upTo sideBound w in
-    let d : Bool = eqb (o % 2) 1 in
-    let bc : (b && c) ≡ true = and-left (b && c) d (and-left (b && c && d) (leb o turnsBound) e) in
-    (up-to-some sideBound l (and-left b c bc), up-to-some sideBound w (and-right b c bc))
+sides-some l w o e = let s = side-facts l w o e in (at-least sideBound l (s .columns), at-least sideBound w (s .rows))
 
 module _ (j : JobLine) (left area : ℕ) (h : PieceText) (r : Pieces) (first : PieceWell j area h) (later : PiecesWell j left (area + h .columns * h .rows) r) where
   -- the piece in front has its own bytes

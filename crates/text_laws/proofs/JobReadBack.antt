@@ -9,19 +9,20 @@ use native.Mathlib.Omega.{arith}
 use lib.Dec.{eqb, leb}
 use lib.ListN.{length, getD, take}
 use lib.Seq.{length-take-le}
-use borrow.Author.Tests.{leb-true, le-ltb, eq-eqb}
+use borrow.Author.Tests.{le-ltb, eq-eqb}
 use Rattle.model.specs.Piece.{tight, sideBound}
 use Rattle.model.specs.Refusal.{given}
-use Rattle.model.specs.Lent.{Lent, rowBound, columnBound, pieceBound, turnsBound, areaBound, upTo, entryColumns, entryRows, entryTurns, pixelStart, entryInRange, entryFits, lentShape, sheetInRange, lentWell}
+use Rattle.model.specs.Lent.{Lent, rowBound, columnBound, pieceBound, turnsBound, areaBound, upTo, entryColumns, entryRows, entryTurns, pixelStart, entryInRange, lentShape, sheetInRange, lentWell}
 use Rattle.model.specs.Text.{Reading, got, onward, after, lineEnd, threeFields, fourFields, lineAt, lineText, formed, andThen}
 use Rattle.model.specs.JobText.{jobWord, pieceWord, rowWord, JobLine, jobLineCauses, jobLine, PieceLine, pieceLineCauses, pieceLine, markAt, marksAt, rowAt, rowsAt, boxShape, PieceText, asPieceText, pieceAt, noPieces, piecesAt, readJob}
-use Rattle.model.proofs.Tests.{and-left, and-right}
+use Rattle.model.proofs.Tests.{and-left}
 use Rattle.text_laws.proofs.Ahead.{Ahead, ahead-start, ahead-byte, ahead-next, ahead-word, after-ahead, ahead-end}
 use Rattle.text_laws.proofs.Fields.{Reads, Gives, Writable, line-ahead}
 use Rattle.text_laws.specs.Outcomes.{NoCause}
 use Rattle.text_laws.proofs.Outcomes.{unless-given}
-use Rattle.text_laws.proofs.Store.{start-grows, start-end, in-box, tight-agree}
-use Rattle.text_laws.proofs.LentFacts.{Facts, facts}
+use Rattle.job_laws.proofs.Starts.{start-grows, start-end}
+use Rattle.text_laws.proofs.Store.{in-box, tight-agree}
+use Rattle.job_laws.proofs.Checked.{Facts, facts}
 use Rattle.text_laws.proofs.JobRead.{AllBits}
 use Rattle.text_laws.specs.JobWriting.{part, mark, rowText, rowsText, entryNumbers, pieceText, piecesText, jobText, entriesFrom, exactly}
 use Rattle.text_laws.proofs.JobWriting.{part-length, part-at, part-append, part-front, pixelsFrom}
@@ -87,15 +88,6 @@ rows-ahead {text} {p} pixels l s (suc left) line rest h a =
     ap (λ (n : ℕ). part pixels s n) size ∙ part-append pixels s l (left * l) in
     record { next = g .next; gives = rw (reads, g .gives, whole, formed, andThen); ahead = g .ahead }
 
--- from 1 to the bound, as numbers
-pub record Within (bound k : ℕ) : Type 0 where
-  pub some : 0 < k
-  pub most : k ≤ bound
-
--- the test as numbers
-within : (bound k : ℕ) → upTo bound k ≡ true → Within bound k
-within bound k e = record { some = leb-true 1 k (and-left (leb 1 k) (leb k bound) e); most = leb-true k bound (and-right (leb 1 k) (leb k bound) e) }
-
 -- ── pieces ──
 
 -- a first test in front of four
@@ -120,30 +112,6 @@ abbrev pieceContent : Lent → ℕ → ℕ → PieceText
 pieceContent k i next = asPieceText (pieceNumbers k i next) (record { pixels = piecePixels k i; next = next })
 
 module _ (k : Lent) (facts : Facts k) (i : ℕ) (below : i < k .count) where
-  -- the sides and the sum of turns of piece i
-  sides-within : Within sideBound (entryColumns (k .table) i) × Within sideBound (entryRows (k .table) i) × (entryTurns (k .table) i ≤ turnsBound)
-  unfolding entryInRange
-  sides-within =
-      let l : ℕ = entryColumns (k .table) i in
-      let w : ℕ = entryRows (k .table) i in
-      let o : ℕ = entryTurns (k .table) i in
-      let b : Bool = upTo sideBound l in
-      let c : Bool = upTo sideBound w in
-      let d : Bool = eqb (o % 2) 1 in
-      let t : Bool = leb o turnsBound in
-      let e : (b && c && d && t) ≡ true = facts .ranges i below in
-      let bc : (b && c) ≡ true = and-left (b && c) d (and-left (b && c && d) t e) in
-      (within sideBound l (and-left b c bc), within sideBound w (and-right b c bc), leb-true o turnsBound (and-right (b && c && d) t e))
-
-  -- the box fits into the sheet
-  box-fits : (entryColumns (k .table) i ≤ k .columns) × (entryRows (k .table) i ≤ k .rows)
-  unfolding entryFits
-  box-fits =
-      let l : ℕ = entryColumns (k .table) i in
-      let w : ℕ = entryRows (k .table) i in
-      let e : (leb l (k .columns) && leb w (k .rows)) ≡ true = facts .fits i below in
-      (leb-true l (k .columns) (and-left (leb l (k .columns)) (leb w (k .rows)) e), leb-true w (k .rows) (and-right (leb l (k .columns)) (leb w (k .rows)) e))
-
   -- its bytes are 0 or 1
   box-bits : (m : ℕ) → m < pixelStart (k .table) i + entryRows (k .table) i * entryColumns (k .table) i → getD (k .pixels) m 0 ≤ 1
   box-bits m l =
@@ -158,8 +126,8 @@ module _ (k : Lent) (facts : Facts k) (i : ℕ) (below : i < k .count) where
       (record {
         columns = refl;
         rows = refl;
-        wide = sides-within .0 .some;
-        high = sides-within .1 .some;
+        wide = facts .columnsSome i below;
+        high = facts .rowsSome i below;
         has = λ x y hx hy. ap (λ (b : ℕ). eqb b 1) (part-at (k .pixels) (pixelStart (k .table) i) (w * l) (y * l + x) (in-box hx hy));
       })
       ∙ facts .tightBoxes i below
@@ -174,16 +142,16 @@ module _ (k : Lent) (facts : Facts k) (i : ℕ) (below : i < k .count) where
       let w : ℕ = entryRows (k .table) i in
       let o : ℕ = entryTurns (k .table) i in
       let ks : List ℕ = i ∷ entryNumbers (k .table) i in
-      let sl : l ≤ sideBound = sides-within .0 .most in
-      let sw : w ≤ sideBound = sides-within .1 .most in
-      let so : o ≤ turnsBound = sides-within .2 in
+      let sl : l ≤ sideBound = facts .columnsSmall i below in
+      let sw : w ≤ sideBound = facts .rowsSmall i below in
+      let so : o ≤ turnsBound = facts .turnsFew i below in
       let able : Writable fourFields ks = (refl, omega arith, (refl, omega arith, (refl, omega arith, (refl, omega arith, tt)))) in
       let r : Reads (lineAt pieceWord fourFields text p) ks text rest = line-ahead pieceWord fourFields ks rest able a in
       let causes = pieceLineCauses line (sheetLine k m) i (pixelStart (k .table) i) (pieceNumbers k i (r .next)) in
       let none : NoCause causes = (
         ap not (and-front (upTo sideBound l) (upTo sideBound w) (eqb (o % 2) 1) (leb o turnsBound) (eq-eqb i i refl) (facts .ranges i below)),
         (
-          ap₂ (λ (x y : Bool). x || y) (le-ltb (k .columns) l (box-fits .0)) (le-ltb (k .rows) w (box-fits .1)),
+          ap₂ (λ (x y : Bool). x || y) (le-ltb (k .columns) l (facts .columnsFit i below)) (le-ltb (k .rows) w (facts .rowsFit i below)),
           (
             le-ltb areaBound (pixelStart (k .table) i + l * w) (let e = start-end (k .table) i (k .count) below in let t = facts .areas in omega arith),
             tt,
@@ -261,33 +229,15 @@ exact-pixels k h =
 
 -- ── the job ──
 
--- the sheet's numbers
-sheet-within : (k : Lent) → Facts k → Within rowBound (k .rows) × Within columnBound (k .columns) × Within pieceBound (k .count) × (k .rows * k .columns ≤ areaBound)
-unfolding sheetInRange
-sheet-within k facts =
-    let a : Bool = upTo rowBound (k .rows) in
-    let b : Bool = upTo columnBound (k .columns) in
-    let c : Bool = upTo pieceBound (k .count) in
-    let d : Bool = leb (k .rows * k .columns) areaBound in
-    let e : (a && b && c && d) ≡ true = facts .sheet in
-    let abc : (a && b && c) ≡ true = and-left (a && b && c) d e in
-    let ab : (a && b) ≡ true = and-left (a && b) c abc in (
-      within rowBound (k .rows) (and-left a b ab),
-      within columnBound (k .columns) (and-right a b ab),
-      within pieceBound (k .count) (and-right (a && b) c abc),
-      leb-true (k .rows * k .columns) areaBound (and-right (a && b && c) d e),
-    )
-
 -- the job line that lies ahead
 job-line-ahead : {text : List ℕ} (k : Lent) → Facts k → (rest : List ℕ)
     → Ahead text 0 (lineText jobWord threeFields (k .rows ∷ k .columns ∷ k .count ∷ []) ++ rest) → Gives (jobLine text) (sheetLine k) text rest
 unfolding jobLine sheetInRange
 job-line-ahead {text} k facts rest a =
-    let w = sheet-within k facts in
     let ks : List ℕ = k .rows ∷ k .columns ∷ k .count ∷ [] in
-    let hr : k .rows ≤ rowBound = w .0 .most in
-    let hc : k .columns ≤ columnBound = w .1 .most in
-    let hn : k .count ≤ pieceBound = w .2 .most in
+    let hr : k .rows ≤ rowBound = facts .fewRows in
+    let hc : k .columns ≤ columnBound = facts .fewColumns in
+    let hn : k .count ≤ pieceBound = facts .fewPieces in
     let able : Writable threeFields ks = (refl, omega arith, (refl, omega arith, (refl, omega arith, tt))) in
     let r : Reads (lineAt jobWord threeFields text 0) ks text rest = line-ahead jobWord threeFields ks rest able a in
     let ranges : Bool = upTo rowBound (k .rows) && upTo columnBound (k .columns) && upTo pieceBound (k .count) in
@@ -296,7 +246,7 @@ job-line-ahead {text} k facts rest a =
       gives =
           rw (r .reads, formed)
           (unless-given (jobLineCauses (sheetLine k (r .next))) (sheetLine k (r .next))
-          (ap not (and-left ranges (leb (k .rows * k .columns) areaBound) (facts .sheet)), (le-ltb areaBound (k .rows * k .columns) (w .3), tt)));
+          (ap not (and-left ranges (leb (k .rows * k .columns) areaBound) (facts .sheet)), (le-ltb areaBound (k .rows * k .columns) (facts .area), tt)));
       ahead = r .ahead;
     }
 
@@ -308,7 +258,7 @@ job-read-back k well tableLength pixelsLength ht hp =
     let f : Facts k = facts k well in
     let text : List ℕ = jobText k in
     let total : ℕ = pixelStart (k .table) (k .count) in
-    let hn : k .count ≤ pieceBound = sheet-within k f .2 .most in
+    let hn : k .count ≤ pieceBound = f .fewPieces in
     let g : Gives (jobLine text) (sheetLine k) text (piecesText k 0 (k .count)) =
     job-line-ahead k f (piecesText k 0 (k .count)) (ahead-start text) in
     let pixels : pixelsFrom k 0 (k .count) ≡ take total (k .pixels) = exact-pixels k (f .store) in

@@ -15,8 +15,9 @@ use lib.Seq.{getD-take}
 use Rattle.model.specs.Piece.{tight}
 use Rattle.model.specs.Lent.{Lent, entryColumns, entryRows, entryTurns, pixelStart, entryInRange, entryFits, lentShape, lentWell}
 use Rattle.text_laws.specs.Texts.{Readable}
-use Rattle.text_laws.proofs.Store.{start-end, in-box, tight-agree}
-use Rattle.text_laws.proofs.LentFacts.{Facts, facts, well}
+use Rattle.job_laws.proofs.Starts.{start-end}
+use Rattle.text_laws.proofs.Store.{in-box, tight-agree}
+use Rattle.job_laws.proofs.Checked.{Facts, facts, well}
 use Rattle.text_laws.specs.Limits.{sidesInRange}
 use Rattle.text_laws.proofs.JobRead.{sides-some, job-read-well}
 use Rattle.text_laws.specs.JobWriting.{entryNumbers, jobText, entriesFrom, exactly}

@@ -13,7 +13,6 @@ pub mod LayoutExact
 pub mod LayoutRefused
 pub mod LayoutCauses
 pub mod Store
-pub mod LentFacts
 pub mod JobRead
 pub mod JobWriting
 pub mod JobReadBack

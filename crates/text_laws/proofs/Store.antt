@@ -3,8 +3,8 @@
 use mathlib.Core.Bool.{Bool, _&&_}
 use mathlib.Core.List.{List, _∷_}
 use mathlib.Core.Path.{_≡_, ap, ap₂, _∙_}
-use Prim.Native.Nat.{ℕ, zero, suc, _+_, _-_, _*_, _≤_, _<_}
-use native.Mathlib.Nat.{add-zero, add-suc, mul-le-mul-right, suc-mul}
+use Prim.Native.Nat.{ℕ, suc, _+_, _-_, _*_, _≤_, _<_}
+use native.Mathlib.Nat.{mul-le-mul-right, suc-mul}
 use native.Mathlib.Omega.{arith}
 use lib.ListN.{getD}
 use Rattle.model.specs.Bounded.{anyBelow}
@@ -22,19 +22,6 @@ use Rattle.text_laws.specs.Texts.{Agree}
 pub start-after : (e : List ℕ) (table : List (List ℕ)) (i : ℕ) → pixelStart (e ∷ table) (suc i) ≡ getD e 0 0 * getD e 1 0 + pixelStart table i
 unfolding pixelStart
 start-after e table i = sum-first i (entryArea (e ∷ table))
-
--- later pieces begin no earlier
-pub start-grows : (table : List (List ℕ)) (i k : ℕ) → pixelStart table i ≤ pixelStart table (i + k)
-unfolding pixelStart
-start-grows table i zero = rw add-zero (omega arith)
-start-grows table i (suc k) = let h = start-grows table i k in rw add-suc (omega arith)
-
--- a piece's pixels end no later than those of all pieces
-pub start-end : (table : List (List ℕ)) (i n : ℕ) → i < n → pixelStart table i + entryArea table i ≤ pixelStart table n
-unfolding pixelStart
-start-end table i n h =
-    let e : suc i + (n - suc i) ≡ n = omega arith in
-    rw e at (start-grows table (suc i) (n - suc i))
 
 -- ── a row of a box ──
 

@@ -12,6 +12,7 @@ use Rattle.model.specs.Buffer.{layoutOf}
 use Rattle.model.specs.Search.{Best}
 use Rattle.model.specs.Descent.{moved, quiet, trialLine, attempt}
 use Rattle.model.specs.Descent as model
+use Rattle.job_laws.proofs.Checked.{facts}
 use Rattle.call_laws.proofs.Jobs.{lent-boxes-small}
 use Rattle.descent_laws.specs.Claims.{ValidWeights}
 use Rattle.descent_laws.specs.Sums.{sumBound}
@@ -21,7 +22,6 @@ use Rattle.search_laws.proofs.PieceSum.{piece-sum, pieceSumBound, running-bound
 use Rattle.search_laws.specs.TrialIndex.{nextTrial}
 use Rattle.search_laws.specs.Loop as loop
 use Rattle.search_laws.proofs.Loop.{trialMoved}
-use Rattle.shapes.proofs.Jobs.{sheet}
 use Rattle.trials.specs.Trials.{trialAs}
 use Rattle.trial_step.specs.Steps.{entriesAfter, standingAs, afterQuiet, afterMove}
 use Rattle.trial_step.specs.declared.Standing.{Standing}
@@ -36,13 +36,13 @@ module _ (l : Lent) (well : lentWell l ≡ true) (ws : List ℕ) (weights : Vali
   unfolding jobOf
   present-small i b =
       rw (piece-sum (jobOf l) ws v i b (weights .onePerPair))
-      (running-bound (jobOf l) ws i (l .count) (penaltyBetween (jobOf l) v i) (sheet l well .pieces) weights b (omega arith)
+      (running-bound (jobOf l) ws i (l .count) (penaltyBetween (jobOf l) v i) (facts l well .fewPieces) weights b (omega arith)
       (λ k c d. between-bound (jobOf l) (lent-boxes-small l well) v i k b c d))
 
   -- a weighted sum is below 2³⁵
   pub total-small : weightedSum (jobOf l) ws v ≤ sumBound
   unfolding jobOf
-  total-small = weighted-at-most (jobOf l) ws v (sheet l well .pieces) (lent-boxes-small l well) weights
+  total-small = weighted-at-most (jobOf l) ws v (facts l well .fewPieces) (lent-boxes-small l well) weights
 
 -- ── after a trial ──
 

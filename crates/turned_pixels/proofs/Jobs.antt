@@ -1,21 +1,16 @@
 -- A job's pieces as the code reads them out of the table and the pixel store: a checked job's pieces are small, and the store has all
 -- their pixels. Assumes nothing.
-use mathlib.Core.Bool.{Bool, true, _&&_}
+use mathlib.Core.Bool.{true}
 use mathlib.Core.List.{List}
 use mathlib.Core.Path.{_≡_, ap}
 use Prim.Native.Nat.{ℕ, _<_}
 use native.Mathlib.Nat.{mul-comm}
 use native.Mathlib.Omega.{arith}
-use borrow.Author.Tests.{leb-true}
-use lib.Dec.{leb}
-use Rattle.model.specs.Piece.{sideBound}
 use Rattle.model.specs.Layout.{turnedPiece}
-use Rattle.model.specs.Lent.{Lent, lentBy, jobOf, lentWell, entryColumns, entryRows, entryInRange, pixelStart, upTo}
+use Rattle.model.specs.Lent.{Lent, lentBy, jobOf, lentWell, entryColumns, entryRows, pixelStart}
 use Rattle.model.specs.declared.Turn.{Turn}
 use Rattle.model.specs.declared.JobSize.{JobSize}
-use Rattle.model.proofs.Tests.{and-left, and-right}
-use Rattle.text_laws.proofs.LentFacts.{Facts, facts}
-use Rattle.text_laws.proofs.Store.{start-end}
+use Rattle.job_laws.proofs.Checked.{Facts, facts}
 use Rattle.turned_pixels.specs.Turned.{madeOf, shownBy, Small, Stored}
 
 -- the turned piece of a table entry shows the job's piece in the turn
@@ -26,26 +21,18 @@ shown-piece size table pixels i start t e = ap (λ k. shownBy pixels (madeOf tab
 
 -- a piece of a job that passes the check is small
 pub entry-small : (l : Lent) (i : ℕ) (t : Turn) → lentWell l ≡ true → i < l .count → Small (madeOf (l .table) i (pixelStart (l .table) i) t)
-unfolding entryInRange
 entry-small l i t e h =
     let f : Facts l = facts l e in
-    let a = start-end (l .table) i (l .count) h in
+    let a = f .ends i h in
     let b = f .areas in
-    let columns : Bool = upTo sideBound (entryColumns (l .table) i) in
-    let rows : Bool = upTo sideBound (entryRows (l .table) i) in
-    let both : (columns && rows) ≡ true = and-left _ _ (and-left _ _ (f .ranges i h)) in
-    record {
-      start = omega arith;
-      columns = leb-true _ _ (and-right (leb 1 (entryColumns (l .table) i)) _ (and-left columns rows both));
-      rows = leb-true _ _ (and-right (leb 1 (entryRows (l .table) i)) _ (and-right columns rows both));
-    }
+    record { start = omega arith; columns = f .columnsSmall i h; rows = f .rowsSmall i h }
 
 -- its store has all its pixels
 pub entry-stored : (l : Lent) (i : ℕ) (t : Turn) → lentWell l ≡ true → i < l .count
     → Stored (l .pixels) (madeOf (l .table) i (pixelStart (l .table) i) t)
 entry-stored l i t e h =
     let f : Facts l = facts l e in
-    let a = start-end (l .table) i (l .count) h in
+    let a = f .ends i h in
     let b = f .store in
     let c = mul-comm (entryRows (l .table) i) (entryColumns (l .table) i) in
     record { small = entry-small l i t e h; held = omega arith }

@@ -8,14 +8,13 @@ use borrow.Author.Needs.{needs}
 use Rattle.model.specs.Lent.{Lent, lentBy, jobOf}
 use Rattle.model.specs.Calls.{layCall}
 use Rattle.model.specs.Cover.{Sheet, lay, layCauses}
-use Rattle.text_laws.proofs.LentFacts.{facts}
+use Rattle.job_laws.proofs.Checked.{facts}
 use Rattle.cover_laws.proofs.Calls.{LayTaken}
 use Rattle.cover_laws.proofs.Effects.{well-bound}
 use Rattle.cover.specs.Answers.{sheetOf, firstNumber}
 use Rattle.cover.specs.Ready.{SheetReady}
 use Rattle.cover.proofs.lay.Tie as tie
 use Rattle.cover.proofs.lay.Statement.{statement}
-use Rattle.stamp.proofs.Pieces.{few-pieces}
 use Rattle.cover.proofs.Outcomes.{sheet-ready, sheet-refused, own-refused, none-given, lay-plain, lay-order, refused-answer, given-answer, moved-lays}
 
 -- the job and the sheet that are lent
@@ -65,7 +64,7 @@ returns c =
     (c .answer .ensures) (c .before .if1 .taken)
 
 lay-refusal-requires : tie.Need-lay-refusal-requires
-lay-refusal-requires c κs = (facts _ (ready c .well) .entries, few-pieces _ (ready c .well))
+lay-refusal-requires c κs = (facts _ (ready c .well) .entries, facts _ (ready c .well) .fewPieces)
 
 answer-requires-2 : tie.Need-answer-requires-2
 answer-requires-2 c κs = search needs
@@ -95,7 +94,7 @@ with-entry-requires : tie.Need-with-entry-requires
 unfolding jobOf
 with-entry-requires c κs =
     let start = c .before .before .before .before .before .before .before .before .before .before .before in
-    let few = few-pieces _ (ready (c .before .before .before .before .before .before) .well) in
+    let few = facts _ (ready (c .before .before .before .before .before .before) .well) .fewPieces in
     let here : start .args .piece < start .args .size .count = order (c .before .before .before .before) .piece in
     omega arith
 
@@ -112,7 +111,7 @@ returns-3 c =
     let l = job start in
     let s = sheet start in
     let sheet-is = ready (c .before .before .before .before .before .before .before .before) in
-    let few = few-pieces l (sheet-is .well) in
+    let few = facts l (sheet-is .well) .fewPieces in
     given-answer _ (lay (jobOf l) s (start .args .piece) (start .args .place)) (start .args .sheet) (start .args .counts .now) _ (c .answer3 .result)
     (none-given l s (layCauses (jobOf l) s (start .args .piece) (start .args .place)) (lay (jobOf l) s (start .args .piece) (start .args .place))
     (lay-plain (jobOf l) s (start .args .piece) (start .args .place)) sheet-is (none (c .before .before .before .before .before .before)))

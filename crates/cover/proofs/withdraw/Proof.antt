@@ -8,12 +8,12 @@ use borrow.Author.Needs.{needs}
 use Rattle.model.specs.Lent.{Lent, lentBy, jobOf}
 use Rattle.model.specs.Calls.{withdrawCall}
 use Rattle.model.specs.Cover.{Sheet, withdraw, withdrawCauses}
+use Rattle.job_laws.proofs.Checked.{facts}
 use Rattle.cover_laws.proofs.Calls.{WithdrawTaken}
 use Rattle.cover.specs.Answers.{sheetOf, firstNumber}
 use Rattle.cover.specs.Ready.{SheetReady}
 use Rattle.cover.proofs.withdraw.Tie as tie
 use Rattle.cover.proofs.withdraw.Statement.{statement}
-use Rattle.stamp.proofs.Pieces.{few-pieces}
 use Rattle.cover.proofs.Outcomes.{sheet-ready, sheet-refused, own-refused, none-given, withdraw-plain, withdraw-order, withdrawn-inside, refused-answer, given-answer, moved-withdraws}
 
 -- the job and the sheet that are lent
@@ -47,7 +47,7 @@ order c =
 few : (c : tie.Else2) → c .before .before .before .before .before .before .before .args .piece < 64
 unfolding jobOf
 few c =
-    let pieces = few-pieces _ (ready (c .before .before) .well) in
+    let pieces = facts _ (ready (c .before .before) .well) .fewPieces in
     let here : c .before .before .before .before .before .before .before .args .piece < c .before .before .before .before .before .before .before .args .size .count = order c .piece in
     omega arith
 
@@ -71,7 +71,7 @@ returns c =
     (c .answer .ensures) (c .before .if1 .taken)
 
 withdraw-refusal-requires : tie.Need-withdraw-refusal-requires
-withdraw-refusal-requires c κs = few-pieces _ (ready c .well)
+withdraw-refusal-requires c κs = facts _ (ready c .well) .fewPieces
 
 answer-requires-2 : tie.Need-answer-requires-2
 answer-requires-2 c κs = search needs

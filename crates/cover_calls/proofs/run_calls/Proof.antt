@@ -6,6 +6,7 @@ use native.Mathlib.Omega.{arith}
 use borrow.Author.Needs.{needs}
 use Rattle.model.specs.Lent.{lentBy, jobOf}
 use Rattle.model.specs.Cover.{Sheet, fresh, afterCalls}
+use Rattle.job_laws.proofs.Checked.{facts}
 use Rattle.cover_laws.specs.CoverClaims.{CoverHolds}
 use Rattle.cover_laws.proofs.Demand2Cover.{demand2-cover}
 use Rattle.cover.specs.Ready.{SheetReady}
@@ -15,7 +16,6 @@ use Rattle.cover_calls.proofs.CallLists.{fresh-ready, refused-run, give
 use Rattle.cover.proofs.Outcomes.{given-answer}
 use Rattle.cover.specs.Answers.{sheetOf, blankRecord, recordOf, givenAnswer}
 use Rattle.cover_calls.proofs.run_calls.Tie as tie
-use Rattle.stamp.proofs.Pieces.{few-pieces}
 
 fresh-requires : tie.Need-fresh-requires
 fresh-requires c κs = search needs
@@ -63,7 +63,7 @@ returns-2 c =
     let answer =
     given-answer _ (afterCalls (jobOf l) (fresh (jobOf l)) calls) blankRecord (a .counts .now) left (givenAnswer (c .before .before .run-from .result)) (run .0 .run)
     (ap (λ (t : Sheet). givenAnswer (recordOf t)) after) (ap (λ (t : Sheet). t .counts) after) in
-    let holds : CoverHolds (jobOf l) calls (afterCalls (jobOf l) (fresh (jobOf l)) calls) = demand2-cover (jobOf l) (few-pieces l (run .0 .well)) calls in
+    let holds : CoverHolds (jobOf l) calls (afterCalls (jobOf l) (fresh (jobOf l)) calls) = demand2-cover (jobOf l) (facts l (run .0 .well) .fewPieces) calls in
     (answer .0, (answer .1, λ so. subst (λ (t : Sheet). CoverHolds (jobOf l) calls t) (sym after) holds))
 
 pub run-calls-spec : {M : Type 1} → statement M

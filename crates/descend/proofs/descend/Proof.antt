@@ -10,11 +10,10 @@ use Rattle.model.specs.Buffer.{layoutOf}
 use Rattle.model.specs.Descent.{trials, attempt, descend}
 use Rattle.model.specs.declared.End.{End}
 use Rattle.model.specs.declared.End.the-variants.{Clear, Settled, Spent}
-use Rattle.text_laws.proofs.LentFacts.{facts}
-use Rattle.descent_laws.proofs.Lent.{lent-some, lent-zero-allowed}
+use Rattle.job_laws.proofs.Checked.{facts, lent-some}
+use Rattle.descent_laws.proofs.Lent.{lent-zero-allowed}
 use Rattle.search_laws.specs.Loop as loop
 use Rattle.search_laws.proofs.Loop.{Underway, beginning, underway-begin, underway-clear, underway-settled, underway-spent}
-use Rattle.shapes.proofs.Jobs.{sheet}
 use Rattle.trials.specs.Trials.{trialAs}
 use Rattle.trial_step.specs.Steps.{standingAs}
 use Rattle.descend.specs.Descents.{descentOf}
@@ -48,13 +47,13 @@ given e = layoutOf (e .args .layout .now)
 
 trial-count-requires : tie.Need-trial-count-requires Inv-loop μ-loop
 trial-count-requires c κs =
-    let e = c .before .before .before .before .before .before .before .before .before .before in (facts (lent e) (e .pre .0 .well) .entries, sheet (lent e) (e .pre .0 .well) .pieces)
+    let e = c .before .before .before .before .before .before .before .before .before .before in (facts (lent e) (e .pre .0 .well) .entries, facts (lent e) (e .pre .0 .well) .fewPieces)
 
 total-requires : tie.Need-total-requires Inv-loop μ-loop
 unfolding jobOf
 total-requires c κs =
     let e = c .before .before .before .before .before .before .before .before .before .before .before .before in
-    record { few = sheet (lent e) (e .pre .0 .well) .pieces; size = e .pre .1 .1 .0 .table .size; onePerPair = e .pre .1 .0 .onePerPair }
+    record { few = facts (lent e) (e .pre .0 .well) .fewPieces; size = e .pre .1 .1 .0 .table .size; onePerPair = e .pre .1 .0 .onePerPair }
 
 beginning-requires : tie.Need-beginning-requires Inv-loop μ-loop
 beginning-requires c κs = search needs

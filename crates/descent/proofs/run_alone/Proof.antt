@@ -6,8 +6,8 @@ use native.Mathlib.Omega.{arith}
 use lib.ListN.{length, take, replicate, length-replicate, length-append}
 use lib.Seq.{length-take-le, take-at}
 use Rattle.model.specs.Lent.{Lent, lentBy, jobOf}
+use Rattle.job_laws.proofs.Checked.{facts}
 use Rattle.descent_laws.proofs.Bounds.{pairs-at-most}
-use Rattle.shapes.proofs.Jobs.{sheet}
 use Rattle.runs.specs.Ready.{Given}
 use Rattle.runs.specs.Done.{Done}
 use Rattle.runs.specs.declared.memory.Plan.{Plan}
@@ -26,7 +26,7 @@ unfolding jobOf
 few e =
     let g = e .pre in
     let one = g .weights .onePerPair in
-    let most = pairs-at-most (e .args .size .count) (sheet (lent e) (g .well) .pieces) in
+    let most = pairs-at-most (e .args .size .count) (facts (lent e) (g .well) .fewPieces) in
     omega arith
 
 -- as much of a fresh array as there are weights

@@ -5,9 +5,10 @@ use Prim.Native.Nat.{_+_, _*_, _≤_}
 use native.Mathlib.Omega.{arith}
 use lib.ListN.{length, length-set}
 use Rattle.model.specs.Lent.{Lent, lentBy, jobOf}
+use Rattle.job_laws.proofs.Checked.{lent-few}
 use Rattle.lines.specs.Making.{Small}
 use Rattle.lines.proofs.Keeping.{slot-within, renewed}
-use Rattle.lines.proofs.Making.{few-pieces, small-two, moved-there, standing-there}
+use Rattle.lines.proofs.Making.{small-two, moved-there, standing-there}
 use borrow.Author.Needs.{needs}
 use Rattle.lines.proofs.keep_line.Statement.{statement}
 use Rattle.lines.proofs.keep_line.Tie as tie
@@ -89,7 +90,7 @@ returns-2 c =
     let same = made .same in
     let w = within b in
     let kept = renewed (e .args .direction) (jobOf (lent e)) (e .args .width) (e .args .lines .now) (e .args .tags .now) (e .pre .1 .1 .1 .0) (b .before .slot-of .result)
-    (two .moved) (two .standing) (two .«moved_turn») (two .«standing_turn») (two .offset) _ (few-pieces (lent e) _ _ _ two asked) (b .before .slot-of .ensures)
+    (two .moved) (two .standing) (two .«moved_turn») (two .«standing_turn») (two .offset) _ (lent-few (lent e) (asked .well)) (b .before .slot-of .ensures)
     (moved-there (lent e) _ _ _ two asked) (standing-there (lent e) _ _ _ two asked) (asked .offset) (e .pre .1 .0) made in
     (made .line, (omega arith, (rw (b .key-of .ensures) kept, (same, simp length-set))))
 

@@ -7,10 +7,10 @@ use borrow.Author.Tests.{not-true, not-false}
 use Rattle.model.specs.Refusal.{unless}
 use Rattle.model.specs.Lent.{Lent, lentBy, lentWell, jobOf}
 use Rattle.model.specs.Calls.{LentStretch, known, stretchWell}
-use Rattle.text_laws.proofs.LentFacts.{facts}
+use Rattle.job_laws.proofs.Checked.{facts}
 use Rattle.strips.proofs.Jobs.{entry-at}
 use Rattle.nofit_calls.specs.Lines.{lentStretch, stretchCauses}
-use Rattle.nofit_calls.proofs.Owning.{known-below, few-pieces}
+use Rattle.nofit_calls.proofs.Owning.{known-below}
 use Rattle.nofit_calls.proofs.stretch_causes.Statement.{statement}
 use Rattle.nofit_calls.proofs.stretch_causes.Tie as tie
 
@@ -85,7 +85,7 @@ is-own-requires c κs =
     let q : LentStretch = lentStretch (a .k) (a .second) (a .b .now) in
     let well : lentWell l ≡ true = sym (c .before .before .before .before .before .check-job .ensures) ∙ not-false _ (c .before .before .before .before .if1 .left) in
     let one : known (jobOf l) p ≡ true = sym (c .before .before .before .is-known .ensures (a .pixels .now) (a .a .now)) ∙ not-false _ (c .before .before .if2 .left) in
-    (entry-at l (a .i) well (known-below l p one), omega (arith, few-pieces l well, known-below l p one))
+    (entry-at l (a .i) well (known-below l p one), omega (arith, facts l well .fewPieces, known-below l p one))
 
 refusal-requires-4 : tie.Need-refusal-requires-4
 refusal-requires-4 c κs = search needs
@@ -111,7 +111,7 @@ is-own-requires-2 c κs =
     let q : LentStretch = lentStretch (a .k) (a .second) (a .b .now) in
     let well : lentWell l ≡ true = sym (c .before .before .before .before .before .before .before .check-job .ensures) ∙ not-false _ (c .before .before .before .before .before .before .if1 .left) in
     let two : known (jobOf l) q ≡ true = sym (c .before .before .before .is-known2 .ensures (a .pixels .now) (a .b .now)) ∙ not-false _ (c .before .before .if3 .left) in
-    (entry-at l (a .k) well (known-below l q two), omega (arith, few-pieces l well, known-below l q two))
+    (entry-at l (a .k) well (known-below l q two), omega (arith, facts l well .fewPieces, known-below l q two))
 
 refusal-requires-5 : tie.Need-refusal-requires-5
 refusal-requires-5 c κs = search needs

@@ -9,7 +9,7 @@ use Rattle.model.specs.Refusal.{unless}
 use Rattle.model.specs.Lent.{Lent, lentBy, lentWell, jobOf}
 use Rattle.model.specs.Buffer.{layoutOf}
 use Rattle.model.specs.Calls.{someTurnWrong, someOutside, pairCauses}
-use Rattle.text_laws.proofs.LentFacts.{facts}
+use Rattle.job_laws.proofs.Checked.{facts}
 use Rattle.pairs.proofs.pair_causes.Statement.{statement}
 use Rattle.pairs.proofs.pair_causes.Tie as tie
 

@@ -3,8 +3,8 @@ use mathlib.Core.Path.{sym, _∙_, ap}
 use native.Mathlib.Omega.{arith}
 use borrow.Author.Needs.{needs}
 use Rattle.model.specs.Program.{refusalText}
-use Rattle.call_laws.proofs.Programs.{program-too-long}
-use Rattle.program.proofs.Printing.{program-read, text-printed}
+use Rattle.call_laws.proofs.Programs.{program-too-long, program-reads}
+use Rattle.program.proofs.Printing.{text-printed}
 use Rattle.program.proofs.print_text.Statement.{statement}
 use Rattle.program.proofs.print_text.Tie as tie
 
@@ -31,7 +31,7 @@ same-length-2 c = search needs
 returns-2 : tie.Need-returns-2
 returns-2 c =
     let a = c .before .before .before .before .before .before .before .args in
-    text-printed (a .input .now) _ (program-read (a .input .now) (c .before .before .before .before .if1 .left)) (c .before .before .read-and-print .ensures) (omega arith)
+    text-printed (a .input .now) _ (program-reads (a .input .now) (c .before .before .before .before .if1 .left)) (c .before .before .read-and-print .ensures) (omega arith)
 
 pub print-text-spec : {M : Type 1} → statement M
 print-text-spec =

@@ -7,8 +7,7 @@ use borrow.Author.Needs.{needs}
 use lib.ListN.{length}
 use Rattle.model.specs.Lent.{Lent, lentBy, jobOf}
 use Rattle.model.specs.Buffer.{layoutOf}
-use Rattle.descent_laws.proofs.Lent.{lent-some}
-use Rattle.shapes.proofs.Jobs.{sheet}
+use Rattle.job_laws.proofs.Checked.{lent-some, facts}
 use Rattle.rounds.proofs.Rounding.{job-count, weighed, left-falls, Rounding, Sizes, Rounded, rounding-begin, rounding-few, rounding-done, round-next}
 use Rattle.rounds.proofs.rounds.Statement.{statement}
 use Rattle.rounds.proofs.rounds.Tie as tie
@@ -66,7 +65,7 @@ rounded c =
 -- ── the needs ──
 
 plain-total-requires : tie.Need-plain-total-requires Inv-loop μ-loop
-plain-total-requires c κs = let s = c .before .before .before .before .before .before .before .before .before .before .before in (sheet (job s) (s .pre .0 .well) .pieces, s .pre .1 .1 .0 .table .size)
+plain-total-requires c κs = let s = c .before .before .before .before .before .before .before .before .before .before .before in (facts (job s) (s .pre .0 .well) .fewPieces, s .pre .1 .1 .0 .table .size)
 
 loop-holds : tie.Need-loop-holds Inv-loop μ-loop
 loop-holds c =
@@ -116,7 +115,7 @@ add-moves c =
 plain-total-requires-2 : tie.Need-plain-total-requires-2 Inv-loop μ-loop
 plain-total-requires-2 c κs =
     let s = entry (c .before .before .before .before .before .before .before .before .before .before .before .before .before .before .before .before .before .before .before .before .before .before .before .before .before .before) in
-    (sheet (job s) (s .pre .0 .well) .pieces, c .before .before .before .before .before .before .before .before .before .before .before .before .before .before .before .before .descend .ensures .1 .0 .table .size)
+    (facts (job s) (s .pre .0 .well) .fewPieces, c .before .before .before .before .before .before .before .before .before .before .before .before .before .before .before .before .descend .ensures .1 .0 .table .size)
 
 keep-better-requires : tie.Need-keep-better-requires Inv-loop μ-loop
 keep-better-requires c κs =

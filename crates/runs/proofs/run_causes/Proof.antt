@@ -3,7 +3,7 @@ use mathlib.Core.List.{List, _∷_}
 use mathlib.Core.Path.{sym, ap, _∙_}
 use Rattle.model.specs.Lent.{Lent, lentBy}
 use Rattle.model.specs.Refusal.{Cause, cause, outOfRange}
-use Rattle.text_laws.proofs.LentFacts.{facts}
+use Rattle.job_laws.proofs.Checked.{facts}
 use Rattle.text_laws.specs.Outcomes.{NoCause}
 use Rattle.placing.specs.Answers.{causeAnswer}
 use Rattle.placing.specs.declared.CauseAnswer.{CauseAnswer}

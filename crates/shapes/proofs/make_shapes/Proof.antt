@@ -9,10 +9,10 @@ use Rattle.model.specs.Strip.{strips}
 use Rattle.model.specs.Layout.{turnedPiece}
 use Rattle.model.specs.Lent.{lentBy, jobOf, lentWell}
 use Rattle.model.specs.declared.JobSize.{JobSize}
+use Rattle.job_laws.proofs.Checked.{facts}
 use Rattle.strips.specs.Put.{Appended, EntryAt}
 use Rattle.strips.proofs.Jobs.{entry-at}
 use Rattle.shapes.specs.Shapes.{numberedShape, Room}
-use Rattle.shapes.proofs.Jobs.{sheet}
 use Rattle.shapes.proofs.Making.{Made, Fits, made-none, fits-next, made-more, made-all}
 use borrow.Author.Needs.{needs}
 use Rattle.shapes.proofs.make_shapes.Statement.{statement}
@@ -27,7 +27,7 @@ abbrev μ-loop : tie.MeasureT-loop
 μ-loop table pixels direction store₀ starts₀ last at₀ k₀ store starts at k = last - k
 
 mul-last : tie.Need-mul-last Inv-loop μ-loop
-mul-last c = let s = sheet _ (c .before .before .before .pre .0) .pieces in omega arith
+mul-last c = let s = facts _ (c .before .before .before .pre .0) .fewPieces in omega arith
 
 slice-write-starts : tie.Need-slice-write-starts Inv-loop μ-loop
 slice-write-starts c = let r = c .before .before .before .pre .1 .long in omega arith

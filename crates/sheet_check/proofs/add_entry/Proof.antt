@@ -5,15 +5,15 @@ use native.Mathlib.Omega.{arith}
 use borrow.Author.Needs.{needs}
 use borrow.Author.Tests.{not-true, not-false}
 use Rattle.model.specs.Lent.{lentBy, jobOf}
+use Rattle.job_laws.proofs.Checked.{facts}
 use Rattle.sheet_check.proofs.add_entry.Tie as tie
-use Rattle.stamp.proofs.Pieces.{few-pieces}
 use Rattle.sheet_check.proofs.Recounts.{laid-inside, free-added, laid-added}
 use Rattle.sheet_check.proofs.add_entry.Statement.{statement}
 
 entry-of-requires : tie.Need-entry-of-requires
 entry-of-requires c κs =
     let pre = c .before .before .pre in
-    let few = few-pieces _ (pre .0 .well) in
+    let few = facts _ (pre .0 .well) .fewPieces in
     let here = pre .1 in
     omega arith
 
@@ -27,7 +27,7 @@ move-piece-requires : tie.Need-move-piece-requires
 move-piece-requires c κs =
     let a = c .before .before .before .before .before .before .before .args in
     let pre = c .before .before .before .before .before .before .before .pre in
-    let few = few-pieces _ (pre .0 .well) in
+    let few = facts _ (pre .0 .well) .fewPieces in
     record {
       well = pre .0 .well;
       piece = pre .1;

@@ -4,10 +4,9 @@ use Prim.Native.Nat.{_≤_}
 use native.Mathlib.Omega.{arith}
 use lib.ListN.{length}
 use borrow.Author.Needs.{needs}
-use Rattle.text_laws.proofs.LentFacts.{facts}
+use Rattle.job_laws.proofs.Checked.{facts}
 use Rattle.sheet_check.proofs.counts_well.Statement.{statement}
 use Rattle.sheet_check.proofs.counts_well.Tie as tie
-use Rattle.stamp.proofs.Pieces.{sheet-facts}
 
 slice-aggregate-counts-match : tie.Need-slice-aggregate-counts-match
 slice-aggregate-counts-match c = search needs
@@ -15,7 +14,7 @@ slice-aggregate-counts-match c = search needs
 counts-match-requires : tie.Need-counts-match-requires
 counts-match-requires c κs =
     let pre = c .before .before .before .pre in
-    let area = sheet-facts _ _ _ (facts _ (pre .well) .sheet) .area in
+    let area = facts _ (pre .well) .area in
     let full = pre .full in
     let room : length (c .before .before .before .args .counts .now) ≤ 65536 = omega arith in
     (pre, room)

@@ -5,9 +5,9 @@ use Prim.Native.Nat.{_≤_, _-_, _*_}
 use native.Mathlib.Omega.{arith}
 use lib.ListN.{length, replicate, length-replicate}
 use Rattle.model.specs.Lent.{lentBy, jobOf}
+use Rattle.job_laws.proofs.Checked.{facts}
 use Rattle.sheet_check.proofs.recount.Tie as tie
 use Rattle.sheet_check.proofs.recount.Statement.{statement}
-use Rattle.stamp.proofs.Pieces.{few-pieces}
 use Rattle.sheet_check.proofs.Recounts.{CountedBelow, none-counted, added-below, all-counted, length-added}
 use Rattle.sheet_check.specs.Counted.{addedEntry}
 
@@ -38,7 +38,7 @@ add-entry-requires c κs =
 
 add-piece : tie.Need-add-piece Inv-loop μ-loop
 add-piece c =
-    let few = few-pieces _ (c .before .before .before .before .before .before .before .before .before .before .before .before .pre .well) in
+    let few = facts _ (c .before .before .before .before .before .before .before .before .before .before .before .before .pre .well) .fewPieces in
     let l = c .before .before .before .before .loop-test .taken in
     omega arith
 
@@ -50,7 +50,7 @@ loop-again c =
     let a = c .before .before .before .before .before .before .before .before .before .before .before .before .args in
     let j = jobOf (lentBy (a .size) (a .table .now) (a .pixels .now)) in
     let now = c .before .before .before .before .before .loop in
-    let few = few-pieces _ (c .before .before .before .before .before .before .before .before .before .before .before .before .pre .well) in
+    let few = facts _ (c .before .before .before .before .before .before .before .before .before .before .before .before .pre .well) .fewPieces in
     let l = c .before .before .before .before .loop-test .taken in
     let after : c .before .before .add-entry .last .1 .1 .1 .1 .1 .0 ≡ addedEntry j (a .sheet .pieces) (now .piece) (now .made) = c .before .before .add-entry .ensures in (
       omega arith,

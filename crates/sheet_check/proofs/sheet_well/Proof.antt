@@ -7,7 +7,7 @@ use lib.ListN.{length, length-map}
 use Rattle.model.specs.Lent.{lentBy, jobOf, pieceBound}
 use Rattle.model.specs.Cover.{Sheet, entryWell, sheetWell}
 use Rattle.model.specs.Bounded.{allBelow}
-use Rattle.text_laws.proofs.LentFacts.{facts}
+use Rattle.job_laws.proofs.Checked.{facts}
 use Rattle.sheet_check.specs.Counted.{countsWell}
 use Rattle.sheet_check.proofs.Entries.{sheet-tests}
 use Rattle.sheet_check.proofs.sheet_well.Tie as tie

@@ -4,10 +4,11 @@ use mathlib.Core.Path.{refl, _∙_}
 use native.Mathlib.Omega.{arith}
 use borrow.Author.Needs.{needs}
 use Rattle.model.specs.Lent.{lentBy}
+use Rattle.job_laws.proofs.Checked.{facts}
 use Rattle.turned_pixels.proofs.Jobs.{entry-stored}
 use Rattle.stamp.proofs.move_piece.Statement.{statement}
 use Rattle.stamp.proofs.move_piece.Tie as tie
-use Rattle.stamp.proofs.Pieces.{range, entry-there, piece-few, rows-room, piece-moved}
+use Rattle.stamp.proofs.Pieces.{entry-there, piece-few, rows-room, piece-moved}
 
 turned-sides-requires : tie.Need-turned-sides-requires
 turned-sides-requires c κs = entry-there _ _ _ _ (c .before .before .pre)
@@ -22,7 +23,7 @@ turned-piece-requires : tie.Need-turned-piece-requires
 turned-piece-requires c κs = entry-there _ _ _ _ (c .before .before .before .before .pre)
 
 corner-number-requires : tie.Need-corner-number-requires
-corner-number-requires c κs = range _ _ _ _ (c .before .before .before .before .before .pre) .columns-few
+corner-number-requires c κs = facts _ (c .before .before .before .before .before .pre .well) .fewColumns
 
 move-rows-requires : tie.Need-move-rows-requires
 move-rows-requires c κs =

@@ -5,11 +5,12 @@ use mathlib.Core.Path.{_≡_, sym, ap, ap₂, _∙_}
 use borrow.Author.Tests.{not-true, not-false}
 use Rattle.model.specs.Lent.{Lent, lentBy, lentWell, jobOf}
 use Rattle.model.specs.Calls.{Stores, turnListWrong, storesAfter}
+use Rattle.job_laws.proofs.Checked.{facts}
 use Rattle.strip_store.specs.Made.{Ready}
 use Rattle.stores.specs.Stores.{storesBy, stripsAnswer}
 use Rattle.stores.specs.Rooms.{roomForBoth, hasRoom}
 use Rattle.stores.specs.declared.StripsAnswer.the-variants.{Refused}
-use Rattle.strip_store.proofs.Filling.{count-small, made-ready}
+use Rattle.strip_store.proofs.Filling.{made-ready}
 use Rattle.stores.proofs.Outcomes.{strips-job, strips-turns, strips-short, strips-given}
 use borrow.Author.Needs.{needs}
 use Rattle.stores.proofs.strips.Statement.{statement}
@@ -40,7 +41,7 @@ well : (c : tie.Else1) → lentWell (job (c .before .before .before .before .bef
 well c = sym (c .before .check-job .ensures) ∙ not-false _ (c .if1 .left)
 
 wrong-requires : tie.Need-wrong-requires
-wrong-requires c κs = count-small (job (c .before .before .before .before .before .before)) (well c) .0
+wrong-requires c κs = facts (job (c .before .before .before .before .before .before)) (well c) .entries
 
 refusal-requires-2 : tie.Need-refusal-requires-2
 refusal-requires-2 c κs = search needs

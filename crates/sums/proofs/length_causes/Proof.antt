@@ -9,7 +9,7 @@ use Rattle.model.specs.Layout.{pairs}
 use Rattle.model.specs.Refusal.{unless}
 use Rattle.model.specs.Lent.{Lent, lentBy, lentWell}
 use Rattle.model.specs.Calls.{someWeightWrong}
-use Rattle.sums.proofs.Causes.{few-pieces}
+use Rattle.job_laws.proofs.Checked.{facts}
 use borrow.Author.Needs.{needs}
 use Rattle.sums.proofs.length_causes.Statement.{statement}
 use Rattle.sums.proofs.length_causes.Tie as tie
@@ -45,7 +45,7 @@ pair-count-requires c κs =
     let a = c .before .before .before .before .before .before .args in
     let l : Lent = lentBy (a .size) (a .table .now) (a .pixels .now) in
     let well : lentWell l ≡ true = sym (c .before .before .before .check-job .ensures) ∙ not-false _ (c .before .before .if1 .left) in
-    few-pieces l well
+    facts l well .fewPieces
 
 refusal-requires-3 : tie.Need-refusal-requires-3
 refusal-requires-3 c κs = search needs

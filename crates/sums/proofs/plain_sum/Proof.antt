@@ -3,10 +3,11 @@ use mathlib.Core.Path.{refl, sym, _∙_}
 use Rattle.model.specs.Lent.{Lent, lentBy, jobOf}
 use Rattle.model.specs.Buffer.{layoutOf}
 use Rattle.model.specs.Calls.{layoutCauses, plainSumCall}
+use Rattle.job_laws.proofs.Checked.{facts}
 use Rattle.text_laws.specs.Outcomes.{NoCause}
 use Rattle.text_laws.proofs.Outcomes.{unless-given}
 use Rattle.placing.proofs.Causes.{passed-none, refused-alone}
-use Rattle.sums.proofs.Causes.{layout-laid, few-pieces}
+use Rattle.sums.proofs.Causes.{layout-laid}
 use borrow.Author.Needs.{needs}
 use Rattle.sums.proofs.plain_sum.Statement.{statement}
 use Rattle.sums.proofs.plain_sum.Tie as tie
@@ -35,7 +36,7 @@ plain-total-requires c κs =
     let a = c .before .before .before .before .before .before .args in
     let l : Lent = lentBy (a .size) (a .table .now) (a .pixels .now) in
     let none : NoCause (layoutCauses l (a .layout .now)) = passed-none _ (sym (c .before .before .enum-told .given .1) ∙ c .before .before .before .before .layout-causes .ensures) in
-    (few-pieces l (layout-laid l (a .layout .now) none .well), c .before .penalties-of .ensures .size)
+    (facts l (layout-laid l (a .layout .now) none .well) .fewPieces, c .before .penalties-of .ensures .size)
 
 returns : tie.Need-returns
 unfolding plainSumCall

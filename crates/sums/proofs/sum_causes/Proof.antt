@@ -1,7 +1,7 @@
 -- `sums::sum_causes` meets its contract: the first causes refuse, or the others decide. Assumes nothing.
 use mathlib.Core.Path.{sym, ap, _∙_}
 use Rattle.model.specs.Lent.{Lent, lentBy}
-use Rattle.text_laws.proofs.LentFacts.{facts}
+use Rattle.job_laws.proofs.Checked.{facts}
 use Rattle.text_laws.specs.Outcomes.{NoCause}
 use Rattle.placing.specs.Answers.{causeAnswer}
 use Rattle.placing.proofs.Causes.{passed-none, none-then, refused-then}

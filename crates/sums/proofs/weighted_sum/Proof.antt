@@ -4,11 +4,12 @@ use mathlib.Core.Path.{refl, sym, ap, _∙_}
 use Rattle.model.specs.Lent.{Lent, lentBy, jobOf}
 use Rattle.model.specs.Buffer.{layoutOf}
 use Rattle.model.specs.Calls.{weightedSumCall}
+use Rattle.job_laws.proofs.Checked.{facts}
 use Rattle.text_laws.specs.Outcomes.{NoCause}
 use Rattle.text_laws.proofs.Outcomes.{unless-given}
 use Rattle.placing.proofs.Causes.{passed-none, refused-alone}
 use Rattle.sums.specs.Answers.{sumAnswer, lengthCauses, placeCauses}
-use Rattle.sums.proofs.Causes.{few-pieces, sum-ready}
+use Rattle.sums.proofs.Causes.{sum-ready}
 use borrow.Author.Needs.{needs}
 use Rattle.sums.proofs.weighted_sum.Statement.{statement}
 use Rattle.sums.proofs.weighted_sum.Tie as tie
@@ -38,7 +39,7 @@ total-requires c κs =
     let l : Lent = lentBy (a .size) (a .table .now) (a .pixels .now) in
     let none : NoCause (lengthCauses l (a .layout .now) (a .weights .now) ++ placeCauses l (a .layout .now)) = passed-none _ (sym (c .before .before .enum-told .given .1) ∙ c .before .before .before .before .sum-causes .ensures) in
     let r = sum-ready l (a .layout .now) (a .weights .now) none in
-    record { few = few-pieces l (r .0 .well); size = c .before .penalties-of .ensures .size; onePerPair = r .1 }
+    record { few = facts l (r .0 .well) .fewPieces; size = c .before .penalties-of .ensures .size; onePerPair = r .1 }
 
 returns : tie.Need-returns
 unfolding weightedSumCall

@@ -9,13 +9,12 @@ use Rattle.model.specs.Buffer.{layoutOf}
 use Rattle.model.specs.Search.{Best}
 use Rattle.model.specs.Descent as model
 use Rattle.model.specs.Descent.{trialLine, attempt, moved}
-use Rattle.text_laws.proofs.LentFacts.{facts}
+use Rattle.job_laws.proofs.Checked.{facts}
 use Rattle.descent_laws.proofs.Sums.{piece-at-most}
 use Rattle.descent_laws.proofs.Descent.{zero-quiet}
 use Rattle.search_laws.specs.TrialIndex.{nextTrial}
 use Rattle.search_laws.specs.Loop.{trialSearch}
 use Rattle.search_laws.proofs.Loop.{trialMoved, trial-moved, trial-quiet, trial-sum, trial-place}
-use Rattle.shapes.proofs.Jobs.{sheet}
 use Rattle.trials.specs.Trials.{trialAs}
 use Rattle.trial_step.specs.Steps.{entriesAfter, standingAs}
 use Rattle.trial_step.specs.declared.Standing.{Standing}
@@ -41,14 +40,14 @@ sought e = trialSearch (jobOf (lent e)) (e .args .weights .now) (layoutAt e) (tr
 next-trial-requires : tie.Need-next-trial-requires
 next-trial-requires c κs =
     let e = c .before .before .before .before .before .before .before .before .before .before .before in
-    (e .pre .1 .1 .1 .1 .0 .below, (facts (lent e) (e .pre .0 .well) .entries, sheet (lent e) (e .pre .0 .well) .pieces))
+    (e .pre .1 .1 .1 .1 .0 .below, (facts (lent e) (e .pre .0 .well) .entries, facts (lent e) (e .pre .0 .well) .fewPieces))
 
 row-sum-requires : tie.Need-row-sum-requires
 unfolding jobOf
 row-sum-requires c κs =
     let e = c .before .before .before .before .before .before .before .before .before .before .before .before .before in
     let t = e .pre .1 .1 .0 .table in
-    (record { few = sheet (lent e) (e .pre .0 .well) .pieces; size = t .size; onePerPair = e .pre .1 .0 .onePerPair }, e .pre .1 .1 .1 .1 .0 .below)
+    (record { few = facts (lent e) (e .pre .0 .well) .fewPieces; size = t .size; onePerPair = e .pre .1 .0 .onePerPair }, e .pre .1 .1 .1 .1 .0 .below)
 
 -- the entry, from where the present pair sum is known
 abbrev entry : tie.After-row-sum → tie.Start

@@ -10,9 +10,10 @@ use Rattle.model.specs.Layout.{Layout}
 use Rattle.model.specs.Lent.{Lent, lentBy, jobOf}
 use Rattle.model.specs.Buffer.{layoutOf, entryOf}
 use Rattle.model.specs.Search.{Best, places}
+use Rattle.job_laws.proofs.Checked.{facts}
 use Rattle.search_laws.specs.BoundedSearch.{bestAt}
 use Rattle.search_laws.specs.Table.{PenaltyTable}
-use Rattle.shapes.proofs.Jobs.{sheet, places-few}
+use Rattle.shapes.proofs.Jobs.{places-few}
 use Rattle.trial_step.specs.Steps.{moverSearch, triedAnswer, entriesAfter}
 use Rattle.trial_step.proofs.Moves.{layout-set, found-nothing, found-at, found-there}
 use borrow.Author.Needs.{needs}
@@ -103,7 +104,7 @@ entry-of-requires c κs = search needs
 mul-t32 : tie.Need-mul-t32
 mul-t32 c =
     let e = c .before .before .before .before .before .before .before .before .before .before .before .before .before .before .before .before .before .before .before .before .before .before .before .before .before .before .before .before .before .before .before .before .before .before in
-    let few = sheet (lent e) (e .pre .0 .laid .well) .pieces in
+    let few = facts (lent e) (e .pre .0 .laid .well) .fewPieces in
     let below = e .pre .1 .0 in
     omega arith
 

@@ -6,7 +6,7 @@ use native.Mathlib.Omega.{arith}
 use borrow.Author.Tests.{not-true}
 use Rattle.model.specs.Lent.{lentBy, jobOf}
 use Rattle.model.specs.Buffer.{layoutOf}
-use Rattle.sums.proofs.Causes.{few-pieces}
+use Rattle.job_laws.proofs.Checked.{facts}
 use Rattle.bounded_search.proofs.Readings.{piece-entries, part-most}
 use Rattle.bounded_search.proofs.Summing.{summed-self, sums-to-add, summed-left, summed-unread, summed-added}
 use borrow.Author.Needs.{needs}
@@ -70,7 +70,7 @@ part-any-below-end c =
     let l = lentBy (a .size) (a .table .now) (a .pixels .now) in
     let b = c .before .before .before .beside in
     let r = c .before .before .reach-of in
-    let h = sums-to-add l (a .weights .now) (layoutOf (a .layout .now)) (a .mover) (a .track) (b .result) (a .bound) (a .k) (r .result) (a .sums .now) (e .pre .1 .1 .0) (b .ensures (a .size) (a .pixels .now)) (r .ensures) (e .pre .1 .1 .1 .1) (c .before .if2 .left) (let f = few-pieces l (e .pre .0 .laid .well) in let k = e .pre .1 .1 .1 .0 in omega arith) .within in
+    let h = sums-to-add l (a .weights .now) (layoutOf (a .layout .now)) (a .mover) (a .track) (b .result) (a .bound) (a .k) (r .result) (a .sums .now) (e .pre .1 .1 .0) (b .ensures (a .size) (a .pixels .now)) (r .ensures) (e .pre .1 .1 .1 .1) (c .before .if2 .left) (let f = facts l (e .pre .0 .laid .well) .fewPieces in let k = e .pre .1 .1 .1 .0 in omega arith) .within in
     let o = c .before .if2 .left in
     omega arith
 
@@ -87,7 +87,7 @@ returns-3 c =
     let l = lentBy (a .size) (a .table .now) (a .pixels .now) in
     let b = c .before .before .before .before .before .before .beside in
     let r = c .before .before .before .before .before .reach-of in
-    let h = sums-to-add l (a .weights .now) (layoutOf (a .layout .now)) (a .mover) (a .track) (b .result) (a .bound) (a .k) (r .result) (a .sums .now) (e .pre .1 .1 .0) (b .ensures (a .size) (a .pixels .now)) (r .ensures) (e .pre .1 .1 .1 .1) (c .before .before .before .before .if2 .left) (let f = few-pieces l (e .pre .0 .laid .well) in let k = e .pre .1 .1 .1 .0 in omega arith) .within in
+    let h = sums-to-add l (a .weights .now) (layoutOf (a .layout .now)) (a .mover) (a .track) (b .result) (a .bound) (a .k) (r .result) (a .sums .now) (e .pre .1 .1 .0) (b .ensures (a .size) (a .pixels .now)) (r .ensures) (e .pre .1 .1 .1 .1) (c .before .before .before .before .if2 .left) (let f = facts l (e .pre .0 .laid .well) .fewPieces in let k = e .pre .1 .1 .1 .0 in omega arith) .within in
     (summed-unread l (a .weights .now) (layoutOf (a .layout .now)) (a .mover) (a .track) (b .result) (a .bound) (a .k) (r .result) (a .sums .now) (e .pre .1 .1 .0) (b .ensures (a .size) (a .pixels .now)) (r .ensures) (e .pre .1 .1 .1 .1) (r .result .high - r .result .low) refl h (sym (not-true _ (c .if3 .taken)) ∙ c .before .any-below .ensures), e .pre .0)
 
 add-reached-requires : tie.Need-add-reached-requires
@@ -106,7 +106,7 @@ add-reached-requires c κs =
             b .ensures (a .size) (a .pixels .now),
             (
               e .pre .1 .1 .1 .0,
-              sums-to-add l (a .weights .now) (layoutOf (a .layout .now)) (a .mover) (a .track) (b .result) (a .bound) (a .k) (r .result) (a .sums .now) (e .pre .1 .1 .0) (b .ensures (a .size) (a .pixels .now)) (r .ensures) (e .pre .1 .1 .1 .1) (c .before .before .before .before .before .before .before .if2 .left) (let f = few-pieces l (e .pre .0 .laid .well) in let k = e .pre .1 .1 .1 .0 in omega arith),
+              sums-to-add l (a .weights .now) (layoutOf (a .layout .now)) (a .mover) (a .track) (b .result) (a .bound) (a .k) (r .result) (a .sums .now) (e .pre .1 .1 .0) (b .ensures (a .size) (a .pixels .now)) (r .ensures) (e .pre .1 .1 .1 .1) (c .before .before .before .before .before .before .before .if2 .left) (let f = facts l (e .pre .0 .laid .well) .fewPieces in let k = e .pre .1 .1 .1 .0 in omega arith),
             ),
           ),
         ),

@@ -3,7 +3,7 @@ use native.Mathlib.Omega.{arith}
 use lib.ListN.{length-take, length-drop}
 use Rattle.model.specs.Lent.{lentBy}
 use Rattle.model.specs.Buffer.{layoutOf}
-use Rattle.sums.proofs.Causes.{few-pieces}
+use Rattle.job_laws.proofs.Checked.{facts}
 use Rattle.bounded_search.proofs.Readings.{weight-pairs, weight-small, reach-within, reach-added}
 use borrow.Author.Needs.{needs}
 use Rattle.bounded_search.proofs.others.add_reached.Statement.{statement}
@@ -16,7 +16,7 @@ weight-between-requires c κs =
     let l = lentBy (a .size) (a .table .now) (a .pixels .now) in
     let i = e .pre .1 .1 .0 .piece in
     let k = e .pre .1 .1 .1 .1 .0 in
-    ((few-pieces l (e .pre .0 .laid .well), (omega arith, omega arith)), weight-pairs l (a .weights .now) (e .pre .1 .0))
+    ((facts l (e .pre .0 .laid .well) .fewPieces, (omega arith, omega arith)), weight-pairs l (a .weights .now) (e .pre .1 .0))
 
 cast-weight : tie.Need-cast-weight
 cast-weight c = search needs

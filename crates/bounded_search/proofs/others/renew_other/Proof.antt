@@ -5,9 +5,9 @@ use lib.ListN.{length-set}
 use Rattle.model.specs.Piece.{onLine}
 use Rattle.model.specs.Lent.{lentBy, jobOf}
 use Rattle.model.specs.Buffer.{layoutOf}
+use Rattle.job_laws.proofs.Checked.{facts}
 use Rattle.search_laws.proofs.PieceSum.{penalty-on}
 use Rattle.search_laws.proofs.Table.{renewed-step}
-use Rattle.sums.proofs.Causes.{few-pieces}
 use Rattle.bounded_search.proofs.Renewing.{renewed-own}
 use borrow.Author.Needs.{needs}
 use Rattle.bounded_search.proofs.others.renew_other.Statement.{statement}
@@ -27,7 +27,7 @@ penalty-at-requires c κs = search needs
 mul-penalties : tie.Need-mul-penalties
 mul-penalties c =
     let e = c .before .before .before .before .before .before .before .before .before .before .before .before .before in
-    let few = few-pieces _ (e .pre .0 .laid .well) in
+    let few = facts _ (e .pre .0 .laid .well) .fewPieces in
     let i = e .pre .1 .0 .piece in
     let k = e .pre .1 .1 .0 .0 in
     let size = e .pre .1 .1 .1 .size in
@@ -36,7 +36,7 @@ mul-penalties c =
 add-penalties : tie.Need-add-penalties
 add-penalties c =
     let e = c .before .before .before .before .before .before .before .before .before .before .before .before .before in
-    let few = few-pieces _ (e .pre .0 .laid .well) in
+    let few = facts _ (e .pre .0 .laid .well) .fewPieces in
     let i = e .pre .1 .0 .piece in
     let k = e .pre .1 .1 .0 .0 in
     let size = e .pre .1 .1 .1 .size in
@@ -45,7 +45,7 @@ add-penalties c =
 slice-write-penalties : tie.Need-slice-write-penalties
 slice-write-penalties c =
     let e = c .before .before .before .before .before .before .before .before .before .before .before .before .before in
-    let few = few-pieces _ (e .pre .0 .laid .well) in
+    let few = facts _ (e .pre .0 .laid .well) .fewPieces in
     let i = e .pre .1 .0 .piece in
     let k = e .pre .1 .1 .0 .0 in
     let size = e .pre .1 .1 .1 .size in
@@ -54,7 +54,7 @@ slice-write-penalties c =
 mul-penalties-2 : tie.Need-mul-penalties-2
 mul-penalties-2 c =
     let e = c .before .before .before .before .before .before .before .before .before .before .before .before .before in
-    let few = few-pieces _ (e .pre .0 .laid .well) in
+    let few = facts _ (e .pre .0 .laid .well) .fewPieces in
     let i = e .pre .1 .0 .piece in
     let k = e .pre .1 .1 .0 .0 in
     let size = e .pre .1 .1 .1 .size in
@@ -63,7 +63,7 @@ mul-penalties-2 c =
 add-penalties-2 : tie.Need-add-penalties-2
 add-penalties-2 c =
     let e = c .before .before .before .before .before .before .before .before .before .before .before .before .before in
-    let few = few-pieces _ (e .pre .0 .laid .well) in
+    let few = facts _ (e .pre .0 .laid .well) .fewPieces in
     let i = e .pre .1 .0 .piece in
     let k = e .pre .1 .1 .0 .0 in
     let size = e .pre .1 .1 .1 .size in
@@ -72,7 +72,7 @@ add-penalties-2 c =
 slice-write-penalties-2 : tie.Need-slice-write-penalties-2
 slice-write-penalties-2 c =
     let e = c .before .before .before .before .before .before .before .before .before .before .before .before .before in
-    let few = few-pieces _ (e .pre .0 .laid .well) in
+    let few = facts _ (e .pre .0 .laid .well) .fewPieces in
     let i = e .pre .1 .0 .piece in
     let k = e .pre .1 .1 .0 .0 in
     let size = e .pre .1 .1 .1 .size in
@@ -94,7 +94,7 @@ returns-2 c =
     let j = jobOf (lentBy (a .size) (a .table .now) (a .pixels .now)) in
     let p = onLine (a .mover .line) (a .mover .turn) (a .at) in
     let x = c .before .before .before .before .penalty-at in (
-      renewed-step j (layoutOf (a .layout .now)) (a .size .count) (a .mover .piece) p (a .k) (x .result) (a .penalties .now) (few-pieces _ (e .pre .0 .laid .well)) (e .pre .1 .0 .piece) (e .pre .1 .1 .0 .0)
+      renewed-step j (layoutOf (a .layout .now)) (a .size .count) (a .mover .piece) p (a .k) (x .result) (a .penalties .now) (facts _ (e .pre .0 .laid .well) .fewPieces) (e .pre .1 .0 .piece) (e .pre .1 .1 .0 .0)
           (λ q. c .before .before .before .before .before .before .before .if1 .left (sym q)) (x .ensures .0 ∙ sym (penalty-on j (layoutOf (a .layout .now)) (a .mover .piece) (a .mover .turn) (a .mover .line) (a .at) (a .k))) (e .pre .1 .1 .1),
       x .ensures .1,
     )

@@ -7,8 +7,8 @@ use lib.ListN.{length}
 use Rattle.model.specs.Piece.{lineDirection, onLine}
 use Rattle.model.specs.Lent.{lentBy, jobOf}
 use Rattle.model.specs.Buffer.{layoutOf}
+use Rattle.job_laws.proofs.Checked.{facts}
 use Rattle.search_laws.specs.Table.{Renewed}
-use Rattle.sums.proofs.Causes.{few-pieces}
 use Rattle.bounded_search.specs.Ready.{LinesReady}
 use Rattle.bounded_search.proofs.others.renew_others.Statement.{statement}
 use Rattle.bounded_search.proofs.others.renew_others.Tie as tie
@@ -32,7 +32,7 @@ renew-other-requires c κs =
     (p .inv .5, (e .pre .1 .0, ((c .before .before .before .if1 .taken, e .pre .1 .1 .0), p .inv .4)))
 
 add-k : tie.Need-add-k Inv-loop μ-loop
-add-k c = let t = c .before .before .before .before .before .before .before .before .before .before .if1 .taken in omega (arith, few-pieces _ (c .before .before .before .before .before .before .before .before .before .before .before .before .before .before .before .before .before .before .pre .0 .laid .well))
+add-k c = let t = c .before .before .before .before .before .before .before .before .before .before .if1 .taken in omega (arith, facts _ (c .before .before .before .before .before .before .before .before .before .before .before .before .before .before .before .before .before .before .pre .0 .laid .well) .fewPieces)
 
 loop-less : tie.Need-loop-less Inv-loop μ-loop
 loop-less c = let t = c .before .before .before .before .before .before .before .before .before .before .if1 .taken in omega arith

@@ -7,9 +7,8 @@ use native.Mathlib.Omega.{arith}
 use borrow.Author.Tests.{not-true, not-false, eq-eqb, ne-eqb}
 use borrow.Author.Needs.{needs}
 use Rattle.model.specs.Lent.{lentBy, lentWell}
-use Rattle.text_laws.proofs.LentFacts.{facts}
+use Rattle.job_laws.proofs.Checked.{facts}
 use Rattle.cover.specs.Answers.{firstNumber}
-use Rattle.stamp.proofs.Pieces.{sheet-facts}
 use Rattle.cover.proofs.refusals.buffer_refusal.Tie as tie
 use Rattle.cover.proofs.refusals.buffer_refusal.Statement.{statement}
 
@@ -26,7 +25,7 @@ returns c =
 mul-if2 : tie.Need-mul-if2
 mul-if2 c =
     let well = sym (c .before .before .check-job .ensures) ∙ not-false (c .before .before .check-job .result) (c .before .if1 .left) in
-    let area = sheet-facts _ _ _ (facts _ well .sheet) .area in
+    let area = facts _ well .area in
     omega arith
 
 returns-2 : tie.Need-returns-2

@@ -2,7 +2,7 @@
 use native.Mathlib.Omega.{arith}
 use borrow.Author.Tests.{lt-leb, le-leb}
 use Rattle.fields.proofs.Tests.{said-no, said-yes}
-use Rattle.limits.proofs.Ranges.{few-pieces}
+use Rattle.job_laws.proofs.Ranges.{sheet-few}
 use borrow.Author.Needs.{needs}
 use Rattle.job.proofs.lent.table_well.Statement.{statement}
 use Rattle.job.proofs.lent.table_well.Tie as tie
@@ -37,7 +37,7 @@ returns-4 c =
 pixel-start-requires : tie.Need-pixel-start-requires
 pixel-start-requires c κs =
     let size = c .before .before .before .before .before .before .before .args .size in
-    let few = few-pieces (size .rows) (size .columns) (size .count) (said-yes (c .before .before .before .before .before .before .sheet-in-range .ensures) (c .before .before .before .before .before .if1 .left)) in
+    let few = sheet-few (size .rows) (size .columns) (size .count) (said-yes (c .before .before .before .before .before .before .sheet-in-range .ensures) (c .before .before .before .before .before .if1 .left)) in
     omega arith
 
 returns-5 : tie.Need-returns-5

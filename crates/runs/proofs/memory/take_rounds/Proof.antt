@@ -6,7 +6,7 @@ use native.Mathlib.Omega.{arith}
 use lib.ListN.{length, take, replicate, length-replicate, length-append}
 use lib.Seq.{length-take-le, take-at}
 use Rattle.model.specs.Lent.{Lent, lentBy, pieceBound}
-use Rattle.shapes.proofs.Jobs.{sheet}
+use Rattle.job_laws.proofs.Checked.{facts}
 use Rattle.trial_step.specs.Ready.{LaidOut}
 use Rattle.rounds.specs.Rounds.{Ran}
 use Rattle.runs.proofs.Givens.{given-length}
@@ -20,7 +20,7 @@ job s = lentBy (s .args .size) (s .args .table .now) (s .args .pixels .now)
 
 -- it has at most 64 pieces
 few : (s : tie.Start) → s .args .size .count ≤ pieceBound
-few s = sheet (job s) (s .pre .0 .well) .pieces
+few s = facts (job s) (s .pre .0 .well) .fewPieces
 
 -- the layout has an entry for each
 whole : (s : tie.Start) → length (s .args .layout .now) ≡ s .args .size .count

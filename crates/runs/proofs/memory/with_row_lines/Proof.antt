@@ -2,7 +2,7 @@
 use mathlib.Core.Path.{sym}
 use Rattle.model.specs.Lent.{Lent, lentBy, jobOf}
 use Rattle.model.specs.declared.Direction.the-variants.{Horizontal}
-use Rattle.text_laws.proofs.LentFacts.{facts}
+use Rattle.job_laws.proofs.Checked.{facts}
 use Rattle.runs.proofs.Fresh.{tags-lent, store-fresh}
 use borrow.Author.Needs.{needs}
 use Rattle.runs.proofs.memory.with_row_lines.Statement.{statement}

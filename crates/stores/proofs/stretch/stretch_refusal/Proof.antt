@@ -4,8 +4,9 @@ use mathlib.Core.Path.{_≡_, sym, ap, _∙_}
 use borrow.Author.Tests.{not-true, not-false}
 use Rattle.model.specs.Lent.{Lent, lentBy, lentWell, jobOf}
 use Rattle.model.specs.Calls.{Stores, turnListWrong, stretchNumber}
+use Rattle.job_laws.proofs.Checked.{facts}
 use Rattle.stores.specs.Stores.{storesBy}
-use Rattle.strip_store.proofs.Filling.{count-small, made-ready}
+use Rattle.strip_store.proofs.Filling.{made-ready}
 use Rattle.stores.proofs.Outcomes.{stretch-job, stretch-turns, stretch-piece, stretch-store, stretch-given}
 use borrow.Author.Needs.{needs}
 use Rattle.stores.proofs.stretch.stretch_refusal.Statement.{statement}
@@ -32,7 +33,7 @@ well : (c : tie.Else1) → lentWell (job (c .before .before .before .before .bef
 well c = sym (c .before .check-job .ensures) ∙ not-false _ (c .if1 .left)
 
 wrong-requires : tie.Need-wrong-requires
-wrong-requires c κs = count-small (job (c .before .before .before .before .before .before)) (well c) .0
+wrong-requires c κs = facts (job (c .before .before .before .before .before .before)) (well c) .entries
 
 returns-2 : tie.Need-returns-2
 returns-2 c =

@@ -4,8 +4,9 @@ use native.Mathlib.Omega.{arith}
 use mathlib.Core.Path.{sym, _∙_}
 use borrow.Author.Tests.{not-true, not-false}
 use Rattle.model.specs.Lent.{lentBy, jobOf}
+use Rattle.job_laws.proofs.Checked.{facts}
 use Rattle.strips.proofs.Jobs.{entry-at}
-use Rattle.strip_store.proofs.Filling.{count-small, store-small}
+use Rattle.strip_store.proofs.Filling.{store-small}
 use Rattle.strip_store.proofs.Checking.{Checking, check-start, check-start-wrong, check-unlike, check-step, check-end, until-from, unlike-from, stretch-compared}
 use borrow.Author.Needs.{needs}
 use Rattle.strip_store.proofs.compare.same_store.Statement.{statement}
@@ -32,7 +33,9 @@ pixel-start-requires : tie.Need-pixel-start-requires Inv-loop μ-loop
 pixel-start-requires c κs =
     let a = c .before .before .before .before .before .before .before .before .args in
     let r = c .before .before .before .before .before .before .before .before .pre in
-    let n = count-small (lentBy (a .size) (a .table .now) (a .pixels .now)) (r .well) in
+    let f = facts (lentBy (a .size) (a .table .now) (a .pixels .now)) (r .well) in
+    let n = f .entries in
+    let m = f .fewPieces in
     let t = c .before .before .if1 .taken in
     omega arith
 
@@ -40,7 +43,9 @@ mul-turn-or-zero : tie.Need-mul-turn-or-zero Inv-loop μ-loop
 mul-turn-or-zero c =
     let a = c .before .before .before .before .before .before .before .before .before .args in
     let r = c .before .before .before .before .before .before .before .before .before .pre in
-    let n = count-small (lentBy (a .size) (a .table .now) (a .pixels .now)) (r .well) in
+    let f = facts (lentBy (a .size) (a .table .now) (a .pixels .now)) (r .well) in
+    let n = f .entries in
+    let m = f .fewPieces in
     let t = c .before .before .before .if1 .taken in
     omega arith
 
@@ -75,7 +80,9 @@ add-i : tie.Need-add-i Inv-loop μ-loop
 add-i c =
     let a = c .before .before .before .before .before .before .before .before .before .before .before .before .before .before .before .args in
     let r = c .before .before .before .before .before .before .before .before .before .before .before .before .before .before .before .pre in
-    let n = count-small (lentBy (a .size) (a .table .now) (a .pixels .now)) (r .well) in
+    let f = facts (lentBy (a .size) (a .table .now) (a .pixels .now)) (r .well) in
+    let n = f .entries in
+    let m = f .fewPieces in
     let t = c .before .before .before .before .before .before .before .before .before .if1 .taken in
     omega arith
 

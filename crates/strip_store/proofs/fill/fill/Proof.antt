@@ -4,8 +4,9 @@ use Prim.Native.Nat.{_-_, _≤_}
 use native.Mathlib.Omega.{arith}
 use mathlib.Core.Path.{_∙_}
 use Rattle.model.specs.Lent.{lentBy, jobOf}
+use Rattle.job_laws.proofs.Checked.{facts}
 use Rattle.strips.proofs.Jobs.{entry-at}
-use Rattle.strip_store.proofs.Filling.{Filling, fill-start, fill-step, fill-end, fill-lengths, count-small, store-small, appended-piece}
+use Rattle.strip_store.proofs.Filling.{Filling, fill-start, fill-step, fill-end, fill-lengths, store-small, appended-piece}
 use borrow.Author.Needs.{needs}
 use Rattle.strip_store.proofs.fill.fill.Statement.{statement}
 use Rattle.strip_store.proofs.fill.fill.Tie as tie
@@ -34,7 +35,9 @@ pixel-start-requires : tie.Need-pixel-start-requires Inv-loop μ-loop
 pixel-start-requires c κs =
     let a = c .before .before .before .before .before .before .before .before .before .before .args in
     let r = c .before .before .before .before .before .before .before .before .before .before .pre in
-    let n = count-small (lentBy (a .size) (a .table .now) (a .pixels .now)) (r .well) in
+    let f = facts (lentBy (a .size) (a .table .now) (a .pixels .now)) (r .well) in
+    let n = f .entries in
+    let m = f .fewPieces in
     let t = c .before .before .before .before .if1 .taken in
     omega arith
 
@@ -42,7 +45,9 @@ mul-turn-or-zero : tie.Need-mul-turn-or-zero Inv-loop μ-loop
 mul-turn-or-zero c =
     let a = c .before .before .before .before .before .before .before .before .before .before .before .args in
     let r = c .before .before .before .before .before .before .before .before .before .before .before .pre in
-    let n = count-small (lentBy (a .size) (a .table .now) (a .pixels .now)) (r .well) in
+    let f = facts (lentBy (a .size) (a .table .now) (a .pixels .now)) (r .well) in
+    let n = f .entries in
+    let m = f .fewPieces in
     let t = c .before .before .before .before .before .if1 .taken in
     omega arith
 
@@ -65,7 +70,9 @@ add-i : tie.Need-add-i Inv-loop μ-loop
 add-i c =
     let a = c .before .before .before .before .before .before .before .before .before .before .before .before .before .before .before .before .args in
     let r = c .before .before .before .before .before .before .before .before .before .before .before .before .before .before .before .before .pre in
-    let n = count-small (lentBy (a .size) (a .table .now) (a .pixels .now)) (r .well) in
+    let f = facts (lentBy (a .size) (a .table .now) (a .pixels .now)) (r .well) in
+    let n = f .entries in
+    let m = f .fewPieces in
     let t = c .before .before .before .before .before .before .before .before .before .before .if1 .taken in
     omega arith
 
