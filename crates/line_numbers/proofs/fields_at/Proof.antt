@@ -85,7 +85,7 @@ loop-again c =
     let below : l .k < a .count = c .before .before .before .before .before .loop-test .taken in
     let room : l .k < length (l .numbers) = omega arith in (
       omega arith,
-      length-set (l .numbers) (l .k) v ∙ l .inv .1,
+      length-set (l .numbers) (l .k) _ ∙ l .inv .1,
       (λ h. i),
       read-more text (l .numbers) (l .next) (l .k) (a .count) end below (c .before .before .before .before .end-byte .ensures .0) v q room e ∙ l .inv .3,
     )
