@@ -1,10 +1,10 @@
 // The job line and the piece lines: document 01, 'Job text' and 'When a call says no', reading a job. A line's form comes before its
 // ranges.
-use limits::numbers_in_range;
-use limits::sides_in_range;
-use line_numbers::LineForm;
-use line_numbers::line_at;
+use job_limits::numbers_in_range;
+use job_limits::sides_in_range;
 use model::Refusal;
+use text_numbers::LineForm;
+use text_numbers::line_at;
 ghost use mathlib.Core.Path.{_≡_};
 ghost use Prim.Native.Nat.{_+_, _*_, _<_, _≤_, _^_};
 ghost use lib.ListN.{length};

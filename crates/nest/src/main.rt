@@ -1,5 +1,5 @@
 // The program: standard input in, what document 01 says of it out. What is printed is decided and proved in `program`.
-use layout_writer::TextAnswer;
+use layout_write_calls::TextAnswer;
 use libc::STDERR_FILENO;
 use libc::STDIN_FILENO;
 use libc::STDOUT_FILENO;
@@ -7,11 +7,11 @@ use libc::STDOUT_FILENO;
 // One byte above those that an input may have tells that it is too long. A read that fails counts as the end of the input; a job
 // that has lost its end is refused. A program has no exit status of its own, so that a write that fails is told on standard error.
 fn main() {
-    let mut input = [0u8; program::INPUT_BOUND + 1];
+    let mut input = [0u8; program_calls::INPUT_BOUND + 1];
     let read = io::read_full(STDIN_FILENO, &mut input);
     let mut output = [0u8; 4096];
     // No output has more bytes than this buffer, so that it is not refused.
-    let TextAnswer::Written(count) = program::print_run(&input[..read], &mut output) else {
+    let TextAnswer::Written(count) = program_calls::print_run(&input[..read], &mut output) else {
         return;
     };
     if !io::write_all(STDOUT_FILENO, &output[..count]) {

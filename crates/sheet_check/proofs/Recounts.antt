@@ -24,7 +24,7 @@ use Rattle.model.proofs.Sums.{passing-bound}
 use Rattle.cover_laws.proofs.Calls.{length-mapFrom, getD-mapFrom}
 use Rattle.cover_laws.proofs.Counts.{LaidWell}
 use Rattle.cover_laws.proofs.Reached.{entry-sound}
-use Rattle.stamp.specs.Stamp.{moved, movedBy}
+use Rattle.sheet_counts.specs.Stamp.{moved, movedBy}
 use Rattle.sheet_check.specs.Counted.{addedEntry, Recounted}
 
 -- ── one count ──

@@ -10,7 +10,7 @@ use Rattle.model.specs.Layout.{Job}
 use Rattle.model.specs.Lent.{Lent, jobOf, lentWell, pieceBound}
 use Rattle.model.specs.Cover.{mapFrom, laidOn, laidCount, entryWell}
 use Rattle.model.specs.declared.Entry.{Entry}
-use Rattle.stamp.specs.Stamp.{moved}
+use Rattle.sheet_counts.specs.Stamp.{moved}
 
 -- the counts of a record may be made anew: the job is well, every entry is, and there is a count for each pixel
 pub record CanCount (l : Lent) (es : List Entry) (room : ℕ) : Type 0 where

@@ -33,7 +33,7 @@ fn is_blank(entry: Entry) -> bool
     }
     let place = entry.place;
     let turn = place.turn;
-    if placing::degrees_of(turn) != 0 {
+    if layout_places::degrees_of(turn) != 0 {
         return false;
     }
     if place.x.0 != 0 {
@@ -50,7 +50,7 @@ pub fn known(size: JobSize, table: &[[u8; 3]], i: usize, turn: Turn) -> bool
     if size.count <= i {
         return false;
     }
-    placing::allows(table[i][2], turn)
+    layout_places::allows(table[i][2], turn)
 }
 
 // The entry of piece i is blank, or that of a piece of the job laid inside in an allowed turn.
@@ -70,7 +70,7 @@ fn entry_well(size: JobSize, table: &[[u8; 3]], sheet: Record, i: usize) -> bool
     if !known(size, table, i, turn) {
         return false;
     }
-    placing::inside(size, table, i, place)
+    layout_places::inside(size, table, i, place)
 }
 
 // Every entry is well.
@@ -105,7 +105,7 @@ fn add_entry(
         return;
     }
     let place = entry.place;
-    stamp::move_piece(size, table, pixels, i, place, true, made);
+    sheet_counts::move_piece(size, table, pixels, i, place, true, made);
 }
 
 // The counts that the laid pieces make.
@@ -113,7 +113,7 @@ fn recount(size: JobSize, table: &[[u8; 3]], pixels: &[u8], sheet: Record, made:
     requires { ⌜ CanCount (lentBy size (now table) (now pixels)) (sheet .pieces) (length (now made)) ⌝ }
     ensures { λ _. ⌜ Recounted (jobOf (lentBy size (now (table .entry)) (now (pixels .entry)))) (sheet .pieces) (now (made .exit)) ⌝ }
 {
-    stamp::clear(made);
+    sheet_counts::clear(made);
     let count = size.count;
     let mut piece = 0;
     while piece < count {

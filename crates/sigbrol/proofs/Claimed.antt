@@ -14,8 +14,8 @@ use Rattle.model.specs.declared.End.the-variants.{Clear, Settled, Spent}
 use Rattle.model.specs.declared.Refusal.{Refusal}
 use Rattle.model.specs.Buffer.{endNumber}
 use Rattle.descent_laws.specs.Claims.{DescentClaims}
-use Rattle.descend.specs.Descents.{descentOf}
-use Rattle.descend.specs.declared.Ended.{Ended}
+use Rattle.run_descent.specs.Descents.{descentOf}
+use Rattle.run_descent.specs.declared.Ended.{Ended}
 use Rattle.sigbrol.specs.Runs.{endTold, descentTold}
 use Rattle.sigbrol.proofs.Told.{refused-numbered}
 

@@ -7,11 +7,11 @@ use Rattle.model.specs.Cover.{Sheet}
 use Rattle.model.specs.Refusal.{Outcome, refused, given}
 use Rattle.model.specs.declared.Record.{Record}
 use Rattle.model.specs.declared.Refusal.{Refusal}
-use Rattle.cover.specs.Answers.{sheetAnswer}
-use Rattle.cover.specs.declared.Reply.the-variants.{Given, Refused}
-use Rattle.cover.specs.declared.SheetAnswer.{SheetAnswer}
-use Rattle.interface.specs.Records.{recordNumbers, recordAfter}
-use Rattle.interface.specs.Replies.{done, refusedBy, replyTo}
+use Rattle.sheet_calls.specs.Answers.{sheetAnswer}
+use Rattle.sheet_calls.specs.declared.Reply.the-variants.{Given, Refused}
+use Rattle.sheet_calls.specs.declared.SheetAnswer.{SheetAnswer}
+use Rattle.c_interface.specs.Records.{recordNumbers, recordAfter}
+use Rattle.c_interface.specs.Replies.{done, refusedBy, replyTo}
 
 -- a call that is taken up: done, and the record is the sheet's
 pub taken-up : (before : Record) (o : Outcome Sheet) (a : SheetAnswer) (es : List (List ℕ)) → a ≡ sheetAnswer before o → a .reply ≡ Given

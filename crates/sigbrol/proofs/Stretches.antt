@@ -8,7 +8,7 @@ use Rattle.model.specs.Lent.{Lent}
 use Rattle.model.specs.Calls.{Stores, leaving, stretchCall, stretchGiven, stretchNumber}
 use Rattle.model.specs.declared.Direction.{Direction}
 use Rattle.call_laws.proofs.Stores.{stretch-tells}
-use Rattle.stores.proofs.Outcomes.{Passed, stretch-passed}
+use Rattle.strip_calls.proofs.Outcomes.{Passed, stretch-passed}
 use Rattle.sigbrol.specs.Places.{stretchStart}
 
 -- what is not empty has no number

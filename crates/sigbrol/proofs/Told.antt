@@ -18,37 +18,37 @@ use Rattle.model.specs.Descent.{Descent}
 use Rattle.model.specs.Guided.{Guided}
 use Rattle.model.specs.Layout.{Layout}
 use Rattle.model.specs.Search.{Best}
-use Rattle.placing.specs.Answers.{lengthAnswer}
-use Rattle.placing.specs.declared.LengthAnswer.{LengthAnswer}
-use Rattle.start_layout.specs.Answers.{startAnswer}
-use Rattle.start_layout.specs.declared.StartAnswer.{StartAnswer}
-use Rattle.sums.specs.Answers.{checkAnswer, sumAnswer}
-use Rattle.sums.specs.declared.CheckAnswer.{CheckAnswer}
-use Rattle.sums.specs.declared.SumAnswer.{SumAnswer}
-use Rattle.layout_writer.specs.Answers.{textAnswer}
-use Rattle.layout_writer.specs.declared.TextAnswer.{TextAnswer}
-use Rattle.layout_reader.specs.Answers.{layoutAnswer}
-use Rattle.layout_reader.specs.declared.LayoutAnswer.{LayoutAnswer}
-use Rattle.search.specs.Answers.{searchAnswer}
-use Rattle.search.specs.declared.SearchAnswer.{SearchAnswer}
-use Rattle.descent.specs.Answers.{descentAnswer, endedOf}
-use Rattle.descent.specs.declared.DescentAnswer.{DescentAnswer}
-use Rattle.descend.specs.declared.Ended.{Ended}
-use Rattle.guided.specs.Answers.{guidedAnswer}
-use Rattle.guided.specs.declared.GuidedAnswer.{GuidedAnswer}
-use Rattle.guided.specs.declared.Run.{Run}
-use Rattle.interface.specs.Replies.{replyTo}
-use Rattle.job_text.specs.Reading.{readAnswer}
-use Rattle.job_text.specs.declared.JobAnswer.{JobAnswer}
-use Rattle.stores.specs.Stores.{stripsAnswer}
-use Rattle.stores.specs.declared.StripsAnswer.{StripsAnswer}
-use Rattle.rebuild.specs.Answer.{rebuildAnswer}
-use Rattle.rebuild.specs.declared.RebuildAnswer.{RebuildAnswer}
-use Rattle.nofit_calls.specs.Lines.{runsAnswer}
-use Rattle.nofit_calls.specs.declared.RunsAnswer.{RunsAnswer}
-use Rattle.pairs.specs.Answers.{shareAnswer, amountAnswer}
-use Rattle.pairs.specs.declared.ShareAnswer.{ShareAnswer}
-use Rattle.pairs.specs.declared.AmountAnswer.{AmountAnswer}
+use Rattle.layout_places.specs.Answers.{lengthAnswer}
+use Rattle.layout_places.specs.declared.LengthAnswer.{LengthAnswer}
+use Rattle.layout_start_calls.specs.Answers.{startAnswer}
+use Rattle.layout_start_calls.specs.declared.StartAnswer.{StartAnswer}
+use Rattle.layout_sum_calls.specs.Answers.{checkAnswer, sumAnswer}
+use Rattle.layout_sum_calls.specs.declared.CheckAnswer.{CheckAnswer}
+use Rattle.layout_sum_calls.specs.declared.SumAnswer.{SumAnswer}
+use Rattle.layout_write_calls.specs.Answers.{textAnswer}
+use Rattle.layout_write_calls.specs.declared.TextAnswer.{TextAnswer}
+use Rattle.layout_read_calls.specs.Answers.{layoutAnswer}
+use Rattle.layout_read_calls.specs.declared.LayoutAnswer.{LayoutAnswer}
+use Rattle.search_calls.specs.Answers.{searchAnswer}
+use Rattle.search_calls.specs.declared.SearchAnswer.{SearchAnswer}
+use Rattle.run_descent_calls.specs.Answers.{descentAnswer, endedOf}
+use Rattle.run_descent_calls.specs.declared.DescentAnswer.{DescentAnswer}
+use Rattle.run_descent.specs.declared.Ended.{Ended}
+use Rattle.run_guided_calls.specs.Answers.{guidedAnswer}
+use Rattle.run_guided_calls.specs.declared.GuidedAnswer.{GuidedAnswer}
+use Rattle.run_guided_calls.specs.declared.Run.{Run}
+use Rattle.c_interface.specs.Replies.{replyTo}
+use Rattle.job_calls.specs.Reading.{readAnswer}
+use Rattle.job_calls.specs.declared.JobAnswer.{JobAnswer}
+use Rattle.strip_calls.specs.Stores.{stripsAnswer}
+use Rattle.strip_calls.specs.declared.StripsAnswer.{StripsAnswer}
+use Rattle.strip_rebuild_calls.specs.Answer.{rebuildAnswer}
+use Rattle.strip_rebuild_calls.specs.declared.RebuildAnswer.{RebuildAnswer}
+use Rattle.pair_nofit_calls.specs.Lines.{runsAnswer}
+use Rattle.pair_nofit_calls.specs.declared.RunsAnswer.{RunsAnswer}
+use Rattle.pair_calls.specs.Answers.{shareAnswer, amountAnswer}
+use Rattle.pair_calls.specs.declared.ShareAnswer.{ShareAnswer}
+use Rattle.pair_calls.specs.declared.AmountAnswer.{AmountAnswer}
 
 -- an outcome of which a part is told
 abbrev pub telling : {A B : Type 0} → (A → B) → Outcome A → Outcome B

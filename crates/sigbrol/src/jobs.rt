@@ -1,13 +1,13 @@
 // Reading a job.
-use interface::Reply;
-use interface::done;
-use interface::refused;
-use job_text::JobAnswer;
+use c_interface::Reply;
+use c_interface::done;
+use c_interface::refused;
+use job_calls::JobAnswer;
 ghost use mathlib.Core.Path.{_≡_};
 ghost use lib.ListN.{length};
 ghost use Rattle.model.specs.JobText.{readJob};
 ghost use Rattle.model.specs.Calls.{leaving, tableAfter, storeAfter};
-ghost use Rattle.interface.specs.Replies.{replyTo};
+ghost use Rattle.c_interface.specs.Replies.{replyTo};
 
 // Reads a job text: the numbers, the table and the pixels are filled.
 #[no_mangle]
@@ -26,7 +26,7 @@ pub extern "C" fn sigbrol_read_job(
     ensures columns { λ r. ⌜ now (columns .exit) ≡ leaving (λ a. a .columns) (now (columns .entry)) (readJob (now (text .entry)) (length (now (table .entry))) (length (now (pixels .entry)))) ⌝ }
     ensures count { λ r. ⌜ now (count .exit) ≡ leaving (λ a. a .count) (now (count .entry)) (readJob (now (text .entry)) (length (now (table .entry))) (length (now (pixels .entry)))) ⌝ }
 {
-    match job_text::read_job(text, table, pixels) {
+    match job_calls::read_job(text, table, pixels) {
         JobAnswer::Read(size) => {
             *rows = size.rows;
             *columns = size.columns;

@@ -1,17 +1,17 @@
 // A layout: its sums, its used length, its check, and the start layout.
-use interface::Reply;
-use interface::done;
-use interface::refused;
-use interface::size_of;
-use placing::LengthAnswer;
-use start_layout::StartAnswer;
-use sums::CheckAnswer;
-use sums::SumAnswer;
+use c_interface::Reply;
+use c_interface::done;
+use c_interface::refused;
+use c_interface::size_of;
+use layout_places::LengthAnswer;
+use layout_start_calls::StartAnswer;
+use layout_sum_calls::CheckAnswer;
+use layout_sum_calls::SumAnswer;
 ghost use mathlib.Core.Path.{_≡_};
 ghost use lib.ListN.{length};
 ghost use Rattle.model.specs.Calls.{leaving, layoutAfter, weightedSumCall, plainSumCall, usedLengthCall, checkCall, startCall};
-ghost use Rattle.interface.specs.Numbers.{lentAs};
-ghost use Rattle.interface.specs.Replies.{replyTo};
+ghost use Rattle.c_interface.specs.Numbers.{lentAs};
+ghost use Rattle.c_interface.specs.Replies.{replyTo};
 
 // The weighted sum of a layout.
 #[no_mangle]
@@ -28,7 +28,7 @@ pub extern "C" fn sigbrol_weighted_sum(
     ensures answer { λ r. ⌜ r ≡ replyTo (weightedSumCall (lentAs rows columns count (now (table .entry)) (now (pixels .entry))) (now (layout .entry)) (now (weights .entry))) ⌝ }
     ensures sum { λ r. ⌜ now (sum .exit) ≡ leaving (λ a. a) (now (sum .entry)) (weightedSumCall (lentAs rows columns count (now (table .entry)) (now (pixels .entry))) (now (layout .entry)) (now (weights .entry))) ⌝ }
 {
-    match sums::weighted_sum(
+    match layout_sum_calls::weighted_sum(
         size_of(rows, columns, count),
         table,
         pixels,
@@ -57,7 +57,7 @@ pub extern "C" fn sigbrol_plain_sum(
     ensures answer { λ r. ⌜ r ≡ replyTo (plainSumCall (lentAs rows columns count (now (table .entry)) (now (pixels .entry))) (now (layout .entry))) ⌝ }
     ensures sum { λ r. ⌜ now (sum .exit) ≡ leaving (λ a. a) (now (sum .entry)) (plainSumCall (lentAs rows columns count (now (table .entry)) (now (pixels .entry))) (now (layout .entry))) ⌝ }
 {
-    match sums::plain_sum(size_of(rows, columns, count), table, pixels, layout) {
+    match layout_sum_calls::plain_sum(size_of(rows, columns, count), table, pixels, layout) {
         SumAnswer::Sum(total) => {
             *sum = total;
             done()
@@ -80,7 +80,7 @@ pub extern "C" fn sigbrol_used_length(
     ensures answer { λ r. ⌜ r ≡ replyTo (usedLengthCall (lentAs rows columns count (now (table .entry)) (now (pixels .entry))) (now (layout .entry))) ⌝ }
     ensures used { λ r. ⌜ now (used .exit) ≡ leaving (λ a. a) (now (used .entry)) (usedLengthCall (lentAs rows columns count (now (table .entry)) (now (pixels .entry))) (now (layout .entry))) ⌝ }
 {
-    match placing::used_length(size_of(rows, columns, count), table, pixels, layout) {
+    match layout_places::used_length(size_of(rows, columns, count), table, pixels, layout) {
         LengthAnswer::Length(length) => {
             *used = length;
             done()
@@ -101,7 +101,7 @@ pub extern "C" fn sigbrol_check(
 ) -> Reply
     ensures answer { λ r. ⌜ r ≡ replyTo (checkCall (lentAs rows columns count (now (table .entry)) (now (pixels .entry))) (now (layout .entry))) ⌝ }
 {
-    match sums::check(size_of(rows, columns, count), table, pixels, layout) {
+    match layout_sum_calls::check(size_of(rows, columns, count), table, pixels, layout) {
         CheckAnswer::Passes => done(),
         CheckAnswer::Refused(refusal) => refused(refusal),
     }
@@ -120,7 +120,7 @@ pub extern "C" fn sigbrol_start(
     ensures answer { λ r. ⌜ r ≡ replyTo (startCall (lentAs rows columns count (now (table .entry)) (now (pixels .entry))) (length (now (layout .entry)))) ⌝ }
     ensures memory { λ r. ⌜ now (layout .exit) ≡ layoutAfter (now (layout .entry)) (startCall (lentAs rows columns count (now (table .entry)) (now (pixels .entry))) (length (now (layout .entry)))) ⌝ }
 {
-    match start_layout::start(size_of(rows, columns, count), table, pixels, layout) {
+    match layout_start_calls::start(size_of(rows, columns, count), table, pixels, layout) {
         StartAnswer::Laid => done(),
         StartAnswer::Refused(refusal) => refused(refusal),
     }

@@ -1,21 +1,21 @@
 // No-fit rows and columns of two pieces.
-use interface::Reply;
-use interface::done;
-use interface::piece_with_turn;
-use interface::refused;
-use interface::size_of;
+use c_interface::Reply;
+use c_interface::done;
+use c_interface::piece_with_turn;
+use c_interface::refused;
+use c_interface::size_of;
+use layout_places::turn_or_zero;
 use model::ColumnOffset;
 use model::RowOffset;
-use nofit_calls::RunsAnswer;
-use placing::turn_or_zero;
+use pair_nofit_calls::RunsAnswer;
 ghost use mathlib.Core.Path.{_≡_};
 ghost use lib.ListN.{length};
 ghost use Rattle.model.specs.Buffer.{turnOf};
 ghost use Rattle.model.specs.Calls.{leaving, noFitCall, runsAfter};
 ghost use Rattle.model.specs.declared.Direction.the-variants.{Horizontal, Vertical};
-ghost use Rattle.nofit_calls.specs.Lines.{lentStretch};
-ghost use Rattle.interface.specs.Numbers.{lentAs, pieceWithTurn};
-ghost use Rattle.interface.specs.Replies.{replyTo};
+ghost use Rattle.pair_nofit_calls.specs.Lines.{lentStretch};
+ghost use Rattle.c_interface.specs.Numbers.{lentAs, pieceWithTurn};
+ghost use Rattle.c_interface.specs.Replies.{replyTo};
 
 // The no-fit row of two pieces at a row offset: the column offsets at which they share a pixel.
 #[no_mangle]
@@ -40,7 +40,7 @@ pub extern "C" fn sigbrol_no_fit_row(
     ensures counted { λ r. ⌜ now («runs_count» .exit) ≡ leaving (λ a. length a) (now («runs_count» .entry)) (noFitCall Horizontal (lentAs rows columns count (now (table .entry)) (now (pixels .entry))) (lentStretch (pieceWithTurn «i_turn» i) (turnOf «i_turn») (now («i_strips» .entry))) (lentStretch (pieceWithTurn «k_turn» k) (turnOf «k_turn») (now («k_strips» .entry))) offset (length (now (runs .entry)))) ⌝ }
 {
     let size = size_of(rows, columns, count);
-    match nofit_calls::no_fit_row(
+    match pair_nofit_calls::no_fit_row(
         size,
         table,
         pixels,
@@ -84,7 +84,7 @@ pub extern "C" fn sigbrol_no_fit_column(
     ensures counted { λ r. ⌜ now («runs_count» .exit) ≡ leaving (λ a. length a) (now («runs_count» .entry)) (noFitCall Vertical (lentAs rows columns count (now (table .entry)) (now (pixels .entry))) (lentStretch (pieceWithTurn «i_turn» i) (turnOf «i_turn») (now («i_strips» .entry))) (lentStretch (pieceWithTurn «k_turn» k) (turnOf «k_turn») (now («k_strips» .entry))) offset (length (now (runs .entry)))) ⌝ }
 {
     let size = size_of(rows, columns, count);
-    match nofit_calls::no_fit_column(
+    match pair_nofit_calls::no_fit_column(
         size,
         table,
         pixels,

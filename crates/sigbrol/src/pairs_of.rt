@@ -1,16 +1,16 @@
 // Two pieces of a layout.
-use interface::Reply;
-use interface::direction_of;
-use interface::done;
-use interface::refused;
-use interface::size_of;
-use pairs::AmountAnswer;
-use pairs::ShareAnswer;
+use c_interface::Reply;
+use c_interface::direction_of;
+use c_interface::done;
+use c_interface::refused;
+use c_interface::size_of;
+use pair_calls::AmountAnswer;
+use pair_calls::ShareAnswer;
 ghost use mathlib.Core.Path.{_≡_};
 ghost use Rattle.model.specs.Bounded.{one-if};
 ghost use Rattle.model.specs.Calls.{leaving, shareCall, depthCall, penaltyCall};
-ghost use Rattle.interface.specs.Numbers.{lentAs, directionOf};
-ghost use Rattle.interface.specs.Replies.{replyTo};
+ghost use Rattle.c_interface.specs.Numbers.{lentAs, directionOf};
+ghost use Rattle.c_interface.specs.Replies.{replyTo};
 
 // 1 for yes, 0 for no.
 fn bit_of(yes: bool) -> u8
@@ -35,7 +35,7 @@ pub extern "C" fn sigbrol_shares_pixel(
     ensures answer { λ r. ⌜ r ≡ replyTo (shareCall (lentAs rows columns count (now (table .entry)) (now (pixels .entry))) (now (layout .entry)) i k) ⌝ }
     ensures shares { λ r. ⌜ now (shares .exit) ≡ leaving (λ a. one-if a) (now (shares .entry)) (shareCall (lentAs rows columns count (now (table .entry)) (now (pixels .entry))) (now (layout .entry)) i k) ⌝ }
 {
-    match pairs::shares_pixel(size_of(rows, columns, count), table, pixels, layout, i, k) {
+    match pair_calls::shares_pixel(size_of(rows, columns, count), table, pixels, layout, i, k) {
         ShareAnswer::Shares(yes) => {
             *shares = bit_of(yes);
             done()
@@ -62,7 +62,7 @@ pub extern "C" fn sigbrol_depth(
     ensures depth { λ r. ⌜ now (depth .exit) ≡ leaving (λ a. a) (now (depth .entry)) (depthCall (directionOf vertical) (lentAs rows columns count (now (table .entry)) (now (pixels .entry))) (now (layout .entry)) i k) ⌝ }
 {
     let size = size_of(rows, columns, count);
-    match pairs::depth(size, table, pixels, layout, i, k, direction_of(vertical)) {
+    match pair_calls::depth(size, table, pixels, layout, i, k, direction_of(vertical)) {
         AmountAnswer::Amount(amount) => {
             *depth = amount;
             done()
@@ -87,7 +87,7 @@ pub extern "C" fn sigbrol_penalty(
     ensures answer { λ r. ⌜ r ≡ replyTo (penaltyCall (lentAs rows columns count (now (table .entry)) (now (pixels .entry))) (now (layout .entry)) i k) ⌝ }
     ensures penalty { λ r. ⌜ now (penalty .exit) ≡ leaving (λ a. a) (now (penalty .entry)) (penaltyCall (lentAs rows columns count (now (table .entry)) (now (pixels .entry))) (now (layout .entry)) i k) ⌝ }
 {
-    match pairs::penalty(size_of(rows, columns, count), table, pixels, layout, i, k) {
+    match pair_calls::penalty(size_of(rows, columns, count), table, pixels, layout, i, k) {
         AmountAnswer::Amount(amount) => {
             *penalty = amount;
             done()

@@ -1,24 +1,24 @@
 // Line search, descent and guided run.
-use descent::DescentAnswer;
-use guided::GuidedAnswer;
-use interface::Reply;
-use interface::coordinate_number;
-use interface::done;
-use interface::end_number;
-use interface::line_of;
-use interface::piece_with_turn;
-use interface::refused;
-use interface::size_of;
-use placing::turn_or_zero;
-use search::SearchAnswer;
+use c_interface::Reply;
+use c_interface::coordinate_number;
+use c_interface::done;
+use c_interface::end_number;
+use c_interface::line_of;
+use c_interface::piece_with_turn;
+use c_interface::refused;
+use c_interface::size_of;
+use layout_places::turn_or_zero;
+use run_descent_calls::DescentAnswer;
+use run_guided_calls::GuidedAnswer;
+use search_calls::SearchAnswer;
 ghost use mathlib.Core.Path.{_≡_};
 ghost use Rattle.model.specs.Guided as model;
 ghost use Rattle.model.specs.Lent.{jobOf};
 ghost use Rattle.model.specs.Buffer.{turnOf, layoutOf, endNumber};
 ghost use Rattle.model.specs.Calls.{leaving, searchCall, descentCall, descentAfter, guidedCall, bestAfterRun, weightsAfterRun};
 ghost use Rattle.descent_laws.specs.Claims.{DescentClaims, GuidedClaims};
-ghost use Rattle.interface.specs.Numbers.{lentAs, lineOf, pieceWithTurn};
-ghost use Rattle.interface.specs.Replies.{replyTo};
+ghost use Rattle.c_interface.specs.Numbers.{lentAs, lineOf, pieceWithTurn};
+ghost use Rattle.c_interface.specs.Replies.{replyTo};
 ghost use Rattle.sigbrol.specs.Runs.{descentTold, guidedTold};
 
 // The best place of a piece on a line.
@@ -43,7 +43,7 @@ pub extern "C" fn sigbrol_line_search(
     ensures at { λ r. ⌜ now (at .exit) ≡ leaving (λ a. a .at) (now (at .entry)) (searchCall (lentAs rows columns count (now (table .entry)) (now (pixels .entry))) (now (layout .entry)) (now (weights .entry)) (pieceWithTurn turn piece) (turnOf turn) (lineOf vertical held)) ⌝ }
 {
     let size = size_of(rows, columns, count);
-    match search::line_search(
+    match search_calls::line_search(
         size,
         table,
         pixels,
@@ -86,7 +86,7 @@ pub extern "C" fn sigbrol_descent(
     ensures moves { λ r. ⌜ now (moves .exit) ≡ leaving (λ a. a .moves) (now (moves .entry)) (descentCall (lentAs rows columns count (now (table .entry)) (now (pixels .entry))) (now (layout .entry)) (now (weights .entry)) budget) ⌝ }
     ensures demand3 { λ r. ⌜ (r .number ≡ 0 → DescentClaims (jobOf (lentAs rows columns count (now (table .entry)) (now (pixels .entry)))) (now (weights .entry)) budget (layoutOf (now (layout .entry))) (descentTold (now (end .exit)) (now (sum .exit)) (now (trials .exit)) (now (moves .exit)) (layoutOf (now (layout .exit))))) ⌝ }
 {
-    match descent::descent(
+    match run_descent_calls::descent(
         size_of(rows, columns, count),
         table,
         pixels,
@@ -131,7 +131,7 @@ pub extern "C" fn sigbrol_guided_run(
     ensures demand3 { λ r. ⌜ (r .number ≡ 0 → GuidedClaims (jobOf (lentAs rows columns count (now (table .entry)) (now (pixels .entry)))) (now (weights .entry)) rounds budget (layoutOf (now (layout .entry))) (model.rounds (jobOf (lentAs rows columns count (now (table .entry)) (now (pixels .entry)))) rounds budget (now (weights .entry)) (layoutOf (now (layout .entry)))) (guidedTold (now (sum .exit)) (now (trials .exit)) (now (moves .exit)) (layoutOf (now (layout .exit))) (now (weights .exit)))) ⌝ }
 {
     let size = size_of(rows, columns, count);
-    match guided::guided_run(size, table, pixels, layout, weights, rounds, budget) {
+    match run_guided_calls::guided_run(size, table, pixels, layout, weights, rounds, budget) {
         GuidedAnswer::Ran(run) => {
             *sum = run.sum;
             *trials = run.made;

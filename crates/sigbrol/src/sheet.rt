@@ -1,21 +1,21 @@
 // The sheet of cover counts.
-use cover::Reply as SheetReply;
-use interface::Reply;
-use interface::done;
-use interface::piece_with_turn;
-use interface::placement_of;
-use interface::record::read_record;
-use interface::record::write_record;
-use interface::refused;
-use interface::size_of;
+use c_interface::Reply;
+use c_interface::done;
+use c_interface::piece_with_turn;
+use c_interface::placement_of;
+use c_interface::record::read_record;
+use c_interface::record::write_record;
+use c_interface::refused;
+use c_interface::size_of;
+use sheet_calls::Reply as SheetReply;
 ghost use mathlib.Core.Path.{_≡_};
 ghost use lib.ListN.{length};
 ghost use Rattle.model.specs.Buffer.{placement};
 ghost use Rattle.model.specs.Calls.{freshCall, layCall, withdrawCall, countsAfter};
-ghost use Rattle.cover.specs.Answers.{sheetOf};
-ghost use Rattle.interface.specs.Numbers.{lentAs, pieceWithTurn};
-ghost use Rattle.interface.specs.Records.{recordIn, recordAfter};
-ghost use Rattle.interface.specs.Replies.{replyTo};
+ghost use Rattle.sheet_calls.specs.Answers.{sheetOf};
+ghost use Rattle.c_interface.specs.Numbers.{lentAs, pieceWithTurn};
+ghost use Rattle.c_interface.specs.Records.{recordIn, recordAfter};
+ghost use Rattle.c_interface.specs.Replies.{replyTo};
 
 // A fresh sheet: nothing is laid and all counts are 0.
 #[no_mangle]
@@ -32,7 +32,7 @@ pub extern "C" fn sigbrol_fresh(
     ensures laid { λ r. ⌜ now (entries .exit) ≡ recordAfter (now (entries .entry)) (freshCall (lentAs rows columns count (now (table .entry)) (now (pixels .entry))) (length (now (counts .entry)))) ⌝ }
     ensures pixels { λ r. ⌜ now (counts .exit) ≡ countsAfter (now (counts .entry)) (freshCall (lentAs rows columns count (now (table .entry)) (now (pixels .entry))) (length (now (counts .entry)))) ⌝ }
 {
-    let answer = cover::fresh(size_of(rows, columns, count), table, pixels, counts);
+    let answer = sheet_calls::fresh(size_of(rows, columns, count), table, pixels, counts);
     let reply = answer.reply;
     match reply {
         SheetReply::Given => {
@@ -62,7 +62,7 @@ pub extern "C" fn sigbrol_lay(
     ensures laid { λ r. ⌜ now (entries .exit) ≡ recordAfter (now (entries .entry)) (layCall (lentAs rows columns count (now (table .entry)) (now (pixels .entry))) (sheetOf (recordIn (now (entries .entry))) (now (counts .entry))) (pieceWithTurn turn piece) (placement turn x y)) ⌝ }
     ensures pixels { λ r. ⌜ now (counts .exit) ≡ countsAfter (now (counts .entry)) (layCall (lentAs rows columns count (now (table .entry)) (now (pixels .entry))) (sheetOf (recordIn (now (entries .entry))) (now (counts .entry))) (pieceWithTurn turn piece) (placement turn x y)) ⌝ }
 {
-    let answer = cover::lay(
+    let answer = sheet_calls::lay(
         size_of(rows, columns, count),
         table,
         pixels,
@@ -98,7 +98,7 @@ pub extern "C" fn sigbrol_withdraw(
     ensures pixels { λ r. ⌜ now (counts .exit) ≡ countsAfter (now (counts .entry)) (withdrawCall (lentAs rows columns count (now (table .entry)) (now (pixels .entry))) (sheetOf (recordIn (now (entries .entry))) (now (counts .entry))) piece) ⌝ }
 {
     let sheet = read_record(entries);
-    let answer = cover::withdraw(
+    let answer = sheet_calls::withdraw(
         size_of(rows, columns, count),
         table,
         pixels,

@@ -1,19 +1,19 @@
 // Strips of a job's pieces, and pieces rebuilt from them.
-use interface::Reply;
-use interface::direction_of;
-use interface::done;
-use interface::refused;
-use interface::size_of;
-use rebuild::RebuildAnswer;
-use stores::StripsAnswer;
+use c_interface::Reply;
+use c_interface::direction_of;
+use c_interface::done;
+use c_interface::refused;
+use c_interface::size_of;
+use strip_calls::StripsAnswer;
+use strip_rebuild_calls::RebuildAnswer;
 ghost use mathlib.Core.Path.{_≡_};
 ghost use Prim.Native.Nat.{_<_};
 ghost use lib.ListN.{length};
 ghost use Rattle.model.specs.Calls.{leaving, stripsCall, storesAfter, stretchCall, stretchGiven, stretchNumber, rebuildCall, pixelsAfter};
-ghost use Rattle.rebuild.specs.Again.{Again};
-ghost use Rattle.stores.specs.Stores.{storesBy};
-ghost use Rattle.interface.specs.Numbers.{lentAs, directionOf};
-ghost use Rattle.interface.specs.Replies.{replyTo};
+ghost use Rattle.strip_rebuild_calls.specs.Again.{Again};
+ghost use Rattle.strip_calls.specs.Stores.{storesBy};
+ghost use Rattle.c_interface.specs.Numbers.{lentAs, directionOf};
+ghost use Rattle.c_interface.specs.Replies.{replyTo};
 ghost use Rattle.sigbrol.specs.Places.{startIn, stretchStart};
 
 // Fills the row store and the column store of a job in given turns, each with its starts.
@@ -34,7 +34,7 @@ pub extern "C" fn sigbrol_strips(
     ensures memory { λ r. ⌜ storesBy (now («row_strips» .exit)) (now («row_starts» .exit)) (now («column_strips» .exit)) (now («column_starts» .exit)) ≡ storesAfter (storesBy (now («row_strips» .entry)) (now («row_starts» .entry)) (now («column_strips» .entry)) (now («column_starts» .entry))) (stripsCall (lentAs rows columns count (now (table .entry)) (now (pixels .entry))) (now (turns .entry)) (storesBy (now («row_strips» .entry)) (now («row_starts» .entry)) (now («column_strips» .entry)) (now («column_starts» .entry)))) ⌝ }
 {
     let size = size_of(rows, columns, count);
-    match stores::strips(
+    match strip_calls::strips(
         size,
         table,
         pixels,
@@ -84,7 +84,7 @@ pub extern "C" fn sigbrol_stretch<'a>(
 {
     let size = size_of(rows, columns, count);
     let direction = direction_of(vertical);
-    let strips = stores::stretch::stretch(
+    let strips = strip_calls::stretch::stretch(
         size,
         table,
         pixels,
@@ -123,7 +123,7 @@ pub extern "C" fn sigbrol_stretch_refusal(
 {
     let size = size_of(rows, columns, count);
     let direction = direction_of(vertical);
-    stores::stretch::stretch_refusal(
+    strip_calls::stretch::stretch_refusal(
         size,
         table,
         pixels,
@@ -150,7 +150,7 @@ pub extern "C" fn sigbrol_rebuild(
     ensures memory { λ r. ⌜ now (pixels .exit) ≡ pixelsAfter (now (pixels .entry)) (rebuildCall (directionOf vertical) columns rows (now (strips .entry)) (length (now (pixels .entry)))) ⌝ }
     ensures again { λ r. ⌜ Again (directionOf vertical) columns rows (now (strips .entry)) (now (pixels .entry)) (now (pixels .exit)) ⌝ }
 {
-    match rebuild::rebuild(columns, rows, direction_of(vertical), strips, pixels) {
+    match strip_rebuild_calls::rebuild(columns, rows, direction_of(vertical), strips, pixels) {
         RebuildAnswer::Rebuilt => done(),
         RebuildAnswer::Refused(refusal) => refused(refusal),
     }

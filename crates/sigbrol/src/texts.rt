@@ -1,18 +1,18 @@
 // A layout as text, and the program from text to text.
-use interface::Reply;
-use interface::done;
-use interface::refused;
-use interface::size_of;
-use layout_reader::LayoutAnswer;
-use layout_writer::TextAnswer;
+use c_interface::Reply;
+use c_interface::done;
+use c_interface::refused;
+use c_interface::size_of;
+use layout_read_calls::LayoutAnswer;
+use layout_write_calls::TextAnswer;
 ghost use mathlib.Core.Path.{_≡_};
 ghost use Prim.Native.Nat.{_≤_};
 ghost use lib.ListN.{length};
 ghost use Rattle.model.specs.Calls.{leaving, layoutAfter, textAfter, writeLayoutCall, readLayoutCall};
 ghost use Rattle.model.specs.Program.{programText, programCall};
-ghost use Rattle.program.specs.Output.{outputBound};
-ghost use Rattle.interface.specs.Numbers.{lentAs};
-ghost use Rattle.interface.specs.Replies.{replyTo};
+ghost use Rattle.program_calls.specs.Output.{outputBound};
+ghost use Rattle.c_interface.specs.Numbers.{lentAs};
+ghost use Rattle.c_interface.specs.Replies.{replyTo};
 
 // Writes a layout as text, and how many bytes it has.
 #[no_mangle]
@@ -30,7 +30,13 @@ pub extern "C" fn sigbrol_write_layout(
     ensures memory { λ r. ⌜ now (text .exit) ≡ textAfter (now (text .entry)) (writeLayoutCall (lentAs rows columns count (now (table .entry)) (now (pixels .entry))) (now (layout .entry)) (length (now (text .entry)))) ⌝ }
     ensures written { λ r. ⌜ now (written .exit) ≡ leaving (λ a. length a) (now (written .entry)) (writeLayoutCall (lentAs rows columns count (now (table .entry)) (now (pixels .entry))) (now (layout .entry)) (length (now (text .entry)))) ⌝ }
 {
-    match layout_writer::write_layout(size_of(rows, columns, count), table, pixels, layout, text) {
+    match layout_write_calls::write_layout(
+        size_of(rows, columns, count),
+        table,
+        pixels,
+        layout,
+        text,
+    ) {
         TextAnswer::Written(length) => {
             *written = length;
             done()
@@ -53,7 +59,13 @@ pub extern "C" fn sigbrol_read_layout(
     ensures answer { λ r. ⌜ r ≡ replyTo (readLayoutCall (lentAs rows columns count (now (table .entry)) (now (pixels .entry))) (now (text .entry)) (length (now (layout .entry)))) ⌝ }
     ensures memory { λ r. ⌜ now (layout .exit) ≡ layoutAfter (now (layout .entry)) (readLayoutCall (lentAs rows columns count (now (table .entry)) (now (pixels .entry))) (now (text .entry)) (length (now (layout .entry)))) ⌝ }
 {
-    match layout_reader::read_layout(size_of(rows, columns, count), table, pixels, text, layout) {
+    match layout_read_calls::read_layout(
+        size_of(rows, columns, count),
+        table,
+        pixels,
+        text,
+        layout,
+    ) {
         LayoutAnswer::Read => done(),
         LayoutAnswer::Refused(refusal) => refused(refusal),
     }
@@ -67,7 +79,7 @@ pub extern "C" fn sigbrol_program(input: &[u8], output: &mut [u8], written: &mut
     ensures written { λ r. ⌜ now (written .exit) ≡ leaving (λ a. length a) (now (written .entry)) (programCall (now (input .entry)) (length (now (output .entry)))) ⌝ }
     ensures fits { λ r. ⌜ length (programText (now (input .entry))) ≤ outputBound ⌝ }
 {
-    match program::print_run(input, output) {
+    match program_calls::print_run(input, output) {
         TextAnswer::Written(count) => {
             *written = count;
             done()

@@ -17,10 +17,10 @@ use Rattle.model.specs.Store.{turnIn, pieceStrips, storeFrom, startsFrom, store
 use Rattle.model.specs.declared.Turn.{Turn}
 use Rattle.model.specs.declared.Direction.{Direction}
 use Rattle.model.proofs.Tests.{decided}
-use Rattle.strips.specs.Compare.{standIn, comparedBy, compared}
-use Rattle.strips.specs.declared.compare.Compared.{Compared}
-use Rattle.strips.specs.declared.compare.Compared.the-variants.{Until, Unlike}
-use Rattle.strips.proofs.Comparing.{stand-step}
+use Rattle.strip_scan.specs.Compare.{standIn, comparedBy, compared}
+use Rattle.strip_scan.specs.declared.compare.Compared.{Compared}
+use Rattle.strip_scan.specs.declared.compare.Compared.the-variants.{Until, Unlike}
+use Rattle.strip_scan.proofs.Comparing.{stand-step}
 
 -- ── strips and starts in a row ──
 

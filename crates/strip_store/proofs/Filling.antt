@@ -20,9 +20,9 @@ use Rattle.model.specs.declared.Turn.{Turn}
 use Rattle.model.specs.declared.Direction.{Direction}
 use Rattle.model.proofs.Tests.{or-neither, decided}
 use Rattle.job_laws.proofs.Checked.{facts}
-use Rattle.fields.proofs.Stores.{sets-append}
-use Rattle.strips.specs.Put.{Appended}
-use Rattle.strips.proofs.Counts.{strips-few}
+use Rattle.text_fields.proofs.Stores.{sets-append}
+use Rattle.strip_scan.specs.Put.{Appended}
+use Rattle.strip_scan.proofs.Counts.{strips-few}
 use Rattle.strip_store.specs.Made.{Ready, Filled}
 use Rattle.strip_store.specs.Rooms.{roomFor}
 use Rattle.strip_store.specs.declared.fill.Room.{Room}

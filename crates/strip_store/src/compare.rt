@@ -1,7 +1,7 @@
 // Comparing a lent store and its starts with the job's, piece after piece.
 use model::Direction;
 use model::JobSize;
-use strips::compare::Compared;
+use strip_scan::compare::Compared;
 ghost use mathlib.Core.Path.{_≡_};
 ghost use mathlib.Core.Bool.{_&&_};
 ghost use lib.Dec.{eqb, ltb};
@@ -39,9 +39,9 @@ pub fn same_store(
         if !starts_at(starts, i, at) {
             return false;
         }
-        let start = job::pixel_start(table, i);
-        let turn = placing::turn_or_zero(turns[i]);
-        let Compared::Until(end) = strips::compare::compare_piece(
+        let start = job_check::pixel_start(table, i);
+        let turn = layout_places::turn_or_zero(turns[i]);
+        let Compared::Until(end) = strip_scan::compare::compare_piece(
             table,
             pixels,
             i,

@@ -48,9 +48,9 @@ pub fn fill(
     let mut i = 0;
     while i < size.count {
         put_start(starts, i, at);
-        let start = job::pixel_start(table, i);
-        let turn = placing::turn_or_zero(turns[i]);
-        at = strips::put::put_piece(table, pixels, i, start, turn, direction, strips, at);
+        let start = job_check::pixel_start(table, i);
+        let turn = layout_places::turn_or_zero(turns[i]);
+        at = strip_scan::put::put_piece(table, pixels, i, start, turn, direction, strips, at);
         i += 1;
     }
     put_start(starts, size.count, at);

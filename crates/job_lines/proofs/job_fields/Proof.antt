@@ -7,7 +7,7 @@ use lib.ListN.{length}
 use Rattle.model.specs.Refusal.{given}
 use Rattle.model.specs.Text.{Reading, wrong, got, threeFields, lineAt, formed}
 use Rattle.model.specs.JobText.{jobWord, asJobLine}
-use Rattle.line_numbers.specs.Lines.{inFront}
+use Rattle.text_numbers.specs.Lines.{inFront}
 use Rattle.job_lines.specs.Lines.{jobAnswer}
 use Rattle.job_lines.specs.declared.JobLineAnswer.the-variants as job
 use borrow.Author.Needs.{needs}

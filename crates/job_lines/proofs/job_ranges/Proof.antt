@@ -3,9 +3,9 @@ use mathlib.Core.Path.{_∙_, ap}
 use native.Mathlib.Omega.{arith}
 use borrow.Author.Tests.{lt-ltb, le-ltb}
 use Rattle.model.specs.Refusal.{unless}
-use Rattle.fields.proofs.Tests.{said-no, said-yes}
+use Rattle.text_fields.proofs.Tests.{said-no, said-yes}
 use Rattle.job_lines.specs.declared.JobLineAnswer.the-variants as job
-use Rattle.limits.proofs.Ranges.{sheet-small, few-count}
+use Rattle.job_limits.proofs.Ranges.{sheet-small, few-count}
 use borrow.Author.Needs.{needs}
 use Rattle.job_lines.proofs.job_ranges.Statement.{statement}
 use Rattle.job_lines.proofs.job_ranges.Tie as tie

@@ -7,7 +7,7 @@ use lib.ListN.{length}
 use Rattle.model.specs.Refusal.{given}
 use Rattle.model.specs.Text.{Reading, wrong, got, fourFields, lineAt, formed}
 use Rattle.model.specs.JobText.{pieceWord, asPieceLine}
-use Rattle.line_numbers.specs.Lines.{inFront}
+use Rattle.text_numbers.specs.Lines.{inFront}
 use Rattle.job_lines.specs.Lines.{pieceAnswer}
 use Rattle.job_lines.specs.declared.PieceLineAnswer.the-variants as piece
 use borrow.Author.Needs.{needs}

@@ -3,7 +3,7 @@ use mathlib.Core.Path.{sym, _∙_}
 use Prim.Native.Nat.{_≤_}
 use borrow.Author.Needs.{needs}
 use lib.Seq.{length-take-le}
-use Rattle.program.proofs.Printing.{count-fits}
+use Rattle.program_calls.proofs.Printing.{count-fits}
 use Rattle.nest.proofs.main.Statement.{statement}
 use Rattle.nest.proofs.main.Tie as tie
 

@@ -2,8 +2,8 @@
 use mathlib.Core.Path.{_≡_, sym, _∙_}
 use Rattle.model.specs.Refusal.{Outcome}
 use Rattle.model.specs.Calls.{checkCall}
-use Rattle.interface.specs.Numbers.{lentAs}
-use Rattle.sums.specs.Answers.{checkAnswer}
+use Rattle.c_interface.specs.Numbers.{lentAs}
+use Rattle.layout_sum_calls.specs.Answers.{checkAnswer}
 use Rattle.sigbrol.proofs.Told.{reply-by, check-told}
 use Rattle.sigbrol.proofs.layouts.sigbrol_check.Statement.{statement}
 use Rattle.sigbrol.proofs.layouts.sigbrol_check.Tie as tie

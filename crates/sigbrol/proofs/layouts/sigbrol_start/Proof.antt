@@ -4,8 +4,8 @@ use lib.ListN.{length}
 use Rattle.model.specs.Layout.{Layout}
 use Rattle.model.specs.Refusal.{Outcome}
 use Rattle.model.specs.Calls.{startCall}
-use Rattle.interface.specs.Numbers.{lentAs}
-use Rattle.start_layout.specs.Answers.{startAnswer}
+use Rattle.c_interface.specs.Numbers.{lentAs}
+use Rattle.layout_start_calls.specs.Answers.{startAnswer}
 use Rattle.sigbrol.proofs.Told.{reply-by, start-told}
 use Rattle.sigbrol.proofs.layouts.sigbrol_start.Statement.{statement}
 use Rattle.sigbrol.proofs.layouts.sigbrol_start.Tie as tie

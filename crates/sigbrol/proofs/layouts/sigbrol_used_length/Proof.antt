@@ -3,8 +3,8 @@ use mathlib.Core.Path.{_≡_, sym, _∙_}
 use Prim.Native.Nat.{ℕ}
 use Rattle.model.specs.Refusal.{Outcome}
 use Rattle.model.specs.Calls.{usedLengthCall}
-use Rattle.interface.specs.Numbers.{lentAs}
-use Rattle.placing.specs.Answers.{lengthAnswer}
+use Rattle.c_interface.specs.Numbers.{lentAs}
+use Rattle.layout_places.specs.Answers.{lengthAnswer}
 use Rattle.sigbrol.proofs.Told.{reply-by, leaves-by, length-told}
 use Rattle.sigbrol.proofs.layouts.sigbrol_used_length.Statement.{statement}
 use Rattle.sigbrol.proofs.layouts.sigbrol_used_length.Tie as tie

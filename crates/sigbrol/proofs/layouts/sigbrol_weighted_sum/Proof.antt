@@ -3,8 +3,8 @@ use mathlib.Core.Path.{_≡_, sym, _∙_}
 use Prim.Native.Nat.{ℕ}
 use Rattle.model.specs.Refusal.{Outcome}
 use Rattle.model.specs.Calls.{weightedSumCall}
-use Rattle.interface.specs.Numbers.{lentAs}
-use Rattle.sums.specs.Answers.{sumAnswer}
+use Rattle.c_interface.specs.Numbers.{lentAs}
+use Rattle.layout_sum_calls.specs.Answers.{sumAnswer}
 use Rattle.sigbrol.proofs.Told.{reply-by, leaves-by, sum-told}
 use Rattle.sigbrol.proofs.layouts.sigbrol_weighted_sum.Statement.{statement}
 use Rattle.sigbrol.proofs.layouts.sigbrol_weighted_sum.Tie as tie

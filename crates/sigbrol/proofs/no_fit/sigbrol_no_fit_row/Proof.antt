@@ -11,8 +11,8 @@ use Rattle.model.specs.Refusal.{Outcome}
 use Rattle.model.specs.Buffer.{turnOf}
 use Rattle.model.specs.Calls.{noFitCall, runsAfter}
 use Rattle.model.specs.declared.Direction.the-variants.{Horizontal}
-use Rattle.nofit_calls.specs.Lines.{lentStretch, runsAnswer}
-use Rattle.interface.specs.Numbers.{lentAs, pieceWithTurn}
+use Rattle.pair_nofit_calls.specs.Lines.{lentStretch, runsAnswer}
+use Rattle.c_interface.specs.Numbers.{lentAs, pieceWithTurn}
 use Rattle.sigbrol.proofs.Told.{reply-by, leaves-by, runs-told}
 use Rattle.sigbrol.proofs.no_fit.sigbrol_no_fit_row.Statement.{statement}
 use Rattle.sigbrol.proofs.no_fit.sigbrol_no_fit_row.Tie as tie

@@ -3,8 +3,8 @@ use mathlib.Core.Path.{_≡_, sym, _∙_}
 use Prim.Native.Nat.{ℕ}
 use Rattle.model.specs.Refusal.{Outcome}
 use Rattle.model.specs.Calls.{depthCall}
-use Rattle.interface.specs.Numbers.{lentAs, directionOf}
-use Rattle.pairs.specs.Answers.{amountAnswer}
+use Rattle.c_interface.specs.Numbers.{lentAs, directionOf}
+use Rattle.pair_calls.specs.Answers.{amountAnswer}
 use Rattle.sigbrol.proofs.Told.{reply-by, leaves-by, amount-told}
 use Rattle.sigbrol.proofs.pairs_of.sigbrol_depth.Statement.{statement}
 use Rattle.sigbrol.proofs.pairs_of.sigbrol_depth.Tie as tie

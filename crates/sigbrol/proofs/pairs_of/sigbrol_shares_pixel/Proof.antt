@@ -4,8 +4,8 @@ use mathlib.Core.Bool.{Bool}
 use Rattle.model.specs.Bounded.{one-if}
 use Rattle.model.specs.Refusal.{Outcome}
 use Rattle.model.specs.Calls.{shareCall}
-use Rattle.interface.specs.Numbers.{lentAs}
-use Rattle.pairs.specs.Answers.{shareAnswer}
+use Rattle.c_interface.specs.Numbers.{lentAs}
+use Rattle.pair_calls.specs.Answers.{shareAnswer}
 use Rattle.sigbrol.proofs.Told.{reply-by, leaves-by, share-told}
 use Rattle.sigbrol.proofs.pairs_of.sigbrol_shares_pixel.Statement.{statement}
 use Rattle.sigbrol.proofs.pairs_of.sigbrol_shares_pixel.Tie as tie

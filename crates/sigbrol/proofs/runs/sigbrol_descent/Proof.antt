@@ -6,9 +6,9 @@ use Rattle.model.specs.Descent.{Descent}
 use Rattle.model.specs.Refusal.{Outcome}
 use Rattle.model.specs.Calls.{descentCall}
 use Rattle.model.specs.Buffer.{endNumber}
-use Rattle.descent.specs.Answers.{descentAnswer, endedOf}
-use Rattle.interface.specs.Numbers.{lentAs}
-use Rattle.interface.specs.declared.Reply.{Reply}
+use Rattle.run_descent_calls.specs.Answers.{descentAnswer, endedOf}
+use Rattle.c_interface.specs.Numbers.{lentAs}
+use Rattle.c_interface.specs.declared.Reply.{Reply}
 use Rattle.sigbrol.proofs.Told.{reply-by, leaves-by, refusal-told, ended-told}
 use Rattle.sigbrol.proofs.Claimed.{descent-claimed, descent-numbered}
 use borrow.Author.Needs.{needs}

@@ -5,9 +5,9 @@ use native.Mathlib.Omega.{arith}
 use Rattle.model.specs.Guided.{Guided}
 use Rattle.model.specs.Refusal.{Outcome}
 use Rattle.model.specs.Calls.{guidedCall}
-use Rattle.guided.specs.Answers.{guidedAnswer}
-use Rattle.interface.specs.Numbers.{lentAs}
-use Rattle.interface.specs.declared.Reply.{Reply}
+use Rattle.run_guided_calls.specs.Answers.{guidedAnswer}
+use Rattle.c_interface.specs.Numbers.{lentAs}
+use Rattle.c_interface.specs.declared.Reply.{Reply}
 use Rattle.sigbrol.proofs.Told.{reply-by, leaves-by, refusal-told, ran-told, runOf}
 use Rattle.sigbrol.proofs.Claimed.{guided-numbered}
 use Rattle.sigbrol.proofs.runs.sigbrol_guided_run.Statement.{statement}

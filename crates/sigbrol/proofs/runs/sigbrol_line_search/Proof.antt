@@ -5,8 +5,8 @@ use Rattle.model.specs.Search.{Best}
 use Rattle.model.specs.Refusal.{Outcome}
 use Rattle.model.specs.Calls.{searchCall}
 use Rattle.model.specs.declared.Line.{Line}
-use Rattle.interface.specs.Numbers.{lentAs, pieceWithTurn, lineOf}
-use Rattle.search.specs.Answers.{searchAnswer}
+use Rattle.c_interface.specs.Numbers.{lentAs, pieceWithTurn, lineOf}
+use Rattle.search_calls.specs.Answers.{searchAnswer}
 use Rattle.sigbrol.proofs.Told.{reply-by, leaves-by, best-told}
 use Rattle.sigbrol.proofs.runs.sigbrol_line_search.Statement.{statement}
 use Rattle.sigbrol.proofs.runs.sigbrol_line_search.Tie as tie

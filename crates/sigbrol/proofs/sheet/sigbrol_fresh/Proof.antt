@@ -5,8 +5,8 @@ use borrow.Author.Needs.{needs}
 use Rattle.model.specs.Refusal.{Outcome}
 use Rattle.model.specs.Calls.{freshCall, countsAfter}
 use Rattle.model.specs.Cover.{Sheet}
-use Rattle.cover.specs.Answers.{blankRecord, sheetAnswer}
-use Rattle.interface.specs.Numbers.{lentAs}
+use Rattle.sheet_calls.specs.Answers.{blankRecord, sheetAnswer}
+use Rattle.c_interface.specs.Numbers.{lentAs}
 use Rattle.sigbrol.proofs.Sheets.{taken-up, turned-down}
 use Rattle.sigbrol.proofs.sheet.sigbrol_fresh.Statement.{statement}
 use Rattle.sigbrol.proofs.sheet.sigbrol_fresh.Tie as tie

@@ -5,9 +5,9 @@ use Rattle.model.specs.Buffer.{placement}
 use Rattle.model.specs.Refusal.{Outcome}
 use Rattle.model.specs.Calls.{layCall, countsAfter}
 use Rattle.model.specs.Cover.{Sheet}
-use Rattle.cover.specs.Answers.{sheetOf, sheetAnswer}
-use Rattle.interface.specs.Numbers.{lentAs, pieceWithTurn}
-use Rattle.interface.specs.Records.{recordIn}
+use Rattle.sheet_calls.specs.Answers.{sheetOf, sheetAnswer}
+use Rattle.c_interface.specs.Numbers.{lentAs, pieceWithTurn}
+use Rattle.c_interface.specs.Records.{recordIn}
 use Rattle.sigbrol.proofs.Sheets.{taken-up, turned-down}
 use Rattle.sigbrol.proofs.sheet.sigbrol_lay.Statement.{statement}
 use Rattle.sigbrol.proofs.sheet.sigbrol_lay.Tie as tie

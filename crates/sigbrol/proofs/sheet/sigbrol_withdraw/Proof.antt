@@ -4,9 +4,9 @@ use borrow.Author.Needs.{needs}
 use Rattle.model.specs.Refusal.{Outcome}
 use Rattle.model.specs.Calls.{withdrawCall, countsAfter}
 use Rattle.model.specs.Cover.{Sheet}
-use Rattle.cover.specs.Answers.{sheetOf, sheetAnswer}
-use Rattle.interface.specs.Numbers.{lentAs}
-use Rattle.interface.specs.Records.{recordIn}
+use Rattle.sheet_calls.specs.Answers.{sheetOf, sheetAnswer}
+use Rattle.c_interface.specs.Numbers.{lentAs}
+use Rattle.c_interface.specs.Records.{recordIn}
 use Rattle.sigbrol.proofs.Sheets.{taken-up, turned-down}
 use Rattle.sigbrol.proofs.sheet.sigbrol_withdraw.Statement.{statement}
 use Rattle.sigbrol.proofs.sheet.sigbrol_withdraw.Tie as tie

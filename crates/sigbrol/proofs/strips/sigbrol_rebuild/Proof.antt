@@ -4,9 +4,9 @@ use lib.ListN.{length}
 use Rattle.model.specs.Piece.{Shape}
 use Rattle.model.specs.Refusal.{Outcome}
 use Rattle.model.specs.Calls.{rebuildCall, pixelsAfter}
-use Rattle.interface.specs.Numbers.{directionOf}
-use Rattle.rebuild.specs.Again.{Again}
-use Rattle.rebuild.specs.Answer.{rebuildAnswer}
+use Rattle.c_interface.specs.Numbers.{directionOf}
+use Rattle.strip_rebuild_calls.specs.Again.{Again}
+use Rattle.strip_rebuild_calls.specs.Answer.{rebuildAnswer}
 use Rattle.sigbrol.proofs.Told.{reply-by, rebuild-told}
 use Rattle.sigbrol.proofs.strips.sigbrol_rebuild.Statement.{statement}
 use Rattle.sigbrol.proofs.strips.sigbrol_rebuild.Tie as tie

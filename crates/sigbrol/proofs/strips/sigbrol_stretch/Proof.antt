@@ -6,9 +6,9 @@ use native.Mathlib.Omega.{arith}
 use lib.ListN.{length}
 use Rattle.model.specs.Lent.{Lent}
 use Rattle.model.specs.Calls.{Stores, stretchCall, stretchGiven}
-use Rattle.interface.specs.Numbers.{lentAs, directionOf}
-use Rattle.stores.specs.Stores.{storesBy}
-use Rattle.stores.proofs.Outcomes.{Passed}
+use Rattle.c_interface.specs.Numbers.{lentAs, directionOf}
+use Rattle.strip_calls.specs.Stores.{storesBy}
+use Rattle.strip_calls.proofs.Outcomes.{Passed}
 use Rattle.sigbrol.proofs.Stretches.{stretch-there, start-left, start-kept}
 use Rattle.sigbrol.proofs.strips.sigbrol_stretch.Statement.{statement}
 use Rattle.sigbrol.proofs.strips.sigbrol_stretch.Tie as tie

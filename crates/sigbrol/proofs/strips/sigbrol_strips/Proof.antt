@@ -2,8 +2,8 @@
 use mathlib.Core.Path.{_≡_, sym, _∙_}
 use Rattle.model.specs.Refusal.{Outcome}
 use Rattle.model.specs.Calls.{Stores, stripsCall, storesAfter}
-use Rattle.interface.specs.Numbers.{lentAs}
-use Rattle.stores.specs.Stores.{storesBy, stripsAnswer}
+use Rattle.c_interface.specs.Numbers.{lentAs}
+use Rattle.strip_calls.specs.Stores.{storesBy, stripsAnswer}
 use Rattle.sigbrol.proofs.Told.{reply-by, strips-told}
 use Rattle.sigbrol.proofs.strips.sigbrol_strips.Statement.{statement}
 use Rattle.sigbrol.proofs.strips.sigbrol_strips.Tie as tie

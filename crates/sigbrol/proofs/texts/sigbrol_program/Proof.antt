@@ -5,7 +5,7 @@ use Prim.Native.Nat.{ℕ}
 use lib.ListN.{length}
 use Rattle.model.specs.Refusal.{Outcome}
 use Rattle.model.specs.Program.{programCall}
-use Rattle.layout_writer.specs.Answers.{textAnswer}
+use Rattle.layout_write_calls.specs.Answers.{textAnswer}
 use Rattle.sigbrol.proofs.Told.{reply-by, leaves-by, text-told}
 use Rattle.sigbrol.proofs.texts.sigbrol_program.Statement.{statement}
 use Rattle.sigbrol.proofs.texts.sigbrol_program.Tie as tie

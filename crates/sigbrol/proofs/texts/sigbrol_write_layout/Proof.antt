@@ -5,8 +5,8 @@ use Prim.Native.Nat.{ℕ}
 use lib.ListN.{length}
 use Rattle.model.specs.Refusal.{Outcome}
 use Rattle.model.specs.Calls.{writeLayoutCall}
-use Rattle.interface.specs.Numbers.{lentAs}
-use Rattle.layout_writer.specs.Answers.{textAnswer}
+use Rattle.c_interface.specs.Numbers.{lentAs}
+use Rattle.layout_write_calls.specs.Answers.{textAnswer}
 use Rattle.sigbrol.proofs.Told.{reply-by, leaves-by, text-told}
 use Rattle.sigbrol.proofs.texts.sigbrol_write_layout.Statement.{statement}
 use Rattle.sigbrol.proofs.texts.sigbrol_write_layout.Tie as tie

@@ -1,4 +1,4 @@
--- `stores::compare::starts_at` meets its contract. Assumes nothing.
+-- `strip_calls::compare::starts_at` meets its contract. Assumes nothing.
 use native.Mathlib.Omega.{arith}
 use borrow.Author.Tests.{lt-ltb, le-ltb}
 use borrow.Author.Needs.{needs}

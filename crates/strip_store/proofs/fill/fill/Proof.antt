@@ -1,11 +1,11 @@
--- `stores::fill::fill` meets its contract. The loop's invariant: storing the strips and starts of the pieces from `i` on is all that is
+-- `strip_calls::fill::fill` meets its contract. The loop's invariant: storing the strips and starts of the pieces from `i` on is all that is
 -- left to do. Assumes nothing.
 use Prim.Native.Nat.{_-_, _≤_}
 use native.Mathlib.Omega.{arith}
 use mathlib.Core.Path.{_∙_}
 use Rattle.model.specs.Lent.{lentBy, jobOf}
 use Rattle.job_laws.proofs.Checked.{facts}
-use Rattle.strips.proofs.Jobs.{entry-at}
+use Rattle.strip_scan.proofs.Jobs.{entry-at}
 use Rattle.strip_store.proofs.Filling.{Filling, fill-start, fill-step, fill-end, fill-lengths, store-small, appended-piece}
 use borrow.Author.Needs.{needs}
 use Rattle.strip_store.proofs.fill.fill.Statement.{statement}

@@ -1,4 +1,4 @@
--- `stores::fill::has_room` meets its contract: filling no store tells how many strips are needed. Assumes nothing.
+-- `strip_calls::fill::has_room` meets its contract: filling no store tells how many strips are needed. Assumes nothing.
 use Rattle.model.specs.Lent.{lentBy, jobOf}
 use Rattle.strip_store.proofs.Filling.{no-room, room-by-starts}
 use borrow.Author.Needs.{needs}

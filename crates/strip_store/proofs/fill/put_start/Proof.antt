@@ -1,4 +1,4 @@
--- `stores::fill::put_start` meets its contract: a store past the end does nothing. Assumes nothing.
+-- `strip_calls::fill::put_start` meets its contract: a store past the end does nothing. Assumes nothing.
 use mathlib.Core.Path.{sym}
 use lib.Seq.{set-out}
 use borrow.Author.Needs.{needs}

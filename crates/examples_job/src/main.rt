@@ -1,0 +1,95 @@
+// Reads document 01's example job and some others, each from its text, and writes what the reader answers: the job's numbers, its first
+// entry, its first eight pixel bytes and whether the check of a lent job passes; or the refusal's number and line.
+use job_calls::JobAnswer;
+
+// A number behind a comma.
+fn put(n: u64) {
+    io::write_all(1, b",");
+    io::print_decimal(1, n);
+}
+
+// An entry: l, w and o.
+fn put_entry(e: [u8; 3]) {
+    put(e[0] as u64);
+    put(e[1] as u64);
+    put(e[2] as u64);
+}
+
+// A pixel byte as its mark.
+fn put_mark(b: u8) {
+    if b == 1 {
+        io::write_all(1, b"#");
+        return;
+    }
+    io::write_all(1, b".");
+}
+
+// Four pixel bytes.
+fn put_marks(b: [u8; 4]) {
+    put_mark(b[0]);
+    put_mark(b[1]);
+    put_mark(b[2]);
+    put_mark(b[3]);
+}
+
+// What the reader answers for a text.
+fn show(text: &[u8]) {
+    let mut table = [[0u8; 3]; 4];
+    let mut pixels = [0u8; 16];
+    match job_calls::read_job(text, &mut table, &mut pixels) {
+        JobAnswer::Refused(r) => {
+            io::write_all(1, b"refused");
+            put(r.number as u64);
+            put(r.first as u64);
+            io::write_all(1, b"\n");
+        }
+        JobAnswer::Read(size) => {
+            io::write_all(1, b"read");
+            put(size.rows as u64);
+            put(size.columns as u64);
+            put(size.count as u64);
+            put_entry(table[0]);
+            io::write_all(1, b",");
+            put_marks([pixels[0], pixels[1], pixels[2], pixels[3]]);
+            put_marks([pixels[4], pixels[5], pixels[6], pixels[7]]);
+            if job_check::check_job(size, &table, &pixels) {
+                io::write_all(1, b",checked");
+            }
+            io::write_all(1, b"\n");
+        }
+    }
+}
+
+// Jobs that are read.
+fn show_read() {
+    show(b"job,1,2,4,2\npiece,0,2,2,1\nrow,##\nrow,##\npiece,1,2,2,1\nrow,##\nrow,##\n");
+    show(b"job,1,512,128,1\npiece,0,3,2,15\nrow,###\nrow,#..\n");
+    show(b"job,1,1,1,1\npiece,0,1,1,1\nrow,#\n");
+}
+
+// Lines of wrong form.
+fn show_wrong_form() {
+    show(b"");
+    show(b"job,2,2,4,1\n");
+    show(b"job,1,02,4,1\n");
+    show(b"job,1,2,4,1\npiece,0,2,2,1\nrow,##\n");
+    show(b"job,1,2,4,1\npiece,0,2,2,1\nrow,##\nrow,###\n");
+    show(b"job,1,1,1,1\npiece,0,1,1,1\nrow,#\n\n");
+}
+
+// Numbers out of range, areas, boxes and buffers.
+fn show_refused() {
+    show(b"job,1,513,4,1\n");
+    show(b"job,1,512,129,1\n");
+    show(b"job,1,2,4,1\npiece,0,2,2,2\n");
+    show(b"job,1,2,4,1\npiece,0,5,2,1\n");
+    show(b"job,1,2,4,1\npiece,0,2,2,1\nrow,..\nrow,##\n");
+    show(b"job,1,2,4,1\npiece,0,2,2,1\nrow,#.\nrow,#.\n");
+    show(b"job,1,1,17,1\npiece,0,17,1,1\nrow,#################\n");
+}
+
+fn main() {
+    show_read();
+    show_wrong_form();
+    show_refused();
+}

@@ -1,0 +1,181 @@
+-- `job_calls::reader::read_pieces`: a run over empty buffers writes nothing; with room for both, the second run fills them. Assumes nothing.
+use mathlib.Core.Bool.{true, false, _||_}
+use mathlib.Core.List.{List, _++_}
+use mathlib.Core.Path.{_≡_, refl, sym, _∙_, ap, subst}
+use Prim.Native.Nat.{ℕ, _≤_, _<_}
+use lib.Dec.{ltb}
+use lib.ListN.{length}
+use lib.Seq.{sets}
+use borrow.Author.Tests.{lt-ltb, le-ltb}
+use Rattle.model.specs.Refusal.{given}
+use Rattle.model.specs.JobText.{piecesAt, asLent}
+use Rattle.job_lines.specs.Lines.{jobLineOf}
+use Rattle.job_calls.specs.Reading.{PiecesStored, Filled, roomed, Leaves}
+use Rattle.job_calls.specs.declared.JobAnswer.the-variants as answer
+use Rattle.job_calls.specs.declared.reader.PiecesAnswer.the-variants as pieces
+use Rattle.text_fields.proofs.Stores.{sets-filled}
+use Rattle.job_calls.proofs.Filling.{pieces-told, pieces-not, pieces-count, no-prefix, room-denied, room-short, room-given, leaves-refused}
+use borrow.Author.Needs.{needs}
+use Rattle.job_calls.proofs.reader.read_pieces.Statement.{statement}
+use Rattle.job_calls.proofs.reader.read_pieces.Tie as tie
+
+slice-relend-prefix-fill-pieces : tie.Need-slice-relend-prefix-fill-pieces
+slice-relend-prefix-fill-pieces c = search needs
+
+slice-aggregate-fill-pieces : tie.Need-slice-aggregate-fill-pieces
+slice-aggregate-fill-pieces c = search needs
+
+slice-relend-prefix-fill-pieces-2 : tie.Need-slice-relend-prefix-fill-pieces-2
+slice-relend-prefix-fill-pieces-2 c = search needs
+
+slice-aggregate-fill-pieces-2 : tie.Need-slice-aggregate-fill-pieces-2
+slice-aggregate-fill-pieces-2 c = search needs
+
+fill-pieces-requires : tie.Need-fill-pieces-requires
+fill-pieces-requires c κs = search needs
+
+enum-known-r : tie.Need-enum-known-r
+enum-known-r c = search needs
+
+enum-known-area : tie.Need-enum-known-area
+enum-known-area c = search needs
+
+refusal-requires : tie.Need-refusal-requires
+refusal-requires c κs = search needs
+
+same-length : tie.Need-same-length
+same-length c = search needs
+
+same-length-2 : tie.Need-same-length-2
+same-length-2 c = search needs
+
+returns : tie.Need-returns
+returns c =
+    let a = c .before .before .before .before .before .before .before .before .before .before .before .before .before .before .args in
+    let text = a .text .now in
+    let j = jobLineOf (a .j) in
+    let tl = length (a .table .now) in
+    let pl = length (a .pixels .now) in
+    let table = c .before .before .before .before .before .before .before .before .before .fill-pieces .last .1 .1 .0 in
+    let store = c .before .before .before .before .before .before .before .before .before .fill-pieces .last .1 .1 .1 .0 in
+    let t : table ++ a .table .now ≡ a .table .now = no-prefix table (a .table .now) (c .before .before .before .before .before .before .before .before .before .fill-pieces .kept .1 .1 .0) in
+    let s : store ++ a .pixels .now ≡ a .pixels .now = no-prefix store (a .pixels .now) (c .before .before .before .before .before .before .before .before .before .fill-pieces .kept .1 .1 .1 .0) in
+    let n = c .before .before .before .before .area .given .0 .0 in
+    let g : pieces.Read n ≡ c .before .before .before .before .before .before .before .before .before .fill-pieces .result = sym (c .before .before .before .before .area .given .1) in
+    let x = pieces-told n (piecesAt text j (a .j .count) 0 0 (a .j .next) 2) (g ∙ c .before .before .before .before .before .before .before .before .before .fill-pieces .ensures .0) in
+    let l : tl < a .j .count = subst (λ (k : List (List ℕ)). length k < a .j .count) t (c .before .if1 .taken) in
+    let b : (ltb tl (a .j .count) || ltb pl (length (x .all .pixels))) ≡ true = rw (lt-ltb _ _ l) refl in
+    leaves-refused _ _ _ _ _ _ (roomed text j tl pl) (room-short text j tl pl (x .all) (x .gives) b) (ap answer.Refused (c .refusal .ensures)) t s
+
+refusal-requires-2 : tie.Need-refusal-requires-2
+refusal-requires-2 c κs = search needs
+
+same-length-3 : tie.Need-same-length-3
+same-length-3 c = search needs
+
+same-length-4 : tie.Need-same-length-4
+same-length-4 c = search needs
+
+returns-2 : tie.Need-returns-2
+returns-2 c =
+    let a = c .before .before .before .before .before .before .before .before .before .before .before .before .before .before .before .args in
+    let text = a .text .now in
+    let j = jobLineOf (a .j) in
+    let tl = length (a .table .now) in
+    let pl = length (a .pixels .now) in
+    let table = c .before .before .before .before .before .before .before .before .before .before .fill-pieces .last .1 .1 .0 in
+    let store = c .before .before .before .before .before .before .before .before .before .before .fill-pieces .last .1 .1 .1 .0 in
+    let t : table ++ a .table .now ≡ a .table .now = no-prefix table (a .table .now) (c .before .before .before .before .before .before .before .before .before .before .fill-pieces .kept .1 .1 .0) in
+    let s : store ++ a .pixels .now ≡ a .pixels .now = no-prefix store (a .pixels .now) (c .before .before .before .before .before .before .before .before .before .before .fill-pieces .kept .1 .1 .1 .0) in
+    let n = c .before .before .before .before .before .area .given .0 .0 in
+    let g : pieces.Read n ≡ c .before .before .before .before .before .before .before .before .before .before .fill-pieces .result = sym (c .before .before .before .before .before .area .given .1) in
+    let x = pieces-told n (piecesAt text j (a .j .count) 0 0 (a .j .next) 2) (g ∙ c .before .before .before .before .before .before .before .before .before .before .fill-pieces .ensures .0) in
+    let l : a .j .count ≤ tl = subst (λ (k : List (List ℕ)). a .j .count ≤ length k) t (c .before .before .if1 .left) in
+    let m : pl < length (x .all .pixels) = rw (x .size) at (subst (λ (k : List ℕ). length k < n) s (c .before .if2 .taken)) in
+    let b : (ltb tl (a .j .count) || ltb pl (length (x .all .pixels))) ≡ true = rw (le-ltb _ _ l, lt-ltb _ _ m) refl in
+    leaves-refused _ _ _ _ _ _ (roomed text j tl pl) (room-short text j tl pl (x .all) (x .gives) b) (ap answer.Refused (c .refusal2 .ensures)) t s
+
+fill-pieces-requires-2 : tie.Need-fill-pieces-requires-2
+fill-pieces-requires-2 c κs = search needs
+
+same-length-5 : tie.Need-same-length-5
+same-length-5 c = search needs
+
+same-length-6 : tie.Need-same-length-6
+same-length-6 c = search needs
+
+returns-3 : tie.Need-returns-3
+returns-3 c =
+    let a = c .before .before .before .before .before .before .before .before .before .before .before .args in
+    let text = a .text .now in
+    let j = jobLineOf (a .j) in
+    let tl = length (a .table .now) in
+    let pl = length (a .pixels .now) in
+    let table = c .before .before .before .before .before .before .fill-pieces .last .1 .1 .0 in
+    let store = c .before .before .before .before .before .before .fill-pieces .last .1 .1 .1 .0 in
+    let t : table ++ a .table .now ≡ a .table .now = no-prefix table (a .table .now) (c .before .before .before .before .before .before .fill-pieces .kept .1 .1 .0) in
+    let s : store ++ a .pixels .now ≡ a .pixels .now = no-prefix store (a .pixels .now) (c .before .before .before .before .before .before .fill-pieces .kept .1 .1 .1 .0) in
+    let r = c .before .r .given .0 .0 in
+    let g : pieces.Refused r ≡ c .before .before .before .before .before .before .fill-pieces .result = sym (c .before .r .given .1) in
+    let e = pieces-not r (piecesAt text j (a .j .count) 0 0 (a .j .next) 2) (g ∙ c .before .before .before .before .before .before .fill-pieces .ensures .0) in
+    leaves-refused r _ _ _ _ _ (roomed text j tl pl) (room-denied text j tl pl r e) refl t s
+
+same-length-7 : tie.Need-same-length-7
+same-length-7 c = search needs
+
+same-length-8 : tie.Need-same-length-8
+same-length-8 c = search needs
+
+returns-4 : tie.Need-returns-4
+returns-4 c =
+    let a = c .before .before .before .before .before .before .before .before .before .before .before .before .before .before .before .before .before .before .before .before .args in
+    let text = a .text .now in
+    let j = jobLineOf (a .j) in
+    let tl = length (a .table .now) in
+    let pl = length (a .pixels .now) in
+    let table = c .before .before .before .before .before .before .before .before .before .before .before .before .before .before .before .fill-pieces .last .1 .1 .0 in
+    let store = c .before .before .before .before .before .before .before .before .before .before .before .before .before .before .before .fill-pieces .last .1 .1 .1 .0 in
+    let t : table ++ a .table .now ≡ a .table .now = no-prefix table (a .table .now) (c .before .before .before .before .before .before .before .before .before .before .before .before .before .before .before .fill-pieces .kept .1 .1 .0) in
+    let s : store ++ a .pixels .now ≡ a .pixels .now = no-prefix store (a .pixels .now) (c .before .before .before .before .before .before .before .before .before .before .before .before .before .before .before .fill-pieces .kept .1 .1 .1 .0) in
+    let n = c .before .before .before .before .before .before .before .before .before .before .area .given .0 .0 in
+    let g : pieces.Read n ≡ c .before .before .before .before .before .before .before .before .before .before .before .before .before .before .before .fill-pieces .result = sym (c .before .before .before .before .before .before .before .before .before .before .area .given .1) in
+    let x = pieces-told n (piecesAt text j (a .j .count) 0 0 (a .j .next) 2) (g ∙ c .before .before .before .before .before .before .before .before .before .before .before .before .before .before .before .fill-pieces .ensures .0) in
+    let l : a .j .count ≤ tl = subst (λ (k : List (List ℕ)). a .j .count ≤ length k) t (c .before .before .before .before .before .before .before .if1 .left) in
+    let m : length (x .all .pixels) ≤ pl = rw (x .size) at (subst (λ (k : List ℕ). n ≤ length k) s (c .before .before .before .before .before .before .if2 .left)) in
+    let b : (ltb tl (a .j .count) || ltb pl (length (x .all .pixels))) ≡ false = rw (le-ltb _ _ l, le-ltb _ _ m) refl in
+    let e : roomed text j tl pl ≡ given (asLent j (x .all)) = room-given text j tl pl (x .all) (x .gives) b in
+    let f : Filled (table ++ a .table .now) (c .before .before .before .fill-pieces2 .last .1 .1 .0) (store ++ a .pixels .now) (c .before .before .before .fill-pieces2 .last .1 .1 .1 .0) (x .all) = subst (PiecesStored _ _ _ _) (x .gives) (c .before .before .before .fill-pieces2 .ensures .1) in
+    let k : length (x .all .table) ≤ tl = rw (pieces-count text j (a .j .count) 0 0 (a .j .next) 2 (x .all) (x .gives)) l in
+    subst (Leaves _ _ _ _ _) (sym e)
+    (record {
+      answers = refl;
+      entries = f .entries ∙ ap (λ (d : List (List ℕ)). sets d 0 (x .all .table)) t ∙ sets-filled (a .table .now) (x .all .table) k;
+      pixels = f .pixels ∙ ap (λ (d : List ℕ). sets d 0 (x .all .pixels)) s ∙ sets-filled (a .pixels .now) (x .all .pixels) m;
+    })
+
+pub read-pieces-spec : {M : Type 1} → statement M
+read-pieces-spec =
+    tie.close
+    (tie.spec
+    slice-relend-prefix-fill-pieces
+    slice-aggregate-fill-pieces
+    slice-relend-prefix-fill-pieces-2
+    slice-aggregate-fill-pieces-2
+    fill-pieces-requires
+    enum-known-r
+    enum-known-area
+    refusal-requires
+    same-length
+    same-length-2
+    returns
+    refusal-requires-2
+    same-length-3
+    same-length-4
+    returns-2
+    fill-pieces-requires-2
+    same-length-5
+    same-length-6
+    returns-3
+    same-length-7
+    same-length-8
+    returns-4)

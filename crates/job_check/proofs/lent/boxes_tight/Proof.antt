@@ -1,0 +1,104 @@
+-- `job_check::lent::boxes_tight`: the boxes before i are tight, and the pixels of piece i begin at `start`. Assumes nothing.
+use mathlib.Core.Bool.{Bool, true}
+use mathlib.Core.Path.{_≡_, refl, sym}
+use Prim.Native.Nat.{ℕ, _≤_, _<_, _*_, _-_}
+use native.Mathlib.Numerals.{add-one}
+use native.Mathlib.Omega.{arith}
+use borrow.Author.Count.{below-none, below-more}
+use Rattle.model.specs.Piece.{tight}
+use Rattle.model.specs.Lent.{pixelStart, entryArea}
+use Rattle.model.proofs.Bounded.{all-from}
+use Rattle.job_check.specs.Boxes.{storedBox}
+use Rattle.text_fields.proofs.Tests.{said-no, said-yes}
+use Rattle.job_check.proofs.Tests.{not-all}
+use borrow.Author.Needs.{needs}
+use Rattle.job_check.proofs.lent.boxes_tight.Statement.{statement}
+use Rattle.job_check.proofs.lent.boxes_tight.Tie as tie
+
+abbrev Inv-loop : tie.InvT-loop
+Inv-loop table count pixels start₀ i₀ start i =
+    (i ≤ count) × (start ≡ pixelStart table i) × (start ≤ 65025 * i)
+    × ((k : ℕ) → k < i → tight (storedBox table pixels k) ≡ true)
+
+abbrev μ-loop : tie.MeasureT-loop
+μ-loop table count pixels start₀ i₀ start i = count - i
+
+loop-holds : tie.Need-loop-holds Inv-loop μ-loop
+unfolding pixelStart
+loop-holds c = (omega arith, refl, omega arith, below-none _)
+
+stored-box-tight-requires : tie.Need-stored-box-tight-requires Inv-loop μ-loop
+stored-box-tight-requires c κs = (omega arith, omega arith, c .before .before .before .pre .2 (c .before .loop .i) (c .loop-test .taken), c .before .loop .inv .1)
+
+returns : tie.Need-returns Inv-loop μ-loop
+returns c =
+    let a = c .before .before .before .before .before .args in
+    let f : ℕ → Bool = λ k. tight (storedBox (a .table .now) (a .pixels .now) k) in
+    sym (not-all (a .count) (c .before .before .before .loop .i) f (c .before .before .loop-test .taken) (said-no (c .before .stored-box-tight .ensures) (c .if1 .taken)))
+
+mul-box-area : tie.Need-mul-box-area Inv-loop μ-loop
+mul-box-area c = omega arith
+
+index-1-box-area : tie.Need-index-1-box-area Inv-loop μ-loop
+index-1-box-area c = omega arith
+
+index-2-box-area : tie.Need-index-2-box-area Inv-loop μ-loop
+index-2-box-area c = search needs
+
+mul-box-area-2 : tie.Need-mul-box-area-2 Inv-loop μ-loop
+mul-box-area-2 c = omega arith
+
+index-1-box-area-2 : tie.Need-index-1-box-area-2 Inv-loop μ-loop
+index-1-box-area-2 c = omega arith
+
+index-2-box-area-2 : tie.Need-index-2-box-area-2 Inv-loop μ-loop
+index-2-box-area-2 c = search needs
+
+box-area-requires : tie.Need-box-area-requires Inv-loop μ-loop
+box-area-requires c κs = search needs
+
+add-start : tie.Need-add-start Inv-loop μ-loop
+add-start c = omega arith
+
+add-i : tie.Need-add-i Inv-loop μ-loop
+add-i c = omega arith
+
+loop-less : tie.Need-loop-less Inv-loop μ-loop
+loop-less c = omega arith
+
+loop-again : tie.Need-loop-again Inv-loop μ-loop
+unfolding pixelStart
+loop-again c =
+    let table = c .before .before .before .before .before .before .before .before .args .table .now in
+    let l = c .before .before .before .before .before .before .loop in
+    let e : c .box-area .result ≡ entryArea table (l .i) = c .box-area .ensures .0 in
+    let s : l .start ≡ pixelStart table (l .i) = l .inv .1 in
+    (omega arith, rw add-one (omega arith), omega arith, below-more _ _ (l .inv .3) (said-yes (c .before .before .before .before .stored-box-tight .ensures) (c .before .before .before .if1 .left)))
+
+returns-2 : tie.Need-returns-2 Inv-loop μ-loop
+returns-2 c =
+    let a = c .before .before .before .args in
+    let f : ℕ → Bool = λ k. tight (storedBox (a .table .now) (a .pixels .now) k) in
+    sym (all-from (a .count) f (λ k h. c .before .loop .inv .3 k (omega arith)))
+
+pub boxes-tight-spec : {M : Type 1} → statement M
+boxes-tight-spec =
+    tie.close
+    (tie.spec
+    Inv-loop
+    μ-loop
+    loop-holds
+    stored-box-tight-requires
+    returns
+    mul-box-area
+    index-1-box-area
+    index-2-box-area
+    mul-box-area-2
+    index-1-box-area-2
+    index-2-box-area-2
+    box-area-requires
+    add-start
+    add-i
+    loop-less
+    loop-again
+    returns-2)

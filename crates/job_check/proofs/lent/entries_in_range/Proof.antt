@@ -1,0 +1,57 @@
+-- `job_check::lent::entries_in_range`: the entries before i are in range. Assumes nothing.
+use mathlib.Core.Bool.{true}
+use mathlib.Core.Path.{_≡_, sym}
+use Prim.Native.Nat.{ℕ, _≤_, _<_, _-_}
+use native.Mathlib.Omega.{arith}
+use borrow.Author.Count.{below-none, below-more}
+use Rattle.model.specs.Lent.{entryInRange}
+use Rattle.model.proofs.Bounded.{all-from}
+use Rattle.text_fields.proofs.Tests.{said-no, said-yes}
+use Rattle.job_check.proofs.Tests.{not-all}
+use Rattle.job_check.proofs.lent.entries_in_range.Statement.{statement}
+use Rattle.job_check.proofs.lent.entries_in_range.Tie as tie
+
+abbrev Inv-loop : tie.InvT-loop
+Inv-loop table count i₀ i = (i ≤ count) × ((k : ℕ) → k < i → entryInRange table k ≡ true)
+
+abbrev μ-loop : tie.MeasureT-loop
+μ-loop table count i₀ i = count - i
+
+loop-holds : tie.Need-loop-holds Inv-loop μ-loop
+loop-holds c = (omega arith, below-none _)
+
+entry-in-range-requires : tie.Need-entry-in-range-requires Inv-loop μ-loop
+entry-in-range-requires c κs = omega arith
+
+returns : tie.Need-returns Inv-loop μ-loop
+returns c =
+    let a = c .before .before .before .before .args in
+    sym (not-all (a .count) _ (entryInRange (a .table .now)) (c .before .before .loop-test .taken) (said-no (c .before .entry-in-range .ensures) (c .if1 .taken)))
+
+add-i : tie.Need-add-i Inv-loop μ-loop
+add-i c = omega arith
+
+loop-less : tie.Need-loop-less Inv-loop μ-loop
+loop-less c = omega arith
+
+loop-again : tie.Need-loop-again Inv-loop μ-loop
+loop-again c = (omega arith, below-more _ _ (c .before .before .before .loop .inv .1) (said-yes (c .before .entry-in-range .ensures) (c .if1 .left)))
+
+returns-2 : tie.Need-returns-2 Inv-loop μ-loop
+returns-2 c =
+    let a = c .before .before .args in
+    sym (all-from (a .count) (entryInRange (a .table .now)) (λ i l. c .before .loop .inv .1 i (omega arith)))
+
+pub entries-in-range-spec : {M : Type 1} → statement M
+entries-in-range-spec =
+    tie.close
+    (tie.spec
+    Inv-loop
+    μ-loop
+    loop-holds
+    entry-in-range-requires
+    returns
+    add-i
+    loop-less
+    loop-again
+    returns-2)

@@ -1,0 +1,76 @@
+-- `job_check::lent::some_mark`: none of the bytes before k is the mark. Assumes nothing.
+use mathlib.Core.Bool.{Bool, true, false}
+use mathlib.Core.Path.{_≡_, sym, _∙_}
+use Prim.Native.Nat.{ℕ, _≤_, _<_, _*_, _+_, _-_}
+use native.Mathlib.Nat.{suc-mul}
+use native.Mathlib.Numerals.{add-one}
+use native.Mathlib.Omega.{arith}
+use lib.Dec.{eqb}
+use lib.ListN.{getD}
+use borrow.Author.Count.{below-none, below-more}
+use borrow.Author.Tests.{eq-eqb, ne-eqb}
+use Rattle.model.proofs.Bounded.{any-from, none-any}
+use borrow.Author.Needs.{needs}
+use Rattle.job_check.proofs.lent.some_mark.Statement.{statement}
+use Rattle.job_check.proofs.lent.some_mark.Tie as tie
+
+abbrev Inv-loop : tie.InvT-loop
+Inv-loop mark bytes first step count at₀ k₀ at k =
+    (k ≤ count) × (at ≡ first + k * step) × (at ≤ first + 512 * k)
+    × ((i : ℕ) → i < k → eqb (getD bytes (first + i * step) 0) mark ≡ false)
+
+abbrev μ-loop : tie.MeasureT-loop
+μ-loop mark bytes first step count at₀ k₀ at k = count - k
+
+loop-holds : tie.Need-loop-holds Inv-loop μ-loop
+loop-holds c = (omega arith, omega arith, omega arith, below-none _)
+
+byte-at-requires : tie.Need-byte-at-requires Inv-loop μ-loop
+byte-at-requires c κs = search needs
+
+returns : tie.Need-returns Inv-loop μ-loop
+returns c =
+    let a = c .before .before .before .before .before .args in
+    let l = c .before .before .before .loop in
+    let f : ℕ → Bool = λ i. eqb (getD (a .bytes .now) (a .first + i * a .step) 0) (a .mark) in
+    let h : f (l .k) ≡ true = rw (← l .inv .1) (eq-eqb _ _ (sym (c .before .byte-at .ensures) ∙ c .if1 .taken)) in
+    sym (any-from (a .count) (l .k) f (c .before .before .loop-test .taken) h)
+
+add-at : tie.Need-add-at Inv-loop μ-loop
+add-at c = omega arith
+
+add-k : tie.Need-add-k Inv-loop μ-loop
+add-k c = omega arith
+
+loop-less : tie.Need-loop-less Inv-loop μ-loop
+loop-less c = omega arith
+
+loop-again : tie.Need-loop-again Inv-loop μ-loop
+loop-again c =
+    let a = c .before .before .before .before .before .args in
+    let l = c .before .before .before .loop in
+    let f : ℕ → Bool = λ i. eqb (getD (a .bytes .now) (a .first + i * a .step) 0) (a .mark) in
+    let h : f (l .k) ≡ false = rw (← l .inv .1) (ne-eqb _ _ (λ e. c .if1 .left (c .before .byte-at .ensures ∙ e))) in
+    let e : l .at ≡ a .first + l .k * a .step = l .inv .1 in
+    (omega arith, rw (add-one (l .k), suc-mul (l .k) (a .step)) (omega arith), omega arith, below-more _ _ (l .inv .3) h)
+
+returns-2 : tie.Need-returns-2 Inv-loop μ-loop
+returns-2 c =
+    let a = c .before .before .before .args in
+    let f : ℕ → Bool = λ i. eqb (getD (a .bytes .now) (a .first + i * a .step) 0) (a .mark) in
+    sym (none-any (a .count) f (λ i h. c .before .loop .inv .3 i (omega arith)))
+
+pub some-mark-spec : {M : Type 1} → statement M
+some-mark-spec =
+    tie.close
+    (tie.spec
+    Inv-loop
+    μ-loop
+    loop-holds
+    byte-at-requires
+    returns
+    add-at
+    add-k
+    loop-less
+    loop-again
+    returns-2)

@@ -1,0 +1,28 @@
+-- `job_limits::sheet_in_range` makes the tests of its definition in their order; in range, the product is far below 2^64. Assumes nothing.
+use native.Mathlib.Omega.{arith}
+use Rattle.model.specs.Lent.{sheetInRange}
+use Rattle.text_fields.proofs.Tests.{said-no, said-yes}
+use Rattle.job_limits.proofs.Ranges.{sheet-small}
+use borrow.Author.Needs.{needs}
+use Rattle.job_limits.proofs.sheet_in_range.Statement.{statement}
+use Rattle.job_limits.proofs.sheet_in_range.Tie as tie
+
+numbers-in-range-requires : tie.Need-numbers-in-range-requires
+numbers-in-range-requires c κs = search needs
+
+returns : tie.Need-returns
+unfolding sheetInRange
+returns c = simp (said-no (c .before .numbers-in-range .ensures) (c .if1 .taken))
+
+mul-result : tie.Need-mul-result
+mul-result c =
+    let size = c .before .before .before .args .size in
+    let m = sheet-small (size .rows) (size .columns) (size .count) (said-yes (c .before .before .numbers-in-range .ensures) (c .before .if1 .left)) in
+    omega arith
+
+returns-2 : tie.Need-returns-2
+unfolding sheetInRange
+returns-2 c = simp (said-yes (c .before .before .numbers-in-range .ensures) (c .before .if1 .left))
+
+pub sheet-in-range-spec : {M : Type 1} → statement M
+sheet-in-range-spec = tie.close (tie.spec numbers-in-range-requires returns mul-result returns-2)

@@ -1,0 +1,57 @@
+-- Placements in a layout buffer, found in their entries, and what the answers for a turn say. Assumes nothing.
+use mathlib.Core.Bool.{Bool, true, false, not, _&&_}
+use mathlib.Core.List.{List, []}
+use mathlib.Core.Option.{Option, none, some}
+use mathlib.Core.Path.{_≡_, refl, sym, ap}
+use Prim.Native.Nat.{ℕ, _+_, _<_, _≤_}
+use native.Mathlib.Omega.{arith}
+use lib.Dec.{leb}
+use lib.ListN.{getD, List·getD-map}
+use Rattle.model.specs.Bounded.{anyBelow}
+use Rattle.model.specs.Piece.{turnBit}
+use Rattle.model.specs.Layout.{Job, inside, placeOf, turnedPiece}
+use Rattle.model.specs.Buffer.{turnOf, turnOfDegrees, placementOf, layoutOf}
+use Rattle.model.specs.declared.Placement.{Placement}
+use Rattle.model.specs.declared.Turn.{Turn}
+use Rattle.model.specs.declared.Turn.the-variants.{Zero, Quarter, Half, ThreeQuarters}
+use Rattle.model.proofs.Bounded.{any-from, none-any}
+use Rattle.layout_places.specs.Answers.{turnAnswer}
+use Rattle.layout_places.specs.Boxes.{sidesOf}
+use Rattle.layout_places.specs.declared.Sides.{Sides}
+use Rattle.layout_places.specs.declared.TurnAnswer.the-variants.{Known, Unknown}
+
+-- a turn's part of the sum of turns is not 0
+pub bit-positive : (t : Turn) → 0 < turnBit t
+bit-positive Zero = omega arith
+bit-positive Quarter = omega arith
+bit-positive Half = omega arith
+bit-positive ThreeQuarters = omega arith
+
+-- an unknown turn is none
+pub unknown-none : (o : Option Turn) → Unknown ≡ turnAnswer o → o ≡ none
+unknown-none none e = refl
+unknown-none (some t) e = let z : _≡_ {A = ℕ} 0 1 = cc in absurd (omega arith)
+
+-- a known turn is that turn
+pub known-some : (o : Option Turn) (t : Turn) → Known t ≡ turnAnswer o → o ≡ some t
+known-some none t e = let z : _≡_ {A = ℕ} 0 1 = cc in absurd (omega arith)
+known-some (some u) t e = cc
+
+-- the placement of piece i in a layout buffer is that of its entry
+pub place-of-entry : (es : List (List ℕ)) (i : ℕ) → placeOf (layoutOf es) i ≡ placementOf (getD es i [])
+unfolding turnOf turnOfDegrees
+place-of-entry es i = List·getD-map placementOf es i []
+
+-- the inside test by the turned box's sides
+pub inside-by-sides : (j : Job) (i : ℕ) (p : Placement) (s : Sides) → s ≡ sidesOf (turnedPiece j i (p .turn))
+    → inside j i p ≡ (leb (p .x .0 + s .columns) (j .columns) && leb (p .y .0 + s .rows) (j .rows))
+unfolding inside
+inside-by-sides j i p s e = rw e
+
+-- a number below n that fails shows that some does
+pub one-fails : (n i : ℕ) (f : ℕ → Bool) → i < n → f i ≡ false → true ≡ anyBelow n (λ k. not (f k))
+one-fails n i f l e = sym (any-from n i (λ k. not (f k)) l (ap not e))
+
+-- where each number below n passes, none fails
+pub none-fails : (n i : ℕ) (f : ℕ → Bool) → n ≤ i → ((k : ℕ) → k < i → f k ≡ true) → false ≡ anyBelow n (λ k. not (f k))
+none-fails n i f l h = sym (none-any n (λ k. not (f k)) (λ k b. ap not (h k (omega arith))))

@@ -1,0 +1,103 @@
+-- `layout_read_calls::fill_layout` meets its contract: the first reading has no buffer, the second fills it whole. Assumes nothing.
+use mathlib.Core.List.{[]}
+use mathlib.Core.Path.{_≡_, sym, _∙_, ap}
+use borrow.Author.Needs.{needs}
+use lib.ListN.{length, length-map}
+use Rattle.model.specs.Refusal.{refused, given}
+use Rattle.model.specs.Lent.{lentBy, jobOf}
+use Rattle.model.specs.Buffer.{entryOf, entriesOf}
+use Rattle.model.specs.LayoutText.{placementsAt}
+use Rattle.model.specs.Calls.{layoutAfter}
+use Rattle.layout_read_calls.specs.Answers.{layoutAnswer}
+use Rattle.layout_read_calls.specs.Readings.{layoutFrom}
+use Rattle.layout_read_calls.proofs.Whole.{layout-refused, Given, layout-given, placements-count, buffer-filled, from-refused, from-unlike, from-given}
+use Rattle.text_fields.proofs.Stores.{nothing-left}
+use Rattle.layout_read_calls.proofs.fill_layout.Statement.{statement}
+use Rattle.layout_read_calls.proofs.fill_layout.Tie as tie
+
+slice-relend-prefix-read-placements : tie.Need-slice-relend-prefix-read-placements
+slice-relend-prefix-read-placements c = search needs
+
+slice-aggregate-read-placements : tie.Need-slice-aggregate-read-placements
+slice-aggregate-read-placements c = search needs
+
+read-placements-requires : tie.Need-read-placements-requires
+read-placements-requires c κs = search needs
+
+enum-known-refusal : tie.Need-enum-known-refusal
+enum-known-refusal c = search needs
+
+same-length : tie.Need-same-length
+same-length c = search needs
+
+returns : tie.Need-returns
+returns c =
+    let a = c .before .before .before .before .before .before .before .args in
+    let first = c .before .before .before .before .read-placements in
+    let none : first .last .1 .1 .1 .1 .0 ≡ [] = nothing-left _ (first .kept .1 .1 .1 .1 .0) in
+    λ pixels.
+    let o : layoutFrom (jobOf (lentBy (a .size) (a .table .now) pixels)) (a .text .now) (a .p) (length (a .layout .now)) ≡ refused (c .before .refusal .given .0 .0) =
+    from-refused (lentBy (a .size) (a .table .now) pixels) (a .text .now) (a .p) _ _ (layout-refused (placementsAt (jobOf (lentBy (a .size) (a .table .now) pixels)) (a .text .now) (a .size .count) 0 (a .p) 2) _ (sym (c .before .refusal .given .1) ∙ first .ensures .0 pixels)) in
+    (sym (ap layoutAnswer o), rw none (sym (ap (layoutAfter (a .layout .now)) o)))
+
+enum-told : tie.Need-enum-told
+enum-told c = search needs
+
+refusal-requires : tie.Need-refusal-requires
+refusal-requires c κs = search needs
+
+same-length-2 : tie.Need-same-length-2
+same-length-2 c = search needs
+
+returns-2 : tie.Need-returns-2
+returns-2 c =
+    let a = c .before .before .before .before .before .before .before .before .before .args in
+    let first = c .before .before .before .before .before .before .read-placements in
+    let none : first .last .1 .1 .1 .1 .0 ≡ [] = nothing-left _ (first .kept .1 .1 .1 .1 .0) in
+    λ pixels.
+    let v : Given (placementsAt (jobOf (lentBy (a .size) (a .table .now) pixels)) (a .text .now) (a .size .count) 0 (a .p) 2) = layout-given _ (sym (c .before .before .before .enum-told .given .1) ∙ first .ensures .0 pixels) in
+    let unlike : length (a .layout .now) ≡ a .size .count → ⊥ = rw none at (c .before .if1 .taken) in
+    let o : layoutFrom (jobOf (lentBy (a .size) (a .table .now) pixels)) (a .text .now) (a .p) (length (a .layout .now)) ≡ refused (c .refusal2 .result) =
+    from-unlike (lentBy (a .size) (a .table .now) pixels) (a .text .now) (a .p) _ (v .layout) (v .gives) unlike ∙ sym (ap refused (c .refusal2 .ensures)) in
+    (sym (ap layoutAnswer o), rw none (sym (ap (layoutAfter (a .layout .now)) o)))
+
+read-placements-requires-2 : tie.Need-read-placements-requires-2
+read-placements-requires-2 c κs = search needs
+
+same-length-3 : tie.Need-same-length-3
+same-length-3 c = search needs
+
+returns-3 : tie.Need-returns-3
+returns-3 c =
+    let a = c .before .before .before .before .before .before .before .before .before .before .before .args in
+    let first = c .before .before .before .before .before .before .before .before .read-placements in
+    let none : first .last .1 .1 .1 .1 .0 ≡ [] = nothing-left _ (first .kept .1 .1 .1 .1 .0) in
+    λ pixels.
+    let v : Given (placementsAt (jobOf (lentBy (a .size) (a .table .now) pixels)) (a .text .now) (a .size .count) 0 (a .p) 2) = layout-given _ (sym (c .before .before .before .before .before .enum-told .given .1) ∙ first .ensures .0 pixels) in
+    let like : length (a .layout .now) ≡ a .size .count = rw none at (c .before .before .before .if1 .left) in
+    let o : layoutFrom (jobOf (lentBy (a .size) (a .table .now) pixels)) (a .text .now) (a .p) (length (a .layout .now)) ≡ given (v .layout) =
+    from-given (lentBy (a .size) (a .table .now) pixels) (a .text .now) (a .p) _ (v .layout) (v .gives) like in
+    let second = c .before .read-placements2 .ensures in
+    let long : length (entriesOf (v .layout)) ≡ length (a .layout .now) =
+    length-map (v .layout) entryOf ∙ placements-count _ _ _ _ _ _ (v .layout) (v .gives) ∙ sym like in (
+      second .0 pixels ∙ ap layoutAnswer (v .gives) ∙ sym (ap layoutAnswer o),
+      rw none at (second .1 pixels (v .layout) (v .gives)) ∙ buffer-filled (entriesOf (v .layout)) (a .layout .now) long ∙ sym (ap (layoutAfter (a .layout .now)) o),
+    )
+
+pub fill-layout-spec : {M : Type 1} → statement M
+fill-layout-spec =
+    tie.close
+    (tie.spec
+    slice-relend-prefix-read-placements
+    slice-aggregate-read-placements
+    read-placements-requires
+    enum-known-refusal
+    same-length
+    returns
+    enum-told
+    refusal-requires
+    same-length-2
+    returns-2
+    read-placements-requires-2
+    same-length-3
+    returns-3)

@@ -1,0 +1,96 @@
+// The start layout's stacks: pieces on top of each other, stack after stack from the left. Document 01, 'Start, layout text, sheet'.
+ghost use mathlib.Core.Path.{_≡_};
+ghost use mathlib.Core.List.{List};
+ghost use Prim.Native.Nat.{ℕ, _+_, _<_, _≤_, min};
+ghost use lib.ListN.{length, getD, take};
+ghost use Rattle.model.specs.Lent.{lentBy, jobOf, entryColumns, entryRows, rowBound, columnBound, pieceBound};
+ghost use Rattle.model.specs.Start.{onStack};
+ghost use Rattle.layout_places.specs.Fitting.{Fitting};
+ghost use Rattle.layout_start_calls.specs.Stacks.{stackOf, emptyStack, stackEntries, Room, Piled};
+use layout_places::entry_of;
+use layout_places::numbers::larger;
+use layout_places::numbers::side;
+use model::Column;
+use model::JobSize;
+use model::Placement;
+use model::Row;
+use model::Turn;
+
+// A stack of pieces: its left side, its height and its length so far. Document 01's X, Y and M.
+struct Pile {
+    left: Column,
+    height: Row,
+    length: usize,
+}
+
+// The smaller of two numbers.
+fn smaller(a: usize, b: usize) -> usize
+    ensures { λ r. ⌜ r ≡ min a b ⌝ }
+{
+    if a < b { a } else { b }
+}
+
+// The pile that takes piece i: a new one to the right where the piece would rise above the sheet.
+fn room_for(size: JobSize, table: &[[u8; 3]], i: usize, pile: Pile) -> Pile
+    requires { ⌜ (i < length (now table)) × (entryRows (now table) i ≤ size .rows) × (pile .height .0 ≤ rowBound) × (pile .left .0 + pile .length ≤ 65535) ⌝ }
+    ensures { λ r. ⌜ Room size (now (table .entry)) i pile r ⌝ }
+{
+    let rows = side(table[i][1]);
+    if size.rows < pile.height.0 as usize + rows {
+        let right = pile.left.0 as usize + pile.length;
+        return Pile {
+            left: Column(right as u16),
+            height: Row(0),
+            length: 0,
+        };
+    }
+    pile
+}
+
+// Piece i on top of the pile, in turn 0, no further right than the sheet allows.
+fn on_top(size: JobSize, table: &[[u8; 3]], i: usize, pile: Pile) -> Placement
+    requires { ⌜ (i < length (now table)) × (entryColumns (now table) i ≤ size .columns) × (size .columns ≤ columnBound) ⌝ }
+    ensures { λ r. ⌜ ((pixels : List ℕ) → r ≡ onStack (jobOf (lentBy size (now (table .entry)) pixels)) i (stackOf pile)) ⌝ }
+{
+    let x = smaller(pile.left.0 as usize, size.columns - side(table[i][0]));
+    let y = pile.height;
+    Placement {
+        turn: Turn::Zero,
+        x: Column(x as u16),
+        y: y,
+    }
+}
+
+// The pile with piece i on it.
+fn piled(size: JobSize, table: &[[u8; 3]], i: usize, pile: Pile) -> Pile
+    requires { ⌜ (i < length (now table)) × (pile .height .0 + entryRows (now table) i ≤ size .rows) × (size .rows ≤ rowBound) ⌝ }
+    ensures { λ r. ⌜ Piled size (now (table .entry)) i pile r ⌝ }
+{
+    let left = pile.left;
+    let top = pile.height.0 as usize + side(table[i][1]);
+    Pile {
+        left: left,
+        height: Row(top as u16),
+        length: larger(pile.length, side(table[i][0])),
+    }
+}
+
+// The pieces of the order placed one after the other.
+pub fn stack_all(size: JobSize, table: &[[u8; 3]], order: &[usize; 64], layout: &mut [[u16; 3]])
+    requires { ⌜ Fitting size (now table) × ((k : ℕ) → k < size .count → getD (now order) k 0 < size .count) × (length (now order) ≡ pieceBound) × (length (now layout) ≡ size .count) ⌝ }
+    ensures { λ r. ⌜ ((pixels : List ℕ) → now (layout .exit) ≡ stackEntries (jobOf (lentBy size (now (table .entry)) pixels)) (take (size .count) (now (order .entry))) emptyStack (now (layout .entry))) ⌝ }
+{
+    let mut pile = Pile {
+        left: Column(0),
+        height: Row(0),
+        length: 0,
+    };
+    let mut k = 0;
+    while k < size.count {
+        let i = order[k];
+        pile = room_for(size, table, i, pile);
+        layout[i] = entry_of(on_top(size, table, i, pile));
+        pile = piled(size, table, i, pile);
+        k += 1;
+    }
+}

@@ -1,0 +1,115 @@
+-- Weights that are refused, and what holds of a layout that is not. Assumes nothing.
+use mathlib.Core.Bool.{Bool, true, false, _&&_}
+use mathlib.Core.List.{List, [], _∷_, _++_}
+use mathlib.Core.Option.{Option, none, some}
+use mathlib.Core.Path.{_≡_, refl, sym, ap, ap₂, _∙_}
+use Prim.Native.Nat.{ℕ, zero, suc, _+_, _<_, _≤_}
+use native.Mathlib.Numerals.{add-one}
+use native.Mathlib.Omega.{arith}
+use borrow.Author.Tests.{le-leb, lt-leb, eqb-true, not-false}
+use lib.Dec.{leb, eqb}
+use lib.ListN.{length, getD, drop, replicate, length-replicate}
+use lib.Seq.{drop-cons, drop-length}
+use Rattle.model.specs.Layout.{Pair, inside, placeOf, pairs}
+use Rattle.model.specs.Refusal.{unless}
+use Rattle.model.specs.Lent.{Lent, jobOf, lentWell, upTo}
+use Rattle.model.specs.Guided.{weightBound}
+use Rattle.model.specs.Buffer.{layoutOf}
+use Rattle.model.specs.Calls.{someWeightWrong, someOutside, layoutCauses, sharedCause}
+use Rattle.model.proofs.Bounded.{any-none}
+use Rattle.text_laws.specs.Outcomes.{NoCause}
+use Rattle.layout_places.proofs.Causes.{sound}
+use Rattle.search_shapes.specs.Shapes.{Room}
+use Rattle.layout_sum_calls.specs.Answers.{checkAnswer, sharingAnswer, sharedAnswer, lengthCauses, placeCauses}
+use Rattle.search_table.specs.Drawn.{Laid}
+
+-- ── weights ──
+
+-- a weight in front of others
+weight-first : (w : ℕ) (ws : List ℕ) (b : Bool) → upTo weightBound w ≡ b
+    → someWeightWrong (w ∷ ws) ≡ elim b as (λ _. Bool) [ true ↦ someWeightWrong ws | false ↦ true ]
+unfolding someWeightWrong
+weight-first w ws b e = ap (λ b. elim b as (λ _. Bool) [ true ↦ someWeightWrong ws | false ↦ true ]) e
+
+module _ (ws : List ℕ) (k : ℕ) (h : k < length ws) where
+  at-front : drop k ws ≡ getD ws k 0 ∷ drop (k + 1) ws
+  at-front = drop-cons ws k 0 h ∙ sym (ap (λ m. getD ws k 0 ∷ drop m ws) (add-one k))
+
+  -- a weight of 0 is wrong
+  pub weight-zero : getD ws k 0 ≡ 0 → someWeightWrong (drop k ws) ≡ true
+  weight-zero e =
+      ap someWeightWrong at-front
+      ∙ weight-first (getD ws k 0) (drop (k + 1) ws) false (ap (λ b. b && leb (getD ws k 0) weightBound) (lt-leb 1 (getD ws k 0) (omega arith)))
+
+  -- so is one above 65,535
+  pub weight-large : (getD ws k 0 ≡ 0 → ⊥) → weightBound < getD ws k 0 → someWeightWrong (drop k ws) ≡ true
+  weight-large n l =
+      ap someWeightWrong at-front
+      ∙ weight-first (getD ws k 0) (drop (k + 1) ws) false (ap₂ _&&_ (le-leb 1 (getD ws k 0) (omega arith)) (lt-leb (getD ws k 0) weightBound l))
+
+  -- one in between is not
+  pub weight-right : (getD ws k 0 ≡ 0 → ⊥) → getD ws k 0 ≤ weightBound → someWeightWrong (drop k ws) ≡ someWeightWrong (drop (k + 1) ws)
+  weight-right n l =
+      let some : 1 ≤ getD ws k 0 = positive (getD ws k 0) n in
+      ap someWeightWrong at-front
+      ∙ weight-first (getD ws k 0) (drop (k + 1) ws) true (ap₂ _&&_ (le-leb 1 (getD ws k 0) some) (le-leb (getD ws k 0) weightBound l))
+    where
+      positive : (w : ℕ) → (w ≡ 0 → ⊥) → 1 ≤ w
+      positive zero n = absurd (n refl)
+      positive (suc w) n = omega arith
+
+-- no weight is left
+pub weights-end : (ws : List ℕ) (k : ℕ) → k ≡ length ws → someWeightWrong (drop k ws) ≡ false
+unfolding someWeightWrong
+weights-end ws k e = ap (λ m. someWeightWrong (drop m ws)) e ∙ ap someWeightWrong (drop-length ws)
+
+-- ── layouts ──
+
+-- no placement is outside
+laid-by : (l : Lent) (es : List (List ℕ)) → lentWell l ≡ true → length es ≡ l .count → someOutside (jobOf l) (layoutOf es) ≡ false → Laid l es
+unfolding someOutside jobOf
+laid-by l es w n out =
+    record { well = w; whole = n; within = λ i b. not-false (inside (jobOf l) i (placeOf (layoutOf es) i)) (any-none (l .count) _ out i b) }
+
+-- where no cause of a call on a layout is there
+pub layout-laid : (l : Lent) (es : List (List ℕ)) → NoCause (layoutCauses l es) → Laid l es
+layout-laid l es h = let s = sound l es h in laid-by l es (s .well) (s .whole) (s .within)
+
+-- a job that passes its check, a layout buffer of its length and one weight a pair
+pub record Ready (l : Lent) (es : List (List ℕ)) (ws : List ℕ) : Type 0 where
+  pub well : lentWell l ≡ true
+  pub whole : length es ≡ l .count
+  pub onePerPair : length ws ≡ length (pairs (l .count))
+
+-- where no cause of the job and of the lengths is there
+pub lengths-ready : (l : Lent) (es : List (List ℕ)) (ws : List ℕ) → NoCause (lengthCauses l es ws) → Ready l es ws
+lengths-ready l es ws h =
+    record {
+      well = not-false (lentWell l) (h .0);
+      whole = eqb-true (length es) (l .count) (not-false (eqb (length es) (l .count)) (h .1 .0));
+      onePerPair = eqb-true (length ws) (length (pairs (l .count))) (not-false (eqb (length ws) (length (pairs (l .count)))) (h .1 .1 .0));
+    }
+
+-- where none of a weighted sum is there
+pub sum-ready : (l : Lent) (es : List (List ℕ)) (ws : List ℕ) → NoCause (lengthCauses l es ws ++ placeCauses l es) → Laid l es × (length ws ≡ length (pairs (l .count)))
+sum-ready l es ws h =
+    let r = lengths-ready l es ws (h .0, (h .1 .0, (h .1 .1 .0, (h .1 .1 .1 .0, tt)))) in
+    (laid-by l es (r .well) (r .whole) (h .1 .1 .1 .1 .1 .0), r .onePerPair)
+
+-- ── stores ──
+
+-- a store of 262,144 strips with 257 starts holds the strips of every job
+pub room-of : (store : List (List ℕ)) → length store ≡ 262144 → Room store (replicate 257 0)
+room-of store e = record { wide = omega (arith, e); long = omega (arith, length-replicate {A = ℕ} 257 0) }
+
+-- so does a fresh one
+pub room : Room (replicate 262144 (0 ∷ 0 ∷ 0 ∷ [])) (replicate 257 0)
+room = room-of (replicate 262144 (0 ∷ 0 ∷ 0 ∷ [])) (length-replicate {A = List ℕ} 262144 (0 ∷ 0 ∷ 0 ∷ []))
+
+-- ── the check ──
+
+-- what the check says of the first pair that shares a pixel
+pub shared-check : (o : Option Pair) → sharedAnswer (sharingAnswer o) ≡ checkAnswer (unless (sharedCause o ∷ []) tt)
+unfolding unless
+shared-check none = refl
+shared-check (some p) = refl

@@ -1,0 +1,65 @@
+-- `layout_sum_calls::plain_sum` meets its contract: the causes refuse, or none is there and the sum is given. Assumes nothing.
+use mathlib.Core.Path.{refl, sym, _∙_}
+use Rattle.model.specs.Lent.{Lent, lentBy, jobOf}
+use Rattle.model.specs.Buffer.{layoutOf}
+use Rattle.model.specs.Calls.{layoutCauses, plainSumCall}
+use Rattle.job_laws.proofs.Checked.{facts}
+use Rattle.text_laws.specs.Outcomes.{NoCause}
+use Rattle.text_laws.proofs.Outcomes.{unless-given}
+use Rattle.layout_places.proofs.Causes.{passed-none, refused-alone}
+use Rattle.layout_sum_calls.proofs.Causes.{layout-laid}
+use borrow.Author.Needs.{needs}
+use Rattle.layout_sum_calls.proofs.plain_sum.Statement.{statement}
+use Rattle.layout_sum_calls.proofs.plain_sum.Tie as tie
+
+layout-causes-requires : tie.Need-layout-causes-requires
+layout-causes-requires c κs = search needs
+
+enum-known-refusal : tie.Need-enum-known-refusal
+enum-known-refusal c = search needs
+
+enum-told : tie.Need-enum-told
+enum-told c = search needs
+
+penalties-of-requires : tie.Need-penalties-of-requires
+penalties-of-requires c κs =
+    let a = c .before .before .before .before .args in
+    let l : Lent = lentBy (a .size) (a .table .now) (a .pixels .now) in
+    let none : NoCause (layoutCauses l (a .layout .now)) = passed-none _ (sym (c .enum-told .given .1) ∙ c .before .before .layout-causes .ensures) in
+    layout-laid l (a .layout .now) none
+
+slice-aggregate-plain-total : tie.Need-slice-aggregate-plain-total
+slice-aggregate-plain-total c = search needs
+
+plain-total-requires : tie.Need-plain-total-requires
+plain-total-requires c κs =
+    let a = c .before .before .before .before .before .before .args in
+    let l : Lent = lentBy (a .size) (a .table .now) (a .pixels .now) in
+    let none : NoCause (layoutCauses l (a .layout .now)) = passed-none _ (sym (c .before .before .enum-told .given .1) ∙ c .before .before .before .before .layout-causes .ensures) in
+    (facts l (layout-laid l (a .layout .now) none .well) .fewPieces, c .before .penalties-of .ensures .size)
+
+returns : tie.Need-returns
+unfolding plainSumCall
+returns c =
+    rw (refused-alone _ _ _ (sym (c .before .refusal .given .1) ∙ c .before .before .before .layout-causes .ensures))
+
+returns-2 : tie.Need-returns-2
+unfolding plainSumCall jobOf
+returns-2 c =
+    let a = c .before .before .before .before .before .before .before .args in
+    let l : Lent = lentBy (a .size) (a .table .now) (a .pixels .now) in
+    let none : NoCause (layoutCauses l (a .layout .now)) = passed-none _ (sym (c .before .before .before .enum-told .given .1) ∙ c .before .before .before .before .before .layout-causes .ensures) in
+    rw (unless-given _ _ none, c .plain-total .ensures (jobOf l) (layoutOf (a .layout .now)) refl (c .before .before .penalties-of .ensures))
+
+pub plain-sum-spec : {M : Type 1} → statement M
+plain-sum-spec =
+    tie.close
+    (tie.spec
+    layout-causes-requires
+    enum-known-refusal
+    enum-told
+    penalties-of-requires
+    slice-aggregate-plain-total
+    plain-total-requires
+    returns
+    returns-2)

@@ -1,0 +1,86 @@
+// The first pair of a layout that shares a pixel: lowest first number, then lowest second.
+use model::Direction;
+use model::JobSize;
+use search_table::pair::pair_shares;
+ghost use mathlib.Core.Path.{_≡_};
+ghost use mathlib.Core.List.{List};
+ghost use Prim.Native.Nat.{ℕ, _<_};
+ghost use lib.ListN.{length};
+ghost use Rattle.model.specs.Layout.{pairShares, sharingPair};
+ghost use Rattle.model.specs.Lent.{lentBy, jobOf};
+ghost use Rattle.model.specs.Buffer.{layoutOf};
+ghost use Rattle.model.specs.declared.JobSize.{JobSize};
+ghost use Rattle.search_table.specs.Drawn.{Laid, RowsDrawn, SomeRowsDrawn};
+ghost use Rattle.layout_sum_calls.specs.Answers.{sharingAnswer};
+ghost use Rattle.layout_sum_calls.specs.Sharing.{RowFirst};
+
+// The pair that shares a pixel, if there is one.
+pub enum SharingPair {
+    Sharing(u32, u32),
+    Apart,
+}
+
+// The first piece above i that shares a pixel with it, or the number of pieces where none does.
+fn sharing_in_row(
+    rows: &[[u8; 3]],
+    row_starts: &[u32],
+    table: &[[u8; 3]],
+    layout: &[[u16; 3]],
+    i: usize,
+) -> usize
+    requires { ⌜ SomeRowsDrawn (now table) (now rows) (now «row_starts») (now layout) ⌝ ∗ ⌜ i < length (now layout) ⌝ }
+    ensures { λ r. ⌜ ((size : JobSize) (pixels : List ℕ) → RowsDrawn (lentBy size (now (table .entry)) pixels) (now (rows .entry)) (now («row_starts» .entry)) (now (layout .entry)) → RowFirst (pairShares (jobOf (lentBy size (now (table .entry)) pixels)) (layoutOf (now (layout .entry)))) (length (now (layout .entry))) i r) ⌝ }
+{
+    let mut k = i + 1;
+    while k < layout.len() {
+        if pair_shares(rows, row_starts, table, layout, i, k) {
+            return k;
+        }
+        k += 1;
+    }
+    k
+}
+
+// The first pair that shares a pixel.
+fn first_sharing(
+    rows: &[[u8; 3]],
+    row_starts: &[u32],
+    table: &[[u8; 3]],
+    layout: &[[u16; 3]],
+) -> SharingPair
+    requires { ⌜ SomeRowsDrawn (now table) (now rows) (now «row_starts») (now layout) ⌝ }
+    ensures { λ r. ⌜ ((size : JobSize) (pixels : List ℕ) → RowsDrawn (lentBy size (now (table .entry)) pixels) (now (rows .entry)) (now («row_starts» .entry)) (now (layout .entry)) → r ≡ sharingAnswer (sharingPair (jobOf (lentBy size (now (table .entry)) pixels)) (layoutOf (now (layout .entry))))) ⌝ }
+{
+    let mut i = 0;
+    while i < layout.len() {
+        let k = sharing_in_row(rows, row_starts, table, layout, i);
+        if k < layout.len() {
+            return SharingPair::Sharing(i as u32, k as u32);
+        }
+        i += 1;
+    }
+    SharingPair::Apart
+}
+
+// The first pair of a job's layout that shares a pixel.
+pub fn sharing_pair(
+    size: JobSize,
+    table: &[[u8; 3]],
+    pixels: &[u8],
+    layout: &[[u16; 3]],
+) -> SharingPair
+    requires { ⌜ Laid (lentBy size (now table) (now pixels)) (now layout) ⌝ }
+    ensures { λ r. ⌜ r ≡ sharingAnswer (sharingPair (jobOf (lentBy size (now (table .entry)) (now (pixels .entry)))) (layoutOf (now (layout .entry)))) ⌝ }
+{
+    let mut rows = search_shapes::empty_store();
+    let mut row_starts = [0u32; 257];
+    search_shapes::make_shapes(
+        size,
+        table,
+        pixels,
+        Direction::Horizontal,
+        &mut rows,
+        &mut row_starts,
+    );
+    first_sharing(&rows, &row_starts, table, layout)
+}

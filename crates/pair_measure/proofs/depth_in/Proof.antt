@@ -1,0 +1,137 @@
+-- `pair_measure::depth_in`: the store holds the first piece's stretch up to the middle and the second's from there on, and the bounded depth
+-- of the stretches is the pieces' depth, cut off. Assumes nothing.
+use mathlib.Core.Path.{sym, subst, _∙_}
+use Prim.Native.Nat.{ℕ}
+use native.Mathlib.Omega.{arith}
+use borrow.Author.Needs.{needs}
+use Rattle.model.specs.Piece.{Shape, corner}
+use Rattle.model.specs.Strip.{strips}
+use Rattle.model.specs.Layout.{turnedPiece}
+use Rattle.model.specs.Lent.{lentBy, jobOf}
+use Rattle.model.specs.declared.JobSize.{JobSize}
+use Rattle.pair_overlap.specs.Meet.{Ordered}
+use Rattle.pair_overlap.proofs.Shapes.{entries-depth}
+use Rattle.pair_measure.proofs.Stores.{anySize, Behind, both-few, both-behind, piece-ordered, seen-near, same-depth}
+use Rattle.pair_measure.proofs.depth_in.Statement.{statement}
+use Rattle.pair_measure.proofs.depth_in.Tie as tie
+
+-- where the function begins, from where both pieces' strips are put
+abbrev entry : tie.After-store2 → tie.Start
+entry c = c .before .before .before .before .before .before .before
+
+-- the first piece, and the second
+abbrev one : JobSize → tie.After-store2 → Shape
+one size c = let s = entry c .args in turnedPiece (jobOf (lentBy size (s .table .now) (s .pixels .now))) (s .i) (s .p .turn)
+
+abbrev two : JobSize → tie.After-store2 → Shape
+two size c = let s = entry c .args in turnedPiece (jobOf (lentBy size (s .table .now) (s .pixels .now))) (s .k) (s .q .turn)
+
+-- where the first piece's strips end, and the second's
+abbrev middle : tie.After-store2 → ℕ
+middle c = c .before .before .before .before .fill .result
+
+abbrev end : tie.After-store2 → ℕ
+end c = c .before .fill2 .result
+
+-- both stand in the store
+behind : (size : JobSize) (c : tie.After-store2)
+    → Behind (strips (entry c .args .direction) (one size c)) (strips (entry c .args .direction) (two size c)) (c .before .fill2 .last .1 .1 .1 .1 .1 .0) (middle c) (end c)
+behind size c =
+    let s = entry c .args in
+    let r = entry c .pre in
+    both-behind size (s .table .now) (s .pixels .now) (s .i) (s .k) (r .0 .entry) (r .1 .0 .entry) (r .1 .1 .0) (s .p .turn) (s .q .turn) (s .direction)
+    (s .store .now) (c .before .before .before .before .fill .last .1 .1 .1 .1 .1 .0) (c .before .fill2 .last .1 .1 .1 .1 .1 .0) (middle c) (end c)
+    (r .1 .1 .1 .1) (c .before .before .before .before .fill .ensures size) (c .before .fill2 .ensures size)
+
+fill-requires : tie.Need-fill-requires
+fill-requires c κs = search needs
+
+fill-requires-2 : tie.Need-fill-requires-2
+fill-requires-2 c κs =
+    let b = c .before .before .before .before .before in
+    let s = b .args in
+    let r = b .pre in
+    let few = both-few anySize (s .table .now) (s .pixels .now) (s .i) (s .k) (r .0 .entry) (r .1 .0 .entry) (r .1 .1 .0) (s .p .turn) (s .q .turn) (s .direction) in
+    ((r .1 .0 .entry, r .1 .0 .few), omega (arith, c .before .before .fill .ensures anySize .end))
+
+corner-along-requires : tie.Need-corner-along-requires
+corner-along-requires c κs = search needs
+
+corner-along-requires-2 : tie.Need-corner-along-requires-2
+corner-along-requires-2 c κs = search needs
+
+mul-depth-below : tie.Need-mul-depth-below
+mul-depth-below c = search needs
+
+sub-depth-below : tie.Need-sub-depth-below
+sub-depth-below c = search needs
+
+part-depth-below-start : tie.Need-part-depth-below-start
+part-depth-below-start c = search needs
+
+part-depth-below-end : tie.Need-part-depth-below-end
+part-depth-below-end c = let b = behind anySize (c .before .before .before) in omega (arith, b .order, b .within)
+
+mul-depth-below-2 : tie.Need-mul-depth-below-2
+mul-depth-below-2 c = let b = behind anySize (c .before .before .before .before) in omega (arith, b .order, b .within)
+
+sub-depth-below-2 : tie.Need-sub-depth-below-2
+sub-depth-below-2 c = let b = behind anySize (c .before .before .before .before) in omega (arith, b .order)
+
+part-depth-below-start-2 : tie.Need-part-depth-below-start-2
+part-depth-below-start-2 c = let b = behind anySize (c .before .before .before .before) in omega (arith, b .order)
+
+part-depth-below-end-2 : tie.Need-part-depth-below-end-2
+part-depth-below-end-2 c = behind anySize (c .before .before .before .before) .within
+
+depth-below-requires : tie.Need-depth-below-requires
+depth-below-requires c κs =
+    let put = c .before .before .before .before .before in
+    let s = entry put .args in
+    let r = entry put .pre in
+    let b = behind anySize put in (
+      subst Ordered (sym (b .first)) (piece-ordered anySize (s .table .now) (s .pixels .now) (s .i) (r .0 .entry) (s .p .turn) (s .direction)),
+      (
+        subst Ordered (sym (b .second)) (piece-ordered anySize (s .table .now) (s .pixels .now) (s .k) (r .1 .0 .entry) (s .q .turn) (s .direction)),
+        (
+          (
+            seen-near (s .direction) (s .p) _ (c .before .before .before .before .corner-along .ensures) (r .0 .x) (r .0 .y),
+            seen-near (s .direction) (s .q) _ (c .before .before .before .corner-along2 .ensures) (r .1 .0 .x) (r .1 .0 .y),
+          ),
+          omega (arith, r .1 .1 .1 .0),
+        ),
+      ),
+    )
+
+same-length : tie.Need-same-length
+same-length c = search needs
+
+returns : tie.Need-returns
+returns c =
+    λ size.
+    let put = c .before .before .before .before .before .before in
+    let s = entry put .args in
+    let b = behind size put in
+    c .depth-below .ensures
+    ∙ same-depth _ _ _ _ _ _ _ _ (s .bound) (b .first) (c .before .before .before .before .before .corner-along .ensures) (b .second) (c .before .before .before .before .corner-along2 .ensures)
+    ∙ entries-depth (s .direction) (one size put) (corner (s .p)) (two size put) (corner (s .q)) (s .bound)
+
+pub depth-in-spec : {M : Type 1} → statement M
+depth-in-spec =
+    tie.close
+    (tie.spec
+    fill-requires
+    fill-requires-2
+    corner-along-requires
+    corner-along-requires-2
+    mul-depth-below
+    sub-depth-below
+    part-depth-below-start
+    part-depth-below-end
+    mul-depth-below-2
+    sub-depth-below-2
+    part-depth-below-start-2
+    part-depth-below-end-2
+    depth-below-requires
+    same-length
+    returns)

@@ -1,0 +1,149 @@
+// Depth and penalty of two placed pieces. Document 01, 'No-fit rows and penalty'. The strips of both pieces in their turns are put into
+// one local store, the second piece's behind the first's, and the functions of the crate overlap are lent each piece's part of it.
+//
+// What a penalty costs: a walk over two stretches takes a step for each strip of the lines that both pieces have, and a depth a few
+// walks for each sign, two where each line has one strip; the penalty is at most two depths, the second cut off at the first.
+use model::Direction;
+use model::Placement;
+use model::Turn;
+use pair_overlap::Corner;
+ghost use mathlib.Core.Path.{_≡_};
+ghost use Prim.Native.Nat.{min, _≤_, _^_};
+ghost use lib.ListN.{length};
+ghost use Rattle.model.specs.Piece.{corner};
+ghost use Rattle.model.specs.Strip.{strips};
+ghost use Rattle.model.specs.Overlap.{depth, penalty};
+ghost use Rattle.model.specs.Layout.{turnedPiece};
+ghost use Rattle.model.specs.Lent.{lentBy, jobOf, pixelStart};
+ghost use Rattle.model.specs.declared.JobSize.{JobSize};
+ghost use Rattle.strip_scan.specs.Put.{Appended, EntryAt};
+ghost use Rattle.pair_overlap.specs.Seen.{seen};
+ghost use Rattle.pair_measure.specs.Ready.{Ready, Together, pairRoom};
+
+// A store with room for the strips of any two pieces of a job along a direction. What it holds plays no part.
+fn empty_store() -> [[u8; 3]; 33023]
+    ensures { λ r. ⌜ length r ≡ pairRoom ⌝ }
+{
+    [[0u8; 3]; 33023]
+}
+
+// Puts the strips of a piece in a turn into a store from `at` on, and tells where the next strip would stand.
+fn fill(
+    table: &[[u8; 3]],
+    pixels: &[u8],
+    i: usize,
+    turn: Turn,
+    direction: Direction,
+    store: &mut [[u8; 3]],
+    at: usize,
+) -> usize
+    requires { ⌜ EntryAt (now table) i (pixelStart (now table) i) × (i ≤ 64) ⌝ ∗ ⌜ at ≤ 2 ^ 32 ⌝ }
+    ensures { λ r. ⌜ ((size : JobSize) → Appended (strips direction (turnedPiece (jobOf (lentBy size (now (table .entry)) (now (pixels .entry)))) i turn)) (now (store .entry)) at (now (store .exit)) r) ⌝ }
+{
+    let start = job_check::pixel_start(table, i);
+    strip_scan::put::put_piece(table, pixels, i, start, turn, direction, store, at)
+}
+
+// A placement's corner as a direction sees it.
+fn corner_along(place: Placement, direction: Direction) -> Corner
+    ensures { λ r. ⌜ r ≡ seen direction (corner place) ⌝ }
+{
+    let x = place.x.0 as u32;
+    let y = place.y.0 as u32;
+    match direction {
+        Direction::Horizontal => Corner {
+            along: x,
+            across: y,
+        },
+        Direction::Vertical => Corner {
+            along: y,
+            across: x,
+        },
+    }
+}
+
+// The depth of two placed pieces along a direction, cut off at a bound, with their strips in a lent store.
+fn depth_in(
+    table: &[[u8; 3]],
+    pixels: &[u8],
+    i: usize,
+    p: Placement,
+    k: usize,
+    q: Placement,
+    direction: Direction,
+    bound: u32,
+    store: &mut [[u8; 3]],
+) -> u32
+    requires { ⌜ Ready (now table) i p ⌝ ∗ ⌜ Ready (now table) k q ⌝ ∗ ⌜ Together (now table) i k ⌝ ∗ ⌜ bound ≤ 256 ⌝ ∗ ⌜ length (now store) ≡ pairRoom ⌝ }
+    ensures { λ r. ⌜ ((size : JobSize) → r ≡ min (depth direction (turnedPiece (jobOf (lentBy size (now (table .entry)) (now (pixels .entry)))) i (p .turn)) (corner p) (turnedPiece (jobOf (lentBy size (now (table .entry)) (now (pixels .entry)))) k (q .turn)) (corner q)) bound) ⌝ }
+{
+    let first = p.turn;
+    let second = q.turn;
+    let front = 0;
+    let middle = fill(table, pixels, i, first, direction, store, front);
+    let end = fill(table, pixels, k, second, direction, store, middle);
+    let u = corner_along(p, direction);
+    let v = corner_along(q, direction);
+    let strips = &store[..];
+    pair_overlap::depth_below(&strips[front..middle], u, &strips[middle..end], v, bound)
+}
+
+// The depth of two placed pieces along a direction, cut off at a bound. With the bound 1 it tells whether they share a pixel, and the
+// walk ends at the first.
+pub fn placed_depth(
+    table: &[[u8; 3]],
+    pixels: &[u8],
+    i: usize,
+    p: Placement,
+    k: usize,
+    q: Placement,
+    direction: Direction,
+    bound: u32,
+) -> u32
+    requires { ⌜ Ready (now table) i p ⌝ ∗ ⌜ Ready (now table) k q ⌝ ∗ ⌜ Together (now table) i k ⌝ ∗ ⌜ bound ≤ 256 ⌝ }
+    ensures { λ r. ⌜ ((size : JobSize) → r ≡ min (depth direction (turnedPiece (jobOf (lentBy size (now (table .entry)) (now (pixels .entry)))) i (p .turn)) (corner p) (turnedPiece (jobOf (lentBy size (now (table .entry)) (now (pixels .entry)))) k (q .turn)) (corner q)) bound) ⌝ }
+{
+    let mut store = empty_store();
+    depth_in(table, pixels, i, p, k, q, direction, bound, &mut store)
+}
+
+// The penalty of two placed pieces: the lesser depth. The store holds the row strips, then the column strips; the second depth is cut
+// off at the first, and not asked for where that is 0.
+pub fn placed_penalty(
+    table: &[[u8; 3]],
+    pixels: &[u8],
+    i: usize,
+    p: Placement,
+    k: usize,
+    q: Placement,
+) -> u32
+    requires { ⌜ Ready (now table) i p ⌝ ∗ ⌜ Ready (now table) k q ⌝ ∗ ⌜ Together (now table) i k ⌝ }
+    ensures { λ r. ⌜ ((size : JobSize) → r ≡ penalty (turnedPiece (jobOf (lentBy size (now (table .entry)) (now (pixels .entry)))) i (p .turn)) (corner p) (turnedPiece (jobOf (lentBy size (now (table .entry)) (now (pixels .entry)))) k (q .turn)) (corner q)) ⌝ }
+{
+    let mut store = empty_store();
+    let along_rows = depth_in(
+        table,
+        pixels,
+        i,
+        p,
+        k,
+        q,
+        Direction::Horizontal,
+        256,
+        &mut store,
+    );
+    if along_rows == 0 {
+        return 0;
+    }
+    depth_in(
+        table,
+        pixels,
+        i,
+        p,
+        k,
+        q,
+        Direction::Vertical,
+        along_rows,
+        &mut store,
+    )
+}

@@ -1,0 +1,63 @@
+-- `pair_nofit::clear`: the first k are 0, the rest is as it was. Assumes nothing.
+use mathlib.Core.List.{List, _++_}
+use mathlib.Core.Path.{_≡_, ap, _∙_}
+use Prim.Native.Nat.{ℕ, _-_, _≤_}
+use native.Mathlib.Omega.{arith}
+use borrow.Author.Fill.{fill-none, fill-more}
+use borrow.Author.Needs.{needs}
+use lib.ListN.{length, replicate, drop, set, length-set}
+use Rattle.pair_nofit.proofs.Kept.{filled-whole}
+use Rattle.pair_nofit.proofs.clear.Statement.{statement}
+use Rattle.pair_nofit.proofs.clear.Tie as tie
+
+abbrev Inv-loop : tie.InvT-loop
+Inv-loop marks₀ k₀ marks k = (k ≤ length marks₀) × (length marks ≡ length marks₀) × (marks ≡ replicate k 0 ++ drop k marks₀)
+
+abbrev μ-loop : tie.MeasureT-loop
+μ-loop marks₀ k₀ marks k = length marks₀ - k
+
+loop-holds : tie.Need-loop-holds Inv-loop μ-loop
+loop-holds c = (omega arith, omega arith, fill-none _ 0)
+
+mul-marks : tie.Need-mul-marks Inv-loop μ-loop
+mul-marks c = search needs
+
+slice-write-marks : tie.Need-slice-write-marks Inv-loop μ-loop
+slice-write-marks c = omega arith
+
+add-k : tie.Need-add-k Inv-loop μ-loop
+add-k c = omega arith
+
+loop-less : tie.Need-loop-less Inv-loop μ-loop
+loop-less c = omega arith
+
+loop-again : tie.Need-loop-again Inv-loop μ-loop
+loop-again c =
+    let old = c .before .before .args .marks .now in
+    let w = c .before .loop in
+    let l = w .inv .1 in (
+      omega arith,
+      length-set (w .marks) (w .k) 0 ∙ l,
+      ap (λ (m : List ℕ). set m (w .k) 0) (w .inv .2) ∙ fill-more (w .k) 0 old (omega arith),
+    )
+
+same-length : tie.Need-same-length Inv-loop μ-loop
+same-length c = c .before .loop .inv .1
+
+returns : tie.Need-returns Inv-loop μ-loop
+returns c = let l = c .before .loop .inv in l .2 ∙ filled-whole (c .before .loop .k) (c .before .before .args .marks .now) (omega arith)
+
+pub clear-spec : {M : Type 1} → statement M
+clear-spec =
+    tie.close
+    (tie.spec
+    Inv-loop
+    μ-loop
+    loop-holds
+    mul-marks
+    slice-write-marks
+    add-k
+    loop-less
+    loop-again
+    same-length
+    returns)

@@ -1,0 +1,166 @@
+// No-fit lines: at which shifts along their strips two pieces share a pixel. Document 01, 'No-fit rows and penalty'. One pass over the
+// strips of matching lines; each strip of one with each strip of the other gives an interval of shifts.
+use pair_overlap::Corner;
+ghost use mathlib.Core.Path.{_≡_};
+ghost use Prim.Native.Nat.{ℕ, _+_, _-_, max, _<_, _≤_};
+ghost use lib.Dec.{ltb};
+ghost use lib.ListN.{length, replicate};
+ghost use Rattle.model.specs.Bounded.{one-if};
+ghost use Rattle.pair_overlap.specs.Meet.{stripAt, Ordered, Near};
+ghost use Rattle.pair_nofit.specs.Marks.{marksOf, PlacedAt, keptAt, Sound, LineMarked, AllMarked, LineStart, Swept};
+
+// A byte as a number that sums fit in.
+fn wide(b: u8) -> u32
+    ensures { λ r. ⌜ (r ≡ b) × (b < 256) ⌝ }
+{
+    b as u32
+}
+
+// A strip of a placed piece: its line on the sheet, and where it begins and ends along the line.
+pub struct Placed {
+    pub line: u32,
+    pub begin: u32,
+    pub end: u32,
+}
+
+// The strip at i of a stretch, with the piece at the corner.
+fn placed_at(s: &[[u8; 3]], i: usize, u: Corner) -> Placed
+    requires { ⌜ (i < length (now s)) × Near u ⌝ }
+    ensures { λ r. ⌜ PlacedAt (stripAt (now (s .entry)) i) u r ⌝ }
+{
+    let begin = wide(s[i][1]) + u.along;
+    Placed {
+        line: wide(s[i][0]) + u.across,
+        begin,
+        end: begin + wide(s[i][2]),
+    }
+}
+
+// The first strip from a place of the stretch on that lies in the given line of the sheet or a later one.
+fn line_start(s: &[[u8; 3]], u: Corner, line: u32, from: usize) -> usize
+    requires { ⌜ Ordered (now s) ⌝ ∗ ⌜ Near u ⌝ ∗ ⌜ from ≤ length (now s) ⌝ }
+    ensures { λ r. ⌜ LineStart (now (s .entry)) (u .across) line from r ⌝ }
+{
+    let mut j = from;
+    while j < s.len() {
+        let q = placed_at(s, j, u);
+        if line <= q.line {
+            return j;
+        }
+        j += 1;
+    }
+    j
+}
+
+// The difference of two numbers, 0 where the second is larger.
+fn minus(x: u32, y: u32) -> u32
+    ensures { λ r. ⌜ r ≡ x - y ⌝ }
+{
+    if x < y { 0 } else { x - y }
+}
+
+// Keeps an interval of shifts: the larger of its end and what stands at its first place. One that begins past the buffer is not kept.
+fn keep(far: &mut [u16], low: u32, high: u32)
+    requires { ⌜ high < 65536 ⌝ }
+    ensures { λ _. ⌜ now (far .exit) ≡ keptAt (now (far .entry)) low high ⌝ }
+{
+    let at = low as usize;
+    let end = high as u16;
+    if far.len() <= at {
+        // Two boxes of at most 255 meet at none of the shifts past 508, and a no-fit line has 509 marks: this does not happen.
+        return;
+    }
+    if far[at] < end {
+        far[at] = end;
+    }
+}
+
+// Keeps the intervals of strip i of the first piece with the strips of the second in its line, of which the first stands at `from`.
+fn mark_line(
+    a: &[[u8; 3]],
+    i: usize,
+    u: Corner,
+    b: &[[u8; 3]],
+    from: usize,
+    v: Corner,
+    far: &mut [u16],
+)
+    requires { ⌜ Ordered (now b) ⌝ ∗ ⌜ (i < length (now a)) × (from ≤ length (now b)) ⌝ ∗ ⌜ Near u × Near v ⌝ ∗ ⌜ ((l : ℕ) → from ≤ l → l < length (now b) → stripAt (now a) i .line + u .across ≤ stripAt (now b) l .line + v .across) ⌝ ∗ ⌜ Sound (now a) u (now b) v (now far) ⌝ }
+    ensures { λ _. ⌜ LineMarked (now (a .entry)) u (now (b .entry)) v i from (now (far .entry)) (now (far .exit)) ⌝ }
+{
+    let mut j = from;
+    while j < b.len() {
+        let p = placed_at(a, i, u);
+        let q = placed_at(b, j, v);
+        if p.line < q.line {
+            return;
+        }
+        let low = minus(p.begin + 1, q.end);
+        let high = minus(p.end, q.begin);
+        keep(far, low, high);
+        j += 1;
+    }
+}
+
+// Keeps the intervals of all strips of the two pieces that lie in one line.
+fn mark_all(a: &[[u8; 3]], u: Corner, b: &[[u8; 3]], v: Corner, far: &mut [u16])
+    requires { ⌜ Ordered (now a) ⌝ ∗ ⌜ Ordered (now b) ⌝ ∗ ⌜ Near u × Near v ⌝ ∗ ⌜ Sound (now a) u (now b) v (now far) ⌝ }
+    ensures { λ _. ⌜ AllMarked (now (a .entry)) u (now (b .entry)) v (now (far .entry)) (now (far .exit)) ⌝ }
+{
+    let mut i = 0;
+    let mut j = 0;
+    while i < a.len() {
+        let p = placed_at(a, i, u);
+        j = line_start(b, v, p.line, j);
+        mark_line(a, i, u, b, j, v, far);
+        i += 1;
+    }
+}
+
+// Sets every mark to 0.
+fn clear(marks: &mut [u16])
+    ensures { λ _. ⌜ now (marks .exit) ≡ replicate (length (now (marks .entry))) 0 ⌝ }
+{
+    let mut k = 0;
+    while k < marks.len() {
+        marks[k] = 0;
+        k += 1;
+    }
+}
+
+// The larger of two ends.
+fn larger(x: u16, y: u16) -> u16
+    ensures { λ r. ⌜ r ≡ max x y ⌝ }
+{
+    if x < y { y } else { x }
+}
+
+// 1 where the place lies before the end.
+fn flag(k: usize, end: u16) -> u16
+    ensures { λ r. ⌜ r ≡ one-if (ltb k end) ⌝ }
+{
+    if k < (end as usize) { 1 } else { 0 }
+}
+
+// Turns the farthest ends into marks.
+fn sweep(far: &mut [u16])
+    ensures { λ _. ⌜ Swept (now (far .entry)) (now (far .exit)) ⌝ }
+{
+    let mut reach: u16 = 0;
+    let mut k = 0;
+    while k < far.len() {
+        reach = larger(reach, far[k]);
+        far[k] = flag(k, reach);
+        k += 1;
+    }
+}
+
+// Marks the shifts 0, 1, .. of the second piece along the strips, as many as there is room for: 1 where they share a pixel, else 0.
+pub fn mark_shifts(a: &[[u8; 3]], u: Corner, b: &[[u8; 3]], v: Corner, marks: &mut [u16])
+    requires { ⌜ Ordered (now a) ⌝ ∗ ⌜ Ordered (now b) ⌝ ∗ ⌜ Near u × Near v ⌝ }
+    ensures { λ _. ⌜ now (marks .exit) ≡ marksOf (now (a .entry)) u (now (b .entry)) v (length (now (marks .entry))) ⌝ }
+{
+    clear(marks);
+    mark_all(a, u, b, v, marks);
+    sweep(marks);
+}

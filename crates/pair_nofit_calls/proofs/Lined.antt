@@ -1,0 +1,78 @@
+-- The runs of a line's marks, and what putting them comes to. Assumes nothing.
+use mathlib.Core.Bool.{Bool, true, false}
+use mathlib.Core.List.{List, [], _∷_, _++_, map}
+use mathlib.Core.Path.{_≡_, refl, sym, ap, ap₂, subst, _∙_}
+use Prim.Native.Nat.{ℕ, _+_, min, _<_, _≤_}
+use native.Mathlib.Omega.{arith}
+use lib.Dec.{ltb, eqb}
+use lib.IntN.{ℤ}
+use lib.ListN.{length, getD, length-map}
+use lib.Seq.{sets, length-sets}
+use borrow.Author.Tests.{lt-ltb, le-ltb}
+use Rattle.model.specs.Bounded.{one-if}
+use Rattle.model.specs.Strip.{Run, runs}
+use Rattle.model.specs.Overlap.{offsetBound, up, down}
+use Rattle.model.specs.Refusal.{Outcome, refused, given, cause, refusalOf, unless, wrongLength}
+use Rattle.model.specs.Calls.{atLeast}
+use Rattle.model.specs.declared.Refusal.{Refusal}
+use Rattle.strip_laws.proofs.Runs.{runs-agree}
+use Rattle.pair_overlap.specs.declared.Corner.{Corner}
+use Rattle.pair_nofit.specs.Marks.{flagsFrom, sharesAt, marksOf}
+use Rattle.pair_nofit.proofs.Marked.{flags-length, flags-at}
+use Rattle.pair_nofit_calls.specs.Lines.{offsetEntry, marked, Put, offsetCount, lowCorner, highCorner, lineRuns, lineOutcome, runsAnswer, lineAfter}
+use Rattle.pair_nofit_calls.specs.declared.RunsAnswer.{RunsAnswer}
+
+-- a flag is 1 exactly where the number passes
+flag-one : (b : Bool) → eqb (one-if b) 1 ≡ b
+flag-one true = refl
+flag-one false = refl
+
+-- the runs of flags are the runs of the test
+flag-runs : (f : ℕ → Bool) (n : ℕ) → runs (marked (flagsFrom f 0 n)) (length (flagsFrom f 0 n)) ≡ runs f n
+flag-runs f n =
+    ap (runs (marked (flagsFrom f 0 n))) (flags-length f 0 n)
+    ∙ runs-agree (marked (flagsFrom f 0 n)) f n (λ k l. ap (λ (z : ℕ). eqb z 1) (flags-at f n k l) ∙ flag-one (f k))
+
+-- the runs of the marks are the line's
+pub marks-line : (es fs : List (List ℕ)) (o : ℤ) (x y n : ℕ) (marks : List ℕ) → x ≡ min (down o) 255 → y ≡ min (up o) 255 → n ≡ offsetCount
+    → marks ≡ marksOf es (record { along = offsetBound; across = x }) fs (record { along = 0; across = y }) n
+    → runs (marked marks) (length marks) ≡ lineRuns es fs o
+marks-line es fs o x y n marks a b c e =
+    let u : ℕ → Corner = λ z. record { along = offsetBound; across = z } in
+    let v : ℕ → Corner = λ z. record { along = 0; across = z } in
+    let f : marks ≡ marksOf es (lowCorner o) fs (highCorner o) offsetCount = e ∙ (λ i. marksOf es (u (a i)) fs (v (b i)) (c i)) in
+    ap (λ (z : List ℕ). runs (marked z) (length z)) f ∙ flag-runs (sharesAt es (lowCorner o) fs (highCorner o)) offsetCount
+
+-- a part of no entries in front of the rest
+front-none : (l before : List (List ℤ)) → length l ≡ 0 → l ++ before ≡ before
+front-none [] before e = refl
+front-none (x ∷ l) before e = absurd (omega arith)
+
+none-stored : (rs : List Run) (last : List (List ℤ)) (needed : ℕ) → Put rs [] 0 last needed → length last ≡ 0
+none-stored rs last needed p = ap length (p .stored) ∙ length-sets [] 0 (map offsetEntry rs)
+
+module _ (es fs : List (List ℕ)) (o : ℤ) (rs : List Run) (r : rs ≡ lineRuns es fs o) (before last : List (List ℤ)) (needed : ℕ) (p : Put rs [] 0 last needed) where
+  -- what the buffer holds after the count: what it held
+  pub counted-same : last ++ before ≡ before
+  counted-same = front-none last before (none-stored rs last needed p)
+
+  -- no room: refused
+  pub line-short : length (last ++ before) < needed → (w : Refusal) → w ≡ refusalOf (cause wrongLength true)
+      → (RunsAnswer.Refused w ≡ runsAnswer (lineOutcome es fs o (length before))) × (last ++ before ≡ lineAfter before (lineOutcome es fs o (length before)))
+  unfolding unless
+  line-short l w e =
+      let t : ltb (length before) (length (lineRuns es fs o)) ≡ true = lt-ltb (length before) (length (lineRuns es fs o)) (omega (arith, p .end, ap length r, ap length counted-same)) in
+      let g : lineOutcome es fs o (length before) ≡ refused (refusalOf (cause wrongLength true)) = rw (t, unless) in
+      (ap RunsAnswer.Refused e ∙ ap runsAnswer (sym g), counted-same ∙ ap (lineAfter before) (sym g))
+
+  -- room: given
+  pub line-room : needed ≤ length (last ++ before) → (after : List (List ℤ)) (n : ℕ) → Put rs (last ++ before) 0 after n
+      → (RunsAnswer.Runs n ≡ runsAnswer (lineOutcome es fs o (length before))) × (after ≡ lineAfter before (lineOutcome es fs o (length before)))
+  unfolding unless
+  line-room l after n q =
+      let t : ltb (length before) (length (lineRuns es fs o)) ≡ false = le-ltb (length before) (length (lineRuns es fs o)) (omega (arith, p .end, ap length r, ap length counted-same)) in
+      let g : lineOutcome es fs o (length before) ≡ given (lineRuns es fs o) = rw (t, unless) in
+      let m : n ≡ length (lineRuns es fs o) = omega (arith, q .end, ap length r) in (
+        ap RunsAnswer.Runs m ∙ ap runsAnswer (sym g),
+        q .stored ∙ ap₂ (λ (b : List (List ℤ)) (z : List Run). sets b 0 (map offsetEntry z)) counted-same r ∙ ap (lineAfter before) (sym g),
+      )

@@ -1,0 +1,180 @@
+-- The no-fit calls: where no cause refuses, the lent stretches are the pieces' strips, and their line's runs are the no-fit line of
+-- document 01. An offset of 255 or more across the direction parts any two pieces, so it may be cut off there. Assumes nothing.
+use mathlib.Core.Bool.{Bool, true, false, not, _&&_}
+use mathlib.Core.List.{List, [], _∷_, _++_, map}
+use mathlib.Core.Path.{_≡_, refl, sym, ap, ap₂, subst, _∙_}
+use mathlib.Core.Logic.{_⊎_, inl, inr, ⊎-elim}
+use Prim.Native.Nat.{ℕ, suc, _+_, min, _<_, _≤_}
+use native.Mathlib.Omega.{arith}
+use lib.Dec.{ltb}
+use lib.IntN.{ℤ, pos, negsuc}
+use lib.ListN.{length, take, drop, length-map}
+use lib.Seq.{sets, sets-eq}
+use borrow.Author.Tests.{not-false, ltb-false}
+use Rattle.model.specs.Piece.{Shape, extent, other}
+use Rattle.model.specs.Strip.{Strip, Run, runs, strips}
+use Rattle.model.specs.Overlap.{OffsetRun, unbiased, noFit, noFitAt, up, down}
+use Rattle.model.specs.Buffer.{runEntry, stripEntry, filled, sameEntries}
+use Rattle.model.specs.Layout.{turnedPiece}
+use Rattle.model.specs.Refusal.{Outcome, refused, given, cause, refusalOf, unless, wrongLength}
+use Rattle.model.specs.Lent.{Lent, jobOf, lentWell}
+use Rattle.model.specs.Calls.{LentStretch, known, stretchWell, noFitOf, noFitCall, runsAfter, atLeast}
+use Rattle.model.specs.declared.Direction.{Direction}
+use Rattle.model.specs.declared.Refusal.{Refusal}
+use Rattle.model.proofs.Tests.{and-left, and-right, same-tests}
+use Rattle.job_laws.proofs.Checked.{facts}
+use Rattle.text_laws.specs.Outcomes.{NoCause}
+use Rattle.strip_laws.proofs.Runs.{runs-agree}
+use Rattle.strip_laws.proofs.Strips.{strips-maximal}
+use Rattle.layout_places.proofs.Causes.{none-then, refused-then}
+use Rattle.layout_places.specs.Answers.{firstCause}
+use Rattle.layout_places.specs.declared.CauseAnswer.{CauseAnswer}
+use Rattle.pair_overlap.specs.Meet.{stripAt, shifted, meet, Ordered, stretchesShare}
+use Rattle.pair_overlap.specs.Seen.{entries}
+use Rattle.pair_overlap.specs.declared.Corner.{Corner}
+use Rattle.pair_overlap.proofs.Walk.{Meeting, meet-facts, facts-meet, meet-share, StripsMeet, share-meet}
+use Rattle.pair_overlap.proofs.Shapes.{at-member, entries-ordered}
+use Rattle.pair_nofit.specs.Marks.{sharesAt}
+use Rattle.pair_nofit.proofs.Marked.{firstCorner, secondCorner, marks-no-fit}
+use Rattle.pair_nofit_calls.specs.Lines.{offsetEntry, offsetCount, lowCorner, highCorner, lineRuns, lineOutcome, runsAnswer, lineAfter, stretchCauses}
+use Rattle.pair_nofit_calls.specs.declared.RunsAnswer.{RunsAnswer}
+use Rattle.pair_nofit_calls.proofs.Owning.{entries-same, known-below}
+
+-- ── offsets cut off at 255 ──
+
+-- an offset goes up or down, not both
+one-way : (o : ℤ) → (up o ≡ 0) ⊎ (down o ≡ 0)
+one-way (pos n) = inr refl
+one-way (negsuc n) = inl refl
+
+-- lines below 255 are as far apart as the offset exactly when they are as far apart as the offset cut off
+cut-line : (o : ℤ) (a b : ℕ) → a < 255 → b < 255 → a + down o ≡ b + up o → a + min (down o) 255 ≡ b + min (up o) 255
+cut-line o a b l m e = ⊎-elim (λ (z : up o ≡ 0). omega arith) (λ (z : down o ≡ 0). omega arith) (one-way o)
+
+line-cut : (o : ℤ) (a b : ℕ) → a < 255 → b < 255 → a + min (down o) 255 ≡ b + min (up o) 255 → a + down o ≡ b + up o
+line-cut o a b l m e = ⊎-elim (λ (z : up o ≡ 0). omega arith) (λ (z : down o ≡ 0). omega arith) (one-way o)
+
+module _ (d : Direction) (s t : Shape) (lines : extent (other d) s ≤ 255) (lines′ : extent (other d) t ≤ 255) (o : ℤ) (k : ℕ) where
+  strip-line : (z : Shape) → extent (other d) z ≤ 255 → (i : ℕ) → i < length (entries d z) → stripAt (entries d z) i .line < 255
+  strip-line z h i l = let m = strips-maximal d z _ (at-member (strips d z) i l) .line in omega arith
+
+  cut-shares : sharesAt (entries d s) (lowCorner o) (entries d t) (highCorner o) k ≡ sharesAt (entries d s) (firstCorner o) (entries d t) (secondCorner o) k
+  cut-shares =
+      same-tests _ _
+      (λ e.
+      let w : StripsMeet (entries d s) (lowCorner o) (entries d t) (shifted k (highCorner o)) = share-meet (entries d s) (lowCorner o) (entries d t) (shifted k (highCorner o)) e in
+      let m : Meeting _ (lowCorner o) _ (shifted k (highCorner o)) = meet-facts (stripAt (entries d s) (w .i)) (lowCorner o) (stripAt (entries d t) (w .j)) (shifted k (highCorner o)) (w .meets) in
+      meet-share (entries d s) (firstCorner o) (entries d t) (shifted k (secondCorner o)) (w .i) (w .j) (w .i-below) (w .j-below)
+      (facts-meet (stripAt (entries d s) (w .i)) (firstCorner o) (stripAt (entries d t) (w .j)) (shifted k (secondCorner o))
+      (record {
+        line = line-cut o _ _ (strip-line s lines (w .i) (w .i-below)) (strip-line t lines′ (w .j) (w .j-below)) (m .line);
+        low = m .low;
+        high = m .high;
+      })))
+      (λ e.
+      let w : StripsMeet (entries d s) (firstCorner o) (entries d t) (shifted k (secondCorner o)) = share-meet (entries d s) (firstCorner o) (entries d t) (shifted k (secondCorner o)) e in
+      let m : Meeting _ (firstCorner o) _ (shifted k (secondCorner o)) = meet-facts (stripAt (entries d s) (w .i)) (firstCorner o) (stripAt (entries d t) (w .j)) (shifted k (secondCorner o)) (w .meets) in
+      meet-share (entries d s) (lowCorner o) (entries d t) (shifted k (highCorner o)) (w .i) (w .j) (w .i-below) (w .j-below)
+      (facts-meet (stripAt (entries d s) (w .i)) (lowCorner o) (stripAt (entries d t) (w .j)) (shifted k (highCorner o))
+      (record {
+        line = cut-line o _ _ (strip-line s lines (w .i) (w .i-below)) (strip-line t lines′ (w .j) (w .j-below)) (m .line);
+        low = m .low;
+        high = m .high;
+      })))
+
+-- the line's runs are those of the no-fit line
+line-no-fit : (d : Direction) (s t : Shape) → extent (other d) s ≤ 255 → extent (other d) t ≤ 255 → (o : ℤ)
+    → lineRuns (entries d s) (entries d t) o ≡ runs (noFitAt d s t o) offsetCount
+line-no-fit d s t h g o =
+    runs-agree (sharesAt (entries d s) (lowCorner o) (entries d t) (highCorner o)) (noFitAt d s t o) offsetCount
+    (λ k l. cut-shares d s t h g o k ∙ marks-no-fit d s t o k)
+
+-- ── outcomes ──
+
+map-runs : (rs : List Run) → map runEntry (map unbiased rs) ≡ map offsetEntry rs
+map-runs [] = refl
+map-runs (r ∷ rs) = ap (λ (z : List (List ℤ)). offsetEntry r ∷ z) (map-runs rs)
+
+-- runs of offsets are given and put as the runs of biased offsets are
+outcome-by : (rs : List Run) (before : List (List ℤ)) (b : Bool) → ltb (length before) (length rs) ≡ b
+    → (runsAnswer (unless (cause wrongLength b ∷ []) rs) ≡ runsAnswer (unless (cause wrongLength b ∷ []) (map unbiased rs)))
+    × (lineAfter before (unless (cause wrongLength b ∷ []) rs) ≡ runsAfter before (unless (cause wrongLength b ∷ []) (map unbiased rs)))
+unfolding unless
+outcome-by rs before true e = (refl, refl)
+outcome-by rs before false e =
+    let n : length (map offsetEntry rs) ≡ length rs = length-map rs offsetEntry in
+    let l : length rs ≤ length before = ltb-false _ _ e in
+    let f : 0 + length (map offsetEntry rs) ≡ length (map offsetEntry rs) = omega arith in (
+      ap RunsAnswer.Runs (sym (length-map rs unbiased)),
+      sets-eq (map offsetEntry rs) before 0 (omega arith) ∙ ap (λ (z : ℕ). map offsetEntry rs ++ drop z before) f
+          ∙ ap (λ (z : List (List ℤ)). filled z before) (sym (map-runs rs)),
+    )
+
+-- the line of the stretches and the call's
+pub record Called (es fs : List (List ℕ)) (o : ℤ) (before : List (List ℤ)) (call : Outcome (List OffsetRun)) : Type 0 where
+  pub answer : runsAnswer (lineOutcome es fs o (length before)) ≡ runsAnswer call
+  pub memory : lineAfter before (lineOutcome es fs o (length before)) ≡ runsAfter before call
+
+-- the sides of a job's piece are at most 255
+piece-lines : (d : Direction) (l : Lent) (p : LentStretch) → lentWell l ≡ true → known (jobOf l) p ≡ true
+    → extent d (turnedPiece (jobOf l) (p .piece) (p .turn)) ≤ 255
+piece-lines d l p w e = facts l w .turnedSmall d (p .piece) (p .turn) (known-below l p e)
+
+module _ (d : Direction) (l : Lent) (p q : LentStretch) (none : NoCause (stretchCauses d l p q)) where
+  well : lentWell l ≡ true
+  unfolding stretchCauses
+  well = not-false (lentWell l) (none .0)
+
+  both-known : (known (jobOf l) p && known (jobOf l) q) ≡ true
+  unfolding stretchCauses
+  both-known = not-false _ (none .1 .0)
+
+  both-own : (stretchWell d (jobOf l) p && stretchWell d (jobOf l) q) ≡ true
+  unfolding stretchCauses
+  both-own = not-false _ (none .1 .1 .0)
+
+  first-known : known (jobOf l) p ≡ true
+  first-known = and-left (known (jobOf l) p) (known (jobOf l) q) both-known
+
+  second-known : known (jobOf l) q ≡ true
+  second-known = and-right (known (jobOf l) p) (known (jobOf l) q) both-known
+
+  -- the stretches are the pieces' strips
+  first-is : p .stretch ≡ entries d (turnedPiece (jobOf l) (p .piece) (p .turn))
+  unfolding stretchWell
+  first-is = entries-same (p .stretch) _ (and-left (stretchWell d (jobOf l) p) (stretchWell d (jobOf l) q) both-own)
+
+  second-is : q .stretch ≡ entries d (turnedPiece (jobOf l) (q .piece) (q .turn))
+  unfolding stretchWell
+  second-is = entries-same (q .stretch) _ (and-right (stretchWell d (jobOf l) p) (stretchWell d (jobOf l) q) both-own)
+
+  pub first-ordered : Ordered (p .stretch)
+  first-ordered = subst Ordered (sym first-is) (entries-ordered d _ (piece-lines d l p well first-known))
+
+  pub second-ordered : Ordered (q .stretch)
+  second-ordered = subst Ordered (sym second-is) (entries-ordered d _ (piece-lines d l q well second-known))
+
+  -- so their line is the call's
+  pub line-called : (o : ℤ) (before : List (List ℤ)) → Called (p .stretch) (q .stretch) o before (noFitCall d l p q o (length before))
+  unfolding noFitCall noFitOf noFit stretchCauses
+  line-called o before =
+      let s : Shape = turnedPiece (jobOf l) (p .piece) (p .turn) in
+      let t : Shape = turnedPiece (jobOf l) (q .piece) (q .turn) in
+      let r : lineRuns (p .stretch) (q .stretch) o ≡ runs (noFitAt d s t o) offsetCount =
+      ap₂ (λ (x y : List (List ℕ)). lineRuns x y o) first-is second-is
+      ∙ line-no-fit d s t (piece-lines (other d) l p well first-known) (piece-lines (other d) l q well second-known) o in
+      let rs : List Run = lineRuns (p .stretch) (q .stretch) o in
+      let n : List OffsetRun = map unbiased rs in
+      let call : noFitCall d l p q o (length before) ≡ unless (atLeast (length rs) (length before) ∷ []) n =
+      none-then (stretchCauses d l p q) (atLeast (length (noFitOf d (jobOf l) p q o)) (length before) ∷ []) (noFitOf d (jobOf l) p q o) none
+      ∙ ap (λ (z : List Run). unless (atLeast (length (map unbiased z)) (length before) ∷ []) (map unbiased z)) (sym r)
+      ∙ ap (λ (z : ℕ). unless (atLeast z (length before) ∷ []) n) (length-map rs unbiased) in
+      let both = outcome-by rs before (ltb (length before) (length rs)) refl in
+      record { answer = both .0 ∙ ap runsAnswer (sym call); memory = both .1 ∙ ap (runsAfter before) (sym call) }
+
+-- a refusal before the room is asked for refuses the call
+pub refused-called : (d : Direction) (l : Lent) (p q : LentStretch) (o : ℤ) (room : ℕ) (r : Refusal) → CauseAnswer.Refused r ≡ firstCause (stretchCauses d l p q)
+    → noFitCall d l p q o room ≡ refused r
+unfolding noFitCall stretchCauses
+refused-called d l p q o room r e =
+    refused-then (stretchCauses d l p q) (atLeast (length (noFitOf d (jobOf l) p q o)) room ∷ []) (noFitOf d (jobOf l) p q o) r e

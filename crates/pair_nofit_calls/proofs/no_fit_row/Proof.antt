@@ -1,0 +1,37 @@
+-- `pair_nofit_calls::no_fit_row`: the offset is passed on as it is. Assumes nothing.
+use mathlib.Core.Path.{_≡_, sym, ap, subst, _∙_}
+use borrow.Author.Needs.{needs}
+use lib.IntN.{ℤ}
+use lib.ListN.{length}
+use mir.Syntax.{w32}
+use mir.Val.{SFits, toZ, ofZ}
+use mir.ValLaws.{toZ-ofZ}
+use Rattle.model.specs.Lent.{Lent, lentBy}
+use Rattle.model.specs.Calls.{LentStretch, noFitCall, runsAfter}
+use Rattle.model.specs.declared.Direction.the-variants.{Horizontal}
+use mathlib.Core.List.{List}
+use Rattle.model.specs.Overlap.{OffsetRun}
+use Rattle.model.specs.Refusal.{Outcome}
+use Rattle.pair_nofit_calls.specs.Lines.{lentStretch, runsAnswer}
+use Rattle.pair_nofit_calls.proofs.no_fit_row.Statement.{statement}
+use Rattle.pair_nofit_calls.proofs.no_fit_row.Tie as tie
+
+no-fit-requires : tie.Need-no-fit-requires
+no-fit-requires c κs = search needs
+
+same-length : tie.Need-same-length
+same-length c = search needs
+
+returns : tie.Need-returns
+returns c =
+    let a = c .before .before .before .before .before .args in
+    let l : Lent = lentBy (a .size) (a .table .now) (a .pixels .now) in
+    let p : LentStretch = lentStretch (a .i) (a .first) (a .a .now) in
+    let q : LentStretch = lentStretch (a .k) (a .second) (a .b .now) in
+    let o = a .offset .0 in
+    let e : toZ w32 (ofZ w32 o) ≡ o = toZ-ofZ w32 o (record { sfits = c .before .before .struct-told .given .0 .1 }) in
+    let call : ℤ → Outcome (List OffsetRun) = λ z. noFitCall Horizontal l p q z (length (a .out .now)) in
+    (c .before .no-fit .ensures .0 ∙ ap (λ (z : ℤ). runsAnswer (call z)) e, c .before .no-fit .ensures .1 ∙ ap (λ (z : ℤ). runsAfter (a .out .now) (call z)) e)
+
+pub no-fit-row-spec : {M : Type 1} → statement M
+no-fit-row-spec = tie.close (tie.spec no-fit-requires same-length returns)

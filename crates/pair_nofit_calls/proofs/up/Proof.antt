@@ -1,0 +1,44 @@
+-- `pair_nofit_calls::up`: by the tests. Assumes nothing.
+use mathlib.Core.Bool.{true, false}
+use mathlib.Core.Path.{_≡_, sym, ap, subst, _∙_}
+use Prim.Native.Nat.{ℕ, min}
+use native.Mathlib.Omega.{arith}
+use borrow.Author.Needs.{needs}
+use lib.Dec.{T}
+use lib.IntN.{ℤ, pos, negsuc, natAbs, subℕ, _-ℤ_}
+use lib.Signed.{ltZ, leZ, nonNeg}
+use mir.Syntax.{w32}
+use mir.Val.{SFits, Fits, toZ, ofZ}
+use mir.ValLaws.{toZ-ofZ}
+use Rattle.model.specs.Overlap.{up, down}
+use Rattle.pair_nofit_calls.proofs.Offsets.{up-none, up-far, up-near, not-negative}
+use Rattle.pair_nofit_calls.proofs.up.Statement.{statement}
+use Rattle.pair_nofit_calls.proofs.up.Tie as tie
+
+returns : tie.Need-returns
+returns c =
+    let o = c .before .args .o in
+    let e : toZ w32 (ofZ w32 o) ≡ o = toZ-ofZ w32 o (c .before .fits .o) in
+    subst (λ (z : ℤ). 0 ≡ min (up z) 255) e (up-none (toZ w32 (ofZ w32 o)) (c .if1 .taken))
+
+returns-2 : tie.Need-returns-2
+returns-2 c =
+    let o = c .before .before .args .o in
+    let e : toZ w32 (ofZ w32 o) ≡ o = toZ-ofZ w32 o (c .before .before .fits .o) in
+    subst (λ (z : ℤ). 255 ≡ min (up z) 255) e (up-far (toZ w32 (ofZ w32 o)) (c .if2 .taken))
+
+cast-result : tie.Need-cast-result
+cast-result c =
+    let o = c .before .before .args .o in
+    let e : toZ w32 (ofZ w32 o) ≡ o = toZ-ofZ w32 o (c .before .before .fits .o) in
+    let z = toZ w32 (ofZ w32 o) in
+    (not-negative z (c .before .if1 .left), record { fits = omega (arith, up-near z (c .before .if1 .left) (c .if2 .left)) })
+
+returns-3 : tie.Need-returns-3
+returns-3 c =
+    let o = c .before .before .args .o in
+    let e : toZ w32 (ofZ w32 o) ≡ o = toZ-ofZ w32 o (c .before .before .fits .o) in
+    up-near (toZ w32 (ofZ w32 o)) (c .before .if1 .left) (c .if2 .left) ∙ ap (λ (z : ℤ). min (up z) 255) e
+
+pub up-spec : {M : Type 1} → statement M
+up-spec = tie.close (tie.spec returns returns-2 cast-result returns-3)

@@ -1,0 +1,71 @@
+-- Runs of marked offsets, as a run buffer holds them, and the outcome of the no-fit calls. Assumes nothing.
+use mathlib.Core.Bool.{Bool, not, _&&_}
+use mathlib.Core.List.{List, [], _∷_, map}
+use mathlib.Core.Path.{_≡_}
+use Prim.Native.Nat.{ℕ, min, _+_}
+use lib.Dec.{eqb}
+use lib.IntN.{ℤ}
+use lib.ListN.{length, getD}
+use lib.Seq.{sets}
+use Rattle.model.specs.Strip.{Run, runs, closing}
+use Rattle.model.specs.Overlap.{OffsetRun, unbiased, offsetBound, up, down}
+use Rattle.model.specs.Buffer.{runEntry}
+use Rattle.model.specs.Refusal.{Outcome, refused, given, Cause, cause, unless, noSuchPiece, notOurs}
+use Rattle.model.specs.Lent.{Lent, jobOf}
+use Rattle.model.specs.Calls.{LentStretch, known, stretchWell, jobCause, atLeast, leaving}
+use Rattle.model.specs.declared.Direction.{Direction}
+use Rattle.model.specs.declared.Turn.{Turn}
+use Rattle.pair_overlap.specs.declared.Corner.{Corner}
+use Rattle.pair_nofit.specs.Marks.{sharesAt}
+use Rattle.pair_nofit_calls.specs.declared.RunsAnswer.{RunsAnswer}
+
+-- a run of biased offsets as an entry of a run buffer
+abbrev pub offsetEntry : Run → List ℤ
+offsetEntry r = runEntry (unbiased r)
+
+-- the number is marked
+abbrev pub marked : List ℕ → ℕ → Bool
+marked marks k = eqb (getD marks k 0) 1
+
+-- runs put into a buffer from `at` on, as far as there is room, and where the next would stand
+pub record Put (rs : List Run) (before : List (List ℤ)) (at : ℕ) (after : List (List ℤ)) (next : ℕ) : Type 0 where
+  pub end : next ≡ at + length rs
+  pub stored : after ≡ sets before at (map offsetEntry rs)
+
+-- the number of offsets of a no-fit line: from -254 to 254
+abbrev pub offsetCount : ℕ
+offsetCount = 509
+
+-- the corners at which the marks are a no-fit line's; offsets of 255 and more have none
+abbrev pub lowCorner : ℤ → Corner
+lowCorner o = record { along = offsetBound; across = min (down o) 255 }
+
+abbrev pub highCorner : ℤ → Corner
+highCorner o = record { along = 0; across = min (up o) 255 }
+
+-- the runs of the offsets at which two stretches share a pixel
+abbrev pub lineRuns : List (List ℕ) → List (List ℕ) → ℤ → List Run
+lineRuns es fs o = runs (sharesAt es (lowCorner o) fs (highCorner o)) offsetCount
+
+-- they are given where there is room for them
+abbrev pub lineOutcome : List (List ℕ) → List (List ℕ) → ℤ → ℕ → Outcome (List Run)
+lineOutcome es fs o room = unless (atLeast (length (lineRuns es fs o)) room ∷ []) (lineRuns es fs o)
+
+-- how many runs there are
+abbrev pub runsAnswer : {A : Type 0} → Outcome (List A) → RunsAnswer
+runsAnswer (refused r) = RunsAnswer.Refused r
+runsAnswer (given rs) = RunsAnswer.Runs (length rs)
+
+-- what the run buffer then holds
+abbrev pub lineAfter : List (List ℤ) → Outcome (List Run) → List (List ℤ)
+lineAfter before o = leaving (λ rs. sets before 0 (map offsetEntry rs)) before o
+
+-- a piece in a turn with a lent stretch
+abbrev pub lentStretch : ℕ → Turn → List (List ℕ) → LentStretch
+lentStretch i t es = record { piece = i; turn = t; stretch = es }
+
+-- the causes of a no-fit call before the room is asked for: 8 the job, 9, 8 a stretch
+unfoldable pub stretchCauses : Direction → Lent → LentStretch → LentStretch → List Cause
+stretchCauses d l p q =
+    jobCause l ∷ cause noSuchPiece (not (known (jobOf l) p && known (jobOf l) q))
+    ∷ cause notOurs (not (stretchWell d (jobOf l) p && stretchWell d (jobOf l) q)) ∷ []

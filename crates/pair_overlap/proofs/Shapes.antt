@@ -1,0 +1,228 @@
+-- What the definitions over lent stretches come to for the strips of pixel sets, in every direction: the stretches share a pixel
+-- exactly when the placed sets do, and the bounded depth and penalty are document 01's, cut off at the bound. Strips hold just
+-- the pixels of their set, so a common pixel of two strips is a shared pixel, and a shared pixel lies in a strip of each.
+-- Assumes nothing.
+use mathlib.Core.Bool.{Bool, true, not, _||_}
+use mathlib.Core.List.{List, [], _∷_, map, List·Memᴰ, List·Memᴰ·head, List·Memᴰ·tail, List·Memᴰ·not-nil}
+use mathlib.Core.Path.{_≡_, refl, sym, ap, ap₂, _∙_, subst, subst₂}
+use mathlib.Core.Logic.{_⊎_, ⊎-elim}
+use Prim.Native.Nat.{ℕ, zero, suc, _+_, _-_, min, _<_, _≤_}
+use native.Mathlib.Nat.{not-suc-le-zero, le-of-suc-le-suc, eq-or-lt-of-le}
+use native.Mathlib.Omega.{arith}
+use lib.ListN.{length, getD}
+use Rattle.model.specs.Bounded.{firstFrom}
+use Rattle.model.specs.Piece.{Point, Shape, pixel, along, across, point, shift, extent}
+use Rattle.model.specs.Strip.{Strip, strips, stripsHave}
+use Rattle.model.specs.Buffer.{stripEntry}
+use Rattle.model.specs.Overlap.{share, apartAt, depth, penalty}
+use Rattle.model.specs.declared.Direction.{Direction}
+use Rattle.model.specs.declared.Direction.the-variants.{Horizontal, Vertical}
+use Rattle.model.proofs.Tests.{or-left, or-right, same-tests}
+use Rattle.strip_laws.specs.Lists.{Pairwise}
+use Rattle.strip_laws.proofs.Lists.{member-at, pairwise-at}
+use Rattle.strip_laws.specs.Strips.{MaximalStrip, StripBefore}
+use Rattle.strip_laws.proofs.Strips.{InStrips, have-in, strips-exactly, strips-maximal, strips-ordered}
+use Rattle.overlap_laws.specs.Overlap.{SharedPixel}
+use Rattle.overlap_laws.proofs.Share.{share-witness, share-from, share-symmetric, shared-along, shared-across, shared-over, along-point, across-point, along-shift, across-shift}
+use Rattle.overlap_laws.proofs.Depth.{depth-before, depth-apart, apart-cases}
+use Rattle.pair_overlap.specs.Meet.{stripAt, begin, Ordered, crossed, shifted, meet, stretchesShare, clearAt, clearBelow, depthBelow, penaltyBelow}
+pub use Rattle.pair_overlap.specs.Seen.{entries, seen}
+use Rattle.pair_overlap.specs.declared.Corner.{Corner}
+use Rattle.pair_overlap.proofs.Walk.{Meeting, meet-facts, facts-meet, meet-share, StripsMeet, share-meet}
+use Rattle.pair_overlap.proofs.Firsts.{below-or, FirstBelow, first-found, first-unique}
+
+-- ── strips by place ──
+
+no-strip : Strip
+no-strip = record { line = 0; first = 0; count = 0 }
+
+-- the strip at a place of a lent stretch
+strip-at : (ts : List Strip) (i : ℕ) (z : Strip) → i < length (map stripEntry ts) → stripAt (map stripEntry ts) i ≡ getD ts i z
+strip-at [] i z h = absurd (not-suc-le-zero h)
+strip-at (t ∷ ts) zero z h = refl
+strip-at (t ∷ ts) (suc i) z h = strip-at ts i z (le-of-suc-le-suc h)
+
+length-entries : (ts : List Strip) → length (map stripEntry ts) ≡ length ts
+length-entries [] = refl
+length-entries (t ∷ ts) = ap suc (length-entries ts)
+
+-- it is one of the strips
+pub at-member : (ts : List Strip) (i : ℕ) → i < length (map stripEntry ts) → List·Memᴰ (stripAt (map stripEntry ts) i) ts
+at-member ts i h = rw (strip-at ts i no-strip h) (member-at ts i no-strip (omega (arith, length-entries ts)))
+
+-- a place of a strip of the list
+record PlaceOf (t : Strip) (ts : List Strip) : Type 0 where
+  number : ℕ
+  below : number < length (map stripEntry ts)
+  is : stripAt (map stripEntry ts) number ≡ t
+
+place-of : (t : Strip) (ts : List Strip) → List·Memᴰ t ts → PlaceOf t ts
+place-of t [] m = absurd (List·Memᴰ·not-nil m)
+place-of t (x ∷ ts) (List·Memᴰ·head e) = record { number = 0; below = omega arith; is = sym e }
+place-of t (x ∷ ts) (List·Memᴰ·tail m) =
+    let w : PlaceOf t ts = place-of t ts m in
+    let b = w .below in
+    record { number = suc (w .number); below = omega arith; is = w .is }
+
+-- the strips of a set stand by line, then first
+strips-order : (d : Direction) (s : Shape) → extent d s ≤ 255 → (i j : ℕ) → i ≤ j → j < length (entries d s)
+    → begin (stripAt (entries d s) i) ≤ begin (stripAt (entries d s) j)
+strips-order d s h i j l m =
+    let ts : List Strip = strips d s in
+    ⊎-elim
+    (λ (e : i ≡ j). subst (λ (k : ℕ). begin (stripAt (entries d s) i) ≤ begin (stripAt (entries d s) k)) e (omega arith))
+    (λ (lt : i < j).
+    let a : MaximalStrip d s (stripAt (entries d s) i) = strips-maximal d s _ (at-member ts i (omega arith)) in
+    let b : StripBefore (getD ts i no-strip) (getD ts j no-strip) = pairwise-at (strips-ordered d s) i j no-strip lt (omega (arith, length-entries ts)) in
+    let c : StripBefore (stripAt (entries d s) i) (stripAt (entries d s) j) =
+    subst₂ StripBefore (sym (strip-at ts i no-strip (omega arith))) (sym (strip-at ts j no-strip m)) b in
+    let w = a .within in
+    ⊎-elim
+    (λ (f : stripAt (entries d s) i .line < stripAt (entries d s) j .line). omega arith)
+    (λ (f : (stripAt (entries d s) i .line ≡ stripAt (entries d s) j .line) × (stripAt (entries d s) i .first + stripAt (entries d s) i .count < stripAt (entries d s) j .first)).
+    omega (arith, f .0, f .1))
+    c)
+    (eq-or-lt-of-le l)
+
+-- and within 255 pixels
+pub entries-ordered : (d : Direction) (s : Shape) → extent d s ≤ 255 → Ordered (entries d s)
+entries-ordered d s h =
+    record {
+      order = strips-order d s h;
+      low = λ i l. let w = strips-maximal d s _ (at-member (strips d s) i l) .within in let p = strips-maximal d s _ (at-member (strips d s) i l) .some in omega arith;
+      short = λ i l. let w = strips-maximal d s _ (at-member (strips d s) i l) .within in omega arith;
+    }
+
+-- ── shared pixels ──
+
+module _ (d : Direction) (s : Shape) (u : Point) (t : Shape) (v : Point) where
+  -- two strips' pixels at one place
+  strips-pixel : (p q : Strip) → MaximalStrip d s p → MaximalStrip d t q → p .line + across d u ≡ q .line + across d v
+      → (a b : ℕ) → p .first ≤ a → a < p .first + p .count → q .first ≤ b → b < q .first + q .count
+      → along d u + a ≡ along d v + b → SharedPixel s u t v
+  strips-pixel p q m n e a b al ah bl bh f =
+      shared-over d s u t v (point d a (p .line)) (point d b (q .line)) (m .pixels a al ah) (n .pixels b bl bh)
+      (omega (arith, along-point d a (p .line), along-point d b (q .line)))
+      (omega (arith, across-point d a (p .line), across-point d b (q .line)))
+
+  -- two strips that hold a common pixel share it: the later of the two firsts is one
+  meeting-shared : (p q : Strip) → MaximalStrip d s p → MaximalStrip d t q → Meeting p (seen d u) q (seen d v) → SharedPixel s u t v
+  meeting-shared p q m n w =
+      let a = m .some in
+      let b = n .some in
+      let l = w .low in
+      let h = w .high in
+      ⊎-elim
+      (λ (e : q .first + along d v < p .first + along d u).
+      strips-pixel p q m n (w .line) (p .first) (p .first + along d u - along d v) (omega arith) (omega arith) (omega arith) (omega arith) (omega arith))
+      (λ (e : p .first + along d u ≤ q .first + along d v).
+      strips-pixel p q m n (w .line) (q .first + along d v - along d u) (q .first) (omega arith) (omega arith) (omega arith) (omega arith) (omega arith))
+      (below-or (q .first + along d v) (p .first + along d u))
+
+  stretches-shared : stretchesShare (entries d s) (seen d u) (entries d t) (seen d v) ≡ true → share s u t v ≡ true
+  stretches-shared e =
+      let m : StripsMeet (entries d s) (seen d u) (entries d t) (seen d v) = share-meet (entries d s) (seen d u) (entries d t) (seen d v) e in
+      share-from s u t v
+      (meeting-shared _ _ (strips-maximal d s _ (at-member (strips d s) (m .i) (m .i-below)))
+      (strips-maximal d t _ (at-member (strips d t) (m .j) (m .j-below)))
+      (meet-facts _ (seen d u) _ (seen d v) (m .meets)))
+
+  shared-stretches : share s u t v ≡ true → stretchesShare (entries d s) (seen d u) (entries d t) (seen d v) ≡ true
+  shared-stretches e =
+      let w : SharedPixel s u t v = share-witness s u t v e in
+      let p : InStrips d (strips d s) (w .p) = have-in d (strips d s) (w .p) (strips-exactly d s (w .p) ∙ w .of-first) in
+      let q : InStrips d (strips d t) (w .q) = have-in d (strips d t) (w .q) (strips-exactly d t (w .q) ∙ w .of-second) in
+      let i : PlaceOf (p .strip) (strips d s) = place-of (p .strip) (strips d s) (p .listed) in
+      let j : PlaceOf (q .strip) (strips d t) = place-of (q .strip) (strips d t) (q .listed) in
+      let a = p .line in
+      let b = q .line in
+      let al = p .low in
+      let ah = p .high in
+      let bl = q .low in
+      let bh = q .high in
+      let f = shared-along d w in
+      let g = shared-across d w in
+      let m : meet (p .strip) (seen d u) (q .strip) (seen d v) ≡ true =
+      facts-meet (p .strip) (seen d u) (q .strip) (seen d v) record { line = omega arith; low = omega arith; high = omega arith } in
+      meet-share (entries d s) (seen d u) (entries d t) (seen d v) (i .number) (j .number) (i .below) (j .below)
+      (subst₂ (λ (x y : Strip). meet x (seen d u) y (seen d v) ≡ true) (sym (i .is)) (sym (j .is)) m)
+
+  -- the strips of two placed sets hold a common pixel exactly when the sets share one
+  pub entries-share : stretchesShare (entries d s) (seen d u) (entries d t) (seen d v) ≡ share s u t v
+  entries-share = same-tests _ _ stretches-shared shared-stretches
+
+-- ── depth and penalty ──
+
+-- a shifted corner
+seen-shift : (d : Direction) (k : ℕ) (v : Point) → shifted k (seen d v) ≡ seen d (shift d k v)
+seen-shift d k v =
+    let e : along d v + k ≡ along d (shift d k v) = sym (along-shift d k v) in
+    let f : across d v ≡ across d (shift d k v) = sym (across-shift d k v) in
+    λ i. record { along = e i; across = f i }
+
+module _ (d : Direction) (s : Shape) (u : Point) (t : Shape) (v : Point) where
+  -- the stretches are clear at k exactly when the sets share no pixel once the second is shifted by k
+  clear-share : (k : ℕ) → clearAt (entries d s) (seen d u) (entries d t) (seen d v) k ≡ not (share s u t (shift d k v))
+  clear-share k =
+      ap not (ap (stretchesShare (entries d s) (seen d u) (entries d t)) (seen-shift d k v) ∙ entries-share d s u t (shift d k v))
+
+module _ (d : Direction) (s : Shape) (u : Point) (t : Shape) (v : Point) where
+  -- apart at k exactly when one of the two is clear at k
+  apart-clear : (k : ℕ) → apartAt d s u t v k
+      ≡ (clearAt (entries d s) (seen d u) (entries d t) (seen d v) k || clearAt (entries d t) (seen d v) (entries d s) (seen d u) k)
+  unfolding apartAt
+  apart-clear k =
+      sym
+      (ap₂ _||_ (clear-share d s u t v k) (clear-share d t v s u k ∙ ap not (share-symmetric t v s (shift d k u))))
+
+  -- the lesser of the two least shifts is the first at which they are apart
+  depth-first : (bound : ℕ)
+      → FirstBelow (apartAt d s u t v) bound (depthBelow (entries d s) (seen d u) (entries d t) (seen d v) bound)
+  unfolding clearBelow
+  depth-first bound =
+      let f : ℕ → Bool = clearAt (entries d s) (seen d u) (entries d t) (seen d v) in
+      let g : ℕ → Bool = clearAt (entries d t) (seen d v) (entries d s) (seen d u) in
+      let p = firstFrom f 0 bound in
+      let q = firstFrom g 0 bound in
+      let a : FirstBelow f bound p = first-found f bound in
+      let b : FirstBelow g bound q = first-found g bound in
+      let l = a .within in
+      record {
+        within = omega arith;
+        before = λ k m. apart-clear k ∙ ap₂ _||_ (a .before k (omega arith)) (b .before k (omega arith));
+        passing =
+            λ m.
+            apart-clear (min p q)
+            ∙ ⊎-elim
+            (λ (h : p < q). let e : min p q ≡ p = omega arith in or-left (f (min p q)) (g (min p q)) (rw e (a .passing (omega arith))))
+            (λ (h : q ≤ p). let e : min p q ≡ q = omega arith in or-right (f (min p q)) (g (min p q)) (rw e (b .passing (omega arith))))
+            (below-or p q);
+      }
+
+  -- the depth, cut off at the bound, is the first shift at which they are apart
+  pub depth-cut-first : (bound : ℕ) → FirstBelow (apartAt d s u t v) bound (min (depth d s u t v) bound)
+  unfolding apartAt
+  depth-cut-first bound =
+      record {
+        within = omega arith;
+        before = λ k m. let both = depth-before d s u t v k (omega arith) in ap₂ _||_ (ap not (both .0)) (ap not (both .1));
+        passing = λ m. let e : min (depth d s u t v) bound ≡ depth d s u t v = omega arith in rw e (depth-apart d s u t v);
+      }
+
+  -- the bounded depth of the strips is the depth, cut off at the bound
+  pub entries-depth : (bound : ℕ) → depthBelow (entries d s) (seen d u) (entries d t) (seen d v) bound ≡ min (depth d s u t v) bound
+  entries-depth bound =
+      first-unique (apartAt d s u t v) bound _ (depth-first bound) ∙ sym (first-unique (apartAt d s u t v) bound _ (depth-cut-first bound))
+
+-- the lesser of two numbers, cut off
+lesser-cut : (a b n : ℕ) → min (min a n) (min b n) ≡ min (min a b) n
+lesser-cut a b n = omega arith
+
+-- the bounded penalty of row strips and column strips is the penalty, cut off at the bound
+pub entries-penalty : (s : Shape) (u : Point) (t : Shape) (v : Point) (bound : ℕ)
+    → penaltyBelow (entries Horizontal s) (entries Vertical s) (seen Horizontal u) (entries Horizontal t) (entries Vertical t) (seen Horizontal v) bound
+    ≡ min (penalty s u t v) bound
+unfolding penalty
+entries-penalty s u t v bound =
+    ap₂ min (entries-depth Horizontal s u t v bound) (entries-depth Vertical s u t v bound)
+    ∙ lesser-cut (depth Horizontal s u t v) (depth Vertical s u t v) bound

@@ -1,0 +1,93 @@
+-- `pair_overlap::skip`: a strip that begins 1,280 before a place ends before it also when it is shifted, and so does every earlier one.
+-- Assumes nothing.
+use Prim.Native.Nat.{_+_, _-_, _/_}
+use native.Mathlib.Nat.{pos-of-ne-zero}
+use native.Mathlib.Omega.{arith}
+use lib.ListN.{length}
+use Rattle.pair_overlap.specs.Meet.{Skipped}
+use Rattle.pair_overlap.proofs.Walk.{skip-to}
+use Rattle.pair_overlap.proofs.skip.Statement.{statement}
+use Rattle.pair_overlap.proofs.skip.Tie as tie
+
+abbrev Inv-loop : tie.InvT-loop
+Inv-loop s from place i₀ i = Skipped s from place i
+
+abbrev μ-loop : tie.MeasureT-loop
+μ-loop s from place i₀ i = length s - i
+
+loop-holds : tie.Need-loop-holds Inv-loop μ-loop
+loop-holds c = record { within = omega arith; before = λ k l. absurd (omega arith) }
+
+span-at-requires : tie.Need-span-at-requires Inv-loop μ-loop
+span-at-requires c κs = omega arith
+
+returns : tie.Need-returns Inv-loop μ-loop
+returns c = c .before .before .before .before .loop .inv
+
+cast-lines : tie.Need-cast-lines Inv-loop μ-loop
+cast-lines c = omega arith
+
+returns-2 : tie.Need-returns-2 Inv-loop μ-loop
+returns-2 c = c .before .before .before .before .before .before .loop .inv
+
+sub-if3 : tie.Need-sub-if3 Inv-loop μ-loop
+sub-if3 c = omega arith
+
+returns-3 : tie.Need-returns-3 Inv-loop μ-loop
+returns-3 c = c .before .before .before .before .before .before .before .loop .inv
+
+add-span-at : tie.Need-add-span-at Inv-loop μ-loop
+add-span-at c = omega arith
+
+sub-span-at : tie.Need-sub-span-at Inv-loop μ-loop
+sub-span-at c = let z = pos-of-ne-zero (c .before .if2 .left) in omega arith
+
+span-at-requires-2 : tie.Need-span-at-requires-2 Inv-loop μ-loop
+span-at-requires-2 c κs = let z = pos-of-ne-zero (c .before .if2 .left) in omega arith
+
+add-if4 : tie.Need-add-if4 Inv-loop μ-loop
+add-if4 c = omega (arith, c .before .span-at2 .ensures)
+
+returns-4 : tie.Need-returns-4 Inv-loop μ-loop
+returns-4 c = c .before .before .before .before .before .before .before .before .before .before .loop .inv
+
+add-i : tie.Need-add-i Inv-loop μ-loop
+add-i c = omega arith
+
+loop-less : tie.Need-loop-less Inv-loop μ-loop
+loop-less c = let z = pos-of-ne-zero (c .before .before .before .before .if2 .left) in omega arith
+
+loop-again : tie.Need-loop-again Inv-loop μ-loop
+loop-again c =
+    let s = c .before .before .before .before .before .before .before .before .before .before .before .args in
+    let w = c .before .before .before .before .before .before .before .before .before .before .loop in
+    let q = c .before .before .span-at2 .ensures in
+    let z = pos-of-ne-zero (c .before .before .before .before .if2 .left) in
+    let lines = (s .place - c .before .before .before .before .before .before .before .before .span-at .result .begin) / 65536 in
+    skip-to (s .s .now) (s .from) (s .place) (w .i + lines - 1) (w .i + lines) (c .before .before .before .before .before .before .before .before .before .before .before .pre .0) (omega arith) (omega arith) (omega (arith, c .if4 .left, q .begins))
+
+returns-5 : tie.Need-returns-5 Inv-loop μ-loop
+returns-5 c = c .before .loop .inv
+
+pub skip-spec : {M : Type 1} → statement M
+skip-spec =
+    tie.close
+    (tie.spec
+    Inv-loop
+    μ-loop
+    loop-holds
+    span-at-requires
+    returns
+    cast-lines
+    returns-2
+    sub-if3
+    returns-3
+    add-span-at
+    sub-span-at
+    span-at-requires-2
+    add-if4
+    returns-4
+    add-i
+    loop-less
+    loop-again
+    returns-5)

@@ -1,0 +1,259 @@
+// Overlap of two placed pieces, from their strips. Document 01, 'No-fit rows and penalty'. Every function here takes a stretch of
+// strips for each piece, as (line, first, count) ordered by line, then first, all row strips or all column strips, and each
+// piece's corner. The contracts speak of the lent lists; proofs/Shapes.antt says what they come to for the strips of a pixel set.
+ghost use mathlib.Core.Path.{_≡_};
+ghost use Prim.Native.Nat.{_+_, _<_, _≤_, min};
+ghost use lib.ListN.{length};
+ghost use Rattle.pair_overlap.specs.Meet.{stripAt, baseOf, Ordered, Near, NearShifted, shiftBound, SpanOf, Skipped, Begun, Slid, ClearStretch, stretchesShare, clearBelow, depthBelow, penaltyBelow};
+
+// A piece's corner as its strips' direction sees it: the coordinate along them and the one across them.
+pub struct Corner {
+    pub along: u32,
+    pub across: u32,
+}
+
+// Where a placed strip begins and ends, in an order by line, then along: lines lie 65,536 apart.
+pub struct Span {
+    pub begin: u32,
+    pub end: u32,
+}
+
+// A place in each of two stretches.
+pub struct Heads {
+    pub first: usize,
+    pub second: usize,
+}
+
+// What a walk tells of the shifts of a piece: how far it has to go at least, and if that is 0, how far it may.
+pub struct Leeway {
+    pub shift: u32,
+    pub room: u32,
+}
+
+// Shifts from a first one up to an end.
+pub struct Shifts {
+    pub first: u32,
+    pub end: u32,
+}
+
+// The lesser of two numbers.
+fn lesser(x: u32, y: u32) -> u32
+    ensures { λ r. ⌜ r ≡ min x y ⌝ }
+{
+    if x < y {
+        return x;
+    }
+    y
+}
+
+// A corner's part of a place in that order.
+fn base(u: Corner) -> u32
+    requires { ⌜ NearShifted u ⌝ }
+    ensures { λ r. ⌜ r ≡ baseOf u ⌝ }
+{
+    u.across * 65536 + u.along
+}
+
+// A byte as a number that sums fit in.
+fn wide(b: u8) -> u32
+    ensures { λ r. ⌜ (r ≡ b) × (b < 256) ⌝ }
+{
+    b as u32
+}
+
+// The strip at i of a stretch whose piece's corner adds `from`.
+fn span_at(s: &[[u8; 3]], i: usize, from: u32) -> Span
+    requires { ⌜ (i < length (now s)) × (from < 2000000000) ⌝ }
+    ensures { λ r. ⌜ SpanOf (stripAt (now (s .entry)) i) from r ⌝ }
+{
+    let begin = wide(s[i][0]) * 65536 + wide(s[i][1]) + from;
+    Span {
+        begin,
+        end: begin + wide(s[i][2]),
+    }
+}
+
+// How many strips of a stretch lie in lines before a place, as far as jumps tell: a jump passes as many strips as lines are missing,
+// so one is enough where each line has one strip. What is passed lies so far before the place that no shift brings it there.
+fn skip(s: &[[u8; 3]], from: u32, place: u32) -> usize
+    requires { ⌜ Ordered (now s) ⌝ ∗ ⌜ from < 2000000000 ⌝ }
+    ensures { λ r. ⌜ Skipped (now (s .entry)) from place r ⌝ }
+{
+    let mut i = 0;
+    while i < s.len() {
+        let p = span_at(s, i, from);
+        if place < p.begin {
+            return i;
+        }
+        let lines = ((place - p.begin) / 65536) as usize;
+        if lines == 0 {
+            return i;
+        }
+        if s.len() - i < lines {
+            return i;
+        }
+        let q = span_at(s, i + lines - 1, from);
+        if place < q.begin + 1280 {
+            return i;
+        }
+        i += lines;
+    }
+    i
+}
+
+// Where a walk over the two stretches begins: past strips in lines before the other's first.
+fn walk_start(a: &[[u8; 3]], x: u32, b: &[[u8; 3]], y: u32) -> Heads
+    requires { ⌜ Ordered (now a) ⌝ ∗ ⌜ Ordered (now b) ⌝ ∗ ⌜ (x < 1900000000) × (y < 1900000000) ⌝ }
+    ensures { λ r. ⌜ Begun (now (a .entry)) x (now (b .entry)) y r ⌝ }
+{
+    if b.len() == 0 {
+        // A piece has a strip: this does not happen.
+        return Heads {
+            first: 0,
+            second: 0,
+        };
+    }
+    let q = span_at(b, 0, y);
+    let first = skip(a, x, q.begin);
+    if a.len() <= first {
+        return Heads { first, second: 0 };
+    }
+    let p = span_at(a, first, x);
+    let second = skip(b, y, p.begin);
+    Heads { first, second }
+}
+
+// Whether the two pieces share a pixel. Both stretches are walked together, once, up to the first shared pixel.
+pub fn shares(a: &[[u8; 3]], u: Corner, b: &[[u8; 3]], v: Corner) -> bool
+    requires { ⌜ Ordered (now a) ⌝ ∗ ⌜ Ordered (now b) ⌝ ∗ ⌜ Near u ⌝ ∗ ⌜ Near v ⌝ }
+    ensures { λ r. ⌜ r ≡ stretchesShare (now (a .entry)) u (now (b .entry)) v ⌝ }
+{
+    let x = base(u);
+    let y = base(v);
+    let start = walk_start(a, x, b, y);
+    let mut i = start.first;
+    let mut j = start.second;
+    while i < a.len() {
+        if b.len() <= j {
+            return false;
+        }
+        let p = span_at(a, i, x);
+        let q = span_at(b, j, y);
+        if p.end <= q.begin {
+            i += 1;
+        } else if q.end <= p.begin {
+            j += 1;
+        } else {
+            return true;
+        }
+    }
+    false
+}
+
+// How far the second piece has at least to be shifted along the strips until they share no pixel, as far as one walk tells: each
+// pair of strips that meet pushes it on, and the walk goes on with the shift so far. If none meet, the walk also tells how far
+// the second piece may be shifted before one of its strips meets the next one.
+fn slide(a: &[[u8; 3]], u: Corner, b: &[[u8; 3]], v: Corner, limit: u32) -> Leeway
+    requires { ⌜ Ordered (now a) ⌝ ∗ ⌜ Ordered (now b) ⌝ ∗ ⌜ NearShifted u × NearShifted v ⌝ ∗ ⌜ (0 < limit) × (limit ≤ shiftBound) ⌝ }
+    ensures { λ r. ⌜ Slid (now (a .entry)) u (now (b .entry)) v limit r ⌝ }
+{
+    let x = base(u);
+    let y = base(v);
+    let start = walk_start(a, x, b, y);
+    let mut t = 0;
+    let mut room = limit - 1;
+    let mut i = start.first;
+    let mut j = start.second;
+    while i < a.len() {
+        if b.len() <= j {
+            return Leeway { shift: t, room };
+        }
+        let p = span_at(a, i, x);
+        let q = span_at(b, j, y + t);
+        if p.end <= q.begin {
+            i += 1;
+        } else if q.end <= p.begin {
+            room = lesser(room, p.begin - q.end);
+            j += 1;
+        } else {
+            t += p.end - q.begin;
+            if limit <= t {
+                return Leeway { shift: limit, room };
+            }
+            i += 1;
+        }
+    }
+    Leeway { shift: t, room }
+}
+
+// The least shift of the second piece along the strips at which they share no pixel, if it is below the bound, else the bound, and
+// the shifts from it on at which the last walk finds none shared.
+pub fn clear_stretch(a: &[[u8; 3]], u: Corner, b: &[[u8; 3]], v: Corner, bound: u32) -> Shifts
+    requires { ⌜ Ordered (now a) ⌝ ∗ ⌜ Ordered (now b) ⌝ ∗ ⌜ Near u × Near v ⌝ ∗ ⌜ bound ≤ shiftBound ⌝ }
+    ensures { λ r. ⌜ ClearStretch (now (a .entry)) u (now (b .entry)) v bound r ⌝ }
+{
+    let mut r = 0;
+    while r < bound {
+        let w = Corner {
+            along: v.along + r,
+            across: v.across,
+        };
+        let s = slide(a, u, b, w, bound - r);
+        if s.shift == 0 {
+            return Shifts {
+                first: r,
+                end: r + s.room + 1,
+            };
+        }
+        r += s.shift;
+    }
+    Shifts {
+        first: bound,
+        end: bound,
+    }
+}
+
+// The least shift of the second piece along the strips at which they share no pixel, if it is below the bound, else the bound.
+pub fn clear_below(a: &[[u8; 3]], u: Corner, b: &[[u8; 3]], v: Corner, bound: u32) -> u32
+    requires { ⌜ Ordered (now a) ⌝ ∗ ⌜ Ordered (now b) ⌝ ∗ ⌜ Near u × Near v ⌝ ∗ ⌜ bound ≤ shiftBound ⌝ }
+    ensures { λ r. ⌜ r ≡ clearBelow (now (a .entry)) u (now (b .entry)) v bound ⌝ }
+{
+    let s = clear_stretch(a, u, b, v, bound);
+    s.first
+}
+
+// The depth along the strips if it is below the bound, else the bound: the least shift of either piece at which they share no
+// pixel. The second search goes no farther than the first one found.
+pub fn depth_below(a: &[[u8; 3]], u: Corner, b: &[[u8; 3]], v: Corner, bound: u32) -> u32
+    requires { ⌜ Ordered (now a) ⌝ ∗ ⌜ Ordered (now b) ⌝ ∗ ⌜ Near u × Near v ⌝ ∗ ⌜ bound ≤ shiftBound ⌝ }
+    ensures { λ r. ⌜ r ≡ depthBelow (now (a .entry)) u (now (b .entry)) v bound ⌝ }
+{
+    let up = clear_below(a, u, b, v, bound);
+    clear_below(b, v, a, u, up)
+}
+
+// The penalty if it is below the bound, else the bound: the lesser of the depth along the rows and the depth along the columns.
+// The corners are seen along the rows.
+pub fn penalty_below(
+    arows: &[[u8; 3]],
+    acolumns: &[[u8; 3]],
+    u: Corner,
+    brows: &[[u8; 3]],
+    bcolumns: &[[u8; 3]],
+    v: Corner,
+    bound: u32,
+) -> u32
+    requires { ⌜ Ordered (now arows) × Ordered (now acolumns) ⌝ ∗ ⌜ Ordered (now brows) × Ordered (now bcolumns) ⌝ ∗ ⌜ Near u × Near v ⌝ ∗ ⌜ bound ≤ shiftBound ⌝ }
+    ensures { λ r. ⌜ r ≡ penaltyBelow (now (arows .entry)) (now (acolumns .entry)) u (now (brows .entry)) (now (bcolumns .entry)) v bound ⌝ }
+{
+    let wide = depth_below(arows, u, brows, v, bound);
+    let p = Corner {
+        along: u.across,
+        across: u.along,
+    };
+    let q = Corner {
+        along: v.across,
+        across: v.along,
+    };
+    depth_below(acolumns, p, bcolumns, q, wide)
+}

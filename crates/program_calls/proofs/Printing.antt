@@ -1,0 +1,88 @@
+-- What stands in the output buffer in the end. Assumes nothing.
+use mathlib.Core.Bool.{Bool, true, false}
+use mathlib.Core.List.{List}
+use mathlib.Core.Path.{_≡_, _∙_, ap}
+use Prim.Native.Nat.{ℕ, _<_, _≤_}
+use native.Mathlib.Omega.{arith}
+use borrow.Author.Tests.{lt-ltb, le-ltb}
+use lib.Dec.{ltb}
+use lib.ListN.{length, take}
+use lib.Seq.{take-at}
+use Rattle.model.specs.Lent.{Lent}
+use Rattle.model.specs.Refusal.{Outcome, refused, given, cause, refusalOf, unless, wrongLength}
+use Rattle.model.specs.declared.Refusal.{Refusal}
+use Rattle.model.specs.Buffer.{filled}
+use Rattle.model.specs.Calls.{textAfter}
+use Rattle.model.specs.Program.{printed, programText, programCall}
+use Rattle.layout_write_calls.specs.Answers.{textAnswer}
+use Rattle.layout_write_calls.specs.Written.{Written}
+use Rattle.layout_write_calls.specs.declared.TextAnswer.{TextAnswer}
+use Rattle.text_fields.proofs.Stores.{sets-filled}
+use Rattle.program_calls.specs.Output.{outputBound}
+
+-- a larger bound
+pub written-more : {before bytes after : List ℕ} {at most more next : ℕ} → Written before at bytes most next after → most ≤ more
+    → Written before at bytes more next after
+written-more w h = let s = w .short in record { end = w .end; short = omega arith; memory = w .memory }
+
+-- what is printed of an outcome
+pub written-printed : {before after : List ℕ} {most next : ℕ} (o p : Outcome Lent) → o ≡ p → Written before 0 (printed p) most next after → most ≤ outputBound
+    → Written before 0 (printed o) outputBound next after
+written-printed o p e w h = rw e (written-more w h)
+
+-- ── the output buffer ──
+
+-- what the program prints, by what is written of it
+pub text-printed : {before after : List ℕ} {most next : ℕ} (input bytes : List ℕ) → programText input ≡ bytes
+    → Written before 0 bytes most next after → most ≤ outputBound → Written before 0 (programText input) outputBound next after
+text-printed input bytes e w h = rw e (written-more w h)
+
+-- the text stands at the front of a buffer that it was written to
+pub front-written : (before bytes : List ℕ) (most next : ℕ) (after : List ℕ) → most ≤ length before → Written before 0 bytes most next after
+    → take next after ≡ bytes
+front-written before bytes most next after h w =
+    let short = w .short in
+    let end = w .end in
+    ap (take next) (w .memory ∙ sets-filled before bytes (omega arith)) ∙ take-at bytes _ next (omega arith)
+
+-- the answer and the buffer of the call, where what the program prints fits 4,096 bytes
+abbrev pub Leaves : List ℕ → List ℕ → TextAnswer → List ℕ → Type 0
+Leaves input before r after =
+    (r ≡ textAnswer (programCall input (length before)))
+    × ((after ≡ textAfter before (programCall input (length before))) × (length (programText input) ≤ outputBound))
+
+-- a buffer that the text does not fit is refused and left as it is
+pub leaves-short : (input before : List ℕ) → length before < length (programText input) → length (programText input) ≤ outputBound
+    → Leaves input before (TextAnswer.Refused (refusalOf (cause wrongLength true))) before
+unfolding programCall unless
+leaves-short input before h few = (rw (lt-ltb (length before) (length (programText input)) h), (rw (lt-ltb (length before) (length (programText input)) h), few))
+
+-- one that it fits has it at the front
+pub leaves-text : (input before : List ℕ) → length (programText input) ≤ length before → length (programText input) ≤ outputBound
+    → Leaves input before (TextAnswer.Written (length (programText input))) (filled (programText input) before)
+unfolding programCall unless
+leaves-text input before h few = (rw (le-ltb (length before) (length (programText input)) h), (rw (le-ltb (length before) (length (programText input)) h), few))
+
+-- the same by a count and a buffer that are so
+pub leaves-written : (input before : List ℕ) (k : ℕ) (after : List ℕ) → k ≡ length (programText input) → after ≡ filled (programText input) before
+    → k ≤ length before → k ≤ outputBound → Leaves input before (TextAnswer.Written k) after
+leaves-written input before k after e m h few =
+    let fits : length (programText input) ≤ length before = omega arith in
+    let short : length (programText input) ≤ outputBound = omega arith in
+    let text = leaves-text input before fits short in
+    (ap TextAnswer.Written e ∙ text .0, (m ∙ text .1 .0, short))
+
+-- how many bytes are told, by the test of the buffer
+count-step : (t : Bool) (r : Refusal) (text : List ℕ) (k : ℕ)
+    → TextAnswer.Written k ≡ textAnswer (elim t as (λ _. Outcome (List ℕ)) [ true ↦ refused r | false ↦ given text ]) → k ≡ length text
+count-step true r text k e = let z : _≡_ {A = ℕ} 0 1 = cc in absurd (omega arith)
+count-step false r text k e = cc
+
+-- they are no more than the program prints
+pub count-fits : (input : List ℕ) (room k : ℕ) → TextAnswer.Written k ≡ textAnswer (programCall input room) → length (programText input) ≤ outputBound
+    → k ≤ outputBound
+unfolding programCall unless
+count-fits input room k e h =
+    let same : k ≡ length (programText input) =
+    count-step (ltb room (length (programText input))) (refusalOf (cause wrongLength true)) (programText input) k e in
+    omega arith

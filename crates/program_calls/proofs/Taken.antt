@@ -1,0 +1,112 @@
+-- Calls on a job that passes its check and on a valid layout are not refused. Assumes nothing.
+use mathlib.Core.Bool.{true, not}
+use mathlib.Core.List.{List}
+use mathlib.Core.Path.{_≡_, sym, ap, _∙_}
+use Prim.Native.Nat.{ℕ, _≤_}
+use native.Mathlib.Nat.{zero-add}
+use native.Mathlib.Omega.{arith}
+use borrow.Author.Tests.{eq-eqb, le-ltb}
+use lib.ListN.{length, length-map}
+use Rattle.model.specs.Layout.{Layout, usedLength}
+use Rattle.model.specs.Buffer.{placementOf, entriesOf, layoutOf}
+use Rattle.model.specs.Start.{start}
+use Rattle.model.specs.Lent.{Lent, jobOf, lentWell}
+use Rattle.model.specs.Refusal.{given, unless}
+use Rattle.model.specs.LayoutText.{layoutText}
+use Rattle.model.specs.Program.{programRounds, programBudget, programRun}
+use Rattle.model.specs.Calls.{layoutCauses, usedLengthCall, writeLayoutCall, textAfter, startCall}
+use Rattle.model.specs.declared.Refusal.{Refusal}
+use Rattle.job_laws.proofs.Checked.{lent-few}
+use Rattle.text_laws.specs.Outcomes.{NoCause}
+use Rattle.text_laws.proofs.Outcomes.{unless-given}
+use Rattle.descent_laws.specs.Claims.{ValidLayout}
+use Rattle.descent_laws.proofs.Lent.{lent-demand3}
+use Rattle.call_laws.proofs.Layouts.{BufferPasses, valid-buffer}
+use Rattle.layout_places.specs.Answers.{lengthAnswer}
+use Rattle.layout_places.specs.declared.LengthAnswer.{LengthAnswer}
+use Rattle.layout_places.proofs.Causes.{Sound, sound, none-then}
+use Rattle.layout_write_calls.specs.Answers.{textAnswer}
+use Rattle.layout_write_calls.specs.Written.{Written}
+use Rattle.layout_write_calls.specs.declared.TextAnswer.{TextAnswer}
+use Rattle.text_fields.proofs.Stores.{sets-filled}
+use Rattle.program_calls.proofs.Short.{layout-short}
+
+-- the start layout is given
+pub start-taken : (l : Lent) (room : ℕ) → lentWell l ≡ true → room ≡ l .count → startCall l room ≡ given (start (jobOf l))
+unfolding startCall
+start-taken l room well e = unless-given _ (start (jobOf l)) (ap not well, (ap not (eq-eqb room (l .count) e), tt))
+
+-- a buffer that holds a valid layout has none of a layout's causes
+layout-passes : (l : Lent) (v : Layout) → lentWell l ≡ true → ValidLayout (jobOf l) v → NoCause (layoutCauses l (entriesOf v))
+unfolding layoutCauses jobOf
+layout-passes l v well valid =
+    let p : BufferPasses (jobOf l) (entriesOf v) = valid-buffer (jobOf l) v valid in
+    (ap not well, (ap not (eq-eqb (length (entriesOf v)) (l .count) (p .size)), (p .turns, (p .outside, tt))))
+
+-- the best layout of the program's run is valid
+best-valid : (l : Lent) → lentWell l ≡ true → ValidLayout (jobOf l) (programRun (jobOf l) .layout)
+unfolding programRun
+best-valid l well = lent-demand3 l well .guidedRuns programRounds programBudget .validLayout
+
+-- a buffer that holds it has none of a layout's causes
+pub best-passes : (l : Lent) (es : List (List ℕ)) → lentWell l ≡ true → es ≡ entriesOf (programRun (jobOf l) .layout) → NoCause (layoutCauses l es)
+best-passes l es well e = rw e (layout-passes l (programRun (jobOf l) .layout) well (best-valid l well))
+
+module _ (l : Lent) (es : List (List ℕ)) (none : NoCause (layoutCauses l es)) where
+  -- the used length is given
+  used-given : usedLengthCall l es ≡ given (usedLength (jobOf l) (layoutOf es))
+  unfolding usedLengthCall
+  used-given = unless-given (layoutCauses l es) (usedLength (jobOf l) (layoutOf es)) none
+
+  -- so the answer is that length
+  pub used-taken : (n : ℕ) → LengthAnswer.Length n ≡ lengthAnswer (usedLengthCall l es) → n ≡ usedLength (jobOf l) (layoutOf es)
+  used-taken n e =
+      let same : LengthAnswer.Length n ≡ lengthAnswer (given (usedLength (jobOf l) (layoutOf es))) = e ∙ ap lengthAnswer used-given in
+      cc
+
+  -- and no refusal
+  pub used-not-refused : (r : Refusal) → LengthAnswer.Refused r ≡ lengthAnswer (usedLengthCall l es) → ⊥
+  used-not-refused r e =
+      let same : LengthAnswer.Refused r ≡ lengthAnswer (given (usedLength (jobOf l) (layoutOf es))) = e ∙ ap lengthAnswer used-given in
+      let z : _≡_ {A = ℕ} 0 1 = cc in
+      omega arith
+
+  -- the text has at most 65 lines of 27 bytes
+  text-short : length (layoutText (jobOf l) (layoutOf es)) ≤ 1755
+  unfolding jobOf
+  text-short =
+      let s : Sound l es = sound l es none in
+      let few = lent-few l (s .well) in
+      let whole = s .whole in
+      let same = length-map es placementOf in
+      let h = layout-short (jobOf l) (layoutOf es) in
+      omega arith
+
+  module _ (before : List ℕ) (room : 1755 ≤ length before) where
+    -- the text is given
+    text-given : writeLayoutCall l es (length before) ≡ given (layoutText (jobOf l) (layoutOf es))
+    unfolding writeLayoutCall unless
+    text-given =
+        let short = text-short in
+        let fits : length (layoutText (jobOf l) (layoutOf es)) ≤ length before = omega arith in
+        none-then (layoutCauses l es) _ _ none ∙ rw (le-ltb _ _ fits)
+
+    -- so the text is written
+    pub text-taken : (n : ℕ) (after : List ℕ) → TextAnswer.Written n ≡ textAnswer (writeLayoutCall l es (length before))
+        → after ≡ textAfter before (writeLayoutCall l es (length before)) → Written before 0 (layoutText (jobOf l) (layoutOf es)) 1755 n after
+    text-taken n after e m =
+        let short = text-short in
+        let same : TextAnswer.Written n ≡ textAnswer (given (layoutText (jobOf l) (layoutOf es))) = e ∙ ap textAnswer text-given in
+        let end : n ≡ length (layoutText (jobOf l) (layoutOf es)) = cc in
+        record {
+          end = end ∙ sym (zero-add _);
+          short = short;
+          memory = m ∙ ap (textAfter before) text-given ∙ sym (sets-filled before (layoutText (jobOf l) (layoutOf es)) (omega arith));
+        }
+
+    -- and the answer is no refusal
+    pub text-not-refused : (r : Refusal) → TextAnswer.Refused r ≡ textAnswer (writeLayoutCall l es (length before)) → ⊥
+    text-not-refused r e =
+        let same : TextAnswer.Refused r ≡ textAnswer (given (layoutText (jobOf l) (layoutOf es))) = e ∙ ap textAnswer text-given in
+        let z : _≡_ {A = ℕ} 0 1 = cc in
+        omega arith

@@ -1,0 +1,71 @@
+-- `program_calls::print_run` meets its contract: the text stands at the front of the local buffer, and is copied where the lent one has room for it.
+-- Assumes nothing.
+use mathlib.Core.Path.{_≡_, sym, _∙_, ap}
+use Prim.Native.Nat.{ℕ, _≤_}
+use native.Mathlib.Nat.{le-of-eq}
+use native.Mathlib.Omega.{arith}
+use borrow.Author.Needs.{needs}
+use lib.ListN.{length, length-replicate}
+use lib.Seq.{sets, length-take-le}
+use Rattle.model.specs.Program.{programText}
+use Rattle.text_fields.proofs.Stores.{sets-filled}
+use Rattle.program_calls.specs.Output.{outputBound}
+use Rattle.program_calls.proofs.Printing.{front-written, leaves-short, leaves-written}
+use Rattle.program_calls.proofs.print_run.Statement.{statement}
+use Rattle.program_calls.proofs.print_run.Tie as tie
+
+slice-aggregate-print-text : tie.Need-slice-aggregate-print-text
+slice-aggregate-print-text c = search needs
+
+print-text-requires : tie.Need-print-text-requires
+print-text-requires c κs = search needs
+
+refusal-requires : tie.Need-refusal-requires
+refusal-requires c κs = search needs
+
+returns : tie.Need-returns
+returns c =
+    let a = c .before .before .before .before .before .before .before .args in
+    let w = c .before .before .before .print-text .ensures in
+    let end = w .end in
+    let long = c .before .if1 .taken in
+    rw (c .refusal .ensures) (leaves-short (a .input .now) (a .output .now) (omega arith) (w .short))
+
+array-share-prefix-text : tie.Need-array-share-prefix-text
+array-share-prefix-text c = search needs
+
+slice-aggregate-put-word : tie.Need-slice-aggregate-put-word
+slice-aggregate-put-word c = sym (length-take-le _ _ (search needs))
+
+put-word-requires : tie.Need-put-word-requires
+put-word-requires c κs = search needs
+
+same-length : tie.Need-same-length
+same-length c = search needs
+
+returns-2 : tie.Need-returns-2
+returns-2 c =
+    let a = c .before .before .before .before .before .before .before .before .before .before .before .args in
+    let w = c .before .before .before .before .before .before .before .print-text .ensures in
+    let end = w .end in
+    let short = w .short in
+    let room = c .before .before .before .before .before .if1 .left in
+    let fits : length (programText (a .input .now)) ≤ length (a .output .now) = omega arith in
+    let front = front-written _ (programText (a .input .now)) outputBound _ _ (le-of-eq (sym (length-replicate {A = ℕ} 4096 0))) w in
+    leaves-written (a .input .now) (a .output .now) _ _ (omega arith)
+    (c .before .before .put-word .ensures .1 ∙ ap (sets (a .output .now) 0) front ∙ sets-filled (a .output .now) (programText (a .input .now)) fits)
+    (omega arith) (omega arith)
+
+pub print-run-spec : {M : Type 1} → statement M
+print-run-spec =
+    tie.close
+    (tie.spec
+    slice-aggregate-print-text
+    print-text-requires
+    refusal-requires
+    returns
+    array-share-prefix-text
+    slice-aggregate-put-word
+    put-word-requires
+    same-length
+    returns-2)

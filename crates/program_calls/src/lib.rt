@@ -1,0 +1,139 @@
+// The program, from the bytes of its input to the bytes of its output. Document 01, 'Start, layout text, sheet': it reads a job, takes the
+// start layout, makes a guided run by weights 1 and prints the best layout and how the run ended, or the refusal.
+ghost use mathlib.Core.Path.{_≡_};
+ghost use mathlib.Core.Bool.{true};
+ghost use Prim.Native.Nat.{_≤_};
+ghost use lib.ListN.{length};
+ghost use Rattle.model.specs.Lent.{lentBy, jobOf, lentWell, pieceBound, areaBound};
+ghost use Rattle.model.specs.Buffer.{layoutOf};
+ghost use Rattle.model.specs.Calls.{layoutCauses, textAfter};
+ghost use Rattle.model.specs.Refusal.{given};
+ghost use Rattle.model.specs.JobText.{readJob};
+ghost use Rattle.model.specs.Program.{runText, programRun, printed, programText, programCall};
+ghost use Rattle.text_laws.specs.Outcomes.{NoCause};
+ghost use Rattle.layout_write_calls.specs.Answers.{textAnswer};
+ghost use Rattle.layout_write_calls.specs.Written.{Written};
+ghost use Rattle.program_calls.specs.Output.{outputBound};
+ghost use Rattle.program_calls.specs.Runs.{Gives, runWith};
+
+mod end_lines;
+
+use end_lines::put_end_line;
+use end_lines::put_refusal_line;
+use job_calls::JobAnswer;
+use layout_places::LengthAnswer;
+use layout_write_calls::TextAnswer;
+use model::JobSize;
+use run_guided_calls::GuidedAnswer;
+use run_guided_calls::Run;
+use run_guided_calls::guided_run;
+use search_sums::pair_count;
+use text_fields::put_word;
+
+// The most bytes that an input may have.
+pub const INPUT_BOUND: usize = 65536;
+
+// The run of a job: from the start layout, by weights 1, 20 rounds of budget 1,000. The best layout is left in the layout buffer.
+fn run_job(size: JobSize, table: &[[u8; 3]], pixels: &[u8], layout: &mut [[u16; 3]]) -> Run
+    requires { ⌜ (lentWell (lentBy size (now table) (now pixels)) ≡ true) × (length (now layout) ≡ size .count) ⌝ }
+    ensures { λ r. ⌜ Gives r (now (layout .exit)) (programRun (jobOf (lentBy size (now (table .entry)) (now (pixels .entry))))) ⌝ }
+{
+    layout_start_calls::start(size, table, pixels, layout);
+    let mut weights = [1u32; 2016];
+    let pairs = pair_count(size.count);
+    match guided_run(size, table, pixels, layout, &mut weights[..pairs], 20, 1000) {
+        GuidedAnswer::Ran(run) => run,
+        // The start layout and weights 1 are valid: this does not happen.
+        GuidedAnswer::Refused(_) => Run {
+            sum: 0,
+            made: 0,
+            moves: 0,
+        },
+    }
+}
+
+// The text of a layout and the end line of the run that gave it, at the front, and the position after them.
+fn write_run(
+    size: JobSize,
+    table: &[[u8; 3]],
+    pixels: &[u8],
+    layout: &[[u16; 3]],
+    run: Run,
+    text: &mut [u8],
+) -> usize
+    requires { ⌜ NoCause (layoutCauses (lentBy size (now table) (now pixels)) (now layout)) ⌝ ∗ ⌜ outputBound ≤ length (now text) ⌝ }
+    ensures { λ r. ⌜ Written (now (text .entry)) 0 (runText (jobOf (lentBy size (now (table .entry)) (now (pixels .entry)))) (runWith run (layoutOf (now (layout .entry))))) outputBound r (now (text .exit)) ⌝ }
+{
+    let LengthAnswer::Length(used) = layout_places::used_length(size, table, pixels, layout) else {
+        // The layout has no cause of refusal: this does not happen.
+        return 0;
+    };
+    let TextAnswer::Written(next) = layout_write_calls::write_layout(
+        size,
+        table,
+        pixels,
+        layout,
+        text,
+    ) else {
+        // It has none, and the buffer has room for its text: this does not happen.
+        return 0;
+    };
+    put_end_line(text, next, run, used)
+}
+
+// Runs a job that was read and writes how the run went.
+fn print_job(size: JobSize, table: &[[u8; 3]], pixels: &[u8], text: &mut [u8]) -> usize
+    requires { ⌜ (lentWell (lentBy size (now table) (now pixels)) ≡ true) × (outputBound ≤ length (now text)) ⌝ }
+    ensures { λ r. ⌜ Written (now (text .entry)) 0 (printed (given (lentBy size (now (table .entry)) (now (pixels .entry))))) outputBound r (now (text .exit)) ⌝ }
+{
+    let mut layout = [[0u16; 3]; 64];
+    let count = size.count;
+    let places: &mut [[u16; 3]] = &mut layout[..count];
+    let run = run_job(size, table, pixels, places);
+    write_run(size, table, pixels, places, run, text)
+}
+
+// Reads a job, runs it and writes how the run went, or writes the refusal. The calls are lent just the entries and bytes that were read.
+fn read_and_print(input: &[u8], text: &mut [u8]) -> usize
+    requires { ⌜ outputBound ≤ length (now text) ⌝ }
+    ensures { λ r. ⌜ Written (now (text .entry)) 0 (printed (readJob (now (input .entry)) pieceBound areaBound)) outputBound r (now (text .exit)) ⌝ }
+{
+    let mut table = [[0u8; 3]; 64];
+    let mut pixels = [0u8; 65536];
+    match job_calls::read_job(input, &mut table, &mut pixels) {
+        JobAnswer::Refused(refusal) => put_refusal_line(text, refusal),
+        JobAnswer::Read(size) => {
+            let count = size.count;
+            let entries = &table[..count];
+            let area = job_check::pixel_start(entries, count);
+            print_job(size, entries, &pixels[..area], text)
+        }
+    }
+}
+
+// What the program prints for its input, at the front of a buffer that every output fits, and how many bytes that are.
+fn print_text(input: &[u8], text: &mut [u8]) -> usize
+    requires { ⌜ outputBound ≤ length (now text) ⌝ }
+    ensures { λ r. ⌜ Written (now (text .entry)) 0 (programText (now (input .entry))) outputBound r (now (text .exit)) ⌝ }
+{
+    if INPUT_BOUND < input.len() {
+        return put_refusal_line(text, layout_places::refusal(7));
+    }
+    read_and_print(input, text)
+}
+
+// What the program prints for its input, written to the front of an output buffer, and how many bytes that are: at most 4,096. A buffer
+// that the text does not fit is refused by 7 and left as it is.
+pub fn print_run(input: &[u8], output: &mut [u8]) -> TextAnswer
+    ensures answer { λ r. ⌜ r ≡ textAnswer (programCall (now (input .entry)) (length (now (output .entry)))) ⌝ }
+    ensures memory { λ r. ⌜ now (output .exit) ≡ textAfter (now (output .entry)) (programCall (now (input .entry)) (length (now (output .entry)))) ⌝ }
+    ensures fits { λ r. ⌜ length (programText (now (input .entry))) ≤ outputBound ⌝ }
+{
+    let mut text = [0u8; 4096];
+    let count = print_text(input, &mut text);
+    if output.len() < count {
+        return TextAnswer::Refused(layout_places::refusal(7));
+    }
+    put_word(output, 0, &text[..count]);
+    TextAnswer::Written(count)
+}

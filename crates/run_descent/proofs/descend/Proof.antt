@@ -1,0 +1,301 @@
+-- `run_descent::descend` meets its contract. The loop's invariant: the descent is under way, what is left of the budget is what was not made,
+-- and the layout, its table and the kept lines fit each other. What is left of the budget falls. Assumes nothing.
+use mathlib.Core.Path.{_≡_, refl, sym, ap, _∙_, subst, subst₂}
+use Prim.Native.Nat.{ℕ, _+_, _-_}
+use native.Mathlib.Omega.{arith}
+use lib.ListN.{length}
+use Rattle.model.specs.Layout.{Layout, weightedSum}
+use Rattle.model.specs.Lent.{Lent, lentBy, jobOf}
+use Rattle.model.specs.Buffer.{layoutOf}
+use Rattle.model.specs.Descent.{trials, attempt, descend}
+use Rattle.model.specs.declared.End.{End}
+use Rattle.model.specs.declared.End.the-variants.{Clear, Settled, Spent}
+use Rattle.job_laws.proofs.Checked.{facts, lent-some}
+use Rattle.descent_laws.proofs.Lent.{lent-zero-allowed}
+use Rattle.search_laws.specs.Loop as loop
+use Rattle.search_laws.proofs.Loop.{Underway, beginning, underway-begin, underway-clear, underway-settled, underway-spent}
+use Rattle.run_trials.specs.Trials.{trialAs}
+use Rattle.run_step.specs.Steps.{standingAs}
+use Rattle.run_descent.specs.Descents.{descentOf}
+use Rattle.run_step.specs.declared.Standing.{Standing}
+use Rattle.run_descent.specs.declared.Ended.{Ended}
+use Rattle.run_descent.proofs.Passes.{passed-made, underway-pass, Going}
+use borrow.Author.Needs.{needs}
+use Rattle.run_descent.proofs.descend.Statement.{statement}
+use Rattle.run_descent.proofs.descend.Tie as tie
+
+abbrev Inv-loop : tie.InvT-loop
+Inv-loop size table pixels rows row-starts columns column-starts weights budget width layout₀ penalties₀ row-lines₀ row-tags₀ column-lines₀ column-tags₀ sums₀ pieces count at₀ layout penalties row-lines row-tags column-lines column-tags sums at =
+    Going (lentBy size table pixels) weights budget (layoutOf layout₀) width at layout penalties row-lines row-tags column-lines column-tags sums
+    × (length layout ≡ length layout₀)
+    × (length penalties ≡ length penalties₀)
+    × (length row-lines ≡ length row-lines₀)
+    × (length row-tags ≡ length row-tags₀)
+    × (length column-lines ≡ length column-lines₀)
+    × (length column-tags ≡ length column-tags₀)
+    × (length sums ≡ length sums₀)
+
+abbrev μ-loop : tie.MeasureT-loop
+μ-loop size table pixels rows row-starts columns column-starts weights budget width layout₀ penalties₀ row-lines₀ row-tags₀ column-lines₀ column-tags₀ sums₀ pieces count at₀ layout penalties row-lines row-tags column-lines column-tags sums at = budget - at .made
+
+-- the lent job and the given layout
+abbrev lent : tie.Start Inv-loop μ-loop → Lent
+lent e = lentBy (e .args .size) (e .args .table .now) (e .args .pixels .now)
+
+abbrev given : tie.Start Inv-loop μ-loop → Layout
+given e = layoutOf (e .args .layout .now)
+
+trial-count-requires : tie.Need-trial-count-requires Inv-loop μ-loop
+trial-count-requires c κs =
+    let e = c .before .before .before .before .before .before .before .before .before .before in (facts (lent e) (e .pre .0 .well) .entries, facts (lent e) (e .pre .0 .well) .fewPieces)
+
+total-requires : tie.Need-total-requires Inv-loop μ-loop
+unfolding jobOf
+total-requires c κs =
+    let e = c .before .before .before .before .before .before .before .before .before .before .before .before in
+    record { few = facts (lent e) (e .pre .0 .well) .fewPieces; size = e .pre .1 .1 .0 .table .size; onePerPair = e .pre .1 .0 .onePerPair }
+
+beginning-requires : tie.Need-beginning-requires Inv-loop μ-loop
+beginning-requires c κs = search needs
+
+loop-holds : tie.Need-loop-holds Inv-loop μ-loop
+unfolding jobOf
+loop-holds c =
+    let e = c .before .before .before .before .before .before .before .before .before .before .before .before .before .before in
+    let j = jobOf (lent e) in
+    let v = given e in
+    let well = e .pre .0 .well in
+    let sum : c .before .total .result ≡ weightedSum j (e .args .weights .now) v = c .before .total .ensures j v refl (e .pre .1 .1 .0 .table) in
+    let whole : e .args .budget ≡ e .args .budget - 0 = omega arith in
+    let first = underway-begin j (e .args .weights .now) (e .args .budget) v (lent-zero-allowed (lent e) well) (lent-some (lent e) well) (e .pre .1 .1 .0 .valid) in
+    let here : Underway j (e .args .weights .now) (e .args .budget) v (e .args .budget - 0) (beginning v) (c .before .total .result) =
+    subst₂ (λ (m n : ℕ). Underway j (e .args .weights .now) (e .args .budget) v m (beginning v) n) whole (sym sum) first in
+    let under : Underway j (e .args .weights .now) (e .args .budget) v (e .args .budget - c .beginning .result .made) (standingAs v (c .beginning .result)) (c .beginning .result .sum) =
+    subst (λ (s : Standing). Underway j (e .args .weights .now) (e .args .budget) v (e .args .budget - s .made) (standingAs v s) (s .sum)) (sym (c .beginning .ensures)) here in
+    (record { underway = under; laid = e .pre .1 .1 .0; stores = e .pre .1 .1 .1 .0 }, refl, refl, refl, refl, refl, refl, refl)
+
+-- the entry, from the loop's head
+abbrev entry : tie.At-loop Inv-loop μ-loop → tie.Start Inv-loop μ-loop
+entry c = c .before .before .before .before .before .before .before .before .before .before .before .before .before .before .before
+
+-- T
+count-is : (c : tie.At-loop Inv-loop μ-loop) → c .before .before .before .before .trial-count .result ≡ length (trials (jobOf (lent (entry c))))
+count-is c = c .before .before .before .before .trial-count .ensures .0 (entry c .args .pixels .now)
+
+-- what the descent is where it ends with e
+abbrev EndsAs : tie.At-loop Inv-loop μ-loop → End → Type 0
+EndsAs c e =
+    descend (jobOf (lent (entry c))) (entry c .args .weights .now) (entry c .args .budget) (given (entry c))
+    ≡ descentOf (record { end = e; sum = c .loop .at .sum; made = c .loop .at .made; moves = c .loop .at .moves }) (layoutOf (c .loop .layout))
+
+end-at-requires : tie.Need-end-at-requires Inv-loop μ-loop
+end-at-requires c κs = search needs
+
+same-length : tie.Need-same-length Inv-loop μ-loop
+same-length c = c .before .before .before .loop .inv .1
+
+same-length-2 : tie.Need-same-length-2 Inv-loop μ-loop
+same-length-2 c = c .before .before .before .loop .inv .2
+
+same-length-3 : tie.Need-same-length-3 Inv-loop μ-loop
+same-length-3 c = c .before .before .before .loop .inv .3
+
+same-length-4 : tie.Need-same-length-4 Inv-loop μ-loop
+same-length-4 c = c .before .before .before .loop .inv .4
+
+same-length-5 : tie.Need-same-length-5 Inv-loop μ-loop
+same-length-5 c = c .before .before .before .loop .inv .5
+
+same-length-6 : tie.Need-same-length-6 Inv-loop μ-loop
+same-length-6 c = c .before .before .before .loop .inv .6
+
+same-length-7 : tie.Need-same-length-7 Inv-loop μ-loop
+same-length-7 c = c .before .before .before .loop .inv .7
+
+returns : tie.Need-returns Inv-loop μ-loop
+unfolding jobOf
+returns c =
+    let p = c .before .before .before in
+    let e = entry p in
+    let j = jobOf (lent e) in
+    let well = e .pre .0 .well in
+    let is : EndsAs p Clear =
+    underway-clear j (e .args .weights .now) (e .args .budget) (given e) (lent-zero-allowed (lent e) well) (lent-some (lent e) well) (e .args .budget - p .loop .at .made) _ (p .loop .at .sum) (p .loop .inv .0 .underway)
+    (c .before .if1 .taken) in
+    (is ∙ ap (λ (x : Ended). descentOf x (layoutOf (p .loop .layout))) (sym (c .end-at .ensures)), (p .loop .inv .0 .laid, p .loop .inv .0 .stores))
+
+end-at-requires-2 : tie.Need-end-at-requires-2 Inv-loop μ-loop
+end-at-requires-2 c κs = search needs
+
+same-length-8 : tie.Need-same-length-8 Inv-loop μ-loop
+same-length-8 c = c .before .before .before .before .before .loop .inv .1
+
+same-length-9 : tie.Need-same-length-9 Inv-loop μ-loop
+same-length-9 c = c .before .before .before .before .before .loop .inv .2
+
+same-length-10 : tie.Need-same-length-10 Inv-loop μ-loop
+same-length-10 c = c .before .before .before .before .before .loop .inv .3
+
+same-length-11 : tie.Need-same-length-11 Inv-loop μ-loop
+same-length-11 c = c .before .before .before .before .before .loop .inv .4
+
+same-length-12 : tie.Need-same-length-12 Inv-loop μ-loop
+same-length-12 c = c .before .before .before .before .before .loop .inv .5
+
+same-length-13 : tie.Need-same-length-13 Inv-loop μ-loop
+same-length-13 c = c .before .before .before .before .before .loop .inv .6
+
+same-length-14 : tie.Need-same-length-14 Inv-loop μ-loop
+same-length-14 c = c .before .before .before .before .before .loop .inv .7
+
+returns-2 : tie.Need-returns-2 Inv-loop μ-loop
+unfolding jobOf
+returns-2 c =
+    let p = c .before .before .before .before .before in
+    let e = entry p in
+    let j = jobOf (lent e) in
+    let well = e .pre .0 .well in
+    let is : EndsAs p Settled =
+    underway-settled j (e .args .weights .now) (e .args .budget) (given e) (lent-zero-allowed (lent e) well) (lent-some (lent e) well) (e .args .budget - p .loop .at .made) _ (p .loop .at .sum) (p .loop .inv .0 .underway)
+    (c .before .before .before .if1 .left) (c .before .if2 .taken ∙ count-is p) in
+    (is ∙ ap (λ (x : Ended). descentOf x (layoutOf (p .loop .layout))) (sym (c .end-at2 .ensures)), (p .loop .inv .0 .laid, p .loop .inv .0 .stores))
+
+end-at-requires-3 : tie.Need-end-at-requires-3 Inv-loop μ-loop
+end-at-requires-3 c κs = search needs
+
+same-length-15 : tie.Need-same-length-15 Inv-loop μ-loop
+same-length-15 c = c .before .before .before .before .before .before .before .loop .inv .1
+
+same-length-16 : tie.Need-same-length-16 Inv-loop μ-loop
+same-length-16 c = c .before .before .before .before .before .before .before .loop .inv .2
+
+same-length-17 : tie.Need-same-length-17 Inv-loop μ-loop
+same-length-17 c = c .before .before .before .before .before .before .before .loop .inv .3
+
+same-length-18 : tie.Need-same-length-18 Inv-loop μ-loop
+same-length-18 c = c .before .before .before .before .before .before .before .loop .inv .4
+
+same-length-19 : tie.Need-same-length-19 Inv-loop μ-loop
+same-length-19 c = c .before .before .before .before .before .before .before .loop .inv .5
+
+same-length-20 : tie.Need-same-length-20 Inv-loop μ-loop
+same-length-20 c = c .before .before .before .before .before .before .before .loop .inv .6
+
+same-length-21 : tie.Need-same-length-21 Inv-loop μ-loop
+same-length-21 c = c .before .before .before .before .before .before .before .loop .inv .7
+
+returns-3 : tie.Need-returns-3 Inv-loop μ-loop
+unfolding jobOf
+returns-3 c =
+    let p = c .before .before .before .before .before .before .before in
+    let e = entry p in
+    let j = jobOf (lent e) in
+    let well = e .pre .0 .well in
+    let is : EndsAs p Spent =
+    underway-spent j (e .args .weights .now) (e .args .budget) (given e) (lent-zero-allowed (lent e) well) (lent-some (lent e) well) (e .args .budget - p .loop .at .made) _ (p .loop .at .sum) (p .loop .inv .0 .underway)
+    (c .before .before .before .before .before .if1 .left) (λ z. c .before .before .before .if2 .left (z ∙ sym (count-is p))) (let made = c .before .if3 .taken in omega arith) in
+    (is ∙ ap (λ (x : Ended). descentOf x (layoutOf (p .loop .layout))) (sym (c .end-at3 .ensures)), (p .loop .inv .0 .laid, p .loop .inv .0 .stores))
+
+step-requires : tie.Need-step-requires Inv-loop μ-loop
+unfolding jobOf
+step-requires c κs =
+    let p = c .before .before .before .before .before .before .before .before .before .before .before .before .before in
+    let e = entry p in
+    let u = p .loop .inv .0 .underway in
+    let within = u .counted in
+    let differs = c .before .before .before .before .before .before .before .if3 .left in
+    let most = e .pre .1 .1 .1 .1 in
+    let few = p .before .before .before .before .trial-count .ensures .1 in
+    let count = count-is p in
+    let quiet = u .quietFew in
+    (e .pre .0, (e .pre .1 .0, (p .loop .inv .0 .laid, (p .loop .inv .0 .stores, (u .proper, (u .sumIs, (omega arith, (omega arith, u .movesMade))))))))
+
+-- the loop's head, from where a step was taken
+abbrev head : tie.After-step Inv-loop μ-loop → tie.At-loop Inv-loop μ-loop
+head c = c .before .before .before .before .before .before .before .before .before .before .before .before .before .before
+
+-- a step makes one trial
+made-one : (c : tie.After-step Inv-loop μ-loop) → c .step .result .made ≡ head c .loop .at .made + 1
+made-one c =
+    let p = head c .loop in
+    let e = entry (head c) in
+    ap (λ (s : loop.Standing). s .made) (c .step .ensures .0)
+    ∙ passed-made (jobOf (lent e)) (standingAs (layoutOf (p .layout)) (p .at)) (attempt (jobOf (lent e)) (e .args .weights .now) (layoutOf (p .layout)) (trialAs (p .at .trial)))
+
+loop-less : tie.Need-loop-less Inv-loop μ-loop
+unfolding jobOf
+loop-less c =
+    let p = c .before .before .before .before .before .before .before .before .before .before .before .before .before .before .before .before .before .before .before .before .before .before .before .before .before .before .before in
+    let within = p .loop .inv .0 .underway .counted in
+    let differs = c .before .before .before .before .before .before .before .before .before .before .before .before .before .before .before .before .before .before .before .before .before .if3 .left in
+    let one = made-one (c .before .before .before .before .before .before .before .before .before .before .before .before .before) in
+    omega arith
+
+loop-again : tie.Need-loop-again Inv-loop μ-loop
+unfolding jobOf
+loop-again c =
+    let p = c .before .before .before .before .before .before .before .before .before .before .before .before .before .before .before .before .before .before .before .before .before .before .before .before .before .before .before in
+    let e = entry p in
+    let j = jobOf (lent e) in
+    let s = c .before .before .before .before .before .before .before .before .before .before .before .before .before .step in
+    let new = s .last .1 .1 .1 .1 .1 .1 .1 .1 .1 .1 .0 in
+    let left = e .args .budget - p .loop .at .made in
+    let within = p .loop .inv .0 .underway .counted in
+    let differs = c .before .before .before .before .before .before .before .before .before .before .before .before .before .before .before .before .before .before .before .before .before .if3 .left in
+    let one = made-one (c .before .before .before .before .before .before .before .before .before .before .before .before .before) in
+    let rest : left - 1 ≡ e .args .budget - s .result .made = omega arith in
+    let pass : Underway j (e .args .weights .now) (e .args .budget) (given e) (left - 1) (standingAs (layoutOf new) (s .result)) (s .result .sum) =
+    underway-pass j (e .args .weights .now) (e .args .budget) (given e) (lent-zero-allowed (lent e) (e .pre .0 .well)) left _ (p .loop .at .sum) (p .loop .inv .0 .underway)
+    (c .before .before .before .before .before .before .before .before .before .before .before .before .before .before .before .before .before .before .before .before .before .before .before .before .before .if1 .left) (λ z. c .before .before .before .before .before .before .before .before .before .before .before .before .before .before .before .before .before .before .before .before .before .before .before .if2 .left (z ∙ sym (count-is p))) (omega arith) _ (s .result .sum) (s .ensures .0) (s .ensures .1 .0) (s .ensures .1 .1 .0 .valid) in
+    let under : Underway j (e .args .weights .now) (e .args .budget) (given e) (e .args .budget - s .result .made) (standingAs (layoutOf new) (s .result)) (s .result .sum) =
+    subst (λ (n : ℕ). Underway j (e .args .weights .now) (e .args .budget) (given e) n (standingAs (layoutOf new) (s .result)) (s .result .sum)) rest pass in (
+      record { underway = under; laid = s .ensures .1 .1 .0; stores = s .ensures .1 .1 .1 },
+      s .kept .1 .1 .1 .1 .1 .1 .1 .1 .1 .1 .0 ∙ p .loop .inv .1,
+      s .kept .1 .1 .1 .1 .1 .1 .1 .1 .1 .1 .1 .0 ∙ p .loop .inv .2,
+      s .kept .1 .1 .1 .1 .1 .1 .1 .1 .1 .1 .1 .1 .0 ∙ p .loop .inv .3,
+      s .kept .1 .1 .1 .1 .1 .1 .1 .1 .1 .1 .1 .1 .1 .0 ∙ p .loop .inv .4,
+      s .kept .1 .1 .1 .1 .1 .1 .1 .1 .1 .1 .1 .1 .1 .1 .0 ∙ p .loop .inv .5,
+      s .kept .1 .1 .1 .1 .1 .1 .1 .1 .1 .1 .1 .1 .1 .1 .1 .0 ∙ p .loop .inv .6,
+      s .kept .1 .1 .1 .1 .1 .1 .1 .1 .1 .1 .1 .1 .1 .1 .1 .1 .0 ∙ p .loop .inv .7,
+    )
+
+pub descend-spec : {M : Type 1} → statement M
+descend-spec =
+    tie.close
+    (tie.spec
+    Inv-loop
+    μ-loop
+    trial-count-requires
+    total-requires
+    beginning-requires
+    loop-holds
+    end-at-requires
+    same-length
+    same-length-2
+    same-length-3
+    same-length-4
+    same-length-5
+    same-length-6
+    same-length-7
+    returns
+    end-at-requires-2
+    same-length-8
+    same-length-9
+    same-length-10
+    same-length-11
+    same-length-12
+    same-length-13
+    same-length-14
+    returns-2
+    end-at-requires-3
+    same-length-15
+    same-length-16
+    same-length-17
+    same-length-18
+    same-length-19
+    same-length-20
+    same-length-21
+    returns-3
+    step-requires
+    loop-less
+    loop-again)

@@ -1,0 +1,111 @@
+-- `run_descent_calls::run_alone` meets its contract: the weights copied are the lent ones, and the plan is a descent alone. Assumes nothing.
+use mathlib.Core.List.{List, _++_}
+use mathlib.Core.Path.{_≡_, sym, _∙_, ap, subst, subst₂}
+use Prim.Native.Nat.{ℕ, _≤_}
+use native.Mathlib.Omega.{arith}
+use lib.ListN.{length, take, replicate, length-replicate, length-append}
+use lib.Seq.{length-take-le, take-at}
+use Rattle.model.specs.Lent.{Lent, lentBy, jobOf}
+use Rattle.job_laws.proofs.Checked.{facts}
+use Rattle.descent_laws.proofs.Bounds.{pairs-at-most}
+use Rattle.run_memory.specs.Ready.{Given}
+use Rattle.run_memory.specs.Done.{Done}
+use Rattle.run_memory.specs.declared.memory.Plan.{Plan}
+use Rattle.run_memory.specs.declared.memory.Outcome.{Outcome}
+use borrow.Author.Needs.{needs}
+use Rattle.run_descent_calls.proofs.run_alone.Statement.{statement}
+use Rattle.run_descent_calls.proofs.run_alone.Tie as tie
+
+-- the lent job
+abbrev lent : tie.Start → Lent
+lent e = lentBy (e .args .size) (e .args .table .now) (e .args .pixels .now)
+
+-- it has at most 2,016 pairs
+few : (e : tie.Start) → length (e .args .weights .now) ≤ 2016
+unfolding jobOf
+few e =
+    let g = e .pre in
+    let one = g .weights .onePerPair in
+    let most = pairs-at-most (e .args .size .count) (facts (lent e) (g .well) .fewPieces) in
+    omega arith
+
+-- as much of a fresh array as there are weights
+fresh-part : (n : ℕ) → n ≤ 2016 → length (take n (replicate {A = ℕ} 2016 0)) ≡ n
+fresh-part n l = length-take-le n (replicate 2016 0) (let e = length-replicate {A = ℕ} 2016 0 in omega arith)
+
+-- that part after the weights are copied
+copied-part : (ws copied rest : List ℕ) → copied ≡ ws → take (length ws) (copied ++ rest) ≡ ws
+copied-part ws copied rest e = take-at copied rest (length ws) (ap (λ xs. length xs) e) ∙ e
+
+-- the whole is long enough for that part
+copied-room : (ws copied rest : List ℕ) → copied ≡ ws → length ws ≤ length (copied ++ rest)
+copied-room ws copied rest e =
+    let all = length-append copied rest in
+    let same : length copied ≡ length ws = ap (λ xs. length xs) e in
+    omega arith
+
+array-borrow-prefix-own : tie.Need-array-borrow-prefix-own
+array-borrow-prefix-own c = few (c .before .before)
+
+slice-aggregate-copy-weights : tie.Need-slice-aggregate-copy-weights
+slice-aggregate-copy-weights c = let e = c .before .before .before in sym (fresh-part (length (e .args .weights .now)) (few e))
+
+copy-weights-requires : tie.Need-copy-weights-requires
+copy-weights-requires c κs = let e = c .before .before .before in fresh-part (length (e .args .weights .now)) (few e)
+
+array-borrow-prefix-own-2 : tie.Need-array-borrow-prefix-own-2
+array-borrow-prefix-own-2 c = copied-room (c .before .before .before .before .before .before .args .weights .now) _ _ (c .before .before .copy-weights .ensures)
+
+slice-aggregate-with-strips : tie.Need-slice-aggregate-with-strips
+slice-aggregate-with-strips c = let e = c .before .before .before .before .before .before .before in sym (ap (λ xs. length xs) (copied-part (e .args .weights .now) _ _ (c .before .before .before .copy-weights .ensures)))
+
+with-strips-requires : tie.Need-with-strips-requires
+with-strips-requires c κs =
+    let e = c .before .before .before .before .before .before .before in
+    (subst (λ ws. Given (lent e) (e .args .layout .now) ws (e .args .budget)) (sym (copied-part (e .args .weights .now) _ _ (c .before .before .before .copy-weights .ensures))) (e .pre), omega arith)
+
+-- what was done with weights that are the lent ones, by what the run came to
+done : (l : Lent) (layout : List (List ℕ)) (budget : ℕ) (new : List (List ℕ)) (raised : List ℕ) {copied ws : List ℕ} {result o : Outcome} → copied ≡ ws → result ≡ o
+    → Done l layout copied Plan.Alone budget result new raised → Done l layout ws Plan.Alone budget o new raised
+done l layout budget new raised e f d = subst₂ (λ (w : List ℕ) (x : Outcome). Done l layout w Plan.Alone budget x new raised) e f d
+
+enum-known-ended : tie.Need-enum-known-ended
+enum-known-ended c = search needs
+
+enum-told : tie.Need-enum-told
+enum-told c = search needs
+
+same-length : tie.Need-same-length
+same-length c = search needs
+
+returns : tie.Need-returns
+returns c =
+    let e = c .before .before .before .before .before .before .before .before .before .before .before .before .before in
+    let w = c .before .before .before .before .before .with-strips in
+    done (lent e) (e .args .layout .now) (e .args .budget) (w .last .1 .1 .1 .1 .1 .0) (w .last .1 .1 .1 .1 .1 .1 .0) (copied-part (e .args .weights .now) _ _ (c .before .before .before .before .before .before .before .before .before .copy-weights .ensures)) (c .before .ended .given .1) (w .ensures)
+
+same-length-2 : tie.Need-same-length-2
+same-length-2 c = search needs
+
+returns-2 : tie.Need-returns-2
+returns-2 c =
+    let e = c .before .before .before .before .before .before .before .before .before .before .before .before in
+    let w = c .before .before .before .before .with-strips in
+    absurd (done (lent e) (e .args .layout .now) (e .args .budget) (w .last .1 .1 .1 .1 .1 .0) (w .last .1 .1 .1 .1 .1 .1 .0) (copied-part (e .args .weights .now) _ _ (c .before .before .before .before .before .before .before .before .copy-weights .ensures)) (c .enum-told .given .1) (w .ensures))
+
+pub run-alone-spec : {M : Type 1} → statement M
+run-alone-spec =
+    tie.close
+    (tie.spec
+    array-borrow-prefix-own
+    slice-aggregate-copy-weights
+    copy-weights-requires
+    array-borrow-prefix-own-2
+    slice-aggregate-with-strips
+    with-strips-requires
+    enum-known-ended
+    enum-told
+    same-length
+    returns
+    same-length-2
+    returns-2)

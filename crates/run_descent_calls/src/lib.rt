@@ -1,0 +1,98 @@
+// Descent: trials taken one after the other until nothing overlaps, nothing helps or the budget is used up. Document 01, 'Descent and
+// guidance'.
+use layout_places::CauseAnswer;
+use model::End;
+use model::JobSize;
+use model::Refusal;
+use run_descent::Ended;
+use run_memory::memory::Outcome;
+use run_memory::memory::Plan;
+use run_memory::memory::with_strips;
+use run_memory::run_causes;
+use run_memory::write_entries;
+ghost use mathlib.Core.Path.{_≡_};
+ghost use lib.ListN.{length};
+ghost use Rattle.model.specs.Lent.{lentBy, jobOf};
+ghost use Rattle.model.specs.Buffer.{layoutOf};
+ghost use Rattle.model.specs.Calls.{descentCall, descentAfter};
+ghost use Rattle.descent_laws.specs.Claims.{DescentClaims};
+ghost use Rattle.run_descent.specs.Descents.{descentOf};
+ghost use Rattle.run_descent.specs.declared.Ended.{Ended};
+ghost use Rattle.run_memory.specs.Ready.{Given};
+ghost use Rattle.run_memory.specs.Done.{Descended};
+ghost use Rattle.run_descent_calls.specs.Answers.{descentAnswer};
+
+// How a descent ended, or why it is refused.
+pub enum DescentAnswer {
+    Ended(Ended),
+    Refused(Refusal),
+}
+
+// Copies weights.
+fn copy_weights(from: &[u32], to: &mut [u32])
+    requires { ⌜ length (now to) ≡ length (now from) ⌝ }
+    ensures { λ r. ⌜ now (to .exit) ≡ now (from .entry) ⌝ }
+{
+    let mut k = 0;
+    while k < from.len() {
+        to[k] = from[k];
+        k += 1;
+    }
+}
+
+// The descent, over weights of its own: a run's memory takes weights that may be raised.
+fn run_alone(
+    size: JobSize,
+    table: &[[u8; 3]],
+    pixels: &[u8],
+    weights: &[u32],
+    budget: u32,
+    layout: &mut [[u16; 3]],
+) -> Ended
+    requires { ⌜ Given (lentBy size (now table) (now pixels)) (now layout) (now weights) budget ⌝ }
+    ensures { λ r. ⌜ Descended (lentBy size (now (table .entry)) (now (pixels .entry))) (now (layout .entry)) (now (weights .entry)) budget r (now (layout .exit)) ⌝ }
+{
+    let mut own = [0u32; 2016];
+    let n = weights.len();
+    copy_weights(weights, &mut own[..n]);
+    match with_strips(
+        size,
+        table,
+        pixels,
+        Plan::Alone,
+        budget,
+        layout,
+        &mut own[..n],
+    ) {
+        Outcome::Alone(ended) => ended,
+        // One descent is planned: this does not happen.
+        Outcome::Rounds(_) => Ended {
+            end: End::Clear,
+            sum: 0,
+            made: 0,
+            moves: 0,
+        },
+    }
+}
+
+// The descent: 8, 7, 2, 9, 10. The layout buffer holds the layout at the end; a refusal writes nothing.
+pub fn descent(
+    size: JobSize,
+    table: &[[u8; 3]],
+    pixels: &[u8],
+    layout: &mut [[u16; 3]],
+    weights: &[u32],
+    budget: u32,
+) -> DescentAnswer
+    ensures answer { λ r. ⌜ r ≡ descentAnswer (descentCall (lentBy size (now (table .entry)) (now (pixels .entry))) (now (layout .entry)) (now (weights .entry)) budget) ⌝ }
+    ensures memory { λ r. ⌜ now (layout .exit) ≡ descentAfter (now (layout .entry)) (descentCall (lentBy size (now (table .entry)) (now (pixels .entry))) (now (layout .entry)) (now (weights .entry)) budget) ⌝ }
+    ensures demand3 { λ r. ⌜ ((e : Ended) → r ≡ DescentAnswer.Ended e → DescentClaims (jobOf (lentBy size (now (table .entry)) (now (pixels .entry)))) (now (weights .entry)) budget (layoutOf (now (layout .entry))) (descentOf e (layoutOf (now (layout .exit))))) ⌝ }
+{
+    match run_causes(size, table, pixels, layout, weights, 1000000000 < budget) {
+        CauseAnswer::Refused(refusal) => DescentAnswer::Refused(refusal),
+        CauseAnswer::Passed => {
+            write_entries(layout);
+            DescentAnswer::Ended(run_alone(size, table, pixels, weights, budget, layout))
+        }
+    }
+}

@@ -1,0 +1,115 @@
+// The guided run: rounds of descent with weights raised in between. Document 01, 'Descent and guidance' and 'When a call says no'.
+use layout_places::CauseAnswer;
+use model::JobSize;
+use model::Refusal;
+use run_memory::memory::Outcome;
+use run_memory::memory::Plan;
+use run_memory::memory::with_strips;
+use run_memory::run_causes;
+use run_memory::write_entries;
+ghost use mathlib.Core.Path.{_≡_};
+ghost use Prim.Native.Nat.{_≤_};
+ghost use Rattle.model.specs.Guided as model;
+ghost use Rattle.model.specs.Lent.{lentBy, jobOf};
+ghost use Rattle.model.specs.Buffer.{layoutOf};
+ghost use Rattle.model.specs.Calls.{roundBound, guidedCall, bestAfterRun, weightsAfterRun};
+ghost use Rattle.descent_laws.specs.Claims.{GuidedClaims};
+ghost use Rattle.search_laws.specs.Results.{guidedOf};
+ghost use Rattle.run_rounds.specs.Rounds.{Ran};
+ghost use Rattle.run_memory.specs.Ready.{Given};
+ghost use Rattle.run_guided_calls.specs.Answers.{tallyOf, guidedAnswer, numbersWrong};
+
+// What a guided run comes to beside the best layout and the new weights: the best layout's plain sum, and the trials and moves of all
+// rounds.
+pub struct Run {
+    pub sum: u64,
+    pub made: u64,
+    pub moves: u64,
+}
+
+// A guided run, or why it is refused.
+pub enum GuidedAnswer {
+    Ran(Run),
+    Refused(Refusal),
+}
+
+// Whether the budget or the round count is out of range.
+fn numbers_wrong(rounds: u32, budget: u32) -> bool
+    ensures { λ r. ⌜ r ≡ numbersWrong rounds budget ⌝ }
+{
+    if 1000000000 < budget {
+        return true;
+    }
+    if rounds == 0 {
+        return true;
+    }
+    1000 < rounds
+}
+
+// The rounds, in a run's memory.
+fn run_rounds(
+    size: JobSize,
+    table: &[[u8; 3]],
+    pixels: &[u8],
+    rounds: u32,
+    budget: u32,
+    layout: &mut [[u16; 3]],
+    weights: &mut [u32],
+) -> Run
+    requires { ⌜ Given (lentBy size (now table) (now pixels)) (now layout) (now weights) budget ⌝ ∗ ⌜ rounds ≤ roundBound ⌝ }
+    ensures { λ r. ⌜ Ran (lentBy size (now (table .entry)) (now (pixels .entry))) (now (layout .entry)) (now (weights .entry)) rounds budget (tallyOf r) (now (layout .exit)) (now (weights .exit)) ⌝ }
+{
+    match with_strips(
+        size,
+        table,
+        pixels,
+        Plan::Rounds(rounds),
+        budget,
+        layout,
+        weights,
+    ) {
+        Outcome::Rounds(told) => Run {
+            sum: told.sum,
+            made: told.made,
+            moves: told.moves,
+        },
+        // Rounds are planned: this does not happen.
+        Outcome::Alone(_) => Run {
+            sum: 0,
+            made: 0,
+            moves: 0,
+        },
+    }
+}
+
+// A guided run of at most so many rounds, each with the budget. The layout buffer holds the best layout after it, the weight buffer the
+// new weights; on a refusal nothing is written. Demand 3's claims hold of the run and of each of its rounds.
+pub fn guided_run(
+    size: JobSize,
+    table: &[[u8; 3]],
+    pixels: &[u8],
+    layout: &mut [[u16; 3]],
+    weights: &mut [u32],
+    rounds: u32,
+    budget: u32,
+) -> GuidedAnswer
+    ensures answer { λ r. ⌜ r ≡ guidedAnswer (guidedCall (lentBy size (now (table .entry)) (now (pixels .entry))) (now (layout .entry)) (now (weights .entry)) rounds budget) ⌝ }
+    ensures layout { λ r. ⌜ now (layout .exit) ≡ bestAfterRun (now (layout .entry)) (guidedCall (lentBy size (now (table .entry)) (now (pixels .entry))) (now (layout .entry)) (now (weights .entry)) rounds budget) ⌝ }
+    ensures weights { λ r. ⌜ now (weights .exit) ≡ weightsAfterRun (now (weights .entry)) (guidedCall (lentBy size (now (table .entry)) (now (pixels .entry))) (now (layout .entry)) (now (weights .entry)) rounds budget) ⌝ }
+    ensures demand3 { λ r. ⌜ ((run : Run) → r ≡ GuidedAnswer.Ran run → GuidedClaims (jobOf (lentBy size (now (table .entry)) (now (pixels .entry)))) (now (weights .entry)) rounds budget (layoutOf (now (layout .entry))) (model.rounds (jobOf (lentBy size (now (table .entry)) (now (pixels .entry)))) rounds budget (now (weights .entry)) (layoutOf (now (layout .entry)))) (guidedOf (layoutOf (now (layout .exit))) (run .sum) (now (weights .exit)) (run .made) (run .moves))) ⌝ }
+{
+    match run_causes(
+        size,
+        table,
+        pixels,
+        layout,
+        weights,
+        numbers_wrong(rounds, budget),
+    ) {
+        CauseAnswer::Refused(refusal) => GuidedAnswer::Refused(refusal),
+        CauseAnswer::Passed => {
+            write_entries(layout);
+            GuidedAnswer::Ran(run_rounds(size, table, pixels, rounds, budget, layout, weights))
+        }
+    }
+}

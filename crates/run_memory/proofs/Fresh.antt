@@ -1,0 +1,93 @@
+-- Stores with no line kept, and a layout buffer that is written again. Assumes nothing.
+use mathlib.Core.List.{List, [], _∷_}
+use mathlib.Core.Logic.{_⊎_, inl, inr}
+use mathlib.Core.Path.{_≡_, refl, sym, ap, _∙_}
+use Prim.Native.Nat.{ℕ, zero, suc, _+_, _*_, _/_, _%_, _<_, _≤_}
+use native.Mathlib.Nat.{eq-or-lt-of-le, div-add-mod', mod-lt, mul-le-mul-left, zero-mul}
+use native.Mathlib.Omega.{arith}
+use lib.ListN.{length, getD, set, take, replicate, length-set, length-replicate, getD-replicate, length-map}
+use lib.Seq.{length-take-le, getD-take, getD-set-same, getD-set-other, set-getD, ext-getD}
+use Rattle.model.specs.Layout.{Job, Layout, placeOf, origin}
+use Rattle.model.specs.Buffer.{entryOf, placementOf, layoutOf, entriesOf}
+use Rattle.model.specs.declared.Direction.{Direction}
+use Rattle.search_lines.proofs.Keeping.{none-kept}
+use Rattle.run_step.specs.Ready.{Store}
+use Rattle.run_memory.specs.Ready.{Slots}
+use Rattle.run_step.proofs.Moves.{layout-set}
+
+-- ── slots ──
+
+-- a product that is not 0 has no factor 0
+positive : (q w : ℕ) → 0 < q * w → 0 < q
+positive zero w h = absurd (let z = zero-mul w in omega arith)
+positive (suc q) w h = omega arith
+
+-- as many slots as the bytes have room for
+pub slots-of : (width : ℕ) → 64 ≤ width → width ≤ 512 → Slots width (524288 / width)
+slots-of width low high =
+    let whole : 524288 / width * width + 524288 % width ≡ 524288 = div-add-mod' 524288 width in
+    let rest : 524288 % width < width = mod-lt 524288 (omega arith) in
+    let least : 524288 / width * 64 ≤ 524288 / width * width = mul-le-mul-left (524288 / width) low in
+    record { some = positive (524288 / width) width (omega arith); room = omega arith; tagged = omega arith }
+
+-- so many tags are lent
+pub tags-lent : (width slots : ℕ) → Slots width slots → length {A = ℕ} (take slots (replicate 8192 0)) ≡ slots
+tags-lent width slots s =
+    let all : length {A = ℕ} (replicate 8192 0) ≡ 8192 = length-replicate {A = ℕ} 8192 0 in
+    let few = s .tagged in
+    length-take-le slots (replicate 8192 0) (omega arith)
+
+-- with no tag there is no line
+pub store-fresh : (d : Direction) (j : Job) (width slots : ℕ) → Slots width slots
+    → Store d j width (replicate 524288 0) (take slots (replicate 8192 0))
+store-fresh d j width slots s =
+    let bytes : length {A = ℕ} (replicate 524288 0) ≡ 524288 = length-replicate {A = ℕ} 524288 0 in
+    let count = tags-lent width slots s in
+    let some = s .some in
+    let few = s .tagged in
+    record {
+      kept =
+          none-kept d j width (replicate 524288 0) (take slots (replicate 8192 0)) (rw (count, bytes) (s .room)) (omega arith)
+          (λ m l. getD-take slots (replicate 8192 0) m 0 (omega arith) ∙ getD-replicate {A = ℕ} 8192 m 0 0 (omega arith));
+      fits = omega arith;
+    }
+
+-- ── a buffer that is written again ──
+
+-- an entry of a layout's buffer
+entries-at : (v : Layout) (i : ℕ) → i < length v → getD (entriesOf v) i [] ≡ entryOf (placeOf v i)
+entries-at [] i l = absurd (omega arith)
+entries-at (p ∷ v) zero l = refl
+entries-at (p ∷ v) (suc i) l = entries-at v i (omega arith)
+
+-- the entries below i are written again, and the layout is read as before
+pub record Rewritten (start now : List (List ℕ)) (i : ℕ) : Type 0 where
+  pub same : length now ≡ length start
+  pub reads : layoutOf now ≡ layoutOf start
+  pub done : (k : ℕ) → k < i → getD now k [] ≡ entryOf (placeOf (layoutOf start) k)
+
+-- before the first
+pub rewritten-begin : (start : List (List ℕ)) → Rewritten start start 0
+rewritten-begin start = record { same = refl; reads = refl; done = λ k l. absurd (omega arith) }
+
+-- one more
+pub rewritten-step : (start now : List (List ℕ)) (i : ℕ) → i < length now → Rewritten start now i
+    → Rewritten start (set now i (entryOf (placeOf (layoutOf now) i))) (i + 1)
+rewritten-step start now i l h =
+    record {
+      same = length-set now i _ ∙ h .same;
+      reads = layout-set now i (placeOf (layoutOf now) i) ∙ set-getD (layoutOf now) i origin ∙ h .reads;
+      done = λ k b. at k (eq-or-lt-of-le (omega arith));
+    }
+  where
+    at : (k : ℕ) → (k ≡ i) ⊎ (k < i) → getD (set now i (entryOf (placeOf (layoutOf now) i))) k [] ≡ entryOf (placeOf (layoutOf start) k)
+    at k (inl e) = rw e (getD-set-same now i _ [] l ∙ ap (λ (v : Layout). entryOf (placeOf v i)) (h .reads))
+    at k (inr b) = getD-set-other now i k _ [] (λ z. omega arith) ∙ h .done k b
+
+-- after the last
+pub rewritten-end : (start now : List (List ℕ)) → Rewritten start now (length now) → now ≡ entriesOf (layoutOf start)
+rewritten-end start now h =
+    let same = h .same in
+    let placed : length (layoutOf start) ≡ length start = length-map start placementOf in
+    let entries : length (entriesOf (layoutOf start)) ≡ length (layoutOf start) = length-map (layoutOf start) entryOf in
+    ext-getD [] now (entriesOf (layoutOf start)) (omega arith) (λ k l. h .done k l ∙ sym (entries-at (layoutOf start) k (omega arith)))

@@ -1,0 +1,129 @@
+-- `run_memory::memory::take_rounds` meets its contract: the layout at hand begins as the given one. Assumes nothing.
+use mathlib.Core.List.{List, [], _∷_, _++_}
+use mathlib.Core.Path.{_≡_, sym, _∙_, ap, subst}
+use Prim.Native.Nat.{ℕ, _≤_}
+use native.Mathlib.Omega.{arith}
+use lib.ListN.{length, take, replicate, length-replicate, length-append}
+use lib.Seq.{length-take-le, take-at}
+use Rattle.model.specs.Lent.{Lent, lentBy, pieceBound}
+use Rattle.job_laws.proofs.Checked.{facts}
+use Rattle.run_step.specs.Ready.{LaidOut}
+use Rattle.run_rounds.specs.Rounds.{Ran}
+use Rattle.run_memory.proofs.Givens.{given-length}
+use borrow.Author.Needs.{needs}
+use Rattle.run_memory.proofs.memory.take_rounds.Statement.{statement}
+use Rattle.run_memory.proofs.memory.take_rounds.Tie as tie
+
+-- the lent job
+abbrev job : tie.Start → Lent
+job s = lentBy (s .args .size) (s .args .table .now) (s .args .pixels .now)
+
+-- it has at most 64 pieces
+few : (s : tie.Start) → s .args .size .count ≤ pieceBound
+few s = facts (job s) (s .pre .0 .well) .fewPieces
+
+-- the layout has an entry for each
+whole : (s : tie.Start) → length (s .args .layout .now) ≡ s .args .size .count
+whole s = given-length (job s) (s .args .layout .now) (s .args .weights .now) (s .args .budget) (s .pre .0)
+
+-- a fresh array
+abbrev fresh : List (List ℕ)
+fresh = replicate 64 (0 ∷ 0 ∷ 0 ∷ [])
+
+-- as much of it as the layout is long
+fresh-part : (n : ℕ) → n ≤ pieceBound → length (take n fresh) ≡ n
+fresh-part n l = length-take-le n fresh (let e = length-replicate {A = List ℕ} 64 (0 ∷ 0 ∷ 0 ∷ []) in omega arith)
+
+-- that part after the layout is copied
+copied-part : (s : tie.Start) (copied rest : List (List ℕ)) → copied ≡ s .args .layout .now → take (s .args .size .count) (copied ++ rest) ≡ s .args .layout .now
+copied-part s copied rest e = take-at copied rest (s .args .size .count) (ap (λ es. length es) e ∙ whole s) ∙ e
+
+-- the whole is long enough for that part
+copied-room : (s : tie.Start) (copied rest : List (List ℕ)) → copied ≡ s .args .layout .now → s .args .size .count ≤ length (copied ++ rest)
+copied-room s copied rest e =
+    let all = length-append copied rest in
+    let same : length copied ≡ length (s .args .layout .now) = ap (λ es. length es) e in
+    let pieces = whole s in
+    omega arith
+
+array-borrow-prefix-present : tie.Need-array-borrow-prefix-present
+array-borrow-prefix-present c = few (c .before .before .before .before .before .before .before .before .before .before .before)
+
+slice-aggregate-copy : tie.Need-slice-aggregate-copy
+slice-aggregate-copy c = let s = c .before .before .before .before .before .before .before .before .before .before .before .before in sym (fresh-part (s .args .size .count) (few s))
+
+copy-requires : tie.Need-copy-requires
+copy-requires c κs = let s = c .before .before .before .before .before .before .before .before .before .before .before .before in fresh-part (s .args .size .count) (few s) ∙ sym (whole s)
+
+array-borrow-prefix-present-2 : tie.Need-array-borrow-prefix-present-2
+array-borrow-prefix-present-2 c = copied-room (c .before .before .before .before .before .before .before .before .before .before .before .before .before .before) _ _ (c .before .copy .ensures)
+
+slice-aggregate-rounds : tie.Need-slice-aggregate-rounds
+slice-aggregate-rounds c = let s = c .before .before .before .before .before .before .before .before .before .before .before .before .before .before .before in sym (ap (λ es. length es) (copied-part s _ _ (c .before .before .copy .ensures)) ∙ whole s)
+
+rounds-requires : tie.Need-rounds-requires
+rounds-requires c κs =
+    let s = c .before .before .before .before .before .before .before .before .before .before .before .before .before .before .before .before .before .before .before .before .before .before .before in
+    let given = s .pre .0 in
+    let present = copied-part s _ _ (c .before .before .before .before .before .before .before .before .before .before .copy .ensures) in (
+      s .pre .1 .1 .0,
+      (
+        given .weights,
+        (
+          subst (λ v. LaidOut (job s) v (s .args .penalties .now)) (sym present) (s .pre .1 .1 .1 .0),
+          (s .pre .1 .1 .1 .1, (sym present, (s .pre .1 .0, given .few))),
+        ),
+      ),
+    )
+
+same-length : tie.Need-same-length
+same-length c = search needs
+
+same-length-2 : tie.Need-same-length-2
+same-length-2 c = search needs
+
+same-length-3 : tie.Need-same-length-3
+same-length-3 c = search needs
+
+same-length-4 : tie.Need-same-length-4
+same-length-4 c = search needs
+
+same-length-5 : tie.Need-same-length-5
+same-length-5 c = search needs
+
+same-length-6 : tie.Need-same-length-6
+same-length-6 c = search needs
+
+same-length-7 : tie.Need-same-length-7
+same-length-7 c = search needs
+
+same-length-8 : tie.Need-same-length-8
+same-length-8 c = search needs
+
+returns : tie.Need-returns
+returns c =
+    let s = c .before .before .before .before .before .before .before .before .before .before .before .before .before .before .before .before .before .before .before .before .before .before .before .before .before .before .before .before .before .before .before .before .before .before .before .before .before .before .before .before in
+    let made = c .before .before .before .before .before .before .before .before .before .before .before .before .before .before .before .before .rounds in
+    subst
+    (λ v. Ran (job s) v (s .args .weights .now) (s .args .count) (s .args .budget) (made .result) (made .last .1 .1 .1 .1 .1 .1 .1 .1 .1 .1 .1 .0) (made .last .1 .1 .1 .1 .1 .1 .1 .1 .1 .1 .1 .1 .0))
+    (copied-part s _ _ (c .before .before .before .before .before .before .before .before .before .before .before .before .before .before .before .before .before .before .before .before .before .before .before .before .before .before .before .copy .ensures)) (made .ensures)
+
+pub take-rounds-spec : {M : Type 1} → statement M
+take-rounds-spec =
+    tie.close
+    (tie.spec
+    array-borrow-prefix-present
+    slice-aggregate-copy
+    copy-requires
+    array-borrow-prefix-present-2
+    slice-aggregate-rounds
+    rounds-requires
+    same-length
+    same-length-2
+    same-length-3
+    same-length-4
+    same-length-5
+    same-length-6
+    same-length-7
+    same-length-8
+    returns)

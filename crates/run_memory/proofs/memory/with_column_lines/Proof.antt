@@ -1,0 +1,109 @@
+-- `run_memory::memory::with_column_lines` meets its contract: fresh tags name no line, and the table is the layout's. Assumes nothing.
+use mathlib.Core.Path.{refl, sym, subst}
+use Prim.Native.Nat.{ℕ}
+use native.Mathlib.Omega.{arith}
+use lib.ListN.{length-replicate}
+use Rattle.model.specs.Lent.{Lent, lentBy, jobOf}
+use Rattle.model.specs.Buffer.{layoutOf}
+use Rattle.model.specs.declared.Direction.the-variants.{Vertical}
+use Rattle.search_laws.specs.Table.{PenaltyTable}
+use Rattle.search_table.specs.Drawn.{Drawn}
+use Rattle.run_memory.proofs.Fresh.{tags-lent, store-fresh}
+use Rattle.run_memory.proofs.Givens.{given-laid, given-length}
+use borrow.Author.Needs.{needs}
+use Rattle.run_memory.proofs.memory.with_column_lines.Statement.{statement}
+use Rattle.run_memory.proofs.memory.with_column_lines.Tie as tie
+
+-- the lent job
+abbrev lent : tie.Start → Lent
+lent e = lentBy (e .args .size) (e .args .table .now) (e .args .pixels .now)
+
+-- the layout and the strips of its pieces
+drawn : (e : tie.Start)
+    → Drawn (lent e) (e .args .rows .now) (e .args .row-starts .now) (e .args .columns .now) (e .args .column-starts .now) (e .args .layout .now)
+drawn e =
+    let tools = e .pre .1 .1 .0 in
+    let laid = given-laid (lent e) (e .args .layout .now) (e .args .weights .now) (e .args .budget) (e .pre .0) in
+    record { inRows = record { laid = laid; horizontal = tools .horizontal }; vertical = tools .vertical }
+
+slot-count-requires : tie.Need-slot-count-requires
+slot-count-requires c κs = search needs
+
+slice-aggregate-fill-table : tie.Need-slice-aggregate-fill-table
+slice-aggregate-fill-table c = search needs
+
+fill-table-requires : tie.Need-fill-table-requires
+fill-table-requires c κs =
+    let e = c .before .before .before .before .before .before .before .before .before in (record { size = e .args .size; pixels = e .args .pixels .now; drawn = drawn e }, refl)
+
+slice-aggregate-run-plan : tie.Need-slice-aggregate-run-plan
+slice-aggregate-run-plan c = search needs
+
+slice-aggregate-run-plan-2 : tie.Need-slice-aggregate-run-plan-2
+slice-aggregate-run-plan-2 c = search needs
+
+array-borrow-prefix-tags : tie.Need-array-borrow-prefix-tags
+array-borrow-prefix-tags c = search needs
+
+slice-aggregate-run-plan-3 : tie.Need-slice-aggregate-run-plan-3
+slice-aggregate-run-plan-3 c =
+    sym (tags-lent _ _ (c .before .before .before .before .before .before .before .before .before .before .before .slot-count .ensures))
+
+slice-aggregate-run-plan-4 : tie.Need-slice-aggregate-run-plan-4
+slice-aggregate-run-plan-4 c = search needs
+
+run-plan-requires : tie.Need-run-plan-requires
+run-plan-requires c κs =
+    let e = c .before .before .before .before .before .before .before .before .before .before .before .before .before .before .before .before .before .before .before in
+    let g = e .pre .0 in
+    let f = c .before .before .before .before .before .before .before .before .before .fill-table in
+    let T = f .last .1 .1 .1 .1 .1 .1 .0 in
+    let whole = given-length (lent e) (e .args .layout .now) (e .args .weights .now) (e .args .budget) g in
+    let table : PenaltyTable (jobOf (lent e)) (layoutOf (e .args .layout .now)) (e .args .size .count) T =
+    subst (λ (n : ℕ). PenaltyTable (jobOf (lent e)) (layoutOf (e .args .layout .now)) n T) whole (f .ensures (e .args .size) (e .args .pixels .now) (drawn e)) in
+    let room = length-replicate {A = ℕ} 4096 0 in
+    let slots = c .before .before .before .before .before .before .before .before .before .before .before .before .slot-count in
+    let columns = store-fresh Vertical (jobOf (lent e)) (e .args .width) (slots .result) (slots .ensures) in (
+      g,
+      (
+        e .pre .1 .0,
+        (
+          e .pre .1 .1 .0,
+          (record { valid = g .valid; written = g .written; table = table }, record { inRows = e .pre .1 .1 .1; inColumns = columns; scratch = omega arith }),
+        ),
+      ),
+    )
+
+same-length : tie.Need-same-length
+same-length c = search needs
+
+same-length-2 : tie.Need-same-length-2
+same-length-2 c = search needs
+
+same-length-3 : tie.Need-same-length-3
+same-length-3 c = search needs
+
+same-length-4 : tie.Need-same-length-4
+same-length-4 c = search needs
+
+returns : tie.Need-returns
+returns c = c .before .before .before .before .before .before .before .before .before .before .before .run-plan .ensures
+
+pub with-column-lines-spec : {M : Type 1} → statement M
+with-column-lines-spec =
+    tie.close
+    (tie.spec
+    slot-count-requires
+    slice-aggregate-fill-table
+    fill-table-requires
+    slice-aggregate-run-plan
+    slice-aggregate-run-plan-2
+    array-borrow-prefix-tags
+    slice-aggregate-run-plan-3
+    slice-aggregate-run-plan-4
+    run-plan-requires
+    same-length
+    same-length-2
+    same-length-3
+    same-length-4
+    returns)

@@ -1,0 +1,73 @@
+-- `run_memory::memory::with_row_lines` meets its contract: fresh tags name no line, and every line fits a slot. Assumes nothing.
+use mathlib.Core.Path.{sym}
+use Rattle.model.specs.Lent.{Lent, lentBy, jobOf}
+use Rattle.model.specs.declared.Direction.the-variants.{Horizontal}
+use Rattle.job_laws.proofs.Checked.{facts}
+use Rattle.run_memory.proofs.Fresh.{tags-lent, store-fresh}
+use borrow.Author.Needs.{needs}
+use Rattle.run_memory.proofs.memory.with_row_lines.Statement.{statement}
+use Rattle.run_memory.proofs.memory.with_row_lines.Tie as tie
+
+-- the lent job
+abbrev job : tie.Start → Lent
+job s = lentBy (s .args .size) (s .args .table .now) (s .args .pixels .now)
+
+slot-width-requires : tie.Need-slot-width-requires
+slot-width-requires c κs = let s = c .before .before .before .before in facts (job s) (s .pre .0 .well) .entries
+
+slot-count-requires : tie.Need-slot-count-requires
+slot-count-requires c κs = search needs
+
+slice-aggregate-with-column-lines : tie.Need-slice-aggregate-with-column-lines
+slice-aggregate-with-column-lines c = search needs
+
+array-borrow-prefix-tags : tie.Need-array-borrow-prefix-tags
+array-borrow-prefix-tags c = search needs
+
+slice-aggregate-with-column-lines-2 : tie.Need-slice-aggregate-with-column-lines-2
+slice-aggregate-with-column-lines-2 c = sym (tags-lent (c .before .before .before .before .before .slot-width .result) (c .before .before .before .before .slot-count .result) (c .before .before .before .before .slot-count .ensures))
+
+with-column-lines-requires : tie.Need-with-column-lines-requires
+with-column-lines-requires c κs =
+    let s = c .before .before .before .before .before .before .before .before .before .before in
+    let width = c .before .before .before .before .before .slot-width in
+    let slots = c .before .before .before .before .slot-count in (
+      s .pre .0,
+      (
+        s .pre .1 .0,
+        (
+          record {
+            well = s .pre .0 .well;
+            horizontal = s .pre .1 .1 .0;
+            vertical = s .pre .1 .1 .1;
+            wide = width .ensures .0 (s .args .pixels .now);
+            roomy = width .ensures .1 .0;
+            narrow = width .ensures .1 .1;
+          },
+          store-fresh Horizontal (jobOf (job s)) (width .result) (slots .result) (slots .ensures),
+        ),
+      ),
+    )
+
+same-length : tie.Need-same-length
+same-length c = search needs
+
+same-length-2 : tie.Need-same-length-2
+same-length-2 c = search needs
+
+returns : tie.Need-returns
+returns c = c .before .before .before .before .before .with-column-lines .ensures
+
+pub with-row-lines-spec : {M : Type 1} → statement M
+with-row-lines-spec =
+    tie.close
+    (tie.spec
+    slot-width-requires
+    slot-count-requires
+    slice-aggregate-with-column-lines
+    array-borrow-prefix-tags
+    slice-aggregate-with-column-lines-2
+    with-column-lines-requires
+    same-length
+    same-length-2
+    returns)

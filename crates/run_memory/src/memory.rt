@@ -1,0 +1,315 @@
+// The memory of a run, of a descent alone or of the rounds of a guided run: strips, kept lines, the table of penalties and scratch. It is
+// local, and spread over nested functions, since it is too much for one.
+use model::Direction;
+use model::JobSize;
+use run_descent::Ended;
+use run_descent::descend;
+use run_rounds::Tally;
+use run_rounds::copy;
+use run_rounds::rounds;
+use search_lines::slot_width;
+use search_shapes::make_shapes;
+use search_table::fill_table;
+ghost use Prim.Native.Nat.{_≤_};
+ghost use Rattle.model.specs.Lent.{lentBy, jobOf};
+ghost use Rattle.model.specs.Calls.{roundBound};
+ghost use Rattle.model.specs.declared.Direction.{Direction};
+ghost use Rattle.search_shapes.specs.Shapes.{Shapes};
+ghost use Rattle.run_step.specs.Ready.{Tools, LaidOut, Store, Stores};
+ghost use Rattle.run_rounds.specs.Rounds.{Ran};
+ghost use Rattle.run_memory.specs.Ready.{Given, Slots};
+ghost use Rattle.run_memory.specs.Done.{FewRounds, Done};
+
+// What a run does: one descent, or at most so many rounds.
+pub enum Plan {
+    Alone,
+    Rounds(u32),
+}
+
+// What a run comes to beside its buffers.
+pub enum Outcome {
+    Alone(Ended),
+    Rounds(Tally),
+}
+
+// How many slots of a width a store of 524,288 bytes and 8,192 tags has.
+fn slot_count(width: usize) -> usize
+    requires { ⌜ (64 ≤ width) × (width ≤ 512) ⌝ }
+    ensures { λ r. ⌜ Slots width r ⌝ }
+{
+    524288 / width
+}
+
+// The rounds, with a buffer for the layout at hand; the best one stands in the lent buffer.
+fn take_rounds(
+    size: JobSize,
+    table: &[[u8; 3]],
+    pixels: &[u8],
+    rows: &[[u8; 3]],
+    row_starts: &[u32],
+    columns: &[[u8; 3]],
+    column_starts: &[u32],
+    count: u32,
+    budget: u32,
+    width: usize,
+    layout: &mut [[u16; 3]],
+    weights: &mut [u32],
+    penalties: &mut [u8],
+    row_lines: &mut [u8],
+    row_tags: &mut [u32],
+    column_lines: &mut [u8],
+    column_tags: &mut [u32],
+    sums: &mut [u32],
+) -> Tally
+    requires { ⌜ Given (lentBy size (now table) (now pixels)) (now layout) (now weights) budget ⌝
+        ∗ ⌜ count ≤ roundBound ⌝
+        ∗ ⌜ Tools (lentBy size (now table) (now pixels)) (now rows) (now «row_starts») (now columns) (now «column_starts») width ⌝
+        ∗ ⌜ LaidOut (lentBy size (now table) (now pixels)) (now layout) (now penalties) ⌝
+        ∗ ⌜ Stores (jobOf (lentBy size (now table) (now pixels))) width (now «row_lines») (now «row_tags») (now «column_lines») (now «column_tags») (now sums) ⌝ }
+    ensures { λ r. ⌜ Ran (lentBy size (now (table .entry)) (now (pixels .entry))) (now (layout .entry)) (now (weights .entry)) count budget r (now (layout .exit)) (now (weights .exit)) ⌝ }
+{
+    let mut present = [[0u16; 3]; 64];
+    let n = size.count;
+    copy(layout, &mut present[..n]);
+    rounds(
+        size,
+        table,
+        pixels,
+        rows,
+        row_starts,
+        columns,
+        column_starts,
+        count,
+        budget,
+        width,
+        &mut present[..n],
+        layout,
+        weights,
+        penalties,
+        row_lines,
+        row_tags,
+        column_lines,
+        column_tags,
+        sums,
+    )
+}
+
+// The run that is planned.
+fn run_plan(
+    size: JobSize,
+    table: &[[u8; 3]],
+    pixels: &[u8],
+    rows: &[[u8; 3]],
+    row_starts: &[u32],
+    columns: &[[u8; 3]],
+    column_starts: &[u32],
+    plan: Plan,
+    budget: u32,
+    width: usize,
+    layout: &mut [[u16; 3]],
+    weights: &mut [u32],
+    penalties: &mut [u8],
+    row_lines: &mut [u8],
+    row_tags: &mut [u32],
+    column_lines: &mut [u8],
+    column_tags: &mut [u32],
+    sums: &mut [u32],
+) -> Outcome
+    requires { ⌜ Given (lentBy size (now table) (now pixels)) (now layout) (now weights) budget ⌝
+        ∗ ⌜ FewRounds plan ⌝
+        ∗ ⌜ Tools (lentBy size (now table) (now pixels)) (now rows) (now «row_starts») (now columns) (now «column_starts») width ⌝
+        ∗ ⌜ LaidOut (lentBy size (now table) (now pixels)) (now layout) (now penalties) ⌝
+        ∗ ⌜ Stores (jobOf (lentBy size (now table) (now pixels))) width (now «row_lines») (now «row_tags») (now «column_lines») (now «column_tags») (now sums) ⌝ }
+    ensures { λ r. ⌜ Done (lentBy size (now (table .entry)) (now (pixels .entry))) (now (layout .entry)) (now (weights .entry)) plan budget r (now (layout .exit)) (now (weights .exit)) ⌝ }
+{
+    match plan {
+        Plan::Alone => Outcome::Alone(descend(
+            size,
+            table,
+            pixels,
+            rows,
+            row_starts,
+            columns,
+            column_starts,
+            weights,
+            budget,
+            width,
+            layout,
+            penalties,
+            row_lines,
+            row_tags,
+            column_lines,
+            column_tags,
+            sums,
+        )),
+        Plan::Rounds(count) => Outcome::Rounds(take_rounds(
+            size,
+            table,
+            pixels,
+            rows,
+            row_starts,
+            columns,
+            column_starts,
+            count,
+            budget,
+            width,
+            layout,
+            weights,
+            penalties,
+            row_lines,
+            row_tags,
+            column_lines,
+            column_tags,
+            sums,
+        )),
+    }
+}
+
+// The run, with a store for lines along columns, the table of penalties and scratch for the sums of a line.
+fn with_column_lines(
+    size: JobSize,
+    table: &[[u8; 3]],
+    pixels: &[u8],
+    rows: &[[u8; 3]],
+    row_starts: &[u32],
+    columns: &[[u8; 3]],
+    column_starts: &[u32],
+    plan: Plan,
+    budget: u32,
+    width: usize,
+    layout: &mut [[u16; 3]],
+    weights: &mut [u32],
+    row_lines: &mut [u8],
+    row_tags: &mut [u32],
+) -> Outcome
+    requires { ⌜ Given (lentBy size (now table) (now pixels)) (now layout) (now weights) budget ⌝
+        ∗ ⌜ FewRounds plan ⌝
+        ∗ ⌜ Tools (lentBy size (now table) (now pixels)) (now rows) (now «row_starts») (now columns) (now «column_starts») width ⌝
+        ∗ ⌜ Store Direction.Horizontal (jobOf (lentBy size (now table) (now pixels))) width (now «row_lines») (now «row_tags») ⌝ }
+    ensures { λ r. ⌜ Done (lentBy size (now (table .entry)) (now (pixels .entry))) (now (layout .entry)) (now (weights .entry)) plan budget r (now (layout .exit)) (now (weights .exit)) ⌝ }
+{
+    let mut lines = [0u8; 524288];
+    let mut tags = [0u32; 8192];
+    let mut penalties = [0u8; 4096];
+    let mut sums = [0u32; 4096];
+    let slots = slot_count(width);
+    fill_table(
+        rows,
+        row_starts,
+        columns,
+        column_starts,
+        table,
+        layout,
+        &mut penalties,
+    );
+    run_plan(
+        size,
+        table,
+        pixels,
+        rows,
+        row_starts,
+        columns,
+        column_starts,
+        plan,
+        budget,
+        width,
+        layout,
+        weights,
+        &mut penalties,
+        row_lines,
+        row_tags,
+        &mut lines,
+        &mut tags[..slots],
+        &mut sums,
+    )
+}
+
+// The run, with a store for lines along rows.
+fn with_row_lines(
+    size: JobSize,
+    table: &[[u8; 3]],
+    pixels: &[u8],
+    rows: &[[u8; 3]],
+    row_starts: &[u32],
+    columns: &[[u8; 3]],
+    column_starts: &[u32],
+    plan: Plan,
+    budget: u32,
+    layout: &mut [[u16; 3]],
+    weights: &mut [u32],
+) -> Outcome
+    requires { ⌜ Given (lentBy size (now table) (now pixels)) (now layout) (now weights) budget ⌝
+        ∗ ⌜ FewRounds plan ⌝
+        ∗ ⌜ Shapes Direction.Horizontal (jobOf (lentBy size (now table) (now pixels))) (now rows) (now «row_starts») ⌝
+        ∗ ⌜ Shapes Direction.Vertical (jobOf (lentBy size (now table) (now pixels))) (now columns) (now «column_starts») ⌝ }
+    ensures { λ r. ⌜ Done (lentBy size (now (table .entry)) (now (pixels .entry))) (now (layout .entry)) (now (weights .entry)) plan budget r (now (layout .exit)) (now (weights .exit)) ⌝ }
+{
+    let mut lines = [0u8; 524288];
+    let mut tags = [0u32; 8192];
+    let width = slot_width(size, table);
+    let slots = slot_count(width);
+    with_column_lines(
+        size,
+        table,
+        pixels,
+        rows,
+        row_starts,
+        columns,
+        column_starts,
+        plan,
+        budget,
+        width,
+        layout,
+        weights,
+        &mut lines,
+        &mut tags[..slots],
+    )
+}
+
+// The run, with the strips of every piece in every turn.
+pub fn with_strips(
+    size: JobSize,
+    table: &[[u8; 3]],
+    pixels: &[u8],
+    plan: Plan,
+    budget: u32,
+    layout: &mut [[u16; 3]],
+    weights: &mut [u32],
+) -> Outcome
+    requires { ⌜ Given (lentBy size (now table) (now pixels)) (now layout) (now weights) budget ⌝ ∗ ⌜ FewRounds plan ⌝ }
+    ensures { λ r. ⌜ Done (lentBy size (now (table .entry)) (now (pixels .entry))) (now (layout .entry)) (now (weights .entry)) plan budget r (now (layout .exit)) (now (weights .exit)) ⌝ }
+{
+    let mut rows = [[0u8; 3]; 262144];
+    let mut row_starts = [0u32; 257];
+    let mut columns = [[0u8; 3]; 262144];
+    let mut column_starts = [0u32; 257];
+    make_shapes(
+        size,
+        table,
+        pixels,
+        Direction::Horizontal,
+        &mut rows,
+        &mut row_starts,
+    );
+    make_shapes(
+        size,
+        table,
+        pixels,
+        Direction::Vertical,
+        &mut columns,
+        &mut column_starts,
+    );
+    with_row_lines(
+        size,
+        table,
+        pixels,
+        &rows,
+        &row_starts,
+        &columns,
+        &column_starts,
+        plan,
+        budget,
+        layout,
+        weights,
+    )
+}

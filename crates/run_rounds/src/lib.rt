@@ -1,0 +1,141 @@
+// The rounds of a guided run. Document 01, 'Descent and guidance': each round is a descent from where the one before it ended; the best
+// layout is the one with the least plain sum so far; weights are raised after each round that is not clear.
+use model::End;
+use model::JobSize;
+use run_descent::descend;
+use search_sums::plain_total;
+use search_sums::raise;
+ghost use mathlib.Core.Path.{_≡_};
+ghost use Prim.Native.Nat.{_<_, _≤_};
+ghost use lib.ListN.{length};
+ghost use Rattle.model.specs.Layout.{Job, Layout};
+ghost use Rattle.model.specs.Guided.{isClear};
+ghost use Rattle.model.specs.Lent.{lentBy, jobOf};
+ghost use Rattle.model.specs.Calls.{budgetBound, roundBound};
+ghost use Rattle.descent_laws.specs.Claims.{ValidWeights};
+ghost use Rattle.search_laws.specs.Table.{PenaltyTable};
+ghost use Rattle.search_sums.specs.Table.{Weighed};
+ghost use Rattle.run_step.specs.Ready.{Tools, LaidOut, Stores};
+ghost use Rattle.run_rounds.specs.Rounds.{better, betterSum, leftAfter, raisedAfter, Ran};
+
+// What rounds come to beside the best layout and the weights: the best layout's plain sum, and the trials and moves of all rounds.
+pub struct Tally {
+    pub sum: u64,
+    pub made: u64,
+    pub moves: u64,
+}
+
+// Copies a layout buffer.
+pub fn copy(from: &[[u16; 3]], to: &mut [[u16; 3]])
+    requires { ⌜ length (now to) ≡ length (now from) ⌝ }
+    ensures { λ r. ⌜ now (to .exit) ≡ now (from .entry) ⌝ }
+{
+    let mut k = 0;
+    while k < from.len() {
+        to[k] = from[k];
+        k += 1;
+    }
+}
+
+// Takes a round's end for the best layout where its plain sum is smaller; gives the best layout's plain sum.
+fn keep_better(end: &[[u16; 3]], sum: u64, best: &mut [[u16; 3]], best_sum: u64) -> u64
+    requires { ⌜ length (now best) ≡ length (now end) ⌝ }
+    ensures layout { λ r. ⌜ now (best .exit) ≡ better sum «best_sum» (now (end .entry)) (now (best .entry)) ⌝ }
+    ensures sum { λ r. ⌜ r ≡ betterSum sum «best_sum» ⌝ }
+{
+    if sum < best_sum {
+        copy(end, best);
+        return sum;
+    }
+    best_sum
+}
+
+// The round ended clear.
+fn is_clear(end: End) -> bool
+    ensures { λ r. ⌜ r ≡ isClear end ⌝ }
+{
+    match end {
+        End::Clear => true,
+        End::Settled => false,
+        End::Spent => false,
+    }
+}
+
+// How many rounds are left after a round, of those that were left before it: none after a clear one. After any other, the last included,
+// the weights are raised.
+fn after_round(end: End, left: u32, penalties: &[u8], weights: &mut [u32], n: usize) -> u32
+    requires { ⌜ Weighed n (now penalties) (now weights) ⌝ ∗ ⌜ 0 < left ⌝ }
+    ensures left { λ r. ⌜ r ≡ leftAfter end left ⌝ }
+    ensures weights { λ r. ⌜ ((j : Job) (v : Layout) → j .count ≡ n → PenaltyTable j v n (now (penalties .entry)) → ValidWeights j (now (weights .entry)) → now (weights .exit) ≡ raisedAfter j v end (now (weights .entry))) ⌝ }
+{
+    let clear = is_clear(end);
+    if clear {
+        return 0;
+    }
+    raise(penalties, weights, n);
+    left - 1
+}
+
+// At most so many rounds from the layout `present` on, which is the best so far. The best layout stands in `best` at the end.
+pub fn rounds(
+    size: JobSize,
+    table: &[[u8; 3]],
+    pixels: &[u8],
+    rows: &[[u8; 3]],
+    row_starts: &[u32],
+    columns: &[[u8; 3]],
+    column_starts: &[u32],
+    count: u32,
+    budget: u32,
+    width: usize,
+    present: &mut [[u16; 3]],
+    best: &mut [[u16; 3]],
+    weights: &mut [u32],
+    penalties: &mut [u8],
+    row_lines: &mut [u8],
+    row_tags: &mut [u32],
+    column_lines: &mut [u8],
+    column_tags: &mut [u32],
+    sums: &mut [u32],
+) -> Tally
+    requires { ⌜ Tools (lentBy size (now table) (now pixels)) (now rows) (now «row_starts») (now columns) (now «column_starts») width ⌝
+        ∗ ⌜ ValidWeights (jobOf (lentBy size (now table) (now pixels))) (now weights) ⌝
+        ∗ ⌜ LaidOut (lentBy size (now table) (now pixels)) (now present) (now penalties) ⌝
+        ∗ ⌜ Stores (jobOf (lentBy size (now table) (now pixels))) width (now «row_lines») (now «row_tags») (now «column_lines») (now «column_tags») (now sums) ⌝ }
+    requires { ⌜ now best ≡ now present ⌝ ∗ ⌜ (count ≤ roundBound) × (budget ≤ budgetBound) ⌝ }
+    ensures { λ r. ⌜ Ran (lentBy size (now (table .entry)) (now (pixels .entry))) (now (present .entry)) (now (weights .entry)) count budget r (now (best .exit)) (now (weights .exit)) ⌝ }
+{
+    let n = size.count;
+    let mut sum = plain_total(penalties, n);
+    let mut made: u64 = 0;
+    let mut moves: u64 = 0;
+    let mut left = count;
+    while 0 < left {
+        let round = descend(
+            size,
+            table,
+            pixels,
+            rows,
+            row_starts,
+            columns,
+            column_starts,
+            weights,
+            budget,
+            width,
+            present,
+            penalties,
+            row_lines,
+            row_tags,
+            column_lines,
+            column_tags,
+            sums,
+        );
+        made = made + round.made as u64;
+        moves = moves + round.moves as u64;
+        let plain = plain_total(penalties, n);
+        sum = keep_better(present, plain, best, sum);
+        let end = round.end;
+        left = after_round(end, left, penalties, weights, n);
+    }
+    Tally { sum, made, moves }
+}

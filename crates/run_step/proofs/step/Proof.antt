@@ -1,0 +1,274 @@
+-- `run_step::step` meets its contract: a piece whose pair sum is 0 is quiet without a search, else the search decides. Assumes nothing.
+use mathlib.Core.Option.{Option, none}
+use mathlib.Core.Path.{_≡_, refl, sym, ap, _∙_}
+use Prim.Native.Nat.{_+_, _-_}
+use native.Mathlib.Omega.{arith}
+use Rattle.model.specs.Layout.{Layout, pieceSum, weightedSum}
+use Rattle.model.specs.Lent.{Lent, lentBy, jobOf}
+use Rattle.model.specs.Buffer.{layoutOf}
+use Rattle.model.specs.Search.{Best}
+use Rattle.model.specs.Descent as model
+use Rattle.model.specs.Descent.{trialLine, attempt, moved}
+use Rattle.job_laws.proofs.Checked.{facts}
+use Rattle.descent_laws.proofs.Sums.{piece-at-most}
+use Rattle.descent_laws.proofs.Descent.{zero-quiet}
+use Rattle.search_laws.specs.TrialIndex.{nextTrial}
+use Rattle.search_laws.specs.Loop.{trialSearch}
+use Rattle.search_laws.proofs.Loop.{trialMoved, trial-moved, trial-quiet, trial-sum, trial-place}
+use Rattle.run_trials.specs.Trials.{trialAs}
+use Rattle.run_step.specs.Steps.{entriesAfter, standingAs}
+use Rattle.run_step.specs.declared.Standing.{Standing}
+use Rattle.run_step.proofs.Moves.{MovedTo, tried-quiet, tried-moved}
+use Rattle.run_step.proofs.Stands.{present-small, total-small, quiet-passed, moved-passed, moved-layout}
+use borrow.Author.Needs.{needs}
+use Rattle.run_step.proofs.step.Statement.{statement}
+use Rattle.run_step.proofs.step.Tie as tie
+
+-- the lent job, the layout at hand, the trial and what its search comes to
+abbrev lent : tie.Start → Lent
+lent e = lentBy (e .args .size) (e .args .table .now) (e .args .pixels .now)
+
+abbrev layoutAt : tie.Start → Layout
+layoutAt e = layoutOf (e .args .layout .now)
+
+abbrev trialAt : tie.Start → model.Trial
+trialAt e = trialAs (e .args .at .trial)
+
+abbrev sought : tie.Start → Option Best
+sought e = trialSearch (jobOf (lent e)) (e .args .weights .now) (layoutAt e) (trialAt e)
+
+next-trial-requires : tie.Need-next-trial-requires
+next-trial-requires c κs =
+    let e = c .before .before .before .before .before .before .before .before .before .before .before in
+    (e .pre .1 .1 .1 .1 .0 .below, (facts (lent e) (e .pre .0 .well) .entries, facts (lent e) (e .pre .0 .well) .fewPieces))
+
+row-sum-requires : tie.Need-row-sum-requires
+unfolding jobOf
+row-sum-requires c κs =
+    let e = c .before .before .before .before .before .before .before .before .before .before .before .before .before in
+    let t = e .pre .1 .1 .0 .table in
+    (record { few = facts (lent e) (e .pre .0 .well) .fewPieces; size = t .size; onePerPair = e .pre .1 .0 .onePerPair }, e .pre .1 .1 .1 .1 .0 .below)
+
+-- the entry, from where the present pair sum is known
+abbrev entry : tie.After-row-sum → tie.Start
+entry c = c .before .before .before .before .before .before .before .before .before .before .before .before .before .before
+
+-- the present pair sum
+present : (c : tie.After-row-sum)
+    → c .row-sum .result ≡ pieceSum (jobOf (lent (entry c))) (entry c .args .weights .now) (layoutAt (entry c)) (entry c .args .at .trial .piece)
+unfolding jobOf
+present c = let e = entry c in c .row-sum .ensures (jobOf (lent e)) (layoutAt e) refl (e .pre .1 .1 .0 .table)
+
+-- the trial that comes next
+next : (c : tie.After-row-sum) → trialAs (c .before .before .next-trial .result) ≡ nextTrial (jobOf (lent (entry c))) (trialAt (entry c))
+next c = c .before .before .next-trial .ensures (entry c .args .pixels .now)
+
+after-quiet-requires : tie.Need-after-quiet-requires
+after-quiet-requires c κs =
+    let n = c .before .before .before .before .before .before .before .before .before .before .before .before .before .before .before .pre .1 .1 .1 .1 .1 .1 in (n .0, n .1 .0)
+
+same-length : tie.Need-same-length
+same-length c = search needs
+
+returns : tie.Need-returns
+returns c =
+    let b = c .before .before in
+    let e = entry b in
+    let j = jobOf (lent e) in
+    let r = c .after-quiet in
+    let still = zero-quiet j (e .args .weights .now) (layoutAt e) (trialAt e) (sym (present b) ∙ c .before .if1 .taken) in (
+      quiet-passed j (e .args .weights .now) (layoutAt e) (e .args .at) _ (next b) (r .result) (r .ensures) still,
+      (ap (λ (s : Standing). s .sum) (r .ensures) ∙ e .pre .1 .1 .1 .1 .1 .0, (e .pre .1 .1 .0, e .pre .1 .1 .1 .0)),
+    )
+
+cast-try-trial : tie.Need-cast-try-trial
+cast-try-trial c =
+    let b = c .before in
+    let e = entry b in
+    let is = present b in
+    let small = present-small (lent e) (e .pre .0 .well) (e .args .weights .now) (e .pre .1 .0) (layoutAt e) (e .args .at .trial .piece) (e .pre .1 .1 .1 .1 .0 .below) in
+    omega arith
+
+try-trial-requires : tie.Need-try-trial-requires
+try-trial-requires c κs =
+    let b = c .before .before .before .before .before .before .before .before in
+    let e = entry b in
+    (e .pre .0, (e .pre .1 .0, (e .pre .1 .1 .0, (e .pre .1 .1 .1 .0, (e .pre .1 .1 .1 .1 .0, present b)))))
+
+enum-known-found : tie.Need-enum-known-found
+enum-known-found c = search needs
+
+enum-told : tie.Need-enum-told
+enum-told c = search needs
+
+-- the present pair sum, from where the trial was taken
+abbrev summed : tie.After-try-trial → tie.After-row-sum
+summed c = c .before .before .before .before .before .before .before .before .before
+
+-- what the layout buffer holds after the trial
+abbrev left : tie.After-try-trial → Layout
+left c = layoutOf (c .try-trial .last .1 .1 .1 .1 .1 .1 .1 .1 .1 .1 .1 .0)
+
+-- and what it is by the search
+after : (c : tie.After-try-trial) (o : Option Best) → sought (entry (summed c)) ≡ o
+    → c .try-trial .last .1 .1 .1 .1 .1 .1 .1 .1 .1 .1 .1 .0
+    ≡ entriesAfter (entry (summed c) .args .layout .now) (trialAt (entry (summed c)) .piece) (trialAt (entry (summed c)) .turn)
+    (trialLine (layoutAt (entry (summed c))) (trialAt (entry (summed c)))) o
+after c o found =
+    let e = entry (summed c) in
+    c .try-trial .ensures .1 .0
+    ∙ ap (entriesAfter (e .args .layout .now) (trialAt e .piece) (trialAt e .turn) (trialLine (layoutAt e) (trialAt e))) found
+
+after-quiet-requires-2 : tie.Need-after-quiet-requires-2
+after-quiet-requires-2 c κs =
+    let n = c .before .before .before .before .before .before .before .before .before .before .before .before .before .before .before .before .before .before .before .before .before .before .before .before .before .before .before .before .before .before .before .before .before .before .before .before .before .before .pre .1 .1 .1 .1 .1 .1 in (n .0, n .1 .0)
+
+same-length-2 : tie.Need-same-length-2
+same-length-2 c = search needs
+
+same-length-3 : tie.Need-same-length-3
+same-length-3 c = search needs
+
+same-length-4 : tie.Need-same-length-4
+same-length-4 c = search needs
+
+same-length-5 : tie.Need-same-length-5
+same-length-5 c = search needs
+
+same-length-6 : tie.Need-same-length-6
+same-length-6 c = search needs
+
+same-length-7 : tie.Need-same-length-7
+same-length-7 c = search needs
+
+same-length-8 : tie.Need-same-length-8
+same-length-8 c = search needs
+
+returns-2 : tie.Need-returns-2
+returns-2 c =
+    let t = c .before .before .before .before .before .before .before .before .before .before .before .before .before .before .before .before in
+    let b = summed t in
+    let e = entry b in
+    let j = jobOf (lent e) in
+    let ws = e .args .weights .now in
+    let r = c .after-quiet2 in
+    let nothing : sought e ≡ none = tried-quiet (sought e) (sym (c .before .enum-told .given .1) ∙ t .try-trial .ensures .0) in
+    let same : left t ≡ layoutAt e = ap layoutOf (after t none nothing) in
+    let passed = quiet-passed j ws (layoutAt e) (e .args .at) _ (next b) (r .result) (r .ensures) (trial-quiet j ws (layoutAt e) (trialAt e) nothing) in (
+      ap (λ (w : Layout). standingAs w (r .result)) same ∙ passed,
+      (
+        ap (λ (s : Standing). s .sum) (r .ensures) ∙ e .pre .1 .1 .1 .1 .1 .0 ∙ sym (ap (weightedSum j ws) same),
+        (t .try-trial .ensures .1 .1 .0, t .try-trial .ensures .1 .1 .1),
+      ),
+    )
+
+-- the place that was found
+place : (c : tie.After-found) → MovedTo (sought (entry (summed (c .before .before .before .before .before .before .before .before .before .before .before .before .before .before .before)))) (c .found .given .0 .0)
+place c = tried-moved _ _ (sym (c .found .given .1) ∙ c .before .before .before .before .before .before .before .before .before .before .before .before .before .before .before .try-trial .ensures .0)
+
+sub-after-move : tie.Need-sub-after-move
+sub-after-move c =
+    let b = c .before .before .before .before .before .before .before .before .before .before .before .before .before .before .before .before .before .before .before .before .before .before .before .before .before in
+    let e = entry b in
+    let is = present b in
+    let most = piece-at-most (jobOf (lent e)) (e .args .weights .now) (layoutAt e) (e .args .at .trial .piece) in
+    let sum = e .pre .1 .1 .1 .1 .1 .0 in
+    omega arith
+
+cast-after-move : tie.Need-cast-after-move
+cast-after-move c = search needs
+
+add-after-move : tie.Need-add-after-move
+add-after-move c =
+    let b = c .before .before .before .before .before .before .before .before .before .before .before .before .before .before .before .before .before .before .before .before .before .before .before .before .before in
+    let e = entry b in
+    let j = jobOf (lent e) in
+    let m = place (c .before) in
+    let is = present b in
+    let most = piece-at-most j (e .args .weights .now) (layoutAt e) (e .args .at .trial .piece) in
+    let small = total-small (lent e) (e .pre .0 .well) (e .args .weights .now) (e .pre .1 .0) (layoutAt e) in
+    let less = trial-place j (e .args .weights .now) (layoutAt e) (trialAt e) (m .best) (m .found) .1 in
+    let sum = e .pre .1 .1 .1 .1 .1 .0 in
+    let least = m .sum in
+    omega arith
+
+after-move-requires : tie.Need-after-move-requires
+after-move-requires c κs =
+    let n = c .before .before .before .before .before .before .before .before .before .before .before .before .before .before .before .before .before .before .before .before .before .before .before .before .before .before .before .before .before .before .before .before .before .before .before .before .before .before .before .pre .1 .1 .1 .1 .1 .1 in (n .1 .0, n .1 .1)
+
+same-length-9 : tie.Need-same-length-9
+same-length-9 c = search needs
+
+same-length-10 : tie.Need-same-length-10
+same-length-10 c = search needs
+
+same-length-11 : tie.Need-same-length-11
+same-length-11 c = search needs
+
+same-length-12 : tie.Need-same-length-12
+same-length-12 c = search needs
+
+same-length-13 : tie.Need-same-length-13
+same-length-13 c = search needs
+
+same-length-14 : tie.Need-same-length-14
+same-length-14 c = search needs
+
+same-length-15 : tie.Need-same-length-15
+same-length-15 c = search needs
+
+returns-3 : tie.Need-returns-3
+returns-3 c =
+    let t = c .before .before .before .before .before .before .before .before .before .before .before .before .before .before .before .before .before in
+    let b = summed t in
+    let e = entry b in
+    let j = jobOf (lent e) in
+    let ws = e .args .weights .now in
+    let m = place (c .before .before) in
+    let r = c .after-move in
+    let there : left t ≡ trialMoved (layoutAt e) (trialAt e) (m .best .at) = moved-layout (e .args .layout .now) _ (trialAt e) (m .best) (after t _ (m .found)) in
+    let took : attempt j ws (layoutAt e) (trialAt e) ≡ moved (left t) = trial-moved j ws (layoutAt e) (trialAt e) (m .best) (m .found) ∙ ap moved (sym there) in
+    let lowered : weightedSum j ws (left t) ≡ weightedSum j ws (layoutAt e) - pieceSum j ws (layoutAt e) (e .args .at .trial .piece) + m .best .sum =
+    ap (weightedSum j ws) there ∙ trial-sum j ws (layoutAt e) (trialAt e) (m .best) (m .found) in
+    let now : r .result .sum ≡ e .args .at .sum - b .row-sum .result + c .before .before .found .given .0 .0 = ap (λ (s : Standing). s .sum) (r .ensures) in
+    let is = present b in
+    let sum = e .pre .1 .1 .1 .1 .1 .0 in
+    let least = m .sum in (
+      moved-passed j ws (layoutAt e) (e .args .at) _ (next b) (left t) (r .result) _ (r .ensures) took,
+      (omega arith, (t .try-trial .ensures .1 .1 .0, t .try-trial .ensures .1 .1 .1)),
+    )
+
+pub step-spec : {M : Type 1} → statement M
+step-spec =
+    tie.close
+    (tie.spec
+    next-trial-requires
+    row-sum-requires
+    after-quiet-requires
+    same-length
+    returns
+    cast-try-trial
+    try-trial-requires
+    enum-known-found
+    enum-told
+    after-quiet-requires-2
+    same-length-2
+    same-length-3
+    same-length-4
+    same-length-5
+    same-length-6
+    same-length-7
+    same-length-8
+    returns-2
+    sub-after-move
+    cast-after-move
+    add-after-move
+    after-move-requires
+    same-length-9
+    same-length-10
+    same-length-11
+    same-length-12
+    same-length-13
+    same-length-14
+    same-length-15
+    returns-3)

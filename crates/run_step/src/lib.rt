@@ -1,0 +1,298 @@
+// One trial of a descent: the piece's line is searched for a place whose pair sum is below the present one, and the piece goes there if
+// there is one. Document 01, 'Descent and guidance'.
+use model::Column;
+use model::Direction;
+use model::JobSize;
+use model::Line;
+use model::Placement;
+use model::Row;
+use model::Turn;
+use run_trials::Trial;
+use run_trials::line_of;
+use run_trials::next_trial;
+use search_bounded::renew_placed;
+use search_bounded::search_below;
+use search_line_sums::Found;
+use search_sums::row_sum;
+use search_tracks::Mover;
+ghost use mathlib.Core.Path.{_≡_};
+ghost use Prim.Native.Nat.{_<_, _≤_};
+ghost use lib.ListN.{length};
+ghost use Rattle.model.specs.Piece.{onLine, lineDirection};
+ghost use Rattle.model.specs.Lent.{lentBy, jobOf};
+ghost use Rattle.model.specs.Layout.{pieceSum, weightedSum};
+ghost use Rattle.model.specs.Buffer.{layoutOf};
+ghost use Rattle.model.specs.Descent.{attempt, trialLine};
+ghost use Rattle.descent_laws.specs.Claims.{ValidWeights};
+ghost use Rattle.descent_laws.specs.Trials.{Proper};
+ghost use Rattle.search_laws.specs.Table.{PenaltyTable};
+ghost use Rattle.search_laws.specs.Loop.{passed, trialSearch};
+ghost use Rattle.search_lines.specs.Kept.{Kept};
+ghost use Rattle.search_bounded.specs.Ready.{SearchReady};
+ghost use Rattle.run_trials.specs.Trials.{trialAs};
+ghost use Rattle.run_step.specs.Ready.{Tools, LaidOut, Stores};
+ghost use Rattle.run_step.specs.Steps.{moverSearch, triedAnswer, entriesAfter, standingAs, afterQuiet, afterMove};
+
+// What a trial comes to: a move, with the piece's pair sum at its new place, or quiet.
+pub enum Tried {
+    Moved(u32),
+    Quiet,
+}
+
+// Where a descent stands: the weighted sum, the quiet count, trials made, moves, and the trial that comes next.
+pub struct Standing {
+    pub sum: u64,
+    pub quiet: usize,
+    pub made: u32,
+    pub moves: u32,
+    pub trial: Trial,
+}
+
+// The placement in a turn at a coordinate of a line.
+fn place_on(line: Line, turn: Turn, at: u32) -> Placement
+    requires { ⌜ at < 65536 ⌝ }
+    ensures { λ r. ⌜ r ≡ onLine line turn at ⌝ }
+{
+    let here = at as u16;
+    match line {
+        Line::InRow(row) => Placement {
+            turn: turn,
+            x: Column(here),
+            y: row,
+        },
+        Line::InColumn(column) => Placement {
+            turn: turn,
+            x: column,
+            y: Row(here),
+        },
+    }
+}
+
+// Searches the mover's line for a place below the bound, and moves the piece there if there is one.
+fn try_line(
+    size: JobSize,
+    table: &[[u8; 3]],
+    pixels: &[u8],
+    strips: &[[u8; 3]],
+    starts: &[u32],
+    weights: &[u32],
+    mover: Mover,
+    bound: u32,
+    width: usize,
+    layout: &mut [[u16; 3]],
+    penalties: &mut [u8],
+    lines: &mut [u8],
+    tags: &mut [u32],
+    sums: &mut [u32],
+) -> Tried
+    requires { ⌜ SearchReady (lentBy size (now table) (now pixels)) (lineDirection (mover .line)) (now strips) (now starts) (now layout) (now weights) width (now lines) (now tags) ⌝ ∗ ⌜ mover .piece < size .count ⌝ ∗ ⌜ PenaltyTable (jobOf (lentBy size (now table) (now pixels))) (layoutOf (now layout)) (size .count) (now penalties) ⌝ ∗ ⌜ 4096 ≤ length (now sums) ⌝ }
+    ensures answer { λ r. ⌜ r ≡ triedAnswer (moverSearch (jobOf (lentBy size (now (table .entry)) (now (pixels .entry)))) (now (weights .entry)) (layoutOf (now (layout .entry))) mover bound) ⌝ }
+    ensures memory { λ r. ⌜ now (layout .exit) ≡ entriesAfter (now (layout .entry)) (mover .piece) (mover .turn) (mover .line) (moverSearch (jobOf (lentBy size (now (table .entry)) (now (pixels .entry)))) (now (weights .entry)) (layoutOf (now (layout .entry))) mover bound) ⌝ }
+    ensures renewed { λ r. ⌜ PenaltyTable (jobOf (lentBy size (now (table .entry)) (now (pixels .entry)))) (layoutOf (now (layout .exit))) (size .count) (now (penalties .exit)) ⌝ }
+    ensures kept { λ r. ⌜ Kept (lineDirection (mover .line)) (jobOf (lentBy size (now (table .entry)) (now (pixels .entry)))) width (now (lines .exit)) (now (tags .exit)) ⌝ }
+{
+    let Found::At(sum, at) = search_below(
+        size,
+        table,
+        pixels,
+        strips,
+        starts,
+        layout,
+        weights,
+        mover,
+        bound,
+        width,
+        lines,
+        tags,
+        sums,
+    ) else {
+        return Tried::Quiet;
+    };
+    renew_placed(
+        size,
+        table,
+        pixels,
+        strips,
+        starts,
+        layout,
+        mover,
+        at as usize,
+        width,
+        lines,
+        tags,
+        penalties,
+    );
+    let piece = mover.piece;
+    let turn = mover.turn;
+    let line = mover.line;
+    layout[piece] = layout_places::entry_of(place_on(line, turn, at));
+    Tried::Moved(sum)
+}
+
+// Takes a trial of a piece whose present pair sum is given.
+fn try_trial(
+    size: JobSize,
+    table: &[[u8; 3]],
+    pixels: &[u8],
+    rows: &[[u8; 3]],
+    row_starts: &[u32],
+    columns: &[[u8; 3]],
+    column_starts: &[u32],
+    weights: &[u32],
+    trial: Trial,
+    present: u32,
+    width: usize,
+    layout: &mut [[u16; 3]],
+    penalties: &mut [u8],
+    row_lines: &mut [u8],
+    row_tags: &mut [u32],
+    column_lines: &mut [u8],
+    column_tags: &mut [u32],
+    sums: &mut [u32],
+) -> Tried
+    requires { ⌜ Tools (lentBy size (now table) (now pixels)) (now rows) (now «row_starts») (now columns) (now «column_starts») width ⌝
+        ∗ ⌜ ValidWeights (jobOf (lentBy size (now table) (now pixels))) (now weights) ⌝
+        ∗ ⌜ LaidOut (lentBy size (now table) (now pixels)) (now layout) (now penalties) ⌝
+        ∗ ⌜ Stores (jobOf (lentBy size (now table) (now pixels))) width (now «row_lines») (now «row_tags») (now «column_lines») (now «column_tags») (now sums) ⌝ }
+    requires { ⌜ Proper (jobOf (lentBy size (now table) (now pixels))) 0 (size .count) (trialAs trial) ⌝
+        ∗ ⌜ present ≡ pieceSum (jobOf (lentBy size (now table) (now pixels))) (now weights) (layoutOf (now layout)) (trial .piece) ⌝ }
+    ensures answer { λ r. ⌜ r ≡ triedAnswer (trialSearch (jobOf (lentBy size (now (table .entry)) (now (pixels .entry)))) (now (weights .entry)) (layoutOf (now (layout .entry))) (trialAs trial)) ⌝ }
+    ensures memory { λ r. ⌜ now (layout .exit) ≡ entriesAfter (now (layout .entry)) (trial .piece) (trial .turn) (trialLine (layoutOf (now (layout .entry))) (trialAs trial)) (trialSearch (jobOf (lentBy size (now (table .entry)) (now (pixels .entry)))) (now (weights .entry)) (layoutOf (now (layout .entry))) (trialAs trial)) ⌝ }
+    ensures laid { λ r. ⌜ LaidOut (lentBy size (now (table .entry)) (now (pixels .entry))) (now (layout .exit)) (now (penalties .exit)) ⌝ }
+    ensures stores { λ r. ⌜ Stores (jobOf (lentBy size (now (table .entry)) (now (pixels .entry)))) width (now («row_lines» .exit)) (now («row_tags» .exit)) (now («column_lines» .exit)) (now («column_tags» .exit)) (now (sums .exit)) ⌝ }
+{
+    let turn = trial.turn;
+    let direction = trial.direction;
+    let line = line_of(layout, trial);
+    let mover = Mover {
+        piece: trial.piece,
+        turn: turn,
+        line: line,
+    };
+    match direction {
+        Direction::Horizontal => try_line(
+            size,
+            table,
+            pixels,
+            rows,
+            row_starts,
+            weights,
+            mover,
+            present,
+            width,
+            layout,
+            penalties,
+            row_lines,
+            row_tags,
+            sums,
+        ),
+        Direction::Vertical => try_line(
+            size,
+            table,
+            pixels,
+            columns,
+            column_starts,
+            weights,
+            mover,
+            present,
+            width,
+            layout,
+            penalties,
+            column_lines,
+            column_tags,
+            sums,
+        ),
+    }
+}
+
+// After a quiet trial: the quiet count grows by 1.
+fn after_quiet(at: Standing, next: Trial) -> Standing
+    requires { ⌜ (at .quiet < 1000) × (at .made < 1000000000) ⌝ }
+    ensures { λ r. ⌜ r ≡ afterQuiet at next ⌝ }
+{
+    Standing {
+        sum: at.sum,
+        quiet: at.quiet + 1,
+        made: at.made + 1,
+        moves: at.moves,
+        trial: next,
+    }
+}
+
+// After a move to a given sum: the quiet count becomes 0.
+fn after_move(at: Standing, next: Trial, sum: u64) -> Standing
+    requires { ⌜ (at .made < 1000000000) × (at .moves ≤ at .made) ⌝ }
+    ensures { λ r. ⌜ r ≡ afterMove at next sum ⌝ }
+{
+    Standing {
+        sum: sum,
+        quiet: 0,
+        made: at.made + 1,
+        moves: at.moves + 1,
+        trial: next,
+    }
+}
+
+// Takes the trial that comes next. A piece whose pair sum is 0 cannot move, so its line is not searched.
+pub fn step(
+    size: JobSize,
+    table: &[[u8; 3]],
+    pixels: &[u8],
+    rows: &[[u8; 3]],
+    row_starts: &[u32],
+    columns: &[[u8; 3]],
+    column_starts: &[u32],
+    weights: &[u32],
+    at: Standing,
+    width: usize,
+    layout: &mut [[u16; 3]],
+    penalties: &mut [u8],
+    row_lines: &mut [u8],
+    row_tags: &mut [u32],
+    column_lines: &mut [u8],
+    column_tags: &mut [u32],
+    sums: &mut [u32],
+) -> Standing
+    requires { ⌜ Tools (lentBy size (now table) (now pixels)) (now rows) (now «row_starts») (now columns) (now «column_starts») width ⌝
+        ∗ ⌜ ValidWeights (jobOf (lentBy size (now table) (now pixels))) (now weights) ⌝
+        ∗ ⌜ LaidOut (lentBy size (now table) (now pixels)) (now layout) (now penalties) ⌝
+        ∗ ⌜ Stores (jobOf (lentBy size (now table) (now pixels))) width (now «row_lines») (now «row_tags») (now «column_lines») (now «column_tags») (now sums) ⌝ }
+    requires { ⌜ Proper (jobOf (lentBy size (now table) (now pixels))) 0 (size .count) (trialAs (at .trial)) ⌝
+        ∗ ⌜ at .sum ≡ weightedSum (jobOf (lentBy size (now table) (now pixels))) (now weights) (layoutOf (now layout)) ⌝
+        ∗ ⌜ (at .quiet < 1000) × ((at .made < 1000000000) × (at .moves ≤ at .made)) ⌝ }
+    ensures passed { λ r. ⌜ standingAs (layoutOf (now (layout .exit))) r ≡ passed (jobOf (lentBy size (now (table .entry)) (now (pixels .entry)))) (standingAs (layoutOf (now (layout .entry))) at) (attempt (jobOf (lentBy size (now (table .entry)) (now (pixels .entry)))) (now (weights .entry)) (layoutOf (now (layout .entry))) (trialAs (at .trial))) ⌝ }
+    ensures sum { λ r. ⌜ r .sum ≡ weightedSum (jobOf (lentBy size (now (table .entry)) (now (pixels .entry)))) (now (weights .entry)) (layoutOf (now (layout .exit))) ⌝ }
+    ensures laid { λ r. ⌜ LaidOut (lentBy size (now (table .entry)) (now (pixels .entry))) (now (layout .exit)) (now (penalties .exit)) ⌝ }
+    ensures stores { λ r. ⌜ Stores (jobOf (lentBy size (now (table .entry)) (now (pixels .entry)))) width (now («row_lines» .exit)) (now («row_tags» .exit)) (now («column_lines» .exit)) (now («column_tags» .exit)) (now (sums .exit)) ⌝ }
+{
+    let sum = at.sum;
+    let trial = at.trial;
+    let next = next_trial(size, table, trial);
+    let present = row_sum(penalties, weights, size.count, trial.piece);
+    if present == 0 {
+        return after_quiet(at, next);
+    }
+    let Tried::Moved(found) = try_trial(
+        size,
+        table,
+        pixels,
+        rows,
+        row_starts,
+        columns,
+        column_starts,
+        weights,
+        trial,
+        present as u32,
+        width,
+        layout,
+        penalties,
+        row_lines,
+        row_tags,
+        column_lines,
+        column_tags,
+        sums,
+    ) else {
+        return after_quiet(at, next);
+    };
+    after_move(at, next, sum - present + found as u64)
+}

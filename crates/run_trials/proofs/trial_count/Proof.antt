@@ -1,0 +1,98 @@
+-- `run_trials::trial_count` meets its contract. The loop's invariant: two for each turn allowed to the pieces passed. Assumes nothing.
+use mathlib.Core.List.{List}
+use mathlib.Core.Path.{_≡_, refl, sym, ap, _∙_}
+use Prim.Native.Nat.{ℕ, _*_, _-_, _≤_}
+use native.Mathlib.Numerals.{add-one}
+use native.Mathlib.Omega.{arith}
+use Rattle.model.specs.Bounded.{sumBelow}
+use Rattle.model.specs.Lent.{lentBy, jobOf}
+use Rattle.search_laws.proofs.TrialIndex.{turnCount, trials-count}
+use Rattle.run_trials.specs.Trials.{turnsIn}
+use borrow.Author.Needs.{needs}
+use Rattle.run_trials.proofs.trial_count.Statement.{statement}
+use Rattle.run_trials.proofs.trial_count.Tie as tie
+
+abbrev Inv-loop : tie.InvT-loop
+Inv-loop size table count₀ i₀ count i =
+    (i ≤ size .count)
+    × (count ≤ 8 * i)
+    × ((pixels : List ℕ) → count ≡ sumBelow i (λ k. 2 * turnCount (jobOf (lentBy size table pixels)) k))
+
+abbrev μ-loop : tie.MeasureT-loop
+μ-loop size table count₀ i₀ count i = size .count - i
+
+loop-holds : tie.Need-loop-holds Inv-loop μ-loop
+loop-holds c = (omega arith, omega arith, λ pixels. refl)
+
+mul-turns-in : tie.Need-mul-turns-in Inv-loop μ-loop
+mul-turns-in c = let few = c .before .before .before .pre .1 in omega arith
+
+index-1-turns-in : tie.Need-index-1-turns-in Inv-loop μ-loop
+index-1-turns-in c = let whole = c .before .before .before .pre .0 in omega arith
+
+index-2-turns-in : tie.Need-index-2-turns-in Inv-loop μ-loop
+index-2-turns-in c = search needs
+
+turns-in-requires : tie.Need-turns-in-requires Inv-loop μ-loop
+turns-in-requires c κs = search needs
+
+mul-count : tie.Need-mul-count Inv-loop μ-loop
+mul-count c = let few = c .turns-in .ensures .1 in omega arith
+
+add-count : tie.Need-add-count Inv-loop μ-loop
+add-count c =
+    let few = c .turns-in .ensures .1 in
+    let most = c .before .before .before .before .loop .inv .1 in
+    let below = c .before .before .if1 .taken in
+    let pieces = c .before .before .before .before .before .pre .1 in
+    omega arith
+
+add-i : tie.Need-add-i Inv-loop μ-loop
+add-i c =
+    let below = c .before .before .if1 .taken in
+    let pieces = c .before .before .before .before .before .pre .1 in
+    omega arith
+
+loop-less : tie.Need-loop-less Inv-loop μ-loop
+loop-less c = let below = c .before .before .if1 .taken in omega arith
+
+loop-again : tie.Need-loop-again Inv-loop μ-loop
+unfolding turnCount turnsIn jobOf
+loop-again c =
+    let l = c .before .before .before .before .loop in
+    let few = c .turns-in .ensures .1 in
+    let most = l .inv .1 in
+    let below = c .before .before .if1 .taken in
+    (omega arith, omega arith, λ pixels. rw (add-one (l .i), c .turns-in .ensures .0, l .inv .2 pixels))
+
+returns : tie.Need-returns Inv-loop μ-loop
+unfolding jobOf
+returns c =
+    let e = c .before .before .before in
+    let l = c .before .before .loop in
+    let few = e .pre .1 in
+    let most = l .inv .1 in
+    let done : l .i ≡ e .args .size .count = omega (arith, l .inv .0, c .if1 .left) in (
+      λ pixels.
+          let j = jobOf (lentBy (e .args .size) (e .args .table .now) pixels) in
+          l .inv .2 pixels ∙ ap (λ (n : ℕ). sumBelow n (λ k. 2 * turnCount j k)) done ∙ sym (trials-count j),
+      omega arith,
+    )
+
+pub trial-count-spec : {M : Type 1} → statement M
+trial-count-spec =
+    tie.close
+    (tie.spec
+    Inv-loop
+    μ-loop
+    loop-holds
+    mul-turns-in
+    index-1-turns-in
+    index-2-turns-in
+    turns-in-requires
+    mul-count
+    add-count
+    add-i
+    loop-less
+    loop-again
+    returns)

@@ -1,0 +1,103 @@
+-- A search as a whole: its track, sums that are 0 at first, and what the least of them is at the end. Assumes nothing.
+use mathlib.Core.Bool.{true}
+use mathlib.Core.List.{List}
+use mathlib.Core.Option.{Option, none, some}
+use mathlib.Core.Path.{_≡_, refl, sym, ap, _∙_, subst}
+use Prim.Native.Nat.{ℕ, zero, suc, _<_, _≤_}
+use native.Mathlib.Decide.{decLt}
+use native.Mathlib.Omega.{arith}
+use lib.ListN.{length, getD, take, replicate, length-map, length-replicate}
+use lib.Seq.{length-take-le}
+use Rattle.model.specs.Piece.{lineDirection}
+use Rattle.model.specs.Layout.{Job, Layout, turnedPiece}
+use Rattle.model.specs.Search.{Best, sumAt}
+use Rattle.model.specs.Lent.{Lent, jobOf, lentWell}
+use Rattle.model.specs.Buffer.{layoutOf, placementOf}
+use Rattle.model.specs.declared.Direction.{Direction}
+use Rattle.strip_laws.proofs.Tight.{tight-side}
+use Rattle.job_laws.proofs.Checked.{facts}
+use Rattle.call_laws.proofs.Jobs.{lent-tight}
+use Rattle.descent_laws.specs.Claims.{ValidWeights}
+use Rattle.search_laws.specs.BoundedSearch.{Serves, limit, belowBound}
+use Rattle.search_laws.proofs.BoundedSearch.{Bounded, bounded-is, search-serves, whole-serves}
+use Rattle.search_laws.proofs.PieceSum.{sum-at}
+use Rattle.search_table.specs.Drawn.{Laid}
+use Rattle.search_tracks.specs.declared.Mover.{Mover}
+use Rattle.search_tracks.specs.declared.Track.{Track}
+use Rattle.search_tracks.specs.Boxes.{trackOf, SmallTrack}
+use Rattle.search_bounded.specs.Ready.{SearchReady, LinesReady, OnTrack}
+use Rattle.search_bounded.specs.Summing.{moverPlaces, Summed}
+use Rattle.search_line_sums.proofs.Scans.{sumOf}
+
+-- ── before the search ──
+
+-- all but the weights
+pub lines-ready : {l : Lent} {d : Direction} {strips : List (List ℕ)} {starts : List ℕ} {layout : List (List ℕ)} {weights : List ℕ} {width : ℕ} {lines tags : List ℕ}
+    → SearchReady l d strips starts layout weights width lines tags
+    → LinesReady l d strips starts layout width lines tags
+lines-ready s =
+    record { laid = s .laid; shapes = s .shapes; wide = s .wide; narrow = s .narrow; kept = s .kept; fits = s .fits }
+
+-- the mover has its entry, and the sheet its bounds
+pub track-asked : (l : Lent) (i : ℕ) → lentWell l ≡ true → i < l .count → (i < length (l .table)) × ((l .columns ≤ 4096) × (l .rows ≤ 4096))
+track-asked l i w b =
+    let e = facts l w .entries in
+    let c = facts l w .fewColumns in
+    let r = facts l w .fewRows in
+    (omega arith, (omega arith, omega arith))
+
+-- the mover's track
+pub on-track : (l : Lent) (m : Mover) (t : Track) → lentWell l ≡ true → m .piece < l .count → t ≡ trackOf (jobOf l) m → SmallTrack t → OnTrack l m t
+unfolding jobOf
+on-track l m t w b e s =
+    record {
+      is = e;
+      small = s;
+      some = subst (λ (z : Track). 0 < z .length) (sym e) (tight-side (lineDirection (m .line)) (turnedPiece (jobOf l) (m .piece) (m .turn)) (lent-tight l w (m .piece) (m .turn) b));
+      piece = b;
+    }
+
+-- it has at most 4,096 places
+pub places-most : (l : Lent) (m : Mover) (t : Track) → OnTrack l m t → t .places ≤ 4096
+places-most l m t o = let s = o .small .places in let p = o .some in omega arith
+
+-- sums that are 0, one for each place, are the sums of no piece
+pub summed-none : (l : Lent) (ws : List ℕ) (v : Layout) (m : Mover) (t : Track) (bound : ℕ) (sums : List ℕ) → OnTrack l m t → length sums ≡ t .places
+    → ((a : ℕ) → getD sums a 0 ≡ 0) → Summed (jobOf l) ws v m bound 0 sums
+summed-none l ws v m t bound sums o n z =
+    record {
+      long = n ∙ ap (λ (x : Track). x .places) (o .is);
+      served = λ a b. subst (Serves bound 0) (sym (z a)) (whole-serves bound 0);
+      small = λ a. (let e = z a in omega arith);
+    }
+
+-- ── after it ──
+
+-- the limit is at most the bound
+limit-most : (f : ℕ → ℕ) (n B : ℕ) (o : Option Best) → Bounded f n B o → limit B o ≤ B
+limit-most f n B none h = omega arith
+limit-most f n B (some b) h = let l = h .below in omega arith
+
+-- what serves by the bound serves by a lower limit
+serves-lower : (B L x y : ℕ) → L ≤ B → Serves B x y → Serves L x y
+serves-lower B L x y l s = by-bound (decLt x B)
+  where
+    by-bound : Dec (x < B) → Serves L x y
+    by-bound (yes b) = let e = s .exact b in record { exact = λ c. e; reaches = λ c. omega arith }
+    by-bound (no h) = let r = s .reaches (omega arith) in record { exact = λ c. absurd (omega arith); reaches = λ c. omega arith }
+
+-- the sums of all pieces are searched as the pair sums are
+pub summed-found : (l : Lent) (ws : List ℕ) (layout : List (List ℕ)) (m : Mover) (bound : ℕ) (sums : List ℕ) → Laid l layout → ValidWeights (jobOf l) ws
+    → m .piece < l .count → Summed (jobOf l) ws (layoutOf layout) m bound (l .count) sums
+    → belowBound (sumOf sums) (length sums) bound
+    ≡ belowBound (sumAt (jobOf l) ws (layoutOf layout) (m .piece) (m .turn) (m .line)) (moverPlaces (jobOf l) m) bound
+unfolding jobOf
+summed-found l ws layout m bound sums laid w b s =
+    let j : Job = jobOf l in
+    let v : Layout = layoutOf layout in
+    let f : ℕ → ℕ = sumAt j ws v (m .piece) (m .turn) (m .line) in
+    let whole : length v ≡ j .count = length-map layout placementOf ∙ laid .whole in
+    ap (λ (n : ℕ). belowBound (sumOf sums) n bound) (s .long)
+    ∙ search-serves f (sumOf sums) (moverPlaces j m) bound
+    (λ a h. serves-lower bound (limit bound (belowBound f a bound)) (f a) (getD sums a 0) (limit-most f a bound (belowBound f a bound) (bounded-is f a bound))
+    (subst (λ (x : ℕ). Serves bound x (getD sums a 0)) (sym (sum-at j ws v (m .piece) (m .turn) (m .line) a b whole (w .onePerPair))) (s .served a h)))

@@ -1,0 +1,23 @@
+-- `search_bounded::others::beside` meets its contract. Assumes nothing.
+use borrow.Author.Needs.{needs}
+use Rattle.search_bounded.proofs.others.beside.Statement.{statement}
+use Rattle.search_bounded.proofs.others.beside.Tie as tie
+
+direction-of-requires : tie.Need-direction-of-requires
+direction-of-requires c κs = search needs
+
+standing-of-requires : tie.Need-standing-of-requires
+standing-of-requires c κs = search needs
+
+returns : tie.Need-returns
+returns c = λ size pixels.
+    let a = c .before .before .args in
+    let s = c .standing-of in
+    let d = c .before .direction-of in
+    record {
+      is = rw (d .ensures) at (s .ensures .0 size pixels);
+      small = s .ensures .1;
+    }
+
+pub beside-spec : {M : Type 1} → statement M
+beside-spec = tie.close (tie.spec direction-of-requires standing-of-requires returns)

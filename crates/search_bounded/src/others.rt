@@ -1,0 +1,382 @@
+// What one standing piece adds to the sums along a line, read from the kept line of penalties of the two pieces.
+use model::JobSize;
+use search_line_sums::add_line;
+use search_line_sums::any_below;
+use search_lines::Two;
+use search_lines::keep_line;
+use search_sums::weight_between;
+use search_tracks::Mover;
+use search_tracks::Reach;
+use search_tracks::Standing;
+use search_tracks::Track;
+use search_tracks::direction_of;
+use search_tracks::reach_of;
+use search_tracks::standing_of;
+ghost use mathlib.Core.Path.{_≡_};
+ghost use mathlib.Core.List.{List};
+ghost use Prim.Native.Nat.{ℕ, _+_, _-_, _<_, _≤_};
+ghost use lib.ListN.{length};
+ghost use Rattle.model.specs.Piece.{lineDirection, onLine};
+ghost use Rattle.model.specs.declared.JobSize.{JobSize};
+ghost use Rattle.model.specs.Lent.{lentBy, jobOf};
+ghost use Rattle.model.specs.Buffer.{layoutOf};
+ghost use Rattle.descent_laws.specs.Claims.{ValidWeights};
+ghost use Rattle.search_laws.specs.Table.{Renewed};
+ghost use Rattle.search_bounded.specs.Ready.{LinesReady, OnTrack, IsStanding};
+ghost use Rattle.search_bounded.specs.Summing.{moverPenalty, LineRead, ToAdd, PartAdded, Summed};
+
+// Piece k beside the mover's line.
+fn beside(table: &[[u8; 3]], layout: &[[u16; 3]], mover: Mover, k: usize) -> Standing
+    requires { ⌜ (k < length (now table)) × (k < length (now layout)) ⌝ }
+    ensures { λ r. ⌜ ((size : JobSize) (pixels : List ℕ) → IsStanding (jobOf (lentBy size (now (table .entry)) pixels)) (layoutOf (now (layout .entry))) (lineDirection (mover .line)) k r) ⌝ }
+{
+    let line = mover.line;
+    standing_of(table, layout, direction_of(line), k)
+}
+
+// Where the line of penalties of the mover and piece k begins in the store.
+fn line_with(
+    size: JobSize,
+    table: &[[u8; 3]],
+    pixels: &[u8],
+    strips: &[[u8; 3]],
+    starts: &[u32],
+    layout: &[[u16; 3]],
+    mover: Mover,
+    track: Track,
+    standing: Standing,
+    k: usize,
+    width: usize,
+    lines: &mut [u8],
+    tags: &mut [u32],
+) -> usize
+    requires { ⌜ LinesReady (lentBy size (now table) (now pixels)) (lineDirection (mover .line)) (now strips) (now starts) (now layout) width (now lines) (now tags) ⌝
+        ∗ ⌜ OnTrack (lentBy size (now table) (now pixels)) mover track ⌝
+        ∗ ⌜ IsStanding (jobOf (lentBy size (now table) (now pixels))) (layoutOf (now layout)) (lineDirection (mover .line)) k standing ⌝
+        ∗ ⌜ (k < size .count) × ((track .held ≤ standing .across + 255) × (standing .across + 255 - track .held < 1024)) ⌝ }
+    ensures line { λ r. ⌜ LineRead (jobOf (lentBy size (now (table .entry)) (now (pixels .entry)))) (layoutOf (now (layout .entry))) mover k (now (lines .exit)) r ⌝ }
+    ensures ready { λ r. ⌜ LinesReady (lentBy size (now (table .entry)) (now (pixels .entry))) (lineDirection (mover .line)) (now (strips .entry)) (now (starts .entry)) (now (layout .entry)) width (now (lines .exit)) (now (tags .exit)) ⌝ }
+{
+    let line = mover.line;
+    let moved_turn = mover.turn;
+    let standing_turn = standing.turn;
+    let two = Two {
+        moved: mover.piece,
+        moved_turn: moved_turn,
+        standing: k,
+        standing_turn: standing_turn,
+        offset: standing.across + 255 - track.held,
+    };
+    keep_line(
+        size,
+        table,
+        pixels,
+        direction_of(line),
+        strips,
+        starts,
+        two,
+        width,
+        lines,
+        tags,
+    )
+}
+
+// Adds piece k's part to the sums in reach.
+fn add_reached(
+    size: JobSize,
+    table: &[[u8; 3]],
+    pixels: &[u8],
+    strips: &[[u8; 3]],
+    starts: &[u32],
+    layout: &[[u16; 3]],
+    weights: &[u32],
+    mover: Mover,
+    track: Track,
+    standing: Standing,
+    reach: Reach,
+    k: usize,
+    width: usize,
+    lines: &mut [u8],
+    tags: &mut [u32],
+    sums: &mut [u32],
+)
+    requires { ⌜ LinesReady (lentBy size (now table) (now pixels)) (lineDirection (mover .line)) (now strips) (now starts) (now layout) width (now lines) (now tags) ⌝
+        ∗ ⌜ ValidWeights (jobOf (lentBy size (now table) (now pixels))) (now weights) ⌝
+        ∗ ⌜ OnTrack (lentBy size (now table) (now pixels)) mover track ⌝
+        ∗ ⌜ IsStanding (jobOf (lentBy size (now table) (now pixels))) (layoutOf (now layout)) (lineDirection (mover .line)) k standing ⌝
+        ∗ ⌜ (k < size .count) × ToAdd track standing reach (now sums) ⌝ }
+    ensures added { λ r. ⌜ PartAdded (jobOf (lentBy size (now (table .entry)) (now (pixels .entry)))) (now (weights .entry)) (layoutOf (now (layout .entry))) mover k reach (now (sums .entry)) (now (sums .exit)) ⌝ }
+    ensures ready { λ r. ⌜ LinesReady (lentBy size (now (table .entry)) (now (pixels .entry))) (lineDirection (mover .line)) (now (strips .entry)) (now (starts .entry)) (now (layout .entry)) width (now (lines .exit)) (now (tags .exit)) ⌝ }
+{
+    let low = reach.low;
+    let high = reach.high;
+    let weight = weight_between(weights, size.count, mover.piece, k) as u32;
+    let slot = line_with(
+        size,
+        table,
+        pixels,
+        strips,
+        starts,
+        layout,
+        mover,
+        track,
+        standing,
+        k,
+        width,
+        lines,
+        tags,
+    );
+    let from = slot + reach.from;
+    let end = from + (high - low);
+    add_line(sums, low, &lines[from..end], weight);
+}
+
+// Adds piece k's part to the sums. It is left out where every sum in its reach is at the bound already.
+pub fn add_other(
+    size: JobSize,
+    table: &[[u8; 3]],
+    pixels: &[u8],
+    strips: &[[u8; 3]],
+    starts: &[u32],
+    layout: &[[u16; 3]],
+    weights: &[u32],
+    mover: Mover,
+    track: Track,
+    k: usize,
+    bound: u32,
+    width: usize,
+    lines: &mut [u8],
+    tags: &mut [u32],
+    sums: &mut [u32],
+)
+    requires { ⌜ LinesReady (lentBy size (now table) (now pixels)) (lineDirection (mover .line)) (now strips) (now starts) (now layout) width (now lines) (now tags) ⌝
+        ∗ ⌜ ValidWeights (jobOf (lentBy size (now table) (now pixels))) (now weights) ⌝
+        ∗ ⌜ OnTrack (lentBy size (now table) (now pixels)) mover track ⌝
+        ∗ ⌜ k < size .count ⌝
+        ∗ ⌜ Summed (jobOf (lentBy size (now table) (now pixels))) (now weights) (layoutOf (now layout)) mover bound k (now sums) ⌝ }
+    ensures summed { λ r. ⌜ Summed (jobOf (lentBy size (now (table .entry)) (now (pixels .entry)))) (now (weights .entry)) (layoutOf (now (layout .entry))) mover bound (k + 1) (now (sums .exit)) ⌝ }
+    ensures ready { λ r. ⌜ LinesReady (lentBy size (now (table .entry)) (now (pixels .entry))) (lineDirection (mover .line)) (now (strips .entry)) (now (starts .entry)) (now (layout .entry)) width (now (lines .exit)) (now (tags .exit)) ⌝ }
+{
+    if k == mover.piece {
+        return;
+    }
+    let standing = beside(table, layout, mover, k);
+    let reach = reach_of(track, standing);
+    let low = reach.low;
+    let high = reach.high;
+    if high <= low {
+        return;
+    }
+    if !any_below(&sums[low..high], bound) {
+        return;
+    }
+    add_reached(
+        size,
+        table,
+        pixels,
+        strips,
+        starts,
+        layout,
+        weights,
+        mover,
+        track,
+        standing,
+        reach,
+        k,
+        width,
+        lines,
+        tags,
+        sums,
+    );
+}
+
+// The penalty of the mover at a place of its line and piece k.
+pub fn penalty_at(
+    size: JobSize,
+    table: &[[u8; 3]],
+    pixels: &[u8],
+    strips: &[[u8; 3]],
+    starts: &[u32],
+    layout: &[[u16; 3]],
+    mover: Mover,
+    track: Track,
+    k: usize,
+    at: usize,
+    width: usize,
+    lines: &mut [u8],
+    tags: &mut [u32],
+) -> u8
+    requires { ⌜ LinesReady (lentBy size (now table) (now pixels)) (lineDirection (mover .line)) (now strips) (now starts) (now layout) width (now lines) (now tags) ⌝
+        ∗ ⌜ OnTrack (lentBy size (now table) (now pixels)) mover track ⌝
+        ∗ ⌜ k < size .count ⌝
+        ∗ ⌜ at < track .places ⌝ }
+    ensures penalty { λ r. ⌜ r ≡ moverPenalty (jobOf (lentBy size (now (table .entry)) (now (pixels .entry)))) (layoutOf (now (layout .entry))) mover at k ⌝ }
+    ensures ready { λ r. ⌜ LinesReady (lentBy size (now (table .entry)) (now (pixels .entry))) (lineDirection (mover .line)) (now (strips .entry)) (now (starts .entry)) (now (layout .entry)) width (now (lines .exit)) (now (tags .exit)) ⌝ }
+{
+    let standing = beside(table, layout, mover, k);
+    let reach = reach_of(track, standing);
+    let low = reach.low;
+    let high = reach.high;
+    if at < low {
+        return 0;
+    }
+    if high <= at {
+        return 0;
+    }
+    let slot = line_with(
+        size,
+        table,
+        pixels,
+        strips,
+        starts,
+        layout,
+        mover,
+        track,
+        standing,
+        k,
+        width,
+        lines,
+        tags,
+    );
+    let from = slot + reach.from + (at - low);
+    lines[from]
+}
+
+// Adds the part of every piece to the sums.
+pub fn add_others(
+    size: JobSize,
+    table: &[[u8; 3]],
+    pixels: &[u8],
+    strips: &[[u8; 3]],
+    starts: &[u32],
+    layout: &[[u16; 3]],
+    weights: &[u32],
+    mover: Mover,
+    track: Track,
+    bound: u32,
+    width: usize,
+    lines: &mut [u8],
+    tags: &mut [u32],
+    sums: &mut [u32],
+)
+    requires { ⌜ LinesReady (lentBy size (now table) (now pixels)) (lineDirection (mover .line)) (now strips) (now starts) (now layout) width (now lines) (now tags) ⌝
+        ∗ ⌜ ValidWeights (jobOf (lentBy size (now table) (now pixels))) (now weights) ⌝
+        ∗ ⌜ OnTrack (lentBy size (now table) (now pixels)) mover track ⌝
+        ∗ ⌜ Summed (jobOf (lentBy size (now table) (now pixels))) (now weights) (layoutOf (now layout)) mover bound 0 (now sums) ⌝ }
+    ensures summed { λ r. ⌜ Summed (jobOf (lentBy size (now (table .entry)) (now (pixels .entry)))) (now (weights .entry)) (layoutOf (now (layout .entry))) mover bound (size .count) (now (sums .exit)) ⌝ }
+    ensures ready { λ r. ⌜ LinesReady (lentBy size (now (table .entry)) (now (pixels .entry))) (lineDirection (mover .line)) (now (strips .entry)) (now (starts .entry)) (now (layout .entry)) width (now (lines .exit)) (now (tags .exit)) ⌝ }
+{
+    let mut k = 0;
+    while k < size.count {
+        add_other(
+            size,
+            table,
+            pixels,
+            strips,
+            starts,
+            layout,
+            weights,
+            mover,
+            track,
+            k,
+            bound,
+            width,
+            lines,
+            tags,
+            sums,
+        );
+        k += 1;
+    }
+}
+
+// Makes the table's entries of the mover, at a place of its line, and piece k.
+fn renew_other(
+    size: JobSize,
+    table: &[[u8; 3]],
+    pixels: &[u8],
+    strips: &[[u8; 3]],
+    starts: &[u32],
+    layout: &[[u16; 3]],
+    mover: Mover,
+    track: Track,
+    k: usize,
+    at: usize,
+    width: usize,
+    lines: &mut [u8],
+    tags: &mut [u32],
+    penalties: &mut [u8],
+)
+    requires { ⌜ LinesReady (lentBy size (now table) (now pixels)) (lineDirection (mover .line)) (now strips) (now starts) (now layout) width (now lines) (now tags) ⌝
+        ∗ ⌜ OnTrack (lentBy size (now table) (now pixels)) mover track ⌝
+        ∗ ⌜ (k < size .count) × (at < track .places) ⌝
+        ∗ ⌜ Renewed (jobOf (lentBy size (now table) (now pixels))) (layoutOf (now layout)) (size .count) (mover .piece) (onLine (mover .line) (mover .turn) at) k (now penalties) ⌝ }
+    ensures renewed { λ r. ⌜ Renewed (jobOf (lentBy size (now (table .entry)) (now (pixels .entry)))) (layoutOf (now (layout .entry))) (size .count) (mover .piece) (onLine (mover .line) (mover .turn) at) (k + 1) (now (penalties .exit)) ⌝ }
+    ensures ready { λ r. ⌜ LinesReady (lentBy size (now (table .entry)) (now (pixels .entry))) (lineDirection (mover .line)) (now (strips .entry)) (now (starts .entry)) (now (layout .entry)) width (now (lines .exit)) (now (tags .exit)) ⌝ }
+{
+    let i = mover.piece;
+    if k == i {
+        return;
+    }
+    let p = penalty_at(
+        size,
+        table,
+        pixels,
+        strips,
+        starts,
+        layout,
+        mover,
+        track,
+        k,
+        at,
+        width,
+        lines,
+        tags,
+    );
+    penalties[i * 64 + k] = p;
+    penalties[k * 64 + i] = p;
+}
+
+// Makes the table's entries of the mover, at a place of its line, and every other piece.
+pub fn renew_others(
+    size: JobSize,
+    table: &[[u8; 3]],
+    pixels: &[u8],
+    strips: &[[u8; 3]],
+    starts: &[u32],
+    layout: &[[u16; 3]],
+    mover: Mover,
+    track: Track,
+    at: usize,
+    width: usize,
+    lines: &mut [u8],
+    tags: &mut [u32],
+    penalties: &mut [u8],
+)
+    requires { ⌜ LinesReady (lentBy size (now table) (now pixels)) (lineDirection (mover .line)) (now strips) (now starts) (now layout) width (now lines) (now tags) ⌝
+        ∗ ⌜ OnTrack (lentBy size (now table) (now pixels)) mover track ⌝
+        ∗ ⌜ at < track .places ⌝
+        ∗ ⌜ Renewed (jobOf (lentBy size (now table) (now pixels))) (layoutOf (now layout)) (size .count) (mover .piece) (onLine (mover .line) (mover .turn) at) 0 (now penalties) ⌝ }
+    ensures renewed { λ r. ⌜ Renewed (jobOf (lentBy size (now (table .entry)) (now (pixels .entry)))) (layoutOf (now (layout .entry))) (size .count) (mover .piece) (onLine (mover .line) (mover .turn) at) (size .count) (now (penalties .exit)) ⌝ }
+    ensures ready { λ r. ⌜ LinesReady (lentBy size (now (table .entry)) (now (pixels .entry))) (lineDirection (mover .line)) (now (strips .entry)) (now (starts .entry)) (now (layout .entry)) width (now (lines .exit)) (now (tags .exit)) ⌝ }
+{
+    let mut k = 0;
+    while k < size.count {
+        renew_other(
+            size,
+            table,
+            pixels,
+            strips,
+            starts,
+            layout,
+            mover,
+            track,
+            k,
+            at,
+            width,
+            lines,
+            tags,
+            penalties,
+        );
+        k += 1;
+    }
+}

@@ -1,0 +1,149 @@
+-- The line search as a call: its causes, the strips and the store that it begins with, and its answer. Assumes nothing.
+use mathlib.Core.Bool.{Bool, true, false, not, _||_}
+use mathlib.Core.List.{List, [], _∷_}
+use mathlib.Core.Option.{Option, none, some}
+use mathlib.Core.Path.{_≡_, refl, sym, ap, ap₂, _∙_}
+use Prim.Native.Nat.{ℕ, zero, suc, _<_, _≤_}
+use native.Mathlib.Omega.{arith}
+use borrow.Author.Tests.{not-false, ltb-true, lt-ltb, le-ltb, ne-eqb}
+use lib.Dec.{ltb, eqb}
+use lib.ListN.{length, replicate, length-map, length-replicate, getD-replicate}
+use Rattle.model.specs.Layout.{Job, Layout, allowed}
+use Rattle.model.specs.Search.{Best, places, sumAt, least, searchLine}
+use Rattle.model.specs.Refusal.{Cause, cause, unless, refusalOf, emptyLine}
+use Rattle.model.specs.Lent.{Lent, jobOf, lentWell}
+use Rattle.model.specs.Buffer.{layoutOf, placementOf}
+use Rattle.model.specs.Calls.{someTurnWrong, layoutCauses, bestPlace}
+use Rattle.model.specs.declared.Direction.{Direction}
+use Rattle.model.specs.declared.Line.{Line}
+use Rattle.model.specs.declared.Refusal.{Refusal}
+use Rattle.model.specs.declared.Turn.{Turn}
+use Rattle.model.proofs.Tests.{or-left, or-right, or-neither}
+use Rattle.job_laws.proofs.Checked.{facts}
+use Rattle.text_laws.specs.Outcomes.{NoCause}
+use Rattle.text_laws.proofs.Outcomes.{unless-given}
+use Rattle.descent_laws.specs.Claims.{ValidWeights}
+use Rattle.descent_laws.proofs.Search.{least-is}
+use Rattle.call_laws.proofs.Jobs.{lent-boxes-small}
+use Rattle.call_laws.proofs.Layouts.{lent-weights-valid}
+use Rattle.search_laws.specs.BoundedSearch.{belowBound}
+use Rattle.search_laws.proofs.LineSearch.{search-unbounded}
+use Rattle.layout_places.specs.Answers.{firstCause}
+use Rattle.layout_places.specs.declared.CauseAnswer.{CauseAnswer}
+use Rattle.search_shapes.proofs.Jobs.{places-few}
+use Rattle.search_table.specs.Drawn.{Laid}
+use Rattle.layout_sum_calls.proofs.Causes.{layout-laid}
+use Rattle.search_lines.specs.Kept.{Kept, Wide}
+use Rattle.search_lines.proofs.Keeping.{none-kept, twice-wide}
+use Rattle.search_line_sums.specs.Answers.{foundAnswer}
+use Rattle.search_calls.specs.Answers.{InReach, bestAnswer, searchAnswer, searchCauses}
+
+-- ── causes ──
+
+-- a cause that is there refuses
+pub first-there : (number : ℕ) (b : Bool) (cs : List Cause) (r : Refusal) → r ≡ refusalOf (cause number true) → b ≡ true
+    → CauseAnswer.Refused r ≡ firstCause (cause number b ∷ cs)
+unfolding unless
+first-there number b cs r e f = rw (e, f, unless)
+
+-- one that is not there leaves it to the others
+pub first-absent : (number : ℕ) (b : Bool) (cs : List Cause) → b ≡ false → firstCause (cause number b ∷ cs) ≡ firstCause cs
+unfolding unless
+first-absent number b cs f = rw (f, unless)
+
+-- the piece's cause
+abbrev wrongPiece : Lent → List (List ℕ) → ℕ → Turn → Bool
+wrongPiece l es i t = someTurnWrong (jobOf l) es || not (ltb i (l .count)) || not (allowed (jobOf l) i t)
+
+module _ (l : Lent) (es : List (List ℕ)) (i : ℕ) (t : Turn) where
+  -- a turn of the layout is not allowed
+  pub wrong-layout : someTurnWrong (jobOf l) es ≡ true → wrongPiece l es i t ≡ true
+  wrong-layout e =
+      or-left (someTurnWrong (jobOf l) es || not (ltb i (l .count))) (not (allowed (jobOf l) i t)) (or-left (someTurnWrong (jobOf l) es) (not (ltb i (l .count))) e)
+
+  -- there is no such piece
+  pub wrong-number : l .count ≤ i → wrongPiece l es i t ≡ true
+  wrong-number h =
+      or-left (someTurnWrong (jobOf l) es || not (ltb i (l .count))) (not (allowed (jobOf l) i t))
+      (or-right (someTurnWrong (jobOf l) es) (not (ltb i (l .count))) (ap not (le-ltb i (l .count) h)))
+
+  -- the turn is not allowed to it
+  pub wrong-turn : allowed (jobOf l) i t ≡ false → wrongPiece l es i t ≡ true
+  wrong-turn e = or-right (someTurnWrong (jobOf l) es || not (ltb i (l .count))) (not (allowed (jobOf l) i t)) (ap not e)
+
+  -- none of the three
+  pub right-piece : someTurnWrong (jobOf l) es ≡ false → i < l .count → allowed (jobOf l) i t ≡ true → wrongPiece l es i t ≡ false
+  right-piece e h f = ap₂ _||_ (ap₂ _||_ e (ap not (lt-ltb i (l .count) h))) (ap not f)
+
+-- what a search may assume where none of the causes is there
+pub search-ready : (l : Lent) (es : List (List ℕ)) (ws : List ℕ) (i : ℕ) (t : Turn) → NoCause (searchCauses l es ws i t)
+    → Laid l es × (ValidWeights (jobOf l) ws × (i < l .count))
+unfolding layoutCauses
+search-ready l es ws i t h =
+    let piece = or-neither (someTurnWrong (jobOf l) es || not (ltb i (l .count))) (not (allowed (jobOf l) i t)) (h .1 .1 .1 .1 .0) in
+    let turns = or-neither (someTurnWrong (jobOf l) es) (not (ltb i (l .count))) (piece .0) in (
+      layout-laid l es (h .0, (h .1 .0, (turns .0, (h .1 .1 .1 .1 .1 .0, tt)))),
+      (lent-weights-valid l ws (h .1 .1 .0) (h .1 .1 .1 .0), ltb-true i (l .count) (not-false _ (turns .1))),
+    )
+
+-- ── the store ──
+
+-- slots of 512 bytes have room for every line
+pub store-wide : (l : Lent) → lentWell l ≡ true → Wide (jobOf l) 512
+store-wide l w =
+    twice-wide (jobOf l) 256
+    (λ i b.
+    let s = lent-boxes-small l w in
+    let c = s .columnsSmall i b in
+    let r = s .rowsSmall i b in
+    (omega arith, omega arith))
+
+-- a fresh store keeps no line
+pub store-fresh : (d : Direction) (l : Lent) → Kept d (jobOf l) 512 (replicate 32768 0) (replicate 64 0)
+store-fresh d l =
+    none-kept d (jobOf l) 512 (replicate 32768 0) (replicate 64 0)
+    (let a = length-replicate {A = ℕ} 64 0 in let b = length-replicate {A = ℕ} 32768 0 in omega arith)
+    (let a = length-replicate {A = ℕ} 64 0 in omega arith)
+    (λ m b. getD-replicate {A = ℕ} 64 m 0 0 (let a = length-replicate {A = ℕ} 64 0 in omega arith))
+
+-- its length
+pub store-length : length (replicate {A = ℕ} 32768 0) ≤ 524288
+store-length = let b = length-replicate {A = ℕ} 32768 0 in omega arith
+
+-- ── the answer ──
+
+-- a search with the largest bound is the line search
+pub search-whole : (l : Lent) (ws : List ℕ) (layout : List (List ℕ)) (i : ℕ) (t : Turn) (line : Line) → Laid l layout → ValidWeights (jobOf l) ws → i < l .count
+    → belowBound (sumAt (jobOf l) ws (layoutOf layout) i t line) (places (jobOf l) i t line) 4294967295
+    ≡ searchLine (jobOf l) ws (layoutOf layout) i t line
+unfolding jobOf
+search-whole l ws layout i t line laid w b =
+    sym (search-unbounded (jobOf l) ws (layoutOf layout) i t line 4294967295 (facts l (laid .well) .fewPieces) (lent-boxes-small l (laid .well)) w b
+    (length-map layout placementOf ∙ laid .whole) (omega arith))
+
+-- the least of so many places, where there is one
+abbrev leastOf : (ℕ → ℕ) → ℕ → Option Best
+leastOf f n = elim n [ zero ↦ none | suc n ↦ some (least f n) ]
+
+-- nothing is found exactly where the line has no place
+best-of : (line : Line) (f : ℕ → ℕ) (n : ℕ)
+    → bestAnswer line (foundAnswer (leastOf f n)) ≡ searchAnswer line (unless (cause emptyLine (eqb n 0) ∷ []) (bestPlace (leastOf f n)))
+unfolding unless
+best-of line f zero = refl
+best-of line f (suc n) = sym (ap (searchAnswer line) (unless-given (cause emptyLine (eqb (suc n) 0) ∷ []) (least f n) (ne-eqb (suc n) 0 (λ e. omega arith), tt)))
+
+pub best-is : (j : Job) (ws : List ℕ) (v : Layout) (i : ℕ) (t : Turn) (line : Line)
+    → bestAnswer line (foundAnswer (searchLine j ws v i t line))
+    ≡ searchAnswer line (unless (cause emptyLine (eqb (places j i t line) 0) ∷ []) (bestPlace (searchLine j ws v i t line)))
+unfolding searchLine
+best-is j ws v i t line = best-of line (sumAt j ws v i t line) (places j i t line)
+
+-- what is found is one of the line's places
+reach-of : (f : ℕ → ℕ) (n : ℕ) → n ≤ 4097 → InReach (foundAnswer (leastOf f n))
+reach-of f zero h = tt
+reach-of f (suc n) h = let b = least-is f n .there in omega arith
+
+pub best-in-reach : (l : Lent) → lentWell l ≡ true → (ws : List ℕ) (v : Layout) (i : ℕ) (t : Turn) (line : Line)
+    → InReach (foundAnswer (searchLine (jobOf l) ws v i t line))
+unfolding searchLine
+best-in-reach l w ws v i t line = reach-of (sumAt (jobOf l) ws v i t line) (places (jobOf l) i t line) (places-few l w i t line)

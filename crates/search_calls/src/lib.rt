@@ -1,0 +1,175 @@
+// The line search as a call. Document 01, 'Line search' and 'When a call says no'.
+use layout_places::CauseAnswer;
+use layout_places::refusal;
+use layout_sum_calls::length_causes;
+use model::Column;
+use model::Coordinate;
+use model::JobSize;
+use model::Line;
+use model::Refusal;
+use model::Row;
+use model::Turn;
+use search_bounded::search_below;
+use search_line_sums::Found;
+use search_tracks::Mover;
+use search_tracks::direction_of;
+ghost use mathlib.Core.Path.{_≡_};
+ghost use mathlib.Core.List.{List};
+ghost use Prim.Native.Nat.{ℕ, _<_, _≤_};
+ghost use lib.ListN.{length};
+ghost use Rattle.model.specs.Piece.{coordinateOn};
+ghost use Rattle.model.specs.Search.{searchLine};
+ghost use Rattle.model.specs.Lent.{lentBy, jobOf};
+ghost use Rattle.model.specs.Buffer.{layoutOf};
+ghost use Rattle.model.specs.Calls.{searchCall};
+ghost use Rattle.layout_places.specs.Answers.{firstCause};
+ghost use Rattle.search_table.specs.Drawn.{Laid};
+ghost use Rattle.descent_laws.specs.Claims.{ValidWeights};
+ghost use Rattle.search_line_sums.specs.Answers.{foundAnswer};
+ghost use Rattle.search_calls.specs.Answers.{InReach, bestAnswer, searchAnswer, pieceCauses, searchCauses};
+
+// The least pair sum on a line and the smallest coordinate that has it, or why the search is refused.
+pub enum SearchAnswer {
+    Best(u64, Coordinate),
+    Refused(Refusal),
+}
+
+// The line search without a bound, with strips and a store of its own.
+fn search_alone(
+    size: JobSize,
+    table: &[[u8; 3]],
+    pixels: &[u8],
+    layout: &[[u16; 3]],
+    weights: &[u32],
+    mover: Mover,
+) -> Found
+    requires { ⌜ Laid (lentBy size (now table) (now pixels)) (now layout) ⌝
+        ∗ ⌜ ValidWeights (jobOf (lentBy size (now table) (now pixels))) (now weights) ⌝
+        ∗ ⌜ mover .piece < size .count ⌝ }
+    ensures { λ r. ⌜ r ≡ foundAnswer (searchLine (jobOf (lentBy size (now (table .entry)) (now (pixels .entry)))) (now (weights .entry)) (layoutOf (now (layout .entry))) (mover .piece) (mover .turn) (mover .line)) ⌝ }
+{
+    let line = mover.line;
+    let mut strips = [[0u8; 3]; 262144];
+    let mut starts = [0u32; 257];
+    let mut store = [0u8; 32768];
+    let mut tags = [0u32; 64];
+    let mut sums = [0u32; 4096];
+    search_shapes::make_shapes(
+        size,
+        table,
+        pixels,
+        direction_of(line),
+        &mut strips,
+        &mut starts,
+    );
+    search_below(
+        size,
+        table,
+        pixels,
+        &strips,
+        &starts,
+        layout,
+        weights,
+        mover,
+        4294967295,
+        512,
+        &mut store,
+        &mut tags,
+        &mut sums,
+    )
+}
+
+// The causes of a search that the layout and the piece have: 9, 10.
+fn piece_causes(
+    size: JobSize,
+    table: &[[u8; 3]],
+    layout: &[[u16; 3]],
+    piece: usize,
+    turn: Turn,
+) -> CauseAnswer
+    requires { ⌜ (size .count ≤ length (now table)) × (length (now layout) ≡ size .count) ⌝ }
+    ensures { λ r. ⌜ ((pixels : List ℕ) → r ≡ firstCause (pieceCauses (lentBy size (now (table .entry)) pixels) (now (layout .entry)) piece turn)) ⌝ }
+{
+    if layout_places::some_turn_wrong(size, table, layout) {
+        return CauseAnswer::Refused(refusal(9));
+    }
+    if size.count <= piece {
+        return CauseAnswer::Refused(refusal(9));
+    }
+    if !layout_places::allows(table[piece][2], turn) {
+        return CauseAnswer::Refused(refusal(9));
+    }
+    if layout_places::some_outside(size, table, layout) {
+        return CauseAnswer::Refused(refusal(10));
+    }
+    CauseAnswer::Passed
+}
+
+// The causes of a line search but the last: 8, 7, 2, 9, 10.
+fn search_causes(
+    size: JobSize,
+    table: &[[u8; 3]],
+    pixels: &[u8],
+    layout: &[[u16; 3]],
+    weights: &[u32],
+    piece: usize,
+    turn: Turn,
+) -> CauseAnswer
+    ensures { λ r. ⌜ r ≡ firstCause (searchCauses (lentBy size (now (table .entry)) (now (pixels .entry))) (now (layout .entry)) (now (weights .entry)) piece turn) ⌝ }
+{
+    match length_causes(size, table, pixels, layout, weights) {
+        CauseAnswer::Refused(refusal) => CauseAnswer::Refused(refusal),
+        CauseAnswer::Passed => piece_causes(size, table, layout, piece, turn),
+    }
+}
+
+// A coordinate of the line.
+fn coordinate_on(line: Line, at: u16) -> Coordinate
+    ensures { λ r. ⌜ r ≡ coordinateOn line at ⌝ }
+{
+    match line {
+        Line::InRow(_) => Coordinate::AtColumn(Column(at)),
+        Line::InColumn(_) => Coordinate::AtRow(Row(at)),
+    }
+}
+
+// What a search on the line without a bound says: refusal 11 where it finds nothing, since then the line has no place.
+fn best_answer(line: Line, found: Found) -> SearchAnswer
+    requires { ⌜ InReach found ⌝ }
+    ensures { λ r. ⌜ r ≡ bestAnswer line found ⌝ }
+{
+    match found {
+        Found::At(sum, at) => SearchAnswer::Best(sum as u64, coordinate_on(line, at as u16)),
+        Found::Nothing => SearchAnswer::Refused(refusal(11)),
+    }
+}
+
+// The line search: the least sum of the piece's pairs over every inside corner on the line and the smallest coordinate that has it, or
+// its refusal.
+pub fn line_search(
+    size: JobSize,
+    table: &[[u8; 3]],
+    pixels: &[u8],
+    layout: &[[u16; 3]],
+    weights: &[u32],
+    piece: usize,
+    turn: Turn,
+    line: Line,
+) -> SearchAnswer
+    ensures { λ r. ⌜ r ≡ searchAnswer line (searchCall (lentBy size (now (table .entry)) (now (pixels .entry))) (now (layout .entry)) (now (weights .entry)) piece turn line) ⌝ }
+{
+    match search_causes(size, table, pixels, layout, weights, piece, turn) {
+        CauseAnswer::Refused(refusal) => SearchAnswer::Refused(refusal),
+        CauseAnswer::Passed => {
+            let mover = Mover {
+                piece: piece,
+                turn: turn,
+                line: line,
+            };
+            best_answer(
+                line,
+                search_alone(size, table, pixels, layout, weights, mover),
+            )
+        }
+    }
+}

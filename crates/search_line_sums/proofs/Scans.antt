@@ -1,0 +1,102 @@
+-- Loops over the sums at the places of a line: the least one so far, and sums to which a line is added. Assumes nothing.
+use mathlib.Core.List.{List}
+use mathlib.Core.Path.{_≡_, refl, sym, ap, ap₂, _∙_, subst}
+use Prim.Native.Nat.{ℕ, _+_, _*_, _-_, _<_, _≤_}
+use native.Mathlib.Nat.{mul-le-mul}
+use native.Mathlib.Omega.{arith}
+use lib.ListN.{length, getD, set}
+use Rattle.search_penalties.proofs.Passes.{Passing, pass-none, pass-over, pass-set}
+use Rattle.search_laws.specs.BoundedSearch.{belowBound}
+use Rattle.search_laws.proofs.BoundedSearch.{answerOf, answer-begin, answer-lower, answer-keep, answer-some, answer-none, whole-serves}
+use Rattle.search_line_sums.specs.Answers.{foundAnswer}
+use Rattle.search_line_sums.specs.Added.{Added}
+use Rattle.search_line_sums.specs.declared.Found.the-variants.{At, Nothing}
+
+-- the sum at a place
+abbrev pub sumOf : List ℕ → ℕ → ℕ
+sumOf sums a = getD sums a 0
+
+-- ── the least sum ──
+
+-- `low` and `at` are the answer for the places below a
+pub record Scanned (sums : List ℕ) (bound low at a : ℕ) : Type 0 where
+  pub within : low ≤ bound
+  pub passed : at ≤ a
+  pub answer : belowBound (sumOf sums) a bound ≡ answerOf bound low at
+
+-- before the first place
+pub scan-begin : (sums : List ℕ) (bound : ℕ) → Scanned sums bound bound 0 0
+scan-begin sums bound = record { within = omega arith; passed = omega arith; answer = answer-begin (sumOf sums) bound 0 }
+
+module _ (sums : List ℕ) (bound low at a : ℕ) (s : Scanned sums bound low at a) where
+  -- a lower sum takes its place
+  pub scan-lower : getD sums a 0 < low → Scanned sums bound (getD sums a 0) a (a + 1)
+  scan-lower l =
+      let w = s .within in
+      record {
+        within = omega arith;
+        passed = omega arith;
+        answer = answer-lower (sumOf sums) a bound low at (getD sums a 0) (s .answer) (s .within) (whole-serves low (getD sums a 0)) l;
+      }
+
+  -- another changes nothing
+  pub scan-keep : low ≤ getD sums a 0 → Scanned sums bound low at (a + 1)
+  scan-keep l =
+      let p = s .passed in
+      record {
+        within = s .within;
+        passed = omega arith;
+        answer = answer-keep (sumOf sums) a bound low at (getD sums a 0) (s .answer) (s .within) (whole-serves low (getD sums a 0)) l;
+      }
+
+  -- after the last place: one was found
+  pub scan-found : a ≡ length sums → low < bound → At low at ≡ foundAnswer (belowBound (sumOf sums) (length sums) bound)
+  scan-found e l = sym (ap foundAnswer (subst (λ (n : ℕ). belowBound (sumOf sums) n bound ≡ answerOf bound low at) e (s .answer) ∙ answer-some bound low at l))
+
+  -- or none was
+  pub scan-none : a ≡ length sums → bound ≤ low → Nothing ≡ foundAnswer (belowBound (sumOf sums) (length sums) bound)
+  scan-none e l = sym (ap foundAnswer (subst (λ (n : ℕ). belowBound (sumOf sums) n bound ≡ answerOf bound low at) e (s .answer) ∙ answer-none bound low at l))
+
+-- ── adding a line ──
+
+-- weight × penalty is below 2²⁴
+pub part-small : (w p : ℕ) → w ≤ 65535 → p < 256 → w * p < 16777216
+part-small w p a b = let m : w * p ≤ 65535 * 255 = mul-le-mul a (let s : p ≤ 255 = omega arith in s) in omega arith
+
+-- what a sum becomes
+pub record Raised (weight low : ℕ) (line before : List ℕ) (a y : ℕ) : Type 0 where
+  pub under : a < low → y ≡ getD before a 0
+  pub over : low ≤ a → y ≡ getD before a 0 + weight * getD line (a - low) 0
+
+module _ (weight low : ℕ) (line before : List ℕ) where
+  -- the sums below `low` stay
+  pub raise-begin : Passing (Raised weight low line before) before before (low + 0)
+  raise-begin =
+      pass-over (Raised weight low line before) before before 0 (low + 0) (omega arith)
+      (λ j a b. record { under = λ c. refl; over = λ c. absurd (omega arith) }) (pass-none (Raised weight low line before) before)
+
+  -- one more sum
+  pub raise-step : (after : List ℕ) (k : ℕ) → low + k < length after → Passing (Raised weight low line before) before after (low + k)
+      → Passing (Raised weight low line before) before (set after (low + k) (getD after (low + k) 0 + weight * getD line k 0)) (low + (k + 1))
+  raise-step after k l w =
+      let e : low + k - low ≡ k = omega arith in
+      let f : low + k + 1 ≡ low + (k + 1) = omega arith in
+      subst (Passing (Raised weight low line before) before (set after (low + k) (getD after (low + k) 0 + weight * getD line k 0))) f
+      (pass-set (Raised weight low line before) before after (low + k) _ l
+      (record {
+        under = λ c. absurd (omega arith);
+        over = λ c. ap₂ (λ (x i : ℕ). x + weight * getD line i 0) (w .rest (low + k) (omega arith)) (sym e);
+      }) w)
+
+  -- all sums are passed
+  pub raise-end : (after : List ℕ) (k : ℕ) → k ≡ length line → Passing (Raised weight low line before) before after (low + k)
+      → Added weight low line before after
+  raise-end after k e w =
+      record {
+        same = w .same;
+        part = λ i b.
+            let h : low + i - low ≡ i = omega arith in
+            w .done (low + i) (omega arith) .over (omega arith) ∙ ap (λ (z : ℕ). getD before (low + i) 0 + weight * getD line z 0) h;
+        below = λ a b. w .done a (omega arith) .under b;
+        above = λ a b. w .rest a (omega arith);
+      }

@@ -1,0 +1,106 @@
+-- `search_line_sums::add_line` meets its contract. The loop's invariant: the sums passed have their part, the others are as they were.
+-- Assumes nothing.
+use Prim.Native.Nat.{_+_, _≤_, _-_}
+use native.Mathlib.Omega.{arith}
+use lib.ListN.{length, getD}
+use Rattle.search_penalties.proofs.Passes.{Passing}
+use Rattle.search_line_sums.proofs.Scans.{part-small, Raised, raise-begin, raise-step, raise-end}
+use Rattle.search_line_sums.proofs.add_line.Statement.{statement}
+use Rattle.search_line_sums.proofs.add_line.Tie as tie
+
+abbrev Inv-loop : tie.InvT-loop
+Inv-loop sums₀ low line weight k₀ sums k = (k ≤ length line) × Passing (Raised weight low line sums₀) sums₀ sums (low + k)
+
+abbrev μ-loop : tie.MeasureT-loop
+μ-loop sums₀ low line weight k₀ sums k = length line - k
+
+loop-holds : tie.Need-loop-holds Inv-loop μ-loop
+loop-holds c = (omega arith, raise-begin _ _ _ _)
+
+shared-slice-read-sums : tie.Need-shared-slice-read-sums Inv-loop μ-loop
+shared-slice-read-sums c = omega arith
+
+cast-sums : tie.Need-cast-sums Inv-loop μ-loop
+cast-sums c = omega (arith, c .shared-slice-known .given (c .before .before .loop .k))
+
+mul-sums : tie.Need-mul-sums Inv-loop μ-loop
+mul-sums c =
+    let a = c .before .before .before .args in
+    let b = c .shared-slice-known .given (c .before .before .loop .k) in
+    let m = part-small (a .weight) (getD (a .line .now) (c .before .before .loop .k) 0) (c .before .before .before .pre .1 .0) (omega arith) in
+    omega arith
+
+add-sums : tie.Need-add-sums Inv-loop μ-loop
+add-sums c = omega arith
+
+mul-sums-2 : tie.Need-mul-sums-2 Inv-loop μ-loop
+mul-sums-2 c = omega arith
+
+slice-read-sums : tie.Need-slice-read-sums Inv-loop μ-loop
+slice-read-sums c =
+    let e = c .before .before .before .loop .inv .1 .same in
+    let t = c .before .before .loop-test .taken in
+    let p = c .before .before .before .before .pre .0 in
+    omega arith
+
+add-sums-2 : tie.Need-add-sums-2 Inv-loop μ-loop
+add-sums-2 c =
+    let a = c .before .before .before .before .args in
+    let p = c .before .before .before .loop in
+    let b = c .before .shared-slice-known .given (p .k) in
+    let m = part-small (a .weight) (getD (a .line .now) (p .k) 0) (c .before .before .before .before .pre .1 .0) (omega arith) in
+    let e = p .inv .1 .rest (a .low + p .k) (omega arith) in
+    let s = c .before .before .before .before .pre .1 .1 (a .low + p .k) in
+    omega arith
+
+slice-write-sums : tie.Need-slice-write-sums Inv-loop μ-loop
+slice-write-sums c =
+    let e = c .before .before .before .loop .inv .1 .same in
+    let t = c .before .before .loop-test .taken in
+    let p = c .before .before .before .before .pre .0 in
+    omega arith
+
+add-k : tie.Need-add-k Inv-loop μ-loop
+add-k c = omega arith
+
+loop-less : tie.Need-loop-less Inv-loop μ-loop
+loop-less c = omega arith
+
+loop-again : tie.Need-loop-again Inv-loop μ-loop
+loop-again c =
+    let a = c .before .before .before .before .args in
+    let p = c .before .before .before .loop in
+    let e = p .inv .1 .same in
+    let t = c .before .before .loop-test .taken in
+    let r = c .before .before .before .before .pre .0 in
+    (omega arith, raise-step (a .weight) (a .low) (a .line .now) (a .sums .now) (p .sums) (p .k) (omega arith) (p .inv .1))
+
+same-length : tie.Need-same-length Inv-loop μ-loop
+same-length c = c .before .loop .inv .1 .same
+
+returns : tie.Need-returns Inv-loop μ-loop
+returns c =
+    let a = c .before .before .args in
+    let p = c .before .loop in
+    raise-end (a .weight) (a .low) (a .line .now) (a .sums .now) (p .sums) (p .k) (omega arith) (p .inv .1)
+
+pub add-line-spec : {M : Type 1} → statement M
+add-line-spec =
+    tie.close
+    (tie.spec
+    Inv-loop
+    μ-loop
+    loop-holds
+    shared-slice-read-sums
+    cast-sums
+    mul-sums
+    add-sums
+    mul-sums-2
+    slice-read-sums
+    add-sums-2
+    slice-write-sums
+    add-k
+    loop-less
+    loop-again
+    same-length
+    returns)

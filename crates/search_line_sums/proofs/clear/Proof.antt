@@ -1,0 +1,65 @@
+-- `search_line_sums::clear` meets its contract: the sums below k are 0. Assumes nothing.
+use mathlib.Core.Logic.{⊎-elim}
+use mathlib.Core.Path.{_≡_, refl}
+use Prim.Native.Nat.{ℕ, _≤_, _-_, _<_}
+use native.Mathlib.Omega.{arith}
+use lib.ListN.{length, getD, List·getD-eq-default}
+use Rattle.pair_overlap.proofs.Firsts.{below-or}
+use Rattle.search_penalties.proofs.Passes.{Passing, pass-none, pass-set}
+use Rattle.search_line_sums.proofs.clear.Statement.{statement}
+use Rattle.search_line_sums.proofs.clear.Tie as tie
+
+-- what a sum is set to
+abbrev none : ℕ → ℕ → Type 0
+none a y = y ≡ 0
+
+abbrev Inv-loop : tie.InvT-loop
+Inv-loop sums₀ k₀ sums k = (k ≤ length sums₀) × Passing none sums₀ sums k
+
+abbrev μ-loop : tie.MeasureT-loop
+μ-loop sums₀ k₀ sums k = length sums₀ - k
+
+loop-holds : tie.Need-loop-holds Inv-loop μ-loop
+loop-holds c = (omega arith, pass-none none _)
+
+mul-sums : tie.Need-mul-sums Inv-loop μ-loop
+mul-sums c = omega arith
+
+slice-write-sums : tie.Need-slice-write-sums Inv-loop μ-loop
+slice-write-sums c = omega arith
+
+add-k : tie.Need-add-k Inv-loop μ-loop
+add-k c = omega arith
+
+loop-less : tie.Need-loop-less Inv-loop μ-loop
+loop-less c = let e = c .before .loop .inv .1 .same in omega arith
+
+loop-again : tie.Need-loop-again Inv-loop μ-loop
+loop-again c =
+    let e = c .before .loop .inv .1 .same in
+    (omega arith, pass-set none _ (c .before .loop .sums) (c .before .loop .k) 0 (c .loop-test .taken) refl (c .before .loop .inv .1))
+
+same-length : tie.Need-same-length Inv-loop μ-loop
+same-length c = c .before .loop .inv .1 .same
+
+returns : tie.Need-returns Inv-loop μ-loop
+returns c =
+    let w = c .before .loop .inv .1 in
+    let new = c .before .loop .sums in
+    let l = c .loop-test .left in
+    λ a. ⊎-elim (λ (b : a < length new). w .done a (omega arith)) (λ (b : length new ≤ a). List·getD-eq-default new 0 b) (below-or a (length new))
+
+pub clear-spec : {M : Type 1} → statement M
+clear-spec =
+    tie.close
+    (tie.spec
+    Inv-loop
+    μ-loop
+    loop-holds
+    mul-sums
+    slice-write-sums
+    add-k
+    loop-less
+    loop-again
+    same-length
+    returns)

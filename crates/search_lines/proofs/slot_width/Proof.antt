@@ -1,0 +1,75 @@
+-- `search_lines::slot_width` meets its contract. The loop's invariant: no side of a piece below i is above the largest so far. Assumes nothing.
+use mathlib.Core.List.{[]}
+use mathlib.Core.Path.{_≡_, ap}
+use Prim.Native.Nat.{_-_, _≤_}
+use native.Mathlib.Omega.{arith}
+use Rattle.model.specs.Lent.{jobOf, entryColumns, entryRows}
+use Rattle.layout_places.specs.declared.Sides.{Sides}
+use Rattle.search_lines.proofs.Keeping.{Covered, covered-none, covered-more, covered-wide}
+use borrow.Author.Needs.{needs}
+use Rattle.search_lines.proofs.slot_width.Statement.{statement}
+use Rattle.search_lines.proofs.slot_width.Tie as tie
+
+abbrev Inv-loop : tie.InvT-loop
+Inv-loop table count side₀ i₀ side i = (32 ≤ side) × (side ≤ 255) × Covered table side i
+
+abbrev μ-loop : tie.MeasureT-loop
+μ-loop table count side₀ i₀ side i = count - i
+
+loop-holds : tie.Need-loop-holds Inv-loop μ-loop
+loop-holds c = (omega arith, omega arith, covered-none _ _)
+
+turned-sides-requires : tie.Need-turned-sides-requires Inv-loop μ-loop
+turned-sides-requires c κs = search needs
+
+larger-requires : tie.Need-larger-requires Inv-loop μ-loop
+larger-requires c κs = search needs
+
+larger-requires-2 : tie.Need-larger-requires-2 Inv-loop μ-loop
+larger-requires-2 c κs = search needs
+
+add-i : tie.Need-add-i Inv-loop μ-loop
+add-i c = omega arith
+
+loop-less : tie.Need-loop-less Inv-loop μ-loop
+loop-less c = omega arith
+
+loop-again : tie.Need-loop-again Inv-loop μ-loop
+unfolding jobOf
+loop-again c =
+    let t = c .before .before .turned-sides in
+    let l = c .before .before .before .before .loop in
+    let a = c .before .before .before .before .before .args in
+    let small = t .ensures .1 in
+    let columns : t .result .columns ≡ entryColumns (a .table .now) (l .i) = ap (λ (s : Sides). s .columns) (t .ensures .0 (a .size) []) in
+    let rows : t .result .rows ≡ entryRows (a .table .now) (l .i) = ap (λ (s : Sides). s .rows) (t .ensures .0 (a .size) []) in
+    let inner = c .before .larger .ensures in
+    let outer = c .larger2 .ensures in
+    let low = l .inv .0 in
+    let high = l .inv .1 in
+    (omega arith, omega arith, covered-more _ _ _ _ (l .inv .2) (omega arith) (omega arith) (omega arith))
+
+mul-result : tie.Need-mul-result Inv-loop μ-loop
+mul-result c = omega arith
+
+returns : tie.Need-returns Inv-loop μ-loop
+returns c =
+    let l = c .before .loop in
+    let a = c .before .before .args in
+    (λ pixels. covered-wide (a .size) (a .table .now) pixels (l .side) (l .i) (c .loop-test .left) (l .inv .2), (omega arith, omega arith))
+
+pub slot-width-spec : {M : Type 1} → statement M
+slot-width-spec =
+    tie.close
+    (tie.spec
+    Inv-loop
+    μ-loop
+    loop-holds
+    turned-sides-requires
+    larger-requires
+    larger-requires-2
+    add-i
+    loop-less
+    loop-again
+    mul-result
+    returns)

@@ -1,0 +1,68 @@
+-- `search_penalties::first_above`: no place of the stretch before k is above r. Assumes nothing.
+use Prim.Native.Nat.{ℕ, _≤_, _<_, _-_}
+use mathlib.Core.Logic.{⊎-elim}
+use mathlib.Core.Path.{_≡_, sym, subst}
+use native.Mathlib.Nat.{eq-or-lt-of-le}
+use native.Mathlib.Omega.{arith}
+use lib.ListN.{getD}
+use Rattle.search_penalties.proofs.first_above.Statement.{statement}
+use Rattle.search_penalties.proofs.first_above.Tie as tie
+
+abbrev Inv-loop : tie.InvT-loop
+Inv-loop line r from end k₀ k = (from ≤ k) × (k ≤ end) × ((j : ℕ) → from ≤ j → j < k → getD line j 0 ≤ r)
+
+abbrev μ-loop : tie.MeasureT-loop
+μ-loop line r from end k₀ k = end - k
+
+loop-holds : tie.Need-loop-holds Inv-loop μ-loop
+loop-holds c = (omega arith, c .pre .0, λ j a b. absurd (omega arith))
+
+shared-slice-read-if1 : tie.Need-shared-slice-read-if1 Inv-loop μ-loop
+shared-slice-read-if1 c = omega arith
+
+returns : tie.Need-returns Inv-loop μ-loop
+returns c =
+    let w = c .before .before .before .loop .inv in
+    record { low = w .0; high = w .1; before = w .2; above = λ l. c .if1 .taken }
+
+add-k : tie.Need-add-k Inv-loop μ-loop
+add-k c = omega arith
+
+loop-less : tie.Need-loop-less Inv-loop μ-loop
+loop-less c = omega arith
+
+loop-again : tie.Need-loop-again Inv-loop μ-loop
+loop-again c =
+    let s = c .before .before .before .before .args in
+    let k = c .before .before .before .loop .k in
+    let w = c .before .before .before .loop .inv in
+    let l = c .before .before .loop-test .taken in
+    let low : getD (s .line .now) k 0 ≤ s .r = c .if1 .left in (
+      omega arith,
+      omega arith,
+      λ j a b.
+          ⊎-elim
+          (λ (e : j ≡ k). subst (λ (i : ℕ). getD (s .line .now) i 0 ≤ s .r) (sym e) low)
+          (λ (m : j < k). w .2 j a m)
+          (eq-or-lt-of-le (let q : j ≤ k = omega arith in q)),
+    )
+
+returns-2 : tie.Need-returns-2 Inv-loop μ-loop
+returns-2 c =
+    let w = c .before .loop .inv in
+    let l = c .loop-test .left in
+    record { low = w .0; high = w .1; before = w .2; above = λ m. absurd (omega arith) }
+
+pub first-above-spec : {M : Type 1} → statement M
+first-above-spec =
+    tie.close
+    (tie.spec
+    Inv-loop
+    μ-loop
+    loop-holds
+    shared-slice-read-if1
+    returns
+    add-k
+    loop-less
+    loop-again
+    returns-2)

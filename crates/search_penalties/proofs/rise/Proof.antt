@@ -1,0 +1,74 @@
+-- `search_penalties::rise`: the places below k hold their distance, and d is that of the last one. Assumes nothing.
+use mathlib.Core.List.{List}
+use mathlib.Core.Path.{_≡_, refl}
+use Prim.Native.Nat.{ℕ, suc, _≤_, _-_}
+use native.Mathlib.Omega.{arith}
+use borrow.Author.Needs.{needs}
+use lib.ListN.{length}
+use Rattle.search_penalties.specs.Line.{risen}
+use Rattle.search_penalties.proofs.Passes.{Passing, pass-none, pass-set, risen-value, risen-next}
+use Rattle.search_penalties.proofs.rise.Statement.{statement}
+use Rattle.search_penalties.proofs.rise.Tie as tie
+
+-- what a place is set to
+abbrev height : List ℕ → ℕ → ℕ → Type 0
+height xs j y = y ≡ risen xs (suc j)
+
+abbrev Inv-loop : tie.InvT-loop
+Inv-loop line₀ d₀ k₀ line d k = (k ≤ length line₀) × (d ≡ risen line₀ k) × Passing (height line₀) line₀ line k
+
+abbrev μ-loop : tie.MeasureT-loop
+μ-loop line₀ d₀ k₀ line d k = length line₀ - k
+
+loop-holds : tie.Need-loop-holds Inv-loop μ-loop
+loop-holds c = let xs = c .before .args .line .now in (omega arith, refl, pass-none (height xs) xs)
+
+slice-read-distance : tie.Need-slice-read-distance Inv-loop μ-loop
+slice-read-distance c = omega arith
+
+distance-requires : tie.Need-distance-requires Inv-loop μ-loop
+distance-requires c κs = search needs
+
+slice-write-line : tie.Need-slice-write-line Inv-loop μ-loop
+slice-write-line c = omega arith
+
+add-k : tie.Need-add-k Inv-loop μ-loop
+add-k c = omega arith
+
+loop-less : tie.Need-loop-less Inv-loop μ-loop
+loop-less c = let e = c .before .before .before .loop .inv .2 .same in omega arith
+
+loop-again : tie.Need-loop-again Inv-loop μ-loop
+loop-again c =
+    let xs = c .before .before .before .before .before .args .line .now in
+    let w = c .before .before .before .loop in
+    let e = w .inv .2 .same in
+    let v : c .distance .result ≡ risen xs (suc (w .k)) =
+    risen-value xs (w .k) (w .d) _ (c .distance .result) (w .inv .1) (w .inv .2 .rest (w .k) (omega arith)) (c .distance .ensures) in
+    (omega arith, risen-next xs (w .k) _ v, pass-set (height xs) xs (w .line) (w .k) (c .distance .result) (c .before .before .loop-test .taken) v (w .inv .2))
+
+same-length : tie.Need-same-length Inv-loop μ-loop
+same-length c = c .before .loop .inv .2 .same
+
+returns : tie.Need-returns Inv-loop μ-loop
+returns c =
+    let w = c .before .loop .inv .2 in
+    let e = w .same in
+    let l = c .loop-test .left in
+    record { same = e; at = λ j b. w .done j (omega arith) }
+
+pub rise-spec : {M : Type 1} → statement M
+rise-spec =
+    tie.close
+    (tie.spec
+    Inv-loop
+    μ-loop
+    loop-holds
+    slice-read-distance
+    distance-requires
+    slice-write-line
+    add-k
+    loop-less
+    loop-again
+    same-length
+    returns)

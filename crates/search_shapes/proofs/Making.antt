@@ -1,0 +1,189 @@
+-- The store of shapes while it is filled: those with numbers below k stand in it, and nothing that is written later touches them.
+-- Assumes nothing.
+use mathlib.Core.List.{List, map, _++_, append-assoc}
+use mathlib.Core.Logic.{_⊎_, ⊎-elim}
+use mathlib.Core.Bool.{true}
+use mathlib.Core.Path.{_≡_, refl, sym, ap, _∙_, subst}
+use Prim.Native.Nat.{ℕ, zero, suc, _+_, _*_, _-_, _/_, _%_, _≤_, _<_}
+use native.Mathlib.Nat.{eq-or-lt-of-le}
+use native.Mathlib.Omega.{arith}
+use lib.ListN.{length, getD, take, drop, set, length-set, length-take, length-drop, length-map, length-append, take-append-drop}
+use lib.Seq.{sets, sets-eq, length-sets, take-append-le, drop-append-le, take-at, drop-at, getD-set-same, getD-set-other}
+use Rattle.model.specs.Piece.{Shape, extent, sideBound}
+use Rattle.model.specs.Strip.{Strip, strips}
+use Rattle.model.specs.Buffer.{stripEntry}
+use Rattle.model.specs.Layout.{Job, turnedPiece}
+use Rattle.model.specs.Lent.{Lent, jobOf, lentWell, pieceBound}
+use Rattle.model.specs.declared.Direction.{Direction}
+use Rattle.job_laws.proofs.Checked.{facts}
+use Rattle.strip_scan.specs.Put.{Appended}
+use Rattle.strip_scan.proofs.Jobs.{entry-at}
+use Rattle.pair_overlap.proofs.Shapes.{entries-ordered}
+use Rattle.search_shapes.specs.Shapes.{shapeNumber, numberedShape, part, ShapeAt, Shapes, StripsOf, Room}
+use Rattle.search_shapes.proofs.Numbers.{turn-below, number-back, reached, reached-next, reached-few, shape-few, shape-small}
+
+-- a part of the front does not depend on what follows it
+front-part : (xs ys : List (List ℕ)) (a n : ℕ) → a + n ≤ length xs → take n (drop a (xs ++ ys)) ≡ take n (drop a xs)
+front-part xs ys a n h =
+    let l : a ≤ length xs = omega arith in
+    let m : n ≤ length (drop a xs) = omega (arith, length-drop a xs) in
+    rw (drop-append-le a xs ys l, take-append-le n (drop a xs) ys m)
+
+module _ (store : List (List ℕ)) (ts : List (List ℕ)) (at : ℕ) (room : at + length ts ≤ length store) where
+  front-length : length (take at store) ≡ at
+  front-length = simp length-take (omega arith)
+
+  -- the front, what is stored, and the rest
+  in-three : sets store at ts ≡ take at store ++ (ts ++ drop (at + length ts) store)
+  in-three = sets-eq ts store at room ∙ append-assoc (take at store) ts (drop (at + length ts) store)
+
+  -- what stands before `at` is as before
+  pub part-before : (a n : ℕ) → a + n ≤ at → take n (drop a (sets store at ts)) ≡ take n (drop a store)
+  part-before a n h =
+      let front = take at store in
+      let b : a + n ≤ length front = omega (arith, front-length) in
+      ap (λ l. take n (drop a l)) in-three ∙ front-part front (ts ++ drop (at + length ts) store) a n b
+      ∙ sym (front-part front (drop at store) a n b) ∙ ap (λ l. take n (drop a l)) (take-append-drop at store)
+
+  -- what was stored stands from `at` on
+  pub part-stored : take (length ts) (drop at (sets store at ts)) ≡ ts
+  part-stored =
+      ap (λ l. take (length ts) (drop at l)) in-three
+      ∙ ap (take (length ts)) (drop-at (take at store) (ts ++ drop (at + length ts) store) at front-length)
+      ∙ take-at ts (drop (at + length ts) store) (length ts) refl
+
+-- the shapes with numbers below k are stored, and the next one goes to `at`
+pub record Made (d : Direction) (l : Lent) (store : List (List ℕ)) (starts : List ℕ) (k at : ℕ) : Type 0 where
+  pub next : getD starts k 0 ≡ at
+  pub before : (m : ℕ) → m ≤ k → getD starts m 0 ≤ at
+  pub few : at ≤ reached (l .table) k
+  pub shapes : (m : ℕ) → m < k → ShapeAt d (numberedShape (jobOf l) m) store starts m
+
+-- before the first
+pub made-none : (d : Direction) (l : Lent) (store : List (List ℕ)) (starts : List ℕ) → 0 < length starts → Made d l store (set starts 0 0) 0 0
+made-none d l store starts h =
+    let e : getD (set starts 0 0) 0 0 ≡ 0 = getD-set-same starts 0 0 0 h in
+    record {
+      next = e;
+      before = λ m b. let z : m ≡ 0 = omega arith in rw z (omega arith);
+      few = omega arith;
+      shapes = λ m b. absurd (omega arith);
+    }
+
+-- there is room for shape k
+pub record Fits (d : Direction) (l : Lent) (k at : ℕ) : Type 0 where
+  pub piece : k / 4 < l .count
+  pub few : l .count ≤ pieceBound
+  pub entries : l .count ≤ length (l .table)
+  pub strips : at + length (strips d (numberedShape (jobOf l) k)) ≤ 262144
+  pub small : extent d (numberedShape (jobOf l) k) ≤ sideBound
+
+pub fits-next : (d : Direction) (l : Lent) (store : List (List ℕ)) (starts : List ℕ) (k at : ℕ) → lentWell l ≡ true → k < l .count * 4
+    → Made d l store starts k at → Fits d l k at
+fits-next d l store starts k at e h m =
+    let p : k / 4 < l .count = omega arith in
+    let f = facts l e in
+    let g = entry-at l (k / 4) e p in
+    let few = m .few in
+    let areas = f .areas in
+    record {
+      piece = p;
+      few = facts l e .fewPieces;
+      entries = f .entries;
+      strips = omega (arith, shape-few d l k, reached-few (l .table) k (l .count) h);
+      small = shape-small d l k (g .columns) (g .rows);
+    }
+
+module _ (d : Direction) (l : Lent) (store after : List (List ℕ)) (starts : List ℕ) (k at next : ℕ) (m : Made d l store starts k at)
+    (f : Fits d l k at) (r : Room store starts) (a : Appended (strips d (numberedShape (jobOf l) k)) store at after next)
+  where
+    long : k + 1 < length starts
+    long = let w = r .long in let b = f .piece in let c = f .few in omega arith
+
+    new : List Strip
+    new = strips d (numberedShape (jobOf l) k)
+
+    fits : at + length (map stripEntry new) ≤ length store
+    unfolding new
+    fits = let w = r .wide in let b = f .strips in simp length-map (omega arith)
+
+    -- a start that is not the new one
+    same-start : (i : ℕ) → i ≤ k → getD (set starts (k + 1) next) i 0 ≡ getD starts i 0
+    same-start i b = getD-set-other starts (k + 1) i next 0 (λ e. omega arith)
+
+    new-start : getD (set starts (k + 1) next) (k + 1) 0 ≡ next
+    new-start = getD-set-same starts (k + 1) next 0 long
+
+    -- a shape that was stored before
+    kept : (i : ℕ) → i < k → ShapeAt d (numberedShape (jobOf l) i) after (set starts (k + 1) next) i
+    unfolding new
+    kept i b =
+        let s = m .shapes i b in
+        let p = same-start i (omega arith) in
+        let q = same-start (i + 1) (omega arith) in
+        let e = m .before (i + 1) (omega arith) in
+        record {
+          held = record {
+            started = let b = long in simp length-set (omega arith);
+            rising = rw (p, q) (s .held .rising);
+            within = rw (q, a .stored, length-sets) (s .held .within);
+          };
+          holds =
+              rw (p, q, a .stored)
+              (part-before store (map stripEntry new) at fits (getD starts i 0) (getD starts (i + 1) 0 - getD starts i 0) (omega arith) ∙ s .holds);
+          small = s .small;
+        }
+
+    -- the shape that is stored now
+    added : ShapeAt d (numberedShape (jobOf l) k) after (set starts (k + 1) next) k
+    unfolding new
+    added =
+        let p : getD (set starts (k + 1) next) k 0 ≡ at = same-start k (omega arith) ∙ m .next in
+        let q : getD (set starts (k + 1) next) (k + 1) 0 ≡ next = new-start in
+        let e = a .end in
+        let w : next - at ≡ length (map stripEntry new) = simp length-map (omega arith) in
+        record {
+          held = record {
+            started = let b = long in simp length-set (omega arith);
+            rising = rw (p, q) (omega arith);
+            within = let w = r .wide in let b = f .strips in rw (q, a .stored, length-sets) (omega arith);
+          };
+          holds = rw (p, q, w, a .stored) (part-stored store (map stripEntry new) at fits);
+          small = f .small;
+        }
+
+    -- one more shape is stored
+    pub made-more : Made d l after (set starts (k + 1) next) (k + 1) next
+    made-more =
+        let e = a .end in
+        let b = m .few in
+        record {
+          next = new-start;
+          before =
+              λ i b.
+              ⊎-elim (λ (h : i ≡ k + 1). rw (h, new-start) (omega arith))
+              (λ (h : i < k + 1). rw (same-start i (omega arith)) (omega (arith, m .before i (omega arith))))
+              (eq-or-lt-of-le b);
+          few = omega (arith, shape-few d l k, reached-next (l .table) k);
+          shapes =
+              λ i b.
+              ⊎-elim (λ (h : i ≡ k). subst (λ n. ShapeAt d (numberedShape (jobOf l) n) after (set starts (k + 1) next) n) (sym h) added)
+              (λ (h : i < k). kept i h)
+              (eq-or-lt-of-le (omega arith));
+        }
+
+-- after the last: the shapes of the job
+pub made-all : (d : Direction) (l : Lent) (store : List (List ℕ)) (starts : List ℕ) (k at : ℕ) → jobOf l .count * 4 ≤ k
+    → Made d l store starts k at → Shapes d (jobOf l) store starts
+made-all d l store starts k at h m =
+    record {
+      at =
+          λ i t b.
+          subst (λ s. ShapeAt d s store starts (shapeNumber i t)) (number-back (jobOf l) i t)
+          (m .shapes (shapeNumber i t) (omega (arith, turn-below t)));
+    }
+
+-- a part of the store that is a shape's strips is ordered
+pub strips-of : (d : Direction) (s : Shape) (store : List (List ℕ)) (starts : List ℕ) (k : ℕ) → ShapeAt d s store starts k
+    → StripsOf d s (part store starts k)
+strips-of d s store starts k a = record { same = a .holds; ordered = rw (a .holds) (entries-ordered d s (a .small)) }

@@ -1,0 +1,140 @@
+-- Running sums over the rows of the table of penalties and over the weights beside it. Assumes nothing.
+use mathlib.Core.List.{List, _∷_}
+use mathlib.Core.Path.{_≡_, refl, sym, ap, ap₂, _∙_, subst}
+use Prim.Native.Nat.{ℕ, zero, suc, _+_, _*_, _-_, _/_, _<_, _≤_}
+use native.Mathlib.Nat.{mul-le-mul, not-suc-le-zero, le-of-suc-le-suc}
+use native.Mathlib.Numerals.{add-one}
+use native.Mathlib.Omega.{arith}
+use lib.ListN.{length, getD, take, replicate}
+use Rattle.model.specs.Bounded.{sumBelow}
+use Rattle.model.specs.Layout.{Job, Layout, pairs, pieceSum, weightedSum, unitWeights}
+use Rattle.descent_laws.proofs.Bounds.{pairs-at-most}
+use Rattle.model.proofs.Sums.{sum-step, sum-agree}
+use Rattle.search_laws.specs.Pairs.{rowStart, pairIndex}
+use Rattle.search_laws.proofs.Pairs.{pair-below, row-start-twice}
+use Rattle.search_laws.specs.PieceSum.{weightBetween}
+use Rattle.search_laws.proofs.PieceSum.{weighted-rows}
+use Rattle.search_laws.specs.Table.{entry, PenaltyTable}
+use Rattle.search_laws.proofs.Table.{table-piece-sum}
+use Rattle.search_sums.specs.Table.{Weighed, rowPart}
+
+-- ── positions ──
+
+-- a row's start without recursion
+pub record RowClosed (n i : ℕ) : Type 0 where
+  pub fits : i * (i + 1) / 2 ≤ n * i
+  pub start : rowStart n i ≡ n * i - i * (i + 1) / 2
+
+pub row-closed : (n i : ℕ) → i ≤ n → RowClosed n i
+row-closed n i h =
+    let e : 2 * rowStart n i + i * suc i ≡ 2 * (n * i) = row-start-twice n i h in
+    let f : 2 * rowStart n i + i * (i + 1) ≡ 2 * (n * i) = rw add-one e in
+    record { fits = omega arith; start = omega arith }
+
+-- two numbers of pieces, multiplied
+pub few-times : (a b : ℕ) → a ≤ 64 → b ≤ 64 → a * b ≤ 4096
+few-times a b h g = let m : a * b ≤ 64 * 64 = mul-le-mul h g in omega arith
+
+-- a weight times a penalty
+pub term-small : (w p : ℕ) → w < 4294967296 → p < 256 → w * p ≤ 1099511627776
+term-small w p h g = let m : w * p ≤ 4294967296 * 256 = (let a : w ≤ 4294967296 = omega arith in let b : p ≤ 256 = omega arith in mul-le-mul a b) in omega arith
+
+-- an entry of the table is one of 4,096
+pub entry-below : (n i k : ℕ) → n ≤ 64 → i < n → k < n → i * 64 + k < 4096
+entry-below n i k few h g = omega arith
+
+-- ── a piece's pair sum ──
+
+-- the row's term of piece k
+abbrev pub rowTerm : ℕ → List ℕ → List ℕ → ℕ → ℕ → ℕ
+rowTerm n T ws i k = weightBetween n ws i k * getD T (entry i k) 0
+
+-- one more term
+pub row-more : (n : ℕ) (T ws : List ℕ) (i k sum w : ℕ) → sum ≡ sumBelow k (rowTerm n T ws i) → w ≡ weightBetween n ws i k
+    → sum + w * getD T (entry i k) 0 ≡ sumBelow (k + 1) (rowTerm n T ws i)
+row-more n T ws i k sum w e f = ap₂ (λ a b. a + b * getD T (entry i k) 0) e f ∙ sym (sum-step k (rowTerm n T ws i))
+
+-- all terms
+pub row-all : (j : Job) (v : Layout) (n : ℕ) (T ws : List ℕ) (i : ℕ) → j .count ≡ n → PenaltyTable j v n T → i < n → length ws ≡ length (pairs n)
+    → pieceSum j ws v i ≡ sumBelow n (rowTerm n T ws i)
+row-all j v n T ws i e =
+    subst (λ n. PenaltyTable j v n T → i < n → length ws ≡ length (pairs n) → pieceSum j ws v i ≡ sumBelow n (rowTerm n T ws i)) e
+    (λ t l w. table-piece-sum j ws v T t i l w)
+
+-- ── the weighted sum ──
+
+-- the term of the m-th pair of row i, where its weights begin at `from`
+abbrev pub partTerm : List ℕ → List ℕ → ℕ → ℕ → ℕ → ℕ
+partTerm T ws i from m = getD ws (from + m) 0 * getD T (entry i (suc i + m)) 0
+
+-- one more pair of the row
+pub part-more : (T ws : List ℕ) (i from k at sum : ℕ) → i + 1 ≤ k → at + (i + 1) ≡ from + k → sum ≡ sumBelow (k - (i + 1)) (partTerm T ws i from)
+    → sum + getD ws at 0 * getD T (entry i k) 0 ≡ sumBelow (k + 1 - (i + 1)) (partTerm T ws i from)
+part-more T ws i from k at sum h a e =
+    let m = k - (i + 1) in
+    let p : from + m ≡ at = omega arith in
+    let q : suc i + m ≡ k = omega arith in
+    let r : k + 1 - (i + 1) ≡ m + 1 = omega arith in
+    let s : partTerm T ws i from m ≡ getD ws at 0 * getD T (entry i k) 0 = rw (p, q) in
+    rw r (ap₂ _+_ e (sym s) ∙ sym (sum-step m (partTerm T ws i from)))
+
+-- the whole row
+pub part-all : (n : ℕ) (T ws : List ℕ) (i from k sum : ℕ) → k ≡ n → sum ≡ sumBelow (k - (i + 1)) (partTerm T ws i from) → sum ≡ rowPart n T ws i from
+part-all n T ws i from k sum h e = let f : k - (i + 1) ≡ n - suc i = omega arith in rw f at e
+
+-- the pair of row i at `at` has a weight
+pub part-there : (n i k at : ℕ) → i + 1 ≤ k → k < n → at + (i + 1) ≡ rowStart n i + k → at < length (pairs n)
+part-there n i k at h l e =
+    let p = pair-below n i k (omega arith) l in
+    let q : pairIndex n i k ≡ at = omega arith in
+    rw q at p
+
+-- a pair (i, k) of the table, and the position of its weight
+pub record Place (n i k at : ℕ) (T ws : List ℕ) : Type 0 where
+  pub few : n ≤ 64
+  pub size : length T ≡ 4096
+  pub above : i < k
+  pub below : k < n
+  pub there : at < length ws
+  pub most : length ws ≤ 2016
+
+-- along row i
+pub row-place : (n i k at from : ℕ) (T ws : List ℕ) → Weighed n T ws → from ≡ rowStart n i → i + 1 ≤ k → k < n → at + (i + 1) ≡ from + k
+    → Place n i k at T ws
+row-place n i k at from T ws w s h l e =
+    let few = w .few in
+    let one = w .onePerPair in
+    let there = part-there n i k at h l (e ∙ ap (λ f. f + k) s) in
+    let most = pairs-at-most n few in
+    record { few = few; size = w .size; above = omega arith; below = l; there = omega arith; most = omega arith }
+
+-- the weighted sum is the sum of all rows' parts
+pub all-parts : (j : Job) (v : Layout) (n : ℕ) (T ws : List ℕ) → j .count ≡ n → PenaltyTable j v n T → length ws ≡ length (pairs n)
+    → weightedSum j ws v ≡ sumBelow n (λ i. rowPart n T ws i (rowStart n i))
+all-parts j v n T ws e =
+    subst (λ n. PenaltyTable j v n T → length ws ≡ length (pairs n) → weightedSum j ws v ≡ sumBelow n (λ i. rowPart n T ws i (rowStart n i))) e
+    (λ t w.
+    weighted-rows j ws v w
+    ∙ sum-agree (j .count) _ _
+    (λ i l.
+    sum-agree (j .count - suc i) _ _
+    (λ m b. ap (λ p. getD ws (rowStart (j .count) i + m) 0 * p) (sym (t .holds i (suc i + m) l (omega arith) (λ f. omega arith))))))
+
+-- one more row
+pub parts-more : (n : ℕ) (T ws : List ℕ) (i from sum part : ℕ) → from ≡ rowStart n i → sum ≡ sumBelow i (λ i. rowPart n T ws i (rowStart n i))
+    → part ≡ rowPart n T ws i from → sum + part ≡ sumBelow (i + 1) (λ i. rowPart n T ws i (rowStart n i))
+parts-more n T ws i from sum part f e p = ap₂ _+_ e (p ∙ ap (rowPart n T ws i) f) ∙ sym (sum-step i (λ i. rowPart n T ws i (rowStart n i)))
+
+-- ── weights 1 ──
+
+take-same : (m n a : ℕ) → m ≤ n → take m (replicate n a) ≡ replicate m a
+take-same zero n a h = refl
+take-same (suc m) zero a h = absurd (not-suc-le-zero h)
+take-same (suc m) (suc n) a h = ap (λ l. a ∷ l) (take-same m n a (le-of-suc-le-suc h))
+
+-- the first so many of many weights 1
+pub ones-taken : (n count : ℕ) (ones : List ℕ) → n ≤ 64 → ones ≡ replicate 2016 1 → count ≡ length (pairs n) → take count ones ≡ unitWeights n
+unfolding unitWeights
+ones-taken n count ones few e c =
+    let most = pairs-at-most n few in
+    rw (e, c) (take-same (length (pairs n)) 2016 1 (omega arith))

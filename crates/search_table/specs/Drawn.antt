@@ -1,0 +1,56 @@
+-- A lent job, a layout of it that calls take, and the strips of its pieces: what measuring two placed pieces rests on. The functions
+-- are not handed the job's pixels, so they ask that there is such a job and say what they give for every such job. Assumes nothing.
+use mathlib.Core.Bool.{Bool, true}
+use mathlib.Core.List.{List}
+use mathlib.Core.Path.{_≡_}
+use Prim.Native.Nat.{ℕ, _<_, _≤_}
+use lib.ListN.{length}
+use Rattle.model.specs.Piece.{corner}
+use Rattle.model.specs.Overlap.{share, penalty}
+use Rattle.model.specs.Layout.{turnedPiece, inside, placeOf}
+use Rattle.model.specs.Lent.{Lent, lentBy, jobOf, lentWell}
+use Rattle.model.specs.Buffer.{layoutOf}
+use Rattle.model.specs.declared.Direction.the-variants.{Horizontal, Vertical}
+use Rattle.model.specs.declared.JobSize.{JobSize}
+use Rattle.model.specs.declared.Placement.{Placement}
+use Rattle.search_shapes.specs.Shapes.{Shapes}
+
+-- a job that passes its check, and a layout buffer of its length whose pieces lie inside
+pub record Laid (l : Lent) (layout : List (List ℕ)) : Type 0 where
+  pub well : lentWell l ≡ true
+  pub whole : length layout ≡ l .count
+  pub within : (i : ℕ) → i < l .count → inside (jobOf l) i (placeOf (layoutOf layout) i) ≡ true
+
+-- with the row strips of every piece in every turn
+pub record RowsDrawn (l : Lent) (rows : List (List ℕ)) (rowStarts : List ℕ) (layout : List (List ℕ)) : Type 0 where
+  pub laid : Laid l layout
+  pub horizontal : Shapes Horizontal (jobOf l) rows rowStarts
+
+-- with the column strips too
+pub record Drawn (l : Lent) (rows : List (List ℕ)) (rowStarts : List ℕ) (columns : List (List ℕ)) (columnStarts : List ℕ) (layout : List (List ℕ)) : Type 0 where
+  pub inRows : RowsDrawn l rows rowStarts layout
+  pub vertical : Shapes Vertical (jobOf l) columns columnStarts
+
+-- there is such a job with the lent table
+pub record SomeRowsDrawn (table rows : List (List ℕ)) (rowStarts : List ℕ) (layout : List (List ℕ)) : Type 0 where
+  pub size : JobSize
+  pub pixels : List ℕ
+  pub drawn : RowsDrawn (lentBy size table pixels) rows rowStarts layout
+
+pub record SomeDrawn (table rows : List (List ℕ)) (rowStarts : List ℕ) (columns : List (List ℕ)) (columnStarts : List ℕ) (layout : List (List ℕ)) : Type 0 where
+  pub size : JobSize
+  pub pixels : List ℕ
+  pub drawn : Drawn (lentBy size table pixels) rows rowStarts columns columnStarts layout
+
+-- pieces i at p and k at q share a pixel
+abbrev pub shareAt : Lent → ℕ → Placement → ℕ → Placement → Bool
+shareAt l i p k q = share (turnedPiece (jobOf l) i (p .turn)) (corner p) (turnedPiece (jobOf l) k (q .turn)) (corner q)
+
+-- their penalty
+abbrev pub penaltyAt : Lent → ℕ → Placement → ℕ → Placement → ℕ
+penaltyAt l i p k q = penalty (turnedPiece (jobOf l) i (p .turn)) (corner p) (turnedPiece (jobOf l) k (q .turn)) (corner q)
+
+-- a corner on the largest sheet
+pub record OnSheet (p : Placement) : Type 0 where
+  pub column : p .x .0 ≤ 4096
+  pub row : p .y .0 ≤ 4096

@@ -1,0 +1,85 @@
+-- Boxes beside a line: the moving piece's places, and the places at which its box meets a standing one's. Assumes nothing.
+use mathlib.Core.Logic.{⊎-elim}
+use mathlib.Core.Path.{_≡_, sym, subst}
+use Prim.Native.Nat.{ℕ, suc, _+_, _-_, _<_, _≤_, min}
+use native.Mathlib.Omega.{arith}
+use borrow.Author.Tests.{le-leb, lt-leb}
+use Rattle.model.specs.Layout.{Job, Layout, turnedPiece, placeOf}
+use Rattle.model.specs.Search.{places}
+use Rattle.model.specs.declared.Direction.{Direction}
+use Rattle.model.specs.declared.Direction.the-variants.{Horizontal, Vertical}
+use Rattle.model.specs.declared.Line.{Line}
+use Rattle.model.specs.declared.Line.the-variants.{InRow, InColumn}
+use Rattle.model.specs.declared.Placement.{Placement}
+use Rattle.model.specs.declared.Row.{Row}
+use Rattle.model.specs.declared.Column.{Column}
+use Rattle.layout_places.specs.declared.Sides.{Sides}
+use Rattle.layout_places.specs.Boxes.{sidesOf}
+use Rattle.search_tracks.specs.declared.Mover.{Mover}
+use Rattle.search_tracks.specs.declared.Track.{Track}
+use Rattle.search_tracks.specs.declared.Standing.{Standing}
+use Rattle.search_tracks.specs.Boxes.{roomOn, trackOn, trackOf, standingOf, SmallTrack, SmallStanding, BoxesMeet, Reached}
+
+-- a line that leaves the sheet's height has no place
+pub room-none : (length width held sheet height : ℕ) → height < held + width → 0 ≡ roomOn length width held sheet height
+room-none length width held sheet height l = rw (lt-leb (held + width) height l, roomOn)
+
+-- another has one for each coordinate at which the box ends in the sheet
+pub room-some : (length width held sheet height r : ℕ) → held + width ≤ height → r ≡ suc sheet - length → r ≡ roomOn length width held sheet height
+room-some length width held sheet height r l e = rw (le-leb (held + width) height l, roomOn) e
+
+-- ── a mover ──
+
+module _ (j : Job) (m : Mover) (s : Sides) (room : ℕ) (sides : s ≡ sidesOf (turnedPiece j (m .piece) (m .turn))) where
+  -- in a row
+  pub track-row : (r : Row) → m .line ≡ InRow r → room ≡ roomOn (s .columns) (s .rows) (r .0) (j .columns) (j .rows)
+      → _≡_ {A = Track} (record { length = s .columns; width = s .rows; held = r .0; places = room }) (trackOf j m)
+  unfolding places
+  track-row r e f = subst (λ (l : Line). _≡_ {A = Track} (record { length = s .columns; width = s .rows; held = r .0; places = room }) (trackOn j (m .piece) (m .turn) l)) (sym e) (rw (f, sides))
+
+  -- in a column
+  pub track-column : (r : Column) → m .line ≡ InColumn r → room ≡ roomOn (s .rows) (s .columns) (r .0) (j .rows) (j .columns)
+      → _≡_ {A = Track} (record { length = s .rows; width = s .columns; held = r .0; places = room }) (trackOf j m)
+  unfolding places
+  track-column r e f = subst (λ (l : Line). _≡_ {A = Track} (record { length = s .rows; width = s .columns; held = r .0; places = room }) (trackOn j (m .piece) (m .turn) l)) (sym e) (rw (f, sides))
+
+-- ── a standing piece ──
+
+module _ (j : Job) (v : Layout) (k : ℕ) (p : Placement) (s : Sides) (placed : p ≡ placeOf v k) (sides : s ≡ sidesOf (turnedPiece j k (p .turn))) where
+  -- beside a row
+  pub standing-row : (d : Direction) → d ≡ Horizontal
+      → _≡_ {A = Standing} (record { turn = p .turn; along = p .x .0; across = p .y .0; length = s .columns; width = s .rows }) (standingOf j v d k)
+  standing-row d e = rw (e, sides, placed)
+
+  -- beside a column
+  pub standing-column : (d : Direction) → d ≡ Vertical
+      → _≡_ {A = Standing} (record { turn = p .turn; along = p .y .0; across = p .x .0; length = s .rows; width = s .columns }) (standingOf j v d k)
+  standing-column d e = rw (e, sides, placed)
+
+-- ── where boxes meet ──
+
+-- boxes that are apart across meet nowhere
+pub reach-none : (t : Track) (s : Standing) → ((a : ℕ) → BoxesMeet t s a → ⊥) → Reached t s (record { low = 0; high = 0; from = 0 })
+reach-none t s h = record { within = omega arith; touching = λ l. absurd (omega arith); outside = λ a l o m. h a m }
+
+module _ (t : Track) (s : Standing) (small : SmallTrack t) (near : SmallStanding s) (some : 0 < t .length) (below : t .held < s .across + s .width)
+    (above : s .across < t .held + t .width) (low high from : ℕ) (first : low ≡ s .along + 1 - t .length)
+    (last : high ≡ min (t .places) (s .along + s .length)) (begin : from ≡ low + t .length - (s .along + 1))
+  where
+    -- the others meet from the first place at which the moving one reaches the standing one up to the last
+    pub reach-meeting : Reached t s (record { low = low; high = high; from = from })
+    reach-meeting =
+        record {
+          within = omega arith;
+          touching = λ l.
+              record {
+                begins = omega arith;
+                ends = omega arith;
+                lifted = let w = near .width in omega arith;
+                near = let w = near .width in let x = small .width in omega arith;
+              };
+          outside = λ a l o m.
+              let b = m .before in
+              let c = m .behind in
+              ⊎-elim (λ (x : a < low). omega arith) (λ (x : high ≤ a). omega arith) o;
+        }

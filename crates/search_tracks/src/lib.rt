@@ -1,0 +1,183 @@
+// Boxes as a line sees them: the coordinates and sides along it and across it. Rows and columns are alike from here on.
+use model::Direction;
+use model::JobSize;
+use model::Line;
+use model::Turn;
+ghost use mathlib.Core.Path.{_≡_};
+ghost use mathlib.Core.List.{List};
+ghost use Prim.Native.Nat.{ℕ, min, _+_, _-_, _<_, _≤_};
+ghost use lib.ListN.{length};
+ghost use Rattle.model.specs.Piece.{lineDirection};
+ghost use Rattle.model.specs.Lent.{lentBy, jobOf};
+ghost use Rattle.model.specs.Buffer.{layoutOf};
+ghost use Rattle.model.specs.declared.JobSize.{JobSize};
+ghost use Rattle.search_tracks.specs.Boxes.{trackOf, standingOf, roomOn, SmallTrack, SmallStanding, Reached};
+
+// A piece that moves: its number, its turn and the line that it moves on.
+pub struct Mover {
+    pub piece: usize,
+    pub turn: Turn,
+    pub line: Line,
+}
+
+// A moving piece on its line: its box's sides along and across, the held coordinate, and how many places the line has for it.
+pub struct Track {
+    pub length: usize,
+    pub width: usize,
+    pub held: usize,
+    pub places: usize,
+}
+
+// A standing piece beside the line: its turn, its corner's coordinates along and across, and its box's sides along and across.
+pub struct Standing {
+    pub turn: Turn,
+    pub along: usize,
+    pub across: usize,
+    pub length: usize,
+    pub width: usize,
+}
+
+// The places of a line, from `low` up to and without `high`, at which a moving piece's box meets a standing one's, and where they
+// begin in the line of penalties of the two.
+pub struct Reach {
+    pub low: usize,
+    pub high: usize,
+    pub from: usize,
+}
+
+// The direction of a search on the line.
+pub fn direction_of(line: Line) -> Direction
+    ensures { λ r. ⌜ r ≡ lineDirection line ⌝ }
+{
+    match line {
+        Line::InRow(_) => Direction::Horizontal,
+        Line::InColumn(_) => Direction::Vertical,
+    }
+}
+
+// How many inside corners a line has for a box: sides along and across, the held coordinate, the sheet's sides along and across.
+fn room_on(length: usize, width: usize, held: usize, sheet: usize, height: usize) -> usize
+    requires { ⌜ (width ≤ 255) × ((held ≤ 65535) × (sheet ≤ 4096)) ⌝ }
+    ensures room { λ r. ⌜ r ≡ roomOn length width held sheet height ⌝ }
+    ensures small { λ r. ⌜ r ≤ sheet + 1 - length ⌝ }
+{
+    if height < held + width {
+        return 0;
+    }
+    if sheet < length {
+        return 0;
+    }
+    sheet + 1 - length
+}
+
+// The moving piece on its line.
+pub fn track_of(size: JobSize, table: &[[u8; 3]], mover: Mover) -> Track
+    requires { ⌜ (mover .piece < length (now table)) × ((size .columns ≤ 4096) × (size .rows ≤ 4096)) ⌝ }
+    ensures track { λ r. ⌜ ((pixels : List ℕ) → r ≡ trackOf (jobOf (lentBy size (now (table .entry)) pixels)) mover) ⌝ }
+    ensures small { λ r. ⌜ SmallTrack r ⌝ }
+{
+    let piece = mover.piece;
+    let turn = mover.turn;
+    let line = mover.line;
+    let sides = layout_places::turned_sides(table, piece, turn);
+    match line {
+        Line::InRow(row) => {
+            let held = row.0 as usize;
+            Track {
+                length: sides.columns,
+                width: sides.rows,
+                held: held,
+                places: room_on(sides.columns, sides.rows, held, size.columns, size.rows),
+            }
+        }
+        Line::InColumn(column) => {
+            let held = column.0 as usize;
+            Track {
+                length: sides.rows,
+                width: sides.columns,
+                held: held,
+                places: room_on(sides.rows, sides.columns, held, size.rows, size.columns),
+            }
+        }
+    }
+}
+
+// Piece k as the layout places it, beside a line of the direction.
+pub fn standing_of(
+    table: &[[u8; 3]],
+    layout: &[[u16; 3]],
+    direction: Direction,
+    k: usize,
+) -> Standing
+    requires { ⌜ (k < length (now table)) × (k < length (now layout)) ⌝ }
+    ensures standing { λ r. ⌜ ((size : JobSize) (pixels : List ℕ) → r ≡ standingOf (jobOf (lentBy size (now (table .entry)) pixels)) (layoutOf (now (layout .entry))) direction k) ⌝ }
+    ensures small { λ r. ⌜ SmallStanding r ⌝ }
+{
+    let place = layout_places::place_at(layout, k);
+    let turn = place.turn;
+    let sides = layout_places::turned_sides(table, k, turn);
+    let x = place.x.0 as usize;
+    let y = place.y.0 as usize;
+    match direction {
+        Direction::Horizontal => Standing {
+            turn: turn,
+            along: x,
+            across: y,
+            length: sides.columns,
+            width: sides.rows,
+        },
+        Direction::Vertical => Standing {
+            turn: turn,
+            along: y,
+            across: x,
+            length: sides.rows,
+            width: sides.columns,
+        },
+    }
+}
+
+// The first place at which the boxes meet along the line, cut at 0.
+fn low_of(along: usize, length: usize) -> usize
+    requires { ⌜ along ≤ 65535 ⌝ }
+    ensures { λ r. ⌜ r ≡ along + 1 - length ⌝ }
+{
+    if along < length {
+        return 0;
+    }
+    along + 1 - length
+}
+
+// The lesser of two numbers.
+fn lesser(a: usize, b: usize) -> usize
+    ensures { λ r. ⌜ r ≡ min a b ⌝ }
+{
+    if a < b { a } else { b }
+}
+
+// Where the boxes meet.
+pub fn reach_of(track: Track, standing: Standing) -> Reach
+    requires { ⌜ SmallTrack track ⌝ ∗ ⌜ SmallStanding standing ⌝ ∗ ⌜ 0 < track .length ⌝ }
+    ensures { λ r. ⌜ Reached track standing r ⌝ }
+{
+    if standing.across + standing.width <= track.held {
+        return Reach {
+            low: 0,
+            high: 0,
+            from: 0,
+        };
+    }
+    if track.held + track.width <= standing.across {
+        return Reach {
+            low: 0,
+            high: 0,
+            from: 0,
+        };
+    }
+    let low = low_of(standing.along, track.length);
+    let high = lesser(track.places, standing.along + standing.length);
+    Reach {
+        low: low,
+        high: high,
+        from: low + track.length - (standing.along + 1),
+    }
+}

@@ -1,0 +1,19 @@
+-- `answer`: the number decides, and the refusal has it and no places.
+-- Assumes nothing.
+use borrow.Author.Tests.{eq-eqb, ne-eqb}
+use borrow.Author.Needs.{needs}
+use Rattle.sheet_calls.proofs.record.answer.Statement.{statement}
+use Rattle.sheet_calls.specs.Answers.{answerBy}
+use Rattle.sheet_calls.proofs.record.answer.Tie as tie
+
+returns : tie.Need-returns
+returns c = rw (eq-eqb (c .before .args .number) 0 (c .if1 .taken), answerBy)
+
+refusal-requires : tie.Need-refusal-requires
+refusal-requires c κs = search needs
+
+returns-2 : tie.Need-returns-2
+returns-2 c = rw (ne-eqb (c .before .before .args .number) 0 (c .before .if1 .left), answerBy, c .refusal .ensures)
+
+pub answer-spec : {M : Type 1} → statement M
+answer-spec = tie.close (tie.spec returns refusal-requires returns-2)

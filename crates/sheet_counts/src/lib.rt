@@ -1,0 +1,133 @@
+// A piece's pixels added to the counts of a sheet, or taken off: row by row of its turned box. It knows no sheet record.
+use model::JobSize;
+use model::Placement;
+use piece_pixels::TurnedPiece;
+ghost use mathlib.Core.Path.{_≡_};
+ghost use Prim.Native.Nat.{ℕ, _+_, _*_, _<_, _≤_};
+ghost use lib.ListN.{length, replicate};
+ghost use Rattle.model.specs.Lent.{lentBy, jobOf};
+ghost use Rattle.piece_pixels.specs.Turned.{InBox, Stored};
+ghost use Rattle.sheet_counts.specs.Stamp.{moved, movedBy, Room, onAt, movedRun, movedRows};
+ghost use Rattle.sheet_counts.specs.Ready.{Ready};
+
+// The count after a piece is laid (up) or withdrawn that covers the pixel or not.
+fn moved_count(count: u8, on: bool, up: bool) -> u8
+    ensures { λ r. ⌜ r ≡ moved up on count ⌝ }
+{
+    if !on {
+        return count;
+    }
+    if up {
+        if count < 255 {
+            return count + 1;
+        }
+        // At most 64 pieces lie on a pixel: this does not happen.
+        return count;
+    }
+    if 0 < count {
+        return count - 1;
+    }
+    // A laid piece counts on each of its pixels: this does not happen.
+    0
+}
+
+// One row of the turned piece, from the count with number `from` on.
+fn move_row(
+    pixels: &[u8],
+    piece: TurnedPiece,
+    y: usize,
+    from: usize,
+    width: usize,
+    up: bool,
+    counts: &mut [u8],
+)
+    requires { ⌜ Stored (now pixels) piece × ((x : ℕ) → x < width → InBox piece x y) × (from + width ≤ length (now counts)) ⌝ }
+    ensures { λ _. ⌜ now (counts .exit) ≡ movedRun up (onAt (now (pixels .entry)) piece y) from (now (counts .entry)) 0 width ⌝ }
+{
+    let mut x = 0;
+    while x < width {
+        let on = piece_pixels::stored_pixel(pixels, piece, x, y);
+        let at = from + x;
+        counts[at] = moved_count(counts[at], on, up);
+        x += 1;
+    }
+}
+
+// The turned piece's rows, the first from the count with number `first` on, each `sheet` counts after the last.
+fn move_rows(
+    pixels: &[u8],
+    piece: TurnedPiece,
+    first: usize,
+    sheet: usize,
+    width: usize,
+    height: usize,
+    up: bool,
+    counts: &mut [u8],
+)
+    requires { ⌜ Stored (now pixels) piece × Room piece first sheet width height (length (now counts)) ⌝ }
+    ensures { λ _. ⌜ now (counts .exit) ≡ movedRows up (onAt (now (pixels .entry)) piece) sheet width (now (counts .entry)) first 0 height ⌝ }
+{
+    let mut from = first;
+    let mut y = 0;
+    while y < height {
+        move_row(pixels, piece, y, from, width, up, counts);
+        from += sheet;
+        y += 1;
+    }
+}
+
+// All counts 0.
+pub fn clear(counts: &mut [u8])
+    ensures { λ _. ⌜ now (counts .exit) ≡ replicate (length (now (counts .entry))) 0 ⌝ }
+{
+    let mut k = 0;
+    while k < counts.len() {
+        counts[k] = 0;
+        k += 1;
+    }
+}
+
+// A coordinate as a wide number.
+fn wide(k: u16) -> usize
+    ensures { λ r. ⌜ (r ≡ k) × (r < 65536) ⌝ }
+{
+    k as usize
+}
+
+// The number of the count at a placement's corner.
+fn corner_number(sheet: usize, place: Placement) -> usize
+    requires { ⌜ sheet ≤ 4096 ⌝ }
+    ensures { λ r. ⌜ r ≡ place .y .0 * sheet + place .x .0 ⌝ }
+{
+    wide(place.y.0) * sheet + wide(place.x.0)
+}
+
+// Piece i at a placement: each pixel that it covers counts one more (up) or one less.
+pub fn move_piece(
+    size: JobSize,
+    table: &[[u8; 3]],
+    pixels: &[u8],
+    i: usize,
+    place: Placement,
+    up: bool,
+    counts: &mut [u8],
+)
+    requires { ⌜ Ready (lentBy size (now table) (now pixels)) i place (length (now counts)) ⌝ }
+    ensures { λ _. ⌜ now (counts .exit) ≡ movedBy up (jobOf (lentBy size (now (table .entry)) (now (pixels .entry)))) i place (now (counts .entry)) ⌝ }
+{
+    let turn = place.turn;
+    let sides = piece_pixels::turned_sides(table, i, turn);
+    let start = job_check::pixel_start(table, i);
+    let piece = piece_pixels::turned_piece(table, i, start, turn);
+    let first = corner_number(size.columns, place);
+    move_rows(
+        pixels,
+        piece,
+        first,
+        size.columns,
+        sides.columns,
+        sides.rows,
+        up,
+        counts,
+    );
+}

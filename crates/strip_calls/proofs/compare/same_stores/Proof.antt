@@ -1,0 +1,31 @@
+-- `strip_calls::compare::same_stores` meets its contract: one store after the other. Assumes nothing.
+use mathlib.Core.Bool.{_&&_}
+use mathlib.Core.Path.{sym, ap, ap₂, _∙_}
+use borrow.Author.Tests.{not-true, not-false}
+use Rattle.model.specs.Lent.{lentBy, jobOf}
+use Rattle.model.specs.Store.{storeWell}
+use Rattle.model.specs.Calls.{storesWell}
+use Rattle.model.specs.declared.Direction.the-variants.{Vertical}
+use borrow.Author.Needs.{needs}
+use Rattle.strip_calls.proofs.compare.same_stores.Statement.{statement}
+use Rattle.strip_calls.proofs.compare.same_stores.Tie as tie
+
+same-store-requires : tie.Need-same-store-requires
+same-store-requires c κs = search needs
+
+returns : tie.Need-returns
+unfolding storesWell
+returns c =
+    let a = c .before .before .before .before .before .before .args in
+    ap (λ b. b && storeWell Vertical (jobOf (lentBy (a .size) (a .table .now) (a .pixels .now))) (a .turns .now) (a .column-strips .now) (a .column-starts .now)) (sym (not-true _ (c .if1 .taken)) ∙ c .before .same-store .ensures)
+
+same-store-requires-2 : tie.Need-same-store-requires-2
+same-store-requires-2 c κs = search needs
+
+returns-2 : tie.Need-returns-2
+unfolding storesWell
+returns-2 c = ap₂ _&&_ (sym (not-false _ (c .before .if1 .left)) ∙ c .before .before .same-store .ensures) (c .same-store2 .ensures)
+
+pub same-stores-spec : {M : Type 1} → statement M
+same-stores-spec =
+    tie.close (tie.spec same-store-requires returns same-store-requires-2 returns-2)

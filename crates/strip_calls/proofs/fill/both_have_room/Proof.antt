@@ -1,0 +1,28 @@
+-- `strip_calls::fill::both_have_room` meets its contract: one store after the other. Assumes nothing.
+use mathlib.Core.Bool.{_&&_}
+use mathlib.Core.Path.{sym, ap, ap₂, _∙_}
+use borrow.Author.Tests.{not-true, not-false}
+use Rattle.model.specs.Lent.{lentBy, jobOf}
+use Rattle.model.specs.declared.Direction.the-variants.{Vertical}
+use Rattle.strip_store.specs.Rooms.{roomFor}
+use borrow.Author.Needs.{needs}
+use Rattle.strip_calls.proofs.fill.both_have_room.Statement.{statement}
+use Rattle.strip_calls.proofs.fill.both_have_room.Tie as tie
+
+has-room-requires : tie.Need-has-room-requires
+has-room-requires c κs = search needs
+
+returns : tie.Need-returns
+returns c =
+    let a = c .before .before .before .before .args in
+    ap (λ b. b && roomFor Vertical (jobOf (lentBy (a .size) (a .table .now) (a .pixels .now))) (a .turns .now) (a .columns)) (sym (not-true _ (c .if1 .taken)) ∙ c .before .has-room .ensures)
+
+has-room-requires-2 : tie.Need-has-room-requires-2
+has-room-requires-2 c κs = search needs
+
+returns-2 : tie.Need-returns-2
+returns-2 c = ap₂ _&&_ (sym (not-false _ (c .before .if1 .left)) ∙ c .before .before .has-room .ensures) (c .has-room2 .ensures)
+
+pub both-have-room-spec : {M : Type 1} → statement M
+both-have-room-spec =
+    tie.close (tie.spec has-room-requires returns has-room-requires-2 returns-2)

@@ -1,0 +1,87 @@
+-- `strip_calls::turns::wrong` meets its contract. The loop's invariant: the turns passed are allowed. Assumes nothing.
+use mathlib.Core.Bool.{true, not, _||_}
+use mathlib.Core.List.{List}
+use mathlib.Core.Path.{_≡_, sym, ap, _∙_}
+use Prim.Native.Nat.{ℕ, _-_, _≤_, _<_}
+use native.Mathlib.Omega.{arith}
+use lib.Dec.{eqb}
+use lib.ListN.{length, getD}
+use borrow.Author.Count.{below-more}
+use borrow.Author.Tests.{eq-eqb, ne-eqb, not-true, not-false}
+use Rattle.model.specs.Bounded.{anyBelow}
+use Rattle.model.specs.Lent.{lentBy, jobOf}
+use Rattle.model.specs.Calls.{allowedDegrees, turnListWrong}
+use Rattle.model.proofs.Tests.{or-left}
+use Rattle.layout_places.proofs.Places.{one-fails, none-fails}
+use borrow.Author.Needs.{needs}
+use Rattle.strip_calls.proofs.turns.wrong.Statement.{statement}
+use Rattle.strip_calls.proofs.turns.wrong.Tie as tie
+
+abbrev Inv-loop : tie.InvT-loop
+Inv-loop size table turns i₀ i =
+    (i ≤ size .count) × ((k : ℕ) → k < i → (pixels : List ℕ) → allowedDegrees (jobOf (lentBy size table pixels)) k (getD turns k 0) ≡ true)
+
+abbrev μ-loop : tie.MeasureT-loop
+μ-loop size table turns i₀ i = size .count - i
+
+returns : tie.Need-returns Inv-loop μ-loop
+unfolding turnListWrong jobOf
+returns c = λ pixels. let a = c .before .before .before .args in sym (or-left (not (eqb (length (a .turns .now)) (a .size .count))) _ (ap not (ne-eqb _ _ (c .if1 .taken))))
+
+loop-holds : tie.Need-loop-holds Inv-loop μ-loop
+loop-holds c = (omega arith, λ k l. absurd (omega arith))
+
+mul-allowed-degrees : tie.Need-mul-allowed-degrees Inv-loop μ-loop
+mul-allowed-degrees c = let e = c .before .before .before .if1 .left in search needs
+
+shared-slice-read-allowed-degrees : tie.Need-shared-slice-read-allowed-degrees Inv-loop μ-loop
+shared-slice-read-allowed-degrees c = let e = c .before .before .before .before .if1 .left in omega arith
+
+allowed-degrees-requires : tie.Need-allowed-degrees-requires Inv-loop μ-loop
+allowed-degrees-requires c κs = let h = c .before .before .before .before .before .before .before .pre in omega arith
+
+returns-2 : tie.Need-returns-2 Inv-loop μ-loop
+unfolding turnListWrong jobOf
+returns-2 c = λ pixels.
+    let a = c .before .before .before .before .before .before .before .before .before .args in
+    let e : eqb (length (a .turns .now)) (a .size .count) ≡ true = eq-eqb _ _ (c .before .before .before .before .before .before .if1 .left) in
+    one-fails (a .size .count) (c .before .before .before .before .before .loop .i) (λ k. allowedDegrees (jobOf (lentBy (a .size) (a .table .now) pixels)) k (getD (a .turns .now) k 0)) (c .before .before .before .if2 .taken) (sym (c .before .allowed-degrees .ensures (a .size) pixels) ∙ not-true _ (c .if3 .taken))
+    ∙ ap (λ b. not b || anyBelow (a .size .count) (λ k. not (allowedDegrees (jobOf (lentBy (a .size) (a .table .now) pixels)) k (getD (a .turns .now) k 0)))) (sym e)
+
+add-i : tie.Need-add-i Inv-loop μ-loop
+add-i c = let e = c .before .before .before .before .before .before .if1 .left in omega arith
+
+loop-less : tie.Need-loop-less Inv-loop μ-loop
+loop-less c = let t = c .before .before .before .if2 .taken in omega arith
+
+loop-again : tie.Need-loop-again Inv-loop μ-loop
+loop-again c =
+    let t = c .before .before .before .if2 .taken in (
+      omega arith,
+      below-more _ _ (c .before .before .before .before .before .loop .inv .1) (λ pixels. sym (c .before .allowed-degrees .ensures (c .before .before .before .before .before .before .before .before .before .args .size) pixels) ∙ not-false _ (c .if3 .left)),
+    )
+
+returns-3 : tie.Need-returns-3 Inv-loop μ-loop
+unfolding turnListWrong jobOf
+returns-3 c = λ pixels.
+    let a = c .before .before .before .before .before .before .args in
+    let e : eqb (length (a .turns .now)) (a .size .count) ≡ true = eq-eqb _ _ (c .before .before .before .if1 .left) in
+    none-fails (a .size .count) (c .before .before .loop .i) (λ k. allowedDegrees (jobOf (lentBy (a .size) (a .table .now) pixels)) k (getD (a .turns .now) k 0)) (c .if2 .left) (λ k l. c .before .before .loop .inv .1 k l pixels)
+    ∙ ap (λ b. not b || anyBelow (a .size .count) (λ k. not (allowedDegrees (jobOf (lentBy (a .size) (a .table .now) pixels)) k (getD (a .turns .now) k 0)))) (sym e)
+
+pub wrong-spec : {M : Type 1} → statement M
+wrong-spec =
+    tie.close
+    (tie.spec
+    Inv-loop
+    μ-loop
+    returns
+    loop-holds
+    mul-allowed-degrees
+    shared-slice-read-allowed-degrees
+    allowed-degrees-requires
+    returns-2
+    add-i
+    loop-less
+    loop-again
+    returns-3)

@@ -1,0 +1,76 @@
+-- `strip_scan::scan::find` meets its contract. The loop's invariant: the first wanted cell from `at` on is that from `from` on.
+-- Assumes nothing.
+use borrow.Author.Needs.{needs}
+use mathlib.Core.Bool.{Bool, true, false, Bool·beq}
+use mathlib.Core.Path.{_≡_, refl, sym, _∙_}
+use Prim.Native.Nat.{ℕ, _-_, _≤_, _<_}
+use native.Mathlib.Omega.{arith}
+use Rattle.model.specs.Bounded.{firstFrom}
+use Rattle.model.specs.Piece.{cell}
+use Rattle.piece_pixels.specs.Turned.{shownBy}
+use Rattle.strip_scan.proofs.Cells.{first-stop, first-go, first-end}
+use Rattle.strip_scan.proofs.scan.find.Statement.{statement}
+use Rattle.strip_scan.proofs.scan.find.Tie as tie
+
+abbrev Inv-loop : tie.InvT-loop
+Inv-loop pixels piece direction line from wanted length at₀ at =
+    (at ≤ length)
+    × (firstFrom (λ a. Bool·beq (cell direction (shownBy pixels piece) a line) wanted) at (length - at)
+    ≡ firstFrom (λ a. Bool·beq (cell direction (shownBy pixels piece) a line) wanted) from (length - from))
+
+abbrev μ-loop : tie.MeasureT-loop
+μ-loop pixels piece direction line from wanted length at₀ at = length - at
+
+line-length-requires : tie.Need-line-length-requires Inv-loop μ-loop
+line-length-requires c κs = search needs
+
+loop-holds : tie.Need-loop-holds Inv-loop μ-loop
+loop-holds c = (let e = c .line-length .ensures in omega arith, refl)
+
+is-pixel-requires : tie.Need-is-pixel-requires Inv-loop μ-loop
+is-pixel-requires c κs =
+    let e = c .before .before .line-length .ensures in
+    (c .before .before .before .before .pre .0, (omega arith, c .before .before .before .before .pre .1 .1))
+
+-- what the cell test said, in the contract's terms
+flag : (wanted b p : Bool) {r : Bool} → b ≡ p → Bool·beq b wanted ≡ r → Bool·beq p wanted ≡ r
+flag wanted b p e h = rw e at h
+
+returns : tie.Need-returns Inv-loop μ-loop
+returns c =
+    let e = c .before .before .before .before .line-length .ensures in
+    let s = first-stop _ (c .before .before .before .loop .at) _ (c .before .before .loop-test .taken) (flag _ _ _ (c .before .is-pixel .ensures) (c .if1 .taken)) in
+    rw (← e) (sym s ∙ c .before .before .before .loop .inv .1)
+
+add-at : tie.Need-add-at Inv-loop μ-loop
+add-at c = omega arith
+
+loop-less : tie.Need-loop-less Inv-loop μ-loop
+loop-less c = omega arith
+
+loop-again : tie.Need-loop-again Inv-loop μ-loop
+loop-again c = (
+  omega arith,
+  sym (first-go _ (c .before .before .before .loop .at) _ (c .before .before .loop-test .taken) (flag _ _ _ (c .before .is-pixel .ensures) (c .if1 .left)))
+      ∙ c .before .before .before .loop .inv .1,
+)
+
+returns-2 : tie.Need-returns-2 Inv-loop μ-loop
+returns-2 c =
+    let e = c .before .before .line-length .ensures in
+    rw (← e) (sym (first-end _ (c .before .loop .at) _ (c .loop-test .left)) ∙ c .before .loop .inv .1)
+
+pub find-spec : {M : Type 1} → statement M
+find-spec =
+    tie.close
+    (tie.spec
+    Inv-loop
+    μ-loop
+    line-length-requires
+    loop-holds
+    is-pixel-requires
+    returns
+    add-at
+    loop-less
+    loop-again
+    returns-2)

@@ -1,0 +1,103 @@
+-- `strip_scan::scan::next_strip` meets its contract. The loop's invariant: the strips from the present cell on are those from the
+-- given cell on, since the lines between have no pixel left. Assumes nothing.
+use borrow.Author.Needs.{needs}
+use mathlib.Core.Bool.{Bool, false, Bool·beq}
+use mathlib.Core.Path.{_≡_, refl, sym, _∙_}
+use Prim.Native.Nat.{ℕ, _-_, _≤_, _<_}
+use native.Mathlib.Omega.{arith}
+use Rattle.model.specs.Bounded.{firstFrom}
+use Rattle.model.specs.Piece.{cell}
+use Rattle.model.proofs.Bounded.{first-from}
+use Rattle.piece_pixels.specs.Turned.{shownBy}
+use Rattle.strip_scan.specs.Scan.{turnedSide, stripsAt}
+use Rattle.strip_scan.proofs.Scanning.{piece-found, piece-line-done, piece-none-left}
+use Rattle.strip_scan.proofs.scan.next_strip.Statement.{statement}
+use Rattle.strip_scan.proofs.scan.next_strip.Tie as tie
+
+abbrev Inv-loop : tie.InvT-loop
+Inv-loop pixels piece direction line along length lines line₀ along₀ line' along' =
+    (along' ≤ length) × (stripsAt direction (shownBy pixels piece) line' along' ≡ stripsAt direction (shownBy pixels piece) line along)
+
+abbrev μ-loop : tie.MeasureT-loop
+μ-loop pixels piece direction line along length lines line₀ along₀ line' along' = lines - line'
+
+line-length-requires : tie.Need-line-length-requires Inv-loop μ-loop
+line-length-requires c κs = search needs
+
+line-count-requires : tie.Need-line-count-requires Inv-loop μ-loop
+line-count-requires c κs = search needs
+
+loop-holds : tie.Need-loop-holds Inv-loop μ-loop
+loop-holds c = (let e = c .before .line-length .ensures in omega arith, refl)
+
+find-requires : tie.Need-find-requires Inv-loop μ-loop
+find-requires c κs =
+    let n = c .before .before .before .line-length .ensures in
+    let m = c .before .before .line-count .ensures in
+    (c .before .before .before .before .before .pre .0, (omega arith, omega arith))
+
+find-requires-2 : tie.Need-find-requires-2 Inv-loop μ-loop
+find-requires-2 c κs =
+    let n = c .before .before .before .before .before .line-length .ensures in
+    let m = c .before .before .before .before .line-count .ensures in
+    (c .before .before .before .before .before .before .before .pre .0, (omega arith, omega arith))
+
+-- the first cell that is wanted is none before the given one
+first-low : (f : ℕ → Bool) {stop : ℕ} (t left : ℕ) → stop ≡ firstFrom f t left → t ≤ stop
+first-low f t left e = rw e (first-from f t left .low)
+
+sub-t13 : tie.Need-sub-t13 Inv-loop μ-loop
+sub-t13 c =
+    let a = c .before .before .before .before .before .before .before .before .args in
+    first-low (λ k. Bool·beq (cell (a .direction) (shownBy (a .pixels .now) (a .piece)) k (c .before .before .before .before .loop .line)) false)
+    (c .before .before .find .result) (turnedSide (a .direction) (a .piece) - c .before .before .find .result) (c .find2 .ensures)
+
+returns : tie.Need-returns Inv-loop μ-loop
+returns c =
+    let n = c .before .before .before .before .before .before .line-length .ensures in
+    let m = c .before .before .before .before .before .line-count .ensures in
+    let a = c .before .before .before .before .before .before .before .before .args in
+    let l = c .before .before .before .before .loop in
+    let found = piece-found (a .direction) (a .pixels .now) (a .piece) (l .line) (l .along) (c .before .before .find .result) (c .find2 .result) (omega arith) (omega arith) (c .before .before .find .ensures) (omega arith) (c .find2 .ensures) in
+    record { next = sym (c .before .before .before .before .loop .inv .1) ∙ found .next; within = found .within; line = found .line }
+
+add-line : tie.Need-add-line Inv-loop μ-loop
+add-line c = omega arith
+
+loop-less : tie.Need-loop-less Inv-loop μ-loop
+loop-less c = omega arith
+
+loop-again : tie.Need-loop-again Inv-loop μ-loop
+loop-again c =
+    let n = c .before .before .before .before .before .line-length .ensures in
+    let m = c .before .before .before .before .line-count .ensures in
+    let a = c .before .before .before .before .before .before .before .args in
+    let l = c .before .before .before .loop in (
+      omega arith,
+      sym (piece-line-done (a .direction) (a .pixels .now) (a .piece) (l .line) (l .along) (c .before .find .result) (omega arith) (omega arith) (c .before .find .ensures) (omega arith))
+          ∙ c .before .before .before .loop .inv .1,
+    )
+
+returns-2 : tie.Need-returns-2 Inv-loop μ-loop
+returns-2 c =
+    let m = c .before .before .line-count .ensures in
+    let a = c .before .before .before .before .before .args in
+    sym (c .before .loop .inv .1) ∙ piece-none-left (a .direction) (a .pixels .now) (a .piece) (c .before .loop .line) (c .before .loop .along) (omega arith)
+
+pub next-strip-spec : {M : Type 1} → statement M
+next-strip-spec =
+    tie.close
+    (tie.spec
+    Inv-loop
+    μ-loop
+    line-length-requires
+    line-count-requires
+    loop-holds
+    find-requires
+    find-requires-2
+    sub-t13
+    returns
+    add-line
+    loop-less
+    loop-again
+    returns-2)

@@ -1,0 +1,19 @@
+-- `text_fields::reading::digit_value`: a digit is at least 48 and below 58. Assumes nothing.
+use mathlib.Core.Path.{refl}
+use native.Mathlib.Omega.{arith}
+use Rattle.text_fields.proofs.Steps.{digit-range}
+use borrow.Author.Needs.{needs}
+use Rattle.text_fields.proofs.reading.digit_value.Statement.{statement}
+use Rattle.text_fields.proofs.reading.digit_value.Tie as tie
+
+sub-result : tie.Need-sub-result
+sub-result c = let h = digit-range (c .args .b) (c .pre) in omega arith
+
+cast-result : tie.Need-cast-result
+cast-result c = search needs
+
+returns : tie.Need-returns
+returns c = let h = digit-range (c .args .b) (c .pre) in (refl, omega arith)
+
+pub digit-value-spec : {M : Type 1} → statement M
+digit-value-spec = tie.close (tie.spec sub-result cast-result returns)

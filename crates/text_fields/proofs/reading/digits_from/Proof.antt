@@ -1,0 +1,105 @@
+-- `text_fields::reading::digits_from`: what is left to read, behind the digits so far, is what was to be read at first. At most 99,999 can come
+-- of it. Assumes nothing.
+use mathlib.Core.Bool.{true, false}
+use mathlib.Core.Path.{_≡_, refl, sym, _∙_, ap}
+use Prim.Native.Nat.{suc, _≤_, _+_, _-_, _*_}
+use native.Mathlib.Nat.{le-trans}
+use native.Mathlib.Numerals.{add-one}
+use native.Mathlib.Omega.{arith}
+use lib.ListN.{length}
+use Rattle.model.specs.Text.{byte, isDigit, digitsFrom}
+use Rattle.text_fields.specs.Answers.{runOf}
+use Rattle.text_fields.proofs.Tests.{said-no, said-yes}
+use Rattle.text_fields.proofs.Steps.{digit-inside, digits-more, digits-end, digits-none, largest, largest-grows, largest-above}
+use borrow.Author.Needs.{needs}
+use Rattle.text_fields.proofs.reading.digits_from.Statement.{statement}
+use Rattle.text_fields.proofs.reading.digits_from.Tie as tie
+
+abbrev Inv-loop : tie.InvT-loop
+Inv-loop text p value₀ next₀ left₀ value next left = (digitsFrom text next value left ≡ digitsFrom text p 0 5) × (next ≤ length text) × (largest value left ≤ 99999)
+
+abbrev μ-loop : tie.MeasureT-loop
+μ-loop text p value₀ next₀ left₀ value next left = left
+
+loop-holds : tie.Need-loop-holds Inv-loop μ-loop
+loop-holds c = (refl, omega arith, lib.Dec.lit≤ tt)
+
+byte-at-requires : tie.Need-byte-at-requires Inv-loop μ-loop
+byte-at-requires c κs = search needs
+
+is-digit-requires : tie.Need-is-digit-requires Inv-loop μ-loop
+is-digit-requires c κs = search needs
+
+returns : tie.Need-returns Inv-loop μ-loop
+returns c =
+    let text = c .before .before .before .before .before .before .args .text .now in
+    let l = c .before .before .before .before .loop in
+    let e : l .left ≡ suc (l .left - 1) = omega arith in
+    let d : isDigit (byte text (l .next)) ≡ false = rw (c .before .before .byte-at .ensures) at (said-no (c .before .is-digit .ensures) (c .if1 .taken)) in
+    (ap runOf (sym (digits-end text (l .next) (l .value) (l .left - 1) d) ∙ (rw e at (l .inv .0))), l .inv .1, le-trans (largest-above (l .left) (l .value)) (l .inv .2))
+
+mul-value : tie.Need-mul-value Inv-loop μ-loop
+mul-value c =
+    let l = c .before .before .before .before .loop in
+    let h = largest-above (l .left) (l .value) in
+    omega (arith, l .inv .2)
+
+digit-value-requires : tie.Need-digit-value-requires Inv-loop μ-loop
+digit-value-requires c κs = said-yes (c .before .is-digit .ensures) (c .if1 .left)
+
+add-value : tie.Need-add-value Inv-loop μ-loop
+add-value c =
+    let l = c .before .before .before .before .before .loop in
+    let h = largest-above (l .left) (l .value) in
+    omega (arith, l .inv .2, c .digit-value .ensures .1)
+
+add-next : tie.Need-add-next Inv-loop μ-loop
+add-next c =
+    let l = c .before .before .before .before .before .loop in
+    omega (arith, l .inv .1)
+
+sub-left : tie.Need-sub-left Inv-loop μ-loop
+sub-left c = omega arith
+
+loop-less : tie.Need-loop-less Inv-loop μ-loop
+loop-less c = omega arith
+
+loop-again : tie.Need-loop-again Inv-loop μ-loop
+loop-again c =
+    let text = c .before .before .before .before .before .before .before .args .text .now in
+    let l = c .before .before .before .before .before .loop in
+    let e : l .left ≡ suc (l .left - 1) = omega arith in
+    let b : c .before .before .before .byte-at .result ≡ byte text (l .next) = c .before .before .before .byte-at .ensures in
+    let d : isDigit (byte text (l .next)) ≡ true = rw b at (said-yes (c .before .before .is-digit .ensures) (c .before .if1 .left)) in
+    let v : c .digit-value .result ≡ byte text (l .next) - 48 = rw b at (c .digit-value .ensures .0) in
+    let m : largest (l .value * 10 + 9) (l .left - 1) ≤ 99999 = rw e at (l .inv .2) in (
+      rw (add-one, v) (sym (digits-more text (l .next) (l .value) (l .left - 1) d) ∙ (rw e at (l .inv .0))),
+      let i = digit-inside text (l .next) d in omega arith,
+      le-trans (largest-grows (l .left - 1) (l .value * 10 + c .digit-value .result) (l .value * 10 + 9) (omega (arith, c .digit-value .ensures .1))) m,
+    )
+
+returns-2 : tie.Need-returns-2 Inv-loop μ-loop
+returns-2 c =
+    let text = c .before .before .before .args .text .now in
+    let l = c .before .loop in
+    let e : l .left ≡ 0 = omega arith in
+    (ap runOf (sym (digits-none text (l .next) (l .value)) ∙ (rw e at (l .inv .0))), l .inv .1, rw e at (l .inv .2))
+
+pub digits-from-spec : {M : Type 1} → statement M
+digits-from-spec =
+    tie.close
+    (tie.spec
+    Inv-loop
+    μ-loop
+    loop-holds
+    byte-at-requires
+    is-digit-requires
+    returns
+    mul-value
+    digit-value-requires
+    add-value
+    add-next
+    sub-left
+    loop-less
+    loop-again
+    returns-2)

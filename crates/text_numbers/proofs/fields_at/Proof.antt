@@ -1,0 +1,122 @@
+-- `text_numbers::fields_at` meets its contract. The loop's invariant: the numbers so far, in front of the fields that are left, are what
+-- the whole reads. Assumes nothing.
+use mathlib.Core.List.{[]}
+use mathlib.Core.Path.{_≡_, refl, sym, _∙_}
+use Prim.Native.Nat.{_-_, _<_, _≤_}
+use native.Mathlib.Omega.{arith}
+use lib.ListN.{length, length-set}
+use Rattle.model.specs.Text.{fieldAt, fieldsAt, got, wrong}
+use Rattle.text_fields.proofs.Steps.{got-of, wrong-of}
+use Rattle.text_fields.specs.declared.Number.the-variants as number
+use Rattle.text_numbers.specs.Lines.{fieldEnds}
+use Rattle.text_numbers.proofs.Steps.{readOn, read-none, read-more, read-wrong, read-all}
+use borrow.Author.Needs.{needs}
+use Rattle.text_numbers.proofs.fields_at.Statement.{statement}
+use Rattle.text_numbers.proofs.fields_at.Tie as tie
+
+abbrev Inv-loop : tie.InvT-loop
+Inv-loop text p count numbers₀ next₀ k₀ numbers next k =
+    (k ≤ count)
+    × (length numbers ≡ 8)
+    × (0 < k → next ≤ length text)
+    × (readOn numbers k (fieldsAt (fieldEnds (count - k)) text next) ≡ fieldsAt (fieldEnds count) text p)
+
+abbrev μ-loop : tie.MeasureT-loop
+μ-loop text p count numbers₀ next₀ k₀ numbers next k = count - k
+
+loop-holds : tie.Need-loop-holds Inv-loop μ-loop
+loop-holds c =
+    let a = c .before .args in
+    (omega arith, refl, (λ h. absurd (omega arith)), read-none (a .text .now) [] (a .p) (a .count))
+
+sub-end-byte : tie.Need-sub-end-byte Inv-loop μ-loop
+sub-end-byte c = omega arith
+
+sub-end-byte-2 : tie.Need-sub-end-byte-2 Inv-loop μ-loop
+sub-end-byte-2 c = omega arith
+
+end-byte-requires : tie.Need-end-byte-requires Inv-loop μ-loop
+end-byte-requires c κs = search needs
+
+field-at-requires : tie.Need-field-at-requires Inv-loop μ-loop
+field-at-requires c κs = c .end-byte .ensures .1
+
+enum-known-number : tie.Need-enum-known-number Inv-loop μ-loop
+enum-known-number c = search needs
+
+enum-told : tie.Need-enum-told Inv-loop μ-loop
+enum-told c = search needs
+
+returns : tie.Need-returns Inv-loop μ-loop
+returns c =
+    let a = c .before .before .before .before .before .before .before .args in
+    let text = a .text .now in
+    let l = c .before .before .before .before .before .loop in
+    let end = c .before .before .before .end-byte .result in
+    let e : fieldAt end text (l .next) ≡ wrong = wrong-of (fieldAt end text (l .next)) (sym (c .enum-told .given .1) ∙ c .before .before .field-at .ensures .same) in
+    record {
+      same = sym (l .inv .3) ∙ read-wrong text (l .numbers) (l .next) (l .k) (a .count) end (c .before .before .before .before .loop-test .taken) (c .before .before .before .end-byte .ensures .0) e;
+      inside = omega arith;
+    }
+
+mul-numbers : tie.Need-mul-numbers Inv-loop μ-loop
+mul-numbers c = omega arith
+
+array-write-numbers : tie.Need-array-write-numbers Inv-loop μ-loop
+array-write-numbers c = omega arith
+
+add-k : tie.Need-add-k Inv-loop μ-loop
+add-k c = omega arith
+
+loop-less : tie.Need-loop-less Inv-loop μ-loop
+loop-less c = omega arith
+
+loop-again : tie.Need-loop-again Inv-loop μ-loop
+loop-again c =
+    let a = c .before .before .before .before .before .before .before .before .args in
+    let text = a .text .now in
+    let l = c .before .before .before .before .before .before .loop in
+    let end = c .before .before .before .before .end-byte .result in
+    let v = c .before .number .given .0 .0 in
+    let q = c .before .number .given .0 .1 .0 in
+    let g : number.Got v q ≡ c .before .before .before .field-at .result = sym (c .before .number .given .1) in
+    let e : fieldAt end text (l .next) ≡ got v q = got-of (fieldAt end text (l .next)) v q (g ∙ c .before .before .before .field-at .ensures .same) in
+    let i : q ≤ length text = rw (sym g) at (c .before .before .before .field-at .ensures .inside) in
+    let below : l .k < a .count = c .before .before .before .before .before .loop-test .taken in
+    let room : l .k < length (l .numbers) = omega arith in (
+      omega arith,
+      length-set (l .numbers) (l .k) _ ∙ l .inv .1,
+      (λ h. i),
+      read-more text (l .numbers) (l .next) (l .k) (a .count) end below (c .before .before .before .before .end-byte .ensures .0) v q room e ∙ l .inv .3,
+    )
+
+returns-2 : tie.Need-returns-2 Inv-loop μ-loop
+returns-2 c =
+    let a = c .before .before .before .args in
+    let l = c .before .loop in
+    let done : l .k ≡ a .count = omega arith in
+    record {
+      same = sym (l .inv .3) ∙ read-all (a .text .now) (l .numbers) (l .next) (a .count) (l .k) done;
+      inside = l .inv .2 (omega arith);
+    }
+
+pub fields-at-spec : {M : Type 1} → statement M
+fields-at-spec =
+    tie.close
+    (tie.spec
+    Inv-loop
+    μ-loop
+    loop-holds
+    sub-end-byte
+    sub-end-byte-2
+    end-byte-requires
+    field-at-requires
+    enum-known-number
+    enum-told
+    returns
+    mul-numbers
+    array-write-numbers
+    add-k
+    loop-less
+    loop-again
+    returns-2)

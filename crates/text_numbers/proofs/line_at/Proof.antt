@@ -1,0 +1,37 @@
+-- `text_numbers::line_at` meets its contract: wrong where the word does not stand, else what the fields behind it are. Assumes nothing.
+use mathlib.Core.Path.{_∙_}
+use native.Mathlib.Omega.{arith}
+use Rattle.model.specs.Text.{fieldsAt}
+use Rattle.text_fields.proofs.Tests.{said-no, said-yes}
+use Rattle.text_fields.proofs.Steps.{after-not, after-word}
+use Rattle.text_numbers.specs.Lines.{fieldEnds}
+use borrow.Author.Needs.{needs}
+use Rattle.text_numbers.proofs.line_at.Statement.{statement}
+use Rattle.text_numbers.proofs.line_at.Tie as tie
+
+word-at-requires : tie.Need-word-at-requires
+word-at-requires c κs = search needs
+
+returns : tie.Need-returns
+returns c =
+    let a = c .before .before .before .before .args in
+    let no = said-no (c .before .word-at .ensures) (c .if1 .taken) in
+    record { same = after-not (a .word .now) (a .text .now) (a .p) (fieldsAt (fieldEnds (a .count)) (a .text .now)) no; inside = omega arith }
+
+add-fields-at : tie.Need-add-fields-at
+add-fields-at c = search needs
+
+fields-at-requires : tie.Need-fields-at-requires
+fields-at-requires c κs = search needs
+
+returns-2 : tie.Need-returns-2
+returns-2 c =
+    let a = c .before .before .before .before .before .args in
+    let yes = said-yes (c .before .before .word-at .ensures) (c .before .if1 .left) in
+    record {
+      same = after-word (a .word .now) (a .text .now) (a .p) (fieldsAt (fieldEnds (a .count)) (a .text .now)) yes ∙ c .fields-at .ensures .same;
+      inside = c .fields-at .ensures .inside;
+    }
+
+pub line-at-spec : {M : Type 1} → statement M
+line-at-spec = tie.close (tie.spec word-at-requires returns add-fields-at fields-at-requires returns-2)
