@@ -77,7 +77,7 @@ pub no-entry-not-well : (j : Job) (es : List (List ℕ)) (cs : List ℕ) (i : �
 no-entry-not-well j es cs i e = stray-not-well j (sheetIn es cs) i (entry-in-buffer es i ∙ rw (e, entryOfNumbers))
 
 -- a call on a sheet that no list of calls gives is refused by 8
-pub refused-by-8 : {A : Type 0} (l : Lent) (s : Sheet) (more : List Cause) (a : A) → lentWell l ≡ true → length (s .counts) ≡ l .rows * l .columns
+pub refused-by-8 : {A : Type 0} (l : Lent) (s : Sheet) (more : List Cause) (a : A) → lentWell l ≡ true → length (s .counts) ≡ l .size .rows * l .size .columns
     → sheetWell (jobOf l) s ≡ false → unless (sheetCauses l s more) a ≡ refused (record { number = notOurs; first = 0; second = 0 })
 unfolding sheetCauses unless
-refused-by-8 l s more a job full wrong = rw (job, eq-eqb (length (s .counts)) (l .rows * l .columns) full, wrong)
+refused-by-8 l s more a job full wrong = rw (job, eq-eqb (length (s .counts)) (l .size .rows * l .size .columns) full, wrong)

@@ -14,7 +14,7 @@ use Rattle.model.specs.declared.Line.the-variants.{InRow, InColumn}
 -- the job that the numbers, the table and the pixels lend
 abbrev pub lentAs : ℕ → ℕ → ℕ → List (List ℕ) → List ℕ → Lent
 lentAs rows columns count table pixels =
-    record { rows = rows; columns = columns; count = count; table = table; pixels = pixels }
+    record { size = record { rows = rows; columns = columns; count = count }; table = table; pixels = pixels }
 
 -- 0 is horizontal, every other number vertical
 abbrev pub directionOf : ℕ → Direction

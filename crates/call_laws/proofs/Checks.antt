@@ -82,21 +82,21 @@ Sharing j v none = NoSharedPixel j v
 Sharing j v (some p) = LowestPair j v p
 
 -- from the tests to the pixels
-sharing-step : (j : Job) (v : Layout) (o : Option Pair) → FirstFound (pairShares j v) (pairs (j .count)) o → Sharing j v o
+sharing-step : (j : Job) (v : Layout) (o : Option Pair) → FirstFound (pairShares j v) (pairs (j .size .count)) o → Sharing j v o
 unfolding pairShares
 sharing-step j v none found =
-    λ i k l m w. clash (share-from _ _ _ _ w) (found (record { first = i; second = k }) (pair-mem (j .count) i k l m))
+    λ i k l m w. clash (share-from _ _ _ _ w) (found (record { first = i; second = k }) (pair-mem (j .size .count) i k l m))
 sharing-step j v (some p) found =
     record {
-      ordered = mem-pair (j .count) p (found .0);
+      ordered = mem-pair (j .size .count) p (found .0);
       shared = share-witness _ _ _ _ (found .1);
-      lowest = λ i k l m w. found .2 (record { first = i; second = k }) (pair-mem (j .count) i k l m) (share-from _ _ _ _ w);
+      lowest = λ i k l m w. found .2 (record { first = i; second = k }) (pair-mem (j .size .count) i k l m) (share-from _ _ _ _ w);
     }
 
 -- the search answers so
 pub sharing : (j : Job) (v : Layout) → Sharing j v (sharingPair j v)
 unfolding sharingPair
-sharing j v = sharing-step j v (sharingPair j v) (first-found (pairShares j v) (pairs (j .count)) (pairs-ordered (j .count)))
+sharing j v = sharing-step j v (sharingPair j v) (first-found (pairShares j v) (pairs (j .size .count)) (pairs-ordered (j .size .count)))
 
 -- where the search's cause is not there, no two pieces share a pixel
 none-shared : (j : Job) (v : Layout) (o : Option Pair) → Sharing j v o → sharedCause o .there ≡ false → NoSharedPixel j v

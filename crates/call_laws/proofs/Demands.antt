@@ -87,7 +87,7 @@ pub record Demand1Calls : Type 0 where
   pub starts : (l : Lent) (room : ℕ) (v : Layout) → startCall l room ≡ given v → ValidLayout (jobOf l) v
   pub layout-read : (l : Lent) (text : List ℕ) (room : ℕ) (v : Layout) → readLayoutCall l text room ≡ given v → ValidLayout (jobOf l) v
   pub written-read : (l : Lent) (es : List (List ℕ)) (room : ℕ) (text : List ℕ) → writeLayoutCall l es room ≡ given text
-      → readLayoutCall l text (l .count) ≡ given (layoutOf es)
+      → readLayoutCall l text (l .size .count) ≡ given (layoutOf es)
   -- a layout that passes the check is valid with no shared pixel, and refusal 12 names the lowest pair that shares one
   pub checks : (l : Lent) (es : List (List ℕ)) (u : Unit {0}) → checkCall l es ≡ given u → Checked (jobOf l) (layoutOf es)
   pub check-names : (l : Lent) (es : List (List ℕ)) (p : Pair) → checkCall l es ≡ refused (sharedRefusal p)
@@ -107,7 +107,7 @@ pub record Demand2Calls : Type 0 where
   -- a piece in a turn, of which every call on pixels speaks, is the image of the piece under document 01's map of that turn
   pub turns : (t : Turn) (s : Shape) → TurnedExactly t s
   -- the stores that the strips call leaves are the job's, so that each piece's stretch is handed out of them
-  pub stores-left : (l : Lent) (ts : List ℕ) (lent s : Stores) → stripsCall l ts lent ≡ given s → (i : ℕ) (d : Direction) → i < l .count
+  pub stores-left : (l : Lent) (ts : List ℕ) (lent s : Stores) → stripsCall l ts lent ≡ given s → (i : ℕ) (d : Direction) → i < l .size .count
       → stretchCall l ts (storesAfter lent (stripsCall l ts lent)) i d ≡ given (map stripEntry (pieceStrips d (jobOf l) ts i))
   -- a stretch is the piece's strips in its turn and never empty; an empty one is a refusal's, whose number the second call tells
   pub stretches : (l : Lent) (ts : List ℕ) (lent : Stores) (i : ℕ) (d : Direction) (part : List (List ℕ))
@@ -156,7 +156,7 @@ pub record Demand3Calls : Type 0 where
   pub weighted-sums : (l : Lent) (es : List (List ℕ)) (ws : List ℕ) (n : ℕ) → weightedSumCall l es ws ≡ given n
       → SumClaims (jobOf l) ws (layoutOf es) n
   pub plain-sums : (l : Lent) (es : List (List ℕ)) (n : ℕ) → plainSumCall l es ≡ given n
-      → SumClaims (jobOf l) (unitWeights (jobOf l .count)) (layoutOf es) n
+      → SumClaims (jobOf l) (unitWeights (jobOf l .size .count)) (layoutOf es) n
   -- a line search finds the least sum over every inside corner on the line, and the smallest coordinate that has it
   pub searches : (l : Lent) (es : List (List ℕ)) (ws : List ℕ) (i : ℕ) (t : Turn) (line : Line) (b : Best)
       → searchCall l es ws i t line ≡ given b → Found (jobOf l) ws (layoutOf es) i t line b

@@ -28,16 +28,16 @@ module _ (l : Lent) (well : lentWell l ≡ true) where
       record { columnsSmall = λ i b. lent-turned-small l well Horizontal i Zero b; rowsSmall = λ i b. lent-turned-small l well Vertical i Zero b }
 
   -- they are tight, in every turn
-  pub lent-tight : (i : ℕ) (t : Turn) → i < jobOf l .count → tight (turnedPiece (jobOf l) i t) ≡ true
+  pub lent-tight : (i : ℕ) (t : Turn) → i < jobOf l .size .count → tight (turnedPiece (jobOf l) i t) ≡ true
   unfolding jobOf
   lent-tight i t b = turned-tight t (lentShape l i) (facts l well .tightBoxes i b)
 
   -- the no-fit rows and columns of a lent job's pieces in their turns are as document 01 says
-  pub lent-no-fit : (d : Direction) (i k : ℕ) (t u : Turn) → i < jobOf l .count → k < jobOf l .count → (o : ℤ)
+  pub lent-no-fit : (d : Direction) (i k : ℕ) (t u : Turn) → i < jobOf l .size .count → k < jobOf l .size .count → (o : ℤ)
       → NoFitLine d (turnedPiece (jobOf l) i t) (turnedPiece (jobOf l) k u) o
       (noFit d (turnedPiece (jobOf l) i t) (turnedPiece (jobOf l) k u) o)
   lent-no-fit d i k t u b c o = no-fit-line d _ _ (lent-turned-small l well d i t b) (lent-turned-small l well d k u c) o
 
   -- no piece of a lent job is without strips, in any turn and direction
-  pub lent-strips-some : (d : Direction) (i : ℕ) (t : Turn) → i < jobOf l .count → 0 < length (strips d (turnedPiece (jobOf l) i t))
+  pub lent-strips-some : (d : Direction) (i : ℕ) (t : Turn) → i < jobOf l .size .count → 0 < length (strips d (turnedPiece (jobOf l) i t))
   lent-strips-some d i t b = strips-some d _ (lent-tight i t b)

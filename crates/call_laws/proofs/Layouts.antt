@@ -43,17 +43,17 @@ unfolding turnOf turnOfDegrees
 buffer-place es i = List·getD-map placementOf es i []
 
 -- a layout buffer of the right length, none of whose turns is wrong and none of whose placements is outside, holds a valid layout
-pub buffer-valid : (j : Job) (es : List (List ℕ)) → length es ≡ j .count → someTurnWrong j es ≡ false → someOutside j (layoutOf es) ≡ false
+pub buffer-valid : (j : Job) (es : List (List ℕ)) → length es ≡ j .size .count → someTurnWrong j es ≡ false → someOutside j (layoutOf es) ≡ false
     → ValidLayout j (layoutOf es)
 unfolding someTurnWrong someOutside allowedDegrees
 buffer-valid j es size turns outside =
     record {
       onePerPiece = length-map es placementOf ∙ size;
-      insideSheet = λ i l. not-false _ (any-none (j .count) (λ k. not (inside j k (placeOf (layoutOf es) k))) outside i l);
+      insideSheet = λ i l. not-false _ (any-none (j .size .count) (λ k. not (inside j k (placeOf (layoutOf es) k))) outside i l);
       turnAllowed = λ i l.
           rw (buffer-place es i)
           (passes-turn (allowed j i) (getD (getD es i []) 0 0)
-          (not-false _ (any-none (j .count) (λ k. not (turnPasses (allowed j k) (getD (getD es k []) 0 0))) turns i l)));
+          (not-false _ (any-none (j .size .count) (λ k. not (turnPasses (allowed j k) (getD (getD es k []) 0 0))) turns i l)));
     }
 
 -- ── weights ──
@@ -72,7 +72,7 @@ weights-range (w ∷ ws) e zero l = weight-step w ws (upTo weightBound w) refl e
 weights-range (w ∷ ws) e (suc k) l = weights-range ws (weight-step w ws (upTo weightBound w) refl e .1) k (le-of-suc-le-suc l)
 
 -- a weight buffer with one weight a pair, none of which is wrong, holds valid weights
-pub weights-valid : (j : Job) (ws : List ℕ) → length ws ≡ length (pairs (j .count)) → someWeightWrong ws ≡ false → ValidWeights j ws
+pub weights-valid : (j : Job) (ws : List ℕ) → length ws ≡ length (pairs (j .size .count)) → someWeightWrong ws ≡ false → ValidWeights j ws
 weights-valid j ws size e = record { onePerPair = size; inRange = weights-range ws e }
 
 -- ── valid layouts and weights in buffers ──
@@ -93,7 +93,7 @@ turn-passes test ThreeQuarters e = e
 
 -- no cause is there of a buffer that holds a valid layout
 pub record BufferPasses (j : Job) (es : List (List ℕ)) : Type 0 where
-  pub size : length es ≡ j .count
+  pub size : length es ≡ j .size .count
   pub turns : someTurnWrong j es ≡ false
   pub outside : someOutside j (layoutOf es) ≡ false
 
@@ -101,15 +101,15 @@ pub record BufferPasses (j : Job) (es : List (List ℕ)) : Type 0 where
 pub valid-buffer : (j : Job) (v : Layout) → ValidLayout j v → BufferPasses j (entriesOf v)
 unfolding someTurnWrong someOutside allowedDegrees
 valid-buffer j v h =
-    let size : length v ≡ j .count = h .onePerPiece in
+    let size : length v ≡ j .size .count = h .onePerPiece in
     record {
       size = length-map v entryOf ∙ size;
       turns =
-          none-any (j .count) _
+          none-any (j .size .count) _
           (λ i l.
           let e : getD (entriesOf v) i [] ≡ entryOf (placeOf v i) = entry-at v i (omega arith) in
           rw e (ap not (turn-passes (allowed j i) (placeOf v i .turn) (h .turnAllowed i l))));
-      outside = rw (entries-read-back v) (none-any (j .count) _ (λ i l. ap not (h .insideSheet i l)));
+      outside = rw (entries-read-back v) (none-any (j .size .count) _ (λ i l. ap not (h .insideSheet i l)));
     }
 
 -- valid weights are none of them wrong
@@ -131,9 +131,9 @@ job-well l e = not-false (lentWell l) e
 pub layout-valid : (l : Lent) (es : List (List ℕ)) → layoutLength l es .there ≡ false → turnsCause l es .there ≡ false
     → outsideCause l es .there ≡ false → ValidLayout (jobOf l) (layoutOf es)
 unfolding jobOf
-layout-valid l es size turns outside = buffer-valid (jobOf l) es (eqb-true (length es) (l .count) (not-false _ size)) turns outside
+layout-valid l es size turns outside = buffer-valid (jobOf l) es (eqb-true (length es) (l .size .count) (not-false _ size)) turns outside
 
 -- the weight buffer holds valid weights, where none of its causes is there
 pub lent-weights-valid : (l : Lent) (ws : List ℕ) → weightsLength l ws .there ≡ false → someWeightWrong ws ≡ false → ValidWeights (jobOf l) ws
 unfolding jobOf
-lent-weights-valid l ws size e = weights-valid (jobOf l) ws (eqb-true (length ws) (length (pairs (l .count))) (not-false _ size)) e
+lent-weights-valid l ws size e = weights-valid (jobOf l) ws (eqb-true (length ws) (length (pairs (l .size .count))) (not-false _ size)) e

@@ -52,18 +52,18 @@ module _ (j : Job) (v : Layout) where
   rightmost-attained (suc n) l = rightmost-next n
 
 -- a right end of a valid layout lies in the sheet
-end-within : (j : Job) (v : Layout) → ValidLayout j v → (i : ℕ) → i < j .count → rightEnd j v i ≤ j .columns
+end-within : (j : Job) (v : Layout) → ValidLayout j v → (i : ℕ) → i < j .size .count → rightEnd j v i ≤ j .size .columns
 unfolding inside
-end-within j v h i l = leb-true (rightEnd j v i) (j .columns) (and-left _ _ (h .insideSheet i l))
+end-within j v h i l = leb-true (rightEnd j v i) (j .size .columns) (and-left _ _ (h .insideSheet i l))
 
 -- the used length of a valid layout of a job with a piece
-used-claims : (j : Job) (v : Layout) → 0 < j .count → ValidLayout j v → UsedClaims j v (usedLength j v)
+used-claims : (j : Job) (v : Layout) → 0 < j .size .count → ValidLayout j v → UsedClaims j v (usedLength j v)
 unfolding usedLength
 used-claims j v some h =
-    let w : EndsAt j v (j .count) (rightmost j v (j .count)) = rightmost-attained j v (j .count) some in
-    let last : rightEnd j v (w .piece) ≤ j .columns = end-within j v h (w .piece) (w .below) in
-    let is : rightmost j v (j .count) ≡ rightEnd j v (w .piece) = w .is in
-    record { at-most = rightmost-at-most j v (j .count); attained = w; within = omega arith }
+    let w : EndsAt j v (j .size .count) (rightmost j v (j .size .count)) = rightmost-attained j v (j .size .count) some in
+    let last : rightEnd j v (w .piece) ≤ j .size .columns = end-within j v h (w .piece) (w .below) in
+    let is : rightmost j v (j .size .count) ≡ rightEnd j v (w .piece) = w .is in
+    record { at-most = rightmost-at-most j v (j .size .count); attained = w; within = omega arith }
 
 -- a used length that the call gives
 pub used-given : (l : Lent) (es : List (List ℕ)) (n : ℕ) → usedLengthCall l es ≡ given n → UsedClaims (jobOf l) (layoutOf es) n

@@ -41,8 +41,8 @@ use Rattle.call_laws.proofs.Layouts.{job-well, layout-valid, lent-weigh
 pub record PairGiven (l : Lent) (es : List (List ℕ)) (i k : ℕ) : Type 0 where
   pub well : lentWell l ≡ true
   pub valid : ValidLayout (jobOf l) (layoutOf es)
-  pub first : i < jobOf l .count
-  pub second : k < jobOf l .count
+  pub first : i < jobOf l .size .count
+  pub second : k < jobOf l .size .count
   pub distinct : i ≢ k
 
 -- where no cause of a call on a pair is there, it is such
@@ -50,16 +50,16 @@ pub pair-given : (l : Lent) (es : List (List ℕ)) (i k : ℕ) → NoCause (pair
 unfolding pairCauses jobOf
 pair-given l es i k none =
     let turns : Bool = someTurnWrong (jobOf l) es in
-    let a : Bool = not (ltb i (l .count)) in
-    let b : Bool = not (ltb k (l .count)) in
+    let a : Bool = not (ltb i (l .size .count)) in
+    let b : Bool = not (ltb k (l .size .count)) in
     let abc = or-neither (turns || a || b) (eqb i k) (none .1 .1 .0) in
     let ab = or-neither (turns || a) b (abc .0) in
     let t = or-neither turns a (ab .0) in
     record {
       well = job-well l (none .0);
       valid = layout-valid l es (none .1 .0) (t .0) (none .1 .1 .1 .0);
-      first = ltb-true i (l .count) (not-false _ (t .1));
-      second = ltb-true k (l .count) (not-false _ (ab .1));
+      first = ltb-true i (l .size .count) (not-false _ (t .1));
+      second = ltb-true k (l .size .count) (not-false _ (ab .1));
       distinct = eqb-false i k (abc .1);
     }
 
@@ -110,8 +110,8 @@ unfolding noFitCall noFitOf known
 no-fit-given d l p q o room rs e =
     let u = given-unless _ (noFitOf d (jobOf l) p q o) rs e in
     let both : (known (jobOf l) p && known (jobOf l) q) ≡ true = not-false _ (u .none .1 .0) in
-    let a : p .piece < jobOf l .count = ltb-true (p .piece) (jobOf l .count) (and-left _ _ (and-left _ _ both)) in
-    let b : q .piece < jobOf l .count = ltb-true (q .piece) (jobOf l .count) (and-left _ _ (and-right (known (jobOf l) p) _ both)) in
+    let a : p .piece < jobOf l .size .count = ltb-true (p .piece) (jobOf l .size .count) (and-left _ _ (and-left _ _ both)) in
+    let b : q .piece < jobOf l .size .count = ltb-true (q .piece) (jobOf l .size .count) (and-left _ _ (and-right (known (jobOf l) p) _ both)) in
     rw (← u .same) (lent-no-fit l (job-well l (u .none .0)) d (p .piece) (q .piece) (p .turn) (q .turn) a b o)
 
 -- ── sums ──
@@ -136,11 +136,11 @@ weighted-given l es ws n e =
 
 -- a plain sum that the call gives: weights 1
 pub plain-given : (l : Lent) (es : List (List ℕ)) (n : ℕ) → plainSumCall l es ≡ given n
-    → SumClaims (jobOf l) (unitWeights (jobOf l .count)) (layoutOf es) n
+    → SumClaims (jobOf l) (unitWeights (jobOf l .size .count)) (layoutOf es) n
 unfolding plainSumCall plainSum layoutCauses
 plain-given l es n e =
     let u = given-unless (layoutCauses l es) (plainSum (jobOf l) (layoutOf es)) n e in
-    rw (← u .same) (sum-claims l (unitWeights (jobOf l .count)) (layoutOf es) (job-well l (u .none .0)) (unit-valid (jobOf l)))
+    rw (← u .same) (sum-claims l (unitWeights (jobOf l .size .count)) (layoutOf es) (job-well l (u .none .0)) (unit-valid (jobOf l)))
 
 -- ── the order in which two pieces are named ──
 
@@ -161,7 +161,7 @@ causes-order : (l : Lent) (es : List (List ℕ)) (i k : ℕ) → pairCauses l es
 unfolding pairCauses
 causes-order l es i k =
     ap (λ (b : Bool). jobCause l ∷ layoutLength l es ∷ cause noSuchPiece b ∷ outsideCause l es ∷ [])
-    (ap₂ (λ (x y : Bool). x || y) (or-order (someTurnWrong (jobOf l) es) (not (ltb i (l .count))) (not (ltb k (l .count)))) (eqb-order i k))
+    (ap₂ (λ (x y : Bool). x || y) (or-order (someTurnWrong (jobOf l) es) (not (ltb i (l .size .count))) (not (ltb k (l .size .count)))) (eqb-order i k))
 
 -- the penalty call answers the same whichever piece is called first, refusals among its answers
 pub penalty-order : (l : Lent) (es : List (List ℕ)) (i k : ℕ) → penaltyCall l es i k ≡ penaltyCall l es k i

@@ -25,10 +25,10 @@ use Rattle.call_laws.proofs.Runs.{guided-taken}
 
 -- the program's run of a lent job is the guided run that the call gives, from the start layout by weights 1
 pub program-run-given : (l : Lent) → lentWell l ≡ true
-    → guidedCall l (entriesOf (start (jobOf l))) (unitWeights (jobOf l .count)) programRounds programBudget ≡ given (programRun (jobOf l))
+    → guidedCall l (entriesOf (start (jobOf l))) (unitWeights (jobOf l .size .count)) programRounds programBudget ≡ given (programRun (jobOf l))
 unfolding programRun
 program-run-given l well =
-    guided-taken l well (start (jobOf l)) (lent-start-valid l well) (unitWeights (jobOf l .count)) (unit-valid (jobOf l)) programRounds
+    guided-taken l well (start (jobOf l)) (lent-start-valid l well) (unitWeights (jobOf l .size .count)) (unit-valid (jobOf l)) programRounds
     programBudget refl (omega arith)
 
 -- an input that is not too long is read

@@ -23,26 +23,26 @@ use Rattle.call_laws.specs.Reading.{jobLeft, JobLeft, FrontRead}
 
 -- the job with more entries and bytes behind its own
 abbrev pub longer : Lent → List (List ℕ) → List ℕ → Lent
-longer k more bytes = record { rows = k .rows; columns = k .columns; count = k .count; table = k .table ++ more; pixels = k .pixels ++ bytes }
+longer k more bytes = record { size = k .size; table = k .table ++ more; pixels = k .pixels ++ bytes }
 
 module _ (k : Lent) (passes : lentWell k ≡ true) (more : List (List ℕ)) (bytes : List ℕ) where
   -- its entries are the job's
-  same-entry : (i : ℕ) → i < k .count → getD (k .table ++ more) i [] ≡ getD (k .table) i []
+  same-entry : (i : ℕ) → i < k .size .count → getD (k .table ++ more) i [] ≡ getD (k .table) i []
   same-entry i l = List·getD-append (k .table) more [] i (let e = facts k passes .entries in omega arith)
 
   -- its pieces' pixels begin where the job's do
-  same-start : (i : ℕ) → i ≤ k .count → pixelStart (k .table ++ more) i ≡ pixelStart (k .table) i
+  same-start : (i : ℕ) → i ≤ k .size .count → pixelStart (k .table ++ more) i ≡ pixelStart (k .table) i
   unfolding pixelStart
   same-start zero l = refl
   same-start (suc i) l =
       ap₂ (λ (a b : ℕ). a + b) (same-start i (omega arith)) (ap (λ (e : List ℕ). getD e 0 0 * getD e 1 0) (same-entry i (omega arith)))
 
   -- its bytes are the job's
-  same-byte : (i : ℕ) → i < pixelStart (k .table) (k .count) → getD (k .pixels ++ bytes) i 0 ≡ getD (k .pixels) i 0
+  same-byte : (i : ℕ) → i < pixelStart (k .table) (k .size .count) → getD (k .pixels ++ bytes) i 0 ≡ getD (k .pixels) i 0
   same-byte i l = List·getD-append (k .pixels) bytes 0 i (let e = facts k passes .store in omega arith)
 
   -- its pieces agree with the job's
-  pub longer-agree : (i : ℕ) → i < k .count → Agree (lentShape (longer k more bytes) i) (lentShape k i)
+  pub longer-agree : (i : ℕ) → i < k .size .count → Agree (lentShape (longer k more bytes) i) (lentShape k i)
   unfolding entryInRange pixelStart
   longer-agree i l =
       let some = sides-some (entryColumns (k .table) i) (entryRows (k .table) i) (entryTurns (k .table) i) (facts k passes .ranges i l) in
@@ -59,7 +59,7 @@ module _ (k : Lent) (passes : lentWell k ≡ true) (more : List (List ℕ)) (byt
             (ap₂ (λ (n : ℕ) (e : List ℕ). getD (k .pixels ++ bytes) (n + (y * getD e 0 0 + x)) 0) (same-start i (omega arith)) (same-entry i l)
             ∙ same-byte (s + (y * c + x))
             (let b : y * c + x < w * c = in-box hx hy in
-            let end : s + c * w ≤ pixelStart (k .table) (k .count) = start-end (k .table) i (k .count) l in
+            let end : s + c * w ≤ pixelStart (k .table) (k .size .count) = start-end (k .table) i (k .size .count) l in
             omega (arith, mul-comm c w)));
       }
 
@@ -68,7 +68,7 @@ module _ (k : Lent) (passes : lentWell k ≡ true) (more : List (List ℕ)) (byt
   unfolding entryInRange entryFits
   longer-well =
       let f : Facts k = facts k passes in
-      let total : pixelStart (k .table ++ more) (k .count) ≡ pixelStart (k .table) (k .count) = same-start (k .count) (omega arith) in
+      let total : pixelStart (k .table ++ more) (k .size .count) ≡ pixelStart (k .table) (k .size .count) = same-start (k .size .count) (omega arith) in
       well (longer k more bytes)
       (record {
         sheet = f .sheet;
@@ -77,7 +77,7 @@ module _ (k : Lent) (passes : lentWell k ≡ true) (more : List (List ℕ)) (byt
         fits = λ i l. rw (same-entry i l) (f .fits i l);
         areas = let a = f .areas in omega arith;
         store = let a = f .store in omega (arith, length-append (k .pixels) bytes);
-        bits = λ i l. (let b : i < pixelStart (k .table) (k .count) = omega arith in rw (same-byte i b) (f .bits i b));
+        bits = λ i l. (let b : i < pixelStart (k .table) (k .size .count) = omega arith in rw (same-byte i b) (f .bits i b));
         tightBoxes = λ i l. tight-agree (lentShape (longer k more bytes) i) (lentShape k i) (longer-agree i l) ∙ f .tightBoxes i l;
       })
 

@@ -94,9 +94,9 @@ module _ (l : Lent) (well : lentWell l ≡ true) (v : Layout) (valid : ValidLayo
       unless-given _ (descend (jobOf l) ws budget (layoutOf (entriesOf v))) (
         ap not well,
         (
-          ap not (eq-eqb (length (entriesOf v)) (l .count) (p .size)),
+          ap not (eq-eqb (length (entriesOf v)) (l .size .count) (p .size)),
           (
-            ap not (eq-eqb (length ws) (length (pairs (l .count))) (weights .onePerPair)),
+            ap not (eq-eqb (length ws) (length (pairs (l .size .count))) (weights .onePerPair)),
             (or-none (weights-pass ws (weights .inRange)) (not-less few), (p .turns, (p .outside, tt))),
           ),
         ),
@@ -112,9 +112,9 @@ module _ (l : Lent) (well : lentWell l ≡ true) (v : Layout) (valid : ValidLayo
       unless-given _ (guide (jobOf l) K budget ws (layoutOf (entriesOf v))) (
         ap not well,
         (
-          ap not (eq-eqb (length (entriesOf v)) (l .count) (p .size)),
+          ap not (eq-eqb (length (entriesOf v)) (l .size .count) (p .size)),
           (
-            ap not (eq-eqb (length ws) (length (pairs (l .count))) (weights .onePerPair)),
+            ap not (eq-eqb (length ws) (length (pairs (l .size .count))) (weights .onePerPair)),
             (or-none (or-none (weights-pass ws (weights .inRange)) (not-less few)) (ap not counted), (p .turns, (p .outside, tt))),
           ),
         ),

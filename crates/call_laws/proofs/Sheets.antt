@@ -26,9 +26,9 @@ use Rattle.call_laws.specs.Sheets.{sheetCall, afterSheetCalls}
 use Rattle.call_laws.proofs.Layouts.{job-well}
 
 -- a sheet that some list of calls gives has one count a pixel
-counts-size : (l : Lent) (s : Sheet) → sheetWell (jobOf l) s ≡ true → eqb (length (s .counts)) (l .rows * l .columns) ≡ true
+counts-size : (l : Lent) (s : Sheet) → sheetWell (jobOf l) s ≡ true → eqb (length (s .counts)) (l .size .rows * l .size .columns) ≡ true
 unfolding jobOf
-counts-size l s h = eq-eqb (length (s .counts)) (l .rows * l .columns) (well-sound (jobOf l) s h .counts)
+counts-size l s h = eq-eqb (length (s .counts)) (l .size .rows * l .size .columns) (well-sound (jobOf l) s h .counts)
 
 -- on a lent job that passes the check and a sheet that some list of calls gives, the lay call is the lay of cover_laws
 pub lay-call : (l : Lent) (s : Sheet) (i : ℕ) (p : Placement) → lentWell l ≡ true → sheetWell (jobOf l) s ≡ true
@@ -83,7 +83,7 @@ unfolding freshCall
 fresh-given l room s e cs =
     let u = given-unless _ (fresh (jobOf l)) s e in
     let well : lentWell l ≡ true = job-well l (u .none .0) in
-    let few : jobOf l .count ≤ pieceBound = lent-few l well in
+    let few : jobOf l .size .count ≤ pieceBound = lent-few l well in
     rw (← u .same, sheet-calls l (fresh (jobOf l)) cs well (fresh-well (jobOf l) few)) (demand2-cover (jobOf l) few cs)
 
 -- the check of a lent sheet, refusal 8 of lay and withdraw, passes exactly the sheets that some list of public calls from a fresh one gives
@@ -93,7 +93,7 @@ unfolding freshCall
 sheet-reached l room f e s =
     let u = given-unless _ (fresh (jobOf l)) f e in
     let well : lentWell l ≡ true = job-well l (u .none .0) in
-    let few : jobOf l .count ≤ pieceBound = lent-few l well in
+    let few : jobOf l .size .count ≤ pieceBound = lent-few l well in
     let same : (cs : List Call) → afterSheetCalls l (fresh (jobOf l)) cs ≡ afterCalls (jobOf l) (fresh (jobOf l)) cs =
     λ cs. sheet-calls l (fresh (jobOf l)) cs well (fresh-well (jobOf l) few) in
     rw (← u .same) (

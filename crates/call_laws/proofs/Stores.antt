@@ -81,24 +81,24 @@ module _ (d : Direction) (j : Job) (ts : List ℕ) where
 
 -- the part that the lent starts cut out of a lent store is the piece's strips
 pub stretch-strips : (d : Direction) (j : Job) (ts : List ℕ) (entries : List (List ℕ)) (lentStarts : List ℕ) (i : ℕ)
-    → storeWell d j ts entries lentStarts ≡ true → i < j .count → stretchIn entries lentStarts i ≡ map stripEntry (pieceStrips d j ts i)
+    → storeWell d j ts entries lentStarts ≡ true → i < j .size .count → stretchIn entries lentStarts i ≡ map stripEntry (pieceStrips d j ts i)
 unfolding storeWell stretchIn
 stretch-strips d j ts entries lentStarts i e l =
     let n : ℕ = length (store d j ts) in
     let begins : take n entries ≡ map stripEntry (store d j ts) = same-entries _ _ (and-left _ _ e) in
-    let counted : take (suc (j .count)) lentStarts ≡ starts d j ts =
+    let counted : take (suc (j .size .count)) lentStarts ≡ starts d j ts =
     same-numbers _ _ (and-right (sameEntries (take n entries) (map stripEntry (store d j ts))) _ e) in
-    let at : (k : ℕ) → k < suc (j .count) → getD lentStarts k 0 ≡ getD (starts d j ts) k 0 =
-    λ k b. sym (getD-take (suc (j .count)) lentStarts k 0 b) ∙ ap (λ (x : List ℕ). getD x k 0) counted in
+    let at : (k : ℕ) → k < suc (j .size .count) → getD lentStarts k 0 ≡ getD (starts d j ts) k 0 =
+    λ k b. sym (getD-take (suc (j .size .count)) lentStarts k 0 b) ∙ ap (λ (x : List ℕ). getD x k 0) counted in
     let whole : entries ≡ [] ++ (map stripEntry (store d j ts) ++ drop n entries) =
     sym (take-append-drop n entries) ∙ ap (λ (x : List (List ℕ)). x ++ drop n entries) begins in
-    let r = cut d j ts 0 0 (j .count) i [] (drop n entries) l refl in
+    let r = cut d j ts 0 0 (j .size .count) i [] (drop n entries) l refl in
     ap₂ (λ (x y : ℕ). take (y - x) (drop x entries)) (at i (omega arith)) (at (suc i) (omega arith))
     ∙ ap (λ (x : List (List ℕ)). take (getD (starts d j ts) (suc i) 0 - getD (starts d j ts) i 0) (drop (getD (starts d j ts) i 0) x)) whole
     ∙ (rw zero-add at r)
 
 -- the same, from the row store or the column store
-pub stretch-of : (d : Direction) (j : Job) (ts : List ℕ) (lent : Stores) (i : ℕ) → storesWell j ts lent ≡ true → i < j .count
+pub stretch-of : (d : Direction) (j : Job) (ts : List ℕ) (lent : Stores) (i : ℕ) → storesWell j ts lent ≡ true → i < j .size .count
     → stretchOf d lent i ≡ map stripEntry (pieceStrips d j ts i)
 unfolding storesWell
 stretch-of Horizontal j ts lent i e l = stretch-strips Horizontal j ts (lent .rowStrips) (lent .rowStarts) i (and-left _ _ e) l
@@ -114,7 +114,7 @@ pub stretch-some : (l : Lent) (ts : List ℕ) (lent : Stores) (i : ℕ) (d : Dir
 unfolding stretchCall jobOf pieceStrips
 stretch-some l ts lent i d part e =
     let u = given-unless _ (stretchOf d lent i) part e in
-    let there : i < l .count = ltb-true i (l .count) (not-false _ (or-neither (turnListWrong (jobOf l) ts) (not (ltb i (l .count))) (u .none .1 .0) .1)) in
+    let there : i < l .size .count = ltb-true i (l .size .count) (not-false _ (or-neither (turnListWrong (jobOf l) ts) (not (ltb i (l .size .count))) (u .none .1 .0) .1)) in
     let are : part ≡ map stripEntry (pieceStrips d (jobOf l) ts i) =
     sym (u .same) ∙ stretch-of d (jobOf l) ts lent i (not-false (storesWell (jobOf l) ts lent) (u .none .1 .1 .0)) there in
     let size = length-map (pieceStrips d (jobOf l) ts i) stripEntry in
@@ -152,8 +152,8 @@ store-filled d j ts entries lentStarts =
     let es : List (List ℕ) = map stripEntry (store d j ts) in
     let front-entries : take (length (store d j ts)) (filled es entries) ≡ es =
     subst (λ (n : ℕ). take n (filled es entries) ≡ es) (length-map (store d j ts) stripEntry) (take-append-seam es (drop (length es) entries)) in
-    let front-starts : take (suc (j .count)) (filled (starts d j ts) lentStarts) ≡ starts d j ts =
-    subst (λ (n : ℕ). take n (filled (starts d j ts) lentStarts) ≡ starts d j ts) (starts-length d j ts 0 0 (j .count))
+    let front-starts : take (suc (j .size .count)) (filled (starts d j ts) lentStarts) ≡ starts d j ts =
+    subst (λ (n : ℕ). take n (filled (starts d j ts) lentStarts) ≡ starts d j ts) (starts-length d j ts 0 0 (j .size .count))
     (take-append-seam (starts d j ts) (drop (length (starts d j ts)) lentStarts)) in
     and-both (same-entries-exactly _ _ .1 front-entries) (same-numbers-exactly _ _ .1 front-starts)
 
@@ -169,14 +169,14 @@ strips-given l ts lent s e =
     (store-filled Vertical j ts (lent .columnStrips) (lent .columnStarts)))
 
 -- so each piece's stretch is handed out of it
-pub stretch-after : (l : Lent) (ts : List ℕ) (lent s : Stores) → stripsCall l ts lent ≡ given s → (i : ℕ) (d : Direction) → i < l .count
+pub stretch-after : (l : Lent) (ts : List ℕ) (lent s : Stores) → stripsCall l ts lent ≡ given s → (i : ℕ) (d : Direction) → i < l .size .count
     → stretchCall l ts (storesAfter lent (stripsCall l ts lent)) i d ≡ given (map stripEntry (pieceStrips d (jobOf l) ts i))
 unfolding stripsCall stretchCall jobOf
 stretch-after l ts lent s e i d b =
     let n = given-unless _ (storesOf (jobOf l) ts) s e .none in
     let after : Stores = storesAfter lent (stripsCall l ts lent) in
     let well : storesWell (jobOf l) ts after ≡ true = strips-given l ts lent s e in
-    unless-given _ (stretchOf d after i) (n .0, (or-none (n .1 .0) (ap not (lt-ltb i (l .count) b)), (ap not well, tt)))
+    unless-given _ (stretchOf d after i) (n .0, (or-none (n .1 .0) (ap not (lt-ltb i (l .size .count) b)), (ap not well, tt)))
     ∙ ap given (stretch-of d (jobOf l) ts after i well b)
 
 -- a stretch that is given is taken for the piece in its turn by the no-fit calls

@@ -43,7 +43,7 @@ layout-given l text room v e =
 
 -- what the writing of a layout gives is read back as the layout
 pub written-read-back : (l : Lent) (es : List (List ℕ)) (room : ℕ) (text : List ℕ) → writeLayoutCall l es room ≡ given text
-    → readLayoutCall l text (l .count) ≡ given (layoutOf es)
+    → readLayoutCall l text (l .size .count) ≡ given (layoutOf es)
 unfolding writeLayoutCall readLayoutCall layoutCauses jobOf unless
 written-read-back l es room text e =
     let u =
@@ -51,7 +51,7 @@ written-read-back l es room text e =
     let well : lentWell l ≡ true = job-well l (u .none .0) in
     let v : ValidLayout (jobOf l) (layoutOf es) = layout-valid l es (u .none .1 .0) (u .none .1 .1 .0) (u .none .1 .1 .1 .0) in
     let s : Facts l = facts l well in
-    let r : readLayout (jobOf l) (layoutText (jobOf l) (layoutOf es)) (l .count) ≡ given (layoutOf es) =
+    let r : readLayout (jobOf l) (layoutText (jobOf l) (layoutOf es)) (l .size .count) ≡ given (layoutOf es) =
     layout-read-back (jobOf l) (layoutOf es) (s .fewRows) (s .fewColumns) (s .fewPieces) (v .onePerPiece)
     (λ i b. record { turn = v .turnAllowed i b; within = v .insideSheet i b }) in
     rw (← u .same, well) r

@@ -15,9 +15,9 @@ PairBefore p q = (p .first < q .first) ⊎ ((p .first ≡ q .first) × (p .secon
 
 -- the pair that the check names: of two pieces that share a pixel, and every other such pair stands after it
 pub record LowestPair (j : Job) (v : Layout) (p : Pair) : Type 0 where
-  pub ordered : Ordered 0 (j .count) p
+  pub ordered : Ordered 0 (j .size .count) p
   pub shared : SharedPixel (shapeIn j v (p .first)) (cornerIn v (p .first)) (shapeIn j v (p .second)) (cornerIn v (p .second))
-  pub lowest : (i k : ℕ) → i < k → k < j .count → SharedPixel (shapeIn j v i) (cornerIn v i) (shapeIn j v k) (cornerIn v k)
+  pub lowest : (i k : ℕ) → i < k → k < j .size .count → SharedPixel (shapeIn j v i) (cornerIn v i) (shapeIn j v k) (cornerIn v k)
       → (p ≡ record { first = i; second = k }) ⊎ PairBefore p (record { first = i; second = k })
 
 -- a layout that passes the check

@@ -71,7 +71,7 @@ pub record CallClauses : Type 0 where
   pub stretch : (l : Lent) (ts : List ℕ) (lent : Stores) (i : ℕ) (d : Direction)
       → CallClaims
       (cause notOurs (not (lentWell l))
-      ∷ cause noSuchPiece (turnListWrong (jobOf l) ts || not (ltb i (l .count)))
+      ∷ cause noSuchPiece (turnListWrong (jobOf l) ts || not (ltb i (l .size .count)))
       ∷ cause notOurs (not (storesWell (jobOf l) ts lent)) ∷ [])
       (stretchOf d lent i) (stretchCall l ts lent i d)
   -- what is handed out: the stretch, and on a refusal none of it
@@ -110,32 +110,32 @@ pub record CallClauses : Type 0 where
   pub shared-pixel-test : (l : Lent) (es : List (List ℕ)) (i k : ℕ)
       → CallClaims
       (cause notOurs (not (lentWell l))
-      ∷ cause wrongLength (not (eqb (length es) (l .count)))
-      ∷ cause noSuchPiece (someTurnWrong (jobOf l) es || not (ltb i (l .count)) || not (ltb k (l .count)) || eqb i k)
+      ∷ cause wrongLength (not (eqb (length es) (l .size .count)))
+      ∷ cause noSuchPiece (someTurnWrong (jobOf l) es || not (ltb i (l .size .count)) || not (ltb k (l .size .count)) || eqb i k)
       ∷ cause outsideSheet (someOutside (jobOf l) (layoutOf es)) ∷ [])
       (pairShares (jobOf l) (layoutOf es) (pairOf i k)) (shareCall l es i k)
   -- depth along a direction: 8, 7, 9, 10
   pub depth : (d : Direction) (l : Lent) (es : List (List ℕ)) (i k : ℕ)
       → CallClaims
       (cause notOurs (not (lentWell l))
-      ∷ cause wrongLength (not (eqb (length es) (l .count)))
-      ∷ cause noSuchPiece (someTurnWrong (jobOf l) es || not (ltb i (l .count)) || not (ltb k (l .count)) || eqb i k)
+      ∷ cause wrongLength (not (eqb (length es) (l .size .count)))
+      ∷ cause noSuchPiece (someTurnWrong (jobOf l) es || not (ltb i (l .size .count)) || not (ltb k (l .size .count)) || eqb i k)
       ∷ cause outsideSheet (someOutside (jobOf l) (layoutOf es)) ∷ [])
       (pairDepth d (jobOf l) (layoutOf es) (pairOf i k)) (depthCall d l es i k)
   -- penalty: 8, 7, 9, 10
   pub penalty : (l : Lent) (es : List (List ℕ)) (i k : ℕ)
       → CallClaims
       (cause notOurs (not (lentWell l))
-      ∷ cause wrongLength (not (eqb (length es) (l .count)))
-      ∷ cause noSuchPiece (someTurnWrong (jobOf l) es || not (ltb i (l .count)) || not (ltb k (l .count)) || eqb i k)
+      ∷ cause wrongLength (not (eqb (length es) (l .size .count)))
+      ∷ cause noSuchPiece (someTurnWrong (jobOf l) es || not (ltb i (l .size .count)) || not (ltb k (l .size .count)) || eqb i k)
       ∷ cause outsideSheet (someOutside (jobOf l) (layoutOf es)) ∷ [])
       (pairPenalty (jobOf l) (layoutOf es) (pairOf i k)) (penaltyCall l es i k)
   -- weighted sum: 8, 7 the layout, 7 the weights, 2, 9, 10
   pub weighted-sum : (l : Lent) (es : List (List ℕ)) (ws : List ℕ)
       → CallClaims
       (cause notOurs (not (lentWell l))
-      ∷ cause wrongLength (not (eqb (length es) (l .count)))
-      ∷ cause wrongLength (not (eqb (length ws) (length (pairs (l .count)))))
+      ∷ cause wrongLength (not (eqb (length es) (l .size .count)))
+      ∷ cause wrongLength (not (eqb (length ws) (length (pairs (l .size .count)))))
       ∷ cause outOfRange (someWeightWrong ws)
       ∷ cause noSuchPiece (someTurnWrong (jobOf l) es)
       ∷ cause outsideSheet (someOutside (jobOf l) (layoutOf es)) ∷ [])
@@ -144,7 +144,7 @@ pub record CallClauses : Type 0 where
   pub plain-sum : (l : Lent) (es : List (List ℕ))
       → CallClaims
       (cause notOurs (not (lentWell l))
-      ∷ cause wrongLength (not (eqb (length es) (l .count)))
+      ∷ cause wrongLength (not (eqb (length es) (l .size .count)))
       ∷ cause noSuchPiece (someTurnWrong (jobOf l) es)
       ∷ cause outsideSheet (someOutside (jobOf l) (layoutOf es)) ∷ [])
       (plainSum (jobOf l) (layoutOf es)) (plainSumCall l es)
@@ -152,7 +152,7 @@ pub record CallClauses : Type 0 where
   pub used-length : (l : Lent) (es : List (List ℕ))
       → CallClaims
       (cause notOurs (not (lentWell l))
-      ∷ cause wrongLength (not (eqb (length es) (l .count)))
+      ∷ cause wrongLength (not (eqb (length es) (l .size .count)))
       ∷ cause noSuchPiece (someTurnWrong (jobOf l) es)
       ∷ cause outsideSheet (someOutside (jobOf l) (layoutOf es)) ∷ [])
       (usedLength (jobOf l) (layoutOf es)) (usedLengthCall l es)
@@ -161,10 +161,10 @@ pub record CallClauses : Type 0 where
   pub line-search : (l : Lent) (es : List (List ℕ)) (ws : List ℕ) (i : ℕ) (t : Turn) (line : Line)
       → CallClaims
       (cause notOurs (not (lentWell l))
-      ∷ cause wrongLength (not (eqb (length es) (l .count)))
-      ∷ cause wrongLength (not (eqb (length ws) (length (pairs (l .count)))))
+      ∷ cause wrongLength (not (eqb (length es) (l .size .count)))
+      ∷ cause wrongLength (not (eqb (length ws) (length (pairs (l .size .count)))))
       ∷ cause outOfRange (someWeightWrong ws)
-      ∷ cause noSuchPiece (someTurnWrong (jobOf l) es || not (ltb i (l .count)) || not (allowed (jobOf l) i t))
+      ∷ cause noSuchPiece (someTurnWrong (jobOf l) es || not (ltb i (l .size .count)) || not (allowed (jobOf l) i t))
       ∷ cause outsideSheet (someOutside (jobOf l) (layoutOf es))
       ∷ cause emptyLine (eqb (places (jobOf l) i t line) 0) ∷ [])
       (bestPlace (searchLine (jobOf l) ws (layoutOf es) i t line)) (searchCall l es ws i t line)
@@ -172,8 +172,8 @@ pub record CallClauses : Type 0 where
   pub descent : (l : Lent) (es : List (List ℕ)) (ws : List ℕ) (budget : ℕ)
       → CallClaims
       (cause notOurs (not (lentWell l))
-      ∷ cause wrongLength (not (eqb (length es) (l .count)))
-      ∷ cause wrongLength (not (eqb (length ws) (length (pairs (l .count)))))
+      ∷ cause wrongLength (not (eqb (length es) (l .size .count)))
+      ∷ cause wrongLength (not (eqb (length ws) (length (pairs (l .size .count)))))
       ∷ cause outOfRange (someWeightWrong ws || ltb budgetBound budget)
       ∷ cause noSuchPiece (someTurnWrong (jobOf l) es)
       ∷ cause outsideSheet (someOutside (jobOf l) (layoutOf es)) ∷ [])
@@ -185,8 +185,8 @@ pub record CallClauses : Type 0 where
   pub guided-run : (l : Lent) (es : List (List ℕ)) (ws : List ℕ) (count budget : ℕ)
       → CallClaims
       (cause notOurs (not (lentWell l))
-      ∷ cause wrongLength (not (eqb (length es) (l .count)))
-      ∷ cause wrongLength (not (eqb (length ws) (length (pairs (l .count)))))
+      ∷ cause wrongLength (not (eqb (length es) (l .size .count)))
+      ∷ cause wrongLength (not (eqb (length ws) (length (pairs (l .size .count)))))
       ∷ cause outOfRange (someWeightWrong ws || ltb budgetBound budget || not (upTo roundBound count))
       ∷ cause noSuchPiece (someTurnWrong (jobOf l) es)
       ∷ cause outsideSheet (someOutside (jobOf l) (layoutOf es)) ∷ [])
@@ -200,7 +200,7 @@ pub record CallClauses : Type 0 where
   -- ── start, layout text, check ──
   -- start layout: 8, 7
   pub start-layout : (l : Lent) (room : ℕ)
-      → CallClaims (cause notOurs (not (lentWell l)) ∷ cause wrongLength (not (eqb room (l .count))) ∷ [])
+      → CallClaims (cause notOurs (not (lentWell l)) ∷ cause wrongLength (not (eqb room (l .size .count))) ∷ [])
       (start (jobOf l)) (startCall l room)
   -- the layout buffer: the start layout
   pub start-layout-buffer : (l : Lent) (before : List (List ℕ))
@@ -209,7 +209,7 @@ pub record CallClauses : Type 0 where
   pub write-layout : (l : Lent) (es : List (List ℕ)) (room : ℕ)
       → CallClaims
       (cause notOurs (not (lentWell l))
-      ∷ cause wrongLength (not (eqb (length es) (l .count)))
+      ∷ cause wrongLength (not (eqb (length es) (l .size .count)))
       ∷ cause noSuchPiece (someTurnWrong (jobOf l) es)
       ∷ cause outsideSheet (someOutside (jobOf l) (layoutOf es))
       ∷ cause wrongLength (ltb room (length (layoutText (jobOf l) (layoutOf es)))) ∷ [])
@@ -231,7 +231,7 @@ pub record CallClauses : Type 0 where
   pub check : (l : Lent) (es : List (List ℕ))
       → CallClaims
       (cause notOurs (not (lentWell l))
-      ∷ cause wrongLength (not (eqb (length es) (l .count)))
+      ∷ cause wrongLength (not (eqb (length es) (l .size .count)))
       ∷ cause noSuchPiece (someTurnWrong (jobOf l) es)
       ∷ cause outsideSheet (someOutside (jobOf l) (layoutOf es))
       ∷ sharedCause (sharingPair (jobOf l) (layoutOf es)) ∷ [])
@@ -239,7 +239,7 @@ pub record CallClauses : Type 0 where
   -- ── the sheet ──
   -- fresh sheet: 8, 7
   pub fresh-sheet : (l : Lent) (room : ℕ)
-      → CallClaims (cause notOurs (not (lentWell l)) ∷ cause wrongLength (not (eqb room (l .rows * l .columns))) ∷ [])
+      → CallClaims (cause notOurs (not (lentWell l)) ∷ cause wrongLength (not (eqb room (l .size .rows * l .size .columns))) ∷ [])
       (fresh (jobOf l)) (freshCall l room)
   -- the count buffer: the fresh sheet's counts
   pub fresh-sheet-counts : (l : Lent) (before : List ℕ)
@@ -248,9 +248,9 @@ pub record CallClauses : Type 0 where
   pub lays : (l : Lent) (s : Sheet) (i : ℕ) (p : Placement)
       → CallClaims
       (cause notOurs (not (lentWell l))
-      ∷ cause wrongLength (not (eqb (length (s .counts)) (l .rows * l .columns)))
+      ∷ cause wrongLength (not (eqb (length (s .counts)) (l .size .rows * l .size .columns)))
       ∷ cause notOurs (not (sheetWell (jobOf l) s))
-      ∷ cause noSuchPiece (not (ltb i (jobOf l .count) && allowed (jobOf l) i (p .turn)))
+      ∷ cause noSuchPiece (not (ltb i (jobOf l .size .count) && allowed (jobOf l) i (p .turn)))
       ∷ cause laidAlready (entryIn (s .pieces) i .laid)
       ∷ cause outsideSheet (not (inside (jobOf l) i p)) ∷ [])
       (lay (jobOf l) s i p) (layCall l s i p)
@@ -263,9 +263,9 @@ pub record CallClauses : Type 0 where
   pub withdraws : (l : Lent) (s : Sheet) (i : ℕ)
       → CallClaims
       (cause notOurs (not (lentWell l))
-      ∷ cause wrongLength (not (eqb (length (s .counts)) (l .rows * l .columns)))
+      ∷ cause wrongLength (not (eqb (length (s .counts)) (l .size .rows * l .size .columns)))
       ∷ cause notOurs (not (sheetWell (jobOf l) s))
-      ∷ cause noSuchPiece (not (ltb i (jobOf l .count)))
+      ∷ cause noSuchPiece (not (ltb i (jobOf l .size .count)))
       ∷ cause notLaid (not (entryIn (s .pieces) i .laid)) ∷ [])
       (withdraw (jobOf l) s i) (withdrawCall l s i)
   -- record and counts together, and the count buffer

@@ -16,8 +16,8 @@ use Rattle.descent_laws.specs.Claims.{GuidedClaims}
 -- what the program prints for an input of at most 65,536 bytes that is read as the job l
 pub record Prints (input : List ℕ) (l : Lent) : Type 0 where
   -- the calls give the run, and its text is printed
-  pub run : guidedCall l (entriesOf (start (jobOf l))) (unitWeights (jobOf l .count)) programRounds programBudget ≡ given (programRun (jobOf l))
+  pub run : guidedCall l (entriesOf (start (jobOf l))) (unitWeights (jobOf l .size .count)) programRounds programBudget ≡ given (programRun (jobOf l))
   pub text : programText input ≡ runText (jobOf l) (programRun (jobOf l))
   -- demand 3's claims hold of the run
-  pub claims : GuidedClaims (jobOf l) (unitWeights (jobOf l .count)) programRounds programBudget (start (jobOf l))
-      (rounds (jobOf l) programRounds programBudget (unitWeights (jobOf l .count)) (start (jobOf l))) (programRun (jobOf l))
+  pub claims : GuidedClaims (jobOf l) (unitWeights (jobOf l .size .count)) programRounds programBudget (start (jobOf l))
+      (rounds (jobOf l) programRounds programBudget (unitWeights (jobOf l .size .count)) (start (jobOf l))) (programRun (jobOf l))

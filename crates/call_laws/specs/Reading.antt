@@ -13,9 +13,7 @@ use Rattle.text_laws.specs.Texts.{Agree}
 abbrev pub jobLeft : List ℕ → List (List ℕ) → List ℕ → Lent → Lent
 jobLeft text table pixels k =
     record {
-      rows = k .rows;
-      columns = k .columns;
-      count = k .count;
+      size = k .size;
       table = tableAfter table (readJob text (length table) (length pixels));
       pixels = storeAfter pixels (readJob text (length table) (length pixels));
     }
@@ -25,10 +23,10 @@ pub record JobLeft (k left : Lent) : Type 0 where
   -- it passes the check that every call makes of a lent job
   pub passes : lentWell left ≡ true
   -- its pieces have the boxes, the pixels and the turns that were read
-  pub pieces : (i : ℕ) → i < k .count → Agree (lentShape left i) (lentShape k i)
-  pub turns : (i : ℕ) → i < k .count → entryTurns (left .table) i ≡ entryTurns (k .table) i
+  pub pieces : (i : ℕ) → i < k .size .count → Agree (lentShape left i) (lentShape k i)
+  pub turns : (i : ℕ) → i < k .size .count → entryTurns (left .table) i ≡ entryTurns (k .table) i
 
 -- the front of the lent buffers is the job that was read, entry by entry and byte by byte
 pub record FrontRead (text : List ℕ) (table : List (List ℕ)) (pixels : List ℕ) (k : Lent) : Type 0 where
-  pub entries : take (k .count) (tableAfter table (readJob text (length table) (length pixels))) ≡ k .table
-  pub bytes : take (pixelStart (k .table) (k .count)) (storeAfter pixels (readJob text (length table) (length pixels))) ≡ k .pixels
+  pub entries : take (k .size .count) (tableAfter table (readJob text (length table) (length pixels))) ≡ k .table
+  pub bytes : take (pixelStart (k .table) (k .size .count)) (storeAfter pixels (readJob text (length table) (length pixels))) ≡ k .pixels

@@ -12,6 +12,6 @@ use Rattle.model.specs.declared.Direction.{Direction}
 -- a stretch that the call gives: the strips of a piece of the lent job in its turn, at least one
 pub record StretchClaims (l : Lent) (ts : List ℕ) (i : ℕ) (d : Direction) (part : List (List ℕ)) : Type 0 where
   pub well : lentWell l ≡ true
-  pub there : i < jobOf l .count
+  pub there : i < jobOf l .size .count
   pub strips-are : part ≡ map stripEntry (pieceStrips d (jobOf l) ts i)
   pub some : 0 < length part

@@ -38,14 +38,14 @@ getD-mapFrom f k (c ∷ cs) (suc m) l = getD-mapFrom f (suc k) cs m (le-of-suc-l
 
 -- the lay of piece i is in order: a piece of the job, an allowed turn, not laid yet, inside
 pub record LayTaken (j : Job) (s : Sheet) (i : ℕ) (p : Placement) : Type 0 where
-  pub piece : i < j .count
+  pub piece : i < j .size .count
   pub turn : allowed j i (p .turn) ≡ true
   pub free : entryIn (s .pieces) i .laid ≡ false
   pub within : inside j i p ≡ true
 
 -- the withdraw of piece i is in order: a piece of the job that is laid
 pub record WithdrawTaken (j : Job) (s : Sheet) (i : ℕ) : Type 0 where
-  pub piece : i < j .count
+  pub piece : i < j .size .count
   pub laid : entryIn (s .pieces) i .laid ≡ true
 
 -- a lay that is given is in order and gives the sheet with the piece laid
@@ -53,10 +53,10 @@ pub lay-given : (j : Job) (s s′ : Sheet) (i : ℕ) (p : Placement) → called 
 unfolding called layCauses
 lay-given j s s′ i p e =
     let known = given-unless (layCauses j s i p) (lay j s i p) s′ e in
-    let named = not-false (ltb i (j .count) && allowed j i (p .turn)) (known .none .0) in (
+    let named = not-false (ltb i (j .size .count) && allowed j i (p .turn)) (known .none .0) in (
       record {
-        piece = ltb-true i (j .count) (and-left (ltb i (j .count)) (allowed j i (p .turn)) named);
-        turn = and-right (ltb i (j .count)) (allowed j i (p .turn)) named;
+        piece = ltb-true i (j .size .count) (and-left (ltb i (j .size .count)) (allowed j i (p .turn)) named);
+        turn = and-right (ltb i (j .size .count)) (allowed j i (p .turn)) named;
         free = known .none .1 .0;
         within = not-false (inside j i p) (known .none .1 .1 .0);
       },
@@ -68,7 +68,7 @@ pub lay-taken : (j : Job) (s : Sheet) (i : ℕ) (p : Placement) → LayTaken j s
 unfolding called layCauses
 lay-taken j s i p t =
     unless-given (layCauses j s i p) (lay j s i p)
-    (ap not (and-both (lt-ltb i (j .count) (t .piece)) (t .turn)), (t .free, (ap not (t .within), tt)))
+    (ap not (and-both (lt-ltb i (j .size .count) (t .piece)) (t .turn)), (t .free, (ap not (t .within), tt)))
 
 -- a withdraw that is given is in order and gives the sheet with the piece withdrawn
 pub withdraw-given : (j : Job) (s s′ : Sheet) (i : ℕ) → called j s (withdrawing i) ≡ given s′ → WithdrawTaken j s i × (withdraw j s i ≡ s′)
@@ -76,7 +76,7 @@ unfolding called withdrawCauses
 withdraw-given j s s′ i e =
     let known = given-unless (withdrawCauses j s i) (withdraw j s i) s′ e in (
       record {
-        piece = ltb-true i (j .count) (not-false (ltb i (j .count)) (known .none .0));
+        piece = ltb-true i (j .size .count) (not-false (ltb i (j .size .count)) (known .none .0));
         laid = not-false (entryIn (s .pieces) i .laid) (known .none .1 .0);
       },
       known .same,
@@ -86,7 +86,7 @@ withdraw-given j s s′ i e =
 pub withdraw-taken : (j : Job) (s : Sheet) (i : ℕ) → WithdrawTaken j s i → called j s (withdrawing i) ≡ given (withdraw j s i)
 unfolding called withdrawCauses
 withdraw-taken j s i t =
-    unless-given (withdrawCauses j s i) (withdraw j s i) (ap not (lt-ltb i (j .count) (t .piece)), (ap not (t .laid), tt))
+    unless-given (withdrawCauses j s i) (withdraw j s i) (ap not (lt-ltb i (j .size .count) (t .piece)), (ap not (t .laid), tt))
 
 -- ── lists of calls ──
 

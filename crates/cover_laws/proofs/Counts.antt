@@ -28,53 +28,53 @@ use Rattle.cover_laws.proofs.Calls.{length-mapFrom, getD-mapFrom, LayTa
 -- the entry of a piece of the job, laid inside in an allowed turn
 pub record LaidWell (j : Job) (i : ℕ) (e : Entry) : Type 0 where
   pub laid : e .laid ≡ true
-  pub piece : i < j .count
+  pub piece : i < j .size .count
   pub turn : allowed j i (e .place .turn) ≡ true
   pub within : inside j i (e .place) ≡ true
 
 -- what every list of calls keeps
 pub record Sound (j : Job) (s : Sheet) : Type 0 where
   pub pieces : length (s .pieces) ≡ pieceBound
-  pub counts : length (s .counts) ≡ j .rows * j .columns
+  pub counts : length (s .counts) ≡ j .size .rows * j .size .columns
   pub entry : (i : ℕ) → (entryIn (s .pieces) i ≡ blank) ⊎ LaidWell j i (entryIn (s .pieces) i)
-  pub count : (k : ℕ) → k < j .rows * j .columns → getD (s .counts) k 0 ≡ laidCount j (s .pieces) k
+  pub count : (k : ℕ) → k < j .size .rows * j .size .columns → getD (s .counts) k 0 ≡ laidCount j (s .pieces) k
 
 -- ── the number of laid pieces on a pixel ──
 
 -- where no piece is laid it is 0
 pub blank-count : (j : Job) (es : List Entry) (k : ℕ) → ((i : ℕ) → entryIn es i ≡ blank) → laidCount j es k ≡ 0
 unfolding laidCount
-blank-count j es k h = sum-zero (j .count) (λ i. one-if (laidOn j es k i)) (λ i l. rw (h i))
+blank-count j es k h = sum-zero (j .size .count) (λ i. one-if (laidOn j es k i)) (λ i l. rw (h i))
 
 -- two records with the same entries have the same number
-pub same-count : (j : Job) (es fs : List Entry) (k : ℕ) → ((i : ℕ) → i < j .count → entryIn es i ≡ entryIn fs i)
+pub same-count : (j : Job) (es fs : List Entry) (k : ℕ) → ((i : ℕ) → i < j .size .count → entryIn es i ≡ entryIn fs i)
     → laidCount j es k ≡ laidCount j fs k
 unfolding laidCount
 same-count j es fs k h =
-    sum-agree (j .count) (λ i. one-if (laidOn j es k i)) (λ i. one-if (laidOn j fs k i)) (λ i l. rw (h i l))
+    sum-agree (j .size .count) (λ i. one-if (laidOn j es k i)) (λ i. one-if (laidOn j fs k i)) (λ i l. rw (h i l))
 
 -- it grows by one where the piece that is laid covers the pixel
-pub lay-count : (j : Job) (es : List Entry) (i : ℕ) (p : Placement) (k : ℕ) → i < j .count → i < length es → entryIn es i .laid ≡ false
+pub lay-count : (j : Job) (es : List Entry) (i : ℕ) (p : Placement) (k : ℕ) → i < j .size .count → i < length es → entryIn es i .laid ≡ false
     → laidCount j (set es i (laidAt p)) k ≡ laidCount j es k + one-if (coversPixel j i p k)
 unfolding laidCount
 lay-count j es i p k l l′ free =
-    sum-grown (j .count) (λ m. one-if (laidOn j es k m)) (λ m. one-if (laidOn j (set es i (laidAt p)) k m)) i
+    sum-grown (j .size .count) (λ m. one-if (laidOn j es k m)) (λ m. one-if (laidOn j (set es i (laidAt p)) k m)) i
     (one-if (coversPixel j i p k)) l (rw (getD-set-same es i (laidAt p) blank l′, free, zero-add))
     (λ m h ne. rw (getD-set-other es i m (laidAt p) blank ne))
 
 -- before a withdraw it is larger by one where the piece covered the pixel
-pub withdraw-count : (j : Job) (es : List Entry) (i k : ℕ) → i < j .count → i < length es → entryIn es i .laid ≡ true
+pub withdraw-count : (j : Job) (es : List Entry) (i k : ℕ) → i < j .size .count → i < length es → entryIn es i .laid ≡ true
     → laidCount j es k ≡ laidCount j (set es i blank) k + one-if (coversPixel j i (entryIn es i .place) k)
 unfolding laidCount
 withdraw-count j es i k l l′ laid =
-    sum-grown (j .count) (λ m. one-if (laidOn j (set es i blank) k m)) (λ m. one-if (laidOn j es k m)) i
+    sum-grown (j .size .count) (λ m. one-if (laidOn j (set es i blank) k m)) (λ m. one-if (laidOn j es k m)) i
     (one-if (coversPixel j i (entryIn es i .place) k)) l (rw (getD-set-same es i blank blank l′, laid, zero-add))
     (λ m h ne. rw (getD-set-other es i m blank blank ne))
 
 -- at most all pieces are on a pixel
-pub count-bound : (j : Job) (es : List Entry) (k : ℕ) → laidCount j es k ≤ j .count
+pub count-bound : (j : Job) (es : List Entry) (k : ℕ) → laidCount j es k ≤ j .size .count
 unfolding laidCount
-count-bound j es k = passing-bound (j .count) (laidOn j es k)
+count-bound j es k = passing-bound (j .size .count) (laidOn j es k)
 
 -- ── entries ──
 
@@ -105,9 +105,9 @@ unfolding fresh
 fresh-sound j =
     record {
       pieces = length-replicate pieceBound blank;
-      counts = length-replicate (j .rows * j .columns) 0;
+      counts = length-replicate (j .size .rows * j .size .columns) 0;
       entry = λ i. inl (fresh-entry j i);
-      count = λ k l. replicate-at (j .rows * j .columns) k 0 ∙ sym (blank-count j (fresh j .pieces) k (fresh-entry j));
+      count = λ k l. replicate-at (j .size .rows * j .size .columns) k 0 ∙ sym (blank-count j (fresh j .pieces) k (fresh-entry j));
     }
 
 module _ (j : Job) where
@@ -122,14 +122,14 @@ module _ (j : Job) where
   withdraw-others s i k ne = getD-set-other (s .pieces) i k blank blank ne
 
   -- after a lay, each count is the old one, and one more exactly where the piece covers the pixel
-  pub lay-counts : (s : Sheet) (i : ℕ) (p : Placement) (k : ℕ) → Sound j s → k < j .rows * j .columns
+  pub lay-counts : (s : Sheet) (i : ℕ) (p : Placement) (k : ℕ) → Sound j s → k < j .size .rows * j .size .columns
       → getD (lay j s i p .counts) k 0 ≡ getD (s .counts) k 0 + one-if (coversPixel j i p k)
   unfolding lay
   lay-counts s i p k sound l =
       getD-mapFrom (λ m c. c + one-if (coversPixel j i p m)) 0 (s .counts) k (let e = sound .counts in omega arith) ∙ rw zero-add
 
   -- after a withdraw, each count is the old one, and one less exactly where the piece covered the pixel
-  pub withdraw-counts : (s : Sheet) (i k : ℕ) → Sound j s → k < j .rows * j .columns
+  pub withdraw-counts : (s : Sheet) (i k : ℕ) → Sound j s → k < j .size .rows * j .size .columns
       → getD (withdraw j s i .counts) k 0 ≡ getD (s .counts) k 0 - one-if (coversPixel j i (entryIn (s .pieces) i .place) k)
   unfolding withdraw
   withdraw-counts s i k sound l =
@@ -138,26 +138,26 @@ module _ (j : Job) where
       ∙ rw zero-add
 
   -- every count is at most the number of pieces, and so fits a byte
-  pub counts-bound : (s : Sheet) (k : ℕ) → Sound j s → k < j .rows * j .columns → getD (s .counts) k 0 ≤ j .count
+  pub counts-bound : (s : Sheet) (k : ℕ) → Sound j s → k < j .size .rows * j .size .columns → getD (s .counts) k 0 ≤ j .size .count
   counts-bound s k sound l = let count = sound .count k l in let bound = count-bound j (s .pieces) k in omega arith
 
-module _ (j : Job) (few : j .count ≤ pieceBound) where
+module _ (j : Job) (few : j .size .count ≤ pieceBound) where
   -- the record has an entry for each piece of the job
-  pub entry-there : (s : Sheet) (i : ℕ) → Sound j s → i < j .count → i < length (s .pieces)
+  pub entry-there : (s : Sheet) (i : ℕ) → Sound j s → i < j .size .count → i < length (s .pieces)
   entry-there s i sound l = let e = sound .pieces in omega arith
 
   -- after a lay that is in order the piece's entry holds the placement
-  pub lay-entry : (s : Sheet) (i : ℕ) (p : Placement) → Sound j s → i < j .count → entryIn (lay j s i p .pieces) i ≡ laidAt p
+  pub lay-entry : (s : Sheet) (i : ℕ) (p : Placement) → Sound j s → i < j .size .count → entryIn (lay j s i p .pieces) i ≡ laidAt p
   unfolding lay
   lay-entry s i p sound l = getD-set-same (s .pieces) i (laidAt p) blank (entry-there s i sound l)
 
   -- after a withdraw the piece's entry is blank
-  pub withdraw-entry : (s : Sheet) (i : ℕ) → Sound j s → i < j .count → entryIn (withdraw j s i .pieces) i ≡ blank
+  pub withdraw-entry : (s : Sheet) (i : ℕ) → Sound j s → i < j .size .count → entryIn (withdraw j s i .pieces) i ≡ blank
   unfolding withdraw
   withdraw-entry s i sound l = getD-set-same (s .pieces) i blank blank (entry-there s i sound l)
 
   -- a laid piece counts on each pixel that it covers: what a withdraw takes off is there
-  pub covered-counts : (s : Sheet) (i k : ℕ) → Sound j s → WithdrawTaken j s i → k < j .rows * j .columns
+  pub covered-counts : (s : Sheet) (i k : ℕ) → Sound j s → WithdrawTaken j s i → k < j .size .rows * j .size .columns
       → one-if (coversPixel j i (entryIn (s .pieces) i .place) k) ≤ getD (s .counts) k 0
   covered-counts s i k sound t l =
       let count = sound .count k l in

@@ -42,7 +42,7 @@ laid-entry : (j : Job) (i : ℕ) (e : Entry) → e .laid ≡ true → (e ≡ bla
 laid-entry j i e laid (inl q) = absurd (clash laid (ap (λ (x : Entry). x .laid) q))
 laid-entry j i e laid (inr w) = w
 
-module _ (j : Job) (few : j .count ≤ pieceBound) (cs : List Call) where
+module _ (j : Job) (few : j .size .count ≤ pieceBound) (cs : List Call) where
   -- the sheet after the calls
   abbrev after : Sheet
   after = afterCalls j (fresh j) cs
@@ -51,14 +51,14 @@ module _ (j : Job) (few : j .count ≤ pieceBound) (cs : List Call) where
   lying-pieces : (q : Point) → laidPieces j (after .pieces) q ≡ lyingPieces j cs q
   unfolding laidPieces lyingPieces
   lying-pieces q =
-      sum-agree (j .count) _ (λ i. one-if (liesOn j i q (lastTaken j (fresh j) i none cs)))
+      sum-agree (j .size .count) _ (λ i. one-if (liesOn j i q (lastTaken j (fresh j) i none cs)))
       (λ i l. rw (reached-entry j few i cs) (ap one-if (lies-step j i q (lastTaken j (fresh j) i none cs))))
 
   -- each pixel's count is the number of laid pieces on it
-  count-at : (x y : ℕ) → x < j .columns → y < j .rows
-      → getD (after .counts) (y * j .columns + x) 0 ≡ laidPieces j (after .pieces) (record { x = x; y = y })
+  count-at : (x y : ℕ) → x < j .size .columns → y < j .size .rows
+      → getD (after .counts) (y * j .size .columns + x) 0 ≡ laidPieces j (after .pieces) (record { x = x; y = y })
   count-at x y l l′ =
-      let k = y * j .columns + x in
+      let k = y * j .size .columns + x in
       reached-sound j few cs .count k (number-below j x y l l′) ∙ laid-pieces j (after .pieces) k
       ∙ ap (λ (q : Point). laidPieces j (after .pieces) q) (pixel-at j x y l)
 
@@ -74,7 +74,7 @@ module _ (j : Job) (few : j .count ≤ pieceBound) (cs : List Call) where
       record { place = by .place; call = by .call; entry = entry; piece = well .piece; turn = well .turn; within = well .within }
 
 -- demand 2, the cover counts: for every job of at most 64 pieces and every list of lay and withdraw calls from a fresh sheet
-pub demand2-cover : (j : Job) → j .count ≤ pieceBound → (cs : List Call) → CoverHolds j cs (afterCalls j (fresh j) cs)
+pub demand2-cover : (j : Job) → j .size .count ≤ pieceBound → (cs : List Call) → CoverHolds j cs (afterCalls j (fresh j) cs)
 demand2-cover j few cs =
     record {
       entries = reached-sound j few cs .pieces;

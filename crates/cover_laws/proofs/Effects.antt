@@ -20,18 +20,18 @@ use Rattle.cover_laws.proofs.Counts.{Sound, lay-entry, lay-others, with
 use Rattle.cover_laws.proofs.Reached.{well-sound, sound-well, lay-withdraw}
 
 -- a lay of a piece that is laid, in an allowed turn, is refused with 13
-pub laid-refused : (j : Job) (s : Sheet) (i : ℕ) (p : Placement) → i < j .count → allowed j i (p .turn) ≡ true
+pub laid-refused : (j : Job) (s : Sheet) (i : ℕ) (p : Placement) → i < j .size .count → allowed j i (p .turn) ≡ true
     → entryIn (s .pieces) i .laid ≡ true → called j s (laying i p) ≡ refused (record { number = laidAlready; first = 0; second = 0 })
 unfolding called layCauses unless
-laid-refused j s i p here turn laid = rw (lt-ltb i (j .count) here, turn, laid)
+laid-refused j s i p here turn laid = rw (lt-ltb i (j .size .count) here, turn, laid)
 
 -- a withdraw of a piece that is not laid is refused with 14
-pub unlaid-refused : (j : Job) (s : Sheet) (i : ℕ) → i < j .count → entryIn (s .pieces) i .laid ≡ false
+pub unlaid-refused : (j : Job) (s : Sheet) (i : ℕ) → i < j .size .count → entryIn (s .pieces) i .laid ≡ false
     → called j s (withdrawing i) ≡ refused (record { number = notLaid; first = 0; second = 0 })
 unfolding called withdrawCauses unless
-unlaid-refused j s i here free = rw (lt-ltb i (j .count) here, free)
+unlaid-refused j s i here free = rw (lt-ltb i (j .size .count) here, free)
 
-module _ (j : Job) (few : j .count ≤ pieceBound) where
+module _ (j : Job) (few : j .size .count ≤ pieceBound) where
   -- a lay that is in order, on a sound sheet
   lay-effect : (s : Sheet) (i : ℕ) (p : Placement) → Sound j s → LayTaken j s i p → LayGives j s i p (lay j s i p)
   lay-effect s i p sound t =
@@ -83,5 +83,5 @@ module _ (j : Job) (few : j .count ≤ pieceBound) where
   call-well s c well = sound-well j (afterwards s (called j s c)) (call-sound j few s c (well-sound j s well))
 
   -- every count of a sheet that passes the test is at most the number of pieces, and so at most 64
-  pub well-bound : (s : Sheet) (k : ℕ) → sheetWell j s ≡ true → k < j .rows * j .columns → getD (s .counts) k 0 ≤ j .count
+  pub well-bound : (s : Sheet) (k : ℕ) → sheetWell j s ≡ true → k < j .size .rows * j .size .columns → getD (s .counts) k 0 ≤ j .size .count
   well-bound s k well l = counts-bound j s k (well-sound j s well) l

@@ -109,7 +109,7 @@ last-names j s i before (c ∷ cs) h =
     names-step true false e = h
     names-step false t e = h
 
-module _ (j : Job) (few : j .count ≤ pieceBound) where
+module _ (j : Job) (few : j .size .count ≤ pieceBound) where
   -- the entry after a call is the one that the last given call leaves
   last-step : (s : Sheet) (i : ℕ) (before : Option Call) (c : Call) (o : Outcome Sheet) (b : Bool) → Sound j s → called j s c ≡ o
       → eqb (calledPiece c) i ≡ b → entryIn (s .pieces) i ≡ entryAfter before

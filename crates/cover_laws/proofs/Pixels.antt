@@ -10,29 +10,29 @@ use Rattle.model.specs.Layout.{Job}
 use Rattle.model.specs.Cover.{pixelAt}
 
 -- the pixel with number y × L + x is (x, y)
-pub pixel-at : (j : Job) (x y : ℕ) → x < j .columns → pixelAt j (y * j .columns + x) ≡ record { x = x; y = y }
+pub pixel-at : (j : Job) (x y : ℕ) → x < j .size .columns → pixelAt j (y * j .size .columns + x) ≡ record { x = x; y = y }
 pixel-at j x y l =
-    let some : 0 < j .columns = omega arith in
-    let column : (y * j .columns + x) % j .columns ≡ x = mul-add-mod-self-right y (j .columns) x ∙ mod-eq-of-lt l in
-    let row : (y * j .columns + x) / j .columns ≡ y = mul-add-div-right some y x ∙ ap (λ (q : ℕ). y + q) (div-eq-of-lt l) ∙ omega arith in
+    let some : 0 < j .size .columns = omega arith in
+    let column : (y * j .size .columns + x) % j .size .columns ≡ x = mul-add-mod-self-right y (j .size .columns) x ∙ mod-eq-of-lt l in
+    let row : (y * j .size .columns + x) / j .size .columns ≡ y = mul-add-div-right some y x ∙ ap (λ (q : ℕ). y + q) (div-eq-of-lt l) ∙ omega arith in
     λ i. record { x = column i; y = row i }
 
 -- the number of a pixel of the sheet is below W × L
-pub number-below : (j : Job) (x y : ℕ) → x < j .columns → y < j .rows → y * j .columns + x < j .rows * j .columns
-number-below j x y l l′ = omega (arith, mul-le-mul-right (j .columns) l′)
+pub number-below : (j : Job) (x y : ℕ) → x < j .size .columns → y < j .size .rows → y * j .size .columns + x < j .size .rows * j .size .columns
+number-below j x y l l′ = omega (arith, mul-le-mul-right (j .size .columns) l′)
 
 -- q is a pixel of the sheet and has the number k
 pub record OnSheet (j : Job) (k : ℕ) (q : Point) : Type 0 where
-  pub column : q .x < j .columns
-  pub row : q .y < j .rows
-  pub number : q .y * j .columns + q .x ≡ k
+  pub column : q .x < j .size .columns
+  pub row : q .y < j .size .rows
+  pub number : q .y * j .size .columns + q .x ≡ k
 
 -- a number below W × L is that of a pixel of the sheet
-pub number-pixel : (j : Job) (k : ℕ) → k < j .rows * j .columns → OnSheet j k (pixelAt j k)
+pub number-pixel : (j : Job) (k : ℕ) → k < j .size .rows * j .size .columns → OnSheet j k (pixelAt j k)
 number-pixel j k l =
-    let some : 0 < j .columns = positive (j .columns) l in
-    record { column = mod-lt k some; row = div-lt-iff-lt-mul some .1 l; number = div-add-mod' k (j .columns) }
+    let some : 0 < j .size .columns = positive (j .size .columns) l in
+    record { column = mod-lt k some; row = div-lt-iff-lt-mul some .1 l; number = div-add-mod' k (j .size .columns) }
   where
-    positive : (c : ℕ) → k < j .rows * c → 0 < c
-    positive zero h = let e = mul-zero (j .rows) in omega arith
+    positive : (c : ℕ) → k < j .size .rows * c → 0 < c
+    positive zero h = let e = mul-zero (j .size .rows) in omega arith
     positive (suc c) h = omega arith

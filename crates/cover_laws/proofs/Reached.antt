@@ -68,13 +68,13 @@ pub entry-sound : (j : Job) (es : List Entry) (i : ℕ) → entryWell j es i ≡
 unfolding entryWell
 entry-sound j es i h =
     let e = entryIn es i in
-    let here = ltb i (j .count) in
+    let here = ltb i (j .size .count) in
     let turn = allowed j i (e .place .turn) in
     let within = inside j i (e .place) in
     ⊎-elim (λ q. inl (is-blank e q))
     (λ q.
     let parts = and-four (e .laid) here turn within q in
-    inr (record { laid = parts .0; piece = ltb-true i (j .count) (parts .1); turn = parts .2; within = parts .3 }))
+    inr (record { laid = parts .0; piece = ltb-true i (j .size .count) (parts .1); turn = parts .2; within = parts .3 }))
     (or-cases (isBlank e) (e .laid && here && turn && within) h)
 
 -- an entry that is blank or laid well passes its test
@@ -82,7 +82,7 @@ pub entry-well : (j : Job) (es : List Entry) (i : ℕ) → (entryIn es i ≡ bla
 unfolding entryWell isBlank
 entry-well j es i (inl e) = rw e
 entry-well j es i (inr w) =
-    or-right (isBlank (entryIn es i)) _ (four-and (w .laid) (lt-ltb i (j .count) (w .piece)) (w .turn) (w .within))
+    or-right (isBlank (entryIn es i)) _ (four-and (w .laid) (lt-ltb i (j .size .count) (w .piece)) (w .turn) (w .within))
 
 -- a sheet that passes the test is sound
 pub well-sound : (j : Job) (s : Sheet) → sheetWell j s ≡ true → Sound j s
@@ -90,12 +90,12 @@ unfolding sheetWell
 well-sound j s h =
     let parts =
     and-four (eqb (length (s .pieces)) pieceBound) (allBelow pieceBound (entryWell j (s .pieces)))
-    (eqb (length (s .counts)) (j .rows * j .columns)) (allBelow (j .rows * j .columns) (λ k. eqb (getD (s .counts) k 0) (laidCount j (s .pieces) k))) h
+    (eqb (length (s .counts)) (j .size .rows * j .size .columns)) (allBelow (j .size .rows * j .size .columns) (λ k. eqb (getD (s .counts) k 0) (laidCount j (s .pieces) k))) h
     in
     let pieces : length (s .pieces) ≡ pieceBound = eqb-true (length (s .pieces)) pieceBound (parts .0) in
     record {
       pieces = pieces;
-      counts = eqb-true (length (s .counts)) (j .rows * j .columns) (parts .2);
+      counts = eqb-true (length (s .counts)) (j .size .rows * j .size .columns) (parts .2);
       entry = λ i.
           ⊎-elim
           (λ l. entry-sound j (s .pieces) i (all-at pieceBound (entryWell j (s .pieces)) (parts .1) i (ltb-true i pieceBound l)))
@@ -103,7 +103,7 @@ well-sound j s h =
           (decided (ltb i pieceBound));
       count = λ k l.
           eqb-true (getD (s .counts) k 0) (laidCount j (s .pieces) k)
-          (all-at (j .rows * j .columns) (λ m. eqb (getD (s .counts) m 0) (laidCount j (s .pieces) m)) (parts .3) k l);
+          (all-at (j .size .rows * j .size .columns) (λ m. eqb (getD (s .counts) m 0) (laidCount j (s .pieces) m)) (parts .3) k l);
     }
 
 -- a sound sheet passes the test
@@ -112,8 +112,8 @@ unfolding sheetWell
 sound-well j s sound =
     four-and (eq-eqb (length (s .pieces)) pieceBound (sound .pieces))
     (all-from pieceBound (entryWell j (s .pieces)) (λ i l. entry-well j (s .pieces) i (sound .entry i)))
-    (eq-eqb (length (s .counts)) (j .rows * j .columns) (sound .counts))
-    (all-from (j .rows * j .columns) (λ k. eqb (getD (s .counts) k 0) (laidCount j (s .pieces) k))
+    (eq-eqb (length (s .counts)) (j .size .rows * j .size .columns) (sound .counts))
+    (all-from (j .size .rows * j .size .columns) (λ k. eqb (getD (s .counts) k 0) (laidCount j (s .pieces) k))
     (λ k l. eq-eqb (getD (s .counts) k 0) (laidCount j (s .pieces) k) (sound .count k l)))
 
 -- ── sound sheets with the same entries ──
@@ -125,7 +125,7 @@ same-sheet j s t a b same =
     let counts : s .counts ≡ t .counts =
     ext-getD 0 (s .counts) (t .counts) (a .counts ∙ sym (b .counts))
     (λ k l.
-    let l′ : k < j .rows * j .columns = let e = a .counts in omega arith in
+    let l′ : k < j .size .rows * j .size .columns = let e = a .counts in omega arith in
     a .count k l′ ∙ same-count j (s .pieces) (t .pieces) k (λ i _. same i) ∙ sym (b .count k l′))
     in
     λ i. record { pieces = pieces i; counts = counts i }
@@ -153,7 +153,7 @@ laid-one-more es n t t′ known here others =
       above = λ k l. others k (omega arith) ∙ known .above k (omega arith);
     }
 
-module _ (j : Job) (few : j .count ≤ pieceBound) where
+module _ (j : Job) (few : j .size .count ≤ pieceBound) where
   -- the calls of one more piece
   laid-step : (es : List Entry) (n : ℕ) (t : Sheet) (b : Bool) → entryIn es n .laid ≡ b → (entryIn es n ≡ blank) ⊎ LaidWell j n (entryIn es n)
       → Sound j t → LaidBelow es n t

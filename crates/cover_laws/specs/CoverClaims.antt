@@ -17,7 +17,7 @@ use Rattle.model.specs.Lent.{pieceBound}
 -- the number of pieces that the record says are laid and that cover pixel q where they lie
 unfoldable pub laidPieces : Job → List Entry → Point → ℕ
 laidPieces j es q =
-    sumBelow (j .count)
+    sumBelow (j .size .count)
     (λ i. one-if (entryIn es i .laid && covers (turnedPiece j i (entryIn es i .place .turn)) (corner (entryIn es i .place)) q))
 
 -- piece i, whose last call that was not refused is the given one, lies on pixel q: the call is a lay there
@@ -28,7 +28,7 @@ liesOn j i q (some (withdrawing m)) = false
 
 -- the number of pieces that lie on pixel q after the calls, each by the last of its calls that was not refused
 unfoldable pub lyingPieces : Job → List Call → Point → ℕ
-lyingPieces j cs q = sumBelow (j .count) (λ i. one-if (liesOn j i q (lastTaken j (fresh j) i none cs)))
+lyingPieces j cs q = sumBelow (j .size .count) (λ i. one-if (liesOn j i q (lastTaken j (fresh j) i none cs)))
 
 -- a laid piece: its last call that was not refused is a lay of it, its entry holds that lay's placement, and it is a piece of the job,
 -- in an allowed turn and inside
@@ -36,7 +36,7 @@ pub record LaidPiece (j : Job) (cs : List Call) (s : Sheet) (i : ℕ) : Type 0 w
   pub place : Placement
   pub call : lastTaken j (fresh j) i none cs ≡ some (laying i place)
   pub entry : entryIn (s .pieces) i ≡ laidAt place
-  pub piece : i < j .count
+  pub piece : i < j .size .count
   pub turn : allowed j i (place .turn) ≡ true
   pub within : inside j i place ≡ true
 
@@ -44,15 +44,15 @@ pub record LaidPiece (j : Job) (cs : List Call) (s : Sheet) (i : ℕ) : Type 0 w
 pub record CoverHolds (j : Job) (cs : List Call) (s : Sheet) : Type 0 where
   -- one entry for each piece number and one count for each pixel
   pub entries : length (s .pieces) ≡ pieceBound
-  pub pixels : length (s .counts) ≡ j .rows * j .columns
+  pub pixels : length (s .counts) ≡ j .size .rows * j .size .columns
   -- the count of pixel (x, y), by the record
-  pub counts : (x y : ℕ) → x < j .columns → y < j .rows
-      → getD (s .counts) (y * j .columns + x) 0 ≡ laidPieces j (s .pieces) (record { x = x; y = y })
+  pub counts : (x y : ℕ) → x < j .size .columns → y < j .size .rows
+      → getD (s .counts) (y * j .size .columns + x) 0 ≡ laidPieces j (s .pieces) (record { x = x; y = y })
   -- the count of pixel (x, y), by the calls alone
-  pub counts-by-calls : (x y : ℕ) → x < j .columns → y < j .rows
-      → getD (s .counts) (y * j .columns + x) 0 ≡ lyingPieces j cs (record { x = x; y = y })
+  pub counts-by-calls : (x y : ℕ) → x < j .size .columns → y < j .size .rows
+      → getD (s .counts) (y * j .size .columns + x) 0 ≡ lyingPieces j cs (record { x = x; y = y })
   -- the count of the pixel with number k
-  pub counts-by-number : (k : ℕ) → k < j .rows * j .columns → getD (s .counts) k 0 ≡ laidCount j (s .pieces) k
+  pub counts-by-number : (k : ℕ) → k < j .size .rows * j .size .columns → getD (s .counts) k 0 ≡ laidCount j (s .pieces) k
   -- a piece is laid exactly when the last of its calls that was not refused is a lay
   pub laid : (i : ℕ) → entryIn (s .pieces) i .laid ≡ endsLaid (lastTaken j (fresh j) i none cs)
   -- a piece that is not laid has turn 0 and corner (0, 0), after a withdraw too

@@ -63,32 +63,32 @@ sum-at-most test cost (p ∷ ps) (w ∷ ws) W C h g =
 
 -- each piece's box has sides of at most 255
 pub record BoxesSmall (j : Job) : Type 0 where
-  pub columnsSmall : (i : ℕ) → i < j .count → j .piece i .shape .columns ≤ sideBound
-  pub rowsSmall : (i : ℕ) → i < j .count → j .piece i .shape .rows ≤ sideBound
+  pub columnsSmall : (i : ℕ) → i < j .size .count → j .piece i .shape .columns ≤ sideBound
+  pub rowsSmall : (i : ℕ) → i < j .size .count → j .piece i .shape .rows ≤ sideBound
 
 -- a piece of the layout has at most 255 columns
-piece-columns : (j : Job) → BoxesSmall j → (v : Layout) (i : ℕ) → i < j .count → shapeIn j v i .columns ≤ sideBound
+piece-columns : (j : Job) → BoxesSmall j → (v : Layout) (i : ℕ) → i < j .size .count → shapeIn j v i .columns ≤ sideBound
 piece-columns j small v i l = turned-extent Horizontal (placeOf v i .turn) (j .piece i .shape) sideBound (small .columnsSmall i l) (small .rowsSmall i l)
 
 -- a pair's penalty is at most 255
-pub pair-penalty-at-most : (j : Job) → BoxesSmall j → (v : Layout) (p : Pair) → List·Memᴰ p (pairs (j .count)) → pairPenalty j v p ≤ sideBound
+pub pair-penalty-at-most : (j : Job) → BoxesSmall j → (v : Layout) (p : Pair) → List·Memᴰ p (pairs (j .size .count)) → pairPenalty j v p ≤ sideBound
 unfolding pairPenalty
 pair-penalty-at-most j small v p m =
-    let o : Ordered 0 (j .count) p = mem-pair (j .count) p m in
-    let second : p .second < j .count = o .below in
-    let first : p .first < j .count = (let l = o .rising in omega arith) in
+    let o : Ordered 0 (j .size .count) p = mem-pair (j .size .count) p m in
+    let second : p .second < j .size .count = o .below in
+    let first : p .first < j .size .count = (let l = o .rising in omega arith) in
     penalty-bound _ _ _ _ Horizontal (piece-columns j small v (p .first) first) (piece-columns j small v (p .second) second)
 
 -- a weighted sum of at most 64 pieces
-pub weighted-at-most : (j : Job) (ws : List ℕ) (v : Layout) → j .count ≤ pieceBound → BoxesSmall j → ValidWeights j ws → weightedSum j ws v ≤ sumBound
+pub weighted-at-most : (j : Job) (ws : List ℕ) (v : Layout) → j .size .count ≤ pieceBound → BoxesSmall j → ValidWeights j ws → weightedSum j ws v ≤ sumBound
 unfolding weightedSum
 weighted-at-most j ws v few small weights =
     le-trans
-    (sum-at-most _ (pairPenalty j v) (pairs (j .count)) ws weightBound sideBound (λ k l. weights .inRange k l .1) (pair-penalty-at-most j small v))
-    (mul-le-mul-right (weightBound * sideBound) (pairs-at-most (j .count) few))
+    (sum-at-most _ (pairPenalty j v) (pairs (j .size .count)) ws weightBound sideBound (λ k l. weights .inRange k l .1) (pair-penalty-at-most j small v))
+    (mul-le-mul-right (weightBound * sideBound) (pairs-at-most (j .size .count) few))
 
 -- a piece's pair sum
-pub piece-sum-at-most : (j : Job) (ws : List ℕ) (v : Layout) (i : ℕ) → j .count ≤ pieceBound → BoxesSmall j → ValidWeights j ws
+pub piece-sum-at-most : (j : Job) (ws : List ℕ) (v : Layout) (i : ℕ) → j .size .count ≤ pieceBound → BoxesSmall j → ValidWeights j ws
     → pieceSum j ws v i ≤ sumBound
 piece-sum-at-most j ws v i few small weights = le-trans (piece-at-most j ws v i) (weighted-at-most j ws v few small weights)
 

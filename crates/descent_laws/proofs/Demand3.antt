@@ -9,7 +9,7 @@ use Rattle.descent_laws.proofs.Descent.{descent-claims}
 use Rattle.descent_laws.proofs.Guided.{guided-claims}
 
 -- demand 3 holds for every job with a piece, every valid layout and all valid weights
-pub demand3 : (j : Job) (ws : List ℕ) (v : Layout) → 0 < j .count → ValidWeights j ws → ValidLayout j v → Demand3 j ws v
+pub demand3 : (j : Job) (ws : List ℕ) (v : Layout) → 0 < j .size .count → ValidWeights j ws → ValidLayout j v → Demand3 j ws v
 demand3 j ws v some weights layout =
     record {
       trialsListed = trials-claims j;

@@ -42,7 +42,7 @@ set-keeps P v i p l h k g (yes e) = rw (e, getD-set-same v i p origin l) h
 set-keeps P v i p l h k g (no n) = rw (getD-set-other v i k p origin n) g
 
 -- a piece placed anew, inside and in a turn allowed to it
-pub valid-set : (j : Job) (v : Layout) (i : ℕ) (p : Placement) → ValidLayout j v → i < j .count → inside j i p ≡ true
+pub valid-set : (j : Job) (v : Layout) (i : ℕ) (p : Placement) → ValidLayout j v → i < j .size .count → inside j i p ≡ true
     → allowed j i (p .turn) ≡ true → ValidLayout j (set v i p)
 valid-set j v i p h l s a =
     let there : i < length v = (let e = h .onePerPiece in omega arith) in
@@ -102,7 +102,7 @@ turn-on (InColumn c) t a = refl
 
 module _ (j : Job) (ws : List ℕ) (v : Layout) (i : ℕ) (t : Turn) (line : Line) where
   -- a step keeps the layout valid, where the turn is allowed
-  step-valid : (w : Layout) → Step j ws v i t line w → ValidLayout j v → i < j .count → allowed j i t ≡ true → ValidLayout j w
+  step-valid : (w : Layout) → Step j ws v i t line w → ValidLayout j v → i < j .size .count → allowed j i t ≡ true → ValidLayout j w
   step-valid w s h l a = rw (s .result) (valid-set j v i (onLine line t (s .at)) h l (s .insideSheet) (rw (turn-on line t (s .at)) a))
 
   -- a step lowers the weighted sum
@@ -113,7 +113,7 @@ module _ (j : Job) (ws : List ℕ) (v : Layout) (i : ℕ) (t : Turn) (line : Lin
       rw (s .result) (omega arith)
 
 -- a move keeps the layout valid and lowers the weighted sum
-pub attempt-moved : (j : Job) (ws : List ℕ) (v w : Layout) (k : Trial) → Proper j 0 (j .count) k → ValidLayout j v
+pub attempt-moved : (j : Job) (ws : List ℕ) (v w : Layout) (k : Trial) → Proper j 0 (j .size .count) k → ValidLayout j v
     → attempt j ws v k ≡ moved w → ValidLayout j w × (weightedSum j ws w < weightedSum j ws v)
 unfolding attempt
 attempt-moved j ws v w k p h e = (step-valid j ws v i t line w s h (p .below) (p .turnAllowed), step-lower j ws v i t line w s)
@@ -160,7 +160,7 @@ rival-set j v w h r =
     (r .onePerPiece ∙ sym (length-set v (r .piece) (placeOf w (r .piece)) ∙ h .onePerPiece))
     (λ k l. same k (let e = r .onePerPiece in omega arith) (ℕ-discrete k (r .piece)))
   where
-    same : (k : ℕ) → k < j .count → Dec (k ≡ r .piece) → placeOf w k ≡ placeOf (set v (r .piece) (placeOf w (r .piece))) k
+    same : (k : ℕ) → k < j .size .count → Dec (k ≡ r .piece) → placeOf w k ≡ placeOf (set v (r .piece) (placeOf w (r .piece))) k
     same k l (yes e) =
         let there : r .piece < length v = (let n = h .onePerPiece in let b = r .there in omega arith) in
         rw (e, getD-set-same v (r .piece) (placeOf w (r .piece)) origin there)
@@ -192,13 +192,13 @@ quiet-rival j ws v w h q r = rw (rival-set j v w h r) (⊎-elim inRow inColumn (
 -- ── the whole descent ──
 
 -- a job with a piece and a valid layout has a trial
-some-trial : (j : Job) (v : Layout) → 0 < j .count → ValidLayout j v → 0 < length (trials j)
+some-trial : (j : Job) (v : Layout) → 0 < j .size .count → ValidLayout j v → 0 < length (trials j)
 some-trial j v l h =
     let pos = position noTrial (trials j) (trial-mem j 0 (placeOf v 0 .turn) Horizontal l (h .turnAllowed 0 l)) in
     let b = pos .below in omega arith
 
 -- the run of the job's trials
-descent-ran : (j : Job) (ws : List ℕ) (budget : ℕ) (v : Layout) → 0 < j .count → ValidLayout j v
+descent-ran : (j : Job) (ws : List ℕ) (budget : ℕ) (v : Layout) → 0 < j .size .count → ValidLayout j v
     → Ran (weightedSum j ws) (trials j) (ValidLayout j) (Quiet j ws) v budget (descend j ws budget v)
 unfolding descend
 descent-ran j ws budget v l h =
@@ -207,7 +207,7 @@ descent-ran j ws budget v l h =
     (λ u m b g e. attempt-quiet j ws u (trialAt (trials j) m) e) v budget h
 
 -- demand 3's claims hold of a descent
-pub descent-claims : (j : Job) (ws : List ℕ) (budget : ℕ) (v : Layout) → 0 < j .count → ValidWeights j ws → ValidLayout j v
+pub descent-claims : (j : Job) (ws : List ℕ) (budget : ℕ) (v : Layout) → 0 < j .size .count → ValidWeights j ws → ValidLayout j v
     → DescentClaims j ws budget v (descend j ws budget v)
 descent-claims j ws budget v l weights h =
     record {

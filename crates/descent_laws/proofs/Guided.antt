@@ -48,10 +48,10 @@ raised-range test (p ∷ ps) (w ∷ ws) h (suc k) l = raised-range test ps ws (�
 pub raised-valid : (j : Job) (v : Layout) (ws : List ℕ) → ValidWeights j ws → ValidWeights j (raised j v ws)
 unfolding raised
 raised-valid j v ws h =
-    let e = raised-length (pairShares j v) (pairs (j .count)) ws in
+    let e = raised-length (pairShares j v) (pairs (j .size .count)) ws in
     record {
       onePerPair = e ∙ h .onePerPair;
-      inRange = λ k l. raised-range (pairShares j v) (pairs (j .count)) ws (h .inRange) k (omega arith);
+      inRange = λ k l. raised-range (pairShares j v) (pairs (j .size .count)) ws (h .inRange) k (omega arith);
     }
 
 -- raised or not, the weights are valid
@@ -65,16 +65,16 @@ after-valid : (j : Job) (r : Round) → ValidWeights j (r .weights) → ValidWei
 after-valid j r h = after-valid-at j (r .descent .layout) (r .weights) (isClear (r .descent .end)) h
 
 -- weights 1 are valid
-pub unit-valid : (j : Job) → ValidWeights j (unitWeights (j .count))
+pub unit-valid : (j : Job) → ValidWeights j (unitWeights (j .size .count))
 unfolding unitWeights
 unit-valid j =
-    let e = length-replicate {A = ℕ} (length (pairs (j .count))) 1 in
-    record { onePerPair = e; inRange = λ k l. rw (getD-replicate {A = ℕ} (length (pairs (j .count))) k 1 0 (omega arith)) (lit≤ tt, lit≤ tt) }
+    let e = length-replicate {A = ℕ} (length (pairs (j .size .count))) 1 in
+    record { onePerPair = e; inRange = λ k l. rw (getD-replicate {A = ℕ} (length (pairs (j .size .count))) k 1 0 (omega arith)) (lit≤ tt, lit≤ tt) }
 
 -- a plain sum is 0 exactly when no two pieces share a pixel
 pub plain-zero : (j : Job) (v : Layout) → (plainSum j v ≡ 0) ↔ NoSharedPixel j v
 unfolding plainSum
-plain-zero j v = zero-exactly j (unitWeights (j .count)) v (unit-valid j)
+plain-zero j v = zero-exactly j (unitWeights (j .size .count)) v (unit-valid j)
 
 -- ── rounds ──
 
@@ -136,7 +136,7 @@ rounds-at j ws K budget v r h begins by true e later = clear-round j ws K budget
 rounds-at j ws K budget v r h begins by false e later = round-more j ws K budget v r _ h begins by (not-clear _ e) (later refl)
 
 -- the rounds of a guided run are so
-pub rounds-claims : (j : Job) (ws : List ℕ) (K budget : ℕ) (v : Layout) → 0 < j .count → ValidWeights j ws → ValidLayout j v
+pub rounds-claims : (j : Job) (ws : List ℕ) (K budget : ℕ) (v : Layout) → 0 < j .size .count → ValidWeights j ws → ValidLayout j v
     → RoundsClaims j ws K budget v (rounds j K budget ws v)
 unfolding rounds
 rounds-claims j ws zero budget v l weights h =
@@ -215,7 +215,7 @@ last-valid j ws (r ∷ rs) h each =
     last-valid j (weightsAfter j r) rs (after-valid j r (each r (List·Memᴰ·head refl))) (λ s m. each s (List·Memᴰ·tail m))
 
 -- demand 3's claims hold of a guided run
-pub guided-claims : (j : Job) (ws : List ℕ) (K budget : ℕ) (v : Layout) → 0 < j .count → ValidWeights j ws → ValidLayout j v
+pub guided-claims : (j : Job) (ws : List ℕ) (K budget : ℕ) (v : Layout) → 0 < j .size .count → ValidWeights j ws → ValidLayout j v
     → GuidedClaims j ws K budget v (rounds j K budget ws v) (guide j K budget ws v)
 unfolding guide outcome
 guided-claims j ws K budget v l weights h =

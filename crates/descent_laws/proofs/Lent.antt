@@ -17,7 +17,7 @@ use Rattle.descent_laws.proofs.Guided.{unit-valid}
 use Rattle.descent_laws.proofs.Demand3.{demand3}
 
 -- turn 0 is allowed to each piece
-pub lent-zero-allowed : (l : Lent) → lentWell l ≡ true → (i : ℕ) → i < jobOf l .count → allowed (jobOf l) i Zero ≡ true
+pub lent-zero-allowed : (l : Lent) → lentWell l ≡ true → (i : ℕ) → i < jobOf l .size .count → allowed (jobOf l) i Zero ≡ true
 unfolding jobOf allows
 lent-zero-allowed l e i b = rw (div-one (entryTurns (l .table) i)) (facts l e .turnsOdd i b)
 
@@ -31,5 +31,5 @@ pub lent-start-valid : (l : Lent) → lentWell l ≡ true → ValidLayout (jobOf
 lent-start-valid l e = start-valid (jobOf l) (lent-boxes-fit l e) (lent-zero-allowed l e)
 
 -- demand 3 holds of every run from the start layout of a lent job by weights 1
-pub lent-demand3 : (l : Lent) → lentWell l ≡ true → Demand3 (jobOf l) (unitWeights (jobOf l .count)) (start (jobOf l))
-lent-demand3 l e = demand3 (jobOf l) (unitWeights (jobOf l .count)) (start (jobOf l)) (lent-some l e) (unit-valid (jobOf l)) (lent-start-valid l e)
+pub lent-demand3 : (l : Lent) → lentWell l ≡ true → Demand3 (jobOf l) (unitWeights (jobOf l .size .count)) (start (jobOf l))
+lent-demand3 l e = demand3 (jobOf l) (unitWeights (jobOf l .size .count)) (start (jobOf l)) (lent-some l e) (unit-valid (jobOf l)) (lent-start-valid l e)

@@ -163,17 +163,17 @@ trials-from-rise j i (suc left) =
     (omega arith) (trials-from-rise j (suc i) left))
 
 -- the trials come in order of piece, then turn, horizontal before vertical, each once
-pub trials-rise : (j : Job) → Rising trialKey 0 (8 * (0 + j .count)) (trials j)
+pub trials-rise : (j : Job) → Rising trialKey 0 (8 * (0 + j .size .count)) (trials j)
 unfolding trials
-trials-rise j = trials-from-rise j 0 (j .count)
+trials-rise j = trials-from-rise j 0 (j .size .count)
 
 -- no trial is listed twice
 pub trials-once : (j : Job) (m k : ℕ) → m < k → k < length (trials j) → getD (trials j) m noTrial ≢ getD (trials j) k noTrial
-trials-once j = rising-once trialKey 0 (8 * (0 + j .count)) (trials j) noTrial (trials-rise j)
+trials-once j = rising-once trialKey 0 (8 * (0 + j .size .count)) (trials j) noTrial (trials-rise j)
 
 -- a piece has at most eight trials
-pub trials-at-most : (j : Job) → length (trials j) ≤ 8 * j .count
-trials-at-most j = let l = rising-length trialKey 0 (8 * (0 + j .count)) (trials j) (trials-rise j) in omega arith
+pub trials-at-most : (j : Job) → length (trials j) ≤ 8 * j .size .count
+trials-at-most j = let l = rising-length trialKey 0 (8 * (0 + j .size .count)) (trials j) (trials-rise j) in omega arith
 
 -- the list of trials is what document 01 says
 pub trials-claims : (j : Job) → TrialsClaims j (trials j)

@@ -141,12 +141,12 @@ other-pair j v i p q h =
 
 -- the weighted sum of the pairs that do not name piece i
 otherSum : Job → List ℕ → Layout → ℕ → ℕ
-otherSum j ws v i = sumOver (λ q. not (names i q)) (pairPenalty j v) (pairs (j .count)) ws
+otherSum j ws v i = sumOver (λ q. not (names i q)) (pairPenalty j v) (pairs (j .size .count)) ws
 
 -- the weighted sum is the piece's pair sum and the rest
 weighted-split : (j : Job) (ws : List ℕ) (v : Layout) (i : ℕ) → weightedSum j ws v ≡ pieceSum j ws v i + otherSum j ws v i
 unfolding weightedSum pieceSum otherSum
-weighted-split j ws v i = sum-split (names i) (pairPenalty j v) (pairs (j .count)) ws
+weighted-split j ws v i = sum-split (names i) (pairPenalty j v) (pairs (j .size .count)) ws
 
 -- a piece's pair sum is at most the weighted sum
 pub piece-at-most : (j : Job) (ws : List ℕ) (v : Layout) (i : ℕ) → pieceSum j ws v i ≤ weightedSum j ws v
@@ -156,7 +156,7 @@ piece-at-most j ws v i = omega (arith, weighted-split j ws v i)
 other-sum : (j : Job) (ws : List ℕ) (v : Layout) (i : ℕ) (p : Placement) → otherSum j ws v i ≡ otherSum j ws (set v i p) i
 unfolding otherSum
 other-sum j ws v i p =
-    same-sum (λ q. not (names i q)) (pairPenalty j v) (pairPenalty j (set v i p)) (pairs (j .count)) ws (other-pair j v i p)
+    same-sum (λ q. not (names i q)) (pairPenalty j v) (pairPenalty j (set v i p)) (pairs (j .size .count)) ws (other-pair j v i p)
 
 -- placing a piece anew changes the weighted sum by as much as it changes the piece's pair sum
 pub placed-anew : (j : Job) (ws : List ℕ) (v : Layout) (i : ℕ) (p : Placement)
@@ -172,9 +172,9 @@ zero-exactly j ws v h = (
   (λ e i k l m both.
       clash (share-from _ _ _ _ both)
       (zero-penalty _ _ _ _
-      (zero-sum-costs (pairPenalty j v) (pairs (j .count)) ws (omega arith) (λ n b. h .inRange n b .0) e
-      (record { first = i; second = k }) (pair-mem (j .count) i k l m)))),
-  (λ apart. zero-costs-sum (pairPenalty j v) (pairs (j .count)) ws
-      (λ q m. let o = mem-pair (j .count) q m in
+      (zero-sum-costs (pairPenalty j v) (pairs (j .size .count)) ws (omega arith) (λ n b. h .inRange n b .0) e
+      (record { first = i; second = k }) (pair-mem (j .size .count) i k l m)))),
+  (λ apart. zero-costs-sum (pairPenalty j v) (pairs (j .size .count)) ws
+      (λ q m. let o = mem-pair (j .size .count) q m in
       penalty-zero _ _ _ _ (fails _ (λ s. apart (q .first) (q .second) (o .rising) (o .below) (share-witness _ _ _ _ s))))),
 )

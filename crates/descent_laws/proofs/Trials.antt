@@ -67,9 +67,9 @@ from-mem j i (suc left) a k l h m =
     (λ (g : i < a). Memᴰ·append-right (pieceTrials j i) (from-mem j (suc i) left a k g (omega arith) m)) (eq-or-lt-of-le l)
 
 -- every piece in every turn allowed to it and either direction is a trial
-pub trial-mem : (j : Job) (i : ℕ) (t : Turn) (d : Direction) → i < j .count → allowed j i t ≡ true → List·Memᴰ (trialOf i t d) (trials j)
+pub trial-mem : (j : Job) (i : ℕ) (t : Turn) (d : Direction) → i < j .size .count → allowed j i t ≡ true → List·Memᴰ (trialOf i t d) (trials j)
 unfolding trials
-trial-mem j i t d l h = from-mem j 0 (j .count) i _ (omega arith) (omega arith) (piece-mem j i t _ (turn-mem j i t d h))
+trial-mem j i t d l h = from-mem j 0 (j .size .count) i _ (omega arith) (omega arith) (piece-mem j i t _ (turn-mem j i t d h))
 
 -- the trial of an allowed turn
 proper-is : (j : Job) (i : ℕ) (t : Turn) (d : Direction) (k : Trial) → allowed j i t ≡ true → k ≡ trialOf i t d → Proper j i (suc i) k
@@ -112,8 +112,8 @@ proper-from j i (suc left) k m =
     m
 
 -- every trial is of a piece of the job in a turn allowed to it
-pub mem-trial : (j : Job) (k : Trial) → List·Memᴰ k (trials j) → Proper j 0 (j .count) k
+pub mem-trial : (j : Job) (k : Trial) → List·Memᴰ k (trials j) → Proper j 0 (j .size .count) k
 unfolding trials
 mem-trial j k m =
-    let r = proper-from j 0 (j .count) k m in
+    let r = proper-from j 0 (j .size .count) k m in
     record { from = r .from; below = (let l = r .below in omega arith); turnAllowed = r .turnAllowed }

@@ -22,27 +22,27 @@ InRange w = (1 ≤ w) × (w ≤ weightBound)
 
 -- a weight for each pair
 pub record ValidWeights (j : Job) (ws : List ℕ) : Type 0 where
-  pub onePerPair : length ws ≡ length (pairs (j .count))
+  pub onePerPair : length ws ≡ length (pairs (j .size .count))
   pub inRange : (k : ℕ) → k < length ws → InRange (getD ws k 0)
 
 -- a placement for each piece, inside the sheet and in a turn allowed to the piece
 pub record ValidLayout (j : Job) (v : Layout) : Type 0 where
-  pub onePerPiece : length v ≡ j .count
-  pub insideSheet : (i : ℕ) → i < j .count → inside j i (placeOf v i) ≡ true
-  pub turnAllowed : (i : ℕ) → i < j .count → allowed j i (placeOf v i .turn) ≡ true
+  pub onePerPiece : length v ≡ j .size .count
+  pub insideSheet : (i : ℕ) → i < j .size .count → inside j i (placeOf v i) ≡ true
+  pub turnAllowed : (i : ℕ) → i < j .size .count → allowed j i (placeOf v i .turn) ≡ true
 
 -- ── what is said of a layout ──
 
 -- no two pieces share a pixel
 abbrev pub NoSharedPixel : Job → Layout → Type 0
-NoSharedPixel j v = (i k : ℕ) → i < k → k < j .count → SharedPixel (shapeIn j v i) (cornerIn v i) (shapeIn j v k) (cornerIn v k) → ⊥
+NoSharedPixel j v = (i k : ℕ) → i < k → k < j .size .count → SharedPixel (shapeIn j v i) (cornerIn v i) (shapeIn j v k) (cornerIn v k) → ⊥
 
 -- w differs from v in one piece, which lies inside in a turn allowed to it, its corner in the same row or column
 pub record Rival (j : Job) (v w : Layout) : Type 0 where
   pub piece : ℕ
-  pub there : piece < j .count
-  pub onePerPiece : length w ≡ j .count
-  pub othersSame : (k : ℕ) → k < j .count → k ≢ piece → placeOf w k ≡ placeOf v k
+  pub there : piece < j .size .count
+  pub onePerPiece : length w ≡ j .size .count
+  pub othersSame : (k : ℕ) → k < j .size .count → k ≢ piece → placeOf w k ≡ placeOf v k
   pub insideSheet : inside j piece (placeOf w piece) ≡ true
   pub turnAllowed : allowed j piece (placeOf w piece .turn) ≡ true
   pub sameRowOrColumn : (placeOf w piece .y ≡ placeOf v piece .y) ⊎ (placeOf w piece .x ≡ placeOf v piece .x)
@@ -51,8 +51,8 @@ pub record Rival (j : Job) (v w : Layout) : Type 0 where
 
 -- the list of trials, whose length is T: every piece of the job in every turn allowed to it and both directions, nothing else, each once
 pub record TrialsClaims (j : Job) (ts : List Trial) : Type 0 where
-  pub every : (i : ℕ) (t : Turn) (d : Direction) → i < j .count → allowed j i t ≡ true → List·Memᴰ (record { piece = i; turn = t; direction = d }) ts
-  pub pieceThere : (k : Trial) → List·Memᴰ k ts → k .piece < j .count
+  pub every : (i : ℕ) (t : Turn) (d : Direction) → i < j .size .count → allowed j i t ≡ true → List·Memᴰ (record { piece = i; turn = t; direction = d }) ts
+  pub pieceThere : (k : Trial) → List·Memᴰ k ts → k .piece < j .size .count
   pub turnAllowed : (k : Trial) → List·Memᴰ k ts → allowed j (k .piece) (k .turn) ≡ true
   pub once : (m n : ℕ) → m < n → n < length ts → getD ts m noTrial ≢ getD ts n noTrial
 

@@ -9,8 +9,8 @@ use Rattle.model.specs.Start.{boxColumns, boxRows}
 
 -- each piece's box, in turn 0, is no longer and no wider than the sheet
 pub record BoxesFit (j : Job) : Type 0 where
-  pub columnsFit : (i : ℕ) → i < j .count → boxColumns j i ≤ j .columns
-  pub rowsFit : (i : ℕ) → i < j .count → boxRows j i ≤ j .rows
+  pub columnsFit : (i : ℕ) → i < j .size .count → boxColumns j i ≤ j .size .columns
+  pub rowsFit : (i : ℕ) → i < j .size .count → boxRows j i ≤ j .size .rows
 
 -- piece a comes before piece b: it is longer, or as long with the lower number
 abbrev pub Before : Job → ℕ → ℕ → Type 0

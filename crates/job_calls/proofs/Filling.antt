@@ -294,18 +294,18 @@ module _ (text : List ℕ) (j : JobLine) (tableLength pixelsLength : ℕ) where
   there x = unless (bufferCauses tableLength pixelsLength (asLent j x)) (asLent j x)
 
   -- a piece is refused
-  pub room-denied : (s : Refusal) → piecesAt text j (j .count) 0 0 (j .next) 2 ≡ refused s → roomed text j tableLength pixelsLength ≡ refused s
+  pub room-denied : (s : Refusal) → piecesAt text j (j .size .count) 0 0 (j .next) 2 ≡ refused s → roomed text j tableLength pixelsLength ≡ refused s
   room-denied s e = ap (λ (x : Outcome Pieces). andThen x there) e
 
   -- a buffer is too short
-  pub room-short : (x : Pieces) → piecesAt text j (j .count) 0 0 (j .next) 2 ≡ given x
-      → (ltb tableLength (j .count) || ltb pixelsLength (length (x .pixels))) ≡ true → roomed text j tableLength pixelsLength ≡ refused (refusalAt wrongLength 0)
+  pub room-short : (x : Pieces) → piecesAt text j (j .size .count) 0 0 (j .next) 2 ≡ given x
+      → (ltb tableLength (j .size .count) || ltb pixelsLength (length (x .pixels))) ≡ true → roomed text j tableLength pixelsLength ≡ refused (refusalAt wrongLength 0)
   unfolding unless
   room-short x e b = ap (λ (y : Outcome Pieces). andThen y there) e ∙ ap (λ (t : Bool). unless (cause wrongLength t ∷ []) (asLent j x)) b
 
   -- both have room
-  pub room-given : (x : Pieces) → piecesAt text j (j .count) 0 0 (j .next) 2 ≡ given x
-      → (ltb tableLength (j .count) || ltb pixelsLength (length (x .pixels))) ≡ false → roomed text j tableLength pixelsLength ≡ given (asLent j x)
+  pub room-given : (x : Pieces) → piecesAt text j (j .size .count) 0 0 (j .next) 2 ≡ given x
+      → (ltb tableLength (j .size .count) || ltb pixelsLength (length (x .pixels))) ≡ false → roomed text j tableLength pixelsLength ≡ given (asLent j x)
   unfolding unless
   room-given x e b = ap (λ (y : Outcome Pieces). andThen y there) e ∙ ap (λ (t : Bool). unless (cause wrongLength t ∷ []) (asLent j x)) b
 

@@ -70,12 +70,12 @@ PiecesStored table lastTable store lastStore (given x) = Filled table lastTable 
 -- the pieces behind a job line, where the lent buffers have room for them
 abbrev pub roomed : List ℕ → JobLine → ℕ → ℕ → Outcome Lent
 roomed text j tableLength pixelsLength =
-    andThen (piecesAt text j (j .count) 0 0 (j .next) 2) (λ r. unless (bufferCauses tableLength pixelsLength (asLent j r)) (asLent j r))
+    andThen (piecesAt text j (j .size .count) 0 0 (j .next) 2) (λ r. unless (bufferCauses tableLength pixelsLength (asLent j r)) (asLent j r))
 
 -- the numbers of a job that is read, or the refusal
 abbrev pub readAnswer : Outcome Lent → JobAnswer
 readAnswer (refused r) = answer.Refused r
-readAnswer (given k) = answer.Read (record { rows = k .rows; columns = k .columns; count = k .count })
+readAnswer (given k) = answer.Read (k .size)
 
 -- what reading a job answers and leaves in the lent table and store: the outcome's numbers, entries and pixel bytes, what lies beyond
 -- untouched, and on a refusal nothing written

@@ -11,9 +11,8 @@ use job_lines::piece_line;
 use job_lines::refusal;
 use job_rows::RowsAnswer;
 use job_rows::fill_rows;
-use model::JobSize;
 use model::Refusal;
-ghost use mathlib.Core.List.{[], _∷_};
+use piece_table::piece_entry;
 ghost use mathlib.Core.Path.{_≡_};
 ghost use Prim.Native.Nat.{_+_, _*_, _<_, _≤_, _^_};
 ghost use lib.ListN.{length, set};
@@ -42,14 +41,13 @@ enum PiecesAnswer {
 }
 
 // Stores an entry of the table; past its end nothing is stored.
-fn put_entry(table: &mut [[u8; 3]], i: usize, columns: usize, rows: usize, turns: usize)
-    requires { ⌜ (columns ≤ 255) × (rows ≤ 255) × (turns ≤ 255) ⌝ }
-    ensures { λ _. ⌜ now (table .exit) ≡ set (now (table .entry)) i (columns ∷ rows ∷ turns ∷ []) ⌝ }
+fn put_entry(table: &mut [[u8; 3]], i: usize, entry: [u8; 3])
+    ensures { λ _. ⌜ now (table .exit) ≡ set (now (table .entry)) i entry ⌝ }
 {
     if table.len() <= i {
         return;
     }
-    table[i] = [columns as u8, rows as u8, turns as u8];
+    table[i] = entry;
 }
 
 // Stores the rows of a piece and tests its box, whose pixels stand in the text, each row 5 bytes longer than the box.
@@ -88,7 +86,7 @@ fn fill_piece(
     match piece_line(text, j, i, at.area, at.next, at.line) {
         PieceLineAnswer::Refused(r) => PieceAnswer::Refused(r),
         PieceLineAnswer::Line(h) => {
-            put_entry(table, i, h.columns, h.rows, h.turns);
+            put_entry(table, i, piece_entry(h.columns, h.rows, h.turns));
             fill_box(text, h, at.area, at.line, pixels)
         }
     }
@@ -96,10 +94,10 @@ fn fill_piece(
 
 // Stores all pieces behind the job line; nothing follows the last.
 fn fill_pieces(text: &[u8], j: JobHead, table: &mut [[u8; 3]], pixels: &mut [u8]) -> PiecesAnswer
-    requires { ⌜ (j .next ≤ length (now text)) × (j .count ≤ 64) ⌝ }
-    ensures { λ r. ⌜ (r ≡ piecesAnswer (piecesAt (now (text .entry)) (jobLineOf j) (j .count) 0 0 (j .next) 2)) × PiecesStored (now (table .entry)) (now (table .exit)) (now (pixels .entry)) (now (pixels .exit)) (piecesAt (now (text .entry)) (jobLineOf j) (j .count) 0 0 (j .next) 2) ⌝ }
+    requires { ⌜ (j .next ≤ length (now text)) × (j .size .count ≤ 64) ⌝ }
+    ensures { λ r. ⌜ (r ≡ piecesAnswer (piecesAt (now (text .entry)) (jobLineOf j) (j .size .count) 0 0 (j .next) 2)) × PiecesStored (now (table .entry)) (now (table .exit)) (now (pixels .entry)) (now (pixels .exit)) (piecesAt (now (text .entry)) (jobLineOf j) (j .size .count) 0 0 (j .next) 2) ⌝ }
 {
-    let count = j.count;
+    let count = j.size.count;
     let mut at = Place {
         area: 0,
         next: j.next,
@@ -125,7 +123,7 @@ fn fill_pieces(text: &[u8], j: JobHead, table: &mut [[u8; 3]], pixels: &mut [u8]
 
 // The pieces behind the job line: a run over empty buffers, then the room, then the run that writes.
 fn read_pieces(text: &[u8], j: JobHead, table: &mut [[u8; 3]], pixels: &mut [u8]) -> JobAnswer
-    requires { ⌜ (j .next ≤ length (now text)) × (j .count ≤ 64) ⌝ }
+    requires { ⌜ (j .next ≤ length (now text)) × (j .size .count ≤ 64) ⌝ }
     ensures { λ r. ⌜ Leaves r (now (table .entry)) (now (table .exit)) (now (pixels .entry)) (now (pixels .exit)) (roomed (now (text .entry)) (jobLineOf j) (length (now (table .entry))) (length (now (pixels .entry)))) ⌝ }
 {
     let no_entries = 0;
@@ -133,18 +131,15 @@ fn read_pieces(text: &[u8], j: JobHead, table: &mut [[u8; 3]], pixels: &mut [u8]
     match fill_pieces(text, j, &mut table[..no_entries], &mut pixels[..no_bytes]) {
         PiecesAnswer::Refused(r) => JobAnswer::Refused(r),
         PiecesAnswer::Read(area) => {
-            if table.len() < j.count {
+            let size = j.size;
+            if table.len() < size.count {
                 return JobAnswer::Refused(refusal(7, 0));
             }
             if pixels.len() < area {
                 return JobAnswer::Refused(refusal(7, 0));
             }
             fill_pieces(text, j, table, pixels);
-            JobAnswer::Read(JobSize {
-                rows: j.rows,
-                columns: j.columns,
-                count: j.count,
-            })
+            JobAnswer::Read(size)
         }
     }
 }

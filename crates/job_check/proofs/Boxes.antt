@@ -58,16 +58,16 @@ pub record TableFacts (size : JobSize) (table : List (List ℕ)) : Type 0 where
 
 pub table-facts : (size : JobSize) (table : List (List ℕ)) → tableWell size table ≡ true → TableFacts size table
 table-facts size table e =
-    let a : Bool = sheetInRange (size .rows) (size .columns) (size .count) in
+    let a : Bool = sheetInRange size in
     let b : Bool = leb (size .count) (length table) in
     let c : Bool = allBelow (size .count) (entryInRange table) in
-    let d : Bool = allBelow (size .count) (entryFits (size .rows) (size .columns) table) in
+    let d : Bool = allBelow (size .count) (entryFits size table) in
     let f : Bool = leb (pixelStart table (size .count)) areaBound in
     let ed : (a && b && c && d) ≡ true = and-left (a && b && c && d) f e in
     let ec : (a && b && c) ≡ true = and-left (a && b && c) d ed in
     let eb : (a && b) ≡ true = and-left (a && b) c ec in
     record {
-      few = sheet-few (size .rows) (size .columns) (size .count) (and-left a b eb);
+      few = sheet-few size (and-left a b eb);
       entries = leb-true (size .count) (length table) (and-right a b eb);
       ranges = all-at (size .count) (entryInRange table) (and-right (a && b) c ec);
       areas = leb-true (pixelStart table (size .count)) areaBound (and-right (a && b && c && d) f e);

@@ -36,7 +36,7 @@ allBits bytes count = allBelow count (λ k. leb (getD bytes k 0) 1)
 -- sheet, entries and areas of a lent job are well
 abbrev pub tableWell : JobSize → List (List ℕ) → Bool
 tableWell size table =
-    sheetInRange (size .rows) (size .columns) (size .count) && leb (size .count) (length table)
+    sheetInRange size && leb (size .count) (length table)
     && allBelow (size .count) (entryInRange table)
-    && allBelow (size .count) (entryFits (size .rows) (size .columns) table)
+    && allBelow (size .count) (entryFits size table)
     && leb (pixelStart table (size .count)) areaBound

@@ -3,6 +3,10 @@
 use job_limits::sheet_in_range;
 use job_limits::sides_in_range;
 use model::JobSize;
+use piece_table::area_of;
+use piece_table::columns_of;
+use piece_table::rows_of;
+use piece_table::turns_of;
 ghost use mathlib.Core.Path.{_≡_};
 ghost use mathlib.Core.Bool.{true};
 ghost use Prim.Native.Nat.{ℕ, _+_, _*_, _<_, _≤_, _^_};
@@ -12,28 +16,14 @@ ghost use Rattle.model.specs.Piece.{tight};
 ghost use Rattle.model.specs.Lent.{lentBy, lentWell, entryInRange, entryFits, pixelStart};
 ghost use Rattle.job_check.specs.Boxes.{Side, boxIn, storedBox, someMark, allBits, tableWell};
 
-// A byte as a count.
-fn wide(x: u8) -> usize
-    ensures { λ r. ⌜ (r ≡ x) × (r ≤ 255) ⌝ }
-{
-    x as usize
-}
-
-// The area of a box.
-fn box_area(columns: u8, rows: u8) -> usize
-    ensures { λ r. ⌜ (r ≡ columns * rows) × (r ≤ 65025) ⌝ }
-{
-    wide(columns) * wide(rows)
-}
-
 // The entry is in range.
 fn entry_in_range(table: &[[u8; 3]], i: usize) -> bool
     requires { ⌜ i < length (now table) ⌝ }
     ensures { λ r. ⌜ r ≡ entryInRange (now (table .entry)) i ⌝ }
 {
-    let columns = wide(table[i][0]);
-    let rows = wide(table[i][1]);
-    let turns = wide(table[i][2]);
+    let columns = columns_of(table, i);
+    let rows = rows_of(table, i);
+    let turns = turns_of(table, i) as usize;
     sides_in_range(columns, rows, turns)
 }
 
@@ -52,20 +42,25 @@ fn entries_in_range(table: &[[u8; 3]], count: usize) -> bool
     true
 }
 
-// Every box is no longer and no wider than the sheet.
-fn entries_fit(table: &[[u8; 3]], size: JobSize) -> bool
-    requires { ⌜ size .count ≤ length (now table) ⌝ }
-    ensures { λ r. ⌜ r ≡ allBelow (size .count) (entryFits (size .rows) (size .columns) (now (table .entry))) ⌝ }
+// The box of piece i is no longer and no wider than the sheet.
+fn entry_fits(size: JobSize, table: &[[u8; 3]], i: usize) -> bool
+    requires { ⌜ i < length (now table) ⌝ }
+    ensures { λ r. ⌜ r ≡ entryFits size (now (table .entry)) i ⌝ }
 {
-    let rows = size.rows;
-    let columns = size.columns;
-    let count = size.count;
+    if size.columns < columns_of(table, i) {
+        return false;
+    }
+    rows_of(table, i) <= size.rows
+}
+
+// Every box is.
+fn entries_fit(size: JobSize, table: &[[u8; 3]]) -> bool
+    requires { ⌜ size .count ≤ length (now table) ⌝ }
+    ensures { λ r. ⌜ r ≡ allBelow (size .count) (entryFits size (now (table .entry))) ⌝ }
+{
     let mut i = 0;
-    while i < count {
-        if columns < wide(table[i][0]) {
-            return false;
-        }
-        if rows < wide(table[i][1]) {
+    while i < size.count {
+        if !entry_fits(size, table, i) {
             return false;
         }
         i += 1;
@@ -81,7 +76,7 @@ pub fn pixel_start(table: &[[u8; 3]], i: usize) -> usize
     let mut start = 0;
     let mut k = 0;
     while k < i {
-        start += box_area(table[k][0], table[k][1]);
+        start += area_of(table, k);
         k += 1;
     }
     start
@@ -101,7 +96,7 @@ fn table_well(size: JobSize, table: &[[u8; 3]]) -> bool
     if !entries_in_range(table, count) {
         return false;
     }
-    if !entries_fit(table, size) {
+    if !entries_fit(size, table) {
         return false;
     }
     pixel_start(table, count) <= 65536
@@ -168,8 +163,8 @@ fn stored_box_tight(table: &[[u8; 3]], i: usize, pixels: &[u8], start: usize) ->
     requires { ⌜ (i < length (now table)) × (start < 2 ^ 62) × (entryInRange (now table) i ≡ true) × (start ≡ pixelStart (now table) i) ⌝ }
     ensures { λ r. ⌜ r ≡ tight (storedBox (now (table .entry)) (now (pixels .entry)) i) ⌝ }
 {
-    let columns = wide(table[i][0]);
-    let rows = wide(table[i][1]);
+    let columns = columns_of(table, i);
+    let rows = rows_of(table, i);
     box_tight(1, pixels, start, columns, columns, rows)
 }
 
@@ -184,7 +179,7 @@ fn boxes_tight(table: &[[u8; 3]], count: usize, pixels: &[u8]) -> bool
         if !stored_box_tight(table, i, pixels, start) {
             return false;
         }
-        start += box_area(table[i][0], table[i][1]);
+        start += area_of(table, i);
         i += 1;
     }
     true

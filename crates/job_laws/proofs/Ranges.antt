@@ -5,7 +5,8 @@ use mathlib.Core.Path.{_≡_}
 use Prim.Native.Nat.{ℕ, _*_, _%_, _≤_}
 use lib.Dec.{leb, eqb}
 use borrow.Author.Tests.{leb-true}
-use Rattle.model.specs.Lent.{rowBound, columnBound, pieceBound, areaBound, turnsBound, sideBound, upTo, sheetInRange, entryColumns, entryRows, entryTurns, entryInRange}
+use Rattle.model.specs.Lent.{rowBound, columnBound, pieceBound, areaBound, turnsBound, sideBound, upTo, numbersInRange, sheetInRange, entryColumns, entryRows, entryTurns, entryInRange}
+use Rattle.model.specs.declared.JobSize.{JobSize}
 use Rattle.model.proofs.Tests.{and-left, and-right}
 
 -- a number in range is at least 1
@@ -17,45 +18,43 @@ pub up-to : (bound k : ℕ) → upTo bound k ≡ true → k ≤ bound
 up-to bound k e = leb-true k bound (and-right (leb 1 k) (leb k bound) e)
 
 -- what W, L and n in range give
-pub record NumberFacts (W L n : ℕ) : Type 0 where
+pub record NumberFacts (size : JobSize) : Type 0 where
   -- W passes its test
-  pub rows : upTo rowBound W ≡ true
+  pub rows : upTo rowBound (size .rows) ≡ true
   -- L passes its test
-  pub columns : upTo columnBound L ≡ true
+  pub columns : upTo columnBound (size .columns) ≡ true
   -- n passes its test
-  pub pieces : upTo pieceBound n ≡ true
+  pub pieces : upTo pieceBound (size .count) ≡ true
 
 -- they do
-pub number-facts : (rows columns count : ℕ) → (upTo rowBound rows && upTo columnBound columns && upTo pieceBound count) ≡ true
-    → NumberFacts rows columns count
-number-facts rows columns count e =
-    let a : Bool = upTo rowBound rows in
-    let b : Bool = upTo columnBound columns in
-    let c : Bool = upTo pieceBound count in
+pub number-facts : (size : JobSize) → numbersInRange size ≡ true → NumberFacts size
+number-facts size e =
+    let a : Bool = upTo rowBound (size .rows) in
+    let b : Bool = upTo columnBound (size .columns) in
+    let c : Bool = upTo pieceBound (size .count) in
     let ab : (a && b) ≡ true = and-left (a && b) c e in
     record { rows = and-left a b ab; columns = and-right a b ab; pieces = and-right (a && b) c e }
 
 -- what a sheet in range gives
-pub record SheetFacts (rows columns count : ℕ) : Type 0 where
+pub record SheetFacts (size : JobSize) : Type 0 where
   -- its numbers are in range
-  pub numbers : NumberFacts rows columns count
+  pub numbers : NumberFacts size
   -- it has at most 65,536 pixels
-  pub area : rows * columns ≤ areaBound
+  pub area : size .rows * size .columns ≤ areaBound
 
 -- it does
-pub sheet-facts : (rows columns count : ℕ) → sheetInRange rows columns count ≡ true → SheetFacts rows columns count
+pub sheet-facts : (size : JobSize) → sheetInRange size ≡ true → SheetFacts size
 unfolding sheetInRange
-sheet-facts rows columns count e =
-    let abc : Bool = upTo rowBound rows && upTo columnBound columns && upTo pieceBound count in
-    let d : Bool = leb (rows * columns) areaBound in
+sheet-facts size e =
+    let d : Bool = leb (size .rows * size .columns) areaBound in
     record {
-      numbers = number-facts rows columns count (and-left abc d e);
-      area = leb-true (rows * columns) areaBound (and-right abc d e);
+      numbers = number-facts size (and-left (numbersInRange size) d e);
+      area = leb-true (size .rows * size .columns) areaBound (and-right (numbersInRange size) d e);
     }
 
 -- the pieces of a sheet in range are at most 64
-pub sheet-few : (rows columns count : ℕ) → sheetInRange rows columns count ≡ true → count ≤ pieceBound
-sheet-few rows columns count e = up-to pieceBound count (sheet-facts rows columns count e .numbers .pieces)
+pub sheet-few : (size : JobSize) → sheetInRange size ≡ true → size .count ≤ pieceBound
+sheet-few size e = up-to pieceBound (size .count) (sheet-facts size e .numbers .pieces)
 
 -- what l, w and o in range give
 pub record SideFacts (l w o : ℕ) : Type 0 where

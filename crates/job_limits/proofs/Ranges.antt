@@ -3,20 +3,20 @@ use mathlib.Core.Bool.{true}
 use mathlib.Core.Path.{_≡_}
 use Prim.Native.Nat.{ℕ, _*_, _≤_}
 use native.Mathlib.Nat.{mul-le-mul}
-use Rattle.model.specs.Lent.{pieceBound, rowBound, columnBound, turnsBound}
+use Rattle.model.specs.Lent.{pieceBound, rowBound, columnBound, turnsBound, numbersInRange}
+use Rattle.model.specs.declared.JobSize.{JobSize}
 use Rattle.job_laws.proofs.Ranges.{up-to, number-facts, side-facts}
 use Rattle.text_laws.specs.Limits.{sidesInRange}
-use Rattle.job_limits.specs.Ranges.{numbersInRange}
 
 -- at most 64 pieces in range
-pub few-count : (rows columns count : ℕ) → numbersInRange rows columns count ≡ true → count ≤ pieceBound
-few-count rows columns count e = up-to pieceBound count (number-facts rows columns count e .pieces)
+pub few-count : (size : JobSize) → numbersInRange size ≡ true → size .count ≤ pieceBound
+few-count size e = up-to pieceBound (size .count) (number-facts size e .pieces)
 
 -- W × L of numbers in range
-pub sheet-small : (rows columns count : ℕ) → numbersInRange rows columns count ≡ true → rows * columns ≤ 512 * 4096
-sheet-small rows columns count e =
-    let f = number-facts rows columns count e in
-    mul-le-mul (up-to rowBound rows (f .rows)) (up-to columnBound columns (f .columns))
+pub sheet-small : (size : JobSize) → numbersInRange size ≡ true → size .rows * size .columns ≤ 512 * 4096
+sheet-small size e =
+    let f = number-facts size e in
+    mul-le-mul (up-to rowBound (size .rows) (f .rows)) (up-to columnBound (size .columns) (f .columns))
 
 -- the sum of turns in range
 pub few-turns : (l w o : ℕ) → sidesInRange l w o ≡ true → o ≤ turnsBound

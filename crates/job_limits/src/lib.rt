@@ -2,9 +2,8 @@
 // job text ask for the same.
 use model::JobSize;
 ghost use mathlib.Core.Path.{_≡_};
-ghost use Rattle.model.specs.Lent.{upTo, sheetInRange};
+ghost use Rattle.model.specs.Lent.{upTo, numbersInRange, sheetInRange};
 ghost use Rattle.text_laws.specs.Limits.{sidesInRange};
-ghost use Rattle.job_limits.specs.Ranges.{numbersInRange};
 
 // From 1 to the bound.
 fn up_to(bound: usize, k: usize) -> bool
@@ -17,23 +16,23 @@ fn up_to(bound: usize, k: usize) -> bool
 }
 
 // W, L and n are in range.
-pub fn numbers_in_range(rows: usize, columns: usize, count: usize) -> bool
-    ensures { λ r. ⌜ r ≡ numbersInRange rows columns count ⌝ }
+pub fn numbers_in_range(size: JobSize) -> bool
+    ensures { λ r. ⌜ r ≡ numbersInRange size ⌝ }
 {
-    if !up_to(512, rows) {
+    if !up_to(512, size.rows) {
         return false;
     }
-    if !up_to(4096, columns) {
+    if !up_to(4096, size.columns) {
         return false;
     }
-    up_to(64, count)
+    up_to(64, size.count)
 }
 
-// W, L and n are in range and the sheet is not too large.
+// They are, and the sheet is not too large.
 pub fn sheet_in_range(size: JobSize) -> bool
-    ensures { λ r. ⌜ r ≡ sheetInRange (size .rows) (size .columns) (size .count) ⌝ }
+    ensures { λ r. ⌜ r ≡ sheetInRange size ⌝ }
 {
-    if !numbers_in_range(size.rows, size.columns, size.count) {
+    if !numbers_in_range(size) {
         return false;
     }
     size.rows * size.columns <= 65536

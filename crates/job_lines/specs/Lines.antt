@@ -22,10 +22,10 @@ refusalAt number line = record { number = number; first = line; second = 0 }
 -- ── the job line ──
 
 abbrev pub headOf : JobLine → JobHead
-headOf j = record { rows = j .rows; columns = j .columns; count = j .count; next = j .next }
+headOf j = record { size = j .size; next = j .next }
 
 abbrev pub jobLineOf : JobHead → JobLine
-jobLineOf j = record { rows = j .rows; columns = j .columns; count = j .count; next = j .next }
+jobLineOf j = record { size = j .size; next = j .next }
 
 -- the job line, or its refusal
 abbrev pub jobAnswer : Outcome JobLine → JobLineAnswer
@@ -43,7 +43,7 @@ headNext (job.Refused r) = 0
 
 -- the pieces that the line says; 0 where it is refused
 abbrev pub headCount : JobLineAnswer → ℕ
-headCount (job.Line j) = j .count
+headCount (job.Line j) = j .size .count
 headCount (job.Refused r) = 0
 
 -- ── a piece line ──

@@ -2,6 +2,7 @@
 // ranges.
 use job_limits::numbers_in_range;
 use job_limits::sides_in_range;
+use model::JobSize;
 use model::Refusal;
 use text_numbers::LineForm;
 use text_numbers::line_at;
@@ -14,9 +15,7 @@ ghost use Rattle.job_lines.specs.Lines.{refusalAt, jobLineOf, jobAnswer,
 
 // What the job line says: W rows, L columns, n pieces; and the position after it.
 pub struct JobHead {
-    pub rows: usize,
-    pub columns: usize,
-    pub count: usize,
+    pub size: JobSize,
     pub next: usize,
 }
 
@@ -63,22 +62,23 @@ fn job_fields(text: &[u8]) -> JobLineAnswer
         return JobLineAnswer::Refused(refusal(1, 1));
     };
     let numbers = line.numbers;
-    JobLineAnswer::Line(JobHead {
+    let size = JobSize {
         rows: numbers[0],
         columns: numbers[1],
         count: numbers[2],
-        next,
-    })
+    };
+    JobLineAnswer::Line(JobHead { size, next })
 }
 
 // The ranges of the job line: a number out of range, then the sheet too large.
 fn job_ranges(j: JobHead) -> JobLineAnswer
     ensures { λ r. ⌜ (r ≡ jobAnswer (unless (jobLineCauses (jobLineOf j)) (jobLineOf j))) × (headCount r ≤ 64) ⌝ }
 {
-    if !numbers_in_range(j.rows, j.columns, j.count) {
+    let size = j.size;
+    if !numbers_in_range(size) {
         return JobLineAnswer::Refused(refusal(2, 1));
     }
-    if 65536 < j.rows * j.columns {
+    if 65536 < size.rows * size.columns {
         return JobLineAnswer::Refused(refusal(3, 1));
     }
     JobLineAnswer::Line(j)
@@ -126,10 +126,10 @@ fn piece_ranges(j: JobHead, i: usize, area: usize, h: PieceHead, line: usize) ->
     if !sides_in_range(h.columns, h.rows, h.turns) {
         return PieceLineAnswer::Refused(refusal(2, line));
     }
-    if j.columns < h.columns {
+    if j.size.columns < h.columns {
         return PieceLineAnswer::Refused(refusal(6, line));
     }
-    if j.rows < h.rows {
+    if j.size.rows < h.rows {
         return PieceLineAnswer::Refused(refusal(6, line));
     }
     if 65536 < area + h.columns * h.rows {

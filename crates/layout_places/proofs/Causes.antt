@@ -61,8 +61,8 @@ refused-alone cs a r e = rw append-nil at (refused-then cs [] a r e)
 -- a lent job and a layout buffer that pass
 pub record Sound (l : Lent) (es : List (List ℕ)) : Type 0 where
   pub well : lentWell l ≡ true
-  pub entries : l .count ≤ length (l .table)
-  pub whole : length es ≡ l .count
+  pub entries : l .size .count ≤ length (l .table)
+  pub whole : length es ≡ l .size .count
   pub turns : someTurnWrong (jobOf l) es ≡ false
   pub within : someOutside (jobOf l) (layoutOf es) ≡ false
 
@@ -74,7 +74,7 @@ sound l es h =
     record {
       well = w;
       entries = facts l w .entries;
-      whole = eqb-true (length es) (l .count) (not-false (eqb (length es) (l .count)) (h .1 .0));
+      whole = eqb-true (length es) (l .size .count) (not-false (eqb (length es) (l .size .count)) (h .1 .0));
       turns = h .1 .1 .0;
       within = h .1 .1 .1 .0;
     }

@@ -44,7 +44,7 @@ place-of-entry es i = List·getD-map placementOf es i []
 
 -- the inside test by the turned box's sides
 pub inside-by-sides : (j : Job) (i : ℕ) (p : Placement) (s : Sides) → s ≡ sidesOf (turnedPiece j i (p .turn))
-    → inside j i p ≡ (leb (p .x .0 + s .columns) (j .columns) && leb (p .y .0 + s .rows) (j .rows))
+    → inside j i p ≡ (leb (p .x .0 + s .columns) (j .size .columns) && leb (p .y .0 + s .rows) (j .size .rows))
 unfolding inside
 inside-by-sides j i p s e = rw e
 

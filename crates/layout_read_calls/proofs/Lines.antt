@@ -49,12 +49,12 @@ module _ (j : Job) (text : List ℕ) where
   layout-line-wrong e = rw (e, formed)
 
   module _ (ks : List ℕ) (next : ℕ) (e : lineAt layoutWord threeFields text 0 ≡ got ks next) where
-    pub layout-line-unlike : (eqb (field ks 0) (j .rows) && eqb (field ks 1) (j .columns) && eqb (field ks 2) (j .count)) ≡ false
+    pub layout-line-unlike : (eqb (field ks 0) (j .size .rows) && eqb (field ks 1) (j .size .columns) && eqb (field ks 2) (j .size .count)) ≡ false
         → layoutLine j text ≡ refused (refusalOf (causeIn 1 outOfRange true))
     unfolding layoutLine unless
     layout-line-unlike h = rw (e, formed, h, unless)
 
-    pub layout-line-given : (eqb (field ks 0) (j .rows) && eqb (field ks 1) (j .columns) && eqb (field ks 2) (j .count)) ≡ true → layoutLine j text ≡ given next
+    pub layout-line-given : (eqb (field ks 0) (j .size .rows) && eqb (field ks 1) (j .size .columns) && eqb (field ks 2) (j .size .count)) ≡ true → layoutLine j text ≡ given next
     unfolding layoutLine unless
     layout-line-given h = rw (e, formed, h, unless)
 
@@ -84,12 +84,12 @@ module _ (j : Job) (i line n d x y : ℕ) where
     place-given h w = let k = turn-known-at d t (eqb n i) e in rw (k .0, k .1, h, w)
 
 -- the corner of a placement inside lies in the sheet
-corner-inside : (j : Job) (i : ℕ) (t : Turn) (x y : ℕ) → inside j i (placeAt t x y) ≡ true → (x ≤ j .columns) × (y ≤ j .rows)
+corner-inside : (j : Job) (i : ℕ) (t : Turn) (x y : ℕ) → inside j i (placeAt t x y) ≡ true → (x ≤ j .size .columns) × (y ≤ j .size .rows)
 unfolding inside
 corner-inside j i t x y e =
     let s = turnedPiece j i t in
-    let a : x + s .columns ≤ j .columns = leb-true _ _ (and-left _ (leb (y + s .rows) (j .rows)) e) in
-    let b : y + s .rows ≤ j .rows = leb-true _ _ (and-right (leb (x + s .columns) (j .columns)) _ e) in
+    let a : x + s .columns ≤ j .size .columns = leb-true _ _ (and-left _ (leb (y + s .rows) (j .size .rows)) e) in
+    let b : y + s .rows ≤ j .size .rows = leb-true _ _ (and-right (leb (x + s .columns) (j .size .columns)) _ e) in
     (omega arith, omega arith)
 
 -- a clipped field is past the sheet's end where the field is, since no sheet has 65,535 rows or columns
@@ -100,13 +100,13 @@ clipped-past u x k n e h = at (leb x 65535) refl
     at true t = let g = leb-true x 65535 t in let s : u ≡ x = omega arith in rw s
     at false t = let g = leb-false x 65535 t in lt-leb (u + k) n (omega arith) ∙ sym (lt-leb (x + k) n (omega arith))
 
-module _ (j : Job) (i : ℕ) (t : Turn) (x y u v : ℕ) (rows : j .rows ≤ rowBound) (columns : j .columns ≤ columnBound) (a : u ≡ min x 65535) (b : v ≡ min y 65535) where
+module _ (j : Job) (i : ℕ) (t : Turn) (x y u v : ℕ) (rows : j .size .rows ≤ rowBound) (columns : j .size .columns ≤ columnBound) (a : u ≡ min x 65535) (b : v ≡ min y 65535) where
   -- the corner by its clipped fields is inside exactly where the corner is
   pub clipped-inside : inside j i (placeAt t u v) ≡ inside j i (placeAt t x y)
   unfolding inside
   clipped-inside =
       let s = turnedPiece j i t in
-      ap₂ _&&_ (clipped-past u x (s .columns) (j .columns) a (omega arith)) (clipped-past v y (s .rows) (j .rows) b (omega arith))
+      ap₂ _&&_ (clipped-past u x (s .columns) (j .size .columns) a (omega arith)) (clipped-past v y (s .rows) (j .size .rows) b (omega arith))
 
   -- and then it is the corner
   pub clipped-same : inside j i (placeAt t x y) ≡ true → placeAt t u v ≡ placeAt t x y

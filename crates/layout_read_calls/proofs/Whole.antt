@@ -66,18 +66,18 @@ buffer-filled es before e =
 -- ── the outcomes ──
 
 module _ (l : Lent) (text : List ℕ) (p room : ℕ) where
-  pub from-refused : (r : Refusal) → placementsAt (jobOf l) text (l .count) 0 p 2 ≡ refused r → layoutFrom (jobOf l) text p room ≡ refused r
+  pub from-refused : (r : Refusal) → placementsAt (jobOf l) text (l .size .count) 0 p 2 ≡ refused r → layoutFrom (jobOf l) text p room ≡ refused r
   unfolding jobOf
   from-refused r e = rw e
 
-  pub from-unlike : (v : Layout) → placementsAt (jobOf l) text (l .count) 0 p 2 ≡ given v → (room ≡ l .count → ⊥)
+  pub from-unlike : (v : Layout) → placementsAt (jobOf l) text (l .size .count) 0 p 2 ≡ given v → (room ≡ l .size .count → ⊥)
       → layoutFrom (jobOf l) text p room ≡ refused (refusalOf (cause wrongLength true))
   unfolding jobOf unless
-  from-unlike v e n = rw (e, ne-eqb room (l .count) n)
+  from-unlike v e n = rw (e, ne-eqb room (l .size .count) n)
 
-  pub from-given : (v : Layout) → placementsAt (jobOf l) text (l .count) 0 p 2 ≡ given v → room ≡ l .count → layoutFrom (jobOf l) text p room ≡ given v
+  pub from-given : (v : Layout) → placementsAt (jobOf l) text (l .size .count) 0 p 2 ≡ given v → room ≡ l .size .count → layoutFrom (jobOf l) text p room ≡ given v
   unfolding jobOf unless
-  from-given v e n = rw (e, eq-eqb room (l .count) n)
+  from-given v e n = rw (e, eq-eqb room (l .size .count) n)
 
 module _ (l : Lent) (text : List ℕ) (room : ℕ) where
   pub read-unsound : lentWell l ≡ false → readLayoutCall l text room ≡ refused (refusalOf (cause notOurs true))

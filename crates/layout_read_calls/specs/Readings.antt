@@ -31,7 +31,7 @@ placeOnLine j i line ks = unless (placementCauses line j i ks (asPlacementLine k
 -- the layout that the pieces' lines from position p on give, unless the buffer has another length
 abbrev pub layoutFrom : Job → List ℕ → ℕ → ℕ → Outcome Layout
 layoutFrom j text p room =
-    andThen (placementsAt j text (j .count) 0 p 2) (λ v. unless (cause wrongLength (not (eqb room (j .count))) ∷ []) v)
+    andThen (placementsAt j text (j .size .count) 0 p 2) (λ v. unless (cause wrongLength (not (eqb room (j .size .count))) ∷ []) v)
 
 -- the position after the layout line
 abbrev pub positionAnswer : Outcome ℕ → PositionAnswer

@@ -19,13 +19,13 @@ use Rattle.descent_laws.proofs.Start.{order-exactly}
 use Rattle.layout_start_calls.specs.Stacks.{stackEntries, emptyStack}
 
 -- a new stack to the right, where the piece would rise above the sheet
-pub room-new : (j : Job) (i : ℕ) (s : Stack) → j .rows < s .height + boxRows j i
+pub room-new : (j : Job) (i : ℕ) (s : Stack) → j .size .rows < s .height + boxRows j i
     → roomFor j i s ≡ record { left = s .left + s .length; height = 0; length = 0 }
-room-new j i s h = rw (lt-ltb (j .rows) (s .height + boxRows j i) h, roomFor)
+room-new j i s h = rw (lt-ltb (j .size .rows) (s .height + boxRows j i) h, roomFor)
 
 -- the same stack, where it does not
-pub room-same : (j : Job) (i : ℕ) (s : Stack) → s .height + boxRows j i ≤ j .rows → roomFor j i s ≡ s
-room-same j i s h = rw (le-ltb (j .rows) (s .height + boxRows j i) h, roomFor)
+pub room-same : (j : Job) (i : ℕ) (s : Stack) → s .height + boxRows j i ≤ j .size .rows → roomFor j i s ≡ s
+room-same j i s h = rw (le-ltb (j .size .rows) (s .height + boxRows j i) h, roomFor)
 
 -- ── entries ──
 
@@ -77,19 +77,19 @@ unfolding stackEntries
 stack-step j order k i before room after e es l here made placed on = rw (on, placed, made, add-one, drop-cons order k 0 l, here, stackEntries)
 
 -- the start layout in a buffer: the pieces in order, stacked over whatever it held
-start-entries : (j : Job) (es : List (List ℕ)) → length es ≡ j .count
-    → entriesOf (start j) ≡ stackEntries j (fallingOrder j (j .count)) emptyStack es
+start-entries : (j : Job) (es : List (List ℕ)) → length es ≡ j .size .count
+    → entriesOf (start j) ≡ stackEntries j (fallingOrder j (j .size .count)) emptyStack es
 unfolding start
 start-entries j es n =
-    stack-entries j (fallingOrder j (j .count)) emptyStack (replicate (j .count) origin)
-    ∙ stack-alike j (fallingOrder j (j .count)) emptyStack _ es
+    stack-entries j (fallingOrder j (j .size .count)) emptyStack (replicate (j .size .count) origin)
+    ∙ stack-alike j (fallingOrder j (j .size .count)) emptyStack _ es
     (record {
-      size = length-map (replicate (j .count) origin) entryOf ∙ length-replicate (j .count) origin ∙ sym n;
-      agree = λ k l out. absurd (out (order-exactly j (j .count) k .1 (rw (length-map, length-replicate) at l)));
+      size = length-map (replicate (j .size .count) origin) entryOf ∙ length-replicate (j .size .count) origin ∙ sym n;
+      agree = λ k l out. absurd (out (order-exactly j (j .size .count) k .1 (rw (length-map, length-replicate) at l)));
     })
 
 -- the pieces of a job stacked in falling order are its start layout
-pub start-laid : (l : Lent) (order : List ℕ) (es laid : List (List ℕ)) → length es ≡ l .count → order ≡ fallingOrder (jobOf l) (l .count)
+pub start-laid : (l : Lent) (order : List ℕ) (es laid : List (List ℕ)) → length es ≡ l .size .count → order ≡ fallingOrder (jobOf l) (l .size .count)
     → laid ≡ stackEntries (jobOf l) order emptyStack es → laid ≡ entriesOf (start (jobOf l))
 unfolding jobOf
 start-laid l order es laid n o e =

@@ -66,10 +66,10 @@ weights-end ws k e = ap (λ m. someWeightWrong (drop m ws)) e ∙ ap someWeightW
 -- ── layouts ──
 
 -- no placement is outside
-laid-by : (l : Lent) (es : List (List ℕ)) → lentWell l ≡ true → length es ≡ l .count → someOutside (jobOf l) (layoutOf es) ≡ false → Laid l es
+laid-by : (l : Lent) (es : List (List ℕ)) → lentWell l ≡ true → length es ≡ l .size .count → someOutside (jobOf l) (layoutOf es) ≡ false → Laid l es
 unfolding someOutside jobOf
 laid-by l es w n out =
-    record { well = w; whole = n; within = λ i b. not-false (inside (jobOf l) i (placeOf (layoutOf es) i)) (any-none (l .count) _ out i b) }
+    record { well = w; whole = n; within = λ i b. not-false (inside (jobOf l) i (placeOf (layoutOf es) i)) (any-none (l .size .count) _ out i b) }
 
 -- where no cause of a call on a layout is there
 pub layout-laid : (l : Lent) (es : List (List ℕ)) → NoCause (layoutCauses l es) → Laid l es
@@ -78,20 +78,20 @@ layout-laid l es h = let s = sound l es h in laid-by l es (s .well) (s .whole) (
 -- a job that passes its check, a layout buffer of its length and one weight a pair
 pub record Ready (l : Lent) (es : List (List ℕ)) (ws : List ℕ) : Type 0 where
   pub well : lentWell l ≡ true
-  pub whole : length es ≡ l .count
-  pub onePerPair : length ws ≡ length (pairs (l .count))
+  pub whole : length es ≡ l .size .count
+  pub onePerPair : length ws ≡ length (pairs (l .size .count))
 
 -- where no cause of the job and of the lengths is there
 pub lengths-ready : (l : Lent) (es : List (List ℕ)) (ws : List ℕ) → NoCause (lengthCauses l es ws) → Ready l es ws
 lengths-ready l es ws h =
     record {
       well = not-false (lentWell l) (h .0);
-      whole = eqb-true (length es) (l .count) (not-false (eqb (length es) (l .count)) (h .1 .0));
-      onePerPair = eqb-true (length ws) (length (pairs (l .count))) (not-false (eqb (length ws) (length (pairs (l .count)))) (h .1 .1 .0));
+      whole = eqb-true (length es) (l .size .count) (not-false (eqb (length es) (l .size .count)) (h .1 .0));
+      onePerPair = eqb-true (length ws) (length (pairs (l .size .count))) (not-false (eqb (length ws) (length (pairs (l .size .count)))) (h .1 .1 .0));
     }
 
 -- where none of a weighted sum is there
-pub sum-ready : (l : Lent) (es : List (List ℕ)) (ws : List ℕ) → NoCause (lengthCauses l es ws ++ placeCauses l es) → Laid l es × (length ws ≡ length (pairs (l .count)))
+pub sum-ready : (l : Lent) (es : List (List ℕ)) (ws : List ℕ) → NoCause (lengthCauses l es ws ++ placeCauses l es) → Laid l es × (length ws ≡ length (pairs (l .size .count)))
 sum-ready l es ws h =
     let r = lengths-ready l es ws (h .0, (h .1 .0, (h .1 .1 .0, (h .1 .1 .1 .0, tt)))) in
     (laid-by l es (r .well) (r .whole) (h .1 .1 .1 .1 .1 .0), r .onePerPair)

@@ -71,7 +71,7 @@ pub rows-begin : (l : Lent) (layout : List (List ℕ)) → Laid l layout
 unfolding sharingPair jobOf
 rows-begin l layout h =
     let whole = h .whole in
-    let e : l .count ≡ length layout - 0 = omega arith in
+    let e : l .size .count ≡ length layout - 0 = omega arith in
     ap (λ n. firstPair (pairShares (jobOf l) (layoutOf layout)) (pairsFrom 0 n)) e
 
 -- the rows from i on: the first row, and those after it

@@ -80,11 +80,11 @@ allowedDegrees j i k = turnPasses (allowed j i) k
 
 -- some piece's turn in a layout buffer is not allowed
 unfoldable pub someTurnWrong : Job → List (List ℕ) → Bool
-someTurnWrong j es = anyBelow (j .count) (λ i. not (allowedDegrees j i (getD (getD es i []) 0 0)))
+someTurnWrong j es = anyBelow (j .size .count) (λ i. not (allowedDegrees j i (getD (getD es i []) 0 0)))
 
 -- some piece's placement is outside
 unfoldable pub someOutside : Job → Layout → Bool
-someOutside j v = anyBelow (j .count) (λ i. not (inside j i (placeOf v i)))
+someOutside j v = anyBelow (j .size .count) (λ i. not (inside j i (placeOf v i)))
 
 -- some weight is out of range
 unfoldable pub someWeightWrong : List ℕ → Bool
@@ -93,11 +93,11 @@ someWeightWrong (w ∷ ws) = elim (upTo weightBound w) [ true ↦ someWeightWron
 
 -- the layout buffer is not n long
 abbrev pub layoutLength : Lent → List (List ℕ) → Cause
-layoutLength l es = exactly (l .count) (length es)
+layoutLength l es = exactly (l .size .count) (length es)
 
 -- the weight buffer has not one weight a pair
 abbrev pub weightsLength : Lent → List ℕ → Cause
-weightsLength l ws = exactly (length (pairs (l .count))) (length ws)
+weightsLength l ws = exactly (length (pairs (l .size .count))) (length ws)
 
 -- a weight is out of range
 abbrev pub weightsCause : List ℕ → Cause
@@ -115,7 +115,7 @@ outsideCause l es = cause outsideSheet (someOutside (jobOf l) (layoutOf es))
 
 -- a list of turns is not n long, or one is not allowed
 unfoldable pub turnListWrong : Job → List ℕ → Bool
-turnListWrong j ts = not (eqb (length ts) (j .count)) || anyBelow (j .count) (λ i. not (allowedDegrees j i (getD ts i 0)))
+turnListWrong j ts = not (eqb (length ts) (j .size .count)) || anyBelow (j .size .count) (λ i. not (allowedDegrees j i (getD ts i 0)))
 
 -- the two stores and their starts
 pub record Stores : Type 0 where
@@ -174,7 +174,7 @@ stretchOf Vertical lent i = stretchIn (lent .columnStrips) (lent .columnStarts) 
 unfoldable pub stretchCall : Lent → List ℕ → Stores → ℕ → Direction → Outcome (List (List ℕ))
 stretchCall l ts lent i d =
     unless
-    (jobCause l ∷ cause noSuchPiece (turnListWrong (jobOf l) ts || not (ltb i (l .count)))
+    (jobCause l ∷ cause noSuchPiece (turnListWrong (jobOf l) ts || not (ltb i (l .size .count)))
     ∷ cause notOurs (not (storesWell (jobOf l) ts lent)) ∷ [])
     (stretchOf d lent i)
 
@@ -195,7 +195,7 @@ pub record LentStretch : Type 0 where
 
 -- there is such a piece and the turn is allowed to it
 unfoldable pub known : Job → LentStretch → Bool
-known j p = ltb (p .piece) (j .count) && allowed j (p .piece) (p .turn)
+known j p = ltb (p .piece) (j .size .count) && allowed j (p .piece) (p .turn)
 
 -- the stretch is that of the piece in the turn
 unfoldable pub stretchWell : Direction → Job → LentStretch → Bool
@@ -244,7 +244,7 @@ pixelsAfter before o = leaving (λ s. filled (bytesOf s) before) before o
 -- 9 for a pair: a turn not allowed, no such piece, or a piece with itself
 abbrev pub pairCause : Lent → List (List ℕ) → ℕ → ℕ → Cause
 pairCause l es i k =
-    cause noSuchPiece (someTurnWrong (jobOf l) es || not (ltb i (l .count)) || not (ltb k (l .count)) || eqb i k)
+    cause noSuchPiece (someTurnWrong (jobOf l) es || not (ltb i (l .size .count)) || not (ltb k (l .size .count)) || eqb i k)
 
 -- the causes of a call on a pair of a layout: 8, 7, 9, 10
 unfoldable pub pairCauses : Lent → List (List ℕ) → ℕ → ℕ → List Cause
@@ -292,7 +292,7 @@ unfoldable pub searchCall : Lent → List (List ℕ) → List ℕ → ℕ → Tu
 searchCall l es ws i t line =
     unless
     (jobCause l ∷ layoutLength l es ∷ weightsLength l ws ∷ weightsCause ws
-    ∷ cause noSuchPiece (someTurnWrong (jobOf l) es || not (ltb i (l .count)) || not (allowed (jobOf l) i t))
+    ∷ cause noSuchPiece (someTurnWrong (jobOf l) es || not (ltb i (l .size .count)) || not (allowed (jobOf l) i t))
     ∷ outsideCause l es ∷ cause emptyLine (eqb (places (jobOf l) i t line) 0) ∷ [])
     (bestPlace (searchLine (jobOf l) ws (layoutOf es) i t line))
 
@@ -362,7 +362,7 @@ readLayoutCall l text room = andThen (unless (jobCause l ∷ []) (jobOf l)) (λ 
 
 -- the start layout: 8, 7
 unfoldable pub startCall : Lent → ℕ → Outcome Layout
-startCall l room = unless (jobCause l ∷ exactly (l .count) room ∷ []) (start (jobOf l))
+startCall l room = unless (jobCause l ∷ exactly (l .size .count) room ∷ []) (start (jobOf l))
 
 -- 12, with the pair that shares a pixel
 abbrev pub sharedCause : Option Pair → Cause
@@ -380,7 +380,7 @@ checkCall l es =
 
 -- so many counts are needed: one a pixel
 abbrev pub countsLength : Lent → ℕ → Cause
-countsLength l room = exactly (l .rows * l .columns) room
+countsLength l room = exactly (l .size .rows * l .size .columns) room
 
 -- a fresh sheet: 8, 7
 unfoldable pub freshCall : Lent → ℕ → Outcome Sheet

@@ -33,7 +33,7 @@ entryIn es i = getD es i blank
 
 -- the sheet's pixel with number k
 abbrev pub pixelAt : Job → ℕ → Point
-pixelAt j k = record { x = k % j .columns; y = k / j .columns }
+pixelAt j k = record { x = k % j .size .columns; y = k / j .size .columns }
 
 -- piece i at a placement covers the pixel with number k
 unfoldable pub coversPixel : Job → ℕ → Placement → ℕ → Bool
@@ -48,7 +48,7 @@ mapFrom f k (c ∷ cs) = f k c ∷ mapFrom f (suc k) cs
 
 -- a fresh sheet: nothing is laid and all counts are 0
 unfoldable pub fresh : Job → Sheet
-fresh j = record { pieces = replicate pieceBound blank; counts = replicate (j .rows * j .columns) 0 }
+fresh j = record { pieces = replicate pieceBound blank; counts = replicate (j .size .rows * j .size .columns) 0 }
 
 -- piece i laid: its entry holds the placement, and each pixel that it covers counts one more
 unfoldable pub lay : Job → Sheet → ℕ → Placement → Sheet
@@ -69,12 +69,12 @@ withdraw j s i =
 -- why a lay is refused: no such piece or turn not allowed; laid already; outside
 unfoldable pub layCauses : Job → Sheet → ℕ → Placement → List Cause
 layCauses j s i p =
-    cause noSuchPiece (not (ltb i (j .count) && allowed j i (p .turn))) ∷ cause laidAlready (entryIn (s .pieces) i .laid)
+    cause noSuchPiece (not (ltb i (j .size .count) && allowed j i (p .turn))) ∷ cause laidAlready (entryIn (s .pieces) i .laid)
     ∷ cause outsideSheet (not (inside j i p)) ∷ []
 
 -- why a withdraw is refused: no such piece; not laid
 unfoldable pub withdrawCauses : Job → Sheet → ℕ → List Cause
-withdrawCauses j s i = cause noSuchPiece (not (ltb i (j .count))) ∷ cause notLaid (not (entryIn (s .pieces) i .laid)) ∷ []
+withdrawCauses j s i = cause noSuchPiece (not (ltb i (j .size .count))) ∷ cause notLaid (not (entryIn (s .pieces) i .laid)) ∷ []
 
 -- a call on a sheet
 pub data Call : Type 0 where
@@ -104,7 +104,7 @@ laidOn j es k i = entryIn es i .laid && coversPixel j i (entryIn es i .place) k
 
 -- the number of laid pieces on the pixel with number k
 unfoldable pub laidCount : Job → List Entry → ℕ → ℕ
-laidCount j es k = sumBelow (j .count) (λ i. one-if (laidOn j es k i))
+laidCount j es k = sumBelow (j .size .count) (λ i. one-if (laidOn j es k i))
 
 -- the entry is that of a piece that is not laid: turn 0, corner (0, 0)
 unfoldable pub isBlank : Entry → Bool
@@ -114,14 +114,14 @@ isBlank e = not (e .laid) && eqb (degrees (e .place .turn)) 0 && eqb (e .place .
 unfoldable pub entryWell : Job → List Entry → ℕ → Bool
 entryWell j es i =
     isBlank (entryIn es i)
-    || (entryIn es i .laid && ltb i (j .count) && allowed j i (entryIn es i .place .turn) && inside j i (entryIn es i .place))
+    || (entryIn es i .laid && ltb i (j .size .count) && allowed j i (entryIn es i .place .turn) && inside j i (entryIn es i .place))
 
 -- a sheet that some list of calls from a fresh one gives
 unfoldable pub sheetWell : Job → Sheet → Bool
 sheetWell j s =
     eqb (length (s .pieces)) pieceBound && allBelow pieceBound (entryWell j (s .pieces))
-    && eqb (length (s .counts)) (j .rows * j .columns)
-    && allBelow (j .rows * j .columns) (λ k. eqb (getD (s .counts) k 0) (laidCount j (s .pieces) k))
+    && eqb (length (s .counts)) (j .size .rows * j .size .columns)
+    && allBelow (j .size .rows * j .size .columns) (λ k. eqb (getD (s .counts) k 0) (laidCount j (s .pieces) k))
 
 -- ── the last call that was not refused ──
 

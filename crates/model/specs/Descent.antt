@@ -44,7 +44,7 @@ trialsFrom j i (suc left) = pieceTrials j i ++ trialsFrom j (suc i) left
 
 -- all trials, in order of piece, turn, horizontal before vertical; T is its length
 unfoldable pub trials : Job → List Trial
-trials j = trialsFrom j 0 (j .count)
+trials j = trialsFrom j 0 (j .size .count)
 
 -- what a trial comes to: a move, with the layout after it, or quiet
 pub data Attempt : Type 0 where

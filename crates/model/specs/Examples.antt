@@ -72,7 +72,7 @@ place a b = record { turn = Zero; x = record { 0 = a }; y = record { 0 = b } }
 
 -- two full 2 × 2 pieces, o = 1, on a sheet of 2 rows and so many columns
 twoSquares : ℕ → Job
-twoSquares columns = record { rows = 2; columns = columns; count = 2; piece = λ i. record { shape = shapeA; turns = 1 } }
+twoSquares columns = record { size = record { rows = 2; columns = columns; count = 2 }; piece = λ i. record { shape = shapeA; turns = 1 } }
 
 -- ── the examples ──
 

@@ -21,7 +21,7 @@ raisedOver test (p ∷ ps) (w ∷ ws) = elim (test p) [ true ↦ min (suc w) wei
 
 -- the weights after a round that is not clear: each pair that shares a pixel at its end is raised
 unfoldable pub raised : Job → Layout → List ℕ → List ℕ
-raised j v ws = raisedOver (pairShares j v) (pairs (j .count)) ws
+raised j v ws = raisedOver (pairShares j v) (pairs (j .size .count)) ws
 
 -- a round: the layout and weights that it begins with, and its descent
 pub record Round : Type 0 where

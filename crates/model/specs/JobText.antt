@@ -7,7 +7,8 @@ use lib.Dec.{leb, ltb, eqb}
 use lib.ListN.{length, getD}
 use Rattle.model.specs.Piece.{Shape, tight, sideBound}
 use Rattle.model.specs.Refusal.{Outcome, given, Cause, cause, unless, wrongForm, outOfRange, sheetTooLarge, boxesTooLarge, looseBox, boxTooLarge, wrongLength}
-use Rattle.model.specs.Lent.{Lent, rowBound, columnBound, pieceBound, turnsBound, areaBound, upTo}
+use Rattle.model.specs.Lent.{Lent, turnsBound, areaBound, upTo, numbersInRange}
+use Rattle.model.specs.declared.JobSize.{JobSize}
 use Rattle.model.specs.Text.{bytes, byte, lineEnd, Reading, wrong, got, onward, after, threeFields, fourFields, lineAt, field, causeIn, formed, andThen}
 
 -- the word that begins the job line; 1 is the version
@@ -26,20 +27,18 @@ rowWord = bytes "row,"
 
 -- what the job line says: W rows, L columns, n pieces; and the position after it
 pub record JobLine : Type 0 where
-  pub rows : ℕ
-  pub columns : ℕ
-  pub count : ℕ
+  pub size : JobSize
   pub next : ℕ
 
 -- the numbers W, L, n that are read, and the position after them
 abbrev pub asJobLine : List ℕ → ℕ → JobLine
-asJobLine ks next = record { rows = field ks 0; columns = field ks 1; count = field ks 2; next = next }
+asJobLine ks next = record { size = record { rows = field ks 0; columns = field ks 1; count = field ks 2 }; next = next }
 
 -- a number out of range, then W × L above 65,536
 abbrev pub jobLineCauses : JobLine → List Cause
 jobLineCauses j =
-    causeIn 1 outOfRange (not (upTo rowBound (j .rows) && upTo columnBound (j .columns) && upTo pieceBound (j .count)))
-    ∷ causeIn 1 sheetTooLarge (ltb areaBound (j .rows * j .columns)) ∷ []
+    causeIn 1 outOfRange (not (numbersInRange (j .size)))
+    ∷ causeIn 1 sheetTooLarge (ltb areaBound (j .size .rows * j .size .columns)) ∷ []
 
 -- the job line, `job,1,W,L,n`
 unfoldable pub jobLine : List ℕ → Outcome JobLine
@@ -72,7 +71,7 @@ pieceInRange i h =
 abbrev pub pieceLineCauses : ℕ → JobLine → ℕ → ℕ → PieceLine → List Cause
 pieceLineCauses line j i area h =
     causeIn line outOfRange (not (pieceInRange i h))
-    ∷ causeIn line boxTooLarge (ltb (j .columns) (h .columns) || ltb (j .rows) (h .rows))
+    ∷ causeIn line boxTooLarge (ltb (j .size .columns) (h .columns) || ltb (j .size .rows) (h .rows))
     ∷ causeIn line boxesTooLarge (ltb areaBound (area + h .columns * h .rows)) ∷ []
 
 -- the line of piece i at position p, `piece,i,l,w,o`
@@ -179,17 +178,17 @@ piecesAt text j (suc left) i area p line =
 -- the job with just the entries and pixel bytes that its text gives
 abbrev pub asLent : JobLine → Pieces → Lent
 asLent j r =
-    record { rows = j .rows; columns = j .columns; count = j .count; table = r .table; pixels = r .pixels }
+    record { size = j .size; table = r .table; pixels = r .pixels }
 
 -- a lent buffer is shorter than needed
 abbrev pub bufferCauses : ℕ → ℕ → Lent → List Cause
 bufferCauses tableLength pixelsLength k =
-    cause wrongLength (ltb tableLength (k .count) || ltb pixelsLength (length (k .pixels))) ∷ []
+    cause wrongLength (ltb tableLength (k .size .count) || ltb pixelsLength (length (k .pixels))) ∷ []
 
 -- reading a job from its text into a table and a pixel store of the given lengths
 unfoldable pub readJob : List ℕ → ℕ → ℕ → Outcome Lent
 readJob text tableLength pixelsLength =
     andThen (jobLine text)
     (λ j.
-    andThen (piecesAt text j (j .count) 0 0 (j .next) 2)
+    andThen (piecesAt text j (j .size .count) 0 0 (j .next) 2)
     (λ r. unless (bufferCauses tableLength pixelsLength (asLent j r)) (asLent j r)))

@@ -13,18 +13,17 @@ use Rattle.model.specs.declared.Turn.the-variants.{Zero}
 use Rattle.model.specs.declared.Direction.{Direction}
 use Rattle.model.specs.declared.Direction.the-variants.{Horizontal, Vertical}
 use Rattle.model.specs.declared.Placement.{Placement}
+use Rattle.model.specs.declared.JobSize.{JobSize}
 
 -- a job: a sheet of so many rows (W) and columns (L), and so many pieces (n), numbered from 0
 pub record Job : Type 0 where
-  pub rows : ℕ
-  pub columns : ℕ
-  pub count : ℕ
+  pub size : JobSize
   pub piece : ℕ → Piece
 
 -- the sheet's pixels along the direction: L columns, W rows
 abbrev pub sheetExtent : Direction → Job → ℕ
-sheetExtent Horizontal j = j .columns
-sheetExtent Vertical j = j .rows
+sheetExtent Horizontal j = j .size .columns
+sheetExtent Vertical j = j .size .rows
 
 -- a piece in a turn
 abbrev pub turnedPiece : Job → ℕ → Turn → Shape
@@ -37,7 +36,7 @@ allowed j i t = allows (j .piece i .turns) t
 -- the turned box lies in the sheet
 unfoldable pub inside : Job → ℕ → Placement → Bool
 inside j i p =
-    leb (p .x .0 + turnedPiece j i (p .turn) .columns) (j .columns) && leb (p .y .0 + turnedPiece j i (p .turn) .rows) (j .rows)
+    leb (p .x .0 + turnedPiece j i (p .turn) .columns) (j .size .columns) && leb (p .y .0 + turnedPiece j i (p .turn) .rows) (j .size .rows)
 
 -- turn 0 at corner (0, 0)
 abbrev pub origin : Placement
@@ -114,7 +113,7 @@ sumOver test cost (p ∷ ps) (w ∷ ws) = elim (test p) [ true ↦ w * cost p | 
 
 -- the weighted sum: over all pairs
 unfoldable pub weightedSum : Job → List ℕ → Layout → ℕ
-weightedSum j ws v = sumOver (λ p. true) (pairPenalty j v) (pairs (j .count)) ws
+weightedSum j ws v = sumOver (λ p. true) (pairPenalty j v) (pairs (j .size .count)) ws
 
 -- weights 1, one a pair
 unfoldable pub unitWeights : ℕ → List ℕ
@@ -122,11 +121,11 @@ unitWeights n = replicate (length (pairs n)) 1
 
 -- the plain sum: weights 1
 unfoldable pub plainSum : Job → Layout → ℕ
-plainSum j v = weightedSum j (unitWeights (j .count)) v
+plainSum j v = weightedSum j (unitWeights (j .size .count)) v
 
 -- the weighted sum of the pairs that name piece i
 unfoldable pub pieceSum : Job → List ℕ → Layout → ℕ → ℕ
-pieceSum j ws v i = sumOver (names i) (pairPenalty j v) (pairs (j .count)) ws
+pieceSum j ws v i = sumOver (names i) (pairPenalty j v) (pairs (j .size .count)) ws
 
 -- ── the whole layout ──
 
@@ -141,7 +140,7 @@ rightmost j v (suc n) = max (rightmost j v n) (rightEnd j v n)
 
 -- the used length: the largest right end
 unfoldable pub usedLength : Job → Layout → ℕ
-usedLength j v = rightmost j v (j .count)
+usedLength j v = rightmost j v (j .size .count)
 
 -- the first pair of the list that passes
 unfoldable pub firstPair : (Pair → Bool) → List Pair → Option Pair
@@ -150,4 +149,4 @@ firstPair test (p ∷ ps) = elim (test p) [ true ↦ some p | false ↦ firstPai
 
 -- the pair that the check of a layout names: lowest first number, then lowest second
 unfoldable pub sharingPair : Job → Layout → Option Pair
-sharingPair j v = firstPair (pairShares j v) (pairs (j .count))
+sharingPair j v = firstPair (pairShares j v) (pairs (j .size .count))

@@ -32,7 +32,7 @@ placementsText i (p ∷ v) = placementText i p ++ placementsText (suc i) v
 
 -- the numbers W, L, n
 abbrev pub sheetNumbers : Job → List ℕ
-sheetNumbers j = j .rows ∷ j .columns ∷ j .count ∷ []
+sheetNumbers j = j .size .rows ∷ j .size .columns ∷ j .size .count ∷ []
 
 -- the text of a layout
 unfoldable pub layoutText : Job → Layout → List ℕ
@@ -43,7 +43,7 @@ layoutText j v = lineText layoutWord threeFields (sheetNumbers j) ++ placementsT
 -- W, L or n is unlike the job's
 abbrev pub layoutLineCauses : Job → List ℕ → List Cause
 layoutLineCauses j ks =
-    causeIn 1 outOfRange (not (eqb (field ks 0) (j .rows) && eqb (field ks 1) (j .columns) && eqb (field ks 2) (j .count))) ∷ []
+    causeIn 1 outOfRange (not (eqb (field ks 0) (j .size .rows) && eqb (field ks 1) (j .size .columns) && eqb (field ks 2) (j .size .count))) ∷ []
 
 -- the layout line, `layout,1,W,L,n`: the position after it
 unfoldable pub layoutLine : Job → List ℕ → Outcome ℕ
@@ -83,5 +83,5 @@ unfoldable pub readLayout : Job → List ℕ → ℕ → Outcome Layout
 readLayout j text layoutLength =
     andThen (layoutLine j text)
     (λ p.
-    andThen (placementsAt j text (j .count) 0 p 2)
-    (λ v. unless (cause wrongLength (not (eqb layoutLength (j .count))) ∷ []) v))
+    andThen (placementsAt j text (j .size .count) 0 p 2)
+    (λ v. unless (cause wrongLength (not (eqb layoutLength (j .size .count))) ∷ []) v))

@@ -13,16 +13,13 @@ use Rattle.model.specs.declared.JobSize.{JobSize}
 
 -- what is lent
 pub record Lent : Type 0 where
-  pub rows : ℕ
-  pub columns : ℕ
-  pub count : ℕ
+  pub size : JobSize
   pub table : List (List ℕ)
   pub pixels : List ℕ
 
 -- the job that a call is lent: its numbers, its table and its pixels
 abbrev pub lentBy : JobSize → List (List ℕ) → List ℕ → Lent
-lentBy size table pixels =
-    record { rows = size .rows; columns = size .columns; count = size .count; table = table; pixels = pixels }
+lentBy size table pixels = record { size = size; table = table; pixels = pixels }
 
 -- ── document 01's limits ──
 
@@ -75,8 +72,8 @@ entryInRange table i =
     && leb (entryTurns table i) turnsBound
 
 -- the box is no longer and no wider than the sheet
-unfoldable pub entryFits : ℕ → ℕ → List (List ℕ) → ℕ → Bool
-entryFits rows columns table i = leb (entryColumns table i) columns && leb (entryRows table i) rows
+unfoldable pub entryFits : JobSize → List (List ℕ) → ℕ → Bool
+entryFits size table i = leb (entryColumns table i) (size .columns) && leb (entryRows table i) (size .rows)
 
 -- ── the job ──
 
@@ -93,24 +90,25 @@ lentShape j i =
 unfoldable pub jobOf : Lent → Job
 jobOf j =
     record {
-      rows = j .rows;
-      columns = j .columns;
-      count = j .count;
+      size = j .size;
       piece = λ i. record { shape = lentShape j i; turns = entryTurns (j .table) i };
     }
 
--- W, L and n are in range and the sheet is not too large
-unfoldable pub sheetInRange : ℕ → ℕ → ℕ → Bool
-sheetInRange rows columns count =
-    upTo rowBound rows && upTo columnBound columns && upTo pieceBound count && leb (rows * columns) areaBound
+-- W, L and n are in range
+abbrev pub numbersInRange : JobSize → Bool
+numbersInRange size = upTo rowBound (size .rows) && upTo columnBound (size .columns) && upTo pieceBound (size .count)
+
+-- they are, and the sheet is not too large
+unfoldable pub sheetInRange : JobSize → Bool
+sheetInRange size = numbersInRange size && leb (size .rows * size .columns) areaBound
 
 -- what is lent is what some reading gives: sheet, entries, areas, store, bytes and boxes
 unfoldable pub lentWell : Lent → Bool
 lentWell j =
-    sheetInRange (j .rows) (j .columns) (j .count) && leb (j .count) (length (j .table))
-    && allBelow (j .count) (entryInRange (j .table))
-    && allBelow (j .count) (entryFits (j .rows) (j .columns) (j .table))
-    && leb (pixelStart (j .table) (j .count)) areaBound
-    && leb (pixelStart (j .table) (j .count)) (length (j .pixels))
-    && allBelow (pixelStart (j .table) (j .count)) (λ k. leb (getD (j .pixels) k 0) 1)
-    && allBelow (j .count) (λ i. tight (lentShape j i))
+    sheetInRange (j .size) && leb (j .size .count) (length (j .table))
+    && allBelow (j .size .count) (entryInRange (j .table))
+    && allBelow (j .size .count) (entryFits (j .size) (j .table))
+    && leb (pixelStart (j .table) (j .size .count)) areaBound
+    && leb (pixelStart (j .table) (j .size .count)) (length (j .pixels))
+    && allBelow (pixelStart (j .table) (j .size .count)) (λ k. leb (getD (j .pixels) k 0) 1)
+    && allBelow (j .size .count) (λ i. tight (lentShape j i))

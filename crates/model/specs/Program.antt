@@ -48,7 +48,7 @@ runText j g =
 
 -- the program's run of a job: from the start layout, by weights 1
 unfoldable pub programRun : Job → Guided
-programRun j = guide j programRounds programBudget (unitWeights (j .count)) (start j)
+programRun j = guide j programRounds programBudget (unitWeights (j .size .count)) (start j)
 
 -- what is printed after the reading of a job: the refusal, or the run
 abbrev pub printed : Outcome Lent → List ℕ

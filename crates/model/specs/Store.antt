@@ -30,17 +30,17 @@ startsFrom d j ts at i (suc left) = at ∷ startsFrom d j ts (at + length (piece
 
 -- the row store (horizontal) or the column store (vertical)
 abbrev pub store : Direction → Job → List ℕ → List Strip
-store d j ts = storeFrom d j ts 0 (j .count)
+store d j ts = storeFrom d j ts 0 (j .size .count)
 
 -- its n + 1 starts, the last being the total
 abbrev pub starts : Direction → Job → List ℕ → List ℕ
-starts d j ts = startsFrom d j ts 0 0 (j .count)
+starts d j ts = startsFrom d j ts 0 0 (j .size .count)
 
 -- a lent store and lent starts begin with the job's in these turns
 unfoldable pub storeWell : Direction → Job → List ℕ → List (List ℕ) → List ℕ → Bool
 storeWell d j ts entries lentStarts =
     sameEntries (take (length (store d j ts)) entries) (map stripEntry (store d j ts))
-    && sameNumbers (take (suc (j .count)) lentStarts) (starts d j ts)
+    && sameNumbers (take (suc (j .size .count)) lentStarts) (starts d j ts)
 
 -- the part of a lent store that is piece i's stretch, by the lent starts
 unfoldable pub stretchIn : List (List ℕ) → List ℕ → ℕ → List (List ℕ)

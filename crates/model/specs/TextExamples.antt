@@ -30,7 +30,7 @@ flat f (given a) = 1 ∷ f a
 
 -- a job written out: W, L, n, the table, the pixel bytes
 flatLent : Lent → List ℕ
-flatLent k = k .rows ∷ k .columns ∷ k .count ∷ joined (k .table) ++ k .pixels
+flatLent k = k .size .rows ∷ k .size .columns ∷ k .size .count ∷ joined (k .table) ++ k .pixels
 
 -- a piece line written out: i, l, w, o, the position after it
 flatPiece : PieceLine → List ℕ
@@ -72,9 +72,7 @@ squares = "piece,0,2,2,1\nrow,##\nrow,##\npiece,1,2,2,1\nrow,##\nrow,##\n"
 example : Lent
 example =
     record {
-      rows = 2;
-      columns = 4;
-      count = 2;
+      size = record { rows = 2; columns = 4; count = 2 };
       table = (2 ∷ 2 ∷ 1 ∷ []) ∷ (2 ∷ 2 ∷ 1 ∷ []) ∷ [];
       pixels = 1 ∷ 1 ∷ 1 ∷ 1 ∷ 1 ∷ 1 ∷ 1 ∷ 1 ∷ [];
     }
@@ -149,12 +147,12 @@ pieceLines =
 -- the line of piece 1 after boxes of the given area, on line 9
 secondPiece : ℕ → List ℕ
 secondPiece area =
-    flat flatPiece (pieceLine (bytes "piece,1,2,2,1\n") (record { rows = 2; columns = 4; count = 2; next = 0 }) 1 area 0 9)
+    flat flatPiece (pieceLine (bytes "piece,1,2,2,1\n") (record { size = record { rows = 2; columns = 4; count = 2 }; next = 0 }) 1 area 0 9)
 
 -- pieces 1 and 2 after boxes of the given area, from line 9 on; the row lines of piece 2 are missing
 laterPieces : ℕ → List ℕ
 laterPieces area =
-    flat flatPieces (piecesAt (bytes "piece,1,1,1,1\nrow,#\npiece,2,2,2,1\n") (record { rows = 2; columns = 4; count = 3; next = 0 }) 2 1 area 0 9)
+    flat flatPieces (piecesAt (bytes "piece,1,1,1,1\nrow,#\npiece,2,2,2,1\n") (record { size = record { rows = 2; columns = 4; count = 3 }; next = 0 }) 2 1 area 0 9)
 
 -- box areas so far: up to 65,536, and above, by this box or by those before it
 boxAreas : Bool
@@ -226,9 +224,7 @@ layoutDamaged =
 bars : Lent
 bars =
     record {
-      rows = 12;
-      columns = 345;
-      count = 4;
+      size = record { rows = 12; columns = 345; count = 4 };
       table = (2 ∷ 1 ∷ 15 ∷ []) ∷ (2 ∷ 1 ∷ 15 ∷ []) ∷ (2 ∷ 1 ∷ 15 ∷ []) ∷ (2 ∷ 1 ∷ 15 ∷ []) ∷ [];
       pixels = 1 ∷ 1 ∷ 1 ∷ 1 ∷ 1 ∷ 1 ∷ 1 ∷ 1 ∷ [];
     }

@@ -52,7 +52,7 @@ largestSum = sameNumbers (wordLine (endWord 514080) (514080 ∷ 20000 ∷ 0 ∷ 
 
 -- two full 2 × 2 pieces, o = 1, on a sheet of 2 rows and so many columns
 twoSquares : ℕ → Job
-twoSquares columns = record { rows = 2; columns = columns; count = 2; piece = λ i. record { shape = full 2 2; turns = 1 } }
+twoSquares columns = record { size = record { rows = 2; columns = columns; count = 2 }; piece = λ i. record { shape = full 2 2; turns = 1 } }
 
 -- the weight at the end of the program's run: 1 with L = 4, where the start is clear; raised by each of the 20 rounds with L = 3
 weightsLeft : Bool
@@ -65,9 +65,7 @@ weightsLeft =
 fourBoxes : Job
 fourBoxes =
     record {
-      rows = 4;
-      columns = 6;
-      count = 4;
+      size = record { rows = 4; columns = 6; count = 4 };
       piece = λ i. record { shape = getD (full 2 2 ∷ full 3 2 ∷ full 2 2 ∷ full 1 4 ∷ []) i (full 1 1); turns = 1 };
     }
 
@@ -95,9 +93,7 @@ beside x y = penalty parts (record { x = 0; y = 0 }) (full 1 1) (record { x = x;
 partsAndPixel : Job
 partsAndPixel =
     record {
-      rows = 2;
-      columns = 4;
-      count = 2;
+      size = record { rows = 2; columns = 4; count = 2 };
       piece = λ i. record { shape = getD (parts ∷ full 1 1 ∷ []) i (full 1 1); turns = 1 };
     }
 

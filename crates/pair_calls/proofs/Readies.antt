@@ -24,7 +24,7 @@ use Rattle.pair_measure.specs.Ready.{Ready, Together}
 
 -- a piece of a layout that passes
 pub piece-ready : (l : Lent) (es : List (List ℕ)) → lentWell l ≡ true → someOutside (jobOf l) (layoutOf es) ≡ false
-    → (i : ℕ) → i < l .count → Ready (l .table) i (placeOf (layoutOf es) i)
+    → (i : ℕ) → i < l .size .count → Ready (l .table) i (placeOf (layoutOf es) i)
 unfolding someOutside inside jobOf
 piece-ready l es w out i b =
     let p = placeOf (layoutOf es) i in
@@ -32,26 +32,26 @@ piece-ready l es w out i b =
     let r = m .fewRows in
     let c = m .fewColumns in
     let n = m .fewPieces in
-    let e : inside (jobOf l) i p ≡ true = not-false (inside (jobOf l) i p) (any-none (l .count) _ out i b) in
-    let x : leb (p .x .0 + turnedPiece (jobOf l) i (p .turn) .columns) (l .columns) ≡ true = and-left _ _ e in
-    let y : leb (p .y .0 + turnedPiece (jobOf l) i (p .turn) .rows) (l .rows) ≡ true = and-right (leb (p .x .0 + turnedPiece (jobOf l) i (p .turn) .columns) (l .columns)) _ e in
+    let e : inside (jobOf l) i p ≡ true = not-false (inside (jobOf l) i p) (any-none (l .size .count) _ out i b) in
+    let x : leb (p .x .0 + turnedPiece (jobOf l) i (p .turn) .columns) (l .size .columns) ≡ true = and-left _ _ e in
+    let y : leb (p .y .0 + turnedPiece (jobOf l) i (p .turn) .rows) (l .size .rows) ≡ true = and-right (leb (p .x .0 + turnedPiece (jobOf l) i (p .turn) .columns) (l .size .columns)) _ e in
     record {
       entry = entry-at l i w b;
       few = omega arith;
-      x = omega (arith, leb-true (p .x .0 + turnedPiece (jobOf l) i (p .turn) .columns) (l .columns) x);
-      y = omega (arith, leb-true (p .y .0 + turnedPiece (jobOf l) i (p .turn) .rows) (l .rows) y);
+      x = omega (arith, leb-true (p .x .0 + turnedPiece (jobOf l) i (p .turn) .columns) (l .size .columns) x);
+      y = omega (arith, leb-true (p .y .0 + turnedPiece (jobOf l) i (p .turn) .rows) (l .size .rows) y);
     }
 
 -- of two pieces the earlier one's pixels end before the later one's begin
-pub pair-together : (l : Lent) → lentWell l ≡ true → (i k : ℕ) → i < l .count → k < l .count → eqb i k ≡ false → Together (l .table) i k
+pub pair-together : (l : Lent) → lentWell l ≡ true → (i k : ℕ) → i < l .size .count → k < l .size .count → eqb i k ≡ false → Together (l .table) i k
 pair-together l w i k a b e =
     let all = facts l w .areas in
     ⊎-elim
-    (λ h. omega (arith, start-end (l .table) i k (ltb-true i k h), start-end (l .table) k (l .count) b))
+    (λ h. omega (arith, start-end (l .table) i k (ltb-true i k h), start-end (l .table) k (l .size .count) b))
     (λ h.
     ⊎-elim
     (λ (q : k ≡ i). absurd (eqb-false i k e (sym q)))
-    (λ (m : k < i). omega (arith, start-end (l .table) k i m, start-end (l .table) i (l .count) a))
+    (λ (m : k < i). omega (arith, start-end (l .table) k i m, start-end (l .table) i (l .size .count) a))
     (eq-or-lt-of-le (ltb-false i k h)))
     (decided (ltb i k))
 
@@ -67,13 +67,13 @@ pub measurable : (l : Lent) (es : List (List ℕ)) (i k : ℕ) → NoCause (pair
 unfolding pairCauses
 measurable l es i k h =
     let w : lentWell l ≡ true = not-false (lentWell l) (h .0) in
-    let n : length es ≡ l .count = eqb-true (length es) (l .count) (not-false (eqb (length es) (l .count)) (h .1 .0)) in
+    let n : length es ≡ l .size .count = eqb-true (length es) (l .size .count) (not-false (eqb (length es) (l .size .count)) (h .1 .0)) in
     let t : Bool = someTurnWrong (jobOf l) es in
-    let u : Bool = not (ltb i (l .count)) in
-    let v : Bool = not (ltb k (l .count)) in
+    let u : Bool = not (ltb i (l .size .count)) in
+    let v : Bool = not (ltb k (l .size .count)) in
     let three = or-neither ((t || u) || v) (eqb i k) (h .1 .1 .0) .0 in
-    let a : i < l .count = ltb-true i (l .count) (not-false _ (or-neither t u (or-neither (t || u) v three .0) .1)) in
-    let b : k < l .count = ltb-true k (l .count) (not-false _ (or-neither (t || u) v three .1)) in
+    let a : i < l .size .count = ltb-true i (l .size .count) (not-false _ (or-neither t u (or-neither (t || u) v three .0) .1)) in
+    let b : k < l .size .count = ltb-true k (l .size .count) (not-false _ (or-neither (t || u) v three .1)) in
     record {
       first-place = omega arith;
       second-place = omega arith;

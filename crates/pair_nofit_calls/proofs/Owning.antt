@@ -69,6 +69,6 @@ module _ (ts : List Strip) (store : List (List ℕ)) where
       (λ h. eq-eqb end (length store) (omega (arith, f .1, same-long h)))
 
 -- a known piece is one of the job's
-pub known-below : (l : Lent) (p : LentStretch) → known (jobOf l) p ≡ true → p .piece < l .count
+pub known-below : (l : Lent) (p : LentStretch) → known (jobOf l) p ≡ true → p .piece < l .size .count
 unfolding known jobOf
-known-below l p e = ltb-true (p .piece) (l .count) (and-left (ltb (p .piece) (l .count)) _ e)
+known-below l p e = ltb-true (p .piece) (l .size .count) (and-left (ltb (p .piece) (l .size .count)) _ e)

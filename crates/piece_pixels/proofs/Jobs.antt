@@ -20,7 +20,7 @@ unfolding jobOf
 shown-piece size table pixels i start t e = ap (λ k. shownBy pixels (madeOf table i k t)) e
 
 -- a piece of a job that passes the check is small
-pub entry-small : (l : Lent) (i : ℕ) (t : Turn) → lentWell l ≡ true → i < l .count → Small (madeOf (l .table) i (pixelStart (l .table) i) t)
+pub entry-small : (l : Lent) (i : ℕ) (t : Turn) → lentWell l ≡ true → i < l .size .count → Small (madeOf (l .table) i (pixelStart (l .table) i) t)
 entry-small l i t e h =
     let f : Facts l = facts l e in
     let a = f .ends i h in
@@ -28,7 +28,7 @@ entry-small l i t e h =
     record { start = omega arith; columns = f .columnsSmall i h; rows = f .rowsSmall i h }
 
 -- its store has all its pixels
-pub entry-stored : (l : Lent) (i : ℕ) (t : Turn) → lentWell l ≡ true → i < l .count
+pub entry-stored : (l : Lent) (i : ℕ) (t : Turn) → lentWell l ≡ true → i < l .size .count
     → Stored (l .pixels) (madeOf (l .table) i (pixelStart (l .table) i) t)
 entry-stored l i t e h =
     let f : Facts l = facts l e in

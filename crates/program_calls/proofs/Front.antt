@@ -22,9 +22,9 @@ use Rattle.call_laws.proofs.Reading.{front-given}
 record Told (o : Outcome Lent) (size : JobSize) : Type 0 where
   job : Lent
   gives : o ≡ given job
-  rows : size .rows ≡ job .rows
-  columns : size .columns ≡ job .columns
-  count : size .count ≡ job .count
+  rows : size .rows ≡ job .size .rows
+  columns : size .columns ≡ job .size .columns
+  count : size .count ≡ job .size .count
 
 told : (o : Outcome Lent) (size : JobSize) → JobAnswer.Read size ≡ readAnswer o → Told o size
 told (refused r) size e = let z : _≡_ {A = ℕ} 0 1 = cc in absurd (omega arith)
@@ -66,18 +66,18 @@ pub record Front (o : Outcome Lent) (size : JobSize) (table : List (List ℕ)) (
   pub bytesRoom : frontArea size table ≤ length pixels
 
 -- a job by its parts
-same-lent : (size : JobSize) (t : List (List ℕ)) (b : List ℕ) (k : Lent) → size .rows ≡ k .rows → size .columns ≡ k .columns
-    → size .count ≡ k .count → t ≡ k .table → b ≡ k .pixels → lentBy size t b ≡ k
+same-lent : (size : JobSize) (t : List (List ℕ)) (b : List ℕ) (k : Lent) → size .rows ≡ k .size .rows → size .columns ≡ k .size .columns
+    → size .count ≡ k .size .count → t ≡ k .table → b ≡ k .pixels → lentBy size t b ≡ k
 same-lent size t b k rows columns count e f = rw (rows, columns, count, e, f)
 
 -- the parts, where the job k was read
-module _ (size : JobSize) (table : List (List ℕ)) (pixels : List ℕ) (k : Lent) (count : size .count ≡ k .count) (entries : take (k .count) table ≡ k .table)
-    (bytes : take (pixelStart (k .table) (k .count)) pixels ≡ k .pixels)
+module _ (size : JobSize) (table : List (List ℕ)) (pixels : List ℕ) (k : Lent) (count : size .count ≡ k .size .count) (entries : take (k .size .count) table ≡ k .table)
+    (bytes : take (pixelStart (k .table) (k .size .count)) pixels ≡ k .pixels)
   where
     front-entries : frontEntries size table ≡ k .table
     front-entries = rw (count, entries)
 
-    front-area : frontArea size table ≡ pixelStart (k .table) (k .count)
+    front-area : frontArea size table ≡ pixelStart (k .table) (k .size .count)
     front-area = rw (front-entries, count)
 
     front-bytes : take (frontArea size table) pixels ≡ k .pixels
@@ -95,9 +95,9 @@ module _ (text : List ℕ) (table lastTable : List (List ℕ)) (store lastStore 
         let k : Lent = t .job in
         let f : FrontRead text table store k = front-given text table store k (t .gives) in
         let just : JustRead (length table) (length store) k = job-read-just text (length table) (length store) k (t .gives) in
-        let entries : take (k .count) lastTable ≡ k .table = rw (h .entries) (f .entries) in
-        let bytes : take (pixelStart (k .table) (k .count)) lastStore ≡ k .pixels = rw (h .pixels) (f .bytes) in
-        let area : frontArea size lastTable ≡ pixelStart (k .table) (k .count) = front-area size lastTable lastStore k (t .count) entries bytes in
+        let entries : take (k .size .count) lastTable ≡ k .table = rw (h .entries) (f .entries) in
+        let bytes : take (pixelStart (k .table) (k .size .count)) lastStore ≡ k .pixels = rw (h .pixels) (f .bytes) in
+        let area : frontArea size lastTable ≡ pixelStart (k .table) (k .size .count) = front-area size lastTable lastStore k (t .count) entries bytes in
         let same : lentBy size (frontEntries size lastTable) (take (frontArea size lastTable) lastStore) ≡ k =
         same-lent size _ _ k (t .rows) (t .columns) (t .count) (front-entries size lastTable lastStore k (t .count) entries bytes)
         (front-bytes size lastTable lastStore k (t .count) entries bytes) in

@@ -53,7 +53,7 @@ ones n k few e = take-repeat k 2016 1 (pairs-few n k few e) ∙ ap (λ (m : ℕ)
 -- ── the run ──
 
 -- the call gives the program's run
-pub run-given : (l : Lent) (es : List (List ℕ)) (ws : List ℕ) → lentWell l ≡ true → es ≡ entriesOf (start (jobOf l)) → ws ≡ unitWeights (l .count)
+pub run-given : (l : Lent) (es : List (List ℕ)) (ws : List ℕ) → lentWell l ≡ true → es ≡ entriesOf (start (jobOf l)) → ws ≡ unitWeights (l .size .count)
     → guidedCall l es ws programRounds programBudget ≡ given (programRun (jobOf l))
 unfolding jobOf
 run-given l es ws well e f = rw (e, f) (program-run-given l well)

@@ -32,16 +32,16 @@ use Rattle.text_fields.proofs.Stores.{sets-filled}
 use Rattle.program_calls.proofs.Short.{layout-short}
 
 -- the start layout is given
-pub start-taken : (l : Lent) (room : ℕ) → lentWell l ≡ true → room ≡ l .count → startCall l room ≡ given (start (jobOf l))
+pub start-taken : (l : Lent) (room : ℕ) → lentWell l ≡ true → room ≡ l .size .count → startCall l room ≡ given (start (jobOf l))
 unfolding startCall
-start-taken l room well e = unless-given _ (start (jobOf l)) (ap not well, (ap not (eq-eqb room (l .count) e), tt))
+start-taken l room well e = unless-given _ (start (jobOf l)) (ap not well, (ap not (eq-eqb room (l .size .count) e), tt))
 
 -- a buffer that holds a valid layout has none of a layout's causes
 layout-passes : (l : Lent) (v : Layout) → lentWell l ≡ true → ValidLayout (jobOf l) v → NoCause (layoutCauses l (entriesOf v))
 unfolding layoutCauses jobOf
 layout-passes l v well valid =
     let p : BufferPasses (jobOf l) (entriesOf v) = valid-buffer (jobOf l) v valid in
-    (ap not well, (ap not (eq-eqb (length (entriesOf v)) (l .count) (p .size)), (p .turns, (p .outside, tt))))
+    (ap not well, (ap not (eq-eqb (length (entriesOf v)) (l .size .count) (p .size)), (p .turns, (p .outside, tt))))
 
 -- the best layout of the program's run is valid
 best-valid : (l : Lent) → lentWell l ≡ true → ValidLayout (jobOf l) (programRun (jobOf l) .layout)

@@ -24,7 +24,7 @@ pub passed-made : (j : Job) (s : loop.Standing) (t : Attempt) → loop.passed j 
 passed-made j s (moved w) = refl
 passed-made j s quiet = refl
 
-module _ (j : Job) (ws : List ℕ) (budget : ℕ) (v : Layout) (a : (k : ℕ) → k < j .count → allowed j k Zero ≡ true) (left : ℕ) (s : loop.Standing) (sum : ℕ)
+module _ (j : Job) (ws : List ℕ) (budget : ℕ) (v : Layout) (a : (k : ℕ) → k < j .size .count → allowed j k Zero ≡ true) (left : ℕ) (s : loop.Standing) (sum : ℕ)
     (u : Underway j ws budget v left s sum) (positive : sum ≢ 0) (unsettled : s .quietCount ≢ length (trials j)) (more : 0 < left)
   where
     -- the sum of the layout is not zero

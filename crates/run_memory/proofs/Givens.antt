@@ -9,7 +9,7 @@ use Rattle.search_table.specs.Drawn.{Laid}
 use Rattle.run_memory.specs.Ready.{Given}
 
 -- what a run is given has an entry a piece
-pub given-length : (l : Lent) (es : List (List ℕ)) (ws : List ℕ) (budget : ℕ) → Given l es ws budget → length es ≡ l .count
+pub given-length : (l : Lent) (es : List (List ℕ)) (ws : List ℕ) (budget : ℕ) → Given l es ws budget → length es ≡ l .size .count
 unfolding jobOf
 given-length l es ws budget g = sym (length-map es placementOf) ∙ g .valid .onePerPiece
 

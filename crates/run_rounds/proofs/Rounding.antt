@@ -68,13 +68,13 @@ module _ (j : Job) (end best : List (List ℕ)) (sum bestSum : ℕ) (e : sum ≡
 -- ── a job's numbers, as the loop reads them ──
 
 -- how many pieces there are
-pub job-count : (l : Lent) → jobOf l .count ≡ l .count
+pub job-count : (l : Lent) → jobOf l .size .count ≡ l .size .count
 unfolding jobOf
 job-count l = refl
 
 -- the table and the weights that are raised by it
 pub weighed : (l : Lent) {layout : List (List ℕ)} {penalties ws : List ℕ} → lentWell l ≡ true → LaidOut l layout penalties → ValidWeights (jobOf l) ws
-    → Weighed (l .count) penalties ws
+    → Weighed (l .size .count) penalties ws
 unfolding jobOf
 weighed l well h w = record { few = facts l well .fewPieces; size = h .table .size; onePerPair = w .onePerPair }
 
@@ -124,7 +124,7 @@ pub record Rounded (l : Lent) (width budget : ℕ) (layout best : List (List ℕ
 
 -- before the first round the given layout is the best
 pub rounding-begin : {l : Lent} {width : ℕ} (count budget : ℕ) {layout best : List (List ℕ)} {weights penalties rowLines rowTags columnLines columnTags sums : List ℕ}
-    {sum : ℕ} → 0 < jobOf l .count → LaidOut l layout penalties → Stores (jobOf l) width rowLines rowTags columnLines columnTags sums
+    {sum : ℕ} → 0 < jobOf l .size .count → LaidOut l layout penalties → Stores (jobOf l) width rowLines rowTags columnLines columnTags sums
     → ValidWeights (jobOf l) weights → best ≡ layout → sum ≡ plainSum (jobOf l) (layoutOf layout)
     → Rounding l width weights count budget (layoutOf layout) layout best weights penalties rowLines rowTags columnLines columnTags sums sum 0 0 count
 rounding-begin {l} count budget {layout} {best} {weights} some-piece h stores w e f =
@@ -135,7 +135,7 @@ rounding-begin {l} count budget {layout} {best} {weights} some-piece h stores w 
       written = rw e (h .written);
     }
 
-module _ {l : Lent} {width : ℕ} {ws₀ : List ℕ} {count budget : ℕ} {v₀ : Layout} (some-piece : 0 < jobOf l .count) where
+module _ {l : Lent} {width : ℕ} {ws₀ : List ℕ} {count budget : ℕ} {v₀ : Layout} (some-piece : 0 < jobOf l .size .count) where
   module _ {layout best : List (List ℕ)} {weights penalties rowLines rowTags columnLines columnTags sums : List ℕ} {sum made moves left : ℕ}
       (h : Rounding l width ws₀ count budget v₀ layout best weights penalties rowLines rowTags columnLines columnTags sums sum made moves left)
     where

@@ -66,7 +66,7 @@ fn is_clear(end: End) -> bool
 fn after_round(end: End, left: u32, penalties: &[u8], weights: &mut [u32], n: usize) -> u32
     requires { ⌜ Weighed n (now penalties) (now weights) ⌝ ∗ ⌜ 0 < left ⌝ }
     ensures left { λ r. ⌜ r ≡ leftAfter end left ⌝ }
-    ensures weights { λ r. ⌜ ((j : Job) (v : Layout) → j .count ≡ n → PenaltyTable j v n (now (penalties .entry)) → ValidWeights j (now (weights .entry)) → now (weights .exit) ≡ raisedAfter j v end (now (weights .entry))) ⌝ }
+    ensures weights { λ r. ⌜ ((j : Job) (v : Layout) → j .size .count ≡ n → PenaltyTable j v n (now (penalties .entry)) → ValidWeights j (now (weights .entry)) → now (weights .exit) ≡ raisedAfter j v end (now (weights .entry))) ⌝ }
 {
     let clear = is_clear(end);
     if clear {

@@ -39,7 +39,7 @@ through-direction Horizontal p = refl
 through-direction Vertical p = refl
 
 -- a buffer has an entry a piece
-pub laid-length : (l : Lent) (es : List (List ℕ)) (T : List ℕ) → LaidOut l es T → length es ≡ l .count
+pub laid-length : (l : Lent) (es : List (List ℕ)) (T : List ℕ) → LaidOut l es T → length es ≡ l .size .count
 unfolding jobOf
 laid-length l es T h = sym (length-map es placementOf) ∙ h .valid .onePerPiece
 
@@ -81,7 +81,7 @@ store-again d e j width lines tags new newTags same k h n =
     let f = k .fits in
     record { kept = subst (λ (x : Direction). Kept x j width new newTags) same h; fits = omega arith }
 
-module _ (l : Lent) (ws : List ℕ) (es : List (List ℕ)) (T : List ℕ) (k : Trial) (proper : Proper (jobOf l) 0 (jobOf l .count) k) (h : LaidOut l es T) where
+module _ (l : Lent) (ws : List ℕ) (es : List (List ℕ)) (T : List ℕ) (k : Trial) (proper : Proper (jobOf l) 0 (jobOf l .size .count) k) (h : LaidOut l es T) where
   -- the layout that a trial leaves is valid
   after-valid : (o : Option Best) → trialSearch (jobOf l) ws (layoutOf es) k ≡ o
       → ValidLayout (jobOf l) (layoutOf (entriesAfter es (k .piece) (k .turn) (trialLine (layoutOf es) k) o))
@@ -100,7 +100,7 @@ module _ (l : Lent) (ws : List ℕ) (es : List (List ℕ)) (T : List ℕ) (k : T
   -- with its table the descent stands there
   pub after-laid : (new : List (List ℕ)) (U : List ℕ)
       → new ≡ entriesAfter es (k .piece) (k .turn) (trialLine (layoutOf es) k) (trialSearch (jobOf l) ws (layoutOf es) k)
-      → PenaltyTable (jobOf l) (layoutOf new) (l .count) U → LaidOut l new U
+      → PenaltyTable (jobOf l) (layoutOf new) (l .size .count) U → LaidOut l new U
   after-laid new U e t =
       record {
         valid = subst (λ (z : List (List ℕ)). ValidLayout (jobOf l) (layoutOf z)) (sym e) (after-valid (trialSearch (jobOf l) ws (layoutOf es) k) refl);

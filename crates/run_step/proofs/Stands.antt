@@ -32,11 +32,11 @@ use Rattle.run_step.proofs.Moves.{layout-set}
 
 module _ (l : Lent) (well : lentWell l ≡ true) (ws : List ℕ) (weights : ValidWeights (jobOf l) ws) (v : Layout) where
   -- a piece's pair sum is at most 63 × 65,535 × 255
-  pub present-small : (i : ℕ) → i < l .count → pieceSum (jobOf l) ws v i ≤ pieceSumBound
+  pub present-small : (i : ℕ) → i < l .size .count → pieceSum (jobOf l) ws v i ≤ pieceSumBound
   unfolding jobOf
   present-small i b =
       rw (piece-sum (jobOf l) ws v i b (weights .onePerPair))
-      (running-bound (jobOf l) ws i (l .count) (penaltyBetween (jobOf l) v i) (facts l well .fewPieces) weights b (omega arith)
+      (running-bound (jobOf l) ws i (l .size .count) (penaltyBetween (jobOf l) v i) (facts l well .fewPieces) weights b (omega arith)
       (λ k c d. between-bound (jobOf l) (lent-boxes-small l well) v i k b c d))
 
   -- a weighted sum is below 2³⁵

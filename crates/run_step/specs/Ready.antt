@@ -28,7 +28,7 @@ pub record Tools (l : Lent) (rows : List (List ℕ)) (rowStarts : List ℕ) (col
 pub record LaidOut (l : Lent) (layout : List (List ℕ)) (penalties : List ℕ) : Type 0 where
   pub valid : ValidLayout (jobOf l) (layoutOf layout)
   pub written : entriesOf (layoutOf layout) ≡ layout
-  pub table : PenaltyTable (jobOf l) (layoutOf layout) (l .count) penalties
+  pub table : PenaltyTable (jobOf l) (layoutOf layout) (l .size .count) penalties
 
 -- a store of lines along a direction
 pub record Store (d : Direction) (j : Job) (width : ℕ) (lines tags : List ℕ) : Type 0 where

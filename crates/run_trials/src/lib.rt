@@ -28,7 +28,7 @@ pub struct Trial {
 
 // The first trial of piece i, or of piece 0 where there is no piece i.
 fn piece_start(count: usize, i: usize) -> Trial
-    ensures { λ r. ⌜ ((j : Job) → j .count ≡ count → trialAs r ≡ pieceStart j i) ⌝ }
+    ensures { λ r. ⌜ ((j : Job) → j .size .count ≡ count → trialAs r ≡ pieceStart j i) ⌝ }
 {
     if i < count {
         return Trial {

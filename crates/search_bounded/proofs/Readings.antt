@@ -40,7 +40,7 @@ twoOf m t s k =
 
 module _ (l : Lent) (strips : List (List ℕ)) (starts : List ℕ) (layout : List (List ℕ)) (width : ℕ) (lines tags : List ℕ) (m : Mover) (t : Track)
     (s : Standing) (k : ℕ) (d : Direction) (along-line : d ≡ lineDirection (m .line))
-    (ready : LinesReady l (lineDirection (m .line)) strips starts layout width lines tags) (track : OnTrack l m t) (there : k < l .count)
+    (ready : LinesReady l (lineDirection (m .line)) strips starts layout width lines tags) (track : OnTrack l m t) (there : k < l .size .count)
   where
     -- what is asked for is there
     pub line-asked : s .across + 255 - t .held < 1024 → Asked l d strips starts (twoOf m t s k)
@@ -91,32 +91,32 @@ module _ (l : Lent) (strips : List (List ℕ)) (starts : List ℕ) (layout : Lis
 -- ── a piece's part ──
 
 -- one weight a pair
-pub weight-pairs : (l : Lent) (ws : List ℕ) → ValidWeights (jobOf l) ws → length ws ≡ length (pairs (l .count))
+pub weight-pairs : (l : Lent) (ws : List ℕ) → ValidWeights (jobOf l) ws → length ws ≡ length (pairs (l .size .count))
 unfolding jobOf
 weight-pairs l ws w = w .onePerPair
 
 -- a weight is at most 65,535
-pub weight-small : (l : Lent) (ws : List ℕ) (i k w : ℕ) → ValidWeights (jobOf l) ws → w ≡ weightBetween (l .count) ws i k → w ≤ 65535
+pub weight-small : (l : Lent) (ws : List ℕ) (i k w : ℕ) → ValidWeights (jobOf l) ws → w ≡ weightBetween (l .size .count) ws i k → w ≤ 65535
 unfolding jobOf
 weight-small l ws i k w v e = let b = weight-bound (jobOf l) ws i k v in omega arith
 
 -- a piece of the layout has its entry in the table and in the layout
-pub piece-entries : (l : Lent) (layout : List (List ℕ)) (k : ℕ) → Laid l layout → k < l .count → (k < length (l .table)) × (k < length layout)
+pub piece-entries : (l : Lent) (layout : List (List ℕ)) (k : ℕ) → Laid l layout → k < l .size .count → (k < length (l .table)) × (k < length layout)
 piece-entries l layout k laid b =
     let e = facts l (laid .well) .entries in
     let w = laid .whole in
     (omega arith, omega arith)
 
 -- a part is below 2²⁴
-pub part-most : (l : Lent) (ws : List ℕ) (v : Layout) (m : Mover) (k : ℕ) → lentWell l ≡ true → ValidWeights (jobOf l) ws → m .piece < l .count
-    → k < l .count → (a : ℕ) → partAt (jobOf l) ws v m a k ≤ 16777216
+pub part-most : (l : Lent) (ws : List ℕ) (v : Layout) (m : Mover) (k : ℕ) → lentWell l ≡ true → ValidWeights (jobOf l) ws → m .piece < l .size .count
+    → k < l .size .count → (a : ℕ) → partAt (jobOf l) ws v m a k ≤ 16777216
 unfolding jobOf penaltyOn
 part-most l ws v m k well valid i b a =
-    let w : weightBetween (jobOf l .count) ws (m .piece) k ≤ 65535 = weight-bound (jobOf l) ws (m .piece) k valid in
+    let w : weightBetween (jobOf l .size .count) ws (m .piece) k ≤ 65535 = weight-bound (jobOf l) ws (m .piece) k valid in
     let p : moverPenalty (jobOf l) v m a k ≤ 255 =
     penalty-bound (turnedPiece (jobOf l) (m .piece) (m .turn)) (corner (onLine (m .line) (m .turn) a)) (shapeIn (jobOf l) v k) (cornerIn v k) Horizontal
     (lent-turned-small l well Horizontal (m .piece) (m .turn) i) (lent-turned-small l well Horizontal k (placeOf v k .turn) b) in
-    let s = part-small (weightBetween (jobOf l .count) ws (m .piece) k) (moverPenalty (jobOf l) v m a k) w (omega arith) in
+    let s = part-small (weightBetween (jobOf l .size .count) ws (m .piece) k) (moverPenalty (jobOf l) v m a k) w (omega arith) in
     omega arith
 
 module _ (l : Lent) (v : Layout) (m : Mover) (t : Track) (s : Standing) (k : ℕ) (r : Reach) (lines : List ℕ) (slot : ℕ) (track : OnTrack l m t)
@@ -146,7 +146,7 @@ module _ (l : Lent) (v : Layout) (m : Mover) (t : Track) (s : Standing) (k : ℕ
         ap (λ (i : ℕ). getD lines i 0) e ∙ line .at a (r .from + (a - r .low)) (omega arith) (omega arith)
 
     -- the part added to the sums in reach
-    pub reach-added : (ws : List ℕ) (weight : ℕ) (before after : List ℕ) → weight ≡ weightBetween (l .count) ws (m .piece) k → r .low < r .high
+    pub reach-added : (ws : List ℕ) (weight : ℕ) (before after : List ℕ) → weight ≡ weightBetween (l .size .count) ws (m .piece) k → r .low < r .high
         → Added weight (r .low) (take (slot + r .from + (r .high - r .low) - (slot + r .from)) (drop (slot + r .from) lines)) before after
         → PartAdded (jobOf l) ws v m k r before after
     unfolding jobOf

@@ -18,5 +18,5 @@ renewed-own j v n i p k T e h =
     subst (λ (z : ℕ). Renewed j v n i p (z + 1) T) (sym e) (renewed-self j v n i p T (subst (λ (z : ℕ). Renewed j v n i p z T) e h))
 
 -- it has its place in the layout
-pub mover-placed : (l : Lent) (layout : List (List ℕ)) (i : ℕ) → Laid l layout → i < l .count → i < length (layoutOf layout)
+pub mover-placed : (l : Lent) (layout : List (List ℕ)) (i : ℕ) → Laid l layout → i < l .size .count → i < length (layoutOf layout)
 mover-placed l layout i laid b = let e = length-map layout placementOf in let w = laid .whole in omega arith

@@ -39,7 +39,7 @@ lines-ready s =
     record { laid = s .laid; shapes = s .shapes; wide = s .wide; narrow = s .narrow; kept = s .kept; fits = s .fits }
 
 -- the mover has its entry, and the sheet its bounds
-pub track-asked : (l : Lent) (i : ℕ) → lentWell l ≡ true → i < l .count → (i < length (l .table)) × ((l .columns ≤ 4096) × (l .rows ≤ 4096))
+pub track-asked : (l : Lent) (i : ℕ) → lentWell l ≡ true → i < l .size .count → (i < length (l .table)) × ((l .size .columns ≤ 4096) × (l .size .rows ≤ 4096))
 track-asked l i w b =
     let e = facts l w .entries in
     let c = facts l w .fewColumns in
@@ -47,7 +47,7 @@ track-asked l i w b =
     (omega arith, (omega arith, omega arith))
 
 -- the mover's track
-pub on-track : (l : Lent) (m : Mover) (t : Track) → lentWell l ≡ true → m .piece < l .count → t ≡ trackOf (jobOf l) m → SmallTrack t → OnTrack l m t
+pub on-track : (l : Lent) (m : Mover) (t : Track) → lentWell l ≡ true → m .piece < l .size .count → t ≡ trackOf (jobOf l) m → SmallTrack t → OnTrack l m t
 unfolding jobOf
 on-track l m t w b e s =
     record {
@@ -88,7 +88,7 @@ serves-lower B L x y l s = by-bound (decLt x B)
 
 -- the sums of all pieces are searched as the pair sums are
 pub summed-found : (l : Lent) (ws : List ℕ) (layout : List (List ℕ)) (m : Mover) (bound : ℕ) (sums : List ℕ) → Laid l layout → ValidWeights (jobOf l) ws
-    → m .piece < l .count → Summed (jobOf l) ws (layoutOf layout) m bound (l .count) sums
+    → m .piece < l .size .count → Summed (jobOf l) ws (layoutOf layout) m bound (l .size .count) sums
     → belowBound (sumOf sums) (length sums) bound
     ≡ belowBound (sumAt (jobOf l) ws (layoutOf layout) (m .piece) (m .turn) (m .line)) (moverPlaces (jobOf l) m) bound
 unfolding jobOf
@@ -96,7 +96,7 @@ summed-found l ws layout m bound sums laid w b s =
     let j : Job = jobOf l in
     let v : Layout = layoutOf layout in
     let f : ℕ → ℕ = sumAt j ws v (m .piece) (m .turn) (m .line) in
-    let whole : length v ≡ j .count = length-map layout placementOf ∙ laid .whole in
+    let whole : length v ≡ j .size .count = length-map layout placementOf ∙ laid .whole in
     ap (λ (n : ℕ). belowBound (sumOf sums) n bound) (s .long)
     ∙ search-serves f (sumOf sums) (moverPlaces j m) bound
     (λ a h. serves-lower bound (limit bound (belowBound f a bound)) (f a) (getD sums a 0) (limit-most f a bound (belowBound f a bound) (bounded-is f a bound))

@@ -102,14 +102,14 @@ module _ (j : Job) (ws : List ℕ) (v : Layout) (m : Mover) (bound k : ℕ) (bef
       summed-next before refl
       (λ a l. inl (
         refl,
-        subst (λ (i : ℕ). weightBetween (j .count) ws (m .piece) i * moverPenalty j v m a i ≡ 0) (sym e)
-            (ap (λ (w : ℕ). w * moverPenalty j v m a (m .piece)) (weight-self (j .count) ws (m .piece)) ∙ zero-mul (moverPenalty j v m a (m .piece))),
+        subst (λ (i : ℕ). weightBetween (j .size .count) ws (m .piece) i * moverPenalty j v m a i ≡ 0) (sym e)
+            (ap (λ (w : ℕ). w * moverPenalty j v m a (m .piece)) (weight-self (j .size .count) ws (m .piece)) ∙ zero-mul (moverPenalty j v m a (m .piece))),
       ))
       (λ a. omega arith)
 
 -- a part is 0 where the penalty is
 part-zero : (j : Job) (ws : List ℕ) (v : Layout) (m : Mover) (a k : ℕ) → moverPenalty j v m a k ≡ 0 → partAt j ws v m a k ≡ 0
-part-zero j ws v m a k e = ap (λ (p : ℕ). weightBetween (j .count) ws (m .piece) k * p) e ∙ mul-zero (weightBetween (j .count) ws (m .piece) k)
+part-zero j ws v m a k e = ap (λ (p : ℕ). weightBetween (j .size .count) ws (m .piece) k * p) e ∙ mul-zero (weightBetween (j .size .count) ws (m .piece) k)
 
 module _ (l : Lent) (ws : List ℕ) (v : Layout) (m : Mover) (t : Track) (st : Standing) (bound k : ℕ) (r : Reach) (before : List ℕ)
     (track : OnTrack l m t) (standing : IsStanding (jobOf l) v (lineDirection (m .line)) k st) (reached : Reached t st r)

@@ -40,7 +40,7 @@ pub record OnTrack (l : Lent) (m : Mover) (t : Track) : Type 0 where
   pub is : t ≡ trackOf (jobOf l) m
   pub small : SmallTrack t
   pub some : 0 < t .length
-  pub piece : m .piece < l .count
+  pub piece : m .piece < l .size .count
 
 -- the standing piece is piece k of the layout
 pub record IsStanding (j : Job) (v : Layout) (d : Direction) (k : ℕ) (s : Standing) : Type 0 where

@@ -22,7 +22,7 @@ moverPenalty j v m a k = penaltyOn j v (m .piece) (m .turn) (m .line) a k
 
 -- the part of piece k in the sum at coordinate a
 abbrev pub partAt : Job → List ℕ → Layout → Mover → ℕ → ℕ → ℕ
-partAt j ws v m a k = weightBetween (j .count) ws (m .piece) k * moverPenalty j v m a k
+partAt j ws v m a k = weightBetween (j .size .count) ws (m .piece) k * moverPenalty j v m a k
 
 -- how many places the line has
 abbrev pub moverPlaces : Job → Mover → ℕ

@@ -53,37 +53,37 @@ first-absent number b cs f = rw (f, unless)
 
 -- the piece's cause
 abbrev wrongPiece : Lent → List (List ℕ) → ℕ → Turn → Bool
-wrongPiece l es i t = someTurnWrong (jobOf l) es || not (ltb i (l .count)) || not (allowed (jobOf l) i t)
+wrongPiece l es i t = someTurnWrong (jobOf l) es || not (ltb i (l .size .count)) || not (allowed (jobOf l) i t)
 
 module _ (l : Lent) (es : List (List ℕ)) (i : ℕ) (t : Turn) where
   -- a turn of the layout is not allowed
   pub wrong-layout : someTurnWrong (jobOf l) es ≡ true → wrongPiece l es i t ≡ true
   wrong-layout e =
-      or-left (someTurnWrong (jobOf l) es || not (ltb i (l .count))) (not (allowed (jobOf l) i t)) (or-left (someTurnWrong (jobOf l) es) (not (ltb i (l .count))) e)
+      or-left (someTurnWrong (jobOf l) es || not (ltb i (l .size .count))) (not (allowed (jobOf l) i t)) (or-left (someTurnWrong (jobOf l) es) (not (ltb i (l .size .count))) e)
 
   -- there is no such piece
-  pub wrong-number : l .count ≤ i → wrongPiece l es i t ≡ true
+  pub wrong-number : l .size .count ≤ i → wrongPiece l es i t ≡ true
   wrong-number h =
-      or-left (someTurnWrong (jobOf l) es || not (ltb i (l .count))) (not (allowed (jobOf l) i t))
-      (or-right (someTurnWrong (jobOf l) es) (not (ltb i (l .count))) (ap not (le-ltb i (l .count) h)))
+      or-left (someTurnWrong (jobOf l) es || not (ltb i (l .size .count))) (not (allowed (jobOf l) i t))
+      (or-right (someTurnWrong (jobOf l) es) (not (ltb i (l .size .count))) (ap not (le-ltb i (l .size .count) h)))
 
   -- the turn is not allowed to it
   pub wrong-turn : allowed (jobOf l) i t ≡ false → wrongPiece l es i t ≡ true
-  wrong-turn e = or-right (someTurnWrong (jobOf l) es || not (ltb i (l .count))) (not (allowed (jobOf l) i t)) (ap not e)
+  wrong-turn e = or-right (someTurnWrong (jobOf l) es || not (ltb i (l .size .count))) (not (allowed (jobOf l) i t)) (ap not e)
 
   -- none of the three
-  pub right-piece : someTurnWrong (jobOf l) es ≡ false → i < l .count → allowed (jobOf l) i t ≡ true → wrongPiece l es i t ≡ false
-  right-piece e h f = ap₂ _||_ (ap₂ _||_ e (ap not (lt-ltb i (l .count) h))) (ap not f)
+  pub right-piece : someTurnWrong (jobOf l) es ≡ false → i < l .size .count → allowed (jobOf l) i t ≡ true → wrongPiece l es i t ≡ false
+  right-piece e h f = ap₂ _||_ (ap₂ _||_ e (ap not (lt-ltb i (l .size .count) h))) (ap not f)
 
 -- what a search may assume where none of the causes is there
 pub search-ready : (l : Lent) (es : List (List ℕ)) (ws : List ℕ) (i : ℕ) (t : Turn) → NoCause (searchCauses l es ws i t)
-    → Laid l es × (ValidWeights (jobOf l) ws × (i < l .count))
+    → Laid l es × (ValidWeights (jobOf l) ws × (i < l .size .count))
 unfolding layoutCauses
 search-ready l es ws i t h =
-    let piece = or-neither (someTurnWrong (jobOf l) es || not (ltb i (l .count))) (not (allowed (jobOf l) i t)) (h .1 .1 .1 .1 .0) in
-    let turns = or-neither (someTurnWrong (jobOf l) es) (not (ltb i (l .count))) (piece .0) in (
+    let piece = or-neither (someTurnWrong (jobOf l) es || not (ltb i (l .size .count))) (not (allowed (jobOf l) i t)) (h .1 .1 .1 .1 .0) in
+    let turns = or-neither (someTurnWrong (jobOf l) es) (not (ltb i (l .size .count))) (piece .0) in (
       layout-laid l es (h .0, (h .1 .0, (turns .0, (h .1 .1 .1 .1 .1 .0, tt)))),
-      (lent-weights-valid l ws (h .1 .1 .0) (h .1 .1 .1 .0), ltb-true i (l .count) (not-false _ (turns .1))),
+      (lent-weights-valid l ws (h .1 .1 .0) (h .1 .1 .1 .0), ltb-true i (l .size .count) (not-false _ (turns .1))),
     )
 
 -- ── the store ──
@@ -113,7 +113,7 @@ store-length = let b = length-replicate {A = ℕ} 32768 0 in omega arith
 -- ── the answer ──
 
 -- a search with the largest bound is the line search
-pub search-whole : (l : Lent) (ws : List ℕ) (layout : List (List ℕ)) (i : ℕ) (t : Turn) (line : Line) → Laid l layout → ValidWeights (jobOf l) ws → i < l .count
+pub search-whole : (l : Lent) (ws : List ℕ) (layout : List (List ℕ)) (i : ℕ) (t : Turn) (line : Line) → Laid l layout → ValidWeights (jobOf l) ws → i < l .size .count
     → belowBound (sumAt (jobOf l) ws (layoutOf layout) i t line) (places (jobOf l) i t line) 4294967295
     ≡ searchLine (jobOf l) ws (layoutOf layout) i t line
 unfolding jobOf

@@ -34,7 +34,7 @@ searchAnswer line (given b) = SearchAnswer.Best (b .sum) (coordinateOn line (b .
 -- the causes that the layout and the piece have: 9, 10
 abbrev pub pieceCauses : Lent → List (List ℕ) → ℕ → Turn → List Cause
 pieceCauses l es i t =
-    cause noSuchPiece (someTurnWrong (jobOf l) es || not (ltb i (l .count)) || not (allowed (jobOf l) i t)) ∷ outsideCause l es ∷ []
+    cause noSuchPiece (someTurnWrong (jobOf l) es || not (ltb i (l .size .count)) || not (allowed (jobOf l) i t)) ∷ outsideCause l es ∷ []
 
 -- those before the line's: 8, 7, 7, 2, 9, 10
 abbrev pub searchCauses : Lent → List (List ℕ) → List ℕ → ℕ → Turn → List Cause

@@ -52,39 +52,39 @@ test-penalty : (j : Job) (v : Layout) (i : ℕ) (t : Turn) (line : Line) (a k : 
 test-penalty j v i t line a k true e = meeting-penalty j v i t line a k e
 test-penalty j v i t line a k false e = omega arith
 
-module _ (j : Job) (ws : List ℕ) (v : Layout) (i : ℕ) (t : Turn) (line : Line) (there : i < j .count) (onePlace : length v ≡ j .count)
+module _ (j : Job) (ws : List ℕ) (v : Layout) (i : ℕ) (t : Turn) (line : Line) (there : i < j .size .count) (onePlace : length v ≡ j .size .count)
     (weights : ValidWeights j ws)
   where
     -- the weight × penalty of piece k at coordinate a
     abbrev part : ℕ → ℕ → ℕ
-    part a k = weightBetween (j .count) ws i k * penaltyOn j v i t line a k
+    part a k = weightBetween (j .size .count) ws i k * penaltyOn j v i t line a k
 
     -- the sum at a place, by its parts
-    parts : (a : ℕ) → sumAt j ws v i t line a ≡ sumBelow (j .count) (part a)
+    parts : (a : ℕ) → sumAt j ws v i t line a ≡ sumBelow (j .size .count) (part a)
     parts a = sum-at j ws v i t line a there onePlace (weights .onePerPair)
 
     -- a place at which no other piece is met has sum 0
-    pub unmet-sum : (a : ℕ) → ((k : ℕ) → k < j .count → i ≢ k → meets j v i t line a k ≡ false) → sumAt j ws v i t line a ≡ 0
+    pub unmet-sum : (a : ℕ) → ((k : ℕ) → k < j .size .count → i ≢ k → meets j v i t line a k ≡ false) → sumAt j ws v i t line a ≡ 0
     unmet-sum a none =
         parts a
-        ∙ sum-zero (j .count) (part a)
-        (λ k l. share-agree (j .count) ws i k _ 0 (λ d. apart-penalty j v i t line a k (none k l d)) ∙ mul-zero (weightBetween (j .count) ws i k))
+        ∙ sum-zero (j .size .count) (part a)
+        (λ k l. share-agree (j .size .count) ws i k _ 0 (λ d. apart-penalty j v i t line a k (none k l d)) ∙ mul-zero (weightBetween (j .size .count) ws i k))
 
     -- a place at which one is met has not
-    pub met-sum : (a k : ℕ) → k < j .count → i ≢ k → meets j v i t line a k ≡ true → 0 < sumAt j ws v i t line a
+    pub met-sum : (a k : ℕ) → k < j .size .count → i ≢ k → meets j v i t line a k ≡ true → 0 < sumAt j ws v i t line a
     met-sum a k l d e =
         let w : 1 * 1 ≤ part a k = mul-le-mul (weight-positive j ws i k weights there l d) (meeting-penalty j v i t line a k e) in
-        let m : part a k ≤ sumBelow (j .count) (part a) = term-at-most (j .count) k (part a) l in
+        let m : part a k ≤ sumBelow (j .size .count) (part a) = term-at-most (j .size .count) k (part a) l in
         rw (parts a) (omega arith)
 
     -- the weights of the pieces that are met are at most the sum
-    pub met-weights : (a : ℕ) → sumBelow (j .count) (λ k. weightBetween (j .count) ws i k * one-if (meets j v i t line a k)) ≤ sumAt j ws v i t line a
+    pub met-weights : (a : ℕ) → sumBelow (j .size .count) (λ k. weightBetween (j .size .count) ws i k * one-if (meets j v i t line a k)) ≤ sumAt j ws v i t line a
     met-weights a =
         rw (parts a)
-        (sum-le (j .count) _ (part a) (λ k l. mul-le-mul-left (weightBetween (j .count) ws i k) (test-penalty j v i t line a k _ refl)))
+        (sum-le (j .size .count) _ (part a) (λ k l. mul-le-mul-left (weightBetween (j .size .count) ws i k) (test-penalty j v i t line a k _ refl)))
 
     -- the smallest place at which no other piece is met is the answer of a search with a bound above 0
-    pub unmet-answer : (n B a : ℕ) → 0 < B → a < n → ((k : ℕ) → k < j .count → i ≢ k → meets j v i t line a k ≡ false)
+    pub unmet-answer : (n B a : ℕ) → 0 < B → a < n → ((k : ℕ) → k < j .size .count → i ≢ k → meets j v i t line a k ≡ false)
         → ((c : ℕ) → c < a → 0 < sumAt j ws v i t line c) → belowBound (sumAt j ws v i t line) n B ≡ some (bestAt 0 a)
     unmet-answer n B a positive l none before = zero-answer (sumAt j ws v i t line) n a B positive l (unmet-sum a none) before
 

@@ -205,7 +205,7 @@ best-valid-at j best v false h g = h
 best-valid : (j : Job) (best v : Layout) → ValidLayout j best → ValidLayout j v → ValidLayout j (bestOf j best v)
 best-valid j best v h g = best-valid-at j best v (ltb (plainSum j v) (plainSum j best)) h g
 
-module _ (j : Job) (ws : List ℕ) (count budget : ℕ) (v : Layout) (some-piece : 0 < j .count) where
+module _ (j : Job) (ws : List ℕ) (count budget : ℕ) (v : Layout) (some-piece : 0 < j .size .count) where
   -- it holds before the first round
   pub guided-begin : ValidLayout j v → ValidWeights j ws → GuidedUnderway j ws count budget v count (guiding v ws v 0 0) (plainSum j v)
   guided-begin h w =
@@ -279,28 +279,28 @@ raised-over-at test (p ∷ ps) (w ∷ ws) (suc c) l h = raised-over-at test ps w
 pub raising-begin : (j : Job) (v : Layout) (ws : List ℕ) → Raising j v ws 0 ws
 raising-begin j v ws = record { size = refl; done = λ k l. absurd (omega arith); rest = λ k l. refl }
 
-module _ (j : Job) (v : Layout) (ws now : List ℕ) (i k : ℕ) (one : length ws ≡ length (pairs (j .count))) (rising : i < k) (below : k < j .count)
-    (h : Raising j v ws (pairIndex (j .count) i k) now)
+module _ (j : Job) (v : Layout) (ws now : List ℕ) (i k : ℕ) (one : length ws ≡ length (pairs (j .size .count))) (rising : i < k) (below : k < j .size .count)
+    (h : Raising j v ws (pairIndex (j .size .count) i k) now)
   where
     -- the weight of the pair (i, k) after raising
-    raised-at : getD (raised j v ws) (pairIndex (j .count) i k) 0
+    raised-at : getD (raised j v ws) (pairIndex (j .size .count) i k) 0
         ≡ elim (pairShares j v (pairOf i k)) as (λ _. ℕ) [
-          | true ↦ min (suc (getD ws (pairIndex (j .count) i k) 0)) weightBound
-          | false ↦ getD ws (pairIndex (j .count) i k) 0
+          | true ↦ min (suc (getD ws (pairIndex (j .size .count) i k) 0)) weightBound
+          | false ↦ getD ws (pairIndex (j .size .count) i k) 0
         ]
     unfolding raised
     raised-at =
-        let fits = pair-below (j .count) i k rising below in
-        raised-over-at (pairShares j v) (pairs (j .count)) ws (pairIndex (j .count) i k) (omega arith) fits ∙ rw (pair-at (j .count) i k noPair rising below)
+        let fits = pair-below (j .size .count) i k rising below in
+        raised-over-at (pairShares j v) (pairs (j .size .count)) ws (pairIndex (j .size .count) i k) (omega arith) fits ∙ rw (pair-at (j .size .count) i k noPair rising below)
 
     -- a pair that shares a pixel has its weight raised by 1, 65,535 stays
     pub raising-shared : pairShares j v (pairOf i k) ≡ true
-        → Raising j v ws (pairIndex (j .count) i k + 1)
-        (set now (pairIndex (j .count) i k) (min (getD now (pairIndex (j .count) i k) 0 + 1) weightBound))
+        → Raising j v ws (pairIndex (j .size .count) i k + 1)
+        (set now (pairIndex (j .size .count) i k) (min (getD now (pairIndex (j .size .count) i k) 0 + 1) weightBound))
     raising-shared e = record { size = length-set now c w ∙ h .size; done = done; rest = rest }
       where
         c : ℕ
-        c = pairIndex (j .count) i k
+        c = pairIndex (j .size .count) i k
 
         w : ℕ
         w = min (getD now c 0 + 1) weightBound
@@ -310,7 +310,7 @@ module _ (j : Job) (v : Layout) (ws now : List ℕ) (i k : ℕ) (one : length ws
             ⊎-elim
             (λ (q : m ≡ c).
             rw q
-            (getD-set-same now c w 0 (let f = pair-below (j .count) i k rising below in let z = h .size in omega arith)
+            (getD-set-same now c w 0 (let f = pair-below (j .size .count) i k rising below in let z = h .size in omega arith)
             ∙ ap (λ x. min (x + 1) weightBound) (h .rest c (omega arith)) ∙ ap (λ x. min x weightBound) (add-one (getD ws c 0)) ∙ sym (rw e at raised-at)))
             (λ (q : m < c). getD-set-other now c m w 0 (λ z. omega arith) ∙ h .done m q) (eq-or-lt-of-le (omega arith))
 
@@ -318,32 +318,32 @@ module _ (j : Job) (v : Layout) (ws now : List ℕ) (i k : ℕ) (one : length ws
         rest m l = getD-set-other now c m w 0 (λ z. omega arith) ∙ h .rest m (omega arith)
 
     -- below the largest weight that is 1 more
-    pub raising-more : pairShares j v (pairOf i k) ≡ true → getD now (pairIndex (j .count) i k) 0 < weightBound
-        → Raising j v ws (pairIndex (j .count) i k + 1) (set now (pairIndex (j .count) i k) (getD now (pairIndex (j .count) i k) 0 + 1))
+    pub raising-more : pairShares j v (pairOf i k) ≡ true → getD now (pairIndex (j .size .count) i k) 0 < weightBound
+        → Raising j v ws (pairIndex (j .size .count) i k + 1) (set now (pairIndex (j .size .count) i k) (getD now (pairIndex (j .size .count) i k) 0 + 1))
     raising-more e l =
-        let more : min (getD now (pairIndex (j .count) i k) 0 + 1) weightBound ≡ getD now (pairIndex (j .count) i k) 0 + 1 = omega arith in
+        let more : min (getD now (pairIndex (j .size .count) i k) 0 + 1) weightBound ≡ getD now (pairIndex (j .size .count) i k) 0 + 1 = omega arith in
         rw more at (raising-shared e)
 
     -- the largest weight stays, with no store
-    pub raising-full : pairShares j v (pairOf i k) ≡ true → weightBound ≤ getD now (pairIndex (j .count) i k) 0
-        → getD now (pairIndex (j .count) i k) 0 ≤ weightBound → Raising j v ws (pairIndex (j .count) i k + 1) now
+    pub raising-full : pairShares j v (pairOf i k) ≡ true → weightBound ≤ getD now (pairIndex (j .size .count) i k) 0
+        → getD now (pairIndex (j .size .count) i k) 0 ≤ weightBound → Raising j v ws (pairIndex (j .size .count) i k + 1) now
     raising-full e l m =
-        let full : min (getD now (pairIndex (j .count) i k) 0 + 1) weightBound ≡ getD now (pairIndex (j .count) i k) 0 = omega arith in
-        rw (set-getD now (pairIndex (j .count) i k) 0) at (rw full at (raising-shared e))
+        let full : min (getD now (pairIndex (j .size .count) i k) 0 + 1) weightBound ≡ getD now (pairIndex (j .size .count) i k) 0 = omega arith in
+        rw (set-getD now (pairIndex (j .size .count) i k) 0) at (rw full at (raising-shared e))
 
     -- one that shares none keeps its weight
-    pub raising-apart : pairShares j v (pairOf i k) ≡ false → Raising j v ws (pairIndex (j .count) i k + 1) now
+    pub raising-apart : pairShares j v (pairOf i k) ≡ false → Raising j v ws (pairIndex (j .size .count) i k + 1) now
     raising-apart e = record { size = h .size; done = done; rest = λ m l. h .rest m (omega arith) }
       where
         c : ℕ
-        c = pairIndex (j .count) i k
+        c = pairIndex (j .size .count) i k
 
         done : (m : ℕ) → m < c + 1 → getD now m 0 ≡ getD (raised j v ws) m 0
         done m l =
             ⊎-elim (λ (q : m ≡ c). rw q (h .rest c (omega arith) ∙ sym (rw e at raised-at))) (h .done m) (eq-or-lt-of-le (omega arith))
 
 -- after the last pair: the raised weights
-pub raising-end : (j : Job) (v : Layout) (ws now : List ℕ) → ValidWeights j ws → Raising j v ws (length (pairs (j .count))) now → now ≡ raised j v ws
+pub raising-end : (j : Job) (v : Layout) (ws now : List ℕ) → ValidWeights j ws → Raising j v ws (length (pairs (j .size .count))) now → now ≡ raised j v ws
 raising-end j v ws now w h =
     let one = w .onePerPair in
     let same = raised-valid j v ws w .onePerPair in

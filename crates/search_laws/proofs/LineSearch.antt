@@ -118,17 +118,17 @@ unfolding searchLine
 search-some j ws v i t line n e = rw (e, searchLine)
 
 -- every pair sum on a line is at most 63 × 65,535 × 255
-pub sum-at-bound : (j : Job) (ws : List ℕ) (v : Layout) (i : ℕ) (t : Turn) (line : Line) (a : ℕ) → j .count ≤ pieceBound → BoxesSmall j
-    → ValidWeights j ws → i < j .count → length v ≡ j .count → sumAt j ws v i t line a ≤ pieceSumBound
+pub sum-at-bound : (j : Job) (ws : List ℕ) (v : Layout) (i : ℕ) (t : Turn) (line : Line) (a : ℕ) → j .size .count ≤ pieceBound → BoxesSmall j
+    → ValidWeights j ws → i < j .size .count → length v ≡ j .size .count → sumAt j ws v i t line a ≤ pieceSumBound
 unfolding sumAt
 sum-at-bound j ws v i t line a few small w l e =
     rw (piece-sum j ws (movedTo v i t line a) i l (w .onePerPair))
-    (running-bound j ws i (j .count) (penaltyBetween j (movedTo v i t line a) i) few w l (omega arith)
+    (running-bound j ws i (j .size .count) (penaltyBetween j (movedTo v i t line a) i) few w l (omega arith)
     (λ k b d. between-bound j small (movedTo v i t line a) i k l b d))
 
 -- the line search is the search below any bound above 63 × 65,535 × 255
-pub search-unbounded : (j : Job) (ws : List ℕ) (v : Layout) (i : ℕ) (t : Turn) (line : Line) (B : ℕ) → j .count ≤ pieceBound → BoxesSmall j
-    → ValidWeights j ws → i < j .count → length v ≡ j .count → pieceSumBound < B
+pub search-unbounded : (j : Job) (ws : List ℕ) (v : Layout) (i : ℕ) (t : Turn) (line : Line) (B : ℕ) → j .size .count ≤ pieceBound → BoxesSmall j
+    → ValidWeights j ws → i < j .size .count → length v ≡ j .size .count → pieceSumBound < B
     → searchLine j ws v i t line ≡ belowBound (sumAt j ws v i t line) (places j i t line) B
 search-unbounded j ws v i t line B few small w l e large =
     search-below j ws v i t line B (λ a b. (let s = sum-at-bound j ws v i t line a few small w l e in omega arith))

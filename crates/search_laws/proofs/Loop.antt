@@ -124,7 +124,7 @@ module _ (j : Job) (ws : List ℕ) (v : Layout) (k : Trial) where
   trial-place b e = let f = found b e in (f .there, f .below)
 
   -- after a move each piece still lies inside in a turn allowed to it
-  pub trial-valid : (b : Best) → Proper j 0 (j .count) k → ValidLayout j v → trialSearch j ws v k ≡ some b → ValidLayout j (trialMoved v k (b .at))
+  pub trial-valid : (b : Best) → Proper j 0 (j .size .count) k → ValidLayout j v → trialSearch j ws v k ≡ some b → ValidLayout j (trialMoved v k (b .at))
   trial-valid b p h e = attempt-moved j ws v (trialMoved v k (b .at)) k p h (trial-moved b e) .0
 
 module _ (j : Job) (ws : List ℕ) (s : Standing) (positive : weightedSum j ws (s .layout) ≢ 0) (unsettled : s .quietCount ≢ length (trials j))
@@ -157,7 +157,7 @@ after-at : (count next : ℕ) → 0 < count → (b : Bool) → ltb (suc next) co
 after-at count next h true e = ltb-true _ _ e
 after-at count next h false e = h
 
-module _ (j : Job) (ws : List ℕ) (a : (k : ℕ) → k < j .count → allowed j k Zero ≡ true) where
+module _ (j : Job) (ws : List ℕ) (a : (k : ℕ) → k < j .size .count → allowed j k Zero ≡ true) where
   -- a trial by number is a trial by the one before it
   passes : (s : Progress) → s .next < length (trials j) → (t : Attempt) → standsAt j (proceed (length (trials j)) s t) ≡ passed j (standsAt j s) t
   passes s l (moved w) = rw (next-trial j a (s .next) l, add-one (s .made), add-one (s .moves))
@@ -180,14 +180,14 @@ module _ (j : Job) (ws : List ℕ) (a : (k : ℕ) → k < j .count → allowed j
       ∙ ap (onward j ws left) (passes s l (attempt j ws (s .layout) (getD (trials j) (s .next) noTrial))))
 
   -- there is a trial where there is a piece
-  pub trials-some : 0 < j .count → 0 < length (trials j)
+  pub trials-some : 0 < j .size .count → 0 < length (trials j)
   trials-some l =
       let p : Position (trialOf 0 Zero Horizontal) noTrial (trials j) = position noTrial (trials j) (trial-mem j 0 Zero Horizontal l (a 0 l)) in
       let b = p .below in
       omega arith
 
   -- the descent is what comes from its beginning on
-  pub descend-onward : (budget : ℕ) (v : Layout) → 0 < j .count → descend j ws budget v ≡ onward j ws budget (beginning v)
+  pub descend-onward : (budget : ℕ) (v : Layout) → 0 < j .size .count → descend j ws budget v ≡ onward j ws budget (beginning v)
   unfolding descend
   descend-onward budget v l =
       from-onward budget (begin v) (trials-some l) ∙ ap (λ k. onward j ws budget (standing v 0 0 0 k)) (first-trial j a)
@@ -199,7 +199,7 @@ pub record Underway (j : Job) (ws : List ℕ) (budget : ℕ) (v : Layout) (left 
   pub result : descend j ws budget v ≡ onward j ws left s
   pub sumIs : sum ≡ weightedSum j ws (s .layout)
   pub valid : ValidLayout j (s .layout)
-  pub proper : Proper j 0 (j .count) (s .trial)
+  pub proper : Proper j 0 (j .size .count) (s .trial)
   pub counted : s .made + left ≡ budget
   pub movesMade : s .moves ≤ s .made
   pub quietFew : s .quietCount ≤ length (trials j)
@@ -208,7 +208,7 @@ pub record Underway (j : Job) (ws : List ℕ) (budget : ℕ) (v : Layout) (left 
 abbrev pub closed : End → Standing → ℕ → Descent
 closed e s sum = record { end = e; layout = s .layout; sum = sum; made = s .made; moves = s .moves }
 
-module _ (j : Job) (ws : List ℕ) (budget : ℕ) (v : Layout) (a : (k : ℕ) → k < j .count → allowed j k Zero ≡ true) (some-piece : 0 < j .count) where
+module _ (j : Job) (ws : List ℕ) (budget : ℕ) (v : Layout) (a : (k : ℕ) → k < j .size .count → allowed j k Zero ≡ true) (some-piece : 0 < j .size .count) where
   -- it holds before the first pass
   pub underway-begin : ValidLayout j v → Underway j ws budget v budget (beginning v) (weightedSum j ws v)
   underway-begin h =

@@ -43,7 +43,7 @@ noPair = pairOf 0 0
 
 -- weight × penalty of the pair at a position
 unfoldable pub pairTerm : Job → List ℕ → Layout → ℕ → ℕ
-pairTerm j ws v c = getD ws c 0 * pairPenalty j v (getD (pairs (j .count)) c noPair)
+pairTerm j ws v c = getD ws c 0 * pairPenalty j v (getD (pairs (j .size .count)) c noPair)
 
 -- ── weights ──
 
@@ -112,16 +112,16 @@ over-positions test cost (p ∷ ps) (w ∷ ws) e =
     rw later (sym (sum-first (length ps) (termAt test cost (p ∷ ps) (w ∷ ws))))
 
 -- the weighted sum is the running sum over the positions of the pairs
-pub weighted-sum : (j : Job) (ws : List ℕ) (v : Layout) → length ws ≡ length (pairs (j .count))
-    → weightedSum j ws v ≡ sumBelow (length (pairs (j .count))) (pairTerm j ws v)
+pub weighted-sum : (j : Job) (ws : List ℕ) (v : Layout) → length ws ≡ length (pairs (j .size .count))
+    → weightedSum j ws v ≡ sumBelow (length (pairs (j .size .count))) (pairTerm j ws v)
 unfolding weightedSum pairTerm
-weighted-sum j ws v e = over-positions (λ p. true) (pairPenalty j v) (pairs (j .count)) ws e
+weighted-sum j ws v e = over-positions (λ p. true) (pairPenalty j v) (pairs (j .size .count)) ws e
 
 -- the part of the pair (i, k)
-pub pair-term : (j : Job) (ws : List ℕ) (v : Layout) (i k : ℕ) → i < k → k < j .count
-    → pairTerm j ws v (pairIndex (j .count) i k) ≡ getD ws (pairIndex (j .count) i k) 0 * penaltyBetween j v i k
+pub pair-term : (j : Job) (ws : List ℕ) (v : Layout) (i k : ℕ) → i < k → k < j .size .count
+    → pairTerm j ws v (pairIndex (j .size .count) i k) ≡ getD ws (pairIndex (j .size .count) i k) 0 * penaltyBetween j v i k
 unfolding pairTerm penaltyPlaced pairPenalty
-pair-term j ws v i k l h = ap (λ q. getD ws (pairIndex (j .count) i k) 0 * pairPenalty j v q) (pair-at (j .count) i k noPair l h)
+pair-term j ws v i k l h = ap (λ q. getD ws (pairIndex (j .size .count) i k) 0 * pairPenalty j v q) (pair-at (j .size .count) i k noPair l h)
 
 -- ── row by row ──
 
@@ -250,20 +250,20 @@ unfolding penaltyPlaced
 others-penalty j v i p a b d e = rw (getD-set-other v i a p origin d, getD-set-other v i b p origin e)
 
 -- a piece's pair sum is the running sum of weight × penalty over all piece numbers; its own has weight 0
-pub piece-sum : (j : Job) (ws : List ℕ) (v : Layout) (i : ℕ) → i < j .count → length ws ≡ length (pairs (j .count))
-    → pieceSum j ws v i ≡ sumBelow (j .count) (λ k. weightBetween (j .count) ws i k * penaltyBetween j v i k)
+pub piece-sum : (j : Job) (ws : List ℕ) (v : Layout) (i : ℕ) → i < j .size .count → length ws ≡ length (pairs (j .size .count))
+    → pieceSum j ws v i ≡ sumBelow (j .size .count) (λ k. weightBetween (j .size .count) ws i k * penaltyBetween j v i k)
 unfolding pieceSum
 piece-sum j ws v i l e =
-    named-sum (j .count) (pairPenalty j v) ws i l e
-    ∙ sum-agree (j .count) _ _ (λ k h. share-agree (j .count) ws i k _ _ (between-cost j v i k))
+    named-sum (j .size .count) (pairPenalty j v) ws i l e
+    ∙ sum-agree (j .size .count) _ _ (λ k h. share-agree (j .size .count) ws i k _ _ (between-cost j v i k))
 
 -- the pair sum of a piece placed anew: only its own placement is another
-pub placed-sum : (j : Job) (ws : List ℕ) (v : Layout) (i : ℕ) (p : Placement) → i < j .count → length v ≡ j .count
-    → length ws ≡ length (pairs (j .count))
-    → pieceSum j ws (set v i p) i ≡ sumBelow (j .count) (λ k. weightBetween (j .count) ws i k * penaltyPlaced j v i p k)
+pub placed-sum : (j : Job) (ws : List ℕ) (v : Layout) (i : ℕ) (p : Placement) → i < j .size .count → length v ≡ j .size .count
+    → length ws ≡ length (pairs (j .size .count))
+    → pieceSum j ws (set v i p) i ≡ sumBelow (j .size .count) (λ k. weightBetween (j .size .count) ws i k * penaltyPlaced j v i p k)
 placed-sum j ws v i p l g e =
     piece-sum j ws (set v i p) i l e
-    ∙ sum-agree (j .count) _ _ (λ k h. share-agree (j .count) ws i k _ _ (λ d. placed-penalty j v i p k (omega arith) d))
+    ∙ sum-agree (j .size .count) _ _ (λ k h. share-agree (j .size .count) ws i k _ _ (λ d. placed-penalty j v i p k (omega arith) d))
 
 -- a placement on a line has the turn that was asked for
 turn-on : (line : Line) (t : Turn) (a : ℕ) → onLine line t a .turn ≡ t
@@ -277,27 +277,27 @@ unfolding penaltyPlaced penaltyOn
 penalty-on j v i t line a k = rw (turn-on line t a)
 
 -- the pair sum at coordinate a on a line: of all that is read only the piece's own corner depends on a
-pub sum-at : (j : Job) (ws : List ℕ) (v : Layout) (i : ℕ) (t : Turn) (line : Line) (a : ℕ) → i < j .count → length v ≡ j .count
-    → length ws ≡ length (pairs (j .count))
-    → sumAt j ws v i t line a ≡ sumBelow (j .count) (λ k. weightBetween (j .count) ws i k * penaltyOn j v i t line a k)
+pub sum-at : (j : Job) (ws : List ℕ) (v : Layout) (i : ℕ) (t : Turn) (line : Line) (a : ℕ) → i < j .size .count → length v ≡ j .size .count
+    → length ws ≡ length (pairs (j .size .count))
+    → sumAt j ws v i t line a ≡ sumBelow (j .size .count) (λ k. weightBetween (j .size .count) ws i k * penaltyOn j v i t line a k)
 unfolding sumAt
 sum-at j ws v i t line a l g e =
     placed-sum j ws v i (onLine line t a) l g e
-    ∙ sum-agree (j .count) _ _ (λ k h. ap (λ c. weightBetween (j .count) ws i k * c) (penalty-on j v i t line a k))
+    ∙ sum-agree (j .size .count) _ _ (λ k h. ap (λ c. weightBetween (j .size .count) ws i k * c) (penalty-on j v i t line a k))
 
 -- ── the weighted sum ──
 
 -- the weighted sum is the sum over the rows of pairs, each the running sum over the second numbers
-pub weighted-rows : (j : Job) (ws : List ℕ) (v : Layout) → length ws ≡ length (pairs (j .count))
+pub weighted-rows : (j : Job) (ws : List ℕ) (v : Layout) → length ws ≡ length (pairs (j .size .count))
     → weightedSum j ws v
-    ≡ sumBelow (j .count) (λ i. sumBelow (j .count - suc i) (λ m. getD ws (rowStart (j .count) i + m) 0 * penaltyBetween j v i (suc i + m)))
+    ≡ sumBelow (j .size .count) (λ i. sumBelow (j .size .count - suc i) (λ m. getD ws (rowStart (j .size .count) i + m) 0 * penaltyBetween j v i (suc i + m)))
 unfolding pairTerm penaltyPlaced pairPenalty
 weighted-rows j ws v e =
     weighted-sum j ws v e
-    ∙ positions-rows (j .count) (pairTerm j ws v)
-    ∙ sum-agree (j .count) _ _
-    (λ i l. sum-agree (j .count - suc i) _ _
-    (λ m h. ap (λ q. getD ws (rowStart (j .count) i + m) 0 * pairPenalty j v q) (row-at (j .count) i m noPair (omega arith))))
+    ∙ positions-rows (j .size .count) (pairTerm j ws v)
+    ∙ sum-agree (j .size .count) _ _
+    (λ i l. sum-agree (j .size .count - suc i) _ _
+    (λ m h. ap (λ q. getD ws (rowStart (j .size .count) i + m) 0 * pairPenalty j v q) (row-at (j .size .count) i m noPair (omega arith))))
 
 -- the weighted sum after a piece is placed anew: the old pair sum taken off, the new one added
 pub moved-sum : (j : Job) (ws : List ℕ) (v : Layout) (i : ℕ) (p : Placement)
@@ -305,12 +305,12 @@ pub moved-sum : (j : Job) (ws : List ℕ) (v : Layout) (i : ℕ) (p : Placement)
 moved-sum j ws v i p = omega (arith, placed-anew j ws v i p, piece-at-most j ws v i)
 
 -- another piece's pair sum after piece i is placed anew: the pair's old part taken off, its new one added
-pub moved-other-sum : (j : Job) (ws : List ℕ) (v : Layout) (i : ℕ) (p : Placement) (k : ℕ) → i < j .count → k < j .count → i ≢ k
-    → length v ≡ j .count → length ws ≡ length (pairs (j .count))
+pub moved-other-sum : (j : Job) (ws : List ℕ) (v : Layout) (i : ℕ) (p : Placement) (k : ℕ) → i < j .size .count → k < j .size .count → i ≢ k
+    → length v ≡ j .size .count → length ws ≡ length (pairs (j .size .count))
     → pieceSum j ws (set v i p) k
-    ≡ pieceSum j ws v k - weightBetween (j .count) ws i k * penaltyBetween j v i k + weightBetween (j .count) ws i k * penaltyPlaced j v i p k
+    ≡ pieceSum j ws v k - weightBetween (j .size .count) ws i k * penaltyBetween j v i k + weightBetween (j .size .count) ws i k * penaltyPlaced j v i p k
 moved-other-sum j ws v i p k l h d e f =
-    let n : ℕ = j .count in
+    let n : ℕ = j .size .count in
     let w : ℕ = weightBetween n ws i k in
     let old : ℕ → ℕ = λ m. weightBetween n ws k m * penaltyBetween j v k m in
     let new : ℕ → ℕ = λ m. weightBetween n ws k m * penaltyBetween j (set v i p) k m in
@@ -335,44 +335,44 @@ list-weight-bound ws W c h = bound (decLt c (length ws))
     bound (no g) = rw (List·getD-eq-default ws 0 {n = c} (omega arith)) (omega arith)
 
 -- so is the weight of two pieces
-pub weight-bound : (j : Job) (ws : List ℕ) (i k : ℕ) → ValidWeights j ws → weightBetween (j .count) ws i k ≤ weightBound
+pub weight-bound : (j : Job) (ws : List ℕ) (i k : ℕ) → ValidWeights j ws → weightBetween (j .size .count) ws i k ≤ weightBound
 weight-bound j ws i k w = bound (ℕ-discrete i k)
   where
     each : (c : ℕ) → getD ws c 0 ≤ weightBound
     each c = list-weight-bound ws weightBound c (λ k l. w .inRange k l .1)
 
-    bound : Dec (i ≡ k) → weightBetween (j .count) ws i k ≤ weightBound
-    bound (yes e) = rw (← e, weight-self (j .count) ws i) (omega arith)
+    bound : Dec (i ≡ k) → weightBetween (j .size .count) ws i k ≤ weightBound
+    bound (yes e) = rw (← e, weight-self (j .size .count) ws i) (omega arith)
     bound (no d) =
-        ⊎-elim (λ l. rw (weight-above (j .count) ws i k l) (each _)) (λ l. rw (weight-below (j .count) ws i k l) (each _)) (apart i k d)
+        ⊎-elim (λ l. rw (weight-above (j .size .count) ws i k l) (each _)) (λ l. rw (weight-below (j .size .count) ws i k l) (each _)) (apart i k d)
 
 -- and at least 1 for two pieces
-pub weight-positive : (j : Job) (ws : List ℕ) (i k : ℕ) → ValidWeights j ws → i < j .count → k < j .count → i ≢ k
-    → 1 ≤ weightBetween (j .count) ws i k
+pub weight-positive : (j : Job) (ws : List ℕ) (i k : ℕ) → ValidWeights j ws → i < j .size .count → k < j .size .count → i ≢ k
+    → 1 ≤ weightBetween (j .size .count) ws i k
 weight-positive j ws i k w l h d =
-    ⊎-elim (λ g. rw (weight-above (j .count) ws i k g) (each i k g h)) (λ g. rw (weight-below (j .count) ws i k g) (each k i g l)) (apart i k d)
+    ⊎-elim (λ g. rw (weight-above (j .size .count) ws i k g) (each i k g h)) (λ g. rw (weight-below (j .size .count) ws i k g) (each k i g l)) (apart i k d)
   where
-    each : (a b : ℕ) → a < b → b < j .count → 1 ≤ getD ws (pairIndex (j .count) a b) 0
-    each a b g x = w .inRange (pairIndex (j .count) a b) (let e = w .onePerPair in let z = pair-below (j .count) a b g x in omega arith) .0
+    each : (a b : ℕ) → a < b → b < j .size .count → 1 ≤ getD ws (pairIndex (j .size .count) a b) 0
+    each a b g x = w .inRange (pairIndex (j .size .count) a b) (let e = w .onePerPair in let z = pair-below (j .size .count) a b g x in omega arith) .0
 
 -- the penalty of two pieces is at most 255
-pub between-bound : (j : Job) → BoxesSmall j → (v : Layout) (i k : ℕ) → i < j .count → k < j .count → i ≢ k → penaltyBetween j v i k ≤ sideBound
+pub between-bound : (j : Job) → BoxesSmall j → (v : Layout) (i k : ℕ) → i < j .size .count → k < j .size .count → i ≢ k → penaltyBetween j v i k ≤ sideBound
 unfolding pairPenalty penaltyPlaced
 between-bound j small v i k l h d =
-    ⊎-elim (λ g. pair-penalty-at-most j small v (pairOf i k) (pair-mem (j .count) i k g h))
+    ⊎-elim (λ g. pair-penalty-at-most j small v (pairOf i k) (pair-mem (j .size .count) i k g h))
     (λ g. rw (penalty-symmetric (shapeIn j v i) (cornerIn v i) (shapeIn j v k) (cornerIn v k))
-    (pair-penalty-at-most j small v (pairOf k i) (pair-mem (j .count) k i g l))) (apart i k d)
+    (pair-penalty-at-most j small v (pairOf k i) (pair-mem (j .size .count) k i g l))) (apart i k d)
 
 -- a piece's pair sum, and every running sum of it, is at most 63 × 65,535 × 255, which is below 2³⁰
 abbrev pub pieceSumBound : ℕ
 pieceSumBound = 63 * (weightBound * sideBound)
 
 -- any running sum of weight × penalty over the other pieces
-pub running-bound : (j : Job) (ws : List ℕ) (i m : ℕ) (pen : ℕ → ℕ) → j .count ≤ pieceBound → ValidWeights j ws → i < j .count → m ≤ j .count
-    → ((k : ℕ) → k < j .count → i ≢ k → pen k ≤ sideBound)
-    → sumBelow m (λ k. weightBetween (j .count) ws i k * pen k) ≤ pieceSumBound
+pub running-bound : (j : Job) (ws : List ℕ) (i m : ℕ) (pen : ℕ → ℕ) → j .size .count ≤ pieceBound → ValidWeights j ws → i < j .size .count → m ≤ j .size .count
+    → ((k : ℕ) → k < j .size .count → i ≢ k → pen k ≤ sideBound)
+    → sumBelow m (λ k. weightBetween (j .size .count) ws i k * pen k) ≤ pieceSumBound
 running-bound j ws i m pen few w l h small =
-    let n : ℕ = j .count in
+    let n : ℕ = j .size .count in
     let f : ℕ → ℕ = λ k. weightBetween n ws i k * pen k in
     let term : (k : ℕ) → k < n → i ≢ k → f k ≤ weightBound * sideBound = λ k b d. mul-le-mul (weight-bound j ws i k w) (small k b d) in
     let before : sumBelow i f ≤ i * (weightBound * sideBound) = sum-bound i _ f (λ k b. term k (omega arith) (λ e. omega arith)) in
@@ -388,10 +388,10 @@ pub piece-sum-number : pieceSumBound ≡ 1052819775
 piece-sum-number = refl
 
 -- any running sum over the positions of the pairs is at most the largest weighted sum
-pub running-total-bound : (j : Job) (ws : List ℕ) (v : Layout) (c : ℕ) → j .count ≤ pieceBound → BoxesSmall j → ValidWeights j ws
-    → c ≤ length (pairs (j .count)) → sumBelow c (pairTerm j ws v) ≤ sumBound
+pub running-total-bound : (j : Job) (ws : List ℕ) (v : Layout) (c : ℕ) → j .size .count ≤ pieceBound → BoxesSmall j → ValidWeights j ws
+    → c ≤ length (pairs (j .size .count)) → sumBelow c (pairTerm j ws v) ≤ sumBound
 running-total-bound j ws v c few small w l =
-    let all : weightedSum j ws v ≡ sumBelow (length (pairs (j .count))) (pairTerm j ws v) = weighted-sum j ws v (w .onePerPair) in
-    let part = sum-grows c (length (pairs (j .count))) (pairTerm j ws v) l in
+    let all : weightedSum j ws v ≡ sumBelow (length (pairs (j .size .count))) (pairTerm j ws v) = weighted-sum j ws v (w .onePerPair) in
+    let part = sum-grows c (length (pairs (j .size .count))) (pairTerm j ws v) l in
     let most : weightedSum j ws v ≤ sumBound = weighted-at-most j ws v few small w in
     omega arith

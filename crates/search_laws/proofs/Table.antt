@@ -118,41 +118,41 @@ added-end j v n T h = renewed-table j v v (n + 1) n (placeOf v n) T h (λ a b d 
 
 -- ── sums from the table ──
 
-module _ (j : Job) (ws : List ℕ) (v : Layout) (T : List ℕ) (h : PenaltyTable j v (j .count) T) where
+module _ (j : Job) (ws : List ℕ) (v : Layout) (T : List ℕ) (h : PenaltyTable j v (j .size .count) T) where
   -- a piece's pair sum reads its row
-  pub table-piece-sum : (i : ℕ) → i < j .count → length ws ≡ length (pairs (j .count))
-      → pieceSum j ws v i ≡ sumBelow (j .count) (λ k. weightBetween (j .count) ws i k * getD T (entry i k) 0)
+  pub table-piece-sum : (i : ℕ) → i < j .size .count → length ws ≡ length (pairs (j .size .count))
+      → pieceSum j ws v i ≡ sumBelow (j .size .count) (λ k. weightBetween (j .size .count) ws i k * getD T (entry i k) 0)
   table-piece-sum i l e =
       piece-sum j ws v i l e
-      ∙ sum-agree (j .count) _ _ (λ k b. share-agree (j .count) ws i k _ _ (λ d. sym (h .holds i k l b d)))
+      ∙ sum-agree (j .size .count) _ _ (λ k b. share-agree (j .size .count) ws i k _ _ (λ d. sym (h .holds i k l b d)))
 
   -- a row of zeros: the piece's pair sum is 0
-  pub table-row-zero : (i : ℕ) → i < j .count → length ws ≡ length (pairs (j .count))
-      → ((k : ℕ) → k < j .count → i ≢ k → getD T (entry i k) 0 ≡ 0) → pieceSum j ws v i ≡ 0
+  pub table-row-zero : (i : ℕ) → i < j .size .count → length ws ≡ length (pairs (j .size .count))
+      → ((k : ℕ) → k < j .size .count → i ≢ k → getD T (entry i k) 0 ≡ 0) → pieceSum j ws v i ≡ 0
   table-row-zero i l e zero-entries =
       table-piece-sum i l e
-      ∙ sum-zero (j .count) _
-      (λ k b. share-agree (j .count) ws i k _ 0 (zero-entries k b) ∙ mul-zero (weightBetween (j .count) ws i k))
+      ∙ sum-zero (j .size .count) _
+      (λ k b. share-agree (j .size .count) ws i k _ 0 (zero-entries k b) ∙ mul-zero (weightBetween (j .size .count) ws i k))
 
   -- a pair sum of 0, by valid weights: the row is of zeros
-  pub zero-table-row : (i : ℕ) → i < j .count → ValidWeights j ws → pieceSum j ws v i ≡ 0
-      → (k : ℕ) → k < j .count → i ≢ k → getD T (entry i k) 0 ≡ 0
+  pub zero-table-row : (i : ℕ) → i < j .size .count → ValidWeights j ws → pieceSum j ws v i ≡ 0
+      → (k : ℕ) → k < j .size .count → i ≢ k → getD T (entry i k) 0 ≡ 0
   zero-table-row i l w e k b d =
-      let part : ℕ → ℕ = λ m. weightBetween (j .count) ws i m * getD T (entry i m) 0 in
-      let all : pieceSum j ws v i ≡ sumBelow (j .count) part = table-piece-sum i l (w .onePerPair) in
-      let one : part k ≤ sumBelow (j .count) part = term-at-most (j .count) k part b in
+      let part : ℕ → ℕ = λ m. weightBetween (j .size .count) ws i m * getD T (entry i m) 0 in
+      let all : pieceSum j ws v i ≡ sumBelow (j .size .count) part = table-piece-sum i l (w .onePerPair) in
+      let one : part k ≤ sumBelow (j .size .count) part = term-at-most (j .size .count) k part b in
       let least : 1 * getD T (entry i k) 0 ≤ part k = mul-le-mul-right (getD T (entry i k) 0) (weight-positive j ws i k w l b d) in
       omega arith
 
   -- the part of the pair (i, k) in the weighted sum
-  pub table-pair-term : (i k : ℕ) → i < k → k < j .count
-      → pairTerm j ws v (pairIndex (j .count) i k) ≡ getD ws (pairIndex (j .count) i k) 0 * getD T (entry i k) 0
+  pub table-pair-term : (i k : ℕ) → i < k → k < j .size .count
+      → pairTerm j ws v (pairIndex (j .size .count) i k) ≡ getD ws (pairIndex (j .size .count) i k) 0 * getD T (entry i k) 0
   table-pair-term i k l b =
       pair-term j ws v i k l b
-      ∙ ap (λ c. getD ws (pairIndex (j .count) i k) 0 * c) (sym (h .holds i k (omega arith) b (λ e. omega arith)))
+      ∙ ap (λ c. getD ws (pairIndex (j .size .count) i k) 0 * c) (sym (h .holds i k (omega arith) b (λ e. omega arith)))
 
   -- the pair (i, k) shares a pixel exactly where its entry is not 0
-  pub table-shares : (i k : ℕ) → i < k → k < j .count → pairShares j v (pairOf i k) ≡ not (eqb (getD T (entry i k) 0) 0)
+  pub table-shares : (i k : ℕ) → i < k → k < j .size .count → pairShares j v (pairOf i k) ≡ not (eqb (getD T (entry i k) 0) 0)
   unfolding pairShares penaltyPlaced
   table-shares i k l b =
       let e : getD T (entry i k) 0 ≡ penaltyBetween j v i k = h .holds i k (omega arith) b (λ e. omega arith) in
@@ -174,32 +174,32 @@ unfolding unitWeights
 unit-length n = length-replicate {A = ℕ} (length (pairs n)) 1
 
 -- the part of the pair (i, k) in the plain sum is its penalty
-pub plain-term : (j : Job) (v : Layout) (i k : ℕ) → i < k → k < j .count
-    → pairTerm j (unitWeights (j .count)) v (pairIndex (j .count) i k) ≡ penaltyBetween j v i k
+pub plain-term : (j : Job) (v : Layout) (i k : ℕ) → i < k → k < j .size .count
+    → pairTerm j (unitWeights (j .size .count)) v (pairIndex (j .size .count) i k) ≡ penaltyBetween j v i k
 plain-term j v i k l h =
-    pair-term j (unitWeights (j .count)) v i k l h
-    ∙ ap (λ w. w * penaltyBetween j v i k) (unit-at (j .count) (pairIndex (j .count) i k) (pair-below (j .count) i k l h))
+    pair-term j (unitWeights (j .size .count)) v i k l h
+    ∙ ap (λ w. w * penaltyBetween j v i k) (unit-at (j .size .count) (pairIndex (j .size .count) i k) (pair-below (j .size .count) i k l h))
     ∙ one-mul (penaltyBetween j v i k)
 
 -- the plain sum is the running sum over the positions of the pairs
-pub plain-sum : (j : Job) (v : Layout) → plainSum j v ≡ sumBelow (length (pairs (j .count))) (pairTerm j (unitWeights (j .count)) v)
+pub plain-sum : (j : Job) (v : Layout) → plainSum j v ≡ sumBelow (length (pairs (j .size .count))) (pairTerm j (unitWeights (j .size .count)) v)
 unfolding plainSum
-plain-sum j v = weighted-sum j (unitWeights (j .count)) v (unit-length (j .count))
+plain-sum j v = weighted-sum j (unitWeights (j .size .count)) v (unit-length (j .size .count))
 
 -- the plain sum is the sum of the table's entries above the diagonal, row by row
-pub plain-rows : (j : Job) (v : Layout) (T : List ℕ) → PenaltyTable j v (j .count) T
-    → plainSum j v ≡ sumBelow (j .count) (λ i. sumBelow (j .count - suc i) (λ m. getD T (entry i (suc i + m)) 0))
+pub plain-rows : (j : Job) (v : Layout) (T : List ℕ) → PenaltyTable j v (j .size .count) T
+    → plainSum j v ≡ sumBelow (j .size .count) (λ i. sumBelow (j .size .count - suc i) (λ m. getD T (entry i (suc i + m)) 0))
 plain-rows j v T h =
     plain-sum j v
-    ∙ positions-rows (j .count) _
-    ∙ sum-agree (j .count) _ _
-    (λ i l. sum-agree (j .count - suc i) _ _
-    (λ m b. (let e : rowStart (j .count) i + m ≡ pairIndex (j .count) i (suc i + m) = omega arith in
+    ∙ positions-rows (j .size .count) _
+    ∙ sum-agree (j .size .count) _ _
+    (λ i l. sum-agree (j .size .count - suc i) _ _
+    (λ m b. (let e : rowStart (j .size .count) i + m ≡ pairIndex (j .size .count) i (suc i + m) = omega arith in
     rw e (plain-term j v i (suc i + m) (omega arith) (omega arith) ∙ sym (h .holds i (suc i + m) l (omega arith) (λ q. omega arith))))))
 
 -- the plain sum after a piece is placed anew
 pub moved-plain : (j : Job) (v : Layout) (i : ℕ) (p : Placement)
     → plainSum j (set v i p)
-    ≡ plainSum j v - pieceSum j (unitWeights (j .count)) v i + pieceSum j (unitWeights (j .count)) (set v i p) i
+    ≡ plainSum j v - pieceSum j (unitWeights (j .size .count)) v i + pieceSum j (unitWeights (j .size .count)) (set v i p) i
 unfolding plainSum
-moved-plain j v i p = moved-sum j (unitWeights (j .count)) v i p
+moved-plain j v i p = moved-sum j (unitWeights (j .size .count)) v i p

@@ -94,13 +94,13 @@ piece-chain j i a =
     (turn-chain j i ThreeQuarters last refl)
 
 -- the trials of the pieces from i on
-from-chain : (j : Job) (i left : ℕ) → ((k : ℕ) → k < j .count → allowed j k Zero ≡ true) → i + left ≡ j .count
+from-chain : (j : Job) (i left : ℕ) → ((k : ℕ) → k < j .size .count → allowed j k Zero ≡ true) → i + left ≡ j .size .count
     → Chain j (pieceStart j i) (trialsFrom j i left) (trialOf 0 Zero Horizontal)
 unfolding trialsFrom
-from-chain j i zero a e = ap (λ (b : Bool). trialOf (elim b as (λ _. ℕ) [ true ↦ i | false ↦ 0 ]) Zero Horizontal) (le-ltb i (j .count) (omega arith))
+from-chain j i zero a e = ap (λ (b : Bool). trialOf (elim b as (λ _. ℕ) [ true ↦ i | false ↦ 0 ]) Zero Horizontal) (le-ltb i (j .size .count) (omega arith))
 from-chain j i (suc left) a e =
     let start : pieceStart j i ≡ trialOf i Zero Horizontal =
-    ap (λ (b : Bool). trialOf (elim b as (λ _. ℕ) [ true ↦ i | false ↦ 0 ]) Zero Horizontal) (lt-ltb i (j .count) (omega arith)) in
+    ap (λ (b : Bool). trialOf (elim b as (λ _. ℕ) [ true ↦ i | false ↦ 0 ]) Zero Horizontal) (lt-ltb i (j .size .count) (omega arith)) in
     rw start
     (chain-append j (trialOf i Zero Horizontal) (pieceStart j (suc i)) (trialOf 0 Zero Horizontal) (pieceTrials j i) (trialsFrom j (suc i) left)
     (piece-chain j i (a i (omega arith))) (from-chain j (suc i) left a (omega arith)))
@@ -117,11 +117,11 @@ start-zero : (b : Bool) → trialOf (elim b as (λ _. ℕ) [ true ↦ 0 | false 
 start-zero true = refl
 start-zero false = refl
 
-module _ (j : Job) (a : (k : ℕ) → k < j .count → allowed j k Zero ≡ true) where
+module _ (j : Job) (a : (k : ℕ) → k < j .size .count → allowed j k Zero ≡ true) where
   -- the trials follow one another, and after the last comes the first
   trials-chain : Chain j noTrial (trials j) noTrial
   unfolding trials
-  trials-chain = rw (start-zero (ltb 0 (j .count))) at (from-chain j 0 (j .count) a (omega arith))
+  trials-chain = rw (start-zero (ltb 0 (j .size .count))) at (from-chain j 0 (j .size .count) a (omega arith))
 
   -- the first trial is piece 0, turn 0, horizontal
   pub first-trial : getD (trials j) 0 noTrial ≡ trialOf 0 Zero Horizontal
@@ -140,50 +140,50 @@ module _ (j : Job) (a : (k : ℕ) → k < j .count → allowed j k Zero ≡ true
   next-trial m l = next-at m l _ refl
 
   -- by the test for a piece i
-  start-proper : (i : ℕ) → 0 < j .count → (b : Bool) → ltb i (j .count) ≡ b
-      → Proper j 0 (j .count) (trialOf (elim b as (λ _. ℕ) [ true ↦ i | false ↦ 0 ]) Zero Horizontal)
+  start-proper : (i : ℕ) → 0 < j .size .count → (b : Bool) → ltb i (j .size .count) ≡ b
+      → Proper j 0 (j .size .count) (trialOf (elim b as (λ _. ℕ) [ true ↦ i | false ↦ 0 ]) Zero Horizontal)
   start-proper i some true e =
-      let there : i < j .count = ltb-true _ _ e in
+      let there : i < j .size .count = ltb-true _ _ e in
       record { from = omega arith; below = there; turnAllowed = a i there }
   start-proper i some false e = record { from = omega arith; below = some; turnAllowed = a 0 some }
 
   -- by whether the turn is allowed
-  in-proper-at : (i : ℕ) (t : Turn) (later : Trial) → i < j .count → Proper j 0 (j .count) later → (b : Bool) → allowed j i t ≡ b
-      → Proper j 0 (j .count) (elim b as (λ _. Trial) [ true ↦ trialOf i t Horizontal | false ↦ later ])
+  in-proper-at : (i : ℕ) (t : Turn) (later : Trial) → i < j .size .count → Proper j 0 (j .size .count) later → (b : Bool) → allowed j i t ≡ b
+      → Proper j 0 (j .size .count) (elim b as (λ _. Trial) [ true ↦ trialOf i t Horizontal | false ↦ later ])
   in-proper-at i t later l p true e = record { from = omega arith; below = l; turnAllowed = e }
   in-proper-at i t later l p false e = p
 
   -- the piece's trial in a turn is of a turn allowed to it
-  in-proper : (i : ℕ) (t : Turn) (later : Trial) → i < j .count → Proper j 0 (j .count) later → Proper j 0 (j .count) (inTurn j i t later)
+  in-proper : (i : ℕ) (t : Turn) (later : Trial) → i < j .size .count → Proper j 0 (j .size .count) later → Proper j 0 (j .size .count) (inTurn j i t later)
   unfolding inTurn
   in-proper i t later l p = in-proper-at i t later l p _ refl
 
   -- what comes after a turn
-  after-proper : (i : ℕ) (t : Turn) → i < j .count → Proper j 0 (j .count) (afterTurn j i t)
+  after-proper : (i : ℕ) (t : Turn) → i < j .size .count → Proper j 0 (j .size .count) (afterTurn j i t)
   unfolding afterTurn
   after-proper i t l = proper t
     where
-      last : Proper j 0 (j .count) (pieceStart j (suc i))
+      last : Proper j 0 (j .size .count) (pieceStart j (suc i))
       last = start-proper (suc i) (omega arith) _ refl
 
-      third : Proper j 0 (j .count) (inTurn j i ThreeQuarters (pieceStart j (suc i)))
+      third : Proper j 0 (j .size .count) (inTurn j i ThreeQuarters (pieceStart j (suc i)))
       third = in-proper i ThreeQuarters _ l last
 
-      second : Proper j 0 (j .count) (inTurn j i Half (inTurn j i ThreeQuarters (pieceStart j (suc i))))
+      second : Proper j 0 (j .size .count) (inTurn j i Half (inTurn j i ThreeQuarters (pieceStart j (suc i))))
       second = in-proper i Half _ l third
 
-      proper : (t : Turn) → Proper j 0 (j .count) (afterTurn j i t)
+      proper : (t : Turn) → Proper j 0 (j .size .count) (afterTurn j i t)
       proper Zero = in-proper i Quarter _ l second
       proper Quarter = second
       proper Half = third
       proper ThreeQuarters = last
 
   -- the trial after a trial is of a piece of the job in a turn allowed to it
-  pub next-proper : (k : Trial) → Proper j 0 (j .count) k → Proper j 0 (j .count) (nextTrial j k)
+  pub next-proper : (k : Trial) → Proper j 0 (j .size .count) k → Proper j 0 (j .size .count) (nextTrial j k)
   unfolding nextTrial
   next-proper k p = by-direction (k .direction)
     where
-      by-direction : (d : Direction) → Proper j 0 (j .count) (nextIn j (k .piece) (k .turn) d)
+      by-direction : (d : Direction) → Proper j 0 (j .size .count) (nextIn j (k .piece) (k .turn) d)
       by-direction Horizontal = record { from = omega arith; below = p .below; turnAllowed = p .turnAllowed }
       by-direction Vertical = after-proper (k .piece) (k .turn) (p .below)
 
@@ -223,6 +223,6 @@ from-length j i (suc left) =
     (omega (arith, sum-first left (λ m. 2 * turnCount j (i + m))))
 
 -- T, the number of trials
-pub trials-count : (j : Job) → length (trials j) ≡ sumBelow (j .count) (λ i. 2 * turnCount j i)
+pub trials-count : (j : Job) → length (trials j) ≡ sumBelow (j .size .count) (λ i. 2 * turnCount j i)
 unfolding trials
-trials-count j = from-length j 0 (j .count) ∙ sum-agree (j .count) _ _ (λ m l. ap (λ k. 2 * turnCount j k) (omega arith))
+trials-count j = from-length j 0 (j .size .count) ∙ sum-agree (j .size .count) _ _ (λ m l. ap (λ k. 2 * turnCount j k) (omega arith))

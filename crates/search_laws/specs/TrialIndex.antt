@@ -12,7 +12,7 @@ use Rattle.descent_laws.specs.Trials.{trialOf}
 
 -- the first trial of piece i, or of piece 0 where there is no piece i
 abbrev pub pieceStart : Job → ℕ → Trial
-pieceStart j i = trialOf (elim (ltb i (j .count)) [ true ↦ i | false ↦ 0 ]) Zero Horizontal
+pieceStart j i = trialOf (elim (ltb i (j .size .count)) [ true ↦ i | false ↦ 0 ]) Zero Horizontal
 
 -- the piece's horizontal trial in the turn, if that is allowed, else what comes later
 unfoldable pub inTurn : Job → ℕ → Turn → Trial → Trial

@@ -48,8 +48,8 @@ module _ (d : Direction) (j : Job) (width : ℕ) where
     pub slot-within : (m : ℕ) → m < length tags → m * width + width ≤ length lines
     slot-within m l = let r = kept .room in let h = slot-before m (length tags) width l in omega arith
 
-    module _ (m i k : ℕ) (t u : Turn) (offset : ℕ) (new : List ℕ) (few : j .count ≤ pieceBound) (slot : m < length tags) (first : i < j .count)
-        (second : k < j .count) (near : offset < 1024) (wide : Wide j width)
+    module _ (m i k : ℕ) (t u : Turn) (offset : ℕ) (new : List ℕ) (few : j .size .count ≤ pieceBound) (slot : m < length tags) (first : i < j .size .count)
+        (second : k < j .size .count) (near : offset < 1024) (wide : Wide j width)
         (made : LineMade d (turnedPiece j i t) (turnedPiece j k u) offset lines (m * width) new)
       where
         -- the tag of the slot
@@ -57,7 +57,7 @@ module _ (d : Direction) (j : Job) (width : ℕ) where
         key = keyOf (shapeNumber i t) (shapeNumber k u) offset
 
         -- the slot holds every line that its tag names: they are all one
-        own-slot : (i′ k′ : ℕ) (t′ u′ : Turn) (offset′ : ℕ) → k′ < j .count → offset′ < 1024 → key ≡ keyOf (shapeNumber i′ t′) (shapeNumber k′ u′) offset′
+        own-slot : (i′ k′ : ℕ) (t′ u′ : Turn) (offset′ : ℕ) → k′ < j .size .count → offset′ < 1024 → key ≡ keyOf (shapeNumber i′ t′) (shapeNumber k′ u′) offset′
             → HoldsLine d (turnedPiece j i′ t′) (turnedPiece j k′ u′) offset′ new (m * width)
         own-slot i′ k′ t′ u′ offset′ b c e =
             let x : shapeNumber k u < 256 = (let y = turn-below u in omega arith) in
@@ -92,7 +92,7 @@ module _ (d : Direction) (j : Job) (width : ℕ) where
               holds = λ n i′ k′ t′ u′ offset′ l a b c e. by-slot n i′ k′ t′ u′ offset′ (omega arith) a b c e (ℕ-discrete n m);
             }
           where
-            by-slot : (n i′ k′ : ℕ) (t′ u′ : Turn) (offset′ : ℕ) → n < length tags → i′ < j .count → k′ < j .count → offset′ < 1024
+            by-slot : (n i′ k′ : ℕ) (t′ u′ : Turn) (offset′ : ℕ) → n < length tags → i′ < j .size .count → k′ < j .size .count → offset′ < 1024
                 → getD (set tags m key) n 0 ≡ keyOf (shapeNumber i′ t′) (shapeNumber k′ u′) offset′ → Dec (n ≡ m)
                 → HoldsLine d (turnedPiece j i′ t′) (turnedPiece j k′ u′) offset′ new (n * width)
             by-slot n i′ k′ t′ u′ offset′ l a b c e (yes h) =
@@ -106,7 +106,7 @@ module _ (d : Direction) (j : Job) (width : ℕ) where
 -- ── how wide a slot is ──
 
 -- twice the largest side is wide enough
-pub twice-wide : (j : Job) (n : ℕ) → ((i : ℕ) → i < j .count → (j .piece i .shape .columns ≤ n) × (j .piece i .shape .rows ≤ n)) → Wide j (n * 2)
+pub twice-wide : (j : Job) (n : ℕ) → ((i : ℕ) → i < j .size .count → (j .piece i .shape .columns ≤ n) × (j .piece i .shape .rows ≤ n)) → Wide j (n * 2)
 twice-wide j n small i k t u d a b =
     let x = turned-extent d t (j .piece i .shape) n (small i a .0) (small i a .1) in
     let y = turned-extent d u (j .piece k .shape) n (small k b .0) (small k b .1) in

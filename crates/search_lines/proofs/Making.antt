@@ -63,11 +63,11 @@ module _ (xs ys : List ℕ) (a n : ℕ) (full : length ys ≡ n) (room : a + n �
 -- ── two pieces of a job ──
 
 module _ (l : Lent) (d : Direction) (store : List (List ℕ)) (starts : List ℕ) (two : Two) (asked : Asked l d store starts two) where
-  pub moved-there : two .moved < jobOf l .count
+  pub moved-there : two .moved < jobOf l .size .count
   unfolding jobOf
   moved-there = asked .moved
 
-  pub standing-there : two .standing < jobOf l .count
+  pub standing-there : two .standing < jobOf l .size .count
   unfolding jobOf
   standing-there = asked .standing
 
@@ -104,11 +104,11 @@ module _ (l : Lent) (d : Direction) (store : List (List ℕ)) (starts : List ℕ
   moved-some = tight-side d (movedShape l two) (lent-tight l (asked .well) (two .moved) (two .«moved_turn») moved-there)
 
   -- what two stretches are that a call is asked for
-  pub moved-strips : (es : List (List ℕ)) → ((e : Direction) (j : Job) → Shapes e j store starts → two .moved < j .count → StripsOf e (turnedPiece j (two .moved) (two .«moved_turn»)) es)
+  pub moved-strips : (es : List (List ℕ)) → ((e : Direction) (j : Job) → Shapes e j store starts → two .moved < j .size .count → StripsOf e (turnedPiece j (two .moved) (two .«moved_turn»)) es)
       → StripsOf d (movedShape l two) es
   moved-strips es told = told d (jobOf l) (asked .shapes) moved-there
 
-  pub standing-strips : (es : List (List ℕ)) → ((e : Direction) (j : Job) → Shapes e j store starts → two .standing < j .count → StripsOf e (turnedPiece j (two .standing) (two .«standing_turn»)) es)
+  pub standing-strips : (es : List (List ℕ)) → ((e : Direction) (j : Job) → Shapes e j store starts → two .standing < j .size .count → StripsOf e (turnedPiece j (two .standing) (two .«standing_turn»)) es)
       → StripsOf d (standingShape l two) es
   standing-strips es told = told d (jobOf l) (asked .shapes) standing-there
 

@@ -36,10 +36,10 @@ HoldsLine d s t offset lines from = (k : ℕ) → k < linePlaces d s t → getD 
 pub record Kept (d : Direction) (j : Job) (width : ℕ) (lines tags : List ℕ) : Type 0 where
   pub room : length tags * width ≤ length lines
   pub some : 0 < length tags
-  pub holds : (m i k : ℕ) (t u : Turn) (offset : ℕ) → m < length tags → i < j .count → k < j .count → offset < 1024
+  pub holds : (m i k : ℕ) (t u : Turn) (offset : ℕ) → m < length tags → i < j .size .count → k < j .size .count → offset < 1024
       → getD tags m 0 ≡ keyOf (shapeNumber i t) (shapeNumber k u) offset
       → HoldsLine d (turnedPiece j i t) (turnedPiece j k u) offset lines (m * width)
 
 -- a slot has room for the line of every two pieces of the job
 abbrev pub Wide : Job → ℕ → Type 0
-Wide j width = (i k : ℕ) (t u : Turn) (d : Direction) → i < j .count → k < j .count → linePlaces d (turnedPiece j i t) (turnedPiece j k u) ≤ width
+Wide j width = (i k : ℕ) (t u : Turn) (d : Direction) → i < j .size .count → k < j .size .count → linePlaces d (turnedPiece j i t) (turnedPiece j k u) ≤ width

@@ -33,8 +33,8 @@ pub record Small (two : Two) : Type 0 where
 pub record Asked (l : Lent) (d : Direction) (strips : List (List ℕ)) (starts : List ℕ) (two : Two) : Type 0 where
   pub well : lentWell l ≡ true
   pub shapes : Shapes d (jobOf l) strips starts
-  pub moved : two .moved < l .count
-  pub standing : two .standing < l .count
+  pub moved : two .moved < l .size .count
+  pub standing : two .standing < l .size .count
   pub offset : two .offset < 1024
 
 -- the line stands from `at` on, and outside it nothing is written

@@ -72,16 +72,16 @@ made-none d l store starts h =
 
 -- there is room for shape k
 pub record Fits (d : Direction) (l : Lent) (k at : ℕ) : Type 0 where
-  pub piece : k / 4 < l .count
-  pub few : l .count ≤ pieceBound
-  pub entries : l .count ≤ length (l .table)
+  pub piece : k / 4 < l .size .count
+  pub few : l .size .count ≤ pieceBound
+  pub entries : l .size .count ≤ length (l .table)
   pub strips : at + length (strips d (numberedShape (jobOf l) k)) ≤ 262144
   pub small : extent d (numberedShape (jobOf l) k) ≤ sideBound
 
-pub fits-next : (d : Direction) (l : Lent) (store : List (List ℕ)) (starts : List ℕ) (k at : ℕ) → lentWell l ≡ true → k < l .count * 4
+pub fits-next : (d : Direction) (l : Lent) (store : List (List ℕ)) (starts : List ℕ) (k at : ℕ) → lentWell l ≡ true → k < l .size .count * 4
     → Made d l store starts k at → Fits d l k at
 fits-next d l store starts k at e h m =
-    let p : k / 4 < l .count = omega arith in
+    let p : k / 4 < l .size .count = omega arith in
     let f = facts l e in
     let g = entry-at l (k / 4) e p in
     let few = m .few in
@@ -90,7 +90,7 @@ fits-next d l store starts k at e h m =
       piece = p;
       few = facts l e .fewPieces;
       entries = f .entries;
-      strips = omega (arith, shape-few d l k, reached-few (l .table) k (l .count) h);
+      strips = omega (arith, shape-few d l k, reached-few (l .table) k (l .size .count) h);
       small = shape-small d l k (g .columns) (g .rows);
     }
 
@@ -173,7 +173,7 @@ module _ (d : Direction) (l : Lent) (store after : List (List ℕ)) (starts : Li
         }
 
 -- after the last: the shapes of the job
-pub made-all : (d : Direction) (l : Lent) (store : List (List ℕ)) (starts : List ℕ) (k at : ℕ) → jobOf l .count * 4 ≤ k
+pub made-all : (d : Direction) (l : Lent) (store : List (List ℕ)) (starts : List ℕ) (k at : ℕ) → jobOf l .size .count * 4 ≤ k
     → Made d l store starts k at → Shapes d (jobOf l) store starts
 made-all d l store starts k at h m =
     record {

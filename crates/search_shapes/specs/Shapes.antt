@@ -53,7 +53,7 @@ pub record ShapeAt (d : Direction) (s : Shape) (store : List (List ℕ)) (starts
 
 -- the strips of every piece of the job in every turn
 pub record Shapes (d : Direction) (j : Job) (store : List (List ℕ)) (starts : List ℕ) : Type 0 where
-  pub at : (i : ℕ) (t : Turn) → i < j .count → ShapeAt d (turnedPiece j i t) store starts (shapeNumber i t)
+  pub at : (i : ℕ) (t : Turn) → i < j .size .count → ShapeAt d (turnedPiece j i t) store starts (shapeNumber i t)
 
 -- a stretch is the strips of a shape, ordered as the overlap of two pieces needs them
 pub record StripsOf (d : Direction) (s : Shape) (stretch : List (List ℕ)) : Type 0 where

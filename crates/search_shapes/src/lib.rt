@@ -85,7 +85,7 @@ pub fn shape_strips<'a>(
     turn: Turn,
 ) -> &'a [[u8; 3]]
     requires { ⌜ Held (now store) (now starts) (shapeNumber piece turn) ⌝ }
-    ensures { λ r. ⌜ ((d : Direction) (j : Job) → Shapes d j (now (store .entry)) (now (starts .entry)) → piece < j .count → StripsOf d (turnedPiece j piece turn) (now r)) ⌝ }
+    ensures { λ r. ⌜ ((d : Direction) (j : Job) → Shapes d j (now (store .entry)) (now (starts .entry)) → piece < j .size .count → StripsOf d (turnedPiece j piece turn) (now r)) ⌝ }
 {
     let number = shape_number(piece, turn);
     let from = starts[number] as usize;

@@ -33,11 +33,11 @@ pub raised-full : (ws : List ℕ) (at p : ℕ) → (p ≡ 0 → ⊥) → weightB
 unfolding raisedAt
 raised-full ws at p n h = sym (ap₂ (λ none below. raisedBy none below ws at) (ne-eqb p 0 n) (le-ltb (getD ws at 0) weightBound h))
 
-module _ (j : Job) (v : Layout) (ws now T : List ℕ) (i k : ℕ) (t : PenaltyTable j v (j .count) T) (valid : ValidWeights j ws) (rising : i < k)
-    (below : k < j .count) (h : Raising j v ws (pairIndex (j .count) i k) now)
+module _ (j : Job) (v : Layout) (ws now T : List ℕ) (i k : ℕ) (t : PenaltyTable j v (j .size .count) T) (valid : ValidWeights j ws) (rising : i < k)
+    (below : k < j .size .count) (h : Raising j v ws (pairIndex (j .size .count) i k) now)
   where
     at : ℕ
-    at = pairIndex (j .count) i k
+    at = pairIndex (j .size .count) i k
 
     -- by whether the penalty is 0 and the weight the largest
     cases : (a b : Bool) → eqb (getD T (entry i k) 0) 0 ≡ a → ltb (getD now at 0) weightBound ≡ b
@@ -47,18 +47,18 @@ module _ (j : Job) (v : Layout) (ws now T : List ℕ) (i k : ℕ) (t : PenaltyTa
     cases false true e f =
         raising-more j v ws now i k (valid .onePerPair) rising below h (table-shares j ws v T t i k rising below ∙ ap not e) (ltb-true _ _ f)
     cases false false e f =
-        let there : pairIndex (j .count) i k < length ws = (let p = pair-below (j .count) i k rising below in let o = valid .onePerPair in omega arith) in
-        let most = valid .inRange (pairIndex (j .count) i k) there .1 in
+        let there : pairIndex (j .size .count) i k < length ws = (let p = pair-below (j .size .count) i k rising below in let o = valid .onePerPair in omega arith) in
+        let most = valid .inRange (pairIndex (j .size .count) i k) there .1 in
         raising-full j v ws now i k (valid .onePerPair) rising below h (table-shares j ws v T t i k rising below ∙ ap not e) (ltb-false _ _ f)
-        (omega (arith, h .rest (pairIndex (j .count) i k) (omega arith)))
+        (omega (arith, h .rest (pairIndex (j .size .count) i k) (omega arith)))
 
     -- the pair's weight
-    raise-pair-at : Raising j v ws (pairIndex (j .count) i k + 1) (raisedAt now (pairIndex (j .count) i k) (getD T (entry i k) 0))
+    raise-pair-at : Raising j v ws (pairIndex (j .size .count) i k + 1) (raisedAt now (pairIndex (j .size .count) i k) (getD T (entry i k) 0))
     unfolding raisedAt at
     raise-pair-at = cases (eqb (getD T (entry i k) 0) 0) (ltb (getD now at 0) weightBound) refl refl
 
 -- the step of the loop along a row
-pub raise-step : (j : Job) (v : Layout) (n : ℕ) (ws now T : List ℕ) (i k at : ℕ) → j .count ≡ n → PenaltyTable j v n T → ValidWeights j ws → i < k → k < n
+pub raise-step : (j : Job) (v : Layout) (n : ℕ) (ws now T : List ℕ) (i k at : ℕ) → j .size .count ≡ n → PenaltyTable j v n T → ValidWeights j ws → i < k → k < n
     → pairIndex n i k ≡ at → Raising j v ws at now → Raising j v ws (at + 1) (raisedAt now at (getD T (entry i k) 0))
 raise-step j v n ws now T i k at e t valid rising below f h =
     subst (λ n. PenaltyTable j v n T → k < n → pairIndex n i k ≡ at → Raising j v ws (at + 1) (raisedAt now at (getD T (entry i k) 0))) e
@@ -67,12 +67,12 @@ raise-step j v n ws now T i k at e t valid rising below f h =
     (raise-all t b) h)
     t below f
   where
-    raise-all : PenaltyTable j v (j .count) T → k < j .count → Raising j v ws (pairIndex (j .count) i k) now
-        → Raising j v ws (pairIndex (j .count) i k + 1) (raisedAt now (pairIndex (j .count) i k) (getD T (entry i k) 0))
+    raise-all : PenaltyTable j v (j .size .count) T → k < j .size .count → Raising j v ws (pairIndex (j .size .count) i k) now
+        → Raising j v ws (pairIndex (j .size .count) i k + 1) (raisedAt now (pairIndex (j .size .count) i k) (getD T (entry i k) 0))
     raise-all t b h = raise-pair-at j v ws now T i k t valid rising b h
 
 -- after the last row
-pub raise-end : (j : Job) (v : Layout) (n : ℕ) (ws now : List ℕ) (from : ℕ) → j .count ≡ n → ValidWeights j ws → from ≡ rowStart n n → Raising j v ws from now
+pub raise-end : (j : Job) (v : Layout) (n : ℕ) (ws now : List ℕ) (from : ℕ) → j .size .count ≡ n → ValidWeights j ws → from ≡ rowStart n n → Raising j v ws from now
     → now ≡ raised j v ws
 raise-end j v n ws now from e valid f h =
     raising-end j v ws now valid (subst (λ k. Raising j v ws k now) (f ∙ last-index n ∙ ap (λ n. length (pairs n)) (sym e)) h)

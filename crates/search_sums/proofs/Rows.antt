@@ -55,7 +55,7 @@ pub row-more : (n : ℕ) (T ws : List ℕ) (i k sum w : ℕ) → sum ≡ sumBelo
 row-more n T ws i k sum w e f = ap₂ (λ a b. a + b * getD T (entry i k) 0) e f ∙ sym (sum-step k (rowTerm n T ws i))
 
 -- all terms
-pub row-all : (j : Job) (v : Layout) (n : ℕ) (T ws : List ℕ) (i : ℕ) → j .count ≡ n → PenaltyTable j v n T → i < n → length ws ≡ length (pairs n)
+pub row-all : (j : Job) (v : Layout) (n : ℕ) (T ws : List ℕ) (i : ℕ) → j .size .count ≡ n → PenaltyTable j v n T → i < n → length ws ≡ length (pairs n)
     → pieceSum j ws v i ≡ sumBelow n (rowTerm n T ws i)
 row-all j v n T ws i e =
     subst (λ n. PenaltyTable j v n T → i < n → length ws ≡ length (pairs n) → pieceSum j ws v i ≡ sumBelow n (rowTerm n T ws i)) e
@@ -109,16 +109,16 @@ row-place n i k at from T ws w s h l e =
     record { few = few; size = w .size; above = omega arith; below = l; there = omega arith; most = omega arith }
 
 -- the weighted sum is the sum of all rows' parts
-pub all-parts : (j : Job) (v : Layout) (n : ℕ) (T ws : List ℕ) → j .count ≡ n → PenaltyTable j v n T → length ws ≡ length (pairs n)
+pub all-parts : (j : Job) (v : Layout) (n : ℕ) (T ws : List ℕ) → j .size .count ≡ n → PenaltyTable j v n T → length ws ≡ length (pairs n)
     → weightedSum j ws v ≡ sumBelow n (λ i. rowPart n T ws i (rowStart n i))
 all-parts j v n T ws e =
     subst (λ n. PenaltyTable j v n T → length ws ≡ length (pairs n) → weightedSum j ws v ≡ sumBelow n (λ i. rowPart n T ws i (rowStart n i))) e
     (λ t w.
     weighted-rows j ws v w
-    ∙ sum-agree (j .count) _ _
+    ∙ sum-agree (j .size .count) _ _
     (λ i l.
-    sum-agree (j .count - suc i) _ _
-    (λ m b. ap (λ p. getD ws (rowStart (j .count) i + m) 0 * p) (sym (t .holds i (suc i + m) l (omega arith) (λ f. omega arith))))))
+    sum-agree (j .size .count - suc i) _ _
+    (λ m b. ap (λ p. getD ws (rowStart (j .size .count) i + m) 0 * p) (sym (t .holds i (suc i + m) l (omega arith) (λ f. omega arith))))))
 
 -- one more row
 pub parts-more : (n : ℕ) (T ws : List ℕ) (i from sum part : ℕ) → from ≡ rowStart n i → sum ≡ sumBelow i (λ i. rowPart n T ws i (rowStart n i))

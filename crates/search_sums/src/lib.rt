@@ -52,7 +52,7 @@ pub fn weight_between(weights: &[u32], n: usize, i: usize, k: usize) -> u64
 // Piece i's pair sum.
 pub fn row_sum(penalties: &[u8], weights: &[u32], n: usize, i: usize) -> u64
     requires { ⌜ Weighed n (now penalties) (now weights) ⌝ ∗ ⌜ i < n ⌝ }
-    ensures { λ r. ⌜ ((j : Job) (v : Layout) → j .count ≡ n → PenaltyTable j v n (now (penalties .entry)) → r ≡ pieceSum j (now (weights .entry)) v i) ⌝ }
+    ensures { λ r. ⌜ ((j : Job) (v : Layout) → j .size .count ≡ n → PenaltyTable j v n (now (penalties .entry)) → r ≡ pieceSum j (now (weights .entry)) v i) ⌝ }
 {
     let mut sum = 0;
     let mut k = 0;
@@ -83,7 +83,7 @@ fn row_part(penalties: &[u8], weights: &[u32], n: usize, i: usize, from: usize) 
 // The weighted sum.
 pub fn total(penalties: &[u8], weights: &[u32], n: usize) -> u64
     requires { ⌜ Weighed n (now penalties) (now weights) ⌝ }
-    ensures { λ r. ⌜ ((j : Job) (v : Layout) → j .count ≡ n → PenaltyTable j v n (now (penalties .entry)) → r ≡ weightedSum j (now (weights .entry)) v) ⌝ }
+    ensures { λ r. ⌜ ((j : Job) (v : Layout) → j .size .count ≡ n → PenaltyTable j v n (now (penalties .entry)) → r ≡ weightedSum j (now (weights .entry)) v) ⌝ }
 {
     let mut sum = 0;
     let mut from = 0;
@@ -106,7 +106,7 @@ fn ones() -> [u32; 2016]
 // The plain sum: the weighted sum by weights 1.
 pub fn plain_total(penalties: &[u8], n: usize) -> u64
     requires { ⌜ (n ≤ 64) × (length (now penalties) ≡ 4096) ⌝ }
-    ensures { λ r. ⌜ ((j : Job) (v : Layout) → j .count ≡ n → PenaltyTable j v n (now (penalties .entry)) → r ≡ plainSum j v) ⌝ }
+    ensures { λ r. ⌜ ((j : Job) (v : Layout) → j .size .count ≡ n → PenaltyTable j v n (now (penalties .entry)) → r ≡ plainSum j v) ⌝ }
 {
     let weights = ones();
     let count = pair_count(n);
@@ -129,7 +129,7 @@ fn raise_pair(weights: &mut [u32], at: usize, penalty: u8)
 // Raises the weights of the pairs (i, i + 1), (i, i + 2), .. that share a pixel. They begin at `from`.
 fn raise_row(penalties: &[u8], weights: &mut [u32], n: usize, i: usize, from: usize)
     requires { ⌜ Weighed n (now penalties) (now weights) ⌝ ∗ ⌜ (i < n) × (from ≡ rowStart n i) ⌝ }
-    ensures { λ r. ⌜ ((j : Job) (v : Layout) (ws : List ℕ) → j .count ≡ n → PenaltyTable j v n (now (penalties .entry)) → ValidWeights j ws → Raising j v ws from (now (weights .entry)) → Raising j v ws (rowStart n (i + 1)) (now (weights .exit))) ⌝ }
+    ensures { λ r. ⌜ ((j : Job) (v : Layout) (ws : List ℕ) → j .size .count ≡ n → PenaltyTable j v n (now (penalties .entry)) → ValidWeights j ws → Raising j v ws from (now (weights .entry)) → Raising j v ws (rowStart n (i + 1)) (now (weights .exit))) ⌝ }
 {
     let mut k = i + 1;
     let mut at = from;
@@ -143,7 +143,7 @@ fn raise_row(penalties: &[u8], weights: &mut [u32], n: usize, i: usize, from: us
 // Raises the weight of each pair that shares a pixel.
 pub fn raise(penalties: &[u8], weights: &mut [u32], n: usize)
     requires { ⌜ Weighed n (now penalties) (now weights) ⌝ }
-    ensures { λ r. ⌜ ((j : Job) (v : Layout) → j .count ≡ n → PenaltyTable j v n (now (penalties .entry)) → ValidWeights j (now (weights .entry)) → now (weights .exit) ≡ raised j v (now (weights .entry))) ⌝ }
+    ensures { λ r. ⌜ ((j : Job) (v : Layout) → j .size .count ≡ n → PenaltyTable j v n (now (penalties .entry)) → ValidWeights j (now (weights .entry)) → now (weights .exit) ≡ raised j v (now (weights .entry))) ⌝ }
 {
     let mut from = 0;
     let mut i = 0;

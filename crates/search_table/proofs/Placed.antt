@@ -46,10 +46,10 @@ boxes-apart d s u t v e = go (share s u t v) refl
 
 module _ (l : Lent) (layout : List (List ℕ)) (laid : Laid l layout) where
   -- a piece of the layout is one of the job's
-  pub piece-there : (i : ℕ) → i < length layout → i < l .count
+  pub piece-there : (i : ℕ) → i < length layout → i < l .size .count
   piece-there i b = let w = laid .whole in omega arith
 
-  pub job-there : (i : ℕ) → i < length layout → i < jobOf l .count
+  pub job-there : (i : ℕ) → i < length layout → i < jobOf l .size .count
   unfolding jobOf
   job-there i b = piece-there i b
 
@@ -66,8 +66,8 @@ module _ (l : Lent) (layout : List (List ℕ)) (laid : Laid l layout) where
       let columns = s .fewColumns in
       let rows = s .fewRows in
       let e : inside (jobOf l) i p ≡ true = laid .within i (piece-there i b) in
-      let x = leb-true (p .x .0 + turnedPiece (jobOf l) i (p .turn) .columns) (l .columns) (and-left _ (leb (p .y .0 + turnedPiece (jobOf l) i (p .turn) .rows) (l .rows)) e) in
-      let y = leb-true (p .y .0 + turnedPiece (jobOf l) i (p .turn) .rows) (l .rows) (and-right (leb (p .x .0 + turnedPiece (jobOf l) i (p .turn) .columns) (l .columns)) _ e) in
+      let x = leb-true (p .x .0 + turnedPiece (jobOf l) i (p .turn) .columns) (l .size .columns) (and-left _ (leb (p .y .0 + turnedPiece (jobOf l) i (p .turn) .rows) (l .size .rows)) e) in
+      let y = leb-true (p .y .0 + turnedPiece (jobOf l) i (p .turn) .rows) (l .size .rows) (and-right (leb (p .x .0 + turnedPiece (jobOf l) i (p .turn) .columns) (l .size .columns)) _ e) in
       record { column = omega arith; row = omega arith }
 
 -- such a corner is near
@@ -93,7 +93,7 @@ module _ (l : Lent) (i : ℕ) (p : Placement) (k : ℕ) (q : Placement) (a b : L
 
 -- the penalty of two placed pieces is at most 255
 pub placed-bound : (l : Lent) (rows : List (List ℕ)) (starts : List ℕ) → Shapes Horizontal (jobOf l) rows starts
-    → (i : ℕ) (p : Placement) (k : ℕ) (q : Placement) → i < jobOf l .count → k < jobOf l .count → penaltyAt l i p k q ≤ 255
+    → (i : ℕ) (p : Placement) (k : ℕ) (q : Placement) → i < jobOf l .size .count → k < jobOf l .size .count → penaltyAt l i p k q ≤ 255
 placed-bound l rows starts s i p k q b c =
     penalty-bound (turnedPiece (jobOf l) i (p .turn)) (corner p) (turnedPiece (jobOf l) k (q .turn)) (corner q) Horizontal (s .at i (p .turn) b .small)
     (s .at k (q .turn) c .small)

@@ -18,8 +18,8 @@ use Rattle.search_shapes.specs.Shapes.{Shapes}
 -- a job that passes its check, and a layout buffer of its length whose pieces lie inside
 pub record Laid (l : Lent) (layout : List (List ℕ)) : Type 0 where
   pub well : lentWell l ≡ true
-  pub whole : length layout ≡ l .count
-  pub within : (i : ℕ) → i < l .count → inside (jobOf l) i (placeOf (layoutOf layout) i) ≡ true
+  pub whole : length layout ≡ l .size .count
+  pub within : (i : ℕ) → i < l .size .count → inside (jobOf l) i (placeOf (layoutOf layout) i) ≡ true
 
 -- with the row strips of every piece in every turn
 pub record RowsDrawn (l : Lent) (rows : List (List ℕ)) (rowStarts : List ℕ) (layout : List (List ℕ)) : Type 0 where

@@ -34,7 +34,7 @@ use Rattle.sheet_calls.proofs.Causes.{Plain, first-refuses, none-there,
 -- the job is well and there is a count for each pixel
 pub record BufferPassed (l : Lent) (room : ℕ) : Type 0 where
   pub well : lentWell l ≡ true
-  pub full : room ≡ l .rows * l .columns
+  pub full : room ≡ l .size .rows * l .size .columns
   pub absent : NoCause (bufferCauses l room)
 
 buffer-plain : (l : Lent) (room : ℕ) → Plain (bufferCauses l room)
@@ -45,7 +45,7 @@ buffer-passed l room e =
     let absent = none-there (bufferCauses l room) (buffer-plain l room) e in
     record {
       well = not-false (lentWell l) (absent .0);
-      full = eqb-true room (l .rows * l .columns) (not-false (eqb room (l .rows * l .columns)) (absent .1 .0));
+      full = eqb-true room (l .size .rows * l .size .columns) (not-false (eqb room (l .size .rows * l .size .columns)) (absent .1 .0));
       absent = absent;
     }
 
@@ -81,8 +81,8 @@ sheet-ready l s e =
     record {
       well = not-false (lentWell l) (absent .0);
       full =
-          eqb-true (length (s .counts)) (l .rows * l .columns)
-          (not-false (eqb (length (s .counts)) (l .rows * l .columns)) (absent .1 .0));
+          eqb-true (length (s .counts)) (l .size .rows * l .size .columns)
+          (not-false (eqb (length (s .counts)) (l .size .rows * l .size .columns)) (absent .1 .0));
       sheet = not-false (sheetWell (jobOf l) s) (absent .1 .1 .0);
     }
 
@@ -90,7 +90,7 @@ sheet-ready l s e =
 ready-absent : (l : Lent) (s : Sheet) → SheetReady l s → NoCause (sheetCauses l s [])
 unfolding sheetCauses
 ready-absent l s ready =
-    (ap not (ready .well), (ap not (eq-eqb (length (s .counts)) (l .rows * l .columns) (ready .full)), (ap not (ready .sheet), tt)))
+    (ap not (ready .well), (ap not (eq-eqb (length (s .counts)) (l .size .rows * l .size .columns) (ready .full)), (ap not (ready .sheet), tt)))
 
 module _ {A : Type 0} (l : Lent) (s : Sheet) (more : List Cause) (a : A) where
   -- refused by the job, the buffer or the sheet

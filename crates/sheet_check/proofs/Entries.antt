@@ -25,12 +25,12 @@ module _ (j : Job) (es : List Entry) (i : ℕ) (e : Entry) (same : e ≡ entryIn
   free-fails b free = rw (← same, b, free)
 
   -- so does a laid one that is no piece of the job in an allowed turn
-  pub unknown-fails : isBlank e ≡ false → e .laid ≡ true → (ltb i (j .count) && allowed j i (e .place .turn)) ≡ false → false ≡ entryWell j es i
+  pub unknown-fails : isBlank e ≡ false → e .laid ≡ true → (ltb i (j .size .count) && allowed j i (e .place .turn)) ≡ false → false ≡ entryWell j es i
   unfolding entryWell
   unknown-fails b laid none = rw (← same, b, laid, none)
 
   -- and the rest pass where they are inside
-  pub inside-passes : isBlank e ≡ false → e .laid ≡ true → (ltb i (j .count) && allowed j i (e .place .turn)) ≡ true
+  pub inside-passes : isBlank e ≡ false → e .laid ≡ true → (ltb i (j .size .count) && allowed j i (e .place .turn)) ≡ true
       → inside j i (e .place) ≡ entryWell j es i
   unfolding entryWell
   inside-passes b laid here = rw (← same, b, laid, here)
@@ -40,7 +40,7 @@ and-true true = refl
 and-true false = refl
 
 -- of the test of a sheet whose record and counts have their lengths, the tests of the entries and of the counts are left
-pub sheet-tests : (j : Job) (s : Sheet) → length (s .pieces) ≡ pieceBound → length (s .counts) ≡ j .rows * j .columns
+pub sheet-tests : (j : Job) (s : Sheet) → length (s .pieces) ≡ pieceBound → length (s .counts) ≡ j .size .rows * j .size .columns
     → sheetWell j s ≡ (allBelow pieceBound (entryWell j (s .pieces)) && countsWell j (s .pieces) (s .counts))
 unfolding sheetWell
-sheet-tests j s many full = rw (eq-eqb (length (s .pieces)) pieceBound many, eq-eqb (length (s .counts)) (j .rows * j .columns) full, and-true)
+sheet-tests j s many full = rw (eq-eqb (length (s .pieces)) pieceBound many, eq-eqb (length (s .counts)) (j .size .rows * j .size .columns) full, and-true)

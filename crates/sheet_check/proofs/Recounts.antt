@@ -87,7 +87,7 @@ added-below j es i cs few counted k l =
     ∙ sym (ap (λ (n : ℕ). sumBelow n (λ m. one-if (laidOn j es k m))) (add-one i))
 
 -- after all pieces
-pub all-counted : (j : Job) (es : List Entry) (cs : List ℕ) → length cs ≡ j .rows * j .columns → CountedBelow j es (j .count) cs → Recounted j es cs
+pub all-counted : (j : Job) (es : List Entry) (cs : List ℕ) → length cs ≡ j .size .rows * j .size .columns → CountedBelow j es (j .size .count) cs → Recounted j es cs
 unfolding laidCount
 all-counted j es cs full counted = record { full = full; counts = λ k l. counted k (omega arith) }
 
@@ -95,20 +95,20 @@ all-counted j es cs full counted = record { full = full; counts = λ k l. counte
 
 -- a test that two lists are the same, where one is the counts made anew, asks of each count of the other that it is the number of
 -- laid pieces on its pixel
-pub same-counted : (j : Job) (es : List Entry) (made cs : List ℕ) (r : Bool) → Recounted j es made → length cs ≡ j .rows * j .columns
-    → (r ≡ true → made ≡ cs) → (made ≡ cs → r ≡ true) → r ≡ allBelow (j .rows * j .columns) (λ k. eqb (getD cs k 0) (laidCount j es k))
+pub same-counted : (j : Job) (es : List Entry) (made cs : List ℕ) (r : Bool) → Recounted j es made → length cs ≡ j .size .rows * j .size .columns
+    → (r ≡ true → made ≡ cs) → (made ≡ cs → r ≡ true) → r ≡ allBelow (j .size .rows * j .size .columns) (λ k. eqb (getD cs k 0) (laidCount j es k))
 same-counted j es made cs r known full is-same same-is =
-    same-tests r (allBelow (j .rows * j .columns) (λ k. eqb (getD cs k 0) (laidCount j es k)))
+    same-tests r (allBelow (j .size .rows * j .size .columns) (λ k. eqb (getD cs k 0) (laidCount j es k)))
     (λ t.
-    all-from (j .rows * j .columns) (λ k. eqb (getD cs k 0) (laidCount j es k))
+    all-from (j .size .rows * j .size .columns) (λ k. eqb (getD cs k 0) (laidCount j es k))
     (λ k l. eq-eqb (getD cs k 0) (laidCount j es k) (rw (← (is-same t)) (known .counts k l))))
     (λ t.
     same-is
     (ext-getD 0 made cs (known .full ∙ sym full)
     (λ k l.
-    let l′ : k < j .rows * j .columns = let e = known .full in omega arith in
+    let l′ : k < j .size .rows * j .size .columns = let e = known .full in omega arith in
     known .counts k l′
-    ∙ sym (eqb-true (getD cs k 0) (laidCount j es k) (all-at (j .rows * j .columns) (λ m. eqb (getD cs m 0) (laidCount j es m)) t k l′)))))
+    ∙ sym (eqb-true (getD cs k 0) (laidCount j es k) (all-at (j .size .rows * j .size .columns) (λ m. eqb (getD cs m 0) (laidCount j es m)) t k l′)))))
 
 -- a front of n counts is n long
 pub front-length : (n : ℕ) (cs : List ℕ) → n ≤ length cs → n ≡ length (take n cs)

@@ -16,7 +16,7 @@ use Rattle.sheet_counts.specs.Stamp.{moved}
 pub record CanCount (l : Lent) (es : List Entry) (room : ℕ) : Type 0 where
   pub well : lentWell l ≡ true
   pub entries : allBelow pieceBound (entryWell (jobOf l) es) ≡ true
-  pub full : room ≡ l .rows * l .columns
+  pub full : room ≡ l .size .rows * l .size .columns
 
 -- one more on each pixel that piece i covers, where it is laid
 abbrev pub addedEntry : Job → List Entry → ℕ → List ℕ → List ℕ
@@ -24,9 +24,9 @@ addedEntry j es i cs = mapFrom (λ k c. moved true (laidOn j es k i) c) 0 cs
 
 -- each count is the number of laid pieces on its pixel: the last part of the test `sheetWell`
 abbrev pub countsWell : Job → List Entry → List ℕ → Bool
-countsWell j es cs = allBelow (j .rows * j .columns) (λ k. eqb (getD cs k 0) (laidCount j es k))
+countsWell j es cs = allBelow (j .size .rows * j .size .columns) (λ k. eqb (getD cs k 0) (laidCount j es k))
 
 -- the counts made anew: one a pixel, the number of laid pieces on it
 pub record Recounted (j : Job) (es : List Entry) (cs : List ℕ) : Type 0 where
-  pub full : length cs ≡ j .rows * j .columns
-  pub counts : (k : ℕ) → k < j .rows * j .columns → getD cs k 0 ≡ laidCount j es k
+  pub full : length cs ≡ j .size .rows * j .size .columns
+  pub counts : (k : ℕ) → k < j .size .rows * j .size .columns → getD cs k 0 ≡ laidCount j es k

@@ -51,21 +51,21 @@ module _ (l : Lent) (i : ℕ) (p : Placement) (room : ℕ) (ready : Ready l i p 
   piece-few = let few = known .fewPieces in let here = ready .piece in omega arith
 
   -- the turned box lies in the sheet
-  within-columns : p .x .0 + turnedPiece (jobOf l) i (p .turn) .columns ≤ l .columns
+  within-columns : p .x .0 + turnedPiece (jobOf l) i (p .turn) .columns ≤ l .size .columns
   unfolding inside jobOf
   within-columns =
-      leb-true (p .x .0 + turnedPiece (jobOf l) i (p .turn) .columns) (l .columns)
-      (and-left (leb (p .x .0 + turnedPiece (jobOf l) i (p .turn) .columns) (l .columns)) _ (ready .within))
+      leb-true (p .x .0 + turnedPiece (jobOf l) i (p .turn) .columns) (l .size .columns)
+      (and-left (leb (p .x .0 + turnedPiece (jobOf l) i (p .turn) .columns) (l .size .columns)) _ (ready .within))
 
-  within-rows : p .y .0 + turnedPiece (jobOf l) i (p .turn) .rows ≤ l .rows
+  within-rows : p .y .0 + turnedPiece (jobOf l) i (p .turn) .rows ≤ l .size .rows
   unfolding inside jobOf
   within-rows =
-      leb-true (p .y .0 + turnedPiece (jobOf l) i (p .turn) .rows) (l .rows)
-      (and-right (leb (p .x .0 + turnedPiece (jobOf l) i (p .turn) .columns) (l .columns)) _ (ready .within))
+      leb-true (p .y .0 + turnedPiece (jobOf l) i (p .turn) .rows) (l .size .rows)
+      (and-right (leb (p .x .0 + turnedPiece (jobOf l) i (p .turn) .columns) (l .size .columns)) _ (ready .within))
 
   -- the counts have room for its rows
   pub rows-room : turnedPiece (jobOf l) i (p .turn) .rows ≤ 255
-      → Room (boxAt l i (p .turn)) (p .y .0 * l .columns + p .x .0) (l .columns) (turnedPiece (jobOf l) i (p .turn) .columns)
+      → Room (boxAt l i (p .turn)) (p .y .0 * l .size .columns + p .x .0) (l .size .columns) (turnedPiece (jobOf l) i (p .turn) .columns)
       (turnedPiece (jobOf l) i (p .turn) .rows) room
   rows-room small =
       record {
@@ -77,9 +77,9 @@ module _ (l : Lent) (i : ℕ) (p : Placement) (room : ℕ) (ready : Ready l i p 
         sheets = known .fewColumns;
         tall = omega arith;
         rows = λ d h.
-            let high : suc (p .y .0 + d) * l .columns ≤ l .rows * l .columns = mul-le-mul-right (l .columns) (let wide = within-rows in omega arith) in
-            let split : suc (p .y .0 + d) * l .columns ≡ (p .y .0 + d) * l .columns + l .columns = suc-mul (p .y .0 + d) (l .columns) in
-            let parts : (p .y .0 + d) * l .columns ≡ p .y .0 * l .columns + d * l .columns = add-mul (p .y .0) d (l .columns) in
+            let high : suc (p .y .0 + d) * l .size .columns ≤ l .size .rows * l .size .columns = mul-le-mul-right (l .size .columns) (let wide = within-rows in omega arith) in
+            let split : suc (p .y .0 + d) * l .size .columns ≡ (p .y .0 + d) * l .size .columns + l .size .columns = suc-mul (p .y .0 + d) (l .size .columns) in
+            let parts : (p .y .0 + d) * l .size .columns ≡ p .y .0 * l .size .columns + d * l .size .columns = add-mul (p .y .0) d (l .size .columns) in
             let long = within-columns in
             let full = ready .full in
             omega arith;
@@ -87,8 +87,8 @@ module _ (l : Lent) (i : ℕ) (p : Placement) (room : ℕ) (ready : Ready l i p 
 
   -- moving its rows is what the sheet's definition says of the piece
   pub piece-moved : (up : Bool) (cs : List ℕ) → length cs ≡ room
-      → movedRows up (onAt (l .pixels) (boxAt l i (p .turn))) (l .columns) (turnedPiece (jobOf l) i (p .turn) .columns) cs
-      (p .y .0 * l .columns + p .x .0) 0 (turnedPiece (jobOf l) i (p .turn) .rows)
+      → movedRows up (onAt (l .pixels) (boxAt l i (p .turn))) (l .size .columns) (turnedPiece (jobOf l) i (p .turn) .columns) cs
+      (p .y .0 * l .size .columns + p .x .0) 0 (turnedPiece (jobOf l) i (p .turn) .rows)
       ≡ movedBy up (jobOf l) i p cs
   unfolding coversPixel jobOf
   piece-moved up cs same =

@@ -161,54 +161,54 @@ outer-place s v q t =
 pub box-cases : (s : Shape) (v q : Point) → Within s v q ⊎ Beside s v q
 box-cases s v q = ⊎-elim (λ t. inl (inner-place s v q t)) (λ t. inr (outer-place s v q t)) (decided (boxTest s v q))
 
-module _ (j : Job) (s : Shape) (v : Point) (long : v .x + s .columns ≤ j .columns) (wide : v .y + s .rows ≤ j .rows) where
+module _ (j : Job) (s : Shape) (v : Point) (long : v .x + s .columns ≤ j .size .columns) (wide : v .y + s .rows ≤ j .size .rows) where
   -- the number of the first place of the box's first row
   abbrev first : ℕ
-  first = v .y * j .columns + v .x
+  first = v .y * j .size .columns + v .x
 
   -- a place's number
-  place-number : (d e k : ℕ) (q : Point) → q .y * j .columns + q .x ≡ k → q .x ≡ v .x + e → q .y ≡ v .y + d → k ≡ first + (d * j .columns + e)
+  place-number : (d e k : ℕ) (q : Point) → q .y * j .size .columns + q .x ≡ k → q .x ≡ v .x + e → q .y ≡ v .y + d → k ≡ first + (d * j .size .columns + e)
   place-number d e k q number x y =
-      let split : q .y * j .columns ≡ v .y * j .columns + d * j .columns = ap (λ (n : ℕ). n * j .columns) y ∙ add-mul (v .y) d (j .columns) in
+      let split : q .y * j .size .columns ≡ v .y * j .size .columns + d * j .size .columns = ap (λ (n : ℕ). n * j .size .columns) y ∙ add-mul (v .y) d (j .size .columns) in
       omega arith
 
   -- each count after the piece's rows
-  stamped-at : (up : Bool) (cs : List ℕ) (k : ℕ) → length cs ≡ j .rows * j .columns → k < length cs
-      → getD (movedRows up (λ y x. s .has x y) (j .columns) (s .columns) cs first 0 (s .rows)) k 0
+  stamped-at : (up : Bool) (cs : List ℕ) (k : ℕ) → length cs ≡ j .size .rows * j .size .columns → k < length cs
+      → getD (movedRows up (λ y x. s .has x y) (j .size .columns) (s .columns) cs first 0 (s .rows)) k 0
       ≡ moved up (covers s v (pixelAt j k)) (getD cs k 0)
   stamped-at up cs k full l = ⊎-elim inner outer (box-cases s v (pixelAt j k))
     where
       on : OnSheet j k (pixelAt j k)
       on = number-pixel j k (omega arith)
 
-      inner : Within s v (pixelAt j k) → getD (movedRows up (λ y x. s .has x y) (j .columns) (s .columns) cs first 0 (s .rows)) k 0
+      inner : Within s v (pixelAt j k) → getD (movedRows up (λ y x. s .has x y) (j .size .columns) (s .columns) cs first 0 (s .rows)) k 0
           ≡ moved up (covers s v (pixelAt j k)) (getD cs k 0)
       inner w =
-          let here : k ≡ first + (w .d * j .columns + w .e) = place-number (w .d) (w .e) k (pixelAt j k) (on .number) (w .x) (w .y) in
-          let there : first + (w .d * j .columns + w .e) < length cs = omega arith in
-          ap (λ (m : ℕ). getD (movedRows up (λ y x. s .has x y) (j .columns) (s .columns) cs first 0 (s .rows)) m 0) here
-          ∙ rows-inside up (λ y x. s .has x y) (j .columns) (s .columns) (omega arith) cs first 0 (s .rows) (w .d) (w .e) (w .row) (w .column) there
-          ∙ ap (λ (n : ℕ). moved up (s .has (w .e) n) (getD cs (first + (w .d * j .columns + w .e)) 0)) (zero-add (w .d))
+          let here : k ≡ first + (w .d * j .size .columns + w .e) = place-number (w .d) (w .e) k (pixelAt j k) (on .number) (w .x) (w .y) in
+          let there : first + (w .d * j .size .columns + w .e) < length cs = omega arith in
+          ap (λ (m : ℕ). getD (movedRows up (λ y x. s .has x y) (j .size .columns) (s .columns) cs first 0 (s .rows)) m 0) here
+          ∙ rows-inside up (λ y x. s .has x y) (j .size .columns) (s .columns) (omega arith) cs first 0 (s .rows) (w .d) (w .e) (w .row) (w .column) there
+          ∙ ap (λ (n : ℕ). moved up (s .has (w .e) n) (getD cs (first + (w .d * j .size .columns + w .e)) 0)) (zero-add (w .d))
           ∙ ap (λ (m : ℕ). moved up (s .has (w .e) (w .d)) (getD cs m 0)) (sym here)
           ∙ ap (λ (b : Bool). moved up b (getD cs k 0)) (sym (w .covered))
 
-      outer : Beside s v (pixelAt j k) → getD (movedRows up (λ y x. s .has x y) (j .columns) (s .columns) cs first 0 (s .rows)) k 0
+      outer : Beside s v (pixelAt j k) → getD (movedRows up (λ y x. s .has x y) (j .size .columns) (s .columns) cs first 0 (s .rows)) k 0
           ≡ moved up (covers s v (pixelAt j k)) (getD cs k 0)
       outer b =
-          rows-outside up (λ y x. s .has x y) (j .columns) (s .columns) (omega arith) cs first 0 (s .rows) k
+          rows-outside up (λ y x. s .has x y) (j .size .columns) (s .columns) (omega arith) cs first 0 (s .rows) k
           (λ d e l₁ l₂ q.
-          let split : (v .y + d) * j .columns ≡ v .y * j .columns + d * j .columns = add-mul (v .y) d (j .columns) in
-          let number : k ≡ (v .y + d) * j .columns + (v .x + e) = omega arith in
+          let split : (v .y + d) * j .size .columns ≡ v .y * j .size .columns + d * j .size .columns = add-mul (v .y) d (j .size .columns) in
+          let number : k ≡ (v .y + d) * j .size .columns + (v .x + e) = omega arith in
           let place = ap (pixelAt j) number ∙ pixel-at j (v .x + e) (v .y + d) (omega arith) in
           b .nowhere d e l₁ l₂ (ap (λ (p : Point). p .x) place) (ap (λ (p : Point). p .y) place))
           ∙ ap (λ (t : Bool). moved up t (getD cs k 0)) (sym (b .uncovered))
 
   -- the piece's rows move the counts as the sheet's definition says
-  pub stamped : (up : Bool) (cs : List ℕ) → length cs ≡ j .rows * j .columns
-      → movedRows up (λ y x. s .has x y) (j .columns) (s .columns) cs first 0 (s .rows) ≡ mapFrom (λ k c. moved up (covers s v (pixelAt j k)) c) 0 cs
+  pub stamped : (up : Bool) (cs : List ℕ) → length cs ≡ j .size .rows * j .size .columns
+      → movedRows up (λ y x. s .has x y) (j .size .columns) (s .columns) cs first 0 (s .rows) ≡ mapFrom (λ k c. moved up (covers s v (pixelAt j k)) c) 0 cs
   stamped up cs full =
       ext-getD 0 _ _
-      (length-rows up (λ y x. s .has x y) (j .columns) (s .columns) (omega arith) cs first 0 (s .rows) ∙ sym (length-mapFrom _ 0 cs))
+      (length-rows up (λ y x. s .has x y) (j .size .columns) (s .columns) (omega arith) cs first 0 (s .rows) ∙ sym (length-mapFrom _ 0 cs))
       (λ k l.
-      let l′ : k < length cs = rw (length-rows up (λ y x. s .has x y) (j .columns) (s .columns) (omega arith) cs first 0 (s .rows)) at l in
+      let l′ : k < length cs = rw (length-rows up (λ y x. s .has x y) (j .size .columns) (s .columns) (omega arith) cs first 0 (s .rows)) at l in
       stamped-at up cs k full l′ ∙ sym (getD-mapFrom (λ m c. moved up (covers s v (pixelAt j m)) c) 0 cs k l′ ∙ rw zero-add))

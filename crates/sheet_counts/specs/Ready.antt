@@ -10,6 +10,6 @@ use Rattle.model.specs.declared.Placement.{Placement}
 -- each pixel
 pub record Ready (l : Lent) (i : ℕ) (p : Placement) (room : ℕ) : Type 0 where
   pub well : lentWell l ≡ true
-  pub piece : i < l .count
+  pub piece : i < l .size .count
   pub within : inside (jobOf l) i p ≡ true
-  pub full : room ≡ l .rows * l .columns
+  pub full : room ≡ l .size .rows * l .size .columns

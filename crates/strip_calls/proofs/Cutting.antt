@@ -41,20 +41,20 @@ store-grows d j ts i (suc k) (suc left) h =
 
 -- a piece's stretch is cut out of a lent store that is the job's
 pub cut-from : (d : Direction) (j : Job) (ts : List ℕ) (entries : List (List ℕ)) (lent : List ℕ) (i : ℕ)
-    → storeWell d j ts entries lent ≡ true → i < j .count → Cut entries lent i
+    → storeWell d j ts entries lent ≡ true → i < j .size .count → Cut entries lent i
 unfolding storeWell
 cut-from d j ts entries lent i e h =
     let n : ℕ = length (store d j ts) in
     let begins : take n entries ≡ map stripEntry (store d j ts) = same-entries _ _ (and-left _ _ e) in
-    let counted : take (suc (j .count)) lent ≡ starts d j ts =
+    let counted : take (suc (j .size .count)) lent ≡ starts d j ts =
     same-numbers _ _ (and-right (sameEntries (take n entries) (map stripEntry (store d j ts))) _ e) in
     let long : min n (length entries) ≡ n = sym (length-take n entries) ∙ ap length begins ∙ length-map (store d j ts) stripEntry in
-    let many : min (suc (j .count)) (length lent) ≡ suc (j .count) =
-    sym (length-take (suc (j .count)) lent) ∙ ap length counted ∙ starts-length d j ts 0 0 (j .count) in
-    let at : (k : ℕ) → k ≤ j .count → getD lent k 0 ≡ 0 + length (storeFrom d j ts 0 k) =
-    λ k b. sym (getD-take (suc (j .count)) lent k 0 (omega arith)) ∙ ap (λ (x : List ℕ). getD x k 0) counted ∙ start-at d j ts 0 0 (j .count) k b in
+    let many : min (suc (j .size .count)) (length lent) ≡ suc (j .size .count) =
+    sym (length-take (suc (j .size .count)) lent) ∙ ap length counted ∙ starts-length d j ts 0 0 (j .size .count) in
+    let at : (k : ℕ) → k ≤ j .size .count → getD lent k 0 ≡ 0 + length (storeFrom d j ts 0 k) =
+    λ k b. sym (getD-take (suc (j .size .count)) lent k 0 (omega arith)) ∙ ap (λ (x : List ℕ). getD x k 0) counted ∙ start-at d j ts 0 0 (j .size .count) k b in
     let here = at i (omega arith) in
     let next = at (suc i) (omega arith) in
     let one = store-grows d j ts 0 i (suc i) (omega arith) in
-    let all = store-grows d j ts 0 (suc i) (j .count) (omega arith) in
+    let all = store-grows d j ts 0 (suc i) (j .size .count) (omega arith) in
     record { there = omega arith; order = omega arith; within = omega arith }

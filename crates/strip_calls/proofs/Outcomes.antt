@@ -38,21 +38,21 @@ module _ (l : Lent) (ts : List ℕ) (lent : Stores) (i : ℕ) (d : Direction) wh
   stretch-turns e w = rw (e, w, unless)
 
   -- there is no such piece
-  pub stretch-piece : lentWell l ≡ true → l .count ≤ i → stretchCall l ts lent i d ≡ refused (refusalOf (cause 9 true))
+  pub stretch-piece : lentWell l ≡ true → l .size .count ≤ i → stretchCall l ts lent i d ≡ refused (refusalOf (cause 9 true))
   unfolding stretchCall unless
-  stretch-piece e h = rw (e, le-ltb i (l .count) h, or-right (turnListWrong (jobOf l) ts) true refl, unless)
+  stretch-piece e h = rw (e, le-ltb i (l .size .count) h, or-right (turnListWrong (jobOf l) ts) true refl, unless)
 
   -- a store is not the job's in these turns
-  pub stretch-store : lentWell l ≡ true → turnListWrong (jobOf l) ts ≡ false → i < l .count → storesWell (jobOf l) ts lent ≡ false
+  pub stretch-store : lentWell l ≡ true → turnListWrong (jobOf l) ts ≡ false → i < l .size .count → storesWell (jobOf l) ts lent ≡ false
       → stretchCall l ts lent i d ≡ refused (refusalOf (cause 8 true))
   unfolding stretchCall unless
-  stretch-store e w h s = rw (e, w, lt-ltb i (l .count) h, s, unless)
+  stretch-store e w h s = rw (e, w, lt-ltb i (l .size .count) h, s, unless)
 
   -- no cause is there
-  pub stretch-given : lentWell l ≡ true → turnListWrong (jobOf l) ts ≡ false → i < l .count → storesWell (jobOf l) ts lent ≡ true
+  pub stretch-given : lentWell l ≡ true → turnListWrong (jobOf l) ts ≡ false → i < l .size .count → storesWell (jobOf l) ts lent ≡ true
       → stretchCall l ts lent i d ≡ given (stretchOf d lent i)
   unfolding stretchCall unless
-  stretch-given e w h s = rw (e, w, lt-ltb i (l .count) h, s, unless)
+  stretch-given e w h s = rw (e, w, lt-ltb i (l .size .count) h, s, unless)
 
 -- a refusal leaves the stretch empty
 pub stretch-empty : (o : Outcome (List (List ℕ))) → (stretchNumber o ≡ 0 → ⊥) → [] ≡ stretchGiven o
@@ -78,8 +78,8 @@ pub record Passed (l : Lent) (ts : List ℕ) (lent : Stores) (i : ℕ) (d : Dire
 pub stretch-passed : (l : Lent) (ts : List ℕ) (lent : Stores) (i : ℕ) (d : Direction) → stretchNumber (stretchCall l ts lent i d) ≡ 0 → Passed l ts lent i d
 unfolding stretchCall storesWell jobOf
 stretch-passed l ts lent i d e =
-    let p = no-number (lentWell l) (turnListWrong (jobOf l) ts || not (ltb i (l .count))) (storesWell (jobOf l) ts lent) e in
-    let h : i < l .count = ltb-true i (l .count) (not-false _ (or-neither (turnListWrong (jobOf l) ts) _ (p .0) .1)) in
+    let p = no-number (lentWell l) (turnListWrong (jobOf l) ts || not (ltb i (l .size .count))) (storesWell (jobOf l) ts lent) e in
+    let h : i < l .size .count = ltb-true i (l .size .count) (not-false _ (or-neither (turnListWrong (jobOf l) ts) _ (p .0) .1)) in
     record {
       rows = cut-from Horizontal (jobOf l) ts (lent .rowStrips) (lent .rowStarts) i (and-left _ _ (p .1)) h;
       columns =

@@ -11,7 +11,7 @@ use Rattle.piece_pixels.specs.Turned.{madeOf, Small}
 use Rattle.strip_scan.specs.Put.{EntryAt}
 
 -- an entry of a job that passes the check
-pub entry-at : (l : Lent) (i : ℕ) → lentWell l ≡ true → i < l .count → EntryAt (l .table) i (pixelStart (l .table) i)
+pub entry-at : (l : Lent) (i : ℕ) → lentWell l ≡ true → i < l .size .count → EntryAt (l .table) i (pixelStart (l .table) i)
 entry-at l i e h =
     let f : Facts l = facts l e in
     let n = f .entries in

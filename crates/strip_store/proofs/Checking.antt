@@ -70,10 +70,10 @@ pub record Checking (d : Direction) (j : Job) (ts : List ℕ) (entries : List (L
   pub decides : leftWell d j ts entries lent at i left ≡ storeWell d j ts entries lent
 
 -- at first all is left
-pub check-start : (d : Direction) (j : Job) (ts : List ℕ) (entries : List (List ℕ)) (lent : List ℕ) → Checking d j ts entries lent 0 0 (j .count - 0)
+pub check-start : (d : Direction) (j : Job) (ts : List ℕ) (entries : List (List ℕ)) (lent : List ℕ) → Checking d j ts entries lent 0 0 (j .size .count - 0)
 unfolding storeWell
 check-start d j ts entries lent =
-    let e : j .count - 0 ≡ j .count = omega arith in
+    let e : j .size .count - 0 ≡ j .size .count = omega arith in
     rw e (record { counted = omega arith; decides = refl })
 
 reorder : (a b c e : Bool) → ((a && b) && (c && e)) ≡ (c && (a && (b && e)))

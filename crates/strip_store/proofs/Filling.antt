@@ -57,9 +57,9 @@ pub record Filling (d : Direction) (j : Job) (ts : List ℕ) (strips₀ : List (
 
 -- at first all is left
 pub fill-start : (d : Direction) (j : Job) (ts : List ℕ) (strips₀ : List (List ℕ)) (starts₀ : List ℕ)
-    → Filling d j ts strips₀ starts₀ strips₀ starts₀ 0 0 (j .count - 0)
+    → Filling d j ts strips₀ starts₀ strips₀ starts₀ 0 0 (j .size .count - 0)
 fill-start d j ts strips₀ starts₀ =
-    let e : j .count - 0 ≡ j .count = omega arith in
+    let e : j .size .count - 0 ≡ j .size .count = omega arith in
     rw e (record { counted = omega arith; stored = refl; started = refl })
 
 -- a piece's start and strips are stored
@@ -120,9 +120,9 @@ room-above n k =
 
 -- a store that is long enough has room where there are more starts than pieces
 pub room-by-starts : (d : Direction) (j : Job) (ts : List ℕ) (room : Room) {total : ℕ} → total ≡ length (store d j ts) → total ≤ room .strips
-    → ltb (j .count) (room .starts) ≡ roomFor d j ts room
+    → ltb (j .size .count) (room .starts) ≡ roomFor d j ts room
 room-by-starts d j ts room e h =
-    rw (le-ltb (room .strips) (length (store d j ts)) (omega arith), starts-length d j ts 0 0 (j .count)) (room-above (j .count) (room .starts))
+    rw (le-ltb (room .strips) (length (store d j ts)) (omega arith), starts-length d j ts 0 0 (j .size .count)) (room-above (j .size .count) (room .starts))
 
 -- ── what a job that passes its check gives ──
 
@@ -130,8 +130,8 @@ room-by-starts d j ts room e h =
 pub store-small : (d : Direction) (l : Lent) (ts : List ℕ) → lentWell l ≡ true → length (store d (jobOf l) ts) ≤ 65536
 unfolding jobOf
 store-small d l ts e =
-    let h = store-few d l ts 0 (l .count) in
-    let z : 0 + l .count ≡ l .count = omega arith in
+    let h = store-few d l ts 0 (l .size .count) in
+    let z : 0 + l .size .count ≡ l .size .count = omega arith in
     let k = rw z at h in
     let a = facts l e .areas in
     omega arith
@@ -139,7 +139,7 @@ store-small d l ts e =
 -- with right turns its strips can be made
 pub made-ready : (l : Lent) (ts : List ℕ) → lentWell l ≡ true → turnListWrong (jobOf l) ts ≡ false → Ready l ts
 unfolding turnListWrong jobOf
-made-ready l ts e w = record { well = e; turns = eqb-true (length ts) (l .count) (not-false _ (or-neither _ _ w .0)) }
+made-ready l ts e w = record { well = e; turns = eqb-true (length ts) (l .size .count) (not-false _ (or-neither _ _ w .0)) }
 
 -- the strips of a piece in the turn that the list has for it are its stretch
 pub appended-piece : (d : Direction) (j : Job) (ts : List ℕ) (i : ℕ) {t : Turn} {before after : List (List ℕ)} {at next : ℕ} → t ≡ turnIn ts i

@@ -53,7 +53,7 @@ module _ (text : List ℕ) (tl pl : ℕ) (r : Refusal) where
   job-line-stops e = rw (e, andThen, readJob)
 
   -- pieces that refuse
-  pieces-stop : (j : JobLine) → jobLine text ≡ given j → piecesAt text j (j .count) 0 0 (j .next) 2 ≡ refused r
+  pieces-stop : (j : JobLine) → jobLine text ≡ given j → piecesAt text j (j .size .count) 0 0 (j .next) 2 ≡ refused r
       → readJob text tl pl ≡ refused r
   unfolding readJob
   pieces-stop j e f = rw (e, f, andThen, readJob)
@@ -64,8 +64,8 @@ module _ (text : List ℕ) (tl pl : ℕ) (r : Refusal) where
   unfolding piecesAt
   piece-stops line a e =
       let j : JobLine = a .job in
-      let left : ℕ = j .count - suc (a .number) in
-      let all : a .number + suc left ≡ j .count = let b = a .below in omega arith in
+      let left : ℕ = j .size .count - suc (a .number) in
+      let all : a .number + suc left ≡ j .size .count = let b = a .below in omega arith in
       let here : piecesAt text j (suc left) (a .number) (a .area) (a .at) line ≡ refused r = rw (e, andThen, piecesAt) in
       pieces-stop j (a .sheet) (rw all at (pieces-resume r (a .before) (suc left) here))
 
@@ -118,7 +118,7 @@ form-refuses text tl pl line (line-too-many a b) =
     let j : JobLine = a .job in
     let r : Refusal = refusalAt wrongForm line in
     let more : not (eqb (a .at) (length text)) ≡ true = ap not (ne-eqb (a .at) (length text) (λ e. omega arith)) in
-    let here : piecesAt text j 0 (j .count) (a .area) (a .at) line ≡ refused r = unless-refused _ noPieces r (inl (more, refl)) in
+    let here : piecesAt text j 0 (j .size .count) (a .area) (a .at) line ≡ refused r = unless-refused _ noPieces r (inl (more, refl)) in
     pieces-stop text tl pl r j (a .sheet) (rw add-zero at (pieces-resume r (a .before) 0 here))
 
 -- a number out of range
@@ -133,7 +133,7 @@ sheet-refuses text tl pl line c =
     let a : SheetNumbers text line = c .sheet in
     rw (a .first)
     (sheet-stops text tl pl (refusalAt sheetTooLarge 1) line a
-    (inr (ap not (c .ranges), inl (lt-ltb areaBound (a .said .rows * a .said .columns) (c .above), refl))))
+    (inr (ap not (c .ranges), inl (lt-ltb areaBound (a .said .size .rows * a .said .size .columns) (c .above), refl))))
 
 -- a box too large
 box-refuses : (text : List ℕ) (tl pl line : ℕ) → BoxTooLarge text line → readJob text tl pl ≡ refused (refusalAt boxTooLarge line)
@@ -141,11 +141,11 @@ box-refuses text tl pl line c =
     let a : PieceNumbers text line = c .piece in
     let j : JobLine = a .place .job in
     let h : PieceLine = a .said in
-    let long : Bool = ltb (j .columns) (h .columns) in
-    let high : Bool = ltb (j .rows) (h .rows) in
+    let long : Bool = ltb (j .size .columns) (h .columns) in
+    let high : Bool = ltb (j .size .rows) (h .rows) in
     let above : (long || high) ≡ true =
-    ⊎-elim (λ l. or-left long high (lt-ltb (j .columns) (h .columns) l))
-    (λ l. or-right long high (lt-ltb (j .rows) (h .rows) l)) (c .above) in
+    ⊎-elim (λ l. or-left long high (lt-ltb (j .size .columns) (h .columns) l))
+    (λ l. or-right long high (lt-ltb (j .size .rows) (h .rows) l)) (c .above) in
     numbers-stop text tl pl (refusalAt boxTooLarge line) line a (inr (ap not (c .ranges), inl (above, refl)))
 
 -- boxes too large together
@@ -158,7 +158,7 @@ boxes-refuse text tl pl line c =
     (inr (
       ap not (c .ranges),
       inr (
-        ap₂ (λ (x y : Bool). x || y) (le-ltb (j .columns) (h .columns) (c .long)) (le-ltb (j .rows) (h .rows) (c .high)),
+        ap₂ (λ (x y : Bool). x || y) (le-ltb (j .size .columns) (h .columns) (c .long)) (le-ltb (j .size .rows) (h .rows) (c .high)),
         inl (lt-ltb areaBound (a .place .area + h .columns * h .rows) (c .above), refl),
       ),
     ))
@@ -182,16 +182,16 @@ buffers-refuse text tl pl line c =
     let k : Lent = c .job in
     let b = given-before (jobLine text) _ k (c .readable) in
     let j : JobLine = b .value in
-    let b′ = given-before (piecesAt text j (j .count) 0 0 (j .next) 2) _ k (b .goes) in
+    let b′ = given-before (piecesAt text j (j .size .count) 0 0 (j .next) 2) _ k (b .goes) in
     let l : Lent = asLent j (b′ .value) in
-    let u : Unless (bufferCauses (k .count) (length (k .pixels)) l) l k =
-    given-unless (bufferCauses (k .count) (length (k .pixels)) l) l k (b′ .goes) in
-    let few : Bool = ltb tl (k .count) in
+    let u : Unless (bufferCauses (k .size .count) (length (k .pixels)) l) l k =
+    given-unless (bufferCauses (k .size .count) (length (k .pixels)) l) l k (b′ .goes) in
+    let few : Bool = ltb tl (k .size .count) in
     let small : Bool = ltb pl (length (k .pixels)) in
     let short : (few || small) ≡ true =
-    ⊎-elim (λ x. or-left few small (lt-ltb tl (k .count) x)) (λ x. or-right few small (lt-ltb pl (length (k .pixels)) x)) (c .short) in
-    let short′ : (ltb tl (l .count) || ltb pl (length (l .pixels))) ≡ true =
-    subst (λ (x : Lent). (ltb tl (x .count) || ltb pl (length (x .pixels))) ≡ true) (sym (u .same)) short in
+    ⊎-elim (λ x. or-left few small (lt-ltb tl (k .size .count) x)) (λ x. or-right few small (lt-ltb pl (length (k .pixels)) x)) (c .short) in
+    let short′ : (ltb tl (l .size .count) || ltb pl (length (l .pixels))) ≡ true =
+    subst (λ (x : Lent). (ltb tl (x .size .count) || ltb pl (length (x .pixels))) ≡ true) (sym (u .same)) short in
     let r : Refusal = refusalAt wrongLength 0 in
     rw (c .unplaced) (rw (b .gives, b′ .gives, andThen, readJob) (unless-refused (bufferCauses tl pl l) l r (inl (short′, refl))))
 

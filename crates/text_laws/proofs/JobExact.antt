@@ -299,7 +299,7 @@ pieces-spelled text j k (suc left) i area p line r c e =
 
 -- the job line that is given is written there
 pub job-line-spelled : (text : List ℕ) (j : JobLine) → jobLine text ≡ given j
-    → Spells text 0 (j .next) (lineText jobWord threeFields (j .rows ∷ j .columns ∷ j .count ∷ []))
+    → Spells text 0 (j .next) (lineText jobWord threeFields (j .size .rows ∷ j .size .columns ∷ j .size .count ∷ []))
 unfolding jobLine
 job-line-spelled text j e =
     let f = given-formed 1 (lineAt jobWord threeFields text 0) _ j e in
@@ -307,19 +307,19 @@ job-line-spelled text j e =
     let k : JobLine = asJobLine ks (f .next) in
     let u : Unless (jobLineCauses k) k j = given-unless (jobLineCauses k) k j (f .goes) in
     let r : LineRead jobWord threeFields text 0 (f .next) ks = line-spelled jobWord threeFields text 0 ks (f .next) (f .reads) in
-    let spelled : Spells text 0 (k .next) (lineText jobWord threeFields (k .rows ∷ k .columns ∷ k .count ∷ [])) =
+    let spelled : Spells text 0 (k .next) (lineText jobWord threeFields (k .size .rows ∷ k .size .columns ∷ k .size .count ∷ [])) =
     spells-same (r .spells) refl (ap (lineText jobWord threeFields) (sym (three-fields ks (r .size)))) in
     rw (← u .same) spelled
 
 -- a job line and pieces that are given make just the job's text
 pub pieces-only-text : (text : List ℕ) (j : JobLine) (r : Pieces) → jobLine text ≡ given j
-    → piecesAt text j (j .count) 0 0 (j .next) 2 ≡ given r → text ≡ jobText (asLent j r)
+    → piecesAt text j (j .size .count) 0 0 (j .next) 2 ≡ given r → text ≡ jobText (asLent j r)
 unfolding jobText pixelStart
 pieces-only-text text j r e f =
     let k : Lent = asLent j r in
-    let all : Continues k 0 (j .count) r =
+    let all : Continues k 0 (j .size .count) r =
     record { entries = λ m b. rw zero-add; bytes = λ m b. ap (λ (n : ℕ). getD (r .pixels) n 0) (zero-add m) } in
-    spells-whole (spells-then (job-line-spelled text j e) (pieces-spelled text j k (j .count) 0 0 (j .next) 2 r all f))
+    spells-whole (spells-then (job-line-spelled text j e) (pieces-spelled text j k (j .size .count) 0 0 (j .next) 2 r all f))
 
 -- a text that is read as a job is the text of that job
 pub job-only-text : (text : List ℕ) (tableLength pixelsLength : ℕ) (k : Lent) → readJob text tableLength pixelsLength ≡ given k
@@ -328,7 +328,7 @@ unfolding readJob
 job-only-text text tableLength pixelsLength k e =
     let b = given-before (jobLine text) _ k e in
     let j : JobLine = b .value in
-    let b′ = given-before (piecesAt text j (j .count) 0 0 (j .next) 2) _ k (b .goes) in
+    let b′ = given-before (piecesAt text j (j .size .count) 0 0 (j .next) 2) _ k (b .goes) in
     let r : Pieces = b′ .value in
     let u : Unless (bufferCauses tableLength pixelsLength (asLent j r)) (asLent j r) k =
     given-unless (bufferCauses tableLength pixelsLength (asLent j r)) (asLent j r) k (b′ .goes) in

@@ -13,7 +13,7 @@ use lib.Seq.{getD-append-add}
 use borrow.Author.Tests.{ltb-false, le-leb, not-false}
 use Rattle.model.specs.Piece.{Shape, tight, sideBound}
 use Rattle.model.specs.Refusal.{Outcome, given}
-use Rattle.model.specs.Lent.{Lent, rowBound, columnBound, pieceBound, turnsBound, areaBound, upTo, entryColumns, entryRows, pixelStart, entryInRange, entryFits, lentShape, sheetInRange, lentWell}
+use Rattle.model.specs.Lent.{Lent, turnsBound, areaBound, upTo, numbersInRange, entryColumns, entryRows, pixelStart, entryInRange, entryFits, lentShape, sheetInRange, lentWell}
 use Rattle.model.specs.Text.{byte, Reading, wrong, got, onward, after, lineEnd, threeFields, fourFields, lineAt}
 use Rattle.model.specs.JobText.{jobWord, pieceWord, rowWord, JobLine, asJobLine, jobLineCauses, jobLine, PieceLine, asPieceLine, pieceInRange, pieceLineCauses, pieceLine, pixelMark, emptyMark, markAt, marksAt, rowAt, Rows, rowsAt, boxShape, PieceText, rowsCauses, asPieceText, pieceAt, Pieces, noPieces, withPiece, piecesAt, asLent, bufferCauses, readJob}
 use Rattle.model.proofs.Tests.{and-left, and-right, and-both, or-neither}
@@ -109,8 +109,8 @@ rows-read text l (suc left) p line r e =
 -- what is known of a piece line that is given, with the areas of the boxes before it
 pub record LineWell (j : JobLine) (area l w o : ℕ) : Type 0 where
   pub ranges : sidesInRange l w o ≡ true
-  pub long : l ≤ j .columns
-  pub high : w ≤ j .rows
+  pub long : l ≤ j .size .columns
+  pub high : w ≤ j .size .rows
   pub areas : area + l * w ≤ areaBound
 
 -- a piece line that is given
@@ -122,7 +122,7 @@ piece-line-read text j i area p line h e =
     let k : PieceLine = asPieceLine (f .value) (f .next) in
     let u : Unless (pieceLineCauses line j i area k) k h = given-unless (pieceLineCauses line j i area k) k h (f .goes) in
     let ranges : pieceInRange i k ≡ true = not-false (pieceInRange i k) (u .none .0) in
-    let fit = or-neither (ltb (j .columns) (k .columns)) (ltb (j .rows) (k .rows)) (u .none .1 .0) in
+    let fit = or-neither (ltb (j .size .columns) (k .columns)) (ltb (j .size .rows) (k .rows)) (u .none .1 .0) in
     let a : Bool = eqb (k .number) i in
     let b : Bool = upTo sideBound (k .columns) in
     let c : Bool = upTo sideBound (k .rows) in
@@ -136,8 +136,8 @@ piece-line-read text j i area p line h e =
       ranges =
           and-both (and-both (and-both (and-right a b ab) (and-right (a && b) c abc)) (and-right (a && b && c) d abcd))
           (and-right (a && b && c && d) t ranges);
-      long = ltb-false (j .columns) (k .columns) (fit .0);
-      high = ltb-false (j .rows) (k .rows) (fit .1);
+      long = ltb-false (j .size .columns) (k .columns) (fit .0);
+      high = ltb-false (j .size .rows) (k .rows) (fit .1);
       areas = ltb-false areaBound (area + k .columns * k .rows) (u .none .1 .1 .0);
     })
 
@@ -167,13 +167,13 @@ piece-read text j i area p line h e =
 
 -- the pixels of piece i in a table and a store
 abbrev pub storedShape : Pieces → ℕ → Shape
-storedShape r i = lentShape (record { rows = 0; columns = 0; count = 0; table = r .table; pixels = r .pixels }) i
+storedShape r i = lentShape (record { size = record { rows = 0; columns = 0; count = 0 }; table = r .table; pixels = r .pixels }) i
 
 -- what is known of `left` pieces that are given, with the areas of the boxes before them
 pub record PiecesWell (j : JobLine) (left area : ℕ) (r : Pieces) : Type 0 where
   pub entries : length (r .table) ≡ left
   pub ranges : (i : ℕ) → i < left → entryInRange (r .table) i ≡ true
-  pub fits : (i : ℕ) → i < left → entryFits (j .rows) (j .columns) (r .table) i ≡ true
+  pub fits : (i : ℕ) → i < left → entryFits (j .size) (r .table) i ≡ true
   pub areas : area + pixelStart (r .table) left ≤ areaBound
   pub store : Bits (pixelStart (r .table) left) (r .pixels)
   pub tightBoxes : (i : ℕ) → i < left → tight (storedShape r i) ≡ true
@@ -225,9 +225,9 @@ module _ (j : JobLine) (left area : ℕ) (h : PieceText) (r : Pieces) (first : P
   all-ranges (suc i) l = later .ranges i (omega arith)
 
   -- every box fits into the sheet
-  all-fits : (i : ℕ) → i < suc left → entryFits (j .rows) (j .columns) (withPiece h r .table) i ≡ true
+  all-fits : (i : ℕ) → i < suc left → entryFits (j .size) (withPiece h r .table) i ≡ true
   unfolding entryFits
-  all-fits zero l = and-both (le-leb (h .columns) (j .columns) (first .line .long)) (le-leb (h .rows) (j .rows) (first .line .high))
+  all-fits zero l = and-both (le-leb (h .columns) (j .size .columns) (first .line .long)) (le-leb (h .rows) (j .size .rows) (first .line .high))
   all-fits (suc i) l = later .fits i (omega arith)
 
   -- every box is tight
@@ -286,15 +286,14 @@ pieces-read text j (suc left) i area p line r a e =
 -- ── the job ──
 
 -- the sheet of a job line that is given
-job-line-read : (text : List ℕ) (j : JobLine) → jobLine text ≡ given j → sheetInRange (j .rows) (j .columns) (j .count) ≡ true
+job-line-read : (text : List ℕ) (j : JobLine) → jobLine text ≡ given j → sheetInRange (j .size) ≡ true
 unfolding jobLine sheetInRange
 job-line-read text j e =
     let f = given-formed 1 (lineAt jobWord threeFields text 0) _ j e in
     let k : JobLine = asJobLine (f .value) (f .next) in
     let u : Unless (jobLineCauses k) k j = given-unless (jobLineCauses k) k j (f .goes) in
-    let ranges : Bool = upTo rowBound (k .rows) && upTo columnBound (k .columns) && upTo pieceBound (k .count) in
     rw (← u .same)
-    (and-both (not-false ranges (u .none .0)) (le-leb (k .rows * k .columns) areaBound (ltb-false areaBound (k .rows * k .columns) (u .none .1 .0))))
+    (and-both (not-false (numbersInRange (k .size)) (u .none .0)) (le-leb (k .size .rows * k .size .columns) areaBound (ltb-false areaBound (k .size .rows * k .size .columns) (u .none .1 .0))))
 
 -- what reading a job gives passes the check of a lent job
 pub job-read-well : (text : List ℕ) (tableLength pixelsLength : ℕ) (k : Lent) → readJob text tableLength pixelsLength ≡ given k
@@ -303,11 +302,11 @@ unfolding readJob
 job-read-well text tableLength pixelsLength k e =
     let b = given-before (jobLine text) _ k e in
     let j : JobLine = b .value in
-    let b′ = given-before (piecesAt text j (j .count) 0 0 (j .next) 2) _ k (b .goes) in
+    let b′ = given-before (piecesAt text j (j .size .count) 0 0 (j .next) 2) _ k (b .goes) in
     let r : Pieces = b′ .value in
     let u : Unless (bufferCauses tableLength pixelsLength (asLent j r)) (asLent j r) k =
     given-unless (bufferCauses tableLength pixelsLength (asLent j r)) (asLent j r) k (b′ .goes) in
-    let w : PiecesWell j (j .count) 0 r = pieces-read text j (j .count) 0 0 (j .next) 2 r (omega arith) (b′ .gives) in
+    let w : PiecesWell j (j .size .count) 0 r = pieces-read text j (j .size .count) 0 0 (j .next) 2 r (omega arith) (b′ .gives) in
     rw (← u .same)
     (well (asLent j r)
     (record {
@@ -323,9 +322,9 @@ job-read-well text tableLength pixelsLength k e =
 
 -- a job that reading gives has n entries and just its boxes' bytes, and the buffers have room for them
 pub record JustRead (tableLength pixelsLength : ℕ) (k : Lent) : Type 0 where
-  pub entries : length (k .table) ≡ k .count
-  pub bytes : length (k .pixels) ≡ pixelStart (k .table) (k .count)
-  pub entriesRoom : k .count ≤ tableLength
+  pub entries : length (k .table) ≡ k .size .count
+  pub bytes : length (k .pixels) ≡ pixelStart (k .table) (k .size .count)
+  pub entriesRoom : k .size .count ≤ tableLength
   pub bytesRoom : length (k .pixels) ≤ pixelsLength
 
 -- it is so
@@ -335,16 +334,16 @@ unfolding readJob
 job-read-just text tableLength pixelsLength k e =
     let b = given-before (jobLine text) _ k e in
     let j : JobLine = b .value in
-    let b′ = given-before (piecesAt text j (j .count) 0 0 (j .next) 2) _ k (b .goes) in
+    let b′ = given-before (piecesAt text j (j .size .count) 0 0 (j .next) 2) _ k (b .goes) in
     let r : Pieces = b′ .value in
     let u : Unless (bufferCauses tableLength pixelsLength (asLent j r)) (asLent j r) k =
     given-unless (bufferCauses tableLength pixelsLength (asLent j r)) (asLent j r) k (b′ .goes) in
-    let w : PiecesWell j (j .count) 0 r = pieces-read text j (j .count) 0 0 (j .next) 2 r (omega arith) (b′ .gives) in
-    let room = or-neither (ltb tableLength (j .count)) (ltb pixelsLength (length (r .pixels))) (u .none .0) in
+    let w : PiecesWell j (j .size .count) 0 r = pieces-read text j (j .size .count) 0 0 (j .next) 2 r (omega arith) (b′ .gives) in
+    let room = or-neither (ltb tableLength (j .size .count)) (ltb pixelsLength (length (r .pixels))) (u .none .0) in
     rw (← u .same)
     (record {
       entries = w .entries;
       bytes = w .store .size;
-      entriesRoom = ltb-false tableLength (j .count) (room .0);
+      entriesRoom = ltb-false tableLength (j .size .count) (room .0);
       bytesRoom = ltb-false pixelsLength (length (r .pixels)) (room .1);
     })

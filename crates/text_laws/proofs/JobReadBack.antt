@@ -12,7 +12,7 @@ use lib.Seq.{length-take-le}
 use borrow.Author.Tests.{le-ltb, eq-eqb}
 use Rattle.model.specs.Piece.{tight, sideBound}
 use Rattle.model.specs.Refusal.{given}
-use Rattle.model.specs.Lent.{Lent, rowBound, columnBound, pieceBound, turnsBound, areaBound, upTo, entryColumns, entryRows, entryTurns, pixelStart, entryInRange, lentShape, sheetInRange, lentWell}
+use Rattle.model.specs.Lent.{Lent, rowBound, columnBound, pieceBound, turnsBound, areaBound, upTo, numbersInRange, entryColumns, entryRows, entryTurns, pixelStart, entryInRange, lentShape, sheetInRange, lentWell}
 use Rattle.model.specs.Text.{Reading, got, onward, after, lineEnd, threeFields, fourFields, lineAt, lineText, formed, andThen}
 use Rattle.model.specs.JobText.{jobWord, pieceWord, rowWord, JobLine, jobLineCauses, jobLine, PieceLine, pieceLineCauses, pieceLine, markAt, marksAt, rowAt, rowsAt, boxShape, PieceText, asPieceText, pieceAt, noPieces, piecesAt, readJob}
 use Rattle.model.proofs.Tests.{and-left}
@@ -96,7 +96,7 @@ and-front {a} b c d e p q = rw p q
 
 -- what the job line says of the sheet, with the position after it
 abbrev sheetLine : Lent → ℕ → JobLine
-sheetLine k next = record { rows = k .rows; columns = k .columns; count = k .count; next = next }
+sheetLine k next = record { size = k .size; next = next }
 
 -- what the line of piece i says
 abbrev pieceNumbers : Lent → ℕ → ℕ → PieceLine
@@ -111,11 +111,11 @@ piecePixels k i = part (k .pixels) (pixelStart (k .table) i) (entryRows (k .tabl
 abbrev pieceContent : Lent → ℕ → ℕ → PieceText
 pieceContent k i next = asPieceText (pieceNumbers k i next) (record { pixels = piecePixels k i; next = next })
 
-module _ (k : Lent) (facts : Facts k) (i : ℕ) (below : i < k .count) where
+module _ (k : Lent) (facts : Facts k) (i : ℕ) (below : i < k .size .count) where
   -- its bytes are 0 or 1
   box-bits : (m : ℕ) → m < pixelStart (k .table) i + entryRows (k .table) i * entryColumns (k .table) i → getD (k .pixels) m 0 ≤ 1
   box-bits m l =
-      facts .bits m (let e = start-end (k .table) i (k .count) below in let c = mul-comm (entryRows (k .table) i) (entryColumns (k .table) i) in omega arith)
+      facts .bits m (let e = start-end (k .table) i (k .size .count) below in let c = mul-comm (entryRows (k .table) i) (entryColumns (k .table) i) in omega arith)
 
   -- its box is tight
   box-tight : tight (boxShape (entryColumns (k .table) i) (entryRows (k .table) i) (piecePixels k i)) ≡ true
@@ -133,7 +133,7 @@ module _ (k : Lent) (facts : Facts k) (i : ℕ) (below : i < k .count) where
       ∙ facts .tightBoxes i below
 
   -- the piece line that lies ahead
-  piece-line-ahead : {text : List ℕ} {p : ℕ} (m line : ℕ) (rest : List ℕ) → k .count ≤ pieceBound
+  piece-line-ahead : {text : List ℕ} {p : ℕ} (m line : ℕ) (rest : List ℕ) → k .size .count ≤ pieceBound
       → Ahead text p (lineText pieceWord fourFields (i ∷ entryNumbers (k .table) i) ++ rest)
       → Gives (pieceLine text (sheetLine k m) i (pixelStart (k .table) i) p line) (pieceNumbers k i) text rest
   unfolding pieceLine entryInRange
@@ -151,9 +151,9 @@ module _ (k : Lent) (facts : Facts k) (i : ℕ) (below : i < k .count) where
       let none : NoCause causes = (
         ap not (and-front (upTo sideBound l) (upTo sideBound w) (eqb (o % 2) 1) (leb o turnsBound) (eq-eqb i i refl) (facts .ranges i below)),
         (
-          ap₂ (λ (x y : Bool). x || y) (le-ltb (k .columns) l (facts .columnsFit i below)) (le-ltb (k .rows) w (facts .rowsFit i below)),
+          ap₂ (λ (x y : Bool). x || y) (le-ltb (k .size .columns) l (facts .columnsFit i below)) (le-ltb (k .size .rows) w (facts .rowsFit i below)),
           (
-            le-ltb areaBound (pixelStart (k .table) i + l * w) (let e = start-end (k .table) i (k .count) below in let t = facts .areas in omega arith),
+            le-ltb areaBound (pixelStart (k .table) i + l * w) (let e = start-end (k .table) i (k .size .count) below in let t = facts .areas in omega arith),
             tt,
           ),
         ),
@@ -165,7 +165,7 @@ module _ (k : Lent) (facts : Facts k) (i : ℕ) (below : i < k .count) where
       }
 
   -- the lines of the piece that lie ahead
-  piece-ahead : {text : List ℕ} {p : ℕ} (m line : ℕ) (rest : List ℕ) → k .count ≤ pieceBound → Ahead text p (pieceText k i ++ rest)
+  piece-ahead : {text : List ℕ} {p : ℕ} (m line : ℕ) (rest : List ℕ) → k .size .count ≤ pieceBound → Ahead text p (pieceText k i ++ rest)
       → Gives (pieceAt text (sheetLine k m) i (pixelStart (k .table) i) p line) (pieceContent k i) text rest
   unfolding pieceAt
   piece-ahead {text} {p} m line rest hn a =
@@ -186,7 +186,7 @@ module _ (k : Lent) (facts : Facts k) (i : ℕ) (below : i < k .count) where
       }
 
 -- the lines of pieces that lie ahead, with nothing after them
-pieces-ahead : {text : List ℕ} {p : ℕ} (k : Lent) → Facts k → k .count ≤ pieceBound → (m left i line : ℕ) → i + left ≡ k .count
+pieces-ahead : {text : List ℕ} {p : ℕ} (k : Lent) → Facts k → k .size .count ≤ pieceBound → (m left i line : ℕ) → i + left ≡ k .size .count
     → Ahead text p (piecesText k i left)
     → piecesAt text (sheetLine k m) left i (pixelStart (k .table) i) p line
     ≡ given (record { table = entriesFrom (k .table) i left; pixels = pixelsFrom k i left })
@@ -220,52 +220,51 @@ pixels-from k i (suc left) size e =
     ∙ ap (λ (n : ℕ). part (k .pixels) (pixelStart (k .table) i) n) split
 
 -- the pixel bytes of all pieces are the front of the store
-exact-pixels : (k : Lent) → pixelStart (k .table) (k .count) ≤ length (k .pixels)
-    → pixelsFrom k 0 (k .count) ≡ take (pixelStart (k .table) (k .count)) (k .pixels)
+exact-pixels : (k : Lent) → pixelStart (k .table) (k .size .count) ≤ length (k .pixels)
+    → pixelsFrom k 0 (k .size .count) ≡ take (pixelStart (k .table) (k .size .count)) (k .pixels)
 unfolding pixelStart
 exact-pixels k h =
-    let total : ℕ = pixelStart (k .table) (k .count) in
-    pixels-from k 0 (k .count) total (zero-add total ∙ ap (pixelStart (k .table)) (sym (zero-add (k .count)))) ∙ part-front (k .pixels) total h
+    let total : ℕ = pixelStart (k .table) (k .size .count) in
+    pixels-from k 0 (k .size .count) total (zero-add total ∙ ap (pixelStart (k .table)) (sym (zero-add (k .size .count)))) ∙ part-front (k .pixels) total h
 
 -- ── the job ──
 
 -- the job line that lies ahead
 job-line-ahead : {text : List ℕ} (k : Lent) → Facts k → (rest : List ℕ)
-    → Ahead text 0 (lineText jobWord threeFields (k .rows ∷ k .columns ∷ k .count ∷ []) ++ rest) → Gives (jobLine text) (sheetLine k) text rest
+    → Ahead text 0 (lineText jobWord threeFields (k .size .rows ∷ k .size .columns ∷ k .size .count ∷ []) ++ rest) → Gives (jobLine text) (sheetLine k) text rest
 unfolding jobLine sheetInRange
 job-line-ahead {text} k facts rest a =
-    let ks : List ℕ = k .rows ∷ k .columns ∷ k .count ∷ [] in
-    let hr : k .rows ≤ rowBound = facts .fewRows in
-    let hc : k .columns ≤ columnBound = facts .fewColumns in
-    let hn : k .count ≤ pieceBound = facts .fewPieces in
+    let ks : List ℕ = k .size .rows ∷ k .size .columns ∷ k .size .count ∷ [] in
+    let hr : k .size .rows ≤ rowBound = facts .fewRows in
+    let hc : k .size .columns ≤ columnBound = facts .fewColumns in
+    let hn : k .size .count ≤ pieceBound = facts .fewPieces in
     let able : Writable threeFields ks = (refl, omega arith, (refl, omega arith, (refl, omega arith, tt))) in
     let r : Reads (lineAt jobWord threeFields text 0) ks text rest = line-ahead jobWord threeFields ks rest able a in
-    let ranges : Bool = upTo rowBound (k .rows) && upTo columnBound (k .columns) && upTo pieceBound (k .count) in
     record {
       next = r .next;
       gives =
           rw (r .reads, formed)
           (unless-given (jobLineCauses (sheetLine k (r .next))) (sheetLine k (r .next))
-          (ap not (and-left ranges (leb (k .rows * k .columns) areaBound) (facts .sheet)), (le-ltb areaBound (k .rows * k .columns) (facts .area), tt)));
+          (ap not (and-left (numbersInRange (k .size)) (leb (k .size .rows * k .size .columns) areaBound) (facts .sheet)), (le-ltb areaBound (k .size .rows * k .size .columns) (facts .area), tt)));
       ahead = r .ahead;
     }
 
 -- a lent job that passes the check is one that reading gives: its text is read, with buffers that suffice, as just that job
-pub job-read-back : (k : Lent) → lentWell k ≡ true → (tableLength pixelsLength : ℕ) → k .count ≤ tableLength
-    → pixelStart (k .table) (k .count) ≤ pixelsLength → readJob (jobText k) tableLength pixelsLength ≡ given (exactly k)
+pub job-read-back : (k : Lent) → lentWell k ≡ true → (tableLength pixelsLength : ℕ) → k .size .count ≤ tableLength
+    → pixelStart (k .table) (k .size .count) ≤ pixelsLength → readJob (jobText k) tableLength pixelsLength ≡ given (exactly k)
 unfolding readJob jobText pixelStart
 job-read-back k well tableLength pixelsLength ht hp =
     let f : Facts k = facts k well in
     let text : List ℕ = jobText k in
-    let total : ℕ = pixelStart (k .table) (k .count) in
-    let hn : k .count ≤ pieceBound = f .fewPieces in
-    let g : Gives (jobLine text) (sheetLine k) text (piecesText k 0 (k .count)) =
-    job-line-ahead k f (piecesText k 0 (k .count)) (ahead-start text) in
-    let pixels : pixelsFrom k 0 (k .count) ≡ take total (k .pixels) = exact-pixels k (f .store) in
-    let r : piecesAt text (sheetLine k (g .next)) (k .count) 0 0 (g .next) 2
-    ≡ given (record { table = entriesFrom (k .table) 0 (k .count); pixels = take total (k .pixels) }) =
-    rw pixels at (pieces-ahead k f hn (g .next) (k .count) 0 2 (zero-add (k .count)) (g .ahead)) in
+    let total : ℕ = pixelStart (k .table) (k .size .count) in
+    let hn : k .size .count ≤ pieceBound = f .fewPieces in
+    let g : Gives (jobLine text) (sheetLine k) text (piecesText k 0 (k .size .count)) =
+    job-line-ahead k f (piecesText k 0 (k .size .count)) (ahead-start text) in
+    let pixels : pixelsFrom k 0 (k .size .count) ≡ take total (k .pixels) = exact-pixels k (f .store) in
+    let r : piecesAt text (sheetLine k (g .next)) (k .size .count) 0 0 (g .next) 2
+    ≡ given (record { table = entriesFrom (k .table) 0 (k .size .count); pixels = take total (k .pixels) }) =
+    rw pixels at (pieces-ahead k f hn (g .next) (k .size .count) 0 2 (zero-add (k .size .count)) (g .ahead)) in
     let size : length (take total (k .pixels)) ≡ total = length-take-le total (k .pixels) (f .store) in
     rw (g .gives, r, andThen, readJob)
     (unless-given _ (exactly k)
-    (ap₂ (λ (x y : Bool). x || y) (le-ltb tableLength (k .count) ht) (le-ltb pixelsLength (length (take total (k .pixels))) (omega arith)), tt))
+    (ap₂ (λ (x y : Bool). x || y) (le-ltb tableLength (k .size .count) ht) (le-ltb pixelsLength (length (take total (k .pixels))) (omega arith)), tt))

@@ -12,13 +12,13 @@ use lib.ListN.{length}
 use borrow.Author.Tests.{not-true, not-false, eqb-false, ltb-true, ltb-false, le-ltb}
 use Rattle.model.specs.Piece.{tight}
 use Rattle.model.specs.Refusal.{Outcome, refused, given, Cause, cause, refusalOf, wrongForm, outOfRange, sheetTooLarge, boxesTooLarge, looseBox, boxTooLarge, wrongLength}
-use Rattle.model.specs.Lent.{Lent, areaBound, upTo}
+use Rattle.model.specs.Lent.{Lent, areaBound, upTo, numbersInRange}
 use Rattle.model.specs.Text.{threeFields, fourFields, lineAt, got, causeIn, andThen}
 use Rattle.model.specs.JobText.{jobWord, pieceWord, JobLine, asJobLine, jobLineCauses, jobLine, PieceLine, asPieceLine, pieceInRange, pieceLineCauses, pieceLine, rowAt, Rows, rowsAt, boxShape, PieceText, rowsCauses, asPieceText, pieceAt, noPieces, piecesAt, asLent, bufferCauses, readJob}
 use Rattle.model.specs.declared.Refusal.{Refusal}
 use Rattle.model.proofs.Tests.{or-cases, or-neither}
 use Rattle.text_laws.specs.LinePlaces.{LineBegins, LineThere}
-use Rattle.text_laws.specs.JobRefusals.{RowsBefore, no-row, row-then, PiecesBefore, no-piece, piece-then, PiecePlace, RowPlace, EndPlace, SheetNumbers, PieceNumbers, JobFormWrong, wrong-job-line, wrong-piece-line, wrong-row-line, line-too-many, sheetNumbersInRange, JobOutOfRange, sheet-out-of-range, piece-out-of-range, SheetTooLarge, BoxTooLarge, BoxesTooLarge, LooseBox, BufferShort, JobRefusalClaims}
+use Rattle.text_laws.specs.JobRefusals.{RowsBefore, no-row, row-then, PiecesBefore, no-piece, piece-then, PiecePlace, RowPlace, EndPlace, SheetNumbers, PieceNumbers, JobFormWrong, wrong-job-line, wrong-piece-line, wrong-row-line, line-too-many, JobOutOfRange, sheet-out-of-range, piece-out-of-range, SheetTooLarge, BoxTooLarge, BoxesTooLarge, LooseBox, BufferShort, JobRefusalClaims}
 use Rattle.text_laws.proofs.Outcomes.{refused-given, unless-given, given-before, given-formed, given-unless}
 use Rattle.text_laws.specs.Outcomes.{Unless}
 use Rattle.text_laws.proofs.Refused.{refused-unless, refused-before, refused-formed, chosen, choose}
@@ -124,15 +124,15 @@ module _ (text : List ℕ) (tl pl : ℕ) where
       let j : JobLine = asJobLine (f .value) (f .next) in
       let numbers : SheetNumbers text 1 =
       record { first = refl; said = j; numbers = f .value; next = f .next; reads = f .reads; says = refl } in
-      let ranges : Bool = sheetNumbersInRange j in
-      let large : Bool = ltb areaBound (j .rows * j .columns) in
+      let ranges : Bool = numbersInRange (j .size) in
+      let large : Bool = ltb areaBound (j .size .rows * j .size .columns) in
       ⊎-elim
       (λ w. caused (causeIn 1 outOfRange (not ranges)) (w .1) refl (sheet-out-of-range numbers (not-true ranges (w .0))))
       (λ n.
       ⊎-elim
       (λ w.
       caused (causeIn 1 sheetTooLarge large) (w .1) refl
-      (record { sheet = numbers; ranges = not-false ranges (n .0); above = ltb-true areaBound (j .rows * j .columns) (w .0) }))
+      (record { sheet = numbers; ranges = not-false ranges (n .0); above = ltb-true areaBound (j .size .rows * j .size .columns) (w .0) }))
       (λ n′. absurd (n′ .1))
       (n .1))
       (refused-unless (jobLineCauses j) j r (f .goes)))
@@ -152,8 +152,8 @@ module _ (text : List ℕ) (tl pl : ℕ) where
       let numbers : PieceNumbers text line =
       record { place = a; said = h; numbers = f .value; next = f .next; reads = f .reads; says = refl } in
       let ranges : Bool = pieceInRange i h in
-      let long : Bool = ltb (j .columns) (h .columns) in
-      let high : Bool = ltb (j .rows) (h .rows) in
+      let long : Bool = ltb (j .size .columns) (h .columns) in
+      let high : Bool = ltb (j .size .rows) (h .rows) in
       let large : Bool = ltb areaBound (a .area + h .columns * h .rows) in
       ⊎-elim
       (λ w. caused (causeIn line outOfRange (not ranges)) (w .1) refl (piece-out-of-range numbers (not-true ranges (w .0))))
@@ -165,7 +165,7 @@ module _ (text : List ℕ) (tl pl : ℕ) where
         piece = numbers;
         ranges = not-false ranges (n .0);
         above =
-            ⊎-elim (λ c. inl (ltb-true (j .columns) (h .columns) c)) (λ c. inr (ltb-true (j .rows) (h .rows) c))
+            ⊎-elim (λ c. inl (ltb-true (j .size .columns) (h .columns) c)) (λ c. inr (ltb-true (j .size .rows) (h .rows) c))
             (or-cases long high (w .0));
       }))
       (λ n′.
@@ -176,8 +176,8 @@ module _ (text : List ℕ) (tl pl : ℕ) where
       (record {
         piece = numbers;
         ranges = not-false ranges (n .0);
-        long = ltb-false (j .columns) (h .columns) (fits .0);
-        high = ltb-false (j .rows) (h .rows) (fits .1);
+        long = ltb-false (j .size .columns) (h .columns) (fits .0);
+        high = ltb-false (j .size .rows) (h .rows) (fits .1);
         above = ltb-true areaBound (a .area + h .columns * h .rows) (w .0);
       }))
       (λ n″. absurd (n″ .1))
@@ -280,12 +280,12 @@ module _ (text : List ℕ) (tl pl : ℕ) where
       (refused-before (pieceLine text (a .job) (a .number) (a .area) (a .at) line) _ r e)
 
   -- pieces that refuse
-  pieces-refused : (j : JobLine) → jobLine text ≡ given j → (left i area p line : ℕ) → i + left ≡ j .count
+  pieces-refused : (j : JobLine) → jobLine text ≡ given j → (left i area p line : ℕ) → i + left ≡ j .size .count
       → PiecesBefore text j i area p line
       → LineBegins text line p → (r : Refusal) → piecesAt text j left i area p line ≡ refused r → Caused text tl pl r
   unfolding piecesAt
   pieces-refused j sheet zero i area p line all before begins r e =
-      let all′ : i ≡ j .count = omega arith in
+      let all′ : i ≡ j .size .count = omega arith in
       let place : EndPlace text line =
       record {
         job = j;
@@ -327,12 +327,12 @@ module _ (text : List ℕ) (tl pl : ℕ) where
       let j : JobLine = f .value in
       ⊎-elim
       (λ w.
-      pieces-refused j (f .gives) (j .count) 0 0 (j .next) 2 (zero-add (j .count)) no-piece
-      (three-line jobWord (j .rows) (j .columns) (j .count) refl (first-line text) (job-line-spelled text j (f .gives)))
+      pieces-refused j (f .gives) (j .size .count) 0 0 (j .next) 2 (zero-add (j .size .count)) no-piece
+      (three-line jobWord (j .size .rows) (j .size .columns) (j .size .count) refl (first-line text) (job-line-spelled text j (f .gives)))
       r w)
       (λ g.
       let k : Lent = asLent j (g .value) in
-      let few : Bool = ltb tl (k .count) in
+      let few : Bool = ltb tl (k .size .count) in
       let small : Bool = ltb pl (length (k .pixels)) in
       ⊎-elim
       (λ w.
@@ -343,16 +343,16 @@ module _ (text : List ℕ) (tl pl : ℕ) where
         readable =
             rw (f .gives, g .gives, andThen, readJob)
             (unless-given _ k (
-              ap₂ (λ (x y : Bool). x || y) (le-ltb (k .count) (k .count) (omega arith))
+              ap₂ (λ (x y : Bool). x || y) (le-ltb (k .size .count) (k .size .count) (omega arith))
                   (le-ltb (length (k .pixels)) (length (k .pixels)) (omega arith)),
               tt,
             ));
         short =
-            ⊎-elim (λ c. inl (ltb-true tl (k .count) c)) (λ c. inr (ltb-true pl (length (k .pixels)) c)) (or-cases few small (w .0));
+            ⊎-elim (λ c. inl (ltb-true tl (k .size .count) c)) (λ c. inr (ltb-true pl (length (k .pixels)) c)) (or-cases few small (w .0));
       }))
       (λ n. absurd (n .1))
       (refused-unless (bufferCauses tl pl k) k r (g .goes)))
-      (refused-before (piecesAt text j (j .count) 0 0 (j .next) 2) _ r (f .goes)))
+      (refused-before (piecesAt text j (j .size .count) 0 0 (j .next) 2) _ r (f .goes)))
       (refused-before (jobLine text) _ r e)
 
 -- ── a refusal ──

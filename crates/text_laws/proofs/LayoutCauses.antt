@@ -26,12 +26,12 @@ use Rattle.text_laws.proofs.Refused.{Refuses, unless-refused}
 
 -- where the reading of the later lines is refused, so is the whole
 placements-resume : {j : Job} {text : List ℕ} {i p line : ℕ} (room : ℕ) (r : Refusal) → PlacementsBefore j text i p line → (left : ℕ)
-    → i + left ≡ j .count
+    → i + left ≡ j .size .count
     → placementsAt j text left i p line ≡ refused r → readLayout j text room ≡ refused r
 unfolding placementsAt readLayout
 placements-resume {j} {text} room r (no-placement {p = p} gives) left all e =
-    let all′ : left ≡ j .count = omega arith in
-    let e′ : placementsAt j text (j .count) 0 p 2 ≡ refused r = rw all′ at e in
+    let all′ : left ≡ j .size .count = omega arith in
+    let e′ : placementsAt j text (j .size .count) 0 p 2 ≡ refused r = rw all′ at e in
     rw (gives, e′, andThen, readLayout)
 placements-resume {j} {text} room r (placement-then {i = i} {p = p} {line = line} {h = h} before gives) left all e =
     let here : placementsAt j text (suc left) i p line ≡ refused r = rw (gives, e, andThen, placementsAt) in
@@ -48,7 +48,7 @@ module _ (j : Job) (text : List ℕ) (room : ℕ) (r : Refusal) where
       → readLayout j text room ≡ refused r
   unfolding placementsAt
   placement-stops line a e =
-      let left : ℕ = j .count - suc (a .number) in
+      let left : ℕ = j .size .count - suc (a .number) in
       placements-resume room r (a .before) (suc left) (let b = a .below in omega arith) (rw (e, andThen, placementsAt))
 
   -- numbers of the line of a piece with a cause
@@ -74,21 +74,21 @@ form-refuses j text room line (wrong-placement-line a e) = placement-stops j tex
 form-refuses j text room line (line-too-many a b) =
     let r : Refusal = refusalAt wrongForm line in
     let more : not (eqb (a .at) (length text)) ≡ true = ap not (ne-eqb (a .at) (length text) (λ e. omega arith)) in
-    placements-resume room r (a .before) 0 (add-zero (j .count)) (unless-refused _ [] r (inl (more, refl)))
+    placements-resume room r (a .before) 0 (add-zero (j .size .count)) (unless-refused _ [] r (inl (more, refl)))
 
 -- numbers of the layout line unlike the job's
 unlike : (j : Job) (ks : List ℕ) → length ks ≡ 3 → (ks ≡ sheetNumbers j → ⊥)
-    → (eqb (field ks 0) (j .rows) && eqb (field ks 1) (j .columns) && eqb (field ks 2) (j .count)) ≡ false
+    → (eqb (field ks 0) (j .size .rows) && eqb (field ks 1) (j .size .columns) && eqb (field ks 2) (j .size .count)) ≡ false
 unlike j ks size ne =
-    let a : Bool = eqb (field ks 0) (j .rows) in
-    let b : Bool = eqb (field ks 1) (j .columns) in
-    let c : Bool = eqb (field ks 2) (j .count) in
+    let a : Bool = eqb (field ks 0) (j .size .rows) in
+    let b : Bool = eqb (field ks 1) (j .size .columns) in
+    let c : Bool = eqb (field ks 2) (j .size .count) in
     fails (a && b && c)
     (λ abc.
     let ab : (a && b) ≡ true = and-left (a && b) c abc in
-    let ha : field ks 0 ≡ j .rows = eqb-true (field ks 0) (j .rows) (and-left a b ab) in
-    let hb : field ks 1 ≡ j .columns = eqb-true (field ks 1) (j .columns) (and-right a b ab) in
-    let hc : field ks 2 ≡ j .count = eqb-true (field ks 2) (j .count) (and-right (a && b) c abc) in
+    let ha : field ks 0 ≡ j .size .rows = eqb-true (field ks 0) (j .size .rows) (and-left a b ab) in
+    let hb : field ks 1 ≡ j .size .columns = eqb-true (field ks 1) (j .size .columns) (and-right a b ab) in
+    let hc : field ks 2 ≡ j .size .count = eqb-true (field ks 2) (j .size .count) (and-right (a && b) c abc) in
     ne (sym (three-fields ks size) ∙ rw (ha, hb, hc)))
 
 -- a number out of range
@@ -124,11 +124,11 @@ unfolding readLayout
 buffer-refuses j text room line c =
     let v : Layout = c .layout in
     let b = given-before (layoutLine j text) _ v (c .readable) in
-    let b′ = given-before (placementsAt j text (j .count) 0 (b .value) 2) _ v (b .goes) in
+    let b′ = given-before (placementsAt j text (j .size .count) 0 (b .value) 2) _ v (b .goes) in
     let r : Refusal = refusalAt wrongLength 0 in
     rw (c .unplaced)
     (rw (b .gives, b′ .gives, andThen, readLayout)
-    (unless-refused _ (b′ .value) r (inl (ap not (ne-eqb room (j .count) (c .unequal)), refl))))
+    (unless-refused _ (b′ .value) r (inl (ap not (ne-eqb room (j .size .count) (c .unequal)), refl))))
 
 -- every cause leads to its refusal
 pub layout-causes : (j : Job) (text : List ℕ) (layoutLength : ℕ) → LayoutCausesRefuse j text layoutLength

@@ -35,14 +35,14 @@ layout-line-spelled j text p e =
     let ks : List ℕ = f .value in
     let u : Unless (layoutLineCauses j ks) (f .next) p = given-unless (layoutLineCauses j ks) (f .next) p (f .goes) in
     let r : LineRead layoutWord threeFields text 0 (f .next) ks = line-spelled layoutWord threeFields text 0 ks (f .next) (f .reads) in
-    let a : Bool = eqb (field ks 0) (j .rows) in
-    let b : Bool = eqb (field ks 1) (j .columns) in
-    let c : Bool = eqb (field ks 2) (j .count) in
+    let a : Bool = eqb (field ks 0) (j .size .rows) in
+    let b : Bool = eqb (field ks 1) (j .size .columns) in
+    let c : Bool = eqb (field ks 2) (j .size .count) in
     let abc : (a && b && c) ≡ true = not-false (a && b && c) (u .none .0) in
     let ab : (a && b) ≡ true = and-left (a && b) c abc in
-    let ha : field ks 0 ≡ j .rows = eqb-true (field ks 0) (j .rows) (and-left a b ab) in
-    let hb : field ks 1 ≡ j .columns = eqb-true (field ks 1) (j .columns) (and-right a b ab) in
-    let hc : field ks 2 ≡ j .count = eqb-true (field ks 2) (j .count) (and-right (a && b) c abc) in
+    let ha : field ks 0 ≡ j .size .rows = eqb-true (field ks 0) (j .size .rows) (and-left a b ab) in
+    let hb : field ks 1 ≡ j .size .columns = eqb-true (field ks 1) (j .size .columns) (and-right a b ab) in
+    let hc : field ks 2 ≡ j .size .count = eqb-true (field ks 2) (j .size .count) (and-right (a && b) c abc) in
     let numbers : ks ≡ sheetNumbers j = sym (three-fields ks (r .size)) ∙ rw (ha, hb, hc) in
     spells-same (r .spells) (u .same) (ap (lineText layoutWord threeFields) numbers)
 
@@ -93,22 +93,22 @@ pub layout-only-text : (j : Job) (text : List ℕ) (layoutLength : ℕ) (v : Lay
 unfolding readLayout layoutText
 layout-only-text j text layoutLength v e =
     let b = given-before (layoutLine j text) _ v e in
-    let b′ = given-before (placementsAt j text (j .count) 0 (b .value) 2) _ v (b .goes) in
+    let b′ = given-before (placementsAt j text (j .size .count) 0 (b .value) 2) _ v (b .goes) in
     let u : Unless _ (b′ .value) v = given-unless _ (b′ .value) v (b′ .goes) in
     spells-whole
     (spells-same
     (spells-then (layout-line-spelled j text (b .value) (b .gives))
-    (placements-spelled j text (j .count) 0 (b .value) 2 (b′ .value) (b′ .gives)))
+    (placements-spelled j text (j .size .count) 0 (b .value) 2 (b′ .value) (b′ .gives)))
     refl (ap (layoutText j) (u .same)))
 
 -- reading gives a layout exactly where the text is its text, it is placed whole and the buffer has its length
-pub layout-read-exactly : (j : Job) → j .rows ≤ rowBound → j .columns ≤ columnBound → j .count ≤ pieceBound
+pub layout-read-exactly : (j : Job) → j .size .rows ≤ rowBound → j .size .columns ≤ columnBound → j .size .count ≤ pieceBound
     → (text : List ℕ) (layoutLength : ℕ) (v : Layout) → (readLayout j text layoutLength ≡ given v) ↔ LayoutWritten j text layoutLength v
 layout-read-exactly j hr hc hn text layoutLength v = (
   (λ e.
       let r = layout-read-placed j text layoutLength v e in
-      let all : AllPlaced j 0 (j .count) v = r .1 in
-      let placed : (i : ℕ) → i < j .count → Placed j i (placeOf v i) = λ i l. rw zero-add at (all .placed i l) in
+      let all : AllPlaced j 0 (j .size .count) v = r .1 in
+      let placed : (i : ℕ) → i < j .size .count → Placed j i (placeOf v i) = λ i l. rw zero-add at (all .placed i l) in
       record {
         written = layout-only-text j text layoutLength v e;
         size = all .size;

@@ -61,12 +61,12 @@ placements-read j text (suc left) i p line v e =
 
 -- a layout that reading gives has the buffer's length and is placed whole
 pub layout-read-placed : (j : Job) (text : List ℕ) (layoutLength : ℕ) (v : Layout) → readLayout j text layoutLength ≡ given v
-    → (layoutLength ≡ j .count) × AllPlaced j 0 (j .count) v
+    → (layoutLength ≡ j .size .count) × AllPlaced j 0 (j .size .count) v
 unfolding readLayout
 layout-read-placed j text layoutLength v e =
     let b = given-before (layoutLine j text) _ v e in
-    let b′ = given-before (placementsAt j text (j .count) 0 (b .value) 2) _ v (b .goes) in
+    let b′ = given-before (placementsAt j text (j .size .count) 0 (b .value) 2) _ v (b .goes) in
     let u : Unless _ (b′ .value) v = given-unless _ (b′ .value) v (b′ .goes) in (
-      eqb-true layoutLength (j .count) (not-false (eqb layoutLength (j .count)) (u .none .0)),
-      rw (← u .same) (placements-read j text (j .count) 0 (b .value) 2 (b′ .value) (b′ .gives)),
+      eqb-true layoutLength (j .size .count) (not-false (eqb layoutLength (j .size .count)) (u .none .0)),
+      rw (← u .same) (placements-read j text (j .size .count) 0 (b .value) 2 (b′ .value) (b′ .gives)),
     )

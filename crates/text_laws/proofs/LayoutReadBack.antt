@@ -35,16 +35,16 @@ degrees-short Half = omega arith
 degrees-short ThreeQuarters = omega arith
 
 -- the corner of a placement inside lies in the sheet
-corner-short : (j : Job) (i : ℕ) (p : Placement) → inside j i p ≡ true → (p .x .0 ≤ j .columns) × (p .y .0 ≤ j .rows)
+corner-short : (j : Job) (i : ℕ) (p : Placement) → inside j i p ≡ true → (p .x .0 ≤ j .size .columns) × (p .y .0 ≤ j .size .rows)
 unfolding inside
 corner-short j i p e =
     let s = turnedPiece j i (p .turn) in
-    let h : leb (p .x .0 + s .columns) (j .columns) ≡ true = and-left (leb (p .x .0 + s .columns) (j .columns)) (leb (p .y .0 + s .rows) (j .rows)) e in
-    let v : leb (p .y .0 + s .rows) (j .rows) ≡ true = and-right (leb (p .x .0 + s .columns) (j .columns)) (leb (p .y .0 + s .rows) (j .rows)) e in
-    (let a = leb-true (p .x .0 + s .columns) (j .columns) h in omega arith, let a = leb-true (p .y .0 + s .rows) (j .rows) v in omega arith)
+    let h : leb (p .x .0 + s .columns) (j .size .columns) ≡ true = and-left (leb (p .x .0 + s .columns) (j .size .columns)) (leb (p .y .0 + s .rows) (j .size .rows)) e in
+    let v : leb (p .y .0 + s .rows) (j .size .rows) ≡ true = and-right (leb (p .x .0 + s .columns) (j .size .columns)) (leb (p .y .0 + s .rows) (j .size .rows)) e in
+    (let a = leb-true (p .x .0 + s .columns) (j .size .columns) h in omega arith, let a = leb-true (p .y .0 + s .rows) (j .size .rows) v in omega arith)
 
 -- the line of a placement that lies ahead gives the placement
-placement-ahead : {text : List ℕ} {p : ℕ} (j : Job) (i line : ℕ) (q : Placement) (rest : List ℕ) → j .rows ≤ rowBound → j .columns ≤ columnBound
+placement-ahead : {text : List ℕ} {p : ℕ} (j : Job) (i line : ℕ) (q : Placement) (rest : List ℕ) → j .size .rows ≤ rowBound → j .size .columns ≤ columnBound
     → i < pieceBound → Placed j i q → Ahead text p (placementText i q ++ rest)
     → Gives (placementLine j text i p line) (λ n. record { place = q; next = n }) text rest
 unfolding placementLine
@@ -65,7 +65,7 @@ placement-ahead {text} {p} j i line q rest hr hc hi h a =
     }
 
 -- the lines of a layout that lie ahead, with nothing after them, give the layout
-placements-ahead : {text : List ℕ} {p : ℕ} (j : Job) (i line : ℕ) (v : Layout) → j .rows ≤ rowBound → j .columns ≤ columnBound
+placements-ahead : {text : List ℕ} {p : ℕ} (j : Job) (i line : ℕ) (v : Layout) → j .size .rows ≤ rowBound → j .size .columns ≤ columnBound
     → i + length v ≤ pieceBound → ((k : ℕ) → k < length v → Placed j (i + k) (placeOf v k)) → Ahead text p (placementsText i v)
     → placementsAt j text (length v) i p line ≡ given v
 unfolding placementsAt placementsText
@@ -82,7 +82,7 @@ placements-ahead {text} {p} j i line (q ∷ v) hr hc hn h a =
     rw (g .gives, later, andThen)
 
 -- the layout line that lies ahead is passed
-layout-line-ahead : {text : List ℕ} (j : Job) (rest : List ℕ) → j .rows ≤ rowBound → j .columns ≤ columnBound → j .count ≤ pieceBound
+layout-line-ahead : {text : List ℕ} (j : Job) (rest : List ℕ) → j .size .rows ≤ rowBound → j .size .columns ≤ columnBound → j .size .count ≤ pieceBound
     → Ahead text 0 (lineText layoutWord threeFields (sheetNumbers j) ++ rest) → Gives (layoutLine j text) (λ n. n) text rest
 unfolding layoutLine
 layout-line-ahead {text} j rest hr hc hn a =
@@ -95,20 +95,20 @@ layout-line-ahead {text} j rest hr hc hn a =
           rw (r .reads, formed)
           (unless-given (layoutLineCauses j ks) (r .next) (
             ap not
-                (and-both (and-both (eq-eqb (j .rows) (j .rows) refl) (eq-eqb (j .columns) (j .columns) refl)) (eq-eqb (j .count) (j .count) refl)),
+                (and-both (and-both (eq-eqb (j .size .rows) (j .size .rows) refl) (eq-eqb (j .size .columns) (j .size .columns) refl)) (eq-eqb (j .size .count) (j .size .count) refl)),
             tt,
           ));
       ahead = r .ahead;
     }
 
 -- what is written of a layout is read back as that layout
-pub layout-read-back : (j : Job) (v : Layout) → j .rows ≤ rowBound → j .columns ≤ columnBound → j .count ≤ pieceBound
-    → length v ≡ j .count → ((i : ℕ) → i < j .count → Placed j i (placeOf v i))
-    → readLayout j (layoutText j v) (j .count) ≡ given v
+pub layout-read-back : (j : Job) (v : Layout) → j .size .rows ≤ rowBound → j .size .columns ≤ columnBound → j .size .count ≤ pieceBound
+    → length v ≡ j .size .count → ((i : ℕ) → i < j .size .count → Placed j i (placeOf v i))
+    → readLayout j (layoutText j v) (j .size .count) ≡ given v
 unfolding readLayout layoutText
 layout-read-back j v hr hc hn e h =
     let text : List ℕ = layoutText j v in
     let g : Gives (layoutLine j text) (λ n. n) text (placementsText 0 v) = layout-line-ahead j (placementsText 0 v) hr hc hn (ahead-start text) in
-    let r : placementsAt j text (j .count) 0 (g .next) 2 ≡ given v =
+    let r : placementsAt j text (j .size .count) 0 (g .next) 2 ≡ given v =
     rw e at (placements-ahead j 0 2 v hr hc (omega arith) (λ k l. rw zero-add (h k (omega arith))) (g .ahead)) in
-    rw (g .gives, r, andThen, readLayout) (unless-given _ v (ap not (eq-eqb (j .count) (j .count) refl), tt))
+    rw (g .gives, r, andThen, readLayout) (unless-given _ v (ap not (eq-eqb (j .size .count) (j .size .count) refl), tt))

@@ -51,9 +51,9 @@ module _ (j : Job) (text : List ℕ) (room : ℕ) where
       (λ w. caused (causeIn 1 wrongForm true) (w .1) refl (wrong-layout-line refl (w .0)))
       (λ f.
       let ks : List ℕ = f .value in
-      let a : Bool = eqb (field ks 0) (j .rows) in
-      let b : Bool = eqb (field ks 1) (j .columns) in
-      let c : Bool = eqb (field ks 2) (j .count) in
+      let a : Bool = eqb (field ks 0) (j .size .rows) in
+      let b : Bool = eqb (field ks 1) (j .size .columns) in
+      let c : Bool = eqb (field ks 2) (j .size .count) in
       ⊎-elim
       (λ w.
       caused (causeIn 1 outOfRange (not (a && b && c))) (w .1) refl
@@ -61,9 +61,9 @@ module _ (j : Job) (text : List ℕ) (room : ℕ) where
       (λ same.
       clash
       (and-both
-      (and-both (eq-eqb (field ks 0) (j .rows) (ap (λ (l : List ℕ). field l 0) same))
-      (eq-eqb (field ks 1) (j .columns) (ap (λ (l : List ℕ). field l 1) same)))
-      (eq-eqb (field ks 2) (j .count) (ap (λ (l : List ℕ). field l 2) same)))
+      (and-both (eq-eqb (field ks 0) (j .size .rows) (ap (λ (l : List ℕ). field l 0) same))
+      (eq-eqb (field ks 1) (j .size .columns) (ap (λ (l : List ℕ). field l 1) same)))
+      (eq-eqb (field ks 2) (j .size .count) (ap (λ (l : List ℕ). field l 2) same)))
       (not-true (a && b && c) (w .0)))))
       (λ n. absurd (n .1))
       (refused-unless (layoutLineCauses j ks) (f .next) r (f .goes)))
@@ -105,11 +105,11 @@ module _ (j : Job) (text : List ℕ) (room : ℕ) where
       (refused-formed line (lineAt atWord fourFields text (a .at)) _ r e)
 
   -- the lines of pieces that refuse
-  placements-refused : (left i p line : ℕ) → i + left ≡ j .count → PlacementsBefore j text i p line → LineBegins text line p → (r : Refusal)
+  placements-refused : (left i p line : ℕ) → i + left ≡ j .size .count → PlacementsBefore j text i p line → LineBegins text line p → (r : Refusal)
       → placementsAt j text left i p line ≡ refused r → Caused j text room r
   unfolding placementsAt
   placements-refused zero i p line all before begins r e =
-      let all′ : i ≡ j .count = omega arith in
+      let all′ : i ≡ j .size .count = omega arith in
       let place : LayoutEnd j text line =
       record { at = p; before = subst (λ (n : ℕ). PlacementsBefore j text n p line) all′ before; begins = begins } in
       ⊎-elim
@@ -145,23 +145,23 @@ module _ (j : Job) (text : List ℕ) (room : ℕ) where
       let p : ℕ = f .value in
       ⊎-elim
       (λ w.
-      placements-refused (j .count) 0 p 2 (zero-add (j .count)) (no-placement (f .gives))
-      (three-line layoutWord (j .rows) (j .columns) (j .count) refl (first-line text) (layout-line-spelled j text p (f .gives)))
+      placements-refused (j .size .count) 0 p 2 (zero-add (j .size .count)) (no-placement (f .gives))
+      (three-line layoutWord (j .size .rows) (j .size .columns) (j .size .count) refl (first-line text) (layout-line-spelled j text p (f .gives)))
       r w)
       (λ g.
       let v : Layout = g .value in
       ⊎-elim
       (λ w.
-      caused (cause wrongLength (not (eqb room (j .count)))) (w .1) refl
+      caused (cause wrongLength (not (eqb room (j .size .count)))) (w .1) refl
       (record {
         unplaced = refl;
         layout = v;
-        readable = rw (f .gives, g .gives, andThen, readLayout) (unless-given _ v (ap not (eq-eqb (j .count) (j .count) refl), tt));
-        unequal = eqb-false room (j .count) (not-true (eqb room (j .count)) (w .0));
+        readable = rw (f .gives, g .gives, andThen, readLayout) (unless-given _ v (ap not (eq-eqb (j .size .count) (j .size .count) refl), tt));
+        unequal = eqb-false room (j .size .count) (not-true (eqb room (j .size .count)) (w .0));
       }))
       (λ n. absurd (n .1))
       (refused-unless _ v r (g .goes)))
-      (refused-before (placementsAt j text (j .count) 0 p 2) _ r (f .goes)))
+      (refused-before (placementsAt j text (j .size .count) 0 p 2) _ r (f .goes)))
       (refused-before (layoutLine j text) _ r e)
 
 -- ── a refusal ──

@@ -33,39 +33,39 @@ entries-at table i (suc left) (suc m) l =
 
 module _ (k : Lent) where
   -- the job without what lies beyond it has the same entries
-  same-entry : (i : ℕ) → i < k .count → getD (exactly k .table) i [] ≡ entryNumbers (k .table) i
-  same-entry i l = entries-at (k .table) 0 (k .count) i l ∙ ap (entryNumbers (k .table)) (zero-add i)
+  same-entry : (i : ℕ) → i < k .size .count → getD (exactly k .table) i [] ≡ entryNumbers (k .table) i
+  same-entry i l = entries-at (k .table) 0 (k .size .count) i l ∙ ap (entryNumbers (k .table)) (zero-add i)
 
   -- the same columns
-  same-columns : (i : ℕ) → i < k .count → entryColumns (exactly k .table) i ≡ entryColumns (k .table) i
+  same-columns : (i : ℕ) → i < k .size .count → entryColumns (exactly k .table) i ≡ entryColumns (k .table) i
   same-columns i l = ap (λ (e : List ℕ). getD e 0 0) (same-entry i l)
 
   -- the same rows
-  same-rows : (i : ℕ) → i < k .count → entryRows (exactly k .table) i ≡ entryRows (k .table) i
+  same-rows : (i : ℕ) → i < k .size .count → entryRows (exactly k .table) i ≡ entryRows (k .table) i
   same-rows i l = ap (λ (e : List ℕ). getD e 1 0) (same-entry i l)
 
   -- its pieces' pixels begin where they did
-  same-start : (i : ℕ) → i ≤ k .count → pixelStart (exactly k .table) i ≡ pixelStart (k .table) i
+  same-start : (i : ℕ) → i ≤ k .size .count → pixelStart (exactly k .table) i ≡ pixelStart (k .table) i
   unfolding pixelStart
   same-start zero l = refl
   same-start (suc i) l =
       ap₂ (λ (a b : ℕ). a + b) (same-start i (omega arith)) (ap₂ (λ (a b : ℕ). a * b) (same-columns i (omega arith)) (same-rows i (omega arith)))
 
   -- its check tells the same of entries
-  same-ranges : (i : ℕ) → i < k .count → entryInRange (exactly k .table) i ≡ true → entryInRange (k .table) i ≡ true
+  same-ranges : (i : ℕ) → i < k .size .count → entryInRange (exactly k .table) i ≡ true → entryInRange (k .table) i ≡ true
   unfolding entryInRange
   same-ranges i l e = subst (λ (x : List ℕ). sidesInRange (getD x 0 0) (getD x 1 0) (getD x 2 0) ≡ true) (same-entry i l) e
 
   -- and of boxes in the sheet
-  same-fits : (i : ℕ) → i < k .count → entryFits (k .rows) (k .columns) (exactly k .table) i ≡ true → entryFits (k .rows) (k .columns) (k .table) i ≡ true
+  same-fits : (i : ℕ) → i < k .size .count → entryFits (k .size) (exactly k .table) i ≡ true → entryFits (k .size) (k .table) i ≡ true
   unfolding entryFits
-  same-fits i l e = subst (λ (x : List ℕ). (leb (getD x 0 0) (k .columns) && leb (getD x 1 0) (k .rows)) ≡ true) (same-entry i l) e
+  same-fits i l e = subst (λ (x : List ℕ). (leb (getD x 0 0) (k .size .columns) && leb (getD x 1 0) (k .size .rows)) ≡ true) (same-entry i l) e
 
   -- and of boxes
-  same-tight : (i : ℕ) → i < k .count → entryInRange (exactly k .table) i ≡ true → tight (lentShape (exactly k) i) ≡ tight (lentShape k i)
+  same-tight : (i : ℕ) → i < k .size .count → entryInRange (exactly k .table) i ≡ true → tight (lentShape (exactly k) i) ≡ tight (lentShape k i)
   unfolding entryInRange pixelStart
   same-tight i l e =
-      let total : ℕ = pixelStart (k .table) (k .count) in
+      let total : ℕ = pixelStart (k .table) (k .size .count) in
       let some = sides-some (entryColumns (k .table) i) (entryRows (k .table) i) (entryTurns (k .table) i) (same-ranges i l e) in
       tight-agree (lentShape (exactly k) i) (lentShape k i)
       (record {
@@ -81,15 +81,15 @@ module _ (k : Lent) where
             (ap₂ (λ (n m : ℕ). getD (take total (k .pixels)) (n + (y * m + x)) 0) (same-start i (omega arith)) (same-columns i l)
             ∙ getD-take total (k .pixels) at 0
             (let b : y * c + x < entryRows (k .table) i * c = in-box hx hy in
-            let end : s + c * entryRows (k .table) i ≤ total = start-end (k .table) i (k .count) l in
+            let end : s + c * entryRows (k .table) i ≤ total = start-end (k .table) i (k .size .count) l in
             omega (arith, mul-comm c (entryRows (k .table) i))));
       })
 
   -- so the job without what lies beyond passes only if the job passes, where its entries and pixels are there
-  exactly-well : k .count ≤ length (k .table) → pixelStart (k .table) (k .count) ≤ length (k .pixels) → lentWell (exactly k) ≡ true → lentWell k ≡ true
+  exactly-well : k .size .count ≤ length (k .table) → pixelStart (k .table) (k .size .count) ≤ length (k .pixels) → lentWell (exactly k) ≡ true → lentWell k ≡ true
   exactly-well he hp e =
       let f : Facts (exactly k) = facts (exactly k) e in
-      let total : pixelStart (exactly k .table) (k .count) ≡ pixelStart (k .table) (k .count) = same-start (k .count) (omega arith) in
+      let total : pixelStart (exactly k .table) (k .size .count) ≡ pixelStart (k .table) (k .size .count) = same-start (k .size .count) (omega arith) in
       well k
       (record {
         sheet = f .sheet;
@@ -98,7 +98,7 @@ module _ (k : Lent) where
         fits = λ i l. same-fits i l (f .fits i l);
         areas = let a = f .areas in omega arith;
         store = hp;
-        bits = λ i l. rw (getD-take (pixelStart (k .table) (k .count)) (k .pixels) i 0 l) at (f .bits i (omega arith));
+        bits = λ i l. rw (getD-take (pixelStart (k .table) (k .size .count)) (k .pixels) i 0 l) at (f .bits i (omega arith));
         tightBoxes = λ i l. sym (same-tight i l (f .ranges i l)) ∙ f .tightBoxes i l;
       })
 

@@ -15,13 +15,13 @@ pub record JobWritten (text : List ℕ) (tableLength pixelsLength : ℕ) (k : Le
   pub written : text ≡ jobText k
   pub well : lentWell k ≡ true
   pub whole : exactly k ≡ k
-  pub entriesRoom : k .count ≤ tableLength
+  pub entriesRoom : k .size .count ≤ tableLength
   pub bytesRoom : length (k .pixels) ≤ pixelsLength
 
 -- the text is that of the layout, which has a placement for each piece, inside and in an allowed turn, and finds just its room
 pub record LayoutWritten (j : Job) (text : List ℕ) (layoutLength : ℕ) (v : Layout) : Type 0 where
   pub written : text ≡ layoutText j v
-  pub size : length v ≡ j .count
-  pub turns : (i : ℕ) → i < j .count → allowed j i (placeOf v i .turn) ≡ true
-  pub within : (i : ℕ) → i < j .count → inside j i (placeOf v i) ≡ true
-  pub room : layoutLength ≡ j .count
+  pub size : length v ≡ j .size .count
+  pub turns : (i : ℕ) → i < j .size .count → allowed j i (placeOf v i .turn) ≡ true
+  pub within : (i : ℕ) → i < j .size .count → inside j i (placeOf v i) ≡ true
+  pub room : layoutLength ≡ j .size .count

@@ -9,7 +9,7 @@ use Prim.Native.Nat.{ℕ, suc, _+_, _*_, _≤_, _<_}
 use lib.ListN.{length}
 use Rattle.model.specs.Piece.{tight}
 use Rattle.model.specs.Refusal.{refused, given, wrongForm, outOfRange, sheetTooLarge, boxesTooLarge, looseBox, boxTooLarge, wrongLength}
-use Rattle.model.specs.Lent.{Lent, rowBound, columnBound, pieceBound, areaBound, upTo}
+use Rattle.model.specs.Lent.{Lent, areaBound, upTo, numbersInRange}
 use Rattle.model.specs.Text.{wrong, got, threeFields, fourFields, lineAt}
 use Rattle.model.specs.JobText.{jobWord, pieceWord, JobLine, asJobLine, jobLine, PieceLine, asPieceLine, pieceInRange, pieceLine, rowAt, Rows, rowsAt, boxShape, PieceText, pieceAt, readJob}
 use Rattle.model.specs.declared.Refusal.{Refusal}
@@ -36,7 +36,7 @@ pub record PiecePlace (text : List ℕ) (line : ℕ) : Type 0 where
   pub area : ℕ
   pub at : ℕ
   pub sheet : jobLine text ≡ given job
-  pub below : number < job .count
+  pub below : number < job .size .count
   pub before : PiecesBefore text job number area at line
   pub begins : LineBegins text line at
 
@@ -59,7 +59,7 @@ pub record EndPlace (text : List ℕ) (line : ℕ) : Type 0 where
   pub area : ℕ
   pub at : ℕ
   pub sheet : jobLine text ≡ given job
-  pub before : PiecesBefore text job (job .count) area at line
+  pub before : PiecesBefore text job (job .size .count) area at line
   pub begins : LineBegins text line at
 
 -- the line is the job line, and its numbers are read
@@ -89,33 +89,29 @@ pub data JobFormWrong (text : List ℕ) (line : ℕ) : Type 0 where
   wrong-row-line : (a : RowPlace text line) → rowAt text (a .head .columns) (a .at) ≡ wrong → JobFormWrong text line
   line-too-many : (a : EndPlace text line) → a .at < length text → JobFormWrong text line
 
--- W, L and n are in range
-abbrev pub sheetNumbersInRange : JobLine → Bool
-sheetNumbersInRange j = upTo rowBound (j .rows) && upTo columnBound (j .columns) && upTo pieceBound (j .count)
-
 -- 2: a number of the job line is out of range; or one of a piece line is, or i is not the piece's number, or o is even
 pub data JobOutOfRange (text : List ℕ) (line : ℕ) : Type 0 where
-  sheet-out-of-range : (a : SheetNumbers text line) → sheetNumbersInRange (a .said) ≡ false → JobOutOfRange text line
+  sheet-out-of-range : (a : SheetNumbers text line) → numbersInRange (a .said .size) ≡ false → JobOutOfRange text line
   piece-out-of-range : (a : PieceNumbers text line) → pieceInRange (a .place .number) (a .said) ≡ false → JobOutOfRange text line
 
 -- 3: the numbers of the job line are in range, and W × L is above 65,536
 pub record SheetTooLarge (text : List ℕ) (line : ℕ) : Type 0 where
   pub sheet : SheetNumbers text line
-  pub ranges : sheetNumbersInRange (sheet .said) ≡ true
-  pub above : areaBound < sheet .said .rows * sheet .said .columns
+  pub ranges : numbersInRange (sheet .said .size) ≡ true
+  pub above : areaBound < sheet .said .size .rows * sheet .said .size .columns
 
 -- 6: the numbers of the piece line are in range, and l is above L or w above W
 pub record BoxTooLarge (text : List ℕ) (line : ℕ) : Type 0 where
   pub piece : PieceNumbers text line
   pub ranges : pieceInRange (piece .place .number) (piece .said) ≡ true
-  pub above : (piece .place .job .columns < piece .said .columns) ⊎ (piece .place .job .rows < piece .said .rows)
+  pub above : (piece .place .job .size .columns < piece .said .columns) ⊎ (piece .place .job .size .rows < piece .said .rows)
 
 -- 4: they are in range, the box fits the sheet, and the areas of the boxes so far, with this one, are above 65,536
 pub record BoxesTooLarge (text : List ℕ) (line : ℕ) : Type 0 where
   pub piece : PieceNumbers text line
   pub ranges : pieceInRange (piece .place .number) (piece .said) ≡ true
-  pub long : piece .said .columns ≤ piece .place .job .columns
-  pub high : piece .said .rows ≤ piece .place .job .rows
+  pub long : piece .said .columns ≤ piece .place .job .size .columns
+  pub high : piece .said .rows ≤ piece .place .job .size .rows
   pub above : areaBound < piece .place .area + piece .said .columns * piece .said .rows
 
 -- 5: the line is the last row of a piece, whose rows are all read, and the box is loose
@@ -130,8 +126,8 @@ pub record LooseBox (text : List ℕ) (line : ℕ) : Type 0 where
 pub record BufferShort (text : List ℕ) (tableLength pixelsLength line : ℕ) : Type 0 where
   pub unplaced : line ≡ 0
   pub job : Lent
-  pub readable : readJob text (job .count) (length (job .pixels)) ≡ given job
-  pub short : (tableLength < job .count) ⊎ (pixelsLength < length (job .pixels))
+  pub readable : readJob text (job .size .count) (length (job .pixels)) ≡ given job
+  pub short : (tableLength < job .size .count) ⊎ (pixelsLength < length (job .pixels))
 
 -- ── a refusal ──
 

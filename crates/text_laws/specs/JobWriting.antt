@@ -45,7 +45,7 @@ piecesText k i (suc left) = pieceText k i ++ piecesText k (suc i) left
 
 -- the text of a lent job
 unfoldable pub jobText : Lent → List ℕ
-jobText k = lineText jobWord threeFields (k .rows ∷ k .columns ∷ k .count ∷ []) ++ piecesText k 0 (k .count)
+jobText k = lineText jobWord threeFields (k .size .rows ∷ k .size .columns ∷ k .size .count ∷ []) ++ piecesText k 0 (k .size .count)
 
 -- ── the job that the text gives ──
 
@@ -58,9 +58,7 @@ entriesFrom table i (suc left) = entryNumbers table i ∷ entriesFrom table (suc
 abbrev pub exactly : Lent → Lent
 exactly k =
     record {
-      rows = k .rows;
-      columns = k .columns;
-      count = k .count;
-      table = entriesFrom (k .table) 0 (k .count);
-      pixels = take (pixelStart (k .table) (k .count)) (k .pixels);
+      size = k .size;
+      table = entriesFrom (k .table) 0 (k .size .count);
+      pixels = take (pixelStart (k .table) (k .size .count)) (k .pixels);
     }

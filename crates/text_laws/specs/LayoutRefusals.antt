@@ -28,14 +28,14 @@ pub data PlacementsBefore (j : Job) (text : List ℕ) : ℕ → ℕ → ℕ → 
 pub record PlacementPlace (j : Job) (text : List ℕ) (line : ℕ) : Type 0 where
   pub number : ℕ
   pub at : ℕ
-  pub below : number < j .count
+  pub below : number < j .size .count
   pub before : PlacementsBefore j text number at line
   pub begins : LineBegins text line at
 
 -- the line is behind the last one: the lines of all pieces are read
 pub record LayoutEnd (j : Job) (text : List ℕ) (line : ℕ) : Type 0 where
   pub at : ℕ
-  pub before : PlacementsBefore j text (j .count) at line
+  pub before : PlacementsBefore j text (j .size .count) at line
   pub begins : LineBegins text line at
 
 -- the line is that of a piece, and its numbers are read
@@ -83,8 +83,8 @@ pub record PlacementOutside (j : Job) (text : List ℕ) (line : ℕ) : Type 0 wh
 pub record LayoutLengthWrong (j : Job) (text : List ℕ) (layoutLength line : ℕ) : Type 0 where
   pub unplaced : line ≡ 0
   pub layout : Layout
-  pub readable : readLayout j text (j .count) ≡ given layout
-  pub unequal : layoutLength ≡ j .count → ⊥
+  pub readable : readLayout j text (j .size .count) ≡ given layout
+  pub unequal : layoutLength ≡ j .size .count → ⊥
 
 -- ── a refusal ──
 

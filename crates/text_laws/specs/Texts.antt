@@ -21,8 +21,8 @@ use Rattle.text_laws.specs.LayoutRefusals.{LayoutRefusalClaims, LayoutCa
 
 -- W, L, n, n entries and box pixels are there, and reading some text gives them
 pub record Readable (k : Lent) : Type 0 where
-  pub entries : k .count ≤ length (k .table)
-  pub store : pixelStart (k .table) (k .count) ≤ length (k .pixels)
+  pub entries : k .size .count ≤ length (k .table)
+  pub store : pixelStart (k .table) (k .size .count) ≤ length (k .pixels)
   pub text : List ℕ
   pub reads : readJob text (length (k .table)) (length (k .pixels)) ≡ given (exactly k)
 
@@ -47,9 +47,9 @@ pub record Demand1Text : Type 0 where
   -- the check passes exactly the lent jobs whose W, L, n, n entries and box pixels are what reading some text gives
   pub check-exactly : (k : Lent) → (lentWell k ≡ true) ↔ Readable k
   -- what is written of a layout whose placements are inside in allowed turns is read back as that layout
-  pub written-read : (j : Job) (v : Layout) → j .rows ≤ rowBound → j .columns ≤ columnBound → j .count ≤ pieceBound
-      → length v ≡ j .count → ((i : ℕ) → i < j .count → Placed j i (placeOf v i))
-      → readLayout j (layoutText j v) (j .count) ≡ given v
+  pub written-read : (j : Job) (v : Layout) → j .size .rows ≤ rowBound → j .size .columns ≤ columnBound → j .size .count ≤ pieceBound
+      → length v ≡ j .size .count → ((i : ℕ) → i < j .size .count → Placed j i (placeOf v i))
+      → readLayout j (layoutText j v) (j .size .count) ≡ given v
   -- reading gives a job exactly where the text is the job's text, the job passes the check and the buffers suffice
   pub job-exactly : (text : List ℕ) (tableLength pixelsLength : ℕ) (k : Lent)
       → (readJob text tableLength pixelsLength ≡ given k) ↔ JobWritten text tableLength pixelsLength k
@@ -58,7 +58,7 @@ pub record Demand1Text : Type 0 where
       → text ≡ layoutText j v
   -- reading gives a layout of a job in the bounds exactly where the text is the layout's text, every placement is inside in an
   -- allowed turn and the buffer has the layout's length
-  pub layout-exactly : (j : Job) → j .rows ≤ rowBound → j .columns ≤ columnBound → j .count ≤ pieceBound
+  pub layout-exactly : (j : Job) → j .size .rows ≤ rowBound → j .size .columns ≤ columnBound → j .size .count ≤ pieceBound
       → (text : List ℕ) (layoutLength : ℕ) (v : Layout) → (readLayout j text layoutLength ≡ given v) ↔ LayoutWritten j text layoutLength v
   -- a refusal of reading a job has its cause on the line that it names, and that line begins where the line ends before it say
   pub job-refused : (text : List ℕ) (tableLength pixelsLength : ℕ) (r : Refusal) → readJob text tableLength pixelsLength ≡ refused r

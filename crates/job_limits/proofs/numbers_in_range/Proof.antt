@@ -1,4 +1,6 @@
 -- `job_limits::numbers_in_range` makes the tests of its definition in their order. Assumes nothing.
+use mathlib.Core.Bool.{Bool, true, _&&_}
+use mathlib.Core.Path.{_≡_}
 use Rattle.text_fields.proofs.Tests.{said-no, said-yes}
 use borrow.Author.Needs.{needs}
 use Rattle.job_limits.proofs.numbers_in_range.Statement.{statement}
@@ -19,8 +21,14 @@ returns-2 c = simp (said-yes (c .before .before .before .up-to .ensures) (c .bef
 up-to-requires-3 : tie.Need-up-to-requires-3
 up-to-requires-3 c κs = search needs
 
+-- after two tests that pass, the third is the answer
+third : (a b : Bool) {c r : Bool} → a ≡ true → b ≡ true → r ≡ c → r ≡ (a && b && c)
+third a b e f g = simp (e, f, g)
+
 returns-3 : tie.Need-returns-3
-returns-3 c = simp (said-yes (c .before .before .before .before .up-to .ensures) (c .before .before .before .if1 .left), said-yes (c .before .before .up-to2 .ensures) (c .before .if2 .left), c .up-to3 .ensures)
+returns-3 c =
+    third _ _ (said-yes (c .before .before .before .before .up-to .ensures) (c .before .before .before .if1 .left))
+    (said-yes (c .before .before .up-to2 .ensures) (c .before .if2 .left)) (c .up-to3 .ensures)
 
 pub numbers-in-range-spec : {M : Type 1} → statement M
 numbers-in-range-spec =

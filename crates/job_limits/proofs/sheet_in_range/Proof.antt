@@ -16,8 +16,7 @@ returns c = simp (said-no (c .before .numbers-in-range .ensures) (c .if1 .taken)
 
 mul-result : tie.Need-mul-result
 mul-result c =
-    let size = c .before .before .before .args .size in
-    let m = sheet-small (size .rows) (size .columns) (size .count) (said-yes (c .before .before .numbers-in-range .ensures) (c .before .if1 .left)) in
+    let m = sheet-small (c .before .before .before .args .size) (said-yes (c .before .before .numbers-in-range .ensures) (c .before .if1 .left)) in
     omega arith
 
 returns-2 : tie.Need-returns-2

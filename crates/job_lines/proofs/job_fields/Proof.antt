@@ -14,35 +14,11 @@ use borrow.Author.Needs.{needs}
 use Rattle.job_lines.proofs.job_fields.Statement.{statement}
 use Rattle.job_lines.proofs.job_fields.Tie as tie
 
-slice-aggregate-line-at : tie.Need-slice-aggregate-line-at
-slice-aggregate-line-at c = search needs
-
-line-at-requires : tie.Need-line-at-requires
-line-at-requires c κs = search needs
-
-enum-known-form : tie.Need-enum-known-form
-enum-known-form c = search needs
-
-enum-told : tie.Need-enum-told
-enum-told c = search needs
-
-refusal-requires : tie.Need-refusal-requires
-refusal-requires c κs = search needs
-
 returns : tie.Need-returns
 returns c =
     let a = c .before .before .before .before .before .before .args in
     let e : lineAt jobWord threeFields (a .text .now) 0 ≡ wrong = rw (c .before .enum-told .given .1) at (c .before .before .before .line-at .ensures .same) in
     (ap job.Refused (c .refusal .ensures) ∙ sym (ap (λ (r : Reading (List ℕ)). jobAnswer (formed 1 r (λ ks next. given (asJobLine ks next)))) e), omega arith)
-
-array-read-t12 : tie.Need-array-read-t12
-array-read-t12 c = search needs
-
-array-read-t15 : tie.Need-array-read-t15
-array-read-t15 c = search needs
-
-array-read-t18 : tie.Need-array-read-t18
-array-read-t18 c = search needs
 
 returns-2 : tie.Need-returns-2
 returns-2 c =
@@ -57,13 +33,13 @@ pub job-fields-spec : {M : Type 1} → statement M
 job-fields-spec =
     tie.close
     (tie.spec
-    slice-aggregate-line-at
-    line-at-requires
-    enum-known-form
-    enum-told
-    refusal-requires
+    (search needs)
+    (search needs)
+    (search needs)
+    (search needs)
+    (search needs)
     returns
-    array-read-t12
-    array-read-t15
-    array-read-t18
+    (search needs)
+    (search needs)
+    (search needs)
     returns-2)

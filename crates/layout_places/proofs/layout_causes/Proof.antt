@@ -36,7 +36,7 @@ returns-2 c =
     let a = c .before .before .before .before .before .before .args in
     let l : Lent = lentBy (a .size) (a .table .now) (a .pixels .now) in
     let well : lentWell l ≡ true = sym (c .before .before .before .before .check-job .ensures) ∙ not-false _ (c .before .before .before .if1 .left) in
-    let long : eqb (length (a .layout .now)) (l .count) ≡ false = ne-eqb _ _ (c .before .if2 .taken) in
+    let long : eqb (length (a .layout .now)) (l .size .count) ≡ false = ne-eqb _ _ (c .before .if2 .taken) in
     rw (c .refusal2 .ensures, well, long, unless)
 
 some-turn-wrong-requires : tie.Need-some-turn-wrong-requires
@@ -55,7 +55,7 @@ returns-3 c =
     let a = c .before .before .before .before .before .before .before .before .args in
     let l : Lent = lentBy (a .size) (a .table .now) (a .pixels .now) in
     let well : lentWell l ≡ true = sym (c .before .before .before .before .before .before .check-job .ensures) ∙ not-false _ (c .before .before .before .before .before .if1 .left) in
-    let long : eqb (length (a .layout .now)) (l .count) ≡ true = eq-eqb _ _ (c .before .before .before .if2 .left) in
+    let long : eqb (length (a .layout .now)) (l .size .count) ≡ true = eq-eqb _ _ (c .before .before .before .if2 .left) in
     let turns : someTurnWrong (jobOf l) (a .layout .now) ≡ true = sym (c .before .before .some-turn-wrong .ensures (a .pixels .now)) ∙ c .before .if3 .taken in
     rw (c .refusal3 .ensures, well, long, turns, unless)
 
@@ -75,7 +75,7 @@ returns-4 c =
     let a = c .before .before .before .before .before .before .before .before .before .before .args in
     let l : Lent = lentBy (a .size) (a .table .now) (a .pixels .now) in
     let well : lentWell l ≡ true = sym (c .before .before .before .before .before .before .before .before .check-job .ensures) ∙ not-false _ (c .before .before .before .before .before .before .before .if1 .left) in
-    let long : eqb (length (a .layout .now)) (l .count) ≡ true = eq-eqb _ _ (c .before .before .before .before .before .if2 .left) in
+    let long : eqb (length (a .layout .now)) (l .size .count) ≡ true = eq-eqb _ _ (c .before .before .before .before .before .if2 .left) in
     let turns : someTurnWrong (jobOf l) (a .layout .now) ≡ false = sym (c .before .before .before .before .some-turn-wrong .ensures (a .pixels .now)) ∙ c .before .before .before .if3 .left in
     let out : someOutside (jobOf l) (layoutOf (a .layout .now)) ≡ true = sym (c .before .before .some-outside .ensures (a .pixels .now)) ∙ c .before .if4 .taken in
     rw (c .refusal4 .ensures, well, long, turns, out, unless)
@@ -86,7 +86,7 @@ returns-5 c =
     let a = c .before .before .before .before .before .before .before .before .before .args in
     let l : Lent = lentBy (a .size) (a .table .now) (a .pixels .now) in
     let well : lentWell l ≡ true = sym (c .before .before .before .before .before .before .before .check-job .ensures) ∙ not-false _ (c .before .before .before .before .before .before .if1 .left) in
-    let long : eqb (length (a .layout .now)) (l .count) ≡ true = eq-eqb _ _ (c .before .before .before .before .if2 .left) in
+    let long : eqb (length (a .layout .now)) (l .size .count) ≡ true = eq-eqb _ _ (c .before .before .before .before .if2 .left) in
     let turns : someTurnWrong (jobOf l) (a .layout .now) ≡ false = sym (c .before .before .before .some-turn-wrong .ensures (a .pixels .now)) ∙ c .before .before .if3 .left in
     let out : someOutside (jobOf l) (layoutOf (a .layout .now)) ≡ false = sym (c .before .some-outside .ensures (a .pixels .now)) ∙ c .if4 .left in
     rw (well, long, turns, out, unless)

@@ -44,7 +44,7 @@ returns-2 c =
     let a = c .before .before .before .before .before .before .args in
     let l : Lent = lentBy (a .size) (a .table .now) (a .pixels .now) in
     let well : lentWell l ≡ true = sym (c .before .before .before .before .check-job .ensures) ∙ not-false _ (c .before .before .before .if1 .left) in
-    let long : eqb (length (a .layout .now)) (l .count) ≡ false = ne-eqb _ _ (c .before .if2 .taken) in
+    let long : eqb (length (a .layout .now)) (l .size .count) ≡ false = ne-eqb _ _ (c .before .if2 .taken) in
     let o : startCall l (length (a .layout .now)) ≡ refused (c .refusal2 .result) = rw (c .refusal2 .ensures, well, long, unless) in
     (sym (ap startAnswer o), sym (ap (layoutAfter (a .layout .now)) o))
 
@@ -75,7 +75,7 @@ returns-3 c =
     let a = c .before .before .before .before .before .before .before .before .before .before .args in
     let l : Lent = lentBy (a .size) (a .table .now) (a .pixels .now) in
     let well : lentWell l ≡ true = sym (c .before .before .before .before .before .before .before .before .check-job .ensures) ∙ not-false _ (c .before .before .before .before .before .before .before .if1 .left) in
-    let long : eqb (length (a .layout .now)) (l .count) ≡ true = eq-eqb _ _ (c .before .before .before .before .before .if2 .left) in
+    let long : eqb (length (a .layout .now)) (l .size .count) ≡ true = eq-eqb _ _ (c .before .before .before .before .before .if2 .left) in
     let o : startCall l (length (a .layout .now)) ≡ given (start (jobOf l)) = rw (well, long, unless) in
     let laid : c .before .stack-all .last .1 .1 .1 .0 ≡ entriesOf (start (jobOf l)) =
     start-laid l _ (a .layout .now) _ (c .before .before .before .before .before .if2 .left) (c .before .before .before .before .falling-order .ensures .1 (a .pixels .now)) (c .before .stack-all .ensures (a .pixels .now)) in

@@ -37,7 +37,7 @@ returns-2 c =
     let a = c .before .before .before .before .before .before .before .args in
     let l : Lent = lentBy (a .size) (a .table .now) (a .pixels .now) in
     let well : lentWell l ≡ true = sym (c .before .before .before .before .check-job .ensures) ∙ not-false _ (c .before .before .before .if1 .left) in
-    let long : eqb (length (a .layout .now)) (l .count) ≡ false = ne-eqb _ _ (c .before .if2 .taken) in
+    let long : eqb (length (a .layout .now)) (l .size .count) ≡ false = ne-eqb _ _ (c .before .if2 .taken) in
     rw (c .refusal2 .ensures, well, long, unless)
 
 pair-count-requires : tie.Need-pair-count-requires
@@ -56,8 +56,8 @@ returns-3 c =
     let a = c .before .before .before .before .before .before .before .before .before .args in
     let l : Lent = lentBy (a .size) (a .table .now) (a .pixels .now) in
     let well : lentWell l ≡ true = sym (c .before .before .before .before .before .before .check-job .ensures) ∙ not-false _ (c .before .before .before .before .before .if1 .left) in
-    let long : eqb (length (a .layout .now)) (l .count) ≡ true = eq-eqb _ _ (c .before .before .before .if2 .left) in
-    let one : eqb (length (a .weights .now)) (length (pairs (l .count))) ≡ false = ne-eqb (length (a .weights .now)) (length (pairs (l .count))) (λ (e : length (a .weights .now) ≡ length (pairs (l .count))). omega (arith, c .before .if3 .taken, c .before .before .pair-count .ensures)) in
+    let long : eqb (length (a .layout .now)) (l .size .count) ≡ true = eq-eqb _ _ (c .before .before .before .if2 .left) in
+    let one : eqb (length (a .weights .now)) (length (pairs (l .size .count))) ≡ false = ne-eqb (length (a .weights .now)) (length (pairs (l .size .count))) (λ (e : length (a .weights .now) ≡ length (pairs (l .size .count))). omega (arith, c .before .if3 .taken, c .before .before .pair-count .ensures)) in
     rw (c .refusal3 .ensures, well, long, one, unless)
 
 some-weight-wrong-requires : tie.Need-some-weight-wrong-requires
@@ -72,8 +72,8 @@ returns-4 c =
     let a = c .before .before .before .before .before .before .before .before .before .before .before .args in
     let l : Lent = lentBy (a .size) (a .table .now) (a .pixels .now) in
     let well : lentWell l ≡ true = sym (c .before .before .before .before .before .before .before .before .check-job .ensures) ∙ not-false _ (c .before .before .before .before .before .before .before .if1 .left) in
-    let long : eqb (length (a .layout .now)) (l .count) ≡ true = eq-eqb _ _ (c .before .before .before .before .before .if2 .left) in
-    let one : eqb (length (a .weights .now)) (length (pairs (l .count))) ≡ true = eq-eqb (length (a .weights .now)) (length (pairs (l .count))) (omega (arith, c .before .before .before .if3 .left, c .before .before .before .before .pair-count .ensures)) in
+    let long : eqb (length (a .layout .now)) (l .size .count) ≡ true = eq-eqb _ _ (c .before .before .before .before .before .if2 .left) in
+    let one : eqb (length (a .weights .now)) (length (pairs (l .size .count))) ≡ true = eq-eqb (length (a .weights .now)) (length (pairs (l .size .count))) (omega (arith, c .before .before .before .if3 .left, c .before .before .before .before .pair-count .ensures)) in
     let wrong : someWeightWrong (a .weights .now) ≡ true = sym (c .before .before .some-weight-wrong .ensures) ∙ c .before .if4 .taken in
     rw (c .refusal4 .ensures, well, long, one, wrong, unless)
 
@@ -83,8 +83,8 @@ returns-5 c =
     let a = c .before .before .before .before .before .before .before .before .before .before .args in
     let l : Lent = lentBy (a .size) (a .table .now) (a .pixels .now) in
     let well : lentWell l ≡ true = sym (c .before .before .before .before .before .before .before .check-job .ensures) ∙ not-false _ (c .before .before .before .before .before .before .if1 .left) in
-    let long : eqb (length (a .layout .now)) (l .count) ≡ true = eq-eqb _ _ (c .before .before .before .before .if2 .left) in
-    let one : eqb (length (a .weights .now)) (length (pairs (l .count))) ≡ true = eq-eqb (length (a .weights .now)) (length (pairs (l .count))) (omega (arith, c .before .before .if3 .left, c .before .before .before .pair-count .ensures)) in
+    let long : eqb (length (a .layout .now)) (l .size .count) ≡ true = eq-eqb _ _ (c .before .before .before .before .if2 .left) in
+    let one : eqb (length (a .weights .now)) (length (pairs (l .size .count))) ≡ true = eq-eqb (length (a .weights .now)) (length (pairs (l .size .count))) (omega (arith, c .before .before .if3 .left, c .before .before .before .pair-count .ensures)) in
     let wrong : someWeightWrong (a .weights .now) ≡ false = sym (c .before .some-weight-wrong .ensures) ∙ c .if4 .left in
     rw (well, long, one, wrong, unless)
 

@@ -36,7 +36,7 @@ returns-2 c =
     let a = c .before .before .before .before .before .before .args in
     let l : Lent = lentBy (a .size) (a .table .now) (a .pixels .now) in
     let well : lentWell l ≡ true = sym (c .before .before .before .before .check-job .ensures) ∙ not-false _ (c .before .before .before .if1 .left) in
-    let long : eqb (length (a .layout .now)) (l .count) ≡ false = ne-eqb _ _ (c .before .if2 .taken) in
+    let long : eqb (length (a .layout .now)) (l .size .count) ≡ false = ne-eqb _ _ (c .before .if2 .taken) in
     rw (c .refusal2 .ensures, well, long, unless)
 
 some-turn-wrong-requires : tie.Need-some-turn-wrong-requires
@@ -55,7 +55,7 @@ returns-3 c =
     let a = c .before .before .before .before .before .before .before .before .args in
     let l : Lent = lentBy (a .size) (a .table .now) (a .pixels .now) in
     let well : lentWell l ≡ true = sym (c .before .before .before .before .before .before .check-job .ensures) ∙ not-false _ (c .before .before .before .before .before .if1 .left) in
-    let long : eqb (length (a .layout .now)) (l .count) ≡ true = eq-eqb _ _ (c .before .before .before .if2 .left) in
+    let long : eqb (length (a .layout .now)) (l .size .count) ≡ true = eq-eqb _ _ (c .before .before .before .if2 .left) in
     let turns : someTurnWrong (jobOf l) (a .layout .now) ≡ true = sym (c .before .before .some-turn-wrong .ensures (a .pixels .now)) ∙ c .before .if3 .taken in
     rw (c .refusal3 .ensures, well, long, turns, unless)
 
@@ -71,9 +71,9 @@ returns-4 c =
     let a = c .before .before .before .before .before .before .before .before .before .before .args in
     let l : Lent = lentBy (a .size) (a .table .now) (a .pixels .now) in
     let well : lentWell l ≡ true = sym (c .before .before .before .before .before .before .before .before .check-job .ensures) ∙ not-false _ (c .before .before .before .before .before .before .before .if1 .left) in
-    let long : eqb (length (a .layout .now)) (l .count) ≡ true = eq-eqb _ _ (c .before .before .before .before .before .if2 .left) in
+    let long : eqb (length (a .layout .now)) (l .size .count) ≡ true = eq-eqb _ _ (c .before .before .before .before .before .if2 .left) in
     let turns : someTurnWrong (jobOf l) (a .layout .now) ≡ false = sym (c .before .before .before .before .some-turn-wrong .ensures (a .pixels .now)) ∙ c .before .before .before .if3 .left in
-    let pair : ((not (ltb (a .i) (l .count)) || not (ltb (a .k) (l .count))) || eqb (a .i) (a .k)) ≡ true = sym (c .before .before .wrong-pair .ensures) ∙ c .before .if4 .taken in
+    let pair : ((not (ltb (a .i) (l .size .count)) || not (ltb (a .k) (l .size .count))) || eqb (a .i) (a .k)) ≡ true = sym (c .before .before .wrong-pair .ensures) ∙ c .before .if4 .taken in
     rw (c .refusal4 .ensures, well, long, turns, pair, unless)
 
 some-outside-requires : tie.Need-some-outside-requires
@@ -92,9 +92,9 @@ returns-5 c =
     let a = c .before .before .before .before .before .before .before .before .before .before .before .before .args in
     let l : Lent = lentBy (a .size) (a .table .now) (a .pixels .now) in
     let well : lentWell l ≡ true = sym (c .before .before .before .before .before .before .before .before .before .before .check-job .ensures) ∙ not-false _ (c .before .before .before .before .before .before .before .before .before .if1 .left) in
-    let long : eqb (length (a .layout .now)) (l .count) ≡ true = eq-eqb _ _ (c .before .before .before .before .before .before .before .if2 .left) in
+    let long : eqb (length (a .layout .now)) (l .size .count) ≡ true = eq-eqb _ _ (c .before .before .before .before .before .before .before .if2 .left) in
     let turns : someTurnWrong (jobOf l) (a .layout .now) ≡ false = sym (c .before .before .before .before .before .before .some-turn-wrong .ensures (a .pixels .now)) ∙ c .before .before .before .before .before .if3 .left in
-    let pair : ((not (ltb (a .i) (l .count)) || not (ltb (a .k) (l .count))) || eqb (a .i) (a .k)) ≡ false = sym (c .before .before .before .before .wrong-pair .ensures) ∙ c .before .before .before .if4 .left in
+    let pair : ((not (ltb (a .i) (l .size .count)) || not (ltb (a .k) (l .size .count))) || eqb (a .i) (a .k)) ≡ false = sym (c .before .before .before .before .wrong-pair .ensures) ∙ c .before .before .before .if4 .left in
     let out : someOutside (jobOf l) (layoutOf (a .layout .now)) ≡ true = sym (c .before .before .some-outside .ensures (a .pixels .now)) ∙ c .before .if5 .taken in
     rw (c .refusal5 .ensures, well, long, turns, pair, out, unless)
 
@@ -104,9 +104,9 @@ returns-6 c =
     let a = c .before .before .before .before .before .before .before .before .before .before .before .args in
     let l : Lent = lentBy (a .size) (a .table .now) (a .pixels .now) in
     let well : lentWell l ≡ true = sym (c .before .before .before .before .before .before .before .before .before .check-job .ensures) ∙ not-false _ (c .before .before .before .before .before .before .before .before .if1 .left) in
-    let long : eqb (length (a .layout .now)) (l .count) ≡ true = eq-eqb _ _ (c .before .before .before .before .before .before .if2 .left) in
+    let long : eqb (length (a .layout .now)) (l .size .count) ≡ true = eq-eqb _ _ (c .before .before .before .before .before .before .if2 .left) in
     let turns : someTurnWrong (jobOf l) (a .layout .now) ≡ false = sym (c .before .before .before .before .before .some-turn-wrong .ensures (a .pixels .now)) ∙ c .before .before .before .before .if3 .left in
-    let pair : ((not (ltb (a .i) (l .count)) || not (ltb (a .k) (l .count))) || eqb (a .i) (a .k)) ≡ false = sym (c .before .before .before .wrong-pair .ensures) ∙ c .before .before .if4 .left in
+    let pair : ((not (ltb (a .i) (l .size .count)) || not (ltb (a .k) (l .size .count))) || eqb (a .i) (a .k)) ≡ false = sym (c .before .before .before .wrong-pair .ensures) ∙ c .before .before .if4 .left in
     let out : someOutside (jobOf l) (layoutOf (a .layout .now)) ≡ false = sym (c .before .some-outside .ensures (a .pixels .now)) ∙ c .if5 .left in
     rw (well, long, turns, pair, out, unless)
 

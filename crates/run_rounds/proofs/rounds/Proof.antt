@@ -42,7 +42,7 @@ descended c = c .before .before .before .before .before .before .before .before 
 -- ── laws at these places ──
 
 -- the job has a piece
-some-piece : (s : tie.Start Inv-loop μ-loop) → 0 < jobOf (job s) .count
+some-piece : (s : tie.Start Inv-loop μ-loop) → 0 < jobOf (job s) .size .count
 some-piece s = lent-some (job s) (s .pre .0 .well)
 
 -- what a round does

@@ -18,7 +18,7 @@ use Rattle.search_sums.proofs.raise.Tie as tie
 abbrev Inv-loop : tie.InvT-loop
 Inv-loop penalties weights₀ n from₀ i₀ weights from i =
     (i ≤ n) × (from ≡ rowStart n i) × (length weights ≡ length weights₀)
-    × ((j : Job) (v : Layout) → j .count ≡ n → PenaltyTable j v n penalties → ValidWeights j weights₀ → Raising j v weights₀ from weights)
+    × ((j : Job) (v : Layout) → j .size .count ≡ n → PenaltyTable j v n penalties → ValidWeights j weights₀ → Raising j v weights₀ from weights)
 
 abbrev μ-loop : tie.MeasureT-loop
 μ-loop penalties weights₀ n from₀ i₀ weights from i = n - i

@@ -20,7 +20,7 @@ use Rattle.search_sums.proofs.raise_row.Tie as tie
 abbrev Inv-loop : tie.InvT-loop
 Inv-loop penalties weights₀ n i from k₀ at₀ weights k at =
     (i + 1 ≤ k) × (k ≤ n) × (at + (i + 1) ≡ from + k) × (length weights ≡ length weights₀)
-    × ((j : Job) (v : Layout) (ws : List ℕ) → j .count ≡ n → PenaltyTable j v n penalties → ValidWeights j ws → Raising j v ws from weights₀ → Raising j v ws at weights)
+    × ((j : Job) (v : Layout) (ws : List ℕ) → j .size .count ≡ n → PenaltyTable j v n penalties → ValidWeights j ws → Raising j v ws from weights₀ → Raising j v ws at weights)
 
 abbrev μ-loop : tie.MeasureT-loop
 μ-loop penalties weights₀ n i from k₀ at₀ weights k at = n - k

@@ -51,9 +51,9 @@ returns c =
     let g : place.Refused s ≡ c .before .before .before .before .before .before .fill-piece .result = sym (c .before .r .given .1) in
     let x = pieceAt text j (l .i) (l .at .area) (l .at .next) (l .at .line) in
     let n : x ≡ refused s = place-denied (l .at .area) (l .at .line) s x (g ∙ c .before .before .before .before .before .before .fill-piece .ensures .0) in
-    let e : a .j .count - l .i ≡ suc (a .j .count - (l .i + 1)) = omega arith in
-    let f : fillPieces text j (a .j .count - l .i) (l .i) (l .at .area) (l .at .next) (l .at .line) (l .table) (l .pixels) ≡ refused s = rw e (pieces-denied text j (a .j .count - (l .i + 1)) (l .i) (l .at .area) (l .at .next) (l .at .line) (l .table) (l .pixels) s n) in
-    pieces-refused (a .table .now) _ (a .pixels .now) _ s (piecesAt text j (a .j .count) 0 0 (a .j .next) 2) (sym (l .inv .4) ∙ f)
+    let e : a .j .size .count - l .i ≡ suc (a .j .size .count - (l .i + 1)) = omega arith in
+    let f : fillPieces text j (a .j .size .count - l .i) (l .i) (l .at .area) (l .at .next) (l .at .line) (l .table) (l .pixels) ≡ refused s = rw e (pieces-denied text j (a .j .size .count - (l .i + 1)) (l .i) (l .at .area) (l .at .next) (l .at .line) (l .table) (l .pixels) s n) in
+    pieces-refused (a .table .now) _ (a .pixels .now) _ s (piecesAt text j (a .j .size .count) 0 0 (a .j .next) 2) (sym (l .inv .4) ∙ f)
 
 enum-known-place : tie.Need-enum-known-place Inv-loop μ-loop
 enum-known-place c = search needs
@@ -73,9 +73,9 @@ loop-again c =
     let q = c .before .place .given .0 .0 in
     let g : place.Read q ≡ c .before .before .before .before .before .before .fill-piece .result = sym (c .before .place .given .1) in
     let w : Within text (l .at .line) (place.Read q) = subst (Within text (l .at .line)) (sym g) (c .before .before .before .before .before .before .fill-piece .ensures .1) in
-    let e : a .j .count - l .i ≡ suc (a .j .count - suc (l .i)) = omega arith in
-    let s : fillPieces text j (a .j .count - l .i) (l .i) (l .at .area) (l .at .next) (l .at .line) (l .table) (l .pixels) ≡ fillPieces text j (a .j .count - suc (l .i)) (suc (l .i)) (q .area) (q .next) (q .line) (c .before .before .before .before .before .before .fill-piece .last .1 .1 .1 .1 .0) (c .before .before .before .before .before .before .fill-piece .last .1 .1 .1 .1 .1 .0) =
-    rw e (pieces-step text j (a .j .count - suc (l .i)) (l .i) (l .at .area) (l .at .next) (l .at .line) (l .table) (l .pixels) q _ _ (g ∙ c .before .before .before .before .before .before .fill-piece .ensures .0) (c .before .before .before .before .before .before .fill-piece .ensures .2)) in
+    let e : a .j .size .count - l .i ≡ suc (a .j .size .count - suc (l .i)) = omega arith in
+    let s : fillPieces text j (a .j .size .count - l .i) (l .i) (l .at .area) (l .at .next) (l .at .line) (l .table) (l .pixels) ≡ fillPieces text j (a .j .size .count - suc (l .i)) (suc (l .i)) (q .area) (q .next) (q .line) (c .before .before .before .before .before .before .fill-piece .last .1 .1 .1 .1 .0) (c .before .before .before .before .before .before .fill-piece .last .1 .1 .1 .1 .1 .0) =
+    rw e (pieces-step text j (a .j .size .count - suc (l .i)) (l .i) (l .at .area) (l .at .next) (l .at .line) (l .table) (l .pixels) q _ _ (g ∙ c .before .before .before .before .before .before .fill-piece .ensures .0) (c .before .before .before .before .before .before .fill-piece .ensures .2)) in
     let m : l .at .line ≤ 2 + 256 * l .i = l .inv .3 in
     (omega arith, w .0, w .1, omega (arith, w .2), rw (add-one (l .i)) (sym s ∙ l .inv .4), c .before .before .before .before .before .before .fill-piece .kept .1 .1 .1 .1 .0 ∙ l .inv .5, c .before .before .before .before .before .before .fill-piece .kept .1 .1 .1 .1 .1 .0 ∙ l .inv .6)
 
@@ -96,9 +96,9 @@ returns-2 c =
     let text = a .text .now in
     let j = jobLineOf (a .j) in
     let l = c .before .before .before .before .loop in
-    let e : a .j .count - l .i ≡ 0 = omega arith in
-    let f : fillPieces text j (a .j .count - l .i) (l .i) (l .at .area) (l .at .next) (l .at .line) (l .table) (l .pixels) ≡ refused (refusalAt wrongForm (l .at .line)) = rw e (pieces-extra text j (l .i) (l .at .area) (l .at .next) (l .at .line) (l .table) (l .pixels) (c .before .if1 .taken)) in
-    let o = pieces-refused (a .table .now) (l .table) (a .pixels .now) (l .pixels) (refusalAt wrongForm (l .at .line)) (piecesAt text j (a .j .count) 0 0 (a .j .next) 2) (sym (l .inv .4) ∙ f) in
+    let e : a .j .size .count - l .i ≡ 0 = omega arith in
+    let f : fillPieces text j (a .j .size .count - l .i) (l .i) (l .at .area) (l .at .next) (l .at .line) (l .table) (l .pixels) ≡ refused (refusalAt wrongForm (l .at .line)) = rw e (pieces-extra text j (l .i) (l .at .area) (l .at .next) (l .at .line) (l .table) (l .pixels) (c .before .if1 .taken)) in
+    let o = pieces-refused (a .table .now) (l .table) (a .pixels .now) (l .pixels) (refusalAt wrongForm (l .at .line)) (piecesAt text j (a .j .size .count) 0 0 (a .j .next) 2) (sym (l .inv .4) ∙ f) in
     (ap pieces.Refused (c .refusal .ensures) ∙ o .0, o .1)
 
 same-length-5 : tie.Need-same-length-5 Inv-loop μ-loop
@@ -113,9 +113,9 @@ returns-3 c =
     let text = a .text .now in
     let j = jobLineOf (a .j) in
     let l = c .before .before .before .loop in
-    let e : a .j .count - l .i ≡ 0 = omega arith in
-    let f : fillPieces text j (a .j .count - l .i) (l .i) (l .at .area) (l .at .next) (l .at .line) (l .table) (l .pixels) ≡ given (record { table = l .table; pixels = l .pixels; area = l .at .area }) = rw e (pieces-end text j (l .i) (l .at .area) (l .at .next) (l .at .line) (l .table) (l .pixels) (c .if1 .left)) in
-    pieces-given (a .table .now) (l .table) (a .pixels .now) (l .pixels) (l .at .area) (piecesAt text j (a .j .count) 0 0 (a .j .next) 2) (sym (l .inv .4) ∙ f)
+    let e : a .j .size .count - l .i ≡ 0 = omega arith in
+    let f : fillPieces text j (a .j .size .count - l .i) (l .i) (l .at .area) (l .at .next) (l .at .line) (l .table) (l .pixels) ≡ given (record { table = l .table; pixels = l .pixels; area = l .at .area }) = rw e (pieces-end text j (l .i) (l .at .area) (l .at .next) (l .at .line) (l .table) (l .pixels) (c .if1 .left)) in
+    pieces-given (a .table .now) (l .table) (a .pixels .now) (l .pixels) (l .at .area) (piecesAt text j (a .j .size .count) 0 0 (a .j .next) 2) (sym (l .inv .4) ∙ f)
 
 pub fill-pieces-spec : {M : Type 1} → statement M
 fill-pieces-spec =

@@ -26,7 +26,7 @@ read-pieces-requires c κs =
     let j = c .before .before .before .j .given .0 .0 in
     let g : job.Line j ≡ c .before .before .before .before .before .job-line .result = sym (c .before .before .before .j .given .1) in
     let n : j .next ≤ length text = rw (sym g) at (c .before .before .before .before .before .job-line .ensures .1) in
-    let k : j .count ≤ 64 = rw (sym g) at (c .before .before .before .before .before .job-line .ensures .2) in
+    let k : j .size .count ≤ 64 = rw (sym g) at (c .before .before .before .before .before .job-line .ensures .2) in
     (n, k)
 
 returns : tie.Need-returns

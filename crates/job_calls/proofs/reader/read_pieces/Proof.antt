@@ -19,133 +19,94 @@ use borrow.Author.Needs.{needs}
 use Rattle.job_calls.proofs.reader.read_pieces.Statement.{statement}
 use Rattle.job_calls.proofs.reader.read_pieces.Tie as tie
 
-slice-relend-prefix-fill-pieces : tie.Need-slice-relend-prefix-fill-pieces
-slice-relend-prefix-fill-pieces c = search needs
-
-slice-aggregate-fill-pieces : tie.Need-slice-aggregate-fill-pieces
-slice-aggregate-fill-pieces c = search needs
-
-slice-relend-prefix-fill-pieces-2 : tie.Need-slice-relend-prefix-fill-pieces-2
-slice-relend-prefix-fill-pieces-2 c = search needs
-
-slice-aggregate-fill-pieces-2 : tie.Need-slice-aggregate-fill-pieces-2
-slice-aggregate-fill-pieces-2 c = search needs
-
-fill-pieces-requires : tie.Need-fill-pieces-requires
-fill-pieces-requires c κs = search needs
-
-enum-known-r : tie.Need-enum-known-r
-enum-known-r c = search needs
-
-enum-known-area : tie.Need-enum-known-area
-enum-known-area c = search needs
-
-refusal-requires : tie.Need-refusal-requires
-refusal-requires c κs = search needs
-
-same-length : tie.Need-same-length
-same-length c = search needs
-
-same-length-2 : tie.Need-same-length-2
-same-length-2 c = search needs
-
 returns : tie.Need-returns
 returns c =
-    let a = c .before .before .before .before .before .before .before .before .before .before .before .before .before .before .args in
+    let at-start : tie.Start = search in
+    let first : tie.After-fill-pieces = search in
+    let told : tie.After-area = search in
+    let a = at-start .args in
     let text = a .text .now in
     let j = jobLineOf (a .j) in
     let tl = length (a .table .now) in
     let pl = length (a .pixels .now) in
-    let table = c .before .before .before .before .before .before .before .before .before .fill-pieces .last .1 .1 .0 in
-    let store = c .before .before .before .before .before .before .before .before .before .fill-pieces .last .1 .1 .1 .0 in
-    let t : table ++ a .table .now ≡ a .table .now = no-prefix table (a .table .now) (c .before .before .before .before .before .before .before .before .before .fill-pieces .kept .1 .1 .0) in
-    let s : store ++ a .pixels .now ≡ a .pixels .now = no-prefix store (a .pixels .now) (c .before .before .before .before .before .before .before .before .before .fill-pieces .kept .1 .1 .1 .0) in
-    let n = c .before .before .before .before .area .given .0 .0 in
-    let g : pieces.Read n ≡ c .before .before .before .before .before .before .before .before .before .fill-pieces .result = sym (c .before .before .before .before .area .given .1) in
-    let x = pieces-told n (piecesAt text j (a .j .count) 0 0 (a .j .next) 2) (g ∙ c .before .before .before .before .before .before .before .before .before .fill-pieces .ensures .0) in
-    let l : tl < a .j .count = subst (λ (k : List (List ℕ)). length k < a .j .count) t (c .before .if1 .taken) in
-    let b : (ltb tl (a .j .count) || ltb pl (length (x .all .pixels))) ≡ true = rw (lt-ltb _ _ l) refl in
+    let table = first .fill-pieces .last .1 .1 .0 in
+    let store = first .fill-pieces .last .1 .1 .1 .0 in
+    let t : table ++ a .table .now ≡ a .table .now = no-prefix table (a .table .now) (first .fill-pieces .kept .1 .1 .0) in
+    let s : store ++ a .pixels .now ≡ a .pixels .now = no-prefix store (a .pixels .now) (first .fill-pieces .kept .1 .1 .1 .0) in
+    let n = told .area .given .0 .0 in
+    let g : pieces.Read n ≡ first .fill-pieces .result = sym (told .area .given .1) in
+    let x = pieces-told n (piecesAt text j (a .j .size .count) 0 0 (a .j .next) 2) (g ∙ first .fill-pieces .ensures .0) in
+    let l : tl < a .j .size .count = subst (λ (k : List (List ℕ)). length k < a .j .size .count) t (c .before .if1 .taken) in
+    let b : (ltb tl (a .j .size .count) || ltb pl (length (x .all .pixels))) ≡ true = rw (lt-ltb _ _ l) refl in
     leaves-refused _ _ _ _ _ _ (roomed text j tl pl) (room-short text j tl pl (x .all) (x .gives) b) (ap answer.Refused (c .refusal .ensures)) t s
-
-refusal-requires-2 : tie.Need-refusal-requires-2
-refusal-requires-2 c κs = search needs
-
-same-length-3 : tie.Need-same-length-3
-same-length-3 c = search needs
-
-same-length-4 : tie.Need-same-length-4
-same-length-4 c = search needs
 
 returns-2 : tie.Need-returns-2
 returns-2 c =
-    let a = c .before .before .before .before .before .before .before .before .before .before .before .before .before .before .before .args in
+    let at-start : tie.Start = search in
+    let first : tie.After-fill-pieces = search in
+    let told : tie.After-area = search in
+    let roomy : tie.Else1 = search in
+    let a = at-start .args in
     let text = a .text .now in
     let j = jobLineOf (a .j) in
     let tl = length (a .table .now) in
     let pl = length (a .pixels .now) in
-    let table = c .before .before .before .before .before .before .before .before .before .before .fill-pieces .last .1 .1 .0 in
-    let store = c .before .before .before .before .before .before .before .before .before .before .fill-pieces .last .1 .1 .1 .0 in
-    let t : table ++ a .table .now ≡ a .table .now = no-prefix table (a .table .now) (c .before .before .before .before .before .before .before .before .before .before .fill-pieces .kept .1 .1 .0) in
-    let s : store ++ a .pixels .now ≡ a .pixels .now = no-prefix store (a .pixels .now) (c .before .before .before .before .before .before .before .before .before .before .fill-pieces .kept .1 .1 .1 .0) in
-    let n = c .before .before .before .before .before .area .given .0 .0 in
-    let g : pieces.Read n ≡ c .before .before .before .before .before .before .before .before .before .before .fill-pieces .result = sym (c .before .before .before .before .before .area .given .1) in
-    let x = pieces-told n (piecesAt text j (a .j .count) 0 0 (a .j .next) 2) (g ∙ c .before .before .before .before .before .before .before .before .before .before .fill-pieces .ensures .0) in
-    let l : a .j .count ≤ tl = subst (λ (k : List (List ℕ)). a .j .count ≤ length k) t (c .before .before .if1 .left) in
+    let table = first .fill-pieces .last .1 .1 .0 in
+    let store = first .fill-pieces .last .1 .1 .1 .0 in
+    let t : table ++ a .table .now ≡ a .table .now = no-prefix table (a .table .now) (first .fill-pieces .kept .1 .1 .0) in
+    let s : store ++ a .pixels .now ≡ a .pixels .now = no-prefix store (a .pixels .now) (first .fill-pieces .kept .1 .1 .1 .0) in
+    let n = told .area .given .0 .0 in
+    let g : pieces.Read n ≡ first .fill-pieces .result = sym (told .area .given .1) in
+    let x = pieces-told n (piecesAt text j (a .j .size .count) 0 0 (a .j .next) 2) (g ∙ first .fill-pieces .ensures .0) in
+    let l : a .j .size .count ≤ tl = subst (λ (k : List (List ℕ)). a .j .size .count ≤ length k) t (roomy .if1 .left) in
     let m : pl < length (x .all .pixels) = rw (x .size) at (subst (λ (k : List ℕ). length k < n) s (c .before .if2 .taken)) in
-    let b : (ltb tl (a .j .count) || ltb pl (length (x .all .pixels))) ≡ true = rw (le-ltb _ _ l, lt-ltb _ _ m) refl in
+    let b : (ltb tl (a .j .size .count) || ltb pl (length (x .all .pixels))) ≡ true = rw (le-ltb _ _ l, lt-ltb _ _ m) refl in
     leaves-refused _ _ _ _ _ _ (roomed text j tl pl) (room-short text j tl pl (x .all) (x .gives) b) (ap answer.Refused (c .refusal2 .ensures)) t s
-
-fill-pieces-requires-2 : tie.Need-fill-pieces-requires-2
-fill-pieces-requires-2 c κs = search needs
-
-same-length-5 : tie.Need-same-length-5
-same-length-5 c = search needs
-
-same-length-6 : tie.Need-same-length-6
-same-length-6 c = search needs
 
 returns-3 : tie.Need-returns-3
 returns-3 c =
-    let a = c .before .before .before .before .before .before .before .before .before .before .before .args in
+    let at-start : tie.Start = search in
+    let first : tie.After-fill-pieces = search in
+    let a = at-start .args in
     let text = a .text .now in
     let j = jobLineOf (a .j) in
     let tl = length (a .table .now) in
     let pl = length (a .pixels .now) in
-    let table = c .before .before .before .before .before .before .fill-pieces .last .1 .1 .0 in
-    let store = c .before .before .before .before .before .before .fill-pieces .last .1 .1 .1 .0 in
-    let t : table ++ a .table .now ≡ a .table .now = no-prefix table (a .table .now) (c .before .before .before .before .before .before .fill-pieces .kept .1 .1 .0) in
-    let s : store ++ a .pixels .now ≡ a .pixels .now = no-prefix store (a .pixels .now) (c .before .before .before .before .before .before .fill-pieces .kept .1 .1 .1 .0) in
+    let table = first .fill-pieces .last .1 .1 .0 in
+    let store = first .fill-pieces .last .1 .1 .1 .0 in
+    let t : table ++ a .table .now ≡ a .table .now = no-prefix table (a .table .now) (first .fill-pieces .kept .1 .1 .0) in
+    let s : store ++ a .pixels .now ≡ a .pixels .now = no-prefix store (a .pixels .now) (first .fill-pieces .kept .1 .1 .1 .0) in
     let r = c .before .r .given .0 .0 in
-    let g : pieces.Refused r ≡ c .before .before .before .before .before .before .fill-pieces .result = sym (c .before .r .given .1) in
-    let e = pieces-not r (piecesAt text j (a .j .count) 0 0 (a .j .next) 2) (g ∙ c .before .before .before .before .before .before .fill-pieces .ensures .0) in
+    let g : pieces.Refused r ≡ first .fill-pieces .result = sym (c .before .r .given .1) in
+    let e = pieces-not r (piecesAt text j (a .j .size .count) 0 0 (a .j .next) 2) (g ∙ first .fill-pieces .ensures .0) in
     leaves-refused r _ _ _ _ _ (roomed text j tl pl) (room-denied text j tl pl r e) refl t s
-
-same-length-7 : tie.Need-same-length-7
-same-length-7 c = search needs
-
-same-length-8 : tie.Need-same-length-8
-same-length-8 c = search needs
 
 returns-4 : tie.Need-returns-4
 returns-4 c =
-    let a = c .before .before .before .before .before .before .before .before .before .before .before .before .before .before .before .before .before .before .before .before .args in
+    let at-start : tie.Start = search in
+    let first : tie.After-fill-pieces = search in
+    let told : tie.After-area = search in
+    let roomy : tie.Else1 = search in
+    let wide : tie.Else2 = search in
+    let second : tie.After-fill-pieces2 = search in
+    let a = at-start .args in
     let text = a .text .now in
     let j = jobLineOf (a .j) in
     let tl = length (a .table .now) in
     let pl = length (a .pixels .now) in
-    let table = c .before .before .before .before .before .before .before .before .before .before .before .before .before .before .before .fill-pieces .last .1 .1 .0 in
-    let store = c .before .before .before .before .before .before .before .before .before .before .before .before .before .before .before .fill-pieces .last .1 .1 .1 .0 in
-    let t : table ++ a .table .now ≡ a .table .now = no-prefix table (a .table .now) (c .before .before .before .before .before .before .before .before .before .before .before .before .before .before .before .fill-pieces .kept .1 .1 .0) in
-    let s : store ++ a .pixels .now ≡ a .pixels .now = no-prefix store (a .pixels .now) (c .before .before .before .before .before .before .before .before .before .before .before .before .before .before .before .fill-pieces .kept .1 .1 .1 .0) in
-    let n = c .before .before .before .before .before .before .before .before .before .before .area .given .0 .0 in
-    let g : pieces.Read n ≡ c .before .before .before .before .before .before .before .before .before .before .before .before .before .before .before .fill-pieces .result = sym (c .before .before .before .before .before .before .before .before .before .before .area .given .1) in
-    let x = pieces-told n (piecesAt text j (a .j .count) 0 0 (a .j .next) 2) (g ∙ c .before .before .before .before .before .before .before .before .before .before .before .before .before .before .before .fill-pieces .ensures .0) in
-    let l : a .j .count ≤ tl = subst (λ (k : List (List ℕ)). a .j .count ≤ length k) t (c .before .before .before .before .before .before .before .if1 .left) in
-    let m : length (x .all .pixels) ≤ pl = rw (x .size) at (subst (λ (k : List ℕ). n ≤ length k) s (c .before .before .before .before .before .before .if2 .left)) in
-    let b : (ltb tl (a .j .count) || ltb pl (length (x .all .pixels))) ≡ false = rw (le-ltb _ _ l, le-ltb _ _ m) refl in
+    let table = first .fill-pieces .last .1 .1 .0 in
+    let store = first .fill-pieces .last .1 .1 .1 .0 in
+    let t : table ++ a .table .now ≡ a .table .now = no-prefix table (a .table .now) (first .fill-pieces .kept .1 .1 .0) in
+    let s : store ++ a .pixels .now ≡ a .pixels .now = no-prefix store (a .pixels .now) (first .fill-pieces .kept .1 .1 .1 .0) in
+    let n = told .area .given .0 .0 in
+    let g : pieces.Read n ≡ first .fill-pieces .result = sym (told .area .given .1) in
+    let x = pieces-told n (piecesAt text j (a .j .size .count) 0 0 (a .j .next) 2) (g ∙ first .fill-pieces .ensures .0) in
+    let l : a .j .size .count ≤ tl = subst (λ (k : List (List ℕ)). a .j .size .count ≤ length k) t (roomy .if1 .left) in
+    let m : length (x .all .pixels) ≤ pl = rw (x .size) at (subst (λ (k : List ℕ). n ≤ length k) s (wide .if2 .left)) in
+    let b : (ltb tl (a .j .size .count) || ltb pl (length (x .all .pixels))) ≡ false = rw (le-ltb _ _ l, le-ltb _ _ m) refl in
     let e : roomed text j tl pl ≡ given (asLent j (x .all)) = room-given text j tl pl (x .all) (x .gives) b in
-    let f : Filled (table ++ a .table .now) (c .before .before .before .fill-pieces2 .last .1 .1 .0) (store ++ a .pixels .now) (c .before .before .before .fill-pieces2 .last .1 .1 .1 .0) (x .all) = subst (PiecesStored _ _ _ _) (x .gives) (c .before .before .before .fill-pieces2 .ensures .1) in
-    let k : length (x .all .table) ≤ tl = rw (pieces-count text j (a .j .count) 0 0 (a .j .next) 2 (x .all) (x .gives)) l in
+    let f : Filled (table ++ a .table .now) (second .fill-pieces2 .last .1 .1 .0) (store ++ a .pixels .now) (second .fill-pieces2 .last .1 .1 .1 .0) (x .all) = subst (PiecesStored _ _ _ _) (x .gives) (second .fill-pieces2 .ensures .1) in
+    let k : length (x .all .table) ≤ tl = rw (pieces-count text j (a .j .size .count) 0 0 (a .j .next) 2 (x .all) (x .gives)) l in
     subst (Leaves _ _ _ _ _) (sym e)
     (record {
       answers = refl;
@@ -157,25 +118,25 @@ pub read-pieces-spec : {M : Type 1} → statement M
 read-pieces-spec =
     tie.close
     (tie.spec
-    slice-relend-prefix-fill-pieces
-    slice-aggregate-fill-pieces
-    slice-relend-prefix-fill-pieces-2
-    slice-aggregate-fill-pieces-2
-    fill-pieces-requires
-    enum-known-r
-    enum-known-area
-    refusal-requires
-    same-length
-    same-length-2
+    (search needs)
+    (search needs)
+    (search needs)
+    (search needs)
+    (search needs)
+    (search needs)
+    (search needs)
+    (search needs)
+    (search needs)
+    (search needs)
     returns
-    refusal-requires-2
-    same-length-3
-    same-length-4
+    (search needs)
+    (search needs)
+    (search needs)
     returns-2
-    fill-pieces-requires-2
-    same-length-5
-    same-length-6
+    (search needs)
+    (search needs)
+    (search needs)
     returns-3
-    same-length-7
-    same-length-8
+    (search needs)
+    (search needs)
     returns-4)

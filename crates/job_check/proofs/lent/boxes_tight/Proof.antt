@@ -11,7 +11,6 @@ use Rattle.model.proofs.Bounded.{all-from}
 use Rattle.job_check.specs.Boxes.{storedBox}
 use Rattle.text_fields.proofs.Tests.{said-no, said-yes}
 use Rattle.job_check.proofs.Tests.{not-all}
-use borrow.Author.Needs.{needs}
 use Rattle.job_check.proofs.lent.boxes_tight.Statement.{statement}
 use Rattle.job_check.proofs.lent.boxes_tight.Tie as tie
 
@@ -36,26 +35,8 @@ returns c =
     let f : ℕ → Bool = λ k. tight (storedBox (a .table .now) (a .pixels .now) k) in
     sym (not-all (a .count) (c .before .before .before .loop .i) f (c .before .before .loop-test .taken) (said-no (c .before .stored-box-tight .ensures) (c .if1 .taken)))
 
-mul-box-area : tie.Need-mul-box-area Inv-loop μ-loop
-mul-box-area c = omega arith
-
-index-1-box-area : tie.Need-index-1-box-area Inv-loop μ-loop
-index-1-box-area c = omega arith
-
-index-2-box-area : tie.Need-index-2-box-area Inv-loop μ-loop
-index-2-box-area c = search needs
-
-mul-box-area-2 : tie.Need-mul-box-area-2 Inv-loop μ-loop
-mul-box-area-2 c = omega arith
-
-index-1-box-area-2 : tie.Need-index-1-box-area-2 Inv-loop μ-loop
-index-1-box-area-2 c = omega arith
-
-index-2-box-area-2 : tie.Need-index-2-box-area-2 Inv-loop μ-loop
-index-2-box-area-2 c = search needs
-
-box-area-requires : tie.Need-box-area-requires Inv-loop μ-loop
-box-area-requires c κs = search needs
+area-of-requires : tie.Need-area-of-requires Inv-loop μ-loop
+area-of-requires c κs = omega arith
 
 add-start : tie.Need-add-start Inv-loop μ-loop
 add-start c = omega arith
@@ -69,11 +50,15 @@ loop-less c = omega arith
 loop-again : tie.Need-loop-again Inv-loop μ-loop
 unfolding pixelStart
 loop-again c =
-    let table = c .before .before .before .before .before .before .before .before .args .table .now in
-    let l = c .before .before .before .before .before .before .loop in
-    let e : c .box-area .result ≡ entryArea table (l .i) = c .box-area .ensures .0 in
+    let at-start : tie.Start Inv-loop μ-loop = search in
+    let tested : tie.After-stored-box-tight Inv-loop μ-loop = search in
+    let passed : tie.Else1 Inv-loop μ-loop = search in
+    let at : tie.At-loop Inv-loop μ-loop = search in
+    let table = at-start .args .table .now in
+    let l = at .loop in
+    let e : c .area-of .result ≡ entryArea table (l .i) = c .area-of .ensures .0 in
     let s : l .start ≡ pixelStart table (l .i) = l .inv .1 in
-    (omega arith, rw add-one (omega arith), omega arith, below-more _ _ (l .inv .3) (said-yes (c .before .before .before .before .stored-box-tight .ensures) (c .before .before .before .if1 .left)))
+    (omega arith, rw add-one (omega arith), omega arith, below-more _ _ (l .inv .3) (said-yes (tested .stored-box-tight .ensures) (passed .if1 .left)))
 
 returns-2 : tie.Need-returns-2 Inv-loop μ-loop
 returns-2 c =
@@ -90,13 +75,7 @@ boxes-tight-spec =
     loop-holds
     stored-box-tight-requires
     returns
-    mul-box-area
-    index-1-box-area
-    index-2-box-area
-    mul-box-area-2
-    index-1-box-area-2
-    index-2-box-area-2
-    box-area-requires
+    area-of-requires
     add-start
     add-i
     loop-less

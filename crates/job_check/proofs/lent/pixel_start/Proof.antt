@@ -4,7 +4,6 @@ use Prim.Native.Nat.{_≤_, _*_, _-_}
 use native.Mathlib.Numerals.{add-one}
 use native.Mathlib.Omega.{arith}
 use Rattle.model.specs.Lent.{pixelStart, entryArea}
-use borrow.Author.Needs.{needs}
 use Rattle.job_check.proofs.lent.pixel_start.Statement.{statement}
 use Rattle.job_check.proofs.lent.pixel_start.Tie as tie
 
@@ -18,26 +17,8 @@ loop-holds : tie.Need-loop-holds Inv-loop μ-loop
 unfolding pixelStart
 loop-holds c = (omega arith, refl, omega arith)
 
-mul-box-area : tie.Need-mul-box-area Inv-loop μ-loop
-mul-box-area c = omega arith
-
-index-1-box-area : tie.Need-index-1-box-area Inv-loop μ-loop
-index-1-box-area c = omega arith
-
-index-2-box-area : tie.Need-index-2-box-area Inv-loop μ-loop
-index-2-box-area c = search needs
-
-mul-box-area-2 : tie.Need-mul-box-area-2 Inv-loop μ-loop
-mul-box-area-2 c = omega arith
-
-index-1-box-area-2 : tie.Need-index-1-box-area-2 Inv-loop μ-loop
-index-1-box-area-2 c = omega arith
-
-index-2-box-area-2 : tie.Need-index-2-box-area-2 Inv-loop μ-loop
-index-2-box-area-2 c = search needs
-
-box-area-requires : tie.Need-box-area-requires Inv-loop μ-loop
-box-area-requires c κs = search needs
+area-of-requires : tie.Need-area-of-requires Inv-loop μ-loop
+area-of-requires c κs = omega arith
 
 add-start : tie.Need-add-start Inv-loop μ-loop
 add-start c = omega arith
@@ -51,10 +32,12 @@ loop-less c = omega arith
 loop-again : tie.Need-loop-again Inv-loop μ-loop
 unfolding pixelStart
 loop-again c =
-    let table = c .before .before .before .before .before .args .table .now in
-    let k = c .before .before .before .before .loop .k in
-    let e : c .box-area .result ≡ entryArea table k = c .box-area .ensures .0 in
-    let s : c .before .before .before .before .loop .start ≡ pixelStart table k = c .before .before .before .before .loop .inv .1 in
+    let at-start : tie.Start Inv-loop μ-loop = search in
+    let at : tie.At-loop Inv-loop μ-loop = search in
+    let table = at-start .args .table .now in
+    let k = at .loop .k in
+    let e : c .area-of .result ≡ entryArea table k = c .area-of .ensures .0 in
+    let s : at .loop .start ≡ pixelStart table k = at .loop .inv .1 in
     (omega arith, rw add-one (omega arith), omega arith)
 
 returns : tie.Need-returns Inv-loop μ-loop
@@ -66,19 +49,4 @@ returns c =
 pub pixel-start-spec : {M : Type 1} → statement M
 pixel-start-spec =
     tie.close
-    (tie.spec
-    Inv-loop
-    μ-loop
-    loop-holds
-    mul-box-area
-    index-1-box-area
-    index-2-box-area
-    mul-box-area-2
-    index-1-box-area-2
-    index-2-box-area-2
-    box-area-requires
-    add-start
-    add-k
-    loop-less
-    loop-again
-    returns)
+    (tie.spec Inv-loop μ-loop loop-holds area-of-requires add-start add-k loop-less loop-again returns)

@@ -37,7 +37,7 @@ returns-4 c =
 pixel-start-requires : tie.Need-pixel-start-requires
 pixel-start-requires c κs =
     let size = c .before .before .before .before .before .before .before .args .size in
-    let few = sheet-few (size .rows) (size .columns) (size .count) (said-yes (c .before .before .before .before .before .before .sheet-in-range .ensures) (c .before .before .before .before .before .if1 .left)) in
+    let few = sheet-few size (said-yes (c .before .before .before .before .before .before .sheet-in-range .ensures) (c .before .before .before .before .before .if1 .left)) in
     omega arith
 
 returns-5 : tie.Need-returns-5

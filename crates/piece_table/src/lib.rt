@@ -1,0 +1,54 @@
+// The piece table of a job: an entry holds l columns, w rows and o, the sum of the allowed turns. Only this crate knows the order of
+// an entry's numbers.
+ghost use mathlib.Core.List.{[], _∷_};
+ghost use mathlib.Core.Path.{_≡_};
+ghost use Prim.Native.Nat.{_<_, _≤_};
+ghost use lib.ListN.{length};
+ghost use Rattle.model.specs.Lent.{entryColumns, entryRows, entryTurns, entryArea};
+
+// A byte as a count.
+fn wide(x: u8) -> usize
+    ensures { λ r. ⌜ (r ≡ x) × (r ≤ 255) ⌝ }
+{
+    x as usize
+}
+
+// The columns of piece i's box.
+pub fn columns_of(table: &[[u8; 3]], i: usize) -> usize
+    requires { ⌜ i < length (now table) ⌝ }
+    ensures { λ r. ⌜ (r ≡ entryColumns (now (table .entry)) i) × (r ≤ 255) ⌝ }
+{
+    wide(table[i][0])
+}
+
+// The rows of piece i's box.
+pub fn rows_of(table: &[[u8; 3]], i: usize) -> usize
+    requires { ⌜ i < length (now table) ⌝ }
+    ensures { λ r. ⌜ (r ≡ entryRows (now (table .entry)) i) × (r ≤ 255) ⌝ }
+{
+    wide(table[i][1])
+}
+
+// The sum of the turns allowed to piece i.
+pub fn turns_of(table: &[[u8; 3]], i: usize) -> u8
+    requires { ⌜ i < length (now table) ⌝ }
+    ensures { λ r. ⌜ r ≡ entryTurns (now (table .entry)) i ⌝ }
+{
+    table[i][2]
+}
+
+// The area of piece i's box.
+pub fn area_of(table: &[[u8; 3]], i: usize) -> usize
+    requires { ⌜ i < length (now table) ⌝ }
+    ensures { λ r. ⌜ (r ≡ entryArea (now (table .entry)) i) × (r ≤ 65025) ⌝ }
+{
+    columns_of(table, i) * rows_of(table, i)
+}
+
+// The entry of a piece with these sides and this sum of turns.
+pub fn piece_entry(columns: usize, rows: usize, turns: usize) -> [u8; 3]
+    requires { ⌜ (columns ≤ 255) × (rows ≤ 255) × (turns ≤ 255) ⌝ }
+    ensures { λ r. ⌜ r ≡ columns ∷ rows ∷ turns ∷ [] ⌝ }
+{
+    [columns as u8, rows as u8, turns as u8]
+}
