@@ -13,7 +13,7 @@ use Rattle.model.specs.Buffer.{layoutOf}
 use Rattle.model.specs.Lent.{Lent, jobOf}
 use Rattle.model.specs.Refusal.{given}
 use Rattle.model.specs.Calls.{layoutCauses, usedLengthCall}
-use Rattle.model.proofs.Tests.{and-left, decided}
+use Rattle.list_laws.proofs.Tests.{and-left, decided}
 use Rattle.job_laws.proofs.Checked.{lent-some}
 use Rattle.text_laws.proofs.Outcomes.{given-unless}
 use Rattle.descent_laws.specs.Claims.{ValidLayout}

@@ -17,17 +17,16 @@ use Rattle.model.specs.Refusal.{given, Cause, cause, unless, noSuchPiece}
 use Rattle.model.specs.Calls.{jobCause, layoutLength, outsideCause, someTurnWrong, pairCauses, LentStretch, known, noFitOf, shareCall, depthCall, penaltyCall, noFitCall, layoutCauses, weightedSumCall, plainSumCall}
 use Rattle.model.specs.declared.Direction.{Direction}
 use Rattle.model.specs.declared.Direction.the-variants.{Horizontal}
-use Rattle.model.proofs.Tests.{and-left, and-right, or-neither, same-tests}
+use Rattle.list_laws.proofs.Tests.{and-left, and-right, or-neither, same-tests}
 use Rattle.job_laws.proofs.Checked.{lent-few, lent-turned-small}
 use Rattle.text_laws.specs.Outcomes.{NoCause}
 use Rattle.text_laws.proofs.Outcomes.{given-unless}
-use Rattle.overlap_laws.specs.Overlap.{SharedPixel, LeastShift, PenaltyLaws}
+use Rattle.overlap_laws.specs.Overlap.{SharedPixel}
 use Rattle.overlap_laws.proofs.Share.{share-symmetric}
 use Rattle.overlap_laws.proofs.Depth.{depth-symmetric}
 use Rattle.overlap_laws.proofs.Penalty.{penalty-symmetric, demand2-penalty}
 use Rattle.overlap_laws.specs.NoFit.{NoFitLine}
-use Rattle.descent_laws.specs.Claims.{ValidLayout, ValidWeights, NoSharedPixel}
-use Rattle.overlap_laws.specs.PixelDepth.{DepthOverPixels, PenaltyOverPixels}
+use Rattle.descent_laws.specs.Claims.{ValidLayout, ValidWeights}
 use Rattle.descent_laws.proofs.Sums.{zero-exactly}
 use Rattle.descent_laws.proofs.Guided.{unit-valid}
 use Rattle.descent_laws.proofs.Bounds.{weighted-at-most}

@@ -2,18 +2,15 @@
 -- "writes nothing". The outcome of every call but the two that read a text is `unless` of its causes in order, so that what is shown
 -- here holds of each of them (Clauses says it call by call); the two readers refuse a line of wrong form with 1 and take the line's
 -- other causes so. Assumes nothing.
-use mathlib.Core.Bool.{Bool, true, false, _||_}
+use mathlib.Core.Bool.{Bool, true, false}
 use mathlib.Core.List.{List, [], _∷_, _++_}
 use mathlib.Core.Logic.{_↔_, _≢_}
 use mathlib.Core.Path.{_≡_, refl, ap, subst, _∙_}
-use Prim.Native.Nat.{ℕ, _<_, _≤_}
+use Prim.Native.Nat.{ℕ}
 use native.Mathlib.Omega.{arith}
-use borrow.Author.Tests.{ltb-true}
-use lib.Dec.{ltb}
 use Rattle.model.specs.Refusal.{Outcome, refused, given, Cause, unless, refusalOf}
 use Rattle.model.specs.Calls.{leaving}
 use Rattle.model.specs.declared.Refusal.{Refusal}
-use Rattle.model.proofs.Tests.{fails}
 use Rattle.text_laws.specs.Outcomes.{NoCause, Unless}
 use Rattle.text_laws.proofs.Outcomes.{unless-given, given-unless}
 use Rattle.call_laws.specs.Clause.{FirstCause}
@@ -93,11 +90,3 @@ refused-numbered [] a r n e = absurd (given-refused e)
 refused-numbered (c ∷ cs) a r n e = numbered-step c cs a r (c .there) (n .0) (refused-numbered cs a r (n .1)) e
 
 -- ── causes that are not there ──
-
--- neither of two tests passes
-pub or-none : {a b : Bool} → a ≡ false → b ≡ false → (a || b) ≡ false
-or-none {a} {b} p q = rw (p, q)
-
--- a number that is at least another is not below it
-pub not-less : {m n : ℕ} → m ≤ n → ltb n m ≡ false
-not-less {m} {n} h = fails (ltb n m) (λ e. let l : n < m = ltb-true n m e in omega arith)

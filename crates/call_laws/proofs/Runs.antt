@@ -8,7 +8,7 @@ use mathlib.Core.Option.{Option, none, some}
 use mathlib.Core.Path.{_≡_, refl, _∙_, ap}
 use Prim.Native.Nat.{ℕ, _<_, _≤_}
 use native.Mathlib.Omega.{arith}
-use borrow.Author.Tests.{eqb-true, eqb-false, eq-eqb}
+use borrow.Author.Tests.{eqb-true, eqb-false, eq-eqb, le-ltb}
 use lib.Dec.{ltb, eqb}
 use lib.ListN.{length}
 use Rattle.model.specs.Piece.{onLine}
@@ -22,7 +22,7 @@ use Rattle.model.specs.Refusal.{given}
 use Rattle.model.specs.Calls.{budgetBound, roundBound, someWeightWrong, bestPlace, searchCall, descentCall, descentAfter, guidedCall, bestAfterRun, weightsAfterRun}
 use Rattle.model.specs.declared.Turn.{Turn}
 use Rattle.model.specs.declared.Line.{Line}
-use Rattle.model.proofs.Tests.{or-neither, passes}
+use Rattle.list_laws.proofs.Tests.{or-neither, passes, or-none}
 use Rattle.job_laws.proofs.Checked.{lent-some}
 use Rattle.text_laws.proofs.Entries.{entries-read-back}
 use Rattle.text_laws.proofs.Outcomes.{given-unless, unless-given}
@@ -30,7 +30,6 @@ use Rattle.descent_laws.specs.Claims.{ValidWeights, ValidLayout, DescentClaims,
 use Rattle.descent_laws.specs.Search.{Found}
 use Rattle.descent_laws.proofs.Search.{Searched, searched, inside-below, below-inside}
 use Rattle.descent_laws.proofs.Demand3.{demand3}
-use Rattle.call_laws.proofs.Refusals.{or-none, not-less}
 use Rattle.call_laws.proofs.Layouts.{BufferPasses, valid-buffer, weights-pass, job-well, layout-valid, lent-weights-valid}
 
 -- ── descent and guided run ──
@@ -97,7 +96,7 @@ module _ (l : Lent) (well : lentWell l ≡ true) (v : Layout) (valid : ValidLayo
           ap not (eq-eqb (length (entriesOf v)) (l .count) (p .size)),
           (
             ap not (eq-eqb (length ws) (length (pairs (l .count))) (weights .onePerPair)),
-            (or-none (weights-pass ws (weights .inRange)) (not-less few), (p .turns, (p .outside, tt))),
+            (or-none (weights-pass ws (weights .inRange)) (le-ltb _ _ few), (p .turns, (p .outside, tt))),
           ),
         ),
       )
@@ -115,7 +114,7 @@ module _ (l : Lent) (well : lentWell l ≡ true) (v : Layout) (valid : ValidLayo
           ap not (eq-eqb (length (entriesOf v)) (l .count) (p .size)),
           (
             ap not (eq-eqb (length ws) (length (pairs (l .count))) (weights .onePerPair)),
-            (or-none (or-none (weights-pass ws (weights .inRange)) (not-less few)) (ap not counted), (p .turns, (p .outside, tt))),
+            (or-none (or-none (weights-pass ws (weights .inRange)) (le-ltb _ _ few)) (ap not counted), (p .turns, (p .outside, tt))),
           ),
         ),
       )

@@ -22,14 +22,14 @@ use Rattle.model.specs.declared.Refusal.{Refusal}
 use Rattle.model.specs.declared.Turn.{Turn}
 use Rattle.model.specs.declared.Direction.{Direction}
 use Rattle.model.specs.declared.Direction.the-variants.{Horizontal, Vertical}
-use Rattle.model.proofs.Tests.{and-left, and-right, and-both, or-neither}
+use Rattle.list_laws.proofs.Equal.{same-numbers, same-entries, same-numbers-exactly, same-entries-exactly}
+use Rattle.list_laws.proofs.Tests.{and-left, and-right, and-both, or-neither, or-none}
 use Rattle.job_laws.proofs.Checked.{lent-side-in-range}
 use Rattle.text_laws.proofs.Outcomes.{given-unless, unless-given}
 use Rattle.call_laws.specs.Stores.{StretchClaims}
-use Rattle.call_laws.proofs.Lists.{same-numbers, same-entries, same-numbers-exactly, same-entries-exactly}
 use Rattle.call_laws.proofs.Jobs.{lent-strips-some, lent-tight}
 use Rattle.call_laws.proofs.Layouts.{job-well}
-use Rattle.call_laws.proofs.Refusals.{refused-numbered, or-none}
+use Rattle.call_laws.proofs.Refusals.{refused-numbered}
 use Rattle.call_laws.specs.Rebuilding.{RebuiltAs}
 use Rattle.call_laws.proofs.Rebuilding.{rebuilt-back}
 

@@ -18,8 +18,8 @@ use Rattle.model.specs.Lent.{pieceBound}
 use Rattle.model.specs.Cover.{Sheet, blank, laidAt, entryIn, pixelAt, coversPixel, fresh}
 use Rattle.model.specs.Cover.{Call, laying, withdrawing, afterCalls, laidCount, lastTaken}
 use Rattle.model.specs.declared.Entry.{Entry}
-use Rattle.model.proofs.Tests.{clash}
-use Rattle.model.proofs.Sums.{sum-agree}
+use Rattle.list_laws.proofs.Sums.{sum-agree}
+use Rattle.list_laws.proofs.Tests.{clash}
 use Rattle.cover_laws.specs.CoverClaims.{laidPieces, liesOn, lyingPieces, LaidPiece, CoverHolds}
 use Rattle.cover_laws.proofs.Counts.{LaidWell, reached-sound}
 use Rattle.cover_laws.proofs.Last.{entryAfter, LaidBy, entry-laid, last-names, reached-entry, reached-laid, reached-blank}

@@ -25,12 +25,13 @@ use Rattle.model.specs.declared.End.the-variants.{Spent}
 use Rattle.model.specs.declared.Line.{Line}
 use Rattle.model.specs.declared.Line.the-variants.{InRow, InColumn}
 use Rattle.model.specs.declared.Placement.{Placement}
+use Rattle.list_laws.proofs.Lists.{member-at}
 use Rattle.descent_laws.specs.Claims.{ValidWeights, ValidLayout, Rival, DescentClaims}
 use Rattle.descent_laws.proofs.Sums.{placed-anew, zero-exactly}
 use Rattle.descent_laws.specs.Search.{Found}
 use Rattle.descent_laws.proofs.Search.{Searched, searched}
 use Rattle.descent_laws.specs.Trials.{trialOf, Proper}
-use Rattle.descent_laws.proofs.Trials.{position, at-mem, trial-mem, mem-trial}
+use Rattle.descent_laws.proofs.Trials.{position, trial-mem, mem-trial}
 use Rattle.descent_laws.proofs.Run.{impossible, trialAt, Ran, ran}
 
 -- ── layouts ──
@@ -203,7 +204,7 @@ descent-ran : (j : Job) (ws : List ℕ) (budget : ℕ) (v : Layout) → 0 < j .c
 unfolding descend
 descent-ran j ws budget v l h =
     ran (weightedSum j ws) (attempt j ws) (trials j) (ValidLayout j) (Quiet j ws) (some-trial j v l h)
-    (λ u w m b g e. attempt-moved j ws u w (trialAt (trials j) m) (mem-trial j _ (at-mem noTrial (trials j) m b)) g e)
+    (λ u w m b g e. attempt-moved j ws u w (trialAt (trials j) m) (mem-trial j _ (member-at (trials j) m noTrial b)) g e)
     (λ u m b g e. attempt-quiet j ws u (trialAt (trials j) m) e) v budget h
 
 -- demand 3's claims hold of a descent

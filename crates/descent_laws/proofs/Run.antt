@@ -72,7 +72,7 @@ after-at count next h true e = ltb-true _ _ e
 after-at count next h false e = h
 
 -- the trial after one of the list is one of the list
-after-there : (count next : ℕ) → 0 < count → after count next < count
+pub after-there : (count next : ℕ) → 0 < count → after count next < count
 after-there count next h = after-at count next h _ refl
 
 -- ── a run ──

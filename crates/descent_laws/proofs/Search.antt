@@ -16,7 +16,7 @@ use Rattle.model.specs.Search.{Best, places, sumAt, least, searchLine}
 use Rattle.model.specs.declared.Turn.{Turn}
 use Rattle.model.specs.declared.Line.{Line}
 use Rattle.model.specs.declared.Line.the-variants.{InRow, InColumn}
-use Rattle.model.proofs.Tests.{and-left, and-right, and-both}
+use Rattle.list_laws.proofs.Tests.{and-left, and-right, and-both}
 use Rattle.descent_laws.specs.Search.{Found}
 
 -- ── the inside corners on a line ──

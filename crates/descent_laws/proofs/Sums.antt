@@ -16,7 +16,7 @@ use Rattle.model.specs.Piece.{corner}
 use Rattle.model.specs.Overlap.{penalty}
 use Rattle.model.specs.Layout.{Job, Layout, Pair, turnedPiece, origin, pairs, pairsWith, pairsFrom, pairPenalty, names, sumOver, weightedSum, pieceSum}
 use Rattle.model.specs.declared.Placement.{Placement}
-use Rattle.model.proofs.Tests.{or-neither, clash, fails}
+use Rattle.list_laws.proofs.Tests.{or-neither, clash, fails}
 use Rattle.overlap_laws.proofs.Share.{share-from, share-witness}
 use Rattle.overlap_laws.proofs.Penalty.{zero-penalty, penalty-zero}
 use Rattle.descent_laws.specs.Sums.{Ordered}

@@ -2,7 +2,7 @@
 use mathlib.Core.Bool.{Bool, true, false, not, _||_}
 use mathlib.Core.List.{List, [], _∷_, _++_}
 use mathlib.Core.Path.{_≡_, refl, sym, _∙_, ap, subst}
-use Prim.Native.Nat.{ℕ, zero, suc, _+_, _*_, _≤_, _<_}
+use Prim.Native.Nat.{ℕ, zero, suc, _+_, _*_, _<_}
 use native.Mathlib.Nat.{add-zero, mul-comm}
 use native.Mathlib.Omega.{arith}
 use lib.Dec.{ltb, eqb}
@@ -15,10 +15,10 @@ use Rattle.model.specs.Text.{andThen, causeIn}
 use Rattle.model.specs.JobText.{JobLine, PieceLine, pixelMark, Rows, rowsAt, boxShape, PieceText, rowsCauses, asPieceText, pieceLine, pieceAt, Pieces, withPiece, noPieces, piecesAt, asLent, bufferCauses, jobLine, readJob}
 use Rattle.model.specs.declared.Refusal.{Refusal}
 use borrow.Author.Tests.{eq-eqb, ne-eqb}
+use Rattle.list_laws.proofs.Stores.{sets-append}
 use Rattle.text_laws.specs.Outcomes.{Unless}
 use Rattle.text_laws.proofs.Outcomes.{refused-given, given-before, given-unless}
 use Rattle.text_laws.proofs.Store.{tight-agree}
-use Rattle.text_fields.proofs.Stores.{sets-append}
 use Rattle.job_check.specs.Boxes.{boxIn}
 use Rattle.job_lines.specs.Lines.{refusalAt, headOf, jobLineOf, jobAnswer, pieceOf, pieceLineOf, pieceAnswer}
 use Rattle.job_rows.specs.Stores.{rowsAnswer, RowsStored}
@@ -282,11 +282,6 @@ pieces-count text j (suc left) i area p line x e =
     rw (← z) (ap suc n)
 
 -- ── the room ──
-
--- a part with no element in front
-pub no-prefix : {A : Type 0} (l t : List A) → length l ≡ 0 → l ++ t ≡ t
-no-prefix [] t e = refl
-no-prefix (x ∷ l) t e = absurd (omega arith)
 
 module _ (text : List ℕ) (j : JobLine) (tableLength pixelsLength : ℕ) where
   -- the rest of reading behind the pieces

@@ -3,9 +3,8 @@ use mathlib.Core.Bool.{true}
 use mathlib.Core.Path.{_≡_}
 use Prim.Native.Nat.{ℕ, _*_, _≤_}
 use native.Mathlib.Nat.{mul-le-mul}
-use Rattle.model.specs.Lent.{pieceBound, rowBound, columnBound, turnsBound}
-use Rattle.job_laws.proofs.Ranges.{up-to, number-facts, side-facts}
-use Rattle.text_laws.specs.Limits.{sidesInRange}
+use Rattle.model.specs.Lent.{pieceBound, rowBound, columnBound}
+use Rattle.job_laws.proofs.Ranges.{up-to, number-facts}
 use Rattle.job_limits.specs.Ranges.{numbersInRange}
 
 -- at most 64 pieces in range
@@ -17,7 +16,3 @@ pub sheet-small : (rows columns count : ℕ) → numbersInRange rows columns cou
 sheet-small rows columns count e =
     let f = number-facts rows columns count e in
     mul-le-mul (up-to rowBound rows (f .rows)) (up-to columnBound columns (f .columns))
-
--- the sum of turns in range
-pub few-turns : (l w o : ℕ) → sidesInRange l w o ≡ true → o ≤ turnsBound
-few-turns l w o e = side-facts l w o e .few

@@ -13,10 +13,10 @@ use borrow.Author.Tests.{eqb-true, eqb-false}
 use Rattle.model.specs.Refusal.{Outcome, refused, given, wrongForm}
 use Rattle.model.specs.Text.{byte, Reading, wrong, got, onward, after, standsAt, lineEnd, formed, andThen}
 use Rattle.model.specs.JobText.{rowWord, pixelMark, emptyMark, markAt, marksAt, rowAt, Rows, rowsAt}
-use Rattle.model.proofs.Tests.{decided, clash}
+use Rattle.list_laws.proofs.Stores.{sets-append}
+use Rattle.list_laws.proofs.Tests.{decided, clash}
 use Rattle.text_laws.proofs.Outcomes.{wrong-got, refused-given, Onward, got-onward, got-after, given-formed, given-before}
 use Rattle.text_fields.proofs.Steps.{byte-inside, after-not, after-word, one-not, one-stands}
-use Rattle.text_fields.proofs.Stores.{sets-append}
 use Rattle.job_lines.specs.Lines.{refusalAt}
 use Rattle.job_rows.specs.Stores.{markBit, Stored, rowsAnswer, RowsStored}
 use Rattle.job_rows.specs.declared.RowsAnswer.the-variants as rows

@@ -16,7 +16,7 @@ use Rattle.model.specs.Text.{causeIn, andThen}
 use Rattle.model.specs.LayoutText.{placementLine, placementsAt}
 use Rattle.model.specs.declared.Placement.{Placement}
 use Rattle.model.specs.declared.Refusal.{Refusal}
-use Rattle.text_fields.proofs.Stores.{sets-append}
+use Rattle.list_laws.proofs.Stores.{sets-append}
 
 -- what is given is one thing
 pub given-same : {A : Type 0} {a b : A} → given a ≡ given b → a ≡ b

@@ -16,7 +16,7 @@ use Rattle.model.specs.Lent.{Lent, jobOf, lentWell, upTo}
 use Rattle.model.specs.Guided.{weightBound}
 use Rattle.model.specs.Buffer.{layoutOf}
 use Rattle.model.specs.Calls.{someWeightWrong, someOutside, layoutCauses, sharedCause}
-use Rattle.model.proofs.Bounded.{any-none}
+use Rattle.list_laws.proofs.Bounded.{any-none}
 use Rattle.text_laws.specs.Outcomes.{NoCause}
 use Rattle.layout_places.proofs.Causes.{sound}
 use Rattle.search_shapes.specs.Shapes.{Room}

@@ -15,8 +15,8 @@ use Rattle.model.specs.Piece.{Point, Shape, shift, extent}
 use Rattle.model.specs.Overlap.{share, apartAt, reach, depth}
 use Rattle.model.specs.declared.Direction.{Direction}
 use Rattle.model.specs.declared.Direction.the-variants.{Horizontal, Vertical}
-use Rattle.model.proofs.Bounded.{First, first-from}
-use Rattle.model.proofs.Tests.{or-cases, or-left, or-right, or-neither, passes, clash}
+use Rattle.list_laws.proofs.Tests.{or-cases, or-left, or-right, or-neither, passes, clash}
+use Rattle.list_laws.proofs.Bounded.{First, first-from}
 use Rattle.overlap_laws.specs.Overlap.{sharesShifted, PartingShift, LeastShift, SharedPixel}
 use Rattle.overlap_laws.proofs.Share.{SameDifference, SamePixels, share-pixels, share-witness, share-symmetric, share-difference, shared-along, pixel-along, along-shift, shift-zero}
 

@@ -15,8 +15,9 @@ use Rattle.model.specs.Piece.{Point, Shape, pixel, along, across, point, extent
 use Rattle.model.specs.Strip.{Run, runs}
 use Rattle.model.specs.Overlap.{share, noFit, noFitAt, offsetBound, up, down, OffsetRun, unbiased}
 use Rattle.model.specs.declared.Direction.{Direction}
-use Rattle.model.proofs.Tests.{clash}
-use Rattle.strip_laws.proofs.Lists.{Source, map-source, map-member, pairwise-map}
+use Rattle.list_laws.proofs.Lists.{Source, map-source, map-member}
+use Rattle.list_laws.proofs.Tests.{clash}
+use Rattle.strip_laws.proofs.Lists.{pairwise-map}
 use Rattle.strip_laws.proofs.Runs.{MaximalRun, InRuns, RunBefore, runs-exactly, runs-maximal, runs-ascending}
 use Rattle.overlap_laws.specs.NoFit.{PixelOffset, InOffsetRuns, MaximalOffsetRun, OffsetRunBefore, NoFitLine}
 use Rattle.overlap_laws.specs.Overlap.{SharedPixel}

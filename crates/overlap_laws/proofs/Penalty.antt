@@ -7,16 +7,14 @@ use mathlib.Core.Logic.{_⊎_, inl, inr, ⊎-elim, _↔_, Iff·trans}
 use Prim.Native.Nat.{ℕ, _≤_, min}
 use native.Mathlib.Nat.{min-le-left, min-le-right, eq-or-lt-of-le}
 use native.Mathlib.Omega.{arith}
-use lib.IntN.{ℤ, pos}
 use Rattle.model.specs.Piece.{Point, Shape, extent}
 use Rattle.model.specs.Overlap.{share, depth, penalty}
 use Rattle.model.specs.declared.Direction.{Direction}
 use Rattle.model.specs.declared.Direction.the-variants.{Horizontal, Vertical}
-use Rattle.model.proofs.Tests.{clash, fails}
-use Rattle.overlap_laws.specs.Overlap.{PenaltyLaws, SharedPixel, LeastShift, sharesShifted}
+use Rattle.list_laws.proofs.Tests.{clash, fails}
+use Rattle.overlap_laws.specs.Overlap.{PenaltyLaws, SharedPixel}
 use Rattle.overlap_laws.proofs.Share.{SameDifference, SamePixels, share-exactly, share-from, share-witness}
 use Rattle.overlap_laws.proofs.Depth.{depth-exactly, depth-zero, zero-depth, depth-symmetric, depth-difference, depth-pixels, depth-bound}
-use Rattle.overlap_laws.specs.PixelDepth.{SharesAtShift, DepthOverPixels, PenaltyOverPixels}
 use Rattle.overlap_laws.proofs.PixelDepth.{shares-at-shift, shares-unshifted, depth-over-pixels, over-pixels-depth, penalty-over-pixels, over-pixels-penalty}
 
 -- the smaller of two numbers is one of them

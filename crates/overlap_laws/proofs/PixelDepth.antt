@@ -11,7 +11,7 @@ use Rattle.model.specs.Piece.{Point, Shape, along, across, shift}
 use Rattle.model.specs.Overlap.{share, depth, penalty, up, down}
 use Rattle.model.specs.declared.Direction.{Direction}
 use Rattle.model.specs.declared.Direction.the-variants.{Horizontal, Vertical}
-use Rattle.model.proofs.Tests.{clash, fails, passes}
+use Rattle.list_laws.proofs.Tests.{clash, fails, passes}
 use Rattle.overlap_laws.specs.PixelDepth.{SharesAtShift, DepthOverPixels, PenaltyOverPixels}
 use Rattle.overlap_laws.proofs.Share.{along-shift, across-shift, shift-zero}
 use Rattle.overlap_laws.proofs.Whole.{whole-eq, sub-whole, add-signed}

@@ -10,13 +10,13 @@ use native.Mathlib.Nat.{add-zero}
 use native.Mathlib.Omega.{arith}
 use lib.Dec.{leb, ltb}
 use borrow.Author.Tests.{ltb-true, leb-true, lt-ltb, le-leb}
+use Rattle.list_laws.proofs.Tests.{and-left, and-right, and-both, same-tests}
+use Rattle.list_laws.proofs.Bounded.{any-witness, any-from}
 pub use Rattle.strip_laws.proofs.Boxes.{along-point, across-point}
 use Rattle.model.specs.Piece.{Point, Shape, pixel, covers, along, across, shift, extent}
 use Rattle.model.specs.Overlap.{share}
 use Rattle.model.specs.declared.Direction.{Direction}
 use Rattle.model.specs.declared.Direction.the-variants.{Horizontal, Vertical}
-use Rattle.model.proofs.Bounded.{any-witness, any-from}
-use Rattle.model.proofs.Tests.{and-left, and-right, and-both, same-tests}
 use Rattle.overlap_laws.specs.Overlap.{SharedPixel}
 
 -- ── a pixel of a shape ──

@@ -1,7 +1,7 @@
 -- The strips of two pieces of a job in a local store: they are few enough to fit it, and each piece's part of it is its stretch, which
 -- the functions over strips can take. Assumes nothing.
 use mathlib.Core.List.{List, map, _++_, append-assoc}
-use mathlib.Core.Path.{_≡_, refl, sym, subst, ap, _∙_}
+use mathlib.Core.Path.{_≡_, sym, subst, ap, _∙_}
 use Prim.Native.Nat.{ℕ, _+_, _*_, _-_, _<_, _≤_}
 use native.Mathlib.Omega.{arith}
 use lib.ListN.{length, take, drop, length-map}
@@ -16,8 +16,9 @@ use Rattle.model.specs.declared.Placement.{Placement}
 use Rattle.model.specs.declared.Turn.{Turn}
 use Rattle.model.specs.declared.Direction.{Direction}
 use Rattle.model.specs.declared.Direction.the-variants.{Horizontal, Vertical}
+use Rattle.job_laws.specs.Entries.{EntryAt}
 use Rattle.job_laws.proofs.Turned.{turned-extent}
-use Rattle.strip_scan.specs.Put.{Appended, EntryAt}
+use Rattle.strip_scan.specs.Put.{Appended}
 use Rattle.pair_overlap.specs.Meet.{Ordered, Near, depthBelow}
 use Rattle.pair_overlap.specs.declared.Corner.{Corner}
 use Rattle.pair_overlap.specs.Seen.{entries, seen}

@@ -4,7 +4,7 @@ use mathlib.Core.List.{List}
 use Prim.Native.Nat.{ℕ, _+_, _<_, _≤_}
 use Rattle.model.specs.Lent.{pixelStart, entryArea, areaBound}
 use Rattle.model.specs.declared.Placement.{Placement}
-use Rattle.strip_scan.specs.Put.{EntryAt}
+use Rattle.job_laws.specs.Entries.{EntryAt}
 
 pub record Ready (table : List (List ℕ)) (i : ℕ) (p : Placement) : Type 0 where
   pub entry : EntryAt table i (pixelStart table i)

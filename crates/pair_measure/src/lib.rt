@@ -16,7 +16,8 @@ ghost use Rattle.model.specs.Overlap.{depth, penalty};
 ghost use Rattle.model.specs.Layout.{turnedPiece};
 ghost use Rattle.model.specs.Lent.{lentBy, jobOf, pixelStart};
 ghost use Rattle.model.specs.declared.JobSize.{JobSize};
-ghost use Rattle.strip_scan.specs.Put.{Appended, EntryAt};
+ghost use Rattle.job_laws.specs.Entries.{EntryAt};
+ghost use Rattle.strip_scan.specs.Put.{Appended};
 ghost use Rattle.pair_overlap.specs.Seen.{seen};
 ghost use Rattle.pair_measure.specs.Ready.{Ready, Together, pairRoom};
 

@@ -8,17 +8,16 @@ use native.Mathlib.Nat.{le-trans, le-antisymm}
 use native.Mathlib.Numerals.{add-one}
 use native.Mathlib.Omega.{arith}
 use lib.Dec.{ltb}
-use lib.ListN.{length, getD, set, replicate, drop, length-set, length-append, length-drop, List·getD-eq-default, getD-replicate, length-replicate}
+use lib.ListN.{length, getD, set, replicate, drop, length-set, length-append, length-drop, getD-replicate, length-replicate}
 use lib.Seq.{getD-set-same, getD-set-other, set-out, drop-length}
 use borrow.Author.Tests.{ltb-true, ltb-false}
 use Rattle.model.specs.Bounded.{one-if}
 use Rattle.model.specs.Strip.{Strip}
-use Rattle.model.proofs.Tests.{clash}
+use Rattle.list_laws.proofs.Numbers.{below-or}
 use Rattle.pair_overlap.specs.Meet.{stripAt, begin, Ordered, shifted, meet}
 use Rattle.pair_overlap.specs.declared.Corner.{Corner}
-use Rattle.pair_overlap.proofs.Firsts.{below-or}
 use Rattle.pair_overlap.proofs.Walk.{Meeting, meet-facts, facts-meet, meet-share}
-use Rattle.pair_nofit.specs.Marks.{sharesAt, Reached, Sound, Grown, Kept, LineMarked, LineStart, PlacedAt, keptAt, farthest}
+use Rattle.pair_nofit.specs.Marks.{Reached, Sound, Grown, Kept, LineMarked, LineStart, PlacedAt, keptAt, farthest}
 use Rattle.pair_nofit.specs.declared.Placed.{Placed}
 
 -- ── one interval ──

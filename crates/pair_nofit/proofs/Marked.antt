@@ -4,8 +4,8 @@ use mathlib.Core.Bool.{Bool, true}
 use mathlib.Core.List.{List}
 use mathlib.Core.Path.{_≡_, refl, sym, ap, ap₂, _∙_}
 use mathlib.Core.Logic.{_⊎_, ⊎-elim}
-use Prim.Native.Nat.{ℕ, zero, suc, _+_, max, _<_, _≤_}
-use native.Mathlib.Nat.{add-zero, add-suc}
+use Prim.Native.Nat.{ℕ, zero, suc, _+_, _<_, _≤_}
+use native.Mathlib.Nat.{add-zero}
 use native.Mathlib.Omega.{arith}
 use lib.Dec.{ltb}
 use lib.IntN.{ℤ}
@@ -14,14 +14,14 @@ use lib.Seq.{ext-getD}
 use borrow.Author.Tests.{ltb-true, lt-ltb}
 use Rattle.model.specs.Bounded.{one-if}
 use Rattle.model.specs.Piece.{Shape, point}
-use Rattle.model.specs.Overlap.{share, noFitAt, offsetBound, up, down}
+use Rattle.model.specs.Overlap.{noFitAt, offsetBound, up, down}
 use Rattle.model.specs.declared.Direction.{Direction}
-use Rattle.model.proofs.Tests.{same-tests}
+use Rattle.list_laws.proofs.Numbers.{below-or}
+use Rattle.list_laws.proofs.Tests.{same-tests}
 use Rattle.overlap_laws.proofs.Share.{along-point, across-point}
 use Rattle.pair_overlap.specs.Meet.{shifted, stretchesShare}
 use Rattle.pair_overlap.specs.declared.Corner.{Corner}
 use Rattle.pair_overlap.proofs.Walk.{StripsMeet, share-meet}
-use Rattle.pair_overlap.proofs.Firsts.{below-or}
 use Rattle.pair_overlap.specs.Seen.{entries, seen}
 use Rattle.pair_overlap.proofs.Shapes.{entries-share}
 use Rattle.pair_nofit.specs.Marks.{flagsFrom, sharesAt, marksOf, Reached, AllMarked, Swept, farthest}

@@ -19,8 +19,8 @@ ghost use Rattle.model.specs.Overlap.{up, down, offsetBound};
 ghost use Rattle.model.specs.Lent.{lentBy, jobOf, pixelStart};
 ghost use Rattle.model.specs.Calls.{known, stretchWell, noFitCall, runsAfter};
 ghost use Rattle.model.specs.declared.JobSize.{JobSize};
+ghost use Rattle.job_laws.specs.Entries.{EntryAt};
 ghost use Rattle.pair_overlap.specs.Meet.{Ordered};
-ghost use Rattle.strip_scan.specs.Put.{EntryAt};
 ghost use Rattle.layout_places.specs.Answers.{firstCause};
 ghost use Rattle.pair_nofit_calls.specs.Lines.{marked, Put, lineOutcome, lineAfter, runsAnswer, lentStretch, stretchCauses};
 

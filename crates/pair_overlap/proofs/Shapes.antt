@@ -11,25 +11,25 @@ use native.Mathlib.Nat.{not-suc-le-zero, le-of-suc-le-suc, eq-or-lt-of-le}
 use native.Mathlib.Omega.{arith}
 use lib.ListN.{length, getD}
 use Rattle.model.specs.Bounded.{firstFrom}
-use Rattle.model.specs.Piece.{Point, Shape, pixel, along, across, point, shift, extent}
-use Rattle.model.specs.Strip.{Strip, strips, stripsHave}
+use Rattle.model.specs.Piece.{Point, Shape, along, across, point, shift, extent}
+use Rattle.model.specs.Strip.{Strip, strips}
 use Rattle.model.specs.Buffer.{stripEntry}
 use Rattle.model.specs.Overlap.{share, apartAt, depth, penalty}
 use Rattle.model.specs.declared.Direction.{Direction}
 use Rattle.model.specs.declared.Direction.the-variants.{Horizontal, Vertical}
-use Rattle.model.proofs.Tests.{or-left, or-right, same-tests}
-use Rattle.strip_laws.specs.Lists.{Pairwise}
-use Rattle.strip_laws.proofs.Lists.{member-at, pairwise-at}
+use Rattle.list_laws.proofs.Firsts.{FirstBelow, first-found, first-unique}
+use Rattle.list_laws.proofs.Numbers.{below-or}
+use Rattle.list_laws.proofs.Lists.{member-at}
+use Rattle.list_laws.proofs.Tests.{or-left, or-right, same-tests}
+use Rattle.strip_laws.proofs.Lists.{pairwise-at}
 use Rattle.strip_laws.specs.Strips.{MaximalStrip, StripBefore}
 use Rattle.strip_laws.proofs.Strips.{InStrips, have-in, strips-exactly, strips-maximal, strips-ordered}
 use Rattle.overlap_laws.specs.Overlap.{SharedPixel}
 use Rattle.overlap_laws.proofs.Share.{share-witness, share-from, share-symmetric, shared-along, shared-across, shared-over, along-point, across-point, along-shift, across-shift}
-use Rattle.overlap_laws.proofs.Depth.{depth-before, depth-apart, apart-cases}
-use Rattle.pair_overlap.specs.Meet.{stripAt, begin, Ordered, crossed, shifted, meet, stretchesShare, clearAt, clearBelow, depthBelow, penaltyBelow}
+use Rattle.overlap_laws.proofs.Depth.{depth-before, depth-apart}
+use Rattle.pair_overlap.specs.Meet.{stripAt, begin, Ordered, shifted, meet, stretchesShare, clearAt, clearBelow, depthBelow, penaltyBelow}
 pub use Rattle.pair_overlap.specs.Seen.{entries, seen}
-use Rattle.pair_overlap.specs.declared.Corner.{Corner}
 use Rattle.pair_overlap.proofs.Walk.{Meeting, meet-facts, facts-meet, meet-share, StripsMeet, share-meet}
-use Rattle.pair_overlap.proofs.Firsts.{below-or, FirstBelow, first-found, first-unique}
 
 -- ── strips by place ──
 

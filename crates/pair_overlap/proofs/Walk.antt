@@ -4,7 +4,7 @@
 -- Assumes nothing.
 use mathlib.Core.Bool.{true, false, not, _&&_}
 use mathlib.Core.List.{List}
-use mathlib.Core.Path.{_≡_, refl, sym, ap, _∙_, subst}
+use mathlib.Core.Path.{_≡_, sym, ap, _∙_, subst}
 use mathlib.Core.Logic.{_⊎_, ⊎-elim}
 use Prim.Native.Nat.{ℕ, _+_, _-_, min, _<_, _≤_}
 use native.Mathlib.Nat.{eq-or-lt-of-le}
@@ -13,11 +13,12 @@ use lib.Dec.{ltb, eqb}
 use lib.ListN.{length}
 use borrow.Author.Tests.{ltb-true, lt-ltb, eqb-true, eq-eqb}
 use Rattle.model.specs.Strip.{Strip}
-use Rattle.model.proofs.Bounded.{any-witness, any-from}
-use Rattle.model.proofs.Tests.{and-left, and-right, and-both, fails}
+use Rattle.list_laws.proofs.Firsts.{first-found, first-unique, first-cut}
+use Rattle.list_laws.proofs.Numbers.{below-or}
+use Rattle.list_laws.proofs.Tests.{and-left, and-right, and-both, fails}
+use Rattle.list_laws.proofs.Bounded.{any-witness, any-from}
 use Rattle.pair_overlap.specs.Meet.{stripAt, begin, Ordered, Crossing, Passed, Skipped, shiftBound, baseOf, shifted, meet, stretchesShare, clearAt, clearBelow, depthBelow}
 use Rattle.pair_overlap.specs.declared.Corner.{Corner}
-use Rattle.pair_overlap.proofs.Firsts.{below-or, first-found, first-unique, first-cut}
 
 -- what it is for two placed strips to hold a common pixel
 pub record Meeting (s : Strip) (u : Corner) (t : Strip) (v : Corner) : Type 0 where

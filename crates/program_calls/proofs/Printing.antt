@@ -14,10 +14,10 @@ use Rattle.model.specs.declared.Refusal.{Refusal}
 use Rattle.model.specs.Buffer.{filled}
 use Rattle.model.specs.Calls.{textAfter}
 use Rattle.model.specs.Program.{printed, programText, programCall}
+use Rattle.list_laws.proofs.Stores.{sets-filled}
 use Rattle.layout_write_calls.specs.Answers.{textAnswer}
 use Rattle.layout_write_calls.specs.Written.{Written}
 use Rattle.layout_write_calls.specs.declared.TextAnswer.{TextAnswer}
-use Rattle.text_fields.proofs.Stores.{sets-filled}
 use Rattle.program_calls.specs.Output.{outputBound}
 
 -- a larger bound

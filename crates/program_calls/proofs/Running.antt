@@ -1,9 +1,8 @@
 -- The program's run as the guided run's call gives it: from the start layout, by weights 1. Assumes nothing.
 use mathlib.Core.Bool.{true}
 use mathlib.Core.List.{List, [], _∷_}
-use mathlib.Core.Path.{_≡_, refl, sym, _∙_, ap}
-use Prim.Native.Nat.{ℕ, zero, suc, _≤_}
-use native.Mathlib.Nat.{not-suc-le-zero, le-of-suc-le-suc}
+use mathlib.Core.Path.{_≡_, sym, _∙_, ap}
+use Prim.Native.Nat.{ℕ, _≤_}
 use native.Mathlib.Omega.{arith}
 use lib.ListN.{length, take, replicate, length-replicate}
 use lib.Seq.{length-take-le}
@@ -17,6 +16,7 @@ use Rattle.model.specs.LayoutText.{layoutText}
 use Rattle.model.specs.Program.{programRounds, programBudget, wordLine, endWord, runText, programRun}
 use Rattle.model.specs.Calls.{guidedCall, bestAfterRun}
 use Rattle.model.specs.declared.Refusal.{Refusal}
+use Rattle.list_laws.proofs.Lists.{take-repeat}
 use Rattle.text_laws.proofs.Entries.{entries-read-back}
 use Rattle.descent_laws.proofs.Bounds.{pairs-at-most}
 use Rattle.call_laws.proofs.Programs.{program-run-given}
@@ -34,12 +34,6 @@ use Rattle.program_calls.proofs.Printing.{written-more}
 -- it is as long as asked
 pub front-length : {A : Type 0} (k n : ℕ) (a : A) → k ≤ n → k ≡ length (take k (replicate n a))
 front-length k n a h = sym (length-take-le k (replicate n a) (rw (length-replicate n a) h))
-
--- it is a repeat
-take-repeat : (k n a : ℕ) → k ≤ n → take k (replicate n a) ≡ replicate k a
-take-repeat zero n a h = refl
-take-repeat (suc k) zero a h = absurd (not-suc-le-zero h)
-take-repeat (suc k) (suc n) a h = ap (λ (r : List ℕ). a ∷ r) (take-repeat k n a (le-of-suc-le-suc h))
 
 -- a job has at most 2,016 pairs
 pub pairs-few : (n k : ℕ) → n ≤ pieceBound → k ≡ length (pairs n) → k ≤ 2016

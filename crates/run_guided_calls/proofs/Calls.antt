@@ -13,7 +13,7 @@ use Rattle.model.specs.Buffer.{layoutOf, entriesOf}
 use Rattle.model.specs.Refusal.{refused, given, unless}
 use Rattle.model.specs.Calls.{budgetBound, roundBound, someWeightWrong, guidedCall}
 use Rattle.model.specs.declared.Refusal.{Refusal}
-use Rattle.model.proofs.Tests.{or-neither}
+use Rattle.list_laws.proofs.Tests.{or-neither}
 use Rattle.job_laws.proofs.Ranges.{up-to}
 use Rattle.text_laws.proofs.Entries.{entries-read-back}
 use Rattle.text_laws.specs.Outcomes.{NoCause}

@@ -18,10 +18,10 @@ use Rattle.model.specs.Layout.{Job, Layout, cornerIn}
 use Rattle.model.specs.Lent.{Lent, jobOf}
 use Rattle.model.specs.declared.Direction.{Direction}
 use Rattle.model.specs.declared.Direction.the-variants.{Horizontal, Vertical}
-use Rattle.model.proofs.Bounded.{any-none}
-use Rattle.model.proofs.Sums.{sum-step}
-use Rattle.model.proofs.Tests.{fails}
-use Rattle.pair_overlap.proofs.Firsts.{below-or}
+use Rattle.list_laws.proofs.Numbers.{below-or}
+use Rattle.list_laws.proofs.Tests.{fails}
+use Rattle.list_laws.proofs.Sums.{sum-step}
+use Rattle.list_laws.proofs.Bounded.{any-none}
 use Rattle.search_laws.specs.BoundedSearch.{Serves}
 use Rattle.search_laws.proofs.BoundedSearch.{serves-skip, serves-stop}
 use Rattle.search_laws.specs.PieceSum.{weightBetween}

@@ -18,7 +18,7 @@ use Rattle.model.specs.declared.Direction.{Direction}
 use Rattle.model.specs.declared.Line.{Line}
 use Rattle.model.specs.declared.Refusal.{Refusal}
 use Rattle.model.specs.declared.Turn.{Turn}
-use Rattle.model.proofs.Tests.{or-left, or-right, or-neither}
+use Rattle.list_laws.proofs.Tests.{or-left, or-right, or-neither}
 use Rattle.job_laws.proofs.Checked.{facts}
 use Rattle.text_laws.specs.Outcomes.{NoCause}
 use Rattle.text_laws.proofs.Outcomes.{unless-given}

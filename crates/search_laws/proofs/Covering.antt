@@ -19,12 +19,12 @@ use Rattle.model.specs.declared.Turn.{Turn}
 use Rattle.model.specs.declared.Direction.{Direction}
 use Rattle.model.specs.declared.Line.{Line}
 use Rattle.model.specs.declared.Line.the-variants.{InRow, InColumn}
-use Rattle.model.proofs.Tests.{clash}
+use Rattle.list_laws.proofs.Sums.{sum-zero, sum-le, term-at-most}
+use Rattle.list_laws.proofs.Tests.{clash}
 use Rattle.overlap_laws.specs.Overlap.{SharedPixel}
 use Rattle.overlap_laws.proofs.Share.{share-witness, shared-along, pixel-along}
 use Rattle.overlap_laws.proofs.Penalty.{zero-penalty, penalty-zero}
 use Rattle.descent_laws.specs.Claims.{ValidWeights}
-use Rattle.model.proofs.Sums.{sum-zero, sum-le, term-at-most}
 use Rattle.search_laws.specs.PieceSum.{weightBetween, penaltyOn}
 use Rattle.search_laws.proofs.PieceSum.{share-agree, weight-positive, sum-at}
 use Rattle.search_laws.specs.BoundedSearch.{belowBound, bestAt}

@@ -2,7 +2,7 @@
 -- much of the budget left. `onward` is what is still to come from there, so what the whole descent gives is always `onward` of
 -- where the loop stands: each pass of the loop is one of the laws below, and its end is another. The list of trials is not made; the
 -- next trial follows from the present one. Assumes nothing.
-use mathlib.Core.Bool.{Bool, true, false}
+use mathlib.Core.Bool.{true, false}
 use mathlib.Core.Path.{_≡_, refl, sym, _∙_, ap}
 use mathlib.Core.Logic.{_≢_}
 use mathlib.Core.List.{List}
@@ -10,8 +10,8 @@ use mathlib.Core.Option.{Option, none, some}
 use Prim.Native.Nat.{ℕ, zero, suc, _+_, _-_, _<_, _≤_}
 use native.Mathlib.Numerals.{add-one}
 use native.Mathlib.Omega.{arith}
-use borrow.Author.Tests.{eq-eqb, ne-eqb, ltb-true}
-use lib.Dec.{ltb, eqb}
+use borrow.Author.Tests.{eq-eqb, ne-eqb}
+use lib.Dec.{eqb}
 use lib.ListN.{length, getD}
 use Rattle.model.specs.Layout.{Job, Layout, allowed, weightedSum, pieceSum}
 use Rattle.model.specs.Piece.{onLine}
@@ -21,6 +21,7 @@ use Rattle.model.specs.declared.Turn.the-variants.{Zero}
 use Rattle.model.specs.declared.Direction.the-variants.{Horizontal}
 use Rattle.model.specs.declared.End.{End}
 use Rattle.model.specs.declared.End.the-variants.{Clear, Settled, Spent}
+use Rattle.descent_laws.proofs.Run.{after-there}
 use Rattle.descent_laws.specs.Trials.{trialOf, Proper}
 use Rattle.descent_laws.proofs.Trials.{Position, position, trial-mem}
 use Rattle.descent_laws.specs.Claims.{ValidLayout}
@@ -152,11 +153,6 @@ module _ (j : Job) (ws : List ℕ) (s : Standing) (positive : weightedSum j ws (
 abbrev standsAt : Job → Progress → Standing
 standsAt j s = standing (s .layout) (s .quietCount) (s .made) (s .moves) (getD (trials j) (s .next) noTrial)
 
--- by the test for the last trial
-after-at : (count next : ℕ) → 0 < count → (b : Bool) → ltb (suc next) count ≡ b → elim b as (λ _. ℕ) [ true ↦ suc next | false ↦ 0 ] < count
-after-at count next h true e = ltb-true _ _ e
-after-at count next h false e = h
-
 module _ (j : Job) (ws : List ℕ) (a : (k : ℕ) → k < j .count → allowed j k Zero ≡ true) where
   -- a trial by number is a trial by the one before it
   passes : (s : Progress) → s .next < length (trials j) → (t : Attempt) → standsAt j (proceed (length (trials j)) s t) ≡ passed j (standsAt j s) t
@@ -165,8 +161,8 @@ module _ (j : Job) (ws : List ℕ) (a : (k : ℕ) → k < j .count → allowed j
 
   -- the number of the next trial is one of the list's
   next-there : (s : Progress) → s .next < length (trials j) → (t : Attempt) → proceed (length (trials j)) s t .next < length (trials j)
-  next-there s l (moved w) = after-at (length (trials j)) (s .next) (omega arith) _ refl
-  next-there s l quiet = after-at (length (trials j)) (s .next) (omega arith) _ refl
+  next-there s l (moved w) = after-there (length (trials j)) (s .next) (omega arith)
+  next-there s l quiet = after-there (length (trials j)) (s .next) (omega arith)
 
   -- from any point on
   from-onward : (left : ℕ) (s : Progress) → s .next < length (trials j)

@@ -11,7 +11,7 @@ use lib.Dec.{ltb}
 use lib.ListN.{length, getD, set, length-set}
 use lib.Seq.{getD-set-same, getD-set-other}
 use Rattle.model.specs.Bounded.{sumBelow, one-if}
-use Rattle.model.proofs.Sums.{sum-step, sum-agree, sum-zero, sum-changed}
+use Rattle.list_laws.proofs.Sums.{sum-step, sum-agree, sum-zero, sum-changed}
 
 -- the sum of the first m entries
 abbrev pub firstSum : List ℕ → ℕ → ℕ

@@ -16,8 +16,8 @@ use Rattle.model.specs.declared.Turn.{Turn}
 use Rattle.model.specs.declared.Turn.the-variants.{Zero, Quarter, Half, ThreeQuarters}
 use Rattle.model.specs.declared.Direction.{Direction}
 use Rattle.model.specs.declared.Direction.the-variants.{Horizontal, Vertical}
+use Rattle.list_laws.proofs.Sums.{sum-first, sum-agree}
 use Rattle.descent_laws.specs.Trials.{trialOf, Proper}
-use Rattle.model.proofs.Sums.{sum-first, sum-agree}
 use Rattle.search_laws.specs.TrialIndex.{pieceStart, inTurn, afterTurn, nextIn, nextTrial}
 
 -- ── the next trial ──

@@ -5,7 +5,7 @@ use Prim.Native.Nat.{ℕ, _+_, _*_, _-_, _<_, _≤_}
 use native.Mathlib.Nat.{mul-le-mul}
 use native.Mathlib.Omega.{arith}
 use lib.ListN.{length, getD, set}
-use Rattle.search_penalties.proofs.Passes.{Passing, pass-none, pass-over, pass-set}
+use Rattle.list_laws.proofs.Passes.{Passing, pass-none, pass-over, pass-set}
 use Rattle.search_laws.specs.BoundedSearch.{belowBound}
 use Rattle.search_laws.proofs.BoundedSearch.{answerOf, answer-begin, answer-lower, answer-keep, answer-some, answer-none, whole-serves}
 use Rattle.search_line_sums.specs.Answers.{foundAnswer}

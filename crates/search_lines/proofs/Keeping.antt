@@ -2,9 +2,8 @@
 use mathlib.Core.List.{List}
 use mathlib.Core.Logic.{⊎-elim}
 use mathlib.Core.Path.{_≡_, sym, ap, _∙_}
-use Prim.Native.Nat.{ℕ, suc, _+_, _*_, _<_, _≤_}
+use Prim.Native.Nat.{ℕ, _+_, _*_, _<_, _≤_}
 use native.Mathlib.Decide.{ℕ-discrete}
-use native.Mathlib.Nat.{mul-le-mul-right, suc-mul}
 use native.Mathlib.Omega.{arith}
 use lib.ListN.{length, getD, set, length-set}
 use lib.Seq.{getD-set-same, getD-set-other}
@@ -13,8 +12,8 @@ use Rattle.model.specs.Lent.{lentBy, jobOf, pieceBound, entryColumns, entryRows
 use Rattle.model.specs.declared.Direction.{Direction}
 use Rattle.model.specs.declared.JobSize.{JobSize}
 use Rattle.model.specs.declared.Turn.{Turn}
+use Rattle.list_laws.proofs.Numbers.{slot-before, below-or}
 use Rattle.job_laws.proofs.Turned.{turned-extent}
-use Rattle.strip_laws.proofs.Runs.{below-or-not}
 use Rattle.search_shapes.specs.Shapes.{numberedShape, shapeNumber}
 use Rattle.search_shapes.proofs.Numbers.{turn-below, number-back}
 use Rattle.search_lines.specs.Kept.{keyOf, HoldsLine, Kept, Wide}
@@ -27,10 +26,6 @@ pub same-shape : (j : Job) (i k : ℕ) (t u : Turn) → shapeNumber i t ≡ shap
 same-shape j i k t u e = sym (number-back j i t) ∙ ap (numberedShape j) e ∙ number-back j k u
 
 -- ── the store ──
-
--- a slot ends before a later one begins
-slot-before : (m n width : ℕ) → m < n → m * width + width ≤ n * width
-slot-before m n width l = let h : suc m * width ≤ n * width = mul-le-mul-right width l in omega (arith, suc-mul m width)
 
 module _ (d : Direction) (j : Job) (width : ℕ) where
   -- a store with no tag keeps no line
@@ -78,7 +73,7 @@ module _ (d : Direction) (j : Job) (width : ℕ) where
             let b = slot-before m n width (omega arith) in
             let w = wide i k t u d first second in
             made .after (n * width + c) (omega arith))
-            (below-or-not n m)
+            (below-or n m)
 
         -- the store with the slot made anew
         pub renewed : Kept d j width new (set tags m key)
@@ -132,7 +127,7 @@ covered-more table side n more w up c r =
         ⊎-elim
         (λ (h : i < n). let b = before i h in omega arith)
         (λ (h : n ≤ i). let e : i ≡ n = omega arith in rw e last)
-        (below-or-not i n)
+        (below-or i n)
 
 -- twice the number is wide enough for a job of these entries
 pub covered-wide : (size : JobSize) (table : List (List ℕ)) (pixels : List ℕ) (side n : ℕ) → size .count ≤ n → Covered table side n

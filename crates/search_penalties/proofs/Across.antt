@@ -2,15 +2,16 @@
 -- Assumes nothing.
 use mathlib.Core.Bool.{Bool, true, false, not, _||_}
 use mathlib.Core.List.{List}
-use mathlib.Core.Path.{_≡_, refl, sym, ap, ap₂, _∙_, subst}
-use mathlib.Core.Logic.{_⊎_, inl, inr, ⊎-elim}
-use Prim.Native.Nat.{ℕ, zero, suc, _+_, min, _<_, _≤_}
-use native.Mathlib.Nat.{le-antisymm, eq-or-lt-of-le}
+use mathlib.Core.Path.{_≡_, refl, ap, ap₂, _∙_, subst}
+use mathlib.Core.Logic.{_⊎_, ⊎-elim}
+use Prim.Native.Nat.{ℕ, _+_, min, _<_, _≤_}
+use native.Mathlib.Nat.{eq-or-lt-of-le}
 use native.Mathlib.Omega.{arith, by-contra}
 use lib.ListN.{length, getD}
 use Rattle.model.specs.Bounded.{firstFrom}
-use Rattle.model.proofs.Tests.{clash}
-use Rattle.pair_overlap.proofs.Firsts.{below-or, FirstBelow, first-found}
+use Rattle.list_laws.proofs.Firsts.{FirstBelow, first-found}
+use Rattle.list_laws.proofs.Numbers.{below-or}
+use Rattle.list_laws.proofs.Tests.{clash}
 use Rattle.search_penalties.specs.declared.Pair.{Pair}
 use Rattle.search_penalties.specs.Line.{takenAt, raised, sunk, apartAcross, acrossBelow, Grounded, Lowered, Levelled}
 

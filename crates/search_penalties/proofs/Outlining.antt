@@ -2,20 +2,20 @@
 -- meets one of its strips wherever it lies between their ends. Assumes nothing.
 use mathlib.Core.Bool.{true}
 use mathlib.Core.List.{List, []}
-use mathlib.Core.Path.{_≡_, refl, sym, ap, _∙_, subst}
+use mathlib.Core.Path.{_≡_, sym, ap, _∙_, subst}
 use mathlib.Core.Logic.{⊎-elim}
-use Prim.Native.Nat.{ℕ, zero, _+_, _-_, max, _<_, _≤_}
+use Prim.Native.Nat.{ℕ, _+_, _-_, max, _<_, _≤_}
 use native.Mathlib.Nat.{eq-or-lt-of-le}
 use native.Mathlib.Omega.{arith}
 use lib.ListN.{length, getD, set, length-set, replicate, length-replicate, getD-replicate}
 use lib.Seq.{getD-set-same, getD-set-other}
+use Rattle.list_laws.proofs.Numbers.{below-or}
 use Rattle.pair_overlap.specs.Meet.{stripAt}
 use Rattle.pair_overlap.proofs.Walk.{facts-meet, meet-share}
-use Rattle.pair_overlap.proofs.Firsts.{below-or}
 use Rattle.search_penalties.specs.declared.Outline.{Outline}
 use Rattle.search_penalties.specs.declared.Pair.{Pair}
 use Rattle.search_penalties.specs.Line.{takenAt, standingAt, movedAt}
-use Rattle.search_penalties.specs.Outlines.{outlineOf, Narrow, Struck, Standing, Outlined, Outlines, Blank, Widened, Reached, Taken}
+use Rattle.search_penalties.specs.Outlines.{outlineOf, Struck, Standing, Outlined, Outlines, Blank, Reached, Taken}
 
 -- a strip that begins and counts as said has every place of its own
 struck-own : (es : List (List ℕ)) (y start count base x c : ℕ) → Standing es y start count → base + start < x + c → x < base + start + count

@@ -15,7 +15,7 @@ use Rattle.model.specs.Buffer.{layoutOf}
 use Rattle.model.specs.declared.Direction.{Direction}
 use Rattle.model.specs.declared.Direction.the-variants.{Horizontal, Vertical}
 use Rattle.model.specs.declared.Placement.{Placement}
-use Rattle.model.proofs.Tests.{and-left, and-right}
+use Rattle.list_laws.proofs.Tests.{and-left, and-right}
 use Rattle.job_laws.proofs.Checked.{facts}
 use Rattle.overlap_laws.proofs.Penalty.{penalty-zero, penalty-bound}
 use Rattle.pair_overlap.specs.Meet.{Near, stretchesShare, penaltyBelow}

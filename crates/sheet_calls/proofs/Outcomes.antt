@@ -18,7 +18,7 @@ use Rattle.model.specs.Cover.{Sheet, entryIn, mapFrom, coversPixel, fresh, lay,
 use Rattle.model.specs.declared.Placement.{Placement}
 use Rattle.model.specs.declared.Entry.{Entry}
 use Rattle.model.specs.declared.Record.{Record}
-use Rattle.model.proofs.Tests.{clash}
+use Rattle.list_laws.proofs.Tests.{clash}
 use Rattle.text_laws.proofs.Outcomes.{unless-given}
 use Rattle.text_laws.specs.Outcomes.{NoCause}
 use Rattle.cover_laws.proofs.Calls.{LayTaken, WithdrawTaken, lay-given, withdraw-given, length-mapFrom, getD-mapFrom}

@@ -10,17 +10,17 @@ use native.Mathlib.Nat.{zero-add}
 use native.Mathlib.Numerals.{add-one}
 use native.Mathlib.Omega.{arith}
 use lib.Dec.{eqb}
-use lib.ListN.{length, getD, take, replicate, length-replicate, getD-replicate}
-use lib.Seq.{ext-getD, length-take-le}
+use lib.ListN.{length, getD, replicate, length-replicate, getD-replicate}
+use lib.Seq.{ext-getD}
 use borrow.Author.Tests.{lt-ltb, eqb-true, eq-eqb}
 use Rattle.model.specs.Bounded.{allBelow, sumBelow, one-if}
 use Rattle.model.specs.Layout.{Job, inside}
 use Rattle.model.specs.Lent.{pieceBound}
 use Rattle.model.specs.Cover.{entryIn, mapFrom, laidOn, laidCount, entryWell}
 use Rattle.model.specs.declared.Entry.{Entry}
-use Rattle.model.proofs.Tests.{clash, same-tests}
-use Rattle.model.proofs.Bounded.{all-at, all-from}
-use Rattle.model.proofs.Sums.{passing-bound}
+use Rattle.list_laws.proofs.Sums.{passing-bound}
+use Rattle.list_laws.proofs.Bounded.{all-at, all-from}
+use Rattle.list_laws.proofs.Tests.{clash, same-tests}
 use Rattle.cover_laws.proofs.Calls.{length-mapFrom, getD-mapFrom}
 use Rattle.cover_laws.proofs.Counts.{LaidWell}
 use Rattle.cover_laws.proofs.Reached.{entry-sound}
@@ -109,7 +109,3 @@ same-counted j es made cs r known full is-same same-is =
     let l′ : k < j .rows * j .columns = let e = known .full in omega arith in
     known .counts k l′
     ∙ sym (eqb-true (getD cs k 0) (laidCount j es k) (all-at (j .rows * j .columns) (λ m. eqb (getD cs m 0) (laidCount j es m)) t k l′)))))
-
--- a front of n counts is n long
-pub front-length : (n : ℕ) (cs : List ℕ) → n ≤ length cs → n ≡ length (take n cs)
-front-length n cs h = sym (length-take-le n cs h)

@@ -15,7 +15,7 @@ use Rattle.model.specs.Lent.{Lent, jobOf, pixelStart}
 use Rattle.model.specs.Cover.{coversPixel}
 use Rattle.model.specs.declared.Turn.{Turn}
 use Rattle.model.specs.declared.Placement.{Placement}
-use Rattle.model.proofs.Tests.{and-left, and-right}
+use Rattle.list_laws.proofs.Tests.{and-left, and-right}
 use Rattle.job_laws.proofs.Checked.{Facts, facts}
 use Rattle.piece_pixels.specs.Turned.{sidesOf, madeOf, shownBy}
 use Rattle.piece_pixels.specs.declared.Sides.{Sides}

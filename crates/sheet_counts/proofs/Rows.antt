@@ -15,7 +15,7 @@ use borrow.Author.Tests.{ltb-true, ltb-false, leb-true, lt-ltb, le-leb}
 use Rattle.model.specs.Piece.{Point, Shape, covers}
 use Rattle.model.specs.Layout.{Job}
 use Rattle.model.specs.Cover.{pixelAt, mapFrom}
-use Rattle.model.proofs.Tests.{and-left, and-right, and-both, clash, decided}
+use Rattle.list_laws.proofs.Tests.{and-left, and-right, and-both, clash, decided}
 use Rattle.cover_laws.proofs.Calls.{length-mapFrom, getD-mapFrom}
 use Rattle.cover_laws.proofs.Pixels.{pixel-at, OnSheet, number-pixel}
 use Rattle.sheet_counts.specs.Stamp.{moved, movedRun, movedRows}

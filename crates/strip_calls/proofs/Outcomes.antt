@@ -16,8 +16,8 @@ use Rattle.model.specs.Store.{store, starts, storeWell}
 use Rattle.model.specs.Calls.{Stores, storesOf, storesShort, storesWell, storesAfter, turnListWrong, stripsCall, stretchCall, stretchOf, stretchGiven, stretchNumber}
 use Rattle.model.specs.declared.Direction.{Direction}
 use Rattle.model.specs.declared.Direction.the-variants.{Horizontal, Vertical}
-use Rattle.model.proofs.Tests.{and-left, and-right, or-right, or-neither}
-use Rattle.text_fields.proofs.Stores.{sets-filled}
+use Rattle.list_laws.proofs.Stores.{sets-filled}
+use Rattle.list_laws.proofs.Tests.{and-left, and-right, or-right, or-neither}
 use Rattle.strip_store.specs.Made.{Filled}
 use Rattle.strip_calls.specs.Stores.{Cut, storesBy}
 use Rattle.strip_store.specs.Rooms.{roomOf, roomFor}

@@ -13,10 +13,11 @@ use borrow.Author.Tests.{ltb-true, lt-ltb, leb-true, le-leb, eqb-true, eq-eqb}
 use Rattle.model.specs.Piece.{Point, Shape, pixel, other, along, across, extent, cell}
 use Rattle.model.specs.Strip.{Run, runs, Strip, stripOf, lineStrips, stripsFrom, strips, stripHas, stripsHave}
 use Rattle.model.specs.declared.Direction.{Direction}
-use Rattle.model.proofs.Tests.{and-left, and-right, and-both, same-tests}
+use Rattle.list_laws.proofs.Lists.{Source, map-source, map-member}
+use Rattle.list_laws.proofs.Tests.{and-left, and-right, and-both, same-tests}
 use Rattle.strip_laws.specs.Strips.{MaximalStrip, StripBefore}
 use Rattle.strip_laws.specs.Lists.{Pairwise, none}
-use Rattle.strip_laws.proofs.Lists.{Source, map-source, map-member, pairwise-map, pairwise-append}
+use Rattle.strip_laws.proofs.Lists.{pairwise-map, pairwise-append}
 use Rattle.strip_laws.proofs.Runs.{MaximalRun, InRuns, runs-exactly, runs-maximal, runs-ascending, runs-agree}
 use Rattle.strip_laws.specs.Boxes.{InBox, SameShape}
 use Rattle.strip_laws.proofs.Boxes.{pixel-in-box, box-from, box-along, box-across, pixel-cell, pixel-point, no-pixel-past, same-extent, same-cell}

@@ -8,8 +8,8 @@ use Rattle.model.specs.Bounded.{anyBelow}
 use Rattle.model.specs.Piece.{Shape, pixel, point, other, extent, cell, holds, tight}
 use Rattle.model.specs.declared.Direction.{Direction}
 use Rattle.model.specs.declared.Direction.the-variants.{Horizontal, Vertical}
-use Rattle.model.proofs.Tests.{and-left, and-right, and-both}
-use Rattle.model.proofs.Bounded.{Witness, any-witness, any-agree}
+use Rattle.list_laws.proofs.Bounded.{Witness, any-witness, any-agree}
+use Rattle.list_laws.proofs.Tests.{and-left, and-right, and-both}
 use Rattle.strip_laws.specs.Boxes.{SameShape}
 use Rattle.strip_laws.proofs.Boxes.{same-extent, same-cell, pixel-point}
 

@@ -9,7 +9,7 @@ use Rattle.model.specs.Bounded.{anyBelow}
 use Rattle.model.specs.Piece.{Point, Shape, pixel, tight, turnPoint, turned}
 use Rattle.model.specs.declared.Turn.{Turn}
 use Rattle.model.specs.declared.Turn.the-variants.{Zero, Quarter, Half, ThreeQuarters}
-use Rattle.model.proofs.Bounded.{Witness, any-witness, any-from}
+use Rattle.list_laws.proofs.Bounded.{Witness, any-witness, any-from}
 use Rattle.strip_laws.specs.Turns.{image, TurnedExactly}
 use Rattle.strip_laws.specs.Boxes.{InBox}
 use Rattle.strip_laws.proofs.Boxes.{pixel-in}

@@ -12,7 +12,7 @@ use Rattle.model.specs.Piece.{Point, Shape, pixel, tight, other, along, across,
 use Rattle.model.specs.Strip.{Strip, strips, rebuilt}
 use Rattle.model.specs.declared.Direction.{Direction}
 use Rattle.model.specs.declared.Direction.the-variants.{Horizontal, Vertical}
-use Rattle.model.proofs.Tests.{fails, clash}
+use Rattle.list_laws.proofs.Tests.{fails, clash}
 use Rattle.strip_laws.specs.Strips.{side, StripFits, ValidStrips, MaximalStrip, StripBefore, HasStrips}
 use Rattle.strip_laws.proofs.Lists.{pairwise-compare, pairwise-unique}
 use Rattle.strip_laws.specs.Boxes.{InBox}

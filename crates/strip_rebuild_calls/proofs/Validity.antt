@@ -1,23 +1,24 @@
 -- Refusal 8 of rebuilding, by local tests: the strips of a buffer are valid exactly when each fits the box and stands behind the
 -- one before it. Standing before is kept from neighbour to neighbour. Assumes nothing.
-use mathlib.Core.Bool.{Bool, true, false, _&&_, _||_}
+use mathlib.Core.Bool.{Bool, true, false, _&&_}
 use mathlib.Core.List.{List, [], _∷_, map, List·Memᴰ, List·Memᴰ·head, List·Memᴰ·tail, List·Memᴰ·not-nil, List·Memᴰ·cases-cons}
-use mathlib.Core.Path.{_≡_, refl, sym, subst, ap, _∙_}
+use mathlib.Core.Path.{_≡_, refl, sym, subst, _∙_}
 use mathlib.Core.Logic.{_⊎_, inl, inr, ⊎-elim}
-use Prim.Native.Nat.{ℕ, zero, suc, _+_, _-_, _<_, _≤_}
+use Prim.Native.Nat.{ℕ, zero, suc, _-_, _<_}
 use native.Mathlib.Omega.{arith}
-use lib.Dec.{leb, ltb, eqb}
-use lib.ListN.{length, getD, length-map, List·getD-map}
+use lib.Dec.{ltb, eqb}
+use lib.ListN.{length, length-map, List·getD-map}
 use borrow.Author.Tests.{ltb-true, lt-ltb, leb-true, le-leb, eqb-true, eq-eqb, ne-eqb}
 use Rattle.model.specs.Piece.{other}
 use Rattle.model.specs.Strip.{Strip}
-use Rattle.model.specs.Buffer.{stripEntry, entryStrip}
+use Rattle.model.specs.Buffer.{entryStrip}
 use Rattle.model.specs.declared.Direction.{Direction}
-use Rattle.model.proofs.Tests.{and-left, and-right, and-both, or-cases, or-left, or-right}
+use Rattle.list_laws.proofs.Lists.{member-at}
+use Rattle.list_laws.proofs.Tests.{and-left, and-right, and-both, or-cases, or-left, or-right}
 use Rattle.strip_laws.specs.Lists.{Pairwise, none, more}
-use Rattle.strip_laws.proofs.Lists.{member-at, pairwise-at}
+use Rattle.strip_laws.proofs.Lists.{pairwise-at}
 use Rattle.strip_laws.specs.Strips.{StripBefore, side, StripFits, ValidStrips}
-use Rattle.strip_rebuild_calls.specs.Check.{stripIn, fitsIn, standsBefore, follows, wellAt, Whole}
+use Rattle.strip_rebuild_calls.specs.Check.{stripIn, fitsIn, standsBefore, follows, wellAt}
 
 -- ── places and members ──
 

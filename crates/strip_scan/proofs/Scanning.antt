@@ -1,21 +1,21 @@
 -- Reading a line's strips from a cell on: where the next one begins and ends, and what follows it. A run of the line is the cells
 -- from the first pixel on up to the first cell that is none. Assumes nothing.
 use mathlib.Core.Bool.{Bool, true, false, Bool·beq, true≢false}
-use mathlib.Core.List.{List, [], _∷_, _++_, map}
+use mathlib.Core.List.{List, [], _∷_}
 use mathlib.Core.Path.{_≡_, refl, sym, subst₂, ap, _∙_}
 use Prim.Native.Nat.{ℕ, zero, suc, _+_, _-_, _<_, _≤_}
 use mathlib.Core.Logic.{⊎-elim}
-use native.Mathlib.Nat.{suc-add, add-suc, add-zero, zero-add, sub-zero, eq-or-lt-of-le}
+use native.Mathlib.Nat.{suc-add, add-suc, add-zero, zero-add, eq-or-lt-of-le}
 use native.Mathlib.Omega.{arith}
 use Rattle.model.specs.Bounded.{firstFrom}
 use Rattle.model.specs.Piece.{Shape, turned, extent, other, cell}
-use Rattle.model.specs.Strip.{Run, closing, runsFrom, Strip, stripOf, stripsFrom, strips}
+use Rattle.model.specs.Strip.{Run, closing, runsFrom, stripsFrom, strips}
 use Rattle.model.specs.declared.Turn.{Turn}
 use Rattle.model.specs.declared.Turn.the-variants.{Zero, Quarter, Half, ThreeQuarters}
 use Rattle.model.specs.declared.Direction.{Direction}
 use Rattle.model.specs.declared.Direction.the-variants.{Horizontal, Vertical}
-use Rattle.model.proofs.Bounded.{First, first-from}
-use Rattle.model.proofs.Tests.{clash}
+use Rattle.list_laws.proofs.Tests.{clash}
+use Rattle.list_laws.proofs.Bounded.{First, first-from}
 use Rattle.piece_pixels.specs.Turned.{storedBy, shownBy, Small}
 use Rattle.piece_pixels.specs.declared.Sides.{Sides}
 use Rattle.piece_pixels.specs.declared.TurnedPiece.{TurnedPiece}

@@ -15,8 +15,8 @@ ghost use Rattle.model.specs.Buffer.{sameNumbers};
 ghost use Rattle.model.specs.Lent.{lentBy, jobOf};
 ghost use Rattle.model.specs.Layout.{turnedPiece};
 ghost use Rattle.model.specs.declared.JobSize.{JobSize};
+ghost use Rattle.job_laws.specs.Entries.{EntryAt};
 ghost use Rattle.piece_pixels.specs.Turned.{shownBy, Small};
-ghost use Rattle.strip_scan.specs.Put.{EntryAt};
 ghost use Rattle.strip_scan.specs.Compare.{compared};
 
 // What a comparison comes to: the strips stand in the store up to a place, or they do not.

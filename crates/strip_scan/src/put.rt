@@ -14,8 +14,9 @@ ghost use Rattle.model.specs.Strip.{strips};
 ghost use Rattle.model.specs.Lent.{lentBy, jobOf};
 ghost use Rattle.model.specs.Layout.{turnedPiece};
 ghost use Rattle.model.specs.declared.JobSize.{JobSize};
+ghost use Rattle.job_laws.specs.Entries.{EntryAt};
 ghost use Rattle.piece_pixels.specs.Turned.{shownBy, Small};
-ghost use Rattle.strip_scan.specs.Put.{Appended, EntryAt};
+ghost use Rattle.strip_scan.specs.Put.{Appended};
 
 // Stores a strip, where there is room for it.
 fn put(store: &mut [[u8; 3]], at: usize, line: usize, first: usize, count: usize)

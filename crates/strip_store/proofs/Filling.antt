@@ -18,9 +18,9 @@ use Rattle.model.specs.Store.{turnIn, pieceStrips, storeFrom, startsFrom, store
 use Rattle.model.specs.Calls.{turnListWrong}
 use Rattle.model.specs.declared.Turn.{Turn}
 use Rattle.model.specs.declared.Direction.{Direction}
-use Rattle.model.proofs.Tests.{or-neither, decided}
+use Rattle.list_laws.proofs.Stores.{sets-append}
+use Rattle.list_laws.proofs.Tests.{or-neither, decided}
 use Rattle.job_laws.proofs.Checked.{facts}
-use Rattle.text_fields.proofs.Stores.{sets-append}
 use Rattle.strip_scan.specs.Put.{Appended}
 use Rattle.strip_scan.proofs.Counts.{strips-few}
 use Rattle.strip_store.specs.Made.{Ready, Filled}

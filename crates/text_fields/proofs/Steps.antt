@@ -11,7 +11,7 @@ use lib.ListN.{length, length-append, getD, drop, List·getD-eq-default}
 use lib.Seq.{drop-cons}
 use borrow.Author.Tests.{leb-true, leb-false, ltb-true, eq-eqb, ne-eqb, lt-ltb, le-ltb, ltb-false}
 use Rattle.model.specs.Text.{byte, isDigit, isNumber, asNumber, Digits, digitsFrom, numberAt, standsAt, after, fieldAt, Reading, got, wrong, onward, decimal}
-use Rattle.model.proofs.Tests.{and-left, and-right, decided}
+use Rattle.list_laws.proofs.Tests.{and-left, and-right, decided}
 use Rattle.text_fields.specs.Answers.{numberOf, runOf}
 use Rattle.text_fields.specs.declared.Number.the-variants.{Got, Wrong}
 use Rattle.text_fields.specs.declared.reading.Run.{Run}

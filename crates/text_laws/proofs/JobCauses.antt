@@ -15,7 +15,7 @@ use Rattle.model.specs.Lent.{Lent, areaBound}
 use Rattle.model.specs.Text.{formed, andThen}
 use Rattle.model.specs.JobText.{JobLine, asJobLine, jobLineCauses, jobLine, PieceLine, asPieceLine, pieceLineCauses, pieceLine, rowsAt, rowsCauses, asPieceText, pieceAt, noPieces, piecesAt, asLent, bufferCauses, readJob}
 use Rattle.model.specs.declared.Refusal.{Refusal}
-use Rattle.model.proofs.Tests.{or-left, or-right}
+use Rattle.list_laws.proofs.Tests.{or-left, or-right}
 use Rattle.text_laws.specs.LinePlaces.{refusalAt}
 use Rattle.text_laws.specs.JobRefusals.{RowsBefore, no-row, row-then, PiecesBefore, no-piece, piece-then, PiecePlace, RowPlace, SheetNumbers, PieceNumbers, JobFormWrong, wrong-job-line, wrong-piece-line, wrong-row-line, line-too-many, JobOutOfRange, sheet-out-of-range, piece-out-of-range, SheetTooLarge, BoxTooLarge, BoxesTooLarge, LooseBox, BufferShort, JobCausesRefuse}
 use Rattle.text_laws.specs.Outcomes.{Unless}

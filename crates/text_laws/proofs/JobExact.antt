@@ -17,7 +17,7 @@ use Rattle.model.specs.Lent.{Lent, turnsBound, upTo, entryColumns, entryRows, e
 use Rattle.model.specs.Piece.{sideBound}
 use Rattle.model.specs.Text.{byte, lineEnd, Reading, wrong, got, onward, after, threeFields, fourFields, lineAt, lineText}
 use Rattle.model.specs.JobText.{jobWord, pieceWord, rowWord, JobLine, asJobLine, jobLineCauses, jobLine, PieceLine, asPieceLine, pieceLineCauses, pieceLine, markAt, marksAt, rowAt, Rows, rowsAt, PieceText, rowsCauses, asPieceText, pieceAt, Pieces, noPieces, withPiece, piecesAt, asLent, bufferCauses, readJob, pixelMark, emptyMark}
-use Rattle.model.proofs.Tests.{and-left}
+use Rattle.list_laws.proofs.Tests.{and-left}
 use Rattle.text_laws.specs.JobWriting.{part, mark, rowText, rowsText, pieceText, piecesText, jobText, exactly}
 use Rattle.text_laws.specs.Exact.{JobWritten}
 use Rattle.text_laws.specs.Outcomes.{Unless}

@@ -15,13 +15,14 @@ use Rattle.model.specs.Refusal.{given}
 use Rattle.model.specs.Lent.{Lent, rowBound, columnBound, pieceBound, turnsBound, areaBound, upTo, entryColumns, entryRows, entryTurns, pixelStart, entryInRange, lentShape, sheetInRange, lentWell}
 use Rattle.model.specs.Text.{Reading, got, onward, after, lineEnd, threeFields, fourFields, lineAt, lineText, formed, andThen}
 use Rattle.model.specs.JobText.{jobWord, pieceWord, rowWord, JobLine, jobLineCauses, jobLine, PieceLine, pieceLineCauses, pieceLine, markAt, marksAt, rowAt, rowsAt, boxShape, PieceText, asPieceText, pieceAt, noPieces, piecesAt, readJob}
-use Rattle.model.proofs.Tests.{and-left}
+use Rattle.list_laws.proofs.Numbers.{in-rows}
+use Rattle.list_laws.proofs.Tests.{and-left}
 use Rattle.text_laws.proofs.Ahead.{Ahead, ahead-start, ahead-byte, ahead-next, ahead-word, after-ahead, ahead-end}
 use Rattle.text_laws.proofs.Fields.{Reads, Gives, Writable, line-ahead}
 use Rattle.text_laws.specs.Outcomes.{NoCause}
 use Rattle.text_laws.proofs.Outcomes.{unless-given}
 use Rattle.job_laws.proofs.Starts.{start-grows, start-end}
-use Rattle.text_laws.proofs.Store.{in-box, tight-agree}
+use Rattle.text_laws.proofs.Store.{tight-agree}
 use Rattle.job_laws.proofs.Checked.{Facts, facts}
 use Rattle.text_laws.proofs.JobRead.{AllBits}
 use Rattle.text_laws.specs.JobWriting.{part, mark, rowText, rowsText, entryNumbers, pieceText, piecesText, jobText, entriesFrom, exactly}
@@ -128,7 +129,7 @@ module _ (k : Lent) (facts : Facts k) (i : ℕ) (below : i < k .count) where
         rows = refl;
         wide = facts .columnsSome i below;
         high = facts .rowsSome i below;
-        has = λ x y hx hy. ap (λ (b : ℕ). eqb b 1) (part-at (k .pixels) (pixelStart (k .table) i) (w * l) (y * l + x) (in-box hx hy));
+        has = λ x y hx hy. ap (λ (b : ℕ). eqb b 1) (part-at (k .pixels) (pixelStart (k .table) i) (w * l) (y * l + x) (in-rows hx hy));
       })
       ∙ facts .tightBoxes i below
 

@@ -15,7 +15,7 @@ use Rattle.model.specs.Refusal.{refused, wrongForm, outOfRange, noSuchPiece, ou
 use Rattle.model.specs.Text.{threeFields, field, formed, andThen}
 use Rattle.model.specs.LayoutText.{layoutWord, sheetNumbers, layoutLineCauses, layoutLine, PlacementLine, asPlacementLine, placementCauses, placementLine, placementsAt, readLayout}
 use Rattle.model.specs.declared.Refusal.{Refusal}
-use Rattle.model.proofs.Tests.{and-left, and-right, fails}
+use Rattle.list_laws.proofs.Tests.{and-left, and-right, fails}
 use Rattle.text_laws.specs.LinePlaces.{refusalAt}
 use Rattle.text_laws.specs.LayoutRefusals.{PlacementsBefore, no-placement, placement-then, PlacementPlace, PlacementNumbers, LayoutFormWrong, wrong-layout-line, wrong-placement-line, line-too-many, LayoutOutOfRange, sheet-unlike, placement-out-of-range, TurnNotAllowed, PlacementOutside, LayoutLengthWrong, LayoutCausesRefuse}
 use Rattle.text_laws.proofs.Outcomes.{given-before}

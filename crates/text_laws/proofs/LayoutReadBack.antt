@@ -20,7 +20,7 @@ use Rattle.model.specs.LayoutText.{layoutWord, atWord, placementText, placement
 use Rattle.model.specs.declared.Turn.{Turn}
 use Rattle.model.specs.declared.Turn.the-variants.{Zero, Quarter, Half, ThreeQuarters}
 use Rattle.model.specs.declared.Placement.{Placement}
-use Rattle.model.proofs.Tests.{and-left, and-right, and-both}
+use Rattle.list_laws.proofs.Tests.{and-left, and-right, and-both}
 use Rattle.text_laws.proofs.Ahead.{Ahead, ahead-start, ahead-end}
 use Rattle.text_laws.proofs.Fields.{Reads, Gives, Writable, line-ahead}
 use Rattle.text_laws.proofs.Outcomes.{unless-given}

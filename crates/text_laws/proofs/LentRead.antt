@@ -14,9 +14,10 @@ use lib.ListN.{length, getD, take}
 use lib.Seq.{getD-take}
 use Rattle.model.specs.Piece.{tight}
 use Rattle.model.specs.Lent.{Lent, entryColumns, entryRows, entryTurns, pixelStart, entryInRange, entryFits, lentShape, lentWell}
+use Rattle.list_laws.proofs.Numbers.{in-rows}
 use Rattle.text_laws.specs.Texts.{Readable}
 use Rattle.job_laws.proofs.Starts.{start-end}
-use Rattle.text_laws.proofs.Store.{in-box, tight-agree}
+use Rattle.text_laws.proofs.Store.{tight-agree}
 use Rattle.job_laws.proofs.Checked.{Facts, facts, well}
 use Rattle.text_laws.specs.Limits.{sidesInRange}
 use Rattle.text_laws.proofs.JobRead.{sides-some, job-read-well}
@@ -80,7 +81,7 @@ module _ (k : Lent) where
             ap (λ (b : ℕ). eqb b 1)
             (ap₂ (λ (n m : ℕ). getD (take total (k .pixels)) (n + (y * m + x)) 0) (same-start i (omega arith)) (same-columns i l)
             ∙ getD-take total (k .pixels) at 0
-            (let b : y * c + x < entryRows (k .table) i * c = in-box hx hy in
+            (let b : y * c + x < entryRows (k .table) i * c = in-rows hx hy in
             let end : s + c * entryRows (k .table) i ≤ total = start-end (k .table) i (k .count) l in
             omega (arith, mul-comm c (entryRows (k .table) i))));
       })

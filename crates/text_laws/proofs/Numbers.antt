@@ -11,7 +11,7 @@ use lib.Dec.{eqb, ltb}
 use lib.ListN.{length, getD, length-append}
 use borrow.Author.Tests.{eq-eqb, ne-eqb, lt-ltb, le-leb, ltb-true, ltb-false}
 use Rattle.model.specs.Text.{byte, digitZero, isDigit, got, digitsFrom, digitBound, isNumber, asNumber, numberAt, decimal, digits}
-use Rattle.model.proofs.Tests.{and-both, or-left, or-right}
+use Rattle.list_laws.proofs.Tests.{and-both, or-left, or-right}
 use Rattle.text_laws.proofs.Ahead.{Ahead, ahead-after, ahead-byte, ahead-word, ahead-next}
 
 -- ── runs of digits ──

@@ -9,9 +9,9 @@ use Rattle.model.specs.Strip.{strips}
 use Rattle.model.specs.Layout.{turnedPiece}
 use Rattle.model.specs.Lent.{lentBy, jobOf, lentWell}
 use Rattle.model.specs.declared.JobSize.{JobSize}
-use Rattle.job_laws.proofs.Checked.{facts}
-use Rattle.strip_scan.specs.Put.{Appended, EntryAt}
-use Rattle.strip_scan.proofs.Jobs.{entry-at}
+use Rattle.job_laws.specs.Entries.{EntryAt}
+use Rattle.job_laws.proofs.Checked.{facts, entry-at}
+use Rattle.strip_scan.specs.Put.{Appended}
 use Rattle.search_shapes.specs.Shapes.{numberedShape, Room}
 use Rattle.search_shapes.proofs.Making.{Made, Fits, made-none, fits-next, made-more, made-all}
 use borrow.Author.Needs.{needs}

@@ -9,12 +9,13 @@ use lib.Seq.{sets}
 use borrow.Author.Tests.{lt-ltb, le-ltb}
 use Rattle.model.specs.Refusal.{given}
 use Rattle.model.specs.JobText.{piecesAt, asLent}
+use Rattle.list_laws.proofs.Lists.{nothing-before}
+use Rattle.list_laws.proofs.Stores.{sets-filled}
 use Rattle.job_lines.specs.Lines.{jobLineOf}
 use Rattle.job_calls.specs.Reading.{PiecesStored, Filled, roomed, Leaves}
 use Rattle.job_calls.specs.declared.JobAnswer.the-variants as answer
 use Rattle.job_calls.specs.declared.reader.PiecesAnswer.the-variants as pieces
-use Rattle.text_fields.proofs.Stores.{sets-filled}
-use Rattle.job_calls.proofs.Filling.{pieces-told, pieces-not, pieces-count, no-prefix, room-denied, room-short, room-given, leaves-refused}
+use Rattle.job_calls.proofs.Filling.{pieces-told, pieces-not, pieces-count, room-denied, room-short, room-given, leaves-refused}
 use borrow.Author.Needs.{needs}
 use Rattle.job_calls.proofs.reader.read_pieces.Statement.{statement}
 use Rattle.job_calls.proofs.reader.read_pieces.Tie as tie
@@ -58,8 +59,8 @@ returns c =
     let pl = length (a .pixels .now) in
     let table = c .before .before .before .before .before .before .before .before .before .fill-pieces .last .1 .1 .0 in
     let store = c .before .before .before .before .before .before .before .before .before .fill-pieces .last .1 .1 .1 .0 in
-    let t : table ++ a .table .now ≡ a .table .now = no-prefix table (a .table .now) (c .before .before .before .before .before .before .before .before .before .fill-pieces .kept .1 .1 .0) in
-    let s : store ++ a .pixels .now ≡ a .pixels .now = no-prefix store (a .pixels .now) (c .before .before .before .before .before .before .before .before .before .fill-pieces .kept .1 .1 .1 .0) in
+    let t : table ++ a .table .now ≡ a .table .now = nothing-before table (a .table .now) (c .before .before .before .before .before .before .before .before .before .fill-pieces .kept .1 .1 .0) in
+    let s : store ++ a .pixels .now ≡ a .pixels .now = nothing-before store (a .pixels .now) (c .before .before .before .before .before .before .before .before .before .fill-pieces .kept .1 .1 .1 .0) in
     let n = c .before .before .before .before .area .given .0 .0 in
     let g : pieces.Read n ≡ c .before .before .before .before .before .before .before .before .before .fill-pieces .result = sym (c .before .before .before .before .area .given .1) in
     let x = pieces-told n (piecesAt text j (a .j .count) 0 0 (a .j .next) 2) (g ∙ c .before .before .before .before .before .before .before .before .before .fill-pieces .ensures .0) in
@@ -85,8 +86,8 @@ returns-2 c =
     let pl = length (a .pixels .now) in
     let table = c .before .before .before .before .before .before .before .before .before .before .fill-pieces .last .1 .1 .0 in
     let store = c .before .before .before .before .before .before .before .before .before .before .fill-pieces .last .1 .1 .1 .0 in
-    let t : table ++ a .table .now ≡ a .table .now = no-prefix table (a .table .now) (c .before .before .before .before .before .before .before .before .before .before .fill-pieces .kept .1 .1 .0) in
-    let s : store ++ a .pixels .now ≡ a .pixels .now = no-prefix store (a .pixels .now) (c .before .before .before .before .before .before .before .before .before .before .fill-pieces .kept .1 .1 .1 .0) in
+    let t : table ++ a .table .now ≡ a .table .now = nothing-before table (a .table .now) (c .before .before .before .before .before .before .before .before .before .before .fill-pieces .kept .1 .1 .0) in
+    let s : store ++ a .pixels .now ≡ a .pixels .now = nothing-before store (a .pixels .now) (c .before .before .before .before .before .before .before .before .before .before .fill-pieces .kept .1 .1 .1 .0) in
     let n = c .before .before .before .before .before .area .given .0 .0 in
     let g : pieces.Read n ≡ c .before .before .before .before .before .before .before .before .before .before .fill-pieces .result = sym (c .before .before .before .before .before .area .given .1) in
     let x = pieces-told n (piecesAt text j (a .j .count) 0 0 (a .j .next) 2) (g ∙ c .before .before .before .before .before .before .before .before .before .before .fill-pieces .ensures .0) in
@@ -113,8 +114,8 @@ returns-3 c =
     let pl = length (a .pixels .now) in
     let table = c .before .before .before .before .before .before .fill-pieces .last .1 .1 .0 in
     let store = c .before .before .before .before .before .before .fill-pieces .last .1 .1 .1 .0 in
-    let t : table ++ a .table .now ≡ a .table .now = no-prefix table (a .table .now) (c .before .before .before .before .before .before .fill-pieces .kept .1 .1 .0) in
-    let s : store ++ a .pixels .now ≡ a .pixels .now = no-prefix store (a .pixels .now) (c .before .before .before .before .before .before .fill-pieces .kept .1 .1 .1 .0) in
+    let t : table ++ a .table .now ≡ a .table .now = nothing-before table (a .table .now) (c .before .before .before .before .before .before .fill-pieces .kept .1 .1 .0) in
+    let s : store ++ a .pixels .now ≡ a .pixels .now = nothing-before store (a .pixels .now) (c .before .before .before .before .before .before .fill-pieces .kept .1 .1 .1 .0) in
     let r = c .before .r .given .0 .0 in
     let g : pieces.Refused r ≡ c .before .before .before .before .before .before .fill-pieces .result = sym (c .before .r .given .1) in
     let e = pieces-not r (piecesAt text j (a .j .count) 0 0 (a .j .next) 2) (g ∙ c .before .before .before .before .before .before .fill-pieces .ensures .0) in
@@ -135,8 +136,8 @@ returns-4 c =
     let pl = length (a .pixels .now) in
     let table = c .before .before .before .before .before .before .before .before .before .before .before .before .before .before .before .fill-pieces .last .1 .1 .0 in
     let store = c .before .before .before .before .before .before .before .before .before .before .before .before .before .before .before .fill-pieces .last .1 .1 .1 .0 in
-    let t : table ++ a .table .now ≡ a .table .now = no-prefix table (a .table .now) (c .before .before .before .before .before .before .before .before .before .before .before .before .before .before .before .fill-pieces .kept .1 .1 .0) in
-    let s : store ++ a .pixels .now ≡ a .pixels .now = no-prefix store (a .pixels .now) (c .before .before .before .before .before .before .before .before .before .before .before .before .before .before .before .fill-pieces .kept .1 .1 .1 .0) in
+    let t : table ++ a .table .now ≡ a .table .now = nothing-before table (a .table .now) (c .before .before .before .before .before .before .before .before .before .before .before .before .before .before .before .fill-pieces .kept .1 .1 .0) in
+    let s : store ++ a .pixels .now ≡ a .pixels .now = nothing-before store (a .pixels .now) (c .before .before .before .before .before .before .before .before .before .before .before .before .before .before .before .fill-pieces .kept .1 .1 .1 .0) in
     let n = c .before .before .before .before .before .before .before .before .before .before .area .given .0 .0 in
     let g : pieces.Read n ≡ c .before .before .before .before .before .before .before .before .before .before .before .before .before .before .before .fill-pieces .result = sym (c .before .before .before .before .before .before .before .before .before .before .area .given .1) in
     let x = pieces-told n (piecesAt text j (a .j .count) 0 0 (a .j .next) 2) (g ∙ c .before .before .before .before .before .before .before .before .before .before .before .before .before .before .before .fill-pieces .ensures .0) in

@@ -6,9 +6,9 @@ use native.Mathlib.Omega.{arith}
 use borrow.Author.Count.{below-none, below-more}
 use borrow.Author.Tests.{le-leb, lt-leb}
 use Rattle.model.specs.Lent.{entryFits, entryColumns, entryRows}
-use Rattle.model.proofs.Bounded.{all-from}
-use Rattle.job_check.proofs.Tests.{not-all}
 use borrow.Author.Needs.{needs}
+use Rattle.list_laws.proofs.Searches.{not-all}
+use Rattle.list_laws.proofs.Bounded.{all-from}
 use Rattle.job_check.proofs.lent.entries_fit.Statement.{statement}
 use Rattle.job_check.proofs.lent.entries_fit.Tie as tie
 

@@ -8,8 +8,8 @@ use native.Mathlib.Numerals.{add-one}
 use native.Mathlib.Omega.{arith}
 use lib.ListN.{length}
 use Rattle.model.specs.Text.{byte, isDigit, digitsFrom}
+use Rattle.list_laws.proofs.Tests.{said-no, said-yes}
 use Rattle.text_fields.specs.Answers.{runOf}
-use Rattle.text_fields.proofs.Tests.{said-no, said-yes}
 use Rattle.text_fields.proofs.Steps.{digit-inside, digits-more, digits-end, digits-none, largest, largest-grows, largest-above}
 use borrow.Author.Needs.{needs}
 use Rattle.text_fields.proofs.reading.digits_from.Statement.{statement}
