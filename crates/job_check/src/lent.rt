@@ -2,6 +2,7 @@
 // the parts before it have not shown.
 use job_limits::sheet_in_range;
 use job_limits::sides_in_range;
+use model::AREA_BOUND;
 use model::JobSize;
 ghost use mathlib.Core.Path.{_≡_};
 ghost use mathlib.Core.Bool.{true};
@@ -104,7 +105,7 @@ fn table_well(size: JobSize, table: &[[u8; 3]]) -> bool
     if !entries_fit(table, size) {
         return false;
     }
-    pixel_start(table, count) <= 65536
+    pixel_start(table, count) <= AREA_BOUND
 }
 
 // Every byte below the bound is 0 or 1.

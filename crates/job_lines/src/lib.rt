@@ -2,6 +2,7 @@
 // ranges.
 use job_limits::numbers_in_range;
 use job_limits::sides_in_range;
+use model::AREA_BOUND;
 use model::Refusal;
 use text_numbers::LineForm;
 use text_numbers::line_at;
@@ -78,7 +79,7 @@ fn job_ranges(j: JobHead) -> JobLineAnswer
     if !numbers_in_range(j.rows, j.columns, j.count) {
         return JobLineAnswer::Refused(refusal(2, 1));
     }
-    if 65536 < j.rows * j.columns {
+    if AREA_BOUND < j.rows * j.columns {
         return JobLineAnswer::Refused(refusal(3, 1));
     }
     JobLineAnswer::Line(j)
@@ -132,7 +133,7 @@ fn piece_ranges(j: JobHead, i: usize, area: usize, h: PieceHead, line: usize) ->
     if j.rows < h.rows {
         return PieceLineAnswer::Refused(refusal(6, line));
     }
-    if 65536 < area + h.columns * h.rows {
+    if AREA_BOUND < area + h.columns * h.rows {
         return PieceLineAnswer::Refused(refusal(4, line));
     }
     PieceLineAnswer::Line(h)

@@ -12,6 +12,7 @@ use layout_places::numbers::larger;
 use layout_places::numbers::side;
 use model::Column;
 use model::JobSize;
+use model::PIECE_BOUND;
 use model::Placement;
 use model::Row;
 use model::Turn;
@@ -76,7 +77,12 @@ fn piled(size: JobSize, table: &[[u8; 3]], i: usize, pile: Pile) -> Pile
 }
 
 // The pieces of the order placed one after the other.
-pub fn stack_all(size: JobSize, table: &[[u8; 3]], order: &[usize; 64], layout: &mut [[u16; 3]])
+pub fn stack_all(
+    size: JobSize,
+    table: &[[u8; 3]],
+    order: &[usize; PIECE_BOUND],
+    layout: &mut [[u16; 3]],
+)
     requires { ⌜ Fitting size (now table) × ((k : ℕ) → k < size .count → getD (now order) k 0 < size .count) × (length (now order) ≡ pieceBound) × (length (now layout) ≡ size .count) ⌝ }
     ensures { λ r. ⌜ ((pixels : List ℕ) → now (layout .exit) ≡ stackEntries (jobOf (lentBy size (now (table .entry)) pixels)) (take (size .count) (now (order .entry))) emptyStack (now (layout .entry))) ⌝ }
 {

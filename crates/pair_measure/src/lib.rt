@@ -21,11 +21,14 @@ ghost use Rattle.strip_scan.specs.Put.{Appended};
 ghost use Rattle.pair_overlap.specs.Seen.{seen};
 ghost use Rattle.pair_measure.specs.Ready.{Ready, Together, pairRoom};
 
+// The most strips of two pieces of a job along a direction.
+const PAIR_ROOM: usize = 33023;
+
 // A store with room for the strips of any two pieces of a job along a direction. What it holds plays no part.
-fn empty_store() -> [[u8; 3]; 33023]
+fn empty_store() -> [[u8; 3]; PAIR_ROOM]
     ensures { λ r. ⌜ length r ≡ pairRoom ⌝ }
 {
-    [[0u8; 3]; 33023]
+    [[0u8; 3]; PAIR_ROOM]
 }
 
 // Puts the strips of a piece in a turn into a store from `at` on, and tells where the next strip would stand.

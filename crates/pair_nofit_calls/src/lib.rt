@@ -4,8 +4,10 @@ use layout_places::refusal;
 use model::ColumnOffset;
 use model::Direction;
 use model::JobSize;
+use model::OFFSET_BOUND;
 use model::Refusal;
 use model::RowOffset;
+use model::SIDE_BOUND;
 use model::Turn;
 use pair_overlap::Corner;
 use strip_scan::compare::Compared;
@@ -24,6 +26,21 @@ ghost use Rattle.pair_overlap.specs.Meet.{Ordered};
 ghost use Rattle.layout_places.specs.Answers.{firstCause};
 ghost use Rattle.pair_nofit_calls.specs.Lines.{marked, Put, lineOutcome, lineAfter, runsAnswer, lentStretch, stretchCauses};
 
+// How many offsets a no-fit line has.
+const OFFSET_COUNT: usize = 2 * (OFFSET_BOUND as usize) + 1;
+
+// What an offset is counted from.
+const OFFSET_BIAS: i32 = OFFSET_BOUND as i32;
+
+// Offsets across that go this far, or farther, share no pixel.
+const FARTHEST: u32 = SIDE_BOUND as u32;
+
+// The same upwards.
+const FARTHEST_UP: i32 = SIDE_BOUND as i32;
+
+// And downwards.
+const FARTHEST_DOWN: i32 = 0 - FARTHEST_UP;
+
 // How many runs a no-fit line has, or why it is refused.
 pub enum RunsAnswer {
     Runs(usize),
@@ -35,7 +52,7 @@ fn unbiased(k: u32) -> i32
     requires { ⌜ k < 512 ⌝ }
     ensures { λ r. ⌜ r ≡ subℕ k offsetBound ⌝ }
 {
-    (k as i32) - 254
+    (k as i32) - OFFSET_BIAS
 }
 
 // How far an offset goes up, up to 255.
@@ -45,8 +62,8 @@ fn up(o: i32) -> u32
     if o < 0 {
         return 0;
     }
-    if 255 < o {
-        return 255;
+    if FARTHEST_UP < o {
+        return FARTHEST;
     }
     o as u32
 }
@@ -58,8 +75,8 @@ fn down(o: i32) -> u32
     if 0 <= o {
         return 0;
     }
-    if o < -255 {
-        return 255;
+    if o < FARTHEST_DOWN {
+        return FARTHEST;
     }
     (0 - o) as u32
 }
@@ -107,14 +124,14 @@ fn put_line(a: &[[u8; 3]], b: &[[u8; 3]], offset: i32, out: &mut [[i32; 2]]) -> 
     ensures memory { λ r. ⌜ now (out .exit) ≡ lineAfter (now (out .entry)) (lineOutcome (now (a .entry)) (now (b .entry)) offset (length (now (out .entry)))) ⌝ }
 {
     let u = Corner {
-        along: 254,
+        along: OFFSET_BOUND,
         across: down(offset),
     };
     let v = Corner {
         along: 0,
         across: up(offset),
     };
-    let mut marks = [0u16; 509];
+    let mut marks = [0u16; OFFSET_COUNT];
     pair_nofit::mark_shifts(a, u, b, v, &mut marks);
     let needed = put_runs(&marks, &mut out[..0]);
     if out.len() < needed {

@@ -6,6 +6,12 @@ ghost use Prim.Native.Nat.{_+_, _<_, _≤_, min};
 ghost use lib.ListN.{length};
 ghost use Rattle.pair_overlap.specs.Meet.{stripAt, baseOf, Ordered, Near, NearShifted, shiftBound, SpanOf, Skipped, Begun, Slid, ClearStretch, stretchesShare, clearBelow, depthBelow, penaltyBelow};
 
+// How far the begin of a line lies from that of the next: more than any place along a line.
+const LINE_STEP: u32 = 65536;
+
+// The longest shift and the longest strip together.
+const SHIFT_REACH: u32 = 1280;
+
 // A piece's corner as its strips' direction sees it: the coordinate along them and the one across them.
 pub struct Corner {
     pub along: u32,
@@ -51,7 +57,7 @@ fn base(u: Corner) -> u32
     requires { ⌜ NearShifted u ⌝ }
     ensures { λ r. ⌜ r ≡ baseOf u ⌝ }
 {
-    u.across * 65536 + u.along
+    u.across * LINE_STEP + u.along
 }
 
 // A byte as a number that sums fit in.
@@ -66,7 +72,7 @@ fn span_at(s: &[[u8; 3]], i: usize, from: u32) -> Span
     requires { ⌜ (i < length (now s)) × (from < 2000000000) ⌝ }
     ensures { λ r. ⌜ SpanOf (stripAt (now (s .entry)) i) from r ⌝ }
 {
-    let begin = wide(s[i][0]) * 65536 + wide(s[i][1]) + from;
+    let begin = wide(s[i][0]) * LINE_STEP + wide(s[i][1]) + from;
     Span {
         begin,
         end: begin + wide(s[i][2]),
@@ -85,7 +91,7 @@ fn skip(s: &[[u8; 3]], from: u32, place: u32) -> usize
         if place < p.begin {
             return i;
         }
-        let lines = ((place - p.begin) / 65536) as usize;
+        let lines = ((place - p.begin) / LINE_STEP) as usize;
         if lines == 0 {
             return i;
         }
@@ -93,7 +99,7 @@ fn skip(s: &[[u8; 3]], from: u32, place: u32) -> usize
             return i;
         }
         let q = span_at(s, i + lines - 1, from);
-        if place < q.begin + 1280 {
+        if place < q.begin + SHIFT_REACH {
             return i;
         }
         i += lines;

@@ -1,6 +1,8 @@
 // The guided run: rounds of descent with weights raised in between. Document 01, 'Descent and guidance' and 'When a call says no'.
 use layout_places::CauseAnswer;
+use model::BUDGET_BOUND;
 use model::JobSize;
+use model::ROUND_BOUND;
 use model::Refusal;
 use run_memory::memory::Outcome;
 use run_memory::memory::Plan;
@@ -37,13 +39,13 @@ pub enum GuidedAnswer {
 fn numbers_wrong(rounds: u32, budget: u32) -> bool
     ensures { λ r. ⌜ r ≡ numbersWrong rounds budget ⌝ }
 {
-    if 1000000000 < budget {
+    if BUDGET_BOUND < budget {
         return true;
     }
     if rounds == 0 {
         return true;
     }
-    1000 < rounds
+    ROUND_BOUND < rounds
 }
 
 // The rounds, in a run's memory.

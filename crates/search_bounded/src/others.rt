@@ -1,7 +1,9 @@
 // What one standing piece adds to the sums along a line, read from the kept line of penalties of the two pieces.
 use model::JobSize;
+use model::PIECE_BOUND;
 use search_line_sums::add_line;
 use search_line_sums::any_below;
+use search_lines::MIDDLE;
 use search_lines::Two;
 use search_lines::keep_line;
 use search_sums::weight_between;
@@ -65,7 +67,7 @@ fn line_with(
         moved_turn: moved_turn,
         standing: k,
         standing_turn: standing_turn,
-        offset: standing.across + 255 - track.held,
+        offset: standing.across + MIDDLE - track.held,
     };
     keep_line(
         size,
@@ -332,8 +334,8 @@ fn renew_other(
         lines,
         tags,
     );
-    penalties[i * 64 + k] = p;
-    penalties[k * 64 + i] = p;
+    penalties[i * PIECE_BOUND + k] = p;
+    penalties[k * PIECE_BOUND + i] = p;
 }
 
 // Makes the table's entries of the mover, at a place of its line, and every other piece.

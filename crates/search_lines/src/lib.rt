@@ -13,8 +13,24 @@ ghost use Rattle.search_lines.specs.Making.{movedShape, standingShape, k
 use layout_places::numbers::larger;
 use model::Direction;
 use model::JobSize;
+use model::PIECE_BOUND;
 use model::Turn;
 use search_penalties::Pair;
+
+// The row of a moved piece to which the offset of a standing one is counted: no offset that matters is below 0.
+pub const MIDDLE: usize = 255;
+
+// The same, as a corner holds it.
+const MIDDLE_ROW: u32 = MIDDLE as u32;
+
+// Every offset that a key holds is below it.
+const OFFSETS: usize = 1024;
+
+// The keys of one moved piece in a turn: each standing one in a turn, at each offset.
+const KEYS: usize = 4 * PIECE_BOUND * OFFSETS;
+
+// Half the least width of a slot.
+const LEAST_SIDE: usize = 32;
 
 // Two pieces in their turns, and the standing one's offset across the line, counted from the moved one's middle.
 pub struct Two {
@@ -32,7 +48,7 @@ pub fn slot_width(size: JobSize, table: &[[u8; 3]]) -> usize
     ensures bounds { λ r. ⌜ (64 ≤ r) × (r ≤ 512) ⌝ }
 {
     let count = size.count;
-    let mut side: usize = 32;
+    let mut side: usize = LEAST_SIDE;
     let mut i = 0;
     while i < count {
         let sides = layout_places::turned_sides(table, i, Turn::Zero);
@@ -51,7 +67,7 @@ fn key_of(two: Two) -> u32
     let standing_turn = two.standing_turn;
     let a = search_shapes::shape_number(two.moved, moved_turn);
     let b = search_shapes::shape_number(two.standing, standing_turn);
-    (a * 262144 + b * 1024 + two.offset + 1) as u32
+    (a * KEYS + b * OFFSETS + two.offset + 1) as u32
 }
 
 // The slot of two pieces: one for each moved piece in a turn and each standing piece, as far as there are slots.
@@ -60,7 +76,7 @@ fn slot_of(two: Two, slots: usize) -> usize
     ensures { λ r. ⌜ r < slots ⌝ }
 {
     let turn = two.moved_turn;
-    (search_shapes::shape_number(two.moved, turn) * 64 + two.standing) % slots
+    (search_shapes::shape_number(two.moved, turn) * PIECE_BOUND + two.standing) % slots
 }
 
 // The pixels of a turned box along the direction.
@@ -100,7 +116,7 @@ fn make_line(
     let end = at + last + side_along(table, two.standing, standing_turn, direction);
     let pair = Pair {
         bias: last as u32,
-        moved: 255,
+        moved: MIDDLE_ROW,
         standing: two.offset as u32,
     };
     search_penalties::penalties(a, b, pair, &mut lines[at..end]);

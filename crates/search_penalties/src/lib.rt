@@ -12,6 +12,12 @@ ghost use Rattle.search_penalties.specs.Line.{takenAt, penaltyLine, Reac
 ghost use Rattle.search_penalties.specs.Outlines.{outlineOf, Narrow, Outlined, Outlines, Blank, Widened, Reached, Taken, RunOf, Added};
 use pair_overlap::Corner;
 
+// The largest distance that a place of a line holds; a larger one stands as it.
+const FARTHEST: u8 = 255;
+
+// The lines that a strip may lie in.
+const LINES: usize = 256;
+
 // The line of two pieces: the standing piece's coordinate along it, and both pieces' coordinates across it.
 pub struct Pair {
     pub bias: u32,
@@ -65,8 +71,8 @@ fn distance(x: u8, d: u8) -> u8
     if x == 0 {
         return 0;
     }
-    if d == 255 {
-        return 255;
+    if d == FARTHEST {
+        return FARTHEST;
     }
     d + 1
 }
@@ -97,7 +103,7 @@ fn fill(line: &mut [u8])
 {
     let mut k = 0;
     while k < line.len() {
-        line[k] = 255;
+        line[k] = FARTHEST;
         k += 1;
     }
 }
@@ -460,7 +466,7 @@ fn levels(
     let mut r: u8 = 1;
     let mut from = 0;
     let mut end = line.len();
-    while r < 255 {
+    while r < FARTHEST {
         end = last_above(line, r, from, end);
         if end <= from {
             return;
@@ -516,8 +522,8 @@ pub fn penalties(a: &[[u8; 3]], b: &[[u8; 3]], p: Pair, line: &mut [u8])
     lower(a, b, p, 0, 0, end, line);
     rise(line);
     fall(line);
-    let mut moved = [[0u16; 5]; 256];
-    let mut standing = [[0u16; 5]; 256];
+    let mut moved = [[0u16; 5]; LINES];
+    let mut standing = [[0u16; 5]; LINES];
     let moved_lines = outline_lines(a, &mut moved);
     let standing_lines = outline_lines(b, &mut standing);
     levels(

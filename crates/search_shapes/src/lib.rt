@@ -12,6 +12,12 @@ use model::Direction;
 use model::JobSize;
 use model::Turn;
 
+// The strips that a store of every piece in every turn has room for.
+pub const STORE_LENGTH: usize = 262144;
+
+// Its starts: one for each piece in each turn, and the end.
+pub const STARTS_LENGTH: usize = 4 * model::PIECE_BOUND + 1;
+
 // The number of a turn.
 fn turn_number(turn: Turn) -> usize
     ensures { λ r. ⌜ r ≡ turnNumber turn ⌝ }
@@ -45,10 +51,10 @@ pub fn shape_number(piece: usize, turn: Turn) -> usize
 }
 
 // A store with room for the strips of every piece in every turn. What it holds plays no part, so that no caller's proof computes with it.
-pub fn empty_store() -> [[u8; 3]; 262144]
+pub fn empty_store() -> [[u8; 3]; STORE_LENGTH]
     ensures { λ r. ⌜ length r ≡ 262144 ⌝ }
 {
-    [[0u8; 3]; 262144]
+    [[0u8; 3]; STORE_LENGTH]
 }
 
 // Makes the strips of every piece in every turn along the direction, allowed or not.

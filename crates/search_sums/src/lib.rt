@@ -1,6 +1,9 @@
 // Sums over the table of pair penalties (64 x 64 entries, that of pieces i and k at i * 64 + k and at k * 64 + i) and the weights beside
 // it, which stand in the order of the pairs; and the weights that rise after a round. Document 01, 'No-fit rows and penalty' and 'Descent
 // and guidance'. The number of pieces is n.
+use model::PAIR_BOUND;
+use model::PIECE_BOUND;
+use model::WEIGHT_BOUND;
 ghost use mathlib.Core.Path.{_≡_};
 ghost use mathlib.Core.List.{List};
 ghost use Prim.Native.Nat.{ℕ, _+_, _<_, _≤_, _^_};
@@ -57,7 +60,7 @@ pub fn row_sum(penalties: &[u8], weights: &[u32], n: usize, i: usize) -> u64
     let mut sum = 0;
     let mut k = 0;
     while k < n {
-        sum += weight_between(weights, n, i, k) * (penalties[i * 64 + k] as u64);
+        sum += weight_between(weights, n, i, k) * (penalties[i * PIECE_BOUND + k] as u64);
         k += 1;
     }
     sum
@@ -73,7 +76,7 @@ fn row_part(penalties: &[u8], weights: &[u32], n: usize, i: usize, from: usize) 
     let mut k = i + 1;
     let mut at = from;
     while k < n {
-        sum += (weights[at] as u64) * (penalties[i * 64 + k] as u64);
+        sum += (weights[at] as u64) * (penalties[i * PIECE_BOUND + k] as u64);
         k += 1;
         at += 1;
     }
@@ -97,10 +100,10 @@ pub fn total(penalties: &[u8], weights: &[u32], n: usize) -> u64
 }
 
 // Weights 1 for every pair of 64 pieces.
-fn ones() -> [u32; 2016]
+fn ones() -> [u32; PAIR_BOUND]
     ensures { λ r. ⌜ r ≡ replicate 2016 1 ⌝ }
 {
-    [1u32; 2016]
+    [1u32; PAIR_BOUND]
 }
 
 // The plain sum: the weighted sum by weights 1.
@@ -121,7 +124,7 @@ fn raise_pair(weights: &mut [u32], at: usize, penalty: u8)
     if penalty == 0 {
         return;
     }
-    if weights[at] < 65535 {
+    if weights[at] < WEIGHT_BOUND {
         weights[at] += 1;
     }
 }
@@ -134,7 +137,7 @@ fn raise_row(penalties: &[u8], weights: &mut [u32], n: usize, i: usize, from: us
     let mut k = i + 1;
     let mut at = from;
     while k < n {
-        raise_pair(weights, at, penalties[i * 64 + k]);
+        raise_pair(weights, at, penalties[i * PIECE_BOUND + k]);
         k += 1;
         at += 1;
     }

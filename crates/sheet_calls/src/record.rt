@@ -3,6 +3,7 @@ use crate::Reply;
 use crate::SheetAnswer;
 use model::Column;
 use model::Entry;
+use model::PIECE_BOUND;
 use model::Placement;
 use model::Record;
 use model::Row;
@@ -31,7 +32,7 @@ pub fn blank_record() -> Record
         laid: false,
         place: origin(),
     };
-    let pieces = [entry; 64];
+    let pieces = [entry; PIECE_BOUND];
     Record { pieces }
 }
 

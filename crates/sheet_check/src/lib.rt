@@ -1,7 +1,9 @@
 // The test for refusal 8 of lay and withdraw: a record and counts that some list of calls gives. Every entry is blank or a piece laid
 // well, and the counts are those that the laid pieces make anew.
+use model::AREA_BOUND;
 use model::Entry;
 use model::JobSize;
+use model::PIECE_BOUND;
 use model::Record;
 use model::Turn;
 ghost use mathlib.Core.Path.{_≡_};
@@ -79,7 +81,7 @@ fn entries_well(size: JobSize, table: &[[u8; 3]], sheet: Record) -> bool
     ensures { λ r. ⌜ ((pixels : List ℕ) → r ≡ allBelow 64 (entryWell (jobOf (lentBy size (now (table .entry)) pixels)) (sheet .pieces))) ⌝ }
 {
     let mut i = 0;
-    while i < 64 {
+    while i < PIECE_BOUND {
         if !entry_well(size, table, sheet, i) {
             return false;
         }
@@ -150,7 +152,7 @@ fn counts_well(
     requires { ⌜ CanCount (lentBy size (now table) (now pixels)) (sheet .pieces) (length (now counts)) ⌝ }
     ensures { λ r. ⌜ r ≡ countsWell (jobOf (lentBy size (now (table .entry)) (now (pixels .entry)))) (sheet .pieces) (now (counts .entry)) ⌝ }
 {
-    let mut made = [0u8; 65536];
+    let mut made = [0u8; AREA_BOUND];
     counts_match(size, table, pixels, sheet, counts, &mut made)
 }
 

@@ -10,6 +10,9 @@ ghost use Rattle.piece_pixels.specs.Turned.{InBox, Stored};
 ghost use Rattle.sheet_counts.specs.Stamp.{moved, movedBy, Room, onAt, movedRun, movedRows};
 ghost use Rattle.sheet_counts.specs.Ready.{Ready};
 
+// The largest count.
+const COUNT_BOUND: u8 = 255;
+
 // The count after a piece is laid (up) or withdrawn that covers the pixel or not.
 fn moved_count(count: u8, on: bool, up: bool) -> u8
     ensures { λ r. ⌜ r ≡ moved up on count ⌝ }
@@ -18,7 +21,7 @@ fn moved_count(count: u8, on: bool, up: bool) -> u8
         return count;
     }
     if up {
-        if count < 255 {
+        if count < COUNT_BOUND {
             return count + 1;
         }
         // At most 64 pieces lie on a pixel: this does not happen.
