@@ -63,7 +63,7 @@ used-claims j v some h =
     let w : EndsAt j v (j .count) (rightmost j v (j .count)) = rightmost-attained j v (j .count) some in
     let last : rightEnd j v (w .piece) ≤ j .columns = end-within j v h (w .piece) (w .below) in
     let is : rightmost j v (j .count) ≡ rightEnd j v (w .piece) = w .is in
-    record { at-most = rightmost-at-most j v (j .count); attained = w; within = omega arith }
+    record { atMost = rightmost-at-most j v (j .count); attained = w; within = omega arith }
 
 -- a used length that the call gives
 pub used-given : (l : Lent) (es : List (List ℕ)) (n : ℕ) → usedLengthCall l es ≡ given n → UsedClaims (jobOf l) (layoutOf es) n

@@ -76,7 +76,7 @@ strips-well-exactly d l w ts = (
           rows = rebuilt-rows d l w ts;
           are = well-strips d l w ts (and-right (tight (rebuilt d l w ts)) _ both);
         };
-        is-tight = and-left (tight (rebuilt d l w ts)) _ both;
+        isTight = and-left (tight (rebuilt d l w ts)) _ both;
       },
   λ h.
       let v = piece-exactly d l w ts .0 h in
@@ -94,7 +94,7 @@ well-piece d l w es e =
     record {
       columns = rebuilt-columns d l w (map entryStrip es);
       rows = rebuilt-rows d l w (map entryStrip es);
-      is-tight = and-left (tight s) _ e;
+      isTight = and-left (tight s) _ e;
       are = same-entries (map stripEntry (strips d s)) es (and-right (tight s) _ e);
     }
 
@@ -111,7 +111,7 @@ piece-strips d l w es s p =
 pub piece-well : (d : Direction) (l w : ℕ) (es : List (List ℕ)) (s : Shape) → PieceOf d l w es s → stripsWell d l w es ≡ true
 piece-well d l w es s p =
     let h : PieceHas d l w (strips d s) =
-    record { shape = s; has = record { columns = p .columns; rows = p .rows; are = refl }; is-tight = p .is-tight } in
+    record { shape = s; has = record { columns = p .columns; rows = p .rows; are = refl }; isTight = p .isTight } in
     subst (λ (xs : List (List ℕ)). stripsWell d l w xs ≡ true) (p .are) (strips-well-exactly d l w (strips d s) .1 h)
 
 -- the cause of refusal 8 of rebuilding is not there exactly where some piece of the box has just the lent strips

@@ -26,7 +26,7 @@ cause-step : {A : Type 0} (c : Cause) (cs : List Cause) (a : A) (r : Refusal) (t
     → _≡_ {A = Outcome A} (elim t as (λ _. Outcome A) [ true ↦ refused (refusalOf c) | false ↦ unless cs a ]) (refused r)
     → FirstCause (c ∷ cs) r
 cause-step c cs a r true h more e =
-    record { before = []; first = c; later = cs; listed = refl; none-before = tt; there = h; tells = cc }
+    record { before = []; first = c; later = cs; listed = refl; noneBefore = tt; there = h; tells = cc }
 cause-step c cs a r false h more e =
     let f : FirstCause cs r = more e in
     record {
@@ -34,7 +34,7 @@ cause-step c cs a r false h more e =
       first = f .first;
       later = f .later;
       listed = ap (λ (l : List Cause). c ∷ l) (f .listed);
-      none-before = (h, f .none-before);
+      noneBefore = (h, f .noneBefore);
       there = f .there;
       tells = f .tells;
     }
@@ -56,7 +56,7 @@ cause-refuses (b ∷ before) c later a h e = rw (h .0, unless) (cause-refuses be
 pub refused-exactly : {A : Type 0} (cs : List Cause) (a : A) (r : Refusal) → (unless cs a ≡ refused r) ↔ FirstCause cs r
 refused-exactly cs a r = (
   refused-unless cs a r,
-  λ f. rw (f .listed) (cause-refuses (f .before) (f .first) (f .later) a (f .none-before) (f .there) ∙ ap refused (f .tells)),
+  λ f. rw (f .listed) (cause-refuses (f .before) (f .first) (f .later) a (f .noneBefore) (f .there) ∙ ap refused (f .tells)),
 )
 
 -- a call gives its value exactly where no cause is there

@@ -80,8 +80,8 @@ demand2-cover j few cs =
       entries = reached-sound j few cs .pieces;
       pixels = reached-sound j few cs .counts;
       counts = count-at j few cs;
-      counts-by-calls = λ x y l l′. count-at j few cs x y l l′ ∙ lying-pieces j few cs (record { x = x; y = y });
-      counts-by-number = reached-sound j few cs .count;
+      countsByCalls = λ x y l l′. count-at j few cs x y l l′ ∙ lying-pieces j few cs (record { x = x; y = y });
+      countsByNumber = reached-sound j few cs .count;
       laid = λ i. reached-laid j few i cs;
       unlaid = λ i. reached-blank j few i cs;
       placed = piece-placed j few cs;

@@ -49,10 +49,10 @@ pub record CoverHolds (j : Job) (cs : List Call) (s : Sheet) : Type 0 where
   pub counts : (x y : ℕ) → x < j .columns → y < j .rows
       → getD (s .counts) (y * j .columns + x) 0 ≡ laidPieces j (s .pieces) (record { x = x; y = y })
   -- the count of pixel (x, y), by the calls alone
-  pub counts-by-calls : (x y : ℕ) → x < j .columns → y < j .rows
+  pub countsByCalls : (x y : ℕ) → x < j .columns → y < j .rows
       → getD (s .counts) (y * j .columns + x) 0 ≡ lyingPieces j cs (record { x = x; y = y })
   -- the count of the pixel with number k
-  pub counts-by-number : (k : ℕ) → k < j .rows * j .columns → getD (s .counts) k 0 ≡ laidCount j (s .pieces) k
+  pub countsByNumber : (k : ℕ) → k < j .rows * j .columns → getD (s .counts) k 0 ≡ laidCount j (s .pieces) k
   -- a piece is laid exactly when the last of its calls that was not refused is a lay
   pub laid : (i : ℕ) → entryIn (s .pieces) i .laid ≡ endsLaid (lastTaken j (fresh j) i none cs)
   -- a piece that is not laid has turn 0 and corner (0, 0), after a withdraw too

@@ -53,7 +53,7 @@ module _ (d : Direction) (s : Shape) (u : Point) (t : Shape) (v : Point) where
       let both = not-apart k e in
       let w : SharedPixel s u t (shift d k v) = share-witness s u t (shift d k v) (both .0) in
       let z : SharedPixel s (shift d k u) t v = share-witness s (shift d k u) t v (both .1) in
-      omega (arith, along-shift d k u, along-shift d k v, shared-along d w, shared-along d z, pixel-along d s (w .p) (w .of-first), pixel-along d t (z .q) (z .of-second)))
+      omega (arith, along-shift d k u, along-shift d k v, shared-along d w, shared-along d z, pixel-along d s (w .p) (w .ofFirst), pixel-along d t (z .q) (z .ofSecond)))
 
   -- ── the depth ──
 

@@ -73,15 +73,15 @@ pub demand2-penalty : (s : Shape) (u : Point) (t : Shape) (v : Point) → Penalt
 demand2-penalty s u t v =
     let none-shared : (penalty s u t v ≡ 0) ↔ (share s u t v ≡ false) = (zero-penalty s u t v, penalty-zero s u t v) in
     record {
-      shared-exactly = share-exactly s u t v;
-      zero-exactly = none-shared;
-      zero-no-pixel = Iff·trans none-shared (no-pixel s u t v);
+      sharedExactly = share-exactly s u t v;
+      zeroExactly = none-shared;
+      zeroNoPixel = Iff·trans none-shared (no-pixel s u t v);
       depths = λ d. depth-exactly d s u t v;
-      shared-at = λ d. shares-unshifted d s u t v;
-      shared-shifted = λ d. shares-at-shift d s u t v;
-      pixel-depths = λ d n. (over-pixels-depth d s u t v n, λ e. rw e (depth-over-pixels d s u t v));
-      pixel-penalty = λ n. (over-pixels-penalty s u t v n, λ e. rw e (penalty-over-pixels s u t v));
-      at-most = penalty-le s u t v;
+      sharedAt = λ d. shares-unshifted d s u t v;
+      sharedShifted = λ d. shares-at-shift d s u t v;
+      pixelDepths = λ d n. (over-pixels-depth d s u t v n, λ e. rw e (depth-over-pixels d s u t v));
+      pixelPenalty = λ n. (over-pixels-penalty s u t v n, λ e. rw e (penalty-over-pixels s u t v));
+      atMost = penalty-le s u t v;
       attained = penalty-attained s u t v;
       symmetric = penalty-symmetric s u t v;
       bounded = penalty-bound s u t v;

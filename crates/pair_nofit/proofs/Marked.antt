@@ -94,7 +94,7 @@ marks-made es u fs v n cleared far after e m s =
     (λ h. m .grown .sound k b (farthest-reached far k h))
     (λ h.
     let w : StripsMeet es u fs (shifted k v) = share-meet es u fs (shifted k v) h in
-    reached-farthest far k (m .kept (w .i) (w .j) (w .i-below) (w .j-below) k b (w .meets))))
+    reached-farthest far k (m .kept (w .i) (w .j) (w .iBelow) (w .jBelow) k b (w .meets))))
     ∙ sym (flags-at (sharesAt es u fs v) n k (omega arith)))
 
 -- ── no-fit lines ──

@@ -64,20 +64,20 @@ module _ (d : Direction) (s t : Shape) (lines : extent (other d) s ≤ 255) (lin
       (λ e.
       let w : StripsMeet (entries d s) (lowCorner o) (entries d t) (shifted k (highCorner o)) = share-meet (entries d s) (lowCorner o) (entries d t) (shifted k (highCorner o)) e in
       let m : Meeting _ (lowCorner o) _ (shifted k (highCorner o)) = meet-facts (stripAt (entries d s) (w .i)) (lowCorner o) (stripAt (entries d t) (w .j)) (shifted k (highCorner o)) (w .meets) in
-      meet-share (entries d s) (firstCorner o) (entries d t) (shifted k (secondCorner o)) (w .i) (w .j) (w .i-below) (w .j-below)
+      meet-share (entries d s) (firstCorner o) (entries d t) (shifted k (secondCorner o)) (w .i) (w .j) (w .iBelow) (w .jBelow)
       (facts-meet (stripAt (entries d s) (w .i)) (firstCorner o) (stripAt (entries d t) (w .j)) (shifted k (secondCorner o))
       (record {
-        line = line-cut o _ _ (strip-line s lines (w .i) (w .i-below)) (strip-line t lines′ (w .j) (w .j-below)) (m .line);
+        line = line-cut o _ _ (strip-line s lines (w .i) (w .iBelow)) (strip-line t lines′ (w .j) (w .jBelow)) (m .line);
         low = m .low;
         high = m .high;
       })))
       (λ e.
       let w : StripsMeet (entries d s) (firstCorner o) (entries d t) (shifted k (secondCorner o)) = share-meet (entries d s) (firstCorner o) (entries d t) (shifted k (secondCorner o)) e in
       let m : Meeting _ (firstCorner o) _ (shifted k (secondCorner o)) = meet-facts (stripAt (entries d s) (w .i)) (firstCorner o) (stripAt (entries d t) (w .j)) (shifted k (secondCorner o)) (w .meets) in
-      meet-share (entries d s) (lowCorner o) (entries d t) (shifted k (highCorner o)) (w .i) (w .j) (w .i-below) (w .j-below)
+      meet-share (entries d s) (lowCorner o) (entries d t) (shifted k (highCorner o)) (w .i) (w .j) (w .iBelow) (w .jBelow)
       (facts-meet (stripAt (entries d s) (w .i)) (lowCorner o) (stripAt (entries d t) (w .j)) (shifted k (highCorner o))
       (record {
-        line = cut-line o _ _ (strip-line s lines (w .i) (w .i-below)) (strip-line t lines′ (w .j) (w .j-below)) (m .line);
+        line = cut-line o _ _ (strip-line s lines (w .i) (w .iBelow)) (strip-line t lines′ (w .j) (w .jBelow)) (m .line);
         low = m .low;
         high = m .high;
       })))

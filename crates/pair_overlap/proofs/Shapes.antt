@@ -123,15 +123,15 @@ module _ (d : Direction) (s : Shape) (u : Point) (t : Shape) (v : Point) where
   stretches-shared e =
       let m : StripsMeet (entries d s) (seen d u) (entries d t) (seen d v) = share-meet (entries d s) (seen d u) (entries d t) (seen d v) e in
       share-from s u t v
-      (meeting-shared _ _ (strips-maximal d s _ (at-member (strips d s) (m .i) (m .i-below)))
-      (strips-maximal d t _ (at-member (strips d t) (m .j) (m .j-below)))
+      (meeting-shared _ _ (strips-maximal d s _ (at-member (strips d s) (m .i) (m .iBelow)))
+      (strips-maximal d t _ (at-member (strips d t) (m .j) (m .jBelow)))
       (meet-facts _ (seen d u) _ (seen d v) (m .meets)))
 
   shared-stretches : share s u t v ≡ true → stretchesShare (entries d s) (seen d u) (entries d t) (seen d v) ≡ true
   shared-stretches e =
       let w : SharedPixel s u t v = share-witness s u t v e in
-      let p : InStrips d (strips d s) (w .p) = have-in d (strips d s) (w .p) (strips-exactly d s (w .p) ∙ w .of-first) in
-      let q : InStrips d (strips d t) (w .q) = have-in d (strips d t) (w .q) (strips-exactly d t (w .q) ∙ w .of-second) in
+      let p : InStrips d (strips d s) (w .p) = have-in d (strips d s) (w .p) (strips-exactly d s (w .p) ∙ w .ofFirst) in
+      let q : InStrips d (strips d t) (w .q) = have-in d (strips d t) (w .q) (strips-exactly d t (w .q) ∙ w .ofSecond) in
       let i : PlaceOf (p .strip) (strips d s) = place-of (p .strip) (strips d s) (p .listed) in
       let j : PlaceOf (q .strip) (strips d t) = place-of (q .strip) (strips d t) (q .listed) in
       let a = p .line in

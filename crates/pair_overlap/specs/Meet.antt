@@ -56,8 +56,8 @@ pub record SpanOf (s : Strip) (base : ℕ) (r : Span) : Type 0 where
 
 -- each of two strips begins before the other ends, when the corners add x and y
 pub record Crossing (s : Strip) (x : ℕ) (t : Strip) (y : ℕ) : Type 0 where
-  pub first-before : begin s + x < begin t + y + t .count
-  pub second-before : begin t + y < begin s + x + s .count
+  pub firstBefore : begin s + x < begin t + y + t .count
+  pub secondBefore : begin t + y < begin s + x + s .count
 
 -- every two strips that cross stand at i and j or later
 abbrev pub Passed : List (List ℕ) → ℕ → List (List ℕ) → ℕ → ℕ → ℕ → Type 0

@@ -96,8 +96,8 @@ pub share-boxes : (d : Direction) (s : Shape) (u : Point) (t : Shape) (v : Point
 share-boxes d s u t v e =
     let w : SharedPixel s u t v = share-witness s u t v e in
     let same = shared-along d w in
-    let first = pixel-along d s (w .p) (w .of-first) in
-    let second = pixel-along d t (w .q) (w .of-second) in
+    let first = pixel-along d s (w .p) (w .ofFirst) in
+    let second = pixel-along d t (w .q) (w .ofSecond) in
     (omega arith, omega arith)
 
 -- a placement on a line has the coordinate that was asked for

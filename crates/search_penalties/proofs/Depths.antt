@@ -33,7 +33,7 @@ module _ (es : List (List ℕ)) (u : Corner) (fs : List (List ℕ)) (v u′ v′
       let line = w .line in
       let low = w .low in
       let high = w .high in
-      meet-share fs v′ es u′ (m .j) (m .i) (m .j-below) (m .i-below)
+      meet-share fs v′ es u′ (m .j) (m .i) (m .jBelow) (m .iBelow)
       (facts-meet t v′ s u′ record { line = omega arith; low = omega arith; high = omega arith })
 
 -- the same pixels are shared in the other order, at corners with the same difference
@@ -98,7 +98,7 @@ module _ (es fs : List (List ℕ)) (p : Pair) where
       let m : StripsMeet es (movedAt p 0) fs (shifted 1 (standingAt p)) = share-meet es (movedAt p 0) fs (shifted 1 (standingAt p)) e in
       let w = meet-facts (stripAt es (m .i)) (movedAt p 0) (stripAt fs (m .j)) (shifted 1 (standingAt p)) (m .meets) in
       let low = w .low in
-      let h = b .moved (m .i) (m .i-below) in
+      let h = b .moved (m .i) (m .iBelow) in
       omega arith))
 
   box-last : (n : ℕ) → Boxed es fs p n → takenAt es fs p n ≡ false
@@ -108,7 +108,7 @@ module _ (es fs : List (List ℕ)) (p : Pair) where
       let m : StripsMeet fs (standingAt p) es (movedAt p n) = share-meet fs (standingAt p) es (movedAt p n) e in
       let w = meet-facts (stripAt fs (m .i)) (standingAt p) (stripAt es (m .j)) (movedAt p n) (m .meets) in
       let low = w .low in
-      let h = b .standing (m .i) (m .i-below) in
+      let h = b .standing (m .i) (m .iBelow) in
       omega arith)
 
   module _ (xs : List ℕ) (box : Boxed es fs p (length xs)) (marks : Marks (takenAt es fs p) xs) where

@@ -132,8 +132,8 @@ module _ (l : Lent) (ts : List ℕ) (lent : Stores) where
 
 -- with room the store and the starts are filled over the front
 record Over (d : Direction) (j : Job) (ts : List ℕ) (strips₀ : List (List ℕ)) (starts₀ : List ℕ) : Type 0 where
-  pub strips-over : sets strips₀ 0 (map stripEntry (store d j ts)) ≡ filled (map stripEntry (store d j ts)) strips₀
-  pub starts-over : sets starts₀ 0 (starts d j ts) ≡ filled (starts d j ts) starts₀
+  pub stripsOver : sets strips₀ 0 (map stripEntry (store d j ts)) ≡ filled (map stripEntry (store d j ts)) strips₀
+  pub startsOver : sets starts₀ 0 (starts d j ts) ≡ filled (starts d j ts) starts₀
 
 room-over : (d : Direction) (j : Job) (ts : List ℕ) (strips₀ : List (List ℕ)) (starts₀ : List ℕ) → roomFor d j ts (roomOf strips₀ starts₀) ≡ true
     → Over d j ts strips₀ starts₀
@@ -141,7 +141,7 @@ room-over d j ts strips₀ starts₀ e =
     let a : length (store d j ts) ≤ length strips₀ = ltb-false _ _ (not-true _ (and-left _ _ e)) in
     let b : length (starts d j ts) ≤ length starts₀ = ltb-false _ _ (not-true _ (and-right (not (ltb (length strips₀) (length (store d j ts)))) _ e)) in
     let m = length-map (store d j ts) stripEntry in
-    record { strips-over = sets-filled strips₀ (map stripEntry (store d j ts)) (omega arith); starts-over = sets-filled starts₀ (starts d j ts) b }
+    record { stripsOver = sets-filled strips₀ (map stripEntry (store d j ts)) (omega arith); startsOver = sets-filled starts₀ (starts d j ts) b }
 
 -- both stores and both starts, filled with room, hold what the strips call leaves in them
 pub stores-filled : (j : Job) (ts : List ℕ) {a₀ a₁ c₀ c₁ : List (List ℕ)} {b₀ b₁ e₀ e₁ : List ℕ} {m n : ℕ}
@@ -151,4 +151,4 @@ unfolding storesOf
 stores-filled j ts {a₀} {a₁} {c₀} {c₁} {b₀} {b₁} {e₀} {e₁} r f g =
     let o = room-over Horizontal j ts a₀ b₀ (and-left _ _ r) in
     let p = room-over Vertical j ts c₀ e₀ (and-right (roomFor Horizontal j ts (roomOf a₀ b₀)) _ r) in
-    rw (f .stored ∙ o .strips-over, f .started ∙ o .starts-over, g .stored ∙ p .strips-over, g .started ∙ p .starts-over)
+    rw (f .stored ∙ o .stripsOver, f .started ∙ o .startsOver, g .stored ∙ p .stripsOver, g .started ∙ p .startsOver)

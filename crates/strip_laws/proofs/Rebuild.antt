@@ -81,5 +81,5 @@ pub strips-some : (d : Direction) (s : Shape) → tight s ≡ true → 0 < lengt
 strips-some d s e =
     let w : LinePixel d s 0 = tight-pixel d s e in
     let p : Point = point d (w .place) 0 in
-    let t : InStrips d (strips d s) p = have-in d (strips d s) p (strips-exactly d s p ∙ w .is-pixel) in
+    let t : InStrips d (strips d s) p = have-in d (strips d s) p (strips-exactly d s p ∙ w .isPixel) in
     member-length (t .listed)

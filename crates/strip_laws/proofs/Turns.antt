@@ -69,7 +69,7 @@ turned-exactly t s =
     record {
       inside = image-in-box t s;
       pixels = λ p b. (λ e. image-pixel t s p b ∙ e, λ e. sym (image-pixel t s p b) ∙ e);
-      onto = λ q b. record { from = source t s q; in-box = source-in-box t s q b; goes = image-source t s q b };
+      onto = λ q b. record { from = source t s q; inBox = source-in-box t s q b; goes = image-source t s q b };
     }
 
 -- ── boxes of turned shapes ──

@@ -206,4 +206,4 @@ cell-room Vertical l w a c pixels r h k = (k, let q = in-rows {l = l} {w = w} {x
 pub room-again : {l w : ℕ} {pixels others : List ℕ} → Room l w pixels → length others ≡ length pixels → Room l w others
 room-again {l} {w} {pixels} {others} r e =
     let long : l * w ≤ length pixels = r .long in
-    record { wide = r .wide; high = r .high; columns-small = r .columns-small; rows-small = r .rows-small; long = omega arith }
+    record { wide = r .wide; high = r .high; columnsSmall = r .columnsSmall; rowsSmall = r .rowsSmall; long = omega arith }

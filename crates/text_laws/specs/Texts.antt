@@ -42,31 +42,31 @@ pub record Placed (j : Job) (i : ℕ) (p : Placement) : Type 0 where
 -- what is said of the texts
 pub record Demand1Text : Type 0 where
   -- what reading a job gives passes the check that every call makes of a lent job
-  pub read-passes : (text : List ℕ) (tableLength pixelsLength : ℕ) (k : Lent) → readJob text tableLength pixelsLength ≡ given k
+  pub readPasses : (text : List ℕ) (tableLength pixelsLength : ℕ) (k : Lent) → readJob text tableLength pixelsLength ≡ given k
       → lentWell k ≡ true
   -- the check passes exactly the lent jobs whose W, L, n, n entries and box pixels are what reading some text gives
-  pub check-exactly : (k : Lent) → (lentWell k ≡ true) ↔ Readable k
+  pub checkExactly : (k : Lent) → (lentWell k ≡ true) ↔ Readable k
   -- what is written of a layout whose placements are inside in allowed turns is read back as that layout
-  pub written-read : (j : Job) (v : Layout) → j .rows ≤ rowBound → j .columns ≤ columnBound → j .count ≤ pieceBound
+  pub writtenRead : (j : Job) (v : Layout) → j .rows ≤ rowBound → j .columns ≤ columnBound → j .count ≤ pieceBound
       → length v ≡ j .count → ((i : ℕ) → i < j .count → Placed j i (placeOf v i))
       → readLayout j (layoutText j v) (j .count) ≡ given v
   -- reading gives a job exactly where the text is the job's text, the job passes the check and the buffers suffice
-  pub job-exactly : (text : List ℕ) (tableLength pixelsLength : ℕ) (k : Lent)
+  pub jobExactly : (text : List ℕ) (tableLength pixelsLength : ℕ) (k : Lent)
       → (readJob text tableLength pixelsLength ≡ given k) ↔ JobWritten text tableLength pixelsLength k
   -- a text that is read as a layout is that layout's text, whatever the job
-  pub layout-only : (j : Job) (text : List ℕ) (layoutLength : ℕ) (v : Layout) → readLayout j text layoutLength ≡ given v
+  pub layoutOnly : (j : Job) (text : List ℕ) (layoutLength : ℕ) (v : Layout) → readLayout j text layoutLength ≡ given v
       → text ≡ layoutText j v
   -- reading gives a layout of a job in the bounds exactly where the text is the layout's text, every placement is inside in an
   -- allowed turn and the buffer has the layout's length
-  pub layout-exactly : (j : Job) → j .rows ≤ rowBound → j .columns ≤ columnBound → j .count ≤ pieceBound
+  pub layoutExactly : (j : Job) → j .rows ≤ rowBound → j .columns ≤ columnBound → j .count ≤ pieceBound
       → (text : List ℕ) (layoutLength : ℕ) (v : Layout) → (readLayout j text layoutLength ≡ given v) ↔ LayoutWritten j text layoutLength v
   -- a refusal of reading a job has its cause on the line that it names, and that line begins where the line ends before it say
-  pub job-refused : (text : List ℕ) (tableLength pixelsLength : ℕ) (r : Refusal) → readJob text tableLength pixelsLength ≡ refused r
+  pub jobRefused : (text : List ℕ) (tableLength pixelsLength : ℕ) (r : Refusal) → readJob text tableLength pixelsLength ≡ refused r
       → JobRefusalClaims text tableLength pixelsLength r
   -- and each such cause leads to its refusal
-  pub job-caused : (text : List ℕ) (tableLength pixelsLength : ℕ) → JobCausesRefuse text tableLength pixelsLength
+  pub jobCaused : (text : List ℕ) (tableLength pixelsLength : ℕ) → JobCausesRefuse text tableLength pixelsLength
   -- so has a refusal of reading a layout
-  pub layout-refused : (j : Job) (text : List ℕ) (layoutLength : ℕ) (r : Refusal) → readLayout j text layoutLength ≡ refused r
+  pub layoutRefused : (j : Job) (text : List ℕ) (layoutLength : ℕ) (r : Refusal) → readLayout j text layoutLength ≡ refused r
       → LayoutRefusalClaims j text layoutLength r
   -- and so does each cause there
-  pub layout-caused : (j : Job) (text : List ℕ) (layoutLength : ℕ) → LayoutCausesRefuse j text layoutLength
+  pub layoutCaused : (j : Job) (text : List ℕ) (layoutLength : ℕ) → LayoutCausesRefuse j text layoutLength

@@ -40,7 +40,7 @@ cast-result c =
     let z = toZ w32 (ofZ w32 o) in
     let n : Near z = down-near z (c .before .if1 .left) (c .if2 .left) in
     let f : toZ w32 (ofZ w32 (pos 0 -ℤ z)) ≡ pos 0 -ℤ z = toZ-ofZ w32 (pos 0 -ℤ z) (n .fits) in
-    (subst (λ (y : ℤ). T (nonNeg y)) (sym f) (n .not-negative), record { fits = omega (arith, ap natAbs f, n .is) })
+    (subst (λ (y : ℤ). T (nonNeg y)) (sym f) (n .notNegative), record { fits = omega (arith, ap natAbs f, n .is) })
 
 returns-3 : tie.Need-returns-3
 returns-3 c =

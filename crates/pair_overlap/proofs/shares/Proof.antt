@@ -82,11 +82,11 @@ returns-2 c =
     (record {
       k = c .before .before .before .before .before .before .before .before .before .before .loop .i;
       l = c .before .before .before .before .before .before .before .before .before .before .loop .j;
-      k-below = omega arith;
-      l-below = omega arith;
+      kBelow = omega arith;
+      lBelow = omega arith;
       first = omega arith;
       second = omega arith;
-      crossing = record { first-before = omega (arith, c .if3 .left); second-before = omega (arith, c .before .before .before .if2 .left) };
+      crossing = record { firstBefore = omega (arith, c .if3 .left); secondBefore = omega (arith, c .before .before .before .if2 .left) };
     }))
 
 returns-3 : tie.Need-returns-3 Inv-loop μ-loop

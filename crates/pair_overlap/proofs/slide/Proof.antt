@@ -134,7 +134,7 @@ returns-2 c =
     let w = c .before .before .before .before .before .before .before .before .before .before .before .before .before .loop in
     let found =
     pushed (s .a .now) (c .before .before .before .before .before .before .before .before .before .before .before .before .before .before .before .before .base .result) (s .b .now) (c .before .before .before .before .before .before .before .before .before .before .before .before .before .before .before .base2 .result) (w .t) (w .i) (w .j) (omega arith) (omega arith) (omega arith) (omega arith)
-    (record { first-before = omega (arith, c .before .before .before .if3 .left); second-before = omega (arith, c .before .before .before .before .before .before .if2 .left) }) (w .inv .4) in
+    (record { firstBefore = omega (arith, c .before .before .before .if3 .left); secondBefore = omega (arith, c .before .before .before .before .before .before .if2 .left) }) (w .inv .4) in
     let near = c .before .before .before .before .before .before .before .before .before .before .before .before .before .before .before .before .before .pre .1 .1 .0 in
     let few = c .before .before .before .before .before .before .before .before .before .before .before .before .before .before .before .before .before .pre .1 .1 .1 in
     record {
@@ -161,7 +161,7 @@ loop-again-3 c =
     let w = c .before .before .before .before .before .before .before .before .before .before .before .before .before .loop in
     let found =
     pushed (s .a .now) (c .before .before .before .before .before .before .before .before .before .before .before .before .before .before .before .before .base .result) (s .b .now) (c .before .before .before .before .before .before .before .before .before .before .before .before .before .before .before .base2 .result) (w .t) (w .i) (w .j) (omega arith) (omega arith) (omega arith) (omega arith)
-    (record { first-before = omega (arith, c .before .before .before .if3 .left); second-before = omega (arith, c .before .before .before .before .before .before .if2 .left) }) (w .inv .4) in (
+    (record { firstBefore = omega (arith, c .before .before .before .if3 .left); secondBefore = omega (arith, c .before .before .before .before .before .before .if2 .left) }) (w .inv .4) in (
       omega arith,
       omega arith,
       c .if4 .left,
