@@ -39,7 +39,7 @@ use Rattle.cover_laws.specs.Effects.{LayGives, WithdrawGives}
 use Rattle.cover_laws.specs.CoverClaims.{CoverHolds}
 use Rattle.descent_laws.specs.Claims.{ValidLayout, TrialsClaims, DescentClaims, GuidedClaims}
 use Rattle.descent_laws.proofs.Order.{trials-claims}
-use Rattle.descent_laws.specs.Search.{Found}
+use Rattle.descent_laws.specs.Search.{LeastFound}
 use Rattle.call_laws.specs.Stores.{StretchClaims}
 use Rattle.call_laws.proofs.Stores.{stretch-some, stretch-tells, stretch-after, stretch-lent, stretch-rebuilt}
 use Rattle.call_laws.specs.Rebuilding.{PieceOf, RebuildClaims, RebuiltAs}
@@ -159,7 +159,7 @@ pub record Demand3Calls : Type 0 where
       → SumClaims (jobOf l) (unitWeights (jobOf l .count)) (layoutOf es) n
   -- a line search finds the least sum over every inside corner on the line, and the smallest coordinate that has it
   pub searches : (l : Lent) (es : List (List ℕ)) (ws : List ℕ) (i : ℕ) (t : Turn) (line : Line) (b : Best)
-      → searchCall l es ws i t line ≡ given b → Found (jobOf l) ws (layoutOf es) i t line b
+      → searchCall l es ws i t line ≡ given b → LeastFound (jobOf l) ws (layoutOf es) i t line b
   -- the cause of refusal 11 is there exactly where no inside corner lies on the line
   pub emptyLines : (l : Lent) (i : ℕ) (t : Turn) (line : Line)
       → (eqb (places (jobOf l) i t line) 0 ≡ true) ↔ ((a : ℕ) → inside (jobOf l) i (onLine line t a) ≡ true → ⊥)

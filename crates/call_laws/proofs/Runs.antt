@@ -27,7 +27,7 @@ use Rattle.job_laws.proofs.Checked.{lent-some}
 use Rattle.text_laws.proofs.Entries.{entries-read-back}
 use Rattle.text_laws.proofs.Outcomes.{given-unless, unless-given}
 use Rattle.descent_laws.specs.Claims.{ValidWeights, ValidLayout, DescentClaims, GuidedClaims}
-use Rattle.descent_laws.specs.Search.{Found}
+use Rattle.descent_laws.specs.Search.{LeastFound}
 use Rattle.descent_laws.proofs.Search.{Searched, searched, inside-below, below-inside}
 use Rattle.descent_laws.proofs.Demand3.{demand3}
 use Rattle.call_laws.proofs.Layouts.{BufferPasses, valid-buffer, weights-pass, job-well, layout-valid, lent-weights-valid}
@@ -68,13 +68,13 @@ empty-line-exactly j i t line = (
 
 -- where an inside corner lies on the line, the answer is a best place
 place-found : (j : Job) (ws : List ℕ) (v : Layout) (i : ℕ) (t : Turn) (line : Line) (o : Option Best) → Searched j ws v i t line o
-    → 0 < places j i t line → Found j ws v i t line (bestPlace o)
+    → 0 < places j i t line → LeastFound j ws v i t line (bestPlace o)
 place-found j ws v i t line none h some-place = absurd (h 0 (below-inside j i t line 0 some-place))
 place-found j ws v i t line (some b) h some-place = h
 
 -- a line search that the call gives found the least sum over the inside corners on the line and the smallest coordinate that has it
 pub search-given : (l : Lent) (es : List (List ℕ)) (ws : List ℕ) (i : ℕ) (t : Turn) (line : Line) (b : Best)
-    → searchCall l es ws i t line ≡ given b → Found (jobOf l) ws (layoutOf es) i t line b
+    → searchCall l es ws i t line ≡ given b → LeastFound (jobOf l) ws (layoutOf es) i t line b
 unfolding searchCall
 search-given l es ws i t line b e =
     let u = given-unless _ (bestPlace (searchLine (jobOf l) ws (layoutOf es) i t line)) b e in

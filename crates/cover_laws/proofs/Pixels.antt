@@ -23,13 +23,13 @@ pub number-below : (j : Job) (x y : ℕ) → x < j .columns → y < j .rows → 
 number-below j x y l l′ = omega (arith, mul-le-mul-right (j .columns) l′)
 
 -- q is a pixel of the sheet and has the number k
-pub record OnSheet (j : Job) (k : ℕ) (q : Point) : Type 0 where
+pub record PixelOnSheet (j : Job) (k : ℕ) (q : Point) : Type 0 where
   pub column : q .x < j .columns
   pub row : q .y < j .rows
   pub number : q .y * j .columns + q .x ≡ k
 
 -- a number below W × L is that of a pixel of the sheet
-pub number-pixel : (j : Job) (k : ℕ) → k < j .rows * j .columns → OnSheet j k (pixelAt j k)
+pub number-pixel : (j : Job) (k : ℕ) → k < j .rows * j .columns → PixelOnSheet j k (pixelAt j k)
 number-pixel j k l =
     let some : 0 < j .columns = factor-positive (j .columns) (j .rows) (omega (arith, mul-comm (j .rows) (j .columns))) in
     record { column = mod-lt k some; row = div-lt-iff-lt-mul some .1 l; number = div-add-mod' k (j .columns) }

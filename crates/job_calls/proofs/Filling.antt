@@ -148,18 +148,18 @@ abbrev pub fillPieces : List ℕ → JobLine → ℕ → ℕ → ℕ → ℕ →
 fillPieces text j left i area p line table store = andThen (piecesAt text j left i area p line) (full i area table store)
 
 -- where reading stands after a piece
-abbrev pub placeOf : ℕ → ℕ → PieceText → Place
-placeOf area line t = record { area = area + t .columns * t .rows; next = t .next; line = line + t .rows + 1 }
+abbrev pub placeRead : ℕ → ℕ → PieceText → Place
+placeRead area line t = record { area = area + t .columns * t .rows; next = t .next; line = line + t .rows + 1 }
 
 -- what an answer says of a piece
 pub record Placed (area line : ℕ) (at : Place) (x : Outcome PieceText) : Type 0 where
   pub piece : PieceText
   pub gives : x ≡ given piece
-  pub same : at ≡ placeOf area line piece
+  pub same : at ≡ placeRead area line piece
 
 pub place-told : (area line : ℕ) (at : Place) (x : Outcome PieceText) → place.Read at ≡ placeAnswer area line x → Placed area line at x
 place-told area line at (refused s) e = let z : _≡_ {A = ℕ} 0 1 = cc in absurd (omega arith)
-place-told area line at (given t) e = let z : at ≡ placeOf area line t = cc in record { piece = t; gives = refl; same = z }
+place-told area line at (given t) e = let z : at ≡ placeRead area line t = cc in record { piece = t; gives = refl; same = z }
 
 pub place-denied : (area line : ℕ) (s : Refusal) (x : Outcome PieceText) → place.Refused s ≡ placeAnswer area line x → x ≡ refused s
 place-denied area line s (refused t) e = let z : s ≡ t = cc in ap refused (sym z)

@@ -20,7 +20,7 @@ ghost use lib.ListN.{length, set};
 ghost use Rattle.model.specs.JobText.{pieceAt, piecesAt, readJob};
 ghost use Rattle.job_check.specs.Boxes.{Side};
 ghost use Rattle.job_lines.specs.Lines.{jobLineOf, pieceLineOf};
-ghost use Rattle.job_calls.specs.Reading.{Within, boxAt, placeAnswer, BoxStored, PieceStored, piecesAnswer, PiecesStored, roomed, Leaves};
+ghost use Rattle.job_calls.specs.Reading.{PlaceWithin, boxAt, placeAnswer, BoxStored, PieceStored, piecesAnswer, PiecesStored, roomed, Leaves};
 
 // Where reading stands: the areas of the boxes so far, the position and the line of what follows.
 struct Place {
@@ -55,7 +55,7 @@ fn put_entry(table: &mut [[u8; 3]], i: usize, columns: usize, rows: usize, turns
 // Stores the rows of a piece and tests its box, whose pixels stand in the text, each row 5 bytes longer than the box.
 fn fill_box(text: &[u8], h: PieceHead, area: usize, line: usize, pixels: &mut [u8]) -> PieceAnswer
     requires { ⌜ (h .next ≤ length (now text)) × Side (h .columns) × Side (h .rows) × (area + h .columns * h .rows ≤ 65536) × (line ≤ 65536) ⌝ }
-    ensures { λ r. ⌜ (r ≡ placeAnswer area line (boxAt (now (text .entry)) line (pieceLineOf h))) × Within (now (text .entry)) line r × BoxStored area (now (pixels .entry)) (now (pixels .exit)) (boxAt (now (text .entry)) line (pieceLineOf h)) ⌝ }
+    ensures { λ r. ⌜ (r ≡ placeAnswer area line (boxAt (now (text .entry)) line (pieceLineOf h))) × PlaceWithin (now (text .entry)) line r × BoxStored area (now (pixels .entry)) (now (pixels .exit)) (boxAt (now (text .entry)) line (pieceLineOf h)) ⌝ }
 {
     let start = h.next;
     match fill_rows(text, start, h.columns, h.rows, line + 1, pixels, area) {
@@ -83,7 +83,7 @@ fn fill_piece(
     pixels: &mut [u8],
 ) -> PieceAnswer
     requires { ⌜ (at .next ≤ length (now text)) × (at .area ≤ 65536) × (at .line ≤ 65536) ⌝ }
-    ensures { λ r. ⌜ (r ≡ placeAnswer (at .area) (at .line) (pieceAt (now (text .entry)) (jobLineOf j) i (at .area) (at .next) (at .line))) × Within (now (text .entry)) (at .line) r × PieceStored i (at .area) (now (table .entry)) (now (table .exit)) (now (pixels .entry)) (now (pixels .exit)) (pieceAt (now (text .entry)) (jobLineOf j) i (at .area) (at .next) (at .line)) ⌝ }
+    ensures { λ r. ⌜ (r ≡ placeAnswer (at .area) (at .line) (pieceAt (now (text .entry)) (jobLineOf j) i (at .area) (at .next) (at .line))) × PlaceWithin (now (text .entry)) (at .line) r × PieceStored i (at .area) (now (table .entry)) (now (table .exit)) (now (pixels .entry)) (now (pixels .exit)) (pieceAt (now (text .entry)) (jobLineOf j) i (at .area) (at .next) (at .line)) ⌝ }
 {
     match piece_line(text, j, i, at.area, at.next, at.line) {
         PieceLineAnswer::Refused(r) => PieceAnswer::Refused(r),

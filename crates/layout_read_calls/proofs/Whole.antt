@@ -28,11 +28,11 @@ layout-refused (refused s) r e = cc
 layout-refused (given v) r e = let z : _≡_ {A = ℕ} 0 1 = cc in absurd (omega arith)
 
 -- a layout that is given
-pub record Given (o : Outcome Layout) : Type 0 where
+pub record ReadGiven (o : Outcome Layout) : Type 0 where
   pub layout : Layout
   pub gives : o ≡ given layout
 
-pub layout-given : (o : Outcome Layout) → LayoutAnswer.Read ≡ layoutAnswer o → Given o
+pub layout-given : (o : Outcome Layout) → LayoutAnswer.Read ≡ layoutAnswer o → ReadGiven o
 layout-given (refused s) e = let z : _≡_ {A = ℕ} 0 1 = cc in absurd (omega arith)
 layout-given (given v) e = record { layout = v; gives = refl }
 

@@ -6,7 +6,7 @@ ghost use lib.ListN.{length, getD, take};
 ghost use Rattle.model.specs.Lent.{lentBy, jobOf, entryColumns, entryRows, rowBound, columnBound, pieceBound};
 ghost use Rattle.model.specs.Start.{onStack};
 ghost use Rattle.layout_places.specs.Fitting.{Fitting};
-ghost use Rattle.layout_start_calls.specs.Stacks.{stackOf, emptyStack, stackEntries, Room, Piled};
+ghost use Rattle.layout_start_calls.specs.Stacks.{stackOf, emptyStack, stackEntries, PileRoom, Piled};
 use layout_places::entry_of;
 use layout_places::numbers::larger;
 use layout_places::numbers::side;
@@ -34,7 +34,7 @@ fn smaller(a: usize, b: usize) -> usize
 // The pile that takes piece i: a new one to the right where the piece would rise above the sheet.
 fn room_for(size: JobSize, table: &[[u8; 3]], i: usize, pile: Pile) -> Pile
     requires { ⌜ (i < length (now table)) × (entryRows (now table) i ≤ size .rows) × (pile .height .0 ≤ rowBound) × (pile .left .0 + pile .length ≤ 65535) ⌝ }
-    ensures { λ r. ⌜ Room size (now (table .entry)) i pile r ⌝ }
+    ensures { λ r. ⌜ PileRoom size (now (table .entry)) i pile r ⌝ }
 {
     let rows = side(table[i][1]);
     if size.rows < pile.height.0 as usize + rows {

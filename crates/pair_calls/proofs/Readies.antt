@@ -19,11 +19,11 @@ use Rattle.list_laws.proofs.Bounded.{any-none}
 use Rattle.job_laws.proofs.Checked.{facts, Facts, entry-at}
 use Rattle.text_laws.specs.Outcomes.{NoCause}
 use Rattle.job_laws.proofs.Starts.{start-end}
-use Rattle.pair_measure.specs.Ready.{Ready, Together}
+use Rattle.pair_measure.specs.Ready.{MeasureReady, Together}
 
 -- a piece of a layout that passes
 pub piece-ready : (l : Lent) (es : List (List ℕ)) → lentWell l ≡ true → someOutside (jobOf l) (layoutOf es) ≡ false
-    → (i : ℕ) → i < l .count → Ready (l .table) i (placeOf (layoutOf es) i)
+    → (i : ℕ) → i < l .count → MeasureReady (l .table) i (placeOf (layoutOf es) i)
 unfolding someOutside inside jobOf
 piece-ready l es w out i b =
     let p = placeOf (layoutOf es) i in
@@ -58,8 +58,8 @@ pair-together l w i k a b e =
 pub record Measurable (l : Lent) (es : List (List ℕ)) (i k : ℕ) : Type 0 where
   pub first-place : i < length es
   pub second-place : k < length es
-  pub first : Ready (l .table) i (placeOf (layoutOf es) i)
-  pub second : Ready (l .table) k (placeOf (layoutOf es) k)
+  pub first : MeasureReady (l .table) i (placeOf (layoutOf es) i)
+  pub second : MeasureReady (l .table) k (placeOf (layoutOf es) k)
   pub together : Together (l .table) i k
 
 pub measurable : (l : Lent) (es : List (List ℕ)) (i k : ℕ) → NoCause (pairCauses l es i k) → Measurable l es i k

@@ -18,7 +18,7 @@ use Rattle.model.specs.declared.Direction.{Direction}
 use Rattle.model.specs.declared.Direction.the-variants.{Horizontal, Vertical}
 use Rattle.list_laws.proofs.Tests.{same-tests, clash, passes}
 use Rattle.overlap_laws.proofs.Depth.{depth-bound, depth-zero, zero-depth}
-use Rattle.pair_measure.specs.Ready.{Ready}
+use Rattle.pair_measure.specs.Ready.{MeasureReady}
 use Rattle.pair_measure.proofs.Stores.{piece-extent}
 
 -- what is cut off at 256 is at most 256
@@ -42,8 +42,8 @@ cut a b m n e f = omega arith
 abbrev measured : {A : Type 0} → (Shape → Point → Shape → Point → A) → Job → ℕ → Placement → ℕ → Placement → A
 measured f j i p k q = f (turnedPiece j i (p .turn)) (corner p) (turnedPiece j k (q .turn)) (corner q)
 
-module _ (size : JobSize) (table : List (List ℕ)) (pixels : List ℕ) (i : ℕ) (p : Placement) (r : Ready table i p) (k : ℕ) (q : Placement)
-    (w : Ready table k q) where
+module _ (size : JobSize) (table : List (List ℕ)) (pixels : List ℕ) (i : ℕ) (p : Placement) (r : MeasureReady table i p) (k : ℕ) (q : Placement)
+    (w : MeasureReady table k q) where
   -- the depth of two ready pieces is at most 255
   ready-depth : (d : Direction) → measured (depth d) (jobOf (lentBy size table pixels)) i p k q ≤ 255
   ready-depth d =

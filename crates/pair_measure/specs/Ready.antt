@@ -6,7 +6,7 @@ use Rattle.model.specs.Lent.{pixelStart, entryArea, areaBound}
 use Rattle.model.specs.declared.Placement.{Placement}
 use Rattle.job_laws.specs.Entries.{EntryAt}
 
-pub record Ready (table : List (List ℕ)) (i : ℕ) (p : Placement) : Type 0 where
+pub record MeasureReady (table : List (List ℕ)) (i : ℕ) (p : Placement) : Type 0 where
   pub entry : EntryAt table i (pixelStart table i)
   pub few : i ≤ 64
   pub x : p .x .0 < 16384

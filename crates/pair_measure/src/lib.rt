@@ -19,7 +19,7 @@ ghost use Rattle.model.specs.declared.JobSize.{JobSize};
 ghost use Rattle.job_laws.specs.Entries.{EntryAt};
 ghost use Rattle.strip_scan.specs.Put.{Appended};
 ghost use Rattle.pair_overlap.specs.Seen.{seen};
-ghost use Rattle.pair_measure.specs.Ready.{Ready, Together, pairRoom};
+ghost use Rattle.pair_measure.specs.Ready.{MeasureReady, Together, pairRoom};
 
 // The most strips of two pieces of a job along a direction.
 const PAIR_ROOM: usize = 33023;
@@ -78,7 +78,7 @@ fn depth_in(
     bound: u32,
     store: &mut [[u8; 3]],
 ) -> u32
-    requires { ⌜ Ready (now table) i p ⌝ ∗ ⌜ Ready (now table) k q ⌝ ∗ ⌜ Together (now table) i k ⌝ ∗ ⌜ bound ≤ 256 ⌝ ∗ ⌜ length (now store) ≡ pairRoom ⌝ }
+    requires { ⌜ MeasureReady (now table) i p ⌝ ∗ ⌜ MeasureReady (now table) k q ⌝ ∗ ⌜ Together (now table) i k ⌝ ∗ ⌜ bound ≤ 256 ⌝ ∗ ⌜ length (now store) ≡ pairRoom ⌝ }
     ensures { λ r. ⌜ ((size : JobSize) → r ≡ min (depth direction (turnedPiece (jobOf (lentBy size (now (table .entry)) (now (pixels .entry)))) i (p .turn)) (corner p) (turnedPiece (jobOf (lentBy size (now (table .entry)) (now (pixels .entry)))) k (q .turn)) (corner q)) bound) ⌝ }
 {
     let first = p.turn;
@@ -104,7 +104,7 @@ pub fn placed_depth(
     direction: Direction,
     bound: u32,
 ) -> u32
-    requires { ⌜ Ready (now table) i p ⌝ ∗ ⌜ Ready (now table) k q ⌝ ∗ ⌜ Together (now table) i k ⌝ ∗ ⌜ bound ≤ 256 ⌝ }
+    requires { ⌜ MeasureReady (now table) i p ⌝ ∗ ⌜ MeasureReady (now table) k q ⌝ ∗ ⌜ Together (now table) i k ⌝ ∗ ⌜ bound ≤ 256 ⌝ }
     ensures { λ r. ⌜ ((size : JobSize) → r ≡ min (depth direction (turnedPiece (jobOf (lentBy size (now (table .entry)) (now (pixels .entry)))) i (p .turn)) (corner p) (turnedPiece (jobOf (lentBy size (now (table .entry)) (now (pixels .entry)))) k (q .turn)) (corner q)) bound) ⌝ }
 {
     let mut store = empty_store();
@@ -121,7 +121,7 @@ pub fn placed_penalty(
     k: usize,
     q: Placement,
 ) -> u32
-    requires { ⌜ Ready (now table) i p ⌝ ∗ ⌜ Ready (now table) k q ⌝ ∗ ⌜ Together (now table) i k ⌝ }
+    requires { ⌜ MeasureReady (now table) i p ⌝ ∗ ⌜ MeasureReady (now table) k q ⌝ ∗ ⌜ Together (now table) i k ⌝ }
     ensures { λ r. ⌜ ((size : JobSize) → r ≡ penalty (turnedPiece (jobOf (lentBy size (now (table .entry)) (now (pixels .entry)))) i (p .turn)) (corner p) (turnedPiece (jobOf (lentBy size (now (table .entry)) (now (pixels .entry)))) k (q .turn)) (corner q)) ⌝ }
 {
     let mut store = empty_store();

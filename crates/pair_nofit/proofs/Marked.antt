@@ -24,7 +24,7 @@ use Rattle.pair_overlap.specs.declared.Corner.{Corner}
 use Rattle.pair_overlap.proofs.Walk.{StripsMeet, share-meet}
 use Rattle.pair_overlap.specs.Seen.{entries, seen}
 use Rattle.pair_overlap.proofs.Shapes.{entries-share}
-use Rattle.pair_nofit.specs.Marks.{flagsFrom, sharesAt, marksOf, Reached, AllMarked, Swept, farthest}
+use Rattle.pair_nofit.specs.Marks.{flagsFrom, sharesAt, marksOf, ShiftReached, AllMarked, Swept, farthest}
 
 -- ── flags ──
 
@@ -70,10 +70,10 @@ past-farthest far (suc n) at l =
     (below-or at n)
 
 -- a place is reached exactly when the farthest end of the intervals up to it lies past it
-reached-farthest : (far : List ℕ) (m : ℕ) → Reached far m → ltb m (farthest far (suc m)) ≡ true
+reached-farthest : (far : List ℕ) (m : ℕ) → ShiftReached far m → ltb m (farthest far (suc m)) ≡ true
 reached-farthest far m r = lt-ltb m (farthest far (suc m)) (omega (arith, r .high, past-farthest far (suc m) (r .at) (omega (arith, r .low))))
 
-farthest-reached : (far : List ℕ) (m : ℕ) → ltb m (farthest far (suc m)) ≡ true → Reached far m
+farthest-reached : (far : List ℕ) (m : ℕ) → ltb m (farthest far (suc m)) ≡ true → ShiftReached far m
 farthest-reached far m e =
     let w : EndPast far (suc m) m = farthest-past far (suc m) m (ltb-true m (farthest far (suc m)) e) in
     record { at = w .at; low = omega (arith, w .low); high = w .high }

@@ -27,7 +27,7 @@ use Rattle.strip_laws.proofs.Strips.{InStrips, have-in, strips-exactly, strips-
 use Rattle.overlap_laws.specs.Overlap.{SharedPixel}
 use Rattle.overlap_laws.proofs.Share.{share-witness, share-from, share-symmetric, shared-along, shared-across, shared-over, along-point, across-point, along-shift, across-shift}
 use Rattle.overlap_laws.proofs.Depth.{depth-before, depth-apart}
-use Rattle.pair_overlap.specs.Meet.{stripAt, begin, Ordered, shifted, meet, stretchesShare, clearAt, clearBelow, depthBelow, penaltyBelow}
+use Rattle.pair_overlap.specs.Meet.{stripAt, stripBegin, Ordered, shifted, meet, stretchesShare, clearAt, clearBelow, depthBelow, penaltyBelow}
 pub use Rattle.pair_overlap.specs.Seen.{entries, seen}
 use Rattle.pair_overlap.proofs.Walk.{Meeting, meet-facts, facts-meet, meet-share, StripsMeet, share-meet}
 
@@ -66,11 +66,11 @@ place-of t (x ∷ ts) (List·Memᴰ·tail m) =
 
 -- the strips of a set stand by line, then first
 strips-order : (d : Direction) (s : Shape) → extent d s ≤ 255 → (i j : ℕ) → i ≤ j → j < length (entries d s)
-    → begin (stripAt (entries d s) i) ≤ begin (stripAt (entries d s) j)
+    → stripBegin (stripAt (entries d s) i) ≤ stripBegin (stripAt (entries d s) j)
 strips-order d s h i j l m =
     let ts : List Strip = strips d s in
     ⊎-elim
-    (λ (e : i ≡ j). subst (λ (k : ℕ). begin (stripAt (entries d s) i) ≤ begin (stripAt (entries d s) k)) e (omega arith))
+    (λ (e : i ≡ j). subst (λ (k : ℕ). stripBegin (stripAt (entries d s) i) ≤ stripBegin (stripAt (entries d s) k)) e (omega arith))
     (λ (lt : i < j).
     let a : MaximalStrip d s (stripAt (entries d s) i) = strips-maximal d s _ (at-member ts i (omega arith)) in
     let b : StripBefore (getD ts i no-strip) (getD ts j no-strip) = pairwise-at (strips-ordered d s) i j no-strip lt (omega (arith, length-entries ts)) in

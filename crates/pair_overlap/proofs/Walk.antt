@@ -17,7 +17,7 @@ use Rattle.list_laws.proofs.Firsts.{first-found, first-unique, first-cut}
 use Rattle.list_laws.proofs.Numbers.{below-or}
 use Rattle.list_laws.proofs.Tests.{and-left, and-right, and-both, fails}
 use Rattle.list_laws.proofs.Bounded.{any-witness, any-from}
-use Rattle.pair_overlap.specs.Meet.{stripAt, begin, Ordered, Crossing, Passed, Skipped, shiftBound, baseOf, shifted, meet, stretchesShare, clearAt, clearBelow, depthBelow}
+use Rattle.pair_overlap.specs.Meet.{stripAt, stripBegin, Ordered, Crossing, CrossingsPassed, Skipped, shiftBound, baseOf, shifted, meet, stretchesShare, clearAt, clearBelow, depthBelow}
 use Rattle.pair_overlap.specs.declared.Corner.{Corner}
 
 -- what it is for two placed strips to hold a common pixel
@@ -79,7 +79,7 @@ share-meet es u fs v e =
     record { i = a .number; j = b .number; iBelow = a .below; jBelow = b .below; meets = b .passing }
 
 -- two strips of the stretches that cross
-pub record Found (es : List (List ℕ)) (x : ℕ) (fs : List (List ℕ)) (y : ℕ) : Type 0 where
+pub record CrossingFound (es : List (List ℕ)) (x : ℕ) (fs : List (List ℕ)) (y : ℕ) : Type 0 where
   pub k : ℕ
   pub l : ℕ
   pub kBelow : k < length es
@@ -90,7 +90,7 @@ pub record Found (es : List (List ℕ)) (x : ℕ) (fs : List (List ℕ)) (y : �
 
 -- stretches with two strips that cross hold a common pixel
 pub found-shares : (es : List (List ℕ)) (u : Corner) (fs : List (List ℕ)) (v : Corner) (x y : ℕ) → x ≡ baseOf u → y ≡ baseOf v
-    → u .along < 65000 → v .along < 65000 → Found es x fs y → stretchesShare es u fs v ≡ true
+    → u .along < 65000 → v .along < 65000 → CrossingFound es x fs y → stretchesShare es u fs v ≡ true
 found-shares es u fs v x y e f l m w =
     meet-share es u fs v (w .k) (w .l) (w .kBelow) (w .lBelow)
     (crossing-meets (stripAt es (w .k)) u (stripAt fs (w .l)) v (omega (arith, w .first)) (omega (arith, w .second))
@@ -98,8 +98,8 @@ found-shares es u fs v x y e f l m w =
 
 module _ (es : List (List ℕ)) (x : ℕ) (fs : List (List ℕ)) (y : ℕ) (i j : ℕ) where
   -- the first stretch's strip ends before the other's begins: it is passed
-  pub pass-first : Ordered fs → Passed es x fs y i j → begin (stripAt es i) + x + stripAt es i .count ≤ begin (stripAt fs j) + y
-      → Passed es x fs y (i + 1) j
+  pub pass-first : Ordered fs → CrossingsPassed es x fs y i j → stripBegin (stripAt es i) + x + stripAt es i .count ≤ stripBegin (stripAt fs j) + y
+      → CrossingsPassed es x fs y (i + 1) j
   pass-first o p h k l m n c =
       let q = p k l m n c in (
         ⊎-elim
@@ -112,8 +112,8 @@ module _ (es : List (List ℕ)) (x : ℕ) (fs : List (List ℕ)) (y : ℕ) (i j 
       )
 
   -- and the other way round
-  pub pass-second : Ordered es → Passed es x fs y i j → begin (stripAt fs j) + y + stripAt fs j .count ≤ begin (stripAt es i) + x
-      → Passed es x fs y i (j + 1)
+  pub pass-second : Ordered es → CrossingsPassed es x fs y i j → stripBegin (stripAt fs j) + y + stripAt fs j .count ≤ stripBegin (stripAt es i) + x
+      → CrossingsPassed es x fs y i (j + 1)
   pass-second o p h k l m n c =
       let q = p k l m n c in (
         q .0,
@@ -126,38 +126,38 @@ module _ (es : List (List ℕ)) (x : ℕ) (fs : List (List ℕ)) (y : ℕ) (i j 
       )
 
 -- a strip that begins 1,280 before a place ends before it also when it is shifted, and so does every earlier one
-pub skip-to : (es : List (List ℕ)) (x place m n : ℕ) → Ordered es → m + 1 ≡ n → n ≤ length es → begin (stripAt es m) + x + 1280 ≤ place
+pub skip-to : (es : List (List ℕ)) (x place m n : ℕ) → Ordered es → m + 1 ≡ n → n ≤ length es → stripBegin (stripAt es m) + x + 1280 ≤ place
     → Skipped es x place n
 skip-to es x place m n o e l h =
     record { within = l; before = λ k b. omega (arith, o .order k m (omega arith) (omega arith), o .short k (omega arith)) }
 
 module _ (es : List (List ℕ)) (x : ℕ) (fs : List (List ℕ)) (y : ℕ) (i j : ℕ) where
   -- strips of the first stretch that end before the second begins are passed
-  pub first-skipped : Ordered fs → Skipped es x (begin (stripAt fs 0) + y) i → Passed es x fs y i 0
+  pub first-skipped : Ordered fs → Skipped es x (stripBegin (stripAt fs 0) + y) i → CrossingsPassed es x fs y i 0
   first-skipped o s k l m n c =
       (by-contra i k (λ (b : k < i). omega (arith, s .before k b, o .order 0 l (omega arith) n, c .secondBefore)), omega arith)
 
   -- and then strips of the second that end before the rest of the first begins
-  pub second-skipped : Ordered es → Passed es x fs y i 0 → Skipped fs y (begin (stripAt es i) + x) j → Passed es x fs y i j
+  pub second-skipped : Ordered es → CrossingsPassed es x fs y i 0 → Skipped fs y (stripBegin (stripAt es i) + x) j → CrossingsPassed es x fs y i j
   second-skipped o p s k l m n c =
       let q = p k l m n c in
       (q .0, by-contra j l (λ (b : l < j). omega (arith, s .before l b, o .order i k (q .0) m, c .firstBefore)))
 
 module _ (es : List (List ℕ)) (x : ℕ) (fs : List (List ℕ)) (y : ℕ) (i j : ℕ) where
   -- and so they are when the second is shifted on
-  pub first-onwards : Ordered fs → Skipped es x (begin (stripAt fs 0) + y) i → (m : ℕ) → Passed es x fs (y + m) i 0
+  pub first-onwards : Ordered fs → Skipped es x (stripBegin (stripAt fs 0) + y) i → (m : ℕ) → CrossingsPassed es x fs (y + m) i 0
   first-onwards o s m k l a b c =
       (by-contra i k (λ (d : k < i). omega (arith, s .before k d, o .order 0 l (omega arith) b, c .secondBefore)), omega arith)
 
-  pub second-onwards : Ordered es → Skipped fs y (begin (stripAt es i) + x) j → (m : ℕ) → m ≤ shiftBound → Passed es x fs (y + m) i 0
-      → Passed es x fs (y + m) i j
+  pub second-onwards : Ordered es → Skipped fs y (stripBegin (stripAt es i) + x) j → (m : ℕ) → m ≤ shiftBound → CrossingsPassed es x fs (y + m) i 0
+      → CrossingsPassed es x fs (y + m) i j
   second-onwards o s m h p k l a b c =
       let q = p k l a b c in
       (q .0, by-contra j l (λ (d : l < j). omega (arith, s .before l d, o .order i k (q .0) a, c .firstBefore)))
 
 -- where one stretch is passed whole, they hold no common pixel
 pub passed-free : (es : List (List ℕ)) (u : Corner) (fs : List (List ℕ)) (v : Corner) (x y : ℕ) → x ≡ baseOf u → y ≡ baseOf v
-    → (i j : ℕ) → (length es ≤ i) ⊎ (length fs ≤ j) → Passed es x fs y i j → stretchesShare es u fs v ≡ false
+    → (i j : ℕ) → (length es ≤ i) ⊎ (length fs ≤ j) → CrossingsPassed es x fs y i j → stretchesShare es u fs v ≡ false
 passed-free es u fs v x y f g i j h p =
     fails (stretchesShare es u fs v)
     (λ e.
@@ -171,8 +171,8 @@ passed-free es u fs v x y f g i j h p =
 -- two strips that cross go on crossing until the second is shifted to where the first ends
 pub pushed : (es : List (List ℕ)) (x : ℕ) (fs : List (List ℕ)) (y t i j : ℕ) → i < length es → j < length fs
     → stripAt es i .first + stripAt es i .count < 511 → stripAt fs j .first + stripAt fs j .count < 511
-    → Crossing (stripAt es i) x (stripAt fs j) (y + t) → ((m : ℕ) → m < t → Found es x fs (y + m))
-    → (m : ℕ) → begin (stripAt fs j) + y + m < begin (stripAt es i) + x + stripAt es i .count → Found es x fs (y + m)
+    → Crossing (stripAt es i) x (stripAt fs j) (y + t) → ((m : ℕ) → m < t → CrossingFound es x fs (y + m))
+    → (m : ℕ) → stripBegin (stripAt fs j) + y + m < stripBegin (stripAt es i) + x + stripAt es i .count → CrossingFound es x fs (y + m)
 pushed es x fs y t i j a b p q c found m h =
     ⊎-elim (λ l. found m l)
     (λ (l : t ≤ m).

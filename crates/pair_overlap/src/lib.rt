@@ -4,7 +4,7 @@
 ghost use mathlib.Core.Path.{_≡_};
 ghost use Prim.Native.Nat.{_+_, _<_, _≤_, min};
 ghost use lib.ListN.{length};
-ghost use Rattle.pair_overlap.specs.Meet.{stripAt, baseOf, Ordered, Near, NearShifted, shiftBound, SpanOf, Skipped, Begun, Slid, ClearStretch, stretchesShare, clearBelow, depthBelow, penaltyBelow};
+ghost use Rattle.pair_overlap.specs.Meet.{stripAt, baseOf, Ordered, Near, NearShifted, shiftBound, SpanOf, Skipped, WalkBegun, Slid, ClearStretch, stretchesShare, clearBelow, depthBelow, penaltyBelow};
 
 // How far the begin of a line lies from that of the next: more than any place along a line.
 const LINE_STEP: u32 = 65536;
@@ -110,7 +110,7 @@ fn skip(s: &[[u8; 3]], from: u32, place: u32) -> usize
 // Where a walk over the two stretches begins: past strips in lines before the other's first.
 fn walk_start(a: &[[u8; 3]], x: u32, b: &[[u8; 3]], y: u32) -> Heads
     requires { ⌜ Ordered (now a) ⌝ ∗ ⌜ Ordered (now b) ⌝ ∗ ⌜ (x < 1900000000) × (y < 1900000000) ⌝ }
-    ensures { λ r. ⌜ Begun (now (a .entry)) x (now (b .entry)) y r ⌝ }
+    ensures { λ r. ⌜ WalkBegun (now (a .entry)) x (now (b .entry)) y r ⌝ }
 {
     if b.len() == 0 {
         // A piece has a strip: this does not happen.

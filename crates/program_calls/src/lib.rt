@@ -28,7 +28,7 @@ use model::JobSize;
 use model::PAIR_BOUND;
 use model::PIECE_BOUND;
 use run_guided_calls::GuidedAnswer;
-use run_guided_calls::Run;
+use run_guided_calls::RunTotals;
 use run_guided_calls::guided_run;
 use search_sums::pair_count;
 use text_fields::put_word;
@@ -46,7 +46,7 @@ const PROGRAM_ROUNDS: u32 = 20;
 const PROGRAM_BUDGET: u32 = 1000;
 
 // The run of a job: from the start layout, by weights 1, 20 rounds of budget 1,000. The best layout is left in the layout buffer.
-fn run_job(size: JobSize, table: &[[u8; 3]], pixels: &[u8], layout: &mut [[u16; 3]]) -> Run
+fn run_job(size: JobSize, table: &[[u8; 3]], pixels: &[u8], layout: &mut [[u16; 3]]) -> RunTotals
     requires { ⌜ (lentWell (lentBy size (now table) (now pixels)) ≡ true) × (length (now layout) ≡ size .count) ⌝ }
     ensures { λ r. ⌜ Gives r (now (layout .exit)) (programRun (jobOf (lentBy size (now (table .entry)) (now (pixels .entry))))) ⌝ }
 {
@@ -64,7 +64,7 @@ fn run_job(size: JobSize, table: &[[u8; 3]], pixels: &[u8], layout: &mut [[u16; 
     ) {
         GuidedAnswer::Ran(run) => run,
         // The start layout and weights 1 are valid: this does not happen.
-        GuidedAnswer::Refused(_) => Run {
+        GuidedAnswer::Refused(_) => RunTotals {
             sum: 0,
             made: 0,
             moves: 0,
@@ -78,7 +78,7 @@ fn write_run(
     table: &[[u8; 3]],
     pixels: &[u8],
     layout: &[[u16; 3]],
-    run: Run,
+    run: RunTotals,
     text: &mut [u8],
 ) -> usize
     requires { ⌜ NoCause (layoutCauses (lentBy size (now table) (now pixels)) (now layout)) ⌝ ∗ ⌜ outputBound ≤ length (now text) ⌝ }

@@ -7,7 +7,7 @@ use model::JobSize;
 use model::PAIR_BOUND;
 use model::Refusal;
 use run_descent::Ended;
-use run_memory::memory::Outcome;
+use run_memory::memory::PlanOutcome;
 use run_memory::memory::Plan;
 use run_memory::memory::with_strips;
 use run_memory::run_causes;
@@ -66,9 +66,9 @@ fn run_alone(
         layout,
         &mut own[..n],
     ) {
-        Outcome::Alone(ended) => ended,
+        PlanOutcome::Alone(ended) => ended,
         // One descent is planned: this does not happen.
-        Outcome::Rounds(_) => Ended {
+        PlanOutcome::Rounds(_) => Ended {
             end: End::Clear,
             sum: 0,
             made: 0,

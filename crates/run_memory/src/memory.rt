@@ -20,7 +20,7 @@ ghost use Rattle.model.specs.Lent.{lentBy, jobOf};
 ghost use Rattle.model.specs.Calls.{roundBound};
 ghost use Rattle.model.specs.declared.Direction.{Direction};
 ghost use Rattle.search_shapes.specs.Shapes.{Shapes};
-ghost use Rattle.run_step.specs.Ready.{Tools, LaidOut, Store, Stores};
+ghost use Rattle.run_step.specs.Ready.{Tools, LaidOut, Store, LineStores};
 ghost use Rattle.run_rounds.specs.Rounds.{Ran};
 ghost use Rattle.run_memory.specs.Ready.{Given, Slots};
 ghost use Rattle.run_memory.specs.Done.{FewRounds, Done};
@@ -38,7 +38,7 @@ pub enum Plan {
 }
 
 // What a run comes to beside its buffers.
-pub enum Outcome {
+pub enum PlanOutcome {
     Alone(Ended),
     Rounds(Tally),
 }
@@ -76,7 +76,7 @@ fn take_rounds(
         ∗ ⌜ count ≤ roundBound ⌝
         ∗ ⌜ Tools (lentBy size (now table) (now pixels)) (now rows) (now «row_starts») (now columns) (now «column_starts») width ⌝
         ∗ ⌜ LaidOut (lentBy size (now table) (now pixels)) (now layout) (now penalties) ⌝
-        ∗ ⌜ Stores (jobOf (lentBy size (now table) (now pixels))) width (now «row_lines») (now «row_tags») (now «column_lines») (now «column_tags») (now sums) ⌝ }
+        ∗ ⌜ LineStores (jobOf (lentBy size (now table) (now pixels))) width (now «row_lines») (now «row_tags») (now «column_lines») (now «column_tags») (now sums) ⌝ }
     ensures { λ r. ⌜ Ran (lentBy size (now (table .entry)) (now (pixels .entry))) (now (layout .entry)) (now (weights .entry)) count budget r (now (layout .exit)) (now (weights .exit)) ⌝ }
 {
     let mut present = [[0u16; 3]; PIECE_BOUND];
@@ -125,16 +125,16 @@ fn run_plan(
     column_lines: &mut [u8],
     column_tags: &mut [u32],
     sums: &mut [u32],
-) -> Outcome
+) -> PlanOutcome
     requires { ⌜ Given (lentBy size (now table) (now pixels)) (now layout) (now weights) budget ⌝
         ∗ ⌜ FewRounds plan ⌝
         ∗ ⌜ Tools (lentBy size (now table) (now pixels)) (now rows) (now «row_starts») (now columns) (now «column_starts») width ⌝
         ∗ ⌜ LaidOut (lentBy size (now table) (now pixels)) (now layout) (now penalties) ⌝
-        ∗ ⌜ Stores (jobOf (lentBy size (now table) (now pixels))) width (now «row_lines») (now «row_tags») (now «column_lines») (now «column_tags») (now sums) ⌝ }
+        ∗ ⌜ LineStores (jobOf (lentBy size (now table) (now pixels))) width (now «row_lines») (now «row_tags») (now «column_lines») (now «column_tags») (now sums) ⌝ }
     ensures { λ r. ⌜ Done (lentBy size (now (table .entry)) (now (pixels .entry))) (now (layout .entry)) (now (weights .entry)) plan budget r (now (layout .exit)) (now (weights .exit)) ⌝ }
 {
     match plan {
-        Plan::Alone => Outcome::Alone(descend(
+        Plan::Alone => PlanOutcome::Alone(descend(
             size,
             table,
             pixels,
@@ -153,7 +153,7 @@ fn run_plan(
             column_tags,
             sums,
         )),
-        Plan::Rounds(count) => Outcome::Rounds(take_rounds(
+        Plan::Rounds(count) => PlanOutcome::Rounds(take_rounds(
             size,
             table,
             pixels,
@@ -192,7 +192,7 @@ fn with_column_lines(
     weights: &mut [u32],
     row_lines: &mut [u8],
     row_tags: &mut [u32],
-) -> Outcome
+) -> PlanOutcome
     requires { ⌜ Given (lentBy size (now table) (now pixels)) (now layout) (now weights) budget ⌝
         ∗ ⌜ FewRounds plan ⌝
         ∗ ⌜ Tools (lentBy size (now table) (now pixels)) (now rows) (now «row_starts») (now columns) (now «column_starts») width ⌝
@@ -248,7 +248,7 @@ fn with_row_lines(
     budget: u32,
     layout: &mut [[u16; 3]],
     weights: &mut [u32],
-) -> Outcome
+) -> PlanOutcome
     requires { ⌜ Given (lentBy size (now table) (now pixels)) (now layout) (now weights) budget ⌝
         ∗ ⌜ FewRounds plan ⌝
         ∗ ⌜ Shapes Direction.Horizontal (jobOf (lentBy size (now table) (now pixels))) (now rows) (now «row_starts») ⌝
@@ -286,7 +286,7 @@ pub fn with_strips(
     budget: u32,
     layout: &mut [[u16; 3]],
     weights: &mut [u32],
-) -> Outcome
+) -> PlanOutcome
     requires { ⌜ Given (lentBy size (now table) (now pixels)) (now layout) (now weights) budget ⌝ ∗ ⌜ FewRounds plan ⌝ }
     ensures { λ r. ⌜ Done (lentBy size (now (table .entry)) (now (pixels .entry))) (now (layout .entry)) (now (weights .entry)) plan budget r (now (layout .exit)) (now (weights .exit)) ⌝ }
 {

@@ -9,7 +9,7 @@ use search_lines::keep_line;
 use search_sums::weight_between;
 use search_tracks::Mover;
 use search_tracks::Reach;
-use search_tracks::Standing;
+use search_tracks::StandingPiece;
 use search_tracks::Track;
 use search_tracks::direction_of;
 use search_tracks::reach_of;
@@ -28,7 +28,7 @@ ghost use Rattle.search_bounded.specs.Ready.{LinesReady, OnTrack, IsStan
 ghost use Rattle.search_bounded.specs.Summing.{moverPenalty, LineRead, ToAdd, PartAdded, Summed};
 
 // Piece k beside the mover's line.
-fn beside(table: &[[u8; 3]], layout: &[[u16; 3]], mover: Mover, k: usize) -> Standing
+fn beside(table: &[[u8; 3]], layout: &[[u16; 3]], mover: Mover, k: usize) -> StandingPiece
     requires { ⌜ (k < length (now table)) × (k < length (now layout)) ⌝ }
     ensures { λ r. ⌜ ((size : JobSize) (pixels : List ℕ) → IsStanding (jobOf (lentBy size (now (table .entry)) pixels)) (layoutOf (now (layout .entry))) (lineDirection (mover .line)) k r) ⌝ }
 {
@@ -46,7 +46,7 @@ fn line_with(
     layout: &[[u16; 3]],
     mover: Mover,
     track: Track,
-    standing: Standing,
+    standing: StandingPiece,
     k: usize,
     width: usize,
     lines: &mut [u8],
@@ -94,7 +94,7 @@ fn add_reached(
     weights: &[u32],
     mover: Mover,
     track: Track,
-    standing: Standing,
+    standing: StandingPiece,
     reach: Reach,
     k: usize,
     width: usize,

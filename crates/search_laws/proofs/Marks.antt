@@ -18,24 +18,24 @@ abbrev pub firstSum : List ℕ → ℕ → ℕ
 firstSum l m = sumBelow m (λ k. getD l k 0)
 
 -- one more at place i
-abbrev pub marked : List ℕ → ℕ → List ℕ
-marked l i = set l i (getD l i 0 + 1)
+abbrev pub placeMarked : List ℕ → ℕ → List ℕ
+placeMarked l i = set l i (getD l i 0 + 1)
 
 -- a mark counts in the sums that reach beyond its place
-pub marked-sum : (l : List ℕ) (i m : ℕ) → i < length l → firstSum (marked l i) m ≡ firstSum l m + one-if (ltb i m)
+pub marked-sum : (l : List ℕ) (i m : ℕ) → i < length l → firstSum (placeMarked l i) m ≡ firstSum l m + one-if (ltb i m)
 marked-sum l i m h = by-place (decLt i m)
   where
-    others : (k : ℕ) → k < m → (k ≡ i → ⊥) → getD (marked l i) k 0 ≡ getD l k 0
+    others : (k : ℕ) → k < m → (k ≡ i → ⊥) → getD (placeMarked l i) k 0 ≡ getD l k 0
     others k b d = getD-set-other l i k (getD l i 0 + 1) 0 d
 
-    by-place : Dec (i < m) → firstSum (marked l i) m ≡ firstSum l m + one-if (ltb i m)
+    by-place : Dec (i < m) → firstSum (placeMarked l i) m ≡ firstSum l m + one-if (ltb i m)
     by-place (yes b) =
-        let here : getD (marked l i) i 0 ≡ getD l i 0 + 1 = getD-set-same l i (getD l i 0 + 1) 0 h in
+        let here : getD (placeMarked l i) i 0 ≡ getD l i 0 + 1 = getD-set-same l i (getD l i 0 + 1) 0 h in
         let one : one-if (ltb i m) ≡ 1 = ap one-if (lt-ltb i m b) in
-        omega (arith, sum-changed m i (λ k. getD (marked l i) k 0) (λ k. getD l k 0) b others)
+        omega (arith, sum-changed m i (λ k. getD (placeMarked l i) k 0) (λ k. getD l k 0) b others)
     by-place (no b) =
         let none : one-if (ltb i m) ≡ 0 = ap one-if (le-ltb i m (omega arith)) in
-        let same : firstSum (marked l i) m ≡ firstSum l m = sum-agree m _ _ (λ k g. others k g (λ e. omega arith)) in
+        let same : firstSum (placeMarked l i) m ≡ firstSum l m = sum-agree m _ _ (λ k g. others k g (λ e. omega arith)) in
         omega arith
 
 -- place a lies in the stretch from low up to, and without, high
@@ -57,14 +57,14 @@ pub stretch-behind : (low high a : ℕ) → low ≤ high → high ≤ a → inSt
 stretch-behind low high a l h = rw (lt-ltb low (a + 1) (omega arith), lt-ltb high (a + 1) (omega arith))
 
 -- the marks say of each place below n how often it is covered
-pub record Marks (n : ℕ) (count : ℕ → ℕ) (begins ends : List ℕ) : Type 0 where
+pub record CoverMarks (n : ℕ) (count : ℕ → ℕ) (begins ends : List ℕ) : Type 0 where
   pub beginsSize : n < length begins
   pub endsSize : n < length ends
   pub balance : (a : ℕ) → a < n → firstSum begins (a + 1) ≡ firstSum ends (a + 1) + count a
 
 -- no marks: nothing is covered
 pub marks-none : (n : ℕ) (begins ends : List ℕ) → n < length begins → n < length ends → ((k : ℕ) → getD begins k 0 ≡ 0) → ((k : ℕ) → getD ends k 0 ≡ 0)
-    → Marks n (λ a. 0) begins ends
+    → CoverMarks n (λ a. 0) begins ends
 marks-none n begins ends b e zb ze =
     record {
       beginsSize = b;
@@ -81,8 +81,8 @@ ends-later low high m l = by-end (decLt high m)
     by-end (no h) = rw (le-ltb high m (omega arith)) (omega arith)
 
 -- one more stretch
-pub marks-more : (n : ℕ) (count : ℕ → ℕ) (begins ends : List ℕ) (low high : ℕ) → low ≤ high → high ≤ n → Marks n count begins ends
-    → Marks n (λ a. count a + inStretch low high a) (marked begins low) (marked ends high)
+pub marks-more : (n : ℕ) (count : ℕ → ℕ) (begins ends : List ℕ) (low high : ℕ) → low ≤ high → high ≤ n → CoverMarks n count begins ends
+    → CoverMarks n (λ a. count a + inStretch low high a) (placeMarked begins low) (placeMarked ends high)
 marks-more n count begins ends low high l h m =
     let sizeB = length-set begins low (getD begins low 0 + 1) in
     let sizeE = length-set ends high (getD ends high 0 + 1) in
@@ -97,11 +97,11 @@ marks-more n count begins ends low high l h m =
     }
 
 -- the first place
-pub marks-first : (n : ℕ) (count : ℕ → ℕ) (begins ends : List ℕ) → Marks n count begins ends → 0 < n → getD begins 0 0 ≡ getD ends 0 0 + count 0
+pub marks-first : (n : ℕ) (count : ℕ → ℕ) (begins ends : List ℕ) → CoverMarks n count begins ends → 0 < n → getD begins 0 0 ≡ getD ends 0 0 + count 0
 marks-first n count begins ends m l = let b = m .balance 0 l in omega arith
 
 -- each later place, from the one before it
-pub marks-next : (n : ℕ) (count : ℕ → ℕ) (begins ends : List ℕ) (a : ℕ) → Marks n count begins ends → a + 1 < n
+pub marks-next : (n : ℕ) (count : ℕ → ℕ) (begins ends : List ℕ) (a : ℕ) → CoverMarks n count begins ends → a + 1 < n
     → count a + getD begins (a + 1) 0 ≡ count (a + 1) + getD ends (a + 1) 0
 marks-next n count begins ends a m l =
     let here = m .balance a (omega arith) in

@@ -11,7 +11,7 @@ use lib.Dec.{ltb}
 use lib.ListN.{length, getD, length-append}
 use Rattle.model.specs.Bounded.{sumBelow, one-if}
 use Rattle.model.specs.Layout.{Job, allowed}
-use Rattle.model.specs.Descent.{Trial, turnTrials, pieceTrials, trialsFrom, trials, after, noTrial}
+use Rattle.model.specs.Descent.{Trial, turnTrials, pieceTrials, trialsFrom, trials, trialAfter, noTrial}
 use Rattle.model.specs.declared.Turn.{Turn}
 use Rattle.model.specs.declared.Turn.the-variants.{Zero, Quarter, Half, ThreeQuarters}
 use Rattle.model.specs.declared.Direction.{Direction}
@@ -136,7 +136,7 @@ module _ (j : Job) (a : (k : ℕ) → k < j .count → allowed j k Zero ≡ true
       first-trial ∙ sym (chain-last j noTrial noTrial (trials j) noTrial trials-chain m (omega arith))
 
   -- the trial with the number after m is the trial after the one with number m
-  pub next-trial : (m : ℕ) → m < length (trials j) → getD (trials j) (after (length (trials j)) m) noTrial ≡ nextTrial j (getD (trials j) m noTrial)
+  pub next-trial : (m : ℕ) → m < length (trials j) → getD (trials j) (trialAfter (length (trials j)) m) noTrial ≡ nextTrial j (getD (trials j) m noTrial)
   next-trial m l = next-at m l _ refl
 
   -- by the test for a piece i

@@ -6,7 +6,7 @@ ghost use lib.ListN.{length, getD};
 ghost use Rattle.model.specs.Bounded.{anyBelow};
 ghost use Rattle.search_laws.specs.BoundedSearch.{belowBound};
 ghost use Rattle.search_line_sums.specs.Answers.{foundAnswer};
-ghost use Rattle.search_line_sums.specs.Added.{Added};
+ghost use Rattle.search_line_sums.specs.Added.{LineAdded};
 
 // The least sum below a bound and the smallest coordinate that has it, if there is one.
 pub enum Found {
@@ -42,7 +42,7 @@ pub fn any_below(sums: &[u32], bound: u32) -> bool
 // Adds weight × penalty to the sums from place `low` on.
 pub fn add_line(sums: &mut [u32], low: usize, line: &[u8], weight: u32)
     requires { ⌜ low + length (now line) ≤ length (now sums) ⌝ ∗ ⌜ weight ≤ 65535 ⌝ ∗ ⌜ ((a : ℕ) → getD (now sums) a 0 ≤ 1073741824) ⌝ }
-    ensures { λ r. ⌜ Added weight low (now (line .entry)) (now (sums .entry)) (now (sums .exit)) ⌝ }
+    ensures { λ r. ⌜ LineAdded weight low (now (line .entry)) (now (sums .entry)) (now (sums .exit)) ⌝ }
 {
     let mut k = 0;
     while k < line.len() {

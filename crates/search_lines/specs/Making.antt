@@ -24,7 +24,7 @@ abbrev pub keyOfTwo : Two → ℕ
 keyOfTwo two = keyOf (shapeNumber (two .moved) (two .«moved_turn»)) (shapeNumber (two .standing) (two .«standing_turn»)) (two .offset)
 
 -- numbers that a key has room for
-pub record Small (two : Two) : Type 0 where
+pub record SmallTwo (two : Two) : Type 0 where
   pub moved : two .moved < 64
   pub standing : two .standing < 64
   pub offset : two .offset < 1024

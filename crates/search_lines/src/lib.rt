@@ -8,14 +8,14 @@ ghost use Rattle.model.specs.Piece.{extent};
 ghost use Rattle.model.specs.Layout.{turnedPiece};
 ghost use Rattle.model.specs.Lent.{lentBy, jobOf};
 ghost use Rattle.model.specs.declared.JobSize.{JobSize};
-ghost use Rattle.search_lines.specs.Kept.{linePlaces, HoldsLine, Kept, Wide};
-ghost use Rattle.search_lines.specs.Making.{movedShape, standingShape, keyOfTwo, Small, Asked, LineMade};
+ghost use Rattle.search_lines.specs.Kept.{linePlaces, HoldsLine, LinesKept, Wide};
+ghost use Rattle.search_lines.specs.Making.{movedShape, standingShape, keyOfTwo, SmallTwo, Asked, LineMade};
 use layout_places::numbers::larger;
 use model::Direction;
 use model::JobSize;
 use model::PIECE_BOUND;
 use model::Turn;
-use search_penalties::Pair;
+use search_penalties::LinePair;
 
 // The row of a moved piece to which the offset of a standing one is counted: no offset that matters is below 0.
 pub const MIDDLE: usize = 255;
@@ -60,7 +60,7 @@ pub fn slot_width(size: JobSize, table: &[[u8; 3]]) -> usize
 
 // The key of two pieces in their turns and an offset.
 fn key_of(two: Two) -> u32
-    requires { ⌜ Small two ⌝ }
+    requires { ⌜ SmallTwo two ⌝ }
     ensures { λ r. ⌜ r ≡ keyOfTwo two ⌝ }
 {
     let moved_turn = two.moved_turn;
@@ -72,7 +72,7 @@ fn key_of(two: Two) -> u32
 
 // The slot of two pieces: one for each moved piece in a turn and each standing piece, as far as there are slots.
 fn slot_of(two: Two, slots: usize) -> usize
-    requires { ⌜ Small two × (0 < slots) ⌝ }
+    requires { ⌜ SmallTwo two × (0 < slots) ⌝ }
     ensures { λ r. ⌜ r < slots ⌝ }
 {
     let turn = two.moved_turn;
@@ -114,7 +114,7 @@ fn make_line(
     let b = search_shapes::shape_strips(strips, starts, two.standing, standing_turn);
     let last = side_along(table, two.moved, moved_turn, direction) - 1;
     let end = at + last + side_along(table, two.standing, standing_turn, direction);
-    let pair = Pair {
+    let pair = LinePair {
         bias: last as u32,
         moved: MIDDLE_ROW,
         standing: two.offset as u32,
@@ -137,10 +137,10 @@ pub fn keep_line(
 ) -> usize
     requires { ⌜ Asked (lentBy size (now table) (now pixels)) direction (now strips) (now starts) two ⌝
         ∗ ⌜ Wide (jobOf (lentBy size (now table) (now pixels))) width ⌝ ∗ ⌜ width ≤ 512 ⌝
-        ∗ ⌜ Kept direction (jobOf (lentBy size (now table) (now pixels))) width (now lines) (now tags) ⌝ ∗ ⌜ length (now lines) ≤ 524288 ⌝ }
+        ∗ ⌜ LinesKept direction (jobOf (lentBy size (now table) (now pixels))) width (now lines) (now tags) ⌝ ∗ ⌜ length (now lines) ≤ 524288 ⌝ }
     ensures line { λ r. ⌜ HoldsLine direction (movedShape (lentBy size (now (table .entry)) (now (pixels .entry))) two) (standingShape (lentBy size (now (table .entry)) (now (pixels .entry))) two) (two .offset) (now (lines .exit)) r ⌝ }
     ensures within { λ r. ⌜ r + width ≤ length (now (lines .exit)) ⌝ }
-    ensures kept { λ r. ⌜ Kept direction (jobOf (lentBy size (now (table .entry)) (now (pixels .entry)))) width (now (lines .exit)) (now (tags .exit)) ⌝ }
+    ensures kept { λ r. ⌜ LinesKept direction (jobOf (lentBy size (now (table .entry)) (now (pixels .entry)))) width (now (lines .exit)) (now (tags .exit)) ⌝ }
     ensures sizes { λ r. ⌜ (length (now (lines .exit)) ≡ length (now (lines .entry))) × (length (now (tags .exit)) ≡ length (now (tags .entry))) ⌝ }
 {
     let slot = slot_of(two, tags.len());

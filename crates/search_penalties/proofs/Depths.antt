@@ -15,7 +15,7 @@ use Rattle.pair_overlap.specs.Meet.{stripAt, shifted, stretchesShare, clearAt, 
 use Rattle.pair_overlap.specs.declared.Corner.{Corner}
 use Rattle.pair_overlap.specs.declared.Shifts.{Shifts}
 use Rattle.pair_overlap.proofs.Walk.{Meeting, meet-facts, facts-meet, meet-share, StripsMeet, share-meet}
-use Rattle.search_penalties.specs.declared.Pair.{Pair}
+use Rattle.search_penalties.specs.declared.LinePair.{LinePair}
 use Rattle.search_penalties.specs.Line.{standingAt, movedAt, takenAt, Boxed, FreeFrom, farther, risen, fallen}
 use Rattle.search_penalties.proofs.Passes.{farther-more}
 
@@ -60,11 +60,11 @@ farther-first f bound x d b now later e =
 -- ── distances ──
 
 -- the line is 0 at the free places only
-pub record Marks (f : ℕ → Bool) (xs : List ℕ) : Type 0 where
+pub record FreeMarks (f : ℕ → Bool) (xs : List ℕ) : Type 0 where
   pub free : (k : ℕ) → k < length xs → f k ≡ false → getD xs k 0 ≡ 0
   pub taken : (k : ℕ) → k < length xs → f k ≡ true → 0 < getD xs k 0
 
-module _ (es fs : List (List ℕ)) (p : Pair) where
+module _ (es fs : List (List ℕ)) (p : LinePair) where
   -- a shift back by r from place k
   abbrev back : ℕ → ℕ → Bool
   back k r = clearAt es (movedAt p k) fs (standingAt p) r
@@ -111,7 +111,7 @@ module _ (es fs : List (List ℕ)) (p : Pair) where
       let h = b .standing (m .i) (m .iBelow) in
       omega arith)
 
-  module _ (xs : List ℕ) (box : Boxed es fs p (length xs)) (marks : Marks (takenAt es fs p) xs) where
+  module _ (xs : List ℕ) (box : Boxed es fs p (length xs)) (marks : FreeMarks (takenAt es fs p) xs) where
     -- the distance to the last free place
     risen-first : (bound : ℕ) → bound ≡ 255 → (k : ℕ) → k < length xs → risen xs (suc k) ≡ firstFrom (back k) 0 bound
     risen-first bound b zero l =

@@ -16,11 +16,11 @@ use Rattle.overlap_laws.proofs.Depth.{depth-bound}
 use Rattle.overlap_laws.proofs.Penalty.{penalty-symmetric}
 use Rattle.pair_overlap.specs.Seen.{entries}
 use Rattle.pair_overlap.proofs.Shapes.{at-member, entries-share, depth-cut-first, entries-depth}
-use Rattle.search_penalties.specs.declared.Pair.{Pair}
+use Rattle.search_penalties.specs.declared.LinePair.{LinePair}
 use Rattle.search_penalties.specs.Line.{apartAcross, acrossBelow, alongAt, penaltyAt, valuesFrom, penaltyLine, Boxed}
 
 -- the moved set's corner across, the standing set's corner along and across
-abbrev pub biasedPair : ℕ → ℕ → ℕ → Pair
+abbrev pub biasedPair : ℕ → ℕ → ℕ → LinePair
 biasedPair bias ha hb = record { bias = bias; moved = ha; standing = hb }
 
 -- ── across ──

@@ -18,7 +18,7 @@ use Rattle.list_laws.proofs.Stores.{part-before, part-stored}
 use Rattle.job_laws.proofs.Checked.{facts, entry-at}
 use Rattle.strip_scan.specs.Put.{Appended}
 use Rattle.pair_overlap.proofs.Shapes.{entries-ordered}
-use Rattle.search_shapes.specs.Shapes.{shapeNumber, numberedShape, part, ShapeAt, Shapes, StripsOf, Room}
+use Rattle.search_shapes.specs.Shapes.{shapeNumber, numberedShape, part, ShapeAt, Shapes, StripsOf, ShapesRoom}
 use Rattle.search_shapes.proofs.Numbers.{turn-below, number-back, reached, reached-next, reached-few, shape-few, shape-small}
 
 -- the shapes with numbers below k are stored, and the next one goes to `at`
@@ -64,7 +64,7 @@ fits-next d l store starts k at e h m =
     }
 
 module _ (d : Direction) (l : Lent) (store after : List (List ℕ)) (starts : List ℕ) (k at next : ℕ) (m : Made d l store starts k at)
-    (f : Fits d l k at) (r : Room store starts) (a : Appended (strips d (numberedShape (jobOf l) k)) store at after next)
+    (f : Fits d l k at) (r : ShapesRoom store starts) (a : Appended (strips d (numberedShape (jobOf l) k)) store at after next)
   where
     long : k + 1 < length starts
     long = let w = r .long in let b = f .piece in let c = f .few in omega arith

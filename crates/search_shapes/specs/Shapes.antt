@@ -61,6 +61,6 @@ pub record StripsOf (d : Direction) (s : Shape) (stretch : List (List ℕ)) : Ty
   pub ordered : Ordered stretch
 
 -- buffers that hold the shapes of every job
-pub record Room (store : List (List ℕ)) (starts : List ℕ) : Type 0 where
+pub record ShapesRoom (store : List (List ℕ)) (starts : List ℕ) : Type 0 where
   pub wide : 262144 ≤ length store
   pub long : 257 ≤ length starts

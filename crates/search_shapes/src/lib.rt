@@ -7,7 +7,7 @@ ghost use lib.ListN.{length};
 ghost use Rattle.model.specs.Lent.{lentBy, jobOf, lentWell};
 ghost use Rattle.model.specs.Layout.{Job, turnedPiece};
 ghost use Rattle.model.specs.declared.Direction.{Direction};
-ghost use Rattle.search_shapes.specs.Shapes.{turnNumber, numberedTurn, shapeNumber, Held, Shapes, StripsOf, Room};
+ghost use Rattle.search_shapes.specs.Shapes.{turnNumber, numberedTurn, shapeNumber, Held, Shapes, StripsOf, ShapesRoom};
 use model::Direction;
 use model::JobSize;
 use model::Turn;
@@ -66,7 +66,7 @@ pub fn make_shapes(
     store: &mut [[u8; 3]],
     starts: &mut [u32],
 )
-    requires { ⌜ lentWell (lentBy size (now table) (now pixels)) ≡ true ⌝ ∗ ⌜ Room (now store) (now starts) ⌝ }
+    requires { ⌜ lentWell (lentBy size (now table) (now pixels)) ≡ true ⌝ ∗ ⌜ ShapesRoom (now store) (now starts) ⌝ }
     ensures { λ r. ⌜ Shapes direction (jobOf (lentBy size (now (table .entry)) (now (pixels .entry)))) (now (store .exit)) (now (starts .exit)) ⌝ }
 {
     let last = size.count * 4;

@@ -91,7 +91,7 @@ part-there n i k at h l e =
     rw q at p
 
 -- a pair (i, k) of the table, and the position of its weight
-pub record Place (n i k at : ℕ) (T ws : List ℕ) : Type 0 where
+pub record PairPlace (n i k at : ℕ) (T ws : List ℕ) : Type 0 where
   pub few : n ≤ 64
   pub size : length T ≡ 4096
   pub above : i < k
@@ -101,7 +101,7 @@ pub record Place (n i k at : ℕ) (T ws : List ℕ) : Type 0 where
 
 -- along row i
 pub row-place : (n i k at from : ℕ) (T ws : List ℕ) → Weighed n T ws → from ≡ rowStart n i → i + 1 ≤ k → k < n → at + (i + 1) ≡ from + k
-    → Place n i k at T ws
+    → PairPlace n i k at T ws
 row-place n i k at from T ws w s h l e =
     let few = w .few in
     let one = w .onePerPair in

@@ -11,7 +11,7 @@ ghost use Rattle.model.specs.Piece.{lineDirection};
 ghost use Rattle.model.specs.Lent.{lentBy, jobOf};
 ghost use Rattle.model.specs.Buffer.{layoutOf};
 ghost use Rattle.model.specs.declared.JobSize.{JobSize};
-ghost use Rattle.search_tracks.specs.Boxes.{trackOf, standingOf, roomOn, SmallTrack, SmallStanding, Reached};
+ghost use Rattle.search_tracks.specs.Boxes.{trackOf, standingOf, roomOn, SmallTrack, SmallStanding, MeetingReach};
 
 // A piece that moves: its number, its turn and the line that it moves on.
 pub struct Mover {
@@ -29,7 +29,7 @@ pub struct Track {
 }
 
 // A standing piece beside the line: its turn, its corner's coordinates along and across, and its box's sides along and across.
-pub struct Standing {
+pub struct StandingPiece {
     pub turn: Turn,
     pub along: usize,
     pub across: usize,
@@ -108,7 +108,7 @@ pub fn standing_of(
     layout: &[[u16; 3]],
     direction: Direction,
     k: usize,
-) -> Standing
+) -> StandingPiece
     requires { ⌜ (k < length (now table)) × (k < length (now layout)) ⌝ }
     ensures standing { λ r. ⌜ ((size : JobSize) (pixels : List ℕ) → r ≡ standingOf (jobOf (lentBy size (now (table .entry)) pixels)) (layoutOf (now (layout .entry))) direction k) ⌝ }
     ensures small { λ r. ⌜ SmallStanding r ⌝ }
@@ -119,14 +119,14 @@ pub fn standing_of(
     let x = place.x.0 as usize;
     let y = place.y.0 as usize;
     match direction {
-        Direction::Horizontal => Standing {
+        Direction::Horizontal => StandingPiece {
             turn: turn,
             along: x,
             across: y,
             length: sides.columns,
             width: sides.rows,
         },
-        Direction::Vertical => Standing {
+        Direction::Vertical => StandingPiece {
             turn: turn,
             along: y,
             across: x,
@@ -155,9 +155,9 @@ fn lesser(a: usize, b: usize) -> usize
 }
 
 // Where the boxes meet.
-pub fn reach_of(track: Track, standing: Standing) -> Reach
+pub fn reach_of(track: Track, standing: StandingPiece) -> Reach
     requires { ⌜ SmallTrack track ⌝ ∗ ⌜ SmallStanding standing ⌝ ∗ ⌜ 0 < track .length ⌝ }
-    ensures { λ r. ⌜ Reached track standing r ⌝ }
+    ensures { λ r. ⌜ MeetingReach track standing r ⌝ }
 {
     if standing.across + standing.width <= track.held {
         return Reach {

@@ -6,9 +6,9 @@ ghost use mathlib.Core.Path.{_≡_};
 ghost use Prim.Native.Nat.{ℕ, _+_, _*_, _<_, _≤_};
 ghost use lib.ListN.{length, replicate};
 ghost use Rattle.model.specs.Lent.{lentBy, jobOf};
-ghost use Rattle.piece_pixels.specs.Turned.{InBox, Stored};
-ghost use Rattle.sheet_counts.specs.Stamp.{moved, movedBy, Room, onAt, movedRun, movedRows};
-ghost use Rattle.sheet_counts.specs.Ready.{Ready};
+ghost use Rattle.piece_pixels.specs.Turned.{InTurnedBox, PixelStored};
+ghost use Rattle.sheet_counts.specs.Stamp.{moved, movedBy, StampRoom, onAt, movedRun, movedRows};
+ghost use Rattle.sheet_counts.specs.Ready.{StampReady};
 
 // The largest count.
 const COUNT_BOUND: u8 = 255;
@@ -44,7 +44,7 @@ fn move_row(
     up: bool,
     counts: &mut [u8],
 )
-    requires { ⌜ Stored (now pixels) piece × ((x : ℕ) → x < width → InBox piece x y) × (from + width ≤ length (now counts)) ⌝ }
+    requires { ⌜ PixelStored (now pixels) piece × ((x : ℕ) → x < width → InTurnedBox piece x y) × (from + width ≤ length (now counts)) ⌝ }
     ensures { λ _. ⌜ now (counts .exit) ≡ movedRun up (onAt (now (pixels .entry)) piece y) from (now (counts .entry)) 0 width ⌝ }
 {
     let mut x = 0;
@@ -67,7 +67,7 @@ fn move_rows(
     up: bool,
     counts: &mut [u8],
 )
-    requires { ⌜ Stored (now pixels) piece × Room piece first sheet width height (length (now counts)) ⌝ }
+    requires { ⌜ PixelStored (now pixels) piece × StampRoom piece first sheet width height (length (now counts)) ⌝ }
     ensures { λ _. ⌜ now (counts .exit) ≡ movedRows up (onAt (now (pixels .entry)) piece) sheet width (now (counts .entry)) first 0 height ⌝ }
 {
     let mut from = first;
@@ -115,7 +115,7 @@ pub fn move_piece(
     up: bool,
     counts: &mut [u8],
 )
-    requires { ⌜ Ready (lentBy size (now table) (now pixels)) i place (length (now counts)) ⌝ }
+    requires { ⌜ StampReady (lentBy size (now table) (now pixels)) i place (length (now counts)) ⌝ }
     ensures { λ _. ⌜ now (counts .exit) ≡ movedBy up (jobOf (lentBy size (now (table .entry)) (now (pixels .entry)))) i place (now (counts .entry)) ⌝ }
 {
     let turn = place.turn;

@@ -25,7 +25,7 @@ use Rattle.strip_laws.proofs.ValidStrips.{rebuilt-extent, valid-rebuilt, has-va
 use Rattle.call_laws.specs.Rebuilding.{PieceOf}
 use Rattle.call_laws.proofs.Rebuilding.{well-piece, strips-read-back}
 use Rattle.strip_rebuild_calls.specs.Check.{stripIn, reaches, wellAt, Whole}
-use Rattle.strip_rebuild_calls.proofs.Validity.{stripsOf, Place, strip-listed, strip-place, valid-from, valid-to}
+use Rattle.strip_rebuild_calls.proofs.Validity.{stripsOf, StripPlace, strip-listed, strip-place, valid-from, valid-to}
 
 -- ── cells of the rebuilt set ──
 
@@ -62,7 +62,7 @@ module _ (d : Direction) (l w : ℕ) (es : List (List ℕ)) (v : ValidStrips d l
       (λ e.
       let x : Witness (extent d s) (λ a. cell d s a c) = any-witness (extent d s) (λ a. cell d s a c) e in
       let q : InStrips d ts (point d (x .number) c) = have-in d ts (point d (x .number) c) (sym (cell-along d l w ts (x .number) c) ∙ x .passing) in
-      let p : Place es (q .strip) = strip-place es (q .strip) (q .listed) in
+      let p : StripPlace es (q .strip) = strip-place es (q .strip) (q .listed) in
       any-from (length es) (p .at) (λ i. eqb (stripIn es i .line) c) (p .below)
       (eq-eqb _ _ (ap (λ (t : Strip). t .line) (p .is) ∙ q .line ∙ across-point d (x .number) c)))
       (λ e.
@@ -85,7 +85,7 @@ module _ (d : Direction) (l w : ℕ) (es : List (List ℕ)) (v : ValidStrips d l
       (λ e.
       let x : Witness (extent (other d) s) (λ c. cell (other d) s c a) = any-witness (extent (other d) s) (λ c. cell (other d) s c a) e in
       let q : InStrips d ts (point d a (x .number)) = have-in d ts (point d a (x .number)) (sym (cell-across d l w ts a (x .number)) ∙ x .passing) in
-      let p : Place es (q .strip) = strip-place es (q .strip) (q .listed) in
+      let p : StripPlace es (q .strip) = strip-place es (q .strip) (q .listed) in
       let g : along d (point d a (x .number)) ≡ a = along-point d a (x .number) in
       let low : q .strip .first ≤ along d (point d a (x .number)) = q .low in
       let high : along d (point d a (x .number)) < q .strip .first + q .strip .count = q .high in

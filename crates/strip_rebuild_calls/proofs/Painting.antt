@@ -20,7 +20,7 @@ use Rattle.list_laws.proofs.Tests.{and-left, and-right, and-both, or-cases, or-
 use Rattle.list_laws.proofs.Numbers.{in-rows, below-or}
 use Rattle.strip_laws.specs.Strips.{side}
 use Rattle.strip_rebuild_calls.specs.Check.{stripIn}
-use Rattle.strip_rebuild_calls.specs.Paint.{over, samePoint, Painted, Room}
+use Rattle.strip_rebuild_calls.specs.Paint.{over, samePoint, Painted, PaintRoom}
 use Rattle.strip_rebuild_calls.proofs.Validity.{stripsOf}
 
 -- ── places in rows of l ──
@@ -203,7 +203,7 @@ cell-room Horizontal l w a c pixels r h k = (h, let q = in-rows {l = l} {w = w} 
 cell-room Vertical l w a c pixels r h k = (k, let q = in-rows {l = l} {w = w} {x = c} {y = a} k h in omega (arith, mul-comm l w))
 
 -- a buffer of the same length has room too
-pub room-again : {l w : ℕ} {pixels others : List ℕ} → Room l w pixels → length others ≡ length pixels → Room l w others
+pub room-again : {l w : ℕ} {pixels others : List ℕ} → PaintRoom l w pixels → length others ≡ length pixels → PaintRoom l w others
 room-again {l} {w} {pixels} {others} r e =
     let long : l * w ≤ length pixels = r .long in
     record { wide = r .wide; high = r .high; columnsSmall = r .columnsSmall; rowsSmall = r .rowsSmall; long = omega arith }

@@ -33,16 +33,16 @@ strip-listed es i h =
     (member-at (stripsOf es) i (entryStrip []) (rw (length-map es entryStrip) h))
 
 -- a listed strip has a place
-pub record Place (es : List (List ℕ)) (t : Strip) : Type 0 where
+pub record StripPlace (es : List (List ℕ)) (t : Strip) : Type 0 where
   pub at : ℕ
   pub below : at < length es
   pub is : stripIn es at ≡ t
 
-pub strip-place : (es : List (List ℕ)) (t : Strip) → List·Memᴰ t (stripsOf es) → Place es t
+pub strip-place : (es : List (List ℕ)) (t : Strip) → List·Memᴰ t (stripsOf es) → StripPlace es t
 strip-place [] t m = absurd (List·Memᴰ·not-nil m)
 strip-place (e ∷ es) t (List·Memᴰ·head q) = record { at = 0; below = omega arith; is = sym q }
 strip-place (e ∷ es) t (List·Memᴰ·tail m) =
-    let p : Place es t = strip-place es t m in
+    let p : StripPlace es t = strip-place es t m in
     let b : p .at < length es = p .below in
     record { at = suc (p .at); below = omega arith; is = p .is }
 
@@ -110,7 +110,7 @@ unfolding follows
 valid-from d l w es h =
     record {
       fits = λ t m.
-          let p : Place es t = strip-place es t m in
+          let p : StripPlace es t = strip-place es t m in
           subst (StripFits d l w) (p .is) (fits-from d l w (stripIn es (p .at)) (and-left _ _ (h (p .at) (p .below))));
       ordered = ordered-from es (λ k b.
           let n : eqb (suc k) 0 ≡ false = ne-eqb (suc k) 0 (λ e. omega arith) in

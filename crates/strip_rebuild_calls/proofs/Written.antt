@@ -20,7 +20,7 @@ use Rattle.list_laws.proofs.Numbers.{in-rows, below-or}
 use Rattle.list_laws.proofs.Tests.{fails}
 use Rattle.strip_laws.proofs.Strips.{InStrips, have-in}
 use Rattle.strip_laws.specs.Strips.{StripFits, ValidStrips}
-use Rattle.strip_rebuild_calls.specs.Paint.{over, Painted, Room}
+use Rattle.strip_rebuild_calls.specs.Paint.{over, Painted, PaintRoom}
 use Rattle.strip_rebuild_calls.proofs.Validity.{stripsOf}
 
 -- ── bytes of a set ──
@@ -76,7 +76,7 @@ zeros-length n = length-replicate {A = ℕ} n 0
 
 -- ── the buffer ──
 
-module _ (d : Direction) (l w : ℕ) (es : List (List ℕ)) (old after : List ℕ) (room : Room l w old) (v : ValidStrips d l w (stripsOf es))
+module _ (d : Direction) (l w : ℕ) (es : List (List ℕ)) (old after : List ℕ) (room : PaintRoom l w old) (v : ValidStrips d l w (stripsOf es))
     (painted : Painted l (stripsHave d (stripsOf es)) (zeros (l * w) ++ drop (l * w) old) after) where
   -- a byte of the box
   low-byte : (i : ℕ) → i < l * w → getD after i 0 ≡ getD (bytesOf (rebuilt d l w (stripsOf es)) ++ drop (l * w) old) i 0

@@ -8,7 +8,7 @@ use lib.ListN.{length, getD}
 use Rattle.model.specs.Piece.{Point, sideBound}
 
 -- the box has a pixel, its sides are in range, and the buffer has room for it
-pub record Room (columns rows : ℕ) (pixels : List ℕ) : Type 0 where
+pub record PaintRoom (columns rows : ℕ) (pixels : List ℕ) : Type 0 where
   pub wide : 0 < columns
   pub high : 0 < rows
   pub columnsSmall : columns ≤ sideBound

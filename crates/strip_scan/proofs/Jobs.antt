@@ -3,8 +3,8 @@ use mathlib.Core.List.{List}
 use Prim.Native.Nat.{ℕ}
 use Rattle.model.specs.declared.Turn.{Turn}
 use Rattle.job_laws.specs.Entries.{EntryAt}
-use Rattle.piece_pixels.specs.Turned.{madeOf, Small}
+use Rattle.piece_pixels.specs.Turned.{madeOf, SmallPiece}
 
 -- the turned piece of a table entry is small
-pub made-small : (table : List (List ℕ)) (i start : ℕ) (t : Turn) → EntryAt table i start → Small (madeOf table i start t)
+pub made-small : (table : List (List ℕ)) (i start : ℕ) (t : Turn) → EntryAt table i start → SmallPiece (madeOf table i start t)
 made-small table i start t e = record { start = e .small; columns = e .columns; rows = e .rows }

@@ -16,7 +16,7 @@ use Rattle.model.specs.declared.Direction.{Direction}
 use Rattle.model.specs.declared.Direction.the-variants.{Horizontal, Vertical}
 use Rattle.list_laws.proofs.Tests.{clash}
 use Rattle.list_laws.proofs.Bounded.{First, first-from}
-use Rattle.piece_pixels.specs.Turned.{storedBy, shownBy, Small}
+use Rattle.piece_pixels.specs.Turned.{storedBy, shownBy, SmallPiece}
 use Rattle.piece_pixels.specs.declared.Sides.{Sides}
 use Rattle.piece_pixels.specs.declared.TurnedPiece.{TurnedPiece}
 use Rattle.piece_pixels.proofs.Cells.{shown-sides}
@@ -30,7 +30,7 @@ side-of Horizontal pixels p = ap (λ (s : Sides). s .columns) (shown-sides pixel
 side-of Vertical pixels p = ap (λ (s : Sides). s .rows) (shown-sides pixels p)
 
 -- the sides of a small box are small
-small-side : (d : Direction) (t : Turn) (p : TurnedPiece) → Small p → extent d (turned t (storedBy [] p)) ≤ 255
+small-side : (d : Direction) (t : Turn) (p : TurnedPiece) → SmallPiece p → extent d (turned t (storedBy [] p)) ≤ 255
 small-side Horizontal Zero p s = s .columns
 small-side Horizontal Quarter p s = s .rows
 small-side Horizontal Half p s = s .columns
@@ -40,7 +40,7 @@ small-side Vertical Quarter p s = s .columns
 small-side Vertical Half p s = s .rows
 small-side Vertical ThreeQuarters p s = s .columns
 
-pub side-small : (d : Direction) (p : TurnedPiece) → Small p → turnedSide d p ≤ 255
+pub side-small : (d : Direction) (p : TurnedPiece) → SmallPiece p → turnedSide d p ≤ 255
 side-small d p s = small-side d (p .turn) p s
 
 -- ── the runs of a line ──

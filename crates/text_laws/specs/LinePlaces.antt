@@ -33,5 +33,5 @@ pub record LineThere (text : List ℕ) (line : ℕ) : Type 0 where
   pub begins : LineBegins text line at
 
 -- the refusal of a number on a line
-abbrev pub refusalAt : ℕ → ℕ → Refusal
-refusalAt number line = record { number = number; first = line; second = 0 }
+abbrev pub refusalOnLine : ℕ → ℕ → Refusal
+refusalOnLine number line = record { number = number; first = line; second = 0 }

@@ -14,7 +14,7 @@ use Rattle.model.specs.Layout.{Job, allowed, inside, Layout, placeOf}
 use Rattle.model.specs.declared.Placement.{Placement}
 use Rattle.model.specs.LayoutText.{layoutText, readLayout}
 use Rattle.model.specs.declared.Refusal.{Refusal}
-use Rattle.text_laws.specs.JobWriting.{exactly}
+use Rattle.text_laws.specs.JobWriting.{exactJob}
 use Rattle.text_laws.specs.Exact.{JobWritten, LayoutWritten}
 use Rattle.text_laws.specs.JobRefusals.{JobRefusalClaims, JobCausesRefuse}
 use Rattle.text_laws.specs.LayoutRefusals.{LayoutRefusalClaims, LayoutCausesRefuse}
@@ -24,7 +24,7 @@ pub record Readable (k : Lent) : Type 0 where
   pub entries : k .count ≤ length (k .table)
   pub store : pixelStart (k .table) (k .count) ≤ length (k .pixels)
   pub text : List ℕ
-  pub reads : readJob text (length (k .table)) (length (k .pixels)) ≡ given (exactly k)
+  pub reads : readJob text (length (k .table)) (length (k .pixels)) ≡ given (exactJob k)
 
 -- shapes of one box that agree inside it
 pub record Agree (s t : Shape) : Type 0 where

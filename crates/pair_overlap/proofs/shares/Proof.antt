@@ -7,13 +7,13 @@ use Prim.Native.Nat.{_+_, _-_, _≤_, _<_}
 use native.Mathlib.Omega.{arith}
 use borrow.Author.Needs.{needs}
 use lib.ListN.{length}
-use Rattle.pair_overlap.specs.Meet.{Passed}
-use Rattle.pair_overlap.proofs.Walk.{Found, pass-first, pass-second, found-shares, passed-free}
+use Rattle.pair_overlap.specs.Meet.{CrossingsPassed}
+use Rattle.pair_overlap.proofs.Walk.{CrossingFound, pass-first, pass-second, found-shares, passed-free}
 use Rattle.pair_overlap.proofs.shares.Statement.{statement}
 use Rattle.pair_overlap.proofs.shares.Tie as tie
 
 abbrev Inv-loop : tie.InvT-loop
-Inv-loop a b x y i₀ j₀ i j = (i ≤ length a) × (j ≤ length b) × Passed a x b y i j
+Inv-loop a b x y i₀ j₀ i j = (i ≤ length a) × (j ≤ length b) × CrossingsPassed a x b y i j
 
 abbrev μ-loop : tie.MeasureT-loop
 μ-loop a b x y i₀ j₀ i j = (length a - i) + (length b - j)

@@ -7,15 +7,15 @@ use Prim.Native.Nat.{ℕ, _+_, _-_, _≤_, _<_}
 use native.Mathlib.Omega.{arith}
 use borrow.Author.Needs.{needs}
 use lib.ListN.{length}
-use Rattle.pair_overlap.specs.Meet.{Passed, shifted}
-use Rattle.pair_overlap.proofs.Walk.{Found, pass-first, pass-second, found-shares, passed-free, pushed}
+use Rattle.pair_overlap.specs.Meet.{CrossingsPassed, shifted}
+use Rattle.pair_overlap.proofs.Walk.{CrossingFound, pass-first, pass-second, found-shares, passed-free, pushed}
 use Rattle.pair_overlap.proofs.slide.Statement.{statement}
 use Rattle.pair_overlap.proofs.slide.Tie as tie
 
 abbrev Inv-loop : tie.InvT-loop
 Inv-loop a b limit x y t₀ room₀ i₀ j₀ t room i j =
-    (i ≤ length a) × (j ≤ length b) × (t < limit) × (t ≡ 0 → (m : ℕ) → m ≤ room → Passed a x b (y + m) i j)
-    × ((m : ℕ) → m < t → Found a x b (y + m)) × (room < limit)
+    (i ≤ length a) × (j ≤ length b) × (t < limit) × (t ≡ 0 → (m : ℕ) → m ≤ room → CrossingsPassed a x b (y + m) i j)
+    × ((m : ℕ) → m < t → CrossingFound a x b (y + m)) × (room < limit)
 
 abbrev μ-loop : tie.MeasureT-loop
 μ-loop a b limit x y t₀ room₀ i₀ j₀ t room i j = (length a - i) + (length b - j)

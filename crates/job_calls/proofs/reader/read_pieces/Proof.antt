@@ -12,7 +12,7 @@ use Rattle.model.specs.JobText.{piecesAt, asLent}
 use Rattle.list_laws.proofs.Lists.{nothing-before}
 use Rattle.list_laws.proofs.Stores.{sets-filled}
 use Rattle.job_lines.specs.Lines.{jobLineOf}
-use Rattle.job_calls.specs.Reading.{PiecesStored, Filled, roomed, Leaves}
+use Rattle.job_calls.specs.Reading.{PiecesStored, JobFilled, roomed, Leaves}
 use Rattle.job_calls.specs.declared.JobAnswer.the-variants as answer
 use Rattle.job_calls.specs.declared.reader.PiecesAnswer.the-variants as pieces
 use Rattle.job_calls.proofs.Filling.{pieces-told, pieces-not, pieces-count, room-denied, room-short, room-given, leaves-refused}
@@ -145,7 +145,7 @@ returns-4 c =
     let m : length (x .all .pixels) ≤ pl = rw (x .size) at (subst (λ (k : List ℕ). n ≤ length k) s (c .before .before .before .before .before .before .if2 .left)) in
     let b : (ltb tl (a .j .count) || ltb pl (length (x .all .pixels))) ≡ false = rw (le-ltb _ _ l, le-ltb _ _ m) refl in
     let e : roomed text j tl pl ≡ given (asLent j (x .all)) = room-given text j tl pl (x .all) (x .gives) b in
-    let f : Filled (table ++ a .table .now) (c .before .before .before .fill-pieces2 .last .1 .1 .0) (store ++ a .pixels .now) (c .before .before .before .fill-pieces2 .last .1 .1 .1 .0) (x .all) = subst (PiecesStored _ _ _ _) (x .gives) (c .before .before .before .fill-pieces2 .ensures .1) in
+    let f : JobFilled (table ++ a .table .now) (c .before .before .before .fill-pieces2 .last .1 .1 .0) (store ++ a .pixels .now) (c .before .before .before .fill-pieces2 .last .1 .1 .1 .0) (x .all) = subst (PiecesStored _ _ _ _) (x .gives) (c .before .before .before .fill-pieces2 .ensures .1) in
     let k : length (x .all .table) ≤ tl = rw (pieces-count text j (a .j .count) 0 0 (a .j .next) 2 (x .all) (x .gives)) l in
     subst (Leaves _ _ _ _ _) (sym e)
     (record {
