@@ -9,7 +9,7 @@ use Prim.Native.Nat.{ℕ, zero, suc, _+_, _*_, _/_, _%_, _<_, _≤_}
 use native.Mathlib.Nat.{mod-lt, div-lt-iff-lt-mul, mul-comm}
 use native.Mathlib.Omega.{arith}
 use borrow.Author.Tests.{not-false, le-ltb}
-use Rattle.model.specs.Bounded.{one-if}
+use Rattle.model.specs.Bounded.{oneIf}
 use Rattle.model.specs.Piece.{Shape, tight, sideBound}
 use Rattle.model.specs.Strip.{Strip, strips, rebuilt}
 use Rattle.model.specs.Buffer.{stripEntry, entryStrip, bytesFrom, bytesOf, sameEntries}
@@ -41,7 +41,7 @@ bytes-agree s u h k (suc left) b =
     let here : s .has (k % s .columns) (k / s .columns) ≡ u .has (k % u .columns) (k / u .columns) =
     same-cell Horizontal s u h (k % s .columns) (k / s .columns) (mod-lt k some) row
     ∙ ap (λ (l : ℕ). u .has (k % l) (k / l)) (h .columns) in
-    ap₂ (λ (a : ℕ) (l : List ℕ). a ∷ l) (ap one-if here) (bytes-agree s u h (suc k) left (omega arith))
+    ap₂ (λ (a : ℕ) (l : List ℕ). a ∷ l) (ap oneIf here) (bytes-agree s u h (suc k) left (omega arith))
 
 -- sets with the same box and pixels have the same bytes
 pub same-bytes : (s u : Shape) → SameShape s u → bytesOf s ≡ bytesOf u

@@ -11,7 +11,7 @@ use mathlib.Core.Logic.{_⊎_, inl, inr}
 use mathlib.Core.Option.{Option, none, some}
 use Prim.Native.Nat.{ℕ, _+_, _*_, _<_, _≤_}
 use lib.ListN.{getD}
-use Rattle.model.specs.Bounded.{one-if}
+use Rattle.model.specs.Bounded.{oneIf}
 use Rattle.model.specs.Piece.{Point, corner, covers}
 use Rattle.model.specs.Layout.{Job, turnedPiece}
 use Rattle.model.specs.Lent.{pieceBound}
@@ -51,8 +51,8 @@ module _ (j : Job) (few : j .count ≤ pieceBound) (cs : List Call) where
   lying-pieces : (q : Point) → laidPieces j (after .pieces) q ≡ lyingPieces j cs q
   unfolding laidPieces lyingPieces
   lying-pieces q =
-      sum-agree (j .count) _ (λ i. one-if (liesOn j i q (lastTaken j (fresh j) i none cs)))
-      (λ i l. rw (reached-entry j few i cs) (ap one-if (lies-step j i q (lastTaken j (fresh j) i none cs))))
+      sum-agree (j .count) _ (λ i. oneIf (liesOn j i q (lastTaken j (fresh j) i none cs)))
+      (λ i l. rw (reached-entry j few i cs) (ap oneIf (lies-step j i q (lastTaken j (fresh j) i none cs))))
 
   -- each pixel's count is the number of laid pieces on it
   count-at : (x y : ℕ) → x < j .columns → y < j .rows

@@ -6,7 +6,7 @@ use mathlib.Core.Option.{Option, none, some}
 use mathlib.Core.Path.{_≡_}
 use Prim.Native.Nat.{ℕ, _<_, _+_, _*_}
 use lib.ListN.{length, getD}
-use Rattle.model.specs.Bounded.{sumBelow, one-if}
+use Rattle.model.specs.Bounded.{sumBelow, oneIf}
 use Rattle.model.specs.Piece.{Point, corner, covers}
 use Rattle.model.specs.Layout.{Job, turnedPiece, allowed, inside}
 use Rattle.model.specs.Cover.{entryIn, Call, laying, withdrawing, fresh, lastTaken, Sheet, laidAt, blank, laidCount, endsLaid}
@@ -18,7 +18,7 @@ use Rattle.model.specs.Lent.{pieceBound}
 unfoldable pub laidPieces : Job → List Entry → Point → ℕ
 laidPieces j es q =
     sumBelow (j .count)
-    (λ i. one-if (entryIn es i .laid && covers (turnedPiece j i (entryIn es i .place .turn)) (corner (entryIn es i .place)) q))
+    (λ i. oneIf (entryIn es i .laid && covers (turnedPiece j i (entryIn es i .place .turn)) (corner (entryIn es i .place)) q))
 
 -- piece i, whose last call that was not refused is the given one, lies on pixel q: the call is a lay there
 abbrev pub liesOn : Job → ℕ → Point → Option Call → Bool
@@ -28,7 +28,7 @@ liesOn j i q (some (withdrawing m)) = false
 
 -- the number of pieces that lie on pixel q after the calls, each by the last of its calls that was not refused
 unfoldable pub lyingPieces : Job → List Call → Point → ℕ
-lyingPieces j cs q = sumBelow (j .count) (λ i. one-if (liesOn j i q (lastTaken j (fresh j) i none cs)))
+lyingPieces j cs q = sumBelow (j .count) (λ i. oneIf (liesOn j i q (lastTaken j (fresh j) i none cs)))
 
 -- a laid piece: its last call that was not refused is a lay of it, its entry holds that lay's placement, and it is a piece of the job,
 -- in an allowed turn and inside

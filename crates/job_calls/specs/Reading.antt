@@ -6,7 +6,7 @@ use Prim.Native.Nat.{ℕ, suc, _+_, _*_, _≤_}
 use lib.ListN.{length, set}
 use lib.Seq.{sets}
 use Rattle.model.specs.Refusal.{Outcome, refused, given, unless}
-use Rattle.model.specs.Lent.{Lent}
+use Rattle.model.specs.Lent.{Lent, areaBound}
 use Rattle.model.specs.Text.{andThen}
 use Rattle.model.specs.JobText.{JobLine, PieceLine, rowsAt, PieceText, rowsCauses, asPieceText, Pieces, piecesAt, asLent, bufferCauses}
 use Rattle.model.specs.Calls.{tableAfter, storeAfter}
@@ -33,7 +33,7 @@ placeAnswer area line (given t) =
 -- reading stands inside the text, with areas within 65,536 and at most 256 lines on
 abbrev pub PlaceWithin : List ℕ → ℕ → PieceAnswer → Type 0
 PlaceWithin text line (piece.Refused r) = Unit {0}
-PlaceWithin text line (piece.Read p) = (p .next ≤ length text) × (p .area ≤ 65536) × (p .line ≤ line + 256)
+PlaceWithin text line (piece.Read p) = (p .next ≤ length text) × (p .area ≤ areaBound) × (p .line ≤ line + 256)
 
 -- the pixels of a piece that is read are stored
 abbrev pub BoxStored : ℕ → List ℕ → List ℕ → Outcome PieceText → Type 0

@@ -10,7 +10,7 @@ ghost use Prim.Native.Nat.{ℕ, _+_, _*_, _<_, _≤_, _^_};
 ghost use lib.ListN.{length};
 ghost use Rattle.model.specs.Bounded.{allBelow};
 ghost use Rattle.model.specs.Piece.{tight};
-ghost use Rattle.model.specs.Lent.{lentBy, lentWell, entryInRange, entryFits, pixelStart};
+ghost use Rattle.model.specs.Lent.{lentBy, lentWell, entryInRange, entryFits, pixelStart, pieceBound, sideBound};
 ghost use Rattle.job_check.specs.Boxes.{Side, boxIn, storedBox, someMark, allBits, tableWell};
 
 // A byte as a count.
@@ -76,7 +76,7 @@ fn entries_fit(table: &[[u8; 3]], size: JobSize) -> bool
 
 // Where piece i's pixels begin in the store; at n, how many the store has to have.
 pub fn pixel_start(table: &[[u8; 3]], i: usize) -> usize
-    requires { ⌜ (i ≤ length (now table)) × (i ≤ 64) ⌝ }
+    requires { ⌜ (i ≤ length (now table)) × (i ≤ pieceBound) ⌝ }
     ensures { λ r. ⌜ r ≡ pixelStart (now (table .entry)) i ⌝ }
 {
     let mut start = 0;
@@ -125,7 +125,7 @@ fn all_bits(bytes: &[u8], count: usize) -> bool
 
 // One of `count` bytes from `first` on, each `step` after the last, is the mark.
 fn some_mark(mark: u8, bytes: &[u8], first: usize, step: usize, count: usize) -> bool
-    requires { ⌜ (first < 2 ^ 63 + 2 ^ 32) × (step ≤ 512) × (count ≤ 255) ⌝ }
+    requires { ⌜ (first < 2 ^ 63 + 2 ^ 32) × (step ≤ 512) × (count ≤ sideBound) ⌝ }
     ensures { λ r. ⌜ r ≡ someMark mark (now (bytes .entry)) first step count ⌝ }
 {
     let mut at = first;
@@ -176,7 +176,7 @@ fn stored_box_tight(table: &[[u8; 3]], i: usize, pixels: &[u8], start: usize) ->
 
 // Every box is tight.
 fn boxes_tight(table: &[[u8; 3]], count: usize, pixels: &[u8]) -> bool
-    requires { ⌜ (count ≤ length (now table)) × (count ≤ 64) × ((i : ℕ) → i < count → entryInRange (now table) i ≡ true) ⌝ }
+    requires { ⌜ (count ≤ length (now table)) × (count ≤ pieceBound) × ((i : ℕ) → i < count → entryInRange (now table) i ≡ true) ⌝ }
     ensures { λ r. ⌜ r ≡ allBelow count (λ i. tight (storedBox (now (table .entry)) (now (pixels .entry)) i)) ⌝ }
 {
     let mut start = 0;

@@ -14,7 +14,7 @@ ghost use Rattle.model.specs.Piece.{corner};
 ghost use Rattle.model.specs.Strip.{strips};
 ghost use Rattle.model.specs.Overlap.{depth, penalty};
 ghost use Rattle.model.specs.Layout.{turnedPiece};
-ghost use Rattle.model.specs.Lent.{lentBy, jobOf, pixelStart};
+ghost use Rattle.model.specs.Lent.{lentBy, jobOf, pixelStart, pieceBound};
 ghost use Rattle.model.specs.declared.JobSize.{JobSize};
 ghost use Rattle.job_laws.specs.Entries.{EntryAt};
 ghost use Rattle.strip_scan.specs.Put.{Appended};
@@ -41,7 +41,7 @@ fn fill(
     store: &mut [[u8; 3]],
     at: usize,
 ) -> usize
-    requires { ⌜ EntryAt (now table) i (pixelStart (now table) i) × (i ≤ 64) ⌝ ∗ ⌜ at ≤ 2 ^ 32 ⌝ }
+    requires { ⌜ EntryAt (now table) i (pixelStart (now table) i) × (i ≤ pieceBound) ⌝ ∗ ⌜ at ≤ 2 ^ 32 ⌝ }
     ensures { λ r. ⌜ ((size : JobSize) → Appended (strips direction (turnedPiece (jobOf (lentBy size (now (table .entry)) (now (pixels .entry)))) i turn)) (now (store .entry)) at (now (store .exit)) r) ⌝ }
 {
     let start = job_check::pixel_start(table, i);

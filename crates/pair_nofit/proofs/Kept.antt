@@ -11,7 +11,7 @@ use lib.Dec.{ltb}
 use lib.ListN.{length, getD, set, replicate, drop, length-set, length-append, length-drop, getD-replicate, length-replicate}
 use lib.Seq.{getD-set-same, getD-set-other, set-out, drop-length}
 use borrow.Author.Tests.{ltb-true, ltb-false}
-use Rattle.model.specs.Bounded.{one-if}
+use Rattle.model.specs.Bounded.{oneIf}
 use Rattle.model.specs.Strip.{Strip}
 use Rattle.list_laws.proofs.Numbers.{below-or}
 use Rattle.pair_overlap.specs.Meet.{stripAt, stripBegin, Ordered, shifted, meet}
@@ -246,14 +246,14 @@ module _ (old far : List ℕ) (k : ℕ) where
   sweep-rest mark rest i l = getD-set-other far k i mark 0 (omega arith) ∙ rest i (omega arith)
 
   -- what is passed holds its marks
-  pub sweep-mark : (next mark : ℕ) → k < length far → next ≡ farthest old (k + 1) → mark ≡ one-if (ltb k next)
-      → ((i : ℕ) → i < k → getD far i 0 ≡ one-if (ltb i (farthest old (suc i))))
-      → (i : ℕ) → i < k + 1 → getD (set far k mark) i 0 ≡ one-if (ltb i (farthest old (suc i)))
+  pub sweep-mark : (next mark : ℕ) → k < length far → next ≡ farthest old (k + 1) → mark ≡ oneIf (ltb k next)
+      → ((i : ℕ) → i < k → getD far i 0 ≡ oneIf (ltb i (farthest old (suc i))))
+      → (i : ℕ) → i < k + 1 → getD (set far k mark) i 0 ≡ oneIf (ltb i (farthest old (suc i)))
   sweep-mark next mark b e f before i l =
       ⊎-elim
       (λ (g : i < k). getD-set-other far k i mark 0 (omega arith) ∙ before i g)
       (λ (g : k ≤ i).
       let h : k ≡ i = omega arith in
-      subst (λ (z : ℕ). getD (set far k mark) z 0 ≡ one-if (ltb z (farthest old (suc z)))) h
-      (getD-set-same far k mark 0 b ∙ f ∙ ap (λ (z : ℕ). one-if (ltb k z)) (e ∙ ap (farthest old) (add-one k))))
+      subst (λ (z : ℕ). getD (set far k mark) z 0 ≡ oneIf (ltb z (farthest old (suc z)))) h
+      (getD-set-same far k mark 0 b ∙ f ∙ ap (λ (z : ℕ). oneIf (ltb k z)) (e ∙ ap (farthest old) (add-one k))))
       (below-or i k)

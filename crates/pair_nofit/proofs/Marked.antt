@@ -12,7 +12,7 @@ use lib.IntN.{ℤ}
 use lib.ListN.{length, getD, replicate, length-replicate}
 use lib.Seq.{ext-getD}
 use borrow.Author.Tests.{ltb-true, lt-ltb}
-use Rattle.model.specs.Bounded.{one-if}
+use Rattle.model.specs.Bounded.{oneIf}
 use Rattle.model.specs.Piece.{Shape, point}
 use Rattle.model.specs.Overlap.{noFitAt, offsetBound, up, down}
 use Rattle.model.specs.declared.Direction.{Direction}
@@ -33,17 +33,17 @@ unfolding flagsFrom
 flags-length f k zero = refl
 flags-length f k (suc left) = ap suc (flags-length f (suc k) left)
 
-flags-from : (f : ℕ → Bool) (k left i : ℕ) → i < left → getD (flagsFrom f k left) i 0 ≡ one-if (f (k + i))
+flags-from : (f : ℕ → Bool) (k left i : ℕ) → i < left → getD (flagsFrom f k left) i 0 ≡ oneIf (f (k + i))
 unfolding flagsFrom
 flags-from f k zero i l = absurd (omega arith)
-flags-from f k (suc left) zero l = ap (λ (z : ℕ). one-if (f z)) (sym (add-zero k))
+flags-from f k (suc left) zero l = ap (λ (z : ℕ). oneIf (f z)) (sym (add-zero k))
 flags-from f k (suc left) (suc i) l =
     let e : suc k + i ≡ k + suc i = omega arith in
-    flags-from f (suc k) left i (omega arith) ∙ ap (λ (z : ℕ). one-if (f z)) e
+    flags-from f (suc k) left i (omega arith) ∙ ap (λ (z : ℕ). oneIf (f z)) e
 
 -- the flag of a number
-pub flags-at : (f : ℕ → Bool) (n i : ℕ) → i < n → getD (flagsFrom f 0 n) i 0 ≡ one-if (f i)
-flags-at f n i l = let e : 0 + i ≡ i = omega arith in flags-from f 0 n i l ∙ ap (λ (z : ℕ). one-if (f z)) e
+pub flags-at : (f : ℕ → Bool) (n i : ℕ) → i < n → getD (flagsFrom f 0 n) i 0 ≡ oneIf (f i)
+flags-at f n i l = let e : 0 + i ≡ i = omega arith in flags-from f 0 n i l ∙ ap (λ (z : ℕ). oneIf (f z)) e
 
 -- ── the farthest end ──
 
@@ -89,7 +89,7 @@ marks-made es u fs v n cleared far after e m s =
     (λ k l.
     let b : k < length far = omega (arith, s .same) in
     s .marks k b
-    ∙ ap one-if
+    ∙ ap oneIf
     (same-tests (ltb k (farthest far (suc k))) (sharesAt es u fs v k)
     (λ h. m .grown .sound k b (farthest-reached far k h))
     (λ h.

@@ -5,7 +5,7 @@ use mathlib.Core.Path.{_≡_}
 use Prim.Native.Nat.{ℕ, zero, suc, _+_, max, _<_, _≤_}
 use lib.Dec.{ltb}
 use lib.ListN.{length, getD, set}
-use Rattle.model.specs.Bounded.{one-if}
+use Rattle.model.specs.Bounded.{oneIf}
 use Rattle.model.specs.Strip.{Strip}
 use Rattle.pair_overlap.specs.Meet.{stripAt, shifted, meet, stretchesShare}
 use Rattle.pair_overlap.specs.declared.Corner.{Corner}
@@ -14,7 +14,7 @@ use Rattle.pair_nofit.specs.declared.Placed.{Placed}
 -- 1 for each of the next `left` numbers from k on that passes, else 0
 unfoldable pub flagsFrom : (ℕ → Bool) → ℕ → ℕ → List ℕ
 flagsFrom f k zero = []
-flagsFrom f k (suc left) = one-if (f k) ∷ flagsFrom f (suc k) left
+flagsFrom f k (suc left) = oneIf (f k) ∷ flagsFrom f (suc k) left
 
 -- they share a pixel once the second is shifted by k
 abbrev pub sharesAt : List (List ℕ) → Corner → List (List ℕ) → Corner → ℕ → Bool
@@ -85,4 +85,4 @@ farthest far (suc n) = max (farthest far n) (getD far n 0)
 -- the farthest ends turned into marks
 pub record Swept (before after : List ℕ) : Type 0 where
   pub same : length after ≡ length before
-  pub marks : (k : ℕ) → k < length before → getD after k 0 ≡ one-if (ltb k (farthest before (suc k)))
+  pub marks : (k : ℕ) → k < length before → getD after k 0 ≡ oneIf (ltb k (farthest before (suc k)))

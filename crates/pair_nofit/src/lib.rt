@@ -5,7 +5,7 @@ ghost use mathlib.Core.Path.{_≡_};
 ghost use Prim.Native.Nat.{ℕ, _+_, _-_, max, _<_, _≤_};
 ghost use lib.Dec.{ltb};
 ghost use lib.ListN.{length, replicate};
-ghost use Rattle.model.specs.Bounded.{one-if};
+ghost use Rattle.model.specs.Bounded.{oneIf};
 ghost use Rattle.pair_overlap.specs.Meet.{stripAt, Ordered, Near};
 ghost use Rattle.pair_nofit.specs.Marks.{marksOf, PlacedAt, keptAt, Sound, LineMarked, AllMarked, LineStart, Swept};
 
@@ -137,7 +137,7 @@ fn larger(x: u16, y: u16) -> u16
 
 // 1 where the place lies before the end.
 fn flag(k: usize, end: u16) -> u16
-    ensures { λ r. ⌜ r ≡ one-if (ltb k end) ⌝ }
+    ensures { λ r. ⌜ r ≡ oneIf (ltb k end) ⌝ }
 {
     if k < (end as usize) { 1 } else { 0 }
 }

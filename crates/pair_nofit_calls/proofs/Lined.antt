@@ -9,7 +9,7 @@ use lib.IntN.{ℤ}
 use lib.ListN.{length}
 use lib.Seq.{sets, length-sets}
 use borrow.Author.Tests.{lt-ltb, le-ltb}
-use Rattle.model.specs.Bounded.{one-if}
+use Rattle.model.specs.Bounded.{oneIf}
 use Rattle.model.specs.Strip.{Run, runs}
 use Rattle.model.specs.Overlap.{offsetBound, up, down}
 use Rattle.model.specs.Refusal.{refused, given, cause, refusalOf, unless, wrongLength}
@@ -23,7 +23,7 @@ use Rattle.pair_nofit_calls.specs.Lines.{offsetEntry, marked, Put, offse
 use Rattle.pair_nofit_calls.specs.declared.RunsAnswer.{RunsAnswer}
 
 -- a flag is 1 exactly where the number passes
-flag-one : (b : Bool) → eqb (one-if b) 1 ≡ b
+flag-one : (b : Bool) → eqb (oneIf b) 1 ≡ b
 flag-one true = refl
 flag-one false = refl
 

@@ -18,13 +18,13 @@ ghost use lib.IntN.{subℕ};
 ghost use lib.ListN.{length};
 ghost use Rattle.model.specs.Strip.{runs, closing};
 ghost use Rattle.model.specs.Overlap.{up, down, offsetBound};
-ghost use Rattle.model.specs.Lent.{lentBy, jobOf, pixelStart};
+ghost use Rattle.model.specs.Lent.{lentBy, jobOf, pixelStart, pieceBound, sideBound};
 ghost use Rattle.model.specs.Calls.{known, stretchWell, noFitCall, runsAfter};
 ghost use Rattle.model.specs.declared.JobSize.{JobSize};
 ghost use Rattle.job_laws.specs.Entries.{EntryAt};
 ghost use Rattle.pair_overlap.specs.Meet.{Ordered};
 ghost use Rattle.layout_places.specs.Answers.{firstCause};
-ghost use Rattle.pair_nofit_calls.specs.Lines.{marked, Put, lineOutcome, lineAfter, runsAnswer, lentStretch, stretchCauses};
+ghost use Rattle.pair_nofit_calls.specs.Lines.{marked, Put, lineOutcome, lineAfter, runsAnswer, lentStretch, stretchCauses, offsetCount};
 
 // How many offsets a no-fit line has.
 const OFFSET_COUNT: usize = 2 * (OFFSET_BOUND as usize) + 1;
@@ -57,7 +57,7 @@ fn unbiased(k: u32) -> i32
 
 // How far an offset goes up, up to 255.
 fn up(o: i32) -> u32
-    ensures { λ r. ⌜ r ≡ min (up o) 255 ⌝ }
+    ensures { λ r. ⌜ r ≡ min (up o) sideBound ⌝ }
 {
     if o < 0 {
         return 0;
@@ -70,7 +70,7 @@ fn up(o: i32) -> u32
 
 // How far an offset goes down, up to 255.
 fn down(o: i32) -> u32
-    ensures { λ r. ⌜ r ≡ min (down o) 255 ⌝ }
+    ensures { λ r. ⌜ r ≡ min (down o) sideBound ⌝ }
 {
     if 0 <= o {
         return 0;
@@ -83,7 +83,7 @@ fn down(o: i32) -> u32
 
 // Puts the run of `count` marked offsets that ends before `end` into the buffer, if there is one, and tells where the next would stand.
 fn put_run(out: &mut [[i32; 2]], at: usize, end: usize, count: usize) -> usize
-    requires { ⌜ (count ≤ end) × (end ≤ 509) × (at ≤ 509) ⌝ }
+    requires { ⌜ (count ≤ end) × (end ≤ offsetCount) × (at ≤ offsetCount) ⌝ }
     ensures { λ r. ⌜ Put (closing end count []) (now (out .entry)) at (now (out .exit)) r ⌝ }
 {
     if count == 0 {
@@ -98,7 +98,7 @@ fn put_run(out: &mut [[i32; 2]], at: usize, end: usize, count: usize) -> usize
 
 // Puts the maximal runs of the marked offsets into the buffer, as far as there is room, and tells how many there are.
 fn put_runs(marks: &[u16], out: &mut [[i32; 2]]) -> usize
-    requires { ⌜ length (now marks) ≤ 509 ⌝ }
+    requires { ⌜ length (now marks) ≤ offsetCount ⌝ }
     ensures { λ r. ⌜ Put (runs (marked (now (marks .entry))) (length (now (marks .entry)))) (now (out .entry)) 0 (now (out .exit)) r ⌝ }
 {
     let mut at = 0;
@@ -160,7 +160,7 @@ fn is_own(
     direction: Direction,
     stretch: &[[u8; 3]],
 ) -> bool
-    requires { ⌜ EntryAt (now table) i (pixelStart (now table) i) × (i ≤ 64) ⌝ }
+    requires { ⌜ EntryAt (now table) i (pixelStart (now table) i) × (i ≤ pieceBound) ⌝ }
     ensures { λ r. ⌜ ((size : JobSize) → r ≡ stretchWell direction (jobOf (lentBy size (now (table .entry)) (now (pixels .entry)))) (lentStretch i turn (now (stretch .entry)))) ⌝ }
 {
     let start = job_check::pixel_start(table, i);

@@ -8,7 +8,7 @@ ghost use lib.Dec.{eqb};
 ghost use lib.ListN.{length, getD};
 ghost use Rattle.model.specs.Piece.{Shape, turned};
 ghost use Rattle.model.specs.Layout.{turnedPiece};
-ghost use Rattle.model.specs.Lent.{lentBy, jobOf};
+ghost use Rattle.model.specs.Lent.{lentBy, jobOf, sideBound};
 ghost use Rattle.model.specs.declared.JobSize.{JobSize};
 ghost use Rattle.piece_pixels.specs.Turned.{sidesOf, madeOf, shownBy, InTurnedBox, SmallPiece, PixelStored};
 
@@ -69,7 +69,7 @@ pub fn sides_in(columns: usize, rows: usize, turn: Turn) -> Sides
 pub fn turned_sides(table: &[[u8; 3]], i: usize, turn: Turn) -> Sides
     requires { ⌜ i < length (now table) ⌝ }
     ensures sides { λ r. ⌜ ((size : JobSize) (pixels : List ℕ) → r ≡ sidesOf (turnedPiece (jobOf (lentBy size (now (table .entry)) pixels)) i turn)) ⌝ }
-    ensures small { λ r. ⌜ (r .columns ≤ 255) × (r .rows ≤ 255) ⌝ }
+    ensures small { λ r. ⌜ (r .columns ≤ sideBound) × (r .rows ≤ sideBound) ⌝ }
 {
     let columns = side(table[i][0]);
     let rows = side(table[i][1]);

@@ -19,6 +19,7 @@ ghost use Prim.Native.Nat.{_≤_};
 ghost use Rattle.model.specs.Lent.{lentBy, jobOf};
 ghost use Rattle.model.specs.Calls.{roundBound};
 ghost use Rattle.model.specs.declared.Direction.{Direction};
+ghost use Rattle.search_lines.specs.Kept.{slotBound};
 ghost use Rattle.search_shapes.specs.Shapes.{Shapes};
 ghost use Rattle.run_step.specs.Ready.{Tools, LaidOut, Store, LineStores};
 ghost use Rattle.run_rounds.specs.Rounds.{Ran};
@@ -45,7 +46,7 @@ pub enum PlanOutcome {
 
 // How many slots of a width a store of 524,288 bytes and 8,192 tags has.
 fn slot_count(width: usize) -> usize
-    requires { ⌜ (64 ≤ width) × (width ≤ 512) ⌝ }
+    requires { ⌜ (64 ≤ width) × (width ≤ slotBound) ⌝ }
     ensures { λ r. ⌜ Slots width r ⌝ }
 {
     LINES_LENGTH / width

@@ -19,10 +19,11 @@ ghost use mathlib.Core.Path.{_≡_};
 ghost use Prim.Native.Nat.{_<_, _≤_};
 ghost use lib.ListN.{length};
 ghost use Rattle.model.specs.Piece.{onLine, lineDirection};
-ghost use Rattle.model.specs.Lent.{lentBy, jobOf};
+ghost use Rattle.model.specs.Lent.{lentBy, jobOf, columnBound};
 ghost use Rattle.model.specs.Layout.{pieceSum, weightedSum};
 ghost use Rattle.model.specs.Buffer.{layoutOf};
 ghost use Rattle.model.specs.Descent.{attempt, trialLine};
+ghost use Rattle.model.specs.Calls.{budgetBound};
 ghost use Rattle.descent_laws.specs.Claims.{ValidWeights};
 ghost use Rattle.descent_laws.specs.Trials.{Proper};
 ghost use Rattle.search_laws.specs.Table.{PenaltyTable};
@@ -85,7 +86,7 @@ fn try_line(
     tags: &mut [u32],
     sums: &mut [u32],
 ) -> Tried
-    requires { ⌜ SearchReady (lentBy size (now table) (now pixels)) (lineDirection (mover .line)) (now strips) (now starts) (now layout) (now weights) width (now lines) (now tags) ⌝ ∗ ⌜ mover .piece < size .count ⌝ ∗ ⌜ PenaltyTable (jobOf (lentBy size (now table) (now pixels))) (layoutOf (now layout)) (size .count) (now penalties) ⌝ ∗ ⌜ 4096 ≤ length (now sums) ⌝ }
+    requires { ⌜ SearchReady (lentBy size (now table) (now pixels)) (lineDirection (mover .line)) (now strips) (now starts) (now layout) (now weights) width (now lines) (now tags) ⌝ ∗ ⌜ mover .piece < size .count ⌝ ∗ ⌜ PenaltyTable (jobOf (lentBy size (now table) (now pixels))) (layoutOf (now layout)) (size .count) (now penalties) ⌝ ∗ ⌜ columnBound ≤ length (now sums) ⌝ }
     ensures answer { λ r. ⌜ r ≡ triedAnswer (moverSearch (jobOf (lentBy size (now (table .entry)) (now (pixels .entry)))) (now (weights .entry)) (layoutOf (now (layout .entry))) mover bound) ⌝ }
     ensures memory { λ r. ⌜ now (layout .exit) ≡ entriesAfter (now (layout .entry)) (mover .piece) (mover .turn) (mover .line) (moverSearch (jobOf (lentBy size (now (table .entry)) (now (pixels .entry)))) (now (weights .entry)) (layoutOf (now (layout .entry))) mover bound) ⌝ }
     ensures renewed { λ r. ⌜ PenaltyTable (jobOf (lentBy size (now (table .entry)) (now (pixels .entry)))) (layoutOf (now (layout .exit))) (size .count) (now (penalties .exit)) ⌝ }
@@ -207,7 +208,7 @@ fn try_trial(
 
 // After a quiet trial: the quiet count grows by 1.
 fn after_quiet(at: DescentState, next: Trial) -> DescentState
-    requires { ⌜ (at .quiet < 1000) × (at .made < 1000000000) ⌝ }
+    requires { ⌜ (at .quiet < 1000) × (at .made < budgetBound) ⌝ }
     ensures { λ r. ⌜ r ≡ afterQuiet at next ⌝ }
 {
     DescentState {
@@ -221,7 +222,7 @@ fn after_quiet(at: DescentState, next: Trial) -> DescentState
 
 // After a move to a given sum: the quiet count becomes 0.
 fn after_move(at: DescentState, next: Trial, sum: u64) -> DescentState
-    requires { ⌜ (at .made < 1000000000) × (at .moves ≤ at .made) ⌝ }
+    requires { ⌜ (at .made < budgetBound) × (at .moves ≤ at .made) ⌝ }
     ensures { λ r. ⌜ r ≡ afterMove at next sum ⌝ }
 {
     DescentState {
@@ -259,7 +260,7 @@ pub fn step(
         ∗ ⌜ LineStores (jobOf (lentBy size (now table) (now pixels))) width (now «row_lines») (now «row_tags») (now «column_lines») (now «column_tags») (now sums) ⌝ }
     requires { ⌜ Proper (jobOf (lentBy size (now table) (now pixels))) 0 (size .count) (trialAs (at .trial)) ⌝
         ∗ ⌜ at .sum ≡ weightedSum (jobOf (lentBy size (now table) (now pixels))) (now weights) (layoutOf (now layout)) ⌝
-        ∗ ⌜ (at .quiet < 1000) × ((at .made < 1000000000) × (at .moves ≤ at .made)) ⌝ }
+        ∗ ⌜ (at .quiet < 1000) × ((at .made < budgetBound) × (at .moves ≤ at .made)) ⌝ }
     ensures passed { λ r. ⌜ standingAs (layoutOf (now (layout .exit))) r ≡ passed (jobOf (lentBy size (now (table .entry)) (now (pixels .entry)))) (standingAs (layoutOf (now (layout .entry))) at) (attempt (jobOf (lentBy size (now (table .entry)) (now (pixels .entry)))) (now (weights .entry)) (layoutOf (now (layout .entry))) (trialAs (at .trial))) ⌝ }
     ensures sum { λ r. ⌜ r .sum ≡ weightedSum (jobOf (lentBy size (now (table .entry)) (now (pixels .entry)))) (now (weights .entry)) (layoutOf (now (layout .exit))) ⌝ }
     ensures laid { λ r. ⌜ LaidOut (lentBy size (now (table .entry)) (now (pixels .entry))) (now (layout .exit)) (now (penalties .exit)) ⌝ }

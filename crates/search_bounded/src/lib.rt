@@ -17,7 +17,7 @@ ghost use Prim.Native.Nat.{_<_, _≤_};
 ghost use lib.ListN.{length};
 ghost use Rattle.model.specs.Piece.{lineDirection};
 ghost use Rattle.model.specs.Search.{places, sumAt, movedTo};
-ghost use Rattle.model.specs.Lent.{lentBy, jobOf};
+ghost use Rattle.model.specs.Lent.{lentBy, jobOf, columnBound};
 ghost use Rattle.model.specs.Buffer.{layoutOf};
 ghost use Rattle.search_laws.specs.BoundedSearch.{belowBound};
 ghost use Rattle.search_laws.specs.Table.{PenaltyTable};
@@ -87,7 +87,7 @@ pub fn search_below(
     tags: &mut [u32],
     sums: &mut [u32],
 ) -> Found
-    requires { ⌜ SearchReady (lentBy size (now table) (now pixels)) (lineDirection (mover .line)) (now strips) (now starts) (now layout) (now weights) width (now lines) (now tags) ⌝ ∗ ⌜ mover .piece < size .count ⌝ ∗ ⌜ 4096 ≤ length (now sums) ⌝ }
+    requires { ⌜ SearchReady (lentBy size (now table) (now pixels)) (lineDirection (mover .line)) (now strips) (now starts) (now layout) (now weights) width (now lines) (now tags) ⌝ ∗ ⌜ mover .piece < size .count ⌝ ∗ ⌜ columnBound ≤ length (now sums) ⌝ }
     ensures found { λ r. ⌜ r ≡ foundAnswer (belowBound (sumAt (jobOf (lentBy size (now (table .entry)) (now (pixels .entry)))) (now (weights .entry)) (layoutOf (now (layout .entry))) (mover .piece) (mover .turn) (mover .line)) (places (jobOf (lentBy size (now (table .entry)) (now (pixels .entry)))) (mover .piece) (mover .turn) (mover .line)) bound) ⌝ }
     ensures kept { λ r. ⌜ LinesKept (lineDirection (mover .line)) (jobOf (lentBy size (now (table .entry)) (now (pixels .entry)))) width (now (lines .exit)) (now (tags .exit)) ⌝ }
     ensures sizes { λ r. ⌜ (length (now (lines .exit)) ≡ length (now (lines .entry))) × (length (now (tags .exit)) ≡ length (now (tags .entry))) ⌝ }

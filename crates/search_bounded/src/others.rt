@@ -22,6 +22,7 @@ ghost use Rattle.model.specs.Piece.{lineDirection, onLine};
 ghost use Rattle.model.specs.declared.JobSize.{JobSize};
 ghost use Rattle.model.specs.Lent.{lentBy, jobOf};
 ghost use Rattle.model.specs.Buffer.{layoutOf};
+ghost use Rattle.search_lines.specs.Kept.{middle};
 ghost use Rattle.descent_laws.specs.Claims.{ValidWeights};
 ghost use Rattle.search_laws.specs.Table.{Renewed};
 ghost use Rattle.search_bounded.specs.Ready.{LinesReady, OnTrack, IsStanding};
@@ -55,7 +56,7 @@ fn line_with(
     requires { ⌜ LinesReady (lentBy size (now table) (now pixels)) (lineDirection (mover .line)) (now strips) (now starts) (now layout) width (now lines) (now tags) ⌝
         ∗ ⌜ OnTrack (lentBy size (now table) (now pixels)) mover track ⌝
         ∗ ⌜ IsStanding (jobOf (lentBy size (now table) (now pixels))) (layoutOf (now layout)) (lineDirection (mover .line)) k standing ⌝
-        ∗ ⌜ (k < size .count) × ((track .held ≤ standing .across + 255) × (standing .across + 255 - track .held < 1024)) ⌝ }
+        ∗ ⌜ (k < size .count) × ((track .held ≤ standing .across + middle) × (standing .across + middle - track .held < 1024)) ⌝ }
     ensures line { λ r. ⌜ LineRead (jobOf (lentBy size (now (table .entry)) (now (pixels .entry)))) (layoutOf (now (layout .entry))) mover k (now (lines .exit)) r ⌝ }
     ensures ready { λ r. ⌜ LinesReady (lentBy size (now (table .entry)) (now (pixels .entry))) (lineDirection (mover .line)) (now (strips .entry)) (now (starts .entry)) (now (layout .entry)) width (now (lines .exit)) (now (tags .exit)) ⌝ }
 {

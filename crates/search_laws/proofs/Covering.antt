@@ -10,7 +10,7 @@ use Prim.Native.Nat.{ℕ, _+_, _*_, _<_, _≤_}
 use native.Mathlib.Nat.{mul-le-mul, mul-le-mul-left, mul-zero}
 use native.Mathlib.Omega.{arith}
 use lib.ListN.{length}
-use Rattle.model.specs.Bounded.{sumBelow, one-if}
+use Rattle.model.specs.Bounded.{sumBelow, oneIf}
 use Rattle.model.specs.Piece.{Point, Shape, along, extent, other, corner, lineDirection, held, onLine}
 use Rattle.model.specs.Overlap.{share}
 use Rattle.model.specs.Layout.{Job, Layout, turnedPiece, shapeIn, cornerIn}
@@ -48,7 +48,7 @@ meeting-penalty j v i t line a k e =
 
 -- the test for a shared pixel, as a number, is at most the penalty
 test-penalty : (j : Job) (v : Layout) (i : ℕ) (t : Turn) (line : Line) (a k : ℕ) (b : Bool) → meets j v i t line a k ≡ b
-    → one-if b ≤ penaltyOn j v i t line a k
+    → oneIf b ≤ penaltyOn j v i t line a k
 test-penalty j v i t line a k true e = meeting-penalty j v i t line a k e
 test-penalty j v i t line a k false e = omega arith
 
@@ -78,7 +78,7 @@ module _ (j : Job) (ws : List ℕ) (v : Layout) (i : ℕ) (t : Turn) (line : Lin
         rw (parts a) (omega arith)
 
     -- the weights of the pieces that are met are at most the sum
-    pub met-weights : (a : ℕ) → sumBelow (j .count) (λ k. weightBetween (j .count) ws i k * one-if (meets j v i t line a k)) ≤ sumAt j ws v i t line a
+    pub met-weights : (a : ℕ) → sumBelow (j .count) (λ k. weightBetween (j .count) ws i k * oneIf (meets j v i t line a k)) ≤ sumAt j ws v i t line a
     met-weights a =
         rw (parts a)
         (sum-le (j .count) _ (part a) (λ k l. mul-le-mul-left (weightBetween (j .count) ws i k) (test-penalty j v i t line a k _ refl)))

@@ -10,7 +10,7 @@ use borrow.Author.Tests.{lt-ltb, le-ltb}
 use lib.Dec.{ltb}
 use lib.ListN.{length, getD, set, length-set}
 use lib.Seq.{getD-set-same, getD-set-other}
-use Rattle.model.specs.Bounded.{sumBelow, one-if}
+use Rattle.model.specs.Bounded.{sumBelow, oneIf}
 use Rattle.list_laws.proofs.Sums.{sum-step, sum-agree, sum-zero, sum-changed}
 
 -- the sum of the first m entries
@@ -22,25 +22,25 @@ abbrev pub placeMarked : List ℕ → ℕ → List ℕ
 placeMarked l i = set l i (getD l i 0 + 1)
 
 -- a mark counts in the sums that reach beyond its place
-pub marked-sum : (l : List ℕ) (i m : ℕ) → i < length l → firstSum (placeMarked l i) m ≡ firstSum l m + one-if (ltb i m)
+pub marked-sum : (l : List ℕ) (i m : ℕ) → i < length l → firstSum (placeMarked l i) m ≡ firstSum l m + oneIf (ltb i m)
 marked-sum l i m h = by-place (decLt i m)
   where
     others : (k : ℕ) → k < m → (k ≡ i → ⊥) → getD (placeMarked l i) k 0 ≡ getD l k 0
     others k b d = getD-set-other l i k (getD l i 0 + 1) 0 d
 
-    by-place : Dec (i < m) → firstSum (placeMarked l i) m ≡ firstSum l m + one-if (ltb i m)
+    by-place : Dec (i < m) → firstSum (placeMarked l i) m ≡ firstSum l m + oneIf (ltb i m)
     by-place (yes b) =
         let here : getD (placeMarked l i) i 0 ≡ getD l i 0 + 1 = getD-set-same l i (getD l i 0 + 1) 0 h in
-        let one : one-if (ltb i m) ≡ 1 = ap one-if (lt-ltb i m b) in
+        let one : oneIf (ltb i m) ≡ 1 = ap oneIf (lt-ltb i m b) in
         omega (arith, sum-changed m i (λ k. getD (placeMarked l i) k 0) (λ k. getD l k 0) b others)
     by-place (no b) =
-        let none : one-if (ltb i m) ≡ 0 = ap one-if (le-ltb i m (omega arith)) in
+        let none : oneIf (ltb i m) ≡ 0 = ap oneIf (le-ltb i m (omega arith)) in
         let same : firstSum (placeMarked l i) m ≡ firstSum l m = sum-agree m _ _ (λ k g. others k g (λ e. omega arith)) in
         omega arith
 
 -- place a lies in the stretch from low up to, and without, high
 abbrev pub inStretch : ℕ → ℕ → ℕ → ℕ
-inStretch low high a = one-if (ltb low (a + 1)) - one-if (ltb high (a + 1))
+inStretch low high a = oneIf (ltb low (a + 1)) - oneIf (ltb high (a + 1))
 
 -- a place of the stretch is covered once
 pub stretch-in : (low high a : ℕ) → low ≤ a → a < high → inStretch low high a ≡ 1
@@ -49,7 +49,7 @@ stretch-in low high a l h = rw (lt-ltb low (a + 1) (omega arith), le-ltb high (a
 -- one before it is not
 pub stretch-before : (low high a : ℕ) → a < low → inStretch low high a ≡ 0
 stretch-before low high a l =
-    let none : one-if (ltb low (a + 1)) ≡ 0 = ap one-if (le-ltb low (a + 1) (omega arith)) in
+    let none : oneIf (ltb low (a + 1)) ≡ 0 = ap oneIf (le-ltb low (a + 1) (omega arith)) in
     omega arith
 
 -- nor is one behind it
@@ -73,10 +73,10 @@ marks-none n begins ends b e zb ze =
     }
 
 -- a stretch ends no earlier than it begins
-ends-later : (low high m : ℕ) → low ≤ high → one-if (ltb high m) ≤ one-if (ltb low m)
+ends-later : (low high m : ℕ) → low ≤ high → oneIf (ltb high m) ≤ oneIf (ltb low m)
 ends-later low high m l = by-end (decLt high m)
   where
-    by-end : Dec (high < m) → one-if (ltb high m) ≤ one-if (ltb low m)
+    by-end : Dec (high < m) → oneIf (ltb high m) ≤ oneIf (ltb low m)
     by-end (yes h) = rw (lt-ltb high m h, lt-ltb low m (omega arith)) (omega arith)
     by-end (no h) = rw (le-ltb high m (omega arith)) (omega arith)
 

@@ -16,6 +16,13 @@ use Rattle.search_shapes.specs.Shapes.{shapeNumber}
 abbrev pub middle : ℕ
 middle = 255
 
+-- the most bytes of a slot, and of a store of lines
+abbrev pub slotBound : ℕ
+slotBound = 512
+
+abbrev pub linesBound : ℕ
+linesBound = 524288
+
 -- how many places a line has: those at which the boxes meet along it
 abbrev pub linePlaces : Direction → Shape → Shape → ℕ
 linePlaces d s t = extent d s + extent d t - 1

@@ -8,7 +8,7 @@ ghost use Rattle.model.specs.Piece.{extent};
 ghost use Rattle.model.specs.Layout.{turnedPiece};
 ghost use Rattle.model.specs.Lent.{lentBy, jobOf};
 ghost use Rattle.model.specs.declared.JobSize.{JobSize};
-ghost use Rattle.search_lines.specs.Kept.{linePlaces, HoldsLine, LinesKept, Wide};
+ghost use Rattle.search_lines.specs.Kept.{linePlaces, HoldsLine, LinesKept, Wide, linesBound, slotBound};
 ghost use Rattle.search_lines.specs.Making.{movedShape, standingShape, keyOfTwo, SmallTwo, Asked, LineMade};
 use layout_places::numbers::larger;
 use model::Direction;
@@ -45,7 +45,7 @@ pub struct Two {
 pub fn slot_width(size: JobSize, table: &[[u8; 3]]) -> usize
     requires { ⌜ size .count ≤ length (now table) ⌝ }
     ensures wide { λ r. ⌜ ((pixels : List ℕ) → Wide (jobOf (lentBy size (now (table .entry)) pixels)) r) ⌝ }
-    ensures bounds { λ r. ⌜ (64 ≤ r) × (r ≤ 512) ⌝ }
+    ensures bounds { λ r. ⌜ (64 ≤ r) × (r ≤ slotBound) ⌝ }
 {
     let count = size.count;
     let mut side: usize = LEAST_SIDE;
@@ -105,7 +105,7 @@ fn make_line(
 )
     requires { ⌜ Asked (lentBy size (now table) (now pixels)) direction (now strips) (now starts) two ⌝
         ∗ ⌜ at + linePlaces direction (movedShape (lentBy size (now table) (now pixels)) two) (standingShape (lentBy size (now table) (now pixels)) two) ≤ length (now lines) ⌝
-        ∗ ⌜ length (now lines) ≤ 524288 ⌝ }
+        ∗ ⌜ length (now lines) ≤ linesBound ⌝ }
     ensures { λ r. ⌜ LineMade direction (movedShape (lentBy size (now (table .entry)) (now (pixels .entry))) two) (standingShape (lentBy size (now (table .entry)) (now (pixels .entry))) two) (two .offset) (now (lines .entry)) at (now (lines .exit)) ⌝ }
 {
     let moved_turn = two.moved_turn;
@@ -136,8 +136,8 @@ pub fn keep_line(
     tags: &mut [u32],
 ) -> usize
     requires { ⌜ Asked (lentBy size (now table) (now pixels)) direction (now strips) (now starts) two ⌝
-        ∗ ⌜ Wide (jobOf (lentBy size (now table) (now pixels))) width ⌝ ∗ ⌜ width ≤ 512 ⌝
-        ∗ ⌜ LinesKept direction (jobOf (lentBy size (now table) (now pixels))) width (now lines) (now tags) ⌝ ∗ ⌜ length (now lines) ≤ 524288 ⌝ }
+        ∗ ⌜ Wide (jobOf (lentBy size (now table) (now pixels))) width ⌝ ∗ ⌜ width ≤ slotBound ⌝
+        ∗ ⌜ LinesKept direction (jobOf (lentBy size (now table) (now pixels))) width (now lines) (now tags) ⌝ ∗ ⌜ length (now lines) ≤ linesBound ⌝ }
     ensures line { λ r. ⌜ HoldsLine direction (movedShape (lentBy size (now (table .entry)) (now (pixels .entry))) two) (standingShape (lentBy size (now (table .entry)) (now (pixels .entry))) two) (two .offset) (now (lines .exit)) r ⌝ }
     ensures within { λ r. ⌜ r + width ≤ length (now (lines .exit)) ⌝ }
     ensures kept { λ r. ⌜ LinesKept direction (jobOf (lentBy size (now (table .entry)) (now (pixels .entry)))) width (now (lines .exit)) (now (tags .exit)) ⌝ }

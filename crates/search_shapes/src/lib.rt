@@ -7,7 +7,7 @@ ghost use lib.ListN.{length};
 ghost use Rattle.model.specs.Lent.{lentBy, jobOf, lentWell};
 ghost use Rattle.model.specs.Layout.{Job, turnedPiece};
 ghost use Rattle.model.specs.declared.Direction.{Direction};
-ghost use Rattle.search_shapes.specs.Shapes.{turnNumber, numberedTurn, shapeNumber, Held, Shapes, StripsOf, ShapesRoom};
+ghost use Rattle.search_shapes.specs.Shapes.{turnNumber, numberedTurn, shapeNumber, Held, Shapes, StripsOf, ShapesRoom, storeBound};
 use model::Direction;
 use model::JobSize;
 use model::Turn;
@@ -52,7 +52,7 @@ pub fn shape_number(piece: usize, turn: Turn) -> usize
 
 // A store with room for the strips of every piece in every turn. What it holds plays no part, so that no caller's proof computes with it.
 pub fn empty_store() -> [[u8; 3]; STORE_LENGTH]
-    ensures { λ r. ⌜ length r ≡ 262144 ⌝ }
+    ensures { λ r. ⌜ length r ≡ storeBound ⌝ }
 {
     [[0u8; 3]; STORE_LENGTH]
 }

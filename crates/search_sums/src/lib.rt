@@ -10,6 +10,7 @@ ghost use Prim.Native.Nat.{ℕ, _+_, _<_, _≤_, _^_};
 ghost use lib.ListN.{length, replicate};
 ghost use Rattle.model.specs.Layout.{Job, Layout, pairs, pieceSum, weightedSum, plainSum};
 ghost use Rattle.model.specs.Guided.{raised};
+ghost use Rattle.model.specs.Lent.{pieceBound};
 ghost use Rattle.descent_laws.specs.Claims.{ValidWeights};
 ghost use Rattle.search_laws.specs.Pairs.{rowStart, pairIndex};
 ghost use Rattle.search_laws.specs.PieceSum.{weightBetween};
@@ -19,7 +20,7 @@ ghost use Rattle.search_sums.specs.Table.{Weighed, rowPart, raisedAt};
 
 // How many pairs n pieces have.
 pub fn pair_count(n: usize) -> usize
-    requires { ⌜ n ≤ 64 ⌝ }
+    requires { ⌜ n ≤ pieceBound ⌝ }
     ensures { λ r. ⌜ r ≡ length (pairs n) ⌝ }
 {
     if n == 0 {
@@ -31,7 +32,7 @@ pub fn pair_count(n: usize) -> usize
 
 // The position of the pair (i, k), i below k, among the pairs of n pieces.
 pub fn pair_index(n: usize, i: usize, k: usize) -> usize
-    requires { ⌜ (n ≤ 64) × ((i < k) × (k < n)) ⌝ }
+    requires { ⌜ (n ≤ pieceBound) × ((i < k) × (k < n)) ⌝ }
     ensures { λ r. ⌜ r ≡ pairIndex n i k ⌝ }
 {
     n * i - i * (i + 1) / 2 + (k - (i + 1))
@@ -39,7 +40,7 @@ pub fn pair_index(n: usize, i: usize, k: usize) -> usize
 
 // The weight of pieces i and k; 0 where they are one.
 pub fn weight_between(weights: &[u32], n: usize, i: usize, k: usize) -> u64
-    requires { ⌜ (n ≤ 64) × ((i < n) × (k < n)) ⌝ ∗ ⌜ length (now weights) ≡ length (pairs n) ⌝ }
+    requires { ⌜ (n ≤ pieceBound) × ((i < n) × (k < n)) ⌝ ∗ ⌜ length (now weights) ≡ length (pairs n) ⌝ }
     ensures weight { λ r. ⌜ r ≡ weightBetween n (now (weights .entry)) i k ⌝ }
     ensures small { λ r. ⌜ r < 2 ^ 32 ⌝ }
 {
@@ -108,7 +109,7 @@ fn ones() -> [u32; PAIR_BOUND]
 
 // The plain sum: the weighted sum by weights 1.
 pub fn plain_total(penalties: &[u8], n: usize) -> u64
-    requires { ⌜ (n ≤ 64) × (length (now penalties) ≡ 4096) ⌝ }
+    requires { ⌜ (n ≤ pieceBound) × (length (now penalties) ≡ 4096) ⌝ }
     ensures { λ r. ⌜ ((j : Job) (v : Layout) → j .count ≡ n → PenaltyTable j v n (now (penalties .entry)) → r ≡ plainSum j v) ⌝ }
 {
     let weights = ones();

@@ -10,6 +10,7 @@ use Rattle.model.specs.Search.{places}
 use Rattle.model.specs.declared.Direction.{Direction}
 use Rattle.model.specs.declared.Turn.{Turn}
 use Rattle.model.specs.declared.Line.{Line}
+use Rattle.model.specs.Lent.{sideBound}
 use Rattle.search_tracks.specs.declared.Mover.{Mover}
 use Rattle.search_tracks.specs.declared.Track.{Track}
 use Rattle.search_tracks.specs.declared.StandingPiece.{StandingPiece}
@@ -46,16 +47,16 @@ standingOf j v d k =
 
 -- numbers that sums fit in
 pub record SmallTrack (t : Track) : Type 0 where
-  pub length : t .length ≤ 255
-  pub width : t .width ≤ 255
+  pub length : t .length ≤ sideBound
+  pub width : t .width ≤ sideBound
   pub held : t .held ≤ 65535
   pub places : t .places ≤ 4097 - t .length
 
 pub record SmallStanding (s : StandingPiece) : Type 0 where
   pub along : s .along ≤ 65535
   pub across : s .across ≤ 65535
-  pub length : s .length ≤ 255
-  pub width : s .width ≤ 255
+  pub length : s .length ≤ sideBound
+  pub width : s .width ≤ sideBound
 
 -- the boxes meet with the moving piece at place a
 pub record BoxesMeet (t : Track) (s : StandingPiece) (a : ℕ) : Type 0 where

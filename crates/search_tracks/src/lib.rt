@@ -8,7 +8,7 @@ ghost use mathlib.Core.List.{List};
 ghost use Prim.Native.Nat.{ℕ, min, _+_, _-_, _<_, _≤_};
 ghost use lib.ListN.{length};
 ghost use Rattle.model.specs.Piece.{lineDirection};
-ghost use Rattle.model.specs.Lent.{lentBy, jobOf};
+ghost use Rattle.model.specs.Lent.{lentBy, jobOf, columnBound, sideBound};
 ghost use Rattle.model.specs.Buffer.{layoutOf};
 ghost use Rattle.model.specs.declared.JobSize.{JobSize};
 ghost use Rattle.search_tracks.specs.Boxes.{trackOf, standingOf, roomOn, SmallTrack, SmallStanding, MeetingReach};
@@ -57,7 +57,7 @@ pub fn direction_of(line: Line) -> Direction
 
 // How many inside corners a line has for a box: sides along and across, the held coordinate, the sheet's sides along and across.
 fn room_on(length: usize, width: usize, held: usize, sheet: usize, height: usize) -> usize
-    requires { ⌜ (width ≤ 255) × ((held ≤ 65535) × (sheet ≤ 4096)) ⌝ }
+    requires { ⌜ (width ≤ sideBound) × ((held ≤ 65535) × (sheet ≤ columnBound)) ⌝ }
     ensures room { λ r. ⌜ r ≡ roomOn length width held sheet height ⌝ }
     ensures small { λ r. ⌜ r ≤ sheet + 1 - length ⌝ }
 {
@@ -72,7 +72,7 @@ fn room_on(length: usize, width: usize, held: usize, sheet: usize, height: usize
 
 // The moving piece on its line.
 pub fn track_of(size: JobSize, table: &[[u8; 3]], mover: Mover) -> Track
-    requires { ⌜ (mover .piece < length (now table)) × ((size .columns ≤ 4096) × (size .rows ≤ 4096)) ⌝ }
+    requires { ⌜ (mover .piece < length (now table)) × ((size .columns ≤ columnBound) × (size .rows ≤ columnBound)) ⌝ }
     ensures track { λ r. ⌜ ((pixels : List ℕ) → r ≡ trackOf (jobOf (lentBy size (now (table .entry)) pixels)) mover) ⌝ }
     ensures small { λ r. ⌜ SmallTrack r ⌝ }
 {

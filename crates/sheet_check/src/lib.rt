@@ -14,13 +14,13 @@ ghost use lib.Dec.{ltb};
 ghost use lib.ListN.{length};
 ghost use Rattle.model.specs.Bounded.{allBelow};
 ghost use Rattle.model.specs.Layout.{allowed};
-ghost use Rattle.model.specs.Lent.{lentBy, jobOf, lentWell};
+ghost use Rattle.model.specs.Lent.{lentBy, jobOf, lentWell, pieceBound};
 ghost use Rattle.model.specs.Cover.{entryIn, isBlank, entryWell, sheetWell};
 ghost use Rattle.sheet_check.specs.Counted.{CanCount, Recounted, addedEntry, countsWell};
 
 // The entry of piece i.
 pub fn entry_of(sheet: Record, i: usize) -> Entry
-    requires { ⌜ i < 64 ⌝ }
+    requires { ⌜ i < pieceBound ⌝ }
     ensures { λ r. ⌜ r ≡ entryIn (sheet .pieces) i ⌝ }
 {
     sheet.pieces[i]
@@ -57,7 +57,7 @@ pub fn known(size: JobSize, table: &[[u8; 3]], i: usize, turn: Turn) -> bool
 
 // The entry of piece i is blank, or that of a piece of the job laid inside in an allowed turn.
 fn entry_well(size: JobSize, table: &[[u8; 3]], sheet: Record, i: usize) -> bool
-    requires { ⌜ (size .count ≤ length (now table)) × (i < 64) ⌝ }
+    requires { ⌜ (size .count ≤ length (now table)) × (i < pieceBound) ⌝ }
     ensures { λ r. ⌜ ((pixels : List ℕ) → r ≡ entryWell (jobOf (lentBy size (now (table .entry)) pixels)) (sheet .pieces) i) ⌝ }
 {
     let entry = entry_of(sheet, i);
@@ -78,7 +78,7 @@ fn entry_well(size: JobSize, table: &[[u8; 3]], sheet: Record, i: usize) -> bool
 // Every entry is well.
 fn entries_well(size: JobSize, table: &[[u8; 3]], sheet: Record) -> bool
     requires { ⌜ size .count ≤ length (now table) ⌝ }
-    ensures { λ r. ⌜ ((pixels : List ℕ) → r ≡ allBelow 64 (entryWell (jobOf (lentBy size (now (table .entry)) pixels)) (sheet .pieces))) ⌝ }
+    ensures { λ r. ⌜ ((pixels : List ℕ) → r ≡ allBelow pieceBound (entryWell (jobOf (lentBy size (now (table .entry)) pixels)) (sheet .pieces))) ⌝ }
 {
     let mut i = 0;
     while i < PIECE_BOUND {

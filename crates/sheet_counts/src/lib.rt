@@ -5,7 +5,7 @@ use piece_pixels::TurnedPiece;
 ghost use mathlib.Core.Path.{_≡_};
 ghost use Prim.Native.Nat.{ℕ, _+_, _*_, _<_, _≤_};
 ghost use lib.ListN.{length, replicate};
-ghost use Rattle.model.specs.Lent.{lentBy, jobOf};
+ghost use Rattle.model.specs.Lent.{lentBy, jobOf, columnBound};
 ghost use Rattle.piece_pixels.specs.Turned.{InTurnedBox, PixelStored};
 ghost use Rattle.sheet_counts.specs.Stamp.{moved, movedBy, StampRoom, onAt, movedRun, movedRows};
 ghost use Rattle.sheet_counts.specs.Ready.{StampReady};
@@ -99,7 +99,7 @@ fn wide(k: u16) -> usize
 
 // The number of the count at a placement's corner.
 fn corner_number(sheet: usize, place: Placement) -> usize
-    requires { ⌜ sheet ≤ 4096 ⌝ }
+    requires { ⌜ sheet ≤ columnBound ⌝ }
     ensures { λ r. ⌜ r ≡ place .y .0 * sheet + place .x .0 ⌝ }
 {
     wide(place.y.0) * sheet + wide(place.x.0)

@@ -9,7 +9,7 @@ use native.Mathlib.Nat.{mod-lt, div-add-mod', mul-comm, add-zero, add-suc, suc-a
 use native.Mathlib.Omega.{arith}
 use lib.ListN.{length, getD, drop, replicate, length-append, length-replicate, length-drop, getD-replicate, List·getD-append}
 use lib.Seq.{getD-append-add, ext-getD}
-use Rattle.model.specs.Bounded.{one-if}
+use Rattle.model.specs.Bounded.{oneIf}
 use Rattle.model.specs.Piece.{Point, Shape, along, across}
 use Rattle.model.specs.Strip.{Strip, stripsHave, rebuilt}
 use Rattle.model.specs.Buffer.{bytesFrom, bytesOf, filled}
@@ -30,12 +30,12 @@ unfolding bytesFrom
 bytes-length s k zero = refl
 bytes-length s k (suc left) = ap suc (bytes-length s (suc k) left)
 
-bytes-at : (s : Shape) (k left i : ℕ) → i < left → getD (bytesFrom s k left) i 0 ≡ one-if (s .has ((k + i) % s .columns) ((k + i) / s .columns))
+bytes-at : (s : Shape) (k left i : ℕ) → i < left → getD (bytesFrom s k left) i 0 ≡ oneIf (s .has ((k + i) % s .columns) ((k + i) / s .columns))
 unfolding bytesFrom
 bytes-at s k zero i h = absurd (omega arith)
 bytes-at s k (suc left) zero h = rw add-zero
 bytes-at s k (suc left) (suc i) h =
-    bytes-at s (suc k) left i (omega arith) ∙ ap (λ n. one-if (s .has (n % s .columns) (n / s .columns))) (suc-add k i ∙ sym (add-suc k i))
+    bytes-at s (suc k) left i (omega arith) ∙ ap (λ n. oneIf (s .has (n % s .columns) (n / s .columns))) (suc-add k i ∙ sym (add-suc k i))
 
 -- ── two parts of a list ──
 
@@ -58,7 +58,7 @@ none-above d l w es p v h =
     let q : InStrips d (stripsOf es) p = have-in d (stripsOf es) p e in
     above d l w (q .strip) p (v .fits (q .strip) (q .listed)) h (q .line) (q .high))
 
-over-zero : (b : Bool) → over b 0 ≡ one-if b
+over-zero : (b : Bool) → over b 0 ≡ oneIf b
 over-zero true = refl
 over-zero false = refl
 
@@ -93,7 +93,7 @@ module _ (d : Direction) (l w : ℕ) (es : List (List ℕ)) (old after : List �
       ∙ ap (over (stripsHave d (stripsOf es) p))
       (List·getD-append (zeros (l * w)) (drop (l * w) old) 0 i (rw (zeros-length (l * w)) h) ∙ getD-replicate (l * w) i 0 0 h)
       ∙ over-zero (stripsHave d (stripsOf es) p)
-      ∙ ap (λ k. one-if (s .has (k % l) (k / l))) (sym z)
+      ∙ ap (λ k. oneIf (s .has (k % l) (k / l))) (sym z)
       ∙ sym (bytes-at s 0 (l * w) i h)
       ∙ sym (List·getD-append (bytesOf s) (drop (l * w) old) 0 i (rw n h))
 

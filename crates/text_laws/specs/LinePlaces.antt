@@ -6,13 +6,13 @@ use mathlib.Core.Path.{_≡_}
 use Prim.Native.Nat.{ℕ, suc, _≤_}
 use lib.Dec.{eqb}
 use lib.ListN.{length}
-use Rattle.model.specs.Bounded.{sumBelow, one-if}
+use Rattle.model.specs.Bounded.{sumBelow, oneIf}
 use Rattle.model.specs.Text.{byte, lineEnd}
 use Rattle.model.specs.declared.Refusal.{Refusal}
 
 -- how many line ends (byte 10) stand among the first p bytes
 unfoldable pub lineEnds : List ℕ → ℕ → ℕ
-lineEnds text p = sumBelow p (λ q. one-if (eqb (byte text q) lineEnd))
+lineEnds text p = sumBelow p (λ q. oneIf (eqb (byte text q) lineEnd))
 
 -- position p is just behind a line end
 pub record Behind (text : List ℕ) (p : ℕ) : Type 0 where
