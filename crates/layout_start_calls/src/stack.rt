@@ -1,14 +1,13 @@
 // The start layout's stacks: pieces on top of each other, stack after stack from the left. Document 01, 'Start, layout text, sheet'.
 ghost use mathlib.Core.Path.{_≡_};
 ghost use mathlib.Core.List.{List};
-ghost use Prim.Native.Nat.{ℕ, _+_, _<_, _≤_, min};
+ghost use Prim.Native.Nat.{ℕ, _+_, _<_, _≤_};
 ghost use lib.ListN.{length, getD, take};
 ghost use Rattle.model.specs.Lent.{lentBy, jobOf, entryColumns, entryRows, rowBound, columnBound, pieceBound};
 ghost use Rattle.model.specs.Start.{onStack};
 ghost use Rattle.layout_places.specs.Fitting.{Fitting};
 ghost use Rattle.layout_start_calls.specs.Stacks.{stackOf, emptyStack, stackEntries, PileRoom, Piled};
 use layout_places::entry_of;
-use layout_places::numbers::larger;
 use layout_places::numbers::side;
 use model::Column;
 use model::JobSize;
@@ -16,19 +15,14 @@ use model::PIECE_BOUND;
 use model::Placement;
 use model::Row;
 use model::Turn;
+use whole_numbers::larger;
+use whole_numbers::smaller;
 
 // A stack of pieces: its left side, its height and its length so far. Document 01's X, Y and M.
 struct Pile {
     left: Column,
     height: Row,
     length: usize,
-}
-
-// The smaller of two numbers.
-fn smaller(a: usize, b: usize) -> usize
-    ensures { λ r. ⌜ r ≡ min a b ⌝ }
-{
-    if a < b { a } else { b }
 }
 
 // The pile that takes piece i: a new one to the right where the piece would rise above the sheet.

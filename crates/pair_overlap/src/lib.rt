@@ -1,6 +1,7 @@
 // Overlap of two placed pieces, from their strips. Document 01, 'No-fit rows and penalty'. Every function here takes a stretch of
 // strips for each piece, as (line, first, count) ordered by line, then first, all row strips or all column strips, and each
 // piece's corner. The contracts speak of the lent lists; proofs/Shapes.antt says what they come to for the strips of a pixel set.
+use whole_numbers::wide;
 ghost use mathlib.Core.Path.{_≡_};
 ghost use Prim.Native.Nat.{_+_, _<_, _≤_, min};
 ghost use lib.ListN.{length};
@@ -58,13 +59,6 @@ fn base(u: Corner) -> u32
     ensures { λ r. ⌜ r ≡ baseOf u ⌝ }
 {
     u.across * LINE_STEP + u.along
-}
-
-// A byte as a number that sums fit in.
-fn wide(b: u8) -> u32
-    ensures { λ r. ⌜ (r ≡ b) × (b < 256) ⌝ }
-{
-    b as u32
 }
 
 // The strip at i of a stretch whose piece's corner adds `from`.

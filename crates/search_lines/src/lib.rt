@@ -10,12 +10,12 @@ ghost use Rattle.model.specs.Lent.{lentBy, jobOf};
 ghost use Rattle.model.specs.declared.JobSize.{JobSize};
 ghost use Rattle.search_lines.specs.Kept.{linePlaces, HoldsLine, LinesKept, Wide, linesBound, slotBound};
 ghost use Rattle.search_lines.specs.Making.{movedShape, standingShape, keyOfTwo, SmallTwo, Asked, LineMade};
-use layout_places::numbers::larger;
 use model::Direction;
 use model::JobSize;
 use model::PIECE_BOUND;
 use model::Turn;
 use search_penalties::LinePair;
+use whole_numbers::larger;
 
 // The row of a moved piece to which the offset of a standing one is counted: no offset that matters is below 0.
 pub const MIDDLE: usize = 255;

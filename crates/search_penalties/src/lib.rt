@@ -5,12 +5,15 @@
 ghost use mathlib.Core.Path.{_≡_};
 ghost use mathlib.Core.Bool.{true};
 ghost use mathlib.Core.List.{List, []};
-ghost use Prim.Native.Nat.{ℕ, _+_, _-_, _<_, _≤_, min, max};
+ghost use Prim.Native.Nat.{ℕ, _+_, _-_, _<_, _≤_, min};
 ghost use lib.ListN.{length, getD};
 ghost use Rattle.pair_overlap.specs.Meet.{Ordered, stripAt};
 ghost use Rattle.search_penalties.specs.Line.{takenAt, penaltyLine, LineReach, Boxed, Grounded, FreeFrom, LineFilled, Capped, Lowered, farther, Risen, Fallen, LastAbove, FirstAbove, Outside, Spared, Levelled};
 ghost use Rattle.search_penalties.specs.Outlines.{outlineOf, Narrow, Outlined, Outlines, Blank, Widened, PlacesReached, Taken, RunOf, OutlineAdded};
 use pair_overlap::Corner;
+use whole_numbers::larger;
+use whole_numbers::smaller;
+use whole_numbers::wide;
 
 // The largest distance that a place of a line holds; a larger one stands as it.
 const FARTHEST: u8 = 255;
@@ -45,13 +48,6 @@ pub struct Outline {
     pub gap: usize,
     pub start: usize,
     pub count: usize,
-}
-
-// A byte as a number that sums fit in.
-fn wide(b: u8) -> u32
-    ensures { λ r. ⌜ (r ≡ b) × (b < 256) ⌝ }
-{
-    b as u32
 }
 
 // The lesser of two bytes.
@@ -216,26 +212,6 @@ fn past(x: usize, y: usize) -> usize
         return 0;
     }
     x - y
-}
-
-// The larger of two numbers.
-fn larger(x: usize, y: usize) -> usize
-    ensures { λ r. ⌜ r ≡ max x y ⌝ }
-{
-    if x < y {
-        return y;
-    }
-    x
-}
-
-// The smaller of two numbers.
-fn smaller(x: usize, y: usize) -> usize
-    ensures { λ r. ⌜ r ≡ min x y ⌝ }
-{
-    if x < y {
-        return x;
-    }
-    y
 }
 
 // The outline at a place of a table.

@@ -3,9 +3,10 @@ use model::Direction;
 use model::JobSize;
 use model::Line;
 use model::Turn;
+use whole_numbers::smaller;
 ghost use mathlib.Core.Path.{_≡_};
 ghost use mathlib.Core.List.{List};
-ghost use Prim.Native.Nat.{ℕ, min, _+_, _-_, _<_, _≤_};
+ghost use Prim.Native.Nat.{ℕ, _+_, _-_, _<_, _≤_};
 ghost use lib.ListN.{length};
 ghost use Rattle.model.specs.Piece.{lineDirection};
 ghost use Rattle.model.specs.Lent.{lentBy, jobOf, columnBound, sideBound};
@@ -147,13 +148,6 @@ fn low_of(along: usize, length: usize) -> usize
     along + 1 - length
 }
 
-// The lesser of two numbers.
-fn lesser(a: usize, b: usize) -> usize
-    ensures { λ r. ⌜ r ≡ min a b ⌝ }
-{
-    if a < b { a } else { b }
-}
-
 // Where the boxes meet.
 pub fn reach_of(track: Track, standing: StandingPiece) -> Reach
     requires { ⌜ SmallTrack track ⌝ ∗ ⌜ SmallStanding standing ⌝ ∗ ⌜ 0 < track .length ⌝ }
@@ -174,7 +168,7 @@ pub fn reach_of(track: Track, standing: StandingPiece) -> Reach
         };
     }
     let low = low_of(standing.along, track.length);
-    let high = lesser(track.places, standing.along + standing.length);
+    let high = smaller(track.places, standing.along + standing.length);
     Reach {
         low: low,
         high: high,

@@ -41,7 +41,7 @@ add-result-3 c = search needs
 returns : tie.Need-returns
 unfolding turnsIn
 returns c =
-    let a = c .before .before .before .before .before .before .oneIf .ensures in
+    let a = c .before .before .before .before .before .before .one-if .ensures in
     let b = c .before .before .before .before .one-if2 .ensures in
     let d = c .before .before .one-if3 .ensures in
     let e = c .one-if4 .ensures in
