@@ -20,7 +20,7 @@ use Rattle.model.specs.Cover.{Sheet, blank, afterwards, entryIn, sheetWell}
 use Rattle.model.specs.declared.Entry.{Entry}
 use Rattle.model.specs.declared.Placement.{Placement}
 use Rattle.model.specs.declared.Record.{Record}
-use Rattle.model.proofs.Tests.{fails}
+use Rattle.list_laws.proofs.Tests.{fails}
 use Rattle.cover_laws.proofs.Counts.{LaidWell}
 use Rattle.cover_laws.proofs.Reached.{well-sound}
 use Rattle.text_laws.proofs.Entries.{degrees-turn, entry-read-back}

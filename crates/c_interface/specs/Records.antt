@@ -4,7 +4,7 @@ use mathlib.Core.List.{List, [], _∷_, map}
 use Prim.Native.Nat.{ℕ}
 use lib.Dec.{ltb, eqb}
 use lib.ListN.{getD}
-use Rattle.model.specs.Bounded.{one-if}
+use Rattle.model.specs.Bounded.{oneIf}
 use Rattle.model.specs.Buffer.{isTurn, placement, entryOf}
 use Rattle.model.specs.Calls.{leaving}
 use Rattle.model.specs.Cover.{Sheet}
@@ -14,7 +14,7 @@ use Rattle.model.specs.declared.Record.{Record}
 
 -- an entry of the record as four numbers
 abbrev pub entryNumbers : Entry → List ℕ
-entryNumbers e = one-if (e .laid) ∷ entryOf (e .place)
+entryNumbers e = oneIf (e .laid) ∷ entryOf (e .place)
 
 -- a record as its buffer
 abbrev pub recordNumbers : List Entry → List (List ℕ)

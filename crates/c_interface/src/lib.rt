@@ -7,6 +7,7 @@ use model::Direction;
 use model::End;
 use model::JobSize;
 use model::Line;
+use model::PIECE_BOUND;
 use model::Placement;
 use model::Refusal;
 use model::Row;
@@ -99,7 +100,7 @@ pub fn piece_with_turn(turn: u16, piece: usize) -> usize
 {
     match layout_places::turn_of(turn) {
         TurnAnswer::Known(_) => piece,
-        TurnAnswer::Unknown => 64,
+        TurnAnswer::Unknown => PIECE_BOUND,
     }
 }
 

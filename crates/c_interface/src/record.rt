@@ -1,6 +1,7 @@
 // The sheet record as a lent buffer: for each of the 64 piece numbers laid (1 or 0), degrees, x, y.
 use layout_places::TurnAnswer;
 use model::Entry;
+use model::PIECE_BOUND;
 use model::Record;
 ghost use mathlib.Core.Path.{_≡_};
 ghost use mathlib.Core.List.{[], _∷_};
@@ -50,12 +51,12 @@ fn numbers_of(entry: Entry) -> [u16; 4]
 }
 
 // The record that the numbers of 64 entries are.
-fn record_of(numbers: [[u16; 4]; 64]) -> Record
+fn record_of(numbers: [[u16; 4]; PIECE_BOUND]) -> Record
     ensures { λ r. ⌜ r ≡ recordIn numbers ⌝ }
 {
-    let mut pieces = [stray_entry(); 64];
+    let mut pieces = [stray_entry(); PIECE_BOUND];
     let mut i = 0;
-    while i < 64 {
+    while i < PIECE_BOUND {
         pieces[i] = entry_of(numbers[i]);
         i += 1;
     }
@@ -63,13 +64,13 @@ fn record_of(numbers: [[u16; 4]; 64]) -> Record
 }
 
 // The numbers of a record's 64 entries.
-fn record_numbers(sheet: Record) -> [[u16; 4]; 64]
+fn record_numbers(sheet: Record) -> [[u16; 4]; PIECE_BOUND]
     ensures { λ r. ⌜ r ≡ recordNumbers (sheet .pieces) ⌝ }
 {
     let pieces = sheet.pieces;
-    let mut numbers = [[0u16; 4]; 64];
+    let mut numbers = [[0u16; 4]; PIECE_BOUND];
     let mut piece = 0;
-    while piece < 64 {
+    while piece < PIECE_BOUND {
         numbers[piece] = numbers_of(pieces[piece]);
         piece += 1;
     }
@@ -77,7 +78,7 @@ fn record_numbers(sheet: Record) -> [[u16; 4]; 64]
 }
 
 // The record that a buffer holds.
-pub fn read_record(entries: &[[u16; 4]; 64]) -> Record
+pub fn read_record(entries: &[[u16; 4]; PIECE_BOUND]) -> Record
     ensures { λ r. ⌜ r ≡ recordIn (now (entries .entry)) ⌝ }
 {
     let numbers = *entries;
@@ -85,7 +86,7 @@ pub fn read_record(entries: &[[u16; 4]; 64]) -> Record
 }
 
 // Writes a record to its buffer.
-pub fn write_record(entries: &mut [[u16; 4]; 64], sheet: Record)
+pub fn write_record(entries: &mut [[u16; 4]; PIECE_BOUND], sheet: Record)
     ensures { λ _. ⌜ now (entries .exit) ≡ recordNumbers (sheet .pieces) ⌝ }
 {
     *entries = record_numbers(sheet);

@@ -14,7 +14,7 @@ use Rattle.model.specs.Lent.{Lent, jobOf}
 use Rattle.model.specs.Refusal.{Outcome, refused, given, Cause, unless, refusalOf}
 use Rattle.model.specs.Calls.{jobCause, layoutLength, turnsCause, outsideCause, layoutCauses, sharedCause, checkCall}
 use Rattle.model.specs.declared.Refusal.{Refusal}
-use Rattle.model.proofs.Tests.{clash}
+use Rattle.list_laws.proofs.Tests.{clash}
 use Rattle.strip_laws.specs.Lists.{Pairwise, none as no-more, more}
 use Rattle.strip_laws.proofs.Lists.{pairwise-append}
 use Rattle.text_laws.proofs.Outcomes.{given-unless}

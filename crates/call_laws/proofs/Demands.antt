@@ -39,7 +39,7 @@ use Rattle.cover_laws.specs.Effects.{LayGives, WithdrawGives}
 use Rattle.cover_laws.specs.CoverClaims.{CoverHolds}
 use Rattle.descent_laws.specs.Claims.{ValidLayout, TrialsClaims, DescentClaims, GuidedClaims}
 use Rattle.descent_laws.proofs.Order.{trials-claims}
-use Rattle.descent_laws.specs.Search.{Found}
+use Rattle.descent_laws.specs.Search.{LeastFound}
 use Rattle.call_laws.specs.Stores.{StretchClaims}
 use Rattle.call_laws.proofs.Stores.{stretch-some, stretch-tells, stretch-after, stretch-lent, stretch-rebuilt}
 use Rattle.call_laws.specs.Rebuilding.{PieceOf, RebuildClaims, RebuiltAs}
@@ -68,37 +68,37 @@ use Rattle.call_laws.proofs.Sheets.{lay-given, withdraw-given, fresh-gi
 pub record Demand1Calls : Type 0 where
   -- one clause a call, in Clauses of specs/: it refuses exactly by the first of its causes in document 01's order that is there, it gives
   -- its value exactly where none is, and after a refusal each lent buffer holds what it held before
-  pub each-call : CallClauses
+  pub eachCall : CallClauses
   -- the readers, both ways: which text is read as what, and each refusal's cause on the line that it names
   pub texts : Demand1Text
   -- the check that every call makes first of a lent job passes exactly where reading some text gives the job
-  pub job-check : (l : Lent) → (lentWell l ≡ true) ↔ Readable l
-  pub job-read : (text : List ℕ) (tableLength pixelsLength : ℕ) (l : Lent) → readJob text tableLength pixelsLength ≡ given l
+  pub jobCheck : (l : Lent) → (lentWell l ≡ true) ↔ Readable l
+  pub jobRead : (text : List ℕ) (tableLength pixelsLength : ℕ) (l : Lent) → readJob text tableLength pixelsLength ≡ given l
       → lentWell l ≡ true
   -- the check of a lent sheet that lay and withdraw make passes exactly where some list of calls from a fresh sheet gives the sheet
-  pub sheet-check : (l : Lent) (room : ℕ) (f : Sheet) → freshCall l room ≡ given f → (s : Sheet)
+  pub sheetCheck : (l : Lent) (room : ℕ) (f : Sheet) → freshCall l room ≡ given f → (s : Sheet)
       → (sheetWell (jobOf l) s ≡ true) ↔ ((cs : List Call) × (afterSheetCalls l f cs ≡ s))
   -- a job that is read stands in the lent buffers, whatever lies beyond it, as a job that every call takes
-  pub job-left : (text : List ℕ) (table : List (List ℕ)) (pixels : List ℕ) (l : Lent) → readJob text (length table) (length pixels) ≡ given l
+  pub jobLeaves : (text : List ℕ) (table : List (List ℕ)) (pixels : List ℕ) (l : Lent) → readJob text (length table) (length pixels) ≡ given l
       → JobLeft l (jobLeft text table pixels l)
-  pub job-front : (text : List ℕ) (table : List (List ℕ)) (pixels : List ℕ) (l : Lent) → readJob text (length table) (length pixels) ≡ given l
+  pub jobFront : (text : List ℕ) (table : List (List ℕ)) (pixels : List ℕ) (l : Lent) → readJob text (length table) (length pixels) ≡ given l
       → FrontRead text table pixels l
   -- the start layout and a layout that is read are valid, and what is written is read back
   pub starts : (l : Lent) (room : ℕ) (v : Layout) → startCall l room ≡ given v → ValidLayout (jobOf l) v
-  pub layout-read : (l : Lent) (text : List ℕ) (room : ℕ) (v : Layout) → readLayoutCall l text room ≡ given v → ValidLayout (jobOf l) v
-  pub written-read : (l : Lent) (es : List (List ℕ)) (room : ℕ) (text : List ℕ) → writeLayoutCall l es room ≡ given text
+  pub layoutRead : (l : Lent) (text : List ℕ) (room : ℕ) (v : Layout) → readLayoutCall l text room ≡ given v → ValidLayout (jobOf l) v
+  pub writtenRead : (l : Lent) (es : List (List ℕ)) (room : ℕ) (text : List ℕ) → writeLayoutCall l es room ≡ given text
       → readLayoutCall l text (l .size .count) ≡ given (layoutOf es)
   -- a layout that passes the check is valid with no shared pixel, and refusal 12 names the lowest pair that shares one
   pub checks : (l : Lent) (es : List (List ℕ)) (u : Unit {0}) → checkCall l es ≡ given u → Checked (jobOf l) (layoutOf es)
-  pub check-names : (l : Lent) (es : List (List ℕ)) (p : Pair) → checkCall l es ≡ refused (sharedRefusal p)
+  pub checkNames : (l : Lent) (es : List (List ℕ)) (p : Pair) → checkCall l es ≡ refused (sharedRefusal p)
       → LowestPair (jobOf l) (layoutOf es) p
   -- the used length is the largest right end
-  pub used-lengths : (l : Lent) (es : List (List ℕ)) (n : ℕ) → usedLengthCall l es ≡ given n → UsedClaims (jobOf l) (layoutOf es) n
+  pub usedLengths : (l : Lent) (es : List (List ℕ)) (n : ℕ) → usedLengthCall l es ≡ given n → UsedClaims (jobOf l) (layoutOf es) n
   -- the program prints the text of the run that the calls give, or the reader's refusal, or `refused,7,0` for too long an input
   pub program : (input : List ℕ) (l : Lent) → length input ≤ inputBound → readJob input pieceBound areaBound ≡ given l → Prints input l
-  pub program-refused : (input : List ℕ) (r : Refusal) → length input ≤ inputBound → readJob input pieceBound areaBound ≡ refused r
+  pub programRefused : (input : List ℕ) (r : Refusal) → length input ≤ inputBound → readJob input pieceBound areaBound ≡ refused r
       → programText input ≡ refusalText r
-  pub program-long : (input : List ℕ) → inputBound < length input
+  pub programLong : (input : List ℕ) → inputBound < length input
       → programText input ≡ refusalText (record { number = wrongLength; first = 0; second = 0 })
 
 -- ── demand 2: strips, overlap, counts ──
@@ -107,22 +107,22 @@ pub record Demand2Calls : Type 0 where
   -- a piece in a turn, of which every call on pixels speaks, is the image of the piece under document 01's map of that turn
   pub turns : (t : Turn) (s : Shape) → TurnedExactly t s
   -- the stores that the strips call leaves are the job's, so that each piece's stretch is handed out of them
-  pub stores-left : (l : Lent) (ts : List ℕ) (lent s : Stores) → stripsCall l ts lent ≡ given s → (i : ℕ) (d : Direction) → i < l .size .count
+  pub storesLeft : (l : Lent) (ts : List ℕ) (lent s : Stores) → stripsCall l ts lent ≡ given s → (i : ℕ) (d : Direction) → i < l .size .count
       → stretchCall l ts (storesAfter lent (stripsCall l ts lent)) i d ≡ given (map stripEntry (pieceStrips d (jobOf l) ts i))
   -- a stretch is the piece's strips in its turn and never empty; an empty one is a refusal's, whose number the second call tells
   pub stretches : (l : Lent) (ts : List ℕ) (lent : Stores) (i : ℕ) (d : Direction) (part : List (List ℕ))
       → stretchCall l ts lent i d ≡ given part → StretchClaims l ts i d part
-  pub stretch-refused : (l : Lent) (ts : List ℕ) (lent : Stores) (i : ℕ) (d : Direction)
+  pub stretchRefused : (l : Lent) (ts : List ℕ) (lent : Stores) (i : ℕ) (d : Direction)
       → (length (stretchGiven (stretchCall l ts lent i d)) ≡ 0) ↔ (stretchNumber (stretchCall l ts lent i d) ≢ 0)
   -- the no-fit calls take a stretch that is given for the piece in its turn, and rebuilding gives the piece back, box and bytes
-  pub stretch-taken : (l : Lent) (ts : List ℕ) (i : ℕ) (d : Direction) (part : List (List ℕ)) → StretchClaims l ts i d part
+  pub stretchTaken : (l : Lent) (ts : List ℕ) (i : ℕ) (d : Direction) (part : List (List ℕ)) → StretchClaims l ts i d part
       → stretchWell d (jobOf l) (record { piece = i; turn = turnIn ts i; stretch = part }) ≡ true
-  pub pixels-again : (l : Lent) (ts : List ℕ) (i : ℕ) (d : Direction) (part : List (List ℕ)) (room : ℕ) → StretchClaims l ts i d part
+  pub pixelsAgain : (l : Lent) (ts : List ℕ) (i : ℕ) (d : Direction) (part : List (List ℕ)) (room : ℕ) → StretchClaims l ts i d part
       → turnedPiece (jobOf l) i (turnIn ts i) .columns * turnedPiece (jobOf l) i (turnIn ts i) .rows ≤ room
       → RebuiltAs d part (turnedPiece (jobOf l) i (turnIn ts i)) room
   -- the test of refusal 8 of rebuilding passes exactly where a piece of the box has just the lent strips, and rebuilding gives the
   -- one piece that has them
-  pub rebuild-check : (d : Direction) (columns rows : ℕ) (es : List (List ℕ))
+  pub rebuildCheck : (d : Direction) (columns rows : ℕ) (es : List (List ℕ))
       → (stripsWell d columns rows es ≡ true) ↔ ((s : Shape) × PieceOf d columns rows es s)
   pub rebuilds : (d : Direction) (columns rows : ℕ) (es : List (List ℕ)) (room : ℕ) (s : Shape) → rebuildCall d columns rows es room ≡ given s
       → RebuildClaims d columns rows es s
@@ -134,16 +134,16 @@ pub record Demand2Calls : Type 0 where
       → DepthClaims d (jobOf l) (layoutOf es) i k n
   pub penalties : (l : Lent) (es : List (List ℕ)) (i k n : ℕ) → penaltyCall l es i k ≡ given n → PenaltyClaims (jobOf l) (layoutOf es) i k n
   -- the penalty does not depend on which piece is called first
-  pub penalty-alike : (l : Lent) (es : List (List ℕ)) (i k : ℕ) → penaltyCall l es i k ≡ penaltyCall l es k i
-  pub no-fits : (d : Direction) (l : Lent) (p q : LentStretch) (o : ℤ) (room : ℕ) (rs : List OffsetRun) → noFitCall d l p q o room ≡ given rs
+  pub penaltyAlike : (l : Lent) (es : List (List ℕ)) (i k : ℕ) → penaltyCall l es i k ≡ penaltyCall l es k i
+  pub noFits : (d : Direction) (l : Lent) (p q : LentStretch) (o : ℤ) (room : ℕ) (rs : List OffsetRun) → noFitCall d l p q o room ≡ given rs
       → NoFitLine d (turnedPiece (jobOf l) (p .piece) (p .turn)) (turnedPiece (jobOf l) (q .piece) (q .turn)) o rs
   -- after every list of lay and withdraw calls from a fresh sheet each pixel's count is the number of laid pieces on it
   pub counts : (l : Lent) (room : ℕ) (s : Sheet) → freshCall l room ≡ given s → (cs : List Call)
       → CoverHolds (jobOf l) cs (afterSheetCalls l s cs)
   -- of a lent job and a sheet that pass their checks, lay and withdraw are the calls of the sheet's own rules (Cover of the model)
-  pub lay-calls : (l : Lent) (s : Sheet) (i : ℕ) (p : Placement) → lentWell l ≡ true → sheetWell (jobOf l) s ≡ true
+  pub layCalls : (l : Lent) (s : Sheet) (i : ℕ) (p : Placement) → lentWell l ≡ true → sheetWell (jobOf l) s ≡ true
       → layCall l s i p ≡ called (jobOf l) s (laying i p)
-  pub withdraw-calls : (l : Lent) (s : Sheet) (i : ℕ) → lentWell l ≡ true → sheetWell (jobOf l) s ≡ true
+  pub withdrawCalls : (l : Lent) (s : Sheet) (i : ℕ) → lentWell l ≡ true → sheetWell (jobOf l) s ≡ true
       → withdrawCall l s i ≡ called (jobOf l) s (withdrawing i)
   -- a single lay or withdraw, on a sheet of any content that is not refused
   pub lays : (l : Lent) (s s′ : Sheet) (i : ℕ) (p : Placement) → layCall l s i p ≡ given s′ → LayGives (jobOf l) s i p s′
@@ -153,29 +153,29 @@ pub record Demand2Calls : Type 0 where
 
 pub record Demand3Calls : Type 0 where
   -- a sum is 0 exactly when no two pieces share a pixel
-  pub weighted-sums : (l : Lent) (es : List (List ℕ)) (ws : List ℕ) (n : ℕ) → weightedSumCall l es ws ≡ given n
+  pub weightedSums : (l : Lent) (es : List (List ℕ)) (ws : List ℕ) (n : ℕ) → weightedSumCall l es ws ≡ given n
       → SumClaims (jobOf l) ws (layoutOf es) n
-  pub plain-sums : (l : Lent) (es : List (List ℕ)) (n : ℕ) → plainSumCall l es ≡ given n
+  pub plainSums : (l : Lent) (es : List (List ℕ)) (n : ℕ) → plainSumCall l es ≡ given n
       → SumClaims (jobOf l) (unitWeights (jobOf l .size .count)) (layoutOf es) n
   -- a line search finds the least sum over every inside corner on the line, and the smallest coordinate that has it
   pub searches : (l : Lent) (es : List (List ℕ)) (ws : List ℕ) (i : ℕ) (t : Turn) (line : Line) (b : Best)
-      → searchCall l es ws i t line ≡ given b → Found (jobOf l) ws (layoutOf es) i t line b
+      → searchCall l es ws i t line ≡ given b → LeastFound (jobOf l) ws (layoutOf es) i t line b
   -- the cause of refusal 11 is there exactly where no inside corner lies on the line
-  pub empty-lines : (l : Lent) (i : ℕ) (t : Turn) (line : Line)
+  pub emptyLines : (l : Lent) (i : ℕ) (t : Turn) (line : Line)
       → (eqb (places (jobOf l) i t line) 0 ≡ true) ↔ ((a : ℕ) → inside (jobOf l) i (onLine line t a) ≡ true → ⊥)
   -- the trials, T of them: every piece in every turn allowed to it and both directions, nothing else, each once
-  pub trials-listed : (l : Lent) → TrialsClaims (jobOf l) (trials (jobOf l))
+  pub trialsListed : (l : Lent) → TrialsClaims (jobOf l) (trials (jobOf l))
   -- demand 3's claims about a descent, whatever its budget
   pub descents : (l : Lent) (es : List (List ℕ)) (ws : List ℕ) (budget : ℕ) (d : Descent) → descentCall l es ws budget ≡ given d
       → DescentClaims (jobOf l) ws budget (layoutOf es) d
   -- the layout at the end stands in the layout buffer
-  pub descent-leaves : (l : Lent) (es : List (List ℕ)) (ws : List ℕ) (budget : ℕ) (d : Descent) → descentCall l es ws budget ≡ given d
+  pub descentLeaves : (l : Lent) (es : List (List ℕ)) (ws : List ℕ) (budget : ℕ) (d : Descent) → descentCall l es ws budget ≡ given d
       → layoutOf (descentAfter es (descentCall l es ws budget)) ≡ d .layout
   -- demand 3's claims about a guided run and each of its rounds, whatever their number and budget
-  pub guided-runs : (l : Lent) (es : List (List ℕ)) (ws : List ℕ) (K budget : ℕ) (g : Guided) → guidedCall l es ws K budget ≡ given g
+  pub guidedRuns : (l : Lent) (es : List (List ℕ)) (ws : List ℕ) (K budget : ℕ) (g : Guided) → guidedCall l es ws K budget ≡ given g
       → GuidedClaims (jobOf l) ws K budget (layoutOf es) (rounds (jobOf l) K budget ws (layoutOf es)) g
   -- the best layout and the new weights stand in their buffers
-  pub guided-leaves : (l : Lent) (es : List (List ℕ)) (ws : List ℕ) (K budget : ℕ) (g : Guided) → guidedCall l es ws K budget ≡ given g
+  pub guidedLeaves : (l : Lent) (es : List (List ℕ)) (ws : List ℕ) (K budget : ℕ) (g : Guided) → guidedCall l es ws K budget ≡ given g
       → (layoutOf (bestAfterRun es (guidedCall l es ws K budget)) ≡ g .layout) × (weightsAfterRun ws (guidedCall l es ws K budget) ≡ g .weights)
 
 -- ── the claims ──
@@ -184,22 +184,22 @@ pub record Demand3Calls : Type 0 where
 pub demand1-calls : Demand1Calls
 demand1-calls =
     record {
-      each-call = call-clauses;
+      eachCall = call-clauses;
       texts = demand1-text;
-      job-check = lent-well-readable;
-      job-read = job-read-well;
-      sheet-check = sheet-reached;
-      job-left = job-given;
-      job-front = front-given;
+      jobCheck = lent-well-readable;
+      jobRead = job-read-well;
+      sheetCheck = sheet-reached;
+      jobLeaves = job-given;
+      jobFront = front-given;
       starts = start-given;
-      layout-read = layout-given;
-      written-read = written-read-back;
+      layoutRead = layout-given;
+      writtenRead = written-read-back;
       checks = check-given;
-      check-names = check-shared;
-      used-lengths = used-given;
+      checkNames = check-shared;
+      usedLengths = used-given;
       program = program-prints;
-      program-refused = program-refuses;
-      program-long = program-too-long;
+      programRefused = program-refuses;
+      programLong = program-too-long;
     }
 
 -- demand 2 holds of the public calls
@@ -207,21 +207,21 @@ pub demand2-calls : Demand2Calls
 demand2-calls =
     record {
       turns = turned-exactly;
-      stores-left = stretch-after;
+      storesLeft = stretch-after;
       stretches = stretch-some;
-      stretch-refused = stretch-tells;
-      stretch-taken = stretch-lent;
-      pixels-again = stretch-rebuilt;
-      rebuild-check = strips-well-piece;
+      stretchRefused = stretch-tells;
+      stretchTaken = stretch-lent;
+      pixelsAgain = stretch-rebuilt;
+      rebuildCheck = strips-well-piece;
       rebuilds = rebuild-given;
       shares = share-given;
       depths = depth-given;
       penalties = penalty-given;
-      penalty-alike = penalty-order;
-      no-fits = no-fit-given;
+      penaltyAlike = penalty-order;
+      noFits = no-fit-given;
       counts = fresh-given;
-      lay-calls = lay-call;
-      withdraw-calls = withdraw-call;
+      layCalls = lay-call;
+      withdrawCalls = withdraw-call;
       lays = lay-given;
       withdraws = withdraw-given;
     }
@@ -230,13 +230,13 @@ demand2-calls =
 pub demand3-calls : Demand3Calls
 demand3-calls =
     record {
-      weighted-sums = weighted-given;
-      plain-sums = plain-given;
+      weightedSums = weighted-given;
+      plainSums = plain-given;
       searches = search-given;
-      empty-lines = λ l. empty-line-exactly (jobOf l);
-      trials-listed = λ l. trials-claims (jobOf l);
+      emptyLines = λ l. empty-line-exactly (jobOf l);
+      trialsListed = λ l. trials-claims (jobOf l);
       descents = descent-given;
-      descent-leaves = descent-left;
-      guided-runs = guided-given;
-      guided-leaves = guided-left;
+      descentLeaves = descent-left;
+      guidedRuns = guided-given;
+      guidedLeaves = guided-left;
     }

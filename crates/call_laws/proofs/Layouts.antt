@@ -19,8 +19,8 @@ use Rattle.model.specs.Lent.{Lent, jobOf, lentWell, upTo}
 use Rattle.model.specs.Calls.{allowedDegrees, someTurnWrong, someOutside, someWeightWrong, jobCause, layoutLength, turnsCause, outsideCause, weightsLength}
 use Rattle.model.specs.declared.Turn.{Turn}
 use Rattle.model.specs.declared.Turn.the-variants.{Zero, Quarter, Half, ThreeQuarters}
-use Rattle.model.proofs.Bounded.{any-none, none-any}
-use Rattle.model.proofs.Tests.{and-left, and-right, and-both}
+use Rattle.list_laws.proofs.Tests.{and-left, and-right, and-both}
+use Rattle.list_laws.proofs.Bounded.{any-none, none-any}
 use Rattle.text_laws.proofs.Entries.{entries-read-back}
 use Rattle.descent_laws.specs.Claims.{InRange, ValidWeights, ValidLayout}
 

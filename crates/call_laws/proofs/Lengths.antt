@@ -13,7 +13,7 @@ use Rattle.model.specs.Buffer.{layoutOf}
 use Rattle.model.specs.Lent.{Lent, jobOf}
 use Rattle.model.specs.Refusal.{given}
 use Rattle.model.specs.Calls.{layoutCauses, usedLengthCall}
-use Rattle.model.proofs.Tests.{and-left, decided}
+use Rattle.list_laws.proofs.Tests.{and-left, decided}
 use Rattle.job_laws.proofs.Checked.{lent-some}
 use Rattle.text_laws.proofs.Outcomes.{given-unless}
 use Rattle.descent_laws.specs.Claims.{ValidLayout}
@@ -63,7 +63,7 @@ used-claims j v some h =
     let w : EndsAt j v (j .size .count) (rightmost j v (j .size .count)) = rightmost-attained j v (j .size .count) some in
     let last : rightEnd j v (w .piece) ≤ j .size .columns = end-within j v h (w .piece) (w .below) in
     let is : rightmost j v (j .size .count) ≡ rightEnd j v (w .piece) = w .is in
-    record { at-most = rightmost-at-most j v (j .size .count); attained = w; within = omega arith }
+    record { atMost = rightmost-at-most j v (j .size .count); attained = w; within = omega arith }
 
 -- a used length that the call gives
 pub used-given : (l : Lent) (es : List (List ℕ)) (n : ℕ) → usedLengthCall l es ≡ given n → UsedClaims (jobOf l) (layoutOf es) n

@@ -1,6 +1,5 @@
 -- What the theorems say of the public calls (document 01, 'When a call says no'): for lent data of any content, what a call that is
 -- not refused gives. Demands has the claims.
-pub mod Lists
 pub mod Jobs
 pub mod Layouts
 pub mod Runs

@@ -17,17 +17,16 @@ use Rattle.model.specs.Refusal.{given, Cause, cause, unless, noSuchPiece}
 use Rattle.model.specs.Calls.{jobCause, layoutLength, outsideCause, someTurnWrong, pairCauses, LentStretch, known, noFitOf, shareCall, depthCall, penaltyCall, noFitCall, layoutCauses, weightedSumCall, plainSumCall}
 use Rattle.model.specs.declared.Direction.{Direction}
 use Rattle.model.specs.declared.Direction.the-variants.{Horizontal}
-use Rattle.model.proofs.Tests.{and-left, and-right, or-neither, same-tests}
+use Rattle.list_laws.proofs.Tests.{and-left, and-right, or-neither, same-tests}
 use Rattle.job_laws.proofs.Checked.{lent-few, lent-turned-small}
 use Rattle.text_laws.specs.Outcomes.{NoCause}
 use Rattle.text_laws.proofs.Outcomes.{given-unless}
-use Rattle.overlap_laws.specs.Overlap.{SharedPixel, LeastShift, PenaltyLaws}
+use Rattle.overlap_laws.specs.Overlap.{SharedPixel}
 use Rattle.overlap_laws.proofs.Share.{share-symmetric}
 use Rattle.overlap_laws.proofs.Depth.{depth-symmetric}
 use Rattle.overlap_laws.proofs.Penalty.{penalty-symmetric, demand2-penalty}
 use Rattle.overlap_laws.specs.NoFit.{NoFitLine}
-use Rattle.descent_laws.specs.Claims.{ValidLayout, ValidWeights, NoSharedPixel}
-use Rattle.overlap_laws.specs.PixelDepth.{DepthOverPixels, PenaltyOverPixels}
+use Rattle.descent_laws.specs.Claims.{ValidLayout, ValidWeights}
 use Rattle.descent_laws.proofs.Sums.{zero-exactly}
 use Rattle.descent_laws.proofs.Guided.{unit-valid}
 use Rattle.descent_laws.proofs.Bounds.{weighted-at-most}
@@ -76,8 +75,8 @@ penalty-given l es i k n e =
     (record {
       is = refl;
       laws = laws;
-      over-pixels = laws .pixel-penalty _ .1 refl;
-      zero-exactly = laws .zero-no-pixel;
+      overPixels = laws .pixelPenalty _ .1 refl;
+      zeroExactly = laws .zeroNoPixel;
       small =
           laws .bounded Horizontal (lent-turned-small l (p .well) Horizontal i (placeOf v i .turn) (p .first))
           (lent-turned-small l (p .well) Horizontal k (placeOf v k .turn) (p .second));
@@ -90,7 +89,7 @@ unfolding depthCall pairDepth
 depth-given d l es i k n e =
     let u = given-unless (pairCauses l es i k) (pairDepth d (jobOf l) (layoutOf es) (pairOf i k)) n e in
     let laws : PairLaws (jobOf l) (layoutOf es) i k = demand2-penalty _ _ _ _ in
-    rw (← u .same) (record { shifts = laws .depths d; over-pixels = laws .pixel-depths d _ .1 refl })
+    rw (← u .same) (record { shifts = laws .depths d; overPixels = laws .pixelDepths d _ .1 refl })
 
 -- a shared-pixel test that the call gives says yes exactly when the two pieces share a pixel
 pub share-given : (l : Lent) (es : List (List ℕ)) (i k : ℕ) (b : Bool) → shareCall l es i k ≡ given b
@@ -99,7 +98,7 @@ pub share-given : (l : Lent) (es : List (List ℕ)) (i k : ℕ) (b : Bool) → s
 unfolding shareCall pairShares
 share-given l es i k b e =
     let u = given-unless (pairCauses l es i k) (pairShares (jobOf l) (layoutOf es) (pairOf i k)) b e in
-    rw (← u .same) (demand2-penalty _ _ _ _ .shared-exactly)
+    rw (← u .same) (demand2-penalty _ _ _ _ .sharedExactly)
 
 -- ── no-fit rows and columns ──
 
@@ -121,7 +120,7 @@ sum-claims : (l : Lent) (ws : List ℕ) (v : Layout) → lentWell l ≡ true →
 sum-claims l ws v well weights =
     record {
       is = refl;
-      zero-exactly = zero-exactly (jobOf l) ws v weights;
+      zeroExactly = zero-exactly (jobOf l) ws v weights;
       small = weighted-at-most (jobOf l) ws v (lent-few l well) (lent-boxes-small l well) weights;
     }
 

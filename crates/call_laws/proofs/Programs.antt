@@ -5,7 +5,7 @@ use mathlib.Core.List.{List}
 use mathlib.Core.Path.{_≡_, refl, ap, _∙_}
 use Prim.Native.Nat.{ℕ, _<_, _≤_}
 use native.Mathlib.Omega.{arith}
-use borrow.Author.Tests.{lt-ltb}
+use borrow.Author.Tests.{lt-ltb, le-ltb}
 use lib.ListN.{length}
 use Rattle.model.specs.Layout.{unitWeights}
 use Rattle.model.specs.Buffer.{entriesOf}
@@ -20,7 +20,6 @@ use Rattle.text_laws.proofs.JobRead.{job-read-well}
 use Rattle.descent_laws.proofs.Guided.{unit-valid}
 use Rattle.descent_laws.proofs.Lent.{lent-start-valid, lent-demand3}
 use Rattle.call_laws.specs.Programs.{Prints}
-use Rattle.call_laws.proofs.Refusals.{not-less}
 use Rattle.call_laws.proofs.Runs.{guided-taken}
 
 -- the program's run of a lent job is the guided run that the call gives, from the start layout by weights 1
@@ -34,7 +33,7 @@ program-run-given l well =
 -- an input that is not too long is read
 pub program-reads : (input : List ℕ) → length input ≤ inputBound → programText input ≡ printed (readJob input pieceBound areaBound)
 unfolding programText
-program-reads input few = rw (not-less few, programText)
+program-reads input few = rw (le-ltb _ _ few, programText)
 
 -- it prints so
 pub program-prints : (input : List ℕ) (l : Lent) → length input ≤ inputBound → readJob input pieceBound areaBound ≡ given l → Prints input l

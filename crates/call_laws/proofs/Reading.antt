@@ -14,9 +14,10 @@ use Rattle.model.specs.Lent.{Lent, entryColumns, entryRows, entryTurns, pixelSt
 use Rattle.model.specs.Refusal.{given}
 use Rattle.model.specs.JobText.{readJob}
 use Rattle.model.specs.Calls.{tableAfter, storeAfter}
+use Rattle.list_laws.proofs.Numbers.{in-rows}
 use Rattle.text_laws.specs.Texts.{Agree}
 use Rattle.job_laws.proofs.Starts.{start-end}
-use Rattle.text_laws.proofs.Store.{in-box, tight-agree}
+use Rattle.text_laws.proofs.Store.{tight-agree}
 use Rattle.job_laws.proofs.Checked.{Facts, facts, well}
 use Rattle.text_laws.proofs.JobRead.{sides-some, JustRead, job-read-well, job-read-just}
 use Rattle.call_laws.specs.Reading.{jobLeft, JobLeft, FrontRead}
@@ -58,7 +59,7 @@ module _ (k : Lent) (passes : lentWell k ≡ true) (more : List (List ℕ)) (byt
             ap (λ (b : ℕ). eqb b 1)
             (ap₂ (λ (n : ℕ) (e : List ℕ). getD (k .pixels ++ bytes) (n + (y * getD e 0 0 + x)) 0) (same-start i (omega arith)) (same-entry i l)
             ∙ same-byte (s + (y * c + x))
-            (let b : y * c + x < w * c = in-box hx hy in
+            (let b : y * c + x < w * c = in-rows hx hy in
             let end : s + c * w ≤ pixelStart (k .table) (k .size .count) = start-end (k .table) i (k .size .count) l in
             omega (arith, mul-comm c w)));
       }

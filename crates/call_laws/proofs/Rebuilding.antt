@@ -6,10 +6,10 @@ use mathlib.Core.List.{List, [], _∷_, map}
 use mathlib.Core.Logic.{_↔_}
 use mathlib.Core.Path.{_≡_, refl, sym, _∙_, ap, ap₂, subst}
 use Prim.Native.Nat.{ℕ, zero, suc, _+_, _*_, _/_, _%_, _<_, _≤_}
-use native.Mathlib.Nat.{mod-lt, div-lt-iff-lt-mul, mul-comm, zero-mul}
+use native.Mathlib.Nat.{mod-lt, div-lt-iff-lt-mul, mul-comm}
 use native.Mathlib.Omega.{arith}
-use borrow.Author.Tests.{not-false}
-use Rattle.model.specs.Bounded.{one-if}
+use borrow.Author.Tests.{not-false, le-ltb}
+use Rattle.model.specs.Bounded.{oneIf}
 use Rattle.model.specs.Piece.{Shape, tight, sideBound}
 use Rattle.model.specs.Strip.{Strip, strips, rebuilt}
 use Rattle.model.specs.Buffer.{stripEntry, entryStrip, bytesFrom, bytesOf, sameEntries}
@@ -18,7 +18,9 @@ use Rattle.model.specs.Refusal.{given}
 use Rattle.model.specs.Calls.{rebuiltFrom, stripsWell, rebuildCall}
 use Rattle.model.specs.declared.Direction.{Direction}
 use Rattle.model.specs.declared.Direction.the-variants.{Horizontal}
-use Rattle.model.proofs.Tests.{and-left, and-right, and-both}
+use Rattle.list_laws.proofs.Equal.{same-entries, same-entries-exactly}
+use Rattle.list_laws.proofs.Tests.{and-left, and-right, and-both}
+use Rattle.list_laws.proofs.Numbers.{factor-positive}
 use Rattle.text_laws.proofs.Outcomes.{given-unless, unless-given}
 use Rattle.strip_laws.specs.Boxes.{SameShape}
 use Rattle.strip_laws.proofs.Boxes.{same-cell}
@@ -26,27 +28,20 @@ use Rattle.strip_laws.specs.Strips.{HasStrips}
 use Rattle.strip_laws.proofs.Rebuild.{rebuilt-columns, rebuilt-rows, rebuilt-only}
 use Rattle.strip_laws.proofs.ValidStrips.{PieceHas, piece-exactly, valid-rebuilt}
 use Rattle.call_laws.specs.Rebuilding.{PieceOf, RebuildClaims, RebuiltAs}
-use Rattle.call_laws.proofs.Lists.{same-entries, same-entries-exactly}
-use Rattle.call_laws.proofs.Refusals.{not-less}
 
 -- ── bytes ──
-
--- where there is a number below l × w, l is not 0
-some-columns : (l w k : ℕ) → k < l * w → 0 < l
-some-columns zero w k h = let e = zero-mul w in omega arith
-some-columns (suc l) w k h = omega arith
 
 -- sets with the same box and pixels have the same bytes from number k on
 bytes-agree : (s u : Shape) → SameShape s u → (k left : ℕ) → k + left ≤ s .columns * s .rows → bytesFrom s k left ≡ bytesFrom u k left
 unfolding bytesFrom
 bytes-agree s u h k zero b = refl
 bytes-agree s u h k (suc left) b =
-    let some : 0 < s .columns = some-columns (s .columns) (s .rows) k (omega arith) in
+    let some : 0 < s .columns = factor-positive (s .columns) (s .rows) (omega arith) in
     let row : k / s .columns < s .rows = div-lt-iff-lt-mul some .1 (omega (arith, mul-comm (s .columns) (s .rows))) in
     let here : s .has (k % s .columns) (k / s .columns) ≡ u .has (k % u .columns) (k / u .columns) =
     same-cell Horizontal s u h (k % s .columns) (k / s .columns) (mod-lt k some) row
     ∙ ap (λ (l : ℕ). u .has (k % l) (k / l)) (h .columns) in
-    ap₂ (λ (a : ℕ) (l : List ℕ). a ∷ l) (ap one-if here) (bytes-agree s u h (suc k) left (omega arith))
+    ap₂ (λ (a : ℕ) (l : List ℕ). a ∷ l) (ap oneIf here) (bytes-agree s u h (suc k) left (omega arith))
 
 -- sets with the same box and pixels have the same bytes
 pub same-bytes : (s u : Shape) → SameShape s u → bytesOf s ≡ bytesOf u
@@ -81,7 +76,7 @@ strips-well-exactly d l w ts = (
           rows = rebuilt-rows d l w ts;
           are = well-strips d l w ts (and-right (tight (rebuilt d l w ts)) _ both);
         };
-        is-tight = and-left (tight (rebuilt d l w ts)) _ both;
+        isTight = and-left (tight (rebuilt d l w ts)) _ both;
       },
   λ h.
       let v = piece-exactly d l w ts .0 h in
@@ -99,7 +94,7 @@ well-piece d l w es e =
     record {
       columns = rebuilt-columns d l w (map entryStrip es);
       rows = rebuilt-rows d l w (map entryStrip es);
-      is-tight = and-left (tight s) _ e;
+      isTight = and-left (tight s) _ e;
       are = same-entries (map stripEntry (strips d s)) es (and-right (tight s) _ e);
     }
 
@@ -116,7 +111,7 @@ piece-strips d l w es s p =
 pub piece-well : (d : Direction) (l w : ℕ) (es : List (List ℕ)) (s : Shape) → PieceOf d l w es s → stripsWell d l w es ≡ true
 piece-well d l w es s p =
     let h : PieceHas d l w (strips d s) =
-    record { shape = s; has = record { columns = p .columns; rows = p .rows; are = refl }; is-tight = p .is-tight } in
+    record { shape = s; has = record { columns = p .columns; rows = p .rows; are = refl }; isTight = p .isTight } in
     subst (λ (xs : List (List ℕ)). stripsWell d l w xs ≡ true) (p .are) (strips-well-exactly d l w (strips d s) .1 h)
 
 -- the cause of refusal 8 of rebuilding is not there exactly where some piece of the box has just the lent strips
@@ -142,6 +137,6 @@ unfolding rebuildCall
 rebuilt-back d es s room piece c r space =
     let again : Shape = rebuiltFrom d (s .columns) (s .rows) es in
     let gives : rebuildCall d (s .columns) (s .rows) es room ≡ given again =
-    unless-given _ again (ap not (and-both c r), (ap not (piece-well d (s .columns) (s .rows) es s piece), (not-less space, tt))) in
+    unless-given _ again (ap not (and-both c r), (ap not (piece-well d (s .columns) (s .rows) es s piece), (le-ltb _ _ space, tt))) in
     let claims : RebuildClaims d (s .columns) (s .rows) es again = rebuild-given d (s .columns) (s .rows) es room again gives in
     record { shape = again; gives = gives; same = claims .only s piece; bytes = claims .bytes s piece }

@@ -2,18 +2,15 @@
 -- "writes nothing". The outcome of every call but the two that read a text is `unless` of its causes in order, so that what is shown
 -- here holds of each of them (Clauses says it call by call); the two readers refuse a line of wrong form with 1 and take the line's
 -- other causes so. Assumes nothing.
-use mathlib.Core.Bool.{Bool, true, false, _||_}
+use mathlib.Core.Bool.{Bool, true, false}
 use mathlib.Core.List.{List, [], _∷_, _++_}
 use mathlib.Core.Logic.{_↔_, _≢_}
 use mathlib.Core.Path.{_≡_, refl, ap, subst, _∙_}
-use Prim.Native.Nat.{ℕ, _<_, _≤_}
+use Prim.Native.Nat.{ℕ}
 use native.Mathlib.Omega.{arith}
-use borrow.Author.Tests.{ltb-true}
-use lib.Dec.{ltb}
 use Rattle.model.specs.Refusal.{Outcome, refused, given, Cause, unless, refusalOf}
 use Rattle.model.specs.Calls.{leaving}
 use Rattle.model.specs.declared.Refusal.{Refusal}
-use Rattle.model.proofs.Tests.{fails}
 use Rattle.text_laws.specs.Outcomes.{NoCause, Unless}
 use Rattle.text_laws.proofs.Outcomes.{unless-given, given-unless}
 use Rattle.call_laws.specs.Clause.{FirstCause}
@@ -29,7 +26,7 @@ cause-step : {A : Type 0} (c : Cause) (cs : List Cause) (a : A) (r : Refusal) (t
     → _≡_ {A = Outcome A} (elim t as (λ _. Outcome A) [ true ↦ refused (refusalOf c) | false ↦ unless cs a ]) (refused r)
     → FirstCause (c ∷ cs) r
 cause-step c cs a r true h more e =
-    record { before = []; first = c; later = cs; listed = refl; none-before = tt; there = h; tells = cc }
+    record { before = []; first = c; later = cs; listed = refl; noneBefore = tt; there = h; tells = cc }
 cause-step c cs a r false h more e =
     let f : FirstCause cs r = more e in
     record {
@@ -37,7 +34,7 @@ cause-step c cs a r false h more e =
       first = f .first;
       later = f .later;
       listed = ap (λ (l : List Cause). c ∷ l) (f .listed);
-      none-before = (h, f .none-before);
+      noneBefore = (h, f .noneBefore);
       there = f .there;
       tells = f .tells;
     }
@@ -59,7 +56,7 @@ cause-refuses (b ∷ before) c later a h e = rw (h .0, unless) (cause-refuses be
 pub refused-exactly : {A : Type 0} (cs : List Cause) (a : A) (r : Refusal) → (unless cs a ≡ refused r) ↔ FirstCause cs r
 refused-exactly cs a r = (
   refused-unless cs a r,
-  λ f. rw (f .listed) (cause-refuses (f .before) (f .first) (f .later) a (f .none-before) (f .there) ∙ ap refused (f .tells)),
+  λ f. rw (f .listed) (cause-refuses (f .before) (f .first) (f .later) a (f .noneBefore) (f .there) ∙ ap refused (f .tells)),
 )
 
 -- a call gives its value exactly where no cause is there
@@ -93,11 +90,3 @@ refused-numbered [] a r n e = absurd (given-refused e)
 refused-numbered (c ∷ cs) a r n e = numbered-step c cs a r (c .there) (n .0) (refused-numbered cs a r (n .1)) e
 
 -- ── causes that are not there ──
-
--- neither of two tests passes
-pub or-none : {a b : Bool} → a ≡ false → b ≡ false → (a || b) ≡ false
-or-none {a} {b} p q = rw (p, q)
-
--- a number that is at least another is not below it
-pub not-less : {m n : ℕ} → m ≤ n → ltb n m ≡ false
-not-less {m} {n} h = fails (ltb n m) (λ e. let l : n < m = ltb-true n m e in omega arith)

@@ -8,7 +8,7 @@ use mathlib.Core.Option.{Option, none, some}
 use mathlib.Core.Path.{_≡_, refl, _∙_, ap}
 use Prim.Native.Nat.{ℕ, _<_, _≤_}
 use native.Mathlib.Omega.{arith}
-use borrow.Author.Tests.{eqb-true, eqb-false, eq-eqb}
+use borrow.Author.Tests.{eqb-true, eqb-false, eq-eqb, le-ltb}
 use lib.Dec.{ltb, eqb}
 use lib.ListN.{length}
 use Rattle.model.specs.Piece.{onLine}
@@ -22,15 +22,14 @@ use Rattle.model.specs.Refusal.{given}
 use Rattle.model.specs.Calls.{budgetBound, roundBound, someWeightWrong, bestPlace, searchCall, descentCall, descentAfter, guidedCall, bestAfterRun, weightsAfterRun}
 use Rattle.model.specs.declared.Turn.{Turn}
 use Rattle.model.specs.declared.Line.{Line}
-use Rattle.model.proofs.Tests.{or-neither, passes}
+use Rattle.list_laws.proofs.Tests.{or-neither, passes, or-none}
 use Rattle.job_laws.proofs.Checked.{lent-some}
 use Rattle.text_laws.proofs.Entries.{entries-read-back}
 use Rattle.text_laws.proofs.Outcomes.{given-unless, unless-given}
 use Rattle.descent_laws.specs.Claims.{ValidWeights, ValidLayout, DescentClaims, GuidedClaims}
-use Rattle.descent_laws.specs.Search.{Found}
+use Rattle.descent_laws.specs.Search.{LeastFound}
 use Rattle.descent_laws.proofs.Search.{Searched, searched, inside-below, below-inside}
 use Rattle.descent_laws.proofs.Demand3.{demand3}
-use Rattle.call_laws.proofs.Refusals.{or-none, not-less}
 use Rattle.call_laws.proofs.Layouts.{BufferPasses, valid-buffer, weights-pass, job-well, layout-valid, lent-weights-valid}
 
 -- ── descent and guided run ──
@@ -69,13 +68,13 @@ empty-line-exactly j i t line = (
 
 -- where an inside corner lies on the line, the answer is a best place
 place-found : (j : Job) (ws : List ℕ) (v : Layout) (i : ℕ) (t : Turn) (line : Line) (o : Option Best) → Searched j ws v i t line o
-    → 0 < places j i t line → Found j ws v i t line (bestPlace o)
+    → 0 < places j i t line → LeastFound j ws v i t line (bestPlace o)
 place-found j ws v i t line none h some-place = absurd (h 0 (below-inside j i t line 0 some-place))
 place-found j ws v i t line (some b) h some-place = h
 
 -- a line search that the call gives found the least sum over the inside corners on the line and the smallest coordinate that has it
 pub search-given : (l : Lent) (es : List (List ℕ)) (ws : List ℕ) (i : ℕ) (t : Turn) (line : Line) (b : Best)
-    → searchCall l es ws i t line ≡ given b → Found (jobOf l) ws (layoutOf es) i t line b
+    → searchCall l es ws i t line ≡ given b → LeastFound (jobOf l) ws (layoutOf es) i t line b
 unfolding searchCall
 search-given l es ws i t line b e =
     let u = given-unless _ (bestPlace (searchLine (jobOf l) ws (layoutOf es) i t line)) b e in
@@ -97,7 +96,7 @@ module _ (l : Lent) (well : lentWell l ≡ true) (v : Layout) (valid : ValidLayo
           ap not (eq-eqb (length (entriesOf v)) (l .size .count) (p .size)),
           (
             ap not (eq-eqb (length ws) (length (pairs (l .size .count))) (weights .onePerPair)),
-            (or-none (weights-pass ws (weights .inRange)) (not-less few), (p .turns, (p .outside, tt))),
+            (or-none (weights-pass ws (weights .inRange)) (le-ltb _ _ few), (p .turns, (p .outside, tt))),
           ),
         ),
       )
@@ -115,7 +114,7 @@ module _ (l : Lent) (well : lentWell l ≡ true) (v : Layout) (valid : ValidLayo
           ap not (eq-eqb (length (entriesOf v)) (l .size .count) (p .size)),
           (
             ap not (eq-eqb (length ws) (length (pairs (l .size .count))) (weights .onePerPair)),
-            (or-none (or-none (weights-pass ws (weights .inRange)) (not-less few)) (ap not counted), (p .turns, (p .outside, tt))),
+            (or-none (or-none (weights-pass ws (weights .inRange)) (le-ltb _ _ few)) (ap not counted), (p .turns, (p .outside, tt))),
           ),
         ),
       )

@@ -22,14 +22,14 @@ use Rattle.model.specs.declared.Refusal.{Refusal}
 use Rattle.model.specs.declared.Turn.{Turn}
 use Rattle.model.specs.declared.Direction.{Direction}
 use Rattle.model.specs.declared.Direction.the-variants.{Horizontal, Vertical}
-use Rattle.model.proofs.Tests.{and-left, and-right, and-both, or-neither}
+use Rattle.list_laws.proofs.Equal.{same-numbers, same-entries, same-numbers-exactly, same-entries-exactly}
+use Rattle.list_laws.proofs.Tests.{and-left, and-right, and-both, or-neither, or-none}
 use Rattle.job_laws.proofs.Checked.{lent-side-in-range}
 use Rattle.text_laws.proofs.Outcomes.{given-unless, unless-given}
 use Rattle.call_laws.specs.Stores.{StretchClaims}
-use Rattle.call_laws.proofs.Lists.{same-numbers, same-entries, same-numbers-exactly, same-entries-exactly}
 use Rattle.call_laws.proofs.Jobs.{lent-strips-some, lent-tight}
 use Rattle.call_laws.proofs.Layouts.{job-well}
-use Rattle.call_laws.proofs.Refusals.{refused-numbered, or-none}
+use Rattle.call_laws.proofs.Refusals.{refused-numbered}
 use Rattle.call_laws.specs.Rebuilding.{RebuiltAs}
 use Rattle.call_laws.proofs.Rebuilding.{rebuilt-back}
 
@@ -120,7 +120,7 @@ stretch-some l ts lent i d part e =
     let size = length-map (pieceStrips d (jobOf l) ts i) stripEntry in
     let well : lentWell l ≡ true = job-well l (u .none .0) in
     let some = lent-strips-some l well d i (turnIn ts i) there in
-    record { well = well; there = there; strips-are = are; some = omega (arith, ap length are) }
+    record { well = well; there = there; stripsAre = are; some = omega (arith, ap length are) }
 
 -- by what the call comes to
 tells-step : (o : Outcome (List (List ℕ))) → ((part : List (List ℕ)) → o ≡ given part → 0 < length part)
@@ -183,7 +183,7 @@ stretch-after l ts lent s e i d b =
 pub stretch-lent : (l : Lent) (ts : List ℕ) (i : ℕ) (d : Direction) (part : List (List ℕ)) → StretchClaims l ts i d part
     → stretchWell d (jobOf l) (record { piece = i; turn = turnIn ts i; stretch = part }) ≡ true
 unfolding stretchWell pieceStrips
-stretch-lent l ts i d part c = same-entries-exactly _ _ .1 (c .strips-are)
+stretch-lent l ts i d part c = same-entries-exactly _ _ .1 (c .stripsAre)
 
 -- and is rebuilt as the piece in its turn, box and bytes: pixels become strips and strips the same pixels again
 pub stretch-rebuilt : (l : Lent) (ts : List ℕ) (i : ℕ) (d : Direction) (part : List (List ℕ)) (room : ℕ) → StretchClaims l ts i d part
@@ -193,5 +193,5 @@ unfolding pieceStrips
 stretch-rebuilt l ts i d part room c space =
     let t : Turn = turnIn ts i in
     rebuilt-back d part (turnedPiece (jobOf l) i t) room
-    (record { columns = refl; rows = refl; is-tight = lent-tight l (c .well) i t (c .there); are = sym (c .strips-are) })
+    (record { columns = refl; rows = refl; isTight = lent-tight l (c .well) i t (c .there); are = sym (c .stripsAre) })
     (lent-side-in-range l (c .well) Horizontal i t (c .there)) (lent-side-in-range l (c .well) Vertical i t (c .there)) space

@@ -6,7 +6,7 @@ use Rattle.model.specs.Layout.{Pair, Job, Layout, shapeIn, cornerIn}
 use Rattle.model.specs.Refusal.{sharedPixel}
 use Rattle.model.specs.declared.Refusal.{Refusal}
 use Rattle.overlap_laws.specs.Overlap.{SharedPixel}
-use Rattle.descent_laws.specs.Sums.{Ordered}
+use Rattle.descent_laws.specs.Sums.{PairOrdered}
 use Rattle.descent_laws.specs.Claims.{ValidLayout, NoSharedPixel}
 
 -- the pair p stands before the pair q: a lower first number, or the same and a lower second
@@ -15,7 +15,7 @@ PairBefore p q = (p .first < q .first) ⊎ ((p .first ≡ q .first) × (p .secon
 
 -- the pair that the check names: of two pieces that share a pixel, and every other such pair stands after it
 pub record LowestPair (j : Job) (v : Layout) (p : Pair) : Type 0 where
-  pub ordered : Ordered 0 (j .size .count) p
+  pub ordered : PairOrdered 0 (j .size .count) p
   pub shared : SharedPixel (shapeIn j v (p .first)) (cornerIn v (p .first)) (shapeIn j v (p .second)) (cornerIn v (p .second))
   pub lowest : (i k : ℕ) → i < k → k < j .size .count → SharedPixel (shapeIn j v i) (cornerIn v i) (shapeIn j v k) (cornerIn v k)
       → (p ≡ record { first = i; second = k }) ⊎ PairBefore p (record { first = i; second = k })

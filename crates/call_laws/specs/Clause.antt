@@ -14,7 +14,7 @@ pub record FirstCause (cs : List Cause) (r : Refusal) : Type 0 where
   pub first : Cause
   pub later : List Cause
   pub listed : cs ≡ before ++ (first ∷ later)
-  pub none-before : NoCause before
+  pub noneBefore : NoCause before
   pub there : first .there ≡ true
   pub tells : refusalOf first ≡ r
 

@@ -40,13 +40,13 @@ use Rattle.call_laws.specs.Clause.{CallClaims, BufferClaims, Answers}
 pub record CallClauses : Type 0 where
   -- ── reading a job ──
   -- it ends in a refusal or in a job; the causes, line by line, stand in JobText
-  pub read-job : (text : List ℕ) (tableLength pixelsLength : ℕ) → Answers (readJob text tableLength pixelsLength)
+  pub readJobAnswer : (text : List ℕ) (tableLength pixelsLength : ℕ) → Answers (readJob text tableLength pixelsLength)
   -- the table: the entries that were read over its front
-  pub read-job-table : (text : List ℕ) (table : List (List ℕ)) (pixelsLength : ℕ)
+  pub readJobTable : (text : List ℕ) (table : List (List ℕ)) (pixelsLength : ℕ)
       → BufferClaims (λ l. filled (l .table) table) table (tableAfter table (readJob text (length table) pixelsLength))
       (readJob text (length table) pixelsLength)
   -- the pixel store: the bytes that were read over its front
-  pub read-job-pixels : (text : List ℕ) (tableLength : ℕ) (pixels : List ℕ)
+  pub readJobPixels : (text : List ℕ) (tableLength : ℕ) (pixels : List ℕ)
       → BufferClaims (λ l. filled (l .pixels) pixels) pixels (storeAfter pixels (readJob text tableLength (length pixels)))
       (readJob text tableLength (length pixels))
   -- ── strips, stretch, no-fit rows and columns, rebuilding ──
@@ -58,7 +58,7 @@ pub record CallClauses : Type 0 where
       ∷ cause wrongLength (storesShort (storesOf (jobOf l) ts) lent) ∷ [])
       (storesOf (jobOf l) ts) (stripsCall l ts lent)
   -- the stores and their starts: the job's over their fronts
-  pub strips-stores : (l : Lent) (ts : List ℕ) (lent : Stores)
+  pub stripsStores : (l : Lent) (ts : List ℕ) (lent : Stores)
       → BufferClaims
       (λ s. record {
         rowStrips = filled (s .rowStrips) (lent .rowStrips);
@@ -75,15 +75,15 @@ pub record CallClauses : Type 0 where
       ∷ cause notOurs (not (storesWell (jobOf l) ts lent)) ∷ [])
       (stretchOf d lent i) (stretchCall l ts lent i d)
   -- what is handed out: the stretch, and on a refusal none of it
-  pub stretch-part : (l : Lent) (ts : List ℕ) (lent : Stores) (i : ℕ) (d : Direction)
+  pub stretchPart : (l : Lent) (ts : List ℕ) (lent : Stores) (i : ℕ) (d : Direction)
       → BufferClaims (λ part. part) [] (stretchGiven (stretchCall l ts lent i d)) (stretchCall l ts lent i d)
   -- the stretch's refusal: its number, or 0 where there is none
-  pub stretch-refusal : (l : Lent) (ts : List ℕ) (lent : Stores) (i : ℕ) (d : Direction) (r : Refusal)
+  pub stretchRefusal : (l : Lent) (ts : List ℕ) (lent : Stores) (i : ℕ) (d : Direction) (r : Refusal)
       → stretchCall l ts lent i d ≡ refused r → stretchNumber (stretchCall l ts lent i d) ≡ r .number
-  pub stretch-no-refusal : (l : Lent) (ts : List ℕ) (lent : Stores) (i : ℕ) (d : Direction) (part : List (List ℕ))
+  pub stretchNoRefusal : (l : Lent) (ts : List ℕ) (lent : Stores) (i : ℕ) (d : Direction) (part : List (List ℕ))
       → stretchCall l ts lent i d ≡ given part → stretchNumber (stretchCall l ts lent i d) ≡ 0
   -- no-fit rows and columns: 8 the job, 9, 8 a stretch, 7
-  pub no-fit : (d : Direction) (l : Lent) (p q : LentStretch) (offset : ℤ) (room : ℕ)
+  pub noFit : (d : Direction) (l : Lent) (p q : LentStretch) (offset : ℤ) (room : ℕ)
       → CallClaims
       (cause notOurs (not (lentWell l))
       ∷ cause noSuchPiece (not (known (jobOf l) p && known (jobOf l) q))
@@ -91,7 +91,7 @@ pub record CallClauses : Type 0 where
       ∷ cause wrongLength (ltb room (length (noFitOf d (jobOf l) p q offset))) ∷ [])
       (noFitOf d (jobOf l) p q offset) (noFitCall d l p q offset room)
   -- the run buffer: the runs over its front
-  pub no-fit-runs : (d : Direction) (l : Lent) (p q : LentStretch) (offset : ℤ) (before : List (List ℤ))
+  pub noFitRuns : (d : Direction) (l : Lent) (p q : LentStretch) (offset : ℤ) (before : List (List ℤ))
       → BufferClaims (λ rs. filled (map runEntry rs) before) before (runsAfter before (noFitCall d l p q offset (length before)))
       (noFitCall d l p q offset (length before))
   -- rebuilding: 2, 8, 7
@@ -102,12 +102,12 @@ pub record CallClauses : Type 0 where
       ∷ cause wrongLength (ltb room (columns * rows)) ∷ [])
       (rebuiltFrom d columns rows es) (rebuildCall d columns rows es room)
   -- the pixel buffer: the set's bytes over its front
-  pub rebuild-pixels : (d : Direction) (columns rows : ℕ) (es : List (List ℕ)) (before : List ℕ)
+  pub rebuildPixels : (d : Direction) (columns rows : ℕ) (es : List (List ℕ)) (before : List ℕ)
       → BufferClaims (λ (s : Shape). filled (bytesOf s) before) before (pixelsAfter before (rebuildCall d columns rows es (length before)))
       (rebuildCall d columns rows es (length before))
   -- ── pairs, sums, used length ──
   -- shared-pixel test: 8, 7, 9, 10
-  pub shared-pixel-test : (l : Lent) (es : List (List ℕ)) (i k : ℕ)
+  pub sharedPixelTest : (l : Lent) (es : List (List ℕ)) (i k : ℕ)
       → CallClaims
       (cause notOurs (not (lentWell l))
       ∷ cause wrongLength (not (eqb (length es) (l .size .count)))
@@ -131,7 +131,7 @@ pub record CallClauses : Type 0 where
       ∷ cause outsideSheet (someOutside (jobOf l) (layoutOf es)) ∷ [])
       (pairPenalty (jobOf l) (layoutOf es) (pairOf i k)) (penaltyCall l es i k)
   -- weighted sum: 8, 7 the layout, 7 the weights, 2, 9, 10
-  pub weighted-sum : (l : Lent) (es : List (List ℕ)) (ws : List ℕ)
+  pub weightedSumAnswer : (l : Lent) (es : List (List ℕ)) (ws : List ℕ)
       → CallClaims
       (cause notOurs (not (lentWell l))
       ∷ cause wrongLength (not (eqb (length es) (l .size .count)))
@@ -141,7 +141,7 @@ pub record CallClauses : Type 0 where
       ∷ cause outsideSheet (someOutside (jobOf l) (layoutOf es)) ∷ [])
       (weightedSum (jobOf l) ws (layoutOf es)) (weightedSumCall l es ws)
   -- plain sum: 8, 7, 9, 10
-  pub plain-sum : (l : Lent) (es : List (List ℕ))
+  pub plainSumAnswer : (l : Lent) (es : List (List ℕ))
       → CallClaims
       (cause notOurs (not (lentWell l))
       ∷ cause wrongLength (not (eqb (length es) (l .size .count)))
@@ -149,7 +149,7 @@ pub record CallClauses : Type 0 where
       ∷ cause outsideSheet (someOutside (jobOf l) (layoutOf es)) ∷ [])
       (plainSum (jobOf l) (layoutOf es)) (plainSumCall l es)
   -- used length: 8, 7, 9, 10
-  pub used-length : (l : Lent) (es : List (List ℕ))
+  pub usedLengthAnswer : (l : Lent) (es : List (List ℕ))
       → CallClaims
       (cause notOurs (not (lentWell l))
       ∷ cause wrongLength (not (eqb (length es) (l .size .count)))
@@ -158,7 +158,7 @@ pub record CallClauses : Type 0 where
       (usedLength (jobOf l) (layoutOf es)) (usedLengthCall l es)
   -- ── line search, descent, guided run ──
   -- line search: 8, 7 the layout, 7 the weights, 2, 9, 10, 11
-  pub line-search : (l : Lent) (es : List (List ℕ)) (ws : List ℕ) (i : ℕ) (t : Turn) (line : Line)
+  pub lineSearch : (l : Lent) (es : List (List ℕ)) (ws : List ℕ) (i : ℕ) (t : Turn) (line : Line)
       → CallClaims
       (cause notOurs (not (lentWell l))
       ∷ cause wrongLength (not (eqb (length es) (l .size .count)))
@@ -179,10 +179,10 @@ pub record CallClauses : Type 0 where
       ∷ cause outsideSheet (someOutside (jobOf l) (layoutOf es)) ∷ [])
       (descend (jobOf l) ws budget (layoutOf es)) (descentCall l es ws budget)
   -- the layout buffer: the layout at the end
-  pub descent-layout : (l : Lent) (es : List (List ℕ)) (ws : List ℕ) (budget : ℕ)
+  pub descentLayout : (l : Lent) (es : List (List ℕ)) (ws : List ℕ) (budget : ℕ)
       → BufferClaims (λ d. entriesOf (d .layout)) es (descentAfter es (descentCall l es ws budget)) (descentCall l es ws budget)
   -- guided run: 8, 7 the layout, 7 the weights, 2 a weight, the budget or the round count, 9, 10
-  pub guided-run : (l : Lent) (es : List (List ℕ)) (ws : List ℕ) (count budget : ℕ)
+  pub guidedRun : (l : Lent) (es : List (List ℕ)) (ws : List ℕ) (count budget : ℕ)
       → CallClaims
       (cause notOurs (not (lentWell l))
       ∷ cause wrongLength (not (eqb (length es) (l .size .count)))
@@ -192,21 +192,21 @@ pub record CallClauses : Type 0 where
       ∷ cause outsideSheet (someOutside (jobOf l) (layoutOf es)) ∷ [])
       (guide (jobOf l) count budget ws (layoutOf es)) (guidedCall l es ws count budget)
   -- the layout buffer: the best layout
-  pub guided-run-layout : (l : Lent) (es : List (List ℕ)) (ws : List ℕ) (count budget : ℕ)
+  pub guidedRunLayout : (l : Lent) (es : List (List ℕ)) (ws : List ℕ) (count budget : ℕ)
       → BufferClaims (λ g. entriesOf (g .layout)) es (bestAfterRun es (guidedCall l es ws count budget)) (guidedCall l es ws count budget)
   -- the weight buffer: the new weights
-  pub guided-run-weights : (l : Lent) (es : List (List ℕ)) (ws : List ℕ) (count budget : ℕ)
+  pub guidedRunWeights : (l : Lent) (es : List (List ℕ)) (ws : List ℕ) (count budget : ℕ)
       → BufferClaims (λ g. g .weights) ws (weightsAfterRun ws (guidedCall l es ws count budget)) (guidedCall l es ws count budget)
   -- ── start, layout text, check ──
   -- start layout: 8, 7
-  pub start-layout : (l : Lent) (room : ℕ)
+  pub startLayout : (l : Lent) (room : ℕ)
       → CallClaims (cause notOurs (not (lentWell l)) ∷ cause wrongLength (not (eqb room (l .size .count))) ∷ [])
       (start (jobOf l)) (startCall l room)
   -- the layout buffer: the start layout
-  pub start-layout-buffer : (l : Lent) (before : List (List ℕ))
+  pub startLayoutBuffer : (l : Lent) (before : List (List ℕ))
       → BufferClaims entriesOf before (layoutAfter before (startCall l (length before))) (startCall l (length before))
   -- writing a layout: 8, 7 the layout, 9, 10, 7 the text buffer
-  pub write-layout : (l : Lent) (es : List (List ℕ)) (room : ℕ)
+  pub writeLayout : (l : Lent) (es : List (List ℕ)) (room : ℕ)
       → CallClaims
       (cause notOurs (not (lentWell l))
       ∷ cause wrongLength (not (eqb (length es) (l .size .count)))
@@ -215,17 +215,17 @@ pub record CallClauses : Type 0 where
       ∷ cause wrongLength (ltb room (length (layoutText (jobOf l) (layoutOf es)))) ∷ [])
       (layoutText (jobOf l) (layoutOf es)) (writeLayoutCall l es room)
   -- the text buffer: the text over its front
-  pub write-layout-text : (l : Lent) (es : List (List ℕ)) (before : List ℕ)
+  pub writeLayoutText : (l : Lent) (es : List (List ℕ)) (before : List ℕ)
       → BufferClaims (λ text. filled text before) before (textAfter before (writeLayoutCall l es (length before)))
       (writeLayoutCall l es (length before))
   -- reading a layout: it ends in a refusal or in a layout, by 8 for the job and else as LayoutText reads, line by line
-  pub read-layout : (l : Lent) (text : List ℕ) (room : ℕ) → Answers (readLayoutCall l text room)
-  pub read-layout-not-ours : (l : Lent) (text : List ℕ) (room : ℕ) → lentWell l ≡ false
+  pub readLayoutAnswer : (l : Lent) (text : List ℕ) (room : ℕ) → Answers (readLayoutCall l text room)
+  pub readLayoutNotOurs : (l : Lent) (text : List ℕ) (room : ℕ) → lentWell l ≡ false
       → readLayoutCall l text room ≡ refused (record { number = notOurs; first = 0; second = 0 })
-  pub read-layout-by-line : (l : Lent) (text : List ℕ) (room : ℕ) → lentWell l ≡ true
+  pub readLayoutByLine : (l : Lent) (text : List ℕ) (room : ℕ) → lentWell l ≡ true
       → readLayoutCall l text room ≡ readLayout (jobOf l) text room
   -- the layout buffer: the layout that was read
-  pub read-layout-buffer : (l : Lent) (text : List ℕ) (before : List (List ℕ))
+  pub readLayoutBuffer : (l : Lent) (text : List ℕ) (before : List (List ℕ))
       → BufferClaims entriesOf before (layoutAfter before (readLayoutCall l text (length before))) (readLayoutCall l text (length before))
   -- check of a layout: 8, 7, 9, 10, and 12 with the pair that shares a pixel as its places
   pub check : (l : Lent) (es : List (List ℕ))
@@ -238,11 +238,11 @@ pub record CallClauses : Type 0 where
       tt (checkCall l es)
   -- ── the sheet ──
   -- fresh sheet: 8, 7
-  pub fresh-sheet : (l : Lent) (room : ℕ)
+  pub freshSheet : (l : Lent) (room : ℕ)
       → CallClaims (cause notOurs (not (lentWell l)) ∷ cause wrongLength (not (eqb room (l .size .rows * l .size .columns))) ∷ [])
       (fresh (jobOf l)) (freshCall l room)
   -- the count buffer: the fresh sheet's counts
-  pub fresh-sheet-counts : (l : Lent) (before : List ℕ)
+  pub freshSheetCounts : (l : Lent) (before : List ℕ)
       → BufferClaims (λ s. s .counts) before (countsAfter before (freshCall l (length before))) (freshCall l (length before))
   -- lay: 8 the job, 7, 8 the sheet, 9, 13, 10
   pub lays : (l : Lent) (s : Sheet) (i : ℕ) (p : Placement)
@@ -255,9 +255,9 @@ pub record CallClauses : Type 0 where
       ∷ cause outsideSheet (not (inside (jobOf l) i p)) ∷ [])
       (lay (jobOf l) s i p) (layCall l s i p)
   -- record and counts together, and the count buffer
-  pub lay-sheet : (l : Lent) (s : Sheet) (i : ℕ) (p : Placement)
+  pub laySheet : (l : Lent) (s : Sheet) (i : ℕ) (p : Placement)
       → BufferClaims (λ s′. s′) s (afterwards s (layCall l s i p)) (layCall l s i p)
-  pub lay-counts : (l : Lent) (s : Sheet) (i : ℕ) (p : Placement)
+  pub layCounts : (l : Lent) (s : Sheet) (i : ℕ) (p : Placement)
       → BufferClaims (λ s′. s′ .counts) (s .counts) (countsAfter (s .counts) (layCall l s i p)) (layCall l s i p)
   -- withdraw: 8 the job, 7, 8 the sheet, 9, 14
   pub withdraws : (l : Lent) (s : Sheet) (i : ℕ)
@@ -269,9 +269,9 @@ pub record CallClauses : Type 0 where
       ∷ cause notLaid (not (entryIn (s .pieces) i .laid)) ∷ [])
       (withdraw (jobOf l) s i) (withdrawCall l s i)
   -- record and counts together, and the count buffer
-  pub withdraw-sheet : (l : Lent) (s : Sheet) (i : ℕ)
+  pub withdrawSheet : (l : Lent) (s : Sheet) (i : ℕ)
       → BufferClaims (λ s′. s′) s (afterwards s (withdrawCall l s i)) (withdrawCall l s i)
-  pub withdraw-counts : (l : Lent) (s : Sheet) (i : ℕ)
+  pub withdrawCounts : (l : Lent) (s : Sheet) (i : ℕ)
       → BufferClaims (λ s′. s′ .counts) (s .counts) (countsAfter (s .counts) (withdrawCall l s i)) (withdrawCall l s i)
   -- ── the program ──
   -- it prints the refusal by 7 for an input above 65,536 bytes, else the reader's, else the run
@@ -280,9 +280,9 @@ pub record CallClauses : Type 0 where
       ≡ printed
       (andThen (unless (cause wrongLength (ltb inputBound (length input)) ∷ []) input) (λ text. readJob text pieceBound areaBound))
   -- over a lent output buffer: 7
-  pub program-output : (input : List ℕ) (room : ℕ)
+  pub programOutput : (input : List ℕ) (room : ℕ)
       → CallClaims (cause wrongLength (ltb room (length (programText input))) ∷ []) (programText input) (programCall input room)
   -- the output buffer: what is printed over its front
-  pub program-output-text : (input before : List ℕ)
+  pub programOutputText : (input before : List ℕ)
       → BufferClaims (λ text. filled text before) before (textAfter before (programCall input (length before)))
       (programCall input (length before))

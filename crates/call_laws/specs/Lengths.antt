@@ -11,6 +11,6 @@ pub record EndsAt (j : Job) (v : Layout) (n m : ℕ) : Type 0 where
 
 -- what a used length that is given means
 pub record UsedClaims (j : Job) (v : Layout) (n : ℕ) : Type 0 where
-  pub at-most : (i : ℕ) → i < j .size .count → rightEnd j v i ≤ n
+  pub atMost : (i : ℕ) → i < j .size .count → rightEnd j v i ≤ n
   pub attained : EndsAt j v (j .size .count) n
   pub within : n ≤ j .size .columns

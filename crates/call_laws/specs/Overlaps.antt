@@ -22,7 +22,7 @@ pub record DepthClaims (d : Direction) (j : Job) (v : Layout) (i k n : ℕ) : Ty
   -- by the shared-pixel test
   pub shifts : LeastShift d (shapeIn j v i) (cornerIn v i) (shapeIn j v k) (cornerIn v k) n
   -- over pixels
-  pub over-pixels : DepthOverPixels d (shapeIn j v i) (cornerIn v i) (shapeIn j v k) (cornerIn v k) n
+  pub overPixels : DepthOverPixels d (shapeIn j v i) (cornerIn v i) (shapeIn j v k) (cornerIn v k) n
 
 -- what a penalty that is given means
 pub record PenaltyClaims (j : Job) (v : Layout) (i k n : ℕ) : Type 0 where
@@ -31,14 +31,14 @@ pub record PenaltyClaims (j : Job) (v : Layout) (i k n : ℕ) : Type 0 where
   pub laws : PairLaws j v i k
   -- over pixels: it is the smaller of the least |t|, t whole, in rows and the least in columns such that the second piece shifted by t
   -- shares no pixel with the first
-  pub over-pixels : PenaltyOverPixels (shapeIn j v i) (cornerIn v i) (shapeIn j v k) (cornerIn v k) n
+  pub overPixels : PenaltyOverPixels (shapeIn j v i) (cornerIn v i) (shapeIn j v k) (cornerIn v k) n
   -- it is 0 exactly when they share no pixel
-  pub zero-exactly : (n ≡ 0) ↔ (¬ SharedPixel (shapeIn j v i) (cornerIn v i) (shapeIn j v k) (cornerIn v k))
+  pub zeroExactly : (n ≡ 0) ↔ (¬ SharedPixel (shapeIn j v i) (cornerIn v i) (shapeIn j v k) (cornerIn v k))
   -- it is at most 255
   pub small : n ≤ sideBound
 
 -- what a sum that is given means: it is 0 exactly when no two pieces share a pixel, and it is at most 2,016 × 65,535 × 255
 pub record SumClaims (j : Job) (ws : List ℕ) (v : Layout) (n : ℕ) : Type 0 where
   pub is : n ≡ weightedSum j ws v
-  pub zero-exactly : (n ≡ 0) ↔ NoSharedPixel j v
+  pub zeroExactly : (n ≡ 0) ↔ NoSharedPixel j v
   pub small : n ≤ sumBound

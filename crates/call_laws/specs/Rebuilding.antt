@@ -15,7 +15,7 @@ use Rattle.strip_laws.specs.Boxes.{SameShape}
 pub record PieceOf (d : Direction) (l w : ℕ) (es : List (List ℕ)) (s : Shape) : Type 0 where
   pub columns : s .columns ≡ l
   pub rows : s .rows ≡ w
-  pub is-tight : tight s ≡ true
+  pub isTight : tight s ≡ true
   pub are : map stripEntry (strips d s) ≡ es
 
 -- what rebuilding gives: a piece of the box that has the strips, the only one, and so its bytes are those of each piece that has them

@@ -13,5 +13,5 @@ use Rattle.model.specs.declared.Direction.{Direction}
 pub record StretchClaims (l : Lent) (ts : List ℕ) (i : ℕ) (d : Direction) (part : List (List ℕ)) : Type 0 where
   pub well : lentWell l ≡ true
   pub there : i < jobOf l .size .count
-  pub strips-are : part ≡ map stripEntry (pieceStrips d (jobOf l) ts i)
+  pub stripsAre : part ≡ map stripEntry (pieceStrips d (jobOf l) ts i)
   pub some : 0 < length part

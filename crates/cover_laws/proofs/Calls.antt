@@ -16,7 +16,7 @@ use Rattle.model.specs.Cover.{Sheet, entryIn, mapFrom, lay, withdraw, layCauses
 use Rattle.model.specs.Cover.{Call, laying, withdrawing, called, afterwards, afterCalls}
 use Rattle.model.specs.declared.Placement.{Placement}
 use Rattle.model.specs.declared.Refusal.{Refusal}
-use Rattle.model.proofs.Tests.{and-left, and-right, and-both}
+use Rattle.list_laws.proofs.Tests.{and-left, and-right, and-both}
 use Rattle.text_laws.proofs.Outcomes.{unless-given, given-unless}
 
 -- ── a count for each pixel ──

@@ -13,7 +13,7 @@ use lib.Dec.{eqb}
 use lib.ListN.{length, getD, set, replicate, length-replicate, length-set}
 use lib.Seq.{getD-set-same, getD-set-other}
 use borrow.Author.Tests.{eqb-true, eqb-false}
-use Rattle.model.specs.Bounded.{one-if}
+use Rattle.model.specs.Bounded.{oneIf}
 use Rattle.model.specs.Layout.{Job, allowed, inside}
 use Rattle.model.specs.Lent.{pieceBound}
 use Rattle.model.specs.Refusal.{Outcome, refused, given}
@@ -21,8 +21,8 @@ use Rattle.model.specs.Cover.{Sheet, blank, laidAt, entryIn, coversPixel, fresh
 use Rattle.model.specs.Cover.{Call, laying, withdrawing, called, afterwards, afterCalls, laidOn, laidCount}
 use Rattle.model.specs.declared.Placement.{Placement}
 use Rattle.model.specs.declared.Entry.{Entry}
-use Rattle.model.proofs.Tests.{decided}
-use Rattle.model.proofs.Sums.{sum-agree, sum-grown, sum-zero, passing-bound}
+use Rattle.list_laws.proofs.Sums.{sum-agree, sum-grown, sum-zero, passing-bound}
+use Rattle.list_laws.proofs.Tests.{decided}
 use Rattle.cover_laws.proofs.Calls.{length-mapFrom, getD-mapFrom, LayTaken, WithdrawTaken, lay-given, withdraw-given}
 
 -- the entry of a piece of the job, laid inside in an allowed turn
@@ -44,31 +44,31 @@ pub record Sound (j : Job) (s : Sheet) : Type 0 where
 -- where no piece is laid it is 0
 pub blank-count : (j : Job) (es : List Entry) (k : ℕ) → ((i : ℕ) → entryIn es i ≡ blank) → laidCount j es k ≡ 0
 unfolding laidCount
-blank-count j es k h = sum-zero (j .size .count) (λ i. one-if (laidOn j es k i)) (λ i l. rw (h i))
+blank-count j es k h = sum-zero (j .size .count) (λ i. oneIf (laidOn j es k i)) (λ i l. rw (h i))
 
 -- two records with the same entries have the same number
 pub same-count : (j : Job) (es fs : List Entry) (k : ℕ) → ((i : ℕ) → i < j .size .count → entryIn es i ≡ entryIn fs i)
     → laidCount j es k ≡ laidCount j fs k
 unfolding laidCount
 same-count j es fs k h =
-    sum-agree (j .size .count) (λ i. one-if (laidOn j es k i)) (λ i. one-if (laidOn j fs k i)) (λ i l. rw (h i l))
+    sum-agree (j .size .count) (λ i. oneIf (laidOn j es k i)) (λ i. oneIf (laidOn j fs k i)) (λ i l. rw (h i l))
 
 -- it grows by one where the piece that is laid covers the pixel
 pub lay-count : (j : Job) (es : List Entry) (i : ℕ) (p : Placement) (k : ℕ) → i < j .size .count → i < length es → entryIn es i .laid ≡ false
-    → laidCount j (set es i (laidAt p)) k ≡ laidCount j es k + one-if (coversPixel j i p k)
+    → laidCount j (set es i (laidAt p)) k ≡ laidCount j es k + oneIf (coversPixel j i p k)
 unfolding laidCount
 lay-count j es i p k l l′ free =
-    sum-grown (j .size .count) (λ m. one-if (laidOn j es k m)) (λ m. one-if (laidOn j (set es i (laidAt p)) k m)) i
-    (one-if (coversPixel j i p k)) l (rw (getD-set-same es i (laidAt p) blank l′, free, zero-add))
+    sum-grown (j .size .count) (λ m. oneIf (laidOn j es k m)) (λ m. oneIf (laidOn j (set es i (laidAt p)) k m)) i
+    (oneIf (coversPixel j i p k)) l (rw (getD-set-same es i (laidAt p) blank l′, free, zero-add))
     (λ m h ne. rw (getD-set-other es i m (laidAt p) blank ne))
 
 -- before a withdraw it is larger by one where the piece covered the pixel
 pub withdraw-count : (j : Job) (es : List Entry) (i k : ℕ) → i < j .size .count → i < length es → entryIn es i .laid ≡ true
-    → laidCount j es k ≡ laidCount j (set es i blank) k + one-if (coversPixel j i (entryIn es i .place) k)
+    → laidCount j es k ≡ laidCount j (set es i blank) k + oneIf (coversPixel j i (entryIn es i .place) k)
 unfolding laidCount
 withdraw-count j es i k l l′ laid =
-    sum-grown (j .size .count) (λ m. one-if (laidOn j (set es i blank) k m)) (λ m. one-if (laidOn j es k m)) i
-    (one-if (coversPixel j i (entryIn es i .place) k)) l (rw (getD-set-same es i blank blank l′, laid, zero-add))
+    sum-grown (j .size .count) (λ m. oneIf (laidOn j (set es i blank) k m)) (λ m. oneIf (laidOn j es k m)) i
+    (oneIf (coversPixel j i (entryIn es i .place) k)) l (rw (getD-set-same es i blank blank l′, laid, zero-add))
     (λ m h ne. rw (getD-set-other es i m blank blank ne))
 
 -- at most all pieces are on a pixel
@@ -123,17 +123,17 @@ module _ (j : Job) where
 
   -- after a lay, each count is the old one, and one more exactly where the piece covers the pixel
   pub lay-counts : (s : Sheet) (i : ℕ) (p : Placement) (k : ℕ) → Sound j s → k < j .size .rows * j .size .columns
-      → getD (lay j s i p .counts) k 0 ≡ getD (s .counts) k 0 + one-if (coversPixel j i p k)
+      → getD (lay j s i p .counts) k 0 ≡ getD (s .counts) k 0 + oneIf (coversPixel j i p k)
   unfolding lay
   lay-counts s i p k sound l =
-      getD-mapFrom (λ m c. c + one-if (coversPixel j i p m)) 0 (s .counts) k (let e = sound .counts in omega arith) ∙ rw zero-add
+      getD-mapFrom (λ m c. c + oneIf (coversPixel j i p m)) 0 (s .counts) k (let e = sound .counts in omega arith) ∙ rw zero-add
 
   -- after a withdraw, each count is the old one, and one less exactly where the piece covered the pixel
   pub withdraw-counts : (s : Sheet) (i k : ℕ) → Sound j s → k < j .size .rows * j .size .columns
-      → getD (withdraw j s i .counts) k 0 ≡ getD (s .counts) k 0 - one-if (coversPixel j i (entryIn (s .pieces) i .place) k)
+      → getD (withdraw j s i .counts) k 0 ≡ getD (s .counts) k 0 - oneIf (coversPixel j i (entryIn (s .pieces) i .place) k)
   unfolding withdraw
   withdraw-counts s i k sound l =
-      getD-mapFrom (λ m c. c - one-if (coversPixel j i (entryIn (s .pieces) i .place) m)) 0 (s .counts) k
+      getD-mapFrom (λ m c. c - oneIf (coversPixel j i (entryIn (s .pieces) i .place) m)) 0 (s .counts) k
       (let e = sound .counts in omega arith)
       ∙ rw zero-add
 
@@ -158,7 +158,7 @@ module _ (j : Job) (few : j .size .count ≤ pieceBound) where
 
   -- a laid piece counts on each pixel that it covers: what a withdraw takes off is there
   pub covered-counts : (s : Sheet) (i k : ℕ) → Sound j s → WithdrawTaken j s i → k < j .size .rows * j .size .columns
-      → one-if (coversPixel j i (entryIn (s .pieces) i .place) k) ≤ getD (s .counts) k 0
+      → oneIf (coversPixel j i (entryIn (s .pieces) i .place) k) ≤ getD (s .counts) k 0
   covered-counts s i k sound t l =
       let count = sound .count k l in
       let split = withdraw-count j (s .pieces) i k (t .piece) (entry-there s i sound (t .piece)) (t .laid) in
@@ -171,12 +171,12 @@ module _ (j : Job) (few : j .size .count ≤ pieceBound) where
       let there : i < length (s .pieces) = entry-there s i sound (t .piece) in
       record {
         pieces = length-set (s .pieces) i (laidAt p) ∙ sound .pieces;
-        counts = length-mapFrom (λ k c. c + one-if (coversPixel j i p k)) 0 (s .counts) ∙ sound .counts;
+        counts = length-mapFrom (λ k c. c + oneIf (coversPixel j i p k)) 0 (s .counts) ∙ sound .counts;
         entry =
             entry-set (λ m e. (e ≡ blank) ⊎ LaidWell j m e) (s .pieces) i (laidAt p) there
             (inr (record { laid = refl; piece = t .piece; turn = t .turn; within = t .within })) (sound .entry);
         count = λ k l.
-            lay-counts j s i p k sound l ∙ ap (λ (n : ℕ). n + one-if (coversPixel j i p k)) (sound .count k l)
+            lay-counts j s i p k sound l ∙ ap (λ (n : ℕ). n + oneIf (coversPixel j i p k)) (sound .count k l)
             ∙ sym (lay-count j (s .pieces) i p k (t .piece) there (t .free));
       }
 
@@ -188,7 +188,7 @@ module _ (j : Job) (few : j .size .count ≤ pieceBound) where
       record {
         pieces = length-set (s .pieces) i blank ∙ sound .pieces;
         counts =
-            length-mapFrom (λ k c. c - one-if (coversPixel j i (entryIn (s .pieces) i .place) k)) 0 (s .counts) ∙ sound .counts;
+            length-mapFrom (λ k c. c - oneIf (coversPixel j i (entryIn (s .pieces) i .place) k)) 0 (s .counts) ∙ sound .counts;
         entry = entry-set (λ m e. (e ≡ blank) ⊎ LaidWell j m e) (s .pieces) i blank there (inl refl) (sound .entry);
         count = λ k l.
             let after = withdraw-counts j s i k sound l in

@@ -11,15 +11,15 @@ use mathlib.Core.Logic.{_⊎_, inl, inr}
 use mathlib.Core.Option.{Option, none, some}
 use Prim.Native.Nat.{ℕ, _+_, _*_, _<_, _≤_}
 use lib.ListN.{getD}
-use Rattle.model.specs.Bounded.{one-if}
+use Rattle.model.specs.Bounded.{oneIf}
 use Rattle.model.specs.Piece.{Point, corner, covers}
 use Rattle.model.specs.Layout.{Job, turnedPiece}
 use Rattle.model.specs.Lent.{pieceBound}
 use Rattle.model.specs.Cover.{Sheet, blank, laidAt, entryIn, pixelAt, coversPixel, fresh}
 use Rattle.model.specs.Cover.{Call, laying, withdrawing, afterCalls, laidCount, lastTaken}
 use Rattle.model.specs.declared.Entry.{Entry}
-use Rattle.model.proofs.Tests.{clash}
-use Rattle.model.proofs.Sums.{sum-agree}
+use Rattle.list_laws.proofs.Sums.{sum-agree}
+use Rattle.list_laws.proofs.Tests.{clash}
 use Rattle.cover_laws.specs.CoverClaims.{laidPieces, liesOn, lyingPieces, LaidPiece, CoverHolds}
 use Rattle.cover_laws.proofs.Counts.{LaidWell, reached-sound}
 use Rattle.cover_laws.proofs.Last.{entryAfter, LaidBy, entry-laid, last-names, reached-entry, reached-laid, reached-blank}
@@ -51,8 +51,8 @@ module _ (j : Job) (few : j .size .count ≤ pieceBound) (cs : List Call) where
   lying-pieces : (q : Point) → laidPieces j (after .pieces) q ≡ lyingPieces j cs q
   unfolding laidPieces lyingPieces
   lying-pieces q =
-      sum-agree (j .size .count) _ (λ i. one-if (liesOn j i q (lastTaken j (fresh j) i none cs)))
-      (λ i l. rw (reached-entry j few i cs) (ap one-if (lies-step j i q (lastTaken j (fresh j) i none cs))))
+      sum-agree (j .size .count) _ (λ i. oneIf (liesOn j i q (lastTaken j (fresh j) i none cs)))
+      (λ i l. rw (reached-entry j few i cs) (ap oneIf (lies-step j i q (lastTaken j (fresh j) i none cs))))
 
   -- each pixel's count is the number of laid pieces on it
   count-at : (x y : ℕ) → x < j .size .columns → y < j .size .rows
@@ -80,8 +80,8 @@ demand2-cover j few cs =
       entries = reached-sound j few cs .pieces;
       pixels = reached-sound j few cs .counts;
       counts = count-at j few cs;
-      counts-by-calls = λ x y l l′. count-at j few cs x y l l′ ∙ lying-pieces j few cs (record { x = x; y = y });
-      counts-by-number = reached-sound j few cs .count;
+      countsByCalls = λ x y l l′. count-at j few cs x y l l′ ∙ lying-pieces j few cs (record { x = x; y = y });
+      countsByNumber = reached-sound j few cs .count;
       laid = λ i. reached-laid j few i cs;
       unlaid = λ i. reached-blank j few i cs;
       placed = piece-placed j few cs;

@@ -15,7 +15,7 @@ use Rattle.model.specs.Cover.{Sheet, blank, laidAt, entryIn, fresh, Call, layin
 use Rattle.model.specs.Cover.{called, afterwards, afterCalls, calledPiece, taken, lastTaken, endsLaid}
 use Rattle.model.specs.declared.Placement.{Placement}
 use Rattle.model.specs.declared.Entry.{Entry}
-use Rattle.model.proofs.Tests.{and-both}
+use Rattle.list_laws.proofs.Tests.{and-both}
 use Rattle.cover_laws.proofs.Calls.{lay-given, withdraw-given, calls-append}
 use Rattle.cover_laws.proofs.Counts.{Sound, lay-entry, lay-others, withdraw-entry, withdraw-others, call-sound, fresh-sound, fresh-entry}
 

@@ -1,13 +1,14 @@
 -- Document 01, 'Sheet and panels' and 'Start, layout text, sheet': the counts stand row by row, so that pixel (x, y) of a sheet of L
 -- columns has the number y × L + x, and each number below W × L is that of just one pixel. Assumes nothing.
 use mathlib.Core.Path.{_≡_, _∙_, ap}
-use Prim.Native.Nat.{ℕ, zero, suc, _+_, _*_, _/_, _%_, _<_}
+use Prim.Native.Nat.{ℕ, _+_, _*_, _/_, _%_, _<_}
 use native.Mathlib.Nat.{mul-add-div-right, mul-add-mod-self-right, mod-eq-of-lt, div-eq-of-lt, mod-lt}
-use native.Mathlib.Nat.{div-add-mod', div-lt-iff-lt-mul, mul-le-mul-right, mul-zero}
+use native.Mathlib.Nat.{div-add-mod', div-lt-iff-lt-mul, mul-le-mul-right, mul-comm}
 use native.Mathlib.Omega.{arith}
 use Rattle.model.specs.Piece.{Point}
 use Rattle.model.specs.Layout.{Job}
 use Rattle.model.specs.Cover.{pixelAt}
+use Rattle.list_laws.proofs.Numbers.{factor-positive}
 
 -- the pixel with number y × L + x is (x, y)
 pub pixel-at : (j : Job) (x y : ℕ) → x < j .size .columns → pixelAt j (y * j .size .columns + x) ≡ record { x = x; y = y }
@@ -22,17 +23,14 @@ pub number-below : (j : Job) (x y : ℕ) → x < j .size .columns → y < j .siz
 number-below j x y l l′ = omega (arith, mul-le-mul-right (j .size .columns) l′)
 
 -- q is a pixel of the sheet and has the number k
-pub record OnSheet (j : Job) (k : ℕ) (q : Point) : Type 0 where
+pub record PixelOnSheet (j : Job) (k : ℕ) (q : Point) : Type 0 where
   pub column : q .x < j .size .columns
   pub row : q .y < j .size .rows
   pub number : q .y * j .size .columns + q .x ≡ k
 
 -- a number below W × L is that of a pixel of the sheet
-pub number-pixel : (j : Job) (k : ℕ) → k < j .size .rows * j .size .columns → OnSheet j k (pixelAt j k)
+pub number-pixel : (j : Job) (k : ℕ) → k < j .size .rows * j .size .columns → PixelOnSheet j k (pixelAt j k)
 number-pixel j k l =
-    let some : 0 < j .size .columns = positive (j .size .columns) l in
+    let some : 0 < j .size .columns =
+    factor-positive (j .size .columns) (j .size .rows) (omega (arith, mul-comm (j .size .rows) (j .size .columns))) in
     record { column = mod-lt k some; row = div-lt-iff-lt-mul some .1 l; number = div-add-mod' k (j .size .columns) }
-  where
-    positive : (c : ℕ) → k < j .size .rows * c → 0 < c
-    positive zero h = let e = mul-zero (j .size .rows) in omega arith
-    positive (suc c) h = omega arith

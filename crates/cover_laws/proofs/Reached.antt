@@ -23,8 +23,8 @@ use Rattle.model.specs.declared.Turn.{Turn}
 use Rattle.model.specs.declared.Turn.the-variants.{Zero, Quarter, Half, ThreeQuarters}
 use Rattle.model.specs.declared.Placement.{Placement}
 use Rattle.model.specs.declared.Entry.{Entry}
-use Rattle.model.proofs.Tests.{and-left, and-right, and-both, or-cases, or-right, clash, decided}
-use Rattle.model.proofs.Bounded.{all-at, all-from}
+use Rattle.list_laws.proofs.Bounded.{all-at, all-from}
+use Rattle.list_laws.proofs.Tests.{and-left, and-right, and-both, or-cases, or-right, clash, decided}
 use Rattle.cover_laws.proofs.Calls.{LayTaken, WithdrawTaken, lay-taken, calls-append}
 use Rattle.cover_laws.proofs.Counts.{Sound, LaidWell, lay-entry, lay-others, withdraw-entry, withdraw-others, lay-sound, withdraw-sound, fresh-entry, reached-sound, same-count}
 

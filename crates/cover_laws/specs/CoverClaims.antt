@@ -6,7 +6,7 @@ use mathlib.Core.Option.{Option, none, some}
 use mathlib.Core.Path.{_≡_}
 use Prim.Native.Nat.{ℕ, _<_, _+_, _*_}
 use lib.ListN.{length, getD}
-use Rattle.model.specs.Bounded.{sumBelow, one-if}
+use Rattle.model.specs.Bounded.{sumBelow, oneIf}
 use Rattle.model.specs.Piece.{Point, corner, covers}
 use Rattle.model.specs.Layout.{Job, turnedPiece, allowed, inside}
 use Rattle.model.specs.Cover.{entryIn, Call, laying, withdrawing, fresh, lastTaken, Sheet, laidAt, blank, laidCount, endsLaid}
@@ -18,7 +18,7 @@ use Rattle.model.specs.Lent.{pieceBound}
 unfoldable pub laidPieces : Job → List Entry → Point → ℕ
 laidPieces j es q =
     sumBelow (j .size .count)
-    (λ i. one-if (entryIn es i .laid && covers (turnedPiece j i (entryIn es i .place .turn)) (corner (entryIn es i .place)) q))
+    (λ i. oneIf (entryIn es i .laid && covers (turnedPiece j i (entryIn es i .place .turn)) (corner (entryIn es i .place)) q))
 
 -- piece i, whose last call that was not refused is the given one, lies on pixel q: the call is a lay there
 abbrev pub liesOn : Job → ℕ → Point → Option Call → Bool
@@ -28,7 +28,7 @@ liesOn j i q (some (withdrawing m)) = false
 
 -- the number of pieces that lie on pixel q after the calls, each by the last of its calls that was not refused
 unfoldable pub lyingPieces : Job → List Call → Point → ℕ
-lyingPieces j cs q = sumBelow (j .size .count) (λ i. one-if (liesOn j i q (lastTaken j (fresh j) i none cs)))
+lyingPieces j cs q = sumBelow (j .size .count) (λ i. oneIf (liesOn j i q (lastTaken j (fresh j) i none cs)))
 
 -- a laid piece: its last call that was not refused is a lay of it, its entry holds that lay's placement, and it is a piece of the job,
 -- in an allowed turn and inside
@@ -49,10 +49,10 @@ pub record CoverHolds (j : Job) (cs : List Call) (s : Sheet) : Type 0 where
   pub counts : (x y : ℕ) → x < j .size .columns → y < j .size .rows
       → getD (s .counts) (y * j .size .columns + x) 0 ≡ laidPieces j (s .pieces) (record { x = x; y = y })
   -- the count of pixel (x, y), by the calls alone
-  pub counts-by-calls : (x y : ℕ) → x < j .size .columns → y < j .size .rows
+  pub countsByCalls : (x y : ℕ) → x < j .size .columns → y < j .size .rows
       → getD (s .counts) (y * j .size .columns + x) 0 ≡ lyingPieces j cs (record { x = x; y = y })
   -- the count of the pixel with number k
-  pub counts-by-number : (k : ℕ) → k < j .size .rows * j .size .columns → getD (s .counts) k 0 ≡ laidCount j (s .pieces) k
+  pub countsByNumber : (k : ℕ) → k < j .size .rows * j .size .columns → getD (s .counts) k 0 ≡ laidCount j (s .pieces) k
   -- a piece is laid exactly when the last of its calls that was not refused is a lay
   pub laid : (i : ℕ) → entryIn (s .pieces) i .laid ≡ endsLaid (lastTaken j (fresh j) i none cs)
   -- a piece that is not laid has turn 0 and corner (0, 0), after a withdraw too

@@ -5,7 +5,7 @@ use mathlib.Core.Logic.{_≢_}
 use mathlib.Core.Path.{_≡_}
 use Prim.Native.Nat.{ℕ, _+_, _*_, _<_, _≤_, _-_}
 use lib.ListN.{getD}
-use Rattle.model.specs.Bounded.{one-if}
+use Rattle.model.specs.Bounded.{oneIf}
 use Rattle.model.specs.Layout.{Job}
 use Rattle.model.specs.Refusal.{refused, laidAlready, notLaid}
 use Rattle.model.specs.Cover.{Sheet, laidAt, entryIn, coversPixel, withdraw, laying, called, sheetWell, blank, withdrawing}
@@ -17,7 +17,7 @@ pub record LayGives (j : Job) (s : Sheet) (i : ℕ) (p : Placement) (s′ : Shee
   pub entry : entryIn (s′ .pieces) i ≡ laidAt p
   pub others : (m : ℕ) → m ≢ i → entryIn (s′ .pieces) m ≡ entryIn (s .pieces) m
   -- each count is one more exactly where the piece covers the pixel, and at most the number of pieces
-  pub counts : (k : ℕ) → k < j .size .rows * j .size .columns → getD (s′ .counts) k 0 ≡ getD (s .counts) k 0 + one-if (coversPixel j i p k)
+  pub counts : (k : ℕ) → k < j .size .rows * j .size .columns → getD (s′ .counts) k 0 ≡ getD (s .counts) k 0 + oneIf (coversPixel j i p k)
   pub bound : (k : ℕ) → k < j .size .rows * j .size .columns → getD (s′ .counts) k 0 ≤ j .size .count
   -- the sheet is one that some list of calls gives
   pub well : sheetWell j s′ ≡ true
@@ -31,10 +31,10 @@ pub record WithdrawGives (j : Job) (s : Sheet) (i : ℕ) (s′ : Sheet) : Type 0
   pub entry : entryIn (s′ .pieces) i ≡ blank
   pub others : (m : ℕ) → m ≢ i → entryIn (s′ .pieces) m ≡ entryIn (s .pieces) m
   -- the old count is at least 1 where the piece covered the pixel: the subtraction does not stop at 0
-  pub there : (k : ℕ) → k < j .size .rows * j .size .columns → one-if (coversPixel j i (entryIn (s .pieces) i .place) k) ≤ getD (s .counts) k 0
+  pub there : (k : ℕ) → k < j .size .rows * j .size .columns → oneIf (coversPixel j i (entryIn (s .pieces) i .place) k) ≤ getD (s .counts) k 0
   -- each count is one less exactly where the piece covered the pixel, and at most the number of pieces
   pub counts : (k : ℕ) → k < j .size .rows * j .size .columns
-      → getD (s′ .counts) k 0 ≡ getD (s .counts) k 0 - one-if (coversPixel j i (entryIn (s .pieces) i .place) k)
+      → getD (s′ .counts) k 0 ≡ getD (s .counts) k 0 - oneIf (coversPixel j i (entryIn (s .pieces) i .place) k)
   pub bound : (k : ℕ) → k < j .size .rows * j .size .columns → getD (s′ .counts) k 0 ≤ j .size .count
   -- the sheet is one that some list of calls gives
   pub well : sheetWell j s′ ≡ true

@@ -14,7 +14,7 @@ use Rattle.model.specs.Lent.{pieceBound}
 use Rattle.model.specs.declared.Direction.the-variants.{Horizontal}
 use Rattle.job_laws.proofs.Turned.{turned-extent}
 use Rattle.overlap_laws.proofs.Penalty.{penalty-bound}
-use Rattle.descent_laws.specs.Sums.{sumBound, Ordered}
+use Rattle.descent_laws.specs.Sums.{sumBound, PairOrdered}
 use Rattle.descent_laws.specs.Claims.{ValidWeights, RoundClaims}
 use Rattle.descent_laws.proofs.Sums.{mem-pair, piece-at-most}
 
@@ -74,7 +74,7 @@ piece-columns j small v i l = turned-extent Horizontal (placeOf v i .turn) (j .p
 pub pair-penalty-at-most : (j : Job) → BoxesSmall j → (v : Layout) (p : Pair) → List·Memᴰ p (pairs (j .size .count)) → pairPenalty j v p ≤ sideBound
 unfolding pairPenalty
 pair-penalty-at-most j small v p m =
-    let o : Ordered 0 (j .size .count) p = mem-pair (j .size .count) p m in
+    let o : PairOrdered 0 (j .size .count) p = mem-pair (j .size .count) p m in
     let second : p .second < j .size .count = o .below in
     let first : p .first < j .size .count = (let l = o .rising in omega arith) in
     penalty-bound _ _ _ _ Horizontal (piece-columns j small v (p .first) first) (piece-columns j small v (p .second) second)

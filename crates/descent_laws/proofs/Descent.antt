@@ -25,13 +25,14 @@ use Rattle.model.specs.declared.End.the-variants.{Spent}
 use Rattle.model.specs.declared.Line.{Line}
 use Rattle.model.specs.declared.Line.the-variants.{InRow, InColumn}
 use Rattle.model.specs.declared.Placement.{Placement}
+use Rattle.list_laws.proofs.Lists.{member-at}
 use Rattle.descent_laws.specs.Claims.{ValidWeights, ValidLayout, Rival, DescentClaims}
 use Rattle.descent_laws.proofs.Sums.{placed-anew, zero-exactly}
-use Rattle.descent_laws.specs.Search.{Found}
+use Rattle.descent_laws.specs.Search.{LeastFound}
 use Rattle.descent_laws.proofs.Search.{Searched, searched}
 use Rattle.descent_laws.specs.Trials.{trialOf, Proper}
-use Rattle.descent_laws.proofs.Trials.{position, at-mem, trial-mem, mem-trial}
-use Rattle.descent_laws.proofs.Run.{impossible, trialAt, Ran, ran}
+use Rattle.descent_laws.proofs.Trials.{position, trial-mem, mem-trial}
+use Rattle.descent_laws.proofs.Run.{impossible, trialAt, DescentRan, ran}
 
 -- ── layouts ──
 
@@ -69,7 +70,7 @@ record Step (j : Job) (ws : List ℕ) (v : Layout) (i : ℕ) (t : Turn) (line : 
 
 module _ (j : Job) (ws : List ℕ) (v : Layout) (i : ℕ) (t : Turn) (line : Line) where
   -- by the test of the least against the present sum: a move
-  moved-at : (b : Best) (w : Layout) → Found j ws v i t line b → (c : Bool) → ltb (b .sum) (pieceSum j ws v i) ≡ c
+  moved-at : (b : Best) (w : Layout) → LeastFound j ws v i t line b → (c : Bool) → ltb (b .sum) (pieceSum j ws v i) ≡ c
       → elim c as (λ _. Attempt) [ true ↦ moved (movedTo v i t line (b .at)) | false ↦ quiet ] ≡ moved w → Step j ws v i t line w
   moved-at b w f true e h =
       let less : b .sum < pieceSum j ws v i = ltb-true _ _ e in
@@ -83,7 +84,7 @@ module _ (j : Job) (ws : List ℕ) (v : Layout) (i : ℕ) (t : Turn) (line : Lin
   judged-moved (some b) w s h = moved-at b w s _ refl h
 
   -- by the same test: quiet
-  quiet-at : (b : Best) → Found j ws v i t line b → (c : Bool) → ltb (b .sum) (pieceSum j ws v i) ≡ c
+  quiet-at : (b : Best) → LeastFound j ws v i t line b → (c : Bool) → ltb (b .sum) (pieceSum j ws v i) ≡ c
       → elim c as (λ _. Attempt) [ true ↦ moved (movedTo v i t line (b .at)) | false ↦ quiet ] ≡ quiet
       → (a : ℕ) → inside j i (onLine line t a) ≡ true → pieceSum j ws v i ≤ pieceSum j ws (movedTo v i t line a) i
   quiet-at b f true e h = impossible (cc)
@@ -199,11 +200,11 @@ some-trial j v l h =
 
 -- the run of the job's trials
 descent-ran : (j : Job) (ws : List ℕ) (budget : ℕ) (v : Layout) → 0 < j .size .count → ValidLayout j v
-    → Ran (weightedSum j ws) (trials j) (ValidLayout j) (Quiet j ws) v budget (descend j ws budget v)
+    → DescentRan (weightedSum j ws) (trials j) (ValidLayout j) (Quiet j ws) v budget (descend j ws budget v)
 unfolding descend
 descent-ran j ws budget v l h =
     ran (weightedSum j ws) (attempt j ws) (trials j) (ValidLayout j) (Quiet j ws) (some-trial j v l h)
-    (λ u w m b g e. attempt-moved j ws u w (trialAt (trials j) m) (mem-trial j _ (at-mem noTrial (trials j) m b)) g e)
+    (λ u w m b g e. attempt-moved j ws u w (trialAt (trials j) m) (mem-trial j _ (member-at (trials j) m noTrial b)) g e)
     (λ u m b g e. attempt-quiet j ws u (trialAt (trials j) m) e) v budget h
 
 -- demand 3's claims hold of a descent
@@ -229,7 +230,7 @@ descent-claims j ws budget v l weights h =
     d : Descent
     d = descend j ws budget v
 
-    run : Ran (weightedSum j ws) (trials j) (ValidLayout j) (Quiet j ws) v budget d
+    run : DescentRan (weightedSum j ws) (trials j) (ValidLayout j) (Quiet j ws) v budget d
     run = descent-ran j ws budget v l h
 
     -- arithmetic proves these two claims and every weaker one, so they are said in full here too

@@ -103,11 +103,11 @@ pairs-once n m k d = rising-once (pairKey n) 0 (n * n) (pairs n) d (pairs-rise n
 -- ── trials ──
 
 -- a turn's place in the order
-abbrev pub turnNumber : Turn → ℕ
-turnNumber Zero = 0
-turnNumber Quarter = 1
-turnNumber Half = 2
-turnNumber ThreeQuarters = 3
+abbrev pub turnOrder : Turn → ℕ
+turnOrder Zero = 0
+turnOrder Quarter = 1
+turnOrder Half = 2
+turnOrder ThreeQuarters = 3
 
 -- a direction's place in the order
 abbrev pub directionNumber : Direction → ℕ
@@ -116,27 +116,27 @@ directionNumber Vertical = 1
 
 -- a trial's place in the order: by piece, then turn, horizontal before vertical
 abbrev pub trialKey : Trial → ℕ
-trialKey k = 8 * k .piece + (2 * turnNumber (k .turn) + directionNumber (k .direction))
+trialKey k = 8 * k .piece + (2 * turnOrder (k .turn) + directionNumber (k .direction))
 
 -- the two trials of a piece in a turn rise, and so does none
 two-rise : (i : ℕ) (t : Turn) (b : Bool)
-    → Rising trialKey (8 * i + 2 * turnNumber t) (8 * i + 2 * turnNumber t + 2)
+    → Rising trialKey (8 * i + 2 * turnOrder t) (8 * i + 2 * turnOrder t + 2)
     (elim b as (λ _. List Trial) [ true ↦ trialOf i t Horizontal ∷ trialOf i t Vertical ∷ [] | false ↦ [] ])
 two-rise i t true = (omega arith, (omega arith, omega arith))
 two-rise i t false = omega arith
 
 -- the trials of a piece in a turn rise
-turn-rise : (j : Job) (i : ℕ) (t : Turn) → Rising trialKey (8 * i + 2 * turnNumber t) (8 * i + 2 * turnNumber t + 2) (turnTrials j i t)
+turn-rise : (j : Job) (i : ℕ) (t : Turn) → Rising trialKey (8 * i + 2 * turnOrder t) (8 * i + 2 * turnOrder t + 2) (turnTrials j i t)
 unfolding turnTrials
 turn-rise j i t = two-rise i t (allowed j i t)
 
 -- where the trials of a piece in a turn begin in the order
 abbrev turnLow : ℕ → Turn → ℕ
-turnLow i t = 8 * i + 2 * turnNumber t
+turnLow i t = 8 * i + 2 * turnOrder t
 
 -- and where they end
 abbrev turnHigh : ℕ → Turn → ℕ
-turnHigh i t = 8 * i + 2 * turnNumber t + 2
+turnHigh i t = 8 * i + 2 * turnOrder t + 2
 
 -- the trials of a piece rise
 piece-rise : (j : Job) (i : ℕ) → Rising trialKey (turnLow i Zero) (turnHigh i ThreeQuarters) (pieceTrials j i)

@@ -16,7 +16,7 @@ use borrow.Author.Tests.{ltb-true, ltb-false, eqb-true, eqb-false}
 use lib.Dec.{ltb, eqb}
 use lib.ListN.{length, getD}
 use Rattle.model.specs.Layout.{Layout}
-use Rattle.model.specs.Descent.{Trial, Attempt, moved, quiet, Progress, Descent, after, begin, proceed, noTrial, step, ended, descendFrom}
+use Rattle.model.specs.Descent.{Trial, Attempt, moved, quiet, Progress, Descent, trialAfter, begin, proceed, noTrial, step, ended, descendFrom}
 use Rattle.model.specs.declared.End.{End}
 use Rattle.model.specs.declared.End.the-variants.{Clear, Settled, Spent}
 
@@ -54,7 +54,7 @@ longer-at Holds count next quietCount w there holds false e =
 
 -- one more trial that has the property makes the window one longer
 longer : (Holds : ℕ → Type 0) (count next quietCount : ℕ) → Window Holds count next quietCount → next < count → Holds next
-    → Window Holds count (after count next) (suc quietCount)
+    → Window Holds count (trialAfter count next) (suc quietCount)
 longer Holds count next quietCount w there holds = longer-at Holds count next quietCount w there holds _ refl
 
 -- a window of all trials
@@ -72,7 +72,7 @@ after-at count next h true e = ltb-true _ _ e
 after-at count next h false e = h
 
 -- the trial after one of the list is one of the list
-after-there : (count next : ℕ) → 0 < count → after count next < count
+pub after-there : (count next : ℕ) → 0 < count → trialAfter count next < count
 after-there count next h = after-at count next h _ refl
 
 -- ── a run ──
@@ -87,7 +87,7 @@ one-more count s (moved v) = refl
 one-more count s quiet = refl
 
 -- what holds of a run's outcome
-pub record Ran (sum : Layout → ℕ) (ts : List Trial) (Good : Layout → Type 0) (Quiet : Layout → Trial → Type 0)
+pub record DescentRan (sum : Layout → ℕ) (ts : List Trial) (Good : Layout → Type 0) (Quiet : Layout → Trial → Type 0)
     (v : Layout) (budget : ℕ) (d : Descent) : Type 0 where
   pub good : Good (d .layout)
   pub sumOfLayout : d .sum ≡ sum (d .layout)
@@ -164,7 +164,7 @@ module _ (sum : Layout → ℕ) (try : Layout → Trial → Attempt) (ts : List 
 
     -- what holds of the outcome of a run from v
     abbrev Outcome : Layout → ℕ → Descent → Type 0
-    Outcome v budget d = Ran sum ts Good Quiet v budget d
+    Outcome v budget d = DescentRan sum ts Good Quiet v budget d
 
     -- what follows where the run ends clear
     ran-clear : (v : Layout) (s : Progress) (budget : ℕ) → Reached v s → s .made ≤ budget → sum (s .layout) ≡ 0

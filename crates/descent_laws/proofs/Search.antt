@@ -16,8 +16,8 @@ use Rattle.model.specs.Search.{Best, places, sumAt, least, searchLine}
 use Rattle.model.specs.declared.Turn.{Turn}
 use Rattle.model.specs.declared.Line.{Line}
 use Rattle.model.specs.declared.Line.the-variants.{InRow, InColumn}
-use Rattle.model.proofs.Tests.{and-left, and-right, and-both}
-use Rattle.descent_laws.specs.Search.{Found}
+use Rattle.list_laws.proofs.Tests.{and-left, and-right, and-both}
+use Rattle.descent_laws.specs.Search.{LeastFound}
 
 -- ── the inside corners on a line ──
 
@@ -98,7 +98,7 @@ least-is f (suc n) = least-step f n (least f n) (least-is f n) _ refl
 -- what an answer of the line search means: none, no inside corner lies on the line; or the best is found
 abbrev pub Searched : Job → List ℕ → Layout → ℕ → Turn → Line → Option Best → Type 0
 Searched j ws v i t line none = (a : ℕ) → inside j i (onLine line t a) ≡ true → ⊥
-Searched j ws v i t line (some b) = Found j ws v i t line b
+Searched j ws v i t line (some b) = LeastFound j ws v i t line b
 
 -- by how many inside corners there are
 searched-at : (j : Job) (ws : List ℕ) (v : Layout) (i : ℕ) (t : Turn) (line : Line) (n : ℕ) → places j i t line ≡ n

@@ -16,10 +16,10 @@ use Rattle.model.specs.Piece.{corner}
 use Rattle.model.specs.Overlap.{penalty}
 use Rattle.model.specs.Layout.{Job, Layout, Pair, turnedPiece, origin, pairs, pairsWith, pairsFrom, pairPenalty, names, sumOver, weightedSum, pieceSum}
 use Rattle.model.specs.declared.Placement.{Placement}
-use Rattle.model.proofs.Tests.{or-neither, clash, fails}
+use Rattle.list_laws.proofs.Tests.{or-neither, clash, fails}
 use Rattle.overlap_laws.proofs.Share.{share-from, share-witness}
 use Rattle.overlap_laws.proofs.Penalty.{zero-penalty, penalty-zero}
-use Rattle.descent_laws.specs.Sums.{Ordered}
+use Rattle.descent_laws.specs.Sums.{PairOrdered}
 use Rattle.descent_laws.specs.Claims.{ValidWeights, NoSharedPixel}
 
 -- ── sums over pairs ──
@@ -110,7 +110,7 @@ mem-with i k (suc left) p m =
     (λ m′. let r = mem-with i (suc k) left p m′ in (r .0, omega arith, omega arith)) (List·Memᴰ·cases-cons m)
 
 -- a pair with first number from i on has a higher second number
-pub mem-from : (i left : ℕ) (p : Pair) → List·Memᴰ p (pairsFrom i left) → Ordered i (i + left) p
+pub mem-from : (i left : ℕ) (p : Pair) → List·Memᴰ p (pairsFrom i left) → PairOrdered i (i + left) p
 unfolding pairsFrom
 mem-from i zero p m = absurd (List·Memᴰ·not-nil m)
 mem-from i (suc left) p m =
@@ -120,7 +120,7 @@ mem-from i (suc left) p m =
     (List·Memᴰ·append-cases (pairsWith i (suc i) left) m)
 
 -- every one of the pairs is of two numbers below n
-pub mem-pair : (n : ℕ) (p : Pair) → List·Memᴰ p (pairs n) → Ordered 0 n p
+pub mem-pair : (n : ℕ) (p : Pair) → List·Memᴰ p (pairs n) → PairOrdered 0 n p
 mem-pair n p m = let r = mem-from 0 n p m in record { from = omega arith; rising = r .rising; below = omega arith }
 
 -- ── a piece placed anew ──

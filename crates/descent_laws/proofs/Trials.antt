@@ -32,12 +32,6 @@ position {A} {a} d (x ∷ l) m =
     (λ (m′ : List·Memᴰ a l). let r = position d l m′ in record { number = suc (r .number); below = (let h = r .below in omega arith); there = r .there })
     (List·Memᴰ·cases-cons m)
 
--- what stands at a number is an element
-pub at-mem : {A : Type 0} (d : A) (l : List A) (k : ℕ) → k < length l → List·Memᴰ (getD l k d) l
-at-mem d [] k h = absurd (omega arith)
-at-mem d (x ∷ l) zero h = List·Memᴰ·head refl
-at-mem d (x ∷ l) (suc k) h = List·Memᴰ·tail (at-mem d l k (omega arith))
-
 -- ── trials ──
 
 -- both directions are there

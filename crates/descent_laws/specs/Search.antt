@@ -10,7 +10,7 @@ use Rattle.model.specs.declared.Turn.{Turn}
 use Rattle.model.specs.declared.Line.{Line}
 
 -- b is attained at an inside corner, no inside corner has a smaller sum, and every smaller coordinate has a larger one
-pub record Found (j : Job) (ws : List ℕ) (v : Layout) (i : ℕ) (t : Turn) (line : Line) (b : Best) : Type 0 where
+pub record LeastFound (j : Job) (ws : List ℕ) (v : Layout) (i : ℕ) (t : Turn) (line : Line) (b : Best) : Type 0 where
   pub insideSheet : inside j i (onLine line t (b .at)) ≡ true
   pub attained : b .sum ≡ pieceSum j ws (movedTo v i t line (b .at)) i
   pub least : (a : ℕ) → inside j i (onLine line t a) ≡ true → b .sum ≤ pieceSum j ws (movedTo v i t line a) i

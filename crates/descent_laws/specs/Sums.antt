@@ -5,7 +5,7 @@ use Rattle.model.specs.Guided.{weightBound}
 use Rattle.model.specs.Piece.{sideBound}
 
 -- two numbers from i on and below n, the lower first
-pub record Ordered (i n : ℕ) (p : Pair) : Type 0 where
+pub record PairOrdered (i n : ℕ) (p : Pair) : Type 0 where
   pub from : i ≤ p .first
   pub rising : p .first < p .second
   pub below : p .second < n

@@ -2,7 +2,7 @@
 use mathlib.Core.Bool.{Bool, true, false, not, _||_}
 use mathlib.Core.List.{List, [], _∷_, _++_}
 use mathlib.Core.Path.{_≡_, refl, sym, _∙_, ap, subst}
-use Prim.Native.Nat.{ℕ, zero, suc, _+_, _*_, _≤_, _<_}
+use Prim.Native.Nat.{ℕ, zero, suc, _+_, _*_, _<_}
 use native.Mathlib.Nat.{add-zero, mul-comm}
 use native.Mathlib.Omega.{arith}
 use lib.Dec.{ltb, eqb}
@@ -15,10 +15,10 @@ use Rattle.model.specs.Text.{andThen, causeIn}
 use Rattle.model.specs.JobText.{JobLine, PieceLine, pixelMark, Rows, rowsAt, boxShape, PieceText, rowsCauses, asPieceText, pieceLine, pieceAt, Pieces, withPiece, noPieces, piecesAt, asLent, bufferCauses, jobLine, readJob}
 use Rattle.model.specs.declared.Refusal.{Refusal}
 use borrow.Author.Tests.{eq-eqb, ne-eqb}
+use Rattle.list_laws.proofs.Stores.{sets-append}
 use Rattle.text_laws.specs.Outcomes.{Unless}
 use Rattle.text_laws.proofs.Outcomes.{refused-given, given-before, given-unless}
 use Rattle.text_laws.proofs.Store.{tight-agree}
-use Rattle.text_fields.proofs.Stores.{sets-append}
 use Rattle.job_check.specs.Boxes.{boxIn}
 use Rattle.job_lines.specs.Lines.{refusalAt, headOf, jobLineOf, jobAnswer, pieceOf, pieceLineOf, pieceAnswer}
 use Rattle.job_rows.specs.Stores.{rowsAnswer, RowsStored}
@@ -148,18 +148,18 @@ abbrev pub fillPieces : List ℕ → JobLine → ℕ → ℕ → ℕ → ℕ →
 fillPieces text j left i area p line table store = andThen (piecesAt text j left i area p line) (full i area table store)
 
 -- where reading stands after a piece
-abbrev pub placeOf : ℕ → ℕ → PieceText → Place
-placeOf area line t = record { area = area + t .columns * t .rows; next = t .next; line = line + t .rows + 1 }
+abbrev pub placeRead : ℕ → ℕ → PieceText → Place
+placeRead area line t = record { area = area + t .columns * t .rows; next = t .next; line = line + t .rows + 1 }
 
 -- what an answer says of a piece
 pub record Placed (area line : ℕ) (at : Place) (x : Outcome PieceText) : Type 0 where
   pub piece : PieceText
   pub gives : x ≡ given piece
-  pub same : at ≡ placeOf area line piece
+  pub same : at ≡ placeRead area line piece
 
 pub place-told : (area line : ℕ) (at : Place) (x : Outcome PieceText) → place.Read at ≡ placeAnswer area line x → Placed area line at x
 place-told area line at (refused s) e = let z : _≡_ {A = ℕ} 0 1 = cc in absurd (omega arith)
-place-told area line at (given t) e = let z : at ≡ placeOf area line t = cc in record { piece = t; gives = refl; same = z }
+place-told area line at (given t) e = let z : at ≡ placeRead area line t = cc in record { piece = t; gives = refl; same = z }
 
 pub place-denied : (area line : ℕ) (s : Refusal) (x : Outcome PieceText) → place.Refused s ≡ placeAnswer area line x → x ≡ refused s
 place-denied area line s (refused t) e = let z : s ≡ t = cc in ap refused (sym z)
@@ -282,11 +282,6 @@ pieces-count text j (suc left) i area p line x e =
     rw (← z) (ap suc n)
 
 -- ── the room ──
-
--- a part with no element in front
-pub no-prefix : {A : Type 0} (l t : List A) → length l ≡ 0 → l ++ t ≡ t
-no-prefix [] t e = refl
-no-prefix (x ∷ l) t e = absurd (omega arith)
 
 module _ (text : List ℕ) (j : JobLine) (tableLength pixelsLength : ℕ) where
   -- the rest of reading behind the pieces

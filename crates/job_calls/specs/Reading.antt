@@ -6,7 +6,7 @@ use Prim.Native.Nat.{ℕ, suc, _+_, _*_, _≤_}
 use lib.ListN.{length, set}
 use lib.Seq.{sets}
 use Rattle.model.specs.Refusal.{Outcome, refused, given, unless}
-use Rattle.model.specs.Lent.{Lent}
+use Rattle.model.specs.Lent.{Lent, areaBound}
 use Rattle.model.specs.Text.{andThen}
 use Rattle.model.specs.JobText.{JobLine, PieceLine, rowsAt, PieceText, rowsCauses, asPieceText, Pieces, piecesAt, asLent, bufferCauses}
 use Rattle.model.specs.Calls.{tableAfter, storeAfter}
@@ -31,9 +31,9 @@ placeAnswer area line (given t) =
     piece.Read (record { area = area + t .columns * t .rows; next = t .next; line = line + t .rows + 1 })
 
 -- reading stands inside the text, with areas within 65,536 and at most 256 lines on
-abbrev pub Within : List ℕ → ℕ → PieceAnswer → Type 0
-Within text line (piece.Refused r) = Unit {0}
-Within text line (piece.Read p) = (p .next ≤ length text) × (p .area ≤ 65536) × (p .line ≤ line + 256)
+abbrev pub PlaceWithin : List ℕ → ℕ → PieceAnswer → Type 0
+PlaceWithin text line (piece.Refused r) = Unit {0}
+PlaceWithin text line (piece.Read p) = (p .next ≤ length text) × (p .area ≤ areaBound) × (p .line ≤ line + 256)
 
 -- the pixels of a piece that is read are stored
 abbrev pub BoxStored : ℕ → List ℕ → List ℕ → Outcome PieceText → Type 0
@@ -57,13 +57,13 @@ piecesAnswer (refused r) = pieces.Refused r
 piecesAnswer (given x) = pieces.Read (length (x .pixels))
 
 -- the table and the pixels of pieces that are read are stored
-pub record Filled (table lastTable : List (List ℕ)) (store lastStore : List ℕ) (x : Pieces) : Type 0 where
+pub record JobFilled (table lastTable : List (List ℕ)) (store lastStore : List ℕ) (x : Pieces) : Type 0 where
   pub entries : lastTable ≡ sets table 0 (x .table)
   pub pixels : lastStore ≡ sets store 0 (x .pixels)
 
 abbrev pub PiecesStored : List (List ℕ) → List (List ℕ) → List ℕ → List ℕ → Outcome Pieces → Type 0
 PiecesStored table lastTable store lastStore (refused r) = Unit {0}
-PiecesStored table lastTable store lastStore (given x) = Filled table lastTable store lastStore x
+PiecesStored table lastTable store lastStore (given x) = JobFilled table lastTable store lastStore x
 
 -- ── the job ──
 

@@ -17,9 +17,10 @@ ghost use mathlib.Core.Path.{_≡_};
 ghost use Prim.Native.Nat.{_+_, _*_, _<_, _≤_, _^_};
 ghost use lib.ListN.{length, set};
 ghost use Rattle.model.specs.JobText.{pieceAt, piecesAt, readJob};
+ghost use Rattle.model.specs.Lent.{areaBound, pieceBound, sideBound};
 ghost use Rattle.job_check.specs.Boxes.{Side};
 ghost use Rattle.job_lines.specs.Lines.{jobLineOf, pieceLineOf};
-ghost use Rattle.job_calls.specs.Reading.{Within, boxAt, placeAnswer, BoxStored, PieceStored, piecesAnswer, PiecesStored, roomed, Leaves};
+ghost use Rattle.job_calls.specs.Reading.{PlaceWithin, boxAt, placeAnswer, BoxStored, PieceStored, piecesAnswer, PiecesStored, roomed, Leaves};
 
 // Where reading stands: the areas of the boxes so far, the position and the line of what follows.
 struct Place {
@@ -52,8 +53,8 @@ fn put_entry(table: &mut [[u8; 3]], i: usize, entry: [u8; 3])
 
 // Stores the rows of a piece and tests its box, whose pixels stand in the text, each row 5 bytes longer than the box.
 fn fill_box(text: &[u8], h: PieceHead, area: usize, line: usize, pixels: &mut [u8]) -> PieceAnswer
-    requires { ⌜ (h .next ≤ length (now text)) × Side (h .columns) × Side (h .rows) × (area + h .columns * h .rows ≤ 65536) × (line ≤ 65536) ⌝ }
-    ensures { λ r. ⌜ (r ≡ placeAnswer area line (boxAt (now (text .entry)) line (pieceLineOf h))) × Within (now (text .entry)) line r × BoxStored area (now (pixels .entry)) (now (pixels .exit)) (boxAt (now (text .entry)) line (pieceLineOf h)) ⌝ }
+    requires { ⌜ (h .next ≤ length (now text)) × Side (h .columns) × Side (h .rows) × (area + h .columns * h .rows ≤ areaBound) × (line ≤ 65536) ⌝ }
+    ensures { λ r. ⌜ (r ≡ placeAnswer area line (boxAt (now (text .entry)) line (pieceLineOf h))) × PlaceWithin (now (text .entry)) line r × BoxStored area (now (pixels .entry)) (now (pixels .exit)) (boxAt (now (text .entry)) line (pieceLineOf h)) ⌝ }
 {
     let start = h.next;
     match fill_rows(text, start, h.columns, h.rows, line + 1, pixels, area) {
@@ -80,8 +81,8 @@ fn fill_piece(
     table: &mut [[u8; 3]],
     pixels: &mut [u8],
 ) -> PieceAnswer
-    requires { ⌜ (at .next ≤ length (now text)) × (at .area ≤ 65536) × (at .line ≤ 65536) ⌝ }
-    ensures { λ r. ⌜ (r ≡ placeAnswer (at .area) (at .line) (pieceAt (now (text .entry)) (jobLineOf j) i (at .area) (at .next) (at .line))) × Within (now (text .entry)) (at .line) r × PieceStored i (at .area) (now (table .entry)) (now (table .exit)) (now (pixels .entry)) (now (pixels .exit)) (pieceAt (now (text .entry)) (jobLineOf j) i (at .area) (at .next) (at .line)) ⌝ }
+    requires { ⌜ (at .next ≤ length (now text)) × (at .area ≤ areaBound) × (at .line ≤ 65536) ⌝ }
+    ensures { λ r. ⌜ (r ≡ placeAnswer (at .area) (at .line) (pieceAt (now (text .entry)) (jobLineOf j) i (at .area) (at .next) (at .line))) × PlaceWithin (now (text .entry)) (at .line) r × PieceStored i (at .area) (now (table .entry)) (now (table .exit)) (now (pixels .entry)) (now (pixels .exit)) (pieceAt (now (text .entry)) (jobLineOf j) i (at .area) (at .next) (at .line)) ⌝ }
 {
     match piece_line(text, j, i, at.area, at.next, at.line) {
         PieceLineAnswer::Refused(r) => PieceAnswer::Refused(r),
@@ -94,7 +95,7 @@ fn fill_piece(
 
 // Stores all pieces behind the job line; nothing follows the last.
 fn fill_pieces(text: &[u8], j: JobHead, table: &mut [[u8; 3]], pixels: &mut [u8]) -> PiecesAnswer
-    requires { ⌜ (j .next ≤ length (now text)) × (j .size .count ≤ 64) ⌝ }
+    requires { ⌜ (j .next ≤ length (now text)) × (j .size .count ≤ pieceBound) ⌝ }
     ensures { λ r. ⌜ (r ≡ piecesAnswer (piecesAt (now (text .entry)) (jobLineOf j) (j .size .count) 0 0 (j .next) 2)) × PiecesStored (now (table .entry)) (now (table .exit)) (now (pixels .entry)) (now (pixels .exit)) (piecesAt (now (text .entry)) (jobLineOf j) (j .size .count) 0 0 (j .next) 2) ⌝ }
 {
     let count = j.size.count;
@@ -123,7 +124,7 @@ fn fill_pieces(text: &[u8], j: JobHead, table: &mut [[u8; 3]], pixels: &mut [u8]
 
 // The pieces behind the job line: a run over empty buffers, then the room, then the run that writes.
 fn read_pieces(text: &[u8], j: JobHead, table: &mut [[u8; 3]], pixels: &mut [u8]) -> JobAnswer
-    requires { ⌜ (j .next ≤ length (now text)) × (j .size .count ≤ 64) ⌝ }
+    requires { ⌜ (j .next ≤ length (now text)) × (j .size .count ≤ pieceBound) ⌝ }
     ensures { λ r. ⌜ Leaves r (now (table .entry)) (now (table .exit)) (now (pixels .entry)) (now (pixels .exit)) (roomed (now (text .entry)) (jobLineOf j) (length (now (table .entry))) (length (now (pixels .entry)))) ⌝ }
 {
     let no_entries = 0;

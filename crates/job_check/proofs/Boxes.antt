@@ -13,8 +13,8 @@ use Rattle.model.specs.Piece.{holds, sideBound}
 use Rattle.model.specs.Lent.{areaBound, pieceBound, entryColumns, entryRows, entryTurns, pixelStart, sheetInRange, entryInRange, entryFits}
 use Rattle.model.specs.declared.JobSize.{JobSize}
 use Rattle.model.specs.declared.Direction.the-variants.{Horizontal, Vertical}
-use Rattle.model.proofs.Tests.{and-left, and-right}
-use Rattle.model.proofs.Bounded.{any-agree, all-at}
+use Rattle.list_laws.proofs.Bounded.{any-agree, all-at}
+use Rattle.list_laws.proofs.Tests.{and-left, and-right}
 use Rattle.text_laws.specs.Limits.{sidesInRange}
 use Rattle.job_check.specs.Boxes.{boxIn, someMark, tableWell, Side}
 use Rattle.job_laws.proofs.Ranges.{at-least, up-to, side-facts, sheet-few}
@@ -39,10 +39,6 @@ sides-of l w o e =
       record { low = at-least sideBound l (s .columns); high = up-to sideBound l (s .columns) },
       record { low = at-least sideBound w (s .rows); high = up-to sideBound w (s .rows) },
     )
-
--- the area of a box with sides in range
-pub area-of : (l w o : ℕ) → sidesInRange l w o ≡ true → l * w ≤ 255 * 255
-area-of l w o e = let s = sides-of l w o e in mul-le-mul (s .0 .high) (s .1 .high)
 
 -- the sides of an entry in range
 pub sides : (table : List (List ℕ)) (i : ℕ) → entryInRange table i ≡ true → Side (entryColumns table i) × Side (entryRows table i)

@@ -2,6 +2,7 @@
 // the parts before it have not shown.
 use job_limits::sheet_in_range;
 use job_limits::sides_in_range;
+use model::AREA_BOUND;
 use model::JobSize;
 use piece_table::area_of;
 use piece_table::columns_of;
@@ -13,7 +14,7 @@ ghost use Prim.Native.Nat.{ℕ, _+_, _*_, _<_, _≤_, _^_};
 ghost use lib.ListN.{length};
 ghost use Rattle.model.specs.Bounded.{allBelow};
 ghost use Rattle.model.specs.Piece.{tight};
-ghost use Rattle.model.specs.Lent.{lentBy, lentWell, entryInRange, entryFits, pixelStart};
+ghost use Rattle.model.specs.Lent.{lentBy, lentWell, entryInRange, entryFits, pixelStart, pieceBound, sideBound};
 ghost use Rattle.job_check.specs.Boxes.{Side, boxIn, storedBox, someMark, allBits, tableWell};
 
 // The entry is in range.
@@ -70,7 +71,7 @@ fn entries_fit(size: JobSize, table: &[[u8; 3]]) -> bool
 
 // Where piece i's pixels begin in the store; at n, how many the store has to have.
 pub fn pixel_start(table: &[[u8; 3]], i: usize) -> usize
-    requires { ⌜ (i ≤ length (now table)) × (i ≤ 64) ⌝ }
+    requires { ⌜ (i ≤ length (now table)) × (i ≤ pieceBound) ⌝ }
     ensures { λ r. ⌜ r ≡ pixelStart (now (table .entry)) i ⌝ }
 {
     let mut start = 0;
@@ -99,7 +100,7 @@ fn table_well(size: JobSize, table: &[[u8; 3]]) -> bool
     if !entries_fit(size, table) {
         return false;
     }
-    pixel_start(table, count) <= 65536
+    pixel_start(table, count) <= AREA_BOUND
 }
 
 // Every byte below the bound is 0 or 1.
@@ -119,7 +120,7 @@ fn all_bits(bytes: &[u8], count: usize) -> bool
 
 // One of `count` bytes from `first` on, each `step` after the last, is the mark.
 fn some_mark(mark: u8, bytes: &[u8], first: usize, step: usize, count: usize) -> bool
-    requires { ⌜ (first < 2 ^ 63 + 2 ^ 32) × (step ≤ 512) × (count ≤ 255) ⌝ }
+    requires { ⌜ (first < 2 ^ 63 + 2 ^ 32) × (step ≤ 512) × (count ≤ sideBound) ⌝ }
     ensures { λ r. ⌜ r ≡ someMark mark (now (bytes .entry)) first step count ⌝ }
 {
     let mut at = first;
@@ -170,7 +171,7 @@ fn stored_box_tight(table: &[[u8; 3]], i: usize, pixels: &[u8], start: usize) ->
 
 // Every box is tight.
 fn boxes_tight(table: &[[u8; 3]], count: usize, pixels: &[u8]) -> bool
-    requires { ⌜ (count ≤ length (now table)) × (count ≤ 64) × ((i : ℕ) → i < count → entryInRange (now table) i ≡ true) ⌝ }
+    requires { ⌜ (count ≤ length (now table)) × (count ≤ pieceBound) × ((i : ℕ) → i < count → entryInRange (now table) i ≡ true) ⌝ }
     ensures { λ r. ⌜ r ≡ allBelow count (λ i. tight (storedBox (now (table .entry)) (now (pixels .entry)) i)) ⌝ }
 {
     let mut start = 0;

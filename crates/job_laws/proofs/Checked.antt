@@ -1,7 +1,7 @@
 -- Document 01, 'When a call says no', number 8: what a lent job that passes its check gives. The check is a list of tests; each is taken
 -- apart, and the parts make the check again. Assumes nothing.
 use mathlib.Core.Bool.{Bool, true, _&&_}
-use mathlib.Core.Path.{_≡_}
+use mathlib.Core.Path.{_≡_, refl}
 use Prim.Native.Nat.{ℕ, _+_, _-_, _*_, _%_, _≤_, _<_}
 use native.Mathlib.Omega.{arith}
 use lib.Dec.{leb, eqb}
@@ -15,8 +15,9 @@ use Rattle.model.specs.Lent.{Lent, rowBound, columnBound, pieceBound, areaBound
 use Rattle.model.specs.Lent.{entryArea, pixelStart, entryInRange, entryFits, lentShape, jobOf, sheetInRange, lentWell}
 use Rattle.model.specs.declared.Direction.{Direction}
 use Rattle.model.specs.declared.Turn.{Turn}
-use Rattle.model.proofs.Tests.{and-left, and-right, and-both}
-use Rattle.model.proofs.Bounded.{all-at, all-from}
+use Rattle.job_laws.specs.Entries.{EntryAt}
+use Rattle.list_laws.proofs.Bounded.{all-at, all-from}
+use Rattle.list_laws.proofs.Tests.{and-left, and-right, and-both}
 use Rattle.job_laws.proofs.Ranges.{at-least, up-to, NumberFacts, SheetFacts, sheet-facts, SideFacts, entry-facts}
 use Rattle.job_laws.proofs.Starts.{start-end}
 use Rattle.job_laws.proofs.Turned.{turned-side}
@@ -227,3 +228,14 @@ module _ (l : Lent) (e : lentWell l ≡ true) where
   pub lent-turned-small : (d : Direction) (i : ℕ) (t : Turn) → i < jobOf l .size .count → extent d (turnedPiece (jobOf l) i t) ≤ sideBound
   unfolding jobOf
   lent-turned-small d i t b = facts l e .turnedSmall d i t b
+
+-- ── an entry, as the code reads it ──
+
+-- an entry of a job that passes the check
+pub entry-at : (l : Lent) (i : ℕ) → lentWell l ≡ true → i < l .size .count → EntryAt (l .table) i (pixelStart (l .table) i)
+entry-at l i e h =
+    let f : Facts l = facts l e in
+    let n = f .entries in
+    let a = f .ends i h in
+    let b = f .areas in
+    record { within = omega arith; columns = f .columnsSmall i h; rows = f .rowsSmall i h; begins = refl; small = omega arith }

@@ -3,11 +3,13 @@ use mathlib.Core.Bool.{Bool, true, _&&_}
 use mathlib.Core.List.{List}
 use mathlib.Core.Path.{_≡_}
 use Prim.Native.Nat.{ℕ, _*_, _%_, _≤_}
+use native.Mathlib.Nat.{mul-le-mul}
 use lib.Dec.{leb, eqb}
 use borrow.Author.Tests.{leb-true}
-use Rattle.model.specs.Lent.{rowBound, columnBound, pieceBound, areaBound, turnsBound, sideBound, upTo, numbersInRange, sheetInRange, entryColumns, entryRows, entryTurns, entryInRange}
+use Rattle.model.specs.Lent.{rowBound, columnBound, pieceBound, areaBound, turnsBound, sideBound, upTo, numbersInRange, sheetInRange}
+use Rattle.model.specs.Lent.{entryColumns, entryRows, entryTurns, entryInRange}
 use Rattle.model.specs.declared.JobSize.{JobSize}
-use Rattle.model.proofs.Tests.{and-left, and-right}
+use Rattle.list_laws.proofs.Tests.{and-left, and-right}
 
 -- a number in range is at least 1
 pub at-least : (bound k : ℕ) → upTo bound k ≡ true → 1 ≤ k
@@ -82,6 +84,14 @@ side-facts l w o e =
       odd = and-right (a && b) c abc;
       few = leb-true o turnsBound (and-right (a && b && c) d e);
     }
+
+-- the area of a box with sides in range
+pub area-of : (l w o : ℕ) → (upTo sideBound l && upTo sideBound w && eqb (o % 2) 1 && leb o turnsBound) ≡ true → l * w ≤ sideBound * sideBound
+area-of l w o e = let s = side-facts l w o e in mul-le-mul (up-to sideBound l (s .columns)) (up-to sideBound w (s .rows))
+
+-- the sum of turns in range
+pub few-turns : (l w o : ℕ) → (upTo sideBound l && upTo sideBound w && eqb (o % 2) 1 && leb o turnsBound) ≡ true → o ≤ turnsBound
+few-turns l w o e = side-facts l w o e .few
 
 -- what an entry in range gives
 pub entry-facts : (table : List (List ℕ)) (i : ℕ) → entryInRange table i ≡ true

@@ -3,10 +3,9 @@ use mathlib.Core.Bool.{true}
 use mathlib.Core.Path.{_≡_}
 use Prim.Native.Nat.{ℕ, _*_, _≤_}
 use native.Mathlib.Nat.{mul-le-mul}
-use Rattle.model.specs.Lent.{pieceBound, rowBound, columnBound, turnsBound, numbersInRange}
+use Rattle.model.specs.Lent.{pieceBound, rowBound, columnBound, numbersInRange}
 use Rattle.model.specs.declared.JobSize.{JobSize}
-use Rattle.job_laws.proofs.Ranges.{up-to, number-facts, side-facts}
-use Rattle.text_laws.specs.Limits.{sidesInRange}
+use Rattle.job_laws.proofs.Ranges.{up-to, number-facts}
 
 -- at most 64 pieces in range
 pub few-count : (size : JobSize) → numbersInRange size ≡ true → size .count ≤ pieceBound
@@ -17,7 +16,3 @@ pub sheet-small : (size : JobSize) → numbersInRange size ≡ true → size .ro
 sheet-small size e =
     let f = number-facts size e in
     mul-le-mul (up-to rowBound (size .rows) (f .rows)) (up-to columnBound (size .columns) (f .columns))
-
--- the sum of turns in range
-pub few-turns : (l w o : ℕ) → sidesInRange l w o ≡ true → o ≤ turnsBound
-few-turns l w o e = side-facts l w o e .few

@@ -1,6 +1,12 @@
 // Document 01's limits, 'Sheet and panels': the ranges of a sheet's and of a box's numbers. The check of a lent job and the reader of a
 // job text ask for the same.
+use model::AREA_BOUND;
+use model::COLUMN_BOUND;
 use model::JobSize;
+use model::PIECE_BOUND;
+use model::ROW_BOUND;
+use model::SIDE_BOUND;
+use model::TURNS_BOUND;
 ghost use mathlib.Core.Path.{_≡_};
 ghost use Rattle.model.specs.Lent.{upTo, numbersInRange, sheetInRange};
 ghost use Rattle.text_laws.specs.Limits.{sidesInRange};
@@ -19,13 +25,13 @@ fn up_to(bound: usize, k: usize) -> bool
 pub fn numbers_in_range(size: JobSize) -> bool
     ensures { λ r. ⌜ r ≡ numbersInRange size ⌝ }
 {
-    if !up_to(512, size.rows) {
+    if !up_to(ROW_BOUND, size.rows) {
         return false;
     }
-    if !up_to(4096, size.columns) {
+    if !up_to(COLUMN_BOUND, size.columns) {
         return false;
     }
-    up_to(64, size.count)
+    up_to(PIECE_BOUND, size.count)
 }
 
 // They are, and the sheet is not too large.
@@ -35,21 +41,21 @@ pub fn sheet_in_range(size: JobSize) -> bool
     if !numbers_in_range(size) {
         return false;
     }
-    size.rows * size.columns <= 65536
+    size.rows * size.columns <= AREA_BOUND
 }
 
 // The sides are in range and the sum of turns is odd and at most 15.
 pub fn sides_in_range(columns: usize, rows: usize, turns: usize) -> bool
     ensures { λ r. ⌜ r ≡ sidesInRange columns rows turns ⌝ }
 {
-    if !up_to(255, columns) {
+    if !up_to(SIDE_BOUND, columns) {
         return false;
     }
-    if !up_to(255, rows) {
+    if !up_to(SIDE_BOUND, rows) {
         return false;
     }
     if turns % 2 != 1 {
         return false;
     }
-    turns <= 15
+    turns <= TURNS_BOUND
 }

@@ -7,6 +7,7 @@ use Rattle.model.specs.Refusal.{Outcome, refused, given}
 use Rattle.model.specs.Text.{threeFields, fourFields, lineAt, formed}
 use Rattle.model.specs.JobText.{JobLine, PieceLine, jobWord, pieceWord, asJobLine, asPieceLine}
 use Rattle.model.specs.declared.Refusal.{Refusal}
+use Rattle.model.specs.Lent.{areaBound}
 use Rattle.text_laws.specs.Limits.{sidesInRange}
 use Rattle.job_lines.specs.declared.JobHead.{JobHead}
 use Rattle.job_lines.specs.declared.PieceHead.{PieceHead}
@@ -70,5 +71,5 @@ pieceNext (piece.Refused r) = 0
 
 -- sides and turns are in range and the areas so far are within 65,536
 abbrev pub Ranged : ℕ → PieceLineAnswer → Type 0
-Ranged area (piece.Line h) = (sidesInRange (h .columns) (h .rows) (h .turns) ≡ true) × (area + h .columns * h .rows ≤ 65536)
+Ranged area (piece.Line h) = (sidesInRange (h .columns) (h .rows) (h .turns) ≡ true) × (area + h .columns * h .rows ≤ areaBound)
 Ranged area (piece.Refused r) = Unit {0}

@@ -2,6 +2,8 @@
 // ranges.
 use job_limits::numbers_in_range;
 use job_limits::sides_in_range;
+use model::AREA_BOUND;
+use model::JobSize;
 use model::JobSize;
 use model::Refusal;
 use text_numbers::LineForm;
@@ -11,6 +13,7 @@ ghost use Prim.Native.Nat.{_+_, _*_, _<_, _≤_, _^_};
 ghost use lib.ListN.{length};
 ghost use Rattle.model.specs.Refusal.{unless};
 ghost use Rattle.model.specs.JobText.{jobLine, jobLineCauses, pieceLine, pieceLineCauses};
+ghost use Rattle.model.specs.Lent.{areaBound, pieceBound};
 ghost use Rattle.job_lines.specs.Lines.{refusalAt, jobLineOf, jobAnswer, jobForm, headNext, headCount, pieceLineOf, pieceAnswer, pieceForm, pieceNext, Ranged};
 
 // What the job line says: W rows, L columns, n pieces; and the position after it.
@@ -72,13 +75,13 @@ fn job_fields(text: &[u8]) -> JobLineAnswer
 
 // The ranges of the job line: a number out of range, then the sheet too large.
 fn job_ranges(j: JobHead) -> JobLineAnswer
-    ensures { λ r. ⌜ (r ≡ jobAnswer (unless (jobLineCauses (jobLineOf j)) (jobLineOf j))) × (headCount r ≤ 64) ⌝ }
+    ensures { λ r. ⌜ (r ≡ jobAnswer (unless (jobLineCauses (jobLineOf j)) (jobLineOf j))) × (headCount r ≤ pieceBound) ⌝ }
 {
     let size = j.size;
     if !numbers_in_range(size) {
         return JobLineAnswer::Refused(refusal(2, 1));
     }
-    if 65536 < size.rows * size.columns {
+    if AREA_BOUND < size.rows * size.columns {
         return JobLineAnswer::Refused(refusal(3, 1));
     }
     JobLineAnswer::Line(j)
@@ -86,7 +89,7 @@ fn job_ranges(j: JobHead) -> JobLineAnswer
 
 // The job line.
 pub fn job_line(text: &[u8]) -> JobLineAnswer
-    ensures { λ r. ⌜ (r ≡ jobAnswer (jobLine (now (text .entry)))) × (headNext r ≤ length (now (text .entry))) × (headCount r ≤ 64) ⌝ }
+    ensures { λ r. ⌜ (r ≡ jobAnswer (jobLine (now (text .entry)))) × (headNext r ≤ length (now (text .entry))) × (headCount r ≤ pieceBound) ⌝ }
 {
     let JobLineAnswer::Line(j) = job_fields(text) else {
         return JobLineAnswer::Refused(refusal(1, 1));
@@ -117,7 +120,7 @@ fn piece_fields(text: &[u8], p: usize, line: usize) -> PieceLineAnswer
 // The ranges of the line of piece i, with the areas of the boxes before it: a number out of range, the box longer or wider than the
 // sheet, box areas so far too large.
 fn piece_ranges(j: JobHead, i: usize, area: usize, h: PieceHead, line: usize) -> PieceLineAnswer
-    requires { ⌜ (area ≤ 65536) × (line < 2 ^ 32) ⌝ }
+    requires { ⌜ (area ≤ areaBound) × (line < 2 ^ 32) ⌝ }
     ensures { λ r. ⌜ (r ≡ pieceAnswer (unless (pieceLineCauses line (jobLineOf j) i area (pieceLineOf h)) (pieceLineOf h))) × Ranged area r ⌝ }
 {
     if h.number != i {
@@ -132,7 +135,7 @@ fn piece_ranges(j: JobHead, i: usize, area: usize, h: PieceHead, line: usize) ->
     if j.size.rows < h.rows {
         return PieceLineAnswer::Refused(refusal(6, line));
     }
-    if 65536 < area + h.columns * h.rows {
+    if AREA_BOUND < area + h.columns * h.rows {
         return PieceLineAnswer::Refused(refusal(4, line));
     }
     PieceLineAnswer::Line(h)
@@ -147,7 +150,7 @@ pub fn piece_line(
     p: usize,
     line: usize,
 ) -> PieceLineAnswer
-    requires { ⌜ (area ≤ 65536) × (p ≤ length (now text)) × (line < 2 ^ 32) ⌝ }
+    requires { ⌜ (area ≤ areaBound) × (p ≤ length (now text)) × (line < 2 ^ 32) ⌝ }
     ensures { λ r. ⌜ (r ≡ pieceAnswer (pieceLine (now (text .entry)) (jobLineOf j) i area p line)) × (pieceNext r ≤ length (now (text .entry))) × Ranged area r ⌝ }
 {
     let PieceLineAnswer::Line(h) = piece_fields(text, p, line) else {

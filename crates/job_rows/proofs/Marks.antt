@@ -13,12 +13,12 @@ use borrow.Author.Tests.{eqb-true, eqb-false}
 use Rattle.model.specs.Refusal.{Outcome, refused, given, wrongForm}
 use Rattle.model.specs.Text.{byte, Reading, wrong, got, onward, after, standsAt, lineEnd, formed, andThen}
 use Rattle.model.specs.JobText.{rowWord, pixelMark, emptyMark, markAt, marksAt, rowAt, Rows, rowsAt}
-use Rattle.model.proofs.Tests.{decided, clash}
+use Rattle.list_laws.proofs.Stores.{sets-append}
+use Rattle.list_laws.proofs.Tests.{decided, clash}
 use Rattle.text_laws.proofs.Outcomes.{wrong-got, refused-given, Onward, got-onward, got-after, given-formed, given-before}
 use Rattle.text_fields.proofs.Steps.{byte-inside, after-not, after-word, one-not, one-stands}
-use Rattle.text_fields.proofs.Stores.{sets-append}
 use Rattle.job_lines.specs.Lines.{refusalAt}
-use Rattle.job_rows.specs.Stores.{markBit, Stored, rowsAnswer, RowsStored}
+use Rattle.job_rows.specs.Stores.{markBit, MarksStored, rowsAnswer, RowsStored}
 use Rattle.job_rows.specs.declared.RowsAnswer.the-variants as rows
 use Rattle.model.specs.declared.Refusal.{Refusal}
 
@@ -99,45 +99,45 @@ marks-end text p at store = refl
 
 -- what stands in the store after all
 pub stored-yes : (at : ℕ) (before last : List ℕ) (q : ℕ) (x : Reading (List ℕ)) → onward x (λ ms q. got (sets before at ms) q) ≡ got last q
-    → Stored at before last true x
+    → MarksStored at before last true x
 stored-yes at before last q wrong e = absurd (wrong-got e)
 stored-yes at before last q (got ms r) e = let z : sets before at ms ≡ last = cc in (refl, sym z)
 
 pub stored-no : (at : ℕ) (before last : List ℕ) (x : Reading (List ℕ)) → onward x (λ ms q. got (sets before at ms) q) ≡ wrong
-    → Stored at before last false x
+    → MarksStored at before last false x
 stored-no at before last wrong e = refl
 stored-no at before last (got ms r) e = absurd (wrong-got (sym e))
 
 -- a call that stored said yes
-pub record Kept (at : ℕ) (before last : List ℕ) (x : Reading (List ℕ)) : Type 0 where
+pub record MarksKept (at : ℕ) (before last : List ℕ) (x : Reading (List ℕ)) : Type 0 where
   pub marks : List ℕ
   pub next : ℕ
   pub reads : x ≡ got marks next
   pub stores : last ≡ sets before at marks
 
-pub stored-kept : (at : ℕ) (before last : List ℕ) (r : Bool) (x : Reading (List ℕ)) → Stored at before last r x → r ≡ true → Kept at before last x
+pub stored-kept : (at : ℕ) (before last : List ℕ) (r : Bool) (x : Reading (List ℕ)) → MarksStored at before last r x → r ≡ true → MarksKept at before last x
 stored-kept at before last r wrong h e = absurd (clash e h)
 stored-kept at before last r (got ms q) h e = record { marks = ms; next = q; reads = refl; stores = h .1 }
 
 -- it said no
-pub stored-lost : (at : ℕ) (before last : List ℕ) (r : Bool) (x : Reading (List ℕ)) → Stored at before last r x → r ≡ false → x ≡ wrong
+pub stored-lost : (at : ℕ) (before last : List ℕ) (r : Bool) (x : Reading (List ℕ)) → MarksStored at before last r x → r ≡ false → x ≡ wrong
 stored-lost at before last r wrong h e = refl
 stored-lost at before last r (got ms q) h e = absurd (clash (h .0) e)
 
 -- marks that are read: so many, one after the other, pixels where the text has `#`
-pub record Marks (text : List ℕ) (p n : ℕ) (ms : List ℕ) (q : ℕ) : Type 0 where
+pub record RowMarks (text : List ℕ) (p n : ℕ) (ms : List ℕ) (q : ℕ) : Type 0 where
   pub next : q ≡ p + n
   pub size : length ms ≡ n
   pub pixel : (k : ℕ) → k < n → eqb (getD ms k 0) 1 ≡ eqb (byte text (p + k)) pixelMark
 
-marks-first : (text : List ℕ) (p n m : ℕ) (ms : List ℕ) (q : ℕ) → eqb m 1 ≡ eqb (byte text p) pixelMark → Marks text (suc p) n ms q → Marks text p (suc n) (m ∷ ms) q
+marks-first : (text : List ℕ) (p n m : ℕ) (ms : List ℕ) (q : ℕ) → eqb m 1 ≡ eqb (byte text p) pixelMark → RowMarks text (suc p) n ms q → RowMarks text p (suc n) (m ∷ ms) q
 marks-first text p n m ms q e h = record { next = let a = h .next in omega arith; size = ap suc (h .size); pixel = at }
   where
     at : (k : ℕ) → k < suc n → eqb (getD (m ∷ ms) k 0) 1 ≡ eqb (byte text (p + k)) pixelMark
     at zero l = e ∙ ap (λ (i : ℕ). eqb (byte text i) pixelMark) (sym (add-zero p))
     at (suc k) l = h .pixel k (omega arith) ∙ ap (λ (i : ℕ). eqb (byte text i) pixelMark) (omega arith)
 
-pub marks-facts : (text : List ℕ) (left p : ℕ) (ms : List ℕ) (q : ℕ) → marksAt text left p ≡ got ms q → Marks text p left ms q
+pub marks-facts : (text : List ℕ) (left p : ℕ) (ms : List ℕ) (q : ℕ) → marksAt text left p ≡ got ms q → RowMarks text p left ms q
 unfolding marksAt
 marks-facts text zero p ms q e =
     let z : [] ≡ ms = cc in
@@ -150,8 +150,8 @@ marks-facts text (suc left) p ms q e =
     let g : _≡_ {A = Reading (List ℕ)} (got (o .value ∷ o′ .value) (o′ .next)) (got ms q) = o′ .goes in
     let z : o .value ∷ o′ .value ≡ ms = cc in
     let y : o′ .next ≡ q = cc in
-    let later : Marks text (suc p) left (o′ .value) q =
-    subst₂ (λ (a b : ℕ). Marks text a left (o′ .value) b) (f .next) y (marks-facts text left (o .next) (o′ .value) (o′ .next) (o′ .reads)) in
+    let later : RowMarks text (suc p) left (o′ .value) q =
+    subst₂ (λ (a b : ℕ). RowMarks text a left (o′ .value) b) (f .next) y (marks-facts text left (o .next) (o′ .value) (o′ .next) (o′ .reads)) in
     rw (← z) (marks-first text p left (o .value) (o′ .value) q (f .pixel) later)
 
 -- ── a row line ──
@@ -190,8 +190,8 @@ module _ (text : List ℕ) (l p : ℕ) where
   row-none h e = row-after h ∙ ap (λ (x : Reading (List ℕ)). onward x (λ ms r. after (lineEnd ∷ []) text r (λ next. got ms next))) e
 
   -- the marks are stored: the row is read exactly when the line ends behind them
-  pub row-last : standsAt rowWord text p ≡ true → (at : ℕ) (before last : List ℕ) → Kept at before last (marksAt text l (p + 4)) → (r : Bool)
-      → r ≡ eqb (byte text (p + 4 + l)) 10 → Stored at before last r (rowAt text l p)
+  pub row-last : standsAt rowWord text p ≡ true → (at : ℕ) (before last : List ℕ) → MarksKept at before last (marksAt text l (p + 4)) → (r : Bool)
+      → r ≡ eqb (byte text (p + 4 + l)) 10 → MarksStored at before last r (rowAt text l p)
   row-last h at before last k r e = go r e
     where
       q : k .next ≡ p + 4 + l
@@ -200,7 +200,7 @@ module _ (text : List ℕ) (l p : ℕ) where
       here : rowAt text l p ≡ after (lineEnd ∷ []) text (k .next) (λ next. got (k .marks) next)
       here = row-after h ∙ ap (λ (x : Reading (List ℕ)). onward x (λ ms r. after (lineEnd ∷ []) text r (λ next. got ms next))) (k .reads)
 
-      go : (b : Bool) → b ≡ eqb (byte text (p + 4 + l)) 10 → Stored at before last b (rowAt text l p)
+      go : (b : Bool) → b ≡ eqb (byte text (p + 4 + l)) 10 → MarksStored at before last b (rowAt text l p)
       go true e =
           let s : standsAt (lineEnd ∷ []) text (k .next) ≡ true = one-stands text (k .next) 10 (ap (byte text) q ∙ eqb-true (byte text (p + 4 + l)) 10 (sym e)) in
           rw (here ∙ after-word (lineEnd ∷ []) text (k .next) (λ next. got (k .marks) next) s) (refl, k .stores)
@@ -210,13 +210,13 @@ module _ (text : List ℕ) (l p : ℕ) where
           rw (here ∙ after-not (lineEnd ∷ []) text (k .next) (λ next. got (k .marks) next) s) refl
 
 -- a row line that is read: its marks stand behind `row,`, and it ends in the text
-pub record Row (text : List ℕ) (p l : ℕ) (ms : List ℕ) (q : ℕ) : Type 0 where
+pub record RowSpelled (text : List ℕ) (p l : ℕ) (ms : List ℕ) (q : ℕ) : Type 0 where
   pub next : q ≡ p + (l + 5)
   pub size : length ms ≡ l
   pub inside : q ≤ length text
   pub pixel : (k : ℕ) → k < l → eqb (getD ms k 0) 1 ≡ eqb (byte text (p + 4 + k)) pixelMark
 
-pub row-facts : (text : List ℕ) (l p : ℕ) (ms : List ℕ) (q : ℕ) → rowAt text l p ≡ got ms q → Row text p l ms q
+pub row-facts : (text : List ℕ) (l p : ℕ) (ms : List ℕ) (q : ℕ) → rowAt text l p ≡ got ms q → RowSpelled text p l ms q
 unfolding rowAt
 row-facts text l p ms q e =
     let ending : List ℕ → ℕ → Reading (List ℕ) = λ ms′ r. after (lineEnd ∷ []) text r (λ n. got ms′ n) in
@@ -226,7 +226,7 @@ row-facts text l p ms q e =
     got-after (lineEnd ∷ []) text (o .next) (λ n. got (o .value) n) ms q (o .goes) in
     let z : o .value ≡ ms = cc in
     let y : o .next + 1 ≡ q = cc in
-    let m : Marks text (p + 4) l (o .value) (o .next) = marks-facts text l (p + 4) (o .value) (o .next) (o .reads) in
+    let m : RowMarks text (p + 4) l (o .value) (o .next) = marks-facts text l (p + 4) (o .value) (o .next) (o .reads) in
     let b : byte text (o .next) ≡ 10 =
     one-of text (o .next) lineEnd (stands-of (lineEnd ∷ []) text (o .next) (λ n. got (o .value) n) ms q (o .goes)) in
     let i : o .next < length text = byte-inside text (o .next) (omega arith) in
@@ -266,10 +266,10 @@ rows-more text l left p line at q ms store e =
     go (given r) = ap (λ (k : List ℕ). stored k (r .next)) (sets-append store at ms (r .pixels))
 
 -- the same, where a call stored the row
-module _ (text : List ℕ) (l p at : ℕ) (store last : List ℕ) (k : Kept at store last (rowAt text l p)) where
+module _ (text : List ℕ) (l p at : ℕ) (store last : List ℕ) (k : MarksKept at store last (rowAt text l p)) where
   pub row-step : (left line : ℕ) → fillRows text l (suc left) p line at store ≡ fillRows text l left (p + (l + 5)) (suc line) (at + l) last
   row-step left line =
-      let f : Row text p l (k .marks) (k .next) = row-facts text l p (k .marks) (k .next) (k .reads) in
+      let f : RowSpelled text p l (k .marks) (k .next) = row-facts text l p (k .marks) (k .next) (k .reads) in
       rows-more text l left p line at (k .next) (k .marks) store (k .reads)
       ∙ ap (λ (q : ℕ). fillRows text l left q (suc line) (at + length (k .marks)) (sets store at (k .marks))) (f .next)
       ∙ ap (λ (n : ℕ). fillRows text l left (p + (l + 5)) (suc line) (at + n) (sets store at (k .marks))) (f .size)
@@ -277,7 +277,7 @@ module _ (text : List ℕ) (l p at : ℕ) (store last : List ℕ) (k : Kept at s
 
   pub row-inside : p + (l + 5) ≤ length text
   row-inside =
-      let f : Row text p l (k .marks) (k .next) = row-facts text l p (k .marks) (k .next) (k .reads) in
+      let f : RowSpelled text p l (k .marks) (k .next) = row-facts text l p (k .marks) (k .next) (k .reads) in
       let a = f .next in
       let b = f .inside in
       omega arith
@@ -316,7 +316,7 @@ pub record RowLines (text : List ℕ) (p l w : ℕ) (r : Rows) : Type 0 where
   pub inside : p ≤ length text → r .next ≤ length text
   pub pixel : (x y : ℕ) → x < l → y < w → eqb (getD (r .pixels) (y * l + x) 0) 1 ≡ eqb (byte text (p + 4 + (y * (l + 5) + x))) pixelMark
 
-rows-first : (text : List ℕ) (p l w : ℕ) (ms : List ℕ) (q : ℕ) (r : Rows) → Row text p l ms q → RowLines text q l w r
+rows-first : (text : List ℕ) (p l w : ℕ) (ms : List ℕ) (q : ℕ) (r : Rows) → RowSpelled text p l ms q → RowLines text q l w r
     → RowLines text p l (suc w) (record { pixels = ms ++ r .pixels; next = r .next })
 rows-first text p l w ms q r h k =
     record {

@@ -16,9 +16,9 @@ abbrev pub markBit : ℕ → ℕ
 markBit b = elim (eqb b pixelMark) [ true ↦ 1 | false ↦ elim (eqb b emptyMark) [ true ↦ 0 | false ↦ 2 ] ]
 
 -- wrong form is answered no; what is read is answered yes and stored from `at` on
-abbrev pub Stored : ℕ → List ℕ → List ℕ → Bool → Reading (List ℕ) → Type 0
-Stored at before after r wrong = r ≡ false
-Stored at before after r (got ms q) = (r ≡ true) × (after ≡ sets before at ms)
+abbrev pub MarksStored : ℕ → List ℕ → List ℕ → Bool → Reading (List ℕ) → Type 0
+MarksStored at before after r wrong = r ≡ false
+MarksStored at before after r (got ms q) = (r ≡ true) × (after ≡ sets before at ms)
 
 -- the position after row lines, or their refusal
 abbrev pub rowsAnswer : Outcome Rows → RowsAnswer

@@ -9,7 +9,8 @@ ghost use mathlib.Core.Path.{_≡_};
 ghost use Prim.Native.Nat.{_+_, _*_, _<_, _≤_, _^_};
 ghost use lib.ListN.{length};
 ghost use Rattle.model.specs.JobText.{marksAt, rowAt, rowsAt};
-ghost use Rattle.job_rows.specs.Stores.{markBit, Stored, rowsAnswer, RowsStored};
+ghost use Rattle.model.specs.Lent.{sideBound};
+ghost use Rattle.job_rows.specs.Stores.{markBit, MarksStored, rowsAnswer, RowsStored};
 
 // The position after row lines, or why they are refused.
 pub enum RowsAnswer {
@@ -32,8 +33,8 @@ fn mark_bit(b: u8) -> u8
 
 // Stores so many marks from position p on.
 fn fill_marks(text: &[u8], p: usize, count: usize, pixels: &mut [u8], at: usize) -> bool
-    requires { ⌜ (p ≤ length (now text) + 4) × (count ≤ 255) × (at ≤ 2 ^ 32) ⌝ }
-    ensures { λ r. ⌜ Stored at (now (pixels .entry)) (now (pixels .exit)) r (marksAt (now (text .entry)) count p) ⌝ }
+    requires { ⌜ (p ≤ length (now text) + 4) × (count ≤ sideBound) × (at ≤ 2 ^ 32) ⌝ }
+    ensures { λ r. ⌜ MarksStored at (now (pixels .entry)) (now (pixels .exit)) r (marksAt (now (text .entry)) count p) ⌝ }
 {
     let mut k = 0;
     while k < count {
@@ -49,8 +50,8 @@ fn fill_marks(text: &[u8], p: usize, count: usize, pixels: &mut [u8], at: usize)
 
 // Stores a row line, `row,` with l marks.
 fn fill_row(text: &[u8], p: usize, l: usize, pixels: &mut [u8], at: usize) -> bool
-    requires { ⌜ (p ≤ length (now text)) × (l ≤ 255) × (at ≤ 2 ^ 32) ⌝ }
-    ensures { λ r. ⌜ Stored at (now (pixels .entry)) (now (pixels .exit)) r (rowAt (now (text .entry)) l p) ⌝ }
+    requires { ⌜ (p ≤ length (now text)) × (l ≤ sideBound) × (at ≤ 2 ^ 32) ⌝ }
+    ensures { λ r. ⌜ MarksStored at (now (pixels .entry)) (now (pixels .exit)) r (rowAt (now (text .entry)) l p) ⌝ }
 {
     if !word_at(text, p, b"row,") {
         return false;
@@ -71,7 +72,7 @@ pub fn fill_rows(
     pixels: &mut [u8],
     at: usize,
 ) -> RowsAnswer
-    requires { ⌜ (p ≤ length (now text)) × (l ≤ 255) × (w ≤ 255) × (line ≤ 2 ^ 31) × (at ≤ 2 ^ 31) ⌝ }
+    requires { ⌜ (p ≤ length (now text)) × (l ≤ sideBound) × (w ≤ sideBound) × (line ≤ 2 ^ 31) × (at ≤ 2 ^ 31) ⌝ }
     ensures { λ r. ⌜ (r ≡ rowsAnswer (rowsAt (now (text .entry)) l w p line)) × RowsStored at (now (pixels .entry)) (now (pixels .exit)) (rowsAt (now (text .entry)) l w p line) ⌝ }
 {
     let mut next = p;

@@ -1,20 +1,18 @@
 -- Placements in a layout buffer, found in their entries, and what the answers for a turn say. Assumes nothing.
-use mathlib.Core.Bool.{Bool, true, false, not, _&&_}
+use mathlib.Core.Bool.{_&&_}
 use mathlib.Core.List.{List, []}
 use mathlib.Core.Option.{Option, none, some}
-use mathlib.Core.Path.{_≡_, refl, sym, ap}
-use Prim.Native.Nat.{ℕ, _+_, _<_, _≤_}
+use mathlib.Core.Path.{_≡_, refl}
+use Prim.Native.Nat.{ℕ, _+_, _<_}
 use native.Mathlib.Omega.{arith}
 use lib.Dec.{leb}
 use lib.ListN.{getD, List·getD-map}
-use Rattle.model.specs.Bounded.{anyBelow}
 use Rattle.model.specs.Piece.{turnBit}
 use Rattle.model.specs.Layout.{Job, inside, placeOf, turnedPiece}
 use Rattle.model.specs.Buffer.{turnOf, turnOfDegrees, placementOf, layoutOf}
 use Rattle.model.specs.declared.Placement.{Placement}
 use Rattle.model.specs.declared.Turn.{Turn}
 use Rattle.model.specs.declared.Turn.the-variants.{Zero, Quarter, Half, ThreeQuarters}
-use Rattle.model.proofs.Bounded.{any-from, none-any}
 use Rattle.layout_places.specs.Answers.{turnAnswer}
 use Rattle.layout_places.specs.Boxes.{sidesOf}
 use Rattle.layout_places.specs.declared.Sides.{Sides}
@@ -47,11 +45,3 @@ pub inside-by-sides : (j : Job) (i : ℕ) (p : Placement) (s : Sides) → s ≡ 
     → inside j i p ≡ (leb (p .x .0 + s .columns) (j .size .columns) && leb (p .y .0 + s .rows) (j .size .rows))
 unfolding inside
 inside-by-sides j i p s e = rw e
-
--- a number below n that fails shows that some does
-pub one-fails : (n i : ℕ) (f : ℕ → Bool) → i < n → f i ≡ false → true ≡ anyBelow n (λ k. not (f k))
-one-fails n i f l e = sym (any-from n i (λ k. not (f k)) l (ap not e))
-
--- where each number below n passes, none fails
-pub none-fails : (n i : ℕ) (f : ℕ → Bool) → n ≤ i → ((k : ℕ) → k < i → f k ≡ true) → false ≡ anyBelow n (λ k. not (f k))
-none-fails n i f l h = sym (none-any n (λ k. not (f k)) (λ k b. ap not (h k (omega arith))))

@@ -23,8 +23,8 @@ use model::Placement;
 use model::Refusal;
 use model::Row;
 use model::Turn;
-use numbers::larger;
 use numbers::side;
+use whole_numbers::larger;
 
 // The turn that degrees are, if there is one.
 pub enum TurnAnswer {

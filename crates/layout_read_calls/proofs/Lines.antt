@@ -16,7 +16,7 @@ use Rattle.model.specs.LayoutText.{layoutWord, atWord, layoutLine, PlacementLin
 use Rattle.model.specs.declared.Placement.{Placement}
 use Rattle.model.specs.declared.Refusal.{Refusal}
 use Rattle.model.specs.declared.Turn.{Turn}
-use Rattle.model.proofs.Tests.{and-left, and-right}
+use Rattle.list_laws.proofs.Tests.{and-left, and-right}
 use Rattle.layout_places.specs.Boxes.{placeAt}
 use Rattle.layout_read_calls.specs.Readings.{turnOnLine, placeOnLine, placeAnswer, lineAnswer}
 use Rattle.layout_read_calls.specs.declared.LineAnswer.{LineAnswer}

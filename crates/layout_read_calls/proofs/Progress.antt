@@ -16,7 +16,7 @@ use Rattle.model.specs.Text.{causeIn, andThen}
 use Rattle.model.specs.LayoutText.{placementLine, placementsAt}
 use Rattle.model.specs.declared.Placement.{Placement}
 use Rattle.model.specs.declared.Refusal.{Refusal}
-use Rattle.text_fields.proofs.Stores.{sets-append}
+use Rattle.list_laws.proofs.Stores.{sets-append}
 
 -- what is given is one thing
 pub given-same : {A : Type 0} {a b : A} → given a ≡ given b → a ≡ b
@@ -45,7 +45,7 @@ entries-more before front q i e =
     rw (map-append entryOf front (q ∷ []), sets-append before 0 (entriesOf front) (entryOf q ∷ []), at)
 
 -- so many pieces' lines are read, the next begins at `at` on the given line
-pub record Progress (job : List ℕ → Job) (count : ℕ) (text : List ℕ) (p : ℕ) (before after : List (List ℕ)) (at line i : ℕ) : Type 0 where
+pub record ReadProgress (job : List ℕ → Job) (count : ℕ) (text : List ℕ) (p : ℕ) (before after : List (List ℕ)) (at line i : ℕ) : Type 0 where
   pub front : Layout
   pub counted : length front ≡ i
   pub memory : after ≡ sets before 0 (entriesOf front)
@@ -53,14 +53,14 @@ pub record Progress (job : List ℕ → Job) (count : ℕ) (text : List ℕ) (p 
 
 module _ (job : List ℕ → Job) (count : ℕ) (text : List ℕ) (p : ℕ) (before : List (List ℕ)) where
   -- before the first line
-  pub progress-begin : Progress job count text p before before p 2 0
+  pub progress-begin : ReadProgress job count text p before before p 2 0
   progress-begin = record { front = []; counted = refl; memory = refl; goes = λ pixels. let e : count - 0 ≡ count = omega arith in rw e (behind-none _) }
 
-  module _ (after : List (List ℕ)) (at line i : ℕ) (h : Progress job count text p before after at line i) where
+  module _ (after : List (List ℕ)) (at line i : ℕ) (h : ReadProgress job count text p before after at line i) where
     -- a line that is read
     pub progress-more : i < count → (q : Placement) (next : ℕ)
         → ((pixels : List ℕ) → placementLine (job pixels) text i at line ≡ given (record { place = q; next = next }))
-        → Progress job count text p before (set after i (entryOf q)) next (line + 1) (i + 1)
+        → ReadProgress job count text p before (set after i (entryOf q)) next (line + 1) (i + 1)
     unfolding placementsAt
     progress-more l q next e =
         record {

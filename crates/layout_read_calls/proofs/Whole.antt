@@ -1,13 +1,12 @@
 -- What reading a layout comes to, by its parts: the job's check, the layout line, the pieces' lines, the buffer's length. Assumes
 -- nothing.
 use mathlib.Core.Bool.{true, false}
-use mathlib.Core.List.{List, [], _∷_, append-nil}
-use mathlib.Core.Path.{_≡_, refl, _∙_, ap}
-use Prim.Native.Nat.{ℕ, zero, suc, _+_}
+use mathlib.Core.List.{List, [], _∷_}
+use mathlib.Core.Path.{_≡_, refl, ap}
+use Prim.Native.Nat.{ℕ, zero, suc}
 use native.Mathlib.Omega.{arith}
 use borrow.Author.Tests.{eq-eqb, ne-eqb}
-use lib.ListN.{length, drop-of-length-le}
-use lib.Seq.{sets, sets-eq}
+use lib.ListN.{length}
 use Rattle.model.specs.Layout.{Job, Layout}
 use Rattle.model.specs.Refusal.{Outcome, refused, given, cause, unless, refusalOf, wrongLength, notOurs}
 use Rattle.model.specs.Lent.{Lent, jobOf, lentWell}
@@ -29,11 +28,11 @@ layout-refused (refused s) r e = cc
 layout-refused (given v) r e = let z : _≡_ {A = ℕ} 0 1 = cc in absurd (omega arith)
 
 -- a layout that is given
-pub record Given (o : Outcome Layout) : Type 0 where
+pub record ReadGiven (o : Outcome Layout) : Type 0 where
   pub layout : Layout
   pub gives : o ≡ given layout
 
-pub layout-given : (o : Outcome Layout) → LayoutAnswer.Read ≡ layoutAnswer o → Given o
+pub layout-given : (o : Outcome Layout) → LayoutAnswer.Read ≡ layoutAnswer o → ReadGiven o
 layout-given (refused s) e = let z : _≡_ {A = ℕ} 0 1 = cc in absurd (omega arith)
 layout-given (given v) e = record { layout = v; gives = refl }
 
@@ -57,11 +56,6 @@ placements-count j text (suc left) i p line v e =
     let n : length (d .value) ≡ left = placements-count j text left (suc i) (b .value .next) (suc line) (d .value) (d .gives) in
     let z : b .value .place ∷ d .value ≡ v = given-same (d .goes) in
     rw (← z) (ap suc n)
-
--- entries set over a buffer of their length are all that it holds
-pub buffer-filled : (es before : List (List ℕ)) → length es ≡ length before → sets before 0 es ≡ es
-buffer-filled es before e =
-    sets-eq es before 0 (omega arith) ∙ rw (drop-of-length-le before {i = 0 + length es} (omega arith)) (append-nil es)
 
 -- ── the outcomes ──
 

@@ -54,6 +54,6 @@ lineAnswer (refused r) = LineAnswer.Refused r
 lineAnswer (given h) = LineAnswer.Read (h .place) (h .next)
 
 -- that position; 0 where the line is refused
-abbrev pub nextIn : LineAnswer → ℕ
-nextIn (LineAnswer.Refused r) = 0
-nextIn (LineAnswer.Read p next) = next
+abbrev pub lineNext : LineAnswer → ℕ
+lineNext (LineAnswer.Refused r) = 0
+lineNext (LineAnswer.Read p next) = next

@@ -17,7 +17,7 @@ ghost use Rattle.model.specs.Calls.{readLayoutCall, layoutAfter};
 ghost use Rattle.layout_places.specs.Answers.{turnAnswer};
 ghost use Rattle.layout_places.specs.Fitting.{Fitting};
 ghost use Rattle.layout_read_calls.specs.Answers.{layoutAnswer};
-ghost use Rattle.layout_read_calls.specs.Readings.{numbersOf, turnOnLine, placeOnLine, layoutFrom, positionAnswer, positionIn, placeAnswer, lineAnswer, nextIn};
+ghost use Rattle.layout_read_calls.specs.Readings.{numbersOf, turnOnLine, placeOnLine, layoutFrom, positionAnswer, positionIn, placeAnswer, lineAnswer, lineNext};
 use layout_places::TurnAnswer;
 use model::Column;
 use model::JobSize;
@@ -157,7 +157,7 @@ fn placement_line(
     line: u32,
 ) -> LineAnswer
     requires { ⌜ (i < length (now table)) × (size .rows ≤ rowBound) × (size .columns ≤ columnBound) × (p ≤ length (now text)) ⌝ }
-    ensures { λ r. ⌜ ((pixels : List ℕ) → r ≡ lineAnswer (placementLine (jobOf (lentBy size (now (table .entry)) pixels)) (now (text .entry)) i p line)) × (nextIn r ≤ length (now (text .entry))) ⌝ }
+    ensures { λ r. ⌜ ((pixels : List ℕ) → r ≡ lineAnswer (placementLine (jobOf (lentBy size (now (table .entry)) pixels)) (now (text .entry)) i p line)) × (lineNext r ≤ length (now (text .entry))) ⌝ }
 {
     let read = line_at(text, p, b"at,", 4);
     let form = read.form;

@@ -24,7 +24,7 @@ stackEntries j [] s es = es
 stackEntries j (i ∷ is) s es = stackEntries j is (stacked j i (roomFor j i s)) (set es i (entryOf (onStack j i (roomFor j i s))))
 
 -- the pile has room for piece i on top, and its right end is no further than before
-pub record Room (size : JobSize) (table : List (List ℕ)) (i : ℕ) (before after : Pile) : Type 0 where
+pub record PileRoom (size : JobSize) (table : List (List ℕ)) (i : ℕ) (before after : Pile) : Type 0 where
   pub same : (pixels : List ℕ) → stackOf after ≡ roomFor (jobOf (lentBy size table pixels)) i (stackOf before)
   pub onTop : after .height .0 + entryRows table i ≤ size .rows
   pub end : after .left .0 + after .length ≤ before .left .0 + before .length

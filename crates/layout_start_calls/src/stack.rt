@@ -1,20 +1,22 @@
 // The start layout's stacks: pieces on top of each other, stack after stack from the left. Document 01, 'Start, layout text, sheet'.
 ghost use mathlib.Core.Path.{_≡_};
 ghost use mathlib.Core.List.{List};
-ghost use Prim.Native.Nat.{ℕ, _+_, _<_, _≤_, min};
+ghost use Prim.Native.Nat.{ℕ, _+_, _<_, _≤_};
 ghost use lib.ListN.{length, getD, take};
 ghost use Rattle.model.specs.Lent.{lentBy, jobOf, entryColumns, entryRows, rowBound, columnBound, pieceBound};
 ghost use Rattle.model.specs.Start.{onStack};
 ghost use Rattle.layout_places.specs.Fitting.{Fitting};
-ghost use Rattle.layout_start_calls.specs.Stacks.{stackOf, emptyStack, stackEntries, Room, Piled};
+ghost use Rattle.layout_start_calls.specs.Stacks.{stackOf, emptyStack, stackEntries, PileRoom, Piled};
 use layout_places::entry_of;
-use layout_places::numbers::larger;
 use layout_places::numbers::side;
 use model::Column;
 use model::JobSize;
+use model::PIECE_BOUND;
 use model::Placement;
 use model::Row;
 use model::Turn;
+use whole_numbers::larger;
+use whole_numbers::smaller;
 
 // A stack of pieces: its left side, its height and its length so far. Document 01's X, Y and M.
 struct Pile {
@@ -23,17 +25,10 @@ struct Pile {
     length: usize,
 }
 
-// The smaller of two numbers.
-fn smaller(a: usize, b: usize) -> usize
-    ensures { λ r. ⌜ r ≡ min a b ⌝ }
-{
-    if a < b { a } else { b }
-}
-
 // The pile that takes piece i: a new one to the right where the piece would rise above the sheet.
 fn room_for(size: JobSize, table: &[[u8; 3]], i: usize, pile: Pile) -> Pile
     requires { ⌜ (i < length (now table)) × (entryRows (now table) i ≤ size .rows) × (pile .height .0 ≤ rowBound) × (pile .left .0 + pile .length ≤ 65535) ⌝ }
-    ensures { λ r. ⌜ Room size (now (table .entry)) i pile r ⌝ }
+    ensures { λ r. ⌜ PileRoom size (now (table .entry)) i pile r ⌝ }
 {
     let rows = side(table[i][1]);
     if size.rows < pile.height.0 as usize + rows {
@@ -76,7 +71,12 @@ fn piled(size: JobSize, table: &[[u8; 3]], i: usize, pile: Pile) -> Pile
 }
 
 // The pieces of the order placed one after the other.
-pub fn stack_all(size: JobSize, table: &[[u8; 3]], order: &[usize; 64], layout: &mut [[u16; 3]])
+pub fn stack_all(
+    size: JobSize,
+    table: &[[u8; 3]],
+    order: &[usize; PIECE_BOUND],
+    layout: &mut [[u16; 3]],
+)
     requires { ⌜ Fitting size (now table) × ((k : ℕ) → k < size .count → getD (now order) k 0 < size .count) × (length (now order) ≡ pieceBound) × (length (now layout) ≡ size .count) ⌝ }
     ensures { λ r. ⌜ ((pixels : List ℕ) → now (layout .exit) ≡ stackEntries (jobOf (lentBy size (now (table .entry)) pixels)) (take (size .count) (now (order .entry))) emptyStack (now (layout .entry))) ⌝ }
 {

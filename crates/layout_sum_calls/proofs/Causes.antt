@@ -16,10 +16,10 @@ use Rattle.model.specs.Lent.{Lent, jobOf, lentWell, upTo}
 use Rattle.model.specs.Guided.{weightBound}
 use Rattle.model.specs.Buffer.{layoutOf}
 use Rattle.model.specs.Calls.{someWeightWrong, someOutside, layoutCauses, sharedCause}
-use Rattle.model.proofs.Bounded.{any-none}
+use Rattle.list_laws.proofs.Bounded.{any-none}
 use Rattle.text_laws.specs.Outcomes.{NoCause}
 use Rattle.layout_places.proofs.Causes.{sound}
-use Rattle.search_shapes.specs.Shapes.{Room}
+use Rattle.search_shapes.specs.Shapes.{ShapesRoom}
 use Rattle.layout_sum_calls.specs.Answers.{checkAnswer, sharingAnswer, sharedAnswer, lengthCauses, placeCauses}
 use Rattle.search_table.specs.Drawn.{Laid}
 
@@ -99,11 +99,11 @@ sum-ready l es ws h =
 -- ── stores ──
 
 -- a store of 262,144 strips with 257 starts holds the strips of every job
-pub room-of : (store : List (List ℕ)) → length store ≡ 262144 → Room store (replicate 257 0)
+pub room-of : (store : List (List ℕ)) → length store ≡ 262144 → ShapesRoom store (replicate 257 0)
 room-of store e = record { wide = omega (arith, e); long = omega (arith, length-replicate {A = ℕ} 257 0) }
 
 -- so does a fresh one
-pub room : Room (replicate 262144 (0 ∷ 0 ∷ 0 ∷ [])) (replicate 257 0)
+pub room : ShapesRoom (replicate 262144 (0 ∷ 0 ∷ 0 ∷ [])) (replicate 257 0)
 room = room-of (replicate 262144 (0 ∷ 0 ∷ 0 ∷ [])) (length-replicate {A = List ℕ} 262144 (0 ∷ 0 ∷ 0 ∷ []))
 
 -- ── the check ──

@@ -7,9 +7,12 @@ use layout_places::refusal;
 use model::Direction;
 use model::JobSize;
 use model::Refusal;
+use model::WEIGHT_BOUND;
+use search_shapes::STARTS_LENGTH;
 use search_sums::pair_count;
 use search_sums::plain_total;
 use search_sums::total;
+use search_table::TABLE_LENGTH;
 use search_table::fill_table;
 use sharing::SharingPair;
 use sharing::sharing_pair;
@@ -46,7 +49,7 @@ pub fn some_weight_wrong(weights: &[u32]) -> bool
         if weights[k] == 0 {
             return true;
         }
-        if 65535 < weights[k] {
+        if WEIGHT_BOUND < weights[k] {
             return true;
         }
         k += 1;
@@ -110,15 +113,20 @@ fn sum_causes(
 }
 
 // The table of pair penalties of a job's layout.
-fn penalties_of(size: JobSize, table: &[[u8; 3]], pixels: &[u8], layout: &[[u16; 3]]) -> [u8; 4096]
+fn penalties_of(
+    size: JobSize,
+    table: &[[u8; 3]],
+    pixels: &[u8],
+    layout: &[[u16; 3]],
+) -> [u8; TABLE_LENGTH]
     requires { ⌜ Laid (lentBy size (now table) (now pixels)) (now layout) ⌝ }
     ensures { λ r. ⌜ PenaltyTable (jobOf (lentBy size (now (table .entry)) (now (pixels .entry)))) (layoutOf (now (layout .entry))) (size .count) r ⌝ }
 {
     let mut rows = search_shapes::empty_store();
-    let mut row_starts = [0u32; 257];
+    let mut row_starts = [0u32; STARTS_LENGTH];
     let mut columns = search_shapes::empty_store();
-    let mut column_starts = [0u32; 257];
-    let mut penalties = [0u8; 4096];
+    let mut column_starts = [0u32; STARTS_LENGTH];
+    let mut penalties = [0u8; TABLE_LENGTH];
     search_shapes::make_shapes(
         size,
         table,

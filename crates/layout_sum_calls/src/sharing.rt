@@ -1,6 +1,7 @@
 // The first pair of a layout that shares a pixel: lowest first number, then lowest second.
 use model::Direction;
 use model::JobSize;
+use search_shapes::STARTS_LENGTH;
 use search_table::pair::pair_shares;
 ghost use mathlib.Core.Path.{_≡_};
 ghost use mathlib.Core.List.{List};
@@ -73,7 +74,7 @@ pub fn sharing_pair(
     ensures { λ r. ⌜ r ≡ sharingAnswer (sharingPair (jobOf (lentBy size (now (table .entry)) (now (pixels .entry)))) (layoutOf (now (layout .entry)))) ⌝ }
 {
     let mut rows = search_shapes::empty_store();
-    let mut row_starts = [0u32; 257];
+    let mut row_starts = [0u32; STARTS_LENGTH];
     search_shapes::make_shapes(
         size,
         table,

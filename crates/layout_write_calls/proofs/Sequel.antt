@@ -11,8 +11,8 @@ use Rattle.model.specs.Buffer.{entryOf}
 use Rattle.model.specs.Text.{comma, lineEnd, digits, threeFields, fieldsText, lineText}
 use Rattle.model.specs.LayoutText.{atWord, placementText, placementsText}
 use Rattle.model.specs.declared.Placement.{Placement}
+use Rattle.list_laws.proofs.Stores.{sets-append}
 use Rattle.text_fields.proofs.Steps.{decimal-short}
-use Rattle.text_fields.proofs.Stores.{sets-append}
 use Rattle.layout_write_calls.specs.Written.{Written}
 
 module _ (before : List ℕ) (at : ℕ) (next : ℕ) (after : List ℕ) where

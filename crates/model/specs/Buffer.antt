@@ -8,7 +8,7 @@ use Prim.Native.Nat.{ℕ, zero, suc, _*_, _/_, _%_}
 use lib.Dec.{eqb}
 use lib.IntN.{ℤ, pos}
 use lib.ListN.{length, getD, drop}
-use Rattle.model.specs.Bounded.{one-if}
+use Rattle.model.specs.Bounded.{oneIf}
 use Rattle.model.specs.Piece.{Shape, degrees}
 use Rattle.model.specs.Strip.{Strip}
 use Rattle.model.specs.Overlap.{OffsetRun}
@@ -84,7 +84,7 @@ runEntry r = r .first ∷ pos (r .count) ∷ []
 -- the bytes of a set from number k on, row by row: 1 for a pixel, else 0
 unfoldable pub bytesFrom : Shape → ℕ → ℕ → List ℕ
 bytesFrom s k zero = []
-bytesFrom s k (suc left) = one-if (s .has (k % s .columns) (k / s .columns)) ∷ bytesFrom s (suc k) left
+bytesFrom s k (suc left) = oneIf (s .has (k % s .columns) (k / s .columns)) ∷ bytesFrom s (suc k) left
 
 -- the bytes of a set, as the pixel store holds them
 abbrev pub bytesOf : Shape → List ℕ

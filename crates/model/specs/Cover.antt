@@ -6,7 +6,7 @@ use mathlib.Core.Option.{Option, none, some}
 use Prim.Native.Nat.{ℕ, suc, _+_, _-_, _*_, _/_, _%_}
 use lib.Dec.{ltb, eqb}
 use lib.ListN.{length, getD, set, replicate}
-use Rattle.model.specs.Bounded.{allBelow, sumBelow, one-if}
+use Rattle.model.specs.Bounded.{allBelow, sumBelow, oneIf}
 use Rattle.model.specs.Piece.{Point, corner, covers, degrees}
 use Rattle.model.specs.Layout.{Job, turnedPiece, allowed, inside, origin}
 use Rattle.model.specs.Lent.{pieceBound}
@@ -55,7 +55,7 @@ unfoldable pub lay : Job → Sheet → ℕ → Placement → Sheet
 lay j s i p =
     record {
       pieces = set (s .pieces) i (laidAt p);
-      counts = mapFrom (λ k c. c + one-if (coversPixel j i p k)) 0 (s .counts);
+      counts = mapFrom (λ k c. c + oneIf (coversPixel j i p k)) 0 (s .counts);
     }
 
 -- piece i withdrawn: its entry is blank, and each pixel that it covered counts one less
@@ -63,7 +63,7 @@ unfoldable pub withdraw : Job → Sheet → ℕ → Sheet
 withdraw j s i =
     record {
       pieces = set (s .pieces) i blank;
-      counts = mapFrom (λ k c. c - one-if (coversPixel j i (entryIn (s .pieces) i .place) k)) 0 (s .counts);
+      counts = mapFrom (λ k c. c - oneIf (coversPixel j i (entryIn (s .pieces) i .place) k)) 0 (s .counts);
     }
 
 -- why a lay is refused: no such piece or turn not allowed; laid already; outside
@@ -104,7 +104,7 @@ laidOn j es k i = entryIn es i .laid && coversPixel j i (entryIn es i .place) k
 
 -- the number of laid pieces on the pixel with number k
 unfoldable pub laidCount : Job → List Entry → ℕ → ℕ
-laidCount j es k = sumBelow (j .size .count) (λ i. one-if (laidOn j es k i))
+laidCount j es k = sumBelow (j .size .count) (λ i. oneIf (laidOn j es k i))
 
 -- the entry is that of a piece that is not laid: turn 0, corner (0, 0)
 unfoldable pub isBlank : Entry → Bool

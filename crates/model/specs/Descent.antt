@@ -85,8 +85,8 @@ pub record Descent : Type 0 where
   pub moves : ℕ
 
 -- after the last trial comes the first
-abbrev pub after : ℕ → ℕ → ℕ
-after count k = elim (ltb (suc k) count) [ true ↦ suc k | false ↦ 0 ]
+abbrev pub trialAfter : ℕ → ℕ → ℕ
+trialAfter count k = elim (ltb (suc k) count) [ true ↦ suc k | false ↦ 0 ]
 
 -- the first trial, no quiet ones
 abbrev pub begin : Layout → Progress
@@ -95,9 +95,9 @@ begin v = record { layout = v; quietCount = 0; made = 0; moves = 0; next = 0 }
 -- after a trial that came to the given attempt: a move makes the quiet count 0, a quiet trial adds 1 to it
 abbrev pub proceed : ℕ → Progress → Attempt → Progress
 proceed count s (moved v) =
-    record { layout = v; quietCount = 0; made = suc (s .made); moves = suc (s .moves); next = after count (s .next) }
+    record { layout = v; quietCount = 0; made = suc (s .made); moves = suc (s .moves); next = trialAfter count (s .next) }
 proceed count s quiet =
-    record { layout = s .layout; quietCount = suc (s .quietCount); made = suc (s .made); moves = s .moves; next = after count (s .next) }
+    record { layout = s .layout; quietCount = suc (s .quietCount); made = suc (s .made); moves = s .moves; next = trialAfter count (s .next) }
 
 -- never looked up: the list of trials has the trial that comes next
 abbrev pub noTrial : Trial

@@ -5,7 +5,7 @@ use mathlib.Core.List.{List, [], _∷_, _++_}
 use mathlib.Core.Path.{_≡_, refl}
 use Prim.Native.Nat.{ℕ}
 use Prim.Native.String.{String, _++_ as _++ᵗ_}
-use Rattle.model.specs.Bounded.{one-if}
+use Rattle.model.specs.Bounded.{oneIf}
 use Rattle.model.specs.Piece.{Shape, tight, allows}
 use Rattle.model.specs.Layout.{Job, Layout, inside}
 use Rattle.model.specs.Refusal.{Outcome, refused, given, unless}
@@ -49,7 +49,7 @@ flatLayout (p ∷ v) = entryOf p ++ flatLayout v
 
 -- row y of a set of 3 columns: 1 for a pixel, else 0
 rowOf : Shape → ℕ → List ℕ
-rowOf s y = one-if (s .has 0 y) ∷ one-if (s .has 1 y) ∷ one-if (s .has 2 y) ∷ []
+rowOf s y = oneIf (s .has 0 y) ∷ oneIf (s .has 1 y) ∷ oneIf (s .has 2 y) ∷ []
 
 -- the first row line is y = 0: of the row lines `###` and `#..` row 0 has three pixels, row 1 has one
 pub firstRowLine : Bool

@@ -1,5 +1,38 @@
 // The types that every crate shares. They follow document 01, 'Sheet and panels', 'Line search', 'Descent and guidance' and
-// 'When a call says no'; what the words mean is defined in specs/.
+// 'When a call says no'; what the words mean is defined in specs/. Each limit stands here once, under the name that specs/ has for it.
+
+// The most rows of a sheet.
+pub const ROW_BOUND: usize = 512;
+
+// The most columns of a sheet.
+pub const COLUMN_BOUND: usize = 4096;
+
+// The most pixels of a sheet, and of all boxes together.
+pub const AREA_BOUND: usize = 65536;
+
+// The most pieces of a job.
+pub const PIECE_BOUND: usize = 64;
+
+// The most pairs of them.
+pub const PAIR_BOUND: usize = PIECE_BOUND * (PIECE_BOUND - 1) / 2;
+
+// The most pixels along a box side.
+pub const SIDE_BOUND: usize = 255;
+
+// The largest sum of turns.
+pub const TURNS_BOUND: usize = 15;
+
+// The farthest that an offset of a no-fit line goes either way.
+pub const OFFSET_BOUND: u32 = 254;
+
+// The largest weight of a pair.
+pub const WEIGHT_BOUND: u32 = 65535;
+
+// The most trials of a run.
+pub const BUDGET_BOUND: u32 = 1000000000;
+
+// The most rounds of a run.
+pub const ROUND_BOUND: u32 = 1000;
 
 // A column number x, along the length of the sheet.
 pub struct Column(pub u16);
@@ -75,5 +108,5 @@ pub struct Entry {
 
 // The sheet record: an entry for each of the 64 piece numbers. Those from n on are of pieces that are not laid.
 pub struct Record {
-    pub pieces: [Entry; 64],
+    pub pieces: [Entry; PIECE_BOUND],
 }

@@ -9,7 +9,7 @@ use libc::STDOUT_FILENO;
 fn main() {
     let mut input = [0u8; program_calls::INPUT_BOUND + 1];
     let read = io::read_full(STDIN_FILENO, &mut input);
-    let mut output = [0u8; 4096];
+    let mut output = [0u8; program_calls::OUTPUT_BOUND];
     // No output has more bytes than this buffer, so that it is not refused.
     let TextAnswer::Written(count) = program_calls::print_run(&input[..read], &mut output) else {
         return;

@@ -19,11 +19,11 @@ pub record Demand2Overlap : Type 0 where
   -- shared-pixel test, depths and penalty of s at corner u and t at corner v, over pixels and whole shifts
   pub penalties : (s : Shape) (u : Point) (t : Shape) (v : Point) → PenaltyLaws s u t v
   -- the no-fit row (horizontal) at a row offset, or the no-fit column (vertical) at a column offset
-  pub no-fit-lines : (d : Direction) (s t : Shape) → extent d s ≤ 255 → extent d t ≤ 255 → (o : ℤ) → NoFitLine d s t o (noFit d s t o)
+  pub noFitLines : (d : Direction) (s t : Shape) → extent d s ≤ 255 → extent d t ≤ 255 → (o : ℤ) → NoFitLine d s t o (noFit d s t o)
   -- the test says yes exactly when the corners' difference along the direction is listed at their difference across it
-  pub no-fit-shares : (d : Direction) (s : Shape) (u : Point) (t : Shape) (v : Point) → extent d s ≤ 255 → extent d t ≤ 255
+  pub noFitShares : (d : Direction) (s : Shape) (u : Point) (t : Shape) (v : Point) → extent d s ≤ 255 → extent d t ≤ 255
       → (share s u t v ≡ true) ↔ InOffsetRuns (subℕ (along d v) (along d u)) (noFit d s t (subℕ (across d v) (across d u)))
 
 -- demand 2, shared pixel, penalty and no-fit rows, holds
 pub demand2-overlap : Demand2Overlap
-demand2-overlap = record { penalties = demand2-penalty; no-fit-lines = no-fit-line; no-fit-shares = no-fit-share }
+demand2-overlap = record { penalties = demand2-penalty; noFitLines = no-fit-line; noFitShares = no-fit-share }

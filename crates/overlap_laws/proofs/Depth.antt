@@ -15,8 +15,8 @@ use Rattle.model.specs.Piece.{Point, Shape, shift, extent}
 use Rattle.model.specs.Overlap.{share, apartAt, reach, depth}
 use Rattle.model.specs.declared.Direction.{Direction}
 use Rattle.model.specs.declared.Direction.the-variants.{Horizontal, Vertical}
-use Rattle.model.proofs.Bounded.{First, first-from}
-use Rattle.model.proofs.Tests.{or-cases, or-left, or-right, or-neither, passes, clash}
+use Rattle.list_laws.proofs.Tests.{or-cases, or-left, or-right, or-neither, passes, clash}
+use Rattle.list_laws.proofs.Bounded.{First, first-from}
 use Rattle.overlap_laws.specs.Overlap.{sharesShifted, PartingShift, LeastShift, SharedPixel}
 use Rattle.overlap_laws.proofs.Share.{SameDifference, SamePixels, share-pixels, share-witness, share-symmetric, share-difference, shared-along, pixel-along, along-shift, shift-zero}
 
@@ -53,7 +53,7 @@ module _ (d : Direction) (s : Shape) (u : Point) (t : Shape) (v : Point) where
       let both = not-apart k e in
       let w : SharedPixel s u t (shift d k v) = share-witness s u t (shift d k v) (both .0) in
       let z : SharedPixel s (shift d k u) t v = share-witness s (shift d k u) t v (both .1) in
-      omega (arith, along-shift d k u, along-shift d k v, shared-along d w, shared-along d z, pixel-along d s (w .p) (w .of-first), pixel-along d t (z .q) (z .of-second)))
+      omega (arith, along-shift d k u, along-shift d k v, shared-along d w, shared-along d z, pixel-along d s (w .p) (w .ofFirst), pixel-along d t (z .q) (z .ofSecond)))
 
   -- ── the depth ──
 

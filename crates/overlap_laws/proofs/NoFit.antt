@@ -15,8 +15,9 @@ use Rattle.model.specs.Piece.{Point, Shape, pixel, along, across, point, extent
 use Rattle.model.specs.Strip.{Run, runs}
 use Rattle.model.specs.Overlap.{share, noFit, noFitAt, offsetBound, up, down, OffsetRun, unbiased}
 use Rattle.model.specs.declared.Direction.{Direction}
-use Rattle.model.proofs.Tests.{clash}
-use Rattle.strip_laws.proofs.Lists.{Source, map-source, map-member, pairwise-map}
+use Rattle.list_laws.proofs.Lists.{Source, map-source, map-member}
+use Rattle.list_laws.proofs.Tests.{clash}
+use Rattle.strip_laws.proofs.Lists.{pairwise-map}
 use Rattle.strip_laws.proofs.Runs.{MaximalRun, InRuns, RunBefore, runs-exactly, runs-maximal, runs-ascending}
 use Rattle.overlap_laws.specs.NoFit.{PixelOffset, InOffsetRuns, MaximalOffsetRun, OffsetRunBefore, NoFitLine}
 use Rattle.overlap_laws.specs.Overlap.{SharedPixel}
@@ -34,16 +35,16 @@ share-offset d s u t v = (
       record {
         p = w .p;
         q = w .q;
-        of-first = w .of-first;
-        of-second = w .of-second;
-        along-is = sub-eq (along d v) (along d u) (along d (w .p)) (along d (w .q)) (omega (arith, shared-along d w));
-        across-is = sub-eq (across d v) (across d u) (across d (w .p)) (across d (w .q)) (omega (arith, shared-across d w));
+        ofFirst = w .ofFirst;
+        ofSecond = w .ofSecond;
+        alongIs = sub-eq (along d v) (along d u) (along d (w .p)) (along d (w .q)) (omega (arith, shared-along d w));
+        acrossIs = sub-eq (across d v) (across d u) (across d (w .p)) (across d (w .q)) (omega (arith, shared-across d w));
       },
   λ w.
       share-from s u t v
-      (shared-over d s u t v (w .p) (w .q) (w .of-first) (w .of-second)
-      (omega (arith, eq-sub (along d v) (along d u) (along d (w .p)) (along d (w .q)) (w .along-is)))
-      (omega (arith, eq-sub (across d v) (across d u) (across d (w .p)) (across d (w .q)) (w .across-is)))),
+      (shared-over d s u t v (w .p) (w .q) (w .ofFirst) (w .ofSecond)
+      (omega (arith, eq-sub (along d v) (along d u) (along d (w .p)) (along d (w .q)) (w .alongIs)))
+      (omega (arith, eq-sub (across d v) (across d u) (across d (w .p)) (across d (w .q)) (w .acrossIs)))),
 )
 
 -- the biased test passes at k exactly when k - offsetBound is an offset of two pixels
@@ -57,10 +58,10 @@ no-fit-at d s t o k =
 pub record BiasedOffset (d : Direction) (s t : Shape) (o : ℤ) (k : ℕ) : Type 0 where
   pub p : Point
   pub q : Point
-  pub of-first : pixel s p ≡ true
-  pub of-second : pixel t q ≡ true
-  pub along-is : along d p + offsetBound ≡ along d q + k
-  pub across-is : across d p + down o ≡ across d q + up o
+  pub ofFirst : pixel s p ≡ true
+  pub ofSecond : pixel t q ≡ true
+  pub alongIs : along d p + offsetBound ≡ along d q + k
+  pub acrossIs : across d p + down o ≡ across d q + up o
 
 -- the biased test passes at k exactly when there are such pixels
 pub no-fit-at-biased : (d : Direction) (s t : Shape) (o : ℤ) (k : ℕ) → (noFitAt d s t o k ≡ true) ↔ BiasedOffset d s t o k
@@ -71,20 +72,20 @@ no-fit-at-biased d s t o k = (
       record {
         p = w .p;
         q = w .q;
-        of-first = w .of-first;
-        of-second = w .of-second;
-        along-is = omega (arith, eq-sub k offsetBound (along d (w .p)) (along d (w .q)) (w .along-is));
-        across-is = omega (arith, ap up (w .across-is), ap down (w .across-is));
+        ofFirst = w .ofFirst;
+        ofSecond = w .ofSecond;
+        alongIs = omega (arith, eq-sub k offsetBound (along d (w .p)) (along d (w .q)) (w .alongIs));
+        acrossIs = omega (arith, ap up (w .acrossIs), ap down (w .acrossIs));
       },
   λ w.
       no-fit-at d s t o k .1
       record {
         p = w .p;
         q = w .q;
-        of-first = w .of-first;
-        of-second = w .of-second;
-        along-is = sub-eq k offsetBound (along d (w .p)) (along d (w .q)) (omega (arith, w .along-is));
-        across-is = whole-eq o (subℕ (across d (w .p)) (across d (w .q))) (omega (arith, w .across-is, sub-whole (across d (w .p)) (across d (w .q))));
+        ofFirst = w .ofFirst;
+        ofSecond = w .ofSecond;
+        alongIs = sub-eq k offsetBound (along d (w .p)) (along d (w .q)) (omega (arith, w .alongIs));
+        acrossIs = whole-eq o (subℕ (across d (w .p)) (across d (w .q))) (omega (arith, w .acrossIs, sub-whole (across d (w .p)) (across d (w .q))));
       },
 )
 
@@ -99,12 +100,12 @@ pub record Biased (a : ℤ) : Type 0 where
 -- with sides along the direction of at most 255, the search tries every offset
 pub offset-biased : (d : Direction) (s t : Shape) → extent d s ≤ 255 → extent d t ≤ 255 → (a o : ℤ) → PixelOffset d s t a o → Biased a
 offset-biased d s t h k a o w =
-    let l : along d (w .p) < extent d s = pixel-along d s (w .p) (w .of-first) in
-    let r : along d (w .q) < extent d t = pixel-along d t (w .q) (w .of-second) in
+    let l : along d (w .p) < extent d s = pixel-along d s (w .p) (w .ofFirst) in
+    let r : along d (w .q) < extent d t = pixel-along d t (w .q) (w .ofSecond) in
     record {
       number = along d (w .p) + offsetBound - along d (w .q);
       below = omega arith;
-      is = w .along-is ∙ sub-eq (along d (w .p)) (along d (w .q)) (along d (w .p) + offsetBound - along d (w .q)) offsetBound (omega arith);
+      is = w .alongIs ∙ sub-eq (along d (w .p)) (along d (w .q)) (along d (w .p) + offsetBound - along d (w .q)) offsetBound (omega arith);
     }
 
 -- and every offset lies between -254 and 254

@@ -7,16 +7,14 @@ use mathlib.Core.Logic.{_⊎_, inl, inr, ⊎-elim, _↔_, Iff·trans}
 use Prim.Native.Nat.{ℕ, _≤_, min}
 use native.Mathlib.Nat.{min-le-left, min-le-right, eq-or-lt-of-le}
 use native.Mathlib.Omega.{arith}
-use lib.IntN.{ℤ, pos}
 use Rattle.model.specs.Piece.{Point, Shape, extent}
 use Rattle.model.specs.Overlap.{share, depth, penalty}
 use Rattle.model.specs.declared.Direction.{Direction}
 use Rattle.model.specs.declared.Direction.the-variants.{Horizontal, Vertical}
-use Rattle.model.proofs.Tests.{clash, fails}
-use Rattle.overlap_laws.specs.Overlap.{PenaltyLaws, SharedPixel, LeastShift, sharesShifted}
+use Rattle.list_laws.proofs.Tests.{clash, fails}
+use Rattle.overlap_laws.specs.Overlap.{PenaltyLaws, SharedPixel}
 use Rattle.overlap_laws.proofs.Share.{SameDifference, SamePixels, share-exactly, share-from, share-witness}
 use Rattle.overlap_laws.proofs.Depth.{depth-exactly, depth-zero, zero-depth, depth-symmetric, depth-difference, depth-pixels, depth-bound}
-use Rattle.overlap_laws.specs.PixelDepth.{SharesAtShift, DepthOverPixels, PenaltyOverPixels}
 use Rattle.overlap_laws.proofs.PixelDepth.{shares-at-shift, shares-unshifted, depth-over-pixels, over-pixels-depth, penalty-over-pixels, over-pixels-penalty}
 
 -- the smaller of two numbers is one of them
@@ -75,15 +73,15 @@ pub demand2-penalty : (s : Shape) (u : Point) (t : Shape) (v : Point) → Penalt
 demand2-penalty s u t v =
     let none-shared : (penalty s u t v ≡ 0) ↔ (share s u t v ≡ false) = (zero-penalty s u t v, penalty-zero s u t v) in
     record {
-      shared-exactly = share-exactly s u t v;
-      zero-exactly = none-shared;
-      zero-no-pixel = Iff·trans none-shared (no-pixel s u t v);
+      sharedExactly = share-exactly s u t v;
+      zeroExactly = none-shared;
+      zeroNoPixel = Iff·trans none-shared (no-pixel s u t v);
       depths = λ d. depth-exactly d s u t v;
-      shared-at = λ d. shares-unshifted d s u t v;
-      shared-shifted = λ d. shares-at-shift d s u t v;
-      pixel-depths = λ d n. (over-pixels-depth d s u t v n, λ e. rw e (depth-over-pixels d s u t v));
-      pixel-penalty = λ n. (over-pixels-penalty s u t v n, λ e. rw e (penalty-over-pixels s u t v));
-      at-most = penalty-le s u t v;
+      sharedAt = λ d. shares-unshifted d s u t v;
+      sharedShifted = λ d. shares-at-shift d s u t v;
+      pixelDepths = λ d n. (over-pixels-depth d s u t v n, λ e. rw e (depth-over-pixels d s u t v));
+      pixelPenalty = λ n. (over-pixels-penalty s u t v n, λ e. rw e (penalty-over-pixels s u t v));
+      atMost = penalty-le s u t v;
       attained = penalty-attained s u t v;
       symmetric = penalty-symmetric s u t v;
       bounded = penalty-bound s u t v;

@@ -11,7 +11,7 @@ use Rattle.model.specs.Piece.{Point, Shape, along, across, shift}
 use Rattle.model.specs.Overlap.{share, depth, penalty, up, down}
 use Rattle.model.specs.declared.Direction.{Direction}
 use Rattle.model.specs.declared.Direction.the-variants.{Horizontal, Vertical}
-use Rattle.model.proofs.Tests.{clash, fails, passes}
+use Rattle.list_laws.proofs.Tests.{clash, fails, passes}
 use Rattle.overlap_laws.specs.PixelDepth.{SharesAtShift, DepthOverPixels, PenaltyOverPixels}
 use Rattle.overlap_laws.proofs.Share.{along-shift, across-shift, shift-zero}
 use Rattle.overlap_laws.proofs.Whole.{whole-eq, sub-whole, add-signed}
@@ -42,20 +42,20 @@ module _ (d : Direction) (s : Shape) (u : Point) (t : Shape) (v : Point) where
         record {
           p = w .p;
           q = w .q;
-          of-first = w .of-first;
-          of-second = w .of-second;
-          along-is = sym (moved-along k) ∙ w .along-is;
-          across-is = sym (moved-across k) ∙ w .across-is;
+          ofFirst = w .ofFirst;
+          ofSecond = w .ofSecond;
+          alongIs = sym (moved-along k) ∙ w .alongIs;
+          acrossIs = sym (moved-across k) ∙ w .acrossIs;
         },
     λ w.
         share-offset d s (shift d (down k) u) t (shift d (up k) v) .1
         record {
           p = w .p;
           q = w .q;
-          of-first = w .of-first;
-          of-second = w .of-second;
-          along-is = moved-along k ∙ w .along-is;
-          across-is = moved-across k ∙ w .across-is;
+          ofFirst = w .ofFirst;
+          ofSecond = w .ofSecond;
+          alongIs = moved-along k ∙ w .alongIs;
+          acrossIs = moved-across k ∙ w .acrossIs;
         },
   )
 
@@ -110,10 +110,10 @@ module _ (s : Shape) (u : Point) (t : Shape) (v : Point) where
   unfolding penalty
   penalty-over-pixels =
       record {
-        row-depth = depth Horizontal s u t v;
-        column-depth = depth Vertical s u t v;
-        in-rows = depth-over-pixels Horizontal s u t v;
-        in-columns = depth-over-pixels Vertical s u t v;
+        rowDepth = depth Horizontal s u t v;
+        columnDepth = depth Vertical s u t v;
+        inRows = depth-over-pixels Horizontal s u t v;
+        inColumns = depth-over-pixels Vertical s u t v;
         smaller = refl;
       }
 
@@ -121,6 +121,6 @@ module _ (s : Shape) (u : Point) (t : Shape) (v : Point) where
   pub over-pixels-penalty : (n : ℕ) → PenaltyOverPixels s u t v n → n ≡ penalty s u t v
   unfolding penalty
   over-pixels-penalty n o =
-      let a : o .row-depth ≡ depth Horizontal s u t v = over-pixels-depth Horizontal s u t v (o .row-depth) (o .in-rows) in
-      let b : o .column-depth ≡ depth Vertical s u t v = over-pixels-depth Vertical s u t v (o .column-depth) (o .in-columns) in
+      let a : o .rowDepth ≡ depth Horizontal s u t v = over-pixels-depth Horizontal s u t v (o .rowDepth) (o .inRows) in
+      let b : o .columnDepth ≡ depth Vertical s u t v = over-pixels-depth Vertical s u t v (o .columnDepth) (o .inColumns) in
       o .smaller ∙ ap₂ min a b

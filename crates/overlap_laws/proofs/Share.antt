@@ -10,13 +10,13 @@ use native.Mathlib.Nat.{add-zero}
 use native.Mathlib.Omega.{arith}
 use lib.Dec.{leb, ltb}
 use borrow.Author.Tests.{ltb-true, leb-true, lt-ltb, le-leb}
+use Rattle.list_laws.proofs.Tests.{and-left, and-right, and-both, same-tests}
+use Rattle.list_laws.proofs.Bounded.{any-witness, any-from}
 pub use Rattle.strip_laws.proofs.Boxes.{along-point, across-point}
 use Rattle.model.specs.Piece.{Point, Shape, pixel, covers, along, across, shift, extent}
 use Rattle.model.specs.Overlap.{share}
 use Rattle.model.specs.declared.Direction.{Direction}
 use Rattle.model.specs.declared.Direction.the-variants.{Horizontal, Vertical}
-use Rattle.model.proofs.Bounded.{any-witness, any-from}
-use Rattle.model.proofs.Tests.{and-left, and-right, and-both, same-tests}
 use Rattle.overlap_laws.specs.Overlap.{SharedPixel}
 
 -- ── a pixel of a shape ──
@@ -50,10 +50,10 @@ pixel-along Vertical s p e = pixel-facts s p e .row
 
 -- a pixel of s whose place on the sheet, for s at corner v, is r
 pub record Covered (s : Shape) (v r : Point) : Type 0 where
-  pub pixel-at : Point
-  pub is-pixel : pixel s pixel-at ≡ true
-  pub column : v .x + pixel-at .x ≡ r .x
-  pub row : v .y + pixel-at .y ≡ r .y
+  pub pixelAt : Point
+  pub isPixel : pixel s pixelAt ≡ true
+  pub column : v .x + pixelAt .x ≡ r .x
+  pub row : v .y + pixelAt .y ≡ r .y
 
 -- a covered pixel of the sheet is the place of a pixel of the shape
 pub covers-witness : (s : Shape) (v r : Point) → covers s v r ≡ true → Covered s v r
@@ -62,16 +62,16 @@ covers-witness s v r e =
     let corner : (leb (v .x) (r .x) && leb (v .y) (r .y)) ≡ true = and-left _ (pixel s q) e in
     let h : v .x ≤ r .x = leb-true _ _ (and-left _ (leb (v .y) (r .y)) corner) in
     let k : v .y ≤ r .y = leb-true _ _ (and-right (leb (v .x) (r .x)) _ corner) in
-    record { pixel-at = q; is-pixel = and-right (leb (v .x) (r .x) && leb (v .y) (r .y)) _ e; column = omega arith; row = omega arith }
+    record { pixelAt = q; isPixel = and-right (leb (v .x) (r .x) && leb (v .y) (r .y)) _ e; column = omega arith; row = omega arith }
 
 -- the place of a pixel of the shape is covered
 pub covers-from : (s : Shape) (v r : Point) → Covered s v r → covers s v r ≡ true
 covers-from s v r c =
     let h : v .x ≤ r .x = omega (arith, c .column) in
     let k : v .y ≤ r .y = omega (arith, c .row) in
-    let a : r .x - v .x ≡ c .pixel-at .x = omega (arith, c .column) in
-    let b : r .y - v .y ≡ c .pixel-at .y = omega (arith, c .row) in
-    and-both (and-both (le-leb _ _ h) (le-leb _ _ k)) (rw (a, b) (c .is-pixel))
+    let a : r .x - v .x ≡ c .pixelAt .x = omega (arith, c .column) in
+    let b : r .y - v .y ≡ c .pixelAt .y = omega (arith, c .row) in
+    and-both (and-both (le-leb _ _ h) (le-leb _ _ k)) (rw (a, b) (c .isPixel))
 
 -- ── sharing a pixel ──
 
@@ -87,9 +87,9 @@ share-witness s u t v e =
     let c : Covered t v r = covers-witness t v r (and-right (s .has x y) _ (in-column .passing)) in
     record {
       p = record { x = x; y = y };
-      q = c .pixel-at;
-      of-first = pixel-from s _ (record { column = in-column .below; row = in-row .below; present = and-left (s .has x y) _ (in-column .passing) });
-      of-second = c .is-pixel;
+      q = c .pixelAt;
+      ofFirst = pixel-from s _ (record { column = in-column .below; row = in-row .below; present = and-left (s .has x y) _ (in-column .passing) });
+      ofSecond = c .isPixel;
       column = sym (c .column);
       row = sym (c .row);
     }
@@ -98,9 +98,9 @@ share-witness s u t v e =
 pub share-from : (s : Shape) (u : Point) (t : Shape) (v : Point) → SharedPixel s u t v → share s u t v ≡ true
 unfolding share
 share-from s u t v w =
-    let f : PixelOf s (w .p) = pixel-facts s (w .p) (w .of-first) in
+    let f : PixelOf s (w .p) = pixel-facts s (w .p) (w .ofFirst) in
     let r : Point = record { x = u .x + w .p .x; y = u .y + w .p .y } in
-    let c : covers t v r ≡ true = covers-from t v r (record { pixel-at = w .q; is-pixel = w .of-second; column = sym (w .column); row = sym (w .row) }) in
+    let c : covers t v r ≡ true = covers-from t v r (record { pixelAt = w .q; isPixel = w .ofSecond; column = sym (w .column); row = sym (w .row) }) in
     any-from (s .rows) (w .p .y) _ (f .row) (any-from (s .columns) (w .p .x) _ (f .column) (and-both (f .present) c))
 
 -- they share a pixel exactly when d = p - q for some pixels p of s and q of t, where d is the corners' difference
@@ -110,8 +110,8 @@ share-exactly s u t v = (share-witness s u t v, share-from s u t v)
 -- a pixel of the sheet that both cover
 pub record CommonPixel (s : Shape) (u : Point) (t : Shape) (v : Point) : Type 0 where
   pub place : Point
-  pub by-first : covers s u place ≡ true
-  pub by-second : covers t v place ≡ true
+  pub byFirst : covers s u place ≡ true
+  pub bySecond : covers t v place ≡ true
 
 -- where they share a pixel, both cover some pixel of the sheet
 pub share-common : (s : Shape) (u : Point) (t : Shape) (v : Point) → share s u t v ≡ true → CommonPixel s u t v
@@ -120,21 +120,21 @@ share-common s u t v e =
     let r : Point = record { x = u .x + w .p .x; y = u .y + w .p .y } in
     record {
       place = r;
-      by-first = covers-from s u r (record { pixel-at = w .p; is-pixel = w .of-first; column = refl; row = refl });
-      by-second = covers-from t v r (record { pixel-at = w .q; is-pixel = w .of-second; column = sym (w .column); row = sym (w .row) });
+      byFirst = covers-from s u r (record { pixelAt = w .p; isPixel = w .ofFirst; column = refl; row = refl });
+      bySecond = covers-from t v r (record { pixelAt = w .q; isPixel = w .ofSecond; column = sym (w .column); row = sym (w .row) });
     }
 
 -- where both cover some pixel of the sheet, they share a pixel
 pub common-share : (s : Shape) (u : Point) (t : Shape) (v : Point) → CommonPixel s u t v → share s u t v ≡ true
 common-share s u t v c =
-    let a : Covered s u (c .place) = covers-witness s u (c .place) (c .by-first) in
-    let b : Covered t v (c .place) = covers-witness t v (c .place) (c .by-second) in
+    let a : Covered s u (c .place) = covers-witness s u (c .place) (c .byFirst) in
+    let b : Covered t v (c .place) = covers-witness t v (c .place) (c .bySecond) in
     share-from s u t v
     (record {
-      p = a .pixel-at;
-      q = b .pixel-at;
-      of-first = a .is-pixel;
-      of-second = b .is-pixel;
+      p = a .pixelAt;
+      q = b .pixelAt;
+      ofFirst = a .isPixel;
+      ofSecond = b .isPixel;
       column = a .column ∙ sym (b .column);
       row = a .row ∙ sym (b .row);
     })
@@ -148,7 +148,7 @@ share-covers s u t v = (share-common s u t v, common-share s u t v)
 -- the two pixels in the other order
 shared-swap : (s : Shape) (u : Point) (t : Shape) (v : Point) → SharedPixel s u t v → SharedPixel t v s u
 shared-swap s u t v w =
-    record { p = w .q; q = w .p; of-first = w .of-second; of-second = w .of-first; column = sym (w .column); row = sym (w .row) }
+    record { p = w .q; q = w .p; ofFirst = w .ofSecond; ofSecond = w .ofFirst; column = sym (w .column); row = sym (w .row) }
 
 -- sharing a pixel does not depend on which of the two is called first
 pub share-symmetric : (s : Shape) (u : Point) (t : Shape) (v : Point) → share s u t v ≡ share t v s u
@@ -168,8 +168,8 @@ shared-moved s u t v u′ v′ d w =
     record {
       p = w .p;
       q = w .q;
-      of-first = w .of-first;
-      of-second = w .of-second;
+      ofFirst = w .ofFirst;
+      ofSecond = w .ofSecond;
       column = omega (arith, d .column, w .column);
       row = omega (arith, d .row, w .row);
     }
@@ -198,8 +198,8 @@ shared-across Vertical w = w .column
 -- pixels at the same place along a direction and across it are shared
 pub shared-over : (d : Direction) (s : Shape) (u : Point) (t : Shape) (v p q : Point) → pixel s p ≡ true → pixel t q ≡ true
     → along d u + along d p ≡ along d v + along d q → across d u + across d p ≡ across d v + across d q → SharedPixel s u t v
-shared-over Horizontal s u t v p q a b e f = record { p = p; q = q; of-first = a; of-second = b; column = e; row = f }
-shared-over Vertical s u t v p q a b e f = record { p = p; q = q; of-first = a; of-second = b; column = f; row = e }
+shared-over Horizontal s u t v p q a b e f = record { p = p; q = q; ofFirst = a; ofSecond = b; column = e; row = f }
+shared-over Vertical s u t v p q a b e f = record { p = p; q = q; ofFirst = a; ofSecond = b; column = f; row = e }
 
 -- corners whose differences agree along a direction and across it have the same difference
 pub same-difference : (d : Direction) (u v u′ v′ : Point) → along d u + along d v′ ≡ along d u′ + along d v
@@ -242,8 +242,8 @@ shared-pixels s u t v s′ t′ e f w =
     record {
       p = w .p;
       q = w .q;
-      of-first = sym (e (w .p)) ∙ w .of-first;
-      of-second = sym (f (w .q)) ∙ w .of-second;
+      ofFirst = sym (e (w .p)) ∙ w .ofFirst;
+      ofSecond = sym (f (w .q)) ∙ w .ofSecond;
       column = w .column;
       row = w .row;
     }

@@ -16,10 +16,10 @@ use Rattle.strip_laws.specs.Lists.{Pairwise}
 pub record PixelOffset (d : Direction) (s t : Shape) (a o : ℤ) : Type 0 where
   pub p : Point
   pub q : Point
-  pub of-first : pixel s p ≡ true
-  pub of-second : pixel t q ≡ true
-  pub along-is : a ≡ subℕ (along d p) (along d q)
-  pub across-is : o ≡ subℕ (across d p) (across d q)
+  pub ofFirst : pixel s p ≡ true
+  pub ofSecond : pixel t q ≡ true
+  pub alongIs : a ≡ subℕ (along d p) (along d q)
+  pub acrossIs : o ≡ subℕ (across d p) (across d q)
 
 -- the offset a lies in a run of the list: first ≤ a < first + count
 pub record InOffsetRuns (a : ℤ) (rs : List OffsetRun) : Type 0 where

@@ -15,8 +15,8 @@ use Rattle.overlap_laws.specs.PixelDepth.{SharesAtShift, DepthOverPixels
 pub record SharedPixel (s : Shape) (u : Point) (t : Shape) (v : Point) : Type 0 where
   pub p : Point
   pub q : Point
-  pub of-first : pixel s p ≡ true
-  pub of-second : pixel t q ≡ true
+  pub ofFirst : pixel s p ≡ true
+  pub ofSecond : pixel t q ≡ true
   pub column : u .x + p .x ≡ v .x + q .x
   pub row : u .y + p .y ≡ v .y + q .y
 
@@ -38,23 +38,23 @@ pub record LeastShift (d : Direction) (s : Shape) (u : Point) (t : Shape) (v : P
 -- what demand 2 says of the shared-pixel test and the penalty of s at corner u and t at corner v, over their pixel sets
 pub record PenaltyLaws (s : Shape) (u : Point) (t : Shape) (v : Point) : Type 0 where
   -- the test says yes exactly when u + p = v + q for some pixels p of s and q of t
-  pub shared-exactly : (share s u t v ≡ true) ↔ SharedPixel s u t v
+  pub sharedExactly : (share s u t v ≡ true) ↔ SharedPixel s u t v
   -- the penalty is 0 exactly when the test says no
-  pub zero-exactly : (penalty s u t v ≡ 0) ↔ (share s u t v ≡ false)
+  pub zeroExactly : (penalty s u t v ≡ 0) ↔ (share s u t v ≡ false)
   -- the penalty is 0 exactly when there are no such pixels
-  pub zero-no-pixel : (penalty s u t v ≡ 0) ↔ (¬ SharedPixel s u t v)
+  pub zeroNoPixel : (penalty s u t v ≡ 0) ↔ (¬ SharedPixel s u t v)
   -- each depth is the least |z|, z whole, such that t shifted by z in its direction shares no pixel with s
   pub depths : (d : Direction) → LeastShift d s u t v (depth d s u t v)
   -- the test over pixels: not shifted, they share a pixel exactly when the corners' difference is p - q for some pixels
-  pub shared-at : (d : Direction) → (share s u t v ≡ true) ↔ SharesAtShift d s u t v (pos 0)
+  pub sharedAt : (d : Direction) → (share s u t v ≡ true) ↔ SharesAtShift d s u t v (pos 0)
   -- shifted by k, exactly when that difference, k added along the direction, is p - q for some pixels
-  pub shared-shifted : (d : Direction) (k : ℤ) → (sharesShifted d s u t v k ≡ true) ↔ SharesAtShift d s u t v k
+  pub sharedShifted : (d : Direction) (k : ℤ) → (sharesShifted d s u t v k ≡ true) ↔ SharesAtShift d s u t v k
   -- each depth over pixels: the least |k|, k whole, such that t shifted by k shares no pixel with s, and no other number
-  pub pixel-depths : (d : Direction) (n : ℕ) → DepthOverPixels d s u t v n ↔ (n ≡ depth d s u t v)
+  pub pixelDepths : (d : Direction) (n : ℕ) → DepthOverPixels d s u t v n ↔ (n ≡ depth d s u t v)
   -- the penalty over pixels: the smaller of these two, and no other number
-  pub pixel-penalty : (n : ℕ) → PenaltyOverPixels s u t v n ↔ (n ≡ penalty s u t v)
+  pub pixelPenalty : (n : ℕ) → PenaltyOverPixels s u t v n ↔ (n ≡ penalty s u t v)
   -- the penalty is the smaller of the two depths
-  pub at-most : (d : Direction) → penalty s u t v ≤ depth d s u t v
+  pub atMost : (d : Direction) → penalty s u t v ≤ depth d s u t v
   pub attained : (penalty s u t v ≡ depth Horizontal s u t v) ⊎ (penalty s u t v ≡ depth Vertical s u t v)
   -- the penalty does not depend on which of the two is called first
   pub symmetric : penalty s u t v ≡ penalty t v s u

@@ -15,10 +15,10 @@ use Rattle.model.specs.declared.Direction.the-variants.{Horizontal, Vertical}
 pub record SharesAtShift (d : Direction) (s : Shape) (u : Point) (t : Shape) (v : Point) (k : ℤ) : Type 0 where
   pub p : Point
   pub q : Point
-  pub of-first : pixel s p ≡ true
-  pub of-second : pixel t q ≡ true
-  pub along-is : subℕ (along d v) (along d u) +ℤ k ≡ subℕ (along d p) (along d q)
-  pub across-is : subℕ (across d v) (across d u) ≡ subℕ (across d p) (across d q)
+  pub ofFirst : pixel s p ≡ true
+  pub ofSecond : pixel t q ≡ true
+  pub alongIs : subℕ (along d v) (along d u) +ℤ k ≡ subℕ (along d p) (along d q)
+  pub acrossIs : subℕ (across d v) (across d u) ≡ subℕ (across d p) (across d q)
 
 -- a whole number k with |k| = n such that t shifted by k shares no pixel with s
 pub record PartedAt (d : Direction) (s : Shape) (u : Point) (t : Shape) (v : Point) (n : ℕ) : Type 0 where
@@ -33,8 +33,8 @@ pub record DepthOverPixels (d : Direction) (s : Shape) (u : Point) (t : Shape) (
 
 -- n is the smaller of the two depths
 pub record PenaltyOverPixels (s : Shape) (u : Point) (t : Shape) (v : Point) (n : ℕ) : Type 0 where
-  pub row-depth : ℕ
-  pub column-depth : ℕ
-  pub in-rows : DepthOverPixels Horizontal s u t v row-depth
-  pub in-columns : DepthOverPixels Vertical s u t v column-depth
-  pub smaller : n ≡ min row-depth column-depth
+  pub rowDepth : ℕ
+  pub columnDepth : ℕ
+  pub inRows : DepthOverPixels Horizontal s u t v rowDepth
+  pub inColumns : DepthOverPixels Vertical s u t v columnDepth
+  pub smaller : n ≡ min rowDepth columnDepth

@@ -2,7 +2,7 @@
 -- the sheet, and as two pieces of one job they have no more pixels than its boxes. Assumes nothing.
 use mathlib.Core.Bool.{Bool, true, false, not, _||_}
 use mathlib.Core.List.{List}
-use mathlib.Core.Path.{_≡_, sym, _∙_}
+use mathlib.Core.Path.{_≡_, sym}
 use mathlib.Core.Logic.{⊎-elim}
 use Prim.Native.Nat.{ℕ, _+_, _<_}
 use native.Mathlib.Nat.{eq-or-lt-of-le}
@@ -11,20 +11,19 @@ use lib.Dec.{leb, ltb, eqb}
 use lib.ListN.{length}
 use borrow.Author.Tests.{leb-true, ltb-true, ltb-false, eqb-true, eqb-false, not-false}
 use Rattle.model.specs.Layout.{inside, placeOf, turnedPiece}
-use Rattle.model.specs.Lent.{Lent, jobOf, lentWell, areaBound}
+use Rattle.model.specs.Lent.{Lent, jobOf, lentWell}
 use Rattle.model.specs.Buffer.{layoutOf}
 use Rattle.model.specs.Calls.{someTurnWrong, someOutside, pairCauses}
-use Rattle.model.proofs.Bounded.{any-none}
-use Rattle.model.proofs.Tests.{and-left, and-right, or-neither, decided}
-use Rattle.job_laws.proofs.Checked.{facts, Facts}
+use Rattle.list_laws.proofs.Tests.{and-left, and-right, or-neither, decided}
+use Rattle.list_laws.proofs.Bounded.{any-none}
+use Rattle.job_laws.proofs.Checked.{facts, Facts, entry-at}
 use Rattle.text_laws.specs.Outcomes.{NoCause}
 use Rattle.job_laws.proofs.Starts.{start-end}
-use Rattle.strip_scan.proofs.Jobs.{entry-at}
-use Rattle.pair_measure.specs.Ready.{Ready, Together}
+use Rattle.pair_measure.specs.Ready.{MeasureReady, Together}
 
 -- a piece of a layout that passes
 pub piece-ready : (l : Lent) (es : List (List ℕ)) → lentWell l ≡ true → someOutside (jobOf l) (layoutOf es) ≡ false
-    → (i : ℕ) → i < l .size .count → Ready (l .table) i (placeOf (layoutOf es) i)
+    → (i : ℕ) → i < l .size .count → MeasureReady (l .table) i (placeOf (layoutOf es) i)
 unfolding someOutside inside jobOf
 piece-ready l es w out i b =
     let p = placeOf (layoutOf es) i in
@@ -59,8 +58,8 @@ pair-together l w i k a b e =
 pub record Measurable (l : Lent) (es : List (List ℕ)) (i k : ℕ) : Type 0 where
   pub first-place : i < length es
   pub second-place : k < length es
-  pub first : Ready (l .table) i (placeOf (layoutOf es) i)
-  pub second : Ready (l .table) k (placeOf (layoutOf es) k)
+  pub first : MeasureReady (l .table) i (placeOf (layoutOf es) i)
+  pub second : MeasureReady (l .table) k (placeOf (layoutOf es) k)
   pub together : Together (l .table) i k
 
 pub measurable : (l : Lent) (es : List (List ℕ)) (i k : ℕ) → NoCause (pairCauses l es i k) → Measurable l es i k

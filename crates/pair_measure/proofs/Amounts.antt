@@ -1,15 +1,14 @@
 -- What is measured of two pieces, cut off at a bound, is what document 01 measures: no depth is above 255, and a depth cut off at 1
 -- tells whether they share a pixel. Assumes nothing.
-use mathlib.Core.Bool.{Bool, true, false}
 use mathlib.Core.List.{List}
-use mathlib.Core.Path.{_≡_, refl, sym, subst, ap, ap₂, _∙_}
+use mathlib.Core.Path.{_≡_}
 use mathlib.Core.Logic.{_⊎_, ⊎-elim}
 use Prim.Native.Nat.{ℕ, min, _<_, _≤_}
 use native.Mathlib.Nat.{eq-zero-or-pos}
 use native.Mathlib.Omega.{arith}
 use lib.Dec.{eqb}
 use borrow.Author.Tests.{eqb-true, eq-eqb}
-use Rattle.model.specs.Piece.{Point, Shape, corner, extent}
+use Rattle.model.specs.Piece.{Point, Shape, corner}
 use Rattle.model.specs.Overlap.{share, depth, penalty}
 use Rattle.model.specs.Layout.{Job, turnedPiece}
 use Rattle.model.specs.Lent.{lentBy, jobOf}
@@ -17,9 +16,9 @@ use Rattle.model.specs.declared.JobSize.{JobSize}
 use Rattle.model.specs.declared.Placement.{Placement}
 use Rattle.model.specs.declared.Direction.{Direction}
 use Rattle.model.specs.declared.Direction.the-variants.{Horizontal, Vertical}
-use Rattle.model.proofs.Tests.{same-tests, clash, decided, passes}
+use Rattle.list_laws.proofs.Tests.{same-tests, clash, passes}
 use Rattle.overlap_laws.proofs.Depth.{depth-bound, depth-zero, zero-depth}
-use Rattle.pair_measure.specs.Ready.{Ready}
+use Rattle.pair_measure.specs.Ready.{MeasureReady}
 use Rattle.pair_measure.proofs.Stores.{piece-extent}
 
 -- what is cut off at 256 is at most 256
@@ -43,8 +42,8 @@ cut a b m n e f = omega arith
 abbrev measured : {A : Type 0} → (Shape → Point → Shape → Point → A) → Job → ℕ → Placement → ℕ → Placement → A
 measured f j i p k q = f (turnedPiece j i (p .turn)) (corner p) (turnedPiece j k (q .turn)) (corner q)
 
-module _ (size : JobSize) (table : List (List ℕ)) (pixels : List ℕ) (i : ℕ) (p : Placement) (r : Ready table i p) (k : ℕ) (q : Placement)
-    (w : Ready table k q) where
+module _ (size : JobSize) (table : List (List ℕ)) (pixels : List ℕ) (i : ℕ) (p : Placement) (r : MeasureReady table i p) (k : ℕ) (q : Placement)
+    (w : MeasureReady table k q) where
   -- the depth of two ready pieces is at most 255
   ready-depth : (d : Direction) → measured (depth d) (jobOf (lentBy size table pixels)) i p k q ≤ 255
   ready-depth d =

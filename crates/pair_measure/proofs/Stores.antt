@@ -1,7 +1,7 @@
 -- The strips of two pieces of a job in a local store: they are few enough to fit it, and each piece's part of it is its stretch, which
 -- the functions over strips can take. Assumes nothing.
 use mathlib.Core.List.{List, map, _++_, append-assoc}
-use mathlib.Core.Path.{_≡_, refl, sym, subst, ap, _∙_}
+use mathlib.Core.Path.{_≡_, sym, subst, ap, _∙_}
 use Prim.Native.Nat.{ℕ, _+_, _*_, _-_, _<_, _≤_}
 use native.Mathlib.Omega.{arith}
 use lib.ListN.{length, take, drop, length-map}
@@ -16,8 +16,9 @@ use Rattle.model.specs.declared.Placement.{Placement}
 use Rattle.model.specs.declared.Turn.{Turn}
 use Rattle.model.specs.declared.Direction.{Direction}
 use Rattle.model.specs.declared.Direction.the-variants.{Horizontal, Vertical}
+use Rattle.job_laws.specs.Entries.{EntryAt}
 use Rattle.job_laws.proofs.Turned.{turned-extent}
-use Rattle.strip_scan.specs.Put.{Appended, EntryAt}
+use Rattle.strip_scan.specs.Put.{Appended}
 use Rattle.pair_overlap.specs.Meet.{Ordered, Near, depthBelow}
 use Rattle.pair_overlap.specs.declared.Corner.{Corner}
 use Rattle.pair_overlap.specs.Seen.{entries, seen}
@@ -30,7 +31,7 @@ pub anySize : JobSize
 anySize = record { rows = 0; columns = 0; count = 0 }
 
 -- two stretches in a store, the second behind the first
-pub record Behind (ts us : List Strip) (after : List (List ℕ)) (middle end : ℕ) : Type 0 where
+pub record StretchBehind (ts us : List Strip) (after : List (List ℕ)) (middle end : ℕ) : Type 0 where
   pub order : middle ≤ end
   pub within : end ≤ length after
   pub first : take (middle - 0) (drop 0 after) ≡ map stripEntry ts
@@ -38,7 +39,7 @@ pub record Behind (ts us : List Strip) (after : List (List ℕ)) (middle end : �
 
 -- strips that are put into a store one after the other
 both-put : (ts us : List Strip) (before between after : List (List ℕ)) (middle end : ℕ) → length ts + length us ≤ length before
-    → Appended ts before 0 between middle → Appended us between middle after end → Behind ts us after middle end
+    → Appended ts before 0 between middle → Appended us between middle after end → StretchBehind ts us after middle end
 both-put ts us before between after middle end room a b =
     let vs : List (List ℕ) = map stripEntry ts in
     let ws : List (List ℕ) = map stripEntry us in
@@ -89,7 +90,7 @@ module _ (size : JobSize) (table : List (List ℕ)) (pixels : List ℕ) (i k : �
   pub both-behind : (before between after : List (List ℕ)) (middle end : ℕ) → length before ≡ pairRoom
       → Appended (strips d (turnedPiece (jobOf (lentBy size table pixels)) i t)) before 0 between middle
       → Appended (strips d (turnedPiece (jobOf (lentBy size table pixels)) k u)) between middle after end
-      → Behind (strips d (turnedPiece (jobOf (lentBy size table pixels)) i t)) (strips d (turnedPiece (jobOf (lentBy size table pixels)) k u)) after middle end
+      → StretchBehind (strips d (turnedPiece (jobOf (lentBy size table pixels)) i t)) (strips d (turnedPiece (jobOf (lentBy size table pixels)) k u)) after middle end
   both-behind before between after middle end l a b = both-put _ _ before between after middle end (omega (arith, both-few)) a b
 
 -- a corner within reach is so in each direction

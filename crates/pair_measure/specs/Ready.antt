@@ -2,13 +2,13 @@
 -- few strips together. Assumes nothing.
 use mathlib.Core.List.{List}
 use Prim.Native.Nat.{ℕ, _+_, _<_, _≤_}
-use Rattle.model.specs.Lent.{pixelStart, entryArea, areaBound}
+use Rattle.model.specs.Lent.{pixelStart, entryArea, areaBound, pieceBound}
 use Rattle.model.specs.declared.Placement.{Placement}
-use Rattle.strip_scan.specs.Put.{EntryAt}
+use Rattle.job_laws.specs.Entries.{EntryAt}
 
-pub record Ready (table : List (List ℕ)) (i : ℕ) (p : Placement) : Type 0 where
+pub record MeasureReady (table : List (List ℕ)) (i : ℕ) (p : Placement) : Type 0 where
   pub entry : EntryAt table i (pixelStart table i)
-  pub few : i ≤ 64
+  pub few : i ≤ pieceBound
   pub x : p .x .0 < 16384
   pub y : p .y .0 < 16384
 

@@ -14,17 +14,21 @@ ghost use Rattle.model.specs.Piece.{corner};
 ghost use Rattle.model.specs.Strip.{strips};
 ghost use Rattle.model.specs.Overlap.{depth, penalty};
 ghost use Rattle.model.specs.Layout.{turnedPiece};
-ghost use Rattle.model.specs.Lent.{lentBy, jobOf, pixelStart};
+ghost use Rattle.model.specs.Lent.{lentBy, jobOf, pixelStart, pieceBound};
 ghost use Rattle.model.specs.declared.JobSize.{JobSize};
-ghost use Rattle.strip_scan.specs.Put.{Appended, EntryAt};
+ghost use Rattle.job_laws.specs.Entries.{EntryAt};
+ghost use Rattle.strip_scan.specs.Put.{Appended};
 ghost use Rattle.pair_overlap.specs.Seen.{seen};
-ghost use Rattle.pair_measure.specs.Ready.{Ready, Together, pairRoom};
+ghost use Rattle.pair_measure.specs.Ready.{MeasureReady, Together, pairRoom};
+
+// The most strips of two pieces of a job along a direction.
+const PAIR_ROOM: usize = 33023;
 
 // A store with room for the strips of any two pieces of a job along a direction. What it holds plays no part.
-fn empty_store() -> [[u8; 3]; 33023]
+fn empty_store() -> [[u8; 3]; PAIR_ROOM]
     ensures { λ r. ⌜ length r ≡ pairRoom ⌝ }
 {
-    [[0u8; 3]; 33023]
+    [[0u8; 3]; PAIR_ROOM]
 }
 
 // Puts the strips of a piece in a turn into a store from `at` on, and tells where the next strip would stand.
@@ -37,7 +41,7 @@ fn fill(
     store: &mut [[u8; 3]],
     at: usize,
 ) -> usize
-    requires { ⌜ EntryAt (now table) i (pixelStart (now table) i) × (i ≤ 64) ⌝ ∗ ⌜ at ≤ 2 ^ 32 ⌝ }
+    requires { ⌜ EntryAt (now table) i (pixelStart (now table) i) × (i ≤ pieceBound) ⌝ ∗ ⌜ at ≤ 2 ^ 32 ⌝ }
     ensures { λ r. ⌜ ((size : JobSize) → Appended (strips direction (turnedPiece (jobOf (lentBy size (now (table .entry)) (now (pixels .entry)))) i turn)) (now (store .entry)) at (now (store .exit)) r) ⌝ }
 {
     let start = job_check::pixel_start(table, i);
@@ -74,7 +78,7 @@ fn depth_in(
     bound: u32,
     store: &mut [[u8; 3]],
 ) -> u32
-    requires { ⌜ Ready (now table) i p ⌝ ∗ ⌜ Ready (now table) k q ⌝ ∗ ⌜ Together (now table) i k ⌝ ∗ ⌜ bound ≤ 256 ⌝ ∗ ⌜ length (now store) ≡ pairRoom ⌝ }
+    requires { ⌜ MeasureReady (now table) i p ⌝ ∗ ⌜ MeasureReady (now table) k q ⌝ ∗ ⌜ Together (now table) i k ⌝ ∗ ⌜ bound ≤ 256 ⌝ ∗ ⌜ length (now store) ≡ pairRoom ⌝ }
     ensures { λ r. ⌜ ((size : JobSize) → r ≡ min (depth direction (turnedPiece (jobOf (lentBy size (now (table .entry)) (now (pixels .entry)))) i (p .turn)) (corner p) (turnedPiece (jobOf (lentBy size (now (table .entry)) (now (pixels .entry)))) k (q .turn)) (corner q)) bound) ⌝ }
 {
     let first = p.turn;
@@ -100,7 +104,7 @@ pub fn placed_depth(
     direction: Direction,
     bound: u32,
 ) -> u32
-    requires { ⌜ Ready (now table) i p ⌝ ∗ ⌜ Ready (now table) k q ⌝ ∗ ⌜ Together (now table) i k ⌝ ∗ ⌜ bound ≤ 256 ⌝ }
+    requires { ⌜ MeasureReady (now table) i p ⌝ ∗ ⌜ MeasureReady (now table) k q ⌝ ∗ ⌜ Together (now table) i k ⌝ ∗ ⌜ bound ≤ 256 ⌝ }
     ensures { λ r. ⌜ ((size : JobSize) → r ≡ min (depth direction (turnedPiece (jobOf (lentBy size (now (table .entry)) (now (pixels .entry)))) i (p .turn)) (corner p) (turnedPiece (jobOf (lentBy size (now (table .entry)) (now (pixels .entry)))) k (q .turn)) (corner q)) bound) ⌝ }
 {
     let mut store = empty_store();
@@ -117,7 +121,7 @@ pub fn placed_penalty(
     k: usize,
     q: Placement,
 ) -> u32
-    requires { ⌜ Ready (now table) i p ⌝ ∗ ⌜ Ready (now table) k q ⌝ ∗ ⌜ Together (now table) i k ⌝ }
+    requires { ⌜ MeasureReady (now table) i p ⌝ ∗ ⌜ MeasureReady (now table) k q ⌝ ∗ ⌜ Together (now table) i k ⌝ }
     ensures { λ r. ⌜ ((size : JobSize) → r ≡ penalty (turnedPiece (jobOf (lentBy size (now (table .entry)) (now (pixels .entry)))) i (p .turn)) (corner p) (turnedPiece (jobOf (lentBy size (now (table .entry)) (now (pixels .entry)))) k (q .turn)) (corner q)) ⌝ }
 {
     let mut store = empty_store();

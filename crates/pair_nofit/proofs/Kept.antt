@@ -8,17 +8,16 @@ use native.Mathlib.Nat.{le-trans, le-antisymm}
 use native.Mathlib.Numerals.{add-one}
 use native.Mathlib.Omega.{arith}
 use lib.Dec.{ltb}
-use lib.ListN.{length, getD, set, replicate, drop, length-set, length-append, length-drop, List·getD-eq-default, getD-replicate, length-replicate}
+use lib.ListN.{length, getD, set, replicate, drop, length-set, length-append, length-drop, getD-replicate, length-replicate}
 use lib.Seq.{getD-set-same, getD-set-other, set-out, drop-length}
 use borrow.Author.Tests.{ltb-true, ltb-false}
-use Rattle.model.specs.Bounded.{one-if}
+use Rattle.model.specs.Bounded.{oneIf}
 use Rattle.model.specs.Strip.{Strip}
-use Rattle.model.proofs.Tests.{clash}
-use Rattle.pair_overlap.specs.Meet.{stripAt, begin, Ordered, shifted, meet}
+use Rattle.list_laws.proofs.Numbers.{below-or}
+use Rattle.pair_overlap.specs.Meet.{stripAt, stripBegin, Ordered, shifted, meet}
 use Rattle.pair_overlap.specs.declared.Corner.{Corner}
-use Rattle.pair_overlap.proofs.Firsts.{below-or}
 use Rattle.pair_overlap.proofs.Walk.{Meeting, meet-facts, facts-meet, meet-share}
-use Rattle.pair_nofit.specs.Marks.{sharesAt, Reached, Sound, Grown, Kept, LineMarked, LineStart, PlacedAt, keptAt, farthest}
+use Rattle.pair_nofit.specs.Marks.{ShiftReached, Sound, Grown, MeetingsKept, LineMarked, LineStart, PlacedAt, keptAt, farthest}
 use Rattle.pair_nofit.specs.declared.Placed.{Placed}
 
 -- ── one interval ──
@@ -66,7 +65,7 @@ module _ (far : List ℕ) (low high : ℕ) where
       (kept-at k)
 
   -- a place that is reached then was reached, or lies in the interval
-  pub kept-reached : (m : ℕ) → Reached (keptAt far low high) m → Reached far m ⊎ ((low ≤ m) × (m < high))
+  pub kept-reached : (m : ℕ) → ShiftReached (keptAt far low high) m → ShiftReached far m ⊎ ((low ≤ m) × (m < high))
   kept-reached m r =
       let l = r .low in
       let h = r .high in
@@ -76,7 +75,7 @@ module _ (far : List ℕ) (low high : ℕ) where
       (kept-at (r .at))
 
   -- every place in the interval is reached, where the interval begins in the buffer
-  pub kept-reaches : low < length far → (m : ℕ) → low ≤ m → m < high → Reached (keptAt far low high) m
+  pub kept-reaches : low < length far → (m : ℕ) → low ≤ m → m < high → ShiftReached (keptAt far low high) m
   kept-reaches l m a b =
       let e : high ≤ getD (keptAt far low high) low 0 =
       ⊎-elim
@@ -98,7 +97,7 @@ module _ (far : List ℕ) (low high : ℕ) where
   kept-left l = ⊎-elim (λ w. absurd (omega (arith, w .0))) (λ w. sym (w .1)) kept-cases
 
 -- a reached place stays reached while ends grow
-pub reached-grows : {far after : List ℕ} → ((k : ℕ) → getD far k 0 ≤ getD after k 0) → (m : ℕ) → Reached far m → Reached after m
+pub reached-grows : {far after : List ℕ} → ((k : ℕ) → getD far k 0 ≤ getD after k 0) → (m : ℕ) → ShiftReached far m → ShiftReached after m
 reached-grows g m r = record { at = r .at; low = r .low; high = omega (arith, r .high, g (r .at)) }
 
 -- ── the interval of two strips in one line ──
@@ -134,7 +133,7 @@ module _ (es : List (List ℕ)) (u : Corner) (fs : List (List ℕ)) (v : Corner)
       record { same = h .same ∙ g .same; grows = λ k. le-trans (g .grows k) (h .grows k); sound = h .sound }
 
   -- what is kept stays kept
-  pub kept-on : (far after : List ℕ) (i l : ℕ) → Grown es u fs v far after → Kept es u fs v far i l → Kept es u fs v after i l
+  pub kept-on : (far after : List ℕ) (i l : ℕ) → Grown es u fs v far after → MeetingsKept es u fs v far i l → MeetingsKept es u fs v after i l
   kept-on far after i l g k m b e = reached-grows (g .grows) m (k m (omega (arith, g .same)) e)
 
   module _ (far : List ℕ) (i j : ℕ) (i-below : i < length es) (j-below : j < length fs) (p q : Placed) (a : PlacedAt (stripAt es i) u p)
@@ -155,14 +154,14 @@ module _ (es : List (List ℕ)) (u : Corner) (fs : List (List ℕ)) (v : Corner)
         }
 
     -- and then their meetings are kept
-    pub pair-kept : Kept es u fs v (keptAt far (p .begin + 1 - q .end) (p .end - q .begin)) i j
+    pub pair-kept : MeetingsKept es u fs v (keptAt far (p .begin + 1 - q .end) (p .end - q .begin)) i j
     pair-kept m l e =
         let w = meets-interval (stripAt es i) u (stripAt fs j) v p q a b m e in
         kept-reaches far (p .begin + 1 - q .end) (p .end - q .begin)
         (omega (arith, w .0, kept-length far (p .begin + 1 - q .end) (p .end - q .begin))) m (w .0) (w .1)
 
   -- strips in different lines have no meetings
-  pub kept-apart : (far : List ℕ) (i l : ℕ) → (stripAt es i .line + u .across ≡ stripAt fs l .line + v .across → ⊥) → Kept es u fs v far i l
+  pub kept-apart : (far : List ℕ) (i l : ℕ) → (stripAt es i .line + u .across ≡ stripAt fs l .line + v .across → ⊥) → MeetingsKept es u fs v far i l
   kept-apart far i l n m b e = absurd (n (meet-facts (stripAt es i) u (stripAt fs l) (shifted m v) e .line))
 
 -- what one strip of the first stretch has kept with those of the second from `from` on
@@ -170,21 +169,21 @@ module _ (es : List (List ℕ)) (u : Corner) (fs : List (List ℕ)) (v : Corner)
   -- one strip more
   pub line-more : (before far : List ℕ) (i from j low high : ℕ) → i < length es → j < length fs → (p q : Placed) → PlacedAt (stripAt es i) u p
       → PlacedAt (stripAt fs j) v q → p .line ≡ q .line → low ≡ p .begin + 1 - q .end → high ≡ p .end - q .begin
-      → Grown es u fs v before far → ((l : ℕ) → from ≤ l → l < j → Kept es u fs v far i l) → (after : List ℕ) → after ≡ keptAt far low high
-      → Grown es u fs v before after × ((l : ℕ) → from ≤ l → l < j + 1 → Kept es u fs v after i l)
+      → Grown es u fs v before far → ((l : ℕ) → from ≤ l → l < j → MeetingsKept es u fs v far i l) → (after : List ℕ) → after ≡ keptAt far low high
+      → Grown es u fs v before after × ((l : ℕ) → from ≤ l → l < j + 1 → MeetingsKept es u fs v after i l)
   line-more before far i from j low high a b p q c d line e f g k after h =
       let at : after ≡ keptAt far (p .begin + 1 - q .end) (p .end - q .begin) = h ∙ ap₂ (keptAt far) e f in
       let grown : Grown es u fs v far after =
       subst (Grown es u fs v far) (sym at) (pair-grown es u fs v far i j a b p q c d line (g .sound)) in (
         grown-then es u fs v before far after g grown,
-        from-more (Kept es u fs v after i) from j (λ l m n. kept-on es u fs v far after i l grown (k l m n))
-            (subst (λ (z : List ℕ). Kept es u fs v z i j) (sym at) (pair-kept es u fs v far i j a b p q c d line)),
+        from-more (MeetingsKept es u fs v after i) from j (λ l m n. kept-on es u fs v far after i l grown (k l m n))
+            (subst (λ (z : List ℕ). MeetingsKept es u fs v z i j) (sym at) (pair-kept es u fs v far i j a b p q c d line)),
       )
 
   -- past the strips of the line there are no meetings
-  pub line-past : (far : List ℕ) (i from j : ℕ) → ((l : ℕ) → from ≤ l → l < j → Kept es u fs v far i l)
+  pub line-past : (far : List ℕ) (i from j : ℕ) → ((l : ℕ) → from ≤ l → l < j → MeetingsKept es u fs v far i l)
       → ((l : ℕ) → j ≤ l → l < length fs → stripAt es i .line + u .across < stripAt fs l .line + v .across)
-      → (l : ℕ) → from ≤ l → l < length fs → Kept es u fs v far i l
+      → (l : ℕ) → from ≤ l → l < length fs → MeetingsKept es u fs v far i l
   line-past far i from j k n l a b =
       ⊎-elim (k l a) (λ (g : j ≤ l). kept-apart es u fs v far i l (λ e. omega (arith, n l g b))) (below-or l j)
 
@@ -197,7 +196,7 @@ pub record AllSoFar (es : List (List ℕ)) (u : Corner) (fs : List (List ℕ)) (
   pub first : i ≤ length es
   pub second : j ≤ length fs
   pub grown : Grown es u fs v before far
-  pub kept : (k l : ℕ) → k < i → l < length fs → Kept es u fs v far k l
+  pub kept : (k l : ℕ) → k < i → l < length fs → MeetingsKept es u fs v far k l
   pub passed : (k l : ℕ) → i ≤ k → k < length es → l < j → stripAt fs l .line + v .across < stripAt es k .line + u .across
 
 -- one strip more of the first stretch
@@ -216,7 +215,7 @@ all-more es u fs v o before far after i j r b line e w t m =
           ⊎-elim (λ (g : k < i). kept-on es u fs v far after k l (m .grown) (w .kept k l g c))
           (λ (g : i ≤ k).
           let f : i ≡ k = omega arith in
-          subst (λ (z : ℕ). Kept es u fs v after z l) f
+          subst (λ (z : ℕ). MeetingsKept es u fs v after z l) f
           (⊎-elim (λ (h : l < r). kept-apart es u fs v after i l (λ q. omega (arith, earlier l h))) (λ (h : r ≤ l). m .kept l h c) (below-or l r)))
           (below-or k i);
       passed = λ k l a c d. omega (arith, earlier l d, line-order es o i k (omega arith) c);
@@ -247,14 +246,14 @@ module _ (old far : List ℕ) (k : ℕ) where
   sweep-rest mark rest i l = getD-set-other far k i mark 0 (omega arith) ∙ rest i (omega arith)
 
   -- what is passed holds its marks
-  pub sweep-mark : (next mark : ℕ) → k < length far → next ≡ farthest old (k + 1) → mark ≡ one-if (ltb k next)
-      → ((i : ℕ) → i < k → getD far i 0 ≡ one-if (ltb i (farthest old (suc i))))
-      → (i : ℕ) → i < k + 1 → getD (set far k mark) i 0 ≡ one-if (ltb i (farthest old (suc i)))
+  pub sweep-mark : (next mark : ℕ) → k < length far → next ≡ farthest old (k + 1) → mark ≡ oneIf (ltb k next)
+      → ((i : ℕ) → i < k → getD far i 0 ≡ oneIf (ltb i (farthest old (suc i))))
+      → (i : ℕ) → i < k + 1 → getD (set far k mark) i 0 ≡ oneIf (ltb i (farthest old (suc i)))
   sweep-mark next mark b e f before i l =
       ⊎-elim
       (λ (g : i < k). getD-set-other far k i mark 0 (omega arith) ∙ before i g)
       (λ (g : k ≤ i).
       let h : k ≡ i = omega arith in
-      subst (λ (z : ℕ). getD (set far k mark) z 0 ≡ one-if (ltb z (farthest old (suc z)))) h
-      (getD-set-same far k mark 0 b ∙ f ∙ ap (λ (z : ℕ). one-if (ltb k z)) (e ∙ ap (farthest old) (add-one k))))
+      subst (λ (z : ℕ). getD (set far k mark) z 0 ≡ oneIf (ltb z (farthest old (suc z)))) h
+      (getD-set-same far k mark 0 b ∙ f ∙ ap (λ (z : ℕ). oneIf (ltb k z)) (e ∙ ap (farthest old) (add-one k))))
       (below-or i k)

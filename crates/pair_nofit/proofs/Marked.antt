@@ -4,27 +4,27 @@ use mathlib.Core.Bool.{Bool, true}
 use mathlib.Core.List.{List}
 use mathlib.Core.Path.{_≡_, refl, sym, ap, ap₂, _∙_}
 use mathlib.Core.Logic.{_⊎_, ⊎-elim}
-use Prim.Native.Nat.{ℕ, zero, suc, _+_, max, _<_, _≤_}
-use native.Mathlib.Nat.{add-zero, add-suc}
+use Prim.Native.Nat.{ℕ, zero, suc, _+_, _<_, _≤_}
+use native.Mathlib.Nat.{add-zero}
 use native.Mathlib.Omega.{arith}
 use lib.Dec.{ltb}
 use lib.IntN.{ℤ}
 use lib.ListN.{length, getD, replicate, length-replicate}
 use lib.Seq.{ext-getD}
 use borrow.Author.Tests.{ltb-true, lt-ltb}
-use Rattle.model.specs.Bounded.{one-if}
+use Rattle.model.specs.Bounded.{oneIf}
 use Rattle.model.specs.Piece.{Shape, point}
-use Rattle.model.specs.Overlap.{share, noFitAt, offsetBound, up, down}
+use Rattle.model.specs.Overlap.{noFitAt, offsetBound, up, down}
 use Rattle.model.specs.declared.Direction.{Direction}
-use Rattle.model.proofs.Tests.{same-tests}
+use Rattle.list_laws.proofs.Numbers.{below-or}
+use Rattle.list_laws.proofs.Tests.{same-tests}
 use Rattle.overlap_laws.proofs.Share.{along-point, across-point}
 use Rattle.pair_overlap.specs.Meet.{shifted, stretchesShare}
 use Rattle.pair_overlap.specs.declared.Corner.{Corner}
 use Rattle.pair_overlap.proofs.Walk.{StripsMeet, share-meet}
-use Rattle.pair_overlap.proofs.Firsts.{below-or}
 use Rattle.pair_overlap.specs.Seen.{entries, seen}
 use Rattle.pair_overlap.proofs.Shapes.{entries-share}
-use Rattle.pair_nofit.specs.Marks.{flagsFrom, sharesAt, marksOf, Reached, AllMarked, Swept, farthest}
+use Rattle.pair_nofit.specs.Marks.{flagsFrom, sharesAt, marksOf, ShiftReached, AllMarked, Swept, farthest}
 
 -- ── flags ──
 
@@ -33,17 +33,17 @@ unfolding flagsFrom
 flags-length f k zero = refl
 flags-length f k (suc left) = ap suc (flags-length f (suc k) left)
 
-flags-from : (f : ℕ → Bool) (k left i : ℕ) → i < left → getD (flagsFrom f k left) i 0 ≡ one-if (f (k + i))
+flags-from : (f : ℕ → Bool) (k left i : ℕ) → i < left → getD (flagsFrom f k left) i 0 ≡ oneIf (f (k + i))
 unfolding flagsFrom
 flags-from f k zero i l = absurd (omega arith)
-flags-from f k (suc left) zero l = ap (λ (z : ℕ). one-if (f z)) (sym (add-zero k))
+flags-from f k (suc left) zero l = ap (λ (z : ℕ). oneIf (f z)) (sym (add-zero k))
 flags-from f k (suc left) (suc i) l =
     let e : suc k + i ≡ k + suc i = omega arith in
-    flags-from f (suc k) left i (omega arith) ∙ ap (λ (z : ℕ). one-if (f z)) e
+    flags-from f (suc k) left i (omega arith) ∙ ap (λ (z : ℕ). oneIf (f z)) e
 
 -- the flag of a number
-pub flags-at : (f : ℕ → Bool) (n i : ℕ) → i < n → getD (flagsFrom f 0 n) i 0 ≡ one-if (f i)
-flags-at f n i l = let e : 0 + i ≡ i = omega arith in flags-from f 0 n i l ∙ ap (λ (z : ℕ). one-if (f z)) e
+pub flags-at : (f : ℕ → Bool) (n i : ℕ) → i < n → getD (flagsFrom f 0 n) i 0 ≡ oneIf (f i)
+flags-at f n i l = let e : 0 + i ≡ i = omega arith in flags-from f 0 n i l ∙ ap (λ (z : ℕ). oneIf (f z)) e
 
 -- ── the farthest end ──
 
@@ -70,10 +70,10 @@ past-farthest far (suc n) at l =
     (below-or at n)
 
 -- a place is reached exactly when the farthest end of the intervals up to it lies past it
-reached-farthest : (far : List ℕ) (m : ℕ) → Reached far m → ltb m (farthest far (suc m)) ≡ true
+reached-farthest : (far : List ℕ) (m : ℕ) → ShiftReached far m → ltb m (farthest far (suc m)) ≡ true
 reached-farthest far m r = lt-ltb m (farthest far (suc m)) (omega (arith, r .high, past-farthest far (suc m) (r .at) (omega (arith, r .low))))
 
-farthest-reached : (far : List ℕ) (m : ℕ) → ltb m (farthest far (suc m)) ≡ true → Reached far m
+farthest-reached : (far : List ℕ) (m : ℕ) → ltb m (farthest far (suc m)) ≡ true → ShiftReached far m
 farthest-reached far m e =
     let w : EndPast far (suc m) m = farthest-past far (suc m) m (ltb-true m (farthest far (suc m)) e) in
     record { at = w .at; low = omega (arith, w .low); high = w .high }
@@ -89,12 +89,12 @@ marks-made es u fs v n cleared far after e m s =
     (λ k l.
     let b : k < length far = omega (arith, s .same) in
     s .marks k b
-    ∙ ap one-if
+    ∙ ap oneIf
     (same-tests (ltb k (farthest far (suc k))) (sharesAt es u fs v k)
     (λ h. m .grown .sound k b (farthest-reached far k h))
     (λ h.
     let w : StripsMeet es u fs (shifted k v) = share-meet es u fs (shifted k v) h in
-    reached-farthest far k (m .kept (w .i) (w .j) (w .i-below) (w .j-below) k b (w .meets))))
+    reached-farthest far k (m .kept (w .i) (w .j) (w .iBelow) (w .jBelow) k b (w .meets))))
     ∙ sym (flags-at (sharesAt es u fs v) n k (omega arith)))
 
 -- ── no-fit lines ──

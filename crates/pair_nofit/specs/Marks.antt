@@ -5,7 +5,7 @@ use mathlib.Core.Path.{_≡_}
 use Prim.Native.Nat.{ℕ, zero, suc, _+_, max, _<_, _≤_}
 use lib.Dec.{ltb}
 use lib.ListN.{length, getD, set}
-use Rattle.model.specs.Bounded.{one-if}
+use Rattle.model.specs.Bounded.{oneIf}
 use Rattle.model.specs.Strip.{Strip}
 use Rattle.pair_overlap.specs.Meet.{stripAt, shifted, meet, stretchesShare}
 use Rattle.pair_overlap.specs.declared.Corner.{Corner}
@@ -14,7 +14,7 @@ use Rattle.pair_nofit.specs.declared.Placed.{Placed}
 -- 1 for each of the next `left` numbers from k on that passes, else 0
 unfoldable pub flagsFrom : (ℕ → Bool) → ℕ → ℕ → List ℕ
 flagsFrom f k zero = []
-flagsFrom f k (suc left) = one-if (f k) ∷ flagsFrom f (suc k) left
+flagsFrom f k (suc left) = oneIf (f k) ∷ flagsFrom f (suc k) left
 
 -- they share a pixel once the second is shifted by k
 abbrev pub sharesAt : List (List ℕ) → Corner → List (List ℕ) → Corner → ℕ → Bool
@@ -29,14 +29,14 @@ marksOf es u fs v n = flagsFrom (sharesAt es u fs v) 0 n
 -- intervals that begin there, so a place is covered where one that begins at it or before ends after it.
 
 -- an interval that begins at the place or before it ends after it
-pub record Reached (far : List ℕ) (m : ℕ) : Type 0 where
+pub record ShiftReached (far : List ℕ) (m : ℕ) : Type 0 where
   pub at : ℕ
   pub low : at ≤ m
   pub high : m < getD far at 0
 
 -- every place of the buffer that is reached is one where they share a pixel
 abbrev pub Sound : List (List ℕ) → Corner → List (List ℕ) → Corner → List ℕ → Type 0
-Sound es u fs v far = (m : ℕ) → m < length far → Reached far m → sharesAt es u fs v m ≡ true
+Sound es u fs v far = (m : ℕ) → m < length far → ShiftReached far m → sharesAt es u fs v m ≡ true
 
 -- no interval was lost between two contents of the buffer, and the later one is sound
 pub record Grown (es : List (List ℕ)) (u : Corner) (fs : List (List ℕ)) (v : Corner) (before after : List ℕ) : Type 0 where
@@ -45,18 +45,18 @@ pub record Grown (es : List (List ℕ)) (u : Corner) (fs : List (List ℕ)) (v :
   pub sound : Sound es u fs v after
 
 -- the buffer reaches every place where strip i of the first and strip l of the second meet
-abbrev pub Kept : List (List ℕ) → Corner → List (List ℕ) → Corner → List ℕ → ℕ → ℕ → Type 0
-Kept es u fs v far i l = (m : ℕ) → m < length far → meet (stripAt es i) u (stripAt fs l) (shifted m v) ≡ true → Reached far m
+abbrev pub MeetingsKept : List (List ℕ) → Corner → List (List ℕ) → Corner → List ℕ → ℕ → ℕ → Type 0
+MeetingsKept es u fs v far i l = (m : ℕ) → m < length far → meet (stripAt es i) u (stripAt fs l) (shifted m v) ≡ true → ShiftReached far m
 
 -- what one strip of the first stretch adds: all its meetings with the strips of the second from j on
 pub record LineMarked (es : List (List ℕ)) (u : Corner) (fs : List (List ℕ)) (v : Corner) (i j : ℕ) (before after : List ℕ) : Type 0 where
   pub grown : Grown es u fs v before after
-  pub kept : (l : ℕ) → j ≤ l → l < length fs → Kept es u fs v after i l
+  pub kept : (l : ℕ) → j ≤ l → l < length fs → MeetingsKept es u fs v after i l
 
 -- what all strips add
 pub record AllMarked (es : List (List ℕ)) (u : Corner) (fs : List (List ℕ)) (v : Corner) (before after : List ℕ) : Type 0 where
   pub grown : Grown es u fs v before after
-  pub kept : (i l : ℕ) → i < length es → l < length fs → Kept es u fs v after i l
+  pub kept : (i l : ℕ) → i < length es → l < length fs → MeetingsKept es u fs v after i l
 
 -- where a line begins among the strips from j on: those before r lie in earlier lines, those from r on in that line or a later one
 pub record LineStart (fs : List (List ℕ)) (across line j r : ℕ) : Type 0 where
@@ -85,4 +85,4 @@ farthest far (suc n) = max (farthest far n) (getD far n 0)
 -- the farthest ends turned into marks
 pub record Swept (before after : List ℕ) : Type 0 where
   pub same : length after ≡ length before
-  pub marks : (k : ℕ) → k < length before → getD after k 0 ≡ one-if (ltb k (farthest before (suc k)))
+  pub marks : (k : ℕ) → k < length before → getD after k 0 ≡ oneIf (ltb k (farthest before (suc k)))

@@ -1,20 +1,14 @@
 // No-fit lines: at which shifts along their strips two pieces share a pixel. Document 01, 'No-fit rows and penalty'. One pass over the
 // strips of matching lines; each strip of one with each strip of the other gives an interval of shifts.
 use pair_overlap::Corner;
+use whole_numbers::wide;
 ghost use mathlib.Core.Path.{_≡_};
 ghost use Prim.Native.Nat.{ℕ, _+_, _-_, max, _<_, _≤_};
 ghost use lib.Dec.{ltb};
 ghost use lib.ListN.{length, replicate};
-ghost use Rattle.model.specs.Bounded.{one-if};
+ghost use Rattle.model.specs.Bounded.{oneIf};
 ghost use Rattle.pair_overlap.specs.Meet.{stripAt, Ordered, Near};
 ghost use Rattle.pair_nofit.specs.Marks.{marksOf, PlacedAt, keptAt, Sound, LineMarked, AllMarked, LineStart, Swept};
-
-// A byte as a number that sums fit in.
-fn wide(b: u8) -> u32
-    ensures { λ r. ⌜ (r ≡ b) × (b < 256) ⌝ }
-{
-    b as u32
-}
 
 // A strip of a placed piece: its line on the sheet, and where it begins and ends along the line.
 pub struct Placed {
@@ -137,7 +131,7 @@ fn larger(x: u16, y: u16) -> u16
 
 // 1 where the place lies before the end.
 fn flag(k: usize, end: u16) -> u16
-    ensures { λ r. ⌜ r ≡ one-if (ltb k end) ⌝ }
+    ensures { λ r. ⌜ r ≡ oneIf (ltb k end) ⌝ }
 {
     if k < (end as usize) { 1 } else { 0 }
 }

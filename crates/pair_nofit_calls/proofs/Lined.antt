@@ -1,20 +1,20 @@
 -- The runs of a line's marks, and what putting them comes to. Assumes nothing.
 use mathlib.Core.Bool.{Bool, true, false}
-use mathlib.Core.List.{List, [], _∷_, _++_, map}
-use mathlib.Core.Path.{_≡_, refl, sym, ap, ap₂, subst, _∙_}
+use mathlib.Core.List.{List, [], _++_, map}
+use mathlib.Core.Path.{_≡_, refl, sym, ap, ap₂, _∙_}
 use Prim.Native.Nat.{ℕ, _+_, min, _<_, _≤_}
 use native.Mathlib.Omega.{arith}
 use lib.Dec.{ltb, eqb}
 use lib.IntN.{ℤ}
-use lib.ListN.{length, getD, length-map}
+use lib.ListN.{length}
 use lib.Seq.{sets, length-sets}
 use borrow.Author.Tests.{lt-ltb, le-ltb}
-use Rattle.model.specs.Bounded.{one-if}
+use Rattle.model.specs.Bounded.{oneIf}
 use Rattle.model.specs.Strip.{Run, runs}
 use Rattle.model.specs.Overlap.{offsetBound, up, down}
-use Rattle.model.specs.Refusal.{Outcome, refused, given, cause, refusalOf, unless, wrongLength}
-use Rattle.model.specs.Calls.{atLeast}
+use Rattle.model.specs.Refusal.{refused, given, cause, refusalOf, unless, wrongLength}
 use Rattle.model.specs.declared.Refusal.{Refusal}
+use Rattle.list_laws.proofs.Lists.{nothing-before}
 use Rattle.strip_laws.proofs.Runs.{runs-agree}
 use Rattle.pair_overlap.specs.declared.Corner.{Corner}
 use Rattle.pair_nofit.specs.Marks.{flagsFrom, sharesAt, marksOf}
@@ -23,7 +23,7 @@ use Rattle.pair_nofit_calls.specs.Lines.{offsetEntry, marked, Put, offse
 use Rattle.pair_nofit_calls.specs.declared.RunsAnswer.{RunsAnswer}
 
 -- a flag is 1 exactly where the number passes
-flag-one : (b : Bool) → eqb (one-if b) 1 ≡ b
+flag-one : (b : Bool) → eqb (oneIf b) 1 ≡ b
 flag-one true = refl
 flag-one false = refl
 
@@ -43,18 +43,13 @@ marks-line es fs o x y n marks a b c e =
     let f : marks ≡ marksOf es (lowCorner o) fs (highCorner o) offsetCount = e ∙ (λ i. marksOf es (u (a i)) fs (v (b i)) (c i)) in
     ap (λ (z : List ℕ). runs (marked z) (length z)) f ∙ flag-runs (sharesAt es (lowCorner o) fs (highCorner o)) offsetCount
 
--- a part of no entries in front of the rest
-front-none : (l before : List (List ℤ)) → length l ≡ 0 → l ++ before ≡ before
-front-none [] before e = refl
-front-none (x ∷ l) before e = absurd (omega arith)
-
 none-stored : (rs : List Run) (last : List (List ℤ)) (needed : ℕ) → Put rs [] 0 last needed → length last ≡ 0
 none-stored rs last needed p = ap length (p .stored) ∙ length-sets [] 0 (map offsetEntry rs)
 
 module _ (es fs : List (List ℕ)) (o : ℤ) (rs : List Run) (r : rs ≡ lineRuns es fs o) (before last : List (List ℤ)) (needed : ℕ) (p : Put rs [] 0 last needed) where
   -- what the buffer holds after the count: what it held
   pub counted-same : last ++ before ≡ before
-  counted-same = front-none last before (none-stored rs last needed p)
+  counted-same = nothing-before last before (none-stored rs last needed p)
 
   -- no room: refused
   pub line-short : length (last ++ before) < needed → (w : Refusal) → w ≡ refusalOf (cause wrongLength true)

@@ -1,27 +1,28 @@
 -- The no-fit calls: where no cause refuses, the lent stretches are the pieces' strips, and their line's runs are the no-fit line of
 -- document 01. An offset of 255 or more across the direction parts any two pieces, so it may be cut off there. Assumes nothing.
-use mathlib.Core.Bool.{Bool, true, false, not, _&&_}
+use mathlib.Core.Bool.{Bool, true, false, _&&_}
 use mathlib.Core.List.{List, [], _∷_, _++_, map}
 use mathlib.Core.Path.{_≡_, refl, sym, ap, ap₂, subst, _∙_}
 use mathlib.Core.Logic.{_⊎_, inl, inr, ⊎-elim}
-use Prim.Native.Nat.{ℕ, suc, _+_, min, _<_, _≤_}
+use Prim.Native.Nat.{ℕ, _+_, min, _<_, _≤_}
 use native.Mathlib.Omega.{arith}
 use lib.Dec.{ltb}
 use lib.IntN.{ℤ, pos, negsuc}
-use lib.ListN.{length, take, drop, length-map}
-use lib.Seq.{sets, sets-eq}
+use lib.ListN.{length, drop, length-map}
+use lib.Seq.{sets-eq}
 use borrow.Author.Tests.{not-false, ltb-false}
 use Rattle.model.specs.Piece.{Shape, extent, other}
-use Rattle.model.specs.Strip.{Strip, Run, runs, strips}
+use Rattle.model.specs.Strip.{Run, runs, strips}
 use Rattle.model.specs.Overlap.{OffsetRun, unbiased, noFit, noFitAt, up, down}
-use Rattle.model.specs.Buffer.{runEntry, stripEntry, filled, sameEntries}
+use Rattle.model.specs.Buffer.{runEntry, filled}
 use Rattle.model.specs.Layout.{turnedPiece}
-use Rattle.model.specs.Refusal.{Outcome, refused, given, cause, refusalOf, unless, wrongLength}
+use Rattle.model.specs.Refusal.{Outcome, refused, cause, unless, wrongLength}
 use Rattle.model.specs.Lent.{Lent, jobOf, lentWell}
 use Rattle.model.specs.Calls.{LentStretch, known, stretchWell, noFitOf, noFitCall, runsAfter, atLeast}
 use Rattle.model.specs.declared.Direction.{Direction}
 use Rattle.model.specs.declared.Refusal.{Refusal}
-use Rattle.model.proofs.Tests.{and-left, and-right, same-tests}
+use Rattle.list_laws.proofs.Equal.{same-entries}
+use Rattle.list_laws.proofs.Tests.{and-left, and-right, same-tests}
 use Rattle.job_laws.proofs.Checked.{facts}
 use Rattle.text_laws.specs.Outcomes.{NoCause}
 use Rattle.strip_laws.proofs.Runs.{runs-agree}
@@ -29,16 +30,15 @@ use Rattle.strip_laws.proofs.Strips.{strips-maximal}
 use Rattle.layout_places.proofs.Causes.{none-then, refused-then}
 use Rattle.layout_places.specs.Answers.{firstCause}
 use Rattle.layout_places.specs.declared.CauseAnswer.{CauseAnswer}
-use Rattle.pair_overlap.specs.Meet.{stripAt, shifted, meet, Ordered, stretchesShare}
+use Rattle.pair_overlap.specs.Meet.{stripAt, shifted, Ordered}
 use Rattle.pair_overlap.specs.Seen.{entries}
-use Rattle.pair_overlap.specs.declared.Corner.{Corner}
 use Rattle.pair_overlap.proofs.Walk.{Meeting, meet-facts, facts-meet, meet-share, StripsMeet, share-meet}
 use Rattle.pair_overlap.proofs.Shapes.{at-member, entries-ordered}
 use Rattle.pair_nofit.specs.Marks.{sharesAt}
 use Rattle.pair_nofit.proofs.Marked.{firstCorner, secondCorner, marks-no-fit}
 use Rattle.pair_nofit_calls.specs.Lines.{offsetEntry, offsetCount, lowCorner, highCorner, lineRuns, lineOutcome, runsAnswer, lineAfter, stretchCauses}
 use Rattle.pair_nofit_calls.specs.declared.RunsAnswer.{RunsAnswer}
-use Rattle.pair_nofit_calls.proofs.Owning.{entries-same, known-below}
+use Rattle.pair_nofit_calls.proofs.Owning.{known-below}
 
 -- ── offsets cut off at 255 ──
 
@@ -64,20 +64,20 @@ module _ (d : Direction) (s t : Shape) (lines : extent (other d) s ≤ 255) (lin
       (λ e.
       let w : StripsMeet (entries d s) (lowCorner o) (entries d t) (shifted k (highCorner o)) = share-meet (entries d s) (lowCorner o) (entries d t) (shifted k (highCorner o)) e in
       let m : Meeting _ (lowCorner o) _ (shifted k (highCorner o)) = meet-facts (stripAt (entries d s) (w .i)) (lowCorner o) (stripAt (entries d t) (w .j)) (shifted k (highCorner o)) (w .meets) in
-      meet-share (entries d s) (firstCorner o) (entries d t) (shifted k (secondCorner o)) (w .i) (w .j) (w .i-below) (w .j-below)
+      meet-share (entries d s) (firstCorner o) (entries d t) (shifted k (secondCorner o)) (w .i) (w .j) (w .iBelow) (w .jBelow)
       (facts-meet (stripAt (entries d s) (w .i)) (firstCorner o) (stripAt (entries d t) (w .j)) (shifted k (secondCorner o))
       (record {
-        line = line-cut o _ _ (strip-line s lines (w .i) (w .i-below)) (strip-line t lines′ (w .j) (w .j-below)) (m .line);
+        line = line-cut o _ _ (strip-line s lines (w .i) (w .iBelow)) (strip-line t lines′ (w .j) (w .jBelow)) (m .line);
         low = m .low;
         high = m .high;
       })))
       (λ e.
       let w : StripsMeet (entries d s) (firstCorner o) (entries d t) (shifted k (secondCorner o)) = share-meet (entries d s) (firstCorner o) (entries d t) (shifted k (secondCorner o)) e in
       let m : Meeting _ (firstCorner o) _ (shifted k (secondCorner o)) = meet-facts (stripAt (entries d s) (w .i)) (firstCorner o) (stripAt (entries d t) (w .j)) (shifted k (secondCorner o)) (w .meets) in
-      meet-share (entries d s) (lowCorner o) (entries d t) (shifted k (highCorner o)) (w .i) (w .j) (w .i-below) (w .j-below)
+      meet-share (entries d s) (lowCorner o) (entries d t) (shifted k (highCorner o)) (w .i) (w .j) (w .iBelow) (w .jBelow)
       (facts-meet (stripAt (entries d s) (w .i)) (lowCorner o) (stripAt (entries d t) (w .j)) (shifted k (highCorner o))
       (record {
-        line = cut-line o _ _ (strip-line s lines (w .i) (w .i-below)) (strip-line t lines′ (w .j) (w .j-below)) (m .line);
+        line = cut-line o _ _ (strip-line s lines (w .i) (w .iBelow)) (strip-line t lines′ (w .j) (w .jBelow)) (m .line);
         low = m .low;
         high = m .high;
       })))
@@ -142,11 +142,11 @@ module _ (d : Direction) (l : Lent) (p q : LentStretch) (none : NoCause (stretch
   -- the stretches are the pieces' strips
   first-is : p .stretch ≡ entries d (turnedPiece (jobOf l) (p .piece) (p .turn))
   unfolding stretchWell
-  first-is = entries-same (p .stretch) _ (and-left (stretchWell d (jobOf l) p) (stretchWell d (jobOf l) q) both-own)
+  first-is = same-entries (p .stretch) _ (and-left (stretchWell d (jobOf l) p) (stretchWell d (jobOf l) q) both-own)
 
   second-is : q .stretch ≡ entries d (turnedPiece (jobOf l) (q .piece) (q .turn))
   unfolding stretchWell
-  second-is = entries-same (q .stretch) _ (and-right (stretchWell d (jobOf l) p) (stretchWell d (jobOf l) q) both-own)
+  second-is = same-entries (q .stretch) _ (and-right (stretchWell d (jobOf l) p) (stretchWell d (jobOf l) q) both-own)
 
   pub first-ordered : Ordered (p .stretch)
   first-ordered = subst Ordered (sym first-is) (entries-ordered d _ (piece-lines d l p well first-known))

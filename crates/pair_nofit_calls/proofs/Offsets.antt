@@ -41,16 +41,16 @@ down-far (pos n) e = absurd (false≢true e)
 down-far (negsuc n) e = omega (arith, ltb-true 254 n e)
 
 -- an offset between -255 and -1, taken away from 0
-pub record Near (z : ℤ) : Type 0 where
+pub record NearOffset (z : ℤ) : Type 0 where
   pub fits : SFits w32 (pos 0 -ℤ z)
-  pub not-negative : T (nonNeg (pos 0 -ℤ z))
+  pub notNegative : T (nonNeg (pos 0 -ℤ z))
   pub is : natAbs (pos 0 -ℤ z) ≡ min (down z) 255
 
-pub down-near : (z : ℤ) → leZ (pos 0) z ≡ false → ltZ z (negsuc 254) ≡ false → Near z
+pub down-near : (z : ℤ) → leZ (pos 0) z ≡ false → ltZ z (negsuc 254) ≡ false → NearOffset z
 down-near (pos n) e f = absurd (omega (arith, leb-false 0 n e))
 down-near (negsuc n) e f =
     let h : n ≤ 254 = ltb-false 254 n f in
-    record { fits = record { sfits = omega arith }; not-negative = tt; is = omega arith }
+    record { fits = record { sfits = omega arith }; notNegative = tt; is = omega arith }
 
 -- ── biased ──
 

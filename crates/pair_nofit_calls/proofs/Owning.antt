@@ -1,40 +1,21 @@
 -- A lent stretch is the piece's own exactly when comparing it with the piece's strips ends at its end. Assumes nothing.
-use mathlib.Core.Bool.{Bool, true, false, false≢true}
-use mathlib.Core.List.{List, [], _∷_, map}
-use mathlib.Core.Path.{_≡_, refl, sym, ap, ap₂, _∙_}
-use Prim.Native.Nat.{ℕ, suc, _+_, _<_}
+use mathlib.Core.Bool.{Bool, true, false}
+use mathlib.Core.List.{List, map}
+use mathlib.Core.Path.{_≡_, refl, sym, ap, _∙_}
+use Prim.Native.Nat.{ℕ, _+_, _<_}
 use native.Mathlib.Omega.{arith}
 use lib.Dec.{ltb, eqb}
-use lib.ListN.{length, take, length-map}
+use lib.ListN.{length, length-map}
 use lib.Seq.{take-all}
 use borrow.Author.Tests.{eqb-true, eq-eqb, ltb-true}
 use Rattle.model.specs.Strip.{Strip}
-use Rattle.model.specs.Layout.{allowed}
 use Rattle.model.specs.Lent.{Lent, jobOf}
-use Rattle.model.specs.Buffer.{stripEntry, sameNumbers, sameEntries}
+use Rattle.model.specs.Buffer.{stripEntry, sameEntries}
 use Rattle.model.specs.Calls.{LentStretch, known}
-use Rattle.model.proofs.Tests.{and-left, and-right, same-tests, fails, clash}
+use Rattle.list_laws.proofs.Tests.{and-left, same-tests, fails, clash}
+use Rattle.list_laws.proofs.Equal.{same-entries}
 use Rattle.strip_scan.specs.Compare.{standIn, comparedBy, compared}
-use Rattle.strip_scan.specs.declared.compare.Compared.{Compared}
 use Rattle.strip_scan.specs.declared.compare.Compared.the-variants.{Until, Unlike}
-
--- lists of numbers that are found equal are equal
-numbers-same : (xs ys : List ℕ) → sameNumbers xs ys ≡ true → xs ≡ ys
-unfolding sameNumbers
-numbers-same [] [] e = refl
-numbers-same [] (y ∷ ys) e = absurd (false≢true e)
-numbers-same (x ∷ xs) [] e = absurd (false≢true e)
-numbers-same (x ∷ xs) (y ∷ ys) e =
-    ap₂ _∷_ (eqb-true x y (and-left (eqb x y) _ e)) (numbers-same xs ys (and-right (eqb x y) _ e))
-
--- and so are lists of entries
-pub entries-same : (xs ys : List (List ℕ)) → sameEntries xs ys ≡ true → xs ≡ ys
-unfolding sameEntries
-entries-same [] [] e = refl
-entries-same [] (y ∷ ys) e = absurd (false≢true e)
-entries-same (x ∷ xs) [] e = absurd (false≢true e)
-entries-same (x ∷ xs) (y ∷ ys) e =
-    ap₂ _∷_ (numbers-same x y (and-left (sameNumbers x y) _ e)) (entries-same xs ys (and-right (sameNumbers x y) _ e))
 
 module _ (ts : List Strip) (store : List (List ℕ)) where
   -- a store as long as the strips is compared whole
@@ -42,7 +23,7 @@ module _ (ts : List Strip) (store : List (List ℕ)) where
   stand-whole e = ap (λ (z : List (List ℕ)). sameEntries z (map stripEntry ts)) (take-all (length ts) store (omega arith))
 
   same-long : sameEntries store (map stripEntry ts) ≡ true → length store ≡ length ts
-  same-long e = ap length (entries-same store (map stripEntry ts) e) ∙ length-map ts stripEntry
+  same-long e = ap length (same-entries store (map stripEntry ts) e) ∙ length-map ts stripEntry
 
   unlike-by : (b : Bool) → standIn ts store 0 ≡ b → Unlike ≡ comparedBy b (0 + length ts) → standIn ts store 0 ≡ false
   unlike-by true h e = let z : _≡_ {A = ℕ} 0 1 = cc in absurd (omega arith)

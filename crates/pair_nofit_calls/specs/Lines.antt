@@ -11,7 +11,7 @@ use Rattle.model.specs.Strip.{Run, runs, closing}
 use Rattle.model.specs.Overlap.{OffsetRun, unbiased, offsetBound, up, down}
 use Rattle.model.specs.Buffer.{runEntry}
 use Rattle.model.specs.Refusal.{Outcome, refused, given, Cause, cause, unless, noSuchPiece, notOurs}
-use Rattle.model.specs.Lent.{Lent, jobOf}
+use Rattle.model.specs.Lent.{Lent, jobOf, sideBound}
 use Rattle.model.specs.Calls.{LentStretch, known, stretchWell, jobCause, atLeast, leaving}
 use Rattle.model.specs.declared.Direction.{Direction}
 use Rattle.model.specs.declared.Turn.{Turn}
@@ -38,10 +38,10 @@ offsetCount = 509
 
 -- the corners at which the marks are a no-fit line's; offsets of 255 and more have none
 abbrev pub lowCorner : ℤ → Corner
-lowCorner o = record { along = offsetBound; across = min (down o) 255 }
+lowCorner o = record { along = offsetBound; across = min (down o) sideBound }
 
 abbrev pub highCorner : ℤ → Corner
-highCorner o = record { along = 0; across = min (up o) 255 }
+highCorner o = record { along = 0; across = min (up o) sideBound }
 
 -- the runs of the offsets at which two stretches share a pixel
 abbrev pub lineRuns : List (List ℕ) → List (List ℕ) → ℤ → List Run

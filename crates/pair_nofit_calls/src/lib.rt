@@ -4,8 +4,10 @@ use layout_places::refusal;
 use model::ColumnOffset;
 use model::Direction;
 use model::JobSize;
+use model::OFFSET_BOUND;
 use model::Refusal;
 use model::RowOffset;
+use model::SIDE_BOUND;
 use model::Turn;
 use pair_overlap::Corner;
 use strip_scan::compare::Compared;
@@ -16,13 +18,28 @@ ghost use lib.IntN.{subℕ};
 ghost use lib.ListN.{length};
 ghost use Rattle.model.specs.Strip.{runs, closing};
 ghost use Rattle.model.specs.Overlap.{up, down, offsetBound};
-ghost use Rattle.model.specs.Lent.{lentBy, jobOf, pixelStart};
+ghost use Rattle.model.specs.Lent.{lentBy, jobOf, pixelStart, pieceBound, sideBound};
 ghost use Rattle.model.specs.Calls.{known, stretchWell, noFitCall, runsAfter};
 ghost use Rattle.model.specs.declared.JobSize.{JobSize};
+ghost use Rattle.job_laws.specs.Entries.{EntryAt};
 ghost use Rattle.pair_overlap.specs.Meet.{Ordered};
-ghost use Rattle.strip_scan.specs.Put.{EntryAt};
 ghost use Rattle.layout_places.specs.Answers.{firstCause};
-ghost use Rattle.pair_nofit_calls.specs.Lines.{marked, Put, lineOutcome, lineAfter, runsAnswer, lentStretch, stretchCauses};
+ghost use Rattle.pair_nofit_calls.specs.Lines.{marked, Put, lineOutcome, lineAfter, runsAnswer, lentStretch, stretchCauses, offsetCount};
+
+// How many offsets a no-fit line has.
+const OFFSET_COUNT: usize = 2 * (OFFSET_BOUND as usize) + 1;
+
+// What an offset is counted from.
+const OFFSET_BIAS: i32 = OFFSET_BOUND as i32;
+
+// Offsets across that go this far, or farther, share no pixel.
+const FARTHEST: u32 = SIDE_BOUND as u32;
+
+// The same upwards.
+const FARTHEST_UP: i32 = SIDE_BOUND as i32;
+
+// And downwards.
+const FARTHEST_DOWN: i32 = 0 - FARTHEST_UP;
 
 // How many runs a no-fit line has, or why it is refused.
 pub enum RunsAnswer {
@@ -35,38 +52,38 @@ fn unbiased(k: u32) -> i32
     requires { ⌜ k < 512 ⌝ }
     ensures { λ r. ⌜ r ≡ subℕ k offsetBound ⌝ }
 {
-    (k as i32) - 254
+    (k as i32) - OFFSET_BIAS
 }
 
 // How far an offset goes up, up to 255.
 fn up(o: i32) -> u32
-    ensures { λ r. ⌜ r ≡ min (up o) 255 ⌝ }
+    ensures { λ r. ⌜ r ≡ min (up o) sideBound ⌝ }
 {
     if o < 0 {
         return 0;
     }
-    if 255 < o {
-        return 255;
+    if FARTHEST_UP < o {
+        return FARTHEST;
     }
     o as u32
 }
 
 // How far an offset goes down, up to 255.
 fn down(o: i32) -> u32
-    ensures { λ r. ⌜ r ≡ min (down o) 255 ⌝ }
+    ensures { λ r. ⌜ r ≡ min (down o) sideBound ⌝ }
 {
     if 0 <= o {
         return 0;
     }
-    if o < -255 {
-        return 255;
+    if o < FARTHEST_DOWN {
+        return FARTHEST;
     }
     (0 - o) as u32
 }
 
 // Puts the run of `count` marked offsets that ends before `end` into the buffer, if there is one, and tells where the next would stand.
 fn put_run(out: &mut [[i32; 2]], at: usize, end: usize, count: usize) -> usize
-    requires { ⌜ (count ≤ end) × (end ≤ 509) × (at ≤ 509) ⌝ }
+    requires { ⌜ (count ≤ end) × (end ≤ offsetCount) × (at ≤ offsetCount) ⌝ }
     ensures { λ r. ⌜ Put (closing end count []) (now (out .entry)) at (now (out .exit)) r ⌝ }
 {
     if count == 0 {
@@ -81,7 +98,7 @@ fn put_run(out: &mut [[i32; 2]], at: usize, end: usize, count: usize) -> usize
 
 // Puts the maximal runs of the marked offsets into the buffer, as far as there is room, and tells how many there are.
 fn put_runs(marks: &[u16], out: &mut [[i32; 2]]) -> usize
-    requires { ⌜ length (now marks) ≤ 509 ⌝ }
+    requires { ⌜ length (now marks) ≤ offsetCount ⌝ }
     ensures { λ r. ⌜ Put (runs (marked (now (marks .entry))) (length (now (marks .entry)))) (now (out .entry)) 0 (now (out .exit)) r ⌝ }
 {
     let mut at = 0;
@@ -107,14 +124,14 @@ fn put_line(a: &[[u8; 3]], b: &[[u8; 3]], offset: i32, out: &mut [[i32; 2]]) -> 
     ensures memory { λ r. ⌜ now (out .exit) ≡ lineAfter (now (out .entry)) (lineOutcome (now (a .entry)) (now (b .entry)) offset (length (now (out .entry)))) ⌝ }
 {
     let u = Corner {
-        along: 254,
+        along: OFFSET_BOUND,
         across: down(offset),
     };
     let v = Corner {
         along: 0,
         across: up(offset),
     };
-    let mut marks = [0u16; 509];
+    let mut marks = [0u16; OFFSET_COUNT];
     pair_nofit::mark_shifts(a, u, b, v, &mut marks);
     let needed = put_runs(&marks, &mut out[..0]);
     if out.len() < needed {
@@ -143,7 +160,7 @@ fn is_own(
     direction: Direction,
     stretch: &[[u8; 3]],
 ) -> bool
-    requires { ⌜ EntryAt (now table) i (pixelStart (now table) i) × (i ≤ 64) ⌝ }
+    requires { ⌜ EntryAt (now table) i (pixelStart (now table) i) × (i ≤ pieceBound) ⌝ }
     ensures { λ r. ⌜ ((size : JobSize) → r ≡ stretchWell direction (jobOf (lentBy size (now (table .entry)) (now (pixels .entry)))) (lentStretch i turn (now (stretch .entry)))) ⌝ }
 {
     let start = job_check::pixel_start(table, i);

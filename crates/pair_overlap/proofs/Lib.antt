@@ -1,4 +1,3 @@
 -- Laws of the walk over two stretches, and what the lists' definitions come to for pixel sets.
-pub mod Firsts
 pub mod Walk
 pub mod Shapes

@@ -11,25 +11,25 @@ use native.Mathlib.Nat.{not-suc-le-zero, le-of-suc-le-suc, eq-or-lt-of-le}
 use native.Mathlib.Omega.{arith}
 use lib.ListN.{length, getD}
 use Rattle.model.specs.Bounded.{firstFrom}
-use Rattle.model.specs.Piece.{Point, Shape, pixel, along, across, point, shift, extent}
-use Rattle.model.specs.Strip.{Strip, strips, stripsHave}
+use Rattle.model.specs.Piece.{Point, Shape, along, across, point, shift, extent}
+use Rattle.model.specs.Strip.{Strip, strips}
 use Rattle.model.specs.Buffer.{stripEntry}
 use Rattle.model.specs.Overlap.{share, apartAt, depth, penalty}
 use Rattle.model.specs.declared.Direction.{Direction}
 use Rattle.model.specs.declared.Direction.the-variants.{Horizontal, Vertical}
-use Rattle.model.proofs.Tests.{or-left, or-right, same-tests}
-use Rattle.strip_laws.specs.Lists.{Pairwise}
-use Rattle.strip_laws.proofs.Lists.{member-at, pairwise-at}
+use Rattle.list_laws.proofs.Firsts.{FirstBelow, first-found, first-unique}
+use Rattle.list_laws.proofs.Numbers.{below-or}
+use Rattle.list_laws.proofs.Lists.{member-at}
+use Rattle.list_laws.proofs.Tests.{or-left, or-right, same-tests}
+use Rattle.strip_laws.proofs.Lists.{pairwise-at}
 use Rattle.strip_laws.specs.Strips.{MaximalStrip, StripBefore}
 use Rattle.strip_laws.proofs.Strips.{InStrips, have-in, strips-exactly, strips-maximal, strips-ordered}
 use Rattle.overlap_laws.specs.Overlap.{SharedPixel}
 use Rattle.overlap_laws.proofs.Share.{share-witness, share-from, share-symmetric, shared-along, shared-across, shared-over, along-point, across-point, along-shift, across-shift}
-use Rattle.overlap_laws.proofs.Depth.{depth-before, depth-apart, apart-cases}
-use Rattle.pair_overlap.specs.Meet.{stripAt, begin, Ordered, crossed, shifted, meet, stretchesShare, clearAt, clearBelow, depthBelow, penaltyBelow}
+use Rattle.overlap_laws.proofs.Depth.{depth-before, depth-apart}
+use Rattle.pair_overlap.specs.Meet.{stripAt, stripBegin, Ordered, shifted, meet, stretchesShare, clearAt, clearBelow, depthBelow, penaltyBelow}
 pub use Rattle.pair_overlap.specs.Seen.{entries, seen}
-use Rattle.pair_overlap.specs.declared.Corner.{Corner}
 use Rattle.pair_overlap.proofs.Walk.{Meeting, meet-facts, facts-meet, meet-share, StripsMeet, share-meet}
-use Rattle.pair_overlap.proofs.Firsts.{below-or, FirstBelow, first-found, first-unique}
 
 -- ── strips by place ──
 
@@ -66,11 +66,11 @@ place-of t (x ∷ ts) (List·Memᴰ·tail m) =
 
 -- the strips of a set stand by line, then first
 strips-order : (d : Direction) (s : Shape) → extent d s ≤ 255 → (i j : ℕ) → i ≤ j → j < length (entries d s)
-    → begin (stripAt (entries d s) i) ≤ begin (stripAt (entries d s) j)
+    → stripBegin (stripAt (entries d s) i) ≤ stripBegin (stripAt (entries d s) j)
 strips-order d s h i j l m =
     let ts : List Strip = strips d s in
     ⊎-elim
-    (λ (e : i ≡ j). subst (λ (k : ℕ). begin (stripAt (entries d s) i) ≤ begin (stripAt (entries d s) k)) e (omega arith))
+    (λ (e : i ≡ j). subst (λ (k : ℕ). stripBegin (stripAt (entries d s) i) ≤ stripBegin (stripAt (entries d s) k)) e (omega arith))
     (λ (lt : i < j).
     let a : MaximalStrip d s (stripAt (entries d s) i) = strips-maximal d s _ (at-member ts i (omega arith)) in
     let b : StripBefore (getD ts i no-strip) (getD ts j no-strip) = pairwise-at (strips-ordered d s) i j no-strip lt (omega (arith, length-entries ts)) in
@@ -123,15 +123,15 @@ module _ (d : Direction) (s : Shape) (u : Point) (t : Shape) (v : Point) where
   stretches-shared e =
       let m : StripsMeet (entries d s) (seen d u) (entries d t) (seen d v) = share-meet (entries d s) (seen d u) (entries d t) (seen d v) e in
       share-from s u t v
-      (meeting-shared _ _ (strips-maximal d s _ (at-member (strips d s) (m .i) (m .i-below)))
-      (strips-maximal d t _ (at-member (strips d t) (m .j) (m .j-below)))
+      (meeting-shared _ _ (strips-maximal d s _ (at-member (strips d s) (m .i) (m .iBelow)))
+      (strips-maximal d t _ (at-member (strips d t) (m .j) (m .jBelow)))
       (meet-facts _ (seen d u) _ (seen d v) (m .meets)))
 
   shared-stretches : share s u t v ≡ true → stretchesShare (entries d s) (seen d u) (entries d t) (seen d v) ≡ true
   shared-stretches e =
       let w : SharedPixel s u t v = share-witness s u t v e in
-      let p : InStrips d (strips d s) (w .p) = have-in d (strips d s) (w .p) (strips-exactly d s (w .p) ∙ w .of-first) in
-      let q : InStrips d (strips d t) (w .q) = have-in d (strips d t) (w .q) (strips-exactly d t (w .q) ∙ w .of-second) in
+      let p : InStrips d (strips d s) (w .p) = have-in d (strips d s) (w .p) (strips-exactly d s (w .p) ∙ w .ofFirst) in
+      let q : InStrips d (strips d t) (w .q) = have-in d (strips d t) (w .q) (strips-exactly d t (w .q) ∙ w .ofSecond) in
       let i : PlaceOf (p .strip) (strips d s) = place-of (p .strip) (strips d s) (p .listed) in
       let j : PlaceOf (q .strip) (strips d t) = place-of (q .strip) (strips d t) (q .listed) in
       let a = p .line in

@@ -21,12 +21,12 @@ abbrev pub stripAt : List (List ℕ) → ℕ → Strip
 stripAt es i = entryStrip (getD es i [])
 
 -- where a strip begins, as one number: lines lie 65,536 apart, more than any coordinate
-abbrev pub begin : Strip → ℕ
-begin s = s .line * 65536 + s .first
+abbrev pub stripBegin : Strip → ℕ
+stripBegin s = s .line * 65536 + s .first
 
 -- the strips stand by line, then first, and begin and count below 256, as strips of a piece do
 pub record Ordered (es : List (List ℕ)) : Type 0 where
-  pub order : (i j : ℕ) → i ≤ j → j < length es → begin (stripAt es i) ≤ begin (stripAt es j)
+  pub order : (i j : ℕ) → i ≤ j → j < length es → stripBegin (stripAt es i) ≤ stripBegin (stripAt es j)
   pub low : (i : ℕ) → i < length es → stripAt es i .first < 256
   pub short : (i : ℕ) → i < length es → stripAt es i .count < 256
 
@@ -48,32 +48,32 @@ shiftBound = 1024
 
 -- where a strip of a piece begins and ends when the corner adds `base`; its numbers are bytes
 pub record SpanOf (s : Strip) (base : ℕ) (r : Span) : Type 0 where
-  pub begins : r .begin ≡ begin s + base
-  pub ends : r .end ≡ begin s + base + s .count
+  pub begins : r .begin ≡ stripBegin s + base
+  pub ends : r .end ≡ stripBegin s + base + s .count
   pub line : s .line < 256
   pub first : s .first < 256
   pub count : s .count < 256
 
 -- each of two strips begins before the other ends, when the corners add x and y
 pub record Crossing (s : Strip) (x : ℕ) (t : Strip) (y : ℕ) : Type 0 where
-  pub first-before : begin s + x < begin t + y + t .count
-  pub second-before : begin t + y < begin s + x + s .count
+  pub firstBefore : stripBegin s + x < stripBegin t + y + t .count
+  pub secondBefore : stripBegin t + y < stripBegin s + x + s .count
 
 -- every two strips that cross stand at i and j or later
-abbrev pub Passed : List (List ℕ) → ℕ → List (List ℕ) → ℕ → ℕ → ℕ → Type 0
-Passed es x fs y i j = (k l : ℕ) → k < length es → l < length fs → Crossing (stripAt es k) x (stripAt fs l) y → (i ≤ k) × (j ≤ l)
+abbrev pub CrossingsPassed : List (List ℕ) → ℕ → List (List ℕ) → ℕ → ℕ → ℕ → Type 0
+CrossingsPassed es x fs y i j = (k l : ℕ) → k < length es → l < length fs → Crossing (stripAt es k) x (stripAt fs l) y → (i ≤ k) × (j ≤ l)
 
 -- where a walk over two stretches may begin, also when the second is shifted along the strips
-pub record Begun (es : List (List ℕ)) (x : ℕ) (fs : List (List ℕ)) (y : ℕ) (r : Heads) : Type 0 where
+pub record WalkBegun (es : List (List ℕ)) (x : ℕ) (fs : List (List ℕ)) (y : ℕ) (r : Heads) : Type 0 where
   pub first : r .first ≤ length es
   pub second : r .second ≤ length fs
-  pub passed : Passed es x fs y (r .first) (r .second)
-  pub onwards : (m : ℕ) → m ≤ shiftBound → Passed es x fs (y + m) (r .first) (r .second)
+  pub passed : CrossingsPassed es x fs y (r .first) (r .second)
+  pub onwards : (m : ℕ) → m ≤ shiftBound → CrossingsPassed es x fs (y + m) (r .first) (r .second)
 
 -- the first r strips of a stretch, whose piece's corner adds `base`, end before a place, also when they are shifted
 pub record Skipped (es : List (List ℕ)) (base place r : ℕ) : Type 0 where
   pub within : r ≤ length es
-  pub before : (k : ℕ) → k < r → begin (stripAt es k) + base + stripAt es k .count + shiftBound ≤ place
+  pub before : (k : ℕ) → k < r → stripBegin (stripAt es k) + base + stripAt es k .count + shiftBound ≤ place
 
 -- the corner shifted by k along the strips
 abbrev pub shifted : ℕ → Corner → Corner

@@ -1,10 +1,17 @@
 // Overlap of two placed pieces, from their strips. Document 01, 'No-fit rows and penalty'. Every function here takes a stretch of
 // strips for each piece, as (line, first, count) ordered by line, then first, all row strips or all column strips, and each
 // piece's corner. The contracts speak of the lent lists; proofs/Shapes.antt says what they come to for the strips of a pixel set.
+use whole_numbers::wide;
 ghost use mathlib.Core.Path.{_≡_};
 ghost use Prim.Native.Nat.{_+_, _<_, _≤_, min};
 ghost use lib.ListN.{length};
-ghost use Rattle.pair_overlap.specs.Meet.{stripAt, baseOf, Ordered, Near, NearShifted, shiftBound, SpanOf, Skipped, Begun, Slid, ClearStretch, stretchesShare, clearBelow, depthBelow, penaltyBelow};
+ghost use Rattle.pair_overlap.specs.Meet.{stripAt, baseOf, Ordered, Near, NearShifted, shiftBound, SpanOf, Skipped, WalkBegun, Slid, ClearStretch, stretchesShare, clearBelow, depthBelow, penaltyBelow};
+
+// How far the begin of a line lies from that of the next: more than any place along a line.
+const LINE_STEP: u32 = 65536;
+
+// The longest shift and the longest strip together.
+const SHIFT_REACH: u32 = 1280;
 
 // A piece's corner as its strips' direction sees it: the coordinate along them and the one across them.
 pub struct Corner {
@@ -51,14 +58,7 @@ fn base(u: Corner) -> u32
     requires { ⌜ NearShifted u ⌝ }
     ensures { λ r. ⌜ r ≡ baseOf u ⌝ }
 {
-    u.across * 65536 + u.along
-}
-
-// A byte as a number that sums fit in.
-fn wide(b: u8) -> u32
-    ensures { λ r. ⌜ (r ≡ b) × (b < 256) ⌝ }
-{
-    b as u32
+    u.across * LINE_STEP + u.along
 }
 
 // The strip at i of a stretch whose piece's corner adds `from`.
@@ -66,7 +66,7 @@ fn span_at(s: &[[u8; 3]], i: usize, from: u32) -> Span
     requires { ⌜ (i < length (now s)) × (from < 2000000000) ⌝ }
     ensures { λ r. ⌜ SpanOf (stripAt (now (s .entry)) i) from r ⌝ }
 {
-    let begin = wide(s[i][0]) * 65536 + wide(s[i][1]) + from;
+    let begin = wide(s[i][0]) * LINE_STEP + wide(s[i][1]) + from;
     Span {
         begin,
         end: begin + wide(s[i][2]),
@@ -85,7 +85,7 @@ fn skip(s: &[[u8; 3]], from: u32, place: u32) -> usize
         if place < p.begin {
             return i;
         }
-        let lines = ((place - p.begin) / 65536) as usize;
+        let lines = ((place - p.begin) / LINE_STEP) as usize;
         if lines == 0 {
             return i;
         }
@@ -93,7 +93,7 @@ fn skip(s: &[[u8; 3]], from: u32, place: u32) -> usize
             return i;
         }
         let q = span_at(s, i + lines - 1, from);
-        if place < q.begin + 1280 {
+        if place < q.begin + SHIFT_REACH {
             return i;
         }
         i += lines;
@@ -104,7 +104,7 @@ fn skip(s: &[[u8; 3]], from: u32, place: u32) -> usize
 // Where a walk over the two stretches begins: past strips in lines before the other's first.
 fn walk_start(a: &[[u8; 3]], x: u32, b: &[[u8; 3]], y: u32) -> Heads
     requires { ⌜ Ordered (now a) ⌝ ∗ ⌜ Ordered (now b) ⌝ ∗ ⌜ (x < 1900000000) × (y < 1900000000) ⌝ }
-    ensures { λ r. ⌜ Begun (now (a .entry)) x (now (b .entry)) y r ⌝ }
+    ensures { λ r. ⌜ WalkBegun (now (a .entry)) x (now (b .entry)) y r ⌝ }
 {
     if b.len() == 0 {
         // A piece has a strip: this does not happen.

@@ -7,11 +7,11 @@ use native.Mathlib.Omega.{arith}
 use Rattle.model.specs.Piece.{turned}
 use Rattle.model.specs.declared.Turn.{Turn}
 use Rattle.model.specs.declared.Turn.the-variants.{Zero, Quarter, Half, ThreeQuarters}
-use Rattle.piece_pixels.specs.Turned.{storedBy, shownBy, sidesOf, Small}
+use Rattle.piece_pixels.specs.Turned.{storedBy, shownBy, sidesOf, SmallPiece}
 use Rattle.piece_pixels.specs.declared.TurnedPiece.{TurnedPiece}
 
 -- a pixel of a small box stands among the box's first pixels
-pub area-small : {p : TurnedPiece} {x y : ℕ} → Small p → x < p .columns → y < p .rows → y * p .columns + x < 65281
+pub area-small : {p : TurnedPiece} {x y : ℕ} → SmallPiece p → x < p .columns → y < p .rows → y * p .columns + x < 65281
 area-small {p} {x} {y} s a b =
     let l : p .columns ≤ 255 = s .columns in
     let r : p .rows ≤ 255 = s .rows in

@@ -11,7 +11,7 @@ use Rattle.model.specs.Lent.{Lent, lentBy, jobOf, lentWell, entryColumns, entry
 use Rattle.model.specs.declared.Turn.{Turn}
 use Rattle.model.specs.declared.JobSize.{JobSize}
 use Rattle.job_laws.proofs.Checked.{Facts, facts}
-use Rattle.piece_pixels.specs.Turned.{madeOf, shownBy, Small, Stored}
+use Rattle.piece_pixels.specs.Turned.{madeOf, shownBy, SmallPiece, PixelStored}
 
 -- the turned piece of a table entry shows the job's piece in the turn
 pub shown-piece : (size : JobSize) (table : List (List ℕ)) (pixels : List ℕ) (i start : ℕ) (t : Turn) → start ≡ pixelStart table i
@@ -20,7 +20,7 @@ unfolding jobOf
 shown-piece size table pixels i start t e = ap (λ k. shownBy pixels (madeOf table i k t)) e
 
 -- a piece of a job that passes the check is small
-pub entry-small : (l : Lent) (i : ℕ) (t : Turn) → lentWell l ≡ true → i < l .size .count → Small (madeOf (l .table) i (pixelStart (l .table) i) t)
+pub entry-small : (l : Lent) (i : ℕ) (t : Turn) → lentWell l ≡ true → i < l .size .count → SmallPiece (madeOf (l .table) i (pixelStart (l .table) i) t)
 entry-small l i t e h =
     let f : Facts l = facts l e in
     let a = f .ends i h in
@@ -29,7 +29,7 @@ entry-small l i t e h =
 
 -- its store has all its pixels
 pub entry-stored : (l : Lent) (i : ℕ) (t : Turn) → lentWell l ≡ true → i < l .size .count
-    → Stored (l .pixels) (madeOf (l .table) i (pixelStart (l .table) i) t)
+    → PixelStored (l .pixels) (madeOf (l .table) i (pixelStart (l .table) i) t)
 entry-stored l i t e h =
     let f : Facts l = facts l e in
     let a = f .ends i h in

@@ -27,16 +27,16 @@ abbrev pub shownBy : List ℕ → TurnedPiece → Shape
 shownBy pixels p = turned (p .turn) (storedBy pixels p)
 
 -- (x, y) is a place of the turned box
-abbrev pub InBox : TurnedPiece → ℕ → ℕ → Type 0
-InBox p x y = (x < shownBy [] p .columns) × (y < shownBy [] p .rows)
+abbrev pub InTurnedBox : TurnedPiece → ℕ → ℕ → Type 0
+InTurnedBox p x y = (x < shownBy [] p .columns) × (y < shownBy [] p .rows)
 
 -- the box is within document 01's bounds, and so is where its pixels begin
-pub record Small (p : TurnedPiece) : Type 0 where
+pub record SmallPiece (p : TurnedPiece) : Type 0 where
   pub start : p .start ≤ areaBound
   pub columns : p .columns ≤ sideBound
   pub rows : p .rows ≤ sideBound
 
 -- such a box, and the store has each of its pixels
-pub record Stored (pixels : List ℕ) (p : TurnedPiece) : Type 0 where
-  pub small : Small p
+pub record PixelStored (pixels : List ℕ) (p : TurnedPiece) : Type 0 where
+  pub small : SmallPiece p
   pub held : p .start + p .rows * p .columns ≤ length pixels

@@ -8,9 +8,9 @@ ghost use lib.Dec.{eqb};
 ghost use lib.ListN.{length, getD};
 ghost use Rattle.model.specs.Piece.{Shape, turned};
 ghost use Rattle.model.specs.Layout.{turnedPiece};
-ghost use Rattle.model.specs.Lent.{lentBy, jobOf};
+ghost use Rattle.model.specs.Lent.{lentBy, jobOf, sideBound};
 ghost use Rattle.model.specs.declared.JobSize.{JobSize};
-ghost use Rattle.piece_pixels.specs.Turned.{sidesOf, madeOf, shownBy, InBox, Small, Stored};
+ghost use Rattle.piece_pixels.specs.Turned.{sidesOf, madeOf, shownBy, InTurnedBox, SmallPiece, PixelStored};
 
 // A piece as the pixel store holds it, seen in a turn: where its pixels begin, its box's columns and rows, and the turn.
 pub struct TurnedPiece {
@@ -69,7 +69,7 @@ pub fn sides_in(columns: usize, rows: usize, turn: Turn) -> Sides
 pub fn turned_sides(table: &[[u8; 3]], i: usize, turn: Turn) -> Sides
     requires { ⌜ i < length (now table) ⌝ }
     ensures sides { λ r. ⌜ ((size : JobSize) (pixels : List ℕ) → r ≡ sidesOf (turnedPiece (jobOf (lentBy size (now (table .entry)) pixels)) i turn)) ⌝ }
-    ensures small { λ r. ⌜ (r .columns ≤ 255) × (r .rows ≤ 255) ⌝ }
+    ensures small { λ r. ⌜ (r .columns ≤ sideBound) × (r .rows ≤ sideBound) ⌝ }
 {
     let columns = side(table[i][0]);
     let rows = side(table[i][1]);
@@ -78,7 +78,7 @@ pub fn turned_sides(table: &[[u8; 3]], i: usize, turn: Turn) -> Sides
 
 // Where the pixel in column x and row y of the box, before the turn, stands in the store.
 fn stored_index(piece: TurnedPiece, x: usize, y: usize) -> usize
-    requires { ⌜ Small piece × ((x < piece .columns) × (y < piece .rows)) ⌝ }
+    requires { ⌜ SmallPiece piece × ((x < piece .columns) × (y < piece .rows)) ⌝ }
     ensures { λ r. ⌜ (r ≡ piece .start + (y * piece .columns + x)) × (r < piece .start + piece .rows * piece .columns) ⌝ }
 {
     piece.start + (y * piece.columns + x)
@@ -86,7 +86,7 @@ fn stored_index(piece: TurnedPiece, x: usize, y: usize) -> usize
 
 // Where the pixel in column x and row y of the turned box stands in the store.
 fn cell_index(piece: TurnedPiece, x: usize, y: usize) -> usize
-    requires { ⌜ Small piece × InBox piece x y ⌝ }
+    requires { ⌜ SmallPiece piece × InTurnedBox piece x y ⌝ }
     ensures shows { λ r. ⌜ ((pixels : List ℕ) → eqb (getD pixels r 0) 1 ≡ shownBy pixels piece .has x y) ⌝ }
     ensures within { λ r. ⌜ r < piece .start + piece .rows * piece .columns ⌝ }
 {
@@ -101,7 +101,7 @@ fn cell_index(piece: TurnedPiece, x: usize, y: usize) -> usize
 
 // Whether the turned piece has the pixel in column x and row y.
 pub fn has_pixel(pixels: &[u8], piece: TurnedPiece, x: usize, y: usize) -> bool
-    requires { ⌜ Small piece × InBox piece x y ⌝ }
+    requires { ⌜ SmallPiece piece × InTurnedBox piece x y ⌝ }
     ensures { λ r. ⌜ r ≡ shownBy (now (pixels .entry)) piece .has x y ⌝ }
 {
     let index = cell_index(piece, x, y);
@@ -114,7 +114,7 @@ pub fn has_pixel(pixels: &[u8], piece: TurnedPiece, x: usize, y: usize) -> bool
 
 // The same of a store that has every pixel of the box, without a look at the store's length.
 pub fn stored_pixel(pixels: &[u8], piece: TurnedPiece, x: usize, y: usize) -> bool
-    requires { ⌜ Stored (now pixels) piece × InBox piece x y ⌝ }
+    requires { ⌜ PixelStored (now pixels) piece × InTurnedBox piece x y ⌝ }
     ensures { λ r. ⌜ r ≡ shownBy (now (pixels .entry)) piece .has x y ⌝ }
 {
     pixels[cell_index(piece, x, y)] == 1

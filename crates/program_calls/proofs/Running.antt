@@ -1,9 +1,8 @@
 -- The program's run as the guided run's call gives it: from the start layout, by weights 1. Assumes nothing.
 use mathlib.Core.Bool.{true}
 use mathlib.Core.List.{List, [], _∷_}
-use mathlib.Core.Path.{_≡_, refl, sym, _∙_, ap}
-use Prim.Native.Nat.{ℕ, zero, suc, _≤_}
-use native.Mathlib.Nat.{not-suc-le-zero, le-of-suc-le-suc}
+use mathlib.Core.Path.{_≡_, sym, _∙_, ap}
+use Prim.Native.Nat.{ℕ, _≤_}
 use native.Mathlib.Omega.{arith}
 use lib.ListN.{length, take, replicate, length-replicate}
 use lib.Seq.{length-take-le}
@@ -17,13 +16,14 @@ use Rattle.model.specs.LayoutText.{layoutText}
 use Rattle.model.specs.Program.{programRounds, programBudget, wordLine, endWord, runText, programRun}
 use Rattle.model.specs.Calls.{guidedCall, bestAfterRun}
 use Rattle.model.specs.declared.Refusal.{Refusal}
+use Rattle.list_laws.proofs.Lists.{take-repeat}
 use Rattle.text_laws.proofs.Entries.{entries-read-back}
 use Rattle.descent_laws.proofs.Bounds.{pairs-at-most}
 use Rattle.call_laws.proofs.Programs.{program-run-given}
 use Rattle.layout_write_calls.specs.Written.{Written}
 use Rattle.layout_write_calls.proofs.Sequel.{written-then}
 use Rattle.run_guided_calls.specs.Answers.{guidedAnswer}
-use Rattle.run_guided_calls.specs.declared.Run.{Run}
+use Rattle.run_guided_calls.specs.declared.RunTotals.{RunTotals}
 use Rattle.run_guided_calls.specs.declared.GuidedAnswer.{GuidedAnswer}
 use Rattle.program_calls.specs.Output.{outputBound}
 use Rattle.program_calls.specs.Runs.{Gives, runWith}
@@ -34,12 +34,6 @@ use Rattle.program_calls.proofs.Printing.{written-more}
 -- it is as long as asked
 pub front-length : {A : Type 0} (k n : ℕ) (a : A) → k ≤ n → k ≡ length (take k (replicate n a))
 front-length k n a h = sym (length-take-le k (replicate n a) (rw (length-replicate n a) h))
-
--- it is a repeat
-take-repeat : (k n a : ℕ) → k ≤ n → take k (replicate n a) ≡ replicate k a
-take-repeat zero n a h = refl
-take-repeat (suc k) zero a h = absurd (not-suc-le-zero h)
-take-repeat (suc k) (suc n) a h = ap (λ (r : List ℕ). a ∷ r) (take-repeat k n a (le-of-suc-le-suc h))
 
 -- a job has at most 2,016 pairs
 pub pairs-few : (n k : ℕ) → n ≤ pieceBound → k ≡ length (pairs n) → k ≤ 2016
@@ -60,14 +54,14 @@ run-given l es ws well e f = rw (e, f) (program-run-given l well)
 
 module _ (o : Outcome Guided) (g : Guided) (e : o ≡ given g) where
   -- what it answers and leaves
-  pub run-gives : (r : Run) (before after : List (List ℕ)) → GuidedAnswer.Ran r ≡ guidedAnswer o → after ≡ bestAfterRun before o → Gives r after g
+  pub run-gives : (r : RunTotals) (before after : List (List ℕ)) → GuidedAnswer.Ran r ≡ guidedAnswer o → after ≡ bestAfterRun before o → Gives r after g
   run-gives r before after a m =
       let same : GuidedAnswer.Ran r ≡ guidedAnswer (given g) = a ∙ ap guidedAnswer e in
       let is : r ≡ record { sum = g .sum; made = g .made; moves = g .moves } = cc in
       record {
-        sum = ap (λ (x : Run). x .sum) is;
-        made = ap (λ (x : Run). x .made) is;
-        moves = ap (λ (x : Run). x .moves) is;
+        sum = ap (λ (x : RunTotals). x .sum) is;
+        made = ap (λ (x : RunTotals). x .made) is;
+        moves = ap (λ (x : RunTotals). x .moves) is;
         best = m ∙ ap (bestAfterRun before) e;
       }
 
@@ -79,14 +73,14 @@ module _ (o : Outcome Guided) (g : Guided) (e : o ≡ given g) where
       omega arith
 
 -- the text of a run, by its numbers and the layout buffer
-pub run-text : (j : Job) (r : Run) (layout : List (List ℕ)) (g : Guided) → Gives r layout g → runText j (runWith r (layoutOf layout)) ≡ runText j g
+pub run-text : (j : Job) (r : RunTotals) (layout : List (List ℕ)) (g : Guided) → Gives r layout g → runText j (runWith r (layoutOf layout)) ≡ runText j g
 unfolding runText
 run-text j r layout g h =
     let v : layoutOf layout ≡ g .layout = ap layoutOf (h .best) ∙ entries-read-back (g .layout) in
     rw (v, h .sum, h .made, h .moves)
 
 -- the layout's text and the end line behind it
-pub run-written : (j : Job) (r : Run) (v : Layout) (used : ℕ) (before mid after : List ℕ) (next end : ℕ) → used ≡ usedLength j v
+pub run-written : (j : Job) (r : RunTotals) (v : Layout) (used : ℕ) (before mid after : List ℕ) (next end : ℕ) → used ≡ usedLength j v
     → Written before 0 (layoutText j v) 1755 next mid
     → Written mid next (wordLine (endWord (r .sum)) (r .sum ∷ r .made ∷ r .moves ∷ used ∷ [])) 54 end after
     → Written before 0 (runText j (runWith r v)) outputBound end after

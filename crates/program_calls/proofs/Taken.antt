@@ -16,6 +16,7 @@ use Rattle.model.specs.LayoutText.{layoutText}
 use Rattle.model.specs.Program.{programRounds, programBudget, programRun}
 use Rattle.model.specs.Calls.{layoutCauses, usedLengthCall, writeLayoutCall, textAfter, startCall}
 use Rattle.model.specs.declared.Refusal.{Refusal}
+use Rattle.list_laws.proofs.Stores.{sets-filled}
 use Rattle.job_laws.proofs.Checked.{lent-few}
 use Rattle.text_laws.specs.Outcomes.{NoCause}
 use Rattle.text_laws.proofs.Outcomes.{unless-given}
@@ -28,7 +29,6 @@ use Rattle.layout_places.proofs.Causes.{Sound, sound, none-then}
 use Rattle.layout_write_calls.specs.Answers.{textAnswer}
 use Rattle.layout_write_calls.specs.Written.{Written}
 use Rattle.layout_write_calls.specs.declared.TextAnswer.{TextAnswer}
-use Rattle.text_fields.proofs.Stores.{sets-filled}
 use Rattle.program_calls.proofs.Short.{layout-short}
 
 -- the start layout is given

@@ -6,7 +6,7 @@ ghost use Rattle.model.specs.Program.{wordLine, refusalText, endWord};
 ghost use Rattle.layout_write_calls.specs.Written.{Written};
 ghost use Rattle.program_calls.specs.Output.{outputBound};
 use model::Refusal;
-use run_guided_calls::Run;
+use run_guided_calls::RunTotals;
 use text_fields::put_byte;
 use text_fields::put_decimal;
 use text_fields::put_word;
@@ -32,7 +32,7 @@ fn put_end_word(text: &mut [u8], at: usize, sum: u64) -> usize
 }
 
 // The end line: the word, plain sum, trials, moves and used length; and the position after it.
-pub fn put_end_line(text: &mut [u8], at: usize, run: Run, used: usize) -> usize
+pub fn put_end_line(text: &mut [u8], at: usize, run: RunTotals, used: usize) -> usize
     requires { ⌜ at ≤ 2000 ⌝ }
     ensures { λ r. ⌜ Written (now (text .entry)) at (wordLine (endWord (run .sum)) (run .sum ∷ run .made ∷ run .moves ∷ used ∷ [])) 54 r (now (text .exit)) ⌝ }
 {

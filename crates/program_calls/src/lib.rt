@@ -23,9 +23,12 @@ use end_lines::put_refusal_line;
 use job_calls::JobAnswer;
 use layout_places::LengthAnswer;
 use layout_write_calls::TextAnswer;
+use model::AREA_BOUND;
 use model::JobSize;
+use model::PAIR_BOUND;
+use model::PIECE_BOUND;
 use run_guided_calls::GuidedAnswer;
-use run_guided_calls::Run;
+use run_guided_calls::RunTotals;
 use run_guided_calls::guided_run;
 use search_sums::pair_count;
 use text_fields::put_word;
@@ -33,18 +36,35 @@ use text_fields::put_word;
 // The most bytes that an input may have.
 pub const INPUT_BOUND: usize = 65536;
 
+// The most bytes that are printed.
+pub const OUTPUT_BOUND: usize = 4096;
+
+// The rounds of the program's run.
+const PROGRAM_ROUNDS: u32 = 20;
+
+// The budget of each.
+const PROGRAM_BUDGET: u32 = 1000;
+
 // The run of a job: from the start layout, by weights 1, 20 rounds of budget 1,000. The best layout is left in the layout buffer.
-fn run_job(size: JobSize, table: &[[u8; 3]], pixels: &[u8], layout: &mut [[u16; 3]]) -> Run
+fn run_job(size: JobSize, table: &[[u8; 3]], pixels: &[u8], layout: &mut [[u16; 3]]) -> RunTotals
     requires { ⌜ (lentWell (lentBy size (now table) (now pixels)) ≡ true) × (length (now layout) ≡ size .count) ⌝ }
     ensures { λ r. ⌜ Gives r (now (layout .exit)) (programRun (jobOf (lentBy size (now (table .entry)) (now (pixels .entry))))) ⌝ }
 {
     layout_start_calls::start(size, table, pixels, layout);
-    let mut weights = [1u32; 2016];
+    let mut weights = [1u32; PAIR_BOUND];
     let pairs = pair_count(size.count);
-    match guided_run(size, table, pixels, layout, &mut weights[..pairs], 20, 1000) {
+    match guided_run(
+        size,
+        table,
+        pixels,
+        layout,
+        &mut weights[..pairs],
+        PROGRAM_ROUNDS,
+        PROGRAM_BUDGET,
+    ) {
         GuidedAnswer::Ran(run) => run,
         // The start layout and weights 1 are valid: this does not happen.
-        GuidedAnswer::Refused(_) => Run {
+        GuidedAnswer::Refused(_) => RunTotals {
             sum: 0,
             made: 0,
             moves: 0,
@@ -58,7 +78,7 @@ fn write_run(
     table: &[[u8; 3]],
     pixels: &[u8],
     layout: &[[u16; 3]],
-    run: Run,
+    run: RunTotals,
     text: &mut [u8],
 ) -> usize
     requires { ⌜ NoCause (layoutCauses (lentBy size (now table) (now pixels)) (now layout)) ⌝ ∗ ⌜ outputBound ≤ length (now text) ⌝ }
@@ -86,7 +106,7 @@ fn print_job(size: JobSize, table: &[[u8; 3]], pixels: &[u8], text: &mut [u8]) -
     requires { ⌜ (lentWell (lentBy size (now table) (now pixels)) ≡ true) × (outputBound ≤ length (now text)) ⌝ }
     ensures { λ r. ⌜ Written (now (text .entry)) 0 (printed (given (lentBy size (now (table .entry)) (now (pixels .entry))))) outputBound r (now (text .exit)) ⌝ }
 {
-    let mut layout = [[0u16; 3]; 64];
+    let mut layout = [[0u16; 3]; PIECE_BOUND];
     let count = size.count;
     let places: &mut [[u16; 3]] = &mut layout[..count];
     let run = run_job(size, table, pixels, places);
@@ -98,8 +118,8 @@ fn read_and_print(input: &[u8], text: &mut [u8]) -> usize
     requires { ⌜ outputBound ≤ length (now text) ⌝ }
     ensures { λ r. ⌜ Written (now (text .entry)) 0 (printed (readJob (now (input .entry)) pieceBound areaBound)) outputBound r (now (text .exit)) ⌝ }
 {
-    let mut table = [[0u8; 3]; 64];
-    let mut pixels = [0u8; 65536];
+    let mut table = [[0u8; 3]; PIECE_BOUND];
+    let mut pixels = [0u8; AREA_BOUND];
     match job_calls::read_job(input, &mut table, &mut pixels) {
         JobAnswer::Refused(refusal) => put_refusal_line(text, refusal),
         JobAnswer::Read(size) => {
@@ -129,7 +149,7 @@ pub fn print_run(input: &[u8], output: &mut [u8]) -> TextAnswer
     ensures memory { λ r. ⌜ now (output .exit) ≡ textAfter (now (output .entry)) (programCall (now (input .entry)) (length (now (output .entry)))) ⌝ }
     ensures fits { λ r. ⌜ length (programText (now (input .entry))) ≤ outputBound ⌝ }
 {
-    let mut text = [0u8; 4096];
+    let mut text = [0u8; OUTPUT_BOUND];
     let count = print_text(input, &mut text);
     if output.len() < count {
         return TextAnswer::Refused(layout_places::refusal(7));

@@ -15,9 +15,9 @@ use Rattle.descent_laws.specs.Claims.{ValidLayout}
 use Rattle.search_laws.proofs.TrialIndex.{next-proper}
 use Rattle.search_laws.specs.Loop as loop
 use Rattle.search_laws.proofs.Loop.{Underway, onward-step}
-use Rattle.run_step.specs.Ready.{LaidOut, Stores}
+use Rattle.run_step.specs.Ready.{LaidOut, LineStores}
 use Rattle.run_step.specs.Steps.{standingAs}
-use Rattle.run_step.specs.declared.Standing.{Standing}
+use Rattle.run_step.specs.declared.DescentState.{DescentState}
 
 -- a trial is one more
 pub passed-made : (j : Job) (s : loop.Standing) (t : Attempt) → loop.passed j s t .made ≡ s .made + 1
@@ -66,8 +66,8 @@ module _ (j : Job) (ws : List ℕ) (budget : ℕ) (v : Layout) (a : (k : ℕ) �
 
 -- ── what holds before each pass of the code's loop ──
 
-pub record Going (l : Lent) (ws : List ℕ) (budget : ℕ) (v : Layout) (width : ℕ) (s : Standing) (layout : List (List ℕ))
+pub record Going (l : Lent) (ws : List ℕ) (budget : ℕ) (v : Layout) (width : ℕ) (s : DescentState) (layout : List (List ℕ))
     (penalties rowLines rowTags columnLines columnTags sums : List ℕ) : Type 0 where
   pub underway : Underway (jobOf l) ws budget v (budget - s .made) (standingAs (layoutOf layout) s) (s .sum)
   pub laid : LaidOut l layout penalties
-  pub stores : Stores (jobOf l) width rowLines rowTags columnLines columnTags sums
+  pub stores : LineStores (jobOf l) width rowLines rowTags columnLines columnTags sums

@@ -3,7 +3,7 @@ use model::Direction;
 use model::End;
 use model::JobSize;
 use model::Turn;
-use run_step::Standing;
+use run_step::DescentState;
 use run_step::step;
 use run_trials::Trial;
 use run_trials::trial_count;
@@ -15,7 +15,7 @@ ghost use Rattle.model.specs.Buffer.{layoutOf};
 ghost use Rattle.model.specs.Descent.{descend};
 ghost use Rattle.model.specs.Calls.{budgetBound};
 ghost use Rattle.descent_laws.specs.Claims.{ValidWeights};
-ghost use Rattle.run_step.specs.Ready.{Tools, LaidOut, Stores};
+ghost use Rattle.run_step.specs.Ready.{Tools, LaidOut, LineStores};
 ghost use Rattle.run_descent.specs.Descents.{startingAt, descentOf};
 
 // How a descent ended: the end, the weighted sum, trials made and moves. Its layout stands in the layout buffer.
@@ -27,7 +27,7 @@ pub struct Ended {
 }
 
 // What a descent gives that ends where it stands.
-fn end_at(end: End, at: Standing) -> Ended
+fn end_at(end: End, at: DescentState) -> Ended
     ensures { λ r. ⌜ r ≡ record { end = end; sum = at .sum; made = at .made; moves = at .moves } ⌝ }
 {
     Ended {
@@ -39,10 +39,10 @@ fn end_at(end: End, at: Standing) -> Ended
 }
 
 // The beginning of a descent: nothing counted, the first trial.
-fn beginning(sum: u64) -> Standing
+fn beginning(sum: u64) -> DescentState
     ensures { λ r. ⌜ r ≡ startingAt sum ⌝ }
 {
-    Standing {
+    DescentState {
         sum: sum,
         quiet: 0,
         made: 0,
@@ -79,11 +79,11 @@ pub fn descend(
     requires { ⌜ Tools (lentBy size (now table) (now pixels)) (now rows) (now «row_starts») (now columns) (now «column_starts») width ⌝
         ∗ ⌜ ValidWeights (jobOf (lentBy size (now table) (now pixels))) (now weights) ⌝
         ∗ ⌜ LaidOut (lentBy size (now table) (now pixels)) (now layout) (now penalties) ⌝
-        ∗ ⌜ Stores (jobOf (lentBy size (now table) (now pixels))) width (now «row_lines») (now «row_tags») (now «column_lines») (now «column_tags») (now sums) ⌝
+        ∗ ⌜ LineStores (jobOf (lentBy size (now table) (now pixels))) width (now «row_lines») (now «row_tags») (now «column_lines») (now «column_tags») (now sums) ⌝
         ∗ ⌜ budget ≤ budgetBound ⌝ }
     ensures result { λ r. ⌜ descend (jobOf (lentBy size (now (table .entry)) (now (pixels .entry)))) (now (weights .entry)) budget (layoutOf (now (layout .entry))) ≡ descentOf r (layoutOf (now (layout .exit))) ⌝ }
     ensures laid { λ r. ⌜ LaidOut (lentBy size (now (table .entry)) (now (pixels .entry))) (now (layout .exit)) (now (penalties .exit)) ⌝ }
-    ensures stores { λ r. ⌜ Stores (jobOf (lentBy size (now (table .entry)) (now (pixels .entry)))) width (now («row_lines» .exit)) (now («row_tags» .exit)) (now («column_lines» .exit)) (now («column_tags» .exit)) (now (sums .exit)) ⌝ }
+    ensures stores { λ r. ⌜ LineStores (jobOf (lentBy size (now (table .entry)) (now (pixels .entry)))) width (now («row_lines» .exit)) (now («row_tags» .exit)) (now («column_lines» .exit)) (now («column_tags» .exit)) (now (sums .exit)) ⌝ }
 {
     let pieces = size.count;
     let count = trial_count(size, table);

@@ -8,10 +8,10 @@ use Rattle.model.specs.Layout.{Layout}
 use Rattle.model.specs.Lent.{Lent, jobOf}
 use Rattle.model.specs.Buffer.{layoutOf, entriesOf}
 use Rattle.model.specs.Descent.{descend}
-use Rattle.model.specs.Refusal.{refused, given, cause}
+use Rattle.model.specs.Refusal.{refused, given}
 use Rattle.model.specs.Calls.{budgetBound, someWeightWrong, descentCall}
 use Rattle.model.specs.declared.Refusal.{Refusal}
-use Rattle.model.proofs.Tests.{or-neither}
+use Rattle.list_laws.proofs.Tests.{or-neither}
 use Rattle.text_laws.proofs.Entries.{entries-read-back}
 use Rattle.text_laws.specs.Outcomes.{NoCause}
 use Rattle.text_laws.proofs.Outcomes.{unless-given}

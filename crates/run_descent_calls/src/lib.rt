@@ -1,12 +1,14 @@
 // Descent: trials taken one after the other until nothing overlaps, nothing helps or the budget is used up. Document 01, 'Descent and
 // guidance'.
 use layout_places::CauseAnswer;
+use model::BUDGET_BOUND;
 use model::End;
 use model::JobSize;
+use model::PAIR_BOUND;
 use model::Refusal;
 use run_descent::Ended;
-use run_memory::memory::Outcome;
 use run_memory::memory::Plan;
+use run_memory::memory::PlanOutcome;
 use run_memory::memory::with_strips;
 use run_memory::run_causes;
 use run_memory::write_entries;
@@ -52,7 +54,7 @@ fn run_alone(
     requires { ⌜ Given (lentBy size (now table) (now pixels)) (now layout) (now weights) budget ⌝ }
     ensures { λ r. ⌜ Descended (lentBy size (now (table .entry)) (now (pixels .entry))) (now (layout .entry)) (now (weights .entry)) budget r (now (layout .exit)) ⌝ }
 {
-    let mut own = [0u32; 2016];
+    let mut own = [0u32; PAIR_BOUND];
     let n = weights.len();
     copy_weights(weights, &mut own[..n]);
     match with_strips(
@@ -64,9 +66,9 @@ fn run_alone(
         layout,
         &mut own[..n],
     ) {
-        Outcome::Alone(ended) => ended,
+        PlanOutcome::Alone(ended) => ended,
         // One descent is planned: this does not happen.
-        Outcome::Rounds(_) => Ended {
+        PlanOutcome::Rounds(_) => Ended {
             end: End::Clear,
             sum: 0,
             made: 0,
@@ -88,7 +90,7 @@ pub fn descent(
     ensures memory { λ r. ⌜ now (layout .exit) ≡ descentAfter (now (layout .entry)) (descentCall (lentBy size (now (table .entry)) (now (pixels .entry))) (now (layout .entry)) (now (weights .entry)) budget) ⌝ }
     ensures demand3 { λ r. ⌜ ((e : Ended) → r ≡ DescentAnswer.Ended e → DescentClaims (jobOf (lentBy size (now (table .entry)) (now (pixels .entry)))) (now (weights .entry)) budget (layoutOf (now (layout .entry))) (descentOf e (layoutOf (now (layout .exit))))) ⌝ }
 {
-    match run_causes(size, table, pixels, layout, weights, 1000000000 < budget) {
+    match run_causes(size, table, pixels, layout, weights, BUDGET_BOUND < budget) {
         CauseAnswer::Refused(refusal) => DescentAnswer::Refused(refusal),
         CauseAnswer::Passed => {
             write_entries(layout);

@@ -13,7 +13,7 @@ use Rattle.model.specs.Buffer.{layoutOf, entriesOf}
 use Rattle.model.specs.Refusal.{refused, given, unless}
 use Rattle.model.specs.Calls.{budgetBound, roundBound, someWeightWrong, guidedCall}
 use Rattle.model.specs.declared.Refusal.{Refusal}
-use Rattle.model.proofs.Tests.{or-neither}
+use Rattle.list_laws.proofs.Tests.{or-neither}
 use Rattle.job_laws.proofs.Ranges.{up-to}
 use Rattle.text_laws.proofs.Entries.{entries-read-back}
 use Rattle.text_laws.specs.Outcomes.{NoCause}
@@ -27,7 +27,7 @@ use Rattle.layout_places.proofs.Causes.{refused-alone}
 use Rattle.run_memory.specs.Answers.{runCauses}
 use Rattle.run_guided_calls.specs.Answers.{tallyOf, numbersWrong}
 use Rattle.run_rounds.specs.Rounds.{Ran}
-use Rattle.run_guided_calls.specs.declared.Run.{Run}
+use Rattle.run_guided_calls.specs.declared.RunTotals.{RunTotals}
 use Rattle.run_guided_calls.specs.declared.GuidedAnswer.{GuidedAnswer}
 
 -- three tests in a row, grouped either way
@@ -59,7 +59,7 @@ module _ (l : Lent) (es : List (List ℕ)) (ws : List ℕ) (count budget : ℕ) 
     pub few-trials : budget ≤ budgetBound
     few-trials = ltb-false budgetBound budget (range .0)
 
-    module _ (written : List (List ℕ)) (again : written ≡ entriesOf (layoutOf es)) (run : Run) (best : List (List ℕ)) (raised : List ℕ)
+    module _ (written : List (List ℕ)) (again : written ≡ entriesOf (layoutOf es)) (run : RunTotals) (best : List (List ℕ)) (raised : List ℕ)
         (ran : Ran l written ws count budget (tallyOf run) best raised)
       where
         -- the run is given
@@ -71,12 +71,12 @@ module _ (l : Lent) (es : List (List ℕ)) (ws : List ℕ) (count budget : ℕ) 
             ∙ ap (λ (g : Guided). given g) (ran .result)
 
         -- what demand 3 claims holds of it
-        pub call-claims : (told : Run) → GuidedAnswer.Ran run ≡ GuidedAnswer.Ran told
+        pub call-claims : (told : RunTotals) → GuidedAnswer.Ran run ≡ GuidedAnswer.Ran told
             → GuidedClaims (jobOf l) ws count budget (layoutOf es) (rounds (jobOf l) count budget ws (layoutOf es))
             (guidedOf (layoutOf best) (told .sum) raised (told .made) (told .moves))
         call-claims told e =
             let same : run ≡ told = cc in
             subst
-            (λ (z : Run). GuidedClaims (jobOf l) ws count budget (layoutOf es) (rounds (jobOf l) count budget ws (layoutOf es))
+            (λ (z : RunTotals). GuidedClaims (jobOf l) ws count budget (layoutOf es) (rounds (jobOf l) count budget ws (layoutOf es))
             (guidedOf (layoutOf best) (z .sum) raised (z .made) (z .moves)))
             same (guided-given l es ws count budget _ call-given)

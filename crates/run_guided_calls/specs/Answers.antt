@@ -7,11 +7,11 @@ use Rattle.model.specs.Refusal.{Outcome, refused, given}
 use Rattle.model.specs.Lent.{upTo}
 use Rattle.model.specs.Calls.{budgetBound, roundBound}
 use Rattle.run_rounds.specs.declared.Tally.{Tally}
-use Rattle.run_guided_calls.specs.declared.Run.{Run}
+use Rattle.run_guided_calls.specs.declared.RunTotals.{RunTotals}
 use Rattle.run_guided_calls.specs.declared.GuidedAnswer.{GuidedAnswer}
 
 -- what the rounds come to
-abbrev pub tallyOf : Run → Tally
+abbrev pub tallyOf : RunTotals → Tally
 tallyOf r = record { sum = r .sum; made = r .made; moves = r .moves }
 
 -- a guided run, whose best layout and new weights stand in the buffers

@@ -1,9 +1,11 @@
 // The guided run: rounds of descent with weights raised in between. Document 01, 'Descent and guidance' and 'When a call says no'.
 use layout_places::CauseAnswer;
+use model::BUDGET_BOUND;
 use model::JobSize;
+use model::ROUND_BOUND;
 use model::Refusal;
-use run_memory::memory::Outcome;
 use run_memory::memory::Plan;
+use run_memory::memory::PlanOutcome;
 use run_memory::memory::with_strips;
 use run_memory::run_causes;
 use run_memory::write_entries;
@@ -21,7 +23,7 @@ ghost use Rattle.run_guided_calls.specs.Answers.{tallyOf, guidedAnswer, 
 
 // What a guided run comes to beside the best layout and the new weights: the best layout's plain sum, and the trials and moves of all
 // rounds.
-pub struct Run {
+pub struct RunTotals {
     pub sum: u64,
     pub made: u64,
     pub moves: u64,
@@ -29,7 +31,7 @@ pub struct Run {
 
 // A guided run, or why it is refused.
 pub enum GuidedAnswer {
-    Ran(Run),
+    Ran(RunTotals),
     Refused(Refusal),
 }
 
@@ -37,13 +39,13 @@ pub enum GuidedAnswer {
 fn numbers_wrong(rounds: u32, budget: u32) -> bool
     ensures { λ r. ⌜ r ≡ numbersWrong rounds budget ⌝ }
 {
-    if 1000000000 < budget {
+    if BUDGET_BOUND < budget {
         return true;
     }
     if rounds == 0 {
         return true;
     }
-    1000 < rounds
+    ROUND_BOUND < rounds
 }
 
 // The rounds, in a run's memory.
@@ -55,7 +57,7 @@ fn run_rounds(
     budget: u32,
     layout: &mut [[u16; 3]],
     weights: &mut [u32],
-) -> Run
+) -> RunTotals
     requires { ⌜ Given (lentBy size (now table) (now pixels)) (now layout) (now weights) budget ⌝ ∗ ⌜ rounds ≤ roundBound ⌝ }
     ensures { λ r. ⌜ Ran (lentBy size (now (table .entry)) (now (pixels .entry))) (now (layout .entry)) (now (weights .entry)) rounds budget (tallyOf r) (now (layout .exit)) (now (weights .exit)) ⌝ }
 {
@@ -68,13 +70,13 @@ fn run_rounds(
         layout,
         weights,
     ) {
-        Outcome::Rounds(told) => Run {
+        PlanOutcome::Rounds(told) => RunTotals {
             sum: told.sum,
             made: told.made,
             moves: told.moves,
         },
         // Rounds are planned: this does not happen.
-        Outcome::Alone(_) => Run {
+        PlanOutcome::Alone(_) => RunTotals {
             sum: 0,
             made: 0,
             moves: 0,
@@ -96,7 +98,7 @@ pub fn guided_run(
     ensures answer { λ r. ⌜ r ≡ guidedAnswer (guidedCall (lentBy size (now (table .entry)) (now (pixels .entry))) (now (layout .entry)) (now (weights .entry)) rounds budget) ⌝ }
     ensures layout { λ r. ⌜ now (layout .exit) ≡ bestAfterRun (now (layout .entry)) (guidedCall (lentBy size (now (table .entry)) (now (pixels .entry))) (now (layout .entry)) (now (weights .entry)) rounds budget) ⌝ }
     ensures weights { λ r. ⌜ now (weights .exit) ≡ weightsAfterRun (now (weights .entry)) (guidedCall (lentBy size (now (table .entry)) (now (pixels .entry))) (now (layout .entry)) (now (weights .entry)) rounds budget) ⌝ }
-    ensures demand3 { λ r. ⌜ ((run : Run) → r ≡ GuidedAnswer.Ran run → GuidedClaims (jobOf (lentBy size (now (table .entry)) (now (pixels .entry)))) (now (weights .entry)) rounds budget (layoutOf (now (layout .entry))) (model.rounds (jobOf (lentBy size (now (table .entry)) (now (pixels .entry)))) rounds budget (now (weights .entry)) (layoutOf (now (layout .entry)))) (guidedOf (layoutOf (now (layout .exit))) (run .sum) (now (weights .exit)) (run .made) (run .moves))) ⌝ }
+    ensures demand3 { λ r. ⌜ ((run : RunTotals) → r ≡ GuidedAnswer.Ran run → GuidedClaims (jobOf (lentBy size (now (table .entry)) (now (pixels .entry)))) (now (weights .entry)) rounds budget (layoutOf (now (layout .entry))) (model.rounds (jobOf (lentBy size (now (table .entry)) (now (pixels .entry)))) rounds budget (now (weights .entry)) (layoutOf (now (layout .entry)))) (guidedOf (layoutOf (now (layout .exit))) (run .sum) (now (weights .exit)) (run .made) (run .moves))) ⌝ }
 {
     match run_causes(
         size,

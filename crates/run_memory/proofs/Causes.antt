@@ -7,7 +7,7 @@ use Rattle.model.specs.Lent.{Lent, jobOf}
 use Rattle.model.specs.Buffer.{layoutOf, entriesOf}
 use Rattle.model.specs.Refusal.{Outcome, refused, Cause, cause, refusalOf, unless, outOfRange}
 use Rattle.model.specs.Calls.{budgetBound, someWeightWrong, jobCause, layoutLength, weightsLength}
-use Rattle.model.proofs.Tests.{or-neither}
+use Rattle.list_laws.proofs.Tests.{or-neither}
 use Rattle.text_laws.proofs.Entries.{entries-read-back}
 use Rattle.text_laws.specs.Outcomes.{NoCause}
 use Rattle.descent_laws.specs.Claims.{ValidLayout}

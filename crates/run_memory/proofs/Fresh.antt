@@ -3,13 +3,14 @@ use mathlib.Core.List.{List, [], _∷_}
 use mathlib.Core.Logic.{_⊎_, inl, inr}
 use mathlib.Core.Path.{_≡_, refl, sym, ap, _∙_}
 use Prim.Native.Nat.{ℕ, zero, suc, _+_, _*_, _/_, _%_, _<_, _≤_}
-use native.Mathlib.Nat.{eq-or-lt-of-le, div-add-mod', mod-lt, mul-le-mul-left, zero-mul}
+use native.Mathlib.Nat.{eq-or-lt-of-le, div-add-mod', mod-lt, mul-le-mul-left}
 use native.Mathlib.Omega.{arith}
 use lib.ListN.{length, getD, set, take, replicate, length-set, length-replicate, getD-replicate, length-map}
 use lib.Seq.{length-take-le, getD-take, getD-set-same, getD-set-other, set-getD, ext-getD}
 use Rattle.model.specs.Layout.{Job, Layout, placeOf, origin}
 use Rattle.model.specs.Buffer.{entryOf, placementOf, layoutOf, entriesOf}
 use Rattle.model.specs.declared.Direction.{Direction}
+use Rattle.list_laws.proofs.Numbers.{factor-positive}
 use Rattle.search_lines.proofs.Keeping.{none-kept}
 use Rattle.run_step.specs.Ready.{Store}
 use Rattle.run_memory.specs.Ready.{Slots}
@@ -17,18 +18,13 @@ use Rattle.run_step.proofs.Moves.{layout-set}
 
 -- ── slots ──
 
--- a product that is not 0 has no factor 0
-positive : (q w : ℕ) → 0 < q * w → 0 < q
-positive zero w h = absurd (let z = zero-mul w in omega arith)
-positive (suc q) w h = omega arith
-
 -- as many slots as the bytes have room for
 pub slots-of : (width : ℕ) → 64 ≤ width → width ≤ 512 → Slots width (524288 / width)
 slots-of width low high =
     let whole : 524288 / width * width + 524288 % width ≡ 524288 = div-add-mod' 524288 width in
     let rest : 524288 % width < width = mod-lt 524288 (omega arith) in
     let least : 524288 / width * 64 ≤ 524288 / width * width = mul-le-mul-left (524288 / width) low in
-    record { some = positive (524288 / width) width (omega arith); room = omega arith; tagged = omega arith }
+    record { some = factor-positive (524288 / width) width (omega arith); room = omega arith; tagged = omega arith }
 
 -- so many tags are lent
 pub tags-lent : (width slots : ℕ) → Slots width slots → length {A = ℕ} (take slots (replicate 8192 0)) ≡ slots

@@ -10,7 +10,7 @@ use Rattle.run_descent.specs.declared.Ended.{Ended}
 use Rattle.run_descent.specs.Descents.{descentOf}
 use Rattle.run_rounds.specs.Rounds.{Ran}
 use Rattle.run_memory.specs.declared.memory.Plan.{Plan}
-use Rattle.run_memory.specs.declared.memory.Outcome.{Outcome}
+use Rattle.run_memory.specs.declared.memory.PlanOutcome.{PlanOutcome}
 
 -- the rounds, if there are any, are few
 abbrev pub FewRounds : Plan → Type 0
@@ -23,8 +23,8 @@ pub record Descended (l : Lent) (layout : List (List ℕ)) (weights : List ℕ) 
   pub written : entriesOf (layoutOf new) ≡ new
 
 -- what was planned is done
-abbrev pub Done : Lent → List (List ℕ) → List ℕ → Plan → ℕ → Outcome → List (List ℕ) → List ℕ → Type 0
-Done l layout weights Plan.Alone budget (Outcome.Alone ended) new raised = Descended l layout weights budget ended new
-Done l layout weights Plan.Alone budget (Outcome.Rounds told) new raised = ⊥
-Done l layout weights (Plan.Rounds count) budget (Outcome.Alone ended) new raised = ⊥
-Done l layout weights (Plan.Rounds count) budget (Outcome.Rounds told) new raised = Ran l layout weights count budget told new raised
+abbrev pub Done : Lent → List (List ℕ) → List ℕ → Plan → ℕ → PlanOutcome → List (List ℕ) → List ℕ → Type 0
+Done l layout weights Plan.Alone budget (PlanOutcome.Alone ended) new raised = Descended l layout weights budget ended new
+Done l layout weights Plan.Alone budget (PlanOutcome.Rounds told) new raised = ⊥
+Done l layout weights (Plan.Rounds count) budget (PlanOutcome.Alone ended) new raised = ⊥
+Done l layout weights (Plan.Rounds count) budget (PlanOutcome.Rounds told) new raised = Ran l layout weights count budget told new raised

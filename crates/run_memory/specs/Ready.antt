@@ -6,6 +6,7 @@ use Prim.Native.Nat.{ℕ, _*_, _<_, _≤_}
 use Rattle.model.specs.Lent.{Lent, jobOf, lentWell}
 use Rattle.model.specs.Buffer.{layoutOf, entriesOf}
 use Rattle.model.specs.Calls.{budgetBound}
+use Rattle.search_lines.specs.Kept.{linesBound}
 use Rattle.descent_laws.specs.Claims.{ValidWeights, ValidLayout}
 
 -- what a run is given: a job that passes its check, a buffer that holds a valid layout just as its entries are written, valid weights and a
@@ -20,5 +21,5 @@ pub record Given (l : Lent) (layout : List (List ℕ)) (ws : List ℕ) (budget :
 -- how many slots a store has: at least one, as many as its bytes have room for, and each has a tag
 pub record Slots (width slots : ℕ) : Type 0 where
   pub some : 0 < slots
-  pub room : slots * width ≤ 524288
+  pub room : slots * width ≤ linesBound
   pub tagged : slots ≤ 8192

@@ -1,24 +1,36 @@
 // The memory of a run, of a descent alone or of the rounds of a guided run: strips, kept lines, the table of penalties and scratch. It is
 // local, and spread over nested functions, since it is too much for one.
+use model::COLUMN_BOUND;
 use model::Direction;
 use model::JobSize;
+use model::PIECE_BOUND;
 use run_descent::Ended;
 use run_descent::descend;
 use run_rounds::Tally;
 use run_rounds::copy;
 use run_rounds::rounds;
 use search_lines::slot_width;
+use search_shapes::STARTS_LENGTH;
+use search_shapes::STORE_LENGTH;
 use search_shapes::make_shapes;
+use search_table::TABLE_LENGTH;
 use search_table::fill_table;
 ghost use Prim.Native.Nat.{_≤_};
 ghost use Rattle.model.specs.Lent.{lentBy, jobOf};
 ghost use Rattle.model.specs.Calls.{roundBound};
 ghost use Rattle.model.specs.declared.Direction.{Direction};
+ghost use Rattle.search_lines.specs.Kept.{slotBound};
 ghost use Rattle.search_shapes.specs.Shapes.{Shapes};
-ghost use Rattle.run_step.specs.Ready.{Tools, LaidOut, Store, Stores};
+ghost use Rattle.run_step.specs.Ready.{Tools, LaidOut, Store, LineStores};
 ghost use Rattle.run_rounds.specs.Rounds.{Ran};
 ghost use Rattle.run_memory.specs.Ready.{Given, Slots};
 ghost use Rattle.run_memory.specs.Done.{FewRounds, Done};
+
+// The bytes of a store of penalty lines.
+const LINES_LENGTH: usize = 524288;
+
+// The most slots of one: its tags.
+const TAGS_LENGTH: usize = 8192;
 
 // What a run does: one descent, or at most so many rounds.
 pub enum Plan {
@@ -27,17 +39,17 @@ pub enum Plan {
 }
 
 // What a run comes to beside its buffers.
-pub enum Outcome {
+pub enum PlanOutcome {
     Alone(Ended),
     Rounds(Tally),
 }
 
 // How many slots of a width a store of 524,288 bytes and 8,192 tags has.
 fn slot_count(width: usize) -> usize
-    requires { ⌜ (64 ≤ width) × (width ≤ 512) ⌝ }
+    requires { ⌜ (64 ≤ width) × (width ≤ slotBound) ⌝ }
     ensures { λ r. ⌜ Slots width r ⌝ }
 {
-    524288 / width
+    LINES_LENGTH / width
 }
 
 // The rounds, with a buffer for the layout at hand; the best one stands in the lent buffer.
@@ -65,10 +77,10 @@ fn take_rounds(
         ∗ ⌜ count ≤ roundBound ⌝
         ∗ ⌜ Tools (lentBy size (now table) (now pixels)) (now rows) (now «row_starts») (now columns) (now «column_starts») width ⌝
         ∗ ⌜ LaidOut (lentBy size (now table) (now pixels)) (now layout) (now penalties) ⌝
-        ∗ ⌜ Stores (jobOf (lentBy size (now table) (now pixels))) width (now «row_lines») (now «row_tags») (now «column_lines») (now «column_tags») (now sums) ⌝ }
+        ∗ ⌜ LineStores (jobOf (lentBy size (now table) (now pixels))) width (now «row_lines») (now «row_tags») (now «column_lines») (now «column_tags») (now sums) ⌝ }
     ensures { λ r. ⌜ Ran (lentBy size (now (table .entry)) (now (pixels .entry))) (now (layout .entry)) (now (weights .entry)) count budget r (now (layout .exit)) (now (weights .exit)) ⌝ }
 {
-    let mut present = [[0u16; 3]; 64];
+    let mut present = [[0u16; 3]; PIECE_BOUND];
     let n = size.count;
     copy(layout, &mut present[..n]);
     rounds(
@@ -114,16 +126,16 @@ fn run_plan(
     column_lines: &mut [u8],
     column_tags: &mut [u32],
     sums: &mut [u32],
-) -> Outcome
+) -> PlanOutcome
     requires { ⌜ Given (lentBy size (now table) (now pixels)) (now layout) (now weights) budget ⌝
         ∗ ⌜ FewRounds plan ⌝
         ∗ ⌜ Tools (lentBy size (now table) (now pixels)) (now rows) (now «row_starts») (now columns) (now «column_starts») width ⌝
         ∗ ⌜ LaidOut (lentBy size (now table) (now pixels)) (now layout) (now penalties) ⌝
-        ∗ ⌜ Stores (jobOf (lentBy size (now table) (now pixels))) width (now «row_lines») (now «row_tags») (now «column_lines») (now «column_tags») (now sums) ⌝ }
+        ∗ ⌜ LineStores (jobOf (lentBy size (now table) (now pixels))) width (now «row_lines») (now «row_tags») (now «column_lines») (now «column_tags») (now sums) ⌝ }
     ensures { λ r. ⌜ Done (lentBy size (now (table .entry)) (now (pixels .entry))) (now (layout .entry)) (now (weights .entry)) plan budget r (now (layout .exit)) (now (weights .exit)) ⌝ }
 {
     match plan {
-        Plan::Alone => Outcome::Alone(descend(
+        Plan::Alone => PlanOutcome::Alone(descend(
             size,
             table,
             pixels,
@@ -142,7 +154,7 @@ fn run_plan(
             column_tags,
             sums,
         )),
-        Plan::Rounds(count) => Outcome::Rounds(take_rounds(
+        Plan::Rounds(count) => PlanOutcome::Rounds(take_rounds(
             size,
             table,
             pixels,
@@ -181,17 +193,17 @@ fn with_column_lines(
     weights: &mut [u32],
     row_lines: &mut [u8],
     row_tags: &mut [u32],
-) -> Outcome
+) -> PlanOutcome
     requires { ⌜ Given (lentBy size (now table) (now pixels)) (now layout) (now weights) budget ⌝
         ∗ ⌜ FewRounds plan ⌝
         ∗ ⌜ Tools (lentBy size (now table) (now pixels)) (now rows) (now «row_starts») (now columns) (now «column_starts») width ⌝
         ∗ ⌜ Store Direction.Horizontal (jobOf (lentBy size (now table) (now pixels))) width (now «row_lines») (now «row_tags») ⌝ }
     ensures { λ r. ⌜ Done (lentBy size (now (table .entry)) (now (pixels .entry))) (now (layout .entry)) (now (weights .entry)) plan budget r (now (layout .exit)) (now (weights .exit)) ⌝ }
 {
-    let mut lines = [0u8; 524288];
-    let mut tags = [0u32; 8192];
-    let mut penalties = [0u8; 4096];
-    let mut sums = [0u32; 4096];
+    let mut lines = [0u8; LINES_LENGTH];
+    let mut tags = [0u32; TAGS_LENGTH];
+    let mut penalties = [0u8; TABLE_LENGTH];
+    let mut sums = [0u32; COLUMN_BOUND];
     let slots = slot_count(width);
     fill_table(
         rows,
@@ -237,15 +249,15 @@ fn with_row_lines(
     budget: u32,
     layout: &mut [[u16; 3]],
     weights: &mut [u32],
-) -> Outcome
+) -> PlanOutcome
     requires { ⌜ Given (lentBy size (now table) (now pixels)) (now layout) (now weights) budget ⌝
         ∗ ⌜ FewRounds plan ⌝
         ∗ ⌜ Shapes Direction.Horizontal (jobOf (lentBy size (now table) (now pixels))) (now rows) (now «row_starts») ⌝
         ∗ ⌜ Shapes Direction.Vertical (jobOf (lentBy size (now table) (now pixels))) (now columns) (now «column_starts») ⌝ }
     ensures { λ r. ⌜ Done (lentBy size (now (table .entry)) (now (pixels .entry))) (now (layout .entry)) (now (weights .entry)) plan budget r (now (layout .exit)) (now (weights .exit)) ⌝ }
 {
-    let mut lines = [0u8; 524288];
-    let mut tags = [0u32; 8192];
+    let mut lines = [0u8; LINES_LENGTH];
+    let mut tags = [0u32; TAGS_LENGTH];
     let width = slot_width(size, table);
     let slots = slot_count(width);
     with_column_lines(
@@ -275,14 +287,14 @@ pub fn with_strips(
     budget: u32,
     layout: &mut [[u16; 3]],
     weights: &mut [u32],
-) -> Outcome
+) -> PlanOutcome
     requires { ⌜ Given (lentBy size (now table) (now pixels)) (now layout) (now weights) budget ⌝ ∗ ⌜ FewRounds plan ⌝ }
     ensures { λ r. ⌜ Done (lentBy size (now (table .entry)) (now (pixels .entry))) (now (layout .entry)) (now (weights .entry)) plan budget r (now (layout .exit)) (now (weights .exit)) ⌝ }
 {
-    let mut rows = [[0u8; 3]; 262144];
-    let mut row_starts = [0u32; 257];
-    let mut columns = [[0u8; 3]; 262144];
-    let mut column_starts = [0u32; 257];
+    let mut rows = [[0u8; 3]; STORE_LENGTH];
+    let mut row_starts = [0u32; STARTS_LENGTH];
+    let mut columns = [[0u8; 3]; STORE_LENGTH];
+    let mut column_starts = [0u32; STARTS_LENGTH];
     make_shapes(
         size,
         table,

@@ -1,3 +1,2 @@
 -- Laws of a layout buffer that is copied and of the loop over the rounds.
-pub mod Copying
 pub mod Rounding

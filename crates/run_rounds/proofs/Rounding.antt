@@ -22,10 +22,10 @@ use Rattle.descent_laws.specs.Claims.{ValidWeights, ValidLayout, DescentClaims}
 use Rattle.search_laws.specs.Results.{guidedOf}
 use Rattle.search_laws.proofs.GuidedLoop.{Guiding, guiding, guide-done, GuidedUnderway, guided-begin, guided-done, round-claims, guided-clear, guided-open}
 use Rattle.search_sums.specs.Table.{Weighed}
-use Rattle.run_step.specs.Ready.{LaidOut, Stores}
+use Rattle.run_step.specs.Ready.{LaidOut, LineStores}
 use Rattle.run_descent.specs.Descents.{descentOf}
 use Rattle.run_descent.specs.declared.Ended.{Ended}
-use Rattle.run_rounds.specs.Rounds.{better, betterSum, leftAfter, raisedAfter}
+use Rattle.run_rounds.specs.Rounds.{betterRound, betterSum, leftAfter, raisedAfter}
 
 -- ── the better of two layouts ──
 
@@ -58,11 +58,11 @@ picked-written false end best e f = f
 
 module _ (j : Job) (end best : List (List ℕ)) (sum bestSum : ℕ) (e : sum ≡ plainSum j (layoutOf end)) (f : bestSum ≡ plainSum j (layoutOf best)) where
   -- the better buffer holds the better layout
-  better-layout : bestOf j (layoutOf best) (layoutOf end) ≡ layoutOf (better sum bestSum end best)
+  better-layout : bestOf j (layoutOf best) (layoutOf end) ≡ layoutOf (betterRound sum bestSum end best)
   better-layout = rw (e, f) (picked-layout (ltb (plainSum j (layoutOf end)) (plainSum j (layoutOf best))) end best)
 
   -- and the smaller sum is its plain sum
-  better-sum : betterSum sum bestSum ≡ plainSum j (layoutOf (better sum bestSum end best))
+  better-sum : betterSum sum bestSum ≡ plainSum j (layoutOf (betterRound sum bestSum end best))
   better-sum = rw (e, f) (picked-sum j (ltb (plainSum j (layoutOf end)) (plainSum j (layoutOf best))) end best)
 
 -- ── a job's numbers, as the loop reads them ──
@@ -93,7 +93,7 @@ pub record Rounding (l : Lent) (width : ℕ) (ws₀ : List ℕ) (count budget : 
     (weights penalties rowLines rowTags columnLines columnTags sums : List ℕ) (sum made moves left : ℕ) : Type 0
   where
     pub laid : LaidOut l layout penalties
-    pub stores : Stores (jobOf l) width rowLines rowTags columnLines columnTags sums
+    pub stores : LineStores (jobOf l) width rowLines rowTags columnLines columnTags sums
     pub underway : GuidedUnderway (jobOf l) ws₀ count budget v₀ left (guiding (layoutOf layout) weights (layoutOf best) made moves) sum
     pub written : entriesOf (layoutOf best) ≡ best
 
@@ -117,14 +117,14 @@ pub record Rounded (l : Lent) (width budget : ℕ) (layout best : List (List ℕ
   where
     pub result : descend (jobOf l) weights budget (layoutOf layout) ≡ descentOf e (layoutOf layout′)
     pub laid : LaidOut l layout′ penalties′
-    pub stores : Stores (jobOf l) width rowLines′ rowTags′ columnLines′ columnTags′ sums′
+    pub stores : LineStores (jobOf l) width rowLines′ rowTags′ columnLines′ columnTags′ sums′
     pub plainIs : plain ≡ plainSum (jobOf l) (layoutOf layout′)
-    pub bestIs : best′ ≡ better plain sum layout′ best
+    pub bestIs : best′ ≡ betterRound plain sum layout′ best
     pub sumIs : sum′ ≡ betterSum plain sum
 
 -- before the first round the given layout is the best
 pub rounding-begin : {l : Lent} {width : ℕ} (count budget : ℕ) {layout best : List (List ℕ)} {weights penalties rowLines rowTags columnLines columnTags sums : List ℕ}
-    {sum : ℕ} → 0 < jobOf l .size .count → LaidOut l layout penalties → Stores (jobOf l) width rowLines rowTags columnLines columnTags sums
+    {sum : ℕ} → 0 < jobOf l .size .count → LaidOut l layout penalties → LineStores (jobOf l) width rowLines rowTags columnLines columnTags sums
     → ValidWeights (jobOf l) weights → best ≡ layout → sum ≡ plainSum (jobOf l) (layoutOf layout)
     → Rounding l width weights count budget (layoutOf layout) layout best weights penalties rowLines rowTags columnLines columnTags sums sum 0 0 count
 rounding-begin {l} count budget {layout} {best} {weights} some-piece h stores w e f =

@@ -13,8 +13,8 @@ use Rattle.search_laws.specs.Results.{guidedOf}
 use Rattle.run_rounds.specs.declared.Tally.{Tally}
 
 -- the better of a round's end and the best layout so far, by their plain sums
-abbrev pub better : ℕ → ℕ → List (List ℕ) → List (List ℕ) → List (List ℕ)
-better sum bestSum end best = elim (ltb sum bestSum) [ true ↦ end | false ↦ best ]
+abbrev pub betterRound : ℕ → ℕ → List (List ℕ) → List (List ℕ) → List (List ℕ)
+betterRound sum bestSum end best = elim (ltb sum bestSum) [ true ↦ end | false ↦ best ]
 
 -- its plain sum
 abbrev pub betterSum : ℕ → ℕ → ℕ

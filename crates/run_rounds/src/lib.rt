@@ -15,8 +15,8 @@ ghost use Rattle.model.specs.Calls.{budgetBound, roundBound};
 ghost use Rattle.descent_laws.specs.Claims.{ValidWeights};
 ghost use Rattle.search_laws.specs.Table.{PenaltyTable};
 ghost use Rattle.search_sums.specs.Table.{Weighed};
-ghost use Rattle.run_step.specs.Ready.{Tools, LaidOut, Stores};
-ghost use Rattle.run_rounds.specs.Rounds.{better, betterSum, leftAfter, raisedAfter, Ran};
+ghost use Rattle.run_step.specs.Ready.{Tools, LaidOut, LineStores};
+ghost use Rattle.run_rounds.specs.Rounds.{betterRound, betterSum, leftAfter, raisedAfter, Ran};
 
 // What rounds come to beside the best layout and the weights: the best layout's plain sum, and the trials and moves of all rounds.
 pub struct Tally {
@@ -40,7 +40,7 @@ pub fn copy(from: &[[u16; 3]], to: &mut [[u16; 3]])
 // Takes a round's end for the best layout where its plain sum is smaller; gives the best layout's plain sum.
 fn keep_better(end: &[[u16; 3]], sum: u64, best: &mut [[u16; 3]], best_sum: u64) -> u64
     requires { ⌜ length (now best) ≡ length (now end) ⌝ }
-    ensures layout { λ r. ⌜ now (best .exit) ≡ better sum «best_sum» (now (end .entry)) (now (best .entry)) ⌝ }
+    ensures layout { λ r. ⌜ now (best .exit) ≡ betterRound sum «best_sum» (now (end .entry)) (now (best .entry)) ⌝ }
     ensures sum { λ r. ⌜ r ≡ betterSum sum «best_sum» ⌝ }
 {
     if sum < best_sum {
@@ -101,7 +101,7 @@ pub fn rounds(
     requires { ⌜ Tools (lentBy size (now table) (now pixels)) (now rows) (now «row_starts») (now columns) (now «column_starts») width ⌝
         ∗ ⌜ ValidWeights (jobOf (lentBy size (now table) (now pixels))) (now weights) ⌝
         ∗ ⌜ LaidOut (lentBy size (now table) (now pixels)) (now present) (now penalties) ⌝
-        ∗ ⌜ Stores (jobOf (lentBy size (now table) (now pixels))) width (now «row_lines») (now «row_tags») (now «column_lines») (now «column_tags») (now sums) ⌝ }
+        ∗ ⌜ LineStores (jobOf (lentBy size (now table) (now pixels))) width (now «row_lines») (now «row_tags») (now «column_lines») (now «column_tags») (now sums) ⌝ }
     requires { ⌜ now best ≡ now present ⌝ ∗ ⌜ (count ≤ roundBound) × (budget ≤ budgetBound) ⌝ }
     ensures { λ r. ⌜ Ran (lentBy size (now (table .entry)) (now (pixels .entry))) (now (present .entry)) (now (weights .entry)) count budget r (now (best .exit)) (now (weights .exit)) ⌝ }
 {

@@ -1,13 +1,14 @@
 -- A layout buffer with one entry written anew, and what the answers of a search and of a trial tell. Assumes nothing.
-use mathlib.Core.List.{List, [], _∷_, map}
+use mathlib.Core.List.{List}
 use mathlib.Core.Option.{Option, none, some}
 use mathlib.Core.Path.{_≡_, refl, ap, ap₂, _∙_}
-use Prim.Native.Nat.{ℕ, zero, suc, _<_}
+use Prim.Native.Nat.{ℕ, _<_}
 use native.Mathlib.Omega.{arith}
 use lib.ListN.{set}
 use Rattle.model.specs.Buffer.{entryOf, placementOf, layoutOf, entriesOf}
 use Rattle.model.specs.Search.{Best}
 use Rattle.model.specs.declared.Placement.{Placement}
+use Rattle.list_laws.proofs.Lists.{map-set}
 use Rattle.text_laws.proofs.Entries.{entry-read-back}
 use Rattle.search_laws.specs.BoundedSearch.{bestAt, belowBound}
 use Rattle.search_laws.proofs.BoundedSearch.{Lowest, bounded-is}
@@ -17,12 +18,6 @@ use Rattle.run_step.specs.Steps.{triedAnswer}
 use Rattle.run_step.specs.declared.Tried.{Tried}
 
 -- ── a buffer with one entry written anew ──
-
--- what is made of each element, with one set anew
-map-set : {A B : Type 0} (f : A → B) (l : List A) (i : ℕ) (a : A) → map f (set l i a) ≡ set (map f l) i (f a)
-map-set f [] i a = refl
-map-set f (x ∷ l) zero a = refl
-map-set {B = B} f (x ∷ l) (suc i) a = ap (λ (z : List B). f x ∷ z) (map-set f l i a)
 
 -- its layout has the placement
 pub layout-set : (es : List (List ℕ)) (i : ℕ) (p : Placement) → layoutOf (set es i (entryOf p)) ≡ set (layoutOf es) i p

@@ -24,7 +24,7 @@ use Rattle.search_laws.specs.Loop.{trialSearch}
 use Rattle.search_laws.proofs.Loop.{trial-valid}
 use Rattle.search_shapes.specs.Shapes.{Shapes}
 use Rattle.search_table.specs.Drawn.{Laid}
-use Rattle.search_lines.specs.Kept.{Kept, Wide}
+use Rattle.search_lines.specs.Kept.{LinesKept, Wide}
 use Rattle.search_bounded.specs.Ready.{SearchReady}
 use Rattle.search_tracks.specs.declared.Mover.{Mover}
 use Rattle.run_step.specs.Ready.{LaidOut, Store}
@@ -75,11 +75,11 @@ module _ (j : Job) (ws : List ℕ) (es : List (List ℕ)) (k : Trial) (line : Li
     entries-same new e = e ∙ ap₂ (λ (x : Line) (o : Option Best). entriesAfter es (k .piece) (k .turn) x o) isLine search-same
 
 -- a store whose lines were renewed
-pub store-again : (d e : Direction) (j : Job) (width : ℕ) (lines tags new newTags : List ℕ) → e ≡ d → Store d j width lines tags → Kept e j width new newTags
+pub store-again : (d e : Direction) (j : Job) (width : ℕ) (lines tags new newTags : List ℕ) → e ≡ d → Store d j width lines tags → LinesKept e j width new newTags
     → length new ≡ length lines → Store d j width new newTags
 store-again d e j width lines tags new newTags same k h n =
     let f = k .fits in
-    record { kept = subst (λ (x : Direction). Kept x j width new newTags) same h; fits = omega arith }
+    record { kept = subst (λ (x : Direction). LinesKept x j width new newTags) same h; fits = omega arith }
 
 module _ (l : Lent) (ws : List ℕ) (es : List (List ℕ)) (T : List ℕ) (k : Trial) (proper : Proper (jobOf l) 0 (jobOf l .size .count) k) (h : LaidOut l es T) where
   -- the layout that a trial leaves is valid

@@ -24,7 +24,7 @@ use Rattle.search_laws.specs.Loop as loop
 use Rattle.search_laws.proofs.Loop.{trialMoved}
 use Rattle.run_trials.specs.Trials.{trialAs}
 use Rattle.run_step.specs.Steps.{entriesAfter, standingAs, afterQuiet, afterMove}
-use Rattle.run_step.specs.declared.Standing.{Standing}
+use Rattle.run_step.specs.declared.DescentState.{DescentState}
 use Rattle.run_trials.specs.declared.Trial.{Trial}
 use Rattle.run_step.proofs.Moves.{layout-set}
 
@@ -46,9 +46,9 @@ module _ (l : Lent) (well : lentWell l ≡ true) (ws : List ℕ) (weights : Vali
 
 -- ── after a trial ──
 
-module _ (j : Job) (ws : List ℕ) (v : Layout) (s : Standing) (next : Trial) (isNext : trialAs next ≡ nextTrial j (trialAs (s .trial))) where
+module _ (j : Job) (ws : List ℕ) (v : Layout) (s : DescentState) (next : Trial) (isNext : trialAs next ≡ nextTrial j (trialAs (s .trial))) where
   -- a quiet trial
-  pub quiet-passed : (r : Standing) → r ≡ afterQuiet s next → attempt j ws v (trialAs (s .trial)) ≡ quiet
+  pub quiet-passed : (r : DescentState) → r ≡ afterQuiet s next → attempt j ws v (trialAs (s .trial)) ≡ quiet
       → standingAs v r ≡ loop.passed j (standingAs v s) (attempt j ws v (trialAs (s .trial)))
   quiet-passed r e q =
       ap (standingAs v) e
@@ -56,7 +56,7 @@ module _ (j : Job) (ws : List ℕ) (v : Layout) (s : Standing) (next : Trial) (i
       ∙ ap (loop.passed j (standingAs v s)) (sym q)
 
   -- a move
-  pub moved-passed : (w : Layout) (r : Standing) (sum : ℕ) → r ≡ afterMove s next sum → attempt j ws v (trialAs (s .trial)) ≡ moved w
+  pub moved-passed : (w : Layout) (r : DescentState) (sum : ℕ) → r ≡ afterMove s next sum → attempt j ws v (trialAs (s .trial)) ≡ moved w
       → standingAs w r ≡ loop.passed j (standingAs v s) (attempt j ws v (trialAs (s .trial)))
   moved-passed w r sum e m =
       ap (standingAs w) e

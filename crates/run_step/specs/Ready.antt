@@ -6,14 +6,14 @@ use mathlib.Core.Path.{_≡_}
 use Prim.Native.Nat.{ℕ, _≤_}
 use lib.ListN.{length}
 use Rattle.model.specs.Layout.{Job}
-use Rattle.model.specs.Lent.{Lent, jobOf, lentWell}
+use Rattle.model.specs.Lent.{Lent, jobOf, lentWell, columnBound}
 use Rattle.model.specs.Buffer.{layoutOf, entriesOf}
 use Rattle.model.specs.declared.Direction.{Direction}
 use Rattle.model.specs.declared.Direction.the-variants.{Horizontal, Vertical}
 use Rattle.descent_laws.specs.Claims.{ValidWeights, ValidLayout}
 use Rattle.search_laws.specs.Table.{PenaltyTable}
 use Rattle.search_shapes.specs.Shapes.{Shapes}
-use Rattle.search_lines.specs.Kept.{Kept, Wide}
+use Rattle.search_lines.specs.Kept.{LinesKept, Wide, linesBound, slotBound}
 
 -- a job that passes its check, the strips of its pieces along rows and columns, and a width that every line of it fits in
 pub record Tools (l : Lent) (rows : List (List ℕ)) (rowStarts : List ℕ) (columns : List (List ℕ)) (columnStarts : List ℕ) (width : ℕ) : Type 0 where
@@ -22,7 +22,7 @@ pub record Tools (l : Lent) (rows : List (List ℕ)) (rowStarts : List ℕ) (col
   pub vertical : Shapes Vertical (jobOf l) columns columnStarts
   pub wide : Wide (jobOf l) width
   pub roomy : 64 ≤ width
-  pub narrow : width ≤ 512
+  pub narrow : width ≤ slotBound
 
 -- a buffer that holds a valid layout just as its entries are written, and the table of the layout's penalties
 pub record LaidOut (l : Lent) (layout : List (List ℕ)) (penalties : List ℕ) : Type 0 where
@@ -32,11 +32,11 @@ pub record LaidOut (l : Lent) (layout : List (List ℕ)) (penalties : List ℕ) 
 
 -- a store of lines along a direction
 pub record Store (d : Direction) (j : Job) (width : ℕ) (lines tags : List ℕ) : Type 0 where
-  pub kept : Kept d j width lines tags
-  pub fits : length lines ≤ 524288
+  pub kept : LinesKept d j width lines tags
+  pub fits : length lines ≤ linesBound
 
 -- one store a direction, and room for the sums of a line
-pub record Stores (j : Job) (width : ℕ) (rowLines rowTags columnLines columnTags sums : List ℕ) : Type 0 where
+pub record LineStores (j : Job) (width : ℕ) (rowLines rowTags columnLines columnTags sums : List ℕ) : Type 0 where
   pub inRows : Store Horizontal j width rowLines rowTags
   pub inColumns : Store Vertical j width columnLines columnTags
-  pub scratch : 4096 ≤ length sums
+  pub scratch : columnBound ≤ length sums

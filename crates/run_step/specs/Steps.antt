@@ -13,7 +13,7 @@ use Rattle.search_laws.specs.BoundedSearch.{belowBound}
 use Rattle.search_laws.specs.Loop as loop
 use Rattle.search_tracks.specs.declared.Mover.{Mover}
 use Rattle.run_step.specs.declared.Tried.{Tried}
-use Rattle.run_step.specs.declared.Standing.{Standing}
+use Rattle.run_step.specs.declared.DescentState.{DescentState}
 use Rattle.run_trials.specs.declared.Trial.{Trial}
 use Rattle.run_trials.specs.Trials.{trialAs}
 
@@ -32,13 +32,13 @@ entriesAfter es i t line none = es
 entriesAfter es i t line (some b) = set es i (entryOf (onLine line t (b .at)))
 
 -- where the descent stands, with the layout that its buffer holds
-abbrev pub standingAs : Layout → Standing → loop.Standing
+abbrev pub standingAs : Layout → DescentState → loop.Standing
 standingAs v s = loop.standing v (s .quiet) (s .made) (s .moves) (trialAs (s .trial))
 
 -- after a quiet trial the quiet count is 1 more
-abbrev pub afterQuiet : Standing → Trial → Standing
+abbrev pub afterQuiet : DescentState → Trial → DescentState
 afterQuiet s next = record { sum = s .sum; quiet = s .quiet + 1; made = s .made + 1; moves = s .moves; trial = next }
 
 -- after a move it is 0
-abbrev pub afterMove : Standing → Trial → ℕ → Standing
+abbrev pub afterMove : DescentState → Trial → ℕ → DescentState
 afterMove s next sum = record { sum = sum; quiet = 0; made = s .made + 1; moves = s .moves + 1; trial = next }

@@ -19,18 +19,19 @@ ghost use mathlib.Core.Path.{_≡_};
 ghost use Prim.Native.Nat.{_<_, _≤_};
 ghost use lib.ListN.{length};
 ghost use Rattle.model.specs.Piece.{onLine, lineDirection};
-ghost use Rattle.model.specs.Lent.{lentBy, jobOf};
+ghost use Rattle.model.specs.Lent.{lentBy, jobOf, columnBound};
 ghost use Rattle.model.specs.Layout.{pieceSum, weightedSum};
 ghost use Rattle.model.specs.Buffer.{layoutOf};
 ghost use Rattle.model.specs.Descent.{attempt, trialLine};
+ghost use Rattle.model.specs.Calls.{budgetBound};
 ghost use Rattle.descent_laws.specs.Claims.{ValidWeights};
 ghost use Rattle.descent_laws.specs.Trials.{Proper};
 ghost use Rattle.search_laws.specs.Table.{PenaltyTable};
 ghost use Rattle.search_laws.specs.Loop.{passed, trialSearch};
-ghost use Rattle.search_lines.specs.Kept.{Kept};
+ghost use Rattle.search_lines.specs.Kept.{LinesKept};
 ghost use Rattle.search_bounded.specs.Ready.{SearchReady};
 ghost use Rattle.run_trials.specs.Trials.{trialAs};
-ghost use Rattle.run_step.specs.Ready.{Tools, LaidOut, Stores};
+ghost use Rattle.run_step.specs.Ready.{Tools, LaidOut, LineStores};
 ghost use Rattle.run_step.specs.Steps.{moverSearch, triedAnswer, entriesAfter, standingAs, afterQuiet, afterMove};
 
 // What a trial comes to: a move, with the piece's pair sum at its new place, or quiet.
@@ -40,7 +41,7 @@ pub enum Tried {
 }
 
 // Where a descent stands: the weighted sum, the quiet count, trials made, moves, and the trial that comes next.
-pub struct Standing {
+pub struct DescentState {
     pub sum: u64,
     pub quiet: usize,
     pub made: u32,
@@ -85,11 +86,11 @@ fn try_line(
     tags: &mut [u32],
     sums: &mut [u32],
 ) -> Tried
-    requires { ⌜ SearchReady (lentBy size (now table) (now pixels)) (lineDirection (mover .line)) (now strips) (now starts) (now layout) (now weights) width (now lines) (now tags) ⌝ ∗ ⌜ mover .piece < size .count ⌝ ∗ ⌜ PenaltyTable (jobOf (lentBy size (now table) (now pixels))) (layoutOf (now layout)) (size .count) (now penalties) ⌝ ∗ ⌜ 4096 ≤ length (now sums) ⌝ }
+    requires { ⌜ SearchReady (lentBy size (now table) (now pixels)) (lineDirection (mover .line)) (now strips) (now starts) (now layout) (now weights) width (now lines) (now tags) ⌝ ∗ ⌜ mover .piece < size .count ⌝ ∗ ⌜ PenaltyTable (jobOf (lentBy size (now table) (now pixels))) (layoutOf (now layout)) (size .count) (now penalties) ⌝ ∗ ⌜ columnBound ≤ length (now sums) ⌝ }
     ensures answer { λ r. ⌜ r ≡ triedAnswer (moverSearch (jobOf (lentBy size (now (table .entry)) (now (pixels .entry)))) (now (weights .entry)) (layoutOf (now (layout .entry))) mover bound) ⌝ }
     ensures memory { λ r. ⌜ now (layout .exit) ≡ entriesAfter (now (layout .entry)) (mover .piece) (mover .turn) (mover .line) (moverSearch (jobOf (lentBy size (now (table .entry)) (now (pixels .entry)))) (now (weights .entry)) (layoutOf (now (layout .entry))) mover bound) ⌝ }
     ensures renewed { λ r. ⌜ PenaltyTable (jobOf (lentBy size (now (table .entry)) (now (pixels .entry)))) (layoutOf (now (layout .exit))) (size .count) (now (penalties .exit)) ⌝ }
-    ensures kept { λ r. ⌜ Kept (lineDirection (mover .line)) (jobOf (lentBy size (now (table .entry)) (now (pixels .entry)))) width (now (lines .exit)) (now (tags .exit)) ⌝ }
+    ensures kept { λ r. ⌜ LinesKept (lineDirection (mover .line)) (jobOf (lentBy size (now (table .entry)) (now (pixels .entry)))) width (now (lines .exit)) (now (tags .exit)) ⌝ }
 {
     let Found::At(sum, at) = search_below(
         size,
@@ -153,13 +154,13 @@ fn try_trial(
     requires { ⌜ Tools (lentBy size (now table) (now pixels)) (now rows) (now «row_starts») (now columns) (now «column_starts») width ⌝
         ∗ ⌜ ValidWeights (jobOf (lentBy size (now table) (now pixels))) (now weights) ⌝
         ∗ ⌜ LaidOut (lentBy size (now table) (now pixels)) (now layout) (now penalties) ⌝
-        ∗ ⌜ Stores (jobOf (lentBy size (now table) (now pixels))) width (now «row_lines») (now «row_tags») (now «column_lines») (now «column_tags») (now sums) ⌝ }
+        ∗ ⌜ LineStores (jobOf (lentBy size (now table) (now pixels))) width (now «row_lines») (now «row_tags») (now «column_lines») (now «column_tags») (now sums) ⌝ }
     requires { ⌜ Proper (jobOf (lentBy size (now table) (now pixels))) 0 (size .count) (trialAs trial) ⌝
         ∗ ⌜ present ≡ pieceSum (jobOf (lentBy size (now table) (now pixels))) (now weights) (layoutOf (now layout)) (trial .piece) ⌝ }
     ensures answer { λ r. ⌜ r ≡ triedAnswer (trialSearch (jobOf (lentBy size (now (table .entry)) (now (pixels .entry)))) (now (weights .entry)) (layoutOf (now (layout .entry))) (trialAs trial)) ⌝ }
     ensures memory { λ r. ⌜ now (layout .exit) ≡ entriesAfter (now (layout .entry)) (trial .piece) (trial .turn) (trialLine (layoutOf (now (layout .entry))) (trialAs trial)) (trialSearch (jobOf (lentBy size (now (table .entry)) (now (pixels .entry)))) (now (weights .entry)) (layoutOf (now (layout .entry))) (trialAs trial)) ⌝ }
     ensures laid { λ r. ⌜ LaidOut (lentBy size (now (table .entry)) (now (pixels .entry))) (now (layout .exit)) (now (penalties .exit)) ⌝ }
-    ensures stores { λ r. ⌜ Stores (jobOf (lentBy size (now (table .entry)) (now (pixels .entry)))) width (now («row_lines» .exit)) (now («row_tags» .exit)) (now («column_lines» .exit)) (now («column_tags» .exit)) (now (sums .exit)) ⌝ }
+    ensures stores { λ r. ⌜ LineStores (jobOf (lentBy size (now (table .entry)) (now (pixels .entry)))) width (now («row_lines» .exit)) (now («row_tags» .exit)) (now («column_lines» .exit)) (now («column_tags» .exit)) (now (sums .exit)) ⌝ }
 {
     let turn = trial.turn;
     let direction = trial.direction;
@@ -206,11 +207,11 @@ fn try_trial(
 }
 
 // After a quiet trial: the quiet count grows by 1.
-fn after_quiet(at: Standing, next: Trial) -> Standing
-    requires { ⌜ (at .quiet < 1000) × (at .made < 1000000000) ⌝ }
+fn after_quiet(at: DescentState, next: Trial) -> DescentState
+    requires { ⌜ (at .quiet < 1000) × (at .made < budgetBound) ⌝ }
     ensures { λ r. ⌜ r ≡ afterQuiet at next ⌝ }
 {
-    Standing {
+    DescentState {
         sum: at.sum,
         quiet: at.quiet + 1,
         made: at.made + 1,
@@ -220,11 +221,11 @@ fn after_quiet(at: Standing, next: Trial) -> Standing
 }
 
 // After a move to a given sum: the quiet count becomes 0.
-fn after_move(at: Standing, next: Trial, sum: u64) -> Standing
-    requires { ⌜ (at .made < 1000000000) × (at .moves ≤ at .made) ⌝ }
+fn after_move(at: DescentState, next: Trial, sum: u64) -> DescentState
+    requires { ⌜ (at .made < budgetBound) × (at .moves ≤ at .made) ⌝ }
     ensures { λ r. ⌜ r ≡ afterMove at next sum ⌝ }
 {
-    Standing {
+    DescentState {
         sum: sum,
         quiet: 0,
         made: at.made + 1,
@@ -243,7 +244,7 @@ pub fn step(
     columns: &[[u8; 3]],
     column_starts: &[u32],
     weights: &[u32],
-    at: Standing,
+    at: DescentState,
     width: usize,
     layout: &mut [[u16; 3]],
     penalties: &mut [u8],
@@ -252,18 +253,18 @@ pub fn step(
     column_lines: &mut [u8],
     column_tags: &mut [u32],
     sums: &mut [u32],
-) -> Standing
+) -> DescentState
     requires { ⌜ Tools (lentBy size (now table) (now pixels)) (now rows) (now «row_starts») (now columns) (now «column_starts») width ⌝
         ∗ ⌜ ValidWeights (jobOf (lentBy size (now table) (now pixels))) (now weights) ⌝
         ∗ ⌜ LaidOut (lentBy size (now table) (now pixels)) (now layout) (now penalties) ⌝
-        ∗ ⌜ Stores (jobOf (lentBy size (now table) (now pixels))) width (now «row_lines») (now «row_tags») (now «column_lines») (now «column_tags») (now sums) ⌝ }
+        ∗ ⌜ LineStores (jobOf (lentBy size (now table) (now pixels))) width (now «row_lines») (now «row_tags») (now «column_lines») (now «column_tags») (now sums) ⌝ }
     requires { ⌜ Proper (jobOf (lentBy size (now table) (now pixels))) 0 (size .count) (trialAs (at .trial)) ⌝
         ∗ ⌜ at .sum ≡ weightedSum (jobOf (lentBy size (now table) (now pixels))) (now weights) (layoutOf (now layout)) ⌝
-        ∗ ⌜ (at .quiet < 1000) × ((at .made < 1000000000) × (at .moves ≤ at .made)) ⌝ }
+        ∗ ⌜ (at .quiet < 1000) × ((at .made < budgetBound) × (at .moves ≤ at .made)) ⌝ }
     ensures passed { λ r. ⌜ standingAs (layoutOf (now (layout .exit))) r ≡ passed (jobOf (lentBy size (now (table .entry)) (now (pixels .entry)))) (standingAs (layoutOf (now (layout .entry))) at) (attempt (jobOf (lentBy size (now (table .entry)) (now (pixels .entry)))) (now (weights .entry)) (layoutOf (now (layout .entry))) (trialAs (at .trial))) ⌝ }
     ensures sum { λ r. ⌜ r .sum ≡ weightedSum (jobOf (lentBy size (now (table .entry)) (now (pixels .entry)))) (now (weights .entry)) (layoutOf (now (layout .exit))) ⌝ }
     ensures laid { λ r. ⌜ LaidOut (lentBy size (now (table .entry)) (now (pixels .entry))) (now (layout .exit)) (now (penalties .exit)) ⌝ }
-    ensures stores { λ r. ⌜ Stores (jobOf (lentBy size (now (table .entry)) (now (pixels .entry)))) width (now («row_lines» .exit)) (now («row_tags» .exit)) (now («column_lines» .exit)) (now («column_tags» .exit)) (now (sums .exit)) ⌝ }
+    ensures stores { λ r. ⌜ LineStores (jobOf (lentBy size (now (table .entry)) (now (pixels .entry)))) width (now («row_lines» .exit)) (now («row_tags» .exit)) (now («column_lines» .exit)) (now («column_tags» .exit)) (now (sums .exit)) ⌝ }
 {
     let sum = at.sum;
     let trial = at.trial;

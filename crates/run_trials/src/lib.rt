@@ -9,7 +9,7 @@ ghost use mathlib.Core.Path.{_≡_};
 ghost use mathlib.Core.List.{List};
 ghost use Prim.Native.Nat.{ℕ, _<_, _≤_};
 ghost use lib.ListN.{length};
-ghost use Rattle.model.specs.Bounded.{one-if};
+ghost use Rattle.model.specs.Bounded.{oneIf};
 ghost use Rattle.model.specs.Lent.{lentBy, jobOf, pieceBound};
 ghost use Rattle.model.specs.Layout.{Job};
 ghost use Rattle.model.specs.Buffer.{layoutOf};
@@ -94,7 +94,7 @@ pub fn next_trial(size: JobSize, table: &[[u8; 3]], trial: Trial) -> Trial
 
 // 1 for a test that passes, else 0.
 fn one_if(passes: bool) -> usize
-    ensures { λ r. ⌜ (r ≡ one-if passes) × (r ≤ 1) ⌝ }
+    ensures { λ r. ⌜ (r ≡ oneIf passes) × (r ≤ 1) ⌝ }
 {
     if passes { 1 } else { 0 }
 }

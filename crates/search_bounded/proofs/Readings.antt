@@ -19,27 +19,27 @@ use Rattle.descent_laws.specs.Claims.{ValidWeights}
 use Rattle.search_laws.specs.PieceSum.{weightBetween, penaltyOn}
 use Rattle.search_laws.proofs.PieceSum.{weight-bound}
 use Rattle.search_table.specs.Drawn.{Laid}
-use Rattle.search_lines.specs.Kept.{linePlaces, HoldsLine, Kept}
+use Rattle.search_lines.specs.Kept.{linePlaces, HoldsLine, LinesKept}
 use Rattle.search_lines.specs.Making.{Asked}
 use Rattle.search_lines.specs.declared.Two.{Two}
 use Rattle.search_lines.proofs.Placed.{line-on}
 use Rattle.search_line_sums.proofs.Scans.{part-small}
 use Rattle.search_tracks.specs.declared.Mover.{Mover}
 use Rattle.search_tracks.specs.declared.Track.{Track}
-use Rattle.search_tracks.specs.declared.Standing.{Standing}
+use Rattle.search_tracks.specs.declared.StandingPiece.{StandingPiece}
 use Rattle.search_tracks.specs.declared.Reach.{Reach}
-use Rattle.search_line_sums.specs.Added.{Added}
+use Rattle.search_line_sums.specs.Added.{LineAdded}
 use Rattle.search_tracks.specs.Boxes.{standingOf, Touching}
 use Rattle.search_bounded.specs.Ready.{LinesReady, OnTrack, IsStanding}
 use Rattle.search_bounded.specs.Summing.{moverPenalty, partAt, LineRead, PartAdded}
 
 -- the mover, piece k and the offset across
-abbrev pub twoOf : Mover → Track → Standing → ℕ → Two
+abbrev pub twoOf : Mover → Track → StandingPiece → ℕ → Two
 twoOf m t s k =
     record { moved = m .piece; «moved_turn» = m .turn; standing = k; «standing_turn» = s .turn; offset = s .across + 255 - t .held }
 
 module _ (l : Lent) (strips : List (List ℕ)) (starts : List ℕ) (layout : List (List ℕ)) (width : ℕ) (lines tags : List ℕ) (m : Mover) (t : Track)
-    (s : Standing) (k : ℕ) (d : Direction) (along-line : d ≡ lineDirection (m .line))
+    (s : StandingPiece) (k : ℕ) (d : Direction) (along-line : d ≡ lineDirection (m .line))
     (ready : LinesReady l (lineDirection (m .line)) strips starts layout width lines tags) (track : OnTrack l m t) (there : k < l .size .count)
   where
     -- what is asked for is there
@@ -48,11 +48,11 @@ module _ (l : Lent) (strips : List (List ℕ)) (starts : List ℕ) (layout : Lis
         record { well = ready .laid .well; shapes = rw along-line (ready .shapes); moved = track .piece; standing = there; offset = near }
 
     -- the store is kept in the direction
-    pub line-kept : Kept d (jobOf l) width lines tags
+    pub line-kept : LinesKept d (jobOf l) width lines tags
     line-kept = rw along-line (ready .kept)
 
     -- the store after a line is made or found
-    pub line-ready : (lines′ tags′ : List ℕ) → Kept d (jobOf l) width lines′ tags′ → length lines′ ≡ length lines
+    pub line-ready : (lines′ tags′ : List ℕ) → LinesKept d (jobOf l) width lines′ tags′ → length lines′ ≡ length lines
         → LinesReady l (lineDirection (m .line)) strips starts layout width lines′ tags′
     line-ready lines′ tags′ kept e =
         let f = ready .fits in
@@ -61,7 +61,7 @@ module _ (l : Lent) (strips : List (List ℕ)) (starts : List ℕ) (layout : Lis
           shapes = ready .shapes;
           wide = ready .wide;
           narrow = ready .narrow;
-          kept = subst (λ (d : Direction). Kept d (jobOf l) width lines′ tags′) along-line kept;
+          kept = subst (λ (d : Direction). LinesKept d (jobOf l) width lines′ tags′) along-line kept;
           fits = omega arith;
         }
 
@@ -75,11 +75,11 @@ module _ (l : Lent) (strips : List (List ℕ)) (starts : List ℕ) (layout : Lis
         let v : Layout = layoutOf layout in
         let j : Job = jobOf l in
         let d : Direction = lineDirection (m .line) in
-        let sa : s .across ≡ across d (cornerIn v k) = ap (λ (z : Standing). z .across) e in
+        let sa : s .across ≡ across d (cornerIn v k) = ap (λ (z : StandingPiece). z .across) e in
         let th : t .held ≡ held (m .line) = ap (λ (z : Track). z .held) (track .is) in
         let o : ℕ = s .across + 255 - t .held in
         let line : HoldsLine d (turnedPiece j (m .piece) (m .turn)) (shapeIn j v k) o lines′ r =
-        subst (λ (z : Turn). HoldsLine d (turnedPiece j (m .piece) (m .turn)) (turnedPiece j k z) o lines′ r) (ap (λ (z : Standing). z .turn) e)
+        subst (λ (z : Turn). HoldsLine d (turnedPiece j (m .piece) (m .turn)) (turnedPiece j k z) o lines′ r) (ap (λ (z : StandingPiece). z .turn) e)
         (subst (λ (z : Direction). HoldsLine z (turnedPiece j (m .piece) (m .turn)) (turnedPiece j k (s .turn)) o lines′ r) along-line holds) in
         let fits : linePlaces d (turnedPiece j (m .piece) (m .turn)) (shapeIn j v k) ≤ width =
         ready .wide (m .piece) k (m .turn) (placeOf v k .turn) d (track .piece) there in
@@ -119,14 +119,14 @@ part-most l ws v m k well valid i b a =
     let s = part-small (weightBetween (jobOf l .size .count) ws (m .piece) k) (moverPenalty (jobOf l) v m a k) w (omega arith) in
     omega arith
 
-module _ (l : Lent) (v : Layout) (m : Mover) (t : Track) (s : Standing) (k : ℕ) (r : Reach) (lines : List ℕ) (slot : ℕ) (track : OnTrack l m t)
+module _ (l : Lent) (v : Layout) (m : Mover) (t : Track) (s : StandingPiece) (k : ℕ) (r : Reach) (lines : List ℕ) (slot : ℕ) (track : OnTrack l m t)
     (standing : IsStanding (jobOf l) v (lineDirection (m .line)) k s) (touching : Touching t s r) (line : LineRead (jobOf l) v m k lines slot)
   where
     -- the places in reach lie in the line
     reach-places : r .from + (r .high - r .low) ≤ linePlaces (lineDirection (m .line)) (turnedPiece (jobOf l) (m .piece) (m .turn)) (shapeIn (jobOf l) v k)
     reach-places =
         let a : t .length ≡ extent (lineDirection (m .line)) (turnedPiece (jobOf l) (m .piece) (m .turn)) = ap (λ (z : Track). z .length) (track .is) in
-        let b : s .length ≡ extent (lineDirection (m .line)) (shapeIn (jobOf l) v k) = ap (λ (z : Standing). z .length) (standing .is) in
+        let b : s .length ≡ extent (lineDirection (m .line)) (shapeIn (jobOf l) v k) = ap (λ (z : StandingPiece). z .length) (standing .is) in
         let e = touching .ends in
         omega arith
 
@@ -139,7 +139,7 @@ module _ (l : Lent) (v : Layout) (m : Mover) (t : Track) (s : Standing) (k : ℕ
     reach-at a low high =
         let d : Direction = lineDirection (m .line) in
         let x : t .length ≡ extent d (turnedPiece (jobOf l) (m .piece) (m .turn)) = ap (λ (z : Track). z .length) (track .is) in
-        let y : s .along ≡ along d (cornerIn v k) = ap (λ (z : Standing). z .along) (standing .is) in
+        let y : s .along ≡ along d (cornerIn v k) = ap (λ (z : StandingPiece). z .along) (standing .is) in
         let b = touching .begins in
         let p = reach-places in
         let e : slot + r .from + (a - r .low) ≡ slot + (r .from + (a - r .low)) = omega arith in
@@ -147,7 +147,7 @@ module _ (l : Lent) (v : Layout) (m : Mover) (t : Track) (s : Standing) (k : ℕ
 
     -- the part added to the sums in reach
     pub reach-added : (ws : List ℕ) (weight : ℕ) (before after : List ℕ) → weight ≡ weightBetween (l .size .count) ws (m .piece) k → r .low < r .high
-        → Added weight (r .low) (take (slot + r .from + (r .high - r .low) - (slot + r .from)) (drop (slot + r .from) lines)) before after
+        → LineAdded weight (r .low) (take (slot + r .from + (r .high - r .low) - (slot + r .from)) (drop (slot + r .from) lines)) before after
         → PartAdded (jobOf l) ws v m k r before after
     unfolding jobOf
     reach-added ws weight before after w some h =

@@ -18,10 +18,10 @@ use Rattle.model.specs.Layout.{Job, Layout, cornerIn}
 use Rattle.model.specs.Lent.{Lent, jobOf}
 use Rattle.model.specs.declared.Direction.{Direction}
 use Rattle.model.specs.declared.Direction.the-variants.{Horizontal, Vertical}
-use Rattle.model.proofs.Bounded.{any-none}
-use Rattle.model.proofs.Sums.{sum-step}
-use Rattle.model.proofs.Tests.{fails}
-use Rattle.pair_overlap.proofs.Firsts.{below-or}
+use Rattle.list_laws.proofs.Numbers.{below-or}
+use Rattle.list_laws.proofs.Tests.{fails}
+use Rattle.list_laws.proofs.Sums.{sum-step}
+use Rattle.list_laws.proofs.Bounded.{any-none}
 use Rattle.search_laws.specs.BoundedSearch.{Serves}
 use Rattle.search_laws.proofs.BoundedSearch.{serves-skip, serves-stop}
 use Rattle.search_laws.specs.PieceSum.{weightBetween}
@@ -29,9 +29,9 @@ use Rattle.search_laws.proofs.PieceSum.{weight-self}
 use Rattle.search_laws.proofs.Covering.{meets, apart-penalty, meets-along, meets-across}
 use Rattle.search_tracks.specs.declared.Mover.{Mover}
 use Rattle.search_tracks.specs.declared.Track.{Track}
-use Rattle.search_tracks.specs.declared.Standing.{Standing}
+use Rattle.search_tracks.specs.declared.StandingPiece.{StandingPiece}
 use Rattle.search_tracks.specs.declared.Reach.{Reach}
-use Rattle.search_tracks.specs.Boxes.{BoxesMeet, Reached}
+use Rattle.search_tracks.specs.Boxes.{BoxesMeet, MeetingReach}
 use Rattle.search_bounded.specs.Ready.{OnTrack, IsStanding}
 use Rattle.search_bounded.specs.Summing.{moverPenalty, partAt, moverPlaces, Summed, PartAdded, ToAdd}
 
@@ -42,7 +42,7 @@ across-other : (d : Direction) (p : Point) → along (other d) p ≡ across d p
 across-other Horizontal p = refl
 across-other Vertical p = refl
 
-module _ (l : Lent) (v : Layout) (m : Mover) (t : Track) (s : Standing) (k : ℕ) (track : OnTrack l m t)
+module _ (l : Lent) (v : Layout) (m : Mover) (t : Track) (s : StandingPiece) (k : ℕ) (track : OnTrack l m t)
     (standing : IsStanding (jobOf l) v (lineDirection (m .line)) k s)
   where
     -- pieces that share a pixel have boxes that meet
@@ -60,7 +60,7 @@ module _ (l : Lent) (v : Layout) (m : Mover) (t : Track) (s : Standing) (k : ℕ
     apart-zero a h = apart-penalty (jobOf l) v (m .piece) (m .turn) (m .line) a k (fails _ (λ e. h (meeting-boxes a e)))
 
     -- as it is out of reach
-    pub outside-zero : (r : Reach) → Reached t s r → (a : ℕ) → a < t .places → (a < r .low) ⊎ (r .high ≤ a) → moverPenalty (jobOf l) v m a k ≡ 0
+    pub outside-zero : (r : Reach) → MeetingReach t s r → (a : ℕ) → a < t .places → (a < r .low) ⊎ (r .high ≤ a) → moverPenalty (jobOf l) v m a k ≡ 0
     outside-zero r h a b o = apart-zero a (h .outside a b o)
 
 -- ── one more piece ──
@@ -111,8 +111,8 @@ module _ (j : Job) (ws : List ℕ) (v : Layout) (m : Mover) (bound k : ℕ) (bef
 part-zero : (j : Job) (ws : List ℕ) (v : Layout) (m : Mover) (a k : ℕ) → moverPenalty j v m a k ≡ 0 → partAt j ws v m a k ≡ 0
 part-zero j ws v m a k e = ap (λ (p : ℕ). weightBetween (j .size .count) ws (m .piece) k * p) e ∙ mul-zero (weightBetween (j .size .count) ws (m .piece) k)
 
-module _ (l : Lent) (ws : List ℕ) (v : Layout) (m : Mover) (t : Track) (st : Standing) (bound k : ℕ) (r : Reach) (before : List ℕ)
-    (track : OnTrack l m t) (standing : IsStanding (jobOf l) v (lineDirection (m .line)) k st) (reached : Reached t st r)
+module _ (l : Lent) (ws : List ℕ) (v : Layout) (m : Mover) (t : Track) (st : StandingPiece) (bound k : ℕ) (r : Reach) (before : List ℕ)
+    (track : OnTrack l m t) (standing : IsStanding (jobOf l) v (lineDirection (m .line)) k st) (reached : MeetingReach t st r)
     (s : Summed (jobOf l) ws v m bound k before)
   where
     -- by where a place lies

@@ -10,11 +10,11 @@ use Rattle.model.specs.declared.Direction.{Direction}
 use Rattle.descent_laws.specs.Claims.{ValidWeights}
 use Rattle.search_shapes.specs.Shapes.{Shapes}
 use Rattle.search_table.specs.Drawn.{Laid}
-use Rattle.search_lines.specs.Kept.{Kept, Wide}
+use Rattle.search_lines.specs.Kept.{LinesKept, Wide, linesBound, slotBound}
 use Rattle.search_tracks.specs.Boxes.{trackOf, standingOf, SmallTrack, SmallStanding}
 use Rattle.search_tracks.specs.declared.Mover.{Mover}
 use Rattle.search_tracks.specs.declared.Track.{Track}
-use Rattle.search_tracks.specs.declared.Standing.{Standing}
+use Rattle.search_tracks.specs.declared.StandingPiece.{StandingPiece}
 
 -- with the weights
 pub record SearchReady (l : Lent) (d : Direction) (strips : List (List ℕ)) (starts : List ℕ) (layout : List (List ℕ)) (weights : List ℕ) (width : ℕ) (lines tags : List ℕ) : Type 0 where
@@ -22,18 +22,18 @@ pub record SearchReady (l : Lent) (d : Direction) (strips : List (List ℕ)) (st
   pub shapes : Shapes d (jobOf l) strips starts
   pub weighed : ValidWeights (jobOf l) weights
   pub wide : Wide (jobOf l) width
-  pub narrow : width ≤ 512
-  pub kept : Kept d (jobOf l) width lines tags
-  pub fits : length lines ≤ 524288
+  pub narrow : width ≤ slotBound
+  pub kept : LinesKept d (jobOf l) width lines tags
+  pub fits : length lines ≤ linesBound
 
 -- without them
 pub record LinesReady (l : Lent) (d : Direction) (strips : List (List ℕ)) (starts : List ℕ) (layout : List (List ℕ)) (width : ℕ) (lines tags : List ℕ) : Type 0 where
   pub laid : Laid l layout
   pub shapes : Shapes d (jobOf l) strips starts
   pub wide : Wide (jobOf l) width
-  pub narrow : width ≤ 512
-  pub kept : Kept d (jobOf l) width lines tags
-  pub fits : length lines ≤ 524288
+  pub narrow : width ≤ slotBound
+  pub kept : LinesKept d (jobOf l) width lines tags
+  pub fits : length lines ≤ linesBound
 
 -- the track is that of the mover, a piece of the job
 pub record OnTrack (l : Lent) (m : Mover) (t : Track) : Type 0 where
@@ -43,6 +43,6 @@ pub record OnTrack (l : Lent) (m : Mover) (t : Track) : Type 0 where
   pub piece : m .piece < l .size .count
 
 -- the standing piece is piece k of the layout
-pub record IsStanding (j : Job) (v : Layout) (d : Direction) (k : ℕ) (s : Standing) : Type 0 where
+pub record IsStanding (j : Job) (v : Layout) (d : Direction) (k : ℕ) (s : StandingPiece) : Type 0 where
   pub is : s ≡ standingOf j v d k
   pub small : SmallStanding s

@@ -12,7 +12,7 @@ use Rattle.search_laws.specs.PieceSum.{weightBetween, penaltyOn}
 use Rattle.search_lines.specs.Kept.{linePlaces}
 use Rattle.search_tracks.specs.declared.Mover.{Mover}
 use Rattle.search_tracks.specs.declared.Track.{Track}
-use Rattle.search_tracks.specs.declared.Standing.{Standing}
+use Rattle.search_tracks.specs.declared.StandingPiece.{StandingPiece}
 use Rattle.search_tracks.specs.declared.Reach.{Reach}
 use Rattle.search_tracks.specs.Boxes.{Touching}
 
@@ -49,7 +49,7 @@ pub record PartAdded (j : Job) (ws : List ℕ) (v : Layout) (m : Mover) (k : ℕ
   pub above : (a : ℕ) → r .high ≤ a → getD after a 0 ≡ getD before a 0
 
 -- sums with room for one more part, and places of them that are in reach
-pub record ToAdd (t : Track) (s : Standing) (r : Reach) (sums : List ℕ) : Type 0 where
+pub record ToAdd (t : Track) (s : StandingPiece) (r : Reach) (sums : List ℕ) : Type 0 where
   pub touching : Touching t s r
   pub some : r .low < r .high
   pub within : r .high ≤ length sums

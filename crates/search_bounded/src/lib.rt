@@ -17,11 +17,11 @@ ghost use Prim.Native.Nat.{_<_, _≤_};
 ghost use lib.ListN.{length};
 ghost use Rattle.model.specs.Piece.{lineDirection};
 ghost use Rattle.model.specs.Search.{places, sumAt, movedTo};
-ghost use Rattle.model.specs.Lent.{lentBy, jobOf};
+ghost use Rattle.model.specs.Lent.{lentBy, jobOf, columnBound};
 ghost use Rattle.model.specs.Buffer.{layoutOf};
 ghost use Rattle.search_laws.specs.BoundedSearch.{belowBound};
 ghost use Rattle.search_laws.specs.Table.{PenaltyTable};
-ghost use Rattle.search_lines.specs.Kept.{Kept};
+ghost use Rattle.search_lines.specs.Kept.{LinesKept};
 ghost use Rattle.descent_laws.specs.Claims.{ValidWeights};
 ghost use Rattle.search_line_sums.specs.Answers.{foundAnswer};
 ghost use Rattle.search_bounded.specs.Ready.{SearchReady, LinesReady, OnTrack};
@@ -87,9 +87,9 @@ pub fn search_below(
     tags: &mut [u32],
     sums: &mut [u32],
 ) -> Found
-    requires { ⌜ SearchReady (lentBy size (now table) (now pixels)) (lineDirection (mover .line)) (now strips) (now starts) (now layout) (now weights) width (now lines) (now tags) ⌝ ∗ ⌜ mover .piece < size .count ⌝ ∗ ⌜ 4096 ≤ length (now sums) ⌝ }
+    requires { ⌜ SearchReady (lentBy size (now table) (now pixels)) (lineDirection (mover .line)) (now strips) (now starts) (now layout) (now weights) width (now lines) (now tags) ⌝ ∗ ⌜ mover .piece < size .count ⌝ ∗ ⌜ columnBound ≤ length (now sums) ⌝ }
     ensures found { λ r. ⌜ r ≡ foundAnswer (belowBound (sumAt (jobOf (lentBy size (now (table .entry)) (now (pixels .entry)))) (now (weights .entry)) (layoutOf (now (layout .entry))) (mover .piece) (mover .turn) (mover .line)) (places (jobOf (lentBy size (now (table .entry)) (now (pixels .entry)))) (mover .piece) (mover .turn) (mover .line)) bound) ⌝ }
-    ensures kept { λ r. ⌜ Kept (lineDirection (mover .line)) (jobOf (lentBy size (now (table .entry)) (now (pixels .entry)))) width (now (lines .exit)) (now (tags .exit)) ⌝ }
+    ensures kept { λ r. ⌜ LinesKept (lineDirection (mover .line)) (jobOf (lentBy size (now (table .entry)) (now (pixels .entry)))) width (now (lines .exit)) (now (tags .exit)) ⌝ }
     ensures sizes { λ r. ⌜ (length (now (lines .exit)) ≡ length (now (lines .entry))) × (length (now (tags .exit)) ≡ length (now (tags .entry))) ⌝ }
 {
     let track = track_of(size, table, mover);
@@ -131,7 +131,7 @@ pub fn renew_placed(
         ∗ ⌜ (mover .piece < size .count) × (at < places (jobOf (lentBy size (now table) (now pixels))) (mover .piece) (mover .turn) (mover .line)) ⌝
         ∗ ⌜ PenaltyTable (jobOf (lentBy size (now table) (now pixels))) (layoutOf (now layout)) (size .count) (now penalties) ⌝ }
     ensures table { λ r. ⌜ PenaltyTable (jobOf (lentBy size (now (table .entry)) (now (pixels .entry)))) (movedTo (layoutOf (now (layout .entry))) (mover .piece) (mover .turn) (mover .line) at) (size .count) (now (penalties .exit)) ⌝ }
-    ensures kept { λ r. ⌜ Kept (lineDirection (mover .line)) (jobOf (lentBy size (now (table .entry)) (now (pixels .entry)))) width (now (lines .exit)) (now (tags .exit)) ⌝ }
+    ensures kept { λ r. ⌜ LinesKept (lineDirection (mover .line)) (jobOf (lentBy size (now (table .entry)) (now (pixels .entry)))) width (now (lines .exit)) (now (tags .exit)) ⌝ }
     ensures sizes { λ r. ⌜ (length (now (lines .exit)) ≡ length (now (lines .entry))) × (length (now (tags .exit)) ≡ length (now (tags .entry))) ⌝ }
 {
     let track = track_of(size, table, mover);

@@ -1,13 +1,15 @@
 // What one standing piece adds to the sums along a line, read from the kept line of penalties of the two pieces.
 use model::JobSize;
+use model::PIECE_BOUND;
 use search_line_sums::add_line;
 use search_line_sums::any_below;
+use search_lines::MIDDLE;
 use search_lines::Two;
 use search_lines::keep_line;
 use search_sums::weight_between;
 use search_tracks::Mover;
 use search_tracks::Reach;
-use search_tracks::Standing;
+use search_tracks::StandingPiece;
 use search_tracks::Track;
 use search_tracks::direction_of;
 use search_tracks::reach_of;
@@ -20,13 +22,14 @@ ghost use Rattle.model.specs.Piece.{lineDirection, onLine};
 ghost use Rattle.model.specs.declared.JobSize.{JobSize};
 ghost use Rattle.model.specs.Lent.{lentBy, jobOf};
 ghost use Rattle.model.specs.Buffer.{layoutOf};
+ghost use Rattle.search_lines.specs.Kept.{middle};
 ghost use Rattle.descent_laws.specs.Claims.{ValidWeights};
 ghost use Rattle.search_laws.specs.Table.{Renewed};
 ghost use Rattle.search_bounded.specs.Ready.{LinesReady, OnTrack, IsStanding};
 ghost use Rattle.search_bounded.specs.Summing.{moverPenalty, LineRead, ToAdd, PartAdded, Summed};
 
 // Piece k beside the mover's line.
-fn beside(table: &[[u8; 3]], layout: &[[u16; 3]], mover: Mover, k: usize) -> Standing
+fn beside(table: &[[u8; 3]], layout: &[[u16; 3]], mover: Mover, k: usize) -> StandingPiece
     requires { ⌜ (k < length (now table)) × (k < length (now layout)) ⌝ }
     ensures { λ r. ⌜ ((size : JobSize) (pixels : List ℕ) → IsStanding (jobOf (lentBy size (now (table .entry)) pixels)) (layoutOf (now (layout .entry))) (lineDirection (mover .line)) k r) ⌝ }
 {
@@ -44,7 +47,7 @@ fn line_with(
     layout: &[[u16; 3]],
     mover: Mover,
     track: Track,
-    standing: Standing,
+    standing: StandingPiece,
     k: usize,
     width: usize,
     lines: &mut [u8],
@@ -53,7 +56,7 @@ fn line_with(
     requires { ⌜ LinesReady (lentBy size (now table) (now pixels)) (lineDirection (mover .line)) (now strips) (now starts) (now layout) width (now lines) (now tags) ⌝
         ∗ ⌜ OnTrack (lentBy size (now table) (now pixels)) mover track ⌝
         ∗ ⌜ IsStanding (jobOf (lentBy size (now table) (now pixels))) (layoutOf (now layout)) (lineDirection (mover .line)) k standing ⌝
-        ∗ ⌜ (k < size .count) × ((track .held ≤ standing .across + 255) × (standing .across + 255 - track .held < 1024)) ⌝ }
+        ∗ ⌜ (k < size .count) × ((track .held ≤ standing .across + middle) × (standing .across + middle - track .held < 1024)) ⌝ }
     ensures line { λ r. ⌜ LineRead (jobOf (lentBy size (now (table .entry)) (now (pixels .entry)))) (layoutOf (now (layout .entry))) mover k (now (lines .exit)) r ⌝ }
     ensures ready { λ r. ⌜ LinesReady (lentBy size (now (table .entry)) (now (pixels .entry))) (lineDirection (mover .line)) (now (strips .entry)) (now (starts .entry)) (now (layout .entry)) width (now (lines .exit)) (now (tags .exit)) ⌝ }
 {
@@ -65,7 +68,7 @@ fn line_with(
         moved_turn: moved_turn,
         standing: k,
         standing_turn: standing_turn,
-        offset: standing.across + 255 - track.held,
+        offset: standing.across + MIDDLE - track.held,
     };
     keep_line(
         size,
@@ -92,7 +95,7 @@ fn add_reached(
     weights: &[u32],
     mover: Mover,
     track: Track,
-    standing: Standing,
+    standing: StandingPiece,
     reach: Reach,
     k: usize,
     width: usize,
@@ -332,8 +335,8 @@ fn renew_other(
         lines,
         tags,
     );
-    penalties[i * 64 + k] = p;
-    penalties[k * 64 + i] = p;
+    penalties[i * PIECE_BOUND + k] = p;
+    penalties[k * PIECE_BOUND + i] = p;
 }
 
 // Makes the table's entries of the mover, at a place of its line, and every other piece.

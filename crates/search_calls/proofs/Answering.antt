@@ -18,7 +18,7 @@ use Rattle.model.specs.declared.Direction.{Direction}
 use Rattle.model.specs.declared.Line.{Line}
 use Rattle.model.specs.declared.Refusal.{Refusal}
 use Rattle.model.specs.declared.Turn.{Turn}
-use Rattle.model.proofs.Tests.{or-left, or-right, or-neither}
+use Rattle.list_laws.proofs.Tests.{or-left, or-right, or-neither}
 use Rattle.job_laws.proofs.Checked.{facts}
 use Rattle.text_laws.specs.Outcomes.{NoCause}
 use Rattle.text_laws.proofs.Outcomes.{unless-given}
@@ -33,7 +33,7 @@ use Rattle.layout_places.specs.declared.CauseAnswer.{CauseAnswer}
 use Rattle.search_shapes.proofs.Jobs.{places-few}
 use Rattle.search_table.specs.Drawn.{Laid}
 use Rattle.layout_sum_calls.proofs.Causes.{layout-laid}
-use Rattle.search_lines.specs.Kept.{Kept, Wide}
+use Rattle.search_lines.specs.Kept.{LinesKept, Wide}
 use Rattle.search_lines.proofs.Keeping.{none-kept, twice-wide}
 use Rattle.search_line_sums.specs.Answers.{foundAnswer}
 use Rattle.search_calls.specs.Answers.{InReach, bestAnswer, searchAnswer, searchCauses}
@@ -99,7 +99,7 @@ store-wide l w =
     (omega arith, omega arith))
 
 -- a fresh store keeps no line
-pub store-fresh : (d : Direction) (l : Lent) → Kept d (jobOf l) 512 (replicate 32768 0) (replicate 64 0)
+pub store-fresh : (d : Direction) (l : Lent) → LinesKept d (jobOf l) 512 (replicate 32768 0) (replicate 64 0)
 store-fresh d l =
     none-kept d (jobOf l) 512 (replicate 32768 0) (replicate 64 0)
     (let a = length-replicate {A = ℕ} 64 0 in let b = length-replicate {A = ℕ} 32768 0 in omega arith)

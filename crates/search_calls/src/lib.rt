@@ -2,6 +2,7 @@
 use layout_places::CauseAnswer;
 use layout_places::refusal;
 use layout_sum_calls::length_causes;
+use model::COLUMN_BOUND;
 use model::Column;
 use model::Coordinate;
 use model::JobSize;
@@ -11,6 +12,8 @@ use model::Row;
 use model::Turn;
 use search_bounded::search_below;
 use search_line_sums::Found;
+use search_shapes::STARTS_LENGTH;
+use search_shapes::STORE_LENGTH;
 use search_tracks::Mover;
 use search_tracks::direction_of;
 ghost use mathlib.Core.Path.{_≡_};
@@ -27,6 +30,15 @@ ghost use Rattle.search_table.specs.Drawn.{Laid};
 ghost use Rattle.descent_laws.specs.Claims.{ValidWeights};
 ghost use Rattle.search_line_sums.specs.Answers.{foundAnswer};
 ghost use Rattle.search_calls.specs.Answers.{InReach, bestAnswer, searchAnswer, pieceCauses, searchCauses};
+
+// How many penalty lines a search keeps: one for each standing piece.
+const SLOTS: usize = model::PIECE_BOUND;
+
+// The bytes of a line: more than twice the largest box side.
+const SLOT_WIDTH: usize = 512;
+
+// No sum reaches it: a search without a bound.
+const NO_BOUND: u32 = 4294967295;
 
 // The least pair sum on a line and the smallest coordinate that has it, or why the search is refused.
 pub enum SearchAnswer {
@@ -49,11 +61,11 @@ fn search_alone(
     ensures { λ r. ⌜ r ≡ foundAnswer (searchLine (jobOf (lentBy size (now (table .entry)) (now (pixels .entry)))) (now (weights .entry)) (layoutOf (now (layout .entry))) (mover .piece) (mover .turn) (mover .line)) ⌝ }
 {
     let line = mover.line;
-    let mut strips = [[0u8; 3]; 262144];
-    let mut starts = [0u32; 257];
-    let mut store = [0u8; 32768];
-    let mut tags = [0u32; 64];
-    let mut sums = [0u32; 4096];
+    let mut strips = [[0u8; 3]; STORE_LENGTH];
+    let mut starts = [0u32; STARTS_LENGTH];
+    let mut store = [0u8; SLOTS * SLOT_WIDTH];
+    let mut tags = [0u32; SLOTS];
+    let mut sums = [0u32; COLUMN_BOUND];
     search_shapes::make_shapes(
         size,
         table,
@@ -71,8 +83,8 @@ fn search_alone(
         layout,
         weights,
         mover,
-        4294967295,
-        512,
+        NO_BOUND,
+        SLOT_WIDTH,
         &mut store,
         &mut tags,
         &mut sums,

@@ -7,7 +7,7 @@ use mathlib.Core.Path.{_≡_, refl, sym, _∙_, ap, ap₂}
 use mathlib.Core.Logic.{_⊎_, inl, inr, ⊎-elim}
 use mathlib.Core.Option.{Option, none, some}
 use Prim.Native.Nat.{ℕ, zero, suc, _+_, _*_, _-_, _/_, _%_, _<_, _≤_, min}
-use native.Mathlib.Nat.{eq-or-lt-of-le, le-of-suc-le-suc, le-trans, mul-le-mul-left, mul-add, mul-one, mul-comm, div-add-mod', mod-lt}
+use native.Mathlib.Nat.{eq-or-lt-of-le, le-trans, mul-le-mul-left, mul-add, mul-one, mul-comm, div-add-mod', mod-lt}
 use native.Mathlib.Decide.{decLt}
 use native.Mathlib.Numerals.{add-one}
 use native.Mathlib.Omega.{arith}
@@ -15,7 +15,8 @@ use borrow.Author.Tests.{ltb-true, ltb-false, lt-ltb, le-ltb}
 use lib.Dec.{ltb}
 use Rattle.model.specs.Bounded.{sumBelow}
 use Rattle.model.specs.Search.{Best}
-use Rattle.model.proofs.Sums.{sum-grows}
+use Rattle.list_laws.proofs.Sums.{sum-grows}
+use Rattle.list_laws.proofs.Numbers.{below-suc}
 use Rattle.search_laws.specs.BoundedSearch.{bestAt, limit, lowered, belowBound, Serves}
 
 -- ── one value ──
@@ -145,10 +146,6 @@ pub record Lowest (f : ℕ → ℕ) (n B : ℕ) (b : Best) : Type 0 where
 abbrev pub Bounded : (ℕ → ℕ) → ℕ → ℕ → Option Best → Type 0
 Bounded f n B none = (k : ℕ) → k < n → B ≤ f k
 Bounded f n B (some b) = Lowest f n B b
-
--- below n + 1: below n, or n itself
-below-suc : {k n : ℕ} → k < suc n → (k ≡ n) ⊎ (k < n)
-below-suc h = eq-or-lt-of-le (le-of-suc-le-suc h)
 
 -- no value before was below the limit
 limit-least : (f : ℕ → ℕ) (n B : ℕ) (o : Option Best) → Bounded f n B o → (k : ℕ) → k < n → limit B o ≤ f k

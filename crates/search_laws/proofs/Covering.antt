@@ -10,7 +10,7 @@ use Prim.Native.Nat.{ℕ, _+_, _*_, _<_, _≤_}
 use native.Mathlib.Nat.{mul-le-mul, mul-le-mul-left, mul-zero}
 use native.Mathlib.Omega.{arith}
 use lib.ListN.{length}
-use Rattle.model.specs.Bounded.{sumBelow, one-if}
+use Rattle.model.specs.Bounded.{sumBelow, oneIf}
 use Rattle.model.specs.Piece.{Point, Shape, along, extent, other, corner, lineDirection, held, onLine}
 use Rattle.model.specs.Overlap.{share}
 use Rattle.model.specs.Layout.{Job, Layout, turnedPiece, shapeIn, cornerIn}
@@ -19,12 +19,12 @@ use Rattle.model.specs.declared.Turn.{Turn}
 use Rattle.model.specs.declared.Direction.{Direction}
 use Rattle.model.specs.declared.Line.{Line}
 use Rattle.model.specs.declared.Line.the-variants.{InRow, InColumn}
-use Rattle.model.proofs.Tests.{clash}
+use Rattle.list_laws.proofs.Sums.{sum-zero, sum-le, term-at-most}
+use Rattle.list_laws.proofs.Tests.{clash}
 use Rattle.overlap_laws.specs.Overlap.{SharedPixel}
 use Rattle.overlap_laws.proofs.Share.{share-witness, shared-along, pixel-along}
 use Rattle.overlap_laws.proofs.Penalty.{zero-penalty, penalty-zero}
 use Rattle.descent_laws.specs.Claims.{ValidWeights}
-use Rattle.model.proofs.Sums.{sum-zero, sum-le, term-at-most}
 use Rattle.search_laws.specs.PieceSum.{weightBetween, penaltyOn}
 use Rattle.search_laws.proofs.PieceSum.{share-agree, weight-positive, sum-at}
 use Rattle.search_laws.specs.BoundedSearch.{belowBound, bestAt}
@@ -48,7 +48,7 @@ meeting-penalty j v i t line a k e =
 
 -- the test for a shared pixel, as a number, is at most the penalty
 test-penalty : (j : Job) (v : Layout) (i : ℕ) (t : Turn) (line : Line) (a k : ℕ) (b : Bool) → meets j v i t line a k ≡ b
-    → one-if b ≤ penaltyOn j v i t line a k
+    → oneIf b ≤ penaltyOn j v i t line a k
 test-penalty j v i t line a k true e = meeting-penalty j v i t line a k e
 test-penalty j v i t line a k false e = omega arith
 
@@ -78,7 +78,7 @@ module _ (j : Job) (ws : List ℕ) (v : Layout) (i : ℕ) (t : Turn) (line : Lin
         rw (parts a) (omega arith)
 
     -- the weights of the pieces that are met are at most the sum
-    pub met-weights : (a : ℕ) → sumBelow (j .size .count) (λ k. weightBetween (j .size .count) ws i k * one-if (meets j v i t line a k)) ≤ sumAt j ws v i t line a
+    pub met-weights : (a : ℕ) → sumBelow (j .size .count) (λ k. weightBetween (j .size .count) ws i k * oneIf (meets j v i t line a k)) ≤ sumAt j ws v i t line a
     met-weights a =
         rw (parts a)
         (sum-le (j .size .count) _ (part a) (λ k l. mul-le-mul-left (weightBetween (j .size .count) ws i k) (test-penalty j v i t line a k _ refl)))
@@ -96,8 +96,8 @@ pub share-boxes : (d : Direction) (s : Shape) (u : Point) (t : Shape) (v : Point
 share-boxes d s u t v e =
     let w : SharedPixel s u t v = share-witness s u t v e in
     let same = shared-along d w in
-    let first = pixel-along d s (w .p) (w .of-first) in
-    let second = pixel-along d t (w .q) (w .of-second) in
+    let first = pixel-along d s (w .p) (w .ofFirst) in
+    let second = pixel-along d t (w .q) (w .ofSecond) in
     (omega arith, omega arith)
 
 -- a placement on a line has the coordinate that was asked for

@@ -42,8 +42,8 @@ abbrev pub guiding : Layout → List ℕ → Layout → ℕ → ℕ → Guiding
 guiding v ws best made moves = record { layout = v; weights = ws; best = best; made = made; moves = moves }
 
 -- the round that is made from here
-abbrev pub descentOf : Job → ℕ → Guiding → Descent
-descentOf j budget s = descend j (s .weights) budget (s .layout)
+abbrev pub descentIn : Job → ℕ → Guiding → Descent
+descentIn j budget s = descend j (s .weights) budget (s .layout)
 
 -- after a round that comes to d and leaves the weights ws
 abbrev pub rounded : Job → Guiding → Descent → List ℕ → Guiding
@@ -57,9 +57,9 @@ guidedAt j s = record { layout = s .best; sum = plainSum j (s .best); weights = 
 unfoldable pub guideOn : Job → ℕ → ℕ → Guiding → Guided
 guideOn j zero budget s = guidedAt j s
 guideOn j (suc left) budget s =
-    elim (isClear (descentOf j budget s .end)) [
-      | true ↦ guidedAt j (rounded j s (descentOf j budget s) (s .weights))
-      | false ↦ guideOn j left budget (rounded j s (descentOf j budget s) (raised j (descentOf j budget s .layout) (s .weights)))
+    elim (isClear (descentIn j budget s .end)) [
+      | true ↦ guidedAt j (rounded j s (descentIn j budget s) (s .weights))
+      | false ↦ guideOn j left budget (rounded j s (descentIn j budget s) (raised j (descentIn j budget s .layout) (s .weights)))
     ]
 
 -- ── one round ──
@@ -76,13 +76,13 @@ unfolding guideOn
 guide-done j budget s = refl
 
 -- a round that is clear ends the run, its weights as they are
-clear-suc : (j : Job) (left budget : ℕ) (s : Guiding) → descentOf j budget s .end ≡ Clear
-    → guideOn j (suc left) budget s ≡ guidedAt j (rounded j s (descentOf j budget s) (s .weights))
+clear-suc : (j : Job) (left budget : ℕ) (s : Guiding) → descentIn j budget s .end ≡ Clear
+    → guideOn j (suc left) budget s ≡ guidedAt j (rounded j s (descentIn j budget s) (s .weights))
 unfolding guideOn
 clear-suc j left budget s e = rw (e, guideOn)
 
 -- a clear round, its descent given
-pub guide-clear : (j : Job) (left budget : ℕ) (s : Guiding) (d : Descent) → 0 < left → descentOf j budget s ≡ d → d .end ≡ Clear
+pub guide-clear : (j : Job) (left budget : ℕ) (s : Guiding) (d : Descent) → 0 < left → descentIn j budget s ≡ d → d .end ≡ Clear
     → guideOn j left budget s ≡ guidedAt j (rounded j s d (s .weights))
 guide-clear j left budget s d l e c =
     let more : left ≡ suc (left - 1) = omega arith in
@@ -90,13 +90,13 @@ guide-clear j left budget s d l e c =
     ∙ ap (λ x. guidedAt j (rounded j s x (s .weights))) e
 
 -- one that is not raises the weights, the last round too
-open-suc : (j : Job) (left budget : ℕ) (s : Guiding) → isClear (descentOf j budget s .end) ≡ false
-    → guideOn j (suc left) budget s ≡ guideOn j left budget (rounded j s (descentOf j budget s) (raised j (descentOf j budget s .layout) (s .weights)))
+open-suc : (j : Job) (left budget : ℕ) (s : Guiding) → isClear (descentIn j budget s .end) ≡ false
+    → guideOn j (suc left) budget s ≡ guideOn j left budget (rounded j s (descentIn j budget s) (raised j (descentIn j budget s .layout) (s .weights)))
 unfolding guideOn
 open-suc j left budget s e = rw (e, guideOn)
 
 -- a round that is not clear, its descent given
-pub guide-open : (j : Job) (left budget : ℕ) (s : Guiding) (d : Descent) → 0 < left → descentOf j budget s ≡ d → d .end ≢ Clear
+pub guide-open : (j : Job) (left budget : ℕ) (s : Guiding) (d : Descent) → 0 < left → descentIn j budget s ≡ d → d .end ≢ Clear
     → guideOn j left budget s ≡ guideOn j (left - 1) budget (rounded j s d (raised j (d .layout) (s .weights)))
 guide-open j left budget s d l e c =
     let more : left ≡ suc (left - 1) = omega arith in
@@ -148,22 +148,22 @@ following j left budget s d ws =
     }
 
 -- one round and those after it, by the test for a clear end
-round-on : (j : Job) (left budget : ℕ) (s : Guiding) (b : Bool) → isClear (descentOf j budget s .end) ≡ b
+round-on : (j : Job) (left budget : ℕ) (s : Guiding) (b : Bool) → isClear (descentIn j budget s .end) ≡ b
     → ((t : Guiding) → guideOn j left budget t ≡ totalled j t (rounds j left budget (t .weights) (t .layout)))
     → elim b as (λ _. Guided) [
-      | true ↦ guidedAt j (rounded j s (descentOf j budget s) (s .weights))
-      | false ↦ guideOn j left budget (rounded j s (descentOf j budget s) (raised j (descentOf j budget s .layout) (s .weights)))
+      | true ↦ guidedAt j (rounded j s (descentIn j budget s) (s .weights))
+      | false ↦ guideOn j left budget (rounded j s (descentIn j budget s) (raised j (descentIn j budget s .layout) (s .weights)))
     ]
     ≡ totalled j s (roundFrom j budget (s .weights) (s .layout) ∷ elim b as (λ _. List Round) [
       | true ↦ []
-      | false ↦ rounds j left budget (weightsAfter j (roundFrom j budget (s .weights) (s .layout))) (descentOf j budget s .layout)
+      | false ↦ rounds j left budget (weightsAfter j (roundFrom j budget (s .weights) (s .layout))) (descentIn j budget s .layout)
     ])
 unfolding bestAfter lastWeights madeIn movesIn
 round-on j left budget s true e later =
-    guided-parts j (bestOf j (s .best) (descentOf j budget s .layout)) _ _ _ _ _ _ (sym (after-test j (roundFrom j budget (s .weights) (s .layout)) true e))
+    guided-parts j (bestOf j (s .best) (descentIn j budget s .layout)) _ _ _ _ _ _ (sym (after-test j (roundFrom j budget (s .weights) (s .layout)) true e))
     (omega arith) (omega arith)
 round-on j left budget s false e later =
-    let d : Descent = descentOf j budget s in
+    let d : Descent = descentIn j budget s in
     let ws : List ℕ = raised j (d .layout) (s .weights) in
     later (rounded j s d ws)
     ∙ guided-parts j (bestAfter j (bestOf j (s .best) (d .layout)) (rounds j left budget ws (d .layout))) _ _ _ _ _ _ refl
@@ -227,7 +227,7 @@ module _ (j : Job) (ws : List ℕ) (count budget : ℕ) (v : Layout) (some-piece
         ∙ ap (λ x. guidedOf (s .best) x (s .weights) (s .made) (s .moves)) (sym (u .bestSumIs))
 
     -- the round, its end, and the better of the best so far and the round's end, with its plain sum
-    module _ (d : Descent) (best : Layout) (sum : ℕ) (more : 0 < left) (isRound : descentOf j budget s ≡ d) (isBest : bestOf j (s .best) (d .layout) ≡ best)
+    module _ (d : Descent) (best : Layout) (sum : ℕ) (more : 0 < left) (isRound : descentIn j budget s ≡ d) (isBest : bestOf j (s .best) (d .layout) ≡ best)
         (isSum : sum ≡ plainSum j best)
       where
         -- demand 3's claims hold of the round

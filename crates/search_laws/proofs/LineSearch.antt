@@ -55,30 +55,30 @@ leastOf f n = elim n [ zero ↦ none | suc n ↦ some (least f n) ]
 -- ── a trial ──
 
 -- what a search with the present sum as its bound comes to: a move where it finds a place, else quiet
-abbrev pub taken : (ℕ → Layout) → Option Best → Attempt
-taken place none = quiet
-taken place (some b) = moved (place (b .at))
+abbrev pub bestTaken : (ℕ → Layout) → Option Best → Attempt
+bestTaken place none = quiet
+bestTaken place (some b) = moved (place (b .at))
 
 -- by the test of the least against the present sum
 judged-at : (present : ℕ) (place : ℕ → Layout) (b : Best) (c : Bool)
     → elim c as (λ _. Attempt) [ true ↦ moved (place (b .at)) | false ↦ quiet ]
-    ≡ taken place (elim c as (λ _. Option Best) [ true ↦ some b | false ↦ none ])
+    ≡ bestTaken place (elim c as (λ _. Option Best) [ true ↦ some b | false ↦ none ])
 judged-at present place b true = refl
 judged-at present place b false = refl
 
 -- by how many places there are
 judged-below : (f : ℕ → ℕ) (present : ℕ) (place : ℕ → Layout) (n : ℕ)
-    → judged present place (leastOf f n) ≡ taken place (belowBound f n present)
+    → judged present place (leastOf f n) ≡ bestTaken place (belowBound f n present)
 unfolding belowBound
 judged-below f present place zero = refl
 judged-below f present place (suc n) =
     judged-at present place (least f n) (ltb (least f n .sum) present)
-    ∙ ap (taken place) (sym (least-test f n present (least f n) (least-is f n) _ refl))
+    ∙ ap (bestTaken place) (sym (least-test f n present (least f n) (least-is f n) _ refl))
 
 -- a trial is the search below the piece's present pair sum
 pub attempt-below : (j : Job) (ws : List ℕ) (v : Layout) (k : Trial)
     → attempt j ws v k
-    ≡ taken (movedTo v (k .piece) (k .turn) (trialLine v k))
+    ≡ bestTaken (movedTo v (k .piece) (k .turn) (trialLine v k))
     (belowBound (sumAt j ws v (k .piece) (k .turn) (trialLine v k)) (places j (k .piece) (k .turn) (trialLine v k)) (pieceSum j ws v (k .piece)))
 unfolding attempt searchLine
 attempt-below j ws v k =

@@ -2,7 +2,7 @@
 -- much of the budget left. `onward` is what is still to come from there, so what the whole descent gives is always `onward` of
 -- where the loop stands: each pass of the loop is one of the laws below, and its end is another. The list of trials is not made; the
 -- next trial follows from the present one. Assumes nothing.
-use mathlib.Core.Bool.{Bool, true, false}
+use mathlib.Core.Bool.{true, false}
 use mathlib.Core.Path.{_≡_, refl, sym, _∙_, ap}
 use mathlib.Core.Logic.{_≢_}
 use mathlib.Core.List.{List}
@@ -10,8 +10,8 @@ use mathlib.Core.Option.{Option, none, some}
 use Prim.Native.Nat.{ℕ, zero, suc, _+_, _-_, _<_, _≤_}
 use native.Mathlib.Numerals.{add-one}
 use native.Mathlib.Omega.{arith}
-use borrow.Author.Tests.{eq-eqb, ne-eqb, ltb-true}
-use lib.Dec.{ltb, eqb}
+use borrow.Author.Tests.{eq-eqb, ne-eqb}
+use lib.Dec.{eqb}
 use lib.ListN.{length, getD}
 use Rattle.model.specs.Layout.{Job, Layout, allowed, weightedSum, pieceSum}
 use Rattle.model.specs.Piece.{onLine}
@@ -21,6 +21,7 @@ use Rattle.model.specs.declared.Turn.the-variants.{Zero}
 use Rattle.model.specs.declared.Direction.the-variants.{Horizontal}
 use Rattle.model.specs.declared.End.{End}
 use Rattle.model.specs.declared.End.the-variants.{Clear, Settled, Spent}
+use Rattle.descent_laws.proofs.Run.{after-there}
 use Rattle.descent_laws.specs.Trials.{trialOf, Proper}
 use Rattle.descent_laws.proofs.Trials.{Position, position, trial-mem}
 use Rattle.descent_laws.specs.Claims.{ValidLayout}
@@ -28,7 +29,7 @@ use Rattle.descent_laws.proofs.Descent.{attempt-moved, zero-quiet}
 use Rattle.search_laws.specs.Loop.{Standing, standing, passed, trialSums, trialPlaces, trialSearch}
 use Rattle.search_laws.proofs.PieceSum.{moved-sum}
 use Rattle.search_laws.proofs.BoundedSearch.{Lowest, bounded-is}
-use Rattle.search_laws.proofs.LineSearch.{taken, attempt-below}
+use Rattle.search_laws.proofs.LineSearch.{bestTaken, attempt-below}
 use Rattle.search_laws.specs.TrialIndex.{nextTrial}
 use Rattle.search_laws.proofs.TrialIndex.{first-trial, next-trial, next-proper}
 
@@ -45,10 +46,10 @@ abbrev pub endedAt : Job → List ℕ → End → Standing → Descent
 endedAt j ws e s = record { end = e; layout = s .layout; sum = weightedSum j ws (s .layout); made = s .made; moves = s .moves }
 
 -- what a descent gives from here on, with so much of the budget left
-unfoldable pub onward : Job → List ℕ → ℕ → Standing → Descent
-onward j ws zero s = elim (endsNow j ws s) [ some e ↦ endedAt j ws e s | none ↦ endedAt j ws Spent s ]
-onward j ws (suc left) s =
-    elim (endsNow j ws s) [ some e ↦ endedAt j ws e s | none ↦ onward j ws left (passed j s (attempt j ws (s .layout) (s .trial))) ]
+unfoldable pub stepOnward : Job → List ℕ → ℕ → Standing → Descent
+stepOnward j ws zero s = elim (endsNow j ws s) [ some e ↦ endedAt j ws e s | none ↦ endedAt j ws Spent s ]
+stepOnward j ws (suc left) s =
+    elim (endsNow j ws s) [ some e ↦ endedAt j ws e s | none ↦ stepOnward j ws left (passed j s (attempt j ws (s .layout) (s .trial))) ]
 
 -- the beginning: the given layout, nothing counted, the first trial
 abbrev pub beginning : Layout → Standing
@@ -58,34 +59,34 @@ beginning v = standing v 0 0 0 (trialOf 0 Zero Horizontal)
 
 module _ (j : Job) (ws : List ℕ) (s : Standing) where
   -- sum zero: clear
-  pub onward-clear : (left : ℕ) → weightedSum j ws (s .layout) ≡ 0 → onward j ws left s ≡ endedAt j ws Clear s
-  unfolding onward
-  onward-clear zero e = rw (eq-eqb (weightedSum j ws (s .layout)) 0 e, onward)
-  onward-clear (suc left) e = rw (eq-eqb (weightedSum j ws (s .layout)) 0 e, onward)
+  pub onward-clear : (left : ℕ) → weightedSum j ws (s .layout) ≡ 0 → stepOnward j ws left s ≡ endedAt j ws Clear s
+  unfolding stepOnward
+  onward-clear zero e = rw (eq-eqb (weightedSum j ws (s .layout)) 0 e, stepOnward)
+  onward-clear (suc left) e = rw (eq-eqb (weightedSum j ws (s .layout)) 0 e, stepOnward)
 
   -- else quiet count T: settled
   pub onward-settled : (left : ℕ) → weightedSum j ws (s .layout) ≢ 0 → s .quietCount ≡ length (trials j)
-      → onward j ws left s ≡ endedAt j ws Settled s
-  unfolding onward
-  onward-settled zero d e = rw (ne-eqb (weightedSum j ws (s .layout)) 0 d, eq-eqb (s .quietCount) (length (trials j)) e, onward)
-  onward-settled (suc left) d e = rw (ne-eqb (weightedSum j ws (s .layout)) 0 d, eq-eqb (s .quietCount) (length (trials j)) e, onward)
+      → stepOnward j ws left s ≡ endedAt j ws Settled s
+  unfolding stepOnward
+  onward-settled zero d e = rw (ne-eqb (weightedSum j ws (s .layout)) 0 d, eq-eqb (s .quietCount) (length (trials j)) e, stepOnward)
+  onward-settled (suc left) d e = rw (ne-eqb (weightedSum j ws (s .layout)) 0 d, eq-eqb (s .quietCount) (length (trials j)) e, stepOnward)
 
   module _ (positive : weightedSum j ws (s .layout) ≢ 0) (unsettled : s .quietCount ≢ length (trials j)) where
     -- else budget used up: spent
-    pub onward-spent : onward j ws 0 s ≡ endedAt j ws Spent s
-    unfolding onward
-    onward-spent = rw (ne-eqb (weightedSum j ws (s .layout)) 0 positive, ne-eqb (s .quietCount) (length (trials j)) unsettled, onward)
+    pub onward-spent : stepOnward j ws 0 s ≡ endedAt j ws Spent s
+    unfolding stepOnward
+    onward-spent = rw (ne-eqb (weightedSum j ws (s .layout)) 0 positive, ne-eqb (s .quietCount) (length (trials j)) unsettled, stepOnward)
 
     -- else a trial is taken
-    onward-suc : (left : ℕ) → onward j ws (suc left) s ≡ onward j ws left (passed j s (attempt j ws (s .layout) (s .trial)))
-    unfolding onward
-    onward-suc left = rw (ne-eqb (weightedSum j ws (s .layout)) 0 positive, ne-eqb (s .quietCount) (length (trials j)) unsettled, onward)
+    onward-suc : (left : ℕ) → stepOnward j ws (suc left) s ≡ stepOnward j ws left (passed j s (attempt j ws (s .layout) (s .trial)))
+    unfolding stepOnward
+    onward-suc left = rw (ne-eqb (weightedSum j ws (s .layout)) 0 positive, ne-eqb (s .quietCount) (length (trials j)) unsettled, stepOnward)
 
     -- the trial came to an attempt
-    pub onward-step : (left : ℕ) (a : Attempt) → 0 < left → attempt j ws (s .layout) (s .trial) ≡ a → onward j ws left s ≡ onward j ws (left - 1) (passed j s a)
+    pub onward-step : (left : ℕ) (a : Attempt) → 0 < left → attempt j ws (s .layout) (s .trial) ≡ a → stepOnward j ws left s ≡ stepOnward j ws (left - 1) (passed j s a)
     onward-step left a l e =
         let more : left ≡ suc (left - 1) = omega arith in
-        ap (λ n. onward j ws n s) more ∙ onward-suc (left - 1) ∙ ap (λ b. onward j ws (left - 1) (passed j s b)) e
+        ap (λ n. stepOnward j ws n s) more ∙ onward-suc (left - 1) ∙ ap (λ b. stepOnward j ws (left - 1) (passed j s b)) e
 
 -- ── the trial, as the search with a bound ──
 
@@ -96,11 +97,11 @@ trialMoved v k a = movedTo v (k .piece) (k .turn) (trialLine v k) a
 module _ (j : Job) (ws : List ℕ) (v : Layout) (k : Trial) where
   -- the search found a place: a move
   pub trial-moved : (b : Best) → trialSearch j ws v k ≡ some b → attempt j ws v k ≡ moved (trialMoved v k (b .at))
-  trial-moved b e = attempt-below j ws v k ∙ ap (taken (trialMoved v k)) e
+  trial-moved b e = attempt-below j ws v k ∙ ap (bestTaken (trialMoved v k)) e
 
   -- it found none: quiet
   pub trial-quiet : trialSearch j ws v k ≡ none → attempt j ws v k ≡ quiet
-  trial-quiet e = attempt-below j ws v k ∙ ap (taken (trialMoved v k)) e
+  trial-quiet e = attempt-below j ws v k ∙ ap (bestTaken (trialMoved v k)) e
 
   -- what is known of a place that was found
   found : (b : Best) → trialSearch j ws v k ≡ some b → Lowest (trialSums j ws v k) (trialPlaces j v k) (pieceSum j ws v (k .piece)) b
@@ -132,18 +133,18 @@ module _ (j : Job) (ws : List ℕ) (s : Standing) (positive : weightedSum j ws (
   where
     -- a pass of the loop that moves
     pub onward-moved : (b : Best) → trialSearch j ws (s .layout) (s .trial) ≡ some b
-        → onward j ws left s
-        ≡ onward j ws (left - 1) (standing (trialMoved (s .layout) (s .trial) (b .at)) 0 (s .made + 1) (s .moves + 1) (nextTrial j (s .trial)))
+        → stepOnward j ws left s
+        ≡ stepOnward j ws (left - 1) (standing (trialMoved (s .layout) (s .trial) (b .at)) 0 (s .made + 1) (s .moves + 1) (nextTrial j (s .trial)))
     onward-moved b e = onward-step j ws s positive unsettled left _ budget (trial-moved j ws (s .layout) (s .trial) b e)
 
     -- a pass of the loop that does not
     pub onward-quiet : trialSearch j ws (s .layout) (s .trial) ≡ none
-        → onward j ws left s ≡ onward j ws (left - 1) (standing (s .layout) (s .quietCount + 1) (s .made + 1) (s .moves) (nextTrial j (s .trial)))
+        → stepOnward j ws left s ≡ stepOnward j ws (left - 1) (standing (s .layout) (s .quietCount + 1) (s .made + 1) (s .moves) (nextTrial j (s .trial)))
     onward-quiet e = onward-step j ws s positive unsettled left _ budget (trial-quiet j ws (s .layout) (s .trial) e)
 
     -- the pass of a piece whose pair sum is 0, without a search
     pub onward-idle : pieceSum j ws (s .layout) (s .trial .piece) ≡ 0
-        → onward j ws left s ≡ onward j ws (left - 1) (standing (s .layout) (s .quietCount + 1) (s .made + 1) (s .moves) (nextTrial j (s .trial)))
+        → stepOnward j ws left s ≡ stepOnward j ws (left - 1) (standing (s .layout) (s .quietCount + 1) (s .made + 1) (s .moves) (nextTrial j (s .trial)))
     onward-idle e = onward-step j ws s positive unsettled left _ budget (zero-quiet j ws (s .layout) (s .trial) e)
 
 -- ── the whole descent ──
@@ -151,11 +152,6 @@ module _ (j : Job) (ws : List ℕ) (s : Standing) (positive : weightedSum j ws (
 -- where a descent by numbers of trials stands
 abbrev standsAt : Job → Progress → Standing
 standsAt j s = standing (s .layout) (s .quietCount) (s .made) (s .moves) (getD (trials j) (s .next) noTrial)
-
--- by the test for the last trial
-after-at : (count next : ℕ) → 0 < count → (b : Bool) → ltb (suc next) count ≡ b → elim b as (λ _. ℕ) [ true ↦ suc next | false ↦ 0 ] < count
-after-at count next h true e = ltb-true _ _ e
-after-at count next h false e = h
 
 module _ (j : Job) (ws : List ℕ) (a : (k : ℕ) → k < j .size .count → allowed j k Zero ≡ true) where
   -- a trial by number is a trial by the one before it
@@ -165,19 +161,19 @@ module _ (j : Job) (ws : List ℕ) (a : (k : ℕ) → k < j .size .count → all
 
   -- the number of the next trial is one of the list's
   next-there : (s : Progress) → s .next < length (trials j) → (t : Attempt) → proceed (length (trials j)) s t .next < length (trials j)
-  next-there s l (moved w) = after-at (length (trials j)) (s .next) (omega arith) _ refl
-  next-there s l quiet = after-at (length (trials j)) (s .next) (omega arith) _ refl
+  next-there s l (moved w) = after-there (length (trials j)) (s .next) (omega arith)
+  next-there s l quiet = after-there (length (trials j)) (s .next) (omega arith)
 
   -- from any point on
   from-onward : (left : ℕ) (s : Progress) → s .next < length (trials j)
-      → descendFrom (weightedSum j ws) (attempt j ws) (trials j) left s ≡ onward j ws left (standsAt j s)
-  unfolding descendFrom onward
+      → descendFrom (weightedSum j ws) (attempt j ws) (trials j) left s ≡ stepOnward j ws left (standsAt j s)
+  unfolding descendFrom stepOnward
   from-onward zero s l = refl
   from-onward (suc left) s l =
       ap (λ later. elim (endsNow j ws (standsAt j s)) as (λ _. Descent) [ some e ↦ endedAt j ws e (standsAt j s) | none ↦ later ])
       (from-onward left (step (weightedSum j ws) (attempt j ws) (trials j) s)
       (next-there s l (attempt j ws (s .layout) (getD (trials j) (s .next) noTrial)))
-      ∙ ap (onward j ws left) (passes s l (attempt j ws (s .layout) (getD (trials j) (s .next) noTrial))))
+      ∙ ap (stepOnward j ws left) (passes s l (attempt j ws (s .layout) (getD (trials j) (s .next) noTrial))))
 
   -- there is a trial where there is a piece
   pub trials-some : 0 < j .size .count → 0 < length (trials j)
@@ -187,16 +183,16 @@ module _ (j : Job) (ws : List ℕ) (a : (k : ℕ) → k < j .size .count → all
       omega arith
 
   -- the descent is what comes from its beginning on
-  pub descend-onward : (budget : ℕ) (v : Layout) → 0 < j .size .count → descend j ws budget v ≡ onward j ws budget (beginning v)
+  pub descend-onward : (budget : ℕ) (v : Layout) → 0 < j .size .count → descend j ws budget v ≡ stepOnward j ws budget (beginning v)
   unfolding descend
   descend-onward budget v l =
-      from-onward budget (begin v) (trials-some l) ∙ ap (λ k. onward j ws budget (standing v 0 0 0 k)) (first-trial j a)
+      from-onward budget (begin v) (trials-some l) ∙ ap (λ k. stepOnward j ws budget (standing v 0 0 0 k)) (first-trial j a)
 
 -- ── what holds before each pass ──
 
 -- the loop of the descent from v stands at s, with `left` of the budget, and `sum` is kept beside it
 pub record Underway (j : Job) (ws : List ℕ) (budget : ℕ) (v : Layout) (left : ℕ) (s : Standing) (sum : ℕ) : Type 0 where
-  pub result : descend j ws budget v ≡ onward j ws left s
+  pub result : descend j ws budget v ≡ stepOnward j ws left s
   pub sumIs : sum ≡ weightedSum j ws (s .layout)
   pub valid : ValidLayout j (s .layout)
   pub proper : Proper j 0 (j .size .count) (s .trial)
@@ -241,7 +237,7 @@ module _ (j : Job) (ws : List ℕ) (budget : ℕ) (v : Layout) (a : (k : ℕ) �
         -- else nothing left: it is spent
         pub underway-spent : left ≡ 0 → descend j ws budget v ≡ closed Spent s sum
         underway-spent e =
-            u .result ∙ ap (λ n. onward j ws n s) e ∙ onward-spent j ws s positive-now unsettled ∙ ap (closed Spent s) (sym (u .sumIs))
+            u .result ∙ ap (λ n. stepOnward j ws n s) e ∙ onward-spent j ws s positive-now unsettled ∙ ap (closed Spent s) (sym (u .sumIs))
 
         -- a pass that moves
         pub underway-moved : (b : Best) → 0 < left → trialSearch j ws (s .layout) (s .trial) ≡ some b
@@ -261,7 +257,7 @@ module _ (j : Job) (ws : List ℕ) (budget : ℕ) (v : Layout) (a : (k : ℕ) �
 
         -- a pass that does not, whatever its attempt was judged by
         underway-kept : 0 < left
-            → onward j ws left s ≡ onward j ws (left - 1) (standing (s .layout) (s .quietCount + 1) (s .made + 1) (s .moves) (nextTrial j (s .trial)))
+            → stepOnward j ws left s ≡ stepOnward j ws (left - 1) (standing (s .layout) (s .quietCount + 1) (s .made + 1) (s .moves) (nextTrial j (s .trial)))
             → Underway j ws budget v (left - 1) (standing (s .layout) (s .quietCount + 1) (s .made + 1) (s .moves) (nextTrial j (s .trial))) sum
         underway-kept l e =
             record {

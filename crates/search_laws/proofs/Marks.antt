@@ -10,37 +10,37 @@ use borrow.Author.Tests.{lt-ltb, le-ltb}
 use lib.Dec.{ltb}
 use lib.ListN.{length, getD, set, length-set}
 use lib.Seq.{getD-set-same, getD-set-other}
-use Rattle.model.specs.Bounded.{sumBelow, one-if}
-use Rattle.model.proofs.Sums.{sum-step, sum-agree, sum-zero, sum-changed}
+use Rattle.model.specs.Bounded.{sumBelow, oneIf}
+use Rattle.list_laws.proofs.Sums.{sum-step, sum-agree, sum-zero, sum-changed}
 
 -- the sum of the first m entries
 abbrev pub firstSum : List ℕ → ℕ → ℕ
 firstSum l m = sumBelow m (λ k. getD l k 0)
 
 -- one more at place i
-abbrev pub marked : List ℕ → ℕ → List ℕ
-marked l i = set l i (getD l i 0 + 1)
+abbrev pub placeMarked : List ℕ → ℕ → List ℕ
+placeMarked l i = set l i (getD l i 0 + 1)
 
 -- a mark counts in the sums that reach beyond its place
-pub marked-sum : (l : List ℕ) (i m : ℕ) → i < length l → firstSum (marked l i) m ≡ firstSum l m + one-if (ltb i m)
+pub marked-sum : (l : List ℕ) (i m : ℕ) → i < length l → firstSum (placeMarked l i) m ≡ firstSum l m + oneIf (ltb i m)
 marked-sum l i m h = by-place (decLt i m)
   where
-    others : (k : ℕ) → k < m → (k ≡ i → ⊥) → getD (marked l i) k 0 ≡ getD l k 0
+    others : (k : ℕ) → k < m → (k ≡ i → ⊥) → getD (placeMarked l i) k 0 ≡ getD l k 0
     others k b d = getD-set-other l i k (getD l i 0 + 1) 0 d
 
-    by-place : Dec (i < m) → firstSum (marked l i) m ≡ firstSum l m + one-if (ltb i m)
+    by-place : Dec (i < m) → firstSum (placeMarked l i) m ≡ firstSum l m + oneIf (ltb i m)
     by-place (yes b) =
-        let here : getD (marked l i) i 0 ≡ getD l i 0 + 1 = getD-set-same l i (getD l i 0 + 1) 0 h in
-        let one : one-if (ltb i m) ≡ 1 = ap one-if (lt-ltb i m b) in
-        omega (arith, sum-changed m i (λ k. getD (marked l i) k 0) (λ k. getD l k 0) b others)
+        let here : getD (placeMarked l i) i 0 ≡ getD l i 0 + 1 = getD-set-same l i (getD l i 0 + 1) 0 h in
+        let one : oneIf (ltb i m) ≡ 1 = ap oneIf (lt-ltb i m b) in
+        omega (arith, sum-changed m i (λ k. getD (placeMarked l i) k 0) (λ k. getD l k 0) b others)
     by-place (no b) =
-        let none : one-if (ltb i m) ≡ 0 = ap one-if (le-ltb i m (omega arith)) in
-        let same : firstSum (marked l i) m ≡ firstSum l m = sum-agree m _ _ (λ k g. others k g (λ e. omega arith)) in
+        let none : oneIf (ltb i m) ≡ 0 = ap oneIf (le-ltb i m (omega arith)) in
+        let same : firstSum (placeMarked l i) m ≡ firstSum l m = sum-agree m _ _ (λ k g. others k g (λ e. omega arith)) in
         omega arith
 
 -- place a lies in the stretch from low up to, and without, high
 abbrev pub inStretch : ℕ → ℕ → ℕ → ℕ
-inStretch low high a = one-if (ltb low (a + 1)) - one-if (ltb high (a + 1))
+inStretch low high a = oneIf (ltb low (a + 1)) - oneIf (ltb high (a + 1))
 
 -- a place of the stretch is covered once
 pub stretch-in : (low high a : ℕ) → low ≤ a → a < high → inStretch low high a ≡ 1
@@ -49,7 +49,7 @@ stretch-in low high a l h = rw (lt-ltb low (a + 1) (omega arith), le-ltb high (a
 -- one before it is not
 pub stretch-before : (low high a : ℕ) → a < low → inStretch low high a ≡ 0
 stretch-before low high a l =
-    let none : one-if (ltb low (a + 1)) ≡ 0 = ap one-if (le-ltb low (a + 1) (omega arith)) in
+    let none : oneIf (ltb low (a + 1)) ≡ 0 = ap oneIf (le-ltb low (a + 1) (omega arith)) in
     omega arith
 
 -- nor is one behind it
@@ -57,14 +57,14 @@ pub stretch-behind : (low high a : ℕ) → low ≤ high → high ≤ a → inSt
 stretch-behind low high a l h = rw (lt-ltb low (a + 1) (omega arith), lt-ltb high (a + 1) (omega arith))
 
 -- the marks say of each place below n how often it is covered
-pub record Marks (n : ℕ) (count : ℕ → ℕ) (begins ends : List ℕ) : Type 0 where
+pub record CoverMarks (n : ℕ) (count : ℕ → ℕ) (begins ends : List ℕ) : Type 0 where
   pub beginsSize : n < length begins
   pub endsSize : n < length ends
   pub balance : (a : ℕ) → a < n → firstSum begins (a + 1) ≡ firstSum ends (a + 1) + count a
 
 -- no marks: nothing is covered
 pub marks-none : (n : ℕ) (begins ends : List ℕ) → n < length begins → n < length ends → ((k : ℕ) → getD begins k 0 ≡ 0) → ((k : ℕ) → getD ends k 0 ≡ 0)
-    → Marks n (λ a. 0) begins ends
+    → CoverMarks n (λ a. 0) begins ends
 marks-none n begins ends b e zb ze =
     record {
       beginsSize = b;
@@ -73,16 +73,16 @@ marks-none n begins ends b e zb ze =
     }
 
 -- a stretch ends no earlier than it begins
-ends-later : (low high m : ℕ) → low ≤ high → one-if (ltb high m) ≤ one-if (ltb low m)
+ends-later : (low high m : ℕ) → low ≤ high → oneIf (ltb high m) ≤ oneIf (ltb low m)
 ends-later low high m l = by-end (decLt high m)
   where
-    by-end : Dec (high < m) → one-if (ltb high m) ≤ one-if (ltb low m)
+    by-end : Dec (high < m) → oneIf (ltb high m) ≤ oneIf (ltb low m)
     by-end (yes h) = rw (lt-ltb high m h, lt-ltb low m (omega arith)) (omega arith)
     by-end (no h) = rw (le-ltb high m (omega arith)) (omega arith)
 
 -- one more stretch
-pub marks-more : (n : ℕ) (count : ℕ → ℕ) (begins ends : List ℕ) (low high : ℕ) → low ≤ high → high ≤ n → Marks n count begins ends
-    → Marks n (λ a. count a + inStretch low high a) (marked begins low) (marked ends high)
+pub marks-more : (n : ℕ) (count : ℕ → ℕ) (begins ends : List ℕ) (low high : ℕ) → low ≤ high → high ≤ n → CoverMarks n count begins ends
+    → CoverMarks n (λ a. count a + inStretch low high a) (placeMarked begins low) (placeMarked ends high)
 marks-more n count begins ends low high l h m =
     let sizeB = length-set begins low (getD begins low 0 + 1) in
     let sizeE = length-set ends high (getD ends high 0 + 1) in
@@ -97,11 +97,11 @@ marks-more n count begins ends low high l h m =
     }
 
 -- the first place
-pub marks-first : (n : ℕ) (count : ℕ → ℕ) (begins ends : List ℕ) → Marks n count begins ends → 0 < n → getD begins 0 0 ≡ getD ends 0 0 + count 0
+pub marks-first : (n : ℕ) (count : ℕ → ℕ) (begins ends : List ℕ) → CoverMarks n count begins ends → 0 < n → getD begins 0 0 ≡ getD ends 0 0 + count 0
 marks-first n count begins ends m l = let b = m .balance 0 l in omega arith
 
 -- each later place, from the one before it
-pub marks-next : (n : ℕ) (count : ℕ → ℕ) (begins ends : List ℕ) (a : ℕ) → Marks n count begins ends → a + 1 < n
+pub marks-next : (n : ℕ) (count : ℕ → ℕ) (begins ends : List ℕ) (a : ℕ) → CoverMarks n count begins ends → a + 1 < n
     → count a + getD begins (a + 1) 0 ≡ count (a + 1) + getD ends (a + 1) 0
 marks-next n count begins ends a m l =
     let here = m .balance a (omega arith) in

@@ -3,7 +3,7 @@
 -- pieces is named first, so a piece's pair sum reads one row of weights and penalties. Assumes nothing.
 use mathlib.Core.Bool.{Bool, true, false, _||_}
 use mathlib.Core.Path.{_≡_, refl, sym, _∙_, ap, ap₂}
-use mathlib.Core.Logic.{_⊎_, inl, inr, ⊎-elim, _≢_}
+use mathlib.Core.Logic.{_⊎_, ⊎-elim, _≢_}
 use mathlib.Core.List.{List, [], _∷_}
 use Prim.Native.Nat.{ℕ, zero, suc, _+_, _*_, _-_, _<_, _≤_}
 use native.Mathlib.Nat.{zero-mul, mul-le-mul}
@@ -23,13 +23,14 @@ use Rattle.model.specs.declared.Turn.{Turn}
 use Rattle.model.specs.declared.Line.{Line}
 use Rattle.model.specs.declared.Line.the-variants.{InRow, InColumn}
 use Rattle.model.specs.declared.Placement.{Placement}
-use Rattle.model.proofs.Tests.{or-left, or-right}
+use Rattle.list_laws.proofs.Sums.{sum-agree, sum-zero, sum-single, sum-add, sum-first, sum-bound, sum-grows, sum-changed, term-at-most, three-parts}
+use Rattle.list_laws.proofs.Tests.{or-left, or-right}
+use Rattle.list_laws.proofs.Numbers.{apart}
 use Rattle.overlap_laws.proofs.Penalty.{penalty-symmetric}
 use Rattle.descent_laws.specs.Claims.{ValidWeights}
 use Rattle.descent_laws.proofs.Sums.{pair-mem, piece-at-most, placed-anew}
 use Rattle.descent_laws.specs.Sums.{sumBound}
 use Rattle.descent_laws.proofs.Bounds.{BoxesSmall, pair-penalty-at-most, weighted-at-most}
-use Rattle.model.proofs.Sums.{sum-agree, sum-zero, sum-single, sum-add, sum-first, sum-bound, sum-grows, sum-changed, term-at-most, three-parts}
 use Rattle.model.specs.Layout.{pairOf}
 use Rattle.search_laws.specs.PieceSum.{weightBetween, penaltyPlaced, penaltyBetween, penaltyOn}
 use Rattle.search_laws.specs.Pairs.{rowStart, pairIndex}
@@ -61,14 +62,6 @@ weight-below n ws i k l = rw (le-ltb i k (omega arith), lt-ltb k i l, weightBetw
 pub weight-self : (n : ℕ) (ws : List ℕ) (i : ℕ) → weightBetween n ws i i ≡ 0
 unfolding weightBetween
 weight-self n ws i = rw (le-ltb i i (omega arith), le-ltb i i (omega arith), weightBetween)
-
--- of two numbers that differ one is the lower
-pub apart : (i k : ℕ) → i ≢ k → (i < k) ⊎ (k < i)
-apart i k d = by-test (decLt i k)
-  where
-    by-test : Dec (i < k) → (i < k) ⊎ (k < i)
-    by-test (yes l) = inl l
-    by-test (no h) = inr (omega arith)
 
 -- the weight of two pieces does not depend on which is named first
 pub weight-symmetric : (n : ℕ) (ws : List ℕ) (i k : ℕ) → weightBetween n ws i k ≡ weightBetween n ws k i

@@ -6,7 +6,7 @@ use mathlib.Core.Path.{_≡_, refl, sym, _∙_, ap}
 use mathlib.Core.Logic.{_⊎_, ⊎-elim, _≢_}
 use mathlib.Core.List.{List}
 use Prim.Native.Nat.{ℕ, suc, _+_, _*_, _-_, _<_, _≤_}
-use native.Mathlib.Nat.{eq-or-lt-of-le, one-mul, mul-zero, mul-le-mul-right}
+use native.Mathlib.Nat.{one-mul, mul-zero, mul-le-mul-right}
 use native.Mathlib.Decide.{ℕ-discrete}
 use native.Mathlib.Omega.{arith}
 use borrow.Author.Tests.{eq-eqb, ne-eqb, not-true}
@@ -16,10 +16,11 @@ use lib.Seq.{getD-set-same, getD-set-other}
 use Rattle.model.specs.Bounded.{sumBelow}
 use Rattle.model.specs.Layout.{Job, Layout, placeOf, pairOf, pairs, pairShares, pieceSum, unitWeights, plainSum}
 use Rattle.model.specs.declared.Placement.{Placement}
+use Rattle.list_laws.proofs.Sums.{sum-agree, sum-zero, term-at-most}
+use Rattle.list_laws.proofs.Tests.{same-tests, passes, clash}
+use Rattle.list_laws.proofs.Numbers.{below-more}
 use Rattle.overlap_laws.proofs.Penalty.{zero-penalty, penalty-zero}
-use Rattle.model.proofs.Tests.{same-tests, passes, clash}
 use Rattle.descent_laws.specs.Claims.{ValidWeights}
-use Rattle.model.proofs.Sums.{sum-agree, sum-zero, term-at-most}
 use Rattle.search_laws.specs.Table.{entry, PenaltyTable, Renewed}
 use Rattle.search_laws.specs.Pairs.{rowStart, pairIndex}
 use Rattle.search_laws.proofs.Pairs.{pair-below}
@@ -56,10 +57,6 @@ renewed-self j v n i p T h =
       row = λ b l d. h .row b (omega arith) d;
       column = λ b l d. h .column b (omega arith) d;
     }
-
--- below k + 1: below k, or k itself
-below-more : {a k : ℕ} → a < k + 1 → (a ≡ k) ⊎ (a < k)
-below-more h = eq-or-lt-of-le (omega arith)
 
 -- what stands in a table after two places are written
 twice-other : (T : List ℕ) (a b c w : ℕ) → c ≢ a → c ≢ b → getD (set (set T a w) b w) c 0 ≡ getD T c 0

@@ -9,15 +9,15 @@ use native.Mathlib.Omega.{arith}
 use borrow.Author.Tests.{lt-ltb, le-ltb, ltb-true, ltb-false}
 use lib.Dec.{ltb}
 use lib.ListN.{length, getD, length-append}
-use Rattle.model.specs.Bounded.{sumBelow, one-if}
+use Rattle.model.specs.Bounded.{sumBelow, oneIf}
 use Rattle.model.specs.Layout.{Job, allowed}
-use Rattle.model.specs.Descent.{Trial, turnTrials, pieceTrials, trialsFrom, trials, after, noTrial}
+use Rattle.model.specs.Descent.{Trial, turnTrials, pieceTrials, trialsFrom, trials, trialAfter, noTrial}
 use Rattle.model.specs.declared.Turn.{Turn}
 use Rattle.model.specs.declared.Turn.the-variants.{Zero, Quarter, Half, ThreeQuarters}
 use Rattle.model.specs.declared.Direction.{Direction}
 use Rattle.model.specs.declared.Direction.the-variants.{Horizontal, Vertical}
+use Rattle.list_laws.proofs.Sums.{sum-first, sum-agree}
 use Rattle.descent_laws.specs.Trials.{trialOf, Proper}
-use Rattle.model.proofs.Sums.{sum-first, sum-agree}
 use Rattle.search_laws.specs.TrialIndex.{pieceStart, inTurn, afterTurn, nextIn, nextTrial}
 
 -- ── the next trial ──
@@ -136,7 +136,7 @@ module _ (j : Job) (a : (k : ℕ) → k < j .size .count → allowed j k Zero �
       first-trial ∙ sym (chain-last j noTrial noTrial (trials j) noTrial trials-chain m (omega arith))
 
   -- the trial with the number after m is the trial after the one with number m
-  pub next-trial : (m : ℕ) → m < length (trials j) → getD (trials j) (after (length (trials j)) m) noTrial ≡ nextTrial j (getD (trials j) m noTrial)
+  pub next-trial : (m : ℕ) → m < length (trials j) → getD (trials j) (trialAfter (length (trials j)) m) noTrial ≡ nextTrial j (getD (trials j) m noTrial)
   next-trial m l = next-at m l _ refl
 
   -- by the test for a piece i
@@ -191,16 +191,16 @@ module _ (j : Job) (a : (k : ℕ) → k < j .size .count → allowed j k Zero �
 
 -- how many turns are allowed to piece i
 unfoldable pub turnCount : Job → ℕ → ℕ
-turnCount j i = one-if (allowed j i Zero) + one-if (allowed j i Quarter) + one-if (allowed j i Half) + one-if (allowed j i ThreeQuarters)
+turnCount j i = oneIf (allowed j i Zero) + oneIf (allowed j i Quarter) + oneIf (allowed j i Half) + oneIf (allowed j i ThreeQuarters)
 
 -- two trials for an allowed turn
 two-length : (i : ℕ) (t : Turn) (b : Bool)
-    → length {A = Trial} (elim b as (λ _. List Trial) [ true ↦ trialOf i t Horizontal ∷ trialOf i t Vertical ∷ [] | false ↦ [] ]) ≡ 2 * one-if b
+    → length {A = Trial} (elim b as (λ _. List Trial) [ true ↦ trialOf i t Horizontal ∷ trialOf i t Vertical ∷ [] | false ↦ [] ]) ≡ 2 * oneIf b
 two-length i t true = refl
 two-length i t false = refl
 
 -- the trials of a piece in a turn
-turn-length : (j : Job) (i : ℕ) (t : Turn) → length (turnTrials j i t) ≡ 2 * one-if (allowed j i t)
+turn-length : (j : Job) (i : ℕ) (t : Turn) → length (turnTrials j i t) ≡ 2 * oneIf (allowed j i t)
 unfolding turnTrials
 turn-length j i t = two-length i t (allowed j i t)
 

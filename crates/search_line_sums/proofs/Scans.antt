@@ -5,11 +5,11 @@ use Prim.Native.Nat.{ℕ, _+_, _*_, _-_, _<_, _≤_}
 use native.Mathlib.Nat.{mul-le-mul}
 use native.Mathlib.Omega.{arith}
 use lib.ListN.{length, getD, set}
-use Rattle.search_penalties.proofs.Passes.{Passing, pass-none, pass-over, pass-set}
+use Rattle.list_laws.proofs.Passes.{Passing, pass-none, pass-over, pass-set}
 use Rattle.search_laws.specs.BoundedSearch.{belowBound}
 use Rattle.search_laws.proofs.BoundedSearch.{answerOf, answer-begin, answer-lower, answer-keep, answer-some, answer-none, whole-serves}
 use Rattle.search_line_sums.specs.Answers.{foundAnswer}
-use Rattle.search_line_sums.specs.Added.{Added}
+use Rattle.search_line_sums.specs.Added.{LineAdded}
 use Rattle.search_line_sums.specs.declared.Found.the-variants.{At, Nothing}
 
 -- the sum at a place
@@ -90,7 +90,7 @@ module _ (weight low : ℕ) (line before : List ℕ) where
 
   -- all sums are passed
   pub raise-end : (after : List ℕ) (k : ℕ) → k ≡ length line → Passing (Raised weight low line before) before after (low + k)
-      → Added weight low line before after
+      → LineAdded weight low line before after
   raise-end after k e w =
       record {
         same = w .same;

@@ -5,7 +5,7 @@ use Prim.Native.Nat.{ℕ, _+_, _*_, _<_, _≤_}
 use lib.ListN.{length, getD}
 
 -- each sum from place `low` on has weight × penalty more, as far as the line goes; the others are as they were
-pub record Added (weight low : ℕ) (line before after : List ℕ) : Type 0 where
+pub record LineAdded (weight low : ℕ) (line before after : List ℕ) : Type 0 where
   pub same : length after ≡ length before
   pub part : (k : ℕ) → k < length line → getD after (low + k) 0 ≡ getD before (low + k) 0 + weight * getD line k 0
   pub below : (a : ℕ) → a < low → getD after a 0 ≡ getD before a 0

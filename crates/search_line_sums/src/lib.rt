@@ -4,9 +4,11 @@ ghost use Prim.Native.Nat.{ℕ, _+_, _*_, _<_, _≤_};
 ghost use lib.Dec.{ltb};
 ghost use lib.ListN.{length, getD};
 ghost use Rattle.model.specs.Bounded.{anyBelow};
+ghost use Rattle.model.specs.Lent.{columnBound};
+ghost use Rattle.model.specs.Guided.{weightBound};
 ghost use Rattle.search_laws.specs.BoundedSearch.{belowBound};
 ghost use Rattle.search_line_sums.specs.Answers.{foundAnswer};
-ghost use Rattle.search_line_sums.specs.Added.{Added};
+ghost use Rattle.search_line_sums.specs.Added.{LineAdded};
 
 // The least sum below a bound and the smallest coordinate that has it, if there is one.
 pub enum Found {
@@ -41,8 +43,8 @@ pub fn any_below(sums: &[u32], bound: u32) -> bool
 
 // Adds weight × penalty to the sums from place `low` on.
 pub fn add_line(sums: &mut [u32], low: usize, line: &[u8], weight: u32)
-    requires { ⌜ low + length (now line) ≤ length (now sums) ⌝ ∗ ⌜ weight ≤ 65535 ⌝ ∗ ⌜ ((a : ℕ) → getD (now sums) a 0 ≤ 1073741824) ⌝ }
-    ensures { λ r. ⌜ Added weight low (now (line .entry)) (now (sums .entry)) (now (sums .exit)) ⌝ }
+    requires { ⌜ low + length (now line) ≤ length (now sums) ⌝ ∗ ⌜ weight ≤ weightBound ⌝ ∗ ⌜ ((a : ℕ) → getD (now sums) a 0 ≤ 1073741824) ⌝ }
+    ensures { λ r. ⌜ LineAdded weight low (now (line .entry)) (now (sums .entry)) (now (sums .exit)) ⌝ }
 {
     let mut k = 0;
     while k < line.len() {
@@ -53,7 +55,7 @@ pub fn add_line(sums: &mut [u32], low: usize, line: &[u8], weight: u32)
 
 // The least sum below the bound and the first place that has it.
 pub fn least_below(sums: &[u32], bound: u32) -> Found
-    requires { ⌜ length (now sums) ≤ 4096 ⌝ }
+    requires { ⌜ length (now sums) ≤ columnBound ⌝ }
     ensures { λ r. ⌜ r ≡ foundAnswer (belowBound (λ a. getD (now (sums .entry)) a 0) (length (now (sums .entry))) bound) ⌝ }
 {
     let mut low = bound;

@@ -2,9 +2,8 @@
 use mathlib.Core.List.{List}
 use mathlib.Core.Logic.{⊎-elim}
 use mathlib.Core.Path.{_≡_, sym, ap, _∙_}
-use Prim.Native.Nat.{ℕ, suc, _+_, _*_, _<_, _≤_}
+use Prim.Native.Nat.{ℕ, _+_, _*_, _<_, _≤_}
 use native.Mathlib.Decide.{ℕ-discrete}
-use native.Mathlib.Nat.{mul-le-mul-right, suc-mul}
 use native.Mathlib.Omega.{arith}
 use lib.ListN.{length, getD, set, length-set}
 use lib.Seq.{getD-set-same, getD-set-other}
@@ -13,11 +12,11 @@ use Rattle.model.specs.Lent.{lentBy, jobOf, pieceBound, entryColumns, entryRows
 use Rattle.model.specs.declared.Direction.{Direction}
 use Rattle.model.specs.declared.JobSize.{JobSize}
 use Rattle.model.specs.declared.Turn.{Turn}
+use Rattle.list_laws.proofs.Numbers.{slot-before, below-or}
 use Rattle.job_laws.proofs.Turned.{turned-extent}
-use Rattle.strip_laws.proofs.Runs.{below-or-not}
 use Rattle.search_shapes.specs.Shapes.{numberedShape, shapeNumber}
 use Rattle.search_shapes.proofs.Numbers.{turn-below, number-back}
-use Rattle.search_lines.specs.Kept.{keyOf, HoldsLine, Kept, Wide}
+use Rattle.search_lines.specs.Kept.{keyOf, HoldsLine, LinesKept, Wide}
 use Rattle.search_lines.specs.Making.{LineMade}
 
 -- ── keys ──
@@ -28,14 +27,10 @@ same-shape j i k t u e = sym (number-back j i t) ∙ ap (numberedShape j) e ∙ 
 
 -- ── the store ──
 
--- a slot ends before a later one begins
-slot-before : (m n width : ℕ) → m < n → m * width + width ≤ n * width
-slot-before m n width l = let h : suc m * width ≤ n * width = mul-le-mul-right width l in omega (arith, suc-mul m width)
-
 module _ (d : Direction) (j : Job) (width : ℕ) where
   -- a store with no tag keeps no line
   pub none-kept : (lines tags : List ℕ) → length tags * width ≤ length lines → 0 < length tags → ((m : ℕ) → m < length tags → getD tags m 0 ≡ 0)
-      → Kept d j width lines tags
+      → LinesKept d j width lines tags
   none-kept lines tags room some none =
       record {
         room = room;
@@ -43,7 +38,7 @@ module _ (d : Direction) (j : Job) (width : ℕ) where
         holds = λ m i k t u offset l a b c e. absurd (let z = none m l in omega arith);
       }
 
-  module _ (lines tags : List ℕ) (kept : Kept d j width lines tags) where
+  module _ (lines tags : List ℕ) (kept : LinesKept d j width lines tags) where
     -- a slot lies in the store
     pub slot-within : (m : ℕ) → m < length tags → m * width + width ≤ length lines
     slot-within m l = let r = kept .room in let h = slot-before m (length tags) width l in omega arith
@@ -78,10 +73,10 @@ module _ (d : Direction) (j : Job) (width : ℕ) where
             let b = slot-before m n width (omega arith) in
             let w = wide i k t u d first second in
             made .after (n * width + c) (omega arith))
-            (below-or-not n m)
+            (below-or n m)
 
         -- the store with the slot made anew
-        pub renewed : Kept d j width new (set tags m key)
+        pub renewed : LinesKept d j width new (set tags m key)
         renewed =
             let same : length (set tags m key) ≡ length tags = simp length-set in
             let r = kept .room in
@@ -113,17 +108,17 @@ twice-wide j n small i k t u d a b =
     omega arith
 
 -- no side of the first n entries is above the number
-pub record Covered (table : List (List ℕ)) (side n : ℕ) : Type 0 where
+pub record SidesCovered (table : List (List ℕ)) (side n : ℕ) : Type 0 where
   pub columns : (i : ℕ) → i < n → entryColumns table i ≤ side
   pub rows : (i : ℕ) → i < n → entryRows table i ≤ side
 
 -- there are none
-pub covered-none : (table : List (List ℕ)) (side : ℕ) → Covered table side 0
+pub covered-none : (table : List (List ℕ)) (side : ℕ) → SidesCovered table side 0
 covered-none table side = record { columns = λ i l. absurd (omega arith); rows = λ i l. absurd (omega arith) }
 
 -- one more
-pub covered-more : (table : List (List ℕ)) (side n more : ℕ) → Covered table side n → side ≤ more → entryColumns table n ≤ more → entryRows table n ≤ more
-    → Covered table more (n + 1)
+pub covered-more : (table : List (List ℕ)) (side n more : ℕ) → SidesCovered table side n → side ≤ more → entryColumns table n ≤ more → entryRows table n ≤ more
+    → SidesCovered table more (n + 1)
 covered-more table side n more w up c r =
     record { columns = λ i l. next (entryColumns table) (w .columns) c i l; rows = λ i l. next (entryRows table) (w .rows) r i l }
   where
@@ -132,10 +127,10 @@ covered-more table side n more w up c r =
         ⊎-elim
         (λ (h : i < n). let b = before i h in omega arith)
         (λ (h : n ≤ i). let e : i ≡ n = omega arith in rw e last)
-        (below-or-not i n)
+        (below-or i n)
 
 -- twice the number is wide enough for a job of these entries
-pub covered-wide : (size : JobSize) (table : List (List ℕ)) (pixels : List ℕ) (side n : ℕ) → size .count ≤ n → Covered table side n
+pub covered-wide : (size : JobSize) (table : List (List ℕ)) (pixels : List ℕ) (side n : ℕ) → size .count ≤ n → SidesCovered table side n
     → Wide (jobOf (lentBy size table pixels)) (side * 2)
 unfolding jobOf
 covered-wide size table pixels side n l w =

@@ -12,14 +12,14 @@ use Rattle.model.specs.declared.Direction.{Direction}
 use Rattle.strip_laws.proofs.Tight.{tight-side}
 use Rattle.job_laws.proofs.Checked.{facts, lent-few, lent-turned-small}
 use Rattle.call_laws.proofs.Jobs.{lent-tight}
-use Rattle.search_penalties.specs.declared.Pair.{Pair}
-use Rattle.search_penalties.specs.Line.{penaltyAt, penaltyLine, Reach, Boxed}
+use Rattle.search_penalties.specs.declared.LinePair.{LinePair}
+use Rattle.search_penalties.specs.Line.{penaltyAt, penaltyLine, LineReach, Boxed}
 use Rattle.search_penalties.proofs.Lines.{values-at}
 use Rattle.search_penalties.proofs.Sets.{biasedPair, line-penalty, line-boxed}
 use Rattle.search_shapes.specs.Shapes.{shapeNumber, Held, Shapes, StripsOf}
 use Rattle.search_lines.specs.declared.Two.{Two}
-use Rattle.search_lines.specs.Kept.{middle, linePlaces, lineAt}
-use Rattle.search_lines.specs.Making.{movedShape, standingShape, Small, Asked, LineMade}
+use Rattle.search_lines.specs.Kept.{middle, linePlaces, linePenalty}
+use Rattle.search_lines.specs.Making.{movedShape, standingShape, SmallTwo, Asked, LineMade}
 
 -- ── a part of a list, written anew ──
 
@@ -72,7 +72,7 @@ module _ (l : Lent) (d : Direction) (store : List (List ℕ)) (starts : List ℕ
   standing-there = asked .standing
 
   -- the numbers have room in a key
-  pub small-two : Small two
+  pub small-two : SmallTwo two
   small-two =
       let f = lent-few l (asked .well) in
       let m = moved-there in
@@ -116,7 +116,7 @@ module _ (l : Lent) (d : Direction) (store : List (List ℕ)) (starts : List ℕ
       (long : la ≡ extent d (movedShape l two)) (wide : lb ≡ extent d (standingShape l two)) (places : n ≡ la + lb - 1)
     where
       -- the line of the two
-      abbrev pair : Pair
+      abbrev pair : LinePair
       pair = biasedPair (la - 1) middle (two .offset)
 
       -- the places are those at which the boxes meet
@@ -124,7 +124,7 @@ module _ (l : Lent) (d : Direction) (store : List (List ℕ)) (starts : List ℕ
       line-places = omega arith
 
       -- the corners and the line are in reach
-      pub reach : Reach pair n
+      pub reach : LineReach pair n
       reach =
           let s = moved-small d in
           let t = standing-small d in
@@ -137,8 +137,8 @@ module _ (l : Lent) (d : Direction) (store : List (List ℕ)) (starts : List ℕ
           rw (first .same, second .same, long, line-places) (line-boxed d (movedShape l two) (standingShape l two) middle (two .offset) moved-some)
 
       -- what the line holds
-      pub line-held : (k : ℕ) → k < n → getD (penaltyLine es fs pair n) k 0 ≡ lineAt d (movedShape l two) (standingShape l two) (two .offset) k
-      unfolding penaltyLine lineAt
+      pub line-held : (k : ℕ) → k < n → getD (penaltyLine es fs pair n) k 0 ≡ linePenalty d (movedShape l two) (standingShape l two) (two .offset) k
+      unfolding penaltyLine linePenalty
       line-held k h =
           values-at (penaltyAt es fs pair) 0 n k h
           ∙ (let z : 0 + k ≡ k = omega arith in rw (z, first .same, second .same, long) (line-penalty d (movedShape l two) (standingShape l two) (extent d (movedShape l two) - 1) middle (two .offset) k moved-small standing-small))

@@ -13,7 +13,7 @@ use Rattle.model.specs.declared.Turn.{Turn}
 use Rattle.overlap_laws.proofs.Share.{same-difference, along-point, across-point}
 use Rattle.overlap_laws.proofs.Penalty.{penalty-difference}
 use Rattle.search_laws.specs.PieceSum.{penaltyOn}
-use Rattle.search_lines.specs.Kept.{middle, lineAt}
+use Rattle.search_lines.specs.Kept.{middle, linePenalty}
 
 -- where the corner of a placement on a line is along it, and across it
 along-on : (line : Line) (t : Turn) (a : ℕ) → along (lineDirection line) (corner (onLine line t a)) ≡ a
@@ -26,8 +26,8 @@ across-on (InColumn c) t a = refl
 
 -- penalties do not change when both corners are moved alike
 pub line-penalty-at : (d : Direction) (s : Shape) (u : Point) (t : Shape) (v : Point) (o c : ℕ)
-    → c + along d v ≡ along d u + (extent d s - 1) → o + across d u ≡ across d v + middle → penalty s u t v ≡ lineAt d s t o c
-unfolding lineAt
+    → c + along d v ≡ along d u + (extent d s - 1) → o + across d u ≡ across d v + middle → penalty s u t v ≡ linePenalty d s t o c
+unfolding linePenalty
 line-penalty-at d s u t v o c e f =
     let along-u : along d (point d c middle) ≡ c = along-point d c middle in
     let across-u : across d (point d c middle) ≡ middle = across-point d c middle in
@@ -40,7 +40,7 @@ line-penalty-at d s u t v o c e f =
 pub line-on : (j : Job) (v : Layout) (i : ℕ) (t : Turn) (line : Line) (a k o c : ℕ)
     → c + along (lineDirection line) (cornerIn v k) ≡ a + (extent (lineDirection line) (turnedPiece j i t) - 1)
     → o + held line ≡ across (lineDirection line) (cornerIn v k) + middle
-    → penaltyOn j v i t line a k ≡ lineAt (lineDirection line) (turnedPiece j i t) (shapeIn j v k) o c
+    → penaltyOn j v i t line a k ≡ linePenalty (lineDirection line) (turnedPiece j i t) (shapeIn j v k) o c
 unfolding penaltyOn
 line-on j v i t line a k o c e f =
     let p : along (lineDirection line) (corner (onLine line t a)) ≡ a = along-on line t a in

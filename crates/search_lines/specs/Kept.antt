@@ -16,13 +16,20 @@ use Rattle.search_shapes.specs.Shapes.{shapeNumber}
 abbrev pub middle : ℕ
 middle = 255
 
+-- the most bytes of a slot, and of a store of lines
+abbrev pub slotBound : ℕ
+slotBound = 512
+
+abbrev pub linesBound : ℕ
+linesBound = 524288
+
 -- how many places a line has: those at which the boxes meet along it
 abbrev pub linePlaces : Direction → Shape → Shape → ℕ
 linePlaces d s t = extent d s + extent d t - 1
 
 -- the penalty at place k: the moved piece's corner is at k along the line, the standing one's at the moved one's last pixel
-unfoldable pub lineAt : Direction → Shape → Shape → ℕ → ℕ → ℕ
-lineAt d s t offset k = penalty s (point d k middle) t (point d (extent d s - 1) offset)
+unfoldable pub linePenalty : Direction → Shape → Shape → ℕ → ℕ → ℕ
+linePenalty d s t offset k = penalty s (point d k middle) t (point d (extent d s - 1) offset)
 
 -- the key of two pieces in their turns and an offset; it is not 0
 abbrev pub keyOf : ℕ → ℕ → ℕ → ℕ
@@ -30,10 +37,10 @@ keyOf a b offset = a * 262144 + b * 1024 + offset + 1
 
 -- the bytes from `from` on hold the line
 abbrev pub HoldsLine : Direction → Shape → Shape → ℕ → List ℕ → ℕ → Type 0
-HoldsLine d s t offset lines from = (k : ℕ) → k < linePlaces d s t → getD lines (from + k) 0 ≡ lineAt d s t offset k
+HoldsLine d s t offset lines from = (k : ℕ) → k < linePlaces d s t → getD lines (from + k) 0 ≡ linePenalty d s t offset k
 
 -- slot m, of `width` bytes, holds the line that its tag names
-pub record Kept (d : Direction) (j : Job) (width : ℕ) (lines tags : List ℕ) : Type 0 where
+pub record LinesKept (d : Direction) (j : Job) (width : ℕ) (lines tags : List ℕ) : Type 0 where
   pub room : length tags * width ≤ length lines
   pub some : 0 < length tags
   pub holds : (m i k : ℕ) (t u : Turn) (offset : ℕ) → m < length tags → i < j .size .count → k < j .size .count → offset < 1024

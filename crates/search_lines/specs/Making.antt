@@ -6,7 +6,7 @@ use Prim.Native.Nat.{ℕ, _+_, _<_, _≤_}
 use lib.ListN.{length, getD}
 use Rattle.model.specs.Piece.{Shape}
 use Rattle.model.specs.Layout.{turnedPiece}
-use Rattle.model.specs.Lent.{Lent, jobOf, lentWell}
+use Rattle.model.specs.Lent.{Lent, jobOf, lentWell, pieceBound}
 use Rattle.model.specs.declared.Direction.{Direction}
 use Rattle.search_shapes.specs.Shapes.{shapeNumber, Shapes}
 use Rattle.search_lines.specs.declared.Two.{Two}
@@ -24,9 +24,9 @@ abbrev pub keyOfTwo : Two → ℕ
 keyOfTwo two = keyOf (shapeNumber (two .moved) (two .«moved_turn»)) (shapeNumber (two .standing) (two .«standing_turn»)) (two .offset)
 
 -- numbers that a key has room for
-pub record Small (two : Two) : Type 0 where
-  pub moved : two .moved < 64
-  pub standing : two .standing < 64
+pub record SmallTwo (two : Two) : Type 0 where
+  pub moved : two .moved < pieceBound
+  pub standing : two .standing < pieceBound
   pub offset : two .offset < 1024
 
 -- two pieces of a job that passes its check, and the strips of all its pieces

@@ -8,13 +8,29 @@ ghost use Rattle.model.specs.Piece.{extent};
 ghost use Rattle.model.specs.Layout.{turnedPiece};
 ghost use Rattle.model.specs.Lent.{lentBy, jobOf};
 ghost use Rattle.model.specs.declared.JobSize.{JobSize};
-ghost use Rattle.search_lines.specs.Kept.{linePlaces, HoldsLine, Kept, Wide};
-ghost use Rattle.search_lines.specs.Making.{movedShape, standingShape, keyOfTwo, Small, Asked, LineMade};
-use layout_places::numbers::larger;
+ghost use Rattle.search_lines.specs.Kept.{linePlaces, HoldsLine, LinesKept, Wide, linesBound, slotBound};
+ghost use Rattle.search_lines.specs.Making.{movedShape, standingShape, keyOfTwo, SmallTwo, Asked, LineMade};
 use model::Direction;
 use model::JobSize;
+use model::PIECE_BOUND;
 use model::Turn;
-use search_penalties::Pair;
+use search_penalties::LinePair;
+use whole_numbers::larger;
+
+// The row of a moved piece to which the offset of a standing one is counted: no offset that matters is below 0.
+pub const MIDDLE: usize = 255;
+
+// The same, as a corner holds it.
+const MIDDLE_ROW: u32 = MIDDLE as u32;
+
+// Every offset that a key holds is below it.
+const OFFSETS: usize = 1024;
+
+// The keys of one moved piece in a turn: each standing one in a turn, at each offset.
+const KEYS: usize = 4 * PIECE_BOUND * OFFSETS;
+
+// Half the least width of a slot.
+const LEAST_SIDE: usize = 32;
 
 // Two pieces in their turns, and the standing one's offset across the line, counted from the moved one's middle.
 pub struct Two {
@@ -29,10 +45,10 @@ pub struct Two {
 pub fn slot_width(size: JobSize, table: &[[u8; 3]]) -> usize
     requires { ⌜ size .count ≤ length (now table) ⌝ }
     ensures wide { λ r. ⌜ ((pixels : List ℕ) → Wide (jobOf (lentBy size (now (table .entry)) pixels)) r) ⌝ }
-    ensures bounds { λ r. ⌜ (64 ≤ r) × (r ≤ 512) ⌝ }
+    ensures bounds { λ r. ⌜ (64 ≤ r) × (r ≤ slotBound) ⌝ }
 {
     let count = size.count;
-    let mut side: usize = 32;
+    let mut side: usize = LEAST_SIDE;
     let mut i = 0;
     while i < count {
         let sides = layout_places::turned_sides(table, i, Turn::Zero);
@@ -44,23 +60,23 @@ pub fn slot_width(size: JobSize, table: &[[u8; 3]]) -> usize
 
 // The key of two pieces in their turns and an offset.
 fn key_of(two: Two) -> u32
-    requires { ⌜ Small two ⌝ }
+    requires { ⌜ SmallTwo two ⌝ }
     ensures { λ r. ⌜ r ≡ keyOfTwo two ⌝ }
 {
     let moved_turn = two.moved_turn;
     let standing_turn = two.standing_turn;
     let a = search_shapes::shape_number(two.moved, moved_turn);
     let b = search_shapes::shape_number(two.standing, standing_turn);
-    (a * 262144 + b * 1024 + two.offset + 1) as u32
+    (a * KEYS + b * OFFSETS + two.offset + 1) as u32
 }
 
 // The slot of two pieces: one for each moved piece in a turn and each standing piece, as far as there are slots.
 fn slot_of(two: Two, slots: usize) -> usize
-    requires { ⌜ Small two × (0 < slots) ⌝ }
+    requires { ⌜ SmallTwo two × (0 < slots) ⌝ }
     ensures { λ r. ⌜ r < slots ⌝ }
 {
     let turn = two.moved_turn;
-    (search_shapes::shape_number(two.moved, turn) * 64 + two.standing) % slots
+    (search_shapes::shape_number(two.moved, turn) * PIECE_BOUND + two.standing) % slots
 }
 
 // The pixels of a turned box along the direction.
@@ -89,7 +105,7 @@ fn make_line(
 )
     requires { ⌜ Asked (lentBy size (now table) (now pixels)) direction (now strips) (now starts) two ⌝
         ∗ ⌜ at + linePlaces direction (movedShape (lentBy size (now table) (now pixels)) two) (standingShape (lentBy size (now table) (now pixels)) two) ≤ length (now lines) ⌝
-        ∗ ⌜ length (now lines) ≤ 524288 ⌝ }
+        ∗ ⌜ length (now lines) ≤ linesBound ⌝ }
     ensures { λ r. ⌜ LineMade direction (movedShape (lentBy size (now (table .entry)) (now (pixels .entry))) two) (standingShape (lentBy size (now (table .entry)) (now (pixels .entry))) two) (two .offset) (now (lines .entry)) at (now (lines .exit)) ⌝ }
 {
     let moved_turn = two.moved_turn;
@@ -98,9 +114,9 @@ fn make_line(
     let b = search_shapes::shape_strips(strips, starts, two.standing, standing_turn);
     let last = side_along(table, two.moved, moved_turn, direction) - 1;
     let end = at + last + side_along(table, two.standing, standing_turn, direction);
-    let pair = Pair {
+    let pair = LinePair {
         bias: last as u32,
-        moved: 255,
+        moved: MIDDLE_ROW,
         standing: two.offset as u32,
     };
     search_penalties::penalties(a, b, pair, &mut lines[at..end]);
@@ -120,11 +136,11 @@ pub fn keep_line(
     tags: &mut [u32],
 ) -> usize
     requires { ⌜ Asked (lentBy size (now table) (now pixels)) direction (now strips) (now starts) two ⌝
-        ∗ ⌜ Wide (jobOf (lentBy size (now table) (now pixels))) width ⌝ ∗ ⌜ width ≤ 512 ⌝
-        ∗ ⌜ Kept direction (jobOf (lentBy size (now table) (now pixels))) width (now lines) (now tags) ⌝ ∗ ⌜ length (now lines) ≤ 524288 ⌝ }
+        ∗ ⌜ Wide (jobOf (lentBy size (now table) (now pixels))) width ⌝ ∗ ⌜ width ≤ slotBound ⌝
+        ∗ ⌜ LinesKept direction (jobOf (lentBy size (now table) (now pixels))) width (now lines) (now tags) ⌝ ∗ ⌜ length (now lines) ≤ linesBound ⌝ }
     ensures line { λ r. ⌜ HoldsLine direction (movedShape (lentBy size (now (table .entry)) (now (pixels .entry))) two) (standingShape (lentBy size (now (table .entry)) (now (pixels .entry))) two) (two .offset) (now (lines .exit)) r ⌝ }
     ensures within { λ r. ⌜ r + width ≤ length (now (lines .exit)) ⌝ }
-    ensures kept { λ r. ⌜ Kept direction (jobOf (lentBy size (now (table .entry)) (now (pixels .entry)))) width (now (lines .exit)) (now (tags .exit)) ⌝ }
+    ensures kept { λ r. ⌜ LinesKept direction (jobOf (lentBy size (now (table .entry)) (now (pixels .entry)))) width (now (lines .exit)) (now (tags .exit)) ⌝ }
     ensures sizes { λ r. ⌜ (length (now (lines .exit)) ≡ length (now (lines .entry))) × (length (now (tags .exit)) ≡ length (now (tags .entry))) ⌝ }
 {
     let slot = slot_of(two, tags.len());

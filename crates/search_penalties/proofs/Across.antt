@@ -2,17 +2,18 @@
 -- Assumes nothing.
 use mathlib.Core.Bool.{Bool, true, false, not, _||_}
 use mathlib.Core.List.{List}
-use mathlib.Core.Path.{_≡_, refl, sym, ap, ap₂, _∙_, subst}
-use mathlib.Core.Logic.{_⊎_, inl, inr, ⊎-elim}
-use Prim.Native.Nat.{ℕ, zero, suc, _+_, min, _<_, _≤_}
-use native.Mathlib.Nat.{le-antisymm, eq-or-lt-of-le}
+use mathlib.Core.Path.{_≡_, refl, ap, ap₂, _∙_, subst}
+use mathlib.Core.Logic.{_⊎_, ⊎-elim}
+use Prim.Native.Nat.{ℕ, _+_, min, _<_, _≤_}
+use native.Mathlib.Nat.{eq-or-lt-of-le}
 use native.Mathlib.Omega.{arith, by-contra}
 use lib.ListN.{length, getD}
 use Rattle.model.specs.Bounded.{firstFrom}
-use Rattle.model.proofs.Tests.{clash}
-use Rattle.pair_overlap.proofs.Firsts.{below-or, FirstBelow, first-found}
-use Rattle.search_penalties.specs.declared.Pair.{Pair}
-use Rattle.search_penalties.specs.Line.{takenAt, raised, sunk, apartAcross, acrossBelow, Grounded, Lowered, Levelled}
+use Rattle.list_laws.proofs.Firsts.{FirstBelow, first-found}
+use Rattle.list_laws.proofs.Numbers.{below-or}
+use Rattle.list_laws.proofs.Tests.{clash}
+use Rattle.search_penalties.specs.declared.LinePair.{LinePair}
+use Rattle.search_penalties.specs.Line.{takenAt, raisedLine, sunk, apartAcross, acrossBelow, Grounded, Lowered, Levelled}
 
 -- x is the lesser of a and the first number below r that passes
 pub record Level (f : ℕ → Bool) (a r x : ℕ) : Type 0 where
@@ -84,7 +85,7 @@ level-first f a r x bound b l w =
     (λ (c : a ≤ x). omega arith)
     (below-or x a)
 
-module _ (es fs : List (List ℕ)) (p : Pair) (k : ℕ) where
+module _ (es fs : List (List ℕ)) (p : LinePair) (k : ℕ) where
   pub level-across : (a r x bound : ℕ) → a ≤ bound → x ≤ r → Level (apartAcross es fs p k) a r x → x ≡ min a (acrossBelow es fs p k bound)
   unfolding acrossBelow
   level-across a r x bound b l w = level-first (apartAcross es fs p k) a r x bound b l w
@@ -101,29 +102,29 @@ module _ (es fs : List (List ℕ)) (p : Pair) (k : ℕ) where
 -- ── over the whole line ──
 
 -- every place of the line is at level r, from what it held before
-abbrev pub LineAt : List (List ℕ) → List (List ℕ) → Pair → ℕ → List ℕ → List ℕ → Type 0
+abbrev pub LineAt : List (List ℕ) → List (List ℕ) → LinePair → ℕ → List ℕ → List ℕ → Type 0
 LineAt es fs p r xs ys = (k : ℕ) → k < length xs → Level (apartAcross es fs p k) (getD xs k 0) r (getD ys k 0)
 
 -- before level 1
-pub line-start : (es fs : List (List ℕ)) (p : Pair) (xs : List ℕ) → Grounded (takenAt es fs p) xs → LineAt es fs p 1 xs xs
+pub line-start : (es fs : List (List ℕ)) (p : LinePair) (xs : List ℕ) → Grounded (takenAt es fs p) xs → LineAt es fs p 1 xs xs
 line-start es fs p xs g k l = level-start (apartAcross es fs p k) (getD xs k 0) (λ h. across-none es fs p k (g k l h))
 
 -- level r, both sides
-pub line-step : (es fs : List (List ℕ)) (p : Pair) (r up down : ℕ) (xs ws : List ℕ) {bs cs : List ℕ} → up ≡ r → down ≡ r → length ws ≡ length xs
-    → Lowered (takenAt es fs (raised up p)) r ws bs → Lowered (takenAt es fs (sunk down p)) r bs cs → LineAt es fs p r xs ws
+pub line-step : (es fs : List (List ℕ)) (p : LinePair) (r up down : ℕ) (xs ws : List ℕ) {bs cs : List ℕ} → up ≡ r → down ≡ r → length ws ≡ length xs
+    → Lowered (takenAt es fs (raisedLine up p)) r ws bs → Lowered (takenAt es fs (sunk down p)) r bs cs → LineAt es fs p r xs ws
     → LineAt es fs p (r + 1) xs cs
 line-step es fs p r up down xs ws {bs} {cs} e f same u d w k l =
-    let u′ : Lowered (takenAt es fs (raised r p)) r ws bs = subst (λ (z : ℕ). Lowered (takenAt es fs (raised z p)) r ws bs) e u in
+    let u′ : Lowered (takenAt es fs (raisedLine r p)) r ws bs = subst (λ (z : ℕ). Lowered (takenAt es fs (raisedLine z p)) r ws bs) e u in
     let d′ : Lowered (takenAt es fs (sunk r p)) r bs cs = subst (λ (z : ℕ). Lowered (takenAt es fs (sunk z p)) r bs cs) f d in
     let m = u .same in
     let a : k < length ws = omega arith in
     let b : k < length bs = omega arith in
     level-step (apartAcross es fs p k) (getD xs k 0) r (getD ws k 0) (getD bs k 0) (getD cs k 0)
-    (takenAt es fs (raised r p) k) (takenAt es fs (sunk r p) k) refl
+    (takenAt es fs (raisedLine r p) k) (takenAt es fs (sunk r p) k) refl
     (u′ .kept k a) (u′ .cut k a) (d′ .kept k b) (d′ .cut k b) (w k l)
 
 -- no place is above r
-pub line-done : (es fs : List (List ℕ)) (p : Pair) (r : ℕ) (xs ys : List ℕ) → length ys ≡ length xs → ((k : ℕ) → k < length xs → getD xs k 0 ≤ 255)
+pub line-done : (es fs : List (List ℕ)) (p : LinePair) (r : ℕ) (xs ys : List ℕ) → length ys ≡ length xs → ((k : ℕ) → k < length xs → getD xs k 0 ≤ 255)
     → ((k : ℕ) → k < length xs → getD ys k 0 ≤ r) → LineAt es fs p r xs ys → Levelled es fs p xs ys
 line-done es fs p r xs ys e b l w =
     record { same = e; at = λ k m. level-across es fs p k (getD xs k 0) r (getD ys k 0) 255 (b k m) (l k m) (w k m) }

@@ -2,20 +2,20 @@
 -- neighbour's where a pixel is shared, since a shift by r + 1 at a place is a shift by r at its neighbour. Assumes nothing.
 use mathlib.Core.Bool.{Bool, true, false, not}
 use mathlib.Core.List.{List}
-use mathlib.Core.Path.{_≡_, refl, sym, ap, _∙_}
+use mathlib.Core.Path.{_≡_, sym, ap, _∙_}
 use mathlib.Core.Logic.{_⊎_, ⊎-elim}
-use Prim.Native.Nat.{ℕ, zero, suc, _+_, _-_, min, _<_, _≤_}
+use Prim.Native.Nat.{ℕ, zero, suc, _+_, _-_, _<_, _≤_}
 use native.Mathlib.Omega.{arith}
 use lib.ListN.{length, getD}
 use borrow.Author.Tests.{not-true, not-false}
 use Rattle.model.specs.Bounded.{firstFrom}
-use Rattle.model.proofs.Tests.{same-tests, decided, fails}
+use Rattle.list_laws.proofs.Tests.{same-tests, decided, fails}
+use Rattle.list_laws.proofs.Firsts.{first-now, first-later, FirstBelow, first-found}
 use Rattle.pair_overlap.specs.Meet.{stripAt, shifted, stretchesShare, clearAt, clearBelow, ClearStretch}
 use Rattle.pair_overlap.specs.declared.Corner.{Corner}
 use Rattle.pair_overlap.specs.declared.Shifts.{Shifts}
-use Rattle.pair_overlap.proofs.Firsts.{FirstBelow, first-found, first-unique}
 use Rattle.pair_overlap.proofs.Walk.{Meeting, meet-facts, facts-meet, meet-share, StripsMeet, share-meet}
-use Rattle.search_penalties.specs.declared.Pair.{Pair}
+use Rattle.search_penalties.specs.declared.LinePair.{LinePair}
 use Rattle.search_penalties.specs.Line.{standingAt, movedAt, takenAt, Boxed, FreeFrom, farther, risen, fallen}
 use Rattle.search_penalties.proofs.Passes.{farther-more}
 
@@ -33,7 +33,7 @@ module _ (es : List (List ℕ)) (u : Corner) (fs : List (List ℕ)) (v u′ v′
       let line = w .line in
       let low = w .low in
       let high = w .high in
-      meet-share fs v′ es u′ (m .j) (m .i) (m .j-below) (m .i-below)
+      meet-share fs v′ es u′ (m .j) (m .i) (m .jBelow) (m .iBelow)
       (facts-meet t v′ s u′ record { line = omega arith; low = omega arith; high = omega arith })
 
 -- the same pixels are shared in the other order, at corners with the same difference
@@ -44,29 +44,6 @@ share-same es u fs v u′ v′ a b =
     same-tests _ _ (share-swapped es u fs v u′ v′ a b) (share-swapped fs v′ es u′ v u (omega arith) (omega arith))
 
 -- ── the first shift that parts ──
-
--- a test that passes at once
-pub first-now : (f : ℕ → Bool) (bound : ℕ) → f 0 ≡ true → firstFrom f 0 bound ≡ 0
-first-now f bound e =
-    sym (first-unique f bound 0 record { within = omega arith; before = λ k l. absurd (omega arith); passing = λ l. e })
-
-later-before : (f : ℕ → Bool) (bound : ℕ) → f 0 ≡ false → (k : ℕ) → k < firstFrom (λ r. f (suc r)) 0 bound + 1 → f k ≡ false
-later-before f bound e zero l = e
-later-before f bound e (suc k) l = first-found (λ r. f (suc r)) bound .before k (omega arith)
-
--- a test that does not: one more than for the test from 1 on
-pub first-later : (f : ℕ → Bool) (bound : ℕ) → f 0 ≡ false → firstFrom f 0 bound ≡ min (firstFrom (λ r. f (suc r)) 0 bound + 1) bound
-first-later f bound e =
-    let g : ℕ → Bool = λ r. f (suc r) in
-    let q = firstFrom g 0 bound in
-    let w : FirstBelow g bound q = first-found g bound in
-    sym
-    (first-unique f bound (min (q + 1) bound)
-    record {
-      within = omega arith;
-      before = λ k l. later-before f bound e k (omega arith);
-      passing = λ l. let z : min (q + 1) bound ≡ suc q = omega arith in ap f z ∙ w .passing (omega arith);
-    })
 
 -- one step of the distance
 farther-first : (f : ℕ → Bool) (bound x d : ℕ) → bound ≡ 255 → (f 0 ≡ true → x ≡ 0) → (f 0 ≡ false → 0 < x)
@@ -83,11 +60,11 @@ farther-first f bound x d b now later e =
 -- ── distances ──
 
 -- the line is 0 at the free places only
-pub record Marks (f : ℕ → Bool) (xs : List ℕ) : Type 0 where
+pub record FreeMarks (f : ℕ → Bool) (xs : List ℕ) : Type 0 where
   pub free : (k : ℕ) → k < length xs → f k ≡ false → getD xs k 0 ≡ 0
   pub taken : (k : ℕ) → k < length xs → f k ≡ true → 0 < getD xs k 0
 
-module _ (es fs : List (List ℕ)) (p : Pair) where
+module _ (es fs : List (List ℕ)) (p : LinePair) where
   -- a shift back by r from place k
   abbrev back : ℕ → ℕ → Bool
   back k r = clearAt es (movedAt p k) fs (standingAt p) r
@@ -121,7 +98,7 @@ module _ (es fs : List (List ℕ)) (p : Pair) where
       let m : StripsMeet es (movedAt p 0) fs (shifted 1 (standingAt p)) = share-meet es (movedAt p 0) fs (shifted 1 (standingAt p)) e in
       let w = meet-facts (stripAt es (m .i)) (movedAt p 0) (stripAt fs (m .j)) (shifted 1 (standingAt p)) (m .meets) in
       let low = w .low in
-      let h = b .moved (m .i) (m .i-below) in
+      let h = b .moved (m .i) (m .iBelow) in
       omega arith))
 
   box-last : (n : ℕ) → Boxed es fs p n → takenAt es fs p n ≡ false
@@ -131,10 +108,10 @@ module _ (es fs : List (List ℕ)) (p : Pair) where
       let m : StripsMeet fs (standingAt p) es (movedAt p n) = share-meet fs (standingAt p) es (movedAt p n) e in
       let w = meet-facts (stripAt fs (m .i)) (standingAt p) (stripAt es (m .j)) (movedAt p n) (m .meets) in
       let low = w .low in
-      let h = b .standing (m .i) (m .i-below) in
+      let h = b .standing (m .i) (m .iBelow) in
       omega arith)
 
-  module _ (xs : List ℕ) (box : Boxed es fs p (length xs)) (marks : Marks (takenAt es fs p) xs) where
+  module _ (xs : List ℕ) (box : Boxed es fs p (length xs)) (marks : FreeMarks (takenAt es fs p) xs) where
     -- the distance to the last free place
     risen-first : (bound : ℕ) → bound ≡ 255 → (k : ℕ) → k < length xs → risen xs (suc k) ≡ firstFrom (back k) 0 bound
     risen-first bound b zero l =

@@ -8,9 +8,9 @@ use native.Mathlib.Omega.{arith}
 use lib.ListN.{length, getD}
 use lib.Seq.{ext-getD}
 use Rattle.pair_overlap.specs.Meet.{clearBelow}
-use Rattle.search_penalties.specs.declared.Pair.{Pair}
-use Rattle.search_penalties.specs.Line.{standingAt, movedAt, takenAt, alongAt, acrossAt, penaltyAt, valuesFrom, penaltyLine, Boxed, Grounded, Filled, Lowered, Risen, Fallen, Levelled}
-use Rattle.search_penalties.proofs.Depths.{Marks, risen-clear, fallen-clear, clear-marks, taken-marks, ahead-grounded}
+use Rattle.search_penalties.specs.declared.LinePair.{LinePair}
+use Rattle.search_penalties.specs.Line.{standingAt, movedAt, takenAt, alongAt, acrossAt, penaltyAt, valuesFrom, penaltyLine, Boxed, Grounded, LineFilled, Lowered, Risen, Fallen, Levelled}
+use Rattle.search_penalties.proofs.Depths.{FreeMarks, risen-clear, fallen-clear, clear-marks, taken-marks, ahead-grounded}
 
 -- ── lists of values ──
 
@@ -25,7 +25,7 @@ values-at f k (suc n) (suc i) l = let e : suc k + i ≡ k + suc i = omega arith 
 
 -- ── the passes in order ──
 
-module _ (es fs : List (List ℕ)) (p : Pair) (zs : List ℕ) {ws bs cs ds : List ℕ} (box : Boxed es fs p (length zs)) (full : Filled 255 zs ws) (marked : Lowered (takenAt es fs p) 0 ws bs) (up : Risen bs cs) (down : Fallen cs ds) where
+module _ (es fs : List (List ℕ)) (p : LinePair) (zs : List ℕ) {ws bs cs ds : List ℕ} (box : Boxed es fs p (length zs)) (full : LineFilled 255 zs ws) (marked : Lowered (takenAt es fs p) 0 ws bs) (up : Risen bs cs) (down : Fallen cs ds) where
   bs-length : length bs ≡ length zs
   bs-length = marked .same ∙ full .same
 
@@ -36,7 +36,7 @@ module _ (es fs : List (List ℕ)) (p : Pair) (zs : List ℕ) {ws bs cs ds : Lis
   ds-length = down .same ∙ cs-length
 
   -- the marks
-  bs-marks : Marks (takenAt es fs p) bs
+  bs-marks : FreeMarks (takenAt es fs p) bs
   bs-marks =
       record {
         free =
@@ -61,7 +61,7 @@ module _ (es fs : List (List ℕ)) (p : Pair) (zs : List ℕ) {ws bs cs ds : Lis
       up .at k (omega arith)
       ∙ risen-clear es fs p bs (subst (Boxed es fs p) (sym bs-length) box) bs-marks 255 refl k (omega arith)
 
-  cs-marks : Marks (takenAt es fs p) cs
+  cs-marks : FreeMarks (takenAt es fs p) cs
   cs-marks =
       record {
         free = λ k l t. let e = cs-length in cs-at k (omega arith) ∙ clear-marks es fs p 255 k refl t;

@@ -2,23 +2,23 @@
 -- meets one of its strips wherever it lies between their ends. Assumes nothing.
 use mathlib.Core.Bool.{true}
 use mathlib.Core.List.{List, []}
-use mathlib.Core.Path.{_≡_, refl, sym, ap, _∙_, subst}
+use mathlib.Core.Path.{_≡_, sym, ap, _∙_, subst}
 use mathlib.Core.Logic.{⊎-elim}
-use Prim.Native.Nat.{ℕ, zero, _+_, _-_, max, _<_, _≤_}
+use Prim.Native.Nat.{ℕ, _+_, _-_, max, _<_, _≤_}
 use native.Mathlib.Nat.{eq-or-lt-of-le}
 use native.Mathlib.Omega.{arith}
 use lib.ListN.{length, getD, set, length-set, replicate, length-replicate, getD-replicate}
 use lib.Seq.{getD-set-same, getD-set-other}
+use Rattle.list_laws.proofs.Numbers.{below-or}
 use Rattle.pair_overlap.specs.Meet.{stripAt}
 use Rattle.pair_overlap.proofs.Walk.{facts-meet, meet-share}
-use Rattle.pair_overlap.proofs.Firsts.{below-or}
 use Rattle.search_penalties.specs.declared.Outline.{Outline}
-use Rattle.search_penalties.specs.declared.Pair.{Pair}
+use Rattle.search_penalties.specs.declared.LinePair.{LinePair}
 use Rattle.search_penalties.specs.Line.{takenAt, standingAt, movedAt}
-use Rattle.search_penalties.specs.Outlines.{outlineOf, Narrow, Struck, Standing, Outlined, Outlines, Blank, Widened, Reached, Taken}
+use Rattle.search_penalties.specs.Outlines.{outlineOf, Struck, StripStanding, Outlined, Outlines, Blank, PlacesReached, Taken}
 
 -- a strip that begins and counts as said has every place of its own
-struck-own : (es : List (List ℕ)) (y start count base x c : ℕ) → Standing es y start count → base + start < x + c → x < base + start + count
+struck-own : (es : List (List ℕ)) (y start count base x c : ℕ) → StripStanding es y start count → base + start < x + c → x < base + start + count
     → Struck es y base x c
 struck-own es y start count base x c w low high =
     let e = w .first in
@@ -26,14 +26,14 @@ struck-own es y start count base x c w low high =
     record { number = w .number; below = w .below; line = w .line; low = omega arith; high = omega arith }
 
 -- the first strip of a line
-pub outline-first : (es : List (List ℕ)) (y first count : ℕ) → Standing es y first count
+pub outline-first : (es : List (List ℕ)) (y first count : ℕ) → StripStanding es y first count
     → Outlined es y (record { first = first; end = first + count; gap = 0; start = first; count = count })
 outline-first es y first count w =
     record { strip = λ h. w; bridged = λ h base x c g low high. struck-own es y first count base x c w low (omega arith) }
 
 -- one more strip of a line
 pub outline-more : (es : List (List ℕ)) (y first count gap start n : ℕ) (o : Outline) → 0 < o .count → gap ≡ max (o .gap) (first - o .end)
-    → Standing es y first count → Standing es y start n → Outlined es y o
+    → StripStanding es y first count → StripStanding es y start n → Outlined es y o
     → Outlined es y (record { first = o .first; end = first + count; gap = gap; start = start; count = n })
 outline-more es y first count gap start n o some e w v old =
     record {
@@ -46,7 +46,7 @@ outline-more es y first count gap start n o some e w v old =
           (below-or x (base + o .end));
     }
 
-module _ (es fs : List (List ℕ)) (y z : ℕ) (p : Pair) (m s : Outline) (line : y + p .moved ≡ z + p .standing) (a : Outlined es y m) (b : Outlined fs z s) (k : ℕ) where
+module _ (es fs : List (List ℕ)) (y z : ℕ) (p : LinePair) (m s : Outline) (line : y + p .moved ≡ z + p .standing) (a : Outlined es y m) (b : Outlined fs z s) (k : ℕ) where
   -- the moved line's strip bridges the standing line's gaps
   pub strip-taken : s .gap < m .count → 0 < s .count → p .bias + s .first < k + m .start + m .count → k + m .start < p .bias + s .end
       → takenAt es fs p k ≡ true
@@ -82,13 +82,13 @@ module _ (es fs : List (List ℕ)) (y z : ℕ) (p : Pair) (m s : Outline) (line 
 -- ── how far outlines reach ──
 
 -- no place
-pub reached-none : (m s : Outline) (p : Pair) (c : ℕ) → c < 1000000 → Reached m s p c c
+pub reached-none : (m s : Outline) (p : LinePair) (c : ℕ) → c < 1000000 → PlacesReached m s p c c
 reached-none m s p c l =
     record { low = omega arith; high = l; taken = λ es fs y z line a b k low high. absurd (omega arith) }
 
 -- the places that the moved line's strip reaches
-pub reached-strip : (m s : Outline) (p : Pair) (c r : ℕ) → r < 1000000 → 0 < s .count → s .gap < m .count → p .bias + s .first < c + m .start + m .count
-    → c + m .start < p .bias + s .end → r ≡ p .bias + s .end - m .start → Reached m s p c r
+pub reached-strip : (m s : Outline) (p : LinePair) (c r : ℕ) → r < 1000000 → 0 < s .count → s .gap < m .count → p .bias + s .first < c + m .start + m .count
+    → c + m .start < p .bias + s .end → r ≡ p .bias + s .end - m .start → PlacesReached m s p c r
 reached-strip m s p c r l some gap low high e =
     record {
       low = omega arith;
@@ -97,8 +97,8 @@ reached-strip m s p c r l some gap low high e =
     }
 
 -- the places that the standing line's strip reaches
-pub reached-outline : (m s : Outline) (p : Pair) (c r : ℕ) → r < 1000000 → 0 < m .count → m .gap < s .count → p .bias + s .start < c + m .end
-    → c + m .first < p .bias + s .start + s .count → r ≡ p .bias + s .start + s .count - m .first → Reached m s p c r
+pub reached-outline : (m s : Outline) (p : LinePair) (c r : ℕ) → r < 1000000 → 0 < m .count → m .gap < s .count → p .bias + s .start < c + m .end
+    → c + m .first < p .bias + s .start + s .count → r ≡ p .bias + s .start + s .count - m .first → PlacesReached m s p c r
 reached-outline m s p c r l some gap low high e =
     record {
       low = omega arith;
@@ -107,8 +107,8 @@ reached-outline m s p c r l some gap low high e =
     }
 
 -- one line after others
-pub taken-more : (moved standing : List (List ℕ)) (p : Pair) (from c r y z : ℕ) (m s : Outline) → y < length moved → z < length standing
-    → y + p .moved ≡ z + p .standing → m ≡ outlineOf (getD moved y []) → s ≡ outlineOf (getD standing z []) → Reached m s p c r → Taken moved standing p from c
+pub taken-more : (moved standing : List (List ℕ)) (p : LinePair) (from c r y z : ℕ) (m s : Outline) → y < length moved → z < length standing
+    → y + p .moved ≡ z + p .standing → m ≡ outlineOf (getD moved y []) → s ≡ outlineOf (getD standing z []) → PlacesReached m s p c r → Taken moved standing p from c
     → Taken moved standing p from r
 taken-more moved standing p from c r y z m s a b line e f w v =
     let low = w .low in
@@ -127,11 +127,11 @@ taken-more moved standing p from c r y z m s a b line e f w v =
     }
 
 -- no place
-pub taken-none : (moved standing : List (List ℕ)) (p : Pair) (from : ℕ) → Taken moved standing p from from
+pub taken-none : (moved standing : List (List ℕ)) (p : LinePair) (from : ℕ) → Taken moved standing p from from
 taken-none moved standing p from = record { low = omega arith; at = λ es fs o q k l h. absurd (omega arith) }
 
 -- places up to c, then up to d, of which those up to r are asked for
-pub taken-both : (moved standing : List (List ℕ)) (p : Pair) (from c d r : ℕ) → from ≤ r → r ≤ d → Taken moved standing p from c
+pub taken-both : (moved standing : List (List ℕ)) (p : LinePair) (from c d r : ℕ) → from ≤ r → r ≤ d → Taken moved standing p from c
     → Taken moved standing p c d → Taken moved standing p from r
 taken-both moved standing p from c d r l m v w =
     record {

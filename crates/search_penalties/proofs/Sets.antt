@@ -1,30 +1,26 @@
 -- What the line comes to for the strips of pixel sets, in every direction: place k holds document 01's penalty of the moved set with its
 -- corner at k along the line and the standing set with its corner at the bias. Assumes nothing.
 use mathlib.Core.Bool.{Bool, not, _||_}
-use mathlib.Core.List.{List}
 use mathlib.Core.Path.{_≡_, refl, sym, ap, ap₂, _∙_}
 use Prim.Native.Nat.{ℕ, _+_, _-_, min, _<_, _≤_}
 use native.Mathlib.Omega.{arith}
-use lib.ListN.{length, getD}
 use Rattle.model.specs.Bounded.{firstFrom}
-use Rattle.model.specs.Piece.{Point, Shape, other, point, shift, extent}
+use Rattle.model.specs.Piece.{Point, Shape, other, point, extent}
 use Rattle.model.specs.Strip.{strips}
 use Rattle.model.specs.Overlap.{apartAt, depth, penalty}
 use Rattle.model.specs.declared.Direction.{Direction}
 use Rattle.model.specs.declared.Direction.the-variants.{Horizontal, Vertical}
+use Rattle.list_laws.proofs.Firsts.{first-unique}
 use Rattle.strip_laws.proofs.Strips.{strips-maximal}
 use Rattle.overlap_laws.proofs.Depth.{depth-bound}
 use Rattle.overlap_laws.proofs.Penalty.{penalty-symmetric}
-use Rattle.pair_overlap.specs.Meet.{depthBelow}
-use Rattle.pair_overlap.proofs.Firsts.{first-unique}
-use Rattle.pair_overlap.specs.Seen.{entries, seen}
+use Rattle.pair_overlap.specs.Seen.{entries}
 use Rattle.pair_overlap.proofs.Shapes.{at-member, entries-share, depth-cut-first, entries-depth}
-use Rattle.search_penalties.specs.declared.Pair.{Pair}
-use Rattle.search_penalties.specs.Line.{standingAt, movedAt, apartAcross, acrossBelow, alongAt, penaltyAt, valuesFrom, penaltyLine, Boxed}
-use Rattle.search_penalties.proofs.Lines.{values-at}
+use Rattle.search_penalties.specs.declared.LinePair.{LinePair}
+use Rattle.search_penalties.specs.Line.{apartAcross, acrossBelow, alongAt, penaltyAt, valuesFrom, penaltyLine, Boxed}
 
 -- the moved set's corner across, the standing set's corner along and across
-abbrev pub biasedPair : ℕ → ℕ → ℕ → Pair
+abbrev pub biasedPair : ℕ → ℕ → ℕ → LinePair
 biasedPair bias ha hb = record { bias = bias; moved = ha; standing = hb }
 
 -- ── across ──

@@ -9,45 +9,45 @@ use Rattle.model.specs.Bounded.{firstFrom}
 use Rattle.pair_overlap.specs.Meet.{stripAt, stretchesShare, depthBelow}
 use Rattle.pair_overlap.specs.declared.Corner.{Corner}
 use Rattle.search_penalties.specs.declared.Gap.{Gap}
-use Rattle.search_penalties.specs.declared.Pair.{Pair}
+use Rattle.search_penalties.specs.declared.LinePair.{LinePair}
 
 -- the standing piece's corner
-abbrev pub standingAt : Pair → Corner
+abbrev pub standingAt : LinePair → Corner
 standingAt p = record { along = p .bias; across = p .standing }
 
 -- the moved piece's corner at place k
-abbrev pub movedAt : Pair → ℕ → Corner
+abbrev pub movedAt : LinePair → ℕ → Corner
 movedAt p k = record { along = k; across = p .moved }
 
 -- they share a pixel at place k
-abbrev pub takenAt : List (List ℕ) → List (List ℕ) → Pair → ℕ → Bool
+abbrev pub takenAt : List (List ℕ) → List (List ℕ) → LinePair → ℕ → Bool
 takenAt es fs p k = stretchesShare fs (standingAt p) es (movedAt p k)
 
 -- the moved piece shifted by r across the line
-abbrev pub raised : ℕ → Pair → Pair
-raised r p = record { bias = p .bias; moved = p .moved + r; standing = p .standing }
+abbrev pub raisedLine : ℕ → LinePair → LinePair
+raisedLine r p = record { bias = p .bias; moved = p .moved + r; standing = p .standing }
 
 -- the standing piece shifted by r across the line: the moved one by -r
-abbrev pub sunk : ℕ → Pair → Pair
+abbrev pub sunk : ℕ → LinePair → LinePair
 sunk r p = record { bias = p .bias; moved = p .moved; standing = p .standing + r }
 
 -- a shift across by r, up or down, parts them at place k
-abbrev pub apartAcross : List (List ℕ) → List (List ℕ) → Pair → ℕ → ℕ → Bool
-apartAcross es fs p k r = not (takenAt es fs (raised r p) k) || not (takenAt es fs (sunk r p) k)
+abbrev pub apartAcross : List (List ℕ) → List (List ℕ) → LinePair → ℕ → ℕ → Bool
+apartAcross es fs p k r = not (takenAt es fs (raisedLine r p) k) || not (takenAt es fs (sunk r p) k)
 
 -- the least such shift below the bound, or the bound
-unfoldable pub acrossBelow : List (List ℕ) → List (List ℕ) → Pair → ℕ → ℕ → ℕ
+unfoldable pub acrossBelow : List (List ℕ) → List (List ℕ) → LinePair → ℕ → ℕ → ℕ
 acrossBelow es fs p k bound = firstFrom (apartAcross es fs p k) 0 bound
 
 -- the depth along the line at place k, and the depth across it, cut off at the largest byte
-abbrev pub alongAt : List (List ℕ) → List (List ℕ) → Pair → ℕ → ℕ
+abbrev pub alongAt : List (List ℕ) → List (List ℕ) → LinePair → ℕ → ℕ
 alongAt es fs p k = depthBelow fs (standingAt p) es (movedAt p k) 255
 
-abbrev pub acrossAt : List (List ℕ) → List (List ℕ) → Pair → ℕ → ℕ
+abbrev pub acrossAt : List (List ℕ) → List (List ℕ) → LinePair → ℕ → ℕ
 acrossAt es fs p k = acrossBelow es fs p k 255
 
 -- the lesser of the two
-unfoldable pub penaltyAt : List (List ℕ) → List (List ℕ) → Pair → ℕ → ℕ
+unfoldable pub penaltyAt : List (List ℕ) → List (List ℕ) → LinePair → ℕ → ℕ
 penaltyAt es fs p k = min (alongAt es fs p k) (acrossAt es fs p k)
 
 -- f k, f (k + 1), .., n values
@@ -56,20 +56,20 @@ valuesFrom f k zero = []
 valuesFrom f k (suc n) = f k ∷ valuesFrom f (suc k) n
 
 -- the penalties at places 0 .. n - 1
-unfoldable pub penaltyLine : List (List ℕ) → List (List ℕ) → Pair → ℕ → List ℕ
+unfoldable pub penaltyLine : List (List ℕ) → List (List ℕ) → LinePair → ℕ → List ℕ
 penaltyLine es fs p n = valuesFrom (penaltyAt es fs p) 0 n
 
 -- ── what the functions need ──
 
 -- corners and line within reach of every sheet
-pub record Reach (p : Pair) (n : ℕ) : Type 0 where
+pub record LineReach (p : LinePair) (n : ℕ) : Type 0 where
   pub bias : p .bias < 1024
   pub moved : p .moved < 8192
   pub standing : p .standing < 8192
   pub places : n ≤ 1024
 
 -- the line has every place at which the boxes meet: before it and after it they share no pixel
-pub record Boxed (es fs : List (List ℕ)) (p : Pair) (n : ℕ) : Type 0 where
+pub record Boxed (es fs : List (List ℕ)) (p : LinePair) (n : ℕ) : Type 0 where
   pub moved : (i : ℕ) → i < length es → stripAt es i .first + stripAt es i .count ≤ p .bias + 1
   pub standing : (i : ℕ) → i < length fs → stripAt fs i .first + stripAt fs i .count + p .bias ≤ n
 
@@ -103,7 +103,7 @@ pub record FreeFrom (f : ℕ → Bool) (k limit : ℕ) (r : Gap) : Type 0 where
   pub free : (j : ℕ) → r .at ≤ j → j < r .end → f j ≡ false
 
 -- every place holds v
-pub record Filled (v : ℕ) (xs ys : List ℕ) : Type 0 where
+pub record LineFilled (v : ℕ) (xs ys : List ℕ) : Type 0 where
   pub same : length ys ≡ length xs
   pub at : (k : ℕ) → k < length xs → getD ys k 0 ≡ v
 
@@ -160,6 +160,6 @@ pub record FirstAbove (xs : List ℕ) (r from end q : ℕ) : Type 0 where
   pub above : q < end → r < getD xs q 0
 
 -- every place is lowered to the depth across
-pub record Levelled (es fs : List (List ℕ)) (p : Pair) (xs ys : List ℕ) : Type 0 where
+pub record Levelled (es fs : List (List ℕ)) (p : LinePair) (xs ys : List ℕ) : Type 0 where
   pub same : length ys ≡ length xs
   pub at : (k : ℕ) → k < length xs → getD ys k 0 ≡ min (getD xs k 0) (acrossAt es fs p k)

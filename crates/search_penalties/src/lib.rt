@@ -5,15 +5,24 @@
 ghost use mathlib.Core.Path.{_≡_};
 ghost use mathlib.Core.Bool.{true};
 ghost use mathlib.Core.List.{List, []};
-ghost use Prim.Native.Nat.{ℕ, _+_, _-_, _<_, _≤_, min, max};
+ghost use Prim.Native.Nat.{ℕ, _+_, _-_, _<_, _≤_, min};
 ghost use lib.ListN.{length, getD};
 ghost use Rattle.pair_overlap.specs.Meet.{Ordered, stripAt};
-ghost use Rattle.search_penalties.specs.Line.{takenAt, penaltyLine, Reach, Boxed, Grounded, FreeFrom, Filled, Capped, Lowered, farther, Risen, Fallen, LastAbove, FirstAbove, Outside, Spared, Levelled};
-ghost use Rattle.search_penalties.specs.Outlines.{outlineOf, Narrow, Outlined, Outlines, Blank, Widened, Reached, Taken, RunOf, Added};
+ghost use Rattle.search_penalties.specs.Line.{takenAt, penaltyLine, LineReach, Boxed, Grounded, FreeFrom, LineFilled, Capped, Lowered, farther, Risen, Fallen, LastAbove, FirstAbove, Outside, Spared, Levelled};
+ghost use Rattle.search_penalties.specs.Outlines.{outlineOf, Narrow, Outlined, Outlines, Blank, Widened, PlacesReached, Taken, RunOf, OutlineAdded};
 use pair_overlap::Corner;
+use whole_numbers::larger;
+use whole_numbers::smaller;
+use whole_numbers::wide;
+
+// The largest distance that a place of a line holds; a larger one stands as it.
+const FARTHEST: u8 = 255;
+
+// The lines that a strip may lie in.
+const LINES: usize = 256;
 
 // The line of two pieces: the standing piece's coordinate along it, and both pieces' coordinates across it.
-pub struct Pair {
+pub struct LinePair {
     pub bias: u32,
     pub moved: u32,
     pub standing: u32,
@@ -26,7 +35,7 @@ pub struct Gap {
 }
 
 // A strip of a stretch.
-pub struct Run {
+pub struct StripRun {
     pub line: usize,
     pub first: usize,
     pub count: usize,
@@ -39,13 +48,6 @@ pub struct Outline {
     pub gap: usize,
     pub start: usize,
     pub count: usize,
-}
-
-// A byte as a number that sums fit in.
-fn wide(b: u8) -> u32
-    ensures { λ r. ⌜ (r ≡ b) × (b < 256) ⌝ }
-{
-    b as u32
 }
 
 // The lesser of two bytes.
@@ -65,15 +67,15 @@ fn distance(x: u8, d: u8) -> u8
     if x == 0 {
         return 0;
     }
-    if d == 255 {
-        return 255;
+    if d == FARTHEST {
+        return FARTHEST;
     }
     d + 1
 }
 
 // The least place from k on at which the pieces share no pixel, or the limit, and how far the places from it on are known to be free.
-fn free_from(a: &[[u8; 3]], b: &[[u8; 3]], p: Pair, k: usize, limit: usize) -> Gap
-    requires { ⌜ Ordered (now a) ⌝ ∗ ⌜ Ordered (now b) ⌝ ∗ ⌜ Reach p limit ⌝ ∗ ⌜ k ≤ limit ⌝ }
+fn free_from(a: &[[u8; 3]], b: &[[u8; 3]], p: LinePair, k: usize, limit: usize) -> Gap
+    requires { ⌜ Ordered (now a) ⌝ ∗ ⌜ Ordered (now b) ⌝ ∗ ⌜ LineReach p limit ⌝ ∗ ⌜ k ≤ limit ⌝ }
     ensures { λ r. ⌜ FreeFrom (takenAt (now (a .entry)) (now (b .entry)) p) k limit r ⌝ }
 {
     let standing = Corner {
@@ -93,11 +95,11 @@ fn free_from(a: &[[u8; 3]], b: &[[u8; 3]], p: Pair, k: usize, limit: usize) -> G
 
 // Sets every place of the line to the largest byte.
 fn fill(line: &mut [u8])
-    ensures { λ r. ⌜ Filled 255 (now (line .entry)) (now (line .exit)) ⌝ }
+    ensures { λ r. ⌜ LineFilled 255 (now (line .entry)) (now (line .exit)) ⌝ }
 {
     let mut k = 0;
     while k < line.len() {
-        line[k] = 255;
+        line[k] = FARTHEST;
         k += 1;
     }
 }
@@ -116,8 +118,8 @@ fn cap(r: u8, from: usize, end: usize, line: &mut [u8])
 
 // Lowers to r every place at which the pieces share no pixel. Places at r or below stay as they are either way, so they are passed
 // without a look at the strips, and so is all that lies outside of the stretch in which free places are above r.
-fn lower(a: &[[u8; 3]], b: &[[u8; 3]], p: Pair, r: u8, from: usize, end: usize, line: &mut [u8])
-    requires { ⌜ Ordered (now a) ⌝ ∗ ⌜ Ordered (now b) ⌝ ∗ ⌜ Reach p (length (now line)) ⌝ ∗ ⌜ Spared (takenAt (now a) (now b) p) (now line) r from end ⌝ }
+fn lower(a: &[[u8; 3]], b: &[[u8; 3]], p: LinePair, r: u8, from: usize, end: usize, line: &mut [u8])
+    requires { ⌜ Ordered (now a) ⌝ ∗ ⌜ Ordered (now b) ⌝ ∗ ⌜ LineReach p (length (now line)) ⌝ ∗ ⌜ Spared (takenAt (now a) (now b) p) (now line) r from end ⌝ }
     ensures { λ x. ⌜ Lowered (takenAt (now (a .entry)) (now (b .entry)) p) r (now (line .entry)) (now (line .exit)) ⌝ }
 {
     let mut k = from;
@@ -212,26 +214,6 @@ fn past(x: usize, y: usize) -> usize
     x - y
 }
 
-// The larger of two numbers.
-fn larger(x: usize, y: usize) -> usize
-    ensures { λ r. ⌜ r ≡ max x y ⌝ }
-{
-    if x < y {
-        return y;
-    }
-    x
-}
-
-// The smaller of two numbers.
-fn smaller(x: usize, y: usize) -> usize
-    ensures { λ r. ⌜ r ≡ min x y ⌝ }
-{
-    if x < y {
-        return x;
-    }
-    y
-}
-
 // The outline at a place of a table.
 fn outline_at(t: &[[u16; 5]], y: usize) -> Outline
     requires { ⌜ y < length (now t) ⌝ }
@@ -281,11 +263,11 @@ fn widened(o: Outline, first: usize, count: usize) -> Outline
 }
 
 // The strip at i of a stretch.
-fn strip_at(s: &[[u8; 3]], i: usize) -> Run
+fn strip_at(s: &[[u8; 3]], i: usize) -> StripRun
     requires { ⌜ i < length (now s) ⌝ }
     ensures { λ r. ⌜ RunOf (now (s .entry)) i r ⌝ }
 {
-    Run {
+    StripRun {
         line: byte(s[i][0]),
         first: byte(s[i][1]),
         count: byte(s[i][2]),
@@ -293,9 +275,9 @@ fn strip_at(s: &[[u8; 3]], i: usize) -> Run
 }
 
 // Widens the outline of a strip's line by the strip.
-fn add_strip(x: Run, t: &mut [[u16; 5]])
+fn add_strip(x: StripRun, t: &mut [[u16; 5]])
     requires { ⌜ (x .line < 256) × (x .first < 256) × (x .count < 256) × (length (now t) ≡ 256) ⌝ }
-    ensures { λ r. ⌜ Added x (now (t .entry)) (now (t .exit)) ⌝ }
+    ensures { λ r. ⌜ OutlineAdded x (now (t .entry)) (now (t .exit)) ⌝ }
 {
     let y = x.line;
     let old = outline_at(t, y);
@@ -326,9 +308,9 @@ fn outline_lines(s: &[[u8; 3]], t: &mut [[u16; 5]]) -> usize
 }
 
 // The end of the places from c on that are taken because the moved line's strip bridges every gap of the standing line.
-fn strip_reaches(m: Outline, s: Outline, p: Pair, c: usize) -> usize
+fn strip_reaches(m: Outline, s: Outline, p: LinePair, c: usize) -> usize
     requires { ⌜ Narrow m × Narrow s × (p .bias < 1024) × (c < 1000000) ⌝ }
-    ensures { λ r. ⌜ Reached m s p c r ⌝ }
+    ensures { λ r. ⌜ PlacesReached m s p c r ⌝ }
 {
     let bias = p.bias as usize;
     if s.count == 0 {
@@ -347,9 +329,9 @@ fn strip_reaches(m: Outline, s: Outline, p: Pair, c: usize) -> usize
 }
 
 // The end of the places from c on that are taken because the standing line's strip bridges every gap of the moved line.
-fn outline_reaches(m: Outline, s: Outline, p: Pair, c: usize) -> usize
+fn outline_reaches(m: Outline, s: Outline, p: LinePair, c: usize) -> usize
     requires { ⌜ Narrow m × Narrow s × (p .bias < 1024) × (c < 1000000) ⌝ }
-    ensures { λ r. ⌜ Reached m s p c r ⌝ }
+    ensures { λ r. ⌜ PlacesReached m s p c r ⌝ }
 {
     let bias = p.bias as usize;
     if m.count == 0 {
@@ -371,7 +353,7 @@ fn outline_reaches(m: Outline, s: Outline, p: Pair, c: usize) -> usize
 fn climb(
     moved: &[[u16; 5]],
     standing: &[[u16; 5]],
-    p: Pair,
+    p: LinePair,
     y: usize,
     z: usize,
     n: usize,
@@ -401,11 +383,11 @@ fn taken_from(
     moved_lines: usize,
     standing: &[[u16; 5]],
     standing_lines: usize,
-    p: Pair,
+    p: LinePair,
     from: usize,
     end: usize,
 ) -> usize
-    requires { ⌜ («moved_lines» ≤ length (now moved)) × («standing_lines» ≤ length (now standing)) ⌝ ∗ ⌜ Reach p end ⌝ ∗ ⌜ from ≤ end ⌝ }
+    requires { ⌜ («moved_lines» ≤ length (now moved)) × («standing_lines» ≤ length (now standing)) ⌝ ∗ ⌜ LineReach p end ⌝ ∗ ⌜ from ≤ end ⌝ }
     ensures { λ r. ⌜ (r ≤ end) × Taken (now (moved .entry)) (now (standing .entry)) p from r ⌝ }
 {
     let y = past(p.standing as usize, p.moved as usize);
@@ -428,13 +410,13 @@ fn level(
     b: &[[u8; 3]],
     standing: &[[u16; 5]],
     standing_lines: usize,
-    p: Pair,
+    p: LinePair,
     r: u8,
     from: usize,
     end: usize,
     line: &mut [u8],
 )
-    requires { ⌜ Ordered (now a) ⌝ ∗ ⌜ Ordered (now b) ⌝ ∗ ⌜ Reach p (length (now line)) ⌝ ∗ ⌜ Outside (now line) r from end ⌝
+    requires { ⌜ Ordered (now a) ⌝ ∗ ⌜ Ordered (now b) ⌝ ∗ ⌜ LineReach p (length (now line)) ⌝ ∗ ⌜ Outside (now line) r from end ⌝
         ∗ ⌜ Outlines (now a) (now moved) × («moved_lines» ≤ 256) × Outlines (now b) (now standing) × («standing_lines» ≤ 256) ⌝ }
     ensures { λ x. ⌜ Lowered (takenAt (now (a .entry)) (now (b .entry)) p) r (now (line .entry)) (now (line .exit)) ⌝ }
 {
@@ -450,23 +432,23 @@ fn levels(
     b: &[[u8; 3]],
     standing: &[[u16; 5]],
     standing_lines: usize,
-    p: Pair,
+    p: LinePair,
     line: &mut [u8],
 )
-    requires { ⌜ Ordered (now a) ⌝ ∗ ⌜ Ordered (now b) ⌝ ∗ ⌜ Reach p (length (now line)) × (p .moved < 7168) × (p .standing < 7168) ⌝ ∗ ⌜ Grounded (takenAt (now a) (now b) p) (now line) ⌝
+    requires { ⌜ Ordered (now a) ⌝ ∗ ⌜ Ordered (now b) ⌝ ∗ ⌜ LineReach p (length (now line)) × (p .moved < 7168) × (p .standing < 7168) ⌝ ∗ ⌜ Grounded (takenAt (now a) (now b) p) (now line) ⌝
         ∗ ⌜ Outlines (now a) (now moved) × («moved_lines» ≤ 256) × Outlines (now b) (now standing) × («standing_lines» ≤ 256) ⌝ }
     ensures { λ r. ⌜ Levelled (now (a .entry)) (now (b .entry)) p (now (line .entry)) (now (line .exit)) ⌝ }
 {
     let mut r: u8 = 1;
     let mut from = 0;
     let mut end = line.len();
-    while r < 255 {
+    while r < FARTHEST {
         end = last_above(line, r, from, end);
         if end <= from {
             return;
         }
         from = first_above(line, r, from, end);
-        let raised = Pair {
+        let raised = LinePair {
             bias: p.bias,
             moved: p.moved + wide(r),
             standing: p.standing,
@@ -484,7 +466,7 @@ fn levels(
             end,
             line,
         );
-        let sunk = Pair {
+        let sunk = LinePair {
             bias: p.bias,
             moved: p.moved,
             standing: p.standing + wide(r),
@@ -507,8 +489,8 @@ fn levels(
 }
 
 // The penalties of the two pieces at every place of the line, which has every place at which their boxes meet.
-pub fn penalties(a: &[[u8; 3]], b: &[[u8; 3]], p: Pair, line: &mut [u8])
-    requires { ⌜ Ordered (now a) ⌝ ∗ ⌜ Ordered (now b) ⌝ ∗ ⌜ Reach p (length (now line)) × (p .moved < 7168) × (p .standing < 7168) ⌝ ∗ ⌜ Boxed (now a) (now b) p (length (now line)) ⌝ }
+pub fn penalties(a: &[[u8; 3]], b: &[[u8; 3]], p: LinePair, line: &mut [u8])
+    requires { ⌜ Ordered (now a) ⌝ ∗ ⌜ Ordered (now b) ⌝ ∗ ⌜ LineReach p (length (now line)) × (p .moved < 7168) × (p .standing < 7168) ⌝ ∗ ⌜ Boxed (now a) (now b) p (length (now line)) ⌝ }
     ensures { λ r. ⌜ now (line .exit) ≡ penaltyLine (now (a .entry)) (now (b .entry)) p (length (now (line .entry))) ⌝ }
 {
     fill(line);
@@ -516,8 +498,8 @@ pub fn penalties(a: &[[u8; 3]], b: &[[u8; 3]], p: Pair, line: &mut [u8])
     lower(a, b, p, 0, 0, end, line);
     rise(line);
     fall(line);
-    let mut moved = [[0u16; 5]; 256];
-    let mut standing = [[0u16; 5]; 256];
+    let mut moved = [[0u16; 5]; LINES];
+    let mut standing = [[0u16; 5]; LINES];
     let moved_lines = outline_lines(a, &mut moved);
     let standing_lines = outline_lines(b, &mut standing);
     levels(

@@ -1,56 +1,25 @@
 -- The store of shapes while it is filled: those with numbers below k stand in it, and nothing that is written later touches them.
 -- Assumes nothing.
-use mathlib.Core.List.{List, map, _++_, append-assoc}
+use mathlib.Core.List.{List, map}
 use mathlib.Core.Logic.{_⊎_, ⊎-elim}
 use mathlib.Core.Bool.{true}
-use mathlib.Core.Path.{_≡_, refl, sym, ap, _∙_, subst}
-use Prim.Native.Nat.{ℕ, zero, suc, _+_, _*_, _-_, _/_, _%_, _≤_, _<_}
+use mathlib.Core.Path.{_≡_, sym, _∙_, subst}
+use Prim.Native.Nat.{ℕ, _+_, _*_, _-_, _/_, _≤_, _<_}
 use native.Mathlib.Nat.{eq-or-lt-of-le}
 use native.Mathlib.Omega.{arith}
-use lib.ListN.{length, getD, take, drop, set, length-set, length-take, length-drop, length-map, length-append, take-append-drop}
-use lib.Seq.{sets, sets-eq, length-sets, take-append-le, drop-append-le, take-at, drop-at, getD-set-same, getD-set-other}
+use lib.ListN.{length, getD, set, length-set, length-map}
+use lib.Seq.{length-sets, getD-set-same, getD-set-other}
 use Rattle.model.specs.Piece.{Shape, extent, sideBound}
 use Rattle.model.specs.Strip.{Strip, strips}
 use Rattle.model.specs.Buffer.{stripEntry}
-use Rattle.model.specs.Layout.{Job, turnedPiece}
 use Rattle.model.specs.Lent.{Lent, jobOf, lentWell, pieceBound}
 use Rattle.model.specs.declared.Direction.{Direction}
-use Rattle.job_laws.proofs.Checked.{facts}
+use Rattle.list_laws.proofs.Stores.{part-before, part-stored}
+use Rattle.job_laws.proofs.Checked.{facts, entry-at}
 use Rattle.strip_scan.specs.Put.{Appended}
-use Rattle.strip_scan.proofs.Jobs.{entry-at}
 use Rattle.pair_overlap.proofs.Shapes.{entries-ordered}
-use Rattle.search_shapes.specs.Shapes.{shapeNumber, numberedShape, part, ShapeAt, Shapes, StripsOf, Room}
+use Rattle.search_shapes.specs.Shapes.{shapeNumber, numberedShape, part, ShapeAt, Shapes, StripsOf, ShapesRoom}
 use Rattle.search_shapes.proofs.Numbers.{turn-below, number-back, reached, reached-next, reached-few, shape-few, shape-small}
-
--- a part of the front does not depend on what follows it
-front-part : (xs ys : List (List ℕ)) (a n : ℕ) → a + n ≤ length xs → take n (drop a (xs ++ ys)) ≡ take n (drop a xs)
-front-part xs ys a n h =
-    let l : a ≤ length xs = omega arith in
-    let m : n ≤ length (drop a xs) = omega (arith, length-drop a xs) in
-    rw (drop-append-le a xs ys l, take-append-le n (drop a xs) ys m)
-
-module _ (store : List (List ℕ)) (ts : List (List ℕ)) (at : ℕ) (room : at + length ts ≤ length store) where
-  front-length : length (take at store) ≡ at
-  front-length = simp length-take (omega arith)
-
-  -- the front, what is stored, and the rest
-  in-three : sets store at ts ≡ take at store ++ (ts ++ drop (at + length ts) store)
-  in-three = sets-eq ts store at room ∙ append-assoc (take at store) ts (drop (at + length ts) store)
-
-  -- what stands before `at` is as before
-  pub part-before : (a n : ℕ) → a + n ≤ at → take n (drop a (sets store at ts)) ≡ take n (drop a store)
-  part-before a n h =
-      let front = take at store in
-      let b : a + n ≤ length front = omega (arith, front-length) in
-      ap (λ l. take n (drop a l)) in-three ∙ front-part front (ts ++ drop (at + length ts) store) a n b
-      ∙ sym (front-part front (drop at store) a n b) ∙ ap (λ l. take n (drop a l)) (take-append-drop at store)
-
-  -- what was stored stands from `at` on
-  pub part-stored : take (length ts) (drop at (sets store at ts)) ≡ ts
-  part-stored =
-      ap (λ l. take (length ts) (drop at l)) in-three
-      ∙ ap (take (length ts)) (drop-at (take at store) (ts ++ drop (at + length ts) store) at front-length)
-      ∙ take-at ts (drop (at + length ts) store) (length ts) refl
 
 -- the shapes with numbers below k are stored, and the next one goes to `at`
 pub record Made (d : Direction) (l : Lent) (store : List (List ℕ)) (starts : List ℕ) (k at : ℕ) : Type 0 where
@@ -95,7 +64,7 @@ fits-next d l store starts k at e h m =
     }
 
 module _ (d : Direction) (l : Lent) (store after : List (List ℕ)) (starts : List ℕ) (k at next : ℕ) (m : Made d l store starts k at)
-    (f : Fits d l k at) (r : Room store starts) (a : Appended (strips d (numberedShape (jobOf l) k)) store at after next)
+    (f : Fits d l k at) (r : ShapesRoom store starts) (a : Appended (strips d (numberedShape (jobOf l) k)) store at after next)
   where
     long : k + 1 < length starts
     long = let w = r .long in let b = f .piece in let c = f .few in omega arith

@@ -1,14 +1,13 @@
 -- The numbers of shapes: each piece in each turn has its own, and the strips up to one are at most as many as the pixels of the
 -- boxes up to it. Assumes nothing.
-use mathlib.Core.List.{List, map}
+use mathlib.Core.List.{List}
 use mathlib.Core.Logic.{⊎-elim}
-use mathlib.Core.Path.{_≡_, refl, sym, ap, _∙_, subst}
+use mathlib.Core.Path.{_≡_, refl}
 use Prim.Native.Nat.{ℕ, zero, suc, _+_, _*_, _/_, _%_, _≤_, _<_}
 use native.Mathlib.Nat.{suc-mul, mul-le-mul-right}
 use native.Mathlib.Numerals.{add-one}
 use native.Mathlib.Omega.{arith}
 use lib.ListN.{length}
-use Rattle.model.specs.Bounded.{sumBelow}
 use Rattle.model.specs.Piece.{extent, sideBound}
 use Rattle.model.specs.Strip.{strips}
 use Rattle.model.specs.Layout.{Job, turnedPiece}
@@ -16,8 +15,8 @@ use Rattle.model.specs.Lent.{Lent, jobOf, pixelStart, entryArea, entryColumns, 
 use Rattle.model.specs.declared.Direction.{Direction}
 use Rattle.model.specs.declared.Turn.{Turn}
 use Rattle.model.specs.declared.Turn.the-variants.{Zero, Quarter, Half, ThreeQuarters}
+use Rattle.list_laws.proofs.Numbers.{below-or}
 use Rattle.job_laws.proofs.Turned.{turned-extent}
-use Rattle.strip_laws.proofs.Runs.{below-or-not}
 use Rattle.job_laws.proofs.Starts.{start-end}
 use Rattle.strip_scan.proofs.Counts.{strips-few}
 use Rattle.search_shapes.specs.Shapes.{turnNumber, numberedTurn, shapeNumber, numberedShape}
@@ -79,7 +78,7 @@ reached-next table k =
     let f : (k + 1) % 4 ≡ 0 = omega arith in
     let g : n ≡ 3 = omega arith in
     rw (e, f, g) (omega (arith, start-next table i)))
-    (below-or-not n 3)
+    (below-or n 3)
 
 -- the shapes of a job have at most four times as many strips as the boxes have pixels
 pub reached-few : (table : List (List ℕ)) (k n : ℕ) → k < n * 4 → reached table k + entryArea table (k / 4) ≤ 4 * pixelStart table n

@@ -60,7 +60,14 @@ pub record StripsOf (d : Direction) (s : Shape) (stretch : List (List ℕ)) : Ty
   pub same : stretch ≡ map stripEntry (strips d s)
   pub ordered : Ordered stretch
 
+-- the strips that a store of every piece in every turn has room for, and its starts: one for each piece in each turn, and the end
+abbrev pub storeBound : ℕ
+storeBound = 262144
+
+abbrev pub startsBound : ℕ
+startsBound = 257
+
 -- buffers that hold the shapes of every job
-pub record Room (store : List (List ℕ)) (starts : List ℕ) : Type 0 where
-  pub wide : 262144 ≤ length store
-  pub long : 257 ≤ length starts
+pub record ShapesRoom (store : List (List ℕ)) (starts : List ℕ) : Type 0 where
+  pub wide : storeBound ≤ length store
+  pub long : startsBound ≤ length starts

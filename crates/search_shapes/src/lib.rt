@@ -7,10 +7,16 @@ ghost use lib.ListN.{length};
 ghost use Rattle.model.specs.Lent.{lentBy, jobOf, lentWell};
 ghost use Rattle.model.specs.Layout.{Job, turnedPiece};
 ghost use Rattle.model.specs.declared.Direction.{Direction};
-ghost use Rattle.search_shapes.specs.Shapes.{turnNumber, numberedTurn, shapeNumber, Held, Shapes, StripsOf, Room};
+ghost use Rattle.search_shapes.specs.Shapes.{turnNumber, numberedTurn, shapeNumber, Held, Shapes, StripsOf, ShapesRoom, storeBound};
 use model::Direction;
 use model::JobSize;
 use model::Turn;
+
+// The strips that a store of every piece in every turn has room for.
+pub const STORE_LENGTH: usize = 262144;
+
+// Its starts: one for each piece in each turn, and the end.
+pub const STARTS_LENGTH: usize = 4 * model::PIECE_BOUND + 1;
 
 // The number of a turn.
 fn turn_number(turn: Turn) -> usize
@@ -45,10 +51,10 @@ pub fn shape_number(piece: usize, turn: Turn) -> usize
 }
 
 // A store with room for the strips of every piece in every turn. What it holds plays no part, so that no caller's proof computes with it.
-pub fn empty_store() -> [[u8; 3]; 262144]
-    ensures { λ r. ⌜ length r ≡ 262144 ⌝ }
+pub fn empty_store() -> [[u8; 3]; STORE_LENGTH]
+    ensures { λ r. ⌜ length r ≡ storeBound ⌝ }
 {
-    [[0u8; 3]; 262144]
+    [[0u8; 3]; STORE_LENGTH]
 }
 
 // Makes the strips of every piece in every turn along the direction, allowed or not.
@@ -60,7 +66,7 @@ pub fn make_shapes(
     store: &mut [[u8; 3]],
     starts: &mut [u32],
 )
-    requires { ⌜ lentWell (lentBy size (now table) (now pixels)) ≡ true ⌝ ∗ ⌜ Room (now store) (now starts) ⌝ }
+    requires { ⌜ lentWell (lentBy size (now table) (now pixels)) ≡ true ⌝ ∗ ⌜ ShapesRoom (now store) (now starts) ⌝ }
     ensures { λ r. ⌜ Shapes direction (jobOf (lentBy size (now (table .entry)) (now (pixels .entry)))) (now (store .exit)) (now (starts .exit)) ⌝ }
 {
     let last = size.count * 4;

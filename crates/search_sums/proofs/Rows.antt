@@ -1,15 +1,16 @@
 -- Running sums over the rows of the table of penalties and over the weights beside it. Assumes nothing.
-use mathlib.Core.List.{List, _∷_}
-use mathlib.Core.Path.{_≡_, refl, sym, ap, ap₂, _∙_, subst}
-use Prim.Native.Nat.{ℕ, zero, suc, _+_, _*_, _-_, _/_, _<_, _≤_}
-use native.Mathlib.Nat.{mul-le-mul, not-suc-le-zero, le-of-suc-le-suc}
+use mathlib.Core.List.{List}
+use mathlib.Core.Path.{_≡_, sym, ap, ap₂, _∙_, subst}
+use Prim.Native.Nat.{ℕ, suc, _+_, _*_, _-_, _/_, _<_, _≤_}
+use native.Mathlib.Nat.{mul-le-mul}
 use native.Mathlib.Numerals.{add-one}
 use native.Mathlib.Omega.{arith}
 use lib.ListN.{length, getD, take, replicate}
 use Rattle.model.specs.Bounded.{sumBelow}
 use Rattle.model.specs.Layout.{Job, Layout, pairs, pieceSum, weightedSum, unitWeights}
+use Rattle.list_laws.proofs.Sums.{sum-step, sum-agree}
+use Rattle.list_laws.proofs.Lists.{take-repeat}
 use Rattle.descent_laws.proofs.Bounds.{pairs-at-most}
-use Rattle.model.proofs.Sums.{sum-step, sum-agree}
 use Rattle.search_laws.specs.Pairs.{rowStart, pairIndex}
 use Rattle.search_laws.proofs.Pairs.{pair-below, row-start-twice}
 use Rattle.search_laws.specs.PieceSum.{weightBetween}
@@ -90,7 +91,7 @@ part-there n i k at h l e =
     rw q at p
 
 -- a pair (i, k) of the table, and the position of its weight
-pub record Place (n i k at : ℕ) (T ws : List ℕ) : Type 0 where
+pub record PairPlace (n i k at : ℕ) (T ws : List ℕ) : Type 0 where
   pub few : n ≤ 64
   pub size : length T ≡ 4096
   pub above : i < k
@@ -100,7 +101,7 @@ pub record Place (n i k at : ℕ) (T ws : List ℕ) : Type 0 where
 
 -- along row i
 pub row-place : (n i k at from : ℕ) (T ws : List ℕ) → Weighed n T ws → from ≡ rowStart n i → i + 1 ≤ k → k < n → at + (i + 1) ≡ from + k
-    → Place n i k at T ws
+    → PairPlace n i k at T ws
 row-place n i k at from T ws w s h l e =
     let few = w .few in
     let one = w .onePerPair in
@@ -127,14 +128,9 @@ parts-more n T ws i from sum part f e p = ap₂ _+_ e (p ∙ ap (rowPart n T ws 
 
 -- ── weights 1 ──
 
-take-same : (m n a : ℕ) → m ≤ n → take m (replicate n a) ≡ replicate m a
-take-same zero n a h = refl
-take-same (suc m) zero a h = absurd (not-suc-le-zero h)
-take-same (suc m) (suc n) a h = ap (λ l. a ∷ l) (take-same m n a (le-of-suc-le-suc h))
-
 -- the first so many of many weights 1
 pub ones-taken : (n count : ℕ) (ones : List ℕ) → n ≤ 64 → ones ≡ replicate 2016 1 → count ≡ length (pairs n) → take count ones ≡ unitWeights n
 unfolding unitWeights
 ones-taken n count ones few e c =
     let most = pairs-at-most n few in
-    rw (e, c) (take-same (length (pairs n)) 2016 1 (omega arith))
+    rw (e, c) (take-repeat (length (pairs n)) 2016 1 (omega arith))

@@ -1,12 +1,16 @@
 // Sums over the table of pair penalties (64 x 64 entries, that of pieces i and k at i * 64 + k and at k * 64 + i) and the weights beside
 // it, which stand in the order of the pairs; and the weights that rise after a round. Document 01, 'No-fit rows and penalty' and 'Descent
 // and guidance'. The number of pieces is n.
+use model::PAIR_BOUND;
+use model::PIECE_BOUND;
+use model::WEIGHT_BOUND;
 ghost use mathlib.Core.Path.{_≡_};
 ghost use mathlib.Core.List.{List};
 ghost use Prim.Native.Nat.{ℕ, _+_, _<_, _≤_, _^_};
 ghost use lib.ListN.{length, replicate};
 ghost use Rattle.model.specs.Layout.{Job, Layout, pairs, pieceSum, weightedSum, plainSum};
 ghost use Rattle.model.specs.Guided.{raised};
+ghost use Rattle.model.specs.Lent.{pieceBound};
 ghost use Rattle.descent_laws.specs.Claims.{ValidWeights};
 ghost use Rattle.search_laws.specs.Pairs.{rowStart, pairIndex};
 ghost use Rattle.search_laws.specs.PieceSum.{weightBetween};
@@ -16,7 +20,7 @@ ghost use Rattle.search_sums.specs.Table.{Weighed, rowPart, raisedAt};
 
 // How many pairs n pieces have.
 pub fn pair_count(n: usize) -> usize
-    requires { ⌜ n ≤ 64 ⌝ }
+    requires { ⌜ n ≤ pieceBound ⌝ }
     ensures { λ r. ⌜ r ≡ length (pairs n) ⌝ }
 {
     if n == 0 {
@@ -28,7 +32,7 @@ pub fn pair_count(n: usize) -> usize
 
 // The position of the pair (i, k), i below k, among the pairs of n pieces.
 pub fn pair_index(n: usize, i: usize, k: usize) -> usize
-    requires { ⌜ (n ≤ 64) × ((i < k) × (k < n)) ⌝ }
+    requires { ⌜ (n ≤ pieceBound) × ((i < k) × (k < n)) ⌝ }
     ensures { λ r. ⌜ r ≡ pairIndex n i k ⌝ }
 {
     n * i - i * (i + 1) / 2 + (k - (i + 1))
@@ -36,7 +40,7 @@ pub fn pair_index(n: usize, i: usize, k: usize) -> usize
 
 // The weight of pieces i and k; 0 where they are one.
 pub fn weight_between(weights: &[u32], n: usize, i: usize, k: usize) -> u64
-    requires { ⌜ (n ≤ 64) × ((i < n) × (k < n)) ⌝ ∗ ⌜ length (now weights) ≡ length (pairs n) ⌝ }
+    requires { ⌜ (n ≤ pieceBound) × ((i < n) × (k < n)) ⌝ ∗ ⌜ length (now weights) ≡ length (pairs n) ⌝ }
     ensures weight { λ r. ⌜ r ≡ weightBetween n (now (weights .entry)) i k ⌝ }
     ensures small { λ r. ⌜ r < 2 ^ 32 ⌝ }
 {
@@ -57,7 +61,7 @@ pub fn row_sum(penalties: &[u8], weights: &[u32], n: usize, i: usize) -> u64
     let mut sum = 0;
     let mut k = 0;
     while k < n {
-        sum += weight_between(weights, n, i, k) * (penalties[i * 64 + k] as u64);
+        sum += weight_between(weights, n, i, k) * (penalties[i * PIECE_BOUND + k] as u64);
         k += 1;
     }
     sum
@@ -73,7 +77,7 @@ fn row_part(penalties: &[u8], weights: &[u32], n: usize, i: usize, from: usize) 
     let mut k = i + 1;
     let mut at = from;
     while k < n {
-        sum += (weights[at] as u64) * (penalties[i * 64 + k] as u64);
+        sum += (weights[at] as u64) * (penalties[i * PIECE_BOUND + k] as u64);
         k += 1;
         at += 1;
     }
@@ -97,15 +101,15 @@ pub fn total(penalties: &[u8], weights: &[u32], n: usize) -> u64
 }
 
 // Weights 1 for every pair of 64 pieces.
-fn ones() -> [u32; 2016]
+fn ones() -> [u32; PAIR_BOUND]
     ensures { λ r. ⌜ r ≡ replicate 2016 1 ⌝ }
 {
-    [1u32; 2016]
+    [1u32; PAIR_BOUND]
 }
 
 // The plain sum: the weighted sum by weights 1.
 pub fn plain_total(penalties: &[u8], n: usize) -> u64
-    requires { ⌜ (n ≤ 64) × (length (now penalties) ≡ 4096) ⌝ }
+    requires { ⌜ (n ≤ pieceBound) × (length (now penalties) ≡ 4096) ⌝ }
     ensures { λ r. ⌜ ((j : Job) (v : Layout) → j .size .count ≡ n → PenaltyTable j v n (now (penalties .entry)) → r ≡ plainSum j v) ⌝ }
 {
     let weights = ones();
@@ -121,7 +125,7 @@ fn raise_pair(weights: &mut [u32], at: usize, penalty: u8)
     if penalty == 0 {
         return;
     }
-    if weights[at] < 65535 {
+    if weights[at] < WEIGHT_BOUND {
         weights[at] += 1;
     }
 }
@@ -134,7 +138,7 @@ fn raise_row(penalties: &[u8], weights: &mut [u32], n: usize, i: usize, from: us
     let mut k = i + 1;
     let mut at = from;
     while k < n {
-        raise_pair(weights, at, penalties[i * 64 + k]);
+        raise_pair(weights, at, penalties[i * PIECE_BOUND + k]);
         k += 1;
         at += 1;
     }

@@ -15,7 +15,7 @@ use Rattle.model.specs.Buffer.{layoutOf}
 use Rattle.model.specs.declared.Direction.{Direction}
 use Rattle.model.specs.declared.Direction.the-variants.{Horizontal, Vertical}
 use Rattle.model.specs.declared.Placement.{Placement}
-use Rattle.model.proofs.Tests.{and-left, and-right}
+use Rattle.list_laws.proofs.Tests.{and-left, and-right}
 use Rattle.job_laws.proofs.Checked.{facts}
 use Rattle.overlap_laws.proofs.Penalty.{penalty-zero, penalty-bound}
 use Rattle.pair_overlap.specs.Meet.{Near, stretchesShare, penaltyBelow}
@@ -25,7 +25,7 @@ use Rattle.pair_overlap.proofs.Shapes.{entries-share, entries-penalty}
 use Rattle.search_laws.proofs.Covering.{share-boxes}
 use Rattle.search_laws.specs.PieceSum.{penaltyPlaced}
 use Rattle.search_shapes.specs.Shapes.{Shapes, StripsOf}
-use Rattle.search_table.specs.Drawn.{Laid, shareAt, penaltyAt, OnSheet}
+use Rattle.search_table.specs.Drawn.{Laid, shareAt, placedPenalty, OnSheet}
 
 -- a layout of a job that passes its check has at most 64 placements
 pub few-placed : (l : Lent) (es : List (List ℕ)) → Laid l es → length es ≤ pieceBound
@@ -88,12 +88,12 @@ module _ (l : Lent) (i : ℕ) (p : Placement) (k : ℕ) (q : Placement) (a b : L
     -- with the column strips: their penalty
     pub stretches-penalty : (c d : List (List ℕ)) → StripsOf Vertical (turnedPiece (jobOf l) i (p .turn)) c
         → StripsOf Vertical (turnedPiece (jobOf l) k (q .turn)) d → (bound : ℕ)
-        → penaltyBelow a c u b d v bound ≡ min (penaltyAt l i p k q) bound
+        → penaltyBelow a c u b d v bound ≡ min (placedPenalty l i p k q) bound
     stretches-penalty c d ca cb bound = rw (ra .same, rb .same, ca .same, cb .same, us, vs) (entries-penalty _ (corner p) _ (corner q) bound)
 
 -- the penalty of two placed pieces is at most 255
 pub placed-bound : (l : Lent) (rows : List (List ℕ)) (starts : List ℕ) → Shapes Horizontal (jobOf l) rows starts
-    → (i : ℕ) (p : Placement) (k : ℕ) (q : Placement) → i < jobOf l .size .count → k < jobOf l .size .count → penaltyAt l i p k q ≤ 255
+    → (i : ℕ) (p : Placement) (k : ℕ) (q : Placement) → i < jobOf l .size .count → k < jobOf l .size .count → placedPenalty l i p k q ≤ 255
 placed-bound l rows starts s i p k q b c =
     penalty-bound (turnedPiece (jobOf l) i (p .turn)) (corner p) (turnedPiece (jobOf l) k (q .turn)) (corner q) Horizontal (s .at i (p .turn) b .small)
     (s .at k (q .turn) c .small)
@@ -106,10 +106,10 @@ placed-apart l v i p k q e s = sym (penalty-zero _ (corner p) _ (corner (placeOf
 
 -- and else
 pub placed-is : (l : Lent) (v : Layout) (i : ℕ) (p : Placement) (k : ℕ) (q : Placement) (r : ℕ) → q ≡ placeOf v k
-    → r ≡ min (penaltyAt l i p k q) 256
-    → penaltyAt l i p k q ≤ 255 → r ≡ penaltyPlaced (jobOf l) v i p k
+    → r ≡ min (placedPenalty l i p k q) 256
+    → placedPenalty l i p k q ≤ 255 → r ≡ penaltyPlaced (jobOf l) v i p k
 unfolding penaltyPlaced
-placed-is l v i p k q r e m b = let f : r ≡ penaltyAt l i p k q = omega arith in rw e at f
+placed-is l v i p k q r e m b = let f : r ≡ placedPenalty l i p k q = omega arith in rw e at f
 
 -- the pair of the layout
 pub pair-is : (l : Lent) (v : Layout) (i k : ℕ) (p q : Placement) → p ≡ placeOf v i → q ≡ placeOf v k → shareAt l i p k q ≡ pairShares (jobOf l) v (pairOf i k)

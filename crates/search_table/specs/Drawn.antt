@@ -47,8 +47,8 @@ abbrev pub shareAt : Lent → ℕ → Placement → ℕ → Placement → Bool
 shareAt l i p k q = share (turnedPiece (jobOf l) i (p .turn)) (corner p) (turnedPiece (jobOf l) k (q .turn)) (corner q)
 
 -- their penalty
-abbrev pub penaltyAt : Lent → ℕ → Placement → ℕ → Placement → ℕ
-penaltyAt l i p k q = penalty (turnedPiece (jobOf l) i (p .turn)) (corner p) (turnedPiece (jobOf l) k (q .turn)) (corner q)
+abbrev pub placedPenalty : Lent → ℕ → Placement → ℕ → Placement → ℕ
+placedPenalty l i p k q = penalty (turnedPiece (jobOf l) i (p .turn)) (corner p) (turnedPiece (jobOf l) k (q .turn)) (corner q)
 
 -- a corner on the largest sheet
 pub record OnSheet (p : Placement) : Type 0 where

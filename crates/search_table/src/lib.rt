@@ -3,6 +3,7 @@
 pub mod pair;
 
 use layout_places::place_at;
+use model::PIECE_BOUND;
 use model::Placement;
 use pair::placed_penalty;
 ghost use mathlib.Core.Path.{_≡_};
@@ -14,6 +15,9 @@ ghost use Rattle.model.specs.Buffer.{layoutOf};
 ghost use Rattle.model.specs.declared.JobSize.{JobSize};
 ghost use Rattle.search_laws.specs.Table.{PenaltyTable, Renewed};
 ghost use Rattle.search_table.specs.Drawn.{Drawn, SomeDrawn, OnSheet};
+
+// The entries of the table: one for each two piece numbers.
+pub const TABLE_LENGTH: usize = PIECE_BOUND * PIECE_BOUND;
 
 // Makes the entries of pieces i, placed as given, and k.
 fn renew_pair(
@@ -45,8 +49,8 @@ fn renew_pair(
         place,
         k,
     ) as u8;
-    penalties[i * 64 + k] = p;
-    penalties[k * 64 + i] = p;
+    penalties[i * PIECE_BOUND + k] = p;
+    penalties[k * PIECE_BOUND + i] = p;
 }
 
 // Makes the entries of piece i, placed as given, and each piece below `count`.

@@ -17,8 +17,8 @@ use Rattle.layout_places.specs.declared.Sides.{Sides}
 use Rattle.layout_places.specs.Boxes.{sidesOf}
 use Rattle.search_tracks.specs.declared.Mover.{Mover}
 use Rattle.search_tracks.specs.declared.Track.{Track}
-use Rattle.search_tracks.specs.declared.Standing.{Standing}
-use Rattle.search_tracks.specs.Boxes.{roomOn, trackOn, trackOf, standingOf, SmallTrack, SmallStanding, BoxesMeet, Reached}
+use Rattle.search_tracks.specs.declared.StandingPiece.{StandingPiece}
+use Rattle.search_tracks.specs.Boxes.{roomOn, trackOn, trackOf, standingOf, SmallTrack, SmallStanding, BoxesMeet, MeetingReach}
 
 -- a line that leaves the sheet's height has no place
 pub room-none : (length width held sheet height : ℕ) → height < held + width → 0 ≡ roomOn length width held sheet height
@@ -48,26 +48,26 @@ module _ (j : Job) (m : Mover) (s : Sides) (room : ℕ) (sides : s ≡ sidesOf (
 module _ (j : Job) (v : Layout) (k : ℕ) (p : Placement) (s : Sides) (placed : p ≡ placeOf v k) (sides : s ≡ sidesOf (turnedPiece j k (p .turn))) where
   -- beside a row
   pub standing-row : (d : Direction) → d ≡ Horizontal
-      → _≡_ {A = Standing} (record { turn = p .turn; along = p .x .0; across = p .y .0; length = s .columns; width = s .rows }) (standingOf j v d k)
+      → _≡_ {A = StandingPiece} (record { turn = p .turn; along = p .x .0; across = p .y .0; length = s .columns; width = s .rows }) (standingOf j v d k)
   standing-row d e = rw (e, sides, placed)
 
   -- beside a column
   pub standing-column : (d : Direction) → d ≡ Vertical
-      → _≡_ {A = Standing} (record { turn = p .turn; along = p .y .0; across = p .x .0; length = s .rows; width = s .columns }) (standingOf j v d k)
+      → _≡_ {A = StandingPiece} (record { turn = p .turn; along = p .y .0; across = p .x .0; length = s .rows; width = s .columns }) (standingOf j v d k)
   standing-column d e = rw (e, sides, placed)
 
 -- ── where boxes meet ──
 
 -- boxes that are apart across meet nowhere
-pub reach-none : (t : Track) (s : Standing) → ((a : ℕ) → BoxesMeet t s a → ⊥) → Reached t s (record { low = 0; high = 0; from = 0 })
+pub reach-none : (t : Track) (s : StandingPiece) → ((a : ℕ) → BoxesMeet t s a → ⊥) → MeetingReach t s (record { low = 0; high = 0; from = 0 })
 reach-none t s h = record { within = omega arith; touching = λ l. absurd (omega arith); outside = λ a l o m. h a m }
 
-module _ (t : Track) (s : Standing) (small : SmallTrack t) (near : SmallStanding s) (some : 0 < t .length) (below : t .held < s .across + s .width)
+module _ (t : Track) (s : StandingPiece) (small : SmallTrack t) (near : SmallStanding s) (some : 0 < t .length) (below : t .held < s .across + s .width)
     (above : s .across < t .held + t .width) (low high from : ℕ) (first : low ≡ s .along + 1 - t .length)
     (last : high ≡ min (t .places) (s .along + s .length)) (begin : from ≡ low + t .length - (s .along + 1))
   where
     -- the others meet from the first place at which the moving one reaches the standing one up to the last
-    pub reach-meeting : Reached t s (record { low = low; high = high; from = from })
+    pub reach-meeting : MeetingReach t s (record { low = low; high = high; from = from })
     reach-meeting =
         record {
           within = omega arith;

@@ -10,9 +10,10 @@ use Rattle.model.specs.Search.{places}
 use Rattle.model.specs.declared.Direction.{Direction}
 use Rattle.model.specs.declared.Turn.{Turn}
 use Rattle.model.specs.declared.Line.{Line}
+use Rattle.model.specs.Lent.{sideBound}
 use Rattle.search_tracks.specs.declared.Mover.{Mover}
 use Rattle.search_tracks.specs.declared.Track.{Track}
-use Rattle.search_tracks.specs.declared.Standing.{Standing}
+use Rattle.search_tracks.specs.declared.StandingPiece.{StandingPiece}
 use Rattle.search_tracks.specs.declared.Reach.{Reach}
 
 -- how many inside corners a line has for a box
@@ -34,7 +35,7 @@ abbrev pub trackOf : Job → Mover → Track
 trackOf j m = trackOn j (m .piece) (m .turn) (m .line)
 
 -- a standing piece beside a line
-abbrev pub standingOf : Job → Layout → Direction → ℕ → Standing
+abbrev pub standingOf : Job → Layout → Direction → ℕ → StandingPiece
 standingOf j v d k =
     record {
       turn = placeOf v k .turn;
@@ -46,33 +47,33 @@ standingOf j v d k =
 
 -- numbers that sums fit in
 pub record SmallTrack (t : Track) : Type 0 where
-  pub length : t .length ≤ 255
-  pub width : t .width ≤ 255
+  pub length : t .length ≤ sideBound
+  pub width : t .width ≤ sideBound
   pub held : t .held ≤ 65535
   pub places : t .places ≤ 4097 - t .length
 
-pub record SmallStanding (s : Standing) : Type 0 where
+pub record SmallStanding (s : StandingPiece) : Type 0 where
   pub along : s .along ≤ 65535
   pub across : s .across ≤ 65535
-  pub length : s .length ≤ 255
-  pub width : s .width ≤ 255
+  pub length : s .length ≤ sideBound
+  pub width : s .width ≤ sideBound
 
 -- the boxes meet with the moving piece at place a
-pub record BoxesMeet (t : Track) (s : Standing) (a : ℕ) : Type 0 where
+pub record BoxesMeet (t : Track) (s : StandingPiece) (a : ℕ) : Type 0 where
   pub before : a < s .along + s .length
   pub behind : s .along < a + t .length
   pub below : t .held < s .across + s .width
   pub above : s .across < t .held + t .width
 
 -- what holds where there is such a place: where the places begin in the line of the two, that they end in it, and the offset across
-pub record Touching (t : Track) (s : Standing) (r : Reach) : Type 0 where
+pub record Touching (t : Track) (s : StandingPiece) (r : Reach) : Type 0 where
   pub begins : r .from + s .along ≡ r .low + (t .length - 1)
   pub ends : r .from + (r .high - r .low) ≤ t .length + s .length - 1
   pub lifted : t .held ≤ s .across + 255
   pub near : s .across + 255 - t .held < 1024
 
 -- r names the places at which the boxes meet
-pub record Reached (t : Track) (s : Standing) (r : Reach) : Type 0 where
+pub record MeetingReach (t : Track) (s : StandingPiece) (r : Reach) : Type 0 where
   pub within : r .high ≤ t .places
   pub touching : r .low < r .high → Touching t s r
   pub outside : (a : ℕ) → a < t .places → (a < r .low) ⊎ (r .high ≤ a) → BoxesMeet t s a → ⊥

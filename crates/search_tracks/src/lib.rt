@@ -3,15 +3,16 @@ use model::Direction;
 use model::JobSize;
 use model::Line;
 use model::Turn;
+use whole_numbers::smaller;
 ghost use mathlib.Core.Path.{_≡_};
 ghost use mathlib.Core.List.{List};
-ghost use Prim.Native.Nat.{ℕ, min, _+_, _-_, _<_, _≤_};
+ghost use Prim.Native.Nat.{ℕ, _+_, _-_, _<_, _≤_};
 ghost use lib.ListN.{length};
 ghost use Rattle.model.specs.Piece.{lineDirection};
-ghost use Rattle.model.specs.Lent.{lentBy, jobOf};
+ghost use Rattle.model.specs.Lent.{lentBy, jobOf, columnBound, sideBound};
 ghost use Rattle.model.specs.Buffer.{layoutOf};
 ghost use Rattle.model.specs.declared.JobSize.{JobSize};
-ghost use Rattle.search_tracks.specs.Boxes.{trackOf, standingOf, roomOn, SmallTrack, SmallStanding, Reached};
+ghost use Rattle.search_tracks.specs.Boxes.{trackOf, standingOf, roomOn, SmallTrack, SmallStanding, MeetingReach};
 
 // A piece that moves: its number, its turn and the line that it moves on.
 pub struct Mover {
@@ -29,7 +30,7 @@ pub struct Track {
 }
 
 // A standing piece beside the line: its turn, its corner's coordinates along and across, and its box's sides along and across.
-pub struct Standing {
+pub struct StandingPiece {
     pub turn: Turn,
     pub along: usize,
     pub across: usize,
@@ -57,7 +58,7 @@ pub fn direction_of(line: Line) -> Direction
 
 // How many inside corners a line has for a box: sides along and across, the held coordinate, the sheet's sides along and across.
 fn room_on(length: usize, width: usize, held: usize, sheet: usize, height: usize) -> usize
-    requires { ⌜ (width ≤ 255) × ((held ≤ 65535) × (sheet ≤ 4096)) ⌝ }
+    requires { ⌜ (width ≤ sideBound) × ((held ≤ 65535) × (sheet ≤ columnBound)) ⌝ }
     ensures room { λ r. ⌜ r ≡ roomOn length width held sheet height ⌝ }
     ensures small { λ r. ⌜ r ≤ sheet + 1 - length ⌝ }
 {
@@ -72,7 +73,7 @@ fn room_on(length: usize, width: usize, held: usize, sheet: usize, height: usize
 
 // The moving piece on its line.
 pub fn track_of(size: JobSize, table: &[[u8; 3]], mover: Mover) -> Track
-    requires { ⌜ (mover .piece < length (now table)) × ((size .columns ≤ 4096) × (size .rows ≤ 4096)) ⌝ }
+    requires { ⌜ (mover .piece < length (now table)) × ((size .columns ≤ columnBound) × (size .rows ≤ columnBound)) ⌝ }
     ensures track { λ r. ⌜ ((pixels : List ℕ) → r ≡ trackOf (jobOf (lentBy size (now (table .entry)) pixels)) mover) ⌝ }
     ensures small { λ r. ⌜ SmallTrack r ⌝ }
 {
@@ -108,7 +109,7 @@ pub fn standing_of(
     layout: &[[u16; 3]],
     direction: Direction,
     k: usize,
-) -> Standing
+) -> StandingPiece
     requires { ⌜ (k < length (now table)) × (k < length (now layout)) ⌝ }
     ensures standing { λ r. ⌜ ((size : JobSize) (pixels : List ℕ) → r ≡ standingOf (jobOf (lentBy size (now (table .entry)) pixels)) (layoutOf (now (layout .entry))) direction k) ⌝ }
     ensures small { λ r. ⌜ SmallStanding r ⌝ }
@@ -119,14 +120,14 @@ pub fn standing_of(
     let x = place.x.0 as usize;
     let y = place.y.0 as usize;
     match direction {
-        Direction::Horizontal => Standing {
+        Direction::Horizontal => StandingPiece {
             turn: turn,
             along: x,
             across: y,
             length: sides.columns,
             width: sides.rows,
         },
-        Direction::Vertical => Standing {
+        Direction::Vertical => StandingPiece {
             turn: turn,
             along: y,
             across: x,
@@ -147,17 +148,10 @@ fn low_of(along: usize, length: usize) -> usize
     along + 1 - length
 }
 
-// The lesser of two numbers.
-fn lesser(a: usize, b: usize) -> usize
-    ensures { λ r. ⌜ r ≡ min a b ⌝ }
-{
-    if a < b { a } else { b }
-}
-
 // Where the boxes meet.
-pub fn reach_of(track: Track, standing: Standing) -> Reach
+pub fn reach_of(track: Track, standing: StandingPiece) -> Reach
     requires { ⌜ SmallTrack track ⌝ ∗ ⌜ SmallStanding standing ⌝ ∗ ⌜ 0 < track .length ⌝ }
-    ensures { λ r. ⌜ Reached track standing r ⌝ }
+    ensures { λ r. ⌜ MeetingReach track standing r ⌝ }
 {
     if standing.across + standing.width <= track.held {
         return Reach {
@@ -174,7 +168,7 @@ pub fn reach_of(track: Track, standing: Standing) -> Reach
         };
     }
     let low = low_of(standing.along, track.length);
-    let high = lesser(track.places, standing.along + standing.length);
+    let high = smaller(track.places, standing.along + standing.length);
     Reach {
         low: low,
         high: high,

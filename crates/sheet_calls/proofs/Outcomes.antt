@@ -9,7 +9,7 @@ use lib.Dec.{eqb}
 use lib.ListN.{length, getD}
 use lib.Seq.{ext-getD}
 use borrow.Author.Tests.{not-false, eqb-true, eq-eqb, ne-eqb}
-use Rattle.model.specs.Bounded.{one-if}
+use Rattle.model.specs.Bounded.{oneIf}
 use Rattle.model.specs.Layout.{Job, inside}
 use Rattle.model.specs.Lent.{Lent, jobOf, lentWell}
 use Rattle.model.specs.Refusal.{Outcome, refused, given, Cause, cause, unless, notOurs}
@@ -18,7 +18,7 @@ use Rattle.model.specs.Cover.{Sheet, entryIn, mapFrom, coversPixel, fresh, lay,
 use Rattle.model.specs.declared.Placement.{Placement}
 use Rattle.model.specs.declared.Entry.{Entry}
 use Rattle.model.specs.declared.Record.{Record}
-use Rattle.model.proofs.Tests.{clash}
+use Rattle.list_laws.proofs.Tests.{clash}
 use Rattle.text_laws.proofs.Outcomes.{unless-given}
 use Rattle.text_laws.specs.Outcomes.{NoCause}
 use Rattle.cover_laws.proofs.Calls.{LayTaken, WithdrawTaken, lay-given, withdraw-given, length-mapFrom, getD-mapFrom}
@@ -164,7 +164,7 @@ moved-lays j i p s room =
     let l′ : k < length (s .counts) = rw (length-mapFrom (λ m c. moved true (coversPixel j i p m) c) 0 (s .counts)) at l in
     getD-mapFrom (λ m c. moved true (coversPixel j i p m) c) 0 (s .counts) k l′
     ∙ moved-up (coversPixel j i p (0 + k)) (getD (s .counts) k 0) (room k l′)
-    ∙ sym (getD-mapFrom (λ m c. c + one-if (coversPixel j i p m)) 0 (s .counts) k l′))
+    ∙ sym (getD-mapFrom (λ m c. c + oneIf (coversPixel j i p m)) 0 (s .counts) k l′))
 
 -- withdrawing takes one off
 pub moved-withdraws : (j : Job) (i : ℕ) (s : Sheet) (e : Entry) → e ≡ entryIn (s .pieces) i
@@ -172,7 +172,7 @@ pub moved-withdraws : (j : Job) (i : ℕ) (s : Sheet) (e : Entry) → e ≡ entr
 unfolding withdraw
 moved-withdraws j i s e same =
     ap (λ (f : ℕ → ℕ → ℕ). mapFrom f 0 (s .counts)) (fun-ext (λ k. fun-ext (λ c. moved-down (coversPixel j i (e .place) k) c)))
-    ∙ ap (λ (x : Entry). mapFrom (λ k c. c - one-if (coversPixel j i (x .place) k)) 0 (s .counts)) same
+    ∙ ap (λ (x : Entry). mapFrom (λ k c. c - oneIf (coversPixel j i (x .place) k)) 0 (s .counts)) same
 
 -- a piece that may be withdrawn lies inside
 pub withdrawn-inside : (j : Job) (s : Sheet) (i : ℕ) (e : Entry) → e ≡ entryIn (s .pieces) i → sheetWell j s ≡ true → WithdrawTaken j s i

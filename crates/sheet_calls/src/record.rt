@@ -3,6 +3,7 @@ use crate::Reply;
 use crate::SheetAnswer;
 use model::Column;
 use model::Entry;
+use model::PIECE_BOUND;
 use model::Placement;
 use model::Record;
 use model::Row;
@@ -10,6 +11,7 @@ use model::Turn;
 ghost use mathlib.Core.Path.{_≡_};
 ghost use Prim.Native.Nat.{_<_};
 ghost use Rattle.model.specs.Layout.{origin};
+ghost use Rattle.model.specs.Lent.{pieceBound};
 ghost use Rattle.sheet_calls.specs.Answers.{blankRecord, withEntry, answerBy};
 
 // Turn 0 at corner (0, 0): the place in the entry of a piece that is not laid.
@@ -31,13 +33,13 @@ pub fn blank_record() -> Record
         laid: false,
         place: origin(),
     };
-    let pieces = [entry; 64];
+    let pieces = [entry; PIECE_BOUND];
     Record { pieces }
 }
 
 // The record with another entry for piece i.
 pub fn with_entry(mut sheet: Record, i: usize, entry: Entry) -> Record
-    requires { ⌜ i < 64 ⌝ }
+    requires { ⌜ i < pieceBound ⌝ }
     ensures { λ r. ⌜ r ≡ withEntry sheet i entry ⌝ }
 {
     sheet.pieces[i] = entry;

@@ -9,7 +9,7 @@ ghost use mathlib.Core.Path.{_≡_};
 ghost use mathlib.Core.List.{List, []};
 ghost use Prim.Native.Nat.{ℕ, _≤_};
 ghost use lib.ListN.{length};
-ghost use Rattle.model.specs.Lent.{lentBy, jobOf};
+ghost use Rattle.model.specs.Lent.{lentBy, jobOf, pieceBound};
 ghost use Rattle.model.specs.Calls.{sheetCauses};
 ghost use Rattle.model.specs.Cover.{layCauses, withdrawCauses};
 ghost use Rattle.sheet_calls.specs.Answers.{sheetOf, firstNumber, bufferCauses};
@@ -55,7 +55,7 @@ pub fn lay_refusal(
     piece: usize,
     place: Placement,
 ) -> u8
-    requires { ⌜ (size .count ≤ length (now table)) × (size .count ≤ 64) ⌝ }
+    requires { ⌜ (size .count ≤ length (now table)) × (size .count ≤ pieceBound) ⌝ }
     ensures { λ r. ⌜ ((pixels counts : List ℕ) → r ≡ firstNumber (layCauses (jobOf (lentBy size (now (table .entry)) pixels)) (sheetOf sheet counts) piece place)) ⌝ }
 {
     let turn = place.turn;
@@ -74,7 +74,7 @@ pub fn lay_refusal(
 
 // Of withdraw: then 9 no such piece, 14 not laid.
 pub fn withdraw_refusal(size: JobSize, sheet: Record, piece: usize) -> u8
-    requires { ⌜ size .count ≤ 64 ⌝ }
+    requires { ⌜ size .count ≤ pieceBound ⌝ }
     ensures { λ r. ⌜ ((table : List (List ℕ)) (pixels counts : List ℕ) → r ≡ firstNumber (withdrawCauses (jobOf (lentBy size table pixels)) (sheetOf sheet counts) piece)) ⌝ }
 {
     if size.count <= piece {

@@ -1,6 +1,6 @@
 -- The test of an entry, part by part, and what a record of entries that pass it says of a laid piece. Assumes nothing.
-use mathlib.Core.Bool.{Bool, true, false, _&&_}
-use mathlib.Core.Path.{_≡_, refl}
+use mathlib.Core.Bool.{true, false, _&&_, and-true}
+use mathlib.Core.Path.{_≡_}
 use mathlib.Core.List.{List}
 use Prim.Native.Nat.{ℕ, _*_}
 use lib.Dec.{ltb}
@@ -34,10 +34,6 @@ module _ (j : Job) (es : List Entry) (i : ℕ) (e : Entry) (same : e ≡ entryIn
       → inside j i (e .place) ≡ entryWell j es i
   unfolding entryWell
   inside-passes b laid here = rw (← same, b, laid, here)
-
-and-true : (a : Bool) → (a && true) ≡ a
-and-true true = refl
-and-true false = refl
 
 -- of the test of a sheet whose record and counts have their lengths, the tests of the entries and of the counts are left
 pub sheet-tests : (j : Job) (s : Sheet) → length (s .pieces) ≡ pieceBound → length (s .counts) ≡ j .size .rows * j .size .columns

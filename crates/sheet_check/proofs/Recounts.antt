@@ -10,17 +10,17 @@ use native.Mathlib.Nat.{zero-add}
 use native.Mathlib.Numerals.{add-one}
 use native.Mathlib.Omega.{arith}
 use lib.Dec.{eqb}
-use lib.ListN.{length, getD, take, replicate, length-replicate, getD-replicate}
-use lib.Seq.{ext-getD, length-take-le}
+use lib.ListN.{length, getD, replicate, length-replicate, getD-replicate}
+use lib.Seq.{ext-getD}
 use borrow.Author.Tests.{lt-ltb, eqb-true, eq-eqb}
-use Rattle.model.specs.Bounded.{allBelow, sumBelow, one-if}
+use Rattle.model.specs.Bounded.{allBelow, sumBelow, oneIf}
 use Rattle.model.specs.Layout.{Job, inside}
 use Rattle.model.specs.Lent.{pieceBound}
 use Rattle.model.specs.Cover.{entryIn, mapFrom, laidOn, laidCount, entryWell}
 use Rattle.model.specs.declared.Entry.{Entry}
-use Rattle.model.proofs.Tests.{clash, same-tests}
-use Rattle.model.proofs.Bounded.{all-at, all-from}
-use Rattle.model.proofs.Sums.{passing-bound}
+use Rattle.list_laws.proofs.Sums.{passing-bound}
+use Rattle.list_laws.proofs.Bounded.{all-at, all-from}
+use Rattle.list_laws.proofs.Tests.{clash, same-tests}
 use Rattle.cover_laws.proofs.Calls.{length-mapFrom, getD-mapFrom}
 use Rattle.cover_laws.proofs.Counts.{LaidWell}
 use Rattle.cover_laws.proofs.Reached.{entry-sound}
@@ -30,12 +30,12 @@ use Rattle.sheet_check.specs.Counted.{addedEntry, Recounted}
 -- ── one count ──
 
 -- below a byte's last count, laying adds one where the piece covers the pixel
-pub moved-up : (b : Bool) (c : ℕ) → c < 255 → moved true b c ≡ c + one-if b
+pub moved-up : (b : Bool) (c : ℕ) → c < 255 → moved true b c ≡ c + oneIf b
 moved-up true c l = rw (lt-ltb c 255 l, moved)
 moved-up false c l = omega arith
 
 -- withdrawing takes one off
-pub moved-down : (b : Bool) (c : ℕ) → moved false b c ≡ c - one-if b
+pub moved-down : (b : Bool) (c : ℕ) → moved false b c ≡ c - oneIf b
 moved-down true c = refl
 moved-down false c = omega arith
 
@@ -67,7 +67,7 @@ laid-added j es i e cs same laid = sym (rw (← same, laid))
 
 -- each count is the number of the pieces below i that are laid on its pixel
 abbrev pub CountedBelow : Job → List Entry → ℕ → List ℕ → Type 0
-CountedBelow j es i cs = (k : ℕ) → k < length cs → getD cs k 0 ≡ sumBelow i (λ m. one-if (laidOn j es k m))
+CountedBelow j es i cs = (k : ℕ) → k < length cs → getD cs k 0 ≡ sumBelow i (λ m. oneIf (laidOn j es k m))
 
 pub length-added : (j : Job) (es : List Entry) (i : ℕ) (cs : List ℕ) → length (addedEntry j es i cs) ≡ length cs
 length-added j es i cs = length-mapFrom _ 0 cs
@@ -80,11 +80,11 @@ none-counted j es n k l = getD-replicate n k 0 0 (rw (length-replicate {A = ℕ}
 pub added-below : (j : Job) (es : List Entry) (i : ℕ) (cs : List ℕ) → i < pieceBound → CountedBelow j es i cs → CountedBelow j es (i + 1) (addedEntry j es i cs)
 added-below j es i cs few counted k l =
     let l′ : k < length cs = rw (length-added j es i cs) at l in
-    let so : getD cs k 0 ≡ sumBelow i (λ m. one-if (laidOn j es k m)) = counted k l′ in
-    let bound : sumBelow i (λ m. one-if (laidOn j es k m)) ≤ i = passing-bound i (laidOn j es k) in
+    let so : getD cs k 0 ≡ sumBelow i (λ m. oneIf (laidOn j es k m)) = counted k l′ in
+    let bound : sumBelow i (λ m. oneIf (laidOn j es k m)) ≤ i = passing-bound i (laidOn j es k) in
     getD-mapFrom (λ m c. moved true (laidOn j es m i) c) 0 cs k l′ ∙ ap (λ (n : ℕ). moved true (laidOn j es n i) (getD cs k 0)) (zero-add k)
-    ∙ moved-up (laidOn j es k i) (getD cs k 0) (omega arith) ∙ ap (λ (n : ℕ). n + one-if (laidOn j es k i)) so
-    ∙ sym (ap (λ (n : ℕ). sumBelow n (λ m. one-if (laidOn j es k m))) (add-one i))
+    ∙ moved-up (laidOn j es k i) (getD cs k 0) (omega arith) ∙ ap (λ (n : ℕ). n + oneIf (laidOn j es k i)) so
+    ∙ sym (ap (λ (n : ℕ). sumBelow n (λ m. oneIf (laidOn j es k m))) (add-one i))
 
 -- after all pieces
 pub all-counted : (j : Job) (es : List Entry) (cs : List ℕ) → length cs ≡ j .size .rows * j .size .columns → CountedBelow j es (j .size .count) cs → Recounted j es cs
@@ -109,7 +109,3 @@ same-counted j es made cs r known full is-same same-is =
     let l′ : k < j .size .rows * j .size .columns = let e = known .full in omega arith in
     known .counts k l′
     ∙ sym (eqb-true (getD cs k 0) (laidCount j es k) (all-at (j .size .rows * j .size .columns) (λ m. eqb (getD cs m 0) (laidCount j es m)) t k l′)))))
-
--- a front of n counts is n long
-pub front-length : (n : ℕ) (cs : List ℕ) → n ≤ length cs → n ≡ length (take n cs)
-front-length n cs h = sym (length-take-le n cs h)

@@ -1,7 +1,9 @@
 // The test for refusal 8 of lay and withdraw: a record and counts that some list of calls gives. Every entry is blank or a piece laid
 // well, and the counts are those that the laid pieces make anew.
+use model::AREA_BOUND;
 use model::Entry;
 use model::JobSize;
+use model::PIECE_BOUND;
 use model::Record;
 use model::Turn;
 ghost use mathlib.Core.Path.{_≡_};
@@ -12,13 +14,13 @@ ghost use lib.Dec.{ltb};
 ghost use lib.ListN.{length};
 ghost use Rattle.model.specs.Bounded.{allBelow};
 ghost use Rattle.model.specs.Layout.{allowed};
-ghost use Rattle.model.specs.Lent.{lentBy, jobOf, lentWell};
+ghost use Rattle.model.specs.Lent.{lentBy, jobOf, lentWell, pieceBound};
 ghost use Rattle.model.specs.Cover.{entryIn, isBlank, entryWell, sheetWell};
 ghost use Rattle.sheet_check.specs.Counted.{CanCount, Recounted, addedEntry, countsWell};
 
 // The entry of piece i.
 pub fn entry_of(sheet: Record, i: usize) -> Entry
-    requires { ⌜ i < 64 ⌝ }
+    requires { ⌜ i < pieceBound ⌝ }
     ensures { λ r. ⌜ r ≡ entryIn (sheet .pieces) i ⌝ }
 {
     sheet.pieces[i]
@@ -55,7 +57,7 @@ pub fn known(size: JobSize, table: &[[u8; 3]], i: usize, turn: Turn) -> bool
 
 // The entry of piece i is blank, or that of a piece of the job laid inside in an allowed turn.
 fn entry_well(size: JobSize, table: &[[u8; 3]], sheet: Record, i: usize) -> bool
-    requires { ⌜ (size .count ≤ length (now table)) × (i < 64) ⌝ }
+    requires { ⌜ (size .count ≤ length (now table)) × (i < pieceBound) ⌝ }
     ensures { λ r. ⌜ ((pixels : List ℕ) → r ≡ entryWell (jobOf (lentBy size (now (table .entry)) pixels)) (sheet .pieces) i) ⌝ }
 {
     let entry = entry_of(sheet, i);
@@ -76,10 +78,10 @@ fn entry_well(size: JobSize, table: &[[u8; 3]], sheet: Record, i: usize) -> bool
 // Every entry is well.
 fn entries_well(size: JobSize, table: &[[u8; 3]], sheet: Record) -> bool
     requires { ⌜ size .count ≤ length (now table) ⌝ }
-    ensures { λ r. ⌜ ((pixels : List ℕ) → r ≡ allBelow 64 (entryWell (jobOf (lentBy size (now (table .entry)) pixels)) (sheet .pieces))) ⌝ }
+    ensures { λ r. ⌜ ((pixels : List ℕ) → r ≡ allBelow pieceBound (entryWell (jobOf (lentBy size (now (table .entry)) pixels)) (sheet .pieces))) ⌝ }
 {
     let mut i = 0;
-    while i < 64 {
+    while i < PIECE_BOUND {
         if !entry_well(size, table, sheet, i) {
             return false;
         }
@@ -150,7 +152,7 @@ fn counts_well(
     requires { ⌜ CanCount (lentBy size (now table) (now pixels)) (sheet .pieces) (length (now counts)) ⌝ }
     ensures { λ r. ⌜ r ≡ countsWell (jobOf (lentBy size (now (table .entry)) (now (pixels .entry)))) (sheet .pieces) (now (counts .entry)) ⌝ }
 {
-    let mut made = [0u8; 65536];
+    let mut made = [0u8; AREA_BOUND];
     counts_match(size, table, pixels, sheet, counts, &mut made)
 }
 

@@ -15,30 +15,30 @@ use Rattle.model.specs.Lent.{Lent, jobOf, pixelStart}
 use Rattle.model.specs.Cover.{coversPixel}
 use Rattle.model.specs.declared.Turn.{Turn}
 use Rattle.model.specs.declared.Placement.{Placement}
-use Rattle.model.proofs.Tests.{and-left, and-right}
+use Rattle.list_laws.proofs.Tests.{and-left, and-right}
 use Rattle.job_laws.proofs.Checked.{Facts, facts}
 use Rattle.piece_pixels.specs.Turned.{sidesOf, madeOf, shownBy}
 use Rattle.piece_pixels.specs.declared.Sides.{Sides}
 use Rattle.piece_pixels.specs.declared.TurnedPiece.{TurnedPiece}
 use Rattle.piece_pixels.proofs.Cells.{shown-sides}
-use Rattle.sheet_counts.specs.Stamp.{movedBy, Room, onAt, movedRows}
-use Rattle.sheet_counts.specs.Ready.{Ready}
+use Rattle.sheet_counts.specs.Stamp.{movedBy, StampRoom, onAt, movedRows}
+use Rattle.sheet_counts.specs.Ready.{StampReady}
 use Rattle.sheet_counts.proofs.Rows.{stamped}
 
 -- ── the piece's turned box ──
 
 -- piece i's box in a turn
-abbrev pub boxAt : Lent → ℕ → Turn → TurnedPiece
-boxAt l i t = madeOf (l .table) i (pixelStart (l .table) i) t
+abbrev pub turnedPieceAt : Lent → ℕ → Turn → TurnedPiece
+turnedPieceAt l i t = madeOf (l .table) i (pixelStart (l .table) i) t
 
 -- its sides are those of the turned piece
-box-sides : (l : Lent) (i : ℕ) (t : Turn) → sidesOf (shownBy [] (boxAt l i t)) ≡ sidesOf (turnedPiece (jobOf l) i t)
+box-sides : (l : Lent) (i : ℕ) (t : Turn) → sidesOf (shownBy [] (turnedPieceAt l i t)) ≡ sidesOf (turnedPiece (jobOf l) i t)
 unfolding jobOf
-box-sides l i t = shown-sides (l .pixels) (boxAt l i t)
+box-sides l i t = shown-sides (l .pixels) (turnedPieceAt l i t)
 
 -- ── the piece on the sheet ──
 
-module _ (l : Lent) (i : ℕ) (p : Placement) (room : ℕ) (ready : Ready l i p room) where
+module _ (l : Lent) (i : ℕ) (p : Placement) (room : ℕ) (ready : StampReady l i p room) where
   abbrev known : Facts l
   known = facts l (ready .well)
 
@@ -65,7 +65,7 @@ module _ (l : Lent) (i : ℕ) (p : Placement) (room : ℕ) (ready : Ready l i p 
 
   -- the counts have room for its rows
   pub rows-room : turnedPiece (jobOf l) i (p .turn) .rows ≤ 255
-      → Room (boxAt l i (p .turn)) (p .y .0 * l .size .columns + p .x .0) (l .size .columns) (turnedPiece (jobOf l) i (p .turn) .columns)
+      → StampRoom (turnedPieceAt l i (p .turn)) (p .y .0 * l .size .columns + p .x .0) (l .size .columns) (turnedPiece (jobOf l) i (p .turn) .columns)
       (turnedPiece (jobOf l) i (p .turn) .rows) room
   rows-room small =
       record {
@@ -87,7 +87,7 @@ module _ (l : Lent) (i : ℕ) (p : Placement) (room : ℕ) (ready : Ready l i p 
 
   -- moving its rows is what the sheet's definition says of the piece
   pub piece-moved : (up : Bool) (cs : List ℕ) → length cs ≡ room
-      → movedRows up (onAt (l .pixels) (boxAt l i (p .turn))) (l .size .columns) (turnedPiece (jobOf l) i (p .turn) .columns) cs
+      → movedRows up (onAt (l .pixels) (turnedPieceAt l i (p .turn))) (l .size .columns) (turnedPiece (jobOf l) i (p .turn) .columns) cs
       (p .y .0 * l .size .columns + p .x .0) 0 (turnedPiece (jobOf l) i (p .turn) .rows)
       ≡ movedBy up (jobOf l) i p cs
   unfolding coversPixel jobOf

@@ -15,9 +15,9 @@ use borrow.Author.Tests.{ltb-true, ltb-false, leb-true, lt-ltb, le-leb}
 use Rattle.model.specs.Piece.{Point, Shape, covers}
 use Rattle.model.specs.Layout.{Job}
 use Rattle.model.specs.Cover.{pixelAt, mapFrom}
-use Rattle.model.proofs.Tests.{and-left, and-right, and-both, clash, decided}
+use Rattle.list_laws.proofs.Tests.{and-left, and-right, and-both, clash, decided}
 use Rattle.cover_laws.proofs.Calls.{length-mapFrom, getD-mapFrom}
-use Rattle.cover_laws.proofs.Pixels.{pixel-at, OnSheet, number-pixel}
+use Rattle.cover_laws.proofs.Pixels.{pixel-at, PixelOnSheet, number-pixel}
 use Rattle.sheet_counts.specs.Stamp.{moved, movedRun, movedRows}
 use Rattle.sheet_counts.proofs.Runs.{length-run, run-outside, run-inside}
 
@@ -106,7 +106,7 @@ fails-more true false c d h e = refl
 fails-more false b c d h e = refl
 
 -- the sheet's pixel q is the place in column e and row d of the box of s with its corner at v
-pub record Within (s : Shape) (v q : Point) : Type 0 where
+pub record RowWithin (s : Shape) (v q : Point) : Type 0 where
   pub e : ℕ
   pub d : ℕ
   pub column : e < s .columns
@@ -124,7 +124,7 @@ pub record Beside (s : Shape) (v q : Point) : Type 0 where
 abbrev boxTest : Shape → Point → Point → Bool
 boxTest s v q = leb (v .x) (q .x) && leb (v .y) (q .y) && (ltb (q .x - v .x) (s .columns) && ltb (q .y - v .y) (s .rows))
 
-inner-place : (s : Shape) (v q : Point) → boxTest s v q ≡ true → Within s v q
+inner-place : (s : Shape) (v q : Point) → boxTest s v q ≡ true → RowWithin s v q
 inner-place s v q t =
     let low = and-left (leb (v .x) (q .x) && leb (v .y) (q .y)) (ltb (q .x - v .x) (s .columns) && ltb (q .y - v .y) (s .rows)) t in
     let high = and-right (leb (v .x) (q .x) && leb (v .y) (q .y)) (ltb (q .x - v .x) (s .columns) && ltb (q .y - v .y) (s .rows)) t in
@@ -158,7 +158,7 @@ outer-place s v q t =
     }
 
 -- a pixel is in the box or beside it
-pub box-cases : (s : Shape) (v q : Point) → Within s v q ⊎ Beside s v q
+pub box-cases : (s : Shape) (v q : Point) → RowWithin s v q ⊎ Beside s v q
 box-cases s v q = ⊎-elim (λ t. inl (inner-place s v q t)) (λ t. inr (outer-place s v q t)) (decided (boxTest s v q))
 
 module _ (j : Job) (s : Shape) (v : Point) (long : v .x + s .columns ≤ j .size .columns) (wide : v .y + s .rows ≤ j .size .rows) where
@@ -178,10 +178,10 @@ module _ (j : Job) (s : Shape) (v : Point) (long : v .x + s .columns ≤ j .size
       ≡ moved up (covers s v (pixelAt j k)) (getD cs k 0)
   stamped-at up cs k full l = ⊎-elim inner outer (box-cases s v (pixelAt j k))
     where
-      on : OnSheet j k (pixelAt j k)
+      on : PixelOnSheet j k (pixelAt j k)
       on = number-pixel j k (omega arith)
 
-      inner : Within s v (pixelAt j k) → getD (movedRows up (λ y x. s .has x y) (j .size .columns) (s .columns) cs first 0 (s .rows)) k 0
+      inner : RowWithin s v (pixelAt j k) → getD (movedRows up (λ y x. s .has x y) (j .size .columns) (s .columns) cs first 0 (s .rows)) k 0
           ≡ moved up (covers s v (pixelAt j k)) (getD cs k 0)
       inner w =
           let here : k ≡ first + (w .d * j .size .columns + w .e) = place-number (w .d) (w .e) k (pixelAt j k) (on .number) (w .x) (w .y) in

@@ -8,7 +8,7 @@ use Rattle.model.specs.declared.Placement.{Placement}
 
 -- piece i may be laid at the placement or taken off it: the job is well, the piece is one of it, inside, and there is a count for
 -- each pixel
-pub record Ready (l : Lent) (i : ℕ) (p : Placement) (room : ℕ) : Type 0 where
+pub record StampReady (l : Lent) (i : ℕ) (p : Placement) (room : ℕ) : Type 0 where
   pub well : lentWell l ≡ true
   pub piece : i < l .size .count
   pub within : inside (jobOf l) i p ≡ true

@@ -8,7 +8,8 @@ use lib.ListN.{getD, set}
 use Rattle.model.specs.Layout.{Job}
 use Rattle.model.specs.Cover.{mapFrom, coversPixel}
 use Rattle.model.specs.declared.Placement.{Placement}
-use Rattle.piece_pixels.specs.Turned.{shownBy, InBox}
+use Rattle.model.specs.Lent.{columnBound}
+use Rattle.piece_pixels.specs.Turned.{shownBy, InTurnedBox}
 use Rattle.piece_pixels.specs.declared.TurnedPiece.{TurnedPiece}
 
 -- the count of a pixel after a piece is laid (up) or withdrawn, which covers it or not; a byte's last count stays
@@ -22,10 +23,10 @@ abbrev pub movedBy : Bool → Job → ℕ → Placement → List ℕ → List �
 movedBy up j i p cs = mapFrom (λ k c. moved up (coversPixel j i p k) c) 0 cs
 
 -- the counts have room for so many rows of so many columns from the number `first` on, and these are places of the turned box
-pub record Room (b : TurnedPiece) (first sheet width height room : ℕ) : Type 0 where
-  pub places : (x y : ℕ) → x < width → y < height → InBox b x y
-  pub sheets : sheet ≤ 4096
-  pub tall : height ≤ 4096
+pub record StampRoom (b : TurnedPiece) (first sheet width height room : ℕ) : Type 0 where
+  pub places : (x y : ℕ) → x < width → y < height → InTurnedBox b x y
+  pub sheets : sheet ≤ columnBound
+  pub tall : height ≤ columnBound
   pub rows : (d : ℕ) → d < height → first + d * sheet + width ≤ room
 
 -- the turned piece has the pixel (x, y)

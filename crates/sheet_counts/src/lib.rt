@@ -5,10 +5,13 @@ use piece_pixels::TurnedPiece;
 ghost use mathlib.Core.Path.{_≡_};
 ghost use Prim.Native.Nat.{ℕ, _+_, _*_, _<_, _≤_};
 ghost use lib.ListN.{length, replicate};
-ghost use Rattle.model.specs.Lent.{lentBy, jobOf};
-ghost use Rattle.piece_pixels.specs.Turned.{InBox, Stored};
-ghost use Rattle.sheet_counts.specs.Stamp.{moved, movedBy, Room, onAt, movedRun, movedRows};
-ghost use Rattle.sheet_counts.specs.Ready.{Ready};
+ghost use Rattle.model.specs.Lent.{lentBy, jobOf, columnBound};
+ghost use Rattle.piece_pixels.specs.Turned.{InTurnedBox, PixelStored};
+ghost use Rattle.sheet_counts.specs.Stamp.{moved, movedBy, StampRoom, onAt, movedRun, movedRows};
+ghost use Rattle.sheet_counts.specs.Ready.{StampReady};
+
+// The largest count.
+const COUNT_BOUND: u8 = 255;
 
 // The count after a piece is laid (up) or withdrawn that covers the pixel or not.
 fn moved_count(count: u8, on: bool, up: bool) -> u8
@@ -18,7 +21,7 @@ fn moved_count(count: u8, on: bool, up: bool) -> u8
         return count;
     }
     if up {
-        if count < 255 {
+        if count < COUNT_BOUND {
             return count + 1;
         }
         // At most 64 pieces lie on a pixel: this does not happen.
@@ -41,7 +44,7 @@ fn move_row(
     up: bool,
     counts: &mut [u8],
 )
-    requires { ⌜ Stored (now pixels) piece × ((x : ℕ) → x < width → InBox piece x y) × (from + width ≤ length (now counts)) ⌝ }
+    requires { ⌜ PixelStored (now pixels) piece × ((x : ℕ) → x < width → InTurnedBox piece x y) × (from + width ≤ length (now counts)) ⌝ }
     ensures { λ _. ⌜ now (counts .exit) ≡ movedRun up (onAt (now (pixels .entry)) piece y) from (now (counts .entry)) 0 width ⌝ }
 {
     let mut x = 0;
@@ -64,7 +67,7 @@ fn move_rows(
     up: bool,
     counts: &mut [u8],
 )
-    requires { ⌜ Stored (now pixels) piece × Room piece first sheet width height (length (now counts)) ⌝ }
+    requires { ⌜ PixelStored (now pixels) piece × StampRoom piece first sheet width height (length (now counts)) ⌝ }
     ensures { λ _. ⌜ now (counts .exit) ≡ movedRows up (onAt (now (pixels .entry)) piece) sheet width (now (counts .entry)) first 0 height ⌝ }
 {
     let mut from = first;
@@ -96,7 +99,7 @@ fn wide(k: u16) -> usize
 
 // The number of the count at a placement's corner.
 fn corner_number(sheet: usize, place: Placement) -> usize
-    requires { ⌜ sheet ≤ 4096 ⌝ }
+    requires { ⌜ sheet ≤ columnBound ⌝ }
     ensures { λ r. ⌜ r ≡ place .y .0 * sheet + place .x .0 ⌝ }
 {
     wide(place.y.0) * sheet + wide(place.x.0)
@@ -112,7 +115,7 @@ pub fn move_piece(
     up: bool,
     counts: &mut [u8],
 )
-    requires { ⌜ Ready (lentBy size (now table) (now pixels)) i place (length (now counts)) ⌝ }
+    requires { ⌜ StampReady (lentBy size (now table) (now pixels)) i place (length (now counts)) ⌝ }
     ensures { λ _. ⌜ now (counts .exit) ≡ movedBy up (jobOf (lentBy size (now (table .entry)) (now (pixels .entry)))) i place (now (counts .entry)) ⌝ }
 {
     let turn = place.turn;

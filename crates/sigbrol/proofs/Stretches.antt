@@ -8,7 +8,7 @@ use Rattle.model.specs.Lent.{Lent}
 use Rattle.model.specs.Calls.{Stores, leaving, stretchCall, stretchGiven, stretchNumber}
 use Rattle.model.specs.declared.Direction.{Direction}
 use Rattle.call_laws.proofs.Stores.{stretch-tells}
-use Rattle.strip_calls.proofs.Outcomes.{Passed, stretch-passed}
+use Rattle.strip_calls.proofs.Outcomes.{StretchPassed, stretch-passed}
 use Rattle.sigbrol.specs.Places.{stretchStart}
 
 -- what is not empty has no number
@@ -23,11 +23,11 @@ number-leaves content before (given part) h = absurd (h refl)
 
 module _ (l : Lent) (ts : List ℕ) (lent : Stores) (i : ℕ) (d : Direction) where
   -- a stretch that is not empty is given, and either store can be cut at the piece
-  pub stretch-there : (length (stretchGiven (stretchCall l ts lent i d)) ≡ 0 → ⊥) → Passed l ts lent i d
+  pub stretch-there : (length (stretchGiven (stretchCall l ts lent i d)) ≡ 0 → ⊥) → StretchPassed l ts lent i d
   stretch-there h = stretch-passed l ts lent i d (some-number (stretchCall l ts lent i d) h)
 
   -- its start is what is left
-  pub start-left : (before : ℕ) → Passed l ts lent i d → stretchStart d lent i ≡ leaving (λ part. stretchStart d lent i) before (stretchCall l ts lent i d)
+  pub start-left : (before : ℕ) → StretchPassed l ts lent i d → stretchStart d lent i ≡ leaving (λ part. stretchStart d lent i) before (stretchCall l ts lent i d)
   start-left before p = rw (p .gives)
 
   -- an empty one is refused

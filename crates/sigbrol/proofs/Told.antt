@@ -36,7 +36,7 @@ use Rattle.run_descent_calls.specs.declared.DescentAnswer.{DescentAnswer}
 use Rattle.run_descent.specs.declared.Ended.{Ended}
 use Rattle.run_guided_calls.specs.Answers.{guidedAnswer}
 use Rattle.run_guided_calls.specs.declared.GuidedAnswer.{GuidedAnswer}
-use Rattle.run_guided_calls.specs.declared.Run.{Run}
+use Rattle.run_guided_calls.specs.declared.RunTotals.{RunTotals}
 use Rattle.c_interface.specs.Replies.{replyTo}
 use Rattle.job_calls.specs.Reading.{readAnswer}
 use Rattle.job_calls.specs.declared.JobAnswer.{JobAnswer}
@@ -77,9 +77,9 @@ leaves-by f g before o e = ap (leaving g before) e ∙ telling-leaves f g before
 -- ── a reply of number 0 ──
 
 -- every cause has a number, and none is 0
-abbrev pub Numbered : List Cause → Type 0
-Numbered [] = Unit {0}
-Numbered (c ∷ cs) = (0 < c .number) × Numbered cs
+abbrev pub ReplyNumbered : List Cause → Type 0
+ReplyNumbered [] = Unit {0}
+ReplyNumbered (c ∷ cs) = (0 < c .number) × ReplyNumbered cs
 
 -- a cause that is there gives its number
 numbered-step : {A : Type 0} (t : Bool) (c : Cause) (o : Outcome A) (r : Refusal) → 0 < c .number → (o ≡ refused r → 0 < r .number)
@@ -91,7 +91,7 @@ numbered-step true c o r l later e =
 numbered-step false c o r l later e = later e
 
 -- a refusal by such causes has a number other than 0
-pub refused-numbered : {A : Type 0} (cs : List Cause) (a : A) (r : Refusal) → Numbered cs → unless cs a ≡ refused r → 0 < r .number
+pub refused-numbered : {A : Type 0} (cs : List Cause) (a : A) (r : Refusal) → ReplyNumbered cs → unless cs a ≡ refused r → 0 < r .number
 unfolding unless
 refused-numbered [] a r n e = let z : _≡_ {A = ℕ} 0 1 = cc in absurd (omega arith)
 refused-numbered (c ∷ cs) a r n e = numbered-step (c .there) c (unless cs a) r (n .0) (refused-numbered cs a r (n .1)) e
@@ -234,13 +234,13 @@ ended-told (refused r) e = ap endedTold e
 ended-told (given d) e = ap endedTold e
 
 -- what a guided run comes to beside its buffers
-abbrev pub runOf : Guided → Run
-runOf g = record { sum = g .sum; made = g .made; moves = g .moves }
+abbrev pub toldRun : Guided → RunTotals
+toldRun g = record { sum = g .sum; made = g .made; moves = g .moves }
 
-abbrev pub ranTold : GuidedAnswer → Outcome Run
+abbrev pub ranTold : GuidedAnswer → Outcome RunTotals
 ranTold (GuidedAnswer.Refused r) = refused r
 ranTold (GuidedAnswer.Ran run) = given run
 
-pub ran-told : (o : Outcome Guided) {x : GuidedAnswer} → x ≡ guidedAnswer o → ranTold x ≡ telling runOf o
+pub ran-told : (o : Outcome Guided) {x : GuidedAnswer} → x ≡ guidedAnswer o → ranTold x ≡ telling toldRun o
 ran-told (refused r) e = ap ranTold e
 ran-told (given g) e = ap ranTold e

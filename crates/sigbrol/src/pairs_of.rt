@@ -7,14 +7,14 @@ use c_interface::size_of;
 use pair_calls::AmountAnswer;
 use pair_calls::ShareAnswer;
 ghost use mathlib.Core.Path.{_≡_};
-ghost use Rattle.model.specs.Bounded.{one-if};
+ghost use Rattle.model.specs.Bounded.{oneIf};
 ghost use Rattle.model.specs.Calls.{leaving, shareCall, depthCall, penaltyCall};
 ghost use Rattle.c_interface.specs.Numbers.{lentAs, directionOf};
 ghost use Rattle.c_interface.specs.Replies.{replyTo};
 
 // 1 for yes, 0 for no.
 fn bit_of(yes: bool) -> u8
-    ensures { λ r. ⌜ r ≡ one-if yes ⌝ }
+    ensures { λ r. ⌜ r ≡ oneIf yes ⌝ }
 {
     if yes { 1 } else { 0 }
 }
@@ -33,7 +33,7 @@ pub extern "C" fn sigbrol_shares_pixel(
     shares: &mut u8,
 ) -> Reply
     ensures answer { λ r. ⌜ r ≡ replyTo (shareCall (lentAs rows columns count (now (table .entry)) (now (pixels .entry))) (now (layout .entry)) i k) ⌝ }
-    ensures shares { λ r. ⌜ now (shares .exit) ≡ leaving (λ a. one-if a) (now (shares .entry)) (shareCall (lentAs rows columns count (now (table .entry)) (now (pixels .entry))) (now (layout .entry)) i k) ⌝ }
+    ensures shares { λ r. ⌜ now (shares .exit) ≡ leaving (λ a. oneIf a) (now (shares .entry)) (shareCall (lentAs rows columns count (now (table .entry)) (now (pixels .entry))) (now (layout .entry)) i k) ⌝ }
 {
     match pair_calls::shares_pixel(size_of(rows, columns, count), table, pixels, layout, i, k) {
         ShareAnswer::Shares(yes) => {

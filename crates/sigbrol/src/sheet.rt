@@ -7,6 +7,7 @@ use c_interface::record::read_record;
 use c_interface::record::write_record;
 use c_interface::refused;
 use c_interface::size_of;
+use model::PIECE_BOUND;
 use sheet_calls::Reply as SheetReply;
 ghost use mathlib.Core.Path.{_≡_};
 ghost use lib.ListN.{length};
@@ -25,7 +26,7 @@ pub extern "C" fn sigbrol_fresh(
     count: usize,
     table: &[[u8; 3]],
     pixels: &[u8],
-    entries: &mut [[u16; 4]; 64],
+    entries: &mut [[u16; 4]; PIECE_BOUND],
     counts: &mut [u8],
 ) -> Reply
     ensures answer { λ r. ⌜ r ≡ replyTo (freshCall (lentAs rows columns count (now (table .entry)) (now (pixels .entry))) (length (now (counts .entry)))) ⌝ }
@@ -51,7 +52,7 @@ pub extern "C" fn sigbrol_lay(
     count: usize,
     table: &[[u8; 3]],
     pixels: &[u8],
-    entries: &mut [[u16; 4]; 64],
+    entries: &mut [[u16; 4]; PIECE_BOUND],
     counts: &mut [u8],
     piece: usize,
     turn: u16,
@@ -89,7 +90,7 @@ pub extern "C" fn sigbrol_withdraw(
     count: usize,
     table: &[[u8; 3]],
     pixels: &[u8],
-    entries: &mut [[u16; 4]; 64],
+    entries: &mut [[u16; 4]; PIECE_BOUND],
     counts: &mut [u8],
     piece: usize,
 ) -> Reply

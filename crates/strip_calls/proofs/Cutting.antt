@@ -11,8 +11,8 @@ use Rattle.model.specs.Buffer.{stripEntry, sameEntries}
 use Rattle.model.specs.Layout.{Job}
 use Rattle.model.specs.Store.{pieceStrips, storeFrom, startsFrom, store, starts, storeWell}
 use Rattle.model.specs.declared.Direction.{Direction}
-use Rattle.model.proofs.Tests.{and-left, and-right}
-use Rattle.call_laws.proofs.Lists.{same-numbers, same-entries}
+use Rattle.list_laws.proofs.Equal.{same-numbers, same-entries}
+use Rattle.list_laws.proofs.Tests.{and-left, and-right}
 use Rattle.strip_calls.specs.Stores.{Cut}
 use Rattle.strip_store.proofs.Filling.{starts-length}
 

@@ -16,11 +16,11 @@ use Rattle.model.specs.Store.{store, starts, storeWell}
 use Rattle.model.specs.Calls.{Stores, storesOf, storesShort, storesWell, storesAfter, turnListWrong, stripsCall, stretchCall, stretchOf, stretchGiven, stretchNumber}
 use Rattle.model.specs.declared.Direction.{Direction}
 use Rattle.model.specs.declared.Direction.the-variants.{Horizontal, Vertical}
-use Rattle.model.proofs.Tests.{and-left, and-right, or-right, or-neither}
-use Rattle.text_fields.proofs.Stores.{sets-filled}
-use Rattle.strip_store.specs.Made.{Filled}
+use Rattle.list_laws.proofs.Stores.{sets-filled}
+use Rattle.list_laws.proofs.Tests.{and-left, and-right, or-right, or-neither}
+use Rattle.strip_store.specs.Made.{StoreFilled}
 use Rattle.strip_calls.specs.Stores.{Cut, storesBy}
-use Rattle.strip_store.specs.Rooms.{roomOf, roomFor}
+use Rattle.strip_store.specs.Rooms.{roomOf, storeFits}
 use Rattle.strip_calls.specs.Rooms.{hasRoom}
 use Rattle.strip_calls.proofs.Cutting.{cut-from}
 
@@ -69,13 +69,13 @@ no-number true true store e = absurd (omega arith)
 no-number false turns store e = absurd (omega arith)
 
 -- a stretch that is given: it can be cut out of either store
-pub record Passed (l : Lent) (ts : List ℕ) (lent : Stores) (i : ℕ) (d : Direction) : Type 0 where
+pub record StretchPassed (l : Lent) (ts : List ℕ) (lent : Stores) (i : ℕ) (d : Direction) : Type 0 where
   pub rows : Cut (lent .rowStrips) (lent .rowStarts) i
   pub columns : Cut (lent .columnStrips) (lent .columnStarts) i
   pub gives : stretchCall l ts lent i d ≡ given (stretchOf d lent i)
 
 -- without a number the stretch is given
-pub stretch-passed : (l : Lent) (ts : List ℕ) (lent : Stores) (i : ℕ) (d : Direction) → stretchNumber (stretchCall l ts lent i d) ≡ 0 → Passed l ts lent i d
+pub stretch-passed : (l : Lent) (ts : List ℕ) (lent : Stores) (i : ℕ) (d : Direction) → stretchNumber (stretchCall l ts lent i d) ≡ 0 → StretchPassed l ts lent i d
 unfolding stretchCall storesWell jobOf
 stretch-passed l ts lent i d e =
     let p = no-number (lentWell l) (turnListWrong (jobOf l) ts || not (ltb i (l .size .count))) (storesWell (jobOf l) ts lent) e in
@@ -132,23 +132,23 @@ module _ (l : Lent) (ts : List ℕ) (lent : Stores) where
 
 -- with room the store and the starts are filled over the front
 record Over (d : Direction) (j : Job) (ts : List ℕ) (strips₀ : List (List ℕ)) (starts₀ : List ℕ) : Type 0 where
-  pub strips-over : sets strips₀ 0 (map stripEntry (store d j ts)) ≡ filled (map stripEntry (store d j ts)) strips₀
-  pub starts-over : sets starts₀ 0 (starts d j ts) ≡ filled (starts d j ts) starts₀
+  pub stripsOver : sets strips₀ 0 (map stripEntry (store d j ts)) ≡ filled (map stripEntry (store d j ts)) strips₀
+  pub startsOver : sets starts₀ 0 (starts d j ts) ≡ filled (starts d j ts) starts₀
 
-room-over : (d : Direction) (j : Job) (ts : List ℕ) (strips₀ : List (List ℕ)) (starts₀ : List ℕ) → roomFor d j ts (roomOf strips₀ starts₀) ≡ true
+room-over : (d : Direction) (j : Job) (ts : List ℕ) (strips₀ : List (List ℕ)) (starts₀ : List ℕ) → storeFits d j ts (roomOf strips₀ starts₀) ≡ true
     → Over d j ts strips₀ starts₀
 room-over d j ts strips₀ starts₀ e =
     let a : length (store d j ts) ≤ length strips₀ = ltb-false _ _ (not-true _ (and-left _ _ e)) in
     let b : length (starts d j ts) ≤ length starts₀ = ltb-false _ _ (not-true _ (and-right (not (ltb (length strips₀) (length (store d j ts)))) _ e)) in
     let m = length-map (store d j ts) stripEntry in
-    record { strips-over = sets-filled strips₀ (map stripEntry (store d j ts)) (omega arith); starts-over = sets-filled starts₀ (starts d j ts) b }
+    record { stripsOver = sets-filled strips₀ (map stripEntry (store d j ts)) (omega arith); startsOver = sets-filled starts₀ (starts d j ts) b }
 
 -- both stores and both starts, filled with room, hold what the strips call leaves in them
 pub stores-filled : (j : Job) (ts : List ℕ) {a₀ a₁ c₀ c₁ : List (List ℕ)} {b₀ b₁ e₀ e₁ : List ℕ} {m n : ℕ}
-    → hasRoom j ts (storesBy a₀ b₀ c₀ e₀) ≡ true → Filled Horizontal j ts a₀ b₀ a₁ b₁ m → Filled Vertical j ts c₀ e₀ c₁ e₁ n
+    → hasRoom j ts (storesBy a₀ b₀ c₀ e₀) ≡ true → StoreFilled Horizontal j ts a₀ b₀ a₁ b₁ m → StoreFilled Vertical j ts c₀ e₀ c₁ e₁ n
     → storesBy a₁ b₁ c₁ e₁ ≡ storesAfter (storesBy a₀ b₀ c₀ e₀) (given (storesOf j ts))
 unfolding storesOf
 stores-filled j ts {a₀} {a₁} {c₀} {c₁} {b₀} {b₁} {e₀} {e₁} r f g =
     let o = room-over Horizontal j ts a₀ b₀ (and-left _ _ r) in
-    let p = room-over Vertical j ts c₀ e₀ (and-right (roomFor Horizontal j ts (roomOf a₀ b₀)) _ r) in
-    rw (f .stored ∙ o .strips-over, f .started ∙ o .starts-over, g .stored ∙ p .strips-over, g .started ∙ p .starts-over)
+    let p = room-over Vertical j ts c₀ e₀ (and-right (storeFits Horizontal j ts (roomOf a₀ b₀)) _ r) in
+    rw (f .stored ∙ o .stripsOver, f .started ∙ o .startsOver, g .stored ∙ p .stripsOver, g .started ∙ p .startsOver)

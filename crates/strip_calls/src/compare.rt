@@ -5,7 +5,7 @@ use strip_store::compare::same_store;
 ghost use mathlib.Core.Path.{_≡_};
 ghost use Rattle.model.specs.Lent.{lentBy, jobOf};
 ghost use Rattle.model.specs.Calls.{storesWell};
-ghost use Rattle.strip_store.specs.Made.{Ready};
+ghost use Rattle.strip_store.specs.Made.{StoreReady};
 ghost use Rattle.strip_calls.specs.Stores.{storesBy};
 
 // Both lent stores, each with its starts, begin with the job's in these turns.
@@ -19,7 +19,7 @@ pub fn same_stores(
     column_strips: &[[u8; 3]],
     column_starts: &[u32],
 ) -> bool
-    requires { ⌜ Ready (lentBy size (now table) (now pixels)) (now turns) ⌝ }
+    requires { ⌜ StoreReady (lentBy size (now table) (now pixels)) (now turns) ⌝ }
     ensures { λ r. ⌜ r ≡ storesWell (jobOf (lentBy size (now (table .entry)) (now (pixels .entry)))) (now (turns .entry)) (storesBy (now («row_strips» .entry)) (now («row_starts» .entry)) (now («column_strips» .entry)) (now («column_starts» .entry))) ⌝ }
 {
     if !same_store(

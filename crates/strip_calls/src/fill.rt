@@ -9,7 +9,7 @@ ghost use mathlib.Core.Bool.{true};
 ghost use Rattle.model.specs.Lent.{lentBy, jobOf};
 ghost use Rattle.model.specs.Refusal.{given};
 ghost use Rattle.model.specs.Calls.{storesOf, storesAfter};
-ghost use Rattle.strip_store.specs.Made.{Ready};
+ghost use Rattle.strip_store.specs.Made.{StoreReady};
 ghost use Rattle.strip_calls.specs.Stores.{storesBy};
 ghost use Rattle.strip_calls.specs.Rooms.{roomForBoth, hasRoom};
 
@@ -22,7 +22,7 @@ pub fn both_have_room(
     rows: Room,
     columns: Room,
 ) -> bool
-    requires { ⌜ Ready (lentBy size (now table) (now pixels)) (now turns) ⌝ }
+    requires { ⌜ StoreReady (lentBy size (now table) (now pixels)) (now turns) ⌝ }
     ensures { λ r. ⌜ r ≡ roomForBoth (jobOf (lentBy size (now (table .entry)) (now (pixels .entry)))) (now (turns .entry)) rows columns ⌝ }
 {
     if !has_room(size, table, pixels, turns, Direction::Horizontal, rows) {
@@ -42,7 +42,7 @@ pub fn fill_both(
     column_strips: &mut [[u8; 3]],
     column_starts: &mut [u32],
 )
-    requires { ⌜ Ready (lentBy size (now table) (now pixels)) (now turns) ⌝ ∗ ⌜ hasRoom (jobOf (lentBy size (now table) (now pixels))) (now turns) (storesBy (now «row_strips») (now «row_starts») (now «column_strips») (now «column_starts»)) ≡ true ⌝ }
+    requires { ⌜ StoreReady (lentBy size (now table) (now pixels)) (now turns) ⌝ ∗ ⌜ hasRoom (jobOf (lentBy size (now table) (now pixels))) (now turns) (storesBy (now «row_strips») (now «row_starts») (now «column_strips») (now «column_starts»)) ≡ true ⌝ }
     ensures { λ r. ⌜ storesBy (now («row_strips» .exit)) (now («row_starts» .exit)) (now («column_strips» .exit)) (now («column_starts» .exit)) ≡ storesAfter (storesBy (now («row_strips» .entry)) (now («row_starts» .entry)) (now («column_strips» .entry)) (now («column_starts» .entry))) (given (storesOf (jobOf (lentBy size (now (table .entry)) (now (pixels .entry)))) (now (turns .entry)))) ⌝ }
 {
     fill(

@@ -9,7 +9,7 @@ use borrow.Author.Tests.{ltb-true, lt-ltb}
 use Rattle.model.specs.Piece.{Point, Shape, pixel, other, along, across, point, extent, cell}
 use Rattle.model.specs.declared.Direction.{Direction}
 use Rattle.model.specs.declared.Direction.the-variants.{Horizontal, Vertical}
-use Rattle.model.proofs.Tests.{and-left, and-right, fails}
+use Rattle.list_laws.proofs.Tests.{and-left, and-right, fails}
 use Rattle.strip_laws.specs.Boxes.{InBox, SameShape}
 
 -- a pixel lies in the box

@@ -10,7 +10,7 @@ use Rattle.strip_laws.proofs.ValidStrips.{valid-rebuilt}
 pub demand2-strips : Demand2Strips
 demand2-strips =
     record {
-      of-pixels = λ d s.
+      ofPixels = λ d s.
           record {
             exact = strips-exactly d s;
             maximal = strips-maximal d s;
@@ -18,8 +18,8 @@ demand2-strips =
             unique = strips-determine d s;
             fixed = strips-agree d s;
             again = rebuilt-same d s;
-            strips-again = λ e. rebuilt-strips d e s;
+            stripsAgain = λ e. rebuilt-strips d e s;
             some = strips-some d s;
           };
-      of-strips = λ d l w ts. record { only = rebuilt-only d l w ts; has = rebuilt-has d l w ts; valid = valid-rebuilt d l w ts };
+      ofStrips = λ d l w ts. record { only = rebuilt-only d l w ts; has = rebuilt-has d l w ts; valid = valid-rebuilt d l w ts };
     }

@@ -1,32 +1,13 @@
 -- Lists whose elements stand in an order, an earlier one before each later one: mapped, joined, by places, and fixed by their
 -- elements. Assumes nothing.
-use mathlib.Core.List.{List, [], _∷_, _++_, map, List·Memᴰ, List·Memᴰ·head, List·Memᴰ·tail, List·Memᴰ·not-nil, List·Memᴰ·cases-cons, List·Memᴰ·append-cases}
-use mathlib.Core.Path.{_≡_, refl, sym, subst, ap, ap₂, _∙_}
+use mathlib.Core.List.{List, _∷_, _++_, map, List·Memᴰ, List·Memᴰ·head, List·Memᴰ·tail, List·Memᴰ·not-nil, List·Memᴰ·cases-cons, List·Memᴰ·append-cases}
+use mathlib.Core.Path.{_≡_, refl, sym, subst, ap₂, _∙_}
 use mathlib.Core.Logic.{_⊎_, inl, inr, ⊎-elim}
 use Prim.Native.Nat.{ℕ, zero, suc, _<_}
 use native.Mathlib.Nat.{not-suc-le-zero, le-of-suc-le-suc}
-use native.Mathlib.Omega.{arith}
 use lib.ListN.{length, getD}
+use Rattle.list_laws.proofs.Lists.{member-at, Source, map-source}
 use Rattle.strip_laws.specs.Lists.{Pairwise, none, more}
-
--- an element of a mapped list comes from an element of the list
-pub record Source {A B : Type 0} (g : A → B) (l : List A) (b : B) : Type 0 where
-  pub from : A
-  pub listed : List·Memᴰ from l
-  pub image : b ≡ g from
-
--- where an element of a mapped list comes from
-pub map-source : {A B : Type 0} (g : A → B) (l : List A) {b : B} → List·Memᴰ b (map g l) → Source g l b
-map-source g [] m = absurd (List·Memᴰ·not-nil m)
-map-source g (a ∷ l) (List·Memᴰ·head e) = record { from = a; listed = List·Memᴰ·head refl; image = e }
-map-source {A} {B} g (a ∷ l) {b} (List·Memᴰ·tail m) =
-    let s : Source g l b = map-source g l m in
-    record { from = s .from; listed = List·Memᴰ·tail (s .listed); image = s .image }
-
--- an element of a list gives an element of the mapped list
-pub map-member : {A B : Type 0} (g : A → B) {a : A} {l : List A} → List·Memᴰ a l → List·Memᴰ (g a) (map g l)
-map-member g (List·Memᴰ·head e) = List·Memᴰ·head (ap g e)
-map-member g (List·Memᴰ·tail m) = List·Memᴰ·tail (map-member g m)
 
 -- an order is kept by a map that keeps it from element to element
 pub pairwise-map : {A B : Type 0} {R : A → A → Type 0} (S : B → B → Type 0) (g : A → B) → ((a b : A) → R a b → S (g a) (g b))
@@ -47,12 +28,6 @@ pairwise-append (more {a = a} {l = l} first rest) q h =
     more (λ b m. ⊎-elim (first b) (h a b (List·Memᴰ·head refl)) (List·Memᴰ·append-cases l m))
     (pairwise-append rest q (λ c b m n. h c b (List·Memᴰ·tail m) n))
 
--- the element at a place is in the list
-pub member-at : {A : Type 0} (l : List A) (i : ℕ) (z : A) → i < length l → List·Memᴰ (getD l i z) l
-member-at [] i z h = absurd (not-suc-le-zero h)
-member-at (a ∷ l) zero z h = List·Memᴰ·head refl
-member-at (a ∷ l) (suc i) z h = List·Memᴰ·tail (member-at l i z (le-of-suc-le-suc h))
-
 -- the order by places: what stands at i is before what stands at a later place j, the next one among others
 pub pairwise-at : {A : Type 0} {R : A → A → Type 0} {l : List A} → Pairwise R l → (i j : ℕ) (z : A) → i < j → j < length l
     → R (getD l i z) (getD l j z)
@@ -60,11 +35,6 @@ pairwise-at none i j z h k = absurd (not-suc-le-zero k)
 pairwise-at (more first rest) i zero z h k = absurd (not-suc-le-zero h)
 pairwise-at (more {l = l} first rest) zero (suc j) z h k = first (getD l j z) (member-at l j z (le-of-suc-le-suc k))
 pairwise-at (more first rest) (suc i) (suc j) z h k = pairwise-at rest i j z (le-of-suc-le-suc h) (le-of-suc-le-suc k)
-
--- a list with an element is not empty
-pub member-length : {A : Type 0} {a : A} {l : List A} → List·Memᴰ a l → 0 < length l
-member-length (List·Memᴰ·head e) = omega arith
-member-length (List·Memᴰ·tail m) = omega arith
 
 -- two elements of an ordered list are one, or one stands before the other
 pub pairwise-compare : {A : Type 0} {R : A → A → Type 0} {l : List A} → Pairwise R l → (a b : A) → List·Memᴰ a l → List·Memᴰ b l

@@ -8,9 +8,9 @@ use lib.ListN.{length}
 use Rattle.model.specs.Piece.{Point, Shape, pixel, tight, point}
 use Rattle.model.specs.Strip.{Strip, strips, stripsHave, rebuilt}
 use Rattle.model.specs.declared.Direction.{Direction}
-use Rattle.model.proofs.Tests.{same-tests}
+use Rattle.list_laws.proofs.Lists.{member-length}
+use Rattle.list_laws.proofs.Tests.{same-tests}
 use Rattle.strip_laws.specs.Strips.{HasStrips}
-use Rattle.strip_laws.proofs.Lists.{member-length}
 use Rattle.strip_laws.specs.Boxes.{InBox, SameShape}
 use Rattle.strip_laws.proofs.Boxes.{pixel-in-box, pixel-in, same-sym}
 use Rattle.strip_laws.proofs.Tight.{LinePixel, tight-pixel, same-tight}
@@ -81,5 +81,5 @@ pub strips-some : (d : Direction) (s : Shape) → tight s ≡ true → 0 < lengt
 strips-some d s e =
     let w : LinePixel d s 0 = tight-pixel d s e in
     let p : Point = point d (w .place) 0 in
-    let t : InStrips d (strips d s) p = have-in d (strips d s) p (strips-exactly d s p ∙ w .is-pixel) in
+    let t : InStrips d (strips d s) p = have-in d (strips d s) p (strips-exactly d s p ∙ w .isPixel) in
     member-length (t .listed)

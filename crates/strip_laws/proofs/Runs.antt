@@ -9,10 +9,9 @@ use mathlib.Core.Logic.{_⊎_, inl, inr, ⊎-elim, _↔_}
 use Prim.Native.Nat.{ℕ, zero, suc, _+_, _-_, _<_, _≤_}
 use native.Mathlib.Nat.{eq-or-lt-of-le}
 use native.Mathlib.Omega.{arith}
-use borrow.Author.Tests.{ltb-true, ltb-false}
-use lib.Dec.{ltb}
 use Rattle.model.specs.Strip.{Run, closing, runsFrom, runs}
-use Rattle.model.proofs.Tests.{decided, fails, clash, same-tests}
+use Rattle.list_laws.proofs.Tests.{fails, clash, same-tests}
+use Rattle.list_laws.proofs.Numbers.{below-or}
 use Rattle.strip_laws.specs.Lists.{Pairwise, none, more}
 
 -- a run is maximal among the numbers below n that pass: it is not empty, lies below n, all its numbers pass, the number before
@@ -130,10 +129,6 @@ runs-over f n =
 
 -- ── what the description gives ──
 
--- a number is below another or not
-pub below-or-not : (k m : ℕ) → (k < m) ⊎ (m ≤ k)
-below-or-not k m = ⊎-elim (λ e. inl (ltb-true k m e)) (λ e. inr (ltb-false k m e)) (decided (ltb k m))
-
 -- a number in a later run is in the list
 pub in-later : {k : ℕ} {r : Run} {rs : List Run} → InRuns k rs → InRuns k (r ∷ rs)
 in-later w = record { run = w .run; listed = List·Memᴰ·tail (w .listed); low = w .low; high = w .high }
@@ -165,8 +160,8 @@ pub over-complete : {f : ℕ → Bool} {n from : ℕ} {rs : List Run} → RunsOv
 over-complete (no-run a) k l h e = absurd (clash e (a k l h))
 over-complete {f} {n} (run-then {r = r} {rs = rs} a b c o) k l h e =
     ⊎-elim (λ (q : k < r .first). absurd (clash e (b k l q)))
-    (λ (q : r .first ≤ k). complete-step f n r rs k c h e q (λ v. over-complete o k v h e) (below-or-not k (r .first + r .count)))
-    (below-or-not k (r .first))
+    (λ (q : r .first ≤ k). complete-step f n r rs k c h e q (λ v. over-complete o k v h e) (below-or k (r .first + r .count)))
+    (below-or k (r .first))
 
 -- the runs ascend, each ending before the next begins, with a gap
 pub over-ascending : {f : ℕ → Bool} {n from : ℕ} {rs : List Run} → RunsOver f n from rs → Pairwise RunBefore rs

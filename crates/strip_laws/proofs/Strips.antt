@@ -13,10 +13,11 @@ use borrow.Author.Tests.{ltb-true, lt-ltb, leb-true, le-leb, eqb-true, eq-eqb}
 use Rattle.model.specs.Piece.{Point, Shape, pixel, other, along, across, extent, cell}
 use Rattle.model.specs.Strip.{Run, runs, Strip, stripOf, lineStrips, stripsFrom, strips, stripHas, stripsHave}
 use Rattle.model.specs.declared.Direction.{Direction}
-use Rattle.model.proofs.Tests.{and-left, and-right, and-both, same-tests}
+use Rattle.list_laws.proofs.Lists.{Source, map-source, map-member}
+use Rattle.list_laws.proofs.Tests.{and-left, and-right, and-both, same-tests}
 use Rattle.strip_laws.specs.Strips.{MaximalStrip, StripBefore}
 use Rattle.strip_laws.specs.Lists.{Pairwise, none}
-use Rattle.strip_laws.proofs.Lists.{Source, map-source, map-member, pairwise-map, pairwise-append}
+use Rattle.strip_laws.proofs.Lists.{pairwise-map, pairwise-append}
 use Rattle.strip_laws.proofs.Runs.{MaximalRun, InRuns, runs-exactly, runs-maximal, runs-ascending, runs-agree}
 use Rattle.strip_laws.specs.Boxes.{InBox, SameShape}
 use Rattle.strip_laws.proofs.Boxes.{pixel-in-box, box-from, box-along, box-across, pixel-cell, pixel-point, no-pixel-past, same-extent, same-cell}
@@ -28,14 +29,14 @@ abbrev pub lineTest : Direction → Shape → ℕ → ℕ → Bool
 lineTest d s c a = cell d s a c
 
 -- a strip's run in its line
-abbrev pub runOf : Strip → Run
-runOf t = record { first = t .first; count = t .count }
+abbrev pub stripRun : Strip → Run
+stripRun t = record { first = t .first; count = t .count }
 
 -- a strip is a run of the pixels of its line, one of the `left` lines from c on
 pub record LineRun (d : Direction) (s : Shape) (c left : ℕ) (t : Strip) : Type 0 where
   pub low : c ≤ t .line
   pub high : t .line < c + left
-  pub listed : List·Memᴰ (runOf t) (runs (lineTest d s (t .line)) (extent d s))
+  pub listed : List·Memᴰ (stripRun t) (runs (lineTest d s (t .line)) (extent d s))
 
 -- a strip of one line is a run of it
 line-run : (d : Direction) (s : Shape) (c left : ℕ) (t : Strip) → List·Memᴰ t (lineStrips d s c) → LineRun d s c (suc left) t
@@ -147,7 +148,7 @@ strip-pixel d s p w =
     let r : LineRun d s 0 (extent (other d) s) t = strip-run d s 0 (extent (other d) s) t (w .listed) in
     let line : t .line ≡ across d p = w .line in
     let in-run : InRuns (along d p) (runs (lineTest d s (t .line)) (extent d s)) =
-    record { run = runOf t; listed = r .listed; low = w .low; high = w .high } in
+    record { run = stripRun t; listed = r .listed; low = w .low; high = w .high } in
     let found : (along d p < extent d s) × (lineTest d s (t .line) (along d p) ≡ true) =
     runs-exactly (lineTest d s (t .line)) (extent d s) (along d p) .0 in-run in
     let high : t .line < 0 + extent (other d) s = r .high in
@@ -186,7 +187,7 @@ strips-maximal d s t m =
     let f : ℕ → Bool = lineTest d s (t .line) in
     let n : ℕ = extent d s in
     let end : ℕ = t .first + t .count in
-    let c : MaximalRun f n (runOf t) = runs-maximal f n (runOf t) (r .listed) in
+    let c : MaximalRun f n (stripRun t) = runs-maximal f n (stripRun t) (r .listed) in
     let some : 0 < t .count = c .some in
     let within : end ≤ n = c .within in
     let high : t .line < 0 + extent (other d) s = r .high in

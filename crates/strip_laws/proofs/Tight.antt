@@ -8,8 +8,8 @@ use Rattle.model.specs.Bounded.{anyBelow}
 use Rattle.model.specs.Piece.{Shape, pixel, point, other, extent, cell, holds, tight}
 use Rattle.model.specs.declared.Direction.{Direction}
 use Rattle.model.specs.declared.Direction.the-variants.{Horizontal, Vertical}
-use Rattle.model.proofs.Tests.{and-left, and-right, and-both}
-use Rattle.model.proofs.Bounded.{Witness, any-witness, any-agree}
+use Rattle.list_laws.proofs.Bounded.{Witness, any-witness, any-agree}
+use Rattle.list_laws.proofs.Tests.{and-left, and-right, and-both}
 use Rattle.strip_laws.specs.Boxes.{SameShape}
 use Rattle.strip_laws.proofs.Boxes.{same-extent, same-cell, pixel-point}
 
@@ -66,13 +66,13 @@ tight-side d s e = line-side d s 0 (tight-first d s e)
 -- a pixel in a line of the box
 pub record LinePixel (d : Direction) (s : Shape) (c : ℕ) : Type 0 where
   pub place : ℕ
-  pub is-pixel : pixel s (point d place c) ≡ true
+  pub isPixel : pixel s (point d place c) ≡ true
 
 -- the first line of a tight box has a pixel
 pub tight-pixel : (d : Direction) (s : Shape) → tight s ≡ true → LinePixel d s 0
 tight-pixel d s e =
     let w : Witness (extent d s) (λ a. cell d s a 0) = any-witness (extent d s) (λ a. cell d s a 0) (tight-first d s e) in
-    record { place = w .number; is-pixel = pixel-point d s (w .number) 0 (w .below) (tight-side (other d) s e) ∙ w .passing }
+    record { place = w .number; isPixel = pixel-point d s (w .number) 0 (w .below) (tight-side (other d) s e) ∙ w .passing }
 
 -- ── the same box and pixels ──
 

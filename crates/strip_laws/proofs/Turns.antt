@@ -9,7 +9,7 @@ use Rattle.model.specs.Bounded.{anyBelow}
 use Rattle.model.specs.Piece.{Point, Shape, pixel, tight, turnPoint, turned}
 use Rattle.model.specs.declared.Turn.{Turn}
 use Rattle.model.specs.declared.Turn.the-variants.{Zero, Quarter, Half, ThreeQuarters}
-use Rattle.model.proofs.Bounded.{Witness, any-witness, any-from}
+use Rattle.list_laws.proofs.Bounded.{Witness, any-witness, any-from}
 use Rattle.strip_laws.specs.Turns.{image, TurnedExactly}
 use Rattle.strip_laws.specs.Boxes.{InBox}
 use Rattle.strip_laws.proofs.Boxes.{pixel-in}
@@ -69,7 +69,7 @@ turned-exactly t s =
     record {
       inside = image-in-box t s;
       pixels = λ p b. (λ e. image-pixel t s p b ∙ e, λ e. sym (image-pixel t s p b) ∙ e);
-      onto = λ q b. record { from = source t s q; in-box = source-in-box t s q b; goes = image-source t s q b };
+      onto = λ q b. record { from = source t s q; inBox = source-in-box t s q b; goes = image-source t s q b };
     }
 
 -- ── boxes of turned shapes ──

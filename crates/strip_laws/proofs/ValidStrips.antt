@@ -12,7 +12,7 @@ use Rattle.model.specs.Piece.{Point, Shape, pixel, tight, other, along, across,
 use Rattle.model.specs.Strip.{Strip, strips, rebuilt}
 use Rattle.model.specs.declared.Direction.{Direction}
 use Rattle.model.specs.declared.Direction.the-variants.{Horizontal, Vertical}
-use Rattle.model.proofs.Tests.{fails, clash}
+use Rattle.list_laws.proofs.Tests.{fails, clash}
 use Rattle.strip_laws.specs.Strips.{side, StripFits, ValidStrips, MaximalStrip, StripBefore, HasStrips}
 use Rattle.strip_laws.proofs.Lists.{pairwise-compare, pairwise-unique}
 use Rattle.strip_laws.specs.Boxes.{InBox}
@@ -212,12 +212,12 @@ valid-exactly d l w ts = (
 pub record PieceHas (d : Direction) (l w : ℕ) (ts : List Strip) : Type 0 where
   pub shape : Shape
   pub has : HasStrips d l w ts shape
-  pub is-tight : tight shape ≡ true
+  pub isTight : tight shape ≡ true
 
 -- some piece of the box has just these strips exactly when the list is valid and the rebuilt set is tight
 pub piece-exactly : (d : Direction) (l w : ℕ) (ts : List Strip)
     → PieceHas d l w ts ↔ (ValidStrips d l w ts × (tight (rebuilt d l w ts) ≡ true))
 piece-exactly d l w ts = (
-  λ h. (has-valid d l w ts (h .shape) (h .has), rebuilt-tight d l w ts (h .shape) (h .has) (h .is-tight)),
-  λ v. record { shape = rebuilt d l w ts; has = valid-exactly d l w ts .0 (v .0); is-tight = v .1 },
+  λ h. (has-valid d l w ts (h .shape) (h .has), rebuilt-tight d l w ts (h .shape) (h .has) (h .isTight)),
+  λ v. record { shape = rebuilt d l w ts; has = valid-exactly d l w ts .0 (v .0); isTight = v .1 },
 )

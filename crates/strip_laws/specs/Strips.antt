@@ -70,7 +70,7 @@ pub record StripsOfPixels (d : Direction) (s : Shape) : Type 0 where
   -- rebuilding gives the same box and the same pixels
   pub again : SameShape (rebuilt d (s .columns) (s .rows) (strips d s)) s
   -- and so the same strips, by rows and by columns
-  pub strips-again : (e : Direction) → strips e (rebuilt d (s .columns) (s .rows) (strips d s)) ≡ strips e s
+  pub stripsAgain : (e : Direction) → strips e (rebuilt d (s .columns) (s .rows) (strips d s)) ≡ strips e s
   -- a piece has a strip
   pub some : tight s ≡ true → 0 < length (strips d s)
 
@@ -85,5 +85,5 @@ pub record PixelsOfStrips (d : Direction) (l w : ℕ) (ts : List Strip) : Type 0
 
 -- demand 2: pixels become strips and strips the same pixels again, in both directions
 pub record Demand2Strips : Type 0 where
-  pub of-pixels : (d : Direction) (s : Shape) → StripsOfPixels d s
-  pub of-strips : (d : Direction) (l w : ℕ) (ts : List Strip) → PixelsOfStrips d l w ts
+  pub ofPixels : (d : Direction) (s : Shape) → StripsOfPixels d s
+  pub ofStrips : (d : Direction) (l w : ℕ) (ts : List Strip) → PixelsOfStrips d l w ts

@@ -14,7 +14,7 @@ image t s p = turnPoint t (s .columns) (s .rows) p
 -- a point of the shape's box that the turn takes to q
 pub record Origin (t : Turn) (s : Shape) (q : Point) : Type 0 where
   pub from : Point
-  pub in-box : InBox s from
+  pub inBox : InBox s from
   pub goes : image t s from ≡ q
 
 -- the turned shape is the image of the shape: the turn takes the box into the turned box, a point is a pixel exactly when its

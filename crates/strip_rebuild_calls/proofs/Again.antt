@@ -15,7 +15,7 @@ use Rattle.strip_rebuild_calls.specs.Again.{Again}
 pub after-again : (d : Direction) (l w : ℕ) (es : List (List ℕ)) (before after : List ℕ)
     → after ≡ pixelsAfter before (rebuildCall d l w es (length before)) → Again d l w es before after
 after-again d l w es before after e s p c r space =
-    let piece : PieceOf d (s .columns) (s .rows) es s = record { columns = refl; rows = refl; is-tight = p .is-tight; are = p .are } in
+    let piece : PieceOf d (s .columns) (s .rows) es s = record { columns = refl; rows = refl; isTight = p .isTight; are = p .are } in
     let b : RebuiltAs d es s (length before) =
     rebuilt-back d es s (length before) piece (rw (p .columns) c) (rw (p .rows) r) (rw (p .columns, p .rows) space) in
     let given-is : rebuildCall d l w es (length before) ≡ rebuildCall d (s .columns) (s .rows) es (length before) = rw (p .columns, p .rows) in

@@ -1,31 +1,31 @@
 -- Whether the set that valid strips make is tight, by the strips alone: a line holds a pixel where some strip lies in it, and a
 -- line across holds one where some strip reaches it. With that, refusal 8 of rebuilding. Assumes nothing.
-use mathlib.Core.Bool.{Bool, true, false, _&&_}
+use mathlib.Core.Bool.{Bool, true, false, _&&_, and-true}
 use mathlib.Core.List.{List, [], _∷_, map, List·Memᴰ}
-use mathlib.Core.Path.{_≡_, refl, sym, subst, ap, ap₂, _∙_}
-use Prim.Native.Nat.{ℕ, zero, suc, _+_, _-_, _<_, _≤_}
+use mathlib.Core.Path.{_≡_, refl, sym, ap, ap₂, _∙_}
+use Prim.Native.Nat.{ℕ, suc, _+_, _-_, _<_, _≤_}
 use native.Mathlib.Omega.{arith}
-use lib.Dec.{leb, ltb, eqb}
-use lib.ListN.{length, getD}
+use lib.Dec.{leb, eqb}
+use lib.ListN.{length}
 use borrow.Author.Tests.{ltb-true, lt-ltb, leb-true, le-leb, eqb-true, eq-eqb}
 use Rattle.model.specs.Bounded.{anyBelow, allBelow}
-use Rattle.model.specs.Piece.{Point, Shape, other, along, across, point, extent, cell, holds, tightAlong, tight}
+use Rattle.model.specs.Piece.{Shape, other, along, across, point, extent, cell, holds, tightAlong, tight}
 use Rattle.model.specs.Strip.{Strip, strips, stripsHave, rebuilt}
-use Rattle.model.specs.Buffer.{stripEntry, entryStrip, sameEntries}
+use Rattle.model.specs.Buffer.{stripEntry, sameEntries}
 use Rattle.model.specs.Calls.{rebuiltFrom, stripsWell}
 use Rattle.model.specs.declared.Direction.{Direction}
 use Rattle.model.specs.declared.Direction.the-variants.{Horizontal, Vertical}
-use Rattle.model.proofs.Tests.{and-left, and-right, and-both, same-tests, fails, clash}
-use Rattle.model.proofs.Bounded.{Witness, any-witness, any-from, all-at, all-from}
+use Rattle.list_laws.proofs.Equal.{same-entries-exactly}
+use Rattle.list_laws.proofs.Bounded.{Witness, any-witness, any-from, all-at, all-from}
+use Rattle.list_laws.proofs.Tests.{and-left, and-right, and-both, same-tests, fails, clash}
 use Rattle.strip_laws.proofs.Boxes.{along-point, across-point}
 use Rattle.strip_laws.proofs.Strips.{InStrips, have-in, in-have}
-use Rattle.strip_laws.specs.Strips.{HasStrips, side, StripFits, ValidStrips}
+use Rattle.strip_laws.specs.Strips.{side, StripFits, ValidStrips}
 use Rattle.strip_laws.proofs.ValidStrips.{rebuilt-extent, valid-rebuilt, has-valid}
-use Rattle.call_laws.proofs.Lists.{same-entries-exactly}
 use Rattle.call_laws.specs.Rebuilding.{PieceOf}
 use Rattle.call_laws.proofs.Rebuilding.{well-piece, strips-read-back}
 use Rattle.strip_rebuild_calls.specs.Check.{stripIn, reaches, wellAt, Whole}
-use Rattle.strip_rebuild_calls.proofs.Validity.{stripsOf, Place, strip-listed, strip-place, valid-from, valid-to}
+use Rattle.strip_rebuild_calls.proofs.Validity.{stripsOf, StripPlace, strip-listed, strip-place, valid-from, valid-to}
 
 -- ── cells of the rebuilt set ──
 
@@ -62,7 +62,7 @@ module _ (d : Direction) (l w : ℕ) (es : List (List ℕ)) (v : ValidStrips d l
       (λ e.
       let x : Witness (extent d s) (λ a. cell d s a c) = any-witness (extent d s) (λ a. cell d s a c) e in
       let q : InStrips d ts (point d (x .number) c) = have-in d ts (point d (x .number) c) (sym (cell-along d l w ts (x .number) c) ∙ x .passing) in
-      let p : Place es (q .strip) = strip-place es (q .strip) (q .listed) in
+      let p : StripPlace es (q .strip) = strip-place es (q .strip) (q .listed) in
       any-from (length es) (p .at) (λ i. eqb (stripIn es i .line) c) (p .below)
       (eq-eqb _ _ (ap (λ (t : Strip). t .line) (p .is) ∙ q .line ∙ across-point d (x .number) c)))
       (λ e.
@@ -85,7 +85,7 @@ module _ (d : Direction) (l w : ℕ) (es : List (List ℕ)) (v : ValidStrips d l
       (λ e.
       let x : Witness (extent (other d) s) (λ c. cell (other d) s c a) = any-witness (extent (other d) s) (λ c. cell (other d) s c a) e in
       let q : InStrips d ts (point d a (x .number)) = have-in d ts (point d a (x .number)) (sym (cell-across d l w ts a (x .number)) ∙ x .passing) in
-      let p : Place es (q .strip) = strip-place es (q .strip) (q .listed) in
+      let p : StripPlace es (q .strip) = strip-place es (q .strip) (q .listed) in
       let g : along d (point d a (x .number)) ≡ a = along-point d a (x .number) in
       let low : q .strip .first ≤ along d (point d a (x .number)) = q .low in
       let high : along d (point d a (x .number)) < q .strip .first + q .strip .count = q .high in
@@ -166,11 +166,7 @@ well-by d l w es e h =
     let v : ValidStrips d l w (stripsOf es) = valid-from d l w es (all-at (length es) (wellAt (side d l w) (side (other d) l w) es) (sym e)) in
     let same : sameEntries (map stripEntry (strips d (rebuiltFrom d l w es))) es ≡ true =
     same-entries-exactly _ es .1 (ap (map stripEntry) (valid-rebuilt d l w (stripsOf es) v) ∙ whole-again es h) in
-    rw same (right-true (tight (rebuiltFrom d l w es))) ∙ tight-by d l w es v
-  where
-    right-true : (b : Bool) → (b && true) ≡ b
-    right-true true = refl
-    right-true false = refl
+    rw same (and-true (tight (rebuiltFrom d l w es))) ∙ tight-by d l w es v
 
 -- a box with a column and a row has a pixel along each direction
 pub side-some : (d : Direction) (l w : ℕ) → 0 < l → 0 < w → 0 < side d l w

@@ -1,5 +1,4 @@
 -- Laws that the functions of the crate rest on.
-pub mod Searches
 pub mod Outcomes
 pub mod Reading
 pub mod Validity

@@ -1,7 +1,7 @@
 -- What the rebuild call comes to, case by case in the order of its causes. Assumes nothing.
-use mathlib.Core.Bool.{true, false, not, _&&_}
+use mathlib.Core.Bool.{true, false}
 use mathlib.Core.List.{List}
-use mathlib.Core.Path.{_≡_, refl, sym, ap, _∙_}
+use mathlib.Core.Path.{_≡_}
 use Prim.Native.Nat.{ℕ, _*_, _<_, _≤_}
 use borrow.Author.Tests.{lt-ltb, le-ltb}
 use Rattle.model.specs.Lent.{upTo}
@@ -10,8 +10,8 @@ use Rattle.model.specs.Refusal.{unless, refused, given}
 use Rattle.model.specs.Calls.{rebuildCall, stripsWell, rebuiltFrom}
 use Rattle.model.specs.declared.Direction.{Direction}
 use Rattle.model.specs.declared.Refusal.{Refusal}
+use Rattle.list_laws.proofs.Tests.{first-fails, second-fails}
 use Rattle.job_laws.proofs.Ranges.{at-least, up-to}
-use Rattle.strip_rebuild_calls.proofs.Searches.{first-fails, second-fails}
 
 -- a refusal without places
 abbrev pub numbered : ℕ → Refusal

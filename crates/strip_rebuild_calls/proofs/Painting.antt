@@ -1,45 +1,37 @@
 -- Setting pixels in a buffer of rows: one pixel, a strip pixel after pixel, all strips, and the bytes that are left. What is still
 -- to be set is said by a test on points, so that each loop shows only how its test is taken apart. Assumes nothing.
 use mathlib.Core.Bool.{Bool, true, false, _&&_, _||_}
-use mathlib.Core.List.{List, [], _∷_, _++_, map}
-use mathlib.Core.Path.{_≡_, refl, sym, subst, ap, ap₂, _∙_}
-use mathlib.Core.Logic.{_⊎_, inl, inr, ⊎-elim}
-use Prim.Native.Nat.{ℕ, zero, suc, _+_, _*_, _-_, _/_, _%_, _<_, _≤_}
-use native.Mathlib.Nat.{mul-le-mul-right, suc-mul, mod-lt, div-add-mod', div-lt-iff-lt-mul, mul-comm, zero-add, add-zero}
+use mathlib.Core.List.{List, []}
+use mathlib.Core.Path.{_≡_, refl, sym, ap, ap₂, _∙_}
+use mathlib.Core.Logic.{_⊎_, ⊎-elim}
+use Prim.Native.Nat.{ℕ, suc, _+_, _*_, _-_, _<_, _≤_}
+use native.Mathlib.Nat.{mul-comm}
 use native.Mathlib.Omega.{arith}
-use lib.Dec.{leb, ltb, eqb}
-use lib.ListN.{length, getD, set, drop, replicate, length-set, length-append, length-replicate, length-drop, getD-replicate, length-map, drop-of-length-le, List·getD-append, List·getD-map}
-use lib.Seq.{getD-set-same, getD-set-other, getD-append-add, getD-drop, drop-cons, drop-length, ext-getD}
+use lib.Dec.{leb, eqb}
+use lib.ListN.{length, getD, set, drop, length-set, length-map, drop-of-length-le, List·getD-map}
+use lib.Seq.{getD-set-same, getD-set-other, drop-cons}
 use borrow.Author.Tests.{ltb-true, lt-ltb, leb-true, le-leb, eqb-true, eq-eqb}
-use Rattle.model.specs.Bounded.{one-if}
-use Rattle.model.specs.Piece.{Point, Shape, along, across, point, other}
-use Rattle.model.specs.Strip.{Strip, stripHas, stripsHave, rebuilt}
-use Rattle.model.specs.Buffer.{entryStrip, bytesFrom, bytesOf, filled}
-use Rattle.model.specs.Calls.{rebuiltFrom}
+use Rattle.model.specs.Piece.{Point, along, across, point, other}
+use Rattle.model.specs.Strip.{Strip, stripHas, stripsHave}
+use Rattle.model.specs.Buffer.{entryStrip}
 use Rattle.model.specs.declared.Direction.{Direction}
 use Rattle.model.specs.declared.Direction.the-variants.{Horizontal, Vertical}
-use Rattle.model.proofs.Tests.{and-left, and-right, and-both, or-cases, or-left, or-right, decided, same-tests, fails, clash}
-use Rattle.text_laws.proofs.Store.{in-box}
-use Rattle.strip_laws.proofs.Runs.{below-or-not}
-use Rattle.strip_laws.proofs.Strips.{InStrips, have-in}
-use Rattle.strip_laws.specs.Strips.{side, StripFits, ValidStrips}
+use Rattle.list_laws.proofs.Tests.{and-left, and-right, and-both, or-cases, or-left, or-right, same-tests, fails, clash}
+use Rattle.list_laws.proofs.Numbers.{in-rows, below-or}
+use Rattle.strip_laws.specs.Strips.{side}
 use Rattle.strip_rebuild_calls.specs.Check.{stripIn}
-use Rattle.strip_rebuild_calls.specs.Paint.{over, samePoint, Painted, Room}
+use Rattle.strip_rebuild_calls.specs.Paint.{over, samePoint, Painted, PaintRoom}
 use Rattle.strip_rebuild_calls.proofs.Validity.{stripsOf}
 
 -- ── places in rows of l ──
 
--- a later row begins behind an earlier one
-row-after : (l x y v : ℕ) → x < l → y < v → y * l + x < v * l
-row-after l x y v a h = let k : suc y * l ≤ v * l = mul-le-mul-right l h in omega (arith, suc-mul y l)
-
 -- a place is in one row
 same-row : (l x y u v : ℕ) → x < l → u < l → y * l + x ≡ v * l + u → y ≡ v
 same-row l x y u v a b e =
-    let p : y < v → ⊥ = λ h. let k = row-after l x y v a h in omega arith in
-    let q : v < y → ⊥ = λ h. let k = row-after l u v y b h in omega arith in
-    ⊎-elim (λ (h : y < v). absurd (p h)) (λ (h : v ≤ y). ⊎-elim (λ (k : v < y). absurd (q k)) (λ (k : y ≤ v). omega arith) (below-or-not v y))
-    (below-or-not y v)
+    let p : y < v → ⊥ = λ h. let k = in-rows {l = l} {w = v} {x = x} {y = y} a h in omega arith in
+    let q : v < y → ⊥ = λ h. let k = in-rows {l = l} {w = y} {x = u} {y = v} b h in omega arith in
+    ⊎-elim (λ (h : y < v). absurd (p h)) (λ (h : v ≤ y). ⊎-elim (λ (k : v < y). absurd (q k)) (λ (k : y ≤ v). omega arith) (below-or v y))
+    (below-or y v)
 
 -- and in one column
 same-column : (l x y u v : ℕ) → x < l → u < l → y * l + x ≡ v * l + u → x ≡ u
@@ -146,7 +138,7 @@ part-step d t at end l p =
     let high : along d p < at + (end - at) = h .2 in
     ⊎-elim (λ (q : at < along d p). or-right (samePoint (point d at (t .line)) p) _ (has-to d (partOf t (at + 1) end) p (h .0) (omega arith) (omega arith)))
     (λ (q : along d p ≤ at). or-left _ _ (point-to d at (t .line) p (omega arith) (h .0)))
-    (below-or-not at (along d p)))
+    (below-or at (along d p)))
     (λ e.
     ⊎-elim
     (λ (q : samePoint (point d at (t .line)) p ≡ true).
@@ -207,11 +199,11 @@ side-small Vertical l w a b = b
 -- a cell in the box has a place in the buffer
 pub cell-room : (d : Direction) (l w a c : ℕ) (pixels : List ℕ) → l * w ≤ length pixels → a < side d l w → c < side (other d) l w
     → (point d a c .x < l) × (point d a c .y * l + point d a c .x < length pixels)
-cell-room Horizontal l w a c pixels r h k = (h, let q = in-box {l = l} {w = w} {x = a} {y = c} h k in omega (arith, mul-comm l w))
-cell-room Vertical l w a c pixels r h k = (k, let q = in-box {l = l} {w = w} {x = c} {y = a} k h in omega (arith, mul-comm l w))
+cell-room Horizontal l w a c pixels r h k = (h, let q = in-rows {l = l} {w = w} {x = a} {y = c} h k in omega (arith, mul-comm l w))
+cell-room Vertical l w a c pixels r h k = (k, let q = in-rows {l = l} {w = w} {x = c} {y = a} k h in omega (arith, mul-comm l w))
 
 -- a buffer of the same length has room too
-pub room-again : {l w : ℕ} {pixels others : List ℕ} → Room l w pixels → length others ≡ length pixels → Room l w others
+pub room-again : {l w : ℕ} {pixels others : List ℕ} → PaintRoom l w pixels → length others ≡ length pixels → PaintRoom l w others
 room-again {l} {w} {pixels} {others} r e =
     let long : l * w ≤ length pixels = r .long in
-    record { wide = r .wide; high = r .high; columns-small = r .columns-small; rows-small = r .rows-small; long = omega arith }
+    record { wide = r .wide; high = r .high; columnsSmall = r .columnsSmall; rowsSmall = r .rowsSmall; long = omega arith }

@@ -1,23 +1,24 @@
 -- Refusal 8 of rebuilding, by local tests: the strips of a buffer are valid exactly when each fits the box and stands behind the
 -- one before it. Standing before is kept from neighbour to neighbour. Assumes nothing.
-use mathlib.Core.Bool.{Bool, true, false, _&&_, _||_}
+use mathlib.Core.Bool.{Bool, true, false, _&&_}
 use mathlib.Core.List.{List, [], _∷_, map, List·Memᴰ, List·Memᴰ·head, List·Memᴰ·tail, List·Memᴰ·not-nil, List·Memᴰ·cases-cons}
-use mathlib.Core.Path.{_≡_, refl, sym, subst, ap, _∙_}
+use mathlib.Core.Path.{_≡_, refl, sym, subst, _∙_}
 use mathlib.Core.Logic.{_⊎_, inl, inr, ⊎-elim}
-use Prim.Native.Nat.{ℕ, zero, suc, _+_, _-_, _<_, _≤_}
+use Prim.Native.Nat.{ℕ, zero, suc, _-_, _<_}
 use native.Mathlib.Omega.{arith}
-use lib.Dec.{leb, ltb, eqb}
-use lib.ListN.{length, getD, length-map, List·getD-map}
+use lib.Dec.{ltb, eqb}
+use lib.ListN.{length, length-map, List·getD-map}
 use borrow.Author.Tests.{ltb-true, lt-ltb, leb-true, le-leb, eqb-true, eq-eqb, ne-eqb}
 use Rattle.model.specs.Piece.{other}
 use Rattle.model.specs.Strip.{Strip}
-use Rattle.model.specs.Buffer.{stripEntry, entryStrip}
+use Rattle.model.specs.Buffer.{entryStrip}
 use Rattle.model.specs.declared.Direction.{Direction}
-use Rattle.model.proofs.Tests.{and-left, and-right, and-both, or-cases, or-left, or-right}
+use Rattle.list_laws.proofs.Lists.{member-at}
+use Rattle.list_laws.proofs.Tests.{and-left, and-right, and-both, or-cases, or-left, or-right}
 use Rattle.strip_laws.specs.Lists.{Pairwise, none, more}
-use Rattle.strip_laws.proofs.Lists.{member-at, pairwise-at}
+use Rattle.strip_laws.proofs.Lists.{pairwise-at}
 use Rattle.strip_laws.specs.Strips.{StripBefore, side, StripFits, ValidStrips}
-use Rattle.strip_rebuild_calls.specs.Check.{stripIn, fitsIn, standsBefore, follows, wellAt, Whole}
+use Rattle.strip_rebuild_calls.specs.Check.{stripIn, fitsIn, standsBefore, follows, wellAt}
 
 -- ── places and members ──
 
@@ -32,16 +33,16 @@ strip-listed es i h =
     (member-at (stripsOf es) i (entryStrip []) (rw (length-map es entryStrip) h))
 
 -- a listed strip has a place
-pub record Place (es : List (List ℕ)) (t : Strip) : Type 0 where
+pub record StripPlace (es : List (List ℕ)) (t : Strip) : Type 0 where
   pub at : ℕ
   pub below : at < length es
   pub is : stripIn es at ≡ t
 
-pub strip-place : (es : List (List ℕ)) (t : Strip) → List·Memᴰ t (stripsOf es) → Place es t
+pub strip-place : (es : List (List ℕ)) (t : Strip) → List·Memᴰ t (stripsOf es) → StripPlace es t
 strip-place [] t m = absurd (List·Memᴰ·not-nil m)
 strip-place (e ∷ es) t (List·Memᴰ·head q) = record { at = 0; below = omega arith; is = sym q }
 strip-place (e ∷ es) t (List·Memᴰ·tail m) =
-    let p : Place es t = strip-place es t m in
+    let p : StripPlace es t = strip-place es t m in
     let b : p .at < length es = p .below in
     record { at = suc (p .at); below = omega arith; is = p .is }
 
@@ -109,7 +110,7 @@ unfolding follows
 valid-from d l w es h =
     record {
       fits = λ t m.
-          let p : Place es t = strip-place es t m in
+          let p : StripPlace es t = strip-place es t m in
           subst (StripFits d l w) (p .is) (fits-from d l w (stripIn es (p .at)) (and-left _ _ (h (p .at) (p .below))));
       ordered = ordered-from es (λ k b.
           let n : eqb (suc k) 0 ≡ false = ne-eqb (suc k) 0 (λ e. omega arith) in

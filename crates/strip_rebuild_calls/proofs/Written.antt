@@ -1,28 +1,26 @@
 -- The bytes that clearing the box and setting its strips leave are those of the rebuilt set, and what lies beyond is as it was.
 -- Assumes nothing.
 use mathlib.Core.Bool.{Bool, true, false}
-use mathlib.Core.List.{List, [], _∷_, _++_, map}
-use mathlib.Core.Path.{_≡_, refl, sym, subst, ap, ap₂, _∙_}
-use mathlib.Core.Logic.{_⊎_, inl, inr, ⊎-elim}
+use mathlib.Core.List.{List, _++_}
+use mathlib.Core.Path.{_≡_, refl, sym, subst, ap, _∙_}
+use mathlib.Core.Logic.{_⊎_, ⊎-elim}
 use Prim.Native.Nat.{ℕ, zero, suc, _+_, _*_, _-_, _/_, _%_, _<_, _≤_}
-use native.Mathlib.Nat.{mod-lt, div-add-mod', mul-comm, zero-add, add-zero, add-suc, suc-add}
+use native.Mathlib.Nat.{mod-lt, div-add-mod', mul-comm, add-zero, add-suc, suc-add}
 use native.Mathlib.Omega.{arith}
 use lib.ListN.{length, getD, drop, replicate, length-append, length-replicate, length-drop, getD-replicate, List·getD-append}
 use lib.Seq.{getD-append-add, ext-getD}
-use Rattle.model.specs.Bounded.{one-if}
-use Rattle.model.specs.Piece.{Point, Shape, along, across, other}
+use Rattle.model.specs.Bounded.{oneIf}
+use Rattle.model.specs.Piece.{Point, Shape, along, across}
 use Rattle.model.specs.Strip.{Strip, stripsHave, rebuilt}
 use Rattle.model.specs.Buffer.{bytesFrom, bytesOf, filled}
 use Rattle.model.specs.Calls.{rebuiltFrom}
 use Rattle.model.specs.declared.Direction.{Direction}
 use Rattle.model.specs.declared.Direction.the-variants.{Horizontal, Vertical}
-use Rattle.model.proofs.Tests.{fails}
-use Rattle.text_laws.proofs.Store.{in-box}
-use Rattle.strip_laws.proofs.Runs.{below-or-not}
+use Rattle.list_laws.proofs.Numbers.{in-rows, below-or}
+use Rattle.list_laws.proofs.Tests.{fails}
 use Rattle.strip_laws.proofs.Strips.{InStrips, have-in}
-use Rattle.strip_laws.proofs.Rebuild.{rebuilt-columns}
-use Rattle.strip_laws.specs.Strips.{side, StripFits, ValidStrips}
-use Rattle.strip_rebuild_calls.specs.Paint.{over, Painted, Room}
+use Rattle.strip_laws.specs.Strips.{StripFits, ValidStrips}
+use Rattle.strip_rebuild_calls.specs.Paint.{over, Painted, PaintRoom}
 use Rattle.strip_rebuild_calls.proofs.Validity.{stripsOf}
 
 -- ── bytes of a set ──
@@ -32,12 +30,12 @@ unfolding bytesFrom
 bytes-length s k zero = refl
 bytes-length s k (suc left) = ap suc (bytes-length s (suc k) left)
 
-bytes-at : (s : Shape) (k left i : ℕ) → i < left → getD (bytesFrom s k left) i 0 ≡ one-if (s .has ((k + i) % s .columns) ((k + i) / s .columns))
+bytes-at : (s : Shape) (k left i : ℕ) → i < left → getD (bytesFrom s k left) i 0 ≡ oneIf (s .has ((k + i) % s .columns) ((k + i) / s .columns))
 unfolding bytesFrom
 bytes-at s k zero i h = absurd (omega arith)
 bytes-at s k (suc left) zero h = rw add-zero
 bytes-at s k (suc left) (suc i) h =
-    bytes-at s (suc k) left i (omega arith) ∙ ap (λ n. one-if (s .has (n % s .columns) (n / s .columns))) (suc-add k i ∙ sym (add-suc k i))
+    bytes-at s (suc k) left i (omega arith) ∙ ap (λ n. oneIf (s .has (n % s .columns) (n / s .columns))) (suc-add k i ∙ sym (add-suc k i))
 
 -- ── two parts of a list ──
 
@@ -60,7 +58,7 @@ none-above d l w es p v h =
     let q : InStrips d (stripsOf es) p = have-in d (stripsOf es) p e in
     above d l w (q .strip) p (v .fits (q .strip) (q .listed)) h (q .line) (q .high))
 
-over-zero : (b : Bool) → over b 0 ≡ one-if b
+over-zero : (b : Bool) → over b 0 ≡ oneIf b
 over-zero true = refl
 over-zero false = refl
 
@@ -78,7 +76,7 @@ zeros-length n = length-replicate {A = ℕ} n 0
 
 -- ── the buffer ──
 
-module _ (d : Direction) (l w : ℕ) (es : List (List ℕ)) (old after : List ℕ) (room : Room l w old) (v : ValidStrips d l w (stripsOf es))
+module _ (d : Direction) (l w : ℕ) (es : List (List ℕ)) (old after : List ℕ) (room : PaintRoom l w old) (v : ValidStrips d l w (stripsOf es))
     (painted : Painted l (stripsHave d (stripsOf es)) (zeros (l * w) ++ drop (l * w) old) after) where
   -- a byte of the box
   low-byte : (i : ℕ) → i < l * w → getD after i 0 ≡ getD (bytesOf (rebuilt d l w (stripsOf es)) ++ drop (l * w) old) i 0
@@ -95,7 +93,7 @@ module _ (d : Direction) (l w : ℕ) (es : List (List ℕ)) (old after : List �
       ∙ ap (over (stripsHave d (stripsOf es) p))
       (List·getD-append (zeros (l * w)) (drop (l * w) old) 0 i (rw (zeros-length (l * w)) h) ∙ getD-replicate (l * w) i 0 0 h)
       ∙ over-zero (stripsHave d (stripsOf es) p)
-      ∙ ap (λ k. one-if (s .has (k % l) (k / l))) (sym z)
+      ∙ ap (λ k. oneIf (s .has (k % l) (k / l))) (sym z)
       ∙ sym (bytes-at s 0 (l * w) i h)
       ∙ sym (List·getD-append (bytesOf s) (drop (l * w) old) 0 i (rw n h))
 
@@ -110,7 +108,7 @@ module _ (d : Direction) (l w : ℕ) (es : List (List ℕ)) (old after : List �
       let m : length (zeros (l * w)) ≡ l * w = zeros-length (l * w) in
       let p : Point = record { x = i % l; y = i / l } in
       let y : w ≤ i / l =
-      ⊎-elim (λ (q : i / l < w). absurd (let k = in-box {l = l} {w = w} {x = i % l} {y = i / l} (mod-lt i wide) q in omega (arith, mul-comm l w))) (λ (q : w ≤ i / l). q) (below-or-not (i / l) w) in
+      ⊎-elim (λ (q : i / l < w). absurd (let k = in-rows {l = l} {w = w} {x = i % l} {y = i / l} (mod-lt i wide) q in omega (arith, mul-comm l w))) (λ (q : w ≤ i / l). q) (below-or (i / l) w) in
       let b = painted .bytes (i % l) (i / l) (mod-lt i wide) in
       (rw e at b)
       ∙ ap (λ t. over t (getD (zeros (l * w) ++ drop (l * w) old) i 0)) (none-above d l w es p v y)
@@ -128,5 +126,5 @@ module _ (d : Direction) (l w : ℕ) (es : List (List ℕ)) (old after : List �
       let size : length after ≡ length (bytesOf s ++ drop (l * w) old) =
       painted .long ∙ simp (length-append, zeros-length, length-drop, n) in
       ext-getD 0 after (bytesOf s ++ drop (l * w) old) size
-      (λ i h. ⊎-elim (λ (q : i < l * w). low-byte i q) (λ (q : l * w ≤ i). high-byte i q) (below-or-not i (l * w)))
+      (λ i h. ⊎-elim (λ (q : i < l * w). low-byte i q) (λ (q : l * w ≤ i). high-byte i q) (below-or i (l * w)))
       ∙ ap (λ k. bytesOf s ++ drop k old) (sym n)

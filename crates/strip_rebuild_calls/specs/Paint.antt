@@ -8,11 +8,11 @@ use lib.ListN.{length, getD}
 use Rattle.model.specs.Piece.{Point, sideBound}
 
 -- the box has a pixel, its sides are in range, and the buffer has room for it
-pub record Room (columns rows : ℕ) (pixels : List ℕ) : Type 0 where
+pub record PaintRoom (columns rows : ℕ) (pixels : List ℕ) : Type 0 where
   pub wide : 0 < columns
   pub high : 0 < rows
-  pub columns-small : columns ≤ sideBound
-  pub rows-small : rows ≤ sideBound
+  pub columnsSmall : columns ≤ sideBound
+  pub rowsSmall : rows ≤ sideBound
   pub long : columns * rows ≤ length pixels
 
 -- the two points are one

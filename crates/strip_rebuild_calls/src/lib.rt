@@ -13,6 +13,9 @@ ghost use Rattle.strip_rebuild_calls.specs.Again.{Again};
 mod check;
 mod paint;
 
+// The most pixels along a box side, as a side is handed over.
+const SIDE_BOUND: u16 = model::SIDE_BOUND as u16;
+
 // What rebuilding comes to: the pixels are written, or the call is refused.
 pub enum RebuildAnswer {
     Rebuilt,
@@ -37,7 +40,7 @@ fn side_in_range(side: u16) -> bool
     if side == 0 {
         return false;
     }
-    side <= 255
+    side <= SIDE_BOUND
 }
 
 // Writes the pixel bytes of the one set in the box that has just these strips.

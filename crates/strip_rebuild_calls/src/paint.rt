@@ -14,7 +14,7 @@ ghost use Rattle.model.specs.Buffer.{entryStrip, filled, bytesOf};
 ghost use Rattle.model.specs.Calls.{rebuiltFrom, stripsWell};
 ghost use Rattle.strip_laws.specs.Strips.{StripFits};
 ghost use Rattle.strip_rebuild_calls.specs.Check.{asStrip, stripIn};
-ghost use Rattle.strip_rebuild_calls.specs.Paint.{Room, Painted, samePoint};
+ghost use Rattle.strip_rebuild_calls.specs.Paint.{PaintRoom, Painted, samePoint};
 
 // Sets the pixel in column x and row y.
 fn mark(pixels: &mut [u8], columns: usize, x: usize, y: usize)
@@ -37,7 +37,7 @@ fn mark_cell(pixels: &mut [u8], columns: usize, direction: Direction, along: usi
 
 // Sets the pixels of a strip.
 fn paint_strip(pixels: &mut [u8], columns: usize, rows: usize, direction: Direction, strip: Strip)
-    requires { ⌜ Room columns rows (now pixels) × StripFits direction columns rows (asStrip strip) ⌝ }
+    requires { ⌜ PaintRoom columns rows (now pixels) × StripFits direction columns rows (asStrip strip) ⌝ }
     ensures { λ r. ⌜ Painted columns (stripHas direction (asStrip strip)) (now (pixels .entry)) (now (pixels .exit)) ⌝ }
 {
     let end = strip.first + strip.count;
@@ -56,7 +56,7 @@ fn paint_strips(
     direction: Direction,
     strips: &[[u8; 3]],
 )
-    requires { ⌜ Room columns rows (now pixels) × ((i : ℕ) → i < length (now strips) → StripFits direction columns rows (stripIn (now strips) i)) ⌝ }
+    requires { ⌜ PaintRoom columns rows (now pixels) × ((i : ℕ) → i < length (now strips) → StripFits direction columns rows (stripIn (now strips) i)) ⌝ }
     ensures { λ r. ⌜ Painted columns (stripsHave direction (map entryStrip (now (strips .entry)))) (now (pixels .entry)) (now (pixels .exit)) ⌝ }
 {
     let mut i = 0;
@@ -86,7 +86,7 @@ pub fn write(
     strips: &[[u8; 3]],
     pixels: &mut [u8],
 )
-    requires { ⌜ Room columns rows (now pixels) × (stripsWell direction columns rows (now strips) ≡ true) ⌝ }
+    requires { ⌜ PaintRoom columns rows (now pixels) × (stripsWell direction columns rows (now strips) ≡ true) ⌝ }
     ensures { λ r. ⌜ now (pixels .exit) ≡ filled (bytesOf (rebuiltFrom direction columns rows (now (strips .entry)))) (now (pixels .entry)) ⌝ }
 {
     clear(pixels, columns * rows);

@@ -1,17 +1,17 @@
 -- Strips compared with a store one by one: what is left of them is still to be compared. Assumes nothing.
-use mathlib.Core.Bool.{Bool, true, false, _&&_}
-use mathlib.Core.List.{List, [], _∷_, _++_, map}
+use mathlib.Core.Bool.{true, false, _&&_}
+use mathlib.Core.List.{List, [], _∷_}
 use mathlib.Core.Path.{_≡_, refl, sym, ap, ap₂, _∙_}
 use mathlib.Core.Logic.{⊎-elim}
-use Prim.Native.Nat.{ℕ, zero, suc, _+_, _≤_, _<_}
+use Prim.Native.Nat.{ℕ, suc, _+_, _≤_, _<_}
 use native.Mathlib.Omega.{arith}
 use lib.Dec.{eqb, ltb}
-use lib.ListN.{length, getD, take, drop, drop-of-length-le, List·getD-eq-default}
+use lib.ListN.{length, getD, drop-of-length-le, List·getD-eq-default}
 use lib.Seq.{drop-cons}
 use borrow.Author.Tests.{ltb-true, ltb-false}
 use Rattle.model.specs.Strip.{Strip}
 use Rattle.model.specs.Buffer.{stripEntry, sameNumbers, sameEntries}
-use Rattle.model.proofs.Tests.{decided}
+use Rattle.list_laws.proofs.Tests.{decided}
 use Rattle.strip_scan.specs.Compare.{standIn, comparedBy, compared}
 use Rattle.strip_scan.specs.declared.compare.Compared.the-variants.{Until, Unlike}
 

@@ -12,7 +12,7 @@ use Rattle.model.specs.declared.Turn.{Turn}
 use Rattle.model.specs.declared.Turn.the-variants.{Zero, Quarter, Half, ThreeQuarters}
 use Rattle.model.specs.declared.Direction.{Direction}
 use Rattle.model.specs.declared.Direction.the-variants.{Horizontal, Vertical}
-use Rattle.piece_pixels.specs.Turned.{storedBy, shownBy, Small}
+use Rattle.piece_pixels.specs.Turned.{storedBy, shownBy, SmallPiece}
 use Rattle.piece_pixels.specs.declared.TurnedPiece.{TurnedPiece}
 
 -- a run that ends adds one at most
@@ -62,7 +62,7 @@ strips-few d t s =
     rw e at h
 
 -- a piece has at most so many strips
-pub piece-few : (d : Direction) (pixels : List ℕ) (p : TurnedPiece) → Small p → length (strips d (shownBy pixels p)) ≤ 65025
+pub piece-few : (d : Direction) (pixels : List ℕ) (p : TurnedPiece) → SmallPiece p → length (strips d (shownBy pixels p)) ≤ 65025
 piece-few d pixels p s =
     let l : p .columns ≤ 255 = s .columns in
     let r : p .rows ≤ 255 = s .rows in

@@ -1,5 +1,4 @@
 -- Laws that the functions of the crate rest on.
-pub mod Cells
 pub mod Scanning
 pub mod Counts
 pub mod Appending

@@ -1,22 +1,22 @@
 -- Reading a line's strips from a cell on: where the next one begins and ends, and what follows it. A run of the line is the cells
 -- from the first pixel on up to the first cell that is none. Assumes nothing.
 use mathlib.Core.Bool.{Bool, true, false, Bool·beq, true≢false}
-use mathlib.Core.List.{List, [], _∷_, _++_, map}
+use mathlib.Core.List.{List, [], _∷_}
 use mathlib.Core.Path.{_≡_, refl, sym, subst₂, ap, _∙_}
 use Prim.Native.Nat.{ℕ, zero, suc, _+_, _-_, _<_, _≤_}
 use mathlib.Core.Logic.{⊎-elim}
-use native.Mathlib.Nat.{suc-add, add-suc, add-zero, zero-add, sub-zero, eq-or-lt-of-le}
+use native.Mathlib.Nat.{suc-add, add-suc, add-zero, zero-add, eq-or-lt-of-le}
 use native.Mathlib.Omega.{arith}
 use Rattle.model.specs.Bounded.{firstFrom}
 use Rattle.model.specs.Piece.{Shape, turned, extent, other, cell}
-use Rattle.model.specs.Strip.{Run, closing, runsFrom, Strip, stripOf, stripsFrom, strips}
+use Rattle.model.specs.Strip.{Run, closing, runsFrom, stripsFrom, strips}
 use Rattle.model.specs.declared.Turn.{Turn}
 use Rattle.model.specs.declared.Turn.the-variants.{Zero, Quarter, Half, ThreeQuarters}
 use Rattle.model.specs.declared.Direction.{Direction}
 use Rattle.model.specs.declared.Direction.the-variants.{Horizontal, Vertical}
-use Rattle.model.proofs.Bounded.{First, first-from}
-use Rattle.model.proofs.Tests.{clash}
-use Rattle.piece_pixels.specs.Turned.{storedBy, shownBy, Small}
+use Rattle.list_laws.proofs.Tests.{clash}
+use Rattle.list_laws.proofs.Bounded.{First, first-from}
+use Rattle.piece_pixels.specs.Turned.{storedBy, shownBy, SmallPiece}
 use Rattle.piece_pixels.specs.declared.Sides.{Sides}
 use Rattle.piece_pixels.specs.declared.TurnedPiece.{TurnedPiece}
 use Rattle.piece_pixels.proofs.Cells.{shown-sides}
@@ -30,7 +30,7 @@ side-of Horizontal pixels p = ap (λ (s : Sides). s .columns) (shown-sides pixel
 side-of Vertical pixels p = ap (λ (s : Sides). s .rows) (shown-sides pixels p)
 
 -- the sides of a small box are small
-small-side : (d : Direction) (t : Turn) (p : TurnedPiece) → Small p → extent d (turned t (storedBy [] p)) ≤ 255
+small-side : (d : Direction) (t : Turn) (p : TurnedPiece) → SmallPiece p → extent d (turned t (storedBy [] p)) ≤ 255
 small-side Horizontal Zero p s = s .columns
 small-side Horizontal Quarter p s = s .rows
 small-side Horizontal Half p s = s .columns
@@ -40,7 +40,7 @@ small-side Vertical Quarter p s = s .columns
 small-side Vertical Half p s = s .rows
 small-side Vertical ThreeQuarters p s = s .columns
 
-pub side-small : (d : Direction) (p : TurnedPiece) → Small p → turnedSide d p ≤ 255
+pub side-small : (d : Direction) (p : TurnedPiece) → SmallPiece p → turnedSide d p ≤ 255
 side-small d p s = small-side d (p .turn) p s
 
 -- ── the runs of a line ──

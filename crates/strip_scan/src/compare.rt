@@ -15,8 +15,8 @@ ghost use Rattle.model.specs.Buffer.{sameNumbers};
 ghost use Rattle.model.specs.Lent.{lentBy, jobOf};
 ghost use Rattle.model.specs.Layout.{turnedPiece};
 ghost use Rattle.model.specs.declared.JobSize.{JobSize};
-ghost use Rattle.piece_pixels.specs.Turned.{shownBy, Small};
-ghost use Rattle.strip_scan.specs.Put.{EntryAt};
+ghost use Rattle.job_laws.specs.Entries.{EntryAt};
+ghost use Rattle.piece_pixels.specs.Turned.{shownBy, SmallPiece};
 ghost use Rattle.strip_scan.specs.Compare.{compared};
 
 // What a comparison comes to: the strips stand in the store up to a place, or they do not.
@@ -56,7 +56,7 @@ pub fn compare_strips(
     store: &[[u8; 3]],
     at: usize,
 ) -> Compared
-    requires { ⌜ Small piece × (at ≤ 2 ^ 32) ⌝ }
+    requires { ⌜ SmallPiece piece × (at ≤ 2 ^ 32) ⌝ }
     ensures { λ r. ⌜ r ≡ compared (strips direction (shownBy (now (pixels .entry)) piece)) (now (store .entry)) at ⌝ }
 {
     let mut at = at;

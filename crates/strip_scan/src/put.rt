@@ -14,8 +14,9 @@ ghost use Rattle.model.specs.Strip.{strips};
 ghost use Rattle.model.specs.Lent.{lentBy, jobOf};
 ghost use Rattle.model.specs.Layout.{turnedPiece};
 ghost use Rattle.model.specs.declared.JobSize.{JobSize};
-ghost use Rattle.piece_pixels.specs.Turned.{shownBy, Small};
-ghost use Rattle.strip_scan.specs.Put.{Appended, EntryAt};
+ghost use Rattle.job_laws.specs.Entries.{EntryAt};
+ghost use Rattle.piece_pixels.specs.Turned.{shownBy, SmallPiece};
+ghost use Rattle.strip_scan.specs.Put.{Appended};
 
 // Stores a strip, where there is room for it.
 fn put(store: &mut [[u8; 3]], at: usize, line: usize, first: usize, count: usize)
@@ -35,7 +36,7 @@ pub fn put_strips(
     store: &mut [[u8; 3]],
     at: usize,
 ) -> usize
-    requires { ⌜ Small piece × (at ≤ 2 ^ 32) ⌝ }
+    requires { ⌜ SmallPiece piece × (at ≤ 2 ^ 32) ⌝ }
     ensures { λ r. ⌜ Appended (strips direction (shownBy (now (pixels .entry)) piece)) (now (store .entry)) at (now (store .exit)) r ⌝ }
 {
     let mut at = at;

@@ -7,7 +7,7 @@ ghost use mathlib.Core.Bool.{Bool·beq};
 ghost use Prim.Native.Nat.{_-_, _<_, _≤_};
 ghost use Rattle.model.specs.Bounded.{firstFrom};
 ghost use Rattle.model.specs.Piece.{other, cell};
-ghost use Rattle.piece_pixels.specs.Turned.{shownBy, Small};
+ghost use Rattle.piece_pixels.specs.Turned.{shownBy, SmallPiece};
 ghost use Rattle.strip_scan.specs.Scan.{turnedSide, NextIs};
 
 // What reading on finds: a strip, or that there is none.
@@ -52,7 +52,7 @@ fn is_pixel(
     along: usize,
     line: usize,
 ) -> bool
-    requires { ⌜ Small piece × ((along < turnedSide direction piece) × (line < turnedSide (other direction) piece)) ⌝ }
+    requires { ⌜ SmallPiece piece × ((along < turnedSide direction piece) × (line < turnedSide (other direction) piece)) ⌝ }
     ensures { λ r. ⌜ r ≡ cell direction (shownBy (now (pixels .entry)) piece) along line ⌝ }
 {
     match direction {
@@ -70,7 +70,7 @@ fn find(
     from: usize,
     wanted: bool,
 ) -> usize
-    requires { ⌜ Small piece × ((from ≤ turnedSide direction piece) × (line < turnedSide (other direction) piece)) ⌝ }
+    requires { ⌜ SmallPiece piece × ((from ≤ turnedSide direction piece) × (line < turnedSide (other direction) piece)) ⌝ }
     ensures { λ r. ⌜ r ≡ firstFrom (λ a. Bool·beq (cell direction (shownBy (now (pixels .entry)) piece) a line) wanted) from (turnedSide direction piece - from) ⌝ }
 {
     let length = line_length(piece, direction);
@@ -92,7 +92,7 @@ pub fn next_strip(
     line: usize,
     along: usize,
 ) -> NextStrip
-    requires { ⌜ Small piece × (along ≤ turnedSide direction piece) ⌝ }
+    requires { ⌜ SmallPiece piece × (along ≤ turnedSide direction piece) ⌝ }
     ensures { λ r. ⌜ NextIs direction (now (pixels .entry)) piece line along r ⌝ }
 {
     let length = line_length(piece, direction);

@@ -16,7 +16,7 @@ use Rattle.model.specs.Layout.{Job, turnedPiece}
 use Rattle.model.specs.Store.{turnIn, pieceStrips, storeFrom, startsFrom, store, storeWell}
 use Rattle.model.specs.declared.Turn.{Turn}
 use Rattle.model.specs.declared.Direction.{Direction}
-use Rattle.model.proofs.Tests.{decided}
+use Rattle.list_laws.proofs.Tests.{decided}
 use Rattle.strip_scan.specs.Compare.{standIn, comparedBy, compared}
 use Rattle.strip_scan.specs.declared.compare.Compared.{Compared}
 use Rattle.strip_scan.specs.declared.compare.Compared.the-variants.{Until, Unlike}

@@ -18,13 +18,13 @@ use Rattle.model.specs.Store.{turnIn, pieceStrips, storeFrom, startsFrom, store
 use Rattle.model.specs.Calls.{turnListWrong}
 use Rattle.model.specs.declared.Turn.{Turn}
 use Rattle.model.specs.declared.Direction.{Direction}
-use Rattle.model.proofs.Tests.{or-neither, decided}
+use Rattle.list_laws.proofs.Stores.{sets-append}
+use Rattle.list_laws.proofs.Tests.{or-neither, decided}
 use Rattle.job_laws.proofs.Checked.{facts}
-use Rattle.text_fields.proofs.Stores.{sets-append}
 use Rattle.strip_scan.specs.Put.{Appended}
 use Rattle.strip_scan.proofs.Counts.{strips-few}
-use Rattle.strip_store.specs.Made.{Ready, Filled}
-use Rattle.strip_store.specs.Rooms.{roomFor}
+use Rattle.strip_store.specs.Made.{StoreReady, StoreFilled}
+use Rattle.strip_store.specs.Rooms.{storeFits}
 use Rattle.strip_store.specs.declared.fill.Room.{Room}
 
 -- ── how many strips ──
@@ -90,7 +90,7 @@ fill-step {d} {j} {ts} {strips₀} {strips₁} {strips₂} {starts₀} {starts�
 
 -- no piece is left, and the last start, the total, is stored
 pub fill-end : {d : Direction} {j : Job} {ts : List ℕ} {strips₀ strips₁ : List (List ℕ)} {starts₀ starts₁ : List ℕ} {at i : ℕ}
-    → (n : ℕ) → i ≡ n → Filling d j ts strips₀ starts₀ strips₁ starts₁ at i (n - i) → Filled d j ts strips₀ starts₀ strips₁ (set starts₁ n at) at
+    → (n : ℕ) → i ≡ n → Filling d j ts strips₀ starts₀ strips₁ starts₁ at i (n - i) → StoreFilled d j ts strips₀ starts₀ strips₁ (set starts₁ n at) at
 unfolding storeFrom startsFrom
 fill-end {d} {j} {ts} {strips₀} {strips₁} {starts₀} {starts₁} {at} {i} n q f =
     let e : n - i ≡ 0 = omega arith in
@@ -109,7 +109,7 @@ fill-lengths {d} {j} {ts} {strips₀} {strips₁} {starts₀} {starts₁} {at} {
 
 -- a store that is shorter than what is needed has no room
 pub no-room : (d : Direction) (j : Job) (ts : List ℕ) (room : Room) {total : ℕ} → total ≡ length (store d j ts) → room .strips < total
-    → false ≡ roomFor d j ts room
+    → false ≡ storeFits d j ts room
 no-room d j ts room e h = rw (lt-ltb (room .strips) (length (store d j ts)) (omega arith))
 
 -- n + 1 starts have room where there are more than n
@@ -120,7 +120,7 @@ room-above n k =
 
 -- a store that is long enough has room where there are more starts than pieces
 pub room-by-starts : (d : Direction) (j : Job) (ts : List ℕ) (room : Room) {total : ℕ} → total ≡ length (store d j ts) → total ≤ room .strips
-    → ltb (j .size .count) (room .starts) ≡ roomFor d j ts room
+    → ltb (j .size .count) (room .starts) ≡ storeFits d j ts room
 room-by-starts d j ts room e h =
     rw (le-ltb (room .strips) (length (store d j ts)) (omega arith), starts-length d j ts 0 0 (j .size .count)) (room-above (j .size .count) (room .starts))
 
@@ -137,7 +137,7 @@ store-small d l ts e =
     omega arith
 
 -- with right turns its strips can be made
-pub made-ready : (l : Lent) (ts : List ℕ) → lentWell l ≡ true → turnListWrong (jobOf l) ts ≡ false → Ready l ts
+pub made-ready : (l : Lent) (ts : List ℕ) → lentWell l ≡ true → turnListWrong (jobOf l) ts ≡ false → StoreReady l ts
 unfolding turnListWrong jobOf
 made-ready l ts e w = record { well = e; turns = eqb-true (length ts) (l .size .count) (not-false _ (or-neither _ _ w .0)) }
 

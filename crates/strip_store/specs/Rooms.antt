@@ -14,5 +14,5 @@ abbrev pub roomOf : List (List ℕ) → List ℕ → Room
 roomOf lentStrips lentStarts = record { strips = length lentStrips; starts = length lentStarts }
 
 -- there is room for the job's store and starts
-abbrev pub roomFor : Direction → Job → List ℕ → Room → Bool
-roomFor d j ts r = not (ltb (r .strips) (length (store d j ts))) && not (ltb (r .starts) (length (starts d j ts)))
+abbrev pub storeFits : Direction → Job → List ℕ → Room → Bool
+storeFits d j ts r = not (ltb (r .strips) (length (store d j ts))) && not (ltb (r .starts) (length (starts d j ts)))

@@ -8,7 +8,7 @@ ghost use lib.Dec.{eqb, ltb};
 ghost use lib.ListN.{getD, length};
 ghost use Rattle.model.specs.Lent.{lentBy, jobOf};
 ghost use Rattle.model.specs.Store.{storeWell};
-ghost use Rattle.strip_store.specs.Made.{Ready};
+ghost use Rattle.strip_store.specs.Made.{StoreReady};
 
 // The start of a piece is there and is the given place.
 fn starts_at(starts: &[u32], i: usize, at: usize) -> bool
@@ -30,7 +30,7 @@ pub fn same_store(
     strips: &[[u8; 3]],
     starts: &[u32],
 ) -> bool
-    requires { ⌜ Ready (lentBy size (now table) (now pixels)) (now turns) ⌝ }
+    requires { ⌜ StoreReady (lentBy size (now table) (now pixels)) (now turns) ⌝ }
     ensures { λ r. ⌜ r ≡ storeWell direction (jobOf (lentBy size (now (table .entry)) (now (pixels .entry)))) (now (turns .entry)) (now (strips .entry)) (now (starts .entry)) ⌝ }
 {
     let mut at = 0;

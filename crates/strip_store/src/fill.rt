@@ -5,8 +5,8 @@ ghost use mathlib.Core.Path.{_≡_};
 ghost use Prim.Native.Nat.{_<_, _^_};
 ghost use lib.ListN.{set};
 ghost use Rattle.model.specs.Lent.{lentBy, jobOf};
-ghost use Rattle.strip_store.specs.Made.{Ready, Filled};
-ghost use Rattle.strip_store.specs.Rooms.{roomFor};
+ghost use Rattle.strip_store.specs.Made.{StoreReady, StoreFilled};
+ghost use Rattle.strip_store.specs.Rooms.{storeFits};
 
 // How many strips and starts a store has room for.
 pub struct Room {
@@ -41,8 +41,8 @@ pub fn fill(
     strips: &mut [[u8; 3]],
     starts: &mut [u32],
 ) -> usize
-    requires { ⌜ Ready (lentBy size (now table) (now pixels)) (now turns) ⌝ }
-    ensures { λ r. ⌜ Filled direction (jobOf (lentBy size (now (table .entry)) (now (pixels .entry)))) (now (turns .entry)) (now (strips .entry)) (now (starts .entry)) (now (strips .exit)) (now (starts .exit)) r ⌝ }
+    requires { ⌜ StoreReady (lentBy size (now table) (now pixels)) (now turns) ⌝ }
+    ensures { λ r. ⌜ StoreFilled direction (jobOf (lentBy size (now (table .entry)) (now (pixels .entry)))) (now (turns .entry)) (now (strips .entry)) (now (starts .entry)) (now (strips .exit)) (now (starts .exit)) r ⌝ }
 {
     let mut at = 0;
     let mut i = 0;
@@ -66,8 +66,8 @@ pub fn has_room(
     direction: Direction,
     room: Room,
 ) -> bool
-    requires { ⌜ Ready (lentBy size (now table) (now pixels)) (now turns) ⌝ }
-    ensures { λ r. ⌜ r ≡ roomFor direction (jobOf (lentBy size (now (table .entry)) (now (pixels .entry)))) (now (turns .entry)) room ⌝ }
+    requires { ⌜ StoreReady (lentBy size (now table) (now pixels)) (now turns) ⌝ }
+    ensures { λ r. ⌜ r ≡ storeFits direction (jobOf (lentBy size (now (table .entry)) (now (pixels .entry)))) (now (turns .entry)) room ⌝ }
 {
     let mut no_strips = [[0u8; 3]; 1];
     let mut no_starts = [0u32; 1];

@@ -1,4 +1,2 @@
 -- Laws that the proofs of this crate's functions cite.
-pub mod Tests
 pub mod Steps
-pub mod Stores

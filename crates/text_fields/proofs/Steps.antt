@@ -11,10 +11,10 @@ use lib.ListN.{length, length-append, getD, drop, List·getD-eq-default}
 use lib.Seq.{drop-cons}
 use borrow.Author.Tests.{leb-true, leb-false, ltb-true, eq-eqb, ne-eqb, lt-ltb, le-ltb, ltb-false}
 use Rattle.model.specs.Text.{byte, isDigit, isNumber, asNumber, Digits, digitsFrom, numberAt, standsAt, after, fieldAt, Reading, got, wrong, onward, decimal}
-use Rattle.model.proofs.Tests.{and-left, and-right, decided}
-use Rattle.text_fields.specs.Answers.{numberOf, runOf}
+use Rattle.list_laws.proofs.Tests.{and-left, and-right, decided}
+use Rattle.text_fields.specs.Answers.{numberOf, digitRun}
 use Rattle.text_fields.specs.declared.Number.the-variants.{Got, Wrong}
-use Rattle.text_fields.specs.declared.reading.Run.{Run}
+use Rattle.text_fields.specs.declared.reading.DigitRun.{DigitRun}
 
 -- ── bytes ──
 
@@ -71,25 +71,25 @@ largest-above (suc left) v = let h = largest-above left (v * 10 + 9) in omega ar
 as-got : (text : List ℕ) (p : ℕ) (d : Digits) → isNumber text p (d .next) ≡ true → asNumber text p d ≡ got (d .value) (d .next)
 as-got text p d h = rw (h, asNumber)
 
-pub number-got : (text : List ℕ) (p : ℕ) (run : Run) → run ≡ runOf (digitsFrom text p 0 5) → isNumber text p (run .next) ≡ true
+pub number-got : (text : List ℕ) (p : ℕ) (run : DigitRun) → run ≡ digitRun (digitsFrom text p 0 5) → isNumber text p (run .next) ≡ true
     → numberOf (numberAt text p) ≡ Got (run .value) (run .next)
 unfolding numberAt
 number-got text p run e h =
     let d : Digits = digitsFrom text p 0 5 in
-    let n : run .next ≡ d .next = ap (λ (r : Run). r .next) e in
-    let v : run .value ≡ d .value = ap (λ (r : Run). r .value) e in
+    let n : run .next ≡ d .next = ap (λ (r : DigitRun). r .next) e in
+    let v : run .value ≡ d .value = ap (λ (r : DigitRun). r .value) e in
     rw (v, n) (ap numberOf (as-got text p d (rw n at h)))
 
 -- the run is no number
 as-wrong : (text : List ℕ) (p : ℕ) (d : Digits) → isNumber text p (d .next) ≡ false → asNumber text p d ≡ wrong
 as-wrong text p d h = rw (h, asNumber)
 
-pub number-wrong : (text : List ℕ) (p : ℕ) (run : Run) → run ≡ runOf (digitsFrom text p 0 5) → isNumber text p (run .next) ≡ false
+pub number-wrong : (text : List ℕ) (p : ℕ) (run : DigitRun) → run ≡ digitRun (digitsFrom text p 0 5) → isNumber text p (run .next) ≡ false
     → numberOf (numberAt text p) ≡ Wrong
 unfolding numberAt
 number-wrong text p run e h =
     let d : Digits = digitsFrom text p 0 5 in
-    let n : run .next ≡ d .next = ap (λ (r : Run). r .next) e in
+    let n : run .next ≡ d .next = ap (λ (r : DigitRun). r .next) e in
     ap numberOf (as-wrong text p d (rw n at h))
 
 -- no digit, no number

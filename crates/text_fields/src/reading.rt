@@ -5,10 +5,10 @@ ghost use mathlib.Core.Bool.{true};
 ghost use Prim.Native.Nat.{_-_, _<_, _≤_};
 ghost use lib.ListN.{length};
 ghost use Rattle.model.specs.Text.{byte, isDigit, digitsFrom, numberAt, fieldAt, standsAt};
-ghost use Rattle.text_fields.specs.Answers.{runOf, Reads};
+ghost use Rattle.text_fields.specs.Answers.{digitRun, Reads};
 
 // A run of digits: its value and the position after it.
-struct Run {
+struct DigitRun {
     value: usize,
     next: usize,
 }
@@ -42,9 +42,9 @@ fn digit_value(b: u8) -> usize
 }
 
 // At most 5 digits from position p on.
-fn digits_from(text: &[u8], p: usize) -> Run
+fn digits_from(text: &[u8], p: usize) -> DigitRun
     requires { ⌜ p ≤ length (now text) ⌝ }
-    ensures { λ r. ⌜ (r ≡ runOf (digitsFrom (now (text .entry)) p 0 5)) × (r .next ≤ length (now (text .entry))) × (r .value ≤ 99999) ⌝ }
+    ensures { λ r. ⌜ (r ≡ digitRun (digitsFrom (now (text .entry)) p 0 5)) × (r .next ≤ length (now (text .entry))) × (r .value ≤ 99999) ⌝ }
 {
     let mut value: usize = 0;
     let mut next = p;
@@ -52,13 +52,13 @@ fn digits_from(text: &[u8], p: usize) -> Run
     while 0 < left {
         let b = byte_at(text, next);
         if !is_digit(b) {
-            return Run { value, next };
+            return DigitRun { value, next };
         }
         value = value * 10 + digit_value(b);
         next += 1;
         left -= 1;
     }
-    Run { value, next }
+    DigitRun { value, next }
 }
 
 // The number at position p: 1 to 5 digits, a leading zero only in 0 itself.

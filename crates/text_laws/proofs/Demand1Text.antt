@@ -17,14 +17,14 @@ use Rattle.text_laws.proofs.LayoutCauses.{layout-causes}
 pub demand1-text : Demand1Text
 demand1-text =
     record {
-      read-passes = job-read-well;
-      check-exactly = lent-well-readable;
-      written-read = layout-read-back;
-      job-exactly = job-read-exactly;
-      layout-only = layout-only-text;
-      layout-exactly = layout-read-exactly;
-      job-refused = job-refusals;
-      job-caused = job-causes;
-      layout-refused = layout-refusals;
-      layout-caused = layout-causes;
+      readPasses = job-read-well;
+      checkExactly = lent-well-readable;
+      writtenRead = layout-read-back;
+      jobExactly = job-read-exactly;
+      layoutOnly = layout-only-text;
+      layoutExactly = layout-read-exactly;
+      jobRefused = job-refusals;
+      jobCaused = job-causes;
+      layoutRefused = layout-refusals;
+      layoutCaused = layout-causes;
     }

@@ -11,13 +11,13 @@ use Rattle.text_laws.proofs.Ahead.{Ahead, ahead-word, after-ahead}
 use Rattle.text_laws.proofs.Numbers.{written-ahead}
 
 -- a reading of the text that gives the value, in front of the rest
-pub record Reads {A : Type 0} (reading : Reading A) (a : A) (text rest : List ℕ) : Type 0 where
+pub record FieldReads {A : Type 0} (reading : Reading A) (a : A) (text rest : List ℕ) : Type 0 where
   pub next : ℕ
   pub reads : reading ≡ got a next
   pub ahead : Ahead text next rest
 
 -- an outcome that is given, in front of the rest of the text
-pub record Gives {A : Type 0} (outcome : Outcome A) (value : ℕ → A) (text rest : List ℕ) : Type 0 where
+pub record FieldGives {A : Type 0} (outcome : Outcome A) (value : ℕ → A) (text rest : List ℕ) : Type 0 where
   pub next : ℕ
   pub gives : outcome ≡ given (value next)
   pub ahead : Ahead text next rest
@@ -31,7 +31,7 @@ Writable (end ∷ ends) (k ∷ ks) = (isDigit end ≡ false) × (k ≤ 99999) ×
 
 -- a field that lies ahead is read
 pub field-ahead : {text : List ℕ} {p : ℕ} (k end : ℕ) (rest : List ℕ) → k ≤ 99999 → isDigit end ≡ false
-    → Ahead text p (digits k ++ (end ∷ rest)) → Reads (fieldAt end text p) k text rest
+    → Ahead text p (digits k ++ (end ∷ rest)) → FieldReads (fieldAt end text p) k text rest
 unfolding fieldAt
 field-ahead {text} {p} k end rest h e a =
     let a′ : Ahead text (p + length (digits k)) (end ∷ rest) = ahead-word (digits k) a in
@@ -43,23 +43,23 @@ field-ahead {text} {p} k end rest h e a =
 
 -- fields that lie ahead are read
 pub fields-ahead : {text : List ℕ} {p : ℕ} (ends ks rest : List ℕ) → Writable ends ks → Ahead text p (fieldsText ends ks ++ rest)
-    → Reads (fieldsAt ends text p) ks text rest
+    → FieldReads (fieldsAt ends text p) ks text rest
 unfolding fieldsAt fieldsText
 fields-ahead {text} {p} [] [] rest w a = record { next = p; reads = refl; ahead = a }
 fields-ahead {text} {p} [] (k ∷ ks) rest w a = absurd w
 fields-ahead {text} {p} (end ∷ ends) [] rest w a = absurd w
 fields-ahead {text} {p} (end ∷ ends) (k ∷ ks) rest w a =
     let a′ : Ahead text p (digits k ++ (end ∷ (fieldsText ends ks ++ rest))) = rw append-assoc at a in
-    let f : Reads (fieldAt end text p) k text (fieldsText ends ks ++ rest) = field-ahead k end (fieldsText ends ks ++ rest) (w .1) (w .0) a′ in
-    let r : Reads (fieldsAt ends text (f .next)) ks text rest = fields-ahead ends ks rest (w .2) (f .ahead) in
+    let f : FieldReads (fieldAt end text p) k text (fieldsText ends ks ++ rest) = field-ahead k end (fieldsText ends ks ++ rest) (w .1) (w .0) a′ in
+    let r : FieldReads (fieldsAt ends text (f .next)) ks text rest = fields-ahead ends ks rest (w .2) (f .ahead) in
     record { next = r .next; reads = rw (f .reads, r .reads, onward); ahead = r .ahead }
 
 -- a line that lies ahead is read
 pub line-ahead : {text : List ℕ} {p : ℕ} (word ends ks rest : List ℕ) → Writable ends ks
-    → Ahead text p (lineText word ends ks ++ rest) → Reads (lineAt word ends text p) ks text rest
+    → Ahead text p (lineText word ends ks ++ rest) → FieldReads (lineAt word ends text p) ks text rest
 line-ahead {text} {p} word ends ks rest w a =
     let a′ : Ahead text p (word ++ (fieldsText ends ks ++ rest)) = rw append-assoc at a in
-    let r : Reads (fieldsAt ends text (p + length word)) ks text rest = fields-ahead ends ks rest w (ahead-word word a′) in
+    let r : FieldReads (fieldsAt ends text (p + length word)) ks text rest = fields-ahead ends ks rest w (ahead-word word a′) in
     record {
       next = r .next;
       reads = after-ahead word (fieldsText ends ks ++ rest) (fieldsAt ends text) a′ ∙ r .reads;

@@ -15,8 +15,8 @@ use Rattle.model.specs.Lent.{Lent, areaBound}
 use Rattle.model.specs.Text.{formed, andThen}
 use Rattle.model.specs.JobText.{JobLine, asJobLine, jobLineCauses, jobLine, PieceLine, asPieceLine, pieceLineCauses, pieceLine, rowsAt, rowsCauses, asPieceText, pieceAt, noPieces, piecesAt, asLent, bufferCauses, readJob}
 use Rattle.model.specs.declared.Refusal.{Refusal}
-use Rattle.model.proofs.Tests.{or-left, or-right}
-use Rattle.text_laws.specs.LinePlaces.{refusalAt}
+use Rattle.list_laws.proofs.Tests.{or-left, or-right}
+use Rattle.text_laws.specs.LinePlaces.{refusalOnLine}
 use Rattle.text_laws.specs.JobRefusals.{RowsBefore, no-row, row-then, PiecesBefore, no-piece, piece-then, PiecePlace, RowPlace, SheetNumbers, PieceNumbers, JobFormWrong, wrong-job-line, wrong-piece-line, wrong-row-line, line-too-many, JobOutOfRange, sheet-out-of-range, piece-out-of-range, SheetTooLarge, BoxTooLarge, BoxesTooLarge, LooseBox, BufferShort, JobCausesRefuse}
 use Rattle.text_laws.specs.Outcomes.{Unless}
 use Rattle.text_laws.proofs.Outcomes.{given-unless, given-before}
@@ -106,37 +106,37 @@ module _ (text : List ℕ) (tl pl : ℕ) (r : Refusal) where
 -- ── each cause ──
 
 -- a line of wrong form
-form-refuses : (text : List ℕ) (tl pl line : ℕ) → JobFormWrong text line → readJob text tl pl ≡ refused (refusalAt wrongForm line)
+form-refuses : (text : List ℕ) (tl pl line : ℕ) → JobFormWrong text line → readJob text tl pl ≡ refused (refusalOnLine wrongForm line)
 unfolding jobLine pieceLine rowsAt piecesAt
 form-refuses text tl pl line (wrong-job-line n e) =
-    rw n (job-line-stops text tl pl (refusalAt wrongForm 1) (rw (e, formed)))
-form-refuses text tl pl line (wrong-piece-line a e) = piece-line-stops text tl pl (refusalAt wrongForm line) line a (rw (e, formed))
+    rw n (job-line-stops text tl pl (refusalOnLine wrongForm 1) (rw (e, formed)))
+form-refuses text tl pl line (wrong-piece-line a e) = piece-line-stops text tl pl (refusalOnLine wrongForm line) line a (rw (e, formed))
 form-refuses text tl pl line (wrong-row-line a e) =
     let left : ℕ = a .head .rows - suc (a .row) in
-    rows-stop text tl pl (refusalAt wrongForm line) line a (suc left) (let b = a .below in omega arith) (rw (e, formed, rowsAt))
+    rows-stop text tl pl (refusalOnLine wrongForm line) line a (suc left) (let b = a .below in omega arith) (rw (e, formed, rowsAt))
 form-refuses text tl pl line (line-too-many a b) =
     let j : JobLine = a .job in
-    let r : Refusal = refusalAt wrongForm line in
+    let r : Refusal = refusalOnLine wrongForm line in
     let more : not (eqb (a .at) (length text)) ≡ true = ap not (ne-eqb (a .at) (length text) (λ e. omega arith)) in
     let here : piecesAt text j 0 (j .size .count) (a .area) (a .at) line ≡ refused r = unless-refused _ noPieces r (inl (more, refl)) in
     pieces-stop text tl pl r j (a .sheet) (rw add-zero at (pieces-resume r (a .before) 0 here))
 
 -- a number out of range
-range-refuses : (text : List ℕ) (tl pl line : ℕ) → JobOutOfRange text line → readJob text tl pl ≡ refused (refusalAt outOfRange line)
+range-refuses : (text : List ℕ) (tl pl line : ℕ) → JobOutOfRange text line → readJob text tl pl ≡ refused (refusalOnLine outOfRange line)
 range-refuses text tl pl line (sheet-out-of-range a e) =
-    rw (a .first) (sheet-stops text tl pl (refusalAt outOfRange 1) line a (inl (ap not e, refl)))
-range-refuses text tl pl line (piece-out-of-range a e) = numbers-stop text tl pl (refusalAt outOfRange line) line a (inl (ap not e, refl))
+    rw (a .first) (sheet-stops text tl pl (refusalOnLine outOfRange 1) line a (inl (ap not e, refl)))
+range-refuses text tl pl line (piece-out-of-range a e) = numbers-stop text tl pl (refusalOnLine outOfRange line) line a (inl (ap not e, refl))
 
 -- a sheet too large
-sheet-refuses : (text : List ℕ) (tl pl line : ℕ) → SheetTooLarge text line → readJob text tl pl ≡ refused (refusalAt sheetTooLarge line)
+sheet-refuses : (text : List ℕ) (tl pl line : ℕ) → SheetTooLarge text line → readJob text tl pl ≡ refused (refusalOnLine sheetTooLarge line)
 sheet-refuses text tl pl line c =
     let a : SheetNumbers text line = c .sheet in
     rw (a .first)
-    (sheet-stops text tl pl (refusalAt sheetTooLarge 1) line a
+    (sheet-stops text tl pl (refusalOnLine sheetTooLarge 1) line a
     (inr (ap not (c .ranges), inl (lt-ltb areaBound (a .said .size .rows * a .said .size .columns) (c .above), refl))))
 
 -- a box too large
-box-refuses : (text : List ℕ) (tl pl line : ℕ) → BoxTooLarge text line → readJob text tl pl ≡ refused (refusalAt boxTooLarge line)
+box-refuses : (text : List ℕ) (tl pl line : ℕ) → BoxTooLarge text line → readJob text tl pl ≡ refused (refusalOnLine boxTooLarge line)
 box-refuses text tl pl line c =
     let a : PieceNumbers text line = c .piece in
     let j : JobLine = a .place .job in
@@ -146,15 +146,15 @@ box-refuses text tl pl line c =
     let above : (long || high) ≡ true =
     ⊎-elim (λ l. or-left long high (lt-ltb (j .size .columns) (h .columns) l))
     (λ l. or-right long high (lt-ltb (j .size .rows) (h .rows) l)) (c .above) in
-    numbers-stop text tl pl (refusalAt boxTooLarge line) line a (inr (ap not (c .ranges), inl (above, refl)))
+    numbers-stop text tl pl (refusalOnLine boxTooLarge line) line a (inr (ap not (c .ranges), inl (above, refl)))
 
 -- boxes too large together
-boxes-refuse : (text : List ℕ) (tl pl line : ℕ) → BoxesTooLarge text line → readJob text tl pl ≡ refused (refusalAt boxesTooLarge line)
+boxes-refuse : (text : List ℕ) (tl pl line : ℕ) → BoxesTooLarge text line → readJob text tl pl ≡ refused (refusalOnLine boxesTooLarge line)
 boxes-refuse text tl pl line c =
     let a : PieceNumbers text line = c .piece in
     let j : JobLine = a .place .job in
     let h : PieceLine = a .said in
-    numbers-stop text tl pl (refusalAt boxesTooLarge line) line a
+    numbers-stop text tl pl (refusalOnLine boxesTooLarge line) line a
     (inr (
       ap not (c .ranges),
       inr (
@@ -164,19 +164,19 @@ boxes-refuse text tl pl line c =
     ))
 
 -- a loose box
-loose-refuses : (text : List ℕ) (tl pl line : ℕ) → LooseBox text line → readJob text tl pl ≡ refused (refusalAt looseBox line)
+loose-refuses : (text : List ℕ) (tl pl line : ℕ) → LooseBox text line → readJob text tl pl ≡ refused (refusalOnLine looseBox line)
 unfolding pieceAt
 loose-refuses text tl pl line c =
     let a : RowPlace text line = c .last in
     let h : PieceLine = a .head in
-    let r : Refusal = refusalAt looseBox line in
+    let r : Refusal = refusalOnLine looseBox line in
     let n : a .top + h .rows ≡ line = let m = a .numbered in let f = c .final in omega arith in
     piece-stops text tl pl r (a .top) (a .piece)
     (rw (a .heads, c .reads, andThen, pieceAt)
-    (unless-refused (rowsCauses (a .top) h (c .rows)) (asPieceText h (c .rows)) r (inl (ap not (c .loose), ap (refusalAt looseBox) n))))
+    (unless-refused (rowsCauses (a .top) h (c .rows)) (asPieceText h (c .rows)) r (inl (ap not (c .loose), ap (refusalOnLine looseBox) n))))
 
 -- a buffer too short
-buffers-refuse : (text : List ℕ) (tl pl line : ℕ) → BufferShort text tl pl line → readJob text tl pl ≡ refused (refusalAt wrongLength line)
+buffers-refuse : (text : List ℕ) (tl pl line : ℕ) → BufferShort text tl pl line → readJob text tl pl ≡ refused (refusalOnLine wrongLength line)
 unfolding readJob
 buffers-refuse text tl pl line c =
     let k : Lent = c .job in
@@ -192,7 +192,7 @@ buffers-refuse text tl pl line c =
     ⊎-elim (λ x. or-left few small (lt-ltb tl (k .size .count) x)) (λ x. or-right few small (lt-ltb pl (length (k .pixels)) x)) (c .short) in
     let short′ : (ltb tl (l .size .count) || ltb pl (length (l .pixels))) ≡ true =
     subst (λ (x : Lent). (ltb tl (x .size .count) || ltb pl (length (x .pixels))) ≡ true) (sym (u .same)) short in
-    let r : Refusal = refusalAt wrongLength 0 in
+    let r : Refusal = refusalOnLine wrongLength 0 in
     rw (c .unplaced) (rw (b .gives, b′ .gives, andThen, readJob) (unless-refused (bufferCauses tl pl l) l r (inl (short′, refl))))
 
 -- every cause leads to its refusal

@@ -17,15 +17,15 @@ use Rattle.model.specs.Lent.{Lent, turnsBound, upTo, entryColumns, entryRows, e
 use Rattle.model.specs.Piece.{sideBound}
 use Rattle.model.specs.Text.{byte, lineEnd, Reading, wrong, got, onward, after, threeFields, fourFields, lineAt, lineText}
 use Rattle.model.specs.JobText.{jobWord, pieceWord, rowWord, JobLine, asJobLine, jobLineCauses, jobLine, PieceLine, asPieceLine, pieceLineCauses, pieceLine, markAt, marksAt, rowAt, Rows, rowsAt, PieceText, rowsCauses, asPieceText, pieceAt, Pieces, noPieces, withPiece, piecesAt, asLent, bufferCauses, readJob, pixelMark, emptyMark}
-use Rattle.model.proofs.Tests.{and-left}
-use Rattle.text_laws.specs.JobWriting.{part, mark, rowText, rowsText, pieceText, piecesText, jobText, exactly}
+use Rattle.list_laws.proofs.Tests.{and-left}
+use Rattle.text_laws.specs.JobWriting.{bytesPart, mark, rowText, rowsText, pieceText, piecesText, jobText, exactJob}
 use Rattle.text_laws.specs.Exact.{JobWritten}
 use Rattle.text_laws.specs.Outcomes.{Unless}
 use Rattle.text_laws.proofs.Outcomes.{given-unless, given-before, given-formed, wrong-got, Onward, got-onward}
 use Rattle.job_laws.proofs.Checked.{Facts, facts}
 use Rattle.text_laws.proofs.JobRead.{JustRead, job-read-just, job-read-well}
 use Rattle.text_laws.proofs.JobReadBack.{job-read-back}
-use Rattle.text_laws.proofs.Spelling.{Spells, spells-none, spells-byte, spells-then, spells-same, spells-whole, passed, LineRead, line-spelled, three-fields, four-fields}
+use Rattle.text_laws.proofs.Spelling.{Spells, spells-none, spells-byte, spells-then, spells-same, spells-whole, passed, SpelledLine, line-spelled, three-fields, four-fields}
 
 -- ── rows ──
 
@@ -100,7 +100,7 @@ row-spelled text l p ms q e =
     }
 
 -- parts of stores that agree
-part-agree : (xs ys : List ℕ) (s t n : ℕ) → ((i : ℕ) → i < n → getD xs (s + i) 0 ≡ getD ys (t + i) 0) → part xs s n ≡ part ys t n
+part-agree : (xs ys : List ℕ) (s t n : ℕ) → ((i : ℕ) → i < n → getD xs (s + i) 0 ≡ getD ys (t + i) 0) → bytesPart xs s n ≡ bytesPart ys t n
 part-agree xs ys s t zero h = refl
 part-agree xs ys s t (suc n) h =
     let first : getD xs s 0 ≡ getD ys t 0 = simp add-zero at (h 0 (omega arith)) in
@@ -126,7 +126,7 @@ rows-agree xs ys l s t (suc left) h =
     rw (x, y) (h (l + i) (omega arith))))
 
 -- the front of a list is its part from 0 on
-part-whole : (ms rest : List ℕ) (l : ℕ) → length ms ≡ l → part (ms ++ rest) 0 l ≡ ms
+part-whole : (ms rest : List ℕ) (l : ℕ) → length ms ≡ l → bytesPart (ms ++ rest) 0 l ≡ ms
 part-whole [] rest zero h = refl
 part-whole [] rest (suc l) h = absurd (omega arith)
 part-whole (m ∷ ms) rest zero h = absurd (omega arith)
@@ -195,7 +195,7 @@ piece-line-spelled text j i area p line h e =
     let ks : List ℕ = f .value in
     let k : PieceLine = asPieceLine ks (f .next) in
     let u : Unless (pieceLineCauses line j i area k) k h = given-unless (pieceLineCauses line j i area k) k h (f .goes) in
-    let r : LineRead pieceWord fourFields text p (f .next) ks = line-spelled pieceWord fourFields text p ks (f .next) (f .reads) in
+    let r : SpelledLine pieceWord fourFields text p (f .next) ks = line-spelled pieceWord fourFields text p ks (f .next) (f .reads) in
     let a : Bool = eqb (k .number) i in
     let b : Bool = upTo sideBound (k .columns) in
     let c : Bool = upTo sideBound (k .rows) in
@@ -306,7 +306,7 @@ job-line-spelled text j e =
     let ks : List ℕ = f .value in
     let k : JobLine = asJobLine ks (f .next) in
     let u : Unless (jobLineCauses k) k j = given-unless (jobLineCauses k) k j (f .goes) in
-    let r : LineRead jobWord threeFields text 0 (f .next) ks = line-spelled jobWord threeFields text 0 ks (f .next) (f .reads) in
+    let r : SpelledLine jobWord threeFields text 0 (f .next) ks = line-spelled jobWord threeFields text 0 ks (f .next) (f .reads) in
     let spelled : Spells text 0 (k .next) (lineText jobWord threeFields (k .size .rows ∷ k .size .columns ∷ k .size .count ∷ [])) =
     spells-same (r .spells) refl (ap (lineText jobWord threeFields) (sym (three-fields ks (r .size)))) in
     rw (← u .same) spelled
@@ -335,13 +335,13 @@ job-only-text text tableLength pixelsLength k e =
     rw (← u .same) (pieces-only-text text j r (b .gives) (b′ .gives))
 
 -- a job that is read is all that its buffers hold of it
-read-whole : (text : List ℕ) (tableLength pixelsLength : ℕ) (k : Lent) → readJob text tableLength pixelsLength ≡ given k → exactly k ≡ k
+read-whole : (text : List ℕ) (tableLength pixelsLength : ℕ) (k : Lent) → readJob text tableLength pixelsLength ≡ given k → exactJob k ≡ k
 read-whole text tableLength pixelsLength k e =
     let just : JustRead tableLength pixelsLength k = job-read-just text tableLength pixelsLength k e in
-    let again : readJob (jobText k) tableLength pixelsLength ≡ given (exactly k) =
+    let again : readJob (jobText k) tableLength pixelsLength ≡ given (exactJob k) =
     job-read-back k (job-read-well text tableLength pixelsLength k e) tableLength pixelsLength (just .entriesRoom)
     (let b = just .bytes in let r = just .bytesRoom in omega arith) in
-    let same : _≡_ {A = Outcome Lent} (given (exactly k)) (given k) =
+    let same : _≡_ {A = Outcome Lent} (given (exactJob k)) (given k) =
     sym again ∙ ap (λ (t : List ℕ). readJob t tableLength pixelsLength) (sym (job-only-text text tableLength pixelsLength k e)) ∙ e in
     cc
 

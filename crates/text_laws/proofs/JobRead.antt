@@ -16,13 +16,14 @@ use Rattle.model.specs.Refusal.{Outcome, given}
 use Rattle.model.specs.Lent.{Lent, turnsBound, areaBound, upTo, numbersInRange, entryColumns, entryRows, pixelStart, entryInRange, entryFits, lentShape, sheetInRange, lentWell}
 use Rattle.model.specs.Text.{byte, Reading, wrong, got, onward, after, lineEnd, threeFields, fourFields, lineAt}
 use Rattle.model.specs.JobText.{jobWord, pieceWord, rowWord, JobLine, asJobLine, jobLineCauses, jobLine, PieceLine, asPieceLine, pieceInRange, pieceLineCauses, pieceLine, pixelMark, emptyMark, markAt, marksAt, rowAt, Rows, rowsAt, boxShape, PieceText, rowsCauses, asPieceText, pieceAt, Pieces, noPieces, withPiece, piecesAt, asLent, bufferCauses, readJob}
-use Rattle.model.proofs.Tests.{and-left, and-right, and-both, or-neither}
+use Rattle.list_laws.proofs.Numbers.{in-rows}
+use Rattle.list_laws.proofs.Tests.{and-left, and-right, and-both, or-neither}
 use Rattle.job_laws.proofs.Ranges.{at-least, side-facts}
 use Rattle.text_laws.specs.Limits.{sidesInRange}
 use Rattle.text_laws.specs.Outcomes.{Unless}
 use Rattle.text_laws.proofs.Outcomes.{given-unless, given-before, given-formed, wrong-got, Onward, got-onward, got-after}
 use Rattle.job_laws.proofs.Checked.{well}
-use Rattle.text_laws.proofs.Store.{start-after, in-box, tight-agree}
+use Rattle.text_laws.proofs.Store.{start-after, tight-agree}
 
 -- ── rows ──
 
@@ -201,7 +202,7 @@ module _ (j : JobLine) (left area : ℕ) (h : PieceText) (r : Pieces) (first : P
             ap (λ (b : ℕ). eqb b 1)
             (ap (λ (k : ℕ). getD (h .pixels ++ r .pixels) k 0) (zero-add (y * h .columns + x))
             ∙ List·getD-append (h .pixels) (r .pixels) 0 (y * h .columns + x)
-            (let s = first .store .size in let m : y * h .columns + x < h .rows * h .columns = in-box hx hy in omega arith));
+            (let s = first .store .size in let m : y * h .columns + x < h .rows * h .columns = in-rows hx hy in omega arith));
       })
       ∙ first .tightBox
 

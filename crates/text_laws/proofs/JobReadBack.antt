@@ -15,16 +15,17 @@ use Rattle.model.specs.Refusal.{given}
 use Rattle.model.specs.Lent.{Lent, rowBound, columnBound, pieceBound, turnsBound, areaBound, upTo, numbersInRange, entryColumns, entryRows, entryTurns, pixelStart, entryInRange, lentShape, sheetInRange, lentWell}
 use Rattle.model.specs.Text.{Reading, got, onward, after, lineEnd, threeFields, fourFields, lineAt, lineText, formed, andThen}
 use Rattle.model.specs.JobText.{jobWord, pieceWord, rowWord, JobLine, jobLineCauses, jobLine, PieceLine, pieceLineCauses, pieceLine, markAt, marksAt, rowAt, rowsAt, boxShape, PieceText, asPieceText, pieceAt, noPieces, piecesAt, readJob}
-use Rattle.model.proofs.Tests.{and-left}
+use Rattle.list_laws.proofs.Numbers.{in-rows}
+use Rattle.list_laws.proofs.Tests.{and-left}
 use Rattle.text_laws.proofs.Ahead.{Ahead, ahead-start, ahead-byte, ahead-next, ahead-word, after-ahead, ahead-end}
-use Rattle.text_laws.proofs.Fields.{Reads, Gives, Writable, line-ahead}
+use Rattle.text_laws.proofs.Fields.{FieldReads, FieldGives, Writable, line-ahead}
 use Rattle.text_laws.specs.Outcomes.{NoCause}
 use Rattle.text_laws.proofs.Outcomes.{unless-given}
 use Rattle.job_laws.proofs.Starts.{start-grows, start-end}
-use Rattle.text_laws.proofs.Store.{in-box, tight-agree}
+use Rattle.text_laws.proofs.Store.{tight-agree}
 use Rattle.job_laws.proofs.Checked.{Facts, facts}
 use Rattle.text_laws.proofs.JobRead.{AllBits}
-use Rattle.text_laws.specs.JobWriting.{part, mark, rowText, rowsText, entryNumbers, pieceText, piecesText, jobText, entriesFrom, exactly}
+use Rattle.text_laws.specs.JobWriting.{bytesPart, mark, rowText, rowsText, entryFields, pieceText, piecesText, jobText, entriesFrom, exactJob}
 use Rattle.text_laws.proofs.JobWriting.{part-length, part-at, part-append, part-front, pixelsFrom}
 
 -- ── rows ──
@@ -38,21 +39,21 @@ mark-ahead (suc (suc b)) rest h a = absurd (omega arith)
 
 -- marks that lie ahead
 marks-ahead : {text : List ℕ} {p : ℕ} (bs rest : List ℕ) → AllBits bs → Ahead text p (map mark bs ++ rest)
-    → Reads (marksAt text (length bs) p) bs text rest
+    → FieldReads (marksAt text (length bs) p) bs text rest
 unfolding marksAt
 marks-ahead {text} {p} [] rest h a = record { next = p; reads = refl; ahead = a }
 marks-ahead {text} {p} (b ∷ bs) rest h a =
     let m : markAt text p ≡ got b (suc p) = mark-ahead b (map mark bs ++ rest) (h .0) a in
-    let r : Reads (marksAt text (length bs) (suc p)) bs text rest = marks-ahead bs rest (h .1) (ahead-next a) in
+    let r : FieldReads (marksAt text (length bs) (suc p)) bs text rest = marks-ahead bs rest (h .1) (ahead-next a) in
     record { next = r .next; reads = rw (m, r .reads, onward); ahead = r .ahead }
 
 -- a row line that lies ahead
 row-ahead : {text : List ℕ} {p : ℕ} (bs rest : List ℕ) → AllBits bs → Ahead text p (rowText bs ++ rest)
-    → Reads (rowAt text (length bs) p) bs text rest
+    → FieldReads (rowAt text (length bs) p) bs text rest
 unfolding rowAt
 row-ahead {text} {p} bs rest h a =
     let a′ : Ahead text p (rowWord ++ (map mark bs ++ (lineEnd ∷ rest))) = simp append-assoc at a in
-    let r : Reads (marksAt text (length bs) (p + length rowWord)) bs text (lineEnd ∷ rest) =
+    let r : FieldReads (marksAt text (length bs) (p + length rowWord)) bs text (lineEnd ∷ rest) =
     marks-ahead bs (lineEnd ∷ rest) h (ahead-word rowWord a′) in
     let ending : List ℕ → ℕ → Reading (List ℕ) = λ ms q. after (lineEnd ∷ []) text q (λ n. got ms n) in
     record {
@@ -64,28 +65,28 @@ row-ahead {text} {p} bs rest h a =
     }
 
 -- bytes of a part of the store
-part-bits : (ks : List ℕ) (s n : ℕ) → ((i : ℕ) → i < s + n → getD ks i 0 ≤ 1) → AllBits (part ks s n)
+part-bits : (ks : List ℕ) (s n : ℕ) → ((i : ℕ) → i < s + n → getD ks i 0 ≤ 1) → AllBits (bytesPart ks s n)
 part-bits ks s zero h = tt
 part-bits ks s (suc n) h = (h s (omega arith), part-bits ks (suc s) n (λ i l. h i (omega arith)))
 
 -- row lines that lie ahead
 rows-ahead : {text : List ℕ} {p : ℕ} (pixels : List ℕ) (l s left line : ℕ) (rest : List ℕ)
     → ((i : ℕ) → i < s + left * l → getD pixels i 0 ≤ 1) → Ahead text p (rowsText pixels l s left ++ rest)
-    → Gives (rowsAt text l left p line) (λ n. record { pixels = part pixels s (left * l); next = n }) text rest
+    → FieldGives (rowsAt text l left p line) (λ n. record { pixels = bytesPart pixels s (left * l); next = n }) text rest
 unfolding rowsAt rowsText
 rows-ahead {text} {p} pixels l s zero line rest h a =
     record { next = p; gives = rw zero-mul; ahead = a }
 rows-ahead {text} {p} pixels l s (suc left) line rest h a =
-    let a′ : Ahead text p (rowText (part pixels s l) ++ (rowsText pixels l (s + l) left ++ rest)) =
-    rw (append-assoc (rowText (part pixels s l)) (rowsText pixels l (s + l) left) rest) at a in
+    let a′ : Ahead text p (rowText (bytesPart pixels s l) ++ (rowsText pixels l (s + l) left ++ rest)) =
+    rw (append-assoc (rowText (bytesPart pixels s l)) (rowsText pixels l (s + l) left) rest) at a in
     let size : suc left * l ≡ l + left * l = omega (arith, suc-mul left l) in
-    let f : Reads (rowAt text (length (part pixels s l)) p) (part pixels s l) text (rowsText pixels l (s + l) left ++ rest) =
-    row-ahead (part pixels s l) (rowsText pixels l (s + l) left ++ rest) (part-bits pixels s l (λ i b. h i (omega arith))) a′ in
-    let g : Gives (rowsAt text l left (f .next) (suc line)) (λ n. record { pixels = part pixels (s + l) (left * l); next = n }) text rest =
+    let f : FieldReads (rowAt text (length (bytesPart pixels s l)) p) (bytesPart pixels s l) text (rowsText pixels l (s + l) left ++ rest) =
+    row-ahead (bytesPart pixels s l) (rowsText pixels l (s + l) left ++ rest) (part-bits pixels s l (λ i b. h i (omega arith))) a′ in
+    let g : FieldGives (rowsAt text l left (f .next) (suc line)) (λ n. record { pixels = bytesPart pixels (s + l) (left * l); next = n }) text rest =
     rows-ahead pixels l (s + l) left (suc line) rest (λ i b. h i (omega arith)) (f .ahead) in
-    let reads : rowAt text l p ≡ got (part pixels s l) (f .next) = rw part-length at (f .reads) in
-    let whole : part pixels s (suc left * l) ≡ part pixels s l ++ part pixels (s + l) (left * l) =
-    ap (λ (n : ℕ). part pixels s n) size ∙ part-append pixels s l (left * l) in
+    let reads : rowAt text l p ≡ got (bytesPart pixels s l) (f .next) = rw part-length at (f .reads) in
+    let whole : bytesPart pixels s (suc left * l) ≡ bytesPart pixels s l ++ bytesPart pixels (s + l) (left * l) =
+    ap (λ (n : ℕ). bytesPart pixels s n) size ∙ part-append pixels s l (left * l) in
     record { next = g .next; gives = rw (reads, g .gives, whole, formed, andThen); ahead = g .ahead }
 
 -- ── pieces ──
@@ -105,7 +106,7 @@ pieceNumbers k i next =
 
 -- the pixel bytes of piece i
 abbrev piecePixels : Lent → ℕ → List ℕ
-piecePixels k i = part (k .pixels) (pixelStart (k .table) i) (entryRows (k .table) i * entryColumns (k .table) i)
+piecePixels k i = bytesPart (k .pixels) (pixelStart (k .table) i) (entryRows (k .table) i * entryColumns (k .table) i)
 
 -- what the lines of piece i say
 abbrev pieceContent : Lent → ℕ → ℕ → PieceText
@@ -128,25 +129,25 @@ module _ (k : Lent) (facts : Facts k) (i : ℕ) (below : i < k .size .count) whe
         rows = refl;
         wide = facts .columnsSome i below;
         high = facts .rowsSome i below;
-        has = λ x y hx hy. ap (λ (b : ℕ). eqb b 1) (part-at (k .pixels) (pixelStart (k .table) i) (w * l) (y * l + x) (in-box hx hy));
+        has = λ x y hx hy. ap (λ (b : ℕ). eqb b 1) (part-at (k .pixels) (pixelStart (k .table) i) (w * l) (y * l + x) (in-rows hx hy));
       })
       ∙ facts .tightBoxes i below
 
   -- the piece line that lies ahead
   piece-line-ahead : {text : List ℕ} {p : ℕ} (m line : ℕ) (rest : List ℕ) → k .size .count ≤ pieceBound
-      → Ahead text p (lineText pieceWord fourFields (i ∷ entryNumbers (k .table) i) ++ rest)
-      → Gives (pieceLine text (sheetLine k m) i (pixelStart (k .table) i) p line) (pieceNumbers k i) text rest
+      → Ahead text p (lineText pieceWord fourFields (i ∷ entryFields (k .table) i) ++ rest)
+      → FieldGives (pieceLine text (sheetLine k m) i (pixelStart (k .table) i) p line) (pieceNumbers k i) text rest
   unfolding pieceLine entryInRange
   piece-line-ahead {text} {p} m line rest hn a =
       let l : ℕ = entryColumns (k .table) i in
       let w : ℕ = entryRows (k .table) i in
       let o : ℕ = entryTurns (k .table) i in
-      let ks : List ℕ = i ∷ entryNumbers (k .table) i in
+      let ks : List ℕ = i ∷ entryFields (k .table) i in
       let sl : l ≤ sideBound = facts .columnsSmall i below in
       let sw : w ≤ sideBound = facts .rowsSmall i below in
       let so : o ≤ turnsBound = facts .turnsFew i below in
       let able : Writable fourFields ks = (refl, omega arith, (refl, omega arith, (refl, omega arith, (refl, omega arith, tt)))) in
-      let r : Reads (lineAt pieceWord fourFields text p) ks text rest = line-ahead pieceWord fourFields ks rest able a in
+      let r : FieldReads (lineAt pieceWord fourFields text p) ks text rest = line-ahead pieceWord fourFields ks rest able a in
       let causes = pieceLineCauses line (sheetLine k m) i (pixelStart (k .table) i) (pieceNumbers k i (r .next)) in
       let none : NoCause causes = (
         ap not (and-front (upTo sideBound l) (upTo sideBound w) (eqb (o % 2) 1) (leb o turnsBound) (eq-eqb i i refl) (facts .ranges i below)),
@@ -166,18 +167,18 @@ module _ (k : Lent) (facts : Facts k) (i : ℕ) (below : i < k .size .count) whe
 
   -- the lines of the piece that lie ahead
   piece-ahead : {text : List ℕ} {p : ℕ} (m line : ℕ) (rest : List ℕ) → k .size .count ≤ pieceBound → Ahead text p (pieceText k i ++ rest)
-      → Gives (pieceAt text (sheetLine k m) i (pixelStart (k .table) i) p line) (pieceContent k i) text rest
+      → FieldGives (pieceAt text (sheetLine k m) i (pixelStart (k .table) i) p line) (pieceContent k i) text rest
   unfolding pieceAt
   piece-ahead {text} {p} m line rest hn a =
       let l : ℕ = entryColumns (k .table) i in
       let w : ℕ = entryRows (k .table) i in
       let s : ℕ = pixelStart (k .table) i in
       let rows : List ℕ = rowsText (k .pixels) l s w in
-      let a′ : Ahead text p (lineText pieceWord fourFields (i ∷ entryNumbers (k .table) i) ++ (rows ++ rest)) =
-      rw (append-assoc (lineText pieceWord fourFields (i ∷ entryNumbers (k .table) i)) rows rest) at a in
-      let g : Gives (pieceLine text (sheetLine k m) i s p line) (pieceNumbers k i) text (rows ++ rest) =
+      let a′ : Ahead text p (lineText pieceWord fourFields (i ∷ entryFields (k .table) i) ++ (rows ++ rest)) =
+      rw (append-assoc (lineText pieceWord fourFields (i ∷ entryFields (k .table) i)) rows rest) at a in
+      let g : FieldGives (pieceLine text (sheetLine k m) i s p line) (pieceNumbers k i) text (rows ++ rest) =
       piece-line-ahead m line (rows ++ rest) hn a′ in
-      let r : Gives (rowsAt text l w (g .next) (suc line)) (λ n. record { pixels = piecePixels k i; next = n }) text rest =
+      let r : FieldGives (rowsAt text l w (g .next) (suc line)) (λ n. record { pixels = piecePixels k i; next = n }) text rest =
       rows-ahead (k .pixels) l s w (suc line) rest box-bits (g .ahead) in
       record {
         next = r .next;
@@ -193,14 +194,14 @@ pieces-ahead : {text : List ℕ} {p : ℕ} (k : Lent) → Facts k → k .size .c
 unfolding piecesAt piecesText pixelStart
 pieces-ahead {text} {p} k facts hn m zero i line e a = unless-given _ noPieces (ap not (eq-eqb p (length text) (ahead-end a)), tt)
 pieces-ahead {text} {p} k facts hn m (suc left) i line e a =
-    let g : Gives (pieceAt text (sheetLine k m) i (pixelStart (k .table) i) p line) (pieceContent k i) text (piecesText k (suc i) left) =
+    let g : FieldGives (pieceAt text (sheetLine k m) i (pixelStart (k .table) i) p line) (pieceContent k i) text (piecesText k (suc i) left) =
     piece-ahead k facts i (omega arith) m line (piecesText k (suc i) left) hn a in
     let later = pieces-ahead k facts hn m left (suc i) (suc (line + entryRows (k .table) i)) (omega arith) (g .ahead) in
     rw (g .gives, later, andThen)
 
 -- the pixel bytes of pieces one after the other are a part of the store
 pixels-from : (k : Lent) (i left size : ℕ) → pixelStart (k .table) i + size ≡ pixelStart (k .table) (i + left)
-    → pixelsFrom k i left ≡ part (k .pixels) (pixelStart (k .table) i) size
+    → pixelsFrom k i left ≡ bytesPart (k .pixels) (pixelStart (k .table) i) size
 unfolding pixelStart
 pixels-from k i zero size e =
     let z : size ≡ 0 = let e′ = rw add-zero at e in omega arith in
@@ -213,11 +214,11 @@ pixels-from k i (suc left) size e =
     let grows : pixelStart (k .table) (suc i) ≤ pixelStart (k .table) (suc i + left) = start-grows (k .table) (suc i) left in
     let split : area + (size - area) ≡ size = omega arith in
     let here : pixelStart (k .table) (suc i) ≡ pixelStart (k .table) i + area = omega arith in
-    let later : pixelsFrom k (suc i) left ≡ part (k .pixels) (pixelStart (k .table) (suc i)) (size - area) =
+    let later : pixelsFrom k (suc i) left ≡ bytesPart (k .pixels) (pixelStart (k .table) (suc i)) (size - area) =
     pixels-from k (suc i) left (size - area) (omega arith) in
-    ap (λ (ks : List ℕ). part (k .pixels) (pixelStart (k .table) i) area ++ ks) (later ∙ ap (λ (n : ℕ). part (k .pixels) n (size - area)) here)
+    ap (λ (ks : List ℕ). bytesPart (k .pixels) (pixelStart (k .table) i) area ++ ks) (later ∙ ap (λ (n : ℕ). bytesPart (k .pixels) n (size - area)) here)
     ∙ sym (part-append (k .pixels) (pixelStart (k .table) i) area (size - area))
-    ∙ ap (λ (n : ℕ). part (k .pixels) (pixelStart (k .table) i) n) split
+    ∙ ap (λ (n : ℕ). bytesPart (k .pixels) (pixelStart (k .table) i) n) split
 
 -- the pixel bytes of all pieces are the front of the store
 exact-pixels : (k : Lent) → pixelStart (k .table) (k .size .count) ≤ length (k .pixels)
@@ -231,7 +232,7 @@ exact-pixels k h =
 
 -- the job line that lies ahead
 job-line-ahead : {text : List ℕ} (k : Lent) → Facts k → (rest : List ℕ)
-    → Ahead text 0 (lineText jobWord threeFields (k .size .rows ∷ k .size .columns ∷ k .size .count ∷ []) ++ rest) → Gives (jobLine text) (sheetLine k) text rest
+    → Ahead text 0 (lineText jobWord threeFields (k .size .rows ∷ k .size .columns ∷ k .size .count ∷ []) ++ rest) → FieldGives (jobLine text) (sheetLine k) text rest
 unfolding jobLine sheetInRange
 job-line-ahead {text} k facts rest a =
     let ks : List ℕ = k .size .rows ∷ k .size .columns ∷ k .size .count ∷ [] in
@@ -239,7 +240,7 @@ job-line-ahead {text} k facts rest a =
     let hc : k .size .columns ≤ columnBound = facts .fewColumns in
     let hn : k .size .count ≤ pieceBound = facts .fewPieces in
     let able : Writable threeFields ks = (refl, omega arith, (refl, omega arith, (refl, omega arith, tt))) in
-    let r : Reads (lineAt jobWord threeFields text 0) ks text rest = line-ahead jobWord threeFields ks rest able a in
+    let r : FieldReads (lineAt jobWord threeFields text 0) ks text rest = line-ahead jobWord threeFields ks rest able a in
     record {
       next = r .next;
       gives =
@@ -251,14 +252,14 @@ job-line-ahead {text} k facts rest a =
 
 -- a lent job that passes the check is one that reading gives: its text is read, with buffers that suffice, as just that job
 pub job-read-back : (k : Lent) → lentWell k ≡ true → (tableLength pixelsLength : ℕ) → k .size .count ≤ tableLength
-    → pixelStart (k .table) (k .size .count) ≤ pixelsLength → readJob (jobText k) tableLength pixelsLength ≡ given (exactly k)
+    → pixelStart (k .table) (k .size .count) ≤ pixelsLength → readJob (jobText k) tableLength pixelsLength ≡ given (exactJob k)
 unfolding readJob jobText pixelStart
 job-read-back k well tableLength pixelsLength ht hp =
     let f : Facts k = facts k well in
     let text : List ℕ = jobText k in
     let total : ℕ = pixelStart (k .table) (k .size .count) in
     let hn : k .size .count ≤ pieceBound = f .fewPieces in
-    let g : Gives (jobLine text) (sheetLine k) text (piecesText k 0 (k .size .count)) =
+    let g : FieldGives (jobLine text) (sheetLine k) text (piecesText k 0 (k .size .count)) =
     job-line-ahead k f (piecesText k 0 (k .size .count)) (ahead-start text) in
     let pixels : pixelsFrom k 0 (k .size .count) ≡ take total (k .pixels) = exact-pixels k (f .store) in
     let r : piecesAt text (sheetLine k (g .next)) (k .size .count) 0 0 (g .next) 2
@@ -266,5 +267,5 @@ job-read-back k well tableLength pixelsLength ht hp =
     rw pixels at (pieces-ahead k f hn (g .next) (k .size .count) 0 2 (zero-add (k .size .count)) (g .ahead)) in
     let size : length (take total (k .pixels)) ≡ total = length-take-le total (k .pixels) (f .store) in
     rw (g .gives, r, andThen, readJob)
-    (unless-given _ (exactly k)
+    (unless-given _ (exactJob k)
     (ap₂ (λ (x y : Bool). x || y) (le-ltb tableLength (k .size .count) ht) (le-ltb pixelsLength (length (take total (k .pixels))) (omega arith)), tt))

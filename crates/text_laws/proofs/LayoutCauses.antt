@@ -15,8 +15,8 @@ use Rattle.model.specs.Refusal.{refused, wrongForm, outOfRange, noSuchPiece, ou
 use Rattle.model.specs.Text.{threeFields, field, formed, andThen}
 use Rattle.model.specs.LayoutText.{layoutWord, sheetNumbers, layoutLineCauses, layoutLine, PlacementLine, asPlacementLine, placementCauses, placementLine, placementsAt, readLayout}
 use Rattle.model.specs.declared.Refusal.{Refusal}
-use Rattle.model.proofs.Tests.{and-left, and-right, fails}
-use Rattle.text_laws.specs.LinePlaces.{refusalAt}
+use Rattle.list_laws.proofs.Tests.{and-left, and-right, fails}
+use Rattle.text_laws.specs.LinePlaces.{refusalOnLine}
 use Rattle.text_laws.specs.LayoutRefusals.{PlacementsBefore, no-placement, placement-then, PlacementPlace, PlacementNumbers, LayoutFormWrong, wrong-layout-line, wrong-placement-line, line-too-many, LayoutOutOfRange, sheet-unlike, placement-out-of-range, TurnNotAllowed, PlacementOutside, LayoutLengthWrong, LayoutCausesRefuse}
 use Rattle.text_laws.proofs.Outcomes.{given-before}
 use Rattle.text_laws.proofs.Spelling.{line-spelled, three-fields}
@@ -66,13 +66,13 @@ module _ (j : Job) (text : List ℕ) (room : ℕ) (r : Refusal) where
 
 -- a line of wrong form
 form-refuses : (j : Job) (text : List ℕ) (room line : ℕ) → LayoutFormWrong j text line
-    → readLayout j text room ≡ refused (refusalAt wrongForm line)
+    → readLayout j text room ≡ refused (refusalOnLine wrongForm line)
 unfolding layoutLine placementLine placementsAt
 form-refuses j text room line (wrong-layout-line n e) =
-    rw n (layout-line-stops j text room (refusalAt wrongForm 1) (rw (e, formed)))
-form-refuses j text room line (wrong-placement-line a e) = placement-stops j text room (refusalAt wrongForm line) line a (rw (e, formed))
+    rw n (layout-line-stops j text room (refusalOnLine wrongForm 1) (rw (e, formed)))
+form-refuses j text room line (wrong-placement-line a e) = placement-stops j text room (refusalOnLine wrongForm line) line a (rw (e, formed))
 form-refuses j text room line (line-too-many a b) =
-    let r : Refusal = refusalAt wrongForm line in
+    let r : Refusal = refusalOnLine wrongForm line in
     let more : not (eqb (a .at) (length text)) ≡ true = ap not (ne-eqb (a .at) (length text) (λ e. omega arith)) in
     placements-resume room r (a .before) 0 (add-zero (j .size .count)) (unless-refused _ [] r (inl (more, refl)))
 
@@ -93,39 +93,39 @@ unlike j ks size ne =
 
 -- a number out of range
 range-refuses : (j : Job) (text : List ℕ) (room line : ℕ) → LayoutOutOfRange j text line
-    → readLayout j text room ≡ refused (refusalAt outOfRange line)
+    → readLayout j text room ≡ refused (refusalOnLine outOfRange line)
 unfolding layoutLine
 range-refuses j text room line (sheet-unlike ks next n e ne) =
-    let r : Refusal = refusalAt outOfRange 1 in
+    let r : Refusal = refusalOnLine outOfRange 1 in
     let size : length ks ≡ 3 = line-spelled layoutWord threeFields text 0 ks next e .size in
     rw n
     (layout-line-stops j text room r
     (rw (e, formed) (unless-refused (layoutLineCauses j ks) next r (inl (ap not (unlike j ks size ne), refl)))))
 range-refuses j text room line (placement-out-of-range a e) =
-    numbers-stop j text room (refusalAt outOfRange line) line a (inl (ap not e, refl))
+    numbers-stop j text room (refusalOnLine outOfRange line) line a (inl (ap not e, refl))
 
 -- a turn that is not allowed
 turn-refuses : (j : Job) (text : List ℕ) (room line : ℕ) → TurnNotAllowed j text line
-    → readLayout j text room ≡ refused (refusalAt noSuchPiece line)
+    → readLayout j text room ≡ refused (refusalOnLine noSuchPiece line)
 turn-refuses j text room line c =
-    numbers-stop j text room (refusalAt noSuchPiece line) line (c .piece) (inr (ap not (c .ranges), inl (ap not (c .unallowed), refl)))
+    numbers-stop j text room (refusalOnLine noSuchPiece line) line (c .piece) (inr (ap not (c .ranges), inl (ap not (c .unallowed), refl)))
 
 -- a placement outside
 outside-refuses : (j : Job) (text : List ℕ) (room line : ℕ) → PlacementOutside j text line
-    → readLayout j text room ≡ refused (refusalAt outsideSheet line)
+    → readLayout j text room ≡ refused (refusalOnLine outsideSheet line)
 outside-refuses j text room line c =
-    numbers-stop j text room (refusalAt outsideSheet line) line (c .piece)
+    numbers-stop j text room (refusalOnLine outsideSheet line) line (c .piece)
     (inr (ap not (c .ranges), inr (ap not (c .turn), inl (ap not (c .outside), refl))))
 
 -- a buffer of another length
 buffer-refuses : (j : Job) (text : List ℕ) (room line : ℕ) → LayoutLengthWrong j text room line
-    → readLayout j text room ≡ refused (refusalAt wrongLength line)
+    → readLayout j text room ≡ refused (refusalOnLine wrongLength line)
 unfolding readLayout
 buffer-refuses j text room line c =
     let v : Layout = c .layout in
     let b = given-before (layoutLine j text) _ v (c .readable) in
     let b′ = given-before (placementsAt j text (j .size .count) 0 (b .value) 2) _ v (b .goes) in
-    let r : Refusal = refusalAt wrongLength 0 in
+    let r : Refusal = refusalOnLine wrongLength 0 in
     rw (c .unplaced)
     (rw (b .gives, b′ .gives, andThen, readLayout)
     (unless-refused _ (b′ .value) r (inl (ap not (ne-eqb room (j .size .count) (c .unequal)), refl))))

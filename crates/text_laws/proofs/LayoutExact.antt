@@ -16,7 +16,7 @@ use Rattle.model.specs.Lent.{rowBound, columnBound, pieceBound}
 use Rattle.model.specs.Buffer.{isTurn, entryOf}
 use Rattle.model.specs.Text.{threeFields, fourFields, lineAt, lineText, field}
 use Rattle.model.specs.LayoutText.{layoutWord, atWord, placementText, placementsText, sheetNumbers, layoutText, PlacementLine, asPlacementLine, layoutLineCauses, placementCauses, layoutLine, placementLine, placementsAt, readLayout}
-use Rattle.model.proofs.Tests.{and-left, and-right}
+use Rattle.list_laws.proofs.Tests.{and-left, and-right}
 use Rattle.text_laws.specs.Exact.{LayoutWritten}
 use Rattle.text_laws.specs.Texts.{Placed}
 use Rattle.text_laws.proofs.LayoutRead.{AllPlaced, layout-read-placed}
@@ -24,7 +24,7 @@ use Rattle.text_laws.proofs.LayoutReadBack.{layout-read-back}
 use Rattle.text_laws.specs.Outcomes.{Unless}
 use Rattle.text_laws.proofs.Outcomes.{given-unless, given-before, given-formed}
 use Rattle.text_laws.proofs.Entries.{entry-written-back}
-use Rattle.text_laws.proofs.Spelling.{Spells, spells-none, spells-then, spells-same, spells-whole, LineRead, line-spelled, three-fields, four-fields}
+use Rattle.text_laws.proofs.Spelling.{Spells, spells-none, spells-then, spells-same, spells-whole, SpelledLine, line-spelled, three-fields, four-fields}
 
 -- the layout line that is given is written with the job's numbers
 pub layout-line-spelled : (j : Job) (text : List ℕ) (p : ℕ) → layoutLine j text ≡ given p
@@ -34,7 +34,7 @@ layout-line-spelled j text p e =
     let f = given-formed 1 (lineAt layoutWord threeFields text 0) _ p e in
     let ks : List ℕ = f .value in
     let u : Unless (layoutLineCauses j ks) (f .next) p = given-unless (layoutLineCauses j ks) (f .next) p (f .goes) in
-    let r : LineRead layoutWord threeFields text 0 (f .next) ks = line-spelled layoutWord threeFields text 0 ks (f .next) (f .reads) in
+    let r : SpelledLine layoutWord threeFields text 0 (f .next) ks = line-spelled layoutWord threeFields text 0 ks (f .next) (f .reads) in
     let a : Bool = eqb (field ks 0) (j .size .rows) in
     let b : Bool = eqb (field ks 1) (j .size .columns) in
     let c : Bool = eqb (field ks 2) (j .size .count) in
@@ -56,7 +56,7 @@ placement-line-spelled j text i p line h e =
     let here : PlacementLine = asPlacementLine ks (f .next) in
     let causes = placementCauses line j i ks (here .place) in
     let u : Unless causes here h = given-unless causes here h (f .goes) in
-    let r : LineRead atWord fourFields text p (f .next) ks = line-spelled atWord fourFields text p ks (f .next) (f .reads) in
+    let r : SpelledLine atWord fourFields text p (f .next) ks = line-spelled atWord fourFields text p ks (f .next) (f .reads) in
     let a : Bool = eqb (field ks 0) i in
     let t : Bool = isTurn (field ks 1) in
     let at : (a && t) ≡ true = not-false (a && t) (u .none .0) in

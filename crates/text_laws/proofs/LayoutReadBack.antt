@@ -20,9 +20,9 @@ use Rattle.model.specs.LayoutText.{layoutWord, atWord, placementText, placement
 use Rattle.model.specs.declared.Turn.{Turn}
 use Rattle.model.specs.declared.Turn.the-variants.{Zero, Quarter, Half, ThreeQuarters}
 use Rattle.model.specs.declared.Placement.{Placement}
-use Rattle.model.proofs.Tests.{and-left, and-right, and-both}
+use Rattle.list_laws.proofs.Tests.{and-left, and-right, and-both}
 use Rattle.text_laws.proofs.Ahead.{Ahead, ahead-start, ahead-end}
-use Rattle.text_laws.proofs.Fields.{Reads, Gives, Writable, line-ahead}
+use Rattle.text_laws.proofs.Fields.{FieldReads, FieldGives, Writable, line-ahead}
 use Rattle.text_laws.proofs.Outcomes.{unless-given}
 use Rattle.text_laws.specs.Texts.{Placed}
 use Rattle.text_laws.proofs.Entries.{degrees-turn, entry-read-back}
@@ -46,14 +46,14 @@ corner-short j i p e =
 -- the line of a placement that lies ahead gives the placement
 placement-ahead : {text : List ℕ} {p : ℕ} (j : Job) (i line : ℕ) (q : Placement) (rest : List ℕ) → j .size .rows ≤ rowBound → j .size .columns ≤ columnBound
     → i < pieceBound → Placed j i q → Ahead text p (placementText i q ++ rest)
-    → Gives (placementLine j text i p line) (λ n. record { place = q; next = n }) text rest
+    → FieldGives (placementLine j text i p line) (λ n. record { place = q; next = n }) text rest
 unfolding placementLine
 placement-ahead {text} {p} j i line q rest hr hc hi h a =
     let ks : List ℕ = i ∷ entryOf q in
     let short = corner-short j i q (h .within) in
     let w : Writable fourFields ks =
     (refl, omega arith, (refl, degrees-short (q .turn), (refl, omega arith, (refl, omega arith, tt)))) in
-    let r : Reads (lineAt atWord fourFields text p) ks text rest = line-ahead atWord fourFields ks rest w a in
+    let r : FieldReads (lineAt atWord fourFields text p) ks text rest = line-ahead atWord fourFields ks rest w a in
     let here : Placement → PlacementLine = λ (q′ : Placement). record { place = q′; next = r .next } in
     let none : unless (placementCauses line j i ks q) (here q) ≡ given (here q) =
     unless-given (placementCauses line j i ks q) (here q)
@@ -73,7 +73,7 @@ placements-ahead {text} {p} j i line [] hr hc hn h a =
     unless-given _ [] (ap not (eq-eqb p (length text) (ahead-end a)), tt)
 placements-ahead {text} {p} j i line (q ∷ v) hr hc hn h a =
     let first : Placed j i q = rw add-zero at (h 0 (omega arith)) in
-    let g : Gives (placementLine j text i p line) (λ n. record { place = q; next = n }) text (placementsText (suc i) v) =
+    let g : FieldGives (placementLine j text i p line) (λ n. record { place = q; next = n }) text (placementsText (suc i) v) =
     placement-ahead j i line q (placementsText (suc i) v) hr hc (omega arith) first a in
     let later : placementsAt j text (length v) (suc i) (g .next) (suc line) ≡ given v =
     placements-ahead j (suc i) (suc line) v hr hc (omega arith)
@@ -83,12 +83,12 @@ placements-ahead {text} {p} j i line (q ∷ v) hr hc hn h a =
 
 -- the layout line that lies ahead is passed
 layout-line-ahead : {text : List ℕ} (j : Job) (rest : List ℕ) → j .size .rows ≤ rowBound → j .size .columns ≤ columnBound → j .size .count ≤ pieceBound
-    → Ahead text 0 (lineText layoutWord threeFields (sheetNumbers j) ++ rest) → Gives (layoutLine j text) (λ n. n) text rest
+    → Ahead text 0 (lineText layoutWord threeFields (sheetNumbers j) ++ rest) → FieldGives (layoutLine j text) (λ n. n) text rest
 unfolding layoutLine
 layout-line-ahead {text} j rest hr hc hn a =
     let ks : List ℕ = sheetNumbers j in
     let w : Writable threeFields ks = (refl, omega arith, (refl, omega arith, (refl, omega arith, tt))) in
-    let r : Reads (lineAt layoutWord threeFields text 0) ks text rest = line-ahead layoutWord threeFields ks rest w a in
+    let r : FieldReads (lineAt layoutWord threeFields text 0) ks text rest = line-ahead layoutWord threeFields ks rest w a in
     record {
       next = r .next;
       gives =
@@ -108,7 +108,7 @@ pub layout-read-back : (j : Job) (v : Layout) → j .size .rows ≤ rowBound →
 unfolding readLayout layoutText
 layout-read-back j v hr hc hn e h =
     let text : List ℕ = layoutText j v in
-    let g : Gives (layoutLine j text) (λ n. n) text (placementsText 0 v) = layout-line-ahead j (placementsText 0 v) hr hc hn (ahead-start text) in
+    let g : FieldGives (layoutLine j text) (λ n. n) text (placementsText 0 v) = layout-line-ahead j (placementsText 0 v) hr hc hn (ahead-start text) in
     let r : placementsAt j text (j .size .count) 0 (g .next) 2 ≡ given v =
     rw e at (placements-ahead j 0 2 v hr hc (omega arith) (λ k l. rw zero-add (h k (omega arith))) (g .ahead)) in
     rw (g .gives, r, andThen, readLayout) (unless-given _ v (ap not (eq-eqb (j .size .count) (j .size .count) refl), tt))

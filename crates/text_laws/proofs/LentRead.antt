@@ -14,60 +14,61 @@ use lib.ListN.{length, getD, take}
 use lib.Seq.{getD-take}
 use Rattle.model.specs.Piece.{tight}
 use Rattle.model.specs.Lent.{Lent, entryColumns, entryRows, entryTurns, pixelStart, entryInRange, entryFits, lentShape, lentWell}
+use Rattle.list_laws.proofs.Numbers.{in-rows}
 use Rattle.text_laws.specs.Texts.{Readable}
 use Rattle.job_laws.proofs.Starts.{start-end}
-use Rattle.text_laws.proofs.Store.{in-box, tight-agree}
+use Rattle.text_laws.proofs.Store.{tight-agree}
 use Rattle.job_laws.proofs.Checked.{Facts, facts, well}
 use Rattle.text_laws.specs.Limits.{sidesInRange}
 use Rattle.text_laws.proofs.JobRead.{sides-some, job-read-well}
-use Rattle.text_laws.specs.JobWriting.{entryNumbers, jobText, entriesFrom, exactly}
+use Rattle.text_laws.specs.JobWriting.{entryFields, jobText, entriesFrom, exactJob}
 use Rattle.text_laws.proofs.JobReadBack.{job-read-back}
 
 -- the entries from number i on
-entries-at : (table : List (List ℕ)) (i left m : ℕ) → m < left → getD (entriesFrom table i left) m [] ≡ entryNumbers table (i + m)
+entries-at : (table : List (List ℕ)) (i left m : ℕ) → m < left → getD (entriesFrom table i left) m [] ≡ entryFields table (i + m)
 entries-at table i zero m l = absurd (omega arith)
 entries-at table i (suc left) zero l = rw add-zero
 entries-at table i (suc left) (suc m) l =
     let s : suc i + m ≡ i + suc m = omega arith in
-    entries-at table (suc i) left m (omega arith) ∙ ap (entryNumbers table) s
+    entries-at table (suc i) left m (omega arith) ∙ ap (entryFields table) s
 
 module _ (k : Lent) where
   -- the job without what lies beyond it has the same entries
-  same-entry : (i : ℕ) → i < k .size .count → getD (exactly k .table) i [] ≡ entryNumbers (k .table) i
-  same-entry i l = entries-at (k .table) 0 (k .size .count) i l ∙ ap (entryNumbers (k .table)) (zero-add i)
+  same-entry : (i : ℕ) → i < k .size .count → getD (exactJob k .table) i [] ≡ entryFields (k .table) i
+  same-entry i l = entries-at (k .table) 0 (k .size .count) i l ∙ ap (entryFields (k .table)) (zero-add i)
 
   -- the same columns
-  same-columns : (i : ℕ) → i < k .size .count → entryColumns (exactly k .table) i ≡ entryColumns (k .table) i
+  same-columns : (i : ℕ) → i < k .size .count → entryColumns (exactJob k .table) i ≡ entryColumns (k .table) i
   same-columns i l = ap (λ (e : List ℕ). getD e 0 0) (same-entry i l)
 
   -- the same rows
-  same-rows : (i : ℕ) → i < k .size .count → entryRows (exactly k .table) i ≡ entryRows (k .table) i
+  same-rows : (i : ℕ) → i < k .size .count → entryRows (exactJob k .table) i ≡ entryRows (k .table) i
   same-rows i l = ap (λ (e : List ℕ). getD e 1 0) (same-entry i l)
 
   -- its pieces' pixels begin where they did
-  same-start : (i : ℕ) → i ≤ k .size .count → pixelStart (exactly k .table) i ≡ pixelStart (k .table) i
+  same-start : (i : ℕ) → i ≤ k .size .count → pixelStart (exactJob k .table) i ≡ pixelStart (k .table) i
   unfolding pixelStart
   same-start zero l = refl
   same-start (suc i) l =
       ap₂ (λ (a b : ℕ). a + b) (same-start i (omega arith)) (ap₂ (λ (a b : ℕ). a * b) (same-columns i (omega arith)) (same-rows i (omega arith)))
 
   -- its check tells the same of entries
-  same-ranges : (i : ℕ) → i < k .size .count → entryInRange (exactly k .table) i ≡ true → entryInRange (k .table) i ≡ true
+  same-ranges : (i : ℕ) → i < k .size .count → entryInRange (exactJob k .table) i ≡ true → entryInRange (k .table) i ≡ true
   unfolding entryInRange
   same-ranges i l e = subst (λ (x : List ℕ). sidesInRange (getD x 0 0) (getD x 1 0) (getD x 2 0) ≡ true) (same-entry i l) e
 
   -- and of boxes in the sheet
-  same-fits : (i : ℕ) → i < k .size .count → entryFits (k .size) (exactly k .table) i ≡ true → entryFits (k .size) (k .table) i ≡ true
+  same-fits : (i : ℕ) → i < k .size .count → entryFits (k .size) (exactJob k .table) i ≡ true → entryFits (k .size) (k .table) i ≡ true
   unfolding entryFits
   same-fits i l e = subst (λ (x : List ℕ). (leb (getD x 0 0) (k .size .columns) && leb (getD x 1 0) (k .size .rows)) ≡ true) (same-entry i l) e
 
   -- and of boxes
-  same-tight : (i : ℕ) → i < k .size .count → entryInRange (exactly k .table) i ≡ true → tight (lentShape (exactly k) i) ≡ tight (lentShape k i)
+  same-tight : (i : ℕ) → i < k .size .count → entryInRange (exactJob k .table) i ≡ true → tight (lentShape (exactJob k) i) ≡ tight (lentShape k i)
   unfolding entryInRange pixelStart
   same-tight i l e =
       let total : ℕ = pixelStart (k .table) (k .size .count) in
       let some = sides-some (entryColumns (k .table) i) (entryRows (k .table) i) (entryTurns (k .table) i) (same-ranges i l e) in
-      tight-agree (lentShape (exactly k) i) (lentShape k i)
+      tight-agree (lentShape (exactJob k) i) (lentShape k i)
       (record {
         columns = same-columns i l;
         rows = same-rows i l;
@@ -80,16 +81,16 @@ module _ (k : Lent) where
             ap (λ (b : ℕ). eqb b 1)
             (ap₂ (λ (n m : ℕ). getD (take total (k .pixels)) (n + (y * m + x)) 0) (same-start i (omega arith)) (same-columns i l)
             ∙ getD-take total (k .pixels) at 0
-            (let b : y * c + x < entryRows (k .table) i * c = in-box hx hy in
+            (let b : y * c + x < entryRows (k .table) i * c = in-rows hx hy in
             let end : s + c * entryRows (k .table) i ≤ total = start-end (k .table) i (k .size .count) l in
             omega (arith, mul-comm c (entryRows (k .table) i))));
       })
 
   -- so the job without what lies beyond passes only if the job passes, where its entries and pixels are there
-  exactly-well : k .size .count ≤ length (k .table) → pixelStart (k .table) (k .size .count) ≤ length (k .pixels) → lentWell (exactly k) ≡ true → lentWell k ≡ true
+  exactly-well : k .size .count ≤ length (k .table) → pixelStart (k .table) (k .size .count) ≤ length (k .pixels) → lentWell (exactJob k) ≡ true → lentWell k ≡ true
   exactly-well he hp e =
-      let f : Facts (exactly k) = facts (exactly k) e in
-      let total : pixelStart (exactly k .table) (k .size .count) ≡ pixelStart (k .table) (k .size .count) = same-start (k .size .count) (omega arith) in
+      let f : Facts (exactJob k) = facts (exactJob k) e in
+      let total : pixelStart (exactJob k .table) (k .size .count) ≡ pixelStart (k .table) (k .size .count) = same-start (k .size .count) (omega arith) in
       well k
       (record {
         sheet = f .sheet;
@@ -113,5 +114,5 @@ lent-well-readable k = (
         text = jobText k;
         reads = job-read-back k e (length (k .table)) (length (k .pixels)) (f .entries) (f .store);
       }),
-  (λ r. exactly-well k (r .entries) (r .store) (job-read-well (r .text) (length (k .table)) (length (k .pixels)) (exactly k) (r .reads))),
+  (λ r. exactly-well k (r .entries) (r .store) (job-read-well (r .text) (length (k .table)) (length (k .pixels)) (exactJob k) (r .reads))),
 )

@@ -10,7 +10,7 @@ use native.Mathlib.Omega.{arith}
 use lib.Dec.{eqb, ltb}
 use lib.ListN.{length, List·getD-eq-default}
 use borrow.Author.Tests.{ne-eqb, ltb-true, ltb-false}
-use Rattle.model.specs.Bounded.{one-if}
+use Rattle.model.specs.Bounded.{oneIf}
 use Rattle.model.specs.Text.{byte, lineEnd, digitZero, standsAt, threeFields, fourFields, decimal, digits, fieldsText, lineText}
 use Rattle.model.specs.JobText.{rowWord, pixelMark, emptyMark}
 use Rattle.text_laws.specs.JobWriting.{mark, rowText}
@@ -22,7 +22,7 @@ use Rattle.text_laws.proofs.Spelling.{Spells, stands-first}
 -- how many of the bytes are line ends
 abbrev pub endsIn : List ℕ → ℕ
 endsIn [] = 0
-endsIn (c ∷ cs) = one-if (eqb c lineEnd) + endsIn cs
+endsIn (c ∷ cs) = oneIf (eqb c lineEnd) + endsIn cs
 
 -- the last byte, 0 where there is none
 abbrev pub lastOf : List ℕ → ℕ
@@ -54,7 +54,7 @@ ends-counted (d ∷ ds) text p h =
     let f = stands-first d ds text p h in
     let s : p + suc (length ds) ≡ suc p + length ds = omega arith in
     let later : lineEnds text (suc p + length ds) ≡ lineEnds text (suc p) + endsIn ds = ends-counted ds text (suc p) (f .1) in
-    let here : one-if (eqb (byte text p) lineEnd) ≡ one-if (eqb d lineEnd) = ap (λ (b : ℕ). one-if (eqb b lineEnd)) (f .0) in
+    let here : oneIf (eqb (byte text p) lineEnd) ≡ oneIf (eqb d lineEnd) = ap (λ (b : ℕ). oneIf (eqb b lineEnd)) (f .0) in
     ap (lineEnds text) s ∙ later ∙ (omega arith)
 
 -- the position behind bytes that stand there is behind the last of them
@@ -108,7 +108,7 @@ first-line text = record { counted = refl; behind = inl refl; within = omega ari
 -- ── lines of numbers ──
 
 -- a digit is no line end
-digit-no-end : (d : ℕ) → one-if (eqb (digitZero + d) lineEnd) ≡ 0
+digit-no-end : (d : ℕ) → oneIf (eqb (digitZero + d) lineEnd) ≡ 0
 digit-no-end d = rw (ne-eqb (digitZero + d) lineEnd (λ e. omega arith))
 
 -- the last digit, alone or behind the others
@@ -164,7 +164,7 @@ line-one word ends ks w o h =
 -- ── row lines ──
 
 -- a mark is no line end
-mark-no-end : (t : Bool) → one-if (eqb (elim t as (λ _. ℕ) [ true ↦ pixelMark | false ↦ emptyMark ]) lineEnd) ≡ 0
+mark-no-end : (t : Bool) → oneIf (eqb (elim t as (λ _. ℕ) [ true ↦ pixelMark | false ↦ emptyMark ]) lineEnd) ≡ 0
 mark-no-end true = refl
 mark-no-end false = refl
 

@@ -11,7 +11,7 @@ use lib.Dec.{eqb, ltb}
 use lib.ListN.{length, getD, length-append}
 use borrow.Author.Tests.{eq-eqb, ne-eqb, lt-ltb, le-leb, ltb-true, ltb-false}
 use Rattle.model.specs.Text.{byte, digitZero, isDigit, got, digitsFrom, digitBound, isNumber, asNumber, numberAt, decimal, digits}
-use Rattle.model.proofs.Tests.{and-both, or-left, or-right}
+use Rattle.list_laws.proofs.Tests.{and-both, or-left, or-right}
 use Rattle.text_laws.proofs.Ahead.{Ahead, ahead-after, ahead-byte, ahead-word, ahead-next}
 
 -- ── runs of digits ──
@@ -52,7 +52,7 @@ digits-ahead {text} {p} v (suc left) (d ∷ ds) c rest a all e l =
 -- ── what is written ──
 
 -- the digits of k, at most so many
-pub record Written (places k : ℕ) (ds : List ℕ) : Type 0 where
+pub record DecimalWritten (places k : ℕ) (ds : List ℕ) : Type 0 where
   pub all : AllDigits ds
   pub short : length ds ≤ places
   pub some : 0 < length ds
@@ -70,8 +70,8 @@ first-snoc [] d h = absurd (omega arith)
 first-snoc (c ∷ ds) d h = refl
 
 -- the last digit is written: all of a number below 10, else behind the digits of the tenth part
-written-step : (places k : ℕ) (b : Bool) → ltb k 10 ≡ b → (10 ≤ k → Written places (k / 10) (decimal places (k / 10)))
-    → Written (suc places) k (elim b as (λ _. List ℕ) [ true ↦ (digitZero + k) ∷ [] | false ↦ decimal places (k / 10) ++ ((digitZero + (k % 10)) ∷ []) ])
+written-step : (places k : ℕ) (b : Bool) → ltb k 10 ≡ b → (10 ≤ k → DecimalWritten places (k / 10) (decimal places (k / 10)))
+    → DecimalWritten (suc places) k (elim b as (λ _. List ℕ) [ true ↦ (digitZero + k) ∷ [] | false ↦ decimal places (k / 10) ++ ((digitZero + (k % 10)) ∷ []) ])
 written-step places k true e earlier =
     let h : k < 10 = ltb-true k 10 e in
     record {
@@ -84,7 +84,7 @@ written-step places k true e earlier =
     }
 written-step places k false e earlier =
     let h : 10 ≤ k = ltb-false k 10 e in
-    let w : Written places (k / 10) (decimal places (k / 10)) = earlier h in
+    let w : DecimalWritten places (k / 10) (decimal places (k / 10)) = earlier h in
     let ds : List ℕ = decimal places (k / 10) in
     let l : length (ds ++ ((digitZero + (k % 10)) ∷ [])) ≡ length ds + 1 = length-append ds ((digitZero + (k % 10)) ∷ []) in
     record {
@@ -97,7 +97,7 @@ written-step places k false e earlier =
     }
 
 -- `decimal` writes the number, where it has no more digits than are allowed
-pub decimal-written : (places k : ℕ) → k < 10 ^ suc places → Written (suc places) k (decimal (suc places) k)
+pub decimal-written : (places k : ℕ) → k < 10 ^ suc places → DecimalWritten (suc places) k (decimal (suc places) k)
 unfolding decimal
 decimal-written zero k h = written-step zero k (ltb k 10) refl (λ l. absurd (omega arith))
 decimal-written (suc places) k h =
@@ -107,11 +107,11 @@ decimal-written (suc places) k h =
 -- ── reading what is written ──
 
 -- five digits suffice up to 99,999
-digits-written : (k : ℕ) → k ≤ 99999 → Written digitBound k (digits k)
+digits-written : (k : ℕ) → k ≤ 99999 → DecimalWritten digitBound k (digits k)
 digits-written k h = decimal-written 4 k (omega arith)
 
 -- a leading zero stands only in 0 itself
-leading-zero : (p q : ℕ) {places k d : ℕ} {ds : List ℕ} → Written places k (d ∷ ds) → q ≡ p + length (d ∷ ds) → (b : Bool) → ltb k 10 ≡ b
+leading-zero : (p q : ℕ) {places k d : ℕ} {ds : List ℕ} → DecimalWritten places k (d ∷ ds) → q ≡ p + length (d ∷ ds) → (b : Bool) → ltb k 10 ≡ b
     → (not (eqb d digitZero) || eqb q (suc p)) ≡ true
 leading-zero p q {places} {k} {d} {ds} w e true small =
     or-right (not (eqb d digitZero)) (eqb q (suc p))
@@ -121,7 +121,7 @@ leading-zero p q {places} {k} {d} {ds} w e false large =
     (ap not (ne-eqb d digitZero (w .leading (let l : 10 ≤ k = ltb-false k 10 large in omega arith))))
 
 -- digits of a number that lie ahead, with no digit after them, are read as the number
-number-ahead : {text : List ℕ} {p : ℕ} (k : ℕ) (ds : List ℕ) (c : ℕ) (rest : List ℕ) → Written digitBound k ds → isDigit c ≡ false
+number-ahead : {text : List ℕ} {p : ℕ} (k : ℕ) (ds : List ℕ) (c : ℕ) (rest : List ℕ) → DecimalWritten digitBound k ds → isDigit c ≡ false
     → Ahead text p (ds ++ (c ∷ rest)) → numberAt text p ≡ got k (p + length ds)
 unfolding numberAt
 number-ahead {text} {p} k [] c rest w e a = absurd (let s = w .some in omega arith)

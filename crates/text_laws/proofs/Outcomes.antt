@@ -34,13 +34,13 @@ given-unless [] a b e = record { none = tt; same = cc }
 given-unless (c ∷ cs) a b e = given-step c cs a b (c .there) refl (given-unless cs a b) e
 
 -- what came before a value that is given
-pub record Before {A B : Type 0} (o : Outcome A) (more : A → Outcome B) (b : B) : Type 0 where
+pub record CameBefore {A B : Type 0} (o : Outcome A) (more : A → Outcome B) (b : B) : Type 0 where
   pub value : A
   pub gives : o ≡ given value
   pub goes : more value ≡ given b
 
 -- a call that gives a value went on from a value
-pub given-before : {A B : Type 0} (o : Outcome A) (more : A → Outcome B) (b : B) → andThen o more ≡ given b → Before o more b
+pub given-before : {A B : Type 0} (o : Outcome A) (more : A → Outcome B) (b : B) → andThen o more ≡ given b → CameBefore o more b
 given-before (refused r) more b e = absurd (refused-given e)
 given-before (given a) more b e = record { value = a; gives = refl; goes = e }
 

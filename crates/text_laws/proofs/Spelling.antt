@@ -13,7 +13,7 @@ use lib.ListN.{length, getD, length-append}
 use lib.Seq.{ext-getD}
 use borrow.Author.Tests.{eq-eqb, eqb-true, eqb-false, lt-ltb, le-ltb, leb-true, ltb-true, not-true}
 use Rattle.model.specs.Text.{byte, digitZero, isDigit, Reading, wrong, got, standsAt, after, Digits, digitsFrom, digitBound, isNumber, numberAt, fieldAt, fieldsAt, lineAt, decimal, digits, fieldsText, lineText}
-use Rattle.model.proofs.Tests.{and-left, and-right, or-cases, clash}
+use Rattle.list_laws.proofs.Tests.{and-left, and-right, or-cases, clash}
 use Rattle.text_laws.proofs.Numbers.{AllDigits, valueFrom}
 use Rattle.text_laws.proofs.Outcomes.{wrong-got, Onward, got-onward}
 
@@ -92,19 +92,19 @@ spells-whole {text} {ds} a =
 -- ── words ──
 
 -- a word that is passed, and what is read behind it
-pub record Passed {A : Type 0} (word text : List ℕ) (p : ℕ) (more : ℕ → Reading A) (a : A) (q : ℕ) : Type 0 where
+pub record WordPassed {A : Type 0} (word text : List ℕ) (p : ℕ) (more : ℕ → Reading A) (a : A) (q : ℕ) : Type 0 where
   pub spells : Spells text p (p + length word) word
   pub goes : more (p + length word) ≡ got a q
 
 -- the word is there, or nothing is read
 passed-step : {A : Type 0} (word text : List ℕ) (p : ℕ) (more : ℕ → Reading A) (a : A) (q : ℕ) (t : Bool) → standsAt word text p ≡ t
-    → elim t as (λ _. Reading A) [ true ↦ more (p + length word) | false ↦ wrong ] ≡ got a q → Passed word text p more a q
+    → elim t as (λ _. Reading A) [ true ↦ more (p + length word) | false ↦ wrong ] ≡ got a q → WordPassed word text p more a q
 passed-step word text p more a q true h e = record { spells = record { next = refl; stands = h }; goes = e }
 passed-step word text p more a q false h e = absurd (wrong-got e)
 
 -- a reading behind a word passed the word
 pub passed : {A : Type 0} (word text : List ℕ) (p : ℕ) (more : ℕ → Reading A) (a : A) (q : ℕ) → after word text p more ≡ got a q
-    → Passed word text p more a q
+    → WordPassed word text p more a q
 passed word text p more a q e = passed-step word text p more a q (standsAt word text p) refl e
 
 -- ── numbers ──
@@ -247,7 +247,7 @@ unfolding fieldAt
 field-spelled end text p k q e =
     let ending : ℕ → ℕ → Reading ℕ = λ k′ r. after (end ∷ []) text r (λ n. got k′ n) in
     let o : Onward (numberAt text p) ending k q = got-onward (numberAt text p) ending k q e in
-    let w : Passed (end ∷ []) text (o .next) (λ n. got (o .value) n) k q =
+    let w : WordPassed (end ∷ []) text (o .next) (λ n. got (o .value) n) k q =
     passed (end ∷ []) text (o .next) (λ n. got (o .value) n) k q (o .goes) in
     let g : _≡_ {A = Reading ℕ} (got (o .value) (o .next + 1)) (got k q) = w .goes in
     let value : o .value ≡ k = cc in
@@ -284,15 +284,15 @@ fields-spelled (end ∷ ends) text p ks q e =
     }
 
 -- a line that is read
-pub record LineRead (word ends text : List ℕ) (p q : ℕ) (ks : List ℕ) : Type 0 where
+pub record SpelledLine (word ends text : List ℕ) (p q : ℕ) (ks : List ℕ) : Type 0 where
   pub size : length ks ≡ length ends
   pub spells : Spells text p q (lineText word ends ks)
 
 -- it is written there
 pub line-spelled : (word ends text : List ℕ) (p : ℕ) (ks : List ℕ) (q : ℕ) → lineAt word ends text p ≡ got ks q
-    → LineRead word ends text p q ks
+    → SpelledLine word ends text p q ks
 line-spelled word ends text p ks q e =
-    let w : Passed word text p (fieldsAt ends text) ks q = passed word text p (fieldsAt ends text) ks q e in
+    let w : WordPassed word text p (fieldsAt ends text) ks q = passed word text p (fieldsAt ends text) ks q e in
     let f : FieldsRead ends text (p + length word) q ks = fields-spelled ends text (p + length word) ks q (w .goes) in
     record { size = f .size; spells = spells-then (w .spells) (f .spells) }
 

@@ -3,8 +3,7 @@
 use mathlib.Core.Bool.{Bool, _&&_}
 use mathlib.Core.List.{List, _∷_}
 use mathlib.Core.Path.{_≡_, ap, ap₂, _∙_}
-use Prim.Native.Nat.{ℕ, suc, _+_, _-_, _*_, _≤_, _<_}
-use native.Mathlib.Nat.{mul-le-mul-right, suc-mul}
+use Prim.Native.Nat.{ℕ, suc, _+_, _-_, _*_, _<_}
 use native.Mathlib.Omega.{arith}
 use lib.ListN.{getD}
 use Rattle.model.specs.Bounded.{anyBelow}
@@ -12,8 +11,8 @@ use Rattle.model.specs.Piece.{Shape, tight, tightAlong, holds, extent, other}
 use Rattle.model.specs.Lent.{entryArea, pixelStart}
 use Rattle.model.specs.declared.Direction.{Direction}
 use Rattle.model.specs.declared.Direction.the-variants.{Horizontal, Vertical}
-use Rattle.model.proofs.Bounded.{any-agree}
-use Rattle.model.proofs.Sums.{sum-first}
+use Rattle.list_laws.proofs.Sums.{sum-first}
+use Rattle.list_laws.proofs.Bounded.{any-agree}
 use Rattle.text_laws.specs.Texts.{Agree}
 
 -- ── where pixels begin ──
@@ -24,10 +23,6 @@ unfolding pixelStart
 start-after e table i = sum-first i (entryArea (e ∷ table))
 
 -- ── a row of a box ──
-
--- a pixel inside the box lies among the box's bytes
-pub in-box : {l w x y : ℕ} → x < l → y < w → y * l + x < w * l
-in-box {l} {w} {x} {y} hx hy = let h : suc y * l ≤ w * l = mul-le-mul-right l hy in omega (arith, suc-mul y l)
 
 -- ── boxes that agree ──
 

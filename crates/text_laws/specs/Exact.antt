@@ -8,13 +8,13 @@ use lib.ListN.{length}
 use Rattle.model.specs.Layout.{Job, Layout, allowed, inside, placeOf}
 use Rattle.model.specs.Lent.{Lent, lentWell}
 use Rattle.model.specs.LayoutText.{layoutText}
-use Rattle.text_laws.specs.JobWriting.{jobText, exactly}
+use Rattle.text_laws.specs.JobWriting.{jobText, exactJob}
 
 -- the text is that of the job, which passes the check of a lent job, has nothing beyond its entries and pixels, and finds room
 pub record JobWritten (text : List ℕ) (tableLength pixelsLength : ℕ) (k : Lent) : Type 0 where
   pub written : text ≡ jobText k
   pub well : lentWell k ≡ true
-  pub whole : exactly k ≡ k
+  pub whole : exactJob k ≡ k
   pub entriesRoom : k .size .count ≤ tableLength
   pub bytesRoom : length (k .pixels) ≤ pixelsLength
 

@@ -13,7 +13,7 @@ use Rattle.model.specs.Lent.{Lent, areaBound, upTo, numbersInRange}
 use Rattle.model.specs.Text.{wrong, got, threeFields, fourFields, lineAt}
 use Rattle.model.specs.JobText.{jobWord, pieceWord, JobLine, asJobLine, jobLine, PieceLine, asPieceLine, pieceInRange, pieceLine, rowAt, Rows, rowsAt, boxShape, PieceText, pieceAt, readJob}
 use Rattle.model.specs.declared.Refusal.{Refusal}
-use Rattle.text_laws.specs.LinePlaces.{LineBegins, LineThere, refusalAt}
+use Rattle.text_laws.specs.LinePlaces.{LineBegins, LineThere, refusalOnLine}
 
 -- ── which line ──
 
@@ -147,11 +147,11 @@ pub record JobRefusalClaims (text : List ℕ) (tableLength pixelsLength : ℕ) (
 
 -- each cause leads to its refusal, so that a text has one of them at most, on one line
 pub record JobCausesRefuse (text : List ℕ) (tableLength pixelsLength : ℕ) : Type 0 where
-  pub form : (line : ℕ) → JobFormWrong text line → readJob text tableLength pixelsLength ≡ refused (refusalAt wrongForm line)
-  pub range : (line : ℕ) → JobOutOfRange text line → readJob text tableLength pixelsLength ≡ refused (refusalAt outOfRange line)
-  pub sheet : (line : ℕ) → SheetTooLarge text line → readJob text tableLength pixelsLength ≡ refused (refusalAt sheetTooLarge line)
-  pub boxes : (line : ℕ) → BoxesTooLarge text line → readJob text tableLength pixelsLength ≡ refused (refusalAt boxesTooLarge line)
-  pub loose : (line : ℕ) → LooseBox text line → readJob text tableLength pixelsLength ≡ refused (refusalAt looseBox line)
-  pub box : (line : ℕ) → BoxTooLarge text line → readJob text tableLength pixelsLength ≡ refused (refusalAt boxTooLarge line)
+  pub form : (line : ℕ) → JobFormWrong text line → readJob text tableLength pixelsLength ≡ refused (refusalOnLine wrongForm line)
+  pub range : (line : ℕ) → JobOutOfRange text line → readJob text tableLength pixelsLength ≡ refused (refusalOnLine outOfRange line)
+  pub sheet : (line : ℕ) → SheetTooLarge text line → readJob text tableLength pixelsLength ≡ refused (refusalOnLine sheetTooLarge line)
+  pub boxes : (line : ℕ) → BoxesTooLarge text line → readJob text tableLength pixelsLength ≡ refused (refusalOnLine boxesTooLarge line)
+  pub loose : (line : ℕ) → LooseBox text line → readJob text tableLength pixelsLength ≡ refused (refusalOnLine looseBox line)
+  pub box : (line : ℕ) → BoxTooLarge text line → readJob text tableLength pixelsLength ≡ refused (refusalOnLine boxTooLarge line)
   pub buffers : (line : ℕ) → BufferShort text tableLength pixelsLength line
-      → readJob text tableLength pixelsLength ≡ refused (refusalAt wrongLength line)
+      → readJob text tableLength pixelsLength ≡ refused (refusalOnLine wrongLength line)

@@ -11,9 +11,9 @@ use Rattle.model.specs.Text.{lineEnd, threeFields, fourFields, lineText}
 use Rattle.model.specs.JobText.{jobWord, pieceWord, rowWord, pixelMark, emptyMark}
 
 -- n numbers of the list from place s on
-abbrev pub part : List ℕ → ℕ → ℕ → List ℕ
-part ks s zero = []
-part ks s (suc n) = getD ks s 0 ∷ part ks (suc s) n
+abbrev pub bytesPart : List ℕ → ℕ → ℕ → List ℕ
+bytesPart ks s zero = []
+bytesPart ks s (suc n) = getD ks s 0 ∷ bytesPart ks (suc s) n
 
 -- the mark of a pixel byte
 abbrev pub mark : ℕ → ℕ
@@ -26,16 +26,16 @@ rowText row = rowWord ++ (map mark row ++ (lineEnd ∷ []))
 -- `left` row lines of l marks, from place s of the store on
 unfoldable pub rowsText : List ℕ → ℕ → ℕ → ℕ → List ℕ
 rowsText pixels l s zero = []
-rowsText pixels l s (suc left) = rowText (part pixels s l) ++ rowsText pixels l (s + l) left
+rowsText pixels l s (suc left) = rowText (bytesPart pixels s l) ++ rowsText pixels l (s + l) left
 
 -- the numbers l, w, o of entry i
-abbrev pub entryNumbers : List (List ℕ) → ℕ → List ℕ
-entryNumbers table i = entryColumns table i ∷ entryRows table i ∷ entryTurns table i ∷ []
+abbrev pub entryFields : List (List ℕ) → ℕ → List ℕ
+entryFields table i = entryColumns table i ∷ entryRows table i ∷ entryTurns table i ∷ []
 
 -- the lines of piece i
 abbrev pub pieceText : Lent → ℕ → List ℕ
 pieceText k i =
-    lineText pieceWord fourFields (i ∷ entryNumbers (k .table) i)
+    lineText pieceWord fourFields (i ∷ entryFields (k .table) i)
     ++ rowsText (k .pixels) (entryColumns (k .table) i) (pixelStart (k .table) i) (entryRows (k .table) i)
 
 -- the lines of `left` pieces from number i on
@@ -52,11 +52,11 @@ jobText k = lineText jobWord threeFields (k .size .rows ∷ k .size .columns ∷
 -- `left` entries from number i on
 abbrev pub entriesFrom : List (List ℕ) → ℕ → ℕ → List (List ℕ)
 entriesFrom table i zero = []
-entriesFrom table i (suc left) = entryNumbers table i ∷ entriesFrom table (suc i) left
+entriesFrom table i (suc left) = entryFields table i ∷ entriesFrom table (suc i) left
 
 -- the lent job without what lies beyond it in its buffers
-abbrev pub exactly : Lent → Lent
-exactly k =
+abbrev pub exactJob : Lent → Lent
+exactJob k =
     record {
       size = k .size;
       table = entriesFrom (k .table) 0 (k .size .count);

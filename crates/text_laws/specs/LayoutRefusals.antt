@@ -14,7 +14,7 @@ use Rattle.model.specs.Buffer.{isTurn}
 use Rattle.model.specs.Text.{wrong, got, threeFields, fourFields, lineAt, field}
 use Rattle.model.specs.LayoutText.{layoutWord, atWord, sheetNumbers, layoutLine, PlacementLine, asPlacementLine, placementLine, readLayout}
 use Rattle.model.specs.declared.Refusal.{Refusal}
-use Rattle.text_laws.specs.LinePlaces.{LineBegins, LineThere, refusalAt}
+use Rattle.text_laws.specs.LinePlaces.{LineBegins, LineThere, refusalOnLine}
 
 -- ── which line ──
 
@@ -103,9 +103,9 @@ pub record LayoutRefusalClaims (j : Job) (text : List ℕ) (layoutLength : ℕ) 
 
 -- each cause leads to its refusal, so that a text has one of them at most, on one line
 pub record LayoutCausesRefuse (j : Job) (text : List ℕ) (layoutLength : ℕ) : Type 0 where
-  pub form : (line : ℕ) → LayoutFormWrong j text line → readLayout j text layoutLength ≡ refused (refusalAt wrongForm line)
-  pub range : (line : ℕ) → LayoutOutOfRange j text line → readLayout j text layoutLength ≡ refused (refusalAt outOfRange line)
-  pub turn : (line : ℕ) → TurnNotAllowed j text line → readLayout j text layoutLength ≡ refused (refusalAt noSuchPiece line)
-  pub outside : (line : ℕ) → PlacementOutside j text line → readLayout j text layoutLength ≡ refused (refusalAt outsideSheet line)
+  pub form : (line : ℕ) → LayoutFormWrong j text line → readLayout j text layoutLength ≡ refused (refusalOnLine wrongForm line)
+  pub range : (line : ℕ) → LayoutOutOfRange j text line → readLayout j text layoutLength ≡ refused (refusalOnLine outOfRange line)
+  pub turn : (line : ℕ) → TurnNotAllowed j text line → readLayout j text layoutLength ≡ refused (refusalOnLine noSuchPiece line)
+  pub outside : (line : ℕ) → PlacementOutside j text line → readLayout j text layoutLength ≡ refused (refusalOnLine outsideSheet line)
   pub buffer : (line : ℕ) → LayoutLengthWrong j text layoutLength line
-      → readLayout j text layoutLength ≡ refused (refusalAt wrongLength line)
+      → readLayout j text layoutLength ≡ refused (refusalOnLine wrongLength line)

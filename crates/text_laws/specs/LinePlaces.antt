@@ -6,13 +6,13 @@ use mathlib.Core.Path.{_≡_}
 use Prim.Native.Nat.{ℕ, suc, _≤_}
 use lib.Dec.{eqb}
 use lib.ListN.{length}
-use Rattle.model.specs.Bounded.{sumBelow, one-if}
+use Rattle.model.specs.Bounded.{sumBelow, oneIf}
 use Rattle.model.specs.Text.{byte, lineEnd}
 use Rattle.model.specs.declared.Refusal.{Refusal}
 
 -- how many line ends (byte 10) stand among the first p bytes
 unfoldable pub lineEnds : List ℕ → ℕ → ℕ
-lineEnds text p = sumBelow p (λ q. one-if (eqb (byte text q) lineEnd))
+lineEnds text p = sumBelow p (λ q. oneIf (eqb (byte text q) lineEnd))
 
 -- position p is just behind a line end
 pub record Behind (text : List ℕ) (p : ℕ) : Type 0 where
@@ -33,5 +33,5 @@ pub record LineThere (text : List ℕ) (line : ℕ) : Type 0 where
   pub begins : LineBegins text line at
 
 -- the refusal of a number on a line
-abbrev pub refusalAt : ℕ → ℕ → Refusal
-refusalAt number line = record { number = number; first = line; second = 0 }
+abbrev pub refusalOnLine : ℕ → ℕ → Refusal
+refusalOnLine number line = record { number = number; first = line; second = 0 }

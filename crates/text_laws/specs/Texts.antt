@@ -14,7 +14,7 @@ use Rattle.model.specs.Layout.{Job, allowed, inside, Layout, placeOf}
 use Rattle.model.specs.declared.Placement.{Placement}
 use Rattle.model.specs.LayoutText.{layoutText, readLayout}
 use Rattle.model.specs.declared.Refusal.{Refusal}
-use Rattle.text_laws.specs.JobWriting.{exactly}
+use Rattle.text_laws.specs.JobWriting.{exactJob}
 use Rattle.text_laws.specs.Exact.{JobWritten, LayoutWritten}
 use Rattle.text_laws.specs.JobRefusals.{JobRefusalClaims, JobCausesRefuse}
 use Rattle.text_laws.specs.LayoutRefusals.{LayoutRefusalClaims, LayoutCausesRefuse}
@@ -24,7 +24,7 @@ pub record Readable (k : Lent) : Type 0 where
   pub entries : k .size .count ≤ length (k .table)
   pub store : pixelStart (k .table) (k .size .count) ≤ length (k .pixels)
   pub text : List ℕ
-  pub reads : readJob text (length (k .table)) (length (k .pixels)) ≡ given (exactly k)
+  pub reads : readJob text (length (k .table)) (length (k .pixels)) ≡ given (exactJob k)
 
 -- shapes of one box that agree inside it
 pub record Agree (s t : Shape) : Type 0 where
@@ -42,31 +42,31 @@ pub record Placed (j : Job) (i : ℕ) (p : Placement) : Type 0 where
 -- what is said of the texts
 pub record Demand1Text : Type 0 where
   -- what reading a job gives passes the check that every call makes of a lent job
-  pub read-passes : (text : List ℕ) (tableLength pixelsLength : ℕ) (k : Lent) → readJob text tableLength pixelsLength ≡ given k
+  pub readPasses : (text : List ℕ) (tableLength pixelsLength : ℕ) (k : Lent) → readJob text tableLength pixelsLength ≡ given k
       → lentWell k ≡ true
   -- the check passes exactly the lent jobs whose W, L, n, n entries and box pixels are what reading some text gives
-  pub check-exactly : (k : Lent) → (lentWell k ≡ true) ↔ Readable k
+  pub checkExactly : (k : Lent) → (lentWell k ≡ true) ↔ Readable k
   -- what is written of a layout whose placements are inside in allowed turns is read back as that layout
-  pub written-read : (j : Job) (v : Layout) → j .size .rows ≤ rowBound → j .size .columns ≤ columnBound → j .size .count ≤ pieceBound
+  pub writtenRead : (j : Job) (v : Layout) → j .size .rows ≤ rowBound → j .size .columns ≤ columnBound → j .size .count ≤ pieceBound
       → length v ≡ j .size .count → ((i : ℕ) → i < j .size .count → Placed j i (placeOf v i))
       → readLayout j (layoutText j v) (j .size .count) ≡ given v
   -- reading gives a job exactly where the text is the job's text, the job passes the check and the buffers suffice
-  pub job-exactly : (text : List ℕ) (tableLength pixelsLength : ℕ) (k : Lent)
+  pub jobExactly : (text : List ℕ) (tableLength pixelsLength : ℕ) (k : Lent)
       → (readJob text tableLength pixelsLength ≡ given k) ↔ JobWritten text tableLength pixelsLength k
   -- a text that is read as a layout is that layout's text, whatever the job
-  pub layout-only : (j : Job) (text : List ℕ) (layoutLength : ℕ) (v : Layout) → readLayout j text layoutLength ≡ given v
+  pub layoutOnly : (j : Job) (text : List ℕ) (layoutLength : ℕ) (v : Layout) → readLayout j text layoutLength ≡ given v
       → text ≡ layoutText j v
   -- reading gives a layout of a job in the bounds exactly where the text is the layout's text, every placement is inside in an
   -- allowed turn and the buffer has the layout's length
-  pub layout-exactly : (j : Job) → j .size .rows ≤ rowBound → j .size .columns ≤ columnBound → j .size .count ≤ pieceBound
+  pub layoutExactly : (j : Job) → j .size .rows ≤ rowBound → j .size .columns ≤ columnBound → j .size .count ≤ pieceBound
       → (text : List ℕ) (layoutLength : ℕ) (v : Layout) → (readLayout j text layoutLength ≡ given v) ↔ LayoutWritten j text layoutLength v
   -- a refusal of reading a job has its cause on the line that it names, and that line begins where the line ends before it say
-  pub job-refused : (text : List ℕ) (tableLength pixelsLength : ℕ) (r : Refusal) → readJob text tableLength pixelsLength ≡ refused r
+  pub jobRefused : (text : List ℕ) (tableLength pixelsLength : ℕ) (r : Refusal) → readJob text tableLength pixelsLength ≡ refused r
       → JobRefusalClaims text tableLength pixelsLength r
   -- and each such cause leads to its refusal
-  pub job-caused : (text : List ℕ) (tableLength pixelsLength : ℕ) → JobCausesRefuse text tableLength pixelsLength
+  pub jobCaused : (text : List ℕ) (tableLength pixelsLength : ℕ) → JobCausesRefuse text tableLength pixelsLength
   -- so has a refusal of reading a layout
-  pub layout-refused : (j : Job) (text : List ℕ) (layoutLength : ℕ) (r : Refusal) → readLayout j text layoutLength ≡ refused r
+  pub layoutRefused : (j : Job) (text : List ℕ) (layoutLength : ℕ) (r : Refusal) → readLayout j text layoutLength ≡ refused r
       → LayoutRefusalClaims j text layoutLength r
   -- and so does each cause there
-  pub layout-caused : (j : Job) (text : List ℕ) (layoutLength : ℕ) → LayoutCausesRefuse j text layoutLength
+  pub layoutCaused : (j : Job) (text : List ℕ) (layoutLength : ℕ) → LayoutCausesRefuse j text layoutLength

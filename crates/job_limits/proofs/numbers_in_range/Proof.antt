@@ -1,8 +1,8 @@
 -- `job_limits::numbers_in_range` makes the tests of its definition in their order. Assumes nothing.
 use mathlib.Core.Bool.{Bool, true, _&&_}
 use mathlib.Core.Path.{_≡_}
-use Rattle.text_fields.proofs.Tests.{said-no, said-yes}
 use borrow.Author.Needs.{needs}
+use Rattle.list_laws.proofs.Tests.{said-no, said-yes}
 use Rattle.job_limits.proofs.numbers_in_range.Statement.{statement}
 use Rattle.job_limits.proofs.numbers_in_range.Tie as tie
 

@@ -6,7 +6,7 @@ use native.Mathlib.Omega.{arith}
 use borrow.Author.Tests.{lt-ltb, le-ltb}
 use Rattle.model.specs.Refusal.{unless}
 use Rattle.model.specs.Lent.{numbersInRange}
-use Rattle.text_fields.proofs.Tests.{said-no, said-yes}
+use Rattle.list_laws.proofs.Tests.{said-no, said-yes}
 use Rattle.job_lines.specs.declared.JobLineAnswer.the-variants as job
 use Rattle.job_limits.proofs.Ranges.{sheet-small, few-count}
 use borrow.Author.Needs.{needs}

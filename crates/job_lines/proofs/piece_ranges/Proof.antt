@@ -3,9 +3,9 @@ use mathlib.Core.Path.{_∙_, ap}
 use native.Mathlib.Omega.{arith}
 use borrow.Author.Tests.{eq-eqb, ne-eqb, lt-ltb, le-ltb}
 use Rattle.model.specs.Refusal.{unless}
-use Rattle.text_fields.proofs.Tests.{said-no, said-yes}
+use Rattle.job_laws.proofs.Ranges.{area-of}
+use Rattle.list_laws.proofs.Tests.{said-no, said-yes}
 use Rattle.job_lines.specs.declared.PieceLineAnswer.the-variants as piece
-use Rattle.job_check.proofs.Boxes.{area-of}
 use borrow.Author.Needs.{needs}
 use Rattle.job_lines.proofs.piece_ranges.Statement.{statement}
 use Rattle.job_lines.proofs.piece_ranges.Tie as tie

@@ -5,7 +5,7 @@ use lib.Dec.{eqb}
 use borrow.Author.Tests.{not-true, not-false}
 use Rattle.model.specs.Text.{wrong}
 use Rattle.model.specs.JobText.{marksAt, rowAt}
-use Rattle.text_fields.proofs.Tests.{said-no, said-yes}
+use Rattle.list_laws.proofs.Tests.{said-no, said-yes}
 use Rattle.job_rows.proofs.Marks.{row-not, row-none, row-last, stored-kept, stored-lost}
 use borrow.Author.Needs.{needs}
 use Rattle.job_rows.proofs.fill_row.Statement.{statement}

@@ -10,7 +10,7 @@ use Rattle.model.specs.Layout.{inside, placeOf}
 use Rattle.model.specs.Lent.{lentBy, jobOf}
 use Rattle.model.specs.Buffer.{layoutOf}
 use Rattle.model.specs.Calls.{someOutside}
-use Rattle.layout_places.proofs.Places.{one-fails, none-fails}
+use Rattle.list_laws.proofs.Searches.{one-fails, none-fails}
 use Rattle.layout_places.proofs.some_outside.Statement.{statement}
 use Rattle.layout_places.proofs.some_outside.Tie as tie
 

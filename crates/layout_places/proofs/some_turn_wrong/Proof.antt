@@ -10,7 +10,7 @@ use borrow.Author.Tests.{not-true, not-false}
 use lib.ListN.{getD}
 use Rattle.model.specs.Lent.{lentBy, jobOf}
 use Rattle.model.specs.Calls.{allowedDegrees, someTurnWrong}
-use Rattle.layout_places.proofs.Places.{one-fails, none-fails}
+use Rattle.list_laws.proofs.Searches.{one-fails, none-fails}
 use Rattle.layout_places.proofs.some_turn_wrong.Statement.{statement}
 use Rattle.layout_places.proofs.some_turn_wrong.Tie as tie
 

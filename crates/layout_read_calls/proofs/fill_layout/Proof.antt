@@ -8,10 +8,11 @@ use Rattle.model.specs.Lent.{lentBy, jobOf}
 use Rattle.model.specs.Buffer.{entryOf, entriesOf}
 use Rattle.model.specs.LayoutText.{placementsAt}
 use Rattle.model.specs.Calls.{layoutAfter}
+use Rattle.list_laws.proofs.Lists.{nothing-left}
+use Rattle.list_laws.proofs.Stores.{sets-whole}
 use Rattle.layout_read_calls.specs.Answers.{layoutAnswer}
 use Rattle.layout_read_calls.specs.Readings.{layoutFrom}
-use Rattle.layout_read_calls.proofs.Whole.{layout-refused, Given, layout-given, placements-count, buffer-filled, from-refused, from-unlike, from-given}
-use Rattle.text_fields.proofs.Stores.{nothing-left}
+use Rattle.layout_read_calls.proofs.Whole.{layout-refused, ReadGiven, layout-given, placements-count, from-refused, from-unlike, from-given}
 use Rattle.layout_read_calls.proofs.fill_layout.Statement.{statement}
 use Rattle.layout_read_calls.proofs.fill_layout.Tie as tie
 
@@ -55,7 +56,7 @@ returns-2 c =
     let first = c .before .before .before .before .before .before .read-placements in
     let none : first .last .1 .1 .1 .1 .0 ≡ [] = nothing-left _ (first .kept .1 .1 .1 .1 .0) in
     λ pixels.
-    let v : Given (placementsAt (jobOf (lentBy (a .size) (a .table .now) pixels)) (a .text .now) (a .size .count) 0 (a .p) 2) = layout-given _ (sym (c .before .before .before .enum-told .given .1) ∙ first .ensures .0 pixels) in
+    let v : ReadGiven (placementsAt (jobOf (lentBy (a .size) (a .table .now) pixels)) (a .text .now) (a .size .count) 0 (a .p) 2) = layout-given _ (sym (c .before .before .before .enum-told .given .1) ∙ first .ensures .0 pixels) in
     let unlike : length (a .layout .now) ≡ a .size .count → ⊥ = rw none at (c .before .if1 .taken) in
     let o : layoutFrom (jobOf (lentBy (a .size) (a .table .now) pixels)) (a .text .now) (a .p) (length (a .layout .now)) ≡ refused (c .refusal2 .result) =
     from-unlike (lentBy (a .size) (a .table .now) pixels) (a .text .now) (a .p) _ (v .layout) (v .gives) unlike ∙ sym (ap refused (c .refusal2 .ensures)) in
@@ -73,7 +74,7 @@ returns-3 c =
     let first = c .before .before .before .before .before .before .before .before .read-placements in
     let none : first .last .1 .1 .1 .1 .0 ≡ [] = nothing-left _ (first .kept .1 .1 .1 .1 .0) in
     λ pixels.
-    let v : Given (placementsAt (jobOf (lentBy (a .size) (a .table .now) pixels)) (a .text .now) (a .size .count) 0 (a .p) 2) = layout-given _ (sym (c .before .before .before .before .before .enum-told .given .1) ∙ first .ensures .0 pixels) in
+    let v : ReadGiven (placementsAt (jobOf (lentBy (a .size) (a .table .now) pixels)) (a .text .now) (a .size .count) 0 (a .p) 2) = layout-given _ (sym (c .before .before .before .before .before .enum-told .given .1) ∙ first .ensures .0 pixels) in
     let like : length (a .layout .now) ≡ a .size .count = rw none at (c .before .before .before .if1 .left) in
     let o : layoutFrom (jobOf (lentBy (a .size) (a .table .now) pixels)) (a .text .now) (a .p) (length (a .layout .now)) ≡ given (v .layout) =
     from-given (lentBy (a .size) (a .table .now) pixels) (a .text .now) (a .p) _ (v .layout) (v .gives) like in
@@ -81,7 +82,7 @@ returns-3 c =
     let long : length (entriesOf (v .layout)) ≡ length (a .layout .now) =
     length-map (v .layout) entryOf ∙ placements-count _ _ _ _ _ _ (v .layout) (v .gives) ∙ sym like in (
       second .0 pixels ∙ ap layoutAnswer (v .gives) ∙ sym (ap layoutAnswer o),
-      rw none at (second .1 pixels (v .layout) (v .gives)) ∙ buffer-filled (entriesOf (v .layout)) (a .layout .now) long ∙ sym (ap (layoutAfter (a .layout .now)) o),
+      rw none at (second .1 pixels (v .layout) (v .gives)) ∙ sets-whole (entriesOf (v .layout)) (a .layout .now) long ∙ sym (ap (layoutAfter (a .layout .now)) o),
     )
 
 pub fill-layout-spec : {M : Type 1} → statement M

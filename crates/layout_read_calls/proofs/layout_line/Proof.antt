@@ -5,7 +5,7 @@ use native.Mathlib.Omega.{arith}
 use Rattle.model.specs.Lent.{jobOf, lentBy}
 use Rattle.model.specs.Text.{wrong, got, threeFields, lineAt}
 use Rattle.model.specs.LayoutText.{layoutWord}
-use Rattle.text_fields.proofs.Tests.{said-no, said-yes}
+use Rattle.list_laws.proofs.Tests.{said-no, said-yes}
 use Rattle.text_numbers.specs.Lines.{inFront}
 use Rattle.layout_read_calls.proofs.Lines.{layout-line-wrong, layout-line-unlike, layout-line-given}
 use borrow.Author.Needs.{needs}

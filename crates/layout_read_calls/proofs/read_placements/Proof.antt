@@ -13,7 +13,7 @@ use Rattle.model.specs.LayoutText.{placementsAt, placementLine}
 use Rattle.text_laws.proofs.Outcomes.{refused-given}
 use Rattle.layout_read_calls.specs.Answers.{layoutAnswer}
 use Rattle.layout_read_calls.proofs.Lines.{line-refused, line-read}
-use Rattle.layout_read_calls.proofs.Progress.{Progress, progress-begin, progress-more, progress-refused, progress-extra, progress-end, given-same}
+use Rattle.layout_read_calls.proofs.Progress.{ReadProgress, progress-begin, progress-more, progress-refused, progress-extra, progress-end, given-same}
 use Rattle.layout_read_calls.proofs.read_placements.Statement.{statement}
 use Rattle.layout_read_calls.proofs.read_placements.Tie as tie
 
@@ -23,7 +23,7 @@ Inv-loop size table text p layout₀ at₀ line₀ i₀ layout at line i =
     × (at ≤ length text)
     × (line ≡ i + 2)
     × (length layout ≡ length layout₀)
-    × Progress (λ pixels. jobOf (lentBy size table pixels)) (size .count) text p layout₀ layout at line i
+    × ReadProgress (λ pixels. jobOf (lentBy size table pixels)) (size .count) text p layout₀ layout at line i
 
 abbrev μ-loop : tie.MeasureT-loop
 μ-loop size table text p layout₀ at₀ line₀ i₀ layout at line i = size .count - i

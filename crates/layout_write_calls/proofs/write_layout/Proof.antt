@@ -9,12 +9,13 @@ use Rattle.model.specs.Lent.{Lent, lentBy, jobOf}
 use Rattle.model.specs.Buffer.{layoutOf}
 use Rattle.model.specs.LayoutText.{layoutText}
 use Rattle.model.specs.Calls.{layoutCauses, textAfter, writeLayoutCall}
+use Rattle.list_laws.proofs.Lists.{nothing-left}
+use Rattle.list_laws.proofs.Stores.{sets-filled}
 use Rattle.layout_places.proofs.Causes.{passed-none, sound}
 use Rattle.layout_places.proofs.Fitting.{fitting}
 use Rattle.layout_places.specs.Answers.{firstCause}
 use Rattle.layout_places.specs.declared.CauseAnswer.{CauseAnswer}
 use Rattle.layout_write_calls.specs.Answers.{textAnswer}
-use Rattle.text_fields.proofs.Stores.{sets-filled, nothing-left}
 use Rattle.layout_write_calls.proofs.Writes.{write-refused, write-short, write-given}
 use Rattle.layout_write_calls.proofs.write_layout.Statement.{statement}
 use Rattle.layout_write_calls.proofs.write_layout.Tie as tie

@@ -14,7 +14,7 @@ use Rattle.model.specs.Calls.{pairCauses, depthCall}
 use Rattle.text_laws.specs.Outcomes.{NoCause}
 use Rattle.text_laws.proofs.Outcomes.{unless-given}
 use Rattle.layout_places.proofs.Causes.{passed-none, refused-alone}
-use Rattle.pair_measure.specs.Ready.{Ready}
+use Rattle.pair_measure.specs.Ready.{MeasureReady}
 use Rattle.pair_calls.proofs.Readies.{Measurable, measurable}
 use Rattle.pair_measure.proofs.Amounts.{ready-whole, placed-at}
 use Rattle.pair_calls.proofs.depth.Statement.{statement}
@@ -51,8 +51,8 @@ placed-depth-requires c κs =
     let l : Lent = lentBy (a .size) (a .table .now) (a .pixels .now) in
     let none : NoCause (pairCauses l (a .layout .now) (a .i) (a .k)) = passed-none _ (sym (c .before .before .enum-told .given .1) ∙ c .before .before .before .before .pair-causes .ensures) in
     let m : Measurable l (a .layout .now) (a .i) (a .k) = measurable l (a .layout .now) (a .i) (a .k) none in (
-      subst (Ready (a .table .now) (a .i)) (sym (c .before .place-at .ensures)) (m .first),
-      (subst (Ready (a .table .now) (a .k)) (sym (c .place-at2 .ensures)) (m .second), (m .together, omega arith)),
+      subst (MeasureReady (a .table .now) (a .i)) (sym (c .before .place-at .ensures)) (m .first),
+      (subst (MeasureReady (a .table .now) (a .k)) (sym (c .place-at2 .ensures)) (m .second), (m .together, omega arith)),
     )
 
 returns : tie.Need-returns
@@ -69,8 +69,8 @@ returns-2 c =
     let p = c .before .before .place-at .result in
     let q = c .before .place-at2 .result in
     let j = jobOf l in
-    let first : Ready (a .table .now) (a .i) p = subst (Ready (a .table .now) (a .i)) (sym (c .before .before .place-at .ensures)) (m .first) in
-    let second : Ready (a .table .now) (a .k) q = subst (Ready (a .table .now) (a .k)) (sym (c .before .place-at2 .ensures)) (m .second) in
+    let first : MeasureReady (a .table .now) (a .i) p = subst (MeasureReady (a .table .now) (a .i)) (sym (c .before .before .place-at .ensures)) (m .first) in
+    let second : MeasureReady (a .table .now) (a .k) q = subst (MeasureReady (a .table .now) (a .k)) (sym (c .before .place-at2 .ensures)) (m .second) in
     rw (
       unless-given _ _ none,
       ready-whole (a .size) (a .table .now) (a .pixels .now) (a .i) p first (a .k) q second (a .direction) (c .placed-depth .result) (c .placed-depth .ensures (a .size))

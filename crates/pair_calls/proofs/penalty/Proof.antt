@@ -14,7 +14,7 @@ use Rattle.model.specs.Calls.{pairCauses, penaltyCall}
 use Rattle.text_laws.specs.Outcomes.{NoCause}
 use Rattle.text_laws.proofs.Outcomes.{unless-given}
 use Rattle.layout_places.proofs.Causes.{passed-none, refused-alone}
-use Rattle.pair_measure.specs.Ready.{Ready}
+use Rattle.pair_measure.specs.Ready.{MeasureReady}
 use Rattle.pair_calls.proofs.Readies.{Measurable, measurable}
 use Rattle.pair_measure.proofs.Amounts.{placed-at}
 use Rattle.pair_calls.proofs.penalty.Statement.{statement}
@@ -51,8 +51,8 @@ placed-penalty-requires c κs =
     let l : Lent = lentBy (a .size) (a .table .now) (a .pixels .now) in
     let none : NoCause (pairCauses l (a .layout .now) (a .i) (a .k)) = passed-none _ (sym (c .before .before .enum-told .given .1) ∙ c .before .before .before .before .pair-causes .ensures) in
     let m : Measurable l (a .layout .now) (a .i) (a .k) = measurable l (a .layout .now) (a .i) (a .k) none in (
-      subst (Ready (a .table .now) (a .i)) (sym (c .before .place-at .ensures)) (m .first),
-      (subst (Ready (a .table .now) (a .k)) (sym (c .place-at2 .ensures)) (m .second), m .together),
+      subst (MeasureReady (a .table .now) (a .i)) (sym (c .before .place-at .ensures)) (m .first),
+      (subst (MeasureReady (a .table .now) (a .k)) (sym (c .place-at2 .ensures)) (m .second), m .together),
     )
 
 returns : tie.Need-returns

@@ -11,7 +11,7 @@ use Rattle.model.specs.Lent.{lentBy, jobOf}
 use Rattle.model.specs.declared.JobSize.{JobSize}
 use Rattle.pair_overlap.specs.Meet.{Ordered}
 use Rattle.pair_overlap.proofs.Shapes.{entries-depth}
-use Rattle.pair_measure.proofs.Stores.{anySize, Behind, both-few, both-behind, piece-ordered, seen-near, same-depth}
+use Rattle.pair_measure.proofs.Stores.{anySize, StretchBehind, both-few, both-behind, piece-ordered, seen-near, same-depth}
 use Rattle.pair_measure.proofs.depth_in.Statement.{statement}
 use Rattle.pair_measure.proofs.depth_in.Tie as tie
 
@@ -35,7 +35,7 @@ end c = c .before .fill2 .result
 
 -- both stand in the store
 behind : (size : JobSize) (c : tie.After-store2)
-    → Behind (strips (entry c .args .direction) (one size c)) (strips (entry c .args .direction) (two size c)) (c .before .fill2 .last .1 .1 .1 .1 .1 .0) (middle c) (end c)
+    → StretchBehind (strips (entry c .args .direction) (one size c)) (strips (entry c .args .direction) (two size c)) (c .before .fill2 .last .1 .1 .1 .1 .1 .0) (middle c) (end c)
 behind size c =
     let s = entry c .args in
     let r = entry c .pre in

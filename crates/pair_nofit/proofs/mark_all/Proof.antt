@@ -5,7 +5,7 @@ use native.Mathlib.Omega.{arith}
 use borrow.Author.Needs.{needs}
 use lib.ListN.{length}
 use Rattle.pair_overlap.specs.Meet.{stripAt}
-use Rattle.pair_nofit.specs.Marks.{Grown, Kept}
+use Rattle.pair_nofit.specs.Marks.{Grown, MeetingsKept}
 use Rattle.pair_nofit.proofs.Kept.{AllSoFar, grown-none, all-more}
 use Rattle.pair_nofit.proofs.mark_all.Statement.{statement}
 use Rattle.pair_nofit.proofs.mark_all.Tie as tie

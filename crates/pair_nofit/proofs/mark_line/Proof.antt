@@ -5,14 +5,14 @@ use Prim.Native.Nat.{ℕ, _+_, _-_, _≤_, _<_}
 use native.Mathlib.Omega.{arith}
 use borrow.Author.Needs.{needs}
 use lib.ListN.{length}
-use Rattle.pair_nofit.specs.Marks.{Grown, Kept}
+use Rattle.pair_nofit.specs.Marks.{Grown, MeetingsKept}
 use Rattle.pair_nofit.proofs.Kept.{line-order, from-more, grown-none, line-more, line-past}
 use Rattle.pair_nofit.proofs.mark_line.Statement.{statement}
 use Rattle.pair_nofit.proofs.mark_line.Tie as tie
 
 abbrev Inv-loop : tie.InvT-loop
 Inv-loop a i u b from v far₀ j₀ far j =
-    (from ≤ j) × (j ≤ length b) × Grown a u b v far₀ far × ((l : ℕ) → from ≤ l → l < j → Kept a u b v far i l)
+    (from ≤ j) × (j ≤ length b) × Grown a u b v far₀ far × ((l : ℕ) → from ≤ l → l < j → MeetingsKept a u b v far i l)
 
 abbrev μ-loop : tie.MeasureT-loop
 μ-loop a i u b from v far₀ j₀ far j = length b - j

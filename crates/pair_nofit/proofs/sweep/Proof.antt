@@ -7,7 +7,7 @@ use native.Mathlib.Omega.{arith}
 use borrow.Author.Needs.{needs}
 use lib.Dec.{ltb}
 use lib.ListN.{length, getD, length-set}
-use Rattle.model.specs.Bounded.{one-if}
+use Rattle.model.specs.Bounded.{oneIf}
 use Rattle.pair_nofit.specs.Marks.{farthest}
 use Rattle.pair_nofit.proofs.Kept.{sweep-reach, sweep-rest, sweep-mark}
 use Rattle.pair_nofit.proofs.sweep.Statement.{statement}
@@ -16,7 +16,7 @@ use Rattle.pair_nofit.proofs.sweep.Tie as tie
 abbrev Inv-loop : tie.InvT-loop
 Inv-loop far₀ reach₀ k₀ far reach k =
     (k ≤ length far₀) × (length far ≡ length far₀) × (reach ≡ farthest far₀ k) × ((i : ℕ) → k ≤ i → getD far i 0 ≡ getD far₀ i 0)
-    × ((i : ℕ) → i < k → getD far i 0 ≡ one-if (ltb i (farthest far₀ (suc i))))
+    × ((i : ℕ) → i < k → getD far i 0 ≡ oneIf (ltb i (farthest far₀ (suc i))))
 
 abbrev μ-loop : tie.MeasureT-loop
 μ-loop far₀ reach₀ k₀ far reach k = length far₀ - k

@@ -11,7 +11,7 @@ use mir.Syntax.{w32}
 use mir.Val.{SFits, Fits, toZ, ofZ}
 use mir.ValLaws.{toZ-ofZ}
 use Rattle.model.specs.Overlap.{up, down}
-use Rattle.pair_nofit_calls.proofs.Offsets.{Near, down-none, down-far, down-near}
+use Rattle.pair_nofit_calls.proofs.Offsets.{NearOffset, down-none, down-far, down-near}
 use Rattle.pair_nofit_calls.proofs.down.Statement.{statement}
 use Rattle.pair_nofit_calls.proofs.down.Tie as tie
 
@@ -38,16 +38,16 @@ cast-result c =
     let o = c .before .before .args .o in
     let e : toZ w32 (ofZ w32 o) ≡ o = toZ-ofZ w32 o (c .before .before .fits .o) in
     let z = toZ w32 (ofZ w32 o) in
-    let n : Near z = down-near z (c .before .if1 .left) (c .if2 .left) in
+    let n : NearOffset z = down-near z (c .before .if1 .left) (c .if2 .left) in
     let f : toZ w32 (ofZ w32 (pos 0 -ℤ z)) ≡ pos 0 -ℤ z = toZ-ofZ w32 (pos 0 -ℤ z) (n .fits) in
-    (subst (λ (y : ℤ). T (nonNeg y)) (sym f) (n .not-negative), record { fits = omega (arith, ap natAbs f, n .is) })
+    (subst (λ (y : ℤ). T (nonNeg y)) (sym f) (n .notNegative), record { fits = omega (arith, ap natAbs f, n .is) })
 
 returns-3 : tie.Need-returns-3
 returns-3 c =
     let o = c .before .before .args .o in
     let e : toZ w32 (ofZ w32 o) ≡ o = toZ-ofZ w32 o (c .before .before .fits .o) in
     let z = toZ w32 (ofZ w32 o) in
-    let n : Near z = down-near z (c .before .if1 .left) (c .if2 .left) in
+    let n : NearOffset z = down-near z (c .before .if1 .left) (c .if2 .left) in
     ap natAbs (toZ-ofZ w32 (pos 0 -ℤ z) (n .fits)) ∙ n .is ∙ ap (λ (y : ℤ). min (down y) 255) e
 
 pub down-spec : {M : Type 1} → statement M

@@ -7,8 +7,7 @@ use borrow.Author.Tests.{not-true, not-false}
 use Rattle.model.specs.Refusal.{unless}
 use Rattle.model.specs.Lent.{Lent, lentBy, lentWell, jobOf}
 use Rattle.model.specs.Calls.{LentStretch, known, stretchWell}
-use Rattle.job_laws.proofs.Checked.{facts}
-use Rattle.strip_scan.proofs.Jobs.{entry-at}
+use Rattle.job_laws.proofs.Checked.{facts, entry-at}
 use Rattle.pair_nofit_calls.specs.Lines.{lentStretch, stretchCauses}
 use Rattle.pair_nofit_calls.proofs.Owning.{known-below}
 use Rattle.pair_nofit_calls.proofs.stretch_causes.Statement.{statement}

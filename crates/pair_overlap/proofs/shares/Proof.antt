@@ -7,13 +7,13 @@ use Prim.Native.Nat.{_+_, _-_, _≤_, _<_}
 use native.Mathlib.Omega.{arith}
 use borrow.Author.Needs.{needs}
 use lib.ListN.{length}
-use Rattle.pair_overlap.specs.Meet.{Passed}
-use Rattle.pair_overlap.proofs.Walk.{Found, pass-first, pass-second, found-shares, passed-free}
+use Rattle.pair_overlap.specs.Meet.{CrossingsPassed}
+use Rattle.pair_overlap.proofs.Walk.{CrossingFound, pass-first, pass-second, found-shares, passed-free}
 use Rattle.pair_overlap.proofs.shares.Statement.{statement}
 use Rattle.pair_overlap.proofs.shares.Tie as tie
 
 abbrev Inv-loop : tie.InvT-loop
-Inv-loop a b x y i₀ j₀ i j = (i ≤ length a) × (j ≤ length b) × Passed a x b y i j
+Inv-loop a b x y i₀ j₀ i j = (i ≤ length a) × (j ≤ length b) × CrossingsPassed a x b y i j
 
 abbrev μ-loop : tie.MeasureT-loop
 μ-loop a b x y i₀ j₀ i j = (length a - i) + (length b - j)
@@ -82,11 +82,11 @@ returns-2 c =
     (record {
       k = c .before .before .before .before .before .before .before .before .before .before .loop .i;
       l = c .before .before .before .before .before .before .before .before .before .before .loop .j;
-      k-below = omega arith;
-      l-below = omega arith;
+      kBelow = omega arith;
+      lBelow = omega arith;
       first = omega arith;
       second = omega arith;
-      crossing = record { first-before = omega (arith, c .if3 .left); second-before = omega (arith, c .before .before .before .if2 .left) };
+      crossing = record { firstBefore = omega (arith, c .if3 .left); secondBefore = omega (arith, c .before .before .before .if2 .left) };
     }))
 
 returns-3 : tie.Need-returns-3 Inv-loop μ-loop

@@ -7,15 +7,15 @@ use Prim.Native.Nat.{ℕ, _+_, _-_, _≤_, _<_}
 use native.Mathlib.Omega.{arith}
 use borrow.Author.Needs.{needs}
 use lib.ListN.{length}
-use Rattle.pair_overlap.specs.Meet.{Passed, shifted}
-use Rattle.pair_overlap.proofs.Walk.{Found, pass-first, pass-second, found-shares, passed-free, pushed}
+use Rattle.pair_overlap.specs.Meet.{CrossingsPassed, shifted}
+use Rattle.pair_overlap.proofs.Walk.{CrossingFound, pass-first, pass-second, found-shares, passed-free, pushed}
 use Rattle.pair_overlap.proofs.slide.Statement.{statement}
 use Rattle.pair_overlap.proofs.slide.Tie as tie
 
 abbrev Inv-loop : tie.InvT-loop
 Inv-loop a b limit x y t₀ room₀ i₀ j₀ t room i j =
-    (i ≤ length a) × (j ≤ length b) × (t < limit) × (t ≡ 0 → (m : ℕ) → m ≤ room → Passed a x b (y + m) i j)
-    × ((m : ℕ) → m < t → Found a x b (y + m)) × (room < limit)
+    (i ≤ length a) × (j ≤ length b) × (t < limit) × (t ≡ 0 → (m : ℕ) → m ≤ room → CrossingsPassed a x b (y + m) i j)
+    × ((m : ℕ) → m < t → CrossingFound a x b (y + m)) × (room < limit)
 
 abbrev μ-loop : tie.MeasureT-loop
 μ-loop a b limit x y t₀ room₀ i₀ j₀ t room i j = (length a - i) + (length b - j)
@@ -134,7 +134,7 @@ returns-2 c =
     let w = c .before .before .before .before .before .before .before .before .before .before .before .before .before .loop in
     let found =
     pushed (s .a .now) (c .before .before .before .before .before .before .before .before .before .before .before .before .before .before .before .before .base .result) (s .b .now) (c .before .before .before .before .before .before .before .before .before .before .before .before .before .before .before .base2 .result) (w .t) (w .i) (w .j) (omega arith) (omega arith) (omega arith) (omega arith)
-    (record { first-before = omega (arith, c .before .before .before .if3 .left); second-before = omega (arith, c .before .before .before .before .before .before .if2 .left) }) (w .inv .4) in
+    (record { firstBefore = omega (arith, c .before .before .before .if3 .left); secondBefore = omega (arith, c .before .before .before .before .before .before .if2 .left) }) (w .inv .4) in
     let near = c .before .before .before .before .before .before .before .before .before .before .before .before .before .before .before .before .before .pre .1 .1 .0 in
     let few = c .before .before .before .before .before .before .before .before .before .before .before .before .before .before .before .before .before .pre .1 .1 .1 in
     record {
@@ -161,7 +161,7 @@ loop-again-3 c =
     let w = c .before .before .before .before .before .before .before .before .before .before .before .before .before .loop in
     let found =
     pushed (s .a .now) (c .before .before .before .before .before .before .before .before .before .before .before .before .before .before .before .before .base .result) (s .b .now) (c .before .before .before .before .before .before .before .before .before .before .before .before .before .before .before .base2 .result) (w .t) (w .i) (w .j) (omega arith) (omega arith) (omega arith) (omega arith)
-    (record { first-before = omega (arith, c .before .before .before .if3 .left); second-before = omega (arith, c .before .before .before .before .before .before .if2 .left) }) (w .inv .4) in (
+    (record { firstBefore = omega (arith, c .before .before .before .if3 .left); secondBefore = omega (arith, c .before .before .before .before .before .before .if2 .left) }) (w .inv .4) in (
       omega arith,
       omega arith,
       c .if4 .left,

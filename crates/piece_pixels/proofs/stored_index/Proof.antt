@@ -1,7 +1,7 @@
 -- `piece_pixels::stored_index` meets its contract: a small box has a small area, and the pixel lies in it. Assumes nothing.
 use mathlib.Core.Path.{refl}
 use native.Mathlib.Omega.{arith}
-use Rattle.text_laws.proofs.Store.{in-box}
+use Rattle.list_laws.proofs.Numbers.{in-rows}
 use Rattle.piece_pixels.proofs.Cells.{area-small}
 use Rattle.piece_pixels.proofs.stored_index.Statement.{statement}
 use Rattle.piece_pixels.proofs.stored_index.Tie as tie
@@ -16,7 +16,7 @@ add-result-2 : tie.Need-add-result-2
 add-result-2 c = let h = area-small (c .before .before .pre .0) (c .before .before .pre .1 .0) (c .before .before .pre .1 .1) in omega arith
 
 returns : tie.Need-returns
-returns c = let h = in-box (c .before .before .pre .1 .0) (c .before .before .pre .1 .1) in (refl, omega arith)
+returns c = let h = in-rows (c .before .before .pre .1 .0) (c .before .before .pre .1 .1) in (refl, omega arith)
 
 pub stored-index-spec : {M : Type 1} → statement M
 stored-index-spec = tie.close (tie.spec mul-result add-result add-result-2 returns)

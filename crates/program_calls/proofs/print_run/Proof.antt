@@ -1,6 +1,6 @@
 -- `program_calls::print_run` meets its contract: the text stands at the front of the local buffer, and is copied where the lent one has room for it.
 -- Assumes nothing.
-use mathlib.Core.Path.{_≡_, sym, _∙_, ap}
+use mathlib.Core.Path.{sym, _∙_, ap}
 use Prim.Native.Nat.{ℕ, _≤_}
 use native.Mathlib.Nat.{le-of-eq}
 use native.Mathlib.Omega.{arith}
@@ -8,7 +8,7 @@ use borrow.Author.Needs.{needs}
 use lib.ListN.{length, length-replicate}
 use lib.Seq.{sets, length-take-le}
 use Rattle.model.specs.Program.{programText}
-use Rattle.text_fields.proofs.Stores.{sets-filled}
+use Rattle.list_laws.proofs.Stores.{sets-filled}
 use Rattle.program_calls.specs.Output.{outputBound}
 use Rattle.program_calls.proofs.Printing.{front-written, leaves-short, leaves-written}
 use Rattle.program_calls.proofs.print_run.Statement.{statement}

@@ -17,7 +17,7 @@ use Rattle.search_laws.proofs.Loop.{Underway, beginning, underway-begin, underw
 use Rattle.run_trials.specs.Trials.{trialAs}
 use Rattle.run_step.specs.Steps.{standingAs}
 use Rattle.run_descent.specs.Descents.{descentOf}
-use Rattle.run_step.specs.declared.Standing.{Standing}
+use Rattle.run_step.specs.declared.DescentState.{DescentState}
 use Rattle.run_descent.specs.declared.Ended.{Ended}
 use Rattle.run_descent.proofs.Passes.{passed-made, underway-pass, Going}
 use borrow.Author.Needs.{needs}
@@ -71,7 +71,7 @@ loop-holds c =
     let here : Underway j (e .args .weights .now) (e .args .budget) v (e .args .budget - 0) (beginning v) (c .before .total .result) =
     subst₂ (λ (m n : ℕ). Underway j (e .args .weights .now) (e .args .budget) v m (beginning v) n) whole (sym sum) first in
     let under : Underway j (e .args .weights .now) (e .args .budget) v (e .args .budget - c .beginning .result .made) (standingAs v (c .beginning .result)) (c .beginning .result .sum) =
-    subst (λ (s : Standing). Underway j (e .args .weights .now) (e .args .budget) v (e .args .budget - s .made) (standingAs v s) (s .sum)) (sym (c .beginning .ensures)) here in
+    subst (λ (s : DescentState). Underway j (e .args .weights .now) (e .args .budget) v (e .args .budget - s .made) (standingAs v s) (s .sum)) (sym (c .beginning .ensures)) here in
     (record { underway = under; laid = e .pre .1 .1 .0; stores = e .pre .1 .1 .1 .0 }, refl, refl, refl, refl, refl, refl, refl)
 
 -- the entry, from the loop's head

@@ -2,7 +2,7 @@
 use Prim.Native.Nat.{_-_}
 use native.Mathlib.Omega.{arith}
 use lib.ListN.{length}
-use Rattle.run_rounds.proofs.Copying.{Copying, copying-begin, copying-more, copying-end}
+use Rattle.list_laws.proofs.Copying.{Copying, copying-begin, copying-more, copying-end}
 use Rattle.run_descent_calls.proofs.copy_weights.Statement.{statement}
 use Rattle.run_descent_calls.proofs.copy_weights.Tie as tie
 

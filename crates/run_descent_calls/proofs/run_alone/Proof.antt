@@ -11,7 +11,7 @@ use Rattle.descent_laws.proofs.Bounds.{pairs-at-most}
 use Rattle.run_memory.specs.Ready.{Given}
 use Rattle.run_memory.specs.Done.{Done}
 use Rattle.run_memory.specs.declared.memory.Plan.{Plan}
-use Rattle.run_memory.specs.declared.memory.Outcome.{Outcome}
+use Rattle.run_memory.specs.declared.memory.PlanOutcome.{PlanOutcome}
 use borrow.Author.Needs.{needs}
 use Rattle.run_descent_calls.proofs.run_alone.Statement.{statement}
 use Rattle.run_descent_calls.proofs.run_alone.Tie as tie
@@ -65,9 +65,9 @@ with-strips-requires c κs =
     (subst (λ ws. Given (lent e) (e .args .layout .now) ws (e .args .budget)) (sym (copied-part (e .args .weights .now) _ _ (c .before .before .before .copy-weights .ensures))) (e .pre), omega arith)
 
 -- what was done with weights that are the lent ones, by what the run came to
-done : (l : Lent) (layout : List (List ℕ)) (budget : ℕ) (new : List (List ℕ)) (raised : List ℕ) {copied ws : List ℕ} {result o : Outcome} → copied ≡ ws → result ≡ o
+done : (l : Lent) (layout : List (List ℕ)) (budget : ℕ) (new : List (List ℕ)) (raised : List ℕ) {copied ws : List ℕ} {result o : PlanOutcome} → copied ≡ ws → result ≡ o
     → Done l layout copied Plan.Alone budget result new raised → Done l layout ws Plan.Alone budget o new raised
-done l layout budget new raised e f d = subst₂ (λ (w : List ℕ) (x : Outcome). Done l layout w Plan.Alone budget x new raised) e f d
+done l layout budget new raised e f d = subst₂ (λ (w : List ℕ) (x : PlanOutcome). Done l layout w Plan.Alone budget x new raised) e f d
 
 enum-known-ended : tie.Need-enum-known-ended
 enum-known-ended c = search needs

@@ -5,7 +5,7 @@ use native.Mathlib.Omega.{arith}
 use borrow.Author.Tests.{lt-ltb, le-ltb, ltb-true, le-leb, lt-leb, leb-false, not-true}
 use lib.Dec.{ltb, leb}
 use Rattle.model.specs.Calls.{budgetBound, roundBound}
-use Rattle.model.proofs.Tests.{same-tests}
+use Rattle.list_laws.proofs.Tests.{same-tests}
 use Rattle.run_guided_calls.proofs.numbers_wrong.Statement.{statement}
 use Rattle.run_guided_calls.proofs.numbers_wrong.Tie as tie
 

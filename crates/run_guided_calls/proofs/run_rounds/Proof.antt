@@ -3,7 +3,7 @@ use mathlib.Core.Path.{_≡_, subst}
 use Rattle.model.specs.Lent.{Lent, lentBy}
 use Rattle.run_memory.specs.Done.{Done}
 use Rattle.run_memory.specs.declared.memory.Plan.{Plan}
-use Rattle.run_memory.specs.declared.memory.Outcome.{Outcome}
+use Rattle.run_memory.specs.declared.memory.PlanOutcome.{PlanOutcome}
 use borrow.Author.Needs.{needs}
 use Rattle.run_guided_calls.proofs.run_rounds.Statement.{statement}
 use Rattle.run_guided_calls.proofs.run_rounds.Tie as tie
@@ -16,12 +16,12 @@ with-strips-requires : tie.Need-with-strips-requires
 with-strips-requires c κs = c .before .before .before .before .pre
 
 -- what was done, by what the run came to
-done : (c : tie.After-with-strips) (o : Outcome) → c .with-strips .result ≡ o
+done : (c : tie.After-with-strips) (o : PlanOutcome) → c .with-strips .result ≡ o
     → Done (lent (c .before .before .before .before .before)) (c .before .before .before .before .before .args .layout .now) (c .before .before .before .before .before .args .weights .now) (Plan.Rounds (c .before .before .before .before .before .args .rounds)) (c .before .before .before .before .before .args .budget) o (c .with-strips .last .1 .1 .1 .1 .1 .0) (c .with-strips .last .1 .1 .1 .1 .1 .1 .0)
 done c o is =
     let e = c .before .before .before .before .before in
     let w = c .with-strips in
-    subst (λ (x : Outcome). Done (lent e) (e .args .layout .now) (e .args .weights .now) (Plan.Rounds (e .args .rounds)) (e .args .budget) x (w .last .1 .1 .1 .1 .1 .0) (w .last .1 .1 .1 .1 .1 .1 .0)) is (w .ensures)
+    subst (λ (x : PlanOutcome). Done (lent e) (e .args .layout .now) (e .args .weights .now) (Plan.Rounds (e .args .rounds)) (e .args .budget) x (w .last .1 .1 .1 .1 .1 .0) (w .last .1 .1 .1 .1 .1 .1 .0)) is (w .ensures)
 
 enum-known-told : tie.Need-enum-known-told
 enum-known-told c = search needs

@@ -3,7 +3,7 @@ use mathlib.Core.List.{[]}
 use Prim.Native.Nat.{_-_}
 use native.Mathlib.Omega.{arith}
 use lib.ListN.{length}
-use Rattle.run_rounds.proofs.Copying.{Copying, copying-begin, copying-more, copying-end}
+use Rattle.list_laws.proofs.Copying.{Copying, copying-begin, copying-more, copying-end}
 use Rattle.run_rounds.proofs.copy.Statement.{statement}
 use Rattle.run_rounds.proofs.copy.Tie as tie
 

@@ -1,7 +1,7 @@
 -- `run_rounds::keep_better` meets its contract: by the test of the two sums. Assumes nothing.
 use borrow.Author.Needs.{needs}
 use borrow.Author.Tests.{lt-ltb, le-ltb}
-use Rattle.run_rounds.specs.Rounds.{better, betterSum}
+use Rattle.run_rounds.specs.Rounds.{betterRound, betterSum}
 use Rattle.run_rounds.proofs.keep_better.Statement.{statement}
 use Rattle.run_rounds.proofs.keep_better.Tie as tie
 
@@ -14,10 +14,10 @@ same-length c = search needs
 returns : tie.Need-returns
 returns c =
     let e = lt-ltb _ _ (c .before .before .before .if1 .taken) in
-    (rw (e, better) (c .before .copy .ensures), rw (e, betterSum))
+    (rw (e, betterRound) (c .before .copy .ensures), rw (e, betterSum))
 
 returns-2 : tie.Need-returns-2
-returns-2 c = let e = le-ltb _ _ (c .if1 .left) in (rw (e, better), rw (e, betterSum))
+returns-2 c = let e = le-ltb _ _ (c .if1 .left) in (rw (e, betterRound), rw (e, betterSum))
 
 pub keep-better-spec : {M : Type 1} → statement M
 keep-better-spec = tie.close (tie.spec copy-requires same-length returns returns-2)

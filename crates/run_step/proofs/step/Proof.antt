@@ -17,7 +17,7 @@ use Rattle.search_laws.specs.Loop.{trialSearch}
 use Rattle.search_laws.proofs.Loop.{trialMoved, trial-moved, trial-quiet, trial-sum, trial-place}
 use Rattle.run_trials.specs.Trials.{trialAs}
 use Rattle.run_step.specs.Steps.{entriesAfter, standingAs}
-use Rattle.run_step.specs.declared.Standing.{Standing}
+use Rattle.run_step.specs.declared.DescentState.{DescentState}
 use Rattle.run_step.proofs.Moves.{MovedTo, tried-quiet, tried-moved}
 use Rattle.run_step.proofs.Stands.{present-small, total-small, quiet-passed, moved-passed, moved-layout}
 use borrow.Author.Needs.{needs}
@@ -78,7 +78,7 @@ returns c =
     let r = c .after-quiet in
     let still = zero-quiet j (e .args .weights .now) (layoutAt e) (trialAt e) (sym (present b) ∙ c .before .if1 .taken) in (
       quiet-passed j (e .args .weights .now) (layoutAt e) (e .args .at) _ (next b) (r .result) (r .ensures) still,
-      (ap (λ (s : Standing). s .sum) (r .ensures) ∙ e .pre .1 .1 .1 .1 .1 .0, (e .pre .1 .1 .0, e .pre .1 .1 .1 .0)),
+      (ap (λ (s : DescentState). s .sum) (r .ensures) ∙ e .pre .1 .1 .1 .1 .1 .0, (e .pre .1 .1 .0, e .pre .1 .1 .1 .0)),
     )
 
 cast-try-trial : tie.Need-cast-try-trial
@@ -157,7 +157,7 @@ returns-2 c =
     let passed = quiet-passed j ws (layoutAt e) (e .args .at) _ (next b) (r .result) (r .ensures) (trial-quiet j ws (layoutAt e) (trialAt e) nothing) in (
       ap (λ (w : Layout). standingAs w (r .result)) same ∙ passed,
       (
-        ap (λ (s : Standing). s .sum) (r .ensures) ∙ e .pre .1 .1 .1 .1 .1 .0 ∙ sym (ap (weightedSum j ws) same),
+        ap (λ (s : DescentState). s .sum) (r .ensures) ∙ e .pre .1 .1 .1 .1 .1 .0 ∙ sym (ap (weightedSum j ws) same),
         (t .try-trial .ensures .1 .1 .0, t .try-trial .ensures .1 .1 .1),
       ),
     )
@@ -230,7 +230,7 @@ returns-3 c =
     let took : attempt j ws (layoutAt e) (trialAt e) ≡ moved (left t) = trial-moved j ws (layoutAt e) (trialAt e) (m .best) (m .found) ∙ ap moved (sym there) in
     let lowered : weightedSum j ws (left t) ≡ weightedSum j ws (layoutAt e) - pieceSum j ws (layoutAt e) (e .args .at .trial .piece) + m .best .sum =
     ap (weightedSum j ws) there ∙ trial-sum j ws (layoutAt e) (trialAt e) (m .best) (m .found) in
-    let now : r .result .sum ≡ e .args .at .sum - b .row-sum .result + c .before .before .found .given .0 .0 = ap (λ (s : Standing). s .sum) (r .ensures) in
+    let now : r .result .sum ≡ e .args .at .sum - b .row-sum .result + c .before .before .found .given .0 .0 = ap (λ (s : DescentState). s .sum) (r .ensures) in
     let is = present b in
     let sum = e .pre .1 .1 .1 .1 .1 .0 in
     let least = m .sum in (

@@ -3,7 +3,7 @@
 use Prim.Native.Nat.{_+_, _≤_, _-_}
 use native.Mathlib.Omega.{arith}
 use lib.ListN.{length, getD}
-use Rattle.search_penalties.proofs.Passes.{Passing}
+use Rattle.list_laws.proofs.Passes.{Passing}
 use Rattle.search_line_sums.proofs.Scans.{part-small, Raised, raise-begin, raise-step, raise-end}
 use Rattle.search_line_sums.proofs.add_line.Statement.{statement}
 use Rattle.search_line_sums.proofs.add_line.Tie as tie

@@ -5,7 +5,7 @@ use native.Mathlib.Omega.{arith}
 use borrow.Author.Count.{below-more}
 use borrow.Author.Tests.{lt-ltb, le-ltb}
 use lib.ListN.{length, getD}
-use Rattle.model.proofs.Bounded.{any-from, none-any}
+use Rattle.list_laws.proofs.Bounded.{any-from, none-any}
 use Rattle.search_line_sums.proofs.any_below.Statement.{statement}
 use Rattle.search_line_sums.proofs.any_below.Tie as tie
 

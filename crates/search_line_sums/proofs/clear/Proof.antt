@@ -3,9 +3,9 @@ use mathlib.Core.Logic.{⊎-elim}
 use mathlib.Core.Path.{_≡_, refl}
 use Prim.Native.Nat.{ℕ, _≤_, _-_, _<_}
 use native.Mathlib.Omega.{arith}
-use lib.ListN.{length, getD, List·getD-eq-default}
-use Rattle.pair_overlap.proofs.Firsts.{below-or}
-use Rattle.search_penalties.proofs.Passes.{Passing, pass-none, pass-set}
+use lib.ListN.{length, List·getD-eq-default}
+use Rattle.list_laws.proofs.Passes.{Passing, pass-none, pass-set}
+use Rattle.list_laws.proofs.Numbers.{below-or}
 use Rattle.search_line_sums.proofs.clear.Statement.{statement}
 use Rattle.search_line_sums.proofs.clear.Tie as tie
 

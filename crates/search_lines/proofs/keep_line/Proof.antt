@@ -6,7 +6,7 @@ use native.Mathlib.Omega.{arith}
 use lib.ListN.{length, length-set}
 use Rattle.model.specs.Lent.{Lent, lentBy, jobOf}
 use Rattle.job_laws.proofs.Checked.{lent-few}
-use Rattle.search_lines.specs.Making.{Small}
+use Rattle.search_lines.specs.Making.{SmallTwo}
 use Rattle.search_lines.proofs.Keeping.{slot-within, renewed}
 use Rattle.search_lines.proofs.Making.{small-two, moved-there, standing-there}
 use borrow.Author.Needs.{needs}
@@ -18,7 +18,7 @@ abbrev lent : tie.Start → Lent
 lent c = lentBy (c .args .size) (c .args .table .now) (c .args .pixels .now)
 
 -- the numbers of the two pieces
-small : (e : tie.Start) → Small (e .args .two)
+small : (e : tie.Start) → SmallTwo (e .args .two)
 small e = small-two (lent e) _ _ _ (e .args .two) (e .pre .0)
 
 slot-of-requires : tie.Need-slot-of-requires

@@ -5,13 +5,13 @@ use Prim.Native.Nat.{_-_, _≤_}
 use native.Mathlib.Omega.{arith}
 use Rattle.model.specs.Lent.{jobOf, entryColumns, entryRows}
 use Rattle.layout_places.specs.declared.Sides.{Sides}
-use Rattle.search_lines.proofs.Keeping.{Covered, covered-none, covered-more, covered-wide}
+use Rattle.search_lines.proofs.Keeping.{SidesCovered, covered-none, covered-more, covered-wide}
 use borrow.Author.Needs.{needs}
 use Rattle.search_lines.proofs.slot_width.Statement.{statement}
 use Rattle.search_lines.proofs.slot_width.Tie as tie
 
 abbrev Inv-loop : tie.InvT-loop
-Inv-loop table count side₀ i₀ side i = (32 ≤ side) × (side ≤ 255) × Covered table side i
+Inv-loop table count side₀ i₀ side i = (32 ≤ side) × (side ≤ 255) × SidesCovered table side i
 
 abbrev μ-loop : tie.MeasureT-loop
 μ-loop table count side₀ i₀ side i = count - i

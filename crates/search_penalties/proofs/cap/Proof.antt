@@ -2,7 +2,8 @@
 use Prim.Native.Nat.{_≤_, _-_}
 use native.Mathlib.Omega.{arith}
 use borrow.Author.Needs.{needs}
-use Rattle.search_penalties.proofs.Passes.{Passing, cappedAt, cap-none, cap-set, cap-done}
+use Rattle.list_laws.proofs.Passes.{Passing}
+use Rattle.search_penalties.proofs.Passes.{cappedAt, cap-none, cap-set, cap-done}
 use Rattle.search_penalties.proofs.cap.Statement.{statement}
 use Rattle.search_penalties.proofs.cap.Tie as tie
 

@@ -5,8 +5,9 @@ use Prim.Native.Nat.{ℕ, _≤_, _-_, min}
 use native.Mathlib.Omega.{arith}
 use borrow.Author.Needs.{needs}
 use lib.ListN.{length, getD}
+use Rattle.list_laws.proofs.Passes.{Backing, back-none, back-set}
 use Rattle.search_penalties.specs.Line.{fallen}
-use Rattle.search_penalties.proofs.Passes.{Backing, back-none, back-set, fallen-none, fallen-value}
+use Rattle.search_penalties.proofs.Passes.{fallen-none, fallen-value}
 use Rattle.search_penalties.proofs.fall.Statement.{statement}
 use Rattle.search_penalties.proofs.fall.Tie as tie
 

@@ -3,7 +3,7 @@ use mathlib.Core.Path.{_≡_, refl}
 use Prim.Native.Nat.{ℕ, _≤_, _-_}
 use native.Mathlib.Omega.{arith}
 use lib.ListN.{length}
-use Rattle.search_penalties.proofs.Passes.{Passing, pass-none, pass-set}
+use Rattle.list_laws.proofs.Passes.{Passing, pass-none, pass-set}
 use Rattle.search_penalties.proofs.fill.Statement.{statement}
 use Rattle.search_penalties.proofs.fill.Tie as tie
 

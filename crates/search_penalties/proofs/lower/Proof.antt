@@ -2,8 +2,9 @@
 -- is shared and lowers the free ones after them. Assumes nothing.
 use Prim.Native.Nat.{_≤_, _-_}
 use native.Mathlib.Omega.{arith}
+use Rattle.list_laws.proofs.Passes.{Passing}
 use Rattle.search_penalties.specs.Line.{takenAt}
-use Rattle.search_penalties.proofs.Passes.{Passing, loweredAt, lower-none, lower-low, gap-goes-on, lower-gap, lower-done}
+use Rattle.search_penalties.proofs.Passes.{loweredAt, lower-none, lower-low, gap-goes-on, lower-gap, lower-done}
 use Rattle.search_penalties.proofs.lower.Statement.{statement}
 use Rattle.search_penalties.proofs.lower.Tie as tie
 

@@ -2,7 +2,7 @@
 use Prim.Native.Nat.{_≤_, _-_}
 use native.Mathlib.Omega.{arith}
 use lib.ListN.{length}
-use Rattle.search_penalties.specs.Outlines.{Standing, Outlines}
+use Rattle.search_penalties.specs.Outlines.{StripStanding, Outlines}
 use Rattle.search_penalties.proofs.Outlining.{outlines-none}
 use borrow.Author.Needs.{needs}
 use Rattle.search_penalties.proofs.outline_lines.Statement.{statement}
@@ -39,7 +39,7 @@ loop-again c =
     let l = c .before .before .before .before .before .loop-test .taken in
     let x = c .before .before .before .before .strip-at .ensures in
     let b = x .short .0 in
-    let standing : Standing (s .s .now) (c .before .before .before .before .strip-at .result .line) (c .before .before .before .before .strip-at .result .first) (c .before .before .before .before .strip-at .result .count) = record { number = w .i; below = l; line = x .line; first = x .first; counts = x .count } in
+    let standing : StripStanding (s .s .now) (c .before .before .before .before .strip-at .result .line) (c .before .before .before .before .strip-at .result .first) (c .before .before .before .before .strip-at .result .count) = record { number = w .i; below = l; line = x .line; first = x .first; counts = x .count } in
     (omega arith, omega arith, c .before .before .add-strip .ensures .outlines (s .s .now) standing (w .inv .2))
 
 same-length : tie.Need-same-length Inv-loop μ-loop

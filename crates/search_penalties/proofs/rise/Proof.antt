@@ -5,8 +5,9 @@ use Prim.Native.Nat.{ℕ, suc, _≤_, _-_}
 use native.Mathlib.Omega.{arith}
 use borrow.Author.Needs.{needs}
 use lib.ListN.{length}
+use Rattle.list_laws.proofs.Passes.{Passing, pass-none, pass-set}
 use Rattle.search_penalties.specs.Line.{risen}
-use Rattle.search_penalties.proofs.Passes.{Passing, pass-none, pass-set, risen-value, risen-next}
+use Rattle.search_penalties.proofs.Passes.{risen-value, risen-next}
 use Rattle.search_penalties.proofs.rise.Statement.{statement}
 use Rattle.search_penalties.proofs.rise.Tie as tie
 

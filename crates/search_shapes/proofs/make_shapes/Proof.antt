@@ -9,10 +9,10 @@ use Rattle.model.specs.Strip.{strips}
 use Rattle.model.specs.Layout.{turnedPiece}
 use Rattle.model.specs.Lent.{lentBy, jobOf, lentWell}
 use Rattle.model.specs.declared.JobSize.{JobSize}
-use Rattle.job_laws.proofs.Checked.{facts}
-use Rattle.strip_scan.specs.Put.{Appended, EntryAt}
-use Rattle.strip_scan.proofs.Jobs.{entry-at}
-use Rattle.search_shapes.specs.Shapes.{numberedShape, Room}
+use Rattle.job_laws.specs.Entries.{EntryAt}
+use Rattle.job_laws.proofs.Checked.{facts, entry-at}
+use Rattle.strip_scan.specs.Put.{Appended}
+use Rattle.search_shapes.specs.Shapes.{numberedShape, ShapesRoom}
 use Rattle.search_shapes.proofs.Making.{Made, Fits, made-none, fits-next, made-more, made-all}
 use borrow.Author.Needs.{needs}
 use Rattle.search_shapes.proofs.make_shapes.Statement.{statement}
@@ -132,7 +132,7 @@ loop-again c =
     let wide = r .wide in
     let long = r .long in
     let kept : length (c .before .put-piece .last .1 .1 .1 .1 .1 .1 .0) ≡ length (l .store) = c .before .put-piece .kept .1 .1 .1 .1 .1 .1 .0 in
-    let have : Room (l .store) (l .starts) = record { wide = omega arith; long = omega arith } in (
+    let have : ShapesRoom (l .store) (l .starts) = record { wide = omega arith; long = omega arith } in (
       kept ∙ same,
       simp length-set (omega arith),
       omega arith,

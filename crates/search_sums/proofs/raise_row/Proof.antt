@@ -12,7 +12,7 @@ use Rattle.search_laws.proofs.Pairs.{row-next}
 use Rattle.search_laws.specs.Table.{PenaltyTable}
 use Rattle.search_laws.specs.Raising.{Raising}
 use Rattle.search_sums.specs.Table.{raisedAt}
-use Rattle.search_sums.proofs.Rows.{Place, row-place}
+use Rattle.search_sums.proofs.Rows.{PairPlace, row-place}
 use Rattle.search_sums.proofs.Rising.{raise-step}
 use Rattle.search_sums.proofs.raise_row.Statement.{statement}
 use Rattle.search_sums.proofs.raise_row.Tie as tie
@@ -27,7 +27,7 @@ abbrev μ-loop : tie.MeasureT-loop
 
 -- in a turn the pair (i, k) is there, and its weight
 turn : (c : tie.In-loop Inv-loop μ-loop)
-    → Place (c .before .before .before .before .args .n) (c .before .before .before .before .args .i) (c .before .loop .k) (c .before .loop .at) (c .before .before .before .before .args .penalties .now) (c .before .loop .weights)
+    → PairPlace (c .before .before .before .before .args .n) (c .before .before .before .before .args .i) (c .before .loop .k) (c .before .loop .at) (c .before .before .before .before .args .penalties .now) (c .before .loop .weights)
 turn c =
     let l = c .before .loop in
     let p = c .before .before .before .before .pre in

@@ -5,7 +5,7 @@ use Prim.Native.Nat.{_+_, _*_, _-_, _≤_}
 use native.Mathlib.Omega.{arith}
 use lib.ListN.{getD}
 use Rattle.model.specs.Bounded.{sumBelow}
-use Rattle.search_sums.proofs.Rows.{Place, row-place, term-small, partTerm, part-more, part-all}
+use Rattle.search_sums.proofs.Rows.{PairPlace, row-place, term-small, partTerm, part-more, part-all}
 use Rattle.search_sums.proofs.row_part.Statement.{statement}
 use Rattle.search_sums.proofs.row_part.Tie as tie
 
@@ -19,7 +19,7 @@ abbrev μ-loop : tie.MeasureT-loop
 
 -- in a turn the pair (i, k) is there, and its weight
 turn : (c : tie.In-loop Inv-loop μ-loop)
-    → Place (c .before .before .args .n) (c .before .before .args .i) (c .before .loop .k) (c .before .loop .at) (c .before .before .args .penalties .now) (c .before .before .args .weights .now)
+    → PairPlace (c .before .before .args .n) (c .before .before .args .i) (c .before .loop .k) (c .before .loop .at) (c .before .before .args .penalties .now) (c .before .before .args .weights .now)
 turn c =
     let l = c .before .loop in
     let p = c .before .before .pre in

@@ -20,11 +20,11 @@ returns-2 c = search needs
 low-of-requires : tie.Need-low-of-requires
 low-of-requires c κs = search needs
 
-add-lesser : tie.Need-add-lesser
-add-lesser c = search needs
+add-smaller : tie.Need-add-smaller
+add-smaller c = search needs
 
-lesser-requires : tie.Need-lesser-requires
-lesser-requires c κs = search needs
+smaller-requires : tie.Need-smaller-requires
+smaller-requires c κs = search needs
 
 add-t5 : tie.Need-add-t5
 add-t5 c = search needs
@@ -39,7 +39,7 @@ returns-3 : tie.Need-returns-3
 returns-3 c =
     let e = c .before .before .before .before .before .before .before .before .before .before .before in
     reach-meeting (e .args .track) (e .args .standing) (e .pre .0) (e .pre .1 .0) (e .pre .1 .1) (c .before .before .before .before .before .before .before .before .if1 .left) (c .before .before .before .before .before .if2 .left) _ _ _
-    (c .before .before .before .before .low-of .ensures) (c .before .before .lesser .ensures) refl
+    (c .before .before .before .before .low-of .ensures) (c .before .before .smaller .ensures) refl
 
 pub reach-of-spec : {M : Type 1} → statement M
 reach-of-spec =
@@ -50,8 +50,8 @@ reach-of-spec =
     add-if2
     returns-2
     low-of-requires
-    add-lesser
-    lesser-requires
+    add-smaller
+    smaller-requires
     add-t5
     add-t7
     sub-t8

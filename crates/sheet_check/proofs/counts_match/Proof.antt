@@ -7,7 +7,8 @@ use lib.ListN.{length, take, drop, length-append}
 use lib.Seq.{length-take-le, take-length, take-at}
 use borrow.Author.Needs.{needs}
 use Rattle.model.specs.Lent.{lentBy, jobOf}
-use Rattle.sheet_check.proofs.Recounts.{front-length, same-counted}
+use Rattle.list_laws.proofs.Lists.{front-length}
+use Rattle.sheet_check.proofs.Recounts.{same-counted}
 use Rattle.sheet_check.proofs.counts_match.Statement.{statement}
 use Rattle.sheet_check.proofs.counts_match.Tie as tie
 

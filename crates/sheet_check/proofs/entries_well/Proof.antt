@@ -8,10 +8,10 @@ use native.Mathlib.Omega.{arith}
 use borrow.Author.Tests.{not-true, not-false}
 use borrow.Author.Needs.{needs}
 use borrow.Author.Count.{below-more}
-use Rattle.model.proofs.Tests.{fails, clash}
 use Rattle.model.specs.Lent.{lentBy, jobOf}
-use Rattle.model.proofs.Bounded.{all-at, all-from}
 use Rattle.model.specs.Cover.{entryWell}
+use Rattle.list_laws.proofs.Bounded.{all-at, all-from}
+use Rattle.list_laws.proofs.Tests.{fails, clash}
 use Rattle.sheet_check.proofs.entries_well.Statement.{statement}
 use Rattle.sheet_check.proofs.entries_well.Tie as tie
 

@@ -8,7 +8,7 @@ use native.Mathlib.Omega.{arith}
 use borrow.Author.Tests.{not-true, not-false, ltb-true}
 use borrow.Author.Needs.{needs}
 use Rattle.model.specs.Lent.{jobOf}
-use Rattle.model.proofs.Tests.{and-left}
+use Rattle.list_laws.proofs.Tests.{and-left}
 use Rattle.sheet_check.proofs.Entries.{blank-passes, free-fails, unknown-fails, inside-passes}
 use Rattle.sheet_check.proofs.entry_well.Tie as tie
 use Rattle.sheet_check.proofs.entry_well.Statement.{statement}

@@ -6,7 +6,7 @@ use borrow.Author.Tests.{not-true, not-false}
 use Rattle.model.specs.Lent.{Lent, lentBy, lentWell, jobOf}
 use Rattle.model.specs.Calls.{Stores, turnListWrong, storesAfter}
 use Rattle.job_laws.proofs.Checked.{facts}
-use Rattle.strip_store.specs.Made.{Ready}
+use Rattle.strip_store.specs.Made.{StoreReady}
 use Rattle.strip_calls.specs.Stores.{storesBy, stripsAnswer}
 use Rattle.strip_calls.specs.Rooms.{roomForBoth, hasRoom}
 use Rattle.strip_calls.specs.declared.StripsAnswer.the-variants.{Refused}
@@ -57,7 +57,7 @@ right : (c : tie.Else2) → turnListWrong (jobOf (job (c .before .before .before
 right c = sym (c .before .wrong .ensures (c .before .before .before .before .before .before .before .before .args .pixels .now)) ∙ c .if2 .left
 
 -- strips can be made
-ready : (c : tie.Else2) → Ready (job (c .before .before .before .before .before .before .before .before)) (c .before .before .before .before .before .before .before .before .args .turns .now)
+ready : (c : tie.Else2) → StoreReady (job (c .before .before .before .before .before .before .before .before)) (c .before .before .before .before .before .before .before .before .args .turns .now)
 ready c = made-ready (job (c .before .before .before .before .before .before .before .before)) (c .before .before .before .before .before .before .before .before .args .turns .now) (well (c .before .before)) (right c)
 
 room-for-requires : tie.Need-room-for-requires

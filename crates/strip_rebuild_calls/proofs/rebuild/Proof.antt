@@ -95,8 +95,8 @@ write-requires c κs =
       record {
         wide = side-range _ (s .0) .0;
         high = side-range _ (s .1) .0;
-        columns-small = side-range _ (s .0) .1;
-        rows-small = side-range _ (s .1) .1;
+        columnsSmall = side-range _ (s .0) .1;
+        rowsSmall = side-range _ (s .1) .1;
         long = c .before .if4 .left;
       },
       well (c .before .before),

@@ -2,7 +2,7 @@
 use mathlib.Core.Path.{_∙_}
 use native.Mathlib.Omega.{arith}
 use Rattle.model.specs.Text.{fieldsAt}
-use Rattle.text_fields.proofs.Tests.{said-no, said-yes}
+use Rattle.list_laws.proofs.Tests.{said-no, said-yes}
 use Rattle.text_fields.proofs.Steps.{after-not, after-word}
 use Rattle.text_numbers.specs.Lines.{fieldEnds}
 use borrow.Author.Needs.{needs}

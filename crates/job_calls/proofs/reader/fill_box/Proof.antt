@@ -8,7 +8,7 @@ use lib.ListN.{length}
 use Rattle.model.specs.Refusal.{given}
 use Rattle.model.specs.Piece.{tight}
 use Rattle.model.specs.JobText.{rowsAt, boxShape}
-use Rattle.text_fields.proofs.Tests.{said-no, said-yes}
+use Rattle.list_laws.proofs.Tests.{said-no, said-yes}
 use Rattle.job_lines.specs.Lines.{pieceLineOf}
 use Rattle.job_rows.specs.Stores.{rowsAnswer, RowsStored}
 use Rattle.job_calls.specs.Reading.{placeAnswer}

@@ -4,13 +4,13 @@ use Prim.Native.Nat.{_≤_}
 use native.Mathlib.Omega.{arith}
 use lib.ListN.{length, set}
 use Rattle.model.specs.JobText.{pieceLine}
+use Rattle.job_laws.proofs.Ranges.{few-turns}
 use Rattle.job_lines.specs.Lines.{jobLineOf, pieceLineOf, pieceNext, Ranged}
 use Rattle.job_calls.specs.Reading.{boxAt, placeAnswer, PieceStored}
 use Rattle.job_lines.specs.declared.PieceLineAnswer.{PieceLineAnswer}
 use Rattle.job_lines.specs.declared.PieceLineAnswer.the-variants as piece
 use Rattle.job_check.specs.Boxes.{Side}
 use Rattle.job_check.proofs.Boxes.{sides-of}
-use Rattle.job_limits.proofs.Ranges.{few-turns}
 use Rattle.job_calls.proofs.Filling.{line-denied, line-told, piece-denied, piece-boxed, box-entered}
 use borrow.Author.Needs.{needs}
 use Rattle.job_calls.proofs.reader.fill_piece.Statement.{statement}

@@ -8,7 +8,7 @@ use lib.ListN.{length}
 use Rattle.model.specs.Refusal.{refused, given, wrongForm}
 use Rattle.model.specs.JobText.{pieceAt, piecesAt}
 use Rattle.job_lines.specs.Lines.{refusalAt, jobLineOf}
-use Rattle.job_calls.specs.Reading.{Within}
+use Rattle.job_calls.specs.Reading.{PlaceWithin}
 use Rattle.job_calls.specs.declared.reader.PieceAnswer.the-variants as place
 use Rattle.job_calls.specs.declared.reader.PiecesAnswer.the-variants as pieces
 use Rattle.job_calls.proofs.Filling.{fillPieces, place-denied, pieces-denied, pieces-step, pieces-extra, pieces-end, pieces-given, pieces-refused}
@@ -72,7 +72,7 @@ loop-again c =
     let l = c .before .before .before .before .before .before .before .before .before .before .loop in
     let q = c .before .place .given .0 .0 in
     let g : place.Read q ≡ c .before .before .before .before .before .before .fill-piece .result = sym (c .before .place .given .1) in
-    let w : Within text (l .at .line) (place.Read q) = subst (Within text (l .at .line)) (sym g) (c .before .before .before .before .before .before .fill-piece .ensures .1) in
+    let w : PlaceWithin text (l .at .line) (place.Read q) = subst (PlaceWithin text (l .at .line)) (sym g) (c .before .before .before .before .before .before .fill-piece .ensures .1) in
     let e : a .j .size .count - l .i ≡ suc (a .j .size .count - suc (l .i)) = omega arith in
     let s : fillPieces text j (a .j .size .count - l .i) (l .i) (l .at .area) (l .at .next) (l .at .line) (l .table) (l .pixels) ≡ fillPieces text j (a .j .size .count - suc (l .i)) (suc (l .i)) (q .area) (q .next) (q .line) (c .before .before .before .before .before .before .fill-piece .last .1 .1 .1 .1 .0) (c .before .before .before .before .before .before .fill-piece .last .1 .1 .1 .1 .1 .0) =
     rw e (pieces-step text j (a .j .size .count - suc (l .i)) (l .i) (l .at .area) (l .at .next) (l .at .line) (l .table) (l .pixels) q _ _ (g ∙ c .before .before .before .before .before .before .fill-piece .ensures .0) (c .before .before .before .before .before .before .fill-piece .ensures .2)) in

@@ -9,12 +9,13 @@ use lib.Seq.{sets}
 use borrow.Author.Tests.{lt-ltb, le-ltb}
 use Rattle.model.specs.Refusal.{given}
 use Rattle.model.specs.JobText.{piecesAt, asLent}
+use Rattle.list_laws.proofs.Lists.{nothing-before}
+use Rattle.list_laws.proofs.Stores.{sets-filled}
 use Rattle.job_lines.specs.Lines.{jobLineOf}
-use Rattle.job_calls.specs.Reading.{PiecesStored, Filled, roomed, Leaves}
+use Rattle.job_calls.specs.Reading.{PiecesStored, JobFilled, roomed, Leaves}
 use Rattle.job_calls.specs.declared.JobAnswer.the-variants as answer
 use Rattle.job_calls.specs.declared.reader.PiecesAnswer.the-variants as pieces
-use Rattle.text_fields.proofs.Stores.{sets-filled}
-use Rattle.job_calls.proofs.Filling.{pieces-told, pieces-not, pieces-count, no-prefix, room-denied, room-short, room-given, leaves-refused}
+use Rattle.job_calls.proofs.Filling.{pieces-told, pieces-not, pieces-count, room-denied, room-short, room-given, leaves-refused}
 use borrow.Author.Needs.{needs}
 use Rattle.job_calls.proofs.reader.read_pieces.Statement.{statement}
 use Rattle.job_calls.proofs.reader.read_pieces.Tie as tie
@@ -31,8 +32,8 @@ returns c =
     let pl = length (a .pixels .now) in
     let table = first .fill-pieces .last .1 .1 .0 in
     let store = first .fill-pieces .last .1 .1 .1 .0 in
-    let t : table ++ a .table .now ≡ a .table .now = no-prefix table (a .table .now) (first .fill-pieces .kept .1 .1 .0) in
-    let s : store ++ a .pixels .now ≡ a .pixels .now = no-prefix store (a .pixels .now) (first .fill-pieces .kept .1 .1 .1 .0) in
+    let t : table ++ a .table .now ≡ a .table .now = nothing-before table (a .table .now) (first .fill-pieces .kept .1 .1 .0) in
+    let s : store ++ a .pixels .now ≡ a .pixels .now = nothing-before store (a .pixels .now) (first .fill-pieces .kept .1 .1 .1 .0) in
     let n = told .area .given .0 .0 in
     let g : pieces.Read n ≡ first .fill-pieces .result = sym (told .area .given .1) in
     let x = pieces-told n (piecesAt text j (a .j .size .count) 0 0 (a .j .next) 2) (g ∙ first .fill-pieces .ensures .0) in
@@ -53,8 +54,8 @@ returns-2 c =
     let pl = length (a .pixels .now) in
     let table = first .fill-pieces .last .1 .1 .0 in
     let store = first .fill-pieces .last .1 .1 .1 .0 in
-    let t : table ++ a .table .now ≡ a .table .now = no-prefix table (a .table .now) (first .fill-pieces .kept .1 .1 .0) in
-    let s : store ++ a .pixels .now ≡ a .pixels .now = no-prefix store (a .pixels .now) (first .fill-pieces .kept .1 .1 .1 .0) in
+    let t : table ++ a .table .now ≡ a .table .now = nothing-before table (a .table .now) (first .fill-pieces .kept .1 .1 .0) in
+    let s : store ++ a .pixels .now ≡ a .pixels .now = nothing-before store (a .pixels .now) (first .fill-pieces .kept .1 .1 .1 .0) in
     let n = told .area .given .0 .0 in
     let g : pieces.Read n ≡ first .fill-pieces .result = sym (told .area .given .1) in
     let x = pieces-told n (piecesAt text j (a .j .size .count) 0 0 (a .j .next) 2) (g ∙ first .fill-pieces .ensures .0) in
@@ -74,8 +75,8 @@ returns-3 c =
     let pl = length (a .pixels .now) in
     let table = first .fill-pieces .last .1 .1 .0 in
     let store = first .fill-pieces .last .1 .1 .1 .0 in
-    let t : table ++ a .table .now ≡ a .table .now = no-prefix table (a .table .now) (first .fill-pieces .kept .1 .1 .0) in
-    let s : store ++ a .pixels .now ≡ a .pixels .now = no-prefix store (a .pixels .now) (first .fill-pieces .kept .1 .1 .1 .0) in
+    let t : table ++ a .table .now ≡ a .table .now = nothing-before table (a .table .now) (first .fill-pieces .kept .1 .1 .0) in
+    let s : store ++ a .pixels .now ≡ a .pixels .now = nothing-before store (a .pixels .now) (first .fill-pieces .kept .1 .1 .1 .0) in
     let r = c .before .r .given .0 .0 in
     let g : pieces.Refused r ≡ first .fill-pieces .result = sym (c .before .r .given .1) in
     let e = pieces-not r (piecesAt text j (a .j .size .count) 0 0 (a .j .next) 2) (g ∙ first .fill-pieces .ensures .0) in
@@ -96,8 +97,8 @@ returns-4 c =
     let pl = length (a .pixels .now) in
     let table = first .fill-pieces .last .1 .1 .0 in
     let store = first .fill-pieces .last .1 .1 .1 .0 in
-    let t : table ++ a .table .now ≡ a .table .now = no-prefix table (a .table .now) (first .fill-pieces .kept .1 .1 .0) in
-    let s : store ++ a .pixels .now ≡ a .pixels .now = no-prefix store (a .pixels .now) (first .fill-pieces .kept .1 .1 .1 .0) in
+    let t : table ++ a .table .now ≡ a .table .now = nothing-before table (a .table .now) (first .fill-pieces .kept .1 .1 .0) in
+    let s : store ++ a .pixels .now ≡ a .pixels .now = nothing-before store (a .pixels .now) (first .fill-pieces .kept .1 .1 .1 .0) in
     let n = told .area .given .0 .0 in
     let g : pieces.Read n ≡ first .fill-pieces .result = sym (told .area .given .1) in
     let x = pieces-told n (piecesAt text j (a .j .size .count) 0 0 (a .j .next) 2) (g ∙ first .fill-pieces .ensures .0) in
@@ -105,7 +106,7 @@ returns-4 c =
     let m : length (x .all .pixels) ≤ pl = rw (x .size) at (subst (λ (k : List ℕ). n ≤ length k) s (wide .if2 .left)) in
     let b : (ltb tl (a .j .size .count) || ltb pl (length (x .all .pixels))) ≡ false = rw (le-ltb _ _ l, le-ltb _ _ m) refl in
     let e : roomed text j tl pl ≡ given (asLent j (x .all)) = room-given text j tl pl (x .all) (x .gives) b in
-    let f : Filled (table ++ a .table .now) (second .fill-pieces2 .last .1 .1 .0) (store ++ a .pixels .now) (second .fill-pieces2 .last .1 .1 .1 .0) (x .all) = subst (PiecesStored _ _ _ _) (x .gives) (second .fill-pieces2 .ensures .1) in
+    let f : JobFilled (table ++ a .table .now) (second .fill-pieces2 .last .1 .1 .0) (store ++ a .pixels .now) (second .fill-pieces2 .last .1 .1 .1 .0) (x .all) = subst (PiecesStored _ _ _ _) (x .gives) (second .fill-pieces2 .ensures .1) in
     let k : length (x .all .table) ≤ tl = rw (pieces-count text j (a .j .size .count) 0 0 (a .j .next) 2 (x .all) (x .gives)) l in
     subst (Leaves _ _ _ _ _) (sym e)
     (record {

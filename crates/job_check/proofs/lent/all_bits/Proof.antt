@@ -7,8 +7,8 @@ use lib.Dec.{leb}
 use lib.ListN.{getD}
 use borrow.Author.Count.{below-none, below-more}
 use borrow.Author.Tests.{le-leb, lt-leb}
-use Rattle.model.proofs.Bounded.{all-from}
-use Rattle.job_check.proofs.Tests.{not-all}
+use Rattle.list_laws.proofs.Searches.{not-all}
+use Rattle.list_laws.proofs.Bounded.{all-from}
 use Rattle.job_check.proofs.lent.all_bits.Statement.{statement}
 use Rattle.job_check.proofs.lent.all_bits.Tie as tie
 

@@ -5,8 +5,8 @@ use Prim.Native.Nat.{_-_}
 use native.Mathlib.Omega.{arith}
 use Rattle.model.specs.Piece.{tight, holds}
 use Rattle.model.specs.declared.Direction.the-variants.{Horizontal, Vertical}
+use Rattle.list_laws.proofs.Tests.{said-no, said-yes}
 use Rattle.job_check.specs.Boxes.{boxIn}
-use Rattle.text_fields.proofs.Tests.{said-no, said-yes}
 use Rattle.job_check.proofs.Boxes.{row-marks, column-marks, last-row}
 use borrow.Author.Needs.{needs}
 use Rattle.job_check.proofs.lent.box_tight.Statement.{statement}

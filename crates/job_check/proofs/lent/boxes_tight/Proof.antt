@@ -7,10 +7,10 @@ use native.Mathlib.Omega.{arith}
 use borrow.Author.Count.{below-none, below-more}
 use Rattle.model.specs.Piece.{tight}
 use Rattle.model.specs.Lent.{pixelStart, entryArea}
-use Rattle.model.proofs.Bounded.{all-from}
+use Rattle.list_laws.proofs.Searches.{not-all}
+use Rattle.list_laws.proofs.Tests.{said-no, said-yes}
+use Rattle.list_laws.proofs.Bounded.{all-from}
 use Rattle.job_check.specs.Boxes.{storedBox}
-use Rattle.text_fields.proofs.Tests.{said-no, said-yes}
-use Rattle.job_check.proofs.Tests.{not-all}
 use Rattle.job_check.proofs.lent.boxes_tight.Statement.{statement}
 use Rattle.job_check.proofs.lent.boxes_tight.Tie as tie
 

@@ -2,7 +2,7 @@
 -- Assumes nothing.
 use borrow.Author.Tests.{lt-leb, le-leb}
 use Rattle.model.specs.Lent.{lentWell}
-use Rattle.text_fields.proofs.Tests.{said-no, said-yes}
+use Rattle.list_laws.proofs.Tests.{said-no, said-yes}
 use Rattle.job_check.proofs.Boxes.{table-facts}
 use borrow.Author.Needs.{needs}
 use Rattle.job_check.proofs.lent.check_job.Statement.{statement}

@@ -5,9 +5,9 @@ use Prim.Native.Nat.{ℕ, _≤_, _<_, _-_}
 use native.Mathlib.Omega.{arith}
 use borrow.Author.Count.{below-none, below-more}
 use Rattle.model.specs.Lent.{entryInRange}
-use Rattle.model.proofs.Bounded.{all-from}
-use Rattle.text_fields.proofs.Tests.{said-no, said-yes}
-use Rattle.job_check.proofs.Tests.{not-all}
+use Rattle.list_laws.proofs.Searches.{not-all}
+use Rattle.list_laws.proofs.Tests.{said-no, said-yes}
+use Rattle.list_laws.proofs.Bounded.{all-from}
 use Rattle.job_check.proofs.lent.entries_in_range.Statement.{statement}
 use Rattle.job_check.proofs.lent.entries_in_range.Tie as tie
 

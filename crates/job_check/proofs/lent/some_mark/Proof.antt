@@ -9,8 +9,8 @@ use lib.Dec.{eqb}
 use lib.ListN.{getD}
 use borrow.Author.Count.{below-none, below-more}
 use borrow.Author.Tests.{eq-eqb, ne-eqb}
-use Rattle.model.proofs.Bounded.{any-from, none-any}
 use borrow.Author.Needs.{needs}
+use Rattle.list_laws.proofs.Bounded.{any-from, none-any}
 use Rattle.job_check.proofs.lent.some_mark.Statement.{statement}
 use Rattle.job_check.proofs.lent.some_mark.Tie as tie
 

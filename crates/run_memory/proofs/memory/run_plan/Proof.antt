@@ -3,7 +3,7 @@ use mathlib.Core.Path.{sym, subst}
 use Rattle.model.specs.Lent.{Lent, lentBy}
 use Rattle.run_memory.specs.Done.{FewRounds, Done}
 use Rattle.run_memory.specs.declared.memory.Plan.{Plan}
-use Rattle.run_memory.specs.declared.memory.Outcome.{Outcome}
+use Rattle.run_memory.specs.declared.memory.PlanOutcome.{PlanOutcome}
 use borrow.Author.Needs.{needs}
 use Rattle.run_memory.proofs.memory.run_plan.Statement.{statement}
 use Rattle.run_memory.proofs.memory.run_plan.Tie as tie
@@ -57,7 +57,7 @@ returns : tie.Need-returns
 returns c =
     let e = c .before .before .before .before .before .before .before .before .before .before .before .before .before .before .before .before .before .before .before .before .before .before .before .before .before .before .before .before .before .before .before .before .before .before in
     let d = c .before .before .before .before .before .before .before .before .before .before .before .before .before .descend in
-    subst (λ (p : Plan). Done (lent e) (e .args .layout .now) (e .args .weights .now) p (e .args .budget) (Outcome.Alone (d .result)) (d .last .1 .1 .1 .1 .1 .1 .1 .1 .1 .1 .0) (e .args .weights .now)) (sym (c .before .before .before .before .before .before .before .before .before .before .before .before .before .before .before .before .before .before .before .before .before .before .enum-told .given .1))
+    subst (λ (p : Plan). Done (lent e) (e .args .layout .now) (e .args .weights .now) p (e .args .budget) (PlanOutcome.Alone (d .result)) (d .last .1 .1 .1 .1 .1 .1 .1 .1 .1 .1 .0) (e .args .weights .now)) (sym (c .before .before .before .before .before .before .before .before .before .before .before .before .before .before .before .before .before .before .before .before .before .before .enum-told .given .1))
     (record { result = d .ensures .0; written = d .ensures .1 .0 .written })
 
 same-length-9 : tie.Need-same-length-9
@@ -88,7 +88,7 @@ returns-2 : tie.Need-returns-2
 returns-2 c =
     let e = c .before .before .before .before .before .before .before .before .before .before .before .before .before .before .before .before .before .before .before .before .before .before .before .before .before .before .before .before .before .before .before .before .before .before .before .before .before in
     let d = c .before .before .before .before .before .before .before .before .before .before .before .before .before .before .before .take-rounds in
-    subst (λ (p : Plan). Done (lent e) (e .args .layout .now) (e .args .weights .now) p (e .args .budget) (Outcome.Rounds (d .result)) (d .last .1 .1 .1 .1 .1 .1 .1 .1 .1 .1 .0) (d .last .1 .1 .1 .1 .1 .1 .1 .1 .1 .1 .1 .0)) (sym (c .before .before .before .before .before .before .before .before .before .before .before .before .before .before .before .before .before .before .before .before .before .before .before .before .before .plan .given .1)) (d .ensures)
+    subst (λ (p : Plan). Done (lent e) (e .args .layout .now) (e .args .weights .now) p (e .args .budget) (PlanOutcome.Rounds (d .result)) (d .last .1 .1 .1 .1 .1 .1 .1 .1 .1 .1 .0) (d .last .1 .1 .1 .1 .1 .1 .1 .1 .1 .1 .1 .0)) (sym (c .before .before .before .before .before .before .before .before .before .before .before .before .before .before .before .before .before .before .before .before .before .before .before .before .before .plan .given .1)) (d .ensures)
 
 pub run-plan-spec : {M : Type 1} → statement M
 run-plan-spec =

@@ -9,7 +9,7 @@ use Rattle.model.specs.Lent.{Lent, lentBy, jobOf}
 use Rattle.model.specs.Buffer.{layoutOf}
 use Rattle.model.specs.declared.Direction.the-variants.{Horizontal, Vertical}
 use Rattle.model.specs.declared.JobSize.{JobSize}
-use Rattle.search_table.specs.Drawn.{Drawn, penaltyAt}
+use Rattle.search_table.specs.Drawn.{Drawn, placedPenalty}
 use Rattle.search_table.proofs.Placed.{entry-there, job-there, on-sheet, near, stretches-penalty, placed-apart, placed-is, placed-bound}
 use borrow.Author.Needs.{needs}
 use Rattle.search_table.proofs.pair.placed_penalty.Statement.{statement}
@@ -74,7 +74,7 @@ DrawnAs c size pixels = Drawn (lentBy size (c .before .before .before .before .b
 
 -- what the strips tell, in every job that has them
 measured : (c : tie.After-penalty-below) (size : JobSize) (pixels : List ℕ) → DrawnAs c size pixels
-    → c .penalty-below .result ≡ min (penaltyAt (lentBy size (c .before .before .before .before .before .before .before .before .before .before .before .before .args .table .now) pixels) (c .before .before .before .before .before .before .before .before .before .before .before .before .args .i) (c .before .before .before .before .before .before .before .before .before .before .before .before .args .place) (c .before .before .before .before .before .before .before .before .before .before .before .before .args .k) (c .before .before .before .before .before .before .before .before .before .place-at .result)) 256
+    → c .penalty-below .result ≡ min (placedPenalty (lentBy size (c .before .before .before .before .before .before .before .before .before .before .before .before .args .table .now) pixels) (c .before .before .before .before .before .before .before .before .before .before .before .before .args .i) (c .before .before .before .before .before .before .before .before .before .before .before .before .args .place) (c .before .before .before .before .before .before .before .before .before .before .before .before .args .k) (c .before .before .before .before .before .before .before .before .before .place-at .result)) 256
 measured c size pixels d =
     let a = c .before .before .before .before .before .before .before .before .before .before .before .before .args in
     let l : Lent = lentBy size (a .table .now) pixels in
@@ -88,7 +88,7 @@ measured c size pixels d =
 
 -- and it is small
 bounded : (c : tie.After-penalty-below) (size : JobSize) (pixels : List ℕ) → DrawnAs c size pixels
-    → penaltyAt (lentBy size (c .before .before .before .before .before .before .before .before .before .before .before .before .args .table .now) pixels) (c .before .before .before .before .before .before .before .before .before .before .before .before .args .i) (c .before .before .before .before .before .before .before .before .before .before .before .before .args .place) (c .before .before .before .before .before .before .before .before .before .before .before .before .args .k) (c .before .before .before .before .before .before .before .before .before .place-at .result) ≤ 255
+    → placedPenalty (lentBy size (c .before .before .before .before .before .before .before .before .before .before .before .before .args .table .now) pixels) (c .before .before .before .before .before .before .before .before .before .before .before .before .args .i) (c .before .before .before .before .before .before .before .before .before .before .before .before .args .place) (c .before .before .before .before .before .before .before .before .before .before .before .before .args .k) (c .before .before .before .before .before .before .before .before .before .place-at .result) ≤ 255
 bounded c size pixels d =
     let l : Lent = lentBy size (c .before .before .before .before .before .before .before .before .before .before .before .before .args .table .now) pixels in
     placed-bound l _ _ (d .inRows .horizontal) (c .before .before .before .before .before .before .before .before .before .before .before .before .args .i) (c .before .before .before .before .before .before .before .before .before .before .before .before .args .place) (c .before .before .before .before .before .before .before .before .before .before .before .before .args .k) (c .before .before .before .before .before .before .before .before .before .place-at .result) (job-there l _ (d .inRows .laid) _ (c .before .before .before .before .before .before .before .before .before .before .before .before .pre .1 .0 .0)) (job-there l _ (d .inRows .laid) _ (c .before .before .before .before .before .before .before .before .before .before .before .before .pre .1 .0 .1))

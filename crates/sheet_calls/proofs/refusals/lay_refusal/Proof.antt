@@ -8,10 +8,10 @@ use native.Mathlib.Omega.{arith}
 use lib.Dec.{ltb}
 use borrow.Author.Tests.{not-true, not-false, ltb-true}
 use borrow.Author.Needs.{needs}
-use Rattle.model.proofs.Tests.{and-left}
 use Rattle.model.specs.Lent.{lentBy, jobOf}
 use Rattle.model.specs.Cover.{layCauses}
 use Rattle.model.specs.Layout.{allowed, inside}
+use Rattle.list_laws.proofs.Tests.{and-left}
 use Rattle.sheet_calls.specs.Answers.{firstNumber}
 use Rattle.sheet_calls.proofs.refusals.lay_refusal.Tie as tie
 use Rattle.sheet_calls.proofs.refusals.lay_refusal.Statement.{statement}

@@ -1,7 +1,7 @@
 -- `sigbrol::pairs_of::sigbrol_shares_pixel` meets its contract by what the answer tells. Assumes nothing.
 use mathlib.Core.Path.{_≡_, sym, _∙_}
 use mathlib.Core.Bool.{Bool}
-use Rattle.model.specs.Bounded.{one-if}
+use Rattle.model.specs.Bounded.{oneIf}
 use Rattle.model.specs.Refusal.{Outcome}
 use Rattle.model.specs.Calls.{shareCall}
 use Rattle.c_interface.specs.Numbers.{lentAs}
@@ -45,14 +45,14 @@ unfolding outcome
 returns c =
     let o = outcome (c .before .before .before .before .before .before .before .before) in
     let t = share-told o (sym (c .before .before .before .yes .given .1) ∙ answered (c .before .before .before .before .before)) in
-    (c .done .ensures ∙ reply-by (λ a. a) o t, c .before .bit-of .ensures ∙ leaves-by (λ a. a) (λ a. one-if a) _ o t)
+    (c .done .ensures ∙ reply-by (λ a. a) o t, c .before .bit-of .ensures ∙ leaves-by (λ a. a) (λ a. oneIf a) _ o t)
 
 returns-2 : tie.Need-returns-2
 unfolding outcome
 returns-2 c =
     let o = outcome (c .before .before .before .before .before .before .before) in
     let t = share-told o (sym (c .before .before .refusal .given .1) ∙ answered (c .before .before .before .before)) in
-    (c .refused .ensures ∙ reply-by (λ a. a) o t, leaves-by (λ a. a) (λ a. one-if a) _ o t)
+    (c .refused .ensures ∙ reply-by (λ a. a) o t, leaves-by (λ a. a) (λ a. oneIf a) _ o t)
 
 pub sigbrol-shares-pixel-spec : {M : Type 1} → statement M
 sigbrol-shares-pixel-spec =

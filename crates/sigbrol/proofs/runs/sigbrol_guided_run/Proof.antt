@@ -8,7 +8,7 @@ use Rattle.model.specs.Calls.{guidedCall}
 use Rattle.run_guided_calls.specs.Answers.{guidedAnswer}
 use Rattle.c_interface.specs.Numbers.{lentAs}
 use Rattle.c_interface.specs.declared.Reply.{Reply}
-use Rattle.sigbrol.proofs.Told.{reply-by, leaves-by, refusal-told, ran-told, runOf}
+use Rattle.sigbrol.proofs.Told.{reply-by, leaves-by, refusal-told, ran-told, toldRun}
 use Rattle.sigbrol.proofs.Claimed.{guided-numbered}
 use Rattle.sigbrol.proofs.runs.sigbrol_guided_run.Statement.{statement}
 use Rattle.sigbrol.proofs.runs.sigbrol_guided_run.Tie as tie
@@ -51,7 +51,7 @@ unfolding outcome
 returns c =
     let o = outcome (c .before .before .before .before .before .before .before .before .before .before .before .before .before) in
     let t = ran-told o (sym (c .before .before .run .given .1) ∙ answered (c .before .before .before .before .before .before .before)) in
-    (c .done .ensures ∙ reply-by runOf o t, (rw (c .before .before .before .before .before .before .before .before .before .before .size-of .ensures) at (c .before .before .before .before .before .before .before .guided-run .ensures .1 .0), (rw (c .before .before .before .before .before .before .before .before .before .before .size-of .ensures) at (c .before .before .before .before .before .before .before .guided-run .ensures .1 .1 .0), (leaves-by runOf (λ r. r .sum) _ o t, (leaves-by runOf (λ r. r .made) _ o t, (leaves-by runOf (λ r. r .moves) _ o t, λ zero. rw (c .before .before .before .before .before .before .before .before .before .before .size-of .ensures) at (c .before .before .before .before .before .before .before .guided-run .ensures .1 .1 .1 _ (c .before .before .run .given .1))))))))
+    (c .done .ensures ∙ reply-by toldRun o t, (rw (c .before .before .before .before .before .before .before .before .before .before .size-of .ensures) at (c .before .before .before .before .before .before .before .guided-run .ensures .1 .0), (rw (c .before .before .before .before .before .before .before .before .before .before .size-of .ensures) at (c .before .before .before .before .before .before .before .guided-run .ensures .1 .1 .0), (leaves-by toldRun (λ r. r .sum) _ o t, (leaves-by toldRun (λ r. r .made) _ o t, (leaves-by toldRun (λ r. r .moves) _ o t, λ zero. rw (c .before .before .before .before .before .before .before .before .before .before .size-of .ensures) at (c .before .before .before .before .before .before .before .guided-run .ensures .1 .1 .1 _ (c .before .before .run .given .1))))))))
 
 same-length-3 : tie.Need-same-length-3
 same-length-3 c = c .before .before .before .before .before .before .before .guided-run .kept .1 .1 .1 .0
@@ -67,9 +67,9 @@ returns-2 c =
     let a = c .before .before .before .before .before .before .before .before .before .before .before .before .before .args in
     let positive =
     guided-numbered (lentAs (a .rows) (a .columns) (a .count) (a .table .now) (a .pixels .now)) (a .layout .now) (a .weights .now) (a .rounds)
-    (a .budget) _ (refusal-told runOf o _ t) in
+    (a .budget) _ (refusal-told toldRun o _ t) in
     let number = ap (λ (x : Reply). x .number) (c .refused .ensures) in
-    (c .refused .ensures ∙ reply-by runOf o t, (rw (c .before .before .before .before .before .before .before .before .before .before .size-of .ensures) at (c .before .before .before .before .before .before .before .guided-run .ensures .1 .0), (rw (c .before .before .before .before .before .before .before .before .before .before .size-of .ensures) at (c .before .before .before .before .before .before .before .guided-run .ensures .1 .1 .0), (leaves-by runOf (λ r. r .sum) _ o t, (leaves-by runOf (λ r. r .made) _ o t, (leaves-by runOf (λ r. r .moves) _ o t, λ zero. absurd (omega (arith, positive, number, zero))))))))
+    (c .refused .ensures ∙ reply-by toldRun o t, (rw (c .before .before .before .before .before .before .before .before .before .before .size-of .ensures) at (c .before .before .before .before .before .before .before .guided-run .ensures .1 .0), (rw (c .before .before .before .before .before .before .before .before .before .before .size-of .ensures) at (c .before .before .before .before .before .before .before .guided-run .ensures .1 .1 .0), (leaves-by toldRun (λ r. r .sum) _ o t, (leaves-by toldRun (λ r. r .made) _ o t, (leaves-by toldRun (λ r. r .moves) _ o t, λ zero. absurd (omega (arith, positive, number, zero))))))))
 
 pub sigbrol-guided-run-spec : {M : Type 1} → statement M
 sigbrol-guided-run-spec =

@@ -8,7 +8,7 @@ use Rattle.model.specs.Lent.{Lent}
 use Rattle.model.specs.Calls.{Stores, stretchCall, stretchGiven}
 use Rattle.c_interface.specs.Numbers.{lentAs, directionOf}
 use Rattle.strip_calls.specs.Stores.{storesBy}
-use Rattle.strip_calls.proofs.Outcomes.{Passed}
+use Rattle.strip_calls.proofs.Outcomes.{StretchPassed}
 use Rattle.sigbrol.proofs.Stretches.{stretch-there, start-left, start-kept}
 use Rattle.sigbrol.proofs.strips.sigbrol_stretch.Statement.{statement}
 use Rattle.sigbrol.proofs.strips.sigbrol_stretch.Tie as tie
@@ -30,7 +30,7 @@ unfolding part
 handed c = rw (c .before .before .size-of .ensures, c .before .direction-of .ensures) at (c .stretch .ensures)
 
 -- it is there where it is not empty
-there : (c : tie.Then1) → Passed (lentJob (c .before .before .before .before .before .before .before .before)) (c .before .before .before .before .before .before .before .before .args .turns .now) (lentStores (c .before .before .before .before .before .before .before .before)) (c .before .before .before .before .before .before .before .before .args .piece) (directionOf (c .before .before .before .before .before .before .before .before .args .vertical))
+there : (c : tie.Then1) → StretchPassed (lentJob (c .before .before .before .before .before .before .before .before)) (c .before .before .before .before .before .before .before .before .args .turns .now) (lentStores (c .before .before .before .before .before .before .before .before)) (c .before .before .before .before .before .before .before .before .args .piece) (directionOf (c .before .before .before .before .before .before .before .before .args .vertical))
 unfolding part
 there c = stretch-there _ _ _ _ _ (λ e. c .if1 .taken (ap length (handed (c .before)) ∙ e))
 

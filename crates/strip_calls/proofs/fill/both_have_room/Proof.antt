@@ -4,7 +4,7 @@ use mathlib.Core.Path.{sym, ap, ap₂, _∙_}
 use borrow.Author.Tests.{not-true, not-false}
 use Rattle.model.specs.Lent.{lentBy, jobOf}
 use Rattle.model.specs.declared.Direction.the-variants.{Vertical}
-use Rattle.strip_store.specs.Rooms.{roomFor}
+use Rattle.strip_store.specs.Rooms.{storeFits}
 use borrow.Author.Needs.{needs}
 use Rattle.strip_calls.proofs.fill.both_have_room.Statement.{statement}
 use Rattle.strip_calls.proofs.fill.both_have_room.Tie as tie
@@ -15,7 +15,7 @@ has-room-requires c κs = search needs
 returns : tie.Need-returns
 returns c =
     let a = c .before .before .before .before .args in
-    ap (λ b. b && roomFor Vertical (jobOf (lentBy (a .size) (a .table .now) (a .pixels .now))) (a .turns .now) (a .columns)) (sym (not-true _ (c .if1 .taken)) ∙ c .before .has-room .ensures)
+    ap (λ b. b && storeFits Vertical (jobOf (lentBy (a .size) (a .table .now) (a .pixels .now))) (a .turns .now) (a .columns)) (sym (not-true _ (c .if1 .taken)) ∙ c .before .has-room .ensures)
 
 has-room-requires-2 : tie.Need-has-room-requires-2
 has-room-requires-2 c κs = search needs

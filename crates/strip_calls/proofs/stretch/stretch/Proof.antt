@@ -3,7 +3,7 @@ use mathlib.Core.Path.{sym, ap, _∙_}
 use Rattle.model.specs.Lent.{Lent, lentBy}
 use Rattle.model.specs.Calls.{Stores, stretchCall, stretchOf, stretchGiven}
 use Rattle.strip_calls.specs.Stores.{storesBy}
-use Rattle.strip_calls.proofs.Outcomes.{Passed, stretch-empty, stretch-passed}
+use Rattle.strip_calls.proofs.Outcomes.{StretchPassed, stretch-empty, stretch-passed}
 use borrow.Author.Needs.{needs}
 use Rattle.strip_calls.proofs.stretch.stretch.Statement.{statement}
 use Rattle.strip_calls.proofs.stretch.stretch.Tie as tie
@@ -28,7 +28,7 @@ returns c =
     stretch-empty (stretchCall (job s) (s .args .turns .now) (lent s) (s .args .piece) (s .args .direction)) (λ e. c .before .if1 .taken (c .before .before .stretch-refusal .ensures ∙ e))
 
 -- no number is told
-passed : (c : tie.Else1) → Passed (job (c .before .before .before .before .before .before)) (c .before .before .before .before .before .before .args .turns .now) (lent (c .before .before .before .before .before .before)) (c .before .before .before .before .before .before .args .piece) (c .before .before .before .before .before .before .args .direction)
+passed : (c : tie.Else1) → StretchPassed (job (c .before .before .before .before .before .before)) (c .before .before .before .before .before .before .args .turns .now) (lent (c .before .before .before .before .before .before)) (c .before .before .before .before .before .before .args .piece) (c .before .before .before .before .before .before .args .direction)
 passed c = let s = c .before .before .before .before .before .before in stretch-passed (job s) (s .args .turns .now) (lent s) (s .args .piece) (s .args .direction) (sym (c .before .stretch-refusal .ensures) ∙ c .if1 .left)
 
 enum-told : tie.Need-enum-told

@@ -11,9 +11,9 @@ use borrow.Author.Tests.{eq-eqb, ne-eqb, not-true, not-false}
 use Rattle.model.specs.Bounded.{anyBelow}
 use Rattle.model.specs.Lent.{lentBy, jobOf}
 use Rattle.model.specs.Calls.{allowedDegrees, turnListWrong}
-use Rattle.model.proofs.Tests.{or-left}
-use Rattle.layout_places.proofs.Places.{one-fails, none-fails}
 use borrow.Author.Needs.{needs}
+use Rattle.list_laws.proofs.Searches.{one-fails, none-fails}
+use Rattle.list_laws.proofs.Tests.{or-left}
 use Rattle.strip_calls.proofs.turns.wrong.Statement.{statement}
 use Rattle.strip_calls.proofs.turns.wrong.Tie as tie
 

@@ -5,10 +5,9 @@ use Prim.Native.Nat.{ℕ, _-_, _≤_, _<_}
 use native.Mathlib.Omega.{arith}
 use lib.ListN.{length}
 use borrow.Author.Count.{below-more}
+use Rattle.list_laws.proofs.Searches.{any-found, any-missed}
 use Rattle.strip_rebuild_calls.specs.Check.{stripIn, reaches}
 use Rattle.strip_rebuild_calls.proofs.Reading.{read-is}
-use Rattle.strip_rebuild_calls.proofs.Searches.{any-found, any-missed}
-use borrow.Author.Needs.{needs}
 use Rattle.strip_rebuild_calls.proofs.check.at_place.Statement.{statement}
 use Rattle.strip_rebuild_calls.proofs.check.at_place.Tie as tie
 

@@ -8,10 +8,9 @@ use lib.ListN.{length}
 use borrow.Author.Count.{below-more}
 use borrow.Author.Tests.{eq-eqb, ne-eqb}
 use Rattle.model.specs.Strip.{Strip}
+use Rattle.list_laws.proofs.Searches.{any-found, any-missed}
 use Rattle.strip_rebuild_calls.specs.Check.{stripIn}
 use Rattle.strip_rebuild_calls.proofs.Reading.{read-is}
-use Rattle.strip_rebuild_calls.proofs.Searches.{any-found, any-missed}
-use borrow.Author.Needs.{needs}
 use Rattle.strip_rebuild_calls.proofs.check.on_line.Statement.{statement}
 use Rattle.strip_rebuild_calls.proofs.check.on_line.Tie as tie
 

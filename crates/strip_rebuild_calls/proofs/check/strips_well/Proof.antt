@@ -9,8 +9,8 @@ use borrow.Author.Tests.{not-true, not-false}
 use Rattle.model.specs.Bounded.{anyBelow}
 use Rattle.model.specs.Piece.{other}
 use Rattle.model.specs.Calls.{stripsWell}
+use Rattle.list_laws.proofs.Tests.{first-fails, second-fails}
 use Rattle.strip_rebuild_calls.specs.Check.{stripIn}
-use Rattle.strip_rebuild_calls.proofs.Searches.{first-fails, second-fails}
 use Rattle.strip_rebuild_calls.proofs.Edges.{touches, side-some, not-well-here, well-here}
 use borrow.Author.Needs.{needs}
 use Rattle.strip_rebuild_calls.proofs.check.strips_well.Statement.{statement}

@@ -1,15 +1,14 @@
 use borrow.Author.Count.{below-more}
 use borrow.Author.Tests.{not-true, not-false}
-use Rattle.model.proofs.Tests.{and-both}
+use Rattle.list_laws.proofs.Searches.{all-passed, not-all}
+use Rattle.list_laws.proofs.Tests.{and-both, first-fails, second-fails}
 use Rattle.strip_rebuild_calls.proofs.Reading.{read-is, read-whole}
-use Rattle.strip_rebuild_calls.proofs.Searches.{all-fails, all-passed, first-fails, second-fails}
 -- `strip_rebuild_calls::check::valid` meets its contract. The loop's invariant: every strip passed is well. Assumes nothing.
 use mathlib.Core.Bool.{true, false≢true}
 use mathlib.Core.Path.{_≡_, sym, ap, _∙_}
 use Prim.Native.Nat.{ℕ, _-_, _≤_, _<_}
 use native.Mathlib.Omega.{arith}
 use Rattle.strip_rebuild_calls.specs.Check.{stripIn, fitsIn, wellAt, Whole}
-use borrow.Author.Needs.{needs}
 use Rattle.strip_rebuild_calls.proofs.check.valid.Statement.{statement}
 use Rattle.strip_rebuild_calls.proofs.check.valid.Tie as tie
 
@@ -40,8 +39,8 @@ fitting c =
 returns : tie.Need-returns Inv-loop μ-loop
 returns c =
     let a = c .before .before .before .before .before .args in (
-      all-fails _ _ (wellAt (a .length) (a .lines) (a .strips .now)) (c .before .before .before .loop-test .taken)
-          (first-fails _ (sym (fitting (c .before)) ∙ not-true _ (c .if1 .taken))),
+      sym (not-all _ _ (wellAt (a .length) (a .lines) (a .strips .now)) (c .before .before .before .loop-test .taken)
+          (first-fails _ (sym (fitting (c .before)) ∙ not-true _ (c .if1 .taken)))),
       λ e. absurd (false≢true e),
     )
 
@@ -52,8 +51,8 @@ returns-2 : tie.Need-returns-2 Inv-loop μ-loop
 returns-2 c =
     let a = c .before .before .before .before .before .before .before .args in
     let i = c .before .before .before .before .before .before .loop .i in (
-      all-fails _ _ (wellAt (a .length) (a .lines) (a .strips .now)) (c .before .before .before .before .before .loop-test .taken)
-          (second-fails (fitsIn (a .length) (a .lines) (stripIn (a .strips .now) i)) (sym (c .before .in-order .ensures) ∙ not-true _ (c .if2 .taken))),
+      sym (not-all _ _ (wellAt (a .length) (a .lines) (a .strips .now)) (c .before .before .before .before .before .loop-test .taken)
+          (second-fails (fitsIn (a .length) (a .lines) (stripIn (a .strips .now) i)) (sym (c .before .in-order .ensures) ∙ not-true _ (c .if2 .taken)))),
       λ e. absurd (false≢true e),
     )
 

@@ -22,7 +22,7 @@ add-end c =
     let a = c .before .before .args in
     let r = c .before .before .pre .0 in
     let f = c .before .before .pre .1 .within in
-    let s = side-small (a .direction) (a .columns) (a .rows) (r .columns-small) (r .rows-small) in
+    let s = side-small (a .direction) (a .columns) (a .rows) (r .columnsSmall) (r .rowsSmall) in
     omega arith
 
 loop-holds : tie.Need-loop-holds Inv-loop μ-loop
@@ -44,7 +44,7 @@ add-at c =
     let a = c .before .before .before .before .before .before .before .before .args in
     let r = c .before .before .before .before .before .before .before .before .pre .0 in
     let f = c .before .before .before .before .before .before .before .before .pre .1 .within in
-    let s = side-small (a .direction) (a .columns) (a .rows) (r .columns-small) (r .rows-small) in
+    let s = side-small (a .direction) (a .columns) (a .rows) (r .columnsSmall) (r .rowsSmall) in
     let t = c .before .before .before .before .loop-test .taken in
     omega arith
 

@@ -1,14 +1,14 @@
 -- `strip_scan::scan::find` meets its contract. The loop's invariant: the first wanted cell from `at` on is that from `from` on.
 -- Assumes nothing.
 use borrow.Author.Needs.{needs}
-use mathlib.Core.Bool.{Bool, true, false, Bool·beq}
+use mathlib.Core.Bool.{Bool, Bool·beq}
 use mathlib.Core.Path.{_≡_, refl, sym, _∙_}
-use Prim.Native.Nat.{ℕ, _-_, _≤_, _<_}
+use Prim.Native.Nat.{_-_, _≤_}
 use native.Mathlib.Omega.{arith}
 use Rattle.model.specs.Bounded.{firstFrom}
 use Rattle.model.specs.Piece.{cell}
+use Rattle.list_laws.proofs.Firsts.{first-stop, first-go, first-end}
 use Rattle.piece_pixels.specs.Turned.{shownBy}
-use Rattle.strip_scan.proofs.Cells.{first-stop, first-go, first-end}
 use Rattle.strip_scan.proofs.scan.find.Statement.{statement}
 use Rattle.strip_scan.proofs.scan.find.Tie as tie
 

@@ -3,11 +3,11 @@
 use borrow.Author.Needs.{needs}
 use mathlib.Core.Bool.{Bool, false, Bool·beq}
 use mathlib.Core.Path.{_≡_, refl, sym, _∙_}
-use Prim.Native.Nat.{ℕ, _-_, _≤_, _<_}
+use Prim.Native.Nat.{ℕ, _-_, _≤_}
 use native.Mathlib.Omega.{arith}
 use Rattle.model.specs.Bounded.{firstFrom}
 use Rattle.model.specs.Piece.{cell}
-use Rattle.model.proofs.Bounded.{first-from}
+use Rattle.list_laws.proofs.Bounded.{first-from}
 use Rattle.piece_pixels.specs.Turned.{shownBy}
 use Rattle.strip_scan.specs.Scan.{turnedSide, stripsAt}
 use Rattle.strip_scan.proofs.Scanning.{piece-found, piece-line-done, piece-none-left}

@@ -4,8 +4,7 @@ use native.Mathlib.Omega.{arith}
 use mathlib.Core.Path.{sym, _∙_}
 use borrow.Author.Tests.{not-true, not-false}
 use Rattle.model.specs.Lent.{lentBy, jobOf}
-use Rattle.job_laws.proofs.Checked.{facts}
-use Rattle.strip_scan.proofs.Jobs.{entry-at}
+use Rattle.job_laws.proofs.Checked.{facts, entry-at}
 use Rattle.strip_store.proofs.Filling.{store-small}
 use Rattle.strip_store.proofs.Checking.{Checking, check-start, check-start-wrong, check-unlike, check-step, check-end, until-from, unlike-from, stretch-compared}
 use borrow.Author.Needs.{needs}

@@ -4,8 +4,7 @@ use Prim.Native.Nat.{_-_, _≤_}
 use native.Mathlib.Omega.{arith}
 use mathlib.Core.Path.{_∙_}
 use Rattle.model.specs.Lent.{lentBy, jobOf}
-use Rattle.job_laws.proofs.Checked.{facts}
-use Rattle.strip_scan.proofs.Jobs.{entry-at}
+use Rattle.job_laws.proofs.Checked.{facts, entry-at}
 use Rattle.strip_store.proofs.Filling.{Filling, fill-start, fill-step, fill-end, fill-lengths, store-small, appended-piece}
 use borrow.Author.Needs.{needs}
 use Rattle.strip_store.proofs.fill.fill.Statement.{statement}

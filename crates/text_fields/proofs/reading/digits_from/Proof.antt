@@ -8,8 +8,8 @@ use native.Mathlib.Numerals.{add-one}
 use native.Mathlib.Omega.{arith}
 use lib.ListN.{length}
 use Rattle.model.specs.Text.{byte, isDigit, digitsFrom}
-use Rattle.text_fields.specs.Answers.{runOf}
-use Rattle.text_fields.proofs.Tests.{said-no, said-yes}
+use Rattle.list_laws.proofs.Tests.{said-no, said-yes}
+use Rattle.text_fields.specs.Answers.{digitRun}
 use Rattle.text_fields.proofs.Steps.{digit-inside, digits-more, digits-end, digits-none, largest, largest-grows, largest-above}
 use borrow.Author.Needs.{needs}
 use Rattle.text_fields.proofs.reading.digits_from.Statement.{statement}
@@ -36,7 +36,7 @@ returns c =
     let l = c .before .before .before .before .loop in
     let e : l .left ≡ suc (l .left - 1) = omega arith in
     let d : isDigit (byte text (l .next)) ≡ false = rw (c .before .before .byte-at .ensures) at (said-no (c .before .is-digit .ensures) (c .if1 .taken)) in
-    (ap runOf (sym (digits-end text (l .next) (l .value) (l .left - 1) d) ∙ (rw e at (l .inv .0))), l .inv .1, le-trans (largest-above (l .left) (l .value)) (l .inv .2))
+    (ap digitRun (sym (digits-end text (l .next) (l .value) (l .left - 1) d) ∙ (rw e at (l .inv .0))), l .inv .1, le-trans (largest-above (l .left) (l .value)) (l .inv .2))
 
 mul-value : tie.Need-mul-value Inv-loop μ-loop
 mul-value c =
@@ -83,7 +83,7 @@ returns-2 c =
     let text = c .before .before .before .args .text .now in
     let l = c .before .loop in
     let e : l .left ≡ 0 = omega arith in
-    (ap runOf (sym (digits-none text (l .next) (l .value)) ∙ (rw e at (l .inv .0))), l .inv .1, rw e at (l .inv .2))
+    (ap digitRun (sym (digits-none text (l .next) (l .value)) ∙ (rw e at (l .inv .0))), l .inv .1, rw e at (l .inv .2))
 
 pub digits-from-spec : {M : Type 1} → statement M
 digits-from-spec =

@@ -6,7 +6,7 @@ use native.Mathlib.Numerals.{add-one}
 use native.Mathlib.Omega.{arith}
 use borrow.Author.Tests.{eq-eqb, ne-eqb}
 use Rattle.model.specs.Text.{byte, isDigit, isNumber}
-use Rattle.text_fields.proofs.Tests.{said-no, said-yes}
+use Rattle.list_laws.proofs.Tests.{said-no, said-yes}
 use Rattle.text_fields.proofs.Steps.{digit-inside, number-none, number-got, number-wrong}
 use borrow.Author.Needs.{needs}
 use Rattle.text_fields.proofs.reading.number_at.Statement.{statement}

@@ -7,8 +7,8 @@ use native.Mathlib.Omega.{arith}
 use lib.ListN.{length, length-append}
 use lib.Seq.{sets}
 use Rattle.model.specs.Text.{decimal}
+use Rattle.list_laws.proofs.Stores.{sets-append}
 use Rattle.text_fields.proofs.Steps.{decimal-none, decimal-one, decimal-more, decimal-short}
-use Rattle.text_fields.proofs.Stores.{sets-append}
 use Prim.Native.Nat.{ℕ, _<_}
 use borrow.Fn.Kinds.{In}
 use borrow.Fn.PlainCycle.{Measures, is, falls, and}

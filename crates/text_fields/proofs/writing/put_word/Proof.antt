@@ -6,7 +6,7 @@ use native.Mathlib.Numerals.{add-one}
 use native.Mathlib.Omega.{arith}
 use lib.ListN.{length, drop, getD, set}
 use lib.Seq.{sets}
-use Rattle.text_fields.proofs.Stores.{sets-first, sets-none}
+use Rattle.list_laws.proofs.Stores.{sets-first, sets-none}
 use Rattle.text_fields.proofs.writing.put_word.Statement.{statement}
 use Rattle.text_fields.proofs.writing.put_word.Tie as tie
 

@@ -3,21 +3,18 @@ use mathlib.Core.Bool.{Bool, true, false, not, false≢true}
 use mathlib.Core.Path.{_≡_, refl, sym, _∙_, ap}
 use mathlib.Core.Logic.{_⊎_, inl, inr, ⊎-elim}
 use Prim.Native.Nat.{ℕ, zero, suc, _+_, _<_, _≤_}
-use native.Mathlib.Nat.{not-suc-le-zero, add-suc, eq-or-lt-of-le, le-of-suc-le-suc, le-refl}
+use native.Mathlib.Nat.{not-suc-le-zero, add-suc, eq-or-lt-of-le, le-refl}
 use native.Mathlib.Omega.{arith}
 use borrow.Author.Tests.{not-true, not-false}
 use Rattle.model.specs.Bounded.{anyBelow, allBelow, firstFrom}
-use Rattle.model.proofs.Tests.{same-tests, fails, clash}
+use Rattle.list_laws.proofs.Tests.{same-tests, fails, clash}
+use Rattle.list_laws.proofs.Numbers.{below-suc}
 
 -- a number below n that passes
 pub record Witness (n : ℕ) (f : ℕ → Bool) : Type 0 where
   pub number : ℕ
   pub below : number < n
   pub passing : f number ≡ true
-
--- below n + 1: below n, or n itself
-below-suc : {k n : ℕ} → k < suc n → (k ≡ n) ⊎ (k < n)
-below-suc h = eq-or-lt-of-le (le-of-suc-le-suc h)
 
 witness-step : (n : ℕ) (f : ℕ → Bool) (b : Bool) → f n ≡ b → (anyBelow n f ≡ true → Witness n f)
     → elim b as (λ _. Bool) [ true ↦ true | false ↦ anyBelow n f ] ≡ true → Witness (suc n) f

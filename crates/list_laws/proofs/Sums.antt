@@ -6,7 +6,7 @@ use Prim.Native.Nat.{ℕ, zero, suc, _+_, _*_, _-_, _<_, _≤_}
 use native.Mathlib.Nat.{le-refl, eq-or-lt-of-le, le-of-suc-le-suc, add-suc, add-zero, suc-mul}
 use native.Mathlib.Numerals.{add-one}
 use native.Mathlib.Omega.{arith}
-use Rattle.model.specs.Bounded.{sumBelow, one-if}
+use Rattle.model.specs.Bounded.{sumBelow, oneIf}
 
 -- one more term
 pub sum-step : (n : ℕ) (f : ℕ → ℕ) → sumBelow (n + 1) f ≡ sumBelow n f + f n
@@ -107,10 +107,10 @@ pub sum-grown : (n : ℕ) (f g : ℕ → ℕ) (i d : ℕ) → i < n → g i ≡ 
 sum-grown n f g i d l at others = omega (arith, sum-changed n i g f l others)
 
 -- a test counts at most one
-pub one-if-bound : (b : Bool) → one-if b ≤ 1
+pub one-if-bound : (b : Bool) → oneIf b ≤ 1
 one-if-bound true = omega arith
 one-if-bound false = omega arith
 
 -- at most n of the numbers below n pass
-pub passing-bound : (n : ℕ) (f : ℕ → Bool) → sumBelow n (λ k. one-if (f k)) ≤ n
-passing-bound n f = omega (arith, sum-bound n 1 (λ k. one-if (f k)) (λ k l. one-if-bound (f k)))
+pub passing-bound : (n : ℕ) (f : ℕ → Bool) → sumBelow n (λ k. oneIf (f k)) ≤ n
+passing-bound n f = omega (arith, sum-bound n 1 (λ k. oneIf (f k)) (λ k l. one-if-bound (f k)))

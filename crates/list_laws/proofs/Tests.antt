@@ -1,7 +1,8 @@
 -- Facts from tests: a Bool that is an `and`, an `or` or a `not`, and Bools that imply each other. Assumes nothing.
-use mathlib.Core.Bool.{Bool, true, false, _&&_, _||_, true≢false, false≢true}
+use mathlib.Core.Bool.{Bool, true, false, not, _&&_, _||_, true≢false, false≢true}
 use mathlib.Core.Path.{_≡_, refl, sym, _∙_}
 use mathlib.Core.Logic.{_⊎_, inl, inr}
+use borrow.Author.Tests.{not-true, not-false}
 
 pub and-left : (a b : Bool) → (a && b) ≡ true → a ≡ true
 and-left true b e = refl
@@ -53,3 +54,23 @@ pub same-tests : (a b : Bool) → (a ≡ true → b ≡ true) → (b ≡ true �
 same-tests true b f g = sym (f refl)
 same-tests false true f g = g refl
 same-tests false false f g = refl
+
+-- a call that answers a test said no
+pub said-no : {r b : Bool} → r ≡ b → not r ≡ true → b ≡ false
+said-no {r} e h = sym e ∙ not-true r h
+
+-- a call that answers a test said yes
+pub said-yes : {r b : Bool} → r ≡ b → not r ≡ false → b ≡ true
+said-yes {r} e h = sym e ∙ not-false r h
+
+-- neither of two tests passes
+pub or-none : {a b : Bool} → a ≡ false → b ≡ false → (a || b) ≡ false
+or-none {a} {b} p q = rw (p, q)
+
+-- an `and` whose first or second part fails
+pub first-fails : {a : Bool} (b : Bool) → a ≡ false → (a && b) ≡ false
+first-fails b e = rw e
+
+pub second-fails : (a : Bool) {b : Bool} → b ≡ false → (a && b) ≡ false
+second-fails true e = e
+second-fails false e = refl

@@ -1,0 +1,2 @@
+-- What contracts cite of a checked job beside the model's definitions.
+pub mod Entries

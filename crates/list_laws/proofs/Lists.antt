@@ -1,0 +1,64 @@
+-- Lists: what is an element, lists with no element, maps and repeats. Assumes nothing.
+use mathlib.Core.List.{List, [], _∷_, _++_, map, List·Memᴰ, List·Memᴰ·head, List·Memᴰ·tail, List·Memᴰ·not-nil}
+use mathlib.Core.Path.{_≡_, refl, sym, ap}
+use Prim.Native.Nat.{ℕ, zero, suc, _<_, _≤_}
+use native.Mathlib.Nat.{not-suc-le-zero, le-of-suc-le-suc}
+use native.Mathlib.Omega.{arith}
+use lib.ListN.{length, getD, set, take, replicate}
+use lib.Seq.{length-take-le}
+
+-- the element at a place is in the list
+pub member-at : {A : Type 0} (l : List A) (i : ℕ) (z : A) → i < length l → List·Memᴰ (getD l i z) l
+member-at [] i z h = absurd (not-suc-le-zero h)
+member-at (a ∷ l) zero z h = List·Memᴰ·head refl
+member-at (a ∷ l) (suc i) z h = List·Memᴰ·tail (member-at l i z (le-of-suc-le-suc h))
+
+-- a list with an element is not empty
+pub member-length : {A : Type 0} {a : A} {l : List A} → List·Memᴰ a l → 0 < length l
+member-length (List·Memᴰ·head e) = omega arith
+member-length (List·Memᴰ·tail m) = omega arith
+
+-- an element of a mapped list comes from an element of the list
+pub record Source {A B : Type 0} (g : A → B) (l : List A) (b : B) : Type 0 where
+  pub from : A
+  pub listed : List·Memᴰ from l
+  pub image : b ≡ g from
+
+-- where an element of a mapped list comes from
+pub map-source : {A B : Type 0} (g : A → B) (l : List A) {b : B} → List·Memᴰ b (map g l) → Source g l b
+map-source g [] m = absurd (List·Memᴰ·not-nil m)
+map-source g (a ∷ l) (List·Memᴰ·head e) = record { from = a; listed = List·Memᴰ·head refl; image = e }
+map-source {A} {B} g (a ∷ l) {b} (List·Memᴰ·tail m) =
+    let s : Source g l b = map-source g l m in
+    record { from = s .from; listed = List·Memᴰ·tail (s .listed); image = s .image }
+
+-- an element of a list gives an element of the mapped list
+pub map-member : {A B : Type 0} (g : A → B) {a : A} {l : List A} → List·Memᴰ a l → List·Memᴰ (g a) (map g l)
+map-member g (List·Memᴰ·head e) = List·Memᴰ·head (ap g e)
+map-member g (List·Memᴰ·tail m) = List·Memᴰ·tail (map-member g m)
+
+-- a part of nothing is nothing
+pub nothing-left : {A : Type 0} (xs : List A) → length xs ≡ 0 → xs ≡ []
+nothing-left [] e = refl
+nothing-left (x ∷ xs) e = absurd (omega arith)
+
+-- a part with no element in front
+pub nothing-before : {A : Type 0} (l t : List A) → length l ≡ 0 → l ++ t ≡ t
+nothing-before [] t e = refl
+nothing-before (x ∷ l) t e = absurd (omega arith)
+
+-- what is made of each element, with one set anew
+pub map-set : {A B : Type 0} (f : A → B) (l : List A) (i : ℕ) (a : A) → map f (set l i a) ≡ set (map f l) i (f a)
+map-set f [] i a = refl
+map-set f (x ∷ l) zero a = refl
+map-set {B = B} f (x ∷ l) (suc i) a = ap (λ (z : List B). f x ∷ z) (map-set f l i a)
+
+-- a front is as long as asked
+pub front-length : {A : Type 0} (n : ℕ) (l : List A) → n ≤ length l → n ≡ length (take n l)
+front-length n l h = sym (length-take-le n l h)
+
+-- the front of a repeat is a repeat
+pub take-repeat : {A : Type 0} (m n : ℕ) (a : A) → m ≤ n → take m (replicate n a) ≡ replicate m a
+take-repeat zero n a h = refl
+take-repeat (suc m) zero a h = absurd (not-suc-le-zero h)
+take-repeat {A} (suc m) (suc n) a h = ap (λ (l : List A). a ∷ l) (take-repeat m n a (le-of-suc-le-suc h))
