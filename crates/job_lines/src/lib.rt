@@ -4,7 +4,6 @@ use job_limits::numbers_in_range;
 use job_limits::sides_in_range;
 use model::AREA_BOUND;
 use model::JobSize;
-use model::JobSize;
 use model::Refusal;
 use text_numbers::LineForm;
 use text_numbers::line_at;
