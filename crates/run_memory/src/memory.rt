@@ -8,9 +8,12 @@ use run_rounds::Tally;
 use run_rounds::copy;
 use run_rounds::rounds;
 use search_lines::slot_width;
+use search_shapes::empty_store;
 use search_shapes::make_shapes;
 use search_table::fill_table;
+ghost use mathlib.Core.Path.{_≡_};
 ghost use Prim.Native.Nat.{_≤_};
+ghost use lib.ListN.{length};
 ghost use Rattle.model.specs.Lent.{lentBy, jobOf};
 ghost use Rattle.model.specs.Calls.{roundBound};
 ghost use Rattle.model.specs.declared.Direction.{Direction};
@@ -38,6 +41,13 @@ fn slot_count(width: usize) -> usize
     ensures { λ r. ⌜ Slots width r ⌝ }
 {
     524288 / width
+}
+
+// Room for kept lines. While no tag names a line what it holds plays no part, so that no caller's proof computes with it.
+fn empty_lines() -> [u8; 524288]
+    ensures { λ r. ⌜ length r ≡ 524288 ⌝ }
+{
+    [0u8; 524288]
 }
 
 // The rounds, with a buffer for the layout at hand; the best one stands in the lent buffer.
@@ -188,7 +198,7 @@ fn with_column_lines(
         ∗ ⌜ Store Direction.Horizontal (jobOf (lentBy size (now table) (now pixels))) width (now «row_lines») (now «row_tags») ⌝ }
     ensures { λ r. ⌜ Done (lentBy size (now (table .entry)) (now (pixels .entry))) (now (layout .entry)) (now (weights .entry)) plan budget r (now (layout .exit)) (now (weights .exit)) ⌝ }
 {
-    let mut lines = [0u8; 524288];
+    let mut lines = empty_lines();
     let mut tags = [0u32; 8192];
     let mut penalties = [0u8; 4096];
     let mut sums = [0u32; 4096];
@@ -244,7 +254,7 @@ fn with_row_lines(
         ∗ ⌜ Shapes Direction.Vertical (jobOf (lentBy size (now table) (now pixels))) (now columns) (now «column_starts») ⌝ }
     ensures { λ r. ⌜ Done (lentBy size (now (table .entry)) (now (pixels .entry))) (now (layout .entry)) (now (weights .entry)) plan budget r (now (layout .exit)) (now (weights .exit)) ⌝ }
 {
-    let mut lines = [0u8; 524288];
+    let mut lines = empty_lines();
     let mut tags = [0u32; 8192];
     let width = slot_width(size, table);
     let slots = slot_count(width);
@@ -279,9 +289,9 @@ pub fn with_strips(
     requires { ⌜ Given (lentBy size (now table) (now pixels)) (now layout) (now weights) budget ⌝ ∗ ⌜ FewRounds plan ⌝ }
     ensures { λ r. ⌜ Done (lentBy size (now (table .entry)) (now (pixels .entry))) (now (layout .entry)) (now (weights .entry)) plan budget r (now (layout .exit)) (now (weights .exit)) ⌝ }
 {
-    let mut rows = [[0u8; 3]; 262144];
+    let mut rows = empty_store();
     let mut row_starts = [0u32; 257];
-    let mut columns = [[0u8; 3]; 262144];
+    let mut columns = empty_store();
     let mut column_starts = [0u32; 257];
     make_shapes(
         size,
