@@ -2,3 +2,4 @@
 pub mod Mapped
 pub mod Entries
 pub mod Records
+pub mod Runs

@@ -12,6 +12,7 @@ use model::Placement;
 use model::Refusal;
 use model::Row;
 ghost use mathlib.Core.Path.{_≡_};
+ghost use Rattle.model.specs.Bounded.{one-if};
 ghost use Rattle.model.specs.Piece.{coordinateNumber};
 ghost use Rattle.model.specs.Buffer.{placement, endNumber};
 ghost use Rattle.c_interface.specs.Numbers.{directionOf, lineOf, pieceWithTurn};
@@ -102,6 +103,13 @@ pub fn piece_with_turn(turn: u16, piece: usize) -> usize
         TurnAnswer::Known(_) => piece,
         TurnAnswer::Unknown => PIECE_BOUND,
     }
+}
+
+// 1 for yes, 0 for no.
+pub fn bit_of(yes: bool) -> u8
+    ensures { λ r. ⌜ r ≡ one-if yes ⌝ }
+{
+    if yes { 1 } else { 0 }
 }
 
 // The number of a descent's end.

@@ -1,5 +1,4 @@
 -- Laws that the proofs of this crate cite.
-pub mod Words
 pub mod Short
 pub mod Taken
 pub mod Printing

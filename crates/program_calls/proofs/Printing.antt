@@ -18,7 +18,7 @@ use Rattle.list_laws.proofs.Stores.{sets-filled}
 use Rattle.layout_write_calls.specs.Answers.{textAnswer}
 use Rattle.layout_write_calls.specs.Written.{Written}
 use Rattle.layout_write_calls.specs.declared.TextAnswer.{TextAnswer}
-use Rattle.program_calls.specs.Output.{outputBound}
+use Rattle.program_text.specs.Output.{outputBound}
 
 -- a larger bound
 pub written-more : {before bytes after : List ℕ} {at most more next : ℕ} → Written before at bytes most next after → most ≤ more

@@ -25,7 +25,7 @@ use Rattle.layout_write_calls.proofs.Sequel.{written-then}
 use Rattle.run_guided_calls.specs.Answers.{guidedAnswer}
 use Rattle.run_guided_calls.specs.declared.RunTotals.{RunTotals}
 use Rattle.run_guided_calls.specs.declared.GuidedAnswer.{GuidedAnswer}
-use Rattle.program_calls.specs.Output.{outputBound}
+use Rattle.program_text.specs.Output.{outputBound}
 use Rattle.program_calls.specs.Runs.{Gives, runWith}
 use Rattle.program_calls.proofs.Printing.{written-more}
 

@@ -13,13 +13,8 @@ ghost use Rattle.model.specs.Program.{runText, programRun, printed, programText
 ghost use Rattle.text_laws.specs.Outcomes.{NoCause};
 ghost use Rattle.layout_write_calls.specs.Answers.{textAnswer};
 ghost use Rattle.layout_write_calls.specs.Written.{Written};
-ghost use Rattle.program_calls.specs.Output.{outputBound};
+ghost use Rattle.program_text.specs.Output.{outputBound};
 ghost use Rattle.program_calls.specs.Runs.{Gives, runWith};
-
-mod end_lines;
-
-use end_lines::put_end_line;
-use end_lines::put_refusal_line;
 use job_calls::JobAnswer;
 use layout_places::LengthAnswer;
 use layout_write_calls::TextAnswer;
@@ -27,6 +22,8 @@ use model::AREA_BOUND;
 use model::JobSize;
 use model::PAIR_BOUND;
 use model::PIECE_BOUND;
+use program_text::put_end_line;
+use program_text::put_refusal_line;
 use run_guided_calls::GuidedAnswer;
 use run_guided_calls::RunTotals;
 use run_guided_calls::guided_run;
@@ -98,7 +95,7 @@ fn write_run(
         // It has none, and the buffer has room for its text: this does not happen.
         return 0;
     };
-    put_end_line(text, next, run, used)
+    put_end_line(text, next, run.sum, run.made, run.moves, used)
 }
 
 // Runs a job that was read and writes how the run went.

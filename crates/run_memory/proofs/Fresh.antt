@@ -33,17 +33,16 @@ tags-lent width slots s =
     let few = s .tagged in
     length-take-le slots (replicate 8192 0) (omega arith)
 
--- with no tag there is no line
-pub store-fresh : (d : Direction) (j : Job) (width slots : ℕ) → Slots width slots
-    → Store d j width (replicate 524288 0) (take slots (replicate 8192 0))
-store-fresh d j width slots s =
-    let bytes : length {A = ℕ} (replicate 524288 0) ≡ 524288 = length-replicate {A = ℕ} 524288 0 in
+-- with no tag there is no line, whatever the bytes are
+pub store-fresh : (d : Direction) (j : Job) (width slots : ℕ) (lines : List ℕ) → length lines ≡ 524288 → Slots width slots
+    → Store d j width lines (take slots (replicate 8192 0))
+store-fresh d j width slots lines bytes s =
     let count = tags-lent width slots s in
     let some = s .some in
     let few = s .tagged in
     record {
       kept =
-          none-kept d j width (replicate 524288 0) (take slots (replicate 8192 0)) (rw (count, bytes) (s .room)) (omega arith)
+          none-kept d j width lines (take slots (replicate 8192 0)) (rw (count, bytes) (s .room)) (omega arith)
           (λ m l. getD-take slots (replicate 8192 0) m 0 (omega arith) ∙ getD-replicate {A = ℕ} 8192 m 0 0 (omega arith));
       fits = omega arith;
     }

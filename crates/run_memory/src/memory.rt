@@ -11,11 +11,13 @@ use run_rounds::copy;
 use run_rounds::rounds;
 use search_lines::slot_width;
 use search_shapes::STARTS_LENGTH;
-use search_shapes::STORE_LENGTH;
+use search_shapes::empty_store;
 use search_shapes::make_shapes;
 use search_table::TABLE_LENGTH;
 use search_table::fill_table;
+ghost use mathlib.Core.Path.{_≡_};
 ghost use Prim.Native.Nat.{_≤_};
+ghost use lib.ListN.{length};
 ghost use Rattle.model.specs.Lent.{lentBy, jobOf};
 ghost use Rattle.model.specs.Calls.{roundBound};
 ghost use Rattle.model.specs.declared.Direction.{Direction};
@@ -50,6 +52,13 @@ fn slot_count(width: usize) -> usize
     ensures { λ r. ⌜ Slots width r ⌝ }
 {
     LINES_LENGTH / width
+}
+
+// Room for kept lines. While no tag names a line what it holds plays no part, so that no caller's proof computes with it.
+fn empty_lines() -> [u8; LINES_LENGTH]
+    ensures { λ r. ⌜ length r ≡ 524288 ⌝ }
+{
+    [0u8; LINES_LENGTH]
 }
 
 // The rounds, with a buffer for the layout at hand; the best one stands in the lent buffer.
@@ -200,7 +209,7 @@ fn with_column_lines(
         ∗ ⌜ Store Direction.Horizontal (jobOf (lentBy size (now table) (now pixels))) width (now «row_lines») (now «row_tags») ⌝ }
     ensures { λ r. ⌜ Done (lentBy size (now (table .entry)) (now (pixels .entry))) (now (layout .entry)) (now (weights .entry)) plan budget r (now (layout .exit)) (now (weights .exit)) ⌝ }
 {
-    let mut lines = [0u8; LINES_LENGTH];
+    let mut lines = empty_lines();
     let mut tags = [0u32; TAGS_LENGTH];
     let mut penalties = [0u8; TABLE_LENGTH];
     let mut sums = [0u32; COLUMN_BOUND];
@@ -256,7 +265,7 @@ fn with_row_lines(
         ∗ ⌜ Shapes Direction.Vertical (jobOf (lentBy size (now table) (now pixels))) (now columns) (now «column_starts») ⌝ }
     ensures { λ r. ⌜ Done (lentBy size (now (table .entry)) (now (pixels .entry))) (now (layout .entry)) (now (weights .entry)) plan budget r (now (layout .exit)) (now (weights .exit)) ⌝ }
 {
-    let mut lines = [0u8; LINES_LENGTH];
+    let mut lines = empty_lines();
     let mut tags = [0u32; TAGS_LENGTH];
     let width = slot_width(size, table);
     let slots = slot_count(width);
@@ -291,9 +300,9 @@ pub fn with_strips(
     requires { ⌜ Given (lentBy size (now table) (now pixels)) (now layout) (now weights) budget ⌝ ∗ ⌜ FewRounds plan ⌝ }
     ensures { λ r. ⌜ Done (lentBy size (now (table .entry)) (now (pixels .entry))) (now (layout .entry)) (now (weights .entry)) plan budget r (now (layout .exit)) (now (weights .exit)) ⌝ }
 {
-    let mut rows = [[0u8; 3]; STORE_LENGTH];
+    let mut rows = empty_store();
     let mut row_starts = [0u32; STARTS_LENGTH];
-    let mut columns = [[0u8; 3]; STORE_LENGTH];
+    let mut columns = empty_store();
     let mut column_starts = [0u32; STARTS_LENGTH];
     make_shapes(
         size,

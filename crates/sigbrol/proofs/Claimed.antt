@@ -1,7 +1,7 @@
 -- What demand 3 says of a run, over the numbers that C is given: they are those of the run, and a reply of number 0 tells that there was one,
 -- since every cause of a refusal has a number other than 0. Assumes nothing.
 use mathlib.Core.List.{List}
-use mathlib.Core.Path.{_≡_, refl, sym, subst, _∙_, ap}
+use mathlib.Core.Path.{_≡_, sym, subst, _∙_, ap}
 use Prim.Native.Nat.{ℕ, _<_}
 use native.Mathlib.Omega.{arith}
 use Rattle.model.specs.Layout.{Job, Layout}
@@ -10,20 +10,14 @@ use Rattle.model.specs.Descent.{Descent}
 use Rattle.model.specs.Refusal.{refused}
 use Rattle.model.specs.Calls.{descentCall, guidedCall}
 use Rattle.model.specs.declared.End.{End}
-use Rattle.model.specs.declared.End.the-variants.{Clear, Settled, Spent}
 use Rattle.model.specs.declared.Refusal.{Refusal}
 use Rattle.model.specs.Buffer.{endNumber}
 use Rattle.descent_laws.specs.Claims.{DescentClaims}
 use Rattle.run_descent.specs.Descents.{descentOf}
 use Rattle.run_descent.specs.declared.Ended.{Ended}
-use Rattle.sigbrol.specs.Runs.{endTold, descentTold}
+use Rattle.c_interface.specs.Runs.{endTold, descentTold}
+use Rattle.c_interface.proofs.Runs.{end-back}
 use Rattle.sigbrol.proofs.Told.{refused-numbered}
-
--- the number of an end tells that end
-pub end-back : (e : End) → endTold (endNumber e) ≡ e
-end-back Clear = refl
-end-back Settled = refl
-end-back Spent = refl
 
 -- what holds of a descent holds of the one that its numbers tell
 pub descent-claimed : (j : Job) (ws : List ℕ) (budget : ℕ) (from to : Layout) (e : Ended) (k : ℕ) → k ≡ endNumber (e .end)

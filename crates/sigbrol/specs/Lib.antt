@@ -1,3 +1,2 @@
 -- What the exported calls' contracts cite beside the definitions below.
 pub mod Places
-pub mod Runs

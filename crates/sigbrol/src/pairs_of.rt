@@ -1,5 +1,6 @@
 // Two pieces of a layout.
 use c_interface::Reply;
+use c_interface::bit_of;
 use c_interface::direction_of;
 use c_interface::done;
 use c_interface::refused;
@@ -11,13 +12,6 @@ ghost use Rattle.model.specs.Bounded.{oneIf};
 ghost use Rattle.model.specs.Calls.{leaving, shareCall, depthCall, penaltyCall};
 ghost use Rattle.c_interface.specs.Numbers.{lentAs, directionOf};
 ghost use Rattle.c_interface.specs.Replies.{replyTo};
-
-// 1 for yes, 0 for no.
-fn bit_of(yes: bool) -> u8
-    ensures { λ r. ⌜ r ≡ oneIf yes ⌝ }
-{
-    if yes { 1 } else { 0 }
-}
 
 // Whether two pieces of a layout share a pixel: 1 or 0.
 #[no_mangle]

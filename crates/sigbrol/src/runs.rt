@@ -19,7 +19,7 @@ ghost use Rattle.model.specs.Calls.{leaving, searchCall, descentCall, descentAf
 ghost use Rattle.descent_laws.specs.Claims.{DescentClaims, GuidedClaims};
 ghost use Rattle.c_interface.specs.Numbers.{lentAs, lineOf, pieceWithTurn};
 ghost use Rattle.c_interface.specs.Replies.{replyTo};
-ghost use Rattle.sigbrol.specs.Runs.{descentTold, guidedTold};
+ghost use Rattle.c_interface.specs.Runs.{descentTold, guidedTold};
 
 // The best place of a piece on a line.
 #[no_mangle]

@@ -10,7 +10,7 @@ ghost use Prim.Native.Nat.{_≤_};
 ghost use lib.ListN.{length};
 ghost use Rattle.model.specs.Calls.{leaving, layoutAfter, textAfter, writeLayoutCall, readLayoutCall};
 ghost use Rattle.model.specs.Program.{programText, programCall};
-ghost use Rattle.program_calls.specs.Output.{outputBound};
+ghost use Rattle.program_text.specs.Output.{outputBound};
 ghost use Rattle.c_interface.specs.Numbers.{lentAs};
 ghost use Rattle.c_interface.specs.Replies.{replyTo};
 

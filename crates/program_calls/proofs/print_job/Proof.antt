@@ -7,7 +7,7 @@ use Rattle.model.specs.Lent.{Lent, lentBy, jobOf}
 use Rattle.model.specs.Program.{programRun}
 use Rattle.layout_places.proofs.Fitting.{fitting}
 use Rattle.layout_write_calls.specs.Written.{Written}
-use Rattle.program_calls.specs.Output.{outputBound}
+use Rattle.program_text.specs.Output.{outputBound}
 use Rattle.program_calls.proofs.Taken.{best-passes}
 use Rattle.program_calls.proofs.Running.{front-length, run-text}
 use Rattle.program_calls.proofs.print_job.Statement.{statement}

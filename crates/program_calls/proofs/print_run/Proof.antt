@@ -9,7 +9,7 @@ use lib.ListN.{length, length-replicate}
 use lib.Seq.{sets, length-take-le}
 use Rattle.model.specs.Program.{programText}
 use Rattle.list_laws.proofs.Stores.{sets-filled}
-use Rattle.program_calls.specs.Output.{outputBound}
+use Rattle.program_text.specs.Output.{outputBound}
 use Rattle.program_calls.proofs.Printing.{front-written, leaves-short, leaves-written}
 use Rattle.program_calls.proofs.print_run.Statement.{statement}
 use Rattle.program_calls.proofs.print_run.Tie as tie

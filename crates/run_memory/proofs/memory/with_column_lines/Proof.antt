@@ -26,6 +26,9 @@ drawn e =
     let laid = given-laid (lent e) (e .args .layout .now) (e .args .weights .now) (e .args .budget) (e .pre .0) in
     record { inRows = record { laid = laid; horizontal = tools .horizontal }; vertical = tools .vertical }
 
+empty-lines-requires : tie.Need-empty-lines-requires
+empty-lines-requires c κs = search needs
+
 slot-count-requires : tie.Need-slot-count-requires
 slot-count-requires c κs = search needs
 
@@ -34,36 +37,41 @@ slice-aggregate-fill-table c = search needs
 
 fill-table-requires : tie.Need-fill-table-requires
 fill-table-requires c κs =
-    let e = c .before .before .before .before .before .before .before .before .before in (record { size = e .args .size; pixels = e .args .pixels .now; drawn = drawn e }, refl)
+    let e : tie.Start = search in (record { size = e .args .size; pixels = e .args .pixels .now; drawn = drawn e }, refl)
 
 slice-aggregate-run-plan : tie.Need-slice-aggregate-run-plan
 slice-aggregate-run-plan c = search needs
 
 slice-aggregate-run-plan-2 : tie.Need-slice-aggregate-run-plan-2
-slice-aggregate-run-plan-2 c = search needs
+slice-aggregate-run-plan-2 c = let made : tie.After-empty-lines = search in sym (made .empty-lines .ensures)
 
 array-borrow-prefix-tags : tie.Need-array-borrow-prefix-tags
 array-borrow-prefix-tags c = search needs
 
 slice-aggregate-run-plan-3 : tie.Need-slice-aggregate-run-plan-3
 slice-aggregate-run-plan-3 c =
-    sym (tags-lent _ _ (c .before .before .before .before .before .before .before .before .before .before .before .slot-count .ensures))
+    let counted : tie.After-slot-count = search in
+    let e : tie.Start = search in
+    sym (tags-lent (e .args .width) (counted .slot-count .result) (counted .slot-count .ensures))
 
 slice-aggregate-run-plan-4 : tie.Need-slice-aggregate-run-plan-4
 slice-aggregate-run-plan-4 c = search needs
 
 run-plan-requires : tie.Need-run-plan-requires
 run-plan-requires c κs =
-    let e = c .before .before .before .before .before .before .before .before .before .before .before .before .before .before .before .before .before .before .before in
+    let filled : tie.After-fill-table = search in
+    let counted : tie.After-slot-count = search in
+    let lines : tie.After-empty-lines = search in
+    let e : tie.Start = search in
     let g = e .pre .0 in
-    let f = c .before .before .before .before .before .before .before .before .before .fill-table in
+    let f = filled .fill-table in
     let T = f .last .1 .1 .1 .1 .1 .1 .0 in
     let whole = given-length (lent e) (e .args .layout .now) (e .args .weights .now) (e .args .budget) g in
     let table : PenaltyTable (jobOf (lent e)) (layoutOf (e .args .layout .now)) (e .args .size .count) T =
     subst (λ (n : ℕ). PenaltyTable (jobOf (lent e)) (layoutOf (e .args .layout .now)) n T) whole (f .ensures (e .args .size) (e .args .pixels .now) (drawn e)) in
     let room = length-replicate {A = ℕ} 4096 0 in
-    let slots = c .before .before .before .before .before .before .before .before .before .before .before .before .slot-count in
-    let columns = store-fresh Vertical (jobOf (lent e)) (e .args .width) (slots .result) (slots .ensures) in (
+    let slots = counted .slot-count in
+    let columns = store-fresh Vertical (jobOf (lent e)) (e .args .width) (slots .result) (lines .empty-lines .result) (lines .empty-lines .ensures) (slots .ensures) in (
       g,
       (
         e .pre .1 .0,
@@ -87,12 +95,13 @@ same-length-4 : tie.Need-same-length-4
 same-length-4 c = search needs
 
 returns : tie.Need-returns
-returns c = c .before .before .before .before .before .before .before .before .before .before .before .run-plan .ensures
+returns c = let ran : tie.After-run-plan = search in ran .run-plan .ensures
 
 pub with-column-lines-spec : {M : Type 1} → statement M
 with-column-lines-spec =
     tie.close
     (tie.spec
+    empty-lines-requires
     slot-count-requires
     slice-aggregate-fill-table
     fill-table-requires

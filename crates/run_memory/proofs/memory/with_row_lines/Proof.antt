@@ -12,26 +12,35 @@ use Rattle.run_memory.proofs.memory.with_row_lines.Tie as tie
 abbrev job : tie.Start → Lent
 job s = lentBy (s .args .size) (s .args .table .now) (s .args .pixels .now)
 
+empty-lines-requires : tie.Need-empty-lines-requires
+empty-lines-requires c κs = search needs
+
 slot-width-requires : tie.Need-slot-width-requires
-slot-width-requires c κs = let s = c .before .before .before .before in facts (job s) (s .pre .0 .well) .entries
+slot-width-requires c κs = let s : tie.Start = search in facts (job s) (s .pre .0 .well) .entries
 
 slot-count-requires : tie.Need-slot-count-requires
 slot-count-requires c κs = search needs
 
 slice-aggregate-with-column-lines : tie.Need-slice-aggregate-with-column-lines
-slice-aggregate-with-column-lines c = search needs
+slice-aggregate-with-column-lines c = let made : tie.After-empty-lines = search in sym (made .empty-lines .ensures)
 
 array-borrow-prefix-tags : tie.Need-array-borrow-prefix-tags
 array-borrow-prefix-tags c = search needs
 
 slice-aggregate-with-column-lines-2 : tie.Need-slice-aggregate-with-column-lines-2
-slice-aggregate-with-column-lines-2 c = sym (tags-lent (c .before .before .before .before .before .slot-width .result) (c .before .before .before .before .slot-count .result) (c .before .before .before .before .slot-count .ensures))
+slice-aggregate-with-column-lines-2 c =
+    let wide : tie.After-slot-width = search in
+    let counted : tie.After-slot-count = search in
+    sym (tags-lent (wide .slot-width .result) (counted .slot-count .result) (counted .slot-count .ensures))
 
 with-column-lines-requires : tie.Need-with-column-lines-requires
 with-column-lines-requires c κs =
-    let s = c .before .before .before .before .before .before .before .before .before .before in
-    let width = c .before .before .before .before .before .slot-width in
-    let slots = c .before .before .before .before .slot-count in (
+    let s : tie.Start = search in
+    let lines : tie.After-empty-lines = search in
+    let wide : tie.After-slot-width = search in
+    let counted : tie.After-slot-count = search in
+    let width = wide .slot-width in
+    let slots = counted .slot-count in (
       s .pre .0,
       (
         s .pre .1 .0,
@@ -44,7 +53,7 @@ with-column-lines-requires c κs =
             roomy = width .ensures .1 .0;
             narrow = width .ensures .1 .1;
           },
-          store-fresh Horizontal (jobOf (job s)) (width .result) (slots .result) (slots .ensures),
+          store-fresh Horizontal (jobOf (job s)) (width .result) (slots .result) (lines .empty-lines .result) (lines .empty-lines .ensures) (slots .ensures),
         ),
       ),
     )
@@ -56,12 +65,13 @@ same-length-2 : tie.Need-same-length-2
 same-length-2 c = search needs
 
 returns : tie.Need-returns
-returns c = c .before .before .before .before .before .with-column-lines .ensures
+returns c = let ran : tie.After-with-column-lines = search in ran .with-column-lines .ensures
 
 pub with-row-lines-spec : {M : Type 1} → statement M
 with-row-lines-spec =
     tie.close
     (tie.spec
+    empty-lines-requires
     slot-width-requires
     slot-count-requires
     slice-aggregate-with-column-lines

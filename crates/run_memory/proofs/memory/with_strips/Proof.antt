@@ -1,26 +1,39 @@
 -- `run_memory::memory::with_strips` meets its contract: the strips are made in both directions. Assumes nothing.
-use Rattle.layout_sum_calls.proofs.Causes.{room}
+use mathlib.Core.Path.{sym}
+use Rattle.layout_sum_calls.proofs.Causes.{room-of}
 use borrow.Author.Needs.{needs}
 use Rattle.run_memory.proofs.memory.with_strips.Statement.{statement}
 use Rattle.run_memory.proofs.memory.with_strips.Tie as tie
 
+empty-store-requires : tie.Need-empty-store-requires
+empty-store-requires c κs = search needs
+
+empty-store-requires-2 : tie.Need-empty-store-requires-2
+empty-store-requires-2 c κs = search needs
+
 slice-aggregate-make-shapes : tie.Need-slice-aggregate-make-shapes
-slice-aggregate-make-shapes c = search needs
+slice-aggregate-make-shapes c = let made : tie.After-empty-store = search in sym (made .empty-store .ensures)
 
 slice-aggregate-make-shapes-2 : tie.Need-slice-aggregate-make-shapes-2
 slice-aggregate-make-shapes-2 c = search needs
 
 make-shapes-requires : tie.Need-make-shapes-requires
-make-shapes-requires c κs = (c .before .before .before .before .pre .0 .well, room)
+make-shapes-requires c κs =
+    let at-start : tie.Start = search in
+    let made : tie.After-empty-store = search in
+    (at-start .pre .0 .well, room-of _ (made .empty-store .ensures))
 
 slice-aggregate-make-shapes-3 : tie.Need-slice-aggregate-make-shapes-3
-slice-aggregate-make-shapes-3 c = search needs
+slice-aggregate-make-shapes-3 c = let made : tie.After-empty-store2 = search in sym (made .empty-store2 .ensures)
 
 slice-aggregate-make-shapes-4 : tie.Need-slice-aggregate-make-shapes-4
 slice-aggregate-make-shapes-4 c = search needs
 
 make-shapes-requires-2 : tie.Need-make-shapes-requires-2
-make-shapes-requires-2 c κs = (c .before .before .before .before .before .before .before .before .before .pre .0 .well, room)
+make-shapes-requires-2 c κs =
+    let at-start : tie.Start = search in
+    let made : tie.After-empty-store2 = search in
+    (at-start .pre .0 .well, room-of _ (made .empty-store2 .ensures))
 
 slice-aggregate-with-row-lines : tie.Need-slice-aggregate-with-row-lines
 slice-aggregate-with-row-lines c = search needs
@@ -35,7 +48,11 @@ slice-aggregate-with-row-lines-4 : tie.Need-slice-aggregate-with-row-lines-4
 slice-aggregate-with-row-lines-4 c = search needs
 
 with-row-lines-requires : tie.Need-with-row-lines-requires
-with-row-lines-requires c κs = let s = c .before .before .before .before .before .before .before .before .before .before .before .before .before .before .before .before .before .before in (s .pre .0, (s .pre .1, (c .before .before .before .before .before .before .before .before .before .before .before .before .before .make-shapes .ensures, c .before .before .before .before .before .before .before .before .make-shapes2 .ensures)))
+with-row-lines-requires c κs =
+    let at-start : tie.Start = search in
+    let in-rows : tie.After-make-shapes = search in
+    let in-columns : tie.After-make-shapes2 = search in
+    (at-start .pre .0, (at-start .pre .1, (in-rows .make-shapes .ensures, in-columns .make-shapes2 .ensures)))
 
 same-length : tie.Need-same-length
 same-length c = search needs
@@ -44,12 +61,14 @@ same-length-2 : tie.Need-same-length-2
 same-length-2 c = search needs
 
 returns : tie.Need-returns
-returns c = c .before .before .before .with-row-lines .ensures
+returns c = let ran : tie.After-with-row-lines = search in ran .with-row-lines .ensures
 
 pub with-strips-spec : {M : Type 1} → statement M
 with-strips-spec =
     tie.close
     (tie.spec
+    empty-store-requires
+    empty-store-requires-2
     slice-aggregate-make-shapes
     slice-aggregate-make-shapes-2
     make-shapes-requires

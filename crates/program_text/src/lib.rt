@@ -4,9 +4,8 @@ ghost use Prim.Native.Nat.{_≤_};
 ghost use Rattle.model.specs.Text.{comma, decimal};
 ghost use Rattle.model.specs.Program.{wordLine, refusalText, endWord};
 ghost use Rattle.layout_write_calls.specs.Written.{Written};
-ghost use Rattle.program_calls.specs.Output.{outputBound};
+ghost use Rattle.program_text.specs.Output.{outputBound};
 use model::Refusal;
-use run_guided_calls::RunTotals;
 use text_fields::put_byte;
 use text_fields::put_decimal;
 use text_fields::put_word;
@@ -32,14 +31,21 @@ fn put_end_word(text: &mut [u8], at: usize, sum: u64) -> usize
 }
 
 // The end line: the word, plain sum, trials, moves and used length; and the position after it.
-pub fn put_end_line(text: &mut [u8], at: usize, run: RunTotals, used: usize) -> usize
+pub fn put_end_line(
+    text: &mut [u8],
+    at: usize,
+    sum: u64,
+    made: u64,
+    moves: u64,
+    used: usize,
+) -> usize
     requires { ⌜ at ≤ 2000 ⌝ }
-    ensures { λ r. ⌜ Written (now (text .entry)) at (wordLine (endWord (run .sum)) (run .sum ∷ run .made ∷ run .moves ∷ used ∷ [])) 54 r (now (text .exit)) ⌝ }
+    ensures { λ r. ⌜ Written (now (text .entry)) at (wordLine (endWord sum) (sum ∷ made ∷ moves ∷ used ∷ [])) 54 r (now (text .exit)) ⌝ }
 {
-    let after_word = put_end_word(text, at, run.sum);
-    let after_sum = put_number(text, after_word, run.sum);
-    let after_made = put_number(text, after_sum, run.made);
-    let after_moves = put_number(text, after_made, run.moves);
+    let after_word = put_end_word(text, at, sum);
+    let after_sum = put_number(text, after_word, sum);
+    let after_made = put_number(text, after_sum, made);
+    let after_moves = put_number(text, after_made, moves);
     let after_used = put_number(text, after_moves, used as u64);
     put_byte(text, after_used, b'\n')
 }

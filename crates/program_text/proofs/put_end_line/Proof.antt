@@ -1,10 +1,10 @@
--- `program_calls::end_lines::put_end_line` meets its contract: the word, four numbers and byte 10, one after the other. Assumes nothing.
+-- `program_text::put_end_line` meets its contract: the word, four numbers and byte 10, one after the other. Assumes nothing.
 use borrow.Author.Needs.{needs}
 use Rattle.model.specs.Text.{lineEnd}
 use Rattle.model.specs.Program.{wordLine}
 use Rattle.layout_write_calls.proofs.Sequel.{byte-written, written-then}
-use Rattle.program_calls.proofs.end_lines.put_end_line.Statement.{statement}
-use Rattle.program_calls.proofs.end_lines.put_end_line.Tie as tie
+use Rattle.program_text.proofs.put_end_line.Statement.{statement}
+use Rattle.program_text.proofs.put_end_line.Tie as tie
 
 put-end-word-requires : tie.Need-put-end-word-requires
 put-end-word-requires c κs = search needs

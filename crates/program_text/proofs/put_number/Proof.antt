@@ -1,10 +1,10 @@
--- `program_calls::end_lines::put_number` meets its contract: a comma and the digits behind it. Assumes nothing.
+-- `program_text::put_number` meets its contract: a comma and the digits behind it. Assumes nothing.
 use borrow.Author.Needs.{needs}
 use Rattle.model.specs.Text.{comma}
 use Rattle.layout_write_calls.proofs.Sequel.{byte-written, written-then}
-use Rattle.program_calls.proofs.Words.{decimal-written}
-use Rattle.program_calls.proofs.end_lines.put_number.Statement.{statement}
-use Rattle.program_calls.proofs.end_lines.put_number.Tie as tie
+use Rattle.program_text.proofs.Words.{decimal-written}
+use Rattle.program_text.proofs.put_number.Statement.{statement}
+use Rattle.program_text.proofs.put_number.Tie as tie
 
 put-byte-requires : tie.Need-put-byte-requires
 put-byte-requires c κs = search needs

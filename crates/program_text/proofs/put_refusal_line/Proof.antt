@@ -1,10 +1,10 @@
--- `program_calls::end_lines::put_refusal_line` meets its contract: the word, two numbers and byte 10, one after the other. Assumes nothing.
+-- `program_text::put_refusal_line` meets its contract: the word, two numbers and byte 10, one after the other. Assumes nothing.
 use borrow.Author.Needs.{needs}
 use Rattle.model.specs.Text.{bytes, lineEnd}
 use Rattle.model.specs.Program.{wordLine}
 use Rattle.layout_write_calls.proofs.Sequel.{bytes-written, byte-written, written-then}
-use Rattle.program_calls.proofs.end_lines.put_refusal_line.Statement.{statement}
-use Rattle.program_calls.proofs.end_lines.put_refusal_line.Tie as tie
+use Rattle.program_text.proofs.put_refusal_line.Statement.{statement}
+use Rattle.program_text.proofs.put_refusal_line.Tie as tie
 
 slice-aggregate-put-word : tie.Need-slice-aggregate-put-word
 slice-aggregate-put-word c = search needs

@@ -1,8 +1,8 @@
--- `program_calls::end_lines::put_end_word` meets its contract, by the test of the sum. Assumes nothing.
+-- `program_text::put_end_word` meets its contract, by the test of the sum. Assumes nothing.
 use borrow.Author.Needs.{needs}
-use Rattle.program_calls.proofs.Words.{clear-written, open-written}
-use Rattle.program_calls.proofs.end_lines.put_end_word.Statement.{statement}
-use Rattle.program_calls.proofs.end_lines.put_end_word.Tie as tie
+use Rattle.program_text.proofs.Words.{clear-written, open-written}
+use Rattle.program_text.proofs.put_end_word.Statement.{statement}
+use Rattle.program_text.proofs.put_end_word.Tie as tie
 
 slice-aggregate-put-word : tie.Need-slice-aggregate-put-word
 slice-aggregate-put-word c = search needs
