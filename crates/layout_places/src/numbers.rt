@@ -1,6 +1,8 @@
 // Numbers that the placements need.
 ghost use mathlib.Core.Path.{_≡_};
 ghost use Prim.Native.Nat.{_≤_, max};
+ghost use lib.ListN.{length};
+ghost use Rattle.model.specs.Layout.{pairs};
 
 // A box side of the table as a wide number.
 pub fn side(k: u8) -> usize
@@ -14,4 +16,16 @@ pub fn larger(a: usize, b: usize) -> usize
     ensures { λ r. ⌜ r ≡ max a b ⌝ }
 {
     if a < b { b } else { a }
+}
+
+// How many pairs n pieces have.
+pub fn pair_count(n: usize) -> usize
+    requires { ⌜ n ≤ 64 ⌝ }
+    ensures { λ r. ⌜ r ≡ length (pairs n) ⌝ }
+{
+    if n == 0 {
+        // A job that passed its check has a piece: this does not happen.
+        return 0;
+    }
+    n * (n - 1) / 2
 }

@@ -1,6 +1,7 @@
 // Sums over the table of pair penalties (64 x 64 entries, that of pieces i and k at i * 64 + k and at k * 64 + i) and the weights beside
 // it, which stand in the order of the pairs; and the weights that rise after a round. Document 01, 'No-fit rows and penalty' and 'Descent
 // and guidance'. The number of pieces is n.
+use layout_places::numbers::pair_count;
 ghost use mathlib.Core.Path.{_≡_};
 ghost use mathlib.Core.List.{List};
 ghost use Prim.Native.Nat.{ℕ, _+_, _<_, _≤_, _^_};
@@ -13,18 +14,6 @@ ghost use Rattle.search_laws.specs.PieceSum.{weightBetween};
 ghost use Rattle.search_laws.specs.Table.{PenaltyTable};
 ghost use Rattle.search_laws.specs.Raising.{Raising};
 ghost use Rattle.search_sums.specs.Table.{Weighed, rowPart, raisedAt};
-
-// How many pairs n pieces have.
-pub fn pair_count(n: usize) -> usize
-    requires { ⌜ n ≤ 64 ⌝ }
-    ensures { λ r. ⌜ r ≡ length (pairs n) ⌝ }
-{
-    if n == 0 {
-        // A job that passed its check has a piece: this does not happen.
-        return 0;
-    }
-    n * (n - 1) / 2
-}
 
 // The position of the pair (i, k), i below k, among the pairs of n pieces.
 pub fn pair_index(n: usize, i: usize, k: usize) -> usize
