@@ -1,4 +1,3 @@
 -- Laws that the proofs of this crate and of those above cite.
 pub mod Places
-pub mod Causes
 pub mod Fitting

@@ -7,15 +7,15 @@ use Prim.Native.Nat.{ℕ, _+_, _<_}
 use native.Mathlib.Omega.{arith}
 use lib.Dec.{leb}
 use lib.ListN.{getD, List·getD-map}
-use Rattle.model.specs.Piece.{turnBit}
+use Rattle.model.specs.Piece.{turnBit, allows}
 use Rattle.model.specs.Layout.{Job, inside, placeOf, turnedPiece}
 use Rattle.model.specs.Buffer.{turnOf, turnOfDegrees, placementOf, layoutOf}
 use Rattle.model.specs.declared.Placement.{Placement}
 use Rattle.model.specs.declared.Turn.{Turn}
 use Rattle.model.specs.declared.Turn.the-variants.{Zero, Quarter, Half, ThreeQuarters}
 use Rattle.layout_places.specs.Answers.{turnAnswer}
-use Rattle.layout_places.specs.Boxes.{sidesOf}
-use Rattle.layout_places.specs.declared.Sides.{Sides}
+use Rattle.piece_pixels.specs.Turned.{sidesOf}
+use Rattle.piece_pixels.specs.declared.Sides.{Sides}
 use Rattle.layout_places.specs.declared.TurnAnswer.the-variants.{Known, Unknown}
 
 -- a turn's part of the sum of turns is not 0
@@ -24,6 +24,14 @@ bit-positive Zero = omega arith
 bit-positive Quarter = omega arith
 bit-positive Half = omega arith
 bit-positive ThreeQuarters = omega arith
+
+-- the sum 0 has no turn in it
+pub none-allowed : (t : Turn) → allows 0 t ≡ false
+unfolding allows
+none-allowed Zero = refl
+none-allowed Quarter = refl
+none-allowed Half = refl
+none-allowed ThreeQuarters = refl
 
 -- an unknown turn is none
 pub unknown-none : (o : Option Turn) → Unknown ≡ turnAnswer o → o ≡ none

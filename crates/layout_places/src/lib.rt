@@ -1,53 +1,33 @@
-// Placements as a layout buffer holds them: turns as degrees, turned boxes, the inside test, what calls on a layout refuse and the
-// used length. Document 01, 'Sheet and panels', 'Start, layout text, sheet' and 'When a call says no'.
+// Placements as a layout buffer holds them: turns as degrees, allowed turns and the inside test. Document 01, 'Sheet and panels' and
+// 'Start, layout text, sheet'.
 ghost use mathlib.Core.Path.{_≡_};
-ghost use mathlib.Core.Bool.{true};
+ghost use mathlib.Core.Bool.{_&&_};
 ghost use mathlib.Core.List.{List};
-ghost use Prim.Native.Nat.{ℕ, _<_, _≤_};
+ghost use Prim.Native.Nat.{ℕ, _<_};
+ghost use lib.Dec.{ltb};
 ghost use lib.ListN.{length};
 ghost use Rattle.model.specs.Piece.{degrees, turnBit, allows};
-ghost use Rattle.model.specs.Layout.{turnedPiece, inside, placeOf, rightEnd, usedLength};
-ghost use Rattle.model.specs.Refusal.{cause, refusalOf};
+ghost use Rattle.model.specs.Layout.{allowed, inside, placeOf};
 ghost use Rattle.model.specs.Lent.{lentBy, jobOf};
 ghost use Rattle.model.specs.Buffer.{turnOfDegrees, turnOf, entryOf, layoutOf};
-ghost use Rattle.model.specs.Calls.{allowedDegrees, someTurnWrong, someOutside, layoutCauses, usedLengthCall};
+ghost use Rattle.model.specs.Calls.{allowedDegrees};
 ghost use Rattle.model.specs.declared.JobSize.{JobSize};
-ghost use Rattle.layout_places.specs.Answers.{turnAnswer, firstCause, lengthAnswer};
-ghost use Rattle.layout_places.specs.Boxes.{sidesOf, placeAt};
+ghost use Rattle.layout_places.specs.Answers.{turnAnswer};
+ghost use Rattle.layout_places.specs.Boxes.{placeAt};
 
 pub mod numbers;
 
 use model::Column;
 use model::JobSize;
 use model::Placement;
-use model::Refusal;
 use model::Row;
 use model::Turn;
-use numbers::side;
-use whole_numbers::larger;
+use piece_pixels::turned_sides;
 
 // The turn that degrees are, if there is one.
 pub enum TurnAnswer {
     Known(Turn),
     Unknown,
-}
-
-// What causes of refusal come to: the first that is there, or none.
-pub enum CauseAnswer {
-    Passed,
-    Refused(Refusal),
-}
-
-// The used length, or why it is refused.
-pub enum LengthAnswer {
-    Length(usize),
-    Refused(Refusal),
-}
-
-// The sides of a box.
-pub struct Sides {
-    pub columns: usize,
-    pub rows: usize,
 }
 
 // The turn of so many degrees, if there is one.
@@ -124,34 +104,6 @@ pub fn entry_of(place: Placement) -> [u16; 3]
     [degrees_of(turn), place.x.0, place.y.0]
 }
 
-// The sides of piece i's box in a turn.
-pub fn turned_sides(table: &[[u8; 3]], i: usize, turn: Turn) -> Sides
-    requires { ⌜ i < length (now table) ⌝ }
-    ensures sides { λ r. ⌜ ((size : JobSize) (pixels : List ℕ) → r ≡ sidesOf (turnedPiece (jobOf (lentBy size (now (table .entry)) pixels)) i turn)) ⌝ }
-    ensures small { λ r. ⌜ (r .columns ≤ 255) × (r .rows ≤ 255) ⌝ }
-{
-    let columns = side(table[i][0]);
-    let rows = side(table[i][1]);
-    match turn {
-        Turn::Zero => Sides {
-            columns: columns,
-            rows: rows,
-        },
-        Turn::Quarter => Sides {
-            columns: rows,
-            rows: columns,
-        },
-        Turn::Half => Sides {
-            columns: columns,
-            rows: rows,
-        },
-        Turn::ThreeQuarters => Sides {
-            columns: rows,
-            rows: columns,
-        },
-    }
-}
-
 // The box of piece i, turned, with its corner at column x and row y, lies in the sheet.
 pub fn inside_at(size: JobSize, table: &[[u8; 3]], i: usize, turn: Turn, x: Column, y: Row) -> bool
     requires { ⌜ i < length (now table) ⌝ }
@@ -185,107 +137,16 @@ pub fn allowed_degrees(table: &[[u8; 3]], i: usize, degrees: u16) -> bool
     allows(table[i][2], turn)
 }
 
-// Cause 9 of a layout: some piece's turn is not allowed to it.
-pub fn some_turn_wrong(size: JobSize, table: &[[u8; 3]], layout: &[[u16; 3]]) -> bool
-    requires { ⌜ (size .count ≤ length (now table)) × (length (now layout) ≡ size .count) ⌝ }
-    ensures { λ r. ⌜ ((pixels : List ℕ) → r ≡ someTurnWrong (jobOf (lentBy size (now (table .entry)) pixels)) (now (layout .entry))) ⌝ }
+// There is such a piece, and the turn is allowed to it. The table is asked only where it has the entry, so that a call may ask this before
+// the job is known to pass its check.
+pub fn known(size: JobSize, table: &[[u8; 3]], i: usize, turn: Turn) -> bool
+    ensures { λ r. ⌜ ((pixels : List ℕ) → r ≡ (ltb i (size .count) && allowed (jobOf (lentBy size (now (table .entry)) pixels)) i turn)) ⌝ }
 {
-    let mut i = 0;
-    while i < size.count {
-        if !allowed_degrees(table, i, layout[i][0]) {
-            return true;
-        }
-        i += 1;
+    if size.count <= i {
+        return false;
     }
-    false
-}
-
-// Cause 10 of a layout: some piece's placement is outside.
-pub fn some_outside(size: JobSize, table: &[[u8; 3]], layout: &[[u16; 3]]) -> bool
-    requires { ⌜ (size .count ≤ length (now table)) × (length (now layout) ≡ size .count) ⌝ }
-    ensures { λ r. ⌜ ((pixels : List ℕ) → r ≡ someOutside (jobOf (lentBy size (now (table .entry)) pixels)) (layoutOf (now (layout .entry)))) ⌝ }
-{
-    let mut i = 0;
-    while i < size.count {
-        if !inside(size, table, i, place_at(layout, i)) {
-            return true;
-        }
-        i += 1;
+    if table.len() <= i {
+        return false;
     }
-    false
-}
-
-// A refusal without places.
-pub fn refusal(number: u8) -> Refusal
-    ensures { λ r. ⌜ r ≡ refusalOf (cause number true) ⌝ }
-{
-    Refusal {
-        number: number,
-        first: 0,
-        second: 0,
-    }
-}
-
-// The causes of a call on a layout alone: 8, 7, 9, 10.
-pub fn layout_causes(
-    size: JobSize,
-    table: &[[u8; 3]],
-    pixels: &[u8],
-    layout: &[[u16; 3]],
-) -> CauseAnswer
-    ensures { λ r. ⌜ r ≡ firstCause (layoutCauses (lentBy size (now (table .entry)) (now (pixels .entry))) (now (layout .entry))) ⌝ }
-{
-    if !job_check::check_job(size, table, pixels) {
-        return CauseAnswer::Refused(refusal(8));
-    }
-    if layout.len() != size.count {
-        return CauseAnswer::Refused(refusal(7));
-    }
-    if some_turn_wrong(size, table, layout) {
-        return CauseAnswer::Refused(refusal(9));
-    }
-    if some_outside(size, table, layout) {
-        return CauseAnswer::Refused(refusal(10));
-    }
-    CauseAnswer::Passed
-}
-
-// The right end of piece i: corner x plus the turned box's columns.
-fn right_end(table: &[[u8; 3]], layout: &[[u16; 3]], i: usize) -> usize
-    requires { ⌜ (i < length (now table)) × (i < length (now layout)) ⌝ }
-    ensures { λ r. ⌜ ((size : JobSize) (pixels : List ℕ) → r ≡ rightEnd (jobOf (lentBy size (now (table .entry)) pixels)) (layoutOf (now (layout .entry))) i) ⌝ }
-{
-    let place = place_at(layout, i);
-    let turn = place.turn;
-    let sides = turned_sides(table, i, turn);
-    place.x.0 as usize + sides.columns
-}
-
-// The used length of a layout: the largest right end.
-fn longest_end(size: JobSize, table: &[[u8; 3]], layout: &[[u16; 3]]) -> usize
-    requires { ⌜ (size .count ≤ length (now table)) × (length (now layout) ≡ size .count) ⌝ }
-    ensures { λ r. ⌜ ((pixels : List ℕ) → r ≡ usedLength (jobOf (lentBy size (now (table .entry)) pixels)) (layoutOf (now (layout .entry)))) ⌝ }
-{
-    let mut longest = 0;
-    let mut i = 0;
-    while i < size.count {
-        longest = larger(longest, right_end(table, layout, i));
-        i += 1;
-    }
-    longest
-}
-
-// The used length of a layout, or its refusal.
-pub fn used_length(
-    size: JobSize,
-    table: &[[u8; 3]],
-    pixels: &[u8],
-    layout: &[[u16; 3]],
-) -> LengthAnswer
-    ensures { λ r. ⌜ r ≡ lengthAnswer (usedLengthCall (lentBy size (now (table .entry)) (now (pixels .entry))) (now (layout .entry))) ⌝ }
-{
-    match layout_causes(size, table, pixels, layout) {
-        CauseAnswer::Refused(refusal) => LengthAnswer::Refused(refusal),
-        CauseAnswer::Passed => LengthAnswer::Length(longest_end(size, table, layout)),
-    }
+    allows(table[i][2], turn)
 }

@@ -8,22 +8,22 @@ use native.Mathlib.Omega.{arith}
 use borrow.Author.Tests.{eq-eqb, ne-eqb}
 use lib.ListN.{length}
 use Rattle.model.specs.Layout.{Job, Layout}
-use Rattle.model.specs.Refusal.{Outcome, refused, given, cause, unless, refusalOf, wrongLength, notOurs}
+use Rattle.model.specs.Refusal.{Outcome, refused, given, unless, plainRefusal, wrongLength, notOurs}
 use Rattle.model.specs.Lent.{Lent, jobOf, lentWell}
 use Rattle.model.specs.LayoutText.{layoutLine, placementLine, placementsAt, readLayout}
 use Rattle.model.specs.Calls.{readLayoutCall}
 use Rattle.model.specs.declared.Refusal.{Refusal}
 use Rattle.text_laws.specs.Outcomes.{Unless}
 use Rattle.text_laws.proofs.Outcomes.{given-unless, given-before}
-use Rattle.layout_read_calls.specs.Answers.{layoutAnswer}
+use Rattle.model.specs.Answers.{doneAnswer}
 use Rattle.layout_read_calls.specs.Readings.{layoutFrom, positionAnswer}
-use Rattle.layout_read_calls.specs.declared.LayoutAnswer.{LayoutAnswer}
+use Rattle.model.specs.declared.DoneAnswer.{DoneAnswer}
 use Rattle.layout_read_calls.specs.declared.PositionAnswer.{PositionAnswer}
 use Rattle.layout_read_calls.proofs.Progress.{given-same}
 
 -- ── what the answers say of the outcomes ──
 
-pub layout-refused : (o : Outcome Layout) (r : Refusal) → LayoutAnswer.Refused r ≡ layoutAnswer o → o ≡ refused r
+pub layout-refused : (o : Outcome Layout) (r : Refusal) → DoneAnswer.Refused r ≡ doneAnswer o → o ≡ refused r
 layout-refused (refused s) r e = cc
 layout-refused (given v) r e = let z : _≡_ {A = ℕ} 0 1 = cc in absurd (omega arith)
 
@@ -32,7 +32,7 @@ pub record ReadGiven (o : Outcome Layout) : Type 0 where
   pub layout : Layout
   pub gives : o ≡ given layout
 
-pub layout-given : (o : Outcome Layout) → LayoutAnswer.Read ≡ layoutAnswer o → ReadGiven o
+pub layout-given : (o : Outcome Layout) → DoneAnswer.Done ≡ doneAnswer o → ReadGiven o
 layout-given (refused s) e = let z : _≡_ {A = ℕ} 0 1 = cc in absurd (omega arith)
 layout-given (given v) e = record { layout = v; gives = refl }
 
@@ -65,7 +65,7 @@ module _ (l : Lent) (text : List ℕ) (p room : ℕ) where
   from-refused r e = rw e
 
   pub from-unlike : (v : Layout) → placementsAt (jobOf l) text (l .size .count) 0 p 2 ≡ given v → (room ≡ l .size .count → ⊥)
-      → layoutFrom (jobOf l) text p room ≡ refused (refusalOf (cause wrongLength true))
+      → layoutFrom (jobOf l) text p room ≡ refused (plainRefusal wrongLength)
   unfolding jobOf unless
   from-unlike v e n = rw (e, ne-eqb room (l .size .count) n)
 
@@ -74,7 +74,7 @@ module _ (l : Lent) (text : List ℕ) (p room : ℕ) where
   from-given v e n = rw (e, eq-eqb room (l .size .count) n)
 
 module _ (l : Lent) (text : List ℕ) (room : ℕ) where
-  pub read-unsound : lentWell l ≡ false → readLayoutCall l text room ≡ refused (refusalOf (cause notOurs true))
+  pub read-unsound : lentWell l ≡ false → readLayoutCall l text room ≡ refused (plainRefusal notOurs)
   unfolding readLayoutCall unless
   read-unsound e = rw e
 

@@ -7,6 +7,7 @@ ghost use Prim.Native.Nat.{ℕ, _<_, _≤_, min};
 ghost use lib.Dec.{eqb};
 ghost use lib.ListN.{length, set};
 ghost use lib.Seq.{sets};
+ghost use Rattle.model.specs.Answers.{doneAnswer};
 ghost use Rattle.model.specs.Layout.{Layout};
 ghost use Rattle.model.specs.Refusal.{given, refusalOf};
 ghost use Rattle.model.specs.Lent.{lentBy, jobOf, rowBound, columnBound};
@@ -16,22 +17,17 @@ ghost use Rattle.model.specs.LayoutText.{layoutLine, placementLine, placementsA
 ghost use Rattle.model.specs.Calls.{readLayoutCall, layoutAfter};
 ghost use Rattle.layout_places.specs.Answers.{turnAnswer};
 ghost use Rattle.layout_places.specs.Fitting.{Fitting};
-ghost use Rattle.layout_read_calls.specs.Answers.{layoutAnswer};
 ghost use Rattle.layout_read_calls.specs.Readings.{numbersOf, turnOnLine, placeOnLine, layoutFrom, positionAnswer, positionIn, placeAnswer, lineAnswer, lineNext};
 use layout_places::TurnAnswer;
 use model::Column;
+use model::DoneAnswer;
 use model::JobSize;
 use model::Placement;
 use model::Refusal;
 use model::Row;
+use model::refused;
 use text_numbers::LineForm;
 use text_numbers::line_at;
-
-// The layout is read, or why it is refused.
-pub enum LayoutAnswer {
-    Read,
-    Refused(Refusal),
-}
 
 // The numbers of a piece's line.
 struct PlacementFields {
@@ -193,9 +189,9 @@ fn read_placements(
     text: &[u8],
     p: usize,
     layout: &mut [[u16; 3]],
-) -> LayoutAnswer
+) -> DoneAnswer
     requires { ⌜ Fitting size (now table) × (p ≤ length (now text)) ⌝ }
-    ensures answer { λ r. ⌜ ((pixels : List ℕ) → r ≡ layoutAnswer (placementsAt (jobOf (lentBy size (now (table .entry)) pixels)) (now (text .entry)) (size .count) 0 p 2)) ⌝ }
+    ensures answer { λ r. ⌜ ((pixels : List ℕ) → r ≡ doneAnswer (placementsAt (jobOf (lentBy size (now (table .entry)) pixels)) (now (text .entry)) (size .count) 0 p 2)) ⌝ }
     ensures memory { λ r. ⌜ ((pixels : List ℕ) (v : Layout) → placementsAt (jobOf (lentBy size (now (table .entry)) pixels)) (now (text .entry)) (size .count) 0 p 2 ≡ given v → now (layout .exit) ≡ sets (now (layout .entry)) 0 (entriesOf v)) ⌝ }
 {
     let mut at = p;
@@ -204,7 +200,7 @@ fn read_placements(
     while i < size.count {
         match placement_line(size, table, text, i, at, line) {
             LineAnswer::Refused(refusal) => {
-                return LayoutAnswer::Refused(refusal);
+                return DoneAnswer::Refused(refusal);
             }
             LineAnswer::Read(place, next) => {
                 set_entry(layout, i, place);
@@ -215,9 +211,9 @@ fn read_placements(
         i += 1;
     }
     if at != text.len() {
-        return LayoutAnswer::Refused(refused_in(line, 1));
+        return DoneAnswer::Refused(refused_in(line, 1));
     }
-    LayoutAnswer::Read
+    DoneAnswer::Done
 }
 
 // The pieces' lines into a layout buffer of the job's length. The first reading has no buffer, so that a refusal writes nothing.
@@ -227,21 +223,21 @@ fn fill_layout(
     text: &[u8],
     p: usize,
     layout: &mut [[u16; 3]],
-) -> LayoutAnswer
+) -> DoneAnswer
     requires { ⌜ Fitting size (now table) × (p ≤ length (now text)) ⌝ }
-    ensures { λ r. ⌜ ((pixels : List ℕ) → (r ≡ layoutAnswer (layoutFrom (jobOf (lentBy size (now (table .entry)) pixels)) (now (text .entry)) p (length (now (layout .entry))))) × (now (layout .exit) ≡ layoutAfter (now (layout .entry)) (layoutFrom (jobOf (lentBy size (now (table .entry)) pixels)) (now (text .entry)) p (length (now (layout .entry)))))) ⌝ }
+    ensures { λ r. ⌜ ((pixels : List ℕ) → (r ≡ doneAnswer (layoutFrom (jobOf (lentBy size (now (table .entry)) pixels)) (now (text .entry)) p (length (now (layout .entry))))) × (now (layout .exit) ≡ layoutAfter (now (layout .entry)) (layoutFrom (jobOf (lentBy size (now (table .entry)) pixels)) (now (text .entry)) p (length (now (layout .entry)))))) ⌝ }
 {
-    if let LayoutAnswer::Refused(refusal) = read_placements(
+    if let DoneAnswer::Refused(refusal) = read_placements(
         size,
         table,
         text,
         p,
         &mut layout[..0],
     ) {
-        return LayoutAnswer::Refused(refusal);
+        return DoneAnswer::Refused(refusal);
     }
     if layout.len() != size.count {
-        return LayoutAnswer::Refused(layout_places::refusal(7));
+        return refused(7);
     }
     read_placements(size, table, text, p, layout)
 }
@@ -253,15 +249,15 @@ pub fn read_layout(
     pixels: &[u8],
     text: &[u8],
     layout: &mut [[u16; 3]],
-) -> LayoutAnswer
-    ensures answer { λ r. ⌜ r ≡ layoutAnswer (readLayoutCall (lentBy size (now (table .entry)) (now (pixels .entry))) (now (text .entry)) (length (now (layout .entry)))) ⌝ }
+) -> DoneAnswer
+    ensures answer { λ r. ⌜ r ≡ doneAnswer (readLayoutCall (lentBy size (now (table .entry)) (now (pixels .entry))) (now (text .entry)) (length (now (layout .entry)))) ⌝ }
     ensures memory { λ r. ⌜ now (layout .exit) ≡ layoutAfter (now (layout .entry)) (readLayoutCall (lentBy size (now (table .entry)) (now (pixels .entry))) (now (text .entry)) (length (now (layout .entry)))) ⌝ }
 {
     if !job_check::check_job(size, table, pixels) {
-        return LayoutAnswer::Refused(layout_places::refusal(8));
+        return refused(8);
     }
     match layout_line(size, text) {
-        PositionAnswer::Refused(refusal) => LayoutAnswer::Refused(refusal),
+        PositionAnswer::Refused(refusal) => DoneAnswer::Refused(refusal),
         PositionAnswer::After(p) => fill_layout(size, table, text, p, layout),
     }
 }

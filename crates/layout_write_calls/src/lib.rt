@@ -5,26 +5,22 @@ ghost use mathlib.Core.List.{List, [], _∷_, _++_};
 ghost use Prim.Native.Nat.{ℕ, _+_, _*_, _<_, _≤_};
 ghost use lib.ListN.{length};
 ghost use lib.Seq.{sets};
+ghost use Rattle.model.specs.Answers.{countAnswer};
 ghost use Rattle.model.specs.Lent.{lentBy, jobOf, rowBound, columnBound, pieceBound};
 ghost use Rattle.model.specs.Buffer.{layoutOf};
 ghost use Rattle.model.specs.Text.{digits, lineText, threeFields};
 ghost use Rattle.model.specs.Layout.{placeOf};
 ghost use Rattle.model.specs.LayoutText.{layoutWord, placementText, placementsText, layoutText};
 ghost use Rattle.model.specs.Calls.{writeLayoutCall, textAfter};
-ghost use Rattle.layout_write_calls.specs.Answers.{textAnswer};
 ghost use Rattle.layout_write_calls.specs.Written.{Written};
-use layout_places::CauseAnswer;
+use causes::layout_causes;
+use model::DoneAnswer;
 use model::JobSize;
-use model::Refusal;
+use model::NumberAnswer;
+use model::plain_refusal;
 use text_fields::put_byte;
 use text_fields::put_number;
 use text_fields::put_word;
-
-// The length of the text that is written, or why it is refused.
-pub enum TextAnswer {
-    Written(usize),
-    Refused(Refusal),
-}
 
 // A number with the byte that ends it, and the position after it.
 fn put_field(text: &mut [u8], at: usize, k: u32, end: u8) -> usize
@@ -98,22 +94,17 @@ pub fn write_layout(
     pixels: &[u8],
     layout: &[[u16; 3]],
     text: &mut [u8],
-) -> TextAnswer
-    ensures answer { λ r. ⌜ r ≡ textAnswer (writeLayoutCall (lentBy size (now (table .entry)) (now (pixels .entry))) (now (layout .entry)) (length (now (text .entry)))) ⌝ }
+) -> NumberAnswer
+    ensures answer { λ r. ⌜ r ≡ countAnswer (writeLayoutCall (lentBy size (now (table .entry)) (now (pixels .entry))) (now (layout .entry)) (length (now (text .entry)))) ⌝ }
     ensures memory { λ r. ⌜ now (text .exit) ≡ textAfter (now (text .entry)) (writeLayoutCall (lentBy size (now (table .entry)) (now (pixels .entry))) (now (layout .entry)) (length (now (text .entry)))) ⌝ }
 {
-    if let CauseAnswer::Refused(refusal) = layout_places::layout_causes(
-        size,
-        table,
-        pixels,
-        layout,
-    ) {
-        return TextAnswer::Refused(refusal);
+    if let DoneAnswer::Refused(refusal) = layout_causes(size, table, pixels, layout) {
+        return NumberAnswer::Refused(refusal);
     }
     let needed = put_layout(size, layout, &mut text[..0]);
     if text.len() < needed {
-        return TextAnswer::Refused(layout_places::refusal(7));
+        return NumberAnswer::Refused(plain_refusal(7));
     }
     put_layout(size, layout, text);
-    TextAnswer::Written(needed)
+    NumberAnswer::Number(needed as u64)
 }

@@ -20,6 +20,7 @@ pub mod Descent
 pub mod Guided
 pub mod Start
 pub mod Refusal
+pub mod Answers
 pub mod Lent
 pub mod Buffer
 pub mod Text

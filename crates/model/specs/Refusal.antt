@@ -21,6 +21,10 @@ pub record Cause : Type 0 where
 abbrev pub cause : ℕ → Bool → Cause
 cause number there = record { there = there; number = number; first = 0; second = 0 }
 
+-- the refusal with a number and no places
+abbrev pub plainRefusal : ℕ → Refusal
+plainRefusal number = record { number = number; first = 0; second = 0 }
+
 -- the refusal that a cause leads to
 abbrev pub refusalOf : Cause → Refusal
 refusalOf c = record { number = c .number; first = c .first; second = c .second }

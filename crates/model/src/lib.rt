@@ -33,6 +33,8 @@ pub const BUDGET_BOUND: u32 = 1000000000;
 
 // The most rounds of a run.
 pub const ROUND_BOUND: u32 = 1000;
+ghost use mathlib.Core.Path.{_≡_};
+ghost use Rattle.model.specs.Refusal.{plainRefusal};
 
 // A column number x, along the length of the sheet.
 pub struct Column(pub u16);
@@ -91,6 +93,36 @@ pub struct Refusal {
     pub number: u8,
     pub first: u32,
     pub second: u32,
+}
+
+// A call that gives nothing but what it wrote or checked: it is done, or why it is refused.
+pub enum DoneAnswer {
+    Done,
+    Refused(Refusal),
+}
+
+// A call that gives a number, or why it is refused.
+pub enum NumberAnswer {
+    Number(u64),
+    Refused(Refusal),
+}
+
+// The refusal with this number and no places.
+pub fn plain_refusal(number: u8) -> Refusal
+    ensures { λ r. ⌜ r ≡ plainRefusal number ⌝ }
+{
+    Refusal {
+        number: number,
+        first: 0,
+        second: 0,
+    }
+}
+
+// A call that is refused by this number and no places.
+pub fn refused(number: u8) -> DoneAnswer
+    ensures { λ r. ⌜ r ≡ DoneAnswer.Refused (plainRefusal number) ⌝ }
+{
+    DoneAnswer::Refused(plain_refusal(number))
 }
 
 // How a descent ends: sum zero, all trials quiet, or budget used up.

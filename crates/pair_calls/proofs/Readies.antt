@@ -2,7 +2,7 @@
 -- the sheet, and as two pieces of one job they have no more pixels than its boxes. Assumes nothing.
 use mathlib.Core.Bool.{Bool, true, false, not, _||_}
 use mathlib.Core.List.{List}
-use mathlib.Core.Path.{_≡_, sym}
+use mathlib.Core.Path.{_≡_, refl, sym}
 use mathlib.Core.Logic.{⊎-elim}
 use Prim.Native.Nat.{ℕ, _+_, _<_}
 use native.Mathlib.Nat.{eq-or-lt-of-le}
@@ -20,6 +20,11 @@ use Rattle.job_laws.proofs.Checked.{facts, Facts, entry-at}
 use Rattle.text_laws.specs.Outcomes.{NoCause}
 use Rattle.job_laws.proofs.Starts.{start-end}
 use Rattle.pair_measure.specs.Ready.{MeasureReady, Together}
+
+-- one of four reasons, in another grouping
+pub or-four : (a b c d : Bool) → (a || ((b || c) || d)) ≡ (((a || b) || c) || d)
+or-four true b c d = refl
+or-four false b c d = refl
 
 -- a piece of a layout that passes
 pub piece-ready : (l : Lent) (es : List (List ℕ)) → lentWell l ≡ true → someOutside (jobOf l) (layoutOf es) ≡ false

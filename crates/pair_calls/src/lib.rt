@@ -1,28 +1,24 @@
 // Shared pixel, depth and penalty of two pieces of a layout. Document 01, 'No-fit rows and penalty' and 'When a call says no'.
-use layout_places::CauseAnswer;
-use layout_places::refusal;
+use causes::Wrong;
+use causes::call_causes;
 use model::Direction;
+use model::DoneAnswer;
 use model::JobSize;
+use model::NumberAnswer;
 use model::Refusal;
 use pair_measure::placed_depth;
 use pair_measure::placed_penalty;
 ghost use mathlib.Core.Path.{_≡_};
 ghost use mathlib.Core.Bool.{not, _||_};
 ghost use lib.Dec.{ltb, eqb};
+ghost use Rattle.model.specs.Answers.{firstCause, numberAnswer};
 ghost use Rattle.model.specs.Lent.{lentBy};
 ghost use Rattle.model.specs.Calls.{pairCauses, shareCall, depthCall, penaltyCall};
-ghost use Rattle.layout_places.specs.Answers.{firstCause};
-ghost use Rattle.pair_calls.specs.Answers.{shareAnswer, amountAnswer};
+ghost use Rattle.pair_calls.specs.Answers.{shareAnswer};
 
 // Whether two pieces share a pixel, or why the question is refused.
 pub enum ShareAnswer {
     Shares(bool),
-    Refused(Refusal),
-}
-
-// A depth or a penalty, or why it is refused.
-pub enum AmountAnswer {
-    Amount(u32),
     Refused(Refusal),
 }
 
@@ -40,32 +36,22 @@ fn wrong_pair(count: usize, i: usize, k: usize) -> bool
 }
 
 // The causes of a call on a pair of a layout: 8, 7, 9, 10.
-pub fn pair_causes(
+fn pair_causes(
     size: JobSize,
     table: &[[u8; 3]],
     pixels: &[u8],
     layout: &[[u16; 3]],
     i: usize,
     k: usize,
-) -> CauseAnswer
+) -> DoneAnswer
     ensures { λ r. ⌜ r ≡ firstCause (pairCauses (lentBy size (now (table .entry)) (now (pixels .entry))) (now (layout .entry)) i k) ⌝ }
 {
-    if !job_check::check_job(size, table, pixels) {
-        return CauseAnswer::Refused(refusal(8));
-    }
-    if layout.len() != size.count {
-        return CauseAnswer::Refused(refusal(7));
-    }
-    if layout_places::some_turn_wrong(size, table, layout) {
-        return CauseAnswer::Refused(refusal(9));
-    }
-    if wrong_pair(size.count, i, k) {
-        return CauseAnswer::Refused(refusal(9));
-    }
-    if layout_places::some_outside(size, table, layout) {
-        return CauseAnswer::Refused(refusal(10));
-    }
-    CauseAnswer::Passed
+    let wrong = Wrong {
+        length: false,
+        number: false,
+        piece: wrong_pair(size.count, i, k),
+    };
+    call_causes(size, table, pixels, layout, wrong)
 }
 
 // Whether pieces i and k share a pixel in the layout.
@@ -80,8 +66,8 @@ pub fn shares_pixel(
     ensures { λ r. ⌜ r ≡ shareAnswer (shareCall (lentBy size (now (table .entry)) (now (pixels .entry))) (now (layout .entry)) i k) ⌝ }
 {
     match pair_causes(size, table, pixels, layout, i, k) {
-        CauseAnswer::Refused(refusal) => ShareAnswer::Refused(refusal),
-        CauseAnswer::Passed => ShareAnswer::Shares(
+        DoneAnswer::Refused(refusal) => ShareAnswer::Refused(refusal),
+        DoneAnswer::Done => ShareAnswer::Shares(
             placed_depth(
                 table,
                 pixels,
@@ -106,21 +92,24 @@ pub fn depth(
     i: usize,
     k: usize,
     direction: Direction,
-) -> AmountAnswer
-    ensures { λ r. ⌜ r ≡ amountAnswer (depthCall direction (lentBy size (now (table .entry)) (now (pixels .entry))) (now (layout .entry)) i k) ⌝ }
+) -> NumberAnswer
+    ensures { λ r. ⌜ r ≡ numberAnswer (depthCall direction (lentBy size (now (table .entry)) (now (pixels .entry))) (now (layout .entry)) i k) ⌝ }
 {
     match pair_causes(size, table, pixels, layout, i, k) {
-        CauseAnswer::Refused(refusal) => AmountAnswer::Refused(refusal),
-        CauseAnswer::Passed => AmountAnswer::Amount(placed_depth(
-            table,
-            pixels,
-            i,
-            layout_places::place_at(layout, i),
-            k,
-            layout_places::place_at(layout, k),
-            direction,
-            256,
-        )),
+        DoneAnswer::Refused(refusal) => NumberAnswer::Refused(refusal),
+        DoneAnswer::Done => {
+            let amount = placed_depth(
+                table,
+                pixels,
+                i,
+                layout_places::place_at(layout, i),
+                k,
+                layout_places::place_at(layout, k),
+                direction,
+                256,
+            );
+            NumberAnswer::Number(amount as u64)
+        }
     }
 }
 
@@ -132,18 +121,21 @@ pub fn penalty(
     layout: &[[u16; 3]],
     i: usize,
     k: usize,
-) -> AmountAnswer
-    ensures { λ r. ⌜ r ≡ amountAnswer (penaltyCall (lentBy size (now (table .entry)) (now (pixels .entry))) (now (layout .entry)) i k) ⌝ }
+) -> NumberAnswer
+    ensures { λ r. ⌜ r ≡ numberAnswer (penaltyCall (lentBy size (now (table .entry)) (now (pixels .entry))) (now (layout .entry)) i k) ⌝ }
 {
     match pair_causes(size, table, pixels, layout, i, k) {
-        CauseAnswer::Refused(refusal) => AmountAnswer::Refused(refusal),
-        CauseAnswer::Passed => AmountAnswer::Amount(placed_penalty(
-            table,
-            pixels,
-            i,
-            layout_places::place_at(layout, i),
-            k,
-            layout_places::place_at(layout, k),
-        )),
+        DoneAnswer::Refused(refusal) => NumberAnswer::Refused(refusal),
+        DoneAnswer::Done => {
+            let amount = placed_penalty(
+                table,
+                pixels,
+                i,
+                layout_places::place_at(layout, i),
+                k,
+                layout_places::place_at(layout, k),
+            );
+            NumberAnswer::Number(amount as u64)
+        }
     }
 }

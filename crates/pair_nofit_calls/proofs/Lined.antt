@@ -12,15 +12,16 @@ use borrow.Author.Tests.{lt-ltb, le-ltb}
 use Rattle.model.specs.Bounded.{oneIf}
 use Rattle.model.specs.Strip.{Run, runs}
 use Rattle.model.specs.Overlap.{offsetBound, up, down}
-use Rattle.model.specs.Refusal.{refused, given, cause, refusalOf, unless, wrongLength}
+use Rattle.model.specs.Refusal.{refused, given, unless, wrongLength, plainRefusal}
 use Rattle.model.specs.declared.Refusal.{Refusal}
 use Rattle.list_laws.proofs.Lists.{nothing-before}
 use Rattle.strip_laws.proofs.Runs.{runs-agree}
 use Rattle.pair_overlap.specs.declared.Corner.{Corner}
 use Rattle.pair_nofit.specs.Marks.{flagsFrom, sharesAt, marksOf}
 use Rattle.pair_nofit.proofs.Marked.{flags-length, flags-at}
-use Rattle.pair_nofit_calls.specs.Lines.{offsetEntry, marked, Put, offsetCount, lowCorner, highCorner, lineRuns, lineOutcome, runsAnswer, lineAfter}
-use Rattle.pair_nofit_calls.specs.declared.RunsAnswer.{RunsAnswer}
+use Rattle.model.specs.Answers.{countAnswer}
+use Rattle.pair_nofit_calls.specs.Lines.{offsetEntry, marked, Put, offsetCount, lowCorner, highCorner, lineRuns, lineOutcome, lineAfter}
+use Rattle.model.specs.declared.NumberAnswer.{NumberAnswer}
 
 -- a flag is 1 exactly where the number passes
 flag-one : (b : Bool) → eqb (oneIf b) 1 ≡ b
@@ -52,22 +53,22 @@ module _ (es fs : List (List ℕ)) (o : ℤ) (rs : List Run) (r : rs ≡ lineRun
   counted-same = nothing-before last before (none-stored rs last needed p)
 
   -- no room: refused
-  pub line-short : length (last ++ before) < needed → (w : Refusal) → w ≡ refusalOf (cause wrongLength true)
-      → (RunsAnswer.Refused w ≡ runsAnswer (lineOutcome es fs o (length before))) × (last ++ before ≡ lineAfter before (lineOutcome es fs o (length before)))
+  pub line-short : length (last ++ before) < needed → (w : Refusal) → w ≡ plainRefusal wrongLength
+      → (NumberAnswer.Refused w ≡ countAnswer (lineOutcome es fs o (length before))) × (last ++ before ≡ lineAfter before (lineOutcome es fs o (length before)))
   unfolding unless
   line-short l w e =
       let t : ltb (length before) (length (lineRuns es fs o)) ≡ true = lt-ltb (length before) (length (lineRuns es fs o)) (omega (arith, p .end, ap length r, ap length counted-same)) in
-      let g : lineOutcome es fs o (length before) ≡ refused (refusalOf (cause wrongLength true)) = rw (t, unless) in
-      (ap RunsAnswer.Refused e ∙ ap runsAnswer (sym g), counted-same ∙ ap (lineAfter before) (sym g))
+      let g : lineOutcome es fs o (length before) ≡ refused (plainRefusal wrongLength) = rw (t, unless) in
+      (ap NumberAnswer.Refused e ∙ ap countAnswer (sym g), counted-same ∙ ap (lineAfter before) (sym g))
 
   -- room: given
   pub line-room : needed ≤ length (last ++ before) → (after : List (List ℤ)) (n : ℕ) → Put rs (last ++ before) 0 after n
-      → (RunsAnswer.Runs n ≡ runsAnswer (lineOutcome es fs o (length before))) × (after ≡ lineAfter before (lineOutcome es fs o (length before)))
+      → (NumberAnswer.Number n ≡ countAnswer (lineOutcome es fs o (length before))) × (after ≡ lineAfter before (lineOutcome es fs o (length before)))
   unfolding unless
   line-room l after n q =
       let t : ltb (length before) (length (lineRuns es fs o)) ≡ false = le-ltb (length before) (length (lineRuns es fs o)) (omega (arith, p .end, ap length r, ap length counted-same)) in
       let g : lineOutcome es fs o (length before) ≡ given (lineRuns es fs o) = rw (t, unless) in
       let m : n ≡ length (lineRuns es fs o) = omega (arith, q .end, ap length r) in (
-        ap RunsAnswer.Runs m ∙ ap runsAnswer (sym g),
+        ap NumberAnswer.Number m ∙ ap countAnswer (sym g),
         q .stored ∙ ap₂ (λ (b : List (List ℤ)) (z : List Run). sets b 0 (map offsetEntry z)) counted-same r ∙ ap (lineAfter before) (sym g),
       )

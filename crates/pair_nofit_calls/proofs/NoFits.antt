@@ -27,17 +27,17 @@ use Rattle.job_laws.proofs.Checked.{facts}
 use Rattle.text_laws.specs.Outcomes.{NoCause}
 use Rattle.strip_laws.proofs.Runs.{runs-agree}
 use Rattle.strip_laws.proofs.Strips.{strips-maximal}
-use Rattle.layout_places.proofs.Causes.{none-then, refused-then}
-use Rattle.layout_places.specs.Answers.{firstCause}
-use Rattle.layout_places.specs.declared.CauseAnswer.{CauseAnswer}
+use Rattle.text_laws.proofs.Causes.{none-then, refused-then}
+use Rattle.model.specs.declared.DoneAnswer.{DoneAnswer}
 use Rattle.pair_overlap.specs.Meet.{stripAt, shifted, Ordered}
 use Rattle.pair_overlap.specs.Seen.{entries}
 use Rattle.pair_overlap.proofs.Walk.{Meeting, meet-facts, facts-meet, meet-share, StripsMeet, share-meet}
 use Rattle.pair_overlap.proofs.Shapes.{at-member, entries-ordered}
 use Rattle.pair_nofit.specs.Marks.{sharesAt}
 use Rattle.pair_nofit.proofs.Marked.{firstCorner, secondCorner, marks-no-fit}
-use Rattle.pair_nofit_calls.specs.Lines.{offsetEntry, offsetCount, lowCorner, highCorner, lineRuns, lineOutcome, runsAnswer, lineAfter, stretchCauses}
-use Rattle.pair_nofit_calls.specs.declared.RunsAnswer.{RunsAnswer}
+use Rattle.model.specs.Answers.{countAnswer, firstCause}
+use Rattle.pair_nofit_calls.specs.Lines.{offsetEntry, offsetCount, lowCorner, highCorner, lineRuns, lineOutcome, lineAfter, stretchCauses}
+use Rattle.model.specs.declared.NumberAnswer.{NumberAnswer}
 use Rattle.pair_nofit_calls.proofs.Owning.{known-below}
 
 -- ── offsets cut off at 255 ──
@@ -97,7 +97,7 @@ map-runs (r ∷ rs) = ap (λ (z : List (List ℤ)). offsetEntry r ∷ z) (map-ru
 
 -- runs of offsets are given and put as the runs of biased offsets are
 outcome-by : (rs : List Run) (before : List (List ℤ)) (b : Bool) → ltb (length before) (length rs) ≡ b
-    → (runsAnswer (unless (cause wrongLength b ∷ []) rs) ≡ runsAnswer (unless (cause wrongLength b ∷ []) (map unbiased rs)))
+    → (countAnswer (unless (cause wrongLength b ∷ []) rs) ≡ countAnswer (unless (cause wrongLength b ∷ []) (map unbiased rs)))
     × (lineAfter before (unless (cause wrongLength b ∷ []) rs) ≡ runsAfter before (unless (cause wrongLength b ∷ []) (map unbiased rs)))
 unfolding unless
 outcome-by rs before true e = (refl, refl)
@@ -105,14 +105,14 @@ outcome-by rs before false e =
     let n : length (map offsetEntry rs) ≡ length rs = length-map rs offsetEntry in
     let l : length rs ≤ length before = ltb-false _ _ e in
     let f : 0 + length (map offsetEntry rs) ≡ length (map offsetEntry rs) = omega arith in (
-      ap RunsAnswer.Runs (sym (length-map rs unbiased)),
+      ap NumberAnswer.Number (sym (length-map rs unbiased)),
       sets-eq (map offsetEntry rs) before 0 (omega arith) ∙ ap (λ (z : ℕ). map offsetEntry rs ++ drop z before) f
           ∙ ap (λ (z : List (List ℤ)). filled z before) (sym (map-runs rs)),
     )
 
 -- the line of the stretches and the call's
 pub record Called (es fs : List (List ℕ)) (o : ℤ) (before : List (List ℤ)) (call : Outcome (List OffsetRun)) : Type 0 where
-  pub answer : runsAnswer (lineOutcome es fs o (length before)) ≡ runsAnswer call
+  pub answer : countAnswer (lineOutcome es fs o (length before)) ≡ countAnswer call
   pub memory : lineAfter before (lineOutcome es fs o (length before)) ≡ runsAfter before call
 
 -- the sides of a job's piece are at most 255
@@ -170,10 +170,10 @@ module _ (d : Direction) (l : Lent) (p q : LentStretch) (none : NoCause (stretch
       ∙ ap (λ (z : List Run). unless (atLeast (length (map unbiased z)) (length before) ∷ []) (map unbiased z)) (sym r)
       ∙ ap (λ (z : ℕ). unless (atLeast z (length before) ∷ []) n) (length-map rs unbiased) in
       let both = outcome-by rs before (ltb (length before) (length rs)) refl in
-      record { answer = both .0 ∙ ap runsAnswer (sym call); memory = both .1 ∙ ap (runsAfter before) (sym call) }
+      record { answer = both .0 ∙ ap countAnswer (sym call); memory = both .1 ∙ ap (runsAfter before) (sym call) }
 
 -- a refusal before the room is asked for refuses the call
-pub refused-called : (d : Direction) (l : Lent) (p q : LentStretch) (o : ℤ) (room : ℕ) (r : Refusal) → CauseAnswer.Refused r ≡ firstCause (stretchCauses d l p q)
+pub refused-called : (d : Direction) (l : Lent) (p q : LentStretch) (o : ℤ) (room : ℕ) (r : Refusal) → DoneAnswer.Refused r ≡ firstCause (stretchCauses d l p q)
     → noFitCall d l p q o room ≡ refused r
 unfolding noFitCall stretchCauses
 refused-called d l p q o room r e =

@@ -10,14 +10,13 @@ use lib.Seq.{sets}
 use Rattle.model.specs.Strip.{Run, runs, closing}
 use Rattle.model.specs.Overlap.{OffsetRun, unbiased, offsetBound, up, down}
 use Rattle.model.specs.Buffer.{runEntry}
-use Rattle.model.specs.Refusal.{Outcome, refused, given, Cause, cause, unless, noSuchPiece, notOurs}
+use Rattle.model.specs.Refusal.{Outcome, Cause, cause, unless, noSuchPiece, notOurs}
 use Rattle.model.specs.Lent.{Lent, jobOf, sideBound}
 use Rattle.model.specs.Calls.{LentStretch, known, stretchWell, jobCause, atLeast, leaving}
 use Rattle.model.specs.declared.Direction.{Direction}
 use Rattle.model.specs.declared.Turn.{Turn}
 use Rattle.pair_overlap.specs.declared.Corner.{Corner}
 use Rattle.pair_nofit.specs.Marks.{sharesAt}
-use Rattle.pair_nofit_calls.specs.declared.RunsAnswer.{RunsAnswer}
 
 -- a run of biased offsets as an entry of a run buffer
 abbrev pub offsetEntry : Run → List ℤ
@@ -50,11 +49,6 @@ lineRuns es fs o = runs (sharesAt es (lowCorner o) fs (highCorner o)) offsetCoun
 -- they are given where there is room for them
 abbrev pub lineOutcome : List (List ℕ) → List (List ℕ) → ℤ → ℕ → Outcome (List Run)
 lineOutcome es fs o room = unless (atLeast (length (lineRuns es fs o)) room ∷ []) (lineRuns es fs o)
-
--- how many runs there are
-abbrev pub runsAnswer : {A : Type 0} → Outcome (List A) → RunsAnswer
-runsAnswer (refused r) = RunsAnswer.Refused r
-runsAnswer (given rs) = RunsAnswer.Runs (length rs)
 
 -- what the run buffer then holds
 abbrev pub lineAfter : List (List ℤ) → Outcome (List Run) → List (List ℤ)

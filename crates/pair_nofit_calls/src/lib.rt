@@ -1,14 +1,16 @@
 // No-fit rows and columns of two pieces, from their lent stretches. Document 01, 'No-fit rows and penalty'.
-use layout_places::CauseAnswer;
-use layout_places::refusal;
+use layout_places::known;
 use model::ColumnOffset;
 use model::Direction;
+use model::DoneAnswer;
 use model::JobSize;
+use model::NumberAnswer;
 use model::OFFSET_BOUND;
-use model::Refusal;
 use model::RowOffset;
 use model::SIDE_BOUND;
 use model::Turn;
+use model::plain_refusal;
+use model::refused;
 use pair_overlap::Corner;
 use strip_scan::compare::Compared;
 ghost use mathlib.Core.Path.{_≡_};
@@ -16,15 +18,15 @@ ghost use mathlib.Core.List.{List, []};
 ghost use Prim.Native.Nat.{ℕ, min, _<_, _≤_};
 ghost use lib.IntN.{subℕ};
 ghost use lib.ListN.{length};
+ghost use Rattle.model.specs.Answers.{countAnswer, firstCause};
 ghost use Rattle.model.specs.Strip.{runs, closing};
 ghost use Rattle.model.specs.Overlap.{up, down, offsetBound};
 ghost use Rattle.model.specs.Lent.{lentBy, jobOf, pixelStart, pieceBound, sideBound};
-ghost use Rattle.model.specs.Calls.{known, stretchWell, noFitCall, runsAfter};
+ghost use Rattle.model.specs.Calls.{stretchWell, noFitCall, runsAfter};
 ghost use Rattle.model.specs.declared.JobSize.{JobSize};
 ghost use Rattle.job_laws.specs.Entries.{EntryAt};
 ghost use Rattle.pair_overlap.specs.Meet.{Ordered};
-ghost use Rattle.layout_places.specs.Answers.{firstCause};
-ghost use Rattle.pair_nofit_calls.specs.Lines.{marked, Put, lineOutcome, lineAfter, runsAnswer, lentStretch, stretchCauses, offsetCount};
+ghost use Rattle.pair_nofit_calls.specs.Lines.{marked, Put, lineOutcome, lineAfter, lentStretch, stretchCauses, offsetCount};
 
 // How many offsets a no-fit line has.
 const OFFSET_COUNT: usize = 2 * (OFFSET_BOUND as usize) + 1;
@@ -41,10 +43,10 @@ const FARTHEST_UP: i32 = SIDE_BOUND as i32;
 // And downwards.
 const FARTHEST_DOWN: i32 = 0 - FARTHEST_UP;
 
-// How many runs a no-fit line has, or why it is refused.
-pub enum RunsAnswer {
-    Runs(usize),
-    Refused(Refusal),
+// A piece in a turn.
+pub struct PieceInTurn {
+    pub piece: usize,
+    pub turn: Turn,
 }
 
 // A biased offset as a signed one.
@@ -118,9 +120,9 @@ fn put_runs(marks: &[u16], out: &mut [[i32; 2]]) -> usize
 }
 
 // Puts the no-fit line of two stretches at an offset into the buffer, if there is room for it, and tells how many runs it has.
-fn put_line(a: &[[u8; 3]], b: &[[u8; 3]], offset: i32, out: &mut [[i32; 2]]) -> RunsAnswer
+fn put_line(a: &[[u8; 3]], b: &[[u8; 3]], offset: i32, out: &mut [[i32; 2]]) -> NumberAnswer
     requires { ⌜ Ordered (now a) ⌝ ∗ ⌜ Ordered (now b) ⌝ }
-    ensures answer { λ r. ⌜ r ≡ runsAnswer (lineOutcome (now (a .entry)) (now (b .entry)) offset (length (now (out .entry)))) ⌝ }
+    ensures answer { λ r. ⌜ r ≡ countAnswer (lineOutcome (now (a .entry)) (now (b .entry)) offset (length (now (out .entry)))) ⌝ }
     ensures memory { λ r. ⌜ now (out .exit) ≡ lineAfter (now (out .entry)) (lineOutcome (now (a .entry)) (now (b .entry)) offset (length (now (out .entry)))) ⌝ }
 {
     let u = Corner {
@@ -135,20 +137,9 @@ fn put_line(a: &[[u8; 3]], b: &[[u8; 3]], offset: i32, out: &mut [[i32; 2]]) -> 
     pair_nofit::mark_shifts(a, u, b, v, &mut marks);
     let needed = put_runs(&marks, &mut out[..0]);
     if out.len() < needed {
-        return RunsAnswer::Refused(refusal(7));
+        return NumberAnswer::Refused(plain_refusal(7));
     }
-    RunsAnswer::Runs(put_runs(&marks, out))
-}
-
-// There is such a piece, and the turn is allowed to it.
-fn is_known(size: JobSize, table: &[[u8; 3]], i: usize, turn: Turn) -> bool
-    requires { ⌜ size .count ≤ length (now table) ⌝ }
-    ensures { λ r. ⌜ ((pixels : List ℕ) (es : List (List ℕ)) → r ≡ known (jobOf (lentBy size (now (table .entry)) pixels)) (lentStretch i turn es)) ⌝ }
-{
-    if size.count <= i {
-        return false;
-    }
-    layout_places::allows(table[i][2], turn)
+    NumberAnswer::Number(put_runs(&marks, out) as u64)
 }
 
 // The stretch is that of the piece in the turn.
@@ -184,83 +175,79 @@ fn stretch_causes(
     size: JobSize,
     table: &[[u8; 3]],
     pixels: &[u8],
-    i: usize,
-    first: Turn,
+    first: PieceInTurn,
     a: &[[u8; 3]],
-    k: usize,
-    second: Turn,
+    second: PieceInTurn,
     b: &[[u8; 3]],
     direction: Direction,
-) -> CauseAnswer
-    ensures { λ r. ⌜ r ≡ firstCause (stretchCauses direction (lentBy size (now (table .entry)) (now (pixels .entry))) (lentStretch i first (now (a .entry))) (lentStretch k second (now (b .entry)))) ⌝ }
+) -> DoneAnswer
+    ensures { λ r. ⌜ r ≡ firstCause (stretchCauses direction (lentBy size (now (table .entry)) (now (pixels .entry))) (lentStretch (first .piece) (first .turn) (now (a .entry))) (lentStretch (second .piece) (second .turn) (now (b .entry)))) ⌝ }
 {
     if !job_check::check_job(size, table, pixels) {
-        return CauseAnswer::Refused(refusal(8));
+        return refused(8);
     }
-    if !is_known(size, table, i, first) {
-        return CauseAnswer::Refused(refusal(9));
+    let i = first.piece;
+    let i_turn = first.turn;
+    let k = second.piece;
+    let k_turn = second.turn;
+    if !known(size, table, i, i_turn) {
+        return refused(9);
     }
-    if !is_known(size, table, k, second) {
-        return CauseAnswer::Refused(refusal(9));
+    if !known(size, table, k, k_turn) {
+        return refused(9);
     }
-    if !is_own(table, pixels, i, first, direction, a) {
-        return CauseAnswer::Refused(refusal(8));
+    if !is_own(table, pixels, i, i_turn, direction, a) {
+        return refused(8);
     }
-    if !is_own(table, pixels, k, second, direction, b) {
-        return CauseAnswer::Refused(refusal(8));
+    if !is_own(table, pixels, k, k_turn, direction, b) {
+        return refused(8);
     }
-    CauseAnswer::Passed
+    DoneAnswer::Done
 }
 
-// The no-fit line in a direction of pieces i and k in their turns, at an offset across it.
+// The no-fit line in a direction of two pieces in their turns, at an offset across it.
 fn no_fit(
     size: JobSize,
     table: &[[u8; 3]],
     pixels: &[u8],
-    i: usize,
-    first: Turn,
+    first: PieceInTurn,
     a: &[[u8; 3]],
-    k: usize,
-    second: Turn,
+    second: PieceInTurn,
     b: &[[u8; 3]],
     direction: Direction,
     offset: i32,
     out: &mut [[i32; 2]],
-) -> RunsAnswer
-    ensures answer { λ r. ⌜ r ≡ runsAnswer (noFitCall direction (lentBy size (now (table .entry)) (now (pixels .entry))) (lentStretch i first (now (a .entry))) (lentStretch k second (now (b .entry))) offset (length (now (out .entry)))) ⌝ }
-    ensures memory { λ r. ⌜ now (out .exit) ≡ runsAfter (now (out .entry)) (noFitCall direction (lentBy size (now (table .entry)) (now (pixels .entry))) (lentStretch i first (now (a .entry))) (lentStretch k second (now (b .entry))) offset (length (now (out .entry)))) ⌝ }
+) -> NumberAnswer
+    ensures answer { λ r. ⌜ r ≡ countAnswer (noFitCall direction (lentBy size (now (table .entry)) (now (pixels .entry))) (lentStretch (first .piece) (first .turn) (now (a .entry))) (lentStretch (second .piece) (second .turn) (now (b .entry))) offset (length (now (out .entry)))) ⌝ }
+    ensures memory { λ r. ⌜ now (out .exit) ≡ runsAfter (now (out .entry)) (noFitCall direction (lentBy size (now (table .entry)) (now (pixels .entry))) (lentStretch (first .piece) (first .turn) (now (a .entry))) (lentStretch (second .piece) (second .turn) (now (b .entry))) offset (length (now (out .entry)))) ⌝ }
 {
-    match stretch_causes(size, table, pixels, i, first, a, k, second, b, direction) {
-        CauseAnswer::Refused(refusal) => RunsAnswer::Refused(refusal),
-        CauseAnswer::Passed => put_line(a, b, offset, out),
+    match stretch_causes(size, table, pixels, first, a, second, b, direction) {
+        DoneAnswer::Refused(refusal) => NumberAnswer::Refused(refusal),
+        DoneAnswer::Done => put_line(a, b, offset, out),
     }
 }
 
-// The no-fit row of pieces i and k in their turns at a row offset, from their row strips: the column offsets at which they share a pixel.
+// The no-fit row of two pieces in their turns at a row offset, from their row strips: the column offsets at which they share a pixel.
 pub fn no_fit_row(
     size: JobSize,
     table: &[[u8; 3]],
     pixels: &[u8],
-    i: usize,
-    first: Turn,
+    first: PieceInTurn,
     a: &[[u8; 3]],
-    k: usize,
-    second: Turn,
+    second: PieceInTurn,
     b: &[[u8; 3]],
     offset: RowOffset,
     out: &mut [[i32; 2]],
-) -> RunsAnswer
-    ensures answer { λ r. ⌜ r ≡ runsAnswer (noFitCall Direction.Horizontal (lentBy size (now (table .entry)) (now (pixels .entry))) (lentStretch i first (now (a .entry))) (lentStretch k second (now (b .entry))) (offset .0) (length (now (out .entry)))) ⌝ }
-    ensures memory { λ r. ⌜ now (out .exit) ≡ runsAfter (now (out .entry)) (noFitCall Direction.Horizontal (lentBy size (now (table .entry)) (now (pixels .entry))) (lentStretch i first (now (a .entry))) (lentStretch k second (now (b .entry))) (offset .0) (length (now (out .entry)))) ⌝ }
+) -> NumberAnswer
+    ensures answer { λ r. ⌜ r ≡ countAnswer (noFitCall Direction.Horizontal (lentBy size (now (table .entry)) (now (pixels .entry))) (lentStretch (first .piece) (first .turn) (now (a .entry))) (lentStretch (second .piece) (second .turn) (now (b .entry))) (offset .0) (length (now (out .entry)))) ⌝ }
+    ensures memory { λ r. ⌜ now (out .exit) ≡ runsAfter (now (out .entry)) (noFitCall Direction.Horizontal (lentBy size (now (table .entry)) (now (pixels .entry))) (lentStretch (first .piece) (first .turn) (now (a .entry))) (lentStretch (second .piece) (second .turn) (now (b .entry))) (offset .0) (length (now (out .entry)))) ⌝ }
 {
     no_fit(
         size,
         table,
         pixels,
-        i,
         first,
         a,
-        k,
         second,
         b,
         Direction::Horizontal,
@@ -269,32 +256,28 @@ pub fn no_fit_row(
     )
 }
 
-// The no-fit column of pieces i and k in their turns at a column offset, from their column strips: the row offsets at which they share
+// The no-fit column of two pieces in their turns at a column offset, from their column strips: the row offsets at which they share
 // a pixel.
 pub fn no_fit_column(
     size: JobSize,
     table: &[[u8; 3]],
     pixels: &[u8],
-    i: usize,
-    first: Turn,
+    first: PieceInTurn,
     a: &[[u8; 3]],
-    k: usize,
-    second: Turn,
+    second: PieceInTurn,
     b: &[[u8; 3]],
     offset: ColumnOffset,
     out: &mut [[i32; 2]],
-) -> RunsAnswer
-    ensures answer { λ r. ⌜ r ≡ runsAnswer (noFitCall Direction.Vertical (lentBy size (now (table .entry)) (now (pixels .entry))) (lentStretch i first (now (a .entry))) (lentStretch k second (now (b .entry))) (offset .0) (length (now (out .entry)))) ⌝ }
-    ensures memory { λ r. ⌜ now (out .exit) ≡ runsAfter (now (out .entry)) (noFitCall Direction.Vertical (lentBy size (now (table .entry)) (now (pixels .entry))) (lentStretch i first (now (a .entry))) (lentStretch k second (now (b .entry))) (offset .0) (length (now (out .entry)))) ⌝ }
+) -> NumberAnswer
+    ensures answer { λ r. ⌜ r ≡ countAnswer (noFitCall Direction.Vertical (lentBy size (now (table .entry)) (now (pixels .entry))) (lentStretch (first .piece) (first .turn) (now (a .entry))) (lentStretch (second .piece) (second .turn) (now (b .entry))) (offset .0) (length (now (out .entry)))) ⌝ }
+    ensures memory { λ r. ⌜ now (out .exit) ≡ runsAfter (now (out .entry)) (noFitCall Direction.Vertical (lentBy size (now (table .entry)) (now (pixels .entry))) (lentStretch (first .piece) (first .turn) (now (a .entry))) (lentStretch (second .piece) (second .turn) (now (b .entry))) (offset .0) (length (now (out .entry)))) ⌝ }
 {
     no_fit(
         size,
         table,
         pixels,
-        i,
         first,
         a,
-        k,
         second,
         b,
         Direction::Vertical,

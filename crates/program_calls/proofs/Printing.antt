@@ -9,7 +9,7 @@ use lib.Dec.{ltb}
 use lib.ListN.{length, take}
 use lib.Seq.{take-at}
 use Rattle.model.specs.Lent.{Lent}
-use Rattle.model.specs.Refusal.{Outcome, refused, given, cause, refusalOf, unless, wrongLength}
+use Rattle.model.specs.Refusal.{Outcome, refused, given, unless, wrongLength, plainRefusal}
 use Rattle.model.specs.declared.Refusal.{Refusal}
 use Rattle.model.specs.Buffer.{filled}
 use Rattle.model.specs.Calls.{textAfter}
@@ -53,7 +53,7 @@ TextLeaves input before r after =
 
 -- a buffer that the text does not fit is refused and left as it is
 pub leaves-short : (input before : List ℕ) → length before < length (programText input) → length (programText input) ≤ outputBound
-    → TextLeaves input before (TextAnswer.Refused (refusalOf (cause wrongLength true))) before
+    → TextLeaves input before (TextAnswer.Refused (plainRefusal wrongLength)) before
 unfolding programCall unless
 leaves-short input before h few = (rw (lt-ltb (length before) (length (programText input)) h), (rw (lt-ltb (length before) (length (programText input)) h), few))
 
@@ -84,5 +84,5 @@ pub count-fits : (input : List ℕ) (room k : ℕ) → TextAnswer.Written k ≡ 
 unfolding programCall unless
 count-fits input room k e h =
     let same : k ≡ length (programText input) =
-    count-step (ltb room (length (programText input))) (refusalOf (cause wrongLength true)) (programText input) k e in
+    count-step (ltb room (length (programText input))) (plainRefusal wrongLength) (programText input) k e in
     omega arith

@@ -5,7 +5,7 @@ use mathlib.Core.Path.{_≡_, refl, sym, ap, _∙_}
 use Prim.Native.Nat.{ℕ, _≤_}
 use Rattle.model.specs.Lent.{Lent, jobOf}
 use Rattle.model.specs.Buffer.{layoutOf, entriesOf}
-use Rattle.model.specs.Refusal.{Outcome, refused, Cause, cause, refusalOf, unless, outOfRange}
+use Rattle.model.specs.Refusal.{Outcome, refused, Cause, cause, refusalOf, unless, outOfRange, plainRefusal}
 use Rattle.model.specs.Calls.{budgetBound, someWeightWrong, jobCause, layoutLength, weightsLength}
 use Rattle.list_laws.proofs.Tests.{or-neither}
 use Rattle.text_laws.proofs.Entries.{entries-read-back}
@@ -36,7 +36,7 @@ run-asked l es ws wrong x =
     behind (jobCause l ∷ layoutLength l es ∷ weightsLength l ws ∷ []) _ _ x (either-cause outOfRange (someWeightWrong ws) wrong (placeCauses l es) x)
 
 -- a number that is wrong refuses
-pub wrong-refused : {A : Type 0} (n : ℕ) (b : Bool) (ds : List Cause) (x : A) → b ≡ true → unless (cause n b ∷ ds) x ≡ refused (refusalOf (cause n true))
+pub wrong-refused : {A : Type 0} (n : ℕ) (b : Bool) (ds : List Cause) (x : A) → b ≡ true → unless (cause n b ∷ ds) x ≡ refused (plainRefusal n)
 unfolding unless
 wrong-refused n b ds x e = rw (e, unless)
 

@@ -10,7 +10,7 @@ use lib.Dec.{ltb, eqb}
 use lib.ListN.{length, replicate, length-map, length-replicate, getD-replicate}
 use Rattle.model.specs.Layout.{Job, Layout, allowed}
 use Rattle.model.specs.Search.{Best, places, sumAt, least, searchLine}
-use Rattle.model.specs.Refusal.{Cause, cause, unless, refusalOf, emptyLine}
+use Rattle.model.specs.Refusal.{Cause, cause, unless, emptyLine, plainRefusal}
 use Rattle.model.specs.Lent.{Lent, jobOf, lentWell}
 use Rattle.model.specs.Buffer.{layoutOf, placementOf}
 use Rattle.model.specs.Calls.{someTurnWrong, layoutCauses, bestPlace}
@@ -41,7 +41,7 @@ use Rattle.search_calls.specs.Answers.{InReach, bestAnswer, searchAnswer
 -- ── causes ──
 
 -- a cause that is there refuses
-pub first-there : (number : ℕ) (b : Bool) (cs : List Cause) (r : Refusal) → r ≡ refusalOf (cause number true) → b ≡ true
+pub first-there : (number : ℕ) (b : Bool) (cs : List Cause) (r : Refusal) → r ≡ plainRefusal number → b ≡ true
     → CauseAnswer.Refused r ≡ firstCause (cause number b ∷ cs)
 unfolding unless
 first-there number b cs r e f = rw (e, f, unless)

@@ -6,14 +6,14 @@ use mathlib.Core.Path.{_≡_, refl, sym, _∙_, ap}
 use mathlib.Core.List.{List, [], _∷_}
 use mathlib.Core.Option.{none, some}
 use Prim.Native.Nat.{ℕ, zero, suc, _+_, _*_, _-_, _<_, _≤_}
-use native.Mathlib.Nat.{mul-suc, suc-mul, mul-sub, mul-one}
+use native.Mathlib.Nat.{mul-suc, suc-mul}
 use native.Mathlib.Numerals.{add-one}
 use native.Mathlib.Omega.{arith}
 use lib.ListN.{length, getD, drop, length-append, List·getD-append}
 use lib.Seq.{drop-drop, drop-at, getD-drop}
 use Rattle.model.specs.Layout.{Pair, pairOf, pairsWith, pairsFrom, pairs, firstPair}
 use Rattle.model.specs.Lent.{pieceBound}
-use Rattle.descent_laws.proofs.Bounds.{pairs-length, pairs-at-most}
+use Rattle.descent_laws.proofs.Bounds.{pairs-at-most}
 use Rattle.search_laws.specs.Pairs.{rowStart, pairIndex}
 
 -- where the next row begins
@@ -152,10 +152,6 @@ row-start-twice n (suc i) l =
     let right : n * suc i ≡ n * i + n = mul-suc n i in
     let left : suc i * suc (suc i) ≡ i * suc i + i + suc (suc i) = suc-mul i (suc (suc i)) ∙ ap (λ a. a + suc (suc i)) (mul-suc i (suc i)) in
     omega arith
-
--- n pieces have n(n - 1)/2 pairs
-pub pairs-twice : (n : ℕ) → 2 * length (pairs n) ≡ n * (n - 1)
-pairs-twice n = let e = pairs-length n in omega (arith, mul-sub n n 1, mul-one n)
 
 -- ── the first pair that passes ──
 

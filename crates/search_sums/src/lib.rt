@@ -4,6 +4,7 @@
 use model::PAIR_BOUND;
 use model::PIECE_BOUND;
 use model::WEIGHT_BOUND;
+use layout_places::numbers::pair_count;
 ghost use mathlib.Core.Path.{_≡_};
 ghost use mathlib.Core.List.{List};
 ghost use Prim.Native.Nat.{ℕ, _+_, _<_, _≤_, _^_};
@@ -17,18 +18,6 @@ ghost use Rattle.search_laws.specs.PieceSum.{weightBetween};
 ghost use Rattle.search_laws.specs.Table.{PenaltyTable};
 ghost use Rattle.search_laws.specs.Raising.{Raising};
 ghost use Rattle.search_sums.specs.Table.{Weighed, rowPart, raisedAt};
-
-// How many pairs n pieces have.
-pub fn pair_count(n: usize) -> usize
-    requires { ⌜ n ≤ pieceBound ⌝ }
-    ensures { λ r. ⌜ r ≡ length (pairs n) ⌝ }
-{
-    if n == 0 {
-        // A job that passed its check has a piece: this does not happen.
-        return 0;
-    }
-    n * (n - 1) / 2
-}
 
 // The position of the pair (i, k), i below k, among the pairs of n pieces.
 pub fn pair_index(n: usize, i: usize, k: usize) -> usize

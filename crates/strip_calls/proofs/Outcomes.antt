@@ -11,7 +11,7 @@ use lib.Seq.{sets}
 use Rattle.model.specs.Buffer.{stripEntry, filled}
 use Rattle.model.specs.Layout.{Job}
 use Rattle.model.specs.Lent.{Lent, jobOf, lentWell}
-use Rattle.model.specs.Refusal.{Outcome, unless, refused, given, refusalOf, cause}
+use Rattle.model.specs.Refusal.{Outcome, unless, refused, given, cause, plainRefusal}
 use Rattle.model.specs.Store.{store, starts, storeWell}
 use Rattle.model.specs.Calls.{Stores, storesOf, storesShort, storesWell, storesAfter, turnListWrong, stripsCall, stretchCall, stretchOf, stretchGiven, stretchNumber}
 use Rattle.model.specs.declared.Direction.{Direction}
@@ -28,23 +28,23 @@ use Rattle.strip_calls.proofs.Cutting.{cut-from}
 
 module _ (l : Lent) (ts : List ℕ) (lent : Stores) (i : ℕ) (d : Direction) where
   -- the job does not pass its check
-  pub stretch-job : lentWell l ≡ false → stretchCall l ts lent i d ≡ refused (refusalOf (cause 8 true))
+  pub stretch-job : lentWell l ≡ false → stretchCall l ts lent i d ≡ refused (plainRefusal 8)
   unfolding stretchCall unless
   stretch-job e = rw (e, unless)
 
   -- the list of turns is wrong
-  pub stretch-turns : lentWell l ≡ true → turnListWrong (jobOf l) ts ≡ true → stretchCall l ts lent i d ≡ refused (refusalOf (cause 9 true))
+  pub stretch-turns : lentWell l ≡ true → turnListWrong (jobOf l) ts ≡ true → stretchCall l ts lent i d ≡ refused (plainRefusal 9)
   unfolding stretchCall unless
   stretch-turns e w = rw (e, w, unless)
 
   -- there is no such piece
-  pub stretch-piece : lentWell l ≡ true → l .size .count ≤ i → stretchCall l ts lent i d ≡ refused (refusalOf (cause 9 true))
+  pub stretch-piece : lentWell l ≡ true → l .size .count ≤ i → stretchCall l ts lent i d ≡ refused (plainRefusal 9)
   unfolding stretchCall unless
   stretch-piece e h = rw (e, le-ltb i (l .size .count) h, or-right (turnListWrong (jobOf l) ts) true refl, unless)
 
   -- a store is not the job's in these turns
   pub stretch-store : lentWell l ≡ true → turnListWrong (jobOf l) ts ≡ false → i < l .size .count → storesWell (jobOf l) ts lent ≡ false
-      → stretchCall l ts lent i d ≡ refused (refusalOf (cause 8 true))
+      → stretchCall l ts lent i d ≡ refused (plainRefusal 8)
   unfolding stretchCall unless
   stretch-store e w h s = rw (e, w, lt-ltb i (l .size .count) h, s, unless)
 
@@ -107,18 +107,18 @@ short-room j ts lent =
 
 module _ (l : Lent) (ts : List ℕ) (lent : Stores) where
   -- the job does not pass its check
-  pub strips-job : lentWell l ≡ false → stripsCall l ts lent ≡ refused (refusalOf (cause 8 true))
+  pub strips-job : lentWell l ≡ false → stripsCall l ts lent ≡ refused (plainRefusal 8)
   unfolding stripsCall unless
   strips-job e = rw (e, unless)
 
   -- the list of turns is wrong
-  pub strips-turns : lentWell l ≡ true → turnListWrong (jobOf l) ts ≡ true → stripsCall l ts lent ≡ refused (refusalOf (cause 9 true))
+  pub strips-turns : lentWell l ≡ true → turnListWrong (jobOf l) ts ≡ true → stripsCall l ts lent ≡ refused (plainRefusal 9)
   unfolding stripsCall unless
   strips-turns e w = rw (e, w, unless)
 
   -- a store has no room
   pub strips-short : lentWell l ≡ true → turnListWrong (jobOf l) ts ≡ false → hasRoom (jobOf l) ts lent ≡ false
-      → stripsCall l ts lent ≡ refused (refusalOf (cause 7 true))
+      → stripsCall l ts lent ≡ refused (plainRefusal 7)
   unfolding stripsCall unless
   strips-short e w s = let k : storesShort (storesOf (jobOf l) ts) lent ≡ true = short-room (jobOf l) ts lent ∙ ap not s in rw (e, w, k, unless)
 

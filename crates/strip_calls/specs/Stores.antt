@@ -1,21 +1,13 @@
--- The lent stores, the answer of the strips call, and where a stretch is cut. Assumes nothing.
+-- The lent stores, and where a stretch is cut. Assumes nothing.
 use mathlib.Core.List.{List}
 use Prim.Native.Nat.{ℕ, suc, _≤_, _<_}
 use lib.ListN.{length, getD}
-use Rattle.model.specs.Refusal.{Outcome, refused, given}
 use Rattle.model.specs.Calls.{Stores}
-use Rattle.strip_calls.specs.declared.StripsAnswer.{StripsAnswer}
-use Rattle.strip_calls.specs.declared.StripsAnswer.the-variants.{Filled as Done, Refused}
 
 -- the lent stores and starts
 abbrev pub storesBy : List (List ℕ) → List ℕ → List (List ℕ) → List ℕ → Stores
 storesBy rowStrips rowStarts columnStrips columnStarts =
     record { rowStrips = rowStrips; rowStarts = rowStarts; columnStrips = columnStrips; columnStarts = columnStarts }
-
--- the answer that stands for the outcome; strips and starts are written to the buffers
-abbrev pub stripsAnswer : Outcome Stores → StripsAnswer
-stripsAnswer (refused r) = Refused r
-stripsAnswer (given s) = Done
 
 -- a piece's start and the next one are there and cut a part out of the store
 pub record Cut (strips : List (List ℕ)) (lentStarts : List ℕ) (i : ℕ) : Type 0 where

@@ -1,7 +1,8 @@
 // The stores of a job's strips (document 01, 'Strips'): the strips call fills them, the stretch call hands out one piece's part.
 
+use model::DoneAnswer;
 use model::JobSize;
-use model::Refusal;
+use model::refused;
 use strip_store::fill::room_for;
 
 mod compare;
@@ -10,15 +11,10 @@ pub mod stretch;
 mod turns;
 
 ghost use mathlib.Core.Path.{_≡_};
+ghost use Rattle.model.specs.Answers.{doneAnswer};
 ghost use Rattle.model.specs.Lent.{lentBy};
 ghost use Rattle.model.specs.Calls.{stripsCall, storesAfter};
-ghost use Rattle.strip_calls.specs.Stores.{storesBy, stripsAnswer};
-
-// What the strips call comes to: the stores and starts are filled, or the call is refused.
-pub enum StripsAnswer {
-    Filled,
-    Refused(Refusal),
-}
+ghost use Rattle.strip_calls.specs.Stores.{storesBy};
 
 // Fills the row store and the column store of a job in given turns, each with its starts.
 pub fn strips(
@@ -30,20 +26,20 @@ pub fn strips(
     row_starts: &mut [u32],
     column_strips: &mut [[u8; 3]],
     column_starts: &mut [u32],
-) -> StripsAnswer
-    ensures answer { λ r. ⌜ r ≡ stripsAnswer (stripsCall (lentBy size (now (table .entry)) (now (pixels .entry))) (now (turns .entry)) (storesBy (now («row_strips» .entry)) (now («row_starts» .entry)) (now («column_strips» .entry)) (now («column_starts» .entry)))) ⌝ }
+) -> DoneAnswer
+    ensures answer { λ r. ⌜ r ≡ doneAnswer (stripsCall (lentBy size (now (table .entry)) (now (pixels .entry))) (now (turns .entry)) (storesBy (now («row_strips» .entry)) (now («row_starts» .entry)) (now («column_strips» .entry)) (now («column_starts» .entry)))) ⌝ }
     ensures memory { λ r. ⌜ storesBy (now («row_strips» .exit)) (now («row_starts» .exit)) (now («column_strips» .exit)) (now («column_starts» .exit)) ≡ storesAfter (storesBy (now («row_strips» .entry)) (now («row_starts» .entry)) (now («column_strips» .entry)) (now («column_starts» .entry))) (stripsCall (lentBy size (now (table .entry)) (now (pixels .entry))) (now (turns .entry)) (storesBy (now («row_strips» .entry)) (now («row_starts» .entry)) (now («column_strips» .entry)) (now («column_starts» .entry)))) ⌝ }
 {
     if !job_check::check_job(size, table, pixels) {
-        return StripsAnswer::Refused(layout_places::refusal(8));
+        return refused(8);
     }
     if turns::wrong(size, table, turns) {
-        return StripsAnswer::Refused(layout_places::refusal(9));
+        return refused(9);
     }
     let rows = room_for(row_strips.len(), row_starts.len());
     let columns = room_for(column_strips.len(), column_starts.len());
     if !fill::both_have_room(size, table, pixels, turns, rows, columns) {
-        return StripsAnswer::Refused(layout_places::refusal(7));
+        return refused(7);
     }
     fill::fill_both(
         size,
@@ -55,5 +51,5 @@ pub fn strips(
         column_strips,
         column_starts,
     );
-    StripsAnswer::Filled
+    DoneAnswer::Done
 }

@@ -1,5 +1,4 @@
--- What the functions of the crate say of one another, and the answer by document 01's outcome.
-pub mod Answer
+-- What the functions of the crate say of one another.
 pub mod Check
 pub mod Paint
 pub mod Again

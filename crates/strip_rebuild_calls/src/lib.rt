@@ -1,13 +1,14 @@
 // Rebuilding a piece from its strips (document 01, 'Strips'): the one pixel set of a box that has given row or column strips.
 
 use model::Direction;
-use model::Refusal;
+use model::DoneAnswer;
+use model::refused;
 ghost use mathlib.Core.Path.{_≡_};
 ghost use lib.ListN.{length};
+ghost use Rattle.model.specs.Answers.{doneAnswer};
 ghost use Rattle.model.specs.Calls.{rebuildCall, pixelsAfter};
 ghost use Rattle.model.specs.Lent.{upTo};
 ghost use Rattle.model.specs.Piece.{sideBound};
-ghost use Rattle.strip_rebuild_calls.specs.Answer.{rebuildAnswer};
 ghost use Rattle.strip_rebuild_calls.specs.Again.{Again};
 
 mod check;
@@ -15,23 +16,6 @@ mod paint;
 
 // The most pixels along a box side, as a side is handed over.
 const SIDE_BOUND: u16 = model::SIDE_BOUND as u16;
-
-// What rebuilding comes to: the pixels are written, or the call is refused.
-pub enum RebuildAnswer {
-    Rebuilt,
-    Refused(Refusal),
-}
-
-// A refusal without places.
-fn refused(number: u8) -> RebuildAnswer
-    ensures { λ r. ⌜ r ≡ RebuildAnswer.Refused (record { number = number; first = 0; second = 0 }) ⌝ }
-{
-    RebuildAnswer::Refused(Refusal {
-        number,
-        first: 0,
-        second: 0,
-    })
-}
 
 // A box side is in range.
 fn side_in_range(side: u16) -> bool
@@ -50,8 +34,8 @@ pub fn rebuild(
     direction: Direction,
     strips: &[[u8; 3]],
     pixels: &mut [u8],
-) -> RebuildAnswer
-    ensures answer { λ r. ⌜ r ≡ rebuildAnswer (rebuildCall direction columns rows (now (strips .entry)) (length (now (pixels .entry)))) ⌝ }
+) -> DoneAnswer
+    ensures answer { λ r. ⌜ r ≡ doneAnswer (rebuildCall direction columns rows (now (strips .entry)) (length (now (pixels .entry)))) ⌝ }
     ensures memory { λ r. ⌜ now (pixels .exit) ≡ pixelsAfter (now (pixels .entry)) (rebuildCall direction columns rows (now (strips .entry)) (length (now (pixels .entry)))) ⌝ }
     ensures again { λ r. ⌜ Again direction columns rows (now (strips .entry)) (now (pixels .entry)) (now (pixels .exit)) ⌝ }
 {
@@ -70,5 +54,5 @@ pub fn rebuild(
         return refused(7);
     }
     paint::write(direction, columns, rows, strips, pixels);
-    RebuildAnswer::Rebuilt
+    DoneAnswer::Done
 }

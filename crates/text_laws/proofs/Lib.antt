@@ -3,6 +3,7 @@ pub mod Ahead
 pub mod Numbers
 pub mod Fields
 pub mod Outcomes
+pub mod Causes
 pub mod Spelling
 pub mod LineCounts
 pub mod Refused

@@ -3,14 +3,14 @@ use mathlib.Core.List.{[]}
 use mathlib.Core.Path.{_≡_, sym, _∙_, ap}
 use borrow.Author.Needs.{needs}
 use lib.ListN.{length, length-map}
-use Rattle.model.specs.Refusal.{refused, given}
+use Rattle.model.specs.Refusal.{refused, given, plainRefusal}
 use Rattle.model.specs.Lent.{lentBy, jobOf}
 use Rattle.model.specs.Buffer.{entryOf, entriesOf}
 use Rattle.model.specs.LayoutText.{placementsAt}
 use Rattle.model.specs.Calls.{layoutAfter}
 use Rattle.list_laws.proofs.Lists.{nothing-left}
 use Rattle.list_laws.proofs.Stores.{sets-whole}
-use Rattle.layout_read_calls.specs.Answers.{layoutAnswer}
+use Rattle.model.specs.Answers.{doneAnswer}
 use Rattle.layout_read_calls.specs.Readings.{layoutFrom}
 use Rattle.layout_read_calls.proofs.Whole.{layout-refused, ReadGiven, layout-given, placements-count, from-refused, from-unlike, from-given}
 use Rattle.layout_read_calls.proofs.fill_layout.Statement.{statement}
@@ -39,13 +39,13 @@ returns c =
     λ pixels.
     let o : layoutFrom (jobOf (lentBy (a .size) (a .table .now) pixels)) (a .text .now) (a .p) (length (a .layout .now)) ≡ refused (c .before .refusal .given .0 .0) =
     from-refused (lentBy (a .size) (a .table .now) pixels) (a .text .now) (a .p) _ _ (layout-refused (placementsAt (jobOf (lentBy (a .size) (a .table .now) pixels)) (a .text .now) (a .size .count) 0 (a .p) 2) _ (sym (c .before .refusal .given .1) ∙ first .ensures .0 pixels)) in
-    (sym (ap layoutAnswer o), rw none (sym (ap (layoutAfter (a .layout .now)) o)))
+    (sym (ap doneAnswer o), rw none (sym (ap (layoutAfter (a .layout .now)) o)))
 
 enum-told : tie.Need-enum-told
 enum-told c = search needs
 
-refusal-requires : tie.Need-refusal-requires
-refusal-requires c κs = search needs
+refused-requires : tie.Need-refused-requires
+refused-requires c κs = search needs
 
 same-length-2 : tie.Need-same-length-2
 same-length-2 c = search needs
@@ -58,9 +58,9 @@ returns-2 c =
     λ pixels.
     let v : ReadGiven (placementsAt (jobOf (lentBy (a .size) (a .table .now) pixels)) (a .text .now) (a .size .count) 0 (a .p) 2) = layout-given _ (sym (c .before .before .before .enum-told .given .1) ∙ first .ensures .0 pixels) in
     let unlike : length (a .layout .now) ≡ a .size .count → ⊥ = rw none at (c .before .if1 .taken) in
-    let o : layoutFrom (jobOf (lentBy (a .size) (a .table .now) pixels)) (a .text .now) (a .p) (length (a .layout .now)) ≡ refused (c .refusal2 .result) =
-    from-unlike (lentBy (a .size) (a .table .now) pixels) (a .text .now) (a .p) _ (v .layout) (v .gives) unlike ∙ sym (ap refused (c .refusal2 .ensures)) in
-    (sym (ap layoutAnswer o), rw none (sym (ap (layoutAfter (a .layout .now)) o)))
+    let o : layoutFrom (jobOf (lentBy (a .size) (a .table .now) pixels)) (a .text .now) (a .p) (length (a .layout .now)) ≡ refused (plainRefusal 7) =
+    from-unlike (lentBy (a .size) (a .table .now) pixels) (a .text .now) (a .p) _ (v .layout) (v .gives) unlike in
+    (c .refused .ensures ∙ sym (ap doneAnswer o), rw none (sym (ap (layoutAfter (a .layout .now)) o)))
 
 read-placements-requires-2 : tie.Need-read-placements-requires-2
 read-placements-requires-2 c κs = search needs
@@ -81,7 +81,7 @@ returns-3 c =
     let second = c .before .read-placements2 .ensures in
     let long : length (entriesOf (v .layout)) ≡ length (a .layout .now) =
     length-map (v .layout) entryOf ∙ placements-count _ _ _ _ _ _ (v .layout) (v .gives) ∙ sym like in (
-      second .0 pixels ∙ ap layoutAnswer (v .gives) ∙ sym (ap layoutAnswer o),
+      second .0 pixels ∙ ap doneAnswer (v .gives) ∙ sym (ap doneAnswer o),
       rw none at (second .1 pixels (v .layout) (v .gives)) ∙ sets-whole (entriesOf (v .layout)) (a .layout .now) long ∙ sym (ap (layoutAfter (a .layout .now)) o),
     )
 
@@ -96,7 +96,7 @@ fill-layout-spec =
     same-length
     returns
     enum-told
-    refusal-requires
+    refused-requires
     same-length-2
     returns-2
     read-placements-requires-2

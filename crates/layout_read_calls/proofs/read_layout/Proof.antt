@@ -4,12 +4,12 @@ use mathlib.Core.Path.{_≡_, sym, _∙_, ap}
 use borrow.Author.Needs.{needs}
 use borrow.Author.Tests.{not-true, not-false}
 use lib.ListN.{length}
-use Rattle.model.specs.Refusal.{refused, given}
+use Rattle.model.specs.Refusal.{refused, given, plainRefusal}
 use Rattle.model.specs.Lent.{Lent, lentBy, jobOf, lentWell}
 use Rattle.model.specs.LayoutText.{layoutLine}
 use Rattle.model.specs.Calls.{readLayoutCall, layoutAfter}
 use Rattle.layout_places.proofs.Fitting.{fitting}
-use Rattle.layout_read_calls.specs.Answers.{layoutAnswer}
+use Rattle.model.specs.Answers.{doneAnswer}
 use Rattle.layout_read_calls.specs.Readings.{layoutFrom}
 use Rattle.layout_read_calls.proofs.Whole.{position-refused, position-given, read-unsound, read-refused, read-from}
 use Rattle.layout_read_calls.proofs.read_layout.Statement.{statement}
@@ -18,16 +18,16 @@ use Rattle.layout_read_calls.proofs.read_layout.Tie as tie
 check-job-requires : tie.Need-check-job-requires
 check-job-requires c κs = search needs
 
-refusal-requires : tie.Need-refusal-requires
-refusal-requires c κs = search needs
+refused-requires : tie.Need-refused-requires
+refused-requires c κs = search needs
 
 returns : tie.Need-returns
 returns c =
     let a = c .before .before .before .before .before .args in
     let l : Lent = lentBy (a .size) (a .table .now) (a .pixels .now) in
     let well : lentWell l ≡ false = sym (c .before .before .check-job .ensures) ∙ not-true _ (c .before .if1 .taken) in
-    let o : readLayoutCall l (a .text .now) (length (a .layout .now)) ≡ refused (c .refusal .result) = read-unsound l (a .text .now) _ well ∙ sym (ap refused (c .refusal .ensures)) in
-    (sym (ap layoutAnswer o), sym (ap (layoutAfter (a .layout .now)) o))
+    let o : readLayoutCall l (a .text .now) (length (a .layout .now)) ≡ refused (plainRefusal 8) = read-unsound l (a .text .now) _ well in
+    (c .refused .ensures ∙ sym (ap doneAnswer o), sym (ap (layoutAfter (a .layout .now)) o))
 
 layout-line-requires : tie.Need-layout-line-requires
 layout-line-requires c κs = search needs
@@ -50,10 +50,10 @@ returns-2 c =
     let a = c .before .before .before .before .before .before .before .before .args in
     let l : Lent = lentBy (a .size) (a .table .now) (a .pixels .now) in
     let well : lentWell l ≡ true = sym (c .before .before .before .before .before .check-job .ensures) ∙ not-false _ (c .before .before .before .before .if1 .left) in
-    let o : readLayoutCall l (a .text .now) (length (a .layout .now)) ≡ refused (c .before .refusal2 .given .0 .0) =
+    let o : readLayoutCall l (a .text .now) (length (a .layout .now)) ≡ refused (c .before .refusal .given .0 .0) =
     read-refused l (a .text .now) _ _ well
-    (position-refused (layoutLine (jobOf l) (a .text .now)) _ (sym (c .before .refusal2 .given .1) ∙ c .before .before .before .layout-line .ensures .0 (a .table .now) (a .pixels .now))) in
-    (sym (ap layoutAnswer o), sym (ap (layoutAfter (a .layout .now)) o))
+    (position-refused (layoutLine (jobOf l) (a .text .now)) _ (sym (c .before .refusal .given .1) ∙ c .before .before .before .layout-line .ensures .0 (a .table .now) (a .pixels .now))) in
+    (sym (ap doneAnswer o), sym (ap (layoutAfter (a .layout .now)) o))
 
 same-length : tie.Need-same-length
 same-length c = search needs
@@ -68,14 +68,14 @@ returns-3 c =
     read-from l (a .text .now) _ (p .0 .0) well
     (position-given (layoutLine (jobOf l) (a .text .now)) _ (sym (p .1) ∙ c .before .before .before .before .before .before .layout-line .ensures .0 (a .table .now) (a .pixels .now))) in
     let fill = c .before .fill-layout .ensures (a .pixels .now) in
-    (fill .0 ∙ sym (ap layoutAnswer o), fill .1 ∙ sym (ap (layoutAfter (a .layout .now)) o))
+    (fill .0 ∙ sym (ap doneAnswer o), fill .1 ∙ sym (ap (layoutAfter (a .layout .now)) o))
 
 pub read-layout-spec : {M : Type 1} → statement M
 read-layout-spec =
     tie.close
     (tie.spec
     check-job-requires
-    refusal-requires
+    refused-requires
     returns
     layout-line-requires
     enum-known-refusal

@@ -11,7 +11,7 @@ use Rattle.model.specs.Refusal.{refused, given}
 use Rattle.model.specs.Lent.{jobOf, lentBy}
 use Rattle.model.specs.LayoutText.{placementsAt, placementLine}
 use Rattle.text_laws.proofs.Outcomes.{refused-given}
-use Rattle.layout_read_calls.specs.Answers.{layoutAnswer}
+use Rattle.model.specs.Answers.{doneAnswer}
 use Rattle.layout_read_calls.proofs.Lines.{line-refused, line-read}
 use Rattle.layout_read_calls.proofs.Progress.{ReadProgress, progress-begin, progress-more, progress-refused, progress-extra, progress-end, given-same}
 use Rattle.layout_read_calls.proofs.read_placements.Statement.{statement}
@@ -51,7 +51,7 @@ returns c =
     let l = c .before .before .before .before .before .before .loop in
     let whole : (pixels : List ℕ) → placementsAt (jobOf (lentBy (a .size) (a .table .now) pixels)) (a .text .now) (a .size .count) 0 (a .p) 2 ≡ refused (c .before .refusal .given .0 .0) =
     λ pixels. progress-refused (λ pixels. jobOf (lentBy (a .size) (a .table .now) pixels)) (a .size .count) (a .text .now) (a .p) (a .layout .now) (l .layout) (l .at) (l .line) (l .i) (l .inv .4) (c .before .before .before .before .if1 .taken) _ pixels (line-refused (placementLine (jobOf (lentBy (a .size) (a .table .now) pixels)) (a .text .now) (l .i) (l .at) (l .line)) _ (sym (c .before .refusal .given .1) ∙ c .before .before .before .placement-line .ensures .0 pixels)) in
-    (λ pixels. sym (ap layoutAnswer (whole pixels)), λ pixels v e. absurd (refused-given (sym (whole pixels) ∙ e)))
+    (λ pixels. sym (ap doneAnswer (whole pixels)), λ pixels v e. absurd (refused-given (sym (whole pixels) ∙ e)))
 
 enum-known-place : tie.Need-enum-known-place Inv-loop μ-loop
 enum-known-place c = search needs
@@ -95,7 +95,7 @@ returns-2 c =
     let l = c .before .before .before .before .loop in
     let whole : (pixels : List ℕ) → placementsAt (jobOf (lentBy (a .size) (a .table .now) pixels)) (a .text .now) (a .size .count) 0 (a .p) 2 ≡ refused (c .refused-in .result) =
     λ pixels. rw (c .refused-in .ensures) (progress-extra (λ pixels. jobOf (lentBy (a .size) (a .table .now) pixels)) (a .size .count) (a .text .now) (a .p) (a .layout .now) (l .layout) (l .at) (l .line) (l .i) (l .inv .4) (c .before .before .if1 .left) (c .before .if2 .taken) pixels) in
-    (λ pixels. sym (ap layoutAnswer (whole pixels)), λ pixels v e. absurd (refused-given (sym (whole pixels) ∙ e)))
+    (λ pixels. sym (ap doneAnswer (whole pixels)), λ pixels v e. absurd (refused-given (sym (whole pixels) ∙ e)))
 
 same-length-3 : tie.Need-same-length-3 Inv-loop μ-loop
 same-length-3 c = c .before .before .before .loop .inv .3
@@ -106,7 +106,7 @@ returns-3 c =
     let l = c .before .before .before .loop in
     let whole : (pixels : List ℕ) → placementsAt (jobOf (lentBy (a .size) (a .table .now) pixels)) (a .text .now) (a .size .count) 0 (a .p) 2 ≡ given (l .inv .4 .front) =
     progress-end (λ pixels. jobOf (lentBy (a .size) (a .table .now) pixels)) (a .size .count) (a .text .now) (a .p) (a .layout .now) (l .layout) (l .at) (l .line) (l .i) (l .inv .4) (c .before .if1 .left) (c .if2 .left) in (
-      λ pixels. sym (ap layoutAnswer (whole pixels)),
+      λ pixels. sym (ap doneAnswer (whole pixels)),
       λ pixels v e.
           let same : _≡_ {A = Layout} (l .inv .4 .front) v = given-same (sym (whole pixels) ∙ e) in
           rw same at (l .inv .4 .memory),

@@ -9,12 +9,12 @@ use borrow.Author.Tests.{not-true, not-false, eq-eqb, ne-eqb}
 use lib.Dec.{eqb}
 use lib.ListN.{length}
 use Rattle.model.specs.Start.{start}
-use Rattle.model.specs.Refusal.{refused, given, unless}
+use Rattle.model.specs.Refusal.{refused, given, unless, plainRefusal}
 use Rattle.model.specs.Lent.{Lent, lentBy, lentWell, jobOf}
 use Rattle.model.specs.Buffer.{entriesOf}
 use Rattle.model.specs.Calls.{startCall, layoutAfter}
 use Rattle.layout_places.proofs.Fitting.{fitting}
-use Rattle.layout_start_calls.specs.Answers.{startAnswer}
+use Rattle.model.specs.Answers.{doneAnswer}
 use Rattle.layout_start_calls.proofs.Insertion.{order-below}
 use Rattle.layout_start_calls.proofs.Stacks.{start-laid}
 use Rattle.layout_start_calls.proofs.start.Statement.{statement}
@@ -23,8 +23,8 @@ use Rattle.layout_start_calls.proofs.start.Tie as tie
 check-job-requires : tie.Need-check-job-requires
 check-job-requires c κs = search needs
 
-refusal-requires : tie.Need-refusal-requires
-refusal-requires c κs = search needs
+refused-requires : tie.Need-refused-requires
+refused-requires c κs = search needs
 
 returns : tie.Need-returns
 unfolding startCall unless
@@ -32,11 +32,11 @@ returns c =
     let a = c .before .before .before .before .args in
     let l : Lent = lentBy (a .size) (a .table .now) (a .pixels .now) in
     let well : lentWell l ≡ false = sym (c .before .before .check-job .ensures) ∙ not-true _ (c .before .if1 .taken) in
-    let o : startCall l (length (a .layout .now)) ≡ refused (c .refusal .result) = rw (c .refusal .ensures, well, unless) in
-    (sym (ap startAnswer o), sym (ap (layoutAfter (a .layout .now)) o))
+    let o : startCall l (length (a .layout .now)) ≡ refused (plainRefusal 8) = rw (well, unless) in
+    (c .refused .ensures ∙ sym (ap doneAnswer o), sym (ap (layoutAfter (a .layout .now)) o))
 
-refusal-requires-2 : tie.Need-refusal-requires-2
-refusal-requires-2 c κs = search needs
+refused-requires-2 : tie.Need-refused-requires-2
+refused-requires-2 c κs = search needs
 
 returns-2 : tie.Need-returns-2
 unfolding startCall unless
@@ -45,8 +45,8 @@ returns-2 c =
     let l : Lent = lentBy (a .size) (a .table .now) (a .pixels .now) in
     let well : lentWell l ≡ true = sym (c .before .before .before .before .check-job .ensures) ∙ not-false _ (c .before .before .before .if1 .left) in
     let long : eqb (length (a .layout .now)) (l .size .count) ≡ false = ne-eqb _ _ (c .before .if2 .taken) in
-    let o : startCall l (length (a .layout .now)) ≡ refused (c .refusal2 .result) = rw (c .refusal2 .ensures, well, long, unless) in
-    (sym (ap startAnswer o), sym (ap (layoutAfter (a .layout .now)) o))
+    let o : startCall l (length (a .layout .now)) ≡ refused (plainRefusal 7) = rw (well, long, unless) in
+    (c .refused2 .ensures ∙ sym (ap doneAnswer o), sym (ap (layoutAfter (a .layout .now)) o))
 
 falling-order-requires : tie.Need-falling-order-requires
 falling-order-requires c κs =
@@ -79,16 +79,16 @@ returns-3 c =
     let o : startCall l (length (a .layout .now)) ≡ given (start (jobOf l)) = rw (well, long, unless) in
     let laid : c .before .stack-all .last .1 .1 .1 .0 ≡ entriesOf (start (jobOf l)) =
     start-laid l _ (a .layout .now) _ (c .before .before .before .before .before .if2 .left) (c .before .before .before .before .falling-order .ensures .1 (a .pixels .now)) (c .before .stack-all .ensures (a .pixels .now)) in
-    (sym (ap startAnswer o), laid ∙ sym (ap (layoutAfter (a .layout .now)) o))
+    (sym (ap doneAnswer o), laid ∙ sym (ap (layoutAfter (a .layout .now)) o))
 
 pub start-spec : {M : Type 1} → statement M
 start-spec =
     tie.close
     (tie.spec
     check-job-requires
-    refusal-requires
+    refused-requires
     returns
-    refusal-requires-2
+    refused-requires-2
     returns-2
     falling-order-requires
     stack-all-requires

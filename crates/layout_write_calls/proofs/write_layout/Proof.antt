@@ -11,11 +11,11 @@ use Rattle.model.specs.LayoutText.{layoutText}
 use Rattle.model.specs.Calls.{layoutCauses, textAfter, writeLayoutCall}
 use Rattle.list_laws.proofs.Lists.{nothing-left}
 use Rattle.list_laws.proofs.Stores.{sets-filled}
-use Rattle.layout_places.proofs.Causes.{passed-none, sound}
+use Rattle.text_laws.proofs.Causes.{passed-none}
+use Rattle.causes.proofs.Passed.{layout-laid}
 use Rattle.layout_places.proofs.Fitting.{fitting}
-use Rattle.layout_places.specs.Answers.{firstCause}
-use Rattle.layout_places.specs.declared.CauseAnswer.{CauseAnswer}
-use Rattle.layout_write_calls.specs.Answers.{textAnswer}
+use Rattle.model.specs.Answers.{countAnswer, firstCause}
+use Rattle.model.specs.declared.DoneAnswer.{DoneAnswer}
 use Rattle.layout_write_calls.proofs.Writes.{write-refused, write-short, write-given}
 use Rattle.layout_write_calls.proofs.write_layout.Statement.{statement}
 use Rattle.layout_write_calls.proofs.write_layout.Tie as tie
@@ -32,7 +32,7 @@ returns c =
     let l : Lent = lentBy (a .size) (a .table .now) (a .pixels .now) in
     let o : writeLayoutCall l (a .layout .now) (length (a .text .now)) ≡ refused (c .before .refusal .given .0 .0) =
     write-refused l (a .layout .now) _ _ (sym (c .before .refusal .given .1) ∙ c .before .before .before .layout-causes .ensures) in
-    (sym (ap textAnswer o), sym (ap (textAfter (a .text .now)) o))
+    (sym (ap countAnswer o), sym (ap (textAfter (a .text .now)) o))
 
 enum-told : tie.Need-enum-told
 enum-told c = search needs
@@ -47,13 +47,13 @@ put-layout-requires : tie.Need-put-layout-requires
 put-layout-requires c κs =
     let a = c .before .before .before .before .before .before .args in
     let l : Lent = lentBy (a .size) (a .table .now) (a .pixels .now) in
-    let e : CauseAnswer.Passed ≡ firstCause (layoutCauses l (a .layout .now)) = sym (c .before .enum-told .given .1) ∙ c .before .before .before .layout-causes .ensures in
-    let s = sound l (a .layout .now) (passed-none (layoutCauses l (a .layout .now)) e) in
+    let e : DoneAnswer.Done ≡ firstCause (layoutCauses l (a .layout .now)) = sym (c .before .enum-told .given .1) ∙ c .before .before .before .layout-causes .ensures in
+    let s = layout-laid l (a .layout .now) (passed-none (layoutCauses l (a .layout .now)) e) in
     let f = fitting (a .size) (a .table .now) (a .pixels .now) (s .well) in
     (f .fewRows, f .fewColumns, f .fewPieces, s .whole)
 
-refusal-requires : tie.Need-refusal-requires
-refusal-requires c κs = search needs
+plain-refusal-requires : tie.Need-plain-refusal-requires
+plain-refusal-requires c κs = search needs
 
 same-length : tie.Need-same-length
 same-length c = search needs
@@ -62,20 +62,20 @@ returns-2 : tie.Need-returns-2
 returns-2 c =
     let a = c .before .before .before .before .before .before .before .before .before .before .before .args in
     let l : Lent = lentBy (a .size) (a .table .now) (a .pixels .now) in
-    let e : CauseAnswer.Passed ≡ firstCause (layoutCauses l (a .layout .now)) = sym (c .before .before .before .before .before .before .enum-told .given .1) ∙ c .before .before .before .before .before .before .before .before .layout-causes .ensures in
+    let e : DoneAnswer.Done ≡ firstCause (layoutCauses l (a .layout .now)) = sym (c .before .before .before .before .before .before .enum-told .given .1) ∙ c .before .before .before .before .before .before .before .before .layout-causes .ensures in
     let part = c .before .before .before .before .put-layout in
     let none : part .last .1 .1 .0 ≡ [] = nothing-left _ (part .kept .1 .1 .0) in
     let long : length (a .text .now) < length (layoutText (jobOf l) (layoutOf (a .layout .now))) = rw (none, part .ensures (a .table .now) (a .pixels .now) .0) at (c .before .if1 .taken) in
-    let o : writeLayoutCall l (a .layout .now) (length (a .text .now)) ≡ refused (c .refusal2 .result) =
-    write-short l (a .layout .now) _ e long ∙ sym (ap refused (c .refusal2 .ensures)) in
-    (sym (ap textAnswer o), rw none (sym (ap (textAfter (a .text .now)) o)))
+    let o : writeLayoutCall l (a .layout .now) (length (a .text .now)) ≡ refused (c .plain-refusal .result) =
+    write-short l (a .layout .now) _ e long ∙ sym (ap refused (c .plain-refusal .ensures)) in
+    (sym (ap countAnswer o), rw none (sym (ap (textAfter (a .text .now)) o)))
 
 put-layout-requires-2 : tie.Need-put-layout-requires-2
 put-layout-requires-2 c κs =
     let a = c .before .before .before .before .before .before .before .before .before .before .before .args in
     let l : Lent = lentBy (a .size) (a .table .now) (a .pixels .now) in
-    let e : CauseAnswer.Passed ≡ firstCause (layoutCauses l (a .layout .now)) = sym (c .before .before .before .before .before .before .enum-told .given .1) ∙ c .before .before .before .before .before .before .before .before .layout-causes .ensures in
-    let s = sound l (a .layout .now) (passed-none (layoutCauses l (a .layout .now)) e) in
+    let e : DoneAnswer.Done ≡ firstCause (layoutCauses l (a .layout .now)) = sym (c .before .before .before .before .before .before .enum-told .given .1) ∙ c .before .before .before .before .before .before .before .before .layout-causes .ensures in
+    let s = layout-laid l (a .layout .now) (passed-none (layoutCauses l (a .layout .now)) e) in
     let f = fitting (a .size) (a .table .now) (a .pixels .now) (s .well) in
     (f .fewRows, f .fewColumns, f .fewPieces, s .whole)
 
@@ -86,13 +86,13 @@ returns-3 : tie.Need-returns-3
 returns-3 c =
     let a = c .before .before .before .before .before .before .before .before .before .before .before .before .before .before .args in
     let l : Lent = lentBy (a .size) (a .table .now) (a .pixels .now) in
-    let e : CauseAnswer.Passed ≡ firstCause (layoutCauses l (a .layout .now)) = sym (c .before .before .before .before .before .before .before .before .before .enum-told .given .1) ∙ c .before .before .before .before .before .before .before .before .before .before .before .layout-causes .ensures in
+    let e : DoneAnswer.Done ≡ firstCause (layoutCauses l (a .layout .now)) = sym (c .before .before .before .before .before .before .before .before .before .enum-told .given .1) ∙ c .before .before .before .before .before .before .before .before .before .before .before .layout-causes .ensures in
     let part = c .before .before .before .before .before .before .before .put-layout in
     let none : part .last .1 .1 .0 ≡ [] = nothing-left _ (part .kept .1 .1 .0) in
     let long : length (layoutText (jobOf l) (layoutOf (a .layout .now))) ≤ length (a .text .now) = rw (none, part .ensures (a .table .now) (a .pixels .now) .0) at (c .before .before .before .before .if1 .left) in
     let o : writeLayoutCall l (a .layout .now) (length (a .text .now)) ≡ given (layoutText (jobOf l) (layoutOf (a .layout .now))) =
     write-given l (a .layout .now) _ e long in (
-      rw (part .ensures (a .table .now) (a .pixels .now) .0) (sym (ap textAnswer o)),
+      rw (part .ensures (a .table .now) (a .pixels .now) .0) (sym (ap countAnswer o)),
       rw none at (c .before .before .put-layout2 .ensures (a .table .now) (a .pixels .now) .1) ∙ sets-filled (a .text .now) (layoutText (jobOf l) (layoutOf (a .layout .now))) long ∙ sym (ap (textAfter (a .text .now)) o),
     )
 
@@ -107,7 +107,7 @@ write-layout-spec =
     slice-relend-prefix-put-layout
     slice-aggregate-put-layout
     put-layout-requires
-    refusal-requires
+    plain-refusal-requires
     same-length
     returns-2
     put-layout-requires-2

@@ -13,7 +13,7 @@ use Rattle.model.specs.Buffer.{layoutOf}
 use Rattle.model.specs.Calls.{pairCauses, depthCall}
 use Rattle.text_laws.specs.Outcomes.{NoCause}
 use Rattle.text_laws.proofs.Outcomes.{unless-given}
-use Rattle.layout_places.proofs.Causes.{passed-none, refused-alone}
+use Rattle.text_laws.proofs.Causes.{passed-none, refused-alone}
 use Rattle.pair_measure.specs.Ready.{MeasureReady}
 use Rattle.pair_calls.proofs.Readies.{Measurable, measurable}
 use Rattle.pair_measure.proofs.Amounts.{ready-whole, placed-at}

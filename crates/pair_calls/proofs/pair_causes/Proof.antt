@@ -1,131 +1,32 @@
--- `pair_calls::pair_causes`: each return has the causes before it not there and its own there. Assumes nothing.
-use mathlib.Core.Bool.{true, false, not, _||_}
-use mathlib.Core.Path.{_≡_, sym, _∙_}
+-- `pair_calls::pair_causes` meets its contract: the pair's own cause is a reason for 9 beside the turns'. Assumes nothing.
+use mathlib.Core.Bool.{Bool, not, _||_}
+use mathlib.Core.List.{List, [], _∷_}
+use mathlib.Core.Path.{_≡_, sym, ap, _∙_}
 use borrow.Author.Needs.{needs}
-use borrow.Author.Tests.{not-true, not-false, eq-eqb, ne-eqb}
 use lib.Dec.{ltb, eqb}
-use lib.ListN.{length}
-use Rattle.model.specs.Refusal.{unless}
-use Rattle.model.specs.Lent.{Lent, lentBy, lentWell, jobOf}
-use Rattle.model.specs.Buffer.{layoutOf}
-use Rattle.model.specs.Calls.{someTurnWrong, someOutside, pairCauses}
-use Rattle.job_laws.proofs.Checked.{facts}
+use Rattle.model.specs.Answers.{doneAnswer}
+use Rattle.model.specs.Refusal.{Cause, cause, unless, noSuchPiece}
+use Rattle.model.specs.Lent.{Lent, lentBy, jobOf}
+use Rattle.model.specs.Calls.{someTurnWrong, jobCause, layoutLength, outsideCause, pairCauses}
+use Rattle.causes.proofs.Asked.{placed-asked}
+use Rattle.pair_calls.proofs.Readies.{or-four}
 use Rattle.pair_calls.proofs.pair_causes.Statement.{statement}
 use Rattle.pair_calls.proofs.pair_causes.Tie as tie
 
-check-job-requires : tie.Need-check-job-requires
-check-job-requires c κs = search needs
-
-refusal-requires : tie.Need-refusal-requires
-refusal-requires c κs = search needs
-
 returns : tie.Need-returns
-unfolding unless pairCauses
+unfolding pairCauses
 returns c =
-    let a = c .before .before .before .before .args in
+    let start : tie.Start = search in
+    let asked : tie.After-wrong-pair = search in
+    let a = start .args in
     let l : Lent = lentBy (a .size) (a .table .now) (a .pixels .now) in
-    let well : lentWell l ≡ false = sym (c .before .before .check-job .ensures) ∙ not-true _ (c .before .if1 .taken) in
-    rw (c .refusal .ensures, well, unless)
-
-refusal-requires-2 : tie.Need-refusal-requires-2
-refusal-requires-2 c κs = search needs
-
-returns-2 : tie.Need-returns-2
-unfolding unless pairCauses
-returns-2 c =
-    let a = c .before .before .before .before .before .before .args in
-    let l : Lent = lentBy (a .size) (a .table .now) (a .pixels .now) in
-    let well : lentWell l ≡ true = sym (c .before .before .before .before .check-job .ensures) ∙ not-false _ (c .before .before .before .if1 .left) in
-    let long : eqb (length (a .layout .now)) (l .size .count) ≡ false = ne-eqb _ _ (c .before .if2 .taken) in
-    rw (c .refusal2 .ensures, well, long, unless)
-
-some-turn-wrong-requires : tie.Need-some-turn-wrong-requires
-some-turn-wrong-requires c κs =
-    let a = c .before .before .before .before .before .args in
-    let l : Lent = lentBy (a .size) (a .table .now) (a .pixels .now) in
-    let well : lentWell l ≡ true = sym (c .before .before .before .check-job .ensures) ∙ not-false _ (c .before .before .if1 .left) in
-    (facts l well .entries, c .if2 .left)
-
-refusal-requires-3 : tie.Need-refusal-requires-3
-refusal-requires-3 c κs = search needs
-
-returns-3 : tie.Need-returns-3
-unfolding unless pairCauses
-returns-3 c =
-    let a = c .before .before .before .before .before .before .before .before .args in
-    let l : Lent = lentBy (a .size) (a .table .now) (a .pixels .now) in
-    let well : lentWell l ≡ true = sym (c .before .before .before .before .before .before .check-job .ensures) ∙ not-false _ (c .before .before .before .before .before .if1 .left) in
-    let long : eqb (length (a .layout .now)) (l .size .count) ≡ true = eq-eqb _ _ (c .before .before .before .if2 .left) in
-    let turns : someTurnWrong (jobOf l) (a .layout .now) ≡ true = sym (c .before .before .some-turn-wrong .ensures (a .pixels .now)) ∙ c .before .if3 .taken in
-    rw (c .refusal3 .ensures, well, long, turns, unless)
-
-wrong-pair-requires : tie.Need-wrong-pair-requires
-wrong-pair-requires c κs = search needs
-
-refusal-requires-4 : tie.Need-refusal-requires-4
-refusal-requires-4 c κs = search needs
-
-returns-4 : tie.Need-returns-4
-unfolding unless pairCauses
-returns-4 c =
-    let a = c .before .before .before .before .before .before .before .before .before .before .args in
-    let l : Lent = lentBy (a .size) (a .table .now) (a .pixels .now) in
-    let well : lentWell l ≡ true = sym (c .before .before .before .before .before .before .before .before .check-job .ensures) ∙ not-false _ (c .before .before .before .before .before .before .before .if1 .left) in
-    let long : eqb (length (a .layout .now)) (l .size .count) ≡ true = eq-eqb _ _ (c .before .before .before .before .before .if2 .left) in
-    let turns : someTurnWrong (jobOf l) (a .layout .now) ≡ false = sym (c .before .before .before .before .some-turn-wrong .ensures (a .pixels .now)) ∙ c .before .before .before .if3 .left in
-    let pair : ((not (ltb (a .i) (l .size .count)) || not (ltb (a .k) (l .size .count))) || eqb (a .i) (a .k)) ≡ true = sym (c .before .before .wrong-pair .ensures) ∙ c .before .if4 .taken in
-    rw (c .refusal4 .ensures, well, long, turns, pair, unless)
-
-some-outside-requires : tie.Need-some-outside-requires
-some-outside-requires c κs =
-    let a = c .before .before .before .before .before .before .before .before .before .args in
-    let l : Lent = lentBy (a .size) (a .table .now) (a .pixels .now) in
-    let well : lentWell l ≡ true = sym (c .before .before .before .before .before .before .before .check-job .ensures) ∙ not-false _ (c .before .before .before .before .before .before .if1 .left) in
-    (facts l well .entries, c .before .before .before .before .if2 .left)
-
-refusal-requires-5 : tie.Need-refusal-requires-5
-refusal-requires-5 c κs = search needs
-
-returns-5 : tie.Need-returns-5
-unfolding unless pairCauses
-returns-5 c =
-    let a = c .before .before .before .before .before .before .before .before .before .before .before .before .args in
-    let l : Lent = lentBy (a .size) (a .table .now) (a .pixels .now) in
-    let well : lentWell l ≡ true = sym (c .before .before .before .before .before .before .before .before .before .before .check-job .ensures) ∙ not-false _ (c .before .before .before .before .before .before .before .before .before .if1 .left) in
-    let long : eqb (length (a .layout .now)) (l .size .count) ≡ true = eq-eqb _ _ (c .before .before .before .before .before .before .before .if2 .left) in
-    let turns : someTurnWrong (jobOf l) (a .layout .now) ≡ false = sym (c .before .before .before .before .before .before .some-turn-wrong .ensures (a .pixels .now)) ∙ c .before .before .before .before .before .if3 .left in
-    let pair : ((not (ltb (a .i) (l .size .count)) || not (ltb (a .k) (l .size .count))) || eqb (a .i) (a .k)) ≡ false = sym (c .before .before .before .before .wrong-pair .ensures) ∙ c .before .before .before .if4 .left in
-    let out : someOutside (jobOf l) (layoutOf (a .layout .now)) ≡ true = sym (c .before .before .some-outside .ensures (a .pixels .now)) ∙ c .before .if5 .taken in
-    rw (c .refusal5 .ensures, well, long, turns, pair, out, unless)
-
-returns-6 : tie.Need-returns-6
-unfolding unless pairCauses
-returns-6 c =
-    let a = c .before .before .before .before .before .before .before .before .before .before .before .args in
-    let l : Lent = lentBy (a .size) (a .table .now) (a .pixels .now) in
-    let well : lentWell l ≡ true = sym (c .before .before .before .before .before .before .before .before .before .check-job .ensures) ∙ not-false _ (c .before .before .before .before .before .before .before .before .if1 .left) in
-    let long : eqb (length (a .layout .now)) (l .size .count) ≡ true = eq-eqb _ _ (c .before .before .before .before .before .before .if2 .left) in
-    let turns : someTurnWrong (jobOf l) (a .layout .now) ≡ false = sym (c .before .before .before .before .before .some-turn-wrong .ensures (a .pixels .now)) ∙ c .before .before .before .before .if3 .left in
-    let pair : ((not (ltb (a .i) (l .size .count)) || not (ltb (a .k) (l .size .count))) || eqb (a .i) (a .k)) ≡ false = sym (c .before .before .before .wrong-pair .ensures) ∙ c .before .before .if4 .left in
-    let out : someOutside (jobOf l) (layoutOf (a .layout .now)) ≡ false = sym (c .before .some-outside .ensures (a .pixels .now)) ∙ c .if5 .left in
-    rw (well, long, turns, pair, out, unless)
+    let es = a .layout .now in
+    let list : Bool → List Cause = λ b. jobCause l ∷ layoutLength l es ∷ cause noSuchPiece b ∷ outsideCause l es ∷ [] in
+    c .call-causes .ensures
+    ∙ ap doneAnswer
+    (placed-asked l es tt (asked .wrong-pair .result)
+    ∙ ap (λ b. unless (list (someTurnWrong (jobOf l) es || b)) tt) (asked .wrong-pair .ensures)
+    ∙ ap (λ b. unless (list b) tt) (or-four (someTurnWrong (jobOf l) es) (not (ltb (a .i) (l .size .count))) (not (ltb (a .k) (l .size .count))) (eqb (a .i) (a .k))))
 
 pub pair-causes-spec : {M : Type 1} → statement M
-pair-causes-spec =
-    tie.close
-    (tie.spec
-    check-job-requires
-    refusal-requires
-    returns
-    refusal-requires-2
-    returns-2
-    some-turn-wrong-requires
-    refusal-requires-3
-    returns-3
-    wrong-pair-requires
-    refusal-requires-4
-    returns-4
-    some-outside-requires
-    refusal-requires-5
-    returns-5
-    returns-6)
+pair-causes-spec = tie.close (tie.spec (search needs) (search needs) returns)

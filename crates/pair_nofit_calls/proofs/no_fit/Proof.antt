@@ -9,8 +9,9 @@ use mir.ValLaws.{toZ-ofZ}
 use Rattle.model.specs.Lent.{Lent, lentBy}
 use Rattle.model.specs.Calls.{LentStretch, noFitCall, runsAfter}
 use Rattle.text_laws.specs.Outcomes.{NoCause}
-use Rattle.layout_places.proofs.Causes.{passed-none}
-use Rattle.pair_nofit_calls.specs.Lines.{lentStretch, stretchCauses, lineOutcome, lineAfter, runsAnswer}
+use Rattle.text_laws.proofs.Causes.{passed-none}
+use Rattle.model.specs.Answers.{countAnswer}
+use Rattle.pair_nofit_calls.specs.Lines.{lentStretch, stretchCauses, lineOutcome, lineAfter}
 use Rattle.pair_nofit_calls.proofs.NoFits.{Called, first-ordered, second-ordered, line-called, refused-called}
 use Rattle.pair_nofit_calls.proofs.no_fit.Statement.{statement}
 use Rattle.pair_nofit_calls.proofs.no_fit.Tie as tie
@@ -28,8 +29,8 @@ put-line-requires : tie.Need-put-line-requires
 put-line-requires c κs =
     let a = c .before .before .before .before .before .args in
     let l : Lent = lentBy (a .size) (a .table .now) (a .pixels .now) in
-    let p : LentStretch = lentStretch (a .i) (a .first) (a .a .now) in
-    let q : LentStretch = lentStretch (a .k) (a .second) (a .b .now) in
+    let p : LentStretch = lentStretch (a .first .piece) (a .first .turn) (a .a .now) in
+    let q : LentStretch = lentStretch (a .second .piece) (a .second .turn) (a .b .now) in
     let none : NoCause (stretchCauses (a .direction) l p q) = passed-none _ (sym (c .before .enum-told .given .1) ∙ c .before .before .before .stretch-causes .ensures) in
     (first-ordered (a .direction) l p q none, second-ordered (a .direction) l p q none)
 
@@ -37,11 +38,11 @@ returns : tie.Need-returns
 returns c =
     let a = c .before .before .before .before .before .args in
     let l : Lent = lentBy (a .size) (a .table .now) (a .pixels .now) in
-    let p : LentStretch = lentStretch (a .i) (a .first) (a .a .now) in
-    let q : LentStretch = lentStretch (a .k) (a .second) (a .b .now) in
+    let p : LentStretch = lentStretch (a .first .piece) (a .first .turn) (a .a .now) in
+    let q : LentStretch = lentStretch (a .second .piece) (a .second .turn) (a .b .now) in
     let e : toZ w32 (ofZ w32 (a .offset)) ≡ a .offset = toZ-ofZ w32 (a .offset) (c .before .before .before .before .before .fits .offset) in
     let g = refused-called (a .direction) l p q (a .offset) (length (a .out .now)) _ (sym (c .before .refusal .given .1) ∙ c .before .before .before .stretch-causes .ensures) in
-    (ap runsAnswer (sym g), ap (runsAfter (a .out .now)) (sym g))
+    (ap countAnswer (sym g), ap (runsAfter (a .out .now)) (sym g))
 
 same-length : tie.Need-same-length
 same-length c = search needs
@@ -50,12 +51,12 @@ returns-2 : tie.Need-returns-2
 returns-2 c =
     let a = c .before .before .before .before .before .before .before .args in
     let l : Lent = lentBy (a .size) (a .table .now) (a .pixels .now) in
-    let p : LentStretch = lentStretch (a .i) (a .first) (a .a .now) in
-    let q : LentStretch = lentStretch (a .k) (a .second) (a .b .now) in
+    let p : LentStretch = lentStretch (a .first .piece) (a .first .turn) (a .a .now) in
+    let q : LentStretch = lentStretch (a .second .piece) (a .second .turn) (a .b .now) in
     let none : NoCause (stretchCauses (a .direction) l p q) = passed-none _ (sym (c .before .before .before .enum-told .given .1) ∙ c .before .before .before .before .before .stretch-causes .ensures) in
     let e : toZ w32 (ofZ w32 (a .offset)) ≡ a .offset = toZ-ofZ w32 (a .offset) (c .before .before .before .before .before .before .before .fits .offset) in
     let w = line-called (a .direction) l p q none (a .offset) (a .out .now) in (
-      c .before .put-line .ensures .0 ∙ ap (λ (z : ℤ). runsAnswer (lineOutcome (a .a .now) (a .b .now) z (length (a .out .now)))) e ∙ w .answer,
+      c .before .put-line .ensures .0 ∙ ap (λ (z : ℤ). countAnswer (lineOutcome (a .a .now) (a .b .now) z (length (a .out .now)))) e ∙ w .answer,
       c .before .put-line .ensures .1 ∙ ap (λ (z : ℤ). lineAfter (a .out .now) (lineOutcome (a .a .now) (a .b .now) z (length (a .out .now)))) e ∙ w .memory,
     )
 

@@ -12,7 +12,8 @@ use Rattle.model.specs.declared.Direction.the-variants.{Horizontal}
 use mathlib.Core.List.{List}
 use Rattle.model.specs.Overlap.{OffsetRun}
 use Rattle.model.specs.Refusal.{Outcome}
-use Rattle.pair_nofit_calls.specs.Lines.{lentStretch, runsAnswer}
+use Rattle.model.specs.Answers.{countAnswer}
+use Rattle.pair_nofit_calls.specs.Lines.{lentStretch}
 use Rattle.pair_nofit_calls.proofs.no_fit_row.Statement.{statement}
 use Rattle.pair_nofit_calls.proofs.no_fit_row.Tie as tie
 
@@ -26,12 +27,12 @@ returns : tie.Need-returns
 returns c =
     let a = c .before .before .before .before .before .args in
     let l : Lent = lentBy (a .size) (a .table .now) (a .pixels .now) in
-    let p : LentStretch = lentStretch (a .i) (a .first) (a .a .now) in
-    let q : LentStretch = lentStretch (a .k) (a .second) (a .b .now) in
+    let p : LentStretch = lentStretch (a .first .piece) (a .first .turn) (a .a .now) in
+    let q : LentStretch = lentStretch (a .second .piece) (a .second .turn) (a .b .now) in
     let o = a .offset .0 in
     let e : toZ w32 (ofZ w32 o) ≡ o = toZ-ofZ w32 o (record { sfits = c .before .before .struct-told .given .0 .1 }) in
     let call : ℤ → Outcome (List OffsetRun) = λ z. noFitCall Horizontal l p q z (length (a .out .now)) in
-    (c .before .no-fit .ensures .0 ∙ ap (λ (z : ℤ). runsAnswer (call z)) e, c .before .no-fit .ensures .1 ∙ ap (λ (z : ℤ). runsAfter (a .out .now) (call z)) e)
+    (c .before .no-fit .ensures .0 ∙ ap (λ (z : ℤ). countAnswer (call z)) e, c .before .no-fit .ensures .1 ∙ ap (λ (z : ℤ). runsAfter (a .out .now) (call z)) e)
 
 pub no-fit-row-spec : {M : Type 1} → statement M
 no-fit-row-spec = tie.close (tie.spec no-fit-requires same-length returns)

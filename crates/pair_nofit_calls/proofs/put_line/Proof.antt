@@ -37,8 +37,8 @@ slice-aggregate-put-runs-2 c = search needs
 put-runs-requires : tie.Need-put-runs-requires
 put-runs-requires c κs = search needs
 
-refusal-requires : tie.Need-refusal-requires
-refusal-requires c κs = search needs
+plain-refusal-requires : tie.Need-plain-refusal-requires
+plain-refusal-requires c κs = search needs
 
 same-length : tie.Need-same-length
 same-length c = search needs
@@ -48,7 +48,7 @@ returns c =
     let s = c .before .before .before .before .before .before .before .before .before .before .before .args in
     let e : toZ w32 (ofZ w32 (s .offset)) ≡ s .offset = toZ-ofZ w32 (s .offset) (c .before .before .before .before .before .before .before .before .before .before .before .fits .offset) in
     line-short (s .a .now) (s .b .now) (s .offset) _ (marks-line (s .a .now) (s .b .now) (s .offset) _ _ _ _ (c .before .before .before .before .before .before .before .before .before .before .down .ensures ∙ ap (λ (z : ℤ). min (down z) 255) e) (c .before .before .before .before .before .before .before .before .before .up .ensures ∙ ap (λ (z : ℤ). min (up z) 255) e) (length-replicate {A = ℕ} 509 0) (c .before .before .before .before .before .before .before .mark-shifts .ensures)) (s .out .now) (c .before .before .before .put-runs .last .1 .0) (c .before .before .before .put-runs .result) (c .before .before .before .put-runs .ensures)
-    (c .before .if1 .taken) (c .refusal .result) (c .refusal .ensures)
+    (c .before .if1 .taken) (c .plain-refusal .result) (c .plain-refusal .ensures)
 
 slice-aggregate-put-runs-3 : tie.Need-slice-aggregate-put-runs-3
 slice-aggregate-put-runs-3 c = search needs
@@ -78,7 +78,7 @@ put-line-spec =
     slice-relend-prefix-put-runs
     slice-aggregate-put-runs-2
     put-runs-requires
-    refusal-requires
+    plain-refusal-requires
     same-length
     returns
     slice-aggregate-put-runs-3

@@ -1,165 +1,177 @@
--- `pair_nofit_calls::stretch_causes`: each return has the causes before it not there and its own there. Assumes nothing.
-use mathlib.Core.Bool.{true, false}
-use mathlib.Core.Path.{_≡_, sym, _∙_}
+-- `pair_nofit_calls::stretch_causes` meets its contract: at each place the causes before it are not there, so that its own decides.
+-- Assumes nothing.
+use mathlib.Core.Bool.{Bool, true, false, not, _&&_}
+use mathlib.Core.Path.{_≡_, sym, ap, ap₂, _∙_}
 use native.Mathlib.Omega.{arith}
 use borrow.Author.Needs.{needs}
 use borrow.Author.Tests.{not-true, not-false}
-use Rattle.model.specs.Refusal.{unless}
 use Rattle.model.specs.Lent.{Lent, lentBy, lentWell, jobOf}
 use Rattle.model.specs.Calls.{LentStretch, known, stretchWell}
 use Rattle.job_laws.proofs.Checked.{facts, entry-at}
+use Rattle.text_laws.proofs.Causes.{there, next, no-more}
 use Rattle.pair_nofit_calls.specs.Lines.{lentStretch, stretchCauses}
 use Rattle.pair_nofit_calls.proofs.Owning.{known-below}
 use Rattle.pair_nofit_calls.proofs.stretch_causes.Statement.{statement}
 use Rattle.pair_nofit_calls.proofs.stretch_causes.Tie as tie
 
-check-job-requires : tie.Need-check-job-requires
-check-job-requires c κs = search needs
+-- the lent job
+abbrev lent : tie.Start → Lent
+lent s = lentBy (s .args .size) (s .args .table .now) (s .args .pixels .now)
 
-refusal-requires : tie.Need-refusal-requires
-refusal-requires c κs = search needs
+-- the two stretches
+abbrev one : tie.Start → LentStretch
+one s = lentStretch (s .args .first .piece) (s .args .first .turn) (s .args .a .now)
+
+abbrev two : tie.Start → LentStretch
+two s = lentStretch (s .args .second .piece) (s .args .second .turn) (s .args .b .now)
+
+-- the call begins here
+abbrev start : tie.After-check-job → tie.Start
+start p = search
+
+-- the job passes its check
+well : (p : tie.Else1) → lentWell (lent (start (p .before))) ≡ true
+well p = let checked : tie.After-check-job = search in sym (checked .check-job .ensures) ∙ not-false _ (p .if1 .left)
+
+-- the first piece is known
+first-known : (p : tie.Else2) → let checked : tie.After-check-job = search in known (jobOf (lent (start checked))) (one (start checked)) ≡ true
+unfolding known jobOf
+first-known p =
+    let s : tie.Start = search in
+    let asked : tie.After-known = search in
+    sym (asked .known .ensures (s .args .pixels .now)) ∙ not-false _ (p .if2 .left)
+
+-- so is the second
+second-known : (p : tie.Else3) → let checked : tie.After-check-job = search in known (jobOf (lent (start checked))) (two (start checked)) ≡ true
+unfolding known jobOf
+second-known p =
+    let s : tie.Start = search in
+    let asked : tie.After-known2 = search in
+    sym (asked .known2 .ensures (s .args .pixels .now)) ∙ not-false _ (p .if3 .left)
+
+-- the first stretch is its piece's
+first-own : (p : tie.Else4) → let checked : tie.After-check-job = search in
+    stretchWell (start checked .args .direction) (jobOf (lent (start checked))) (one (start checked)) ≡ true
+first-own p =
+    let s : tie.Start = search in
+    let asked : tie.After-is-own = search in
+    sym (asked .is-own .ensures (s .args .size)) ∙ not-false _ (p .if4 .left)
+
+-- a test that the first of two fails, that the second fails, and that both pass
+first-fails : {a : Bool} (b : Bool) → a ≡ false → not (a && b) ≡ true
+first-fails b e = ap (λ x. not (x && b)) e
+
+second-fails : {a b : Bool} → a ≡ true → b ≡ false → not (a && b) ≡ true
+second-fails e f = ap₂ (λ x y. not (x && y)) e f
+
+both-pass : {a b : Bool} → a ≡ true → b ≡ true → not (a && b) ≡ false
+both-pass e f = ap₂ (λ x y. not (x && y)) e f
 
 returns : tie.Need-returns
-unfolding unless stretchCauses
+unfolding stretchCauses
 returns c =
-    let a = c .before .before .before .before .args in
-    let l : Lent = lentBy (a .size) (a .table .now) (a .pixels .now) in
-    let p : LentStretch = lentStretch (a .i) (a .first) (a .a .now) in
-    let q : LentStretch = lentStretch (a .k) (a .second) (a .b .now) in
-    let well : lentWell l ≡ false = sym (c .before .before .check-job .ensures) ∙ not-true _ (c .before .if1 .taken) in
-    rw (c .refusal .ensures, well, unless)
-
-is-known-requires : tie.Need-is-known-requires
-is-known-requires c κs =
-    let a = c .before .before .before .args in
-    let l : Lent = lentBy (a .size) (a .table .now) (a .pixels .now) in
-    let p : LentStretch = lentStretch (a .i) (a .first) (a .a .now) in
-    let q : LentStretch = lentStretch (a .k) (a .second) (a .b .now) in
-    let well : lentWell l ≡ true = sym (c .before .check-job .ensures) ∙ not-false _ (c .if1 .left) in
-    facts l well .entries
-
-refusal-requires-2 : tie.Need-refusal-requires-2
-refusal-requires-2 c κs = search needs
+    let checked : tie.After-check-job = search in
+    let ours : tie.Then1 = search in
+    c .refused .ensures ∙ there 8 _ _ (ap not (sym (checked .check-job .ensures) ∙ not-true _ (ours .if1 .taken)))
 
 returns-2 : tie.Need-returns-2
-unfolding unless stretchCauses
+unfolding stretchCauses known jobOf
 returns-2 c =
-    let a = c .before .before .before .before .before .before .args in
-    let l : Lent = lentBy (a .size) (a .table .now) (a .pixels .now) in
-    let p : LentStretch = lentStretch (a .i) (a .first) (a .a .now) in
-    let q : LentStretch = lentStretch (a .k) (a .second) (a .b .now) in
-    let well : lentWell l ≡ true = sym (c .before .before .before .before .check-job .ensures) ∙ not-false _ (c .before .before .before .if1 .left) in
-    let one : known (jobOf l) p ≡ false = sym (c .before .before .is-known .ensures (a .pixels .now) (a .a .now)) ∙ not-true _ (c .before .if2 .taken) in
-    rw (c .refusal2 .ensures, well, one, unless)
-
-is-known-requires-2 : tie.Need-is-known-requires-2
-is-known-requires-2 c κs =
-    let a = c .before .before .before .before .before .args in
-    let l : Lent = lentBy (a .size) (a .table .now) (a .pixels .now) in
-    let p : LentStretch = lentStretch (a .i) (a .first) (a .a .now) in
-    let q : LentStretch = lentStretch (a .k) (a .second) (a .b .now) in
-    let well : lentWell l ≡ true = sym (c .before .before .before .check-job .ensures) ∙ not-false _ (c .before .before .if1 .left) in
-    facts l well .entries
-
-refusal-requires-3 : tie.Need-refusal-requires-3
-refusal-requires-3 c κs = search needs
+    let s : tie.Start = search in
+    let first : tie.Else1 = search in
+    let asked : tie.After-known = search in
+    let ours : tie.Then2 = search in
+    c .refused2 .ensures
+    ∙ next 8 _ _ (ap not (well first))
+    (there 9 _ _ (first-fails (known (jobOf (lent s)) (two s)) (sym (asked .known .ensures (s .args .pixels .now)) ∙ not-true _ (ours .if2 .taken))))
 
 returns-3 : tie.Need-returns-3
-unfolding unless stretchCauses
+unfolding stretchCauses known jobOf
 returns-3 c =
-    let a = c .before .before .before .before .before .before .before .before .args in
-    let l : Lent = lentBy (a .size) (a .table .now) (a .pixels .now) in
-    let p : LentStretch = lentStretch (a .i) (a .first) (a .a .now) in
-    let q : LentStretch = lentStretch (a .k) (a .second) (a .b .now) in
-    let well : lentWell l ≡ true = sym (c .before .before .before .before .before .before .check-job .ensures) ∙ not-false _ (c .before .before .before .before .before .if1 .left) in
-    let one : known (jobOf l) p ≡ true = sym (c .before .before .before .before .is-known .ensures (a .pixels .now) (a .a .now)) ∙ not-false _ (c .before .before .before .if2 .left) in
-    let two : known (jobOf l) q ≡ false = sym (c .before .before .is-known2 .ensures (a .pixels .now) (a .b .now)) ∙ not-true _ (c .before .if3 .taken) in
-    rw (c .refusal3 .ensures, well, one, two, unless)
+    let s : tie.Start = search in
+    let first : tie.Else1 = search in
+    let second : tie.Else2 = search in
+    let asked : tie.After-known2 = search in
+    let ours : tie.Then3 = search in
+    c .refused3 .ensures
+    ∙ next 8 _ _ (ap not (well first))
+    (there 9 _ _ (second-fails (first-known second) (sym (asked .known2 .ensures (s .args .pixels .now)) ∙ not-true _ (ours .if3 .taken))))
 
 is-own-requires : tie.Need-is-own-requires
 is-own-requires c κs =
-    let a = c .before .before .before .before .before .before .before .args in
-    let l : Lent = lentBy (a .size) (a .table .now) (a .pixels .now) in
-    let p : LentStretch = lentStretch (a .i) (a .first) (a .a .now) in
-    let q : LentStretch = lentStretch (a .k) (a .second) (a .b .now) in
-    let well : lentWell l ≡ true = sym (c .before .before .before .before .before .check-job .ensures) ∙ not-false _ (c .before .before .before .before .if1 .left) in
-    let one : known (jobOf l) p ≡ true = sym (c .before .before .before .is-known .ensures (a .pixels .now) (a .a .now)) ∙ not-false _ (c .before .before .if2 .left) in
-    (entry-at l (a .i) well (known-below l p one), omega (arith, facts l well .fewPieces, known-below l p one))
-
-refusal-requires-4 : tie.Need-refusal-requires-4
-refusal-requires-4 c κs = search needs
+    let s : tie.Start = search in
+    let first : tie.Else1 = search in
+    let second : tie.Else2 = search in
+    let below = known-below (lent s) (one s) (first-known second) in
+    (entry-at (lent s) (s .args .first .piece) (well first) below, omega (arith, facts (lent s) (well first) .fewPieces, below))
 
 returns-4 : tie.Need-returns-4
-unfolding unless stretchCauses
+unfolding stretchCauses
 returns-4 c =
-    let a = c .before .before .before .before .before .before .before .before .before .before .args in
-    let l : Lent = lentBy (a .size) (a .table .now) (a .pixels .now) in
-    let p : LentStretch = lentStretch (a .i) (a .first) (a .a .now) in
-    let q : LentStretch = lentStretch (a .k) (a .second) (a .b .now) in
-    let well : lentWell l ≡ true = sym (c .before .before .before .before .before .before .before .before .check-job .ensures) ∙ not-false _ (c .before .before .before .before .before .before .before .if1 .left) in
-    let one : known (jobOf l) p ≡ true = sym (c .before .before .before .before .before .before .is-known .ensures (a .pixels .now) (a .a .now)) ∙ not-false _ (c .before .before .before .before .before .if2 .left) in
-    let two : known (jobOf l) q ≡ true = sym (c .before .before .before .before .is-known2 .ensures (a .pixels .now) (a .b .now)) ∙ not-false _ (c .before .before .before .if3 .left) in
-    let mine : stretchWell (a .direction) (jobOf l) p ≡ false = sym (c .before .before .is-own .ensures (a .size)) ∙ not-true _ (c .before .if4 .taken) in
-    rw (c .refusal4 .ensures, well, one, two, mine, unless)
+    let s : tie.Start = search in
+    let first : tie.Else1 = search in
+    let second : tie.Else2 = search in
+    let third : tie.Else3 = search in
+    let asked : tie.After-is-own = search in
+    let ours : tie.Then4 = search in
+    c .refused4 .ensures
+    ∙ next 8 _ _ (ap not (well first))
+    (next 9 _ _ (both-pass (first-known second) (second-known third))
+    (there 8 _ _ (first-fails (stretchWell (s .args .direction) (jobOf (lent s)) (two s)) (sym (asked .is-own .ensures (s .args .size)) ∙ not-true _ (ours .if4 .taken)))))
 
 is-own-requires-2 : tie.Need-is-own-requires-2
 is-own-requires-2 c κs =
-    let a = c .before .before .before .before .before .before .before .before .before .args in
-    let l : Lent = lentBy (a .size) (a .table .now) (a .pixels .now) in
-    let p : LentStretch = lentStretch (a .i) (a .first) (a .a .now) in
-    let q : LentStretch = lentStretch (a .k) (a .second) (a .b .now) in
-    let well : lentWell l ≡ true = sym (c .before .before .before .before .before .before .before .check-job .ensures) ∙ not-false _ (c .before .before .before .before .before .before .if1 .left) in
-    let two : known (jobOf l) q ≡ true = sym (c .before .before .before .is-known2 .ensures (a .pixels .now) (a .b .now)) ∙ not-false _ (c .before .before .if3 .left) in
-    (entry-at l (a .k) well (known-below l q two), omega (arith, facts l well .fewPieces, known-below l q two))
-
-refusal-requires-5 : tie.Need-refusal-requires-5
-refusal-requires-5 c κs = search needs
+    let s : tie.Start = search in
+    let first : tie.Else1 = search in
+    let third : tie.Else3 = search in
+    let below = known-below (lent s) (two s) (second-known third) in
+    (entry-at (lent s) (s .args .second .piece) (well first) below, omega (arith, facts (lent s) (well first) .fewPieces, below))
 
 returns-5 : tie.Need-returns-5
-unfolding unless stretchCauses
+unfolding stretchCauses
 returns-5 c =
-    let a = c .before .before .before .before .before .before .before .before .before .before .before .before .args in
-    let l : Lent = lentBy (a .size) (a .table .now) (a .pixels .now) in
-    let p : LentStretch = lentStretch (a .i) (a .first) (a .a .now) in
-    let q : LentStretch = lentStretch (a .k) (a .second) (a .b .now) in
-    let well : lentWell l ≡ true = sym (c .before .before .before .before .before .before .before .before .before .before .check-job .ensures) ∙ not-false _ (c .before .before .before .before .before .before .before .before .before .if1 .left) in
-    let one : known (jobOf l) p ≡ true = sym (c .before .before .before .before .before .before .before .before .is-known .ensures (a .pixels .now) (a .a .now)) ∙ not-false _ (c .before .before .before .before .before .before .before .if2 .left) in
-    let two : known (jobOf l) q ≡ true = sym (c .before .before .before .before .before .before .is-known2 .ensures (a .pixels .now) (a .b .now)) ∙ not-false _ (c .before .before .before .before .before .if3 .left) in
-    let mine : stretchWell (a .direction) (jobOf l) p ≡ true = sym (c .before .before .before .before .is-own .ensures (a .size)) ∙ not-false _ (c .before .before .before .if4 .left) in
-    let yours : stretchWell (a .direction) (jobOf l) q ≡ false = sym (c .before .before .is-own2 .ensures (a .size)) ∙ not-true _ (c .before .if5 .taken) in
-    rw (c .refusal5 .ensures, well, one, two, mine, yours, unless)
+    let s : tie.Start = search in
+    let first : tie.Else1 = search in
+    let second : tie.Else2 = search in
+    let third : tie.Else3 = search in
+    let fourth : tie.Else4 = search in
+    let asked : tie.After-is-own2 = search in
+    let ours : tie.Then5 = search in
+    c .refused5 .ensures
+    ∙ next 8 _ _ (ap not (well first))
+    (next 9 _ _ (both-pass (first-known second) (second-known third))
+    (there 8 _ _ (second-fails (first-own fourth) (sym (asked .is-own2 .ensures (s .args .size)) ∙ not-true _ (ours .if5 .taken)))))
 
 returns-6 : tie.Need-returns-6
-unfolding unless stretchCauses
+unfolding stretchCauses
 returns-6 c =
-    let a = c .before .before .before .before .before .before .before .before .before .before .before .args in
-    let l : Lent = lentBy (a .size) (a .table .now) (a .pixels .now) in
-    let p : LentStretch = lentStretch (a .i) (a .first) (a .a .now) in
-    let q : LentStretch = lentStretch (a .k) (a .second) (a .b .now) in
-    let well : lentWell l ≡ true = sym (c .before .before .before .before .before .before .before .before .before .check-job .ensures) ∙ not-false _ (c .before .before .before .before .before .before .before .before .if1 .left) in
-    let one : known (jobOf l) p ≡ true = sym (c .before .before .before .before .before .before .before .is-known .ensures (a .pixels .now) (a .a .now)) ∙ not-false _ (c .before .before .before .before .before .before .if2 .left) in
-    let two : known (jobOf l) q ≡ true = sym (c .before .before .before .before .before .is-known2 .ensures (a .pixels .now) (a .b .now)) ∙ not-false _ (c .before .before .before .before .if3 .left) in
-    let mine : stretchWell (a .direction) (jobOf l) p ≡ true = sym (c .before .before .before .is-own .ensures (a .size)) ∙ not-false _ (c .before .before .if4 .left) in
-    let yours : stretchWell (a .direction) (jobOf l) q ≡ true = sym (c .before .is-own2 .ensures (a .size)) ∙ not-false _ (c .if5 .left) in
-    rw (well, one, two, mine, yours, unless)
+    let s : tie.Start = search in
+    let first : tie.Else1 = search in
+    let second : tie.Else2 = search in
+    let third : tie.Else3 = search in
+    let fourth : tie.Else4 = search in
+    let asked : tie.After-is-own2 = search in
+    next 8 _ _ (ap not (well first))
+    (next 9 _ _ (both-pass (first-known second) (second-known third))
+    (next 8 _ _ (both-pass (first-own fourth) (sym (asked .is-own2 .ensures (s .args .size)) ∙ not-false _ (c .if5 .left))) no-more))
 
 pub stretch-causes-spec : {M : Type 1} → statement M
 stretch-causes-spec =
     tie.close
     (tie.spec
-    check-job-requires
-    refusal-requires
+    (search needs)
+    (search needs)
     returns
-    is-known-requires
-    refusal-requires-2
+    (search needs)
+    (search needs)
     returns-2
-    is-known-requires-2
-    refusal-requires-3
+    (search needs)
+    (search needs)
     returns-3
     is-own-requires
-    refusal-requires-4
+    (search needs)
     returns-4
     is-own-requires-2
-    refusal-requires-5
+    (search needs)
     returns-5
     returns-6)

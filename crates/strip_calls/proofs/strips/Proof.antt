@@ -7,9 +7,9 @@ use Rattle.model.specs.Lent.{Lent, lentBy, lentWell, jobOf}
 use Rattle.model.specs.Calls.{Stores, turnListWrong, storesAfter}
 use Rattle.job_laws.proofs.Checked.{facts}
 use Rattle.strip_store.specs.Made.{StoreReady}
-use Rattle.strip_calls.specs.Stores.{storesBy, stripsAnswer}
+use Rattle.model.specs.Answers.{doneAnswer}
+use Rattle.strip_calls.specs.Stores.{storesBy}
 use Rattle.strip_calls.specs.Rooms.{roomForBoth, hasRoom}
-use Rattle.strip_calls.specs.declared.StripsAnswer.the-variants.{Refused}
 use Rattle.strip_store.proofs.Filling.{made-ready}
 use Rattle.strip_calls.proofs.Outcomes.{strips-job, strips-turns, strips-short, strips-given}
 use borrow.Author.Needs.{needs}
@@ -27,14 +27,14 @@ lent s = storesBy (s .args .row-strips .now) (s .args .row-starts .now) (s .args
 check-job-requires : tie.Need-check-job-requires
 check-job-requires c κs = search needs
 
-refusal-requires : tie.Need-refusal-requires
-refusal-requires c κs = search needs
+refused-requires : tie.Need-refused-requires
+refused-requires c κs = search needs
 
 returns : tie.Need-returns
 returns c =
     let s = c .before .before .before .before .before .before .before in
     let out = strips-job (job s) (s .args .turns .now) (lent s) (sym (c .before .before .check-job .ensures) ∙ not-true _ (c .before .if1 .taken)) in
-    (ap Refused (c .refusal .ensures) ∙ ap stripsAnswer (sym out), ap (storesAfter (lent s)) (sym out))
+    (c .refused .ensures ∙ ap doneAnswer (sym out), ap (storesAfter (lent s)) (sym out))
 
 -- the job passes its check
 well : (c : tie.Else1) → lentWell (job (c .before .before .before .before .before .before)) ≡ true
@@ -43,14 +43,14 @@ well c = sym (c .before .check-job .ensures) ∙ not-false _ (c .if1 .left)
 wrong-requires : tie.Need-wrong-requires
 wrong-requires c κs = facts (job (c .before .before .before .before .before .before)) (well c) .entries
 
-refusal-requires-2 : tie.Need-refusal-requires-2
-refusal-requires-2 c κs = search needs
+refused-requires-2 : tie.Need-refused-requires-2
+refused-requires-2 c κs = search needs
 
 returns-2 : tie.Need-returns-2
 returns-2 c =
     let s = c .before .before .before .before .before .before .before .before .before in
     let out = strips-turns (job s) (s .args .turns .now) (lent s) (well (c .before .before .before)) (sym (c .before .before .wrong .ensures (s .args .pixels .now)) ∙ c .before .if2 .taken) in
-    (ap Refused (c .refusal2 .ensures) ∙ ap stripsAnswer (sym out), ap (storesAfter (lent s)) (sym out))
+    (c .refused2 .ensures ∙ ap doneAnswer (sym out), ap (storesAfter (lent s)) (sym out))
 
 -- the turns are right
 right : (c : tie.Else2) → turnListWrong (jobOf (job (c .before .before .before .before .before .before .before .before))) (c .before .before .before .before .before .before .before .before .args .turns .now) ≡ false
@@ -69,8 +69,8 @@ room-for-requires-2 c κs = search needs
 both-have-room-requires : tie.Need-both-have-room-requires
 both-have-room-requires c κs = ready (c .before .before)
 
-refusal-requires-3 : tie.Need-refusal-requires-3
-refusal-requires-3 c κs = search needs
+refused-requires-3 : tie.Need-refused-requires-3
+refused-requires-3 c κs = search needs
 
 -- what is asked is whether the lent stores have room
 asked : (c : tie.After-both-have-room) → c .both-have-room .result ≡ hasRoom (jobOf (job (c .before .before .before .before .before .before .before .before .before .before .before))) (c .before .before .before .before .before .before .before .before .before .before .before .args .turns .now) (lent (c .before .before .before .before .before .before .before .before .before .before .before))
@@ -80,7 +80,7 @@ returns-3 : tie.Need-returns-3
 returns-3 c =
     let s = c .before .before .before .before .before .before .before .before .before .before .before .before .before in
     let out = strips-short (job s) (s .args .turns .now) (lent s) (well (c .before .before .before .before .before .before .before)) (right (c .before .before .before .before .before)) (sym (asked (c .before .before)) ∙ not-true _ (c .before .if3 .taken)) in
-    (ap Refused (c .refusal3 .ensures) ∙ ap stripsAnswer (sym out), ap (storesAfter (lent s)) (sym out))
+    (c .refused3 .ensures ∙ ap doneAnswer (sym out), ap (storesAfter (lent s)) (sym out))
 
 -- both stores have room
 room : (c : tie.Else3) → hasRoom (jobOf (job (c .before .before .before .before .before .before .before .before .before .before .before .before))) (c .before .before .before .before .before .before .before .before .before .before .before .before .args .turns .now) (lent (c .before .before .before .before .before .before .before .before .before .before .before .before)) ≡ true
@@ -105,22 +105,22 @@ returns-4 : tie.Need-returns-4
 returns-4 c =
     let s = c .before .before .before .before .before .before .before .before .before .before .before .before .before .before .before .before .before .before .before .before .before .before .before in
     let out = strips-given (job s) (s .args .turns .now) (lent s) (well (c .before .before .before .before .before .before .before .before .before .before .before .before .before .before .before .before .before)) (right (c .before .before .before .before .before .before .before .before .before .before .before .before .before .before .before)) (room (c .before .before .before .before .before .before .before .before .before .before .before)) in
-    (ap stripsAnswer (sym out), c .before .before .before .before .before .before .fill-both .ensures ∙ ap (storesAfter (lent s)) (sym out))
+    (ap doneAnswer (sym out), c .before .before .before .before .before .before .fill-both .ensures ∙ ap (storesAfter (lent s)) (sym out))
 
 pub strips-spec : {M : Type 1} → statement M
 strips-spec =
     tie.close
     (tie.spec
     check-job-requires
-    refusal-requires
+    refused-requires
     returns
     wrong-requires
-    refusal-requires-2
+    refused-requires-2
     returns-2
     room-for-requires
     room-for-requires-2
     both-have-room-requires
-    refusal-requires-3
+    refused-requires-3
     returns-3
     fill-both-requires
     same-length

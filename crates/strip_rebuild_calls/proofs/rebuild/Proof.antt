@@ -10,7 +10,7 @@ use lib.ListN.{length}
 use Rattle.model.specs.Lent.{upTo}
 use Rattle.model.specs.Piece.{sideBound}
 use Rattle.model.specs.Calls.{stripsWell, pixelsAfter}
-use Rattle.strip_rebuild_calls.specs.Answer.{rebuildAnswer}
+use Rattle.model.specs.Answers.{doneAnswer}
 use Rattle.strip_rebuild_calls.proofs.Again.{after-again}
 use Rattle.strip_rebuild_calls.proofs.Outcomes.{side-range, refused-columns, refused-rows, refused-strips, refused-room, given-set}
 use borrow.Author.Needs.{needs}
@@ -28,7 +28,7 @@ returns c =
     let a = c .before .before .before .before .args in
     let out = refused-columns (a .direction) (a .columns) (a .rows) (a .strips .now) (length (a .pixels .now)) (sym (c .before .before .side-in-range .ensures) ∙ not-true _ (c .before .if1 .taken)) in
     let left = ap (pixelsAfter (a .pixels .now)) (sym out) in
-    (c .refused .ensures ∙ ap rebuildAnswer (sym out), (left, after-again _ _ _ _ _ _ left))
+    (c .refused .ensures ∙ ap doneAnswer (sym out), (left, after-again _ _ _ _ _ _ left))
 
 side-in-range-requires-2 : tie.Need-side-in-range-requires-2
 side-in-range-requires-2 c κs = search needs
@@ -41,7 +41,7 @@ returns-2 c =
     let a = c .before .before .before .before .before .before .args in
     let out = refused-rows (a .direction) (a .columns) (a .rows) (a .strips .now) (length (a .pixels .now)) (sym (c .before .before .side-in-range2 .ensures) ∙ not-true _ (c .before .if2 .taken)) in
     let left = ap (pixelsAfter (a .pixels .now)) (sym out) in
-    (c .refused2 .ensures ∙ ap rebuildAnswer (sym out), (left, after-again _ _ _ _ _ _ left))
+    (c .refused2 .ensures ∙ ap doneAnswer (sym out), (left, after-again _ _ _ _ _ _ left))
 
 -- both sides are in range
 sides : (c : tie.Else2)
@@ -63,7 +63,7 @@ returns-3 c =
     let a = c .before .before .before .before .before .before .before .before .args in
     let out = refused-strips (a .direction) (a .columns) (a .rows) (a .strips .now) (length (a .pixels .now)) (sides (c .before .before .before) .0) (sides (c .before .before .before) .1) (sym (c .before .before .strips-well .ensures) ∙ not-true _ (c .before .if3 .taken)) in
     let left = ap (pixelsAfter (a .pixels .now)) (sym out) in
-    (c .refused3 .ensures ∙ ap rebuildAnswer (sym out), (left, after-again _ _ _ _ _ _ left))
+    (c .refused3 .ensures ∙ ap doneAnswer (sym out), (left, after-again _ _ _ _ _ _ left))
 
 -- some piece of the box has just these strips
 well : (c : tie.Else3)
@@ -87,7 +87,7 @@ returns-4 c =
     let a = c .before .before .before .before .before .before .before .before .before .args in
     let out = refused-room (a .direction) (a .columns) (a .rows) (a .strips .now) (length (a .pixels .now)) (sides (c .before .before .before .before) .0) (sides (c .before .before .before .before) .1) (well (c .before .before)) (c .before .if4 .taken) in
     let left = ap (pixelsAfter (a .pixels .now)) (sym out) in
-    (c .refused4 .ensures ∙ ap rebuildAnswer (sym out), (left, after-again _ _ _ _ _ _ left))
+    (c .refused4 .ensures ∙ ap doneAnswer (sym out), (left, after-again _ _ _ _ _ _ left))
 
 write-requires : tie.Need-write-requires
 write-requires c κs =
@@ -111,7 +111,7 @@ returns-5 c =
     let s = sides (c .before .before .before .before .before .before .before) in
     let out = given-set (a .direction) (a .columns) (a .rows) (a .strips .now) (length (a .pixels .now)) (s .0) (s .1) (well (c .before .before .before .before .before)) (c .before .before .before .before .if4 .left) in
     let left = c .before .before .write .ensures ∙ ap (pixelsAfter (a .pixels .now)) (sym out) in
-    (ap rebuildAnswer (sym out), (left, after-again _ _ _ _ _ _ left))
+    (ap doneAnswer (sym out), (left, after-again _ _ _ _ _ _ left))
 
 pub rebuild-spec : {M : Type 1} → statement M
 rebuild-spec =

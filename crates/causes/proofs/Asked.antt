@@ -1,0 +1,49 @@
+-- Causes that are not there drop out of a call's list, and where the job is refused for its numbers nothing behind it is asked: so what
+-- is asked here comes to what document 01 lists for each call. Assumes nothing.
+use mathlib.Core.Bool.{Bool, true, false, not, _||_}
+use mathlib.Core.List.{List, [], _∷_}
+use mathlib.Core.Path.{_≡_, refl, sym, ap, _∙_}
+use Prim.Native.Nat.{ℕ, _≤_}
+use lib.Dec.{eqb}
+use lib.ListN.{length}
+use Rattle.model.specs.Layout.{pairs}
+use Rattle.model.specs.Refusal.{Cause, cause, unless, outOfRange, wrongLength, notOurs, noSuchPiece}
+use Rattle.model.specs.Lent.{Lent, jobOf, lentWell, pieceBound}
+use Rattle.model.specs.Calls.{someTurnWrong, jobCause, layoutLength, weightsLength, outsideCause, layoutCauses}
+use Rattle.job_laws.proofs.Checked.{facts}
+use Rattle.text_laws.proofs.Causes.{here-refused, not-there, behind}
+use Rattle.causes.specs.Asked.{placeCauses, callCauses}
+
+-- a test or nothing
+pub or-nothing : (b : Bool) → (b || false) ≡ b
+or-nothing true = refl
+or-nothing false = refl
+
+module _ {A : Type 0} (l : Lent) (es : List (List ℕ)) (a : A) where
+  -- a call whose own length and number are right asks 8, 7, 9, 10
+  pub placed-asked : (piece : Bool)
+      → unless (callCauses l es (record { length = false; number = false; piece = piece })) a
+      ≡ unless (jobCause l ∷ layoutLength l es ∷ placeCauses l es piece) a
+  placed-asked piece =
+      behind (jobCause l ∷ layoutLength l es ∷ []) _ _ a
+      (not-there wrongLength false (cause outOfRange false ∷ placeCauses l es piece) a refl ∙ not-there outOfRange false (placeCauses l es piece) a refl)
+
+  -- a call on a layout alone
+  pub layout-asked : unless (callCauses l es (record { length = false; number = false; piece = false })) a ≡ unless (layoutCauses l es) a
+  unfolding layoutCauses
+  layout-asked =
+      placed-asked false
+      ∙ ap (λ b. unless (jobCause l ∷ layoutLength l es ∷ cause noSuchPiece b ∷ outsideCause l es ∷ []) a) (or-nothing (someTurnWrong (jobOf l) es))
+
+  -- the length of the weights is asked behind the job
+  pub weights-asked : (ws : List ℕ) (missing : Bool) (rest : List Cause)
+      → (l .count ≤ pieceBound → missing ≡ not (eqb (length ws) (length (pairs (l .count)))))
+      → unless (jobCause l ∷ layoutLength l es ∷ cause wrongLength missing ∷ rest) a ≡ unless (jobCause l ∷ layoutLength l es ∷ weightsLength l ws ∷ rest) a
+  weights-asked ws missing rest h = by-check (lentWell l) refl
+    where
+      by-check : (b : Bool) → lentWell l ≡ b
+          → unless (jobCause l ∷ layoutLength l es ∷ cause wrongLength missing ∷ rest) a ≡ unless (jobCause l ∷ layoutLength l es ∷ weightsLength l ws ∷ rest) a
+      by-check true e = ap (λ b. unless (jobCause l ∷ layoutLength l es ∷ cause wrongLength b ∷ rest) a) (h (facts l e .fewPieces))
+      by-check false e =
+          here-refused notOurs (not (lentWell l)) (layoutLength l es ∷ cause wrongLength missing ∷ rest) a (ap not e)
+          ∙ sym (here-refused notOurs (not (lentWell l)) (layoutLength l es ∷ weightsLength l ws ∷ rest) a (ap not e))

@@ -1,0 +1,57 @@
+-- What the causes leave where none is there: a job that passes its check, a layout buffer that holds a valid layout, valid weights, and
+-- nothing wrong of the call's own. Assumes nothing.
+use mathlib.Core.Bool.{Bool, false}
+use mathlib.Core.List.{List}
+use mathlib.Core.Path.{_≡_}
+use Prim.Native.Nat.{ℕ, _≤_}
+use borrow.Author.Tests.{not-false, eqb-true}
+use lib.Dec.{eqb}
+use lib.ListN.{length}
+use Rattle.model.specs.Lent.{Lent, jobOf}
+use Rattle.model.specs.Calls.{someTurnWrong, someWeightWrong, jobCause, layoutLength, turnsCause, outsideCause, layoutCauses}
+use Rattle.model.proofs.Tests.{or-neither}
+use Rattle.job_laws.proofs.Checked.{facts}
+use Rattle.text_laws.specs.Outcomes.{NoCause}
+use Rattle.descent_laws.specs.Claims.{ValidWeights}
+use Rattle.descent_laws.specs.LentLayout.{Laid}
+use Rattle.call_laws.proofs.Layouts.{job-well, layout-valid, lent-weights-valid}
+use Rattle.causes.specs.Asked.{weightedCauses}
+
+-- none of the four causes of a layout is there
+pub laid-by : (l : Lent) (es : List (List ℕ)) → jobCause l .there ≡ false → layoutLength l es .there ≡ false → turnsCause l es .there ≡ false
+    → outsideCause l es .there ≡ false → Laid l es
+laid-by l es job size turns outside =
+    record {
+      well = job-well l job;
+      whole = eqb-true (length es) (l .count) (not-false (eqb (length es) (l .count)) size);
+      valid = layout-valid l es size turns outside;
+    }
+
+-- of a call on a layout alone
+pub layout-laid : (l : Lent) (es : List (List ℕ)) → NoCause (layoutCauses l es) → Laid l es
+unfolding layoutCauses
+layout-laid l es h = laid-by l es (h .0) (h .1 .0) (h .1 .1 .0) (h .1 .1 .1 .0)
+
+-- the table of such a job has an entry for each piece
+pub laid-entries : (l : Lent) (es : List (List ℕ)) → Laid l es → l .count ≤ length (l .table)
+laid-entries l es laid = facts l (laid .well) .entries
+
+-- what holds of a call on a layout and weights
+pub record Weighable (l : Lent) (es : List (List ℕ)) (ws : List ℕ) (number piece : Bool) : Type 0 where
+  pub laid : Laid l es
+  pub weights : ValidWeights (jobOf l) ws
+  pub rightNumber : number ≡ false
+  pub rightPiece : piece ≡ false
+
+-- where none of its causes is there
+pub weighted-passed : (l : Lent) (es : List (List ℕ)) (ws : List ℕ) (number piece : Bool) → NoCause (weightedCauses l es ws number piece)
+    → Weighable l es ws number piece
+weighted-passed l es ws number piece h =
+    let numbers = or-neither (someWeightWrong ws) number (h .1 .1 .1 .0) in
+    let pieces = or-neither (someTurnWrong (jobOf l) es) piece (h .1 .1 .1 .1 .0) in
+    record {
+      laid = laid-by l es (h .0) (h .1 .0) (pieces .0) (h .1 .1 .1 .1 .1 .0);
+      weights = lent-weights-valid l ws (h .1 .1 .0) (numbers .0);
+      rightNumber = numbers .1;
+      rightPiece = pieces .1;
+    }

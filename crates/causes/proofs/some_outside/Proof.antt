@@ -1,0 +1,68 @@
+-- `causes::some_outside` meets its contract. The loop's invariant: the placements of the pieces passed are inside. Assumes nothing.
+use mathlib.Core.Bool.{true}
+use mathlib.Core.List.{List}
+use mathlib.Core.Path.{_≡_, sym, _∙_}
+use Prim.Native.Nat.{ℕ, _≤_, _<_, _-_}
+use native.Mathlib.Omega.{arith}
+use borrow.Author.Count.{below-more}
+use borrow.Author.Tests.{not-true, not-false}
+use Rattle.model.specs.Layout.{inside, placeOf}
+use Rattle.model.specs.Lent.{lentBy, jobOf}
+use Rattle.model.specs.Buffer.{layoutOf}
+use Rattle.model.specs.Calls.{someOutside}
+use Rattle.list_laws.proofs.Searches.{one-fails, none-fails}
+use Rattle.causes.proofs.some_outside.Statement.{statement}
+use Rattle.causes.proofs.some_outside.Tie as tie
+
+abbrev Inv-loop : tie.InvT-loop
+Inv-loop size table layout i₀ i =
+    (i ≤ size .count)
+    × ((k : ℕ) → k < i → (pixels : List ℕ) → inside (jobOf (lentBy size table pixels)) k (placeOf (layoutOf layout) k) ≡ true)
+
+abbrev μ-loop : tie.MeasureT-loop
+μ-loop size table layout i₀ i = size .count - i
+
+loop-holds : tie.Need-loop-holds Inv-loop μ-loop
+loop-holds c = (omega arith, λ k l. absurd (omega arith))
+
+place-at-requires : tie.Need-place-at-requires Inv-loop μ-loop
+place-at-requires c κs = let h = c .before .before .before .pre .1 in omega arith
+
+inside-requires : tie.Need-inside-requires Inv-loop μ-loop
+inside-requires c κs = omega arith
+
+returns : tie.Need-returns Inv-loop μ-loop
+unfolding someOutside jobOf
+returns c = λ pixels.
+    let a = c .before .before .before .before .before .before .args in
+    one-fails (a .size .count) (c .before .before .before .before .before .loop .i) (λ k. inside (jobOf (lentBy (a .size) (a .table .now) pixels)) k (placeOf (layoutOf (a .layout .now)) k)) (omega arith) (sym (rw (c .before .before .place-at .ensures) at (c .before .inside .ensures pixels)) ∙ not-true _ (c .if2 .taken))
+
+add-i : tie.Need-add-i Inv-loop μ-loop
+add-i c = let h = c .before .before .before .before .before .before .pre .1 in omega arith
+
+loop-less : tie.Need-loop-less Inv-loop μ-loop
+loop-less c = omega arith
+
+loop-again : tie.Need-loop-again Inv-loop μ-loop
+loop-again c = (omega arith, below-more _ _ (c .before .before .before .before .before .loop .inv .1) (λ pixels. sym (rw (c .before .before .place-at .ensures) at (c .before .inside .ensures pixels)) ∙ not-false _ (c .if2 .left)))
+
+returns-2 : tie.Need-returns-2 Inv-loop μ-loop
+unfolding someOutside jobOf
+returns-2 c = λ pixels.
+    let a = c .before .before .before .args in
+    none-fails (a .size .count) (c .before .before .loop .i) (λ k. inside (jobOf (lentBy (a .size) (a .table .now) pixels)) k (placeOf (layoutOf (a .layout .now)) k)) (c .if1 .left) (λ k l. c .before .before .loop .inv .1 k l pixels)
+
+pub some-outside-spec : {M : Type 1} → statement M
+some-outside-spec =
+    tie.close
+    (tie.spec
+    Inv-loop
+    μ-loop
+    loop-holds
+    place-at-requires
+    inside-requires
+    returns
+    add-i
+    loop-less
+    loop-again
+    returns-2)

@@ -1,0 +1,57 @@
+-- `layout_length_calls::longest_end` meets its contract. The loop's invariant: the largest right end of the pieces passed. Assumes nothing.
+use mathlib.Core.List.{List}
+use mathlib.Core.Path.{_≡_, refl}
+use Prim.Native.Nat.{ℕ, _≤_, _-_}
+use native.Mathlib.Numerals.{add-one}
+use native.Mathlib.Omega.{arith}
+use borrow.Author.Needs.{needs}
+use Rattle.model.specs.Layout.{rightmost, usedLength}
+use Rattle.model.specs.Lent.{lentBy, jobOf}
+use Rattle.model.specs.Buffer.{layoutOf}
+use Rattle.layout_length_calls.proofs.longest_end.Statement.{statement}
+use Rattle.layout_length_calls.proofs.longest_end.Tie as tie
+
+abbrev Inv-loop : tie.InvT-loop
+Inv-loop size table layout longest₀ i₀ longest i =
+    (i ≤ size .count) × ((pixels : List ℕ) → longest ≡ rightmost (jobOf (lentBy size table pixels)) (layoutOf layout) i)
+
+abbrev μ-loop : tie.MeasureT-loop
+μ-loop size table layout longest₀ i₀ longest i = size .count - i
+
+loop-holds : tie.Need-loop-holds Inv-loop μ-loop
+unfolding rightmost
+loop-holds c = (omega arith, λ pixels. refl)
+
+right-end-requires : tie.Need-right-end-requires Inv-loop μ-loop
+right-end-requires c κs = let h = c .before .before .before .pre .1 in omega arith
+
+larger-requires : tie.Need-larger-requires Inv-loop μ-loop
+larger-requires c κs = search needs
+
+add-i : tie.Need-add-i Inv-loop μ-loop
+add-i c = let h = c .before .before .before .before .before .pre .1 in omega arith
+
+loop-less : tie.Need-loop-less Inv-loop μ-loop
+loop-less c = omega arith
+
+loop-again : tie.Need-loop-again Inv-loop μ-loop
+unfolding rightmost
+loop-again c = (omega arith, λ pixels. let a = c .before .before .before .before .before .args in rw (add-one (c .before .before .before .before .loop .i), c .larger .ensures, c .before .right-end .ensures (a .size) pixels, c .before .before .before .before .loop .inv .1 pixels))
+
+returns : tie.Need-returns Inv-loop μ-loop
+unfolding usedLength jobOf
+returns c = λ pixels. let e : c .before .before .loop .i ≡ c .before .before .before .args .size .count = omega arith in rw (c .before .before .loop .inv .1 pixels, e)
+
+pub longest-end-spec : {M : Type 1} → statement M
+longest-end-spec =
+    tie.close
+    (tie.spec
+    Inv-loop
+    μ-loop
+    loop-holds
+    right-end-requires
+    larger-requires
+    add-i
+    loop-less
+    loop-again
+    returns)
