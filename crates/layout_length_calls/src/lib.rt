@@ -1,11 +1,11 @@
 // The used length of a layout. Document 01, 'Start, layout text, sheet' and 'When a call says no'.
 use causes::layout_causes;
-use layout_places::numbers::larger;
 use layout_places::place_at;
 use model::DoneAnswer;
 use model::JobSize;
 use model::NumberAnswer;
 use piece_pixels::turned_sides;
+use whole_numbers::larger;
 ghost use mathlib.Core.Path.{_≡_};
 ghost use mathlib.Core.List.{List};
 ghost use Prim.Native.Nat.{ℕ, _<_, _≤_};

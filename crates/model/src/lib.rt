@@ -33,6 +33,7 @@ pub const BUDGET_BOUND: u32 = 1000000000;
 
 // The most rounds of a run.
 pub const ROUND_BOUND: u32 = 1000;
+
 ghost use mathlib.Core.Path.{_≡_};
 ghost use Rattle.model.specs.Refusal.{plainRefusal};
 

@@ -1,10 +1,10 @@
 // Sums over the table of pair penalties (64 x 64 entries, that of pieces i and k at i * 64 + k and at k * 64 + i) and the weights beside
 // it, which stand in the order of the pairs; and the weights that rise after a round. Document 01, 'No-fit rows and penalty' and 'Descent
 // and guidance'. The number of pieces is n.
+use layout_places::numbers::pair_count;
 use model::PAIR_BOUND;
 use model::PIECE_BOUND;
 use model::WEIGHT_BOUND;
-use layout_places::numbers::pair_count;
 ghost use mathlib.Core.Path.{_≡_};
 ghost use mathlib.Core.List.{List};
 ghost use Prim.Native.Nat.{ℕ, _+_, _<_, _≤_, _^_};
