@@ -1,5 +1,5 @@
 -- `run_memory::memory::with_strips` meets its contract: the strips are made in both directions. Assumes nothing.
-use Rattle.layout_sum_calls.proofs.Causes.{room}
+use Rattle.search_shapes.proofs.Rooms.{room}
 use borrow.Author.Needs.{needs}
 use Rattle.run_memory.proofs.memory.with_strips.Statement.{statement}
 use Rattle.run_memory.proofs.memory.with_strips.Tie as tie
