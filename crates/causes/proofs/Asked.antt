@@ -9,10 +9,10 @@ use lib.ListN.{length}
 use Rattle.model.specs.Layout.{pairs}
 use Rattle.model.specs.Refusal.{Cause, cause, unless, outOfRange, wrongLength, notOurs, noSuchPiece}
 use Rattle.model.specs.Lent.{Lent, jobOf, lentWell, pieceBound}
-use Rattle.model.specs.Calls.{someTurnWrong, jobCause, layoutLength, weightsLength, outsideCause, layoutCauses}
+use Rattle.model.specs.Calls.{someTurnWrong, someWeightWrong, jobCause, layoutLength, weightsLength, weightsCause, turnsCause, outsideCause, layoutCauses}
 use Rattle.job_laws.proofs.Checked.{facts}
 use Rattle.text_laws.proofs.Causes.{here-refused, not-there, behind}
-use Rattle.causes.specs.Asked.{placeCauses, callCauses}
+use Rattle.causes.specs.Asked.{placeCauses, callCauses, weightedCauses}
 
 -- a test or nothing
 pub or-nothing : (b : Bool) → (b || false) ≡ b
@@ -34,6 +34,22 @@ module _ {A : Type 0} (l : Lent) (es : List (List ℕ)) (a : A) where
   layout-asked =
       placed-asked false
       ∙ ap (λ b. unless (jobCause l ∷ layoutLength l es ∷ cause noSuchPiece b ∷ outsideCause l es ∷ []) a) (or-nothing (someTurnWrong (jobOf l) es))
+
+  -- a run, whose budget or count may be out of range
+  pub run-asked : (ws : List ℕ) (number : Bool)
+      → unless (weightedCauses l es ws number false) a
+      ≡ unless (jobCause l ∷ layoutLength l es ∷ weightsLength l ws ∷ cause outOfRange (someWeightWrong ws || number) ∷ turnsCause l es ∷ outsideCause l es ∷ []) a
+  run-asked ws number =
+      ap (λ b. unless (jobCause l ∷ layoutLength l es ∷ weightsLength l ws ∷ cause outOfRange (someWeightWrong ws || number) ∷ cause noSuchPiece b ∷ outsideCause l es ∷ []) a)
+      (or-nothing (someTurnWrong (jobOf l) es))
+
+  -- a weighted sum
+  pub sum-asked : (ws : List ℕ)
+      → unless (weightedCauses l es ws false false) a
+      ≡ unless (jobCause l ∷ layoutLength l es ∷ weightsLength l ws ∷ weightsCause ws ∷ turnsCause l es ∷ outsideCause l es ∷ []) a
+  sum-asked ws =
+      run-asked ws false
+      ∙ ap (λ b. unless (jobCause l ∷ layoutLength l es ∷ weightsLength l ws ∷ cause outOfRange b ∷ turnsCause l es ∷ outsideCause l es ∷ []) a) (or-nothing (someWeightWrong ws))
 
   -- the length of the weights is asked behind the job
   pub weights-asked : (ws : List ℕ) (missing : Bool) (rest : List Cause)

@@ -15,7 +15,7 @@ use Rattle.model.specs.declared.Turn.the-variants.{Zero, Quarter, Half, ThreeQu
 use Rattle.model.specs.declared.Direction.{Direction}
 use Rattle.model.specs.declared.Direction.the-variants.{Horizontal, Vertical}
 use Rattle.descent_laws.specs.Claims.{TrialsClaims}
-use Rattle.descent_laws.specs.Trials.{trialOf}
+use Rattle.descent_laws.specs.Trials.{turnNumber, trialOf}
 use Rattle.descent_laws.proofs.Trials.{trial-mem, mem-trial}
 
 -- ── rising lists ──
@@ -101,13 +101,6 @@ pub pairs-once : (n m k : ℕ) (d : Pair) → m < k → k < length (pairs n) →
 pairs-once n m k d = rising-once (pairKey n) 0 (n * n) (pairs n) d (pairs-rise n) m k
 
 -- ── trials ──
-
--- a turn's place in the order
-abbrev pub turnOrder : Turn → ℕ
-turnOrder Zero = 0
-turnOrder Quarter = 1
-turnOrder Half = 2
-turnOrder ThreeQuarters = 3
 
 -- a direction's place in the order
 abbrev pub directionNumber : Direction → ℕ

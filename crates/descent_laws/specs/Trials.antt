@@ -4,8 +4,16 @@ use mathlib.Core.Path.{_≡_}
 use Prim.Native.Nat.{ℕ, _<_, _≤_}
 use Rattle.model.specs.Descent.{Trial}
 use Rattle.model.specs.declared.Turn.{Turn}
+use Rattle.model.specs.declared.Turn.the-variants.{Zero, Quarter, Half, ThreeQuarters}
 use Rattle.model.specs.declared.Direction.{Direction}
 use Rattle.model.specs.Layout.{Job, allowed}
+
+-- a turn's place in the order of turns, 0, 90, 180, 270 degrees: the number by which the code tells turns apart
+abbrev pub turnNumber : Turn → ℕ
+turnNumber Zero = 0
+turnNumber Quarter = 1
+turnNumber Half = 2
+turnNumber ThreeQuarters = 3
 
 -- the trial of a piece, a turn and a direction
 abbrev pub trialOf : ℕ → Turn → Direction → Trial

@@ -10,7 +10,7 @@ use lib.ListN.{length}
 use Rattle.model.specs.Layout.{Pair, pairOf, pairsWith, pairsFrom, pairShares, firstPair, sharingPair}
 use Rattle.model.specs.Lent.{Lent, jobOf}
 use Rattle.model.specs.Buffer.{layoutOf}
-use Rattle.search_table.specs.Drawn.{Laid}
+use Rattle.descent_laws.specs.LentLayout.{Laid}
 use Rattle.layout_sum_calls.specs.Sharing.{rowBefore, RowFirst}
 
 module _ (test : Pair → Bool) (n i : ℕ) (rest : List Pair) where

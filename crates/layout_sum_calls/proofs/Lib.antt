@@ -1,3 +1,3 @@
 -- Laws of the first pair that shares a pixel and of refusals.
 pub mod FirstPair
-pub mod Causes
+pub mod Checks

@@ -2,14 +2,14 @@
 // no'. The calls here refuse by number and measure a whole layout.
 mod sharing;
 
-use layout_places::CauseAnswer;
-use layout_places::refusal;
+use causes::layout_causes;
+use causes::weighted_causes;
 use model::Direction;
+use model::DoneAnswer;
 use model::JobSize;
+use model::NumberAnswer;
 use model::Refusal;
-use model::WEIGHT_BOUND;
 use search_shapes::STARTS_LENGTH;
-use search_sums::pair_count;
 use search_sums::plain_total;
 use search_sums::total;
 use search_table::TABLE_LENGTH;
@@ -17,100 +17,13 @@ use search_table::fill_table;
 use sharing::SharingPair;
 use sharing::sharing_pair;
 ghost use mathlib.Core.Path.{_≡_};
-ghost use mathlib.Core.List.{List, _++_};
-ghost use Prim.Native.Nat.{ℕ, _≤_};
-ghost use lib.ListN.{length};
+ghost use Rattle.model.specs.Answers.{doneAnswer, numberAnswer};
 ghost use Rattle.model.specs.Lent.{lentBy, jobOf};
 ghost use Rattle.model.specs.Buffer.{layoutOf};
-ghost use Rattle.model.specs.Calls.{someWeightWrong, weightedSumCall, plainSumCall, checkCall};
+ghost use Rattle.model.specs.Calls.{weightedSumCall, plainSumCall, checkCall};
 ghost use Rattle.search_laws.specs.Table.{PenaltyTable};
-ghost use Rattle.layout_places.specs.Answers.{firstCause};
-ghost use Rattle.search_table.specs.Drawn.{Laid};
-ghost use Rattle.layout_sum_calls.specs.Answers.{sumAnswer, checkAnswer, sharedAnswer, lengthCauses, placeCauses};
-
-// A sum, or why it is refused.
-pub enum SumAnswer {
-    Sum(u64),
-    Refused(Refusal),
-}
-
-// A layout passes its check, or why not.
-pub enum CheckAnswer {
-    Passes,
-    Refused(Refusal),
-}
-
-// Cause 2 of weights: one is none of 1 to 65,535.
-pub fn some_weight_wrong(weights: &[u32]) -> bool
-    ensures { λ r. ⌜ r ≡ someWeightWrong (now (weights .entry)) ⌝ }
-{
-    let mut k = 0;
-    while k < weights.len() {
-        if weights[k] == 0 {
-            return true;
-        }
-        if WEIGHT_BOUND < weights[k] {
-            return true;
-        }
-        k += 1;
-    }
-    false
-}
-
-// The causes of a call on weights that come before those of the layout's placements: 8, 7, 7, 2.
-pub fn length_causes(
-    size: JobSize,
-    table: &[[u8; 3]],
-    pixels: &[u8],
-    layout: &[[u16; 3]],
-    weights: &[u32],
-) -> CauseAnswer
-    ensures { λ r. ⌜ r ≡ firstCause (lengthCauses (lentBy size (now (table .entry)) (now (pixels .entry))) (now (layout .entry)) (now (weights .entry))) ⌝ }
-{
-    if !job_check::check_job(size, table, pixels) {
-        return CauseAnswer::Refused(refusal(8));
-    }
-    if layout.len() != size.count {
-        return CauseAnswer::Refused(refusal(7));
-    }
-    if weights.len() != pair_count(size.count) {
-        return CauseAnswer::Refused(refusal(7));
-    }
-    if some_weight_wrong(weights) {
-        return CauseAnswer::Refused(refusal(2));
-    }
-    CauseAnswer::Passed
-}
-
-// The causes of the layout's placements: 9, 10.
-pub fn place_causes(size: JobSize, table: &[[u8; 3]], layout: &[[u16; 3]]) -> CauseAnswer
-    requires { ⌜ (size .count ≤ length (now table)) × (length (now layout) ≡ size .count) ⌝ }
-    ensures { λ r. ⌜ ((pixels : List ℕ) → r ≡ firstCause (placeCauses (lentBy size (now (table .entry)) pixels) (now (layout .entry)))) ⌝ }
-{
-    if layout_places::some_turn_wrong(size, table, layout) {
-        return CauseAnswer::Refused(refusal(9));
-    }
-    if layout_places::some_outside(size, table, layout) {
-        return CauseAnswer::Refused(refusal(10));
-    }
-    CauseAnswer::Passed
-}
-
-// The causes of a weighted sum: 8, 7, 2, 9, 10.
-fn sum_causes(
-    size: JobSize,
-    table: &[[u8; 3]],
-    pixels: &[u8],
-    layout: &[[u16; 3]],
-    weights: &[u32],
-) -> CauseAnswer
-    ensures { λ r. ⌜ r ≡ firstCause (lengthCauses (lentBy size (now (table .entry)) (now (pixels .entry))) (now (layout .entry)) (now (weights .entry)) ++ placeCauses (lentBy size (now (table .entry)) (now (pixels .entry))) (now (layout .entry))) ⌝ }
-{
-    match length_causes(size, table, pixels, layout, weights) {
-        CauseAnswer::Refused(refusal) => CauseAnswer::Refused(refusal),
-        CauseAnswer::Passed => place_causes(size, table, layout),
-    }
-}
+ghost use Rattle.descent_laws.specs.LentLayout.{Laid};
+ghost use Rattle.layout_sum_calls.specs.Answers.{sharedAnswer};
 
 // The table of pair penalties of a job's layout.
 fn penalties_of(
@@ -162,51 +75,56 @@ pub fn weighted_sum(
     pixels: &[u8],
     layout: &[[u16; 3]],
     weights: &[u32],
-) -> SumAnswer
-    ensures { λ r. ⌜ r ≡ sumAnswer (weightedSumCall (lentBy size (now (table .entry)) (now (pixels .entry))) (now (layout .entry)) (now (weights .entry))) ⌝ }
+) -> NumberAnswer
+    ensures { λ r. ⌜ r ≡ numberAnswer (weightedSumCall (lentBy size (now (table .entry)) (now (pixels .entry))) (now (layout .entry)) (now (weights .entry))) ⌝ }
 {
-    match sum_causes(size, table, pixels, layout, weights) {
-        CauseAnswer::Refused(refusal) => SumAnswer::Refused(refusal),
-        CauseAnswer::Passed => {
+    match weighted_causes(size, table, pixels, layout, weights, false, false) {
+        DoneAnswer::Refused(refusal) => NumberAnswer::Refused(refusal),
+        DoneAnswer::Done => {
             let penalties = penalties_of(size, table, pixels, layout);
-            SumAnswer::Sum(total(&penalties, weights, size.count))
+            NumberAnswer::Number(total(&penalties, weights, size.count))
         }
     }
 }
 
 // The plain sum of a layout, or its refusal.
-pub fn plain_sum(size: JobSize, table: &[[u8; 3]], pixels: &[u8], layout: &[[u16; 3]]) -> SumAnswer
-    ensures { λ r. ⌜ r ≡ sumAnswer (plainSumCall (lentBy size (now (table .entry)) (now (pixels .entry))) (now (layout .entry))) ⌝ }
+pub fn plain_sum(
+    size: JobSize,
+    table: &[[u8; 3]],
+    pixels: &[u8],
+    layout: &[[u16; 3]],
+) -> NumberAnswer
+    ensures { λ r. ⌜ r ≡ numberAnswer (plainSumCall (lentBy size (now (table .entry)) (now (pixels .entry))) (now (layout .entry))) ⌝ }
 {
-    match layout_places::layout_causes(size, table, pixels, layout) {
-        CauseAnswer::Refused(refusal) => SumAnswer::Refused(refusal),
-        CauseAnswer::Passed => {
+    match layout_causes(size, table, pixels, layout) {
+        DoneAnswer::Refused(refusal) => NumberAnswer::Refused(refusal),
+        DoneAnswer::Done => {
             let penalties = penalties_of(size, table, pixels, layout);
-            SumAnswer::Sum(plain_total(&penalties, size.count))
+            NumberAnswer::Number(plain_total(&penalties, size.count))
         }
     }
 }
 
 // What the check says of the first pair that shares a pixel: refusal 12 with the pair.
-fn shared_answer(pair: SharingPair) -> CheckAnswer
+fn shared_answer(pair: SharingPair) -> DoneAnswer
     ensures { λ r. ⌜ r ≡ sharedAnswer pair ⌝ }
 {
     match pair {
-        SharingPair::Sharing(first, second) => CheckAnswer::Refused(Refusal {
+        SharingPair::Sharing(first, second) => DoneAnswer::Refused(Refusal {
             number: 12,
             first,
             second,
         }),
-        SharingPair::Apart => CheckAnswer::Passes,
+        SharingPair::Apart => DoneAnswer::Done,
     }
 }
 
 // The check of a layout.
-pub fn check(size: JobSize, table: &[[u8; 3]], pixels: &[u8], layout: &[[u16; 3]]) -> CheckAnswer
-    ensures { λ r. ⌜ r ≡ checkAnswer (checkCall (lentBy size (now (table .entry)) (now (pixels .entry))) (now (layout .entry))) ⌝ }
+pub fn check(size: JobSize, table: &[[u8; 3]], pixels: &[u8], layout: &[[u16; 3]]) -> DoneAnswer
+    ensures { λ r. ⌜ r ≡ doneAnswer (checkCall (lentBy size (now (table .entry)) (now (pixels .entry))) (now (layout .entry))) ⌝ }
 {
-    match layout_places::layout_causes(size, table, pixels, layout) {
-        CauseAnswer::Refused(refusal) => CheckAnswer::Refused(refusal),
-        CauseAnswer::Passed => shared_answer(sharing_pair(size, table, pixels, layout)),
+    match layout_causes(size, table, pixels, layout) {
+        DoneAnswer::Refused(refusal) => DoneAnswer::Refused(refusal),
+        DoneAnswer::Done => shared_answer(sharing_pair(size, table, pixels, layout)),
     }
 }

@@ -11,7 +11,8 @@ ghost use Rattle.model.specs.Layout.{pairShares, sharingPair};
 ghost use Rattle.model.specs.Lent.{lentBy, jobOf};
 ghost use Rattle.model.specs.Buffer.{layoutOf};
 ghost use Rattle.model.specs.declared.JobSize.{JobSize};
-ghost use Rattle.search_table.specs.Drawn.{Laid, RowsDrawn, SomeRowsDrawn};
+ghost use Rattle.descent_laws.specs.LentLayout.{Laid};
+ghost use Rattle.search_table.specs.Drawn.{RowsDrawn, SomeRowsDrawn};
 ghost use Rattle.layout_sum_calls.specs.Answers.{sharingAnswer};
 ghost use Rattle.layout_sum_calls.specs.Sharing.{RowFirst};
 

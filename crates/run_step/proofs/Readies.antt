@@ -23,7 +23,7 @@ use Rattle.search_laws.specs.Table.{PenaltyTable}
 use Rattle.search_laws.specs.Loop.{trialSearch}
 use Rattle.search_laws.proofs.Loop.{trial-valid}
 use Rattle.search_shapes.specs.Shapes.{Shapes}
-use Rattle.search_table.specs.Drawn.{Laid}
+use Rattle.descent_laws.specs.LentLayout.{Laid}
 use Rattle.search_lines.specs.Kept.{LinesKept, Wide}
 use Rattle.search_bounded.specs.Ready.{SearchReady}
 use Rattle.search_tracks.specs.declared.Mover.{Mover}
@@ -46,7 +46,7 @@ laid-length l es T h = sym (length-map es placementOf) ∙ h .valid .onePerPiece
 -- a layout that a descent stands at is one that calls take
 pub laid-of : (l : Lent) (es : List (List ℕ)) (T : List ℕ) → lentWell l ≡ true → LaidOut l es T → Laid l es
 unfolding jobOf
-laid-of l es T w h = record { well = w; whole = laid-length l es T h; within = h .valid .insideSheet }
+laid-of l es T w h = record { well = w; whole = laid-length l es T h; valid = h .valid }
 
 -- a search in a direction e that is the store's
 pub search-ready : (l : Lent) (d e : Direction) (strips : List (List ℕ)) (starts : List ℕ) (es : List (List ℕ)) (ws : List ℕ) (width : ℕ) (T lines tags : List ℕ)

@@ -18,7 +18,7 @@ use Rattle.overlap_laws.proofs.Penalty.{penalty-bound}
 use Rattle.descent_laws.specs.Claims.{ValidWeights}
 use Rattle.search_laws.specs.PieceSum.{weightBetween, penaltyOn}
 use Rattle.search_laws.proofs.PieceSum.{weight-bound}
-use Rattle.search_table.specs.Drawn.{Laid}
+use Rattle.descent_laws.specs.LentLayout.{Laid}
 use Rattle.search_lines.specs.Kept.{linePlaces, HoldsLine, LinesKept}
 use Rattle.search_lines.specs.Making.{Asked}
 use Rattle.search_lines.specs.declared.Two.{Two}

@@ -10,7 +10,7 @@ use Rattle.model.specs.Buffer.{layoutOf, placementOf}
 use Rattle.model.specs.declared.Placement.{Placement}
 use Rattle.search_laws.specs.Table.{Renewed}
 use Rattle.search_laws.proofs.Table.{renewed-self}
-use Rattle.search_table.specs.Drawn.{Laid}
+use Rattle.descent_laws.specs.LentLayout.{Laid}
 
 -- the mover itself is passed over
 pub renewed-own : (j : Job) (v : Layout) (n i : ℕ) (p : Placement) (k : ℕ) (T : List ℕ) → k ≡ i → Renewed j v n i p k T → Renewed j v n i p (k + 1) T

@@ -21,7 +21,7 @@ use Rattle.descent_laws.specs.Claims.{ValidWeights}
 use Rattle.search_laws.specs.BoundedSearch.{Serves, limit, belowBound}
 use Rattle.search_laws.proofs.BoundedSearch.{Bounded, bounded-is, search-serves, whole-serves}
 use Rattle.search_laws.proofs.PieceSum.{sum-at}
-use Rattle.search_table.specs.Drawn.{Laid}
+use Rattle.descent_laws.specs.LentLayout.{Laid}
 use Rattle.search_tracks.specs.declared.Mover.{Mover}
 use Rattle.search_tracks.specs.declared.Track.{Track}
 use Rattle.search_tracks.specs.Boxes.{trackOf, SmallTrack}

@@ -9,7 +9,7 @@ use Rattle.model.specs.Layout.{Job, Layout}
 use Rattle.model.specs.declared.Direction.{Direction}
 use Rattle.descent_laws.specs.Claims.{ValidWeights}
 use Rattle.search_shapes.specs.Shapes.{Shapes}
-use Rattle.search_table.specs.Drawn.{Laid}
+use Rattle.descent_laws.specs.LentLayout.{Laid}
 use Rattle.search_lines.specs.Kept.{LinesKept, Wide, linesBound, slotBound}
 use Rattle.search_tracks.specs.Boxes.{trackOf, standingOf, SmallTrack, SmallStanding}
 use Rattle.search_tracks.specs.declared.Mover.{Mover}

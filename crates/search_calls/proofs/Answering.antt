@@ -31,7 +31,7 @@ use Rattle.search_laws.proofs.LineSearch.{search-unbounded}
 use Rattle.layout_places.specs.Answers.{firstCause}
 use Rattle.layout_places.specs.declared.CauseAnswer.{CauseAnswer}
 use Rattle.search_shapes.proofs.Jobs.{places-few}
-use Rattle.search_table.specs.Drawn.{Laid}
+use Rattle.descent_laws.specs.LentLayout.{Laid}
 use Rattle.layout_sum_calls.proofs.Causes.{layout-laid}
 use Rattle.search_lines.specs.Kept.{LinesKept, Wide}
 use Rattle.search_lines.proofs.Keeping.{none-kept, twice-wide}

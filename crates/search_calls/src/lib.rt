@@ -26,7 +26,7 @@ ghost use Rattle.model.specs.Lent.{lentBy, jobOf};
 ghost use Rattle.model.specs.Buffer.{layoutOf};
 ghost use Rattle.model.specs.Calls.{searchCall};
 ghost use Rattle.layout_places.specs.Answers.{firstCause};
-ghost use Rattle.search_table.specs.Drawn.{Laid};
+ghost use Rattle.descent_laws.specs.LentLayout.{Laid};
 ghost use Rattle.descent_laws.specs.Claims.{ValidWeights};
 ghost use Rattle.search_line_sums.specs.Answers.{foundAnswer};
 ghost use Rattle.search_calls.specs.Answers.{InReach, bestAnswer, searchAnswer, pieceCauses, searchCauses};

@@ -51,7 +51,7 @@ pub fn slot_width(size: JobSize, table: &[[u8; 3]]) -> usize
     let mut side: usize = LEAST_SIDE;
     let mut i = 0;
     while i < count {
-        let sides = layout_places::turned_sides(table, i, Turn::Zero);
+        let sides = piece_pixels::turned_sides(table, i, Turn::Zero);
         side = larger(side, larger(sides.columns, sides.rows));
         i += 1;
     }
@@ -84,7 +84,7 @@ fn side_along(table: &[[u8; 3]], piece: usize, turn: Turn, direction: Direction)
     requires { ⌜ piece < length (now table) ⌝ }
     ensures { λ r. ⌜ ((size : JobSize) (pixels : List ℕ) → r ≡ extent direction (turnedPiece (jobOf (lentBy size (now (table .entry)) pixels)) piece turn)) ⌝ }
 {
-    let sides = layout_places::turned_sides(table, piece, turn);
+    let sides = piece_pixels::turned_sides(table, piece, turn);
     match direction {
         Direction::Horizontal => sides.columns,
         Direction::Vertical => sides.rows,

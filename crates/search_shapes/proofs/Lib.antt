@@ -2,3 +2,4 @@
 pub mod Jobs
 pub mod Numbers
 pub mod Making
+pub mod Rooms

@@ -19,7 +19,8 @@ use Rattle.list_laws.proofs.Numbers.{below-or}
 use Rattle.job_laws.proofs.Turned.{turned-extent}
 use Rattle.job_laws.proofs.Starts.{start-end}
 use Rattle.strip_scan.proofs.Counts.{strips-few}
-use Rattle.search_shapes.specs.Shapes.{turnNumber, numberedTurn, shapeNumber, numberedShape}
+use Rattle.descent_laws.specs.Trials.{turnNumber}
+use Rattle.search_shapes.specs.Shapes.{numberedTurn, shapeNumber, numberedShape}
 
 -- a number that is none of the first three is the last turn's
 pub last-turn : (n : ℕ) → (n ≡ 0 → ⊥) → (n ≡ 1 → ⊥) → (n ≡ 2 → ⊥) → ThreeQuarters ≡ numberedTurn n

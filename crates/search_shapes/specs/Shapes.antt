@@ -11,14 +11,8 @@ use Rattle.model.specs.Buffer.{stripEntry}
 use Rattle.model.specs.declared.Direction.{Direction}
 use Rattle.model.specs.declared.Turn.{Turn}
 use Rattle.model.specs.declared.Turn.the-variants.{Zero, Quarter, Half, ThreeQuarters}
+use Rattle.descent_laws.specs.Trials.{turnNumber}
 use Rattle.pair_overlap.specs.Meet.{Ordered}
-
--- the number of a turn
-abbrev pub turnNumber : Turn → ℕ
-turnNumber Zero = 0
-turnNumber Quarter = 1
-turnNumber Half = 2
-turnNumber ThreeQuarters = 3
 
 -- the turn of a number
 abbrev pub numberedTurn : ℕ → Turn

@@ -25,7 +25,8 @@ use Rattle.pair_overlap.proofs.Shapes.{entries-share, entries-penalty}
 use Rattle.search_laws.proofs.Covering.{share-boxes}
 use Rattle.search_laws.specs.PieceSum.{penaltyPlaced}
 use Rattle.search_shapes.specs.Shapes.{Shapes, StripsOf}
-use Rattle.search_table.specs.Drawn.{Laid, shareAt, placedPenalty, OnSheet}
+use Rattle.descent_laws.specs.LentLayout.{Laid}
+use Rattle.search_table.specs.Drawn.{shareAt, placedPenalty, OnSheet}
 
 -- a layout of a job that passes its check has at most 64 placements
 pub few-placed : (l : Lent) (es : List (List ℕ)) → Laid l es → length es ≤ pieceBound
@@ -65,7 +66,7 @@ module _ (l : Lent) (layout : List (List ℕ)) (laid : Laid l layout) where
       let s = facts l (laid .well) in
       let columns = s .fewColumns in
       let rows = s .fewRows in
-      let e : inside (jobOf l) i p ≡ true = laid .within i (piece-there i b) in
+      let e : inside (jobOf l) i p ≡ true = laid .valid .insideSheet i (piece-there i b) in
       let x = leb-true (p .x .0 + turnedPiece (jobOf l) i (p .turn) .columns) (l .size .columns) (and-left _ (leb (p .y .0 + turnedPiece (jobOf l) i (p .turn) .rows) (l .size .rows)) e) in
       let y = leb-true (p .y .0 + turnedPiece (jobOf l) i (p .turn) .rows) (l .size .rows) (and-right (leb (p .x .0 + turnedPiece (jobOf l) i (p .turn) .columns) (l .size .columns)) _ e) in
       record { column = omega arith; row = omega arith }

@@ -1,27 +1,19 @@
 -- A lent job, a layout of it that calls take, and the strips of its pieces: what measuring two placed pieces rests on. The functions
 -- are not handed the job's pixels, so they ask that there is such a job and say what they give for every such job. Assumes nothing.
-use mathlib.Core.Bool.{Bool, true}
+use mathlib.Core.Bool.{Bool}
 use mathlib.Core.List.{List}
-use mathlib.Core.Path.{_≡_}
-use Prim.Native.Nat.{ℕ, _<_, _≤_}
-use lib.ListN.{length}
+use Prim.Native.Nat.{ℕ, _≤_}
 use Rattle.model.specs.Piece.{corner}
 use Rattle.model.specs.Overlap.{share, penalty}
-use Rattle.model.specs.Layout.{turnedPiece, inside, placeOf}
-use Rattle.model.specs.Lent.{Lent, lentBy, jobOf, lentWell}
-use Rattle.model.specs.Buffer.{layoutOf}
+use Rattle.model.specs.Layout.{turnedPiece}
+use Rattle.model.specs.Lent.{Lent, lentBy, jobOf}
 use Rattle.model.specs.declared.Direction.the-variants.{Horizontal, Vertical}
 use Rattle.model.specs.declared.JobSize.{JobSize}
 use Rattle.model.specs.declared.Placement.{Placement}
+use Rattle.descent_laws.specs.LentLayout.{Laid}
 use Rattle.search_shapes.specs.Shapes.{Shapes}
 
--- a job that passes its check, and a layout buffer of its length whose pieces lie inside
-pub record Laid (l : Lent) (layout : List (List ℕ)) : Type 0 where
-  pub well : lentWell l ≡ true
-  pub whole : length layout ≡ l .size .count
-  pub within : (i : ℕ) → i < l .size .count → inside (jobOf l) i (placeOf (layoutOf layout) i) ≡ true
-
--- with the row strips of every piece in every turn
+-- a valid layout that is lent, with the row strips of every piece in every turn
 pub record RowsDrawn (l : Lent) (rows : List (List ℕ)) (rowStarts : List ℕ) (layout : List (List ℕ)) : Type 0 where
   pub laid : Laid l layout
   pub horizontal : Shapes Horizontal (jobOf l) rows rowStarts

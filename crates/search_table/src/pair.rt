@@ -43,8 +43,8 @@ fn boxes_meet(table: &[[u8; 3]], i: usize, place: Placement, k: usize, other: Pl
 {
     let turn = place.turn;
     let other_turn = other.turn;
-    let a = layout_places::turned_sides(table, i, turn);
-    let b = layout_places::turned_sides(table, k, other_turn);
+    let a = piece_pixels::turned_sides(table, i, turn);
+    let b = piece_pixels::turned_sides(table, k, other_turn);
     if !spans_meet(place.x.0 as usize, a.columns, other.x.0 as usize, b.columns) {
         return false;
     }

@@ -13,8 +13,8 @@ use Rattle.model.specs.declared.Line.the-variants.{InRow, InColumn}
 use Rattle.model.specs.declared.Placement.{Placement}
 use Rattle.model.specs.declared.Row.{Row}
 use Rattle.model.specs.declared.Column.{Column}
-use Rattle.layout_places.specs.declared.Sides.{Sides}
-use Rattle.layout_places.specs.Boxes.{sidesOf}
+use Rattle.piece_pixels.specs.declared.Sides.{Sides}
+use Rattle.piece_pixels.specs.Turned.{sidesOf}
 use Rattle.search_tracks.specs.declared.Mover.{Mover}
 use Rattle.search_tracks.specs.declared.Track.{Track}
 use Rattle.search_tracks.specs.declared.StandingPiece.{StandingPiece}

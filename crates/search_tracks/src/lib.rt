@@ -80,7 +80,7 @@ pub fn track_of(size: JobSize, table: &[[u8; 3]], mover: Mover) -> Track
     let piece = mover.piece;
     let turn = mover.turn;
     let line = mover.line;
-    let sides = layout_places::turned_sides(table, piece, turn);
+    let sides = piece_pixels::turned_sides(table, piece, turn);
     match line {
         Line::InRow(row) => {
             let held = row.0 as usize;
@@ -116,7 +116,7 @@ pub fn standing_of(
 {
     let place = layout_places::place_at(layout, k);
     let turn = place.turn;
-    let sides = layout_places::turned_sides(table, k, turn);
+    let sides = piece_pixels::turned_sides(table, k, turn);
     let x = place.x.0 as usize;
     let y = place.y.0 as usize;
     match direction {

@@ -6,9 +6,11 @@ use Rattle.model.specs.Lent.{Lent, lentBy, jobOf}
 use Rattle.model.specs.Buffer.{layoutOf}
 use Rattle.model.specs.Calls.{layoutCauses, sharedCause, checkCall}
 use Rattle.text_laws.specs.Outcomes.{NoCause}
-use Rattle.layout_places.proofs.Causes.{passed-none, none-then, refused-then}
-use Rattle.layout_sum_calls.specs.Answers.{checkAnswer, sharedAnswer}
-use Rattle.layout_sum_calls.proofs.Causes.{layout-laid, shared-check}
+use Rattle.text_laws.proofs.Causes.{passed-none, none-then, refused-then}
+use Rattle.model.specs.Answers.{doneAnswer}
+use Rattle.causes.proofs.Passed.{layout-laid}
+use Rattle.layout_sum_calls.specs.Answers.{sharedAnswer}
+use Rattle.layout_sum_calls.proofs.Checks.{shared-check}
 use borrow.Author.Needs.{needs}
 use Rattle.layout_sum_calls.proofs.check.Statement.{statement}
 use Rattle.layout_sum_calls.proofs.check.Tie as tie
@@ -37,7 +39,7 @@ unfolding checkCall
 returns c =
     let a = c .before .before .before .before .before .args in
     let l : Lent = lentBy (a .size) (a .table .now) (a .pixels .now) in
-    sym (ap checkAnswer (refused-then (layoutCauses l (a .layout .now)) (sharedCause (sharingPair (jobOf l) (layoutOf (a .layout .now))) ∷ []) tt _ (sym (c .before .refusal .given .1) ∙ c .before .before .before .layout-causes .ensures)))
+    sym (ap doneAnswer (refused-then (layoutCauses l (a .layout .now)) (sharedCause (sharingPair (jobOf l) (layoutOf (a .layout .now))) ∷ []) tt _ (sym (c .before .refusal .given .1) ∙ c .before .before .before .layout-causes .ensures)))
 
 returns-2 : tie.Need-returns-2
 unfolding checkCall
@@ -47,7 +49,7 @@ returns-2 c =
     let none : NoCause (layoutCauses l (a .layout .now)) = passed-none _ (sym (c .before .before .enum-told .given .1) ∙ c .before .before .before .before .layout-causes .ensures) in
     let pair = sharingPair (jobOf l) (layoutOf (a .layout .now)) in
     c .shared-answer .ensures ∙ ap sharedAnswer (c .before .sharing-pair .ensures) ∙ shared-check pair
-    ∙ sym (ap checkAnswer (none-then (layoutCauses l (a .layout .now)) (sharedCause pair ∷ []) tt none))
+    ∙ sym (ap doneAnswer (none-then (layoutCauses l (a .layout .now)) (sharedCause pair ∷ []) tt none))
 
 pub check-spec : {M : Type 1} → statement M
 check-spec =

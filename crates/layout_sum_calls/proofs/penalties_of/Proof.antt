@@ -4,7 +4,7 @@ use Rattle.model.specs.Lent.{lentBy, jobOf}
 use Rattle.model.specs.Buffer.{layoutOf}
 use Rattle.search_laws.specs.Table.{PenaltyTable}
 use Rattle.search_table.specs.Drawn.{Drawn}
-use Rattle.layout_sum_calls.proofs.Causes.{room-of}
+use Rattle.search_shapes.proofs.Rooms.{room-of}
 use borrow.Author.Needs.{needs}
 use Rattle.layout_sum_calls.proofs.penalties_of.Statement.{statement}
 use Rattle.layout_sum_calls.proofs.penalties_of.Tie as tie

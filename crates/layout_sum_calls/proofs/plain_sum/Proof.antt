@@ -6,8 +6,8 @@ use Rattle.model.specs.Calls.{layoutCauses, plainSumCall}
 use Rattle.job_laws.proofs.Checked.{facts}
 use Rattle.text_laws.specs.Outcomes.{NoCause}
 use Rattle.text_laws.proofs.Outcomes.{unless-given}
-use Rattle.layout_places.proofs.Causes.{passed-none, refused-alone}
-use Rattle.layout_sum_calls.proofs.Causes.{layout-laid}
+use Rattle.text_laws.proofs.Causes.{passed-none, refused-alone}
+use Rattle.causes.proofs.Passed.{layout-laid}
 use borrow.Author.Needs.{needs}
 use Rattle.layout_sum_calls.proofs.plain_sum.Statement.{statement}
 use Rattle.layout_sum_calls.proofs.plain_sum.Tie as tie

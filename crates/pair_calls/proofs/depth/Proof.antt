@@ -1,13 +1,10 @@
--- `pair_calls::depth`: the causes refuse, or none is there and what is measured is the pair's. Assumes nothing.
+-- `pair_calls::depth` meets its contract: the causes refuse, or none is there and what is measured is the pair's. Assumes nothing.
 use mathlib.Core.Path.{_≡_, sym, subst, ap, _∙_}
 use native.Mathlib.Omega.{arith}
 use borrow.Author.Needs.{needs}
 use Rattle.model.specs.Layout.{placeOf, pairDepth}
-use Rattle.model.specs.Piece.{corner}
-use Rattle.model.specs.Overlap.{share, depth, penalty}
-use Rattle.model.specs.declared.Direction.the-variants.{Horizontal}
-use Prim.Native.Nat.{ℕ}
-use lib.Dec.{eqb}
+use Rattle.model.specs.Overlap.{depth}
+use Rattle.pair_measure.proofs.Amounts.{ready-whole, placed-at}
 use Rattle.model.specs.Lent.{Lent, lentBy, jobOf}
 use Rattle.model.specs.Buffer.{layoutOf}
 use Rattle.model.specs.Calls.{pairCauses, depthCall}
@@ -16,76 +13,67 @@ use Rattle.text_laws.proofs.Outcomes.{unless-given}
 use Rattle.text_laws.proofs.Causes.{passed-none, refused-alone}
 use Rattle.pair_measure.specs.Ready.{MeasureReady}
 use Rattle.pair_calls.proofs.Readies.{Measurable, measurable}
-use Rattle.pair_measure.proofs.Amounts.{ready-whole, placed-at}
 use Rattle.pair_calls.proofs.depth.Statement.{statement}
 use Rattle.pair_calls.proofs.depth.Tie as tie
 
-pair-causes-requires : tie.Need-pair-causes-requires
-pair-causes-requires c κs = search needs
+-- the lent job
+abbrev lent : tie.Start → Lent
+lent s = lentBy (s .args .size) (s .args .table .now) (s .args .pixels .now)
 
-enum-known-refusal : tie.Need-enum-known-refusal
-enum-known-refusal c = search needs
+-- none of the causes is there
+passed : (p : tie.After-enum-told) → let s : tie.Start = search in NoCause (pairCauses (lent s) (s .args .layout .now) (s .args .i) (s .args .k))
+passed p = let asked : tie.After-pair-causes = search in passed-none _ (sym (p .enum-told .given .1) ∙ asked .pair-causes .ensures)
 
-enum-told : tie.Need-enum-told
-enum-told c = search needs
+-- so the pair can be measured
+ready : (p : tie.After-enum-told) → let s : tie.Start = search in Measurable (lent s) (s .args .layout .now) (s .args .i) (s .args .k)
+ready p = let s : tie.Start = search in measurable (lent s) (s .args .layout .now) (s .args .i) (s .args .k) (passed p)
+
+-- as it lies in the layout
+first-ready : (p : tie.After-place-at) → let s : tie.Start = search in MeasureReady (s .args .table .now) (s .args .i) (p .place-at .result)
+first-ready p = let told : tie.After-enum-told = search in subst (MeasureReady _ _) (sym (p .place-at .ensures)) (ready told .first)
+
+second-ready : (p : tie.After-place-at2) → let s : tie.Start = search in MeasureReady (s .args .table .now) (s .args .k) (p .place-at2 .result)
+second-ready p = let told : tie.After-enum-told = search in subst (MeasureReady _ _) (sym (p .place-at2 .ensures)) (ready told .second)
 
 place-at-requires : tie.Need-place-at-requires
-place-at-requires c κs =
-    let a = c .before .before .before .before .args in
-    let l : Lent = lentBy (a .size) (a .table .now) (a .pixels .now) in
-    let none : NoCause (pairCauses l (a .layout .now) (a .i) (a .k)) = passed-none _ (sym (c .enum-told .given .1) ∙ c .before .before .pair-causes .ensures) in
-    let m : Measurable l (a .layout .now) (a .i) (a .k) = measurable l (a .layout .now) (a .i) (a .k) none in
-    m .first-place
+place-at-requires c κs = ready c .first-place
 
 place-at-requires-2 : tie.Need-place-at-requires-2
-place-at-requires-2 c κs =
-    let a = c .before .before .before .before .before .args in
-    let l : Lent = lentBy (a .size) (a .table .now) (a .pixels .now) in
-    let none : NoCause (pairCauses l (a .layout .now) (a .i) (a .k)) = passed-none _ (sym (c .before .enum-told .given .1) ∙ c .before .before .before .pair-causes .ensures) in
-    let m : Measurable l (a .layout .now) (a .i) (a .k) = measurable l (a .layout .now) (a .i) (a .k) none in
-    m .second-place
+place-at-requires-2 c κs = let told : tie.After-enum-told = search in ready told .second-place
 
 placed-depth-requires : tie.Need-placed-depth-requires
 placed-depth-requires c κs =
-    let a = c .before .before .before .before .before .before .args in
-    let l : Lent = lentBy (a .size) (a .table .now) (a .pixels .now) in
-    let none : NoCause (pairCauses l (a .layout .now) (a .i) (a .k)) = passed-none _ (sym (c .before .before .enum-told .given .1) ∙ c .before .before .before .before .pair-causes .ensures) in
-    let m : Measurable l (a .layout .now) (a .i) (a .k) = measurable l (a .layout .now) (a .i) (a .k) none in (
-      subst (MeasureReady (a .table .now) (a .i)) (sym (c .before .place-at .ensures)) (m .first),
-      (subst (MeasureReady (a .table .now) (a .k)) (sym (c .place-at2 .ensures)) (m .second), (m .together, omega arith)),
-    )
+    let told : tie.After-enum-told = search in
+    let first : tie.After-place-at = search in
+    (first-ready first, (second-ready c, (ready told .together, omega arith)))
 
 returns : tie.Need-returns
 unfolding depthCall
-returns c = rw (refused-alone _ _ _ (sym (c .before .refusal .given .1) ∙ c .before .before .before .pair-causes .ensures))
+returns c =
+    let asked : tie.After-pair-causes = search in
+    rw (refused-alone _ _ _ (sym (c .before .refusal .given .1) ∙ asked .pair-causes .ensures))
 
 returns-2 : tie.Need-returns-2
 unfolding depthCall pairDepth
 returns-2 c =
-    let a = c .before .before .before .before .before .before .before .args in
-    let l : Lent = lentBy (a .size) (a .table .now) (a .pixels .now) in
-    let none : NoCause (pairCauses l (a .layout .now) (a .i) (a .k)) = passed-none _ (sym (c .before .before .before .enum-told .given .1) ∙ c .before .before .before .before .before .pair-causes .ensures) in
-    let m : Measurable l (a .layout .now) (a .i) (a .k) = measurable l (a .layout .now) (a .i) (a .k) none in
-    let p = c .before .before .place-at .result in
-    let q = c .before .place-at2 .result in
-    let j = jobOf l in
-    let first : MeasureReady (a .table .now) (a .i) p = subst (MeasureReady (a .table .now) (a .i)) (sym (c .before .before .place-at .ensures)) (m .first) in
-    let second : MeasureReady (a .table .now) (a .k) q = subst (MeasureReady (a .table .now) (a .k)) (sym (c .before .place-at2 .ensures)) (m .second) in
+    let s : tie.Start = search in
+    let told : tie.After-enum-told = search in
+    let first : tie.After-place-at = search in
+    let second : tie.After-place-at2 = search in
+    let measured : tie.After-placed-depth = search in
+    let a = s .args in
+    let p = first .place-at .result in
+    let q = second .place-at2 .result in
+    let j = jobOf (lent s) in
+    let v = layoutOf (a .layout .now) in
     rw (
-      unless-given _ _ none,
-      ready-whole (a .size) (a .table .now) (a .pixels .now) (a .i) p first (a .k) q second (a .direction) (c .placed-depth .result) (c .placed-depth .ensures (a .size))
-          ∙ placed-at (depth (a .direction)) j (a .i) p (placeOf (layoutOf (a .layout .now)) (a .i)) (a .k) q (placeOf (layoutOf (a .layout .now)) (a .k)) (c .before .before .place-at .ensures) (c .before .place-at2 .ensures),
+      unless-given _ _ (passed told),
+      ready-whole (a .size) (a .table .now) (a .pixels .now) (a .i) p (first-ready first) (a .k) q (second-ready second) (a .direction)
+          (measured .placed-depth .result) (measured .placed-depth .ensures (a .size))
+          ∙ placed-at (depth (a .direction)) j (a .i) p (placeOf v (a .i)) (a .k) q (placeOf v (a .k)) (first .place-at .ensures) (second .place-at2 .ensures),
     )
 
 pub depth-spec : {M : Type 1} → statement M
 depth-spec =
     tie.close
-    (tie.spec
-    pair-causes-requires
-    enum-known-refusal
-    enum-told
-    place-at-requires
-    place-at-requires-2
-    placed-depth-requires
-    returns
-    returns-2)
+    (tie.spec (search needs) (search needs) (search needs) place-at-requires place-at-requires-2 placed-depth-requires (search needs) returns returns-2)

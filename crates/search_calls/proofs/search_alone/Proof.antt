@@ -5,7 +5,7 @@ use native.Mathlib.Omega.{arith}
 use lib.ListN.{length-replicate}
 use Rattle.model.specs.Piece.{lineDirection}
 use Rattle.model.specs.Lent.{lentBy}
-use Rattle.layout_sum_calls.proofs.Causes.{room}
+use Rattle.search_shapes.proofs.Rooms.{room}
 use Rattle.search_line_sums.specs.Answers.{foundAnswer}
 use Rattle.search_calls.proofs.Answering.{store-wide, store-fresh, store-length, search-whole}
 use borrow.Author.Needs.{needs}

@@ -4,7 +4,7 @@ use mathlib.Core.Path.{_≡_, ap}
 use Prim.Native.Nat.{_-_, _≤_}
 use native.Mathlib.Omega.{arith}
 use Rattle.model.specs.Lent.{jobOf, entryColumns, entryRows}
-use Rattle.layout_places.specs.declared.Sides.{Sides}
+use Rattle.piece_pixels.specs.declared.Sides.{Sides}
 use Rattle.search_lines.proofs.Keeping.{SidesCovered, covered-none, covered-more, covered-wide}
 use borrow.Author.Needs.{needs}
 use Rattle.search_lines.proofs.slot_width.Statement.{statement}
