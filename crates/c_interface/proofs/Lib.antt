@@ -2,4 +2,3 @@
 pub mod Mapped
 pub mod Entries
 pub mod Records
-pub mod Runs

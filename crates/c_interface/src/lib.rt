@@ -2,9 +2,7 @@
 
 use layout_places::TurnAnswer;
 use model::Column;
-use model::Coordinate;
 use model::Direction;
-use model::End;
 use model::JobSize;
 use model::Line;
 use model::PIECE_BOUND;
@@ -12,9 +10,7 @@ use model::Placement;
 use model::Refusal;
 use model::Row;
 ghost use mathlib.Core.Path.{_≡_};
-ghost use Rattle.model.specs.Bounded.{one-if};
-ghost use Rattle.model.specs.Piece.{coordinateNumber};
-ghost use Rattle.model.specs.Buffer.{placement, endNumber};
+ghost use Rattle.model.specs.Buffer.{placement};
 ghost use Rattle.c_interface.specs.Numbers.{directionOf, lineOf, pieceWithTurn};
 ghost use Rattle.c_interface.specs.Replies.{done, refusedBy};
 
@@ -102,33 +98,5 @@ pub fn piece_with_turn(turn: u16, piece: usize) -> usize
     match layout_places::turn_of(turn) {
         TurnAnswer::Known(_) => piece,
         TurnAnswer::Unknown => PIECE_BOUND,
-    }
-}
-
-// 1 for yes, 0 for no.
-pub fn bit_of(yes: bool) -> u8
-    ensures { λ r. ⌜ r ≡ one-if yes ⌝ }
-{
-    if yes { 1 } else { 0 }
-}
-
-// The number of a descent's end.
-pub fn end_number(end: End) -> u8
-    ensures { λ r. ⌜ r ≡ endNumber end ⌝ }
-{
-    match end {
-        End::Clear => 0,
-        End::Settled => 1,
-        End::Spent => 2,
-    }
-}
-
-// The number that a coordinate stands for.
-pub fn coordinate_number(coordinate: Coordinate) -> usize
-    ensures { λ r. ⌜ r ≡ coordinateNumber coordinate ⌝ }
-{
-    match coordinate {
-        Coordinate::AtColumn(x) => x.0 as usize,
-        Coordinate::AtRow(y) => y.0 as usize,
     }
 }

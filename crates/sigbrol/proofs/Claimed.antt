@@ -15,8 +15,8 @@ use Rattle.model.specs.Buffer.{endNumber}
 use Rattle.descent_laws.specs.Claims.{DescentClaims}
 use Rattle.run_descent.specs.Descents.{descentOf}
 use Rattle.run_descent.specs.declared.Ended.{Ended}
-use Rattle.c_interface.specs.Runs.{endTold, descentTold}
-use Rattle.c_interface.proofs.Runs.{end-back}
+use Rattle.c_results.specs.Runs.{endTold, descentTold}
+use Rattle.c_results.proofs.Runs.{end-back}
 use Rattle.sigbrol.proofs.Told.{refused-numbered}
 
 -- what holds of a descent holds of the one that its numbers tell

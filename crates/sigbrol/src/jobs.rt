@@ -2,6 +2,7 @@
 use c_interface::Reply;
 use c_interface::done;
 use c_interface::refused;
+use c_results::put_size;
 use job_calls::JobAnswer;
 ghost use mathlib.Core.Path.{_≡_};
 ghost use lib.ListN.{length};
@@ -28,9 +29,7 @@ pub extern "C" fn sigbrol_read_job(
 {
     match job_calls::read_job(text, table, pixels) {
         JobAnswer::Read(size) => {
-            *rows = size.rows;
-            *columns = size.columns;
-            *count = size.count;
+            put_size(size, rows, columns, count);
             done()
         }
         JobAnswer::Refused(refusal) => refused(refusal),

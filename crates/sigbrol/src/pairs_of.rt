@@ -1,10 +1,10 @@
 // Two pieces of a layout.
 use c_interface::Reply;
-use c_interface::bit_of;
 use c_interface::direction_of;
 use c_interface::done;
 use c_interface::refused;
 use c_interface::size_of;
+use c_results::bit_of;
 use pair_calls::AmountAnswer;
 use pair_calls::ShareAnswer;
 ghost use mathlib.Core.Path.{_≡_};

@@ -1,12 +1,13 @@
 // Line search, descent and guided run.
 use c_interface::Reply;
-use c_interface::coordinate_number;
 use c_interface::done;
-use c_interface::end_number;
 use c_interface::line_of;
 use c_interface::piece_with_turn;
 use c_interface::refused;
 use c_interface::size_of;
+use c_results::coordinate_number;
+use c_results::end_number;
+use c_results::put_run;
 use layout_places::turn_or_zero;
 use run_descent_calls::DescentAnswer;
 use run_guided_calls::GuidedAnswer;
@@ -19,7 +20,7 @@ ghost use Rattle.model.specs.Calls.{leaving, searchCall, descentCall, descentAf
 ghost use Rattle.descent_laws.specs.Claims.{DescentClaims, GuidedClaims};
 ghost use Rattle.c_interface.specs.Numbers.{lentAs, lineOf, pieceWithTurn};
 ghost use Rattle.c_interface.specs.Replies.{replyTo};
-ghost use Rattle.c_interface.specs.Runs.{descentTold, guidedTold};
+ghost use Rattle.c_results.specs.Runs.{descentTold, guidedTold};
 
 // The best place of a piece on a line.
 #[no_mangle]
@@ -97,9 +98,14 @@ pub extern "C" fn sigbrol_descent(
         DescentAnswer::Ended(ended) => {
             let how = ended.end;
             *end = end_number(how);
-            *sum = ended.sum;
-            *trials = ended.made as u64;
-            *moves = ended.moves as u64;
+            put_run(
+                ended.sum,
+                ended.made as u64,
+                ended.moves as u64,
+                sum,
+                trials,
+                moves,
+            );
             done()
         }
         DescentAnswer::Refused(refusal) => refused(refusal),
@@ -133,9 +139,7 @@ pub extern "C" fn sigbrol_guided_run(
     let size = size_of(rows, columns, count);
     match run_guided_calls::guided_run(size, table, pixels, layout, weights, rounds, budget) {
         GuidedAnswer::Ran(run) => {
-            *sum = run.sum;
-            *trials = run.made;
-            *moves = run.moves;
+            put_run(run.sum, run.made, run.moves, sum, trials, moves);
             done()
         }
         GuidedAnswer::Refused(refusal) => refused(refusal),

@@ -18,6 +18,9 @@ read-job-requires c κs = tt
 enum-known-size : tie.Need-enum-known-size
 enum-known-size c = c .match .keys1
 
+put-size-requires : tie.Need-put-size-requires
+put-size-requires c κs = tt
+
 done-requires : tie.Need-done-requires
 done-requires c κs = tt
 
@@ -28,33 +31,50 @@ refused-requires : tie.Need-refused-requires
 refused-requires c κs = tt
 
 same-length : tie.Need-same-length
-same-length c = c .before .before .before .before .before .before .before .read-job .kept .1 .0
+same-length c = let read : tie.After-read-job = search in read .read-job .kept .1 .0
 
 same-length-2 : tie.Need-same-length-2
-same-length-2 c = c .before .before .before .before .before .before .before .read-job .kept .1 .1 .0
+same-length-2 c = let read : tie.After-read-job = search in read .read-job .kept .1 .1 .0
 
 returns : tie.Need-returns
 unfolding outcome
 returns c =
-    let o = outcome (c .before .before .before .before .before .before .before .before .before .before .before .before) in
-    let l = c .before .before .before .before .before .before .before .read-job .ensures in
-    let t = job-told o (sym (c .before .before .size .given .1) ∙ l .answers) in (
+    let put : tie.After-put-size = search in
+    let size : tie.After-size = search in
+    let read : tie.After-read-job = search in
+    let s : tie.Start = search in
+    let o = outcome s in
+    let l = read .read-job .ensures in
+    let t = job-told o (sym (size .size .given .1) ∙ l .answers) in
+    let numbers = put .put-size .ensures in (
       c .done .ensures ∙ reply-by sizeIn o t,
-      (l .entries, (l .pixels, (leaves-by sizeIn (λ s. s .rows) _ o t, (leaves-by sizeIn (λ s. s .columns) _ o t, leaves-by sizeIn (λ s. s .count) _ o t)))),
+      (
+        l .entries,
+        (
+          l .pixels,
+          (
+            numbers .0 ∙ leaves-by sizeIn (λ s. s .rows) _ o t,
+            (numbers .1 .0 ∙ leaves-by sizeIn (λ s. s .columns) _ o t, numbers .1 .1 ∙ leaves-by sizeIn (λ s. s .count) _ o t),
+          ),
+        ),
+      ),
     )
 
 same-length-3 : tie.Need-same-length-3
-same-length-3 c = c .before .before .before .before .before .before .before .read-job .kept .1 .0
+same-length-3 c = let read : tie.After-read-job = search in read .read-job .kept .1 .0
 
 same-length-4 : tie.Need-same-length-4
-same-length-4 c = c .before .before .before .before .before .before .before .read-job .kept .1 .1 .0
+same-length-4 c = let read : tie.After-read-job = search in read .read-job .kept .1 .1 .0
 
 returns-2 : tie.Need-returns-2
 unfolding outcome
 returns-2 c =
-    let o = outcome (c .before .before .before .before .before .before .before .before .before .before .before .before) in
-    let l = c .before .before .before .before .before .before .before .read-job .ensures in
-    let t = job-told o (sym (c .before .before .refusal .given .1) ∙ l .answers) in (
+    let why : tie.After-refusal = search in
+    let read : tie.After-read-job = search in
+    let s : tie.Start = search in
+    let o = outcome s in
+    let l = read .read-job .ensures in
+    let t = job-told o (sym (why .refusal .given .1) ∙ l .answers) in (
       c .refused .ensures ∙ reply-by sizeIn o t,
       (l .entries, (l .pixels, (leaves-by sizeIn (λ s. s .rows) _ o t, (leaves-by sizeIn (λ s. s .columns) _ o t, leaves-by sizeIn (λ s. s .count) _ o t)))),
     )
@@ -65,6 +85,7 @@ sigbrol-read-job-spec =
     (tie.spec
     read-job-requires
     enum-known-size
+    put-size-requires
     done-requires
     enum-known-refusal
     refused-requires

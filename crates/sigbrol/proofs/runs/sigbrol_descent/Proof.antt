@@ -36,11 +36,14 @@ enum-known-ended c = c .match .keys1
 end-number-requires : tie.Need-end-number-requires
 end-number-requires c κs = tt
 
-cast-trials : tie.Need-cast-trials
-cast-trials c = search needs
+cast-put-run : tie.Need-cast-put-run
+cast-put-run c = search needs
 
-cast-moves : tie.Need-cast-moves
-cast-moves c = search needs
+cast-put-run-2 : tie.Need-cast-put-run-2
+cast-put-run-2 c = search needs
+
+put-run-requires : tie.Need-put-run-requires
+put-run-requires c κs = tt
 
 done-requires : tie.Need-done-requires
 done-requires c κs = tt
@@ -52,14 +55,41 @@ refused-requires : tie.Need-refused-requires
 refused-requires c κs = tt
 
 same-length : tie.Need-same-length
-same-length c = c .before .before .before .before .before .before .before .before .descent .kept .1 .1 .1 .0
+same-length c = let called : tie.After-descent = search in called .descent .kept .1 .1 .1 .0
 
 returns : tie.Need-returns
 unfolding outcome
 returns c =
-    let o = outcome (c .before .before .before .before .before .before .before .before .before .before .before .before .before) in
-    let t = ended-told o (sym (c .before .before .before .before .before .ended .given .1) ∙ answered (c .before .before .before .before .before .before .before .before)) in
-    (c .done .ensures ∙ reply-by endedOf o t, (rw (c .before .before .before .before .before .before .before .before .before .before .size-of .ensures) at (c .before .before .before .before .before .before .before .before .descent .ensures .1 .0), (c .before .before .before .end-number .ensures ∙ leaves-by endedOf (λ e. endNumber (e .end)) _ o t, (leaves-by endedOf (λ e. e .sum) _ o t, (leaves-by endedOf (λ e. e .made) _ o t, (leaves-by endedOf (λ e. e .moves) _ o t, λ zero. descent-claimed _ _ _ _ _ _ _ (c .before .before .before .end-number .ensures) (rw (c .before .before .before .before .before .before .before .before .before .before .size-of .ensures) at (c .before .before .before .before .before .before .before .before .descent .ensures .1 .1 _ (c .before .before .before .before .before .ended .given .1)))))))))
+    let put : tie.After-put-run = search in
+    let number : tie.After-end-number = search in
+    let how : tie.After-ended = search in
+    let called : tie.After-descent = search in
+    let sized : tie.After-size-of = search in
+    let s : tie.Start = search in
+    let o = outcome s in
+    let t = ended-told o (sym (how .ended .given .1) ∙ answered called) in
+    let numbers = put .put-run .ensures in (
+      c .done .ensures ∙ reply-by endedOf o t,
+      (
+        rw (sized .size-of .ensures) at (called .descent .ensures .1 .0),
+        (
+          number .end-number .ensures ∙ leaves-by endedOf (λ e. endNumber (e .end)) _ o t,
+          (
+            numbers .0 ∙ leaves-by endedOf (λ e. e .sum) _ o t,
+            (
+              numbers .1 .0 ∙ leaves-by endedOf (λ e. e .made) _ o t,
+              (
+                numbers .1 .1 ∙ leaves-by endedOf (λ e. e .moves) _ o t,
+                λ zero.
+                    rw (numbers .0, numbers .1 .0, numbers .1 .1)
+                    (descent-claimed _ _ _ _ _ _ _ (number .end-number .ensures)
+                    (rw (sized .size-of .ensures) at (called .descent .ensures .1 .1 _ (how .ended .given .1)))),
+              ),
+            ),
+          ),
+        ),
+      ),
+    )
 
 same-length-2 : tie.Need-same-length-2
 same-length-2 c = c .before .before .before .before .before .descent .kept .1 .1 .1 .0
@@ -84,8 +114,9 @@ sigbrol-descent-spec =
     descent-requires
     enum-known-ended
     end-number-requires
-    cast-trials
-    cast-moves
+    cast-put-run
+    cast-put-run-2
+    put-run-requires
     done-requires
     enum-known-refusal
     refused-requires

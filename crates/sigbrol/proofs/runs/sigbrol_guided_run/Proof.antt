@@ -31,6 +31,9 @@ guided-run-requires c κs = tt
 enum-known-run : tie.Need-enum-known-run
 enum-known-run c = c .match .keys1
 
+put-run-requires : tie.Need-put-run-requires
+put-run-requires c κs = tt
+
 done-requires : tie.Need-done-requires
 done-requires c κs = tt
 
@@ -41,17 +44,42 @@ refused-requires : tie.Need-refused-requires
 refused-requires c κs = tt
 
 same-length : tie.Need-same-length
-same-length c = c .before .before .before .before .before .before .before .guided-run .kept .1 .1 .1 .0
+same-length c = let called : tie.After-guided-run = search in called .guided-run .kept .1 .1 .1 .0
 
 same-length-2 : tie.Need-same-length-2
-same-length-2 c = c .before .before .before .before .before .before .before .guided-run .kept .1 .1 .1 .1 .0
+same-length-2 c = let called : tie.After-guided-run = search in called .guided-run .kept .1 .1 .1 .1 .0
 
 returns : tie.Need-returns
 unfolding outcome
 returns c =
-    let o = outcome (c .before .before .before .before .before .before .before .before .before .before .before .before .before) in
-    let t = ran-told o (sym (c .before .before .run .given .1) ∙ answered (c .before .before .before .before .before .before .before)) in
-    (c .done .ensures ∙ reply-by toldRun o t, (rw (c .before .before .before .before .before .before .before .before .before .before .size-of .ensures) at (c .before .before .before .before .before .before .before .guided-run .ensures .1 .0), (rw (c .before .before .before .before .before .before .before .before .before .before .size-of .ensures) at (c .before .before .before .before .before .before .before .guided-run .ensures .1 .1 .0), (leaves-by toldRun (λ r. r .sum) _ o t, (leaves-by toldRun (λ r. r .made) _ o t, (leaves-by toldRun (λ r. r .moves) _ o t, λ zero. rw (c .before .before .before .before .before .before .before .before .before .before .size-of .ensures) at (c .before .before .before .before .before .before .before .guided-run .ensures .1 .1 .1 _ (c .before .before .run .given .1))))))))
+    let put : tie.After-put-run = search in
+    let how : tie.After-run = search in
+    let called : tie.After-guided-run = search in
+    let sized : tie.After-size-of = search in
+    let s : tie.Start = search in
+    let o = outcome s in
+    let t = ran-told o (sym (how .run .given .1) ∙ answered called) in
+    let numbers = put .put-run .ensures in (
+      c .done .ensures ∙ reply-by toldRun o t,
+      (
+        rw (sized .size-of .ensures) at (called .guided-run .ensures .1 .0),
+        (
+          rw (sized .size-of .ensures) at (called .guided-run .ensures .1 .1 .0),
+          (
+            numbers .0 ∙ leaves-by toldRun (λ r. r .sum) _ o t,
+            (
+              numbers .1 .0 ∙ leaves-by toldRun (λ r. r .made) _ o t,
+              (
+                numbers .1 .1 ∙ leaves-by toldRun (λ r. r .moves) _ o t,
+                λ zero.
+                    rw (numbers .0, numbers .1 .0, numbers .1 .1)
+                    (rw (sized .size-of .ensures) at (called .guided-run .ensures .1 .1 .1 _ (how .run .given .1))),
+              ),
+            ),
+          ),
+        ),
+      ),
+    )
 
 same-length-3 : tie.Need-same-length-3
 same-length-3 c = c .before .before .before .before .before .before .before .guided-run .kept .1 .1 .1 .0
@@ -78,6 +106,7 @@ sigbrol-guided-run-spec =
     size-of-requires
     guided-run-requires
     enum-known-run
+    put-run-requires
     done-requires
     enum-known-refusal
     refused-requires

@@ -5,7 +5,7 @@ use Rattle.model.specs.Guided.{Guided}
 use Rattle.model.specs.Buffer.{endNumber}
 use Rattle.model.specs.declared.End.{End}
 use Rattle.model.specs.declared.End.the-variants.{Clear, Settled, Spent}
-use Rattle.c_interface.specs.Runs.{endTold, descentTold, guidedTold}
+use Rattle.c_results.specs.Runs.{endTold, descentTold, guidedTold}
 
 -- the number of an end tells that end
 pub end-back : (e : End) → endTold (endNumber e) ≡ e

@@ -1,0 +1,2 @@
+-- The laws behind the numbers that are handed over.
+pub mod Runs
