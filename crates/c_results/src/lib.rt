@@ -3,13 +3,13 @@ use model::Coordinate;
 use model::End;
 use model::JobSize;
 ghost use mathlib.Core.Path.{_≡_};
-ghost use Rattle.model.specs.Bounded.{one-if};
+ghost use Rattle.model.specs.Bounded.{oneIf};
 ghost use Rattle.model.specs.Piece.{coordinateNumber};
 ghost use Rattle.model.specs.Buffer.{endNumber};
 
 // 1 for yes, 0 for no.
 pub fn bit_of(yes: bool) -> u8
-    ensures { λ r. ⌜ r ≡ one-if yes ⌝ }
+    ensures { λ r. ⌜ r ≡ oneIf yes ⌝ }
 {
     if yes { 1 } else { 0 }
 }

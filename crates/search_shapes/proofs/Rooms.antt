@@ -1,5 +1,5 @@
 -- A store that holds the strips of every job. Assumes nothing.
-use mathlib.Core.List.{List, [], _∷_}
+use mathlib.Core.List.{List}
 use mathlib.Core.Path.{_≡_}
 use Prim.Native.Nat.{ℕ}
 use native.Mathlib.Omega.{arith}
@@ -9,7 +9,3 @@ use Rattle.search_shapes.specs.Shapes.{ShapesRoom}
 -- a store of 262,144 strips with 257 starts holds the strips of every job
 pub room-of : (store : List (List ℕ)) → length store ≡ 262144 → ShapesRoom store (replicate 257 0)
 room-of store e = record { wide = omega (arith, e); long = omega (arith, length-replicate {A = ℕ} 257 0) }
-
--- so does a fresh one
-pub room : ShapesRoom (replicate 262144 (0 ∷ 0 ∷ 0 ∷ [])) (replicate 257 0)
-room = room-of (replicate 262144 (0 ∷ 0 ∷ 0 ∷ [])) (length-replicate {A = List ℕ} 262144 (0 ∷ 0 ∷ 0 ∷ []))
