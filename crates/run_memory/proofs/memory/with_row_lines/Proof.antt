@@ -13,7 +13,7 @@ abbrev job : tie.Start → Lent
 job s = lentBy (s .args .size) (s .args .table .now) (s .args .pixels .now)
 
 slot-width-requires : tie.Need-slot-width-requires
-slot-width-requires c κs = let s = c .before .before .before .before in facts (job s) (s .pre .0 .well) .entries
+slot-width-requires c κs = let s = c .before .before .before .before in facts (job s) (s .pre .0 .laid .well) .entries
 
 slot-count-requires : tie.Need-slot-count-requires
 slot-count-requires c κs = search needs
@@ -37,7 +37,7 @@ with-column-lines-requires c κs =
         s .pre .1 .0,
         (
           record {
-            well = s .pre .0 .well;
+            well = s .pre .0 .laid .well;
             horizontal = s .pre .1 .1 .0;
             vertical = s .pre .1 .1 .1;
             wide = width .ensures .0 (s .args .pixels .now);

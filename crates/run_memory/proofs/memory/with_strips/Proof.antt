@@ -11,7 +11,7 @@ slice-aggregate-make-shapes-2 : tie.Need-slice-aggregate-make-shapes-2
 slice-aggregate-make-shapes-2 c = search needs
 
 make-shapes-requires : tie.Need-make-shapes-requires
-make-shapes-requires c κs = (c .before .before .before .before .pre .0 .well, room)
+make-shapes-requires c κs = (c .before .before .before .before .pre .0 .laid .well, room)
 
 slice-aggregate-make-shapes-3 : tie.Need-slice-aggregate-make-shapes-3
 slice-aggregate-make-shapes-3 c = search needs
@@ -20,7 +20,7 @@ slice-aggregate-make-shapes-4 : tie.Need-slice-aggregate-make-shapes-4
 slice-aggregate-make-shapes-4 c = search needs
 
 make-shapes-requires-2 : tie.Need-make-shapes-requires-2
-make-shapes-requires-2 c κs = (c .before .before .before .before .before .before .before .before .before .pre .0 .well, room)
+make-shapes-requires-2 c κs = (c .before .before .before .before .before .before .before .before .before .pre .0 .laid .well, room)
 
 slice-aggregate-with-row-lines : tie.Need-slice-aggregate-with-row-lines
 slice-aggregate-with-row-lines c = search needs
