@@ -227,13 +227,7 @@ fn fill_layout(
     requires { ⌜ Fitting size (now table) × (p ≤ length (now text)) ⌝ }
     ensures { λ r. ⌜ ((pixels : List ℕ) → (r ≡ doneAnswer (layoutFrom (jobOf (lentBy size (now (table .entry)) pixels)) (now (text .entry)) p (length (now (layout .entry))))) × (now (layout .exit) ≡ layoutAfter (now (layout .entry)) (layoutFrom (jobOf (lentBy size (now (table .entry)) pixels)) (now (text .entry)) p (length (now (layout .entry)))))) ⌝ }
 {
-    if let DoneAnswer::Refused(refusal) = read_placements(
-        size,
-        table,
-        text,
-        p,
-        &mut layout[..0],
-    ) {
+    if let DoneAnswer::Refused(refusal) = read_placements(size, table, text, p, &mut layout[..0]) {
         return DoneAnswer::Refused(refusal);
     }
     if layout.len() != size.count {

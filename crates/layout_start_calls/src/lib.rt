@@ -13,12 +13,7 @@ use model::JobSize;
 use model::refused;
 
 // The start layout, or its refusal.
-pub fn start(
-    size: JobSize,
-    table: &[[u8; 3]],
-    pixels: &[u8],
-    layout: &mut [[u16; 3]],
-) -> DoneAnswer
+pub fn start(size: JobSize, table: &[[u8; 3]], pixels: &[u8], layout: &mut [[u16; 3]]) -> DoneAnswer
     ensures answer { λ r. ⌜ r ≡ doneAnswer (startCall (lentBy size (now (table .entry)) (now (pixels .entry))) (length (now (layout .entry)))) ⌝ }
     ensures memory { λ r. ⌜ now (layout .exit) ≡ layoutAfter (now (layout .entry)) (startCall (lentBy size (now (table .entry)) (now (pixels .entry))) (length (now (layout .entry)))) ⌝ }
 {

@@ -81,7 +81,12 @@ pub fn weighted_sum(
 }
 
 // The plain sum of a layout, or its refusal.
-pub fn plain_sum(size: JobSize, table: &[[u8; 3]], pixels: &[u8], layout: &[[u16; 3]]) -> NumberAnswer
+pub fn plain_sum(
+    size: JobSize,
+    table: &[[u8; 3]],
+    pixels: &[u8],
+    layout: &[[u16; 3]],
+) -> NumberAnswer
     ensures { λ r. ⌜ r ≡ numberAnswer (plainSumCall (lentBy size (now (table .entry)) (now (pixels .entry))) (now (layout .entry))) ⌝ }
 {
     match layout_causes(size, table, pixels, layout) {

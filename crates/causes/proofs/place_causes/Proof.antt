@@ -22,7 +22,7 @@ start p = search
 -- no turn is wrong, and the call's piece is not
 right : (p : tie.Else2) (pixels : List ℕ)
     → let first : tie.After-some-turn-wrong = search in
-      (someTurnWrong (jobOf (lent (start first) pixels)) (start first .args .layout .now) || start first .args .piece) ≡ false
+    (someTurnWrong (jobOf (lent (start first) pixels)) (start first .args .layout .now) || start first .args .piece) ≡ false
 right p pixels =
     let asked : tie.After-some-turn-wrong = search in
     let first : tie.Else1 = search in
