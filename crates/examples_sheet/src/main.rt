@@ -3,12 +3,12 @@
 // counts of the eight pixels.
 use libc::STDOUT_FILENO;
 use model::Column;
+use model::DoneAnswer;
 use model::JobSize;
 use model::Placement;
 use model::Record;
 use model::Row;
 use model::Turn;
-use sheet_calls::Reply;
 use sheet_calls::SheetAnswer;
 ghost use Prim.Native.Nat.{_<_};
 
@@ -29,10 +29,10 @@ fn digit(k: u8) -> u8 {
 }
 
 // The number of a refusal, or 0.
-fn number(reply: Reply) -> u8 {
+fn number(reply: DoneAnswer) -> u8 {
     match reply {
-        Reply::Given => 0,
-        Reply::Refused(refusal) => refusal.number,
+        DoneAnswer::Done => 0,
+        DoneAnswer::Refused(refusal) => refusal.number,
     }
 }
 

@@ -7,11 +7,11 @@ use model::Direction;
 use model::End;
 use model::JobSize;
 use model::Line;
+use model::NumberAnswer;
 use model::Row;
 use model::RowOffset;
 use model::Turn;
-use pair_calls::AmountAnswer;
-use pair_nofit_calls::RunsAnswer;
+use pair_nofit_calls::PieceInTurn;
 use run_descent_calls::DescentAnswer;
 use search_calls::SearchAnswer;
 
@@ -150,11 +150,11 @@ fn put_run(runs: &[[i32; 2]; 8], k: usize) {
 }
 
 // How many runs there are, and up to two of them.
-fn put_runs(answer: RunsAnswer, runs: &[[i32; 2]; 8]) {
+fn put_runs(answer: NumberAnswer, runs: &[[i32; 2]; 8]) {
     match answer {
-        RunsAnswer::Refused(refusal) => put_refused(refusal.number),
-        RunsAnswer::Runs(count) => {
-            put(count as u64);
+        NumberAnswer::Refused(refusal) => put_refused(refusal.number),
+        NumberAnswer::Number(count) => {
+            put(count);
             if 0 < count {
                 put_run(runs, 0);
             }
@@ -166,10 +166,10 @@ fn put_runs(answer: RunsAnswer, runs: &[[i32; 2]; 8]) {
 }
 
 // A depth or a penalty.
-fn put_amount(answer: AmountAnswer) {
+fn put_amount(answer: NumberAnswer) {
     match answer {
-        AmountAnswer::Refused(refusal) => put_refused(refusal.number),
-        AmountAnswer::Amount(n) => put(n as u64),
+        NumberAnswer::Refused(refusal) => put_refused(refusal.number),
+        NumberAnswer::Number(n) => put(n),
     }
 }
 
@@ -265,6 +265,14 @@ fn put_no_fit<'a>(
         k,
         direction,
     );
+    let turned = PieceInTurn {
+        piece: i,
+        turn: first,
+    };
+    let other = PieceInTurn {
+        piece: k,
+        turn: Turn::Zero,
+    };
     let mut runs = [[0i32; 2]; 8];
     match direction {
         Direction::Horizontal => {
@@ -273,11 +281,9 @@ fn put_no_fit<'a>(
                 SIZE,
                 &table,
                 &pixels,
-                i,
-                first,
+                turned,
                 a,
-                k,
-                Turn::Zero,
+                other,
                 b,
                 row,
                 &mut runs,
@@ -290,11 +296,9 @@ fn put_no_fit<'a>(
                 SIZE,
                 &table,
                 &pixels,
-                i,
-                first,
+                turned,
                 a,
-                k,
-                Turn::Zero,
+                other,
                 b,
                 column,
                 &mut runs,

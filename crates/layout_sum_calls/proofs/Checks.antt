@@ -9,7 +9,7 @@ use Rattle.model.specs.Calls.{sharedCause}
 use Rattle.layout_sum_calls.specs.Answers.{sharingAnswer, sharedAnswer}
 
 -- what the check says of the first pair that shares a pixel
-pub shared-check : (o : Option Pair) → sharedAnswer (sharingAnswer o) ≡ doneAnswer (unless (sharedCause o ∷ []) tt)
+pub shared-check : (o : Option Pair) → sharedAnswer (sharingAnswer o) ≡ doneAnswer (unless (sharedCause o ∷ []) (tt {0}))
 unfolding unless
 shared-check none = refl
 shared-check (some p) = refl

@@ -10,6 +10,7 @@ use pair_measure::placed_depth;
 use pair_measure::placed_penalty;
 ghost use mathlib.Core.Path.{_≡_};
 ghost use mathlib.Core.Bool.{not, _||_};
+ghost use Prim.Native.Nat.{ℕ, _<_, _^_};
 ghost use lib.Dec.{ltb, eqb};
 ghost use Rattle.model.specs.Answers.{firstCause, numberAnswer};
 ghost use Rattle.model.specs.Lent.{lentBy};
@@ -93,7 +94,8 @@ pub fn depth(
     k: usize,
     direction: Direction,
 ) -> NumberAnswer
-    ensures { λ r. ⌜ r ≡ numberAnswer (depthCall direction (lentBy size (now (table .entry)) (now (pixels .entry))) (now (layout .entry)) i k) ⌝ }
+    ensures answer { λ r. ⌜ r ≡ numberAnswer (depthCall direction (lentBy size (now (table .entry)) (now (pixels .entry))) (now (layout .entry)) i k) ⌝ }
+    ensures small { λ r. ⌜ ((n : ℕ) → r ≡ NumberAnswer.Number n → n < 2 ^ 32) ⌝ }
 {
     match pair_causes(size, table, pixels, layout, i, k) {
         DoneAnswer::Refused(refusal) => NumberAnswer::Refused(refusal),
@@ -122,7 +124,8 @@ pub fn penalty(
     i: usize,
     k: usize,
 ) -> NumberAnswer
-    ensures { λ r. ⌜ r ≡ numberAnswer (penaltyCall (lentBy size (now (table .entry)) (now (pixels .entry))) (now (layout .entry)) i k) ⌝ }
+    ensures answer { λ r. ⌜ r ≡ numberAnswer (penaltyCall (lentBy size (now (table .entry)) (now (pixels .entry))) (now (layout .entry)) i k) ⌝ }
+    ensures small { λ r. ⌜ ((n : ℕ) → r ≡ NumberAnswer.Number n → n < 2 ^ 32) ⌝ }
 {
     match pair_causes(size, table, pixels, layout, i, k) {
         DoneAnswer::Refused(refusal) => NumberAnswer::Refused(refusal),

@@ -15,9 +15,9 @@ use Rattle.model.specs.Buffer.{filled}
 use Rattle.model.specs.Calls.{textAfter}
 use Rattle.model.specs.Program.{printed, programText, programCall}
 use Rattle.list_laws.proofs.Stores.{sets-filled}
-use Rattle.layout_write_calls.specs.Answers.{textAnswer}
+use Rattle.model.specs.Answers.{countAnswer}
+use Rattle.model.specs.declared.NumberAnswer.{NumberAnswer}
 use Rattle.layout_write_calls.specs.Written.{Written}
-use Rattle.layout_write_calls.specs.declared.TextAnswer.{TextAnswer}
 use Rattle.program_text.specs.Output.{outputBound}
 
 -- a larger bound
@@ -46,40 +46,40 @@ front-written before bytes most next after h w =
     ap (take next) (w .memory ∙ sets-filled before bytes (omega arith)) ∙ take-at bytes _ next (omega arith)
 
 -- the answer and the buffer of the call, where what the program prints fits 4,096 bytes
-abbrev pub TextLeaves : List ℕ → List ℕ → TextAnswer → List ℕ → Type 0
+abbrev pub TextLeaves : List ℕ → List ℕ → NumberAnswer → List ℕ → Type 0
 TextLeaves input before r after =
-    (r ≡ textAnswer (programCall input (length before)))
+    (r ≡ countAnswer (programCall input (length before)))
     × ((after ≡ textAfter before (programCall input (length before))) × (length (programText input) ≤ outputBound))
 
 -- a buffer that the text does not fit is refused and left as it is
 pub leaves-short : (input before : List ℕ) → length before < length (programText input) → length (programText input) ≤ outputBound
-    → TextLeaves input before (TextAnswer.Refused (plainRefusal wrongLength)) before
+    → TextLeaves input before (NumberAnswer.Refused (plainRefusal wrongLength)) before
 unfolding programCall unless
 leaves-short input before h few = (rw (lt-ltb (length before) (length (programText input)) h), (rw (lt-ltb (length before) (length (programText input)) h), few))
 
 -- one that it fits has it at the front
 pub leaves-text : (input before : List ℕ) → length (programText input) ≤ length before → length (programText input) ≤ outputBound
-    → TextLeaves input before (TextAnswer.Written (length (programText input))) (filled (programText input) before)
+    → TextLeaves input before (NumberAnswer.Number (length (programText input))) (filled (programText input) before)
 unfolding programCall unless
 leaves-text input before h few = (rw (le-ltb (length before) (length (programText input)) h), (rw (le-ltb (length before) (length (programText input)) h), few))
 
 -- the same by a count and a buffer that are so
 pub leaves-written : (input before : List ℕ) (k : ℕ) (after : List ℕ) → k ≡ length (programText input) → after ≡ filled (programText input) before
-    → k ≤ length before → k ≤ outputBound → TextLeaves input before (TextAnswer.Written k) after
+    → k ≤ length before → k ≤ outputBound → TextLeaves input before (NumberAnswer.Number k) after
 leaves-written input before k after e m h few =
     let fits : length (programText input) ≤ length before = omega arith in
     let short : length (programText input) ≤ outputBound = omega arith in
     let text = leaves-text input before fits short in
-    (ap TextAnswer.Written e ∙ text .0, (m ∙ text .1 .0, short))
+    (ap NumberAnswer.Number e ∙ text .0, (m ∙ text .1 .0, short))
 
 -- how many bytes are told, by the test of the buffer
 count-step : (t : Bool) (r : Refusal) (text : List ℕ) (k : ℕ)
-    → TextAnswer.Written k ≡ textAnswer (elim t as (λ _. Outcome (List ℕ)) [ true ↦ refused r | false ↦ given text ]) → k ≡ length text
+    → NumberAnswer.Number k ≡ countAnswer (elim t as (λ _. Outcome (List ℕ)) [ true ↦ refused r | false ↦ given text ]) → k ≡ length text
 count-step true r text k e = let z : _≡_ {A = ℕ} 0 1 = cc in absurd (omega arith)
 count-step false r text k e = cc
 
 -- they are no more than the program prints
-pub count-fits : (input : List ℕ) (room k : ℕ) → TextAnswer.Written k ≡ textAnswer (programCall input room) → length (programText input) ≤ outputBound
+pub count-fits : (input : List ℕ) (room k : ℕ) → NumberAnswer.Number k ≡ countAnswer (programCall input room) → length (programText input) ≤ outputBound
     → k ≤ outputBound
 unfolding programCall unless
 count-fits input room k e h =

@@ -21,14 +21,15 @@ use Rattle.job_laws.proofs.Checked.{lent-few}
 use Rattle.text_laws.specs.Outcomes.{NoCause}
 use Rattle.text_laws.proofs.Outcomes.{unless-given}
 use Rattle.descent_laws.specs.Claims.{ValidLayout}
+use Rattle.descent_laws.specs.LentLayout.{Laid}
 use Rattle.descent_laws.proofs.Lent.{lent-demand3}
 use Rattle.call_laws.proofs.Layouts.{BufferPasses, valid-buffer}
-use Rattle.layout_places.specs.Answers.{lengthAnswer}
-use Rattle.layout_places.specs.declared.LengthAnswer.{LengthAnswer}
-use Rattle.layout_places.proofs.Causes.{Sound, sound, none-then}
-use Rattle.layout_write_calls.specs.Answers.{textAnswer}
+use Rattle.model.specs.Answers.{numberAnswer, countAnswer}
+use Rattle.model.specs.declared.NumberAnswer.{NumberAnswer}
+use Rattle.text_laws.proofs.Causes.{none-then}
+use Rattle.causes.proofs.Passed.{layout-laid}
 use Rattle.layout_write_calls.specs.Written.{Written}
-use Rattle.layout_write_calls.specs.declared.TextAnswer.{TextAnswer}
+use Rattle.list_laws.proofs.Stores.{sets-filled}
 use Rattle.program_calls.proofs.Short.{layout-short}
 
 -- the start layout is given
@@ -59,15 +60,15 @@ module _ (l : Lent) (es : List (List ℕ)) (none : NoCause (layoutCauses l es)) 
   used-given = unless-given (layoutCauses l es) (usedLength (jobOf l) (layoutOf es)) none
 
   -- so the answer is that length
-  pub used-taken : (n : ℕ) → LengthAnswer.Length n ≡ lengthAnswer (usedLengthCall l es) → n ≡ usedLength (jobOf l) (layoutOf es)
+  pub used-taken : (n : ℕ) → NumberAnswer.Number n ≡ numberAnswer (usedLengthCall l es) → n ≡ usedLength (jobOf l) (layoutOf es)
   used-taken n e =
-      let same : LengthAnswer.Length n ≡ lengthAnswer (given (usedLength (jobOf l) (layoutOf es))) = e ∙ ap lengthAnswer used-given in
+      let same : NumberAnswer.Number n ≡ numberAnswer (given (usedLength (jobOf l) (layoutOf es))) = e ∙ ap numberAnswer used-given in
       cc
 
   -- and no refusal
-  pub used-not-refused : (r : Refusal) → LengthAnswer.Refused r ≡ lengthAnswer (usedLengthCall l es) → ⊥
+  pub used-not-refused : (r : Refusal) → NumberAnswer.Refused r ≡ numberAnswer (usedLengthCall l es) → ⊥
   used-not-refused r e =
-      let same : LengthAnswer.Refused r ≡ lengthAnswer (given (usedLength (jobOf l) (layoutOf es))) = e ∙ ap lengthAnswer used-given in
+      let same : NumberAnswer.Refused r ≡ numberAnswer (given (usedLength (jobOf l) (layoutOf es))) = e ∙ ap numberAnswer used-given in
       let z : _≡_ {A = ℕ} 0 1 = cc in
       omega arith
 
@@ -75,7 +76,7 @@ module _ (l : Lent) (es : List (List ℕ)) (none : NoCause (layoutCauses l es)) 
   text-short : length (layoutText (jobOf l) (layoutOf es)) ≤ 1755
   unfolding jobOf
   text-short =
-      let s : Sound l es = sound l es none in
+      let s : Laid l es = layout-laid l es none in
       let few = lent-few l (s .well) in
       let whole = s .whole in
       let same = length-map es placementOf in
@@ -92,11 +93,11 @@ module _ (l : Lent) (es : List (List ℕ)) (none : NoCause (layoutCauses l es)) 
         none-then (layoutCauses l es) _ _ none ∙ rw (le-ltb _ _ fits)
 
     -- so the text is written
-    pub text-taken : (n : ℕ) (after : List ℕ) → TextAnswer.Written n ≡ textAnswer (writeLayoutCall l es (length before))
+    pub text-taken : (n : ℕ) (after : List ℕ) → NumberAnswer.Number n ≡ countAnswer (writeLayoutCall l es (length before))
         → after ≡ textAfter before (writeLayoutCall l es (length before)) → Written before 0 (layoutText (jobOf l) (layoutOf es)) 1755 n after
     text-taken n after e m =
         let short = text-short in
-        let same : TextAnswer.Written n ≡ textAnswer (given (layoutText (jobOf l) (layoutOf es))) = e ∙ ap textAnswer text-given in
+        let same : NumberAnswer.Number n ≡ countAnswer (given (layoutText (jobOf l) (layoutOf es))) = e ∙ ap countAnswer text-given in
         let end : n ≡ length (layoutText (jobOf l) (layoutOf es)) = cc in
         record {
           end = end ∙ sym (zero-add _);
@@ -105,8 +106,8 @@ module _ (l : Lent) (es : List (List ℕ)) (none : NoCause (layoutCauses l es)) 
         }
 
     -- and the answer is no refusal
-    pub text-not-refused : (r : Refusal) → TextAnswer.Refused r ≡ textAnswer (writeLayoutCall l es (length before)) → ⊥
+    pub text-not-refused : (r : Refusal) → NumberAnswer.Refused r ≡ countAnswer (writeLayoutCall l es (length before)) → ⊥
     text-not-refused r e =
-        let same : TextAnswer.Refused r ≡ textAnswer (given (layoutText (jobOf l) (layoutOf es))) = e ∙ ap textAnswer text-given in
+        let same : NumberAnswer.Refused r ≡ countAnswer (given (layoutText (jobOf l) (layoutOf es))) = e ∙ ap countAnswer text-given in
         let z : _≡_ {A = ℕ} 0 1 = cc in
         omega arith

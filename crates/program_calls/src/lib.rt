@@ -8,26 +8,26 @@ ghost use Rattle.model.specs.Lent.{lentBy, jobOf, lentWell, pieceBound, areaBou
 ghost use Rattle.model.specs.Buffer.{layoutOf};
 ghost use Rattle.model.specs.Calls.{layoutCauses, textAfter};
 ghost use Rattle.model.specs.Refusal.{given};
+ghost use Rattle.model.specs.Answers.{countAnswer};
 ghost use Rattle.model.specs.JobText.{readJob};
 ghost use Rattle.model.specs.Program.{runText, programRun, printed, programText, programCall};
 ghost use Rattle.text_laws.specs.Outcomes.{NoCause};
-ghost use Rattle.layout_write_calls.specs.Answers.{textAnswer};
 ghost use Rattle.layout_write_calls.specs.Written.{Written};
 ghost use Rattle.program_text.specs.Output.{outputBound};
 ghost use Rattle.program_calls.specs.Runs.{Gives, runWith};
 use job_calls::JobAnswer;
-use layout_places::LengthAnswer;
-use layout_write_calls::TextAnswer;
+use layout_places::numbers::pair_count;
 use model::AREA_BOUND;
 use model::JobSize;
+use model::NumberAnswer;
 use model::PAIR_BOUND;
 use model::PIECE_BOUND;
+use model::plain_refusal;
 use program_text::put_end_line;
 use program_text::put_refusal_line;
 use run_guided_calls::GuidedAnswer;
 use run_guided_calls::RunTotals;
 use run_guided_calls::guided_run;
-use search_sums::pair_count;
 use text_fields::put_word;
 
 // The most bytes that an input may have.
@@ -81,11 +81,12 @@ fn write_run(
     requires { ⌜ NoCause (layoutCauses (lentBy size (now table) (now pixels)) (now layout)) ⌝ ∗ ⌜ outputBound ≤ length (now text) ⌝ }
     ensures { λ r. ⌜ Written (now (text .entry)) 0 (runText (jobOf (lentBy size (now (table .entry)) (now (pixels .entry)))) (runWith run (layoutOf (now (layout .entry))))) outputBound r (now (text .exit)) ⌝ }
 {
-    let LengthAnswer::Length(used) = layout_places::used_length(size, table, pixels, layout) else {
+    let NumberAnswer::Number(used) = layout_length_calls::used_length(size, table, pixels, layout)
+    else {
         // The layout has no cause of refusal: this does not happen.
         return 0;
     };
-    let TextAnswer::Written(next) = layout_write_calls::write_layout(
+    let NumberAnswer::Number(next) = layout_write_calls::write_layout(
         size,
         table,
         pixels,
@@ -95,7 +96,14 @@ fn write_run(
         // It has none, and the buffer has room for its text: this does not happen.
         return 0;
     };
-    put_end_line(text, next, run.sum, run.made, run.moves, used)
+    put_end_line(
+        text,
+        next as usize,
+        run.sum,
+        run.made,
+        run.moves,
+        used as usize,
+    )
 }
 
 // Runs a job that was read and writes how the run went.
@@ -134,23 +142,23 @@ fn print_text(input: &[u8], text: &mut [u8]) -> usize
     ensures { λ r. ⌜ Written (now (text .entry)) 0 (programText (now (input .entry))) outputBound r (now (text .exit)) ⌝ }
 {
     if INPUT_BOUND < input.len() {
-        return put_refusal_line(text, layout_places::refusal(7));
+        return put_refusal_line(text, plain_refusal(7));
     }
     read_and_print(input, text)
 }
 
 // What the program prints for its input, written to the front of an output buffer, and how many bytes that are: at most 4,096. A buffer
 // that the text does not fit is refused by 7 and left as it is.
-pub fn print_run(input: &[u8], output: &mut [u8]) -> TextAnswer
-    ensures answer { λ r. ⌜ r ≡ textAnswer (programCall (now (input .entry)) (length (now (output .entry)))) ⌝ }
+pub fn print_run(input: &[u8], output: &mut [u8]) -> NumberAnswer
+    ensures answer { λ r. ⌜ r ≡ countAnswer (programCall (now (input .entry)) (length (now (output .entry)))) ⌝ }
     ensures memory { λ r. ⌜ now (output .exit) ≡ textAfter (now (output .entry)) (programCall (now (input .entry)) (length (now (output .entry)))) ⌝ }
     ensures fits { λ r. ⌜ length (programText (now (input .entry))) ≤ outputBound ⌝ }
 {
     let mut text = [0u8; OUTPUT_BOUND];
     let count = print_text(input, &mut text);
     if output.len() < count {
-        return TextAnswer::Refused(layout_places::refusal(7));
+        return NumberAnswer::Refused(plain_refusal(7));
     }
     put_word(output, 0, &text[..count]);
-    TextAnswer::Written(count)
+    NumberAnswer::Number(count as u64)
 }

@@ -1,4 +1,5 @@
 -- What the call of a descent comes to. Assumes nothing.
+use mathlib.Core.Bool.{false}
 use mathlib.Core.List.{List}
 use mathlib.Core.Path.{_≡_, sym, ap, _∙_, subst}
 use Prim.Native.Nat.{ℕ, _≤_}
@@ -9,33 +10,34 @@ use Rattle.model.specs.Lent.{Lent, jobOf}
 use Rattle.model.specs.Buffer.{layoutOf, entriesOf}
 use Rattle.model.specs.Descent.{descend}
 use Rattle.model.specs.Refusal.{refused, given}
-use Rattle.model.specs.Calls.{budgetBound, someWeightWrong, descentCall}
+use Rattle.model.specs.Calls.{budgetBound, descentCall}
 use Rattle.model.specs.declared.Refusal.{Refusal}
-use Rattle.list_laws.proofs.Tests.{or-neither}
 use Rattle.text_laws.proofs.Entries.{entries-read-back}
 use Rattle.text_laws.specs.Outcomes.{NoCause}
 use Rattle.text_laws.proofs.Outcomes.{unless-given}
 use Rattle.descent_laws.specs.Claims.{DescentClaims}
 use Rattle.call_laws.proofs.Runs.{descent-given}
-use Rattle.layout_places.specs.Answers.{firstCause}
-use Rattle.layout_places.specs.declared.CauseAnswer.{CauseAnswer}
-use Rattle.layout_places.proofs.Causes.{refused-alone}
+use Rattle.model.specs.Answers.{firstCause}
+use Rattle.model.specs.declared.DoneAnswer.{DoneAnswer}
+use Rattle.text_laws.proofs.Causes.{refused-alone}
+use Rattle.causes.specs.Asked.{weightedCauses}
+use Rattle.causes.proofs.Asked.{run-asked}
+use Rattle.causes.proofs.Passed.{weighted-passed}
 use Rattle.run_descent.specs.Descents.{descentOf}
-use Rattle.run_memory.specs.Answers.{runCauses}
 use Rattle.run_descent_calls.specs.declared.DescentAnswer.{DescentAnswer}
 use Rattle.run_descent.specs.declared.Ended.{Ended}
 use Rattle.run_memory.specs.Done.{Descended}
 
 module _ (l : Lent) (es : List (List ℕ)) (ws : List ℕ) (budget : ℕ) where
   -- a cause refuses the descent
-  pub call-refused : (r : Refusal) → CauseAnswer.Refused r ≡ firstCause (runCauses l es ws (ltb budgetBound budget)) → descentCall l es ws budget ≡ refused r
+  pub call-refused : (r : Refusal) → DoneAnswer.Refused r ≡ firstCause (weightedCauses l es ws (ltb budgetBound budget) false) → descentCall l es ws budget ≡ refused r
   unfolding descentCall
-  call-refused r e = refused-alone (runCauses l es ws (ltb budgetBound budget)) (descend (jobOf l) ws budget (layoutOf es)) r e
+  call-refused r e = sym (run-asked l es _ ws (ltb budgetBound budget)) ∙ refused-alone (weightedCauses l es ws (ltb budgetBound budget) false) (descend (jobOf l) ws budget (layoutOf es)) r e
 
-  module _ (none : NoCause (runCauses l es ws (ltb budgetBound budget))) where
+  module _ (none : NoCause (weightedCauses l es ws (ltb budgetBound budget) false)) where
     -- where none is there, the budget is in range
     pub few-trials : budget ≤ budgetBound
-    few-trials = ltb-false budgetBound budget (or-neither (someWeightWrong ws) (ltb budgetBound budget) (none .1 .1 .1 .0) .1)
+    few-trials = ltb-false budgetBound budget (weighted-passed l es ws (ltb budgetBound budget) false none .rightNumber)
 
     module _ (written : List (List ℕ)) (again : written ≡ entriesOf (layoutOf es)) (r : Ended) (new : List (List ℕ))
         (done : Descended l written ws budget r new)
@@ -44,7 +46,8 @@ module _ (l : Lent) (es : List (List ℕ)) (ws : List ℕ) (budget : ℕ) where
         pub call-given : descentCall l es ws budget ≡ given (descentOf r (layoutOf new))
         unfolding descentCall
         call-given =
-            unless-given (runCauses l es ws (ltb budgetBound budget)) (descend (jobOf l) ws budget (layoutOf es)) none
+            sym (run-asked l es _ ws (ltb budgetBound budget))
+            ∙ unless-given (weightedCauses l es ws (ltb budgetBound budget) false) (descend (jobOf l) ws budget (layoutOf es)) none
             ∙ ap (λ (v : Layout). given (descend (jobOf l) ws budget v)) (sym (ap layoutOf again ∙ entries-read-back (layoutOf es)))
             ∙ ap given (done .result)
 

@@ -1,7 +1,8 @@
 // Descent: trials taken one after the other until nothing overlaps, nothing helps or the budget is used up. Document 01, 'Descent and
 // guidance'.
-use layout_places::CauseAnswer;
+use causes::weighted_causes;
 use model::BUDGET_BOUND;
+use model::DoneAnswer;
 use model::End;
 use model::JobSize;
 use model::PAIR_BOUND;
@@ -10,7 +11,6 @@ use run_descent::Ended;
 use run_memory::memory::Plan;
 use run_memory::memory::PlanOutcome;
 use run_memory::memory::with_strips;
-use run_memory::run_causes;
 use run_memory::write_entries;
 ghost use mathlib.Core.Path.{_≡_};
 ghost use lib.ListN.{length};
@@ -90,9 +90,17 @@ pub fn descent(
     ensures memory { λ r. ⌜ now (layout .exit) ≡ descentAfter (now (layout .entry)) (descentCall (lentBy size (now (table .entry)) (now (pixels .entry))) (now (layout .entry)) (now (weights .entry)) budget) ⌝ }
     ensures demand3 { λ r. ⌜ ((e : Ended) → r ≡ DescentAnswer.Ended e → DescentClaims (jobOf (lentBy size (now (table .entry)) (now (pixels .entry)))) (now (weights .entry)) budget (layoutOf (now (layout .entry))) (descentOf e (layoutOf (now (layout .exit))))) ⌝ }
 {
-    match run_causes(size, table, pixels, layout, weights, BUDGET_BOUND < budget) {
-        CauseAnswer::Refused(refusal) => DescentAnswer::Refused(refusal),
-        CauseAnswer::Passed => {
+    match weighted_causes(
+        size,
+        table,
+        pixels,
+        layout,
+        weights,
+        BUDGET_BOUND < budget,
+        false,
+    ) {
+        DoneAnswer::Refused(refusal) => DescentAnswer::Refused(refusal),
+        DoneAnswer::Done => {
             write_entries(layout);
             DescentAnswer::Ended(run_alone(size, table, pixels, weights, budget, layout))
         }

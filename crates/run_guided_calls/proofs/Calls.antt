@@ -21,10 +21,12 @@ use Rattle.text_laws.proofs.Outcomes.{unless-given}
 use Rattle.descent_laws.specs.Claims.{GuidedClaims}
 use Rattle.call_laws.proofs.Runs.{guided-given}
 use Rattle.search_laws.specs.Results.{guidedOf}
-use Rattle.layout_places.specs.Answers.{firstCause}
-use Rattle.layout_places.specs.declared.CauseAnswer.{CauseAnswer}
-use Rattle.layout_places.proofs.Causes.{refused-alone}
-use Rattle.run_memory.specs.Answers.{runCauses}
+use Rattle.model.specs.Answers.{firstCause}
+use Rattle.model.specs.declared.DoneAnswer.{DoneAnswer}
+use Rattle.text_laws.proofs.Causes.{refused-alone}
+use Rattle.causes.specs.Asked.{weightedCauses}
+use Rattle.causes.proofs.Asked.{run-asked}
+use Rattle.causes.proofs.Passed.{weighted-passed}
 use Rattle.run_guided_calls.specs.Answers.{tallyOf, numbersWrong}
 use Rattle.run_rounds.specs.Rounds.{Ran}
 use Rattle.run_guided_calls.specs.declared.RunTotals.{RunTotals}
@@ -37,19 +39,20 @@ or-grouped false b c = refl
 
 module _ (l : Lent) (es : List (List ℕ)) (ws : List ℕ) (count budget : ℕ) where
   -- the call by the causes of a run
-  call-causes : guidedCall l es ws count budget ≡ unless (runCauses l es ws (numbersWrong count budget)) (guide (jobOf l) count budget ws (layoutOf es))
+  call-causes : guidedCall l es ws count budget ≡ unless (weightedCauses l es ws (numbersWrong count budget) false) (guide (jobOf l) count budget ws (layoutOf es))
   unfolding guidedCall
-  call-causes = rw (or-grouped (someWeightWrong ws) (ltb budgetBound budget) (not (upTo roundBound count)))
+  call-causes =
+      rw (or-grouped (someWeightWrong ws) (ltb budgetBound budget) (not (upTo roundBound count))) (sym (run-asked l es _ ws (numbersWrong count budget)))
 
   -- a cause refuses it
-  pub call-refused : (r : Refusal) → CauseAnswer.Refused r ≡ firstCause (runCauses l es ws (numbersWrong count budget))
+  pub call-refused : (r : Refusal) → DoneAnswer.Refused r ≡ firstCause (weightedCauses l es ws (numbersWrong count budget) false)
       → guidedCall l es ws count budget ≡ refused r
-  call-refused r e = call-causes ∙ refused-alone (runCauses l es ws (numbersWrong count budget)) (guide (jobOf l) count budget ws (layoutOf es)) r e
+  call-refused r e = call-causes ∙ refused-alone (weightedCauses l es ws (numbersWrong count budget) false) (guide (jobOf l) count budget ws (layoutOf es)) r e
 
-  module _ (none : NoCause (runCauses l es ws (numbersWrong count budget))) where
+  module _ (none : NoCause (weightedCauses l es ws (numbersWrong count budget) false)) where
     -- the budget and the round count are in range
     range : (ltb budgetBound budget ≡ false) × (not (upTo roundBound count) ≡ false)
-    range = or-neither (ltb budgetBound budget) (not (upTo roundBound count)) (or-neither (someWeightWrong ws) (numbersWrong count budget) (none .1 .1 .1 .0) .1)
+    range = or-neither (ltb budgetBound budget) (not (upTo roundBound count)) (weighted-passed l es ws (numbersWrong count budget) false none .rightNumber)
 
     -- the rounds are few
     pub few-rounds : count ≤ roundBound
@@ -66,7 +69,7 @@ module _ (l : Lent) (es : List (List ℕ)) (ws : List ℕ) (count budget : ℕ) 
         pub call-given : guidedCall l es ws count budget ≡ given (guidedOf (layoutOf best) (run .sum) raised (run .made) (run .moves))
         call-given =
             call-causes
-            ∙ unless-given (runCauses l es ws (numbersWrong count budget)) (guide (jobOf l) count budget ws (layoutOf es)) none
+            ∙ unless-given (weightedCauses l es ws (numbersWrong count budget) false) (guide (jobOf l) count budget ws (layoutOf es)) none
             ∙ ap (λ (v : Layout). given (guide (jobOf l) count budget ws v)) (sym (ap layoutOf again ∙ entries-read-back (layoutOf es)))
             ∙ ap (λ (g : Guided). given g) (ran .result)
 

@@ -1,13 +1,13 @@
 // The guided run: rounds of descent with weights raised in between. Document 01, 'Descent and guidance' and 'When a call says no'.
-use layout_places::CauseAnswer;
+use causes::weighted_causes;
 use model::BUDGET_BOUND;
+use model::DoneAnswer;
 use model::JobSize;
 use model::ROUND_BOUND;
 use model::Refusal;
 use run_memory::memory::Plan;
 use run_memory::memory::PlanOutcome;
 use run_memory::memory::with_strips;
-use run_memory::run_causes;
 use run_memory::write_entries;
 ghost use mathlib.Core.Path.{_≡_};
 ghost use Prim.Native.Nat.{_≤_};
@@ -100,16 +100,17 @@ pub fn guided_run(
     ensures weights { λ r. ⌜ now (weights .exit) ≡ weightsAfterRun (now (weights .entry)) (guidedCall (lentBy size (now (table .entry)) (now (pixels .entry))) (now (layout .entry)) (now (weights .entry)) rounds budget) ⌝ }
     ensures demand3 { λ r. ⌜ ((run : RunTotals) → r ≡ GuidedAnswer.Ran run → GuidedClaims (jobOf (lentBy size (now (table .entry)) (now (pixels .entry)))) (now (weights .entry)) rounds budget (layoutOf (now (layout .entry))) (model.rounds (jobOf (lentBy size (now (table .entry)) (now (pixels .entry)))) rounds budget (now (weights .entry)) (layoutOf (now (layout .entry)))) (guidedOf (layoutOf (now (layout .exit))) (run .sum) (now (weights .exit)) (run .made) (run .moves))) ⌝ }
 {
-    match run_causes(
+    match weighted_causes(
         size,
         table,
         pixels,
         layout,
         weights,
         numbers_wrong(rounds, budget),
+        false,
     ) {
-        CauseAnswer::Refused(refusal) => GuidedAnswer::Refused(refusal),
-        CauseAnswer::Passed => {
+        DoneAnswer::Refused(refusal) => GuidedAnswer::Refused(refusal),
+        DoneAnswer::Done => {
             write_entries(layout);
             GuidedAnswer::Ran(run_rounds(size, table, pixels, rounds, budget, layout, weights))
         }

@@ -1,19 +1,18 @@
 -- What a run is given, and how many slots its stores of kept lines have. Assumes nothing.
-use mathlib.Core.Bool.{true}
 use mathlib.Core.List.{List}
 use mathlib.Core.Path.{_≡_}
 use Prim.Native.Nat.{ℕ, _*_, _<_, _≤_}
-use Rattle.model.specs.Lent.{Lent, jobOf, lentWell}
+use Rattle.model.specs.Lent.{Lent, jobOf}
 use Rattle.model.specs.Buffer.{layoutOf, entriesOf}
 use Rattle.model.specs.Calls.{budgetBound}
 use Rattle.search_lines.specs.Kept.{linesBound}
-use Rattle.descent_laws.specs.Claims.{ValidWeights, ValidLayout}
+use Rattle.descent_laws.specs.Claims.{ValidWeights}
+use Rattle.descent_laws.specs.LentLayout.{Laid}
 
 -- what a run is given: a job that passes its check, a buffer that holds a valid layout just as its entries are written, valid weights and a
 -- budget in range
 pub record Given (l : Lent) (layout : List (List ℕ)) (ws : List ℕ) (budget : ℕ) : Type 0 where
-  pub well : lentWell l ≡ true
-  pub valid : ValidLayout (jobOf l) (layoutOf layout)
+  pub laid : Laid l layout
   pub written : entriesOf (layoutOf layout) ≡ layout
   pub weights : ValidWeights (jobOf l) ws
   pub few : budget ≤ budgetBound

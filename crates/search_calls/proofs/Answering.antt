@@ -1,24 +1,23 @@
 -- The line search as a call: its causes, the strips and the store that it begins with, and its answer. Assumes nothing.
-use mathlib.Core.Bool.{Bool, true, false, not, _||_}
+use mathlib.Core.Bool.{Bool, true, false, not, _&&_, _||_}
 use mathlib.Core.List.{List, [], _∷_}
 use mathlib.Core.Option.{Option, none, some}
-use mathlib.Core.Path.{_≡_, refl, sym, ap, ap₂, _∙_}
+use mathlib.Core.Path.{_≡_, refl, sym, ap, _∙_}
 use Prim.Native.Nat.{ℕ, zero, suc, _<_, _≤_}
 use native.Mathlib.Omega.{arith}
-use borrow.Author.Tests.{not-false, ltb-true, lt-ltb, le-ltb, ne-eqb}
+use borrow.Author.Tests.{not-false, ltb-true, ne-eqb}
 use lib.Dec.{ltb, eqb}
 use lib.ListN.{length, replicate, length-map, length-replicate, getD-replicate}
 use Rattle.model.specs.Layout.{Job, Layout, allowed}
 use Rattle.model.specs.Search.{Best, places, sumAt, least, searchLine}
-use Rattle.model.specs.Refusal.{Cause, cause, unless, emptyLine, plainRefusal}
+use Rattle.model.specs.Refusal.{cause, unless, outOfRange, noSuchPiece, emptyLine}
 use Rattle.model.specs.Lent.{Lent, jobOf, lentWell}
 use Rattle.model.specs.Buffer.{layoutOf, placementOf}
-use Rattle.model.specs.Calls.{someTurnWrong, layoutCauses, bestPlace}
+use Rattle.model.specs.Calls.{someTurnWrong, someWeightWrong, jobCause, layoutLength, weightsLength, weightsCause, outsideCause, bestPlace}
 use Rattle.model.specs.declared.Direction.{Direction}
 use Rattle.model.specs.declared.Line.{Line}
-use Rattle.model.specs.declared.Refusal.{Refusal}
 use Rattle.model.specs.declared.Turn.{Turn}
-use Rattle.list_laws.proofs.Tests.{or-left, or-right, or-neither}
+use Rattle.list_laws.proofs.Tests.{or-neither}
 use Rattle.job_laws.proofs.Checked.{facts}
 use Rattle.text_laws.specs.Outcomes.{NoCause}
 use Rattle.text_laws.proofs.Outcomes.{unless-given}
@@ -28,11 +27,11 @@ use Rattle.call_laws.proofs.Jobs.{lent-boxes-small}
 use Rattle.call_laws.proofs.Layouts.{lent-weights-valid}
 use Rattle.search_laws.specs.BoundedSearch.{belowBound}
 use Rattle.search_laws.proofs.LineSearch.{search-unbounded}
-use Rattle.layout_places.specs.Answers.{firstCause}
-use Rattle.layout_places.specs.declared.CauseAnswer.{CauseAnswer}
+use Rattle.causes.specs.Asked.{weightedCauses}
+use Rattle.causes.proofs.Asked.{or-nothing}
+use Rattle.causes.proofs.Passed.{laid-by}
 use Rattle.search_shapes.proofs.Jobs.{places-few}
 use Rattle.descent_laws.specs.LentLayout.{Laid}
-use Rattle.layout_sum_calls.proofs.Causes.{layout-laid}
 use Rattle.search_lines.specs.Kept.{LinesKept, Wide}
 use Rattle.search_lines.proofs.Keeping.{none-kept, twice-wide}
 use Rattle.search_line_sums.specs.Answers.{foundAnswer}
@@ -40,49 +39,29 @@ use Rattle.search_calls.specs.Answers.{InReach, bestAnswer, searchAnswer
 
 -- ── causes ──
 
--- a cause that is there refuses
-pub first-there : (number : ℕ) (b : Bool) (cs : List Cause) (r : Refusal) → r ≡ plainRefusal number → b ≡ true
-    → CauseAnswer.Refused r ≡ firstCause (cause number b ∷ cs)
-unfolding unless
-first-there number b cs r e f = rw (e, f, unless)
+-- a piece is not known for one of two reasons
+either-unknown : (b x y : Bool) → (b || not (x && y)) ≡ ((b || not x) || not y)
+either-unknown true x y = refl
+either-unknown false true y = refl
+either-unknown false false y = refl
 
--- one that is not there leaves it to the others
-pub first-absent : (number : ℕ) (b : Bool) (cs : List Cause) → b ≡ false → firstCause (cause number b ∷ cs) ≡ firstCause cs
-unfolding unless
-first-absent number b cs f = rw (f, unless)
-
--- the piece's cause
-abbrev wrongPiece : Lent → List (List ℕ) → ℕ → Turn → Bool
-wrongPiece l es i t = someTurnWrong (jobOf l) es || not (ltb i (l .size .count)) || not (allowed (jobOf l) i t)
-
-module _ (l : Lent) (es : List (List ℕ)) (i : ℕ) (t : Turn) where
-  -- a turn of the layout is not allowed
-  pub wrong-layout : someTurnWrong (jobOf l) es ≡ true → wrongPiece l es i t ≡ true
-  wrong-layout e =
-      or-left (someTurnWrong (jobOf l) es || not (ltb i (l .size .count))) (not (allowed (jobOf l) i t)) (or-left (someTurnWrong (jobOf l) es) (not (ltb i (l .size .count))) e)
-
-  -- there is no such piece
-  pub wrong-number : l .size .count ≤ i → wrongPiece l es i t ≡ true
-  wrong-number h =
-      or-left (someTurnWrong (jobOf l) es || not (ltb i (l .size .count))) (not (allowed (jobOf l) i t))
-      (or-right (someTurnWrong (jobOf l) es) (not (ltb i (l .size .count))) (ap not (le-ltb i (l .size .count) h)))
-
-  -- the turn is not allowed to it
-  pub wrong-turn : allowed (jobOf l) i t ≡ false → wrongPiece l es i t ≡ true
-  wrong-turn e = or-right (someTurnWrong (jobOf l) es || not (ltb i (l .size .count))) (not (allowed (jobOf l) i t)) (ap not e)
-
-  -- none of the three
-  pub right-piece : someTurnWrong (jobOf l) es ≡ false → i < l .size .count → allowed (jobOf l) i t ≡ true → wrongPiece l es i t ≡ false
-  right-piece e h f = ap₂ _||_ (ap₂ _||_ e (ap not (lt-ltb i (l .size .count) h))) (ap not f)
+-- what is asked of the weights and of a piece that is not known comes to the search's causes
+pub search-asked : (l : Lent) (es : List (List ℕ)) (ws : List ℕ) (i : ℕ) (t : Turn)
+    → unless (weightedCauses l es ws false (not (ltb i (l .size .count) && allowed (jobOf l) i t))) tt ≡ unless (searchCauses l es ws i t) tt
+search-asked l es ws i t =
+    let wrong = someTurnWrong (jobOf l) es || not (ltb i (l .size .count) && allowed (jobOf l) i t) in
+    ap (λ b. unless (jobCause l ∷ layoutLength l es ∷ weightsLength l ws ∷ cause outOfRange b ∷ cause noSuchPiece wrong ∷ outsideCause l es ∷ []) tt)
+    (or-nothing (someWeightWrong ws))
+    ∙ ap (λ b. unless (jobCause l ∷ layoutLength l es ∷ weightsLength l ws ∷ weightsCause ws ∷ cause noSuchPiece b ∷ outsideCause l es ∷ []) tt)
+    (either-unknown (someTurnWrong (jobOf l) es) (ltb i (l .size .count)) (allowed (jobOf l) i t))
 
 -- what a search may assume where none of the causes is there
 pub search-ready : (l : Lent) (es : List (List ℕ)) (ws : List ℕ) (i : ℕ) (t : Turn) → NoCause (searchCauses l es ws i t)
     → Laid l es × (ValidWeights (jobOf l) ws × (i < l .size .count))
-unfolding layoutCauses
 search-ready l es ws i t h =
     let piece = or-neither (someTurnWrong (jobOf l) es || not (ltb i (l .size .count))) (not (allowed (jobOf l) i t)) (h .1 .1 .1 .1 .0) in
     let turns = or-neither (someTurnWrong (jobOf l) es) (not (ltb i (l .size .count))) (piece .0) in (
-      layout-laid l es (h .0, (h .1 .0, (turns .0, (h .1 .1 .1 .1 .1 .0, tt)))),
+      laid-by l es (h .0) (h .1 .0) (turns .0) (h .1 .1 .1 .1 .1 .0),
       (lent-weights-valid l ws (h .1 .1 .0) (h .1 .1 .1 .0), ltb-true i (l .size .count) (not-false _ (turns .1))),
     )
 

@@ -1,17 +1,16 @@
 -- The answers of this crate's calls, by the model's outcomes: a refusal keeps its number and places. Assumes nothing.
-use mathlib.Core.Bool.{true, not, _||_}
-use mathlib.Core.List.{List, [], _∷_, _++_}
+use mathlib.Core.Bool.{not, _||_}
+use mathlib.Core.List.{List, [], _∷_}
 use Prim.Native.Nat.{ℕ, _≤_}
 use lib.Dec.{ltb}
 use Rattle.model.specs.Piece.{coordinateOn}
 use Rattle.model.specs.Layout.{allowed}
 use Rattle.model.specs.Search.{Best}
 use Rattle.model.specs.Lent.{Lent, jobOf}
-use Rattle.model.specs.Refusal.{Outcome, refused, given, Cause, cause, refusalOf, noSuchPiece, emptyLine}
-use Rattle.model.specs.Calls.{someTurnWrong, outsideCause}
+use Rattle.model.specs.Refusal.{Outcome, refused, given, Cause, cause, plainRefusal, noSuchPiece, emptyLine}
+use Rattle.model.specs.Calls.{someTurnWrong, jobCause, layoutLength, weightsLength, weightsCause, outsideCause}
 use Rattle.model.specs.declared.Line.{Line}
 use Rattle.model.specs.declared.Turn.{Turn}
-use Rattle.layout_sum_calls.specs.Answers.{lengthCauses}
 use Rattle.search_line_sums.specs.declared.Found.{Found}
 use Rattle.search_line_sums.specs.declared.Found.the-variants.{At, Nothing}
 use Rattle.search_calls.specs.declared.SearchAnswer.{SearchAnswer}
@@ -24,18 +23,15 @@ InReach Nothing = Unit {0}
 -- where nothing is found, no inside corner lies on the line
 abbrev pub bestAnswer : Line → Found → SearchAnswer
 bestAnswer line (At sum at) = SearchAnswer.Best sum (coordinateOn line at)
-bestAnswer line Nothing = SearchAnswer.Refused (refusalOf (cause emptyLine true))
+bestAnswer line Nothing = SearchAnswer.Refused (plainRefusal emptyLine)
 
 -- a line search: the sum, and the coordinate by the line's axis
 abbrev pub searchAnswer : Line → Outcome Best → SearchAnswer
 searchAnswer line (refused r) = SearchAnswer.Refused r
 searchAnswer line (given b) = SearchAnswer.Best (b .sum) (coordinateOn line (b .at))
 
--- the causes that the layout and the piece have: 9, 10
-abbrev pub pieceCauses : Lent → List (List ℕ) → ℕ → Turn → List Cause
-pieceCauses l es i t =
-    cause noSuchPiece (someTurnWrong (jobOf l) es || not (ltb i (l .size .count)) || not (allowed (jobOf l) i t)) ∷ outsideCause l es ∷ []
-
--- those before the line's: 8, 7, 7, 2, 9, 10
+-- the causes before the line's: 8, 7, 7, 2, 9, 10
 abbrev pub searchCauses : Lent → List (List ℕ) → List ℕ → ℕ → Turn → List Cause
-searchCauses l es ws i t = lengthCauses l es ws ++ pieceCauses l es i t
+searchCauses l es ws i t =
+    jobCause l ∷ layoutLength l es ∷ weightsLength l ws ∷ weightsCause ws
+    ∷ cause noSuchPiece (someTurnWrong (jobOf l) es || not (ltb i (l .size .count)) || not (allowed (jobOf l) i t)) ∷ outsideCause l es ∷ []

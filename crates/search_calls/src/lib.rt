@@ -1,15 +1,16 @@
 // The line search as a call. Document 01, 'Line search' and 'When a call says no'.
-use layout_places::CauseAnswer;
-use layout_places::refusal;
-use layout_sum_calls::length_causes;
+use causes::weighted_causes;
+use layout_places::known;
 use model::COLUMN_BOUND;
 use model::Column;
 use model::Coordinate;
+use model::DoneAnswer;
 use model::JobSize;
 use model::Line;
 use model::Refusal;
 use model::Row;
 use model::Turn;
+use model::plain_refusal;
 use search_bounded::search_below;
 use search_line_sums::Found;
 use search_shapes::STARTS_LENGTH;
@@ -17,19 +18,17 @@ use search_shapes::STORE_LENGTH;
 use search_tracks::Mover;
 use search_tracks::direction_of;
 ghost use mathlib.Core.Path.{_≡_};
-ghost use mathlib.Core.List.{List};
-ghost use Prim.Native.Nat.{ℕ, _<_, _≤_};
-ghost use lib.ListN.{length};
+ghost use Prim.Native.Nat.{_<_};
+ghost use Rattle.model.specs.Answers.{firstCause};
 ghost use Rattle.model.specs.Piece.{coordinateOn};
 ghost use Rattle.model.specs.Search.{searchLine};
 ghost use Rattle.model.specs.Lent.{lentBy, jobOf};
 ghost use Rattle.model.specs.Buffer.{layoutOf};
 ghost use Rattle.model.specs.Calls.{searchCall};
-ghost use Rattle.layout_places.specs.Answers.{firstCause};
 ghost use Rattle.descent_laws.specs.LentLayout.{Laid};
 ghost use Rattle.descent_laws.specs.Claims.{ValidWeights};
 ghost use Rattle.search_line_sums.specs.Answers.{foundAnswer};
-ghost use Rattle.search_calls.specs.Answers.{InReach, bestAnswer, searchAnswer, pieceCauses, searchCauses};
+ghost use Rattle.search_calls.specs.Answers.{InReach, bestAnswer, searchAnswer, searchCauses};
 
 // How many penalty lines a search keeps: one for each standing piece.
 const SLOTS: usize = model::PIECE_BOUND;
@@ -91,32 +90,6 @@ fn search_alone(
     )
 }
 
-// The causes of a search that the layout and the piece have: 9, 10.
-fn piece_causes(
-    size: JobSize,
-    table: &[[u8; 3]],
-    layout: &[[u16; 3]],
-    piece: usize,
-    turn: Turn,
-) -> CauseAnswer
-    requires { ⌜ (size .count ≤ length (now table)) × (length (now layout) ≡ size .count) ⌝ }
-    ensures { λ r. ⌜ ((pixels : List ℕ) → r ≡ firstCause (pieceCauses (lentBy size (now (table .entry)) pixels) (now (layout .entry)) piece turn)) ⌝ }
-{
-    if layout_places::some_turn_wrong(size, table, layout) {
-        return CauseAnswer::Refused(refusal(9));
-    }
-    if size.count <= piece {
-        return CauseAnswer::Refused(refusal(9));
-    }
-    if !layout_places::allows(table[piece][2], turn) {
-        return CauseAnswer::Refused(refusal(9));
-    }
-    if layout_places::some_outside(size, table, layout) {
-        return CauseAnswer::Refused(refusal(10));
-    }
-    CauseAnswer::Passed
-}
-
 // The causes of a line search but the last: 8, 7, 2, 9, 10.
 fn search_causes(
     size: JobSize,
@@ -126,13 +99,11 @@ fn search_causes(
     weights: &[u32],
     piece: usize,
     turn: Turn,
-) -> CauseAnswer
+) -> DoneAnswer
     ensures { λ r. ⌜ r ≡ firstCause (searchCauses (lentBy size (now (table .entry)) (now (pixels .entry))) (now (layout .entry)) (now (weights .entry)) piece turn) ⌝ }
 {
-    match length_causes(size, table, pixels, layout, weights) {
-        CauseAnswer::Refused(refusal) => CauseAnswer::Refused(refusal),
-        CauseAnswer::Passed => piece_causes(size, table, layout, piece, turn),
-    }
+    let wrong = !known(size, table, piece, turn);
+    weighted_causes(size, table, pixels, layout, weights, false, wrong)
 }
 
 // A coordinate of the line.
@@ -152,7 +123,7 @@ fn best_answer(line: Line, found: Found) -> SearchAnswer
 {
     match found {
         Found::At(sum, at) => SearchAnswer::Best(sum as u64, coordinate_on(line, at as u16)),
-        Found::Nothing => SearchAnswer::Refused(refusal(11)),
+        Found::Nothing => SearchAnswer::Refused(plain_refusal(11)),
     }
 }
 
@@ -171,8 +142,8 @@ pub fn line_search(
     ensures { λ r. ⌜ r ≡ searchAnswer line (searchCall (lentBy size (now (table .entry)) (now (pixels .entry))) (now (layout .entry)) (now (weights .entry)) piece turn line) ⌝ }
 {
     match search_causes(size, table, pixels, layout, weights, piece, turn) {
-        CauseAnswer::Refused(refusal) => SearchAnswer::Refused(refusal),
-        CauseAnswer::Passed => {
+        DoneAnswer::Refused(refusal) => SearchAnswer::Refused(refusal),
+        DoneAnswer::Done => {
             let mover = Mover {
                 piece: piece,
                 turn: turn,

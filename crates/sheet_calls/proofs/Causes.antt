@@ -5,10 +5,10 @@ use mathlib.Core.Path.{_≡_, refl, sym, _∙_, ap}
 use mathlib.Core.List.{List, [], _∷_, _++_}
 use Prim.Native.Nat.{ℕ, _<_}
 use native.Mathlib.Omega.{arith}
-use Rattle.model.specs.Refusal.{Outcome, refused, Cause, refusalOf, unless}
+use Rattle.model.specs.Refusal.{Outcome, refused, Cause, refusalOf, unless, plainRefusal}
 use Rattle.model.specs.declared.Refusal.{Refusal}
 use Rattle.text_laws.specs.Outcomes.{NoCause}
-use Rattle.sheet_calls.specs.Answers.{plainRefusal, firstNumber}
+use Rattle.sheet_calls.specs.Answers.{firstNumber}
 
 -- the causes have a number and no places
 abbrev pub Plain : List Cause → Type 0

@@ -12,7 +12,7 @@ use borrow.Author.Tests.{not-false, eqb-true, eq-eqb, ne-eqb}
 use Rattle.model.specs.Bounded.{oneIf}
 use Rattle.model.specs.Layout.{Job, inside}
 use Rattle.model.specs.Lent.{Lent, jobOf, lentWell}
-use Rattle.model.specs.Refusal.{Outcome, refused, given, Cause, cause, unless, notOurs}
+use Rattle.model.specs.Refusal.{Outcome, refused, given, Cause, cause, unless, notOurs, plainRefusal}
 use Rattle.model.specs.Calls.{sheetCauses, freshCall, countsAfter}
 use Rattle.model.specs.Cover.{Sheet, entryIn, mapFrom, coversPixel, fresh, lay, withdraw, layCauses, withdrawCauses, called, sheetWell}
 use Rattle.model.specs.declared.Placement.{Placement}
@@ -25,7 +25,7 @@ use Rattle.cover_laws.proofs.Calls.{LayTaken, WithdrawTaken, lay-given, withdra
 use Rattle.cover_laws.proofs.Counts.{LaidWell}
 use Rattle.cover_laws.proofs.Reached.{well-sound}
 use Rattle.sheet_counts.specs.Stamp.{moved, movedBy}
-use Rattle.sheet_calls.specs.Answers.{recordOf, plainRefusal, firstNumber, bufferCauses, givenAnswer, answerBy, sheetAnswer}
+use Rattle.sheet_calls.specs.Answers.{recordOf, firstNumber, bufferCauses, givenAnswer, answerBy, sheetAnswer}
 use Rattle.sheet_calls.specs.Ready.{SheetReady}
 use Rattle.sheet_calls.specs.declared.SheetAnswer.{SheetAnswer}
 use Rattle.sheet_check.proofs.Recounts.{moved-up, moved-down}

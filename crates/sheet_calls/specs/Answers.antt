@@ -6,13 +6,12 @@ use Prim.Native.Nat.{ℕ}
 use lib.Dec.{eqb}
 use lib.ListN.{set, replicate}
 use Rattle.model.specs.Lent.{Lent, pieceBound}
-use Rattle.model.specs.Refusal.{Outcome, refused, given, Cause}
+use Rattle.model.specs.Refusal.{Outcome, refused, given, Cause, plainRefusal}
 use Rattle.model.specs.Calls.{jobCause, countsLength}
 use Rattle.model.specs.Cover.{Sheet, blank}
 use Rattle.model.specs.declared.Entry.{Entry}
 use Rattle.model.specs.declared.Record.{Record}
-use Rattle.model.specs.declared.Refusal.{Refusal}
-use Rattle.sheet_calls.specs.declared.Reply.the-variants.{Given, Refused}
+use Rattle.model.specs.declared.DoneAnswer.the-variants.{Done, Refused}
 use Rattle.sheet_calls.specs.declared.SheetAnswer.{SheetAnswer}
 
 -- the sheet that a record and a count buffer make
@@ -33,10 +32,6 @@ withEntry r i e = record { pieces = set (r .pieces) i e }
 
 -- ── refusals ──
 
--- the refusal with a number and no places
-abbrev pub plainRefusal : ℕ → Refusal
-plainRefusal number = record { number = number; first = 0; second = 0 }
-
 -- the number of the first cause that is there, or 0
 unfoldable pub firstNumber : List Cause → ℕ
 firstNumber [] = 0
@@ -50,7 +45,7 @@ bufferCauses l room = jobCause l ∷ countsLength l room ∷ []
 
 -- the answer of a call that is taken up, with the record after it
 abbrev pub givenAnswer : Record → SheetAnswer
-givenAnswer r = record { reply = Given; sheet = r }
+givenAnswer r = record { reply = Done; sheet = r }
 
 -- the answer of a call whose first cause has the number, and of one with no cause, 0
 abbrev pub answerBy : ℕ → Record → SheetAnswer

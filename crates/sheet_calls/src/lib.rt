@@ -1,10 +1,10 @@
 // The sheet of cover counts: document 01, 'Start, layout text, sheet' and 'When a call says no'. The record says which pieces are laid
 // and where; the lent buffer has one count a pixel, row by row, so that pixel (x, y) stands at y * L + x. A refused call writes nothing.
+use model::DoneAnswer;
 use model::Entry;
 use model::JobSize;
 use model::Placement;
 use model::Record;
-use model::Refusal;
 ghost use mathlib.Core.Path.{_≡_};
 ghost use lib.ListN.{length};
 ghost use Rattle.model.specs.Lent.{lentBy};
@@ -14,16 +14,10 @@ ghost use Rattle.sheet_calls.specs.Answers.{sheetOf, blankRecord, sheetA
 mod record;
 mod refusals;
 
-// Whether a call was taken up or refused.
-pub enum Reply {
-    Given,
-    Refused(Refusal),
-}
-
 // What a call on the sheet answers: the reply, and the sheet record after it. On a refusal the record is the one that was passed; a
 // refused fresh sheet has the record where nothing is laid.
 pub struct SheetAnswer {
-    pub reply: Reply,
+    pub reply: DoneAnswer,
     pub sheet: Record,
 }
 

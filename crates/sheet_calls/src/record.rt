@@ -1,13 +1,14 @@
 // The sheet record: entries made and replaced, and answers made of it.
-use crate::Reply;
 use crate::SheetAnswer;
 use model::Column;
+use model::DoneAnswer;
 use model::Entry;
 use model::PIECE_BOUND;
 use model::Placement;
 use model::Record;
 use model::Row;
 use model::Turn;
+use model::refused;
 ghost use mathlib.Core.Path.{_≡_};
 ghost use Prim.Native.Nat.{_<_};
 ghost use Rattle.model.specs.Layout.{origin};
@@ -51,9 +52,9 @@ pub fn answer(number: u8, sheet: Record) -> SheetAnswer
     ensures { λ r. ⌜ r ≡ answerBy number sheet ⌝ }
 {
     if number == 0 {
-        let reply = Reply::Given;
+        let reply = DoneAnswer::Done;
         return SheetAnswer { reply, sheet };
     }
-    let reply = Reply::Refused(layout_places::refusal(number));
+    let reply = refused(number);
     SheetAnswer { reply, sheet }
 }

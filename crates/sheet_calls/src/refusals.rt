@@ -1,9 +1,9 @@
 // Why a call on the sheet is refused, by document 01's number, or 0: the first cause in the call's order.
+use layout_places::known;
 use model::JobSize;
 use model::Placement;
 use model::Record;
 use sheet_check::entry_of;
-use sheet_check::known;
 use sheet_check::sheet_well;
 ghost use mathlib.Core.Path.{_≡_};
 ghost use mathlib.Core.List.{List, []};

@@ -1,19 +1,17 @@
 // The test for refusal 8 of lay and withdraw: a record and counts that some list of calls gives. Every entry is blank or a piece laid
 // well, and the counts are those that the laid pieces make anew.
+use layout_places::known;
 use model::AREA_BOUND;
 use model::Entry;
 use model::JobSize;
 use model::PIECE_BOUND;
 use model::Record;
-use model::Turn;
 ghost use mathlib.Core.Path.{_≡_};
-ghost use mathlib.Core.Bool.{true, _&&_};
+ghost use mathlib.Core.Bool.{true};
 ghost use mathlib.Core.List.{List};
 ghost use Prim.Native.Nat.{ℕ, _*_, _<_, _≤_};
-ghost use lib.Dec.{ltb};
 ghost use lib.ListN.{length};
 ghost use Rattle.model.specs.Bounded.{allBelow};
-ghost use Rattle.model.specs.Layout.{allowed};
 ghost use Rattle.model.specs.Lent.{lentBy, jobOf, lentWell, pieceBound};
 ghost use Rattle.model.specs.Cover.{entryIn, isBlank, entryWell, sheetWell};
 ghost use Rattle.sheet_check.specs.Counted.{CanCount, Recounted, addedEntry, countsWell};
@@ -42,17 +40,6 @@ fn is_blank(entry: Entry) -> bool
         return false;
     }
     place.y.0 == 0
-}
-
-// The job has the piece and the turn is allowed to it.
-pub fn known(size: JobSize, table: &[[u8; 3]], i: usize, turn: Turn) -> bool
-    requires { ⌜ size .count ≤ length (now table) ⌝ }
-    ensures { λ r. ⌜ ((pixels : List ℕ) → r ≡ (ltb i (size .count) && allowed (jobOf (lentBy size (now (table .entry)) pixels)) i turn)) ⌝ }
-{
-    if size.count <= i {
-        return false;
-    }
-    layout_places::allows(table[i][2], turn)
 }
 
 // The entry of piece i is blank, or that of a piece of the job laid inside in an allowed turn.

@@ -27,7 +27,7 @@ use Rattle.cover_laws.proofs.Reached.{well-sound}
 use Rattle.cover_laws.proofs.Effects.{fresh-well, call-well}
 use Rattle.sheet_calls.specs.Answers.{sheetOf, recordOf, blankRecord, givenAnswer, sheetAnswer, bufferCauses}
 use Rattle.sheet_calls.specs.Ready.{SheetReady}
-use Rattle.sheet_calls.specs.declared.Reply.the-variants.{Given, Refused}
+use Rattle.model.specs.declared.DoneAnswer.the-variants.{Done, Refused}
 use Rattle.sheet_calls.specs.declared.SheetAnswer.{SheetAnswer}
 use Rattle.c_interface.specs.Numbers.{pieceWithTurn}
 use Rattle.sheet_lists.specs.CallList.{callOf, callsOf, runOutcome}
@@ -145,7 +145,7 @@ module _ (l : Lent) (es : List (List ℕ)) (cs cs′ : List ℕ) (start : SheetA
       (run-cases l (length cs) es)
 
   -- after a given start the sheet is fresh, and the run is given
-  pub given-run : start .reply ≡ Given → BothGiven l (length cs) es × (sheetOf (start .sheet) cs′ ≡ fresh (jobOf l))
+  pub given-run : start .reply ≡ Done → BothGiven l (length cs) es × (sheetOf (start .sheet) cs′ ≡ fresh (jobOf l))
   given-run so =
       ⊎-elim
       (λ (same : Alike (freshCall l (length cs)) (runOutcome l (length cs) es)).

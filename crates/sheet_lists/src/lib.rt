@@ -1,9 +1,9 @@
 // Lists of calls from a fresh sheet, each through the public calls: what demand 2 says of every such list holds of what this code leaves.
 use c_interface::piece_with_turn;
 use c_interface::placement_of;
+use model::DoneAnswer;
 use model::JobSize;
 use model::Record;
-use sheet_calls::Reply;
 use sheet_calls::SheetAnswer;
 ghost use mathlib.Core.Path.{_≡_};
 ghost use lib.ListN.{length};
@@ -14,7 +14,7 @@ ghost use Rattle.cover_laws.specs.CoverClaims.{CoverHolds};
 ghost use Rattle.sheet_calls.specs.Answers.{sheetOf, blankRecord, sheetAnswer};
 ghost use Rattle.sheet_calls.specs.Ready.{SheetReady};
 ghost use Rattle.sheet_lists.specs.CallList.{callOf, callsOf, runOutcome};
-ghost use Rattle.sheet_calls.specs.declared.Reply.the-variants.{Given};
+ghost use Rattle.model.specs.declared.DoneAnswer.the-variants.{Done};
 
 // One call of a list (specs/CallList.antt says how five numbers are a call): the record after it.
 fn run_call(
@@ -70,16 +70,16 @@ pub fn run_calls(
 ) -> SheetAnswer
     ensures { λ r. ⌜ r ≡ sheetAnswer blankRecord (runOutcome (lentBy size (now (table .entry)) (now (pixels .entry))) (length (now (counts .entry))) (now (calls .entry))) ⌝ }
     ensures { λ _. ⌜ now (counts .exit) ≡ countsAfter (now (counts .entry)) (runOutcome (lentBy size (now (table .entry)) (now (pixels .entry))) (length (now (counts .entry))) (now (calls .entry))) ⌝ }
-    ensures { λ r. ⌜ (r .reply ≡ Given → CoverHolds (jobOf (lentBy size (now (table .entry)) (now (pixels .entry)))) (callsOf (now (calls .entry))) (sheetOf (r .sheet) (now (counts .exit)))) ⌝ }
+    ensures { λ r. ⌜ (r .reply ≡ Done → CoverHolds (jobOf (lentBy size (now (table .entry)) (now (pixels .entry)))) (callsOf (now (calls .entry))) (sheetOf (r .sheet) (now (counts .exit)))) ⌝ }
 {
     let start = sheet_calls::fresh(size, table, pixels, counts);
     let reply = start.reply;
-    if let Reply::Refused(_) = reply {
+    if let DoneAnswer::Refused(_) = reply {
         return start;
     }
     let first = start.sheet;
     let sheet = run_from(size, table, pixels, first, calls, counts);
-    let taken = Reply::Given;
+    let taken = DoneAnswer::Done;
     SheetAnswer {
         reply: taken,
         sheet,

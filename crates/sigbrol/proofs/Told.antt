@@ -6,29 +6,20 @@ use mathlib.Core.Path.{_≡_, refl, _∙_, ap}
 use Prim.Native.Nat.{ℕ, _<_}
 use native.Mathlib.Omega.{arith}
 use lib.ListN.{length}
-use Rattle.model.specs.Piece.{Shape, coordinateNumber}
+use Rattle.model.specs.Piece.{coordinateNumber}
 use Rattle.model.specs.Lent.{Lent}
+use Rattle.model.specs.Answers.{doneAnswer, numberAnswer, countAnswer}
 use Rattle.model.specs.Refusal.{Outcome, refused, given, Cause, refusalOf, unless}
-use Rattle.model.specs.Calls.{leaving, Stores}
+use Rattle.model.specs.Calls.{leaving}
+use Rattle.model.specs.declared.DoneAnswer.{DoneAnswer}
+use Rattle.model.specs.declared.NumberAnswer.{NumberAnswer}
 use Rattle.model.specs.declared.JobSize.{JobSize}
 use Rattle.model.specs.declared.Line.{Line}
 use Rattle.model.specs.declared.Line.the-variants.{InRow, InColumn}
 use Rattle.model.specs.declared.Refusal.{Refusal}
 use Rattle.model.specs.Descent.{Descent}
 use Rattle.model.specs.Guided.{Guided}
-use Rattle.model.specs.Layout.{Layout}
 use Rattle.model.specs.Search.{Best}
-use Rattle.layout_places.specs.Answers.{lengthAnswer}
-use Rattle.layout_places.specs.declared.LengthAnswer.{LengthAnswer}
-use Rattle.layout_start_calls.specs.Answers.{startAnswer}
-use Rattle.layout_start_calls.specs.declared.StartAnswer.{StartAnswer}
-use Rattle.layout_sum_calls.specs.Answers.{checkAnswer, sumAnswer}
-use Rattle.layout_sum_calls.specs.declared.CheckAnswer.{CheckAnswer}
-use Rattle.layout_sum_calls.specs.declared.SumAnswer.{SumAnswer}
-use Rattle.layout_write_calls.specs.Answers.{textAnswer}
-use Rattle.layout_write_calls.specs.declared.TextAnswer.{TextAnswer}
-use Rattle.layout_read_calls.specs.Answers.{layoutAnswer}
-use Rattle.layout_read_calls.specs.declared.LayoutAnswer.{LayoutAnswer}
 use Rattle.search_calls.specs.Answers.{searchAnswer}
 use Rattle.search_calls.specs.declared.SearchAnswer.{SearchAnswer}
 use Rattle.run_descent_calls.specs.Answers.{descentAnswer, endedOf}
@@ -40,15 +31,8 @@ use Rattle.run_guided_calls.specs.declared.RunTotals.{RunTotals}
 use Rattle.c_interface.specs.Replies.{replyTo}
 use Rattle.job_calls.specs.Reading.{readAnswer}
 use Rattle.job_calls.specs.declared.JobAnswer.{JobAnswer}
-use Rattle.strip_calls.specs.Stores.{stripsAnswer}
-use Rattle.strip_calls.specs.declared.StripsAnswer.{StripsAnswer}
-use Rattle.strip_rebuild_calls.specs.Answer.{rebuildAnswer}
-use Rattle.strip_rebuild_calls.specs.declared.RebuildAnswer.{RebuildAnswer}
-use Rattle.pair_nofit_calls.specs.Lines.{runsAnswer}
-use Rattle.pair_nofit_calls.specs.declared.RunsAnswer.{RunsAnswer}
-use Rattle.pair_calls.specs.Answers.{shareAnswer, amountAnswer}
+use Rattle.pair_calls.specs.Answers.{shareAnswer}
 use Rattle.pair_calls.specs.declared.ShareAnswer.{ShareAnswer}
-use Rattle.pair_calls.specs.declared.AmountAnswer.{AmountAnswer}
 
 -- an outcome of which a part is told
 abbrev pub telling : {A B : Type 0} → (A → B) → Outcome A → Outcome B
@@ -103,6 +87,29 @@ refusal-told f (given a) r e = let z : _≡_ {A = ℕ} 0 1 = cc in absurd (omega
 
 -- ── what each answer tells ──
 
+-- that a call is done
+abbrev pub doneTold : DoneAnswer → Outcome (Unit {0})
+doneTold (DoneAnswer.Refused r) = refused r
+doneTold DoneAnswer.Done = given tt
+
+pub done-told : {A : Type 0} (o : Outcome A) {x : DoneAnswer} → x ≡ doneAnswer o → doneTold x ≡ telling (λ a. tt) o
+done-told (refused r) e = ap doneTold e
+done-told (given a) e = ap doneTold e
+
+-- a number
+abbrev pub numberTold : NumberAnswer → Outcome ℕ
+numberTold (NumberAnswer.Refused r) = refused r
+numberTold (NumberAnswer.Number k) = given k
+
+pub number-told : (o : Outcome ℕ) {x : NumberAnswer} → x ≡ numberAnswer o → numberTold x ≡ telling (λ k. k) o
+number-told (refused r) e = ap numberTold e
+number-told (given k) e = ap numberTold e
+
+-- how many there are
+pub count-told : {A : Type 0} (o : Outcome (List A)) {x : NumberAnswer} → x ≡ countAnswer o → numberTold x ≡ telling (λ xs. length xs) o
+count-told (refused r) e = ap numberTold e
+count-told (given xs) e = ap numberTold e
+
 -- whether a pixel is shared
 abbrev pub shareTold : ShareAnswer → Outcome Bool
 shareTold (ShareAnswer.Refused r) = refused r
@@ -111,15 +118,6 @@ shareTold (ShareAnswer.Shares b) = given b
 pub share-told : (o : Outcome Bool) {x : ShareAnswer} → x ≡ shareAnswer o → shareTold x ≡ telling (λ a. a) o
 share-told (refused r) e = ap shareTold e
 share-told (given a) e = ap shareTold e
-
--- a depth or a penalty
-abbrev pub amountTold : AmountAnswer → Outcome ℕ
-amountTold (AmountAnswer.Refused r) = refused r
-amountTold (AmountAnswer.Amount k) = given k
-
-pub amount-told : (o : Outcome ℕ) {x : AmountAnswer} → x ≡ amountAnswer o → amountTold x ≡ telling (λ a. a) o
-amount-told (refused r) e = ap amountTold e
-amount-told (given a) e = ap amountTold e
 
 -- the numbers of a job that is read
 abbrev pub sizeIn : Lent → JobSize
@@ -132,87 +130,6 @@ jobTold (JobAnswer.Read s) = given s
 pub job-told : (o : Outcome Lent) {x : JobAnswer} → x ≡ readAnswer o → jobTold x ≡ telling sizeIn o
 job-told (refused r) e = ap jobTold e
 job-told (given l) e = ap jobTold e
-
--- that stores are filled
-abbrev pub stripsTold : StripsAnswer → Outcome (Unit {0})
-stripsTold (StripsAnswer.Refused r) = refused r
-stripsTold StripsAnswer.Filled = given tt
-
-pub strips-told : (o : Outcome Stores) {x : StripsAnswer} → x ≡ stripsAnswer o → stripsTold x ≡ telling (λ s. tt) o
-strips-told (refused r) e = ap stripsTold e
-strips-told (given s) e = ap stripsTold e
-
--- that a piece is rebuilt
-abbrev pub rebuildTold : RebuildAnswer → Outcome (Unit {0})
-rebuildTold (RebuildAnswer.Refused r) = refused r
-rebuildTold RebuildAnswer.Rebuilt = given tt
-
-pub rebuild-told : (o : Outcome Shape) {x : RebuildAnswer} → x ≡ rebuildAnswer o → rebuildTold x ≡ telling (λ s. tt) o
-rebuild-told (refused r) e = ap rebuildTold e
-rebuild-told (given s) e = ap rebuildTold e
-
--- how many runs there are
-abbrev pub runsTold : RunsAnswer → Outcome ℕ
-runsTold (RunsAnswer.Refused r) = refused r
-runsTold (RunsAnswer.Runs n) = given n
-
-pub runs-told : {A : Type 0} (o : Outcome (List A)) {x : RunsAnswer} → x ≡ runsAnswer o → runsTold x ≡ telling (λ rs. length rs) o
-runs-told (refused r) e = ap runsTold e
-runs-told (given rs) e = ap runsTold e
-
--- a sum
-abbrev pub sumTold : SumAnswer → Outcome ℕ
-sumTold (SumAnswer.Refused r) = refused r
-sumTold (SumAnswer.Sum k) = given k
-
-pub sum-told : (o : Outcome ℕ) {x : SumAnswer} → x ≡ sumAnswer o → sumTold x ≡ telling (λ a. a) o
-sum-told (refused r) e = ap sumTold e
-sum-told (given k) e = ap sumTold e
-
--- a used length
-abbrev pub lengthTold : LengthAnswer → Outcome ℕ
-lengthTold (LengthAnswer.Refused r) = refused r
-lengthTold (LengthAnswer.Length k) = given k
-
-pub length-told : (o : Outcome ℕ) {x : LengthAnswer} → x ≡ lengthAnswer o → lengthTold x ≡ telling (λ a. a) o
-length-told (refused r) e = ap lengthTold e
-length-told (given k) e = ap lengthTold e
-
--- that a layout passes
-abbrev pub checkTold : CheckAnswer → Outcome (Unit {0})
-checkTold (CheckAnswer.Refused r) = refused r
-checkTold CheckAnswer.Passes = given tt
-
-pub check-told : (o : Outcome (Unit {0})) {x : CheckAnswer} → x ≡ checkAnswer o → checkTold x ≡ telling (λ u. tt) o
-check-told (refused r) e = ap checkTold e
-check-told (given u) e = ap checkTold e
-
--- that the start layout is laid out
-abbrev pub startTold : StartAnswer → Outcome (Unit {0})
-startTold (StartAnswer.Refused r) = refused r
-startTold StartAnswer.Laid = given tt
-
-pub start-told : (o : Outcome Layout) {x : StartAnswer} → x ≡ startAnswer o → startTold x ≡ telling (λ v. tt) o
-start-told (refused r) e = ap startTold e
-start-told (given v) e = ap startTold e
-
--- how many bytes are written
-abbrev pub textTold : TextAnswer → Outcome ℕ
-textTold (TextAnswer.Refused r) = refused r
-textTold (TextAnswer.Written k) = given k
-
-pub text-told : (o : Outcome (List ℕ)) {x : TextAnswer} → x ≡ textAnswer o → textTold x ≡ telling (λ text. length text) o
-text-told (refused r) e = ap textTold e
-text-told (given text) e = ap textTold e
-
--- that a layout is read
-abbrev pub layoutTold : LayoutAnswer → Outcome (Unit {0})
-layoutTold (LayoutAnswer.Refused r) = refused r
-layoutTold LayoutAnswer.Read = given tt
-
-pub layout-told : (o : Outcome Layout) {x : LayoutAnswer} → x ≡ layoutAnswer o → layoutTold x ≡ telling (λ v. tt) o
-layout-told (refused r) e = ap layoutTold e
-layout-told (given v) e = ap layoutTold e
 
 -- the best place on a line
 abbrev pub bestTold : SearchAnswer → Outcome Best

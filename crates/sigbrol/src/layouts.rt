@@ -3,10 +3,8 @@ use c_interface::Reply;
 use c_interface::done;
 use c_interface::refused;
 use c_interface::size_of;
-use layout_places::LengthAnswer;
-use layout_start_calls::StartAnswer;
-use layout_sum_calls::CheckAnswer;
-use layout_sum_calls::SumAnswer;
+use model::DoneAnswer;
+use model::NumberAnswer;
 ghost use mathlib.Core.Path.{_≡_};
 ghost use lib.ListN.{length};
 ghost use Rattle.model.specs.Calls.{leaving, layoutAfter, weightedSumCall, plainSumCall, usedLengthCall, checkCall, startCall};
@@ -35,11 +33,11 @@ pub extern "C" fn sigbrol_weighted_sum(
         layout,
         weights,
     ) {
-        SumAnswer::Sum(total) => {
+        NumberAnswer::Number(total) => {
             *sum = total;
             done()
         }
-        SumAnswer::Refused(refusal) => refused(refusal),
+        NumberAnswer::Refused(refusal) => refused(refusal),
     }
 }
 
@@ -58,11 +56,11 @@ pub extern "C" fn sigbrol_plain_sum(
     ensures sum { λ r. ⌜ now (sum .exit) ≡ leaving (λ a. a) (now (sum .entry)) (plainSumCall (lentAs rows columns count (now (table .entry)) (now (pixels .entry))) (now (layout .entry))) ⌝ }
 {
     match layout_sum_calls::plain_sum(size_of(rows, columns, count), table, pixels, layout) {
-        SumAnswer::Sum(total) => {
+        NumberAnswer::Number(total) => {
             *sum = total;
             done()
         }
-        SumAnswer::Refused(refusal) => refused(refusal),
+        NumberAnswer::Refused(refusal) => refused(refusal),
     }
 }
 
@@ -80,12 +78,12 @@ pub extern "C" fn sigbrol_used_length(
     ensures answer { λ r. ⌜ r ≡ replyTo (usedLengthCall (lentAs rows columns count (now (table .entry)) (now (pixels .entry))) (now (layout .entry))) ⌝ }
     ensures used { λ r. ⌜ now (used .exit) ≡ leaving (λ a. a) (now (used .entry)) (usedLengthCall (lentAs rows columns count (now (table .entry)) (now (pixels .entry))) (now (layout .entry))) ⌝ }
 {
-    match layout_places::used_length(size_of(rows, columns, count), table, pixels, layout) {
-        LengthAnswer::Length(length) => {
-            *used = length;
+    match layout_length_calls::used_length(size_of(rows, columns, count), table, pixels, layout) {
+        NumberAnswer::Number(length) => {
+            *used = length as usize;
             done()
         }
-        LengthAnswer::Refused(refusal) => refused(refusal),
+        NumberAnswer::Refused(refusal) => refused(refusal),
     }
 }
 
@@ -102,8 +100,8 @@ pub extern "C" fn sigbrol_check(
     ensures answer { λ r. ⌜ r ≡ replyTo (checkCall (lentAs rows columns count (now (table .entry)) (now (pixels .entry))) (now (layout .entry))) ⌝ }
 {
     match layout_sum_calls::check(size_of(rows, columns, count), table, pixels, layout) {
-        CheckAnswer::Passes => done(),
-        CheckAnswer::Refused(refusal) => refused(refusal),
+        DoneAnswer::Done => done(),
+        DoneAnswer::Refused(refusal) => refused(refusal),
     }
 }
 
@@ -121,7 +119,7 @@ pub extern "C" fn sigbrol_start(
     ensures memory { λ r. ⌜ now (layout .exit) ≡ layoutAfter (now (layout .entry)) (startCall (lentAs rows columns count (now (table .entry)) (now (pixels .entry))) (length (now (layout .entry)))) ⌝ }
 {
     match layout_start_calls::start(size_of(rows, columns, count), table, pixels, layout) {
-        StartAnswer::Laid => done(),
-        StartAnswer::Refused(refusal) => refused(refusal),
+        DoneAnswer::Done => done(),
+        DoneAnswer::Refused(refusal) => refused(refusal),
     }
 }

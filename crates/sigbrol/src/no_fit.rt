@@ -6,8 +6,9 @@ use c_interface::refused;
 use c_interface::size_of;
 use layout_places::turn_or_zero;
 use model::ColumnOffset;
+use model::NumberAnswer;
 use model::RowOffset;
-use pair_nofit_calls::RunsAnswer;
+use pair_nofit_calls::PieceInTurn;
 ghost use mathlib.Core.Path.{_≡_};
 ghost use lib.ListN.{length};
 ghost use Rattle.model.specs.Buffer.{turnOf};
@@ -40,24 +41,30 @@ pub extern "C" fn sigbrol_no_fit_row(
     ensures counted { λ r. ⌜ now («runs_count» .exit) ≡ leaving (λ a. length a) (now («runs_count» .entry)) (noFitCall Horizontal (lentAs rows columns count (now (table .entry)) (now (pixels .entry))) (lentStretch (pieceWithTurn «i_turn» i) (turnOf «i_turn») (now («i_strips» .entry))) (lentStretch (pieceWithTurn «k_turn» k) (turnOf «k_turn») (now («k_strips» .entry))) offset (length (now (runs .entry)))) ⌝ }
 {
     let size = size_of(rows, columns, count);
+    let first = PieceInTurn {
+        piece: piece_with_turn(i_turn, i),
+        turn: turn_or_zero(i_turn),
+    };
+    let second = PieceInTurn {
+        piece: piece_with_turn(k_turn, k),
+        turn: turn_or_zero(k_turn),
+    };
     match pair_nofit_calls::no_fit_row(
         size,
         table,
         pixels,
-        piece_with_turn(i_turn, i),
-        turn_or_zero(i_turn),
+        first,
         i_strips,
-        piece_with_turn(k_turn, k),
-        turn_or_zero(k_turn),
+        second,
         k_strips,
         RowOffset(offset),
         runs,
     ) {
-        RunsAnswer::Runs(found) => {
-            *runs_count = found;
+        NumberAnswer::Number(found) => {
+            *runs_count = found as usize;
             done()
         }
-        RunsAnswer::Refused(refusal) => refused(refusal),
+        NumberAnswer::Refused(refusal) => refused(refusal),
     }
 }
 
@@ -84,23 +91,29 @@ pub extern "C" fn sigbrol_no_fit_column(
     ensures counted { λ r. ⌜ now («runs_count» .exit) ≡ leaving (λ a. length a) (now («runs_count» .entry)) (noFitCall Vertical (lentAs rows columns count (now (table .entry)) (now (pixels .entry))) (lentStretch (pieceWithTurn «i_turn» i) (turnOf «i_turn») (now («i_strips» .entry))) (lentStretch (pieceWithTurn «k_turn» k) (turnOf «k_turn») (now («k_strips» .entry))) offset (length (now (runs .entry)))) ⌝ }
 {
     let size = size_of(rows, columns, count);
+    let first = PieceInTurn {
+        piece: piece_with_turn(i_turn, i),
+        turn: turn_or_zero(i_turn),
+    };
+    let second = PieceInTurn {
+        piece: piece_with_turn(k_turn, k),
+        turn: turn_or_zero(k_turn),
+    };
     match pair_nofit_calls::no_fit_column(
         size,
         table,
         pixels,
-        piece_with_turn(i_turn, i),
-        turn_or_zero(i_turn),
+        first,
         i_strips,
-        piece_with_turn(k_turn, k),
-        turn_or_zero(k_turn),
+        second,
         k_strips,
         ColumnOffset(offset),
         runs,
     ) {
-        RunsAnswer::Runs(found) => {
-            *runs_count = found;
+        NumberAnswer::Number(found) => {
+            *runs_count = found as usize;
             done()
         }
-        RunsAnswer::Refused(refusal) => refused(refusal),
+        NumberAnswer::Refused(refusal) => refused(refusal),
     }
 }

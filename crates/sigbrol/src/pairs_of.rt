@@ -5,7 +5,7 @@ use c_interface::done;
 use c_interface::refused;
 use c_interface::size_of;
 use c_results::bit_of;
-use pair_calls::AmountAnswer;
+use model::NumberAnswer;
 use pair_calls::ShareAnswer;
 ghost use mathlib.Core.Path.{_≡_};
 ghost use Rattle.model.specs.Bounded.{oneIf};
@@ -57,11 +57,11 @@ pub extern "C" fn sigbrol_depth(
 {
     let size = size_of(rows, columns, count);
     match pair_calls::depth(size, table, pixels, layout, i, k, direction_of(vertical)) {
-        AmountAnswer::Amount(amount) => {
-            *depth = amount;
+        NumberAnswer::Number(amount) => {
+            *depth = amount as u32;
             done()
         }
-        AmountAnswer::Refused(refusal) => refused(refusal),
+        NumberAnswer::Refused(refusal) => refused(refusal),
     }
 }
 
@@ -82,10 +82,10 @@ pub extern "C" fn sigbrol_penalty(
     ensures penalty { λ r. ⌜ now (penalty .exit) ≡ leaving (λ a. a) (now (penalty .entry)) (penaltyCall (lentAs rows columns count (now (table .entry)) (now (pixels .entry))) (now (layout .entry)) i k) ⌝ }
 {
     match pair_calls::penalty(size_of(rows, columns, count), table, pixels, layout, i, k) {
-        AmountAnswer::Amount(amount) => {
-            *penalty = amount;
+        NumberAnswer::Number(amount) => {
+            *penalty = amount as u32;
             done()
         }
-        AmountAnswer::Refused(refusal) => refused(refusal),
+        NumberAnswer::Refused(refusal) => refused(refusal),
     }
 }

@@ -7,8 +7,8 @@ use c_interface::record::read_record;
 use c_interface::record::write_record;
 use c_interface::refused;
 use c_interface::size_of;
+use model::DoneAnswer;
 use model::PIECE_BOUND;
-use sheet_calls::Reply as SheetReply;
 ghost use mathlib.Core.Path.{_≡_};
 ghost use lib.ListN.{length};
 ghost use Rattle.model.specs.Buffer.{placement};
@@ -36,11 +36,11 @@ pub extern "C" fn sigbrol_fresh(
     let answer = sheet_calls::fresh(size_of(rows, columns, count), table, pixels, counts);
     let reply = answer.reply;
     match reply {
-        SheetReply::Given => {
+        DoneAnswer::Done => {
             write_record(entries, answer.sheet);
             done()
         }
-        SheetReply::Refused(refusal) => refused(refusal),
+        DoneAnswer::Refused(refusal) => refused(refusal),
     }
 }
 
@@ -74,11 +74,11 @@ pub extern "C" fn sigbrol_lay(
     );
     let reply = answer.reply;
     match reply {
-        SheetReply::Given => {
+        DoneAnswer::Done => {
             write_record(entries, answer.sheet);
             done()
         }
-        SheetReply::Refused(refusal) => refused(refusal),
+        DoneAnswer::Refused(refusal) => refused(refusal),
     }
 }
 
@@ -109,10 +109,10 @@ pub extern "C" fn sigbrol_withdraw(
     );
     let reply = answer.reply;
     match reply {
-        SheetReply::Given => {
+        DoneAnswer::Done => {
             write_record(entries, answer.sheet);
             done()
         }
-        SheetReply::Refused(refusal) => refused(refusal),
+        DoneAnswer::Refused(refusal) => refused(refusal),
     }
 }

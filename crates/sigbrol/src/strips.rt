@@ -4,8 +4,7 @@ use c_interface::direction_of;
 use c_interface::done;
 use c_interface::refused;
 use c_interface::size_of;
-use strip_calls::StripsAnswer;
-use strip_rebuild_calls::RebuildAnswer;
+use model::DoneAnswer;
 ghost use mathlib.Core.Path.{_≡_};
 ghost use Prim.Native.Nat.{_<_};
 ghost use lib.ListN.{length};
@@ -44,8 +43,8 @@ pub extern "C" fn sigbrol_strips(
         column_strips,
         column_starts,
     ) {
-        StripsAnswer::Filled => done(),
-        StripsAnswer::Refused(refusal) => refused(refusal),
+        DoneAnswer::Done => done(),
+        DoneAnswer::Refused(refusal) => refused(refusal),
     }
 }
 
@@ -151,7 +150,7 @@ pub extern "C" fn sigbrol_rebuild(
     ensures again { λ r. ⌜ Again (directionOf vertical) columns rows (now (strips .entry)) (now (pixels .entry)) (now (pixels .exit)) ⌝ }
 {
     match strip_rebuild_calls::rebuild(columns, rows, direction_of(vertical), strips, pixels) {
-        RebuildAnswer::Rebuilt => done(),
-        RebuildAnswer::Refused(refusal) => refused(refusal),
+        DoneAnswer::Done => done(),
+        DoneAnswer::Refused(refusal) => refused(refusal),
     }
 }

@@ -3,8 +3,8 @@ use c_interface::Reply;
 use c_interface::done;
 use c_interface::refused;
 use c_interface::size_of;
-use layout_read_calls::LayoutAnswer;
-use layout_write_calls::TextAnswer;
+use model::DoneAnswer;
+use model::NumberAnswer;
 ghost use mathlib.Core.Path.{_≡_};
 ghost use Prim.Native.Nat.{_≤_};
 ghost use lib.ListN.{length};
@@ -37,11 +37,11 @@ pub extern "C" fn sigbrol_write_layout(
         layout,
         text,
     ) {
-        TextAnswer::Written(length) => {
-            *written = length;
+        NumberAnswer::Number(length) => {
+            *written = length as usize;
             done()
         }
-        TextAnswer::Refused(refusal) => refused(refusal),
+        NumberAnswer::Refused(refusal) => refused(refusal),
     }
 }
 
@@ -66,8 +66,8 @@ pub extern "C" fn sigbrol_read_layout(
         text,
         layout,
     ) {
-        LayoutAnswer::Read => done(),
-        LayoutAnswer::Refused(refusal) => refused(refusal),
+        DoneAnswer::Done => done(),
+        DoneAnswer::Refused(refusal) => refused(refusal),
     }
 }
 
@@ -80,10 +80,10 @@ pub extern "C" fn sigbrol_program(input: &[u8], output: &mut [u8], written: &mut
     ensures fits { λ r. ⌜ length (programText (now (input .entry))) ≤ outputBound ⌝ }
 {
     match program_calls::print_run(input, output) {
-        TextAnswer::Written(count) => {
-            *written = count;
+        NumberAnswer::Number(count) => {
+            *written = count as usize;
             done()
         }
-        TextAnswer::Refused(refusal) => refused(refusal),
+        NumberAnswer::Refused(refusal) => refused(refusal),
     }
 }

@@ -2,6 +2,8 @@
 use mathlib.Core.Bool.{false}
 use mathlib.Core.Path.{refl, sym, ap, _∙_}
 use Rattle.model.specs.Answers.{numberAnswer}
+use Rattle.model.specs.Layout.{weightedSum}
+use Rattle.model.specs.declared.NumberAnswer.{NumberAnswer}
 use Rattle.model.specs.Lent.{Lent, lentBy, jobOf}
 use Rattle.model.specs.Buffer.{layoutOf}
 use Rattle.model.specs.Calls.{weightedSumCall}
@@ -55,10 +57,9 @@ returns-2 c =
     let s : tie.Start = search in
     let told : tie.After-enum-told = search in
     let made : tie.After-penalties-of = search in
-    rw (
-      sym (sum-asked (lent s) (s .args .layout .now) _ (s .args .weights .now)) ∙ unless-given _ _ (passed told),
-      c .total .ensures (jobOf (lent s)) (layoutOf (s .args .layout .now)) refl (made .penalties-of .ensures),
-    )
+    let sum = weightedSum (jobOf (lent s)) (s .args .weights .now) (layoutOf (s .args .layout .now)) in
+    ap NumberAnswer.Number (c .total .ensures (jobOf (lent s)) (layoutOf (s .args .layout .now)) refl (made .penalties-of .ensures))
+    ∙ sym (ap numberAnswer (sym (sum-asked (lent s) (s .args .layout .now) sum (s .args .weights .now)) ∙ unless-given _ sum (passed told)))
 
 pub weighted-sum-spec : {M : Type 1} → statement M
 weighted-sum-spec =

@@ -1,5 +1,6 @@
 -- `pair_calls::penalty` meets its contract: the causes refuse, or none is there and what is measured is the pair's. Assumes nothing.
 use mathlib.Core.Path.{_≡_, sym, subst, ap, _∙_}
+use Prim.Native.Nat.{ℕ}
 use native.Mathlib.Omega.{arith}
 use borrow.Author.Needs.{needs}
 use Rattle.model.specs.Layout.{placeOf, pairPenalty}
@@ -50,8 +51,10 @@ placed-penalty-requires c κs =
 returns : tie.Need-returns
 unfolding penaltyCall
 returns c =
-    let asked : tie.After-pair-causes = search in
-    rw (refused-alone _ _ _ (sym (c .before .refusal .given .1) ∙ asked .pair-causes .ensures))
+    let asked : tie.After-pair-causes = search in (
+      rw (refused-alone _ _ _ (sym (c .before .refusal .given .1) ∙ asked .pair-causes .ensures)),
+      λ k e. absurd (let z : _≡_ {A = ℕ} 0 1 = cc in omega arith),
+    )
 
 returns-2 : tie.Need-returns-2
 unfolding penaltyCall pairPenalty
@@ -65,10 +68,12 @@ returns-2 c =
     let p = first .place-at .result in
     let q = second .place-at2 .result in
     let j = jobOf (lent s) in
-    let v = layoutOf (a .layout .now) in
-    rw (
-      unless-given _ _ (passed told),
-      measured .placed-penalty .ensures (a .size) ∙ placed-at penalty j (a .i) p (placeOf v (a .i)) (a .k) q (placeOf v (a .k)) (first .place-at .ensures) (second .place-at2 .ensures),
+    let v = layoutOf (a .layout .now) in (
+      rw (
+        unless-given _ _ (passed told),
+        measured .placed-penalty .ensures (a .size) ∙ placed-at penalty j (a .i) p (placeOf v (a .i)) (a .k) q (placeOf v (a .k)) (first .place-at .ensures) (second .place-at2 .ensures),
+      ),
+      λ k e. let same : measured .placed-penalty .result ≡ k = cc in omega arith,
     )
 
 pub penalty-spec : {M : Type 1} → statement M

@@ -20,8 +20,8 @@ slice-aggregate-print-text c = search needs
 print-text-requires : tie.Need-print-text-requires
 print-text-requires c κs = search needs
 
-refusal-requires : tie.Need-refusal-requires
-refusal-requires c κs = search needs
+plain-refusal-requires : tie.Need-plain-refusal-requires
+plain-refusal-requires c κs = search needs
 
 returns : tie.Need-returns
 returns c =
@@ -29,7 +29,7 @@ returns c =
     let w = c .before .before .before .print-text .ensures in
     let end = w .end in
     let long = c .before .if1 .taken in
-    rw (c .refusal .ensures) (leaves-short (a .input .now) (a .output .now) (omega arith) (w .short))
+    rw (c .plain-refusal .ensures) (leaves-short (a .input .now) (a .output .now) (omega arith) (w .short))
 
 array-share-prefix-text : tie.Need-array-share-prefix-text
 array-share-prefix-text c = search needs
@@ -62,7 +62,7 @@ print-run-spec =
     (tie.spec
     slice-aggregate-print-text
     print-text-requires
-    refusal-requires
+    plain-refusal-requires
     returns
     array-share-prefix-text
     slice-aggregate-put-word

@@ -8,8 +8,8 @@ use Rattle.program_calls.proofs.Printing.{text-printed}
 use Rattle.program_calls.proofs.print_text.Statement.{statement}
 use Rattle.program_calls.proofs.print_text.Tie as tie
 
-refusal-requires : tie.Need-refusal-requires
-refusal-requires c κs = search needs
+plain-refusal-requires : tie.Need-plain-refusal-requires
+plain-refusal-requires c κs = search needs
 
 put-refusal-line-requires : tie.Need-put-refusal-line-requires
 put-refusal-line-requires c κs = search needs
@@ -20,7 +20,7 @@ same-length c = search needs
 returns : tie.Need-returns
 returns c =
     let a = c .before .before .before .before .before .before .before .before .args in
-    text-printed (a .input .now) _ (program-too-long (a .input .now) (c .before .before .before .before .before .if1 .taken) ∙ ap refusalText (sym (c .before .before .before .refusal .ensures))) (c .before .before .put-refusal-line .ensures) (omega arith)
+    text-printed (a .input .now) _ (program-too-long (a .input .now) (c .before .before .before .before .before .if1 .taken) ∙ ap refusalText (sym (c .before .before .before .plain-refusal .ensures))) (c .before .before .put-refusal-line .ensures) (omega arith)
 
 read-and-print-requires : tie.Need-read-and-print-requires
 read-and-print-requires c κs = search needs
@@ -37,7 +37,7 @@ pub print-text-spec : {M : Type 1} → statement M
 print-text-spec =
     tie.close
     (tie.spec
-    refusal-requires
+    plain-refusal-requires
     put-refusal-line-requires
     same-length
     returns

@@ -1,5 +1,6 @@
 -- `run_descent_calls::descent` meets its contract: a cause refuses and nothing is written, else the descent is the job's, and demand 3 holds of it.
 -- Assumes nothing.
+use mathlib.Core.Bool.{false}
 use mathlib.Core.Path.{_≡_, sym, ap, _∙_}
 use Prim.Native.Nat.{ℕ}
 use native.Mathlib.Omega.{arith}
@@ -7,9 +8,9 @@ use lib.Dec.{ltb}
 use Rattle.model.specs.Lent.{Lent, lentBy}
 use Rattle.model.specs.Calls.{budgetBound, descentAfter}
 use Rattle.text_laws.specs.Outcomes.{NoCause}
-use Rattle.layout_places.proofs.Causes.{passed-none}
+use Rattle.text_laws.proofs.Causes.{passed-none}
 use Rattle.run_descent_calls.specs.Answers.{descentAnswer}
-use Rattle.run_memory.specs.Answers.{runCauses}
+use Rattle.causes.specs.Asked.{weightedCauses}
 use Rattle.run_memory.proofs.Causes.{run-given}
 use Rattle.run_descent_calls.proofs.Calls.{call-refused, few-trials, call-given, call-claims}
 use borrow.Author.Needs.{needs}
@@ -20,8 +21,8 @@ use Rattle.run_descent_calls.proofs.descent.Tie as tie
 abbrev lent : tie.Start → Lent
 lent e = lentBy (e .args .size) (e .args .table .now) (e .args .pixels .now)
 
-run-causes-requires : tie.Need-run-causes-requires
-run-causes-requires c κs = search needs
+weighted-causes-requires : tie.Need-weighted-causes-requires
+weighted-causes-requires c κs = search needs
 
 enum-known-refusal : tie.Need-enum-known-refusal
 enum-known-refusal c = search needs
@@ -31,8 +32,8 @@ enum-told c = search needs
 
 -- no cause is there
 none : (c : tie.After-enum-told)
-    → NoCause (runCauses (lent (c .before .before .before .before .before .before)) (c .before .before .before .before .before .before .args .layout .now) (c .before .before .before .before .before .before .args .weights .now) (ltb budgetBound (c .before .before .before .before .before .before .args .budget)))
-none c = passed-none _ (sym (c .enum-told .given .1) ∙ c .before .before .run-causes .ensures)
+    → NoCause (weightedCauses (lent (c .before .before .before .before .before .before)) (c .before .before .before .before .before .before .args .layout .now) (c .before .before .before .before .before .before .args .weights .now) (ltb budgetBound (c .before .before .before .before .before .before .args .budget)) false)
+none c = passed-none _ (sym (c .enum-told .given .1) ∙ c .before .before .weighted-causes .ensures)
 
 write-entries-requires : tie.Need-write-entries-requires
 write-entries-requires c κs = search needs
@@ -48,7 +49,7 @@ same-length c = search needs
 returns : tie.Need-returns
 returns c =
     let e = c .before .before .before .before .before .before .before in
-    let no = call-refused (lent e) (e .args .layout .now) (e .args .weights .now) (e .args .budget) _ (sym (c .before .refusal .given .1) ∙ c .before .before .before .run-causes .ensures) in
+    let no = call-refused (lent e) (e .args .layout .now) (e .args .weights .now) (e .args .budget) _ (sym (c .before .refusal .given .1) ∙ c .before .before .before .weighted-causes .ensures) in
     (sym (ap descentAnswer no), (sym (ap (descentAfter (e .args .layout .now)) no), λ x same. absurd (let z : _≡_ {A = ℕ} 0 1 = cc in omega arith)))
 
 same-length-2 : tie.Need-same-length-2
@@ -68,7 +69,7 @@ pub descent-spec : {M : Type 1} → statement M
 descent-spec =
     tie.close
     (tie.spec
-    run-causes-requires
+    weighted-causes-requires
     enum-known-refusal
     enum-told
     write-entries-requires

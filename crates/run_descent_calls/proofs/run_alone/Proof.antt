@@ -26,7 +26,7 @@ unfolding jobOf
 few e =
     let g = e .pre in
     let one = g .weights .onePerPair in
-    let most = pairs-at-most (e .args .size .count) (facts (lent e) (g .well) .fewPieces) in
+    let most = pairs-at-most (e .args .size .count) (facts (lent e) (g .laid .well) .fewPieces) in
     omega arith
 
 -- as much of a fresh array as there are weights

@@ -23,8 +23,8 @@ coordinate-on-requires c κs = search needs
 enum-told : tie.Need-enum-told
 enum-told c = search needs
 
-refusal-requires : tie.Need-refusal-requires
-refusal-requires c κs = search needs
+plain-refusal-requires : tie.Need-plain-refusal-requires
+plain-refusal-requires c κs = search needs
 
 returns : tie.Need-returns
 returns c =
@@ -35,7 +35,7 @@ returns c =
 returns-2 : tie.Need-returns-2
 returns-2 c =
     let line = c .before .before .before .args .line in
-    ap Refused (c .refusal .ensures) ∙ sym (ap (bestAnswer line) (c .before .enum-told .given .1))
+    ap Refused (c .plain-refusal .ensures) ∙ sym (ap (bestAnswer line) (c .before .enum-told .given .1))
 
 pub best-answer-spec : {M : Type 1} → statement M
 best-answer-spec =
@@ -46,6 +46,6 @@ best-answer-spec =
     cast-coordinate-on
     coordinate-on-requires
     enum-told
-    refusal-requires
+    plain-refusal-requires
     returns
     returns-2)

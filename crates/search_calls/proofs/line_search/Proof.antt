@@ -8,7 +8,7 @@ use Rattle.model.specs.Lent.{lentBy, jobOf}
 use Rattle.model.specs.Buffer.{layoutOf}
 use Rattle.model.specs.Calls.{bestPlace, searchCall}
 use Rattle.text_laws.specs.Outcomes.{NoCause}
-use Rattle.layout_places.proofs.Causes.{passed-none, none-then, refused-then}
+use Rattle.text_laws.proofs.Causes.{passed-none, none-then, refused-then}
 use Rattle.search_calls.specs.Answers.{InReach, bestAnswer, searchAnswer, searchCauses}
 use Rattle.search_calls.proofs.Answering.{search-ready, best-is, best-in-reach}
 use borrow.Author.Needs.{needs}

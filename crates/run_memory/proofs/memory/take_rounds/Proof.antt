@@ -9,7 +9,6 @@ use Rattle.model.specs.Lent.{Lent, lentBy, pieceBound}
 use Rattle.job_laws.proofs.Checked.{facts}
 use Rattle.run_step.specs.Ready.{LaidOut}
 use Rattle.run_rounds.specs.Rounds.{Ran}
-use Rattle.run_memory.proofs.Givens.{given-length}
 use borrow.Author.Needs.{needs}
 use Rattle.run_memory.proofs.memory.take_rounds.Statement.{statement}
 use Rattle.run_memory.proofs.memory.take_rounds.Tie as tie
@@ -20,11 +19,11 @@ job s = lentBy (s .args .size) (s .args .table .now) (s .args .pixels .now)
 
 -- it has at most 64 pieces
 few : (s : tie.Start) → s .args .size .count ≤ pieceBound
-few s = facts (job s) (s .pre .0 .well) .fewPieces
+few s = facts (job s) (s .pre .0 .laid .well) .fewPieces
 
 -- the layout has an entry for each
 whole : (s : tie.Start) → length (s .args .layout .now) ≡ s .args .size .count
-whole s = given-length (job s) (s .args .layout .now) (s .args .weights .now) (s .args .budget) (s .pre .0)
+whole s = s .pre .0 .laid .whole
 
 -- a fresh array
 abbrev fresh : List (List ℕ)

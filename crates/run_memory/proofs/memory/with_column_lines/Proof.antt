@@ -9,7 +9,6 @@ use Rattle.model.specs.declared.Direction.the-variants.{Vertical}
 use Rattle.search_laws.specs.Table.{PenaltyTable}
 use Rattle.search_table.specs.Drawn.{Drawn}
 use Rattle.run_memory.proofs.Fresh.{tags-lent, store-fresh}
-use Rattle.run_memory.proofs.Givens.{given-laid, given-length}
 use borrow.Author.Needs.{needs}
 use Rattle.run_memory.proofs.memory.with_column_lines.Statement.{statement}
 use Rattle.run_memory.proofs.memory.with_column_lines.Tie as tie
@@ -23,7 +22,7 @@ drawn : (e : tie.Start)
     → Drawn (lent e) (e .args .rows .now) (e .args .row-starts .now) (e .args .columns .now) (e .args .column-starts .now) (e .args .layout .now)
 drawn e =
     let tools = e .pre .1 .1 .0 in
-    let laid = given-laid (lent e) (e .args .layout .now) (e .args .weights .now) (e .args .budget) (e .pre .0) in
+    let laid = e .pre .0 .laid in
     record { inRows = record { laid = laid; horizontal = tools .horizontal }; vertical = tools .vertical }
 
 empty-lines-requires : tie.Need-empty-lines-requires
@@ -66,7 +65,7 @@ run-plan-requires c κs =
     let g = e .pre .0 in
     let f = filled .fill-table in
     let T = f .last .1 .1 .1 .1 .1 .1 .0 in
-    let whole = given-length (lent e) (e .args .layout .now) (e .args .weights .now) (e .args .budget) g in
+    let whole = g .laid .whole in
     let table : PenaltyTable (jobOf (lent e)) (layoutOf (e .args .layout .now)) (e .args .size .count) T =
     subst (λ (n : ℕ). PenaltyTable (jobOf (lent e)) (layoutOf (e .args .layout .now)) n T) whole (f .ensures (e .args .size) (e .args .pixels .now) (drawn e)) in
     let room = length-replicate {A = ℕ} 4096 0 in
@@ -77,7 +76,7 @@ run-plan-requires c κs =
         e .pre .1 .0,
         (
           e .pre .1 .1 .0,
-          (record { valid = g .valid; written = g .written; table = table }, record { inRows = e .pre .1 .1 .1; inColumns = columns; scratch = omega arith }),
+          (record { valid = g .laid .valid; written = g .written; table = table }, record { inRows = e .pre .1 .1 .1; inColumns = columns; scratch = omega arith }),
         ),
       ),
     )

@@ -16,7 +16,7 @@ empty-lines-requires : tie.Need-empty-lines-requires
 empty-lines-requires c κs = search needs
 
 slot-width-requires : tie.Need-slot-width-requires
-slot-width-requires c κs = let s : tie.Start = search in facts (job s) (s .pre .0 .well) .entries
+slot-width-requires c κs = let s : tie.Start = search in facts (job s) (s .pre .0 .laid .well) .entries
 
 slot-count-requires : tie.Need-slot-count-requires
 slot-count-requires c κs = search needs
@@ -46,7 +46,7 @@ with-column-lines-requires c κs =
         s .pre .1 .0,
         (
           record {
-            well = s .pre .0 .well;
+            well = s .pre .0 .laid .well;
             horizontal = s .pre .1 .1 .0;
             vertical = s .pre .1 .1 .1;
             wide = width .ensures .0 (s .args .pixels .now);

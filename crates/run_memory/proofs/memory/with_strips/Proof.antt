@@ -21,7 +21,7 @@ make-shapes-requires : tie.Need-make-shapes-requires
 make-shapes-requires c κs =
     let at-start : tie.Start = search in
     let made : tie.After-empty-store = search in
-    (at-start .pre .0 .well, room-of _ (made .empty-store .ensures))
+    (at-start .pre .0 .laid .well, room-of _ (made .empty-store .ensures))
 
 slice-aggregate-make-shapes-3 : tie.Need-slice-aggregate-make-shapes-3
 slice-aggregate-make-shapes-3 c = let made : tie.After-empty-store2 = search in sym (made .empty-store2 .ensures)
@@ -33,7 +33,7 @@ make-shapes-requires-2 : tie.Need-make-shapes-requires-2
 make-shapes-requires-2 c κs =
     let at-start : tie.Start = search in
     let made : tie.After-empty-store2 = search in
-    (at-start .pre .0 .well, room-of _ (made .empty-store2 .ensures))
+    (at-start .pre .0 .laid .well, room-of _ (made .empty-store2 .ensures))
 
 slice-aggregate-with-row-lines : tie.Need-slice-aggregate-with-row-lines
 slice-aggregate-with-row-lines c = search needs

@@ -1,10 +1,10 @@
 -- `sigbrol::layouts::sigbrol_check` meets its contract by what the answer tells. Assumes nothing.
 use mathlib.Core.Path.{_≡_, sym, _∙_}
+use Rattle.model.specs.Answers.{doneAnswer}
 use Rattle.model.specs.Refusal.{Outcome}
 use Rattle.model.specs.Calls.{checkCall}
 use Rattle.c_interface.specs.Numbers.{lentAs}
-use Rattle.layout_sum_calls.specs.Answers.{checkAnswer}
-use Rattle.sigbrol.proofs.Told.{reply-by, check-told}
+use Rattle.sigbrol.proofs.Told.{reply-by, done-told}
 use Rattle.sigbrol.proofs.layouts.sigbrol_check.Statement.{statement}
 use Rattle.sigbrol.proofs.layouts.sigbrol_check.Tie as tie
 
@@ -13,7 +13,7 @@ outcome : tie.Start → Outcome (Unit {0})
 outcome s = let a = s .args in checkCall (lentAs (a .rows) (a .columns) (a .count) (a .table .now) (a .pixels .now)) (a .layout .now)
 
 -- its answer tells that outcome
-answered : (c : tie.After-check) → c .check .result ≡ checkAnswer (outcome (c .before .before .before))
+answered : (c : tie.After-check) → c .check .result ≡ doneAnswer (outcome (c .before .before .before))
 unfolding outcome
 answered c = rw (c .before .size-of .ensures) at (c .check .ensures)
 
@@ -39,14 +39,14 @@ returns : tie.Need-returns
 unfolding outcome
 returns c =
     let o = outcome (c .before .before .before .before .before .before) in
-    let t = check-told o (sym (c .before .enum-told .given .1) ∙ answered (c .before .before .before)) in
+    let t = done-told o (sym (c .before .enum-told .given .1) ∙ answered (c .before .before .before)) in
     c .done .ensures ∙ reply-by (λ u. tt) o t
 
 returns-2 : tie.Need-returns-2
 unfolding outcome
 returns-2 c =
     let o = outcome (c .before .before .before .before .before .before .before) in
-    let t = check-told o (sym (c .before .before .refusal .given .1) ∙ answered (c .before .before .before .before)) in
+    let t = done-told o (sym (c .before .before .refusal .given .1) ∙ answered (c .before .before .before .before)) in
     c .refused .ensures ∙ reply-by (λ u. tt) o t
 
 pub sigbrol-check-spec : {M : Type 1} → statement M

@@ -1,11 +1,11 @@
 -- `sigbrol::layouts::sigbrol_plain_sum` meets its contract by what the answer tells. Assumes nothing.
 use mathlib.Core.Path.{_≡_, sym, _∙_}
 use Prim.Native.Nat.{ℕ}
+use Rattle.model.specs.Answers.{numberAnswer}
 use Rattle.model.specs.Refusal.{Outcome}
 use Rattle.model.specs.Calls.{plainSumCall}
 use Rattle.c_interface.specs.Numbers.{lentAs}
-use Rattle.layout_sum_calls.specs.Answers.{sumAnswer}
-use Rattle.sigbrol.proofs.Told.{reply-by, leaves-by, sum-told}
+use Rattle.sigbrol.proofs.Told.{reply-by, leaves-by, number-told}
 use Rattle.sigbrol.proofs.layouts.sigbrol_plain_sum.Statement.{statement}
 use Rattle.sigbrol.proofs.layouts.sigbrol_plain_sum.Tie as tie
 
@@ -14,7 +14,7 @@ outcome : tie.Start → Outcome ℕ
 outcome s = let a = s .args in plainSumCall (lentAs (a .rows) (a .columns) (a .count) (a .table .now) (a .pixels .now)) (a .layout .now)
 
 -- its answer tells that outcome
-answered : (c : tie.After-plain-sum) → c .plain-sum .result ≡ sumAnswer (outcome (c .before .before .before))
+answered : (c : tie.After-plain-sum) → c .plain-sum .result ≡ numberAnswer (outcome (c .before .before .before))
 unfolding outcome
 answered c = rw (c .before .size-of .ensures) at (c .plain-sum .ensures)
 
@@ -40,14 +40,14 @@ returns : tie.Need-returns
 unfolding outcome
 returns c =
     let o = outcome (c .before .before .before .before .before .before .before) in
-    let t = sum-told o (sym (c .before .before .total .given .1) ∙ answered (c .before .before .before .before)) in
+    let t = number-told o (sym (c .before .before .total .given .1) ∙ answered (c .before .before .before .before)) in
     (c .done .ensures ∙ reply-by (λ k. k) o t, leaves-by (λ k. k) (λ k. k) _ o t)
 
 returns-2 : tie.Need-returns-2
 unfolding outcome
 returns-2 c =
     let o = outcome (c .before .before .before .before .before .before .before) in
-    let t = sum-told o (sym (c .before .before .refusal .given .1) ∙ answered (c .before .before .before .before)) in
+    let t = number-told o (sym (c .before .before .refusal .given .1) ∙ answered (c .before .before .before .before)) in
     (c .refused .ensures ∙ reply-by (λ k. k) o t, leaves-by (λ k. k) (λ k. k) _ o t)
 
 pub sigbrol-plain-sum-spec : {M : Type 1} → statement M

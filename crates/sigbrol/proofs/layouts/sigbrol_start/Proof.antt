@@ -2,11 +2,11 @@
 use mathlib.Core.Path.{_≡_, sym, _∙_}
 use lib.ListN.{length}
 use Rattle.model.specs.Layout.{Layout}
+use Rattle.model.specs.Answers.{doneAnswer}
 use Rattle.model.specs.Refusal.{Outcome}
 use Rattle.model.specs.Calls.{startCall}
 use Rattle.c_interface.specs.Numbers.{lentAs}
-use Rattle.layout_start_calls.specs.Answers.{startAnswer}
-use Rattle.sigbrol.proofs.Told.{reply-by, start-told}
+use Rattle.sigbrol.proofs.Told.{reply-by, done-told}
 use Rattle.sigbrol.proofs.layouts.sigbrol_start.Statement.{statement}
 use Rattle.sigbrol.proofs.layouts.sigbrol_start.Tie as tie
 
@@ -15,7 +15,7 @@ outcome : tie.Start → Outcome Layout
 outcome s = let a = s .args in startCall (lentAs (a .rows) (a .columns) (a .count) (a .table .now) (a .pixels .now)) (length (a .layout .now))
 
 -- its answer tells that outcome
-answered : (c : tie.After-start) → c .start .result ≡ startAnswer (outcome (c .before .before .before .before))
+answered : (c : tie.After-start) → c .start .result ≡ doneAnswer (outcome (c .before .before .before .before))
 unfolding outcome
 answered c = rw (c .before .before .size-of .ensures) at (c .start .ensures .0)
 
@@ -44,7 +44,7 @@ returns : tie.Need-returns
 unfolding outcome
 returns c =
     let o = outcome (c .before .before .before .before .before .before .before .before) in
-    let t = start-told o (sym (c .before .enum-told .given .1) ∙ answered (c .before .before .before .before)) in
+    let t = done-told o (sym (c .before .enum-told .given .1) ∙ answered (c .before .before .before .before)) in
     (c .done .ensures ∙ reply-by (λ v. tt) o t, rw (c .before .before .before .before .before .before .size-of .ensures) at (c .before .before .before .before .start .ensures .1))
 
 same-length-2 : tie.Need-same-length-2
@@ -54,7 +54,7 @@ returns-2 : tie.Need-returns-2
 unfolding outcome
 returns-2 c =
     let o = outcome (c .before .before .before .before .before .before .before .before .before) in
-    let t = start-told o (sym (c .before .before .refusal .given .1) ∙ answered (c .before .before .before .before .before)) in
+    let t = done-told o (sym (c .before .before .refusal .given .1) ∙ answered (c .before .before .before .before .before)) in
     (c .refused .ensures ∙ reply-by (λ v. tt) o t, rw (c .before .before .before .before .before .before .before .size-of .ensures) at (c .before .before .before .before .before .start .ensures .1))
 
 pub sigbrol-start-spec : {M : Type 1} → statement M

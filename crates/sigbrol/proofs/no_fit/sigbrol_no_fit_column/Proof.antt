@@ -7,13 +7,14 @@ use mir.Syntax.{w32}
 use mir.Val.{toZ, ofZ}
 use mir.ValLaws.{toZ-ofZ}
 use Rattle.model.specs.Overlap.{OffsetRun}
+use Rattle.model.specs.Answers.{countAnswer}
 use Rattle.model.specs.Refusal.{Outcome}
 use Rattle.model.specs.Buffer.{turnOf}
 use Rattle.model.specs.Calls.{noFitCall, runsAfter}
 use Rattle.model.specs.declared.Direction.the-variants.{Vertical}
-use Rattle.pair_nofit_calls.specs.Lines.{lentStretch, runsAnswer}
+use Rattle.pair_nofit_calls.specs.Lines.{lentStretch}
 use Rattle.c_interface.specs.Numbers.{lentAs, pieceWithTurn}
-use Rattle.sigbrol.proofs.Told.{reply-by, leaves-by, runs-told}
+use Rattle.sigbrol.proofs.Told.{reply-by, leaves-by, count-told}
 use Rattle.sigbrol.proofs.no_fit.sigbrol_no_fit_column.Statement.{statement}
 use Rattle.sigbrol.proofs.no_fit.sigbrol_no_fit_column.Tie as tie
 
@@ -27,7 +28,7 @@ outcome s offset =
 
 -- answer and runs are those of an outcome
 Tells : (c : tie.After-no-fit-column) → Outcome (List OffsetRun) → Type 0
-Tells c o = (c .no-fit-column .result ≡ runsAnswer o) × (c .no-fit-column .last .1 .1 .1 .1 .1 .1 .1 .1 .1 .1 .0 ≡ runsAfter (c .before .before .before .before .before .before .before .before .args .runs .now) o)
+Tells c o = (c .no-fit-column .result ≡ countAnswer o) × (c .no-fit-column .last .1 .1 .1 .1 .1 .1 .1 .1 .1 .1 .0 ≡ runsAfter (c .before .before .before .before .before .before .before .before .args .runs .now) o)
 
 -- they are the call's, the offset being handed on as it is
 told : (c : tie.After-no-fit-column) → Tells c (outcome (c .before .before .before .before .before .before .before .before) (c .before .before .before .before .before .before .before .before .args .offset))
@@ -76,7 +77,7 @@ unfolding outcome Tells
 returns c =
     let o = outcome (c .before .before .before .before .before .before .before .before .before .before .before .before .before) (c .before .before .before .before .before .before .before .before .before .before .before .before .before .args .offset) in
     let p = told (c .before .before .before .before .before) in
-    let t = runs-told o (sym (c .before .before .found .given .1) ∙ p .0) in
+    let t = count-told o (sym (c .before .before .found .given .1) ∙ p .0) in
     (c .done .ensures ∙ reply-by (λ rs. length rs) o t, (p .1, leaves-by (λ rs. length rs) (λ n. n) _ o t))
 
 same-length-2 : tie.Need-same-length-2
@@ -87,7 +88,7 @@ unfolding outcome Tells
 returns-2 c =
     let o = outcome (c .before .before .before .before .before .before .before .before .before .before .before .before .before) (c .before .before .before .before .before .before .before .before .before .before .before .before .before .args .offset) in
     let p = told (c .before .before .before .before .before) in
-    let t = runs-told o (sym (c .before .before .refusal .given .1) ∙ p .0) in
+    let t = count-told o (sym (c .before .before .refusal .given .1) ∙ p .0) in
     (c .refused .ensures ∙ reply-by (λ rs. length rs) o t, (p .1, leaves-by (λ rs. length rs) (λ n. n) _ o t))
 
 pub sigbrol-no-fit-column-spec : {M : Type 1} → statement M

@@ -1,11 +1,11 @@
 -- `sigbrol::pairs_of::sigbrol_penalty` meets its contract by what the answer tells. Assumes nothing.
 use mathlib.Core.Path.{_≡_, sym, _∙_}
 use Prim.Native.Nat.{ℕ}
+use Rattle.model.specs.Answers.{numberAnswer}
 use Rattle.model.specs.Refusal.{Outcome}
 use Rattle.model.specs.Calls.{penaltyCall}
 use Rattle.c_interface.specs.Numbers.{lentAs}
-use Rattle.pair_calls.specs.Answers.{amountAnswer}
-use Rattle.sigbrol.proofs.Told.{reply-by, leaves-by, amount-told}
+use Rattle.sigbrol.proofs.Told.{reply-by, leaves-by, number-told}
 use Rattle.sigbrol.proofs.pairs_of.sigbrol_penalty.Statement.{statement}
 use Rattle.sigbrol.proofs.pairs_of.sigbrol_penalty.Tie as tie
 
@@ -14,7 +14,7 @@ outcome : tie.Start → Outcome ℕ
 outcome s = let a = s .args in penaltyCall (lentAs (a .rows) (a .columns) (a .count) (a .table .now) (a .pixels .now)) (a .layout .now) (a .i) (a .k)
 
 -- its answer tells that outcome
-answered : (c : tie.After-penalty) → c .penalty .result ≡ amountAnswer (outcome (c .before .before .before))
+answered : (c : tie.After-penalty) → c .penalty .result ≡ numberAnswer (outcome (c .before .before .before))
 unfolding outcome
 answered c = rw (c .before .size-of .ensures) at (c .penalty .ensures)
 
@@ -40,14 +40,14 @@ returns : tie.Need-returns
 unfolding outcome
 returns c =
     let o = outcome (c .before .before .before .before .before .before .before) in
-    let t = amount-told o (sym (c .before .before .amount .given .1) ∙ answered (c .before .before .before .before)) in
+    let t = number-told o (sym (c .before .before .amount .given .1) ∙ answered (c .before .before .before .before)) in
     (c .done .ensures ∙ reply-by (λ a. a) o t, leaves-by (λ a. a) (λ a. a) _ o t)
 
 returns-2 : tie.Need-returns-2
 unfolding outcome
 returns-2 c =
     let o = outcome (c .before .before .before .before .before .before .before) in
-    let t = amount-told o (sym (c .before .before .refusal .given .1) ∙ answered (c .before .before .before .before)) in
+    let t = number-told o (sym (c .before .before .refusal .given .1) ∙ answered (c .before .before .before .before)) in
     (c .refused .ensures ∙ reply-by (λ a. a) o t, leaves-by (λ a. a) (λ a. a) _ o t)
 
 pub sigbrol-penalty-spec : {M : Type 1} → statement M

@@ -2,12 +2,12 @@
 use mathlib.Core.Path.{_≡_, sym, _∙_}
 use lib.ListN.{length}
 use Rattle.model.specs.Piece.{Shape}
+use Rattle.model.specs.Answers.{doneAnswer}
 use Rattle.model.specs.Refusal.{Outcome}
 use Rattle.model.specs.Calls.{rebuildCall, pixelsAfter}
 use Rattle.c_interface.specs.Numbers.{directionOf}
 use Rattle.strip_rebuild_calls.specs.Again.{Again}
-use Rattle.strip_rebuild_calls.specs.Answer.{rebuildAnswer}
-use Rattle.sigbrol.proofs.Told.{reply-by, rebuild-told}
+use Rattle.sigbrol.proofs.Told.{reply-by, done-told}
 use Rattle.sigbrol.proofs.strips.sigbrol_rebuild.Statement.{statement}
 use Rattle.sigbrol.proofs.strips.sigbrol_rebuild.Tie as tie
 
@@ -16,7 +16,7 @@ outcome : tie.Start → Outcome Shape
 outcome s = let a = s .args in rebuildCall (directionOf (a .vertical)) (a .columns) (a .rows) (a .strips .now) (length (a .pixels .now))
 
 -- its answer tells that outcome
-answered : (c : tie.After-rebuild) → c .rebuild .result ≡ rebuildAnswer (outcome (c .before .before .before .before))
+answered : (c : tie.After-rebuild) → c .rebuild .result ≡ doneAnswer (outcome (c .before .before .before .before))
 unfolding outcome
 answered c = rw (c .before .before .direction-of .ensures) at (c .rebuild .ensures .0)
 
@@ -54,7 +54,7 @@ returns : tie.Need-returns
 unfolding outcome
 returns c =
     let o = outcome (c .before .before .before .before .before .before .before .before .before) in
-    (c .done .ensures ∙ reply-by (λ s. tt) o (rebuild-told o (sym (c .before .enum-told .given .1) ∙ answered (c .before .before .before .before .before))), (left (c .before .before .before .before .before), again (c .before .before .before .before .before)))
+    (c .done .ensures ∙ reply-by (λ s. tt) o (done-told o (sym (c .before .enum-told .given .1) ∙ answered (c .before .before .before .before .before))), (left (c .before .before .before .before .before), again (c .before .before .before .before .before)))
 
 same-length-2 : tie.Need-same-length-2
 same-length-2 c = c .before .before .before .before .before .before .rebuild .kept .1 .1 .1 .1 .0
@@ -63,7 +63,7 @@ returns-2 : tie.Need-returns-2
 unfolding outcome
 returns-2 c =
     let o = outcome (c .before .before .before .before .before .before .before .before .before .before) in
-    (c .refused .ensures ∙ reply-by (λ s. tt) o (rebuild-told o (sym (c .before .before .refusal .given .1) ∙ answered (c .before .before .before .before .before .before))), (left (c .before .before .before .before .before .before), again (c .before .before .before .before .before .before)))
+    (c .refused .ensures ∙ reply-by (λ s. tt) o (done-told o (sym (c .before .before .refusal .given .1) ∙ answered (c .before .before .before .before .before .before))), (left (c .before .before .before .before .before .before), again (c .before .before .before .before .before .before)))
 
 pub sigbrol-rebuild-spec : {M : Type 1} → statement M
 sigbrol-rebuild-spec =

@@ -1,10 +1,11 @@
 -- `sigbrol::strips::sigbrol_strips` meets its contract by what the answer tells. Assumes nothing.
 use mathlib.Core.Path.{_≡_, sym, _∙_}
+use Rattle.model.specs.Answers.{doneAnswer}
 use Rattle.model.specs.Refusal.{Outcome}
 use Rattle.model.specs.Calls.{Stores, stripsCall, storesAfter}
 use Rattle.c_interface.specs.Numbers.{lentAs}
-use Rattle.strip_calls.specs.Stores.{storesBy, stripsAnswer}
-use Rattle.sigbrol.proofs.Told.{reply-by, strips-told}
+use Rattle.strip_calls.specs.Stores.{storesBy}
+use Rattle.sigbrol.proofs.Told.{reply-by, done-told}
 use Rattle.sigbrol.proofs.strips.sigbrol_strips.Statement.{statement}
 use Rattle.sigbrol.proofs.strips.sigbrol_strips.Tie as tie
 
@@ -17,7 +18,7 @@ outcome : tie.Start → Outcome Stores
 outcome s = let a = s .args in stripsCall (lentAs (a .rows) (a .columns) (a .count) (a .table .now) (a .pixels .now)) (a .turns .now) (lentStores s)
 
 -- its answer tells that outcome
-answered : (c : tie.After-strips) → c .strips .result ≡ stripsAnswer (outcome (c .before .before .before .before .before .before .before .before .before .before))
+answered : (c : tie.After-strips) → c .strips .result ≡ doneAnswer (outcome (c .before .before .before .before .before .before .before .before .before .before))
 unfolding outcome lentStores
 answered c = rw (c .before .before .before .before .before .size-of .ensures) at (c .strips .ensures .0)
 
@@ -60,7 +61,7 @@ returns : tie.Need-returns
 unfolding outcome lentStores
 returns c =
     let o = outcome (c .before .before .before .before .before .before .before .before .before .before .before .before .before .before .before .before .before .before .before) in
-    (c .done .ensures ∙ reply-by (λ s. tt) o (strips-told o (sym (c .before .enum-told .given .1) ∙ answered (c .before .before .before .before .before .before .before .before .before))), left (c .before .before .before .before .before .before .before .before .before))
+    (c .done .ensures ∙ reply-by (λ s. tt) o (done-told o (sym (c .before .enum-told .given .1) ∙ answered (c .before .before .before .before .before .before .before .before .before))), left (c .before .before .before .before .before .before .before .before .before))
 
 same-length-5 : tie.Need-same-length-5
 same-length-5 c = c .before .before .before .before .before .before .before .before .before .before .strips .kept .1 .1 .1 .1 .0
@@ -78,7 +79,7 @@ returns-2 : tie.Need-returns-2
 unfolding outcome lentStores
 returns-2 c =
     let o = outcome (c .before .before .before .before .before .before .before .before .before .before .before .before .before .before .before .before .before .before .before .before) in
-    (c .refused .ensures ∙ reply-by (λ s. tt) o (strips-told o (sym (c .before .before .refusal .given .1) ∙ answered (c .before .before .before .before .before .before .before .before .before .before))), left (c .before .before .before .before .before .before .before .before .before .before))
+    (c .refused .ensures ∙ reply-by (λ s. tt) o (done-told o (sym (c .before .before .refusal .given .1) ∙ answered (c .before .before .before .before .before .before .before .before .before .before))), left (c .before .before .before .before .before .before .before .before .before .before))
 
 pub sigbrol-strips-spec : {M : Type 1} → statement M
 sigbrol-strips-spec =

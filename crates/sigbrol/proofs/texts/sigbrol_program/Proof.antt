@@ -3,10 +3,10 @@ use mathlib.Core.Path.{_≡_, sym, _∙_}
 use mathlib.Core.List.{List}
 use Prim.Native.Nat.{ℕ}
 use lib.ListN.{length}
+use Rattle.model.specs.Answers.{countAnswer}
 use Rattle.model.specs.Refusal.{Outcome}
 use Rattle.model.specs.Program.{programCall}
-use Rattle.layout_write_calls.specs.Answers.{textAnswer}
-use Rattle.sigbrol.proofs.Told.{reply-by, leaves-by, text-told}
+use Rattle.sigbrol.proofs.Told.{reply-by, leaves-by, count-told}
 use Rattle.sigbrol.proofs.texts.sigbrol_program.Statement.{statement}
 use Rattle.sigbrol.proofs.texts.sigbrol_program.Tie as tie
 
@@ -15,7 +15,7 @@ outcome : tie.Start → Outcome (List ℕ)
 outcome s = let a = s .args in programCall (a .input .now) (length (a .output .now))
 
 -- its answer tells that outcome
-answered : (c : tie.After-print-run) → c .print-run .result ≡ textAnswer (outcome (c .before .before .before .before))
+answered : (c : tie.After-print-run) → c .print-run .result ≡ countAnswer (outcome (c .before .before .before .before))
 unfolding outcome
 answered c = c .print-run .ensures .0
 
@@ -41,7 +41,7 @@ returns : tie.Need-returns
 unfolding outcome
 returns c =
     let o = outcome (c .before .before .before .before .before .before .before .before .before .before) in
-    let t = text-told o (sym (c .before .before .count .given .1) ∙ answered (c .before .before .before .before .before .before)) in
+    let t = count-told o (sym (c .before .before .count .given .1) ∙ answered (c .before .before .before .before .before .before)) in
     (c .done .ensures ∙ reply-by (λ text. length text) o t, (c .before .before .before .before .before .before .print-run .ensures .1 .0, (leaves-by (λ text. length text) (λ k. k) _ o t, c .before .before .before .before .before .before .print-run .ensures .1 .1)))
 
 same-length-2 : tie.Need-same-length-2
@@ -51,7 +51,7 @@ returns-2 : tie.Need-returns-2
 unfolding outcome
 returns-2 c =
     let o = outcome (c .before .before .before .before .before .before .before .before .before .before) in
-    let t = text-told o (sym (c .before .before .refusal .given .1) ∙ answered (c .before .before .before .before .before .before)) in
+    let t = count-told o (sym (c .before .before .refusal .given .1) ∙ answered (c .before .before .before .before .before .before)) in
     (c .refused .ensures ∙ reply-by (λ text. length text) o t, (c .before .before .before .before .before .before .print-run .ensures .1 .0, (leaves-by (λ text. length text) (λ k. k) _ o t, c .before .before .before .before .before .before .print-run .ensures .1 .1)))
 
 pub sigbrol-program-spec : {M : Type 1} → statement M

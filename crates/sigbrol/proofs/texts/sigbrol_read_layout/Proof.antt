@@ -2,11 +2,11 @@
 use mathlib.Core.Path.{_≡_, sym, _∙_}
 use lib.ListN.{length}
 use Rattle.model.specs.Layout.{Layout}
+use Rattle.model.specs.Answers.{doneAnswer}
 use Rattle.model.specs.Refusal.{Outcome}
 use Rattle.model.specs.Calls.{readLayoutCall}
 use Rattle.c_interface.specs.Numbers.{lentAs}
-use Rattle.layout_read_calls.specs.Answers.{layoutAnswer}
-use Rattle.sigbrol.proofs.Told.{reply-by, layout-told}
+use Rattle.sigbrol.proofs.Told.{reply-by, done-told}
 use Rattle.sigbrol.proofs.texts.sigbrol_read_layout.Statement.{statement}
 use Rattle.sigbrol.proofs.texts.sigbrol_read_layout.Tie as tie
 
@@ -15,7 +15,7 @@ outcome : tie.Start → Outcome Layout
 outcome s = let a = s .args in readLayoutCall (lentAs (a .rows) (a .columns) (a .count) (a .table .now) (a .pixels .now)) (a .text .now) (length (a .layout .now))
 
 -- its answer tells that outcome
-answered : (c : tie.After-read-layout) → c .read-layout .result ≡ layoutAnswer (outcome (c .before .before .before .before .before))
+answered : (c : tie.After-read-layout) → c .read-layout .result ≡ doneAnswer (outcome (c .before .before .before .before .before))
 unfolding outcome
 answered c = rw (c .before .before .size-of .ensures) at (c .read-layout .ensures .0)
 
@@ -44,7 +44,7 @@ returns : tie.Need-returns
 unfolding outcome
 returns c =
     let o = outcome (c .before .before .before .before .before .before .before .before .before) in
-    let t = layout-told o (sym (c .before .enum-told .given .1) ∙ answered (c .before .before .before .before)) in
+    let t = done-told o (sym (c .before .enum-told .given .1) ∙ answered (c .before .before .before .before)) in
     (c .done .ensures ∙ reply-by (λ v. tt) o t, rw (c .before .before .before .before .before .before .size-of .ensures) at (c .before .before .before .before .read-layout .ensures .1))
 
 same-length-2 : tie.Need-same-length-2
@@ -54,7 +54,7 @@ returns-2 : tie.Need-returns-2
 unfolding outcome
 returns-2 c =
     let o = outcome (c .before .before .before .before .before .before .before .before .before .before) in
-    let t = layout-told o (sym (c .before .before .refusal .given .1) ∙ answered (c .before .before .before .before .before)) in
+    let t = done-told o (sym (c .before .before .refusal .given .1) ∙ answered (c .before .before .before .before .before)) in
     (c .refused .ensures ∙ reply-by (λ v. tt) o t, rw (c .before .before .before .before .before .before .before .size-of .ensures) at (c .before .before .before .before .before .read-layout .ensures .1))
 
 pub sigbrol-read-layout-spec : {M : Type 1} → statement M

@@ -3,11 +3,11 @@ use mathlib.Core.Path.{_≡_, sym, _∙_}
 use mathlib.Core.List.{List}
 use Prim.Native.Nat.{ℕ}
 use lib.ListN.{length}
+use Rattle.model.specs.Answers.{countAnswer}
 use Rattle.model.specs.Refusal.{Outcome}
 use Rattle.model.specs.Calls.{writeLayoutCall}
 use Rattle.c_interface.specs.Numbers.{lentAs}
-use Rattle.layout_write_calls.specs.Answers.{textAnswer}
-use Rattle.sigbrol.proofs.Told.{reply-by, leaves-by, text-told}
+use Rattle.sigbrol.proofs.Told.{reply-by, leaves-by, count-told}
 use Rattle.sigbrol.proofs.texts.sigbrol_write_layout.Statement.{statement}
 use Rattle.sigbrol.proofs.texts.sigbrol_write_layout.Tie as tie
 
@@ -16,7 +16,7 @@ outcome : tie.Start → Outcome (List ℕ)
 outcome s = let a = s .args in writeLayoutCall (lentAs (a .rows) (a .columns) (a .count) (a .table .now) (a .pixels .now)) (a .layout .now) (length (a .text .now))
 
 -- its answer tells that outcome
-answered : (c : tie.After-write-layout) → c .write-layout .result ≡ textAnswer (outcome (c .before .before .before .before .before))
+answered : (c : tie.After-write-layout) → c .write-layout .result ≡ countAnswer (outcome (c .before .before .before .before .before))
 unfolding outcome
 answered c = rw (c .before .before .size-of .ensures) at (c .write-layout .ensures .0)
 
@@ -45,7 +45,7 @@ returns : tie.Need-returns
 unfolding outcome
 returns c =
     let o = outcome (c .before .before .before .before .before .before .before .before .before .before .before) in
-    let t = text-told o (sym (c .before .before .length .given .1) ∙ answered (c .before .before .before .before .before .before)) in
+    let t = count-told o (sym (c .before .before .length .given .1) ∙ answered (c .before .before .before .before .before .before)) in
     (c .done .ensures ∙ reply-by (λ text. length text) o t, (rw (c .before .before .before .before .before .before .before .before .size-of .ensures) at (c .before .before .before .before .before .before .write-layout .ensures .1), leaves-by (λ text. length text) (λ k. k) _ o t))
 
 same-length-2 : tie.Need-same-length-2
@@ -55,7 +55,7 @@ returns-2 : tie.Need-returns-2
 unfolding outcome
 returns-2 c =
     let o = outcome (c .before .before .before .before .before .before .before .before .before .before .before) in
-    let t = text-told o (sym (c .before .before .refusal .given .1) ∙ answered (c .before .before .before .before .before .before)) in
+    let t = count-told o (sym (c .before .before .refusal .given .1) ∙ answered (c .before .before .before .before .before .before)) in
     (c .refused .ensures ∙ reply-by (λ text. length text) o t, (rw (c .before .before .before .before .before .before .before .before .size-of .ensures) at (c .before .before .before .before .before .before .write-layout .ensures .1), leaves-by (λ text. length text) (λ k. k) _ o t))
 
 pub sigbrol-write-layout-spec : {M : Type 1} → statement M
