@@ -12,7 +12,7 @@ ghost use lib.ListN.{length};
 ghost use Rattle.model.specs.Lent.{lentBy, jobOf};
 ghost use Rattle.model.specs.Calls.{sheetCauses};
 ghost use Rattle.model.specs.Cover.{layCauses, withdrawCauses};
-ghost use Rattle.sheet_calls.specs.Answers.{sheetOf, firstNumber, bufferCauses};
+ghost use Rattle.sheet_refusals.specs.Causes.{sheetOf, firstNumber, bufferCauses};
 
 // Of every call: 8 the job, 7 the count buffer's length.
 pub fn buffer_refusal(size: JobSize, table: &[[u8; 3]], pixels: &[u8], room: usize) -> u8

@@ -4,9 +4,9 @@ use borrow.Author.Needs.{needs}
 use borrow.Author.Tests.{not-true, not-false, lt-ltb, le-ltb}
 use Rattle.model.specs.Cover.{withdrawCauses}
 use Rattle.model.specs.Lent.{jobOf}
-use Rattle.sheet_calls.specs.Answers.{firstNumber}
-use Rattle.sheet_calls.proofs.refusals.withdraw_refusal.Statement.{statement}
-use Rattle.sheet_calls.proofs.refusals.withdraw_refusal.Tie as tie
+use Rattle.sheet_refusals.specs.Causes.{firstNumber}
+use Rattle.sheet_refusals.proofs.withdraw_refusal.Statement.{statement}
+use Rattle.sheet_refusals.proofs.withdraw_refusal.Tie as tie
 
 returns : tie.Need-returns
 unfolding firstNumber withdrawCauses jobOf

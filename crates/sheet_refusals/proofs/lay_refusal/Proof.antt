@@ -12,9 +12,9 @@ use Rattle.model.proofs.Tests.{and-left}
 use Rattle.model.specs.Lent.{lentBy, jobOf}
 use Rattle.model.specs.Cover.{layCauses}
 use Rattle.model.specs.Layout.{allowed, inside}
-use Rattle.sheet_calls.specs.Answers.{firstNumber}
-use Rattle.sheet_calls.proofs.refusals.lay_refusal.Tie as tie
-use Rattle.sheet_calls.proofs.refusals.lay_refusal.Statement.{statement}
+use Rattle.sheet_refusals.specs.Causes.{firstNumber}
+use Rattle.sheet_refusals.proofs.lay_refusal.Tie as tie
+use Rattle.sheet_refusals.proofs.lay_refusal.Statement.{statement}
 
 -- a piece that is known is one of the job
 piece-here : (i n : ℕ) (r t : Bool) → r ≡ (ltb i n && t) → not r ≡ false → i < n

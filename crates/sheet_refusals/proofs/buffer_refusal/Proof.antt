@@ -8,9 +8,9 @@ use borrow.Author.Tests.{not-true, not-false, eq-eqb, ne-eqb}
 use borrow.Author.Needs.{needs}
 use Rattle.model.specs.Lent.{lentBy, lentWell}
 use Rattle.job_laws.proofs.Checked.{facts}
-use Rattle.sheet_calls.specs.Answers.{firstNumber}
-use Rattle.sheet_calls.proofs.refusals.buffer_refusal.Tie as tie
-use Rattle.sheet_calls.proofs.refusals.buffer_refusal.Statement.{statement}
+use Rattle.sheet_refusals.specs.Causes.{firstNumber}
+use Rattle.sheet_refusals.proofs.buffer_refusal.Tie as tie
+use Rattle.sheet_refusals.proofs.buffer_refusal.Statement.{statement}
 
 check-job-requires : tie.Need-check-job-requires
 check-job-requires c κs = search needs

@@ -8,7 +8,7 @@ use native.Mathlib.Omega.{arith}
 use Rattle.model.specs.Refusal.{Outcome, refused, Cause, refusalOf, unless}
 use Rattle.model.specs.declared.Refusal.{Refusal}
 use Rattle.text_laws.specs.Outcomes.{NoCause}
-use Rattle.sheet_calls.specs.Answers.{plainRefusal, firstNumber}
+use Rattle.sheet_refusals.specs.Causes.{plainRefusal, firstNumber}
 
 -- the causes have a number and no places
 abbrev pub Plain : List Cause → Type 0

@@ -3,10 +3,10 @@
 use mathlib.Core.Path.{_∙_, sym}
 use borrow.Author.Needs.{needs}
 use borrow.Author.Tests.{not-true, not-false}
-use Rattle.sheet_calls.specs.Answers.{sheetOf}
-use Rattle.sheet_calls.proofs.Outcomes.{buffer-passed, sheet-number, sheet-number-8, sheet-number-0}
-use Rattle.sheet_calls.proofs.refusals.sheet_refusal.Statement.{statement}
-use Rattle.sheet_calls.proofs.refusals.sheet_refusal.Tie as tie
+use Rattle.sheet_refusals.specs.Causes.{sheetOf}
+use Rattle.sheet_refusals.proofs.Buffers.{buffer-passed, sheet-number, sheet-number-8, sheet-number-0}
+use Rattle.sheet_refusals.proofs.sheet_refusal.Statement.{statement}
+use Rattle.sheet_refusals.proofs.sheet_refusal.Tie as tie
 
 buffer-refusal-requires : tie.Need-buffer-refusal-requires
 buffer-refusal-requires c κs = search needs
