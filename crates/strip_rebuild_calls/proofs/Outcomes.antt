@@ -11,7 +11,7 @@ use Rattle.model.specs.Calls.{rebuildCall, stripsWell, rebuiltFrom}
 use Rattle.model.specs.declared.Direction.{Direction}
 use Rattle.model.specs.declared.Refusal.{Refusal}
 use Rattle.job_laws.proofs.Ranges.{at-least, up-to}
-use Rattle.strip_rebuild_calls.proofs.Searches.{first-fails, second-fails}
+use Rattle.strip_check.proofs.Searches.{first-fails, second-fails}
 
 -- a refusal without places
 abbrev pub numbered : ℕ → Refusal

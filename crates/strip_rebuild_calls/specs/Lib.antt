@@ -1,5 +1,3 @@
 -- What the functions of the crate say of one another, and the answer by document 01's outcome.
 pub mod Answer
-pub mod Check
-pub mod Paint
 pub mod Again

@@ -10,9 +10,6 @@ ghost use Rattle.model.specs.Piece.{sideBound};
 ghost use Rattle.strip_rebuild_calls.specs.Answer.{rebuildAnswer};
 ghost use Rattle.strip_rebuild_calls.specs.Again.{Again};
 
-mod check;
-mod paint;
-
 // What rebuilding comes to: the pixels are written, or the call is refused.
 pub enum RebuildAnswer {
     Rebuilt,
@@ -60,12 +57,12 @@ pub fn rebuild(
     }
     let columns = columns as usize;
     let rows = rows as usize;
-    if !check::strips_well(direction, columns, rows, strips) {
+    if !strip_check::strips_well(direction, columns, rows, strips) {
         return refused(8);
     }
     if pixels.len() < columns * rows {
         return refused(7);
     }
-    paint::write(direction, columns, rows, strips, pixels);
+    strip_paint::write(direction, columns, rows, strips, pixels);
     RebuildAnswer::Rebuilt
 }
