@@ -1,22 +1,16 @@
 -- What the calls on a sheet answer: document 01's outcome as a reply with the sheet record beside it.
 -- On a refusal the record is the one that was passed, and of a fresh sheet the blank one. Assumes nothing.
 use mathlib.Core.Bool.{true, false}
-use mathlib.Core.List.{List, [], _∷_}
 use Prim.Native.Nat.{ℕ}
 use lib.Dec.{eqb}
 use lib.ListN.{set, replicate}
-use Rattle.model.specs.Lent.{Lent, pieceBound}
-use Rattle.model.specs.Refusal.{Outcome, refused, given, Cause, plainRefusal}
-use Rattle.model.specs.Calls.{jobCause, countsLength}
+use Rattle.model.specs.Lent.{pieceBound}
+use Rattle.model.specs.Refusal.{Outcome, refused, given, plainRefusal}
 use Rattle.model.specs.Cover.{Sheet, blank}
 use Rattle.model.specs.declared.Entry.{Entry}
 use Rattle.model.specs.declared.Record.{Record}
 use Rattle.model.specs.declared.DoneAnswer.the-variants.{Done, Refused}
 use Rattle.sheet_calls.specs.declared.SheetAnswer.{SheetAnswer}
-
--- the sheet that a record and a count buffer make
-abbrev pub sheetOf : Record → List ℕ → Sheet
-sheetOf r counts = record { pieces = r .pieces; counts = counts }
 
 -- the record of a sheet
 abbrev pub recordOf : Sheet → Record
@@ -29,17 +23,6 @@ blankRecord = record { pieces = replicate pieceBound blank }
 -- the record with another entry for piece i
 abbrev pub withEntry : Record → ℕ → Entry → Record
 withEntry r i e = record { pieces = set (r .pieces) i e }
-
--- ── refusals ──
-
--- the number of the first cause that is there, or 0
-unfoldable pub firstNumber : List Cause → ℕ
-firstNumber [] = 0
-firstNumber (c ∷ cs) = elim (c .there) [ true ↦ c .number | false ↦ firstNumber cs ]
-
--- what every call asks first: 8 the job, 7 the length of the count buffer
-abbrev pub bufferCauses : Lent → ℕ → List Cause
-bufferCauses l room = jobCause l ∷ countsLength l room ∷ []
 
 -- ── answers ──
 

@@ -9,10 +9,10 @@ ghost use mathlib.Core.Path.{_≡_};
 ghost use lib.ListN.{length};
 ghost use Rattle.model.specs.Lent.{lentBy};
 ghost use Rattle.model.specs.Calls.{freshCall, layCall, withdrawCall, countsAfter};
-ghost use Rattle.sheet_calls.specs.Answers.{sheetOf, blankRecord, sheetAnswer};
+ghost use Rattle.sheet_calls.specs.Answers.{blankRecord, sheetAnswer};
+ghost use Rattle.sheet_refusals.specs.Causes.{sheetOf};
 
 mod record;
-mod refusals;
 
 // What a call on the sheet answers: the reply, and the sheet record after it. On a refusal the record is the one that was passed; a
 // refused fresh sheet has the record where nothing is laid.
@@ -26,7 +26,7 @@ pub fn fresh(size: JobSize, table: &[[u8; 3]], pixels: &[u8], counts: &mut [u8])
     ensures { λ r. ⌜ r ≡ sheetAnswer blankRecord (freshCall (lentBy size (now (table .entry)) (now (pixels .entry))) (length (now (counts .entry)))) ⌝ }
     ensures { λ _. ⌜ now (counts .exit) ≡ countsAfter (now (counts .entry)) (freshCall (lentBy size (now (table .entry)) (now (pixels .entry))) (length (now (counts .entry)))) ⌝ }
 {
-    let number = refusals::buffer_refusal(size, table, pixels, counts.len());
+    let number = sheet_refusals::buffer_refusal(size, table, pixels, counts.len());
     if number != 0 {
         return record::answer(number, record::blank_record());
     }
@@ -48,11 +48,11 @@ pub fn lay(
     ensures { λ r. ⌜ r ≡ sheetAnswer sheet (layCall (lentBy size (now (table .entry)) (now (pixels .entry))) (sheetOf sheet (now (counts .entry))) piece place) ⌝ }
     ensures { λ _. ⌜ now (counts .exit) ≡ countsAfter (now (counts .entry)) (layCall (lentBy size (now (table .entry)) (now (pixels .entry))) (sheetOf sheet (now (counts .entry))) piece place) ⌝ }
 {
-    let common = refusals::sheet_refusal(size, table, pixels, sheet, counts);
+    let common = sheet_refusals::sheet_refusal(size, table, pixels, sheet, counts);
     if common != 0 {
         return record::answer(common, sheet);
     }
-    let laying = refusals::lay_refusal(size, table, sheet, piece, place);
+    let laying = sheet_refusals::lay_refusal(size, table, sheet, piece, place);
     if laying != 0 {
         return record::answer(laying, sheet);
     }
@@ -74,11 +74,11 @@ pub fn withdraw(
     ensures { λ r. ⌜ r ≡ sheetAnswer sheet (withdrawCall (lentBy size (now (table .entry)) (now (pixels .entry))) (sheetOf sheet (now (counts .entry))) piece) ⌝ }
     ensures { λ _. ⌜ now (counts .exit) ≡ countsAfter (now (counts .entry)) (withdrawCall (lentBy size (now (table .entry)) (now (pixels .entry))) (sheetOf sheet (now (counts .entry))) piece) ⌝ }
 {
-    let common = refusals::sheet_refusal(size, table, pixels, sheet, counts);
+    let common = sheet_refusals::sheet_refusal(size, table, pixels, sheet, counts);
     if common != 0 {
         return record::answer(common, sheet);
     }
-    let withdrawing = refusals::withdraw_refusal(size, sheet, piece);
+    let withdrawing = sheet_refusals::withdraw_refusal(size, sheet, piece);
     if withdrawing != 0 {
         return record::answer(withdrawing, sheet);
     }

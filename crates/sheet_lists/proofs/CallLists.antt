@@ -25,7 +25,8 @@ use Rattle.job_laws.proofs.Checked.{facts}
 use Rattle.cover_laws.proofs.Counts.{fresh-sound}
 use Rattle.cover_laws.proofs.Reached.{well-sound}
 use Rattle.cover_laws.proofs.Effects.{fresh-well, call-well}
-use Rattle.sheet_calls.specs.Answers.{sheetOf, recordOf, blankRecord, givenAnswer, sheetAnswer, bufferCauses}
+use Rattle.sheet_calls.specs.Answers.{recordOf, blankRecord, givenAnswer, sheetAnswer}
+use Rattle.sheet_refusals.specs.Causes.{sheetOf, bufferCauses}
 use Rattle.sheet_calls.specs.Ready.{SheetReady}
 use Rattle.model.specs.declared.DoneAnswer.the-variants.{Done, Refused}
 use Rattle.sheet_calls.specs.declared.SheetAnswer.{SheetAnswer}

@@ -19,7 +19,7 @@ use Rattle.text_laws.specs.Outcomes.{NoCause}
 use Rattle.job_laws.proofs.Checked.{facts}
 use Rattle.cover_laws.specs.CoverClaims.{CoverHolds}
 use Rattle.cover_laws.proofs.Demand2Cover.{demand2-cover}
-use Rattle.sheet_calls.specs.Answers.{bufferCauses}
+use Rattle.sheet_refusals.specs.Causes.{bufferCauses}
 use Rattle.sheet_calls.specs.Ready.{SheetReady}
 use Rattle.c_interface.specs.Replies.{replyTo}
 use Rattle.c_interface.proofs.Records.{buffers-back}

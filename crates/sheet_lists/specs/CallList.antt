@@ -11,7 +11,7 @@ use Rattle.model.specs.Lent.{Lent, jobOf}
 use Rattle.model.specs.Buffer.{placement}
 use Rattle.model.specs.Refusal.{Outcome, unless}
 use Rattle.model.specs.Cover.{Sheet, fresh, Call, laying, withdrawing, afterCalls}
-use Rattle.sheet_calls.specs.Answers.{bufferCauses}
+use Rattle.sheet_refusals.specs.Causes.{bufferCauses}
 use Rattle.c_interface.specs.Numbers.{pieceWithTurn}
 
 -- the call that five numbers are

@@ -8,7 +8,7 @@ use Rattle.model.specs.Buffer.{placement}
 use Rattle.model.specs.Refusal.{Outcome}
 use Rattle.model.specs.Calls.{freshCall, layCall, withdrawCall, countsAfter}
 use Rattle.model.specs.Cover.{Sheet, Call, laying, withdrawing}
-use Rattle.sheet_calls.specs.Answers.{sheetOf}
+use Rattle.sheet_refusals.specs.Causes.{sheetOf}
 use Rattle.c_interface.specs.Numbers.{pieceWithTurn}
 use Rattle.c_interface.specs.Records.{recordIn, recordAfter}
 

@@ -13,7 +13,7 @@ ghost use mathlib.Core.Path.{_≡_};
 ghost use lib.ListN.{length};
 ghost use Rattle.model.specs.Buffer.{placement};
 ghost use Rattle.model.specs.Calls.{freshCall, layCall, withdrawCall, countsAfter};
-ghost use Rattle.sheet_calls.specs.Answers.{sheetOf};
+ghost use Rattle.sheet_refusals.specs.Causes.{sheetOf};
 ghost use Rattle.c_interface.specs.Numbers.{lentAs, pieceWithTurn};
 ghost use Rattle.c_interface.specs.Records.{recordIn, recordAfter};
 ghost use Rattle.c_interface.specs.Replies.{replyTo};

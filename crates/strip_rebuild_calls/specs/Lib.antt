@@ -1,4 +1,2 @@
 -- What the functions of the crate say of one another.
-pub mod Check
-pub mod Paint
 pub mod Again

@@ -11,9 +11,6 @@ ghost use Rattle.model.specs.Lent.{upTo};
 ghost use Rattle.model.specs.Piece.{sideBound};
 ghost use Rattle.strip_rebuild_calls.specs.Again.{Again};
 
-mod check;
-mod paint;
-
 // The most pixels along a box side, as a side is handed over.
 const SIDE_BOUND: u16 = model::SIDE_BOUND as u16;
 
@@ -47,12 +44,12 @@ pub fn rebuild(
     }
     let columns = columns as usize;
     let rows = rows as usize;
-    if !check::strips_well(direction, columns, rows, strips) {
+    if !strip_check::strips_well(direction, columns, rows, strips) {
         return refused(8);
     }
     if pixels.len() < columns * rows {
         return refused(7);
     }
-    paint::write(direction, columns, rows, strips, pixels);
+    strip_paint::write(direction, columns, rows, strips, pixels);
     DoneAnswer::Done
 }

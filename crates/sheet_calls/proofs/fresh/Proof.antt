@@ -8,7 +8,8 @@ use Rattle.model.specs.Lent.{lentBy, jobOf}
 use Rattle.model.specs.Cover.{fresh}
 use Rattle.sheet_calls.proofs.fresh.Statement.{statement}
 use Rattle.sheet_calls.specs.Answers.{blankRecord}
-use Rattle.sheet_calls.proofs.Outcomes.{buffer-passed, fresh-refused, fresh-given, refused-answer, given-answer}
+use Rattle.sheet_refusals.proofs.Buffers.{buffer-passed}
+use Rattle.sheet_calls.proofs.Outcomes.{fresh-refused, fresh-given, refused-answer, given-answer}
 use Rattle.sheet_calls.proofs.fresh.Tie as tie
 
 buffer-refusal-requires : tie.Need-buffer-refusal-requires

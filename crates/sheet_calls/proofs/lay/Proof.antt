@@ -11,7 +11,7 @@ use Rattle.model.specs.Cover.{Sheet, lay, layCauses}
 use Rattle.job_laws.proofs.Checked.{facts}
 use Rattle.cover_laws.proofs.Calls.{LayTaken}
 use Rattle.cover_laws.proofs.Effects.{well-bound}
-use Rattle.sheet_calls.specs.Answers.{sheetOf, firstNumber}
+use Rattle.sheet_refusals.specs.Causes.{sheetOf, firstNumber}
 use Rattle.sheet_calls.specs.Ready.{SheetReady}
 use Rattle.sheet_calls.proofs.lay.Tie as tie
 use Rattle.sheet_calls.proofs.lay.Statement.{statement}

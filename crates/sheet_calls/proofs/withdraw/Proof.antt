@@ -10,7 +10,7 @@ use Rattle.model.specs.Calls.{withdrawCall}
 use Rattle.model.specs.Cover.{Sheet, withdraw, withdrawCauses}
 use Rattle.job_laws.proofs.Checked.{facts}
 use Rattle.cover_laws.proofs.Calls.{WithdrawTaken}
-use Rattle.sheet_calls.specs.Answers.{sheetOf, firstNumber}
+use Rattle.sheet_refusals.specs.Causes.{sheetOf, firstNumber}
 use Rattle.sheet_calls.specs.Ready.{SheetReady}
 use Rattle.sheet_calls.proofs.withdraw.Tie as tie
 use Rattle.sheet_calls.proofs.withdraw.Statement.{statement}

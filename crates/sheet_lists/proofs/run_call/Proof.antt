@@ -5,7 +5,7 @@ use borrow.Author.Needs.{needs}
 use Rattle.model.specs.Cover.{afterwards}
 use Rattle.model.specs.Lent.{lentBy}
 use Rattle.model.specs.Calls.{layCall, withdrawCall}
-use Rattle.sheet_calls.specs.Answers.{sheetOf}
+use Rattle.sheet_refusals.specs.Causes.{sheetOf}
 use Rattle.sheet_lists.proofs.CallLists.{answer-after, lay-called, withdraw-called, call-lays, call-withdraws}
 use Rattle.sheet_lists.proofs.run_call.Statement.{statement}
 use Rattle.sheet_lists.proofs.run_call.Tie as tie

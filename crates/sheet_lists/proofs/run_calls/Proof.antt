@@ -14,7 +14,8 @@ use Rattle.sheet_lists.proofs.run_calls.Statement.{statement}
 use Rattle.sheet_lists.specs.CallList.{callsOf}
 use Rattle.sheet_lists.proofs.CallLists.{fresh-ready, refused-run, given-run}
 use Rattle.sheet_calls.proofs.Outcomes.{given-answer}
-use Rattle.sheet_calls.specs.Answers.{sheetOf, blankRecord, recordOf, givenAnswer}
+use Rattle.sheet_calls.specs.Answers.{blankRecord, recordOf, givenAnswer}
+use Rattle.sheet_refusals.specs.Causes.{sheetOf}
 use Rattle.sheet_lists.proofs.run_calls.Tie as tie
 
 fresh-requires : tie.Need-fresh-requires

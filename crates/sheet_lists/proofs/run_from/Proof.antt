@@ -10,7 +10,7 @@ use Rattle.model.specs.Lent.{lentBy, jobOf}
 use Rattle.sheet_lists.proofs.CallLists.{ready-after, calls-step, calls-end}
 use Rattle.sheet_lists.proofs.run_from.Statement.{statement}
 use Rattle.sheet_lists.specs.CallList.{callOf, callsOf}
-use Rattle.sheet_calls.specs.Answers.{sheetOf}
+use Rattle.sheet_refusals.specs.Causes.{sheetOf}
 use Rattle.sheet_lists.proofs.run_from.Tie as tie
 use Rattle.sheet_calls.specs.Ready.{SheetReady}
 

@@ -5,7 +5,8 @@ use Rattle.model.specs.Buffer.{placement}
 use Rattle.model.specs.Refusal.{Outcome}
 use Rattle.model.specs.Calls.{layCall, countsAfter}
 use Rattle.model.specs.Cover.{Sheet}
-use Rattle.sheet_calls.specs.Answers.{sheetOf, sheetAnswer}
+use Rattle.sheet_calls.specs.Answers.{sheetAnswer}
+use Rattle.sheet_refusals.specs.Causes.{sheetOf}
 use Rattle.c_interface.specs.Numbers.{lentAs, pieceWithTurn}
 use Rattle.c_interface.specs.Records.{recordIn}
 use Rattle.sigbrol.proofs.Sheets.{taken-up, turned-down}

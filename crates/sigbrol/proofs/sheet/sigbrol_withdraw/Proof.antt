@@ -4,7 +4,8 @@ use borrow.Author.Needs.{needs}
 use Rattle.model.specs.Refusal.{Outcome}
 use Rattle.model.specs.Calls.{withdrawCall, countsAfter}
 use Rattle.model.specs.Cover.{Sheet}
-use Rattle.sheet_calls.specs.Answers.{sheetOf, sheetAnswer}
+use Rattle.sheet_calls.specs.Answers.{sheetAnswer}
+use Rattle.sheet_refusals.specs.Causes.{sheetOf}
 use Rattle.c_interface.specs.Numbers.{lentAs}
 use Rattle.c_interface.specs.Records.{recordIn}
 use Rattle.sigbrol.proofs.Sheets.{taken-up, turned-down}

@@ -1,0 +1,36 @@
+-- `sheet_refusal`: the causes of the buffer come first; where none is there, the test of the sheet is left.
+-- Assumes nothing.
+use mathlib.Core.Path.{_∙_, sym}
+use borrow.Author.Needs.{needs}
+use borrow.Author.Tests.{not-true, not-false}
+use Rattle.sheet_refusals.specs.Causes.{sheetOf}
+use Rattle.sheet_refusals.proofs.Buffers.{buffer-passed, sheet-number, sheet-number-8, sheet-number-0}
+use Rattle.sheet_refusals.proofs.sheet_refusal.Statement.{statement}
+use Rattle.sheet_refusals.proofs.sheet_refusal.Tie as tie
+
+buffer-refusal-requires : tie.Need-buffer-refusal-requires
+buffer-refusal-requires c κs = search needs
+
+returns : tie.Need-returns
+returns c = sheet-number _ (sheetOf (c .before .before .before .before .args .sheet) (c .before .before .before .before .args .counts .now)) _ (c .before .buffer-refusal .ensures) (c .if1 .taken)
+
+sheet-well-requires : tie.Need-sheet-well-requires
+sheet-well-requires c κs =
+    let passed = buffer-passed _ _ (sym (c .before .buffer-refusal .ensures) ∙ c .if1 .left) in
+    (passed .well, passed .full)
+
+returns-2 : tie.Need-returns-2
+returns-2 c =
+    sheet-number-8 _ (sheetOf (c .before .before .before .before .before .before .args .sheet) (c .before .before .before .before .before .before .args .counts .now))
+    (buffer-passed _ _ (sym (c .before .before .before .buffer-refusal .ensures) ∙ c .before .before .if1 .left))
+    (sym (c .before .sheet-well .ensures) ∙ not-true (c .before .sheet-well .result) (c .if2 .taken))
+
+returns-3 : tie.Need-returns-3
+returns-3 c =
+    sheet-number-0 _ (sheetOf (c .before .before .before .before .before .before .args .sheet) (c .before .before .before .before .before .before .args .counts .now))
+    (buffer-passed _ _ (sym (c .before .before .before .buffer-refusal .ensures) ∙ c .before .before .if1 .left))
+    (sym (c .before .sheet-well .ensures) ∙ not-false (c .before .sheet-well .result) (c .if2 .left))
+
+pub sheet-refusal-spec : {M : Type 1} → statement M
+sheet-refusal-spec =
+    tie.close (tie.spec buffer-refusal-requires returns sheet-well-requires returns-2 returns-3)

@@ -1,0 +1,31 @@
+-- `withdraw_refusal`: each way's tests say which cause is the first.
+-- Assumes nothing.
+use borrow.Author.Needs.{needs}
+use borrow.Author.Tests.{not-true, not-false, lt-ltb, le-ltb}
+use Rattle.model.specs.Cover.{withdrawCauses}
+use Rattle.model.specs.Lent.{jobOf}
+use Rattle.sheet_refusals.specs.Causes.{firstNumber}
+use Rattle.sheet_refusals.proofs.withdraw_refusal.Statement.{statement}
+use Rattle.sheet_refusals.proofs.withdraw_refusal.Tie as tie
+
+returns : tie.Need-returns
+unfolding firstNumber withdrawCauses jobOf
+returns c = λ table pixels counts. rw (le-ltb (c .before .before .args .piece) (c .before .before .args .size .count) (c .if1 .taken))
+
+entry-of-requires : tie.Need-entry-of-requires
+entry-of-requires c κs = search needs
+
+returns-2 : tie.Need-returns-2
+unfolding firstNumber withdrawCauses jobOf
+returns-2 c = λ table pixels counts.
+    let a = c .before .before .before .before .before .args in
+    rw (lt-ltb (a .piece) (a .size .count) (c .before .before .before .if1 .left), ← (c .before .before .entry-of .ensures), not-true (c .before .before .entry-of .result .laid) (c .if2 .taken))
+
+returns-3 : tie.Need-returns-3
+unfolding firstNumber withdrawCauses jobOf
+returns-3 c = λ table pixels counts.
+    let a = c .before .before .before .before .before .args in
+    rw (lt-ltb (a .piece) (a .size .count) (c .before .before .before .if1 .left), ← (c .before .before .entry-of .ensures), not-false (c .before .before .entry-of .result .laid) (c .if2 .left))
+
+pub withdraw-refusal-spec : {M : Type 1} → statement M
+withdraw-refusal-spec = tie.close (tie.spec returns entry-of-requires returns-2 returns-3)

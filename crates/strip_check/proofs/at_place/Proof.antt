@@ -1,0 +1,68 @@
+-- `strip_check::at_place` meets its contract. The loop's invariant: no strip passed holds the place. Assumes nothing.
+use mathlib.Core.Bool.{false}
+use mathlib.Core.Path.{_≡_, sym, ap, _∙_}
+use Prim.Native.Nat.{ℕ, _-_, _≤_, _<_}
+use native.Mathlib.Omega.{arith}
+use lib.ListN.{length}
+use borrow.Author.Count.{below-more}
+use Rattle.list_laws.proofs.Searches.{any-found, any-missed}
+use Rattle.strip_check.specs.Check.{stripIn, reaches}
+use Rattle.strip_check.proofs.Reading.{read-is}
+use Rattle.strip_check.proofs.at_place.Statement.{statement}
+use Rattle.strip_check.proofs.at_place.Tie as tie
+
+abbrev Inv-loop : tie.InvT-loop
+Inv-loop strips place i₀ i = (i ≤ length strips) × ((k : ℕ) → k < i → reaches place (stripIn strips k) ≡ false)
+
+abbrev μ-loop : tie.MeasureT-loop
+μ-loop strips place i₀ i = length strips - i
+
+loop-holds : tie.Need-loop-holds Inv-loop μ-loop
+loop-holds c = (omega arith, λ k l. absurd (omega arith))
+
+strip-at-requires : tie.Need-strip-at-requires Inv-loop μ-loop
+strip-at-requires c κs = c .loop-test .taken
+
+reaches-place-requires : tie.Need-reaches-place-requires Inv-loop μ-loop
+reaches-place-requires c κs = let r = c .strip-at .ensures in (r .first, r .count)
+
+-- what was tested is the strip at place i
+reaching : (c : tie.After-reaches-place Inv-loop μ-loop)
+    → c .reaches-place .result ≡ reaches (c .before .before .before .before .args .place)
+    (stripIn (c .before .before .before .before .args .strips .now) (c .before .before .before .loop .i))
+reaching c = c .reaches-place .ensures ∙ ap (reaches (c .before .before .before .before .args .place)) (read-is (c .before .strip-at .ensures))
+
+returns : tie.Need-returns Inv-loop μ-loop
+returns c =
+    let a = c .before .before .before .before .before .args in
+    any-found _ _ (λ i. reaches (a .place) (stripIn (a .strips .now) i)) (c .before .before .before .loop-test .taken)
+    (sym (reaching (c .before)) ∙ c .if1 .taken)
+
+add-i : tie.Need-add-i Inv-loop μ-loop
+add-i c = omega arith
+
+loop-less : tie.Need-loop-less Inv-loop μ-loop
+loop-less c = omega arith
+
+loop-again : tie.Need-loop-again Inv-loop μ-loop
+loop-again c = (omega arith, below-more _ _ (c .before .before .before .before .loop .inv .1) (sym (reaching (c .before)) ∙ c .if1 .left))
+
+returns-2 : tie.Need-returns-2 Inv-loop μ-loop
+returns-2 c =
+    let a = c .before .before .args in
+    any-missed _ _ (λ i. reaches (a .place) (stripIn (a .strips .now) i)) (c .loop-test .left) (c .before .loop .inv .1)
+
+pub at-place-spec : {M : Type 1} → statement M
+at-place-spec =
+    tie.close
+    (tie.spec
+    Inv-loop
+    μ-loop
+    loop-holds
+    strip-at-requires
+    reaches-place-requires
+    returns
+    add-i
+    loop-less
+    loop-again
+    returns-2)

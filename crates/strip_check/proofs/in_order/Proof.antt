@@ -1,0 +1,43 @@
+-- `strip_check::in_order` meets its contract. Assumes nothing.
+use mathlib.Core.Path.{ap₂, _∙_}
+use borrow.Author.Tests.{eq-eqb, ne-eqb}
+use Rattle.strip_check.proofs.Reading.{read-is}
+use Rattle.strip_check.specs.Check.{standsBefore, follows}
+use borrow.Author.Needs.{needs}
+use Rattle.strip_check.proofs.in_order.Statement.{statement}
+use Rattle.strip_check.proofs.in_order.Tie as tie
+
+returns : tie.Need-returns
+unfolding follows
+returns c = simp (eq-eqb _ 0 (c .if1 .taken))
+
+sub-strip-at : tie.Need-sub-strip-at
+sub-strip-at c = search needs
+
+strip-at-requires : tie.Need-strip-at-requires
+strip-at-requires c κs = search needs
+
+strip-at-requires-2 : tie.Need-strip-at-requires-2
+strip-at-requires-2 c κs = search needs
+
+stands-before-requires : tie.Need-stands-before-requires
+stands-before-requires c κs = search needs
+
+returns-2 : tie.Need-returns-2
+unfolding follows
+returns-2 c =
+    let a = c .before .before .before .before .args in
+    c .stands-before .ensures
+    ∙ ap₂ standsBefore (read-is (c .before .before .strip-at .ensures)) (read-is (c .before .strip-at2 .ensures))
+    ∙ simp (ne-eqb (a .i) 0 (c .before .before .before .if1 .left))
+
+pub in-order-spec : {M : Type 1} → statement M
+in-order-spec =
+    tie.close
+    (tie.spec
+    returns
+    sub-strip-at
+    strip-at-requires
+    strip-at-requires-2
+    stands-before-requires
+    returns-2)

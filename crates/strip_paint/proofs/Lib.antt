@@ -1,0 +1,3 @@
+-- The laws behind painting strips; each function's proof stands in a folder of its name.
+pub mod Painting
+pub mod Written
