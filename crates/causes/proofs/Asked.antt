@@ -53,7 +53,7 @@ module _ {A : Type 0} (l : Lent) (es : List (List ℕ)) (a : A) where
 
   -- the length of the weights is asked behind the job
   pub weights-asked : (ws : List ℕ) (missing : Bool) (rest : List Cause)
-      → (l .count ≤ pieceBound → missing ≡ not (eqb (length ws) (length (pairs (l .count)))))
+      → (l .size .count ≤ pieceBound → missing ≡ not (eqb (length ws) (length (pairs (l .size .count)))))
       → unless (jobCause l ∷ layoutLength l es ∷ cause wrongLength missing ∷ rest) a ≡ unless (jobCause l ∷ layoutLength l es ∷ weightsLength l ws ∷ rest) a
   weights-asked ws missing rest h = by-check (lentWell l) refl
     where

@@ -23,7 +23,7 @@ pub laid-by : (l : Lent) (es : List (List ℕ)) → jobCause l .there ≡ false 
 laid-by l es job size turns outside =
     record {
       well = job-well l job;
-      whole = eqb-true (length es) (l .count) (not-false (eqb (length es) (l .count)) size);
+      whole = eqb-true (length es) (l .size .count) (not-false (eqb (length es) (l .size .count)) size);
       valid = layout-valid l es size turns outside;
     }
 
@@ -33,7 +33,7 @@ unfolding layoutCauses
 layout-laid l es h = laid-by l es (h .0) (h .1 .0) (h .1 .1 .0) (h .1 .1 .1 .0)
 
 -- the table of such a job has an entry for each piece
-pub laid-entries : (l : Lent) (es : List (List ℕ)) → Laid l es → l .count ≤ length (l .table)
+pub laid-entries : (l : Lent) (es : List (List ℕ)) → Laid l es → l .size .count ≤ length (l .table)
 laid-entries l es laid = facts l (laid .well) .entries
 
 -- what holds of a call on a layout and weights

@@ -12,5 +12,5 @@ use Rattle.descent_laws.specs.Claims.{ValidLayout}
 -- a job that passes its check, and a layout buffer of its length that holds a valid layout of it
 pub record Laid (l : Lent) (layout : List (List ℕ)) : Type 0 where
   pub well : lentWell l ≡ true
-  pub whole : length layout ≡ l .count
+  pub whole : length layout ≡ l .size .count
   pub valid : ValidLayout (jobOf l) (layoutOf layout)

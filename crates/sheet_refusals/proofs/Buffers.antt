@@ -18,7 +18,7 @@ use Rattle.sheet_refusals.proofs.Causes.{Plain, none-there, number-fron
 -- the job is well and there is a count for each pixel
 pub record BufferPassed (l : Lent) (room : ℕ) : Type 0 where
   pub well : lentWell l ≡ true
-  pub full : room ≡ l .rows * l .columns
+  pub full : room ≡ l .size .rows * l .size .columns
   pub absent : NoCause (bufferCauses l room)
 
 -- the causes of a buffer have a number and no places
@@ -31,7 +31,7 @@ buffer-passed l room e =
     let absent = none-there (bufferCauses l room) (buffer-plain l room) e in
     record {
       well = not-false (lentWell l) (absent .0);
-      full = eqb-true room (l .rows * l .columns) (not-false (eqb room (l .rows * l .columns)) (absent .1 .0));
+      full = eqb-true room (l .size .rows * l .size .columns) (not-false (eqb room (l .size .rows * l .size .columns)) (absent .1 .0));
       absent = absent;
     }
 
