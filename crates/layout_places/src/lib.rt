@@ -6,7 +6,7 @@ ghost use mathlib.Core.List.{List};
 ghost use Prim.Native.Nat.{ℕ, _<_, _≤_};
 ghost use lib.ListN.{length};
 ghost use Rattle.model.specs.Piece.{degrees, turnBit, allows};
-ghost use Rattle.model.specs.Layout.{turnedPiece, inside, placeOf, rightEnd, usedLength};
+ghost use Rattle.model.specs.Layout.{turnedPiece, allowed, inside, placeOf, rightEnd, usedLength};
 ghost use Rattle.model.specs.Refusal.{cause, refusalOf};
 ghost use Rattle.model.specs.Lent.{lentBy, jobOf};
 ghost use Rattle.model.specs.Buffer.{turnOfDegrees, turnOf, entryOf, layoutOf};
@@ -19,12 +19,16 @@ pub mod numbers;
 
 use model::Column;
 use model::JobSize;
+use model::PieceEntry;
+use model::PlaceEntry;
 use model::Placement;
 use model::Refusal;
 use model::Row;
 use model::Turn;
 use numbers::larger;
-use numbers::side;
+use piece_table::columns_of;
+use piece_table::rows_of;
+use piece_table::turns_of;
 
 // The turn that degrees are, if there is one.
 pub enum TurnAnswer {
@@ -104,8 +108,16 @@ pub fn allows(o: u8, turn: Turn) -> bool
     o / turn_bit(turn) % 2 == 1
 }
 
+// The turn is allowed to piece i.
+pub fn allowed(table: &[PieceEntry], i: usize, turn: Turn) -> bool
+    requires { ⌜ i < length (now table) ⌝ }
+    ensures { λ r. ⌜ ((size : JobSize) (pixels : List ℕ) → r ≡ allowed (jobOf (lentBy size (now (table .entry)) pixels)) i turn) ⌝ }
+{
+    allows(turns_of(table, i), turn)
+}
+
 // The placement of piece i in a layout buffer.
-pub fn place_at(layout: &[[u16; 3]], i: usize) -> Placement
+pub fn place_at(layout: &[PlaceEntry], i: usize) -> Placement
     requires { ⌜ i < length (now layout) ⌝ }
     ensures { λ r. ⌜ r ≡ placeOf (layoutOf (now (layout .entry))) i ⌝ }
 {
@@ -117,7 +129,7 @@ pub fn place_at(layout: &[[u16; 3]], i: usize) -> Placement
 }
 
 // A placement as an entry of a layout buffer.
-pub fn entry_of(place: Placement) -> [u16; 3]
+pub fn entry_of(place: Placement) -> PlaceEntry
     ensures { λ r. ⌜ r ≡ entryOf place ⌝ }
 {
     let turn = place.turn;
@@ -125,13 +137,13 @@ pub fn entry_of(place: Placement) -> [u16; 3]
 }
 
 // The sides of piece i's box in a turn.
-pub fn turned_sides(table: &[[u8; 3]], i: usize, turn: Turn) -> Sides
+pub fn turned_sides(table: &[PieceEntry], i: usize, turn: Turn) -> Sides
     requires { ⌜ i < length (now table) ⌝ }
     ensures sides { λ r. ⌜ ((size : JobSize) (pixels : List ℕ) → r ≡ sidesOf (turnedPiece (jobOf (lentBy size (now (table .entry)) pixels)) i turn)) ⌝ }
     ensures small { λ r. ⌜ (r .columns ≤ 255) × (r .rows ≤ 255) ⌝ }
 {
-    let columns = side(table[i][0]);
-    let rows = side(table[i][1]);
+    let columns = columns_of(table, i);
+    let rows = rows_of(table, i);
     match turn {
         Turn::Zero => Sides {
             columns: columns,
@@ -153,7 +165,14 @@ pub fn turned_sides(table: &[[u8; 3]], i: usize, turn: Turn) -> Sides
 }
 
 // The box of piece i, turned, with its corner at column x and row y, lies in the sheet.
-pub fn inside_at(size: JobSize, table: &[[u8; 3]], i: usize, turn: Turn, x: Column, y: Row) -> bool
+pub fn inside_at(
+    size: JobSize,
+    table: &[PieceEntry],
+    i: usize,
+    turn: Turn,
+    x: Column,
+    y: Row,
+) -> bool
     requires { ⌜ i < length (now table) ⌝ }
     ensures { λ r. ⌜ ((pixels : List ℕ) → r ≡ inside (jobOf (lentBy size (now (table .entry)) pixels)) i (placeAt turn (x .0) (y .0))) ⌝ }
 {
@@ -164,7 +183,7 @@ pub fn inside_at(size: JobSize, table: &[[u8; 3]], i: usize, turn: Turn, x: Colu
 }
 
 // The turned box of piece i lies in the sheet.
-pub fn inside(size: JobSize, table: &[[u8; 3]], i: usize, place: Placement) -> bool
+pub fn inside(size: JobSize, table: &[PieceEntry], i: usize, place: Placement) -> bool
     requires { ⌜ i < length (now table) ⌝ }
     ensures { λ r. ⌜ ((pixels : List ℕ) → r ≡ inside (jobOf (lentBy size (now (table .entry)) pixels)) i place) ⌝ }
 {
@@ -175,18 +194,18 @@ pub fn inside(size: JobSize, table: &[[u8; 3]], i: usize, place: Placement) -> b
 }
 
 // The degrees are a turn allowed to piece i.
-pub fn allowed_degrees(table: &[[u8; 3]], i: usize, degrees: u16) -> bool
+pub fn allowed_degrees(table: &[PieceEntry], i: usize, degrees: u16) -> bool
     requires { ⌜ i < length (now table) ⌝ }
     ensures { λ r. ⌜ ((size : JobSize) (pixels : List ℕ) → r ≡ allowedDegrees (jobOf (lentBy size (now (table .entry)) pixels)) i degrees) ⌝ }
 {
     let TurnAnswer::Known(turn) = turn_of(degrees) else {
         return false;
     };
-    allows(table[i][2], turn)
+    allowed(table, i, turn)
 }
 
 // Cause 9 of a layout: some piece's turn is not allowed to it.
-pub fn some_turn_wrong(size: JobSize, table: &[[u8; 3]], layout: &[[u16; 3]]) -> bool
+pub fn some_turn_wrong(size: JobSize, table: &[PieceEntry], layout: &[PlaceEntry]) -> bool
     requires { ⌜ (size .count ≤ length (now table)) × (length (now layout) ≡ size .count) ⌝ }
     ensures { λ r. ⌜ ((pixels : List ℕ) → r ≡ someTurnWrong (jobOf (lentBy size (now (table .entry)) pixels)) (now (layout .entry))) ⌝ }
 {
@@ -201,7 +220,7 @@ pub fn some_turn_wrong(size: JobSize, table: &[[u8; 3]], layout: &[[u16; 3]]) ->
 }
 
 // Cause 10 of a layout: some piece's placement is outside.
-pub fn some_outside(size: JobSize, table: &[[u8; 3]], layout: &[[u16; 3]]) -> bool
+pub fn some_outside(size: JobSize, table: &[PieceEntry], layout: &[PlaceEntry]) -> bool
     requires { ⌜ (size .count ≤ length (now table)) × (length (now layout) ≡ size .count) ⌝ }
     ensures { λ r. ⌜ ((pixels : List ℕ) → r ≡ someOutside (jobOf (lentBy size (now (table .entry)) pixels)) (layoutOf (now (layout .entry)))) ⌝ }
 {
@@ -229,9 +248,9 @@ pub fn refusal(number: u8) -> Refusal
 // The causes of a call on a layout alone: 8, 7, 9, 10.
 pub fn layout_causes(
     size: JobSize,
-    table: &[[u8; 3]],
+    table: &[PieceEntry],
     pixels: &[u8],
-    layout: &[[u16; 3]],
+    layout: &[PlaceEntry],
 ) -> CauseAnswer
     ensures { λ r. ⌜ r ≡ firstCause (layoutCauses (lentBy size (now (table .entry)) (now (pixels .entry))) (now (layout .entry))) ⌝ }
 {
@@ -251,7 +270,7 @@ pub fn layout_causes(
 }
 
 // The right end of piece i: corner x plus the turned box's columns.
-fn right_end(table: &[[u8; 3]], layout: &[[u16; 3]], i: usize) -> usize
+fn right_end(table: &[PieceEntry], layout: &[PlaceEntry], i: usize) -> usize
     requires { ⌜ (i < length (now table)) × (i < length (now layout)) ⌝ }
     ensures { λ r. ⌜ ((size : JobSize) (pixels : List ℕ) → r ≡ rightEnd (jobOf (lentBy size (now (table .entry)) pixels)) (layoutOf (now (layout .entry))) i) ⌝ }
 {
@@ -262,7 +281,7 @@ fn right_end(table: &[[u8; 3]], layout: &[[u16; 3]], i: usize) -> usize
 }
 
 // The used length of a layout: the largest right end.
-fn longest_end(size: JobSize, table: &[[u8; 3]], layout: &[[u16; 3]]) -> usize
+fn longest_end(size: JobSize, table: &[PieceEntry], layout: &[PlaceEntry]) -> usize
     requires { ⌜ (size .count ≤ length (now table)) × (length (now layout) ≡ size .count) ⌝ }
     ensures { λ r. ⌜ ((pixels : List ℕ) → r ≡ usedLength (jobOf (lentBy size (now (table .entry)) pixels)) (layoutOf (now (layout .entry)))) ⌝ }
 {
@@ -278,9 +297,9 @@ fn longest_end(size: JobSize, table: &[[u8; 3]], layout: &[[u16; 3]]) -> usize
 // The used length of a layout, or its refusal.
 pub fn used_length(
     size: JobSize,
-    table: &[[u8; 3]],
+    table: &[PieceEntry],
     pixels: &[u8],
-    layout: &[[u16; 3]],
+    layout: &[PlaceEntry],
 ) -> LengthAnswer
     ensures { λ r. ⌜ r ≡ lengthAnswer (usedLengthCall (lentBy size (now (table .entry)) (now (pixels .entry))) (now (layout .entry))) ⌝ }
 {

@@ -1,13 +1,6 @@
 // Numbers that the placements need.
 ghost use mathlib.Core.Path.{_≡_};
-ghost use Prim.Native.Nat.{_≤_, max};
-
-// A box side of the table as a wide number.
-pub fn side(k: u8) -> usize
-    ensures { λ r. ⌜ (r ≡ k) × (r ≤ 255) ⌝ }
-{
-    k as usize
-}
+ghost use Prim.Native.Nat.{max};
 
 // The larger of two numbers.
 pub fn larger(a: usize, b: usize) -> usize

@@ -10,6 +10,8 @@ mod stack;
 
 use layout_places::refusal;
 use model::JobSize;
+use model::PieceEntry;
+use model::PlaceEntry;
 use model::Refusal;
 
 // The start layout is laid out, or why it is refused.
@@ -21,9 +23,9 @@ pub enum StartAnswer {
 // The start layout, or its refusal.
 pub fn start(
     size: JobSize,
-    table: &[[u8; 3]],
+    table: &[PieceEntry],
     pixels: &[u8],
-    layout: &mut [[u16; 3]],
+    layout: &mut [PlaceEntry],
 ) -> StartAnswer
     ensures answer { λ r. ⌜ r ≡ startAnswer (startCall (lentBy size (now (table .entry)) (now (pixels .entry))) (length (now (layout .entry)))) ⌝ }
     ensures memory { λ r. ⌜ now (layout .exit) ≡ layoutAfter (now (layout .entry)) (startCall (lentBy size (now (table .entry)) (now (pixels .entry))) (length (now (layout .entry)))) ⌝ }

@@ -9,12 +9,15 @@ ghost use Rattle.layout_places.specs.Fitting.{Fitting};
 ghost use Rattle.layout_start_calls.specs.Stacks.{stackOf, emptyStack, stackEntries, Room, Piled};
 use layout_places::entry_of;
 use layout_places::numbers::larger;
-use layout_places::numbers::side;
 use model::Column;
 use model::JobSize;
+use model::PieceEntry;
+use model::PlaceEntry;
 use model::Placement;
 use model::Row;
 use model::Turn;
+use piece_table::columns_of;
+use piece_table::rows_of;
 
 // A stack of pieces: its left side, its height and its length so far. Document 01's X, Y and M.
 struct Pile {
@@ -31,11 +34,11 @@ fn smaller(a: usize, b: usize) -> usize
 }
 
 // The pile that takes piece i: a new one to the right where the piece would rise above the sheet.
-fn room_for(size: JobSize, table: &[[u8; 3]], i: usize, pile: Pile) -> Pile
+fn room_for(size: JobSize, table: &[PieceEntry], i: usize, pile: Pile) -> Pile
     requires { ⌜ (i < length (now table)) × (entryRows (now table) i ≤ size .rows) × (pile .height .0 ≤ rowBound) × (pile .left .0 + pile .length ≤ 65535) ⌝ }
     ensures { λ r. ⌜ Room size (now (table .entry)) i pile r ⌝ }
 {
-    let rows = side(table[i][1]);
+    let rows = rows_of(table, i);
     if size.rows < pile.height.0 as usize + rows {
         let right = pile.left.0 as usize + pile.length;
         return Pile {
@@ -48,11 +51,11 @@ fn room_for(size: JobSize, table: &[[u8; 3]], i: usize, pile: Pile) -> Pile
 }
 
 // Piece i on top of the pile, in turn 0, no further right than the sheet allows.
-fn on_top(size: JobSize, table: &[[u8; 3]], i: usize, pile: Pile) -> Placement
+fn on_top(size: JobSize, table: &[PieceEntry], i: usize, pile: Pile) -> Placement
     requires { ⌜ (i < length (now table)) × (entryColumns (now table) i ≤ size .columns) × (size .columns ≤ columnBound) ⌝ }
     ensures { λ r. ⌜ ((pixels : List ℕ) → r ≡ onStack (jobOf (lentBy size (now (table .entry)) pixels)) i (stackOf pile)) ⌝ }
 {
-    let x = smaller(pile.left.0 as usize, size.columns - side(table[i][0]));
+    let x = smaller(pile.left.0 as usize, size.columns - columns_of(table, i));
     let y = pile.height;
     Placement {
         turn: Turn::Zero,
@@ -62,21 +65,26 @@ fn on_top(size: JobSize, table: &[[u8; 3]], i: usize, pile: Pile) -> Placement
 }
 
 // The pile with piece i on it.
-fn piled(size: JobSize, table: &[[u8; 3]], i: usize, pile: Pile) -> Pile
+fn piled(size: JobSize, table: &[PieceEntry], i: usize, pile: Pile) -> Pile
     requires { ⌜ (i < length (now table)) × (pile .height .0 + entryRows (now table) i ≤ size .rows) × (size .rows ≤ rowBound) ⌝ }
     ensures { λ r. ⌜ Piled size (now (table .entry)) i pile r ⌝ }
 {
     let left = pile.left;
-    let top = pile.height.0 as usize + side(table[i][1]);
+    let top = pile.height.0 as usize + rows_of(table, i);
     Pile {
         left: left,
         height: Row(top as u16),
-        length: larger(pile.length, side(table[i][0])),
+        length: larger(pile.length, columns_of(table, i)),
     }
 }
 
 // The pieces of the order placed one after the other.
-pub fn stack_all(size: JobSize, table: &[[u8; 3]], order: &[usize; 64], layout: &mut [[u16; 3]])
+pub fn stack_all(
+    size: JobSize,
+    table: &[PieceEntry],
+    order: &[usize; 64],
+    layout: &mut [PlaceEntry],
+)
     requires { ⌜ Fitting size (now table) × ((k : ℕ) → k < size .count → getD (now order) k 0 < size .count) × (length (now order) ≡ pieceBound) × (length (now layout) ≡ size .count) ⌝ }
     ensures { λ r. ⌜ ((pixels : List ℕ) → now (layout .exit) ≡ stackEntries (jobOf (lentBy size (now (table .entry)) pixels)) (take (size .count) (now (order .entry))) emptyStack (now (layout .entry))) ⌝ }
 {

@@ -6,6 +6,8 @@ use layout_places::CauseAnswer;
 use layout_places::refusal;
 use model::Direction;
 use model::JobSize;
+use model::PieceEntry;
+use model::PlaceEntry;
 use model::Refusal;
 use search_sums::pair_count;
 use search_sums::plain_total;
@@ -57,9 +59,9 @@ pub fn some_weight_wrong(weights: &[u32]) -> bool
 // The causes of a call on weights that come before those of the layout's placements: 8, 7, 7, 2.
 pub fn length_causes(
     size: JobSize,
-    table: &[[u8; 3]],
+    table: &[PieceEntry],
     pixels: &[u8],
-    layout: &[[u16; 3]],
+    layout: &[PlaceEntry],
     weights: &[u32],
 ) -> CauseAnswer
     ensures { λ r. ⌜ r ≡ firstCause (lengthCauses (lentBy size (now (table .entry)) (now (pixels .entry))) (now (layout .entry)) (now (weights .entry))) ⌝ }
@@ -80,7 +82,7 @@ pub fn length_causes(
 }
 
 // The causes of the layout's placements: 9, 10.
-pub fn place_causes(size: JobSize, table: &[[u8; 3]], layout: &[[u16; 3]]) -> CauseAnswer
+pub fn place_causes(size: JobSize, table: &[PieceEntry], layout: &[PlaceEntry]) -> CauseAnswer
     requires { ⌜ (size .count ≤ length (now table)) × (length (now layout) ≡ size .count) ⌝ }
     ensures { λ r. ⌜ ((pixels : List ℕ) → r ≡ firstCause (placeCauses (lentBy size (now (table .entry)) pixels) (now (layout .entry)))) ⌝ }
 {
@@ -96,9 +98,9 @@ pub fn place_causes(size: JobSize, table: &[[u8; 3]], layout: &[[u16; 3]]) -> Ca
 // The causes of a weighted sum: 8, 7, 2, 9, 10.
 fn sum_causes(
     size: JobSize,
-    table: &[[u8; 3]],
+    table: &[PieceEntry],
     pixels: &[u8],
-    layout: &[[u16; 3]],
+    layout: &[PlaceEntry],
     weights: &[u32],
 ) -> CauseAnswer
     ensures { λ r. ⌜ r ≡ firstCause (lengthCauses (lentBy size (now (table .entry)) (now (pixels .entry))) (now (layout .entry)) (now (weights .entry)) ++ placeCauses (lentBy size (now (table .entry)) (now (pixels .entry))) (now (layout .entry))) ⌝ }
@@ -110,7 +112,12 @@ fn sum_causes(
 }
 
 // The table of pair penalties of a job's layout.
-fn penalties_of(size: JobSize, table: &[[u8; 3]], pixels: &[u8], layout: &[[u16; 3]]) -> [u8; 4096]
+fn penalties_of(
+    size: JobSize,
+    table: &[PieceEntry],
+    pixels: &[u8],
+    layout: &[PlaceEntry],
+) -> [u8; 4096]
     requires { ⌜ Laid (lentBy size (now table) (now pixels)) (now layout) ⌝ }
     ensures { λ r. ⌜ PenaltyTable (jobOf (lentBy size (now (table .entry)) (now (pixels .entry)))) (layoutOf (now (layout .entry))) (size .count) r ⌝ }
 {
@@ -150,9 +157,9 @@ fn penalties_of(size: JobSize, table: &[[u8; 3]], pixels: &[u8], layout: &[[u16;
 // The weighted sum of a layout, or its refusal.
 pub fn weighted_sum(
     size: JobSize,
-    table: &[[u8; 3]],
+    table: &[PieceEntry],
     pixels: &[u8],
-    layout: &[[u16; 3]],
+    layout: &[PlaceEntry],
     weights: &[u32],
 ) -> SumAnswer
     ensures { λ r. ⌜ r ≡ sumAnswer (weightedSumCall (lentBy size (now (table .entry)) (now (pixels .entry))) (now (layout .entry)) (now (weights .entry))) ⌝ }
@@ -167,7 +174,12 @@ pub fn weighted_sum(
 }
 
 // The plain sum of a layout, or its refusal.
-pub fn plain_sum(size: JobSize, table: &[[u8; 3]], pixels: &[u8], layout: &[[u16; 3]]) -> SumAnswer
+pub fn plain_sum(
+    size: JobSize,
+    table: &[PieceEntry],
+    pixels: &[u8],
+    layout: &[PlaceEntry],
+) -> SumAnswer
     ensures { λ r. ⌜ r ≡ sumAnswer (plainSumCall (lentBy size (now (table .entry)) (now (pixels .entry))) (now (layout .entry))) ⌝ }
 {
     match layout_places::layout_causes(size, table, pixels, layout) {
@@ -194,7 +206,12 @@ fn shared_answer(pair: SharingPair) -> CheckAnswer
 }
 
 // The check of a layout.
-pub fn check(size: JobSize, table: &[[u8; 3]], pixels: &[u8], layout: &[[u16; 3]]) -> CheckAnswer
+pub fn check(
+    size: JobSize,
+    table: &[PieceEntry],
+    pixels: &[u8],
+    layout: &[PlaceEntry],
+) -> CheckAnswer
     ensures { λ r. ⌜ r ≡ checkAnswer (checkCall (lentBy size (now (table .entry)) (now (pixels .entry))) (now (layout .entry))) ⌝ }
 {
     match layout_places::layout_causes(size, table, pixels, layout) {

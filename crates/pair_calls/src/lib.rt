@@ -3,6 +3,8 @@ use layout_places::CauseAnswer;
 use layout_places::refusal;
 use model::Direction;
 use model::JobSize;
+use model::PieceEntry;
+use model::PlaceEntry;
 use model::Refusal;
 use pair_measure::placed_depth;
 use pair_measure::placed_penalty;
@@ -42,9 +44,9 @@ fn wrong_pair(count: usize, i: usize, k: usize) -> bool
 // The causes of a call on a pair of a layout: 8, 7, 9, 10.
 pub fn pair_causes(
     size: JobSize,
-    table: &[[u8; 3]],
+    table: &[PieceEntry],
     pixels: &[u8],
-    layout: &[[u16; 3]],
+    layout: &[PlaceEntry],
     i: usize,
     k: usize,
 ) -> CauseAnswer
@@ -71,9 +73,9 @@ pub fn pair_causes(
 // Whether pieces i and k share a pixel in the layout.
 pub fn shares_pixel(
     size: JobSize,
-    table: &[[u8; 3]],
+    table: &[PieceEntry],
     pixels: &[u8],
-    layout: &[[u16; 3]],
+    layout: &[PlaceEntry],
     i: usize,
     k: usize,
 ) -> ShareAnswer
@@ -100,9 +102,9 @@ pub fn shares_pixel(
 // The depth of pieces i and k along a direction in the layout.
 pub fn depth(
     size: JobSize,
-    table: &[[u8; 3]],
+    table: &[PieceEntry],
     pixels: &[u8],
-    layout: &[[u16; 3]],
+    layout: &[PlaceEntry],
     i: usize,
     k: usize,
     direction: Direction,
@@ -127,9 +129,9 @@ pub fn depth(
 // The penalty of pieces i and k in the layout.
 pub fn penalty(
     size: JobSize,
-    table: &[[u8; 3]],
+    table: &[PieceEntry],
     pixels: &[u8],
-    layout: &[[u16; 3]],
+    layout: &[PlaceEntry],
     i: usize,
     k: usize,
 ) -> AmountAnswer

@@ -4,8 +4,10 @@ use layout_places::refusal;
 use model::ColumnOffset;
 use model::Direction;
 use model::JobSize;
+use model::PieceEntry;
 use model::Refusal;
 use model::RowOffset;
+use model::StripEntry;
 use model::Turn;
 use pair_overlap::Corner;
 use strip_scan::compare::Compared;
@@ -101,7 +103,7 @@ fn put_runs(marks: &[u16], out: &mut [[i32; 2]]) -> usize
 }
 
 // Puts the no-fit line of two stretches at an offset into the buffer, if there is room for it, and tells how many runs it has.
-fn put_line(a: &[[u8; 3]], b: &[[u8; 3]], offset: i32, out: &mut [[i32; 2]]) -> RunsAnswer
+fn put_line(a: &[StripEntry], b: &[StripEntry], offset: i32, out: &mut [[i32; 2]]) -> RunsAnswer
     requires { ⌜ Ordered (now a) ⌝ ∗ ⌜ Ordered (now b) ⌝ }
     ensures answer { λ r. ⌜ r ≡ runsAnswer (lineOutcome (now (a .entry)) (now (b .entry)) offset (length (now (out .entry)))) ⌝ }
     ensures memory { λ r. ⌜ now (out .exit) ≡ lineAfter (now (out .entry)) (lineOutcome (now (a .entry)) (now (b .entry)) offset (length (now (out .entry)))) ⌝ }
@@ -124,24 +126,24 @@ fn put_line(a: &[[u8; 3]], b: &[[u8; 3]], offset: i32, out: &mut [[i32; 2]]) -> 
 }
 
 // There is such a piece, and the turn is allowed to it.
-fn is_known(size: JobSize, table: &[[u8; 3]], i: usize, turn: Turn) -> bool
+fn is_known(size: JobSize, table: &[PieceEntry], i: usize, turn: Turn) -> bool
     requires { ⌜ size .count ≤ length (now table) ⌝ }
     ensures { λ r. ⌜ ((pixels : List ℕ) (es : List (List ℕ)) → r ≡ known (jobOf (lentBy size (now (table .entry)) pixels)) (lentStretch i turn es)) ⌝ }
 {
     if size.count <= i {
         return false;
     }
-    layout_places::allows(table[i][2], turn)
+    layout_places::allowed(table, i, turn)
 }
 
 // The stretch is that of the piece in the turn.
 fn is_own(
-    table: &[[u8; 3]],
+    table: &[PieceEntry],
     pixels: &[u8],
     i: usize,
     turn: Turn,
     direction: Direction,
-    stretch: &[[u8; 3]],
+    stretch: &[StripEntry],
 ) -> bool
     requires { ⌜ EntryAt (now table) i (pixelStart (now table) i) × (i ≤ 64) ⌝ }
     ensures { λ r. ⌜ ((size : JobSize) → r ≡ stretchWell direction (jobOf (lentBy size (now (table .entry)) (now (pixels .entry)))) (lentStretch i turn (now (stretch .entry)))) ⌝ }
@@ -165,14 +167,14 @@ fn is_own(
 // The causes of a no-fit call before the room is asked for: 8 the job, 9, 8 a stretch.
 fn stretch_causes(
     size: JobSize,
-    table: &[[u8; 3]],
+    table: &[PieceEntry],
     pixels: &[u8],
     i: usize,
     first: Turn,
-    a: &[[u8; 3]],
+    a: &[StripEntry],
     k: usize,
     second: Turn,
-    b: &[[u8; 3]],
+    b: &[StripEntry],
     direction: Direction,
 ) -> CauseAnswer
     ensures { λ r. ⌜ r ≡ firstCause (stretchCauses direction (lentBy size (now (table .entry)) (now (pixels .entry))) (lentStretch i first (now (a .entry))) (lentStretch k second (now (b .entry)))) ⌝ }
@@ -198,14 +200,14 @@ fn stretch_causes(
 // The no-fit line in a direction of pieces i and k in their turns, at an offset across it.
 fn no_fit(
     size: JobSize,
-    table: &[[u8; 3]],
+    table: &[PieceEntry],
     pixels: &[u8],
     i: usize,
     first: Turn,
-    a: &[[u8; 3]],
+    a: &[StripEntry],
     k: usize,
     second: Turn,
-    b: &[[u8; 3]],
+    b: &[StripEntry],
     direction: Direction,
     offset: i32,
     out: &mut [[i32; 2]],
@@ -222,14 +224,14 @@ fn no_fit(
 // The no-fit row of pieces i and k in their turns at a row offset, from their row strips: the column offsets at which they share a pixel.
 pub fn no_fit_row(
     size: JobSize,
-    table: &[[u8; 3]],
+    table: &[PieceEntry],
     pixels: &[u8],
     i: usize,
     first: Turn,
-    a: &[[u8; 3]],
+    a: &[StripEntry],
     k: usize,
     second: Turn,
-    b: &[[u8; 3]],
+    b: &[StripEntry],
     offset: RowOffset,
     out: &mut [[i32; 2]],
 ) -> RunsAnswer
@@ -256,14 +258,14 @@ pub fn no_fit_row(
 // a pixel.
 pub fn no_fit_column(
     size: JobSize,
-    table: &[[u8; 3]],
+    table: &[PieceEntry],
     pixels: &[u8],
     i: usize,
     first: Turn,
-    a: &[[u8; 3]],
+    a: &[StripEntry],
     k: usize,
     second: Turn,
-    b: &[[u8; 3]],
+    b: &[StripEntry],
     offset: ColumnOffset,
     out: &mut [[i32; 2]],
 ) -> RunsAnswer

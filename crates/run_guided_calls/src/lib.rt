@@ -1,6 +1,8 @@
 // The guided run: rounds of descent with weights raised in between. Document 01, 'Descent and guidance' and 'When a call says no'.
 use layout_places::CauseAnswer;
 use model::JobSize;
+use model::PieceEntry;
+use model::PlaceEntry;
 use model::Refusal;
 use run_memory::memory::Outcome;
 use run_memory::memory::Plan;
@@ -49,11 +51,11 @@ fn numbers_wrong(rounds: u32, budget: u32) -> bool
 // The rounds, in a run's memory.
 fn run_rounds(
     size: JobSize,
-    table: &[[u8; 3]],
+    table: &[PieceEntry],
     pixels: &[u8],
     rounds: u32,
     budget: u32,
-    layout: &mut [[u16; 3]],
+    layout: &mut [PlaceEntry],
     weights: &mut [u32],
 ) -> Run
     requires { ⌜ Given (lentBy size (now table) (now pixels)) (now layout) (now weights) budget ⌝ ∗ ⌜ rounds ≤ roundBound ⌝ }
@@ -86,9 +88,9 @@ fn run_rounds(
 // new weights; on a refusal nothing is written. Demand 3's claims hold of the run and of each of its rounds.
 pub fn guided_run(
     size: JobSize,
-    table: &[[u8; 3]],
+    table: &[PieceEntry],
     pixels: &[u8],
-    layout: &mut [[u16; 3]],
+    layout: &mut [PlaceEntry],
     weights: &mut [u32],
     rounds: u32,
     budget: u32,

@@ -4,6 +4,8 @@ pub mod memory;
 use layout_places::CauseAnswer;
 use layout_places::refusal;
 use model::JobSize;
+use model::PieceEntry;
+use model::PlaceEntry;
 ghost use mathlib.Core.Path.{_≡_};
 ghost use Rattle.model.specs.Lent.{lentBy};
 ghost use Rattle.model.specs.Buffer.{layoutOf, entriesOf};
@@ -13,9 +15,9 @@ ghost use Rattle.run_memory.specs.Answers.{runCauses};
 // The causes of a run's refusal: 8, 7, 7, 2, 9, 10. `wrong` tells whether a number besides the weights is out of range.
 pub fn run_causes(
     size: JobSize,
-    table: &[[u8; 3]],
+    table: &[PieceEntry],
     pixels: &[u8],
-    layout: &[[u16; 3]],
+    layout: &[PlaceEntry],
     weights: &[u32],
     wrong: bool,
 ) -> CauseAnswer
@@ -33,7 +35,7 @@ pub fn run_causes(
 }
 
 // Writes each entry of a layout buffer again, as the placement that it is read as. What a reader sees stays the same.
-pub fn write_entries(layout: &mut [[u16; 3]])
+pub fn write_entries(layout: &mut [PlaceEntry])
     ensures { λ r. ⌜ now (layout .exit) ≡ entriesOf (layoutOf (now (layout .entry))) ⌝ }
 {
     let mut i = 0;

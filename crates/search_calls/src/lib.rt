@@ -6,6 +6,8 @@ use model::Column;
 use model::Coordinate;
 use model::JobSize;
 use model::Line;
+use model::PieceEntry;
+use model::PlaceEntry;
 use model::Refusal;
 use model::Row;
 use model::Turn;
@@ -37,9 +39,9 @@ pub enum SearchAnswer {
 // The line search without a bound, with strips and a store of its own.
 fn search_alone(
     size: JobSize,
-    table: &[[u8; 3]],
+    table: &[PieceEntry],
     pixels: &[u8],
-    layout: &[[u16; 3]],
+    layout: &[PlaceEntry],
     weights: &[u32],
     mover: Mover,
 ) -> Found
@@ -82,8 +84,8 @@ fn search_alone(
 // The causes of a search that the layout and the piece have: 9, 10.
 fn piece_causes(
     size: JobSize,
-    table: &[[u8; 3]],
-    layout: &[[u16; 3]],
+    table: &[PieceEntry],
+    layout: &[PlaceEntry],
     piece: usize,
     turn: Turn,
 ) -> CauseAnswer
@@ -96,7 +98,7 @@ fn piece_causes(
     if size.count <= piece {
         return CauseAnswer::Refused(refusal(9));
     }
-    if !layout_places::allows(table[piece][2], turn) {
+    if !layout_places::allowed(table, piece, turn) {
         return CauseAnswer::Refused(refusal(9));
     }
     if layout_places::some_outside(size, table, layout) {
@@ -108,9 +110,9 @@ fn piece_causes(
 // The causes of a line search but the last: 8, 7, 2, 9, 10.
 fn search_causes(
     size: JobSize,
-    table: &[[u8; 3]],
+    table: &[PieceEntry],
     pixels: &[u8],
-    layout: &[[u16; 3]],
+    layout: &[PlaceEntry],
     weights: &[u32],
     piece: usize,
     turn: Turn,
@@ -148,9 +150,9 @@ fn best_answer(line: Line, found: Found) -> SearchAnswer
 // its refusal.
 pub fn line_search(
     size: JobSize,
-    table: &[[u8; 3]],
+    table: &[PieceEntry],
     pixels: &[u8],
-    layout: &[[u16; 3]],
+    layout: &[PlaceEntry],
     weights: &[u32],
     piece: usize,
     turn: Turn,

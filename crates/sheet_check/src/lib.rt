@@ -2,6 +2,7 @@
 // well, and the counts are those that the laid pieces make anew.
 use model::Entry;
 use model::JobSize;
+use model::PieceEntry;
 use model::Record;
 use model::Turn;
 ghost use mathlib.Core.Path.{_≡_};
@@ -43,18 +44,18 @@ fn is_blank(entry: Entry) -> bool
 }
 
 // The job has the piece and the turn is allowed to it.
-pub fn known(size: JobSize, table: &[[u8; 3]], i: usize, turn: Turn) -> bool
+pub fn known(size: JobSize, table: &[PieceEntry], i: usize, turn: Turn) -> bool
     requires { ⌜ size .count ≤ length (now table) ⌝ }
     ensures { λ r. ⌜ ((pixels : List ℕ) → r ≡ (ltb i (size .count) && allowed (jobOf (lentBy size (now (table .entry)) pixels)) i turn)) ⌝ }
 {
     if size.count <= i {
         return false;
     }
-    layout_places::allows(table[i][2], turn)
+    layout_places::allowed(table, i, turn)
 }
 
 // The entry of piece i is blank, or that of a piece of the job laid inside in an allowed turn.
-fn entry_well(size: JobSize, table: &[[u8; 3]], sheet: Record, i: usize) -> bool
+fn entry_well(size: JobSize, table: &[PieceEntry], sheet: Record, i: usize) -> bool
     requires { ⌜ (size .count ≤ length (now table)) × (i < 64) ⌝ }
     ensures { λ r. ⌜ ((pixels : List ℕ) → r ≡ entryWell (jobOf (lentBy size (now (table .entry)) pixels)) (sheet .pieces) i) ⌝ }
 {
@@ -74,7 +75,7 @@ fn entry_well(size: JobSize, table: &[[u8; 3]], sheet: Record, i: usize) -> bool
 }
 
 // Every entry is well.
-fn entries_well(size: JobSize, table: &[[u8; 3]], sheet: Record) -> bool
+fn entries_well(size: JobSize, table: &[PieceEntry], sheet: Record) -> bool
     requires { ⌜ size .count ≤ length (now table) ⌝ }
     ensures { λ r. ⌜ ((pixels : List ℕ) → r ≡ allBelow 64 (entryWell (jobOf (lentBy size (now (table .entry)) pixels)) (sheet .pieces))) ⌝ }
 {
@@ -91,7 +92,7 @@ fn entries_well(size: JobSize, table: &[[u8; 3]], sheet: Record) -> bool
 // One more on each pixel that piece i covers, where it is laid.
 fn add_entry(
     size: JobSize,
-    table: &[[u8; 3]],
+    table: &[PieceEntry],
     pixels: &[u8],
     sheet: Record,
     i: usize,
@@ -109,7 +110,7 @@ fn add_entry(
 }
 
 // The counts that the laid pieces make.
-fn recount(size: JobSize, table: &[[u8; 3]], pixels: &[u8], sheet: Record, made: &mut [u8])
+fn recount(size: JobSize, table: &[PieceEntry], pixels: &[u8], sheet: Record, made: &mut [u8])
     requires { ⌜ CanCount (lentBy size (now table) (now pixels)) (sheet .pieces) (length (now made)) ⌝ }
     ensures { λ _. ⌜ Recounted (jobOf (lentBy size (now (table .entry)) (now (pixels .entry)))) (sheet .pieces) (now (made .exit)) ⌝ }
 {
@@ -125,7 +126,7 @@ fn recount(size: JobSize, table: &[[u8; 3]], pixels: &[u8], sheet: Record, made:
 // Each count is the number of laid pieces on its pixel; `made` is room for the counts made anew.
 fn counts_match(
     size: JobSize,
-    table: &[[u8; 3]],
+    table: &[PieceEntry],
     pixels: &[u8],
     sheet: Record,
     counts: &[u8],
@@ -142,7 +143,7 @@ fn counts_match(
 // Each count is the number of laid pieces on its pixel.
 fn counts_well(
     size: JobSize,
-    table: &[[u8; 3]],
+    table: &[PieceEntry],
     pixels: &[u8],
     sheet: Record,
     counts: &[u8],
@@ -157,7 +158,7 @@ fn counts_well(
 // The record and the counts are some that a list of calls gives.
 pub fn sheet_well(
     size: JobSize,
-    table: &[[u8; 3]],
+    table: &[PieceEntry],
     pixels: &[u8],
     sheet: Record,
     counts: &[u8],

@@ -3,6 +3,7 @@ use c_interface::Reply;
 use c_interface::done;
 use c_interface::refused;
 use job_calls::JobAnswer;
+use model::PieceEntry;
 ghost use mathlib.Core.Path.{_≡_};
 ghost use lib.ListN.{length};
 ghost use Rattle.model.specs.JobText.{readJob};
@@ -13,7 +14,7 @@ ghost use Rattle.c_interface.specs.Replies.{replyTo};
 #[no_mangle]
 pub extern "C" fn sigbrol_read_job(
     text: &[u8],
-    table: &mut [[u8; 3]],
+    table: &mut [PieceEntry],
     pixels: &mut [u8],
     rows: &mut usize,
     columns: &mut usize,

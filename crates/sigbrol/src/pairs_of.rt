@@ -4,6 +4,8 @@ use c_interface::direction_of;
 use c_interface::done;
 use c_interface::refused;
 use c_interface::size_of;
+use model::PieceEntry;
+use model::PlaceEntry;
 use pair_calls::AmountAnswer;
 use pair_calls::ShareAnswer;
 ghost use mathlib.Core.Path.{_≡_};
@@ -25,9 +27,9 @@ pub extern "C" fn sigbrol_shares_pixel(
     rows: usize,
     columns: usize,
     count: usize,
-    table: &[[u8; 3]],
+    table: &[PieceEntry],
     pixels: &[u8],
-    layout: &[[u16; 3]],
+    layout: &[PlaceEntry],
     i: usize,
     k: usize,
     shares: &mut u8,
@@ -50,9 +52,9 @@ pub extern "C" fn sigbrol_depth(
     rows: usize,
     columns: usize,
     count: usize,
-    table: &[[u8; 3]],
+    table: &[PieceEntry],
     pixels: &[u8],
-    layout: &[[u16; 3]],
+    layout: &[PlaceEntry],
     i: usize,
     k: usize,
     vertical: u8,
@@ -77,9 +79,9 @@ pub extern "C" fn sigbrol_penalty(
     rows: usize,
     columns: usize,
     count: usize,
-    table: &[[u8; 3]],
+    table: &[PieceEntry],
     pixels: &[u8],
-    layout: &[[u16; 3]],
+    layout: &[PlaceEntry],
     i: usize,
     k: usize,
     penalty: &mut u32,

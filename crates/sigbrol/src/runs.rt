@@ -8,6 +8,8 @@ use c_interface::piece_with_turn;
 use c_interface::refused;
 use c_interface::size_of;
 use layout_places::turn_or_zero;
+use model::PieceEntry;
+use model::PlaceEntry;
 use run_descent_calls::DescentAnswer;
 use run_guided_calls::GuidedAnswer;
 use search_calls::SearchAnswer;
@@ -27,9 +29,9 @@ pub extern "C" fn sigbrol_line_search(
     rows: usize,
     columns: usize,
     count: usize,
-    table: &[[u8; 3]],
+    table: &[PieceEntry],
     pixels: &[u8],
-    layout: &[[u16; 3]],
+    layout: &[PlaceEntry],
     weights: &[u32],
     piece: usize,
     turn: u16,
@@ -68,9 +70,9 @@ pub extern "C" fn sigbrol_descent(
     rows: usize,
     columns: usize,
     count: usize,
-    table: &[[u8; 3]],
+    table: &[PieceEntry],
     pixels: &[u8],
-    layout: &mut [[u16; 3]],
+    layout: &mut [PlaceEntry],
     weights: &[u32],
     budget: u32,
     end: &mut u8,
@@ -112,9 +114,9 @@ pub extern "C" fn sigbrol_guided_run(
     rows: usize,
     columns: usize,
     count: usize,
-    table: &[[u8; 3]],
+    table: &[PieceEntry],
     pixels: &[u8],
-    layout: &mut [[u16; 3]],
+    layout: &mut [PlaceEntry],
     weights: &mut [u32],
     rounds: u32,
     budget: u32,

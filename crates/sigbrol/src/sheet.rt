@@ -7,6 +7,7 @@ use c_interface::record::read_record;
 use c_interface::record::write_record;
 use c_interface::refused;
 use c_interface::size_of;
+use model::PieceEntry;
 use sheet_calls::Reply as SheetReply;
 ghost use mathlib.Core.Path.{_≡_};
 ghost use lib.ListN.{length};
@@ -23,7 +24,7 @@ pub extern "C" fn sigbrol_fresh(
     rows: usize,
     columns: usize,
     count: usize,
-    table: &[[u8; 3]],
+    table: &[PieceEntry],
     pixels: &[u8],
     entries: &mut [[u16; 4]; 64],
     counts: &mut [u8],
@@ -49,7 +50,7 @@ pub extern "C" fn sigbrol_lay(
     rows: usize,
     columns: usize,
     count: usize,
-    table: &[[u8; 3]],
+    table: &[PieceEntry],
     pixels: &[u8],
     entries: &mut [[u16; 4]; 64],
     counts: &mut [u8],
@@ -87,7 +88,7 @@ pub extern "C" fn sigbrol_withdraw(
     rows: usize,
     columns: usize,
     count: usize,
-    table: &[[u8; 3]],
+    table: &[PieceEntry],
     pixels: &[u8],
     entries: &mut [[u16; 4]; 64],
     counts: &mut [u8],

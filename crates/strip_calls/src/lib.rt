@@ -1,7 +1,9 @@
 // The stores of a job's strips (document 01, 'Strips'): the strips call fills them, the stretch call hands out one piece's part.
 
 use model::JobSize;
+use model::PieceEntry;
 use model::Refusal;
+use model::StripEntry;
 use strip_store::fill::room_for;
 
 mod compare;
@@ -23,12 +25,12 @@ pub enum StripsAnswer {
 // Fills the row store and the column store of a job in given turns, each with its starts.
 pub fn strips(
     size: JobSize,
-    table: &[[u8; 3]],
+    table: &[PieceEntry],
     pixels: &[u8],
     turns: &[u16],
-    row_strips: &mut [[u8; 3]],
+    row_strips: &mut [StripEntry],
     row_starts: &mut [u32],
-    column_strips: &mut [[u8; 3]],
+    column_strips: &mut [StripEntry],
     column_starts: &mut [u32],
 ) -> StripsAnswer
     ensures answer { λ r. ⌜ r ≡ stripsAnswer (stripsCall (lentBy size (now (table .entry)) (now (pixels .entry))) (now (turns .entry)) (storesBy (now («row_strips» .entry)) (now («row_starts» .entry)) (now («column_strips» .entry)) (now («column_starts» .entry)))) ⌝ }

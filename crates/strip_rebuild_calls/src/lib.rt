@@ -2,6 +2,7 @@
 
 use model::Direction;
 use model::Refusal;
+use model::StripEntry;
 ghost use mathlib.Core.Path.{_≡_};
 ghost use lib.ListN.{length};
 ghost use Rattle.model.specs.Calls.{rebuildCall, pixelsAfter};
@@ -45,7 +46,7 @@ pub fn rebuild(
     columns: u16,
     rows: u16,
     direction: Direction,
-    strips: &[[u8; 3]],
+    strips: &[StripEntry],
     pixels: &mut [u8],
 ) -> RebuildAnswer
     ensures answer { λ r. ⌜ r ≡ rebuildAnswer (rebuildCall direction columns rows (now (strips .entry)) (length (now (pixels .entry)))) ⌝ }

@@ -3,6 +3,7 @@
 use super::check::Strip;
 use super::check::strip_at;
 use model::Direction;
+use model::StripEntry;
 ghost use mathlib.Core.Path.{_≡_};
 ghost use mathlib.Core.Bool.{true};
 ghost use mathlib.Core.List.{_++_, map};
@@ -54,7 +55,7 @@ fn paint_strips(
     columns: usize,
     rows: usize,
     direction: Direction,
-    strips: &[[u8; 3]],
+    strips: &[StripEntry],
 )
     requires { ⌜ Room columns rows (now pixels) × ((i : ℕ) → i < length (now strips) → StripFits direction columns rows (stripIn (now strips) i)) ⌝ }
     ensures { λ r. ⌜ Painted columns (stripsHave direction (map entryStrip (now (strips .entry)))) (now (pixels .entry)) (now (pixels .exit)) ⌝ }
@@ -83,7 +84,7 @@ pub fn write(
     direction: Direction,
     columns: usize,
     rows: usize,
-    strips: &[[u8; 3]],
+    strips: &[StripEntry],
     pixels: &mut [u8],
 )
     requires { ⌜ Room columns rows (now pixels) × (stripsWell direction columns rows (now strips) ≡ true) ⌝ }

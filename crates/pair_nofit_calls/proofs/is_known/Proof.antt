@@ -10,22 +10,13 @@ returns : tie.Need-returns
 unfolding known jobOf
 returns c = λ pixels es. rw (le-ltb _ _ (c .if1 .taken))
 
-mul-allows : tie.Need-mul-allows
-mul-allows c = search needs
-
-index-1-allows : tie.Need-index-1-allows
-index-1-allows c = search needs
-
-index-2-allows : tie.Need-index-2-allows
-index-2-allows c = search needs
-
-allows-requires : tie.Need-allows-requires
-allows-requires c κs = search needs
-
 returns-2 : tie.Need-returns-2
 unfolding known jobOf
-returns-2 c = λ pixels es. rw (lt-ltb _ _ (c .before .before .if1 .left)) (c .allows .ensures)
+returns-2 c =
+    let at-start : tie.Start = search in
+    let passed1 : tie.Else1 = search in
+    λ pixels es. rw (lt-ltb _ _ (passed1 .if1 .left)) (c .allowed .ensures (at-start .args .size) pixels)
 
 pub is-known-spec : {M : Type 1} → statement M
 is-known-spec =
-    tie.close (tie.spec returns mul-allows index-1-allows index-2-allows allows-requires returns-2)
+    tie.close (tie.spec returns (search needs) returns-2)
