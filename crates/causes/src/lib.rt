@@ -7,6 +7,8 @@ use layout_places::numbers::pair_count;
 use layout_places::place_at;
 use model::DoneAnswer;
 use model::JobSize;
+use model::PieceEntry;
+use model::PlaceEntry;
 use model::refused;
 ghost use mathlib.Core.Path.{_≡_};
 ghost use mathlib.Core.Bool.{not, _||_};
@@ -29,7 +31,7 @@ pub struct Wrong {
 }
 
 // Cause 9 of a layout: some piece's turn is not allowed to it.
-pub fn some_turn_wrong(size: JobSize, table: &[[u8; 3]], layout: &[[u16; 3]]) -> bool
+pub fn some_turn_wrong(size: JobSize, table: &[PieceEntry], layout: &[PlaceEntry]) -> bool
     requires { ⌜ (size .count ≤ length (now table)) × (length (now layout) ≡ size .count) ⌝ }
     ensures { λ r. ⌜ ((pixels : List ℕ) → r ≡ someTurnWrong (jobOf (lentBy size (now (table .entry)) pixels)) (now (layout .entry))) ⌝ }
 {
@@ -44,7 +46,7 @@ pub fn some_turn_wrong(size: JobSize, table: &[[u8; 3]], layout: &[[u16; 3]]) ->
 }
 
 // Cause 10 of a layout: some piece's placement is outside.
-pub fn some_outside(size: JobSize, table: &[[u8; 3]], layout: &[[u16; 3]]) -> bool
+pub fn some_outside(size: JobSize, table: &[PieceEntry], layout: &[PlaceEntry]) -> bool
     requires { ⌜ (size .count ≤ length (now table)) × (length (now layout) ≡ size .count) ⌝ }
     ensures { λ r. ⌜ ((pixels : List ℕ) → r ≡ someOutside (jobOf (lentBy size (now (table .entry)) pixels)) (layoutOf (now (layout .entry)))) ⌝ }
 {
@@ -59,7 +61,12 @@ pub fn some_outside(size: JobSize, table: &[[u8; 3]], layout: &[[u16; 3]]) -> bo
 }
 
 // The causes of the layout's placements: 9, also where the call names a wrong piece, and 10.
-fn place_causes(size: JobSize, table: &[[u8; 3]], layout: &[[u16; 3]], piece: bool) -> DoneAnswer
+fn place_causes(
+    size: JobSize,
+    table: &[PieceEntry],
+    layout: &[PlaceEntry],
+    piece: bool,
+) -> DoneAnswer
     requires { ⌜ (size .count ≤ length (now table)) × (length (now layout) ≡ size .count) ⌝ }
     ensures { λ r. ⌜ ((pixels : List ℕ) → r ≡ firstCause (placeCauses (lentBy size (now (table .entry)) pixels) (now (layout .entry)) piece)) ⌝ }
 {
@@ -78,9 +85,9 @@ fn place_causes(size: JobSize, table: &[[u8; 3]], layout: &[[u16; 3]], piece: bo
 // The causes of a call on a layout, with what its own tests found wrong: 8, 7, 2, 9, 10.
 pub fn call_causes(
     size: JobSize,
-    table: &[[u8; 3]],
+    table: &[PieceEntry],
     pixels: &[u8],
-    layout: &[[u16; 3]],
+    layout: &[PlaceEntry],
     wrong: Wrong,
 ) -> DoneAnswer
     ensures { λ r. ⌜ r ≡ firstCause (callCauses (lentBy size (now (table .entry)) (now (pixels .entry))) (now (layout .entry)) wrong) ⌝ }
@@ -103,9 +110,9 @@ pub fn call_causes(
 // The causes of a call on a layout alone: 8, 7, 9, 10.
 pub fn layout_causes(
     size: JobSize,
-    table: &[[u8; 3]],
+    table: &[PieceEntry],
     pixels: &[u8],
-    layout: &[[u16; 3]],
+    layout: &[PlaceEntry],
 ) -> DoneAnswer
     ensures { λ r. ⌜ r ≡ firstCause (layoutCauses (lentBy size (now (table .entry)) (now (pixels .entry))) (now (layout .entry))) ⌝ }
 {
@@ -158,9 +165,9 @@ fn some_number_wrong(weights: &[u32], number: bool) -> bool
 // 8, 7 the layout and the weights, 2, 9, 10.
 pub fn weighted_causes(
     size: JobSize,
-    table: &[[u8; 3]],
+    table: &[PieceEntry],
     pixels: &[u8],
-    layout: &[[u16; 3]],
+    layout: &[PlaceEntry],
     weights: &[u32],
     number: bool,
     piece: bool,

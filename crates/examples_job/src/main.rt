@@ -1,6 +1,7 @@
 // Reads document 01's example job and some others, each from its text, and writes what the reader answers: the job's numbers, its first
 // entry, its first eight pixel bytes and whether the check of a lent job passes; or the refusal's number and line.
 use job_calls::JobAnswer;
+use model::StripEntry;
 
 // A number behind a comma.
 fn put(n: u64) {
@@ -9,7 +10,7 @@ fn put(n: u64) {
 }
 
 // An entry: l, w and o.
-fn put_entry(e: [u8; 3]) {
+fn put_entry(e: StripEntry) {
     put(e[0] as u64);
     put(e[1] as u64);
     put(e[2] as u64);

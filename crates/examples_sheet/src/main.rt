@@ -5,6 +5,7 @@ use libc::STDOUT_FILENO;
 use model::Column;
 use model::DoneAnswer;
 use model::JobSize;
+use model::PieceEntry;
 use model::Placement;
 use model::Record;
 use model::Row;
@@ -19,7 +20,7 @@ const SIZE: JobSize = JobSize {
     count: 2,
 };
 
-const TABLE: [[u8; 3]; 2] = [[2, 2, 1], [2, 2, 1]];
+const TABLE: [PieceEntry; 2] = [[2, 2, 1], [2, 2, 1]];
 
 const PIXELS: [u8; 8] = [1, 1, 1, 1, 1, 1, 1, 1];
 

@@ -8,8 +8,11 @@ use model::End;
 use model::JobSize;
 use model::Line;
 use model::NumberAnswer;
+use model::PieceEntry;
+use model::PlaceEntry;
 use model::Row;
 use model::RowOffset;
+use model::StripEntry;
 use model::Turn;
 use pair_nofit_calls::PieceInTurn;
 use run_descent_calls::DescentAnswer;
@@ -22,7 +25,7 @@ const SIZE: JobSize = JobSize {
     count: 6,
 };
 
-const TABLE: [[u8; 3]; 6] = [
+const TABLE: [PieceEntry; 6] = [
     [2, 2, 15],
     [2, 2, 15],
     [2, 2, 15],
@@ -61,7 +64,7 @@ const PIXELS: [u8; 26] = [
 ];
 
 // Two full 2 x 2 pieces in turn 0, for sheets of 2 rows.
-const TWO_TABLE: [[u8; 3]; 2] = [[2, 2, 1], [2, 2, 1]];
+const TWO_TABLE: [PieceEntry; 2] = [[2, 2, 1], [2, 2, 1]];
 
 const TWO_PIXELS: [u8; 8] = [1, 1, 1, 1, 1, 1, 1, 1];
 
@@ -88,7 +91,7 @@ fn put_refused(number: u8) {
 }
 
 // The strip at a place of a stretch, where there is one: its line, first and count.
-fn put_strip(strips: &[[u8; 3]], k: usize) {
+fn put_strip(strips: &[StripEntry], k: usize) {
     if k < strips.len() {
         let strip = strips[k];
         io::write_all(1, b" ");
@@ -99,7 +102,7 @@ fn put_strip(strips: &[[u8; 3]], k: usize) {
 }
 
 // Up to five strips of a stretch.
-fn put_strips(strips: &[[u8; 3]]) {
+fn put_strips(strips: &[StripEntry]) {
     put_strip(strips, 0);
     put_strip(strips, 1);
     put_strip(strips, 2);
@@ -229,9 +232,9 @@ fn show_rows(turns: [u16; 6], piece: usize, side: u16) {
 // store), which do not begin at its front but for piece 0. The second piece lies in turn 0.
 fn put_no_fit<'a>(
     turns: &[u16],
-    row_strips: &'a [[u8; 3]],
+    row_strips: &'a [StripEntry],
     row_starts: &[u32],
-    column_strips: &'a [[u8; 3]],
+    column_strips: &'a [StripEntry],
     column_starts: &[u32],
     i: usize,
     first: Turn,
@@ -349,7 +352,7 @@ fn show_no_fit(
 }
 
 // The depths and the penalty of two pieces of a layout.
-fn show_pair(layout: [[u16; 3]; 6], i: usize, k: usize) {
+fn show_pair(layout: [PlaceEntry; 6], i: usize, k: usize) {
     let table = TABLE;
     let pixels = PIXELS;
     put_amount(pair_calls::depth(SIZE, &table, &pixels, &layout, i, k, Direction::Horizontal));

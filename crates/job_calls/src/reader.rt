@@ -11,6 +11,7 @@ use job_lines::piece_line;
 use job_lines::refusal;
 use job_rows::RowsAnswer;
 use job_rows::fill_rows;
+use model::PieceEntry;
 use model::Refusal;
 use piece_table::piece_entry;
 ghost use mathlib.Core.Path.{_≡_};
@@ -42,7 +43,7 @@ enum PiecesAnswer {
 }
 
 // Stores an entry of the table; past its end nothing is stored.
-fn put_entry(table: &mut [[u8; 3]], i: usize, entry: [u8; 3])
+fn put_entry(table: &mut [PieceEntry], i: usize, entry: PieceEntry)
     ensures { λ _. ⌜ now (table .exit) ≡ set (now (table .entry)) i entry ⌝ }
 {
     if table.len() <= i {
@@ -78,7 +79,7 @@ fn fill_piece(
     j: JobHead,
     i: usize,
     at: Place,
-    table: &mut [[u8; 3]],
+    table: &mut [PieceEntry],
     pixels: &mut [u8],
 ) -> PieceAnswer
     requires { ⌜ (at .next ≤ length (now text)) × (at .area ≤ areaBound) × (at .line ≤ 65536) ⌝ }
@@ -94,7 +95,7 @@ fn fill_piece(
 }
 
 // Stores all pieces behind the job line; nothing follows the last.
-fn fill_pieces(text: &[u8], j: JobHead, table: &mut [[u8; 3]], pixels: &mut [u8]) -> PiecesAnswer
+fn fill_pieces(text: &[u8], j: JobHead, table: &mut [PieceEntry], pixels: &mut [u8]) -> PiecesAnswer
     requires { ⌜ (j .next ≤ length (now text)) × (j .size .count ≤ pieceBound) ⌝ }
     ensures { λ r. ⌜ (r ≡ piecesAnswer (piecesAt (now (text .entry)) (jobLineOf j) (j .size .count) 0 0 (j .next) 2)) × PiecesStored (now (table .entry)) (now (table .exit)) (now (pixels .entry)) (now (pixels .exit)) (piecesAt (now (text .entry)) (jobLineOf j) (j .size .count) 0 0 (j .next) 2) ⌝ }
 {
@@ -123,7 +124,7 @@ fn fill_pieces(text: &[u8], j: JobHead, table: &mut [[u8; 3]], pixels: &mut [u8]
 }
 
 // The pieces behind the job line: a run over empty buffers, then the room, then the run that writes.
-fn read_pieces(text: &[u8], j: JobHead, table: &mut [[u8; 3]], pixels: &mut [u8]) -> JobAnswer
+fn read_pieces(text: &[u8], j: JobHead, table: &mut [PieceEntry], pixels: &mut [u8]) -> JobAnswer
     requires { ⌜ (j .next ≤ length (now text)) × (j .size .count ≤ pieceBound) ⌝ }
     ensures { λ r. ⌜ Leaves r (now (table .entry)) (now (table .exit)) (now (pixels .entry)) (now (pixels .exit)) (roomed (now (text .entry)) (jobLineOf j) (length (now (table .entry))) (length (now (pixels .entry)))) ⌝ }
 {
@@ -146,7 +147,7 @@ fn read_pieces(text: &[u8], j: JobHead, table: &mut [[u8; 3]], pixels: &mut [u8]
 }
 
 // Reads a job from its text into a table and a pixel store. A refusal writes nothing.
-pub fn read_job(text: &[u8], table: &mut [[u8; 3]], pixels: &mut [u8]) -> JobAnswer
+pub fn read_job(text: &[u8], table: &mut [PieceEntry], pixels: &mut [u8]) -> JobAnswer
     ensures { λ r. ⌜ Leaves r (now (table .entry)) (now (table .exit)) (now (pixels .entry)) (now (pixels .exit)) (readJob (now (text .entry)) (length (now (table .entry))) (length (now (pixels .entry)))) ⌝ }
 {
     match job_line(text) {

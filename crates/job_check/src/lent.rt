@@ -4,6 +4,7 @@ use job_limits::sheet_in_range;
 use job_limits::sides_in_range;
 use model::AREA_BOUND;
 use model::JobSize;
+use model::PieceEntry;
 use piece_table::area_of;
 use piece_table::columns_of;
 use piece_table::rows_of;
@@ -18,7 +19,7 @@ ghost use Rattle.model.specs.Lent.{lentBy, lentWell, entryInRange, entryFits, p
 ghost use Rattle.job_check.specs.Boxes.{Side, boxIn, storedBox, someMark, allBits, tableWell};
 
 // The entry is in range.
-fn entry_in_range(table: &[[u8; 3]], i: usize) -> bool
+fn entry_in_range(table: &[PieceEntry], i: usize) -> bool
     requires { ⌜ i < length (now table) ⌝ }
     ensures { λ r. ⌜ r ≡ entryInRange (now (table .entry)) i ⌝ }
 {
@@ -29,7 +30,7 @@ fn entry_in_range(table: &[[u8; 3]], i: usize) -> bool
 }
 
 // Every entry is in range.
-fn entries_in_range(table: &[[u8; 3]], count: usize) -> bool
+fn entries_in_range(table: &[PieceEntry], count: usize) -> bool
     requires { ⌜ count ≤ length (now table) ⌝ }
     ensures { λ r. ⌜ r ≡ allBelow count (entryInRange (now (table .entry))) ⌝ }
 {
@@ -44,7 +45,7 @@ fn entries_in_range(table: &[[u8; 3]], count: usize) -> bool
 }
 
 // The box of piece i is no longer and no wider than the sheet.
-fn entry_fits(size: JobSize, table: &[[u8; 3]], i: usize) -> bool
+fn entry_fits(size: JobSize, table: &[PieceEntry], i: usize) -> bool
     requires { ⌜ i < length (now table) ⌝ }
     ensures { λ r. ⌜ r ≡ entryFits size (now (table .entry)) i ⌝ }
 {
@@ -55,7 +56,7 @@ fn entry_fits(size: JobSize, table: &[[u8; 3]], i: usize) -> bool
 }
 
 // Every box is.
-fn entries_fit(size: JobSize, table: &[[u8; 3]]) -> bool
+fn entries_fit(size: JobSize, table: &[PieceEntry]) -> bool
     requires { ⌜ size .count ≤ length (now table) ⌝ }
     ensures { λ r. ⌜ r ≡ allBelow (size .count) (entryFits size (now (table .entry))) ⌝ }
 {
@@ -70,7 +71,7 @@ fn entries_fit(size: JobSize, table: &[[u8; 3]]) -> bool
 }
 
 // Where piece i's pixels begin in the store; at n, how many the store has to have.
-pub fn pixel_start(table: &[[u8; 3]], i: usize) -> usize
+pub fn pixel_start(table: &[PieceEntry], i: usize) -> usize
     requires { ⌜ (i ≤ length (now table)) × (i ≤ pieceBound) ⌝ }
     ensures { λ r. ⌜ r ≡ pixelStart (now (table .entry)) i ⌝ }
 {
@@ -84,7 +85,7 @@ pub fn pixel_start(table: &[[u8; 3]], i: usize) -> usize
 }
 
 // Sheet, entries and areas are well.
-fn table_well(size: JobSize, table: &[[u8; 3]]) -> bool
+fn table_well(size: JobSize, table: &[PieceEntry]) -> bool
     ensures { λ r. ⌜ r ≡ tableWell size (now (table .entry)) ⌝ }
 {
     if !sheet_in_range(size) {
@@ -160,7 +161,7 @@ pub fn box_tight(
 }
 
 // The box of entry i is tight, its pixels beginning at `start` of the store.
-fn stored_box_tight(table: &[[u8; 3]], i: usize, pixels: &[u8], start: usize) -> bool
+fn stored_box_tight(table: &[PieceEntry], i: usize, pixels: &[u8], start: usize) -> bool
     requires { ⌜ (i < length (now table)) × (start < 2 ^ 62) × (entryInRange (now table) i ≡ true) × (start ≡ pixelStart (now table) i) ⌝ }
     ensures { λ r. ⌜ r ≡ tight (storedBox (now (table .entry)) (now (pixels .entry)) i) ⌝ }
 {
@@ -170,7 +171,7 @@ fn stored_box_tight(table: &[[u8; 3]], i: usize, pixels: &[u8], start: usize) ->
 }
 
 // Every box is tight.
-fn boxes_tight(table: &[[u8; 3]], count: usize, pixels: &[u8]) -> bool
+fn boxes_tight(table: &[PieceEntry], count: usize, pixels: &[u8]) -> bool
     requires { ⌜ (count ≤ length (now table)) × (count ≤ pieceBound) × ((i : ℕ) → i < count → entryInRange (now table) i ≡ true) ⌝ }
     ensures { λ r. ⌜ r ≡ allBelow count (λ i. tight (storedBox (now (table .entry)) (now (pixels .entry)) i)) ⌝ }
 {
@@ -187,7 +188,7 @@ fn boxes_tight(table: &[[u8; 3]], count: usize, pixels: &[u8]) -> bool
 }
 
 // What is lent is a job that reading gives.
-pub fn check_job(size: JobSize, table: &[[u8; 3]], pixels: &[u8]) -> bool
+pub fn check_job(size: JobSize, table: &[PieceEntry], pixels: &[u8]) -> bool
     ensures { λ r. ⌜ r ≡ lentWell (lentBy size (now (table .entry)) (now (pixels .entry))) ⌝ }
 {
     if !table_well(size, table) {

@@ -4,6 +4,8 @@ use layout_places::place_at;
 use model::DoneAnswer;
 use model::JobSize;
 use model::NumberAnswer;
+use model::PieceEntry;
+use model::PlaceEntry;
 use piece_pixels::turned_sides;
 use whole_numbers::larger;
 ghost use mathlib.Core.Path.{_≡_};
@@ -18,7 +20,7 @@ ghost use Rattle.model.specs.Calls.{usedLengthCall};
 ghost use Rattle.model.specs.declared.JobSize.{JobSize};
 
 // The right end of piece i: corner x plus the turned box's columns.
-fn right_end(table: &[[u8; 3]], layout: &[[u16; 3]], i: usize) -> usize
+fn right_end(table: &[PieceEntry], layout: &[PlaceEntry], i: usize) -> usize
     requires { ⌜ (i < length (now table)) × (i < length (now layout)) ⌝ }
     ensures { λ r. ⌜ ((size : JobSize) (pixels : List ℕ) → r ≡ rightEnd (jobOf (lentBy size (now (table .entry)) pixels)) (layoutOf (now (layout .entry))) i) ⌝ }
 {
@@ -29,7 +31,7 @@ fn right_end(table: &[[u8; 3]], layout: &[[u16; 3]], i: usize) -> usize
 }
 
 // The used length of a layout: the largest right end.
-fn longest_end(size: JobSize, table: &[[u8; 3]], layout: &[[u16; 3]]) -> usize
+fn longest_end(size: JobSize, table: &[PieceEntry], layout: &[PlaceEntry]) -> usize
     requires { ⌜ (size .count ≤ length (now table)) × (length (now layout) ≡ size .count) ⌝ }
     ensures { λ r. ⌜ ((pixels : List ℕ) → r ≡ usedLength (jobOf (lentBy size (now (table .entry)) pixels)) (layoutOf (now (layout .entry)))) ⌝ }
 {
@@ -45,9 +47,9 @@ fn longest_end(size: JobSize, table: &[[u8; 3]], layout: &[[u16; 3]]) -> usize
 // The used length of a layout, or its refusal.
 pub fn used_length(
     size: JobSize,
-    table: &[[u8; 3]],
+    table: &[PieceEntry],
     pixels: &[u8],
-    layout: &[[u16; 3]],
+    layout: &[PlaceEntry],
 ) -> NumberAnswer
     ensures { λ r. ⌜ r ≡ numberAnswer (usedLengthCall (lentBy size (now (table .entry)) (now (pixels .entry))) (now (layout .entry))) ⌝ }
 {

@@ -19,10 +19,13 @@ pub mod numbers;
 
 use model::Column;
 use model::JobSize;
+use model::PieceEntry;
+use model::PlaceEntry;
 use model::Placement;
 use model::Row;
 use model::Turn;
 use piece_pixels::turned_sides;
+use piece_table::turns_of;
 
 // The turn that degrees are, if there is one.
 pub enum TurnAnswer {
@@ -84,8 +87,16 @@ pub fn allows(o: u8, turn: Turn) -> bool
     o / turn_bit(turn) % 2 == 1
 }
 
+// The turn is allowed to piece i.
+pub fn allowed(table: &[PieceEntry], i: usize, turn: Turn) -> bool
+    requires { ⌜ i < length (now table) ⌝ }
+    ensures { λ r. ⌜ ((size : JobSize) (pixels : List ℕ) → r ≡ allowed (jobOf (lentBy size (now (table .entry)) pixels)) i turn) ⌝ }
+{
+    allows(turns_of(table, i), turn)
+}
+
 // The placement of piece i in a layout buffer.
-pub fn place_at(layout: &[[u16; 3]], i: usize) -> Placement
+pub fn place_at(layout: &[PlaceEntry], i: usize) -> Placement
     requires { ⌜ i < length (now layout) ⌝ }
     ensures { λ r. ⌜ r ≡ placeOf (layoutOf (now (layout .entry))) i ⌝ }
 {
@@ -97,7 +108,7 @@ pub fn place_at(layout: &[[u16; 3]], i: usize) -> Placement
 }
 
 // A placement as an entry of a layout buffer.
-pub fn entry_of(place: Placement) -> [u16; 3]
+pub fn entry_of(place: Placement) -> PlaceEntry
     ensures { λ r. ⌜ r ≡ entryOf place ⌝ }
 {
     let turn = place.turn;
@@ -105,7 +116,14 @@ pub fn entry_of(place: Placement) -> [u16; 3]
 }
 
 // The box of piece i, turned, with its corner at column x and row y, lies in the sheet.
-pub fn inside_at(size: JobSize, table: &[[u8; 3]], i: usize, turn: Turn, x: Column, y: Row) -> bool
+pub fn inside_at(
+    size: JobSize,
+    table: &[PieceEntry],
+    i: usize,
+    turn: Turn,
+    x: Column,
+    y: Row,
+) -> bool
     requires { ⌜ i < length (now table) ⌝ }
     ensures { λ r. ⌜ ((pixels : List ℕ) → r ≡ inside (jobOf (lentBy size (now (table .entry)) pixels)) i (placeAt turn (x .0) (y .0))) ⌝ }
 {
@@ -116,7 +134,7 @@ pub fn inside_at(size: JobSize, table: &[[u8; 3]], i: usize, turn: Turn, x: Colu
 }
 
 // The turned box of piece i lies in the sheet.
-pub fn inside(size: JobSize, table: &[[u8; 3]], i: usize, place: Placement) -> bool
+pub fn inside(size: JobSize, table: &[PieceEntry], i: usize, place: Placement) -> bool
     requires { ⌜ i < length (now table) ⌝ }
     ensures { λ r. ⌜ ((pixels : List ℕ) → r ≡ inside (jobOf (lentBy size (now (table .entry)) pixels)) i place) ⌝ }
 {
@@ -127,19 +145,19 @@ pub fn inside(size: JobSize, table: &[[u8; 3]], i: usize, place: Placement) -> b
 }
 
 // The degrees are a turn allowed to piece i.
-pub fn allowed_degrees(table: &[[u8; 3]], i: usize, degrees: u16) -> bool
+pub fn allowed_degrees(table: &[PieceEntry], i: usize, degrees: u16) -> bool
     requires { ⌜ i < length (now table) ⌝ }
     ensures { λ r. ⌜ ((size : JobSize) (pixels : List ℕ) → r ≡ allowedDegrees (jobOf (lentBy size (now (table .entry)) pixels)) i degrees) ⌝ }
 {
     let TurnAnswer::Known(turn) = turn_of(degrees) else {
         return false;
     };
-    allows(table[i][2], turn)
+    allowed(table, i, turn)
 }
 
 // There is such a piece, and the turn is allowed to it. The table is asked only where it has the entry, so that a call may ask this before
 // the job is known to pass its check.
-pub fn known(size: JobSize, table: &[[u8; 3]], i: usize, turn: Turn) -> bool
+pub fn known(size: JobSize, table: &[PieceEntry], i: usize, turn: Turn) -> bool
     ensures { λ r. ⌜ ((pixels : List ℕ) → r ≡ (ltb i (size .count) && allowed (jobOf (lentBy size (now (table .entry)) pixels)) i turn)) ⌝ }
 {
     if size.count <= i {
@@ -148,5 +166,5 @@ pub fn known(size: JobSize, table: &[[u8; 3]], i: usize, turn: Turn) -> bool
     if table.len() <= i {
         return false;
     }
-    allows(table[i][2], turn)
+    allowed(table, i, turn)
 }

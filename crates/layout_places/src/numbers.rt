@@ -5,13 +5,6 @@ ghost use lib.ListN.{length};
 ghost use Rattle.model.specs.Layout.{pairs};
 ghost use Rattle.model.specs.Lent.{pieceBound};
 
-// A box side of the table as a wide number.
-pub fn side(k: u8) -> usize
-    ensures { λ r. ⌜ (r ≡ k) × (r ≤ 255) ⌝ }
-{
-    k as usize
-}
-
 // How many pairs n pieces have.
 pub fn pair_count(n: usize) -> usize
     requires { ⌜ n ≤ pieceBound ⌝ }

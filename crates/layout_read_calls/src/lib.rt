@@ -22,6 +22,8 @@ use layout_places::TurnAnswer;
 use model::Column;
 use model::DoneAnswer;
 use model::JobSize;
+use model::PieceEntry;
+use model::PlaceEntry;
 use model::Placement;
 use model::Refusal;
 use model::Row;
@@ -121,7 +123,7 @@ fn clipped(field: usize) -> u16
 // The placement that the numbers of piece i's line give.
 fn placement_of(
     size: JobSize,
-    table: &[[u8; 3]],
+    table: &[PieceEntry],
     i: usize,
     line: u32,
     fields: PlacementFields,
@@ -132,7 +134,7 @@ fn placement_of(
     let TurnAnswer::Known(turn) = turn_on_line(i, fields.number, fields.degrees) else {
         return PlaceAnswer::Refused(refused_in(line, 2));
     };
-    if !layout_places::allows(table[i][2], turn) {
+    if !layout_places::allowed(table, i, turn) {
         return PlaceAnswer::Refused(refused_in(line, 9));
     }
     let x = Column(clipped(fields.x));
@@ -146,7 +148,7 @@ fn placement_of(
 // The line of piece i at position p, `at,i,turn,x,y`.
 fn placement_line(
     size: JobSize,
-    table: &[[u8; 3]],
+    table: &[PieceEntry],
     text: &[u8],
     i: usize,
     p: usize,
@@ -174,7 +176,7 @@ fn placement_line(
 }
 
 // Sets the entry of piece i, where the layout buffer has one.
-fn set_entry(layout: &mut [[u16; 3]], i: usize, place: Placement)
+fn set_entry(layout: &mut [PlaceEntry], i: usize, place: Placement)
     ensures { λ r. ⌜ now (layout .exit) ≡ set (now (layout .entry)) i (entryOf place) ⌝ }
 {
     if i < layout.len() {
@@ -185,10 +187,10 @@ fn set_entry(layout: &mut [[u16; 3]], i: usize, place: Placement)
 // The lines of the pieces from position p on, into the front of a layout buffer; nothing follows the last.
 fn read_placements(
     size: JobSize,
-    table: &[[u8; 3]],
+    table: &[PieceEntry],
     text: &[u8],
     p: usize,
-    layout: &mut [[u16; 3]],
+    layout: &mut [PlaceEntry],
 ) -> DoneAnswer
     requires { ⌜ Fitting size (now table) × (p ≤ length (now text)) ⌝ }
     ensures answer { λ r. ⌜ ((pixels : List ℕ) → r ≡ doneAnswer (placementsAt (jobOf (lentBy size (now (table .entry)) pixels)) (now (text .entry)) (size .count) 0 p 2)) ⌝ }
@@ -219,10 +221,10 @@ fn read_placements(
 // The pieces' lines into a layout buffer of the job's length. The first reading has no buffer, so that a refusal writes nothing.
 fn fill_layout(
     size: JobSize,
-    table: &[[u8; 3]],
+    table: &[PieceEntry],
     text: &[u8],
     p: usize,
-    layout: &mut [[u16; 3]],
+    layout: &mut [PlaceEntry],
 ) -> DoneAnswer
     requires { ⌜ Fitting size (now table) × (p ≤ length (now text)) ⌝ }
     ensures { λ r. ⌜ ((pixels : List ℕ) → (r ≡ doneAnswer (layoutFrom (jobOf (lentBy size (now (table .entry)) pixels)) (now (text .entry)) p (length (now (layout .entry))))) × (now (layout .exit) ≡ layoutAfter (now (layout .entry)) (layoutFrom (jobOf (lentBy size (now (table .entry)) pixels)) (now (text .entry)) p (length (now (layout .entry)))))) ⌝ }
@@ -239,10 +241,10 @@ fn fill_layout(
 // Reads a layout of the job from its text, or refuses.
 pub fn read_layout(
     size: JobSize,
-    table: &[[u8; 3]],
+    table: &[PieceEntry],
     pixels: &[u8],
     text: &[u8],
-    layout: &mut [[u16; 3]],
+    layout: &mut [PlaceEntry],
 ) -> DoneAnswer
     ensures answer { λ r. ⌜ r ≡ doneAnswer (readLayoutCall (lentBy size (now (table .entry)) (now (pixels .entry))) (now (text .entry)) (length (now (layout .entry)))) ⌝ }
     ensures memory { λ r. ⌜ now (layout .exit) ≡ layoutAfter (now (layout .entry)) (readLayoutCall (lentBy size (now (table .entry)) (now (pixels .entry))) (now (text .entry)) (length (now (layout .entry)))) ⌝ }

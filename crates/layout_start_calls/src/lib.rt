@@ -10,10 +10,17 @@ mod stack;
 
 use model::DoneAnswer;
 use model::JobSize;
+use model::PieceEntry;
+use model::PlaceEntry;
 use model::refused;
 
 // The start layout, or its refusal.
-pub fn start(size: JobSize, table: &[[u8; 3]], pixels: &[u8], layout: &mut [[u16; 3]]) -> DoneAnswer
+pub fn start(
+    size: JobSize,
+    table: &[PieceEntry],
+    pixels: &[u8],
+    layout: &mut [PlaceEntry],
+) -> DoneAnswer
     ensures answer { λ r. ⌜ r ≡ doneAnswer (startCall (lentBy size (now (table .entry)) (now (pixels .entry))) (length (now (layout .entry)))) ⌝ }
     ensures memory { λ r. ⌜ now (layout .exit) ≡ layoutAfter (now (layout .entry)) (startCall (lentBy size (now (table .entry)) (now (pixels .entry))) (length (now (layout .entry)))) ⌝ }
 {

@@ -8,13 +8,16 @@ ghost use Rattle.model.specs.Start.{onStack};
 ghost use Rattle.layout_places.specs.Fitting.{Fitting};
 ghost use Rattle.layout_start_calls.specs.Stacks.{stackOf, emptyStack, stackEntries, PileRoom, Piled};
 use layout_places::entry_of;
-use layout_places::numbers::side;
 use model::Column;
 use model::JobSize;
 use model::PIECE_BOUND;
+use model::PieceEntry;
+use model::PlaceEntry;
 use model::Placement;
 use model::Row;
 use model::Turn;
+use piece_table::columns_of;
+use piece_table::rows_of;
 use whole_numbers::larger;
 use whole_numbers::smaller;
 
@@ -26,11 +29,11 @@ struct Pile {
 }
 
 // The pile that takes piece i: a new one to the right where the piece would rise above the sheet.
-fn room_for(size: JobSize, table: &[[u8; 3]], i: usize, pile: Pile) -> Pile
+fn room_for(size: JobSize, table: &[PieceEntry], i: usize, pile: Pile) -> Pile
     requires { ⌜ (i < length (now table)) × (entryRows (now table) i ≤ size .rows) × (pile .height .0 ≤ rowBound) × (pile .left .0 + pile .length ≤ 65535) ⌝ }
     ensures { λ r. ⌜ PileRoom size (now (table .entry)) i pile r ⌝ }
 {
-    let rows = side(table[i][1]);
+    let rows = rows_of(table, i);
     if size.rows < pile.height.0 as usize + rows {
         let right = pile.left.0 as usize + pile.length;
         return Pile {
@@ -43,11 +46,11 @@ fn room_for(size: JobSize, table: &[[u8; 3]], i: usize, pile: Pile) -> Pile
 }
 
 // Piece i on top of the pile, in turn 0, no further right than the sheet allows.
-fn on_top(size: JobSize, table: &[[u8; 3]], i: usize, pile: Pile) -> Placement
+fn on_top(size: JobSize, table: &[PieceEntry], i: usize, pile: Pile) -> Placement
     requires { ⌜ (i < length (now table)) × (entryColumns (now table) i ≤ size .columns) × (size .columns ≤ columnBound) ⌝ }
     ensures { λ r. ⌜ ((pixels : List ℕ) → r ≡ onStack (jobOf (lentBy size (now (table .entry)) pixels)) i (stackOf pile)) ⌝ }
 {
-    let x = smaller(pile.left.0 as usize, size.columns - side(table[i][0]));
+    let x = smaller(pile.left.0 as usize, size.columns - columns_of(table, i));
     let y = pile.height;
     Placement {
         turn: Turn::Zero,
@@ -57,25 +60,25 @@ fn on_top(size: JobSize, table: &[[u8; 3]], i: usize, pile: Pile) -> Placement
 }
 
 // The pile with piece i on it.
-fn piled(size: JobSize, table: &[[u8; 3]], i: usize, pile: Pile) -> Pile
+fn piled(size: JobSize, table: &[PieceEntry], i: usize, pile: Pile) -> Pile
     requires { ⌜ (i < length (now table)) × (pile .height .0 + entryRows (now table) i ≤ size .rows) × (size .rows ≤ rowBound) ⌝ }
     ensures { λ r. ⌜ Piled size (now (table .entry)) i pile r ⌝ }
 {
     let left = pile.left;
-    let top = pile.height.0 as usize + side(table[i][1]);
+    let top = pile.height.0 as usize + rows_of(table, i);
     Pile {
         left: left,
         height: Row(top as u16),
-        length: larger(pile.length, side(table[i][0])),
+        length: larger(pile.length, columns_of(table, i)),
     }
 }
 
 // The pieces of the order placed one after the other.
 pub fn stack_all(
     size: JobSize,
-    table: &[[u8; 3]],
+    table: &[PieceEntry],
     order: &[usize; PIECE_BOUND],
-    layout: &mut [[u16; 3]],
+    layout: &mut [PlaceEntry],
 )
     requires { ⌜ Fitting size (now table) × ((k : ℕ) → k < size .count → getD (now order) k 0 < size .count) × (length (now order) ≡ pieceBound) × (length (now layout) ≡ size .count) ⌝ }
     ensures { λ r. ⌜ ((pixels : List ℕ) → now (layout .exit) ≡ stackEntries (jobOf (lentBy size (now (table .entry)) pixels)) (take (size .count) (now (order .entry))) emptyStack (now (layout .entry))) ⌝ }

@@ -8,6 +8,8 @@ use model::Direction;
 use model::DoneAnswer;
 use model::JobSize;
 use model::NumberAnswer;
+use model::PieceEntry;
+use model::PlaceEntry;
 use model::Refusal;
 use search_shapes::STARTS_LENGTH;
 use search_sums::plain_total;
@@ -28,9 +30,9 @@ ghost use Rattle.layout_sum_calls.specs.Answers.{sharedAnswer};
 // The table of pair penalties of a job's layout.
 fn penalties_of(
     size: JobSize,
-    table: &[[u8; 3]],
+    table: &[PieceEntry],
     pixels: &[u8],
-    layout: &[[u16; 3]],
+    layout: &[PlaceEntry],
 ) -> [u8; TABLE_LENGTH]
     requires { ⌜ Laid (lentBy size (now table) (now pixels)) (now layout) ⌝ }
     ensures { λ r. ⌜ PenaltyTable (jobOf (lentBy size (now (table .entry)) (now (pixels .entry)))) (layoutOf (now (layout .entry))) (size .count) r ⌝ }
@@ -71,9 +73,9 @@ fn penalties_of(
 // The weighted sum of a layout, or its refusal.
 pub fn weighted_sum(
     size: JobSize,
-    table: &[[u8; 3]],
+    table: &[PieceEntry],
     pixels: &[u8],
-    layout: &[[u16; 3]],
+    layout: &[PlaceEntry],
     weights: &[u32],
 ) -> NumberAnswer
     ensures { λ r. ⌜ r ≡ numberAnswer (weightedSumCall (lentBy size (now (table .entry)) (now (pixels .entry))) (now (layout .entry)) (now (weights .entry))) ⌝ }
@@ -90,9 +92,9 @@ pub fn weighted_sum(
 // The plain sum of a layout, or its refusal.
 pub fn plain_sum(
     size: JobSize,
-    table: &[[u8; 3]],
+    table: &[PieceEntry],
     pixels: &[u8],
-    layout: &[[u16; 3]],
+    layout: &[PlaceEntry],
 ) -> NumberAnswer
     ensures { λ r. ⌜ r ≡ numberAnswer (plainSumCall (lentBy size (now (table .entry)) (now (pixels .entry))) (now (layout .entry))) ⌝ }
 {
@@ -120,7 +122,12 @@ fn shared_answer(pair: SharingPair) -> DoneAnswer
 }
 
 // The check of a layout.
-pub fn check(size: JobSize, table: &[[u8; 3]], pixels: &[u8], layout: &[[u16; 3]]) -> DoneAnswer
+pub fn check(
+    size: JobSize,
+    table: &[PieceEntry],
+    pixels: &[u8],
+    layout: &[PlaceEntry],
+) -> DoneAnswer
     ensures { λ r. ⌜ r ≡ doneAnswer (checkCall (lentBy size (now (table .entry)) (now (pixels .entry))) (now (layout .entry))) ⌝ }
 {
     match layout_causes(size, table, pixels, layout) {

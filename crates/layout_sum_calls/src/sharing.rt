@@ -1,6 +1,9 @@
 // The first pair of a layout that shares a pixel: lowest first number, then lowest second.
 use model::Direction;
 use model::JobSize;
+use model::PieceEntry;
+use model::PlaceEntry;
+use model::StripEntry;
 use search_shapes::STARTS_LENGTH;
 use search_table::pair::pair_shares;
 ghost use mathlib.Core.Path.{_≡_};
@@ -24,10 +27,10 @@ pub enum SharingPair {
 
 // The first piece above i that shares a pixel with it, or the number of pieces where none does.
 fn sharing_in_row(
-    rows: &[[u8; 3]],
+    rows: &[StripEntry],
     row_starts: &[u32],
-    table: &[[u8; 3]],
-    layout: &[[u16; 3]],
+    table: &[PieceEntry],
+    layout: &[PlaceEntry],
     i: usize,
 ) -> usize
     requires { ⌜ SomeRowsDrawn (now table) (now rows) (now «row_starts») (now layout) ⌝ ∗ ⌜ i < length (now layout) ⌝ }
@@ -45,10 +48,10 @@ fn sharing_in_row(
 
 // The first pair that shares a pixel.
 fn first_sharing(
-    rows: &[[u8; 3]],
+    rows: &[StripEntry],
     row_starts: &[u32],
-    table: &[[u8; 3]],
-    layout: &[[u16; 3]],
+    table: &[PieceEntry],
+    layout: &[PlaceEntry],
 ) -> SharingPair
     requires { ⌜ SomeRowsDrawn (now table) (now rows) (now «row_starts») (now layout) ⌝ }
     ensures { λ r. ⌜ ((size : JobSize) (pixels : List ℕ) → RowsDrawn (lentBy size (now (table .entry)) pixels) (now (rows .entry)) (now («row_starts» .entry)) (now (layout .entry)) → r ≡ sharingAnswer (sharingPair (jobOf (lentBy size (now (table .entry)) pixels)) (layoutOf (now (layout .entry))))) ⌝ }
@@ -67,9 +70,9 @@ fn first_sharing(
 // The first pair of a job's layout that shares a pixel.
 pub fn sharing_pair(
     size: JobSize,
-    table: &[[u8; 3]],
+    table: &[PieceEntry],
     pixels: &[u8],
-    layout: &[[u16; 3]],
+    layout: &[PlaceEntry],
 ) -> SharingPair
     requires { ⌜ Laid (lentBy size (now table) (now pixels)) (now layout) ⌝ }
     ensures { λ r. ⌜ r ≡ sharingAnswer (sharingPair (jobOf (lentBy size (now (table .entry)) (now (pixels .entry)))) (layoutOf (now (layout .entry)))) ⌝ }

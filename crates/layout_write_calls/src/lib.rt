@@ -17,6 +17,8 @@ use causes::layout_causes;
 use model::DoneAnswer;
 use model::JobSize;
 use model::NumberAnswer;
+use model::PieceEntry;
+use model::PlaceEntry;
 use model::plain_refusal;
 use text_fields::put_byte;
 use text_fields::put_number;
@@ -57,7 +59,7 @@ fn put_layout_line(size: JobSize, text: &mut [u8]) -> usize
 }
 
 // The line of piece i at a position, and the position after it.
-fn put_placement(layout: &[[u16; 3]], i: usize, text: &mut [u8], at: usize) -> usize
+fn put_placement(layout: &[PlaceEntry], i: usize, text: &mut [u8], at: usize) -> usize
     requires { ⌜ (i < length (now layout)) × (i < pieceBound) × (at ≤ 65400) ⌝ }
     ensures { λ r. ⌜ Written (now (text .entry)) at (placementText i (placeOf (layoutOf (now (layout .entry))) i)) 27 r (now (text .exit)) ⌝ }
 {
@@ -74,7 +76,7 @@ fn put_placement(layout: &[[u16; 3]], i: usize, text: &mut [u8], at: usize) -> u
 }
 
 // The text of a layout, and its length. What the buffer has no room for is left out.
-fn put_layout(size: JobSize, layout: &[[u16; 3]], text: &mut [u8]) -> usize
+fn put_layout(size: JobSize, layout: &[PlaceEntry], text: &mut [u8]) -> usize
     requires { ⌜ (size .rows ≤ rowBound) × (size .columns ≤ columnBound) × (size .count ≤ pieceBound) × (length (now layout) ≡ size .count) ⌝ }
     ensures { λ r. ⌜ ((table : List (List ℕ)) (pixels : List ℕ) → (r ≡ length (layoutText (jobOf (lentBy size table pixels)) (layoutOf (now (layout .entry))))) × (now (text .exit) ≡ sets (now (text .entry)) 0 (layoutText (jobOf (lentBy size table pixels)) (layoutOf (now (layout .entry)))))) ⌝ }
 {
@@ -90,9 +92,9 @@ fn put_layout(size: JobSize, layout: &[[u16; 3]], text: &mut [u8]) -> usize
 // Writes a layout to the front of a text buffer, or refuses.
 pub fn write_layout(
     size: JobSize,
-    table: &[[u8; 3]],
+    table: &[PieceEntry],
     pixels: &[u8],
-    layout: &[[u16; 3]],
+    layout: &[PlaceEntry],
     text: &mut [u8],
 ) -> NumberAnswer
     ensures answer { λ r. ⌜ r ≡ countAnswer (writeLayoutCall (lentBy size (now (table .entry)) (now (pixels .entry))) (now (layout .entry)) (length (now (text .entry)))) ⌝ }

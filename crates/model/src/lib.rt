@@ -89,6 +89,15 @@ pub struct JobSize {
     pub count: usize,
 }
 
+// An entry of a piece table: l columns, w rows and o, the sum of the allowed turns.
+pub type PieceEntry = [u8; 3];
+
+// A strip in a store: its line, its first pixel and its count of pixels.
+pub type StripEntry = [u8; 3];
+
+// A placement in a layout buffer: degrees, column and row.
+pub type PlaceEntry = [u16; 3];
+
 // A refusal: its number and two places, 0 unless named.
 pub struct Refusal {
     pub number: u8,

@@ -5,6 +5,8 @@ use model::Direction;
 use model::DoneAnswer;
 use model::JobSize;
 use model::NumberAnswer;
+use model::PieceEntry;
+use model::PlaceEntry;
 use model::Refusal;
 use pair_measure::placed_depth;
 use pair_measure::placed_penalty;
@@ -39,9 +41,9 @@ fn wrong_pair(count: usize, i: usize, k: usize) -> bool
 // The causes of a call on a pair of a layout: 8, 7, 9, 10.
 fn pair_causes(
     size: JobSize,
-    table: &[[u8; 3]],
+    table: &[PieceEntry],
     pixels: &[u8],
-    layout: &[[u16; 3]],
+    layout: &[PlaceEntry],
     i: usize,
     k: usize,
 ) -> DoneAnswer
@@ -58,9 +60,9 @@ fn pair_causes(
 // Whether pieces i and k share a pixel in the layout.
 pub fn shares_pixel(
     size: JobSize,
-    table: &[[u8; 3]],
+    table: &[PieceEntry],
     pixels: &[u8],
-    layout: &[[u16; 3]],
+    layout: &[PlaceEntry],
     i: usize,
     k: usize,
 ) -> ShareAnswer
@@ -87,9 +89,9 @@ pub fn shares_pixel(
 // The depth of pieces i and k along a direction in the layout.
 pub fn depth(
     size: JobSize,
-    table: &[[u8; 3]],
+    table: &[PieceEntry],
     pixels: &[u8],
-    layout: &[[u16; 3]],
+    layout: &[PlaceEntry],
     i: usize,
     k: usize,
     direction: Direction,
@@ -118,9 +120,9 @@ pub fn depth(
 // The penalty of pieces i and k in the layout.
 pub fn penalty(
     size: JobSize,
-    table: &[[u8; 3]],
+    table: &[PieceEntry],
     pixels: &[u8],
-    layout: &[[u16; 3]],
+    layout: &[PlaceEntry],
     i: usize,
     k: usize,
 ) -> NumberAnswer

@@ -4,7 +4,9 @@
 // What a penalty costs: a walk over two stretches takes a step for each strip of the lines that both pieces have, and a depth a few
 // walks for each sign, two where each line has one strip; the penalty is at most two depths, the second cut off at the first.
 use model::Direction;
+use model::PieceEntry;
 use model::Placement;
+use model::StripEntry;
 use model::Turn;
 use pair_overlap::Corner;
 ghost use mathlib.Core.Path.{_≡_};
@@ -25,7 +27,7 @@ ghost use Rattle.pair_measure.specs.Ready.{MeasureReady, Together, pairR
 const PAIR_ROOM: usize = 33023;
 
 // A store with room for the strips of any two pieces of a job along a direction. What it holds plays no part.
-fn empty_store() -> [[u8; 3]; PAIR_ROOM]
+fn empty_store() -> [StripEntry; PAIR_ROOM]
     ensures { λ r. ⌜ length r ≡ pairRoom ⌝ }
 {
     [[0u8; 3]; PAIR_ROOM]
@@ -33,12 +35,12 @@ fn empty_store() -> [[u8; 3]; PAIR_ROOM]
 
 // Puts the strips of a piece in a turn into a store from `at` on, and tells where the next strip would stand.
 fn fill(
-    table: &[[u8; 3]],
+    table: &[PieceEntry],
     pixels: &[u8],
     i: usize,
     turn: Turn,
     direction: Direction,
-    store: &mut [[u8; 3]],
+    store: &mut [StripEntry],
     at: usize,
 ) -> usize
     requires { ⌜ EntryAt (now table) i (pixelStart (now table) i) × (i ≤ pieceBound) ⌝ ∗ ⌜ at ≤ 2 ^ 32 ⌝ }
@@ -68,7 +70,7 @@ fn corner_along(place: Placement, direction: Direction) -> Corner
 
 // The depth of two placed pieces along a direction, cut off at a bound, with their strips in a lent store.
 fn depth_in(
-    table: &[[u8; 3]],
+    table: &[PieceEntry],
     pixels: &[u8],
     i: usize,
     p: Placement,
@@ -76,7 +78,7 @@ fn depth_in(
     q: Placement,
     direction: Direction,
     bound: u32,
-    store: &mut [[u8; 3]],
+    store: &mut [StripEntry],
 ) -> u32
     requires { ⌜ MeasureReady (now table) i p ⌝ ∗ ⌜ MeasureReady (now table) k q ⌝ ∗ ⌜ Together (now table) i k ⌝ ∗ ⌜ bound ≤ 256 ⌝ ∗ ⌜ length (now store) ≡ pairRoom ⌝ }
     ensures { λ r. ⌜ ((size : JobSize) → r ≡ min (depth direction (turnedPiece (jobOf (lentBy size (now (table .entry)) (now (pixels .entry)))) i (p .turn)) (corner p) (turnedPiece (jobOf (lentBy size (now (table .entry)) (now (pixels .entry)))) k (q .turn)) (corner q)) bound) ⌝ }
@@ -95,7 +97,7 @@ fn depth_in(
 // The depth of two placed pieces along a direction, cut off at a bound. With the bound 1 it tells whether they share a pixel, and the
 // walk ends at the first.
 pub fn placed_depth(
-    table: &[[u8; 3]],
+    table: &[PieceEntry],
     pixels: &[u8],
     i: usize,
     p: Placement,
@@ -114,7 +116,7 @@ pub fn placed_depth(
 // The penalty of two placed pieces: the lesser depth. The store holds the row strips, then the column strips; the second depth is cut
 // off at the first, and not asked for where that is 0.
 pub fn placed_penalty(
-    table: &[[u8; 3]],
+    table: &[PieceEntry],
     pixels: &[u8],
     i: usize,
     p: Placement,

@@ -1,5 +1,6 @@
 // No-fit lines: at which shifts along their strips two pieces share a pixel. Document 01, 'No-fit rows and penalty'. One pass over the
 // strips of matching lines; each strip of one with each strip of the other gives an interval of shifts.
+use model::StripEntry;
 use pair_overlap::Corner;
 use whole_numbers::wide;
 ghost use mathlib.Core.Path.{_≡_};
@@ -18,7 +19,7 @@ pub struct Placed {
 }
 
 // The strip at i of a stretch, with the piece at the corner.
-fn placed_at(s: &[[u8; 3]], i: usize, u: Corner) -> Placed
+fn placed_at(s: &[StripEntry], i: usize, u: Corner) -> Placed
     requires { ⌜ (i < length (now s)) × Near u ⌝ }
     ensures { λ r. ⌜ PlacedAt (stripAt (now (s .entry)) i) u r ⌝ }
 {
@@ -31,7 +32,7 @@ fn placed_at(s: &[[u8; 3]], i: usize, u: Corner) -> Placed
 }
 
 // The first strip from a place of the stretch on that lies in the given line of the sheet or a later one.
-fn line_start(s: &[[u8; 3]], u: Corner, line: u32, from: usize) -> usize
+fn line_start(s: &[StripEntry], u: Corner, line: u32, from: usize) -> usize
     requires { ⌜ Ordered (now s) ⌝ ∗ ⌜ Near u ⌝ ∗ ⌜ from ≤ length (now s) ⌝ }
     ensures { λ r. ⌜ LineStart (now (s .entry)) (u .across) line from r ⌝ }
 {
@@ -71,10 +72,10 @@ fn keep(far: &mut [u16], low: u32, high: u32)
 
 // Keeps the intervals of strip i of the first piece with the strips of the second in its line, of which the first stands at `from`.
 fn mark_line(
-    a: &[[u8; 3]],
+    a: &[StripEntry],
     i: usize,
     u: Corner,
-    b: &[[u8; 3]],
+    b: &[StripEntry],
     from: usize,
     v: Corner,
     far: &mut [u16],
@@ -97,7 +98,7 @@ fn mark_line(
 }
 
 // Keeps the intervals of all strips of the two pieces that lie in one line.
-fn mark_all(a: &[[u8; 3]], u: Corner, b: &[[u8; 3]], v: Corner, far: &mut [u16])
+fn mark_all(a: &[StripEntry], u: Corner, b: &[StripEntry], v: Corner, far: &mut [u16])
     requires { ⌜ Ordered (now a) ⌝ ∗ ⌜ Ordered (now b) ⌝ ∗ ⌜ Near u × Near v ⌝ ∗ ⌜ Sound (now a) u (now b) v (now far) ⌝ }
     ensures { λ _. ⌜ AllMarked (now (a .entry)) u (now (b .entry)) v (now (far .entry)) (now (far .exit)) ⌝ }
 {
@@ -150,7 +151,7 @@ fn sweep(far: &mut [u16])
 }
 
 // Marks the shifts 0, 1, .. of the second piece along the strips, as many as there is room for: 1 where they share a pixel, else 0.
-pub fn mark_shifts(a: &[[u8; 3]], u: Corner, b: &[[u8; 3]], v: Corner, marks: &mut [u16])
+pub fn mark_shifts(a: &[StripEntry], u: Corner, b: &[StripEntry], v: Corner, marks: &mut [u16])
     requires { ⌜ Ordered (now a) ⌝ ∗ ⌜ Ordered (now b) ⌝ ∗ ⌜ Near u × Near v ⌝ }
     ensures { λ _. ⌜ now (marks .exit) ≡ marksOf (now (a .entry)) u (now (b .entry)) v (length (now (marks .entry))) ⌝ }
 {

@@ -6,8 +6,10 @@ use model::DoneAnswer;
 use model::JobSize;
 use model::NumberAnswer;
 use model::OFFSET_BOUND;
+use model::PieceEntry;
 use model::RowOffset;
 use model::SIDE_BOUND;
+use model::StripEntry;
 use model::Turn;
 use model::plain_refusal;
 use model::refused;
@@ -120,7 +122,7 @@ fn put_runs(marks: &[u16], out: &mut [[i32; 2]]) -> usize
 }
 
 // Puts the no-fit line of two stretches at an offset into the buffer, if there is room for it, and tells how many runs it has.
-fn put_line(a: &[[u8; 3]], b: &[[u8; 3]], offset: i32, out: &mut [[i32; 2]]) -> NumberAnswer
+fn put_line(a: &[StripEntry], b: &[StripEntry], offset: i32, out: &mut [[i32; 2]]) -> NumberAnswer
     requires { ⌜ Ordered (now a) ⌝ ∗ ⌜ Ordered (now b) ⌝ }
     ensures answer { λ r. ⌜ r ≡ countAnswer (lineOutcome (now (a .entry)) (now (b .entry)) offset (length (now (out .entry)))) ⌝ }
     ensures memory { λ r. ⌜ now (out .exit) ≡ lineAfter (now (out .entry)) (lineOutcome (now (a .entry)) (now (b .entry)) offset (length (now (out .entry)))) ⌝ }
@@ -144,12 +146,12 @@ fn put_line(a: &[[u8; 3]], b: &[[u8; 3]], offset: i32, out: &mut [[i32; 2]]) -> 
 
 // The stretch is that of the piece in the turn.
 fn is_own(
-    table: &[[u8; 3]],
+    table: &[PieceEntry],
     pixels: &[u8],
     i: usize,
     turn: Turn,
     direction: Direction,
-    stretch: &[[u8; 3]],
+    stretch: &[StripEntry],
 ) -> bool
     requires { ⌜ EntryAt (now table) i (pixelStart (now table) i) × (i ≤ pieceBound) ⌝ }
     ensures { λ r. ⌜ ((size : JobSize) → r ≡ stretchWell direction (jobOf (lentBy size (now (table .entry)) (now (pixels .entry)))) (lentStretch i turn (now (stretch .entry)))) ⌝ }
@@ -173,12 +175,12 @@ fn is_own(
 // The causes of a no-fit call before the room is asked for: 8 the job, 9, 8 a stretch.
 fn stretch_causes(
     size: JobSize,
-    table: &[[u8; 3]],
+    table: &[PieceEntry],
     pixels: &[u8],
     first: PieceInTurn,
-    a: &[[u8; 3]],
+    a: &[StripEntry],
     second: PieceInTurn,
-    b: &[[u8; 3]],
+    b: &[StripEntry],
     direction: Direction,
 ) -> DoneAnswer
     ensures { λ r. ⌜ r ≡ firstCause (stretchCauses direction (lentBy size (now (table .entry)) (now (pixels .entry))) (lentStretch (first .piece) (first .turn) (now (a .entry))) (lentStretch (second .piece) (second .turn) (now (b .entry)))) ⌝ }
@@ -208,12 +210,12 @@ fn stretch_causes(
 // The no-fit line in a direction of two pieces in their turns, at an offset across it.
 fn no_fit(
     size: JobSize,
-    table: &[[u8; 3]],
+    table: &[PieceEntry],
     pixels: &[u8],
     first: PieceInTurn,
-    a: &[[u8; 3]],
+    a: &[StripEntry],
     second: PieceInTurn,
-    b: &[[u8; 3]],
+    b: &[StripEntry],
     direction: Direction,
     offset: i32,
     out: &mut [[i32; 2]],
@@ -230,12 +232,12 @@ fn no_fit(
 // The no-fit row of two pieces in their turns at a row offset, from their row strips: the column offsets at which they share a pixel.
 pub fn no_fit_row(
     size: JobSize,
-    table: &[[u8; 3]],
+    table: &[PieceEntry],
     pixels: &[u8],
     first: PieceInTurn,
-    a: &[[u8; 3]],
+    a: &[StripEntry],
     second: PieceInTurn,
-    b: &[[u8; 3]],
+    b: &[StripEntry],
     offset: RowOffset,
     out: &mut [[i32; 2]],
 ) -> NumberAnswer
@@ -260,12 +262,12 @@ pub fn no_fit_row(
 // a pixel.
 pub fn no_fit_column(
     size: JobSize,
-    table: &[[u8; 3]],
+    table: &[PieceEntry],
     pixels: &[u8],
     first: PieceInTurn,
-    a: &[[u8; 3]],
+    a: &[StripEntry],
     second: PieceInTurn,
-    b: &[[u8; 3]],
+    b: &[StripEntry],
     offset: ColumnOffset,
     out: &mut [[i32; 2]],
 ) -> NumberAnswer

@@ -1,6 +1,7 @@
 // Overlap of two placed pieces, from their strips. Document 01, 'No-fit rows and penalty'. Every function here takes a stretch of
 // strips for each piece, as (line, first, count) ordered by line, then first, all row strips or all column strips, and each
 // piece's corner. The contracts speak of the lent lists; proofs/Shapes.antt says what they come to for the strips of a pixel set.
+use model::StripEntry;
 use whole_numbers::wide;
 ghost use mathlib.Core.Path.{_≡_};
 ghost use Prim.Native.Nat.{_+_, _<_, _≤_, min};
@@ -62,7 +63,7 @@ fn base(u: Corner) -> u32
 }
 
 // The strip at i of a stretch whose piece's corner adds `from`.
-fn span_at(s: &[[u8; 3]], i: usize, from: u32) -> Span
+fn span_at(s: &[StripEntry], i: usize, from: u32) -> Span
     requires { ⌜ (i < length (now s)) × (from < 2000000000) ⌝ }
     ensures { λ r. ⌜ SpanOf (stripAt (now (s .entry)) i) from r ⌝ }
 {
@@ -75,7 +76,7 @@ fn span_at(s: &[[u8; 3]], i: usize, from: u32) -> Span
 
 // How many strips of a stretch lie in lines before a place, as far as jumps tell: a jump passes as many strips as lines are missing,
 // so one is enough where each line has one strip. What is passed lies so far before the place that no shift brings it there.
-fn skip(s: &[[u8; 3]], from: u32, place: u32) -> usize
+fn skip(s: &[StripEntry], from: u32, place: u32) -> usize
     requires { ⌜ Ordered (now s) ⌝ ∗ ⌜ from < 2000000000 ⌝ }
     ensures { λ r. ⌜ Skipped (now (s .entry)) from place r ⌝ }
 {
@@ -102,7 +103,7 @@ fn skip(s: &[[u8; 3]], from: u32, place: u32) -> usize
 }
 
 // Where a walk over the two stretches begins: past strips in lines before the other's first.
-fn walk_start(a: &[[u8; 3]], x: u32, b: &[[u8; 3]], y: u32) -> Heads
+fn walk_start(a: &[StripEntry], x: u32, b: &[StripEntry], y: u32) -> Heads
     requires { ⌜ Ordered (now a) ⌝ ∗ ⌜ Ordered (now b) ⌝ ∗ ⌜ (x < 1900000000) × (y < 1900000000) ⌝ }
     ensures { λ r. ⌜ WalkBegun (now (a .entry)) x (now (b .entry)) y r ⌝ }
 {
@@ -124,7 +125,7 @@ fn walk_start(a: &[[u8; 3]], x: u32, b: &[[u8; 3]], y: u32) -> Heads
 }
 
 // Whether the two pieces share a pixel. Both stretches are walked together, once, up to the first shared pixel.
-pub fn shares(a: &[[u8; 3]], u: Corner, b: &[[u8; 3]], v: Corner) -> bool
+pub fn shares(a: &[StripEntry], u: Corner, b: &[StripEntry], v: Corner) -> bool
     requires { ⌜ Ordered (now a) ⌝ ∗ ⌜ Ordered (now b) ⌝ ∗ ⌜ Near u ⌝ ∗ ⌜ Near v ⌝ }
     ensures { λ r. ⌜ r ≡ stretchesShare (now (a .entry)) u (now (b .entry)) v ⌝ }
 {
@@ -153,7 +154,7 @@ pub fn shares(a: &[[u8; 3]], u: Corner, b: &[[u8; 3]], v: Corner) -> bool
 // How far the second piece has at least to be shifted along the strips until they share no pixel, as far as one walk tells: each
 // pair of strips that meet pushes it on, and the walk goes on with the shift so far. If none meet, the walk also tells how far
 // the second piece may be shifted before one of its strips meets the next one.
-fn slide(a: &[[u8; 3]], u: Corner, b: &[[u8; 3]], v: Corner, limit: u32) -> Leeway
+fn slide(a: &[StripEntry], u: Corner, b: &[StripEntry], v: Corner, limit: u32) -> Leeway
     requires { ⌜ Ordered (now a) ⌝ ∗ ⌜ Ordered (now b) ⌝ ∗ ⌜ NearShifted u × NearShifted v ⌝ ∗ ⌜ (0 < limit) × (limit ≤ shiftBound) ⌝ }
     ensures { λ r. ⌜ Slid (now (a .entry)) u (now (b .entry)) v limit r ⌝ }
 {
@@ -188,7 +189,7 @@ fn slide(a: &[[u8; 3]], u: Corner, b: &[[u8; 3]], v: Corner, limit: u32) -> Leew
 
 // The least shift of the second piece along the strips at which they share no pixel, if it is below the bound, else the bound, and
 // the shifts from it on at which the last walk finds none shared.
-pub fn clear_stretch(a: &[[u8; 3]], u: Corner, b: &[[u8; 3]], v: Corner, bound: u32) -> Shifts
+pub fn clear_stretch(a: &[StripEntry], u: Corner, b: &[StripEntry], v: Corner, bound: u32) -> Shifts
     requires { ⌜ Ordered (now a) ⌝ ∗ ⌜ Ordered (now b) ⌝ ∗ ⌜ Near u × Near v ⌝ ∗ ⌜ bound ≤ shiftBound ⌝ }
     ensures { λ r. ⌜ ClearStretch (now (a .entry)) u (now (b .entry)) v bound r ⌝ }
 {
@@ -214,7 +215,7 @@ pub fn clear_stretch(a: &[[u8; 3]], u: Corner, b: &[[u8; 3]], v: Corner, bound: 
 }
 
 // The least shift of the second piece along the strips at which they share no pixel, if it is below the bound, else the bound.
-pub fn clear_below(a: &[[u8; 3]], u: Corner, b: &[[u8; 3]], v: Corner, bound: u32) -> u32
+pub fn clear_below(a: &[StripEntry], u: Corner, b: &[StripEntry], v: Corner, bound: u32) -> u32
     requires { ⌜ Ordered (now a) ⌝ ∗ ⌜ Ordered (now b) ⌝ ∗ ⌜ Near u × Near v ⌝ ∗ ⌜ bound ≤ shiftBound ⌝ }
     ensures { λ r. ⌜ r ≡ clearBelow (now (a .entry)) u (now (b .entry)) v bound ⌝ }
 {
@@ -224,7 +225,7 @@ pub fn clear_below(a: &[[u8; 3]], u: Corner, b: &[[u8; 3]], v: Corner, bound: u3
 
 // The depth along the strips if it is below the bound, else the bound: the least shift of either piece at which they share no
 // pixel. The second search goes no farther than the first one found.
-pub fn depth_below(a: &[[u8; 3]], u: Corner, b: &[[u8; 3]], v: Corner, bound: u32) -> u32
+pub fn depth_below(a: &[StripEntry], u: Corner, b: &[StripEntry], v: Corner, bound: u32) -> u32
     requires { ⌜ Ordered (now a) ⌝ ∗ ⌜ Ordered (now b) ⌝ ∗ ⌜ Near u × Near v ⌝ ∗ ⌜ bound ≤ shiftBound ⌝ }
     ensures { λ r. ⌜ r ≡ depthBelow (now (a .entry)) u (now (b .entry)) v bound ⌝ }
 {
@@ -235,11 +236,11 @@ pub fn depth_below(a: &[[u8; 3]], u: Corner, b: &[[u8; 3]], v: Corner, bound: u3
 // The penalty if it is below the bound, else the bound: the lesser of the depth along the rows and the depth along the columns.
 // The corners are seen along the rows.
 pub fn penalty_below(
-    arows: &[[u8; 3]],
-    acolumns: &[[u8; 3]],
+    arows: &[StripEntry],
+    acolumns: &[StripEntry],
     u: Corner,
-    brows: &[[u8; 3]],
-    bcolumns: &[[u8; 3]],
+    brows: &[StripEntry],
+    bcolumns: &[StripEntry],
     v: Corner,
     bound: u32,
 ) -> u32

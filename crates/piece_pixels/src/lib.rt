@@ -1,6 +1,9 @@
 // A piece as the pixel store holds it, seen in a turn: the sides of its turned box, and where each of its pixels stands in the store.
 // Strips and the counts of a sheet both read pixels through this crate.
+use model::PieceEntry;
 use model::Turn;
+use piece_table::columns_of;
+use piece_table::rows_of;
 ghost use mathlib.Core.Path.{_≡_};
 ghost use mathlib.Core.List.{List};
 ghost use Prim.Native.Nat.{ℕ, _+_, _*_, _<_, _≤_};
@@ -26,22 +29,15 @@ pub struct Sides {
     pub rows: usize,
 }
 
-// A box side of the table as a wide number.
-fn side(k: u8) -> usize
-    ensures { λ r. ⌜ (r ≡ k) × (r ≤ 255) ⌝ }
-{
-    k as usize
-}
-
 // A piece of a job's table, seen in a turn. Its pixels begin at `start`.
-pub fn turned_piece(table: &[[u8; 3]], piece: usize, start: usize, turn: Turn) -> TurnedPiece
+pub fn turned_piece(table: &[PieceEntry], piece: usize, start: usize, turn: Turn) -> TurnedPiece
     requires { ⌜ piece < length (now table) ⌝ }
     ensures { λ r. ⌜ r ≡ madeOf (now (table .entry)) piece start turn ⌝ }
 {
     TurnedPiece {
         start,
-        columns: side(table[piece][0]),
-        rows: side(table[piece][1]),
+        columns: columns_of(table, piece),
+        rows: rows_of(table, piece),
         turn,
     }
 }
@@ -66,13 +62,13 @@ pub fn sides_in(columns: usize, rows: usize, turn: Turn) -> Sides
 }
 
 // The sides of piece i's box in a turn.
-pub fn turned_sides(table: &[[u8; 3]], i: usize, turn: Turn) -> Sides
+pub fn turned_sides(table: &[PieceEntry], i: usize, turn: Turn) -> Sides
     requires { ⌜ i < length (now table) ⌝ }
     ensures sides { λ r. ⌜ ((size : JobSize) (pixels : List ℕ) → r ≡ sidesOf (turnedPiece (jobOf (lentBy size (now (table .entry)) pixels)) i turn)) ⌝ }
     ensures small { λ r. ⌜ (r .columns ≤ sideBound) × (r .rows ≤ sideBound) ⌝ }
 {
-    let columns = side(table[i][0]);
-    let rows = side(table[i][1]);
+    let columns = columns_of(table, i);
+    let rows = rows_of(table, i);
     sides_in(columns, rows, turn)
 }
 

@@ -1,5 +1,6 @@
 // The piece table of a job: an entry holds l columns, w rows and o, the sum of the allowed turns. Only this crate knows the order of
 // an entry's numbers.
+use model::PieceEntry;
 ghost use mathlib.Core.List.{[], _∷_};
 ghost use mathlib.Core.Path.{_≡_};
 ghost use Prim.Native.Nat.{_<_, _≤_};
@@ -14,7 +15,7 @@ fn wide(x: u8) -> usize
 }
 
 // The columns of piece i's box.
-pub fn columns_of(table: &[[u8; 3]], i: usize) -> usize
+pub fn columns_of(table: &[PieceEntry], i: usize) -> usize
     requires { ⌜ i < length (now table) ⌝ }
     ensures { λ r. ⌜ (r ≡ entryColumns (now (table .entry)) i) × (r ≤ 255) ⌝ }
 {
@@ -22,7 +23,7 @@ pub fn columns_of(table: &[[u8; 3]], i: usize) -> usize
 }
 
 // The rows of piece i's box.
-pub fn rows_of(table: &[[u8; 3]], i: usize) -> usize
+pub fn rows_of(table: &[PieceEntry], i: usize) -> usize
     requires { ⌜ i < length (now table) ⌝ }
     ensures { λ r. ⌜ (r ≡ entryRows (now (table .entry)) i) × (r ≤ 255) ⌝ }
 {
@@ -30,7 +31,7 @@ pub fn rows_of(table: &[[u8; 3]], i: usize) -> usize
 }
 
 // The sum of the turns allowed to piece i.
-pub fn turns_of(table: &[[u8; 3]], i: usize) -> u8
+pub fn turns_of(table: &[PieceEntry], i: usize) -> u8
     requires { ⌜ i < length (now table) ⌝ }
     ensures { λ r. ⌜ r ≡ entryTurns (now (table .entry)) i ⌝ }
 {
@@ -38,7 +39,7 @@ pub fn turns_of(table: &[[u8; 3]], i: usize) -> u8
 }
 
 // The area of piece i's box.
-pub fn area_of(table: &[[u8; 3]], i: usize) -> usize
+pub fn area_of(table: &[PieceEntry], i: usize) -> usize
     requires { ⌜ i < length (now table) ⌝ }
     ensures { λ r. ⌜ (r ≡ entryArea (now (table .entry)) i) × (r ≤ 65025) ⌝ }
 {
@@ -46,7 +47,7 @@ pub fn area_of(table: &[[u8; 3]], i: usize) -> usize
 }
 
 // The entry of a piece with these sides and this sum of turns.
-pub fn piece_entry(columns: usize, rows: usize, turns: usize) -> [u8; 3]
+pub fn piece_entry(columns: usize, rows: usize, turns: usize) -> PieceEntry
     requires { ⌜ (columns ≤ 255) × (rows ≤ 255) × (turns ≤ 255) ⌝ }
     ensures { λ r. ⌜ r ≡ columns ∷ rows ∷ turns ∷ [] ⌝ }
 {

@@ -22,6 +22,8 @@ use model::JobSize;
 use model::NumberAnswer;
 use model::PAIR_BOUND;
 use model::PIECE_BOUND;
+use model::PieceEntry;
+use model::PlaceEntry;
 use model::plain_refusal;
 use program_text::put_end_line;
 use program_text::put_refusal_line;
@@ -43,7 +45,12 @@ const PROGRAM_ROUNDS: u32 = 20;
 const PROGRAM_BUDGET: u32 = 1000;
 
 // The run of a job: from the start layout, by weights 1, 20 rounds of budget 1,000. The best layout is left in the layout buffer.
-fn run_job(size: JobSize, table: &[[u8; 3]], pixels: &[u8], layout: &mut [[u16; 3]]) -> RunTotals
+fn run_job(
+    size: JobSize,
+    table: &[PieceEntry],
+    pixels: &[u8],
+    layout: &mut [PlaceEntry],
+) -> RunTotals
     requires { ⌜ (lentWell (lentBy size (now table) (now pixels)) ≡ true) × (length (now layout) ≡ size .count) ⌝ }
     ensures { λ r. ⌜ Gives r (now (layout .exit)) (programRun (jobOf (lentBy size (now (table .entry)) (now (pixels .entry))))) ⌝ }
 {
@@ -72,9 +79,9 @@ fn run_job(size: JobSize, table: &[[u8; 3]], pixels: &[u8], layout: &mut [[u16; 
 // The text of a layout and the end line of the run that gave it, at the front, and the position after them.
 fn write_run(
     size: JobSize,
-    table: &[[u8; 3]],
+    table: &[PieceEntry],
     pixels: &[u8],
-    layout: &[[u16; 3]],
+    layout: &[PlaceEntry],
     run: RunTotals,
     text: &mut [u8],
 ) -> usize
@@ -107,13 +114,13 @@ fn write_run(
 }
 
 // Runs a job that was read and writes how the run went.
-fn print_job(size: JobSize, table: &[[u8; 3]], pixels: &[u8], text: &mut [u8]) -> usize
+fn print_job(size: JobSize, table: &[PieceEntry], pixels: &[u8], text: &mut [u8]) -> usize
     requires { ⌜ (lentWell (lentBy size (now table) (now pixels)) ≡ true) × (outputBound ≤ length (now text)) ⌝ }
     ensures { λ r. ⌜ Written (now (text .entry)) 0 (printed (given (lentBy size (now (table .entry)) (now (pixels .entry))))) outputBound r (now (text .exit)) ⌝ }
 {
     let mut layout = [[0u16; 3]; PIECE_BOUND];
     let count = size.count;
-    let places: &mut [[u16; 3]] = &mut layout[..count];
+    let places: &mut [PlaceEntry] = &mut layout[..count];
     let run = run_job(size, table, pixels, places);
     write_run(size, table, pixels, places, run, text)
 }

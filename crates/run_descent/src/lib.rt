@@ -2,6 +2,9 @@
 use model::Direction;
 use model::End;
 use model::JobSize;
+use model::PieceEntry;
+use model::PlaceEntry;
+use model::StripEntry;
 use model::Turn;
 use run_step::DescentState;
 use run_step::step;
@@ -59,16 +62,16 @@ fn beginning(sum: u64) -> DescentState
 // count T, settled; else budget used up, spent.
 pub fn descend(
     size: JobSize,
-    table: &[[u8; 3]],
+    table: &[PieceEntry],
     pixels: &[u8],
-    rows: &[[u8; 3]],
+    rows: &[StripEntry],
     row_starts: &[u32],
-    columns: &[[u8; 3]],
+    columns: &[StripEntry],
     column_starts: &[u32],
     weights: &[u32],
     budget: u32,
     width: usize,
-    layout: &mut [[u16; 3]],
+    layout: &mut [PlaceEntry],
     penalties: &mut [u8],
     row_lines: &mut [u8],
     row_tags: &mut [u32],

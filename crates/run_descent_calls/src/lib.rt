@@ -6,6 +6,8 @@ use model::DoneAnswer;
 use model::End;
 use model::JobSize;
 use model::PAIR_BOUND;
+use model::PieceEntry;
+use model::PlaceEntry;
 use model::Refusal;
 use run_descent::Ended;
 use run_memory::memory::Plan;
@@ -45,11 +47,11 @@ fn copy_weights(from: &[u32], to: &mut [u32])
 // The descent, over weights of its own: a run's memory takes weights that may be raised.
 fn run_alone(
     size: JobSize,
-    table: &[[u8; 3]],
+    table: &[PieceEntry],
     pixels: &[u8],
     weights: &[u32],
     budget: u32,
-    layout: &mut [[u16; 3]],
+    layout: &mut [PlaceEntry],
 ) -> Ended
     requires { ⌜ Given (lentBy size (now table) (now pixels)) (now layout) (now weights) budget ⌝ }
     ensures { λ r. ⌜ Descended (lentBy size (now (table .entry)) (now (pixels .entry))) (now (layout .entry)) (now (weights .entry)) budget r (now (layout .exit)) ⌝ }
@@ -80,9 +82,9 @@ fn run_alone(
 // The descent: 8, 7, 2, 9, 10. The layout buffer holds the layout at the end; a refusal writes nothing.
 pub fn descent(
     size: JobSize,
-    table: &[[u8; 3]],
+    table: &[PieceEntry],
     pixels: &[u8],
-    layout: &mut [[u16; 3]],
+    layout: &mut [PlaceEntry],
     weights: &[u32],
     budget: u32,
 ) -> DescentAnswer

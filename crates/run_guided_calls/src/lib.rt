@@ -3,6 +3,8 @@ use causes::weighted_causes;
 use model::BUDGET_BOUND;
 use model::DoneAnswer;
 use model::JobSize;
+use model::PieceEntry;
+use model::PlaceEntry;
 use model::ROUND_BOUND;
 use model::Refusal;
 use run_memory::memory::Plan;
@@ -51,11 +53,11 @@ fn numbers_wrong(rounds: u32, budget: u32) -> bool
 // The rounds, in a run's memory.
 fn run_rounds(
     size: JobSize,
-    table: &[[u8; 3]],
+    table: &[PieceEntry],
     pixels: &[u8],
     rounds: u32,
     budget: u32,
-    layout: &mut [[u16; 3]],
+    layout: &mut [PlaceEntry],
     weights: &mut [u32],
 ) -> RunTotals
     requires { ⌜ Given (lentBy size (now table) (now pixels)) (now layout) (now weights) budget ⌝ ∗ ⌜ rounds ≤ roundBound ⌝ }
@@ -88,9 +90,9 @@ fn run_rounds(
 // new weights; on a refusal nothing is written. Demand 3's claims hold of the run and of each of its rounds.
 pub fn guided_run(
     size: JobSize,
-    table: &[[u8; 3]],
+    table: &[PieceEntry],
     pixels: &[u8],
-    layout: &mut [[u16; 3]],
+    layout: &mut [PlaceEntry],
     weights: &mut [u32],
     rounds: u32,
     budget: u32,

@@ -4,6 +4,9 @@ use model::COLUMN_BOUND;
 use model::Direction;
 use model::JobSize;
 use model::PIECE_BOUND;
+use model::PieceEntry;
+use model::PlaceEntry;
+use model::StripEntry;
 use run_descent::Ended;
 use run_descent::descend;
 use run_rounds::Tally;
@@ -64,16 +67,16 @@ fn empty_lines() -> [u8; LINES_LENGTH]
 // The rounds, with a buffer for the layout at hand; the best one stands in the lent buffer.
 fn take_rounds(
     size: JobSize,
-    table: &[[u8; 3]],
+    table: &[PieceEntry],
     pixels: &[u8],
-    rows: &[[u8; 3]],
+    rows: &[StripEntry],
     row_starts: &[u32],
-    columns: &[[u8; 3]],
+    columns: &[StripEntry],
     column_starts: &[u32],
     count: u32,
     budget: u32,
     width: usize,
-    layout: &mut [[u16; 3]],
+    layout: &mut [PlaceEntry],
     weights: &mut [u32],
     penalties: &mut [u8],
     row_lines: &mut [u8],
@@ -118,16 +121,16 @@ fn take_rounds(
 // The run that is planned.
 fn run_plan(
     size: JobSize,
-    table: &[[u8; 3]],
+    table: &[PieceEntry],
     pixels: &[u8],
-    rows: &[[u8; 3]],
+    rows: &[StripEntry],
     row_starts: &[u32],
-    columns: &[[u8; 3]],
+    columns: &[StripEntry],
     column_starts: &[u32],
     plan: Plan,
     budget: u32,
     width: usize,
-    layout: &mut [[u16; 3]],
+    layout: &mut [PlaceEntry],
     weights: &mut [u32],
     penalties: &mut [u8],
     row_lines: &mut [u8],
@@ -189,16 +192,16 @@ fn run_plan(
 // The run, with a store for lines along columns, the table of penalties and scratch for the sums of a line.
 fn with_column_lines(
     size: JobSize,
-    table: &[[u8; 3]],
+    table: &[PieceEntry],
     pixels: &[u8],
-    rows: &[[u8; 3]],
+    rows: &[StripEntry],
     row_starts: &[u32],
-    columns: &[[u8; 3]],
+    columns: &[StripEntry],
     column_starts: &[u32],
     plan: Plan,
     budget: u32,
     width: usize,
-    layout: &mut [[u16; 3]],
+    layout: &mut [PlaceEntry],
     weights: &mut [u32],
     row_lines: &mut [u8],
     row_tags: &mut [u32],
@@ -248,15 +251,15 @@ fn with_column_lines(
 // The run, with a store for lines along rows.
 fn with_row_lines(
     size: JobSize,
-    table: &[[u8; 3]],
+    table: &[PieceEntry],
     pixels: &[u8],
-    rows: &[[u8; 3]],
+    rows: &[StripEntry],
     row_starts: &[u32],
-    columns: &[[u8; 3]],
+    columns: &[StripEntry],
     column_starts: &[u32],
     plan: Plan,
     budget: u32,
-    layout: &mut [[u16; 3]],
+    layout: &mut [PlaceEntry],
     weights: &mut [u32],
 ) -> PlanOutcome
     requires { ⌜ Given (lentBy size (now table) (now pixels)) (now layout) (now weights) budget ⌝
@@ -290,11 +293,11 @@ fn with_row_lines(
 // The run, with the strips of every piece in every turn.
 pub fn with_strips(
     size: JobSize,
-    table: &[[u8; 3]],
+    table: &[PieceEntry],
     pixels: &[u8],
     plan: Plan,
     budget: u32,
-    layout: &mut [[u16; 3]],
+    layout: &mut [PlaceEntry],
     weights: &mut [u32],
 ) -> PlanOutcome
     requires { ⌜ Given (lentBy size (now table) (now pixels)) (now layout) (now weights) budget ⌝ ∗ ⌜ FewRounds plan ⌝ }

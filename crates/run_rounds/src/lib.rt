@@ -2,6 +2,9 @@
 // layout is the one with the least plain sum so far; weights are raised after each round that is not clear.
 use model::End;
 use model::JobSize;
+use model::PieceEntry;
+use model::PlaceEntry;
+use model::StripEntry;
 use run_descent::descend;
 use search_sums::plain_total;
 use search_sums::raise;
@@ -26,7 +29,7 @@ pub struct Tally {
 }
 
 // Copies a layout buffer.
-pub fn copy(from: &[[u16; 3]], to: &mut [[u16; 3]])
+pub fn copy(from: &[PlaceEntry], to: &mut [PlaceEntry])
     requires { ⌜ length (now to) ≡ length (now from) ⌝ }
     ensures { λ r. ⌜ now (to .exit) ≡ now (from .entry) ⌝ }
 {
@@ -38,7 +41,7 @@ pub fn copy(from: &[[u16; 3]], to: &mut [[u16; 3]])
 }
 
 // Takes a round's end for the best layout where its plain sum is smaller; gives the best layout's plain sum.
-fn keep_better(end: &[[u16; 3]], sum: u64, best: &mut [[u16; 3]], best_sum: u64) -> u64
+fn keep_better(end: &[PlaceEntry], sum: u64, best: &mut [PlaceEntry], best_sum: u64) -> u64
     requires { ⌜ length (now best) ≡ length (now end) ⌝ }
     ensures layout { λ r. ⌜ now (best .exit) ≡ betterRound sum «best_sum» (now (end .entry)) (now (best .entry)) ⌝ }
     ensures sum { λ r. ⌜ r ≡ betterSum sum «best_sum» ⌝ }
@@ -79,17 +82,17 @@ fn after_round(end: End, left: u32, penalties: &[u8], weights: &mut [u32], n: us
 // At most so many rounds from the layout `present` on, which is the best so far. The best layout stands in `best` at the end.
 pub fn rounds(
     size: JobSize,
-    table: &[[u8; 3]],
+    table: &[PieceEntry],
     pixels: &[u8],
-    rows: &[[u8; 3]],
+    rows: &[StripEntry],
     row_starts: &[u32],
-    columns: &[[u8; 3]],
+    columns: &[StripEntry],
     column_starts: &[u32],
     count: u32,
     budget: u32,
     width: usize,
-    present: &mut [[u16; 3]],
-    best: &mut [[u16; 3]],
+    present: &mut [PlaceEntry],
+    best: &mut [PlaceEntry],
     weights: &mut [u32],
     penalties: &mut [u8],
     row_lines: &mut [u8],

@@ -4,8 +4,11 @@ use model::Column;
 use model::Direction;
 use model::JobSize;
 use model::Line;
+use model::PieceEntry;
+use model::PlaceEntry;
 use model::Placement;
 use model::Row;
+use model::StripEntry;
 use model::Turn;
 use run_trials::Trial;
 use run_trials::line_of;
@@ -72,15 +75,15 @@ fn place_on(line: Line, turn: Turn, at: u32) -> Placement
 // Searches the mover's line for a place below the bound, and moves the piece there if there is one.
 fn try_line(
     size: JobSize,
-    table: &[[u8; 3]],
+    table: &[PieceEntry],
     pixels: &[u8],
-    strips: &[[u8; 3]],
+    strips: &[StripEntry],
     starts: &[u32],
     weights: &[u32],
     mover: Mover,
     bound: u32,
     width: usize,
-    layout: &mut [[u16; 3]],
+    layout: &mut [PlaceEntry],
     penalties: &mut [u8],
     lines: &mut [u8],
     tags: &mut [u32],
@@ -133,17 +136,17 @@ fn try_line(
 // Takes a trial of a piece whose present pair sum is given.
 fn try_trial(
     size: JobSize,
-    table: &[[u8; 3]],
+    table: &[PieceEntry],
     pixels: &[u8],
-    rows: &[[u8; 3]],
+    rows: &[StripEntry],
     row_starts: &[u32],
-    columns: &[[u8; 3]],
+    columns: &[StripEntry],
     column_starts: &[u32],
     weights: &[u32],
     trial: Trial,
     present: u32,
     width: usize,
-    layout: &mut [[u16; 3]],
+    layout: &mut [PlaceEntry],
     penalties: &mut [u8],
     row_lines: &mut [u8],
     row_tags: &mut [u32],
@@ -237,16 +240,16 @@ fn after_move(at: DescentState, next: Trial, sum: u64) -> DescentState
 // Takes the trial that comes next. A piece whose pair sum is 0 cannot move, so its line is not searched.
 pub fn step(
     size: JobSize,
-    table: &[[u8; 3]],
+    table: &[PieceEntry],
     pixels: &[u8],
-    rows: &[[u8; 3]],
+    rows: &[StripEntry],
     row_starts: &[u32],
-    columns: &[[u8; 3]],
+    columns: &[StripEntry],
     column_starts: &[u32],
     weights: &[u32],
     at: DescentState,
     width: usize,
-    layout: &mut [[u16; 3]],
+    layout: &mut [PlaceEntry],
     penalties: &mut [u8],
     row_lines: &mut [u8],
     row_tags: &mut [u32],

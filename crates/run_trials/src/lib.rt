@@ -1,10 +1,14 @@
 // Trials in document 01's order, 'Descent and guidance': by piece, allowed turn, horizontal before vertical. The list of them is not made;
 // the next trial follows from the present one.
+use layout_places::allowed;
 use layout_places::allows;
 use model::Direction;
 use model::JobSize;
 use model::Line;
+use model::PieceEntry;
+use model::PlaceEntry;
 use model::Turn;
+use piece_table::turns_of;
 ghost use mathlib.Core.Path.{_≡_};
 ghost use mathlib.Core.List.{List};
 ghost use Prim.Native.Nat.{ℕ, _<_, _≤_};
@@ -45,11 +49,11 @@ fn piece_start(count: usize, i: usize) -> Trial
 }
 
 // The trial of a piece in a turn, if that is allowed, else the one that comes later.
-fn in_turn(table: &[[u8; 3]], i: usize, turn: Turn, later: Trial) -> Trial
+fn in_turn(table: &[PieceEntry], i: usize, turn: Turn, later: Trial) -> Trial
     requires { ⌜ i < length (now table) ⌝ }
     ensures { λ r. ⌜ ((size : JobSize) (pixels : List ℕ) → trialAs r ≡ inTurn (jobOf (lentBy size (now (table .entry)) pixels)) i turn (trialAs later)) ⌝ }
 {
-    if allows(table[i][2], turn) {
+    if allowed(table, i, turn) {
         return Trial {
             piece: i,
             turn: turn,
@@ -60,7 +64,7 @@ fn in_turn(table: &[[u8; 3]], i: usize, turn: Turn, later: Trial) -> Trial
 }
 
 // What comes after a piece's trials in a turn.
-fn after_turn(size: JobSize, table: &[[u8; 3]], i: usize, turn: Turn) -> Trial
+fn after_turn(size: JobSize, table: &[PieceEntry], i: usize, turn: Turn) -> Trial
     requires { ⌜ (i < size .count) × ((size .count ≤ length (now table)) × (size .count ≤ pieceBound)) ⌝ }
     ensures { λ r. ⌜ ((pixels : List ℕ) → trialAs r ≡ afterTurn (jobOf (lentBy size (now (table .entry)) pixels)) i turn) ⌝ }
 {
@@ -76,7 +80,7 @@ fn after_turn(size: JobSize, table: &[[u8; 3]], i: usize, turn: Turn) -> Trial
 }
 
 // The trial after a trial; after the last comes the first.
-pub fn next_trial(size: JobSize, table: &[[u8; 3]], trial: Trial) -> Trial
+pub fn next_trial(size: JobSize, table: &[PieceEntry], trial: Trial) -> Trial
     requires { ⌜ (trial .piece < size .count) × ((size .count ≤ length (now table)) × (size .count ≤ pieceBound)) ⌝ }
     ensures { λ r. ⌜ ((pixels : List ℕ) → trialAs r ≡ nextTrial (jobOf (lentBy size (now (table .entry)) pixels)) (trialAs trial)) ⌝ }
 {
@@ -111,7 +115,7 @@ fn turns_in(o: u8) -> usize
 }
 
 // T, the number of trials.
-pub fn trial_count(size: JobSize, table: &[[u8; 3]]) -> usize
+pub fn trial_count(size: JobSize, table: &[PieceEntry]) -> usize
     requires { ⌜ (size .count ≤ length (now table)) × (size .count ≤ pieceBound) ⌝ }
     ensures count { λ r. ⌜ ((pixels : List ℕ) → r ≡ length (trials (jobOf (lentBy size (now (table .entry)) pixels)))) ⌝ }
     ensures small { λ r. ⌜ r ≤ 512 ⌝ }
@@ -119,14 +123,14 @@ pub fn trial_count(size: JobSize, table: &[[u8; 3]]) -> usize
     let mut count = 0;
     let mut i = 0;
     while i < size.count {
-        count += 2 * turns_in(table[i][2]);
+        count += 2 * turns_in(turns_of(table, i));
         i += 1;
     }
     count
 }
 
 // The line that a trial searches: through the present corner of its piece.
-pub fn line_of(layout: &[[u16; 3]], trial: Trial) -> Line
+pub fn line_of(layout: &[PlaceEntry], trial: Trial) -> Line
     requires { ⌜ trial .piece < length (now layout) ⌝ }
     ensures { λ r. ⌜ r ≡ trialLine (layoutOf (now (layout .entry))) (trialAs trial) ⌝ }
 {

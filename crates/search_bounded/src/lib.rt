@@ -4,6 +4,9 @@
 mod others;
 
 use model::JobSize;
+use model::PieceEntry;
+use model::PlaceEntry;
+use model::StripEntry;
 use others::add_others;
 use others::renew_others;
 use search_line_sums::Found;
@@ -29,11 +32,11 @@ ghost use Rattle.search_bounded.specs.Ready.{SearchReady, LinesReady, On
 // The search, over a sum for each place of the line.
 fn search_over(
     size: JobSize,
-    table: &[[u8; 3]],
+    table: &[PieceEntry],
     pixels: &[u8],
-    strips: &[[u8; 3]],
+    strips: &[StripEntry],
     starts: &[u32],
-    layout: &[[u16; 3]],
+    layout: &[PlaceEntry],
     weights: &[u32],
     mover: Mover,
     track: Track,
@@ -74,11 +77,11 @@ fn search_over(
 // scratch: only as much of it as the line has places is cleared, and what it holds at the end says nothing.
 pub fn search_below(
     size: JobSize,
-    table: &[[u8; 3]],
+    table: &[PieceEntry],
     pixels: &[u8],
-    strips: &[[u8; 3]],
+    strips: &[StripEntry],
     starts: &[u32],
-    layout: &[[u16; 3]],
+    layout: &[PlaceEntry],
     weights: &[u32],
     mover: Mover,
     bound: u32,
@@ -115,11 +118,11 @@ pub fn search_below(
 // Renews the table of pair penalties for the mover at a place of its line.
 pub fn renew_placed(
     size: JobSize,
-    table: &[[u8; 3]],
+    table: &[PieceEntry],
     pixels: &[u8],
-    strips: &[[u8; 3]],
+    strips: &[StripEntry],
     starts: &[u32],
-    layout: &[[u16; 3]],
+    layout: &[PlaceEntry],
     mover: Mover,
     at: usize,
     width: usize,

@@ -1,6 +1,9 @@
 // What one standing piece adds to the sums along a line, read from the kept line of penalties of the two pieces.
 use model::JobSize;
 use model::PIECE_BOUND;
+use model::PieceEntry;
+use model::PlaceEntry;
+use model::StripEntry;
 use search_line_sums::add_line;
 use search_line_sums::any_below;
 use search_lines::MIDDLE;
@@ -29,7 +32,7 @@ ghost use Rattle.search_bounded.specs.Ready.{LinesReady, OnTrack, IsStan
 ghost use Rattle.search_bounded.specs.Summing.{moverPenalty, LineRead, ToAdd, PartAdded, Summed};
 
 // Piece k beside the mover's line.
-fn beside(table: &[[u8; 3]], layout: &[[u16; 3]], mover: Mover, k: usize) -> StandingPiece
+fn beside(table: &[PieceEntry], layout: &[PlaceEntry], mover: Mover, k: usize) -> StandingPiece
     requires { ⌜ (k < length (now table)) × (k < length (now layout)) ⌝ }
     ensures { λ r. ⌜ ((size : JobSize) (pixels : List ℕ) → IsStanding (jobOf (lentBy size (now (table .entry)) pixels)) (layoutOf (now (layout .entry))) (lineDirection (mover .line)) k r) ⌝ }
 {
@@ -40,11 +43,11 @@ fn beside(table: &[[u8; 3]], layout: &[[u16; 3]], mover: Mover, k: usize) -> Sta
 // Where the line of penalties of the mover and piece k begins in the store.
 fn line_with(
     size: JobSize,
-    table: &[[u8; 3]],
+    table: &[PieceEntry],
     pixels: &[u8],
-    strips: &[[u8; 3]],
+    strips: &[StripEntry],
     starts: &[u32],
-    layout: &[[u16; 3]],
+    layout: &[PlaceEntry],
     mover: Mover,
     track: Track,
     standing: StandingPiece,
@@ -87,11 +90,11 @@ fn line_with(
 // Adds piece k's part to the sums in reach.
 fn add_reached(
     size: JobSize,
-    table: &[[u8; 3]],
+    table: &[PieceEntry],
     pixels: &[u8],
-    strips: &[[u8; 3]],
+    strips: &[StripEntry],
     starts: &[u32],
-    layout: &[[u16; 3]],
+    layout: &[PlaceEntry],
     weights: &[u32],
     mover: Mover,
     track: Track,
@@ -137,11 +140,11 @@ fn add_reached(
 // Adds piece k's part to the sums. It is left out where every sum in its reach is at the bound already.
 pub fn add_other(
     size: JobSize,
-    table: &[[u8; 3]],
+    table: &[PieceEntry],
     pixels: &[u8],
-    strips: &[[u8; 3]],
+    strips: &[StripEntry],
     starts: &[u32],
-    layout: &[[u16; 3]],
+    layout: &[PlaceEntry],
     weights: &[u32],
     mover: Mover,
     track: Track,
@@ -196,11 +199,11 @@ pub fn add_other(
 // The penalty of the mover at a place of its line and piece k.
 pub fn penalty_at(
     size: JobSize,
-    table: &[[u8; 3]],
+    table: &[PieceEntry],
     pixels: &[u8],
-    strips: &[[u8; 3]],
+    strips: &[StripEntry],
     starts: &[u32],
-    layout: &[[u16; 3]],
+    layout: &[PlaceEntry],
     mover: Mover,
     track: Track,
     k: usize,
@@ -248,11 +251,11 @@ pub fn penalty_at(
 // Adds the part of every piece to the sums.
 pub fn add_others(
     size: JobSize,
-    table: &[[u8; 3]],
+    table: &[PieceEntry],
     pixels: &[u8],
-    strips: &[[u8; 3]],
+    strips: &[StripEntry],
     starts: &[u32],
-    layout: &[[u16; 3]],
+    layout: &[PlaceEntry],
     weights: &[u32],
     mover: Mover,
     track: Track,
@@ -295,11 +298,11 @@ pub fn add_others(
 // Makes the table's entries of the mover, at a place of its line, and piece k.
 fn renew_other(
     size: JobSize,
-    table: &[[u8; 3]],
+    table: &[PieceEntry],
     pixels: &[u8],
-    strips: &[[u8; 3]],
+    strips: &[StripEntry],
     starts: &[u32],
-    layout: &[[u16; 3]],
+    layout: &[PlaceEntry],
     mover: Mover,
     track: Track,
     k: usize,
@@ -342,11 +345,11 @@ fn renew_other(
 // Makes the table's entries of the mover, at a place of its line, and every other piece.
 pub fn renew_others(
     size: JobSize,
-    table: &[[u8; 3]],
+    table: &[PieceEntry],
     pixels: &[u8],
-    strips: &[[u8; 3]],
+    strips: &[StripEntry],
     starts: &[u32],
-    layout: &[[u16; 3]],
+    layout: &[PlaceEntry],
     mover: Mover,
     track: Track,
     at: usize,

@@ -7,6 +7,8 @@ use model::Coordinate;
 use model::DoneAnswer;
 use model::JobSize;
 use model::Line;
+use model::PieceEntry;
+use model::PlaceEntry;
 use model::Refusal;
 use model::Row;
 use model::Turn;
@@ -48,9 +50,9 @@ pub enum SearchAnswer {
 // The line search without a bound, with strips and a store of its own.
 fn search_alone(
     size: JobSize,
-    table: &[[u8; 3]],
+    table: &[PieceEntry],
     pixels: &[u8],
-    layout: &[[u16; 3]],
+    layout: &[PlaceEntry],
     weights: &[u32],
     mover: Mover,
 ) -> Found
@@ -93,9 +95,9 @@ fn search_alone(
 // The causes of a line search but the last: 8, 7, 2, 9, 10.
 fn search_causes(
     size: JobSize,
-    table: &[[u8; 3]],
+    table: &[PieceEntry],
     pixels: &[u8],
-    layout: &[[u16; 3]],
+    layout: &[PlaceEntry],
     weights: &[u32],
     piece: usize,
     turn: Turn,
@@ -131,9 +133,9 @@ fn best_answer(line: Line, found: Found) -> SearchAnswer
 // its refusal.
 pub fn line_search(
     size: JobSize,
-    table: &[[u8; 3]],
+    table: &[PieceEntry],
     pixels: &[u8],
-    layout: &[[u16; 3]],
+    layout: &[PlaceEntry],
     weights: &[u32],
     piece: usize,
     turn: Turn,

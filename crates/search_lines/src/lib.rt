@@ -13,6 +13,8 @@ ghost use Rattle.search_lines.specs.Making.{movedShape, standingShape, k
 use model::Direction;
 use model::JobSize;
 use model::PIECE_BOUND;
+use model::PieceEntry;
+use model::StripEntry;
 use model::Turn;
 use search_penalties::LinePair;
 use whole_numbers::larger;
@@ -42,7 +44,7 @@ pub struct Two {
 }
 
 // How many bytes a slot has to have: twice the largest box side of the job, and at least 64.
-pub fn slot_width(size: JobSize, table: &[[u8; 3]]) -> usize
+pub fn slot_width(size: JobSize, table: &[PieceEntry]) -> usize
     requires { ⌜ size .count ≤ length (now table) ⌝ }
     ensures wide { λ r. ⌜ ((pixels : List ℕ) → Wide (jobOf (lentBy size (now (table .entry)) pixels)) r) ⌝ }
     ensures bounds { λ r. ⌜ (64 ≤ r) × (r ≤ slotBound) ⌝ }
@@ -80,7 +82,7 @@ fn slot_of(two: Two, slots: usize) -> usize
 }
 
 // The pixels of a turned box along the direction.
-fn side_along(table: &[[u8; 3]], piece: usize, turn: Turn, direction: Direction) -> usize
+fn side_along(table: &[PieceEntry], piece: usize, turn: Turn, direction: Direction) -> usize
     requires { ⌜ piece < length (now table) ⌝ }
     ensures { λ r. ⌜ ((size : JobSize) (pixels : List ℕ) → r ≡ extent direction (turnedPiece (jobOf (lentBy size (now (table .entry)) pixels)) piece turn)) ⌝ }
 {
@@ -94,10 +96,10 @@ fn side_along(table: &[[u8; 3]], piece: usize, turn: Turn, direction: Direction)
 // Makes the line of two pieces, from a place of the store on.
 fn make_line(
     size: JobSize,
-    table: &[[u8; 3]],
+    table: &[PieceEntry],
     pixels: &[u8],
     direction: Direction,
-    strips: &[[u8; 3]],
+    strips: &[StripEntry],
     starts: &[u32],
     two: Two,
     at: usize,
@@ -125,10 +127,10 @@ fn make_line(
 // The place in the store at which the line of two pieces stands. It is made where it is not kept.
 pub fn keep_line(
     size: JobSize,
-    table: &[[u8; 3]],
+    table: &[PieceEntry],
     pixels: &[u8],
     direction: Direction,
-    strips: &[[u8; 3]],
+    strips: &[StripEntry],
     starts: &[u32],
     two: Two,
     width: usize,

@@ -10,6 +10,7 @@ ghost use lib.ListN.{length, getD};
 ghost use Rattle.pair_overlap.specs.Meet.{Ordered, stripAt};
 ghost use Rattle.search_penalties.specs.Line.{takenAt, penaltyLine, LineReach, Boxed, Grounded, FreeFrom, LineFilled, Capped, Lowered, farther, Risen, Fallen, LastAbove, FirstAbove, Outside, Spared, Levelled};
 ghost use Rattle.search_penalties.specs.Outlines.{outlineOf, Narrow, Outlined, Outlines, Blank, Widened, PlacesReached, Taken, RunOf, OutlineAdded};
+use model::StripEntry;
 use pair_overlap::Corner;
 use whole_numbers::larger;
 use whole_numbers::smaller;
@@ -74,7 +75,7 @@ fn distance(x: u8, d: u8) -> u8
 }
 
 // The least place from k on at which the pieces share no pixel, or the limit, and how far the places from it on are known to be free.
-fn free_from(a: &[[u8; 3]], b: &[[u8; 3]], p: LinePair, k: usize, limit: usize) -> Gap
+fn free_from(a: &[StripEntry], b: &[StripEntry], p: LinePair, k: usize, limit: usize) -> Gap
     requires { ⌜ Ordered (now a) ⌝ ∗ ⌜ Ordered (now b) ⌝ ∗ ⌜ LineReach p limit ⌝ ∗ ⌜ k ≤ limit ⌝ }
     ensures { λ r. ⌜ FreeFrom (takenAt (now (a .entry)) (now (b .entry)) p) k limit r ⌝ }
 {
@@ -118,7 +119,15 @@ fn cap(r: u8, from: usize, end: usize, line: &mut [u8])
 
 // Lowers to r every place at which the pieces share no pixel. Places at r or below stay as they are either way, so they are passed
 // without a look at the strips, and so is all that lies outside of the stretch in which free places are above r.
-fn lower(a: &[[u8; 3]], b: &[[u8; 3]], p: LinePair, r: u8, from: usize, end: usize, line: &mut [u8])
+fn lower(
+    a: &[StripEntry],
+    b: &[StripEntry],
+    p: LinePair,
+    r: u8,
+    from: usize,
+    end: usize,
+    line: &mut [u8],
+)
     requires { ⌜ Ordered (now a) ⌝ ∗ ⌜ Ordered (now b) ⌝ ∗ ⌜ LineReach p (length (now line)) ⌝ ∗ ⌜ Spared (takenAt (now a) (now b) p) (now line) r from end ⌝ }
     ensures { λ x. ⌜ Lowered (takenAt (now (a .entry)) (now (b .entry)) p) r (now (line .entry)) (now (line .exit)) ⌝ }
 {
@@ -263,7 +272,7 @@ fn widened(o: Outline, first: usize, count: usize) -> Outline
 }
 
 // The strip at i of a stretch.
-fn strip_at(s: &[[u8; 3]], i: usize) -> StripRun
+fn strip_at(s: &[StripEntry], i: usize) -> StripRun
     requires { ⌜ i < length (now s) ⌝ }
     ensures { λ r. ⌜ RunOf (now (s .entry)) i r ⌝ }
 {
@@ -292,7 +301,7 @@ fn add_strip(x: StripRun, t: &mut [[u16; 5]])
 }
 
 // Makes the outlines of a piece's lines, in a table that has none. The answer is the number of lines up to the last strip's.
-fn outline_lines(s: &[[u8; 3]], t: &mut [[u16; 5]]) -> usize
+fn outline_lines(s: &[StripEntry], t: &mut [[u16; 5]]) -> usize
     requires { ⌜ Blank (now t) ⌝ }
     ensures { λ r. ⌜ Outlines (now (s .entry)) (now (t .exit)) × (r ≤ 256) ⌝ }
 {
@@ -404,10 +413,10 @@ fn taken_from(
 
 // Lowers to r every place at which the pieces share no pixel; those that outlines show to be taken are passed at once.
 fn level(
-    a: &[[u8; 3]],
+    a: &[StripEntry],
     moved: &[[u16; 5]],
     moved_lines: usize,
-    b: &[[u8; 3]],
+    b: &[StripEntry],
     standing: &[[u16; 5]],
     standing_lines: usize,
     p: LinePair,
@@ -426,10 +435,10 @@ fn level(
 
 // Lowers every place to the depth across: level r lowers to r the places that a shift across by r parts, until none is above r.
 fn levels(
-    a: &[[u8; 3]],
+    a: &[StripEntry],
     moved: &[[u16; 5]],
     moved_lines: usize,
-    b: &[[u8; 3]],
+    b: &[StripEntry],
     standing: &[[u16; 5]],
     standing_lines: usize,
     p: LinePair,
@@ -489,7 +498,7 @@ fn levels(
 }
 
 // The penalties of the two pieces at every place of the line, which has every place at which their boxes meet.
-pub fn penalties(a: &[[u8; 3]], b: &[[u8; 3]], p: LinePair, line: &mut [u8])
+pub fn penalties(a: &[StripEntry], b: &[StripEntry], p: LinePair, line: &mut [u8])
     requires { ⌜ Ordered (now a) ⌝ ∗ ⌜ Ordered (now b) ⌝ ∗ ⌜ LineReach p (length (now line)) × (p .moved < 7168) × (p .standing < 7168) ⌝ ∗ ⌜ Boxed (now a) (now b) p (length (now line)) ⌝ }
     ensures { λ r. ⌜ now (line .exit) ≡ penaltyLine (now (a .entry)) (now (b .entry)) p (length (now (line .entry))) ⌝ }
 {

@@ -11,6 +11,8 @@ ghost use Rattle.descent_laws.specs.Trials.{turnNumber};
 ghost use Rattle.search_shapes.specs.Shapes.{numberedTurn, shapeNumber, Held, Shapes, StripsOf, ShapesRoom, storeBound};
 use model::Direction;
 use model::JobSize;
+use model::PieceEntry;
+use model::StripEntry;
 use model::Turn;
 
 // The strips that a store of every piece in every turn has room for.
@@ -52,7 +54,7 @@ pub fn shape_number(piece: usize, turn: Turn) -> usize
 }
 
 // A store with room for the strips of every piece in every turn. What it holds plays no part, so that no caller's proof computes with it.
-pub fn empty_store() -> [[u8; 3]; STORE_LENGTH]
+pub fn empty_store() -> [StripEntry; STORE_LENGTH]
     ensures { λ r. ⌜ length r ≡ storeBound ⌝ }
 {
     [[0u8; 3]; STORE_LENGTH]
@@ -61,10 +63,10 @@ pub fn empty_store() -> [[u8; 3]; STORE_LENGTH]
 // Makes the strips of every piece in every turn along the direction, allowed or not.
 pub fn make_shapes(
     size: JobSize,
-    table: &[[u8; 3]],
+    table: &[PieceEntry],
     pixels: &[u8],
     direction: Direction,
-    store: &mut [[u8; 3]],
+    store: &mut [StripEntry],
     starts: &mut [u32],
 )
     requires { ⌜ lentWell (lentBy size (now table) (now pixels)) ≡ true ⌝ ∗ ⌜ ShapesRoom (now store) (now starts) ⌝ }
@@ -86,11 +88,11 @@ pub fn make_shapes(
 
 // The strips of a piece in a turn: a part of the store.
 pub fn shape_strips<'a>(
-    store: &'a [[u8; 3]],
+    store: &'a [StripEntry],
     starts: &[u32],
     piece: usize,
     turn: Turn,
-) -> &'a [[u8; 3]]
+) -> &'a [StripEntry]
     requires { ⌜ Held (now store) (now starts) (shapeNumber piece turn) ⌝ }
     ensures { λ r. ⌜ ((d : Direction) (j : Job) → Shapes d j (now (store .entry)) (now (starts .entry)) → piece < j .size .count → StripsOf d (turnedPiece j piece turn) (now r)) ⌝ }
 {

@@ -4,7 +4,10 @@ pub mod pair;
 
 use layout_places::place_at;
 use model::PIECE_BOUND;
+use model::PieceEntry;
+use model::PlaceEntry;
 use model::Placement;
+use model::StripEntry;
 use pair::placed_penalty;
 ghost use mathlib.Core.Path.{_≡_};
 ghost use mathlib.Core.List.{List};
@@ -21,12 +24,12 @@ pub const TABLE_LENGTH: usize = PIECE_BOUND * PIECE_BOUND;
 
 // Makes the entries of pieces i, placed as given, and k.
 fn renew_pair(
-    rows: &[[u8; 3]],
+    rows: &[StripEntry],
     row_starts: &[u32],
-    columns: &[[u8; 3]],
+    columns: &[StripEntry],
     column_starts: &[u32],
-    table: &[[u8; 3]],
-    layout: &[[u16; 3]],
+    table: &[PieceEntry],
+    layout: &[PlaceEntry],
     i: usize,
     place: Placement,
     k: usize,
@@ -55,12 +58,12 @@ fn renew_pair(
 
 // Makes the entries of piece i, placed as given, and each piece below `count`.
 pub fn renew_row(
-    rows: &[[u8; 3]],
+    rows: &[StripEntry],
     row_starts: &[u32],
-    columns: &[[u8; 3]],
+    columns: &[StripEntry],
     column_starts: &[u32],
-    table: &[[u8; 3]],
-    layout: &[[u16; 3]],
+    table: &[PieceEntry],
+    layout: &[PlaceEntry],
     count: usize,
     i: usize,
     place: Placement,
@@ -89,12 +92,12 @@ pub fn renew_row(
 
 // Makes the whole table of a layout.
 pub fn fill_table(
-    rows: &[[u8; 3]],
+    rows: &[StripEntry],
     row_starts: &[u32],
-    columns: &[[u8; 3]],
+    columns: &[StripEntry],
     column_starts: &[u32],
-    table: &[[u8; 3]],
-    layout: &[[u16; 3]],
+    table: &[PieceEntry],
+    layout: &[PlaceEntry],
     penalties: &mut [u8],
 )
     requires { ⌜ SomeDrawn (now table) (now rows) (now «row_starts») (now columns) (now «column_starts») (now layout) ⌝ ∗ ⌜ length (now penalties) ≡ 4096 ⌝ }

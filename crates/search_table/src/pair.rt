@@ -1,6 +1,9 @@
 // Two placed pieces: whether they share a pixel, and their penalty. Boxes are tested first: pieces whose boxes do not meet share
 // none.
+use model::PieceEntry;
+use model::PlaceEntry;
 use model::Placement;
+use model::StripEntry;
 use pair_overlap::Corner;
 ghost use mathlib.Core.Path.{_≡_};
 ghost use mathlib.Core.Bool.{false, _&&_};
@@ -37,7 +40,7 @@ fn spans_meet(a: usize, m: usize, b: usize, n: usize) -> bool
 }
 
 // Whether the boxes of pieces i and k meet, placed as given.
-fn boxes_meet(table: &[[u8; 3]], i: usize, place: Placement, k: usize, other: Placement) -> bool
+fn boxes_meet(table: &[PieceEntry], i: usize, place: Placement, k: usize, other: Placement) -> bool
     requires { ⌜ (i < length (now table)) × (k < length (now table)) ⌝ }
     ensures { λ r. ⌜ (r ≡ false → (size : JobSize) (pixels : List ℕ) → shareAt (lentBy size (now (table .entry)) pixels) i place k other ≡ false) ⌝ }
 {
@@ -53,10 +56,10 @@ fn boxes_meet(table: &[[u8; 3]], i: usize, place: Placement, k: usize, other: Pl
 
 // Whether pieces i and k share a pixel in the layout.
 pub fn pair_shares(
-    rows: &[[u8; 3]],
+    rows: &[StripEntry],
     row_starts: &[u32],
-    table: &[[u8; 3]],
-    layout: &[[u16; 3]],
+    table: &[PieceEntry],
+    layout: &[PlaceEntry],
     i: usize,
     k: usize,
 ) -> bool
@@ -77,12 +80,12 @@ pub fn pair_shares(
 
 // The penalty of piece i, placed as given, and piece k as the layout places it.
 pub fn placed_penalty(
-    rows: &[[u8; 3]],
+    rows: &[StripEntry],
     row_starts: &[u32],
-    columns: &[[u8; 3]],
+    columns: &[StripEntry],
     column_starts: &[u32],
-    table: &[[u8; 3]],
-    layout: &[[u16; 3]],
+    table: &[PieceEntry],
+    layout: &[PlaceEntry],
     i: usize,
     place: Placement,
     k: usize,

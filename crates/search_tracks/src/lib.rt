@@ -2,6 +2,8 @@
 use model::Direction;
 use model::JobSize;
 use model::Line;
+use model::PieceEntry;
+use model::PlaceEntry;
 use model::Turn;
 use whole_numbers::smaller;
 ghost use mathlib.Core.Path.{_≡_};
@@ -72,7 +74,7 @@ fn room_on(length: usize, width: usize, held: usize, sheet: usize, height: usize
 }
 
 // The moving piece on its line.
-pub fn track_of(size: JobSize, table: &[[u8; 3]], mover: Mover) -> Track
+pub fn track_of(size: JobSize, table: &[PieceEntry], mover: Mover) -> Track
     requires { ⌜ (mover .piece < length (now table)) × ((size .columns ≤ columnBound) × (size .rows ≤ columnBound)) ⌝ }
     ensures track { λ r. ⌜ ((pixels : List ℕ) → r ≡ trackOf (jobOf (lentBy size (now (table .entry)) pixels)) mover) ⌝ }
     ensures small { λ r. ⌜ SmallTrack r ⌝ }
@@ -105,8 +107,8 @@ pub fn track_of(size: JobSize, table: &[[u8; 3]], mover: Mover) -> Track
 
 // Piece k as the layout places it, beside a line of the direction.
 pub fn standing_of(
-    table: &[[u8; 3]],
-    layout: &[[u16; 3]],
+    table: &[PieceEntry],
+    layout: &[PlaceEntry],
     direction: Direction,
     k: usize,
 ) -> StandingPiece

@@ -3,6 +3,7 @@
 use model::DoneAnswer;
 use model::Entry;
 use model::JobSize;
+use model::PieceEntry;
 use model::Placement;
 use model::Record;
 ghost use mathlib.Core.Path.{_≡_};
@@ -22,7 +23,7 @@ pub struct SheetAnswer {
 }
 
 // A fresh sheet: nothing is laid and all counts are 0. Refused: 8 the job, 7 a count buffer that is not W x L long.
-pub fn fresh(size: JobSize, table: &[[u8; 3]], pixels: &[u8], counts: &mut [u8]) -> SheetAnswer
+pub fn fresh(size: JobSize, table: &[PieceEntry], pixels: &[u8], counts: &mut [u8]) -> SheetAnswer
     ensures { λ r. ⌜ r ≡ sheetAnswer blankRecord (freshCall (lentBy size (now (table .entry)) (now (pixels .entry))) (length (now (counts .entry)))) ⌝ }
     ensures { λ _. ⌜ now (counts .exit) ≡ countsAfter (now (counts .entry)) (freshCall (lentBy size (now (table .entry)) (now (pixels .entry))) (length (now (counts .entry)))) ⌝ }
 {
@@ -38,7 +39,7 @@ pub fn fresh(size: JobSize, table: &[[u8; 3]], pixels: &[u8], counts: &mut [u8])
 // that no list of calls gives, 9 no such piece or turn not allowed, 13 laid already, 10 outside.
 pub fn lay(
     size: JobSize,
-    table: &[[u8; 3]],
+    table: &[PieceEntry],
     pixels: &[u8],
     sheet: Record,
     counts: &mut [u8],
@@ -65,7 +66,7 @@ pub fn lay(
 // no list of calls gives, 9 no such piece, 14 not laid.
 pub fn withdraw(
     size: JobSize,
-    table: &[[u8; 3]],
+    table: &[PieceEntry],
     pixels: &[u8],
     sheet: Record,
     counts: &mut [u8],

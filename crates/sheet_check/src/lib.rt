@@ -5,6 +5,7 @@ use model::AREA_BOUND;
 use model::Entry;
 use model::JobSize;
 use model::PIECE_BOUND;
+use model::PieceEntry;
 use model::Record;
 ghost use mathlib.Core.Path.{_≡_};
 ghost use mathlib.Core.Bool.{true};
@@ -43,7 +44,7 @@ fn is_blank(entry: Entry) -> bool
 }
 
 // The entry of piece i is blank, or that of a piece of the job laid inside in an allowed turn.
-fn entry_well(size: JobSize, table: &[[u8; 3]], sheet: Record, i: usize) -> bool
+fn entry_well(size: JobSize, table: &[PieceEntry], sheet: Record, i: usize) -> bool
     requires { ⌜ (size .count ≤ length (now table)) × (i < pieceBound) ⌝ }
     ensures { λ r. ⌜ ((pixels : List ℕ) → r ≡ entryWell (jobOf (lentBy size (now (table .entry)) pixels)) (sheet .pieces) i) ⌝ }
 {
@@ -63,7 +64,7 @@ fn entry_well(size: JobSize, table: &[[u8; 3]], sheet: Record, i: usize) -> bool
 }
 
 // Every entry is well.
-fn entries_well(size: JobSize, table: &[[u8; 3]], sheet: Record) -> bool
+fn entries_well(size: JobSize, table: &[PieceEntry], sheet: Record) -> bool
     requires { ⌜ size .count ≤ length (now table) ⌝ }
     ensures { λ r. ⌜ ((pixels : List ℕ) → r ≡ allBelow pieceBound (entryWell (jobOf (lentBy size (now (table .entry)) pixels)) (sheet .pieces))) ⌝ }
 {
@@ -80,7 +81,7 @@ fn entries_well(size: JobSize, table: &[[u8; 3]], sheet: Record) -> bool
 // One more on each pixel that piece i covers, where it is laid.
 fn add_entry(
     size: JobSize,
-    table: &[[u8; 3]],
+    table: &[PieceEntry],
     pixels: &[u8],
     sheet: Record,
     i: usize,
@@ -98,7 +99,7 @@ fn add_entry(
 }
 
 // The counts that the laid pieces make.
-fn recount(size: JobSize, table: &[[u8; 3]], pixels: &[u8], sheet: Record, made: &mut [u8])
+fn recount(size: JobSize, table: &[PieceEntry], pixels: &[u8], sheet: Record, made: &mut [u8])
     requires { ⌜ CanCount (lentBy size (now table) (now pixels)) (sheet .pieces) (length (now made)) ⌝ }
     ensures { λ _. ⌜ Recounted (jobOf (lentBy size (now (table .entry)) (now (pixels .entry)))) (sheet .pieces) (now (made .exit)) ⌝ }
 {
@@ -114,7 +115,7 @@ fn recount(size: JobSize, table: &[[u8; 3]], pixels: &[u8], sheet: Record, made:
 // Each count is the number of laid pieces on its pixel; `made` is room for the counts made anew.
 fn counts_match(
     size: JobSize,
-    table: &[[u8; 3]],
+    table: &[PieceEntry],
     pixels: &[u8],
     sheet: Record,
     counts: &[u8],
@@ -131,7 +132,7 @@ fn counts_match(
 // Each count is the number of laid pieces on its pixel.
 fn counts_well(
     size: JobSize,
-    table: &[[u8; 3]],
+    table: &[PieceEntry],
     pixels: &[u8],
     sheet: Record,
     counts: &[u8],
@@ -146,7 +147,7 @@ fn counts_well(
 // The record and the counts are some that a list of calls gives.
 pub fn sheet_well(
     size: JobSize,
-    table: &[[u8; 3]],
+    table: &[PieceEntry],
     pixels: &[u8],
     sheet: Record,
     counts: &[u8],

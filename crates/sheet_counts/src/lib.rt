@@ -1,5 +1,6 @@
 // A piece's pixels added to the counts of a sheet, or taken off: row by row of its turned box. It knows no sheet record.
 use model::JobSize;
+use model::PieceEntry;
 use model::Placement;
 use piece_pixels::TurnedPiece;
 ghost use mathlib.Core.Path.{_≡_};
@@ -108,7 +109,7 @@ fn corner_number(sheet: usize, place: Placement) -> usize
 // Piece i at a placement: each pixel that it covers counts one more (up) or one less.
 pub fn move_piece(
     size: JobSize,
-    table: &[[u8; 3]],
+    table: &[PieceEntry],
     pixels: &[u8],
     i: usize,
     place: Placement,

@@ -3,6 +3,7 @@ use c_interface::piece_with_turn;
 use c_interface::placement_of;
 use model::DoneAnswer;
 use model::JobSize;
+use model::PieceEntry;
 use model::Record;
 use sheet_calls::SheetAnswer;
 ghost use mathlib.Core.Path.{_≡_};
@@ -20,7 +21,7 @@ ghost use Rattle.model.specs.declared.DoneAnswer.the-variants.{Done};
 // One call of a list (specs/CallList.antt says how five numbers are a call): the record after it.
 fn run_call(
     size: JobSize,
-    table: &[[u8; 3]],
+    table: &[PieceEntry],
     pixels: &[u8],
     sheet: Record,
     counts: &mut [u8],
@@ -43,7 +44,7 @@ fn run_call(
 // The calls of a list, one after another, from a sheet that passes the test: the record after them.
 fn run_from(
     size: JobSize,
-    table: &[[u8; 3]],
+    table: &[PieceEntry],
     pixels: &[u8],
     first: Record,
     calls: &[[u16; 5]],
@@ -64,7 +65,7 @@ fn run_from(
 // The calls of a list from a fresh sheet, which is refused as `fresh` is. In the end each pixel's count is the number of laid pieces on it.
 pub fn run_calls(
     size: JobSize,
-    table: &[[u8; 3]],
+    table: &[PieceEntry],
     pixels: &[u8],
     calls: &[[u16; 5]],
     counts: &mut [u8],

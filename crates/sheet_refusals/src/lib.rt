@@ -1,6 +1,7 @@
 // Why a call on the sheet is refused, by document 01's number, or 0: the first cause in the call's order.
 use layout_places::known;
 use model::JobSize;
+use model::PieceEntry;
 use model::Placement;
 use model::Record;
 use sheet_check::entry_of;
@@ -15,7 +16,7 @@ ghost use Rattle.model.specs.Cover.{layCauses, withdrawCauses};
 ghost use Rattle.sheet_refusals.specs.Causes.{sheetOf, firstNumber, bufferCauses};
 
 // Of every call: 8 the job, 7 the count buffer's length.
-pub fn buffer_refusal(size: JobSize, table: &[[u8; 3]], pixels: &[u8], room: usize) -> u8
+pub fn buffer_refusal(size: JobSize, table: &[PieceEntry], pixels: &[u8], room: usize) -> u8
     ensures { λ r. ⌜ r ≡ firstNumber (bufferCauses (lentBy size (now (table .entry)) (now (pixels .entry))) room) ⌝ }
 {
     if !job_check::check_job(size, table, pixels) {
@@ -30,7 +31,7 @@ pub fn buffer_refusal(size: JobSize, table: &[[u8; 3]], pixels: &[u8], room: usi
 // Of lay and withdraw: then 8, a record or counts that no list of calls gives.
 pub fn sheet_refusal(
     size: JobSize,
-    table: &[[u8; 3]],
+    table: &[PieceEntry],
     pixels: &[u8],
     sheet: Record,
     counts: &[u8],
@@ -50,7 +51,7 @@ pub fn sheet_refusal(
 // Of lay: then 9 no such piece or turn not allowed, 13 laid already, 10 outside.
 pub fn lay_refusal(
     size: JobSize,
-    table: &[[u8; 3]],
+    table: &[PieceEntry],
     sheet: Record,
     piece: usize,
     place: Placement,

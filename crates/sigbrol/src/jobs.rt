@@ -4,6 +4,7 @@ use c_interface::done;
 use c_interface::refused;
 use c_results::put_size;
 use job_calls::JobAnswer;
+use model::PieceEntry;
 ghost use mathlib.Core.Path.{_≡_};
 ghost use lib.ListN.{length};
 ghost use Rattle.model.specs.JobText.{readJob};
@@ -14,7 +15,7 @@ ghost use Rattle.c_interface.specs.Replies.{replyTo};
 #[no_mangle]
 pub extern "C" fn sigbrol_read_job(
     text: &[u8],
-    table: &mut [[u8; 3]],
+    table: &mut [PieceEntry],
     pixels: &mut [u8],
     rows: &mut usize,
     columns: &mut usize,

@@ -5,6 +5,8 @@ use c_interface::refused;
 use c_interface::size_of;
 use model::DoneAnswer;
 use model::NumberAnswer;
+use model::PieceEntry;
+use model::PlaceEntry;
 ghost use mathlib.Core.Path.{_≡_};
 ghost use lib.ListN.{length};
 ghost use Rattle.model.specs.Calls.{leaving, layoutAfter, weightedSumCall, plainSumCall, usedLengthCall, checkCall, startCall};
@@ -17,9 +19,9 @@ pub extern "C" fn sigbrol_weighted_sum(
     rows: usize,
     columns: usize,
     count: usize,
-    table: &[[u8; 3]],
+    table: &[PieceEntry],
     pixels: &[u8],
-    layout: &[[u16; 3]],
+    layout: &[PlaceEntry],
     weights: &[u32],
     sum: &mut u64,
 ) -> Reply
@@ -47,9 +49,9 @@ pub extern "C" fn sigbrol_plain_sum(
     rows: usize,
     columns: usize,
     count: usize,
-    table: &[[u8; 3]],
+    table: &[PieceEntry],
     pixels: &[u8],
-    layout: &[[u16; 3]],
+    layout: &[PlaceEntry],
     sum: &mut u64,
 ) -> Reply
     ensures answer { λ r. ⌜ r ≡ replyTo (plainSumCall (lentAs rows columns count (now (table .entry)) (now (pixels .entry))) (now (layout .entry))) ⌝ }
@@ -70,9 +72,9 @@ pub extern "C" fn sigbrol_used_length(
     rows: usize,
     columns: usize,
     count: usize,
-    table: &[[u8; 3]],
+    table: &[PieceEntry],
     pixels: &[u8],
-    layout: &[[u16; 3]],
+    layout: &[PlaceEntry],
     used: &mut usize,
 ) -> Reply
     ensures answer { λ r. ⌜ r ≡ replyTo (usedLengthCall (lentAs rows columns count (now (table .entry)) (now (pixels .entry))) (now (layout .entry))) ⌝ }
@@ -93,9 +95,9 @@ pub extern "C" fn sigbrol_check(
     rows: usize,
     columns: usize,
     count: usize,
-    table: &[[u8; 3]],
+    table: &[PieceEntry],
     pixels: &[u8],
-    layout: &[[u16; 3]],
+    layout: &[PlaceEntry],
 ) -> Reply
     ensures answer { λ r. ⌜ r ≡ replyTo (checkCall (lentAs rows columns count (now (table .entry)) (now (pixels .entry))) (now (layout .entry))) ⌝ }
 {
@@ -111,9 +113,9 @@ pub extern "C" fn sigbrol_start(
     rows: usize,
     columns: usize,
     count: usize,
-    table: &[[u8; 3]],
+    table: &[PieceEntry],
     pixels: &[u8],
-    layout: &mut [[u16; 3]],
+    layout: &mut [PlaceEntry],
 ) -> Reply
     ensures answer { λ r. ⌜ r ≡ replyTo (startCall (lentAs rows columns count (now (table .entry)) (now (pixels .entry))) (length (now (layout .entry)))) ⌝ }
     ensures memory { λ r. ⌜ now (layout .exit) ≡ layoutAfter (now (layout .entry)) (startCall (lentAs rows columns count (now (table .entry)) (now (pixels .entry))) (length (now (layout .entry)))) ⌝ }

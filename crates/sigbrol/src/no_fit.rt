@@ -7,7 +7,9 @@ use c_interface::size_of;
 use layout_places::turn_or_zero;
 use model::ColumnOffset;
 use model::NumberAnswer;
+use model::PieceEntry;
 use model::RowOffset;
+use model::StripEntry;
 use pair_nofit_calls::PieceInTurn;
 ghost use mathlib.Core.Path.{_≡_};
 ghost use lib.ListN.{length};
@@ -24,14 +26,14 @@ pub extern "C" fn sigbrol_no_fit_row(
     rows: usize,
     columns: usize,
     count: usize,
-    table: &[[u8; 3]],
+    table: &[PieceEntry],
     pixels: &[u8],
     i: usize,
     i_turn: u16,
-    i_strips: &[[u8; 3]],
+    i_strips: &[StripEntry],
     k: usize,
     k_turn: u16,
-    k_strips: &[[u8; 3]],
+    k_strips: &[StripEntry],
     offset: i32,
     runs: &mut [[i32; 2]],
     runs_count: &mut usize,
@@ -74,14 +76,14 @@ pub extern "C" fn sigbrol_no_fit_column(
     rows: usize,
     columns: usize,
     count: usize,
-    table: &[[u8; 3]],
+    table: &[PieceEntry],
     pixels: &[u8],
     i: usize,
     i_turn: u16,
-    i_strips: &[[u8; 3]],
+    i_strips: &[StripEntry],
     k: usize,
     k_turn: u16,
-    k_strips: &[[u8; 3]],
+    k_strips: &[StripEntry],
     offset: i32,
     runs: &mut [[i32; 2]],
     runs_count: &mut usize,

@@ -6,6 +6,8 @@ use c_interface::refused;
 use c_interface::size_of;
 use c_results::bit_of;
 use model::NumberAnswer;
+use model::PieceEntry;
+use model::PlaceEntry;
 use pair_calls::ShareAnswer;
 ghost use mathlib.Core.Path.{_≡_};
 ghost use Rattle.model.specs.Bounded.{oneIf};
@@ -19,9 +21,9 @@ pub extern "C" fn sigbrol_shares_pixel(
     rows: usize,
     columns: usize,
     count: usize,
-    table: &[[u8; 3]],
+    table: &[PieceEntry],
     pixels: &[u8],
-    layout: &[[u16; 3]],
+    layout: &[PlaceEntry],
     i: usize,
     k: usize,
     shares: &mut u8,
@@ -44,9 +46,9 @@ pub extern "C" fn sigbrol_depth(
     rows: usize,
     columns: usize,
     count: usize,
-    table: &[[u8; 3]],
+    table: &[PieceEntry],
     pixels: &[u8],
-    layout: &[[u16; 3]],
+    layout: &[PlaceEntry],
     i: usize,
     k: usize,
     vertical: u8,
@@ -71,9 +73,9 @@ pub extern "C" fn sigbrol_penalty(
     rows: usize,
     columns: usize,
     count: usize,
-    table: &[[u8; 3]],
+    table: &[PieceEntry],
     pixels: &[u8],
-    layout: &[[u16; 3]],
+    layout: &[PlaceEntry],
     i: usize,
     k: usize,
     penalty: &mut u32,

@@ -9,6 +9,8 @@ use c_results::coordinate_number;
 use c_results::end_number;
 use c_results::put_run;
 use layout_places::turn_or_zero;
+use model::PieceEntry;
+use model::PlaceEntry;
 use run_descent_calls::DescentAnswer;
 use run_guided_calls::GuidedAnswer;
 use search_calls::SearchAnswer;
@@ -28,9 +30,9 @@ pub extern "C" fn sigbrol_line_search(
     rows: usize,
     columns: usize,
     count: usize,
-    table: &[[u8; 3]],
+    table: &[PieceEntry],
     pixels: &[u8],
-    layout: &[[u16; 3]],
+    layout: &[PlaceEntry],
     weights: &[u32],
     piece: usize,
     turn: u16,
@@ -69,9 +71,9 @@ pub extern "C" fn sigbrol_descent(
     rows: usize,
     columns: usize,
     count: usize,
-    table: &[[u8; 3]],
+    table: &[PieceEntry],
     pixels: &[u8],
-    layout: &mut [[u16; 3]],
+    layout: &mut [PlaceEntry],
     weights: &[u32],
     budget: u32,
     end: &mut u8,
@@ -118,9 +120,9 @@ pub extern "C" fn sigbrol_guided_run(
     rows: usize,
     columns: usize,
     count: usize,
-    table: &[[u8; 3]],
+    table: &[PieceEntry],
     pixels: &[u8],
-    layout: &mut [[u16; 3]],
+    layout: &mut [PlaceEntry],
     weights: &mut [u32],
     rounds: u32,
     budget: u32,

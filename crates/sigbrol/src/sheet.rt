@@ -9,6 +9,7 @@ use c_interface::refused;
 use c_interface::size_of;
 use model::DoneAnswer;
 use model::PIECE_BOUND;
+use model::PieceEntry;
 ghost use mathlib.Core.Path.{_≡_};
 ghost use lib.ListN.{length};
 ghost use Rattle.model.specs.Buffer.{placement};
@@ -24,7 +25,7 @@ pub extern "C" fn sigbrol_fresh(
     rows: usize,
     columns: usize,
     count: usize,
-    table: &[[u8; 3]],
+    table: &[PieceEntry],
     pixels: &[u8],
     entries: &mut [[u16; 4]; PIECE_BOUND],
     counts: &mut [u8],
@@ -50,7 +51,7 @@ pub extern "C" fn sigbrol_lay(
     rows: usize,
     columns: usize,
     count: usize,
-    table: &[[u8; 3]],
+    table: &[PieceEntry],
     pixels: &[u8],
     entries: &mut [[u16; 4]; PIECE_BOUND],
     counts: &mut [u8],
@@ -88,7 +89,7 @@ pub extern "C" fn sigbrol_withdraw(
     rows: usize,
     columns: usize,
     count: usize,
-    table: &[[u8; 3]],
+    table: &[PieceEntry],
     pixels: &[u8],
     entries: &mut [[u16; 4]; PIECE_BOUND],
     counts: &mut [u8],

@@ -5,6 +5,8 @@ use c_interface::done;
 use c_interface::refused;
 use c_interface::size_of;
 use model::DoneAnswer;
+use model::PieceEntry;
+use model::StripEntry;
 ghost use mathlib.Core.Path.{_≡_};
 ghost use Prim.Native.Nat.{_<_};
 ghost use lib.ListN.{length};
@@ -21,12 +23,12 @@ pub extern "C" fn sigbrol_strips(
     rows: usize,
     columns: usize,
     count: usize,
-    table: &[[u8; 3]],
+    table: &[PieceEntry],
     pixels: &[u8],
     turns: &[u16],
-    row_strips: &mut [[u8; 3]],
+    row_strips: &mut [StripEntry],
     row_starts: &mut [u32],
-    column_strips: &mut [[u8; 3]],
+    column_strips: &mut [StripEntry],
     column_starts: &mut [u32],
 ) -> Reply
     ensures answer { λ r. ⌜ r ≡ replyTo (stripsCall (lentAs rows columns count (now (table .entry)) (now (pixels .entry))) (now (turns .entry)) (storesBy (now («row_strips» .entry)) (now («row_starts» .entry)) (now («column_strips» .entry)) (now («column_starts» .entry)))) ⌝ }
@@ -67,12 +69,12 @@ pub extern "C" fn sigbrol_stretch<'a>(
     rows: usize,
     columns: usize,
     count: usize,
-    table: &[[u8; 3]],
+    table: &[PieceEntry],
     pixels: &[u8],
     turns: &[u16],
-    row_strips: &'a [[u8; 3]],
+    row_strips: &'a [StripEntry],
     row_starts: &[u32],
-    column_strips: &'a [[u8; 3]],
+    column_strips: &'a [StripEntry],
     column_starts: &[u32],
     piece: usize,
     vertical: u8,
@@ -108,12 +110,12 @@ pub extern "C" fn sigbrol_stretch_refusal(
     rows: usize,
     columns: usize,
     count: usize,
-    table: &[[u8; 3]],
+    table: &[PieceEntry],
     pixels: &[u8],
     turns: &[u16],
-    row_strips: &[[u8; 3]],
+    row_strips: &[StripEntry],
     row_starts: &[u32],
-    column_strips: &[[u8; 3]],
+    column_strips: &[StripEntry],
     column_starts: &[u32],
     piece: usize,
     vertical: u8,
@@ -142,7 +144,7 @@ pub extern "C" fn sigbrol_rebuild(
     rows: u16,
     columns: u16,
     vertical: u8,
-    strips: &[[u8; 3]],
+    strips: &[StripEntry],
     pixels: &mut [u8],
 ) -> Reply
     ensures answer { λ r. ⌜ r ≡ replyTo (rebuildCall (directionOf vertical) columns rows (now (strips .entry)) (length (now (pixels .entry)))) ⌝ }

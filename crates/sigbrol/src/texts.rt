@@ -5,6 +5,8 @@ use c_interface::refused;
 use c_interface::size_of;
 use model::DoneAnswer;
 use model::NumberAnswer;
+use model::PieceEntry;
+use model::PlaceEntry;
 ghost use mathlib.Core.Path.{_≡_};
 ghost use Prim.Native.Nat.{_≤_};
 ghost use lib.ListN.{length};
@@ -20,9 +22,9 @@ pub extern "C" fn sigbrol_write_layout(
     rows: usize,
     columns: usize,
     count: usize,
-    table: &[[u8; 3]],
+    table: &[PieceEntry],
     pixels: &[u8],
-    layout: &[[u16; 3]],
+    layout: &[PlaceEntry],
     text: &mut [u8],
     written: &mut usize,
 ) -> Reply
@@ -51,10 +53,10 @@ pub extern "C" fn sigbrol_read_layout(
     rows: usize,
     columns: usize,
     count: usize,
-    table: &[[u8; 3]],
+    table: &[PieceEntry],
     pixels: &[u8],
     text: &[u8],
-    layout: &mut [[u16; 3]],
+    layout: &mut [PlaceEntry],
 ) -> Reply
     ensures answer { λ r. ⌜ r ≡ replyTo (readLayoutCall (lentAs rows columns count (now (table .entry)) (now (pixels .entry))) (now (text .entry)) (length (now (layout .entry)))) ⌝ }
     ensures memory { λ r. ⌜ now (layout .exit) ≡ layoutAfter (now (layout .entry)) (readLayoutCall (lentAs rows columns count (now (table .entry)) (now (pixels .entry))) (now (text .entry)) (length (now (layout .entry)))) ⌝ }

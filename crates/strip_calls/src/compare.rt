@@ -1,6 +1,8 @@
 // Comparing both lent stores with the job's.
 use model::Direction;
 use model::JobSize;
+use model::PieceEntry;
+use model::StripEntry;
 use strip_store::compare::same_store;
 ghost use mathlib.Core.Path.{_≡_};
 ghost use Rattle.model.specs.Lent.{lentBy, jobOf};
@@ -11,12 +13,12 @@ ghost use Rattle.strip_calls.specs.Stores.{storesBy};
 // Both lent stores, each with its starts, begin with the job's in these turns.
 pub fn same_stores(
     size: JobSize,
-    table: &[[u8; 3]],
+    table: &[PieceEntry],
     pixels: &[u8],
     turns: &[u16],
-    row_strips: &[[u8; 3]],
+    row_strips: &[StripEntry],
     row_starts: &[u32],
-    column_strips: &[[u8; 3]],
+    column_strips: &[StripEntry],
     column_starts: &[u32],
 ) -> bool
     requires { ⌜ StoreReady (lentBy size (now table) (now pixels)) (now turns) ⌝ }

@@ -1,6 +1,8 @@
 // The row store and the column store filled.
 use model::Direction;
 use model::JobSize;
+use model::PieceEntry;
+use model::StripEntry;
 use strip_store::fill::Room;
 use strip_store::fill::fill;
 use strip_store::fill::has_room;
@@ -16,7 +18,7 @@ ghost use Rattle.strip_calls.specs.Rooms.{roomForBoth, hasRoom};
 // The row store and the column store have room for the job's.
 pub fn both_have_room(
     size: JobSize,
-    table: &[[u8; 3]],
+    table: &[PieceEntry],
     pixels: &[u8],
     turns: &[u16],
     rows: Room,
@@ -34,12 +36,12 @@ pub fn both_have_room(
 // Fills the row store and the column store, which have room.
 pub fn fill_both(
     size: JobSize,
-    table: &[[u8; 3]],
+    table: &[PieceEntry],
     pixels: &[u8],
     turns: &[u16],
-    row_strips: &mut [[u8; 3]],
+    row_strips: &mut [StripEntry],
     row_starts: &mut [u32],
-    column_strips: &mut [[u8; 3]],
+    column_strips: &mut [StripEntry],
     column_starts: &mut [u32],
 )
     requires { ⌜ StoreReady (lentBy size (now table) (now pixels)) (now turns) ⌝ ∗ ⌜ hasRoom (jobOf (lentBy size (now table) (now pixels))) (now turns) (storesBy (now «row_strips») (now «row_starts») (now «column_strips») (now «column_starts»)) ≡ true ⌝ }

@@ -2,6 +2,8 @@
 
 use model::DoneAnswer;
 use model::JobSize;
+use model::PieceEntry;
+use model::StripEntry;
 use model::refused;
 use strip_store::fill::room_for;
 
@@ -19,12 +21,12 @@ ghost use Rattle.strip_calls.specs.Stores.{storesBy};
 // Fills the row store and the column store of a job in given turns, each with its starts.
 pub fn strips(
     size: JobSize,
-    table: &[[u8; 3]],
+    table: &[PieceEntry],
     pixels: &[u8],
     turns: &[u16],
-    row_strips: &mut [[u8; 3]],
+    row_strips: &mut [StripEntry],
     row_starts: &mut [u32],
-    column_strips: &mut [[u8; 3]],
+    column_strips: &mut [StripEntry],
     column_starts: &mut [u32],
 ) -> DoneAnswer
     ensures answer { λ r. ⌜ r ≡ doneAnswer (stripsCall (lentBy size (now (table .entry)) (now (pixels .entry))) (now (turns .entry)) (storesBy (now («row_strips» .entry)) (now («row_starts» .entry)) (now («column_strips» .entry)) (now («column_starts» .entry)))) ⌝ }

@@ -4,6 +4,8 @@ use super::compare::same_stores;
 use super::turns;
 use model::Direction;
 use model::JobSize;
+use model::PieceEntry;
+use model::StripEntry;
 ghost use mathlib.Core.Path.{_≡_};
 ghost use Rattle.model.specs.Lent.{lentBy};
 ghost use Rattle.model.specs.Store.{stretchIn};
@@ -11,7 +13,7 @@ ghost use Rattle.model.specs.Calls.{stretchCall, stretchGiven, stretchNumber};
 ghost use Rattle.strip_calls.specs.Stores.{storesBy, Cut};
 
 // The part of a store between a piece's start and the next.
-fn part<'a>(strips: &'a [[u8; 3]], starts: &[u32], piece: usize) -> &'a [[u8; 3]]
+fn part<'a>(strips: &'a [StripEntry], starts: &[u32], piece: usize) -> &'a [StripEntry]
     requires { ⌜ Cut (now strips) (now starts) piece ⌝ }
     ensures { λ r. ⌜ now r ≡ stretchIn (now (strips .entry)) (now (starts .entry)) piece ⌝ }
 {
@@ -23,12 +25,12 @@ fn part<'a>(strips: &'a [[u8; 3]], starts: &[u32], piece: usize) -> &'a [[u8; 3]
 // The number by which the stretch of a piece is refused, 0 where it is given.
 pub fn stretch_refusal(
     size: JobSize,
-    table: &[[u8; 3]],
+    table: &[PieceEntry],
     pixels: &[u8],
     turns: &[u16],
-    row_strips: &[[u8; 3]],
+    row_strips: &[StripEntry],
     row_starts: &[u32],
-    column_strips: &[[u8; 3]],
+    column_strips: &[StripEntry],
     column_starts: &[u32],
     piece: usize,
     direction: Direction,
@@ -62,16 +64,16 @@ pub fn stretch_refusal(
 // The stretch of a piece from the row store or the column store, as the direction is horizontal or vertical; empty where it is refused.
 pub fn stretch<'a>(
     size: JobSize,
-    table: &[[u8; 3]],
+    table: &[PieceEntry],
     pixels: &[u8],
     turns: &[u16],
-    row_strips: &'a [[u8; 3]],
+    row_strips: &'a [StripEntry],
     row_starts: &[u32],
-    column_strips: &'a [[u8; 3]],
+    column_strips: &'a [StripEntry],
     column_starts: &[u32],
     piece: usize,
     direction: Direction,
-) -> &'a [[u8; 3]]
+) -> &'a [StripEntry]
     ensures { λ r. ⌜ now r ≡ stretchGiven (stretchCall (lentBy size (now (table .entry)) (now (pixels .entry))) (now (turns .entry)) (storesBy (now («row_strips» .entry)) (now («row_starts» .entry)) (now («column_strips» .entry)) (now («column_starts» .entry))) piece direction) ⌝ }
 {
     if stretch_refusal(

@@ -1,6 +1,7 @@
 // The list of turns that a store is made in.
 
 use model::JobSize;
+use model::PieceEntry;
 ghost use mathlib.Core.Path.{_≡_};
 ghost use mathlib.Core.List.{List};
 ghost use Prim.Native.Nat.{ℕ, _≤_};
@@ -9,7 +10,7 @@ ghost use Rattle.model.specs.Lent.{lentBy, jobOf};
 ghost use Rattle.model.specs.Calls.{turnListWrong};
 
 // Cause 9 of a list of turns: it is not n long, or a turn is not allowed to its piece.
-pub fn wrong(size: JobSize, table: &[[u8; 3]], turns: &[u16]) -> bool
+pub fn wrong(size: JobSize, table: &[PieceEntry], turns: &[u16]) -> bool
     requires { ⌜ size .count ≤ length (now table) ⌝ }
     ensures { λ r. ⌜ ((pixels : List ℕ) → r ≡ turnListWrong (jobOf (lentBy size (now (table .entry)) pixels)) (now (turns .entry))) ⌝ }
 {

@@ -1,6 +1,7 @@
 // Whether some piece of a box has just the given strips, by checks on strips and their neighbours alone.
 
 use model::Direction;
+use model::StripEntry;
 ghost use mathlib.Core.Path.{_≡_};
 ghost use mathlib.Core.Bool.{true};
 ghost use Prim.Native.Nat.{ℕ, _<_, _≤_};
@@ -48,7 +49,7 @@ fn wide(byte: u8) -> usize
 }
 
 // An entry of a buffer as a strip.
-fn strip_of(entry: [u8; 3]) -> Strip
+fn strip_of(entry: StripEntry) -> Strip
     ensures { λ r. ⌜ ReadOf entry r ⌝ }
 {
     Strip {
@@ -59,7 +60,7 @@ fn strip_of(entry: [u8; 3]) -> Strip
 }
 
 // The strip at place i.
-pub fn strip_at(strips: &[[u8; 3]], i: usize) -> Strip
+pub fn strip_at(strips: &[StripEntry], i: usize) -> Strip
     requires { ⌜ i < length (now strips) ⌝ }
     ensures { λ r. ⌜ ReadOf (getD (now (strips .entry)) i []) r ⌝ }
 {
@@ -95,7 +96,7 @@ fn stands_before(strip: Strip, next: Strip) -> bool
 }
 
 // The strip at place i is the first or stands behind the one before it.
-fn in_order(strips: &[[u8; 3]], i: usize) -> bool
+fn in_order(strips: &[StripEntry], i: usize) -> bool
     requires { ⌜ i < length (now strips) ⌝ }
     ensures { λ r. ⌜ r ≡ follows (now (strips .entry)) i ⌝ }
 {
@@ -106,7 +107,7 @@ fn in_order(strips: &[[u8; 3]], i: usize) -> bool
 }
 
 // Each strip lies in the box and stands behind the one before it.
-fn valid(strips: &[[u8; 3]], length: usize, lines: usize) -> bool
+fn valid(strips: &[StripEntry], length: usize, lines: usize) -> bool
     ensures tested { λ r. ⌜ r ≡ allBelow (lib.ListN.length (now (strips .entry))) (wellAt length lines (now (strips .entry))) ⌝ }
     ensures whole { λ r. ⌜ (r ≡ true → Whole (now (strips .entry)) (lib.ListN.length (now (strips .entry)))) ⌝ }
 {
@@ -124,7 +125,7 @@ fn valid(strips: &[[u8; 3]], length: usize, lines: usize) -> bool
 }
 
 // Some strip lies in the line.
-fn on_line(strips: &[[u8; 3]], line: usize) -> bool
+fn on_line(strips: &[StripEntry], line: usize) -> bool
     ensures { λ r. ⌜ r ≡ anyBelow (length (now (strips .entry))) (λ i. eqb (stripIn (now (strips .entry)) i .line) line) ⌝ }
 {
     let mut i = 0;
@@ -150,7 +151,7 @@ fn reaches_place(strip: Strip, place: usize) -> bool
 }
 
 // Some strip holds the place along its line.
-fn at_place(strips: &[[u8; 3]], place: usize) -> bool
+fn at_place(strips: &[StripEntry], place: usize) -> bool
     ensures { λ r. ⌜ r ≡ anyBelow (length (now (strips .entry))) (λ i. reaches place (stripIn (now (strips .entry)) i)) ⌝ }
 {
     let mut i = 0;
@@ -164,7 +165,7 @@ fn at_place(strips: &[[u8; 3]], place: usize) -> bool
 }
 
 // Some piece of the box has just these strips: they are valid, and the outer lines both ways hold a pixel.
-pub fn strips_well(direction: Direction, columns: usize, rows: usize, strips: &[[u8; 3]]) -> bool
+pub fn strips_well(direction: Direction, columns: usize, rows: usize, strips: &[StripEntry]) -> bool
     requires { ⌜ (0 < columns) × (0 < rows) ⌝ }
     ensures { λ r. ⌜ r ≡ stripsWell direction columns rows (now (strips .entry)) ⌝ }
 {

@@ -1,6 +1,7 @@
 // Writing the pixels of strips into a pixel buffer, row by row of the box.
 
 use model::Direction;
+use model::StripEntry;
 use strip_check::Strip;
 use strip_check::strip_at;
 ghost use mathlib.Core.Path.{_≡_};
@@ -54,7 +55,7 @@ fn paint_strips(
     columns: usize,
     rows: usize,
     direction: Direction,
-    strips: &[[u8; 3]],
+    strips: &[StripEntry],
 )
     requires { ⌜ PaintRoom columns rows (now pixels) × ((i : ℕ) → i < length (now strips) → StripFits direction columns rows (stripIn (now strips) i)) ⌝ }
     ensures { λ r. ⌜ Painted columns (stripsHave direction (map entryStrip (now (strips .entry)))) (now (pixels .entry)) (now (pixels .exit)) ⌝ }
@@ -83,7 +84,7 @@ pub fn write(
     direction: Direction,
     columns: usize,
     rows: usize,
-    strips: &[[u8; 3]],
+    strips: &[StripEntry],
     pixels: &mut [u8],
 )
     requires { ⌜ PaintRoom columns rows (now pixels) × (stripsWell direction columns rows (now strips) ≡ true) ⌝ }

@@ -2,6 +2,7 @@
 
 use model::Direction;
 use model::DoneAnswer;
+use model::StripEntry;
 use model::refused;
 ghost use mathlib.Core.Path.{_≡_};
 ghost use lib.ListN.{length};
@@ -29,7 +30,7 @@ pub fn rebuild(
     columns: u16,
     rows: u16,
     direction: Direction,
-    strips: &[[u8; 3]],
+    strips: &[StripEntry],
     pixels: &mut [u8],
 ) -> DoneAnswer
     ensures answer { λ r. ⌜ r ≡ doneAnswer (rebuildCall direction columns rows (now (strips .entry)) (length (now (pixels .entry)))) ⌝ }

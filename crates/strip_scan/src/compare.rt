@@ -3,6 +3,8 @@
 use super::scan::NextStrip;
 use super::scan::next_strip;
 use model::Direction;
+use model::PieceEntry;
+use model::StripEntry;
 use model::Turn;
 use piece_pixels::TurnedPiece;
 use piece_pixels::turned_piece;
@@ -26,7 +28,7 @@ pub enum Compared {
 }
 
 // An entry has just the three numbers.
-fn same_entry(entry: [u8; 3], line: usize, first: usize, count: usize) -> bool
+fn same_entry(entry: StripEntry, line: usize, first: usize, count: usize) -> bool
     ensures { λ r. ⌜ r ≡ sameNumbers entry (line ∷ first ∷ count ∷ []) ⌝ }
 {
     if entry[0] as usize != line {
@@ -39,7 +41,7 @@ fn same_entry(entry: [u8; 3], line: usize, first: usize, count: usize) -> bool
 }
 
 // The store has just the three numbers at a place.
-fn stands_at(store: &[[u8; 3]], at: usize, line: usize, first: usize, count: usize) -> bool
+fn stands_at(store: &[StripEntry], at: usize, line: usize, first: usize, count: usize) -> bool
     ensures { λ r. ⌜ r ≡ sameNumbers (getD (now (store .entry)) at []) (line ∷ first ∷ count ∷ []) ⌝ }
 {
     if at < store.len() {
@@ -53,7 +55,7 @@ pub fn compare_strips(
     pixels: &[u8],
     piece: TurnedPiece,
     direction: Direction,
-    store: &[[u8; 3]],
+    store: &[StripEntry],
     at: usize,
 ) -> Compared
     requires { ⌜ SmallPiece piece × (at ≤ 2 ^ 32) ⌝ }
@@ -85,13 +87,13 @@ pub fn compare_strips(
 
 // Compares the strips of a job's piece in a turn with those in the store from `at` on. The piece's pixels begin at `start`.
 pub fn compare_piece(
-    table: &[[u8; 3]],
+    table: &[PieceEntry],
     pixels: &[u8],
     piece: usize,
     start: usize,
     turn: Turn,
     direction: Direction,
-    store: &[[u8; 3]],
+    store: &[StripEntry],
     at: usize,
 ) -> Compared
     requires { ⌜ EntryAt (now table) piece start × (at ≤ 2 ^ 32) ⌝ }

@@ -3,6 +3,8 @@
 use super::scan::NextStrip;
 use super::scan::next_strip;
 use model::Direction;
+use model::PieceEntry;
+use model::StripEntry;
 use model::Turn;
 use piece_pixels::TurnedPiece;
 use piece_pixels::turned_piece;
@@ -19,7 +21,7 @@ ghost use Rattle.piece_pixels.specs.Turned.{shownBy, SmallPiece};
 ghost use Rattle.strip_scan.specs.Put.{Appended};
 
 // Stores a strip, where there is room for it.
-fn put(store: &mut [[u8; 3]], at: usize, line: usize, first: usize, count: usize)
+fn put(store: &mut [StripEntry], at: usize, line: usize, first: usize, count: usize)
     requires { ⌜ (line ≤ 255) × ((first ≤ 255) × (count ≤ 255)) ⌝ }
     ensures { λ r. ⌜ now (store .exit) ≡ set (now (store .entry)) at (line ∷ first ∷ count ∷ []) ⌝ }
 {
@@ -33,7 +35,7 @@ pub fn put_strips(
     pixels: &[u8],
     piece: TurnedPiece,
     direction: Direction,
-    store: &mut [[u8; 3]],
+    store: &mut [StripEntry],
     at: usize,
 ) -> usize
     requires { ⌜ SmallPiece piece × (at ≤ 2 ^ 32) ⌝ }
@@ -64,13 +66,13 @@ pub fn put_strips(
 // Puts the strips of a job's piece in a turn into the store from `at` on, and tells where the next strip would stand. The
 // piece's pixels begin at `start`.
 pub fn put_piece(
-    table: &[[u8; 3]],
+    table: &[PieceEntry],
     pixels: &[u8],
     piece: usize,
     start: usize,
     turn: Turn,
     direction: Direction,
-    store: &mut [[u8; 3]],
+    store: &mut [StripEntry],
     at: usize,
 ) -> usize
     requires { ⌜ EntryAt (now table) piece start × (at ≤ 2 ^ 32) ⌝ }

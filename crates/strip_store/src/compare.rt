@@ -1,6 +1,8 @@
 // Comparing a lent store and its starts with the job's, piece after piece.
 use model::Direction;
 use model::JobSize;
+use model::PieceEntry;
+use model::StripEntry;
 use strip_scan::compare::Compared;
 ghost use mathlib.Core.Path.{_≡_};
 ghost use mathlib.Core.Bool.{_&&_};
@@ -23,11 +25,11 @@ fn starts_at(starts: &[u32], i: usize, at: usize) -> bool
 // The lent store and starts begin with the job's in these turns.
 pub fn same_store(
     size: JobSize,
-    table: &[[u8; 3]],
+    table: &[PieceEntry],
     pixels: &[u8],
     turns: &[u16],
     direction: Direction,
-    strips: &[[u8; 3]],
+    strips: &[StripEntry],
     starts: &[u32],
 ) -> bool
     requires { ⌜ StoreReady (lentBy size (now table) (now pixels)) (now turns) ⌝ }

@@ -1,6 +1,8 @@
 // Filling a store and its starts, piece after piece.
 use model::Direction;
 use model::JobSize;
+use model::PieceEntry;
+use model::StripEntry;
 ghost use mathlib.Core.Path.{_≡_};
 ghost use Prim.Native.Nat.{_<_, _^_};
 ghost use lib.ListN.{set};
@@ -34,11 +36,11 @@ fn put_start(starts: &mut [u32], i: usize, at: usize)
 // Fills a store and its starts, as far as there is room, and tells how many strips there are.
 pub fn fill(
     size: JobSize,
-    table: &[[u8; 3]],
+    table: &[PieceEntry],
     pixels: &[u8],
     turns: &[u16],
     direction: Direction,
-    strips: &mut [[u8; 3]],
+    strips: &mut [StripEntry],
     starts: &mut [u32],
 ) -> usize
     requires { ⌜ StoreReady (lentBy size (now table) (now pixels)) (now turns) ⌝ }
@@ -60,7 +62,7 @@ pub fn fill(
 // A store with its starts has room for the job's.
 pub fn has_room(
     size: JobSize,
-    table: &[[u8; 3]],
+    table: &[PieceEntry],
     pixels: &[u8],
     turns: &[u16],
     direction: Direction,

@@ -8,45 +8,28 @@ use Rattle.layout_places.proofs.Places.{unknown-none, known-some}
 use Rattle.layout_places.proofs.allowed_degrees.Statement.{statement}
 use Rattle.layout_places.proofs.allowed_degrees.Tie as tie
 
-turn-of-requires : tie.Need-turn-of-requires
-turn-of-requires c κs = search needs
-
-enum-known-turn : tie.Need-enum-known-turn
-enum-known-turn c = search needs
-
-enum-told : tie.Need-enum-told
-enum-told c = search needs
-
 returns : tie.Need-returns
 unfolding allowedDegrees
-returns c = λ size pixels. rw (unknown-none (turnOfDegrees (c .before .before .before .args .degrees)) (sym (c .enum-told .given .1) ∙ c .before .before .turn-of .ensures), allowedDegrees, turnPasses)
-
-mul-allows : tie.Need-mul-allows
-mul-allows c = search needs
-
-index-1-allows : tie.Need-index-1-allows
-index-1-allows c = search needs
-
-index-2-allows : tie.Need-index-2-allows
-index-2-allows c = search needs
-
-allows-requires : tie.Need-allows-requires
-allows-requires c κs = search needs
+returns c =
+    let at-start : tie.Start = search in
+    let at-turn-of : tie.After-turn-of = search in
+    λ size pixels. rw (unknown-none (turnOfDegrees (at-start .args .degrees)) (sym (c .enum-told .given .1) ∙ at-turn-of .turn-of .ensures), allowedDegrees, turnPasses)
 
 returns-2 : tie.Need-returns-2
 unfolding allowedDegrees jobOf
-returns-2 c = λ size pixels. let k = known-some (turnOfDegrees (c .before .before .before .before .before .before .args .degrees)) _ (sym (c .before .before .before .turn .given .1) ∙ c .before .before .before .before .before .turn-of .ensures) in rw (k, allowedDegrees, turnPasses) (c .allows .ensures)
+returns-2 c =
+    let at-start : tie.Start = search in
+    let at-turn : tie.After-turn = search in
+    let at-turn-of : tie.After-turn-of = search in
+    λ size pixels. let k = known-some (turnOfDegrees (at-start .args .degrees)) _ (sym (at-turn .turn .given .1) ∙ at-turn-of .turn-of .ensures) in rw (k, allowedDegrees, turnPasses) (c .allowed .ensures size pixels)
 
 pub allowed-degrees-spec : {M : Type 1} → statement M
 allowed-degrees-spec =
     tie.close
     (tie.spec
-    turn-of-requires
-    enum-known-turn
-    enum-told
+    (search needs)
+    (search needs)
+    (search needs)
     returns
-    mul-allows
-    index-1-allows
-    index-2-allows
-    allows-requires
+    (search needs)
     returns-2)

@@ -24,52 +24,56 @@ abbrev μ-loop : tie.MeasureT-loop
 loop-holds : tie.Need-loop-holds Inv-loop μ-loop
 loop-holds c = (omega arith, omega arith, λ pixels. refl)
 
-mul-turns-in : tie.Need-mul-turns-in Inv-loop μ-loop
-mul-turns-in c = let few = c .before .before .before .pre .1 in omega arith
-
-index-1-turns-in : tie.Need-index-1-turns-in Inv-loop μ-loop
-index-1-turns-in c = let whole = c .before .before .before .pre .0 in omega arith
-
-index-2-turns-in : tie.Need-index-2-turns-in Inv-loop μ-loop
-index-2-turns-in c = search needs
-
-turns-in-requires : tie.Need-turns-in-requires Inv-loop μ-loop
-turns-in-requires c κs = search needs
+turns-of-requires : tie.Need-turns-of-requires Inv-loop μ-loop
+turns-of-requires c κs =
+    let at-start : tie.Start Inv-loop μ-loop = search in
+    let whole = at-start .pre .0 in omega arith
 
 mul-count : tie.Need-mul-count Inv-loop μ-loop
 mul-count c = let few = c .turns-in .ensures .1 in omega arith
 
 add-count : tie.Need-add-count Inv-loop μ-loop
 add-count c =
+    let at-loop : tie.At-loop Inv-loop μ-loop = search in
+    let taken1 : tie.Then1 Inv-loop μ-loop = search in
+    let at-start : tie.Start Inv-loop μ-loop = search in
     let few = c .turns-in .ensures .1 in
-    let most = c .before .before .before .before .loop .inv .1 in
-    let below = c .before .before .if1 .taken in
-    let pieces = c .before .before .before .before .before .pre .1 in
+    let most = at-loop .loop .inv .1 in
+    let below = taken1 .if1 .taken in
+    let pieces = at-start .pre .1 in
     omega arith
 
 add-i : tie.Need-add-i Inv-loop μ-loop
 add-i c =
-    let below = c .before .before .if1 .taken in
-    let pieces = c .before .before .before .before .before .pre .1 in
+    let taken1 : tie.Then1 Inv-loop μ-loop = search in
+    let at-start : tie.Start Inv-loop μ-loop = search in
+    let below = taken1 .if1 .taken in
+    let pieces = at-start .pre .1 in
     omega arith
 
 loop-less : tie.Need-loop-less Inv-loop μ-loop
-loop-less c = let below = c .before .before .if1 .taken in omega arith
+loop-less c =
+    let taken1 : tie.Then1 Inv-loop μ-loop = search in
+    let below = taken1 .if1 .taken in omega arith
 
 loop-again : tie.Need-loop-again Inv-loop μ-loop
 unfolding turnCount turnsIn jobOf
 loop-again c =
-    let l = c .before .before .before .before .loop in
+    let entry : tie.After-turns-of Inv-loop μ-loop = search in
+    let at-loop : tie.At-loop Inv-loop μ-loop = search in
+    let taken1 : tie.Then1 Inv-loop μ-loop = search in
+    let l = at-loop .loop in
     let few = c .turns-in .ensures .1 in
     let most = l .inv .1 in
-    let below = c .before .before .if1 .taken in
-    (omega arith, omega arith, λ pixels. rw (add-one (l .i), c .turns-in .ensures .0, l .inv .2 pixels))
+    let below = taken1 .if1 .taken in
+    (omega arith, omega arith, λ pixels. rw (add-one (l .i), c .turns-in .ensures .0, entry .turns-of .ensures, l .inv .2 pixels))
 
 returns : tie.Need-returns Inv-loop μ-loop
 unfolding jobOf
 returns c =
-    let e = c .before .before .before in
-    let l = c .before .before .loop in
+    let e : tie.Start Inv-loop μ-loop = search in
+    let at-loop : tie.At-loop Inv-loop μ-loop = search in
+    let l = at-loop .loop in
     let few = e .pre .1 in
     let most = l .inv .1 in
     let done : l .i ≡ e .args .size .count = omega (arith, l .inv .0, c .if1 .left) in (
@@ -86,10 +90,8 @@ trial-count-spec =
     Inv-loop
     μ-loop
     loop-holds
-    mul-turns-in
-    index-1-turns-in
-    index-2-turns-in
-    turns-in-requires
+    turns-of-requires
+    (search needs)
     mul-count
     add-count
     add-i
