@@ -19,7 +19,8 @@ use Rattle.strip_laws.proofs.Runs.{runs-agree}
 use Rattle.pair_overlap.specs.declared.Corner.{Corner}
 use Rattle.pair_nofit.specs.Marks.{flagsFrom, sharesAt, marksOf}
 use Rattle.pair_nofit.proofs.Marked.{flags-length, flags-at}
-use Rattle.pair_nofit_calls.specs.Lines.{offsetEntry, marked, Put, offsetCount, lowCorner, highCorner, lineRuns, lineOutcome, runsAnswer, lineAfter}
+use Rattle.pair_nofit_calls.specs.Lines.{offsetCount, lowCorner, highCorner, lineRuns, lineOutcome, runsAnswer, lineAfter}
+use Rattle.pair_runs.specs.Runs.{offsetEntry, marked, Put}
 use Rattle.pair_nofit_calls.specs.declared.RunsAnswer.{RunsAnswer}
 
 -- a flag is 1 exactly where the number passes

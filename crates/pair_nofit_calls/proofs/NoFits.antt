@@ -36,7 +36,8 @@ use Rattle.pair_overlap.proofs.Walk.{Meeting, meet-facts, facts-meet, meet-shar
 use Rattle.pair_overlap.proofs.Shapes.{at-member, entries-ordered}
 use Rattle.pair_nofit.specs.Marks.{sharesAt}
 use Rattle.pair_nofit.proofs.Marked.{firstCorner, secondCorner, marks-no-fit}
-use Rattle.pair_nofit_calls.specs.Lines.{offsetEntry, offsetCount, lowCorner, highCorner, lineRuns, lineOutcome, runsAnswer, lineAfter, stretchCauses}
+use Rattle.pair_nofit_calls.specs.Lines.{offsetCount, lowCorner, highCorner, lineRuns, lineOutcome, runsAnswer, lineAfter, stretchCauses}
+use Rattle.pair_runs.specs.Runs.{offsetEntry}
 use Rattle.pair_nofit_calls.specs.declared.RunsAnswer.{RunsAnswer}
 use Rattle.pair_nofit_calls.proofs.Owning.{entries-same, known-below}
 

@@ -1,0 +1,79 @@
+// Offsets of a no-fit line, and the runs of marked offsets as a run buffer holds them.
+ghost use mathlib.Core.Path.{_≡_};
+ghost use mathlib.Core.List.{[]};
+ghost use Prim.Native.Nat.{min, _<_, _≤_};
+ghost use lib.IntN.{subℕ};
+ghost use lib.ListN.{length};
+ghost use Rattle.model.specs.Strip.{runs, closing};
+ghost use Rattle.model.specs.Overlap.{up, down, offsetBound};
+ghost use Rattle.pair_runs.specs.Runs.{marked, Put};
+
+// A biased offset as a signed one.
+fn unbiased(k: u32) -> i32
+    requires { ⌜ k < 512 ⌝ }
+    ensures { λ r. ⌜ r ≡ subℕ k offsetBound ⌝ }
+{
+    (k as i32) - 254
+}
+
+// How far an offset goes up, up to 255.
+pub fn up(o: i32) -> u32
+    ensures { λ r. ⌜ r ≡ min (up o) 255 ⌝ }
+{
+    if o < 0 {
+        return 0;
+    }
+    if 255 < o {
+        return 255;
+    }
+    o as u32
+}
+
+// How far an offset goes down, up to 255.
+pub fn down(o: i32) -> u32
+    ensures { λ r. ⌜ r ≡ min (down o) 255 ⌝ }
+{
+    if 0 <= o {
+        return 0;
+    }
+    if o < -255 {
+        return 255;
+    }
+    (0 - o) as u32
+}
+
+// Puts the run of `count` marked offsets that ends before `end` into the buffer, if there is one, and tells where the next would stand.
+fn put_run(out: &mut [[i32; 2]], at: usize, end: usize, count: usize) -> usize
+    requires { ⌜ (count ≤ end) × (end ≤ 509) × (at ≤ 509) ⌝ }
+    ensures { λ r. ⌜ Put (closing end count []) (now (out .entry)) at (now (out .exit)) r ⌝ }
+{
+    if count == 0 {
+        return at;
+    }
+    if out.len() <= at {
+        return at + 1;
+    }
+    out[at] = [unbiased((end - count) as u32), count as i32];
+    at + 1
+}
+
+// Puts the maximal runs of the marked offsets into the buffer, as far as there is room, and tells how many there are.
+pub fn put_runs(marks: &[u16], out: &mut [[i32; 2]]) -> usize
+    requires { ⌜ length (now marks) ≤ 509 ⌝ }
+    ensures { λ r. ⌜ Put (runs (marked (now (marks .entry))) (length (now (marks .entry)))) (now (out .entry)) 0 (now (out .exit)) r ⌝ }
+{
+    let mut at = 0;
+    let mut count = 0;
+    let mut k = 0;
+    while k < marks.len() {
+        if marks[k] == 1 {
+            count += 1;
+            k += 1;
+        } else {
+            at = put_run(out, at, k, count);
+            count = 0;
+            k += 1;
+        }
+    }
+    put_run(out, at, k, count)
+}
