@@ -1,6 +1,4 @@
--- Laws of signed offsets, of runs put into a buffer, of lent stretches and of no-fit lines.
-pub mod Offsets
-pub mod Putting
+-- Laws of lent stretches and of no-fit lines.
 pub mod Owning
 pub mod Lined
 pub mod NoFits

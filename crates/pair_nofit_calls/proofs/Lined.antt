@@ -20,7 +20,8 @@ use Rattle.pair_overlap.specs.declared.Corner.{Corner}
 use Rattle.pair_nofit.specs.Marks.{flagsFrom, sharesAt, marksOf}
 use Rattle.pair_nofit.proofs.Marked.{flags-length, flags-at}
 use Rattle.model.specs.Answers.{countAnswer}
-use Rattle.pair_nofit_calls.specs.Lines.{offsetEntry, marked, Put, offsetCount, lowCorner, highCorner, lineRuns, lineOutcome, lineAfter}
+use Rattle.pair_nofit_calls.specs.Lines.{lowCorner, highCorner, lineRuns, lineOutcome, lineAfter}
+use Rattle.pair_runs.specs.Runs.{offsetEntry, offsetCount, marked, Put}
 use Rattle.model.specs.declared.NumberAnswer.{NumberAnswer}
 
 -- a flag is 1 exactly where the number passes

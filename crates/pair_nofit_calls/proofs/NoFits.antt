@@ -36,7 +36,8 @@ use Rattle.pair_overlap.proofs.Shapes.{at-member, entries-ordered}
 use Rattle.pair_nofit.specs.Marks.{sharesAt}
 use Rattle.pair_nofit.proofs.Marked.{firstCorner, secondCorner, marks-no-fit}
 use Rattle.model.specs.Answers.{countAnswer, firstCause}
-use Rattle.pair_nofit_calls.specs.Lines.{offsetEntry, offsetCount, lowCorner, highCorner, lineRuns, lineOutcome, lineAfter, stretchCauses}
+use Rattle.pair_nofit_calls.specs.Lines.{lowCorner, highCorner, lineRuns, lineOutcome, lineAfter, stretchCauses}
+use Rattle.pair_runs.specs.Runs.{offsetEntry, offsetCount}
 use Rattle.model.specs.declared.NumberAnswer.{NumberAnswer}
 use Rattle.pair_nofit_calls.proofs.Owning.{known-below}
 

@@ -1,15 +1,12 @@
--- Runs of marked offsets, as a run buffer holds them, and the outcome of the no-fit calls. Assumes nothing.
-use mathlib.Core.Bool.{Bool, not, _&&_}
+-- The outcome of the no-fit calls. Assumes nothing.
+use mathlib.Core.Bool.{not, _&&_}
 use mathlib.Core.List.{List, [], _∷_, map}
-use mathlib.Core.Path.{_≡_}
-use Prim.Native.Nat.{ℕ, min, _+_}
-use lib.Dec.{eqb}
+use Prim.Native.Nat.{ℕ, min}
 use lib.IntN.{ℤ}
-use lib.ListN.{length, getD}
+use lib.ListN.{length}
 use lib.Seq.{sets}
-use Rattle.model.specs.Strip.{Run, runs, closing}
-use Rattle.model.specs.Overlap.{OffsetRun, unbiased, offsetBound, up, down}
-use Rattle.model.specs.Buffer.{runEntry}
+use Rattle.model.specs.Strip.{Run, runs}
+use Rattle.model.specs.Overlap.{offsetBound, up, down}
 use Rattle.model.specs.Refusal.{Outcome, Cause, cause, unless, noSuchPiece, notOurs}
 use Rattle.model.specs.Lent.{Lent, jobOf, sideBound}
 use Rattle.model.specs.Calls.{LentStretch, known, stretchWell, jobCause, atLeast, leaving}
@@ -17,23 +14,7 @@ use Rattle.model.specs.declared.Direction.{Direction}
 use Rattle.model.specs.declared.Turn.{Turn}
 use Rattle.pair_overlap.specs.declared.Corner.{Corner}
 use Rattle.pair_nofit.specs.Marks.{sharesAt}
-
--- a run of biased offsets as an entry of a run buffer
-abbrev pub offsetEntry : Run → List ℤ
-offsetEntry r = runEntry (unbiased r)
-
--- the number is marked
-abbrev pub marked : List ℕ → ℕ → Bool
-marked marks k = eqb (getD marks k 0) 1
-
--- runs put into a buffer from `at` on, as far as there is room, and where the next would stand
-pub record Put (rs : List Run) (before : List (List ℤ)) (at : ℕ) (after : List (List ℤ)) (next : ℕ) : Type 0 where
-  pub end : next ≡ at + length rs
-  pub stored : after ≡ sets before at (map offsetEntry rs)
-
--- the number of offsets of a no-fit line: from -254 to 254
-abbrev pub offsetCount : ℕ
-offsetCount = 509
+use Rattle.pair_runs.specs.Runs.{offsetEntry, offsetCount}
 
 -- the corners at which the marks are a no-fit line's; offsets of 255 and more have none
 abbrev pub lowCorner : ℤ → Corner

@@ -1,14 +1,14 @@
--- `pair_nofit_calls::put_run`: no run, no room for it, or stored. Assumes nothing.
+-- `pair_runs::put_run`: no run, no room for it, or stored. Assumes nothing.
 use mathlib.Core.Path.{_≡_, _∙_}
 use native.Mathlib.Nat.{pos-of-ne-zero}
 use native.Mathlib.Omega.{arith}
 use borrow.Author.Needs.{needs}
 use mir.Syntax.{w32}
 use mir.ValLaws.{toZ-ofZ}
-use Rattle.pair_nofit_calls.proofs.Offsets.{small-signed}
-use Rattle.pair_nofit_calls.proofs.Putting.{put-none, put-past, put-one}
-use Rattle.pair_nofit_calls.proofs.put_run.Statement.{statement}
-use Rattle.pair_nofit_calls.proofs.put_run.Tie as tie
+use Rattle.pair_runs.proofs.Offsets.{small-signed}
+use Rattle.pair_runs.proofs.Putting.{put-none, put-past, put-one}
+use Rattle.pair_runs.proofs.put_run.Statement.{statement}
+use Rattle.pair_runs.proofs.put_run.Tie as tie
 
 returns : tie.Need-returns
 returns c = put-none _ _ _ _ (c .if1 .taken)

@@ -1,4 +1,4 @@
--- `pair_nofit_calls::down`: by the tests. Assumes nothing.
+-- `pair_runs::down`: by the tests. Assumes nothing.
 use mathlib.Core.Bool.{true, false}
 use mathlib.Core.Path.{_≡_, sym, ap, subst, _∙_}
 use Prim.Native.Nat.{ℕ, min}
@@ -11,9 +11,9 @@ use mir.Syntax.{w32}
 use mir.Val.{SFits, Fits, toZ, ofZ}
 use mir.ValLaws.{toZ-ofZ}
 use Rattle.model.specs.Overlap.{up, down}
-use Rattle.pair_nofit_calls.proofs.Offsets.{NearOffset, down-none, down-far, down-near}
-use Rattle.pair_nofit_calls.proofs.down.Statement.{statement}
-use Rattle.pair_nofit_calls.proofs.down.Tie as tie
+use Rattle.pair_runs.proofs.Offsets.{NearOffset, down-none, down-far, down-near}
+use Rattle.pair_runs.proofs.down.Statement.{statement}
+use Rattle.pair_runs.proofs.down.Tie as tie
 
 returns : tie.Need-returns
 returns c =

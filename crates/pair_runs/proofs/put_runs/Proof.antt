@@ -1,4 +1,4 @@
--- `pair_nofit_calls::put_runs`: the runs that are left are still to be put. Assumes nothing.
+-- `pair_runs::put_runs`: the runs that are left are still to be put. Assumes nothing.
 use Prim.Native.Nat.{_-_}
 use native.Mathlib.Omega.{arith}
 use borrow.Author.Needs.{needs}
@@ -7,10 +7,10 @@ use mathlib.Core.Path.{ap, _∙_}
 use lib.ListN.{length}
 use lib.Seq.{length-sets}
 use Rattle.model.specs.Strip.{closing}
-use Rattle.pair_nofit_calls.specs.Lines.{offsetEntry}
-use Rattle.pair_nofit_calls.proofs.Putting.{Putting, putting-start, putting-marked, putting-free, putting-end}
-use Rattle.pair_nofit_calls.proofs.put_runs.Statement.{statement}
-use Rattle.pair_nofit_calls.proofs.put_runs.Tie as tie
+use Rattle.pair_runs.specs.Runs.{offsetEntry}
+use Rattle.pair_runs.proofs.Putting.{Putting, putting-start, putting-marked, putting-free, putting-end}
+use Rattle.pair_runs.proofs.put_runs.Statement.{statement}
+use Rattle.pair_runs.proofs.put_runs.Tie as tie
 
 abbrev Inv-loop : tie.InvT-loop
 Inv-loop marks out₀ at₀ count₀ k₀ out at count k = Putting marks out₀ out at count k

@@ -1,4 +1,4 @@
--- `pair_nofit_calls::up`: by the tests. Assumes nothing.
+-- `pair_runs::up`: by the tests. Assumes nothing.
 use mathlib.Core.Bool.{true, false}
 use mathlib.Core.Path.{_≡_, sym, ap, subst, _∙_}
 use Prim.Native.Nat.{ℕ, min}
@@ -11,9 +11,9 @@ use mir.Syntax.{w32}
 use mir.Val.{SFits, Fits, toZ, ofZ}
 use mir.ValLaws.{toZ-ofZ}
 use Rattle.model.specs.Overlap.{up, down}
-use Rattle.pair_nofit_calls.proofs.Offsets.{up-none, up-far, up-near, not-negative}
-use Rattle.pair_nofit_calls.proofs.up.Statement.{statement}
-use Rattle.pair_nofit_calls.proofs.up.Tie as tie
+use Rattle.pair_runs.proofs.Offsets.{up-none, up-far, up-near, not-negative}
+use Rattle.pair_runs.proofs.up.Statement.{statement}
+use Rattle.pair_runs.proofs.up.Tie as tie
 
 returns : tie.Need-returns
 returns c =

@@ -1,4 +1,4 @@
--- `pair_nofit_calls::unbiased`: the number fits, so reading it as signed and back changes nothing. Assumes nothing.
+-- `pair_runs::unbiased`: the number fits, so reading it as signed and back changes nothing. Assumes nothing.
 use mathlib.Core.Bool.{true, false}
 use mathlib.Core.Path.{_≡_, sym, ap, subst, _∙_}
 use Prim.Native.Nat.{ℕ, min}
@@ -11,9 +11,9 @@ use mir.Syntax.{w32}
 use mir.Val.{SFits, Fits, toZ, ofZ}
 use mir.ValLaws.{toZ-ofZ}
 use Rattle.model.specs.Overlap.{up, down}
-use Rattle.pair_nofit_calls.proofs.Offsets.{unbiased-fits, small-signed}
-use Rattle.pair_nofit_calls.proofs.unbiased.Statement.{statement}
-use Rattle.pair_nofit_calls.proofs.unbiased.Tie as tie
+use Rattle.pair_runs.proofs.Offsets.{unbiased-fits, small-signed}
+use Rattle.pair_runs.proofs.unbiased.Statement.{statement}
+use Rattle.pair_runs.proofs.unbiased.Tie as tie
 
 cast-result : tie.Need-cast-result
 cast-result c = search needs

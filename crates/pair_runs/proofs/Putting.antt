@@ -12,7 +12,7 @@ use lib.ListN.{length, getD, set}
 use lib.Seq.{sets, set-out, length-sets}
 use borrow.Author.Tests.{eq-eqb, ne-eqb}
 use Rattle.model.specs.Strip.{Run, closing, runsFrom, runs}
-use Rattle.pair_nofit_calls.specs.Lines.{offsetEntry, marked, Put}
+use Rattle.pair_runs.specs.Runs.{offsetEntry, marked, Put}
 
 -- ── one run ──
 

@@ -1,0 +1,3 @@
+-- Laws of signed offsets and of runs put into a buffer.
+pub mod Offsets
+pub mod Putting
