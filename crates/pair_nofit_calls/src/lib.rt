@@ -8,7 +8,6 @@ use model::NumberAnswer;
 use model::OFFSET_BOUND;
 use model::PieceEntry;
 use model::RowOffset;
-use model::SIDE_BOUND;
 use model::StripEntry;
 use model::Turn;
 use model::plain_refusal;
