@@ -83,14 +83,16 @@ module _ (size : JobSize) (table : List (List ℕ)) (pixels : List ℕ) (i : ℕ
 module _ (size : JobSize) (table : List (List ℕ)) (pixels : List ℕ) (i k : ℕ) (e : EntryAt table i (pixelStart table i))
     (f : EntryAt table k (pixelStart table k)) (g : Together table i k) (t u : Turn) (d : Direction) where
   -- the strips of two pieces have room in a store
-  pub both-few : length (strips d (turnedPiece (jobOf (lentBy size table pixels)) i t)) + length (strips d (turnedPiece (jobOf (lentBy size table pixels)) k u)) ≤ pairRoom
+  pub both-few : length (strips d (turnedPiece (jobOf (lentBy size table pixels)) i t))
+      + length (strips d (turnedPiece (jobOf (lentBy size table pixels)) k u)) ≤ pairRoom
   both-few = omega (arith, piece-few size table pixels i e t d, piece-few size table pixels k f u d)
 
   -- and stand in it one behind the other
   pub both-behind : (before between after : List (List ℕ)) (middle end : ℕ) → length before ≡ pairRoom
       → Appended (strips d (turnedPiece (jobOf (lentBy size table pixels)) i t)) before 0 between middle
       → Appended (strips d (turnedPiece (jobOf (lentBy size table pixels)) k u)) between middle after end
-      → StretchBehind (strips d (turnedPiece (jobOf (lentBy size table pixels)) i t)) (strips d (turnedPiece (jobOf (lentBy size table pixels)) k u)) after middle end
+      → StretchBehind (strips d (turnedPiece (jobOf (lentBy size table pixels)) i t)) (strips d (turnedPiece (jobOf (lentBy size table pixels)) k u))
+      after middle end
   both-behind before between after middle end l a b = both-put _ _ before between after middle end (omega (arith, both-few)) a b
 
 -- a corner within reach is so in each direction

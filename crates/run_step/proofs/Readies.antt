@@ -75,7 +75,8 @@ module _ (j : Job) (ws : List ℕ) (es : List (List ℕ)) (k : Trial) (line : Li
     entries-same new e = e ∙ ap₂ (λ (x : Line) (o : Option Best). entriesAfter es (k .piece) (k .turn) x o) isLine search-same
 
 -- a store whose lines were renewed
-pub store-again : (d e : Direction) (j : Job) (width : ℕ) (lines tags new newTags : List ℕ) → e ≡ d → Store d j width lines tags → LinesKept e j width new newTags
+pub store-again : (d e : Direction) (j : Job) (width : ℕ) (lines tags new newTags : List ℕ) → e ≡ d → Store d j width lines tags
+    → LinesKept e j width new newTags
     → length new ≡ length lines → Store d j width new newTags
 store-again d e j width lines tags new newTags same k h n =
     let f = k .fits in

@@ -108,7 +108,8 @@ reached-outline m s p c r l some gap low high e =
 
 -- one line after others
 pub taken-more : (moved standing : List (List ℕ)) (p : LinePair) (from c r y z : ℕ) (m s : Outline) → y < length moved → z < length standing
-    → y + p .moved ≡ z + p .standing → m ≡ outlineOf (getD moved y []) → s ≡ outlineOf (getD standing z []) → PlacesReached m s p c r → Taken moved standing p from c
+    → y + p .moved ≡ z + p .standing → m ≡ outlineOf (getD moved y []) → s ≡ outlineOf (getD standing z []) → PlacesReached m s p c r
+    → Taken moved standing p from c
     → Taken moved standing p from r
 taken-more moved standing p from c r y z m s a b line e f w v =
     let low = w .low in

@@ -27,7 +27,8 @@ module _ (l : Lent) (ts : List ℕ) (lent : Stores) (i : ℕ) (d : Direction) wh
   stretch-there h = stretch-passed l ts lent i d (some-number (stretchCall l ts lent i d) h)
 
   -- its start is what is left
-  pub start-left : (before : ℕ) → StretchPassed l ts lent i d → stretchStart d lent i ≡ leaving (λ part. stretchStart d lent i) before (stretchCall l ts lent i d)
+  pub start-left : (before : ℕ) → StretchPassed l ts lent i d
+      → stretchStart d lent i ≡ leaving (λ part. stretchStart d lent i) before (stretchCall l ts lent i d)
   start-left before p = rw (p .gives)
 
   -- an empty one is refused

@@ -75,7 +75,8 @@ pub record StretchPassed (l : Lent) (ts : List ℕ) (lent : Stores) (i : ℕ) (d
   pub gives : stretchCall l ts lent i d ≡ given (stretchOf d lent i)
 
 -- without a number the stretch is given
-pub stretch-passed : (l : Lent) (ts : List ℕ) (lent : Stores) (i : ℕ) (d : Direction) → stretchNumber (stretchCall l ts lent i d) ≡ 0 → StretchPassed l ts lent i d
+pub stretch-passed : (l : Lent) (ts : List ℕ) (lent : Stores) (i : ℕ) (d : Direction) → stretchNumber (stretchCall l ts lent i d) ≡ 0
+    → StretchPassed l ts lent i d
 unfolding stretchCall storesWell jobOf
 stretch-passed l ts lent i d e =
     let p = no-number (lentWell l) (turnListWrong (jobOf l) ts || not (ltb i (l .size .count))) (storesWell (jobOf l) ts lent) e in

@@ -1,5 +1,5 @@
 -- `layout_read_calls::read_placements` meets its contract. The loop's invariant: what is read so far is at the front of the buffer, and
--- what is left decides the whole (`Progress`). Assumes nothing.
+-- what is left decides the whole (`ReadProgress`). Assumes nothing.
 use mathlib.Core.List.{List}
 use mathlib.Core.Path.{_≡_, refl, sym, _∙_, ap}
 use Prim.Native.Nat.{ℕ, _+_, _-_, _≤_}
