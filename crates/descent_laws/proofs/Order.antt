@@ -109,27 +109,27 @@ directionNumber Vertical = 1
 
 -- a trial's place in the order: by piece, then turn, horizontal before vertical
 abbrev pub trialKey : Trial → ℕ
-trialKey k = 8 * k .piece + (2 * turnOrder (k .turn) + directionNumber (k .direction))
+trialKey k = 8 * k .piece + (2 * turnNumber (k .turn) + directionNumber (k .direction))
 
 -- the two trials of a piece in a turn rise, and so does none
 two-rise : (i : ℕ) (t : Turn) (b : Bool)
-    → Rising trialKey (8 * i + 2 * turnOrder t) (8 * i + 2 * turnOrder t + 2)
+    → Rising trialKey (8 * i + 2 * turnNumber t) (8 * i + 2 * turnNumber t + 2)
     (elim b as (λ _. List Trial) [ true ↦ trialOf i t Horizontal ∷ trialOf i t Vertical ∷ [] | false ↦ [] ])
 two-rise i t true = (omega arith, (omega arith, omega arith))
 two-rise i t false = omega arith
 
 -- the trials of a piece in a turn rise
-turn-rise : (j : Job) (i : ℕ) (t : Turn) → Rising trialKey (8 * i + 2 * turnOrder t) (8 * i + 2 * turnOrder t + 2) (turnTrials j i t)
+turn-rise : (j : Job) (i : ℕ) (t : Turn) → Rising trialKey (8 * i + 2 * turnNumber t) (8 * i + 2 * turnNumber t + 2) (turnTrials j i t)
 unfolding turnTrials
 turn-rise j i t = two-rise i t (allowed j i t)
 
 -- where the trials of a piece in a turn begin in the order
 abbrev turnLow : ℕ → Turn → ℕ
-turnLow i t = 8 * i + 2 * turnOrder t
+turnLow i t = 8 * i + 2 * turnNumber t
 
 -- and where they end
 abbrev turnHigh : ℕ → Turn → ℕ
-turnHigh i t = 8 * i + 2 * turnOrder t + 2
+turnHigh i t = 8 * i + 2 * turnNumber t + 2
 
 -- the trials of a piece rise
 piece-rise : (j : Job) (i : ℕ) → Rising trialKey (turnLow i Zero) (turnHigh i ThreeQuarters) (pieceTrials j i)
