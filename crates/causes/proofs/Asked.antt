@@ -9,7 +9,7 @@ use lib.ListN.{length}
 use Rattle.model.specs.Layout.{pairs}
 use Rattle.model.specs.Refusal.{Cause, cause, unless, outOfRange, wrongLength, notOurs, noSuchPiece}
 use Rattle.model.specs.Lent.{Lent, jobOf, lentWell, pieceBound}
-use Rattle.model.specs.Calls.{someTurnWrong, someWeightWrong, jobCause, layoutLength, weightsLength, weightsCause, turnsCause, outsideCause, layoutCauses}
+use Rattle.model.specs.Calls.{someTurnWrong, someWeightWrong, jobCause, layoutLength, weightsLength, outsideCause, layoutCauses}
 use Rattle.job_laws.proofs.Checked.{facts}
 use Rattle.text_laws.proofs.Causes.{here-refused, not-there, behind}
 use Rattle.causes.specs.Asked.{placeCauses, callCauses, weightedCauses}
@@ -18,6 +18,11 @@ use Rattle.causes.specs.Asked.{placeCauses, callCauses, weightedCauses}
 pub or-nothing : (b : Bool) → (b || false) ≡ b
 or-nothing true = refl
 or-nothing false = refl
+
+-- the causes of a call on weights, by whether a number (2) and a piece or a turn (9) is wrong
+abbrev pub weighed : Lent → List (List ℕ) → List ℕ → Bool → Bool → List Cause
+weighed l es ws number piece =
+    jobCause l ∷ layoutLength l es ∷ weightsLength l ws ∷ cause outOfRange number ∷ cause noSuchPiece piece ∷ outsideCause l es ∷ []
 
 module _ {A : Type 0} (l : Lent) (es : List (List ℕ)) (a : A) where
   -- a call whose own length and number are right asks 8, 7, 9, 10
@@ -38,18 +43,14 @@ module _ {A : Type 0} (l : Lent) (es : List (List ℕ)) (a : A) where
   -- a run, whose budget or count may be out of range
   pub run-asked : (ws : List ℕ) (number : Bool)
       → unless (weightedCauses l es ws number false) a
-      ≡ unless (jobCause l ∷ layoutLength l es ∷ weightsLength l ws ∷ cause outOfRange (someWeightWrong ws || number) ∷ turnsCause l es ∷ outsideCause l es ∷ []) a
-  run-asked ws number =
-      ap (λ b. unless (jobCause l ∷ layoutLength l es ∷ weightsLength l ws ∷ cause outOfRange (someWeightWrong ws || number) ∷ cause noSuchPiece b ∷ outsideCause l es ∷ []) a)
-      (or-nothing (someTurnWrong (jobOf l) es))
+      ≡ unless (weighed l es ws (someWeightWrong ws || number) (someTurnWrong (jobOf l) es)) a
+  run-asked ws number = ap (λ b. unless (weighed l es ws (someWeightWrong ws || number) b) a) (or-nothing (someTurnWrong (jobOf l) es))
 
   -- a weighted sum
   pub sum-asked : (ws : List ℕ)
       → unless (weightedCauses l es ws false false) a
-      ≡ unless (jobCause l ∷ layoutLength l es ∷ weightsLength l ws ∷ weightsCause ws ∷ turnsCause l es ∷ outsideCause l es ∷ []) a
-  sum-asked ws =
-      run-asked ws false
-      ∙ ap (λ b. unless (jobCause l ∷ layoutLength l es ∷ weightsLength l ws ∷ cause outOfRange b ∷ turnsCause l es ∷ outsideCause l es ∷ []) a) (or-nothing (someWeightWrong ws))
+      ≡ unless (weighed l es ws (someWeightWrong ws) (someTurnWrong (jobOf l) es)) a
+  sum-asked ws = run-asked ws false ∙ ap (λ b. unless (weighed l es ws b (someTurnWrong (jobOf l) es)) a) (or-nothing (someWeightWrong ws))
 
   -- the length of the weights is asked behind the job
   pub weights-asked : (ws : List ℕ) (missing : Bool) (rest : List Cause)

@@ -1,6 +1,6 @@
 -- Where no cause refuses a call on a pair, both pieces are ready to be measured: their table entries are checked, their corners lie in
 -- the sheet, and as two pieces of one job they have no more pixels than its boxes. Assumes nothing.
-use mathlib.Core.Bool.{Bool, true, false, not, _||_}
+use mathlib.Core.Bool.{Bool, true, false, not, _&&_, _||_}
 use mathlib.Core.List.{List}
 use mathlib.Core.Path.{_≡_, refl, sym}
 use mathlib.Core.Logic.{⊎-elim}
@@ -9,15 +9,16 @@ use native.Mathlib.Nat.{eq-or-lt-of-le}
 use native.Mathlib.Omega.{arith}
 use lib.Dec.{leb, ltb, eqb}
 use lib.ListN.{length}
-use borrow.Author.Tests.{leb-true, ltb-true, ltb-false, eqb-true, eqb-false, not-false}
+use borrow.Author.Tests.{leb-true, ltb-true, ltb-false, eqb-false, not-false}
 use Rattle.model.specs.Layout.{inside, placeOf, turnedPiece}
 use Rattle.model.specs.Lent.{Lent, jobOf, lentWell}
 use Rattle.model.specs.Buffer.{layoutOf}
-use Rattle.model.specs.Calls.{someTurnWrong, someOutside, pairCauses}
+use Rattle.model.specs.Calls.{someTurnWrong, pairCauses}
 use Rattle.list_laws.proofs.Tests.{and-left, and-right, or-neither, decided}
-use Rattle.list_laws.proofs.Bounded.{any-none}
 use Rattle.job_laws.proofs.Checked.{facts, Facts, entry-at}
 use Rattle.text_laws.specs.Outcomes.{NoCause}
+use Rattle.descent_laws.specs.LentLayout.{Laid}
+use Rattle.causes.proofs.Passed.{laid-by}
 use Rattle.job_laws.proofs.Starts.{start-end}
 use Rattle.pair_measure.specs.Ready.{MeasureReady, Together}
 
@@ -27,23 +28,22 @@ or-four true b c d = refl
 or-four false b c d = refl
 
 -- a piece of a layout that passes
-pub piece-ready : (l : Lent) (es : List (List ℕ)) → lentWell l ≡ true → someOutside (jobOf l) (layoutOf es) ≡ false
-    → (i : ℕ) → i < l .size .count → MeasureReady (l .table) i (placeOf (layoutOf es) i)
-unfolding someOutside inside jobOf
-piece-ready l es w out i b =
+pub piece-ready : (l : Lent) (es : List (List ℕ)) → Laid l es → (i : ℕ) → i < l .size .count → MeasureReady (l .table) i (placeOf (layoutOf es) i)
+unfolding inside jobOf
+piece-ready l es laid i b =
     let p = placeOf (layoutOf es) i in
-    let m : Facts l = facts l w in
+    let m : Facts l = facts l (laid .well) in
     let r = m .fewRows in
     let c = m .fewColumns in
     let n = m .fewPieces in
-    let e : inside (jobOf l) i p ≡ true = not-false (inside (jobOf l) i p) (any-none (l .size .count) _ out i b) in
-    let x : leb (p .x .0 + turnedPiece (jobOf l) i (p .turn) .columns) (l .size .columns) ≡ true = and-left _ _ e in
-    let y : leb (p .y .0 + turnedPiece (jobOf l) i (p .turn) .rows) (l .size .rows) ≡ true = and-right (leb (p .x .0 + turnedPiece (jobOf l) i (p .turn) .columns) (l .size .columns)) _ e in
+    let right = p .x .0 + turnedPiece (jobOf l) i (p .turn) .columns in
+    let top = p .y .0 + turnedPiece (jobOf l) i (p .turn) .rows in
+    let e : (leb right (l .size .columns) && leb top (l .size .rows)) ≡ true = laid .valid .insideSheet i b in
     record {
-      entry = entry-at l i w b;
+      entry = entry-at l i (laid .well) b;
       few = omega arith;
-      x = omega (arith, leb-true (p .x .0 + turnedPiece (jobOf l) i (p .turn) .columns) (l .size .columns) x);
-      y = omega (arith, leb-true (p .y .0 + turnedPiece (jobOf l) i (p .turn) .rows) (l .size .rows) y);
+      x = omega (arith, leb-true right (l .size .columns) (and-left _ _ e));
+      y = omega (arith, leb-true top (l .size .rows) (and-right (leb right (l .size .columns)) _ e));
     }
 
 -- of two pieces the earlier one's pixels end before the later one's begin
@@ -70,18 +70,18 @@ pub record Measurable (l : Lent) (es : List (List ℕ)) (i k : ℕ) : Type 0 whe
 pub measurable : (l : Lent) (es : List (List ℕ)) (i k : ℕ) → NoCause (pairCauses l es i k) → Measurable l es i k
 unfolding pairCauses
 measurable l es i k h =
-    let w : lentWell l ≡ true = not-false (lentWell l) (h .0) in
-    let n : length es ≡ l .size .count = eqb-true (length es) (l .size .count) (not-false (eqb (length es) (l .size .count)) (h .1 .0)) in
     let t : Bool = someTurnWrong (jobOf l) es in
     let u : Bool = not (ltb i (l .size .count)) in
     let v : Bool = not (ltb k (l .size .count)) in
     let three = or-neither ((t || u) || v) (eqb i k) (h .1 .1 .0) .0 in
     let a : i < l .size .count = ltb-true i (l .size .count) (not-false _ (or-neither t u (or-neither (t || u) v three .0) .1)) in
     let b : k < l .size .count = ltb-true k (l .size .count) (not-false _ (or-neither (t || u) v three .1)) in
+    let laid : Laid l es = laid-by l es (h .0) (h .1 .0) (or-neither t u (or-neither (t || u) v three .0) .0) (h .1 .1 .1 .0) in
+    let n = laid .whole in
     record {
       first-place = omega arith;
       second-place = omega arith;
-      first = piece-ready l es w (h .1 .1 .1 .0) i a;
-      second = piece-ready l es w (h .1 .1 .1 .0) k b;
-      together = pair-together l w i k a b (or-neither ((t || u) || v) (eqb i k) (h .1 .1 .0) .1);
+      first = piece-ready l es laid i a;
+      second = piece-ready l es laid k b;
+      together = pair-together l (laid .well) i k a b (or-neither ((t || u) || v) (eqb i k) (h .1 .1 .0) .1);
     }

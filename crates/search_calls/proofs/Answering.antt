@@ -10,10 +10,10 @@ use lib.Dec.{ltb, eqb}
 use lib.ListN.{length, replicate, length-map, length-replicate, getD-replicate}
 use Rattle.model.specs.Layout.{Job, Layout, allowed}
 use Rattle.model.specs.Search.{Best, places, sumAt, least, searchLine}
-use Rattle.model.specs.Refusal.{cause, unless, outOfRange, noSuchPiece, emptyLine}
+use Rattle.model.specs.Refusal.{cause, unless, emptyLine}
 use Rattle.model.specs.Lent.{Lent, jobOf, lentWell}
 use Rattle.model.specs.Buffer.{layoutOf, placementOf}
-use Rattle.model.specs.Calls.{someTurnWrong, someWeightWrong, jobCause, layoutLength, weightsLength, weightsCause, outsideCause, bestPlace}
+use Rattle.model.specs.Calls.{someTurnWrong, someWeightWrong, bestPlace}
 use Rattle.model.specs.declared.Direction.{Direction}
 use Rattle.model.specs.declared.Line.{Line}
 use Rattle.model.specs.declared.Turn.{Turn}
@@ -28,7 +28,7 @@ use Rattle.call_laws.proofs.Layouts.{lent-weights-valid}
 use Rattle.search_laws.specs.BoundedSearch.{belowBound}
 use Rattle.search_laws.proofs.LineSearch.{search-unbounded}
 use Rattle.causes.specs.Asked.{weightedCauses}
-use Rattle.causes.proofs.Asked.{or-nothing}
+use Rattle.causes.proofs.Asked.{or-nothing, weighed}
 use Rattle.causes.proofs.Passed.{laid-by}
 use Rattle.search_shapes.proofs.Jobs.{places-few}
 use Rattle.descent_laws.specs.LentLayout.{Laid}
@@ -47,12 +47,11 @@ either-unknown false false y = refl
 
 -- what is asked of the weights and of a piece that is not known comes to the search's causes
 pub search-asked : (l : Lent) (es : List (List ℕ)) (ws : List ℕ) (i : ℕ) (t : Turn)
-    → unless (weightedCauses l es ws false (not (ltb i (l .size .count) && allowed (jobOf l) i t))) tt ≡ unless (searchCauses l es ws i t) tt
+    → unless (weightedCauses l es ws false (not (ltb i (l .size .count) && allowed (jobOf l) i t))) (tt {0}) ≡ unless (searchCauses l es ws i t) (tt {0})
 search-asked l es ws i t =
     let wrong = someTurnWrong (jobOf l) es || not (ltb i (l .size .count) && allowed (jobOf l) i t) in
-    ap (λ b. unless (jobCause l ∷ layoutLength l es ∷ weightsLength l ws ∷ cause outOfRange b ∷ cause noSuchPiece wrong ∷ outsideCause l es ∷ []) tt)
-    (or-nothing (someWeightWrong ws))
-    ∙ ap (λ b. unless (jobCause l ∷ layoutLength l es ∷ weightsLength l ws ∷ weightsCause ws ∷ cause noSuchPiece b ∷ outsideCause l es ∷ []) tt)
+    ap (λ b. unless (weighed l es ws b wrong) (tt {0})) (or-nothing (someWeightWrong ws))
+    ∙ ap (λ b. unless (weighed l es ws (someWeightWrong ws) b) (tt {0}))
     (either-unknown (someTurnWrong (jobOf l) es) (ltb i (l .size .count)) (allowed (jobOf l) i t))
 
 -- what a search may assume where none of the causes is there

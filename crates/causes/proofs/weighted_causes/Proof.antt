@@ -22,7 +22,8 @@ returns c =
     let own : Bool → List Cause = λ b. cause outOfRange b ∷ placeCauses l (a .layout .now) (a .piece) in
     c .call-causes .ensures
     ∙ ap doneAnswer
-    (weights-asked l (a .layout .now) tt (a .weights .now) (missing .weights-missing .result) (own (wrong .some-number-wrong .result)) (missing .weights-missing .ensures)
+    (weights-asked l (a .layout .now) tt (a .weights .now) (missing .weights-missing .result) (own (wrong .some-number-wrong .result))
+    (missing .weights-missing .ensures)
     ∙ ap (λ b. unless (jobCause l ∷ layoutLength l (a .layout .now) ∷ weightsLength l (a .weights .now) ∷ own b) tt) (wrong .some-number-wrong .ensures))
 
 pub weighted-causes-spec : {M : Type 1} → statement M

@@ -73,7 +73,8 @@ returns-2 c =
         unless-given _ _ (passed told),
         ready-whole (a .size) (a .table .now) (a .pixels .now) (a .i) p (first-ready first) (a .k) q (second-ready second) (a .direction)
             (measured .placed-depth .result) (measured .placed-depth .ensures (a .size))
-            ∙ placed-at (depth (a .direction)) j (a .i) p (placeOf v (a .i)) (a .k) q (placeOf v (a .k)) (first .place-at .ensures) (second .place-at2 .ensures),
+            ∙ placed-at (depth (a .direction)) j (a .i) p (placeOf v (a .i)) (a .k) q (placeOf v (a .k))
+            (first .place-at .ensures) (second .place-at2 .ensures),
       ),
       λ k e. let same : measured .placed-depth .result ≡ k = cc in omega arith,
     )

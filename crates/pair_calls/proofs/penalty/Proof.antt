@@ -71,7 +71,8 @@ returns-2 c =
     let v = layoutOf (a .layout .now) in (
       rw (
         unless-given _ _ (passed told),
-        measured .placed-penalty .ensures (a .size) ∙ placed-at penalty j (a .i) p (placeOf v (a .i)) (a .k) q (placeOf v (a .k)) (first .place-at .ensures) (second .place-at2 .ensures),
+        measured .placed-penalty .ensures (a .size) ∙ placed-at penalty j (a .i) p (placeOf v (a .i)) (a .k) q (placeOf v (a .k))
+            (first .place-at .ensures) (second .place-at2 .ensures),
       ),
       λ k e. let same : measured .placed-penalty .result ≡ k = cc in omega arith,
     )

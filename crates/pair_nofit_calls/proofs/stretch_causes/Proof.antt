@@ -114,10 +114,11 @@ returns-4 c =
     let third : tie.Else3 = search in
     let asked : tie.After-is-own = search in
     let ours : tie.Then4 = search in
+    let other = stretchWell (s .args .direction) (jobOf (lent s)) (two s) in
     c .refused4 .ensures
     ∙ next 8 _ _ (ap not (well first))
     (next 9 _ _ (both-pass (first-known second) (second-known third))
-    (there 8 _ _ (first-fails (stretchWell (s .args .direction) (jobOf (lent s)) (two s)) (sym (asked .is-own .ensures (s .args .size)) ∙ not-true _ (ours .if4 .taken)))))
+    (there 8 _ _ (first-fails other (sym (asked .is-own .ensures (s .args .size)) ∙ not-true _ (ours .if4 .taken)))))
 
 is-own-requires-2 : tie.Need-is-own-requires-2
 is-own-requires-2 c κs =

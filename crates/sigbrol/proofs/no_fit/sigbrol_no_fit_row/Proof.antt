@@ -28,7 +28,7 @@ outcome s offset =
 
 -- answer and runs are those of an outcome
 Tells : (c : tie.After-no-fit-row) → Outcome (List OffsetRun) → Type 0
-Tells c o = (c .no-fit-row .result ≡ countAnswer o) × (c .no-fit-row .last .1 .1 .1 .1 .1 .1 .1 .1 .1 .1 .0 ≡ runsAfter (c .before .before .before .before .before .before .before .before .args .runs .now) o)
+Tells c o = (c .no-fit-row .result ≡ countAnswer o) × (c .no-fit-row .last .1 .1 .1 .1 .1 .1 .1 .1 .0 ≡ runsAfter (c .before .before .before .before .before .before .before .before .args .runs .now) o)
 
 -- they are the call's, the offset being handed on as it is
 told : (c : tie.After-no-fit-row) → Tells c (outcome (c .before .before .before .before .before .before .before .before) (c .before .before .before .before .before .before .before .before .args .offset))
@@ -70,7 +70,7 @@ refused-requires : tie.Need-refused-requires
 refused-requires c κs = tt
 
 same-length : tie.Need-same-length
-same-length c = c .before .before .before .before .before .no-fit-row .kept .1 .1 .1 .1 .1 .1 .1 .1 .1 .1 .0
+same-length c = c .before .before .before .before .before .no-fit-row .kept .1 .1 .1 .1 .1 .1 .1 .1 .0
 
 returns : tie.Need-returns
 unfolding outcome Tells
@@ -81,7 +81,7 @@ returns c =
     (c .done .ensures ∙ reply-by (λ rs. length rs) o t, (p .1, leaves-by (λ rs. length rs) (λ n. n) _ o t))
 
 same-length-2 : tie.Need-same-length-2
-same-length-2 c = c .before .before .before .before .before .no-fit-row .kept .1 .1 .1 .1 .1 .1 .1 .1 .1 .1 .0
+same-length-2 c = c .before .before .before .before .before .no-fit-row .kept .1 .1 .1 .1 .1 .1 .1 .1 .0
 
 returns-2 : tie.Need-returns-2
 unfolding outcome Tells

@@ -16,7 +16,7 @@ outcome s = let a = s .args in depthCall (directionOf (a .vertical)) (lentAs (a 
 -- its answer tells that outcome
 answered : (c : tie.After-depth) → c .depth .result ≡ numberAnswer (outcome (c .before .before .before .before))
 unfolding outcome
-answered c = rw (c .before .before .size-of .ensures, c .before .direction-of .ensures) at (c .depth .ensures)
+answered c = rw (c .before .before .size-of .ensures, c .before .direction-of .ensures) at (c .depth .ensures .0)
 
 size-of-requires : tie.Need-size-of-requires
 size-of-requires c κs = tt

@@ -16,7 +16,7 @@ outcome s = let a = s .args in penaltyCall (lentAs (a .rows) (a .columns) (a .co
 -- its answer tells that outcome
 answered : (c : tie.After-penalty) → c .penalty .result ≡ numberAnswer (outcome (c .before .before .before))
 unfolding outcome
-answered c = rw (c .before .size-of .ensures) at (c .penalty .ensures)
+answered c = rw (c .before .size-of .ensures) at (c .penalty .ensures .0)
 
 size-of-requires : tie.Need-size-of-requires
 size-of-requires c κs = tt
