@@ -9,7 +9,7 @@ use lib.Dec.{eqb}
 use lib.ListN.{length}
 use Rattle.model.specs.Lent.{Lent, jobOf}
 use Rattle.model.specs.Calls.{someTurnWrong, someWeightWrong, jobCause, layoutLength, turnsCause, outsideCause, layoutCauses}
-use Rattle.model.proofs.Tests.{or-neither}
+use Rattle.list_laws.proofs.Tests.{or-neither}
 use Rattle.job_laws.proofs.Checked.{facts}
 use Rattle.text_laws.specs.Outcomes.{NoCause}
 use Rattle.descent_laws.specs.Claims.{ValidWeights}

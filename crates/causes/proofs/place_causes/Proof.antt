@@ -6,7 +6,7 @@ use Prim.Native.Nat.{ℕ}
 use borrow.Author.Needs.{needs}
 use Rattle.model.specs.Lent.{Lent, lentBy, jobOf}
 use Rattle.model.specs.Calls.{someTurnWrong}
-use Rattle.model.proofs.Tests.{or-left, or-right}
+use Rattle.list_laws.proofs.Tests.{or-left, or-right}
 use Rattle.text_laws.proofs.Causes.{there, next, no-more}
 use Rattle.causes.proofs.place_causes.Statement.{statement}
 use Rattle.causes.proofs.place_causes.Tie as tie

@@ -25,8 +25,9 @@ returns-2 c = λ pixels.
 returns-3 : tie.Need-returns-3
 unfolding jobOf
 returns-3 c = λ pixels.
+    let start : tie.Start = search in
     let first : tie.Else1 = search in
-    rw (lt-ltb _ _ (first .if1 .left)) (c .allows .ensures)
+    rw (lt-ltb _ _ (first .if1 .left)) (c .allowed .ensures (start .args .size) pixels)
 
 pub known-spec : {M : Type 1} → statement M
-known-spec = tie.close (tie.spec returns returns-2 (search needs) (search needs) (search needs) (search needs) returns-3)
+known-spec = tie.close (tie.spec returns returns-2 (search needs) returns-3)
