@@ -16,7 +16,7 @@ use model::plain_refusal;
 use search_bounded::search_below;
 use search_line_sums::Found;
 use search_shapes::STARTS_LENGTH;
-use search_shapes::STORE_LENGTH;
+use search_shapes::empty_store;
 use search_tracks::Mover;
 use search_tracks::direction_of;
 ghost use mathlib.Core.Path.{_≡_};
@@ -62,7 +62,7 @@ fn search_alone(
     ensures { λ r. ⌜ r ≡ foundAnswer (searchLine (jobOf (lentBy size (now (table .entry)) (now (pixels .entry)))) (now (weights .entry)) (layoutOf (now (layout .entry))) (mover .piece) (mover .turn) (mover .line)) ⌝ }
 {
     let line = mover.line;
-    let mut strips = [[0u8; 3]; STORE_LENGTH];
+    let mut strips = empty_store();
     let mut starts = [0u32; STARTS_LENGTH];
     let mut store = [0u8; SLOTS * SLOT_WIDTH];
     let mut tags = [0u32; SLOTS];
