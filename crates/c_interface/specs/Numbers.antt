@@ -4,17 +4,21 @@ use mathlib.Core.Bool.{true, false}
 use mathlib.Core.List.{List}
 use Prim.Native.Nat.{ℕ}
 use lib.Dec.{eqb}
-use Rattle.model.specs.Lent.{Lent, pieceBound}
+use Rattle.model.specs.Lent.{Lent, lentBy, pieceBound}
 use Rattle.model.specs.Buffer.{isTurn}
+use Rattle.model.specs.declared.JobSize.{JobSize}
 use Rattle.model.specs.declared.Direction.{Direction}
 use Rattle.model.specs.declared.Direction.the-variants.{Horizontal, Vertical}
 use Rattle.model.specs.declared.Line.{Line}
 use Rattle.model.specs.declared.Line.the-variants.{InRow, InColumn}
 
+-- a job's numbers, from those that a call is handed
+abbrev pub sizeAs : ℕ → ℕ → ℕ → JobSize
+sizeAs rows columns count = record { rows = rows; columns = columns; count = count }
+
 -- the job that the numbers, the table and the pixels lend
 abbrev pub lentAs : ℕ → ℕ → ℕ → List (List ℕ) → List ℕ → Lent
-lentAs rows columns count table pixels =
-    record { size = record { rows = rows; columns = columns; count = count }; table = table; pixels = pixels }
+lentAs rows columns count table pixels = lentBy (sizeAs rows columns count) table pixels
 
 -- 0 is horizontal, every other number vertical
 abbrev pub directionOf : ℕ → Direction

@@ -11,7 +11,7 @@ use model::Refusal;
 use model::Row;
 ghost use mathlib.Core.Path.{_≡_};
 ghost use Rattle.model.specs.Buffer.{placement};
-ghost use Rattle.c_interface.specs.Numbers.{directionOf, lineOf, pieceWithTurn};
+ghost use Rattle.c_interface.specs.Numbers.{sizeAs, directionOf, lineOf, pieceWithTurn};
 ghost use Rattle.c_interface.specs.Replies.{done, refusedBy};
 
 pub mod record;
@@ -48,7 +48,7 @@ pub fn refused(refusal: Refusal) -> Reply
 
 // A job's numbers.
 pub fn size_of(rows: usize, columns: usize, count: usize) -> JobSize
-    ensures { λ r. ⌜ r ≡ record { rows = rows; columns = columns; count = count } ⌝ }
+    ensures { λ r. ⌜ r ≡ sizeAs rows columns count ⌝ }
 {
     JobSize {
         rows: rows,
