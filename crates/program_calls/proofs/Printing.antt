@@ -74,7 +74,7 @@ leaves-written input before k after e m h few =
 
 -- how many bytes are told, by the test of the buffer
 count-step : (t : Bool) (r : Refusal) (text : List ℕ) (k : ℕ)
-    → NumberAnswer.Number k ≡ countAnswer (elim t as (λ _. Outcome (List ℕ)) [ true ↦ refused r | false ↦ given text ]) → k ≡ length text
+    → NumberAnswer.Number k ≡ countAnswer {A = ℕ} (elim t as (λ _. Outcome (List ℕ)) [ true ↦ refused r | false ↦ given text ]) → k ≡ length text
 count-step true r text k e = let z : _≡_ {A = ℕ} 0 1 = cc in absurd (omega arith)
 count-step false r text k e = cc
 
