@@ -123,7 +123,7 @@ amount-told (given a) e = ap amountTold e
 
 -- the numbers of a job that is read
 abbrev pub sizeIn : Lent → JobSize
-sizeIn l = record { rows = l .size .rows; columns = l .size .columns; count = l .size .count }
+sizeIn l = l .size
 
 abbrev pub jobTold : JobAnswer → Outcome JobSize
 jobTold (JobAnswer.Refused r) = refused r
