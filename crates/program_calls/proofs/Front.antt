@@ -22,21 +22,11 @@ use Rattle.call_laws.proofs.Reading.{front-given}
 record Told (o : Outcome Lent) (size : JobSize) : Type 0 where
   job : Lent
   gives : o ≡ given job
-  rows : size .rows ≡ job .size .rows
-  columns : size .columns ≡ job .size .columns
-  count : size .count ≡ job .size .count
+  numbers : size ≡ job .size
 
 told : (o : Outcome Lent) (size : JobSize) → JobAnswer.Read size ≡ readAnswer o → Told o size
 told (refused r) size e = let z : _≡_ {A = ℕ} 0 1 = cc in absurd (omega arith)
-told (given k) size e =
-    let is : size ≡ record { rows = k .rows; columns = k .columns; count = k .count } = cc in
-    record {
-      job = k;
-      gives = refl;
-      rows = ap (λ (s : JobSize). s .rows) is;
-      columns = ap (λ (s : JobSize). s .columns) is;
-      count = ap (λ (s : JobSize). s .count) is;
-    }
+told (given k) size e = record { job = k; gives = refl; numbers = cc }
 
 refusal-told : (o : Outcome Lent) (r : Refusal) → JobAnswer.Refused r ≡ readAnswer o → o ≡ refused r
 refusal-told (refused s) r e = cc
@@ -66,19 +56,18 @@ pub record Front (o : Outcome Lent) (size : JobSize) (table : List (List ℕ)) (
   pub bytesRoom : frontArea size table ≤ length pixels
 
 -- a job by its parts
-same-lent : (size : JobSize) (t : List (List ℕ)) (b : List ℕ) (k : Lent) → size .rows ≡ k .size .rows → size .columns ≡ k .size .columns
-    → size .count ≡ k .size .count → t ≡ k .table → b ≡ k .pixels → lentBy size t b ≡ k
-same-lent size t b k rows columns count e f = rw (rows, columns, count, e, f)
+same-lent : (size : JobSize) (t : List (List ℕ)) (b : List ℕ) (k : Lent) → size ≡ k .size → t ≡ k .table → b ≡ k .pixels → lentBy size t b ≡ k
+same-lent size t b k numbers entries bytes = rw (numbers, entries, bytes)
 
 -- the parts, where the job k was read
-module _ (size : JobSize) (table : List (List ℕ)) (pixels : List ℕ) (k : Lent) (count : size .count ≡ k .size .count) (entries : take (k .size .count) table ≡ k .table)
-    (bytes : take (pixelStart (k .table) (k .size .count)) pixels ≡ k .pixels)
+module _ (size : JobSize) (table : List (List ℕ)) (pixels : List ℕ) (k : Lent) (numbers : size ≡ k .size)
+    (entries : take (k .size .count) table ≡ k .table) (bytes : take (pixelStart (k .table) (k .size .count)) pixels ≡ k .pixels)
   where
     front-entries : frontEntries size table ≡ k .table
-    front-entries = rw (count, entries)
+    front-entries = rw (numbers, entries)
 
     front-area : frontArea size table ≡ pixelStart (k .table) (k .size .count)
-    front-area = rw (front-entries, count)
+    front-area = rw (front-entries, numbers)
 
     front-bytes : take (frontArea size table) pixels ≡ k .pixels
     front-bytes = rw (front-area, bytes)
@@ -97,11 +86,11 @@ module _ (text : List ℕ) (table lastTable : List (List ℕ)) (store lastStore 
         let just : JustRead (length table) (length store) k = job-read-just text (length table) (length store) k (t .gives) in
         let entries : take (k .size .count) lastTable ≡ k .table = rw (h .entries) (f .entries) in
         let bytes : take (pixelStart (k .table) (k .size .count)) lastStore ≡ k .pixels = rw (h .pixels) (f .bytes) in
-        let area : frontArea size lastTable ≡ pixelStart (k .table) (k .size .count) = front-area size lastTable lastStore k (t .count) entries bytes in
+        let area : frontArea size lastTable ≡ pixelStart (k .table) (k .size .count) = front-area size lastTable lastStore k (t .numbers) entries bytes in
         let same : lentBy size (frontEntries size lastTable) (take (frontArea size lastTable) lastStore) ≡ k =
-        same-lent size _ _ k (t .rows) (t .columns) (t .count) (front-entries size lastTable lastStore k (t .count) entries bytes)
-        (front-bytes size lastTable lastStore k (t .count) entries bytes) in
-        let n = t .count in
+        same-lent size _ _ k (t .numbers) (front-entries size lastTable lastStore k (t .numbers) entries bytes)
+        (front-bytes size lastTable lastStore k (t .numbers) entries bytes) in
+        let n : size .count ≡ k .size .count = ap (λ (s : JobSize). s .count) (t .numbers) in
         let m = just .entriesRoom in
         record {
           job = same-reading text table store tableFits storeFits ∙ t .gives ∙ ap given (sym same);

@@ -121,7 +121,7 @@ share-told (given a) e = ap shareTold e
 
 -- the numbers of a job that is read
 abbrev pub sizeIn : Lent → JobSize
-sizeIn l = record { rows = l .size .rows; columns = l .size .columns; count = l .size .count }
+sizeIn l = l .size
 
 abbrev pub jobTold : JobAnswer → Outcome JobSize
 jobTold (JobAnswer.Refused r) = refused r
