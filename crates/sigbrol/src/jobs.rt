@@ -24,9 +24,9 @@ pub extern "C" fn sigbrol_read_job(
     ensures answer { λ r. ⌜ r ≡ replyTo (readJob (now (text .entry)) (length (now (table .entry))) (length (now (pixels .entry)))) ⌝ }
     ensures entries { λ r. ⌜ now (table .exit) ≡ tableAfter (now (table .entry)) (readJob (now (text .entry)) (length (now (table .entry))) (length (now (pixels .entry)))) ⌝ }
     ensures bytes { λ r. ⌜ now (pixels .exit) ≡ storeAfter (now (pixels .entry)) (readJob (now (text .entry)) (length (now (table .entry))) (length (now (pixels .entry)))) ⌝ }
-    ensures rows { λ r. ⌜ now (rows .exit) ≡ leaving (λ a. a .rows) (now (rows .entry)) (readJob (now (text .entry)) (length (now (table .entry))) (length (now (pixels .entry)))) ⌝ }
-    ensures columns { λ r. ⌜ now (columns .exit) ≡ leaving (λ a. a .columns) (now (columns .entry)) (readJob (now (text .entry)) (length (now (table .entry))) (length (now (pixels .entry)))) ⌝ }
-    ensures count { λ r. ⌜ now (count .exit) ≡ leaving (λ a. a .count) (now (count .entry)) (readJob (now (text .entry)) (length (now (table .entry))) (length (now (pixels .entry)))) ⌝ }
+    ensures rows { λ r. ⌜ now (rows .exit) ≡ leaving (λ a. a .size .rows) (now (rows .entry)) (readJob (now (text .entry)) (length (now (table .entry))) (length (now (pixels .entry)))) ⌝ }
+    ensures columns { λ r. ⌜ now (columns .exit) ≡ leaving (λ a. a .size .columns) (now (columns .entry)) (readJob (now (text .entry)) (length (now (table .entry))) (length (now (pixels .entry)))) ⌝ }
+    ensures count { λ r. ⌜ now (count .exit) ≡ leaving (λ a. a .size .count) (now (count .entry)) (readJob (now (text .entry)) (length (now (table .entry))) (length (now (pixels .entry)))) ⌝ }
 {
     match job_calls::read_job(text, table, pixels) {
         JobAnswer::Read(size) => {

@@ -8,10 +8,10 @@ use Rattle.nest.proofs.main.Statement.{statement}
 use Rattle.nest.proofs.main.Tie as tie
 
 -- the text has at most as many bytes as the buffer
-counted : (c : tie.After-known-told) → c .before .count .given .0 .0 ≤ 4096
+counted : (c : tie.After-known-told) → c .before .written .given .0 .0 ≤ 4096
 counted c =
     let run = c .before .before .before .before .print-run .ensures in
-    count-fits _ _ _ (sym (c .before .count .given .1) ∙ run .0) (run .1 .1)
+    count-fits _ _ _ (sym (c .before .written .given .1) ∙ run .0) (run .1 .1)
 
 slice-aggregate-read-full : tie.Need-slice-aggregate-read-full
 slice-aggregate-read-full c = search needs
@@ -31,8 +31,8 @@ slice-aggregate-print-run-2 c = search needs
 print-run-requires : tie.Need-print-run-requires
 print-run-requires c κs = search needs
 
-enum-known-count : tie.Need-enum-known-count
-enum-known-count c = search needs
+enum-known-written : tie.Need-enum-known-written
+enum-known-written c = search needs
 
 enum-told : tie.Need-enum-told
 enum-told c = search needs
@@ -71,7 +71,7 @@ main-spec =
     slice-aggregate-print-run
     slice-aggregate-print-run-2
     print-run-requires
-    enum-known-count
+    enum-known-written
     enum-told
     returns
     array-share-prefix-output

@@ -6,6 +6,7 @@ use Rattle.model.specs.Refusal.{Outcome}
 use Rattle.model.specs.Calls.{depthCall}
 use Rattle.c_interface.specs.Numbers.{lentAs, directionOf}
 use Rattle.sigbrol.proofs.Told.{reply-by, leaves-by, number-told}
+use borrow.Author.Needs.{needs}
 use Rattle.sigbrol.proofs.pairs_of.sigbrol_depth.Statement.{statement}
 use Rattle.sigbrol.proofs.pairs_of.sigbrol_depth.Tie as tie
 
@@ -29,6 +30,9 @@ depth-requires c κs = tt
 
 enum-known-amount : tie.Need-enum-known-amount
 enum-known-amount c = c .match .keys1
+
+cast-depth : tie.Need-cast-depth
+cast-depth c = let called : tie.After-depth = search in let small = called .depth .ensures .1 _ (c .before .amount .given .1) in search needs
 
 done-requires : tie.Need-done-requires
 done-requires c κs = tt
@@ -61,6 +65,7 @@ sigbrol-depth-spec =
     direction-of-requires
     depth-requires
     enum-known-amount
+    cast-depth
     done-requires
     enum-known-refusal
     refused-requires

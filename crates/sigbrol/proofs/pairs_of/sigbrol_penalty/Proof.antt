@@ -6,6 +6,7 @@ use Rattle.model.specs.Refusal.{Outcome}
 use Rattle.model.specs.Calls.{penaltyCall}
 use Rattle.c_interface.specs.Numbers.{lentAs}
 use Rattle.sigbrol.proofs.Told.{reply-by, leaves-by, number-told}
+use borrow.Author.Needs.{needs}
 use Rattle.sigbrol.proofs.pairs_of.sigbrol_penalty.Statement.{statement}
 use Rattle.sigbrol.proofs.pairs_of.sigbrol_penalty.Tie as tie
 
@@ -26,6 +27,9 @@ penalty-requires c κs = tt
 
 enum-known-amount : tie.Need-enum-known-amount
 enum-known-amount c = c .match .keys1
+
+cast-penalty : tie.Need-cast-penalty
+cast-penalty c = let called : tie.After-penalty = search in let small = called .penalty .ensures .1 _ (c .before .amount .given .1) in search needs
 
 done-requires : tie.Need-done-requires
 done-requires c κs = tt
@@ -57,6 +61,7 @@ sigbrol-penalty-spec =
     size-of-requires
     penalty-requires
     enum-known-amount
+    cast-penalty
     done-requires
     enum-known-refusal
     refused-requires
