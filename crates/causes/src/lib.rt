@@ -7,8 +7,10 @@ use layout_places::numbers::pair_count;
 use layout_places::place_at;
 use model::DoneAnswer;
 use model::JobSize;
+use model::PIECE_BOUND;
 use model::PieceEntry;
 use model::PlaceEntry;
+use model::WEIGHT_BOUND;
 use model::refused;
 ghost use mathlib.Core.Path.{_≡_};
 ghost use mathlib.Core.Bool.{not, _||_};
@@ -128,7 +130,7 @@ pub fn layout_causes(
 fn weights_missing(weights: &[u32], n: usize) -> bool
     ensures { λ r. ⌜ (n ≤ pieceBound → r ≡ not (eqb (length (now (weights .entry))) (length (pairs n)))) ⌝ }
 {
-    if 64 < n {
+    if PIECE_BOUND < n {
         return false;
     }
     weights.len() != pair_count(n)
@@ -143,7 +145,7 @@ fn some_weight_wrong(weights: &[u32]) -> bool
         if weights[k] == 0 {
             return true;
         }
-        if 65535 < weights[k] {
+        if WEIGHT_BOUND < weights[k] {
             return true;
         }
         k += 1;
