@@ -1,6 +1,6 @@
 -- How the sheet record stands in a lent buffer: for each of the 64 piece numbers laid (1 or 0), degrees, x, y. Assumes nothing.
 use mathlib.Core.Bool.{Bool, true, false, _&&_}
-use mathlib.Core.List.{List, [], _∷_, map}
+use mathlib.Core.List.{List, _∷_, map}
 use Prim.Native.Nat.{ℕ}
 use lib.Dec.{ltb, eqb}
 use lib.ListN.{getD}

@@ -4,7 +4,6 @@ use model::Entry;
 use model::PIECE_BOUND;
 use model::Record;
 ghost use mathlib.Core.Path.{_≡_};
-ghost use mathlib.Core.List.{[], _∷_};
 ghost use Rattle.c_interface.specs.Records.{entryNumbers, entryOfNumbers, recordNumbers, recordIn, strayEntry};
 
 // The entry that no list of calls gives.

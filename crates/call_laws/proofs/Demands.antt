@@ -23,7 +23,10 @@ use Rattle.model.specs.Refusal.{refused, given, wrongLength}
 use Rattle.model.specs.JobText.{readJob}
 use Rattle.model.specs.Store.{turnIn, pieceStrips}
 use Rattle.model.specs.Program.{inputBound, refusalText, programText}
-use Rattle.model.specs.Calls.{Stores, stripsCall, storesAfter, stretchWell, usedLengthCall, descentAfter, bestAfterRun, weightsAfterRun, stretchCall, stretchGiven, stretchNumber, LentStretch, noFitCall, stripsWell, rebuildCall, shareCall, depthCall, penaltyCall, weightedSumCall, plainSumCall, searchCall, descentCall, guidedCall, writeLayoutCall, readLayoutCall, startCall, checkCall, freshCall, layCall, withdrawCall}
+use Rattle.model.specs.Calls.{Stores, stripsCall, storesAfter, stretchWell, usedLengthCall, descentAfter, bestAfterRun, weightsAfterRun, stretchCall}
+use Rattle.model.specs.Calls.{stretchGiven, stretchNumber, LentStretch, noFitCall, stripsWell, rebuildCall, shareCall, depthCall, penaltyCall, weightedSumCall}
+use Rattle.model.specs.Calls.{plainSumCall, searchCall, descentCall, guidedCall, writeLayoutCall, readLayoutCall, startCall, checkCall, freshCall, layCall}
+use Rattle.model.specs.Calls.{withdrawCall}
 use Rattle.model.specs.declared.Turn.{Turn}
 use Rattle.model.specs.declared.Direction.{Direction}
 use Rattle.model.specs.declared.Line.{Line}
@@ -33,7 +36,7 @@ use Rattle.text_laws.proofs.JobRead.{job-read-well}
 use Rattle.text_laws.specs.Texts.{Readable, Demand1Text}
 use Rattle.text_laws.proofs.Demand1Text.{demand1-text}
 use Rattle.text_laws.proofs.LentRead.{lent-well-readable}
-use Rattle.overlap_laws.specs.Overlap.{SharedPixel, LeastShift}
+use Rattle.overlap_laws.specs.Overlap.{SharedPixel}
 use Rattle.overlap_laws.specs.NoFit.{NoFitLine}
 use Rattle.cover_laws.specs.Effects.{LayGives, WithdrawGives}
 use Rattle.cover_laws.specs.CoverClaims.{CoverHolds}

@@ -19,7 +19,8 @@ use Rattle.model.specs.Descent.{Descent, descend}
 use Rattle.model.specs.Guided.{Guided, guide, rounds}
 use Rattle.model.specs.Lent.{Lent, jobOf, lentWell, upTo}
 use Rattle.model.specs.Refusal.{given}
-use Rattle.model.specs.Calls.{budgetBound, roundBound, someWeightWrong, bestPlace, searchCall, descentCall, descentAfter, guidedCall, bestAfterRun, weightsAfterRun}
+use Rattle.model.specs.Calls.{budgetBound, roundBound, someWeightWrong, bestPlace, searchCall, descentCall, descentAfter, guidedCall, bestAfterRun}
+use Rattle.model.specs.Calls.{weightsAfterRun}
 use Rattle.model.specs.declared.Turn.{Turn}
 use Rattle.model.specs.declared.Line.{Line}
 use Rattle.list_laws.proofs.Tests.{or-neither, passes, or-none}

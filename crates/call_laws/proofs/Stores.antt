@@ -17,7 +17,8 @@ use Rattle.model.specs.Layout.{Job, turnedPiece}
 use Rattle.model.specs.Lent.{Lent, jobOf, lentWell}
 use Rattle.model.specs.Refusal.{Outcome, refused, given}
 use Rattle.model.specs.Store.{pieceStrips, storeFrom, startsFrom, store, starts, storeWell, stretchIn, turnIn}
-use Rattle.model.specs.Calls.{Stores, storesOf, storesWell, storesAfter, stripsCall, stretchWell, stretchOf, turnListWrong, stretchCall, stretchGiven, stretchNumber}
+use Rattle.model.specs.Calls.{Stores, storesOf, storesWell, storesAfter, stripsCall, stretchWell, stretchOf, turnListWrong, stretchCall, stretchGiven}
+use Rattle.model.specs.Calls.{stretchNumber}
 use Rattle.model.specs.declared.Refusal.{Refusal}
 use Rattle.model.specs.declared.Turn.{Turn}
 use Rattle.model.specs.declared.Direction.{Direction}
@@ -114,7 +115,8 @@ pub stretch-some : (l : Lent) (ts : List ℕ) (lent : Stores) (i : ℕ) (d : Dir
 unfolding stretchCall jobOf pieceStrips
 stretch-some l ts lent i d part e =
     let u = given-unless _ (stretchOf d lent i) part e in
-    let there : i < l .size .count = ltb-true i (l .size .count) (not-false _ (or-neither (turnListWrong (jobOf l) ts) (not (ltb i (l .size .count))) (u .none .1 .0) .1)) in
+    let there : i < l .size .count =
+    ltb-true i (l .size .count) (not-false _ (or-neither (turnListWrong (jobOf l) ts) (not (ltb i (l .size .count))) (u .none .1 .0) .1)) in
     let are : part ≡ map stripEntry (pieceStrips d (jobOf l) ts i) =
     sym (u .same) ∙ stretch-of d (jobOf l) ts lent i (not-false (storesWell (jobOf l) ts lent) (u .none .1 .1 .0)) there in
     let size = length-map (pieceStrips d (jobOf l) ts i) stripEntry in

@@ -25,7 +25,8 @@ use Rattle.model.specs.Program.{inputBound, printed, programText, programCall}
 use Rattle.model.specs.Calls.{someTurnWrong, someOutside, someWeightWrong, turnListWrong, Stores, storesOf, storesShort, storesWell, storesAfter, stripsCall}
 use Rattle.model.specs.Calls.{stretchOf, stretchCall, stretchGiven, stretchNumber, LentStretch, known, stretchWell, noFitOf, noFitCall, runsAfter}
 use Rattle.model.specs.Calls.{rebuiltFrom, stripsWell, rebuildCall, pixelsAfter, shareCall, depthCall, penaltyCall, weightedSumCall, plainSumCall}
-use Rattle.model.specs.Calls.{usedLengthCall, bestPlace, searchCall, budgetBound, roundBound, descentCall, descentAfter, guidedCall, bestAfterRun, weightsAfterRun}
+use Rattle.model.specs.Calls.{usedLengthCall, bestPlace, searchCall, budgetBound, roundBound, descentCall, descentAfter, guidedCall, bestAfterRun}
+use Rattle.model.specs.Calls.{weightsAfterRun}
 use Rattle.model.specs.Calls.{tableAfter, storeAfter, layoutAfter, writeLayoutCall, textAfter, readLayoutCall, startCall, sharedCause, checkCall}
 use Rattle.model.specs.Calls.{freshCall, countsAfter, layCall, withdrawCall}
 use Rattle.model.specs.declared.Turn.{Turn}

@@ -16,7 +16,8 @@ use Rattle.model.specs.declared.Placement.{Placement}
 use Rattle.model.specs.declared.Entry.{Entry}
 use Rattle.cover_laws.specs.Effects.{LayGives, WithdrawGives}
 use Rattle.cover_laws.proofs.Calls.{LayTaken, WithdrawTaken, lay-given, withdraw-given}
-use Rattle.cover_laws.proofs.Counts.{Sound, lay-entry, lay-others, withdraw-entry, withdraw-others, lay-counts, withdraw-counts, covered-counts, counts-bound, lay-sound, withdraw-sound, fresh-sound, call-sound}
+use Rattle.cover_laws.proofs.Counts.{Sound, lay-entry, lay-others, withdraw-entry, withdraw-others, lay-counts, withdraw-counts, covered-counts}
+use Rattle.cover_laws.proofs.Counts.{counts-bound, lay-sound, withdraw-sound, fresh-sound, call-sound}
 use Rattle.cover_laws.proofs.Reached.{well-sound, sound-well, lay-withdraw}
 
 -- a lay of a piece that is laid, in an allowed turn, is refused with 13

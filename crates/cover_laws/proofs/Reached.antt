@@ -26,7 +26,8 @@ use Rattle.model.specs.declared.Entry.{Entry}
 use Rattle.list_laws.proofs.Bounded.{all-at, all-from}
 use Rattle.list_laws.proofs.Tests.{and-left, and-right, and-both, or-cases, or-right, clash, decided}
 use Rattle.cover_laws.proofs.Calls.{LayTaken, WithdrawTaken, lay-taken, calls-append}
-use Rattle.cover_laws.proofs.Counts.{Sound, LaidWell, lay-entry, lay-others, withdraw-entry, withdraw-others, lay-sound, withdraw-sound, fresh-entry, reached-sound, same-count}
+use Rattle.cover_laws.proofs.Counts.{Sound, LaidWell, lay-entry, lay-others, withdraw-entry, withdraw-others, lay-sound, withdraw-sound, fresh-entry}
+use Rattle.cover_laws.proofs.Counts.{reached-sound, same-count}
 
 -- ── the test of a sheet ──
 
@@ -90,7 +91,8 @@ unfolding sheetWell
 well-sound j s h =
     let parts =
     and-four (eqb (length (s .pieces)) pieceBound) (allBelow pieceBound (entryWell j (s .pieces)))
-    (eqb (length (s .counts)) (j .size .rows * j .size .columns)) (allBelow (j .size .rows * j .size .columns) (λ k. eqb (getD (s .counts) k 0) (laidCount j (s .pieces) k))) h
+    (eqb (length (s .counts)) (j .size .rows * j .size .columns))
+    (allBelow (j .size .rows * j .size .columns) (λ k. eqb (getD (s .counts) k 0) (laidCount j (s .pieces) k))) h
     in
     let pieces : length (s .pieces) ≡ pieceBound = eqb-true (length (s .pieces)) pieceBound (parts .0) in
     record {

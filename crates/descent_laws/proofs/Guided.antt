@@ -16,7 +16,8 @@ use Rattle.model.specs.Descent.{Descent, descend}
 use Rattle.model.specs.Guided.{weightBound, raisedOver, raised, Round, isClear, weightsAfter, roundFrom, rounds, bestOf, bestAfter, lastWeights, outcome, guide}
 use Rattle.model.specs.declared.End.{End}
 use Rattle.model.specs.declared.End.the-variants.{Clear, Settled, Spent}
-use Rattle.descent_laws.specs.Claims.{InRange, ValidWeights, ValidLayout, NoSharedPixel, DescentClaims, RoundClaims, Follows, roundAt, RoundsClaims, RoundEnd, GuidedClaims}
+use Rattle.descent_laws.specs.Claims.{InRange, ValidWeights, ValidLayout, NoSharedPixel, DescentClaims, RoundClaims, Follows, roundAt, RoundsClaims}
+use Rattle.descent_laws.specs.Claims.{RoundEnd, GuidedClaims}
 use Rattle.descent_laws.proofs.Sums.{zero-exactly}
 use Rattle.descent_laws.proofs.Run.{impossible}
 use Rattle.descent_laws.proofs.Descent.{descent-claims}

@@ -29,8 +29,10 @@ record Fits (j : Job) (i : ℕ) (t : Turn) (line : Line) (a : ℕ) : Type 0 wher
 -- inside means that it fits across and along
 inside-fits : (j : Job) (i : ℕ) (t : Turn) (line : Line) (a : ℕ) → inside j i (onLine line t a) ≡ true → Fits j i t line a
 unfolding inside
-inside-fits j i t (InRow r) a e = record { across = leb-true _ _ (and-right (leb (a + turnedPiece j i t .columns) (j .size .columns)) _ e); along = leb-true _ _ (and-left _ _ e) }
-inside-fits j i t (InColumn c) a e = record { across = leb-true _ _ (and-left _ _ e); along = leb-true _ _ (and-right (leb (c .0 + turnedPiece j i t .columns) (j .size .columns)) _ e) }
+inside-fits j i t (InRow r) a e =
+    record { across = leb-true _ _ (and-right (leb (a + turnedPiece j i t .columns) (j .size .columns)) _ e); along = leb-true _ _ (and-left _ _ e) }
+inside-fits j i t (InColumn c) a e =
+    record { across = leb-true _ _ (and-left _ _ e); along = leb-true _ _ (and-right (leb (c .0 + turnedPiece j i t .columns) (j .size .columns)) _ e) }
 
 -- what fits across and along is inside
 fits-inside : (j : Job) (i : ℕ) (t : Turn) (line : Line) (a : ℕ) → Fits j i t line a → inside j i (onLine line t a) ≡ true

@@ -12,7 +12,8 @@ use Rattle.model.specs.Refusal.{Outcome, refused, given, cause, unless, wrongFo
 use Rattle.model.specs.Lent.{Lent}
 use Rattle.model.specs.Piece.{tight}
 use Rattle.model.specs.Text.{andThen, causeIn}
-use Rattle.model.specs.JobText.{JobLine, PieceLine, pixelMark, Rows, rowsAt, boxShape, PieceText, rowsCauses, asPieceText, pieceLine, pieceAt, Pieces, withPiece, noPieces, piecesAt, asLent, bufferCauses, jobLine, readJob}
+use Rattle.model.specs.JobText.{JobLine, PieceLine, pixelMark, Rows, rowsAt, boxShape, PieceText, rowsCauses, asPieceText, pieceLine, pieceAt, Pieces}
+use Rattle.model.specs.JobText.{withPiece, noPieces, piecesAt, asLent, bufferCauses, jobLine, readJob}
 use Rattle.model.specs.declared.Refusal.{Refusal}
 use borrow.Author.Tests.{eq-eqb, ne-eqb}
 use Rattle.list_laws.proofs.Stores.{sets-append}
@@ -216,8 +217,12 @@ module _ (text : List ℕ) (j : JobLine) (left i area p line : ℕ) (table : Lis
       let f : Entered i area table lastTable store lastStore t = subst (PieceStored i area table lastTable store lastStore) (o .gives) k in
       let l : suc (line + t .rows) ≡ line + t .rows + 1 = omega arith in
       pieces-more t (o .gives)
-      ∙ ap (λ (n : ℕ). fillPieces text j left (suc i) (area + t .columns * t .rows) (t .next) n (set table i (t .columns ∷ t .rows ∷ t .turns ∷ [])) (sets store area (t .pixels))) l
-      ∙ ap (λ (q : Place). fillPieces text j left (suc i) (q .area) (q .next) (q .line) (set table i (t .columns ∷ t .rows ∷ t .turns ∷ [])) (sets store area (t .pixels))) (sym (o .same))
+      ∙ ap (λ (n : ℕ).
+      fillPieces text j left (suc i) (area + t .columns * t .rows) (t .next) n (set table i (t .columns ∷ t .rows ∷ t .turns ∷ []))
+      (sets store area (t .pixels))) l
+      ∙ ap (λ (q : Place).
+      fillPieces text j left (suc i) (q .area) (q .next) (q .line) (set table i (t .columns ∷ t .rows ∷ t .turns ∷ [])) (sets store area (t .pixels)))
+      (sym (o .same))
       ∙ ap (λ (b : List (List ℕ)). fillPieces text j left (suc i) (at .area) (at .next) (at .line) b (sets store area (t .pixels))) (sym (f .entry))
       ∙ ap (λ (b : List ℕ). fillPieces text j left (suc i) (at .area) (at .next) (at .line) lastTable b) (sym (f .pixels))
 
@@ -294,7 +299,8 @@ module _ (text : List ℕ) (j : JobLine) (tableLength pixelsLength : ℕ) where
 
   -- a buffer is too short
   pub room-short : (x : Pieces) → piecesAt text j (j .size .count) 0 0 (j .next) 2 ≡ given x
-      → (ltb tableLength (j .size .count) || ltb pixelsLength (length (x .pixels))) ≡ true → roomed text j tableLength pixelsLength ≡ refused (refusalAt wrongLength 0)
+      → (ltb tableLength (j .size .count) || ltb pixelsLength (length (x .pixels))) ≡ true
+      → roomed text j tableLength pixelsLength ≡ refused (refusalAt wrongLength 0)
   unfolding unless
   room-short x e b = ap (λ (y : Outcome Pieces). andThen y there) e ∙ ap (λ (t : Bool). unless (cause wrongLength t ∷ []) (asLent j x)) b
 

@@ -1,7 +1,7 @@
 -- What numbers in range say of their bounds. Assumes nothing.
 use mathlib.Core.Bool.{true}
 use mathlib.Core.Path.{_≡_}
-use Prim.Native.Nat.{ℕ, _*_, _≤_}
+use Prim.Native.Nat.{_*_, _≤_}
 use native.Mathlib.Nat.{mul-le-mul}
 use Rattle.model.specs.Lent.{pieceBound, rowBound, columnBound, numbersInRange}
 use Rattle.model.specs.declared.JobSize.{JobSize}

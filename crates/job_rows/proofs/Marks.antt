@@ -130,7 +130,8 @@ pub record RowMarks (text : List ℕ) (p n : ℕ) (ms : List ℕ) (q : ℕ) : Ty
   pub size : length ms ≡ n
   pub pixel : (k : ℕ) → k < n → eqb (getD ms k 0) 1 ≡ eqb (byte text (p + k)) pixelMark
 
-marks-first : (text : List ℕ) (p n m : ℕ) (ms : List ℕ) (q : ℕ) → eqb m 1 ≡ eqb (byte text p) pixelMark → RowMarks text (suc p) n ms q → RowMarks text p (suc n) (m ∷ ms) q
+marks-first : (text : List ℕ) (p n m : ℕ) (ms : List ℕ) (q : ℕ) → eqb m 1 ≡ eqb (byte text p) pixelMark → RowMarks text (suc p) n ms q
+    → RowMarks text p (suc n) (m ∷ ms) q
 marks-first text p n m ms q e h = record { next = let a = h .next in omega arith; size = ap suc (h .size); pixel = at }
   where
     at : (k : ℕ) → k < suc n → eqb (getD (m ∷ ms) k 0) 1 ≡ eqb (byte text (p + k)) pixelMark
@@ -202,7 +203,8 @@ module _ (text : List ℕ) (l p : ℕ) where
 
       go : (b : Bool) → b ≡ eqb (byte text (p + 4 + l)) 10 → MarksStored at before last b (rowAt text l p)
       go true e =
-          let s : standsAt (lineEnd ∷ []) text (k .next) ≡ true = one-stands text (k .next) 10 (ap (byte text) q ∙ eqb-true (byte text (p + 4 + l)) 10 (sym e)) in
+          let s : standsAt (lineEnd ∷ []) text (k .next) ≡ true =
+          one-stands text (k .next) 10 (ap (byte text) q ∙ eqb-true (byte text (p + 4 + l)) 10 (sym e)) in
           rw (here ∙ after-word (lineEnd ∷ []) text (k .next) (λ next. got (k .marks) next) s) (refl, k .stores)
       go false e =
           let s : standsAt (lineEnd ∷ []) text (k .next) ≡ false =

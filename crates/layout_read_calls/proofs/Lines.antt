@@ -27,7 +27,8 @@ use Rattle.layout_read_calls.specs.declared.PlaceAnswer.{PlaceAnswer}
 -- degrees above 270 are those of no turn
 pub no-turn-above : (d : ℕ) → 270 < d → turnOfDegrees d ≡ none
 unfolding turnOfDegrees
-no-turn-above d h = rw (ne-eqb d 0 (λ e. omega arith), ne-eqb d 90 (λ e. omega arith), ne-eqb d 180 (λ e. omega arith), ne-eqb d 270 (λ e. omega arith), turnOfDegrees)
+no-turn-above d h =
+    rw (ne-eqb d 0 (λ e. omega arith), ne-eqb d 90 (λ e. omega arith), ne-eqb d 180 (λ e. omega arith), ne-eqb d 270 (λ e. omega arith), turnOfDegrees)
 
 -- by the test whether the line names the piece
 turn-known-at : (d : ℕ) (t : Turn) (b : Bool) → elim b as (λ _. Option Turn) [ true ↦ turnOfDegrees d | false ↦ none ] ≡ some t
@@ -36,7 +37,8 @@ unfolding isTurn turnOf
 turn-known-at d t true e = (rw (e, turnPasses), rw (e, turnOf))
 turn-known-at d t false e = let z : _≡_ {A = ℕ} 0 1 = cc in absurd (omega arith)
 
-turn-unknown-at : (d : ℕ) (b : Bool) → _≡_ {A = Option Turn} (elim b as (λ _. Option Turn) [ true ↦ turnOfDegrees d | false ↦ none ]) none → (b && isTurn d) ≡ false
+turn-unknown-at : (d : ℕ) (b : Bool) → _≡_ {A = Option Turn} (elim b as (λ _. Option Turn) [ true ↦ turnOfDegrees d | false ↦ none ]) none
+    → (b && isTurn d) ≡ false
 unfolding isTurn
 turn-unknown-at d true e = rw (e, turnPasses)
 turn-unknown-at d false e = refl
@@ -54,7 +56,8 @@ module _ (j : Job) (text : List ℕ) where
     unfolding layoutLine unless
     layout-line-unlike h = rw (e, formed, h, unless)
 
-    pub layout-line-given : (eqb (field ks 0) (j .size .rows) && eqb (field ks 1) (j .size .columns) && eqb (field ks 2) (j .size .count)) ≡ true → layoutLine j text ≡ given next
+    pub layout-line-given : (eqb (field ks 0) (j .size .rows) && eqb (field ks 1) (j .size .columns) && eqb (field ks 2) (j .size .count)) ≡ true
+        → layoutLine j text ≡ given next
     unfolding layoutLine unless
     layout-line-given h = rw (e, formed, h, unless)
 
@@ -100,7 +103,8 @@ clipped-past u x k n e h = at (leb x 65535) refl
     at true t = let g = leb-true x 65535 t in let s : u ≡ x = omega arith in rw s
     at false t = let g = leb-false x 65535 t in lt-leb (u + k) n (omega arith) ∙ sym (lt-leb (x + k) n (omega arith))
 
-module _ (j : Job) (i : ℕ) (t : Turn) (x y u v : ℕ) (rows : j .size .rows ≤ rowBound) (columns : j .size .columns ≤ columnBound) (a : u ≡ min x 65535) (b : v ≡ min y 65535) where
+module _ (j : Job) (i : ℕ) (t : Turn) (x y u v : ℕ) (rows : j .size .rows ≤ rowBound) (columns : j .size .columns ≤ columnBound) (a : u ≡ min x 65535)
+    (b : v ≡ min y 65535) where
   -- the corner by its clipped fields is inside exactly where the corner is
   pub clipped-inside : inside j i (placeAt t u v) ≡ inside j i (placeAt t x y)
   unfolding inside

@@ -88,4 +88,5 @@ module _ (job : List ℕ → Job) (count : ℕ) (text : List ℕ) (p : ℕ) (bef
 
     pub progress-end : count ≤ i → at ≡ length text → (pixels : List ℕ) → placementsAt (job pixels) text count 0 p 2 ≡ given (h .front)
     unfolding placementsAt unless
-    progress-end l n pixels = let left : count - i ≡ 0 = omega arith in h .goes pixels ∙ rw (left, placementsAt, eq-eqb _ _ n) (ap given (append-nil (h .front)))
+    progress-end l n pixels = let left : count - i ≡ 0 = omega arith in
+        h .goes pixels ∙ rw (left, placementsAt, eq-eqb _ _ n) (ap given (append-nil (h .front)))

@@ -69,7 +69,8 @@ module _ (l : Lent) (text : List ℕ) (p room : ℕ) where
   unfolding jobOf unless
   from-unlike v e n = rw (e, ne-eqb room (l .size .count) n)
 
-  pub from-given : (v : Layout) → placementsAt (jobOf l) text (l .size .count) 0 p 2 ≡ given v → room ≡ l .size .count → layoutFrom (jobOf l) text p room ≡ given v
+  pub from-given : (v : Layout) → placementsAt (jobOf l) text (l .size .count) 0 p 2 ≡ given v → room ≡ l .size .count
+      → layoutFrom (jobOf l) text p room ≡ given v
   unfolding jobOf unless
   from-given v e n = rw (e, eq-eqb room (l .size .count) n)
 

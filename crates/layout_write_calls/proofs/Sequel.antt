@@ -62,7 +62,8 @@ left-none h = (let e = h .end in omega arith, h .memory)
 -- ── lines ──
 
 -- three fields one after the other
-pub three-text : (a b c : ℕ) → ((digits a ++ (comma ∷ [])) ++ (digits b ++ (comma ∷ []))) ++ (digits c ++ (lineEnd ∷ [])) ≡ lineText [] threeFields (a ∷ b ∷ c ∷ [])
+pub three-text : (a b c : ℕ)
+    → ((digits a ++ (comma ∷ [])) ++ (digits b ++ (comma ∷ []))) ++ (digits c ++ (lineEnd ∷ [])) ≡ lineText [] threeFields (a ∷ b ∷ c ∷ [])
 unfolding fieldsText
 three-text a b c = simp append-assoc
 

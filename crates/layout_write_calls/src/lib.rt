@@ -2,7 +2,7 @@
 // call says no'.
 ghost use mathlib.Core.Path.{_≡_};
 ghost use mathlib.Core.List.{List, [], _∷_, _++_};
-ghost use Prim.Native.Nat.{ℕ, _+_, _*_, _<_, _≤_};
+ghost use Prim.Native.Nat.{ℕ, _<_, _≤_};
 ghost use lib.ListN.{length};
 ghost use lib.Seq.{sets};
 ghost use Rattle.model.specs.Answers.{countAnswer};
@@ -10,7 +10,7 @@ ghost use Rattle.model.specs.Lent.{lentBy, jobOf, rowBound, columnBound, pieceB
 ghost use Rattle.model.specs.Buffer.{layoutOf};
 ghost use Rattle.model.specs.Text.{digits, lineText, threeFields};
 ghost use Rattle.model.specs.Layout.{placeOf};
-ghost use Rattle.model.specs.LayoutText.{layoutWord, placementText, placementsText, layoutText};
+ghost use Rattle.model.specs.LayoutText.{layoutWord, placementText, layoutText};
 ghost use Rattle.model.specs.Calls.{writeLayoutCall, textAfter};
 ghost use Rattle.layout_write_calls.specs.Written.{Written};
 use causes::layout_causes;

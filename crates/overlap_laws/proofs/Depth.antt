@@ -18,7 +18,8 @@ use Rattle.model.specs.declared.Direction.the-variants.{Horizontal, Vertical}
 use Rattle.list_laws.proofs.Tests.{or-cases, or-left, or-right, or-neither, passes, clash}
 use Rattle.list_laws.proofs.Bounded.{First, first-from}
 use Rattle.overlap_laws.specs.Overlap.{sharesShifted, PartingShift, LeastShift, SharedPixel}
-use Rattle.overlap_laws.proofs.Share.{SameDifference, SamePixels, share-pixels, share-witness, share-symmetric, share-difference, shared-along, pixel-along, along-shift, shift-zero}
+use Rattle.overlap_laws.proofs.Share.{SameDifference, SamePixels, share-pixels, share-witness, share-symmetric, share-difference, shared-along}
+use Rattle.overlap_laws.proofs.Share.{pixel-along, along-shift, shift-zero}
 
 -- ── what it is to be apart at a shift ──
 
@@ -53,7 +54,15 @@ module _ (d : Direction) (s : Shape) (u : Point) (t : Shape) (v : Point) where
       let both = not-apart k e in
       let w : SharedPixel s u t (shift d k v) = share-witness s u t (shift d k v) (both .0) in
       let z : SharedPixel s (shift d k u) t v = share-witness s (shift d k u) t v (both .1) in
-      omega (arith, along-shift d k u, along-shift d k v, shared-along d w, shared-along d z, pixel-along d s (w .p) (w .ofFirst), pixel-along d t (z .q) (z .ofSecond)))
+      omega (
+        arith,
+        along-shift d k u,
+        along-shift d k v,
+        shared-along d w,
+        shared-along d z,
+        pixel-along d s (w .p) (w .ofFirst),
+        pixel-along d t (z .q) (z .ofSecond),
+      ))
 
   -- ── the depth ──
 

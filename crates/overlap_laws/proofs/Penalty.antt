@@ -15,7 +15,8 @@ use Rattle.list_laws.proofs.Tests.{clash, fails}
 use Rattle.overlap_laws.specs.Overlap.{PenaltyLaws, SharedPixel}
 use Rattle.overlap_laws.proofs.Share.{SameDifference, SamePixels, share-exactly, share-from, share-witness}
 use Rattle.overlap_laws.proofs.Depth.{depth-exactly, depth-zero, zero-depth, depth-symmetric, depth-difference, depth-pixels, depth-bound}
-use Rattle.overlap_laws.proofs.PixelDepth.{shares-at-shift, shares-unshifted, depth-over-pixels, over-pixels-depth, penalty-over-pixels, over-pixels-penalty}
+use Rattle.overlap_laws.proofs.PixelDepth.{shares-at-shift, shares-unshifted, depth-over-pixels, over-pixels-depth, penalty-over-pixels}
+use Rattle.overlap_laws.proofs.PixelDepth.{over-pixels-penalty}
 
 -- the smaller of two numbers is one of them
 min-one : (a b : ℕ) → (min a b ≡ a) ⊎ (min a b ≡ b)

@@ -2,7 +2,7 @@
 -- tells whether they share a pixel. Assumes nothing.
 use mathlib.Core.List.{List}
 use mathlib.Core.Path.{_≡_}
-use mathlib.Core.Logic.{_⊎_, ⊎-elim}
+use mathlib.Core.Logic.{⊎-elim}
 use Prim.Native.Nat.{ℕ, min, _<_, _≤_}
 use native.Mathlib.Nat.{eq-zero-or-pos}
 use native.Mathlib.Omega.{arith}
@@ -32,7 +32,8 @@ depth-shares d s u t v =
     (λ e. passes (share s u t v) (λ f. let z = depth-zero d s u t v f in omega (arith, eqb-true (min (depth d s u t v) 1) 1 e)))
     (λ e.
     eq-eqb (min (depth d s u t v) 1) 1
-    (⊎-elim (λ (z : depth d s u t v ≡ 0). absurd (clash e (zero-depth d s u t v z))) (λ (z : 0 < depth d s u t v). omega arith) (eq-zero-or-pos (depth d s u t v))))
+    (⊎-elim (λ (z : depth d s u t v ≡ 0). absurd (clash e (zero-depth d s u t v z))) (λ (z : 0 < depth d s u t v). omega arith)
+    (eq-zero-or-pos (depth d s u t v))))
 
 -- the lesser of two numbers
 cut : (a b m n : ℕ) → m ≡ a → n ≡ min b m → n ≡ min a b
@@ -47,7 +48,8 @@ module _ (size : JobSize) (table : List (List ℕ)) (pixels : List ℕ) (i : ℕ
   -- the depth of two ready pieces is at most 255
   ready-depth : (d : Direction) → measured (depth d) (jobOf (lentBy size table pixels)) i p k q ≤ 255
   ready-depth d =
-      depth-bound d _ (corner p) _ (corner q) (piece-extent size table pixels i (r .entry) (p .turn) d) (piece-extent size table pixels k (w .entry) (q .turn) d)
+      depth-bound d _ (corner p) _ (corner q) (piece-extent size table pixels i (r .entry) (p .turn) d)
+      (piece-extent size table pixels k (w .entry) (q .turn) d)
 
   -- so the bound 256 cuts nothing off
   pub ready-whole : (d : Direction) (n : ℕ) → n ≡ min (measured (depth d) (jobOf (lentBy size table pixels)) i p k q) 256

@@ -8,7 +8,7 @@ use native.Mathlib.Nat.{suc-mul, mul-suc, mul-comm}
 use native.Mathlib.Omega.{arith}
 use lib.ListN.{length, length-append, length-map}
 use Rattle.model.specs.Piece.{Shape, turned, extent, other, cell}
-use Rattle.model.specs.Strip.{Run, closing, runsFrom, stripOf, stripsFrom, strips}
+use Rattle.model.specs.Strip.{Run, closing, runsFrom, stripsFrom, strips}
 use Rattle.model.specs.declared.Turn.{Turn}
 use Rattle.model.specs.declared.Turn.the-variants.{Zero, Quarter, Half, ThreeQuarters}
 use Rattle.model.specs.declared.Direction.{Direction}

@@ -14,7 +14,7 @@ use borrow.Author.Tests.{ltb-true, ltb-false}
 use Rattle.model.specs.Bounded.{oneIf}
 use Rattle.model.specs.Strip.{Strip}
 use Rattle.list_laws.proofs.Numbers.{below-or}
-use Rattle.pair_overlap.specs.Meet.{stripAt, stripBegin, Ordered, shifted, meet}
+use Rattle.pair_overlap.specs.Meet.{stripAt, Ordered, shifted, meet}
 use Rattle.pair_overlap.specs.declared.Corner.{Corner}
 use Rattle.pair_overlap.proofs.Walk.{Meeting, meet-facts, facts-meet, meet-share}
 use Rattle.pair_nofit.specs.Marks.{ShiftReached, Sound, Grown, MeetingsKept, LineMarked, LineStart, PlacedAt, keptAt, farthest}
@@ -223,7 +223,8 @@ all-more es u fs v o before far after i j r b line e w t m =
 
 -- a buffer of noughts reaches nothing
 pub noughts-sound : (es : List (List ℕ)) (u : Corner) (fs : List (List ℕ)) (v : Corner) (n : ℕ) → Sound es u fs v (replicate n 0)
-noughts-sound es u fs v n m l r = absurd (omega (arith, r .low, r .high, getD-replicate {A = ℕ} n (r .at) 0 0 (omega (arith, r .low, length-replicate {A = ℕ} n 0))))
+noughts-sound es u fs v n m l r =
+    absurd (omega (arith, r .low, r .high, getD-replicate {A = ℕ} n (r .at) 0 0 (omega (arith, r .low, length-replicate {A = ℕ} n 0))))
 
 -- ── a buffer filled with noughts ──
 

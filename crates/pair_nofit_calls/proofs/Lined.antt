@@ -2,7 +2,7 @@
 use mathlib.Core.Bool.{Bool, true, false}
 use mathlib.Core.List.{List, [], _++_, map}
 use mathlib.Core.Path.{_≡_, refl, sym, ap, ap₂, _∙_}
-use Prim.Native.Nat.{ℕ, _+_, min, _<_, _≤_}
+use Prim.Native.Nat.{ℕ, min, _<_, _≤_}
 use native.Mathlib.Omega.{arith}
 use lib.Dec.{ltb, eqb}
 use lib.IntN.{ℤ}
@@ -48,7 +48,8 @@ marks-line es fs o x y n marks a b c e =
 none-stored : (rs : List Run) (last : List (List ℤ)) (needed : ℕ) → Put rs [] 0 last needed → length last ≡ 0
 none-stored rs last needed p = ap length (p .stored) ∙ length-sets [] 0 (map offsetEntry rs)
 
-module _ (es fs : List (List ℕ)) (o : ℤ) (rs : List Run) (r : rs ≡ lineRuns es fs o) (before last : List (List ℤ)) (needed : ℕ) (p : Put rs [] 0 last needed) where
+module _ (es fs : List (List ℕ)) (o : ℤ) (rs : List Run) (r : rs ≡ lineRuns es fs o) (before last : List (List ℤ)) (needed : ℕ)
+    (p : Put rs [] 0 last needed) where
   -- what the buffer holds after the count: what it held
   pub counted-same : last ++ before ≡ before
   counted-same = nothing-before last before (none-stored rs last needed p)
@@ -58,7 +59,8 @@ module _ (es fs : List (List ℕ)) (o : ℤ) (rs : List Run) (r : rs ≡ lineRun
       → (NumberAnswer.Refused w ≡ countAnswer (lineOutcome es fs o (length before))) × (last ++ before ≡ lineAfter before (lineOutcome es fs o (length before)))
   unfolding unless
   line-short l w e =
-      let t : ltb (length before) (length (lineRuns es fs o)) ≡ true = lt-ltb (length before) (length (lineRuns es fs o)) (omega (arith, p .end, ap length r, ap length counted-same)) in
+      let t : ltb (length before) (length (lineRuns es fs o)) ≡ true =
+      lt-ltb (length before) (length (lineRuns es fs o)) (omega (arith, p .end, ap length r, ap length counted-same)) in
       let g : lineOutcome es fs o (length before) ≡ refused (plainRefusal wrongLength) = rw (t, unless) in
       (ap NumberAnswer.Refused e ∙ ap countAnswer (sym g), counted-same ∙ ap (lineAfter before) (sym g))
 
@@ -67,7 +69,8 @@ module _ (es fs : List (List ℕ)) (o : ℤ) (rs : List Run) (r : rs ≡ lineRun
       → (NumberAnswer.Number n ≡ countAnswer (lineOutcome es fs o (length before))) × (after ≡ lineAfter before (lineOutcome es fs o (length before)))
   unfolding unless
   line-room l after n q =
-      let t : ltb (length before) (length (lineRuns es fs o)) ≡ false = le-ltb (length before) (length (lineRuns es fs o)) (omega (arith, p .end, ap length r, ap length counted-same)) in
+      let t : ltb (length before) (length (lineRuns es fs o)) ≡ false =
+      le-ltb (length before) (length (lineRuns es fs o)) (omega (arith, p .end, ap length r, ap length counted-same)) in
       let g : lineOutcome es fs o (length before) ≡ given (lineRuns es fs o) = rw (t, unless) in
       let m : n ≡ length (lineRuns es fs o) = omega (arith, q .end, ap length r) in (
         ap NumberAnswer.Number m ∙ ap countAnswer (sym g),

@@ -63,8 +63,10 @@ module _ (d : Direction) (s t : Shape) (lines : extent (other d) s ≤ 255) (lin
   cut-shares =
       same-tests _ _
       (λ e.
-      let w : StripsMeet (entries d s) (lowCorner o) (entries d t) (shifted k (highCorner o)) = share-meet (entries d s) (lowCorner o) (entries d t) (shifted k (highCorner o)) e in
-      let m : Meeting _ (lowCorner o) _ (shifted k (highCorner o)) = meet-facts (stripAt (entries d s) (w .i)) (lowCorner o) (stripAt (entries d t) (w .j)) (shifted k (highCorner o)) (w .meets) in
+      let w : StripsMeet (entries d s) (lowCorner o) (entries d t) (shifted k (highCorner o)) =
+      share-meet (entries d s) (lowCorner o) (entries d t) (shifted k (highCorner o)) e in
+      let m : Meeting _ (lowCorner o) _ (shifted k (highCorner o)) =
+      meet-facts (stripAt (entries d s) (w .i)) (lowCorner o) (stripAt (entries d t) (w .j)) (shifted k (highCorner o)) (w .meets) in
       meet-share (entries d s) (firstCorner o) (entries d t) (shifted k (secondCorner o)) (w .i) (w .j) (w .iBelow) (w .jBelow)
       (facts-meet (stripAt (entries d s) (w .i)) (firstCorner o) (stripAt (entries d t) (w .j)) (shifted k (secondCorner o))
       (record {
@@ -73,8 +75,10 @@ module _ (d : Direction) (s t : Shape) (lines : extent (other d) s ≤ 255) (lin
         high = m .high;
       })))
       (λ e.
-      let w : StripsMeet (entries d s) (firstCorner o) (entries d t) (shifted k (secondCorner o)) = share-meet (entries d s) (firstCorner o) (entries d t) (shifted k (secondCorner o)) e in
-      let m : Meeting _ (firstCorner o) _ (shifted k (secondCorner o)) = meet-facts (stripAt (entries d s) (w .i)) (firstCorner o) (stripAt (entries d t) (w .j)) (shifted k (secondCorner o)) (w .meets) in
+      let w : StripsMeet (entries d s) (firstCorner o) (entries d t) (shifted k (secondCorner o)) =
+      share-meet (entries d s) (firstCorner o) (entries d t) (shifted k (secondCorner o)) e in
+      let m : Meeting _ (firstCorner o) _ (shifted k (secondCorner o)) =
+      meet-facts (stripAt (entries d s) (w .i)) (firstCorner o) (stripAt (entries d t) (w .j)) (shifted k (secondCorner o)) (w .meets) in
       meet-share (entries d s) (lowCorner o) (entries d t) (shifted k (highCorner o)) (w .i) (w .j) (w .iBelow) (w .jBelow)
       (facts-meet (stripAt (entries d s) (w .i)) (lowCorner o) (stripAt (entries d t) (w .j)) (shifted k (highCorner o))
       (record {

@@ -5,7 +5,7 @@
 use mathlib.Core.Bool.{Bool, true, not, _||_}
 use mathlib.Core.List.{List, [], _∷_, map, List·Memᴰ, List·Memᴰ·head, List·Memᴰ·tail, List·Memᴰ·not-nil}
 use mathlib.Core.Path.{_≡_, refl, sym, ap, ap₂, _∙_, subst, subst₂}
-use mathlib.Core.Logic.{_⊎_, ⊎-elim}
+use mathlib.Core.Logic.{⊎-elim}
 use Prim.Native.Nat.{ℕ, zero, suc, _+_, _-_, min, _<_, _≤_}
 use native.Mathlib.Nat.{not-suc-le-zero, le-of-suc-le-suc, eq-or-lt-of-le}
 use native.Mathlib.Omega.{arith}
@@ -25,7 +25,8 @@ use Rattle.strip_laws.proofs.Lists.{pairwise-at}
 use Rattle.strip_laws.specs.Strips.{MaximalStrip, StripBefore}
 use Rattle.strip_laws.proofs.Strips.{InStrips, have-in, strips-exactly, strips-maximal, strips-ordered}
 use Rattle.overlap_laws.specs.Overlap.{SharedPixel}
-use Rattle.overlap_laws.proofs.Share.{share-witness, share-from, share-symmetric, shared-along, shared-across, shared-over, along-point, across-point, along-shift, across-shift}
+use Rattle.overlap_laws.proofs.Share.{share-witness, share-from, share-symmetric, shared-along, shared-across, shared-over, along-point, across-point}
+use Rattle.overlap_laws.proofs.Share.{along-shift, across-shift}
 use Rattle.overlap_laws.proofs.Depth.{depth-before, depth-apart}
 use Rattle.pair_overlap.specs.Meet.{stripAt, stripBegin, Ordered, shifted, meet, stretchesShare, clearAt, clearBelow, depthBelow, penaltyBelow}
 pub use Rattle.pair_overlap.specs.Seen.{entries, seen}
@@ -79,7 +80,8 @@ strips-order d s h i j l m =
     let w = a .within in
     ⊎-elim
     (λ (f : stripAt (entries d s) i .line < stripAt (entries d s) j .line). omega arith)
-    (λ (f : (stripAt (entries d s) i .line ≡ stripAt (entries d s) j .line) × (stripAt (entries d s) i .first + stripAt (entries d s) i .count < stripAt (entries d s) j .first)).
+    (λ (f : (stripAt (entries d s) i .line ≡ stripAt (entries d s) j .line)
+    × (stripAt (entries d s) i .first + stripAt (entries d s) i .count < stripAt (entries d s) j .first)).
     omega (arith, f .0, f .1))
     c)
     (eq-or-lt-of-le l)
@@ -89,7 +91,8 @@ pub entries-ordered : (d : Direction) (s : Shape) → extent d s ≤ 255 → Ord
 entries-ordered d s h =
     record {
       order = strips-order d s h;
-      low = λ i l. let w = strips-maximal d s _ (at-member (strips d s) i l) .within in let p = strips-maximal d s _ (at-member (strips d s) i l) .some in omega arith;
+      low = λ i l. let w = strips-maximal d s _ (at-member (strips d s) i l) .within in let p = strips-maximal d s _ (at-member (strips d s) i l) .some in
+          omega arith;
       short = λ i l. let w = strips-maximal d s _ (at-member (strips d s) i l) .within in omega arith;
     }
 

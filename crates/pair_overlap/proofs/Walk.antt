@@ -17,7 +17,8 @@ use Rattle.list_laws.proofs.Firsts.{first-found, first-unique, first-cut}
 use Rattle.list_laws.proofs.Numbers.{below-or}
 use Rattle.list_laws.proofs.Tests.{and-left, and-right, and-both, fails}
 use Rattle.list_laws.proofs.Bounded.{any-witness, any-from}
-use Rattle.pair_overlap.specs.Meet.{stripAt, stripBegin, Ordered, Crossing, CrossingsPassed, Skipped, shiftBound, baseOf, shifted, meet, stretchesShare, clearAt, clearBelow, depthBelow}
+use Rattle.pair_overlap.specs.Meet.{stripAt, stripBegin, Ordered, Crossing, CrossingsPassed, Skipped, shiftBound, baseOf, shifted, meet, stretchesShare}
+use Rattle.pair_overlap.specs.Meet.{clearAt, clearBelow, depthBelow}
 use Rattle.pair_overlap.specs.declared.Corner.{Corner}
 
 -- what it is for two placed strips to hold a common pixel

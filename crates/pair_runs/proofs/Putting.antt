@@ -3,10 +3,9 @@ use mathlib.Core.Bool.{Bool, true, false}
 use mathlib.Core.List.{List, [], _∷_, map}
 use mathlib.Core.Path.{_≡_, refl, sym, ap, ap₂, subst, _∙_}
 use Prim.Native.Nat.{ℕ, zero, suc, _+_, _-_, _<_, _≤_}
-use native.Mathlib.Nat.{add-zero, add-suc}
+use native.Mathlib.Nat.{add-zero}
 use native.Mathlib.Numerals.{add-one}
 use native.Mathlib.Omega.{arith}
-use lib.Dec.{eqb}
 use lib.IntN.{ℤ, pos, subℕ}
 use lib.ListN.{length, getD, set}
 use lib.Seq.{sets, set-out, length-sets}
@@ -50,7 +49,8 @@ runs-end f k run = refl
 -- a run that ends, put before those that are left
 closing-stored : (k run : ℕ) (rest : List Run) (before mid : List (List ℤ)) (at next : ℕ) → Put (closing k run []) before at mid next
     → sets before at (map offsetEntry (closing k run rest)) ≡ sets mid next (map offsetEntry rest)
-closing-stored k zero rest before mid at next p = ap₂ (λ (l : List (List ℤ)) (i : ℕ). sets l i (map offsetEntry rest)) (sym (p .stored)) (sym (p .end ∙ add-zero at))
+closing-stored k zero rest before mid at next p =
+    ap₂ (λ (l : List (List ℤ)) (i : ℕ). sets l i (map offsetEntry rest)) (sym (p .stored)) (sym (p .end ∙ add-zero at))
 closing-stored k (suc run) rest before mid at next p =
     ap₂ (λ (l : List (List ℤ)) (i : ℕ). sets l i (map offsetEntry rest)) (sym (p .stored)) (sym (p .end ∙ add-one at))
 
@@ -129,7 +129,8 @@ module _ (marks : List ℕ) (first out : List (List ℤ)) (at count k : ℕ) (w 
   putting-end l after next p =
       let b = w .within in
       let n : length marks - k ≡ 0 = omega arith in
-      let r : runsFrom (marked marks) k (length marks - k) count ≡ closing k count [] = ap (λ (z : ℕ). runsFrom (marked marks) k z count) n ∙ runs-end (marked marks) k count in
+      let r : runsFrom (marked marks) k (length marks - k) count ≡ closing k count [] =
+      ap (λ (z : ℕ). runsFrom (marked marks) k z count) n ∙ runs-end (marked marks) k count in
       record {
         end = p .end ∙ ap (λ (z : List Run). at + length z) (sym r) ∙ w .counted ∙ omega arith;
         stored = p .stored ∙ ap (λ (z : List Run). sets out at (map offsetEntry z)) (sym r) ∙ w .stored;

@@ -55,7 +55,8 @@ TextLeaves input before r after =
 pub leaves-short : (input before : List ℕ) → length before < length (programText input) → length (programText input) ≤ outputBound
     → TextLeaves input before (NumberAnswer.Refused (plainRefusal wrongLength)) before
 unfolding programCall unless
-leaves-short input before h few = (rw (lt-ltb (length before) (length (programText input)) h), (rw (lt-ltb (length before) (length (programText input)) h), few))
+leaves-short input before h few =
+    (rw (lt-ltb (length before) (length (programText input)) h), (rw (lt-ltb (length before) (length (programText input)) h), few))
 
 -- one that it fits has it at the front
 pub leaves-text : (input before : List ℕ) → length (programText input) ≤ length before → length (programText input) ≤ outputBound

@@ -59,9 +59,11 @@ module _ (j : Job) (ws : List ℕ) (budget : ℕ) (v : Layout) (a : (k : ℕ) �
     pub underway-pass : (r : loop.Standing) (total : ℕ) → r ≡ loop.passed j s (attempt j ws (s .layout) (s .trial)) → total ≡ weightedSum j ws (r .layout)
         → ValidLayout j (r .layout) → Underway j ws budget v (left - 1) r total
     underway-pass r total e t h =
-        let valid : ValidLayout j (loop.passed j s (attempt j ws (s .layout) (s .trial)) .layout) = subst (λ (z : loop.Standing). ValidLayout j (z .layout)) e h in
+        let valid : ValidLayout j (loop.passed j s (attempt j ws (s .layout) (s .trial)) .layout) =
+        subst (λ (z : loop.Standing). ValidLayout j (z .layout)) e h in
         let there : Underway j ws budget v (left - 1) r (weightedSum j ws (r .layout)) =
-        subst (λ (z : loop.Standing). Underway j ws budget v (left - 1) z (weightedSum j ws (z .layout))) (sym e) (pass-at (attempt j ws (s .layout) (s .trial)) refl valid) in
+        subst (λ (z : loop.Standing). Underway j ws budget v (left - 1) z (weightedSum j ws (z .layout))) (sym e)
+        (pass-at (attempt j ws (s .layout) (s .trial)) refl valid) in
         subst (λ (n : ℕ). Underway j ws budget v (left - 1) r n) (sym t) there
 
 -- ── what holds before each pass of the code's loop ──

@@ -30,9 +30,12 @@ use Rattle.run_memory.specs.Done.{Descended}
 
 module _ (l : Lent) (es : List (List ℕ)) (ws : List ℕ) (budget : ℕ) where
   -- a cause refuses the descent
-  pub call-refused : (r : Refusal) → DoneAnswer.Refused r ≡ firstCause (weightedCauses l es ws (ltb budgetBound budget) false) → descentCall l es ws budget ≡ refused r
+  pub call-refused : (r : Refusal) → DoneAnswer.Refused r ≡ firstCause (weightedCauses l es ws (ltb budgetBound budget) false)
+      → descentCall l es ws budget ≡ refused r
   unfolding descentCall
-  call-refused r e = sym (run-asked l es _ ws (ltb budgetBound budget)) ∙ refused-alone (weightedCauses l es ws (ltb budgetBound budget) false) (descend (jobOf l) ws budget (layoutOf es)) r e
+  call-refused r e =
+      sym (run-asked l es _ ws (ltb budgetBound budget))
+      ∙ refused-alone (weightedCauses l es ws (ltb budgetBound budget) false) (descend (jobOf l) ws budget (layoutOf es)) r e
 
   module _ (none : NoCause (weightedCauses l es ws (ltb budgetBound budget) false)) where
     -- where none is there, the budget is in range

@@ -39,7 +39,8 @@ or-grouped false b c = refl
 
 module _ (l : Lent) (es : List (List ℕ)) (ws : List ℕ) (count budget : ℕ) where
   -- the call by the causes of a run
-  call-causes : guidedCall l es ws count budget ≡ unless (weightedCauses l es ws (numbersWrong count budget) false) (guide (jobOf l) count budget ws (layoutOf es))
+  call-causes : guidedCall l es ws count budget
+      ≡ unless (weightedCauses l es ws (numbersWrong count budget) false) (guide (jobOf l) count budget ws (layoutOf es))
   unfolding guidedCall
   call-causes =
       rw (or-grouped (someWeightWrong ws) (ltb budgetBound budget) (not (upTo roundBound count))) (sym (run-asked l es _ ws (numbersWrong count budget)))

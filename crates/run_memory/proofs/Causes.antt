@@ -4,7 +4,7 @@ use mathlib.Core.List.{List}
 use mathlib.Core.Path.{_≡_, sym, ap, _∙_}
 use Prim.Native.Nat.{ℕ, _≤_}
 use lib.ListN.{length, length-map}
-use Rattle.model.specs.Lent.{Lent, jobOf}
+use Rattle.model.specs.Lent.{Lent}
 use Rattle.model.specs.Buffer.{entryOf, placementOf, layoutOf, entriesOf}
 use Rattle.model.specs.Calls.{budgetBound}
 use Rattle.text_laws.proofs.Entries.{entries-read-back}

@@ -123,7 +123,8 @@ pub record Rounded (l : Lent) (width budget : ℕ) (layout best : List (List ℕ
     pub sumIs : sum′ ≡ betterSum plain sum
 
 -- before the first round the given layout is the best
-pub rounding-begin : {l : Lent} {width : ℕ} (count budget : ℕ) {layout best : List (List ℕ)} {weights penalties rowLines rowTags columnLines columnTags sums : List ℕ}
+pub rounding-begin : {l : Lent} {width : ℕ} (count budget : ℕ) {layout best : List (List ℕ)}
+    {weights penalties rowLines rowTags columnLines columnTags sums : List ℕ}
     {sum : ℕ} → 0 < jobOf l .size .count → LaidOut l layout penalties → LineStores (jobOf l) width rowLines rowTags columnLines columnTags sums
     → ValidWeights (jobOf l) weights → best ≡ layout → sum ≡ plainSum (jobOf l) (layoutOf layout)
     → Rounding l width weights count budget (layoutOf layout) layout best weights penalties rowLines rowTags columnLines columnTags sums sum 0 0 count
@@ -151,7 +152,8 @@ module _ {l : Lent} {width : ℕ} {ws₀ : List ℕ} {count budget : ℕ} {v₀ 
       pub rounding-done : left ≡ 0 → guide (jobOf l) count budget ws₀ v₀ ≡ guidedOf (layoutOf best) sum weights made moves
       rounding-done e = guided-done (jobOf l) ws₀ count budget v₀ some-piece left _ sum (h .underway) e
 
-      module _ {e : Ended} {layout′ best′ : List (List ℕ)} {penalties′ rowLines′ rowTags′ columnLines′ columnTags′ sums′ : List ℕ} {plain sum′ : ℕ} (more : 0 < left)
+      module _ {e : Ended} {layout′ best′ : List (List ℕ)} {penalties′ rowLines′ rowTags′ columnLines′ columnTags′ sums′ : List ℕ} {plain sum′ : ℕ}
+          (more : 0 < left)
           (r : Rounded l width budget layout best weights sum e layout′ best′ penalties′ rowLines′ rowTags′ columnLines′ columnTags′ sums′ plain sum′)
         where
           -- the better layout and its plain sum
@@ -171,12 +173,14 @@ module _ {l : Lent} {width : ℕ} {ws₀ : List ℕ} {count budget : ℕ} {v₀ 
           -- demand 3's claims hold of its descent
           round-said : DescentClaims (jobOf l) weights budget (layoutOf layout) (descentOf e (layoutOf layout′))
           round-said =
-              round-claims (jobOf l) ws₀ count budget v₀ some-piece left _ sum (h .underway) (descentOf e (layoutOf layout′)) (layoutOf best′) sum′ more (r .result)
+              round-claims (jobOf l) ws₀ count budget v₀ some-piece left _ sum (h .underway) (descentOf e (layoutOf layout′)) (layoutOf best′) sum′ more
+              (r .result)
               round-best round-sum
 
           -- a clear round ends the run: what holds with no round left
           round-clear : e .end ≡ Clear
-              → Rounding l width ws₀ count budget v₀ layout′ best′ weights penalties′ rowLines′ rowTags′ columnLines′ columnTags′ sums′ sum′ (made + e .made) (moves + e .moves) 0
+              → Rounding l width ws₀ count budget v₀ layout′ best′ weights penalties′ rowLines′ rowTags′ columnLines′ columnTags′ sums′ sum′ (made + e .made)
+              (moves + e .moves) 0
           round-clear c =
               let s : Guiding = guiding (layoutOf layout′) weights (layoutOf best′) (made + e .made) (moves + e .moves) in
               let few = h .underway .madeFew in
@@ -205,7 +209,8 @@ module _ {l : Lent} {width : ℕ} {ws₀ : List ℕ} {count budget : ℕ} {v₀ 
 
           -- any other: what holds before the next
           round-open : e .end ≢ Clear
-              → Rounding l width ws₀ count budget v₀ layout′ best′ (raised (jobOf l) (layoutOf layout′) weights) penalties′ rowLines′ rowTags′ columnLines′ columnTags′ sums′ sum′
+              → Rounding l width ws₀ count budget v₀ layout′ best′ (raised (jobOf l) (layoutOf layout′) weights) penalties′ rowLines′ rowTags′ columnLines′
+              columnTags′ sums′ sum′
               (made + e .made) (moves + e .moves) (left - 1)
           round-open c =
               record {
@@ -219,7 +224,8 @@ module _ {l : Lent} {width : ℕ} {ws₀ : List ℕ} {count budget : ℕ} {v₀ 
 
           -- by its end
           round-at : (end : End) → e .end ≡ end
-              → Rounding l width ws₀ count budget v₀ layout′ best′ (raisedAfter (jobOf l) (layoutOf layout′) end weights) penalties′ rowLines′ rowTags′ columnLines′
+              → Rounding l width ws₀ count budget v₀ layout′ best′ (raisedAfter (jobOf l) (layoutOf layout′) end weights) penalties′ rowLines′ rowTags′
+              columnLines′
               columnTags′ sums′ sum′ (made + e .made) (moves + e .moves) (leftAfter end left)
           round-at Clear c = round-clear c
           round-at Settled c = round-open (λ q. never (sym c ∙ q))
@@ -232,6 +238,8 @@ module _ {l : Lent} {width : ℕ} {ws₀ : List ℕ} {count budget : ℕ} {v₀ 
               never q = let z : _≡_ {A = ℕ} 0 1 = cc in omega arith
 
           -- what holds after a round
-          pub round-next : {weights′ : List ℕ} {left′ : ℕ} → weights′ ≡ raisedAfter (jobOf l) (layoutOf layout′) (e .end) weights → left′ ≡ leftAfter (e .end) left
-              → Rounding l width ws₀ count budget v₀ layout′ best′ weights′ penalties′ rowLines′ rowTags′ columnLines′ columnTags′ sums′ sum′ (made + e .made) (moves + e .moves) left′
+          pub round-next : {weights′ : List ℕ} {left′ : ℕ} → weights′ ≡ raisedAfter (jobOf l) (layoutOf layout′) (e .end) weights
+              → left′ ≡ leftAfter (e .end) left
+              → Rounding l width ws₀ count budget v₀ layout′ best′ weights′ penalties′ rowLines′ rowTags′ columnLines′ columnTags′ sums′ sum′ (made + e .made)
+              (moves + e .moves) left′
           round-next w m = rw (w, m) (round-at (e .end) refl)

@@ -49,7 +49,8 @@ unfolding jobOf
 laid-of l es T w h = record { well = w; whole = laid-length l es T h; valid = h .valid }
 
 -- a search in a direction e that is the store's
-pub search-ready : (l : Lent) (d e : Direction) (strips : List (List ℕ)) (starts : List ℕ) (es : List (List ℕ)) (ws : List ℕ) (width : ℕ) (T lines tags : List ℕ)
+pub search-ready : (l : Lent) (d e : Direction) (strips : List (List ℕ)) (starts : List ℕ) (es : List (List ℕ)) (ws : List ℕ) (width : ℕ)
+    (T lines tags : List ℕ)
     → e ≡ d → lentWell l ≡ true → LaidOut l es T → Shapes d (jobOf l) strips starts → ValidWeights (jobOf l) ws → Wide (jobOf l) width → width ≤ 512
     → Store d (jobOf l) width lines tags → SearchReady l e strips starts es ws width lines tags
 search-ready l d e strips starts es ws width T lines tags same w h s v wide narrow k =
@@ -82,7 +83,8 @@ store-again d e j width lines tags new newTags same k h n =
     let f = k .fits in
     record { kept = subst (λ (x : Direction). LinesKept x j width new newTags) same h; fits = omega arith }
 
-module _ (l : Lent) (ws : List ℕ) (es : List (List ℕ)) (T : List ℕ) (k : Trial) (proper : Proper (jobOf l) 0 (jobOf l .size .count) k) (h : LaidOut l es T) where
+module _ (l : Lent) (ws : List ℕ) (es : List (List ℕ)) (T : List ℕ) (k : Trial) (proper : Proper (jobOf l) 0 (jobOf l .size .count) k)
+    (h : LaidOut l es T) where
   -- the layout that a trial leaves is valid
   after-valid : (o : Option Best) → trialSearch (jobOf l) ws (layoutOf es) k ≡ o
       → ValidLayout (jobOf l) (layoutOf (entriesAfter es (k .piece) (k .turn) (trialLine (layoutOf es) k) o))

@@ -32,7 +32,8 @@ use Rattle.search_line_sums.proofs.Scans.{sumOf}
 -- ── before the search ──
 
 -- all but the weights
-pub lines-ready : {l : Lent} {d : Direction} {strips : List (List ℕ)} {starts : List ℕ} {layout : List (List ℕ)} {weights : List ℕ} {width : ℕ} {lines tags : List ℕ}
+pub lines-ready : {l : Lent} {d : Direction} {strips : List (List ℕ)} {starts : List ℕ} {layout : List (List ℕ)} {weights : List ℕ} {width : ℕ}
+    {lines tags : List ℕ}
     → SearchReady l d strips starts layout weights width lines tags
     → LinesReady l d strips starts layout width lines tags
 lines-ready s =
@@ -53,7 +54,8 @@ on-track l m t w b e s =
     record {
       is = e;
       small = s;
-      some = subst (λ (z : Track). 0 < z .length) (sym e) (tight-side (lineDirection (m .line)) (turnedPiece (jobOf l) (m .piece) (m .turn)) (lent-tight l w (m .piece) (m .turn) b));
+      some = subst (λ (z : Track). 0 < z .length) (sym e)
+          (tight-side (lineDirection (m .line)) (turnedPiece (jobOf l) (m .piece) (m .turn)) (lent-tight l w (m .piece) (m .turn) b));
       piece = b;
     }
 

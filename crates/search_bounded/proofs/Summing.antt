@@ -165,7 +165,8 @@ module _ (l : Lent) (ws : List ℕ) (v : Layout) (m : Mover) (t : Track) (st : S
     summed-added after small h =
         summed-next (jobOf l) ws v m bound k before s after (h .same)
         (λ a b. by-reach _ a (λ o. inl (same a o, outside-part a b o)) (λ x y. inr (inr (h .reached a x y))))
-        (λ a. by-reach (getD after a 0 ≤ getD before a 0 + 16777216) a (λ o. let e = same a o in omega arith) (λ x y. let e = h .reached a x y in let b = small a in omega arith))
+        (λ a. by-reach (getD after a 0 ≤ getD before a 0 + 16777216) a (λ o. let e = same a o in omega arith)
+        (λ x y. let e = h .reached a x y in let b = small a in omega arith))
       where
         same : (a : ℕ) → (a < r .low) ⊎ (r .high ≤ a) → getD after a 0 ≡ getD before a 0
         same a o = ⊎-elim (λ (x : a < r .low). h .below a x) (λ (x : r .high ≤ a). h .above a x) o

@@ -17,7 +17,8 @@ use Rattle.search_tracks.specs.declared.Track.{Track}
 use Rattle.search_tracks.specs.declared.StandingPiece.{StandingPiece}
 
 -- with the weights
-pub record SearchReady (l : Lent) (d : Direction) (strips : List (List ℕ)) (starts : List ℕ) (layout : List (List ℕ)) (weights : List ℕ) (width : ℕ) (lines tags : List ℕ) : Type 0 where
+pub record SearchReady (l : Lent) (d : Direction) (strips : List (List ℕ)) (starts : List ℕ) (layout : List (List ℕ)) (weights : List ℕ) (width : ℕ)
+    (lines tags : List ℕ) : Type 0 where
   pub laid : Laid l layout
   pub shapes : Shapes d (jobOf l) strips starts
   pub weighed : ValidWeights (jobOf l) weights
@@ -27,7 +28,8 @@ pub record SearchReady (l : Lent) (d : Direction) (strips : List (List ℕ)) (st
   pub fits : length lines ≤ linesBound
 
 -- without them
-pub record LinesReady (l : Lent) (d : Direction) (strips : List (List ℕ)) (starts : List ℕ) (layout : List (List ℕ)) (width : ℕ) (lines tags : List ℕ) : Type 0 where
+pub record LinesReady (l : Lent) (d : Direction) (strips : List (List ℕ)) (starts : List ℕ) (layout : List (List ℕ)) (width : ℕ)
+    (lines tags : List ℕ) : Type 0 where
   pub laid : Laid l layout
   pub shapes : Shapes d (jobOf l) strips starts
   pub wide : Wide (jobOf l) width

@@ -91,7 +91,8 @@ store-length = let b = length-replicate {A = ℕ} 32768 0 in omega arith
 -- ── the answer ──
 
 -- a search with the largest bound is the line search
-pub search-whole : (l : Lent) (ws : List ℕ) (layout : List (List ℕ)) (i : ℕ) (t : Turn) (line : Line) → Laid l layout → ValidWeights (jobOf l) ws → i < l .size .count
+pub search-whole : (l : Lent) (ws : List ℕ) (layout : List (List ℕ)) (i : ℕ) (t : Turn) (line : Line) → Laid l layout → ValidWeights (jobOf l) ws
+    → i < l .size .count
     → belowBound (sumAt (jobOf l) ws (layoutOf layout) i t line) (places (jobOf l) i t line) 4294967295
     ≡ searchLine (jobOf l) ws (layoutOf layout) i t line
 unfolding jobOf
@@ -108,7 +109,8 @@ best-of : (line : Line) (f : ℕ → ℕ) (n : ℕ)
     → bestAnswer line (foundAnswer (leastOf f n)) ≡ searchAnswer line (unless (cause emptyLine (eqb n 0) ∷ []) (bestPlace (leastOf f n)))
 unfolding unless
 best-of line f zero = refl
-best-of line f (suc n) = sym (ap (searchAnswer line) (unless-given (cause emptyLine (eqb (suc n) 0) ∷ []) (least f n) (ne-eqb (suc n) 0 (λ e. omega arith), tt)))
+best-of line f (suc n) =
+    sym (ap (searchAnswer line) (unless-given (cause emptyLine (eqb (suc n) 0) ∷ []) (least f n) (ne-eqb (suc n) 0 (λ e. omega arith), tt)))
 
 pub best-is : (j : Job) (ws : List ℕ) (v : Layout) (i : ℕ) (t : Turn) (line : Line)
     → bestAnswer line (foundAnswer (searchLine j ws v i t line))

@@ -78,7 +78,8 @@ module _ (j : Job) (ws : List ℕ) (v : Layout) (i : ℕ) (t : Turn) (line : Lin
         rw (parts a) (omega arith)
 
     -- the weights of the pieces that are met are at most the sum
-    pub met-weights : (a : ℕ) → sumBelow (j .size .count) (λ k. weightBetween (j .size .count) ws i k * oneIf (meets j v i t line a k)) ≤ sumAt j ws v i t line a
+    pub met-weights : (a : ℕ)
+        → sumBelow (j .size .count) (λ k. weightBetween (j .size .count) ws i k * oneIf (meets j v i t line a k)) ≤ sumAt j ws v i t line a
     met-weights a =
         rw (parts a)
         (sum-le (j .size .count) _ (part a) (λ k l. mul-le-mul-left (weightBetween (j .size .count) ws i k) (test-penalty j v i t line a k _ refl)))

@@ -15,7 +15,8 @@ use lib.ListN.{length, getD, set, length-set}
 use lib.Seq.{getD-set-same, getD-set-other, set-getD, ext-getD}
 use Rattle.model.specs.Layout.{Job, Layout, Pair, pairOf, pairs, pairShares, plainSum}
 use Rattle.model.specs.Descent.{Descent, descend}
-use Rattle.model.specs.Guided.{weightBound, raisedOver, raised, Round, isClear, weightsAfter, roundFrom, rounds, bestOf, bestAfter, lastWeights, madeIn, movesIn, Guided, outcome, guide}
+use Rattle.model.specs.Guided.{weightBound, raisedOver, raised, Round, isClear, weightsAfter, roundFrom, rounds, bestOf, bestAfter, lastWeights, madeIn}
+use Rattle.model.specs.Guided.{movesIn, Guided, outcome, guide}
 use Rattle.model.specs.declared.End.{End}
 use Rattle.model.specs.declared.End.the-variants.{Clear, Settled, Spent}
 use Rattle.descent_laws.specs.Claims.{ValidWeights, ValidLayout, DescentClaims}
@@ -250,7 +251,8 @@ module _ (j : Job) (ws : List ℕ) (count budget : ℕ) (v : Layout) (some-piece
             record {
               result =
                   u .result ∙ guide-open j left budget s d more isRound e
-                  ∙ ap (λ b. guideOn j (left - 1) budget (guiding (d .layout) (raised j (d .layout) (s .weights)) b (s .made + d .made) (s .moves + d .moves))) isBest;
+                  ∙ ap (λ b. guideOn j (left - 1) budget (guiding (d .layout) (raised j (d .layout) (s .weights)) b (s .made + d .made) (s .moves + d .moves)))
+                  isBest;
               bestSumIs = isSum;
               validLayout = c .valid;
               validBest = rw isBest at (best-valid j (s .best) (d .layout) (u .validBest) (c .valid));
@@ -291,7 +293,8 @@ module _ (j : Job) (v : Layout) (ws now : List ℕ) (i k : ℕ) (one : length ws
     unfolding raised
     raised-at =
         let fits = pair-below (j .size .count) i k rising below in
-        raised-over-at (pairShares j v) (pairs (j .size .count)) ws (pairIndex (j .size .count) i k) (omega arith) fits ∙ rw (pair-at (j .size .count) i k noPair rising below)
+        raised-over-at (pairShares j v) (pairs (j .size .count)) ws (pairIndex (j .size .count) i k) (omega arith) fits
+        ∙ rw (pair-at (j .size .count) i k noPair rising below)
 
     -- a pair that shares a pixel has its weight raised by 1, 65,535 stays
     pub raising-shared : pairShares j v (pairOf i k) ≡ true

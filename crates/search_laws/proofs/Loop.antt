@@ -16,7 +16,8 @@ use lib.ListN.{length, getD}
 use Rattle.model.specs.Layout.{Job, Layout, allowed, weightedSum, pieceSum}
 use Rattle.model.specs.Piece.{onLine}
 use Rattle.model.specs.Search.{Best, movedTo, sumAt}
-use Rattle.model.specs.Descent.{Trial, Attempt, moved, quiet, Progress, Descent, trials, trialLine, attempt, begin, proceed, noTrial, step, descendFrom, descend}
+use Rattle.model.specs.Descent.{Trial, Attempt, moved, quiet, Progress, Descent, trials, trialLine, attempt, begin, proceed, noTrial, step, descendFrom}
+use Rattle.model.specs.Descent.{descend}
 use Rattle.model.specs.declared.Turn.the-variants.{Zero}
 use Rattle.model.specs.declared.Direction.the-variants.{Horizontal}
 use Rattle.model.specs.declared.End.{End}
@@ -83,7 +84,8 @@ module _ (j : Job) (ws : List ℕ) (s : Standing) where
     onward-suc left = rw (ne-eqb (weightedSum j ws (s .layout)) 0 positive, ne-eqb (s .quietCount) (length (trials j)) unsettled, stepOnward)
 
     -- the trial came to an attempt
-    pub onward-step : (left : ℕ) (a : Attempt) → 0 < left → attempt j ws (s .layout) (s .trial) ≡ a → stepOnward j ws left s ≡ stepOnward j ws (left - 1) (passed j s a)
+    pub onward-step : (left : ℕ) (a : Attempt) → 0 < left → attempt j ws (s .layout) (s .trial) ≡ a
+        → stepOnward j ws left s ≡ stepOnward j ws (left - 1) (passed j s a)
     onward-step left a l e =
         let more : left ≡ suc (left - 1) = omega arith in
         ap (λ n. stepOnward j ws n s) more ∙ onward-suc (left - 1) ∙ ap (λ b. stepOnward j ws (left - 1) (passed j s b)) e

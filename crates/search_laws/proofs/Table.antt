@@ -3,7 +3,7 @@
 -- no part. Assumes nothing.
 use mathlib.Core.Bool.{not}
 use mathlib.Core.Path.{_≡_, refl, sym, _∙_, ap}
-use mathlib.Core.Logic.{_⊎_, ⊎-elim, _≢_}
+use mathlib.Core.Logic.{⊎-elim, _≢_}
 use mathlib.Core.List.{List}
 use Prim.Native.Nat.{ℕ, suc, _+_, _*_, _-_, _<_, _≤_}
 use native.Mathlib.Nat.{one-mul, mul-zero, mul-le-mul-right}
@@ -25,7 +25,8 @@ use Rattle.search_laws.specs.Table.{entry, PenaltyTable, Renewed}
 use Rattle.search_laws.specs.Pairs.{rowStart, pairIndex}
 use Rattle.search_laws.proofs.Pairs.{pair-below}
 use Rattle.search_laws.specs.PieceSum.{weightBetween, penaltyPlaced, penaltyBetween}
-use Rattle.search_laws.proofs.PieceSum.{pairTerm, share-agree, weight-positive, pair-term, piece-sum, placed-penalty, others-penalty, between-symmetric, weighted-sum, positions-rows, moved-sum}
+use Rattle.search_laws.proofs.PieceSum.{pairTerm, share-agree, weight-positive, pair-term, piece-sum, placed-penalty, others-penalty, between-symmetric}
+use Rattle.search_laws.proofs.PieceSum.{weighted-sum, positions-rows, moved-sum}
 
 -- a table of no pieces
 pub table-empty : (j : Job) (v : Layout) (T : List ℕ) → length T ≡ 4096 → PenaltyTable j v 0 T

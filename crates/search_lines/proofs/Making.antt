@@ -104,11 +104,14 @@ module _ (l : Lent) (d : Direction) (store : List (List ℕ)) (starts : List ℕ
   moved-some = tight-side d (movedShape l two) (lent-tight l (asked .well) (two .moved) (two .«moved_turn») moved-there)
 
   -- what two stretches are that a call is asked for
-  pub moved-strips : (es : List (List ℕ)) → ((e : Direction) (j : Job) → Shapes e j store starts → two .moved < j .size .count → StripsOf e (turnedPiece j (two .moved) (two .«moved_turn»)) es)
+  pub moved-strips : (es : List (List ℕ))
+      → ((e : Direction) (j : Job) → Shapes e j store starts → two .moved < j .size .count → StripsOf e (turnedPiece j (two .moved) (two .«moved_turn»)) es)
       → StripsOf d (movedShape l two) es
   moved-strips es told = told d (jobOf l) (asked .shapes) moved-there
 
-  pub standing-strips : (es : List (List ℕ)) → ((e : Direction) (j : Job) → Shapes e j store starts → two .standing < j .size .count → StripsOf e (turnedPiece j (two .standing) (two .«standing_turn»)) es)
+  pub standing-strips : (es : List (List ℕ))
+      → ((e : Direction) (j : Job) → Shapes e j store starts → two .standing < j .size .count
+      → StripsOf e (turnedPiece j (two .standing) (two .«standing_turn»)) es)
       → StripsOf d (standingShape l two) es
   standing-strips es told = told d (jobOf l) (asked .shapes) standing-there
 
@@ -141,7 +144,9 @@ module _ (l : Lent) (d : Direction) (store : List (List ℕ)) (starts : List ℕ
       unfolding penaltyLine linePenalty
       line-held k h =
           values-at (penaltyAt es fs pair) 0 n k h
-          ∙ (let z : 0 + k ≡ k = omega arith in rw (z, first .same, second .same, long) (line-penalty d (movedShape l two) (standingShape l two) (extent d (movedShape l two) - 1) middle (two .offset) k moved-small standing-small))
+          ∙ (let z : 0 + k ≡ k = omega arith in
+          rw (z, first .same, second .same, long)
+          (line-penalty d (movedShape l two) (standingShape l two) (extent d (movedShape l two) - 1) middle (two .offset) k moved-small standing-small))
 
       -- the store with the line in its part
       pub made : (lines part : List ℕ) (at : ℕ) → length part ≡ n → at + n ≤ length lines → part ≡ penaltyLine es fs pair n

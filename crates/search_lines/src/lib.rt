@@ -2,7 +2,7 @@
 // standing one; most lines survive many moves, so most are found.
 ghost use mathlib.Core.Path.{_≡_};
 ghost use mathlib.Core.List.{List};
-ghost use Prim.Native.Nat.{ℕ, max, _+_, _<_, _≤_};
+ghost use Prim.Native.Nat.{ℕ, _+_, _<_, _≤_};
 ghost use lib.ListN.{length};
 ghost use Rattle.model.specs.Piece.{extent};
 ghost use Rattle.model.specs.Layout.{turnedPiece};

@@ -2,14 +2,15 @@
 -- Assumes nothing.
 use mathlib.Core.List.{List}
 use mathlib.Core.Path.{_≡_, refl, sym, ap, _∙_, subst}
-use Prim.Native.Nat.{ℕ, zero, suc, _+_, _-_, min, _<_, _≤_}
+use Prim.Native.Nat.{ℕ, zero, suc, _+_, min, _<_}
 use native.Mathlib.Nat.{not-suc-le-zero}
 use native.Mathlib.Omega.{arith}
 use lib.ListN.{length, getD}
 use lib.Seq.{ext-getD}
 use Rattle.pair_overlap.specs.Meet.{clearBelow}
 use Rattle.search_penalties.specs.declared.LinePair.{LinePair}
-use Rattle.search_penalties.specs.Line.{standingAt, movedAt, takenAt, alongAt, acrossAt, penaltyAt, valuesFrom, penaltyLine, Boxed, Grounded, LineFilled, Lowered, Risen, Fallen, Levelled}
+use Rattle.search_penalties.specs.Line.{standingAt, movedAt, takenAt, alongAt, acrossAt, penaltyAt, valuesFrom, penaltyLine, Boxed, Grounded, LineFilled}
+use Rattle.search_penalties.specs.Line.{Lowered, Risen, Fallen, Levelled}
 use Rattle.search_penalties.proofs.Depths.{FreeMarks, risen-clear, fallen-clear, clear-marks, taken-marks, ahead-grounded}
 
 -- ── lists of values ──
@@ -25,7 +26,8 @@ values-at f k (suc n) (suc i) l = let e : suc k + i ≡ k + suc i = omega arith 
 
 -- ── the passes in order ──
 
-module _ (es fs : List (List ℕ)) (p : LinePair) (zs : List ℕ) {ws bs cs ds : List ℕ} (box : Boxed es fs p (length zs)) (full : LineFilled 255 zs ws) (marked : Lowered (takenAt es fs p) 0 ws bs) (up : Risen bs cs) (down : Fallen cs ds) where
+module _ (es fs : List (List ℕ)) (p : LinePair) (zs : List ℕ) {ws bs cs ds : List ℕ} (box : Boxed es fs p (length zs)) (full : LineFilled 255 zs ws)
+    (marked : Lowered (takenAt es fs p) 0 ws bs) (up : Risen bs cs) (down : Fallen cs ds) where
   bs-length : length bs ≡ length zs
   bs-length = marked .same ∙ full .same
 

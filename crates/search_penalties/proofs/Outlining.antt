@@ -46,7 +46,8 @@ outline-more es y first count gap start n o some e w v old =
           (below-or x (base + o .end));
     }
 
-module _ (es fs : List (List ℕ)) (y z : ℕ) (p : LinePair) (m s : Outline) (line : y + p .moved ≡ z + p .standing) (a : Outlined es y m) (b : Outlined fs z s) (k : ℕ) where
+module _ (es fs : List (List ℕ)) (y z : ℕ) (p : LinePair) (m s : Outline) (line : y + p .moved ≡ z + p .standing) (a : Outlined es y m) (b : Outlined fs z s)
+    (k : ℕ) where
   -- the moved line's strip bridges the standing line's gaps
   pub strip-taken : s .gap < m .count → 0 < s .count → p .bias + s .first < k + m .start + m .count → k + m .start < p .bias + s .end
       → takenAt es fs p k ≡ true

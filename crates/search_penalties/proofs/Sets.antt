@@ -69,7 +69,8 @@ line-penalty d s t bias ha hb k small small′ =
     let c = across-depth s t bias ha hb k d 255 in
     let b = depth-bound d t v s u (small′ d) (small d) in
     let b′ = depth-bound (other d) t v s u (small′ (other d)) (small (other d)) in
-    let e : min (alongAt (entries d s) (entries d t) (biasedPair bias ha hb) k) (acrossBelow (entries d s) (entries d t) (biasedPair bias ha hb) k 255) ≡ min (depth d t v s u) (depth (other d) t v s u) = omega arith in
+    let e : min (alongAt (entries d s) (entries d t) (biasedPair bias ha hb) k) (acrossBelow (entries d s) (entries d t) (biasedPair bias ha hb) k 255)
+    ≡ min (depth d t v s u) (depth (other d) t v s u) = omega arith in
     e ∙ lesser-depth d t v s u ∙ penalty-symmetric t v s u
 
 -- the line is the list of the penalties at its places

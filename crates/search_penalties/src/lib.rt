@@ -3,13 +3,12 @@
 // they get their distance to the next free place on either side, the depth along; then level r = 1, 2, .. lowers to r the places
 // that are free when the moved piece is shifted across by r, up or down.
 ghost use mathlib.Core.Path.{_≡_};
-ghost use mathlib.Core.Bool.{true};
-ghost use mathlib.Core.List.{List, []};
-ghost use Prim.Native.Nat.{ℕ, _+_, _-_, _<_, _≤_, min};
+ghost use mathlib.Core.List.{[]};
+ghost use Prim.Native.Nat.{_+_, _-_, _<_, _≤_, min};
 ghost use lib.ListN.{length, getD};
-ghost use Rattle.pair_overlap.specs.Meet.{Ordered, stripAt};
+ghost use Rattle.pair_overlap.specs.Meet.{Ordered};
 ghost use Rattle.search_penalties.specs.Line.{takenAt, penaltyLine, LineReach, Boxed, Grounded, FreeFrom, LineFilled, Capped, Lowered, farther, Risen, Fallen, LastAbove, FirstAbove, Outside, Spared, Levelled};
-ghost use Rattle.search_penalties.specs.Outlines.{outlineOf, Narrow, Outlined, Outlines, Blank, Widened, PlacesReached, Taken, RunOf, OutlineAdded};
+ghost use Rattle.search_penalties.specs.Outlines.{outlineOf, Narrow, Outlines, Blank, Widened, PlacesReached, Taken, RunOf, OutlineAdded};
 use model::StripEntry;
 use pair_overlap::Corner;
 use whole_numbers::larger;

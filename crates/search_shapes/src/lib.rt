@@ -2,7 +2,7 @@
 // 4 i + t is piece i in turn t; specs/Shapes.antt says how the buffers hold it.
 ghost use mathlib.Core.Path.{_≡_};
 ghost use mathlib.Core.Bool.{true};
-ghost use Prim.Native.Nat.{ℕ, _+_, _*_, _<_, _^_};
+ghost use Prim.Native.Nat.{_+_, _*_, _<_, _^_};
 ghost use lib.ListN.{length};
 ghost use Rattle.model.specs.Lent.{lentBy, jobOf, lentWell};
 ghost use Rattle.model.specs.Layout.{Job, turnedPiece};

@@ -47,7 +47,8 @@ module _ (j : Job) (v : Layout) (ws now T : List ℕ) (i k : ℕ) (t : PenaltyTa
     cases false true e f =
         raising-more j v ws now i k (valid .onePerPair) rising below h (table-shares j ws v T t i k rising below ∙ ap not e) (ltb-true _ _ f)
     cases false false e f =
-        let there : pairIndex (j .size .count) i k < length ws = (let p = pair-below (j .size .count) i k rising below in let o = valid .onePerPair in omega arith) in
+        let there : pairIndex (j .size .count) i k < length ws =
+        (let p = pair-below (j .size .count) i k rising below in let o = valid .onePerPair in omega arith) in
         let most = valid .inRange (pairIndex (j .size .count) i k) there .1 in
         raising-full j v ws now i k (valid .onePerPair) rising below h (table-shares j ws v T t i k rising below ∙ ap not e) (ltb-false _ _ f)
         (omega (arith, h .rest (pairIndex (j .size .count) i k) (omega arith)))
@@ -72,7 +73,8 @@ raise-step j v n ws now T i k at e t valid rising below f h =
     raise-all t b h = raise-pair-at j v ws now T i k t valid rising b h
 
 -- after the last row
-pub raise-end : (j : Job) (v : Layout) (n : ℕ) (ws now : List ℕ) (from : ℕ) → j .size .count ≡ n → ValidWeights j ws → from ≡ rowStart n n → Raising j v ws from now
+pub raise-end : (j : Job) (v : Layout) (n : ℕ) (ws now : List ℕ) (from : ℕ) → j .size .count ≡ n → ValidWeights j ws → from ≡ rowStart n n
+    → Raising j v ws from now
     → now ≡ raised j v ws
 raise-end j v n ws now from e valid f h =
     raising-end j v ws now valid (subst (λ k. Raising j v ws k now) (f ∙ last-index n ∙ ap (λ n. length (pairs n)) (sym e)) h)

@@ -67,8 +67,10 @@ module _ (l : Lent) (layout : List (List ℕ)) (laid : Laid l layout) where
       let columns = s .fewColumns in
       let rows = s .fewRows in
       let e : inside (jobOf l) i p ≡ true = laid .valid .insideSheet i (piece-there i b) in
-      let x = leb-true (p .x .0 + turnedPiece (jobOf l) i (p .turn) .columns) (l .size .columns) (and-left _ (leb (p .y .0 + turnedPiece (jobOf l) i (p .turn) .rows) (l .size .rows)) e) in
-      let y = leb-true (p .y .0 + turnedPiece (jobOf l) i (p .turn) .rows) (l .size .rows) (and-right (leb (p .x .0 + turnedPiece (jobOf l) i (p .turn) .columns) (l .size .columns)) _ e) in
+      let x = leb-true (p .x .0 + turnedPiece (jobOf l) i (p .turn) .columns) (l .size .columns)
+      (and-left _ (leb (p .y .0 + turnedPiece (jobOf l) i (p .turn) .rows) (l .size .rows)) e) in
+      let y = leb-true (p .y .0 + turnedPiece (jobOf l) i (p .turn) .rows) (l .size .rows)
+      (and-right (leb (p .x .0 + turnedPiece (jobOf l) i (p .turn) .columns) (l .size .columns)) _ e) in
       record { column = omega arith; row = omega arith }
 
 -- such a corner is near

@@ -19,7 +19,8 @@ pub record RowsDrawn (l : Lent) (rows : List (List ℕ)) (rowStarts : List ℕ) 
   pub horizontal : Shapes Horizontal (jobOf l) rows rowStarts
 
 -- with the column strips too
-pub record Drawn (l : Lent) (rows : List (List ℕ)) (rowStarts : List ℕ) (columns : List (List ℕ)) (columnStarts : List ℕ) (layout : List (List ℕ)) : Type 0 where
+pub record Drawn (l : Lent) (rows : List (List ℕ)) (rowStarts : List ℕ) (columns : List (List ℕ)) (columnStarts : List ℕ)
+    (layout : List (List ℕ)) : Type 0 where
   pub inRows : RowsDrawn l rows rowStarts layout
   pub vertical : Shapes Vertical (jobOf l) columns columnStarts
 

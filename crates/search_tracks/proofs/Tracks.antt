@@ -35,13 +35,17 @@ module _ (j : Job) (m : Mover) (s : Sides) (room : ℕ) (sides : s ≡ sidesOf (
   pub track-row : (r : Row) → m .line ≡ InRow r → room ≡ roomOn (s .columns) (s .rows) (r .0) (j .size .columns) (j .size .rows)
       → _≡_ {A = Track} (record { length = s .columns; width = s .rows; held = r .0; places = room }) (trackOf j m)
   unfolding places
-  track-row r e f = subst (λ (l : Line). _≡_ {A = Track} (record { length = s .columns; width = s .rows; held = r .0; places = room }) (trackOn j (m .piece) (m .turn) l)) (sym e) (rw (f, sides))
+  track-row r e f =
+      subst (λ (l : Line). _≡_ {A = Track} (record { length = s .columns; width = s .rows; held = r .0; places = room }) (trackOn j (m .piece) (m .turn) l))
+      (sym e) (rw (f, sides))
 
   -- in a column
   pub track-column : (r : Column) → m .line ≡ InColumn r → room ≡ roomOn (s .rows) (s .columns) (r .0) (j .size .rows) (j .size .columns)
       → _≡_ {A = Track} (record { length = s .rows; width = s .columns; held = r .0; places = room }) (trackOf j m)
   unfolding places
-  track-column r e f = subst (λ (l : Line). _≡_ {A = Track} (record { length = s .rows; width = s .columns; held = r .0; places = room }) (trackOn j (m .piece) (m .turn) l)) (sym e) (rw (f, sides))
+  track-column r e f =
+      subst (λ (l : Line). _≡_ {A = Track} (record { length = s .rows; width = s .columns; held = r .0; places = room }) (trackOn j (m .piece) (m .turn) l))
+      (sym e) (rw (f, sides))
 
 -- ── a standing piece ──
 

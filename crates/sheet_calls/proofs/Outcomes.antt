@@ -1,7 +1,7 @@
 -- What the calls on a sheet come to, by the numbers that their checks gave, and what they answer. Assumes nothing.
 use mathlib.Core.Bool.{true, false, not}
 use mathlib.Core.Path.{_≡_, refl, sym, _∙_, ap, fun-ext}
-use mathlib.Core.List.{List, [], _∷_, append-nil}
+use mathlib.Core.List.{List, [], append-nil}
 use mathlib.Core.Logic.{⊎-elim}
 use Prim.Native.Nat.{ℕ, _+_, _-_, _*_, _<_}
 use native.Mathlib.Omega.{arith}
@@ -12,7 +12,7 @@ use borrow.Author.Tests.{not-false, eqb-true, eq-eqb, ne-eqb}
 use Rattle.model.specs.Bounded.{oneIf}
 use Rattle.model.specs.Layout.{Job, inside}
 use Rattle.model.specs.Lent.{Lent, jobOf, lentWell}
-use Rattle.model.specs.Refusal.{Outcome, refused, given, Cause, cause, unless, notOurs, plainRefusal}
+use Rattle.model.specs.Refusal.{Outcome, refused, given, Cause, unless, plainRefusal}
 use Rattle.model.specs.Calls.{sheetCauses, freshCall, countsAfter}
 use Rattle.model.specs.Cover.{Sheet, entryIn, mapFrom, coversPixel, fresh, lay, withdraw, layCauses, withdrawCauses, called, sheetWell}
 use Rattle.model.specs.declared.Placement.{Placement}

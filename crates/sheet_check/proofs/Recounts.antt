@@ -87,7 +87,8 @@ added-below j es i cs few counted k l =
     ∙ sym (ap (λ (n : ℕ). sumBelow n (λ m. oneIf (laidOn j es k m))) (add-one i))
 
 -- after all pieces
-pub all-counted : (j : Job) (es : List Entry) (cs : List ℕ) → length cs ≡ j .size .rows * j .size .columns → CountedBelow j es (j .size .count) cs → Recounted j es cs
+pub all-counted : (j : Job) (es : List Entry) (cs : List ℕ) → length cs ≡ j .size .rows * j .size .columns → CountedBelow j es (j .size .count) cs
+    → Recounted j es cs
 unfolding laidCount
 all-counted j es cs full counted = record { full = full; counts = λ k l. counted k (omega arith) }
 

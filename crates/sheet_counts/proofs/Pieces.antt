@@ -77,7 +77,8 @@ module _ (l : Lent) (i : ℕ) (p : Placement) (room : ℕ) (ready : StampReady l
         sheets = known .fewColumns;
         tall = omega arith;
         rows = λ d h.
-            let high : suc (p .y .0 + d) * l .size .columns ≤ l .size .rows * l .size .columns = mul-le-mul-right (l .size .columns) (let wide = within-rows in omega arith) in
+            let high : suc (p .y .0 + d) * l .size .columns ≤ l .size .rows * l .size .columns =
+            mul-le-mul-right (l .size .columns) (let wide = within-rows in omega arith) in
             let split : suc (p .y .0 + d) * l .size .columns ≡ (p .y .0 + d) * l .size .columns + l .size .columns = suc-mul (p .y .0 + d) (l .size .columns) in
             let parts : (p .y .0 + d) * l .size .columns ≡ p .y .0 * l .size .columns + d * l .size .columns = add-mul (p .y .0) d (l .size .columns) in
             let long = within-columns in

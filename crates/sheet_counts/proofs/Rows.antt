@@ -169,7 +169,8 @@ module _ (j : Job) (s : Shape) (v : Point) (long : v .x + s .columns ≤ j .size
   -- a place's number
   place-number : (d e k : ℕ) (q : Point) → q .y * j .size .columns + q .x ≡ k → q .x ≡ v .x + e → q .y ≡ v .y + d → k ≡ first + (d * j .size .columns + e)
   place-number d e k q number x y =
-      let split : q .y * j .size .columns ≡ v .y * j .size .columns + d * j .size .columns = ap (λ (n : ℕ). n * j .size .columns) y ∙ add-mul (v .y) d (j .size .columns) in
+      let split : q .y * j .size .columns ≡ v .y * j .size .columns + d * j .size .columns =
+      ap (λ (n : ℕ). n * j .size .columns) y ∙ add-mul (v .y) d (j .size .columns) in
       omega arith
 
   -- each count after the piece's rows

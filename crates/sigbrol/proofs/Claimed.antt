@@ -6,7 +6,6 @@ use Prim.Native.Nat.{ℕ, _<_}
 use native.Mathlib.Omega.{arith}
 use Rattle.model.specs.Layout.{Job, Layout}
 use Rattle.model.specs.Lent.{Lent}
-use Rattle.model.specs.Descent.{Descent}
 use Rattle.model.specs.Refusal.{refused}
 use Rattle.model.specs.Calls.{descentCall, guidedCall}
 use Rattle.model.specs.declared.End.{End}

@@ -17,7 +17,8 @@ some-number (refused r) h = absurd (h refl)
 some-number (given part) h = refl
 
 -- what has a number leaves memory as it is
-number-leaves : {B : Type 0} (content : List (List ℕ) → B) (before : B) (o : Outcome (List (List ℕ))) → (stretchNumber o ≡ 0 → ⊥) → before ≡ leaving content before o
+number-leaves : {B : Type 0} (content : List (List ℕ) → B) (before : B) (o : Outcome (List (List ℕ))) → (stretchNumber o ≡ 0 → ⊥)
+    → before ≡ leaving content before o
 number-leaves content before (refused r) h = refl
 number-leaves content before (given part) h = absurd (h refl)
 
@@ -32,5 +33,6 @@ module _ (l : Lent) (ts : List ℕ) (lent : Stores) (i : ℕ) (d : Direction) wh
   start-left before p = rw (p .gives)
 
   -- an empty one is refused
-  pub start-kept : (before : ℕ) → length (stretchGiven (stretchCall l ts lent i d)) ≡ 0 → before ≡ leaving (λ part. stretchStart d lent i) before (stretchCall l ts lent i d)
+  pub start-kept : (before : ℕ) → length (stretchGiven (stretchCall l ts lent i d)) ≡ 0
+      → before ≡ leaving (λ part. stretchStart d lent i) before (stretchCall l ts lent i d)
   start-kept before e = number-leaves (λ part. stretchStart d lent i) before (stretchCall l ts lent i d) (stretch-tells l ts lent i d .0 e)

@@ -13,7 +13,8 @@ use Rattle.model.specs.Layout.{Job}
 use Rattle.model.specs.Lent.{Lent, jobOf, lentWell}
 use Rattle.model.specs.Refusal.{Outcome, unless, refused, given, cause, plainRefusal}
 use Rattle.model.specs.Store.{store, starts, storeWell}
-use Rattle.model.specs.Calls.{Stores, storesOf, storesShort, storesWell, storesAfter, turnListWrong, stripsCall, stretchCall, stretchOf, stretchGiven, stretchNumber}
+use Rattle.model.specs.Calls.{Stores, storesOf, storesShort, storesWell, storesAfter, turnListWrong, stripsCall, stretchCall, stretchOf, stretchGiven}
+use Rattle.model.specs.Calls.{stretchNumber}
 use Rattle.model.specs.declared.Direction.{Direction}
 use Rattle.model.specs.declared.Direction.the-variants.{Horizontal, Vertical}
 use Rattle.list_laws.proofs.Stores.{sets-filled}

@@ -129,9 +129,11 @@ tight-by d l w es v =
     let s : Shape = rebuiltFrom d l w es in
     both-ways d s
     ∙ ap₂ _&&_
-    (ap₂ _&&_ (line-holds d l w es v 0) (ap (λ n. holds d s (n - 1)) (rebuilt-extent (other d) d l w (stripsOf es)) ∙ line-holds d l w es v (side (other d) l w - 1)))
+    (ap₂ _&&_ (line-holds d l w es v 0)
+    (ap (λ n. holds d s (n - 1)) (rebuilt-extent (other d) d l w (stripsOf es)) ∙ line-holds d l w es v (side (other d) l w - 1)))
     (ap₂ _&&_ (place-holds d l w es v 0)
-    (ap (λ e. holds (other d) s (extent e s - 1)) (other-twice d) ∙ ap (λ n. holds (other d) s (n - 1)) (rebuilt-extent d d l w (stripsOf es)) ∙ place-holds d l w es v (side d l w - 1)))
+    (ap (λ e. holds (other d) s (extent e s - 1)) (other-twice d) ∙ ap (λ n. holds (other d) s (n - 1)) (rebuilt-extent d d l w (stripsOf es))
+    ∙ place-holds d l w es v (side d l w - 1)))
 
 -- ── refusal 8 ──
 

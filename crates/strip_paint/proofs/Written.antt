@@ -3,7 +3,7 @@
 use mathlib.Core.Bool.{Bool, true, false}
 use mathlib.Core.List.{List, _++_}
 use mathlib.Core.Path.{_≡_, refl, sym, subst, ap, _∙_}
-use mathlib.Core.Logic.{_⊎_, ⊎-elim}
+use mathlib.Core.Logic.{⊎-elim}
 use Prim.Native.Nat.{ℕ, zero, suc, _+_, _*_, _-_, _/_, _%_, _<_, _≤_}
 use native.Mathlib.Nat.{mod-lt, div-add-mod', mul-comm, add-zero, add-suc, suc-add}
 use native.Mathlib.Omega.{arith}
@@ -108,7 +108,8 @@ module _ (d : Direction) (l w : ℕ) (es : List (List ℕ)) (old after : List �
       let m : length (zeros (l * w)) ≡ l * w = zeros-length (l * w) in
       let p : Point = record { x = i % l; y = i / l } in
       let y : w ≤ i / l =
-      ⊎-elim (λ (q : i / l < w). absurd (let k = in-rows {l = l} {w = w} {x = i % l} {y = i / l} (mod-lt i wide) q in omega (arith, mul-comm l w))) (λ (q : w ≤ i / l). q) (below-or (i / l) w) in
+      ⊎-elim (λ (q : i / l < w). absurd (let k = in-rows {l = l} {w = w} {x = i % l} {y = i / l} (mod-lt i wide) q in omega (arith, mul-comm l w)))
+      (λ (q : w ≤ i / l). q) (below-or (i / l) w) in
       let b = painted .bytes (i % l) (i / l) (mod-lt i wide) in
       (rw e at b)
       ∙ ap (λ t. over t (getD (zeros (l * w) ++ drop (l * w) old) i 0)) (none-above d l w es p v y)

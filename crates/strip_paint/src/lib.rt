@@ -9,7 +9,7 @@ ghost use mathlib.Core.Bool.{true};
 ghost use mathlib.Core.List.{_++_, map};
 ghost use Prim.Native.Nat.{ℕ, _+_, _*_, _<_, _≤_};
 ghost use lib.ListN.{length, drop, replicate};
-ghost use Rattle.model.specs.Piece.{Point, point, other};
+ghost use Rattle.model.specs.Piece.{point};
 ghost use Rattle.model.specs.Strip.{stripHas, stripsHave};
 ghost use Rattle.model.specs.Buffer.{entryStrip, filled, bytesOf};
 ghost use Rattle.model.specs.Calls.{rebuiltFrom, stripsWell};

@@ -1,10 +1,9 @@
 -- What rebuilding leaves in the buffer, for the strips of a set: that set's pixels. Assumes nothing.
 use mathlib.Core.List.{List}
-use mathlib.Core.Path.{_≡_, refl, sym, ap, _∙_}
-use Prim.Native.Nat.{ℕ, _*_, _≤_}
+use mathlib.Core.Path.{_≡_, refl, ap, _∙_}
+use Prim.Native.Nat.{ℕ}
 use lib.ListN.{length}
-use Rattle.model.specs.Piece.{Shape}
-use Rattle.model.specs.Buffer.{bytesOf, filled}
+use Rattle.model.specs.Buffer.{filled}
 use Rattle.model.specs.Calls.{rebuildCall, pixelsAfter}
 use Rattle.model.specs.declared.Direction.{Direction}
 use Rattle.call_laws.specs.Rebuilding.{PieceOf, RebuiltAs}

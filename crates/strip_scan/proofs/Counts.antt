@@ -1,13 +1,13 @@
 -- How many strips there can be: no more than pixels of the box. Assumes nothing.
 use mathlib.Core.Bool.{Bool, true, false}
-use mathlib.Core.List.{List, [], _∷_, _++_, map}
+use mathlib.Core.List.{List}
 use mathlib.Core.Path.{_≡_, refl, _∙_}
-use Prim.Native.Nat.{ℕ, zero, suc, _+_, _*_, _≤_, _<_}
+use Prim.Native.Nat.{ℕ, zero, suc, _+_, _*_, _≤_}
 use native.Mathlib.Nat.{suc-mul, mul-le-mul, mul-comm}
 use native.Mathlib.Omega.{arith}
 use lib.ListN.{length, length-append, length-map}
 use Rattle.model.specs.Piece.{Shape, turned, extent, other, cell}
-use Rattle.model.specs.Strip.{Run, closing, runsFrom, stripOf, stripsFrom, strips}
+use Rattle.model.specs.Strip.{Run, closing, runsFrom, stripsFrom, strips}
 use Rattle.model.specs.declared.Turn.{Turn}
 use Rattle.model.specs.declared.Turn.the-variants.{Zero, Quarter, Half, ThreeQuarters}
 use Rattle.model.specs.declared.Direction.{Direction}
@@ -21,7 +21,8 @@ closing-few i zero left later h = omega arith
 closing-few i (suc run) left later h = omega arith
 
 few-step : (f : ℕ → Bool) (i left run : ℕ) (b : Bool) → ((run : ℕ) → length (runsFrom f (suc i) left run) ≤ left + run)
-    → length {A = Run} (elim b as (λ _. List Run) [ true ↦ runsFrom f (suc i) left (suc run) | false ↦ closing i run (runsFrom f (suc i) left 0) ]) ≤ suc left + run
+    → length {A = Run} (elim b as (λ _. List Run) [ true ↦ runsFrom f (suc i) left (suc run) | false ↦ closing i run (runsFrom f (suc i) left 0) ])
+    ≤ suc left + run
 few-step f i left run true h = let k = h (suc run) in omega arith
 few-step f i left run false h = let k = h 0 in closing-few i run left (runsFrom f (suc i) left 0) (omega arith)
 

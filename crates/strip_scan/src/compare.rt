@@ -10,7 +10,7 @@ use piece_pixels::TurnedPiece;
 use piece_pixels::turned_piece;
 ghost use mathlib.Core.Path.{_≡_};
 ghost use mathlib.Core.List.{[], _∷_};
-ghost use Prim.Native.Nat.{ℕ, _≤_, _^_};
+ghost use Prim.Native.Nat.{_≤_, _^_};
 ghost use lib.ListN.{getD};
 ghost use Rattle.model.specs.Strip.{strips};
 ghost use Rattle.model.specs.Buffer.{sameNumbers};

@@ -32,7 +32,8 @@ stand-append [] us entries at = ap (standIn us entries) (sym (add-zero at))
 stand-append (t ∷ ts) us entries at =
     let q : (at + 1) + length ts ≡ at + suc (length ts) = omega arith in
     stand-step t (ts ++ us) entries at
-    ∙ ap (λ b. sameNumbers (getD entries at []) (stripEntry t) && b) (stand-append ts us entries (at + 1) ∙ ap (λ k. standIn ts entries (at + 1) && standIn us entries k) q)
+    ∙ ap (λ b. sameNumbers (getD entries at []) (stripEntry t) && b)
+    (stand-append ts us entries (at + 1) ∙ ap (λ k. standIn ts entries (at + 1) && standIn us entries k) q)
     ∙ sym (and-assoc (sameNumbers (getD entries at []) (stripEntry t)) _ _)
     ∙ ap (λ b. b && standIn us entries (at + suc (length ts))) (sym (stand-step t ts entries at))
 

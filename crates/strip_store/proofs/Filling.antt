@@ -50,7 +50,8 @@ starts-length d j ts at i (suc left) = ap suc (starts-length d j ts (at + length
 -- ── what is left to store ──
 
 -- storing what is left of the store from `at` on and of the starts from i on gives what storing all of them gave at first
-pub record Filling (d : Direction) (j : Job) (ts : List ℕ) (strips₀ : List (List ℕ)) (starts₀ : List ℕ) (strips₁ : List (List ℕ)) (starts₁ : List ℕ) (at i left : ℕ) : Type 0 where
+pub record Filling (d : Direction) (j : Job) (ts : List ℕ) (strips₀ : List (List ℕ)) (starts₀ : List ℕ) (strips₁ : List (List ℕ)) (starts₁ : List ℕ)
+    (at i left : ℕ) : Type 0 where
   pub counted : at + length (storeFrom d j ts i left) ≡ length (store d j ts)
   pub stored : sets strips₁ at (map stripEntry (storeFrom d j ts i left)) ≡ sets strips₀ 0 (map stripEntry (store d j ts))
   pub started : sets starts₁ i (startsFrom d j ts at i left) ≡ sets starts₀ 0 (starts d j ts)
@@ -76,7 +77,8 @@ fill-step {d} {j} {ts} {strips₀} {strips₁} {strips₂} {starts₀} {starts�
     let c : at + length (here ++ rest) ≡ length (store d j ts) = rw e at (f .counted) in
     let m : length (here ++ rest) ≡ length here + length rest = length-append here rest in
     let s : sets strips₁ at (map stripEntry (here ++ rest)) ≡ sets strips₀ 0 (map stripEntry (store d j ts)) = rw e at (f .stored) in
-    let t : sets (set starts₁ i at) (suc i) (startsFrom d j ts (at + length here) (suc i) (n - suc i)) ≡ sets starts₀ 0 (starts d j ts) = rw e at (f .started) in
+    let t : sets (set starts₁ i at) (suc i) (startsFrom d j ts (at + length here) (suc i) (n - suc i)) ≡ sets starts₀ 0 (starts d j ts) =
+    rw e at (f .started) in
     let end : next ≡ at + length here = p .end in
     rw q
     (record {

@@ -17,7 +17,8 @@ pub record StoreReady (l : Lent) (ts : List ℕ) : Type 0 where
   pub turns : length ts ≡ l .size .count
 
 -- the store and the starts are stored from the front on, as far as there is room, and `total` strips are needed
-pub record StoreFilled (d : Direction) (j : Job) (ts : List ℕ) (strips₀ : List (List ℕ)) (starts₀ : List ℕ) (strips₁ : List (List ℕ)) (starts₁ : List ℕ) (total : ℕ) : Type 0 where
+pub record StoreFilled (d : Direction) (j : Job) (ts : List ℕ) (strips₀ : List (List ℕ)) (starts₀ : List ℕ) (strips₁ : List (List ℕ)) (starts₁ : List ℕ)
+    (total : ℕ) : Type 0 where
   pub all : total ≡ length (store d j ts)
   pub stored : strips₁ ≡ sets strips₀ 0 (map stripEntry (store d j ts))
   pub started : starts₁ ≡ sets starts₀ 0 (starts d j ts)

@@ -13,11 +13,15 @@ use borrow.Author.Tests.{ne-eqb, lt-ltb, le-ltb}
 use Rattle.model.specs.Refusal.{refused, given, wrongForm, outOfRange, sheetTooLarge, boxesTooLarge, looseBox, boxTooLarge, wrongLength}
 use Rattle.model.specs.Lent.{Lent, areaBound}
 use Rattle.model.specs.Text.{formed, andThen}
-use Rattle.model.specs.JobText.{JobLine, asJobLine, jobLineCauses, jobLine, PieceLine, asPieceLine, pieceLineCauses, pieceLine, rowsAt, rowsCauses, asPieceText, pieceAt, noPieces, piecesAt, asLent, bufferCauses, readJob}
+use Rattle.model.specs.JobText.{JobLine, asJobLine, jobLineCauses, jobLine, PieceLine, asPieceLine, pieceLineCauses, pieceLine, rowsAt, rowsCauses, asPieceText}
+use Rattle.model.specs.JobText.{pieceAt, noPieces, piecesAt, asLent, bufferCauses, readJob}
 use Rattle.model.specs.declared.Refusal.{Refusal}
 use Rattle.list_laws.proofs.Tests.{or-left, or-right}
 use Rattle.text_laws.specs.LinePlaces.{refusalOnLine}
-use Rattle.text_laws.specs.JobRefusals.{RowsBefore, no-row, row-then, PiecesBefore, no-piece, piece-then, PiecePlace, RowPlace, SheetNumbers, PieceNumbers, JobFormWrong, wrong-job-line, wrong-piece-line, wrong-row-line, line-too-many, JobOutOfRange, sheet-out-of-range, piece-out-of-range, SheetTooLarge, BoxTooLarge, BoxesTooLarge, LooseBox, BufferShort, JobCausesRefuse}
+use Rattle.text_laws.specs.JobRefusals.{RowsBefore, no-row, row-then, PiecesBefore, no-piece, piece-then, PiecePlace, RowPlace, SheetNumbers}
+use Rattle.text_laws.specs.JobRefusals.{PieceNumbers, JobFormWrong, wrong-job-line, wrong-piece-line, wrong-row-line, line-too-many, JobOutOfRange}
+use Rattle.text_laws.specs.JobRefusals.{sheet-out-of-range, piece-out-of-range, SheetTooLarge, BoxTooLarge, BoxesTooLarge, LooseBox, BufferShort}
+use Rattle.text_laws.specs.JobRefusals.{JobCausesRefuse}
 use Rattle.text_laws.specs.Outcomes.{Unless}
 use Rattle.text_laws.proofs.Outcomes.{given-unless, given-before}
 use Rattle.text_laws.proofs.Refused.{Refuses, unless-refused}

@@ -16,7 +16,9 @@ use Rattle.model.specs.Refusal.{Outcome, given}
 use Rattle.model.specs.Lent.{Lent, turnsBound, upTo, entryColumns, entryRows, entryTurns, pixelStart}
 use Rattle.model.specs.Piece.{sideBound}
 use Rattle.model.specs.Text.{byte, lineEnd, Reading, wrong, got, onward, after, threeFields, fourFields, lineAt, lineText}
-use Rattle.model.specs.JobText.{jobWord, pieceWord, rowWord, JobLine, asJobLine, jobLineCauses, jobLine, PieceLine, asPieceLine, pieceLineCauses, pieceLine, markAt, marksAt, rowAt, Rows, rowsAt, PieceText, rowsCauses, asPieceText, pieceAt, Pieces, noPieces, withPiece, piecesAt, asLent, bufferCauses, readJob, pixelMark, emptyMark}
+use Rattle.model.specs.JobText.{jobWord, pieceWord, rowWord, JobLine, asJobLine, jobLineCauses, jobLine, PieceLine, asPieceLine, pieceLineCauses, pieceLine}
+use Rattle.model.specs.JobText.{markAt, marksAt, rowAt, Rows, rowsAt, PieceText, rowsCauses, asPieceText, pieceAt, Pieces, noPieces, withPiece, piecesAt}
+use Rattle.model.specs.JobText.{asLent, bufferCauses, readJob, pixelMark, emptyMark}
 use Rattle.list_laws.proofs.Tests.{and-left}
 use Rattle.text_laws.specs.JobWriting.{bytesPart, mark, rowText, rowsText, pieceText, piecesText, jobText, exactJob}
 use Rattle.text_laws.specs.Exact.{JobWritten}
@@ -25,7 +27,8 @@ use Rattle.text_laws.proofs.Outcomes.{given-unless, given-before, given
 use Rattle.job_laws.proofs.Checked.{Facts, facts}
 use Rattle.text_laws.proofs.JobRead.{JustRead, job-read-just, job-read-well}
 use Rattle.text_laws.proofs.JobReadBack.{job-read-back}
-use Rattle.text_laws.proofs.Spelling.{Spells, spells-none, spells-byte, spells-then, spells-same, spells-whole, passed, SpelledLine, line-spelled, three-fields, four-fields}
+use Rattle.text_laws.proofs.Spelling.{Spells, spells-none, spells-byte, spells-then, spells-same, spells-whole, passed, SpelledLine, line-spelled}
+use Rattle.text_laws.proofs.Spelling.{three-fields, four-fields}
 
 -- ── rows ──
 

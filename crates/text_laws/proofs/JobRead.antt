@@ -13,9 +13,12 @@ use lib.Seq.{getD-append-add}
 use borrow.Author.Tests.{ltb-false, le-leb, not-false}
 use Rattle.model.specs.Piece.{Shape, tight, sideBound}
 use Rattle.model.specs.Refusal.{Outcome, given}
-use Rattle.model.specs.Lent.{Lent, turnsBound, areaBound, upTo, numbersInRange, entryColumns, entryRows, pixelStart, entryInRange, entryFits, lentShape, sheetInRange, lentWell}
+use Rattle.model.specs.Lent.{Lent, turnsBound, areaBound, upTo, numbersInRange, entryColumns, entryRows, pixelStart, entryInRange, entryFits, lentShape}
+use Rattle.model.specs.Lent.{sheetInRange, lentWell}
 use Rattle.model.specs.Text.{byte, Reading, wrong, got, onward, after, lineEnd, threeFields, fourFields, lineAt}
-use Rattle.model.specs.JobText.{jobWord, pieceWord, rowWord, JobLine, asJobLine, jobLineCauses, jobLine, PieceLine, asPieceLine, pieceInRange, pieceLineCauses, pieceLine, pixelMark, emptyMark, markAt, marksAt, rowAt, Rows, rowsAt, boxShape, PieceText, rowsCauses, asPieceText, pieceAt, Pieces, noPieces, withPiece, piecesAt, asLent, bufferCauses, readJob}
+use Rattle.model.specs.JobText.{jobWord, pieceWord, rowWord, JobLine, asJobLine, jobLineCauses, jobLine, PieceLine, asPieceLine, pieceInRange, pieceLineCauses}
+use Rattle.model.specs.JobText.{pieceLine, pixelMark, emptyMark, markAt, marksAt, rowAt, Rows, rowsAt, boxShape, PieceText, rowsCauses, asPieceText, pieceAt}
+use Rattle.model.specs.JobText.{Pieces, noPieces, withPiece, piecesAt, asLent, bufferCauses, readJob}
 use Rattle.list_laws.proofs.Numbers.{in-rows}
 use Rattle.list_laws.proofs.Tests.{and-left, and-right, and-both, or-neither}
 use Rattle.job_laws.proofs.Ranges.{at-least, side-facts}
@@ -183,7 +186,8 @@ pub record PiecesWell (j : JobLine) (left area : ℕ) (r : Pieces) : Type 0 wher
 pub sides-some : (l w o : ℕ) → sidesInRange l w o ≡ true → (0 < l) × (0 < w)
 sides-some l w o e = let s = side-facts l w o e in (at-least sideBound l (s .columns), at-least sideBound w (s .rows))
 
-module _ (j : JobLine) (left area : ℕ) (h : PieceText) (r : Pieces) (first : PieceWell j area h) (later : PiecesWell j left (area + h .columns * h .rows) r) where
+module _ (j : JobLine) (left area : ℕ) (h : PieceText) (r : Pieces) (first : PieceWell j area h)
+    (later : PiecesWell j left (area + h .columns * h .rows) r) where
   -- the piece in front has its own bytes
   front-size : length (h .pixels) ≡ h .columns * h .rows
   front-size = first .store .size ∙ mul-comm (h .rows) (h .columns)
@@ -294,7 +298,8 @@ job-line-read text j e =
     let k : JobLine = asJobLine (f .value) (f .next) in
     let u : Unless (jobLineCauses k) k j = given-unless (jobLineCauses k) k j (f .goes) in
     rw (← u .same)
-    (and-both (not-false (numbersInRange (k .size)) (u .none .0)) (le-leb (k .size .rows * k .size .columns) areaBound (ltb-false areaBound (k .size .rows * k .size .columns) (u .none .1 .0))))
+    (and-both (not-false (numbersInRange (k .size)) (u .none .0))
+    (le-leb (k .size .rows * k .size .columns) areaBound (ltb-false areaBound (k .size .rows * k .size .columns) (u .none .1 .0))))
 
 -- what reading a job gives passes the check of a lent job
 pub job-read-well : (text : List ℕ) (tableLength pixelsLength : ℕ) (k : Lent) → readJob text tableLength pixelsLength ≡ given k

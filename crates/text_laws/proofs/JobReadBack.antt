@@ -12,9 +12,11 @@ use lib.Seq.{length-take-le}
 use borrow.Author.Tests.{le-ltb, eq-eqb}
 use Rattle.model.specs.Piece.{tight, sideBound}
 use Rattle.model.specs.Refusal.{given}
-use Rattle.model.specs.Lent.{Lent, rowBound, columnBound, pieceBound, turnsBound, areaBound, upTo, numbersInRange, entryColumns, entryRows, entryTurns, pixelStart, entryInRange, lentShape, sheetInRange, lentWell}
+use Rattle.model.specs.Lent.{Lent, rowBound, columnBound, pieceBound, turnsBound, areaBound, upTo, numbersInRange, entryColumns, entryRows, entryTurns}
+use Rattle.model.specs.Lent.{pixelStart, entryInRange, lentShape, sheetInRange, lentWell}
 use Rattle.model.specs.Text.{Reading, got, onward, after, lineEnd, threeFields, fourFields, lineAt, lineText, formed, andThen}
-use Rattle.model.specs.JobText.{jobWord, pieceWord, rowWord, JobLine, jobLineCauses, jobLine, PieceLine, pieceLineCauses, pieceLine, markAt, marksAt, rowAt, rowsAt, boxShape, PieceText, asPieceText, pieceAt, noPieces, piecesAt, readJob}
+use Rattle.model.specs.JobText.{jobWord, pieceWord, rowWord, JobLine, jobLineCauses, jobLine, PieceLine, pieceLineCauses, pieceLine, markAt, marksAt, rowAt}
+use Rattle.model.specs.JobText.{rowsAt, boxShape, PieceText, asPieceText, pieceAt, noPieces, piecesAt, readJob}
 use Rattle.list_laws.proofs.Numbers.{in-rows}
 use Rattle.list_laws.proofs.Tests.{and-left}
 use Rattle.text_laws.proofs.Ahead.{Ahead, ahead-start, ahead-byte, ahead-next, ahead-word, after-ahead, ahead-end}
@@ -116,7 +118,8 @@ module _ (k : Lent) (facts : Facts k) (i : ℕ) (below : i < k .size .count) whe
   -- its bytes are 0 or 1
   box-bits : (m : ℕ) → m < pixelStart (k .table) i + entryRows (k .table) i * entryColumns (k .table) i → getD (k .pixels) m 0 ≤ 1
   box-bits m l =
-      facts .bits m (let e = start-end (k .table) i (k .size .count) below in let c = mul-comm (entryRows (k .table) i) (entryColumns (k .table) i) in omega arith)
+      facts .bits m
+      (let e = start-end (k .table) i (k .size .count) below in let c = mul-comm (entryRows (k .table) i) (entryColumns (k .table) i) in omega arith)
 
   -- its box is tight
   box-tight : tight (boxShape (entryColumns (k .table) i) (entryRows (k .table) i) (piecePixels k i)) ≡ true
@@ -232,7 +235,8 @@ exact-pixels k h =
 
 -- the job line that lies ahead
 job-line-ahead : {text : List ℕ} (k : Lent) → Facts k → (rest : List ℕ)
-    → Ahead text 0 (lineText jobWord threeFields (k .size .rows ∷ k .size .columns ∷ k .size .count ∷ []) ++ rest) → FieldGives (jobLine text) (sheetLine k) text rest
+    → Ahead text 0 (lineText jobWord threeFields (k .size .rows ∷ k .size .columns ∷ k .size .count ∷ []) ++ rest)
+    → FieldGives (jobLine text) (sheetLine k) text rest
 unfolding jobLine sheetInRange
 job-line-ahead {text} k facts rest a =
     let ks : List ℕ = k .size .rows ∷ k .size .columns ∷ k .size .count ∷ [] in
@@ -245,8 +249,10 @@ job-line-ahead {text} k facts rest a =
       next = r .next;
       gives =
           rw (r .reads, formed)
-          (unless-given (jobLineCauses (sheetLine k (r .next))) (sheetLine k (r .next))
-          (ap not (and-left (numbersInRange (k .size)) (leb (k .size .rows * k .size .columns) areaBound) (facts .sheet)), (le-ltb areaBound (k .size .rows * k .size .columns) (facts .area), tt)));
+          (unless-given (jobLineCauses (sheetLine k (r .next))) (sheetLine k (r .next)) (
+            ap not (and-left (numbersInRange (k .size)) (leb (k .size .rows * k .size .columns) areaBound) (facts .sheet)),
+            (le-ltb areaBound (k .size .rows * k .size .columns) (facts .area), tt),
+          ));
       ahead = r .ahead;
     }
 

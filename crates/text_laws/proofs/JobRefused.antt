@@ -11,14 +11,20 @@ use lib.Dec.{eqb, ltb}
 use lib.ListN.{length}
 use borrow.Author.Tests.{not-true, not-false, eqb-false, ltb-true, ltb-false, le-ltb}
 use Rattle.model.specs.Piece.{tight}
-use Rattle.model.specs.Refusal.{Outcome, refused, given, Cause, cause, refusalOf, wrongForm, outOfRange, sheetTooLarge, boxesTooLarge, looseBox, boxTooLarge, wrongLength}
+use Rattle.model.specs.Refusal.{Outcome, refused, given, Cause, cause, refusalOf, wrongForm, outOfRange, sheetTooLarge, boxesTooLarge, looseBox, boxTooLarge}
+use Rattle.model.specs.Refusal.{wrongLength}
 use Rattle.model.specs.Lent.{Lent, areaBound, upTo, numbersInRange}
 use Rattle.model.specs.Text.{threeFields, fourFields, lineAt, got, causeIn, andThen}
-use Rattle.model.specs.JobText.{jobWord, pieceWord, JobLine, asJobLine, jobLineCauses, jobLine, PieceLine, asPieceLine, pieceInRange, pieceLineCauses, pieceLine, rowAt, Rows, rowsAt, boxShape, PieceText, rowsCauses, asPieceText, pieceAt, noPieces, piecesAt, asLent, bufferCauses, readJob}
+use Rattle.model.specs.JobText.{jobWord, pieceWord, JobLine, asJobLine, jobLineCauses, jobLine, PieceLine, asPieceLine, pieceInRange, pieceLineCauses}
+use Rattle.model.specs.JobText.{pieceLine, rowAt, Rows, rowsAt, boxShape, PieceText, rowsCauses, asPieceText, pieceAt, noPieces, piecesAt, asLent, bufferCauses}
+use Rattle.model.specs.JobText.{readJob}
 use Rattle.model.specs.declared.Refusal.{Refusal}
 use Rattle.list_laws.proofs.Tests.{or-cases, or-neither}
 use Rattle.text_laws.specs.LinePlaces.{LineBegins, LineThere}
-use Rattle.text_laws.specs.JobRefusals.{RowsBefore, no-row, row-then, PiecesBefore, no-piece, piece-then, PiecePlace, RowPlace, EndPlace, SheetNumbers, PieceNumbers, JobFormWrong, wrong-job-line, wrong-piece-line, wrong-row-line, line-too-many, JobOutOfRange, sheet-out-of-range, piece-out-of-range, SheetTooLarge, BoxTooLarge, BoxesTooLarge, LooseBox, BufferShort, JobRefusalClaims}
+use Rattle.text_laws.specs.JobRefusals.{RowsBefore, no-row, row-then, PiecesBefore, no-piece, piece-then, PiecePlace, RowPlace, EndPlace, SheetNumbers}
+use Rattle.text_laws.specs.JobRefusals.{PieceNumbers, JobFormWrong, wrong-job-line, wrong-piece-line, wrong-row-line, line-too-many, JobOutOfRange}
+use Rattle.text_laws.specs.JobRefusals.{sheet-out-of-range, piece-out-of-range, SheetTooLarge, BoxTooLarge, BoxesTooLarge, LooseBox, BufferShort}
+use Rattle.text_laws.specs.JobRefusals.{JobRefusalClaims}
 use Rattle.text_laws.proofs.Outcomes.{refused-given, unless-given, given-before, given-formed, given-unless}
 use Rattle.text_laws.specs.Outcomes.{Unless}
 use Rattle.text_laws.proofs.Refused.{refused-unless, refused-before, refused-formed, chosen, choose}

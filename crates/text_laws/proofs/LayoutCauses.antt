@@ -13,11 +13,14 @@ use borrow.Author.Tests.{ne-eqb, eqb-true}
 use Rattle.model.specs.Layout.{Job, Layout}
 use Rattle.model.specs.Refusal.{refused, wrongForm, outOfRange, noSuchPiece, outsideSheet, wrongLength}
 use Rattle.model.specs.Text.{threeFields, field, formed, andThen}
-use Rattle.model.specs.LayoutText.{layoutWord, sheetNumbers, layoutLineCauses, layoutLine, PlacementLine, asPlacementLine, placementCauses, placementLine, placementsAt, readLayout}
+use Rattle.model.specs.LayoutText.{layoutWord, sheetNumbers, layoutLineCauses, layoutLine, PlacementLine, asPlacementLine, placementCauses, placementLine}
+use Rattle.model.specs.LayoutText.{placementsAt, readLayout}
 use Rattle.model.specs.declared.Refusal.{Refusal}
 use Rattle.list_laws.proofs.Tests.{and-left, and-right, fails}
 use Rattle.text_laws.specs.LinePlaces.{refusalOnLine}
-use Rattle.text_laws.specs.LayoutRefusals.{PlacementsBefore, no-placement, placement-then, PlacementPlace, PlacementNumbers, LayoutFormWrong, wrong-layout-line, wrong-placement-line, line-too-many, LayoutOutOfRange, sheet-unlike, placement-out-of-range, TurnNotAllowed, PlacementOutside, LayoutLengthWrong, LayoutCausesRefuse}
+use Rattle.text_laws.specs.LayoutRefusals.{PlacementsBefore, no-placement, placement-then, PlacementPlace, PlacementNumbers, LayoutFormWrong}
+use Rattle.text_laws.specs.LayoutRefusals.{wrong-layout-line, wrong-placement-line, line-too-many, LayoutOutOfRange, sheet-unlike, placement-out-of-range}
+use Rattle.text_laws.specs.LayoutRefusals.{TurnNotAllowed, PlacementOutside, LayoutLengthWrong, LayoutCausesRefuse}
 use Rattle.text_laws.proofs.Outcomes.{given-before}
 use Rattle.text_laws.proofs.Spelling.{line-spelled, three-fields}
 use Rattle.text_laws.proofs.Refused.{Refuses, unless-refused}

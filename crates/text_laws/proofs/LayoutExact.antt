@@ -15,7 +15,8 @@ use Rattle.model.specs.Refusal.{Outcome, given}
 use Rattle.model.specs.Lent.{rowBound, columnBound, pieceBound}
 use Rattle.model.specs.Buffer.{isTurn, entryOf}
 use Rattle.model.specs.Text.{threeFields, fourFields, lineAt, lineText, field}
-use Rattle.model.specs.LayoutText.{layoutWord, atWord, placementText, placementsText, sheetNumbers, layoutText, PlacementLine, asPlacementLine, layoutLineCauses, placementCauses, layoutLine, placementLine, placementsAt, readLayout}
+use Rattle.model.specs.LayoutText.{layoutWord, atWord, placementText, placementsText, sheetNumbers, layoutText, PlacementLine, asPlacementLine}
+use Rattle.model.specs.LayoutText.{layoutLineCauses, placementCauses, layoutLine, placementLine, placementsAt, readLayout}
 use Rattle.list_laws.proofs.Tests.{and-left, and-right}
 use Rattle.text_laws.specs.Exact.{LayoutWritten}
 use Rattle.text_laws.specs.Texts.{Placed}

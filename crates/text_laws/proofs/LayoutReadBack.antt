@@ -16,7 +16,8 @@ use Rattle.model.specs.Refusal.{given, unless}
 use Rattle.model.specs.Lent.{rowBound, columnBound, pieceBound}
 use Rattle.model.specs.Text.{threeFields, fourFields, lineAt, lineText, formed, andThen}
 use Rattle.model.specs.Buffer.{entryOf}
-use Rattle.model.specs.LayoutText.{layoutWord, atWord, placementText, placementsText, sheetNumbers, layoutText, layoutLineCauses, layoutLine, PlacementLine, placementCauses, placementLine, placementsAt, readLayout}
+use Rattle.model.specs.LayoutText.{layoutWord, atWord, placementText, placementsText, sheetNumbers, layoutText, layoutLineCauses, layoutLine, PlacementLine}
+use Rattle.model.specs.LayoutText.{placementCauses, placementLine, placementsAt, readLayout}
 use Rattle.model.specs.declared.Turn.{Turn}
 use Rattle.model.specs.declared.Turn.the-variants.{Zero, Quarter, Half, ThreeQuarters}
 use Rattle.model.specs.declared.Placement.{Placement}
@@ -39,8 +40,10 @@ corner-short : (j : Job) (i : ℕ) (p : Placement) → inside j i p ≡ true →
 unfolding inside
 corner-short j i p e =
     let s = turnedPiece j i (p .turn) in
-    let h : leb (p .x .0 + s .columns) (j .size .columns) ≡ true = and-left (leb (p .x .0 + s .columns) (j .size .columns)) (leb (p .y .0 + s .rows) (j .size .rows)) e in
-    let v : leb (p .y .0 + s .rows) (j .size .rows) ≡ true = and-right (leb (p .x .0 + s .columns) (j .size .columns)) (leb (p .y .0 + s .rows) (j .size .rows)) e in
+    let h : leb (p .x .0 + s .columns) (j .size .columns) ≡ true =
+    and-left (leb (p .x .0 + s .columns) (j .size .columns)) (leb (p .y .0 + s .rows) (j .size .rows)) e in
+    let v : leb (p .y .0 + s .rows) (j .size .rows) ≡ true =
+    and-right (leb (p .x .0 + s .columns) (j .size .columns)) (leb (p .y .0 + s .rows) (j .size .rows)) e in
     (let a = leb-true (p .x .0 + s .columns) (j .size .columns) h in omega arith, let a = leb-true (p .y .0 + s .rows) (j .size .rows) v in omega arith)
 
 -- the line of a placement that lies ahead gives the placement
@@ -95,7 +98,8 @@ layout-line-ahead {text} j rest hr hc hn a =
           rw (r .reads, formed)
           (unless-given (layoutLineCauses j ks) (r .next) (
             ap not
-                (and-both (and-both (eq-eqb (j .size .rows) (j .size .rows) refl) (eq-eqb (j .size .columns) (j .size .columns) refl)) (eq-eqb (j .size .count) (j .size .count) refl)),
+                (and-both (and-both (eq-eqb (j .size .rows) (j .size .rows) refl) (eq-eqb (j .size .columns) (j .size .columns) refl))
+                (eq-eqb (j .size .count) (j .size .count) refl)),
             tt,
           ));
       ahead = r .ahead;

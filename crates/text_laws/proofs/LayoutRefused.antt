@@ -14,11 +14,14 @@ use Rattle.model.specs.Piece.{degrees}
 use Rattle.model.specs.Layout.{Job, Layout, allowed, inside}
 use Rattle.model.specs.Refusal.{refused, Cause, cause, refusalOf, wrongForm, outOfRange, noSuchPiece, outsideSheet, wrongLength}
 use Rattle.model.specs.Text.{threeFields, fourFields, lineAt, field, causeIn, andThen}
-use Rattle.model.specs.LayoutText.{layoutWord, atWord, layoutLineCauses, layoutLine, PlacementLine, asPlacementLine, placementCauses, placementLine, placementsAt, readLayout}
+use Rattle.model.specs.LayoutText.{layoutWord, atWord, layoutLineCauses, layoutLine, PlacementLine, asPlacementLine, placementCauses, placementLine}
+use Rattle.model.specs.LayoutText.{placementsAt, readLayout}
 use Rattle.model.specs.declared.Refusal.{Refusal}
 use Rattle.list_laws.proofs.Tests.{and-both, clash}
 use Rattle.text_laws.specs.LinePlaces.{LineBegins, LineThere}
-use Rattle.text_laws.specs.LayoutRefusals.{PlacementsBefore, no-placement, placement-then, PlacementPlace, LayoutEnd, PlacementNumbers, LayoutFormWrong, wrong-layout-line, wrong-placement-line, line-too-many, namesPiece, LayoutOutOfRange, sheet-unlike, placement-out-of-range, TurnNotAllowed, PlacementOutside, LayoutLengthWrong, LayoutRefusalClaims}
+use Rattle.text_laws.specs.LayoutRefusals.{PlacementsBefore, no-placement, placement-then, PlacementPlace, LayoutEnd, PlacementNumbers, LayoutFormWrong}
+use Rattle.text_laws.specs.LayoutRefusals.{wrong-layout-line, wrong-placement-line, line-too-many, namesPiece, LayoutOutOfRange, sheet-unlike}
+use Rattle.text_laws.specs.LayoutRefusals.{placement-out-of-range, TurnNotAllowed, PlacementOutside, LayoutLengthWrong, LayoutRefusalClaims}
 use Rattle.text_laws.proofs.Outcomes.{refused-given, unless-given}
 use Rattle.text_laws.proofs.Refused.{refused-unless, refused-before, refused-formed, chosen, choose}
 use Rattle.text_laws.proofs.LineCounts.{first-line, three-line, four-line}

@@ -87,7 +87,8 @@ module _ (k : Lent) where
       })
 
   -- so the job without what lies beyond passes only if the job passes, where its entries and pixels are there
-  exactly-well : k .size .count ≤ length (k .table) → pixelStart (k .table) (k .size .count) ≤ length (k .pixels) → lentWell (exactJob k) ≡ true → lentWell k ≡ true
+  exactly-well : k .size .count ≤ length (k .table) → pixelStart (k .table) (k .size .count) ≤ length (k .pixels) → lentWell (exactJob k) ≡ true
+      → lentWell k ≡ true
   exactly-well he hp e =
       let f : Facts (exactJob k) = facts (exactJob k) e in
       let total : pixelStart (exactJob k .table) (k .size .count) ≡ pixelStart (k .table) (k .size .count) = same-start (k .size .count) (omega arith) in

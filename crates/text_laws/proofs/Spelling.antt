@@ -12,7 +12,8 @@ use lib.Dec.{eqb, leb, ltb}
 use lib.ListN.{length, getD, length-append}
 use lib.Seq.{ext-getD}
 use borrow.Author.Tests.{eq-eqb, eqb-true, eqb-false, lt-ltb, le-ltb, leb-true, ltb-true, not-true}
-use Rattle.model.specs.Text.{byte, digitZero, isDigit, Reading, wrong, got, standsAt, after, Digits, digitsFrom, digitBound, isNumber, numberAt, fieldAt, fieldsAt, lineAt, decimal, digits, fieldsText, lineText}
+use Rattle.model.specs.Text.{byte, digitZero, isDigit, Reading, wrong, got, standsAt, after, Digits, digitsFrom, digitBound, isNumber, numberAt, fieldAt}
+use Rattle.model.specs.Text.{fieldsAt, lineAt, decimal, digits, fieldsText, lineText}
 use Rattle.list_laws.proofs.Tests.{and-left, and-right, or-cases, clash}
 use Rattle.text_laws.proofs.Numbers.{AllDigits, valueFrom}
 use Rattle.text_laws.proofs.Outcomes.{wrong-got, Onward, got-onward}

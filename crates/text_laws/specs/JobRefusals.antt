@@ -1,7 +1,7 @@
 -- Document 01, 'When a call says no', reading a job: "No number comes without its cause." For each number the cause that its refusal has,
 -- on the line that the refusal's first place names. Every clause says of that line that the lines before it are read, where it begins,
 -- what it is to be, and what is wrong with it. Assumes nothing.
-use mathlib.Core.Bool.{Bool, true, false, _&&_}
+use mathlib.Core.Bool.{true, false}
 use mathlib.Core.List.{List}
 use mathlib.Core.Logic.{_⊎_}
 use mathlib.Core.Path.{_≡_}
@@ -11,7 +11,8 @@ use Rattle.model.specs.Piece.{tight}
 use Rattle.model.specs.Refusal.{refused, given, wrongForm, outOfRange, sheetTooLarge, boxesTooLarge, looseBox, boxTooLarge, wrongLength}
 use Rattle.model.specs.Lent.{Lent, areaBound, upTo, numbersInRange}
 use Rattle.model.specs.Text.{wrong, got, threeFields, fourFields, lineAt}
-use Rattle.model.specs.JobText.{jobWord, pieceWord, JobLine, asJobLine, jobLine, PieceLine, asPieceLine, pieceInRange, pieceLine, rowAt, Rows, rowsAt, boxShape, PieceText, pieceAt, readJob}
+use Rattle.model.specs.JobText.{jobWord, pieceWord, JobLine, asJobLine, jobLine, PieceLine, asPieceLine, pieceInRange, pieceLine, rowAt, Rows, rowsAt, boxShape}
+use Rattle.model.specs.JobText.{PieceText, pieceAt, readJob}
 use Rattle.model.specs.declared.Refusal.{Refusal}
 use Rattle.text_laws.specs.LinePlaces.{LineBegins, LineThere, refusalOnLine}
 

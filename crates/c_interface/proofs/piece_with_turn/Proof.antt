@@ -7,22 +7,27 @@ use Rattle.c_interface.specs.Numbers.{pieceWithTurn}
 use Rattle.c_interface.proofs.piece_with_turn.Statement.{statement}
 use Rattle.c_interface.proofs.piece_with_turn.Tie as tie
 
-turn-of-requires : tie.Need-turn-of-requires
-turn-of-requires c κs = search needs
-
-enum-told : tie.Need-enum-told
-enum-told c = search needs
-
-enum-told-2 : tie.Need-enum-told-2
-enum-told-2 c = search needs
-
 returns : tie.Need-returns
 unfolding isTurn
-returns c = rw (known-some (turnOfDegrees (c .before .before .before .args .turn)) _ (sym (c .enum-told .given .1) ∙ c .before .before .turn-of .ensures), pieceWithTurn, isTurn, turnPasses)
+returns c =
+    let at-start : tie.Start = search in
+    rw (
+      known-some (turnOfDegrees (at-start .args .turn)) _ (sym (c .enum-told .given .1) ∙ c .before .before .turn-of .ensures),
+      pieceWithTurn,
+      isTurn,
+      turnPasses,
+    )
 
 returns-2 : tie.Need-returns-2
 unfolding isTurn
-returns-2 c = rw (unknown-none (turnOfDegrees (c .before .before .before .args .turn)) (sym (c .enum-told2 .given .1) ∙ c .before .before .turn-of .ensures), pieceWithTurn, isTurn, turnPasses)
+returns-2 c =
+    let at-start : tie.Start = search in
+    rw (
+      unknown-none (turnOfDegrees (at-start .args .turn)) (sym (c .enum-told2 .given .1) ∙ c .before .before .turn-of .ensures),
+      pieceWithTurn,
+      isTurn,
+      turnPasses,
+    )
 
 pub piece-with-turn-spec : {M : Type 1} → statement M
-piece-with-turn-spec = tie.close (tie.spec turn-of-requires enum-told enum-told-2 returns returns-2)
+piece-with-turn-spec = tie.close (tie.spec (search needs) (search needs) (search needs) returns returns-2)

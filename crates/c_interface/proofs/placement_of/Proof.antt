@@ -3,11 +3,8 @@ use borrow.Author.Needs.{needs}
 use Rattle.c_interface.proofs.placement_of.Statement.{statement}
 use Rattle.c_interface.proofs.placement_of.Tie as tie
 
-turn-or-zero-requires : tie.Need-turn-or-zero-requires
-turn-or-zero-requires c κs = search needs
-
 returns : tie.Need-returns
 returns c = rw (c .turn-or-zero .ensures)
 
 pub placement-of-spec : {M : Type 1} → statement M
-placement-of-spec = tie.close (tie.spec turn-or-zero-requires returns)
+placement-of-spec = tie.close (tie.spec (search needs) returns)

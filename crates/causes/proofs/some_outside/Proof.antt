@@ -11,6 +11,7 @@ use Rattle.model.specs.Lent.{lentBy, jobOf}
 use Rattle.model.specs.Buffer.{layoutOf}
 use Rattle.model.specs.Calls.{someOutside}
 use Rattle.list_laws.proofs.Searches.{one-fails, none-fails}
+use borrow.Author.Needs.{needs}
 use Rattle.causes.proofs.some_outside.Statement.{statement}
 use Rattle.causes.proofs.some_outside.Tie as tie
 
@@ -26,43 +27,41 @@ loop-holds : tie.Need-loop-holds Inv-loop μ-loop
 loop-holds c = (omega arith, λ k l. absurd (omega arith))
 
 place-at-requires : tie.Need-place-at-requires Inv-loop μ-loop
-place-at-requires c κs = let h = c .before .before .before .pre .1 in omega arith
-
-inside-requires : tie.Need-inside-requires Inv-loop μ-loop
-inside-requires c κs = omega arith
+place-at-requires c κs =
+    let at-start : tie.Start Inv-loop μ-loop = search in
+    let h = at-start .pre .1 in omega arith
 
 returns : tie.Need-returns Inv-loop μ-loop
 unfolding someOutside jobOf
 returns c = λ pixels.
-    let a = c .before .before .before .before .before .before .args in
-    one-fails (a .size .count) (c .before .before .before .before .before .loop .i) (λ k. inside (jobOf (lentBy (a .size) (a .table .now) pixels)) k (placeOf (layoutOf (a .layout .now)) k)) (omega arith) (sym (rw (c .before .before .place-at .ensures) at (c .before .inside .ensures pixels)) ∙ not-true _ (c .if2 .taken))
+    let at-loop : tie.At-loop Inv-loop μ-loop = search in
+    let at-start : tie.Start Inv-loop μ-loop = search in
+    let a = at-start .args in
+    one-fails (a .size .count) (at-loop .loop .i) (λ k. inside (jobOf (lentBy (a .size) (a .table .now) pixels)) k (placeOf (layoutOf (a .layout .now)) k))
+    (omega arith) (sym (rw (c .before .before .place-at .ensures) at (c .before .inside .ensures pixels)) ∙ not-true _ (c .if2 .taken))
 
 add-i : tie.Need-add-i Inv-loop μ-loop
-add-i c = let h = c .before .before .before .before .before .before .pre .1 in omega arith
-
-loop-less : tie.Need-loop-less Inv-loop μ-loop
-loop-less c = omega arith
+add-i c =
+    let at-start : tie.Start Inv-loop μ-loop = search in
+    let h = at-start .pre .1 in omega arith
 
 loop-again : tie.Need-loop-again Inv-loop μ-loop
-loop-again c = (omega arith, below-more _ _ (c .before .before .before .before .before .loop .inv .1) (λ pixels. sym (rw (c .before .before .place-at .ensures) at (c .before .inside .ensures pixels)) ∙ not-false _ (c .if2 .left)))
+loop-again c =
+    let at-loop : tie.At-loop Inv-loop μ-loop = search in (
+      omega arith,
+      below-more _ _ (at-loop .loop .inv .1)
+          (λ pixels. sym (rw (c .before .before .place-at .ensures) at (c .before .inside .ensures pixels)) ∙ not-false _ (c .if2 .left)),
+    )
 
 returns-2 : tie.Need-returns-2 Inv-loop μ-loop
 unfolding someOutside jobOf
 returns-2 c = λ pixels.
-    let a = c .before .before .before .args in
-    none-fails (a .size .count) (c .before .before .loop .i) (λ k. inside (jobOf (lentBy (a .size) (a .table .now) pixels)) k (placeOf (layoutOf (a .layout .now)) k)) (c .if1 .left) (λ k l. c .before .before .loop .inv .1 k l pixels)
+    let at-start : tie.Start Inv-loop μ-loop = search in
+    let a = at-start .args in
+    none-fails (a .size .count) (c .before .before .loop .i)
+    (λ k. inside (jobOf (lentBy (a .size) (a .table .now) pixels)) k (placeOf (layoutOf (a .layout .now)) k)) (c .if1 .left)
+    (λ k l. c .before .before .loop .inv .1 k l pixels)
 
 pub some-outside-spec : {M : Type 1} → statement M
 some-outside-spec =
-    tie.close
-    (tie.spec
-    Inv-loop
-    μ-loop
-    loop-holds
-    place-at-requires
-    inside-requires
-    returns
-    add-i
-    loop-less
-    loop-again
-    returns-2)
+    tie.close (tie.spec Inv-loop μ-loop loop-holds place-at-requires (search needs) returns add-i (search needs) loop-again returns-2)

@@ -25,52 +25,45 @@ abbrev μ-loop : tie.MeasureT-loop
 loop-holds : tie.Need-loop-holds Inv-loop μ-loop
 loop-holds c = (omega arith, λ k l. absurd (omega arith))
 
-mul-allowed-degrees : tie.Need-mul-allowed-degrees Inv-loop μ-loop
-mul-allowed-degrees c = search needs
-
 index-1-allowed-degrees : tie.Need-index-1-allowed-degrees Inv-loop μ-loop
-index-1-allowed-degrees c = let h = c .before .before .before .pre .1 in omega arith
-
-index-2-allowed-degrees : tie.Need-index-2-allowed-degrees Inv-loop μ-loop
-index-2-allowed-degrees c = search needs
-
-allowed-degrees-requires : tie.Need-allowed-degrees-requires Inv-loop μ-loop
-allowed-degrees-requires c κs = omega arith
+index-1-allowed-degrees c =
+    let at-start : tie.Start Inv-loop μ-loop = search in
+    let h = at-start .pre .1 in omega arith
 
 returns : tie.Need-returns Inv-loop μ-loop
 unfolding someTurnWrong jobOf
 returns c = λ pixels.
-    let a = c .before .before .before .before .before .before .args in
-    one-fails (a .size .count) (c .before .before .before .before .before .loop .i) (λ k. allowedDegrees (jobOf (lentBy (a .size) (a .table .now) pixels)) k (getD (getD (a .layout .now) k []) 0 0)) (omega arith) (sym (c .before .allowed-degrees .ensures (a .size) pixels) ∙ not-true _ (c .if2 .taken))
+    let at-loop : tie.At-loop Inv-loop μ-loop = search in
+    let at-start : tie.Start Inv-loop μ-loop = search in
+    let a = at-start .args in
+    one-fails (a .size .count) (at-loop .loop .i)
+    (λ k. allowedDegrees (jobOf (lentBy (a .size) (a .table .now) pixels)) k (getD (getD (a .layout .now) k []) 0 0)) (omega arith)
+    (sym (c .before .allowed-degrees .ensures (a .size) pixels) ∙ not-true _ (c .if2 .taken))
 
 add-i : tie.Need-add-i Inv-loop μ-loop
-add-i c = let h = c .before .before .before .before .before .before .pre .1 in omega arith
-
-loop-less : tie.Need-loop-less Inv-loop μ-loop
-loop-less c = omega arith
+add-i c =
+    let at-start : tie.Start Inv-loop μ-loop = search in
+    let h = at-start .pre .1 in omega arith
 
 loop-again : tie.Need-loop-again Inv-loop μ-loop
-loop-again c = (omega arith, below-more _ _ (c .before .before .before .before .before .loop .inv .1) (λ pixels. sym (c .before .allowed-degrees .ensures (c .before .before .before .before .before .before .args .size) pixels) ∙ not-false _ (c .if2 .left)))
+loop-again c =
+    let at-loop : tie.At-loop Inv-loop μ-loop = search in
+    let at-start : tie.Start Inv-loop μ-loop = search in (
+      omega arith,
+      below-more _ _ (at-loop .loop .inv .1) (λ pixels. sym (c .before .allowed-degrees .ensures (at-start .args .size) pixels) ∙ not-false _ (c .if2 .left)),
+    )
 
 returns-2 : tie.Need-returns-2 Inv-loop μ-loop
 unfolding someTurnWrong jobOf
 returns-2 c = λ pixels.
-    let a = c .before .before .before .args in
-    none-fails (a .size .count) (c .before .before .loop .i) (λ k. allowedDegrees (jobOf (lentBy (a .size) (a .table .now) pixels)) k (getD (getD (a .layout .now) k []) 0 0)) (c .if1 .left) (λ k l. c .before .before .loop .inv .1 k l pixels)
+    let at-start : tie.Start Inv-loop μ-loop = search in
+    let a = at-start .args in
+    none-fails (a .size .count) (c .before .before .loop .i)
+    (λ k. allowedDegrees (jobOf (lentBy (a .size) (a .table .now) pixels)) k (getD (getD (a .layout .now) k []) 0 0)) (c .if1 .left)
+    (λ k l. c .before .before .loop .inv .1 k l pixels)
 
 pub some-turn-wrong-spec : {M : Type 1} → statement M
 some-turn-wrong-spec =
-    tie.close
-    (tie.spec
-    Inv-loop
-    μ-loop
-    loop-holds
-    mul-allowed-degrees
-    index-1-allowed-degrees
-    index-2-allowed-degrees
-    allowed-degrees-requires
-    returns
-    add-i
-    loop-less
-    loop-again
+    tie.close (tie.spec
+    Inv-loop μ-loop loop-holds (search needs) index-1-allowed-degrees (search needs) (search needs) returns add-i (search needs) loop-again
     returns-2)

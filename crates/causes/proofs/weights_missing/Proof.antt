@@ -1,6 +1,4 @@
 -- `causes::weights_missing` meets its contract: by the tests. Assumes nothing.
-use mathlib.Core.Bool.{not}
-use mathlib.Core.Path.{ap}
 use native.Mathlib.Omega.{arith}
 use borrow.Author.Needs.{needs}
 use Rattle.causes.proofs.weights_missing.Statement.{statement}

@@ -6,20 +6,13 @@ use Rattle.list_laws.proofs.Tests.{said-no, said-yes}
 use Rattle.job_limits.proofs.numbers_in_range.Statement.{statement}
 use Rattle.job_limits.proofs.numbers_in_range.Tie as tie
 
-up-to-requires : tie.Need-up-to-requires
-up-to-requires c κs = search needs
-
 returns : tie.Need-returns
 returns c = simp (said-no (c .before .up-to .ensures) (c .if1 .taken))
 
-up-to-requires-2 : tie.Need-up-to-requires-2
-up-to-requires-2 c κs = search needs
-
 returns-2 : tie.Need-returns-2
-returns-2 c = simp (said-yes (c .before .before .before .up-to .ensures) (c .before .before .if1 .left), said-no (c .before .up-to2 .ensures) (c .if2 .taken))
-
-up-to-requires-3 : tie.Need-up-to-requires-3
-up-to-requires-3 c κs = search needs
+returns-2 c =
+    let at-up-to : tie.After-up-to = search in
+    simp (said-yes (at-up-to .up-to .ensures) (c .before .before .if1 .left), said-no (c .before .up-to2 .ensures) (c .if2 .taken))
 
 -- after two tests that pass, the third is the answer
 third : (a b : Bool) {c r : Bool} → a ≡ true → b ≡ true → r ≡ c → r ≡ (a && b && c)
@@ -27,10 +20,10 @@ third a b e f g = simp (e, f, g)
 
 returns-3 : tie.Need-returns-3
 returns-3 c =
-    third _ _ (said-yes (c .before .before .before .before .up-to .ensures) (c .before .before .before .if1 .left))
+    let at-else1 : tie.Else1 = search in
+    let at-up-to : tie.After-up-to = search in
+    third _ _ (said-yes (at-up-to .up-to .ensures) (at-else1 .if1 .left))
     (said-yes (c .before .before .up-to2 .ensures) (c .before .if2 .left)) (c .up-to3 .ensures)
 
 pub numbers-in-range-spec : {M : Type 1} → statement M
-numbers-in-range-spec =
-    tie.close
-    (tie.spec up-to-requires returns up-to-requires-2 returns-2 up-to-requires-3 returns-3)
+numbers-in-range-spec = tie.close (tie.spec (search needs) returns (search needs) returns-2 (search needs) returns-3)

@@ -7,16 +7,14 @@ use borrow.Author.Needs.{needs}
 use Rattle.job_limits.proofs.sheet_in_range.Statement.{statement}
 use Rattle.job_limits.proofs.sheet_in_range.Tie as tie
 
-numbers-in-range-requires : tie.Need-numbers-in-range-requires
-numbers-in-range-requires c κs = search needs
-
 returns : tie.Need-returns
 unfolding sheetInRange
 returns c = simp (said-no (c .before .numbers-in-range .ensures) (c .if1 .taken))
 
 mul-result : tie.Need-mul-result
 mul-result c =
-    let m = sheet-small (c .before .before .before .args .size) (said-yes (c .before .before .numbers-in-range .ensures) (c .before .if1 .left)) in
+    let at-start : tie.Start = search in
+    let m = sheet-small (at-start .args .size) (said-yes (c .before .before .numbers-in-range .ensures) (c .before .if1 .left)) in
     omega arith
 
 returns-2 : tie.Need-returns-2
@@ -24,4 +22,4 @@ unfolding sheetInRange
 returns-2 c = simp (said-yes (c .before .before .numbers-in-range .ensures) (c .before .if1 .left))
 
 pub sheet-in-range-spec : {M : Type 1} → statement M
-sheet-in-range-spec = tie.close (tie.spec numbers-in-range-requires returns mul-result returns-2)
+sheet-in-range-spec = tie.close (tie.spec (search needs) returns mul-result returns-2)

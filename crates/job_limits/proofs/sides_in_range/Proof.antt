@@ -5,24 +5,33 @@ use Rattle.list_laws.proofs.Tests.{said-no, said-yes}
 use Rattle.job_limits.proofs.sides_in_range.Statement.{statement}
 use Rattle.job_limits.proofs.sides_in_range.Tie as tie
 
-up-to-requires : tie.Need-up-to-requires
-up-to-requires c κs = search needs
-
 returns : tie.Need-returns
 returns c = simp (said-no (c .before .up-to .ensures) (c .if1 .taken))
 
-up-to-requires-2 : tie.Need-up-to-requires-2
-up-to-requires-2 c κs = search needs
-
 returns-2 : tie.Need-returns-2
-returns-2 c = simp (said-yes (c .before .before .before .up-to .ensures) (c .before .before .if1 .left), said-no (c .before .up-to2 .ensures) (c .if2 .taken))
+returns-2 c =
+    let at-up-to : tie.After-up-to = search in
+    simp (said-yes (at-up-to .up-to .ensures) (c .before .before .if1 .left), said-no (c .before .up-to2 .ensures) (c .if2 .taken))
 
 returns-3 : tie.Need-returns-3
-returns-3 c = simp (said-yes (c .before .before .before .before .up-to .ensures) (c .before .before .before .if1 .left), said-yes (c .before .before .up-to2 .ensures) (c .before .if2 .left), ne-eqb _ _ (c .if3 .taken))
+returns-3 c =
+    let at-else1 : tie.Else1 = search in
+    let at-up-to : tie.After-up-to = search in
+    simp (
+      said-yes (at-up-to .up-to .ensures) (at-else1 .if1 .left),
+      said-yes (c .before .before .up-to2 .ensures) (c .before .if2 .left),
+      ne-eqb _ _ (c .if3 .taken),
+    )
 
 returns-4 : tie.Need-returns-4
-returns-4 c = simp (said-yes (c .before .before .before .before .up-to .ensures) (c .before .before .before .if1 .left), said-yes (c .before .before .up-to2 .ensures) (c .before .if2 .left), eq-eqb _ _ (c .if3 .left))
+returns-4 c =
+    let at-else1 : tie.Else1 = search in
+    let at-up-to : tie.After-up-to = search in
+    simp (
+      said-yes (at-up-to .up-to .ensures) (at-else1 .if1 .left),
+      said-yes (c .before .before .up-to2 .ensures) (c .before .if2 .left),
+      eq-eqb _ _ (c .if3 .left),
+    )
 
 pub sides-in-range-spec : {M : Type 1} → statement M
-sides-in-range-spec =
-    tie.close (tie.spec up-to-requires returns up-to-requires-2 returns-2 returns-3 returns-4)
+sides-in-range-spec = tie.close (tie.spec (search needs) returns (search needs) returns-2 returns-3 returns-4)

@@ -16,16 +16,21 @@ use Rattle.job_lines.proofs.job_fields.Tie as tie
 
 returns : tie.Need-returns
 returns c =
-    let a = c .before .before .before .before .before .before .args in
-    let e : lineAt jobWord threeFields (a .text .now) 0 ≡ wrong = rw (c .before .enum-told .given .1) at (c .before .before .before .line-at .ensures .same) in
+    let at-line-at : tie.After-line-at = search in
+    let at-start : tie.Start = search in
+    let a = at-start .args in
+    let e : lineAt jobWord threeFields (a .text .now) 0 ≡ wrong = rw (c .before .enum-told .given .1) at (at-line-at .line-at .ensures .same) in
     (ap job.Refused (c .refusal .ensures) ∙ sym (ap (λ (r : Reading (List ℕ)). jobAnswer (formed 1 r (λ ks next. given (asJobLine ks next)))) e), omega arith)
 
 returns-2 : tie.Need-returns-2
 returns-2 c =
-    let a = c .before .before .before .before .before .before .before .args in
-    let read = c .before .before .before .before .line-at in
+    let at-line-at : tie.After-line-at = search in
+    let at-start : tie.Start = search in
+    let a = at-start .args in
+    let read = at-line-at .line-at in
     let next = c .before .before .form .given .0 .0 in
-    let e : lineAt jobWord threeFields (a .text .now) 0 ≡ got (inFront (read .result .numbers) 3 []) next = rw (c .before .before .form .given .1) at (read .ensures .same) in
+    let e : lineAt jobWord threeFields (a .text .now) 0 ≡ got (inFront (read .result .numbers) 3 []) next =
+    rw (c .before .before .form .given .1) at (read .ensures .same) in
     let i : next ≤ length (a .text .now) = rw (c .before .before .form .given .1) at (read .ensures .inside) in
     (sym (ap (λ (r : Reading (List ℕ)). jobAnswer (formed 1 r (λ ks next. given (asJobLine ks next)))) e), i)
 

@@ -20,7 +20,9 @@ returns c =
     (ap job.Refused (c .refusal .ensures) ∙ simp (said-no (asked .numbers-in-range .ensures) (c .before .if1 .taken), unless), omega arith)
 
 -- the numbers pass where the first test is passed
-ranges : (p : tie.Else1) → numbersInRange (p .before .before .before .args .j .size) ≡ true
+ranges : (p : tie.Else1) →
+    let at-start' : tie.Start = search in
+    numbersInRange (at-start' .args .j .size) ≡ true
 ranges p = let asked : tie.After-numbers-in-range = search in said-yes (asked .numbers-in-range .ensures) (p .if1 .left)
 
 mul-if2 : tie.Need-mul-if2

@@ -14,60 +14,30 @@ use borrow.Author.Needs.{needs}
 use Rattle.job_lines.proofs.piece_fields.Statement.{statement}
 use Rattle.job_lines.proofs.piece_fields.Tie as tie
 
-slice-aggregate-line-at : tie.Need-slice-aggregate-line-at
-slice-aggregate-line-at c = search needs
-
-line-at-requires : tie.Need-line-at-requires
-line-at-requires c κs = search needs
-
-enum-known-form : tie.Need-enum-known-form
-enum-known-form c = search needs
-
-enum-told : tie.Need-enum-told
-enum-told c = search needs
-
-refusal-requires : tie.Need-refusal-requires
-refusal-requires c κs = search needs
-
 returns : tie.Need-returns
 returns c =
-    let a = c .before .before .before .before .before .before .args in
-    let e : lineAt pieceWord fourFields (a .text .now) (a .p) ≡ wrong = rw (c .before .enum-told .given .1) at (c .before .before .before .line-at .ensures .same) in
-    (ap piece.Refused (c .refusal .ensures) ∙ sym (ap (λ (r : Reading (List ℕ)). pieceAnswer (formed (a .line) r (λ ks next. given (asPieceLine ks next)))) e), omega arith)
-
-array-read-t14 : tie.Need-array-read-t14
-array-read-t14 c = search needs
-
-array-read-t17 : tie.Need-array-read-t17
-array-read-t17 c = search needs
-
-array-read-t20 : tie.Need-array-read-t20
-array-read-t20 c = search needs
-
-array-read-t23 : tie.Need-array-read-t23
-array-read-t23 c = search needs
+    let at-line-at : tie.After-line-at = search in
+    let at-start : tie.Start = search in
+    let a = at-start .args in
+    let e : lineAt pieceWord fourFields (a .text .now) (a .p) ≡ wrong = rw (c .before .enum-told .given .1) at (at-line-at .line-at .ensures .same) in (
+      ap piece.Refused (c .refusal .ensures) ∙ sym (ap (λ (r : Reading (List ℕ)). pieceAnswer (formed (a .line) r (λ ks next. given (asPieceLine ks next)))) e),
+      omega arith,
+    )
 
 returns-2 : tie.Need-returns-2
 returns-2 c =
-    let a = c .before .before .before .before .before .before .before .args in
-    let read = c .before .before .before .before .line-at in
+    let at-line-at : tie.After-line-at = search in
+    let at-start : tie.Start = search in
+    let a = at-start .args in
+    let read = at-line-at .line-at in
     let next = c .before .before .form .given .0 .0 in
-    let e : lineAt pieceWord fourFields (a .text .now) (a .p) ≡ got (inFront (read .result .numbers) 4 []) next = rw (c .before .before .form .given .1) at (read .ensures .same) in
+    let e : lineAt pieceWord fourFields (a .text .now) (a .p) ≡ got (inFront (read .result .numbers) 4 []) next =
+    rw (c .before .before .form .given .1) at (read .ensures .same) in
     let i : next ≤ length (a .text .now) = rw (c .before .before .form .given .1) at (read .ensures .inside) in
     (sym (ap (λ (r : Reading (List ℕ)). pieceAnswer (formed (a .line) r (λ ks next. given (asPieceLine ks next)))) e), i)
 
 pub piece-fields-spec : {M : Type 1} → statement M
 piece-fields-spec =
-    tie.close
-    (tie.spec
-    slice-aggregate-line-at
-    line-at-requires
-    enum-known-form
-    enum-told
-    refusal-requires
-    returns
-    array-read-t14
-    array-read-t17
-    array-read-t20
-    array-read-t23
-    returns-2)
+    tie.close (tie.spec
+    (search needs) (search needs) (search needs) (search needs) (search needs) returns (search needs) (search needs) (search needs)
+    (search needs) returns-2)

@@ -11,44 +11,33 @@ use borrow.Author.Needs.{needs}
 use Rattle.job_lines.proofs.piece_line.Statement.{statement}
 use Rattle.job_lines.proofs.piece_line.Tie as tie
 
-piece-fields-requires : tie.Need-piece-fields-requires
-piece-fields-requires c κs = search needs
-
-enum-known-h : tie.Need-enum-known-h
-enum-known-h c = search needs
-
-enum-told : tie.Need-enum-told
-enum-told c = search needs
-
-refusal-requires : tie.Need-refusal-requires
-refusal-requires c κs = search needs
-
 returns : tie.Need-returns
 returns c =
-    let a = c .before .before .before .before .before .args in
-    let text = a .text .now in
-    (ap piece.Refused (c .refusal .ensures) ∙ sym (piece-line-refused text (jobLineOf (a .j)) (a .i) (a .area) (a .p) (a .line) _ (sym (c .before .enum-told .given .1) ∙ c .before .before .before .piece-fields .ensures .0)), omega arith, tt)
-
-piece-ranges-requires : tie.Need-piece-ranges-requires
-piece-ranges-requires c κs = search needs
+    let at-piece-fields : tie.After-piece-fields = search in
+    let at-start : tie.Start = search in
+    let a = at-start .args in
+    let text = a .text .now in (
+      ap piece.Refused (c .refusal .ensures)
+          ∙ sym (piece-line-refused text (jobLineOf (a .j)) (a .i) (a .area) (a .p) (a .line) _
+          (sym (c .before .enum-told .given .1) ∙ at-piece-fields .piece-fields .ensures .0)),
+      omega arith,
+      tt,
+    )
 
 returns-2 : tie.Need-returns-2
 returns-2 c =
-    let a = c .before .before .before .before .before .before .args in
+    let at-piece-fields : tie.After-piece-fields = search in
+    let at-start : tie.Start = search in
+    let a = at-start .args in
     let text = a .text .now in
     let h = c .before .before .h .given .0 .0 in
-    let g : piece.Line h ≡ c .before .before .before .before .piece-fields .result = sym (c .before .before .h .given .1) in
-    let n : h .next ≤ length text = rw (sym g) at (c .before .before .before .before .piece-fields .ensures .1) in
-    (c .piece-ranges .ensures .0 ∙ sym (piece-line-ranged text (jobLineOf (a .j)) (a .i) (a .area) (a .p) (a .line) h (g ∙ c .before .before .before .before .piece-fields .ensures .0)), rw (c .piece-ranges .ensures .0) (le-trans (piece-next _ (pieceLineOf h)) n), c .piece-ranges .ensures .1)
+    let g : piece.Line h ≡ at-piece-fields .piece-fields .result = sym (c .before .before .h .given .1) in
+    let n : h .next ≤ length text = rw (sym g) at (at-piece-fields .piece-fields .ensures .1) in (
+      c .piece-ranges .ensures .0
+          ∙ sym (piece-line-ranged text (jobLineOf (a .j)) (a .i) (a .area) (a .p) (a .line) h (g ∙ at-piece-fields .piece-fields .ensures .0)),
+      rw (c .piece-ranges .ensures .0) (le-trans (piece-next _ (pieceLineOf h)) n),
+      c .piece-ranges .ensures .1,
+    )
 
 pub piece-line-spec : {M : Type 1} → statement M
-piece-line-spec =
-    tie.close
-    (tie.spec
-    piece-fields-requires
-    enum-known-h
-    enum-told
-    refusal-requires
-    returns
-    piece-ranges-requires
-    returns-2)
+piece-line-spec = tie.close (tie.spec (search needs) (search needs) (search needs) (search needs) returns (search needs) returns-2)

@@ -23,23 +23,18 @@ abbrev μ-loop : tie.MeasureT-loop
 loop-holds : tie.Need-loop-holds Inv-loop μ-loop
 loop-holds c = (omega arith, rw (sub-zero, add-zero, add-zero) refl, refl)
 
-add-byte-at : tie.Need-add-byte-at Inv-loop μ-loop
-add-byte-at c = omega arith
-
-byte-at-requires : tie.Need-byte-at-requires Inv-loop μ-loop
-byte-at-requires c κs = search needs
-
-mark-bit-requires : tie.Need-mark-bit-requires Inv-loop μ-loop
-mark-bit-requires c κs = search needs
-
 same-length : tie.Need-same-length Inv-loop μ-loop
-same-length c = c .before .before .before .before .loop .inv .2
+same-length c =
+    let at-loop : tie.At-loop Inv-loop μ-loop = search in
+    at-loop .loop .inv .2
 
 returns : tie.Need-returns Inv-loop μ-loop
 returns c =
-    let a = c .before .before .before .before .before .before .before .args in
+    let at-loop : tie.At-loop Inv-loop μ-loop = search in
+    let at-start : tie.Start Inv-loop μ-loop = search in
+    let a = at-start .args in
     let text = a .text .now in
-    let l = c .before .before .before .before .loop in
+    let l = at-loop .loop in
     let b : c .before .mark-bit .result ≡ markBit (byte text (a .p + l .k)) = c .before .mark-bit .ensures ∙ ap markBit (c .before .before .byte-at .ensures) in
     let m : markAt text (a .p + l .k) ≡ wrong = mark-none text (a .p + l .k) (rw (← b) (c .if1 .taken)) in
     let e : a .count - l .k ≡ suc (a .count - (l .k + 1)) = omega arith in
@@ -47,29 +42,23 @@ returns c =
     rw e (marks-none text (a .count - (l .k + 1)) (a .p + l .k) (a .at + l .k) (l .pixels) m) in
     stored-no (a .at) (a .pixels .now) (l .pixels) (marksAt text (a .count) (a .p)) (sym (l .inv .1) ∙ n)
 
-add-put-byte : tie.Need-add-put-byte Inv-loop μ-loop
-add-put-byte c = omega arith
-
-put-byte-requires : tie.Need-put-byte-requires Inv-loop μ-loop
-put-byte-requires c κs = omega arith
-
-add-k : tie.Need-add-k Inv-loop μ-loop
-add-k c = omega arith
-
-loop-less : tie.Need-loop-less Inv-loop μ-loop
-loop-less c = omega arith
-
 loop-again : tie.Need-loop-again Inv-loop μ-loop
 loop-again c =
-    let a = c .before .before .before .before .before .before .before .before .before .before .before .args in
+    let at-else1 : tie.Else1 Inv-loop μ-loop = search in
+    let at-mark-bit : tie.After-mark-bit Inv-loop μ-loop = search in
+    let at-byte-at : tie.After-byte-at Inv-loop μ-loop = search in
+    let at-loop : tie.At-loop Inv-loop μ-loop = search in
+    let at-start : tie.Start Inv-loop μ-loop = search in
+    let a = at-start .args in
     let text = a .text .now in
-    let l = c .before .before .before .before .before .before .before .before .loop in
+    let l = at-loop .loop in
     let k = l .k in
-    let bit = c .before .before .before .before .before .mark-bit .result in
-    let b : bit ≡ markBit (byte text (a .p + k)) = c .before .before .before .before .before .mark-bit .ensures ∙ ap markBit (c .before .before .before .before .before .before .byte-at .ensures) in
-    let m : markAt text (a .p + k) ≡ got bit (suc (a .p + k)) = rw b (mark-read text (a .p + k) (rw (← b) (c .before .before .before .before .if1 .left))) in
+    let bit = at-mark-bit .mark-bit .result in
+    let b : bit ≡ markBit (byte text (a .p + k)) = at-mark-bit .mark-bit .ensures ∙ ap markBit (at-byte-at .byte-at .ensures) in
+    let m : markAt text (a .p + k) ≡ got bit (suc (a .p + k)) = rw b (mark-read text (a .p + k) (rw (← b) (at-else1 .if1 .left))) in
     let e : a .count - k ≡ suc (a .count - (k + 1)) = omega arith in
-    let s : fillMarks text (a .count - k) (a .p + k) (a .at + k) (l .pixels) ≡ fillMarks text (a .count - (k + 1)) (suc (a .p + k)) (suc (a .at + k)) (set (l .pixels) (a .at + k) bit) =
+    let s : fillMarks text (a .count - k) (a .p + k) (a .at + k) (l .pixels)
+    ≡ fillMarks text (a .count - (k + 1)) (suc (a .p + k)) (suc (a .at + k)) (set (l .pixels) (a .at + k) bit) =
     rw e (marks-more text (a .count - (k + 1)) (a .p + k) (a .at + k) bit (suc (a .p + k)) (l .pixels) m) in
     let i : a .p + (k + 1) ≡ suc (a .p + k) = omega arith in
     let i′ : a .at + (k + 1) ≡ suc (a .at + k) = omega arith in
@@ -80,7 +69,8 @@ same-length-2 c = c .before .loop .inv .2
 
 returns-2 : tie.Need-returns-2 Inv-loop μ-loop
 returns-2 c =
-    let a = c .before .before .before .before .args in
+    let at-start : tie.Start Inv-loop μ-loop = search in
+    let a = at-start .args in
     let text = a .text .now in
     let l = c .before .loop in
     let e : a .count - l .k ≡ 0 = omega arith in
@@ -90,20 +80,6 @@ returns-2 c =
 
 pub fill-marks-spec : {M : Type 1} → statement M
 fill-marks-spec =
-    tie.close
-    (tie.spec
-    Inv-loop
-    μ-loop
-    loop-holds
-    add-byte-at
-    byte-at-requires
-    mark-bit-requires
-    same-length
-    returns
-    add-put-byte
-    put-byte-requires
-    add-k
-    loop-less
-    loop-again
-    same-length-2
-    returns-2)
+    tie.close (tie.spec
+    Inv-loop μ-loop loop-holds (search needs) (search needs) (search needs) same-length returns (search needs) (search needs)
+    (search needs) (search needs) loop-again same-length-2 returns-2)

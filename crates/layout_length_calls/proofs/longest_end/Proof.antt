@@ -23,35 +23,30 @@ unfolding rightmost
 loop-holds c = (omega arith, λ pixels. refl)
 
 right-end-requires : tie.Need-right-end-requires Inv-loop μ-loop
-right-end-requires c κs = let h = c .before .before .before .pre .1 in omega arith
-
-larger-requires : tie.Need-larger-requires Inv-loop μ-loop
-larger-requires c κs = search needs
+right-end-requires c κs =
+    let at-start : tie.Start Inv-loop μ-loop = search in
+    let h = at-start .pre .1 in omega arith
 
 add-i : tie.Need-add-i Inv-loop μ-loop
-add-i c = let h = c .before .before .before .before .before .pre .1 in omega arith
-
-loop-less : tie.Need-loop-less Inv-loop μ-loop
-loop-less c = omega arith
+add-i c =
+    let at-start : tie.Start Inv-loop μ-loop = search in
+    let h = at-start .pre .1 in omega arith
 
 loop-again : tie.Need-loop-again Inv-loop μ-loop
 unfolding rightmost
-loop-again c = (omega arith, λ pixels. let a = c .before .before .before .before .before .args in rw (add-one (c .before .before .before .before .loop .i), c .larger .ensures, c .before .right-end .ensures (a .size) pixels, c .before .before .before .before .loop .inv .1 pixels))
+loop-again c =
+    let at-loop : tie.At-loop Inv-loop μ-loop = search in
+    let at-start : tie.Start Inv-loop μ-loop = search in (
+      omega arith,
+      λ pixels. let a = at-start .args in
+          rw (add-one (at-loop .loop .i), c .larger .ensures, c .before .right-end .ensures (a .size) pixels, at-loop .loop .inv .1 pixels),
+    )
 
 returns : tie.Need-returns Inv-loop μ-loop
 unfolding usedLength jobOf
-returns c = λ pixels. let e : c .before .before .loop .i ≡ c .before .before .before .args .size .count = omega arith in rw (c .before .before .loop .inv .1 pixels, e)
+returns c = λ pixels.
+    let at-start : tie.Start Inv-loop μ-loop = search in
+    let e : c .before .before .loop .i ≡ at-start .args .size .count = omega arith in rw (c .before .before .loop .inv .1 pixels, e)
 
 pub longest-end-spec : {M : Type 1} → statement M
-longest-end-spec =
-    tie.close
-    (tie.spec
-    Inv-loop
-    μ-loop
-    loop-holds
-    right-end-requires
-    larger-requires
-    add-i
-    loop-less
-    loop-again
-    returns)
+longest-end-spec = tie.close (tie.spec Inv-loop μ-loop loop-holds right-end-requires (search needs) add-i (search needs) loop-again returns)

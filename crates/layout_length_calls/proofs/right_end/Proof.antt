@@ -3,21 +3,10 @@ use borrow.Author.Needs.{needs}
 use Rattle.layout_length_calls.proofs.right_end.Statement.{statement}
 use Rattle.layout_length_calls.proofs.right_end.Tie as tie
 
-place-at-requires : tie.Need-place-at-requires
-place-at-requires c κs = search needs
-
-turned-sides-requires : tie.Need-turned-sides-requires
-turned-sides-requires c κs = search needs
-
-cast-result : tie.Need-cast-result
-cast-result c = search needs
-
-add-result : tie.Need-add-result
-add-result c = search needs
-
 returns : tie.Need-returns
-returns c = λ size pixels. rw (c .before .before .turned-sides .ensures .0 size pixels, c .before .before .before .place-at .ensures)
+returns c = λ size pixels.
+    let at-place-at : tie.After-place-at = search in
+    rw (c .before .before .turned-sides .ensures .0 size pixels, at-place-at .place-at .ensures)
 
 pub right-end-spec : {M : Type 1} → statement M
-right-end-spec =
-    tie.close (tie.spec place-at-requires turned-sides-requires cast-result add-result returns)
+right-end-spec = tie.close (tie.spec (search needs) (search needs) (search needs) (search needs) returns)

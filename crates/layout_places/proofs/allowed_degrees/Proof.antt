@@ -13,7 +13,8 @@ unfolding allowedDegrees
 returns c =
     let at-start : tie.Start = search in
     let at-turn-of : tie.After-turn-of = search in
-    λ size pixels. rw (unknown-none (turnOfDegrees (at-start .args .degrees)) (sym (c .enum-told .given .1) ∙ at-turn-of .turn-of .ensures), allowedDegrees, turnPasses)
+    λ size pixels.
+    rw (unknown-none (turnOfDegrees (at-start .args .degrees)) (sym (c .enum-told .given .1) ∙ at-turn-of .turn-of .ensures), allowedDegrees, turnPasses)
 
 returns-2 : tie.Need-returns-2
 unfolding allowedDegrees jobOf
@@ -21,7 +22,8 @@ returns-2 c =
     let at-start : tie.Start = search in
     let at-turn : tie.After-turn = search in
     let at-turn-of : tie.After-turn-of = search in
-    λ size pixels. let k = known-some (turnOfDegrees (at-start .args .degrees)) _ (sym (at-turn .turn .given .1) ∙ at-turn-of .turn-of .ensures) in rw (k, allowedDegrees, turnPasses) (c .allowed .ensures size pixels)
+    λ size pixels. let k = known-some (turnOfDegrees (at-start .args .degrees)) _ (sym (at-turn .turn .given .1) ∙ at-turn-of .turn-of .ensures) in
+    rw (k, allowedDegrees, turnPasses) (c .allowed .ensures size pixels)
 
 pub allowed-degrees-spec : {M : Type 1} → statement M
 allowed-degrees-spec =

@@ -5,9 +5,6 @@ use Rattle.layout_places.proofs.Places.{bit-positive}
 use Rattle.layout_places.proofs.allows.Statement.{statement}
 use Rattle.layout_places.proofs.allows.Tie as tie
 
-turn-bit-requires : tie.Need-turn-bit-requires
-turn-bit-requires c κs = search needs
-
 div-result : tie.Need-div-result
 div-result c = rw (c .turn-bit .ensures) (bit-positive (c .before .args .turn))
 
@@ -16,4 +13,4 @@ unfolding allows
 returns c = rw (c .turn-bit .ensures)
 
 pub allows-spec : {M : Type 1} → statement M
-allows-spec = tie.close (tie.spec turn-bit-requires div-result returns)
+allows-spec = tie.close (tie.spec (search needs) div-result returns)

@@ -7,26 +7,13 @@ use Rattle.layout_places.proofs.Places.{inside-by-sides}
 use Rattle.layout_places.proofs.inside_at.Statement.{statement}
 use Rattle.layout_places.proofs.inside_at.Tie as tie
 
-turned-sides-requires : tie.Need-turned-sides-requires
-turned-sides-requires c κs = search needs
-
-cast-right : tie.Need-cast-right
-cast-right c = search needs
-
-add-right : tie.Need-add-right
-add-right c = search needs
-
-cast-top : tie.Need-cast-top
-cast-top c = search needs
-
-add-top : tie.Need-add-top
-add-top c = search needs
-
 returns : tie.Need-returns
 unfolding jobOf
 returns c = λ pixels.
-    let a = c .before .before .before .before .before .before .before .before .args in
-    let sides = c .before .before .before .before .before .before .before .turned-sides in
+    let at-turned-sides : tie.After-turned-sides = search in
+    let at-start : tie.Start = search in
+    let a = at-start .args in
+    let sides = at-turned-sides .turned-sides in
     rw (
       inside-by-sides (jobOf (lentBy (a .size) (a .table .now) pixels)) (a .i) (placeAt (a .turn) (a .x .0) (a .y .0)) _ (sides .ensures .0 (a .size) pixels),
       le-leb _ _ (c .before .if1 .taken),
@@ -35,12 +22,14 @@ returns c = λ pixels.
 returns-2 : tie.Need-returns-2
 unfolding jobOf
 returns-2 c = λ pixels.
-    let a = c .before .before .before .before .before .before .before .args in
-    let sides = c .before .before .before .before .before .before .turned-sides in
+    let at-turned-sides : tie.After-turned-sides = search in
+    let at-start : tie.Start = search in
+    let a = at-start .args in
+    let sides = at-turned-sides .turned-sides in
     rw (
       inside-by-sides (jobOf (lentBy (a .size) (a .table .now) pixels)) (a .i) (placeAt (a .turn) (a .x .0) (a .y .0)) _ (sides .ensures .0 (a .size) pixels),
       lt-leb _ _ (c .if1 .left),
     )
 
 pub inside-at-spec : {M : Type 1} → statement M
-inside-at-spec = tie.close (tie.spec turned-sides-requires cast-right add-right cast-top add-top returns returns-2)
+inside-at-spec = tie.close (tie.spec (search needs) (search needs) (search needs) (search needs) (search needs) returns returns-2)

@@ -6,23 +6,18 @@ use Rattle.layout_places.proofs.Places.{unknown-none, known-some}
 use Rattle.layout_places.proofs.turn_or_zero.Statement.{statement}
 use Rattle.layout_places.proofs.turn_or_zero.Tie as tie
 
-turn-of-requires : tie.Need-turn-of-requires
-turn-of-requires c κs = search needs
-
-enum-known-turn : tie.Need-enum-known-turn
-enum-known-turn c = search needs
-
-enum-told : tie.Need-enum-told
-enum-told c = search needs
-
 returns : tie.Need-returns
 unfolding turnOf
-returns c = rw (unknown-none (turnOfDegrees (c .before .before .before .args .degrees)) (sym (c .enum-told .given .1) ∙ c .before .before .turn-of .ensures), turnOf)
+returns c =
+    let at-start : tie.Start = search in
+    rw (unknown-none (turnOfDegrees (at-start .args .degrees)) (sym (c .enum-told .given .1) ∙ c .before .before .turn-of .ensures), turnOf)
 
 returns-2 : tie.Need-returns-2
 unfolding turnOf
-returns-2 c = rw (known-some (turnOfDegrees (c .before .before .before .before .args .degrees)) _ (sym (c .before .turn .given .1) ∙ c .before .before .before .turn-of .ensures), turnOf)
+returns-2 c =
+    let at-turn-of : tie.After-turn-of = search in
+    let at-start : tie.Start = search in
+    rw (known-some (turnOfDegrees (at-start .args .degrees)) _ (sym (c .before .turn .given .1) ∙ at-turn-of .turn-of .ensures), turnOf)
 
 pub turn-or-zero-spec : {M : Type 1} → statement M
-turn-or-zero-spec =
-    tie.close (tie.spec turn-of-requires enum-known-turn enum-told returns returns-2)
+turn-or-zero-spec = tie.close (tie.spec (search needs) (search needs) (search needs) returns returns-2)

@@ -16,89 +16,62 @@ use Rattle.layout_read_calls.proofs.Whole.{layout-refused, ReadGiven, l
 use Rattle.layout_read_calls.proofs.fill_layout.Statement.{statement}
 use Rattle.layout_read_calls.proofs.fill_layout.Tie as tie
 
-slice-relend-prefix-read-placements : tie.Need-slice-relend-prefix-read-placements
-slice-relend-prefix-read-placements c = search needs
-
-slice-aggregate-read-placements : tie.Need-slice-aggregate-read-placements
-slice-aggregate-read-placements c = search needs
-
-read-placements-requires : tie.Need-read-placements-requires
-read-placements-requires c κs = search needs
-
-enum-known-refusal : tie.Need-enum-known-refusal
-enum-known-refusal c = search needs
-
-same-length : tie.Need-same-length
-same-length c = search needs
-
 returns : tie.Need-returns
 returns c =
-    let a = c .before .before .before .before .before .before .before .args in
-    let first = c .before .before .before .before .read-placements in
+    let at-read-placements : tie.After-read-placements = search in
+    let at-start : tie.Start = search in
+    let a = at-start .args in
+    let first = at-read-placements .read-placements in
     let none : first .last .1 .1 .1 .1 .0 ≡ [] = nothing-left _ (first .kept .1 .1 .1 .1 .0) in
     λ pixels.
-    let o : layoutFrom (jobOf (lentBy (a .size) (a .table .now) pixels)) (a .text .now) (a .p) (length (a .layout .now)) ≡ refused (c .before .refusal .given .0 .0) =
-    from-refused (lentBy (a .size) (a .table .now) pixels) (a .text .now) (a .p) _ _ (layout-refused (placementsAt (jobOf (lentBy (a .size) (a .table .now) pixels)) (a .text .now) (a .size .count) 0 (a .p) 2) _ (sym (c .before .refusal .given .1) ∙ first .ensures .0 pixels)) in
+    let o : layoutFrom (jobOf (lentBy (a .size) (a .table .now) pixels)) (a .text .now) (a .p) (length (a .layout .now))
+    ≡ refused (c .before .refusal .given .0 .0) =
+    from-refused (lentBy (a .size) (a .table .now) pixels) (a .text .now) (a .p) _ _
+    (layout-refused (placementsAt (jobOf (lentBy (a .size) (a .table .now) pixels)) (a .text .now) (a .size .count) 0 (a .p) 2) _
+    (sym (c .before .refusal .given .1) ∙ first .ensures .0 pixels)) in
     (sym (ap doneAnswer o), rw none (sym (ap (layoutAfter (a .layout .now)) o)))
-
-enum-told : tie.Need-enum-told
-enum-told c = search needs
-
-refused-requires : tie.Need-refused-requires
-refused-requires c κs = search needs
-
-same-length-2 : tie.Need-same-length-2
-same-length-2 c = search needs
 
 returns-2 : tie.Need-returns-2
 returns-2 c =
-    let a = c .before .before .before .before .before .before .before .before .before .args in
-    let first = c .before .before .before .before .before .before .read-placements in
+    let at-enum-told : tie.After-enum-told = search in
+    let at-read-placements : tie.After-read-placements = search in
+    let at-start : tie.Start = search in
+    let a = at-start .args in
+    let first = at-read-placements .read-placements in
     let none : first .last .1 .1 .1 .1 .0 ≡ [] = nothing-left _ (first .kept .1 .1 .1 .1 .0) in
     λ pixels.
-    let v : ReadGiven (placementsAt (jobOf (lentBy (a .size) (a .table .now) pixels)) (a .text .now) (a .size .count) 0 (a .p) 2) = layout-given _ (sym (c .before .before .before .enum-told .given .1) ∙ first .ensures .0 pixels) in
+    let v : ReadGiven (placementsAt (jobOf (lentBy (a .size) (a .table .now) pixels)) (a .text .now) (a .size .count) 0 (a .p) 2) =
+    layout-given _ (sym (at-enum-told .enum-told .given .1) ∙ first .ensures .0 pixels) in
     let unlike : length (a .layout .now) ≡ a .size .count → ⊥ = rw none at (c .before .if1 .taken) in
     let o : layoutFrom (jobOf (lentBy (a .size) (a .table .now) pixels)) (a .text .now) (a .p) (length (a .layout .now)) ≡ refused (plainRefusal 7) =
     from-unlike (lentBy (a .size) (a .table .now) pixels) (a .text .now) (a .p) _ (v .layout) (v .gives) unlike in
     (c .refused .ensures ∙ sym (ap doneAnswer o), rw none (sym (ap (layoutAfter (a .layout .now)) o)))
 
-read-placements-requires-2 : tie.Need-read-placements-requires-2
-read-placements-requires-2 c κs = search needs
-
-same-length-3 : tie.Need-same-length-3
-same-length-3 c = search needs
-
 returns-3 : tie.Need-returns-3
 returns-3 c =
-    let a = c .before .before .before .before .before .before .before .before .before .before .before .args in
-    let first = c .before .before .before .before .before .before .before .before .read-placements in
+    let at-else1 : tie.Else1 = search in
+    let at-enum-told : tie.After-enum-told = search in
+    let at-read-placements : tie.After-read-placements = search in
+    let at-start : tie.Start = search in
+    let a = at-start .args in
+    let first = at-read-placements .read-placements in
     let none : first .last .1 .1 .1 .1 .0 ≡ [] = nothing-left _ (first .kept .1 .1 .1 .1 .0) in
     λ pixels.
-    let v : ReadGiven (placementsAt (jobOf (lentBy (a .size) (a .table .now) pixels)) (a .text .now) (a .size .count) 0 (a .p) 2) = layout-given _ (sym (c .before .before .before .before .before .enum-told .given .1) ∙ first .ensures .0 pixels) in
-    let like : length (a .layout .now) ≡ a .size .count = rw none at (c .before .before .before .if1 .left) in
+    let v : ReadGiven (placementsAt (jobOf (lentBy (a .size) (a .table .now) pixels)) (a .text .now) (a .size .count) 0 (a .p) 2) =
+    layout-given _ (sym (at-enum-told .enum-told .given .1) ∙ first .ensures .0 pixels) in
+    let like : length (a .layout .now) ≡ a .size .count = rw none at (at-else1 .if1 .left) in
     let o : layoutFrom (jobOf (lentBy (a .size) (a .table .now) pixels)) (a .text .now) (a .p) (length (a .layout .now)) ≡ given (v .layout) =
     from-given (lentBy (a .size) (a .table .now) pixels) (a .text .now) (a .p) _ (v .layout) (v .gives) like in
     let second = c .before .read-placements2 .ensures in
     let long : length (entriesOf (v .layout)) ≡ length (a .layout .now) =
     length-map (v .layout) entryOf ∙ placements-count _ _ _ _ _ _ (v .layout) (v .gives) ∙ sym like in (
       second .0 pixels ∙ ap doneAnswer (v .gives) ∙ sym (ap doneAnswer o),
-      rw none at (second .1 pixels (v .layout) (v .gives)) ∙ sets-whole (entriesOf (v .layout)) (a .layout .now) long ∙ sym (ap (layoutAfter (a .layout .now)) o),
+      rw none at (second .1 pixels (v .layout) (v .gives)) ∙ sets-whole (entriesOf (v .layout)) (a .layout .now) long
+          ∙ sym (ap (layoutAfter (a .layout .now)) o),
     )
 
 pub fill-layout-spec : {M : Type 1} → statement M
 fill-layout-spec =
-    tie.close
-    (tie.spec
-    slice-relend-prefix-read-placements
-    slice-aggregate-read-placements
-    read-placements-requires
-    enum-known-refusal
-    same-length
-    returns
-    enum-told
-    refused-requires
-    same-length-2
-    returns-2
-    read-placements-requires-2
-    same-length-3
-    returns-3)
+    tie.close (tie.spec
+    (search needs) (search needs) (λ c κs. search needs) (search needs) (search needs) returns (search needs) (search needs) (search needs)
+    returns-2 (λ c κs. search needs) (search needs) returns-3)

@@ -17,8 +17,10 @@ returns c =
     let at-turn-on-line : tie.After-turn-on-line = search in
     let a = at-start .args in
     let f = a .fields in
-    let unknown : turnOnLine (a .i) (f .number) (f .degrees) ≡ none = unknown-none _ (sym (c .before .enum-told .given .1) ∙ at-turn-on-line .turn-on-line .ensures) in
-    λ pixels. rw (c .refused-in .ensures, place-unknown (jobOf (lentBy (a .size) (a .table .now) pixels)) (a .i) (a .line) (f .number) (f .degrees) (f .x) (f .y) unknown)
+    let unknown : turnOnLine (a .i) (f .number) (f .degrees) ≡ none =
+    unknown-none _ (sym (c .before .enum-told .given .1) ∙ at-turn-on-line .turn-on-line .ensures) in
+    λ pixels.
+    rw (c .refused-in .ensures, place-unknown (jobOf (lentBy (a .size) (a .table .now) pixels)) (a .i) (a .line) (f .number) (f .degrees) (f .x) (f .y) unknown)
 
 returns-2 : tie.Need-returns-2
 unfolding jobOf
@@ -32,7 +34,12 @@ returns-2 c =
     let f = a .fields in
     let t = at-turn .turn .given .0 .0 in
     let known : turnOnLine (a .i) (f .number) (f .degrees) ≡ some t = known-some _ t (sym (at-turn .turn .given .1) ∙ at-turn-on-line .turn-on-line .ensures) in
-    λ pixels. rw (c .refused-in2 .ensures, place-forbidden (jobOf (lentBy (a .size) (a .table .now) pixels)) (a .i) (a .line) (f .number) (f .degrees) (f .x) (f .y) t known (sym (at-allowed .allowed .ensures (a .size) pixels) ∙ not-true _ (taken1 .if1 .taken)))
+    λ pixels.
+    rw (
+      c .refused-in2 .ensures,
+      place-forbidden (jobOf (lentBy (a .size) (a .table .now) pixels)) (a .i) (a .line) (f .number) (f .degrees) (f .x) (f .y) t known
+          (sym (at-allowed .allowed .ensures (a .size) pixels) ∙ not-true _ (taken1 .if1 .taken)),
+    )
 
 returns-3 : tie.Need-returns-3
 unfolding jobOf
@@ -53,8 +60,14 @@ returns-3 c =
     let known : turnOnLine (a .i) (f .number) (f .degrees) ≡ some t = known-some _ t (sym (at-turn .turn .given .1) ∙ at-turn-on-line .turn-on-line .ensures) in
     λ pixels.
     let j = jobOf (lentBy (a .size) (a .table .now) pixels) in
-    let clip = clipped-inside j (a .i) t (f .x) (f .y) (at-clipped .clipped .result) (at-clipped2 .clipped2 .result) (p .1) (p .2) (at-clipped .clipped .ensures) (at-clipped2 .clipped2 .ensures) in
-    rw (c .refused-in3 .ensures, place-outside j (a .i) (a .line) (f .number) (f .degrees) (f .x) (f .y) t known (sym (at-allowed .allowed .ensures (a .size) pixels) ∙ not-false _ (passed1 .if1 .left)) (sym clip ∙ sym (at-inside-at .inside-at .ensures pixels) ∙ not-true _ (taken2 .if2 .taken)))
+    let clip = clipped-inside j (a .i) t (f .x) (f .y) (at-clipped .clipped .result) (at-clipped2 .clipped2 .result) (p .1) (p .2)
+    (at-clipped .clipped .ensures) (at-clipped2 .clipped2 .ensures) in
+    rw (
+      c .refused-in3 .ensures,
+      place-outside j (a .i) (a .line) (f .number) (f .degrees) (f .x) (f .y) t known
+          (sym (at-allowed .allowed .ensures (a .size) pixels) ∙ not-false _ (passed1 .if1 .left))
+          (sym clip ∙ sym (at-inside-at .inside-at .ensures pixels) ∙ not-true _ (taken2 .if2 .taken)),
+    )
 
 returns-4 : tie.Need-returns-4
 unfolding jobOf
@@ -74,10 +87,15 @@ returns-4 c =
     let known : turnOnLine (a .i) (f .number) (f .degrees) ≡ some t = known-some _ t (sym (at-turn .turn .given .1) ∙ at-turn-on-line .turn-on-line .ensures) in
     λ pixels.
     let j = jobOf (lentBy (a .size) (a .table .now) pixels) in
-    let clip = clipped-inside j (a .i) t (f .x) (f .y) (at-clipped .clipped .result) (at-clipped2 .clipped2 .result) (p .1) (p .2) (at-clipped .clipped .ensures) (at-clipped2 .clipped2 .ensures) in
+    let clip = clipped-inside j (a .i) t (f .x) (f .y) (at-clipped .clipped .result) (at-clipped2 .clipped2 .result) (p .1) (p .2)
+    (at-clipped .clipped .ensures) (at-clipped2 .clipped2 .ensures) in
     let in-sheet = sym clip ∙ sym (at-inside-at .inside-at .ensures pixels) ∙ not-false _ (c .if2 .left) in
-    ap PlaceAnswer.Placed (clipped-same j (a .i) t (f .x) (f .y) (at-clipped .clipped .result) (at-clipped2 .clipped2 .result) (p .1) (p .2) (at-clipped .clipped .ensures) (at-clipped2 .clipped2 .ensures) in-sheet)
-    ∙ sym (ap placeAnswer (place-given j (a .i) (a .line) (f .number) (f .degrees) (f .x) (f .y) t known (sym (at-allowed .allowed .ensures (a .size) pixels) ∙ not-false _ (passed1 .if1 .left)) in-sheet))
+    ap PlaceAnswer.Placed
+    (clipped-same j (a .i) t (f .x) (f .y) (at-clipped .clipped .result) (at-clipped2 .clipped2 .result) (p .1) (p .2) (at-clipped .clipped .ensures)
+    (at-clipped2 .clipped2 .ensures) in-sheet)
+    ∙ sym (ap placeAnswer
+    (place-given j (a .i) (a .line) (f .number) (f .degrees) (f .x) (f .y) t known
+    (sym (at-allowed .allowed .ensures (a .size) pixels) ∙ not-false _ (passed1 .if1 .left)) in-sheet))
 
 pub placement-of-spec : {M : Type 1} → statement M
 placement-of-spec =

@@ -10,7 +10,9 @@ returns-2 : tie.Need-returns-2
 returns-2 c = rw (eq-eqb _ _ (c .before .before .if1 .left), ne-eqb _ _ (c .if2 .taken))
 
 returns-3 : tie.Need-returns-3
-returns-3 c = rw (eq-eqb _ _ (c .before .before .before .if1 .left), eq-eqb _ _ (c .before .if2 .left))
+returns-3 c =
+    let at-else1 : tie.Else1 = search in
+    rw (eq-eqb _ _ (at-else1 .if1 .left), eq-eqb _ _ (c .before .if2 .left))
 
 pub same-sheet-spec : {M : Type 1} → statement M
 same-sheet-spec = tie.close (tie.spec returns returns-2 returns-3)

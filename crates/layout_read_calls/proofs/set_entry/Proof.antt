@@ -5,18 +5,6 @@ use lib.Seq.{set-out}
 use Rattle.layout_read_calls.proofs.set_entry.Statement.{statement}
 use Rattle.layout_read_calls.proofs.set_entry.Tie as tie
 
-entry-of-requires : tie.Need-entry-of-requires
-entry-of-requires c κs = search needs
-
-mul-t7 : tie.Need-mul-t7
-mul-t7 c = search needs
-
-slice-set-from-layout : tie.Need-slice-set-from-layout
-slice-set-from-layout c = search needs
-
-same-length : tie.Need-same-length
-same-length c = search needs
-
 returns : tie.Need-returns
 returns c = rw (c .entry-of .ensures)
 
@@ -24,6 +12,4 @@ returns-2 : tie.Need-returns-2
 returns-2 c = sym (set-out _ _ _ (c .if1 .left))
 
 pub set-entry-spec : {M : Type 1} → statement M
-set-entry-spec =
-    tie.close
-    (tie.spec entry-of-requires mul-t7 slice-set-from-layout same-length returns returns-2)
+set-entry-spec = tie.close (tie.spec (search needs) (search needs) (search needs) (search needs) returns returns-2)

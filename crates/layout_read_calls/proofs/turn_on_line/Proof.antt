@@ -12,14 +12,8 @@ returns c = rw (ne-eqb _ _ (c .if1 .taken), turnOnLine)
 returns-2 : tie.Need-returns-2
 returns-2 c = rw (eq-eqb _ _ (c .before .if1 .left), turnOnLine, no-turn-above _ (c .if2 .taken))
 
-cast-turn-of : tie.Need-cast-turn-of
-cast-turn-of c = search needs
-
-turn-of-requires : tie.Need-turn-of-requires
-turn-of-requires c κs = search needs
-
 returns-3 : tie.Need-returns-3
 returns-3 c = rw (eq-eqb _ _ (c .before .before .if1 .left), turnOnLine) (c .turn-of .ensures)
 
 pub turn-on-line-spec : {M : Type 1} → statement M
-turn-on-line-spec = tie.close (tie.spec returns returns-2 cast-turn-of turn-of-requires returns-3)
+turn-on-line-spec = tie.close (tie.spec returns returns-2 (search needs) (search needs) returns-3)

@@ -15,50 +15,37 @@ use borrow.Author.Needs.{needs}
 use Rattle.layout_sum_calls.proofs.check.Statement.{statement}
 use Rattle.layout_sum_calls.proofs.check.Tie as tie
 
-layout-causes-requires : tie.Need-layout-causes-requires
-layout-causes-requires c κs = search needs
-
-enum-known-refusal : tie.Need-enum-known-refusal
-enum-known-refusal c = search needs
-
-enum-told : tie.Need-enum-told
-enum-told c = search needs
-
 sharing-pair-requires : tie.Need-sharing-pair-requires
 sharing-pair-requires c κs =
-    let a = c .before .before .before .before .args in
+    let at-start : tie.Start = search in
+    let a = at-start .args in
     let l : Lent = lentBy (a .size) (a .table .now) (a .pixels .now) in
     let none : NoCause (layoutCauses l (a .layout .now)) = passed-none _ (sym (c .enum-told .given .1) ∙ c .before .before .layout-causes .ensures) in
     layout-laid l (a .layout .now) none
 
-shared-answer-requires : tie.Need-shared-answer-requires
-shared-answer-requires c κs = search needs
-
 returns : tie.Need-returns
 unfolding checkCall
 returns c =
-    let a = c .before .before .before .before .before .args in
+    let at-layout-causes : tie.After-layout-causes = search in
+    let at-start : tie.Start = search in
+    let a = at-start .args in
     let l : Lent = lentBy (a .size) (a .table .now) (a .pixels .now) in
-    sym (ap doneAnswer (refused-then (layoutCauses l (a .layout .now)) (sharedCause (sharingPair (jobOf l) (layoutOf (a .layout .now))) ∷ []) tt _ (sym (c .before .refusal .given .1) ∙ c .before .before .before .layout-causes .ensures)))
+    sym (ap doneAnswer
+    (refused-then (layoutCauses l (a .layout .now)) (sharedCause (sharingPair (jobOf l) (layoutOf (a .layout .now))) ∷ []) tt _
+    (sym (c .before .refusal .given .1) ∙ at-layout-causes .layout-causes .ensures)))
 
 returns-2 : tie.Need-returns-2
 unfolding checkCall
 returns-2 c =
-    let a = c .before .before .before .before .before .before .args in
+    let at-layout-causes : tie.After-layout-causes = search in
+    let at-start : tie.Start = search in
+    let a = at-start .args in
     let l : Lent = lentBy (a .size) (a .table .now) (a .pixels .now) in
-    let none : NoCause (layoutCauses l (a .layout .now)) = passed-none _ (sym (c .before .before .enum-told .given .1) ∙ c .before .before .before .before .layout-causes .ensures) in
+    let none : NoCause (layoutCauses l (a .layout .now)) =
+    passed-none _ (sym (c .before .before .enum-told .given .1) ∙ at-layout-causes .layout-causes .ensures) in
     let pair = sharingPair (jobOf l) (layoutOf (a .layout .now)) in
     c .shared-answer .ensures ∙ ap sharedAnswer (c .before .sharing-pair .ensures) ∙ shared-check pair
     ∙ sym (ap doneAnswer (none-then (layoutCauses l (a .layout .now)) (sharedCause pair ∷ []) tt none))
 
 pub check-spec : {M : Type 1} → statement M
-check-spec =
-    tie.close
-    (tie.spec
-    layout-causes-requires
-    enum-known-refusal
-    enum-told
-    sharing-pair-requires
-    shared-answer-requires
-    returns
-    returns-2)
+check-spec = tie.close (tie.spec (search needs) (search needs) (search needs) sharing-pair-requires (search needs) returns returns-2)

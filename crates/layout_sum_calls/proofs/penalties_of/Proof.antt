@@ -9,82 +9,55 @@ use borrow.Author.Needs.{needs}
 use Rattle.layout_sum_calls.proofs.penalties_of.Statement.{statement}
 use Rattle.layout_sum_calls.proofs.penalties_of.Tie as tie
 
-empty-store-requires : tie.Need-empty-store-requires
-empty-store-requires c κs = search needs
-
-empty-store-requires-2 : tie.Need-empty-store-requires-2
-empty-store-requires-2 c κs = search needs
-
 slice-aggregate-make-shapes : tie.Need-slice-aggregate-make-shapes
 slice-aggregate-make-shapes c = sym (c .before .before .empty-store .ensures)
 
-slice-aggregate-make-shapes-2 : tie.Need-slice-aggregate-make-shapes-2
-slice-aggregate-make-shapes-2 c = search needs
-
 make-shapes-requires : tie.Need-make-shapes-requires
-make-shapes-requires c κs = (c .before .before .before .before .before .pre .well, room-of _ (c .before .before .before .empty-store .ensures))
+make-shapes-requires c κs =
+    let at-empty-store : tie.After-empty-store = search in
+    let at-start : tie.Start = search in
+    (at-start .pre .well, room-of _ (at-empty-store .empty-store .ensures))
 
 slice-aggregate-make-shapes-3 : tie.Need-slice-aggregate-make-shapes-3
-slice-aggregate-make-shapes-3 c = sym (c .before .before .before .before .before .before .empty-store2 .ensures)
-
-slice-aggregate-make-shapes-4 : tie.Need-slice-aggregate-make-shapes-4
-slice-aggregate-make-shapes-4 c = search needs
+slice-aggregate-make-shapes-3 c =
+    let at-empty-store2 : tie.After-empty-store2 = search in
+    sym (at-empty-store2 .empty-store2 .ensures)
 
 make-shapes-requires-2 : tie.Need-make-shapes-requires-2
-make-shapes-requires-2 c κs = (c .before .before .before .before .before .before .before .before .before .before .pre .well, room-of _ (c .before .before .before .before .before .before .before .empty-store2 .ensures))
-
-slice-aggregate-fill-table : tie.Need-slice-aggregate-fill-table
-slice-aggregate-fill-table c = search needs
-
-slice-aggregate-fill-table-2 : tie.Need-slice-aggregate-fill-table-2
-slice-aggregate-fill-table-2 c = search needs
-
-slice-aggregate-fill-table-3 : tie.Need-slice-aggregate-fill-table-3
-slice-aggregate-fill-table-3 c = search needs
-
-slice-aggregate-fill-table-4 : tie.Need-slice-aggregate-fill-table-4
-slice-aggregate-fill-table-4 c = search needs
-
-slice-aggregate-fill-table-5 : tie.Need-slice-aggregate-fill-table-5
-slice-aggregate-fill-table-5 c = search needs
+make-shapes-requires-2 c κs =
+    let at-empty-store2 : tie.After-empty-store2 = search in
+    let at-start : tie.Start = search in
+    (at-start .pre .well, room-of _ (at-empty-store2 .empty-store2 .ensures))
 
 fill-table-requires : tie.Need-fill-table-requires
 fill-table-requires c κs =
-    let start = c .before .before .before .before .before .before .before .before .before .before .before .before .before .before .before .before .before .before in (
+    let at-make-shapes2 : tie.After-make-shapes2 = search in
+    let at-make-shapes : tie.After-make-shapes = search in
+    let at-start : tie.Start = search in (
       record {
-        size = start .args .size;
-        pixels = start .args .pixels .now;
-        drawn = record { inRows = record { laid = start .pre; horizontal = c .before .before .before .before .before .before .before .before .before .before .before .before .make-shapes .ensures }; vertical = c .before .before .before .before .before .before .before .make-shapes2 .ensures };
+        size = at-start .args .size;
+        pixels = at-start .args .pixels .now;
+        drawn = record
+            { inRows = record { laid = at-start .pre; horizontal = at-make-shapes .make-shapes .ensures }; vertical = at-make-shapes2 .make-shapes2 .ensures };
       },
       refl,
     )
 
 returns : tie.Need-returns
 returns c =
-    let start = c .before .before .before .before .before .before .before .before .before .before .before .before .before .before .before .before .before .before .before .before in
-    let a = start .args in
+    let at-make-shapes2 : tie.After-make-shapes2 = search in
+    let at-make-shapes : tie.After-make-shapes = search in
+    let at-start : tie.Start = search in
+    let a = at-start .args in
     let l = lentBy (a .size) (a .table .now) (a .pixels .now) in
     let drawn : Drawn l _ _ _ _ (a .layout .now) =
-    record { inRows = record { laid = start .pre; horizontal = c .before .before .before .before .before .before .before .before .before .before .before .before .before .before .make-shapes .ensures }; vertical = c .before .before .before .before .before .before .before .before .before .make-shapes2 .ensures } in
-    subst (λ n. PenaltyTable (jobOf l) (layoutOf (a .layout .now)) n (c .before .fill-table .last .1 .1 .1 .1 .1 .1 .0)) (start .pre .whole)
+    record { inRows = record { laid = at-start .pre; horizontal = at-make-shapes .make-shapes .ensures }; vertical = at-make-shapes2 .make-shapes2 .ensures } in
+    subst (λ n. PenaltyTable (jobOf l) (layoutOf (a .layout .now)) n (c .before .fill-table .last .1 .1 .1 .1 .1 .1 .0)) (at-start .pre .whole)
     (c .before .fill-table .ensures (a .size) (a .pixels .now) drawn)
 
 pub penalties-of-spec : {M : Type 1} → statement M
 penalties-of-spec =
-    tie.close
-    (tie.spec
-    empty-store-requires
-    empty-store-requires-2
-    slice-aggregate-make-shapes
-    slice-aggregate-make-shapes-2
-    make-shapes-requires
-    slice-aggregate-make-shapes-3
-    slice-aggregate-make-shapes-4
-    make-shapes-requires-2
-    slice-aggregate-fill-table
-    slice-aggregate-fill-table-2
-    slice-aggregate-fill-table-3
-    slice-aggregate-fill-table-4
-    slice-aggregate-fill-table-5
-    fill-table-requires
+    tie.close (tie.spec
+    (search needs) (search needs) slice-aggregate-make-shapes (search needs) make-shapes-requires slice-aggregate-make-shapes-3
+    (search needs) make-shapes-requires-2 (search needs) (search needs) (search needs) (search needs) (search needs) fill-table-requires
     returns)

@@ -12,54 +12,42 @@ use borrow.Author.Needs.{needs}
 use Rattle.layout_sum_calls.proofs.plain_sum.Statement.{statement}
 use Rattle.layout_sum_calls.proofs.plain_sum.Tie as tie
 
-layout-causes-requires : tie.Need-layout-causes-requires
-layout-causes-requires c κs = search needs
-
-enum-known-refusal : tie.Need-enum-known-refusal
-enum-known-refusal c = search needs
-
-enum-told : tie.Need-enum-told
-enum-told c = search needs
-
 penalties-of-requires : tie.Need-penalties-of-requires
 penalties-of-requires c κs =
-    let a = c .before .before .before .before .args in
+    let at-start : tie.Start = search in
+    let a = at-start .args in
     let l : Lent = lentBy (a .size) (a .table .now) (a .pixels .now) in
     let none : NoCause (layoutCauses l (a .layout .now)) = passed-none _ (sym (c .enum-told .given .1) ∙ c .before .before .layout-causes .ensures) in
     layout-laid l (a .layout .now) none
 
-slice-aggregate-plain-total : tie.Need-slice-aggregate-plain-total
-slice-aggregate-plain-total c = search needs
-
 plain-total-requires : tie.Need-plain-total-requires
 plain-total-requires c κs =
-    let a = c .before .before .before .before .before .before .args in
+    let at-layout-causes : tie.After-layout-causes = search in
+    let at-start : tie.Start = search in
+    let a = at-start .args in
     let l : Lent = lentBy (a .size) (a .table .now) (a .pixels .now) in
-    let none : NoCause (layoutCauses l (a .layout .now)) = passed-none _ (sym (c .before .before .enum-told .given .1) ∙ c .before .before .before .before .layout-causes .ensures) in
+    let none : NoCause (layoutCauses l (a .layout .now)) =
+    passed-none _ (sym (c .before .before .enum-told .given .1) ∙ at-layout-causes .layout-causes .ensures) in
     (facts l (layout-laid l (a .layout .now) none .well) .fewPieces, c .before .penalties-of .ensures .size)
 
 returns : tie.Need-returns
 unfolding plainSumCall
 returns c =
-    rw (refused-alone _ _ _ (sym (c .before .refusal .given .1) ∙ c .before .before .before .layout-causes .ensures))
+    let at-layout-causes : tie.After-layout-causes = search in
+    rw (refused-alone _ _ _ (sym (c .before .refusal .given .1) ∙ at-layout-causes .layout-causes .ensures))
 
 returns-2 : tie.Need-returns-2
 unfolding plainSumCall jobOf
 returns-2 c =
-    let a = c .before .before .before .before .before .before .before .args in
+    let at-enum-told : tie.After-enum-told = search in
+    let at-layout-causes : tie.After-layout-causes = search in
+    let at-start : tie.Start = search in
+    let a = at-start .args in
     let l : Lent = lentBy (a .size) (a .table .now) (a .pixels .now) in
-    let none : NoCause (layoutCauses l (a .layout .now)) = passed-none _ (sym (c .before .before .before .enum-told .given .1) ∙ c .before .before .before .before .before .layout-causes .ensures) in
+    let none : NoCause (layoutCauses l (a .layout .now)) = passed-none _ (sym (at-enum-told .enum-told .given .1) ∙ at-layout-causes .layout-causes .ensures) in
     rw (unless-given _ _ none, c .plain-total .ensures (jobOf l) (layoutOf (a .layout .now)) refl (c .before .before .penalties-of .ensures))
 
 pub plain-sum-spec : {M : Type 1} → statement M
 plain-sum-spec =
-    tie.close
-    (tie.spec
-    layout-causes-requires
-    enum-known-refusal
-    enum-told
-    penalties-of-requires
-    slice-aggregate-plain-total
-    plain-total-requires
-    returns
-    returns-2)
+    tie.close (tie.spec
+    (search needs) (search needs) (search needs) penalties-of-requires (search needs) plain-total-requires returns returns-2)

@@ -5,18 +5,9 @@ use borrow.Author.Needs.{needs}
 use Rattle.layout_sum_calls.proofs.shared_answer.Statement.{statement}
 use Rattle.layout_sum_calls.proofs.shared_answer.Tie as tie
 
-enum-known-pair : tie.Need-enum-known-pair
-enum-known-pair c = search needs
-
-enum-told : tie.Need-enum-told
-enum-told c = search needs
-
 returns : tie.Need-returns
 returns c =
     sym (ap sharedAnswer (c .before .pair .given .1))
 
-returns-2 : tie.Need-returns-2
-returns-2 c = search needs
-
 pub shared-answer-spec : {M : Type 1} → statement M
-shared-answer-spec = tie.close (tie.spec enum-known-pair enum-told returns returns-2)
+shared-answer-spec = tie.close (tie.spec (search needs) (search needs) returns (λ c. search needs))

@@ -6,18 +6,18 @@ use Rattle.layout_write_calls.proofs.Sequel.{number-written, byte-writt
 use Rattle.layout_write_calls.proofs.put_field.Statement.{statement}
 use Rattle.layout_write_calls.proofs.put_field.Tie as tie
 
-put-number-requires : tie.Need-put-number-requires
-put-number-requires c κs = search needs
-
 put-byte-requires : tie.Need-put-byte-requires
 put-byte-requires c κs =
-    let e = c .before .before .before .put-number .ensures .0 in let s = decimal-short 5 (c .before .before .before .before .before .before .args .k) in omega arith
-
-same-length : tie.Need-same-length
-same-length c = search needs
+    let at-put-number : tie.After-put-number = search in
+    let at-start : tie.Start = search in
+    let e = at-put-number .put-number .ensures .0 in let s = decimal-short 5 (at-start .args .k) in omega arith
 
 returns : tie.Need-returns
-returns c = written-then (number-written _ _ _ _ (c .before .before .before .before .before .before .before .before .before .args .k) (c .before .before .before .before .before .before .put-number .ensures)) (byte-written _ _ _ _ (c .before .before .before .before .before .before .before .before .before .args .end) (c .before .before .put-byte .ensures))
+returns c =
+    let at-put-number : tie.After-put-number = search in
+    let at-start : tie.Start = search in
+    written-then (number-written _ _ _ _ (at-start .args .k) (at-put-number .put-number .ensures))
+    (byte-written _ _ _ _ (at-start .args .end) (c .before .before .put-byte .ensures))
 
 pub put-field-spec : {M : Type 1} → statement M
-put-field-spec = tie.close (tie.spec put-number-requires put-byte-requires same-length returns)
+put-field-spec = tie.close (tie.spec (search needs) put-byte-requires (search needs) returns)

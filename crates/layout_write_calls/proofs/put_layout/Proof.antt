@@ -10,6 +10,7 @@ use Rattle.model.specs.Lent.{jobOf}
 use Rattle.model.specs.Buffer.{placementOf, layoutOf}
 use Rattle.model.specs.LayoutText.{layoutText, placementText, placementsText}
 use Rattle.layout_write_calls.proofs.Sequel.{left-none, placements-end, Left, left-after, left-then, placements-text}
+use borrow.Author.Needs.{needs}
 use Rattle.layout_write_calls.proofs.put_layout.Statement.{statement}
 use Rattle.layout_write_calls.proofs.put_layout.Tie as tie
 
@@ -28,26 +29,33 @@ put-layout-line-requires c κs = let p = c .before .before .pre in (p .0, p .1, 
 
 loop-holds : tie.Need-loop-holds Inv-loop μ-loop
 loop-holds c =
-    let w = c .before .before .put-layout-line .ensures in (omega arith, refl, let e = w .end in let s = w .short in omega arith, record { end = refl; memory = refl })
+    let w = c .before .before .put-layout-line .ensures in
+    (omega arith, refl, let e = w .end in let s = w .short in omega arith, record { end = refl; memory = refl })
 
 put-placement-requires : tie.Need-put-placement-requires Inv-loop μ-loop
 put-placement-requires c κs =
-    let p = c .before .before .before .before .before .before .before .before .before .pre in let t = c .before .if1 .taken in let k = c .before .before .before .loop .inv .2 in (let e = p .3 in omega arith, let n = p .2 in omega arith, let n = p .2 in omega arith)
+    let at-loop : tie.At-loop Inv-loop μ-loop = search in
+    let at-start : tie.Start Inv-loop μ-loop = search in
+    let p = at-start .pre in let t = c .before .if1 .taken in let k = at-loop .loop .inv .2 in
+    (let e = p .3 in omega arith, let n = p .2 in omega arith, let n = p .2 in omega arith)
 
 add-i : tie.Need-add-i Inv-loop μ-loop
 add-i c =
-    let p = c .before .before .before .before .before .before .before .before .before .before .before .before .pre .2 in let t = c .before .before .before .before .if1 .taken in omega arith
-
-loop-less : tie.Need-loop-less Inv-loop μ-loop
-loop-less c = omega arith
+    let at-then1 : tie.Then1 Inv-loop μ-loop = search in
+    let at-start : tie.Start Inv-loop μ-loop = search in
+    let p = at-start .pre .2 in let t = at-then1 .if1 .taken in omega arith
 
 loop-again : tie.Need-loop-again Inv-loop μ-loop
 loop-again c =
-    let p = c .before .before .before .before .before .before .before .before .before .before .before .before .pre in
-    let a = c .before .before .before .before .before .before .before .before .before .before .before .before .args in
-    let l = c .before .before .before .before .before .before .loop in
+    let at-then1 : tie.Then1 Inv-loop μ-loop = search in
+    let at-loop : tie.At-loop Inv-loop μ-loop = search in
+    let at-start : tie.Start Inv-loop μ-loop = search in
+    let p = at-start .pre in
+    let a = at-start .args in
+    let l = at-loop .loop in
     let w = c .before .before .put-placement .ensures in
-    let here : l .i < length (layoutOf (a .layout .now)) = let e = p .3 in let m = length-map (a .layout .now) placementOf in let t = c .before .before .before .before .if1 .taken in omega arith in
+    let here : l .i < length (layoutOf (a .layout .now)) = let e = p .3 in let m = length-map (a .layout .now) placementOf in let t = at-then1 .if1 .taken in
+    omega arith in
     let step : placementsText (l .i) (drop (l .i) (layoutOf (a .layout .now)))
     ≡ placementText (l .i) (placeOf (layoutOf (a .layout .now)) (l .i)) ++ placementsText (l .i + 1) (drop (l .i + 1) (layoutOf (a .layout .now))) =
     placements-text (layoutOf (a .layout .now)) (l .i) here in (
@@ -58,28 +66,23 @@ loop-again c =
     )
 
 same-length : tie.Need-same-length Inv-loop μ-loop
-same-length c = c .before .before .loop .inv .1 ∙ c .before .before .before .before .before .put-layout-line .kept .1 .0
+same-length c =
+    let at-put-layout-line : tie.After-put-layout-line Inv-loop μ-loop = search in
+    c .before .before .loop .inv .1 ∙ at-put-layout-line .put-layout-line .kept .1 .0
 
 returns : tie.Need-returns Inv-loop μ-loop
 unfolding layoutText jobOf
 returns c =
-    let a = c .before .before .before .before .before .before .before .before .args in
+    let at-put-layout-line : tie.After-put-layout-line Inv-loop μ-loop = search in
+    let at-start : tie.Start Inv-loop μ-loop = search in
+    let a = at-start .args in
     let l = c .before .before .loop in
     let end : placementsText (l .i) (drop (l .i) (layoutOf (a .layout .now))) ≡ [] =
-    placements-end (layoutOf (a .layout .now)) (l .i) (let e = c .before .before .before .before .before .before .before .before .pre .3 in let m = length-map (a .layout .now) placementOf in let t = c .if1 .left in omega arith) in
-    λ table pixels. left-none (left-then (left-after (c .before .before .before .before .before .put-layout-line .ensures) _) (rw end at (l .inv .3)))
+    placements-end (layoutOf (a .layout .now)) (l .i)
+    (let e = at-start .pre .3 in let m = length-map (a .layout .now) placementOf in let t = c .if1 .left in omega arith) in
+    λ table pixels. left-none (left-then (left-after (at-put-layout-line .put-layout-line .ensures) _) (rw end at (l .inv .3)))
 
 pub put-layout-spec : {M : Type 1} → statement M
 put-layout-spec =
-    tie.close
-    (tie.spec
-    Inv-loop
-    μ-loop
-    put-layout-line-requires
-    loop-holds
-    put-placement-requires
-    add-i
-    loop-less
-    loop-again
-    same-length
-    returns)
+    tie.close (tie.spec
+    Inv-loop μ-loop put-layout-line-requires loop-holds put-placement-requires add-i (search needs) loop-again same-length returns)

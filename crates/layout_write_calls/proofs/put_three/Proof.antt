@@ -4,25 +4,14 @@ use Rattle.layout_write_calls.proofs.Sequel.{written-then, three-text}
 use Rattle.layout_write_calls.proofs.put_three.Statement.{statement}
 use Rattle.layout_write_calls.proofs.put_three.Tie as tie
 
-put-field-requires : tie.Need-put-field-requires
-put-field-requires c κs = search needs
-
-put-field-requires-2 : tie.Need-put-field-requires-2
-put-field-requires-2 c κs = search needs
-
-put-field-requires-3 : tie.Need-put-field-requires-3
-put-field-requires-3 c κs = search needs
-
-same-length : tie.Need-same-length
-same-length c = search needs
-
 returns : tie.Need-returns
 returns c =
-    let a = c .before .before .before .before .before .before .before .before .before .before .before .before .before .args in
+    let at-put-field2 : tie.After-put-field2 = search in
+    let at-put-field : tie.After-put-field = search in
+    let at-start : tie.Start = search in
+    let a = at-start .args in
     rw (three-text (a .first) (a .second) (a .third)) at
-    (written-then (written-then (c .before .before .before .before .before .before .before .before .before .before .put-field .ensures) (c .before .before .before .before .before .before .put-field2 .ensures)) (c .before .before .put-field3 .ensures))
+    (written-then (written-then (at-put-field .put-field .ensures) (at-put-field2 .put-field2 .ensures)) (c .before .before .put-field3 .ensures))
 
 pub put-three-spec : {M : Type 1} → statement M
-put-three-spec =
-    tie.close
-    (tie.spec put-field-requires put-field-requires-2 put-field-requires-3 same-length returns)
+put-three-spec = tie.close (tie.spec (search needs) (search needs) (search needs) (search needs) returns)

@@ -20,96 +20,82 @@ use Rattle.layout_write_calls.proofs.Writes.{write-refused, write-short
 use Rattle.layout_write_calls.proofs.write_layout.Statement.{statement}
 use Rattle.layout_write_calls.proofs.write_layout.Tie as tie
 
-layout-causes-requires : tie.Need-layout-causes-requires
-layout-causes-requires c κs = search needs
-
-enum-known-refusal : tie.Need-enum-known-refusal
-enum-known-refusal c = search needs
-
 returns : tie.Need-returns
 returns c =
-    let a = c .before .before .before .before .before .before .args in
+    let at-layout-causes : tie.After-layout-causes = search in
+    let at-start : tie.Start = search in
+    let a = at-start .args in
     let l : Lent = lentBy (a .size) (a .table .now) (a .pixels .now) in
     let o : writeLayoutCall l (a .layout .now) (length (a .text .now)) ≡ refused (c .before .refusal .given .0 .0) =
-    write-refused l (a .layout .now) _ _ (sym (c .before .refusal .given .1) ∙ c .before .before .before .layout-causes .ensures) in
+    write-refused l (a .layout .now) _ _ (sym (c .before .refusal .given .1) ∙ at-layout-causes .layout-causes .ensures) in
     (sym (ap countAnswer o), sym (ap (textAfter (a .text .now)) o))
-
-enum-told : tie.Need-enum-told
-enum-told c = search needs
-
-slice-relend-prefix-put-layout : tie.Need-slice-relend-prefix-put-layout
-slice-relend-prefix-put-layout c = search needs
-
-slice-aggregate-put-layout : tie.Need-slice-aggregate-put-layout
-slice-aggregate-put-layout c = search needs
 
 put-layout-requires : tie.Need-put-layout-requires
 put-layout-requires c κs =
-    let a = c .before .before .before .before .before .before .args in
+    let at-layout-causes : tie.After-layout-causes = search in
+    let at-start : tie.Start = search in
+    let a = at-start .args in
     let l : Lent = lentBy (a .size) (a .table .now) (a .pixels .now) in
-    let e : DoneAnswer.Done ≡ firstCause (layoutCauses l (a .layout .now)) = sym (c .before .enum-told .given .1) ∙ c .before .before .before .layout-causes .ensures in
+    let e : DoneAnswer.Done ≡ firstCause (layoutCauses l (a .layout .now)) = sym (c .before .enum-told .given .1) ∙ at-layout-causes .layout-causes .ensures in
     let s = layout-laid l (a .layout .now) (passed-none (layoutCauses l (a .layout .now)) e) in
     let f = fitting (a .size) (a .table .now) (a .pixels .now) (s .well) in
     (f .fewRows, f .fewColumns, f .fewPieces, s .whole)
 
-plain-refusal-requires : tie.Need-plain-refusal-requires
-plain-refusal-requires c κs = search needs
-
-same-length : tie.Need-same-length
-same-length c = search needs
-
 returns-2 : tie.Need-returns-2
 returns-2 c =
-    let a = c .before .before .before .before .before .before .before .before .before .before .before .args in
+    let at-put-layout : tie.After-put-layout = search in
+    let at-enum-told : tie.After-enum-told = search in
+    let at-layout-causes : tie.After-layout-causes = search in
+    let at-start : tie.Start = search in
+    let a = at-start .args in
     let l : Lent = lentBy (a .size) (a .table .now) (a .pixels .now) in
-    let e : DoneAnswer.Done ≡ firstCause (layoutCauses l (a .layout .now)) = sym (c .before .before .before .before .before .before .enum-told .given .1) ∙ c .before .before .before .before .before .before .before .before .layout-causes .ensures in
-    let part = c .before .before .before .before .put-layout in
+    let e : DoneAnswer.Done ≡ firstCause (layoutCauses l (a .layout .now)) =
+    sym (at-enum-told .enum-told .given .1) ∙ at-layout-causes .layout-causes .ensures in
+    let part = at-put-layout .put-layout in
     let none : part .last .1 .1 .0 ≡ [] = nothing-left _ (part .kept .1 .1 .0) in
-    let long : length (a .text .now) < length (layoutText (jobOf l) (layoutOf (a .layout .now))) = rw (none, part .ensures (a .table .now) (a .pixels .now) .0) at (c .before .if1 .taken) in
+    let long : length (a .text .now) < length (layoutText (jobOf l) (layoutOf (a .layout .now))) =
+    rw (none, part .ensures (a .table .now) (a .pixels .now) .0) at (c .before .if1 .taken) in
     let o : writeLayoutCall l (a .layout .now) (length (a .text .now)) ≡ refused (c .plain-refusal .result) =
     write-short l (a .layout .now) _ e long ∙ sym (ap refused (c .plain-refusal .ensures)) in
     (sym (ap countAnswer o), rw none (sym (ap (textAfter (a .text .now)) o)))
 
 put-layout-requires-2 : tie.Need-put-layout-requires-2
 put-layout-requires-2 c κs =
-    let a = c .before .before .before .before .before .before .before .before .before .before .before .args in
+    let at-enum-told : tie.After-enum-told = search in
+    let at-layout-causes : tie.After-layout-causes = search in
+    let at-start : tie.Start = search in
+    let a = at-start .args in
     let l : Lent = lentBy (a .size) (a .table .now) (a .pixels .now) in
-    let e : DoneAnswer.Done ≡ firstCause (layoutCauses l (a .layout .now)) = sym (c .before .before .before .before .before .before .enum-told .given .1) ∙ c .before .before .before .before .before .before .before .before .layout-causes .ensures in
+    let e : DoneAnswer.Done ≡ firstCause (layoutCauses l (a .layout .now)) =
+    sym (at-enum-told .enum-told .given .1) ∙ at-layout-causes .layout-causes .ensures in
     let s = layout-laid l (a .layout .now) (passed-none (layoutCauses l (a .layout .now)) e) in
     let f = fitting (a .size) (a .table .now) (a .pixels .now) (s .well) in
     (f .fewRows, f .fewColumns, f .fewPieces, s .whole)
 
-same-length-2 : tie.Need-same-length-2
-same-length-2 c = search needs
-
 returns-3 : tie.Need-returns-3
 returns-3 c =
-    let a = c .before .before .before .before .before .before .before .before .before .before .before .before .before .before .args in
+    let at-else1 : tie.Else1 = search in
+    let at-put-layout : tie.After-put-layout = search in
+    let at-enum-told : tie.After-enum-told = search in
+    let at-layout-causes : tie.After-layout-causes = search in
+    let at-start : tie.Start = search in
+    let a = at-start .args in
     let l : Lent = lentBy (a .size) (a .table .now) (a .pixels .now) in
-    let e : DoneAnswer.Done ≡ firstCause (layoutCauses l (a .layout .now)) = sym (c .before .before .before .before .before .before .before .before .before .enum-told .given .1) ∙ c .before .before .before .before .before .before .before .before .before .before .before .layout-causes .ensures in
-    let part = c .before .before .before .before .before .before .before .put-layout in
+    let e : DoneAnswer.Done ≡ firstCause (layoutCauses l (a .layout .now)) =
+    sym (at-enum-told .enum-told .given .1) ∙ at-layout-causes .layout-causes .ensures in
+    let part = at-put-layout .put-layout in
     let none : part .last .1 .1 .0 ≡ [] = nothing-left _ (part .kept .1 .1 .0) in
-    let long : length (layoutText (jobOf l) (layoutOf (a .layout .now))) ≤ length (a .text .now) = rw (none, part .ensures (a .table .now) (a .pixels .now) .0) at (c .before .before .before .before .if1 .left) in
+    let long : length (layoutText (jobOf l) (layoutOf (a .layout .now))) ≤ length (a .text .now) =
+    rw (none, part .ensures (a .table .now) (a .pixels .now) .0) at (at-else1 .if1 .left) in
     let o : writeLayoutCall l (a .layout .now) (length (a .text .now)) ≡ given (layoutText (jobOf l) (layoutOf (a .layout .now))) =
     write-given l (a .layout .now) _ e long in (
       rw (part .ensures (a .table .now) (a .pixels .now) .0) (sym (ap countAnswer o)),
-      rw none at (c .before .before .put-layout2 .ensures (a .table .now) (a .pixels .now) .1) ∙ sets-filled (a .text .now) (layoutText (jobOf l) (layoutOf (a .layout .now))) long ∙ sym (ap (textAfter (a .text .now)) o),
+      rw none at (c .before .before .put-layout2 .ensures (a .table .now) (a .pixels .now) .1)
+          ∙ sets-filled (a .text .now) (layoutText (jobOf l) (layoutOf (a .layout .now))) long ∙ sym (ap (textAfter (a .text .now)) o),
     )
 
 pub write-layout-spec : {M : Type 1} → statement M
 write-layout-spec =
-    tie.close
-    (tie.spec
-    layout-causes-requires
-    enum-known-refusal
-    returns
-    enum-told
-    slice-relend-prefix-put-layout
-    slice-aggregate-put-layout
-    put-layout-requires
-    plain-refusal-requires
-    same-length
-    returns-2
-    put-layout-requires-2
-    same-length-2
-    returns-3)
+    tie.close (tie.spec
+    (search needs) (search needs) returns (search needs) (search needs) (search needs) put-layout-requires (search needs) (search needs)
+    returns-2 put-layout-requires-2 (search needs) returns-3)

@@ -1,5 +1,5 @@
 -- `pair_calls::depth` meets its contract: the causes refuse, or none is there and what is measured is the pair's. Assumes nothing.
-use mathlib.Core.Path.{_≡_, sym, subst, ap, _∙_}
+use mathlib.Core.Path.{_≡_, sym, subst, _∙_}
 use Prim.Native.Nat.{ℕ}
 use native.Mathlib.Omega.{arith}
 use borrow.Author.Needs.{needs}

@@ -1,7 +1,7 @@
 -- `pair_calls::pair_causes` meets its contract: the pair's own cause is a reason for 9 beside the turns'. Assumes nothing.
 use mathlib.Core.Bool.{Bool, not, _||_}
 use mathlib.Core.List.{List, [], _∷_}
-use mathlib.Core.Path.{_≡_, sym, ap, _∙_}
+use mathlib.Core.Path.{ap, _∙_}
 use borrow.Author.Needs.{needs}
 use lib.Dec.{ltb, eqb}
 use Rattle.model.specs.Answers.{doneAnswer}
@@ -26,7 +26,8 @@ returns c =
     ∙ ap doneAnswer
     (placed-asked l es tt (asked .wrong-pair .result)
     ∙ ap (λ b. unless (list (someTurnWrong (jobOf l) es || b)) tt) (asked .wrong-pair .ensures)
-    ∙ ap (λ b. unless (list b) tt) (or-four (someTurnWrong (jobOf l) es) (not (ltb (a .i) (l .size .count))) (not (ltb (a .k) (l .size .count))) (eqb (a .i) (a .k))))
+    ∙ ap (λ b. unless (list b) tt)
+    (or-four (someTurnWrong (jobOf l) es) (not (ltb (a .i) (l .size .count))) (not (ltb (a .k) (l .size .count))) (eqb (a .i) (a .k))))
 
 pub pair-causes-spec : {M : Type 1} → statement M
 pair-causes-spec = tie.close (tie.spec (search needs) (search needs) returns)

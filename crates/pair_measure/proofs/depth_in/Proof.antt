@@ -17,7 +17,7 @@ use Rattle.pair_measure.proofs.depth_in.Tie as tie
 
 -- where the function begins, from where both pieces' strips are put
 abbrev entry : tie.After-store2 → tie.Start
-entry c = c .before .before .before .before .before .before .before
+entry c = search
 
 -- the first piece, and the second
 abbrev one : JobSize → tie.After-store2 → Shape
@@ -28,110 +28,91 @@ two size c = let s = entry c .args in turnedPiece (jobOf (lentBy size (s .table 
 
 -- where the first piece's strips end, and the second's
 abbrev middle : tie.After-store2 → ℕ
-middle c = c .before .before .before .before .fill .result
+middle c =
+    let at-fill : tie.After-fill = search in
+    at-fill .fill .result
 
 abbrev end : tie.After-store2 → ℕ
 end c = c .before .fill2 .result
 
 -- both stand in the store
 behind : (size : JobSize) (c : tie.After-store2)
-    → StretchBehind (strips (entry c .args .direction) (one size c)) (strips (entry c .args .direction) (two size c)) (c .before .fill2 .last .1 .1 .1 .1 .1 .0) (middle c) (end c)
+    → StretchBehind (strips (entry c .args .direction) (one size c)) (strips (entry c .args .direction) (two size c))
+    (c .before .fill2 .last .1 .1 .1 .1 .1 .0) (middle c) (end c)
 behind size c =
+    let at-fill : tie.After-fill = search in
     let s = entry c .args in
     let r = entry c .pre in
     both-behind size (s .table .now) (s .pixels .now) (s .i) (s .k) (r .0 .entry) (r .1 .0 .entry) (r .1 .1 .0) (s .p .turn) (s .q .turn) (s .direction)
-    (s .store .now) (c .before .before .before .before .fill .last .1 .1 .1 .1 .1 .0) (c .before .fill2 .last .1 .1 .1 .1 .1 .0) (middle c) (end c)
-    (r .1 .1 .1 .1) (c .before .before .before .before .fill .ensures size) (c .before .fill2 .ensures size)
-
-fill-requires : tie.Need-fill-requires
-fill-requires c κs = search needs
+    (s .store .now) (at-fill .fill .last .1 .1 .1 .1 .1 .0) (c .before .fill2 .last .1 .1 .1 .1 .1 .0) (middle c) (end c)
+    (r .1 .1 .1 .1) (at-fill .fill .ensures size) (c .before .fill2 .ensures size)
 
 fill-requires-2 : tie.Need-fill-requires-2
 fill-requires-2 c κs =
-    let b = c .before .before .before .before .before in
-    let s = b .args in
-    let r = b .pre in
-    let few = both-few anySize (s .table .now) (s .pixels .now) (s .i) (s .k) (r .0 .entry) (r .1 .0 .entry) (r .1 .1 .0) (s .p .turn) (s .q .turn) (s .direction) in
+    let at-start : tie.Start = search in
+    let s = at-start .args in
+    let r = at-start .pre in
+    let few =
+    both-few anySize (s .table .now) (s .pixels .now) (s .i) (s .k) (r .0 .entry) (r .1 .0 .entry) (r .1 .1 .0) (s .p .turn) (s .q .turn) (s .direction) in
     ((r .1 .0 .entry, r .1 .0 .few), omega (arith, c .before .before .fill .ensures anySize .end))
 
-corner-along-requires : tie.Need-corner-along-requires
-corner-along-requires c κs = search needs
-
-corner-along-requires-2 : tie.Need-corner-along-requires-2
-corner-along-requires-2 c κs = search needs
-
-mul-depth-below : tie.Need-mul-depth-below
-mul-depth-below c = search needs
-
-sub-depth-below : tie.Need-sub-depth-below
-sub-depth-below c = search needs
-
-part-depth-below-start : tie.Need-part-depth-below-start
-part-depth-below-start c = search needs
-
 part-depth-below-end : tie.Need-part-depth-below-end
-part-depth-below-end c = let b = behind anySize (c .before .before .before) in omega (arith, b .order, b .within)
+part-depth-below-end c =
+    let at-store2 : tie.After-store2 = search in
+    let b = behind anySize (at-store2) in omega (arith, b .order, b .within)
 
 mul-depth-below-2 : tie.Need-mul-depth-below-2
 mul-depth-below-2 c = let b = behind anySize (c .before .before .before .before) in omega (arith, b .order, b .within)
 
 sub-depth-below-2 : tie.Need-sub-depth-below-2
-sub-depth-below-2 c = let b = behind anySize (c .before .before .before .before) in omega (arith, b .order)
+sub-depth-below-2 c =
+    let at-store2 : tie.After-store2 = search in
+    let b = behind anySize (at-store2) in omega (arith, b .order)
 
 part-depth-below-start-2 : tie.Need-part-depth-below-start-2
-part-depth-below-start-2 c = let b = behind anySize (c .before .before .before .before) in omega (arith, b .order)
+part-depth-below-start-2 c =
+    let at-store2 : tie.After-store2 = search in
+    let b = behind anySize (at-store2) in omega (arith, b .order)
 
 part-depth-below-end-2 : tie.Need-part-depth-below-end-2
-part-depth-below-end-2 c = behind anySize (c .before .before .before .before) .within
+part-depth-below-end-2 c =
+    let at-store2 : tie.After-store2 = search in
+    behind anySize (at-store2) .within
 
 depth-below-requires : tie.Need-depth-below-requires
 depth-below-requires c κs =
-    let put = c .before .before .before .before .before in
-    let s = entry put .args in
-    let r = entry put .pre in
-    let b = behind anySize put in (
+    let at-corner-along2 : tie.After-corner-along2 = search in
+    let at-corner-along : tie.After-corner-along = search in
+    let at-store2 : tie.After-store2 = search in
+    let s = entry at-store2 .args in
+    let r = entry at-store2 .pre in
+    let b = behind anySize at-store2 in (
       subst Ordered (sym (b .first)) (piece-ordered anySize (s .table .now) (s .pixels .now) (s .i) (r .0 .entry) (s .p .turn) (s .direction)),
       (
         subst Ordered (sym (b .second)) (piece-ordered anySize (s .table .now) (s .pixels .now) (s .k) (r .1 .0 .entry) (s .q .turn) (s .direction)),
         (
           (
-            seen-near (s .direction) (s .p) _ (c .before .before .before .before .corner-along .ensures) (r .0 .x) (r .0 .y),
-            seen-near (s .direction) (s .q) _ (c .before .before .before .corner-along2 .ensures) (r .1 .0 .x) (r .1 .0 .y),
+            seen-near (s .direction) (s .p) _ (at-corner-along .corner-along .ensures) (r .0 .x) (r .0 .y),
+            seen-near (s .direction) (s .q) _ (at-corner-along2 .corner-along2 .ensures) (r .1 .0 .x) (r .1 .0 .y),
           ),
           omega (arith, r .1 .1 .1 .0),
         ),
       ),
     )
 
-same-length : tie.Need-same-length
-same-length c = search needs
-
 returns : tie.Need-returns
-returns c =
-    λ size.
-    let put = c .before .before .before .before .before .before in
-    let s = entry put .args in
-    let b = behind size put in
+returns c = λ size.
+    let at-corner-along2 : tie.After-corner-along2 = search in
+    let at-corner-along : tie.After-corner-along = search in
+    let at-store2 : tie.After-store2 = search in
+    let s = entry at-store2 .args in
+    let b = behind size at-store2 in
     c .depth-below .ensures
-    ∙ same-depth _ _ _ _ _ _ _ _ (s .bound) (b .first) (c .before .before .before .before .before .corner-along .ensures) (b .second) (c .before .before .before .before .corner-along2 .ensures)
-    ∙ entries-depth (s .direction) (one size put) (corner (s .p)) (two size put) (corner (s .q)) (s .bound)
+    ∙ same-depth _ _ _ _ _ _ _ _ (s .bound) (b .first) (at-corner-along .corner-along .ensures) (b .second) (at-corner-along2 .corner-along2 .ensures)
+    ∙ entries-depth (s .direction) (one size at-store2) (corner (s .p)) (two size at-store2) (corner (s .q)) (s .bound)
 
 pub depth-in-spec : {M : Type 1} → statement M
 depth-in-spec =
-    tie.close
-    (tie.spec
-    fill-requires
-    fill-requires-2
-    corner-along-requires
-    corner-along-requires-2
-    mul-depth-below
-    sub-depth-below
-    part-depth-below-start
-    part-depth-below-end
-    mul-depth-below-2
-    sub-depth-below-2
-    part-depth-below-start-2
-    part-depth-below-end-2
-    depth-below-requires
-    same-length
-    returns)
+    tie.close (tie.spec
+    (search needs) fill-requires-2 (search needs) (search needs) (search needs) (search needs) (search needs) part-depth-below-end
+    mul-depth-below-2 sub-depth-below-2 part-depth-below-start-2 part-depth-below-end-2 depth-below-requires (search needs) returns)

@@ -23,26 +23,24 @@ placed-at-requires c κs = (omega arith, c .before .before .pre .1 .0)
 
 returns : tie.Need-returns Inv-loop μ-loop
 returns c =
-    let s = c .before .before .before .before .before .args in
-    let w = c .before .before .before .before .loop in
+    let at-loop : tie.At-loop Inv-loop μ-loop = search in
+    let at-start : tie.Start Inv-loop μ-loop = search in
+    let s = at-start .args in
+    let w = at-loop .loop in
     let e = c .before .before .placed-at .ensures .line in
     record {
       low = w .inv .0;
       within = w .inv .1;
       before = w .inv .2;
-      from = λ l a b. omega (arith, c .if1 .taken, line-order (s .s .now) (c .before .before .before .before .before .pre .0) (w .j) l a b);
+      from = λ l a b. omega (arith, c .if1 .taken, line-order (s .s .now) (at-start .pre .0) (w .j) l a b);
     }
-
-add-j : tie.Need-add-j Inv-loop μ-loop
-add-j c = omega arith
-
-loop-less : tie.Need-loop-less Inv-loop μ-loop
-loop-less c = omega arith
 
 loop-again : tie.Need-loop-again Inv-loop μ-loop
 loop-again c =
-    let s = c .before .before .before .before .before .args in
-    let w = c .before .before .before .before .loop in
+    let at-loop : tie.At-loop Inv-loop μ-loop = search in
+    let at-start : tie.Start Inv-loop μ-loop = search in
+    let s = at-start .args in
+    let w = at-loop .loop in
     let e = c .before .before .placed-at .ensures .line in (
       omega arith,
       omega arith,
@@ -56,14 +54,4 @@ returns-2 c =
 
 pub line-start-spec : {M : Type 1} → statement M
 line-start-spec =
-    tie.close
-    (tie.spec
-    Inv-loop
-    μ-loop
-    loop-holds
-    placed-at-requires
-    returns
-    add-j
-    loop-less
-    loop-again
-    returns-2)
+    tie.close (tie.spec Inv-loop μ-loop loop-holds placed-at-requires returns (search needs) (search needs) loop-again returns-2)

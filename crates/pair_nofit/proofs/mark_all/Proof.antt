@@ -1,11 +1,8 @@
 -- `pair_nofit::mark_all`: the meetings of the strips passed are kept; the strips of the second before j lie in earlier lines than the rest
 -- of the first. Assumes nothing.
-use Prim.Native.Nat.{ℕ, _+_, _-_, _≤_, _<_}
+use Prim.Native.Nat.{_-_}
 use native.Mathlib.Omega.{arith}
-use borrow.Author.Needs.{needs}
 use lib.ListN.{length}
-use Rattle.pair_overlap.specs.Meet.{stripAt}
-use Rattle.pair_nofit.specs.Marks.{Grown, MeetingsKept}
 use Rattle.pair_nofit.proofs.Kept.{AllSoFar, grown-none, all-more}
 use Rattle.pair_nofit.proofs.mark_all.Statement.{statement}
 use Rattle.pair_nofit.proofs.mark_all.Tie as tie
@@ -28,34 +25,53 @@ loop-holds c =
     }
 
 placed-at-requires : tie.Need-placed-at-requires Inv-loop μ-loop
-placed-at-requires c κs = (c .loop-test .taken, c .before .before .before .pre .1 .1 .0 .0)
+placed-at-requires c κs =
+    let at-start : tie.Start Inv-loop μ-loop = search in
+    (c .loop-test .taken, at-start .pre .1 .1 .0 .0)
 
 line-start-requires : tie.Need-line-start-requires Inv-loop μ-loop
-line-start-requires c κs = (c .before .before .before .before .pre .1 .0, (c .before .before .before .before .pre .1 .1 .0 .1, c .before .before .loop .inv .second))
+line-start-requires c κs =
+    let at-start : tie.Start Inv-loop μ-loop = search in
+    (at-start .pre .1 .0, (at-start .pre .1 .1 .0 .1, c .before .before .loop .inv .second))
 
 mark-line-requires : tie.Need-mark-line-requires Inv-loop μ-loop
 mark-line-requires c κs =
+    let in-loop : tie.In-loop Inv-loop μ-loop = search in
+    let at-loop : tie.At-loop Inv-loop μ-loop = search in
+    let at-start : tie.Start Inv-loop μ-loop = search in
     let e = c .before .before .placed-at .ensures .line in
     let r = c .before .line-start .ensures in (
-      c .before .before .before .before .before .before .pre .1 .0,
+      at-start .pre .1 .0,
       (
-        (c .before .before .before .loop-test .taken, r .within),
-        (c .before .before .before .before .before .before .pre .1 .1 .0, (λ l a b. omega (arith, r .from l a b), c .before .before .before .before .loop .inv .grown .sound)),
+        (in-loop .loop-test .taken, r .within),
+        (at-start .pre .1 .1 .0, (λ l a b. omega (arith, r .from l a b), at-loop .loop .inv .grown .sound)),
       ),
     )
 
 add-i : tie.Need-add-i Inv-loop μ-loop
-add-i c = omega (arith, c .before .before .before .before .before .before .loop-test .taken, c .before .before .before .before .before .before .before .before .before .good)
+add-i c =
+    let in-loop : tie.In-loop Inv-loop μ-loop = search in
+    let at-start : tie.Start Inv-loop μ-loop = search in
+    omega (arith, in-loop .loop-test .taken, at-start .good)
 
 loop-less : tie.Need-loop-less Inv-loop μ-loop
-loop-less c = omega (arith, c .before .before .before .before .before .before .loop-test .taken)
+loop-less c =
+    let in-loop : tie.In-loop Inv-loop μ-loop = search in
+    omega (arith, in-loop .loop-test .taken)
 
 loop-again : tie.Need-loop-again Inv-loop μ-loop
 loop-again c =
-    let s = c .before .before .before .before .before .before .before .before .before .args in
-    let w = c .before .before .before .before .before .before .before .loop in
-    all-more (s .a .now) (s .u) (s .b .now) (s .v) (c .before .before .before .before .before .before .before .before .before .pre .0) (s .far .now) (w .far) (c .before .before .mark-line .last .1 .1 .1 .1 .1 .1 .0) (w .i) (w .j) (c .before .before .before .before .line-start .result)
-    (c .before .before .before .before .before .before .loop-test .taken) (c .before .before .before .before .before .placed-at .result .line) (c .before .before .before .before .before .placed-at .ensures .line) (w .inv) (c .before .before .before .before .line-start .ensures) (c .before .before .mark-line .ensures)
+    let at-line-start : tie.After-line-start Inv-loop μ-loop = search in
+    let at-placed-at : tie.After-placed-at Inv-loop μ-loop = search in
+    let in-loop : tie.In-loop Inv-loop μ-loop = search in
+    let at-loop : tie.At-loop Inv-loop μ-loop = search in
+    let at-start : tie.Start Inv-loop μ-loop = search in
+    let s = at-start .args in
+    let w = at-loop .loop in
+    all-more (s .a .now) (s .u) (s .b .now) (s .v) (at-start .pre .0) (s .far .now) (w .far) (c .before .before .mark-line .last .1 .1 .1 .1 .1 .1 .0) (w .i)
+    (w .j) (at-line-start .line-start .result)
+    (in-loop .loop-test .taken) (at-placed-at .placed-at .result .line) (at-placed-at .placed-at .ensures .line) (w .inv) (at-line-start .line-start .ensures)
+    (c .before .before .mark-line .ensures)
 
 same-length : tie.Need-same-length Inv-loop μ-loop
 same-length c = c .before .loop .inv .grown .same

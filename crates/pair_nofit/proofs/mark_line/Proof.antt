@@ -1,12 +1,11 @@
 -- `pair_nofit::mark_line`: the meetings of the strip with those passed are kept, and the buffer stays sound; past the line's strips there
 -- are no meetings. Assumes nothing.
-use mathlib.Core.Path.{_≡_, subst}
-use Prim.Native.Nat.{ℕ, _+_, _-_, _≤_, _<_}
+use Prim.Native.Nat.{ℕ, _-_, _≤_, _<_}
 use native.Mathlib.Omega.{arith}
 use borrow.Author.Needs.{needs}
 use lib.ListN.{length}
 use Rattle.pair_nofit.specs.Marks.{Grown, MeetingsKept}
-use Rattle.pair_nofit.proofs.Kept.{line-order, from-more, grown-none, line-more, line-past}
+use Rattle.pair_nofit.proofs.Kept.{line-order, grown-none, line-more, line-past}
 use Rattle.pair_nofit.proofs.mark_line.Statement.{statement}
 use Rattle.pair_nofit.proofs.mark_line.Tie as tie
 
@@ -27,58 +26,82 @@ loop-holds c =
     )
 
 placed-at-requires : tie.Need-placed-at-requires Inv-loop μ-loop
-placed-at-requires c κs = let p = c .before .before .before .pre in (p .1 .0 .0, p .1 .1 .0 .0)
+placed-at-requires c κs =
+    let at-start : tie.Start Inv-loop μ-loop = search in
+    let p = at-start .pre in (p .1 .0 .0, p .1 .1 .0 .0)
 
 placed-at-requires-2 : tie.Need-placed-at-requires-2 Inv-loop μ-loop
-placed-at-requires-2 c κs = let p = c .before .before .before .before .pre in (omega arith, p .1 .1 .0 .1)
+placed-at-requires-2 c κs =
+    let at-start : tie.Start Inv-loop μ-loop = search in
+    let p = at-start .pre in (omega arith, p .1 .1 .0 .1)
 
 same-length : tie.Need-same-length Inv-loop μ-loop
-same-length c = c .before .before .before .before .before .before .loop .inv .2 .same
+same-length c =
+    let at-loop : tie.At-loop Inv-loop μ-loop = search in
+    at-loop .loop .inv .2 .same
 
 returns : tie.Need-returns Inv-loop μ-loop
 returns c =
-    let s = c .before .before .before .before .before .before .before .before .args in
-    let w = c .before .before .before .before .before .before .loop in
-    let p = c .before .before .before .before .placed-at .ensures .line in
-    let q = c .before .before .before .placed-at2 .ensures .line in
+    let at-placed-at2 : tie.After-placed-at2 Inv-loop μ-loop = search in
+    let at-placed-at : tie.After-placed-at Inv-loop μ-loop = search in
+    let at-loop : tie.At-loop Inv-loop μ-loop = search in
+    let at-start : tie.Start Inv-loop μ-loop = search in
+    let s = at-start .args in
+    let w = at-loop .loop in
+    let p = at-placed-at .placed-at .ensures .line in
+    let q = at-placed-at2 .placed-at2 .ensures .line in
     record {
       grown = w .inv .2;
       kept =
           line-past (s .a .now) (s .u) (s .b .now) (s .v) (w .far) (s .i) (s .from) (w .j) (w .inv .3)
-          (λ l a b. omega (arith, c .if1 .taken, line-order (s .b .now) (c .before .before .before .before .before .before .before .before .pre .0) (w .j) l a b));
+          (λ l a b. omega (arith, c .if1 .taken, line-order (s .b .now) (at-start .pre .0) (w .j) l a b));
     }
 
 add-minus : tie.Need-add-minus Inv-loop μ-loop
-add-minus c = let p = c .before .before .before .before .before .placed-at .ensures in omega (arith, c .before .before .before .before .before .before .before .before .before .pre .1 .1 .0)
-
-minus-requires : tie.Need-minus-requires Inv-loop μ-loop
-minus-requires c κs = search needs
-
-minus-requires-2 : tie.Need-minus-requires-2 Inv-loop μ-loop
-minus-requires-2 c κs = search needs
+add-minus c =
+    let at-placed-at : tie.After-placed-at Inv-loop μ-loop = search in
+    let at-start : tie.Start Inv-loop μ-loop = search in
+    let p = at-placed-at .placed-at .ensures in omega (arith, at-start .pre .1 .1 .0)
 
 keep-requires : tie.Need-keep-requires Inv-loop μ-loop
 keep-requires c κs =
-    let p = c .before .before .before .before .before .before .before .before .placed-at .ensures in
-    omega (arith, c .before .minus2 .ensures, c .before .before .before .before .before .before .before .before .before .before .before .before .pre .1 .1 .0)
+    let at-placed-at : tie.After-placed-at Inv-loop μ-loop = search in
+    let at-start : tie.Start Inv-loop μ-loop = search in
+    let p = at-placed-at .placed-at .ensures in
+    omega (arith, c .before .minus2 .ensures, at-start .pre .1 .1 .0)
 
 add-j : tie.Need-add-j Inv-loop μ-loop
-add-j c = omega (arith, c .before .before .before .before .before .before .before .before .before .before .before .before .loop-test .taken, c .before .before .before .before .before .before .before .before .before .before .before .before .before .before .before .good)
+add-j c =
+    let in-loop : tie.In-loop Inv-loop μ-loop = search in
+    let at-start : tie.Start Inv-loop μ-loop = search in
+    omega (arith, in-loop .loop-test .taken, at-start .good)
 
 loop-less : tie.Need-loop-less Inv-loop μ-loop
-loop-less c = omega (arith, c .before .before .before .before .before .before .before .before .before .before .before .before .loop-test .taken)
+loop-less c =
+    let in-loop : tie.In-loop Inv-loop μ-loop = search in
+    omega (arith, in-loop .loop-test .taken)
 
 loop-again : tie.Need-loop-again Inv-loop μ-loop
 loop-again c =
-    let s = c .before .before .before .before .before .before .before .before .before .before .before .before .before .before .before .args in
-    let w = c .before .before .before .before .before .before .before .before .before .before .before .before .before .loop in
-    let p = c .before .before .before .before .before .before .before .before .before .before .before .placed-at .ensures in
-    let q = c .before .before .before .before .before .before .before .before .before .before .placed-at2 .ensures in
-    let l = c .before .before .before .before .before .before .before .before .before .before .before .before .loop-test .taken in
+    let at-minus2 : tie.After-minus2 Inv-loop μ-loop = search in
+    let at-minus : tie.After-minus Inv-loop μ-loop = search in
+    let at-else1 : tie.Else1 Inv-loop μ-loop = search in
+    let at-placed-at2 : tie.After-placed-at2 Inv-loop μ-loop = search in
+    let at-placed-at : tie.After-placed-at Inv-loop μ-loop = search in
+    let in-loop : tie.In-loop Inv-loop μ-loop = search in
+    let at-loop : tie.At-loop Inv-loop μ-loop = search in
+    let at-start : tie.Start Inv-loop μ-loop = search in
+    let s = at-start .args in
+    let w = at-loop .loop in
+    let p = at-placed-at .placed-at .ensures in
+    let q = at-placed-at2 .placed-at2 .ensures in
+    let l = in-loop .loop-test .taken in
     let more =
-    line-more (s .a .now) (s .u) (s .b .now) (s .v) (s .far .now) (w .far) (s .i) (s .from) (w .j) (c .before .before .before .before .before .minus .result) (c .before .before .before .before .minus2 .result) (c .before .before .before .before .before .before .before .before .before .before .before .before .before .before .before .pre .1 .0 .0) l
-    (c .before .before .before .before .before .before .before .before .before .before .before .placed-at .result) (c .before .before .before .before .before .before .before .before .before .before .placed-at2 .result) p q
-    (omega (arith, p .line, q .line, c .before .before .before .before .before .before .before .if1 .left, c .before .before .before .before .before .before .before .before .before .before .before .before .before .before .before .pre .1 .1 .1 .0 (w .j) (w .inv .0) l)) (c .before .before .before .before .before .minus .ensures) (c .before .before .before .before .minus2 .ensures) (w .inv .2) (w .inv .3)
+    line-more (s .a .now) (s .u) (s .b .now) (s .v) (s .far .now) (w .far) (s .i) (s .from) (w .j) (at-minus .minus .result) (at-minus2 .minus2 .result)
+    (at-start .pre .1 .0 .0) l
+    (at-placed-at .placed-at .result) (at-placed-at2 .placed-at2 .result) p q
+    (omega (arith, p .line, q .line, at-else1 .if1 .left, at-start .pre .1 .1 .1 .0 (w .j) (w .inv .0) l)) (at-minus .minus .ensures)
+    (at-minus2 .minus2 .ensures) (w .inv .2) (w .inv .3)
     (c .before .before .keep .last .0) (c .before .before .keep .ensures) in
     (omega (arith, w .inv .0), omega arith, more .0, more .1)
 
@@ -92,21 +115,6 @@ returns-2 c =
 
 pub mark-line-spec : {M : Type 1} → statement M
 mark-line-spec =
-    tie.close
-    (tie.spec
-    Inv-loop
-    μ-loop
-    loop-holds
-    placed-at-requires
-    placed-at-requires-2
-    same-length
-    returns
-    add-minus
-    minus-requires
-    minus-requires-2
-    keep-requires
-    add-j
-    loop-less
-    loop-again
-    same-length-2
-    returns-2)
+    tie.close (tie.spec
+    Inv-loop μ-loop loop-holds placed-at-requires placed-at-requires-2 same-length returns add-minus (search needs) (search needs)
+    keep-requires add-j loop-less loop-again same-length-2 returns-2)

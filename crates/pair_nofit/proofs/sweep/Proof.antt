@@ -1,7 +1,6 @@
 -- `pair_nofit::sweep`: the places passed hold their marks, the others what they held, and `reach` is the farthest end so far.
 -- Assumes nothing.
-use mathlib.Core.Path.{_≡_, refl, sym, ap, _∙_}
-use mathlib.Core.Logic.{⊎-elim}
+use mathlib.Core.Path.{_≡_, refl, _∙_}
 use Prim.Native.Nat.{ℕ, suc, _-_, _≤_, _<_}
 use native.Mathlib.Omega.{arith}
 use borrow.Author.Needs.{needs}
@@ -24,34 +23,12 @@ abbrev μ-loop : tie.MeasureT-loop
 loop-holds : tie.Need-loop-holds Inv-loop μ-loop
 loop-holds c = (omega arith, refl, refl, λ i l. refl, λ i l. absurd (omega arith))
 
-mul-larger : tie.Need-mul-larger Inv-loop μ-loop
-mul-larger c = search needs
-
-slice-read-larger : tie.Need-slice-read-larger Inv-loop μ-loop
-slice-read-larger c = omega arith
-
-larger-requires : tie.Need-larger-requires Inv-loop μ-loop
-larger-requires c κs = search needs
-
-flag-requires : tie.Need-flag-requires Inv-loop μ-loop
-flag-requires c κs = search needs
-
-mul-far : tie.Need-mul-far Inv-loop μ-loop
-mul-far c = search needs
-
-slice-write-far : tie.Need-slice-write-far Inv-loop μ-loop
-slice-write-far c = omega arith
-
-add-k : tie.Need-add-k Inv-loop μ-loop
-add-k c = omega arith
-
-loop-less : tie.Need-loop-less Inv-loop μ-loop
-loop-less c = omega arith
-
 loop-again : tie.Need-loop-again Inv-loop μ-loop
 loop-again c =
-    let old = c .before .before .before .before .before .before .args .far .now in
-    let w = c .before .before .before .before .loop in
+    let at-loop : tie.At-loop Inv-loop μ-loop = search in
+    let at-start : tie.Start Inv-loop μ-loop = search in
+    let old = at-start .args .far .now in
+    let w = at-loop .loop in
     let l = w .inv .1 in
     let e = sweep-reach old (w .far) (w .k) (w .reach) (c .before .larger .result) (w .inv .2) (w .inv .3) (c .before .larger .ensures) in (
       omega arith,
@@ -69,19 +46,6 @@ returns c = let w = c .before .loop .inv in record { same = w .1; marks = λ i l
 
 pub sweep-spec : {M : Type 1} → statement M
 sweep-spec =
-    tie.close
-    (tie.spec
-    Inv-loop
-    μ-loop
-    loop-holds
-    mul-larger
-    slice-read-larger
-    larger-requires
-    flag-requires
-    mul-far
-    slice-write-far
-    add-k
-    loop-less
-    loop-again
-    same-length
-    returns)
+    tie.close (tie.spec
+    Inv-loop μ-loop loop-holds (search needs) (search needs) (search needs) (search needs) (search needs) (search needs) (search needs)
+    (search needs) loop-again same-length returns)

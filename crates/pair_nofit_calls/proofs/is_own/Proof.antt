@@ -1,5 +1,5 @@
 -- `pair_nofit_calls::is_own`: the comparison ends at the stretch's end exactly where the stretch is the piece's. Assumes nothing.
-use mathlib.Core.Path.{_≡_, sym, _∙_}
+use mathlib.Core.Path.{sym, _∙_}
 use borrow.Author.Needs.{needs}
 use Rattle.model.specs.Strip.{strips}
 use Rattle.model.specs.Layout.{turnedPiece}
@@ -9,41 +9,22 @@ use Rattle.pair_nofit_calls.proofs.Owning.{unlike-own, until-own}
 use Rattle.pair_nofit_calls.proofs.is_own.Statement.{statement}
 use Rattle.pair_nofit_calls.proofs.is_own.Tie as tie
 
-pixel-start-requires : tie.Need-pixel-start-requires
-pixel-start-requires c κs = search needs
-
-compare-piece-requires : tie.Need-compare-piece-requires
-compare-piece-requires c κs = search needs
-
-enum-known-end : tie.Need-enum-known-end
-enum-known-end c = search needs
-
-enum-told : tie.Need-enum-told
-enum-told c = search needs
-
 returns : tie.Need-returns
 unfolding stretchWell
-returns c =
-    λ size.
-    let a = c .before .before .before .before .before .args in
+returns c = λ size.
+    let at-start : tie.Start = search in
+    let a = at-start .args in
     unlike-own (strips (a .direction) (turnedPiece (jobOf (lentBy size (a .table .now) (a .pixels .now))) (a .i) (a .turn))) (a .stretch .now)
     (sym (c .enum-told .given .1) ∙ c .before .before .compare-piece .ensures size)
 
 returns-2 : tie.Need-returns-2
 unfolding stretchWell
-returns-2 c =
-    λ size.
-    let a = c .before .before .before .before .before .before .args in
+returns-2 c = λ size.
+    let at-compare-piece : tie.After-compare-piece = search in
+    let at-start : tie.Start = search in
+    let a = at-start .args in
     until-own (strips (a .direction) (turnedPiece (jobOf (lentBy size (a .table .now) (a .pixels .now))) (a .i) (a .turn))) (a .stretch .now) _
-    (sym (c .before .end .given .1) ∙ c .before .before .before .compare-piece .ensures size)
+    (sym (c .before .end .given .1) ∙ at-compare-piece .compare-piece .ensures size)
 
 pub is-own-spec : {M : Type 1} → statement M
-is-own-spec =
-    tie.close
-    (tie.spec
-    pixel-start-requires
-    compare-piece-requires
-    enum-known-end
-    enum-told
-    returns
-    returns-2)
+is-own-spec = tie.close (tie.spec (search needs) (search needs) (search needs) (search needs) returns returns-2)

@@ -1,10 +1,10 @@
 -- `pair_nofit_calls::no_fit_row`: the offset is passed on as it is. Assumes nothing.
-use mathlib.Core.Path.{_≡_, sym, ap, subst, _∙_}
+use mathlib.Core.Path.{_≡_, ap, _∙_}
 use borrow.Author.Needs.{needs}
 use lib.IntN.{ℤ}
 use lib.ListN.{length}
 use mir.Syntax.{w32}
-use mir.Val.{SFits, toZ, ofZ}
+use mir.Val.{toZ, ofZ}
 use mir.ValLaws.{toZ-ofZ}
 use Rattle.model.specs.Lent.{Lent, lentBy}
 use Rattle.model.specs.Calls.{LentStretch, noFitCall, runsAfter}
@@ -17,15 +17,10 @@ use Rattle.pair_nofit_calls.specs.Lines.{lentStretch}
 use Rattle.pair_nofit_calls.proofs.no_fit_row.Statement.{statement}
 use Rattle.pair_nofit_calls.proofs.no_fit_row.Tie as tie
 
-no-fit-requires : tie.Need-no-fit-requires
-no-fit-requires c κs = search needs
-
-same-length : tie.Need-same-length
-same-length c = search needs
-
 returns : tie.Need-returns
 returns c =
-    let a = c .before .before .before .before .before .args in
+    let at-start : tie.Start = search in
+    let a = at-start .args in
     let l : Lent = lentBy (a .size) (a .table .now) (a .pixels .now) in
     let p : LentStretch = lentStretch (a .first .piece) (a .first .turn) (a .a .now) in
     let q : LentStretch = lentStretch (a .second .piece) (a .second .turn) (a .b .now) in
@@ -35,4 +30,4 @@ returns c =
     (c .before .no-fit .ensures .0 ∙ ap (λ (z : ℤ). countAnswer (call z)) e, c .before .no-fit .ensures .1 ∙ ap (λ (z : ℤ). runsAfter (a .out .now) (call z)) e)
 
 pub no-fit-row-spec : {M : Type 1} → statement M
-no-fit-row-spec = tie.close (tie.spec no-fit-requires same-length returns)
+no-fit-row-spec = tie.close (tie.spec (search needs) (search needs) returns)

@@ -3,11 +3,8 @@ use borrow.Author.Needs.{needs}
 use Rattle.pair_overlap.proofs.clear_below.Statement.{statement}
 use Rattle.pair_overlap.proofs.clear_below.Tie as tie
 
-clear-stretch-requires : tie.Need-clear-stretch-requires
-clear-stretch-requires c κs = search needs
-
 returns : tie.Need-returns
 returns c = c .clear-stretch .ensures .least
 
 pub clear-below-spec : {M : Type 1} → statement M
-clear-below-spec = tie.close (tie.spec clear-stretch-requires returns)
+clear-below-spec = tie.close (tie.spec (λ c κs. search needs) returns)

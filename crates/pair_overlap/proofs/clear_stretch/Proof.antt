@@ -7,6 +7,7 @@ use native.Mathlib.Nat.{pos-of-ne-zero}
 use native.Mathlib.Omega.{arith}
 use Rattle.pair_overlap.specs.Meet.{stretchesShare, shifted}
 use Rattle.pair_overlap.proofs.Walk.{clear-first, clear-none, covered-more, free-more}
+use borrow.Author.Needs.{needs}
 use Rattle.pair_overlap.proofs.clear_stretch.Statement.{statement}
 use Rattle.pair_overlap.proofs.clear_stretch.Tie as tie
 
@@ -20,14 +21,14 @@ loop-holds : tie.Need-loop-holds Inv-loop μ-loop
 loop-holds c = (omega arith, λ k l. absurd (omega arith))
 
 add-slide : tie.Need-add-slide Inv-loop μ-loop
-add-slide c = omega (arith, c .before .before .before .pre)
-
-sub-slide : tie.Need-sub-slide Inv-loop μ-loop
-sub-slide c = omega arith
+add-slide c =
+    let at-start : tie.Start Inv-loop μ-loop = search in
+    omega (arith, at-start .pre)
 
 slide-requires : tie.Need-slide-requires Inv-loop μ-loop
 slide-requires c κs =
-    let p = c .before .before .before .pre in
+    let at-start : tie.Start Inv-loop μ-loop = search in
+    let p = at-start .pre in
     let near = p .1 .1 .0 in
     let few = p .1 .1 .1 in
     let l = c .before .loop-test .taken in
@@ -35,26 +36,36 @@ slide-requires c κs =
 
 add-t11 : tie.Need-add-t11 Inv-loop μ-loop
 add-t11 c =
-    let short = c .before .before .before .slide .ensures .short in
-    let few = c .before .before .before .before .before .before .before .pre .1 .1 .1 in
-    let l = c .before .before .before .before .before .loop-test .taken in
+    let at-slide : tie.After-slide Inv-loop μ-loop = search in
+    let in-loop : tie.In-loop Inv-loop μ-loop = search in
+    let at-start : tie.Start Inv-loop μ-loop = search in
+    let short = at-slide .slide .ensures .short in
+    let few = at-start .pre .1 .1 .1 in
+    let l = in-loop .loop-test .taken in
     omega arith
 
 add-t12 : tie.Need-add-t12 Inv-loop μ-loop
 add-t12 c =
-    let short = c .before .before .before .slide .ensures .short in
-    let few = c .before .before .before .before .before .before .before .pre .1 .1 .1 in
-    let l = c .before .before .before .before .before .loop-test .taken in
+    let at-slide : tie.After-slide Inv-loop μ-loop = search in
+    let in-loop : tie.In-loop Inv-loop μ-loop = search in
+    let at-start : tie.Start Inv-loop μ-loop = search in
+    let short = at-slide .slide .ensures .short in
+    let few = at-start .pre .1 .1 .1 in
+    let l = in-loop .loop-test .taken in
     omega arith
 
 returns : tie.Need-returns Inv-loop μ-loop
 returns c =
-    let s = c .before .before .before .before .before .before .before .args in
-    let w = c .before .before .before .before .before .before .loop in
-    let r = c .before .before .before .slide .result in
-    let short = c .before .before .before .slide .ensures .short in
-    let l = c .before .before .before .before .before .loop-test .taken in
-    let free = free-more (s .a .now) (s .u) (s .b .now) (s .v) (w .r) (r .room) (c .before .before .before .slide .ensures .free (c .before .if1 .taken)) in
+    let at-slide : tie.After-slide Inv-loop μ-loop = search in
+    let in-loop : tie.In-loop Inv-loop μ-loop = search in
+    let at-loop : tie.At-loop Inv-loop μ-loop = search in
+    let at-start : tie.Start Inv-loop μ-loop = search in
+    let s = at-start .args in
+    let w = at-loop .loop in
+    let r = at-slide .slide .result in
+    let short = at-slide .slide .ensures .short in
+    let l = in-loop .loop-test .taken in
+    let free = free-more (s .a .now) (s .u) (s .b .now) (s .v) (w .r) (r .room) (at-slide .slide .ensures .free (c .before .if1 .taken)) in
     record {
       least = clear-first (s .a .now) (s .u) (s .b .now) (s .v) (s .bound) (w .r) (w .inv .0) (w .inv .1) (free (w .r) (omega arith) (omega arith));
       some = λ m. omega arith;
@@ -64,17 +75,25 @@ returns c =
     }
 
 add-r : tie.Need-add-r Inv-loop μ-loop
-add-r c = omega (arith, c .before .before .before .slide .ensures .within, c .before .before .before .before .before .before .before .pre .1 .1 .1)
+add-r c =
+    let at-slide : tie.After-slide Inv-loop μ-loop = search in
+    let at-start : tie.Start Inv-loop μ-loop = search in
+    omega (arith, at-slide .slide .ensures .within, at-start .pre .1 .1 .1)
 
 loop-less : tie.Need-loop-less Inv-loop μ-loop
-loop-less c = let z = pos-of-ne-zero (c .before .if1 .left) in omega (arith, c .before .before .before .slide .ensures .within)
+loop-less c =
+    let at-slide : tie.After-slide Inv-loop μ-loop = search in
+    let z = pos-of-ne-zero (c .before .if1 .left) in omega (arith, at-slide .slide .ensures .within)
 
 loop-again : tie.Need-loop-again Inv-loop μ-loop
 loop-again c =
-    let s = c .before .before .before .before .before .before .before .args in
-    let w = c .before .before .before .before .before .before .loop in (
-      omega (arith, c .before .before .before .slide .ensures .within),
-      covered-more (s .a .now) (s .u) (s .b .now) (s .v) (w .r) (c .before .before .before .slide .result .shift) (w .inv .1) (c .before .before .before .slide .ensures .covered),
+    let at-slide : tie.After-slide Inv-loop μ-loop = search in
+    let at-loop : tie.At-loop Inv-loop μ-loop = search in
+    let at-start : tie.Start Inv-loop μ-loop = search in
+    let s = at-start .args in
+    let w = at-loop .loop in (
+      omega (arith, at-slide .slide .ensures .within),
+      covered-more (s .a .now) (s .u) (s .b .now) (s .v) (w .r) (at-slide .slide .result .shift) (w .inv .1) (at-slide .slide .ensures .covered),
     )
 
 returns-2 : tie.Need-returns-2 Inv-loop μ-loop
@@ -92,18 +111,5 @@ returns-2 c =
 
 pub clear-stretch-spec : {M : Type 1} → statement M
 clear-stretch-spec =
-    tie.close
-    (tie.spec
-    Inv-loop
-    μ-loop
-    loop-holds
-    add-slide
-    sub-slide
-    slide-requires
-    add-t11
-    add-t12
-    returns
-    add-r
-    loop-less
-    loop-again
-    returns-2)
+    tie.close (tie.spec
+    Inv-loop μ-loop loop-holds add-slide (search needs) slide-requires add-t11 add-t12 returns add-r loop-less loop-again returns-2)

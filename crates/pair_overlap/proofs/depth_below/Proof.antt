@@ -1,15 +1,12 @@
 -- `pair_overlap::depth_below`: the second search is cut off at what the first one found, so it gives the lesser of the two.
 -- Assumes nothing.
-use mathlib.Core.Path.{_≡_, _∙_, ap}
+use mathlib.Core.Path.{_∙_, ap}
 use native.Mathlib.Omega.{arith}
 use borrow.Author.Needs.{needs}
 use Rattle.pair_overlap.specs.Meet.{clearBelow}
 use Rattle.pair_overlap.proofs.Walk.{clear-within, clear-cut}
 use Rattle.pair_overlap.proofs.depth_below.Statement.{statement}
 use Rattle.pair_overlap.proofs.depth_below.Tie as tie
-
-clear-below-requires : tie.Need-clear-below-requires
-clear-below-requires c κs = search needs
 
 clear-below-requires-2 : tie.Need-clear-below-requires-2
 clear-below-requires-2 c κs =
@@ -24,4 +21,4 @@ returns c =
     ∙ clear-cut (s .b .now) (s .v) (s .a .now) (s .u) (s .bound) _ (clear-within (s .a .now) (s .u) (s .b .now) (s .v) (s .bound))
 
 pub depth-below-spec : {M : Type 1} → statement M
-depth-below-spec = tie.close (tie.spec clear-below-requires clear-below-requires-2 returns)
+depth-below-spec = tie.close (tie.spec (λ c κs. search needs) clear-below-requires-2 returns)

@@ -1,15 +1,12 @@
 -- `pair_overlap::penalty_below`: the search along the columns is cut off at the depth along the rows, so it gives the lesser of the two.
 -- Assumes nothing.
-use mathlib.Core.Path.{_≡_, _∙_, ap}
+use mathlib.Core.Path.{_∙_, ap}
 use native.Mathlib.Omega.{arith}
 use borrow.Author.Needs.{needs}
 use Rattle.pair_overlap.specs.Meet.{depthBelow, crossed}
 use Rattle.pair_overlap.proofs.Walk.{clear-within, depth-cut}
 use Rattle.pair_overlap.proofs.penalty_below.Statement.{statement}
 use Rattle.pair_overlap.proofs.penalty_below.Tie as tie
-
-depth-below-requires : tie.Need-depth-below-requires
-depth-below-requires c κs = search needs
 
 depth-below-requires-2 : tie.Need-depth-below-requires-2
 depth-below-requires-2 c κs =
@@ -31,4 +28,4 @@ returns c =
     (omega (arith, clear-within (s .arows .now) (s .u) (s .brows .now) (s .v) (s .bound)))
 
 pub penalty-below-spec : {M : Type 1} → statement M
-penalty-below-spec = tie.close (tie.spec depth-below-requires depth-below-requires-2 returns)
+penalty-below-spec = tie.close (tie.spec (λ c κs. search needs) depth-below-requires-2 returns)

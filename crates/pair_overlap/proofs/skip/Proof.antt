@@ -6,6 +6,7 @@ use native.Mathlib.Omega.{arith}
 use lib.ListN.{length}
 use Rattle.pair_overlap.specs.Meet.{Skipped}
 use Rattle.pair_overlap.proofs.Walk.{skip-to}
+use borrow.Author.Needs.{needs}
 use Rattle.pair_overlap.proofs.skip.Statement.{statement}
 use Rattle.pair_overlap.proofs.skip.Tie as tie
 
@@ -18,26 +19,20 @@ abbrev μ-loop : tie.MeasureT-loop
 loop-holds : tie.Need-loop-holds Inv-loop μ-loop
 loop-holds c = record { within = omega arith; before = λ k l. absurd (omega arith) }
 
-span-at-requires : tie.Need-span-at-requires Inv-loop μ-loop
-span-at-requires c κs = omega arith
-
 returns : tie.Need-returns Inv-loop μ-loop
-returns c = c .before .before .before .before .loop .inv
-
-cast-lines : tie.Need-cast-lines Inv-loop μ-loop
-cast-lines c = omega arith
+returns c =
+    let at-loop : tie.At-loop Inv-loop μ-loop = search in
+    at-loop .loop .inv
 
 returns-2 : tie.Need-returns-2 Inv-loop μ-loop
-returns-2 c = c .before .before .before .before .before .before .loop .inv
-
-sub-if3 : tie.Need-sub-if3 Inv-loop μ-loop
-sub-if3 c = omega arith
+returns-2 c =
+    let at-loop : tie.At-loop Inv-loop μ-loop = search in
+    at-loop .loop .inv
 
 returns-3 : tie.Need-returns-3 Inv-loop μ-loop
-returns-3 c = c .before .before .before .before .before .before .before .loop .inv
-
-add-span-at : tie.Need-add-span-at Inv-loop μ-loop
-add-span-at c = omega arith
+returns-3 c =
+    let at-loop : tie.At-loop Inv-loop μ-loop = search in
+    at-loop .loop .inv
 
 sub-span-at : tie.Need-sub-span-at Inv-loop μ-loop
 sub-span-at c = let z = pos-of-ne-zero (c .before .if2 .left) in omega arith
@@ -49,45 +44,34 @@ add-if4 : tie.Need-add-if4 Inv-loop μ-loop
 add-if4 c = omega (arith, c .before .span-at2 .ensures)
 
 returns-4 : tie.Need-returns-4 Inv-loop μ-loop
-returns-4 c = c .before .before .before .before .before .before .before .before .before .before .loop .inv
-
-add-i : tie.Need-add-i Inv-loop μ-loop
-add-i c = omega arith
+returns-4 c =
+    let at-loop : tie.At-loop Inv-loop μ-loop = search in
+    at-loop .loop .inv
 
 loop-less : tie.Need-loop-less Inv-loop μ-loop
-loop-less c = let z = pos-of-ne-zero (c .before .before .before .before .if2 .left) in omega arith
+loop-less c =
+    let at-else2 : tie.Else2 Inv-loop μ-loop = search in
+    let z = pos-of-ne-zero (at-else2 .if2 .left) in omega arith
 
 loop-again : tie.Need-loop-again Inv-loop μ-loop
 loop-again c =
-    let s = c .before .before .before .before .before .before .before .before .before .before .before .args in
-    let w = c .before .before .before .before .before .before .before .before .before .before .loop in
+    let at-else2 : tie.Else2 Inv-loop μ-loop = search in
+    let at-span-at : tie.After-span-at Inv-loop μ-loop = search in
+    let at-loop : tie.At-loop Inv-loop μ-loop = search in
+    let at-start : tie.Start Inv-loop μ-loop = search in
+    let s = at-start .args in
+    let w = at-loop .loop in
     let q = c .before .before .span-at2 .ensures in
-    let z = pos-of-ne-zero (c .before .before .before .before .if2 .left) in
-    let lines = (s .place - c .before .before .before .before .before .before .before .before .span-at .result .begin) / 65536 in
-    skip-to (s .s .now) (s .from) (s .place) (w .i + lines - 1) (w .i + lines) (c .before .before .before .before .before .before .before .before .before .before .before .pre .0) (omega arith) (omega arith) (omega (arith, c .if4 .left, q .begins))
+    let z = pos-of-ne-zero (at-else2 .if2 .left) in
+    let lines = (s .place - at-span-at .span-at .result .begin) / 65536 in
+    skip-to (s .s .now) (s .from) (s .place) (w .i + lines - 1) (w .i + lines) (at-start .pre .0) (omega arith) (omega arith)
+    (omega (arith, c .if4 .left, q .begins))
 
 returns-5 : tie.Need-returns-5 Inv-loop μ-loop
 returns-5 c = c .before .loop .inv
 
 pub skip-spec : {M : Type 1} → statement M
 skip-spec =
-    tie.close
-    (tie.spec
-    Inv-loop
-    μ-loop
-    loop-holds
-    span-at-requires
-    returns
-    cast-lines
-    returns-2
-    sub-if3
-    returns-3
-    add-span-at
-    sub-span-at
-    span-at-requires-2
-    add-if4
-    returns-4
-    add-i
-    loop-less
-    loop-again
-    returns-5)
+    tie.close (tie.spec
+    Inv-loop μ-loop loop-holds (search needs) returns (search needs) returns-2 (search needs) returns-3 (search needs) sub-span-at
+    span-at-requires-2 add-if4 returns-4 (search needs) loop-less loop-again returns-5)

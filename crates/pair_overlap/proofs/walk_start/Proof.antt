@@ -9,20 +9,12 @@ use Rattle.pair_overlap.proofs.Walk.{first-skipped, second-skipped, fir
 use Rattle.pair_overlap.proofs.walk_start.Statement.{statement}
 use Rattle.pair_overlap.proofs.walk_start.Tie as tie
 
-returns : tie.Need-returns
-returns c = search needs
-
-span-at-requires : tie.Need-span-at-requires
-span-at-requires c κs = search needs
-
-skip-requires : tie.Need-skip-requires
-skip-requires c κs = search needs
-
 returns-2 : tie.Need-returns-2
 returns-2 c =
-    let s = c .before .before .before .before .args in
+    let at-start : tie.Start = search in
+    let s = at-start .args in
     let i = c .before .skip .result in
-    let o = c .before .before .before .before .pre .1 .0 in
+    let o = at-start .pre .1 .0 in
     let w = subst (λ (p : ℕ). Skipped (s .a .now) (s .x) p i) (c .before .before .span-at .ensures .begins) (c .before .skip .ensures) in
     record {
       first = c .before .skip .ensures .within;
@@ -31,23 +23,20 @@ returns-2 c =
       onwards = λ m l. first-onwards (s .a .now) (s .x) (s .b .now) (s .y) i 0 o w m;
     }
 
-span-at-requires-2 : tie.Need-span-at-requires-2
-span-at-requires-2 c κs = search needs
-
-skip-requires-2 : tie.Need-skip-requires-2
-skip-requires-2 c κs = search needs
-
 returns-3 : tie.Need-returns-3
 returns-3 c =
-    let s = c .before .before .before .before .before .before .args in
-    let i = c .before .before .before .skip .result in
+    let at-skip : tie.After-skip = search in
+    let at-span-at : tie.After-span-at = search in
+    let at-start : tie.Start = search in
+    let s = at-start .args in
+    let i = at-skip .skip .result in
     let j = c .skip2 .result in
-    let o = c .before .before .before .before .before .before .pre .0 in
-    let o′ = c .before .before .before .before .before .before .pre .1 .0 in
-    let w = subst (λ (p : ℕ). Skipped (s .a .now) (s .x) p i) (c .before .before .before .before .span-at .ensures .begins) (c .before .before .before .skip .ensures) in
+    let o = at-start .pre .0 in
+    let o′ = at-start .pre .1 .0 in
+    let w = subst (λ (p : ℕ). Skipped (s .a .now) (s .x) p i) (at-span-at .span-at .ensures .begins) (at-skip .skip .ensures) in
     let v = subst (λ (p : ℕ). Skipped (s .b .now) (s .y) p j) (c .before .span-at2 .ensures .begins) (c .skip2 .ensures) in
     record {
-      first = c .before .before .before .skip .ensures .within;
+      first = at-skip .skip .ensures .within;
       second = c .skip2 .ensures .within;
       passed =
           second-skipped (s .a .now) (s .x) (s .b .now) (s .y) i j o (first-skipped (s .a .now) (s .x) (s .b .now) (s .y) i j o′ w) v;
@@ -59,12 +48,4 @@ returns-3 c =
 
 pub walk-start-spec : {M : Type 1} → statement M
 walk-start-spec =
-    tie.close
-    (tie.spec
-    returns
-    span-at-requires
-    skip-requires
-    returns-2
-    span-at-requires-2
-    skip-requires-2
-    returns-3)
+    tie.close (tie.spec (search needs) (search needs) (λ c κs. search needs) returns-2 (search needs) (λ c κs. search needs) returns-3)

@@ -1,16 +1,14 @@
 -- `pair_runs::down`: by the tests. Assumes nothing.
-use mathlib.Core.Bool.{true, false}
 use mathlib.Core.Path.{_≡_, sym, ap, subst, _∙_}
-use Prim.Native.Nat.{ℕ, min}
+use Prim.Native.Nat.{min}
 use native.Mathlib.Omega.{arith}
-use borrow.Author.Needs.{needs}
 use lib.Dec.{T}
-use lib.IntN.{ℤ, pos, negsuc, natAbs, subℕ, _-ℤ_}
-use lib.Signed.{ltZ, leZ, nonNeg}
+use lib.IntN.{ℤ, pos, natAbs, _-ℤ_}
+use lib.Signed.{nonNeg}
 use mir.Syntax.{w32}
-use mir.Val.{SFits, Fits, toZ, ofZ}
+use mir.Val.{toZ, ofZ}
 use mir.ValLaws.{toZ-ofZ}
-use Rattle.model.specs.Overlap.{up, down}
+use Rattle.model.specs.Overlap.{down}
 use Rattle.pair_runs.proofs.Offsets.{NearOffset, down-none, down-far, down-near}
 use Rattle.pair_runs.proofs.down.Statement.{statement}
 use Rattle.pair_runs.proofs.down.Tie as tie

@@ -1,22 +1,13 @@
 -- `pair_runs::unbiased`: the number fits, so reading it as signed and back changes nothing. Assumes nothing.
-use mathlib.Core.Bool.{true, false}
-use mathlib.Core.Path.{_≡_, sym, ap, subst, _∙_}
-use Prim.Native.Nat.{ℕ, min}
-use native.Mathlib.Omega.{arith}
+use mathlib.Core.Path.{sym, ap, subst, _∙_}
 use borrow.Author.Needs.{needs}
-use lib.Dec.{T}
-use lib.IntN.{ℤ, pos, negsuc, natAbs, subℕ, _-ℤ_}
-use lib.Signed.{ltZ, leZ, nonNeg}
+use lib.IntN.{ℤ, pos, subℕ, _-ℤ_}
 use mir.Syntax.{w32}
-use mir.Val.{SFits, Fits, toZ, ofZ}
+use mir.Val.{SFits, toZ, ofZ}
 use mir.ValLaws.{toZ-ofZ}
-use Rattle.model.specs.Overlap.{up, down}
 use Rattle.pair_runs.proofs.Offsets.{unbiased-fits, small-signed}
 use Rattle.pair_runs.proofs.unbiased.Statement.{statement}
 use Rattle.pair_runs.proofs.unbiased.Tie as tie
-
-cast-result : tie.Need-cast-result
-cast-result c = search needs
 
 sub-result : tie.Need-sub-result
 sub-result c =
@@ -29,4 +20,4 @@ returns c =
     ap (λ (z : ℤ). toZ w32 (ofZ w32 (z -ℤ pos 254))) (small-signed k (c .pre)) ∙ toZ-ofZ w32 (subℕ k 254) (unbiased-fits k (c .pre))
 
 pub unbiased-spec : {M : Type 1} → statement M
-unbiased-spec = tie.close (tie.spec cast-result sub-result returns)
+unbiased-spec = tie.close (tie.spec (search needs) sub-result returns)

@@ -1,16 +1,12 @@
 -- `pair_runs::up`: by the tests. Assumes nothing.
-use mathlib.Core.Bool.{true, false}
-use mathlib.Core.Path.{_≡_, sym, ap, subst, _∙_}
-use Prim.Native.Nat.{ℕ, min}
+use mathlib.Core.Path.{_≡_, ap, subst, _∙_}
+use Prim.Native.Nat.{min}
 use native.Mathlib.Omega.{arith}
-use borrow.Author.Needs.{needs}
-use lib.Dec.{T}
-use lib.IntN.{ℤ, pos, negsuc, natAbs, subℕ, _-ℤ_}
-use lib.Signed.{ltZ, leZ, nonNeg}
+use lib.IntN.{ℤ}
 use mir.Syntax.{w32}
-use mir.Val.{SFits, Fits, toZ, ofZ}
+use mir.Val.{toZ, ofZ}
 use mir.ValLaws.{toZ-ofZ}
-use Rattle.model.specs.Overlap.{up, down}
+use Rattle.model.specs.Overlap.{up}
 use Rattle.pair_runs.proofs.Offsets.{up-none, up-far, up-near, not-negative}
 use Rattle.pair_runs.proofs.up.Statement.{statement}
 use Rattle.pair_runs.proofs.up.Tie as tie

@@ -3,18 +3,6 @@ use borrow.Author.Needs.{needs}
 use Rattle.piece_pixels.proofs.sides_in.Statement.{statement}
 use Rattle.piece_pixels.proofs.sides_in.Tie as tie
 
-enum-told : tie.Need-enum-told
-enum-told c = search needs
-
-enum-told-2 : tie.Need-enum-told-2
-enum-told-2 c = search needs
-
-enum-told-3 : tie.Need-enum-told-3
-enum-told-3 c = search needs
-
-enum-told-4 : tie.Need-enum-told-4
-enum-told-4 c = search needs
-
 returns : tie.Need-returns
 returns c = (λ s l w. rw (c .enum-told .given .1, l, w), λ b l w. (l, w))
 
@@ -28,5 +16,4 @@ returns-4 : tie.Need-returns-4
 returns-4 c = (λ s l w. rw (c .enum-told4 .given .1, l, w), λ b l w. (w, l))
 
 pub sides-in-spec : {M : Type 1} → statement M
-sides-in-spec =
-    tie.close (tie.spec enum-told enum-told-2 enum-told-3 enum-told-4 returns returns-2 returns-3 returns-4)
+sides-in-spec = tie.close (tie.spec (search needs) (search needs) (search needs) (search needs) returns returns-2 returns-3 returns-4)

@@ -14,42 +14,29 @@ use Rattle.program_calls.proofs.Printing.{front-written, leaves-short, 
 use Rattle.program_calls.proofs.print_run.Statement.{statement}
 use Rattle.program_calls.proofs.print_run.Tie as tie
 
-slice-aggregate-print-text : tie.Need-slice-aggregate-print-text
-slice-aggregate-print-text c = search needs
-
-print-text-requires : tie.Need-print-text-requires
-print-text-requires c κs = search needs
-
-plain-refusal-requires : tie.Need-plain-refusal-requires
-plain-refusal-requires c κs = search needs
-
 returns : tie.Need-returns
 returns c =
-    let a = c .before .before .before .before .before .before .before .args in
-    let w = c .before .before .before .print-text .ensures in
+    let at-print-text : tie.After-print-text = search in
+    let at-start : tie.Start = search in
+    let a = at-start .args in
+    let w = at-print-text .print-text .ensures in
     let end = w .end in
     let long = c .before .if1 .taken in
     rw (c .plain-refusal .ensures) (leaves-short (a .input .now) (a .output .now) (omega arith) (w .short))
 
-array-share-prefix-text : tie.Need-array-share-prefix-text
-array-share-prefix-text c = search needs
-
 slice-aggregate-put-word : tie.Need-slice-aggregate-put-word
 slice-aggregate-put-word c = sym (length-take-le _ _ (search needs))
 
-put-word-requires : tie.Need-put-word-requires
-put-word-requires c κs = search needs
-
-same-length : tie.Need-same-length
-same-length c = search needs
-
 returns-2 : tie.Need-returns-2
 returns-2 c =
-    let a = c .before .before .before .before .before .before .before .before .before .before .before .args in
-    let w = c .before .before .before .before .before .before .before .print-text .ensures in
+    let at-else1 : tie.Else1 = search in
+    let at-print-text : tie.After-print-text = search in
+    let at-start : tie.Start = search in
+    let a = at-start .args in
+    let w = at-print-text .print-text .ensures in
     let end = w .end in
     let short = w .short in
-    let room = c .before .before .before .before .before .if1 .left in
+    let room = at-else1 .if1 .left in
     let fits : length (programText (a .input .now)) ≤ length (a .output .now) = omega arith in
     let front = front-written _ (programText (a .input .now)) outputBound _ _ (le-of-eq (sym (length-replicate {A = ℕ} 4096 0))) w in
     leaves-written (a .input .now) (a .output .now) _ _ (omega arith)
@@ -58,14 +45,5 @@ returns-2 c =
 
 pub print-run-spec : {M : Type 1} → statement M
 print-run-spec =
-    tie.close
-    (tie.spec
-    slice-aggregate-print-text
-    print-text-requires
-    plain-refusal-requires
-    returns
-    array-share-prefix-text
-    slice-aggregate-put-word
-    put-word-requires
-    same-length
-    returns-2)
+    tie.close (tie.spec
+    (search needs) (search needs) (search needs) returns (search needs) slice-aggregate-put-word (search needs) (search needs) returns-2)

@@ -25,7 +25,8 @@ use Rattle.run_descent.proofs.descend.Statement.{statement}
 use Rattle.run_descent.proofs.descend.Tie as tie
 
 abbrev Inv-loop : tie.InvT-loop
-Inv-loop size table pixels rows row-starts columns column-starts weights budget width layout₀ penalties₀ row-lines₀ row-tags₀ column-lines₀ column-tags₀ sums₀ pieces count at₀ layout penalties row-lines row-tags column-lines column-tags sums at =
+Inv-loop size table pixels rows row-starts columns column-starts weights budget width layout₀ penalties₀ row-lines₀ row-tags₀ column-lines₀ column-tags₀ sums₀
+    pieces count at₀ layout penalties row-lines row-tags column-lines column-tags sums at =
     Going (lentBy size table pixels) weights budget (layoutOf layout₀) width at layout penalties row-lines row-tags column-lines column-tags sums
     × (length layout ≡ length layout₀)
     × (length penalties ≡ length penalties₀)
@@ -36,7 +37,8 @@ Inv-loop size table pixels rows row-starts columns column-starts weights budget 
     × (length sums ≡ length sums₀)
 
 abbrev μ-loop : tie.MeasureT-loop
-μ-loop size table pixels rows row-starts columns column-starts weights budget width layout₀ penalties₀ row-lines₀ row-tags₀ column-lines₀ column-tags₀ sums₀ pieces count at₀ layout penalties row-lines row-tags column-lines column-tags sums at = budget - at .made
+μ-loop size table pixels rows row-starts columns column-starts weights budget width layout₀ penalties₀ row-lines₀ row-tags₀ column-lines₀ column-tags₀ sums₀
+    pieces count at₀ layout penalties row-lines row-tags column-lines column-tags sums at = budget - at .made
 
 -- the lent job and the given layout
 abbrev lent : tie.Start Inv-loop μ-loop → Lent
@@ -47,40 +49,50 @@ given e = layoutOf (e .args .layout .now)
 
 trial-count-requires : tie.Need-trial-count-requires Inv-loop μ-loop
 trial-count-requires c κs =
-    let e = c .before .before .before .before .before .before .before .before .before .before in (facts (lent e) (e .pre .0 .well) .entries, facts (lent e) (e .pre .0 .well) .fewPieces)
+    let at-start : tie.Start Inv-loop μ-loop = search in
+    (facts (lent at-start) (at-start .pre .0 .well) .entries, facts (lent at-start) (at-start .pre .0 .well) .fewPieces)
 
 total-requires : tie.Need-total-requires Inv-loop μ-loop
 unfolding jobOf
 total-requires c κs =
-    let e = c .before .before .before .before .before .before .before .before .before .before .before .before in
-    record { few = facts (lent e) (e .pre .0 .well) .fewPieces; size = e .pre .1 .1 .0 .table .size; onePerPair = e .pre .1 .0 .onePerPair }
-
-beginning-requires : tie.Need-beginning-requires Inv-loop μ-loop
-beginning-requires c κs = search needs
+    let at-start : tie.Start Inv-loop μ-loop = search in
+    record {
+      few = facts (lent at-start) (at-start .pre .0 .well) .fewPieces;
+      size = at-start .pre .1 .1 .0 .table .size;
+      onePerPair = at-start .pre .1 .0 .onePerPair;
+    }
 
 loop-holds : tie.Need-loop-holds Inv-loop μ-loop
 unfolding jobOf
 loop-holds c =
-    let e = c .before .before .before .before .before .before .before .before .before .before .before .before .before .before in
-    let j = jobOf (lent e) in
-    let v = given e in
-    let well = e .pre .0 .well in
-    let sum : c .before .total .result ≡ weightedSum j (e .args .weights .now) v = c .before .total .ensures j v refl (e .pre .1 .1 .0 .table) in
-    let whole : e .args .budget ≡ e .args .budget - 0 = omega arith in
-    let first = underway-begin j (e .args .weights .now) (e .args .budget) v (lent-zero-allowed (lent e) well) (lent-some (lent e) well) (e .pre .1 .1 .0 .valid) in
-    let here : Underway j (e .args .weights .now) (e .args .budget) v (e .args .budget - 0) (beginning v) (c .before .total .result) =
-    subst₂ (λ (m n : ℕ). Underway j (e .args .weights .now) (e .args .budget) v m (beginning v) n) whole (sym sum) first in
-    let under : Underway j (e .args .weights .now) (e .args .budget) v (e .args .budget - c .beginning .result .made) (standingAs v (c .beginning .result)) (c .beginning .result .sum) =
-    subst (λ (s : DescentState). Underway j (e .args .weights .now) (e .args .budget) v (e .args .budget - s .made) (standingAs v s) (s .sum)) (sym (c .beginning .ensures)) here in
-    (record { underway = under; laid = e .pre .1 .1 .0; stores = e .pre .1 .1 .1 .0 }, refl, refl, refl, refl, refl, refl, refl)
+    let at-start : tie.Start Inv-loop μ-loop = search in
+    let j = jobOf (lent at-start) in
+    let v = given at-start in
+    let well = at-start .pre .0 .well in
+    let sum : c .before .total .result ≡ weightedSum j (at-start .args .weights .now) v = c .before .total .ensures j v refl (at-start .pre .1 .1 .0 .table) in
+    let whole : at-start .args .budget ≡ at-start .args .budget - 0 = omega arith in
+    let first = underway-begin j (at-start .args .weights .now) (at-start .args .budget) v (lent-zero-allowed (lent at-start) well)
+    (lent-some (lent at-start) well) (at-start .pre .1 .1 .0 .valid) in
+    let here : Underway j (at-start .args .weights .now) (at-start .args .budget) v (at-start .args .budget - 0) (beginning v) (c .before .total .result) =
+    subst₂ (λ (m n : ℕ). Underway j (at-start .args .weights .now) (at-start .args .budget) v m (beginning v) n) whole (sym sum) first in
+    let under : Underway j (at-start .args .weights .now) (at-start .args .budget) v (at-start .args .budget - c .beginning .result .made)
+    (standingAs v (c .beginning .result)) (c .beginning .result .sum) =
+    subst (λ (s : DescentState).
+    Underway j (at-start .args .weights .now) (at-start .args .budget) v (at-start .args .budget - s .made) (standingAs v s) (s .sum))
+    (sym (c .beginning .ensures)) here in
+    (record { underway = under; laid = at-start .pre .1 .1 .0; stores = at-start .pre .1 .1 .1 .0 }, refl, refl, refl, refl, refl, refl, refl)
 
 -- the entry, from the loop's head
 abbrev entry : tie.At-loop Inv-loop μ-loop → tie.Start Inv-loop μ-loop
-entry c = c .before .before .before .before .before .before .before .before .before .before .before .before .before .before .before
+entry c = search
 
 -- T
-count-is : (c : tie.At-loop Inv-loop μ-loop) → c .before .before .before .before .trial-count .result ≡ length (trials (jobOf (lent (entry c))))
-count-is c = c .before .before .before .before .trial-count .ensures .0 (entry c .args .pixels .now)
+count-is : (c : tie.At-loop Inv-loop μ-loop) →
+    let at-trial-count : tie.After-trial-count Inv-loop μ-loop = search in
+    at-trial-count .trial-count .result ≡ length (trials (jobOf (lent (entry c))))
+count-is c =
+    let at-trial-count : tie.After-trial-count Inv-loop μ-loop = search in
+    at-trial-count .trial-count .ensures .0 (entry c .args .pixels .now)
 
 -- what the descent is where it ends with e
 abbrev EndsAs : tie.At-loop Inv-loop μ-loop → End → Type 0
@@ -88,131 +100,180 @@ EndsAs c e =
     descend (jobOf (lent (entry c))) (entry c .args .weights .now) (entry c .args .budget) (given (entry c))
     ≡ descentOf (record { end = e; sum = c .loop .at .sum; made = c .loop .at .made; moves = c .loop .at .moves }) (layoutOf (c .loop .layout))
 
-end-at-requires : tie.Need-end-at-requires Inv-loop μ-loop
-end-at-requires c κs = search needs
-
 same-length : tie.Need-same-length Inv-loop μ-loop
-same-length c = c .before .before .before .loop .inv .1
+same-length c =
+    let at-loop : tie.At-loop Inv-loop μ-loop = search in
+    at-loop .loop .inv .1
 
 same-length-2 : tie.Need-same-length-2 Inv-loop μ-loop
-same-length-2 c = c .before .before .before .loop .inv .2
+same-length-2 c =
+    let at-loop : tie.At-loop Inv-loop μ-loop = search in
+    at-loop .loop .inv .2
 
 same-length-3 : tie.Need-same-length-3 Inv-loop μ-loop
-same-length-3 c = c .before .before .before .loop .inv .3
+same-length-3 c =
+    let at-loop : tie.At-loop Inv-loop μ-loop = search in
+    at-loop .loop .inv .3
 
 same-length-4 : tie.Need-same-length-4 Inv-loop μ-loop
-same-length-4 c = c .before .before .before .loop .inv .4
+same-length-4 c =
+    let at-loop : tie.At-loop Inv-loop μ-loop = search in
+    at-loop .loop .inv .4
 
 same-length-5 : tie.Need-same-length-5 Inv-loop μ-loop
-same-length-5 c = c .before .before .before .loop .inv .5
+same-length-5 c =
+    let at-loop : tie.At-loop Inv-loop μ-loop = search in
+    at-loop .loop .inv .5
 
 same-length-6 : tie.Need-same-length-6 Inv-loop μ-loop
-same-length-6 c = c .before .before .before .loop .inv .6
+same-length-6 c =
+    let at-loop : tie.At-loop Inv-loop μ-loop = search in
+    at-loop .loop .inv .6
 
 same-length-7 : tie.Need-same-length-7 Inv-loop μ-loop
-same-length-7 c = c .before .before .before .loop .inv .7
+same-length-7 c =
+    let at-loop : tie.At-loop Inv-loop μ-loop = search in
+    at-loop .loop .inv .7
 
 returns : tie.Need-returns Inv-loop μ-loop
 unfolding jobOf
 returns c =
-    let p = c .before .before .before in
-    let e = entry p in
+    let at-loop : tie.At-loop Inv-loop μ-loop = search in
+    let e = entry at-loop in
     let j = jobOf (lent e) in
     let well = e .pre .0 .well in
-    let is : EndsAs p Clear =
-    underway-clear j (e .args .weights .now) (e .args .budget) (given e) (lent-zero-allowed (lent e) well) (lent-some (lent e) well) (e .args .budget - p .loop .at .made) _ (p .loop .at .sum) (p .loop .inv .0 .underway)
-    (c .before .if1 .taken) in
-    (is ∙ ap (λ (x : Ended). descentOf x (layoutOf (p .loop .layout))) (sym (c .end-at .ensures)), (p .loop .inv .0 .laid, p .loop .inv .0 .stores))
-
-end-at-requires-2 : tie.Need-end-at-requires-2 Inv-loop μ-loop
-end-at-requires-2 c κs = search needs
+    let is : EndsAs at-loop Clear =
+    underway-clear j (e .args .weights .now) (e .args .budget) (given e) (lent-zero-allowed (lent e) well) (lent-some (lent e) well)
+    (e .args .budget - at-loop .loop .at .made) _ (at-loop .loop .at .sum) (at-loop .loop .inv .0 .underway)
+    (c .before .if1 .taken) in (
+      is ∙ ap (λ (x : Ended). descentOf x (layoutOf (at-loop .loop .layout))) (sym (c .end-at .ensures)),
+      (at-loop .loop .inv .0 .laid, at-loop .loop .inv .0 .stores),
+    )
 
 same-length-8 : tie.Need-same-length-8 Inv-loop μ-loop
-same-length-8 c = c .before .before .before .before .before .loop .inv .1
+same-length-8 c =
+    let at-loop : tie.At-loop Inv-loop μ-loop = search in
+    at-loop .loop .inv .1
 
 same-length-9 : tie.Need-same-length-9 Inv-loop μ-loop
-same-length-9 c = c .before .before .before .before .before .loop .inv .2
+same-length-9 c =
+    let at-loop : tie.At-loop Inv-loop μ-loop = search in
+    at-loop .loop .inv .2
 
 same-length-10 : tie.Need-same-length-10 Inv-loop μ-loop
-same-length-10 c = c .before .before .before .before .before .loop .inv .3
+same-length-10 c =
+    let at-loop : tie.At-loop Inv-loop μ-loop = search in
+    at-loop .loop .inv .3
 
 same-length-11 : tie.Need-same-length-11 Inv-loop μ-loop
-same-length-11 c = c .before .before .before .before .before .loop .inv .4
+same-length-11 c =
+    let at-loop : tie.At-loop Inv-loop μ-loop = search in
+    at-loop .loop .inv .4
 
 same-length-12 : tie.Need-same-length-12 Inv-loop μ-loop
-same-length-12 c = c .before .before .before .before .before .loop .inv .5
+same-length-12 c =
+    let at-loop : tie.At-loop Inv-loop μ-loop = search in
+    at-loop .loop .inv .5
 
 same-length-13 : tie.Need-same-length-13 Inv-loop μ-loop
-same-length-13 c = c .before .before .before .before .before .loop .inv .6
+same-length-13 c =
+    let at-loop : tie.At-loop Inv-loop μ-loop = search in
+    at-loop .loop .inv .6
 
 same-length-14 : tie.Need-same-length-14 Inv-loop μ-loop
-same-length-14 c = c .before .before .before .before .before .loop .inv .7
+same-length-14 c =
+    let at-loop : tie.At-loop Inv-loop μ-loop = search in
+    at-loop .loop .inv .7
 
 returns-2 : tie.Need-returns-2 Inv-loop μ-loop
 unfolding jobOf
 returns-2 c =
-    let p = c .before .before .before .before .before in
-    let e = entry p in
+    let at-else1 : tie.Else1 Inv-loop μ-loop = search in
+    let at-loop : tie.At-loop Inv-loop μ-loop = search in
+    let e = entry at-loop in
     let j = jobOf (lent e) in
     let well = e .pre .0 .well in
-    let is : EndsAs p Settled =
-    underway-settled j (e .args .weights .now) (e .args .budget) (given e) (lent-zero-allowed (lent e) well) (lent-some (lent e) well) (e .args .budget - p .loop .at .made) _ (p .loop .at .sum) (p .loop .inv .0 .underway)
-    (c .before .before .before .if1 .left) (c .before .if2 .taken ∙ count-is p) in
-    (is ∙ ap (λ (x : Ended). descentOf x (layoutOf (p .loop .layout))) (sym (c .end-at2 .ensures)), (p .loop .inv .0 .laid, p .loop .inv .0 .stores))
-
-end-at-requires-3 : tie.Need-end-at-requires-3 Inv-loop μ-loop
-end-at-requires-3 c κs = search needs
+    let is : EndsAs at-loop Settled =
+    underway-settled j (e .args .weights .now) (e .args .budget) (given e) (lent-zero-allowed (lent e) well) (lent-some (lent e) well)
+    (e .args .budget - at-loop .loop .at .made) _ (at-loop .loop .at .sum) (at-loop .loop .inv .0 .underway)
+    (at-else1 .if1 .left) (c .before .if2 .taken ∙ count-is at-loop) in (
+      is ∙ ap (λ (x : Ended). descentOf x (layoutOf (at-loop .loop .layout))) (sym (c .end-at2 .ensures)),
+      (at-loop .loop .inv .0 .laid, at-loop .loop .inv .0 .stores),
+    )
 
 same-length-15 : tie.Need-same-length-15 Inv-loop μ-loop
-same-length-15 c = c .before .before .before .before .before .before .before .loop .inv .1
+same-length-15 c =
+    let at-loop : tie.At-loop Inv-loop μ-loop = search in
+    at-loop .loop .inv .1
 
 same-length-16 : tie.Need-same-length-16 Inv-loop μ-loop
-same-length-16 c = c .before .before .before .before .before .before .before .loop .inv .2
+same-length-16 c =
+    let at-loop : tie.At-loop Inv-loop μ-loop = search in
+    at-loop .loop .inv .2
 
 same-length-17 : tie.Need-same-length-17 Inv-loop μ-loop
-same-length-17 c = c .before .before .before .before .before .before .before .loop .inv .3
+same-length-17 c =
+    let at-loop : tie.At-loop Inv-loop μ-loop = search in
+    at-loop .loop .inv .3
 
 same-length-18 : tie.Need-same-length-18 Inv-loop μ-loop
-same-length-18 c = c .before .before .before .before .before .before .before .loop .inv .4
+same-length-18 c =
+    let at-loop : tie.At-loop Inv-loop μ-loop = search in
+    at-loop .loop .inv .4
 
 same-length-19 : tie.Need-same-length-19 Inv-loop μ-loop
-same-length-19 c = c .before .before .before .before .before .before .before .loop .inv .5
+same-length-19 c =
+    let at-loop : tie.At-loop Inv-loop μ-loop = search in
+    at-loop .loop .inv .5
 
 same-length-20 : tie.Need-same-length-20 Inv-loop μ-loop
-same-length-20 c = c .before .before .before .before .before .before .before .loop .inv .6
+same-length-20 c =
+    let at-loop : tie.At-loop Inv-loop μ-loop = search in
+    at-loop .loop .inv .6
 
 same-length-21 : tie.Need-same-length-21 Inv-loop μ-loop
-same-length-21 c = c .before .before .before .before .before .before .before .loop .inv .7
+same-length-21 c =
+    let at-loop : tie.At-loop Inv-loop μ-loop = search in
+    at-loop .loop .inv .7
 
 returns-3 : tie.Need-returns-3 Inv-loop μ-loop
 unfolding jobOf
 returns-3 c =
-    let p = c .before .before .before .before .before .before .before in
-    let e = entry p in
+    let at-else2 : tie.Else2 Inv-loop μ-loop = search in
+    let at-else1 : tie.Else1 Inv-loop μ-loop = search in
+    let at-loop : tie.At-loop Inv-loop μ-loop = search in
+    let e = entry at-loop in
     let j = jobOf (lent e) in
     let well = e .pre .0 .well in
-    let is : EndsAs p Spent =
-    underway-spent j (e .args .weights .now) (e .args .budget) (given e) (lent-zero-allowed (lent e) well) (lent-some (lent e) well) (e .args .budget - p .loop .at .made) _ (p .loop .at .sum) (p .loop .inv .0 .underway)
-    (c .before .before .before .before .before .if1 .left) (λ z. c .before .before .before .if2 .left (z ∙ sym (count-is p))) (let made = c .before .if3 .taken in omega arith) in
-    (is ∙ ap (λ (x : Ended). descentOf x (layoutOf (p .loop .layout))) (sym (c .end-at3 .ensures)), (p .loop .inv .0 .laid, p .loop .inv .0 .stores))
+    let is : EndsAs at-loop Spent =
+    underway-spent j (e .args .weights .now) (e .args .budget) (given e) (lent-zero-allowed (lent e) well) (lent-some (lent e) well)
+    (e .args .budget - at-loop .loop .at .made) _ (at-loop .loop .at .sum) (at-loop .loop .inv .0 .underway)
+    (at-else1 .if1 .left) (λ z. at-else2 .if2 .left (z ∙ sym (count-is at-loop))) (let made = c .before .if3 .taken in omega arith) in (
+      is ∙ ap (λ (x : Ended). descentOf x (layoutOf (at-loop .loop .layout))) (sym (c .end-at3 .ensures)),
+      (at-loop .loop .inv .0 .laid, at-loop .loop .inv .0 .stores),
+    )
 
 step-requires : tie.Need-step-requires Inv-loop μ-loop
 unfolding jobOf
 step-requires c κs =
-    let p = c .before .before .before .before .before .before .before .before .before .before .before .before .before in
-    let e = entry p in
-    let u = p .loop .inv .0 .underway in
+    let at-else3 : tie.Else3 Inv-loop μ-loop = search in
+    let at-loop : tie.At-loop Inv-loop μ-loop = search in
+    let at-trial-count : tie.After-trial-count Inv-loop μ-loop = search in
+    let e = entry at-loop in
+    let u = at-loop .loop .inv .0 .underway in
     let within = u .counted in
-    let differs = c .before .before .before .before .before .before .before .if3 .left in
+    let differs = at-else3 .if3 .left in
     let most = e .pre .1 .1 .1 .1 in
-    let few = p .before .before .before .before .trial-count .ensures .1 in
-    let count = count-is p in
-    let quiet = u .quietFew in
-    (e .pre .0, (e .pre .1 .0, (p .loop .inv .0 .laid, (p .loop .inv .0 .stores, (u .proper, (u .sumIs, (omega arith, (omega arith, u .movesMade))))))))
+    let few = at-trial-count .trial-count .ensures .1 in
+    let count = count-is at-loop in
+    let quiet = u .quietFew in (
+      e .pre .0,
+      (e .pre .1 .0, (at-loop .loop .inv .0 .laid, (at-loop .loop .inv .0 .stores, (u .proper, (u .sumIs, (omega arith, (omega arith, u .movesMade))))))),
+    )
 
 -- the loop's head, from where a step was taken
 abbrev head : tie.After-step Inv-loop μ-loop → tie.At-loop Inv-loop μ-loop
-head c = c .before .before .before .before .before .before .before .before .before .before .before .before .before .before
+head c = search
 
 -- a step makes one trial
 made-one : (c : tie.After-step Inv-loop μ-loop) → c .step .result .made ≡ head c .loop .at .made + 1
@@ -220,82 +281,59 @@ made-one c =
     let p = head c .loop in
     let e = entry (head c) in
     ap (λ (s : loop.Standing). s .made) (c .step .ensures .0)
-    ∙ passed-made (jobOf (lent e)) (standingAs (layoutOf (p .layout)) (p .at)) (attempt (jobOf (lent e)) (e .args .weights .now) (layoutOf (p .layout)) (trialAs (p .at .trial)))
+    ∙ passed-made (jobOf (lent e)) (standingAs (layoutOf (p .layout)) (p .at))
+    (attempt (jobOf (lent e)) (e .args .weights .now) (layoutOf (p .layout)) (trialAs (p .at .trial)))
 
 loop-less : tie.Need-loop-less Inv-loop μ-loop
 unfolding jobOf
 loop-less c =
-    let p = c .before .before .before .before .before .before .before .before .before .before .before .before .before .before .before .before .before .before .before .before .before .before .before .before .before .before .before in
-    let within = p .loop .inv .0 .underway .counted in
-    let differs = c .before .before .before .before .before .before .before .before .before .before .before .before .before .before .before .before .before .before .before .before .before .if3 .left in
-    let one = made-one (c .before .before .before .before .before .before .before .before .before .before .before .before .before) in
+    let at-step : tie.After-step Inv-loop μ-loop = search in
+    let at-else3 : tie.Else3 Inv-loop μ-loop = search in
+    let at-loop : tie.At-loop Inv-loop μ-loop = search in
+    let within = at-loop .loop .inv .0 .underway .counted in
+    let differs = at-else3 .if3 .left in
+    let one = made-one (at-step) in
     omega arith
 
 loop-again : tie.Need-loop-again Inv-loop μ-loop
 unfolding jobOf
 loop-again c =
-    let p = c .before .before .before .before .before .before .before .before .before .before .before .before .before .before .before .before .before .before .before .before .before .before .before .before .before .before .before in
-    let e = entry p in
+    let at-step : tie.After-step Inv-loop μ-loop = search in
+    let at-else3 : tie.Else3 Inv-loop μ-loop = search in
+    let at-else2 : tie.Else2 Inv-loop μ-loop = search in
+    let at-else1 : tie.Else1 Inv-loop μ-loop = search in
+    let at-loop : tie.At-loop Inv-loop μ-loop = search in
+    let e = entry at-loop in
     let j = jobOf (lent e) in
-    let s = c .before .before .before .before .before .before .before .before .before .before .before .before .before .step in
+    let s = at-step .step in
     let new = s .last .1 .1 .1 .1 .1 .1 .1 .1 .1 .1 .0 in
-    let left = e .args .budget - p .loop .at .made in
-    let within = p .loop .inv .0 .underway .counted in
-    let differs = c .before .before .before .before .before .before .before .before .before .before .before .before .before .before .before .before .before .before .before .before .before .if3 .left in
-    let one = made-one (c .before .before .before .before .before .before .before .before .before .before .before .before .before) in
+    let left = e .args .budget - at-loop .loop .at .made in
+    let within = at-loop .loop .inv .0 .underway .counted in
+    let differs = at-else3 .if3 .left in
+    let one = made-one (at-step) in
     let rest : left - 1 ≡ e .args .budget - s .result .made = omega arith in
     let pass : Underway j (e .args .weights .now) (e .args .budget) (given e) (left - 1) (standingAs (layoutOf new) (s .result)) (s .result .sum) =
-    underway-pass j (e .args .weights .now) (e .args .budget) (given e) (lent-zero-allowed (lent e) (e .pre .0 .well)) left _ (p .loop .at .sum) (p .loop .inv .0 .underway)
-    (c .before .before .before .before .before .before .before .before .before .before .before .before .before .before .before .before .before .before .before .before .before .before .before .before .before .if1 .left) (λ z. c .before .before .before .before .before .before .before .before .before .before .before .before .before .before .before .before .before .before .before .before .before .before .before .if2 .left (z ∙ sym (count-is p))) (omega arith) _ (s .result .sum) (s .ensures .0) (s .ensures .1 .0) (s .ensures .1 .1 .0 .valid) in
-    let under : Underway j (e .args .weights .now) (e .args .budget) (given e) (e .args .budget - s .result .made) (standingAs (layoutOf new) (s .result)) (s .result .sum) =
+    underway-pass j (e .args .weights .now) (e .args .budget) (given e) (lent-zero-allowed (lent e) (e .pre .0 .well)) left _ (at-loop .loop .at .sum)
+    (at-loop .loop .inv .0 .underway)
+    (at-else1 .if1 .left) (λ z. at-else2 .if2 .left (z ∙ sym (count-is at-loop))) (omega arith) _ (s .result .sum) (s .ensures .0) (s .ensures .1 .0)
+    (s .ensures .1 .1 .0 .valid) in
+    let under : Underway j (e .args .weights .now) (e .args .budget) (given e) (e .args .budget - s .result .made) (standingAs (layoutOf new) (s .result))
+    (s .result .sum) =
     subst (λ (n : ℕ). Underway j (e .args .weights .now) (e .args .budget) (given e) n (standingAs (layoutOf new) (s .result)) (s .result .sum)) rest pass in (
       record { underway = under; laid = s .ensures .1 .1 .0; stores = s .ensures .1 .1 .1 },
-      s .kept .1 .1 .1 .1 .1 .1 .1 .1 .1 .1 .0 ∙ p .loop .inv .1,
-      s .kept .1 .1 .1 .1 .1 .1 .1 .1 .1 .1 .1 .0 ∙ p .loop .inv .2,
-      s .kept .1 .1 .1 .1 .1 .1 .1 .1 .1 .1 .1 .1 .0 ∙ p .loop .inv .3,
-      s .kept .1 .1 .1 .1 .1 .1 .1 .1 .1 .1 .1 .1 .1 .0 ∙ p .loop .inv .4,
-      s .kept .1 .1 .1 .1 .1 .1 .1 .1 .1 .1 .1 .1 .1 .1 .0 ∙ p .loop .inv .5,
-      s .kept .1 .1 .1 .1 .1 .1 .1 .1 .1 .1 .1 .1 .1 .1 .1 .0 ∙ p .loop .inv .6,
-      s .kept .1 .1 .1 .1 .1 .1 .1 .1 .1 .1 .1 .1 .1 .1 .1 .1 .0 ∙ p .loop .inv .7,
+      s .kept .1 .1 .1 .1 .1 .1 .1 .1 .1 .1 .0 ∙ at-loop .loop .inv .1,
+      s .kept .1 .1 .1 .1 .1 .1 .1 .1 .1 .1 .1 .0 ∙ at-loop .loop .inv .2,
+      s .kept .1 .1 .1 .1 .1 .1 .1 .1 .1 .1 .1 .1 .0 ∙ at-loop .loop .inv .3,
+      s .kept .1 .1 .1 .1 .1 .1 .1 .1 .1 .1 .1 .1 .1 .0 ∙ at-loop .loop .inv .4,
+      s .kept .1 .1 .1 .1 .1 .1 .1 .1 .1 .1 .1 .1 .1 .1 .0 ∙ at-loop .loop .inv .5,
+      s .kept .1 .1 .1 .1 .1 .1 .1 .1 .1 .1 .1 .1 .1 .1 .1 .0 ∙ at-loop .loop .inv .6,
+      s .kept .1 .1 .1 .1 .1 .1 .1 .1 .1 .1 .1 .1 .1 .1 .1 .1 .0 ∙ at-loop .loop .inv .7,
     )
 
 pub descend-spec : {M : Type 1} → statement M
 descend-spec =
-    tie.close
-    (tie.spec
-    Inv-loop
-    μ-loop
-    trial-count-requires
-    total-requires
-    beginning-requires
-    loop-holds
-    end-at-requires
-    same-length
-    same-length-2
-    same-length-3
-    same-length-4
-    same-length-5
-    same-length-6
-    same-length-7
-    returns
-    end-at-requires-2
-    same-length-8
-    same-length-9
-    same-length-10
-    same-length-11
-    same-length-12
-    same-length-13
-    same-length-14
-    returns-2
-    end-at-requires-3
-    same-length-15
-    same-length-16
-    same-length-17
-    same-length-18
-    same-length-19
-    same-length-20
-    same-length-21
-    returns-3
-    step-requires
-    loop-less
-    loop-again)
+    tie.close (tie.spec
+    Inv-loop μ-loop trial-count-requires total-requires (search needs) loop-holds (search needs) same-length same-length-2 same-length-3
+    same-length-4 same-length-5 same-length-6 same-length-7 returns (search needs) same-length-8 same-length-9 same-length-10
+    same-length-11 same-length-12 same-length-13 same-length-14 returns-2 (search needs) same-length-15 same-length-16 same-length-17
+    same-length-18 same-length-19 same-length-20 same-length-21 returns-3 step-requires loop-less loop-again)

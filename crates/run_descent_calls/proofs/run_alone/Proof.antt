@@ -48,64 +48,61 @@ array-borrow-prefix-own : tie.Need-array-borrow-prefix-own
 array-borrow-prefix-own c = few (c .before .before)
 
 slice-aggregate-copy-weights : tie.Need-slice-aggregate-copy-weights
-slice-aggregate-copy-weights c = let e = c .before .before .before in sym (fresh-part (length (e .args .weights .now)) (few e))
+slice-aggregate-copy-weights c =
+    let at-start : tie.Start = search in
+    sym (fresh-part (length (at-start .args .weights .now)) (few at-start))
 
 copy-weights-requires : tie.Need-copy-weights-requires
-copy-weights-requires c κs = let e = c .before .before .before in fresh-part (length (e .args .weights .now)) (few e)
+copy-weights-requires c κs =
+    let at-start : tie.Start = search in
+    fresh-part (length (at-start .args .weights .now)) (few at-start)
 
 array-borrow-prefix-own-2 : tie.Need-array-borrow-prefix-own-2
-array-borrow-prefix-own-2 c = copied-room (c .before .before .before .before .before .before .args .weights .now) _ _ (c .before .before .copy-weights .ensures)
+array-borrow-prefix-own-2 c =
+    let at-start : tie.Start = search in
+    copied-room (at-start .args .weights .now) _ _ (c .before .before .copy-weights .ensures)
 
 slice-aggregate-with-strips : tie.Need-slice-aggregate-with-strips
-slice-aggregate-with-strips c = let e = c .before .before .before .before .before .before .before in sym (ap (λ xs. length xs) (copied-part (e .args .weights .now) _ _ (c .before .before .before .copy-weights .ensures)))
+slice-aggregate-with-strips c =
+    let at-copy-weights : tie.After-copy-weights = search in
+    let at-start : tie.Start = search in
+    sym (ap (λ xs. length xs) (copied-part (at-start .args .weights .now) _ _ (at-copy-weights .copy-weights .ensures)))
 
 with-strips-requires : tie.Need-with-strips-requires
 with-strips-requires c κs =
-    let e = c .before .before .before .before .before .before .before in
-    (subst (λ ws. Given (lent e) (e .args .layout .now) ws (e .args .budget)) (sym (copied-part (e .args .weights .now) _ _ (c .before .before .before .copy-weights .ensures))) (e .pre), omega arith)
+    let at-copy-weights : tie.After-copy-weights = search in
+    let at-start : tie.Start = search in (
+      subst (λ ws. Given (lent at-start) (at-start .args .layout .now) ws (at-start .args .budget))
+          (sym (copied-part (at-start .args .weights .now) _ _ (at-copy-weights .copy-weights .ensures))) (at-start .pre),
+      omega arith,
+    )
 
 -- what was done with weights that are the lent ones, by what the run came to
-done : (l : Lent) (layout : List (List ℕ)) (budget : ℕ) (new : List (List ℕ)) (raised : List ℕ) {copied ws : List ℕ} {result o : PlanOutcome} → copied ≡ ws → result ≡ o
+done : (l : Lent) (layout : List (List ℕ)) (budget : ℕ) (new : List (List ℕ)) (raised : List ℕ) {copied ws : List ℕ} {result o : PlanOutcome} → copied ≡ ws
+    → result ≡ o
     → Done l layout copied Plan.Alone budget result new raised → Done l layout ws Plan.Alone budget o new raised
 done l layout budget new raised e f d = subst₂ (λ (w : List ℕ) (x : PlanOutcome). Done l layout w Plan.Alone budget x new raised) e f d
 
-enum-known-ended : tie.Need-enum-known-ended
-enum-known-ended c = search needs
-
-enum-told : tie.Need-enum-told
-enum-told c = search needs
-
-same-length : tie.Need-same-length
-same-length c = search needs
-
 returns : tie.Need-returns
 returns c =
-    let e = c .before .before .before .before .before .before .before .before .before .before .before .before .before in
-    let w = c .before .before .before .before .before .with-strips in
-    done (lent e) (e .args .layout .now) (e .args .budget) (w .last .1 .1 .1 .1 .1 .0) (w .last .1 .1 .1 .1 .1 .1 .0) (copied-part (e .args .weights .now) _ _ (c .before .before .before .before .before .before .before .before .before .copy-weights .ensures)) (c .before .ended .given .1) (w .ensures)
-
-same-length-2 : tie.Need-same-length-2
-same-length-2 c = search needs
+    let at-with-strips : tie.After-with-strips = search in
+    let at-copy-weights : tie.After-copy-weights = search in
+    let at-start : tie.Start = search in
+    let w = at-with-strips .with-strips in
+    done (lent at-start) (at-start .args .layout .now) (at-start .args .budget) (w .last .1 .1 .1 .1 .1 .0) (w .last .1 .1 .1 .1 .1 .1 .0)
+    (copied-part (at-start .args .weights .now) _ _ (at-copy-weights .copy-weights .ensures)) (c .before .ended .given .1) (w .ensures)
 
 returns-2 : tie.Need-returns-2
 returns-2 c =
-    let e = c .before .before .before .before .before .before .before .before .before .before .before .before in
-    let w = c .before .before .before .before .with-strips in
-    absurd (done (lent e) (e .args .layout .now) (e .args .budget) (w .last .1 .1 .1 .1 .1 .0) (w .last .1 .1 .1 .1 .1 .1 .0) (copied-part (e .args .weights .now) _ _ (c .before .before .before .before .before .before .before .before .copy-weights .ensures)) (c .enum-told .given .1) (w .ensures))
+    let at-with-strips : tie.After-with-strips = search in
+    let at-copy-weights : tie.After-copy-weights = search in
+    let at-start : tie.Start = search in
+    let w = at-with-strips .with-strips in
+    absurd (done (lent at-start) (at-start .args .layout .now) (at-start .args .budget) (w .last .1 .1 .1 .1 .1 .0) (w .last .1 .1 .1 .1 .1 .1 .0)
+    (copied-part (at-start .args .weights .now) _ _ (at-copy-weights .copy-weights .ensures)) (c .enum-told .given .1) (w .ensures))
 
 pub run-alone-spec : {M : Type 1} → statement M
 run-alone-spec =
-    tie.close
-    (tie.spec
-    array-borrow-prefix-own
-    slice-aggregate-copy-weights
-    copy-weights-requires
-    array-borrow-prefix-own-2
-    slice-aggregate-with-strips
-    with-strips-requires
-    enum-known-ended
-    enum-told
-    same-length
-    returns
-    same-length-2
-    returns-2)
+    tie.close (tie.spec
+    array-borrow-prefix-own slice-aggregate-copy-weights copy-weights-requires array-borrow-prefix-own-2 slice-aggregate-with-strips
+    with-strips-requires (search needs) (search needs) (search needs) returns (search needs) returns-2)

@@ -17,44 +17,36 @@ use borrow.Author.Needs.{needs}
 use Rattle.run_guided_calls.proofs.guided_run.Statement.{statement}
 use Rattle.run_guided_calls.proofs.guided_run.Tie as tie
 
-numbers-wrong-requires : tie.Need-numbers-wrong-requires
-numbers-wrong-requires c κs = search needs
-
-weighted-causes-requires : tie.Need-weighted-causes-requires
-weighted-causes-requires c κs = search needs
-
-enum-known-refusal : tie.Need-enum-known-refusal
-enum-known-refusal c = search needs
-
-enum-told : tie.Need-enum-told
-enum-told c = search needs
-
-write-entries-requires : tie.Need-write-entries-requires
-write-entries-requires c κs = search needs
-
 run-rounds-requires : tie.Need-run-rounds-requires
 run-rounds-requires c κs =
-    let a = c .before .before .before .before .before .before .before .before .before .before .before .before .before .args in
+    let at-write-entries : tie.After-write-entries = search in
+    let at-enum-told : tie.After-enum-told = search in
+    let at-weighted-causes : tie.After-weighted-causes = search in
+    let at-numbers-wrong : tie.After-numbers-wrong = search in
+    let at-start : tie.Start = search in
+    let a = at-start .args in
     let l : Lent = lentBy (a .size) (a .table .now) (a .pixels .now) in
     let none : NoCause (weightedCauses l (a .layout .now) (a .weights .now) (numbersWrong (a .rounds) (a .budget)) false) =
-    passed-none _ (sym (c .before .before .before .before .before .enum-told .given .1) ∙ c .before .before .before .before .before .before .before .weighted-causes .ensures ∙ ap (λ b. firstCause (weightedCauses l (a .layout .now) (a .weights .now) b false)) (c .before .before .before .before .before .before .before .before .numbers-wrong .ensures)) in (
-      run-given l (a .layout .now) (a .weights .now) (numbersWrong (a .rounds) (a .budget)) (a .budget) none (few-trials l (a .layout .now) (a .weights .now) (a .rounds) (a .budget) none) (c .before .before .before .write-entries .last .0) (c .before .before .before .write-entries .ensures),
+    passed-none _
+    (sym (at-enum-told .enum-told .given .1) ∙ at-weighted-causes .weighted-causes .ensures
+    ∙ ap (λ b. firstCause (weightedCauses l (a .layout .now) (a .weights .now) b false)) (at-numbers-wrong .numbers-wrong .ensures)) in (
+      run-given l (a .layout .now) (a .weights .now) (numbersWrong (a .rounds) (a .budget)) (a .budget) none
+          (few-trials l (a .layout .now) (a .weights .now) (a .rounds) (a .budget) none) (at-write-entries .write-entries .last .0)
+          (at-write-entries .write-entries .ensures),
       few-rounds l (a .layout .now) (a .weights .now) (a .rounds) (a .budget) none,
     )
 
-same-length : tie.Need-same-length
-same-length c = search needs
-
-same-length-2 : tie.Need-same-length-2
-same-length-2 c = search needs
-
 returns : tie.Need-returns
 returns c =
-    let a = c .before .before .before .before .before .before .before .before .before .args in
+    let at-weighted-causes : tie.After-weighted-causes = search in
+    let at-numbers-wrong : tie.After-numbers-wrong = search in
+    let at-start : tie.Start = search in
+    let a = at-start .args in
     let l : Lent = lentBy (a .size) (a .table .now) (a .pixels .now) in
     let no =
     call-refused l (a .layout .now) (a .weights .now) (a .rounds) (a .budget) _
-    (sym (c .before .refusal .given .1) ∙ c .before .before .before .weighted-causes .ensures ∙ ap (λ b. firstCause (weightedCauses l (a .layout .now) (a .weights .now) b false)) (c .before .before .before .before .numbers-wrong .ensures)) in (
+    (sym (c .before .refusal .given .1) ∙ at-weighted-causes .weighted-causes .ensures
+    ∙ ap (λ b. firstCause (weightedCauses l (a .layout .now) (a .weights .now) b false)) (at-numbers-wrong .numbers-wrong .ensures)) in (
       sym (ap guidedAnswer no),
       (
         sym (ap (bestAfterRun (a .layout .now)) no),
@@ -62,44 +54,37 @@ returns c =
       ),
     )
 
-same-length-3 : tie.Need-same-length-3
-same-length-3 c = search needs
-
-same-length-4 : tie.Need-same-length-4
-same-length-4 c = search needs
-
 returns-2 : tie.Need-returns-2
 returns-2 c =
-    let a = c .before .before .before .before .before .before .before .before .before .before .before .before .before .before .before .before .before .args in
+    let at-run-rounds : tie.After-run-rounds = search in
+    let at-write-entries : tie.After-write-entries = search in
+    let at-enum-told : tie.After-enum-told = search in
+    let at-weighted-causes : tie.After-weighted-causes = search in
+    let at-numbers-wrong : tie.After-numbers-wrong = search in
+    let at-start : tie.Start = search in
+    let a = at-start .args in
     let l : Lent = lentBy (a .size) (a .table .now) (a .pixels .now) in
     let none : NoCause (weightedCauses l (a .layout .now) (a .weights .now) (numbersWrong (a .rounds) (a .budget)) false) =
-    passed-none _ (sym (c .before .before .before .before .before .before .before .before .before .enum-told .given .1) ∙ c .before .before .before .before .before .before .before .before .before .before .before .weighted-causes .ensures ∙ ap (λ b. firstCause (weightedCauses l (a .layout .now) (a .weights .now) b false)) (c .before .before .before .before .before .before .before .before .before .before .before .before .numbers-wrong .ensures)) in
-    let written = c .before .before .before .before .before .before .before .write-entries in
-    let ran = c .before .before .before .run-rounds in
-    let is = call-given l (a .layout .now) (a .weights .now) (a .rounds) (a .budget) none (written .last .0) (written .ensures) (ran .result) (ran .last .1 .1 .1 .1 .1 .0) (ran .last .1 .1 .1 .1 .1 .1 .0) (ran .ensures) in (
+    passed-none _
+    (sym (at-enum-told .enum-told .given .1) ∙ at-weighted-causes .weighted-causes .ensures
+    ∙ ap (λ b. firstCause (weightedCauses l (a .layout .now) (a .weights .now) b false)) (at-numbers-wrong .numbers-wrong .ensures)) in
+    let written = at-write-entries .write-entries in
+    let ran = at-run-rounds .run-rounds in
+    let is = call-given l (a .layout .now) (a .weights .now) (a .rounds) (a .budget) none (written .last .0) (written .ensures) (ran .result)
+    (ran .last .1 .1 .1 .1 .1 .0) (ran .last .1 .1 .1 .1 .1 .1 .0) (ran .ensures) in (
       sym (ap guidedAnswer is),
       (
         sym (ap (bestAfterRun (a .layout .now)) is ∙ ran .ensures .written),
         (
           sym (ap (weightsAfterRun (a .weights .now)) is),
-          call-claims l (a .layout .now) (a .weights .now) (a .rounds) (a .budget) none (written .last .0) (written .ensures) (ran .result) (ran .last .1 .1 .1 .1 .1 .0) (ran .last .1 .1 .1 .1 .1 .1 .0) (ran .ensures),
+          call-claims l (a .layout .now) (a .weights .now) (a .rounds) (a .budget) none (written .last .0) (written .ensures) (ran .result)
+              (ran .last .1 .1 .1 .1 .1 .0) (ran .last .1 .1 .1 .1 .1 .1 .0) (ran .ensures),
         ),
       ),
     )
 
 pub guided-run-spec : {M : Type 1} → statement M
 guided-run-spec =
-    tie.close
-    (tie.spec
-    numbers-wrong-requires
-    weighted-causes-requires
-    enum-known-refusal
-    enum-told
-    write-entries-requires
-    run-rounds-requires
-    same-length
-    same-length-2
-    returns
-    same-length-3
-    same-length-4
-    returns-2)
+    tie.close (tie.spec
+    (search needs) (search needs) (search needs) (search needs) (search needs) run-rounds-requires (search needs) (search needs) returns
+    (search needs) (search needs) returns-2)

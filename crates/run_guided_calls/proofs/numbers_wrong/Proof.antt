@@ -26,7 +26,8 @@ returns-3 c =
     let other = c .if2 .left in
     let some : leb 1 (a .rounds) ≡ true = le-leb 1 (a .rounds) (omega arith) in
     rw (small, some)
-    (same-tests (ltb roundBound (a .rounds)) (not (leb (a .rounds) roundBound)) (λ e. ap not (lt-leb (a .rounds) roundBound (ltb-true roundBound (a .rounds) e)))
+    (same-tests (ltb roundBound (a .rounds)) (not (leb (a .rounds) roundBound))
+    (λ e. ap not (lt-leb (a .rounds) roundBound (ltb-true roundBound (a .rounds) e)))
     (λ e. lt-ltb roundBound (a .rounds) (leb-false (a .rounds) roundBound (not-true _ e))))
 
 pub numbers-wrong-spec : {M : Type 1} → statement M

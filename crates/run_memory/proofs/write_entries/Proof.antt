@@ -24,36 +24,45 @@ loop-holds c = (omega arith, rewritten-begin _)
 place-at-requires : tie.Need-place-at-requires Inv-loop μ-loop
 place-at-requires c κs = c .before .loop-test .taken
 
-entry-of-requires : tie.Need-entry-of-requires Inv-loop μ-loop
-entry-of-requires c κs = search needs
-
 mul-t3 : tie.Need-mul-t3 Inv-loop μ-loop
 mul-t3 c =
-    let fits = c .before .before .before .before .before .good in
-    let same = c .before .before .before .before .loop .inv .1 .same in
-    let below = c .before .before .before .loop-test .taken in
+    let in-loop : tie.In-loop Inv-loop μ-loop = search in
+    let at-loop : tie.At-loop Inv-loop μ-loop = search in
+    let at-start : tie.Start Inv-loop μ-loop = search in
+    let fits = at-start .good in
+    let same = at-loop .loop .inv .1 .same in
+    let below = in-loop .loop-test .taken in
     omega arith
 
 slice-set-from-layout : tie.Need-slice-set-from-layout Inv-loop μ-loop
-slice-set-from-layout c = c .before .before .before .loop-test .taken
+slice-set-from-layout c =
+    let in-loop : tie.In-loop Inv-loop μ-loop = search in
+    in-loop .loop-test .taken
 
 add-i : tie.Need-add-i Inv-loop μ-loop
 add-i c =
-    let fits = c .before .before .before .before .before .good in
-    let same = c .before .before .before .before .loop .inv .1 .same in
-    let below = c .before .before .before .loop-test .taken in
+    let in-loop : tie.In-loop Inv-loop μ-loop = search in
+    let at-loop : tie.At-loop Inv-loop μ-loop = search in
+    let at-start : tie.Start Inv-loop μ-loop = search in
+    let fits = at-start .good in
+    let same = at-loop .loop .inv .1 .same in
+    let below = in-loop .loop-test .taken in
     omega arith
 
 loop-less : tie.Need-loop-less Inv-loop μ-loop
 loop-less c =
-    let below = c .before .before .before .loop-test .taken in
+    let in-loop : tie.In-loop Inv-loop μ-loop = search in
+    let below = in-loop .loop-test .taken in
     simp length-set (omega arith)
 
 loop-again : tie.Need-loop-again Inv-loop μ-loop
 loop-again c =
-    let start = c .before .before .before .before .before .args .layout .now in
-    let l = c .before .before .before .before .loop in
-    let below = c .before .before .before .loop-test .taken in
+    let in-loop : tie.In-loop Inv-loop μ-loop = search in
+    let at-loop : tie.At-loop Inv-loop μ-loop = search in
+    let at-start : tie.Start Inv-loop μ-loop = search in
+    let start = at-start .args .layout .now in
+    let l = at-loop .loop in
+    let below = in-loop .loop-test .taken in
     let wrote : c .entry-of .result ≡ entryOf (placeOf (layoutOf (l .layout)) (l .i)) = c .entry-of .ensures ∙ ap entryOf (c .before .place-at .ensures) in (
       simp length-set (omega arith),
       subst (λ (e : List ℕ). Rewritten start (set (l .layout) (l .i) e) (l .i + 1)) (sym wrote) (rewritten-step start (l .layout) (l .i) below (l .inv .1)),
@@ -71,17 +80,5 @@ returns c =
 
 pub write-entries-spec : {M : Type 1} → statement M
 write-entries-spec =
-    tie.close
-    (tie.spec
-    Inv-loop
-    μ-loop
-    loop-holds
-    place-at-requires
-    entry-of-requires
-    mul-t3
-    slice-set-from-layout
-    add-i
-    loop-less
-    loop-again
-    same-length
-    returns)
+    tie.close (tie.spec
+    Inv-loop μ-loop loop-holds place-at-requires (search needs) mul-t3 slice-set-from-layout add-i loop-less loop-again same-length returns)

@@ -7,28 +7,19 @@ use borrow.Author.Needs.{needs}
 use Rattle.run_rounds.proofs.after_round.Statement.{statement}
 use Rattle.run_rounds.proofs.after_round.Tie as tie
 
-is-clear-requires : tie.Need-is-clear-requires
-is-clear-requires c κs = search needs
-
 returns : tie.Need-returns
 returns c =
-    let clear : isClear (c .before .before .before .before .args .end) ≡ true = sym (c .before .is-clear .ensures) ∙ c .if1 .taken in
+    let at-start : tie.Start = search in
+    let clear : isClear (at-start .args .end) ≡ true = sym (c .before .is-clear .ensures) ∙ c .if1 .taken in
     (rw (clear, leftAfter), λ j v e t w. rw (clear, raisedAfter))
-
-raise-requires : tie.Need-raise-requires
-raise-requires c κs = search needs
-
-sub-result : tie.Need-sub-result
-sub-result c = search needs
-
-same-length : tie.Need-same-length
-same-length c = search needs
 
 returns-2 : tie.Need-returns-2
 returns-2 c =
-    let unclear : isClear (c .before .before .before .before .before .before .before .before .args .end) ≡ false = sym (c .before .before .before .before .before .is-clear .ensures) ∙ c .before .before .before .before .if1 .left in
+    let at-else1 : tie.Else1 = search in
+    let at-is-clear : tie.After-is-clear = search in
+    let at-start : tie.Start = search in
+    let unclear : isClear (at-start .args .end) ≡ false = sym (at-is-clear .is-clear .ensures) ∙ at-else1 .if1 .left in
     (rw (unclear, leftAfter), λ j v e t w. rw (unclear, raisedAfter) (c .before .before .raise .ensures j v e t w))
 
 pub after-round-spec : {M : Type 1} → statement M
-after-round-spec =
-    tie.close (tie.spec is-clear-requires returns raise-requires sub-result same-length returns-2)
+after-round-spec = tie.close (tie.spec (search needs) returns (search needs) (search needs) (search needs) returns-2)

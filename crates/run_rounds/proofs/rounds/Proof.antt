@@ -13,12 +13,16 @@ use Rattle.run_rounds.proofs.rounds.Statement.{statement}
 use Rattle.run_rounds.proofs.rounds.Tie as tie
 
 abbrev Inv-loop : tie.InvT-loop
-Inv-loop size table pixels rows row-starts columns column-starts count budget width present₀ best₀ weights₀ penalties₀ row-lines₀ row-tags₀ column-lines₀ column-tags₀ sums₀ n sum₀ made₀ moves₀ left₀ present best weights penalties row-lines row-tags column-lines column-tags sums sum made moves left =
-    Rounding (lentBy size table pixels) width weights₀ count budget (layoutOf present₀) present best weights penalties row-lines row-tags column-lines column-tags sums sum made moves left
-    × Sizes present best weights penalties row-lines row-tags column-lines column-tags sums present₀ best₀ weights₀ penalties₀ row-lines₀ row-tags₀ column-lines₀ column-tags₀ sums₀
+Inv-loop size table pixels rows row-starts columns column-starts count budget width present₀ best₀ weights₀ penalties₀ row-lines₀ row-tags₀ column-lines₀
+    column-tags₀ sums₀ n sum₀ made₀ moves₀ left₀ present best weights penalties row-lines row-tags column-lines column-tags sums sum made moves left =
+    Rounding (lentBy size table pixels) width weights₀ count budget (layoutOf present₀) present best weights penalties row-lines row-tags column-lines
+    column-tags sums sum made moves left
+    × Sizes present best weights penalties row-lines row-tags column-lines column-tags sums present₀ best₀ weights₀ penalties₀ row-lines₀ row-tags₀
+    column-lines₀ column-tags₀ sums₀
 
 abbrev μ-loop : tie.MeasureT-loop
-μ-loop size table pixels rows row-starts columns column-starts count budget width present₀ best₀ weights₀ penalties₀ row-lines₀ row-tags₀ column-lines₀ column-tags₀ sums₀ n sum₀ made₀ moves₀ left₀ present best weights penalties row-lines row-tags column-lines column-tags sums sum made moves left =
+μ-loop size table pixels rows row-starts columns column-starts count budget width present₀ best₀ weights₀ penalties₀ row-lines₀ row-tags₀ column-lines₀
+    column-tags₀ sums₀ n sum₀ made₀ moves₀ left₀ present best weights penalties row-lines row-tags column-lines column-tags sums sum made moves left =
     left
 
 -- ── places ──
@@ -29,15 +33,16 @@ job s = lentBy (s .args .size) (s .args .table .now) (s .args .pixels .now)
 
 -- the function's entry, from the loop's head
 abbrev entry : tie.At-loop Inv-loop μ-loop → tie.Start Inv-loop μ-loop
-entry h = h .before .before .before .before .before .before .before .before .before .before .before .before .before
+entry h = search
 
 -- the loop's head, from where the better layout is kept
 abbrev head : tie.After-keep-better Inv-loop μ-loop → tie.At-loop Inv-loop μ-loop
-head c = c .before .before .before .before .before .before .before .before .before .before .before .before .before .before .before .before .before .before .before .before .before .before .before .before .before .before .before .before .before .before
+head c =
+    c .before .before .before .before .before .before .before .before .before .before .before .before .before .before .before .before .before .before .before .before .before .before .before .before .before .before .before .before .before .before
 
 -- the descent
 abbrev descended : tie.After-keep-better Inv-loop μ-loop → tie.After-descend Inv-loop μ-loop
-descended c = c .before .before .before .before .before .before .before .before .before .before .before .before .before .before .before .before .before .before .before .before
+descended c = search
 
 -- ── laws at these places ──
 
@@ -47,17 +52,23 @@ some-piece s = lent-some (job s) (s .pre .0 .well)
 
 -- what a round does
 rounded : (c : tie.After-keep-better Inv-loop μ-loop)
-    → Rounded (job (entry (head c))) (entry (head c) .args .width) (entry (head c) .args .budget) (head c .loop .present) (head c .loop .best) (head c .loop .weights)
-    (head c .loop .sum) (descended c .descend .result) (descended c .descend .last .1 .1 .1 .1 .1 .1 .1 .1 .1 .1 .0) (c .keep-better .last .1 .1 .0) (descended c .descend .last .1 .1 .1 .1 .1 .1 .1 .1 .1 .1 .1 .0) (descended c .descend .last .1 .1 .1 .1 .1 .1 .1 .1 .1 .1 .1 .1 .0) (descended c .descend .last .1 .1 .1 .1 .1 .1 .1 .1 .1 .1 .1 .1 .1 .0) (descended c .descend .last .1 .1 .1 .1 .1 .1 .1 .1 .1 .1 .1 .1 .1 .1 .0) (descended c .descend .last .1 .1 .1 .1 .1 .1 .1 .1 .1 .1 .1 .1 .1 .1 .1 .0) (descended c .descend .last .1 .1 .1 .1 .1 .1 .1 .1 .1 .1 .1 .1 .1 .1 .1 .1 .0)
+    → Rounded (job (entry (head c))) (entry (head c) .args .width) (entry (head c) .args .budget) (head c .loop .present) (head c .loop .best)
+    (head c .loop .weights)
+    (head c .loop .sum) (descended c .descend .result) (descended c .descend .last .1 .1 .1 .1 .1 .1 .1 .1 .1 .1 .0) (c .keep-better .last .1 .1 .0)
+    (descended c .descend .last .1 .1 .1 .1 .1 .1 .1 .1 .1 .1 .1 .0) (descended c .descend .last .1 .1 .1 .1 .1 .1 .1 .1 .1 .1 .1 .1 .0)
+    (descended c .descend .last .1 .1 .1 .1 .1 .1 .1 .1 .1 .1 .1 .1 .1 .0) (descended c .descend .last .1 .1 .1 .1 .1 .1 .1 .1 .1 .1 .1 .1 .1 .1 .0)
+    (descended c .descend .last .1 .1 .1 .1 .1 .1 .1 .1 .1 .1 .1 .1 .1 .1 .1 .0) (descended c .descend .last .1 .1 .1 .1 .1 .1 .1 .1 .1 .1 .1 .1 .1 .1 .1 .1 .0)
     (c .before .before .before .plain-total2 .result) (c .keep-better .result)
 rounded c =
+    let at-plain-total2 : tie.After-plain-total2 Inv-loop μ-loop = search in
     let said = descended c .descend .ensures in
     let l = job (entry (head c)) in
     record {
       result = said .0;
       laid = said .1 .0;
       stores = said .1 .1;
-      plainIs = c .before .before .before .plain-total2 .ensures (jobOf l) (layoutOf (descended c .descend .last .1 .1 .1 .1 .1 .1 .1 .1 .1 .1 .0)) (job-count l) (said .1 .0 .table);
+      plainIs = at-plain-total2 .plain-total2 .ensures (jobOf l) (layoutOf (descended c .descend .last .1 .1 .1 .1 .1 .1 .1 .1 .1 .1 .0)) (job-count l)
+          (said .1 .0 .table);
       bestIs = c .keep-better .ensures .0;
       sumIs = c .keep-better .ensures .1;
     }
@@ -65,14 +76,17 @@ rounded c =
 -- ── the needs ──
 
 plain-total-requires : tie.Need-plain-total-requires Inv-loop μ-loop
-plain-total-requires c κs = let s = c .before .before .before .before .before .before .before .before .before .before .before in (facts (job s) (s .pre .0 .well) .fewPieces, s .pre .1 .1 .0 .table .size)
+plain-total-requires c κs =
+    let at-start : tie.Start Inv-loop μ-loop = search in
+    (facts (job at-start) (at-start .pre .0 .well) .fewPieces, at-start .pre .1 .1 .0 .table .size)
 
 loop-holds : tie.Need-loop-holds Inv-loop μ-loop
 loop-holds c =
-    let s = c .before .before .before .before .before .before .before .before .before .before .before .before in
-    let laid = s .pre .1 .1 .0 in (
-      rounding-begin (s .args .count) (s .args .budget) (some-piece s) laid (s .pre .1 .1 .1 .0) (s .pre .1 .0) (s .pre .1 .1 .1 .1 .0)
-          (c .plain-total .ensures (jobOf (job s)) (layoutOf (s .args .present .now)) (job-count (job s)) (laid .table)),
+    let at-start : tie.Start Inv-loop μ-loop = search in
+    let laid = at-start .pre .1 .1 .0 in (
+      rounding-begin (at-start .args .count) (at-start .args .budget) (some-piece at-start) laid (at-start .pre .1 .1 .1 .0) (at-start .pre .1 .0)
+          (at-start .pre .1 .1 .1 .1 .0)
+          (c .plain-total .ensures (jobOf (job at-start)) (layoutOf (at-start .args .present .now)) (job-count (job at-start)) (laid .table)),
       record {
         sameLayout = refl;
         sameBest = refl;
@@ -88,68 +102,73 @@ loop-holds c =
 
 descend-requires : tie.Need-descend-requires Inv-loop μ-loop
 descend-requires c κs =
-    let h = c .before .before .before .before .before .before .before .before .before in
-    let stands = h .loop .inv .0 in
-    (entry h .pre .0, (stands .underway .validWeights, (stands .laid, (stands .stores, entry h .pre .1 .1 .1 .1 .1 .1))))
-
-cast-made : tie.Need-cast-made Inv-loop μ-loop
-cast-made c = search needs
+    let at-loop : tie.At-loop Inv-loop μ-loop = search in
+    let stands = at-loop .loop .inv .0 in
+    (entry at-loop .pre .0, (stands .underway .validWeights, (stands .laid, (stands .stores, entry at-loop .pre .1 .1 .1 .1 .1 .1))))
 
 add-made : tie.Need-add-made Inv-loop μ-loop
 add-made c =
-    let h = c .before .before .before .before .before .before .before .before .before .before .before .before .before .before .before .before .before .before .before .before .before .before .before .before in
-    let bounds = entry h .pre .1 .1 .1 .1 .1 in
-    let few = rounding-few (some-piece (entry h)) (h .loop .inv .0) (bounds .0) (bounds .1) in
+    let at-loop : tie.At-loop Inv-loop μ-loop = search in
+    let bounds = entry at-loop .pre .1 .1 .1 .1 .1 in
+    let few = rounding-few (some-piece (entry at-loop)) (at-loop .loop .inv .0) (bounds .0) (bounds .1) in
     omega arith
-
-cast-moves : tie.Need-cast-moves Inv-loop μ-loop
-cast-moves c = search needs
 
 add-moves : tie.Need-add-moves Inv-loop μ-loop
 add-moves c =
-    let h = c .before .before .before .before .before .before .before .before .before .before .before .before .before .before .before .before .before .before .before .before .before .before .before .before .before in
-    let bounds = entry h .pre .1 .1 .1 .1 .1 in
-    let few = rounding-few (some-piece (entry h)) (h .loop .inv .0) (bounds .0) (bounds .1) in
+    let at-loop : tie.At-loop Inv-loop μ-loop = search in
+    let bounds = entry at-loop .pre .1 .1 .1 .1 .1 in
+    let few = rounding-few (some-piece (entry at-loop)) (at-loop .loop .inv .0) (bounds .0) (bounds .1) in
     omega arith
 
 plain-total-requires-2 : tie.Need-plain-total-requires-2 Inv-loop μ-loop
 plain-total-requires-2 c κs =
-    let s = entry (c .before .before .before .before .before .before .before .before .before .before .before .before .before .before .before .before .before .before .before .before .before .before .before .before .before .before) in
-    (facts (job s) (s .pre .0 .well) .fewPieces, c .before .before .before .before .before .before .before .before .before .before .before .before .before .before .before .before .descend .ensures .1 .0 .table .size)
+    let at-descend : tie.After-descend Inv-loop μ-loop = search in
+    let at-loop : tie.At-loop Inv-loop μ-loop = search in
+    let s = entry (at-loop) in
+    (facts (job s) (s .pre .0 .well) .fewPieces, at-descend .descend .ensures .1 .0 .table .size)
 
 keep-better-requires : tie.Need-keep-better-requires Inv-loop μ-loop
 keep-better-requires c κs =
-    let h = c .before .before .before .before .before .before .before .before .before .before .before .before .before .before .before .before .before .before .before .before .before .before .before .before .before .before .before .before .before in
-    let before = h .loop .inv .1 in
-    before .sameBest ∙ ap (λ b. length b) (entry h .pre .1 .1 .1 .1 .0) ∙ sym (before .sameLayout) ∙ sym (c .before .before .before .before .before .before .before .before .before .before .before .before .before .before .before .before .before .before .before .descend .kept .1 .1 .1 .1 .1 .1 .1 .1 .1 .1 .0)
+    let at-descend : tie.After-descend Inv-loop μ-loop = search in
+    let at-loop : tie.At-loop Inv-loop μ-loop = search in
+    let before = at-loop .loop .inv .1 in
+    before .sameBest ∙ ap (λ b. length b) (entry at-loop .pre .1 .1 .1 .1 .0) ∙ sym (before .sameLayout)
+    ∙ sym (at-descend .descend .kept .1 .1 .1 .1 .1 .1 .1 .1 .1 .1 .0)
 
 after-round-requires : tie.Need-after-round-requires Inv-loop μ-loop
 after-round-requires c κs =
-    let b = c .before .before .before in
-    let s = entry (head b) in
-    (weighed (job s) (s .pre .0 .well) (rounded b .laid) (head b .loop .inv .0 .underway .validWeights), b .before .before .before .before .before .before .before .before .before .before .before .before .before .before .before .before .before .before .before .before .before .before .before .before .before .before .before .before .before .loop-test .taken)
+    let at-keep-better : tie.After-keep-better Inv-loop μ-loop = search in
+    let at-row-lines : tie.After-row-lines Inv-loop μ-loop = search in
+    let s = entry (head at-keep-better) in (
+      weighed (job s) (s .pre .0 .well) (rounded at-keep-better .laid) (head at-keep-better .loop .inv .0 .underway .validWeights),
+      at-row-lines .before .before .before .before .before .before .before .before .before .before .before .before .before .loop-test .taken,
+    )
 
 loop-less : tie.Need-loop-less Inv-loop μ-loop
 loop-less c =
-    let b = c .before .before .before .before .before .before in
-    let falls = left-falls (descended b .descend .result .end) (head b .loop .left) (b .before .before .before .before .before .before .before .before .before .before .before .before .before .before .before .before .before .before .before .before .before .before .before .before .before .before .before .before .before .loop-test .taken) in
+    let at-keep-better : tie.After-keep-better Inv-loop μ-loop = search in
+    let at-row-lines : tie.After-row-lines Inv-loop μ-loop = search in
+    let falls = left-falls (descended at-keep-better .descend .result .end) (head at-keep-better .loop .left)
+    (at-row-lines .before .before .before .before .before .before .before .before .before .before .before .before .before .loop-test .taken) in
     let left = c .before .before .after-round .ensures .0 in
     omega arith
 
 loop-again : tie.Need-loop-again Inv-loop μ-loop
 loop-again c =
-    let b = c .before .before .before .before .before .before in
-    let s = entry (head b) in
-    let stands = head b .loop .inv .0 in
-    let before = head b .loop .inv .1 in
-    let round = rounded b in
+    let at-keep-better : tie.After-keep-better Inv-loop μ-loop = search in
+    let at-row-lines : tie.After-row-lines Inv-loop μ-loop = search in
+    let s = entry (head at-keep-better) in
+    let stands = head at-keep-better .loop .inv .0 in
+    let before = head at-keep-better .loop .inv .1 in
+    let round = rounded at-keep-better in
     let after = c .before .before .after-round in
-    let kept = descended b .descend .kept in (
-      round-next (some-piece s) stands (b .before .before .before .before .before .before .before .before .before .before .before .before .before .before .before .before .before .before .before .before .before .before .before .before .before .before .before .before .before .loop-test .taken) round
+    let kept = descended at-keep-better .descend .kept in (
+      round-next (some-piece s) stands
+          (at-row-lines .before .before .before .before .before .before .before .before .before .before .before .before .before .loop-test .taken) round
           (after .ensures .1 (jobOf (job s)) _ (job-count (job s)) (round .laid .table) (stands .underway .validWeights)) (after .ensures .0),
       record {
         sameLayout = kept .1 .1 .1 .1 .1 .1 .1 .1 .1 .1 .0 ∙ before .sameLayout;
-        sameBest = b .keep-better .kept .1 .1 .0 ∙ before .sameBest;
+        sameBest = at-keep-better .keep-better .kept .1 .1 .0 ∙ before .sameBest;
         sameWeights = after .kept .1 .1 .1 .0 ∙ before .sameWeights;
         samePenalties = kept .1 .1 .1 .1 .1 .1 .1 .1 .1 .1 .1 .0 ∙ before .samePenalties;
         sameRowLines = kept .1 .1 .1 .1 .1 .1 .1 .1 .1 .1 .1 .1 .0 ∙ before .sameRowLines;
@@ -195,29 +214,7 @@ returns c =
 
 pub rounds-spec : {M : Type 1} → statement M
 rounds-spec =
-    tie.close
-    (tie.spec
-    Inv-loop
-    μ-loop
-    plain-total-requires
-    loop-holds
-    descend-requires
-    cast-made
-    add-made
-    cast-moves
-    add-moves
-    plain-total-requires-2
-    keep-better-requires
-    after-round-requires
-    loop-less
-    loop-again
-    same-length
-    same-length-2
-    same-length-3
-    same-length-4
-    same-length-5
-    same-length-6
-    same-length-7
-    same-length-8
-    same-length-9
-    returns)
+    tie.close (tie.spec
+    Inv-loop μ-loop plain-total-requires loop-holds descend-requires (search needs) add-made (search needs) add-moves
+    plain-total-requires-2 keep-better-requires after-round-requires loop-less loop-again same-length same-length-2 same-length-3
+    same-length-4 same-length-5 same-length-6 same-length-7 same-length-8 same-length-9 returns)

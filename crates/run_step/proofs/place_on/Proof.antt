@@ -3,15 +3,6 @@ use borrow.Author.Needs.{needs}
 use Rattle.run_step.proofs.place_on.Statement.{statement}
 use Rattle.run_step.proofs.place_on.Tie as tie
 
-cast-here : tie.Need-cast-here
-cast-here c = search needs
-
-enum-known-line : tie.Need-enum-known-line
-enum-known-line c = search needs
-
-enum-known-line-2 : tie.Need-enum-known-line-2
-enum-known-line-2 c = search needs
-
 returns : tie.Need-returns
 returns c = rw (c .before .line .given .1)
 
@@ -19,4 +10,4 @@ returns-2 : tie.Need-returns-2
 returns-2 c = rw (c .before .line2 .given .1)
 
 pub place-on-spec : {M : Type 1} → statement M
-place-on-spec = tie.close (tie.spec cast-here enum-known-line enum-known-line-2 returns returns-2)
+place-on-spec = tie.close (tie.spec (search needs) (search needs) (search needs) returns returns-2)

@@ -39,19 +39,21 @@ sought e = trialSearch (jobOf (lent e)) (e .args .weights .now) (layoutAt e) (tr
 
 next-trial-requires : tie.Need-next-trial-requires
 next-trial-requires c κs =
-    let e = c .before .before .before .before .before .before .before .before .before .before .before in
-    (e .pre .1 .1 .1 .1 .0 .below, (facts (lent e) (e .pre .0 .well) .entries, facts (lent e) (e .pre .0 .well) .fewPieces))
+    let at-start : tie.Start = search in
+    (at-start .pre .1 .1 .1 .1 .0 .below, (facts (lent at-start) (at-start .pre .0 .well) .entries, facts (lent at-start) (at-start .pre .0 .well) .fewPieces))
 
 row-sum-requires : tie.Need-row-sum-requires
 unfolding jobOf
 row-sum-requires c κs =
-    let e = c .before .before .before .before .before .before .before .before .before .before .before .before .before in
-    let t = e .pre .1 .1 .0 .table in
-    (record { few = facts (lent e) (e .pre .0 .well) .fewPieces; size = t .size; onePerPair = e .pre .1 .0 .onePerPair }, e .pre .1 .1 .1 .1 .0 .below)
+    let at-start : tie.Start = search in
+    let t = at-start .pre .1 .1 .0 .table in (
+      record { few = facts (lent at-start) (at-start .pre .0 .well) .fewPieces; size = t .size; onePerPair = at-start .pre .1 .0 .onePerPair },
+      at-start .pre .1 .1 .1 .1 .0 .below,
+    )
 
 -- the entry, from where the present pair sum is known
 abbrev entry : tie.After-row-sum → tie.Start
-entry c = c .before .before .before .before .before .before .before .before .before .before .before .before .before .before
+entry c = search
 
 -- the present pair sum
 present : (c : tie.After-row-sum)
@@ -65,10 +67,8 @@ next c = c .before .before .next-trial .ensures (entry c .args .pixels .now)
 
 after-quiet-requires : tie.Need-after-quiet-requires
 after-quiet-requires c κs =
-    let n = c .before .before .before .before .before .before .before .before .before .before .before .before .before .before .before .pre .1 .1 .1 .1 .1 .1 in (n .0, n .1 .0)
-
-same-length : tie.Need-same-length
-same-length c = search needs
+    let at-start : tie.Start = search in
+    let n = at-start .pre .1 .1 .1 .1 .1 .1 in (n .0, n .1 .0)
 
 returns : tie.Need-returns
 returns c =
@@ -86,24 +86,19 @@ cast-try-trial c =
     let b = c .before in
     let e = entry b in
     let is = present b in
-    let small = present-small (lent e) (e .pre .0 .well) (e .args .weights .now) (e .pre .1 .0) (layoutAt e) (e .args .at .trial .piece) (e .pre .1 .1 .1 .1 .0 .below) in
+    let small =
+    present-small (lent e) (e .pre .0 .well) (e .args .weights .now) (e .pre .1 .0) (layoutAt e) (e .args .at .trial .piece) (e .pre .1 .1 .1 .1 .0 .below) in
     omega arith
 
 try-trial-requires : tie.Need-try-trial-requires
 try-trial-requires c κs =
-    let b = c .before .before .before .before .before .before .before .before in
-    let e = entry b in
-    (e .pre .0, (e .pre .1 .0, (e .pre .1 .1 .0, (e .pre .1 .1 .1 .0, (e .pre .1 .1 .1 .1 .0, present b)))))
-
-enum-known-found : tie.Need-enum-known-found
-enum-known-found c = search needs
-
-enum-told : tie.Need-enum-told
-enum-told c = search needs
+    let at-row-sum : tie.After-row-sum = search in
+    let e = entry at-row-sum in
+    (e .pre .0, (e .pre .1 .0, (e .pre .1 .1 .0, (e .pre .1 .1 .1 .0, (e .pre .1 .1 .1 .1 .0, present at-row-sum)))))
 
 -- the present pair sum, from where the trial was taken
 abbrev summed : tie.After-try-trial → tie.After-row-sum
-summed c = c .before .before .before .before .before .before .before .before .before
+summed c = search
 
 -- what the layout buffer holds after the trial
 abbrev left : tie.After-try-trial → Layout
@@ -121,70 +116,51 @@ after c o found =
 
 after-quiet-requires-2 : tie.Need-after-quiet-requires-2
 after-quiet-requires-2 c κs =
-    let n = c .before .before .before .before .before .before .before .before .before .before .before .before .before .before .before .before .before .before .before .before .before .before .before .before .before .before .before .before .before .before .before .before .before .before .before .before .before .before .pre .1 .1 .1 .1 .1 .1 in (n .0, n .1 .0)
-
-same-length-2 : tie.Need-same-length-2
-same-length-2 c = search needs
-
-same-length-3 : tie.Need-same-length-3
-same-length-3 c = search needs
-
-same-length-4 : tie.Need-same-length-4
-same-length-4 c = search needs
-
-same-length-5 : tie.Need-same-length-5
-same-length-5 c = search needs
-
-same-length-6 : tie.Need-same-length-6
-same-length-6 c = search needs
-
-same-length-7 : tie.Need-same-length-7
-same-length-7 c = search needs
-
-same-length-8 : tie.Need-same-length-8
-same-length-8 c = search needs
+    let at-shared-slice-known : tie.After-shared-slice-known = search in
+    let n = at-shared-slice-known .before .pre .1 .1 .1 .1 .1 .1 in (n .0, n .1 .0)
 
 returns-2 : tie.Need-returns-2
 returns-2 c =
-    let t = c .before .before .before .before .before .before .before .before .before .before .before .before .before .before .before .before in
-    let b = summed t in
+    let at-try-trial : tie.After-try-trial = search in
+    let b = summed at-try-trial in
     let e = entry b in
     let j = jobOf (lent e) in
     let ws = e .args .weights .now in
     let r = c .after-quiet2 in
-    let nothing : sought e ≡ none = tried-quiet (sought e) (sym (c .before .enum-told .given .1) ∙ t .try-trial .ensures .0) in
-    let same : left t ≡ layoutAt e = ap layoutOf (after t none nothing) in
+    let nothing : sought e ≡ none = tried-quiet (sought e) (sym (c .before .enum-told .given .1) ∙ at-try-trial .try-trial .ensures .0) in
+    let same : left at-try-trial ≡ layoutAt e = ap layoutOf (after at-try-trial none nothing) in
     let passed = quiet-passed j ws (layoutAt e) (e .args .at) _ (next b) (r .result) (r .ensures) (trial-quiet j ws (layoutAt e) (trialAt e) nothing) in (
       ap (λ (w : Layout). standingAs w (r .result)) same ∙ passed,
       (
         ap (λ (s : DescentState). s .sum) (r .ensures) ∙ e .pre .1 .1 .1 .1 .1 .0 ∙ sym (ap (weightedSum j ws) same),
-        (t .try-trial .ensures .1 .1 .0, t .try-trial .ensures .1 .1 .1),
+        (at-try-trial .try-trial .ensures .1 .1 .0, at-try-trial .try-trial .ensures .1 .1 .1),
       ),
     )
 
 -- the place that was found
-place : (c : tie.After-found) → MovedTo (sought (entry (summed (c .before .before .before .before .before .before .before .before .before .before .before .before .before .before .before)))) (c .found .given .0 .0)
-place c = tried-moved _ _ (sym (c .found .given .1) ∙ c .before .before .before .before .before .before .before .before .before .before .before .before .before .before .before .try-trial .ensures .0)
+place : (c : tie.After-found) →
+    let at-try-trial : tie.After-try-trial = search in
+    MovedTo (sought (entry (summed (at-try-trial)))) (c .found .given .0 .0)
+place c =
+    let at-try-trial : tie.After-try-trial = search in
+    tried-moved _ _ (sym (c .found .given .1) ∙ at-try-trial .try-trial .ensures .0)
 
 sub-after-move : tie.Need-sub-after-move
 sub-after-move c =
-    let b = c .before .before .before .before .before .before .before .before .before .before .before .before .before .before .before .before .before .before .before .before .before .before .before .before .before in
-    let e = entry b in
-    let is = present b in
+    let at-row-sum : tie.After-row-sum = search in
+    let e = entry at-row-sum in
+    let is = present at-row-sum in
     let most = piece-at-most (jobOf (lent e)) (e .args .weights .now) (layoutAt e) (e .args .at .trial .piece) in
     let sum = e .pre .1 .1 .1 .1 .1 .0 in
     omega arith
 
-cast-after-move : tie.Need-cast-after-move
-cast-after-move c = search needs
-
 add-after-move : tie.Need-add-after-move
 add-after-move c =
-    let b = c .before .before .before .before .before .before .before .before .before .before .before .before .before .before .before .before .before .before .before .before .before .before .before .before .before in
-    let e = entry b in
+    let at-row-sum : tie.After-row-sum = search in
+    let e = entry at-row-sum in
     let j = jobOf (lent e) in
     let m = place (c .before) in
-    let is = present b in
+    let is = present at-row-sum in
     let most = piece-at-most j (e .args .weights .now) (layoutAt e) (e .args .at .trial .piece) in
     let small = total-small (lent e) (e .pre .0 .well) (e .args .weights .now) (e .pre .1 .0) (layoutAt e) in
     let less = trial-place j (e .args .weights .now) (layoutAt e) (trialAt e) (m .best) (m .found) .1 in
@@ -194,81 +170,36 @@ add-after-move c =
 
 after-move-requires : tie.Need-after-move-requires
 after-move-requires c κs =
-    let n = c .before .before .before .before .before .before .before .before .before .before .before .before .before .before .before .before .before .before .before .before .before .before .before .before .before .before .before .before .before .before .before .before .before .before .before .before .before .before .before .pre .1 .1 .1 .1 .1 .1 in (n .1 .0, n .1 .1)
-
-same-length-9 : tie.Need-same-length-9
-same-length-9 c = search needs
-
-same-length-10 : tie.Need-same-length-10
-same-length-10 c = search needs
-
-same-length-11 : tie.Need-same-length-11
-same-length-11 c = search needs
-
-same-length-12 : tie.Need-same-length-12
-same-length-12 c = search needs
-
-same-length-13 : tie.Need-same-length-13
-same-length-13 c = search needs
-
-same-length-14 : tie.Need-same-length-14
-same-length-14 c = search needs
-
-same-length-15 : tie.Need-same-length-15
-same-length-15 c = search needs
+    let at-shared-slice-known : tie.After-shared-slice-known = search in
+    let n = at-shared-slice-known .before .pre .1 .1 .1 .1 .1 .1 in (n .1 .0, n .1 .1)
 
 returns-3 : tie.Need-returns-3
 returns-3 c =
-    let t = c .before .before .before .before .before .before .before .before .before .before .before .before .before .before .before .before .before in
-    let b = summed t in
+    let at-try-trial : tie.After-try-trial = search in
+    let b = summed at-try-trial in
     let e = entry b in
     let j = jobOf (lent e) in
     let ws = e .args .weights .now in
     let m = place (c .before .before) in
     let r = c .after-move in
-    let there : left t ≡ trialMoved (layoutAt e) (trialAt e) (m .best .at) = moved-layout (e .args .layout .now) _ (trialAt e) (m .best) (after t _ (m .found)) in
-    let took : attempt j ws (layoutAt e) (trialAt e) ≡ moved (left t) = trial-moved j ws (layoutAt e) (trialAt e) (m .best) (m .found) ∙ ap moved (sym there) in
-    let lowered : weightedSum j ws (left t) ≡ weightedSum j ws (layoutAt e) - pieceSum j ws (layoutAt e) (e .args .at .trial .piece) + m .best .sum =
+    let there : left at-try-trial ≡ trialMoved (layoutAt e) (trialAt e) (m .best .at) =
+    moved-layout (e .args .layout .now) _ (trialAt e) (m .best) (after at-try-trial _ (m .found)) in
+    let took : attempt j ws (layoutAt e) (trialAt e) ≡ moved (left at-try-trial) =
+    trial-moved j ws (layoutAt e) (trialAt e) (m .best) (m .found) ∙ ap moved (sym there) in
+    let lowered : weightedSum j ws (left at-try-trial) ≡ weightedSum j ws (layoutAt e) - pieceSum j ws (layoutAt e) (e .args .at .trial .piece) + m .best .sum =
     ap (weightedSum j ws) there ∙ trial-sum j ws (layoutAt e) (trialAt e) (m .best) (m .found) in
     let now : r .result .sum ≡ e .args .at .sum - b .row-sum .result + c .before .before .found .given .0 .0 = ap (λ (s : DescentState). s .sum) (r .ensures) in
     let is = present b in
     let sum = e .pre .1 .1 .1 .1 .1 .0 in
     let least = m .sum in (
-      moved-passed j ws (layoutAt e) (e .args .at) _ (next b) (left t) (r .result) _ (r .ensures) took,
-      (omega arith, (t .try-trial .ensures .1 .1 .0, t .try-trial .ensures .1 .1 .1)),
+      moved-passed j ws (layoutAt e) (e .args .at) _ (next b) (left at-try-trial) (r .result) _ (r .ensures) took,
+      (omega arith, (at-try-trial .try-trial .ensures .1 .1 .0, at-try-trial .try-trial .ensures .1 .1 .1)),
     )
 
 pub step-spec : {M : Type 1} → statement M
 step-spec =
-    tie.close
-    (tie.spec
-    next-trial-requires
-    row-sum-requires
-    after-quiet-requires
-    same-length
-    returns
-    cast-try-trial
-    try-trial-requires
-    enum-known-found
-    enum-told
-    after-quiet-requires-2
-    same-length-2
-    same-length-3
-    same-length-4
-    same-length-5
-    same-length-6
-    same-length-7
-    same-length-8
-    returns-2
-    sub-after-move
-    cast-after-move
-    add-after-move
-    after-move-requires
-    same-length-9
-    same-length-10
-    same-length-11
-    same-length-12
-    same-length-13
-    same-length-14
-    same-length-15
-    returns-3)
+    tie.close (tie.spec
+    next-trial-requires row-sum-requires after-quiet-requires (search needs) returns cast-try-trial try-trial-requires (search needs)
+    (search needs) after-quiet-requires-2 (search needs) (search needs) (search needs) (search needs) (search needs) (search needs)
+    (search needs) returns-2 sub-after-move (search needs) add-after-move after-move-requires (search needs) (search needs) (search needs)
+    (search needs) (search needs) (search needs) (search needs) returns-3)

@@ -32,35 +32,20 @@ abbrev entriesBy : tie.Start → Option Best → List (List ℕ)
 entriesBy e o = entriesAfter (e .args .layout .now) (e .args .mover .piece) (e .args .mover .turn) (e .args .mover .line) o
 
 search-below-requires : tie.Need-search-below-requires
-search-below-requires c κs = let e = c .before .before .before .before .before .before .before .before .before .before .before in (e .pre .0, (e .pre .1 .0, e .pre .1 .1 .1))
-
-enum-known-sum : tie.Need-enum-known-sum
-enum-known-sum c = search needs
-
-enum-told : tie.Need-enum-told
-enum-told c = search needs
-
-same-length : tie.Need-same-length
-same-length c = search needs
-
-same-length-2 : tie.Need-same-length-2
-same-length-2 c = search needs
-
-same-length-3 : tie.Need-same-length-3
-same-length-3 c = search needs
-
-same-length-4 : tie.Need-same-length-4
-same-length-4 c = search needs
+search-below-requires c κs =
+    let at-start : tie.Start = search in
+    (at-start .pre .0, (at-start .pre .1 .0, at-start .pre .1 .1 .1))
 
 returns : tie.Need-returns
 returns c =
-    let e = c .before .before .before .before .before .before .before .before .before .before .before .before .before .before .before .before .before .before .before .before in
-    let nothing : sought e ≡ none = found-nothing (sought e) (sym (c .enum-told .given .1) ∙ c .before .before .before .before .before .before .before .before .search-below .ensures .0) in
-    (ap triedAnswer (sym nothing), (ap (entriesBy e) (sym nothing), (e .pre .1 .1 .0, c .before .before .before .before .before .before .before .before .search-below .ensures .1 .0)))
+    let at-search-below : tie.After-search-below = search in
+    let at-start : tie.Start = search in
+    let nothing : sought at-start ≡ none = found-nothing (sought at-start) (sym (c .enum-told .given .1) ∙ at-search-below .search-below .ensures .0) in
+    (ap triedAnswer (sym nothing), (ap (entriesBy at-start) (sym nothing), (at-start .pre .1 .1 .0, at-search-below .search-below .ensures .1 .0)))
 
 -- the entry, from where a place was found
 abbrev entry : tie.After-sum → tie.Start
-entry c = c .before .before .before .before .before .before .before .before .before .before .before .before .before .before .before .before .before .before .before .before
+entry c = search
 
 -- the coordinate
 abbrev coordinate : tie.After-sum → ℕ
@@ -68,82 +53,67 @@ coordinate c = c .sum .given .0 .1 .0
 
 -- the place that was found
 found : (c : tie.After-sum) → sought (entry c) ≡ some (bestAt (c .sum .given .0 .0) (coordinate c))
-found c = found-at (sought (entry c)) _ _ (sym (c .sum .given .1) ∙ c .before .before .before .before .before .before .before .before .search-below .ensures .0)
+found c =
+    let at-search-below : tie.After-search-below = search in
+    found-at (sought (entry c)) _ _ (sym (c .sum .given .1) ∙ at-search-below .search-below .ensures .0)
 
 -- it is one of the line's
 there : (c : tie.After-sum)
     → coordinate c < places (jobOf (lent (entry c))) (entry c .args .mover .piece) (entry c .args .mover .turn) (entry c .args .mover .line)
 there c = found-there _ _ (entry c .args .bound) _ (found c)
 
-cast-renew-placed : tie.Need-cast-renew-placed
-cast-renew-placed c = search needs
-
 renew-placed-requires : tie.Need-renew-placed-requires
 renew-placed-requires c κs =
-    let f = c .before .before .before .before .before in
-    let e = entry f in
+    let at-sum : tie.After-sum = search in
+    let at-search-below : tie.After-search-below = search in
+    let e = entry at-sum in
     let r = e .pre .0 in
-    let s = c .before .before .before .before .before .before .before .before .before .before .before .before .before .search-below in
+    let s = at-search-below .search-below in
     let same = s .ensures .1 .1 .0 in
     let fits = r .fits in (
       record { laid = r .laid; shapes = r .shapes; wide = r .wide; narrow = r .narrow; kept = s .ensures .1 .0; fits = omega arith },
-      ((e .pre .1 .0, there f), e .pre .1 .1 .0),
+      ((e .pre .1 .0, there at-sum), e .pre .1 .1 .0),
     )
 
 place-on-requires : tie.Need-place-on-requires
 place-on-requires c κs =
-    let f = c .before .before .before .before .before .before .before .before .before .before .before .before in
-    let e = entry f in
-    let below = there f in
+    let at-sum : tie.After-sum = search in
+    let e = entry at-sum in
+    let below = there at-sum in
     let few = places-few (lent e) (e .pre .0 .laid .well) (e .args .mover .piece) (e .args .mover .turn) (e .args .mover .line) in
     omega arith
 
-entry-of-requires : tie.Need-entry-of-requires
-entry-of-requires c κs = search needs
-
 mul-t32 : tie.Need-mul-t32
 mul-t32 c =
-    let e = c .before .before .before .before .before .before .before .before .before .before .before .before .before .before .before .before .before .before .before .before .before .before .before .before .before .before .before .before .before .before .before .before .before .before in
-    let few = facts (lent e) (e .pre .0 .laid .well) .fewPieces in
-    let below = e .pre .1 .0 in
+    let at-shared-slice-known : tie.After-shared-slice-known = search in
+    let at-shared-slice-known .before = at-shared-slice-known .before in
+    let few = facts (lent at-shared-slice-known .before) (at-shared-slice-known .before .pre .0 .laid .well) .fewPieces in
+    let below = at-shared-slice-known .before .pre .1 .0 in
     omega arith
 
 slice-set-from-layout : tie.Need-slice-set-from-layout
 slice-set-from-layout c =
-    let e = c .before .before .before .before .before .before .before .before .before .before .before .before .before .before .before .before .before .before .before .before .before .before .before .before .before .before .before .before .before .before .before .before .before .before in
-    let whole = e .pre .0 .laid .whole in
-    let below = e .pre .1 .0 in
+    let at-shared-slice-known : tie.After-shared-slice-known = search in
+    let at-shared-slice-known .before = at-shared-slice-known .before in
+    let whole = at-shared-slice-known .before .pre .0 .laid .whole in
+    let below = at-shared-slice-known .before .pre .1 .0 in
     omega arith
-
-same-length-5 : tie.Need-same-length-5
-same-length-5 c = search needs
-
-same-length-6 : tie.Need-same-length-6
-same-length-6 c = search needs
-
-same-length-7 : tie.Need-same-length-7
-same-length-7 c = search needs
-
-same-length-8 : tie.Need-same-length-8
-same-length-8 c = search needs
-
-same-length-9 : tie.Need-same-length-9
-same-length-9 c = search needs
 
 returns-2 : tie.Need-returns-2
 returns-2 c =
-    let f = c .before .before .before .before .before .before .before .before .before .before .before .before .before .before in
-    let e = entry f in
+    let at-renew-placed : tie.After-renew-placed = search in
+    let at-sum : tie.After-sum = search in
+    let e = entry at-sum in
     let m = e .args .mover in
     let es = e .args .layout .now in
-    let r = c .before .before .before .before .before .before .before .before .renew-placed in
-    let wrote : c .entry-of .result ≡ entryOf (onLine (m .line) (m .turn) (coordinate f)) = c .entry-of .ensures ∙ ap entryOf (c .before .place-on .ensures) in
-    let stored : set es (m .piece) (c .entry-of .result) ≡ set es (m .piece) (entryOf (onLine (m .line) (m .turn) (coordinate f))) = ap (set es (m .piece)) wrote in
-    let placed : layoutOf (set es (m .piece) (c .entry-of .result)) ≡ set (layoutOf es) (m .piece) (onLine (m .line) (m .turn) (coordinate f)) =
-    ap layoutOf stored ∙ layout-set es (m .piece) (onLine (m .line) (m .turn) (coordinate f)) in (
-      ap triedAnswer (sym (found f)),
+    let r = at-renew-placed .renew-placed in
+    let wrote : c .entry-of .result ≡ entryOf (onLine (m .line) (m .turn) (coordinate at-sum)) = c .entry-of .ensures ∙ ap entryOf (c .before .place-on .ensures) in
+    let stored : set es (m .piece) (c .entry-of .result) ≡ set es (m .piece) (entryOf (onLine (m .line) (m .turn) (coordinate at-sum))) = ap (set es (m .piece)) wrote in
+    let placed : layoutOf (set es (m .piece) (c .entry-of .result)) ≡ set (layoutOf es) (m .piece) (onLine (m .line) (m .turn) (coordinate at-sum)) =
+    ap layoutOf stored ∙ layout-set es (m .piece) (onLine (m .line) (m .turn) (coordinate at-sum)) in (
+      ap triedAnswer (sym (found at-sum)),
       (
-        stored ∙ ap (entriesBy e) (sym (found f)),
+        stored ∙ ap (entriesBy e) (sym (found at-sum)),
         (
           subst (λ (w : Layout). PenaltyTable (jobOf (lent e)) w (e .args .size .count) (r .last .1 .1 .1 .1 .1 .1 .1 .1 .1 .1 .1 .0)) (sym placed) (r .ensures .0),
           r .ensures .1 .0,
@@ -153,25 +123,7 @@ returns-2 c =
 
 pub try-line-spec : {M : Type 1} → statement M
 try-line-spec =
-    tie.close
-    (tie.spec
-    search-below-requires
-    enum-known-sum
-    enum-told
-    same-length
-    same-length-2
-    same-length-3
-    same-length-4
-    returns
-    cast-renew-placed
-    renew-placed-requires
-    place-on-requires
-    entry-of-requires
-    mul-t32
-    slice-set-from-layout
-    same-length-5
-    same-length-6
-    same-length-7
-    same-length-8
-    same-length-9
-    returns-2)
+    tie.close (tie.spec
+    search-below-requires (search needs) (search needs) (search needs) (search needs) (search needs) (search needs) returns (search needs)
+    renew-placed-requires place-on-requires (search needs) mul-t32 slice-set-from-layout (search needs) (search needs) (search needs)
+    (search needs) (search needs) returns-2)

@@ -17,133 +17,95 @@ lent e = lentBy (e .args .size) (e .args .table .now) (e .args .pixels .now)
 
 line-of-requires : tie.Need-line-of-requires
 line-of-requires c κs =
-    let e = c .before .before .before .before .before .before .before .before .before .before .before in
-    let whole = laid-length (lent e) (e .args .layout .now) (e .args .penalties .now) (e .pre .1 .1 .0) in
-    let below = e .pre .1 .1 .1 .1 .0 .below in
+    let at-start : tie.Start = search in
+    let whole = laid-length (lent at-start) (at-start .args .layout .now) (at-start .args .penalties .now) (at-start .pre .1 .1 .0) in
+    let below = at-start .pre .1 .1 .1 .1 .0 .below in
     omega arith
 
 -- the line goes in the trial's direction
-along : (c : tie.After-line-of) → lineDirection (c .line-of .result) ≡ c .before .before .before .before .before .before .before .before .before .before .before .before .args .trial .direction
+along : (c : tie.After-line-of) →
+    let at-start : tie.Start = search in
+    lineDirection (c .line-of .result) ≡ at-start .args .trial .direction
 along c = ap lineDirection (c .line-of .ensures) ∙ through-direction _ _
-
-enum-told : tie.Need-enum-told
-enum-told c = search needs
 
 try-line-requires : tie.Need-try-line-requires
 try-line-requires c κs =
-    let e = c .before .before .before .before .before .before .before .before .before .before .before .before .before .before .before .before .before .before .before in
-    let tools = e .pre .0 in (
-      search-ready (lent e) Horizontal _ _ _ _ _ _ (e .args .penalties .now) _ _ (along (c .before .before .before .before .before .before .before) ∙ c .before .before .before .before .before .enum-told .given .1) (tools .well) (e .pre .1 .1 .0) (tools .horizontal) (e .pre .1 .0)
-          (tools .wide) (tools .narrow) (e .pre .1 .1 .1 .0 .inRows),
-      (e .pre .1 .1 .1 .1 .0 .below, (e .pre .1 .1 .0 .table, e .pre .1 .1 .1 .0 .scratch)),
+    let at-enum-told : tie.After-enum-told = search in
+    let at-line-of : tie.After-line-of = search in
+    let at-start : tie.Start = search in
+    let tools = at-start .pre .0 in (
+      search-ready (lent at-start) Horizontal _ _ _ _ _ _ (at-start .args .penalties .now) _ _ (along (at-line-of) ∙ at-enum-told .enum-told .given .1) (tools .well) (at-start .pre .1 .1 .0) (tools .horizontal) (at-start .pre .1 .0)
+          (tools .wide) (tools .narrow) (at-start .pre .1 .1 .1 .0 .inRows),
+      (at-start .pre .1 .1 .1 .1 .0 .below, (at-start .pre .1 .1 .0 .table, at-start .pre .1 .1 .1 .0 .scratch)),
     )
-
-enum-told-2 : tie.Need-enum-told-2
-enum-told-2 c = search needs
 
 try-line-requires-2 : tie.Need-try-line-requires-2
 try-line-requires-2 c κs =
-    let e = c .before .before .before .before .before .before .before .before .before .before .before .before .before .before .before .before .before .before .before in
-    let tools = e .pre .0 in (
-      search-ready (lent e) Vertical _ _ _ _ _ _ (e .args .penalties .now) _ _ (along (c .before .before .before .before .before .before .before) ∙ c .before .before .before .before .before .enum-told2 .given .1) (tools .well) (e .pre .1 .1 .0) (tools .vertical) (e .pre .1 .0)
-          (tools .wide) (tools .narrow) (e .pre .1 .1 .1 .0 .inColumns),
-      (e .pre .1 .1 .1 .1 .0 .below, (e .pre .1 .1 .0 .table, e .pre .1 .1 .1 .0 .scratch)),
+    let at-enum-told2 : tie.After-enum-told2 = search in
+    let at-line-of : tie.After-line-of = search in
+    let at-start : tie.Start = search in
+    let tools = at-start .pre .0 in (
+      search-ready (lent at-start) Vertical _ _ _ _ _ _ (at-start .args .penalties .now) _ _ (along (at-line-of) ∙ at-enum-told2 .enum-told2 .given .1) (tools .well) (at-start .pre .1 .1 .0) (tools .vertical) (at-start .pre .1 .0)
+          (tools .wide) (tools .narrow) (at-start .pre .1 .1 .1 .0 .inColumns),
+      (at-start .pre .1 .1 .1 .1 .0 .below, (at-start .pre .1 .1 .0 .table, at-start .pre .1 .1 .1 .0 .scratch)),
     )
-
-same-length : tie.Need-same-length
-same-length c = search needs
-
-same-length-2 : tie.Need-same-length-2
-same-length-2 c = search needs
-
-same-length-3 : tie.Need-same-length-3
-same-length-3 c = search needs
-
-same-length-4 : tie.Need-same-length-4
-same-length-4 c = search needs
-
-same-length-5 : tie.Need-same-length-5
-same-length-5 c = search needs
 
 returns : tie.Need-returns
 unfolding jobOf
 returns c =
-    let e = c .before .before .before .before .before .before .before .before .before .before .before .before .before .before .before .before .before .before .before .before .before .before .before .before .before .before .before .before .before in
-    let j = jobOf (lent e) in
-    let ws = e .args .weights .now in
-    let es = e .args .layout .now in
-    let k = trialAs (e .args .trial) in
-    let t = c .before .before .before .before .before .before .before .before .before .try-line in
-    let f = c .before .before .before .before .before .before .before .before .before .before .before .before .before .before .before .before .before .line-of in
-    let sum = e .pre .1 .1 .1 .1 .1 in
-    let wrote = entries-same j ws es k (f .result) (e .args .present) (f .ensures) sum _ (t .ensures .1 .0) in
-    let kept = store-again Horizontal _ j (e .args .width) _ _ _ _ (along (c .before .before .before .before .before .before .before .before .before .before .before .before .before .before .before .before .before) ∙ c .before .before .before .before .before .before .before .before .before .before .before .before .before .before .before .enum-told .given .1) (e .pre .1 .1 .1 .0 .inRows) (t .ensures .1 .1 .1) (t .kept .1 .1 .1 .1 .1 .1 .1 .1 .1 .1 .1 .0) in (
-      t .ensures .0 ∙ ap triedAnswer (search-same j ws es k (f .result) (e .args .present) (f .ensures) sum),
+    let at-try-line : tie.After-try-line = search in
+    let at-enum-told : tie.After-enum-told = search in
+    let at-line-of : tie.After-line-of = search in
+    let at-shared-slice-known : tie.After-shared-slice-known = search in
+    let at-shared-slice-known .before = at-shared-slice-known .before in
+    let j = jobOf (lent at-shared-slice-known .before) in
+    let ws = at-shared-slice-known .before .args .weights .now in
+    let es = at-shared-slice-known .before .args .layout .now in
+    let k = trialAs (at-shared-slice-known .before .args .trial) in
+    let t = at-try-line .try-line in
+    let f = at-line-of .line-of in
+    let sum = at-shared-slice-known .before .pre .1 .1 .1 .1 .1 in
+    let wrote = entries-same j ws es k (f .result) (at-shared-slice-known .before .args .present) (f .ensures) sum _ (t .ensures .1 .0) in
+    let kept = store-again Horizontal _ j (at-shared-slice-known .before .args .width) _ _ _ _ (along (at-line-of) ∙ at-enum-told .enum-told .given .1) (at-shared-slice-known .before .pre .1 .1 .1 .0 .inRows) (t .ensures .1 .1 .1) (t .kept .1 .1 .1 .1 .1 .1 .1 .1 .1 .1 .1 .0) in (
+      t .ensures .0 ∙ ap triedAnswer (search-same j ws es k (f .result) (at-shared-slice-known .before .args .present) (f .ensures) sum),
       (
         wrote,
         (
-          after-laid (lent e) ws es (e .args .penalties .now) k (e .pre .1 .1 .1 .1 .0) (e .pre .1 .1 .0) _ _ wrote (t .ensures .1 .1 .0),
-          record { inRows = kept; inColumns = e .pre .1 .1 .1 .0 .inColumns; scratch = let same = t .kept .1 .1 .1 .1 .1 .1 .1 .1 .1 .1 .1 .1 .1 .0 in let room = e .pre .1 .1 .1 .0 .scratch in omega arith },
+          after-laid (lent at-shared-slice-known .before) ws es (at-shared-slice-known .before .args .penalties .now) k (at-shared-slice-known .before .pre .1 .1 .1 .1 .0) (at-shared-slice-known .before .pre .1 .1 .0) _ _ wrote (t .ensures .1 .1 .0),
+          record { inRows = kept; inColumns = at-shared-slice-known .before .pre .1 .1 .1 .0 .inColumns; scratch = let same = t .kept .1 .1 .1 .1 .1 .1 .1 .1 .1 .1 .1 .1 .1 .0 in let room = at-shared-slice-known .before .pre .1 .1 .1 .0 .scratch in omega arith },
         ),
       ),
     )
 
-same-length-6 : tie.Need-same-length-6
-same-length-6 c = search needs
-
-same-length-7 : tie.Need-same-length-7
-same-length-7 c = search needs
-
-same-length-8 : tie.Need-same-length-8
-same-length-8 c = search needs
-
-same-length-9 : tie.Need-same-length-9
-same-length-9 c = search needs
-
-same-length-10 : tie.Need-same-length-10
-same-length-10 c = search needs
-
 returns-2 : tie.Need-returns-2
 unfolding jobOf
 returns-2 c =
-    let e = c .before .before .before .before .before .before .before .before .before .before .before .before .before .before .before .before .before .before .before .before .before .before .before .before .before .before .before .before .before in
-    let j = jobOf (lent e) in
-    let ws = e .args .weights .now in
-    let es = e .args .layout .now in
-    let k = trialAs (e .args .trial) in
-    let t = c .before .before .before .before .before .before .before .before .before .try-line2 in
-    let f = c .before .before .before .before .before .before .before .before .before .before .before .before .before .before .before .before .before .line-of in
-    let sum = e .pre .1 .1 .1 .1 .1 in
-    let wrote = entries-same j ws es k (f .result) (e .args .present) (f .ensures) sum _ (t .ensures .1 .0) in
-    let kept = store-again Vertical _ j (e .args .width) _ _ _ _ (along (c .before .before .before .before .before .before .before .before .before .before .before .before .before .before .before .before .before) ∙ c .before .before .before .before .before .before .before .before .before .before .before .before .before .before .before .enum-told2 .given .1) (e .pre .1 .1 .1 .0 .inColumns) (t .ensures .1 .1 .1) (t .kept .1 .1 .1 .1 .1 .1 .1 .1 .1 .1 .1 .0) in (
-      t .ensures .0 ∙ ap triedAnswer (search-same j ws es k (f .result) (e .args .present) (f .ensures) sum),
+    let at-try-line2 : tie.After-try-line2 = search in
+    let at-enum-told2 : tie.After-enum-told2 = search in
+    let at-line-of : tie.After-line-of = search in
+    let at-shared-slice-known : tie.After-shared-slice-known = search in
+    let at-shared-slice-known .before = at-shared-slice-known .before in
+    let j = jobOf (lent at-shared-slice-known .before) in
+    let ws = at-shared-slice-known .before .args .weights .now in
+    let es = at-shared-slice-known .before .args .layout .now in
+    let k = trialAs (at-shared-slice-known .before .args .trial) in
+    let t = at-try-line2 .try-line2 in
+    let f = at-line-of .line-of in
+    let sum = at-shared-slice-known .before .pre .1 .1 .1 .1 .1 in
+    let wrote = entries-same j ws es k (f .result) (at-shared-slice-known .before .args .present) (f .ensures) sum _ (t .ensures .1 .0) in
+    let kept = store-again Vertical _ j (at-shared-slice-known .before .args .width) _ _ _ _ (along (at-line-of) ∙ at-enum-told2 .enum-told2 .given .1) (at-shared-slice-known .before .pre .1 .1 .1 .0 .inColumns) (t .ensures .1 .1 .1) (t .kept .1 .1 .1 .1 .1 .1 .1 .1 .1 .1 .1 .0) in (
+      t .ensures .0 ∙ ap triedAnswer (search-same j ws es k (f .result) (at-shared-slice-known .before .args .present) (f .ensures) sum),
       (
         wrote,
         (
-          after-laid (lent e) ws es (e .args .penalties .now) k (e .pre .1 .1 .1 .1 .0) (e .pre .1 .1 .0) _ _ wrote (t .ensures .1 .1 .0),
-          record { inColumns = kept; inRows = e .pre .1 .1 .1 .0 .inRows; scratch = let same = t .kept .1 .1 .1 .1 .1 .1 .1 .1 .1 .1 .1 .1 .1 .0 in let room = e .pre .1 .1 .1 .0 .scratch in omega arith },
+          after-laid (lent at-shared-slice-known .before) ws es (at-shared-slice-known .before .args .penalties .now) k (at-shared-slice-known .before .pre .1 .1 .1 .1 .0) (at-shared-slice-known .before .pre .1 .1 .0) _ _ wrote (t .ensures .1 .1 .0),
+          record { inColumns = kept; inRows = at-shared-slice-known .before .pre .1 .1 .1 .0 .inRows; scratch = let same = t .kept .1 .1 .1 .1 .1 .1 .1 .1 .1 .1 .1 .1 .1 .0 in let room = at-shared-slice-known .before .pre .1 .1 .1 .0 .scratch in omega arith },
         ),
       ),
     )
 
 pub try-trial-spec : {M : Type 1} → statement M
 try-trial-spec =
-    tie.close
-    (tie.spec
-    line-of-requires
-    enum-told
-    try-line-requires
-    enum-told-2
-    try-line-requires-2
-    same-length
-    same-length-2
-    same-length-3
-    same-length-4
-    same-length-5
-    returns
-    same-length-6
-    same-length-7
-    same-length-8
-    same-length-9
-    same-length-10
-    returns-2)
+    tie.close (tie.spec
+    line-of-requires (search needs) try-line-requires (search needs) try-line-requires-2 (search needs) (search needs) (search needs)
+    (search needs) (search needs) returns (search needs) (search needs) (search needs) (search needs) (search needs) returns-2)

@@ -13,18 +13,6 @@ use borrow.Author.Needs.{needs}
 use Rattle.run_trials.proofs.after_turn.Statement.{statement}
 use Rattle.run_trials.proofs.after_turn.Tie as tie
 
-add-piece-start : tie.Need-add-piece-start
-add-piece-start c = search needs
-
-piece-start-requires : tie.Need-piece-start-requires
-piece-start-requires c κs = search needs
-
-in-turn-requires : tie.Need-in-turn-requires
-in-turn-requires c κs = search needs
-
-in-turn-requires-2 : tie.Need-in-turn-requires-2
-in-turn-requires-2 c κs = search needs
-
 -- a job with the lent table, and what comes after the third turn, the second and the first
 abbrev jobWith : tie.Start → List ℕ → Job
 jobWith e pixels = jobOf (lentBy (e .args .size) (e .args .table .now) pixels)
@@ -48,33 +36,20 @@ third c pixels =
     let e = c .before .before in
     c .in-turn .ensures (e .args .size) pixels ∙ ap (inTurn (jobWith e pixels) (e .args .i) ThreeQuarters) (last (c .before) pixels)
 
-second : (c : tie.After-in-turn2) (pixels : List ℕ) → trialAs (c .in-turn2 .result) ≡ secondFrom (c .before .before .before) pixels
+second : (c : tie.After-in-turn2) (pixels : List ℕ) →
+    let at-start : tie.Start = search in
+    trialAs (c .in-turn2 .result) ≡ secondFrom (at-start) pixels
 second c pixels =
-    let e = c .before .before .before in
-    c .in-turn2 .ensures (e .args .size) pixels ∙ ap (inTurn (jobWith e pixels) (e .args .i) Half) (third (c .before) pixels)
-
-enum-told : tie.Need-enum-told
-enum-told c = search needs
-
-in-turn-requires-3 : tie.Need-in-turn-requires-3
-in-turn-requires-3 c κs = search needs
-
-enum-told-2 : tie.Need-enum-told-2
-enum-told-2 c = search needs
-
-enum-told-3 : tie.Need-enum-told-3
-enum-told-3 c = search needs
-
-enum-told-4 : tie.Need-enum-told-4
-enum-told-4 c = search needs
+    let at-start : tie.Start = search in
+    c .in-turn2 .ensures (at-start .args .size) pixels ∙ ap (inTurn (jobWith at-start pixels) (at-start .args .i) Half) (third (c .before) pixels)
 
 returns : tie.Need-returns
 unfolding afterTurn
-returns c =
-    λ pixels.
-    let e = c .before .before .before .before .before .before in
+returns c = λ pixels.
+    let at-in-turn2 : tie.After-in-turn2 = search in
+    let at-start : tie.Start = search in
     rw (c .before .enum-told .given .1)
-    (c .in-turn3 .ensures (e .args .size) pixels ∙ ap (inTurn (jobWith e pixels) (e .args .i) Quarter) (second (c .before .before .before) pixels))
+    (c .in-turn3 .ensures (at-start .args .size) pixels ∙ ap (inTurn (jobWith at-start pixels) (at-start .args .i) Quarter) (second (at-in-turn2) pixels))
 
 returns-2 : tie.Need-returns-2
 unfolding afterTurn
@@ -82,26 +57,18 @@ returns-2 c = λ pixels. rw (c .enum-told2 .given .1) (second (c .before .before
 
 returns-3 : tie.Need-returns-3
 unfolding afterTurn
-returns-3 c = λ pixels. rw (c .enum-told3 .given .1) (third (c .before .before .before) pixels)
+returns-3 c = λ pixels.
+    let at-in-turn : tie.After-in-turn = search in
+    rw (c .enum-told3 .given .1) (third (at-in-turn) pixels)
 
 returns-4 : tie.Need-returns-4
 unfolding afterTurn
-returns-4 c = λ pixels. rw (c .enum-told4 .given .1) (last (c .before .before .before .before) pixels)
+returns-4 c = λ pixels.
+    let at-piece-start : tie.After-piece-start = search in
+    rw (c .enum-told4 .given .1) (last (at-piece-start) pixels)
 
 pub after-turn-spec : {M : Type 1} → statement M
 after-turn-spec =
-    tie.close
-    (tie.spec
-    add-piece-start
-    piece-start-requires
-    in-turn-requires
-    in-turn-requires-2
-    enum-told
-    in-turn-requires-3
-    enum-told-2
-    enum-told-3
-    enum-told-4
-    returns
-    returns-2
-    returns-3
-    returns-4)
+    tie.close (tie.spec
+    (search needs) (search needs) (search needs) (search needs) (search needs) (search needs) (search needs) (search needs) (search needs)
+    returns returns-2 returns-3 returns-4)

@@ -4,15 +4,6 @@ use borrow.Author.Needs.{needs}
 use Rattle.run_trials.proofs.next_trial.Statement.{statement}
 use Rattle.run_trials.proofs.next_trial.Tie as tie
 
-enum-told : tie.Need-enum-told
-enum-told c = search needs
-
-enum-told-2 : tie.Need-enum-told-2
-enum-told-2 c = search needs
-
-after-turn-requires : tie.Need-after-turn-requires
-after-turn-requires c κs = search needs
-
 returns : tie.Need-returns
 unfolding nextTrial
 returns c = λ pixels. rw (c .enum-told .given .1)
@@ -22,4 +13,4 @@ unfolding nextTrial
 returns-2 c = λ pixels. rw (c .before .enum-told2 .given .1) (c .after-turn .ensures pixels)
 
 pub next-trial-spec : {M : Type 1} → statement M
-next-trial-spec = tie.close (tie.spec enum-told enum-told-2 after-turn-requires returns returns-2)
+next-trial-spec = tie.close (tie.spec (search needs) (search needs) (search needs) returns returns-2)

@@ -14,56 +14,43 @@ use Rattle.search_bounded.proofs.renew_placed.Tie as tie
 
 track-of-requires : tie.Need-track-of-requires
 track-of-requires c κs =
-    let e = c .before .before .before .before .before in
-    let a = e .args in
+    let at-start : tie.Start = search in
+    let a = at-start .args in
     let l = lentBy (a .size) (a .table .now) (a .pixels .now) in
-    track-asked l (a .mover .piece) (e .pre .0 .laid .well) (e .pre .1 .0 .0)
+    track-asked l (a .mover .piece) (at-start .pre .0 .laid .well) (at-start .pre .1 .0 .0)
 
 renew-others-requires : tie.Need-renew-others-requires
 renew-others-requires c κs =
-    let e = c .before .before .before .before .before .before .before .before .before in
-    let a = e .args in
+    let at-track-of : tie.After-track-of = search in
+    let at-start : tie.Start = search in
+    let a = at-start .args in
     let l = lentBy (a .size) (a .table .now) (a .pixels .now) in
-    let t = c .before .before .before .track-of in
-    let o = on-track l (a .mover) (t .result) (e .pre .0 .laid .well) (e .pre .1 .0 .0) (t .ensures .0 (a .pixels .now)) (t .ensures .1) in
+    let t = at-track-of .track-of in
+    let o = on-track l (a .mover) (t .result) (at-start .pre .0 .laid .well) (at-start .pre .1 .0 .0) (t .ensures .0 (a .pixels .now)) (t .ensures .1) in
     let p = ap (λ (z : Track). z .places) (o .is) in (
-      e .pre .0,
+      at-start .pre .0,
       (
         o,
         (
-          subst (λ (n : ℕ). a .at < n) (sym p) (e .pre .1 .0 .1),
-          renewed-begin (jobOf l) (layoutOf (a .layout .now)) (a .size .count) (a .mover .piece) (onLine (a .mover .line) (a .mover .turn) (a .at)) (a .penalties .now) (e .pre .1 .1),
+          subst (λ (n : ℕ). a .at < n) (sym p) (at-start .pre .1 .0 .1),
+          renewed-begin (jobOf l) (layoutOf (a .layout .now)) (a .size .count) (a .mover .piece) (onLine (a .mover .line) (a .mover .turn) (a .at))
+              (a .penalties .now) (at-start .pre .1 .1),
         ),
       ),
     )
 
-same-length : tie.Need-same-length
-same-length c = search needs
-
-same-length-2 : tie.Need-same-length-2
-same-length-2 c = search needs
-
-same-length-3 : tie.Need-same-length-3
-same-length-3 c = search needs
-
 returns : tie.Need-returns
 returns c =
-    let e = c .before .before .before .before .before .before .before .before .before .before .before .before .before .before .before .before in
-    let a = e .args in
+    let at-renew-others : tie.After-renew-others = search in
+    let at-start : tie.Start = search in
+    let a = at-start .args in
     let l = lentBy (a .size) (a .table .now) (a .pixels .now) in
-    let x = c .before .before .before .before .before .before .renew-others in (
-      renewed-end (jobOf l) (layoutOf (a .layout .now)) (a .size .count) (a .mover .piece) (onLine (a .mover .line) (a .mover .turn) (a .at)) (x .last .1 .1 .1 .1 .1 .1 .1 .1 .1 .1 .1 .1 .0)
-          (mover-placed l (a .layout .now) (a .mover .piece) (e .pre .0 .laid) (e .pre .1 .0 .0)) (x .ensures .0),
+    let x = at-renew-others .renew-others in (
+      renewed-end (jobOf l) (layoutOf (a .layout .now)) (a .size .count) (a .mover .piece) (onLine (a .mover .line) (a .mover .turn) (a .at))
+          (x .last .1 .1 .1 .1 .1 .1 .1 .1 .1 .1 .1 .1 .0)
+          (mover-placed l (a .layout .now) (a .mover .piece) (at-start .pre .0 .laid) (at-start .pre .1 .0 .0)) (x .ensures .0),
       (x .ensures .1 .kept, (x .kept .1 .1 .1 .1 .1 .1 .1 .1 .1 .1 .0, x .kept .1 .1 .1 .1 .1 .1 .1 .1 .1 .1 .1 .0)),
     )
 
 pub renew-placed-spec : {M : Type 1} → statement M
-renew-placed-spec =
-    tie.close
-    (tie.spec
-    track-of-requires
-    renew-others-requires
-    same-length
-    same-length-2
-    same-length-3
-    returns)
+renew-placed-spec = tie.close (tie.spec track-of-requires renew-others-requires (search needs) (search needs) (search needs) returns)

@@ -6,12 +6,6 @@ use borrow.Author.Needs.{needs}
 use Rattle.search_calls.proofs.coordinate_on.Statement.{statement}
 use Rattle.search_calls.proofs.coordinate_on.Tie as tie
 
-enum-told : tie.Need-enum-told
-enum-told c = search needs
-
-enum-told-2 : tie.Need-enum-told-2
-enum-told-2 c = search needs
-
 returns : tie.Need-returns
 returns c = sym (ap (λ (l : Line). coordinateOn l (c .before .before .args .at)) (c .enum-told .given .1))
 
@@ -19,4 +13,4 @@ returns-2 : tie.Need-returns-2
 returns-2 c = sym (ap (λ (l : Line). coordinateOn l (c .before .before .args .at)) (c .enum-told2 .given .1))
 
 pub coordinate-on-spec : {M : Type 1} → statement M
-coordinate-on-spec = tie.close (tie.spec enum-told enum-told-2 returns returns-2)
+coordinate-on-spec = tie.close (tie.spec (search needs) (search needs) returns returns-2)

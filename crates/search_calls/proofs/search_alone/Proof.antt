@@ -47,7 +47,9 @@ returns c =
     let a = at-start .args in
     let l = lentBy (a .size) (a .table .now) (a .pixels .now) in
     searched .search-below .ensures .0
-    ∙ ap foundAnswer (search-whole l (a .weights .now) (a .layout .now) (a .mover .piece) (a .mover .turn) (a .mover .line) (at-start .pre .0) (at-start .pre .1 .0) (at-start .pre .1 .1))
+    ∙ ap foundAnswer
+    (search-whole l (a .weights .now) (a .layout .now) (a .mover .piece) (a .mover .turn) (a .mover .line) (at-start .pre .0) (at-start .pre .1 .0)
+    (at-start .pre .1 .1))
 
 pub search-alone-spec : {M : Type 1} → statement M
 search-alone-spec =

@@ -5,6 +5,7 @@ use native.Mathlib.Omega.{arith}
 use lib.ListN.{length, getD}
 use Rattle.list_laws.proofs.Passes.{Passing}
 use Rattle.search_line_sums.proofs.Scans.{part-small, Raised, raise-begin, raise-step, raise-end}
+use borrow.Author.Needs.{needs}
 use Rattle.search_line_sums.proofs.add_line.Statement.{statement}
 use Rattle.search_line_sums.proofs.add_line.Tie as tie
 
@@ -17,62 +18,56 @@ abbrev μ-loop : tie.MeasureT-loop
 loop-holds : tie.Need-loop-holds Inv-loop μ-loop
 loop-holds c = (omega arith, raise-begin _ _ _ _)
 
-shared-slice-read-sums : tie.Need-shared-slice-read-sums Inv-loop μ-loop
-shared-slice-read-sums c = omega arith
-
 cast-sums : tie.Need-cast-sums Inv-loop μ-loop
 cast-sums c = omega (arith, c .shared-slice-known .given (c .before .before .loop .k))
 
 mul-sums : tie.Need-mul-sums Inv-loop μ-loop
 mul-sums c =
-    let a = c .before .before .before .args in
+    let at-start : tie.Start Inv-loop μ-loop = search in
+    let a = at-start .args in
     let b = c .shared-slice-known .given (c .before .before .loop .k) in
-    let m = part-small (a .weight) (getD (a .line .now) (c .before .before .loop .k) 0) (c .before .before .before .pre .1 .0) (omega arith) in
+    let m = part-small (a .weight) (getD (a .line .now) (c .before .before .loop .k) 0) (at-start .pre .1 .0) (omega arith) in
     omega arith
-
-add-sums : tie.Need-add-sums Inv-loop μ-loop
-add-sums c = omega arith
-
-mul-sums-2 : tie.Need-mul-sums-2 Inv-loop μ-loop
-mul-sums-2 c = omega arith
 
 slice-read-sums : tie.Need-slice-read-sums Inv-loop μ-loop
 slice-read-sums c =
-    let e = c .before .before .before .loop .inv .1 .same in
+    let at-loop : tie.At-loop Inv-loop μ-loop = search in
+    let at-start : tie.Start Inv-loop μ-loop = search in
+    let e = at-loop .loop .inv .1 .same in
     let t = c .before .before .loop-test .taken in
-    let p = c .before .before .before .before .pre .0 in
+    let p = at-start .pre .0 in
     omega arith
 
 add-sums-2 : tie.Need-add-sums-2 Inv-loop μ-loop
 add-sums-2 c =
-    let a = c .before .before .before .before .args in
-    let p = c .before .before .before .loop in
+    let at-loop : tie.At-loop Inv-loop μ-loop = search in
+    let at-start : tie.Start Inv-loop μ-loop = search in
+    let a = at-start .args in
+    let p = at-loop .loop in
     let b = c .before .shared-slice-known .given (p .k) in
-    let m = part-small (a .weight) (getD (a .line .now) (p .k) 0) (c .before .before .before .before .pre .1 .0) (omega arith) in
+    let m = part-small (a .weight) (getD (a .line .now) (p .k) 0) (at-start .pre .1 .0) (omega arith) in
     let e = p .inv .1 .rest (a .low + p .k) (omega arith) in
-    let s = c .before .before .before .before .pre .1 .1 (a .low + p .k) in
+    let s = at-start .pre .1 .1 (a .low + p .k) in
     omega arith
 
 slice-write-sums : tie.Need-slice-write-sums Inv-loop μ-loop
 slice-write-sums c =
-    let e = c .before .before .before .loop .inv .1 .same in
+    let at-loop : tie.At-loop Inv-loop μ-loop = search in
+    let at-start : tie.Start Inv-loop μ-loop = search in
+    let e = at-loop .loop .inv .1 .same in
     let t = c .before .before .loop-test .taken in
-    let p = c .before .before .before .before .pre .0 in
+    let p = at-start .pre .0 in
     omega arith
-
-add-k : tie.Need-add-k Inv-loop μ-loop
-add-k c = omega arith
-
-loop-less : tie.Need-loop-less Inv-loop μ-loop
-loop-less c = omega arith
 
 loop-again : tie.Need-loop-again Inv-loop μ-loop
 loop-again c =
-    let a = c .before .before .before .before .args in
-    let p = c .before .before .before .loop in
+    let at-loop : tie.At-loop Inv-loop μ-loop = search in
+    let at-start : tie.Start Inv-loop μ-loop = search in
+    let a = at-start .args in
+    let p = at-loop .loop in
     let e = p .inv .1 .same in
     let t = c .before .before .loop-test .taken in
-    let r = c .before .before .before .before .pre .0 in
+    let r = at-start .pre .0 in
     (omega arith, raise-step (a .weight) (a .low) (a .line .now) (a .sums .now) (p .sums) (p .k) (omega arith) (p .inv .1))
 
 same-length : tie.Need-same-length Inv-loop μ-loop
@@ -86,21 +81,6 @@ returns c =
 
 pub add-line-spec : {M : Type 1} → statement M
 add-line-spec =
-    tie.close
-    (tie.spec
-    Inv-loop
-    μ-loop
-    loop-holds
-    shared-slice-read-sums
-    cast-sums
-    mul-sums
-    add-sums
-    mul-sums-2
-    slice-read-sums
-    add-sums-2
-    slice-write-sums
-    add-k
-    loop-less
-    loop-again
-    same-length
-    returns)
+    tie.close (tie.spec
+    Inv-loop μ-loop loop-holds (search needs) cast-sums mul-sums (search needs) (search needs) slice-read-sums add-sums-2 slice-write-sums
+    (search needs) (search needs) loop-again same-length returns)

@@ -6,6 +6,7 @@ use native.Mathlib.Omega.{arith}
 use lib.ListN.{length, List·getD-eq-default}
 use Rattle.list_laws.proofs.Passes.{Passing, pass-none, pass-set}
 use Rattle.list_laws.proofs.Numbers.{below-or}
+use borrow.Author.Needs.{needs}
 use Rattle.search_line_sums.proofs.clear.Statement.{statement}
 use Rattle.search_line_sums.proofs.clear.Tie as tie
 
@@ -21,15 +22,6 @@ abbrev μ-loop : tie.MeasureT-loop
 
 loop-holds : tie.Need-loop-holds Inv-loop μ-loop
 loop-holds c = (omega arith, pass-none none _)
-
-mul-sums : tie.Need-mul-sums Inv-loop μ-loop
-mul-sums c = omega arith
-
-slice-write-sums : tie.Need-slice-write-sums Inv-loop μ-loop
-slice-write-sums c = omega arith
-
-add-k : tie.Need-add-k Inv-loop μ-loop
-add-k c = omega arith
 
 loop-less : tie.Need-loop-less Inv-loop μ-loop
 loop-less c = let e = c .before .loop .inv .1 .same in omega arith
@@ -51,15 +43,4 @@ returns c =
 
 pub clear-spec : {M : Type 1} → statement M
 clear-spec =
-    tie.close
-    (tie.spec
-    Inv-loop
-    μ-loop
-    loop-holds
-    mul-sums
-    slice-write-sums
-    add-k
-    loop-less
-    loop-again
-    same-length
-    returns)
+    tie.close (tie.spec Inv-loop μ-loop loop-holds (search needs) (search needs) (search needs) loop-less loop-again same-length returns)

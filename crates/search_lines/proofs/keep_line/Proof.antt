@@ -22,91 +22,75 @@ small : (e : tie.Start) → SmallTwo (e .args .two)
 small e = small-two (lent e) _ _ _ (e .args .two) (e .pre .0)
 
 slot-of-requires : tie.Need-slot-of-requires
-slot-of-requires c κs = let e = c .before .before .before .before in (small e, e .pre .1 .1 .1 .0 .some)
+slot-of-requires c κs =
+    let at-start : tie.Start = search in
+    (small at-start, at-start .pre .1 .1 .1 .0 .some)
 
 key-of-requires : tie.Need-key-of-requires
-key-of-requires c κs = small (c .before .before .before .before .before)
+key-of-requires c κs =
+    let at-start : tie.Start = search in
+    small (at-start)
 
 -- the slot lies in the store
 within : (c : tie.After-key-of)
-    → c .before .slot-of .result * c .before .before .before .before .before .before .args .width + c .before .before .before .before .before .before .args .width ≤ length (c .before .before .before .before .before .before .args .lines .now)
+    →
+    let at-start : tie.Start = search in
+    c .before .slot-of .result * at-start .args .width + at-start .args .width ≤ length (at-start .args .lines .now)
 within c =
-    let e = c .before .before .before .before .before .before in
-    slot-within (e .args .direction) (jobOf (lent e)) (e .args .width) (e .args .lines .now) (e .args .tags .now) (e .pre .1 .1 .1 .0) (c .before .slot-of .result) (c .before .slot-of .ensures)
+    let at-start : tie.Start = search in
+    slot-within (at-start .args .direction) (jobOf (lent at-start)) (at-start .args .width) (at-start .args .lines .now) (at-start .args .tags .now)
+    (at-start .pre .1 .1 .1 .0) (c .before .slot-of .result) (c .before .slot-of .ensures)
 
 mul-at : tie.Need-mul-at
 mul-at c =
+    let at-start : tie.Start = search in
     let w = within c in
-    let f = c .before .before .before .before .before .before .pre .1 .1 .1 .1 in
+    let f = at-start .pre .1 .1 .1 .1 in
     omega arith
-
-mul-if1 : tie.Need-mul-if1
-mul-if1 c = search needs
-
-slice-read-if1 : tie.Need-slice-read-if1
-slice-read-if1 c = search needs
 
 returns : tie.Need-returns
 returns c =
+    let at-slot-of : tie.After-slot-of = search in
+    let at-start : tie.Start = search in
     let b = c .before .before in
-    let e = b .before .before .before .before .before .before in
-    let two = e .args .two in
-    let asked = e .pre .0 in
-    let kept = e .pre .1 .1 .1 .0 in
-    let line = kept .holds (b .before .slot-of .result) (two .moved) (two .standing) (two .«moved_turn») (two .«standing_turn») (two .offset) (b .before .slot-of .ensures)
-    (moved-there (lent e) _ _ _ two asked) (standing-there (lent e) _ _ _ two asked) (asked .offset) (c .if1 .taken ∙ b .key-of .ensures) in
+    let two = at-start .args .two in
+    let asked = at-start .pre .0 in
+    let kept = at-start .pre .1 .1 .1 .0 in
+    let line = kept .holds (at-slot-of .slot-of .result) (two .moved) (two .standing) (two .«moved_turn») (two .«standing_turn») (two .offset)
+    (at-slot-of .slot-of .ensures)
+    (moved-there (lent at-start) _ _ _ two asked) (standing-there (lent at-start) _ _ _ two asked) (asked .offset) (c .if1 .taken ∙ b .key-of .ensures) in
     (line, (within b, (kept, (refl, refl))))
 
 make-line-requires : tie.Need-make-line-requires
 make-line-requires c κs =
-    let b = c .before .before .before in
-    let e = b .before .before .before .before .before .before in
-    let two = e .args .two in
-    let asked = e .pre .0 in
-    let wide = e .pre .1 .0 (two .moved) (two .standing) (two .«moved_turn») (two .«standing_turn») (e .args .direction)
-    (moved-there (lent e) _ _ _ two asked) (standing-there (lent e) _ _ _ two asked) in
-    let w = within b in
-    (asked, (omega arith, e .pre .1 .1 .1 .1))
-
-mul-tags : tie.Need-mul-tags
-mul-tags c = search needs
-
-slice-write-tags : tie.Need-slice-write-tags
-slice-write-tags c = search needs
-
-same-length : tie.Need-same-length
-same-length c = search needs
-
-same-length-2 : tie.Need-same-length-2
-same-length-2 c = search needs
+    let at-key-of : tie.After-key-of = search in
+    let at-start : tie.Start = search in
+    let two = at-start .args .two in
+    let asked = at-start .pre .0 in
+    let wide = at-start .pre .1 .0 (two .moved) (two .standing) (two .«moved_turn») (two .«standing_turn») (at-start .args .direction)
+    (moved-there (lent at-start) _ _ _ two asked) (standing-there (lent at-start) _ _ _ two asked) in
+    let w = within at-key-of in
+    (asked, (omega arith, at-start .pre .1 .1 .1 .1))
 
 returns-2 : tie.Need-returns-2
 returns-2 c =
-    let b = c .before .before .before .before .before .before in
-    let e = b .before .before .before .before .before .before in
-    let two = e .args .two in
-    let asked = e .pre .0 in
+    let at-key-of : tie.After-key-of = search in
+    let at-slot-of : tie.After-slot-of = search in
+    let at-start : tie.Start = search in
+    let two = at-start .args .two in
+    let asked = at-start .pre .0 in
     let made = c .before .before .make-line .ensures in
     let same = made .same in
-    let w = within b in
-    let kept = renewed (e .args .direction) (jobOf (lent e)) (e .args .width) (e .args .lines .now) (e .args .tags .now) (e .pre .1 .1 .1 .0) (b .before .slot-of .result)
-    (two .moved) (two .standing) (two .«moved_turn») (two .«standing_turn») (two .offset) _ (lent-few (lent e) (asked .well)) (b .before .slot-of .ensures)
-    (moved-there (lent e) _ _ _ two asked) (standing-there (lent e) _ _ _ two asked) (asked .offset) (e .pre .1 .0) made in
-    (made .line, (omega arith, (rw (b .key-of .ensures) kept, (same, simp length-set))))
+    let w = within at-key-of in
+    let kept = renewed (at-start .args .direction) (jobOf (lent at-start)) (at-start .args .width) (at-start .args .lines .now) (at-start .args .tags .now)
+    (at-start .pre .1 .1 .1 .0) (at-slot-of .slot-of .result)
+    (two .moved) (two .standing) (two .«moved_turn») (two .«standing_turn») (two .offset) _ (lent-few (lent at-start) (asked .well))
+    (at-slot-of .slot-of .ensures)
+    (moved-there (lent at-start) _ _ _ two asked) (standing-there (lent at-start) _ _ _ two asked) (asked .offset) (at-start .pre .1 .0) made in
+    (made .line, (omega arith, (rw (at-key-of .key-of .ensures) kept, (same, simp length-set))))
 
 pub keep-line-spec : {M : Type 1} → statement M
 keep-line-spec =
-    tie.close
-    (tie.spec
-    slot-of-requires
-    key-of-requires
-    mul-at
-    mul-if1
-    slice-read-if1
-    returns
-    make-line-requires
-    mul-tags
-    slice-write-tags
-    same-length
-    same-length-2
-    returns-2)
+    tie.close (tie.spec
+    slot-of-requires key-of-requires mul-at (search needs) (search needs) returns make-line-requires (search needs) (search needs)
+    (search needs) (search needs) returns-2)

@@ -19,27 +19,14 @@ abbrev μ-loop : tie.MeasureT-loop
 loop-holds : tie.Need-loop-holds Inv-loop μ-loop
 loop-holds c = (omega arith, omega arith, covered-none _ _)
 
-turned-sides-requires : tie.Need-turned-sides-requires Inv-loop μ-loop
-turned-sides-requires c κs = search needs
-
-larger-requires : tie.Need-larger-requires Inv-loop μ-loop
-larger-requires c κs = search needs
-
-larger-requires-2 : tie.Need-larger-requires-2 Inv-loop μ-loop
-larger-requires-2 c κs = search needs
-
-add-i : tie.Need-add-i Inv-loop μ-loop
-add-i c = omega arith
-
-loop-less : tie.Need-loop-less Inv-loop μ-loop
-loop-less c = omega arith
-
 loop-again : tie.Need-loop-again Inv-loop μ-loop
 unfolding jobOf
 loop-again c =
+    let at-loop : tie.At-loop Inv-loop μ-loop = search in
+    let at-start : tie.Start Inv-loop μ-loop = search in
     let t = c .before .before .turned-sides in
-    let l = c .before .before .before .before .loop in
-    let a = c .before .before .before .before .before .args in
+    let l = at-loop .loop in
+    let a = at-start .args in
     let small = t .ensures .1 in
     let columns : t .result .columns ≡ entryColumns (a .table .now) (l .i) = ap (λ (s : Sides). s .columns) (t .ensures .0 (a .size) []) in
     let rows : t .result .rows ≡ entryRows (a .table .now) (l .i) = ap (λ (s : Sides). s .rows) (t .ensures .0 (a .size) []) in
@@ -49,9 +36,6 @@ loop-again c =
     let high = l .inv .1 in
     (omega arith, omega arith, covered-more _ _ _ _ (l .inv .2) (omega arith) (omega arith) (omega arith))
 
-mul-result : tie.Need-mul-result Inv-loop μ-loop
-mul-result c = omega arith
-
 returns : tie.Need-returns Inv-loop μ-loop
 returns c =
     let l = c .before .loop in
@@ -60,16 +44,5 @@ returns c =
 
 pub slot-width-spec : {M : Type 1} → statement M
 slot-width-spec =
-    tie.close
-    (tie.spec
-    Inv-loop
-    μ-loop
-    loop-holds
-    turned-sides-requires
-    larger-requires
-    larger-requires-2
-    add-i
-    loop-less
-    loop-again
-    mul-result
-    returns)
+    tie.close (tie.spec
+    Inv-loop μ-loop loop-holds (search needs) (search needs) (search needs) (search needs) (search needs) loop-again (search needs) returns)

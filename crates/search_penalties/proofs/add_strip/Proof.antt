@@ -7,42 +7,15 @@ use borrow.Author.Needs.{needs}
 use Rattle.search_penalties.proofs.add_strip.Statement.{statement}
 use Rattle.search_penalties.proofs.add_strip.Tie as tie
 
-outline-at-requires : tie.Need-outline-at-requires
-outline-at-requires c κs = search needs
-
-widened-requires : tie.Need-widened-requires
-widened-requires c κs = search needs
-
-cast-t8 : tie.Need-cast-t8
-cast-t8 c = search needs
-
-cast-t9 : tie.Need-cast-t9
-cast-t9 c = search needs
-
-cast-t10 : tie.Need-cast-t10
-cast-t10 c = search needs
-
-cast-t11 : tie.Need-cast-t11
-cast-t11 c = search needs
-
-cast-t12 : tie.Need-cast-t12
-cast-t12 c = search needs
-
-mul-t14 : tie.Need-mul-t14
-mul-t14 c = search needs
-
-slice-set-from-t : tie.Need-slice-set-from-t
-slice-set-from-t c = search needs
-
-same-length : tie.Need-same-length
-same-length c = search needs
-
 returns : tie.Need-returns
 returns c =
-    let s = c .before .before .before .before .before .before .before .before .args in
-    let pre = c .before .before .before .before .before .before .before .before .pre in
-    let w = c .before .before .before .before .before .widened .ensures in
-    let old = c .before .before .before .before .before .before .outline-at .ensures .0 in
+    let at-widened : tie.After-widened = search in
+    let at-outline-at : tie.After-outline-at = search in
+    let at-start : tie.Start = search in
+    let s = at-start .args in
+    let pre = at-start .pre in
+    let w = at-widened .widened .ensures in
+    let old = at-outline-at .outline-at .ensures .0 in
     record {
       lines = length-set (s .t .now) (s .x .line) _;
       outlines =
@@ -54,16 +27,6 @@ returns c =
 
 pub add-strip-spec : {M : Type 1} → statement M
 add-strip-spec =
-    tie.close
-    (tie.spec
-    outline-at-requires
-    widened-requires
-    cast-t8
-    cast-t9
-    cast-t10
-    cast-t11
-    cast-t12
-    mul-t14
-    slice-set-from-t
-    same-length
-    returns)
+    tie.close (tie.spec
+    (search needs) (search needs) (search needs) (search needs) (search needs) (search needs) (search needs) (search needs) (search needs)
+    (search needs) returns)

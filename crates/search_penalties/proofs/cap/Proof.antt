@@ -18,18 +18,18 @@ loop-holds c = let s = c .before .args in (omega arith, c .before .pre .0, cap-n
 
 slice-read-lesser : tie.Need-slice-read-lesser Inv-loop μ-loop
 slice-read-lesser c =
+    let at-start : tie.Start Inv-loop μ-loop = search in
     let e = c .before .before .loop .inv .2 .same in
-    let m = c .before .before .before .before .pre .1 in
+    let m = at-start .pre .1 in
     let l = c .before .loop-test .taken in
     omega arith
 
-lesser-requires : tie.Need-lesser-requires Inv-loop μ-loop
-lesser-requires c κs = search needs
-
 slice-write-line : tie.Need-slice-write-line Inv-loop μ-loop
 slice-write-line c =
-    let e = c .before .before .before .loop .inv .2 .same in
-    let m = c .before .before .before .before .before .pre .1 in
+    let at-loop : tie.At-loop Inv-loop μ-loop = search in
+    let at-start : tie.Start Inv-loop μ-loop = search in
+    let e = at-loop .loop .inv .2 .same in
+    let m = at-start .pre .1 in
     let l = c .before .before .loop-test .taken in
     omega arith
 
@@ -41,10 +41,12 @@ loop-less c = let l = c .before .before .loop-test .taken in omega arith
 
 loop-again : tie.Need-loop-again Inv-loop μ-loop
 loop-again c =
-    let s = c .before .before .before .before .before .args in
-    let w = c .before .before .before .loop in
+    let at-loop : tie.At-loop Inv-loop μ-loop = search in
+    let at-start : tie.Start Inv-loop μ-loop = search in
+    let s = at-start .args in
+    let w = at-loop .loop in
     let e = w .inv .2 .same in
-    let m = c .before .before .before .before .before .pre .1 in
+    let m = at-start .pre .1 in
     let l = c .before .before .loop-test .taken in
     let low = w .inv .0 in
     (omega arith, omega arith, cap-set (s .r) (s .from) (s .line .now) (w .line) (w .k) (c .lesser .result) low (omega arith) (c .lesser .ensures) (w .inv .2))
@@ -54,24 +56,14 @@ same-length c = c .before .loop .inv .2 .same
 
 returns : tie.Need-returns Inv-loop μ-loop
 returns c =
-    let s = c .before .before .before .args in
+    let at-start : tie.Start Inv-loop μ-loop = search in
+    let s = at-start .args in
     let w = c .before .loop in
     let high = w .inv .1 in
     let l = c .loop-test .left in
-    cap-done (s .r) (s .from) (s .end) (s .line .now) (w .line) (w .k) (omega arith) (c .before .before .before .pre .0) (w .inv .2)
+    cap-done (s .r) (s .from) (s .end) (s .line .now) (w .line) (w .k) (omega arith) (at-start .pre .0) (w .inv .2)
 
 pub cap-spec : {M : Type 1} → statement M
 cap-spec =
-    tie.close
-    (tie.spec
-    Inv-loop
-    μ-loop
-    loop-holds
-    slice-read-lesser
-    lesser-requires
-    slice-write-line
-    add-k
-    loop-less
-    loop-again
-    same-length
-    returns)
+    tie.close (tie.spec
+    Inv-loop μ-loop loop-holds slice-read-lesser (search needs) slice-write-line add-k loop-less loop-again same-length returns)

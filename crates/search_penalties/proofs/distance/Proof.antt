@@ -6,16 +6,10 @@ use Rattle.search_penalties.proofs.Passes.{farther-more}
 use Rattle.search_penalties.proofs.distance.Statement.{statement}
 use Rattle.search_penalties.proofs.distance.Tie as tie
 
-returns : tie.Need-returns
-returns c = search needs
-
 returns-2 : tie.Need-returns-2
 returns-2 c =
     let m = farther-more (c .before .before .args .x) (c .before .before .args .d) (pos-of-ne-zero (c .before .if1 .left)) in
     omega arith
-
-add-result : tie.Need-add-result
-add-result c = search needs
 
 returns-3 : tie.Need-returns-3
 returns-3 c =
@@ -24,4 +18,4 @@ returns-3 c =
     omega arith
 
 pub distance-spec : {M : Type 1} → statement M
-distance-spec = tie.close (tie.spec returns returns-2 add-result returns-3)
+distance-spec = tie.close (tie.spec (λ c. search needs) returns-2 (search needs) returns-3)

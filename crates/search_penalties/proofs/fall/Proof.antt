@@ -24,39 +24,37 @@ abbrev μ-loop : tie.MeasureT-loop
 loop-holds : tie.Need-loop-holds Inv-loop μ-loop
 loop-holds c = let xs = c .before .args .line .now in (omega arith, fallen-none xs (length xs), back-none (height xs) xs)
 
-sub-k : tie.Need-sub-k Inv-loop μ-loop
-sub-k c = omega arith
-
 slice-read-distance : tie.Need-slice-read-distance Inv-loop μ-loop
 slice-read-distance c = let e = c .before .before .loop .inv .2 .same in omega arith
 
-distance-requires : tie.Need-distance-requires Inv-loop μ-loop
-distance-requires c κs = search needs
-
 slice-read-lesser : tie.Need-slice-read-lesser Inv-loop μ-loop
-slice-read-lesser c = let e = c .before .before .before .before .loop .inv .2 .same in omega arith
-
-lesser-requires : tie.Need-lesser-requires Inv-loop μ-loop
-lesser-requires c κs = search needs
+slice-read-lesser c =
+    let at-loop : tie.At-loop Inv-loop μ-loop = search in
+    let e = at-loop .loop .inv .2 .same in omega arith
 
 slice-write-line : tie.Need-slice-write-line Inv-loop μ-loop
-slice-write-line c = let e = c .before .before .before .before .before .loop .inv .2 .same in omega arith
-
-loop-less : tie.Need-loop-less Inv-loop μ-loop
-loop-less c = omega arith
+slice-write-line c =
+    let at-loop : tie.At-loop Inv-loop μ-loop = search in
+    let e = at-loop .loop .inv .2 .same in omega arith
 
 loop-again : tie.Need-loop-again Inv-loop μ-loop
 loop-again c =
-    let xs = c .before .before .before .before .before .before .before .args .line .now in
-    let w = c .before .before .before .before .before .loop in
-    let l = c .before .before .before .before .loop-test .taken in
+    let in-loop : tie.In-loop Inv-loop μ-loop = search in
+    let at-loop : tie.At-loop Inv-loop μ-loop = search in
+    let at-start : tie.Start Inv-loop μ-loop = search in
+    let xs = at-start .args .line .now in
+    let w = at-loop .loop in
+    let l = in-loop .loop-test .taken in
     let high = w .inv .0 in
     let e = w .inv .2 .same in
     let same = w .inv .2 .rest (w .k - 1) (omega arith) in
     let d = c .before .before .distance .result in
     let v : d ≡ fallen xs (w .k - 1) (length xs - (w .k - 1)) =
-    fallen-value xs (w .k) (length xs) (w .d) _ d l high (w .inv .1) same (c .before .before .distance .ensures) in
-    (omega arith, v, back-set (height xs) xs (w .line) (w .k - 1) (c .lesser .result) (omega arith) (c .lesser .ensures ∙ ap₂ min same v) (w .k) (omega arith) (w .inv .2))
+    fallen-value xs (w .k) (length xs) (w .d) _ d l high (w .inv .1) same (c .before .before .distance .ensures) in (
+      omega arith,
+      v,
+      back-set (height xs) xs (w .line) (w .k - 1) (c .lesser .result) (omega arith) (c .lesser .ensures ∙ ap₂ min same v) (w .k) (omega arith) (w .inv .2),
+    )
 
 same-length : tie.Need-same-length Inv-loop μ-loop
 same-length c = c .before .loop .inv .2 .same
@@ -69,18 +67,6 @@ returns c =
 
 pub fall-spec : {M : Type 1} → statement M
 fall-spec =
-    tie.close
-    (tie.spec
-    Inv-loop
-    μ-loop
-    loop-holds
-    sub-k
-    slice-read-distance
-    distance-requires
-    slice-read-lesser
-    lesser-requires
-    slice-write-line
-    loop-less
-    loop-again
-    same-length
-    returns)
+    tie.close (tie.spec
+    Inv-loop μ-loop loop-holds (search needs) slice-read-distance (search needs) slice-read-lesser (search needs) slice-write-line
+    (search needs) loop-again same-length returns)

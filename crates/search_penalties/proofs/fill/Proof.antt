@@ -4,6 +4,7 @@ use Prim.Native.Nat.{ℕ, _≤_, _-_}
 use native.Mathlib.Omega.{arith}
 use lib.ListN.{length}
 use Rattle.list_laws.proofs.Passes.{Passing, pass-none, pass-set}
+use borrow.Author.Needs.{needs}
 use Rattle.search_penalties.proofs.fill.Statement.{statement}
 use Rattle.search_penalties.proofs.fill.Tie as tie
 
@@ -19,12 +20,6 @@ abbrev μ-loop : tie.MeasureT-loop
 
 loop-holds : tie.Need-loop-holds Inv-loop μ-loop
 loop-holds c = (omega arith, pass-none full _)
-
-slice-write-line : tie.Need-slice-write-line Inv-loop μ-loop
-slice-write-line c = omega arith
-
-add-k : tie.Need-add-k Inv-loop μ-loop
-add-k c = omega arith
 
 loop-less : tie.Need-loop-less Inv-loop μ-loop
 loop-less c = let e = c .before .loop .inv .1 .same in omega arith
@@ -45,15 +40,4 @@ returns c =
     record { same = e; at = λ j b. w .done j (omega arith) }
 
 pub fill-spec : {M : Type 1} → statement M
-fill-spec =
-    tie.close
-    (tie.spec
-    Inv-loop
-    μ-loop
-    loop-holds
-    slice-write-line
-    add-k
-    loop-less
-    loop-again
-    same-length
-    returns)
+fill-spec = tie.close (tie.spec Inv-loop μ-loop loop-holds (search needs) (search needs) loop-less loop-again same-length returns)

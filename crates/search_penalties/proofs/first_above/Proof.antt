@@ -5,6 +5,7 @@ use mathlib.Core.Path.{_≡_, sym, subst}
 use native.Mathlib.Nat.{eq-or-lt-of-le}
 use native.Mathlib.Omega.{arith}
 use lib.ListN.{getD}
+use borrow.Author.Needs.{needs}
 use Rattle.search_penalties.proofs.first_above.Statement.{statement}
 use Rattle.search_penalties.proofs.first_above.Tie as tie
 
@@ -17,25 +18,19 @@ abbrev μ-loop : tie.MeasureT-loop
 loop-holds : tie.Need-loop-holds Inv-loop μ-loop
 loop-holds c = (omega arith, c .pre .0, λ j a b. absurd (omega arith))
 
-shared-slice-read-if1 : tie.Need-shared-slice-read-if1 Inv-loop μ-loop
-shared-slice-read-if1 c = omega arith
-
 returns : tie.Need-returns Inv-loop μ-loop
 returns c =
-    let w = c .before .before .before .loop .inv in
+    let at-loop : tie.At-loop Inv-loop μ-loop = search in
+    let w = at-loop .loop .inv in
     record { low = w .0; high = w .1; before = w .2; above = λ l. c .if1 .taken }
-
-add-k : tie.Need-add-k Inv-loop μ-loop
-add-k c = omega arith
-
-loop-less : tie.Need-loop-less Inv-loop μ-loop
-loop-less c = omega arith
 
 loop-again : tie.Need-loop-again Inv-loop μ-loop
 loop-again c =
-    let s = c .before .before .before .before .args in
-    let k = c .before .before .before .loop .k in
-    let w = c .before .before .before .loop .inv in
+    let at-loop : tie.At-loop Inv-loop μ-loop = search in
+    let at-start : tie.Start Inv-loop μ-loop = search in
+    let s = at-start .args in
+    let k = at-loop .loop .k in
+    let w = at-loop .loop .inv in
     let l = c .before .before .loop-test .taken in
     let low : getD (s .line .now) k 0 ≤ s .r = c .if1 .left in (
       omega arith,
@@ -54,15 +49,4 @@ returns-2 c =
     record { low = w .0; high = w .1; before = w .2; above = λ m. absurd (omega arith) }
 
 pub first-above-spec : {M : Type 1} → statement M
-first-above-spec =
-    tie.close
-    (tie.spec
-    Inv-loop
-    μ-loop
-    loop-holds
-    shared-slice-read-if1
-    returns
-    add-k
-    loop-less
-    loop-again
-    returns-2)
+first-above-spec = tie.close (tie.spec Inv-loop μ-loop loop-holds (search needs) returns (search needs) (search needs) loop-again returns-2)

@@ -2,7 +2,6 @@
 use native.Mathlib.Omega.{arith}
 use Rattle.search_penalties.specs.Line.{takenAt}
 use Rattle.search_penalties.proofs.Passes.{outside-spared}
-use borrow.Author.Needs.{needs}
 use Rattle.search_penalties.proofs.level.Statement.{statement}
 use Rattle.search_penalties.proofs.level.Tie as tie
 
@@ -22,8 +21,9 @@ taken-from-requires c κs =
 
 lower-requires : tie.Need-lower-requires
 lower-requires c κs =
-    let s = c .before .before .before .args in
-    let pre = c .before .before .before .pre in
+    let at-start : tie.Start = search in
+    let s = at-start .args in
+    let pre = at-start .pre in
     let out = pre .1 .1 .1 .0 in
     let tables = pre .1 .1 .1 .1 in
     let to = c .before .taken-from in (

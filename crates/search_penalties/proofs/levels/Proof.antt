@@ -27,46 +27,54 @@ last-above-requires : tie.Need-last-above-requires Inv-loop μ-loop
 last-above-requires c κs = let out = c .before .before .loop .inv .3 in (out .order, out .last)
 
 same-length : tie.Need-same-length Inv-loop μ-loop
-same-length c = c .before .before .before .before .loop .inv .1
+same-length c =
+    let at-loop : tie.At-loop Inv-loop μ-loop = search in
+    at-loop .loop .inv .1
 
 returns : tie.Need-returns Inv-loop μ-loop
 returns c =
-    let s = c .before .before .before .before .before .before .args in
-    let w = c .before .before .before .before .loop in
+    let at-loop : tie.At-loop Inv-loop μ-loop = search in
+    let at-slice-known : tie.After-slice-known Inv-loop μ-loop = search in
+    let at-start : tie.Start Inv-loop μ-loop = search in
+    let s = at-start .args in
+    let w = at-loop .loop in
     let e = w .inv .1 in
     let q = c .before .last-above .result in
     let out = outside-last (w .line) (w .r) (w .from) (w .end) (w .inv .3) q (c .before .last-above .ensures) in
     line-done (s .a .now) (s .b .now) (s .p) (w .r) (s .line .now) (w .line) e
-    (λ k l. let b = c .before .before .before .before .before .slice-known .given k in omega arith)
+    (λ k l. let b = at-slice-known .slice-known .given k in omega arith)
     (λ k l. outside-all (w .line) (w .r) (w .from) q out (c .if1 .taken) k (omega arith)) (w .inv .2)
 
 first-above-requires : tie.Need-first-above-requires Inv-loop μ-loop
 first-above-requires c κs =
-    let w = c .before .before .before .before .before .loop .inv in
+    let at-loop : tie.At-loop Inv-loop μ-loop = search in
+    let w = at-loop .loop .inv in
     let last = c .before .before .last-above .ensures in
     let high = last .high in
     let m = w .3 .last in
     (last .low, omega arith)
 
-wide-requires : tie.Need-wide-requires Inv-loop μ-loop
-wide-requires c κs = search needs
-
 add-t20 : tie.Need-add-t20 Inv-loop μ-loop
 add-t20 c =
-    let p = c .before .before .before .before .before .before .before .before .before .before .pre .1 .1 .0 in
+    let at-start : tie.Start Inv-loop μ-loop = search in
+    let p = at-start .pre .1 .1 .0 in
     let w = c .before .wide .ensures in
     omega arith
 
 level-requires : tie.Need-level-requires Inv-loop μ-loop
 level-requires c κs =
-    let p = c .before .before .before .before .before .before .before .before .before .before .before .pre in
+    let at-first-above : tie.After-first-above Inv-loop μ-loop = search in
+    let at-last-above : tie.After-last-above Inv-loop μ-loop = search in
+    let at-loop : tie.At-loop Inv-loop μ-loop = search in
+    let at-start : tie.Start Inv-loop μ-loop = search in
+    let p = at-start .pre in
     let q = p .1 .1 .0 in
     let reach = q .0 in
     let w = c .before .before .wide .ensures in
-    let v = c .before .before .before .before .before .before .before .before .before .loop in
+    let v = at-loop .loop in
     let e = v .inv .1 in
-    let last = c .before .before .before .before .before .before .last-above in
-    let first = c .before .before .before .first-above in (
+    let last = at-last-above .last-above in
+    let first = at-first-above .first-above in (
       p .0,
       (
         p .1 .0,
@@ -81,28 +89,32 @@ level-requires c κs =
       ),
     )
 
-wide-requires-2 : tie.Need-wide-requires-2 Inv-loop μ-loop
-wide-requires-2 c κs = search needs
-
 add-t20-2 : tie.Need-add-t20-2 Inv-loop μ-loop
 add-t20-2 c =
-    let p = c .before .before .before .before .before .before .before .before .before .before .before .before .before .before .before .before .pre .1 .1 .0 in
+    let at-start : tie.Start Inv-loop μ-loop = search in
+    let p = at-start .pre .1 .1 .0 in
     let w = c .before .wide2 .ensures in
     omega arith
 
 level-requires-2 : tie.Need-level-requires-2 Inv-loop μ-loop
 level-requires-2 c κs =
-    let p = c .before .before .before .before .before .before .before .before .before .before .before .before .before .before .before .before .before .pre in
+    let at-level : tie.After-level Inv-loop μ-loop = search in
+    let at-wide : tie.After-wide Inv-loop μ-loop = search in
+    let at-first-above : tie.After-first-above Inv-loop μ-loop = search in
+    let at-last-above : tie.After-last-above Inv-loop μ-loop = search in
+    let at-loop : tie.At-loop Inv-loop μ-loop = search in
+    let at-start : tie.Start Inv-loop μ-loop = search in
+    let p = at-start .pre in
     let q = p .1 .1 .0 in
     let reach = q .0 in
     let w = c .before .before .wide2 .ensures in
-    let u = c .before .before .before .before .before .before .before .before .wide .ensures in
-    let v = c .before .before .before .before .before .before .before .before .before .before .before .before .before .before .before .loop in
+    let u = at-wide .wide .ensures in
+    let v = at-loop .loop in
     let e = v .inv .1 in
-    let up = c .before .before .before .before .before .level in
+    let up = at-level .level in
     let f = up .ensures .same in
-    let last = c .before .before .before .before .before .before .before .before .before .before .before .before .last-above in
-    let first = c .before .before .before .before .before .before .before .before .before .first-above in (
+    let last = at-last-above .last-above in
+    let first = at-first-above .first-above in (
       p .0,
       (
         p .1 .0,
@@ -121,27 +133,37 @@ level-requires-2 c κs =
 
 add-r : tie.Need-add-r Inv-loop μ-loop
 add-r c =
-    let l = c .before .before .before .before .before .before .before .before .before .before .before .before .before .before .before .before .before .loop-test .taken in
+    let in-loop : tie.In-loop Inv-loop μ-loop = search in
+    let l = in-loop .loop-test .taken in
     omega arith
 
 loop-less : tie.Need-loop-less Inv-loop μ-loop
 loop-less c =
-    let l = c .before .before .before .before .before .before .before .before .before .before .before .before .before .before .before .before .before .loop-test .taken in
+    let in-loop : tie.In-loop Inv-loop μ-loop = search in
+    let l = in-loop .loop-test .taken in
     omega arith
 
 loop-again : tie.Need-loop-again Inv-loop μ-loop
 loop-again c =
-    let s = c .before .before .before .before .before .before .before .before .before .before .before .before .before .before .before .before .before .before .before .before .args in
-    let w = c .before .before .before .before .before .before .before .before .before .before .before .before .before .before .before .before .before .before .loop in
-    let l = c .before .before .before .before .before .before .before .before .before .before .before .before .before .before .before .before .before .loop-test .taken in
-    let up = c .before .before .before .before .before .before .before .before .level .ensures in
+    let at-wide2 : tie.After-wide2 Inv-loop μ-loop = search in
+    let at-level : tie.After-level Inv-loop μ-loop = search in
+    let at-wide : tie.After-wide Inv-loop μ-loop = search in
+    let at-first-above : tie.After-first-above Inv-loop μ-loop = search in
+    let at-last-above : tie.After-last-above Inv-loop μ-loop = search in
+    let in-loop : tie.In-loop Inv-loop μ-loop = search in
+    let at-loop : tie.At-loop Inv-loop μ-loop = search in
+    let at-start : tie.Start Inv-loop μ-loop = search in
+    let s = at-start .args in
+    let w = at-loop .loop in
+    let l = in-loop .loop-test .taken in
+    let up = at-level .level .ensures in
     let down = c .before .before .level2 .ensures in
-    let last = c .before .before .before .before .before .before .before .before .before .before .before .before .before .before .before .last-above in
-    let first = c .before .before .before .before .before .before .before .before .before .before .before .before .first-above in (
+    let last = at-last-above .last-above in
+    let first = at-first-above .first-above in (
       omega arith,
       down .same ∙ up .same ∙ w .inv .1,
-      line-step (s .a .now) (s .b .now) (s .p) (w .r) (c .before .before .before .before .before .before .before .before .before .before .before .wide .result) (c .before .before .before .before .before .wide2 .result) (s .line .now) (w .line)
-          (c .before .before .before .before .before .before .before .before .before .before .before .wide .ensures .0) (c .before .before .before .before .before .wide2 .ensures .0) (w .inv .1) up down (w .inv .2),
+      line-step (s .a .now) (s .b .now) (s .p) (w .r) (at-wide .wide .result) (at-wide2 .wide2 .result) (s .line .now) (w .line)
+          (at-wide .wide .ensures .0) (at-wide2 .wide2 .ensures .0) (w .inv .1) up down (w .inv .2),
       outside-more _ (w .r) (first .result) (last .result)
           (outside-lowered _ (w .r) (first .result) (last .result)
           (outside-lowered (w .line) (w .r) (first .result) (last .result)
@@ -155,7 +177,8 @@ same-length-2 c = c .before .loop .inv .1
 
 returns-2 : tie.Need-returns-2 Inv-loop μ-loop
 returns-2 c =
-    let s = c .before .before .before .args in
+    let at-start : tie.Start Inv-loop μ-loop = search in
+    let s = at-start .args in
     let w = c .before .loop in
     let l = c .loop-test .left in
     let b : (k : ℕ) → k < length (s .line .now) → getD (s .line .now) k 0 ≤ 255 = λ k m. let q = c .before .before .slice-known .given k in omega arith in
@@ -164,23 +187,6 @@ returns-2 c =
 
 pub levels-spec : {M : Type 1} → statement M
 levels-spec =
-    tie.close
-    (tie.spec
-    Inv-loop
-    μ-loop
-    loop-holds
-    last-above-requires
-    same-length
-    returns
-    first-above-requires
-    wide-requires
-    add-t20
-    level-requires
-    wide-requires-2
-    add-t20-2
-    level-requires-2
-    add-r
-    loop-less
-    loop-again
-    same-length-2
-    returns-2)
+    tie.close (tie.spec
+    Inv-loop μ-loop loop-holds last-above-requires same-length returns first-above-requires (search needs) add-t20 level-requires
+    (search needs) add-t20-2 level-requires-2 add-r loop-less loop-again same-length-2 returns-2)

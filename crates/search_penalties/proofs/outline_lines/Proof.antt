@@ -4,7 +4,6 @@ use native.Mathlib.Omega.{arith}
 use lib.ListN.{length}
 use Rattle.search_penalties.specs.Outlines.{StripStanding, Outlines}
 use Rattle.search_penalties.proofs.Outlining.{outlines-none}
-use borrow.Author.Needs.{needs}
 use Rattle.search_penalties.proofs.outline_lines.Statement.{statement}
 use Rattle.search_penalties.proofs.outline_lines.Tie as tie
 
@@ -21,25 +20,38 @@ strip-at-requires : tie.Need-strip-at-requires Inv-loop μ-loop
 strip-at-requires c κs = let l = c .loop-test .taken in omega arith
 
 add-strip-requires : tie.Need-add-strip-requires Inv-loop μ-loop
-add-strip-requires c κs = let w = c .before .strip-at .ensures .short in (w .0, w .1, w .2, c .before .before .before .loop .inv .2 .lines)
+add-strip-requires c κs =
+    let at-loop : tie.At-loop Inv-loop μ-loop = search in
+    let w = c .before .strip-at .ensures .short in (w .0, w .1, w .2, at-loop .loop .inv .2 .lines)
 
 add-lines : tie.Need-add-lines Inv-loop μ-loop
-add-lines c = let w = c .before .before .before .before .strip-at .ensures .short .0 in omega arith
+add-lines c =
+    let at-strip-at : tie.After-strip-at Inv-loop μ-loop = search in
+    let w = at-strip-at .strip-at .ensures .short .0 in omega arith
 
 add-i : tie.Need-add-i Inv-loop μ-loop
-add-i c = let l = c .before .before .before .before .before .loop-test .taken in omega arith
+add-i c =
+    let in-loop : tie.In-loop Inv-loop μ-loop = search in
+    let l = in-loop .loop-test .taken in omega arith
 
 loop-less : tie.Need-loop-less Inv-loop μ-loop
-loop-less c = let l = c .before .before .before .before .before .loop-test .taken in omega arith
+loop-less c =
+    let in-loop : tie.In-loop Inv-loop μ-loop = search in
+    let l = in-loop .loop-test .taken in omega arith
 
 loop-again : tie.Need-loop-again Inv-loop μ-loop
 loop-again c =
-    let s = c .before .before .before .before .before .before .before .args in
-    let w = c .before .before .before .before .before .before .loop in
-    let l = c .before .before .before .before .before .loop-test .taken in
-    let x = c .before .before .before .before .strip-at .ensures in
+    let at-strip-at : tie.After-strip-at Inv-loop μ-loop = search in
+    let in-loop : tie.In-loop Inv-loop μ-loop = search in
+    let at-loop : tie.At-loop Inv-loop μ-loop = search in
+    let at-start : tie.Start Inv-loop μ-loop = search in
+    let s = at-start .args in
+    let w = at-loop .loop in
+    let l = in-loop .loop-test .taken in
+    let x = at-strip-at .strip-at .ensures in
     let b = x .short .0 in
-    let standing : StripStanding (s .s .now) (c .before .before .before .before .strip-at .result .line) (c .before .before .before .before .strip-at .result .first) (c .before .before .before .before .strip-at .result .count) = record { number = w .i; below = l; line = x .line; first = x .first; counts = x .count } in
+    let standing : StripStanding (s .s .now) (at-strip-at .strip-at .result .line) (at-strip-at .strip-at .result .first)
+    (at-strip-at .strip-at .result .count) = record { number = w .i; below = l; line = x .line; first = x .first; counts = x .count } in
     (omega arith, omega arith, c .before .before .add-strip .ensures .outlines (s .s .now) standing (w .inv .2))
 
 same-length : tie.Need-same-length Inv-loop μ-loop

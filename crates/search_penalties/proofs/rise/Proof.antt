@@ -24,25 +24,17 @@ abbrev μ-loop : tie.MeasureT-loop
 loop-holds : tie.Need-loop-holds Inv-loop μ-loop
 loop-holds c = let xs = c .before .args .line .now in (omega arith, refl, pass-none (height xs) xs)
 
-slice-read-distance : tie.Need-slice-read-distance Inv-loop μ-loop
-slice-read-distance c = omega arith
-
-distance-requires : tie.Need-distance-requires Inv-loop μ-loop
-distance-requires c κs = search needs
-
-slice-write-line : tie.Need-slice-write-line Inv-loop μ-loop
-slice-write-line c = omega arith
-
-add-k : tie.Need-add-k Inv-loop μ-loop
-add-k c = omega arith
-
 loop-less : tie.Need-loop-less Inv-loop μ-loop
-loop-less c = let e = c .before .before .before .loop .inv .2 .same in omega arith
+loop-less c =
+    let at-loop : tie.At-loop Inv-loop μ-loop = search in
+    let e = at-loop .loop .inv .2 .same in omega arith
 
 loop-again : tie.Need-loop-again Inv-loop μ-loop
 loop-again c =
-    let xs = c .before .before .before .before .before .args .line .now in
-    let w = c .before .before .before .loop in
+    let at-loop : tie.At-loop Inv-loop μ-loop = search in
+    let at-start : tie.Start Inv-loop μ-loop = search in
+    let xs = at-start .args .line .now in
+    let w = at-loop .loop in
     let e = w .inv .2 .same in
     let v : c .distance .result ≡ risen xs (suc (w .k)) =
     risen-value xs (w .k) (w .d) _ (c .distance .result) (w .inv .1) (w .inv .2 .rest (w .k) (omega arith)) (c .distance .ensures) in
@@ -60,16 +52,5 @@ returns c =
 
 pub rise-spec : {M : Type 1} → statement M
 rise-spec =
-    tie.close
-    (tie.spec
-    Inv-loop
-    μ-loop
-    loop-holds
-    slice-read-distance
-    distance-requires
-    slice-write-line
-    add-k
-    loop-less
-    loop-again
-    same-length
-    returns)
+    tie.close (tie.spec
+    Inv-loop μ-loop loop-holds (search needs) (search needs) (search needs) (search needs) loop-less loop-again same-length returns)

@@ -4,17 +4,8 @@ use Rattle.search_shapes.proofs.Numbers.{last-turn}
 use Rattle.search_shapes.proofs.numbered_turn.Statement.{statement}
 use Rattle.search_shapes.proofs.numbered_turn.Tie as tie
 
-returns : tie.Need-returns
-returns c = search needs
-
-returns-2 : tie.Need-returns-2
-returns-2 c = search needs
-
-returns-3 : tie.Need-returns-3
-returns-3 c = search needs
-
 returns-4 : tie.Need-returns-4
 returns-4 c = last-turn _ (c .match .rest .0 .0 .1) (c .match .rest .0 .1) (c .match .rest .1)
 
 pub numbered-turn-spec : {M : Type 1} → statement M
-numbered-turn-spec = tie.close (tie.spec returns returns-2 returns-3 returns-4)
+numbered-turn-spec = tie.close (tie.spec (λ c. search needs) (λ c. search needs) (λ c. search needs) returns-4)

@@ -5,12 +5,6 @@ use Rattle.search_shapes.proofs.Numbers.{turn-below}
 use Rattle.search_shapes.proofs.shape_number.Statement.{statement}
 use Rattle.search_shapes.proofs.shape_number.Tie as tie
 
-mul-result : tie.Need-mul-result
-mul-result c = search needs
-
-turn-number-requires : tie.Need-turn-number-requires
-turn-number-requires c κs = search needs
-
 add-result : tie.Need-add-result
 add-result c = let e = c .turn-number .ensures in let b = turn-below (c .before .args .turn) in omega arith
 
@@ -18,4 +12,4 @@ returns : tie.Need-returns
 returns c = let e = c .turn-number .ensures in let b = turn-below (c .before .args .turn) in (omega arith, omega arith)
 
 pub shape-number-spec : {M : Type 1} → statement M
-shape-number-spec = tie.close (tie.spec mul-result turn-number-requires add-result returns)
+shape-number-spec = tie.close (tie.spec (search needs) (search needs) add-result returns)

@@ -10,32 +10,21 @@ use Rattle.search_shapes.proofs.shape_strips.Tie as tie
 shape-number-requires : tie.Need-shape-number-requires
 shape-number-requires c κs = let h = c .before .pre .started in omega arith
 
-mul-from : tie.Need-mul-from
-mul-from c = search needs
-
-shared-slice-read-from : tie.Need-shared-slice-read-from
-shared-slice-read-from c = search needs
-
 cast-from : tie.Need-cast-from
 cast-from c = omega (arith, c .shared-slice-known2 .given (c .before .shape-number .result))
-
-add-to : tie.Need-add-to
-add-to c = search needs
-
-mul-to : tie.Need-mul-to
-mul-to c = search needs
-
-shared-slice-read-to : tie.Need-shared-slice-read-to
-shared-slice-read-to c = search needs
 
 cast-to : tie.Need-cast-to
 cast-to c = omega (arith, c .shared-slice-known3 .given (c .before .before .shape-number .result + 1))
 
 -- the starts bound a part of the store
 bounds : (c : tie.After-shared-slice-known3)
-    → Held (c .before .before .before .before .args .store .now) (c .before .before .before .before .args .starts .now)
+    →
+    let at-start : tie.Start = search in
+    Held (at-start .args .store .now) (at-start .args .starts .now)
     (c .before .before .shape-number .result)
-bounds c = rw (c .before .before .shape-number .ensures .0) (c .before .before .before .before .pre)
+bounds c =
+    let at-start : tie.Start = search in
+    rw (c .before .before .shape-number .ensures .0) (at-start .pre)
 
 mul-result : tie.Need-mul-result
 mul-result c = let h = bounds c in omega arith
@@ -51,23 +40,13 @@ part-result-end c = bounds c .within
 
 returns : tie.Need-returns
 returns c = λ d j shapes there.
-    let a = c .before .before .before .before .before .args in
-    rw (c .before .before .before .shape-number .ensures .0) (strips-of d _ (a .store .now) (a .starts .now) _ (shapes .at (a .piece) (a .turn) there))
+    let at-shape-number : tie.After-shape-number = search in
+    let at-start : tie.Start = search in
+    let a = at-start .args in
+    rw (at-shape-number .shape-number .ensures .0) (strips-of d _ (a .store .now) (a .starts .now) _ (shapes .at (a .piece) (a .turn) there))
 
 pub shape-strips-spec : {M : Type 1} → statement M
 shape-strips-spec =
-    tie.close
-    (tie.spec
-    shape-number-requires
-    mul-from
-    shared-slice-read-from
-    cast-from
-    add-to
-    mul-to
-    shared-slice-read-to
-    cast-to
-    mul-result
-    sub-result
-    part-result-start
-    part-result-end
-    returns)
+    tie.close (tie.spec
+    shape-number-requires (search needs) (search needs) cast-from (search needs) (search needs) (search needs) cast-to mul-result
+    sub-result part-result-start part-result-end returns)

@@ -16,9 +16,6 @@ mul-result c = let a = c .args in
     let s = r .start in
     omega arith
 
-add-result : tie.Need-add-result
-add-result c = search needs
-
 mul-result-2 : tie.Need-mul-result-2
 mul-result-2 c = let a = c .args in
     let p = c .pre in
@@ -38,12 +35,6 @@ sub-result c = let a = c .args in
     let f = r .fits in
     let s = r .start in
     omega arith
-
-add-result-2 : tie.Need-add-result-2
-add-result-2 c = search needs
-
-sub-result-2 : tie.Need-sub-result-2
-sub-result-2 c = search needs
 
 add-result-3 : tie.Need-add-result-3
 add-result-3 c = let a = c .args in
@@ -66,14 +57,4 @@ returns c = let a = c .args in
     omega arith
 
 pub pair-index-spec : {M : Type 1} → statement M
-pair-index-spec =
-    tie.close
-    (tie.spec
-    mul-result
-    add-result
-    mul-result-2
-    sub-result
-    add-result-2
-    sub-result-2
-    add-result-3
-    returns)
+pair-index-spec = tie.close (tie.spec mul-result (search needs) mul-result-2 sub-result (search needs) (search needs) add-result-3 returns)

@@ -10,43 +10,40 @@ use borrow.Author.Needs.{needs}
 use Rattle.search_sums.proofs.plain_total.Statement.{statement}
 use Rattle.search_sums.proofs.plain_total.Tie as tie
 
-ones-requires : tie.Need-ones-requires
-ones-requires c κs = search needs
-
-pair-count-requires : tie.Need-pair-count-requires
-pair-count-requires c κs = search needs
-
 array-share-prefix-weights : tie.Need-array-share-prefix-weights
-array-share-prefix-weights c = let most = pairs-at-most (c .before .before .before .args .n) (c .before .before .before .pre .0) in
+array-share-prefix-weights c =
+    let at-start : tie.Start = search in
+    let most = pairs-at-most (at-start .args .n) (at-start .pre .0) in
     let e = c .pair-count .ensures in
     let len : length (c .before .ones .result) ≡ 2016 = ap length (c .before .ones .ensures) ∙ length-replicate {A = ℕ} 2016 1 in
     omega arith
 
 slice-aggregate-total : tie.Need-slice-aggregate-total
-slice-aggregate-total c = let most = pairs-at-most (c .before .before .before .before .args .n) (c .before .before .before .before .pre .0) in
+slice-aggregate-total c =
+    let at-start : tie.Start = search in
+    let most = pairs-at-most (at-start .args .n) (at-start .pre .0) in
     let e = c .before .pair-count .ensures in
     let len : length (c .before .before .ones .result) ≡ 2016 = ap length (c .before .before .ones .ensures) ∙ length-replicate {A = ℕ} 2016 1 in
     simp length-take (omega arith)
 
 total-requires : tie.Need-total-requires
-total-requires c κs = let most = pairs-at-most (c .before .before .before .before .args .n) (c .before .before .before .before .pre .0) in
+total-requires c κs =
+    let at-start : tie.Start = search in
+    let most = pairs-at-most (at-start .args .n) (at-start .pre .0) in
     let e = c .before .pair-count .ensures in
     let len : length (c .before .before .ones .result) ≡ 2016 = ap length (c .before .before .ones .ensures) ∙ length-replicate {A = ℕ} 2016 1 in
-    record { few = c .before .before .before .before .pre .0; size = c .before .before .before .before .pre .1; onePerPair = simp length-take (omega arith) }
+    record { few = at-start .pre .0; size = at-start .pre .1; onePerPair = simp length-take (omega arith) }
 
 returns : tie.Need-returns
 unfolding plainSum
 returns c = λ j v e t.
+    let at-ones : tie.After-ones = search in
+    let at-start : tie.Start = search in
     c .total .ensures j v e t
-    ∙ ap (λ ws. weightedSum j ws v) (ones-taken (c .before .before .before .before .before .args .n) (c .before .before .pair-count .result) (c .before .before .before .ones .result) (c .before .before .before .before .before .pre .0) (c .before .before .before .ones .ensures) (c .before .before .pair-count .ensures) ∙ ap unitWeights (sym e))
+    ∙ ap (λ ws. weightedSum j ws v)
+    (ones-taken (at-start .args .n) (c .before .before .pair-count .result) (at-ones .ones .result) (at-start .pre .0) (at-ones .ones .ensures)
+    (c .before .before .pair-count .ensures) ∙ ap unitWeights (sym e))
 
 pub plain-total-spec : {M : Type 1} → statement M
 plain-total-spec =
-    tie.close
-    (tie.spec
-    ones-requires
-    pair-count-requires
-    array-share-prefix-weights
-    slice-aggregate-total
-    total-requires
-    returns)
+    tie.close (tie.spec (search needs) (search needs) array-share-prefix-weights slice-aggregate-total total-requires returns)

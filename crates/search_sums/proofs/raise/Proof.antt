@@ -28,34 +28,53 @@ unfolding rowStart
 loop-holds c = (omega arith, refl, refl, λ j v e t w. raising-begin j v _)
 
 raise-row-requires : tie.Need-raise-row-requires Inv-loop μ-loop
-raise-row-requires c κs = let w = c .before .before .before .before .before .pre in
-    (record { few = w .few; size = w .size; onePerPair = c .before .before .loop .inv .2 ∙ w .onePerPair }, (c .before .loop-test .taken, c .before .before .loop .inv .1))
+raise-row-requires c κs =
+    let at-start : tie.Start Inv-loop μ-loop = search in
+    let w = at-start .pre in (
+      record { few = w .few; size = w .size; onePerPair = c .before .before .loop .inv .2 ∙ w .onePerPair },
+      (c .before .loop-test .taken, c .before .before .loop .inv .1),
+    )
 
 add-i : tie.Need-add-i Inv-loop μ-loop
-add-i c = let f = c .before .before .before .before .before .before .before .before .pre .few in omega (arith, c .before .before .before .before .loop-test .taken)
+add-i c =
+    let in-loop : tie.In-loop Inv-loop μ-loop = search in
+    let at-start : tie.Start Inv-loop μ-loop = search in
+    let f = at-start .pre .few in omega (arith, in-loop .loop-test .taken)
 
 sub-from : tie.Need-sub-from Inv-loop μ-loop
-sub-from c = omega (arith, c .before .before .before .before .loop-test .taken)
+sub-from c =
+    let in-loop : tie.In-loop Inv-loop μ-loop = search in
+    omega (arith, in-loop .loop-test .taken)
 
 add-from : tie.Need-add-from Inv-loop μ-loop
-add-from c = let a = c .before .before .before .before .before .before .before .before .args in
-    let l = c .before .before .before .before .before .loop in
-    let few = c .before .before .before .before .before .before .before .before .pre .few in
+add-from c =
+    let in-loop : tie.In-loop Inv-loop μ-loop = search in
+    let at-loop : tie.At-loop Inv-loop μ-loop = search in
+    let at-start : tie.Start Inv-loop μ-loop = search in
+    let a = at-start .args in
+    let l = at-loop .loop in
+    let few = at-start .pre .few in
     let start = l .inv .1 in
-    let t = c .before .before .before .before .loop-test .taken in
+    let t = in-loop .loop-test .taken in
     let most = pairs-at-most (a .n) few in
     let below = row-below (a .n) (l .i) (l .inv .0) in
     omega arith
 
 loop-less : tie.Need-loop-less Inv-loop μ-loop
-loop-less c = omega (arith, c .before .before .before .before .loop-test .taken)
+loop-less c =
+    let in-loop : tie.In-loop Inv-loop μ-loop = search in
+    omega (arith, in-loop .loop-test .taken)
 
 loop-again : tie.Need-loop-again Inv-loop μ-loop
-loop-again c = let a = c .before .before .before .before .before .before .before .before .args in
-    let l = c .before .before .before .before .before .loop in
-    let few = c .before .before .before .before .before .before .before .before .pre .few in
+loop-again c =
+    let in-loop : tie.In-loop Inv-loop μ-loop = search in
+    let at-loop : tie.At-loop Inv-loop μ-loop = search in
+    let at-start : tie.Start Inv-loop μ-loop = search in
+    let a = at-start .args in
+    let l = at-loop .loop in
+    let few = at-start .pre .few in
     let start = l .inv .1 in
-    let t = c .before .before .before .before .loop-test .taken in
+    let t = in-loop .loop-test .taken in
     let most = pairs-at-most (a .n) few in
     let below = row-below (a .n) (l .i) (l .inv .0) in
     let next : l .from + (a .n - (l .i + 1)) ≡ rowStart (a .n) (l .i + 1) = omega (arith, row-next (a .n) (l .i)) in (
@@ -72,7 +91,8 @@ same-length c = c .before .loop .inv .2
 
 returns : tie.Need-returns Inv-loop μ-loop
 returns c = λ j v e t w.
-    let a = c .before .before .before .before .args in
+    let at-start : tie.Start Inv-loop μ-loop = search in
+    let a = at-start .args in
     let l = c .before .loop in
     let done : l .i ≡ a .n = omega (arith, l .inv .0, c .loop-test .left) in
     raise-end j v (a .n) (a .weights .now) (l .weights) (l .from) e w (l .inv .1 ∙ ap (rowStart (a .n)) done) (l .inv .3 j v e t w)

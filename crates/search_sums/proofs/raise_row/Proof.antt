@@ -20,18 +20,23 @@ use Rattle.search_sums.proofs.raise_row.Tie as tie
 abbrev Inv-loop : tie.InvT-loop
 Inv-loop penalties weights₀ n i from k₀ at₀ weights k at =
     (i + 1 ≤ k) × (k ≤ n) × (at + (i + 1) ≡ from + k) × (length weights ≡ length weights₀)
-    × ((j : Job) (v : Layout) (ws : List ℕ) → j .size .count ≡ n → PenaltyTable j v n penalties → ValidWeights j ws → Raising j v ws from weights₀ → Raising j v ws at weights)
+    × ((j : Job) (v : Layout) (ws : List ℕ) → j .size .count ≡ n → PenaltyTable j v n penalties → ValidWeights j ws → Raising j v ws from weights₀
+    → Raising j v ws at weights)
 
 abbrev μ-loop : tie.MeasureT-loop
 μ-loop penalties weights₀ n i from k₀ at₀ weights k at = n - k
 
 -- in a turn the pair (i, k) is there, and its weight
 turn : (c : tie.In-loop Inv-loop μ-loop)
-    → PairPlace (c .before .before .before .before .args .n) (c .before .before .before .before .args .i) (c .before .loop .k) (c .before .loop .at) (c .before .before .before .before .args .penalties .now) (c .before .loop .weights)
+    →
+    let at-start : tie.Start Inv-loop μ-loop = search in
+    PairPlace (at-start .args .n) (at-start .args .i) (c .before .loop .k) (c .before .loop .at) (at-start .args .penalties .now) (c .before .loop .weights)
 turn c =
+    let at-start : tie.Start Inv-loop μ-loop = search in
     let l = c .before .loop in
-    let p = c .before .before .before .before .pre in
-    row-place _ _ _ _ _ _ _ (record { few = p .0 .few; size = p .0 .size; onePerPair = l .inv .3 ∙ p .0 .onePerPair }) (p .1 .1) (l .inv .0) (c .loop-test .taken) (l .inv .2)
+    let p = at-start .pre in
+    row-place _ _ _ _ _ _ _ (record { few = p .0 .few; size = p .0 .size; onePerPair = l .inv .3 ∙ p .0 .onePerPair }) (p .1 .1) (l .inv .0)
+    (c .loop-test .taken) (l .inv .2)
 
 add-k : tie.Need-add-k Inv-loop μ-loop
 add-k c = let f = c .before .before .pre .0 .few in let b = c .before .before .pre .1 .0 in omega arith
@@ -52,22 +57,32 @@ raise-pair-requires : tie.Need-raise-pair-requires Inv-loop μ-loop
 raise-pair-requires c κs = turn (c .before .before) .there
 
 add-k-2 : tie.Need-add-k-2 Inv-loop μ-loop
-add-k-2 c = let t = turn (c .before .before .before .before .before) in omega arith
+add-k-2 c =
+    let in-loop : tie.In-loop Inv-loop μ-loop = search in
+    let t = turn (in-loop) in omega arith
 
 add-at : tie.Need-add-at Inv-loop μ-loop
-add-at c = let t = turn (c .before .before .before .before .before) in omega arith
+add-at c =
+    let in-loop : tie.In-loop Inv-loop μ-loop = search in
+    let t = turn (in-loop) in omega arith
 
 loop-less : tie.Need-loop-less Inv-loop μ-loop
-loop-less c = omega (arith, c .before .before .before .before .before .loop-test .taken)
+loop-less c =
+    let in-loop : tie.In-loop Inv-loop μ-loop = search in
+    omega (arith, in-loop .loop-test .taken)
 
 loop-again : tie.Need-loop-again Inv-loop μ-loop
 loop-again c =
-    let a = c .before .before .before .before .before .before .before .before .before .args in
-    let l = c .before .before .before .before .before .before .loop in
-    let t = turn (c .before .before .before .before .before) in
+    let in-loop : tie.In-loop Inv-loop μ-loop = search in
+    let at-loop : tie.At-loop Inv-loop μ-loop = search in
+    let at-start : tie.Start Inv-loop μ-loop = search in
+    let a = at-start .args in
+    let l = at-loop .loop in
+    let t = turn (in-loop) in
     let e = l .inv .2 in
-    let start = c .before .before .before .before .before .before .before .before .before .pre .1 .1 in
-    let now : c .before .before .raise-pair .last .0 ≡ raisedAt (l .weights) (l .at) (getD (a .penalties .now) (a .i * 64 + l .k) 0) = c .before .before .raise-pair .ensures in
+    let start = at-start .pre .1 .1 in
+    let now : c .before .before .raise-pair .last .0 ≡ raisedAt (l .weights) (l .at) (getD (a .penalties .now) (a .i * 64 + l .k) 0) =
+    c .before .before .raise-pair .ensures in
     let index : pairIndex (a .n) (a .i) (l .k) ≡ l .at = omega arith in (
       omega arith,
       omega arith,
@@ -75,7 +90,8 @@ loop-again c =
       c .before .before .raise-pair .kept .0 ∙ l .inv .3,
       λ j v ws n table valid r.
           subst (λ now. Raising j v ws (l .at + 1) now) (sym now)
-          (raise-step j v (a .n) ws (l .weights) (a .penalties .now) (a .i) (l .k) (l .at) n table valid (t .above) (t .below) index (l .inv .4 j v ws n table valid r)),
+          (raise-step j v (a .n) ws (l .weights) (a .penalties .now) (a .i) (l .k) (l .at) n table valid (t .above) (t .below) index
+          (l .inv .4 j v ws n table valid r)),
     )
 
 same-length : tie.Need-same-length Inv-loop μ-loop
@@ -83,10 +99,11 @@ same-length c = c .before .loop .inv .3
 
 returns : tie.Need-returns Inv-loop μ-loop
 returns c = λ j v ws n t valid r.
-    let a = c .before .before .before .before .args in
+    let at-start : tie.Start Inv-loop μ-loop = search in
+    let a = at-start .args in
     let l = c .before .loop in
-    let b = c .before .before .before .before .pre .1 .0 in
-    let start = c .before .before .before .before .pre .1 .1 in
+    let b = at-start .pre .1 .0 in
+    let start = at-start .pre .1 .1 in
     let e = l .inv .2 in
     let end = l .inv .1 in
     let done = c .loop-test .left in

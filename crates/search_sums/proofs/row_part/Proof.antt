@@ -19,7 +19,8 @@ abbrev μ-loop : tie.MeasureT-loop
 
 -- in a turn the pair (i, k) is there, and its weight
 turn : (c : tie.In-loop Inv-loop μ-loop)
-    → PairPlace (c .before .before .args .n) (c .before .before .args .i) (c .before .loop .k) (c .before .loop .at) (c .before .before .args .penalties .now) (c .before .before .args .weights .now)
+    → PairPlace (c .before .before .args .n) (c .before .before .args .i) (c .before .loop .k) (c .before .loop .at) (c .before .before .args .penalties .now)
+    (c .before .before .args .weights .now)
 turn c =
     let l = c .before .loop in
     let p = c .before .before .pre in
@@ -27,12 +28,17 @@ turn c =
 
 -- and its part in the sum is small
 small : (c : tie.After-shared-slice-known2 Inv-loop μ-loop)
-    → getD (c .before .before .before .before .args .weights .now) (c .before .before .before .loop .at) 0
-    * getD (c .before .before .before .before .args .penalties .now) (c .before .before .before .before .args .i * 64 + c .before .before .before .loop .k) 0
+    →
+    let at-loop : tie.At-loop Inv-loop μ-loop = search in
+    let at-start : tie.Start Inv-loop μ-loop = search in
+    getD (at-start .args .weights .now) (at-loop .loop .at) 0
+    * getD (at-start .args .penalties .now) (at-start .args .i * 64 + at-loop .loop .k) 0
     ≤ 1099511627776
 small c =
-    let a = c .before .before .before .before .args in
-    let l = c .before .before .before .loop in
+    let at-loop : tie.At-loop Inv-loop μ-loop = search in
+    let at-start : tie.Start Inv-loop μ-loop = search in
+    let a = at-start .args in
+    let l = at-loop .loop in
     let word = c .before .shared-slice-known .given (l .at) in
     let byte = c .shared-slice-known2 .given (a .i * 64 + l .k) in
     term-small (getD (a .weights .now) (l .at) 0) (getD (a .penalties .now) (a .i * 64 + l .k) 0) (omega arith) (omega arith)
@@ -65,16 +71,20 @@ shared-slice-read-sum-2 : tie.Need-shared-slice-read-sum-2 Inv-loop μ-loop
 shared-slice-read-sum-2 c = let t = turn (c .before .before) in omega arith
 
 cast-sum-2 : tie.Need-cast-sum-2 Inv-loop μ-loop
-cast-sum-2 c = omega (arith, c .shared-slice-known2 .given (c .before .before .before .before .args .i * 64 + c .before .before .before .loop .k))
+cast-sum-2 c =
+    let at-loop : tie.At-loop Inv-loop μ-loop = search in
+    let at-start : tie.Start Inv-loop μ-loop = search in
+    omega (arith, c .shared-slice-known2 .given (at-start .args .i * 64 + at-loop .loop .k))
 
 mul-sum-3 : tie.Need-mul-sum-3 Inv-loop μ-loop
 mul-sum-3 c = let s = small c in omega arith
 
 add-sum-2 : tie.Need-add-sum-2 Inv-loop μ-loop
 add-sum-2 c =
+    let at-loop : tie.At-loop Inv-loop μ-loop = search in
     let t = turn (c .before .before) in
     let s = small c in
-    let sum = c .before .before .before .loop .inv .3 in
+    let sum = at-loop .loop .inv .3 in
     omega arith
 
 add-k-2 : tie.Need-add-k-2 Inv-loop μ-loop
@@ -88,14 +98,21 @@ loop-less c = let t = turn (c .before .before) in omega arith
 
 loop-again : tie.Need-loop-again Inv-loop μ-loop
 loop-again c =
-    let a = c .before .before .before .before .args in
-    let l = c .before .before .before .loop in
+    let at-loop : tie.At-loop Inv-loop μ-loop = search in
+    let at-start : tie.Start Inv-loop μ-loop = search in
+    let a = at-start .args in
+    let l = at-loop .loop in
     let t = turn (c .before .before) in
     let s = small c in
     let b = l .inv .0 in
     let e = l .inv .2 in
-    let sum = l .inv .3 in
-    (omega arith, omega arith, omega arith, omega arith, part-more (a .penalties .now) (a .weights .now) (a .i) (a .from) (l .k) (l .at) (l .sum) b e (l .inv .4))
+    let sum = l .inv .3 in (
+      omega arith,
+      omega arith,
+      omega arith,
+      omega arith,
+      part-more (a .penalties .now) (a .weights .now) (a .i) (a .from) (l .k) (l .at) (l .sum) b e (l .inv .4),
+    )
 
 returns : tie.Need-returns Inv-loop μ-loop
 returns c =

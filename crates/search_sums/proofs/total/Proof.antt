@@ -24,12 +24,16 @@ unfolding rowStart
 loop-holds c = (omega arith, refl, omega arith, refl)
 
 row-part-requires : tie.Need-row-part-requires Inv-loop μ-loop
-row-part-requires c κs = (c .before .before .before .before .pre, (c .loop-test .taken, c .before .loop .inv .1))
+row-part-requires c κs =
+    let at-start : tie.Start Inv-loop μ-loop = search in
+    (at-start .pre, (c .loop-test .taken, c .before .loop .inv .1))
 
 add-sum : tie.Need-add-sum Inv-loop μ-loop
-add-sum c = let a = c .before .before .before .before .before .args in
+add-sum c =
+    let at-start : tie.Start Inv-loop μ-loop = search in
+    let a = at-start .args in
     let l = c .before .before .loop in
-    let few = c .before .before .before .before .before .pre .few in
+    let few = at-start .pre .few in
     let sum = l .inv .2 in
     let part = c .row-part .ensures .1 in
     let start = l .inv .1 in
@@ -39,15 +43,19 @@ add-sum c = let a = c .before .before .before .before .before .args in
     omega arith
 
 add-i : tie.Need-add-i Inv-loop μ-loop
-add-i c = let f = c .before .before .before .before .before .pre .few in omega (arith, c .before .loop-test .taken)
+add-i c =
+    let at-start : tie.Start Inv-loop μ-loop = search in
+    let f = at-start .pre .few in omega (arith, c .before .loop-test .taken)
 
 sub-from : tie.Need-sub-from Inv-loop μ-loop
 sub-from c = omega (arith, c .before .loop-test .taken)
 
 add-from : tie.Need-add-from Inv-loop μ-loop
-add-from c = let a = c .before .before .before .before .before .args in
+add-from c =
+    let at-start : tie.Start Inv-loop μ-loop = search in
+    let a = at-start .args in
     let l = c .before .before .loop in
-    let few = c .before .before .before .before .before .pre .few in
+    let few = at-start .pre .few in
     let sum = l .inv .2 in
     let part = c .row-part .ensures .1 in
     let start = l .inv .1 in
@@ -60,9 +68,11 @@ loop-less : tie.Need-loop-less Inv-loop μ-loop
 loop-less c = omega (arith, c .before .loop-test .taken)
 
 loop-again : tie.Need-loop-again Inv-loop μ-loop
-loop-again c = let a = c .before .before .before .before .before .args in
+loop-again c =
+    let at-start : tie.Start Inv-loop μ-loop = search in
+    let a = at-start .args in
     let l = c .before .before .loop in
-    let few = c .before .before .before .before .before .pre .few in
+    let few = at-start .pre .few in
     let sum = l .inv .2 in
     let part = c .row-part .ensures .1 in
     let start = l .inv .1 in
@@ -77,11 +87,12 @@ loop-again c = let a = c .before .before .before .before .before .args in
 
 returns : tie.Need-returns Inv-loop μ-loop
 returns c = λ j v e t.
-    let a = c .before .before .before .before .args in
+    let at-start : tie.Start Inv-loop μ-loop = search in
+    let a = at-start .args in
     let l = c .before .loop in
     let done : l .i ≡ a .n = omega (arith, l .inv .0, c .loop-test .left) in
     subst (λ k. l .sum ≡ sumBelow k (λ i. rowPart (a .n) (a .penalties .now) (a .weights .now) i (rowStart (a .n) i))) done (l .inv .3)
-    ∙ sym (all-parts j v (a .n) (a .penalties .now) (a .weights .now) e t (c .before .before .before .before .pre .onePerPair))
+    ∙ sym (all-parts j v (a .n) (a .penalties .now) (a .weights .now) e t (at-start .pre .onePerPair))
 
 pub total-spec : {M : Type 1} → statement M
 total-spec =

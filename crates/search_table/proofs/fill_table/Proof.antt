@@ -24,7 +24,9 @@ abbrev μ-loop : tie.MeasureT-loop
 μ-loop rows row-starts columns column-starts table layout penalties₀ i₀ penalties i = length layout - i
 
 loop-holds : tie.Need-loop-holds Inv-loop μ-loop
-loop-holds c = (omega arith, refl, λ size pixels d. table-empty _ _ _ (c .before .before .before .pre .1))
+loop-holds c =
+    let at-start : tie.Start Inv-loop μ-loop = search in
+    (omega arith, refl, λ size pixels d. table-empty _ _ _ (at-start .pre .1))
 
 place-at-requires : tie.Need-place-at-requires Inv-loop μ-loop
 place-at-requires c κs = c .loop-test .taken
@@ -33,27 +35,45 @@ add-renew-row : tie.Need-add-renew-row Inv-loop μ-loop
 add-renew-row c = omega (arith, c .before .loop-test .taken)
 
 renew-row-requires : tie.Need-renew-row-requires Inv-loop μ-loop
-renew-row-requires c κs = let d = c .before .before .before .before .before .before .before .pre .0 .drawn .inRows .laid in
-    (c .before .before .before .before .before .before .before .pre .0, ((omega arith, omega (arith, c .before .before .loop-test .taken)), (rw (c .before .place-at .ensures) (on-sheet _ _ d _ (c .before .before .loop-test .taken)), c .before .before .before .loop .inv .1 ∙ c .before .before .before .before .before .before .before .pre .1)))
+renew-row-requires c κs =
+    let at-loop : tie.At-loop Inv-loop μ-loop = search in
+    let at-start : tie.Start Inv-loop μ-loop = search in
+    let d = at-start .pre .0 .drawn .inRows .laid in (
+      at-start .pre .0,
+      (
+        (omega arith, omega (arith, c .before .before .loop-test .taken)),
+        (rw (c .before .place-at .ensures) (on-sheet _ _ d _ (c .before .before .loop-test .taken)), at-loop .loop .inv .1 ∙ at-start .pre .1),
+      ),
+    )
 
 add-i : tie.Need-add-i Inv-loop μ-loop
-add-i c = omega (arith, c .before .before .before .before .before .loop-test .taken)
+add-i c =
+    let in-loop : tie.In-loop Inv-loop μ-loop = search in
+    omega (arith, in-loop .loop-test .taken)
 
 loop-less : tie.Need-loop-less Inv-loop μ-loop
-loop-less c = omega (arith, c .before .before .before .before .before .loop-test .taken)
+loop-less c =
+    let in-loop : tie.In-loop Inv-loop μ-loop = search in
+    omega (arith, in-loop .loop-test .taken)
 
 loop-again : tie.Need-loop-again Inv-loop μ-loop
-loop-again c = let a = c .before .before .before .before .before .before .before .before .before .before .args in
-    let l = c .before .before .before .before .before .before .loop in (
-      omega (arith, c .before .before .before .before .before .loop-test .taken),
+loop-again c =
+    let at-place-at : tie.After-place-at Inv-loop μ-loop = search in
+    let in-loop : tie.In-loop Inv-loop μ-loop = search in
+    let at-loop : tie.At-loop Inv-loop μ-loop = search in
+    let at-start : tie.Start Inv-loop μ-loop = search in
+    let a = at-start .args in
+    let l = at-loop .loop in (
+      omega (arith, in-loop .loop-test .taken),
       c .before .before .renew-row .kept .1 .1 .1 .1 .1 .1 .1 .1 .1 .0 ∙ l .inv .1,
       λ size pixels d.
           let j = jobOf (lentBy size (a .table .now) pixels) in
           let v = layoutOf (a .layout .now) in
           let T = c .before .before .renew-row .last .1 .1 .1 .1 .1 .1 .1 .1 .1 .0 in
           added-end j v (l .i) T
-          (subst (λ p. Renewed j v (l .i + 1) (l .i) p (l .i + 1) T) (c .before .before .before .before .place-at .ensures)
-          (c .before .before .renew-row .ensures size pixels d (added-begin j v (l .i) (c .before .before .before .before .place-at .result) (l .penalties) (l .inv .2 size pixels d)))),
+          (subst (λ p. Renewed j v (l .i + 1) (l .i) p (l .i + 1) T) (at-place-at .place-at .ensures)
+          (c .before .before .renew-row .ensures size pixels d
+          (added-begin j v (l .i) (at-place-at .place-at .result) (l .penalties) (l .inv .2 size pixels d)))),
     )
 
 same-length : tie.Need-same-length Inv-loop μ-loop
@@ -61,7 +81,8 @@ same-length c = c .before .loop .inv .1
 
 returns : tie.Need-returns Inv-loop μ-loop
 returns c = λ size pixels d.
-    let a = c .before .before .before .before .before .args in
+    let at-start : tie.Start Inv-loop μ-loop = search in
+    let a = at-start .args in
     let l = c .before .loop in
     let done : l .i ≡ length (a .layout .now) = omega (arith, l .inv .0, c .loop-test .left) in
     subst (λ n. PenaltyTable (jobOf (lentBy size (a .table .now) pixels)) (layoutOf (a .layout .now)) n (l .penalties)) done (l .inv .2 size pixels d)

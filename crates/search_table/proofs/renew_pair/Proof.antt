@@ -20,7 +20,8 @@ record There (c : tie.After-placed-penalty) : Type 0 where
 
 there : (c : tie.After-placed-penalty) → There c
 there c =
-    let p = c .before .before .before .before .before .pre in
+    let at-start : tie.Start = search in
+    let p = at-start .pre in
     let few = few-placed _ _ (p .0 .drawn .inRows .laid) in
     let i = p .1 .0 .0 in
     let k = p .1 .0 .1 in
@@ -28,18 +29,13 @@ there c =
 
 returns : tie.Need-returns
 returns c = λ size pixels n d i k l r.
-    let a = c .before .before .before .before .args in
+    let at-start : tie.Start = search in
+    let a = at-start .args in
     let e : a .i ≡ a .k = c .if1 .taken in
     let j = jobOf (lentBy size (a .table .now) pixels) in
     let v = layoutOf (a .layout .now) in
     subst (λ k. Renewed j v n (a .i) (a .place) k (a .penalties .now) → Renewed j v n (a .i) (a .place) (k + 1) (a .penalties .now)) e
     (renewed-self j v n (a .i) (a .place) (a .penalties .now)) r
-
-placed-penalty-requires : tie.Need-placed-penalty-requires
-placed-penalty-requires c κs = search needs
-
-cast-p : tie.Need-cast-p
-cast-p c = search needs
 
 mul-penalties : tie.Need-mul-penalties
 mul-penalties c = let t = there c in omega arith
@@ -59,28 +55,17 @@ add-penalties-2 c = let t = there c in omega arith
 slice-write-penalties-2 : tie.Need-slice-write-penalties-2
 slice-write-penalties-2 c = let t = there c in simp length-set (omega arith)
 
-same-length : tie.Need-same-length
-same-length c = search needs
-
 returns-2 : tie.Need-returns-2
 returns-2 c = λ size pixels n d i k l r.
-    let a = c .before .before .before .before .before .args in
+    let at-start : tie.Start = search in
+    let a = at-start .args in
     let few = few-placed _ _ (d .inRows .laid) in
-    renewed-step (jobOf (lentBy size (a .table .now) pixels)) (layoutOf (a .layout .now)) n (a .i) (a .place) (a .k) _ (a .penalties .now) (omega arith) i k (c .before .if1 .left)
+    renewed-step (jobOf (lentBy size (a .table .now) pixels)) (layoutOf (a .layout .now)) n (a .i) (a .place) (a .k) _ (a .penalties .now) (omega arith) i k
+    (c .before .if1 .left)
     (c .placed-penalty .ensures .0 size pixels d) r
 
 pub renew-pair-spec : {M : Type 1} → statement M
 renew-pair-spec =
-    tie.close
-    (tie.spec
-    returns
-    placed-penalty-requires
-    cast-p
-    mul-penalties
-    add-penalties
-    slice-write-penalties
-    mul-penalties-2
-    add-penalties-2
-    slice-write-penalties-2
-    same-length
-    returns-2)
+    tie.close (tie.spec
+    returns (λ c κs. search needs) (search needs) mul-penalties add-penalties slice-write-penalties mul-penalties-2 add-penalties-2
+    slice-write-penalties-2 (search needs) returns-2)

@@ -27,22 +27,34 @@ loop-holds : tie.Need-loop-holds Inv-loop μ-loop
 loop-holds c = (omega arith, refl, λ size pixels d r. r)
 
 renew-pair-requires : tie.Need-renew-pair-requires Inv-loop μ-loop
-renew-pair-requires c κs = let b = c .before .before .before .before .before .before .pre .1 .0 in
+renew-pair-requires c κs =
+    let at-start : tie.Start Inv-loop μ-loop = search in
+    let b = at-start .pre .1 .0 in
     let t = c .before .loop-test .taken in
-    (c .before .before .before .before .before .before .pre .0, ((omega arith, omega arith), (c .before .before .before .before .before .before .pre .1 .1 .0, c .before .before .loop .inv .1 ∙ c .before .before .before .before .before .before .pre .1 .1 .1)))
+    (at-start .pre .0, ((omega arith, omega arith), (at-start .pre .1 .1 .0, c .before .before .loop .inv .1 ∙ at-start .pre .1 .1 .1)))
 
 add-k : tie.Need-add-k Inv-loop μ-loop
-add-k c = omega (arith, c .before .before .before .before .loop-test .taken, c .before .before .before .before .before .before .before .before .before .fits .count)
+add-k c =
+    let in-loop : tie.In-loop Inv-loop μ-loop = search in
+    let at-start : tie.Start Inv-loop μ-loop = search in
+    omega (arith, in-loop .loop-test .taken, at-start .fits .count)
 
 loop-less : tie.Need-loop-less Inv-loop μ-loop
-loop-less c = omega (arith, c .before .before .before .before .loop-test .taken)
+loop-less c =
+    let in-loop : tie.In-loop Inv-loop μ-loop = search in
+    omega (arith, in-loop .loop-test .taken)
 
 loop-again : tie.Need-loop-again Inv-loop μ-loop
-loop-again c = let b = c .before .before .before .before .before .before .before .before .before .pre .1 .0 in
-    let t = c .before .before .before .before .loop-test .taken in (
+loop-again c =
+    let in-loop : tie.In-loop Inv-loop μ-loop = search in
+    let at-loop : tie.At-loop Inv-loop μ-loop = search in
+    let at-start : tie.Start Inv-loop μ-loop = search in
+    let b = at-start .pre .1 .0 in
+    let t = in-loop .loop-test .taken in (
       omega arith,
-      c .before .before .renew-pair .kept .1 .1 .1 .1 .1 .1 .1 .1 .1 .0 ∙ c .before .before .before .before .before .loop .inv .1,
-      λ size pixels d r. c .before .before .renew-pair .ensures size pixels (c .before .before .before .before .before .before .before .before .before .args .count) d (b .0) (omega arith) (b .1) (c .before .before .before .before .before .loop .inv .2 size pixels d r),
+      c .before .before .renew-pair .kept .1 .1 .1 .1 .1 .1 .1 .1 .1 .0 ∙ at-loop .loop .inv .1,
+      λ size pixels d r.
+          c .before .before .renew-pair .ensures size pixels (at-start .args .count) d (b .0) (omega arith) (b .1) (at-loop .loop .inv .2 size pixels d r),
     )
 
 same-length : tie.Need-same-length Inv-loop μ-loop
@@ -50,8 +62,11 @@ same-length c = c .before .loop .inv .1
 
 returns : tie.Need-returns Inv-loop μ-loop
 returns c = λ size pixels d r.
-    let done : c .before .loop .k ≡ c .before .before .before .before .before .args .count = omega (arith, c .before .loop .inv .0, c .loop-test .left) in
-    subst (λ k. Renewed (jobOf (lentBy size (c .before .before .before .before .before .args .table .now) pixels)) (layoutOf (c .before .before .before .before .before .args .layout .now)) (c .before .before .before .before .before .args .count) (c .before .before .before .before .before .args .i) (c .before .before .before .before .before .args .place) k (c .before .loop .penalties)) done (c .before .loop .inv .2 size pixels d r)
+    let at-start : tie.Start Inv-loop μ-loop = search in
+    let done : c .before .loop .k ≡ at-start .args .count = omega (arith, c .before .loop .inv .0, c .loop-test .left) in
+    subst (λ k.
+    Renewed (jobOf (lentBy size (at-start .args .table .now) pixels)) (layoutOf (at-start .args .layout .now)) (at-start .args .count) (at-start .args .i)
+    (at-start .args .place) k (c .before .loop .penalties)) done (c .before .loop .inv .2 size pixels d r)
 
 pub renew-row-spec : {M : Type 1} → statement M
 renew-row-spec =

@@ -6,30 +6,14 @@ use borrow.Author.Needs.{needs}
 use Rattle.search_tracks.proofs.standing_of.Statement.{statement}
 use Rattle.search_tracks.proofs.standing_of.Tie as tie
 
-place-at-requires : tie.Need-place-at-requires
-place-at-requires c κs = search needs
-
-turned-sides-requires : tie.Need-turned-sides-requires
-turned-sides-requires c κs = search needs
-
-cast-x : tie.Need-cast-x
-cast-x c = search needs
-
-cast-y : tie.Need-cast-y
-cast-y c = search needs
-
-enum-told : tie.Need-enum-told
-enum-told c = search needs
-
-enum-told-2 : tie.Need-enum-told-2
-enum-told-2 c = search needs
-
 returns : tie.Need-returns
 returns c =
     let a = c .before .before .before .before .before .before .args in
     let p = c .before .before .before .before .before .place-at in
     let s = c .before .before .before .before .turned-sides in (
-      λ size pixels. standing-row (jobOf (lentBy size (a .table .now) pixels)) (layoutOf (a .layout .now)) (a .k) (p .result) (s .result) (p .ensures) (s .ensures .0 size pixels) (a .direction) (c .enum-told .given .1),
+      λ size pixels.
+          standing-row (jobOf (lentBy size (a .table .now) pixels)) (layoutOf (a .layout .now)) (a .k) (p .result) (s .result) (p .ensures)
+          (s .ensures .0 size pixels) (a .direction) (c .enum-told .given .1),
       record { along = search needs; across = search needs; length = s .ensures .1 .0; width = s .ensures .1 .1 },
     )
 
@@ -38,19 +22,12 @@ returns-2 c =
     let a = c .before .before .before .before .before .before .args in
     let p = c .before .before .before .before .before .place-at in
     let s = c .before .before .before .before .turned-sides in (
-      λ size pixels. standing-column (jobOf (lentBy size (a .table .now) pixels)) (layoutOf (a .layout .now)) (a .k) (p .result) (s .result) (p .ensures) (s .ensures .0 size pixels) (a .direction) (c .enum-told2 .given .1),
+      λ size pixels.
+          standing-column (jobOf (lentBy size (a .table .now) pixels)) (layoutOf (a .layout .now)) (a .k) (p .result) (s .result) (p .ensures)
+          (s .ensures .0 size pixels) (a .direction) (c .enum-told2 .given .1),
       record { along = search needs; across = search needs; length = s .ensures .1 .1; width = s .ensures .1 .0 },
     )
 
 pub standing-of-spec : {M : Type 1} → statement M
 standing-of-spec =
-    tie.close
-    (tie.spec
-    place-at-requires
-    turned-sides-requires
-    cast-x
-    cast-y
-    enum-told
-    enum-told-2
-    returns
-    returns-2)
+    tie.close (tie.spec (search needs) (search needs) (search needs) (search needs) (search needs) (search needs) returns returns-2)

@@ -8,19 +8,14 @@ use Rattle.job_laws.proofs.Checked.{facts}
 use Rattle.sheet_check.proofs.counts_well.Statement.{statement}
 use Rattle.sheet_check.proofs.counts_well.Tie as tie
 
-slice-aggregate-counts-match : tie.Need-slice-aggregate-counts-match
-slice-aggregate-counts-match c = search needs
-
 counts-match-requires : tie.Need-counts-match-requires
 counts-match-requires c κs =
-    let pre = c .before .before .before .pre in
+    let at-start : tie.Start = search in
+    let pre = at-start .pre in
     let area = facts _ (pre .well) .area in
     let full = pre .full in
-    let room : length (c .before .before .before .args .counts .now) ≤ 65536 = omega arith in
+    let room : length (at-start .args .counts .now) ≤ 65536 = omega arith in
     (pre, room)
 
-returns : tie.Need-returns
-returns c = search needs
-
 pub counts-well-spec : {M : Type 1} → statement M
-counts-well-spec = tie.close (tie.spec slice-aggregate-counts-match counts-match-requires returns)
+counts-well-spec = tie.close (tie.spec (search needs) counts-match-requires (λ c. search needs))

@@ -26,33 +26,29 @@ abbrev μ-loop : tie.MeasureT-loop
 loop-holds : tie.Need-loop-holds Inv-loop μ-loop
 loop-holds c = (omega arith, λ pixels k l. absurd (omega arith))
 
-entry-well-requires : tie.Need-entry-well-requires Inv-loop μ-loop
-entry-well-requires c κs = search needs
-
 returns : tie.Need-returns Inv-loop μ-loop
 returns c = λ pixels.
-    let a = c .before .before .before .before .args in
+    let at-loop : tie.At-loop Inv-loop μ-loop = search in
+    let at-start : tie.Start Inv-loop μ-loop = search in
+    let a = at-start .args in
     let here = c .before .entry-well .ensures pixels in
-    sym (fails _ (λ t. clash (all-at 64 (entryWell (jobOf (lentBy (a .size) (a .table .now) pixels)) (a .sheet .pieces)) t (c .before .before .before .loop .i) (c .before .before .loop-test .taken)) (sym here ∙ not-true _ (c .if1 .taken))))
-
-add-i : tie.Need-add-i Inv-loop μ-loop
-add-i c = omega arith
-
-loop-less : tie.Need-loop-less Inv-loop μ-loop
-loop-less c = omega arith
+    sym (fails _
+    (λ t. clash
+    (all-at 64 (entryWell (jobOf (lentBy (a .size) (a .table .now) pixels)) (a .sheet .pieces)) t (at-loop .loop .i) (c .before .before .loop-test .taken))
+    (sym here ∙ not-true _ (c .if1 .taken))))
 
 loop-again : tie.Need-loop-again Inv-loop μ-loop
-loop-again c = (
-  omega arith,
-  λ pixels.
-      below-more _ (c .before .before .before .loop .i) (c .before .before .before .loop .inv .1 pixels)
-      (sym (c .before .entry-well .ensures pixels) ∙ not-false (c .before .entry-well .result) (c .if1 .left)),
-)
+loop-again c =
+    let at-loop : tie.At-loop Inv-loop μ-loop = search in (
+      omega arith,
+      λ pixels.
+          below-more _ (at-loop .loop .i) (at-loop .loop .inv .1 pixels)
+          (sym (c .before .entry-well .ensures pixels) ∙ not-false (c .before .entry-well .result) (c .if1 .left)),
+    )
 
 returns-2 : tie.Need-returns-2 Inv-loop μ-loop
 returns-2 c = λ pixels. sym (all-from 64 _ (λ k l. c .before .loop .inv .1 pixels k (let out = c .loop-test .left in omega arith)))
 
 pub entries-well-spec : {M : Type 1} → statement M
 entries-well-spec =
-    tie.close
-    (tie.spec Inv-loop μ-loop loop-holds entry-well-requires returns add-i loop-less loop-again returns-2)
+    tie.close (tie.spec Inv-loop μ-loop loop-holds (search needs) returns (search needs) (search needs) loop-again returns-2)

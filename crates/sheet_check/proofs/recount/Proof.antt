@@ -7,6 +7,7 @@ use lib.ListN.{length, replicate, length-replicate}
 use Rattle.model.specs.Lent.{lentBy, jobOf}
 use Rattle.job_laws.proofs.Checked.{facts}
 use Rattle.sheet_check.proofs.recount.Tie as tie
+use borrow.Author.Needs.{needs}
 use Rattle.sheet_check.proofs.recount.Statement.{statement}
 use Rattle.sheet_check.proofs.Recounts.{CountedBelow, none-counted, added-below, all-counted, length-added}
 use Rattle.sheet_check.specs.Counted.{addedEntry}
@@ -24,52 +25,60 @@ clear-requires c κs = tt
 
 loop-holds : tie.Need-loop-holds Inv-loop μ-loop
 loop-holds c =
-    let a = c .before .before .before .before .before .before .args in
+    let at-start : tie.Start Inv-loop μ-loop = search in
+    let a = at-start .args in
     let zeros : c .before .before .clear .last .0 ≡ replicate (length (a .made .now)) 0 = c .before .before .clear .ensures in (
       omega arith,
-      ap length zeros ∙ length-replicate _ 0 ∙ c .before .before .before .before .before .before .pre .full,
+      ap length zeros ∙ length-replicate _ 0 ∙ at-start .pre .full,
       rw zeros (none-counted (jobOf (lentBy (a .size) (a .table .now) (a .pixels .now))) (a .sheet .pieces) (length (a .made .now))),
     )
 
 add-entry-requires : tie.Need-add-entry-requires Inv-loop μ-loop
 add-entry-requires c κs =
-    let pre = c .before .before .before .before .before .before .before .before .before .pre in
+    let at-start : tie.Start Inv-loop μ-loop = search in
+    let pre = at-start .pre in
     (record { well = pre .well; entries = pre .entries; full = c .before .before .loop .inv .1 }, c .before .loop-test .taken)
 
 add-piece : tie.Need-add-piece Inv-loop μ-loop
 add-piece c =
-    let few = facts _ (c .before .before .before .before .before .before .before .before .before .before .before .before .pre .well) .fewPieces in
-    let l = c .before .before .before .before .loop-test .taken in
+    let in-loop : tie.In-loop Inv-loop μ-loop = search in
+    let at-start : tie.Start Inv-loop μ-loop = search in
+    let few = facts _ (at-start .pre .well) .fewPieces in
+    let l = in-loop .loop-test .taken in
     omega arith
-
-loop-less : tie.Need-loop-less Inv-loop μ-loop
-loop-less c = omega arith
 
 loop-again : tie.Need-loop-again Inv-loop μ-loop
 loop-again c =
-    let a = c .before .before .before .before .before .before .before .before .before .before .before .before .args in
+    let in-loop : tie.In-loop Inv-loop μ-loop = search in
+    let at-loop : tie.At-loop Inv-loop μ-loop = search in
+    let at-start : tie.Start Inv-loop μ-loop = search in
+    let a = at-start .args in
     let j = jobOf (lentBy (a .size) (a .table .now) (a .pixels .now)) in
-    let now = c .before .before .before .before .before .loop in
-    let few = facts _ (c .before .before .before .before .before .before .before .before .before .before .before .before .pre .well) .fewPieces in
-    let l = c .before .before .before .before .loop-test .taken in
-    let after : c .before .before .add-entry .last .1 .1 .1 .1 .1 .0 ≡ addedEntry j (a .sheet .pieces) (now .piece) (now .made) = c .before .before .add-entry .ensures in (
+    let now = at-loop .loop in
+    let few = facts _ (at-start .pre .well) .fewPieces in
+    let l = in-loop .loop-test .taken in
+    let after : c .before .before .add-entry .last .1 .1 .1 .1 .1 .0 ≡ addedEntry j (a .sheet .pieces) (now .piece) (now .made) =
+    c .before .before .add-entry .ensures in (
       omega arith,
       ap length after ∙ length-added j (a .sheet .pieces) (now .piece) (now .made) ∙ now .inv .1,
       rw after (added-below j (a .sheet .pieces) (now .piece) (now .made) (omega arith) (now .inv .2)),
     )
 
 same-length : tie.Need-same-length Inv-loop μ-loop
-same-length c = c .before .loop .inv .1 ∙ sym (c .before .before .before .before .before .before .before .before .pre .full)
+same-length c =
+    let at-start : tie.Start Inv-loop μ-loop = search in
+    c .before .loop .inv .1 ∙ sym (at-start .pre .full)
 
 returns : tie.Need-returns Inv-loop μ-loop
 unfolding jobOf
 returns c =
-    let a = c .before .before .before .before .before .before .before .before .args in
+    let at-start : tie.Start Inv-loop μ-loop = search in
+    let a = at-start .args in
     let now = c .before .loop in
     let all : now .piece ≡ a .size .count = let out = c .loop-test .left in let most = now .inv .0 in omega arith in
     all-counted (jobOf (lentBy (a .size) (a .table .now) (a .pixels .now))) (a .sheet .pieces) (now .made) (now .inv .1) (rw all at (now .inv .2))
 
 pub recount-spec : {M : Type 1} → statement M
 recount-spec =
-    tie.close
-    (tie.spec Inv-loop μ-loop clear-requires loop-holds add-entry-requires add-piece loop-less loop-again same-length returns)
+    tie.close (tie.spec
+    Inv-loop μ-loop clear-requires loop-holds add-entry-requires add-piece (search needs) loop-again same-length returns)

@@ -34,15 +34,17 @@ entries-well-requires c κs = facts _ (c .before .before .pre .0) .entries
 
 returns : tie.Need-returns
 returns c =
-    let a = c .before .before .before .before .args in
+    let at-start : tie.Start = search in
+    let a = at-start .args in
     let entries : allBelow pieceBound (entryWell (jobOf (lentBy (a .size) (a .table .now) (a .pixels .now))) (a .sheet .pieces)) ≡ false =
     sym (c .before .entries-well .ensures (a .pixels .now)) ∙ not-true (c .before .entries-well .result) (c .if1 .taken) in
-    sym (well-tests (c .before .before .before .before) ∙ rw entries)
+    sym (well-tests (at-start) ∙ rw entries)
 
 counts-well-requires : tie.Need-counts-well-requires
 counts-well-requires c κs =
-    let a = c .before .before .before .before .args in
-    let pre = c .before .before .before .before .pre in
+    let at-start : tie.Start = search in
+    let a = at-start .args in
+    let pre = at-start .pre in
     record {
       well = pre .0;
       entries = sym (c .before .entries-well .ensures (a .pixels .now)) ∙ not-false (c .before .entries-well .result) (c .if1 .left);
@@ -51,10 +53,11 @@ counts-well-requires c κs =
 
 returns-2 : tie.Need-returns-2
 returns-2 c =
-    let a = c .before .before .before .before .before .args in
+    let at-start : tie.Start = search in
+    let a = at-start .args in
     let entries : allBelow pieceBound (entryWell (jobOf (lentBy (a .size) (a .table .now) (a .pixels .now))) (a .sheet .pieces)) ≡ true =
     sym (c .before .before .entries-well .ensures (a .pixels .now)) ∙ not-false (c .before .before .entries-well .result) (c .before .if1 .left) in
-    c .counts-well .ensures ∙ sym (well-tests (c .before .before .before .before .before) ∙ rw entries)
+    c .counts-well .ensures ∙ sym (well-tests (at-start) ∙ rw entries)
 
 pub sheet-well-spec : {M : Type 1} → statement M
 sheet-well-spec = tie.close (tie.spec entries-well-requires returns counts-well-requires returns-2)

@@ -7,6 +7,7 @@ use native.Mathlib.Omega.{arith}
 use lib.ListN.{length, replicate, drop, length-set}
 use lib.Seq.{drop-length}
 use borrow.Author.Fill.{fill-none, fill-more}
+use borrow.Author.Needs.{needs}
 use Rattle.sheet_counts.proofs.clear.Statement.{statement}
 use Rattle.sheet_counts.proofs.clear.Tie as tie
 
@@ -21,9 +22,6 @@ loop-holds c = (omega arith, refl, fill-none _ 0)
 
 slice-write-counts : tie.Need-slice-write-counts Inv-loop μ-loop
 slice-write-counts c = c .loop-test .taken
-
-add-k : tie.Need-add-k Inv-loop μ-loop
-add-k c = omega arith
 
 loop-less : tie.Need-loop-less Inv-loop μ-loop
 loop-less c = let l = c .loop-test .taken in omega arith
@@ -44,6 +42,4 @@ returns c =
     c .before .loop .inv .2 ∙ rw (all, drop-length, append-nil)
 
 pub clear-spec : {M : Type 1} → statement M
-clear-spec =
-    tie.close
-    (tie.spec Inv-loop μ-loop loop-holds slice-write-counts add-k loop-less loop-again same-length returns)
+clear-spec = tie.close (tie.spec Inv-loop μ-loop loop-holds slice-write-counts (search needs) loop-less loop-again same-length returns)

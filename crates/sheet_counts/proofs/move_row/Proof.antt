@@ -5,6 +5,7 @@ use Prim.Native.Nat.{_≤_, _-_}
 use native.Mathlib.Omega.{arith}
 use native.Mathlib.Nat.{sub-zero}
 use lib.ListN.{length, length-set}
+use borrow.Author.Needs.{needs}
 use Rattle.sheet_counts.proofs.move_row.Statement.{statement}
 use Rattle.sheet_counts.proofs.move_row.Tie as tie
 use Rattle.sheet_counts.specs.Stamp.{movedRun, onAt}
@@ -23,36 +24,27 @@ loop-holds c = (omega arith, refl, rw sub-zero)
 
 stored-pixel-requires : tie.Need-stored-pixel-requires Inv-loop μ-loop
 stored-pixel-requires c κs =
-    let pre = c .before .before .before .before .pre in
+    let at-start : tie.Start Inv-loop μ-loop = search in
+    let pre = at-start .pre in
     (pre .0, pre .1 _ (c .loop-test .taken))
-
-add-at : tie.Need-add-at Inv-loop μ-loop
-add-at c = omega arith
-
-slice-read-moved-count : tie.Need-slice-read-moved-count Inv-loop μ-loop
-slice-read-moved-count c = omega arith
 
 moved-count-requires : tie.Need-moved-count-requires Inv-loop μ-loop
 moved-count-requires c κs = tt
 
-slice-write-counts : tie.Need-slice-write-counts Inv-loop μ-loop
-slice-write-counts c = omega arith
-
-add-x : tie.Need-add-x Inv-loop μ-loop
-add-x c = omega arith
-
-loop-less : tie.Need-loop-less Inv-loop μ-loop
-loop-less c = omega arith
-
 loop-again : tie.Need-loop-again Inv-loop μ-loop
 loop-again c =
-    let a = c .before .before .before .before .before .before .before .args in
-    let now = c .before .before .before .before .loop in
+    let in-loop : tie.In-loop Inv-loop μ-loop = search in
+    let at-loop : tie.At-loop Inv-loop μ-loop = search in
+    let at-start : tie.Start Inv-loop μ-loop = search in
+    let a = at-start .args in
+    let now = at-loop .loop in
     let on = c .before .before .stored-pixel .ensures in
     let count = c .moved-count .ensures in (
       omega arith,
       simp length-set (now .inv .1),
-      rw (count, on) (sym (run-step (a .up) (onAt (a .pixels .now) (a .piece) (a .y)) (a .from) (now .counts) (now .x) (a .width) (c .before .before .before .loop-test .taken)) ∙ now .inv .2),
+      rw (count, on)
+          (sym (run-step (a .up) (onAt (a .pixels .now) (a .piece) (a .y)) (a .from) (now .counts) (now .x) (a .width) (in-loop .loop-test .taken))
+          ∙ now .inv .2),
     )
 
 same-length : tie.Need-same-length Inv-loop μ-loop
@@ -60,12 +52,13 @@ same-length c = c .before .loop .inv .1
 
 returns : tie.Need-returns Inv-loop μ-loop
 returns c =
-    let a = c .before .before .before .before .args in
+    let at-start : tie.Start Inv-loop μ-loop = search in
+    let a = at-start .args in
     let now = c .before .loop in
     sym (run-end (a .up) (onAt (a .pixels .now) (a .piece) (a .y)) (a .from) (now .counts) (now .x) (a .width) (c .loop-test .left)) ∙ now .inv .2
 
 pub move-row-spec : {M : Type 1} → statement M
 move-row-spec =
-    tie.close
-    (tie.spec Inv-loop μ-loop loop-holds stored-pixel-requires add-at slice-read-moved-count moved-count-requires slice-write-counts add-x loop-less
-    loop-again same-length returns)
+    tie.close (tie.spec
+    Inv-loop μ-loop loop-holds stored-pixel-requires (search needs) (search needs) moved-count-requires (search needs) (search needs)
+    (search needs) loop-again same-length returns)

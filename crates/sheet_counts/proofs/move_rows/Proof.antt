@@ -6,6 +6,7 @@ use native.Mathlib.Nat.{sub-zero, zero-mul, suc-mul}
 use native.Mathlib.Numerals.{add-one}
 use native.Mathlib.Omega.{arith}
 use lib.ListN.{length}
+use borrow.Author.Needs.{needs}
 use Rattle.sheet_counts.proofs.move_rows.Statement.{statement}
 use Rattle.sheet_counts.proofs.move_rows.Tie as tie
 use Rattle.sheet_counts.specs.Stamp.{movedRun, movedRows, onAt}
@@ -26,7 +27,8 @@ loop-holds c = (omega arith, refl, (let none = zero-mul (c .before .before .args
 
 move-row-requires : tie.Need-move-row-requires Inv-loop μ-loop
 move-row-requires c κs =
-    let pre = c .before .before .before .before .before .pre in
+    let at-start : tie.Start Inv-loop μ-loop = search in
+    let pre = at-start .pre in
     let now = c .before .before .loop in
     let row = pre .1 .rows (now .y) (c .before .loop-test .taken) in
     let from = now .inv .2 in
@@ -35,29 +37,32 @@ move-row-requires c κs =
 
 add-from : tie.Need-add-from Inv-loop μ-loop
 add-from c =
-    let pre = c .before .before .before .before .before .before .before .before .pre in
+    let at-start : tie.Start Inv-loop μ-loop = search in
+    let pre = at-start .pre in
     let now = c .before .before .before .before .before .loop in
     let row = pre .1 .rows (now .y) (c .before .before .before .before .loop-test .taken) in
     let from = now .inv .2 in
     let small = pre .1 .sheets in
-    let good = c .before .before .before .before .before .before .before .before .good in
+    let good = at-start .good in
     omega arith
 
 add-y : tie.Need-add-y Inv-loop μ-loop
 add-y c =
-    let small = c .before .before .before .before .before .before .before .before .pre .1 .tall in
-    let inside = c .before .before .before .before .loop-test .taken in
+    let in-loop : tie.In-loop Inv-loop μ-loop = search in
+    let at-start : tie.Start Inv-loop μ-loop = search in
+    let small = at-start .pre .1 .tall in
+    let inside = in-loop .loop-test .taken in
     omega arith
-
-loop-less : tie.Need-loop-less Inv-loop μ-loop
-loop-less c = omega arith
 
 loop-again : tie.Need-loop-again Inv-loop μ-loop
 loop-again c =
-    let a = c .before .before .before .before .before .before .before .before .args in
-    let now = c .before .before .before .before .before .loop in
+    let in-loop : tie.In-loop Inv-loop μ-loop = search in
+    let at-loop : tie.At-loop Inv-loop μ-loop = search in
+    let at-start : tie.Start Inv-loop μ-loop = search in
+    let a = at-start .args in
+    let now = at-loop .loop in
     let f = onAt (a .pixels .now) (a .piece) in
-    let inside = c .before .before .before .before .loop-test .taken in
+    let inside = in-loop .loop-test .taken in
     let after : c .before .before .move-row .last .1 .1 .1 .1 .1 .1 .0 ≡ movedRun (a .up) (f (now .y)) (now .from) (now .counts) 0 (a .width) =
     c .before .before .move-row .ensures in
     let from = now .inv .2 in
@@ -73,11 +78,12 @@ same-length c = c .before .loop .inv .1
 
 returns : tie.Need-returns Inv-loop μ-loop
 returns c =
-    let a = c .before .before .before .before .args in
+    let at-start : tie.Start Inv-loop μ-loop = search in
+    let a = at-start .args in
     let now = c .before .loop in
     sym (rows-end (a .up) (onAt (a .pixels .now) (a .piece)) (a .sheet) (a .width) (now .counts) (now .from) (now .y) (a .height) (c .loop-test .left))
     ∙ now .inv .3
 
 pub move-rows-spec : {M : Type 1} → statement M
 move-rows-spec =
-    tie.close (tie.spec Inv-loop μ-loop loop-holds move-row-requires add-from add-y loop-less loop-again same-length returns)
+    tie.close (tie.spec Inv-loop μ-loop loop-holds move-row-requires add-from add-y (search needs) loop-again same-length returns)

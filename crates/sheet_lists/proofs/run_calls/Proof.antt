@@ -18,56 +18,49 @@ use Rattle.sheet_calls.specs.Answers.{blankRecord, recordOf, givenAnswer}
 use Rattle.sheet_refusals.specs.Causes.{sheetOf}
 use Rattle.sheet_lists.proofs.run_calls.Tie as tie
 
-fresh-requires : tie.Need-fresh-requires
-fresh-requires c κs = search needs
-
-enum-told : tie.Need-enum-told
-enum-told c = search needs
-
-same-length : tie.Need-same-length
-same-length c = search needs
-
 returns : tie.Need-returns
 returns c =
-    let a = c .before .before .before .before .before .before .before .before .args in
+    let at-fresh : tie.After-fresh = search in
+    let at-start : tie.Start = search in
+    let a = at-start .args in
     let l = lentBy (a .size) (a .table .now) (a .pixels .now) in
-    let start = c .before .before .before .before .fresh in
+    let start = at-fresh .fresh in
     let no = c .enum-told .given .1 in
     let run = refused-run l (a .calls .now) (a .counts .now) _ (start .result) (start .ensures .0) (start .ensures .1) _ no in
     (run .0, (run .1, λ so. let z : _≡_ {A = ℕ} 0 1 = cc in absurd (omega arith)))
 
-enum-told-2 : tie.Need-enum-told-2
-enum-told-2 c = search needs
-
 run-from-requires : tie.Need-run-from-requires
 run-from-requires c κs =
-    let a = c .before .before .before .before .before .before .before .before .before .before .args in
+    let at-fresh : tie.After-fresh = search in
+    let at-start : tie.Start = search in
+    let a = at-start .args in
     let l = lentBy (a .size) (a .table .now) (a .pixels .now) in
-    let start = c .before .before .before .before .before .before .fresh in
-    let run = given-run l (a .calls .now) (a .counts .now) _ (start .result) (start .ensures .0) (start .ensures .1) (c .before .before .enum-told2 .given .1) in
+    let start = at-fresh .fresh in
+    let run =
+    given-run l (a .calls .now) (a .counts .now) _ (start .result) (start .ensures .0) (start .ensures .1) (c .before .before .enum-told2 .given .1) in
     subst (λ (t : Sheet). SheetReady l t) (sym (run .1)) (fresh-ready l (run .0 .well))
-
-same-length-2 : tie.Need-same-length-2
-same-length-2 c = search needs
 
 returns-2 : tie.Need-returns-2
 unfolding jobOf
 returns-2 c =
-    let a = c .before .before .before .before .before .before .before .before .before .before .before .before .before .args in
+    let at-enum-told2 : tie.After-enum-told2 = search in
+    let at-fresh : tie.After-fresh = search in
+    let at-start : tie.Start = search in
+    let a = at-start .args in
     let l = lentBy (a .size) (a .table .now) (a .pixels .now) in
-    let start = c .before .before .before .before .before .before .before .before .before .fresh in
+    let start = at-fresh .fresh in
     let calls = callsOf (a .calls .now) in
-    let run = given-run l (a .calls .now) (a .counts .now) _ (start .result) (start .ensures .0) (start .ensures .1) (c .before .before .before .before .before .enum-told2 .given .1) in
+    let run = given-run l (a .calls .now) (a .counts .now) _ (start .result) (start .ensures .0) (start .ensures .1) (at-enum-told2 .enum-told2 .given .1) in
     let left = c .before .before .run-from .last .1 .1 .1 .1 .1 .0 in
     let after : sheetOf (c .before .before .run-from .result) left ≡ afterCalls (jobOf l) (fresh (jobOf l)) calls =
     c .before .before .run-from .ensures ∙ ap (λ (t : Sheet). afterCalls (jobOf l) t calls) (run .1) in
     let answer =
-    given-answer _ (afterCalls (jobOf l) (fresh (jobOf l)) calls) blankRecord (a .counts .now) left (givenAnswer (c .before .before .run-from .result)) (run .0 .run)
+    given-answer _ (afterCalls (jobOf l) (fresh (jobOf l)) calls) blankRecord (a .counts .now) left (givenAnswer (c .before .before .run-from .result))
+    (run .0 .run)
     (ap (λ (t : Sheet). givenAnswer (recordOf t)) after) (ap (λ (t : Sheet). t .counts) after) in
     let holds : CoverHolds (jobOf l) calls (afterCalls (jobOf l) (fresh (jobOf l)) calls) = demand2-cover (jobOf l) (facts l (run .0 .well) .fewPieces) calls in
     (answer .0, (answer .1, λ so. subst (λ (t : Sheet). CoverHolds (jobOf l) calls t) (sym after) holds))
 
 pub run-calls-spec : {M : Type 1} → statement M
 run-calls-spec =
-    tie.close
-    (tie.spec fresh-requires enum-told same-length returns enum-told-2 run-from-requires same-length-2 returns-2)
+    tie.close (tie.spec (search needs) (search needs) (search needs) returns (search needs) run-from-requires (search needs) returns-2)

@@ -28,36 +28,48 @@ loop-holds c = (omega arith, refl, c .before .before .pre, refl)
 
 mul-run-call : tie.Need-mul-run-call Inv-loop μ-loop
 mul-run-call c =
+    let at-start : tie.Start Inv-loop μ-loop = search in
     let l = c .before .loop-test .taken in
-    let good = c .before .before .before .before .before .good in
+    let good = at-start .good in
     omega arith
 
 shared-slice-copy-out-run-call : tie.Need-shared-slice-copy-out-run-call Inv-loop μ-loop
 shared-slice-copy-out-run-call c = c .before .loop-test .taken
 
 run-call-requires : tie.Need-run-call-requires Inv-loop μ-loop
-run-call-requires c κs = c .before .before .before .loop .inv .2
+run-call-requires c κs =
+    let at-loop : tie.At-loop Inv-loop μ-loop = search in
+    at-loop .loop .inv .2
 
 add-k : tie.Need-add-k Inv-loop μ-loop
 add-k c =
-    let l = c .before .before .before .before .before .loop-test .taken in
-    let good = c .before .before .before .before .before .before .before .before .before .good in
+    let in-loop : tie.In-loop Inv-loop μ-loop = search in
+    let at-start : tie.Start Inv-loop μ-loop = search in
+    let l = in-loop .loop-test .taken in
+    let good = at-start .good in
     omega arith
 
 loop-less : tie.Need-loop-less Inv-loop μ-loop
-loop-less c = let l = c .before .before .before .before .before .loop-test .taken in omega arith
+loop-less c =
+    let in-loop : tie.In-loop Inv-loop μ-loop = search in
+    let l = in-loop .loop-test .taken in omega arith
 
 loop-again : tie.Need-loop-again Inv-loop μ-loop
 loop-again c =
-    let a = c .before .before .before .before .before .before .before .before .before .args in
+    let in-loop : tie.In-loop Inv-loop μ-loop = search in
+    let at-loop : tie.At-loop Inv-loop μ-loop = search in
+    let at-start : tie.Start Inv-loop μ-loop = search in
+    let a = at-start .args in
     let l = lentBy (a .size) (a .table .now) (a .pixels .now) in
-    let now = c .before .before .before .before .before .before .loop in
+    let now = at-loop .loop in
     let s = sheetOf (now .sheet) (now .counts) in
     let call = callOf (getD (a .calls .now) (now .k) []) in
-    let inside = c .before .before .before .before .before .loop-test .taken in
-    let after : sheetOf (c .before .before .run-call .result) (c .before .before .run-call .last .1 .1 .1 .1 .0) ≡ afterwards s (called (jobOf l) s call) = c .before .before .run-call .ensures in
+    let inside = in-loop .loop-test .taken in
+    let after : sheetOf (c .before .before .run-call .result) (c .before .before .run-call .last .1 .1 .1 .1 .0) ≡ afterwards s (called (jobOf l) s call) =
+    c .before .before .run-call .ensures in
     let ready : SheetReady l (afterwards s (called (jobOf l) s call)) = ready-after l s (now .inv .2) call in
-    let again : SheetReady l (sheetOf (c .before .before .run-call .result) (c .before .before .run-call .last .1 .1 .1 .1 .0)) = subst (λ (t : Sheet). SheetReady l t) (sym after) ready in (
+    let again : SheetReady l (sheetOf (c .before .before .run-call .result) (c .before .before .run-call .last .1 .1 .1 .1 .0)) =
+    subst (λ (t : Sheet). SheetReady l t) (sym after) ready in (
       omega arith,
       again .full ∙ sym (now .inv .2 .full) ∙ now .inv .1,
       again,
@@ -70,7 +82,8 @@ same-length c = c .before .loop .inv .1
 
 returns : tie.Need-returns Inv-loop μ-loop
 returns c =
-    let a = c .before .before .before .before .args in
+    let at-start : tie.Start Inv-loop μ-loop = search in
+    let a = at-start .args in
     let l = lentBy (a .size) (a .table .now) (a .pixels .now) in
     let now = c .before .loop in
     sym (calls-end (jobOf l) (sheetOf (now .sheet) (now .counts)) (a .calls .now) (now .k) (c .loop-test .left)) ∙ now .inv .3

@@ -12,13 +12,11 @@ use Rattle.sheet_refusals.specs.Causes.{firstNumber}
 use Rattle.sheet_refusals.proofs.buffer_refusal.Tie as tie
 use Rattle.sheet_refusals.proofs.buffer_refusal.Statement.{statement}
 
-check-job-requires : tie.Need-check-job-requires
-check-job-requires c κs = search needs
-
 returns : tie.Need-returns
 unfolding firstNumber
 returns c =
-    let no-job : lentWell (lentBy (c .before .before .before .args .size) (c .before .before .before .args .table .now) (c .before .before .before .args .pixels .now)) ≡ false =
+    let at-start : tie.Start = search in
+    let no-job : lentWell (lentBy (at-start .args .size) (at-start .args .table .now) (at-start .args .pixels .now)) ≡ false =
     sym (c .before .check-job .ensures) ∙ not-true (c .before .check-job .result) (c .if1 .taken) in
     rw no-job
 
@@ -31,18 +29,22 @@ mul-if2 c =
 returns-2 : tie.Need-returns-2
 unfolding firstNumber
 returns-2 c =
-    let a = c .before .before .before .before .before .args in
+    let at-check-job : tie.After-check-job = search in
+    let at-start : tie.Start = search in
+    let a = at-start .args in
     let well : lentWell (lentBy (a .size) (a .table .now) (a .pixels .now)) ≡ true =
-    sym (c .before .before .before .check-job .ensures) ∙ not-false (c .before .before .before .check-job .result) (c .before .before .if1 .left) in
+    sym (at-check-job .check-job .ensures) ∙ not-false (at-check-job .check-job .result) (c .before .before .if1 .left) in
     rw (well, ne-eqb (a .room) (a .size .rows * a .size .columns) (c .if2 .taken))
 
 returns-3 : tie.Need-returns-3
 unfolding firstNumber
 returns-3 c =
-    let a = c .before .before .before .before .before .args in
+    let at-check-job : tie.After-check-job = search in
+    let at-start : tie.Start = search in
+    let a = at-start .args in
     let well : lentWell (lentBy (a .size) (a .table .now) (a .pixels .now)) ≡ true =
-    sym (c .before .before .before .check-job .ensures) ∙ not-false (c .before .before .before .check-job .result) (c .before .before .if1 .left) in
+    sym (at-check-job .check-job .ensures) ∙ not-false (at-check-job .check-job .result) (c .before .before .if1 .left) in
     rw (well, eq-eqb (a .room) (a .size .rows * a .size .columns) (c .if2 .left))
 
 pub buffer-refusal-spec : {M : Type 1} → statement M
-buffer-refusal-spec = tie.close (tie.spec check-job-requires returns mul-if2 returns-2 returns-3)
+buffer-refusal-spec = tie.close (tie.spec (search needs) returns mul-if2 returns-2 returns-3)

@@ -20,9 +20,6 @@ use Rattle.sheet_refusals.proofs.lay_refusal.Statement.{statement}
 piece-here : (i n : ℕ) (r t : Bool) → r ≡ (ltb i n && t) → not r ≡ false → i < n
 piece-here i n r t e h = ltb-true i n (and-left (ltb i n) t (sym e ∙ not-false r h))
 
-known-requires : tie.Need-known-requires
-known-requires c κs = search needs
-
 returns : tie.Need-returns
 unfolding firstNumber layCauses jobOf
 returns c = λ pixels counts.
@@ -32,40 +29,54 @@ returns c = λ pixels counts.
     rw none
 
 entry-of-requires : tie.Need-entry-of-requires
-entry-of-requires c κs = let here = piece-here (c .before .before .args .piece) (c .before .before .args .size .count) (c .before .known .result) _ (c .before .known .ensures []) (c .if1 .left) in omega arith
+entry-of-requires c κs = let here =
+    piece-here (c .before .before .args .piece) (c .before .before .args .size .count) (c .before .known .result) _ (c .before .known .ensures [])
+    (c .if1 .left) in omega arith
 
 returns-2 : tie.Need-returns-2
 unfolding firstNumber layCauses jobOf
 returns-2 c = λ pixels counts.
-    let a = c .before .before .before .before .args in
+    let at-known : tie.After-known = search in
+    let at-start : tie.Start = search in
+    let a = at-start .args in
     let here : (ltb (a .piece) (a .size .count) && allowed (jobOf (lentBy (a .size) (a .table .now) pixels)) (a .piece) (a .place .turn)) ≡ true =
-    sym (c .before .before .before .known .ensures pixels) ∙ not-false (c .before .before .before .known .result) (c .before .before .if1 .left) in
+    sym (at-known .known .ensures pixels) ∙ not-false (at-known .known .result) (c .before .before .if1 .left) in
     rw (here, ← (c .before .entry-of .ensures), c .if2 .taken)
 
 inside-requires : tie.Need-inside-requires
-inside-requires c κs = let here = piece-here (c .before .before .before .before .args .piece) (c .before .before .before .before .args .size .count) (c .before .before .before .known .result) _ (c .before .before .before .known .ensures []) (c .before .before .if1 .left) in omega arith
+inside-requires c κs =
+    let at-known : tie.After-known = search in
+    let at-start : tie.Start = search in
+    let here = piece-here (at-start .args .piece) (at-start .args .size .count) (at-known .known .result) _ (at-known .known .ensures [])
+    (c .before .before .if1 .left) in omega arith
 
 returns-3 : tie.Need-returns-3
 unfolding firstNumber layCauses jobOf
 returns-3 c = λ pixels counts.
-    let a = c .before .before .before .before .before .before .args in
+    let at-entry-of : tie.After-entry-of = search in
+    let at-else1 : tie.Else1 = search in
+    let at-known : tie.After-known = search in
+    let at-start : tie.Start = search in
+    let a = at-start .args in
     let here : (ltb (a .piece) (a .size .count) && allowed (jobOf (lentBy (a .size) (a .table .now) pixels)) (a .piece) (a .place .turn)) ≡ true =
-    sym (c .before .before .before .before .before .known .ensures pixels) ∙ not-false (c .before .before .before .before .before .known .result) (c .before .before .before .before .if1 .left) in
+    sym (at-known .known .ensures pixels) ∙ not-false (at-known .known .result) (at-else1 .if1 .left) in
     let out : inside (jobOf (lentBy (a .size) (a .table .now) pixels)) (a .piece) (a .place) ≡ false =
     sym (c .before .inside .ensures pixels) ∙ not-true (c .before .inside .result) (c .if3 .taken) in
-    rw (here, ← (c .before .before .before .entry-of .ensures), c .before .before .if2 .left, out)
+    rw (here, ← (at-entry-of .entry-of .ensures), c .before .before .if2 .left, out)
 
 returns-4 : tie.Need-returns-4
 unfolding firstNumber layCauses jobOf
 returns-4 c = λ pixels counts.
-    let a = c .before .before .before .before .before .before .args in
+    let at-entry-of : tie.After-entry-of = search in
+    let at-else1 : tie.Else1 = search in
+    let at-known : tie.After-known = search in
+    let at-start : tie.Start = search in
+    let a = at-start .args in
     let here : (ltb (a .piece) (a .size .count) && allowed (jobOf (lentBy (a .size) (a .table .now) pixels)) (a .piece) (a .place .turn)) ≡ true =
-    sym (c .before .before .before .before .before .known .ensures pixels) ∙ not-false (c .before .before .before .before .before .known .result) (c .before .before .before .before .if1 .left) in
+    sym (at-known .known .ensures pixels) ∙ not-false (at-known .known .result) (at-else1 .if1 .left) in
     let within : inside (jobOf (lentBy (a .size) (a .table .now) pixels)) (a .piece) (a .place) ≡ true =
     sym (c .before .inside .ensures pixels) ∙ not-false (c .before .inside .result) (c .if3 .left) in
-    rw (here, ← (c .before .before .before .entry-of .ensures), c .before .before .if2 .left, within)
+    rw (here, ← (at-entry-of .entry-of .ensures), c .before .before .if2 .left, within)
 
 pub lay-refusal-spec : {M : Type 1} → statement M
-lay-refusal-spec =
-    tie.close
-    (tie.spec known-requires returns entry-of-requires returns-2 inside-requires returns-3 returns-4)
+lay-refusal-spec = tie.close (tie.spec (search needs) returns entry-of-requires returns-2 inside-requires returns-3 returns-4)

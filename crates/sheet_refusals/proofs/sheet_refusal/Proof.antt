@@ -8,11 +8,10 @@ use Rattle.sheet_refusals.proofs.Buffers.{buffer-passed, sheet-number, 
 use Rattle.sheet_refusals.proofs.sheet_refusal.Statement.{statement}
 use Rattle.sheet_refusals.proofs.sheet_refusal.Tie as tie
 
-buffer-refusal-requires : tie.Need-buffer-refusal-requires
-buffer-refusal-requires c κs = search needs
-
 returns : tie.Need-returns
-returns c = sheet-number _ (sheetOf (c .before .before .before .before .args .sheet) (c .before .before .before .before .args .counts .now)) _ (c .before .buffer-refusal .ensures) (c .if1 .taken)
+returns c =
+    let at-start : tie.Start = search in
+    sheet-number _ (sheetOf (at-start .args .sheet) (at-start .args .counts .now)) _ (c .before .buffer-refusal .ensures) (c .if1 .taken)
 
 sheet-well-requires : tie.Need-sheet-well-requires
 sheet-well-requires c κs =
@@ -21,16 +20,19 @@ sheet-well-requires c κs =
 
 returns-2 : tie.Need-returns-2
 returns-2 c =
-    sheet-number-8 _ (sheetOf (c .before .before .before .before .before .before .args .sheet) (c .before .before .before .before .before .before .args .counts .now))
-    (buffer-passed _ _ (sym (c .before .before .before .buffer-refusal .ensures) ∙ c .before .before .if1 .left))
+    let at-buffer-refusal : tie.After-buffer-refusal = search in
+    let at-start : tie.Start = search in
+    sheet-number-8 _ (sheetOf (at-start .args .sheet) (at-start .args .counts .now))
+    (buffer-passed _ _ (sym (at-buffer-refusal .buffer-refusal .ensures) ∙ c .before .before .if1 .left))
     (sym (c .before .sheet-well .ensures) ∙ not-true (c .before .sheet-well .result) (c .if2 .taken))
 
 returns-3 : tie.Need-returns-3
 returns-3 c =
-    sheet-number-0 _ (sheetOf (c .before .before .before .before .before .before .args .sheet) (c .before .before .before .before .before .before .args .counts .now))
-    (buffer-passed _ _ (sym (c .before .before .before .buffer-refusal .ensures) ∙ c .before .before .if1 .left))
+    let at-buffer-refusal : tie.After-buffer-refusal = search in
+    let at-start : tie.Start = search in
+    sheet-number-0 _ (sheetOf (at-start .args .sheet) (at-start .args .counts .now))
+    (buffer-passed _ _ (sym (at-buffer-refusal .buffer-refusal .ensures) ∙ c .before .before .if1 .left))
     (sym (c .before .sheet-well .ensures) ∙ not-false (c .before .sheet-well .result) (c .if2 .left))
 
 pub sheet-refusal-spec : {M : Type 1} → statement M
-sheet-refusal-spec =
-    tie.close (tie.spec buffer-refusal-requires returns sheet-well-requires returns-2 returns-3)
+sheet-refusal-spec = tie.close (tie.spec (search needs) returns sheet-well-requires returns-2 returns-3)

@@ -12,20 +12,29 @@ returns : tie.Need-returns
 unfolding firstNumber withdrawCauses jobOf
 returns c = λ table pixels counts. rw (le-ltb (c .before .before .args .piece) (c .before .before .args .size .count) (c .if1 .taken))
 
-entry-of-requires : tie.Need-entry-of-requires
-entry-of-requires c κs = search needs
-
 returns-2 : tie.Need-returns-2
 unfolding firstNumber withdrawCauses jobOf
 returns-2 c = λ table pixels counts.
-    let a = c .before .before .before .before .before .args in
-    rw (lt-ltb (a .piece) (a .size .count) (c .before .before .before .if1 .left), ← (c .before .before .entry-of .ensures), not-true (c .before .before .entry-of .result .laid) (c .if2 .taken))
+    let at-else1 : tie.Else1 = search in
+    let at-start : tie.Start = search in
+    let a = at-start .args in
+    rw (
+      lt-ltb (a .piece) (a .size .count) (at-else1 .if1 .left),
+      ← (c .before .before .entry-of .ensures),
+      not-true (c .before .before .entry-of .result .laid) (c .if2 .taken),
+    )
 
 returns-3 : tie.Need-returns-3
 unfolding firstNumber withdrawCauses jobOf
 returns-3 c = λ table pixels counts.
-    let a = c .before .before .before .before .before .args in
-    rw (lt-ltb (a .piece) (a .size .count) (c .before .before .before .if1 .left), ← (c .before .before .entry-of .ensures), not-false (c .before .before .entry-of .result .laid) (c .if2 .left))
+    let at-else1 : tie.Else1 = search in
+    let at-start : tie.Start = search in
+    let a = at-start .args in
+    rw (
+      lt-ltb (a .piece) (a .size .count) (at-else1 .if1 .left),
+      ← (c .before .before .entry-of .ensures),
+      not-false (c .before .before .entry-of .result .laid) (c .if2 .left),
+    )
 
 pub withdraw-refusal-spec : {M : Type 1} → statement M
-withdraw-refusal-spec = tie.close (tie.spec returns entry-of-requires returns-2 returns-3)
+withdraw-refusal-spec = tie.close (tie.spec returns (search needs) returns-2 returns-3)

@@ -8,6 +8,7 @@ use borrow.Author.Count.{below-more}
 use Rattle.list_laws.proofs.Searches.{any-found, any-missed}
 use Rattle.strip_check.specs.Check.{stripIn, reaches}
 use Rattle.strip_check.proofs.Reading.{read-is}
+use borrow.Author.Needs.{needs}
 use Rattle.strip_check.proofs.at_place.Statement.{statement}
 use Rattle.strip_check.proofs.at_place.Tie as tie
 
@@ -28,24 +29,27 @@ reaches-place-requires c κs = let r = c .strip-at .ensures in (r .first, r .cou
 
 -- what was tested is the strip at place i
 reaching : (c : tie.After-reaches-place Inv-loop μ-loop)
-    → c .reaches-place .result ≡ reaches (c .before .before .before .before .args .place)
-    (stripIn (c .before .before .before .before .args .strips .now) (c .before .before .before .loop .i))
-reaching c = c .reaches-place .ensures ∙ ap (reaches (c .before .before .before .before .args .place)) (read-is (c .before .strip-at .ensures))
+    →
+    let at-loop : tie.At-loop Inv-loop μ-loop = search in
+    let at-start : tie.Start Inv-loop μ-loop = search in
+    c .reaches-place .result ≡ reaches (at-start .args .place)
+    (stripIn (at-start .args .strips .now) (at-loop .loop .i))
+reaching c =
+    let at-start : tie.Start Inv-loop μ-loop = search in
+    c .reaches-place .ensures ∙ ap (reaches (at-start .args .place)) (read-is (c .before .strip-at .ensures))
 
 returns : tie.Need-returns Inv-loop μ-loop
 returns c =
-    let a = c .before .before .before .before .before .args in
-    any-found _ _ (λ i. reaches (a .place) (stripIn (a .strips .now) i)) (c .before .before .before .loop-test .taken)
+    let in-loop : tie.In-loop Inv-loop μ-loop = search in
+    let at-start : tie.Start Inv-loop μ-loop = search in
+    let a = at-start .args in
+    any-found _ _ (λ i. reaches (a .place) (stripIn (a .strips .now) i)) (in-loop .loop-test .taken)
     (sym (reaching (c .before)) ∙ c .if1 .taken)
 
-add-i : tie.Need-add-i Inv-loop μ-loop
-add-i c = omega arith
-
-loop-less : tie.Need-loop-less Inv-loop μ-loop
-loop-less c = omega arith
-
 loop-again : tie.Need-loop-again Inv-loop μ-loop
-loop-again c = (omega arith, below-more _ _ (c .before .before .before .before .loop .inv .1) (sym (reaching (c .before)) ∙ c .if1 .left))
+loop-again c =
+    let at-loop : tie.At-loop Inv-loop μ-loop = search in
+    (omega arith, below-more _ _ (at-loop .loop .inv .1) (sym (reaching (c .before)) ∙ c .if1 .left))
 
 returns-2 : tie.Need-returns-2 Inv-loop μ-loop
 returns-2 c =
@@ -54,15 +58,5 @@ returns-2 c =
 
 pub at-place-spec : {M : Type 1} → statement M
 at-place-spec =
-    tie.close
-    (tie.spec
-    Inv-loop
-    μ-loop
-    loop-holds
-    strip-at-requires
-    reaches-place-requires
-    returns
-    add-i
-    loop-less
-    loop-again
-    returns-2)
+    tie.close (tie.spec
+    Inv-loop μ-loop loop-holds strip-at-requires reaches-place-requires returns (search needs) (search needs) loop-again returns-2)

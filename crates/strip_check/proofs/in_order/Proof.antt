@@ -11,33 +11,15 @@ returns : tie.Need-returns
 unfolding follows
 returns c = simp (eq-eqb _ 0 (c .if1 .taken))
 
-sub-strip-at : tie.Need-sub-strip-at
-sub-strip-at c = search needs
-
-strip-at-requires : tie.Need-strip-at-requires
-strip-at-requires c κs = search needs
-
-strip-at-requires-2 : tie.Need-strip-at-requires-2
-strip-at-requires-2 c κs = search needs
-
-stands-before-requires : tie.Need-stands-before-requires
-stands-before-requires c κs = search needs
-
 returns-2 : tie.Need-returns-2
 unfolding follows
 returns-2 c =
-    let a = c .before .before .before .before .args in
+    let at-else1 : tie.Else1 = search in
+    let at-start : tie.Start = search in
+    let a = at-start .args in
     c .stands-before .ensures
     ∙ ap₂ standsBefore (read-is (c .before .before .strip-at .ensures)) (read-is (c .before .strip-at2 .ensures))
-    ∙ simp (ne-eqb (a .i) 0 (c .before .before .before .if1 .left))
+    ∙ simp (ne-eqb (a .i) 0 (at-else1 .if1 .left))
 
 pub in-order-spec : {M : Type 1} → statement M
-in-order-spec =
-    tie.close
-    (tie.spec
-    returns
-    sub-strip-at
-    strip-at-requires
-    strip-at-requires-2
-    stands-before-requires
-    returns-2)
+in-order-spec = tie.close (tie.spec returns (search needs) (search needs) (search needs) (search needs) returns-2)

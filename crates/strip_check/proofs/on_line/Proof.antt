@@ -11,6 +11,7 @@ use Rattle.model.specs.Strip.{Strip}
 use Rattle.list_laws.proofs.Searches.{any-found, any-missed}
 use Rattle.strip_check.specs.Check.{stripIn}
 use Rattle.strip_check.proofs.Reading.{read-is}
+use borrow.Author.Needs.{needs}
 use Rattle.strip_check.proofs.on_line.Statement.{statement}
 use Rattle.strip_check.proofs.on_line.Tie as tie
 
@@ -28,21 +29,18 @@ strip-at-requires c κs = c .loop-test .taken
 
 returns : tie.Need-returns Inv-loop μ-loop
 returns c =
-    let a = c .before .before .before .before .before .args in
+    let in-loop : tie.In-loop Inv-loop μ-loop = search in
+    let at-start : tie.Start Inv-loop μ-loop = search in
+    let a = at-start .args in
     let e = ap (λ (t : Strip). t .line) (read-is (c .before .before .strip-at .ensures)) in
-    any-found _ _ (λ i. eqb (stripIn (a .strips .now) i .line) (a .line)) (c .before .before .before .loop-test .taken)
+    any-found _ _ (λ i. eqb (stripIn (a .strips .now) i .line) (a .line)) (in-loop .loop-test .taken)
     (eq-eqb _ _ (sym e ∙ c .if1 .taken))
-
-add-i : tie.Need-add-i Inv-loop μ-loop
-add-i c = omega arith
-
-loop-less : tie.Need-loop-less Inv-loop μ-loop
-loop-less c = omega arith
 
 loop-again : tie.Need-loop-again Inv-loop μ-loop
 loop-again c =
+    let at-loop : tie.At-loop Inv-loop μ-loop = search in
     let e = ap (λ (t : Strip). t .line) (read-is (c .before .before .strip-at .ensures)) in
-    (omega arith, below-more _ _ (c .before .before .before .before .loop .inv .1) (ne-eqb _ _ (λ h. c .if1 .left (e ∙ h))))
+    (omega arith, below-more _ _ (at-loop .loop .inv .1) (ne-eqb _ _ (λ h. c .if1 .left (e ∙ h))))
 
 returns-2 : tie.Need-returns-2 Inv-loop μ-loop
 returns-2 c =
@@ -50,15 +48,4 @@ returns-2 c =
     any-missed _ _ (λ i. eqb (stripIn (a .strips .now) i .line) (a .line)) (c .loop-test .left) (c .before .loop .inv .1)
 
 pub on-line-spec : {M : Type 1} → statement M
-on-line-spec =
-    tie.close
-    (tie.spec
-    Inv-loop
-    μ-loop
-    loop-holds
-    strip-at-requires
-    returns
-    add-i
-    loop-less
-    loop-again
-    returns-2)
+on-line-spec = tie.close (tie.spec Inv-loop μ-loop loop-holds strip-at-requires returns (search needs) (search needs) loop-again returns-2)

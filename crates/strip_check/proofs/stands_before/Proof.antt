@@ -11,21 +11,22 @@ returns : tie.Need-returns
 returns c = simp (lt-ltb _ _ (c .if1 .taken))
 
 returns-2 : tie.Need-returns-2
-returns-2 c = let a = c .before .before .before .before .before .before .args in
+returns-2 c =
+    let at-start : tie.Start = search in
+    let a = at-start .args in
     let l : a .next .line < a .strip .line = c .if2 .taken in
     let h : a .next .line ≤ a .strip .line = omega arith in
     let n : a .strip .line ≡ a .next .line → ⊥ = λ e. omega arith in
     simp (le-ltb _ _ h, ne-eqb _ _ n)
 
-add-result : tie.Need-add-result
-add-result c = search needs
-
 returns-3 : tie.Need-returns-3
-returns-3 c = let a = c .before .before .before .before .before .before .before .before .args in
+returns-3 c =
+    let at-start : tie.Start = search in
+    let a = at-start .args in
     let l : a .strip .line ≤ a .next .line = c .before .before .if2 .left in
     let h : a .next .line ≤ a .strip .line = omega arith in
     let n : a .strip .line ≡ a .next .line = omega arith in
     simp (le-ltb _ _ h, eq-eqb _ _ n)
 
 pub stands-before-spec : {M : Type 1} → statement M
-stands-before-spec = tie.close (tie.spec returns returns-2 add-result returns-3)
+stands-before-spec = tie.close (tie.spec returns returns-2 (search needs) returns-3)

@@ -7,27 +7,10 @@ use borrow.Author.Needs.{needs}
 use Rattle.strip_check.proofs.strip_of.Statement.{statement}
 use Rattle.strip_check.proofs.strip_of.Tie as tie
 
-array-read-wide : tie.Need-array-read-wide
-array-read-wide c = search needs
-
-wide-requires : tie.Need-wide-requires
-wide-requires c κs = search needs
-
-array-read-wide-2 : tie.Need-array-read-wide-2
-array-read-wide-2 c = search needs
-
-wide-requires-2 : tie.Need-wide-requires-2
-wide-requires-2 c κs = search needs
-
-array-read-wide-3 : tie.Need-array-read-wide-3
-array-read-wide-3 c = search needs
-
-wide-requires-3 : tie.Need-wide-requires-3
-wide-requires-3 c κs = search needs
-
 returns : tie.Need-returns
 returns c =
-    let e = c .before .before .before .args .t1 in
+    let at-start : tie.Start = search in
+    let e = at-start .args .t1 in
     let n : length e ≡ 3 = search needs in
     let a = c .before .before .wide .ensures in
     let b = c .before .wide2 .ensures in
@@ -40,13 +23,4 @@ returns c =
     }
 
 pub strip-of-spec : {M : Type 1} → statement M
-strip-of-spec =
-    tie.close
-    (tie.spec
-    array-read-wide
-    wide-requires
-    array-read-wide-2
-    wide-requires-2
-    array-read-wide-3
-    wide-requires-3
-    returns)
+strip-of-spec = tie.close (tie.spec (search needs) (search needs) (search needs) (search needs) (search needs) (search needs) returns)

@@ -16,39 +16,34 @@ use borrow.Author.Needs.{needs}
 use Rattle.strip_check.proofs.strips_well.Statement.{statement}
 use Rattle.strip_check.proofs.strips_well.Tie as tie
 
-line-length-requires : tie.Need-line-length-requires
-line-length-requires c κs = search needs
-
-line-count-requires : tie.Need-line-count-requires
-line-count-requires c κs = search needs
-
-valid-requires : tie.Need-valid-requires
-valid-requires c κs = search needs
-
 returns : tie.Need-returns
 returns c =
-    let a = c .before .before .before .before .args in
-    not-well-here (a .direction) (a .columns) (a .rows) (a .strips .now) (c .before .before .before .line-length .result) (c .before .before .line-count .result)
-    (c .before .before .before .line-length .ensures) (c .before .before .line-count .ensures)
+    let at-line-length : tie.After-line-length = search in
+    let at-start : tie.Start = search in
+    let a = at-start .args in
+    not-well-here (a .direction) (a .columns) (a .rows) (a .strips .now) (at-line-length .line-length .result) (c .before .before .line-count .result)
+    (at-line-length .line-length .ensures) (c .before .before .line-count .ensures)
     (sym (not-true _ (c .if1 .taken)) ∙ c .before .valid .ensures .0)
 
 -- the strips are valid: they are a piece's exactly where they reach the outer lines
 passed : (c : tie.Else1)
-    → stripsWell (c .before .before .before .before .args .direction) (c .before .before .before .before .args .columns)
-    (c .before .before .before .before .args .rows) (c .before .before .before .before .args .strips .now)
-    ≡ touches (c .before .before .before .before .args .strips .now) (c .before .before .before .line-length .result) (c .before .before .line-count .result)
+    →
+    let at-line-length : tie.After-line-length = search in
+    let at-start : tie.Start = search in
+    stripsWell (at-start .args .direction) (at-start .args .columns)
+    (at-start .args .rows) (at-start .args .strips .now)
+    ≡ touches (at-start .args .strips .now) (at-line-length .line-length .result) (c .before .before .line-count .result)
 passed c =
-    let a = c .before .before .before .before .args in
+    let at-line-length : tie.After-line-length = search in
+    let at-start : tie.Start = search in
+    let a = at-start .args in
     let v = not-false _ (c .if1 .left) in
-    well-here (a .direction) (a .columns) (a .rows) (a .strips .now) (c .before .before .before .line-length .result) (c .before .before .line-count .result)
-    (c .before .before .before .line-length .ensures) (c .before .before .line-count .ensures) (sym v ∙ c .before .valid .ensures .0) (c .before .valid .ensures .1 v)
+    well-here (a .direction) (a .columns) (a .rows) (a .strips .now) (at-line-length .line-length .result) (c .before .before .line-count .result)
+    (at-line-length .line-length .ensures) (c .before .before .line-count .ensures) (sym v ∙ c .before .valid .ensures .0) (c .before .valid .ensures .1 v)
 
 -- three tests that pass leave the fourth
 three-pass : (a b d e : Bool) → a ≡ true → b ≡ true → d ≡ true → ((a && b) && (d && e)) ≡ e
 three-pass a b d e p q r = rw (p, q, r)
-
-on-line-requires : tie.Need-on-line-requires
-on-line-requires c κs = search needs
 
 returns-2 : tie.Need-returns-2
 returns-2 c =
@@ -57,30 +52,31 @@ returns-2 c =
 
 sub-on-line : tie.Need-sub-on-line
 sub-on-line c =
-    let a = c .before .before .before .before .before .before .args in
-    let p = c .before .before .before .before .before .before .pre in
-    let e = c .before .before .before .before .line-count .ensures in
+    let at-line-count : tie.After-line-count = search in
+    let at-start : tie.Start = search in
+    let a = at-start .args in
+    let p = at-start .pre in
+    let e = at-line-count .line-count .ensures in
     let h = side-some (other (a .direction)) (a .columns) (a .rows) (p .0) (p .1) in
     omega arith
 
-on-line-requires-2 : tie.Need-on-line-requires-2
-on-line-requires-2 c κs = search needs
-
 returns-3 : tie.Need-returns-3
 returns-3 c =
-    let a = c .before .before .before .before .before .before .before .before .args in
-    sym (passed (c .before .before .before .before)
+    let at-else1 : tie.Else1 = search in
+    let at-start : tie.Start = search in
+    let a = at-start .args in
+    sym (passed (at-else1)
     ∙ first-fails _ (second-fails (anyBelow (length (a .strips .now)) (λ i. eqb (stripIn (a .strips .now) i .line) 0))
     (sym (c .before .on-line2 .ensures) ∙ not-true _ (c .if3 .taken))))
 
-at-place-requires : tie.Need-at-place-requires
-at-place-requires c κs = search needs
-
 returns-4 : tie.Need-returns-4
 returns-4 c =
-    let a = c .before .before .before .before .before .before .before .before .before .before .args in
-    let m = c .before .before .before .before .before .before .before .before .line-count .result in
-    sym (passed (c .before .before .before .before .before .before)
+    let at-else1 : tie.Else1 = search in
+    let at-line-count : tie.After-line-count = search in
+    let at-start : tie.Start = search in
+    let a = at-start .args in
+    let m = at-line-count .line-count .result in
+    sym (passed (at-else1)
     ∙ second-fails
     (anyBelow (length (a .strips .now)) (λ i. eqb (stripIn (a .strips .now) i .line) 0)
     && anyBelow (length (a .strips .now)) (λ i. eqb (stripIn (a .strips .now) i .line) (m - 1)))
@@ -88,38 +84,29 @@ returns-4 c =
 
 sub-at-place : tie.Need-sub-at-place
 sub-at-place c =
-    let a = c .before .before .before .before .before .before .before .before .before .before .args in
-    let p = c .before .before .before .before .before .before .before .before .before .before .pre in
-    let e = c .before .before .before .before .before .before .before .before .before .line-length .ensures in
+    let at-line-length : tie.After-line-length = search in
+    let at-start : tie.Start = search in
+    let a = at-start .args in
+    let p = at-start .pre in
+    let e = at-line-length .line-length .ensures in
     let h = side-some (a .direction) (a .columns) (a .rows) (p .0) (p .1) in
     omega arith
 
-at-place-requires-2 : tie.Need-at-place-requires-2
-at-place-requires-2 c κs = search needs
-
 returns-5 : tie.Need-returns-5
 returns-5 c =
-    sym (passed (c .before .before .before .before .before .before .before)
-    ∙ three-pass _ _ _ _ (sym (c .before .before .before .before .before .before .on-line .ensures) ∙ not-false _ (c .before .before .before .before .before .if2 .left))
-    (sym (c .before .before .before .before .on-line2 .ensures) ∙ not-false _ (c .before .before .before .if3 .left))
+    let at-else3 : tie.Else3 = search in
+    let at-on-line2 : tie.After-on-line2 = search in
+    let at-else2 : tie.Else2 = search in
+    let at-on-line : tie.After-on-line = search in
+    let at-else1 : tie.Else1 = search in
+    sym (passed (at-else1)
+    ∙ three-pass _ _ _ _ (sym (at-on-line .on-line .ensures) ∙ not-false _ (at-else2 .if2 .left))
+    (sym (at-on-line2 .on-line2 .ensures) ∙ not-false _ (at-else3 .if3 .left))
     (sym (c .before .before .at-place .ensures) ∙ not-false _ (c .before .if4 .left))
     ∙ sym (c .at-place2 .ensures))
 
 pub strips-well-spec : {M : Type 1} → statement M
 strips-well-spec =
-    tie.close
-    (tie.spec
-    line-length-requires
-    line-count-requires
-    valid-requires
-    returns
-    on-line-requires
-    returns-2
-    sub-on-line
-    on-line-requires-2
-    returns-3
-    at-place-requires
-    returns-4
-    sub-at-place
-    at-place-requires-2
-    returns-5)
+    tie.close (tie.spec
+    (search needs) (search needs) (search needs) returns (search needs) returns-2 sub-on-line (search needs) returns-3 (search needs)
+    returns-4 sub-at-place (search needs) returns-5)

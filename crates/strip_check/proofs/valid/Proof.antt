@@ -9,6 +9,7 @@ use mathlib.Core.Path.{_≡_, sym, ap, _∙_}
 use Prim.Native.Nat.{ℕ, _-_, _≤_, _<_}
 use native.Mathlib.Omega.{arith}
 use Rattle.strip_check.specs.Check.{stripIn, fitsIn, wellAt, Whole}
+use borrow.Author.Needs.{needs}
 use Rattle.strip_check.proofs.valid.Statement.{statement}
 use Rattle.strip_check.proofs.valid.Tie as tie
 
@@ -30,46 +31,54 @@ fits-requires c κs = let r = c .strip-at .ensures in (r .first, r .count)
 
 -- what was tested is the strip at place i
 fitting : (c : tie.After-fits2 Inv-loop μ-loop)
-    → c .fits2 .result ≡ fitsIn (c .before .before .before .before .args .length) (c .before .before .before .before .args .lines)
-    (stripIn (c .before .before .before .before .args .strips .now) (c .before .before .before .loop .i))
+    →
+    let at-loop : tie.At-loop Inv-loop μ-loop = search in
+    let at-start : tie.Start Inv-loop μ-loop = search in
+    c .fits2 .result ≡ fitsIn (at-start .args .length) (at-start .args .lines)
+    (stripIn (at-start .args .strips .now) (at-loop .loop .i))
 fitting c =
+    let at-start : tie.Start Inv-loop μ-loop = search in
     c .fits2 .ensures
-    ∙ ap (fitsIn (c .before .before .before .before .args .length) (c .before .before .before .before .args .lines)) (read-is (c .before .strip-at .ensures))
+    ∙ ap (fitsIn (at-start .args .length) (at-start .args .lines)) (read-is (c .before .strip-at .ensures))
 
 returns : tie.Need-returns Inv-loop μ-loop
 returns c =
-    let a = c .before .before .before .before .before .args in (
-      sym (not-all _ _ (wellAt (a .length) (a .lines) (a .strips .now)) (c .before .before .before .loop-test .taken)
+    let in-loop : tie.In-loop Inv-loop μ-loop = search in
+    let at-start : tie.Start Inv-loop μ-loop = search in
+    let a = at-start .args in (
+      sym (not-all _ _ (wellAt (a .length) (a .lines) (a .strips .now)) (in-loop .loop-test .taken)
           (first-fails _ (sym (fitting (c .before)) ∙ not-true _ (c .if1 .taken)))),
       λ e. absurd (false≢true e),
     )
 
 in-order-requires : tie.Need-in-order-requires Inv-loop μ-loop
-in-order-requires c κs = c .before .before .before .loop-test .taken
+in-order-requires c κs =
+    let in-loop : tie.In-loop Inv-loop μ-loop = search in
+    in-loop .loop-test .taken
 
 returns-2 : tie.Need-returns-2 Inv-loop μ-loop
 returns-2 c =
-    let a = c .before .before .before .before .before .before .before .args in
-    let i = c .before .before .before .before .before .before .loop .i in (
-      sym (not-all _ _ (wellAt (a .length) (a .lines) (a .strips .now)) (c .before .before .before .before .before .loop-test .taken)
+    let in-loop : tie.In-loop Inv-loop μ-loop = search in
+    let at-loop : tie.At-loop Inv-loop μ-loop = search in
+    let at-start : tie.Start Inv-loop μ-loop = search in
+    let a = at-start .args in
+    let i = at-loop .loop .i in (
+      sym (not-all _ _ (wellAt (a .length) (a .lines) (a .strips .now)) (in-loop .loop-test .taken)
           (second-fails (fitsIn (a .length) (a .lines) (stripIn (a .strips .now) i)) (sym (c .before .in-order .ensures) ∙ not-true _ (c .if2 .taken)))),
       λ e. absurd (false≢true e),
     )
 
-add-i : tie.Need-add-i Inv-loop μ-loop
-add-i c = omega arith
-
-loop-less : tie.Need-loop-less Inv-loop μ-loop
-loop-less c = omega arith
-
 loop-again : tie.Need-loop-again Inv-loop μ-loop
-loop-again c = (
-  omega arith,
-  below-more _ _ (c .before .before .before .before .before .before .loop .inv .1)
-      (and-both (sym (fitting (c .before .before .before)) ∙ not-false _ (c .before .before .if1 .left))
-      (sym (c .before .in-order .ensures) ∙ not-false _ (c .if2 .left))),
-  below-more _ _ (c .before .before .before .before .before .before .loop .inv .2) (read-whole (c .before .before .before .before .strip-at .ensures)),
-)
+loop-again c =
+    let at-fits2 : tie.After-fits2 Inv-loop μ-loop = search in
+    let at-strip-at : tie.After-strip-at Inv-loop μ-loop = search in
+    let at-loop : tie.At-loop Inv-loop μ-loop = search in (
+      omega arith,
+      below-more _ _ (at-loop .loop .inv .1)
+          (and-both (sym (fitting (at-fits2)) ∙ not-false _ (c .before .before .if1 .left))
+          (sym (c .before .in-order .ensures) ∙ not-false _ (c .if2 .left))),
+      below-more _ _ (at-loop .loop .inv .2) (read-whole (at-strip-at .strip-at .ensures)),
+    )
 
 returns-3 : tie.Need-returns-3 Inv-loop μ-loop
 returns-3 c =
@@ -80,17 +89,6 @@ returns-3 c =
 
 pub valid-spec : {M : Type 1} → statement M
 valid-spec =
-    tie.close
-    (tie.spec
-    Inv-loop
-    μ-loop
-    loop-holds
-    strip-at-requires
-    fits-requires
-    returns
-    in-order-requires
-    returns-2
-    add-i
-    loop-less
-    loop-again
+    tie.close (tie.spec
+    Inv-loop μ-loop loop-holds strip-at-requires fits-requires returns in-order-requires returns-2 (search needs) (search needs) loop-again
     returns-3)

@@ -31,9 +31,6 @@ slice-write-pixels c = let e = long (c .before) in let p = c .before .before .pr
 add-k : tie.Need-add-k Inv-loop μ-loop
 add-k c = let p = c .before .before .pre in omega arith
 
-loop-less : tie.Need-loop-less Inv-loop μ-loop
-loop-less c = omega arith
-
 loop-again : tie.Need-loop-again Inv-loop μ-loop
 loop-again c =
     let p = c .before .before .pre in
@@ -48,15 +45,4 @@ returns c =
     rw e at (c .before .loop .inv .1)
 
 pub clear-spec : {M : Type 1} → statement M
-clear-spec =
-    tie.close
-    (tie.spec
-    Inv-loop
-    μ-loop
-    loop-holds
-    slice-write-pixels
-    add-k
-    loop-less
-    loop-again
-    same-length
-    returns)
+clear-spec = tie.close (tie.spec Inv-loop μ-loop loop-holds slice-write-pixels add-k (search needs) loop-again same-length returns)

@@ -30,34 +30,38 @@ loop-holds c = let a = c .before .before .args in (omega arith, omega arith, pai
 
 mark-cell-requires : tie.Need-mark-cell-requires Inv-loop μ-loop
 mark-cell-requires c κs =
-    let a = c .before .before .before .before .before .args in
-    let r = c .before .before .before .before .before .pre .0 in
-    let f = c .before .before .before .before .before .pre .1 in
+    let at-start : tie.Start Inv-loop μ-loop = search in
+    let a = at-start .args in
+    let r = at-start .pre .0 in
+    let f = at-start .pre .1 in
     let room = r .long in
     let long = c .before .before .loop .inv .2 .long in
     let within = f .within in
     let line = f .line in
-    cell-room (a .direction) (a .columns) (a .rows) (c .before .before .loop .at) (a .strip .line) (c .before .before .loop .pixels) (omega arith) (omega arith) (omega arith)
+    cell-room (a .direction) (a .columns) (a .rows) (c .before .before .loop .at) (a .strip .line) (c .before .before .loop .pixels) (omega arith)
+    (omega arith) (omega arith)
 
 add-at : tie.Need-add-at Inv-loop μ-loop
 add-at c =
-    let a = c .before .before .before .before .before .before .before .before .args in
-    let r = c .before .before .before .before .before .before .before .before .pre .0 in
-    let f = c .before .before .before .before .before .before .before .before .pre .1 .within in
+    let in-loop : tie.In-loop Inv-loop μ-loop = search in
+    let at-start : tie.Start Inv-loop μ-loop = search in
+    let a = at-start .args in
+    let r = at-start .pre .0 in
+    let f = at-start .pre .1 .within in
     let s = side-small (a .direction) (a .columns) (a .rows) (r .columnsSmall) (r .rowsSmall) in
-    let t = c .before .before .before .before .loop-test .taken in
+    let t = in-loop .loop-test .taken in
     omega arith
-
-loop-less : tie.Need-loop-less Inv-loop μ-loop
-loop-less c = omega arith
 
 loop-again : tie.Need-loop-again Inv-loop μ-loop
 loop-again c =
-    let a = c .before .before .before .before .before .before .before .before .args in
-    let l = c .before .before .before .before .before .loop in (
+    let in-loop : tie.In-loop Inv-loop μ-loop = search in
+    let at-loop : tie.At-loop Inv-loop μ-loop = search in
+    let at-start : tie.Start Inv-loop μ-loop = search in
+    let a = at-start .args in
+    let l = at-loop .loop in (
       omega arith,
       omega arith,
-      paint-step (part-step (a .direction) (asStrip (a .strip)) (l .at) _ (c .before .before .before .before .loop-test .taken))
+      paint-step (part-step (a .direction) (asStrip (a .strip)) (l .at) _ (in-loop .loop-test .taken))
           (c .before .before .mark-cell .ensures) (l .inv .2),
     )
 
@@ -66,20 +70,10 @@ same-length c = c .before .loop .inv .2 .long
 
 returns : tie.Need-returns Inv-loop μ-loop
 returns c =
-    let a = c .before .before .before .before .args in
+    let at-start : tie.Start Inv-loop μ-loop = search in
+    let a = at-start .args in
     paint-end (part-none (a .direction) (asStrip (a .strip)) (c .before .loop .at) _ (c .loop-test .left)) (c .before .loop .inv .2)
 
 pub paint-strip-spec : {M : Type 1} → statement M
 paint-strip-spec =
-    tie.close
-    (tie.spec
-    Inv-loop
-    μ-loop
-    add-end
-    loop-holds
-    mark-cell-requires
-    add-at
-    loop-less
-    loop-again
-    same-length
-    returns)
+    tie.close (tie.spec Inv-loop μ-loop add-end loop-holds mark-cell-requires add-at (search needs) loop-again same-length returns)

@@ -8,7 +8,6 @@ use lib.ListN.{length, drop}
 use Rattle.model.specs.Strip.{stripHas, stripsHave}
 use Rattle.model.specs.Buffer.{entryStrip}
 use Rattle.strip_laws.specs.Strips.{StripFits}
-use Rattle.strip_check.specs.Check.{stripIn}
 use Rattle.strip_paint.specs.Paint.{Painted}
 use Rattle.strip_check.proofs.Reading.{read-is}
 use Rattle.strip_paint.proofs.Painting.{Painting, paint-start, paint-step, paint-end, strips-step, strips-none, room-again}
@@ -32,26 +31,27 @@ strip-at-requires c κs = c .before .loop-test .taken
 
 paint-strip-requires : tie.Need-paint-strip-requires Inv-loop μ-loop
 paint-strip-requires c κs =
-    let a = c .before .before .before .before .before .args in
-    let p = c .before .before .before .before .before .pre in (
-      room-again (p .0) (c .before .before .before .loop .inv .1 .long),
+    let at-loop : tie.At-loop Inv-loop μ-loop = search in
+    let at-start : tie.Start Inv-loop μ-loop = search in
+    let a = at-start .args in
+    let p = at-start .pre in (
+      room-again (p .0) (at-loop .loop .inv .1 .long),
       subst (StripFits (a .direction) (a .columns) (a .rows)) (sym (read-is (c .strip-at .ensures)))
-          (p .1 (c .before .before .before .loop .i) (c .before .before .loop-test .taken)),
+          (p .1 (at-loop .loop .i) (c .before .before .loop-test .taken)),
     )
-
-add-i : tie.Need-add-i Inv-loop μ-loop
-add-i c = omega arith
-
-loop-less : tie.Need-loop-less Inv-loop μ-loop
-loop-less c = omega arith
 
 loop-again : tie.Need-loop-again Inv-loop μ-loop
 loop-again c =
-    let a = c .before .before .before .before .before .before .before .before .args in
-    let l = c .before .before .before .before .before .before .loop in (
+    let at-strip-at : tie.After-strip-at Inv-loop μ-loop = search in
+    let in-loop : tie.In-loop Inv-loop μ-loop = search in
+    let at-loop : tie.At-loop Inv-loop μ-loop = search in
+    let at-start : tie.Start Inv-loop μ-loop = search in
+    let a = at-start .args in
+    let l = at-loop .loop in (
       omega arith,
-      paint-step (strips-step (a .direction) (a .strips .now) (l .i) (c .before .before .before .before .before .loop-test .taken))
-          (subst (λ t. Painted (a .columns) (stripHas (a .direction) t) (l .pixels) (c .before .before .paint-strip .last .0)) (read-is (c .before .before .before .strip-at .ensures))
+      paint-step (strips-step (a .direction) (a .strips .now) (l .i) (in-loop .loop-test .taken))
+          (subst (λ t. Painted (a .columns) (stripHas (a .direction) t) (l .pixels) (c .before .before .paint-strip .last .0))
+          (read-is (at-strip-at .strip-at .ensures))
           (c .before .before .paint-strip .ensures))
           (l .inv .1),
     )
@@ -61,20 +61,11 @@ same-length c = c .before .loop .inv .1 .long
 
 returns : tie.Need-returns Inv-loop μ-loop
 returns c =
-    let a = c .before .before .before .args in
+    let at-start : tie.Start Inv-loop μ-loop = search in
+    let a = at-start .args in
     paint-end (strips-none (a .direction) (a .strips .now) (c .before .loop .i) (c .loop-test .left)) (c .before .loop .inv .1)
 
 pub paint-strips-spec : {M : Type 1} → statement M
 paint-strips-spec =
-    tie.close
-    (tie.spec
-    Inv-loop
-    μ-loop
-    loop-holds
-    strip-at-requires
-    paint-strip-requires
-    add-i
-    loop-less
-    loop-again
-    same-length
-    returns)
+    tie.close (tie.spec
+    Inv-loop μ-loop loop-holds strip-at-requires paint-strip-requires (search needs) (search needs) loop-again same-length returns)

@@ -17,81 +17,80 @@ use borrow.Author.Needs.{needs}
 use Rattle.strip_rebuild_calls.proofs.rebuild.Statement.{statement}
 use Rattle.strip_rebuild_calls.proofs.rebuild.Tie as tie
 
-side-in-range-requires : tie.Need-side-in-range-requires
-side-in-range-requires c κs = search needs
-
-refused-requires : tie.Need-refused-requires
-refused-requires c κs = search needs
-
 returns : tie.Need-returns
 returns c =
-    let a = c .before .before .before .before .args in
-    let out = refused-columns (a .direction) (a .columns) (a .rows) (a .strips .now) (length (a .pixels .now)) (sym (c .before .before .side-in-range .ensures) ∙ not-true _ (c .before .if1 .taken)) in
+    let at-start : tie.Start = search in
+    let a = at-start .args in
+    let out = refused-columns (a .direction) (a .columns) (a .rows) (a .strips .now) (length (a .pixels .now))
+    (sym (c .before .before .side-in-range .ensures) ∙ not-true _ (c .before .if1 .taken)) in
     let left = ap (pixelsAfter (a .pixels .now)) (sym out) in
     (c .refused .ensures ∙ ap doneAnswer (sym out), (left, after-again _ _ _ _ _ _ left))
 
-side-in-range-requires-2 : tie.Need-side-in-range-requires-2
-side-in-range-requires-2 c κs = search needs
-
-refused-requires-2 : tie.Need-refused-requires-2
-refused-requires-2 c κs = search needs
-
 returns-2 : tie.Need-returns-2
 returns-2 c =
-    let a = c .before .before .before .before .before .before .args in
-    let out = refused-rows (a .direction) (a .columns) (a .rows) (a .strips .now) (length (a .pixels .now)) (sym (c .before .before .side-in-range2 .ensures) ∙ not-true _ (c .before .if2 .taken)) in
+    let at-start : tie.Start = search in
+    let a = at-start .args in
+    let out = refused-rows (a .direction) (a .columns) (a .rows) (a .strips .now) (length (a .pixels .now))
+    (sym (c .before .before .side-in-range2 .ensures) ∙ not-true _ (c .before .if2 .taken)) in
     let left = ap (pixelsAfter (a .pixels .now)) (sym out) in
     (c .refused2 .ensures ∙ ap doneAnswer (sym out), (left, after-again _ _ _ _ _ _ left))
 
 -- both sides are in range
 sides : (c : tie.Else2)
-    → (upTo sideBound (c .before .before .before .before .before .args .columns) ≡ true)
-    × (upTo sideBound (c .before .before .before .before .before .args .rows) ≡ true)
-sides c = (
-  sym (c .before .before .before .side-in-range .ensures) ∙ not-false _ (c .before .before .if1 .left),
-  sym (c .before .side-in-range2 .ensures) ∙ not-false _ (c .if2 .left),
-)
+    →
+    let at-start : tie.Start = search in
+    (upTo sideBound (at-start .args .columns) ≡ true)
+    × (upTo sideBound (at-start .args .rows) ≡ true)
+sides c =
+    let at-side-in-range : tie.After-side-in-range = search in (
+      sym (at-side-in-range .side-in-range .ensures) ∙ not-false _ (c .before .before .if1 .left),
+      sym (c .before .side-in-range2 .ensures) ∙ not-false _ (c .if2 .left),
+    )
 
 strips-well-requires : tie.Need-strips-well-requires
 strips-well-requires c κs = let s = sides c in (side-range _ (s .0) .0, side-range _ (s .1) .0)
 
-refused-requires-3 : tie.Need-refused-requires-3
-refused-requires-3 c κs = search needs
-
 returns-3 : tie.Need-returns-3
 returns-3 c =
-    let a = c .before .before .before .before .before .before .before .before .args in
-    let out = refused-strips (a .direction) (a .columns) (a .rows) (a .strips .now) (length (a .pixels .now)) (sides (c .before .before .before) .0) (sides (c .before .before .before) .1) (sym (c .before .before .strips-well .ensures) ∙ not-true _ (c .before .if3 .taken)) in
+    let at-else2 : tie.Else2 = search in
+    let at-start : tie.Start = search in
+    let a = at-start .args in
+    let out = refused-strips (a .direction) (a .columns) (a .rows) (a .strips .now) (length (a .pixels .now)) (sides (at-else2) .0) (sides (at-else2) .1)
+    (sym (c .before .before .strips-well .ensures) ∙ not-true _ (c .before .if3 .taken)) in
     let left = ap (pixelsAfter (a .pixels .now)) (sym out) in
     (c .refused3 .ensures ∙ ap doneAnswer (sym out), (left, after-again _ _ _ _ _ _ left))
 
 -- some piece of the box has just these strips
 well : (c : tie.Else3)
-    → stripsWell (c .before .before .before .before .before .before .before .args .direction) (c .before .before .before .before .before .before .before .args .columns)
-    (c .before .before .before .before .before .before .before .args .rows) (c .before .before .before .before .before .before .before .args .strips .now) ≡ true
+    →
+    let at-start : tie.Start = search in
+    stripsWell (at-start .args .direction) (at-start .args .columns)
+    (at-start .args .rows) (at-start .args .strips .now) ≡ true
 well c = sym (c .before .strips-well .ensures) ∙ not-false _ (c .if3 .left)
 
 mul-if4 : tie.Need-mul-if4
 mul-if4 c =
-    let a = c .before .before .before .before .before .before .before .args in
+    let at-start : tie.Start = search in
+    let a = at-start .args in
     let l : a .columns ≤ 255 = side-range _ (sides (c .before .before) .0) .1 in
     let r : a .rows ≤ 255 = side-range _ (sides (c .before .before) .1) .1 in
     let h : a .columns * a .rows ≤ 255 * 255 = mul-le-mul l r in
     omega arith
 
-refused-requires-4 : tie.Need-refused-requires-4
-refused-requires-4 c κs = search needs
-
 returns-4 : tie.Need-returns-4
 returns-4 c =
-    let a = c .before .before .before .before .before .before .before .before .before .args in
-    let out = refused-room (a .direction) (a .columns) (a .rows) (a .strips .now) (length (a .pixels .now)) (sides (c .before .before .before .before) .0) (sides (c .before .before .before .before) .1) (well (c .before .before)) (c .before .if4 .taken) in
+    let at-else2 : tie.Else2 = search in
+    let at-start : tie.Start = search in
+    let a = at-start .args in
+    let out = refused-room (a .direction) (a .columns) (a .rows) (a .strips .now) (length (a .pixels .now)) (sides (at-else2) .0) (sides (at-else2) .1)
+    (well (c .before .before)) (c .before .if4 .taken) in
     let left = ap (pixelsAfter (a .pixels .now)) (sym out) in
     (c .refused4 .ensures ∙ ap doneAnswer (sym out), (left, after-again _ _ _ _ _ _ left))
 
 write-requires : tie.Need-write-requires
 write-requires c κs =
-    let s = sides (c .before .before .before .before) in (
+    let at-else2 : tie.Else2 = search in
+    let s = sides (at-else2) in (
       record {
         wide = side-range _ (s .0) .0;
         high = side-range _ (s .1) .0;
@@ -102,33 +101,21 @@ write-requires c κs =
       well (c .before .before),
     )
 
-same-length : tie.Need-same-length
-same-length c = search needs
-
 returns-5 : tie.Need-returns-5
 returns-5 c =
-    let a = c .before .before .before .before .before .before .before .before .before .before .before .before .args in
-    let s = sides (c .before .before .before .before .before .before .before) in
-    let out = given-set (a .direction) (a .columns) (a .rows) (a .strips .now) (length (a .pixels .now)) (s .0) (s .1) (well (c .before .before .before .before .before)) (c .before .before .before .before .if4 .left) in
+    let at-else4 : tie.Else4 = search in
+    let at-else3 : tie.Else3 = search in
+    let at-else2 : tie.Else2 = search in
+    let at-start : tie.Start = search in
+    let a = at-start .args in
+    let s = sides (at-else2) in
+    let out =
+    given-set (a .direction) (a .columns) (a .rows) (a .strips .now) (length (a .pixels .now)) (s .0) (s .1) (well (at-else3)) (at-else4 .if4 .left) in
     let left = c .before .before .write .ensures ∙ ap (pixelsAfter (a .pixels .now)) (sym out) in
     (ap doneAnswer (sym out), (left, after-again _ _ _ _ _ _ left))
 
 pub rebuild-spec : {M : Type 1} → statement M
 rebuild-spec =
-    tie.close
-    (tie.spec
-    side-in-range-requires
-    refused-requires
-    returns
-    side-in-range-requires-2
-    refused-requires-2
-    returns-2
-    strips-well-requires
-    refused-requires-3
-    returns-3
-    mul-if4
-    refused-requires-4
-    returns-4
-    write-requires
-    same-length
-    returns-5)
+    tie.close (tie.spec
+    (search needs) (search needs) returns (search needs) (search needs) returns-2 strips-well-requires (search needs) returns-3 mul-if4
+    (search needs) returns-4 write-requires (search needs) returns-5)

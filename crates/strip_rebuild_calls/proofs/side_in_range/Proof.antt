@@ -2,7 +2,6 @@
 use Prim.Native.Nat.{_≤_, _<_}
 use native.Mathlib.Omega.{arith}
 use borrow.Author.Tests.{le-leb, lt-leb}
-use borrow.Author.Needs.{needs}
 use Rattle.strip_rebuild_calls.proofs.side_in_range.Statement.{statement}
 use Rattle.strip_rebuild_calls.proofs.side_in_range.Tie as tie
 

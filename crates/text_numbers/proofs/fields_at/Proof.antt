@@ -29,70 +29,54 @@ loop-holds c =
     let a = c .before .args in
     (omega arith, refl, (λ h. absurd (omega arith)), read-none (a .text .now) [] (a .p) (a .count))
 
-sub-end-byte : tie.Need-sub-end-byte Inv-loop μ-loop
-sub-end-byte c = omega arith
-
-sub-end-byte-2 : tie.Need-sub-end-byte-2 Inv-loop μ-loop
-sub-end-byte-2 c = omega arith
-
-end-byte-requires : tie.Need-end-byte-requires Inv-loop μ-loop
-end-byte-requires c κs = search needs
-
 field-at-requires : tie.Need-field-at-requires Inv-loop μ-loop
 field-at-requires c κs = c .end-byte .ensures .1
 
-enum-known-number : tie.Need-enum-known-number Inv-loop μ-loop
-enum-known-number c = search needs
-
-enum-told : tie.Need-enum-told Inv-loop μ-loop
-enum-told c = search needs
-
 returns : tie.Need-returns Inv-loop μ-loop
 returns c =
-    let a = c .before .before .before .before .before .before .before .args in
+    let at-end-byte : tie.After-end-byte Inv-loop μ-loop = search in
+    let in-loop : tie.In-loop Inv-loop μ-loop = search in
+    let at-loop : tie.At-loop Inv-loop μ-loop = search in
+    let at-start : tie.Start Inv-loop μ-loop = search in
+    let a = at-start .args in
     let text = a .text .now in
-    let l = c .before .before .before .before .before .loop in
-    let end = c .before .before .before .end-byte .result in
-    let e : fieldAt end text (l .next) ≡ wrong = wrong-of (fieldAt end text (l .next)) (sym (c .enum-told .given .1) ∙ c .before .before .field-at .ensures .same) in
+    let l = at-loop .loop in
+    let end = at-end-byte .end-byte .result in
+    let e : fieldAt end text (l .next) ≡ wrong =
+    wrong-of (fieldAt end text (l .next)) (sym (c .enum-told .given .1) ∙ c .before .before .field-at .ensures .same) in
     record {
-      same = sym (l .inv .3) ∙ read-wrong text (l .numbers) (l .next) (l .k) (a .count) end (c .before .before .before .before .loop-test .taken) (c .before .before .before .end-byte .ensures .0) e;
+      same = sym (l .inv .3) ∙ read-wrong text (l .numbers) (l .next) (l .k) (a .count) end (in-loop .loop-test .taken) (at-end-byte .end-byte .ensures .0) e;
       inside = omega arith;
     }
 
-mul-numbers : tie.Need-mul-numbers Inv-loop μ-loop
-mul-numbers c = omega arith
-
-array-write-numbers : tie.Need-array-write-numbers Inv-loop μ-loop
-array-write-numbers c = omega arith
-
-add-k : tie.Need-add-k Inv-loop μ-loop
-add-k c = omega arith
-
-loop-less : tie.Need-loop-less Inv-loop μ-loop
-loop-less c = omega arith
-
 loop-again : tie.Need-loop-again Inv-loop μ-loop
 loop-again c =
-    let a = c .before .before .before .before .before .before .before .before .args in
+    let at-field-at : tie.After-field-at Inv-loop μ-loop = search in
+    let at-end-byte : tie.After-end-byte Inv-loop μ-loop = search in
+    let in-loop : tie.In-loop Inv-loop μ-loop = search in
+    let at-loop : tie.At-loop Inv-loop μ-loop = search in
+    let at-start : tie.Start Inv-loop μ-loop = search in
+    let a = at-start .args in
     let text = a .text .now in
-    let l = c .before .before .before .before .before .before .loop in
-    let end = c .before .before .before .before .end-byte .result in
+    let l = at-loop .loop in
+    let end = at-end-byte .end-byte .result in
     let v = c .before .number .given .0 .0 in
     let q = c .before .number .given .0 .1 .0 in
-    let g : number.Got v q ≡ c .before .before .before .field-at .result = sym (c .before .number .given .1) in
-    let e : fieldAt end text (l .next) ≡ got v q = got-of (fieldAt end text (l .next)) v q (g ∙ c .before .before .before .field-at .ensures .same) in
-    let i : q ≤ length text = rw (sym g) at (c .before .before .before .field-at .ensures .inside) in
-    let below : l .k < a .count = c .before .before .before .before .before .loop-test .taken in
+    let g : number.Got v q ≡ at-field-at .field-at .result = sym (c .before .number .given .1) in
+    let e : fieldAt end text (l .next) ≡ got v q = got-of (fieldAt end text (l .next)) v q (g ∙ at-field-at .field-at .ensures .same) in
+    let i : q ≤ length text = rw (sym g) at (at-field-at .field-at .ensures .inside) in
+    let below : l .k < a .count = in-loop .loop-test .taken in
     let room : l .k < length (l .numbers) = omega arith in (
       omega arith,
       length-set (l .numbers) (l .k) _ ∙ l .inv .1,
       (λ h. i),
-      read-more text (l .numbers) (l .next) (l .k) (a .count) end below (c .before .before .before .before .end-byte .ensures .0) v q room e ∙ l .inv .3,
+      read-more text (l .numbers) (l .next) (l .k) (a .count) end below (at-end-byte .end-byte .ensures .0) v q room e ∙ l .inv .3,
     )
 
 returns-2 : tie.Need-returns-2 Inv-loop μ-loop
 returns-2 c =
-    let a = c .before .before .before .args in
+    let at-start : tie.Start Inv-loop μ-loop = search in
+    let a = at-start .args in
     let l = c .before .loop in
     let done : l .k ≡ a .count = omega arith in
     record {
@@ -102,21 +86,6 @@ returns-2 c =
 
 pub fields-at-spec : {M : Type 1} → statement M
 fields-at-spec =
-    tie.close
-    (tie.spec
-    Inv-loop
-    μ-loop
-    loop-holds
-    sub-end-byte
-    sub-end-byte-2
-    end-byte-requires
-    field-at-requires
-    enum-known-number
-    enum-told
-    returns
-    mul-numbers
-    array-write-numbers
-    add-k
-    loop-less
-    loop-again
-    returns-2)
+    tie.close (tie.spec
+    Inv-loop μ-loop loop-holds (search needs) (search needs) (search needs) field-at-requires (search needs) (search needs) returns
+    (search needs) (search needs) (search needs) (search needs) loop-again returns-2)

@@ -9,24 +9,17 @@ use borrow.Author.Needs.{needs}
 use Rattle.text_numbers.proofs.line_at.Statement.{statement}
 use Rattle.text_numbers.proofs.line_at.Tie as tie
 
-word-at-requires : tie.Need-word-at-requires
-word-at-requires c κs = search needs
-
 returns : tie.Need-returns
 returns c =
-    let a = c .before .before .before .before .args in
+    let at-start : tie.Start = search in
+    let a = at-start .args in
     let no = said-no (c .before .word-at .ensures) (c .if1 .taken) in
     record { same = after-not (a .word .now) (a .text .now) (a .p) (fieldsAt (fieldEnds (a .count)) (a .text .now)) no; inside = omega arith }
 
-add-fields-at : tie.Need-add-fields-at
-add-fields-at c = search needs
-
-fields-at-requires : tie.Need-fields-at-requires
-fields-at-requires c κs = search needs
-
 returns-2 : tie.Need-returns-2
 returns-2 c =
-    let a = c .before .before .before .before .before .args in
+    let at-start : tie.Start = search in
+    let a = at-start .args in
     let yes = said-yes (c .before .before .word-at .ensures) (c .before .if1 .left) in
     record {
       same = after-word (a .word .now) (a .text .now) (a .p) (fieldsAt (fieldEnds (a .count)) (a .text .now)) yes ∙ c .fields-at .ensures .same;
@@ -34,4 +27,4 @@ returns-2 c =
     }
 
 pub line-at-spec : {M : Type 1} → statement M
-line-at-spec = tie.close (tie.spec word-at-requires returns add-fields-at fields-at-requires returns-2)
+line-at-spec = tie.close (tie.spec (search needs) returns (search needs) (search needs) returns-2)

@@ -3,9 +3,6 @@ use borrow.Author.Needs.{needs}
 use Rattle.c_interface.proofs.record.numbers_of.Statement.{statement}
 use Rattle.c_interface.proofs.record.numbers_of.Tie as tie
 
-degrees-of-requires : tie.Need-degrees-of-requires
-degrees-of-requires c κs = search needs
-
 returns : tie.Need-returns
 returns c = rw (c .if1 .taken, c .before .degrees-of .ensures)
 
@@ -13,4 +10,4 @@ returns-2 : tie.Need-returns-2
 returns-2 c = rw (c .if1 .left, c .before .degrees-of .ensures)
 
 pub numbers-of-spec : {M : Type 1} → statement M
-numbers-of-spec = tie.close (tie.spec degrees-of-requires returns returns-2)
+numbers-of-spec = tie.close (tie.spec (search needs) returns returns-2)

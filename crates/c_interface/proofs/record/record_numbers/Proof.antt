@@ -22,56 +22,36 @@ loop-holds c =
     let many : length pieces ≡ 64 = sym (length-map pieces _) ∙ c .before .good .0 .1 .1 .0 .1 .0 .1 in
     (omega arith, mapped-begin entryNumbers pieces _ (sym many))
 
-mul-numbers-of : tie.Need-mul-numbers-of Inv-loop μ-loop
-mul-numbers-of c = omega arith
-
 array-copy-out-numbers-of : tie.Need-array-copy-out-numbers-of Inv-loop μ-loop
 array-copy-out-numbers-of c = let below = c .loop-test .taken in omega arith
 
-numbers-of-requires : tie.Need-numbers-of-requires Inv-loop μ-loop
-numbers-of-requires c κs = search needs
-
-mul-numbers : tie.Need-mul-numbers Inv-loop μ-loop
-mul-numbers c = omega arith
-
 array-set-from-numbers : tie.Need-array-set-from-numbers Inv-loop μ-loop
 array-set-from-numbers c = let below = c .before .before .loop-test .taken in omega arith
-
-add-piece : tie.Need-add-piece Inv-loop μ-loop
-add-piece c = omega arith
 
 loop-less : tie.Need-loop-less Inv-loop μ-loop
 loop-less c = let below = c .before .before .loop-test .taken in omega arith
 
 loop-again : tie.Need-loop-again Inv-loop μ-loop
 loop-again c =
-    let pieces = c .before .before .before .before .before .args .sheet .pieces in
-    let many : length pieces ≡ 64 = sym (length-map pieces _) ∙ c .before .before .before .before .before .good .0 .1 .1 .0 .1 .0 .1 in
-    let l = c .before .before .before .loop in
+    let at-loop : tie.At-loop Inv-loop μ-loop = search in
+    let at-start : tie.Start Inv-loop μ-loop = search in
+    let pieces = at-start .args .sheet .pieces in
+    let many : length pieces ≡ 64 = sym (length-map pieces _) ∙ at-start .good .0 .1 .1 .0 .1 .0 .1 in
+    let l = at-loop .loop in
     let below = c .before .before .loop-test .taken in
     (omega arith, rw (c .numbers-of .ensures) (mapped-step entryNumbers pieces (l .numbers) (l .piece) blank (omega arith) (l .inv .1)))
 
 returns : tie.Need-returns Inv-loop μ-loop
 returns c =
-    let pieces = c .before .before .before .args .sheet .pieces in
-    let many : length pieces ≡ 64 = sym (length-map pieces _) ∙ c .before .before .before .good .0 .1 .1 .0 .1 .0 .1 in
+    let at-start : tie.Start Inv-loop μ-loop = search in
+    let pieces = at-start .args .sheet .pieces in
+    let many : length pieces ≡ 64 = sym (length-map pieces _) ∙ at-start .good .0 .1 .1 .0 .1 .0 .1 in
     let l = c .before .loop in
     let end = c .loop-test .left in
     mapped-end entryNumbers pieces (l .numbers) (l .piece) (omega arith) (l .inv .1)
 
 pub record-numbers-spec : {M : Type 1} → statement M
 record-numbers-spec =
-    tie.close
-    (tie.spec
-    Inv-loop
-    μ-loop
-    loop-holds
-    mul-numbers-of
-    array-copy-out-numbers-of
-    numbers-of-requires
-    mul-numbers
-    array-set-from-numbers
-    add-piece
-    loop-less
-    loop-again
-    returns)
+    tie.close (tie.spec
+    Inv-loop μ-loop loop-holds (search needs) array-copy-out-numbers-of (search needs) (search needs) array-set-from-numbers (search needs)
+    loop-less loop-again returns)

@@ -16,65 +16,41 @@ Inv-loop numbers pieces₀ i₀ pieces i = (i ≤ 64) × Mapped entryOfNumbers n
 abbrev μ-loop : tie.MeasureT-loop
 μ-loop numbers pieces₀ i₀ pieces i = 64 - i
 
-stray-entry-requires : tie.Need-stray-entry-requires Inv-loop μ-loop
-stray-entry-requires c κs = search needs
-
 loop-holds : tie.Need-loop-holds Inv-loop μ-loop
 loop-holds c =
     let many : length (c .before .args .t1) ≡ 64 = c .before .good .0 .1 .0 .1 in
     (omega arith, mapped-begin entryOfNumbers (c .before .args .t1) _ (sym many))
 
-mul-entry-of : tie.Need-mul-entry-of Inv-loop μ-loop
-mul-entry-of c = omega arith
-
 array-copy-out-entry-of : tie.Need-array-copy-out-entry-of Inv-loop μ-loop
 array-copy-out-entry-of c = let below = c .loop-test .taken in omega arith
 
-entry-of-requires : tie.Need-entry-of-requires Inv-loop μ-loop
-entry-of-requires c κs = search needs
-
-mul-pieces : tie.Need-mul-pieces Inv-loop μ-loop
-mul-pieces c = omega arith
-
 array-set-from-pieces : tie.Need-array-set-from-pieces Inv-loop μ-loop
 array-set-from-pieces c = let below = c .before .before .loop-test .taken in omega arith
-
-add-i : tie.Need-add-i Inv-loop μ-loop
-add-i c = omega arith
 
 loop-less : tie.Need-loop-less Inv-loop μ-loop
 loop-less c = let below = c .before .before .loop-test .taken in omega arith
 
 loop-again : tie.Need-loop-again Inv-loop μ-loop
 loop-again c =
-    let numbers = c .before .before .before .before .before .args .t1 in
-    let many : length numbers ≡ 64 = c .before .before .before .before .before .good .0 .1 .0 .1 in
-    let l = c .before .before .before .loop in
+    let at-loop : tie.At-loop Inv-loop μ-loop = search in
+    let at-start : tie.Start Inv-loop μ-loop = search in
+    let numbers = at-start .args .t1 in
+    let many : length numbers ≡ 64 = at-start .good .0 .1 .0 .1 in
+    let l = at-loop .loop in
     let below = c .before .before .loop-test .taken in
     (omega arith, rw (c .entry-of .ensures) (mapped-step entryOfNumbers numbers (l .pieces) (l .i) [] (omega arith) (l .inv .1)))
 
 returns : tie.Need-returns Inv-loop μ-loop
 returns c =
-    let numbers = c .before .before .before .args .t1 in
-    let many : length numbers ≡ 64 = c .before .before .before .good .0 .1 .0 .1 in
+    let at-start : tie.Start Inv-loop μ-loop = search in
+    let numbers = at-start .args .t1 in
+    let many : length numbers ≡ 64 = at-start .good .0 .1 .0 .1 in
     let l = c .before .loop in
     let end = c .loop-test .left in
     rw (mapped-end entryOfNumbers numbers (l .pieces) (l .i) (omega arith) (l .inv .1))
 
 pub record-of-spec : {M : Type 1} → statement M
 record-of-spec =
-    tie.close
-    (tie.spec
-    Inv-loop
-    μ-loop
-    stray-entry-requires
-    loop-holds
-    mul-entry-of
-    array-copy-out-entry-of
-    entry-of-requires
-    mul-pieces
-    array-set-from-pieces
-    add-i
-    loop-less
-    loop-again
-    returns)
+    tie.close (tie.spec
+    Inv-loop μ-loop (search needs) loop-holds (search needs) array-copy-out-entry-of (search needs) (search needs) array-set-from-pieces
+    (search needs) loop-less loop-again returns)

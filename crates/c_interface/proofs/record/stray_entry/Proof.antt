@@ -3,11 +3,8 @@ use borrow.Author.Needs.{needs}
 use Rattle.c_interface.proofs.record.stray_entry.Statement.{statement}
 use Rattle.c_interface.proofs.record.stray_entry.Tie as tie
 
-placement-of-requires : tie.Need-placement-of-requires
-placement-of-requires c κs = search needs
-
 returns : tie.Need-returns
 returns c = rw (c .placement-of .ensures)
 
 pub stray-entry-spec : {M : Type 1} → statement M
-stray-entry-spec = tie.close (tie.spec placement-of-requires returns)
+stray-entry-spec = tie.close (tie.spec (search needs) returns)

@@ -18,7 +18,7 @@ use Rattle.job_calls.proofs.reader.fill_piece.Tie as tie
 
 -- the places before a line that is read
 abbrev start : tie.After-h → tie.Start
-start p = p .before .before .before .before .before
+start p = search
 
 abbrev asked : tie.After-h → tie.After-piece-line
 asked p = p .before .before
@@ -60,7 +60,8 @@ returns c =
     let text = a .text .now in
     let s = c .before .r .given .0 .0 in
     let g : piece.Refused s ≡ asked .piece-line .result = sym (c .before .r .given .1) in
-    let e = piece-denied text (jobLineOf (a .j)) (a .i) (a .at .area) (a .at .next) (a .at .line) s (line-denied s (pieceLine text (jobLineOf (a .j)) (a .i) (a .at .area) (a .at .next) (a .at .line)) (g ∙ asked .piece-line .ensures .0)) in
+    let e = piece-denied text (jobLineOf (a .j)) (a .i) (a .at .area) (a .at .next) (a .at .line) s
+    (line-denied s (pieceLine text (jobLineOf (a .j)) (a .i) (a .at .area) (a .at .next) (a .at .line)) (g ∙ asked .piece-line .ensures .0)) in
     (sym (ap (placeAnswer (a .at .area) (a .at .line)) e), tt, rw e tt)
 
 returns-2 : tie.Need-returns-2
@@ -72,7 +73,8 @@ returns-2 c =
     let a = start p .args in
     let text = a .text .now in
     let h = p .h .given .0 .0 in
-    let e = piece-boxed text (jobLineOf (a .j)) (a .i) (a .at .area) (a .at .next) (a .at .line) (pieceLineOf h) (line-told h (pieceLine text (jobLineOf (a .j)) (a .i) (a .at .area) (a .at .next) (a .at .line)) (said p ∙ asked p .piece-line .ensures .0)) in
+    let e = piece-boxed text (jobLineOf (a .j)) (a .i) (a .at .area) (a .at .next) (a .at .line) (pieceLineOf h)
+    (line-told h (pieceLine text (jobLineOf (a .j)) (a .i) (a .at .area) (a .at .next) (a .at .line)) (said p ∙ asked p .piece-line .ensures .0)) in
     let x = boxAt text (a .at .line) (pieceLineOf h) in
     let b = filled .fill-box .ensures in
     let entered = stored .put-entry .ensures ∙ ap (set (a .table .now) (a .i)) (made .piece-entry .ensures) in (

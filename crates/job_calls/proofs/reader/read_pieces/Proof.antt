@@ -106,7 +106,8 @@ returns-4 c =
     let m : length (x .all .pixels) ≤ pl = rw (x .size) at (subst (λ (k : List ℕ). n ≤ length k) s (wide .if2 .left)) in
     let b : (ltb tl (a .j .size .count) || ltb pl (length (x .all .pixels))) ≡ false = rw (le-ltb _ _ l, le-ltb _ _ m) refl in
     let e : roomed text j tl pl ≡ given (asLent j (x .all)) = room-given text j tl pl (x .all) (x .gives) b in
-    let f : JobFilled (table ++ a .table .now) (second .fill-pieces2 .last .1 .1 .0) (store ++ a .pixels .now) (second .fill-pieces2 .last .1 .1 .1 .0) (x .all) = subst (PiecesStored _ _ _ _) (x .gives) (second .fill-pieces2 .ensures .1) in
+    let f : JobFilled (table ++ a .table .now) (second .fill-pieces2 .last .1 .1 .0) (store ++ a .pixels .now) (second .fill-pieces2 .last .1 .1 .1 .0)
+    (x .all) = subst (PiecesStored _ _ _ _) (x .gives) (second .fill-pieces2 .ensures .1) in
     let k : length (x .all .table) ≤ tl = rw (pieces-count text j (a .j .size .count) 0 0 (a .j .next) 2 (x .all) (x .gives)) l in
     subst (Leaves _ _ _ _ _) (sym e)
     (record {

@@ -11,6 +11,7 @@ use Rattle.list_laws.proofs.Searches.{not-all}
 use Rattle.list_laws.proofs.Tests.{said-no, said-yes}
 use Rattle.list_laws.proofs.Bounded.{all-from}
 use Rattle.job_check.specs.Boxes.{storedBox}
+use borrow.Author.Needs.{needs}
 use Rattle.job_check.proofs.lent.boxes_tight.Statement.{statement}
 use Rattle.job_check.proofs.lent.boxes_tight.Tie as tie
 
@@ -27,25 +28,17 @@ unfolding pixelStart
 loop-holds c = (omega arith, refl, omega arith, below-none _)
 
 stored-box-tight-requires : tie.Need-stored-box-tight-requires Inv-loop μ-loop
-stored-box-tight-requires c κs = (omega arith, omega arith, c .before .before .before .pre .2 (c .before .loop .i) (c .loop-test .taken), c .before .loop .inv .1)
+stored-box-tight-requires c κs =
+    let at-start' : tie.Start Inv-loop μ-loop = search in
+    (omega arith, omega arith, at-start' .pre .2 (c .before .loop .i) (c .loop-test .taken), c .before .loop .inv .1)
 
 returns : tie.Need-returns Inv-loop μ-loop
 returns c =
-    let a = c .before .before .before .before .before .args in
+    let at-loop : tie.At-loop Inv-loop μ-loop = search in
+    let at-start' : tie.Start Inv-loop μ-loop = search in
+    let a = at-start' .args in
     let f : ℕ → Bool = λ k. tight (storedBox (a .table .now) (a .pixels .now) k) in
-    sym (not-all (a .count) (c .before .before .before .loop .i) f (c .before .before .loop-test .taken) (said-no (c .before .stored-box-tight .ensures) (c .if1 .taken)))
-
-area-of-requires : tie.Need-area-of-requires Inv-loop μ-loop
-area-of-requires c κs = omega arith
-
-add-start : tie.Need-add-start Inv-loop μ-loop
-add-start c = omega arith
-
-add-i : tie.Need-add-i Inv-loop μ-loop
-add-i c = omega arith
-
-loop-less : tie.Need-loop-less Inv-loop μ-loop
-loop-less c = omega arith
+    sym (not-all (a .count) (at-loop .loop .i) f (c .before .before .loop-test .taken) (said-no (c .before .stored-box-tight .ensures) (c .if1 .taken)))
 
 loop-again : tie.Need-loop-again Inv-loop μ-loop
 unfolding pixelStart
@@ -62,22 +55,13 @@ loop-again c =
 
 returns-2 : tie.Need-returns-2 Inv-loop μ-loop
 returns-2 c =
-    let a = c .before .before .before .args in
+    let at-start' : tie.Start Inv-loop μ-loop = search in
+    let a = at-start' .args in
     let f : ℕ → Bool = λ k. tight (storedBox (a .table .now) (a .pixels .now) k) in
     sym (all-from (a .count) f (λ k h. c .before .loop .inv .3 k (omega arith)))
 
 pub boxes-tight-spec : {M : Type 1} → statement M
 boxes-tight-spec =
-    tie.close
-    (tie.spec
-    Inv-loop
-    μ-loop
-    loop-holds
-    stored-box-tight-requires
-    returns
-    area-of-requires
-    add-start
-    add-i
-    loop-less
-    loop-again
+    tie.close (tie.spec
+    Inv-loop μ-loop loop-holds stored-box-tight-requires returns (search needs) (search needs) (search needs) (search needs) loop-again
     returns-2)

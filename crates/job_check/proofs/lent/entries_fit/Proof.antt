@@ -8,6 +8,7 @@ use Rattle.model.specs.Lent.{entryFits}
 use Rattle.list_laws.proofs.Searches.{not-all}
 use Rattle.list_laws.proofs.Bounded.{all-from}
 use Rattle.list_laws.proofs.Tests.{said-no, said-yes}
+use borrow.Author.Needs.{needs}
 use Rattle.job_check.proofs.lent.entries_fit.Statement.{statement}
 use Rattle.job_check.proofs.lent.entries_fit.Tie as tie
 
@@ -20,20 +21,11 @@ abbrev μ-loop : tie.MeasureT-loop
 loop-holds : tie.Need-loop-holds Inv-loop μ-loop
 loop-holds c = (omega arith, below-none _)
 
-entry-fits-requires : tie.Need-entry-fits-requires Inv-loop μ-loop
-entry-fits-requires c κs = omega arith
-
 returns : tie.Need-returns Inv-loop μ-loop
 returns c =
     let at-start : tie.Start Inv-loop μ-loop = search in
     let a = at-start .args in
     sym (not-all (a .size .count) _ (entryFits (a .size) (a .table .now)) (omega arith) (said-no (c .before .entry-fits .ensures) (c .if2 .taken)))
-
-add-i : tie.Need-add-i Inv-loop μ-loop
-add-i c = omega arith
-
-loop-less : tie.Need-loop-less Inv-loop μ-loop
-loop-less c = omega arith
 
 loop-again : tie.Need-loop-again Inv-loop μ-loop
 loop-again c =
@@ -48,6 +40,4 @@ returns-2 c =
     sym (all-from (a .size .count) (entryFits (a .size) (a .table .now)) (λ i l. at .loop .inv .1 i (omega arith)))
 
 pub entries-fit-spec : {M : Type 1} → statement M
-entries-fit-spec =
-    tie.close
-    (tie.spec Inv-loop μ-loop loop-holds entry-fits-requires returns add-i loop-less loop-again returns-2)
+entries-fit-spec = tie.close (tie.spec Inv-loop μ-loop loop-holds (search needs) returns (search needs) (search needs) loop-again returns-2)

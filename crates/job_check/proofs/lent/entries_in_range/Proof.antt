@@ -8,6 +8,7 @@ use Rattle.model.specs.Lent.{entryInRange}
 use Rattle.list_laws.proofs.Searches.{not-all}
 use Rattle.list_laws.proofs.Tests.{said-no, said-yes}
 use Rattle.list_laws.proofs.Bounded.{all-from}
+use borrow.Author.Needs.{needs}
 use Rattle.job_check.proofs.lent.entries_in_range.Statement.{statement}
 use Rattle.job_check.proofs.lent.entries_in_range.Tie as tie
 
@@ -20,22 +21,17 @@ abbrev μ-loop : tie.MeasureT-loop
 loop-holds : tie.Need-loop-holds Inv-loop μ-loop
 loop-holds c = (omega arith, below-none _)
 
-entry-in-range-requires : tie.Need-entry-in-range-requires Inv-loop μ-loop
-entry-in-range-requires c κs = omega arith
-
 returns : tie.Need-returns Inv-loop μ-loop
 returns c =
-    let a = c .before .before .before .before .args in
-    sym (not-all (a .count) _ (entryInRange (a .table .now)) (c .before .before .loop-test .taken) (said-no (c .before .entry-in-range .ensures) (c .if1 .taken)))
-
-add-i : tie.Need-add-i Inv-loop μ-loop
-add-i c = omega arith
-
-loop-less : tie.Need-loop-less Inv-loop μ-loop
-loop-less c = omega arith
+    let at-start : tie.Start Inv-loop μ-loop = search in
+    let a = at-start .args in
+    sym (not-all (a .count) _ (entryInRange (a .table .now)) (c .before .before .loop-test .taken)
+    (said-no (c .before .entry-in-range .ensures) (c .if1 .taken)))
 
 loop-again : tie.Need-loop-again Inv-loop μ-loop
-loop-again c = (omega arith, below-more _ _ (c .before .before .before .loop .inv .1) (said-yes (c .before .entry-in-range .ensures) (c .if1 .left)))
+loop-again c =
+    let at-loop : tie.At-loop Inv-loop μ-loop = search in
+    (omega arith, below-more _ _ (at-loop .loop .inv .1) (said-yes (c .before .entry-in-range .ensures) (c .if1 .left)))
 
 returns-2 : tie.Need-returns-2 Inv-loop μ-loop
 returns-2 c =
@@ -44,14 +40,4 @@ returns-2 c =
 
 pub entries-in-range-spec : {M : Type 1} → statement M
 entries-in-range-spec =
-    tie.close
-    (tie.spec
-    Inv-loop
-    μ-loop
-    loop-holds
-    entry-in-range-requires
-    returns
-    add-i
-    loop-less
-    loop-again
-    returns-2)
+    tie.close (tie.spec Inv-loop μ-loop loop-holds (search needs) returns (search needs) (search needs) loop-again returns-2)

@@ -4,6 +4,7 @@ use Prim.Native.Nat.{_≤_, _*_, _-_}
 use native.Mathlib.Numerals.{add-one}
 use native.Mathlib.Omega.{arith}
 use Rattle.model.specs.Lent.{pixelStart, entryArea}
+use borrow.Author.Needs.{needs}
 use Rattle.job_check.proofs.lent.pixel_start.Statement.{statement}
 use Rattle.job_check.proofs.lent.pixel_start.Tie as tie
 
@@ -16,18 +17,6 @@ abbrev μ-loop : tie.MeasureT-loop
 loop-holds : tie.Need-loop-holds Inv-loop μ-loop
 unfolding pixelStart
 loop-holds c = (omega arith, refl, omega arith)
-
-area-of-requires : tie.Need-area-of-requires Inv-loop μ-loop
-area-of-requires c κs = omega arith
-
-add-start : tie.Need-add-start Inv-loop μ-loop
-add-start c = omega arith
-
-add-k : tie.Need-add-k Inv-loop μ-loop
-add-k c = omega arith
-
-loop-less : tie.Need-loop-less Inv-loop μ-loop
-loop-less c = omega arith
 
 loop-again : tie.Need-loop-again Inv-loop μ-loop
 unfolding pixelStart
@@ -48,5 +37,4 @@ returns c =
 
 pub pixel-start-spec : {M : Type 1} → statement M
 pixel-start-spec =
-    tie.close
-    (tie.spec Inv-loop μ-loop loop-holds area-of-requires add-start add-k loop-less loop-again returns)
+    tie.close (tie.spec Inv-loop μ-loop loop-holds (search needs) (search needs) (search needs) (search needs) loop-again returns)

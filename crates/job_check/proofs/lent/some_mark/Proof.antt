@@ -25,30 +25,22 @@ abbrev μ-loop : tie.MeasureT-loop
 loop-holds : tie.Need-loop-holds Inv-loop μ-loop
 loop-holds c = (omega arith, omega arith, omega arith, below-none _)
 
-byte-at-requires : tie.Need-byte-at-requires Inv-loop μ-loop
-byte-at-requires c κs = search needs
-
 returns : tie.Need-returns Inv-loop μ-loop
 returns c =
-    let a = c .before .before .before .before .before .args in
-    let l = c .before .before .before .loop in
+    let at-loop : tie.At-loop Inv-loop μ-loop = search in
+    let at-start : tie.Start Inv-loop μ-loop = search in
+    let a = at-start .args in
+    let l = at-loop .loop in
     let f : ℕ → Bool = λ i. eqb (getD (a .bytes .now) (a .first + i * a .step) 0) (a .mark) in
     let h : f (l .k) ≡ true = rw (← l .inv .1) (eq-eqb _ _ (sym (c .before .byte-at .ensures) ∙ c .if1 .taken)) in
     sym (any-from (a .count) (l .k) f (c .before .before .loop-test .taken) h)
 
-add-at : tie.Need-add-at Inv-loop μ-loop
-add-at c = omega arith
-
-add-k : tie.Need-add-k Inv-loop μ-loop
-add-k c = omega arith
-
-loop-less : tie.Need-loop-less Inv-loop μ-loop
-loop-less c = omega arith
-
 loop-again : tie.Need-loop-again Inv-loop μ-loop
 loop-again c =
-    let a = c .before .before .before .before .before .args in
-    let l = c .before .before .before .loop in
+    let at-loop : tie.At-loop Inv-loop μ-loop = search in
+    let at-start : tie.Start Inv-loop μ-loop = search in
+    let a = at-start .args in
+    let l = at-loop .loop in
     let f : ℕ → Bool = λ i. eqb (getD (a .bytes .now) (a .first + i * a .step) 0) (a .mark) in
     let h : f (l .k) ≡ false = rw (← l .inv .1) (ne-eqb _ _ (λ e. c .if1 .left (c .before .byte-at .ensures ∙ e))) in
     let e : l .at ≡ a .first + l .k * a .step = l .inv .1 in
@@ -56,21 +48,11 @@ loop-again c =
 
 returns-2 : tie.Need-returns-2 Inv-loop μ-loop
 returns-2 c =
-    let a = c .before .before .before .args in
+    let at-start : tie.Start Inv-loop μ-loop = search in
+    let a = at-start .args in
     let f : ℕ → Bool = λ i. eqb (getD (a .bytes .now) (a .first + i * a .step) 0) (a .mark) in
     sym (none-any (a .count) f (λ i h. c .before .loop .inv .3 i (omega arith)))
 
 pub some-mark-spec : {M : Type 1} → statement M
 some-mark-spec =
-    tie.close
-    (tie.spec
-    Inv-loop
-    μ-loop
-    loop-holds
-    byte-at-requires
-    returns
-    add-at
-    add-k
-    loop-less
-    loop-again
-    returns-2)
+    tie.close (tie.spec Inv-loop μ-loop loop-holds (search needs) returns (search needs) (search needs) (search needs) loop-again returns-2)

@@ -1,5 +1,4 @@
 -- `job_check::lent::stored_box_tight` takes sides and start of the box from its entry. Assumes nothing.
-use mathlib.Core.Path.{_≡_}
 use native.Mathlib.Omega.{arith}
 use Rattle.job_check.proofs.Boxes.{sides}
 use borrow.Author.Needs.{needs}

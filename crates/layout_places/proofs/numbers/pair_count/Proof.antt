@@ -12,9 +12,6 @@ returns : tie.Need-returns
 unfolding pairsFrom
 returns c = rw (c .if1 .taken)
 
-sub-result : tie.Need-sub-result
-sub-result c = search needs
-
 mul-result : tie.Need-mul-result
 mul-result c =
     let n = c .before .args .n in
@@ -26,4 +23,4 @@ returns-2 : tie.Need-returns-2
 returns-2 c = let n = c .before .args .n in omega (arith, pairs-length n, mul-sub n n 1, mul-one n)
 
 pub pair-count-spec : {M : Type 1} → statement M
-pair-count-spec = tie.close (tie.spec returns sub-result mul-result returns-2)
+pair-count-spec = tie.close (tie.spec returns (search needs) mul-result returns-2)

@@ -10,6 +10,7 @@ use Rattle.model.specs.Lent.{lentBy, jobOf}
 use Rattle.model.specs.Buffer.{entryOf}
 use Rattle.layout_start_calls.specs.Stacks.{stackOf, emptyStack, stackEntries}
 use Rattle.layout_start_calls.proofs.Stacks.{stack-step}
+use borrow.Author.Needs.{needs}
 use Rattle.layout_start_calls.proofs.stack.stack_all.Statement.{statement}
 use Rattle.layout_start_calls.proofs.stack.stack_all.Tie as tie
 
@@ -28,22 +29,34 @@ abbrev μ-loop : tie.MeasureT-loop
 
 -- the piece at the present place of the order is one of the job's
 listed : (c : tie.After-i Inv-loop μ-loop)
-    → getD (c .before .before .before .before .args .order .now) (c .before .before .before .loop .k) 0 < c .before .before .before .before .args .size .count
-listed c = c .before .before .before .before .pre .1 (c .before .before .before .loop .k) (c .before .if1 .taken)
+    →
+    let at-loop : tie.At-loop Inv-loop μ-loop = search in
+    let at-start : tie.Start Inv-loop μ-loop = search in
+    getD (at-start .args .order .now) (at-loop .loop .k) 0 < at-start .args .size .count
+listed c =
+    let at-loop : tie.At-loop Inv-loop μ-loop = search in
+    let at-start : tie.Start Inv-loop μ-loop = search in
+    at-start .pre .1 (at-loop .loop .k) (c .before .if1 .taken)
 
 loop-holds : tie.Need-loop-holds Inv-loop μ-loop
 loop-holds c = (omega arith, c .pre .3, omega arith, omega arith, λ pixels. refl)
 
 mul-i : tie.Need-mul-i Inv-loop μ-loop
-mul-i c = let h = c .before .before .before .pre .0 .fewPieces in omega arith
+mul-i c =
+    let at-start : tie.Start Inv-loop μ-loop = search in
+    let h = at-start .pre .0 .fewPieces in omega arith
 
 element-copy-out-i : tie.Need-element-copy-out-i Inv-loop μ-loop
-element-copy-out-i c = let h = c .before .before .before .pre .0 .fewPieces in omega arith
+element-copy-out-i c =
+    let at-start : tie.Start Inv-loop μ-loop = search in
+    let h = at-start .pre .0 .fewPieces in omega arith
 
 room-for-requires : tie.Need-room-for-requires Inv-loop μ-loop
 room-for-requires c κs =
-    let f = c .before .before .before .before .pre .0 in
-    let l = c .before .before .before .loop .inv in
+    let at-loop : tie.At-loop Inv-loop μ-loop = search in
+    let at-start : tie.Start Inv-loop μ-loop = search in
+    let f = at-start .pre .0 in
+    let l = at-loop .loop .inv in
     let i = listed c in (
       let e = f .entries in omega arith,
       f .rowsFit _ i,
@@ -53,7 +66,8 @@ room-for-requires c κs =
 
 on-top-requires : tie.Need-on-top-requires Inv-loop μ-loop
 on-top-requires c κs =
-    let f = c .before .before .before .before .before .pre .0 in
+    let at-start : tie.Start Inv-loop μ-loop = search in
+    let f = at-start .pre .0 in
     let i = listed (c .before) in
     (let e = f .entries in omega arith, f .columnsFit _ i, f .fewColumns)
 
@@ -62,75 +76,74 @@ entry-of-requires c κs = tt
 
 mul-t11 : tie.Need-mul-t11 Inv-loop μ-loop
 mul-t11 c =
-    let i = listed (c .before .before .before) in let n = c .before .before .before .before .before .before .before .pre .0 .fewPieces in omega arith
+    let at-i : tie.After-i Inv-loop μ-loop = search in
+    let at-start : tie.Start Inv-loop μ-loop = search in
+    let i = listed (at-i) in let n = at-start .pre .0 .fewPieces in omega arith
 
 slice-set-from-layout : tie.Need-slice-set-from-layout Inv-loop μ-loop
 slice-set-from-layout c =
-    let i = listed (c .before .before .before) in let n = c .before .before .before .before .before .before .loop .inv .1 in omega arith
+    let at-i : tie.After-i Inv-loop μ-loop = search in
+    let at-loop : tie.At-loop Inv-loop μ-loop = search in
+    let i = listed (at-i) in let n = at-loop .loop .inv .1 in omega arith
 
 piled-requires : tie.Need-piled-requires Inv-loop μ-loop
 piled-requires c κs =
-    let f = c .before .before .before .before .before .before .before .pre .0 in
-    let i = listed (c .before .before .before) in
+    let at-i : tie.After-i Inv-loop μ-loop = search in
+    let at-start : tie.Start Inv-loop μ-loop = search in
+    let f = at-start .pre .0 in
+    let i = listed (at-i) in
     (let e = f .entries in omega arith, c .before .before .room-for .ensures .onTop, f .fewRows)
 
 add-k : tie.Need-add-k Inv-loop μ-loop
 add-k c =
-    let n = c .before .before .before .before .before .before .before .before .pre .0 .fewPieces in let t = c .before .before .before .before .before .if1 .taken in omega arith
-
-loop-less : tie.Need-loop-less Inv-loop μ-loop
-loop-less c = omega arith
+    let at-then1 : tie.Then1 Inv-loop μ-loop = search in
+    let at-start : tie.Start Inv-loop μ-loop = search in
+    let n = at-start .pre .0 .fewPieces in let t = at-then1 .if1 .taken in omega arith
 
 loop-again : tie.Need-loop-again Inv-loop μ-loop
 loop-again c =
-    let a = c .before .before .before .before .before .before .before .before .args in
-    let l = c .before .before .before .before .before .before .before .loop in
-    let room = c .before .before .before .room-for .ensures in
+    let at-room-for : tie.After-room-for Inv-loop μ-loop = search in
+    let at-then1 : tie.Then1 Inv-loop μ-loop = search in
+    let at-loop : tie.At-loop Inv-loop μ-loop = search in
+    let at-start : tie.Start Inv-loop μ-loop = search in
+    let a = at-start .args in
+    let l = at-loop .loop in
+    let room = at-room-for .room-for .ensures in
     let top = c .piled .ensures in
     let order : List ℕ = take (a .size .count) (a .order .now) in
-    let here : getD order (l .k) 0 ≡ getD (a .order .now) (l .k) 0 = getD-take (a .size .count) (a .order .now) (l .k) 0 (c .before .before .before .before .before .if1 .taken) in
+    let here : getD order (l .k) 0 ≡ getD (a .order .now) (l .k) 0 = getD-take (a .size .count) (a .order .now) (l .k) 0 (at-then1 .if1 .taken) in
     let long : length order ≡ a .size .count =
-    length-take-le (a .size .count) (a .order .now) (let n = c .before .before .before .before .before .before .before .before .pre .2 in let f = c .before .before .before .before .before .before .before .before .pre .0 .fewPieces in omega arith) in (
+    length-take-le (a .size .count) (a .order .now) (let n = at-start .pre .2 in let f = at-start .pre .0 .fewPieces in omega arith) in (
       omega arith,
       length-set (l .layout) _ (c .before .entry-of .result) ∙ l .inv .1,
       top .height,
       let e = l .inv .3 in let r = room .end in let t = top .end in omega arith,
       λ pixels.
           stack-step (jobOf (lentBy (a .size) (a .table .now) pixels)) order (l .k) (getD (a .order .now) (l .k) 0) (stackOf (l .pile))
-          (stackOf (c .before .before .before .room-for .result)) (stackOf (c .piled .result)) (c .before .entry-of .result) (l .layout)
-          (let t = c .before .before .before .before .before .if1 .taken in omega arith) here (room .same pixels) (c .before .entry-of .ensures ∙ ap entryOf (c .before .before .on-top .ensures pixels)) (top .same pixels)
+          (stackOf (at-room-for .room-for .result)) (stackOf (c .piled .result)) (c .before .entry-of .result) (l .layout)
+          (let t = at-then1 .if1 .taken in omega arith) here (room .same pixels)
+          (c .before .entry-of .ensures ∙ ap entryOf (c .before .before .on-top .ensures pixels)) (top .same pixels)
           ∙ l .inv .4 pixels,
     )
 
 same-length : tie.Need-same-length Inv-loop μ-loop
-same-length c = c .before .before .loop .inv .1 ∙ sym (c .before .before .before .pre .3)
+same-length c =
+    let at-start : tie.Start Inv-loop μ-loop = search in
+    c .before .before .loop .inv .1 ∙ sym (at-start .pre .3)
 
 returns : tie.Need-returns Inv-loop μ-loop
 unfolding stackEntries
 returns c =
-    let a = c .before .before .before .args in
+    let at-start : tie.Start Inv-loop μ-loop = search in
+    let a = at-start .args in
     let l = c .before .before .loop in
     let order : List ℕ = take (a .size .count) (a .order .now) in
-    let end : drop (l .k) order ≡ [] = drop-of-length-le order {i = l .k} (let t = length-take (a .size .count) (a .order .now) in let h = c .if1 .left in omega arith) in
+    let end : drop (l .k) order ≡ [] =
+    drop-of-length-le order {i = l .k} (let t = length-take (a .size .count) (a .order .now) in let h = c .if1 .left in omega arith) in
     λ pixels. rw (end, stackEntries) at (l .inv .4 pixels)
 
 pub stack-all-spec : {M : Type 1} → statement M
 stack-all-spec =
-    tie.close
-    (tie.spec
-    Inv-loop
-    μ-loop
-    loop-holds
-    mul-i
-    element-copy-out-i
-    room-for-requires
-    on-top-requires
-    entry-of-requires
-    mul-t11
-    slice-set-from-layout
-    piled-requires
-    add-k
-    loop-less
-    loop-again
-    same-length
-    returns)
+    tie.close (tie.spec
+    Inv-loop μ-loop loop-holds mul-i element-copy-out-i room-for-requires on-top-requires entry-of-requires mul-t11 slice-set-from-layout
+    piled-requires add-k (search needs) loop-again same-length returns)

@@ -32,22 +32,25 @@ loop-holds c =
 
 sharing-in-row-requires : tie.Need-sharing-in-row-requires Inv-loop μ-loop
 sharing-in-row-requires c κs =
-    (c .before .before .before .pre, c .loop-test .taken)
+    let at-start : tie.Start Inv-loop μ-loop = search in
+    (at-start .pre, c .loop-test .taken)
 
 cast-t9 : tie.Need-cast-t9 Inv-loop μ-loop
 cast-t9 c =
-    let few = few-placed _ _ (c .before .before .before .before .before .pre .drawn .laid) in omega (arith, c .before .before .loop-test .taken)
+    let at-start : tie.Start Inv-loop μ-loop = search in
+    let few = few-placed _ _ (at-start .pre .drawn .laid) in omega (arith, c .before .before .loop-test .taken)
 
 cast-t10 : tie.Need-cast-t10 Inv-loop μ-loop
 cast-t10 c =
-    let few = few-placed _ _ (c .before .before .before .before .before .pre .drawn .laid) in omega (arith, c .if1 .taken)
+    let at-start : tie.Start Inv-loop μ-loop = search in
+    let few = few-placed _ _ (at-start .pre .drawn .laid) in omega (arith, c .if1 .taken)
 
 returns : tie.Need-returns Inv-loop μ-loop
-returns c =
-    λ size pixels d.
+returns c = λ size pixels d.
+    let at-loop : tie.At-loop Inv-loop μ-loop = search in
     sym
     (ap sharingAnswer
-    (c .before .before .before .loop .inv size pixels d ∙ rows-left _ _ _ (c .before .before .loop-test .taken)
+    (at-loop .loop .inv size pixels d ∙ rows-left _ _ _ (c .before .before .loop-test .taken)
     ∙ c .before .sharing-in-row .ensures size pixels d .found (c .if1 .taken) _))
 
 add-i : tie.Need-add-i Inv-loop μ-loop
@@ -59,9 +62,10 @@ loop-less c =
     omega (arith, c .before .before .loop-test .taken)
 
 loop-again : tie.Need-loop-again Inv-loop μ-loop
-loop-again c =
-    λ size pixels d.
-    c .before .before .before .loop .inv size pixels d ∙ rows-left _ _ _ (c .before .before .loop-test .taken) ∙ c .before .sharing-in-row .ensures size pixels d .none (c .if1 .left) _
+loop-again c = λ size pixels d.
+    let at-loop : tie.At-loop Inv-loop μ-loop = search in
+    at-loop .loop .inv size pixels d ∙ rows-left _ _ _ (c .before .before .loop-test .taken)
+    ∙ c .before .sharing-in-row .ensures size pixels d .none (c .if1 .left) _
 
 returns-2 : tie.Need-returns-2 Inv-loop μ-loop
 returns-2 c =

@@ -3,7 +3,6 @@
 use mathlib.Core.List.{List}
 use mathlib.Core.Path.{sym, _∙_}
 use Prim.Native.Nat.{ℕ, _-_}
-use native.Mathlib.Omega.{arith}
 use lib.ListN.{length}
 use Rattle.model.specs.Layout.{pairShares}
 use Rattle.model.specs.Lent.{lentBy, jobOf}
@@ -11,6 +10,7 @@ use Rattle.model.specs.Buffer.{layoutOf}
 use Rattle.model.specs.declared.JobSize.{JobSize}
 use Rattle.search_table.specs.Drawn.{RowsDrawn}
 use Rattle.layout_sum_calls.proofs.FirstPair.{LeftInRow, row-begin, row-first, row-next, row-none}
+use borrow.Author.Needs.{needs}
 use Rattle.layout_sum_calls.proofs.sharing.sharing_in_row.Statement.{statement}
 use Rattle.layout_sum_calls.proofs.sharing.sharing_in_row.Tie as tie
 
@@ -22,41 +22,30 @@ Inv-loop rows row-starts table layout i k₀ k =
 abbrev μ-loop : tie.MeasureT-loop
 μ-loop rows row-starts table layout i k₀ k = length layout - k
 
-add-k : tie.Need-add-k Inv-loop μ-loop
-add-k c = omega arith
-
 loop-holds : tie.Need-loop-holds Inv-loop μ-loop
 loop-holds c = λ size pixels d. row-begin _ _ _
 
 pair-shares-requires : tie.Need-pair-shares-requires Inv-loop μ-loop
-pair-shares-requires c κs = (c .before .before .before .pre .0, (c .before .before .before .pre .1, c .loop-test .taken))
+pair-shares-requires c κs =
+    let at-start : tie.Start Inv-loop μ-loop = search in
+    (at-start .pre .0, (at-start .pre .1, c .loop-test .taken))
 
 returns : tie.Need-returns Inv-loop μ-loop
-returns c = λ size pixels d. row-first _ _ _ _ (c .before .before .loop-test .taken) (sym (c .before .pair-shares .ensures size pixels d) ∙ c .if1 .taken) (c .before .before .before .loop .inv size pixels d)
-
-add-k-2 : tie.Need-add-k-2 Inv-loop μ-loop
-add-k-2 c = omega arith
-
-loop-less : tie.Need-loop-less Inv-loop μ-loop
-loop-less c = omega arith
+returns c = λ size pixels d.
+    let at-loop : tie.At-loop Inv-loop μ-loop = search in
+    row-first _ _ _ _ (c .before .before .loop-test .taken) (sym (c .before .pair-shares .ensures size pixels d) ∙ c .if1 .taken)
+    (at-loop .loop .inv size pixels d)
 
 loop-again : tie.Need-loop-again Inv-loop μ-loop
-loop-again c = λ size pixels d. row-next _ _ _ _ (c .before .before .loop-test .taken) (sym (c .before .pair-shares .ensures size pixels d) ∙ c .if1 .left) (c .before .before .before .loop .inv size pixels d)
+loop-again c = λ size pixels d.
+    let at-loop : tie.At-loop Inv-loop μ-loop = search in
+    row-next _ _ _ _ (c .before .before .loop-test .taken) (sym (c .before .pair-shares .ensures size pixels d) ∙ c .if1 .left)
+    (at-loop .loop .inv size pixels d)
 
 returns-2 : tie.Need-returns-2 Inv-loop μ-loop
 returns-2 c = λ size pixels d. row-none _ _ _ _ (c .loop-test .left) (c .before .loop .inv size pixels d)
 
 pub sharing-in-row-spec : {M : Type 1} → statement M
 sharing-in-row-spec =
-    tie.close
-    (tie.spec
-    Inv-loop
-    μ-loop
-    add-k
-    loop-holds
-    pair-shares-requires
-    returns
-    add-k-2
-    loop-less
-    loop-again
-    returns-2)
+    tie.close (tie.spec
+    Inv-loop μ-loop (search needs) loop-holds pair-shares-requires returns (search needs) (search needs) loop-again returns-2)

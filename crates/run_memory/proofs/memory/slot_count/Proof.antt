@@ -4,11 +4,8 @@ use borrow.Author.Needs.{needs}
 use Rattle.run_memory.proofs.memory.slot_count.Statement.{statement}
 use Rattle.run_memory.proofs.memory.slot_count.Tie as tie
 
-div-result : tie.Need-div-result
-div-result c = search needs
-
 returns : tie.Need-returns
 returns c = slots-of (c .args .width) (c .pre .0) (c .pre .1)
 
 pub slot-count-spec : {M : Type 1} → statement M
-slot-count-spec = tie.close (tie.spec div-result returns)
+slot-count-spec = tie.close (tie.spec (search needs) returns)

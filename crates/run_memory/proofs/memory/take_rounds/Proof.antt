@@ -34,7 +34,8 @@ fresh-part : (n : ℕ) → n ≤ pieceBound → length (take n fresh) ≡ n
 fresh-part n l = length-take-le n fresh (let e = length-replicate {A = List ℕ} 64 (0 ∷ 0 ∷ 0 ∷ []) in omega arith)
 
 -- that part after the layout is copied
-copied-part : (s : tie.Start) (copied rest : List (List ℕ)) → copied ≡ s .args .layout .now → take (s .args .size .count) (copied ++ rest) ≡ s .args .layout .now
+copied-part : (s : tie.Start) (copied rest : List (List ℕ)) → copied ≡ s .args .layout .now
+    → take (s .args .size .count) (copied ++ rest) ≡ s .args .layout .now
 copied-part s copied rest e = take-at copied rest (s .args .size .count) (ap (λ es. length es) e ∙ whole s) ∙ e
 
 -- the whole is long enough for that part
@@ -46,83 +47,59 @@ copied-room s copied rest e =
     omega arith
 
 array-borrow-prefix-present : tie.Need-array-borrow-prefix-present
-array-borrow-prefix-present c = few (c .before .before .before .before .before .before .before .before .before .before .before)
+array-borrow-prefix-present c =
+    let at-start : tie.Start = search in
+    few (at-start)
 
 slice-aggregate-copy : tie.Need-slice-aggregate-copy
-slice-aggregate-copy c = let s = c .before .before .before .before .before .before .before .before .before .before .before .before in sym (fresh-part (s .args .size .count) (few s))
+slice-aggregate-copy c =
+    let at-start : tie.Start = search in
+    sym (fresh-part (at-start .args .size .count) (few at-start))
 
 copy-requires : tie.Need-copy-requires
-copy-requires c κs = let s = c .before .before .before .before .before .before .before .before .before .before .before .before in fresh-part (s .args .size .count) (few s) ∙ sym (whole s)
+copy-requires c κs =
+    let at-start : tie.Start = search in
+    fresh-part (at-start .args .size .count) (few at-start) ∙ sym (whole at-start)
 
 array-borrow-prefix-present-2 : tie.Need-array-borrow-prefix-present-2
-array-borrow-prefix-present-2 c = copied-room (c .before .before .before .before .before .before .before .before .before .before .before .before .before .before) _ _ (c .before .copy .ensures)
+array-borrow-prefix-present-2 c =
+    let at-start : tie.Start = search in
+    copied-room (at-start) _ _ (c .before .copy .ensures)
 
 slice-aggregate-rounds : tie.Need-slice-aggregate-rounds
-slice-aggregate-rounds c = let s = c .before .before .before .before .before .before .before .before .before .before .before .before .before .before .before in sym (ap (λ es. length es) (copied-part s _ _ (c .before .before .copy .ensures)) ∙ whole s)
+slice-aggregate-rounds c =
+    let at-start : tie.Start = search in
+    sym (ap (λ es. length es) (copied-part at-start _ _ (c .before .before .copy .ensures)) ∙ whole at-start)
 
 rounds-requires : tie.Need-rounds-requires
 rounds-requires c κs =
-    let s = c .before .before .before .before .before .before .before .before .before .before .before .before .before .before .before .before .before .before .before .before .before .before .before in
-    let given = s .pre .0 in
-    let present = copied-part s _ _ (c .before .before .before .before .before .before .before .before .before .before .copy .ensures) in (
-      s .pre .1 .1 .0,
+    let at-copy : tie.After-copy = search in
+    let at-start : tie.Start = search in
+    let given = at-start .pre .0 in
+    let present = copied-part at-start _ _ (at-copy .copy .ensures) in (
+      at-start .pre .1 .1 .0,
       (
         given .weights,
         (
-          subst (λ v. LaidOut (job s) v (s .args .penalties .now)) (sym present) (s .pre .1 .1 .1 .0),
-          (s .pre .1 .1 .1 .1, (sym present, (s .pre .1 .0, given .few))),
+          subst (λ v. LaidOut (job at-start) v (at-start .args .penalties .now)) (sym present) (at-start .pre .1 .1 .1 .0),
+          (at-start .pre .1 .1 .1 .1, (sym present, (at-start .pre .1 .0, given .few))),
         ),
       ),
     )
 
-same-length : tie.Need-same-length
-same-length c = search needs
-
-same-length-2 : tie.Need-same-length-2
-same-length-2 c = search needs
-
-same-length-3 : tie.Need-same-length-3
-same-length-3 c = search needs
-
-same-length-4 : tie.Need-same-length-4
-same-length-4 c = search needs
-
-same-length-5 : tie.Need-same-length-5
-same-length-5 c = search needs
-
-same-length-6 : tie.Need-same-length-6
-same-length-6 c = search needs
-
-same-length-7 : tie.Need-same-length-7
-same-length-7 c = search needs
-
-same-length-8 : tie.Need-same-length-8
-same-length-8 c = search needs
-
 returns : tie.Need-returns
 returns c =
-    let s = c .before .before .before .before .before .before .before .before .before .before .before .before .before .before .before .before .before .before .before .before .before .before .before .before .before .before .before .before .before .before .before .before .before .before .before .before .before .before .before .before in
-    let made = c .before .before .before .before .before .before .before .before .before .before .before .before .before .before .before .before .rounds in
+    let at-rounds : tie.After-rounds = search in
+    let at-copy : tie.After-copy = search in
+    let at-start : tie.Start = search in
+    let made = at-rounds .rounds in
     subst
-    (λ v. Ran (job s) v (s .args .weights .now) (s .args .count) (s .args .budget) (made .result) (made .last .1 .1 .1 .1 .1 .1 .1 .1 .1 .1 .1 .0) (made .last .1 .1 .1 .1 .1 .1 .1 .1 .1 .1 .1 .1 .0))
-    (copied-part s _ _ (c .before .before .before .before .before .before .before .before .before .before .before .before .before .before .before .before .before .before .before .before .before .before .before .before .before .before .before .copy .ensures)) (made .ensures)
+    (λ v. Ran (job at-start) v (at-start .args .weights .now) (at-start .args .count) (at-start .args .budget) (made .result)
+    (made .last .1 .1 .1 .1 .1 .1 .1 .1 .1 .1 .1 .0) (made .last .1 .1 .1 .1 .1 .1 .1 .1 .1 .1 .1 .1 .0))
+    (copied-part at-start _ _ (at-copy .copy .ensures)) (made .ensures)
 
 pub take-rounds-spec : {M : Type 1} → statement M
 take-rounds-spec =
-    tie.close
-    (tie.spec
-    array-borrow-prefix-present
-    slice-aggregate-copy
-    copy-requires
-    array-borrow-prefix-present-2
-    slice-aggregate-rounds
-    rounds-requires
-    same-length
-    same-length-2
-    same-length-3
-    same-length-4
-    same-length-5
-    same-length-6
-    same-length-7
-    same-length-8
-    returns)
+    tie.close (tie.spec
+    array-borrow-prefix-present slice-aggregate-copy copy-requires array-borrow-prefix-present-2 slice-aggregate-rounds rounds-requires
+    (search needs) (search needs) (search needs) (search needs) (search needs) (search needs) (search needs) (search needs) returns)

@@ -25,36 +25,18 @@ drawn e =
     let laid = e .pre .0 .laid in
     record { inRows = record { laid = laid; horizontal = tools .horizontal }; vertical = tools .vertical }
 
-empty-lines-requires : tie.Need-empty-lines-requires
-empty-lines-requires c κs = search needs
-
-slot-count-requires : tie.Need-slot-count-requires
-slot-count-requires c κs = search needs
-
-slice-aggregate-fill-table : tie.Need-slice-aggregate-fill-table
-slice-aggregate-fill-table c = search needs
-
 fill-table-requires : tie.Need-fill-table-requires
 fill-table-requires c κs =
     let e : tie.Start = search in (record { size = e .args .size; pixels = e .args .pixels .now; drawn = drawn e }, refl)
 
-slice-aggregate-run-plan : tie.Need-slice-aggregate-run-plan
-slice-aggregate-run-plan c = search needs
-
 slice-aggregate-run-plan-2 : tie.Need-slice-aggregate-run-plan-2
 slice-aggregate-run-plan-2 c = let made : tie.After-empty-lines = search in sym (made .empty-lines .ensures)
-
-array-borrow-prefix-tags : tie.Need-array-borrow-prefix-tags
-array-borrow-prefix-tags c = search needs
 
 slice-aggregate-run-plan-3 : tie.Need-slice-aggregate-run-plan-3
 slice-aggregate-run-plan-3 c =
     let counted : tie.After-slot-count = search in
     let e : tie.Start = search in
     sym (tags-lent (e .args .width) (counted .slot-count .result) (counted .slot-count .ensures))
-
-slice-aggregate-run-plan-4 : tie.Need-slice-aggregate-run-plan-4
-slice-aggregate-run-plan-4 c = search needs
 
 run-plan-requires : tie.Need-run-plan-requires
 run-plan-requires c κs =
@@ -67,51 +49,30 @@ run-plan-requires c κs =
     let T = f .last .1 .1 .1 .1 .1 .1 .0 in
     let whole = g .laid .whole in
     let table : PenaltyTable (jobOf (lent e)) (layoutOf (e .args .layout .now)) (e .args .size .count) T =
-    subst (λ (n : ℕ). PenaltyTable (jobOf (lent e)) (layoutOf (e .args .layout .now)) n T) whole (f .ensures (e .args .size) (e .args .pixels .now) (drawn e)) in
+    subst (λ (n : ℕ). PenaltyTable (jobOf (lent e)) (layoutOf (e .args .layout .now)) n T) whole
+    (f .ensures (e .args .size) (e .args .pixels .now) (drawn e)) in
     let room = length-replicate {A = ℕ} 4096 0 in
     let slots = counted .slot-count in
-    let columns = store-fresh Vertical (jobOf (lent e)) (e .args .width) (slots .result) (lines .empty-lines .result) (lines .empty-lines .ensures) (slots .ensures) in (
+    let columns =
+    store-fresh Vertical (jobOf (lent e)) (e .args .width) (slots .result) (lines .empty-lines .result) (lines .empty-lines .ensures) (slots .ensures) in (
       g,
       (
         e .pre .1 .0,
         (
           e .pre .1 .1 .0,
-          (record { valid = g .laid .valid; written = g .written; table = table }, record { inRows = e .pre .1 .1 .1; inColumns = columns; scratch = omega arith }),
+          (
+            record { valid = g .laid .valid; written = g .written; table = table },
+            record { inRows = e .pre .1 .1 .1; inColumns = columns; scratch = omega arith },
+          ),
         ),
       ),
     )
-
-same-length : tie.Need-same-length
-same-length c = search needs
-
-same-length-2 : tie.Need-same-length-2
-same-length-2 c = search needs
-
-same-length-3 : tie.Need-same-length-3
-same-length-3 c = search needs
-
-same-length-4 : tie.Need-same-length-4
-same-length-4 c = search needs
 
 returns : tie.Need-returns
 returns c = let ran : tie.After-run-plan = search in ran .run-plan .ensures
 
 pub with-column-lines-spec : {M : Type 1} → statement M
 with-column-lines-spec =
-    tie.close
-    (tie.spec
-    empty-lines-requires
-    slot-count-requires
-    slice-aggregate-fill-table
-    fill-table-requires
-    slice-aggregate-run-plan
-    slice-aggregate-run-plan-2
-    array-borrow-prefix-tags
-    slice-aggregate-run-plan-3
-    slice-aggregate-run-plan-4
-    run-plan-requires
-    same-length
-    same-length-2
-    same-length-3
-    same-length-4
-    returns)
+    tie.close (tie.spec
+    (search needs) (search needs) (search needs) fill-table-requires (search needs) slice-aggregate-run-plan-2 (search needs)
+    slice-aggregate-run-plan-3 (search needs) run-plan-requires (search needs) (search needs) (search needs) (search needs) returns)

@@ -12,20 +12,11 @@ use Rattle.run_memory.proofs.memory.with_row_lines.Tie as tie
 abbrev job : tie.Start → Lent
 job s = lentBy (s .args .size) (s .args .table .now) (s .args .pixels .now)
 
-empty-lines-requires : tie.Need-empty-lines-requires
-empty-lines-requires c κs = search needs
-
 slot-width-requires : tie.Need-slot-width-requires
 slot-width-requires c κs = let s : tie.Start = search in facts (job s) (s .pre .0 .laid .well) .entries
 
-slot-count-requires : tie.Need-slot-count-requires
-slot-count-requires c κs = search needs
-
 slice-aggregate-with-column-lines : tie.Need-slice-aggregate-with-column-lines
 slice-aggregate-with-column-lines c = let made : tie.After-empty-lines = search in sym (made .empty-lines .ensures)
-
-array-borrow-prefix-tags : tie.Need-array-borrow-prefix-tags
-array-borrow-prefix-tags c = search needs
 
 slice-aggregate-with-column-lines-2 : tie.Need-slice-aggregate-with-column-lines-2
 slice-aggregate-with-column-lines-2 c =
@@ -58,26 +49,11 @@ with-column-lines-requires c κs =
       ),
     )
 
-same-length : tie.Need-same-length
-same-length c = search needs
-
-same-length-2 : tie.Need-same-length-2
-same-length-2 c = search needs
-
 returns : tie.Need-returns
 returns c = let ran : tie.After-with-column-lines = search in ran .with-column-lines .ensures
 
 pub with-row-lines-spec : {M : Type 1} → statement M
 with-row-lines-spec =
-    tie.close
-    (tie.spec
-    empty-lines-requires
-    slot-width-requires
-    slot-count-requires
-    slice-aggregate-with-column-lines
-    array-borrow-prefix-tags
-    slice-aggregate-with-column-lines-2
-    with-column-lines-requires
-    same-length
-    same-length-2
-    returns)
+    tie.close (tie.spec
+    (search needs) slot-width-requires (search needs) slice-aggregate-with-column-lines (search needs) slice-aggregate-with-column-lines-2
+    with-column-lines-requires (search needs) (search needs) returns)

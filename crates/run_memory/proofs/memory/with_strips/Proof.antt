@@ -5,17 +5,8 @@ use borrow.Author.Needs.{needs}
 use Rattle.run_memory.proofs.memory.with_strips.Statement.{statement}
 use Rattle.run_memory.proofs.memory.with_strips.Tie as tie
 
-empty-store-requires : tie.Need-empty-store-requires
-empty-store-requires c κs = search needs
-
-empty-store-requires-2 : tie.Need-empty-store-requires-2
-empty-store-requires-2 c κs = search needs
-
 slice-aggregate-make-shapes : tie.Need-slice-aggregate-make-shapes
 slice-aggregate-make-shapes c = let made : tie.After-empty-store = search in sym (made .empty-store .ensures)
-
-slice-aggregate-make-shapes-2 : tie.Need-slice-aggregate-make-shapes-2
-slice-aggregate-make-shapes-2 c = search needs
 
 make-shapes-requires : tie.Need-make-shapes-requires
 make-shapes-requires c κs =
@@ -26,26 +17,11 @@ make-shapes-requires c κs =
 slice-aggregate-make-shapes-3 : tie.Need-slice-aggregate-make-shapes-3
 slice-aggregate-make-shapes-3 c = let made : tie.After-empty-store2 = search in sym (made .empty-store2 .ensures)
 
-slice-aggregate-make-shapes-4 : tie.Need-slice-aggregate-make-shapes-4
-slice-aggregate-make-shapes-4 c = search needs
-
 make-shapes-requires-2 : tie.Need-make-shapes-requires-2
 make-shapes-requires-2 c κs =
     let at-start : tie.Start = search in
     let made : tie.After-empty-store2 = search in
     (at-start .pre .0 .laid .well, room-of _ (made .empty-store2 .ensures))
-
-slice-aggregate-with-row-lines : tie.Need-slice-aggregate-with-row-lines
-slice-aggregate-with-row-lines c = search needs
-
-slice-aggregate-with-row-lines-2 : tie.Need-slice-aggregate-with-row-lines-2
-slice-aggregate-with-row-lines-2 c = search needs
-
-slice-aggregate-with-row-lines-3 : tie.Need-slice-aggregate-with-row-lines-3
-slice-aggregate-with-row-lines-3 c = search needs
-
-slice-aggregate-with-row-lines-4 : tie.Need-slice-aggregate-with-row-lines-4
-slice-aggregate-with-row-lines-4 c = search needs
 
 with-row-lines-requires : tie.Need-with-row-lines-requires
 with-row-lines-requires c κs =
@@ -54,32 +30,12 @@ with-row-lines-requires c κs =
     let in-columns : tie.After-make-shapes2 = search in
     (at-start .pre .0, (at-start .pre .1, (in-rows .make-shapes .ensures, in-columns .make-shapes2 .ensures)))
 
-same-length : tie.Need-same-length
-same-length c = search needs
-
-same-length-2 : tie.Need-same-length-2
-same-length-2 c = search needs
-
 returns : tie.Need-returns
 returns c = let ran : tie.After-with-row-lines = search in ran .with-row-lines .ensures
 
 pub with-strips-spec : {M : Type 1} → statement M
 with-strips-spec =
-    tie.close
-    (tie.spec
-    empty-store-requires
-    empty-store-requires-2
-    slice-aggregate-make-shapes
-    slice-aggregate-make-shapes-2
-    make-shapes-requires
-    slice-aggregate-make-shapes-3
-    slice-aggregate-make-shapes-4
-    make-shapes-requires-2
-    slice-aggregate-with-row-lines
-    slice-aggregate-with-row-lines-2
-    slice-aggregate-with-row-lines-3
-    slice-aggregate-with-row-lines-4
-    with-row-lines-requires
-    same-length
-    same-length-2
-    returns)
+    tie.close (tie.spec
+    (search needs) (search needs) slice-aggregate-make-shapes (search needs) make-shapes-requires slice-aggregate-make-shapes-3
+    (search needs) make-shapes-requires-2 (search needs) (search needs) (search needs) (search needs) with-row-lines-requires
+    (search needs) (search needs) returns)

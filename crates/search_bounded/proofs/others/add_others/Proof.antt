@@ -22,25 +22,37 @@ abbrev μ-loop : tie.MeasureT-loop
 μ-loop size table pixels strips starts layout weights mover track bound width lines₀ tags₀ sums₀ k₀ lines tags sums k = size .count - k
 
 loop-holds : tie.Need-loop-holds Inv-loop μ-loop
-loop-holds c = let e = c .before .before .before .before .before .before in (omega arith, refl, refl, refl, e .pre .1 .1 .1, e .pre .0)
+loop-holds c =
+    let at-start : tie.Start Inv-loop μ-loop = search in
+    (omega arith, refl, refl, refl, at-start .pre .1 .1 .1, at-start .pre .0)
 
 add-other-requires : tie.Need-add-other-requires Inv-loop μ-loop
 add-other-requires c κs =
-    let e = c .before .before .before .before .before .before .before .before .before .before .before .before in
-    let p = c .before .before .before .before .before .loop in
-    (p .inv .5, (e .pre .1 .0, (e .pre .1 .1 .0, (c .before .before .before .if1 .taken, p .inv .4))))
+    let at-then1 : tie.Then1 Inv-loop μ-loop = search in
+    let at-loop : tie.At-loop Inv-loop μ-loop = search in
+    let at-start : tie.Start Inv-loop μ-loop = search in
+    let p = at-loop .loop in
+    (p .inv .5, (at-start .pre .1 .0, (at-start .pre .1 .1 .0, (at-then1 .if1 .taken, p .inv .4))))
 
 add-k : tie.Need-add-k Inv-loop μ-loop
-add-k c = let t = c .before .before .before .before .before .before .before .before .before .before .if1 .taken in omega (arith, facts _ (c .before .before .before .before .before .before .before .before .before .before .before .before .before .before .before .before .before .before .before .pre .0 .laid .well) .fewPieces)
+add-k c =
+    let at-then1 : tie.Then1 Inv-loop μ-loop = search in
+    let at-start : tie.Start Inv-loop μ-loop = search in
+    let t = at-then1 .if1 .taken in omega (arith, facts _ (at-start .pre .0 .laid .well) .fewPieces)
 
 loop-less : tie.Need-loop-less Inv-loop μ-loop
-loop-less c = let t = c .before .before .before .before .before .before .before .before .before .before .if1 .taken in omega arith
+loop-less c =
+    let at-then1 : tie.Then1 Inv-loop μ-loop = search in
+    let t = at-then1 .if1 .taken in omega arith
 
 loop-again : tie.Need-loop-again Inv-loop μ-loop
 loop-again c =
-    let p = c .before .before .before .before .before .before .before .before .before .before .before .before .loop in
-    let t = c .before .before .before .before .before .before .before .before .before .before .if1 .taken in
-    let x = c .before .before .before .before .before .before .add-other in (
+    let at-add-other : tie.After-add-other Inv-loop μ-loop = search in
+    let at-then1 : tie.Then1 Inv-loop μ-loop = search in
+    let at-loop : tie.At-loop Inv-loop μ-loop = search in
+    let p = at-loop .loop in
+    let t = at-then1 .if1 .taken in
+    let x = at-add-other .add-other in (
       omega arith,
       x .kept .1 .1 .1 .1 .1 .1 .1 .1 .1 .1 .1 .1 .0 ∙ p .inv .1,
       x .kept .1 .1 .1 .1 .1 .1 .1 .1 .1 .1 .1 .1 .1 .0 ∙ p .inv .2,
@@ -60,10 +72,15 @@ same-length-3 c = c .before .before .loop .inv .3
 
 returns : tie.Need-returns Inv-loop μ-loop
 returns c =
-    let a = c .before .before .before .before .before .before .before .before .before .args in
+    let at-start : tie.Start Inv-loop μ-loop = search in
+    let a = at-start .args in
     let p = c .before .before .loop in
-    let done : p .k ≡ a .size .count = (let t = c .if1 .left in let b = p .inv .0 in omega arith) in
-    (subst (λ k. Summed (jobOf (lentBy (a .size) (a .table .now) (a .pixels .now))) (a .weights .now) (layoutOf (a .layout .now)) (a .mover) (a .bound) k (p .sums)) done (p .inv .4), p .inv .5)
+    let done : p .k ≡ a .size .count = (let t = c .if1 .left in let b = p .inv .0 in omega arith) in (
+      subst (λ k.
+          Summed (jobOf (lentBy (a .size) (a .table .now) (a .pixels .now))) (a .weights .now) (layoutOf (a .layout .now)) (a .mover) (a .bound) k (p .sums))
+          done (p .inv .4),
+      p .inv .5,
+    )
 
 pub add-others-spec : {M : Type 1} → statement M
 add-others-spec =

@@ -3,12 +3,6 @@ use borrow.Author.Needs.{needs}
 use Rattle.search_bounded.proofs.others.beside.Statement.{statement}
 use Rattle.search_bounded.proofs.others.beside.Tie as tie
 
-direction-of-requires : tie.Need-direction-of-requires
-direction-of-requires c κs = search needs
-
-standing-of-requires : tie.Need-standing-of-requires
-standing-of-requires c κs = search needs
-
 returns : tie.Need-returns
 returns c = λ size pixels.
     let a = c .before .before .args in
@@ -20,4 +14,4 @@ returns c = λ size pixels.
     }
 
 pub beside-spec : {M : Type 1} → statement M
-beside-spec = tie.close (tie.spec direction-of-requires standing-of-requires returns)
+beside-spec = tie.close (tie.spec (search needs) (search needs) returns)

@@ -12,127 +12,145 @@ use Rattle.search_bounded.proofs.others.penalty_at.Tie as tie
 
 beside-requires : tie.Need-beside-requires
 beside-requires c κs =
-    let e = c .before .before .before .before in
-    let a = e .args in
+    let at-start : tie.Start = search in
+    let a = at-start .args in
     let l = lentBy (a .size) (a .table .now) (a .pixels .now) in
-    piece-entries l (a .layout .now) (a .k) (e .pre .0 .laid) (e .pre .1 .1 .0)
+    piece-entries l (a .layout .now) (a .k) (at-start .pre .0 .laid) (at-start .pre .1 .1 .0)
 
 reach-of-requires : tie.Need-reach-of-requires
 reach-of-requires c κs =
-    let e = c .before .before .before .before .before in
-    let a = e .args in
+    let at-start : tie.Start = search in
+    let a = at-start .args in
     let l = lentBy (a .size) (a .table .now) (a .pixels .now) in
     let b = c .beside in
-    (e .pre .1 .0 .small, (b .ensures (a .size) (a .pixels .now) .small, e .pre .1 .0 .some))
+    (at-start .pre .1 .0 .small, (b .ensures (a .size) (a .pixels .now) .small, at-start .pre .1 .0 .some))
 
 returns : tie.Need-returns
 returns c =
-    let e = c .before .before .before .before .before .before .before in
-    let a = e .args in
+    let at-start : tie.Start = search in
+    let a = at-start .args in
     let l = lentBy (a .size) (a .table .now) (a .pixels .now) in
     let b = c .before .before .beside in
-    let r = c .before .reach-of in
-    (sym (outside-zero l (layoutOf (a .layout .now)) (a .mover) (a .track) (b .result) (a .k) (e .pre .1 .0) (b .ensures (a .size) (a .pixels .now)) (r .result) (r .ensures) (a .at) (e .pre .1 .1 .1) (inl (c .if1 .taken))), e .pre .0)
+    let r = c .before .reach-of in (
+      sym (outside-zero l (layoutOf (a .layout .now)) (a .mover) (a .track) (b .result) (a .k) (at-start .pre .1 .0) (b .ensures (a .size) (a .pixels .now))
+          (r .result) (r .ensures) (a .at) (at-start .pre .1 .1 .1) (inl (c .if1 .taken))),
+      at-start .pre .0,
+    )
 
 returns-2 : tie.Need-returns-2
 returns-2 c =
-    let e = c .before .before .before .before .before .before .before .before in
-    let a = e .args in
+    let at-beside : tie.After-beside = search in
+    let at-start : tie.Start = search in
+    let a = at-start .args in
     let l = lentBy (a .size) (a .table .now) (a .pixels .now) in
-    let b = c .before .before .before .beside in
-    let r = c .before .before .reach-of in
-    (sym (outside-zero l (layoutOf (a .layout .now)) (a .mover) (a .track) (b .result) (a .k) (e .pre .1 .0) (b .ensures (a .size) (a .pixels .now)) (r .result) (r .ensures) (a .at) (e .pre .1 .1 .1) (inr (c .if2 .taken))), e .pre .0)
+    let b = at-beside .beside in
+    let r = c .before .before .reach-of in (
+      sym (outside-zero l (layoutOf (a .layout .now)) (a .mover) (a .track) (b .result) (a .k) (at-start .pre .1 .0) (b .ensures (a .size) (a .pixels .now))
+          (r .result) (r .ensures) (a .at) (at-start .pre .1 .1 .1) (inr (c .if2 .taken))),
+      at-start .pre .0,
+    )
 
 line-with-requires : tie.Need-line-with-requires
 line-with-requires c κs =
-    let e = c .before .before .before .before .before .before .before .before .before .before in
-    let a = e .args in
+    let at-else1 : tie.Else1 = search in
+    let at-reach-of : tie.After-reach-of = search in
+    let at-beside : tie.After-beside = search in
+    let at-start : tie.Start = search in
+    let a = at-start .args in
     let l = lentBy (a .size) (a .table .now) (a .pixels .now) in
-    let b = c .before .before .before .before .before .beside in
-    let r = c .before .before .before .before .reach-of in
-    let low = c .before .before .before .if1 .left in
+    let b = at-beside .beside in
+    let r = at-reach-of .reach-of in
+    let low = at-else1 .if1 .left in
     let high = c .before .before .if2 .left in
     let t = r .ensures .touching (omega arith) in
-    (e .pre .0, (e .pre .1 .0, (b .ensures (a .size) (a .pixels .now), (e .pre .1 .1 .0, (t .lifted, t .near)))))
+    (at-start .pre .0, (at-start .pre .1 .0, (b .ensures (a .size) (a .pixels .now), (at-start .pre .1 .1 .0, (t .lifted, t .near)))))
 
 add-from : tie.Need-add-from
 add-from c =
-    let e = c .before .before .before .before .before .before .before .before .before .before .before .before .before .before .before .before in
-    let a = e .args in
+    let at-line-with : tie.After-line-with = search in
+    let at-else2 : tie.Else2 = search in
+    let at-else1 : tie.Else1 = search in
+    let at-reach-of : tie.After-reach-of = search in
+    let at-beside : tie.After-beside = search in
+    let at-start : tie.Start = search in
+    let a = at-start .args in
     let l = lentBy (a .size) (a .table .now) (a .pixels .now) in
-    let b = c .before .before .before .before .before .before .before .before .before .before .before .beside in
-    let r = c .before .before .before .before .before .before .before .before .before .before .reach-of in
-    let low = c .before .before .before .before .before .before .before .before .before .if1 .left in
-    let high = c .before .before .before .before .before .before .before .before .if2 .left in
+    let b = at-beside .beside in
+    let r = at-reach-of .reach-of in
+    let low = at-else1 .if1 .left in
+    let high = at-else2 .if2 .left in
     let t = r .ensures .touching (omega arith) in
-    let w = c .before .before .before .before .before .line-with in
-    let h = reach-within l (layoutOf (a .layout .now)) (a .mover) (a .track) (b .result) (a .k) (r .result) (w .last .1 .1 .1 .1 .1 .1 .1 .1 .1 .1 .1 .0) (w .result) (e .pre .1 .0) (b .ensures (a .size) (a .pixels .now)) t (w .ensures .0) in
+    let w = at-line-with .line-with in
+    let h = reach-within l (layoutOf (a .layout .now)) (a .mover) (a .track) (b .result) (a .k) (r .result) (w .last .1 .1 .1 .1 .1 .1 .1 .1 .1 .1 .1 .0)
+    (w .result) (at-start .pre .1 .0) (b .ensures (a .size) (a .pixels .now)) t (w .ensures .0) in
     let f = w .ensures .1 .fits in
     omega arith
 
 add-from-2 : tie.Need-add-from-2
 add-from-2 c =
-    let e = c .before .before .before .before .before .before .before .before .before .before .before .before .before .before .before .before in
-    let a = e .args in
+    let at-line-with : tie.After-line-with = search in
+    let at-else2 : tie.Else2 = search in
+    let at-else1 : tie.Else1 = search in
+    let at-reach-of : tie.After-reach-of = search in
+    let at-beside : tie.After-beside = search in
+    let at-start : tie.Start = search in
+    let a = at-start .args in
     let l = lentBy (a .size) (a .table .now) (a .pixels .now) in
-    let b = c .before .before .before .before .before .before .before .before .before .before .before .beside in
-    let r = c .before .before .before .before .before .before .before .before .before .before .reach-of in
-    let low = c .before .before .before .before .before .before .before .before .before .if1 .left in
-    let high = c .before .before .before .before .before .before .before .before .if2 .left in
+    let b = at-beside .beside in
+    let r = at-reach-of .reach-of in
+    let low = at-else1 .if1 .left in
+    let high = at-else2 .if2 .left in
     let t = r .ensures .touching (omega arith) in
-    let w = c .before .before .before .before .before .line-with in
-    let h = reach-within l (layoutOf (a .layout .now)) (a .mover) (a .track) (b .result) (a .k) (r .result) (w .last .1 .1 .1 .1 .1 .1 .1 .1 .1 .1 .1 .0) (w .result) (e .pre .1 .0) (b .ensures (a .size) (a .pixels .now)) t (w .ensures .0) in
+    let w = at-line-with .line-with in
+    let h = reach-within l (layoutOf (a .layout .now)) (a .mover) (a .track) (b .result) (a .k) (r .result) (w .last .1 .1 .1 .1 .1 .1 .1 .1 .1 .1 .1 .0)
+    (w .result) (at-start .pre .1 .0) (b .ensures (a .size) (a .pixels .now)) t (w .ensures .0) in
     let f = w .ensures .1 .fits in
     omega arith
 
 slice-read-result : tie.Need-slice-read-result
 slice-read-result c =
-    let e = c .before .before .before .before .before .before .before .before .before .before .before .before .before .before .before .before .before in
-    let a = e .args in
+    let at-line-with : tie.After-line-with = search in
+    let at-else2 : tie.Else2 = search in
+    let at-else1 : tie.Else1 = search in
+    let at-reach-of : tie.After-reach-of = search in
+    let at-beside : tie.After-beside = search in
+    let at-start : tie.Start = search in
+    let a = at-start .args in
     let l = lentBy (a .size) (a .table .now) (a .pixels .now) in
-    let b = c .before .before .before .before .before .before .before .before .before .before .before .before .beside in
-    let r = c .before .before .before .before .before .before .before .before .before .before .before .reach-of in
-    let low = c .before .before .before .before .before .before .before .before .before .before .if1 .left in
-    let high = c .before .before .before .before .before .before .before .before .before .if2 .left in
+    let b = at-beside .beside in
+    let r = at-reach-of .reach-of in
+    let low = at-else1 .if1 .left in
+    let high = at-else2 .if2 .left in
     let t = r .ensures .touching (omega arith) in
-    let w = c .before .before .before .before .before .before .line-with in
-    let h = reach-within l (layoutOf (a .layout .now)) (a .mover) (a .track) (b .result) (a .k) (r .result) (w .last .1 .1 .1 .1 .1 .1 .1 .1 .1 .1 .1 .0) (w .result) (e .pre .1 .0) (b .ensures (a .size) (a .pixels .now)) t (w .ensures .0) in
+    let w = at-line-with .line-with in
+    let h = reach-within l (layoutOf (a .layout .now)) (a .mover) (a .track) (b .result) (a .k) (r .result) (w .last .1 .1 .1 .1 .1 .1 .1 .1 .1 .1 .1 .0)
+    (w .result) (at-start .pre .1 .0) (b .ensures (a .size) (a .pixels .now)) t (w .ensures .0) in
     let f = w .ensures .1 .fits in
     omega arith
 
-same-length : tie.Need-same-length
-same-length c = search needs
-
-same-length-2 : tie.Need-same-length-2
-same-length-2 c = search needs
-
 returns-3 : tie.Need-returns-3
 returns-3 c =
-    let e = c .before .before .before .before .before .before .before .before .before .before .before .before .before .before .before .before .before in
-    let a = e .args in
+    let at-line-with : tie.After-line-with = search in
+    let at-else2 : tie.Else2 = search in
+    let at-else1 : tie.Else1 = search in
+    let at-reach-of : tie.After-reach-of = search in
+    let at-beside : tie.After-beside = search in
+    let at-start : tie.Start = search in
+    let a = at-start .args in
     let l = lentBy (a .size) (a .table .now) (a .pixels .now) in
-    let b = c .before .before .before .before .before .before .before .before .before .before .before .before .beside in
-    let r = c .before .before .before .before .before .before .before .before .before .before .before .reach-of in
-    let low = c .before .before .before .before .before .before .before .before .before .before .if1 .left in
-    let high = c .before .before .before .before .before .before .before .before .before .if2 .left in
+    let b = at-beside .beside in
+    let r = at-reach-of .reach-of in
+    let low = at-else1 .if1 .left in
+    let high = at-else2 .if2 .left in
     let t = r .ensures .touching (omega arith) in
-    let w = c .before .before .before .before .before .before .line-with in (
-      reach-at l (layoutOf (a .layout .now)) (a .mover) (a .track) (b .result) (a .k) (r .result) (w .last .1 .1 .1 .1 .1 .1 .1 .1 .1 .1 .1 .0) (w .result) (e .pre .1 .0) (b .ensures (a .size) (a .pixels .now)) t (w .ensures .0) (a .at) low high,
+    let w = at-line-with .line-with in (
+      reach-at l (layoutOf (a .layout .now)) (a .mover) (a .track) (b .result) (a .k) (r .result) (w .last .1 .1 .1 .1 .1 .1 .1 .1 .1 .1 .1 .0) (w .result)
+          (at-start .pre .1 .0) (b .ensures (a .size) (a .pixels .now)) t (w .ensures .0) (a .at) low high,
       w .ensures .1,
     )
 
 pub penalty-at-spec : {M : Type 1} → statement M
 penalty-at-spec =
-    tie.close
-    (tie.spec
-    beside-requires
-    reach-of-requires
-    returns
-    returns-2
-    line-with-requires
-    add-from
-    add-from-2
-    slice-read-result
-    same-length
-    same-length-2
-    returns-3)
+    tie.close (tie.spec
+    beside-requires reach-of-requires returns returns-2 line-with-requires add-from add-from-2 slice-read-result (search needs)
+    (search needs) returns-3)

@@ -15,103 +15,87 @@ use Rattle.search_bounded.proofs.others.renew_other.Tie as tie
 
 returns : tie.Need-returns
 returns c =
-    let e = c .before .before .before .before .before .before in
-    let a = e .args in
+    let at-start : tie.Start = search in
+    let a = at-start .args in
     let j = jobOf (lentBy (a .size) (a .table .now) (a .pixels .now)) in
-    let p = onLine (a .mover .line) (a .mover .turn) (a .at) in
-    (renewed-own j (layoutOf (a .layout .now)) (a .size .count) (a .mover .piece) p (a .k) (a .penalties .now) (c .if1 .taken) (e .pre .1 .1 .1), e .pre .0)
-
-penalty-at-requires : tie.Need-penalty-at-requires
-penalty-at-requires c κs = search needs
+    let p = onLine (a .mover .line) (a .mover .turn) (a .at) in (
+      renewed-own j (layoutOf (a .layout .now)) (a .size .count) (a .mover .piece) p (a .k) (a .penalties .now) (c .if1 .taken) (at-start .pre .1 .1 .1),
+      at-start .pre .0,
+    )
 
 mul-penalties : tie.Need-mul-penalties
 mul-penalties c =
-    let e = c .before .before .before .before .before .before .before .before .before .before .before .before .before in
-    let few = facts _ (e .pre .0 .laid .well) .fewPieces in
-    let i = e .pre .1 .0 .piece in
-    let k = e .pre .1 .1 .0 .0 in
-    let size = e .pre .1 .1 .1 .size in
+    let at-start : tie.Start = search in
+    let few = facts _ (at-start .pre .0 .laid .well) .fewPieces in
+    let i = at-start .pre .1 .0 .piece in
+    let k = at-start .pre .1 .1 .0 .0 in
+    let size = at-start .pre .1 .1 .1 .size in
     omega arith
 
 add-penalties : tie.Need-add-penalties
 add-penalties c =
-    let e = c .before .before .before .before .before .before .before .before .before .before .before .before .before in
-    let few = facts _ (e .pre .0 .laid .well) .fewPieces in
-    let i = e .pre .1 .0 .piece in
-    let k = e .pre .1 .1 .0 .0 in
-    let size = e .pre .1 .1 .1 .size in
+    let at-start : tie.Start = search in
+    let few = facts _ (at-start .pre .0 .laid .well) .fewPieces in
+    let i = at-start .pre .1 .0 .piece in
+    let k = at-start .pre .1 .1 .0 .0 in
+    let size = at-start .pre .1 .1 .1 .size in
     omega arith
 
 slice-write-penalties : tie.Need-slice-write-penalties
 slice-write-penalties c =
-    let e = c .before .before .before .before .before .before .before .before .before .before .before .before .before in
-    let few = facts _ (e .pre .0 .laid .well) .fewPieces in
-    let i = e .pre .1 .0 .piece in
-    let k = e .pre .1 .1 .0 .0 in
-    let size = e .pre .1 .1 .1 .size in
+    let at-start : tie.Start = search in
+    let few = facts _ (at-start .pre .0 .laid .well) .fewPieces in
+    let i = at-start .pre .1 .0 .piece in
+    let k = at-start .pre .1 .1 .0 .0 in
+    let size = at-start .pre .1 .1 .1 .size in
     omega arith
 
 mul-penalties-2 : tie.Need-mul-penalties-2
 mul-penalties-2 c =
-    let e = c .before .before .before .before .before .before .before .before .before .before .before .before .before in
-    let few = facts _ (e .pre .0 .laid .well) .fewPieces in
-    let i = e .pre .1 .0 .piece in
-    let k = e .pre .1 .1 .0 .0 in
-    let size = e .pre .1 .1 .1 .size in
+    let at-start : tie.Start = search in
+    let few = facts _ (at-start .pre .0 .laid .well) .fewPieces in
+    let i = at-start .pre .1 .0 .piece in
+    let k = at-start .pre .1 .1 .0 .0 in
+    let size = at-start .pre .1 .1 .1 .size in
     omega arith
 
 add-penalties-2 : tie.Need-add-penalties-2
 add-penalties-2 c =
-    let e = c .before .before .before .before .before .before .before .before .before .before .before .before .before in
-    let few = facts _ (e .pre .0 .laid .well) .fewPieces in
-    let i = e .pre .1 .0 .piece in
-    let k = e .pre .1 .1 .0 .0 in
-    let size = e .pre .1 .1 .1 .size in
+    let at-start : tie.Start = search in
+    let few = facts _ (at-start .pre .0 .laid .well) .fewPieces in
+    let i = at-start .pre .1 .0 .piece in
+    let k = at-start .pre .1 .1 .0 .0 in
+    let size = at-start .pre .1 .1 .1 .size in
     omega arith
 
 slice-write-penalties-2 : tie.Need-slice-write-penalties-2
 slice-write-penalties-2 c =
-    let e = c .before .before .before .before .before .before .before .before .before .before .before .before .before in
-    let few = facts _ (e .pre .0 .laid .well) .fewPieces in
-    let i = e .pre .1 .0 .piece in
-    let k = e .pre .1 .1 .0 .0 in
-    let size = e .pre .1 .1 .1 .size in
+    let at-start : tie.Start = search in
+    let few = facts _ (at-start .pre .0 .laid .well) .fewPieces in
+    let i = at-start .pre .1 .0 .piece in
+    let k = at-start .pre .1 .1 .0 .0 in
+    let size = at-start .pre .1 .1 .1 .size in
     simp length-set (omega arith)
-
-same-length : tie.Need-same-length
-same-length c = search needs
-
-same-length-2 : tie.Need-same-length-2
-same-length-2 c = search needs
-
-same-length-3 : tie.Need-same-length-3
-same-length-3 c = search needs
 
 returns-2 : tie.Need-returns-2
 returns-2 c =
-    let e = c .before .before .before .before .before .before .before .before .before .before .before .before .before in
-    let a = e .args in
+    let at-penalty-at : tie.After-penalty-at = search in
+    let at-else1 : tie.Else1 = search in
+    let at-start : tie.Start = search in
+    let a = at-start .args in
     let j = jobOf (lentBy (a .size) (a .table .now) (a .pixels .now)) in
     let p = onLine (a .mover .line) (a .mover .turn) (a .at) in
-    let x = c .before .before .before .before .penalty-at in (
-      renewed-step j (layoutOf (a .layout .now)) (a .size .count) (a .mover .piece) p (a .k) (x .result) (a .penalties .now) (facts _ (e .pre .0 .laid .well) .fewPieces) (e .pre .1 .0 .piece) (e .pre .1 .1 .0 .0)
-          (λ q. c .before .before .before .before .before .before .before .if1 .left (sym q)) (x .ensures .0 ∙ sym (penalty-on j (layoutOf (a .layout .now)) (a .mover .piece) (a .mover .turn) (a .mover .line) (a .at) (a .k))) (e .pre .1 .1 .1),
+    let x = at-penalty-at .penalty-at in (
+      renewed-step j (layoutOf (a .layout .now)) (a .size .count) (a .mover .piece) p (a .k) (x .result) (a .penalties .now)
+          (facts _ (at-start .pre .0 .laid .well) .fewPieces) (at-start .pre .1 .0 .piece) (at-start .pre .1 .1 .0 .0)
+          (λ q. at-else1 .if1 .left (sym q))
+          (x .ensures .0 ∙ sym (penalty-on j (layoutOf (a .layout .now)) (a .mover .piece) (a .mover .turn) (a .mover .line) (a .at) (a .k)))
+          (at-start .pre .1 .1 .1),
       x .ensures .1,
     )
 
 pub renew-other-spec : {M : Type 1} → statement M
 renew-other-spec =
-    tie.close
-    (tie.spec
-    returns
-    penalty-at-requires
-    mul-penalties
-    add-penalties
-    slice-write-penalties
-    mul-penalties-2
-    add-penalties-2
-    slice-write-penalties-2
-    same-length
-    same-length-2
-    same-length-3
-    returns-2)
+    tie.close (tie.spec
+    returns (λ c κs. search needs) mul-penalties add-penalties slice-write-penalties mul-penalties-2 add-penalties-2
+    slice-write-penalties-2 (search needs) (search needs) (search needs) returns-2)

@@ -4,12 +4,6 @@ use borrow.Author.Needs.{needs}
 use Rattle.search_table.proofs.pair.spans_meet.Statement.{statement}
 use Rattle.search_table.proofs.pair.spans_meet.Tie as tie
 
-add-if1 : tie.Need-add-if1
-add-if1 c = search needs
-
-add-result : tie.Need-add-result
-add-result c = search needs
-
 returns : tie.Need-returns
 returns c = simp (lt-ltb _ _ (c .if1 .taken))
 
@@ -17,4 +11,4 @@ returns-2 : tie.Need-returns-2
 returns-2 c = simp (le-ltb _ _ (c .if1 .left))
 
 pub spans-meet-spec : {M : Type 1} → statement M
-spans-meet-spec = tie.close (tie.spec add-if1 add-result returns returns-2)
+spans-meet-spec = tie.close (tie.spec (search needs) (search needs) returns returns-2)

@@ -4,11 +4,8 @@ use borrow.Author.Needs.{needs}
 use Rattle.sheet_calls.proofs.record.blank_record.Statement.{statement}
 use Rattle.sheet_calls.proofs.record.blank_record.Tie as tie
 
-origin-requires : tie.Need-origin-requires
-origin-requires c κs = search needs
-
 returns : tie.Need-returns
 returns c = rw (c .origin .ensures)
 
 pub blank-record-spec : {M : Type 1} → statement M
-blank-record-spec = tie.close (tie.spec origin-requires returns)
+blank-record-spec = tie.close (tie.spec (search needs) returns)

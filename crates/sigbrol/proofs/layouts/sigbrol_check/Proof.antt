@@ -13,7 +13,9 @@ outcome : tie.Start → Outcome (Unit {0})
 outcome s = let a = s .args in checkCall (lentAs (a .rows) (a .columns) (a .count) (a .table .now) (a .pixels .now)) (a .layout .now)
 
 -- its answer tells that outcome
-answered : (c : tie.After-check) → c .check .result ≡ doneAnswer (outcome (c .before .before .before))
+answered : (c : tie.After-check) →
+    let at-start : tie.Start = search in
+    c .check .result ≡ doneAnswer (outcome (at-start))
 unfolding outcome
 answered c = rw (c .before .size-of .ensures) at (c .check .ensures)
 
@@ -38,15 +40,19 @@ refused-requires c κs = tt
 returns : tie.Need-returns
 unfolding outcome
 returns c =
-    let o = outcome (c .before .before .before .before .before .before) in
-    let t = done-told o (sym (c .before .enum-told .given .1) ∙ answered (c .before .before .before)) in
+    let at-check : tie.After-check = search in
+    let at-start : tie.Start = search in
+    let o = outcome (at-start) in
+    let t = done-told o (sym (c .before .enum-told .given .1) ∙ answered (at-check)) in
     c .done .ensures ∙ reply-by (λ u. tt) o t
 
 returns-2 : tie.Need-returns-2
 unfolding outcome
 returns-2 c =
-    let o = outcome (c .before .before .before .before .before .before .before) in
-    let t = done-told o (sym (c .before .before .refusal .given .1) ∙ answered (c .before .before .before .before)) in
+    let at-check : tie.After-check = search in
+    let at-start : tie.Start = search in
+    let o = outcome (at-start) in
+    let t = done-told o (sym (c .before .before .refusal .given .1) ∙ answered (at-check)) in
     c .refused .ensures ∙ reply-by (λ u. tt) o t
 
 pub sigbrol-check-spec : {M : Type 1} → statement M

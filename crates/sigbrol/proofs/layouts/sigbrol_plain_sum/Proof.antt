@@ -14,7 +14,9 @@ outcome : tie.Start → Outcome ℕ
 outcome s = let a = s .args in plainSumCall (lentAs (a .rows) (a .columns) (a .count) (a .table .now) (a .pixels .now)) (a .layout .now)
 
 -- its answer tells that outcome
-answered : (c : tie.After-plain-sum) → c .plain-sum .result ≡ numberAnswer (outcome (c .before .before .before))
+answered : (c : tie.After-plain-sum) →
+    let at-start : tie.Start = search in
+    c .plain-sum .result ≡ numberAnswer (outcome (at-start))
 unfolding outcome
 answered c = rw (c .before .size-of .ensures) at (c .plain-sum .ensures)
 
@@ -39,15 +41,19 @@ refused-requires c κs = tt
 returns : tie.Need-returns
 unfolding outcome
 returns c =
-    let o = outcome (c .before .before .before .before .before .before .before) in
-    let t = number-told o (sym (c .before .before .total .given .1) ∙ answered (c .before .before .before .before)) in
+    let at-plain-sum : tie.After-plain-sum = search in
+    let at-start : tie.Start = search in
+    let o = outcome (at-start) in
+    let t = number-told o (sym (c .before .before .total .given .1) ∙ answered (at-plain-sum)) in
     (c .done .ensures ∙ reply-by (λ k. k) o t, leaves-by (λ k. k) (λ k. k) _ o t)
 
 returns-2 : tie.Need-returns-2
 unfolding outcome
 returns-2 c =
-    let o = outcome (c .before .before .before .before .before .before .before) in
-    let t = number-told o (sym (c .before .before .refusal .given .1) ∙ answered (c .before .before .before .before)) in
+    let at-plain-sum : tie.After-plain-sum = search in
+    let at-start : tie.Start = search in
+    let o = outcome (at-start) in
+    let t = number-told o (sym (c .before .before .refusal .given .1) ∙ answered (at-plain-sum)) in
     (c .refused .ensures ∙ reply-by (λ k. k) o t, leaves-by (λ k. k) (λ k. k) _ o t)
 
 pub sigbrol-plain-sum-spec : {M : Type 1} → statement M

@@ -15,7 +15,9 @@ outcome : tie.Start → Outcome Layout
 outcome s = let a = s .args in startCall (lentAs (a .rows) (a .columns) (a .count) (a .table .now) (a .pixels .now)) (length (a .layout .now))
 
 -- its answer tells that outcome
-answered : (c : tie.After-start) → c .start .result ≡ doneAnswer (outcome (c .before .before .before .before))
+answered : (c : tie.After-start) →
+    let at-start : tie.Start = search in
+    c .start .result ≡ doneAnswer (outcome (at-start))
 unfolding outcome
 answered c = rw (c .before .before .size-of .ensures) at (c .start .ensures .0)
 
@@ -38,24 +40,34 @@ refused-requires : tie.Need-refused-requires
 refused-requires c κs = tt
 
 same-length : tie.Need-same-length
-same-length c = c .before .before .before .before .start .kept .1 .1 .1 .0
+same-length c =
+    let at-start : tie.After-start = search in
+    at-start .start .kept .1 .1 .1 .0
 
 returns : tie.Need-returns
 unfolding outcome
 returns c =
-    let o = outcome (c .before .before .before .before .before .before .before .before) in
-    let t = done-told o (sym (c .before .enum-told .given .1) ∙ answered (c .before .before .before .before)) in
-    (c .done .ensures ∙ reply-by (λ v. tt) o t, rw (c .before .before .before .before .before .before .size-of .ensures) at (c .before .before .before .before .start .ensures .1))
+    let at-after-start : tie.After-start = search in
+    let at-size-of : tie.After-size-of = search in
+    let at-start : tie.Start = search in
+    let o = outcome (at-start) in
+    let t = done-told o (sym (c .before .enum-told .given .1) ∙ answered (at-after-start)) in
+    (c .done .ensures ∙ reply-by (λ v. tt) o t, rw (at-size-of .size-of .ensures) at (at-after-start .start .ensures .1))
 
 same-length-2 : tie.Need-same-length-2
-same-length-2 c = c .before .before .before .before .before .start .kept .1 .1 .1 .0
+same-length-2 c =
+    let at-start : tie.After-start = search in
+    at-start .start .kept .1 .1 .1 .0
 
 returns-2 : tie.Need-returns-2
 unfolding outcome
 returns-2 c =
-    let o = outcome (c .before .before .before .before .before .before .before .before .before) in
-    let t = done-told o (sym (c .before .before .refusal .given .1) ∙ answered (c .before .before .before .before .before)) in
-    (c .refused .ensures ∙ reply-by (λ v. tt) o t, rw (c .before .before .before .before .before .before .before .size-of .ensures) at (c .before .before .before .before .before .start .ensures .1))
+    let at-after-start : tie.After-start = search in
+    let at-size-of : tie.After-size-of = search in
+    let at-start : tie.Start = search in
+    let o = outcome (at-start) in
+    let t = done-told o (sym (c .before .before .refusal .given .1) ∙ answered (at-after-start)) in
+    (c .refused .ensures ∙ reply-by (λ v. tt) o t, rw (at-size-of .size-of .ensures) at (at-after-start .start .ensures .1))
 
 pub sigbrol-start-spec : {M : Type 1} → statement M
 sigbrol-start-spec =

@@ -28,16 +28,30 @@ outcome s offset =
 
 -- answer and runs are those of an outcome
 Tells : (c : tie.After-no-fit-column) → Outcome (List OffsetRun) → Type 0
-Tells c o = (c .no-fit-column .result ≡ countAnswer o) × (c .no-fit-column .last .1 .1 .1 .1 .1 .1 .1 .1 .0 ≡ runsAfter (c .before .before .before .before .before .before .before .before .args .runs .now) o)
+Tells c o =
+    let at-start : tie.Start = search in
+    (c .no-fit-column .result ≡ countAnswer o) × (c .no-fit-column .last .1 .1 .1 .1 .1 .1 .1 .1 .0 ≡ runsAfter (at-start .args .runs .now) o)
 
 -- they are the call's, the offset being handed on as it is
-told : (c : tie.After-no-fit-column) → Tells c (outcome (c .before .before .before .before .before .before .before .before) (c .before .before .before .before .before .before .before .before .args .offset))
+told : (c : tie.After-no-fit-column) →
+    let at-start : tie.Start = search in
+    Tells c (outcome (at-start) (at-start .args .offset))
 unfolding outcome Tells
 told c =
-    let s = c .before .before .before .before .before .before .before .before in
-    let e : toZ w32 (ofZ w32 (s .args .offset)) ≡ s .args .offset = toZ-ofZ w32 (s .args .offset) (s .fits .offset) in
-    subst (λ (z : ℤ). Tells c (outcome s z)) e
-    (rw (c .before .before .before .before .before .before .size-of .ensures, c .before .before .before .before .before .piece-with-turn .ensures, c .before .before .before .before .turn-or-zero .ensures, c .before .before .before .piece-with-turn2 .ensures, c .before .before .turn-or-zero2 .ensures) at (c .no-fit-column .ensures))
+    let at-piece-with-turn2 : tie.After-piece-with-turn2 = search in
+    let at-turn-or-zero : tie.After-turn-or-zero = search in
+    let at-piece-with-turn : tie.After-piece-with-turn = search in
+    let at-size-of : tie.After-size-of = search in
+    let at-start : tie.Start = search in
+    let e : toZ w32 (ofZ w32 (at-start .args .offset)) ≡ at-start .args .offset = toZ-ofZ w32 (at-start .args .offset) (at-start .fits .offset) in
+    subst (λ (z : ℤ). Tells c (outcome at-start z)) e
+    (rw (
+      at-size-of .size-of .ensures,
+      at-piece-with-turn .piece-with-turn .ensures,
+      at-turn-or-zero .turn-or-zero .ensures,
+      at-piece-with-turn2 .piece-with-turn2 .ensures,
+      c .before .before .turn-or-zero2 .ensures,
+    ) at (c .no-fit-column .ensures))
 
 size-of-requires : tie.Need-size-of-requires
 size-of-requires c κs = tt
@@ -70,24 +84,32 @@ refused-requires : tie.Need-refused-requires
 refused-requires c κs = tt
 
 same-length : tie.Need-same-length
-same-length c = c .before .before .before .before .before .no-fit-column .kept .1 .1 .1 .1 .1 .1 .1 .1 .0
+same-length c =
+    let at-no-fit-column : tie.After-no-fit-column = search in
+    at-no-fit-column .no-fit-column .kept .1 .1 .1 .1 .1 .1 .1 .1 .0
 
 returns : tie.Need-returns
 unfolding outcome Tells
 returns c =
-    let o = outcome (c .before .before .before .before .before .before .before .before .before .before .before .before .before) (c .before .before .before .before .before .before .before .before .before .before .before .before .before .args .offset) in
-    let p = told (c .before .before .before .before .before) in
+    let at-no-fit-column : tie.After-no-fit-column = search in
+    let at-start : tie.Start = search in
+    let o = outcome (at-start) (at-start .args .offset) in
+    let p = told (at-no-fit-column) in
     let t = count-told o (sym (c .before .before .found .given .1) ∙ p .0) in
     (c .done .ensures ∙ reply-by (λ rs. length rs) o t, (p .1, leaves-by (λ rs. length rs) (λ n. n) _ o t))
 
 same-length-2 : tie.Need-same-length-2
-same-length-2 c = c .before .before .before .before .before .no-fit-column .kept .1 .1 .1 .1 .1 .1 .1 .1 .0
+same-length-2 c =
+    let at-no-fit-column : tie.After-no-fit-column = search in
+    at-no-fit-column .no-fit-column .kept .1 .1 .1 .1 .1 .1 .1 .1 .0
 
 returns-2 : tie.Need-returns-2
 unfolding outcome Tells
 returns-2 c =
-    let o = outcome (c .before .before .before .before .before .before .before .before .before .before .before .before .before) (c .before .before .before .before .before .before .before .before .before .before .before .before .before .args .offset) in
-    let p = told (c .before .before .before .before .before) in
+    let at-no-fit-column : tie.After-no-fit-column = search in
+    let at-start : tie.Start = search in
+    let o = outcome (at-start) (at-start .args .offset) in
+    let p = told (at-no-fit-column) in
     let t = count-told o (sym (c .before .before .refusal .given .1) ∙ p .0) in
     (c .refused .ensures ∙ reply-by (λ rs. length rs) o t, (p .1, leaves-by (λ rs. length rs) (λ n. n) _ o t))
 

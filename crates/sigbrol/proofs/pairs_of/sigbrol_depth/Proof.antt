@@ -12,10 +12,13 @@ use Rattle.sigbrol.proofs.pairs_of.sigbrol_depth.Tie as tie
 
 -- the outcome of the call
 outcome : tie.Start → Outcome ℕ
-outcome s = let a = s .args in depthCall (directionOf (a .vertical)) (lentAs (a .rows) (a .columns) (a .count) (a .table .now) (a .pixels .now)) (a .layout .now) (a .i) (a .k)
+outcome s = let a = s .args in
+    depthCall (directionOf (a .vertical)) (lentAs (a .rows) (a .columns) (a .count) (a .table .now) (a .pixels .now)) (a .layout .now) (a .i) (a .k)
 
 -- its answer tells that outcome
-answered : (c : tie.After-depth) → c .depth .result ≡ numberAnswer (outcome (c .before .before .before .before))
+answered : (c : tie.After-depth) →
+    let at-start : tie.Start = search in
+    c .depth .result ≡ numberAnswer (outcome (at-start))
 unfolding outcome
 answered c = rw (c .before .before .size-of .ensures, c .before .direction-of .ensures) at (c .depth .ensures .0)
 
@@ -46,15 +49,19 @@ refused-requires c κs = tt
 returns : tie.Need-returns
 unfolding outcome
 returns c =
-    let o = outcome (c .before .before .before .before .before .before .before .before) in
-    let t = number-told o (sym (c .before .before .amount .given .1) ∙ answered (c .before .before .before .before)) in
+    let at-depth : tie.After-depth = search in
+    let at-start : tie.Start = search in
+    let o = outcome (at-start) in
+    let t = number-told o (sym (c .before .before .amount .given .1) ∙ answered (at-depth)) in
     (c .done .ensures ∙ reply-by (λ a. a) o t, leaves-by (λ a. a) (λ a. a) _ o t)
 
 returns-2 : tie.Need-returns-2
 unfolding outcome
 returns-2 c =
-    let o = outcome (c .before .before .before .before .before .before .before .before) in
-    let t = number-told o (sym (c .before .before .refusal .given .1) ∙ answered (c .before .before .before .before)) in
+    let at-depth : tie.After-depth = search in
+    let at-start : tie.Start = search in
+    let o = outcome (at-start) in
+    let t = number-told o (sym (c .before .before .refusal .given .1) ∙ answered (at-depth)) in
     (c .refused .ensures ∙ reply-by (λ a. a) o t, leaves-by (λ a. a) (λ a. a) _ o t)
 
 pub sigbrol-depth-spec : {M : Type 1} → statement M

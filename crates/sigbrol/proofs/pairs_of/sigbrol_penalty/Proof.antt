@@ -15,7 +15,9 @@ outcome : tie.Start → Outcome ℕ
 outcome s = let a = s .args in penaltyCall (lentAs (a .rows) (a .columns) (a .count) (a .table .now) (a .pixels .now)) (a .layout .now) (a .i) (a .k)
 
 -- its answer tells that outcome
-answered : (c : tie.After-penalty) → c .penalty .result ≡ numberAnswer (outcome (c .before .before .before))
+answered : (c : tie.After-penalty) →
+    let at-start : tie.Start = search in
+    c .penalty .result ≡ numberAnswer (outcome (at-start))
 unfolding outcome
 answered c = rw (c .before .size-of .ensures) at (c .penalty .ensures .0)
 
@@ -43,15 +45,19 @@ refused-requires c κs = tt
 returns : tie.Need-returns
 unfolding outcome
 returns c =
-    let o = outcome (c .before .before .before .before .before .before .before) in
-    let t = number-told o (sym (c .before .before .amount .given .1) ∙ answered (c .before .before .before .before)) in
+    let at-penalty : tie.After-penalty = search in
+    let at-start : tie.Start = search in
+    let o = outcome (at-start) in
+    let t = number-told o (sym (c .before .before .amount .given .1) ∙ answered (at-penalty)) in
     (c .done .ensures ∙ reply-by (λ a. a) o t, leaves-by (λ a. a) (λ a. a) _ o t)
 
 returns-2 : tie.Need-returns-2
 unfolding outcome
 returns-2 c =
-    let o = outcome (c .before .before .before .before .before .before .before) in
-    let t = number-told o (sym (c .before .before .refusal .given .1) ∙ answered (c .before .before .before .before)) in
+    let at-penalty : tie.After-penalty = search in
+    let at-start : tie.Start = search in
+    let o = outcome (at-start) in
+    let t = number-told o (sym (c .before .before .refusal .given .1) ∙ answered (at-penalty)) in
     (c .refused .ensures ∙ reply-by (λ a. a) o t, leaves-by (λ a. a) (λ a. a) _ o t)
 
 pub sigbrol-penalty-spec : {M : Type 1} → statement M

@@ -15,7 +15,9 @@ outcome : tie.Start → Outcome Bool
 outcome s = let a = s .args in shareCall (lentAs (a .rows) (a .columns) (a .count) (a .table .now) (a .pixels .now)) (a .layout .now) (a .i) (a .k)
 
 -- its answer tells that outcome
-answered : (c : tie.After-shares-pixel) → c .shares-pixel .result ≡ shareAnswer (outcome (c .before .before .before))
+answered : (c : tie.After-shares-pixel) →
+    let at-start : tie.Start = search in
+    c .shares-pixel .result ≡ shareAnswer (outcome (at-start))
 unfolding outcome
 answered c = rw (c .before .size-of .ensures) at (c .shares-pixel .ensures)
 
@@ -43,15 +45,20 @@ refused-requires c κs = tt
 returns : tie.Need-returns
 unfolding outcome
 returns c =
-    let o = outcome (c .before .before .before .before .before .before .before .before) in
-    let t = share-told o (sym (c .before .before .before .yes .given .1) ∙ answered (c .before .before .before .before .before)) in
+    let at-yes : tie.After-yes = search in
+    let at-shares-pixel : tie.After-shares-pixel = search in
+    let at-start : tie.Start = search in
+    let o = outcome (at-start) in
+    let t = share-told o (sym (at-yes .yes .given .1) ∙ answered (at-shares-pixel)) in
     (c .done .ensures ∙ reply-by (λ a. a) o t, c .before .bit-of .ensures ∙ leaves-by (λ a. a) (λ a. oneIf a) _ o t)
 
 returns-2 : tie.Need-returns-2
 unfolding outcome
 returns-2 c =
-    let o = outcome (c .before .before .before .before .before .before .before) in
-    let t = share-told o (sym (c .before .before .refusal .given .1) ∙ answered (c .before .before .before .before)) in
+    let at-shares-pixel : tie.After-shares-pixel = search in
+    let at-start : tie.Start = search in
+    let o = outcome (at-start) in
+    let t = share-told o (sym (c .before .before .refusal .given .1) ∙ answered (at-shares-pixel)) in
     (c .refused .ensures ∙ reply-by (λ a. a) o t, leaves-by (λ a. a) (λ a. oneIf a) _ o t)
 
 pub sigbrol-shares-pixel-spec : {M : Type 1} → statement M

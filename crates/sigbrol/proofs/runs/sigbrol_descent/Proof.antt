@@ -17,10 +17,13 @@ use Rattle.sigbrol.proofs.runs.sigbrol_descent.Tie as tie
 
 -- the outcome of the call
 outcome : tie.Start → Outcome Descent
-outcome s = let a = s .args in descentCall (lentAs (a .rows) (a .columns) (a .count) (a .table .now) (a .pixels .now)) (a .layout .now) (a .weights .now) (a .budget)
+outcome s = let a = s .args in
+    descentCall (lentAs (a .rows) (a .columns) (a .count) (a .table .now) (a .pixels .now)) (a .layout .now) (a .weights .now) (a .budget)
 
 -- its answer tells that outcome
-answered : (c : tie.After-descent) → c .descent .result ≡ descentAnswer (outcome (c .before .before .before .before .before))
+answered : (c : tie.After-descent) →
+    let at-start : tie.Start = search in
+    c .descent .result ≡ descentAnswer (outcome (at-start))
 unfolding outcome
 answered c = rw (c .before .before .size-of .ensures) at (c .descent .ensures .0)
 
@@ -35,12 +38,6 @@ enum-known-ended c = c .match .keys1
 
 end-number-requires : tie.Need-end-number-requires
 end-number-requires c κs = tt
-
-cast-put-run : tie.Need-cast-put-run
-cast-put-run c = search needs
-
-cast-put-run-2 : tie.Need-cast-put-run-2
-cast-put-run-2 c = search needs
 
 put-run-requires : tie.Need-put-run-requires
 put-run-requires c κs = tt
@@ -92,35 +89,38 @@ returns c =
     )
 
 same-length-2 : tie.Need-same-length-2
-same-length-2 c = c .before .before .before .before .before .descent .kept .1 .1 .1 .0
+same-length-2 c =
+    let at-descent : tie.After-descent = search in
+    at-descent .descent .kept .1 .1 .1 .0
 
 returns-2 : tie.Need-returns-2
 unfolding outcome
 returns-2 c =
-    let o = outcome (c .before .before .before .before .before .before .before .before .before .before) in
-    let t = ended-told o (sym (c .before .before .refusal .given .1) ∙ answered (c .before .before .before .before .before)) in
-    let a = c .before .before .before .before .before .before .before .before .before .before .args in
+    let at-descent : tie.After-descent = search in
+    let at-size-of : tie.After-size-of = search in
+    let at-start : tie.Start = search in
+    let o = outcome (at-start) in
+    let t = ended-told o (sym (c .before .before .refusal .given .1) ∙ answered (at-descent)) in
+    let a = at-start .args in
     let positive =
     descent-numbered (lentAs (a .rows) (a .columns) (a .count) (a .table .now) (a .pixels .now)) (a .layout .now) (a .weights .now) (a .budget) _
     (refusal-told endedOf o _ t) in
-    let number = ap (λ (x : Reply). x .number) (c .refused .ensures) in
-    (c .refused .ensures ∙ reply-by endedOf o t, (rw (c .before .before .before .before .before .before .before .size-of .ensures) at (c .before .before .before .before .before .descent .ensures .1 .0), (leaves-by endedOf (λ e. endNumber (e .end)) _ o t, (leaves-by endedOf (λ e. e .sum) _ o t, (leaves-by endedOf (λ e. e .made) _ o t, (leaves-by endedOf (λ e. e .moves) _ o t, λ zero. absurd (omega (arith, positive, number, zero))))))))
+    let number = ap (λ (x : Reply). x .number) (c .refused .ensures) in (
+      c .refused .ensures ∙ reply-by endedOf o t,
+      (
+        rw (at-size-of .size-of .ensures) at (at-descent .descent .ensures .1 .0),
+        (
+          leaves-by endedOf (λ e. endNumber (e .end)) _ o t,
+          (
+            leaves-by endedOf (λ e. e .sum) _ o t,
+            (leaves-by endedOf (λ e. e .made) _ o t, (leaves-by endedOf (λ e. e .moves) _ o t, λ zero. absurd (omega (arith, positive, number, zero)))),
+          ),
+        ),
+      ),
+    )
 
 pub sigbrol-descent-spec : {M : Type 1} → statement M
 sigbrol-descent-spec =
-    tie.close
-    (tie.spec
-    size-of-requires
-    descent-requires
-    enum-known-ended
-    end-number-requires
-    cast-put-run
-    cast-put-run-2
-    put-run-requires
-    done-requires
-    enum-known-refusal
-    refused-requires
-    same-length
-    returns
-    same-length-2
-    returns-2)
+    tie.close (tie.spec
+    size-of-requires descent-requires enum-known-ended end-number-requires (search needs) (search needs) put-run-requires done-requires
+    enum-known-refusal refused-requires same-length returns same-length-2 returns-2)

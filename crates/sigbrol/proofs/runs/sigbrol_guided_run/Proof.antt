@@ -15,12 +15,17 @@ use Rattle.sigbrol.proofs.runs.sigbrol_guided_run.Tie as tie
 
 -- the outcome of the call
 outcome : tie.Start → Outcome Guided
-outcome s = let a = s .args in guidedCall (lentAs (a .rows) (a .columns) (a .count) (a .table .now) (a .pixels .now)) (a .layout .now) (a .weights .now) (a .rounds) (a .budget)
+outcome s = let a = s .args in
+    guidedCall (lentAs (a .rows) (a .columns) (a .count) (a .table .now) (a .pixels .now)) (a .layout .now) (a .weights .now) (a .rounds) (a .budget)
 
 -- its answer tells that outcome
-answered : (c : tie.After-guided-run) → c .guided-run .result ≡ guidedAnswer (outcome (c .before .before .before .before .before .before))
+answered : (c : tie.After-guided-run) →
+    let at-start : tie.Start = search in
+    c .guided-run .result ≡ guidedAnswer (outcome (at-start))
 unfolding outcome
-answered c = rw (c .before .before .before .size-of .ensures) at (c .guided-run .ensures .0)
+answered c =
+    let at-size-of : tie.After-size-of = search in
+    rw (at-size-of .size-of .ensures) at (c .guided-run .ensures .0)
 
 size-of-requires : tie.Need-size-of-requires
 size-of-requires c κs = tt
@@ -82,22 +87,40 @@ returns c =
     )
 
 same-length-3 : tie.Need-same-length-3
-same-length-3 c = c .before .before .before .before .before .before .before .guided-run .kept .1 .1 .1 .0
+same-length-3 c =
+    let at-guided-run : tie.After-guided-run = search in
+    at-guided-run .guided-run .kept .1 .1 .1 .0
 
 same-length-4 : tie.Need-same-length-4
-same-length-4 c = c .before .before .before .before .before .before .before .guided-run .kept .1 .1 .1 .1 .0
+same-length-4 c =
+    let at-guided-run : tie.After-guided-run = search in
+    at-guided-run .guided-run .kept .1 .1 .1 .1 .0
 
 returns-2 : tie.Need-returns-2
 unfolding outcome
 returns-2 c =
-    let o = outcome (c .before .before .before .before .before .before .before .before .before .before .before .before .before) in
-    let t = ran-told o (sym (c .before .before .refusal .given .1) ∙ answered (c .before .before .before .before .before .before .before)) in
-    let a = c .before .before .before .before .before .before .before .before .before .before .before .before .before .args in
+    let at-guided-run : tie.After-guided-run = search in
+    let at-size-of : tie.After-size-of = search in
+    let at-start : tie.Start = search in
+    let o = outcome (at-start) in
+    let t = ran-told o (sym (c .before .before .refusal .given .1) ∙ answered (at-guided-run)) in
+    let a = at-start .args in
     let positive =
     guided-numbered (lentAs (a .rows) (a .columns) (a .count) (a .table .now) (a .pixels .now)) (a .layout .now) (a .weights .now) (a .rounds)
     (a .budget) _ (refusal-told toldRun o _ t) in
-    let number = ap (λ (x : Reply). x .number) (c .refused .ensures) in
-    (c .refused .ensures ∙ reply-by toldRun o t, (rw (c .before .before .before .before .before .before .before .before .before .before .size-of .ensures) at (c .before .before .before .before .before .before .before .guided-run .ensures .1 .0), (rw (c .before .before .before .before .before .before .before .before .before .before .size-of .ensures) at (c .before .before .before .before .before .before .before .guided-run .ensures .1 .1 .0), (leaves-by toldRun (λ r. r .sum) _ o t, (leaves-by toldRun (λ r. r .made) _ o t, (leaves-by toldRun (λ r. r .moves) _ o t, λ zero. absurd (omega (arith, positive, number, zero))))))))
+    let number = ap (λ (x : Reply). x .number) (c .refused .ensures) in (
+      c .refused .ensures ∙ reply-by toldRun o t,
+      (
+        rw (at-size-of .size-of .ensures) at (at-guided-run .guided-run .ensures .1 .0),
+        (
+          rw (at-size-of .size-of .ensures) at (at-guided-run .guided-run .ensures .1 .1 .0),
+          (
+            leaves-by toldRun (λ r. r .sum) _ o t,
+            (leaves-by toldRun (λ r. r .made) _ o t, (leaves-by toldRun (λ r. r .moves) _ o t, λ zero. absurd (omega (arith, positive, number, zero)))),
+          ),
+        ),
+      ),
+    )
 
 pub sigbrol-guided-run-spec : {M : Type 1} → statement M
 sigbrol-guided-run-spec =

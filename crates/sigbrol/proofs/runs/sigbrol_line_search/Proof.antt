@@ -13,7 +13,9 @@ use Rattle.sigbrol.proofs.runs.sigbrol_line_search.Tie as tie
 
 -- the outcome of the call
 outcome : tie.Start → Outcome Best
-outcome s = let a = s .args in searchCall (lentAs (a .rows) (a .columns) (a .count) (a .table .now) (a .pixels .now)) (a .layout .now) (a .weights .now) (pieceWithTurn (a .turn) (a .piece)) (turnOf (a .turn)) (lineOf (a .vertical) (a .held))
+outcome s = let a = s .args in
+    searchCall (lentAs (a .rows) (a .columns) (a .count) (a .table .now) (a .pixels .now)) (a .layout .now) (a .weights .now)
+    (pieceWithTurn (a .turn) (a .piece)) (turnOf (a .turn)) (lineOf (a .vertical) (a .held))
 
 -- its line
 line : tie.Start → Line
@@ -21,9 +23,15 @@ line s = lineOf (s .args .vertical) (s .args .held)
 
 -- its answer tells that outcome
 answered : (c : tie.After-line-search)
-    → c .line-search .result ≡ searchAnswer (line (c .before .before .before .before .before .before .before)) (outcome (c .before .before .before .before .before .before .before))
+    →
+    let at-start : tie.Start = search in
+    c .line-search .result ≡ searchAnswer (line (at-start)) (outcome (at-start))
 unfolding outcome line
-answered c = rw (c .before .before .before .before .size-of .ensures, c .before .before .before .piece-with-turn .ensures, c .before .before .turn-or-zero .ensures, c .before .line-of .ensures) at (c .line-search .ensures)
+answered c =
+    let at-piece-with-turn : tie.After-piece-with-turn = search in
+    let at-size-of : tie.After-size-of = search in
+    rw (at-size-of .size-of .ensures, at-piece-with-turn .piece-with-turn .ensures, c .before .before .turn-or-zero .ensures, c .before .line-of .ensures) at
+    (c .line-search .ensures)
 
 size-of-requires : tie.Need-size-of-requires
 size-of-requires c κs = tt
@@ -58,17 +66,22 @@ refused-requires c κs = tt
 returns : tie.Need-returns
 unfolding outcome line
 returns c =
-    let s = c .before .before .before .before .before .before .before .before .before .before .before .before in
-    let o = outcome s in
-    let t = best-told (line s) o (sym (c .before .before .before .least .given .1) ∙ answered (c .before .before .before .before .before)) in
-    (c .done .ensures ∙ reply-by (λ b. b) o t, (leaves-by (λ b. b) (λ b. b .sum) _ o t, c .before .coordinate-number .ensures ∙ leaves-by (λ b. b) (λ b. b .at) _ o t))
+    let at-least : tie.After-least = search in
+    let at-line-search : tie.After-line-search = search in
+    let at-start : tie.Start = search in
+    let o = outcome at-start in
+    let t = best-told (line at-start) o (sym (at-least .least .given .1) ∙ answered (at-line-search)) in (
+      c .done .ensures ∙ reply-by (λ b. b) o t,
+      (leaves-by (λ b. b) (λ b. b .sum) _ o t, c .before .coordinate-number .ensures ∙ leaves-by (λ b. b) (λ b. b .at) _ o t),
+    )
 
 returns-2 : tie.Need-returns-2
 unfolding outcome line
 returns-2 c =
-    let s = c .before .before .before .before .before .before .before .before .before .before .before in
-    let o = outcome s in
-    let t = best-told (line s) o (sym (c .before .before .refusal .given .1) ∙ answered (c .before .before .before .before)) in
+    let at-line-search : tie.After-line-search = search in
+    let at-start : tie.Start = search in
+    let o = outcome at-start in
+    let t = best-told (line at-start) o (sym (c .before .before .refusal .given .1) ∙ answered (at-line-search)) in
     (c .refused .ensures ∙ reply-by (λ b. b) o t, (leaves-by (λ b. b) (λ b. b .sum) _ o t, leaves-by (λ b. b) (λ b. b .at) _ o t))
 
 pub sigbrol-line-search-spec : {M : Type 1} → statement M

@@ -14,7 +14,8 @@ use Rattle.sigbrol.proofs.sheet.sigbrol_fresh.Tie as tie
 -- what the call comes to
 abbrev outcome : tie.After-fresh → Outcome Sheet
 outcome c =
-    let a = c .before .before .before .before .before .args in
+    let at-start : tie.Start = search in
+    let a = at-start .args in
     freshCall (lentAs (a .rows) (a .columns) (a .count) (a .table .now) (a .pixels .now)) (length (a .counts .now))
 
 -- what `fresh` answers
@@ -22,60 +23,30 @@ answered : (c : tie.After-fresh) → c .fresh .result ≡ sheetAnswer blankRecor
 answered c = rw (c .before .before .size-of .ensures) at (c .fresh .ensures .0)
 
 -- what it leaves in the count buffer
-counted : (c : tie.After-fresh) → c .fresh .last .1 .1 .1 .0 ≡ countsAfter (c .before .before .before .before .before .args .counts .now) (outcome c)
+counted : (c : tie.After-fresh) →
+    let at-start : tie.Start = search in
+    c .fresh .last .1 .1 .1 .0 ≡ countsAfter (at-start .args .counts .now) (outcome c)
 counted c = rw (c .before .before .size-of .ensures) at (c .fresh .ensures .1)
-
-size-of-requires : tie.Need-size-of-requires
-size-of-requires c κs = search needs
-
-fresh-requires : tie.Need-fresh-requires
-fresh-requires c κs = search needs
-
-enum-told : tie.Need-enum-told
-enum-told c = search needs
-
-write-record-requires : tie.Need-write-record-requires
-write-record-requires c κs = search needs
-
-done-requires : tie.Need-done-requires
-done-requires c κs = search needs
-
-enum-known-reply : tie.Need-enum-known-reply
-enum-known-reply c = search needs
-
-refused-requires : tie.Need-refused-requires
-refused-requires c κs = search needs
-
-same-length : tie.Need-same-length
-same-length c = search needs
 
 returns : tie.Need-returns
 returns c =
-    let d = c .before .before .before .before .before .before .before in
-    let t = taken-up blankRecord (outcome d) (d .fresh .result) (d .before .before .before .before .before .args .entries .now) (answered d) (c .before .before .before .enum-told .given .1) in
-    (c .done .ensures ∙ t .0, (c .before .write-record .ensures ∙ t .1, counted d))
-
-same-length-2 : tie.Need-same-length-2
-same-length-2 c = search needs
+    let at-enum-told : tie.After-enum-told = search in
+    let at-fresh : tie.After-fresh = search in
+    let at-start : tie.Start = search in
+    let t = taken-up blankRecord (outcome at-fresh) (at-fresh .fresh .result) (at-start .args .entries .now) (answered at-fresh)
+    (at-enum-told .enum-told .given .1) in
+    (c .done .ensures ∙ t .0, (c .before .write-record .ensures ∙ t .1, counted at-fresh))
 
 returns-2 : tie.Need-returns-2
 returns-2 c =
-    let d = c .before .before .before .before .before .before in
-    let t = turned-down blankRecord (outcome d) (d .fresh .result) (d .before .before .before .before .before .args .entries .now) _ (answered d) (c .before .before .reply .given .1) in
-    (c .refused .ensures ∙ t .0, (t .1, counted d))
+    let at-fresh : tie.After-fresh = search in
+    let at-start : tie.Start = search in
+    let t = turned-down blankRecord (outcome at-fresh) (at-fresh .fresh .result) (at-start .args .entries .now) _ (answered at-fresh)
+    (c .before .before .reply .given .1) in
+    (c .refused .ensures ∙ t .0, (t .1, counted at-fresh))
 
 pub sigbrol-fresh-spec : {M : Type 1} → statement M
 sigbrol-fresh-spec =
-    tie.close
-    (tie.spec
-    size-of-requires
-    fresh-requires
-    enum-told
-    write-record-requires
-    done-requires
-    enum-known-reply
-    refused-requires
-    same-length
-    returns
-    same-length-2
-    returns-2)
+    tie.close (tie.spec
+    (search needs) (search needs) (search needs) (search needs) (search needs) (search needs) (search needs) (search needs) returns
+    (search needs) returns-2)

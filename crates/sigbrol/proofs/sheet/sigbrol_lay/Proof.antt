@@ -16,90 +16,58 @@ use Rattle.sigbrol.proofs.sheet.sigbrol_lay.Tie as tie
 -- what the call comes to
 abbrev outcome : tie.After-lay → Outcome Sheet
 outcome c =
-    let a = c .before .before .before .before .before .before .before .before .before .args in
-    layCall (lentAs (a .rows) (a .columns) (a .count) (a .table .now) (a .pixels .now)) (sheetOf (recordIn (a .entries .now)) (a .counts .now)) (pieceWithTurn (a .turn) (a .piece)) (placement (a .turn) (a .x) (a .y))
+    let at-start : tie.Start = search in
+    let a = at-start .args in
+    layCall (lentAs (a .rows) (a .columns) (a .count) (a .table .now) (a .pixels .now)) (sheetOf (recordIn (a .entries .now)) (a .counts .now))
+    (pieceWithTurn (a .turn) (a .piece)) (placement (a .turn) (a .x) (a .y))
 
 -- what `lay` answers
-answered : (c : tie.After-lay) → c .lay .result ≡ sheetAnswer (recordIn (c .before .before .before .before .before .before .before .before .before .args .entries .now)) (outcome c)
-answered c = rw (
-  c .before .before .before .before .before .before .size-of .ensures,
-  c .before .before .before .before .read-record .ensures,
-  c .before .before .piece-with-turn .ensures,
-  c .before .placement-of .ensures,
-) at (c .lay .ensures .0)
+answered : (c : tie.After-lay) →
+    let at-start : tie.Start = search in
+    c .lay .result ≡ sheetAnswer (recordIn (at-start .args .entries .now)) (outcome c)
+answered c =
+    let at-read-record : tie.After-read-record = search in
+    let at-size-of : tie.After-size-of = search in
+    rw (
+      at-size-of .size-of .ensures,
+      at-read-record .read-record .ensures,
+      c .before .before .piece-with-turn .ensures,
+      c .before .placement-of .ensures,
+    ) at (c .lay .ensures .0)
 
 -- what it leaves in the count buffer
-counted : (c : tie.After-lay) → c .lay .last .1 .1 .1 .1 .0 ≡ countsAfter (c .before .before .before .before .before .before .before .before .before .args .counts .now) (outcome c)
-counted c = rw (
-  c .before .before .before .before .before .before .size-of .ensures,
-  c .before .before .before .before .read-record .ensures,
-  c .before .before .piece-with-turn .ensures,
-  c .before .placement-of .ensures,
-) at (c .lay .ensures .1)
-
-size-of-requires : tie.Need-size-of-requires
-size-of-requires c κs = search needs
-
-read-record-requires : tie.Need-read-record-requires
-read-record-requires c κs = search needs
-
-piece-with-turn-requires : tie.Need-piece-with-turn-requires
-piece-with-turn-requires c κs = search needs
-
-placement-of-requires : tie.Need-placement-of-requires
-placement-of-requires c κs = search needs
-
-lay-requires : tie.Need-lay-requires
-lay-requires c κs = search needs
-
-enum-told : tie.Need-enum-told
-enum-told c = search needs
-
-write-record-requires : tie.Need-write-record-requires
-write-record-requires c κs = search needs
-
-done-requires : tie.Need-done-requires
-done-requires c κs = search needs
-
-enum-known-reply : tie.Need-enum-known-reply
-enum-known-reply c = search needs
-
-refused-requires : tie.Need-refused-requires
-refused-requires c κs = search needs
-
-same-length : tie.Need-same-length
-same-length c = search needs
+counted : (c : tie.After-lay) →
+    let at-start : tie.Start = search in
+    c .lay .last .1 .1 .1 .1 .0 ≡ countsAfter (at-start .args .counts .now) (outcome c)
+counted c =
+    let at-read-record : tie.After-read-record = search in
+    let at-size-of : tie.After-size-of = search in
+    rw (
+      at-size-of .size-of .ensures,
+      at-read-record .read-record .ensures,
+      c .before .before .piece-with-turn .ensures,
+      c .before .placement-of .ensures,
+    ) at (c .lay .ensures .1)
 
 returns : tie.Need-returns
 returns c =
-    let d = c .before .before .before .before .before .before .before in
-    let t = taken-up (recordIn (d .before .before .before .before .before .before .before .before .before .args .entries .now)) (outcome d) (d .lay .result) (d .before .before .before .before .before .before .before .before .before .args .entries .now) (answered d) (c .before .before .before .enum-told .given .1) in
-    (c .done .ensures ∙ t .0, (c .before .write-record .ensures ∙ t .1, counted d))
-
-same-length-2 : tie.Need-same-length-2
-same-length-2 c = search needs
+    let at-enum-told : tie.After-enum-told = search in
+    let at-lay : tie.After-lay = search in
+    let at-shared-slice-known : tie.After-shared-slice-known = search in
+    let t = taken-up (recordIn (at-shared-slice-known .before .args .entries .now)) (outcome at-lay) (at-lay .lay .result)
+    (at-shared-slice-known .before .args .entries .now) (answered at-lay) (at-enum-told .enum-told .given .1) in
+    (c .done .ensures ∙ t .0, (c .before .write-record .ensures ∙ t .1, counted at-lay))
 
 returns-2 : tie.Need-returns-2
 returns-2 c =
-    let d = c .before .before .before .before .before .before in
-    let t = turned-down (recordIn (d .before .before .before .before .before .before .before .before .before .args .entries .now)) (outcome d) (d .lay .result) (d .before .before .before .before .before .before .before .before .before .args .entries .now) _ (answered d) (c .before .before .reply .given .1) in
-    (c .refused .ensures ∙ t .0, (t .1, counted d))
+    let at-lay : tie.After-lay = search in
+    let at-start : tie.Start = search in
+    let t = turned-down (recordIn (at-start .args .entries .now)) (outcome at-lay) (at-lay .lay .result) (at-start .args .entries .now) _ (answered at-lay)
+    (c .before .before .reply .given .1) in
+    (c .refused .ensures ∙ t .0, (t .1, counted at-lay))
 
 pub sigbrol-lay-spec : {M : Type 1} → statement M
 sigbrol-lay-spec =
-    tie.close
-    (tie.spec
-    size-of-requires
-    read-record-requires
-    piece-with-turn-requires
-    placement-of-requires
-    lay-requires
-    enum-told
-    write-record-requires
-    done-requires
-    enum-known-reply
-    refused-requires
-    same-length
-    returns
-    same-length-2
-    returns-2)
+    tie.close (tie.spec
+    (search needs) (search needs) (search needs) (search needs) (search needs) (search needs) (search needs) (search needs) (search needs)
+    (search needs) (search needs) returns (search needs) returns-2)

@@ -15,78 +15,51 @@ use Rattle.sigbrol.proofs.sheet.sigbrol_withdraw.Tie as tie
 -- what the call comes to
 abbrev outcome : tie.After-withdraw → Outcome Sheet
 outcome c =
-    let a = c .before .before .before .before .before .before .before .args in
+    let at-start : tie.Start = search in
+    let a = at-start .args in
     withdrawCall (lentAs (a .rows) (a .columns) (a .count) (a .table .now) (a .pixels .now)) (sheetOf (recordIn (a .entries .now)) (a .counts .now)) (a .piece)
 
 -- what `withdraw` answers
-answered : (c : tie.After-withdraw) → c .withdraw .result ≡ sheetAnswer (recordIn (c .before .before .before .before .before .before .before .args .entries .now)) (outcome c)
-answered c = rw (
-  c .before .before .size-of .ensures,
-  c .before .before .before .read-record .ensures,
-) at (c .withdraw .ensures .0)
+answered : (c : tie.After-withdraw) →
+    let at-start : tie.Start = search in
+    c .withdraw .result ≡ sheetAnswer (recordIn (at-start .args .entries .now)) (outcome c)
+answered c =
+    let at-read-record : tie.After-read-record = search in
+    rw (
+      c .before .before .size-of .ensures,
+      at-read-record .read-record .ensures,
+    ) at (c .withdraw .ensures .0)
 
 -- what it leaves in the count buffer
-counted : (c : tie.After-withdraw) → c .withdraw .last .1 .1 .1 .1 .0 ≡ countsAfter (c .before .before .before .before .before .before .before .args .counts .now) (outcome c)
-counted c = rw (
-  c .before .before .size-of .ensures,
-  c .before .before .before .read-record .ensures,
-) at (c .withdraw .ensures .1)
-
-read-record-requires : tie.Need-read-record-requires
-read-record-requires c κs = search needs
-
-size-of-requires : tie.Need-size-of-requires
-size-of-requires c κs = search needs
-
-withdraw-requires : tie.Need-withdraw-requires
-withdraw-requires c κs = search needs
-
-enum-told : tie.Need-enum-told
-enum-told c = search needs
-
-write-record-requires : tie.Need-write-record-requires
-write-record-requires c κs = search needs
-
-done-requires : tie.Need-done-requires
-done-requires c κs = search needs
-
-enum-known-reply : tie.Need-enum-known-reply
-enum-known-reply c = search needs
-
-refused-requires : tie.Need-refused-requires
-refused-requires c κs = search needs
-
-same-length : tie.Need-same-length
-same-length c = search needs
+counted : (c : tie.After-withdraw) →
+    let at-start : tie.Start = search in
+    c .withdraw .last .1 .1 .1 .1 .0 ≡ countsAfter (at-start .args .counts .now) (outcome c)
+counted c =
+    let at-read-record : tie.After-read-record = search in
+    rw (
+      c .before .before .size-of .ensures,
+      at-read-record .read-record .ensures,
+    ) at (c .withdraw .ensures .1)
 
 returns : tie.Need-returns
 returns c =
-    let d = c .before .before .before .before .before .before .before in
-    let t = taken-up (recordIn (d .before .before .before .before .before .before .before .args .entries .now)) (outcome d) (d .withdraw .result) (d .before .before .before .before .before .before .before .args .entries .now) (answered d) (c .before .before .before .enum-told .given .1) in
-    (c .done .ensures ∙ t .0, (c .before .write-record .ensures ∙ t .1, counted d))
-
-same-length-2 : tie.Need-same-length-2
-same-length-2 c = search needs
+    let at-enum-told : tie.After-enum-told = search in
+    let at-withdraw : tie.After-withdraw = search in
+    let at-start : tie.Start = search in
+    let t = taken-up (recordIn (at-start .args .entries .now)) (outcome at-withdraw) (at-withdraw .withdraw .result) (at-start .args .entries .now)
+    (answered at-withdraw) (at-enum-told .enum-told .given .1) in
+    (c .done .ensures ∙ t .0, (c .before .write-record .ensures ∙ t .1, counted at-withdraw))
 
 returns-2 : tie.Need-returns-2
 returns-2 c =
-    let d = c .before .before .before .before .before .before in
-    let t = turned-down (recordIn (d .before .before .before .before .before .before .before .args .entries .now)) (outcome d) (d .withdraw .result) (d .before .before .before .before .before .before .before .args .entries .now) _ (answered d) (c .before .before .reply .given .1) in
-    (c .refused .ensures ∙ t .0, (t .1, counted d))
+    let at-withdraw : tie.After-withdraw = search in
+    let at-start : tie.Start = search in
+    let t = turned-down (recordIn (at-start .args .entries .now)) (outcome at-withdraw) (at-withdraw .withdraw .result) (at-start .args .entries .now) _
+    (answered at-withdraw) (c .before .before .reply .given .1) in
+    (c .refused .ensures ∙ t .0, (t .1, counted at-withdraw))
 
 pub sigbrol-withdraw-spec : {M : Type 1} → statement M
 sigbrol-withdraw-spec =
-    tie.close
-    (tie.spec
-    read-record-requires
-    size-of-requires
-    withdraw-requires
-    enum-told
-    write-record-requires
-    done-requires
-    enum-known-reply
-    refused-requires
-    same-length
-    returns
-    same-length-2
-    returns-2)
+    tie.close (tie.spec
+    (search needs) (search needs) (search needs) (search needs) (search needs) (search needs) (search needs) (search needs) (search needs)
+    returns (search needs) returns-2)

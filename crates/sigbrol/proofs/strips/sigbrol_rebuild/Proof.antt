@@ -16,17 +16,24 @@ outcome : tie.Start → Outcome Shape
 outcome s = let a = s .args in rebuildCall (directionOf (a .vertical)) (a .columns) (a .rows) (a .strips .now) (length (a .pixels .now))
 
 -- its answer tells that outcome
-answered : (c : tie.After-rebuild) → c .rebuild .result ≡ doneAnswer (outcome (c .before .before .before .before))
+answered : (c : tie.After-rebuild) →
+    let at-start : tie.Start = search in
+    c .rebuild .result ≡ doneAnswer (outcome (at-start))
 unfolding outcome
 answered c = rw (c .before .before .direction-of .ensures) at (c .rebuild .ensures .0)
 
 -- and so do the pixels
-left : (c : tie.After-rebuild) → c .rebuild .last .1 .1 .1 .1 .0 ≡ pixelsAfter (c .before .before .before .before .args .pixels .now) (outcome (c .before .before .before .before))
+left : (c : tie.After-rebuild) →
+    let at-start : tie.Start = search in
+    c .rebuild .last .1 .1 .1 .1 .0 ≡ pixelsAfter (at-start .args .pixels .now) (outcome (at-start))
 unfolding outcome
 left c = rw (c .before .before .direction-of .ensures) at (c .rebuild .ensures .1 .0)
 
 -- the pixels of a set stand in the buffer again
-again : (c : tie.After-rebuild) → Again (directionOf (c .before .before .before .before .args .vertical)) (c .before .before .before .before .args .columns) (c .before .before .before .before .args .rows) (c .before .before .before .before .args .strips .now) (c .before .before .before .before .args .pixels .now) (c .rebuild .last .1 .1 .1 .1 .0)
+again : (c : tie.After-rebuild) →
+    let at-start : tie.Start = search in
+    Again (directionOf (at-start .args .vertical)) (at-start .args .columns) (at-start .args .rows) (at-start .args .strips .now) (at-start .args .pixels .now)
+    (c .rebuild .last .1 .1 .1 .1 .0)
 again c = rw (c .before .before .direction-of .ensures) at (c .rebuild .ensures .1 .1)
 
 direction-of-requires : tie.Need-direction-of-requires
@@ -48,22 +55,34 @@ refused-requires : tie.Need-refused-requires
 refused-requires c κs = tt
 
 same-length : tie.Need-same-length
-same-length c = c .before .before .before .before .before .rebuild .kept .1 .1 .1 .1 .0
+same-length c =
+    let at-rebuild : tie.After-rebuild = search in
+    at-rebuild .rebuild .kept .1 .1 .1 .1 .0
 
 returns : tie.Need-returns
 unfolding outcome
 returns c =
-    let o = outcome (c .before .before .before .before .before .before .before .before .before) in
-    (c .done .ensures ∙ reply-by (λ s. tt) o (done-told o (sym (c .before .enum-told .given .1) ∙ answered (c .before .before .before .before .before))), (left (c .before .before .before .before .before), again (c .before .before .before .before .before)))
+    let at-rebuild : tie.After-rebuild = search in
+    let at-start : tie.Start = search in
+    let o = outcome (at-start) in (
+      c .done .ensures ∙ reply-by (λ s. tt) o (done-told o (sym (c .before .enum-told .given .1) ∙ answered (at-rebuild))),
+      (left (at-rebuild), again (at-rebuild)),
+    )
 
 same-length-2 : tie.Need-same-length-2
-same-length-2 c = c .before .before .before .before .before .before .rebuild .kept .1 .1 .1 .1 .0
+same-length-2 c =
+    let at-rebuild : tie.After-rebuild = search in
+    at-rebuild .rebuild .kept .1 .1 .1 .1 .0
 
 returns-2 : tie.Need-returns-2
 unfolding outcome
 returns-2 c =
-    let o = outcome (c .before .before .before .before .before .before .before .before .before .before) in
-    (c .refused .ensures ∙ reply-by (λ s. tt) o (done-told o (sym (c .before .before .refusal .given .1) ∙ answered (c .before .before .before .before .before .before))), (left (c .before .before .before .before .before .before), again (c .before .before .before .before .before .before)))
+    let at-rebuild : tie.After-rebuild = search in
+    let at-start : tie.Start = search in
+    let o = outcome (at-start) in (
+      c .refused .ensures ∙ reply-by (λ s. tt) o (done-told o (sym (c .before .before .refusal .given .1) ∙ answered (at-rebuild))),
+      (left (at-rebuild), again (at-rebuild)),
+    )
 
 pub sigbrol-rebuild-spec : {M : Type 1} → statement M
 sigbrol-rebuild-spec =

@@ -25,12 +25,16 @@ part : tie.Start → List (List ℕ)
 part s = stretchGiven (stretchCall (lentJob s) (s .args .turns .now) (lentStores s) (s .args .piece) (directionOf (s .args .vertical)))
 
 -- the call hands it out
-handed : (c : tie.After-stretch) → c .stretch .result .now ≡ part (c .before .before .before .before .before .before .before)
+handed : (c : tie.After-stretch) →
+    let at-start : tie.Start = search in
+    c .stretch .result .now ≡ part (at-start)
 unfolding part
 handed c = rw (c .before .before .size-of .ensures, c .before .direction-of .ensures) at (c .stretch .ensures)
 
 -- it is there where it is not empty
-there : (c : tie.Then1) → StretchPassed (lentJob (c .before .before .before .before .before .before .before .before)) (c .before .before .before .before .before .before .before .before .args .turns .now) (lentStores (c .before .before .before .before .before .before .before .before)) (c .before .before .before .before .before .before .before .before .args .piece) (directionOf (c .before .before .before .before .before .before .before .before .args .vertical))
+there : (c : tie.Then1) →
+    let at-start : tie.Start = search in
+    StretchPassed (lentJob (at-start)) (at-start .args .turns .now) (lentStores (at-start)) (at-start .args .piece) (directionOf (at-start .args .vertical))
 unfolding part
 there c = stretch-there _ _ _ _ _ (λ e. c .if1 .taken (ap length (handed (c .before)) ∙ e))
 

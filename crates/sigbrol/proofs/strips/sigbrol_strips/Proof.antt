@@ -18,14 +18,23 @@ outcome : tie.Start → Outcome Stores
 outcome s = let a = s .args in stripsCall (lentAs (a .rows) (a .columns) (a .count) (a .table .now) (a .pixels .now)) (a .turns .now) (lentStores s)
 
 -- its answer tells that outcome
-answered : (c : tie.After-strips) → c .strips .result ≡ doneAnswer (outcome (c .before .before .before .before .before .before .before .before .before .before))
+answered : (c : tie.After-strips) →
+    let at-start : tie.Start = search in
+    c .strips .result ≡ doneAnswer (outcome (at-start))
 unfolding outcome lentStores
-answered c = rw (c .before .before .before .before .before .size-of .ensures) at (c .strips .ensures .0)
+answered c =
+    let at-size-of : tie.After-size-of = search in
+    rw (at-size-of .size-of .ensures) at (c .strips .ensures .0)
 
 -- and so do the stores
-left : (c : tie.After-strips) → storesBy (c .strips .last .1 .1 .1 .1 .0) (c .strips .last .1 .1 .1 .1 .1 .0) (c .strips .last .1 .1 .1 .1 .1 .1 .0) (c .strips .last .1 .1 .1 .1 .1 .1 .1 .0) ≡ storesAfter (lentStores (c .before .before .before .before .before .before .before .before .before .before)) (outcome (c .before .before .before .before .before .before .before .before .before .before))
+left : (c : tie.After-strips) →
+    let at-start : tie.Start = search in
+    storesBy (c .strips .last .1 .1 .1 .1 .0) (c .strips .last .1 .1 .1 .1 .1 .0) (c .strips .last .1 .1 .1 .1 .1 .1 .0)
+    (c .strips .last .1 .1 .1 .1 .1 .1 .1 .0) ≡ storesAfter (lentStores (at-start)) (outcome (at-start))
 unfolding outcome lentStores
-left c = rw (c .before .before .before .before .before .size-of .ensures) at (c .strips .ensures .1)
+left c =
+    let at-size-of : tie.After-size-of = search in
+    rw (at-size-of .size-of .ensures) at (c .strips .ensures .1)
 
 size-of-requires : tie.Need-size-of-requires
 size-of-requires c κs = tt
@@ -46,40 +55,60 @@ refused-requires : tie.Need-refused-requires
 refused-requires c κs = tt
 
 same-length : tie.Need-same-length
-same-length c = c .before .before .before .before .before .before .before .before .before .strips .kept .1 .1 .1 .1 .0
+same-length c =
+    let at-strips : tie.After-strips = search in
+    at-strips .strips .kept .1 .1 .1 .1 .0
 
 same-length-2 : tie.Need-same-length-2
-same-length-2 c = c .before .before .before .before .before .before .before .before .before .strips .kept .1 .1 .1 .1 .1 .0
+same-length-2 c =
+    let at-strips : tie.After-strips = search in
+    at-strips .strips .kept .1 .1 .1 .1 .1 .0
 
 same-length-3 : tie.Need-same-length-3
-same-length-3 c = c .before .before .before .before .before .before .before .before .before .strips .kept .1 .1 .1 .1 .1 .1 .0
+same-length-3 c =
+    let at-strips : tie.After-strips = search in
+    at-strips .strips .kept .1 .1 .1 .1 .1 .1 .0
 
 same-length-4 : tie.Need-same-length-4
-same-length-4 c = c .before .before .before .before .before .before .before .before .before .strips .kept .1 .1 .1 .1 .1 .1 .1 .0
+same-length-4 c =
+    let at-strips : tie.After-strips = search in
+    at-strips .strips .kept .1 .1 .1 .1 .1 .1 .1 .0
 
 returns : tie.Need-returns
 unfolding outcome lentStores
 returns c =
-    let o = outcome (c .before .before .before .before .before .before .before .before .before .before .before .before .before .before .before .before .before .before .before) in
-    (c .done .ensures ∙ reply-by (λ s. tt) o (done-told o (sym (c .before .enum-told .given .1) ∙ answered (c .before .before .before .before .before .before .before .before .before))), left (c .before .before .before .before .before .before .before .before .before))
+    let at-strips : tie.After-strips = search in
+    let at-start : tie.Start = search in
+    let o = outcome (at-start) in
+    (c .done .ensures ∙ reply-by (λ s. tt) o (done-told o (sym (c .before .enum-told .given .1) ∙ answered (at-strips))), left (at-strips))
 
 same-length-5 : tie.Need-same-length-5
-same-length-5 c = c .before .before .before .before .before .before .before .before .before .before .strips .kept .1 .1 .1 .1 .0
+same-length-5 c =
+    let at-strips : tie.After-strips = search in
+    at-strips .strips .kept .1 .1 .1 .1 .0
 
 same-length-6 : tie.Need-same-length-6
-same-length-6 c = c .before .before .before .before .before .before .before .before .before .before .strips .kept .1 .1 .1 .1 .1 .0
+same-length-6 c =
+    let at-strips : tie.After-strips = search in
+    at-strips .strips .kept .1 .1 .1 .1 .1 .0
 
 same-length-7 : tie.Need-same-length-7
-same-length-7 c = c .before .before .before .before .before .before .before .before .before .before .strips .kept .1 .1 .1 .1 .1 .1 .0
+same-length-7 c =
+    let at-strips : tie.After-strips = search in
+    at-strips .strips .kept .1 .1 .1 .1 .1 .1 .0
 
 same-length-8 : tie.Need-same-length-8
-same-length-8 c = c .before .before .before .before .before .before .before .before .before .before .strips .kept .1 .1 .1 .1 .1 .1 .1 .0
+same-length-8 c =
+    let at-strips : tie.After-strips = search in
+    at-strips .strips .kept .1 .1 .1 .1 .1 .1 .1 .0
 
 returns-2 : tie.Need-returns-2
 unfolding outcome lentStores
 returns-2 c =
-    let o = outcome (c .before .before .before .before .before .before .before .before .before .before .before .before .before .before .before .before .before .before .before .before) in
-    (c .refused .ensures ∙ reply-by (λ s. tt) o (done-told o (sym (c .before .before .refusal .given .1) ∙ answered (c .before .before .before .before .before .before .before .before .before .before))), left (c .before .before .before .before .before .before .before .before .before .before))
+    let at-strips : tie.After-strips = search in
+    let at-start : tie.Start = search in
+    let o = outcome (at-start) in
+    (c .refused .ensures ∙ reply-by (λ s. tt) o (done-told o (sym (c .before .before .refusal .given .1) ∙ answered (at-strips))), left (at-strips))
 
 pub sigbrol-strips-spec : {M : Type 1} → statement M
 sigbrol-strips-spec =

@@ -6,17 +6,11 @@ use Rattle.sigbrol.specs.Places.{startIn}
 use Rattle.sigbrol.proofs.strips.start_of.Statement.{statement}
 use Rattle.sigbrol.proofs.strips.start_of.Tie as tie
 
-mul-result : tie.Need-mul-result
-mul-result c = search needs
-
 shared-slice-read-result : tie.Need-shared-slice-read-result
 shared-slice-read-result c = c .before .before .pre .0
 
 cast-result : tie.Need-cast-result
 cast-result c = omega (arith, c .shared-slice-known .given (c .before .before .args .piece))
-
-mul-result-2 : tie.Need-mul-result-2
-mul-result-2 c = search needs
 
 shared-slice-read-result-2 : tie.Need-shared-slice-read-result-2
 shared-slice-read-result-2 c = c .before .before .pre .1
@@ -32,13 +26,5 @@ returns-2 c = rw (ne-eqb (c .before .before .args .vertical) 0 (c .before .if1 .
 
 pub start-of-spec : {M : Type 1} → statement M
 start-of-spec =
-    tie.close
-    (tie.spec
-    mul-result
-    shared-slice-read-result
-    cast-result
-    mul-result-2
-    shared-slice-read-result-2
-    cast-result-2
-    returns
-    returns-2)
+    tie.close (tie.spec
+    (search needs) shared-slice-read-result cast-result (search needs) shared-slice-read-result-2 cast-result-2 returns returns-2)

@@ -15,7 +15,9 @@ outcome : tie.Start → Outcome (List ℕ)
 outcome s = let a = s .args in programCall (a .input .now) (length (a .output .now))
 
 -- its answer tells that outcome
-answered : (c : tie.After-print-run) → c .print-run .result ≡ countAnswer (outcome (c .before .before .before .before))
+answered : (c : tie.After-print-run) →
+    let at-start : tie.Start = search in
+    c .print-run .result ≡ countAnswer (outcome (at-start))
 unfolding outcome
 answered c = c .print-run .ensures .0
 
@@ -35,24 +37,36 @@ refused-requires : tie.Need-refused-requires
 refused-requires c κs = tt
 
 same-length : tie.Need-same-length
-same-length c = c .before .before .before .before .before .before .print-run .kept .1 .0
+same-length c =
+    let at-print-run : tie.After-print-run = search in
+    at-print-run .print-run .kept .1 .0
 
 returns : tie.Need-returns
 unfolding outcome
 returns c =
-    let o = outcome (c .before .before .before .before .before .before .before .before .before .before) in
-    let t = count-told o (sym (c .before .before .count .given .1) ∙ answered (c .before .before .before .before .before .before)) in
-    (c .done .ensures ∙ reply-by (λ text. length text) o t, (c .before .before .before .before .before .before .print-run .ensures .1 .0, (leaves-by (λ text. length text) (λ k. k) _ o t, c .before .before .before .before .before .before .print-run .ensures .1 .1)))
+    let at-print-run : tie.After-print-run = search in
+    let at-start : tie.Start = search in
+    let o = outcome (at-start) in
+    let t = count-told o (sym (c .before .before .count .given .1) ∙ answered (at-print-run)) in (
+      c .done .ensures ∙ reply-by (λ text. length text) o t,
+      (at-print-run .print-run .ensures .1 .0, (leaves-by (λ text. length text) (λ k. k) _ o t, at-print-run .print-run .ensures .1 .1)),
+    )
 
 same-length-2 : tie.Need-same-length-2
-same-length-2 c = c .before .before .before .before .before .before .print-run .kept .1 .0
+same-length-2 c =
+    let at-print-run : tie.After-print-run = search in
+    at-print-run .print-run .kept .1 .0
 
 returns-2 : tie.Need-returns-2
 unfolding outcome
 returns-2 c =
-    let o = outcome (c .before .before .before .before .before .before .before .before .before .before) in
-    let t = count-told o (sym (c .before .before .refusal .given .1) ∙ answered (c .before .before .before .before .before .before)) in
-    (c .refused .ensures ∙ reply-by (λ text. length text) o t, (c .before .before .before .before .before .before .print-run .ensures .1 .0, (leaves-by (λ text. length text) (λ k. k) _ o t, c .before .before .before .before .before .before .print-run .ensures .1 .1)))
+    let at-print-run : tie.After-print-run = search in
+    let at-start : tie.Start = search in
+    let o = outcome (at-start) in
+    let t = count-told o (sym (c .before .before .refusal .given .1) ∙ answered (at-print-run)) in (
+      c .refused .ensures ∙ reply-by (λ text. length text) o t,
+      (at-print-run .print-run .ensures .1 .0, (leaves-by (λ text. length text) (λ k. k) _ o t, at-print-run .print-run .ensures .1 .1)),
+    )
 
 pub sigbrol-program-spec : {M : Type 1} → statement M
 sigbrol-program-spec =

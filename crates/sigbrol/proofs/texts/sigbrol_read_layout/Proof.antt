@@ -12,10 +12,13 @@ use Rattle.sigbrol.proofs.texts.sigbrol_read_layout.Tie as tie
 
 -- the outcome of the call
 outcome : tie.Start → Outcome Layout
-outcome s = let a = s .args in readLayoutCall (lentAs (a .rows) (a .columns) (a .count) (a .table .now) (a .pixels .now)) (a .text .now) (length (a .layout .now))
+outcome s = let a = s .args in
+    readLayoutCall (lentAs (a .rows) (a .columns) (a .count) (a .table .now) (a .pixels .now)) (a .text .now) (length (a .layout .now))
 
 -- its answer tells that outcome
-answered : (c : tie.After-read-layout) → c .read-layout .result ≡ doneAnswer (outcome (c .before .before .before .before .before))
+answered : (c : tie.After-read-layout) →
+    let at-start : tie.Start = search in
+    c .read-layout .result ≡ doneAnswer (outcome (at-start))
 unfolding outcome
 answered c = rw (c .before .before .size-of .ensures) at (c .read-layout .ensures .0)
 
@@ -38,24 +41,34 @@ refused-requires : tie.Need-refused-requires
 refused-requires c κs = tt
 
 same-length : tie.Need-same-length
-same-length c = c .before .before .before .before .read-layout .kept .1 .1 .1 .1 .0
+same-length c =
+    let at-read-layout : tie.After-read-layout = search in
+    at-read-layout .read-layout .kept .1 .1 .1 .1 .0
 
 returns : tie.Need-returns
 unfolding outcome
 returns c =
-    let o = outcome (c .before .before .before .before .before .before .before .before .before) in
-    let t = done-told o (sym (c .before .enum-told .given .1) ∙ answered (c .before .before .before .before)) in
-    (c .done .ensures ∙ reply-by (λ v. tt) o t, rw (c .before .before .before .before .before .before .size-of .ensures) at (c .before .before .before .before .read-layout .ensures .1))
+    let at-read-layout : tie.After-read-layout = search in
+    let at-size-of : tie.After-size-of = search in
+    let at-start : tie.Start = search in
+    let o = outcome (at-start) in
+    let t = done-told o (sym (c .before .enum-told .given .1) ∙ answered (at-read-layout)) in
+    (c .done .ensures ∙ reply-by (λ v. tt) o t, rw (at-size-of .size-of .ensures) at (at-read-layout .read-layout .ensures .1))
 
 same-length-2 : tie.Need-same-length-2
-same-length-2 c = c .before .before .before .before .before .read-layout .kept .1 .1 .1 .1 .0
+same-length-2 c =
+    let at-read-layout : tie.After-read-layout = search in
+    at-read-layout .read-layout .kept .1 .1 .1 .1 .0
 
 returns-2 : tie.Need-returns-2
 unfolding outcome
 returns-2 c =
-    let o = outcome (c .before .before .before .before .before .before .before .before .before .before) in
-    let t = done-told o (sym (c .before .before .refusal .given .1) ∙ answered (c .before .before .before .before .before)) in
-    (c .refused .ensures ∙ reply-by (λ v. tt) o t, rw (c .before .before .before .before .before .before .before .size-of .ensures) at (c .before .before .before .before .before .read-layout .ensures .1))
+    let at-read-layout : tie.After-read-layout = search in
+    let at-size-of : tie.After-size-of = search in
+    let at-start : tie.Start = search in
+    let o = outcome (at-start) in
+    let t = done-told o (sym (c .before .before .refusal .given .1) ∙ answered (at-read-layout)) in
+    (c .refused .ensures ∙ reply-by (λ v. tt) o t, rw (at-size-of .size-of .ensures) at (at-read-layout .read-layout .ensures .1))
 
 pub sigbrol-read-layout-spec : {M : Type 1} → statement M
 sigbrol-read-layout-spec =

@@ -13,10 +13,13 @@ use Rattle.sigbrol.proofs.texts.sigbrol_write_layout.Tie as tie
 
 -- the outcome of the call
 outcome : tie.Start → Outcome (List ℕ)
-outcome s = let a = s .args in writeLayoutCall (lentAs (a .rows) (a .columns) (a .count) (a .table .now) (a .pixels .now)) (a .layout .now) (length (a .text .now))
+outcome s = let a = s .args in
+    writeLayoutCall (lentAs (a .rows) (a .columns) (a .count) (a .table .now) (a .pixels .now)) (a .layout .now) (length (a .text .now))
 
 -- its answer tells that outcome
-answered : (c : tie.After-write-layout) → c .write-layout .result ≡ countAnswer (outcome (c .before .before .before .before .before))
+answered : (c : tie.After-write-layout) →
+    let at-start : tie.Start = search in
+    c .write-layout .result ≡ countAnswer (outcome (at-start))
 unfolding outcome
 answered c = rw (c .before .before .size-of .ensures) at (c .write-layout .ensures .0)
 
@@ -39,24 +42,38 @@ refused-requires : tie.Need-refused-requires
 refused-requires c κs = tt
 
 same-length : tie.Need-same-length
-same-length c = c .before .before .before .before .before .before .write-layout .kept .1 .1 .1 .1 .0
+same-length c =
+    let at-write-layout : tie.After-write-layout = search in
+    at-write-layout .write-layout .kept .1 .1 .1 .1 .0
 
 returns : tie.Need-returns
 unfolding outcome
 returns c =
-    let o = outcome (c .before .before .before .before .before .before .before .before .before .before .before) in
-    let t = count-told o (sym (c .before .before .length .given .1) ∙ answered (c .before .before .before .before .before .before)) in
-    (c .done .ensures ∙ reply-by (λ text. length text) o t, (rw (c .before .before .before .before .before .before .before .before .size-of .ensures) at (c .before .before .before .before .before .before .write-layout .ensures .1), leaves-by (λ text. length text) (λ k. k) _ o t))
+    let at-write-layout : tie.After-write-layout = search in
+    let at-size-of : tie.After-size-of = search in
+    let at-start : tie.Start = search in
+    let o = outcome (at-start) in
+    let t = count-told o (sym (c .before .before .length .given .1) ∙ answered (at-write-layout)) in (
+      c .done .ensures ∙ reply-by (λ text. length text) o t,
+      (rw (at-size-of .size-of .ensures) at (at-write-layout .write-layout .ensures .1), leaves-by (λ text. length text) (λ k. k) _ o t),
+    )
 
 same-length-2 : tie.Need-same-length-2
-same-length-2 c = c .before .before .before .before .before .before .write-layout .kept .1 .1 .1 .1 .0
+same-length-2 c =
+    let at-write-layout : tie.After-write-layout = search in
+    at-write-layout .write-layout .kept .1 .1 .1 .1 .0
 
 returns-2 : tie.Need-returns-2
 unfolding outcome
 returns-2 c =
-    let o = outcome (c .before .before .before .before .before .before .before .before .before .before .before) in
-    let t = count-told o (sym (c .before .before .refusal .given .1) ∙ answered (c .before .before .before .before .before .before)) in
-    (c .refused .ensures ∙ reply-by (λ text. length text) o t, (rw (c .before .before .before .before .before .before .before .before .size-of .ensures) at (c .before .before .before .before .before .before .write-layout .ensures .1), leaves-by (λ text. length text) (λ k. k) _ o t))
+    let at-write-layout : tie.After-write-layout = search in
+    let at-size-of : tie.After-size-of = search in
+    let at-start : tie.Start = search in
+    let o = outcome (at-start) in
+    let t = count-told o (sym (c .before .before .refusal .given .1) ∙ answered (at-write-layout)) in (
+      c .refused .ensures ∙ reply-by (λ text. length text) o t,
+      (rw (at-size-of .size-of .ensures) at (at-write-layout .write-layout .ensures .1), leaves-by (λ text. length text) (λ k. k) _ o t),
+    )
 
 pub sigbrol-write-layout-spec : {M : Type 1} → statement M
 sigbrol-write-layout-spec =

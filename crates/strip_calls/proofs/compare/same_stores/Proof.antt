@@ -10,22 +10,18 @@ use borrow.Author.Needs.{needs}
 use Rattle.strip_calls.proofs.compare.same_stores.Statement.{statement}
 use Rattle.strip_calls.proofs.compare.same_stores.Tie as tie
 
-same-store-requires : tie.Need-same-store-requires
-same-store-requires c κs = search needs
-
 returns : tie.Need-returns
 unfolding storesWell
 returns c =
-    let a = c .before .before .before .before .before .before .args in
-    ap (λ b. b && storeWell Vertical (jobOf (lentBy (a .size) (a .table .now) (a .pixels .now))) (a .turns .now) (a .column-strips .now) (a .column-starts .now)) (sym (not-true _ (c .if1 .taken)) ∙ c .before .same-store .ensures)
-
-same-store-requires-2 : tie.Need-same-store-requires-2
-same-store-requires-2 c κs = search needs
+    let at-start : tie.Start = search in
+    let a = at-start .args in
+    ap (λ b.
+    b && storeWell Vertical (jobOf (lentBy (a .size) (a .table .now) (a .pixels .now))) (a .turns .now) (a .column-strips .now) (a .column-starts .now))
+    (sym (not-true _ (c .if1 .taken)) ∙ c .before .same-store .ensures)
 
 returns-2 : tie.Need-returns-2
 unfolding storesWell
 returns-2 c = ap₂ _&&_ (sym (not-false _ (c .before .if1 .left)) ∙ c .before .before .same-store .ensures) (c .same-store2 .ensures)
 
 pub same-stores-spec : {M : Type 1} → statement M
-same-stores-spec =
-    tie.close (tie.spec same-store-requires returns same-store-requires-2 returns-2)
+same-stores-spec = tie.close (tie.spec (λ c κs. search needs) returns (λ c κs. search needs) returns-2)

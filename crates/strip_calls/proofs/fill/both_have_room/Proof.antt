@@ -9,20 +9,15 @@ use borrow.Author.Needs.{needs}
 use Rattle.strip_calls.proofs.fill.both_have_room.Statement.{statement}
 use Rattle.strip_calls.proofs.fill.both_have_room.Tie as tie
 
-has-room-requires : tie.Need-has-room-requires
-has-room-requires c κs = search needs
-
 returns : tie.Need-returns
 returns c =
-    let a = c .before .before .before .before .args in
-    ap (λ b. b && storeFits Vertical (jobOf (lentBy (a .size) (a .table .now) (a .pixels .now))) (a .turns .now) (a .columns)) (sym (not-true _ (c .if1 .taken)) ∙ c .before .has-room .ensures)
-
-has-room-requires-2 : tie.Need-has-room-requires-2
-has-room-requires-2 c κs = search needs
+    let at-start : tie.Start = search in
+    let a = at-start .args in
+    ap (λ b. b && storeFits Vertical (jobOf (lentBy (a .size) (a .table .now) (a .pixels .now))) (a .turns .now) (a .columns))
+    (sym (not-true _ (c .if1 .taken)) ∙ c .before .has-room .ensures)
 
 returns-2 : tie.Need-returns-2
 returns-2 c = ap₂ _&&_ (sym (not-false _ (c .before .if1 .left)) ∙ c .before .before .has-room .ensures) (c .has-room2 .ensures)
 
 pub both-have-room-spec : {M : Type 1} → statement M
-both-have-room-spec =
-    tie.close (tie.spec has-room-requires returns has-room-requires-2 returns-2)
+both-have-room-spec = tie.close (tie.spec (λ c κs. search needs) returns (λ c κs. search needs) returns-2)

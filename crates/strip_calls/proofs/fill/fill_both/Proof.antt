@@ -5,37 +5,14 @@ use borrow.Author.Needs.{needs}
 use Rattle.strip_calls.proofs.fill.fill_both.Statement.{statement}
 use Rattle.strip_calls.proofs.fill.fill_both.Tie as tie
 
-fill-requires : tie.Need-fill-requires
-fill-requires c κs = search needs
-
-fill-requires-2 : tie.Need-fill-requires-2
-fill-requires-2 c κs = search needs
-
-same-length : tie.Need-same-length
-same-length c = search needs
-
-same-length-2 : tie.Need-same-length-2
-same-length-2 c = search needs
-
-same-length-3 : tie.Need-same-length-3
-same-length-3 c = search needs
-
-same-length-4 : tie.Need-same-length-4
-same-length-4 c = search needs
-
 returns : tie.Need-returns
 returns c =
-    let s = c .before .before .before .before .before .before .before .before .before .before .before .before .before .before .before .before in
-    stores-filled (jobOf (lentBy (s .args .size) (s .args .table .now) (s .args .pixels .now))) (s .args .turns .now) (s .pre .1) (c .before .before .before .before .before .before .before .before .before .fill .ensures) (c .before .before .before .fill2 .ensures)
+    let at-fill2 : tie.After-fill2 = search in
+    let at-fill : tie.After-fill = search in
+    let at-start : tie.Start = search in
+    stores-filled (jobOf (lentBy (at-start .args .size) (at-start .args .table .now) (at-start .args .pixels .now))) (at-start .args .turns .now)
+    (at-start .pre .1) (at-fill .fill .ensures) (at-fill2 .fill2 .ensures)
 
 pub fill-both-spec : {M : Type 1} → statement M
 fill-both-spec =
-    tie.close
-    (tie.spec
-    fill-requires
-    fill-requires-2
-    same-length
-    same-length-2
-    same-length-3
-    same-length-4
-    returns)
+    tie.close (tie.spec (λ c κs. search needs) (λ c κs. search needs) (search needs) (search needs) (search needs) (search needs) returns)

@@ -20,57 +20,71 @@ job s = lentBy (s .args .size) (s .args .table .now) (s .args .pixels .now)
 abbrev lent : tie.Start → Stores
 lent s = storesBy (s .args .row-strips .now) (s .args .row-starts .now) (s .args .column-strips .now) (s .args .column-starts .now)
 
-check-job-requires : tie.Need-check-job-requires
-check-job-requires c κs = search needs
-
 returns : tie.Need-returns
 returns c =
-    let s = c .before .before .before .before .before .before in
-    ap stretchNumber (sym (stretch-job (job s) (s .args .turns .now) (lent s) (s .args .piece) (s .args .direction) (sym (c .before .check-job .ensures) ∙ not-true _ (c .if1 .taken))))
+    let at-start : tie.Start = search in
+    ap stretchNumber
+    (sym (stretch-job (job at-start) (at-start .args .turns .now) (lent at-start) (at-start .args .piece) (at-start .args .direction)
+    (sym (c .before .check-job .ensures) ∙ not-true _ (c .if1 .taken))))
 
 -- the job passes its check
-well : (c : tie.Else1) → lentWell (job (c .before .before .before .before .before .before)) ≡ true
+well : (c : tie.Else1) →
+    let at-start : tie.Start = search in
+    lentWell (job (at-start)) ≡ true
 well c = sym (c .before .check-job .ensures) ∙ not-false _ (c .if1 .left)
 
 wrong-requires : tie.Need-wrong-requires
-wrong-requires c κs = facts (job (c .before .before .before .before .before .before)) (well c) .entries
+wrong-requires c κs =
+    let at-start : tie.Start = search in
+    facts (job (at-start)) (well c) .entries
 
 returns-2 : tie.Need-returns-2
 returns-2 c =
-    let s = c .before .before .before .before .before .before .before .before in
-    ap stretchNumber (sym (stretch-turns (job s) (s .args .turns .now) (lent s) (s .args .piece) (s .args .direction) (well (c .before .before)) (sym (c .before .wrong .ensures (s .args .pixels .now)) ∙ c .if2 .taken)))
+    let at-start : tie.Start = search in
+    ap stretchNumber
+    (sym (stretch-turns (job at-start) (at-start .args .turns .now) (lent at-start) (at-start .args .piece) (at-start .args .direction)
+    (well (c .before .before)) (sym (c .before .wrong .ensures (at-start .args .pixels .now)) ∙ c .if2 .taken)))
 
 -- the turns are right
-right : (c : tie.Else2) → turnListWrong (jobOf (job (c .before .before .before .before .before .before .before .before))) (c .before .before .before .before .before .before .before .before .args .turns .now) ≡ false
-right c = sym (c .before .wrong .ensures (c .before .before .before .before .before .before .before .before .args .pixels .now)) ∙ c .if2 .left
+right : (c : tie.Else2) →
+    let at-start : tie.Start = search in
+    turnListWrong (jobOf (job (at-start))) (at-start .args .turns .now) ≡ false
+right c =
+    let at-start : tie.Start = search in
+    sym (c .before .wrong .ensures (at-start .args .pixels .now)) ∙ c .if2 .left
 
 returns-3 : tie.Need-returns-3
 returns-3 c =
-    let s = c .before .before .before .before .before .before .before .before .before .before in
-    ap stretchNumber (sym (stretch-piece (job s) (s .args .turns .now) (lent s) (s .args .piece) (s .args .direction) (well (c .before .before .before .before)) (c .if3 .taken)))
+    let at-else1 : tie.Else1 = search in
+    let at-start : tie.Start = search in
+    ap stretchNumber
+    (sym (stretch-piece (job at-start) (at-start .args .turns .now) (lent at-start) (at-start .args .piece) (at-start .args .direction) (well (at-else1))
+    (c .if3 .taken)))
 
 same-stores-requires : tie.Need-same-stores-requires
-same-stores-requires c κs = made-ready (job (c .before .before .before .before .before .before .before .before .before .before)) (c .before .before .before .before .before .before .before .before .before .before .args .turns .now) (well (c .before .before .before .before)) (right (c .before .before))
+same-stores-requires c κs =
+    let at-else1 : tie.Else1 = search in
+    let at-start : tie.Start = search in
+    made-ready (job (at-start)) (at-start .args .turns .now) (well (at-else1)) (right (c .before .before))
 
 returns-4 : tie.Need-returns-4
 returns-4 c =
-    let s = c .before .before .before .before .before .before .before .before .before .before .before .before in
-    ap stretchNumber (sym (stretch-store (job s) (s .args .turns .now) (lent s) (s .args .piece) (s .args .direction) (well (c .before .before .before .before .before .before)) (right (c .before .before .before .before)) (c .before .before .if3 .left) (sym (c .before .same-stores .ensures) ∙ not-true _ (c .if4 .taken))))
+    let at-else2 : tie.Else2 = search in
+    let at-else1 : tie.Else1 = search in
+    let at-start : tie.Start = search in
+    ap stretchNumber
+    (sym (stretch-store (job at-start) (at-start .args .turns .now) (lent at-start) (at-start .args .piece) (at-start .args .direction) (well (at-else1))
+    (right (at-else2)) (c .before .before .if3 .left) (sym (c .before .same-stores .ensures) ∙ not-true _ (c .if4 .taken))))
 
 returns-5 : tie.Need-returns-5
 returns-5 c =
-    let s = c .before .before .before .before .before .before .before .before .before .before .before .before in
-    ap stretchNumber (sym (stretch-given (job s) (s .args .turns .now) (lent s) (s .args .piece) (s .args .direction) (well (c .before .before .before .before .before .before)) (right (c .before .before .before .before)) (c .before .before .if3 .left) (sym (c .before .same-stores .ensures) ∙ not-false _ (c .if4 .left))))
+    let at-else2 : tie.Else2 = search in
+    let at-else1 : tie.Else1 = search in
+    let at-start : tie.Start = search in
+    ap stretchNumber
+    (sym (stretch-given (job at-start) (at-start .args .turns .now) (lent at-start) (at-start .args .piece) (at-start .args .direction) (well (at-else1))
+    (right (at-else2)) (c .before .before .if3 .left) (sym (c .before .same-stores .ensures) ∙ not-false _ (c .if4 .left))))
 
 pub stretch-refusal-spec : {M : Type 1} → statement M
 stretch-refusal-spec =
-    tie.close
-    (tie.spec
-    check-job-requires
-    returns
-    wrong-requires
-    returns-2
-    returns-3
-    same-stores-requires
-    returns-4
-    returns-5)
+    tie.close (tie.spec (search needs) returns wrong-requires returns-2 returns-3 same-stores-requires returns-4 returns-5)

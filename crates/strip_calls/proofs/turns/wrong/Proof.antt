@@ -26,48 +26,74 @@ abbrev μ-loop : tie.MeasureT-loop
 
 returns : tie.Need-returns Inv-loop μ-loop
 unfolding turnListWrong jobOf
-returns c = λ pixels. let a = c .before .before .before .args in sym (or-left (not (eqb (length (a .turns .now)) (a .size .count))) _ (ap not (ne-eqb _ _ (c .if1 .taken))))
+returns c = λ pixels.
+    let at-start : tie.Start Inv-loop μ-loop = search in
+    let a = at-start .args in sym (or-left (not (eqb (length (a .turns .now)) (a .size .count))) _ (ap not (ne-eqb _ _ (c .if1 .taken))))
 
 loop-holds : tie.Need-loop-holds Inv-loop μ-loop
 loop-holds c = (omega arith, λ k l. absurd (omega arith))
 
 mul-allowed-degrees : tie.Need-mul-allowed-degrees Inv-loop μ-loop
-mul-allowed-degrees c = let e = c .before .before .before .if1 .left in search needs
+mul-allowed-degrees c =
+    let at-else1 : tie.Else1 Inv-loop μ-loop = search in
+    let e = at-else1 .if1 .left in search needs
 
 shared-slice-read-allowed-degrees : tie.Need-shared-slice-read-allowed-degrees Inv-loop μ-loop
-shared-slice-read-allowed-degrees c = let e = c .before .before .before .before .if1 .left in omega arith
+shared-slice-read-allowed-degrees c =
+    let at-else1 : tie.Else1 Inv-loop μ-loop = search in
+    let e = at-else1 .if1 .left in omega arith
 
 allowed-degrees-requires : tie.Need-allowed-degrees-requires Inv-loop μ-loop
-allowed-degrees-requires c κs = let h = c .before .before .before .before .before .before .before .pre in omega arith
+allowed-degrees-requires c κs =
+    let at-start : tie.Start Inv-loop μ-loop = search in
+    let h = at-start .pre in omega arith
 
 returns-2 : tie.Need-returns-2 Inv-loop μ-loop
 unfolding turnListWrong jobOf
 returns-2 c = λ pixels.
-    let a = c .before .before .before .before .before .before .before .before .before .args in
-    let e : eqb (length (a .turns .now)) (a .size .count) ≡ true = eq-eqb _ _ (c .before .before .before .before .before .before .if1 .left) in
-    one-fails (a .size .count) (c .before .before .before .before .before .loop .i) (λ k. allowedDegrees (jobOf (lentBy (a .size) (a .table .now) pixels)) k (getD (a .turns .now) k 0)) (c .before .before .before .if2 .taken) (sym (c .before .allowed-degrees .ensures (a .size) pixels) ∙ not-true _ (c .if3 .taken))
-    ∙ ap (λ b. not b || anyBelow (a .size .count) (λ k. not (allowedDegrees (jobOf (lentBy (a .size) (a .table .now) pixels)) k (getD (a .turns .now) k 0)))) (sym e)
+    let at-then2 : tie.Then2 Inv-loop μ-loop = search in
+    let at-loop : tie.At-loop Inv-loop μ-loop = search in
+    let at-else1 : tie.Else1 Inv-loop μ-loop = search in
+    let at-start : tie.Start Inv-loop μ-loop = search in
+    let a = at-start .args in
+    let e : eqb (length (a .turns .now)) (a .size .count) ≡ true = eq-eqb _ _ (at-else1 .if1 .left) in
+    one-fails (a .size .count) (at-loop .loop .i) (λ k. allowedDegrees (jobOf (lentBy (a .size) (a .table .now) pixels)) k (getD (a .turns .now) k 0))
+    (at-then2 .if2 .taken) (sym (c .before .allowed-degrees .ensures (a .size) pixels) ∙ not-true _ (c .if3 .taken))
+    ∙ ap (λ b. not b || anyBelow (a .size .count) (λ k. not (allowedDegrees (jobOf (lentBy (a .size) (a .table .now) pixels)) k (getD (a .turns .now) k 0))))
+    (sym e)
 
 add-i : tie.Need-add-i Inv-loop μ-loop
-add-i c = let e = c .before .before .before .before .before .before .if1 .left in omega arith
+add-i c =
+    let at-else1 : tie.Else1 Inv-loop μ-loop = search in
+    let e = at-else1 .if1 .left in omega arith
 
 loop-less : tie.Need-loop-less Inv-loop μ-loop
-loop-less c = let t = c .before .before .before .if2 .taken in omega arith
+loop-less c =
+    let at-then2 : tie.Then2 Inv-loop μ-loop = search in
+    let t = at-then2 .if2 .taken in omega arith
 
 loop-again : tie.Need-loop-again Inv-loop μ-loop
 loop-again c =
-    let t = c .before .before .before .if2 .taken in (
+    let at-then2 : tie.Then2 Inv-loop μ-loop = search in
+    let at-loop : tie.At-loop Inv-loop μ-loop = search in
+    let at-start : tie.Start Inv-loop μ-loop = search in
+    let t = at-then2 .if2 .taken in (
       omega arith,
-      below-more _ _ (c .before .before .before .before .before .loop .inv .1) (λ pixels. sym (c .before .allowed-degrees .ensures (c .before .before .before .before .before .before .before .before .before .args .size) pixels) ∙ not-false _ (c .if3 .left)),
+      below-more _ _ (at-loop .loop .inv .1) (λ pixels. sym (c .before .allowed-degrees .ensures (at-start .args .size) pixels) ∙ not-false _ (c .if3 .left)),
     )
 
 returns-3 : tie.Need-returns-3 Inv-loop μ-loop
 unfolding turnListWrong jobOf
 returns-3 c = λ pixels.
-    let a = c .before .before .before .before .before .before .args in
-    let e : eqb (length (a .turns .now)) (a .size .count) ≡ true = eq-eqb _ _ (c .before .before .before .if1 .left) in
-    none-fails (a .size .count) (c .before .before .loop .i) (λ k. allowedDegrees (jobOf (lentBy (a .size) (a .table .now) pixels)) k (getD (a .turns .now) k 0)) (c .if2 .left) (λ k l. c .before .before .loop .inv .1 k l pixels)
-    ∙ ap (λ b. not b || anyBelow (a .size .count) (λ k. not (allowedDegrees (jobOf (lentBy (a .size) (a .table .now) pixels)) k (getD (a .turns .now) k 0)))) (sym e)
+    let at-else1 : tie.Else1 Inv-loop μ-loop = search in
+    let at-start : tie.Start Inv-loop μ-loop = search in
+    let a = at-start .args in
+    let e : eqb (length (a .turns .now)) (a .size .count) ≡ true = eq-eqb _ _ (at-else1 .if1 .left) in
+    none-fails (a .size .count) (c .before .before .loop .i)
+    (λ k. allowedDegrees (jobOf (lentBy (a .size) (a .table .now) pixels)) k (getD (a .turns .now) k 0)) (c .if2 .left)
+    (λ k l. c .before .before .loop .inv .1 k l pixels)
+    ∙ ap (λ b. not b || anyBelow (a .size .count) (λ k. not (allowedDegrees (jobOf (lentBy (a .size) (a .table .now) pixels)) k (getD (a .turns .now) k 0))))
+    (sym e)
 
 pub wrong-spec : {M : Type 1} → statement M
 wrong-spec =

@@ -19,8 +19,9 @@ compare-strips-requires c κs =
 
 returns : tie.Need-returns
 returns c = λ size.
-    let a = c .before .before .before .args in
-    let p = c .before .before .before .pre in
+    let at-start : tie.Start = search in
+    let a = at-start .args in
+    let p = at-start .pre in
     c .compare-strips .ensures
     ∙ ap (λ s. compared (strips (a .direction) s) (a .store .now) (a .at))
     (ap (shownBy (a .pixels .now)) (c .before .turned-piece .ensures)

@@ -5,27 +5,8 @@ use borrow.Author.Needs.{needs}
 use Rattle.strip_scan.proofs.compare.stands_at.Statement.{statement}
 use Rattle.strip_scan.proofs.compare.stands_at.Tie as tie
 
-mul-same-entry : tie.Need-mul-same-entry
-mul-same-entry c = search needs
-
-shared-slice-copy-out-same-entry : tie.Need-shared-slice-copy-out-same-entry
-shared-slice-copy-out-same-entry c = search needs
-
-same-entry-requires : tie.Need-same-entry-requires
-same-entry-requires c κs = search needs
-
-returns : tie.Need-returns
-returns c = search needs
-
 returns-2 : tie.Need-returns-2
 returns-2 c = let a = c .before .args in sym (none-there (record { line = a .line; first = a .first; count = a .count }) (a .store .now) (a .at) (c .if1 .left))
 
 pub stands-at-spec : {M : Type 1} → statement M
-stands-at-spec =
-    tie.close
-    (tie.spec
-    mul-same-entry
-    shared-slice-copy-out-same-entry
-    same-entry-requires
-    returns
-    returns-2)
+stands-at-spec = tie.close (tie.spec (search needs) (search needs) (search needs) (λ c. search needs) returns-2)

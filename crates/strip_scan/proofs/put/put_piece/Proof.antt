@@ -14,21 +14,21 @@ turned-piece-requires c κs = c .before .pre .0 .within
 
 put-strips-requires : tie.Need-put-strips-requires
 put-strips-requires c κs =
-    let a = c .before .before .before .args in
-    let p = c .before .before .before .pre in
+    let at-start : tie.Start = search in
+    let a = at-start .args in
+    let p = at-start .pre in
     (rw (c .before .turned-piece .ensures) (made-small (a .table .now) (a .piece) (a .start) (a .turn) (p .0)), p .1)
-
-same-length : tie.Need-same-length
-same-length c = search needs
 
 returns : tie.Need-returns
 returns c = λ size.
-    let a = c .before .before .before .before .before .args in
-    let p = c .before .before .before .before .before .pre in
+    let at-turned-piece : tie.After-turned-piece = search in
+    let at-start : tie.Start = search in
+    let a = at-start .args in
+    let p = at-start .pre in
     subst (λ s. Appended (strips (a .direction) s) (a .store .now) (a .at) (c .before .put-strips .last .1 .1 .1 .0) (c .before .put-strips .result))
-    (ap (shownBy (a .pixels .now)) (c .before .before .before .turned-piece .ensures)
+    (ap (shownBy (a .pixels .now)) (at-turned-piece .turned-piece .ensures)
     ∙ shown-piece size (a .table .now) (a .pixels .now) (a .piece) (a .start) (a .turn) (p .0 .begins))
     (c .before .put-strips .ensures)
 
 pub put-piece-spec : {M : Type 1} → statement M
-put-piece-spec = tie.close (tie.spec turned-piece-requires put-strips-requires same-length returns)
+put-piece-spec = tie.close (tie.spec turned-piece-requires put-strips-requires (search needs) returns)

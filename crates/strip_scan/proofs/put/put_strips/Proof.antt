@@ -29,36 +29,41 @@ loop-holds c = (omega arith, append-start _ _ (all-strips _ _))
 next-strip-requires : tie.Need-next-strip-requires Inv-loop μ-loop
 next-strip-requires c κs = (c .before .before .pre .0, c .loop .inv .0)
 
-enum-told : tie.Need-enum-told Inv-loop μ-loop
-enum-told c = search needs
-
 same-length : tie.Need-same-length Inv-loop μ-loop
-same-length c = append-length (c .before .before .before .loop .inv .1)
+same-length c =
+    let at-loop : tie.At-loop Inv-loop μ-loop = search in
+    append-length (at-loop .loop .inv .1)
 
 returns : tie.Need-returns Inv-loop μ-loop
 returns c =
-    let a = c .before .before .before .before .before .args in
-    let l = c .before .before .before .loop in
-    append-end (subst (NextIs (a .direction) (a .pixels .now) (a .piece) (l .line) (l .along)) (c .enum-told .given .1) (c .before .before .next-strip .ensures))
+    let at-loop : tie.At-loop Inv-loop μ-loop = search in
+    let at-start : tie.Start Inv-loop μ-loop = search in
+    let a = at-start .args in
+    let l = at-loop .loop in
+    append-end
+    (subst (NextIs (a .direction) (a .pixels .now) (a .piece) (l .line) (l .along)) (c .enum-told .given .1) (c .before .before .next-strip .ensures))
     (l .inv .1)
 
 -- the strip that was found is the next one
 found-next : (c : tie.After-found Inv-loop μ-loop)
-    → NextStripIs (c .before .before .before .before .before .args .direction) (shownBy (c .before .before .before .before .before .args .pixels .now) (c .before .before .before .before .before .args .piece))
-    (c .before .before .before .loop .line) (c .before .before .before .loop .along)
+    →
+    let at-loop : tie.At-loop Inv-loop μ-loop = search in
+    let at-start : tie.Start Inv-loop μ-loop = search in
+    NextStripIs (at-start .args .direction) (shownBy (at-start .args .pixels .now) (at-start .args .piece))
+    (at-loop .loop .line) (at-loop .loop .along)
     (record { line = c .found .given .0 .0; first = c .found .given .0 .1 .0; count = c .found .given .0 .1 .1 .0 })
 found-next c =
-    let a = c .before .before .before .before .before .args in
-    let l = c .before .before .before .loop in
+    let at-loop : tie.At-loop Inv-loop μ-loop = search in
+    let at-start : tie.Start Inv-loop μ-loop = search in
+    let a = at-start .args in
+    let l = at-loop .loop in
     subst (NextIs (a .direction) (a .pixels .now) (a .piece) (l .line) (l .along)) (c .found .given .1) (c .before .before .next-strip .ensures)
-
-enum-known-found : tie.Need-enum-known-found Inv-loop μ-loop
-enum-known-found c = search needs
 
 put-requires : tie.Need-put-requires Inv-loop μ-loop
 put-requires c κs =
-    let a = c .before .before .before .before .before .before .before .args in
-    let p = c .before .before .before .before .before .before .before .pre .0 in
+    let at-start : tie.Start Inv-loop μ-loop = search in
+    let a = at-start .args in
+    let p = at-start .pre .0 in
     let n = found-next (c .before .before) in
     let w = n .within in
     let l = n .line in
@@ -70,47 +75,44 @@ put-requires c κs =
 
 add-at : tie.Need-add-at Inv-loop μ-loop
 add-at c =
-    let a = c .before .before .before .before .before .before .before .before .before .args in
-    let p = c .before .before .before .before .before .before .before .before .before .pre in
+    let at-loop : tie.At-loop Inv-loop μ-loop = search in
+    let at-start : tie.Start Inv-loop μ-loop = search in
+    let a = at-start .args in
+    let p = at-start .pre in
     let k = piece-few (a .direction) (a .pixels .now) (a .piece) (p .0) in
-    let n = c .before .before .before .before .before .before .before .loop .inv .1 .counted in
+    let n = at-loop .loop .inv .1 .counted in
     let z : a .at ≤ 2 ^ 32 = p .1 in
     omega arith
 
 add-along : tie.Need-add-along Inv-loop μ-loop
 add-along c =
-    let a = c .before .before .before .before .before .before .before .before .before .args in
-    let p = c .before .before .before .before .before .before .before .before .before .pre .0 in
-    let w = found-next (c .before .before .before .before) .within in
+    let at-found : tie.After-found Inv-loop μ-loop = search in
+    let at-start : tie.Start Inv-loop μ-loop = search in
+    let a = at-start .args in
+    let p = at-start .pre .0 in
+    let w = found-next (at-found) .within in
     let u = side-of (a .direction) (a .pixels .now) (a .piece) in
     let x = side-small (a .direction) (a .piece) p in
     omega arith
 
 loop-less : tie.Need-loop-less Inv-loop μ-loop
-loop-less c = let n = ap length (found-next (c .before .before .before .before) .next) in omega arith
+loop-less c =
+    let at-found : tie.After-found Inv-loop μ-loop = search in
+    let n = ap length (found-next (at-found) .next) in omega arith
 
 loop-again : tie.Need-loop-again Inv-loop μ-loop
 loop-again c =
-    let a = c .before .before .before .before .before .before .before .before .before .args in
-    let n = found-next (c .before .before .before .before) in
+    let at-found : tie.After-found Inv-loop μ-loop = search in
+    let at-loop : tie.At-loop Inv-loop μ-loop = search in
+    let at-start : tie.Start Inv-loop μ-loop = search in
+    let a = at-start .args in
+    let n = found-next (at-found) in
     let w = n .within in
     let u = side-of (a .direction) (a .pixels .now) (a .piece) in
-    (omega arith, rw (c .before .put .ensures) (append-step (n .next) (c .before .before .before .before .before .before .before .loop .inv .1)))
+    (omega arith, rw (c .before .put .ensures) (append-step (n .next) (at-loop .loop .inv .1)))
 
 pub put-strips-spec : {M : Type 1} → statement M
 put-strips-spec =
-    tie.close
-    (tie.spec
-    Inv-loop
-    μ-loop
-    loop-holds
-    next-strip-requires
-    enum-told
-    same-length
-    returns
-    enum-known-found
-    put-requires
-    add-at
-    add-along
-    loop-less
-    loop-again)
+    tie.close (tie.spec
+    Inv-loop μ-loop loop-holds next-strip-requires (search needs) same-length returns (search needs) put-requires add-at add-along
+    loop-less loop-again)

@@ -21,16 +21,14 @@ Inv-loop pixels piece direction line from wanted length at₀ at =
 abbrev μ-loop : tie.MeasureT-loop
 μ-loop pixels piece direction line from wanted length at₀ at = length - at
 
-line-length-requires : tie.Need-line-length-requires Inv-loop μ-loop
-line-length-requires c κs = search needs
-
 loop-holds : tie.Need-loop-holds Inv-loop μ-loop
 loop-holds c = (let e = c .line-length .ensures in omega arith, refl)
 
 is-pixel-requires : tie.Need-is-pixel-requires Inv-loop μ-loop
 is-pixel-requires c κs =
+    let at-start : tie.Start Inv-loop μ-loop = search in
     let e = c .before .before .line-length .ensures in
-    (c .before .before .before .before .pre .0, (omega arith, c .before .before .before .before .pre .1 .1))
+    (at-start .pre .0, (omega arith, at-start .pre .1 .1))
 
 -- what the cell test said, in the contract's terms
 flag : (wanted b p : Bool) {r : Bool} → b ≡ p → Bool·beq b wanted ≡ r → Bool·beq p wanted ≡ r
@@ -38,22 +36,19 @@ flag wanted b p e h = rw e at h
 
 returns : tie.Need-returns Inv-loop μ-loop
 returns c =
-    let e = c .before .before .before .before .line-length .ensures in
-    let s = first-stop _ (c .before .before .before .loop .at) _ (c .before .before .loop-test .taken) (flag _ _ _ (c .before .is-pixel .ensures) (c .if1 .taken)) in
-    rw (← e) (sym s ∙ c .before .before .before .loop .inv .1)
-
-add-at : tie.Need-add-at Inv-loop μ-loop
-add-at c = omega arith
-
-loop-less : tie.Need-loop-less Inv-loop μ-loop
-loop-less c = omega arith
+    let at-loop : tie.At-loop Inv-loop μ-loop = search in
+    let at-line-length : tie.After-line-length Inv-loop μ-loop = search in
+    let e = at-line-length .line-length .ensures in
+    let s = first-stop _ (at-loop .loop .at) _ (c .before .before .loop-test .taken) (flag _ _ _ (c .before .is-pixel .ensures) (c .if1 .taken)) in
+    rw (← e) (sym s ∙ at-loop .loop .inv .1)
 
 loop-again : tie.Need-loop-again Inv-loop μ-loop
-loop-again c = (
-  omega arith,
-  sym (first-go _ (c .before .before .before .loop .at) _ (c .before .before .loop-test .taken) (flag _ _ _ (c .before .is-pixel .ensures) (c .if1 .left)))
-      ∙ c .before .before .before .loop .inv .1,
-)
+loop-again c =
+    let at-loop : tie.At-loop Inv-loop μ-loop = search in (
+      omega arith,
+      sym (first-go _ (at-loop .loop .at) _ (c .before .before .loop-test .taken) (flag _ _ _ (c .before .is-pixel .ensures) (c .if1 .left)))
+          ∙ at-loop .loop .inv .1,
+    )
 
 returns-2 : tie.Need-returns-2 Inv-loop μ-loop
 returns-2 c =
@@ -62,15 +57,5 @@ returns-2 c =
 
 pub find-spec : {M : Type 1} → statement M
 find-spec =
-    tie.close
-    (tie.spec
-    Inv-loop
-    μ-loop
-    line-length-requires
-    loop-holds
-    is-pixel-requires
-    returns
-    add-at
-    loop-less
-    loop-again
-    returns-2)
+    tie.close (tie.spec
+    Inv-loop μ-loop (search needs) loop-holds is-pixel-requires returns (search needs) (search needs) loop-again returns-2)

@@ -6,7 +6,8 @@ use borrow.Author.Tests.{not-true, not-false}
 use Rattle.model.specs.Lent.{lentBy, jobOf}
 use Rattle.job_laws.proofs.Checked.{facts, entry-at}
 use Rattle.strip_store.proofs.Filling.{store-small}
-use Rattle.strip_store.proofs.Checking.{Checking, check-start, check-start-wrong, check-unlike, check-step, check-end, until-from, unlike-from, stretch-compared}
+use Rattle.strip_store.proofs.Checking.{Checking, check-start, check-start-wrong, check-unlike, check-step, check-end, until-from, unlike-from}
+use Rattle.strip_store.proofs.Checking.{stretch-compared}
 use borrow.Author.Needs.{needs}
 use Rattle.strip_store.proofs.compare.same_store.Statement.{statement}
 use Rattle.strip_store.proofs.compare.same_store.Tie as tie
@@ -20,18 +21,23 @@ abbrev μ-loop : tie.MeasureT-loop
 
 loop-holds : tie.Need-loop-holds Inv-loop μ-loop
 unfolding jobOf
-loop-holds c = let a = c .before .before .before .args in (omega arith, check-start (a .direction) (jobOf (lentBy (a .size) (a .table .now) (a .pixels .now))) (a .turns .now) (a .strips .now) (a .starts .now))
-
-starts-at-requires : tie.Need-starts-at-requires Inv-loop μ-loop
-starts-at-requires c κs = search needs
+loop-holds c =
+    let at-start : tie.Start Inv-loop μ-loop = search in
+    let a = at-start .args in
+    (omega arith, check-start (a .direction) (jobOf (lentBy (a .size) (a .table .now) (a .pixels .now))) (a .turns .now) (a .strips .now) (a .starts .now))
 
 returns : tie.Need-returns Inv-loop μ-loop
-returns c = check-start-wrong (c .before .before .before .before .before .before .before .before .args .size .count) (c .before .before .if1 .taken) (sym (c .before .starts-at .ensures) ∙ not-true _ (c .if2 .taken)) (c .before .before .before .before .loop .inv .1)
+returns c =
+    let at-loop : tie.At-loop Inv-loop μ-loop = search in
+    let at-start : tie.Start Inv-loop μ-loop = search in
+    check-start-wrong (at-start .args .size .count) (c .before .before .if1 .taken) (sym (c .before .starts-at .ensures) ∙ not-true _ (c .if2 .taken))
+    (at-loop .loop .inv .1)
 
 pixel-start-requires : tie.Need-pixel-start-requires Inv-loop μ-loop
 pixel-start-requires c κs =
-    let a = c .before .before .before .before .before .before .before .before .args in
-    let r = c .before .before .before .before .before .before .before .before .pre in
+    let at-start : tie.Start Inv-loop μ-loop = search in
+    let a = at-start .args in
+    let r = at-start .pre in
     let f = facts (lentBy (a .size) (a .table .now) (a .pixels .now)) (r .well) in
     let n = f .entries in
     let m = f .fewPieces in
@@ -40,91 +46,95 @@ pixel-start-requires c κs =
 
 mul-turn-or-zero : tie.Need-mul-turn-or-zero Inv-loop μ-loop
 mul-turn-or-zero c =
-    let a = c .before .before .before .before .before .before .before .before .before .args in
-    let r = c .before .before .before .before .before .before .before .before .before .pre in
+    let at-then1 : tie.Then1 Inv-loop μ-loop = search in
+    let at-start : tie.Start Inv-loop μ-loop = search in
+    let a = at-start .args in
+    let r = at-start .pre in
     let f = facts (lentBy (a .size) (a .table .now) (a .pixels .now)) (r .well) in
     let n = f .entries in
     let m = f .fewPieces in
-    let t = c .before .before .before .if1 .taken in
+    let t = at-then1 .if1 .taken in
     omega arith
 
 shared-slice-read-turn-or-zero : tie.Need-shared-slice-read-turn-or-zero Inv-loop μ-loop
-shared-slice-read-turn-or-zero c = let r = c .before .before .before .before .before .before .before .before .before .before .pre .turns in let t = c .before .before .before .before .if1 .taken in omega arith
-
-turn-or-zero-requires : tie.Need-turn-or-zero-requires Inv-loop μ-loop
-turn-or-zero-requires c κs = search needs
+shared-slice-read-turn-or-zero c =
+    let at-then1 : tie.Then1 Inv-loop μ-loop = search in
+    let at-start : tie.Start Inv-loop μ-loop = search in
+    let r = at-start .pre .turns in let t = at-then1 .if1 .taken in omega arith
 
 compare-piece-requires : tie.Need-compare-piece-requires Inv-loop μ-loop
 compare-piece-requires c κs =
-    let a = c .before .before .before .before .before .before .before .before .before .before .before .args in
-    let r = c .before .before .before .before .before .before .before .before .before .before .before .pre in
+    let at-then1 : tie.Then1 Inv-loop μ-loop = search in
+    let at-loop : tie.At-loop Inv-loop μ-loop = search in
+    let at-start : tie.Start Inv-loop μ-loop = search in
+    let a = at-start .args in
+    let r = at-start .pre in
     let s = store-small (a .direction) (lentBy (a .size) (a .table .now) (a .pixels .now)) (a .turns .now) (r .well) in
-    let n = c .before .before .before .before .before .before .before .loop .inv .1 .counted in
+    let n = at-loop .loop .inv .1 .counted in
     let l = lentBy (a .size) (a .table .now) (a .pixels .now) in
-    (rw (c .before .before .pixel-start .ensures) (entry-at l (c .before .before .before .before .before .before .before .loop .i) (r .well) (c .before .before .before .before .before .if1 .taken)), omega arith)
-
-enum-known-end : tie.Need-enum-known-end Inv-loop μ-loop
-enum-known-end c = search needs
-
-enum-told : tie.Need-enum-told Inv-loop μ-loop
-enum-told c = search needs
+    (rw (c .before .before .pixel-start .ensures) (entry-at l (at-loop .loop .i) (r .well) (at-then1 .if1 .taken)), omega arith)
 
 returns-2 : tie.Need-returns-2 Inv-loop μ-loop
 returns-2 c =
-    let a = c .before .before .before .before .before .before .before .before .before .before .before .before .before .before .args in
-    check-unlike (a .size .count) (c .before .before .before .before .before .before .before .before .if1 .taken) (sym (c .before .before .before .before .before .before .before .starts-at .ensures) ∙ not-false _ (c .before .before .before .before .before .before .if2 .left))
-    (unlike-from _ _ _ (sym (c .enum-told .given .1) ∙ stretch-compared (a .direction) (jobOf (lentBy (a .size) (a .table .now) (a .pixels .now))) (a .turns .now) (c .before .before .before .before .before .before .before .before .before .before .loop .i) (c .before .before .before .before .before .before .before .before .before .before .loop .at) (a .strips .now) (c .before .before .before .turn-or-zero .ensures) (c .before .before .compare-piece .ensures (a .size)))) (c .before .before .before .before .before .before .before .before .before .before .loop .inv .1)
+    let at-turn-or-zero : tie.After-turn-or-zero Inv-loop μ-loop = search in
+    let at-else2 : tie.Else2 Inv-loop μ-loop = search in
+    let at-starts-at : tie.After-starts-at Inv-loop μ-loop = search in
+    let at-then1 : tie.Then1 Inv-loop μ-loop = search in
+    let at-loop : tie.At-loop Inv-loop μ-loop = search in
+    let at-start : tie.Start Inv-loop μ-loop = search in
+    let a = at-start .args in
+    check-unlike (a .size .count) (at-then1 .if1 .taken) (sym (at-starts-at .starts-at .ensures) ∙ not-false _ (at-else2 .if2 .left))
+    (unlike-from _ _ _
+    (sym (c .enum-told .given .1)
+    ∙ stretch-compared (a .direction) (jobOf (lentBy (a .size) (a .table .now) (a .pixels .now))) (a .turns .now) (at-loop .loop .i) (at-loop .loop .at)
+    (a .strips .now) (at-turn-or-zero .turn-or-zero .ensures) (c .before .before .compare-piece .ensures (a .size)))) (at-loop .loop .inv .1)
 
 add-i : tie.Need-add-i Inv-loop μ-loop
 add-i c =
-    let a = c .before .before .before .before .before .before .before .before .before .before .before .before .before .before .before .args in
-    let r = c .before .before .before .before .before .before .before .before .before .before .before .before .before .before .before .pre in
+    let at-then1 : tie.Then1 Inv-loop μ-loop = search in
+    let at-start : tie.Start Inv-loop μ-loop = search in
+    let a = at-start .args in
+    let r = at-start .pre in
     let f = facts (lentBy (a .size) (a .table .now) (a .pixels .now)) (r .well) in
     let n = f .entries in
     let m = f .fewPieces in
-    let t = c .before .before .before .before .before .before .before .before .before .if1 .taken in
+    let t = at-then1 .if1 .taken in
     omega arith
 
 loop-less : tie.Need-loop-less Inv-loop μ-loop
-loop-less c = let t = c .before .before .before .before .before .before .before .before .before .if1 .taken in omega arith
+loop-less c =
+    let at-then1 : tie.Then1 Inv-loop μ-loop = search in
+    let t = at-then1 .if1 .taken in omega arith
 
 loop-again : tie.Need-loop-again Inv-loop μ-loop
 loop-again c =
-    let a = c .before .before .before .before .before .before .before .before .before .before .before .before .before .before .before .args in
-    let t = c .before .before .before .before .before .before .before .before .before .if1 .taken in
-    let u = until-from _ _ _ _ (sym (c .before .end .given .1) ∙ stretch-compared (a .direction) (jobOf (lentBy (a .size) (a .table .now) (a .pixels .now))) (a .turns .now) (c .before .before .before .before .before .before .before .before .before .before .before .loop .i) (c .before .before .before .before .before .before .before .before .before .before .before .loop .at) (a .strips .now) (c .before .before .before .before .turn-or-zero .ensures) (c .before .before .before .compare-piece .ensures (a .size))) in (
+    let at-compare-piece : tie.After-compare-piece Inv-loop μ-loop = search in
+    let at-turn-or-zero : tie.After-turn-or-zero Inv-loop μ-loop = search in
+    let at-else2 : tie.Else2 Inv-loop μ-loop = search in
+    let at-starts-at : tie.After-starts-at Inv-loop μ-loop = search in
+    let at-then1 : tie.Then1 Inv-loop μ-loop = search in
+    let at-loop : tie.At-loop Inv-loop μ-loop = search in
+    let at-start : tie.Start Inv-loop μ-loop = search in
+    let a = at-start .args in
+    let t = at-then1 .if1 .taken in
+    let u = until-from _ _ _ _
+    (sym (c .before .end .given .1)
+    ∙ stretch-compared (a .direction) (jobOf (lentBy (a .size) (a .table .now) (a .pixels .now))) (a .turns .now) (at-loop .loop .i) (at-loop .loop .at)
+    (a .strips .now) (at-turn-or-zero .turn-or-zero .ensures) (at-compare-piece .compare-piece .ensures (a .size))) in (
       omega arith,
-      check-step (a .size .count) t (sym (c .before .before .before .before .before .before .before .before .starts-at .ensures) ∙ not-false _ (c .before .before .before .before .before .before .before .if2 .left)) (u .0) (u .1) (c .before .before .before .before .before .before .before .before .before .before .before .loop .inv .1),
+      check-step (a .size .count) t (sym (at-starts-at .starts-at .ensures) ∙ not-false _ (at-else2 .if2 .left)) (u .0) (u .1) (at-loop .loop .inv .1),
     )
-
-starts-at-requires-2 : tie.Need-starts-at-requires-2 Inv-loop μ-loop
-starts-at-requires-2 c κs = search needs
 
 returns-3 : tie.Need-returns-3 Inv-loop μ-loop
 returns-3 c =
-    let l = c .before .before .before .loop .inv .0 in
+    let at-loop : tie.At-loop Inv-loop μ-loop = search in
+    let at-start : tie.Start Inv-loop μ-loop = search in
+    let l = at-loop .loop .inv .0 in
     let t = c .before .if1 .left in
-    c .starts-at2 .ensures ∙ check-end (c .before .before .before .before .before .before .before .args .size .count) (omega arith) (c .before .before .before .loop .inv .1)
+    c .starts-at2 .ensures ∙ check-end (at-start .args .size .count) (omega arith) (at-loop .loop .inv .1)
 
 pub same-store-spec : {M : Type 1} → statement M
 same-store-spec =
-    tie.close
-    (tie.spec
-    Inv-loop
-    μ-loop
-    loop-holds
-    starts-at-requires
-    returns
-    pixel-start-requires
-    mul-turn-or-zero
-    shared-slice-read-turn-or-zero
-    turn-or-zero-requires
-    compare-piece-requires
-    enum-known-end
-    enum-told
-    returns-2
-    add-i
-    loop-less
-    loop-again
-    starts-at-requires-2
-    returns-3)
+    tie.close (tie.spec
+    Inv-loop μ-loop loop-holds (search needs) returns pixel-start-requires mul-turn-or-zero shared-slice-read-turn-or-zero (search needs)
+    compare-piece-requires (search needs) (search needs) returns-2 add-i loop-less loop-again (search needs) returns-3)

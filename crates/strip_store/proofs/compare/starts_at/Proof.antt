@@ -5,12 +5,6 @@ use borrow.Author.Needs.{needs}
 use Rattle.strip_store.proofs.compare.starts_at.Statement.{statement}
 use Rattle.strip_store.proofs.compare.starts_at.Tie as tie
 
-mul-result : tie.Need-mul-result
-mul-result c = search needs
-
-shared-slice-read-result : tie.Need-shared-slice-read-result
-shared-slice-read-result c = search needs
-
 cast-result : tie.Need-cast-result
 cast-result c = omega (arith, c .shared-slice-known .given (c .before .before .args .i))
 
@@ -21,5 +15,4 @@ returns-2 : tie.Need-returns-2
 returns-2 c = simp (le-ltb _ _ (c .if1 .left))
 
 pub starts-at-spec : {M : Type 1} → statement M
-starts-at-spec =
-    tie.close (tie.spec mul-result shared-slice-read-result cast-result returns returns-2)
+starts-at-spec = tie.close (tie.spec (search needs) (search needs) cast-result returns returns-2)

@@ -20,110 +20,128 @@ abbrev μ-loop : tie.MeasureT-loop
 
 loop-holds : tie.Need-loop-holds Inv-loop μ-loop
 unfolding jobOf
-loop-holds c = let a = c .before .before .before .args in (omega arith, fill-start (a .direction) (jobOf (lentBy (a .size) (a .table .now) (a .pixels .now))) (a .turns .now) (a .strips .now) (a .starts .now))
+loop-holds c =
+    let at-start : tie.Start Inv-loop μ-loop = search in
+    let a = at-start .args in
+    (omega arith, fill-start (a .direction) (jobOf (lentBy (a .size) (a .table .now) (a .pixels .now))) (a .turns .now) (a .strips .now) (a .starts .now))
 
 put-start-requires : tie.Need-put-start-requires Inv-loop μ-loop
 put-start-requires c κs =
-    let a = c .before .before .before .before .before .before .before .args in
-    let r = c .before .before .before .before .before .before .before .pre in
+    let at-loop : tie.At-loop Inv-loop μ-loop = search in
+    let at-start : tie.Start Inv-loop μ-loop = search in
+    let a = at-start .args in
+    let r = at-start .pre in
     let s = store-small (a .direction) (lentBy (a .size) (a .table .now) (a .pixels .now)) (a .turns .now) (r .well) in
-    let n = c .before .before .before .loop .inv .1 .counted in
+    let n = at-loop .loop .inv .1 .counted in
     omega arith
 
 pixel-start-requires : tie.Need-pixel-start-requires Inv-loop μ-loop
 pixel-start-requires c κs =
-    let a = c .before .before .before .before .before .before .before .before .before .before .args in
-    let r = c .before .before .before .before .before .before .before .before .before .before .pre in
+    let at-then1 : tie.Then1 Inv-loop μ-loop = search in
+    let at-start : tie.Start Inv-loop μ-loop = search in
+    let a = at-start .args in
+    let r = at-start .pre in
     let f = facts (lentBy (a .size) (a .table .now) (a .pixels .now)) (r .well) in
     let n = f .entries in
     let m = f .fewPieces in
-    let t = c .before .before .before .before .if1 .taken in
+    let t = at-then1 .if1 .taken in
     omega arith
 
 mul-turn-or-zero : tie.Need-mul-turn-or-zero Inv-loop μ-loop
 mul-turn-or-zero c =
-    let a = c .before .before .before .before .before .before .before .before .before .before .before .args in
-    let r = c .before .before .before .before .before .before .before .before .before .before .before .pre in
+    let at-then1 : tie.Then1 Inv-loop μ-loop = search in
+    let at-start : tie.Start Inv-loop μ-loop = search in
+    let a = at-start .args in
+    let r = at-start .pre in
     let f = facts (lentBy (a .size) (a .table .now) (a .pixels .now)) (r .well) in
     let n = f .entries in
     let m = f .fewPieces in
-    let t = c .before .before .before .before .before .if1 .taken in
+    let t = at-then1 .if1 .taken in
     omega arith
 
 shared-slice-read-turn-or-zero : tie.Need-shared-slice-read-turn-or-zero Inv-loop μ-loop
-shared-slice-read-turn-or-zero c = let r = c .before .before .before .before .before .before .before .before .before .before .before .before .pre .turns in let t = c .before .before .before .before .before .before .if1 .taken in omega arith
-
-turn-or-zero-requires : tie.Need-turn-or-zero-requires Inv-loop μ-loop
-turn-or-zero-requires c κs = search needs
+shared-slice-read-turn-or-zero c =
+    let at-then1 : tie.Then1 Inv-loop μ-loop = search in
+    let at-start : tie.Start Inv-loop μ-loop = search in
+    let r = at-start .pre .turns in let t = at-then1 .if1 .taken in omega arith
 
 put-piece-requires : tie.Need-put-piece-requires Inv-loop μ-loop
 put-piece-requires c κs =
-    let a = c .before .before .before .before .before .before .before .before .before .before .before .before .before .before .args in
-    let r = c .before .before .before .before .before .before .before .before .before .before .before .before .before .before .pre in
+    let at-pixel-start : tie.After-pixel-start Inv-loop μ-loop = search in
+    let at-then1 : tie.Then1 Inv-loop μ-loop = search in
+    let at-loop : tie.At-loop Inv-loop μ-loop = search in
+    let at-start : tie.Start Inv-loop μ-loop = search in
+    let a = at-start .args in
+    let r = at-start .pre in
     let s = store-small (a .direction) (lentBy (a .size) (a .table .now) (a .pixels .now)) (a .turns .now) (r .well) in
-    let n = c .before .before .before .before .before .before .before .before .before .before .loop .inv .1 .counted in
+    let n = at-loop .loop .inv .1 .counted in
     let l = lentBy (a .size) (a .table .now) (a .pixels .now) in
-    (rw (c .before .before .before .pixel-start .ensures) (entry-at l (c .before .before .before .before .before .before .before .before .before .before .loop .i) (r .well) (c .before .before .before .before .before .before .before .before .if1 .taken)), omega arith)
+    (rw (at-pixel-start .pixel-start .ensures) (entry-at l (at-loop .loop .i) (r .well) (at-then1 .if1 .taken)), omega arith)
 
 add-i : tie.Need-add-i Inv-loop μ-loop
 add-i c =
-    let a = c .before .before .before .before .before .before .before .before .before .before .before .before .before .before .before .before .args in
-    let r = c .before .before .before .before .before .before .before .before .before .before .before .before .before .before .before .before .pre in
+    let at-then1 : tie.Then1 Inv-loop μ-loop = search in
+    let at-start : tie.Start Inv-loop μ-loop = search in
+    let a = at-start .args in
+    let r = at-start .pre in
     let f = facts (lentBy (a .size) (a .table .now) (a .pixels .now)) (r .well) in
     let n = f .entries in
     let m = f .fewPieces in
-    let t = c .before .before .before .before .before .before .before .before .before .before .if1 .taken in
+    let t = at-then1 .if1 .taken in
     omega arith
 
 loop-less : tie.Need-loop-less Inv-loop μ-loop
-loop-less c = let t = c .before .before .before .before .before .before .before .before .before .before .if1 .taken in omega arith
+loop-less c =
+    let at-then1 : tie.Then1 Inv-loop μ-loop = search in
+    let t = at-then1 .if1 .taken in omega arith
 
 loop-again : tie.Need-loop-again Inv-loop μ-loop
 loop-again c =
-    let a = c .before .before .before .before .before .before .before .before .before .before .before .before .before .before .before .before .args in
-    let t = c .before .before .before .before .before .before .before .before .before .before .if1 .taken in (
+    let at-turn-or-zero : tie.After-turn-or-zero Inv-loop μ-loop = search in
+    let at-put-start : tie.After-put-start Inv-loop μ-loop = search in
+    let at-then1 : tie.Then1 Inv-loop μ-loop = search in
+    let at-loop : tie.At-loop Inv-loop μ-loop = search in
+    let at-start : tie.Start Inv-loop μ-loop = search in
+    let a = at-start .args in
+    let t = at-then1 .if1 .taken in (
       omega arith,
-      rw (c .before .before .before .before .before .before .before .before .put-start .ensures)
-          (fill-step (a .size .count) t (appended-piece (a .direction) (jobOf (lentBy (a .size) (a .table .now) (a .pixels .now))) (a .turns .now) (c .before .before .before .before .before .before .before .before .before .before .before .before .loop .i) (c .before .before .before .turn-or-zero .ensures) (c .before .put-piece .ensures (a .size))) (c .before .before .before .before .before .before .before .before .before .before .before .before .loop .inv .1)),
+      rw (at-put-start .put-start .ensures)
+          (fill-step (a .size .count) t
+          (appended-piece (a .direction) (jobOf (lentBy (a .size) (a .table .now) (a .pixels .now))) (a .turns .now) (at-loop .loop .i)
+          (at-turn-or-zero .turn-or-zero .ensures) (c .before .put-piece .ensures (a .size))) (at-loop .loop .inv .1)),
     )
 
 put-start-requires-2 : tie.Need-put-start-requires-2 Inv-loop μ-loop
 put-start-requires-2 c κs =
-    let a = c .before .before .before .before .before .before .before .args in
-    let r = c .before .before .before .before .before .before .before .pre in
+    let at-loop : tie.At-loop Inv-loop μ-loop = search in
+    let at-start : tie.Start Inv-loop μ-loop = search in
+    let a = at-start .args in
+    let r = at-start .pre in
     let s = store-small (a .direction) (lentBy (a .size) (a .table .now) (a .pixels .now)) (a .turns .now) (r .well) in
-    let n = c .before .before .before .loop .inv .1 .counted in
+    let n = at-loop .loop .inv .1 .counted in
     omega arith
 
 same-length : tie.Need-same-length Inv-loop μ-loop
-same-length c = fill-lengths (c .before .before .before .before .before .before .loop .inv .1) .0
+same-length c =
+    let at-loop : tie.At-loop Inv-loop μ-loop = search in
+    fill-lengths (at-loop .loop .inv .1) .0
 
 same-length-2 : tie.Need-same-length-2 Inv-loop μ-loop
-same-length-2 c = c .before .before .put-start2 .kept .0 ∙ fill-lengths (c .before .before .before .before .before .before .loop .inv .1) .1
+same-length-2 c =
+    let at-loop : tie.At-loop Inv-loop μ-loop = search in
+    c .before .before .put-start2 .kept .0 ∙ fill-lengths (at-loop .loop .inv .1) .1
 
 returns : tie.Need-returns Inv-loop μ-loop
 returns c =
-    let l = c .before .before .before .before .before .before .loop .inv .0 in
-    let t = c .before .before .before .before .if1 .left in
-    rw (c .before .before .put-start2 .ensures) (fill-end (c .before .before .before .before .before .before .before .before .before .before .args .size .count) (omega arith) (c .before .before .before .before .before .before .loop .inv .1))
+    let at-else1 : tie.Else1 Inv-loop μ-loop = search in
+    let at-loop : tie.At-loop Inv-loop μ-loop = search in
+    let at-start : tie.Start Inv-loop μ-loop = search in
+    let l = at-loop .loop .inv .0 in
+    let t = at-else1 .if1 .left in
+    rw (c .before .before .put-start2 .ensures) (fill-end (at-start .args .size .count) (omega arith) (at-loop .loop .inv .1))
 
 pub fill-spec : {M : Type 1} → statement M
 fill-spec =
-    tie.close
-    (tie.spec
-    Inv-loop
-    μ-loop
-    loop-holds
-    put-start-requires
-    pixel-start-requires
-    mul-turn-or-zero
-    shared-slice-read-turn-or-zero
-    turn-or-zero-requires
-    put-piece-requires
-    add-i
-    loop-less
-    loop-again
-    put-start-requires-2
-    same-length
-    same-length-2
-    returns)
+    tie.close (tie.spec
+    Inv-loop μ-loop loop-holds put-start-requires pixel-start-requires mul-turn-or-zero shared-slice-read-turn-or-zero (search needs)
+    put-piece-requires add-i loop-less loop-again put-start-requires-2 same-length same-length-2 returns)

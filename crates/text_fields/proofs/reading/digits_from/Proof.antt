@@ -16,7 +16,8 @@ use Rattle.text_fields.proofs.reading.digits_from.Statement.{statement}
 use Rattle.text_fields.proofs.reading.digits_from.Tie as tie
 
 abbrev Inv-loop : tie.InvT-loop
-Inv-loop text p value₀ next₀ left₀ value next left = (digitsFrom text next value left ≡ digitsFrom text p 0 5) × (next ≤ length text) × (largest value left ≤ 99999)
+Inv-loop text p value₀ next₀ left₀ value next left =
+    (digitsFrom text next value left ≡ digitsFrom text p 0 5) × (next ≤ length text) × (largest value left ≤ 99999)
 
 abbrev μ-loop : tie.MeasureT-loop
 μ-loop text p value₀ next₀ left₀ value next left = left
@@ -24,23 +25,23 @@ abbrev μ-loop : tie.MeasureT-loop
 loop-holds : tie.Need-loop-holds Inv-loop μ-loop
 loop-holds c = (refl, omega arith, lib.Dec.lit≤ tt)
 
-byte-at-requires : tie.Need-byte-at-requires Inv-loop μ-loop
-byte-at-requires c κs = search needs
-
-is-digit-requires : tie.Need-is-digit-requires Inv-loop μ-loop
-is-digit-requires c κs = search needs
-
 returns : tie.Need-returns Inv-loop μ-loop
 returns c =
-    let text = c .before .before .before .before .before .before .args .text .now in
-    let l = c .before .before .before .before .loop in
+    let at-loop : tie.At-loop Inv-loop μ-loop = search in
+    let at-start : tie.Start Inv-loop μ-loop = search in
+    let text = at-start .args .text .now in
+    let l = at-loop .loop in
     let e : l .left ≡ suc (l .left - 1) = omega arith in
-    let d : isDigit (byte text (l .next)) ≡ false = rw (c .before .before .byte-at .ensures) at (said-no (c .before .is-digit .ensures) (c .if1 .taken)) in
-    (ap digitRun (sym (digits-end text (l .next) (l .value) (l .left - 1) d) ∙ (rw e at (l .inv .0))), l .inv .1, le-trans (largest-above (l .left) (l .value)) (l .inv .2))
+    let d : isDigit (byte text (l .next)) ≡ false = rw (c .before .before .byte-at .ensures) at (said-no (c .before .is-digit .ensures) (c .if1 .taken)) in (
+      ap digitRun (sym (digits-end text (l .next) (l .value) (l .left - 1) d) ∙ (rw e at (l .inv .0))),
+      l .inv .1,
+      le-trans (largest-above (l .left) (l .value)) (l .inv .2),
+    )
 
 mul-value : tie.Need-mul-value Inv-loop μ-loop
 mul-value c =
-    let l = c .before .before .before .before .loop in
+    let at-loop : tie.At-loop Inv-loop μ-loop = search in
+    let l = at-loop .loop in
     let h = largest-above (l .left) (l .value) in
     omega (arith, l .inv .2)
 
@@ -49,27 +50,26 @@ digit-value-requires c κs = said-yes (c .before .is-digit .ensures) (c .if1 .le
 
 add-value : tie.Need-add-value Inv-loop μ-loop
 add-value c =
-    let l = c .before .before .before .before .before .loop in
+    let at-loop : tie.At-loop Inv-loop μ-loop = search in
+    let l = at-loop .loop in
     let h = largest-above (l .left) (l .value) in
     omega (arith, l .inv .2, c .digit-value .ensures .1)
 
 add-next : tie.Need-add-next Inv-loop μ-loop
 add-next c =
-    let l = c .before .before .before .before .before .loop in
+    let at-loop : tie.At-loop Inv-loop μ-loop = search in
+    let l = at-loop .loop in
     omega (arith, l .inv .1)
-
-sub-left : tie.Need-sub-left Inv-loop μ-loop
-sub-left c = omega arith
-
-loop-less : tie.Need-loop-less Inv-loop μ-loop
-loop-less c = omega arith
 
 loop-again : tie.Need-loop-again Inv-loop μ-loop
 loop-again c =
-    let text = c .before .before .before .before .before .before .before .args .text .now in
-    let l = c .before .before .before .before .before .loop in
+    let at-byte-at : tie.After-byte-at Inv-loop μ-loop = search in
+    let at-loop : tie.At-loop Inv-loop μ-loop = search in
+    let at-start : tie.Start Inv-loop μ-loop = search in
+    let text = at-start .args .text .now in
+    let l = at-loop .loop in
     let e : l .left ≡ suc (l .left - 1) = omega arith in
-    let b : c .before .before .before .byte-at .result ≡ byte text (l .next) = c .before .before .before .byte-at .ensures in
+    let b : at-byte-at .byte-at .result ≡ byte text (l .next) = at-byte-at .byte-at .ensures in
     let d : isDigit (byte text (l .next)) ≡ true = rw b at (said-yes (c .before .before .is-digit .ensures) (c .before .if1 .left)) in
     let v : c .digit-value .result ≡ byte text (l .next) - 48 = rw b at (c .digit-value .ensures .0) in
     let m : largest (l .value * 10 + 9) (l .left - 1) ≤ 99999 = rw e at (l .inv .2) in (
@@ -80,26 +80,14 @@ loop-again c =
 
 returns-2 : tie.Need-returns-2 Inv-loop μ-loop
 returns-2 c =
-    let text = c .before .before .before .args .text .now in
+    let at-start : tie.Start Inv-loop μ-loop = search in
+    let text = at-start .args .text .now in
     let l = c .before .loop in
     let e : l .left ≡ 0 = omega arith in
     (ap digitRun (sym (digits-none text (l .next) (l .value)) ∙ (rw e at (l .inv .0))), l .inv .1, rw e at (l .inv .2))
 
 pub digits-from-spec : {M : Type 1} → statement M
 digits-from-spec =
-    tie.close
-    (tie.spec
-    Inv-loop
-    μ-loop
-    loop-holds
-    byte-at-requires
-    is-digit-requires
-    returns
-    mul-value
-    digit-value-requires
-    add-value
-    add-next
-    sub-left
-    loop-less
-    loop-again
-    returns-2)
+    tie.close (tie.spec
+    Inv-loop μ-loop loop-holds (search needs) (search needs) returns mul-value digit-value-requires add-value add-next (search needs)
+    (search needs) loop-again returns-2)

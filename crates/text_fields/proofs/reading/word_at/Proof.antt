@@ -20,54 +20,38 @@ abbrev μ-loop : tie.MeasureT-loop
 loop-holds : tie.Need-loop-holds Inv-loop μ-loop
 loop-holds c = (omega arith, ap (standsAt (c .before .before .args .word .now) (c .before .before .args .text .now)) (add-zero _))
 
-add-byte-at : tie.Need-add-byte-at Inv-loop μ-loop
-add-byte-at c = omega arith
-
-byte-at-requires : tie.Need-byte-at-requires Inv-loop μ-loop
-byte-at-requires c κs = search needs
-
-shared-slice-read-if1 : tie.Need-shared-slice-read-if1 Inv-loop μ-loop
-shared-slice-read-if1 c = omega arith
-
 returns : tie.Need-returns Inv-loop μ-loop
 returns c =
-    let a = c .before .before .before .before .before .before .before .args in
-    let l = c .before .before .before .before .loop in
-    sym (stands-not (a .word .now) (a .text .now) (l .k) (a .p + l .k) (c .before .before .before .loop-test .taken) (λ e. c .if1 .taken (c .before .before .byte-at .ensures ∙ e))) ∙ l .inv .1
-
-add-k : tie.Need-add-k Inv-loop μ-loop
-add-k c = omega arith
-
-loop-less : tie.Need-loop-less Inv-loop μ-loop
-loop-less c = omega arith
+    let in-loop : tie.In-loop Inv-loop μ-loop = search in
+    let at-loop : tie.At-loop Inv-loop μ-loop = search in
+    let at-start : tie.Start Inv-loop μ-loop = search in
+    let a = at-start .args in
+    let l = at-loop .loop in
+    sym (stands-not (a .word .now) (a .text .now) (l .k) (a .p + l .k) (in-loop .loop-test .taken)
+    (λ e. c .if1 .taken (c .before .before .byte-at .ensures ∙ e))) ∙ l .inv .1
 
 loop-again : tie.Need-loop-again Inv-loop μ-loop
 loop-again c =
-    let a = c .before .before .before .before .before .before .before .args in
-    let l = c .before .before .before .before .loop in
+    let in-loop : tie.In-loop Inv-loop μ-loop = search in
+    let at-loop : tie.At-loop Inv-loop μ-loop = search in
+    let at-start : tie.Start Inv-loop μ-loop = search in
+    let a = at-start .args in
+    let l = at-loop .loop in
     let e : a .p + (l .k + 1) ≡ suc (a .p + l .k) = omega arith in (
       omega arith,
-      rw (e, add-one) (sym (stands-more (a .word .now) (a .text .now) (l .k) (a .p + l .k) (c .before .before .before .loop-test .taken) (sym (c .before .before .byte-at .ensures) ∙ c .if1 .left)) ∙ l .inv .1),
+      rw (e, add-one)
+          (sym (stands-more (a .word .now) (a .text .now) (l .k) (a .p + l .k) (in-loop .loop-test .taken)
+          (sym (c .before .before .byte-at .ensures) ∙ c .if1 .left)) ∙ l .inv .1),
     )
 
 returns-2 : tie.Need-returns-2 Inv-loop μ-loop
 returns-2 c =
-    let a = c .before .before .before .before .args in
+    let at-start : tie.Start Inv-loop μ-loop = search in
+    let a = at-start .args in
     let l = c .before .loop in
     sym (stands-all (a .word .now) (a .text .now) (l .k) (a .p + l .k) (c .loop-test .left)) ∙ l .inv .1
 
 pub word-at-spec : {M : Type 1} → statement M
 word-at-spec =
-    tie.close
-    (tie.spec
-    Inv-loop
-    μ-loop
-    loop-holds
-    add-byte-at
-    byte-at-requires
-    shared-slice-read-if1
-    returns
-    add-k
-    loop-less
-    loop-again
-    returns-2)
+    tie.close (tie.spec
+    Inv-loop μ-loop loop-holds (search needs) (search needs) (search needs) returns (search needs) (search needs) loop-again returns-2)

@@ -85,7 +85,8 @@ put-decimal-returns-2 : (t : ℕ) → put-decimal-lts.Need-returns-2 (
 put-decimal-returns-2 t c =
     let a = c .before .before .before .before .before .before .before .before .args in
     let e : a .places ≡ suc (a .places - 1) = omega arith in
-    let d : decimal (a .places) (a .k) ≡ (48 + a .k) ∷ [] = ap (λ (p : ℕ). decimal p (a .k)) e ∙ decimal-one (a .places - 1) (a .k) (c .before .before .before .before .before .if2 .taken) in
+    let d : decimal (a .places) (a .k) ≡ (48 + a .k) ∷ [] =
+    ap (λ (p : ℕ). decimal p (a .k)) e ∙ decimal-one (a .places - 1) (a .k) (c .before .before .before .before .before .if2 .taken) in
     let b : c .before .before .before .digit .result ≡ 48 + a .k = c .before .before .before .digit .ensures in
     (rw d (c .before .before .put-byte .ensures .0), rw (d, ← b) (c .before .before .put-byte .ensures .1))
 
@@ -133,7 +134,8 @@ put-decimal-put-byte-requires-2 : (t : ℕ) → put-decimal-lts.Need-put-byte-re
 put-decimal-put-byte-requires-2 t c κs =
     let a = c .before .before .before .before .before .before .before .before .before .args in
     let s = decimal-short (a .places - 1) (a .k / 10) in
-    let e : c .before .before .before .before .put-decimal .result ≡ a .at + length (decimal (a .places - 1) (a .k / 10)) = c .before .before .before .before .put-decimal .ensures .0 in
+    let e : c .before .before .before .before .put-decimal .result ≡ a .at + length (decimal (a .places - 1) (a .k / 10)) =
+    c .before .before .before .before .put-decimal .ensures .0 in
     omega arith
 
 put-decimal-same-length-2 : (t : ℕ) → put-decimal-lts.Need-same-length-2 (
@@ -158,11 +160,16 @@ put-decimal-returns-3 t c =
     let a = c .before .before .before .before .before .before .before .before .before .before .before .before .args in
     let e : a .places ≡ suc (a .places - 1) = omega arith in
     let ds = decimal (a .places - 1) (a .k / 10) in
-    let d : decimal (a .places) (a .k) ≡ ds ++ ((48 + (a .k % 10)) ∷ []) = ap (λ (p : ℕ). decimal p (a .k)) e ∙ decimal-more (a .places - 1) (a .k) (c .before .before .before .before .before .before .before .before .before .if2 .left) in
+    let d : decimal (a .places) (a .k) ≡ ds ++ ((48 + (a .k % 10)) ∷ []) =
+    ap (λ (p : ℕ). decimal p (a .k)) e
+    ∙ decimal-more (a .places - 1) (a .k) (c .before .before .before .before .before .before .before .before .before .if2 .left) in
     let b : c .before .before .before .digit2 .result ≡ 48 + (a .k % 10) = c .before .before .before .digit2 .ensures in
-    let n : c .before .before .before .before .before .before .before .put-decimal .result ≡ a .at + length ds = c .before .before .before .before .before .before .before .put-decimal .ensures .0 in
-    let w : c .before .before .before .before .before .before .before .put-decimal .last .0 ≡ sets (a .text .now) (a .at) ds = c .before .before .before .before .before .before .before .put-decimal .ensures .1 in
-    let r : c .before .before .put-byte2 .result ≡ c .before .before .before .before .before .before .before .put-decimal .result + 1 = c .before .before .put-byte2 .ensures .0 in (
+    let n : c .before .before .before .before .before .before .before .put-decimal .result ≡ a .at + length ds =
+    c .before .before .before .before .before .before .before .put-decimal .ensures .0 in
+    let w : c .before .before .before .before .before .before .before .put-decimal .last .0 ≡ sets (a .text .now) (a .at) ds =
+    c .before .before .before .before .before .before .before .put-decimal .ensures .1 in
+    let r : c .before .before .put-byte2 .result ≡ c .before .before .before .before .before .before .before .put-decimal .result + 1 =
+    c .before .before .put-byte2 .ensures .0 in (
       rw (d, length-append) (omega arith),
       c .before .before .put-byte2 .ensures .1 ∙ rw (d, sets-append, ← b, ← w, ← n),
     )
