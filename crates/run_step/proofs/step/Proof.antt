@@ -116,8 +116,11 @@ after c o found =
 
 after-quiet-requires-2 : tie.Need-after-quiet-requires-2
 after-quiet-requires-2 c κs =
-    let at-shared-slice-known : tie.After-shared-slice-known = search in
-    let n = at-shared-slice-known .before .pre .1 .1 .1 .1 .1 .1 in (n .0, n .1 .0)
+    let at-try-trial : tie.After-try-trial = search in
+    let at-next-trial : tie.After-next-trial = search in
+    let at-shared-slice-known4 : tie.After-shared-slice-known4 = search in
+    let at-start : tie.Start = search in
+    let n = at-start .pre .1 .1 .1 .1 .1 .1 in (n .0, n .1 .0)
 
 returns-2 : tie.Need-returns-2
 returns-2 c =
@@ -170,8 +173,11 @@ add-after-move c =
 
 after-move-requires : tie.Need-after-move-requires
 after-move-requires c κs =
-    let at-shared-slice-known : tie.After-shared-slice-known = search in
-    let n = at-shared-slice-known .before .pre .1 .1 .1 .1 .1 .1 in (n .1 .0, n .1 .1)
+    let at-try-trial : tie.After-try-trial = search in
+    let at-next-trial : tie.After-next-trial = search in
+    let at-shared-slice-known4 : tie.After-shared-slice-known4 = search in
+    let at-start : tie.Start = search in
+    let n = at-start .pre .1 .1 .1 .1 .1 .1 in (n .1 .0, n .1 .1)
 
 returns-3 : tie.Need-returns-3
 returns-3 c =

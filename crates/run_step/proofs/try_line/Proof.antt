@@ -85,18 +85,22 @@ place-on-requires c κs =
 
 mul-t32 : tie.Need-mul-t32
 mul-t32 c =
-    let at-shared-slice-known : tie.After-shared-slice-known = search in
-    let at-shared-slice-known .before = at-shared-slice-known .before in
-    let few = facts (lent at-shared-slice-known .before) (at-shared-slice-known .before .pre .0 .laid .well) .fewPieces in
-    let below = at-shared-slice-known .before .pre .1 .0 in
+    let at-known-told : tie.After-known-told = search in
+    let at-search-below : tie.After-search-below = search in
+    let at-shared-slice-known3 : tie.After-shared-slice-known3 = search in
+    let at-start : tie.Start = search in
+    let few = facts (lent at-start) (at-start .pre .0 .laid .well) .fewPieces in
+    let below = at-start .pre .1 .0 in
     omega arith
 
 slice-set-from-layout : tie.Need-slice-set-from-layout
 slice-set-from-layout c =
-    let at-shared-slice-known : tie.After-shared-slice-known = search in
-    let at-shared-slice-known .before = at-shared-slice-known .before in
-    let whole = at-shared-slice-known .before .pre .0 .laid .whole in
-    let below = at-shared-slice-known .before .pre .1 .0 in
+    let at-known-told : tie.After-known-told = search in
+    let at-search-below : tie.After-search-below = search in
+    let at-shared-slice-known3 : tie.After-shared-slice-known3 = search in
+    let at-start : tie.Start = search in
+    let whole = at-start .pre .0 .laid .whole in
+    let below = at-start .pre .1 .0 in
     omega arith
 
 returns-2 : tie.Need-returns-2
@@ -107,15 +111,18 @@ returns-2 c =
     let m = e .args .mover in
     let es = e .args .layout .now in
     let r = at-renew-placed .renew-placed in
-    let wrote : c .entry-of .result ≡ entryOf (onLine (m .line) (m .turn) (coordinate at-sum)) = c .entry-of .ensures ∙ ap entryOf (c .before .place-on .ensures) in
-    let stored : set es (m .piece) (c .entry-of .result) ≡ set es (m .piece) (entryOf (onLine (m .line) (m .turn) (coordinate at-sum))) = ap (set es (m .piece)) wrote in
+    let wrote : c .entry-of .result ≡ entryOf (onLine (m .line) (m .turn) (coordinate at-sum)) =
+    c .entry-of .ensures ∙ ap entryOf (c .before .place-on .ensures) in
+    let stored : set es (m .piece) (c .entry-of .result) ≡ set es (m .piece) (entryOf (onLine (m .line) (m .turn) (coordinate at-sum))) =
+    ap (set es (m .piece)) wrote in
     let placed : layoutOf (set es (m .piece) (c .entry-of .result)) ≡ set (layoutOf es) (m .piece) (onLine (m .line) (m .turn) (coordinate at-sum)) =
     ap layoutOf stored ∙ layout-set es (m .piece) (onLine (m .line) (m .turn) (coordinate at-sum)) in (
       ap triedAnswer (sym (found at-sum)),
       (
         stored ∙ ap (entriesBy e) (sym (found at-sum)),
         (
-          subst (λ (w : Layout). PenaltyTable (jobOf (lent e)) w (e .args .size .count) (r .last .1 .1 .1 .1 .1 .1 .1 .1 .1 .1 .1 .0)) (sym placed) (r .ensures .0),
+          subst (λ (w : Layout). PenaltyTable (jobOf (lent e)) w (e .args .size .count) (r .last .1 .1 .1 .1 .1 .1 .1 .1 .1 .1 .1 .0)) (sym placed)
+              (r .ensures .0),
           r .ensures .1 .0,
         ),
       ),

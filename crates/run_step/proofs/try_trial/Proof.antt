@@ -34,7 +34,8 @@ try-line-requires c κs =
     let at-line-of : tie.After-line-of = search in
     let at-start : tie.Start = search in
     let tools = at-start .pre .0 in (
-      search-ready (lent at-start) Horizontal _ _ _ _ _ _ (at-start .args .penalties .now) _ _ (along (at-line-of) ∙ at-enum-told .enum-told .given .1) (tools .well) (at-start .pre .1 .1 .0) (tools .horizontal) (at-start .pre .1 .0)
+      search-ready (lent at-start) Horizontal _ _ _ _ _ _ (at-start .args .penalties .now) _ _ (along (at-line-of) ∙ at-enum-told .enum-told .given .1)
+          (tools .well) (at-start .pre .1 .1 .0) (tools .horizontal) (at-start .pre .1 .0)
           (tools .wide) (tools .narrow) (at-start .pre .1 .1 .1 .0 .inRows),
       (at-start .pre .1 .1 .1 .1 .0 .below, (at-start .pre .1 .1 .0 .table, at-start .pre .1 .1 .1 .0 .scratch)),
     )
@@ -45,7 +46,8 @@ try-line-requires-2 c κs =
     let at-line-of : tie.After-line-of = search in
     let at-start : tie.Start = search in
     let tools = at-start .pre .0 in (
-      search-ready (lent at-start) Vertical _ _ _ _ _ _ (at-start .args .penalties .now) _ _ (along (at-line-of) ∙ at-enum-told2 .enum-told2 .given .1) (tools .well) (at-start .pre .1 .1 .0) (tools .vertical) (at-start .pre .1 .0)
+      search-ready (lent at-start) Vertical _ _ _ _ _ _ (at-start .args .penalties .now) _ _ (along (at-line-of) ∙ at-enum-told2 .enum-told2 .given .1)
+          (tools .well) (at-start .pre .1 .1 .0) (tools .vertical) (at-start .pre .1 .0)
           (tools .wide) (tools .narrow) (at-start .pre .1 .1 .1 .0 .inColumns),
       (at-start .pre .1 .1 .1 .1 .0 .below, (at-start .pre .1 .1 .0 .table, at-start .pre .1 .1 .1 .0 .scratch)),
     )
@@ -56,23 +58,29 @@ returns c =
     let at-try-line : tie.After-try-line = search in
     let at-enum-told : tie.After-enum-told = search in
     let at-line-of : tie.After-line-of = search in
-    let at-shared-slice-known : tie.After-shared-slice-known = search in
-    let at-shared-slice-known .before = at-shared-slice-known .before in
-    let j = jobOf (lent at-shared-slice-known .before) in
-    let ws = at-shared-slice-known .before .args .weights .now in
-    let es = at-shared-slice-known .before .args .layout .now in
-    let k = trialAs (at-shared-slice-known .before .args .trial) in
+    let at-shared-slice-known4 : tie.After-shared-slice-known4 = search in
+    let at-start : tie.Start = search in
+    let j = jobOf (lent at-start) in
+    let ws = at-start .args .weights .now in
+    let es = at-start .args .layout .now in
+    let k = trialAs (at-start .args .trial) in
     let t = at-try-line .try-line in
     let f = at-line-of .line-of in
-    let sum = at-shared-slice-known .before .pre .1 .1 .1 .1 .1 in
-    let wrote = entries-same j ws es k (f .result) (at-shared-slice-known .before .args .present) (f .ensures) sum _ (t .ensures .1 .0) in
-    let kept = store-again Horizontal _ j (at-shared-slice-known .before .args .width) _ _ _ _ (along (at-line-of) ∙ at-enum-told .enum-told .given .1) (at-shared-slice-known .before .pre .1 .1 .1 .0 .inRows) (t .ensures .1 .1 .1) (t .kept .1 .1 .1 .1 .1 .1 .1 .1 .1 .1 .1 .0) in (
-      t .ensures .0 ∙ ap triedAnswer (search-same j ws es k (f .result) (at-shared-slice-known .before .args .present) (f .ensures) sum),
+    let sum = at-start .pre .1 .1 .1 .1 .1 in
+    let wrote = entries-same j ws es k (f .result) (at-start .args .present) (f .ensures) sum _ (t .ensures .1 .0) in
+    let kept = store-again Horizontal _ j (at-start .args .width) _ _ _ _ (along (at-line-of) ∙ at-enum-told .enum-told .given .1)
+    (at-start .pre .1 .1 .1 .0 .inRows) (t .ensures .1 .1 .1) (t .kept .1 .1 .1 .1 .1 .1 .1 .1 .1 .1 .1 .0) in (
+      t .ensures .0 ∙ ap triedAnswer (search-same j ws es k (f .result) (at-start .args .present) (f .ensures) sum),
       (
         wrote,
         (
-          after-laid (lent at-shared-slice-known .before) ws es (at-shared-slice-known .before .args .penalties .now) k (at-shared-slice-known .before .pre .1 .1 .1 .1 .0) (at-shared-slice-known .before .pre .1 .1 .0) _ _ wrote (t .ensures .1 .1 .0),
-          record { inRows = kept; inColumns = at-shared-slice-known .before .pre .1 .1 .1 .0 .inColumns; scratch = let same = t .kept .1 .1 .1 .1 .1 .1 .1 .1 .1 .1 .1 .1 .1 .0 in let room = at-shared-slice-known .before .pre .1 .1 .1 .0 .scratch in omega arith },
+          after-laid (lent at-start) ws es (at-start .args .penalties .now) k (at-start .pre .1 .1 .1 .1 .0) (at-start .pre .1 .1 .0) _ _ wrote
+              (t .ensures .1 .1 .0),
+          record {
+            inRows = kept;
+            inColumns = at-start .pre .1 .1 .1 .0 .inColumns;
+            scratch = let same = t .kept .1 .1 .1 .1 .1 .1 .1 .1 .1 .1 .1 .1 .1 .0 in let room = at-start .pre .1 .1 .1 .0 .scratch in omega arith;
+          },
         ),
       ),
     )
@@ -83,23 +91,29 @@ returns-2 c =
     let at-try-line2 : tie.After-try-line2 = search in
     let at-enum-told2 : tie.After-enum-told2 = search in
     let at-line-of : tie.After-line-of = search in
-    let at-shared-slice-known : tie.After-shared-slice-known = search in
-    let at-shared-slice-known .before = at-shared-slice-known .before in
-    let j = jobOf (lent at-shared-slice-known .before) in
-    let ws = at-shared-slice-known .before .args .weights .now in
-    let es = at-shared-slice-known .before .args .layout .now in
-    let k = trialAs (at-shared-slice-known .before .args .trial) in
+    let at-shared-slice-known4 : tie.After-shared-slice-known4 = search in
+    let at-start : tie.Start = search in
+    let j = jobOf (lent at-start) in
+    let ws = at-start .args .weights .now in
+    let es = at-start .args .layout .now in
+    let k = trialAs (at-start .args .trial) in
     let t = at-try-line2 .try-line2 in
     let f = at-line-of .line-of in
-    let sum = at-shared-slice-known .before .pre .1 .1 .1 .1 .1 in
-    let wrote = entries-same j ws es k (f .result) (at-shared-slice-known .before .args .present) (f .ensures) sum _ (t .ensures .1 .0) in
-    let kept = store-again Vertical _ j (at-shared-slice-known .before .args .width) _ _ _ _ (along (at-line-of) ∙ at-enum-told2 .enum-told2 .given .1) (at-shared-slice-known .before .pre .1 .1 .1 .0 .inColumns) (t .ensures .1 .1 .1) (t .kept .1 .1 .1 .1 .1 .1 .1 .1 .1 .1 .1 .0) in (
-      t .ensures .0 ∙ ap triedAnswer (search-same j ws es k (f .result) (at-shared-slice-known .before .args .present) (f .ensures) sum),
+    let sum = at-start .pre .1 .1 .1 .1 .1 in
+    let wrote = entries-same j ws es k (f .result) (at-start .args .present) (f .ensures) sum _ (t .ensures .1 .0) in
+    let kept = store-again Vertical _ j (at-start .args .width) _ _ _ _ (along (at-line-of) ∙ at-enum-told2 .enum-told2 .given .1)
+    (at-start .pre .1 .1 .1 .0 .inColumns) (t .ensures .1 .1 .1) (t .kept .1 .1 .1 .1 .1 .1 .1 .1 .1 .1 .1 .0) in (
+      t .ensures .0 ∙ ap triedAnswer (search-same j ws es k (f .result) (at-start .args .present) (f .ensures) sum),
       (
         wrote,
         (
-          after-laid (lent at-shared-slice-known .before) ws es (at-shared-slice-known .before .args .penalties .now) k (at-shared-slice-known .before .pre .1 .1 .1 .1 .0) (at-shared-slice-known .before .pre .1 .1 .0) _ _ wrote (t .ensures .1 .1 .0),
-          record { inColumns = kept; inRows = at-shared-slice-known .before .pre .1 .1 .1 .0 .inRows; scratch = let same = t .kept .1 .1 .1 .1 .1 .1 .1 .1 .1 .1 .1 .1 .1 .0 in let room = at-shared-slice-known .before .pre .1 .1 .1 .0 .scratch in omega arith },
+          after-laid (lent at-start) ws es (at-start .args .penalties .now) k (at-start .pre .1 .1 .1 .1 .0) (at-start .pre .1 .1 .0) _ _ wrote
+              (t .ensures .1 .1 .0),
+          record {
+            inColumns = kept;
+            inRows = at-start .pre .1 .1 .1 .0 .inRows;
+            scratch = let same = t .kept .1 .1 .1 .1 .1 .1 .1 .1 .1 .1 .1 .1 .1 .0 in let room = at-start .pre .1 .1 .1 .0 .scratch in omega arith;
+          },
         ),
       ),
     )

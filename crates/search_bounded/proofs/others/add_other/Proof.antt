@@ -17,8 +17,11 @@ returns : tie.Need-returns
 returns c =
     let at-start : tie.Start = search in
     let a = at-start .args in
-    let l = lentBy (a .size) (a .table .now) (a .pixels .now) in
-    (summed-self (jobOf l) (a .weights .now) (layoutOf (a .layout .now)) (a .mover) (a .bound) (a .k) (a .sums .now) (at-start .pre .1 .1 .1 .1) (c .if1 .taken), at-start .pre .0)
+    let l = lentBy (a .size) (a .table .now) (a .pixels .now) in (
+      summed-self (jobOf l) (a .weights .now) (layoutOf (a .layout .now)) (a .mover) (a .bound) (a .k) (a .sums .now) (at-start .pre .1 .1 .1 .1)
+          (c .if1 .taken),
+      at-start .pre .0,
+    )
 
 beside-requires : tie.Need-beside-requires
 beside-requires c κs =
@@ -42,8 +45,11 @@ returns-2 c =
     let l = lentBy (a .size) (a .table .now) (a .pixels .now) in
     let b = c .before .before .beside in
     let r = c .before .reach-of in
-    let o = c .if2 .taken in
-    (summed-left l (a .weights .now) (layoutOf (a .layout .now)) (a .mover) (a .track) (b .result) (a .bound) (a .k) (r .result) (a .sums .now) (at-start .pre .1 .1 .0) (b .ensures (a .size) (a .pixels .now)) (r .ensures) (at-start .pre .1 .1 .1 .1) (λ x low high. absurd (omega arith)), at-start .pre .0)
+    let o = c .if2 .taken in (
+      summed-left l (a .weights .now) (layoutOf (a .layout .now)) (a .mover) (a .track) (b .result) (a .bound) (a .k) (r .result) (a .sums .now)
+          (at-start .pre .1 .1 .0) (b .ensures (a .size) (a .pixels .now)) (r .ensures) (at-start .pre .1 .1 .1 .1) (λ x low high. absurd (omega arith)),
+      at-start .pre .0,
+    )
 
 mul-any-below : tie.Need-mul-any-below
 mul-any-below c =
@@ -65,7 +71,9 @@ part-any-below-end c =
     let l = lentBy (a .size) (a .table .now) (a .pixels .now) in
     let b = at-beside .beside in
     let r = c .before .before .reach-of in
-    let h = sums-to-add l (a .weights .now) (layoutOf (a .layout .now)) (a .mover) (a .track) (b .result) (a .bound) (a .k) (r .result) (a .sums .now) (at-start .pre .1 .1 .0) (b .ensures (a .size) (a .pixels .now)) (r .ensures) (at-start .pre .1 .1 .1 .1) (c .before .if2 .left) (let f = facts l (at-start .pre .0 .laid .well) .fewPieces in let k = at-start .pre .1 .1 .1 .0 in omega arith) .within in
+    let h = sums-to-add l (a .weights .now) (layoutOf (a .layout .now)) (a .mover) (a .track) (b .result) (a .bound) (a .k) (r .result) (a .sums .now)
+    (at-start .pre .1 .1 .0) (b .ensures (a .size) (a .pixels .now)) (r .ensures) (at-start .pre .1 .1 .1 .1) (c .before .if2 .left)
+    (let f = facts l (at-start .pre .0 .laid .well) .fewPieces in let k = at-start .pre .1 .1 .1 .0 in omega arith) .within in
     let o = c .before .if2 .left in
     omega arith
 
@@ -74,36 +82,46 @@ returns-3 c =
     let at-else2 : tie.Else2 = search in
     let at-reach-of : tie.After-reach-of = search in
     let at-beside : tie.After-beside = search in
-    let at-shared-slice-known : tie.After-shared-slice-known = search in
-    let at-shared-slice-known .before = at-shared-slice-known .before in
-    let a = at-shared-slice-known .before .args in
+    let at-struct-known : tie.After-struct-known = search in
+    let at-shared-slice-known3 : tie.After-shared-slice-known3 = search in
+    let at-start : tie.Start = search in
+    let a = at-start .args in
     let l = lentBy (a .size) (a .table .now) (a .pixels .now) in
     let b = at-beside .beside in
     let r = at-reach-of .reach-of in
-    let h = sums-to-add l (a .weights .now) (layoutOf (a .layout .now)) (a .mover) (a .track) (b .result) (a .bound) (a .k) (r .result) (a .sums .now) (at-shared-slice-known .before .pre .1 .1 .0) (b .ensures (a .size) (a .pixels .now)) (r .ensures) (at-shared-slice-known .before .pre .1 .1 .1 .1) (at-else2 .if2 .left) (let f = facts l (at-shared-slice-known .before .pre .0 .laid .well) .fewPieces in let k = at-shared-slice-known .before .pre .1 .1 .1 .0 in omega arith) .within in
-    (summed-unread l (a .weights .now) (layoutOf (a .layout .now)) (a .mover) (a .track) (b .result) (a .bound) (a .k) (r .result) (a .sums .now) (at-shared-slice-known .before .pre .1 .1 .0) (b .ensures (a .size) (a .pixels .now)) (r .ensures) (at-shared-slice-known .before .pre .1 .1 .1 .1) (r .result .high - r .result .low) refl h (sym (not-true _ (c .if3 .taken)) ∙ c .before .any-below .ensures), at-shared-slice-known .before .pre .0)
+    let h = sums-to-add l (a .weights .now) (layoutOf (a .layout .now)) (a .mover) (a .track) (b .result) (a .bound) (a .k) (r .result) (a .sums .now)
+    (at-start .pre .1 .1 .0) (b .ensures (a .size) (a .pixels .now)) (r .ensures) (at-start .pre .1 .1 .1 .1) (at-else2 .if2 .left)
+    (let f = facts l (at-start .pre .0 .laid .well) .fewPieces in let k = at-start .pre .1 .1 .1 .0 in omega arith) .within in (
+      summed-unread l (a .weights .now) (layoutOf (a .layout .now)) (a .mover) (a .track) (b .result) (a .bound) (a .k) (r .result) (a .sums .now)
+          (at-start .pre .1 .1 .0) (b .ensures (a .size) (a .pixels .now)) (r .ensures) (at-start .pre .1 .1 .1 .1) (r .result .high - r .result .low) refl h
+          (sym (not-true _ (c .if3 .taken)) ∙ c .before .any-below .ensures),
+      at-start .pre .0,
+    )
 
 add-reached-requires : tie.Need-add-reached-requires
 add-reached-requires c κs =
     let at-else2 : tie.Else2 = search in
     let at-reach-of : tie.After-reach-of = search in
     let at-beside : tie.After-beside = search in
-    let at-shared-slice-known : tie.After-shared-slice-known = search in
-    let at-shared-slice-known .before = at-shared-slice-known .before in
-    let a = at-shared-slice-known .before .args in
+    let at-struct-known : tie.After-struct-known = search in
+    let at-shared-slice-known3 : tie.After-shared-slice-known3 = search in
+    let at-start : tie.Start = search in
+    let a = at-start .args in
     let l = lentBy (a .size) (a .table .now) (a .pixels .now) in
     let b = at-beside .beside in
     let r = at-reach-of .reach-of in (
-      at-shared-slice-known .before .pre .0,
+      at-start .pre .0,
       (
-        at-shared-slice-known .before .pre .1 .0,
+        at-start .pre .1 .0,
         (
-          at-shared-slice-known .before .pre .1 .1 .0,
+          at-start .pre .1 .1 .0,
           (
             b .ensures (a .size) (a .pixels .now),
             (
-              at-shared-slice-known .before .pre .1 .1 .1 .0,
-              sums-to-add l (a .weights .now) (layoutOf (a .layout .now)) (a .mover) (a .track) (b .result) (a .bound) (a .k) (r .result) (a .sums .now) (at-shared-slice-known .before .pre .1 .1 .0) (b .ensures (a .size) (a .pixels .now)) (r .ensures) (at-shared-slice-known .before .pre .1 .1 .1 .1) (at-else2 .if2 .left) (let f = facts l (at-shared-slice-known .before .pre .0 .laid .well) .fewPieces in let k = at-shared-slice-known .before .pre .1 .1 .1 .0 in omega arith),
+              at-start .pre .1 .1 .1 .0,
+              sums-to-add l (a .weights .now) (layoutOf (a .layout .now)) (a .mover) (a .track) (b .result) (a .bound) (a .k) (r .result) (a .sums .now)
+                  (at-start .pre .1 .1 .0) (b .ensures (a .size) (a .pixels .now)) (r .ensures) (at-start .pre .1 .1 .1 .1) (at-else2 .if2 .left)
+                  (let f = facts l (at-start .pre .0 .laid .well) .fewPieces in let k = at-start .pre .1 .1 .1 .0 in omega arith),
             ),
           ),
         ),
@@ -115,15 +133,19 @@ returns-4 c =
     let at-add-reached : tie.After-add-reached = search in
     let at-reach-of : tie.After-reach-of = search in
     let at-beside : tie.After-beside = search in
-    let at-shared-slice-known : tie.After-shared-slice-known = search in
-    let at-shared-slice-known .before = at-shared-slice-known .before in
-    let a = at-shared-slice-known .before .args in
+    let at-struct-known : tie.After-struct-known = search in
+    let at-shared-slice-known3 : tie.After-shared-slice-known3 = search in
+    let at-start : tie.Start = search in
+    let a = at-start .args in
     let l = lentBy (a .size) (a .table .now) (a .pixels .now) in
     let b = at-beside .beside in
     let r = at-reach-of .reach-of in
     let x = at-add-reached .add-reached in (
-      summed-added l (a .weights .now) (layoutOf (a .layout .now)) (a .mover) (a .track) (b .result) (a .bound) (a .k) (r .result) (a .sums .now) (at-shared-slice-known .before .pre .1 .1 .0) (b .ensures (a .size) (a .pixels .now)) (r .ensures) (at-shared-slice-known .before .pre .1 .1 .1 .1) (x .last .1 .1 .1 .1 .1 .1 .1 .1 .1 .1 .1 .1 .1 .1 .1 .0)
-          (part-most l (a .weights .now) (layoutOf (a .layout .now)) (a .mover) (a .k) (at-shared-slice-known .before .pre .0 .laid .well) (at-shared-slice-known .before .pre .1 .0) (at-shared-slice-known .before .pre .1 .1 .0 .piece) (at-shared-slice-known .before .pre .1 .1 .1 .0)) (x .ensures .0),
+      summed-added l (a .weights .now) (layoutOf (a .layout .now)) (a .mover) (a .track) (b .result) (a .bound) (a .k) (r .result) (a .sums .now)
+          (at-start .pre .1 .1 .0) (b .ensures (a .size) (a .pixels .now)) (r .ensures) (at-start .pre .1 .1 .1 .1)
+          (x .last .1 .1 .1 .1 .1 .1 .1 .1 .1 .1 .1 .1 .1 .1 .1 .0)
+          (part-most l (a .weights .now) (layoutOf (a .layout .now)) (a .mover) (a .k) (at-start .pre .0 .laid .well) (at-start .pre .1 .0)
+          (at-start .pre .1 .1 .0 .piece) (at-start .pre .1 .1 .1 .0)) (x .ensures .0),
       x .ensures .1,
     )
 
