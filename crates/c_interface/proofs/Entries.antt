@@ -1,11 +1,5 @@
 -- The entry that four numbers are, by what the reader tests of them. Assumes nothing.
-use mathlib.Core.List.{List}
-use mathlib.Core.Option.{none, some}
-use mathlib.Core.Path.{_≡_}
-use Prim.Native.Nat.{ℕ, _<_, _≤_}
-use lib.Dec.{eqb}
-use lib.ListN.{getD}
-use borrow.Author.Tests.{lt-ltb, le-ltb}
+use Rattle.list_laws.proofs.Kit.{_≡_, none, some, List, _<_, _≤_, ℕ, eqb, getD, le-ltb, lt-ltb}
 use Rattle.model.specs.Buffer.{turnOfDegrees, isTurn, placement}
 use Rattle.model.specs.declared.Turn.{Turn}
 use Rattle.c_interface.specs.Records.{entryOfNumbers, strayEntry}

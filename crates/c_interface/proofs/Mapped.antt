@@ -1,11 +1,6 @@
 -- A list filled entry by entry with what a function makes of another list's entries. Assumes nothing.
-use mathlib.Core.List.{List, [], _∷_, map, map-append}
-use mathlib.Core.Path.{_≡_, refl, sym, ap, _∙_}
-use Prim.Native.Nat.{ℕ, _+_, _<_, _≤_}
-use native.Mathlib.Numerals.{add-one}
-use native.Mathlib.Omega.{arith}
-use lib.ListN.{length, getD, set, take, length-set}
-use lib.Seq.{take-all, take-suc, take-suc-set}
+use Rattle.list_laws.proofs.Kit.{_∙_, _≡_, ap, refl, sym, List, [], _∷_, map, map-append, _+_, _<_, _≤_, ℕ, add-one, arith, getD, length, length-set, set}
+use Rattle.list_laws.proofs.Kit.{take, take-all, take-suc, take-suc-set}
 
 -- the entries below i are made of those of the other list, and both lists have as many
 pub record Mapped {A B : Type 0} (f : A → B) (from : List A) (now : List B) (i : ℕ) : Type 0 where

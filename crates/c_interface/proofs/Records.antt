@@ -3,14 +3,8 @@
 -- of every list of lay and withdraw calls (`demand2-cover`, `well-exactly`) holds of the buffers: the counts at the end are those of the
 -- laid pieces, and a buffer is refused by 8 exactly where its record and counts are none that a list of calls gives. Numbers that are
 -- no entry are read as one that no list of calls gives. Assumes nothing.
-use mathlib.Core.Bool.{Bool, true, false, false≢true}
-use mathlib.Core.Logic.{_⊎_, inl, inr}
-use mathlib.Core.List.{List, [], _∷_, map}
-use mathlib.Core.Path.{_≡_, refl, sym, ap, ap₂, _∙_}
-use Prim.Native.Nat.{ℕ, _*_}
-use native.Mathlib.Omega.{arith}
-use lib.ListN.{length, getD, List·getD-map}
-use borrow.Author.Tests.{eq-eqb}
+use Rattle.list_laws.proofs.Kit.{_∙_, _≡_, ap, ap₂, refl, sym, Bool, false, false≢true, true, _⊎_, inl, inr, List, [], _∷_, map, _*_, ℕ, arith, List·getD-map}
+use Rattle.list_laws.proofs.Kit.{getD, length, eq-eqb}
 use Rattle.model.specs.Layout.{Job}
 use Rattle.model.specs.Lent.{Lent, jobOf, lentWell}
 use Rattle.model.specs.Buffer.{turnOfDegrees, isTurn, turnOf}

@@ -1,5 +1,5 @@
 -- The numbers that a run is told by stand for that run. Assumes nothing.
-use mathlib.Core.Path.{_≡_, refl, ap}
+use Rattle.list_laws.proofs.Kit.{_≡_, ap, refl}
 use Rattle.model.specs.Descent.{Descent}
 use Rattle.model.specs.Guided.{Guided}
 use Rattle.model.specs.Buffer.{endNumber}

@@ -1,13 +1,8 @@
 -- Document 01, 'When a call says no', checking a layout: a layout that passes is valid and no two of its pieces share a pixel; refusal 12
 -- names the pair that shares one, lowest first number, then lowest second. The pairs are listed in that order, and the check names
 -- the first that shares. Assumes nothing.
-use mathlib.Core.Bool.{Bool, true, false}
-use mathlib.Core.List.{List, [], _∷_, _++_, List·Memᴰ, List·Memᴰ·head, List·Memᴰ·tail, List·Memᴰ·not-nil, List·Memᴰ·cases-cons}
-use mathlib.Core.Logic.{_⊎_, inl, inr, ⊎-elim, _≢_}
-use mathlib.Core.Option.{Option, none, some}
-use mathlib.Core.Path.{_≡_, refl, sym, _∙_, ap, subst}
-use Prim.Native.Nat.{ℕ, zero, suc}
-use native.Mathlib.Omega.{arith}
+use Rattle.list_laws.proofs.Kit.{_∙_, _≡_, ap, refl, subst, sym, Bool, false, true, _≢_, _⊎_, inl, inr, ⊎-elim, Option, none, some, List, List·Memᴰ}
+use Rattle.list_laws.proofs.Kit.{List·Memᴰ·cases-cons, List·Memᴰ·head, List·Memᴰ·not-nil, List·Memᴰ·tail, [], _++_, _∷_, suc, zero, ℕ, arith}
 use Rattle.model.specs.Layout.{Job, Layout, Pair, pairsWith, pairsFrom, pairs, pairShares, firstPair, sharingPair}
 use Rattle.model.specs.Buffer.{layoutOf}
 use Rattle.model.specs.Lent.{Lent, jobOf}

@@ -1,13 +1,7 @@
 -- Document 01, 'When a call says no': each public call keeps its clause. The outcome of every call but the two readers is `unless` of its
 -- causes in order, so the law of `unless` in Refusals is the call's, at the causes that the call names; what a call leaves in a
 -- lent buffer goes by whether the outcome is a refusal. Assumes nothing.
-use mathlib.Core.Bool.{Bool, true, false}
-use mathlib.Core.List.{List, [], _∷_}
-use mathlib.Core.Logic.{inl, inr}
-use mathlib.Core.Path.{_≡_, refl}
-use Prim.Native.Nat.{ℕ}
-use lib.Dec.{ltb}
-use lib.ListN.{length}
+use Rattle.list_laws.proofs.Kit.{_≡_, refl, Bool, false, true, inl, inr, List, [], _∷_, ℕ, ltb, length}
 use Rattle.model.specs.Lent.{Lent, jobOf, lentWell, pieceBound, areaBound}
 use Rattle.model.specs.Cover.{Sheet, afterwards, layCauses, withdrawCauses}
 use Rattle.model.specs.Refusal.{Outcome, refused, given, Cause, cause, unless, wrongLength, notOurs}

@@ -2,14 +2,7 @@
 -- content: nothing is asked of what is lent but what an earlier call gave, since a call that is not refused has found it in order.
 -- The calls are defined in model's Calls; each theorem named here is proved in the file that it is taken from. The last three theorems
 -- are the claims. Assumes nothing.
-use mathlib.Core.Bool.{Bool, true}
-use mathlib.Core.List.{List, map}
-use mathlib.Core.Logic.{_↔_, _≢_}
-use mathlib.Core.Path.{_≡_}
-use Prim.Native.Nat.{ℕ, _*_, _<_, _≤_}
-use lib.Dec.{eqb}
-use lib.IntN.{ℤ}
-use lib.ListN.{length}
+use Rattle.list_laws.proofs.Kit.{_≡_, Bool, true, _↔_, _≢_, List, map, _*_, _<_, _≤_, ℕ, eqb, length, ℤ}
 use Rattle.model.specs.Piece.{Shape, onLine}
 use Rattle.model.specs.Overlap.{OffsetRun}
 use Rattle.model.specs.Layout.{Layout, Pair, inside, turnedPiece, shapeIn, cornerIn, unitWeights}

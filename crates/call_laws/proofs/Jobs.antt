@@ -1,10 +1,6 @@
 -- Document 01, 'When a call says no', refusal 8: a lent job that passes the check meets what the theorems about strips and no-fit rows
 -- ask for. Its boxes have sides of at most 255, in every turn, and are tight, so that no piece is without strips. Assumes nothing.
-use mathlib.Core.Bool.{true}
-use mathlib.Core.Path.{_≡_}
-use Prim.Native.Nat.{ℕ, _<_}
-use lib.IntN.{ℤ}
-use lib.ListN.{length}
+use Rattle.list_laws.proofs.Kit.{_≡_, true, _<_, ℕ, length, ℤ}
 use Rattle.model.specs.Piece.{tight}
 use Rattle.model.specs.Strip.{strips}
 use Rattle.model.specs.Overlap.{noFit}

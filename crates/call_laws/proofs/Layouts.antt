@@ -1,16 +1,9 @@
 -- Document 01, 'When a call says no', 7, 9 and 10 of a layout and 7 and 2 of weights: lent buffers that are not refused hold a valid
 -- layout and valid weights, as demand 3 asks for. A layout buffer is read entry by entry, so what holds of each entry holds of each
 -- placement. Assumes nothing.
-use mathlib.Core.Bool.{Bool, true, false, not, false≢true, true≢false}
-use mathlib.Core.List.{List, [], _∷_}
-use mathlib.Core.Option.{Option, none, some}
-use mathlib.Core.Path.{_≡_, refl, _∙_, ap}
-use Prim.Native.Nat.{ℕ, zero, suc, _<_}
-use native.Mathlib.Nat.{not-suc-le-zero, le-of-suc-le-suc}
-use native.Mathlib.Omega.{arith}
-use borrow.Author.Tests.{leb-true, le-leb, not-false, eqb-true}
-use lib.Dec.{leb}
-use lib.ListN.{length, getD, length-map, List·getD-map}
+use Rattle.list_laws.proofs.Kit.{_∙_, _≡_, ap, refl, Bool, false, false≢true, not, true, true≢false, Option, none, some, List, [], _∷_, _<_, suc, zero, ℕ}
+use Rattle.list_laws.proofs.Kit.{le-of-suc-le-suc, not-suc-le-zero, arith, leb, List·getD-map, getD, length, length-map, eqb-true, le-leb, leb-true}
+use Rattle.list_laws.proofs.Kit.{not-false}
 use Rattle.model.specs.Piece.{degrees}
 use Rattle.model.specs.Layout.{Job, Layout, allowed, inside, placeOf, pairs}
 use Rattle.model.specs.Buffer.{turnOfDegrees, turnPasses, turnOf, entryOf, placementOf, entriesOf, layoutOf}

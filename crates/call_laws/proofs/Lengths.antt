@@ -1,13 +1,7 @@
 -- Document 01, 'Start, layout text, sheet', the used length of a lent layout: the largest right end, attained by a piece, and no longer
 -- than the sheet. Assumes nothing.
-use mathlib.Core.List.{List}
-use mathlib.Core.Logic.{⊎-elim}
-use mathlib.Core.Path.{_≡_}
-use Prim.Native.Nat.{ℕ, zero, suc, _<_, _≤_}
-use native.Mathlib.Nat.{not-suc-le-zero, eq-or-lt-of-le, le-of-suc-le-suc}
-use native.Mathlib.Omega.{arith}
-use borrow.Author.Tests.{leb-true, leb-false}
-use lib.Dec.{leb}
+use Rattle.list_laws.proofs.Kit.{_≡_, ⊎-elim, List, _<_, _≤_, suc, zero, ℕ, eq-or-lt-of-le, le-of-suc-le-suc, not-suc-le-zero, arith, leb, leb-false}
+use Rattle.list_laws.proofs.Kit.{leb-true}
 use Rattle.model.specs.Layout.{Job, Layout, inside, rightEnd, rightmost, usedLength}
 use Rattle.model.specs.Buffer.{layoutOf}
 use Rattle.model.specs.Lent.{Lent, jobOf}

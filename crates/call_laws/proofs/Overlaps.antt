@@ -1,14 +1,8 @@
 -- Demand 2 of the public calls (document 01, 'No-fit rows and penalty'): whatever a caller lends, a shared-pixel test, a depth, a penalty,
 -- a no-fit row or a sum that is not refused is that of the pieces' pixel sets where the lent layout puts them. The call's causes are
 -- not there, so the two numbers are pieces of the job, and a lent job's boxes have sides of at most 255. Assumes nothing.
-use mathlib.Core.Bool.{Bool, true, false, not, _&&_, _||_}
-use mathlib.Core.List.{List, [], _∷_}
-use mathlib.Core.Logic.{_↔_, _≢_}
-use mathlib.Core.Path.{_≡_, refl, sym, ap, ap₂}
-use Prim.Native.Nat.{ℕ, _<_}
-use borrow.Author.Tests.{not-false, ltb-true, eqb-true, eqb-false, eq-eqb}
-use lib.Dec.{ltb, eqb}
-use lib.IntN.{ℤ}
+use Rattle.list_laws.proofs.Kit.{_≡_, ap, ap₂, refl, sym, Bool, _&&_, _||_, false, not, true, _↔_, _≢_, List, [], _∷_, _<_, ℕ, eqb, ltb, ℤ, eq-eqb, eqb-false}
+use Rattle.list_laws.proofs.Kit.{eqb-true, ltb-true, not-false}
 use Rattle.model.specs.Overlap.{OffsetRun}
 use Rattle.model.specs.Layout.{Job, Layout, turnedPiece, shapeIn, cornerIn, placeOf, pairOf, pairShares, pairPenalty, pairDepth, weightedSum, plainSum}
 use Rattle.model.specs.Layout.{unitWeights}

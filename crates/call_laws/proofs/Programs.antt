@@ -1,12 +1,6 @@
 -- Document 01, 'Start, layout text, sheet', the program: what it prints for a job that is read is the text of the guided run that the public
 -- calls give, from the start layout by weights 1, which no call refuses, and demand 3's claims hold of that run. Assumes nothing.
-use mathlib.Core.Bool.{true}
-use mathlib.Core.List.{List}
-use mathlib.Core.Path.{_≡_, refl, ap, _∙_}
-use Prim.Native.Nat.{ℕ, _<_, _≤_}
-use native.Mathlib.Omega.{arith}
-use borrow.Author.Tests.{lt-ltb, le-ltb}
-use lib.ListN.{length}
+use Rattle.list_laws.proofs.Kit.{_∙_, _≡_, ap, refl, true, List, _<_, _≤_, ℕ, arith, length, le-ltb, lt-ltb}
 use Rattle.model.specs.Layout.{unitWeights}
 use Rattle.model.specs.Buffer.{entriesOf}
 use Rattle.model.specs.Start.{start}

@@ -1,15 +1,8 @@
 -- Document 01, 'Job text', of the calls that follow a reading: the reader fills the front of a lent table and a lent pixel store and leaves
 -- what lies beyond, and the job that then stands in them passes the check of every call, with the pieces that were read. What lies
 -- beyond plays no part, since the check and the pieces look at n entries and their boxes' bytes. Assumes nothing.
-use mathlib.Core.Bool.{true}
-use mathlib.Core.List.{List, [], _++_}
-use mathlib.Core.Path.{_≡_, refl, _∙_, ap, ap₂, subst}
-use Prim.Native.Nat.{ℕ, zero, suc, _+_, _*_, _<_, _≤_}
-use native.Mathlib.Nat.{mul-comm}
-use native.Mathlib.Omega.{arith}
-use lib.Dec.{eqb}
-use lib.ListN.{length, getD, take, drop, length-append, List·getD-append}
-use lib.Seq.{take-append-seam}
+use Rattle.list_laws.proofs.Kit.{_∙_, _≡_, ap, ap₂, refl, subst, true, List, [], _++_, _*_, _+_, _<_, _≤_, suc, zero, ℕ, mul-comm, arith, eqb}
+use Rattle.list_laws.proofs.Kit.{List·getD-append, drop, getD, length, length-append, take, take-append-seam}
 use Rattle.model.specs.Lent.{Lent, entryColumns, entryRows, entryTurns, pixelStart, entryInRange, entryFits, lentShape, lentWell}
 use Rattle.model.specs.Refusal.{given}
 use Rattle.model.specs.JobText.{readJob}

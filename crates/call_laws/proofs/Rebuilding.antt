@@ -1,14 +1,8 @@
 -- Document 01, 'Strips' and the refusals of rebuilding: the cause of 8 is there exactly where no panel of the box has just the lent
 -- strips, and what rebuilding writes is the pixels of each panel that has them. The test rebuilds the set and compares its strips; a
 -- panel that has the strips is that set again, and sets with the same box and pixels have the same bytes. Assumes nothing.
-use mathlib.Core.Bool.{true, not, _&&_}
-use mathlib.Core.List.{List, [], _∷_, map}
-use mathlib.Core.Logic.{_↔_}
-use mathlib.Core.Path.{_≡_, refl, sym, _∙_, ap, ap₂, subst}
-use Prim.Native.Nat.{ℕ, zero, suc, _+_, _*_, _/_, _%_, _<_, _≤_}
-use native.Mathlib.Nat.{mod-lt, div-lt-iff-lt-mul, mul-comm}
-use native.Mathlib.Omega.{arith}
-use borrow.Author.Tests.{not-false, le-ltb}
+use Rattle.list_laws.proofs.Kit.{_∙_, _≡_, ap, ap₂, refl, subst, sym, _&&_, not, true, _↔_, List, [], _∷_, map, _%_, _*_, _+_, _/_, _<_, _≤_, suc, zero, ℕ}
+use Rattle.list_laws.proofs.Kit.{div-lt-iff-lt-mul, mod-lt, mul-comm, arith, le-ltb, not-false}
 use Rattle.model.specs.Bounded.{oneIf}
 use Rattle.model.specs.Piece.{Shape, tight, sideBound}
 use Rattle.model.specs.Strip.{Strip, strips, rebuilt}

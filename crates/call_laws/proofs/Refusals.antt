@@ -2,12 +2,7 @@
 -- "writes nothing". The outcome of every call but the two that read a text is `unless` of its causes in order, so that what is shown
 -- here holds of each of them (Clauses says it call by call); the two readers refuse a line of wrong form with 1 and take the line's
 -- other causes so. Assumes nothing.
-use mathlib.Core.Bool.{Bool, true, false}
-use mathlib.Core.List.{List, [], _∷_, _++_}
-use mathlib.Core.Logic.{_↔_, _≢_}
-use mathlib.Core.Path.{_≡_, refl, ap, subst, _∙_}
-use Prim.Native.Nat.{ℕ}
-use native.Mathlib.Omega.{arith}
+use Rattle.list_laws.proofs.Kit.{_∙_, _≡_, ap, refl, subst, Bool, false, true, _↔_, _≢_, List, [], _++_, _∷_, ℕ, arith}
 use Rattle.model.specs.Refusal.{Outcome, refused, given, Cause, unless, refusalOf}
 use Rattle.model.specs.Calls.{leaving}
 use Rattle.model.specs.declared.Refusal.{Refusal}

@@ -1,16 +1,8 @@
 -- Demand 3 of the public calls (document 01, 'Line search' and 'Descent and guidance'): whatever a caller lends, a line search, a
 -- descent or a guided run that is not refused is the job's own, and what demand 3 claims holds of it. The call's causes are not
 -- there, so the lent job has a piece and the lent buffers hold a valid layout and valid weights. Assumes nothing.
-use mathlib.Core.Bool.{true, not, _||_}
-use mathlib.Core.List.{List}
-use mathlib.Core.Logic.{_↔_}
-use mathlib.Core.Option.{Option, none, some}
-use mathlib.Core.Path.{_≡_, refl, _∙_, ap}
-use Prim.Native.Nat.{ℕ, _<_, _≤_}
-use native.Mathlib.Omega.{arith}
-use borrow.Author.Tests.{eqb-true, eqb-false, eq-eqb, le-ltb}
-use lib.Dec.{ltb, eqb}
-use lib.ListN.{length}
+use Rattle.list_laws.proofs.Kit.{_∙_, _≡_, ap, refl, _||_, not, true, _↔_, Option, none, some, List, _<_, _≤_, ℕ, arith, eqb, ltb, length, eq-eqb, eqb-false}
+use Rattle.list_laws.proofs.Kit.{eqb-true, le-ltb}
 use Rattle.model.specs.Piece.{onLine}
 use Rattle.model.specs.Layout.{Job, Layout, inside, pairs}
 use Rattle.model.specs.Buffer.{entriesOf, layoutOf}

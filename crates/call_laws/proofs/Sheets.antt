@@ -2,14 +2,7 @@
 -- calls from a fresh sheet, refused ones among them, each pixel's count is the number of laid pieces on it. On a lent job that
 -- passes the check, each call also finds that its sheet is one that some list of calls gives, so the public calls are the calls
 -- that cover_laws speaks of. Assumes nothing.
-use mathlib.Core.Bool.{true}
-use mathlib.Core.List.{List, [], _∷_}
-use mathlib.Core.Logic.{_↔_}
-use mathlib.Core.Path.{_≡_, refl, sym, _∙_, ap}
-use Prim.Native.Nat.{ℕ, _*_, _≤_}
-use borrow.Author.Tests.{eq-eqb, not-false}
-use lib.Dec.{eqb}
-use lib.ListN.{length}
+use Rattle.list_laws.proofs.Kit.{_∙_, _≡_, ap, refl, sym, true, _↔_, List, [], _∷_, _*_, _≤_, ℕ, eqb, length, eq-eqb, not-false}
 use Rattle.model.specs.Lent.{Lent, jobOf, lentWell, pieceBound}
 use Rattle.model.specs.Refusal.{Outcome, given, unless}
 use Rattle.model.specs.Cover.{Sheet, Call, laying, withdrawing, called, afterwards, afterCalls, fresh, lay, withdraw, layCauses, withdrawCauses, sheetWell}

@@ -1,17 +1,9 @@
 -- Document 01, 'Strips', stores and stretches: the part of a lent store that the lent starts cut out for a piece is the piece's strips
 -- in its turn, and it is never empty. The store is the pieces' strips one after the other, and each start is the number of strips
 -- before, so the cut falls between two pieces. Assumes nothing.
-use mathlib.Core.Bool.{true, not}
-use mathlib.Core.List.{List, [], _++_, map, append-assoc, map-append}
-use mathlib.Core.Logic.{_↔_, _≢_}
-use mathlib.Core.Path.{_≡_, refl, sym, _∙_, ap, ap₂, subst}
-use Prim.Native.Nat.{ℕ, zero, suc, _+_, _-_, _*_, _<_, _≤_}
-use native.Mathlib.Nat.{not-suc-le-zero, le-of-suc-le-suc, add-zero, zero-add}
-use native.Mathlib.Omega.{arith}
-use borrow.Author.Tests.{not-false, ltb-true, lt-ltb}
-use lib.Dec.{ltb}
-use lib.ListN.{length, getD, take, drop, length-append, length-map, take-append-drop}
-use lib.Seq.{getD-take, take-append-seam, drop-append-seam}
+use Rattle.list_laws.proofs.Kit.{_∙_, _≡_, ap, ap₂, refl, subst, sym, not, true, _↔_, _≢_, List, [], _++_, append-assoc, map, map-append, _*_, _+_, _-_, _<_}
+use Rattle.list_laws.proofs.Kit.{_≤_, suc, zero, ℕ, add-zero, le-of-suc-le-suc, not-suc-le-zero, zero-add, arith, ltb, drop, getD, length, length-append}
+use Rattle.list_laws.proofs.Kit.{length-map, take, take-append-drop, drop-append-seam, getD-take, take-append-seam, lt-ltb, ltb-true, not-false}
 use Rattle.model.specs.Buffer.{filled, stripEntry, sameEntries}
 use Rattle.model.specs.Layout.{Job, turnedPiece}
 use Rattle.model.specs.Lent.{Lent, jobOf, lentWell}

@@ -1,11 +1,6 @@
 -- Document 01, 'Job text' and 'Start, layout text, sheet', of the public calls: the start layout and a layout that is read are valid, and
 -- what is written of a lent layout is read back as that layout. Assumes nothing.
-use mathlib.Core.Bool.{true}
-use mathlib.Core.List.{List, [], _∷_, _++_}
-use mathlib.Core.Path.{_≡_}
-use Prim.Native.Nat.{ℕ}
-use native.Mathlib.Nat.{zero-add}
-use lib.ListN.{length}
+use Rattle.list_laws.proofs.Kit.{_≡_, true, List, [], _++_, _∷_, ℕ, zero-add, length}
 use Rattle.model.specs.Layout.{Layout}
 use Rattle.model.specs.Buffer.{layoutOf}
 use Rattle.model.specs.Start.{start}

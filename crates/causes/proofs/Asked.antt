@@ -1,11 +1,6 @@
 -- Causes that are not there drop out of a call's list, and where the job is refused for its numbers nothing behind it is asked: so what
 -- is asked here comes to what document 01 lists for each call. Assumes nothing.
-use mathlib.Core.Bool.{Bool, true, false, not, _||_}
-use mathlib.Core.List.{List, [], _∷_}
-use mathlib.Core.Path.{_≡_, refl, sym, ap, _∙_}
-use Prim.Native.Nat.{ℕ, _≤_}
-use lib.Dec.{eqb}
-use lib.ListN.{length}
+use Rattle.list_laws.proofs.Kit.{_∙_, _≡_, ap, refl, sym, Bool, _||_, false, not, true, List, [], _∷_, _≤_, ℕ, eqb, length}
 use Rattle.model.specs.Layout.{pairs}
 use Rattle.model.specs.Refusal.{Cause, cause, unless, outOfRange, wrongLength, notOurs, noSuchPiece}
 use Rattle.model.specs.Lent.{Lent, jobOf, lentWell, pieceBound}

@@ -1,12 +1,6 @@
 -- What the causes leave where none is there: a job that passes its check, a layout buffer that holds a valid layout, valid weights, and
 -- nothing wrong of the call's own. Assumes nothing.
-use mathlib.Core.Bool.{Bool, false}
-use mathlib.Core.List.{List}
-use mathlib.Core.Path.{_≡_}
-use Prim.Native.Nat.{ℕ, _≤_}
-use borrow.Author.Tests.{not-false, eqb-true}
-use lib.Dec.{eqb}
-use lib.ListN.{length}
+use Rattle.list_laws.proofs.Kit.{_≡_, Bool, false, List, _≤_, ℕ, eqb, length, eqb-true, not-false}
 use Rattle.model.specs.Lent.{Lent, jobOf}
 use Rattle.model.specs.Calls.{someTurnWrong, someWeightWrong, jobCause, layoutLength, turnsCause, outsideCause, layoutCauses}
 use Rattle.list_laws.proofs.Tests.{or-neither}

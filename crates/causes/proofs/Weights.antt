@@ -1,14 +1,6 @@
 -- Weights that are refused: one after the other, from the first on. Assumes nothing.
-use mathlib.Core.Bool.{Bool, true, false, _&&_}
-use mathlib.Core.List.{List, _∷_}
-use mathlib.Core.Path.{_≡_, refl, sym, ap, ap₂, _∙_}
-use Prim.Native.Nat.{ℕ, zero, suc, _+_, _<_, _≤_}
-use native.Mathlib.Numerals.{add-one}
-use native.Mathlib.Omega.{arith}
-use borrow.Author.Tests.{le-leb, lt-leb}
-use lib.Dec.{leb}
-use lib.ListN.{length, getD, drop}
-use lib.Seq.{drop-cons, drop-length}
+use Rattle.list_laws.proofs.Kit.{_∙_, _≡_, ap, ap₂, refl, sym, Bool, _&&_, false, true, List, _∷_, _+_, _<_, _≤_, suc, zero, ℕ, add-one, arith, leb, drop}
+use Rattle.list_laws.proofs.Kit.{getD, length, drop-cons, drop-length, le-leb, lt-leb}
 use Rattle.model.specs.Lent.{upTo}
 use Rattle.model.specs.Guided.{weightBound}
 use Rattle.model.specs.Calls.{someWeightWrong}

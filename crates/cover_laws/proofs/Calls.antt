@@ -1,15 +1,8 @@
 -- Document 01, 'Start, layout text, sheet' and 'When a call says no': when a lay or a withdraw is given, what a refused one leaves,
 -- and lists of calls one after another. A call is given exactly when none of its causes is there, since the first cause refuses.
 -- Assumes nothing.
-use mathlib.Core.Bool.{true, false, not, _&&_}
-use mathlib.Core.Path.{_≡_, refl, sym, _∙_, ap}
-use mathlib.Core.List.{List, [], _∷_, _++_}
-use Prim.Native.Nat.{ℕ, zero, suc, _+_, _<_}
-use native.Mathlib.Nat.{not-suc-le-zero, add-zero, le-of-suc-le-suc}
-use native.Mathlib.Omega.{arith}
-use lib.Dec.{ltb}
-use lib.ListN.{length, getD}
-use borrow.Author.Tests.{not-false, ltb-true, lt-ltb}
+use Rattle.list_laws.proofs.Kit.{_∙_, _≡_, ap, refl, sym, _&&_, false, not, true, List, [], _++_, _∷_, _+_, _<_, suc, zero, ℕ, add-zero, le-of-suc-le-suc}
+use Rattle.list_laws.proofs.Kit.{not-suc-le-zero, arith, ltb, getD, length, lt-ltb, ltb-true, not-false}
 use Rattle.model.specs.Layout.{Job, allowed, inside}
 use Rattle.model.specs.Refusal.{refused, given}
 use Rattle.model.specs.Cover.{Sheet, entryIn, mapFrom, lay, withdraw, layCauses, withdrawCauses}

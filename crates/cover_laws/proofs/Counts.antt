@@ -2,17 +2,9 @@
 -- entry for each piece number, each blank or a piece of the job laid inside in an allowed turn; and each pixel's count is the
 -- number of laid pieces on it. It holds of a fresh sheet; a lay changes one entry from blank to laid, and so one term of that number
 -- from 0 to whether the piece covers the pixel; a withdraw changes it back; a refused call changes nothing. Assumes nothing.
-use mathlib.Core.Bool.{true, false}
-use mathlib.Core.Path.{_≡_, refl, sym, subst, _∙_, ap}
-use mathlib.Core.List.{List, [], _∷_}
-use mathlib.Core.Logic.{_⊎_, inl, inr, ⊎-elim, _≢_}
-use Prim.Native.Nat.{ℕ, zero, suc, _+_, _-_, _*_, _<_, _≤_}
-use native.Mathlib.Nat.{zero-add}
-use native.Mathlib.Omega.{arith}
-use lib.Dec.{eqb}
-use lib.ListN.{length, getD, set, replicate, length-replicate, length-set}
-use lib.Seq.{getD-set-same, getD-set-other}
-use borrow.Author.Tests.{eqb-true, eqb-false}
+use Rattle.list_laws.proofs.Kit.{_∙_, _≡_, ap, refl, subst, sym, false, true, _≢_, _⊎_, inl, inr, ⊎-elim, List, [], _∷_, _*_, _+_, _-_, _<_, _≤_, suc, zero}
+use Rattle.list_laws.proofs.Kit.{ℕ, zero-add, arith, eqb, getD, length, length-replicate, length-set, replicate, set, getD-set-other, getD-set-same}
+use Rattle.list_laws.proofs.Kit.{eqb-false, eqb-true}
 use Rattle.model.specs.Bounded.{oneIf}
 use Rattle.model.specs.Layout.{Job, allowed, inside}
 use Rattle.model.specs.Lent.{pieceBound}

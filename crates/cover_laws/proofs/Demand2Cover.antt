@@ -4,13 +4,7 @@
 -- pieces and every list of calls. The count is stated twice: by the sheet record, and by the calls alone.
 -- What the words mean is in specs/CoverClaims. Why it is true: Counts keeps the counts equal to the record through each call; Last
 -- follows a piece's entry through the list. Assumes nothing.
-use mathlib.Core.Bool.{true, _&&_}
-use mathlib.Core.Path.{_≡_, refl, subst, _∙_, ap}
-use mathlib.Core.List.{List}
-use mathlib.Core.Logic.{_⊎_, inl, inr}
-use mathlib.Core.Option.{Option, none, some}
-use Prim.Native.Nat.{ℕ, _+_, _*_, _<_, _≤_}
-use lib.ListN.{getD}
+use Rattle.list_laws.proofs.Kit.{_∙_, _≡_, ap, refl, subst, _&&_, true, _⊎_, inl, inr, Option, none, some, List, _*_, _+_, _<_, _≤_, ℕ, getD}
 use Rattle.model.specs.Bounded.{oneIf}
 use Rattle.model.specs.Piece.{Point, corner, covers}
 use Rattle.model.specs.Layout.{Job, turnedPiece}

@@ -2,11 +2,7 @@
 -- refusal 8, as laws for callers. The count of each pixel that the piece covers goes up or down by one and all else stays; what a
 -- withdraw takes off is there; every count is at most the number of pieces; a second lay or withdraw of the piece is refused.
 -- Assumes nothing.
-use mathlib.Core.Bool.{true, false}
-use mathlib.Core.Path.{_≡_, subst, ap}
-use Prim.Native.Nat.{ℕ, _*_, _<_, _≤_}
-use lib.ListN.{getD}
-use borrow.Author.Tests.{lt-ltb}
+use Rattle.list_laws.proofs.Kit.{_≡_, ap, subst, false, true, _*_, _<_, _≤_, ℕ, getD, lt-ltb}
 use Rattle.model.specs.Layout.{Job, allowed}
 use Rattle.model.specs.Lent.{pieceBound}
 use Rattle.model.specs.Refusal.{refused, given, unless, laidAlready, notLaid}

@@ -1,13 +1,8 @@
 -- Document 01, 'Start, layout text, sheet': "A panel is laid when the last of its calls that wasn't refused is a lay", and one that
 -- isn't laid has turn 0 and corner (0, 0). A piece's entry is the one that this last call leaves: a given call writes the entry of
 -- its own piece alone, and a refused one writes nothing. Assumes nothing.
-use mathlib.Core.Bool.{Bool, true, false, _&&_, true≢false, false≢true}
-use mathlib.Core.Path.{_≡_, refl, sym, subst, _∙_, ap}
-use mathlib.Core.List.{List, [], _∷_, _++_}
-use mathlib.Core.Option.{Option, none, some}
-use Prim.Native.Nat.{ℕ, _≤_}
-use lib.Dec.{eqb}
-use borrow.Author.Tests.{eqb-true, eqb-false, eq-eqb}
+use Rattle.list_laws.proofs.Kit.{_∙_, _≡_, ap, refl, subst, sym, Bool, _&&_, false, false≢true, true, true≢false, Option, none, some, List, [], _++_, _∷_}
+use Rattle.list_laws.proofs.Kit.{_≤_, ℕ, eqb, eq-eqb, eqb-false, eqb-true}
 use Rattle.model.specs.Layout.{Job}
 use Rattle.model.specs.Lent.{pieceBound}
 use Rattle.model.specs.Refusal.{Outcome, refused, given}

@@ -1,10 +1,7 @@
 -- Document 01, 'Sheet and panels' and 'Start, layout text, sheet': the counts stand row by row, so that pixel (x, y) of a sheet of L
 -- columns has the number y × L + x, and each number below W × L is that of just one pixel. Assumes nothing.
-use mathlib.Core.Path.{_≡_, _∙_, ap}
-use Prim.Native.Nat.{ℕ, _+_, _*_, _/_, _%_, _<_}
-use native.Mathlib.Nat.{mul-add-div-right, mul-add-mod-self-right, mod-eq-of-lt, div-eq-of-lt, mod-lt}
-use native.Mathlib.Nat.{div-add-mod', div-lt-iff-lt-mul, mul-le-mul-right, mul-comm}
-use native.Mathlib.Omega.{arith}
+use Rattle.list_laws.proofs.Kit.{_∙_, _≡_, ap, _%_, _*_, _+_, _/_, _<_, ℕ, div-add-mod', div-eq-of-lt, div-lt-iff-lt-mul, mod-eq-of-lt, mod-lt}
+use Rattle.list_laws.proofs.Kit.{mul-add-div-right, mul-add-mod-self-right, mul-comm, mul-le-mul-right, arith}
 use Rattle.model.specs.Piece.{Point}
 use Rattle.model.specs.Layout.{Job}
 use Rattle.model.specs.Cover.{pixelAt}

@@ -2,17 +2,9 @@
 -- `sheetWell` passes exactly the sheets that some list of calls from a fresh one gives. Such sheets are sound, and the test asks just
 -- that; the other way, laying the laid pieces one after another, from piece 0 on, gives a sound sheet with the same entries, and
 -- sound sheets with the same entries are the same. Assumes nothing.
-use mathlib.Core.Bool.{Bool, true, false, not, _&&_, false≢true}
-use mathlib.Core.Path.{_≡_, refl, sym, subst, _∙_, ap}
-use mathlib.Core.List.{List, [], _∷_, _++_}
-use mathlib.Core.Logic.{_⊎_, inl, inr, ⊎-elim, _≢_, _↔_}
-use Prim.Native.Nat.{ℕ, zero, suc, _*_, _<_, _≤_}
-use native.Mathlib.Nat.{not-suc-le-zero, le-refl, eq-or-lt-of-le, le-of-suc-le-suc}
-use native.Mathlib.Omega.{arith}
-use lib.Dec.{eqb, ltb}
-use lib.ListN.{length, getD, List·getD-eq-default}
-use lib.Seq.{ext-getD}
-use borrow.Author.Tests.{eqb-true, eqb-false, eq-eqb, ltb-true, ltb-false, lt-ltb, not-true}
+use Rattle.list_laws.proofs.Kit.{_∙_, _≡_, ap, refl, subst, sym, Bool, _&&_, false, false≢true, not, true, _↔_, _≢_, _⊎_, inl, inr, ⊎-elim, List, [], _++_}
+use Rattle.list_laws.proofs.Kit.{_∷_, _*_, _<_, _≤_, suc, zero, ℕ, eq-or-lt-of-le, le-of-suc-le-suc, le-refl, not-suc-le-zero, arith, eqb, ltb}
+use Rattle.list_laws.proofs.Kit.{List·getD-eq-default, getD, length, ext-getD, eq-eqb, eqb-false, eqb-true, lt-ltb, ltb-false, ltb-true, not-true}
 use Rattle.model.specs.Bounded.{allBelow}
 use Rattle.model.specs.Piece.{degrees}
 use Rattle.model.specs.Layout.{Job, allowed, inside}

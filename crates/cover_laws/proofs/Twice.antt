@@ -1,9 +1,6 @@
 -- Document 01, 'Start, layout text, sheet', one computed example: a second lay and a second withdraw of a piece are refused and leave
 -- the counts alone. Sheet of 2 rows and 3 columns, two full 2 × 2 pieces. Assumes nothing.
-use mathlib.Core.Bool.{true}
-use mathlib.Core.Path.{_≡_, refl}
-use mathlib.Core.List.{List, [], _∷_}
-use Prim.Native.Nat.{ℕ}
+use Rattle.list_laws.proofs.Kit.{_≡_, refl, true, List, [], _∷_, ℕ}
 use Rattle.model.specs.Piece.{allows}
 use Rattle.model.specs.Layout.{Job, inside}
 use Rattle.model.specs.Refusal.{unless}

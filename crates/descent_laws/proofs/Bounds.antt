@@ -1,12 +1,7 @@
 -- How large document 01's sums and counts grow: there are n(n - 1)/2 pairs, a penalty is at most 255 and a weight at most 65,535, so
 -- a weighted sum of at most 64 pieces is below 2³⁵. Assumes nothing.
-use mathlib.Core.Bool.{Bool, true, false}
-use mathlib.Core.Path.{_≡_, refl, _∙_, ap}
-use mathlib.Core.List.{List, [], _∷_, List·Memᴰ, List·Memᴰ·head, List·Memᴰ·tail}
-use Prim.Native.Nat.{ℕ, zero, suc, _+_, _*_, _<_, _≤_}
-use native.Mathlib.Nat.{le-trans, suc-mul, mul-suc, mul-le-mul, mul-le-mul-left, mul-le-mul-right}
-use native.Mathlib.Omega.{arith}
-use lib.ListN.{length, getD, length-append}
+use Rattle.list_laws.proofs.Kit.{_∙_, _≡_, ap, refl, Bool, false, true, List, List·Memᴰ, List·Memᴰ·head, List·Memᴰ·tail, [], _∷_, _*_, _+_, _<_, _≤_, suc}
+use Rattle.list_laws.proofs.Kit.{zero, ℕ, le-trans, mul-le-mul, mul-le-mul-left, mul-le-mul-right, mul-suc, suc-mul, arith, getD, length, length-append}
 use Rattle.model.specs.Piece.{sideBound}
 use Rattle.model.specs.Layout.{Job, Layout, Pair, placeOf, shapeIn, pairs, pairsWith, pairsFrom, pairPenalty, sumOver, weightedSum, pieceSum}
 use Rattle.model.specs.Guided.{weightBound, Round, madeIn, movesIn}

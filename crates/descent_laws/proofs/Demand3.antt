@@ -1,7 +1,6 @@
 -- Demand 3, whole: one claim about whole runs, from the given layout to the end. What the words mean is in specs/Claims; why it is
 -- true is in Descent and Guided. Assumes nothing.
-use mathlib.Core.List.{List}
-use Prim.Native.Nat.{ℕ, _<_}
+use Rattle.list_laws.proofs.Kit.{List, _<_, ℕ}
 use Rattle.model.specs.Layout.{Job, Layout}
 use Rattle.descent_laws.specs.Claims.{Demand3, ValidWeights, ValidLayout}
 use Rattle.descent_laws.proofs.Order.{trials-claims}

@@ -1,19 +1,8 @@
 -- Document 01, 'Descent and guidance', a whole descent: what demand 3 says of it. A trial that is no move found no place on its line
 -- with a smaller pair sum, hence none with a smaller weighted sum, since the other pairs stay as they are; a move lowers the
 -- weighted sum and keeps every piece inside in a turn allowed to it. The laws of a run do the rest. Assumes nothing.
-use mathlib.Core.Bool.{Bool, true, false}
-use mathlib.Core.Path.{_≡_, refl, sym, _∙_, ap}
-use mathlib.Core.Logic.{⊎-elim, _≢_}
-use mathlib.Core.List.{List}
-use mathlib.Core.Option.{Option, none, some}
-use Prim.Native.Nat.{ℕ, _+_, _*_, _<_, _≤_}
-use native.Mathlib.Nat.{le-trans}
-use native.Mathlib.Decide.{ℕ-discrete}
-use native.Mathlib.Omega.{arith}
-use borrow.Author.Tests.{ltb-true, ltb-false, le-ltb}
-use lib.Dec.{ltb}
-use lib.ListN.{length, set, length-set}
-use lib.Seq.{getD-set-same, getD-set-other, ext-getD}
+use Rattle.list_laws.proofs.Kit.{_∙_, _≡_, ap, refl, sym, Bool, false, true, _≢_, ⊎-elim, Option, none, some, List, _*_, _+_, _<_, _≤_, ℕ, le-trans, arith}
+use Rattle.list_laws.proofs.Kit.{ltb, length, length-set, set, ext-getD, getD-set-other, getD-set-same, le-ltb, ltb-false, ltb-true, ℕ-discrete}
 use Rattle.model.specs.Piece.{onLine, lineThrough}
 use Rattle.model.specs.Layout.{Job, Layout, allowed, inside, origin, placeOf, weightedSum, pieceSum}
 use Rattle.model.specs.Search.{Best, movedTo, searchLine}

@@ -1,16 +1,9 @@
 -- Document 01, 'Descent and guidance', a whole guided run: what demand 3 says of it. Each round is a descent from a valid layout by
 -- valid weights, since a descent keeps the layout valid and raising keeps the weights between 1 and 65,535; the best layout is kept
 -- by comparing plain sums. Assumes nothing.
-use mathlib.Core.Bool.{Bool, true, false}
-use mathlib.Core.Path.{_≡_, refl, _∙_, ap}
-use mathlib.Core.Logic.{_⊎_, inl, inr, ⊎-elim, _≢_, _↔_}
-use mathlib.Core.List.{List, [], _∷_, List·Memᴰ, List·Memᴰ·head, List·Memᴰ·tail, List·Memᴰ·cases-cons, List·Memᴰ·not-nil}
-use Prim.Native.Nat.{ℕ, zero, suc, _<_, _≤_, min}
-use native.Mathlib.Nat.{le-refl, le-trans}
-use native.Mathlib.Omega.{arith}
-use borrow.Author.Tests.{ltb-true, ltb-false}
-use lib.Dec.{ltb, lit≤}
-use lib.ListN.{length, getD, length-replicate, getD-replicate}
+use Rattle.list_laws.proofs.Kit.{_∙_, _≡_, ap, refl, Bool, false, true, _↔_, _≢_, _⊎_, inl, inr, ⊎-elim, List, List·Memᴰ, List·Memᴰ·cases-cons}
+use Rattle.list_laws.proofs.Kit.{List·Memᴰ·head, List·Memᴰ·not-nil, List·Memᴰ·tail, [], _∷_, _<_, _≤_, min, suc, zero, ℕ, le-refl, le-trans, arith, lit≤, ltb}
+use Rattle.list_laws.proofs.Kit.{getD, getD-replicate, length, length-replicate, ltb-false, ltb-true}
 use Rattle.model.specs.Layout.{Job, Layout, Pair, pairs, pairShares, unitWeights, plainSum}
 use Rattle.model.specs.Descent.{Descent, descend}
 use Rattle.model.specs.Guided.{weightBound, raisedOver, raised, Round, isClear, weightsAfter, roundFrom, rounds, bestOf, bestAfter, lastWeights, outcome, guide}

@@ -1,9 +1,6 @@
 -- Document 01, 'When a call says no', refusal 8: a lent job that passes the check meets what demand 3 and the start layout ask for.
 -- It has a piece, turn 0 is allowed to each piece since o is odd, and each box fits the sheet. Assumes nothing.
-use mathlib.Core.Bool.{true}
-use mathlib.Core.Path.{_≡_}
-use Prim.Native.Nat.{ℕ, _<_}
-use native.Mathlib.Nat.{div-one}
+use Rattle.list_laws.proofs.Kit.{_≡_, true, _<_, ℕ, div-one}
 use Rattle.model.specs.Piece.{allows}
 use Rattle.model.specs.Layout.{allowed, unitWeights}
 use Rattle.model.specs.Start.{start}

@@ -1,13 +1,7 @@
 -- Document 01's order of pairs, (0,1), (0,2) and so on, and of trials, by piece, turn, horizontal before vertical: each is listed once,
 -- since a number that tells its place in the order rises along the list. Assumes nothing.
-use mathlib.Core.Bool.{Bool, true, false}
-use mathlib.Core.Path.{_≡_, ap}
-use mathlib.Core.Logic.{_≢_}
-use mathlib.Core.List.{List, [], _∷_, _++_}
-use Prim.Native.Nat.{ℕ, zero, suc, _+_, _*_, _<_, _≤_}
-use native.Mathlib.Nat.{le-refl, le-trans, add-suc, suc-mul}
-use native.Mathlib.Omega.{arith}
-use lib.ListN.{length, getD}
+use Rattle.list_laws.proofs.Kit.{_≡_, ap, Bool, false, true, _≢_, List, [], _++_, _∷_, _*_, _+_, _<_, _≤_, suc, zero, ℕ, add-suc, le-refl, le-trans, suc-mul}
+use Rattle.list_laws.proofs.Kit.{arith, getD, length}
 use Rattle.model.specs.Layout.{Job, Pair, pairs, pairsWith, pairsFrom, allowed}
 use Rattle.model.specs.Descent.{Trial, noTrial, turnTrials, pieceTrials, trialsFrom, trials}
 use Rattle.model.specs.declared.Turn.{Turn}

@@ -3,18 +3,9 @@
 -- ends before the next trial, going round; when it has all T trials, each of them is quiet at the end. A quiet trial makes the
 -- window one longer and a move lowers the sum by at least 1, so at most T trials are made for each unit of the sum, and T more.
 -- Assumes nothing.
-use mathlib.Core.Bool.{Bool, true, false}
-use mathlib.Core.Path.{_≡_, refl, sym, subst}
-use mathlib.Core.Logic.{⊎-elim, _≢_}
-use mathlib.Core.List.{List}
-use mathlib.Core.Option.{Option, none, some}
-use Prim.Native.Nat.{ℕ, zero, suc, _+_, _*_, _<_, _≤_}
-use native.Mathlib.Nat.{eq-or-lt-of-le, le-of-suc-le-suc, mul-suc, mul-add, mul-one, mul-le-mul-left}
-use native.Mathlib.Decide.{decLt}
-use native.Mathlib.Omega.{arith}
-use borrow.Author.Tests.{ltb-true, ltb-false, eqb-true, eqb-false}
-use lib.Dec.{ltb, eqb}
-use lib.ListN.{length, getD}
+use Rattle.list_laws.proofs.Kit.{_≡_, refl, subst, sym, Bool, false, true, _≢_, ⊎-elim, Option, none, some, List, _*_, _+_, _<_, _≤_, suc, zero, ℕ}
+use Rattle.list_laws.proofs.Kit.{eq-or-lt-of-le, le-of-suc-le-suc, mul-add, mul-le-mul-left, mul-one, mul-suc, arith, eqb, ltb, getD, length, eqb-false}
+use Rattle.list_laws.proofs.Kit.{eqb-true, ltb-false, ltb-true, decLt}
 use Rattle.model.specs.Layout.{Layout}
 use Rattle.model.specs.Descent.{Trial, Attempt, moved, quiet, Progress, Descent, trialAfter, begin, proceed, noTrial, step, ended, descendFrom}
 use Rattle.model.specs.declared.End.{End}

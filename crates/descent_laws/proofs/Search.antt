@@ -1,15 +1,7 @@
 -- Document 01, 'Line search': the inside corners on a line are the coordinates below `places`, and the search finds the least sum
 -- over them and the smallest coordinate that has it. Assumes nothing.
-use mathlib.Core.Bool.{Bool, true, false}
-use mathlib.Core.Path.{_≡_, refl}
-use mathlib.Core.Logic.{⊎-elim}
-use mathlib.Core.List.{List}
-use mathlib.Core.Option.{Option, none, some}
-use Prim.Native.Nat.{ℕ, zero, suc, _+_, _-_, _<_, _≤_}
-use native.Mathlib.Nat.{eq-or-lt-of-le}
-use native.Mathlib.Omega.{arith}
-use borrow.Author.Tests.{leb-true, le-leb, ltb-true, ltb-false}
-use lib.Dec.{leb, ltb}
+use Rattle.list_laws.proofs.Kit.{_≡_, refl, Bool, false, true, ⊎-elim, Option, none, some, List, _+_, _-_, _<_, _≤_, suc, zero, ℕ, eq-or-lt-of-le, arith, leb}
+use Rattle.list_laws.proofs.Kit.{ltb, le-leb, leb-true, ltb-false, ltb-true}
 use Rattle.model.specs.Piece.{extent, other, lineDirection, held, onLine}
 use Rattle.model.specs.Layout.{Job, Layout, sheetExtent, turnedPiece, inside}
 use Rattle.model.specs.Search.{Best, places, sumAt, least, searchLine}

@@ -1,18 +1,10 @@
 -- Document 01, 'No-fit rows and penalty', weights and sums: the weighted sum is a piece's pair sum and the sum of the pairs that do
 -- not name it. The latter stay as they are when the piece is placed anew, so comparing weighted sums is comparing pair sums.
 -- A weighted sum is 0 exactly when no two pieces share a pixel, since weights are at least 1. Assumes nothing.
-use mathlib.Core.Bool.{Bool, true, false, not}
-use mathlib.Core.Path.{_≡_, refl, sym, subst, _∙_, ap, ap₂}
-use mathlib.Core.Logic.{⊎-elim, _↔_}
-use mathlib.Core.List.{List, [], _∷_, List·Memᴰ, List·Memᴰ·head, List·Memᴰ·tail, List·Memᴰ·cases-cons, List·Memᴰ·append-cases, List·Memᴰ·not-nil}
-use mathlib.Core.List.{Memᴰ·append-left, Memᴰ·append-right}
-use Prim.Native.Nat.{ℕ, zero, suc, _+_, _*_, _<_, _≤_}
-use native.Mathlib.Nat.{eq-or-lt-of-le, mul-zero, mul-le-mul-right}
-use native.Mathlib.Omega.{arith}
-use borrow.Author.Tests.{not-true, eqb-false}
-use lib.Dec.{eqb}
-use lib.ListN.{length, getD, set}
-use lib.Seq.{getD-set-other}
+use Rattle.list_laws.proofs.Kit.{_∙_, _≡_, ap, ap₂, refl, subst, sym, Bool, false, not, true, _↔_, ⊎-elim, List, List·Memᴰ, List·Memᴰ·append-cases}
+use Rattle.list_laws.proofs.Kit.{List·Memᴰ·cases-cons, List·Memᴰ·head, List·Memᴰ·not-nil, List·Memᴰ·tail, Memᴰ·append-left, Memᴰ·append-right, [], _∷_, _*_}
+use Rattle.list_laws.proofs.Kit.{_+_, _<_, _≤_, suc, zero, ℕ, eq-or-lt-of-le, mul-le-mul-right, mul-zero, arith, eqb, getD, length, set, getD-set-other}
+use Rattle.list_laws.proofs.Kit.{eqb-false, not-true}
 use Rattle.model.specs.Piece.{corner}
 use Rattle.model.specs.Overlap.{penalty}
 use Rattle.model.specs.Layout.{Job, Layout, Pair, turnedPiece, origin, pairs, pairsWith, pairsFrom, pairPenalty, names, sumOver, weightedSum, pieceSum}

@@ -1,14 +1,8 @@
 -- Document 01, 'Descent and guidance', trials: the list of trials has every piece in every turn allowed to it and both directions, and
 -- nothing else. Assumes nothing.
-use mathlib.Core.Bool.{Bool, true, false}
-use mathlib.Core.Path.{_≡_, refl, sym, subst}
-use mathlib.Core.Logic.{⊎-elim}
-use mathlib.Core.List.{List, [], _∷_, _++_, List·Memᴰ, List·Memᴰ·head, List·Memᴰ·tail, List·Memᴰ·cases-cons, List·Memᴰ·append-cases, List·Memᴰ·eq-of-singleton}
-use mathlib.Core.List.{List·Memᴰ·not-nil, Memᴰ·append-left, Memᴰ·append-right}
-use Prim.Native.Nat.{ℕ, zero, suc, _+_, _<_, _≤_}
-use native.Mathlib.Nat.{eq-or-lt-of-le}
-use native.Mathlib.Omega.{arith}
-use lib.ListN.{length, getD}
+use Rattle.list_laws.proofs.Kit.{_≡_, refl, subst, sym, Bool, false, true, ⊎-elim, List, List·Memᴰ, List·Memᴰ·append-cases, List·Memᴰ·cases-cons}
+use Rattle.list_laws.proofs.Kit.{List·Memᴰ·eq-of-singleton, List·Memᴰ·head, List·Memᴰ·not-nil, List·Memᴰ·tail, Memᴰ·append-left, Memᴰ·append-right, [], _++_}
+use Rattle.list_laws.proofs.Kit.{_∷_, _+_, _<_, _≤_, suc, zero, ℕ, eq-or-lt-of-le, arith, getD, length}
 use Rattle.model.specs.Layout.{Job, allowed}
 use Rattle.model.specs.Descent.{Trial, turnTrials, pieceTrials, trialsFrom, trials}
 use Rattle.model.specs.declared.Turn.{Turn}

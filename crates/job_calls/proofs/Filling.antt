@@ -1,13 +1,6 @@
 -- A piece and all pieces: its box in the text, and storing piece after piece. Assumes nothing.
-use mathlib.Core.Bool.{Bool, true, false, not, _||_}
-use mathlib.Core.List.{List, [], _∷_, _++_}
-use mathlib.Core.Path.{_≡_, refl, sym, _∙_, ap, subst}
-use Prim.Native.Nat.{ℕ, zero, suc, _+_, _*_, _<_}
-use native.Mathlib.Nat.{add-zero, mul-comm}
-use native.Mathlib.Omega.{arith}
-use lib.Dec.{ltb, eqb}
-use lib.ListN.{length, length-append, set}
-use lib.Seq.{sets}
+use Rattle.list_laws.proofs.Kit.{_∙_, _≡_, ap, refl, subst, sym, Bool, _||_, false, not, true, List, [], _++_, _∷_, _*_, _+_, _<_, suc, zero, ℕ, add-zero}
+use Rattle.list_laws.proofs.Kit.{mul-comm, arith, eqb, ltb, length, length-append, set, sets, eq-eqb, ne-eqb}
 use Rattle.model.specs.Refusal.{Outcome, refused, given, cause, unless, wrongForm, looseBox, wrongLength}
 use Rattle.model.specs.Lent.{Lent}
 use Rattle.model.specs.Piece.{tight}
@@ -15,7 +8,6 @@ use Rattle.model.specs.Text.{andThen, causeIn}
 use Rattle.model.specs.JobText.{JobLine, PieceLine, pixelMark, Rows, rowsAt, boxShape, PieceText, rowsCauses, asPieceText, pieceLine, pieceAt, Pieces}
 use Rattle.model.specs.JobText.{withPiece, noPieces, piecesAt, asLent, bufferCauses, jobLine, readJob}
 use Rattle.model.specs.declared.Refusal.{Refusal}
-use borrow.Author.Tests.{eq-eqb, ne-eqb}
 use Rattle.list_laws.proofs.Stores.{sets-append}
 use Rattle.text_laws.specs.Outcomes.{Unless}
 use Rattle.text_laws.proofs.Outcomes.{refused-given, given-before, given-unless}

@@ -1,13 +1,5 @@
 -- Lines of a box as evenly spaced bytes, and the parts of the check of a table. Assumes nothing.
-use mathlib.Core.Bool.{Bool, true, _&&_}
-use mathlib.Core.List.{List}
-use mathlib.Core.Path.{_≡_, ap}
-use Prim.Native.Nat.{ℕ, _+_, _-_, _*_, _≤_, _<_}
-use native.Mathlib.Nat.{mul-le-mul}
-use native.Mathlib.Omega.{arith}
-use lib.Dec.{leb, eqb}
-use lib.ListN.{length, getD}
-use borrow.Author.Tests.{leb-true}
+use Rattle.list_laws.proofs.Kit.{_≡_, ap, Bool, _&&_, true, List, _*_, _+_, _-_, _<_, _≤_, ℕ, mul-le-mul, arith, eqb, leb, getD, length, leb-true}
 use Rattle.model.specs.Bounded.{allBelow}
 use Rattle.model.specs.Piece.{holds, sideBound}
 use Rattle.model.specs.Lent.{areaBound, pieceBound, entryColumns, entryRows, entryTurns, pixelStart, sheetInRange, entryInRange, entryFits}

@@ -1,12 +1,6 @@
 -- Document 01, 'When a call says no', number 8: what a lent job that passes its check gives. The check is a list of tests; each is taken
 -- apart, and the parts make the check again. Assumes nothing.
-use mathlib.Core.Bool.{Bool, true, _&&_}
-use mathlib.Core.Path.{_≡_, refl}
-use Prim.Native.Nat.{ℕ, _+_, _-_, _*_, _%_, _≤_, _<_}
-use native.Mathlib.Omega.{arith}
-use lib.Dec.{leb, eqb}
-use lib.ListN.{length, getD}
-use borrow.Author.Tests.{leb-true, le-leb}
+use Rattle.list_laws.proofs.Kit.{_≡_, refl, Bool, _&&_, true, _%_, _*_, _+_, _-_, _<_, _≤_, ℕ, arith, eqb, leb, getD, length, le-leb, leb-true}
 use Rattle.model.specs.Bounded.{allBelow}
 use Rattle.model.specs.Piece.{tight, extent}
 use Rattle.model.specs.Overlap.{offsetBound}

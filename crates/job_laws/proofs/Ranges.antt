@@ -1,11 +1,5 @@
 -- What a number, a sheet and an entry in range give: each test is a list of tests, taken apart. Assumes nothing.
-use mathlib.Core.Bool.{Bool, true, _&&_}
-use mathlib.Core.List.{List}
-use mathlib.Core.Path.{_≡_}
-use Prim.Native.Nat.{ℕ, _*_, _%_, _≤_}
-use native.Mathlib.Nat.{mul-le-mul}
-use lib.Dec.{leb, eqb}
-use borrow.Author.Tests.{leb-true}
+use Rattle.list_laws.proofs.Kit.{_≡_, Bool, _&&_, true, List, _%_, _*_, _≤_, ℕ, mul-le-mul, eqb, leb, leb-true}
 use Rattle.model.specs.Lent.{rowBound, columnBound, pieceBound, areaBound, turnsBound, sideBound, upTo, numbersInRange, sheetInRange}
 use Rattle.model.specs.Lent.{entryColumns, entryRows, entryTurns, entryInRange}
 use Rattle.model.specs.declared.JobSize.{JobSize}

@@ -1,9 +1,5 @@
 -- Where a piece's pixels begin and end in the store: the begins are sums of areas, which grow. Assumes nothing.
-use mathlib.Core.List.{List}
-use mathlib.Core.Path.{_≡_}
-use Prim.Native.Nat.{ℕ, zero, suc, _+_, _-_, _≤_, _<_}
-use native.Mathlib.Nat.{add-zero, add-suc}
-use native.Mathlib.Omega.{arith}
+use Rattle.list_laws.proofs.Kit.{_≡_, List, _+_, _-_, _<_, _≤_, suc, zero, ℕ, add-suc, add-zero, arith}
 use Rattle.model.specs.Lent.{entryArea, pixelStart}
 
 -- later pieces begin no earlier

@@ -1,5 +1,5 @@
 -- A turned box has the sides of the box: half of the turns exchange them. Assumes nothing.
-use Prim.Native.Nat.{ℕ, _≤_}
+use Rattle.list_laws.proofs.Kit.{_≤_, ℕ}
 use Rattle.model.specs.Piece.{Shape, turned, extent}
 use Rattle.model.specs.declared.Turn.{Turn}
 use Rattle.model.specs.declared.Turn.the-variants.{Zero, Quarter, Half, ThreeQuarters}

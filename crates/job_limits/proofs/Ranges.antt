@@ -1,8 +1,5 @@
 -- What numbers in range say of their bounds. Assumes nothing.
-use mathlib.Core.Bool.{true}
-use mathlib.Core.Path.{_≡_}
-use Prim.Native.Nat.{_*_, _≤_}
-use native.Mathlib.Nat.{mul-le-mul}
+use Rattle.list_laws.proofs.Kit.{_≡_, true, _*_, _≤_, mul-le-mul}
 use Rattle.model.specs.Lent.{pieceBound, rowBound, columnBound, numbersInRange}
 use Rattle.model.specs.declared.JobSize.{JobSize}
 use Rattle.job_laws.proofs.Ranges.{up-to, number-facts}

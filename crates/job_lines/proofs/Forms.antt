@@ -1,10 +1,5 @@
 -- The form of a line and then its ranges, and what its refusal says. Assumes nothing.
-use mathlib.Core.Bool.{Bool, true, false}
-use mathlib.Core.List.{List, [], _∷_}
-use mathlib.Core.Path.{_≡_, refl, sym, ap}
-use Prim.Native.Nat.{ℕ, _≤_}
-use native.Mathlib.Nat.{le-refl}
-use native.Mathlib.Omega.{arith}
+use Rattle.list_laws.proofs.Kit.{_≡_, ap, refl, sym, Bool, false, true, List, [], _∷_, _≤_, ℕ, le-refl, arith}
 use Rattle.model.specs.Refusal.{Outcome, refused, given, Cause, refusalOf, unless, wrongForm}
 use Rattle.model.specs.Text.{Reading, wrong, got, threeFields, fourFields, lineAt, formed}
 use Rattle.model.specs.JobText.{JobLine, PieceLine, jobWord, pieceWord, asJobLine, asPieceLine, jobLine, jobLineCauses, pieceLine, pieceLineCauses}

@@ -1,15 +1,7 @@
 -- Marks and row lines: storing them step by step, and where they stand in the text. Assumes nothing.
-use mathlib.Core.Bool.{Bool, true, false}
-use mathlib.Core.List.{List, [], _∷_, _++_}
-use mathlib.Core.Logic.{_⊎_, inl, inr}
-use mathlib.Core.Path.{_≡_, refl, sym, _∙_, ap, subst₂}
-use Prim.Native.Nat.{ℕ, zero, suc, _+_, _*_, _≤_, _<_}
-use native.Mathlib.Nat.{add-zero, suc-mul}
-use native.Mathlib.Omega.{arith}
-use lib.Dec.{eqb}
-use lib.ListN.{length, length-append, getD, set, List·getD-append}
-use lib.Seq.{sets, getD-append-add}
-use borrow.Author.Tests.{eqb-true, eqb-false}
+use Rattle.list_laws.proofs.Kit.{_∙_, _≡_, ap, refl, subst₂, sym, Bool, false, true, _⊎_, inl, inr, List, [], _++_, _∷_, _*_, _+_, _<_, _≤_, suc, zero, ℕ}
+use Rattle.list_laws.proofs.Kit.{add-zero, suc-mul, arith, eqb, List·getD-append, getD, length, length-append, set, getD-append-add, sets, eqb-false}
+use Rattle.list_laws.proofs.Kit.{eqb-true}
 use Rattle.model.specs.Refusal.{Outcome, refused, given, wrongForm}
 use Rattle.model.specs.Text.{byte, Reading, wrong, got, onward, after, standsAt, lineEnd, formed, andThen}
 use Rattle.model.specs.JobText.{rowWord, pixelMark, emptyMark, markAt, marksAt, rowAt, Rows, rowsAt}

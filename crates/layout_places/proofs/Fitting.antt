@@ -1,8 +1,5 @@
 -- A lent job that passes its check has a table whose boxes fit the sheet. Assumes nothing.
-use mathlib.Core.Bool.{true}
-use mathlib.Core.List.{List}
-use mathlib.Core.Path.{_≡_}
-use Prim.Native.Nat.{ℕ}
+use Rattle.list_laws.proofs.Kit.{_≡_, true, List, ℕ}
 use Rattle.model.specs.Lent.{lentBy, lentWell}
 use Rattle.model.specs.declared.JobSize.{JobSize}
 use Rattle.job_laws.proofs.Checked.{facts}

@@ -1,12 +1,5 @@
 -- Placements in a layout buffer, found in their entries, and what the answers for a turn say. Assumes nothing.
-use mathlib.Core.Bool.{false, _&&_}
-use mathlib.Core.List.{List, []}
-use mathlib.Core.Option.{Option, none, some}
-use mathlib.Core.Path.{_≡_, refl}
-use Prim.Native.Nat.{ℕ, _+_, _<_}
-use native.Mathlib.Omega.{arith}
-use lib.Dec.{leb}
-use lib.ListN.{getD, List·getD-map}
+use Rattle.list_laws.proofs.Kit.{_≡_, refl, _&&_, false, Option, none, some, List, [], _+_, _<_, ℕ, arith, leb, List·getD-map, getD}
 use Rattle.model.specs.Piece.{turnBit, allows}
 use Rattle.model.specs.Layout.{Job, inside, placeOf, turnedPiece}
 use Rattle.model.specs.Buffer.{turnOf, turnOfDegrees, placementOf, layoutOf}

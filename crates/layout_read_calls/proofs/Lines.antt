@@ -1,12 +1,6 @@
 -- The causes of a line, as the reader meets them one after the other. Assumes nothing.
-use mathlib.Core.Bool.{Bool, true, false, _&&_}
-use mathlib.Core.List.{List, [], _∷_}
-use mathlib.Core.Option.{Option, none, some}
-use mathlib.Core.Path.{_≡_, refl, sym, ap₂, _∙_}
-use Prim.Native.Nat.{ℕ, _+_, _<_, _≤_, min}
-use native.Mathlib.Omega.{arith}
-use borrow.Author.Tests.{ne-eqb, leb-true, leb-false, lt-leb}
-use lib.Dec.{leb, eqb}
+use Rattle.list_laws.proofs.Kit.{_∙_, _≡_, ap₂, refl, sym, Bool, _&&_, false, true, Option, none, some, List, [], _∷_, _+_, _<_, _≤_, min, ℕ, arith, eqb, leb}
+use Rattle.list_laws.proofs.Kit.{leb-false, leb-true, lt-leb, ne-eqb}
 use Rattle.model.specs.Layout.{Job, allowed, inside, turnedPiece}
 use Rattle.model.specs.Refusal.{Outcome, refused, given, Cause, unless, refusalOf, wrongForm, outOfRange, noSuchPiece, outsideSheet}
 use Rattle.model.specs.Lent.{rowBound, columnBound}

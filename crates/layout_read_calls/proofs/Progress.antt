@@ -1,14 +1,7 @@
 -- The lines of the pieces, read one after the other: what is read so far is at the front of the buffer, and what is left decides the
 -- whole. Assumes nothing.
-use mathlib.Core.Bool.{true}
-use mathlib.Core.List.{List, [], _∷_, _++_, append-nil, map-append}
-use mathlib.Core.Path.{_≡_, refl, sym, _∙_, ap}
-use Prim.Native.Nat.{ℕ, suc, _+_, _-_, _<_, _≤_}
-use native.Mathlib.Numerals.{add-one}
-use native.Mathlib.Omega.{arith}
-use borrow.Author.Tests.{eq-eqb, ne-eqb}
-use lib.ListN.{length, set, length-append, length-map}
-use lib.Seq.{sets, append-snoc}
+use Rattle.list_laws.proofs.Kit.{_∙_, _≡_, ap, refl, sym, true, List, [], _++_, _∷_, append-nil, map-append, _+_, _-_, _<_, _≤_, suc, ℕ, add-one, arith}
+use Rattle.list_laws.proofs.Kit.{length, length-append, length-map, set, append-snoc, sets, eq-eqb, ne-eqb}
 use Rattle.model.specs.Layout.{Job, Layout}
 use Rattle.model.specs.Refusal.{Outcome, refused, given, unless, refusalOf, wrongForm}
 use Rattle.model.specs.Buffer.{entryOf, entriesOf}

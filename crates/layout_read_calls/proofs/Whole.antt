@@ -1,12 +1,6 @@
 -- What reading a layout comes to, by its parts: the job's check, the layout line, the pieces' lines, the buffer's length. Assumes
 -- nothing.
-use mathlib.Core.Bool.{true, false}
-use mathlib.Core.List.{List, [], _∷_}
-use mathlib.Core.Path.{_≡_, refl, ap}
-use Prim.Native.Nat.{ℕ, zero, suc}
-use native.Mathlib.Omega.{arith}
-use borrow.Author.Tests.{eq-eqb, ne-eqb}
-use lib.ListN.{length}
+use Rattle.list_laws.proofs.Kit.{_≡_, ap, refl, false, true, List, [], _∷_, suc, zero, ℕ, arith, length, eq-eqb, ne-eqb}
 use Rattle.model.specs.Layout.{Job, Layout}
 use Rattle.model.specs.Refusal.{Outcome, refused, given, unless, plainRefusal, wrongLength, notOurs}
 use Rattle.model.specs.Lent.{Lent, jobOf, lentWell}

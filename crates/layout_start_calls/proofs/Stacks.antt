@@ -1,15 +1,8 @@
 -- The stacks of the start layout over the entries of a layout buffer. The order holds every piece, so that what the buffer held
 -- before plays no part. Assumes nothing.
-use mathlib.Core.List.{List, [], _∷_, List·Memᴰ, List·Memᴰ·cases-cons, List·Memᴰ·not-nil}
-use mathlib.Core.Logic.{⊎-elim}
-use mathlib.Core.Path.{_≡_, refl, sym, ap, _∙_}
-use Prim.Native.Nat.{ℕ, zero, suc, _+_, _<_, _≤_}
-use native.Mathlib.Decide.{ℕ-discrete}
-use native.Mathlib.Numerals.{add-one}
-use native.Mathlib.Omega.{arith}
-use borrow.Author.Tests.{lt-ltb, le-ltb}
-use lib.ListN.{length, getD, drop, set, length-set, length-map, length-replicate, replicate}
-use lib.Seq.{drop-cons, ext-getD, getD-set-same, getD-set-other}
+use Rattle.list_laws.proofs.Kit.{_∙_, _≡_, ap, refl, sym, ⊎-elim, List, List·Memᴰ, List·Memᴰ·cases-cons, List·Memᴰ·not-nil, [], _∷_, _+_, _<_, _≤_, suc, zero}
+use Rattle.list_laws.proofs.Kit.{ℕ, add-one, arith, drop, getD, length, length-map, length-replicate, length-set, replicate, set, drop-cons, ext-getD}
+use Rattle.list_laws.proofs.Kit.{getD-set-other, getD-set-same, le-ltb, lt-ltb, ℕ-discrete}
 use Rattle.model.specs.Layout.{Job, Layout, origin}
 use Rattle.model.specs.Start.{boxRows, Stack, roomFor, onStack, stacked, stackAll, fallingOrder, start}
 use Rattle.model.specs.Lent.{Lent, jobOf}

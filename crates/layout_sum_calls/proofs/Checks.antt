@@ -1,7 +1,5 @@
 -- What the check says. Assumes nothing.
-use mathlib.Core.List.{[], _∷_}
-use mathlib.Core.Option.{Option, none, some}
-use mathlib.Core.Path.{_≡_, refl}
+use Rattle.list_laws.proofs.Kit.{_≡_, refl, Option, none, some, [], _∷_}
 use Rattle.model.specs.Answers.{doneAnswer}
 use Rattle.model.specs.Layout.{Pair}
 use Rattle.model.specs.Refusal.{unless}

@@ -1,12 +1,5 @@
 -- The first pair that shares a pixel, found row by row. Assumes nothing.
-use mathlib.Core.Bool.{Bool, true, false}
-use mathlib.Core.List.{List, _++_}
-use mathlib.Core.Option.{Option, none, some}
-use mathlib.Core.Path.{_≡_, sym, ap, _∙_}
-use Prim.Native.Nat.{ℕ, suc, _+_, _-_, _<_, _≤_}
-use native.Mathlib.Numerals.{add-one}
-use native.Mathlib.Omega.{arith}
-use lib.ListN.{length}
+use Rattle.list_laws.proofs.Kit.{_∙_, _≡_, ap, sym, Bool, false, true, Option, none, some, List, _++_, _+_, _-_, _<_, _≤_, suc, ℕ, add-one, arith, length}
 use Rattle.model.specs.Layout.{Pair, pairOf, pairsWith, pairsFrom, pairShares, firstPair, sharingPair}
 use Rattle.model.specs.Lent.{Lent, jobOf}
 use Rattle.model.specs.Buffer.{layoutOf}

@@ -1,11 +1,6 @@
 -- What is written one after the other. Assumes nothing.
-use mathlib.Core.List.{List, [], _∷_, _++_, append-assoc}
-use mathlib.Core.Path.{_≡_, sym, _∙_, ap}
-use Prim.Native.Nat.{ℕ, _+_, _<_, _≤_}
-use native.Mathlib.Numerals.{add-one}
-use native.Mathlib.Omega.{arith}
-use lib.ListN.{length, getD, drop, set, length-append, drop-of-length-le}
-use lib.Seq.{sets, append-snoc, drop-cons}
+use Rattle.list_laws.proofs.Kit.{_∙_, _≡_, ap, sym, List, [], _++_, _∷_, append-assoc, _+_, _<_, _≤_, ℕ, add-one, arith, drop, drop-of-length-le, getD}
+use Rattle.list_laws.proofs.Kit.{length, length-append, set, append-snoc, drop-cons, sets}
 use Rattle.model.specs.Layout.{Layout, origin, placeOf}
 use Rattle.model.specs.Buffer.{entryOf}
 use Rattle.model.specs.Text.{comma, lineEnd, digits, threeFields, fieldsText, lineText}

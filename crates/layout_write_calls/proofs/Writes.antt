@@ -1,10 +1,6 @@
 -- What writing a layout comes to: refused by a cause of the layout, refused for a text buffer that is too short, or written.
 -- Assumes nothing.
-use mathlib.Core.List.{List}
-use mathlib.Core.Path.{_≡_, _∙_}
-use Prim.Native.Nat.{ℕ, _<_, _≤_}
-use borrow.Author.Tests.{lt-ltb, le-ltb}
-use lib.ListN.{length}
+use Rattle.list_laws.proofs.Kit.{_∙_, _≡_, List, _<_, _≤_, ℕ, length, le-ltb, lt-ltb}
 use Rattle.model.specs.Refusal.{refused, given, unless, plainRefusal, wrongLength}
 use Rattle.model.specs.Lent.{Lent, jobOf}
 use Rattle.model.specs.Buffer.{layoutOf}

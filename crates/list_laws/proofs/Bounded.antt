@@ -1,11 +1,6 @@
 -- What the searches below a bound find. Assumes nothing.
-use mathlib.Core.Bool.{Bool, true, false, not, false≢true}
-use mathlib.Core.Path.{_≡_, refl, sym, _∙_, ap}
-use mathlib.Core.Logic.{_⊎_, inl, inr, ⊎-elim}
-use Prim.Native.Nat.{ℕ, zero, suc, _+_, _<_, _≤_}
-use native.Mathlib.Nat.{not-suc-le-zero, add-suc, eq-or-lt-of-le, le-refl}
-use native.Mathlib.Omega.{arith}
-use borrow.Author.Tests.{not-true, not-false}
+use Rattle.list_laws.proofs.Kit.{_∙_, _≡_, ap, refl, sym, Bool, false, false≢true, not, true, _⊎_, inl, inr, ⊎-elim, _+_, _<_, _≤_, suc, zero, ℕ}
+use Rattle.list_laws.proofs.Kit.{add-suc, eq-or-lt-of-le, le-refl, not-suc-le-zero, arith, not-false, not-true}
 use Rattle.model.specs.Bounded.{anyBelow, allBelow, firstFrom}
 use Rattle.list_laws.proofs.Tests.{same-tests, fails, clash}
 use Rattle.list_laws.proofs.Numbers.{below-suc}

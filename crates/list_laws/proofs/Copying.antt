@@ -1,12 +1,6 @@
 -- A buffer while it is copied, element by element. Assumes nothing.
-use mathlib.Core.List.{List}
-use mathlib.Core.Logic.{⊎-elim}
-use mathlib.Core.Path.{_≡_, _∙_}
-use Prim.Native.Nat.{ℕ, _+_, _<_, _≤_}
-use native.Mathlib.Nat.{eq-or-lt-of-le}
-use native.Mathlib.Omega.{arith}
-use lib.ListN.{length, getD, set, length-set}
-use lib.Seq.{ext-getD, getD-set-same, getD-set-other}
+use Rattle.list_laws.proofs.Kit.{_∙_, _≡_, ⊎-elim, List, _+_, _<_, _≤_, ℕ, eq-or-lt-of-le, arith, getD, length, length-set, set, ext-getD}
+use Rattle.list_laws.proofs.Kit.{getD-set-other, getD-set-same}
 
 -- the elements below k are copied; d stands for those that are not there
 pub record Copying {A : Type 0} (d : A) (from to : List A) (k : ℕ) : Type 0 where

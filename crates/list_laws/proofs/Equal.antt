@@ -1,12 +1,6 @@
 -- Document 01, 'When a call says no', refusal 8 of stores, stretches and strips: the two tests of lent lists, of numbers and of
 -- entries, pass exactly where the lists are equal. Assumes nothing.
-use mathlib.Core.Bool.{true, false≢true}
-use mathlib.Core.List.{List, [], _∷_}
-use mathlib.Core.Logic.{_↔_}
-use mathlib.Core.Path.{_≡_, refl, ap₂}
-use Prim.Native.Nat.{ℕ}
-use borrow.Author.Tests.{eqb-true, eq-eqb}
-use lib.Dec.{eqb}
+use Rattle.list_laws.proofs.Kit.{_≡_, ap₂, refl, false≢true, true, _↔_, List, [], _∷_, ℕ, eqb, eq-eqb, eqb-true}
 use Rattle.model.specs.Buffer.{sameNumbers, sameEntries}
 use Rattle.list_laws.proofs.Tests.{and-left, and-right, and-both}
 

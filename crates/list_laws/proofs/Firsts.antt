@@ -1,9 +1,5 @@
 -- The first number that passes a test, below a bound: its description fixes it, and a lesser bound cuts it off. Assumes nothing.
-use mathlib.Core.Bool.{Bool, true, false}
-use mathlib.Core.Path.{_≡_, sym, ap, _∙_}
-use Prim.Native.Nat.{ℕ, zero, suc, _+_, _-_, min, _<_, _≤_}
-use native.Mathlib.Nat.{le-antisymm}
-use native.Mathlib.Omega.{arith, by-contra}
+use Rattle.list_laws.proofs.Kit.{_∙_, _≡_, ap, sym, Bool, false, true, _+_, _-_, _<_, _≤_, min, suc, zero, ℕ, le-antisymm, arith, by-contra}
 use Rattle.model.specs.Bounded.{firstFrom}
 use Rattle.list_laws.proofs.Tests.{clash}
 use Rattle.list_laws.proofs.Bounded.{First, first-from}

@@ -10,3 +10,4 @@ pub mod Equal
 pub mod Stores
 pub mod Passes
 pub mod Copying
+pub mod Kit

@@ -1,11 +1,6 @@
 -- Lists: what is an element, lists with no element, maps and repeats. Assumes nothing.
-use mathlib.Core.List.{List, [], _∷_, _++_, map, List·Memᴰ, List·Memᴰ·head, List·Memᴰ·tail, List·Memᴰ·not-nil}
-use mathlib.Core.Path.{_≡_, refl, sym, ap}
-use Prim.Native.Nat.{ℕ, zero, suc, _<_, _≤_}
-use native.Mathlib.Nat.{not-suc-le-zero, le-of-suc-le-suc}
-use native.Mathlib.Omega.{arith}
-use lib.ListN.{length, getD, set, take, replicate}
-use lib.Seq.{length-take-le}
+use Rattle.list_laws.proofs.Kit.{_≡_, ap, refl, sym, List, List·Memᴰ, List·Memᴰ·head, List·Memᴰ·not-nil, List·Memᴰ·tail, [], _++_, _∷_, map, _<_, _≤_}
+use Rattle.list_laws.proofs.Kit.{suc, zero, ℕ, le-of-suc-le-suc, not-suc-le-zero, arith, getD, length, replicate, set, take, length-take-le}
 
 -- the element at a place is in the list
 pub member-at : {A : Type 0} (l : List A) (i : ℕ) (z : A) → i < length l → List·Memᴰ (getD l i z) l

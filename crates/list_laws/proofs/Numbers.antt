@@ -1,12 +1,6 @@
 -- Numbers: which of two is below the other, places in rows of one length, and factors. Assumes nothing.
-use mathlib.Core.Logic.{_⊎_, inl, inr, ⊎-elim, _≢_}
-use mathlib.Core.Path.{_≡_}
-use Prim.Native.Nat.{ℕ, zero, suc, _+_, _*_, _<_, _≤_}
-use native.Mathlib.Decide.{decLt}
-use native.Mathlib.Nat.{eq-or-lt-of-le, le-of-suc-le-suc, mul-le-mul-right, suc-mul, zero-mul}
-use native.Mathlib.Omega.{arith}
-use borrow.Author.Tests.{ltb-true, ltb-false}
-use lib.Dec.{ltb}
+use Rattle.list_laws.proofs.Kit.{_≡_, _≢_, _⊎_, inl, inr, ⊎-elim, _*_, _+_, _<_, _≤_, suc, zero, ℕ, eq-or-lt-of-le, le-of-suc-le-suc, mul-le-mul-right}
+use Rattle.list_laws.proofs.Kit.{suc-mul, zero-mul, arith, ltb, ltb-false, ltb-true, decLt}
 use Rattle.list_laws.proofs.Tests.{decided}
 
 -- a number is below another or not

@@ -1,12 +1,6 @@
 -- Loops that go over a list once, up or down, and set each place: what is done and what is left as it was. Assumes nothing.
-use mathlib.Core.List.{List}
-use mathlib.Core.Logic.{⊎-elim}
-use mathlib.Core.Path.{_≡_, refl, sym, _∙_, subst}
-use Prim.Native.Nat.{ℕ, _+_, _<_, _≤_}
-use native.Mathlib.Nat.{eq-or-lt-of-le}
-use native.Mathlib.Omega.{arith}
-use lib.ListN.{length, getD, set, length-set}
-use lib.Seq.{getD-set-same, getD-set-other}
+use Rattle.list_laws.proofs.Kit.{_∙_, _≡_, refl, subst, sym, ⊎-elim, List, _+_, _<_, _≤_, ℕ, eq-or-lt-of-le, arith, getD, length, length-set, set}
+use Rattle.list_laws.proofs.Kit.{getD-set-other, getD-set-same}
 use Rattle.list_laws.proofs.Numbers.{below-or}
 
 -- the places below k are done, each as P says, and the others are as they were

@@ -1,8 +1,5 @@
 -- What a loop that ends at the first failure or the first find has shown. Assumes nothing.
-use mathlib.Core.Bool.{Bool, true, false, not}
-use mathlib.Core.Path.{_≡_, sym, ap}
-use Prim.Native.Nat.{ℕ, _<_, _≤_}
-use native.Mathlib.Omega.{arith}
+use Rattle.list_laws.proofs.Kit.{_≡_, ap, sym, Bool, false, not, true, _<_, _≤_, ℕ, arith}
 use Rattle.model.specs.Bounded.{anyBelow, allBelow}
 use Rattle.list_laws.proofs.Bounded.{any-from, none-any, all-from}
 

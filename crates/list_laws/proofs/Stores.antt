@@ -1,11 +1,7 @@
 -- Runs of stores, one after the other. Assumes nothing.
-use mathlib.Core.List.{List, [], _∷_, _++_, append-assoc, append-nil}
-use mathlib.Core.Path.{_≡_, refl, sym, _∙_, ap}
-use Prim.Native.Nat.{ℕ, suc, _+_, _≤_, _<_}
-use native.Mathlib.Nat.{add-zero, zero-add, add-suc, suc-add}
-use native.Mathlib.Omega.{arith}
-use lib.ListN.{length, set, getD, take, drop, length-take, length-drop, drop-of-length-le, take-append-drop}
-use lib.Seq.{sets, sets-eq, drop-cons, take-append-le, drop-append-le, take-at, drop-at}
+use Rattle.list_laws.proofs.Kit.{_∙_, _≡_, ap, refl, sym, List, [], _++_, _∷_, append-assoc, append-nil, _+_, _<_, _≤_, suc, ℕ, add-suc, add-zero}
+use Rattle.list_laws.proofs.Kit.{suc-add, zero-add, arith, drop, drop-of-length-le, getD, length, length-drop, length-take, set, take}
+use Rattle.list_laws.proofs.Kit.{take-append-drop, drop-append-le, drop-at, drop-cons, sets, sets-eq, take-append-le, take-at}
 use Rattle.model.specs.Buffer.{filled}
 
 -- two runs, the second behind the first

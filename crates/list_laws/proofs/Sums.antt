@@ -1,11 +1,6 @@
 -- Laws of sums below a bound: a loop that adds f 0, f 1, .. in this order has `sumBelow k f` before it adds f k. Assumes nothing.
-use mathlib.Core.Bool.{Bool, true, false}
-use mathlib.Core.Path.{_≡_, refl, ap}
-use mathlib.Core.Logic.{_⊎_, inl, inr, _≢_}
-use Prim.Native.Nat.{ℕ, zero, suc, _+_, _*_, _-_, _<_, _≤_}
-use native.Mathlib.Nat.{le-refl, eq-or-lt-of-le, le-of-suc-le-suc, add-suc, add-zero, suc-mul}
-use native.Mathlib.Numerals.{add-one}
-use native.Mathlib.Omega.{arith}
+use Rattle.list_laws.proofs.Kit.{_≡_, ap, refl, Bool, false, true, _≢_, _⊎_, inl, inr, _*_, _+_, _-_, _<_, _≤_, suc, zero, ℕ, add-one, add-suc}
+use Rattle.list_laws.proofs.Kit.{add-zero, eq-or-lt-of-le, le-of-suc-le-suc, le-refl, suc-mul, arith}
 use Rattle.model.specs.Bounded.{sumBelow, oneIf}
 
 -- one more term

@@ -1,8 +1,5 @@
 -- Facts from tests: a Bool that is an `and`, an `or` or a `not`, and Bools that imply each other. Assumes nothing.
-use mathlib.Core.Bool.{Bool, true, false, not, _&&_, _||_, true≢false, false≢true}
-use mathlib.Core.Path.{_≡_, refl, sym, _∙_}
-use mathlib.Core.Logic.{_⊎_, inl, inr}
-use borrow.Author.Tests.{not-true, not-false}
+use Rattle.list_laws.proofs.Kit.{_∙_, _≡_, refl, sym, Bool, _&&_, _||_, false, false≢true, not, true, true≢false, _⊎_, inl, inr, not-false, not-true}
 
 pub and-left : (a b : Bool) → (a && b) ≡ true → a ≡ true
 and-left true b e = refl

@@ -37,12 +37,14 @@ use Rattle.model.specs.Bounded.{anyBelow}
 use Rattle.model.specs.Piece.{Shape, tight, sideBound}
 use Rattle.model.specs.Strip.{strips, rebuilt}
 use Rattle.model.specs.Overlap.{OffsetRun, noFit}
-use Rattle.model.specs.Layout.{Job, Layout, Pair, pairOf, pairs, turnedPiece, allowed, inside, placeOf, pairShares, pairPenalty, pairDepth, weightedSum, plainSum, usedLength, sharingPair}
+use Rattle.model.specs.Layout.{Job, Layout, Pair, pairOf, pairs, turnedPiece, allowed, inside, placeOf, pairShares, pairPenalty, pairDepth, weightedSum}
+use Rattle.model.specs.Layout.{plainSum, usedLength, sharingPair}
 use Rattle.model.specs.Search.{Best, places, searchLine}
 use Rattle.model.specs.Descent.{Descent, descend}
 use Rattle.model.specs.Guided.{Guided, guide, weightBound}
 use Rattle.model.specs.Start.{start}
-use Rattle.model.specs.Refusal.{Outcome, refused, given, Cause, cause, unless, outOfRange, wrongLength, notOurs, noSuchPiece, outsideSheet, emptyLine, sharedPixel}
+use Rattle.model.specs.Refusal.{Outcome, refused, given, Cause, cause, unless, outOfRange, wrongLength, notOurs, noSuchPiece, outsideSheet, emptyLine}
+use Rattle.model.specs.Refusal.{sharedPixel}
 use Rattle.model.specs.Lent.{Lent, jobOf, lentWell, upTo}
 use Rattle.model.specs.Buffer.{turnPasses, layoutOf, entriesOf, stripEntry, entryStrip, runEntry, bytesOf, filled, sameEntries}
 use Rattle.model.specs.Text.{andThen}

@@ -129,5 +129,7 @@ examples = P1 && P2 && P3 && P4 && P5 && P6 && P7 && P8 && P9 && P10 && P11 && P
 
 -- P1 to P12 hold of the definitions
 pub examples-hold : examples ≡ true
-unfolding examples P1 P2 P3 P4 P5 P6 P7 P8 P9 P10 P11 P12 sameNumbers flatStrips signed flatRuns flatBest flatDescent shapeA shapeB shapeD shapeE at place twoSquares measures descentOf runsFrom stripsFrom noFitAt noFit share apartAt depth penalty pairsWith pairsFrom pairPenalty sumOver weightedSum pieceSum inside places sumAt least searchLine turnTrials pieceTrials trialsFrom trials attempt descendFrom descend Rattle.model.specs.Piece.allows
+unfolding examples P1 P2 P3 P4 P5 P6 P7 P8 P9 P10 P11 P12 sameNumbers flatStrips signed flatRuns flatBest flatDescent shapeA shapeB shapeD shapeE at place
+    twoSquares measures descentOf runsFrom stripsFrom noFitAt noFit share apartAt depth penalty pairsWith pairsFrom pairPenalty sumOver weightedSum pieceSum
+    inside places sumAt least searchLine turnTrials pieceTrials trialsFrom trials attempt descendFrom descend Rattle.model.specs.Piece.allows
 examples-hold = refl

@@ -6,7 +6,8 @@ use Prim.Native.Nat.{ℕ, zero, suc, _+_, _*_, _%_}
 use lib.Dec.{leb, ltb, eqb}
 use lib.ListN.{length, getD}
 use Rattle.model.specs.Piece.{Shape, tight, sideBound}
-use Rattle.model.specs.Refusal.{Outcome, given, Cause, cause, unless, wrongForm, outOfRange, sheetTooLarge, boxesTooLarge, looseBox, boxTooLarge, wrongLength}
+use Rattle.model.specs.Refusal.{Outcome, given, Cause, cause, unless, wrongForm, outOfRange, sheetTooLarge, boxesTooLarge, looseBox, boxTooLarge}
+use Rattle.model.specs.Refusal.{wrongLength}
 use Rattle.model.specs.Lent.{Lent, turnsBound, areaBound, upTo, numbersInRange}
 use Rattle.model.specs.declared.JobSize.{JobSize}
 use Rattle.model.specs.Text.{bytes, byte, lineEnd, Reading, wrong, got, onward, after, threeFields, fourFields, lineAt, field, causeIn, formed, andThen}

@@ -61,7 +61,8 @@ firstRowLine =
 
 -- a piece is read so
 pub first-row-line-holds : firstRowLine ≡ true
-unfolding firstRowLine rowOf flat sameNumbers tight unless jobOf pixelStart standsAt digitsFrom numberAt fieldAt fieldsAt jobLine pieceLine markAt marksAt rowAt rowsAt pieceAt piecesAt readJob
+unfolding firstRowLine rowOf flat sameNumbers tight unless jobOf pixelStart standsAt digitsFrom numberAt fieldAt fieldsAt jobLine pieceLine markAt marksAt
+    rowAt rowsAt pieceAt piecesAt readJob
 first-row-line-holds = refl
 
 -- two full 2 × 2 pieces, o = 1
@@ -152,7 +153,8 @@ secondPiece area =
 -- pieces 1 and 2 after boxes of the given area, from line 9 on; the row lines of piece 2 are missing
 laterPieces : ℕ → List ℕ
 laterPieces area =
-    flat flatPieces (piecesAt (bytes "piece,1,1,1,1\nrow,#\npiece,2,2,2,1\n") (record { size = record { rows = 2; columns = 4; count = 3 }; next = 0 }) 2 1 area 0 9)
+    flat flatPieces
+    (piecesAt (bytes "piece,1,1,1,1\nrow,#\npiece,2,2,2,1\n") (record { size = record { rows = 2; columns = 4; count = 3 }; next = 0 }) 2 1 area 0 9)
 
 -- box areas so far: up to 65,536, and above, by this box or by those before it
 boxAreas : Bool
@@ -249,5 +251,8 @@ textExamples =
 
 -- the texts are read, written and refused as document 01 says
 pub text-examples-hold : textExamples ≡ true
-unfolding textExamples reads jobLineForm jobLineRange pieceLines boxAreas rowLines layoutWritten layoutDamaged turnsRead joined flat flatLent flatPiece flatPieces flatLayout example bars turnedText readWith refuses secondPiece laterPieces layoutWith layoutRefuses startText sameNumbers tight allows inside unless jobOf pixelStart standsAt digitsFrom numberAt fieldAt fieldsAt decimal fieldsText jobLine pieceLine markAt marksAt rowAt rowsAt pieceAt piecesAt readJob turnOfDegrees isTurn turnOf placementsText layoutText layoutLine placementLine placementsAt readLayout start stackAll fallingOrder insert
+unfolding textExamples reads jobLineForm jobLineRange pieceLines boxAreas rowLines layoutWritten layoutDamaged turnsRead joined flat flatLent flatPiece
+    flatPieces flatLayout example bars turnedText readWith refuses secondPiece laterPieces layoutWith layoutRefuses startText sameNumbers tight allows inside
+    unless jobOf pixelStart standsAt digitsFrom numberAt fieldAt fieldsAt decimal fieldsText jobLine pieceLine markAt marksAt rowAt rowsAt pieceAt piecesAt
+    readJob turnOfDegrees isTurn turnOf placementsText layoutText layoutLine placementLine placementsAt readLayout start stackAll fallingOrder insert
 text-examples-hold = refl

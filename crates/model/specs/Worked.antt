@@ -11,7 +11,8 @@ use lib.ListN.{getD, replicate}
 use Rattle.model.specs.Piece.{Shape, allows, tight}
 use Rattle.model.specs.Strip.{runsFrom, stripsFrom, strips}
 use Rattle.model.specs.Overlap.{share, apartAt, depth, penalty}
-use Rattle.model.specs.Layout.{Job, Layout, pairsWith, pairsFrom, pairShares, pairPenalty, sumOver, weightedSum, plainSum, pieceSum, unitWeights, rightmost, usedLength, inside, placeOf}
+use Rattle.model.specs.Layout.{Job, Layout, pairsWith, pairsFrom, pairShares, pairPenalty, sumOver, weightedSum, plainSum, pieceSum, unitWeights}
+use Rattle.model.specs.Layout.{rightmost, usedLength, inside, placeOf}
 use Rattle.model.specs.Search.{places, sumAt, least, searchLine}
 use Rattle.model.specs.Descent.{turnTrials, pieceTrials, trialsFrom, trials, attempt, descendFrom, descend}
 use Rattle.model.specs.Guided.{raisedOver, raised, rounds, bestAfter, lastWeights, madeIn, movesIn, outcome, guide}
@@ -115,5 +116,10 @@ worked = printedText && inputLength && largestSum && weightsLeft && started && s
 
 -- the worked examples hold of the definitions
 pub worked-hold : worked ≡ true
-unfolding worked printedText inputLength largestSum weightsLeft started separateParts parts beside partsAndPixel sameEntries turnOfDegrees turnOf runsFrom stripsFrom coversPixel mapFrom fresh lay layCauses called afterCalls corners twoSquares fourBoxes full wordLine runText programRun programText sameNumbers share apartAt depth penalty pairsWith pairsFrom pairShares pairPenalty sumOver weightedSum plainSum pieceSum unitWeights rightmost usedLength places sumAt least searchLine turnTrials pieceTrials trialsFrom trials attempt descendFrom descend raisedOver raised rounds bestAfter lastWeights madeIn movesIn outcome guide insert fallingOrder stackAll start allows tight inside unless jobOf pixelStart standsAt digitsFrom numberAt fieldAt fieldsAt decimal fieldsText jobLine pieceLine markAt marksAt rowAt rowsAt pieceAt piecesAt readJob placementsText layoutText
+unfolding worked printedText inputLength largestSum weightsLeft started separateParts parts beside partsAndPixel sameEntries turnOfDegrees turnOf runsFrom
+    stripsFrom coversPixel mapFrom fresh lay layCauses called afterCalls corners twoSquares fourBoxes full wordLine runText programRun programText sameNumbers
+    share apartAt depth penalty pairsWith pairsFrom pairShares pairPenalty sumOver weightedSum plainSum pieceSum unitWeights rightmost usedLength places sumAt
+    least searchLine turnTrials pieceTrials trialsFrom trials attempt descendFrom descend raisedOver raised rounds bestAfter lastWeights madeIn movesIn outcome
+    guide insert fallingOrder stackAll start allows tight inside unless jobOf pixelStart standsAt digitsFrom numberAt fieldAt fieldsAt decimal fieldsText
+    jobLine pieceLine markAt marksAt rowAt rowsAt pieceAt piecesAt readJob placementsText layoutText
 worked-hold = refl

@@ -1,11 +1,7 @@
 -- Demand 2, shared pixel, penalty and no-fit rows (document 01, 'No-fit rows and penalty'): the last theorem says it whole, over the
 -- pixel sets of two shapes at any corners and over the direction; its parts are proved in Share, Depth, PixelDepth, Penalty and
 -- NoFit. Boxes have sides of at most 255, as every panel's has, where the no-fit lines need it. Assumes nothing.
-use mathlib.Core.Bool.{true}
-use mathlib.Core.Path.{_≡_}
-use mathlib.Core.Logic.{_↔_}
-use Prim.Native.Nat.{_≤_}
-use lib.IntN.{ℤ, subℕ}
+use Rattle.list_laws.proofs.Kit.{_≡_, true, _↔_, _≤_, subℕ, ℤ}
 use Rattle.model.specs.Piece.{Point, Shape, along, across, extent}
 use Rattle.model.specs.Overlap.{share, noFit}
 use Rattle.model.specs.declared.Direction.{Direction}

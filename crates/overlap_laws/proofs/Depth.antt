@@ -3,14 +3,8 @@
 -- parts the two, so all before it share a pixel; and it does not run out, since a shift by half the sum of the two extents, or
 -- more, parts them for one of the signs: pixels shared at both signs would lie farther apart than the boxes reach.
 -- Assumes nothing.
-use mathlib.Core.Bool.{true, false, not}
-use mathlib.Core.Path.{_≡_, refl, sym, _∙_, ap}
-use mathlib.Core.Logic.{_⊎_, inl, inr, ⊎-elim}
-use Prim.Native.Nat.{ℕ, zero, suc, _+_, _<_, _≤_}
-use native.Mathlib.Nat.{le-antisymm, eq-or-lt-of-le}
-use native.Mathlib.Omega.{arith, by-contra}
-use lib.IntN.{ℤ, pos, negsuc, natAbs}
-use borrow.Author.Tests.{not-true, not-false}
+use Rattle.list_laws.proofs.Kit.{_∙_, _≡_, ap, refl, sym, false, not, true, _⊎_, inl, inr, ⊎-elim, _+_, _<_, _≤_, suc, zero, ℕ, eq-or-lt-of-le, le-antisymm}
+use Rattle.list_laws.proofs.Kit.{arith, by-contra, natAbs, negsuc, pos, ℤ, not-false, not-true}
 use Rattle.model.specs.Piece.{Point, Shape, shift, extent}
 use Rattle.model.specs.Overlap.{share, apartAt, reach, depth}
 use Rattle.model.specs.declared.Direction.{Direction}

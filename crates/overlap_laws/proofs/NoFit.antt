@@ -3,14 +3,8 @@
 -- of at most 255 they lie between -254 and 254, and `noFit`, which tries these, leaves none out. That the runs list just the
 -- offsets that pass, are maximal and ascend is the law of `runs`, carried from numbers biased by 254 to whole numbers.
 -- Assumes nothing.
-use mathlib.Core.Bool.{true}
-use mathlib.Core.List.{List, map}
-use mathlib.Core.Path.{_≡_, sym, _∙_, ap, subst}
-use mathlib.Core.Logic.{_↔_, Iff·trans, Iff·symm}
-use Prim.Native.Nat.{ℕ, suc, _+_, _-_, _<_, _≤_}
-use native.Mathlib.Omega.{arith}
-use lib.IntN.{ℤ, pos, subℕ, predℤ, _+ℤ_}
-use lib.Signed.{_≤ℤ_, _<ℤ_}
+use Rattle.list_laws.proofs.Kit.{_∙_, _≡_, ap, subst, sym, true, Iff·symm, Iff·trans, _↔_, List, map, _+_, _-_, _<_, _≤_, suc, ℕ, arith, _+ℤ_, pos, predℤ}
+use Rattle.list_laws.proofs.Kit.{subℕ, ℤ, _<ℤ_, _≤ℤ_}
 use Rattle.model.specs.Piece.{Point, Shape, pixel, along, across, point, extent}
 use Rattle.model.specs.Strip.{Run, runs}
 use Rattle.model.specs.Overlap.{share, noFit, noFitAt, offsetBound, up, down, OffsetRun, unbiased}

@@ -1,12 +1,7 @@
 -- Document 01, 'No-fit rows and penalty' and demand 2: the penalty is the smaller of the two depths. It is 0 exactly when no pixel
 -- is shared, since each depth is, and it does not depend on which piece is called first, since neither depth does.
 -- Assumes nothing.
-use mathlib.Core.Bool.{false}
-use mathlib.Core.Path.{_≡_, sym, _∙_}
-use mathlib.Core.Logic.{_⊎_, inl, inr, ⊎-elim, _↔_, Iff·trans}
-use Prim.Native.Nat.{ℕ, _≤_, min}
-use native.Mathlib.Nat.{min-le-left, min-le-right, eq-or-lt-of-le}
-use native.Mathlib.Omega.{arith}
+use Rattle.list_laws.proofs.Kit.{_∙_, _≡_, sym, false, Iff·trans, _↔_, _⊎_, inl, inr, ⊎-elim, _≤_, min, ℕ, eq-or-lt-of-le, min-le-left, min-le-right, arith}
 use Rattle.model.specs.Piece.{Point, Shape, extent}
 use Rattle.model.specs.Overlap.{share, depth, penalty}
 use Rattle.model.specs.declared.Direction.{Direction}

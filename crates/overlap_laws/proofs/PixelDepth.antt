@@ -1,12 +1,7 @@
 -- Document 01, 'No-fit rows and penalty': depth and penalty over pixels and whole shifts. `share` of the two, the one shifted up and the
 -- other down, says yes exactly when the corners' difference with the whole shift added is a difference of two pixels; so at every
 -- shift smaller than the depth there are two such pixels, and at the depth there are none for one of the signs. Assumes nothing.
-use mathlib.Core.Bool.{true, false}
-use mathlib.Core.Path.{_≡_, refl, sym, _∙_, ap₂}
-use mathlib.Core.Logic.{_↔_}
-use Prim.Native.Nat.{ℕ, _+_, _≤_, min}
-use native.Mathlib.Omega.{arith, by-contra}
-use lib.IntN.{ℤ, pos, subℕ, natAbs, _+ℤ_}
+use Rattle.list_laws.proofs.Kit.{_∙_, _≡_, ap₂, refl, sym, false, true, _↔_, _+_, _≤_, min, ℕ, arith, by-contra, _+ℤ_, natAbs, pos, subℕ, ℤ}
 use Rattle.model.specs.Piece.{Point, Shape, along, across, shift}
 use Rattle.model.specs.Overlap.{share, depth, penalty, up, down}
 use Rattle.model.specs.declared.Direction.{Direction}

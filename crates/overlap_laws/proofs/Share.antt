@@ -2,14 +2,7 @@
 -- a pixel of each. `share` searches the box of the first piece for such a pixel, so where it says yes the pixel found and the
 -- pixel of the second piece at the same place are the two, and where there are two the search meets the first of them.
 -- Assumes nothing.
-use mathlib.Core.Bool.{true, _&&_}
-use mathlib.Core.Path.{_≡_, refl, sym, _∙_}
-use mathlib.Core.Logic.{_↔_}
-use Prim.Native.Nat.{ℕ, _+_, _-_, _<_, _≤_}
-use native.Mathlib.Nat.{add-zero}
-use native.Mathlib.Omega.{arith}
-use lib.Dec.{leb, ltb}
-use borrow.Author.Tests.{ltb-true, leb-true, lt-ltb, le-leb}
+use Rattle.list_laws.proofs.Kit.{_∙_, _≡_, refl, sym, _&&_, true, _↔_, _+_, _-_, _<_, _≤_, ℕ, add-zero, arith, leb, ltb, le-leb, leb-true, lt-ltb, ltb-true}
 use Rattle.list_laws.proofs.Tests.{and-left, and-right, and-both, same-tests}
 use Rattle.list_laws.proofs.Bounded.{any-witness, any-from}
 pub use Rattle.strip_laws.proofs.Boxes.{along-point, across-point}

@@ -1,13 +1,7 @@
 -- Whole numbers by how far they go up and down: z is up z - down z. Order, sums and differences of whole numbers are read as
 -- orders and equations of ℕ, which linear arithmetic proves. Assumes nothing.
-use mathlib.Core.Bool.{Bool, true, false, cond}
-use mathlib.Core.Path.{_≡_, refl, ap}
-use Prim.Native.Nat.{ℕ, zero, suc, _+_, _-_, _<_, _≤_}
-use native.Mathlib.Omega.{arith}
-use lib.Dec.{ltb, leb→le, le→leb, ltb→lt, lt→ltb}
-use lib.IntN.{ℤ, pos, negsuc, subℕ, predℤ, _+ℤ_}
-use lib.Signed.{_≤ℤ_, _<ℤ_, leZ-yes, ltZ-yes}
-use borrow.Author.Tests.{ltb-true, ltb-false}
+use Rattle.list_laws.proofs.Kit.{_≡_, ap, refl, Bool, cond, false, true, _+_, _-_, _<_, _≤_, suc, zero, ℕ, arith, leb→le, le→leb, ltb, ltb→lt, lt→ltb, _+ℤ_}
+use Rattle.list_laws.proofs.Kit.{negsuc, pos, predℤ, subℕ, ℤ, ltb-false, ltb-true, _<ℤ_, _≤ℤ_, leZ-yes, ltZ-yes}
 use Rattle.model.specs.Overlap.{up, down}
 
 -- whole numbers that go as far are equal

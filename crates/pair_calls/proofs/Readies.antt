@@ -1,15 +1,7 @@
 -- Where no cause refuses a call on a pair, both pieces are ready to be measured: their table entries are checked, their corners lie in
 -- the sheet, and as two pieces of one job they have no more pixels than its boxes. Assumes nothing.
-use mathlib.Core.Bool.{Bool, true, false, not, _&&_, _||_}
-use mathlib.Core.List.{List}
-use mathlib.Core.Path.{_≡_, refl, sym}
-use mathlib.Core.Logic.{⊎-elim}
-use Prim.Native.Nat.{ℕ, _+_, _<_}
-use native.Mathlib.Nat.{eq-or-lt-of-le}
-use native.Mathlib.Omega.{arith}
-use lib.Dec.{leb, ltb, eqb}
-use lib.ListN.{length}
-use borrow.Author.Tests.{leb-true, ltb-true, ltb-false, eqb-false, not-false}
+use Rattle.list_laws.proofs.Kit.{_≡_, refl, sym, Bool, _&&_, _||_, false, not, true, ⊎-elim, List, _+_, _<_, ℕ, eq-or-lt-of-le, arith, eqb, leb, ltb, length}
+use Rattle.list_laws.proofs.Kit.{eqb-false, leb-true, ltb-false, ltb-true, not-false}
 use Rattle.model.specs.Layout.{inside, placeOf, turnedPiece}
 use Rattle.model.specs.Lent.{Lent, jobOf, lentWell}
 use Rattle.model.specs.Buffer.{layoutOf}

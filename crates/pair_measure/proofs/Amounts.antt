@@ -1,13 +1,6 @@
 -- What is measured of two pieces, cut off at a bound, is what document 01 measures: no depth is above 255, and a depth cut off at 1
 -- tells whether they share a pixel. Assumes nothing.
-use mathlib.Core.List.{List}
-use mathlib.Core.Path.{_≡_}
-use mathlib.Core.Logic.{⊎-elim}
-use Prim.Native.Nat.{ℕ, min, _<_, _≤_}
-use native.Mathlib.Nat.{eq-zero-or-pos}
-use native.Mathlib.Omega.{arith}
-use lib.Dec.{eqb}
-use borrow.Author.Tests.{eqb-true, eq-eqb}
+use Rattle.list_laws.proofs.Kit.{_≡_, ⊎-elim, List, _<_, _≤_, min, ℕ, eq-zero-or-pos, arith, eqb, eq-eqb, eqb-true}
 use Rattle.model.specs.Piece.{Point, Shape, corner}
 use Rattle.model.specs.Overlap.{share, depth, penalty}
 use Rattle.model.specs.Layout.{Job, turnedPiece}

@@ -1,12 +1,7 @@
 -- How many strips two pieces of a job have: no two strips of a line touch, so twice the strips of a box are at most its pixels and one
 -- more for each line. Assumes nothing.
-use mathlib.Core.Bool.{Bool, true, false}
-use mathlib.Core.List.{List}
-use mathlib.Core.Path.{_≡_, refl}
-use Prim.Native.Nat.{ℕ, zero, suc, _+_, _*_, min, _≤_}
-use native.Mathlib.Nat.{suc-mul, mul-suc, mul-comm}
-use native.Mathlib.Omega.{arith}
-use lib.ListN.{length, length-append, length-map}
+use Rattle.list_laws.proofs.Kit.{_≡_, refl, Bool, false, true, List, _*_, _+_, _≤_, min, suc, zero, ℕ, mul-comm, mul-suc, suc-mul, arith, length}
+use Rattle.list_laws.proofs.Kit.{length-append, length-map}
 use Rattle.model.specs.Piece.{Shape, turned, extent, other, cell}
 use Rattle.model.specs.Strip.{Run, closing, runsFrom, stripsFrom, strips}
 use Rattle.model.specs.declared.Turn.{Turn}

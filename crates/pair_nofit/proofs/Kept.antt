@@ -1,16 +1,8 @@
 -- Intervals of shifts kept in a buffer by their first place: what a step adds, and that nothing is lost. Assumes nothing.
-use mathlib.Core.Bool.{Bool, true, false}
-use mathlib.Core.List.{List, [], _∷_, _++_, append-nil}
-use mathlib.Core.Path.{_≡_, refl, sym, ap, ap₂, subst, _∙_}
-use mathlib.Core.Logic.{_⊎_, inl, inr, ⊎-elim}
-use Prim.Native.Nat.{ℕ, zero, suc, _+_, _-_, max, _<_, _≤_}
-use native.Mathlib.Nat.{le-trans, le-antisymm}
-use native.Mathlib.Numerals.{add-one}
-use native.Mathlib.Omega.{arith}
-use lib.Dec.{ltb}
-use lib.ListN.{length, getD, set, replicate, drop, length-set, length-append, length-drop, getD-replicate, length-replicate}
-use lib.Seq.{getD-set-same, getD-set-other, set-out, drop-length}
-use borrow.Author.Tests.{ltb-true, ltb-false}
+use Rattle.list_laws.proofs.Kit.{_∙_, _≡_, ap, ap₂, refl, subst, sym, Bool, false, true, _⊎_, inl, inr, ⊎-elim, List, [], _++_, _∷_, append-nil, _+_, _-_}
+use Rattle.list_laws.proofs.Kit.{_<_, _≤_, max, suc, zero, ℕ, add-one, le-antisymm, le-trans, arith, ltb, drop, getD, getD-replicate, length, length-append}
+use Rattle.list_laws.proofs.Kit.{length-drop, length-replicate, length-set, replicate, set, drop-length, getD-set-other, getD-set-same, set-out, ltb-false}
+use Rattle.list_laws.proofs.Kit.{ltb-true}
 use Rattle.model.specs.Bounded.{oneIf}
 use Rattle.model.specs.Strip.{Strip}
 use Rattle.list_laws.proofs.Numbers.{below-or}

@@ -1,17 +1,7 @@
 -- The marks of a line: where all intervals are kept and none is wrong, a place is covered exactly when they share a pixel there.
 -- For the strips of pixel sets, the marks from the largest negative offset on are the no-fit line of document 01. Assumes nothing.
-use mathlib.Core.Bool.{Bool, true}
-use mathlib.Core.List.{List}
-use mathlib.Core.Path.{_≡_, refl, sym, ap, ap₂, _∙_}
-use mathlib.Core.Logic.{⊎-elim}
-use Prim.Native.Nat.{ℕ, zero, suc, _+_, _<_, _≤_}
-use native.Mathlib.Nat.{add-zero}
-use native.Mathlib.Omega.{arith}
-use lib.Dec.{ltb}
-use lib.IntN.{ℤ}
-use lib.ListN.{length, getD, replicate, length-replicate}
-use lib.Seq.{ext-getD}
-use borrow.Author.Tests.{ltb-true, lt-ltb}
+use Rattle.list_laws.proofs.Kit.{_∙_, _≡_, ap, ap₂, refl, sym, Bool, true, ⊎-elim, List, _+_, _<_, _≤_, suc, zero, ℕ, add-zero, arith, ltb, getD, length}
+use Rattle.list_laws.proofs.Kit.{length-replicate, replicate, ext-getD, ℤ, lt-ltb, ltb-true}
 use Rattle.model.specs.Bounded.{oneIf}
 use Rattle.model.specs.Piece.{Shape, point}
 use Rattle.model.specs.Overlap.{noFitAt, offsetBound, up, down}

@@ -1,14 +1,6 @@
 -- The runs of a line's marks, and what putting them comes to. Assumes nothing.
-use mathlib.Core.Bool.{Bool, true, false}
-use mathlib.Core.List.{List, [], _++_, map}
-use mathlib.Core.Path.{_≡_, refl, sym, ap, ap₂, _∙_}
-use Prim.Native.Nat.{ℕ, min, _<_, _≤_}
-use native.Mathlib.Omega.{arith}
-use lib.Dec.{ltb, eqb}
-use lib.IntN.{ℤ}
-use lib.ListN.{length}
-use lib.Seq.{sets, length-sets}
-use borrow.Author.Tests.{lt-ltb, le-ltb}
+use Rattle.list_laws.proofs.Kit.{_∙_, _≡_, ap, ap₂, refl, sym, Bool, false, true, List, [], _++_, map, _<_, _≤_, min, ℕ, arith, eqb, ltb, length, length-sets}
+use Rattle.list_laws.proofs.Kit.{sets, ℤ, le-ltb, lt-ltb}
 use Rattle.model.specs.Bounded.{oneIf}
 use Rattle.model.specs.Strip.{Run, runs}
 use Rattle.model.specs.Overlap.{offsetBound, up, down}

@@ -1,16 +1,7 @@
 -- The no-fit calls: where no cause refuses, the lent stretches are the pieces' strips, and their line's runs are the no-fit line of
 -- document 01. An offset of 255 or more across the direction parts any two pieces, so it may be cut off there. Assumes nothing.
-use mathlib.Core.Bool.{Bool, true, false, _&&_}
-use mathlib.Core.List.{List, [], _∷_, _++_, map}
-use mathlib.Core.Path.{_≡_, refl, sym, ap, ap₂, subst, _∙_}
-use mathlib.Core.Logic.{_⊎_, inl, inr, ⊎-elim}
-use Prim.Native.Nat.{ℕ, _+_, min, _<_, _≤_}
-use native.Mathlib.Omega.{arith}
-use lib.Dec.{ltb}
-use lib.IntN.{ℤ, pos, negsuc}
-use lib.ListN.{length, drop, length-map}
-use lib.Seq.{sets-eq}
-use borrow.Author.Tests.{not-false, ltb-false}
+use Rattle.list_laws.proofs.Kit.{_∙_, _≡_, ap, ap₂, refl, subst, sym, Bool, _&&_, false, true, _⊎_, inl, inr, ⊎-elim, List, [], _++_, _∷_, map, _+_, _<_, _≤_}
+use Rattle.list_laws.proofs.Kit.{min, ℕ, arith, ltb, drop, length, length-map, sets-eq, negsuc, pos, ℤ, ltb-false, not-false}
 use Rattle.model.specs.Piece.{Shape, extent, other}
 use Rattle.model.specs.Strip.{Run, runs, strips}
 use Rattle.model.specs.Overlap.{OffsetRun, unbiased, noFit, noFitAt, up, down}

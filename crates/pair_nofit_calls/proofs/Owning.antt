@@ -1,13 +1,6 @@
 -- A lent stretch is the piece's own exactly when comparing it with the piece's strips ends at its end. Assumes nothing.
-use mathlib.Core.Bool.{Bool, true, false}
-use mathlib.Core.List.{List, map}
-use mathlib.Core.Path.{_≡_, refl, sym, ap, _∙_}
-use Prim.Native.Nat.{ℕ, _+_, _<_}
-use native.Mathlib.Omega.{arith}
-use lib.Dec.{ltb, eqb}
-use lib.ListN.{length, length-map}
-use lib.Seq.{take-all}
-use borrow.Author.Tests.{eqb-true, eq-eqb, ltb-true}
+use Rattle.list_laws.proofs.Kit.{_∙_, _≡_, ap, refl, sym, Bool, false, true, List, map, _+_, _<_, ℕ, arith, eqb, ltb, length, length-map, take-all, eq-eqb}
+use Rattle.list_laws.proofs.Kit.{eqb-true, ltb-true}
 use Rattle.model.specs.Strip.{Strip}
 use Rattle.model.specs.Lent.{Lent, jobOf}
 use Rattle.model.specs.Buffer.{stripEntry, sameEntries}

@@ -2,14 +2,9 @@
 -- exactly when the placed sets do, and the bounded depth and penalty are document 01's, cut off at the bound. Strips hold just
 -- the pixels of their set, so a common pixel of two strips is a shared pixel, and a shared pixel lies in a strip of each.
 -- Assumes nothing.
-use mathlib.Core.Bool.{Bool, true, not, _||_}
-use mathlib.Core.List.{List, [], _∷_, map, List·Memᴰ, List·Memᴰ·head, List·Memᴰ·tail, List·Memᴰ·not-nil}
-use mathlib.Core.Path.{_≡_, refl, sym, ap, ap₂, _∙_, subst, subst₂}
-use mathlib.Core.Logic.{⊎-elim}
-use Prim.Native.Nat.{ℕ, zero, suc, _+_, _-_, min, _<_, _≤_}
-use native.Mathlib.Nat.{not-suc-le-zero, le-of-suc-le-suc, eq-or-lt-of-le}
-use native.Mathlib.Omega.{arith}
-use lib.ListN.{length, getD}
+use Rattle.list_laws.proofs.Kit.{_∙_, _≡_, ap, ap₂, refl, subst, subst₂, sym, Bool, _||_, not, true, ⊎-elim, List, List·Memᴰ, List·Memᴰ·head}
+use Rattle.list_laws.proofs.Kit.{List·Memᴰ·not-nil, List·Memᴰ·tail, [], _∷_, map, _+_, _-_, _<_, _≤_, min, suc, zero, ℕ, eq-or-lt-of-le, le-of-suc-le-suc}
+use Rattle.list_laws.proofs.Kit.{not-suc-le-zero, arith, getD, length}
 use Rattle.model.specs.Bounded.{firstFrom}
 use Rattle.model.specs.Piece.{Point, Shape, along, across, point, shift, extent}
 use Rattle.model.specs.Strip.{Strip, strips}

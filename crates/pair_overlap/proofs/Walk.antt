@@ -2,16 +2,8 @@
 -- strips hold a common pixel exactly when their intervals cross, since coordinates are smaller than the distance of two lines.
 -- The walk passes the interval that ends first: no later interval of the other stretch begins before it does.
 -- Assumes nothing.
-use mathlib.Core.Bool.{true, false, not, _&&_}
-use mathlib.Core.List.{List}
-use mathlib.Core.Path.{_≡_, sym, ap, _∙_, subst}
-use mathlib.Core.Logic.{_⊎_, ⊎-elim}
-use Prim.Native.Nat.{ℕ, _+_, _-_, min, _<_, _≤_}
-use native.Mathlib.Nat.{eq-or-lt-of-le}
-use native.Mathlib.Omega.{arith, by-contra}
-use lib.Dec.{ltb, eqb}
-use lib.ListN.{length}
-use borrow.Author.Tests.{ltb-true, lt-ltb, eqb-true, eq-eqb}
+use Rattle.list_laws.proofs.Kit.{_∙_, _≡_, ap, subst, sym, _&&_, false, not, true, _⊎_, ⊎-elim, List, _+_, _-_, _<_, _≤_, min, ℕ, eq-or-lt-of-le, arith}
+use Rattle.list_laws.proofs.Kit.{by-contra, eqb, ltb, length, eq-eqb, eqb-true, lt-ltb, ltb-true}
 use Rattle.model.specs.Strip.{Strip}
 use Rattle.list_laws.proofs.Firsts.{first-found, first-unique, first-cut}
 use Rattle.list_laws.proofs.Numbers.{below-or}

@@ -1,12 +1,6 @@
 -- Signed offsets by how far they go up and down. Assumes nothing.
-use mathlib.Core.Bool.{Bool, true, false, false≢true, true≢false, cond}
-use mathlib.Core.Path.{_≡_, refl}
-use Prim.Native.Nat.{ℕ, suc, _-_, _^_, min, _<_, _≤_}
-use native.Mathlib.Omega.{arith}
-use lib.Dec.{T, ltb}
-use lib.IntN.{ℤ, pos, negsuc, natAbs, subℕ, _-ℤ_}
-use lib.Signed.{ltZ, leZ, nonNeg, mag}
-use borrow.Author.Tests.{ltb-true, ltb-false, leb-false}
+use Rattle.list_laws.proofs.Kit.{_≡_, refl, Bool, cond, false, false≢true, true, true≢false, _-_, _<_, _^_, _≤_, min, suc, ℕ, arith, T, ltb, _-ℤ_, natAbs}
+use Rattle.list_laws.proofs.Kit.{negsuc, pos, subℕ, ℤ, leb-false, ltb-false, ltb-true, leZ, ltZ, mag, nonNeg}
 use mir.Syntax.{w32}
 use mir.Val.{SFits, toZ}
 use mir.ValLaws.{toZ-ofZ}

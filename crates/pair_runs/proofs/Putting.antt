@@ -1,15 +1,6 @@
 -- Runs put into a buffer one after the other: what is left of them is still to be put. Assumes nothing.
-use mathlib.Core.Bool.{Bool, true, false}
-use mathlib.Core.List.{List, [], _∷_, map}
-use mathlib.Core.Path.{_≡_, refl, sym, ap, ap₂, subst, _∙_}
-use Prim.Native.Nat.{ℕ, zero, suc, _+_, _-_, _<_, _≤_}
-use native.Mathlib.Nat.{add-zero}
-use native.Mathlib.Numerals.{add-one}
-use native.Mathlib.Omega.{arith}
-use lib.IntN.{ℤ, pos, subℕ}
-use lib.ListN.{length, getD, set}
-use lib.Seq.{sets, set-out, length-sets}
-use borrow.Author.Tests.{eq-eqb, ne-eqb}
+use Rattle.list_laws.proofs.Kit.{_∙_, _≡_, ap, ap₂, refl, subst, sym, Bool, false, true, List, [], _∷_, map, _+_, _-_, _<_, _≤_, suc, zero, ℕ, add-one}
+use Rattle.list_laws.proofs.Kit.{add-zero, arith, getD, length, set, length-sets, set-out, sets, pos, subℕ, ℤ, eq-eqb, ne-eqb}
 use Rattle.model.specs.Strip.{Run, closing, runsFrom, runs}
 use Rattle.pair_runs.specs.Runs.{offsetEntry, marked, Put}
 

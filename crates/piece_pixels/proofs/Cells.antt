@@ -1,9 +1,5 @@
 -- The box of a turned piece, and where its pixels stand in the store. Assumes nothing.
-use mathlib.Core.List.{List, []}
-use mathlib.Core.Path.{_≡_, refl}
-use Prim.Native.Nat.{ℕ, _+_, _*_, _≤_, _<_}
-use native.Mathlib.Nat.{mul-le-mul}
-use native.Mathlib.Omega.{arith}
+use Rattle.list_laws.proofs.Kit.{_≡_, refl, List, [], _*_, _+_, _<_, _≤_, ℕ, mul-le-mul, arith}
 use Rattle.model.specs.Piece.{turned}
 use Rattle.model.specs.declared.Turn.{Turn}
 use Rattle.model.specs.declared.Turn.the-variants.{Zero, Quarter, Half, ThreeQuarters}

@@ -1,11 +1,6 @@
 -- A job's pieces as the code reads them out of the table and the pixel store: a checked job's pieces are small, and the store has all
 -- their pixels. Assumes nothing.
-use mathlib.Core.Bool.{true}
-use mathlib.Core.List.{List}
-use mathlib.Core.Path.{_≡_, ap}
-use Prim.Native.Nat.{ℕ, _<_}
-use native.Mathlib.Nat.{mul-comm}
-use native.Mathlib.Omega.{arith}
+use Rattle.list_laws.proofs.Kit.{_≡_, ap, true, List, _<_, ℕ, mul-comm, arith}
 use Rattle.model.specs.Layout.{turnedPiece}
 use Rattle.model.specs.Lent.{Lent, lentBy, jobOf, lentWell, entryColumns, entryRows, pixelStart}
 use Rattle.model.specs.declared.Turn.{Turn}

@@ -1,10 +1,5 @@
 -- The job that a reading leaves in the front of the lent buffers is the job that was read. Assumes nothing.
-use mathlib.Core.Bool.{true}
-use mathlib.Core.List.{List}
-use mathlib.Core.Path.{_≡_, refl, sym, _∙_, ap}
-use Prim.Native.Nat.{ℕ, _≤_}
-use native.Mathlib.Omega.{arith}
-use lib.ListN.{length, take}
+use Rattle.list_laws.proofs.Kit.{_∙_, _≡_, ap, refl, sym, true, List, _≤_, ℕ, arith, length, take}
 use Rattle.model.specs.Lent.{Lent, lentBy, lentWell, pixelStart, pieceBound, areaBound}
 use Rattle.model.specs.Refusal.{Outcome, refused, given}
 use Rattle.model.specs.JobText.{readJob}

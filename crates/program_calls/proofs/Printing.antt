@@ -1,13 +1,5 @@
 -- What stands in the output buffer in the end. Assumes nothing.
-use mathlib.Core.Bool.{Bool, true, false}
-use mathlib.Core.List.{List}
-use mathlib.Core.Path.{_≡_, _∙_, ap}
-use Prim.Native.Nat.{ℕ, _<_, _≤_}
-use native.Mathlib.Omega.{arith}
-use borrow.Author.Tests.{lt-ltb, le-ltb}
-use lib.Dec.{ltb}
-use lib.ListN.{length, take}
-use lib.Seq.{take-at}
+use Rattle.list_laws.proofs.Kit.{_∙_, _≡_, ap, Bool, false, true, List, _<_, _≤_, ℕ, arith, ltb, length, take, take-at, le-ltb, lt-ltb}
 use Rattle.model.specs.Lent.{Lent}
 use Rattle.model.specs.Refusal.{Outcome, refused, given, unless, wrongLength, plainRefusal}
 use Rattle.model.specs.declared.Refusal.{Refusal}

@@ -1,11 +1,5 @@
 -- The program's run as the guided run's call gives it: from the start layout, by weights 1. Assumes nothing.
-use mathlib.Core.Bool.{true}
-use mathlib.Core.List.{List, [], _∷_}
-use mathlib.Core.Path.{_≡_, sym, _∙_, ap}
-use Prim.Native.Nat.{ℕ, _≤_}
-use native.Mathlib.Omega.{arith}
-use lib.ListN.{length, take, replicate, length-replicate}
-use lib.Seq.{length-take-le}
+use Rattle.list_laws.proofs.Kit.{_∙_, _≡_, ap, sym, true, List, [], _∷_, _≤_, ℕ, arith, length, length-replicate, replicate, take, length-take-le}
 use Rattle.model.specs.Layout.{Job, Layout, pairs, unitWeights, usedLength}
 use Rattle.model.specs.Buffer.{entriesOf, layoutOf}
 use Rattle.model.specs.Guided.{Guided}

@@ -1,8 +1,5 @@
 -- How long a layout's text is: a line of four fields has at most 27 bytes, and so has the layout line. Assumes nothing.
-use mathlib.Core.List.{List, [], _∷_}
-use Prim.Native.Nat.{ℕ, suc, _+_, _*_, _≤_}
-use native.Mathlib.Omega.{arith}
-use lib.ListN.{length, length-append}
+use Rattle.list_laws.proofs.Kit.{List, [], _∷_, _*_, _+_, _≤_, suc, ℕ, arith, length, length-append}
 use Rattle.model.specs.Layout.{Job, Layout}
 use Rattle.model.specs.Buffer.{entryOf}
 use Rattle.model.specs.Text.{threeFields, fourFields, fieldsText, lineText}

@@ -1,12 +1,5 @@
 -- Calls on a job that passes its check and on a valid layout are not refused. Assumes nothing.
-use mathlib.Core.Bool.{true, not}
-use mathlib.Core.List.{List}
-use mathlib.Core.Path.{_≡_, sym, ap, _∙_}
-use Prim.Native.Nat.{ℕ, _≤_}
-use native.Mathlib.Nat.{zero-add}
-use native.Mathlib.Omega.{arith}
-use borrow.Author.Tests.{eq-eqb, le-ltb}
-use lib.ListN.{length, length-map}
+use Rattle.list_laws.proofs.Kit.{_∙_, _≡_, ap, sym, not, true, List, _≤_, ℕ, zero-add, arith, length, length-map, eq-eqb, le-ltb}
 use Rattle.model.specs.Layout.{Layout, usedLength}
 use Rattle.model.specs.Buffer.{placementOf, entriesOf, layoutOf}
 use Rattle.model.specs.Start.{start}

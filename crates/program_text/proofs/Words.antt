@@ -1,11 +1,5 @@
 -- What the program's lines are made of: words, and numbers of at most 10 digits. Assumes nothing.
-use mathlib.Core.List.{List}
-use mathlib.Core.Path.{_≡_}
-use Prim.Native.Nat.{ℕ, _+_}
-use native.Mathlib.Omega.{arith}
-use borrow.Author.Tests.{eq-eqb, ne-eqb}
-use lib.ListN.{length}
-use lib.Seq.{sets}
+use Rattle.list_laws.proofs.Kit.{_≡_, List, _+_, ℕ, arith, length, sets, eq-eqb, ne-eqb}
 use Rattle.model.specs.Text.{bytes, decimal}
 use Rattle.model.specs.Program.{endWord}
 use Rattle.text_fields.proofs.Steps.{decimal-short}

@@ -1,10 +1,5 @@
 -- What the call of a descent comes to. Assumes nothing.
-use mathlib.Core.Bool.{false}
-use mathlib.Core.List.{List}
-use mathlib.Core.Path.{_≡_, sym, ap, _∙_, subst}
-use Prim.Native.Nat.{ℕ, _≤_}
-use borrow.Author.Tests.{ltb-false}
-use lib.Dec.{ltb}
+use Rattle.list_laws.proofs.Kit.{_∙_, _≡_, ap, subst, sym, false, List, _≤_, ℕ, ltb, ltb-false}
 use Rattle.model.specs.Layout.{Layout}
 use Rattle.model.specs.Lent.{Lent, jobOf}
 use Rattle.model.specs.Buffer.{layoutOf, entriesOf}

@@ -1,11 +1,6 @@
 -- The call of a guided run: its causes are those of a run with a round count and a budget beside the weights, and where none is there the run
 -- is given. Assumes nothing.
-use mathlib.Core.Bool.{Bool, true, false, not, _||_}
-use mathlib.Core.List.{List}
-use mathlib.Core.Path.{_≡_, refl, sym, ap, _∙_, subst}
-use Prim.Native.Nat.{ℕ, _≤_}
-use borrow.Author.Tests.{ltb-false, not-false}
-use lib.Dec.{ltb}
+use Rattle.list_laws.proofs.Kit.{_∙_, _≡_, ap, refl, subst, sym, Bool, _||_, false, not, true, List, _≤_, ℕ, ltb, ltb-false, not-false}
 use Rattle.model.specs.Layout.{Layout}
 use Rattle.model.specs.Guided.{Guided, rounds, guide}
 use Rattle.model.specs.Lent.{Lent, jobOf, upTo}

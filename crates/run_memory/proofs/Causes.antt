@@ -1,9 +1,5 @@
 -- What a run is given where none of its causes of refusal is there. Assumes nothing.
-use mathlib.Core.Bool.{Bool, false}
-use mathlib.Core.List.{List}
-use mathlib.Core.Path.{_≡_, sym, ap, _∙_}
-use Prim.Native.Nat.{ℕ, _≤_}
-use lib.ListN.{length, length-map}
+use Rattle.list_laws.proofs.Kit.{_∙_, _≡_, ap, sym, Bool, false, List, _≤_, ℕ, length, length-map}
 use Rattle.model.specs.Lent.{Lent}
 use Rattle.model.specs.Buffer.{entryOf, placementOf, layoutOf, entriesOf}
 use Rattle.model.specs.Calls.{budgetBound}

@@ -1,12 +1,7 @@
 -- Stores with no line kept, and a layout buffer that is written again. Assumes nothing.
-use mathlib.Core.List.{List, [], _∷_}
-use mathlib.Core.Logic.{_⊎_, inl, inr}
-use mathlib.Core.Path.{_≡_, refl, sym, ap, _∙_}
-use Prim.Native.Nat.{ℕ, zero, suc, _+_, _*_, _/_, _%_, _<_, _≤_}
-use native.Mathlib.Nat.{eq-or-lt-of-le, div-add-mod', mod-lt, mul-le-mul-left}
-use native.Mathlib.Omega.{arith}
-use lib.ListN.{length, getD, set, take, replicate, length-set, length-replicate, getD-replicate, length-map}
-use lib.Seq.{length-take-le, getD-take, getD-set-same, getD-set-other, set-getD, ext-getD}
+use Rattle.list_laws.proofs.Kit.{_∙_, _≡_, ap, refl, sym, _⊎_, inl, inr, List, [], _∷_, _%_, _*_, _+_, _/_, _<_, _≤_, suc, zero, ℕ, div-add-mod'}
+use Rattle.list_laws.proofs.Kit.{eq-or-lt-of-le, mod-lt, mul-le-mul-left, arith, getD, getD-replicate, length, length-map, length-replicate, length-set}
+use Rattle.list_laws.proofs.Kit.{replicate, set, take, ext-getD, getD-set-other, getD-set-same, getD-take, length-take-le, set-getD}
 use Rattle.model.specs.Layout.{Job, Layout, placeOf, origin}
 use Rattle.model.specs.Buffer.{entryOf, placementOf, layoutOf, entriesOf}
 use Rattle.model.specs.declared.Direction.{Direction}

@@ -1,14 +1,7 @@
 -- The loop over the rounds of a guided run, over the buffers that it works on: what holds before each round, and that a round keeps it or ends
 -- the run. The laws of the run itself are those of search_laws, GuidedLoop. Assumes nothing.
-use mathlib.Core.Bool.{Bool, true, false}
-use mathlib.Core.List.{List}
-use mathlib.Core.Logic.{_≢_}
-use mathlib.Core.Path.{_≡_, refl, sym, _∙_, ap}
-use Prim.Native.Nat.{ℕ, _+_, _*_, _-_, _<_, _≤_}
-use native.Mathlib.Nat.{mul-le-mul, mul-le-mul-right}
-use native.Mathlib.Omega.{arith}
-use lib.Dec.{ltb}
-use lib.ListN.{length}
+use Rattle.list_laws.proofs.Kit.{_∙_, _≡_, ap, refl, sym, Bool, false, true, _≢_, List, _*_, _+_, _-_, _<_, _≤_, ℕ, mul-le-mul, mul-le-mul-right, arith, ltb}
+use Rattle.list_laws.proofs.Kit.{length}
 use Rattle.model.specs.Layout.{Job, Layout, plainSum}
 use Rattle.model.specs.Descent.{descend}
 use Rattle.model.specs.Guided.{raised, bestOf, guide}

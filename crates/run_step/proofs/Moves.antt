@@ -1,10 +1,5 @@
 -- A layout buffer with one entry written anew, and what the answers of a search and of a trial tell. Assumes nothing.
-use mathlib.Core.List.{List}
-use mathlib.Core.Option.{Option, none, some}
-use mathlib.Core.Path.{_≡_, refl, ap, ap₂, _∙_}
-use Prim.Native.Nat.{ℕ, _<_}
-use native.Mathlib.Omega.{arith}
-use lib.ListN.{set}
+use Rattle.list_laws.proofs.Kit.{_∙_, _≡_, ap, ap₂, refl, Option, none, some, List, _<_, ℕ, arith, set}
 use Rattle.model.specs.Buffer.{entryOf, placementOf, layoutOf, entriesOf}
 use Rattle.model.specs.Search.{Best}
 use Rattle.model.specs.declared.Placement.{Placement}

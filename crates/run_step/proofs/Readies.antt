@@ -1,12 +1,6 @@
 -- What is at hand before a trial and after it: what a search asks for, the layout that a trial leaves, and the stores of lines.
 -- Assumes nothing.
-use mathlib.Core.Bool.{true}
-use mathlib.Core.List.{List}
-use mathlib.Core.Option.{Option, none, some}
-use mathlib.Core.Path.{_≡_, refl, sym, ap₂, _∙_, subst}
-use Prim.Native.Nat.{ℕ, _≤_}
-use native.Mathlib.Omega.{arith}
-use lib.ListN.{length, length-map}
+use Rattle.list_laws.proofs.Kit.{_∙_, _≡_, ap₂, refl, subst, sym, true, Option, none, some, List, _≤_, ℕ, arith, length, length-map}
 use Rattle.model.specs.Piece.{lineDirection, lineThrough, onLine}
 use Rattle.model.specs.Layout.{Job, pieceSum}
 use Rattle.model.specs.Lent.{Lent, jobOf, lentWell}

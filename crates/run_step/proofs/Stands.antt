@@ -1,10 +1,5 @@
 -- Where a descent stands after a trial, and how large its numbers are. Assumes nothing.
-use mathlib.Core.Bool.{true}
-use mathlib.Core.List.{List}
-use mathlib.Core.Option.{some}
-use mathlib.Core.Path.{_≡_, sym, ap, _∙_}
-use Prim.Native.Nat.{ℕ, _+_, _<_, _≤_}
-use native.Mathlib.Omega.{arith}
+use Rattle.list_laws.proofs.Kit.{_∙_, _≡_, ap, sym, true, some, List, _+_, _<_, _≤_, ℕ, arith}
 use Rattle.model.specs.Piece.{onLine}
 use Rattle.model.specs.Layout.{Job, Layout, pieceSum, weightedSum}
 use Rattle.model.specs.Lent.{Lent, jobOf, lentWell}

@@ -1,11 +1,6 @@
 -- Penalties read from kept lines: what is asked for and what stands there. Assumes nothing.
-use mathlib.Core.List.{List}
-use mathlib.Core.Bool.{true}
-use mathlib.Core.Path.{_≡_, sym, ap, ap₂, _∙_, subst}
-use Prim.Native.Nat.{ℕ, _+_, _*_, _-_, _<_, _≤_}
-use native.Mathlib.Omega.{arith}
-use lib.ListN.{length, getD, take, drop, length-take, length-drop}
-use lib.Seq.{getD-take, getD-drop}
+use Rattle.list_laws.proofs.Kit.{_∙_, _≡_, ap, ap₂, subst, sym, true, List, _*_, _+_, _-_, _<_, _≤_, ℕ, arith, drop, getD, length, length-drop, length-take}
+use Rattle.list_laws.proofs.Kit.{take, getD-drop, getD-take}
 use Rattle.model.specs.Piece.{along, across, extent, corner, lineDirection, held, onLine}
 use Rattle.model.specs.Layout.{Job, Layout, turnedPiece, placeOf, shapeIn, cornerIn, pairs}
 use Rattle.model.specs.Lent.{Lent, jobOf, lentWell}

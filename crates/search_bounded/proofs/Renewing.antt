@@ -1,9 +1,5 @@
 -- The table of pair penalties when the mover is placed anew. Assumes nothing.
-use mathlib.Core.List.{List}
-use mathlib.Core.Path.{_≡_, sym, subst}
-use Prim.Native.Nat.{ℕ, _+_, _<_}
-use native.Mathlib.Omega.{arith}
-use lib.ListN.{length, length-map}
+use Rattle.list_laws.proofs.Kit.{_≡_, subst, sym, List, _+_, _<_, ℕ, arith, length, length-map}
 use Rattle.model.specs.Layout.{Job, Layout}
 use Rattle.model.specs.Lent.{Lent}
 use Rattle.model.specs.Buffer.{layoutOf, placementOf}

@@ -1,13 +1,6 @@
 -- A search as a whole: its track, sums that are 0 at first, and what the least of them is at the end. Assumes nothing.
-use mathlib.Core.Bool.{true}
-use mathlib.Core.List.{List}
-use mathlib.Core.Option.{Option, none, some}
-use mathlib.Core.Path.{_≡_, refl, sym, ap, _∙_, subst}
-use Prim.Native.Nat.{ℕ, zero, suc, _<_, _≤_}
-use native.Mathlib.Decide.{decLt}
-use native.Mathlib.Omega.{arith}
-use lib.ListN.{length, getD, take, replicate, length-map, length-replicate}
-use lib.Seq.{length-take-le}
+use Rattle.list_laws.proofs.Kit.{_∙_, _≡_, ap, refl, subst, sym, true, Option, none, some, List, _<_, _≤_, suc, zero, ℕ, arith, getD, length, length-map}
+use Rattle.list_laws.proofs.Kit.{length-replicate, replicate, take, length-take-le, decLt}
 use Rattle.model.specs.Piece.{lineDirection}
 use Rattle.model.specs.Layout.{Job, Layout, turnedPiece}
 use Rattle.model.specs.Search.{Best, sumAt}

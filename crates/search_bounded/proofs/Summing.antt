@@ -1,17 +1,7 @@
 -- The sums along a line when one more piece is taken into account: it changes only the sums in its reach, and those need not be exact where
 -- they are at the bound already. Assumes nothing.
-use mathlib.Core.Bool.{true, false}
-use mathlib.Core.List.{List}
-use mathlib.Core.Logic.{_⊎_, inl, inr, ⊎-elim}
-use mathlib.Core.Path.{_≡_, refl, sym, ap, _∙_, subst}
-use Prim.Native.Nat.{ℕ, _+_, _*_, _-_, _<_, _≤_}
-use native.Mathlib.Nat.{zero-mul, mul-zero}
-use native.Mathlib.Decide.{decLt}
-use native.Mathlib.Omega.{arith}
-use borrow.Author.Tests.{ltb-false}
-use lib.Dec.{ltb}
-use lib.ListN.{length, getD, take, drop, length-take, length-drop}
-use lib.Seq.{getD-take, getD-drop}
+use Rattle.list_laws.proofs.Kit.{_∙_, _≡_, ap, refl, subst, sym, false, true, _⊎_, inl, inr, ⊎-elim, List, _*_, _+_, _-_, _<_, _≤_, ℕ, mul-zero, zero-mul}
+use Rattle.list_laws.proofs.Kit.{arith, ltb, drop, getD, length, length-drop, length-take, take, getD-drop, getD-take, ltb-false, decLt}
 use Rattle.model.specs.Bounded.{anyBelow, sumBelow}
 use Rattle.model.specs.Piece.{Point, along, across, other, lineDirection}
 use Rattle.model.specs.Layout.{Job, Layout, cornerIn}

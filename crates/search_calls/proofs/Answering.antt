@@ -1,13 +1,6 @@
 -- The line search as a call: its causes, the strips and the store that it begins with, and its answer. Assumes nothing.
-use mathlib.Core.Bool.{Bool, true, false, not, _&&_, _||_}
-use mathlib.Core.List.{List, [], _∷_}
-use mathlib.Core.Option.{Option, none, some}
-use mathlib.Core.Path.{_≡_, refl, sym, ap, _∙_}
-use Prim.Native.Nat.{ℕ, zero, suc, _<_, _≤_}
-use native.Mathlib.Omega.{arith}
-use borrow.Author.Tests.{not-false, ltb-true, ne-eqb}
-use lib.Dec.{ltb, eqb}
-use lib.ListN.{length, replicate, length-map, length-replicate, getD-replicate}
+use Rattle.list_laws.proofs.Kit.{_∙_, _≡_, ap, refl, sym, Bool, _&&_, _||_, false, not, true, Option, none, some, List, [], _∷_, _<_, _≤_, suc, zero, ℕ}
+use Rattle.list_laws.proofs.Kit.{arith, eqb, ltb, getD-replicate, length, length-map, length-replicate, replicate, ltb-true, ne-eqb, not-false}
 use Rattle.model.specs.Layout.{Job, Layout, allowed}
 use Rattle.model.specs.Search.{Best, places, sumAt, least, searchLine}
 use Rattle.model.specs.Refusal.{cause, unless, emptyLine}

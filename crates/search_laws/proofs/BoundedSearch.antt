@@ -2,17 +2,9 @@
 -- search and the trial of document 01 come to (LineSearch). A value counts only where it is below the limit, the best sum so far or the
 -- bound, so a value that reaches the limit need not be known exactly: a lower bound that reaches it will do, and so will a running sum
 -- that stops there. Assumes nothing.
-use mathlib.Core.Bool.{Bool, true, false}
-use mathlib.Core.Path.{_≡_, refl, sym, _∙_, ap, ap₂}
-use mathlib.Core.Logic.{_⊎_, inl, inr, ⊎-elim}
-use mathlib.Core.Option.{Option, none, some}
-use Prim.Native.Nat.{ℕ, zero, suc, _+_, _*_, _-_, _/_, _%_, _<_, _≤_, min}
-use native.Mathlib.Nat.{eq-or-lt-of-le, le-trans, mul-le-mul-left, mul-add, mul-one, mul-comm, div-add-mod', mod-lt}
-use native.Mathlib.Decide.{decLt}
-use native.Mathlib.Numerals.{add-one}
-use native.Mathlib.Omega.{arith}
-use borrow.Author.Tests.{ltb-true, ltb-false, lt-ltb, le-ltb}
-use lib.Dec.{ltb}
+use Rattle.list_laws.proofs.Kit.{_∙_, _≡_, ap, ap₂, refl, sym, Bool, false, true, _⊎_, inl, inr, ⊎-elim, Option, none, some, _%_, _*_, _+_, _-_, _/_, _<_}
+use Rattle.list_laws.proofs.Kit.{_≤_, min, suc, zero, ℕ, add-one, div-add-mod', eq-or-lt-of-le, le-trans, mod-lt, mul-add, mul-comm, mul-le-mul-left, mul-one}
+use Rattle.list_laws.proofs.Kit.{arith, ltb, le-ltb, lt-ltb, ltb-false, ltb-true, decLt}
 use Rattle.model.specs.Bounded.{sumBelow}
 use Rattle.model.specs.Search.{Best}
 use Rattle.list_laws.proofs.Sums.{sum-grows}

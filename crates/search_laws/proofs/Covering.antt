@@ -1,15 +1,8 @@
 -- Document 01, 'Line search': which pieces a piece covers at a place of its line, and what that says of the sum there. A place at which it
 -- shares a pixel with no piece has sum 0, and the smallest such place is the answer; at any other place the weights of the pieces that
 -- it shares one with are a lower bound of the sum, so the penalties are needed only where that is below the limit. Assumes nothing.
-use mathlib.Core.Bool.{Bool, true, false}
-use mathlib.Core.Path.{_≡_, refl, _∙_}
-use mathlib.Core.Logic.{_≢_}
-use mathlib.Core.List.{List}
-use mathlib.Core.Option.{some}
-use Prim.Native.Nat.{ℕ, _+_, _*_, _<_, _≤_}
-use native.Mathlib.Nat.{mul-le-mul, mul-le-mul-left, mul-zero}
-use native.Mathlib.Omega.{arith}
-use lib.ListN.{length}
+use Rattle.list_laws.proofs.Kit.{_∙_, _≡_, refl, Bool, false, true, _≢_, some, List, _*_, _+_, _<_, _≤_, ℕ, mul-le-mul, mul-le-mul-left, mul-zero, arith}
+use Rattle.list_laws.proofs.Kit.{length}
 use Rattle.model.specs.Bounded.{sumBelow, oneIf}
 use Rattle.model.specs.Piece.{Point, Shape, along, extent, other, corner, lineDirection, held, onLine}
 use Rattle.model.specs.Overlap.{share}

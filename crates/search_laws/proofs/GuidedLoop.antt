@@ -1,18 +1,9 @@
 -- Document 01, 'Descent and guidance', a guided run as a loop over rounds: it stands at a layout, its weights, the best layout so far and
 -- two counts, with so many rounds left. `guideOn` is what is still to come from there, so what the whole run gives is always `guideOn`
 -- of where the loop stands. Raising the weights is a loop over the pairs in order that writes each weight in place. Assumes nothing.
-use mathlib.Core.Bool.{Bool, true, false}
-use mathlib.Core.Path.{_≡_, refl, sym, _∙_, ap}
-use mathlib.Core.Logic.{⊎-elim, _≢_}
-use mathlib.Core.List.{List, [], _∷_}
-use Prim.Native.Nat.{ℕ, zero, suc, _+_, _*_, _-_, _<_, _≤_, min}
-use native.Mathlib.Nat.{eq-or-lt-of-le, add-assoc, suc-mul}
-use native.Mathlib.Numerals.{add-one}
-use native.Mathlib.Omega.{arith}
-use borrow.Author.Tests.{lt-ltb, le-ltb}
-use lib.Dec.{ltb}
-use lib.ListN.{length, getD, set, length-set}
-use lib.Seq.{getD-set-same, getD-set-other, set-getD, ext-getD}
+use Rattle.list_laws.proofs.Kit.{_∙_, _≡_, ap, refl, sym, Bool, false, true, _≢_, ⊎-elim, List, [], _∷_, _*_, _+_, _-_, _<_, _≤_, min, suc, zero, ℕ, add-one}
+use Rattle.list_laws.proofs.Kit.{add-assoc, eq-or-lt-of-le, suc-mul, arith, ltb, getD, length, length-set, set, ext-getD, getD-set-other, getD-set-same}
+use Rattle.list_laws.proofs.Kit.{set-getD, le-ltb, lt-ltb}
 use Rattle.model.specs.Layout.{Job, Layout, Pair, pairOf, pairs, pairShares, plainSum}
 use Rattle.model.specs.Descent.{Descent, descend}
 use Rattle.model.specs.Guided.{weightBound, raisedOver, raised, Round, isClear, weightsAfter, roundFrom, rounds, bestOf, bestAfter, lastWeights, madeIn}

@@ -1,15 +1,7 @@
 -- Document 01, 'Line search' and a trial of 'Descent and guidance', as one search with a bound: a trial asks only for sums below the
 -- piece's present one, and the line search is the same with a bound above every sum. Assumes nothing.
-use mathlib.Core.Bool.{Bool, true, false}
-use mathlib.Core.Path.{_≡_, refl, sym, _∙_, ap}
-use mathlib.Core.Logic.{_↔_}
-use mathlib.Core.List.{List}
-use mathlib.Core.Option.{Option, none, some}
-use Prim.Native.Nat.{ℕ, zero, suc, _<_, _≤_}
-use native.Mathlib.Omega.{arith}
-use borrow.Author.Tests.{ltb-true, ltb-false, lt-ltb}
-use lib.Dec.{ltb}
-use lib.ListN.{length}
+use Rattle.list_laws.proofs.Kit.{_∙_, _≡_, ap, refl, sym, Bool, false, true, _↔_, Option, none, some, List, _<_, _≤_, suc, zero, ℕ, arith, ltb, length}
+use Rattle.list_laws.proofs.Kit.{lt-ltb, ltb-false, ltb-true}
 use Rattle.model.specs.Layout.{Job, Layout, pieceSum}
 use Rattle.model.specs.Search.{Best, places, movedTo, sumAt, least, searchLine}
 use Rattle.model.specs.Descent.{Trial, Attempt, moved, quiet, judged, trialLine, attempt}

@@ -2,17 +2,8 @@
 -- much of the budget left. `onward` is what is still to come from there, so what the whole descent gives is always `onward` of
 -- where the loop stands: each pass of the loop is one of the laws below, and its end is another. The list of trials is not made; the
 -- next trial follows from the present one. Assumes nothing.
-use mathlib.Core.Bool.{true, false}
-use mathlib.Core.Path.{_≡_, refl, sym, _∙_, ap}
-use mathlib.Core.Logic.{_≢_}
-use mathlib.Core.List.{List}
-use mathlib.Core.Option.{Option, none, some}
-use Prim.Native.Nat.{ℕ, zero, suc, _+_, _-_, _<_, _≤_}
-use native.Mathlib.Numerals.{add-one}
-use native.Mathlib.Omega.{arith}
-use borrow.Author.Tests.{eq-eqb, ne-eqb}
-use lib.Dec.{eqb}
-use lib.ListN.{length, getD}
+use Rattle.list_laws.proofs.Kit.{_∙_, _≡_, ap, refl, sym, false, true, _≢_, Option, none, some, List, _+_, _-_, _<_, _≤_, suc, zero, ℕ, add-one, arith, eqb}
+use Rattle.list_laws.proofs.Kit.{getD, length, eq-eqb, ne-eqb}
 use Rattle.model.specs.Layout.{Job, Layout, allowed, weightedSum, pieceSum}
 use Rattle.model.specs.Piece.{onLine}
 use Rattle.model.specs.Search.{Best, movedTo, sumAt}

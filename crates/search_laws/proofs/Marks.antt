@@ -1,15 +1,8 @@
 -- How often each place of a line is covered, from marks where a stretch of places begins and where it ends: two lists, and the running
 -- sum of the one less that of the other. A loop marks each stretch by two stores; a second loop adds along the line. With document
 -- 01's no-fit lines the stretches are the places at which two strips meet. Assumes nothing.
-use mathlib.Core.Path.{_≡_, ap}
-use mathlib.Core.List.{List}
-use Prim.Native.Nat.{ℕ, _+_, _-_, _<_, _≤_}
-use native.Mathlib.Decide.{decLt}
-use native.Mathlib.Omega.{arith}
-use borrow.Author.Tests.{lt-ltb, le-ltb}
-use lib.Dec.{ltb}
-use lib.ListN.{length, getD, set, length-set}
-use lib.Seq.{getD-set-same, getD-set-other}
+use Rattle.list_laws.proofs.Kit.{_≡_, ap, List, _+_, _-_, _<_, _≤_, ℕ, arith, ltb, getD, length, length-set, set, getD-set-other, getD-set-same, le-ltb}
+use Rattle.list_laws.proofs.Kit.{lt-ltb, decLt}
 use Rattle.model.specs.Bounded.{sumBelow, oneIf}
 use Rattle.list_laws.proofs.Sums.{sum-step, sum-agree, sum-zero, sum-changed}
 

@@ -1,16 +1,8 @@
 -- Document 01's order of pairs, (0,1), (0,2) and so on, by position: the pairs with first number i begin at `rowStart n i`, and (i, k) has
 -- position rowStart n i + (k - i - 1). A loop that takes i ascending and k ascending from i + 1 on visits the positions 0, 1, 2, ..,
 -- so a counter that it raises by 1 is the position of the pair at hand. Assumes nothing.
-use mathlib.Core.Bool.{Bool, true, false}
-use mathlib.Core.Path.{_≡_, refl, sym, _∙_, ap}
-use mathlib.Core.List.{List, [], _∷_}
-use mathlib.Core.Option.{none, some}
-use Prim.Native.Nat.{ℕ, zero, suc, _+_, _*_, _-_, _<_, _≤_}
-use native.Mathlib.Nat.{mul-suc, suc-mul}
-use native.Mathlib.Numerals.{add-one}
-use native.Mathlib.Omega.{arith}
-use lib.ListN.{length, getD, drop, length-append, List·getD-append}
-use lib.Seq.{drop-drop, drop-at, getD-drop}
+use Rattle.list_laws.proofs.Kit.{_∙_, _≡_, ap, refl, sym, Bool, false, true, none, some, List, [], _∷_, _*_, _+_, _-_, _<_, _≤_, suc, zero, ℕ, add-one}
+use Rattle.list_laws.proofs.Kit.{mul-suc, suc-mul, arith, List·getD-append, drop, getD, length, length-append, drop-at, drop-drop, getD-drop}
 use Rattle.model.specs.Layout.{Pair, pairOf, pairsWith, pairsFrom, pairs, firstPair}
 use Rattle.model.specs.Lent.{pieceBound}
 use Rattle.descent_laws.proofs.Bounds.{pairs-at-most}

@@ -1,18 +1,9 @@
 -- Document 01, 'No-fit rows and penalty', weights and sums, in the order in which a loop adds them: the weighted sum over the positions of
 -- the pairs, a piece's pair sum over the other pieces' numbers. A pair's weight and its penalty do not depend on which of the two
 -- pieces is named first, so a piece's pair sum reads one row of weights and penalties. Assumes nothing.
-use mathlib.Core.Bool.{Bool, true, false, _||_}
-use mathlib.Core.Path.{_≡_, refl, sym, _∙_, ap, ap₂}
-use mathlib.Core.Logic.{⊎-elim, _≢_}
-use mathlib.Core.List.{List, [], _∷_}
-use Prim.Native.Nat.{ℕ, zero, suc, _+_, _*_, _-_, _<_, _≤_}
-use native.Mathlib.Nat.{zero-mul, mul-le-mul}
-use native.Mathlib.Decide.{ℕ-discrete, decLt}
-use native.Mathlib.Omega.{arith}
-use borrow.Author.Tests.{lt-ltb, le-ltb, eq-eqb, ne-eqb}
-use lib.Dec.{ltb, eqb}
-use lib.ListN.{length, getD, set, List·getD-eq-default}
-use lib.Seq.{getD-set-same, getD-set-other}
+use Rattle.list_laws.proofs.Kit.{_∙_, _≡_, ap, ap₂, refl, sym, Bool, _||_, false, true, _≢_, ⊎-elim, List, [], _∷_, _*_, _+_, _-_, _<_, _≤_, suc, zero, ℕ}
+use Rattle.list_laws.proofs.Kit.{mul-le-mul, zero-mul, arith, eqb, ltb, List·getD-eq-default, getD, length, set, getD-set-other, getD-set-same, eq-eqb}
+use Rattle.list_laws.proofs.Kit.{le-ltb, lt-ltb, ne-eqb, decLt, ℕ-discrete}
 use Rattle.model.specs.Bounded.{sumBelow}
 use Rattle.model.specs.Piece.{onLine, sideBound}
 use Rattle.model.specs.Layout.{Job, Layout, Pair, origin, shapeIn, cornerIn, pairs, pairPenalty, names, sumOver, weightedSum, pieceSum}

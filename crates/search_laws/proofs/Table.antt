@@ -1,18 +1,9 @@
 -- A table of the pieces' penalties, for document 01's sums: entry 64 × i + k is the penalty of pieces i and k. When a piece is placed
 -- anew only its own row and column change; the loop over k that writes them keeps all other entries. What stands on the diagonal plays
 -- no part. Assumes nothing.
-use mathlib.Core.Bool.{not}
-use mathlib.Core.Path.{_≡_, refl, sym, _∙_, ap}
-use mathlib.Core.Logic.{⊎-elim, _≢_}
-use mathlib.Core.List.{List}
-use Prim.Native.Nat.{ℕ, suc, _+_, _*_, _-_, _<_, _≤_}
-use native.Mathlib.Nat.{one-mul, mul-zero, mul-le-mul-right}
-use native.Mathlib.Decide.{ℕ-discrete}
-use native.Mathlib.Omega.{arith}
-use borrow.Author.Tests.{eq-eqb, ne-eqb, not-true}
-use lib.Dec.{eqb}
-use lib.ListN.{length, getD, set, length-set, length-replicate, getD-replicate}
-use lib.Seq.{getD-set-same, getD-set-other}
+use Rattle.list_laws.proofs.Kit.{_∙_, _≡_, ap, refl, sym, not, _≢_, ⊎-elim, List, _*_, _+_, _-_, _<_, _≤_, suc, ℕ, mul-le-mul-right, mul-zero, one-mul, arith}
+use Rattle.list_laws.proofs.Kit.{eqb, getD, getD-replicate, length, length-replicate, length-set, set, getD-set-other, getD-set-same, eq-eqb, ne-eqb}
+use Rattle.list_laws.proofs.Kit.{not-true, ℕ-discrete}
 use Rattle.model.specs.Bounded.{sumBelow}
 use Rattle.model.specs.Layout.{Job, Layout, placeOf, pairOf, pairs, pairShares, pieceSum, unitWeights, plainSum}
 use Rattle.model.specs.declared.Placement.{Placement}

@@ -1,14 +1,8 @@
 -- Document 01, 'Descent and guidance', trials: their order without the list of them. After a piece's horizontal trial in a turn comes the
 -- vertical one, then the piece's next allowed turn, then the next piece in turn 0, and after the last trial the first. The list is
 -- the trials that one reaches so from piece 0, turn 0, horizontal, until that trial comes again. Assumes nothing.
-use mathlib.Core.Bool.{Bool, true, false}
-use mathlib.Core.Path.{_≡_, refl, sym, _∙_, ap}
-use mathlib.Core.List.{List, [], _∷_, _++_}
-use Prim.Native.Nat.{ℕ, zero, suc, _+_, _*_, _<_, _≤_}
-use native.Mathlib.Omega.{arith}
-use borrow.Author.Tests.{lt-ltb, le-ltb, ltb-true, ltb-false}
-use lib.Dec.{ltb}
-use lib.ListN.{length, getD, length-append}
+use Rattle.list_laws.proofs.Kit.{_∙_, _≡_, ap, refl, sym, Bool, false, true, List, [], _++_, _∷_, _*_, _+_, _<_, _≤_, suc, zero, ℕ, arith, ltb, getD, length}
+use Rattle.list_laws.proofs.Kit.{length-append, le-ltb, lt-ltb, ltb-false, ltb-true}
 use Rattle.model.specs.Bounded.{sumBelow, oneIf}
 use Rattle.model.specs.Layout.{Job, allowed}
 use Rattle.model.specs.Descent.{Trial, turnTrials, pieceTrials, trialsFrom, trials, trialAfter, noTrial}

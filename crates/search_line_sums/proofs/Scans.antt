@@ -1,10 +1,5 @@
 -- Loops over the sums at the places of a line: the least one so far, and sums to which a line is added. Assumes nothing.
-use mathlib.Core.List.{List}
-use mathlib.Core.Path.{_≡_, refl, sym, ap, ap₂, _∙_, subst}
-use Prim.Native.Nat.{ℕ, _+_, _*_, _-_, _<_, _≤_}
-use native.Mathlib.Nat.{mul-le-mul}
-use native.Mathlib.Omega.{arith}
-use lib.ListN.{length, getD, set}
+use Rattle.list_laws.proofs.Kit.{_∙_, _≡_, ap, ap₂, refl, subst, sym, List, _*_, _+_, _-_, _<_, _≤_, ℕ, mul-le-mul, arith, getD, length, set}
 use Rattle.list_laws.proofs.Passes.{Passing, pass-none, pass-over, pass-set}
 use Rattle.search_laws.specs.BoundedSearch.{belowBound}
 use Rattle.search_laws.proofs.BoundedSearch.{answerOf, answer-begin, answer-lower, answer-keep, answer-some, answer-none, whole-serves}

@@ -1,12 +1,6 @@
 -- How the store stays right: one with no tag is, and one stays so when a slot is made anew. Assumes nothing.
-use mathlib.Core.List.{List}
-use mathlib.Core.Logic.{⊎-elim}
-use mathlib.Core.Path.{_≡_, sym, ap, _∙_}
-use Prim.Native.Nat.{ℕ, _+_, _*_, _<_, _≤_}
-use native.Mathlib.Decide.{ℕ-discrete}
-use native.Mathlib.Omega.{arith}
-use lib.ListN.{length, getD, set, length-set}
-use lib.Seq.{getD-set-same, getD-set-other}
+use Rattle.list_laws.proofs.Kit.{_∙_, _≡_, ap, sym, ⊎-elim, List, _*_, _+_, _<_, _≤_, ℕ, arith, getD, length, length-set, set, getD-set-other, getD-set-same}
+use Rattle.list_laws.proofs.Kit.{ℕ-discrete}
 use Rattle.model.specs.Layout.{Job, turnedPiece}
 use Rattle.model.specs.Lent.{lentBy, jobOf, pieceBound, entryColumns, entryRows}
 use Rattle.model.specs.declared.Direction.{Direction}

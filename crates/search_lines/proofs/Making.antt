@@ -1,10 +1,6 @@
 -- One line, made in its part of the store: what its making asks of the two pieces' strips, and what the store holds then. Assumes nothing.
-use mathlib.Core.List.{List, _++_}
-use mathlib.Core.Path.{_≡_, sym, ap, _∙_}
-use Prim.Native.Nat.{ℕ, _+_, _-_, _<_, _≤_}
-use native.Mathlib.Omega.{arith}
-use lib.ListN.{length, getD, take, drop, length-append, length-drop, List·getD-append}
-use lib.Seq.{length-take-le, getD-append-add, getD-take, getD-drop}
+use Rattle.list_laws.proofs.Kit.{_∙_, _≡_, ap, sym, List, _++_, _+_, _-_, _<_, _≤_, ℕ, arith, List·getD-append, drop, getD, length, length-append}
+use Rattle.list_laws.proofs.Kit.{length-drop, take, getD-append-add, getD-drop, getD-take, length-take-le}
 use Rattle.model.specs.Piece.{extent, sideBound}
 use Rattle.model.specs.Layout.{Job, turnedPiece}
 use Rattle.model.specs.Lent.{Lent, jobOf}

@@ -1,8 +1,6 @@
 -- A kept line serves every two corners with its offset across: the penalty of two placed pieces depends on the difference of their corners
 -- only, so a piece on a line reads its penalties with a standing piece from their line. Assumes nothing.
-use mathlib.Core.Path.{_≡_, refl}
-use Prim.Native.Nat.{ℕ, _+_, _-_}
-use native.Mathlib.Omega.{arith}
+use Rattle.list_laws.proofs.Kit.{_≡_, refl, _+_, _-_, ℕ, arith}
 use Rattle.model.specs.Piece.{Point, Shape, along, across, point, extent, corner, lineDirection, held, onLine}
 use Rattle.model.specs.Overlap.{penalty}
 use Rattle.model.specs.Layout.{Job, Layout, turnedPiece, shapeIn, cornerIn}

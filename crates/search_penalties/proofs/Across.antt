@@ -1,13 +1,7 @@
 -- Levels: the line holds at each place the lesser of what it held and the least shift across, of those tried, that parts the pieces.
 -- Assumes nothing.
-use mathlib.Core.Bool.{Bool, true, false, not, _||_}
-use mathlib.Core.List.{List}
-use mathlib.Core.Path.{_≡_, refl, ap, ap₂, _∙_, subst}
-use mathlib.Core.Logic.{⊎-elim}
-use Prim.Native.Nat.{ℕ, _+_, min, _<_, _≤_}
-use native.Mathlib.Nat.{eq-or-lt-of-le}
-use native.Mathlib.Omega.{arith, by-contra}
-use lib.ListN.{length, getD}
+use Rattle.list_laws.proofs.Kit.{_∙_, _≡_, ap, ap₂, refl, subst, Bool, _||_, false, not, true, ⊎-elim, List, _+_, _<_, _≤_, min, ℕ, eq-or-lt-of-le, arith}
+use Rattle.list_laws.proofs.Kit.{by-contra, getD, length}
 use Rattle.model.specs.Bounded.{firstFrom}
 use Rattle.list_laws.proofs.Firsts.{FirstBelow, first-found}
 use Rattle.list_laws.proofs.Numbers.{below-or}

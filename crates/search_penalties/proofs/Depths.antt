@@ -1,13 +1,7 @@
 -- The depth along the line is the lesser of the distances to the next free place on either side. Each distance is one more than the
 -- neighbour's where a pixel is shared, since a shift by r + 1 at a place is a shift by r at its neighbour. Assumes nothing.
-use mathlib.Core.Bool.{Bool, true, false, not}
-use mathlib.Core.List.{List}
-use mathlib.Core.Path.{_≡_, sym, ap, _∙_}
-use mathlib.Core.Logic.{⊎-elim}
-use Prim.Native.Nat.{ℕ, zero, suc, _+_, _-_, _<_, _≤_}
-use native.Mathlib.Omega.{arith}
-use lib.ListN.{length, getD}
-use borrow.Author.Tests.{not-true, not-false}
+use Rattle.list_laws.proofs.Kit.{_∙_, _≡_, ap, sym, Bool, false, not, true, ⊎-elim, List, _+_, _-_, _<_, _≤_, suc, zero, ℕ, arith, getD, length, not-false}
+use Rattle.list_laws.proofs.Kit.{not-true}
 use Rattle.model.specs.Bounded.{firstFrom}
 use Rattle.list_laws.proofs.Tests.{same-tests, decided, fails}
 use Rattle.list_laws.proofs.Firsts.{first-now, first-later, FirstBelow, first-found}

@@ -1,12 +1,6 @@
 -- The whole line: the marks give the distances, the lesser of two distances is the depth along, and the levels give the penalties.
 -- Assumes nothing.
-use mathlib.Core.List.{List}
-use mathlib.Core.Path.{_≡_, refl, sym, ap, _∙_, subst}
-use Prim.Native.Nat.{ℕ, zero, suc, _+_, min, _<_}
-use native.Mathlib.Nat.{not-suc-le-zero}
-use native.Mathlib.Omega.{arith}
-use lib.ListN.{length, getD}
-use lib.Seq.{ext-getD}
+use Rattle.list_laws.proofs.Kit.{_∙_, _≡_, ap, refl, subst, sym, List, _+_, _<_, min, suc, zero, ℕ, not-suc-le-zero, arith, getD, length, ext-getD}
 use Rattle.pair_overlap.specs.Meet.{clearBelow}
 use Rattle.search_penalties.specs.declared.LinePair.{LinePair}
 use Rattle.search_penalties.specs.Line.{standingAt, movedAt, takenAt, alongAt, acrossAt, penaltyAt, valuesFrom, penaltyLine, Boxed, Grounded, LineFilled}

@@ -1,14 +1,7 @@
 -- Laws of outlines: a strip more keeps an outline an outline, and an outline's strip that is longer than the other line's widest gap
 -- meets one of its strips wherever it lies between their ends. Assumes nothing.
-use mathlib.Core.Bool.{true}
-use mathlib.Core.List.{List, []}
-use mathlib.Core.Path.{_≡_, sym, ap, _∙_, subst}
-use mathlib.Core.Logic.{⊎-elim}
-use Prim.Native.Nat.{ℕ, _+_, _-_, max, _<_, _≤_}
-use native.Mathlib.Nat.{eq-or-lt-of-le}
-use native.Mathlib.Omega.{arith}
-use lib.ListN.{length, getD, set, length-set, replicate, length-replicate, getD-replicate}
-use lib.Seq.{getD-set-same, getD-set-other}
+use Rattle.list_laws.proofs.Kit.{_∙_, _≡_, ap, subst, sym, true, ⊎-elim, List, [], _+_, _-_, _<_, _≤_, max, ℕ, eq-or-lt-of-le, arith, getD, getD-replicate}
+use Rattle.list_laws.proofs.Kit.{length, length-replicate, length-set, replicate, set, getD-set-other, getD-set-same}
 use Rattle.list_laws.proofs.Numbers.{below-or}
 use Rattle.pair_overlap.specs.Meet.{stripAt}
 use Rattle.pair_overlap.proofs.Walk.{facts-meet, meet-share}

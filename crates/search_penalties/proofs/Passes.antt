@@ -1,12 +1,6 @@
 -- Loops that go over a line once and set each place: what is done and what is left as it was. Assumes nothing.
-use mathlib.Core.List.{List}
-use mathlib.Core.Bool.{Bool, true, false}
-use mathlib.Core.Path.{_≡_, refl, sym, ap, ap₂, _∙_, subst}
-use mathlib.Core.Logic.{⊎-elim}
-use Prim.Native.Nat.{ℕ, zero, suc, _+_, _-_, min, _<_, _≤_}
-use native.Mathlib.Numerals.{add-one}
-use native.Mathlib.Omega.{arith}
-use lib.ListN.{length, getD, set}
+use Rattle.list_laws.proofs.Kit.{_∙_, _≡_, ap, ap₂, refl, subst, sym, Bool, false, true, ⊎-elim, List, _+_, _-_, _<_, _≤_, min, suc, zero, ℕ, add-one, arith}
+use Rattle.list_laws.proofs.Kit.{getD, length, set}
 use Rattle.list_laws.proofs.Numbers.{below-or}
 use Rattle.list_laws.proofs.Tests.{clash, decided}
 use Rattle.list_laws.proofs.Passes.{Passing, pass-none, pass-over, pass-set}

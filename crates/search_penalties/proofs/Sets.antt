@@ -1,9 +1,6 @@
 -- What the line comes to for the strips of pixel sets, in every direction: place k holds document 01's penalty of the moved set with its
 -- corner at k along the line and the standing set with its corner at the bias. Assumes nothing.
-use mathlib.Core.Bool.{Bool, not, _||_}
-use mathlib.Core.Path.{_≡_, refl, sym, ap, ap₂, _∙_}
-use Prim.Native.Nat.{ℕ, _+_, _-_, min, _<_, _≤_}
-use native.Mathlib.Omega.{arith}
+use Rattle.list_laws.proofs.Kit.{_∙_, _≡_, ap, ap₂, refl, sym, Bool, _||_, not, _+_, _-_, _<_, _≤_, min, ℕ, arith}
 use Rattle.model.specs.Bounded.{firstFrom}
 use Rattle.model.specs.Piece.{Point, Shape, other, point, extent}
 use Rattle.model.specs.Strip.{strips}

@@ -1,9 +1,5 @@
 -- What the check of a lent job says of its numbers, and so of the places of a line. Assumes nothing.
-use mathlib.Core.Bool.{Bool, true, false}
-use mathlib.Core.Path.{_≡_}
-use Prim.Native.Nat.{ℕ, suc, _+_, _-_, _≤_}
-use native.Mathlib.Omega.{arith}
-use lib.Dec.{leb}
+use Rattle.list_laws.proofs.Kit.{_≡_, Bool, false, true, _+_, _-_, _≤_, suc, ℕ, arith, leb}
 use Rattle.model.specs.Piece.{extent, other, lineDirection, held}
 use Rattle.model.specs.Layout.{sheetExtent, turnedPiece}
 use Rattle.model.specs.Search.{places}

@@ -1,14 +1,7 @@
 -- The store of shapes while it is filled: those with numbers below k stand in it, and nothing that is written later touches them.
 -- Assumes nothing.
-use mathlib.Core.List.{List, map}
-use mathlib.Core.Logic.{⊎-elim}
-use mathlib.Core.Bool.{true}
-use mathlib.Core.Path.{_≡_, sym, _∙_, subst}
-use Prim.Native.Nat.{ℕ, _+_, _*_, _-_, _/_, _≤_, _<_}
-use native.Mathlib.Nat.{eq-or-lt-of-le}
-use native.Mathlib.Omega.{arith}
-use lib.ListN.{length, getD, set, length-set, length-map}
-use lib.Seq.{length-sets, getD-set-same, getD-set-other}
+use Rattle.list_laws.proofs.Kit.{_∙_, _≡_, subst, sym, true, ⊎-elim, List, map, _*_, _+_, _-_, _/_, _<_, _≤_, ℕ, eq-or-lt-of-le, arith, getD, length}
+use Rattle.list_laws.proofs.Kit.{length-map, length-set, set, getD-set-other, getD-set-same, length-sets}
 use Rattle.model.specs.Piece.{Shape, extent, sideBound}
 use Rattle.model.specs.Strip.{Strip, strips}
 use Rattle.model.specs.Buffer.{stripEntry}

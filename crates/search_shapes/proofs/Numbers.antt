@@ -1,13 +1,6 @@
 -- The numbers of shapes: each piece in each turn has its own, and the strips up to one are at most as many as the pixels of the
 -- boxes up to it. Assumes nothing.
-use mathlib.Core.List.{List}
-use mathlib.Core.Logic.{⊎-elim}
-use mathlib.Core.Path.{_≡_, refl}
-use Prim.Native.Nat.{ℕ, zero, suc, _+_, _*_, _/_, _%_, _≤_, _<_}
-use native.Mathlib.Nat.{suc-mul, mul-le-mul-right}
-use native.Mathlib.Numerals.{add-one}
-use native.Mathlib.Omega.{arith}
-use lib.ListN.{length}
+use Rattle.list_laws.proofs.Kit.{_≡_, refl, ⊎-elim, List, _%_, _*_, _+_, _/_, _<_, _≤_, suc, zero, ℕ, add-one, mul-le-mul-right, suc-mul, arith, length}
 use Rattle.model.specs.Piece.{extent, sideBound}
 use Rattle.model.specs.Strip.{strips}
 use Rattle.model.specs.Layout.{Job, turnedPiece}

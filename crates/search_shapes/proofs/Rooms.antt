@@ -1,9 +1,5 @@
 -- A store that holds the strips of every job. Assumes nothing.
-use mathlib.Core.List.{List}
-use mathlib.Core.Path.{_≡_}
-use Prim.Native.Nat.{ℕ}
-use native.Mathlib.Omega.{arith}
-use lib.ListN.{length, replicate, length-replicate}
+use Rattle.list_laws.proofs.Kit.{_≡_, List, ℕ, arith, length, length-replicate, replicate}
 use Rattle.search_shapes.specs.Shapes.{ShapesRoom}
 
 -- a store of 262,144 strips with 257 starts holds the strips of every job

@@ -1,12 +1,6 @@
 -- Weights that are raised pair by pair, as the table tells which pairs share a pixel. Assumes nothing.
-use mathlib.Core.Bool.{Bool, true, false, not}
-use mathlib.Core.List.{List}
-use mathlib.Core.Path.{_≡_, refl, sym, ap, ap₂, _∙_, subst}
-use Prim.Native.Nat.{ℕ, _+_, _<_, _≤_}
-use native.Mathlib.Omega.{arith}
-use borrow.Author.Tests.{ltb-true, ltb-false, eq-eqb, ne-eqb, lt-ltb, le-ltb}
-use lib.Dec.{eqb, ltb}
-use lib.ListN.{length, getD, set}
+use Rattle.list_laws.proofs.Kit.{_∙_, _≡_, ap, ap₂, refl, subst, sym, Bool, false, not, true, List, _+_, _<_, _≤_, ℕ, arith, eqb, ltb, getD, length, set}
+use Rattle.list_laws.proofs.Kit.{eq-eqb, le-ltb, lt-ltb, ltb-false, ltb-true, ne-eqb}
 use Rattle.model.specs.Layout.{Job, Layout, pairs}
 use Rattle.model.specs.Guided.{weightBound, raised}
 use Rattle.descent_laws.specs.Claims.{ValidWeights}

@@ -1,11 +1,6 @@
 -- Running sums over the rows of the table of penalties and over the weights beside it. Assumes nothing.
-use mathlib.Core.List.{List}
-use mathlib.Core.Path.{_≡_, sym, ap, ap₂, _∙_, subst}
-use Prim.Native.Nat.{ℕ, suc, _+_, _*_, _-_, _/_, _<_, _≤_}
-use native.Mathlib.Nat.{mul-le-mul}
-use native.Mathlib.Numerals.{add-one}
-use native.Mathlib.Omega.{arith}
-use lib.ListN.{length, getD, take, replicate}
+use Rattle.list_laws.proofs.Kit.{_∙_, _≡_, ap, ap₂, subst, sym, List, _*_, _+_, _-_, _/_, _<_, _≤_, suc, ℕ, add-one, mul-le-mul, arith, getD, length}
+use Rattle.list_laws.proofs.Kit.{replicate, take}
 use Rattle.model.specs.Bounded.{sumBelow}
 use Rattle.model.specs.Layout.{Job, Layout, pairs, pieceSum, weightedSum, unitWeights}
 use Rattle.list_laws.proofs.Sums.{sum-step, sum-agree}

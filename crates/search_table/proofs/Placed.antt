@@ -1,12 +1,5 @@
 -- Two placed pieces: boxes that do not meet share no pixel, and what the strips of two pieces tell of them. Assumes nothing.
-use mathlib.Core.Bool.{Bool, true, false, _&&_}
-use mathlib.Core.List.{List}
-use mathlib.Core.Path.{_≡_, refl, sym, ap₂, _∙_}
-use Prim.Native.Nat.{ℕ, _+_, _<_, _≤_, min}
-use native.Mathlib.Omega.{arith}
-use borrow.Author.Tests.{lt-ltb, leb-true}
-use lib.Dec.{ltb, leb}
-use lib.ListN.{length}
+use Rattle.list_laws.proofs.Kit.{_∙_, _≡_, ap₂, refl, sym, Bool, _&&_, false, true, List, _+_, _<_, _≤_, min, ℕ, arith, leb, ltb, length, leb-true, lt-ltb}
 use Rattle.model.specs.Piece.{Point, Shape, corner, along, extent}
 use Rattle.model.specs.Overlap.{share}
 use Rattle.model.specs.Layout.{Layout, turnedPiece, inside, placeOf, pairOf, pairShares}

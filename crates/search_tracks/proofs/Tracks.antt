@@ -1,9 +1,5 @@
 -- Boxes beside a line: the moving piece's places, and the places at which its box meets a standing one's. Assumes nothing.
-use mathlib.Core.Logic.{⊎-elim}
-use mathlib.Core.Path.{_≡_, sym, subst}
-use Prim.Native.Nat.{ℕ, suc, _+_, _-_, _<_, _≤_, min}
-use native.Mathlib.Omega.{arith}
-use borrow.Author.Tests.{le-leb, lt-leb}
+use Rattle.list_laws.proofs.Kit.{_≡_, subst, sym, ⊎-elim, _+_, _-_, _<_, _≤_, min, suc, ℕ, arith, le-leb, lt-leb}
 use Rattle.model.specs.Layout.{Job, Layout, turnedPiece, placeOf}
 use Rattle.model.specs.Search.{places}
 use Rattle.model.specs.declared.Direction.{Direction}

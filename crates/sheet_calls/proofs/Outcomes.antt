@@ -1,14 +1,6 @@
 -- What the calls on a sheet come to, by the numbers that their checks gave, and what they answer. Assumes nothing.
-use mathlib.Core.Bool.{true, false, not}
-use mathlib.Core.Path.{_≡_, refl, sym, _∙_, ap, fun-ext}
-use mathlib.Core.List.{List, [], append-nil}
-use mathlib.Core.Logic.{⊎-elim}
-use Prim.Native.Nat.{ℕ, _+_, _-_, _*_, _<_}
-use native.Mathlib.Omega.{arith}
-use lib.Dec.{eqb}
-use lib.ListN.{length, getD}
-use lib.Seq.{ext-getD}
-use borrow.Author.Tests.{not-false, eqb-true, eq-eqb, ne-eqb}
+use Rattle.list_laws.proofs.Kit.{_∙_, _≡_, ap, fun-ext, refl, sym, false, not, true, ⊎-elim, List, [], append-nil, _*_, _+_, _-_, _<_, ℕ, arith, eqb, getD}
+use Rattle.list_laws.proofs.Kit.{length, ext-getD, eq-eqb, eqb-true, ne-eqb, not-false}
 use Rattle.model.specs.Bounded.{oneIf}
 use Rattle.model.specs.Layout.{Job, inside}
 use Rattle.model.specs.Lent.{Lent, jobOf, lentWell}

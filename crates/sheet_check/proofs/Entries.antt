@@ -1,11 +1,5 @@
 -- The test of an entry, part by part, and what a record of entries that pass it says of a laid piece. Assumes nothing.
-use mathlib.Core.Bool.{true, false, _&&_, and-true}
-use mathlib.Core.Path.{_≡_}
-use mathlib.Core.List.{List}
-use Prim.Native.Nat.{ℕ, _*_}
-use lib.Dec.{ltb}
-use lib.ListN.{length}
-use borrow.Author.Tests.{eq-eqb}
+use Rattle.list_laws.proofs.Kit.{_≡_, _&&_, and-true, false, true, List, _*_, ℕ, ltb, length, eq-eqb}
 use Rattle.model.specs.Bounded.{allBelow}
 use Rattle.model.specs.Layout.{Job, allowed, inside}
 use Rattle.model.specs.Lent.{pieceBound}

@@ -1,18 +1,8 @@
 -- The counts of a record made anew: piece after piece, each pixel's count grows by whether the piece is laid on it, so that after all
 -- pieces it is the number of laid pieces on it; and two lists of counts of which one is so made are the same where each count of the
 -- other is that number. Assumes nothing.
-use mathlib.Core.Bool.{Bool, true, false}
-use mathlib.Core.Path.{_≡_, refl, sym, _∙_, ap}
-use mathlib.Core.List.{List, [], _∷_}
-use mathlib.Core.Logic.{⊎-elim}
-use Prim.Native.Nat.{ℕ, suc, _+_, _-_, _*_, _<_, _≤_}
-use native.Mathlib.Nat.{zero-add}
-use native.Mathlib.Numerals.{add-one}
-use native.Mathlib.Omega.{arith}
-use lib.Dec.{eqb}
-use lib.ListN.{length, getD, replicate, length-replicate, getD-replicate}
-use lib.Seq.{ext-getD}
-use borrow.Author.Tests.{lt-ltb, eqb-true, eq-eqb}
+use Rattle.list_laws.proofs.Kit.{_∙_, _≡_, ap, refl, sym, Bool, false, true, ⊎-elim, List, [], _∷_, _*_, _+_, _-_, _<_, _≤_, suc, ℕ, add-one, zero-add, arith}
+use Rattle.list_laws.proofs.Kit.{eqb, getD, getD-replicate, length, length-replicate, replicate, ext-getD, eq-eqb, eqb-true, lt-ltb}
 use Rattle.model.specs.Bounded.{allBelow, sumBelow, oneIf}
 use Rattle.model.specs.Layout.{Job, inside}
 use Rattle.model.specs.Lent.{pieceBound}

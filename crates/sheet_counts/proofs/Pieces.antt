@@ -1,14 +1,6 @@
 -- A piece that passed its checks: its places are on the sheet, and moving its rows is what the sheet's definition says of the piece.
 -- Assumes nothing.
-use mathlib.Core.Bool.{Bool}
-use mathlib.Core.Path.{_≡_, ap, _∙_}
-use mathlib.Core.List.{List, []}
-use Prim.Native.Nat.{ℕ, suc, _+_, _*_, _<_, _≤_}
-use native.Mathlib.Nat.{suc-mul, add-mul, mul-le-mul-right}
-use native.Mathlib.Omega.{arith}
-use lib.Dec.{leb}
-use lib.ListN.{length}
-use borrow.Author.Tests.{leb-true}
+use Rattle.list_laws.proofs.Kit.{_∙_, _≡_, ap, Bool, List, [], _*_, _+_, _<_, _≤_, suc, ℕ, add-mul, mul-le-mul-right, suc-mul, arith, leb, length, leb-true}
 use Rattle.model.specs.Piece.{corner}
 use Rattle.model.specs.Layout.{turnedPiece, inside}
 use Rattle.model.specs.Lent.{Lent, jobOf, pixelStart}

@@ -1,17 +1,8 @@
 -- The counts after a piece's rows are added or taken off, one after another, and why they are the sheet's definition of it: the place
 -- in row d and column e of the turned box is the sheet's pixel (x + e, y + d), and no other pixel is touched. Assumes nothing.
-use mathlib.Core.Bool.{Bool, true, false, _&&_}
-use mathlib.Core.Path.{_≡_, refl, sym, _∙_, ap}
-use mathlib.Core.List.{List}
-use mathlib.Core.Logic.{_⊎_, inl, inr, ⊎-elim, _≢_}
-use Prim.Native.Nat.{ℕ, zero, suc, _+_, _-_, _*_, _<_, _≤_}
-use native.Mathlib.Nat.{suc-mul, zero-mul, add-mul, zero-add}
-use native.Mathlib.Numerals.{add-one}
-use native.Mathlib.Omega.{arith}
-use lib.Dec.{ltb, leb}
-use lib.ListN.{length, getD}
-use lib.Seq.{ext-getD}
-use borrow.Author.Tests.{ltb-true, ltb-false, leb-true, lt-ltb, le-leb}
+use Rattle.list_laws.proofs.Kit.{_∙_, _≡_, ap, refl, sym, Bool, _&&_, false, true, _≢_, _⊎_, inl, inr, ⊎-elim, List, _*_, _+_, _-_, _<_, _≤_, suc, zero, ℕ}
+use Rattle.list_laws.proofs.Kit.{add-one, add-mul, suc-mul, zero-add, zero-mul, arith, leb, ltb, getD, length, ext-getD, le-leb, leb-true, lt-ltb, ltb-false}
+use Rattle.list_laws.proofs.Kit.{ltb-true}
 use Rattle.model.specs.Piece.{Point, Shape, covers}
 use Rattle.model.specs.Layout.{Job}
 use Rattle.model.specs.Cover.{pixelAt, mapFrom}

@@ -1,14 +1,6 @@
 -- The counts of a row after a piece's pixels of that row are added or taken off. Assumes nothing.
-use mathlib.Core.Bool.{Bool}
-use mathlib.Core.Path.{_≡_, refl, _∙_, ap}
-use mathlib.Core.List.{List}
-use mathlib.Core.Logic.{_⊎_, inl, inr, ⊎-elim, _≢_}
-use Prim.Native.Nat.{ℕ, zero, suc, _+_, _-_, _<_, _≤_}
-use native.Mathlib.Nat.{add-zero}
-use native.Mathlib.Numerals.{add-one}
-use native.Mathlib.Omega.{arith}
-use lib.ListN.{length, getD, set, length-set}
-use lib.Seq.{getD-set-same, getD-set-other}
+use Rattle.list_laws.proofs.Kit.{_∙_, _≡_, ap, refl, Bool, _≢_, _⊎_, inl, inr, ⊎-elim, List, _+_, _-_, _<_, _≤_, suc, zero, ℕ, add-one, add-zero, arith, getD}
+use Rattle.list_laws.proofs.Kit.{length, length-set, set, getD-set-other, getD-set-same}
 use Rattle.sheet_counts.specs.Stamp.{moved, movedRun}
 
 -- the first of the columns that are left

@@ -1,15 +1,7 @@
 -- Lists of calls through the code. On a sheet that is ready, the first three causes of a call are not there, so the call comes to what
 -- the definition of a list of calls says; and the sheet is ready again after it. Assumes nothing.
-use mathlib.Core.Bool.{Bool, true, false}
-use mathlib.Core.Path.{_≡_, refl, _∙_}
-use mathlib.Core.List.{List, [], _∷_}
-use mathlib.Core.Logic.{_⊎_, inl, inr, ⊎-elim}
-use Prim.Native.Nat.{ℕ, _+_, _<_, _≤_}
-use native.Mathlib.Numerals.{add-one}
-use native.Mathlib.Omega.{arith}
-use lib.ListN.{length, getD, drop, drop-of-length-le}
-use lib.Seq.{drop-cons}
-use borrow.Author.Tests.{eq-eqb, ne-eqb, not-false}
+use Rattle.list_laws.proofs.Kit.{_∙_, _≡_, refl, Bool, false, true, _⊎_, inl, inr, ⊎-elim, List, [], _∷_, _+_, _<_, _≤_, ℕ, add-one, arith, drop}
+use Rattle.list_laws.proofs.Kit.{drop-of-length-le, getD, length, drop-cons, eq-eqb, ne-eqb, not-false}
 use Rattle.model.specs.Layout.{Job}
 use Rattle.model.specs.Lent.{Lent, jobOf, lentWell}
 use Rattle.model.specs.Buffer.{placement}

@@ -3,13 +3,7 @@
 -- Why it is true: what a call leaves in the buffers is read as the sheet after it (`buffers-back`), and on a sheet that is ready an
 -- exported call comes to what the definition of a list of calls says; so the buffers hold the sheet that the list gives, of which
 -- `demand2-cover` speaks. Assumes nothing.
-use mathlib.Core.Bool.{Bool, true, false}
-use mathlib.Core.List.{List, [], _∷_}
-use mathlib.Core.Path.{_≡_, refl, sym, subst, _∙_, ap}
-use Prim.Native.Nat.{ℕ, _<_}
-use native.Mathlib.Omega.{arith}
-use lib.ListN.{length}
-use borrow.Author.Tests.{not-false}
+use Rattle.list_laws.proofs.Kit.{_∙_, _≡_, ap, refl, subst, sym, Bool, false, true, List, [], _∷_, _<_, ℕ, arith, length, not-false}
 use Rattle.model.specs.Lent.{Lent, jobOf, lentWell}
 use Rattle.model.specs.Refusal.{Outcome, refused, given, Cause, refusalOf, unless}
 use Rattle.model.specs.Calls.{jobCause, countsLength, freshCall}

@@ -1,12 +1,5 @@
 -- The number that the causes of a sheet give, by the tests of the buffer and of the sheet. Assumes nothing.
-use mathlib.Core.Bool.{true, false, not}
-use mathlib.Core.Path.{_≡_, refl, sym, _∙_}
-use mathlib.Core.List.{[], _∷_}
-use Prim.Native.Nat.{ℕ, _*_}
-use native.Mathlib.Omega.{arith}
-use lib.Dec.{eqb}
-use lib.ListN.{length}
-use borrow.Author.Tests.{not-false, eqb-true}
+use Rattle.list_laws.proofs.Kit.{_∙_, _≡_, refl, sym, false, not, true, [], _∷_, _*_, ℕ, arith, eqb, length, eqb-true, not-false}
 use Rattle.model.specs.Lent.{Lent, jobOf, lentWell}
 use Rattle.model.specs.Refusal.{cause, notOurs}
 use Rattle.model.specs.Calls.{sheetCauses}

@@ -1,10 +1,6 @@
 -- Causes without places: a call that names the first of them by its number, 0 where none is there, knows the call's outcome.
 -- Assumes nothing.
-use mathlib.Core.Bool.{Bool, true, false}
-use mathlib.Core.Path.{_≡_, refl, sym, _∙_, ap}
-use mathlib.Core.List.{List, [], _∷_, _++_}
-use Prim.Native.Nat.{ℕ, _<_}
-use native.Mathlib.Omega.{arith}
+use Rattle.list_laws.proofs.Kit.{_∙_, _≡_, ap, refl, sym, Bool, false, true, List, [], _++_, _∷_, _<_, ℕ, arith}
 use Rattle.model.specs.Refusal.{Outcome, refused, Cause, refusalOf, unless, plainRefusal}
 use Rattle.model.specs.declared.Refusal.{Refusal}
 use Rattle.text_laws.specs.Outcomes.{NoCause}

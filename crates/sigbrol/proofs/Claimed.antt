@@ -1,9 +1,6 @@
 -- What demand 3 says of a run, over the numbers that C is given: they are those of the run, and a reply of number 0 tells that there was one,
 -- since every cause of a refusal has a number other than 0. Assumes nothing.
-use mathlib.Core.List.{List}
-use mathlib.Core.Path.{_≡_, sym, subst, _∙_, ap}
-use Prim.Native.Nat.{ℕ, _<_}
-use native.Mathlib.Omega.{arith}
+use Rattle.list_laws.proofs.Kit.{_∙_, _≡_, ap, subst, sym, List, _<_, ℕ, arith}
 use Rattle.model.specs.Layout.{Job, Layout}
 use Rattle.model.specs.Lent.{Lent}
 use Rattle.model.specs.Refusal.{refused}

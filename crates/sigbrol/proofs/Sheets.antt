@@ -1,8 +1,5 @@
 -- What an exported call on the sheet replies and leaves in the record's buffer, by the answer of the call below it. Assumes nothing.
-use mathlib.Core.List.{List}
-use mathlib.Core.Path.{_≡_, refl, sym, ap, _∙_}
-use Prim.Native.Nat.{ℕ}
-use native.Mathlib.Omega.{arith}
+use Rattle.list_laws.proofs.Kit.{_∙_, _≡_, ap, refl, sym, List, ℕ, arith}
 use Rattle.model.specs.Cover.{Sheet}
 use Rattle.model.specs.Refusal.{Outcome, refused, given}
 use Rattle.model.specs.declared.Record.{Record}

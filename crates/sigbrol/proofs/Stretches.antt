@@ -1,8 +1,5 @@
 -- A stretch is given exactly where it is not empty, so its length tells a refusal. Assumes nothing.
-use mathlib.Core.List.{List}
-use mathlib.Core.Path.{_≡_, refl}
-use Prim.Native.Nat.{ℕ}
-use lib.ListN.{length}
+use Rattle.list_laws.proofs.Kit.{_≡_, refl, List, ℕ, length}
 use Rattle.model.specs.Refusal.{Outcome, refused, given}
 use Rattle.model.specs.Lent.{Lent}
 use Rattle.model.specs.Calls.{Stores, leaving, stretchCall, stretchGiven, stretchNumber}

@@ -1,11 +1,6 @@
 -- What an exported call makes of an answer. An answer tells an outcome, some of what is given left out; reply and lent memory follow from
 -- what is told. Assumes nothing.
-use mathlib.Core.Bool.{Bool, true, false}
-use mathlib.Core.List.{List, [], _∷_}
-use mathlib.Core.Path.{_≡_, refl, _∙_, ap}
-use Prim.Native.Nat.{ℕ, _<_}
-use native.Mathlib.Omega.{arith}
-use lib.ListN.{length}
+use Rattle.list_laws.proofs.Kit.{_∙_, _≡_, ap, refl, Bool, false, true, List, [], _∷_, _<_, ℕ, arith, length}
 use Rattle.model.specs.Piece.{coordinateNumber}
 use Rattle.model.specs.Lent.{Lent}
 use Rattle.model.specs.Answers.{doneAnswer, numberAnswer, countAnswer}

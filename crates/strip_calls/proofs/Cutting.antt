@@ -1,12 +1,7 @@
 -- Where a stretch is cut out of a lent store: each start is the number of strips before, so starts grow and none is past the store.
 -- Assumes nothing.
-use mathlib.Core.Bool.{true}
-use mathlib.Core.List.{List, map}
-use mathlib.Core.Path.{_≡_, sym, ap, _∙_}
-use Prim.Native.Nat.{ℕ, zero, suc, _+_, _≤_, _<_, min}
-use native.Mathlib.Omega.{arith}
-use lib.ListN.{length, getD, take, length-append, length-map, length-take}
-use lib.Seq.{getD-take}
+use Rattle.list_laws.proofs.Kit.{_∙_, _≡_, ap, sym, true, List, map, _+_, _<_, _≤_, min, suc, zero, ℕ, arith, getD, length, length-append, length-map}
+use Rattle.list_laws.proofs.Kit.{length-take, take, getD-take}
 use Rattle.model.specs.Buffer.{stripEntry, sameEntries}
 use Rattle.model.specs.Layout.{Job}
 use Rattle.model.specs.Store.{pieceStrips, storeFrom, startsFrom, store, starts, storeWell}

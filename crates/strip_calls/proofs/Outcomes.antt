@@ -1,13 +1,6 @@
 -- What the strips call and the stretch call come to, case by case in the order of their causes. Assumes nothing.
-use mathlib.Core.Bool.{Bool, true, false, not, _&&_, _||_}
-use mathlib.Core.List.{List, [], _∷_, map}
-use mathlib.Core.Path.{_≡_, refl, ap, _∙_}
-use Prim.Native.Nat.{ℕ, _<_, _≤_}
-use native.Mathlib.Omega.{arith}
-use borrow.Author.Tests.{lt-ltb, le-ltb, ltb-true, ltb-false, not-true, not-false}
-use lib.Dec.{ltb}
-use lib.ListN.{length, length-map}
-use lib.Seq.{sets}
+use Rattle.list_laws.proofs.Kit.{_∙_, _≡_, ap, refl, Bool, _&&_, _||_, false, not, true, List, [], _∷_, map, _<_, _≤_, ℕ, arith, ltb, length, length-map}
+use Rattle.list_laws.proofs.Kit.{sets, le-ltb, lt-ltb, ltb-false, ltb-true, not-false, not-true}
 use Rattle.model.specs.Buffer.{stripEntry, filled}
 use Rattle.model.specs.Layout.{Job}
 use Rattle.model.specs.Lent.{Lent, jobOf, lentWell}

@@ -1,13 +1,7 @@
 -- Whether the set that valid strips make is tight, by the strips alone: a line holds a pixel where some strip lies in it, and a
 -- line across holds one where some strip reaches it. With that, refusal 8 of rebuilding. Assumes nothing.
-use mathlib.Core.Bool.{Bool, true, false, _&&_, and-true}
-use mathlib.Core.List.{List, [], _∷_, map, List·Memᴰ}
-use mathlib.Core.Path.{_≡_, refl, sym, ap, ap₂, _∙_}
-use Prim.Native.Nat.{ℕ, suc, _+_, _-_, _<_, _≤_}
-use native.Mathlib.Omega.{arith}
-use lib.Dec.{leb, eqb}
-use lib.ListN.{length}
-use borrow.Author.Tests.{ltb-true, lt-ltb, leb-true, le-leb, eqb-true, eq-eqb}
+use Rattle.list_laws.proofs.Kit.{_∙_, _≡_, ap, ap₂, refl, sym, Bool, _&&_, and-true, false, true, List, List·Memᴰ, [], _∷_, map, _+_, _-_, _<_, _≤_, suc, ℕ}
+use Rattle.list_laws.proofs.Kit.{arith, eqb, leb, length, eq-eqb, eqb-true, le-leb, leb-true, lt-ltb, ltb-true}
 use Rattle.model.specs.Bounded.{anyBelow, allBelow}
 use Rattle.model.specs.Piece.{Shape, other, along, across, point, extent, cell, holds, tightAlong, tight}
 use Rattle.model.specs.Strip.{Strip, strips, stripsHave, rebuilt}

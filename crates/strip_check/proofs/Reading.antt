@@ -1,9 +1,5 @@
 -- Entries of a buffer read as strips. Assumes nothing.
-use mathlib.Core.List.{List, [], _∷_}
-use mathlib.Core.Path.{_≡_, refl, sym, ap, _∙_}
-use Prim.Native.Nat.{ℕ}
-use native.Mathlib.Omega.{arith}
-use lib.ListN.{length}
+use Rattle.list_laws.proofs.Kit.{_∙_, _≡_, ap, refl, sym, List, [], _∷_, ℕ, arith, length}
 use Rattle.model.specs.Buffer.{stripEntry, entryStrip}
 use Rattle.strip_check.specs.Check.{asStrip, ReadOf}
 use Rattle.strip_check.specs.declared.Strip.{Strip as ReadStrip}

@@ -1,14 +1,8 @@
 -- Refusal 8 of rebuilding, by local tests: the strips of a buffer are valid exactly when each fits the box and stands behind the
 -- one before it. Standing before is kept from neighbour to neighbour. Assumes nothing.
-use mathlib.Core.Bool.{Bool, true, false, _&&_}
-use mathlib.Core.List.{List, [], _∷_, map, List·Memᴰ, List·Memᴰ·head, List·Memᴰ·tail, List·Memᴰ·not-nil, List·Memᴰ·cases-cons}
-use mathlib.Core.Path.{_≡_, refl, sym, subst, _∙_}
-use mathlib.Core.Logic.{inl, inr, ⊎-elim}
-use Prim.Native.Nat.{ℕ, zero, suc, _-_, _<_}
-use native.Mathlib.Omega.{arith}
-use lib.Dec.{ltb, eqb}
-use lib.ListN.{length, length-map, List·getD-map}
-use borrow.Author.Tests.{ltb-true, lt-ltb, leb-true, le-leb, eqb-true, eq-eqb, ne-eqb}
+use Rattle.list_laws.proofs.Kit.{_∙_, _≡_, refl, subst, sym, Bool, _&&_, false, true, inl, inr, ⊎-elim, List, List·Memᴰ, List·Memᴰ·cases-cons, List·Memᴰ·head}
+use Rattle.list_laws.proofs.Kit.{List·Memᴰ·not-nil, List·Memᴰ·tail, [], _∷_, map, _-_, _<_, suc, zero, ℕ, arith, eqb, ltb, List·getD-map, length, length-map}
+use Rattle.list_laws.proofs.Kit.{eq-eqb, eqb-true, le-leb, leb-true, lt-ltb, ltb-true, ne-eqb}
 use Rattle.model.specs.Piece.{other}
 use Rattle.model.specs.Strip.{Strip}
 use Rattle.model.specs.Buffer.{entryStrip}

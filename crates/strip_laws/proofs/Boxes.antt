@@ -1,11 +1,6 @@
 -- Document 01, 'Sheet and panels': points of a box, and what is alike along rows and columns. A point of the box is a pixel
 -- exactly when the shape's own test says so; outside the box there is no pixel. Assumes nothing.
-use mathlib.Core.Bool.{Bool, true, false, _&&_}
-use mathlib.Core.Path.{_≡_, refl, sym, ap₂, _∙_}
-use Prim.Native.Nat.{ℕ, _<_, _≤_}
-use native.Mathlib.Omega.{arith}
-use lib.Dec.{ltb}
-use borrow.Author.Tests.{ltb-true, lt-ltb}
+use Rattle.list_laws.proofs.Kit.{_∙_, _≡_, ap₂, refl, sym, Bool, _&&_, false, true, _<_, _≤_, ℕ, arith, ltb, lt-ltb, ltb-true}
 use Rattle.model.specs.Piece.{Point, Shape, pixel, other, along, across, point, extent, cell}
 use Rattle.model.specs.declared.Direction.{Direction}
 use Rattle.model.specs.declared.Direction.the-variants.{Horizontal, Vertical}

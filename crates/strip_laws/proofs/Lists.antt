@@ -1,11 +1,8 @@
 -- Lists whose elements stand in an order, an earlier one before each later one: mapped, joined, by places, and fixed by their
 -- elements. Assumes nothing.
-use mathlib.Core.List.{List, _∷_, _++_, map, List·Memᴰ, List·Memᴰ·head, List·Memᴰ·tail, List·Memᴰ·not-nil, List·Memᴰ·cases-cons, List·Memᴰ·append-cases}
-use mathlib.Core.Path.{_≡_, refl, sym, subst, ap₂, _∙_}
-use mathlib.Core.Logic.{_⊎_, inl, inr, ⊎-elim}
-use Prim.Native.Nat.{ℕ, zero, suc, _<_}
-use native.Mathlib.Nat.{not-suc-le-zero, le-of-suc-le-suc}
-use lib.ListN.{length, getD}
+use Rattle.list_laws.proofs.Kit.{_∙_, _≡_, ap₂, refl, subst, sym, _⊎_, inl, inr, ⊎-elim, List, List·Memᴰ, List·Memᴰ·append-cases, List·Memᴰ·cases-cons}
+use Rattle.list_laws.proofs.Kit.{List·Memᴰ·head, List·Memᴰ·not-nil, List·Memᴰ·tail, _++_, _∷_, map, _<_, suc, zero, ℕ, le-of-suc-le-suc, not-suc-le-zero}
+use Rattle.list_laws.proofs.Kit.{getD, length}
 use Rattle.list_laws.proofs.Lists.{member-at, Source, map-source}
 use Rattle.strip_laws.specs.Lists.{Pairwise, none, more}
 

@@ -1,10 +1,6 @@
 -- Document 01, 'Strips': rebuilding gives the one pixel set that has the given strips. The strips of a shape hold just its pixels,
 -- so the set rebuilt from them, in the same box, has the same pixels and with them the same strips. Assumes nothing.
-use mathlib.Core.Bool.{true}
-use mathlib.Core.List.{List}
-use mathlib.Core.Path.{_≡_, refl, sym, subst₃, _∙_}
-use Prim.Native.Nat.{ℕ, _<_}
-use lib.ListN.{length}
+use Rattle.list_laws.proofs.Kit.{_∙_, _≡_, refl, subst₃, sym, true, List, _<_, ℕ, length}
 use Rattle.model.specs.Piece.{Point, Shape, pixel, tight, point}
 use Rattle.model.specs.Strip.{Strip, strips, stripsHave, rebuilt}
 use Rattle.model.specs.declared.Direction.{Direction}

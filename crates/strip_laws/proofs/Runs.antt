@@ -2,13 +2,8 @@
 -- `runs f n` holds just the numbers that pass, each run is maximal, and runs ascend with a gap; so the list fixes the test below n
 -- and the test fixes the list. All of it follows from one description of the list, `RunsOver`, that the pass over the numbers
 -- from 0 to n keeps: `Pending` says what is known of the numbers that are read and not yet listed. Assumes nothing.
-use mathlib.Core.Bool.{Bool, true, false, true≢false, false≢true}
-use mathlib.Core.List.{List, [], _∷_, List·Memᴰ, List·Memᴰ·head, List·Memᴰ·tail, List·Memᴰ·not-nil}
-use mathlib.Core.Path.{_≡_, refl, sym, subst, ap, _∙_}
-use mathlib.Core.Logic.{_⊎_, inl, inr, ⊎-elim, _↔_}
-use Prim.Native.Nat.{ℕ, zero, suc, _+_, _-_, _<_, _≤_}
-use native.Mathlib.Nat.{eq-or-lt-of-le}
-use native.Mathlib.Omega.{arith}
+use Rattle.list_laws.proofs.Kit.{_∙_, _≡_, ap, refl, subst, sym, Bool, false, false≢true, true, true≢false, _↔_, _⊎_, inl, inr, ⊎-elim, List, List·Memᴰ}
+use Rattle.list_laws.proofs.Kit.{List·Memᴰ·head, List·Memᴰ·not-nil, List·Memᴰ·tail, [], _∷_, _+_, _-_, _<_, _≤_, suc, zero, ℕ, eq-or-lt-of-le, arith}
 use Rattle.model.specs.Strip.{Run, closing, runsFrom, runs}
 use Rattle.list_laws.proofs.Tests.{fails, clash, same-tests}
 use Rattle.list_laws.proofs.Numbers.{below-or}

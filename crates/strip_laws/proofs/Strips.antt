@@ -1,16 +1,10 @@
 -- Document 01, 'Strips', over the direction: the strips of a shape hold just its pixels, each is maximal in its line, and they
 -- are ordered by line, then first. A strip of the list is a run of one line's pixels, so all of this is what Runs says of each
 -- line, line after line. Assumes nothing.
-use mathlib.Core.Bool.{Bool, true, false, _&&_, false≢true}
-use mathlib.Core.List.{List, [], _∷_, _++_, map, List·Memᴰ, List·Memᴰ·head, List·Memᴰ·tail, List·Memᴰ·not-nil, List·Memᴰ·append-cases, Memᴰ·append-left}
-use mathlib.Core.List.{Memᴰ·append-right}
-use mathlib.Core.Path.{_≡_, refl, sym, subst, ap, ap₂, _∙_}
-use mathlib.Core.Logic.{inl, inr, ⊎-elim}
-use Prim.Native.Nat.{ℕ, zero, suc, _+_, _<_, _≤_}
-use native.Mathlib.Nat.{eq-or-lt-of-le, le-refl}
-use native.Mathlib.Omega.{arith}
-use lib.Dec.{leb, ltb, eqb}
-use borrow.Author.Tests.{ltb-true, lt-ltb, leb-true, le-leb, eqb-true, eq-eqb}
+use Rattle.list_laws.proofs.Kit.{_∙_, _≡_, ap, ap₂, refl, subst, sym, Bool, _&&_, false, false≢true, true, inl, inr, ⊎-elim, List, List·Memᴰ}
+use Rattle.list_laws.proofs.Kit.{List·Memᴰ·append-cases, List·Memᴰ·head, List·Memᴰ·not-nil, List·Memᴰ·tail, Memᴰ·append-left, Memᴰ·append-right, [], _++_}
+use Rattle.list_laws.proofs.Kit.{_∷_, map, _+_, _<_, _≤_, suc, zero, ℕ, eq-or-lt-of-le, le-refl, arith, eqb, leb, ltb, eq-eqb, eqb-true, le-leb, leb-true}
+use Rattle.list_laws.proofs.Kit.{lt-ltb, ltb-true}
 use Rattle.model.specs.Piece.{Point, Shape, pixel, other, along, across, extent, cell}
 use Rattle.model.specs.Strip.{Run, runs, Strip, stripOf, lineStrips, stripsFrom, strips, stripHas, stripsHave}
 use Rattle.model.specs.declared.Direction.{Direction}

@@ -1,9 +1,6 @@
 -- Document 01, 'Sheet and panels': a tight box, one whose first and last row and column each hold a pixel. It has a row and a
 -- column, and it is tight for any shape with the same box and pixels. Assumes nothing.
-use mathlib.Core.Bool.{Bool, true, _&&_}
-use mathlib.Core.Path.{_≡_, sym, ap, _∙_}
-use Prim.Native.Nat.{ℕ, _-_, _<_}
-use native.Mathlib.Omega.{arith}
+use Rattle.list_laws.proofs.Kit.{_∙_, _≡_, ap, sym, Bool, _&&_, true, _-_, _<_, ℕ, arith}
 use Rattle.model.specs.Bounded.{anyBelow}
 use Rattle.model.specs.Piece.{Shape, pixel, point, other, extent, cell, holds, tight}
 use Rattle.model.specs.declared.Direction.{Direction}

@@ -1,10 +1,7 @@
 -- Document 01, 'Sheet and panels': a turned shape is the image of the shape under the counterclockwise turn of its points, and
 -- nothing more. `turned` asks the shape's test at the point that the turn takes there; at a point of the box the two
 -- subtractions undo each other, so the tests agree. Assumes nothing.
-use mathlib.Core.Bool.{Bool, true, false}
-use mathlib.Core.Path.{_≡_, refl, sym, ap₂, _∙_}
-use Prim.Native.Nat.{ℕ, _-_, _<_}
-use native.Mathlib.Omega.{arith}
+use Rattle.list_laws.proofs.Kit.{_∙_, _≡_, ap₂, refl, sym, Bool, false, true, _-_, _<_, ℕ, arith}
 use Rattle.model.specs.Bounded.{anyBelow}
 use Rattle.model.specs.Piece.{Point, Shape, pixel, tight, turnPoint, turned}
 use Rattle.model.specs.declared.Turn.{Turn}

@@ -2,12 +2,8 @@
 -- when each strip lies in the box and is not empty, and the strips are ordered by line, then first, with a gap in a line: then
 -- no strip of the list touches another, so each is maximal in the rebuilt set, and two ordered lists of the same strips are
 -- one. Assumes nothing.
-use mathlib.Core.Bool.{true, false}
-use mathlib.Core.List.{List, List·Memᴰ, Memᴰ·cast}
-use mathlib.Core.Path.{_≡_, refl, sym, subst, subst₃, _∙_}
-use mathlib.Core.Logic.{_⊎_, inl, inr, _↔_}
-use Prim.Native.Nat.{ℕ, suc, _+_, _-_, _<_, _≤_}
-use native.Mathlib.Omega.{arith}
+use Rattle.list_laws.proofs.Kit.{_∙_, _≡_, refl, subst, subst₃, sym, false, true, _↔_, _⊎_, inl, inr, List, List·Memᴰ, Memᴰ·cast, _+_, _-_, _<_, _≤_, suc, ℕ}
+use Rattle.list_laws.proofs.Kit.{arith}
 use Rattle.model.specs.Piece.{Point, Shape, pixel, tight, other, along, across, point, extent}
 use Rattle.model.specs.Strip.{Strip, strips, rebuilt}
 use Rattle.model.specs.declared.Direction.{Direction}

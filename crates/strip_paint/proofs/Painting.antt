@@ -1,16 +1,8 @@
 -- Setting pixels in a buffer of rows: one pixel, a strip pixel after pixel, all strips, and the bytes that are left. What is still
 -- to be set is said by a test on points, so that each loop shows only how its test is taken apart. Assumes nothing.
-use mathlib.Core.Bool.{Bool, true, false, _&&_, _||_}
-use mathlib.Core.List.{List, []}
-use mathlib.Core.Path.{_≡_, refl, sym, ap, ap₂, _∙_}
-use mathlib.Core.Logic.{⊎-elim}
-use Prim.Native.Nat.{ℕ, suc, _+_, _*_, _-_, _<_, _≤_}
-use native.Mathlib.Nat.{mul-comm}
-use native.Mathlib.Omega.{arith}
-use lib.Dec.{leb, eqb}
-use lib.ListN.{length, getD, set, drop, length-set, length-map, drop-of-length-le, List·getD-map}
-use lib.Seq.{getD-set-same, getD-set-other, drop-cons}
-use borrow.Author.Tests.{ltb-true, lt-ltb, leb-true, le-leb, eqb-true, eq-eqb}
+use Rattle.list_laws.proofs.Kit.{_∙_, _≡_, ap, ap₂, refl, sym, Bool, _&&_, _||_, false, true, ⊎-elim, List, [], _*_, _+_, _-_, _<_, _≤_, suc, ℕ, mul-comm}
+use Rattle.list_laws.proofs.Kit.{arith, eqb, leb, List·getD-map, drop, drop-of-length-le, getD, length, length-map, length-set, set, drop-cons}
+use Rattle.list_laws.proofs.Kit.{getD-set-other, getD-set-same, eq-eqb, eqb-true, le-leb, leb-true, lt-ltb, ltb-true}
 use Rattle.model.specs.Piece.{Point, along, across, point, other}
 use Rattle.model.specs.Strip.{Strip, stripHas, stripsHave}
 use Rattle.model.specs.Buffer.{entryStrip}

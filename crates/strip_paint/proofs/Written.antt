@@ -1,14 +1,8 @@
 -- The bytes that clearing the box and setting its strips leave are those of the rebuilt set, and what lies beyond is as it was.
 -- Assumes nothing.
-use mathlib.Core.Bool.{Bool, true, false}
-use mathlib.Core.List.{List, _++_}
-use mathlib.Core.Path.{_≡_, refl, sym, subst, ap, _∙_}
-use mathlib.Core.Logic.{⊎-elim}
-use Prim.Native.Nat.{ℕ, zero, suc, _+_, _*_, _-_, _/_, _%_, _<_, _≤_}
-use native.Mathlib.Nat.{mod-lt, div-add-mod', mul-comm, add-zero, add-suc, suc-add}
-use native.Mathlib.Omega.{arith}
-use lib.ListN.{length, getD, drop, replicate, length-append, length-replicate, length-drop, getD-replicate, List·getD-append}
-use lib.Seq.{getD-append-add, ext-getD}
+use Rattle.list_laws.proofs.Kit.{_∙_, _≡_, ap, refl, subst, sym, Bool, false, true, ⊎-elim, List, _++_, _%_, _*_, _+_, _-_, _/_, _<_, _≤_, suc, zero, ℕ}
+use Rattle.list_laws.proofs.Kit.{add-suc, add-zero, div-add-mod', mod-lt, mul-comm, suc-add, arith, List·getD-append, drop, getD, getD-replicate, length}
+use Rattle.list_laws.proofs.Kit.{length-append, length-drop, length-replicate, replicate, ext-getD, getD-append-add}
 use Rattle.model.specs.Bounded.{oneIf}
 use Rattle.model.specs.Piece.{Point, Shape, along, across}
 use Rattle.model.specs.Strip.{Strip, stripsHave, rebuilt}

@@ -1,8 +1,5 @@
 -- What rebuilding leaves in the buffer, for the strips of a set: that set's pixels. Assumes nothing.
-use mathlib.Core.List.{List}
-use mathlib.Core.Path.{_≡_, refl, ap, _∙_}
-use Prim.Native.Nat.{ℕ}
-use lib.ListN.{length}
+use Rattle.list_laws.proofs.Kit.{_∙_, _≡_, ap, refl, List, ℕ, length}
 use Rattle.model.specs.Buffer.{filled}
 use Rattle.model.specs.Calls.{rebuildCall, pixelsAfter}
 use Rattle.model.specs.declared.Direction.{Direction}

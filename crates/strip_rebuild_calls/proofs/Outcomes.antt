@@ -1,9 +1,5 @@
 -- What the rebuild call comes to, case by case in the order of its causes. Assumes nothing.
-use mathlib.Core.Bool.{true, false}
-use mathlib.Core.List.{List}
-use mathlib.Core.Path.{_≡_}
-use Prim.Native.Nat.{ℕ, _*_, _<_, _≤_}
-use borrow.Author.Tests.{lt-ltb, le-ltb}
+use Rattle.list_laws.proofs.Kit.{_≡_, false, true, List, _*_, _<_, _≤_, ℕ, le-ltb, lt-ltb}
 use Rattle.model.specs.Lent.{upTo}
 use Rattle.model.specs.Piece.{sideBound}
 use Rattle.model.specs.Refusal.{unless, refused, given, plainRefusal}

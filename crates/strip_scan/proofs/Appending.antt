@@ -1,10 +1,5 @@
 -- Strips stored one after the other: what is left of them is still to be stored. Assumes nothing.
-use mathlib.Core.List.{List, [], _∷_, map}
-use mathlib.Core.Path.{_≡_, sym, ap, _∙_}
-use Prim.Native.Nat.{ℕ, suc, _+_}
-use native.Mathlib.Omega.{arith}
-use lib.ListN.{length, set}
-use lib.Seq.{sets, length-sets}
+use Rattle.list_laws.proofs.Kit.{_∙_, _≡_, ap, sym, List, [], _∷_, map, _+_, suc, ℕ, arith, length, set, length-sets, sets}
 use Rattle.model.specs.Strip.{Strip}
 use Rattle.model.specs.Buffer.{stripEntry}
 use Rattle.strip_scan.specs.Put.{Appended}

@@ -1,14 +1,6 @@
 -- Strips compared with a store one by one: what is left of them is still to be compared. Assumes nothing.
-use mathlib.Core.Bool.{true, false, _&&_}
-use mathlib.Core.List.{List, [], _∷_}
-use mathlib.Core.Path.{_≡_, refl, sym, ap, ap₂, _∙_}
-use mathlib.Core.Logic.{⊎-elim}
-use Prim.Native.Nat.{ℕ, suc, _+_, _≤_, _<_}
-use native.Mathlib.Omega.{arith}
-use lib.Dec.{eqb, ltb}
-use lib.ListN.{length, getD, drop-of-length-le, List·getD-eq-default}
-use lib.Seq.{drop-cons}
-use borrow.Author.Tests.{ltb-true, ltb-false}
+use Rattle.list_laws.proofs.Kit.{_∙_, _≡_, ap, ap₂, refl, sym, _&&_, false, true, ⊎-elim, List, [], _∷_, _+_, _<_, _≤_, suc, ℕ, arith, eqb, ltb}
+use Rattle.list_laws.proofs.Kit.{List·getD-eq-default, drop-of-length-le, getD, length, drop-cons, ltb-false, ltb-true}
 use Rattle.model.specs.Strip.{Strip}
 use Rattle.model.specs.Buffer.{stripEntry, sameNumbers, sameEntries}
 use Rattle.list_laws.proofs.Tests.{decided}

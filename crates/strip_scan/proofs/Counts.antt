@@ -1,11 +1,6 @@
 -- How many strips there can be: no more than pixels of the box. Assumes nothing.
-use mathlib.Core.Bool.{Bool, true, false}
-use mathlib.Core.List.{List}
-use mathlib.Core.Path.{_≡_, refl, _∙_}
-use Prim.Native.Nat.{ℕ, zero, suc, _+_, _*_, _≤_}
-use native.Mathlib.Nat.{suc-mul, mul-le-mul, mul-comm}
-use native.Mathlib.Omega.{arith}
-use lib.ListN.{length, length-append, length-map}
+use Rattle.list_laws.proofs.Kit.{_∙_, _≡_, refl, Bool, false, true, List, _*_, _+_, _≤_, suc, zero, ℕ, mul-comm, mul-le-mul, suc-mul, arith, length}
+use Rattle.list_laws.proofs.Kit.{length-append, length-map}
 use Rattle.model.specs.Piece.{Shape, turned, extent, other, cell}
 use Rattle.model.specs.Strip.{Run, closing, runsFrom, stripsFrom, strips}
 use Rattle.model.specs.declared.Turn.{Turn}

@@ -1,6 +1,5 @@
 -- The entries of a job's table as the code reads them. Assumes nothing.
-use mathlib.Core.List.{List}
-use Prim.Native.Nat.{ℕ}
+use Rattle.list_laws.proofs.Kit.{List, ℕ}
 use Rattle.model.specs.declared.Turn.{Turn}
 use Rattle.job_laws.specs.Entries.{EntryAt}
 use Rattle.piece_pixels.specs.Turned.{madeOf, SmallPiece}

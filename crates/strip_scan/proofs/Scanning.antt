@@ -1,12 +1,7 @@
 -- Reading a line's strips from a cell on: where the next one begins and ends, and what follows it. A run of the line is the cells
 -- from the first pixel on up to the first cell that is none. Assumes nothing.
-use mathlib.Core.Bool.{Bool, true, false, Bool·beq, true≢false}
-use mathlib.Core.List.{List, [], _∷_}
-use mathlib.Core.Path.{_≡_, refl, sym, subst₂, ap, _∙_}
-use Prim.Native.Nat.{ℕ, zero, suc, _+_, _-_, _<_, _≤_}
-use mathlib.Core.Logic.{⊎-elim}
-use native.Mathlib.Nat.{suc-add, add-suc, add-zero, zero-add, eq-or-lt-of-le}
-use native.Mathlib.Omega.{arith}
+use Rattle.list_laws.proofs.Kit.{_∙_, _≡_, ap, refl, subst₂, sym, Bool, Bool·beq, false, true, true≢false, ⊎-elim, List, [], _∷_, _+_, _-_, _<_, _≤_, suc}
+use Rattle.list_laws.proofs.Kit.{zero, ℕ, add-suc, add-zero, eq-or-lt-of-le, suc-add, zero-add, arith}
 use Rattle.model.specs.Bounded.{firstFrom}
 use Rattle.model.specs.Piece.{Shape, turned, extent, other, cell}
 use Rattle.model.specs.Strip.{Run, closing, runsFrom, stripsFrom, strips}

@@ -1,15 +1,7 @@
 -- A lent store compared piece after piece: what is left of the store and the starts is still to be compared. Assumes nothing.
-use mathlib.Core.Bool.{Bool, true, false, _&&_, and-true, and-assoc}
-use mathlib.Core.List.{List, [], _∷_, _++_}
-use mathlib.Core.Path.{_≡_, refl, sym, ap, ap₂, _∙_}
-use mathlib.Core.Logic.{⊎-elim}
-use Prim.Native.Nat.{ℕ, suc, _+_, _-_, _≤_, _<_}
-use native.Mathlib.Nat.{add-zero}
-use native.Mathlib.Omega.{arith}
-use lib.Dec.{eqb, ltb}
-use lib.ListN.{length, getD, take, drop, length-append, drop-of-length-le}
-use lib.Seq.{drop-cons}
-use borrow.Author.Tests.{ltb-true, ltb-false, lt-ltb, le-ltb}
+use Rattle.list_laws.proofs.Kit.{_∙_, _≡_, ap, ap₂, refl, sym, Bool, _&&_, and-assoc, and-true, false, true, ⊎-elim, List, [], _++_, _∷_, _+_, _-_, _<_, _≤_}
+use Rattle.list_laws.proofs.Kit.{suc, ℕ, add-zero, arith, eqb, ltb, drop, drop-of-length-le, getD, length, length-append, take, drop-cons, le-ltb, lt-ltb}
+use Rattle.list_laws.proofs.Kit.{ltb-false, ltb-true}
 use Rattle.model.specs.Strip.{Strip, strips}
 use Rattle.model.specs.Buffer.{stripEntry, sameNumbers, sameEntries}
 use Rattle.model.specs.Layout.{Job, turnedPiece}

@@ -1,15 +1,8 @@
 -- Stores filled piece after piece: what is left of the store and the starts is still to be stored, and no store is larger than the
 -- boxes. Assumes nothing.
-use mathlib.Core.Bool.{true, false, not}
-use mathlib.Core.List.{List, _++_, map, map-append}
-use mathlib.Core.Path.{_≡_, refl, sym, subst, ap, ap₂, _∙_}
-use mathlib.Core.Logic.{⊎-elim}
-use Prim.Native.Nat.{ℕ, zero, suc, _+_, _-_, _≤_, _<_}
-use native.Mathlib.Omega.{arith}
-use borrow.Author.Tests.{lt-ltb, le-ltb, ltb-true, ltb-false, eqb-true, not-false}
-use lib.Dec.{ltb}
-use lib.ListN.{length, set, length-append, length-map}
-use lib.Seq.{sets, length-sets}
+use Rattle.list_laws.proofs.Kit.{_∙_, _≡_, ap, ap₂, refl, subst, sym, false, not, true, ⊎-elim, List, _++_, map, map-append, _+_, _-_, _<_, _≤_, suc, zero, ℕ}
+use Rattle.list_laws.proofs.Kit.{arith, ltb, length, length-append, length-map, set, length-sets, sets, eqb-true, le-ltb, lt-ltb, ltb-false, ltb-true}
+use Rattle.list_laws.proofs.Kit.{not-false}
 use Rattle.model.specs.Strip.{Strip, strips}
 use Rattle.model.specs.Buffer.{stripEntry}
 use Rattle.model.specs.Layout.{Job, turnedPiece}

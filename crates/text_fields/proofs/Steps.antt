@@ -1,15 +1,7 @@
 -- Reading at a position, step by step. Assumes nothing.
-use mathlib.Core.Bool.{true, false}
-use mathlib.Core.List.{List, [], _∷_, _++_}
-use mathlib.Core.Logic.{_⊎_, inl, inr, ⊎-elim}
-use mathlib.Core.Path.{_≡_, refl, _∙_, ap}
-use Prim.Native.Nat.{ℕ, zero, suc, _+_, _-_, _*_, _/_, _%_, _≤_, _<_}
-use native.Mathlib.Omega.{arith}
-use native.Mathlib.Nat.{le-refl}
-use lib.Dec.{leb, ltb}
-use lib.ListN.{length, length-append, getD, drop, List·getD-eq-default}
-use lib.Seq.{drop-cons}
-use borrow.Author.Tests.{leb-true, leb-false, ltb-true, eq-eqb, ne-eqb, lt-ltb, le-ltb, ltb-false}
+use Rattle.list_laws.proofs.Kit.{_∙_, _≡_, ap, refl, false, true, _⊎_, inl, inr, ⊎-elim, List, [], _++_, _∷_, _%_, _*_, _+_, _-_, _/_, _<_, _≤_, suc, zero, ℕ}
+use Rattle.list_laws.proofs.Kit.{le-refl, arith, leb, ltb, List·getD-eq-default, drop, getD, length, length-append, drop-cons, eq-eqb, le-ltb, leb-false}
+use Rattle.list_laws.proofs.Kit.{leb-true, lt-ltb, ltb-false, ltb-true, ne-eqb}
 use Rattle.model.specs.Text.{byte, isDigit, isNumber, asNumber, Digits, digitsFrom, numberAt, standsAt, after, fieldAt, Reading, got, wrong, onward, decimal}
 use Rattle.list_laws.proofs.Tests.{and-left, and-right, decided}
 use Rattle.text_fields.specs.Answers.{numberOf, digitRun}

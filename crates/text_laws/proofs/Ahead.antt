@@ -1,16 +1,8 @@
 -- What lies ahead of a position in a text. A reader that stands in front of a word, a byte or an end finds it, and after it the rest
 -- lies ahead. Readers look at single bytes of the whole text; these laws let a proof speak of the rest of the text instead.
 -- Assumes nothing.
-use mathlib.Core.Bool.{true}
-use mathlib.Core.List.{List, [], _∷_, _++_}
-use mathlib.Core.Path.{_≡_, refl, sym, ap, _∙_}
-use Prim.Native.Nat.{ℕ, suc, _+_}
-use native.Mathlib.Nat.{add-zero}
-use native.Mathlib.Numerals.{add-one}
-use native.Mathlib.Omega.{arith}
-use lib.ListN.{length, getD, drop, length-append}
-use lib.Seq.{getD-drop, drop-drop, drop-append-seam}
-use borrow.Author.Tests.{eq-eqb}
+use Rattle.list_laws.proofs.Kit.{_∙_, _≡_, ap, refl, sym, true, List, [], _++_, _∷_, _+_, suc, ℕ, add-one, add-zero, arith, drop, getD, length, length-append}
+use Rattle.list_laws.proofs.Kit.{drop-append-seam, drop-drop, getD-drop, eq-eqb}
 use Rattle.model.specs.Text.{byte, Reading, standsAt, after}
 
 -- from position p on, the text is just the rest

@@ -1,10 +1,6 @@
 -- Document 01, 'When a call says no': the first cause that is there refuses. What a list of causes comes to by itself, in front of others and
 -- behind others, and which lists come to the same. Assumes nothing.
-use mathlib.Core.Bool.{Bool, true, false, _||_}
-use mathlib.Core.List.{List, [], _∷_, _++_, append-nil}
-use mathlib.Core.Path.{_≡_, refl, sym, ap, _∙_}
-use Prim.Native.Nat.{ℕ}
-use native.Mathlib.Omega.{arith}
+use Rattle.list_laws.proofs.Kit.{_∙_, _≡_, ap, refl, sym, Bool, _||_, false, true, List, [], _++_, _∷_, append-nil, ℕ, arith}
 use Rattle.model.specs.Refusal.{Outcome, refused, given, Cause, cause, unless, plainRefusal, refusalOf}
 use Rattle.model.specs.Answers.{doneAnswer, outcomeOf, firstCause}
 use Rattle.model.specs.declared.Refusal.{Refusal}

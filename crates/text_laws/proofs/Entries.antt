@@ -1,11 +1,6 @@
 -- Document 01, 'Start, layout text, sheet': a turn as degrees and a placement as an entry of a layout buffer are read back as they
 -- were, and an entry of three numbers whose first is the degrees of a turn comes back too. Assumes nothing.
-use mathlib.Core.Bool.{Bool, true, false, false≢true}
-use mathlib.Core.List.{[], _∷_}
-use mathlib.Core.Path.{_≡_, refl, sym, ap, ap₂}
-use Prim.Native.Nat.{ℕ}
-use lib.Dec.{eqb}
-use borrow.Author.Tests.{eqb-true}
+use Rattle.list_laws.proofs.Kit.{_≡_, ap, ap₂, refl, sym, Bool, false, false≢true, true, [], _∷_, ℕ, eqb, eqb-true}
 use Rattle.model.specs.Piece.{degrees}
 use Rattle.model.specs.Layout.{Layout}
 use Rattle.model.specs.Buffer.{turnOfDegrees, turnPasses, isTurn, turnOf, entryOf, placementOf, entriesOf, layoutOf}

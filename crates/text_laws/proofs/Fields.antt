@@ -1,10 +1,6 @@
 -- Document 01, 'Job text' and 'Start, layout text, sheet': a line of a word and numbers that is written is read back, and what
 -- followed it lies ahead. Assumes nothing.
-use mathlib.Core.Bool.{false}
-use mathlib.Core.List.{List, [], _∷_, _++_, append-assoc}
-use mathlib.Core.Path.{_≡_, refl, _∙_}
-use Prim.Native.Nat.{ℕ, _+_, _≤_}
-use lib.ListN.{length}
+use Rattle.list_laws.proofs.Kit.{_∙_, _≡_, refl, false, List, [], _++_, _∷_, append-assoc, _+_, _≤_, ℕ, length}
 use Rattle.model.specs.Refusal.{Outcome, given}
 use Rattle.model.specs.Text.{isDigit, Reading, got, onward, fieldAt, fieldsAt, lineAt, digits, fieldsText, lineText}
 use Rattle.text_laws.proofs.Ahead.{Ahead, ahead-word, after-ahead}

@@ -1,15 +1,7 @@
 -- Document 01, 'When a call says no', reading a job: each cause leads to its refusal. The lines before the cause's line are read, so the
 -- reader comes to that line and stops there. Assumes nothing.
-use mathlib.Core.Bool.{Bool, true, not, _||_}
-use mathlib.Core.List.{List}
-use mathlib.Core.Logic.{inl, inr, ⊎-elim}
-use mathlib.Core.Path.{_≡_, refl, sym, ap, ap₂, subst}
-use Prim.Native.Nat.{ℕ, suc, _+_, _-_, _*_}
-use native.Mathlib.Nat.{add-zero, zero-add}
-use native.Mathlib.Omega.{arith}
-use lib.Dec.{eqb, ltb}
-use lib.ListN.{length}
-use borrow.Author.Tests.{ne-eqb, lt-ltb, le-ltb}
+use Rattle.list_laws.proofs.Kit.{_≡_, ap, ap₂, refl, subst, sym, Bool, _||_, not, true, inl, inr, ⊎-elim, List, _*_, _+_, _-_, suc, ℕ, add-zero, zero-add}
+use Rattle.list_laws.proofs.Kit.{arith, eqb, ltb, length, le-ltb, lt-ltb, ne-eqb}
 use Rattle.model.specs.Refusal.{refused, given, wrongForm, outOfRange, sheetTooLarge, boxesTooLarge, looseBox, boxTooLarge, wrongLength}
 use Rattle.model.specs.Lent.{Lent, areaBound}
 use Rattle.model.specs.Text.{formed, andThen}

@@ -1,17 +1,9 @@
 -- Document 01, 'Job text' and 'When a call says no': a text that is read as a job is just the text of that job, so no other text is
 -- accepted. Line by line: a line that is read is written there in its one spelling; the rows of a piece are its part of the pixel
 -- store; nothing follows the last line. Assumes nothing.
-use mathlib.Core.Bool.{Bool, true, false, _&&_}
-use mathlib.Core.List.{List, [], _∷_, _++_, map}
-use mathlib.Core.Path.{_≡_, refl, sym, ap, ap₂, subst, _∙_}
-use mathlib.Core.Logic.{_↔_}
-use Prim.Native.Nat.{ℕ, zero, suc, _+_, _*_, _%_, _<_}
-use native.Mathlib.Nat.{add-zero, zero-add, suc-mul, zero-mul, mul-comm}
-use native.Mathlib.Omega.{arith}
-use lib.Dec.{eqb, leb}
-use lib.ListN.{length, getD, length-append, List·getD-append}
-use lib.Seq.{getD-append-add}
-use borrow.Author.Tests.{not-false, eqb-true}
+use Rattle.list_laws.proofs.Kit.{_∙_, _≡_, ap, ap₂, refl, subst, sym, Bool, _&&_, false, true, _↔_, List, [], _++_, _∷_, map, _%_, _*_, _+_, _<_, suc, zero}
+use Rattle.list_laws.proofs.Kit.{ℕ, add-zero, mul-comm, suc-mul, zero-add, zero-mul, arith, eqb, leb, List·getD-append, getD, length, length-append}
+use Rattle.list_laws.proofs.Kit.{getD-append-add, eqb-true, not-false}
 use Rattle.model.specs.Refusal.{Outcome, given}
 use Rattle.model.specs.Lent.{Lent, turnsBound, upTo, entryColumns, entryRows, entryTurns, pixelStart}
 use Rattle.model.specs.Piece.{sideBound}

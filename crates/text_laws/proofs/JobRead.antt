@@ -1,16 +1,9 @@
 -- Document 01, 'When a call says no': what reading a job gives passes the check of a lent job, so that no call refuses it with 8.
 -- A given outcome met no cause on any line; line by line that is what the check asks for. The pieces are read from the first
 -- on, and a piece in front moves the later ones by its area in the store. Assumes nothing.
-use mathlib.Core.Bool.{Bool, true, false, _&&_}
-use mathlib.Core.List.{List, [], _∷_, _++_}
-use mathlib.Core.Path.{_≡_, refl, sym, ap, _∙_, fun-ext}
-use Prim.Native.Nat.{ℕ, zero, suc, _+_, _*_, _%_, _≤_, _<_}
-use native.Mathlib.Nat.{zero-add, suc-mul, zero-mul, mul-comm}
-use native.Mathlib.Omega.{arith}
-use lib.Dec.{eqb, leb, ltb}
-use lib.ListN.{length, getD, length-append, List·getD-append}
-use lib.Seq.{getD-append-add}
-use borrow.Author.Tests.{ltb-false, le-leb, not-false}
+use Rattle.list_laws.proofs.Kit.{_∙_, _≡_, ap, fun-ext, refl, sym, Bool, _&&_, false, true, List, [], _++_, _∷_, _%_, _*_, _+_, _<_, _≤_, suc, zero, ℕ}
+use Rattle.list_laws.proofs.Kit.{mul-comm, suc-mul, zero-add, zero-mul, arith, eqb, leb, ltb, List·getD-append, getD, length, length-append, getD-append-add}
+use Rattle.list_laws.proofs.Kit.{le-leb, ltb-false, not-false}
 use Rattle.model.specs.Piece.{Shape, tight, sideBound}
 use Rattle.model.specs.Refusal.{Outcome, given}
 use Rattle.model.specs.Lent.{Lent, turnsBound, areaBound, upTo, numbersInRange, entryColumns, entryRows, pixelStart, entryInRange, entryFits, lentShape}

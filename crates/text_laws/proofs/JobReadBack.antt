@@ -1,15 +1,8 @@
 -- Document 01, 'When a call says no', number 8: a lent job passes the check only if it is one that reading gives. Its text, written
 -- line by line, is read back as the job with just the entries and pixel bytes that it needs. Assumes nothing.
-use mathlib.Core.Bool.{Bool, true, not, _&&_, _||_}
-use mathlib.Core.List.{List, [], _∷_, _++_, map, append-assoc}
-use mathlib.Core.Path.{_≡_, refl, sym, ap, ap₂, _∙_}
-use Prim.Native.Nat.{ℕ, zero, suc, _+_, _-_, _*_, _%_, _≤_, _<_}
-use native.Mathlib.Nat.{add-zero, zero-add, suc-mul, zero-mul, mul-comm}
-use native.Mathlib.Omega.{arith}
-use lib.Dec.{eqb, leb}
-use lib.ListN.{length, getD, take}
-use lib.Seq.{length-take-le}
-use borrow.Author.Tests.{le-ltb, eq-eqb}
+use Rattle.list_laws.proofs.Kit.{_∙_, _≡_, ap, ap₂, refl, sym, Bool, _&&_, _||_, not, true, List, [], _++_, _∷_, append-assoc, map, _%_, _*_, _+_, _-_, _<_}
+use Rattle.list_laws.proofs.Kit.{_≤_, suc, zero, ℕ, add-zero, mul-comm, suc-mul, zero-add, zero-mul, arith, eqb, leb, getD, length, take, length-take-le}
+use Rattle.list_laws.proofs.Kit.{eq-eqb, le-ltb}
 use Rattle.model.specs.Piece.{tight, sideBound}
 use Rattle.model.specs.Refusal.{given}
 use Rattle.model.specs.Lent.{Lent, rowBound, columnBound, pieceBound, turnsBound, areaBound, upTo, numbersInRange, entryColumns, entryRows, entryTurns}

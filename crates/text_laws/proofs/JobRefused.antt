@@ -1,15 +1,7 @@
 -- Document 01, 'When a call says no', reading a job: each refusal has its cause, and the line that it names begins where the count of
 -- line ends says. The reader goes from line to line; at each the lines before it are read. Assumes nothing.
-use mathlib.Core.Bool.{Bool, true, false, not, _||_}
-use mathlib.Core.List.{List, [], _++_}
-use mathlib.Core.Logic.{inl, inr, ⊎-elim}
-use mathlib.Core.Path.{_≡_, refl, sym, ap₂, subst}
-use Prim.Native.Nat.{ℕ, zero, suc, _+_, _*_, _<_}
-use native.Mathlib.Nat.{add-zero, zero-add}
-use native.Mathlib.Omega.{arith}
-use lib.Dec.{eqb, ltb}
-use lib.ListN.{length}
-use borrow.Author.Tests.{not-true, not-false, eqb-false, ltb-true, ltb-false, le-ltb}
+use Rattle.list_laws.proofs.Kit.{_≡_, ap₂, refl, subst, sym, Bool, _||_, false, not, true, inl, inr, ⊎-elim, List, [], _++_, _*_, _+_, _<_, suc, zero, ℕ}
+use Rattle.list_laws.proofs.Kit.{add-zero, zero-add, arith, eqb, ltb, length, eqb-false, le-ltb, ltb-false, ltb-true, not-false, not-true}
 use Rattle.model.specs.Piece.{tight}
 use Rattle.model.specs.Refusal.{Outcome, refused, given, Cause, cause, refusalOf, wrongForm, outOfRange, sheetTooLarge, boxesTooLarge, looseBox, boxTooLarge}
 use Rattle.model.specs.Refusal.{wrongLength}

@@ -1,12 +1,7 @@
 -- Laws of the written job text (document 01, 'Job text'): parts of the pixel store, and the pixel bytes of pieces one after the other.
 -- Assumes nothing.
-use mathlib.Core.List.{List, [], _∷_, _++_}
-use mathlib.Core.Path.{_≡_, refl, sym, ap, _∙_}
-use Prim.Native.Nat.{ℕ, zero, suc, _+_, _*_, _≤_, _<_}
-use native.Mathlib.Nat.{add-zero, zero-add, suc-add}
-use native.Mathlib.Omega.{arith}
-use lib.ListN.{length, getD, take}
-use lib.Seq.{ext-getD, getD-take, length-take-le}
+use Rattle.list_laws.proofs.Kit.{_∙_, _≡_, ap, refl, sym, List, [], _++_, _∷_, _*_, _+_, _<_, _≤_, suc, zero, ℕ, add-zero, suc-add, zero-add, arith, getD}
+use Rattle.list_laws.proofs.Kit.{length, take, ext-getD, getD-take, length-take-le}
 use Rattle.model.specs.Lent.{Lent, entryColumns, entryRows, pixelStart}
 use Rattle.text_laws.specs.JobWriting.{bytesPart}
 

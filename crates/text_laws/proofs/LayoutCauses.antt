@@ -1,15 +1,7 @@
 -- Document 01, 'When a call says no', reading a layout: each cause leads to its refusal. The lines before the cause's line are read, so
 -- the reader comes to that line and stops there. Assumes nothing.
-use mathlib.Core.Bool.{Bool, true, false, not, _&&_}
-use mathlib.Core.List.{List, []}
-use mathlib.Core.Logic.{inl, inr}
-use mathlib.Core.Path.{_≡_, refl, sym, ap, subst, _∙_}
-use Prim.Native.Nat.{ℕ, suc, _+_, _-_}
-use native.Mathlib.Nat.{add-zero}
-use native.Mathlib.Omega.{arith}
-use lib.Dec.{eqb}
-use lib.ListN.{length}
-use borrow.Author.Tests.{ne-eqb, eqb-true}
+use Rattle.list_laws.proofs.Kit.{_∙_, _≡_, ap, refl, subst, sym, Bool, _&&_, false, not, true, inl, inr, List, [], _+_, _-_, suc, ℕ, add-zero, arith, eqb}
+use Rattle.list_laws.proofs.Kit.{length, eqb-true, ne-eqb}
 use Rattle.model.specs.Layout.{Job, Layout}
 use Rattle.model.specs.Refusal.{refused, wrongForm, outOfRange, noSuchPiece, outsideSheet, wrongLength}
 use Rattle.model.specs.Text.{threeFields, field, formed, andThen}

@@ -1,15 +1,8 @@
 -- Document 01, 'Start, layout text, sheet' and 'When a call says no': a text that is read as a layout is just the text that the
 -- layout's writer writes, so no other text is accepted. Line by line: a line that is read is written there in its one spelling, and its
 -- numbers are the job's or the placement's; nothing follows the last line. Assumes nothing.
-use mathlib.Core.Bool.{Bool, true, _&&_}
-use mathlib.Core.List.{List, [], _∷_}
-use mathlib.Core.Path.{_≡_, refl, sym, ap, ap₂, _∙_}
-use mathlib.Core.Logic.{_↔_}
-use Prim.Native.Nat.{ℕ, zero, suc, _≤_, _<_}
-use native.Mathlib.Nat.{zero-add}
-use lib.Dec.{eqb}
-use lib.ListN.{length}
-use borrow.Author.Tests.{not-false, eqb-true}
+use Rattle.list_laws.proofs.Kit.{_∙_, _≡_, ap, ap₂, refl, sym, Bool, _&&_, true, _↔_, List, [], _∷_, _<_, _≤_, suc, zero, ℕ, zero-add, eqb, length, eqb-true}
+use Rattle.list_laws.proofs.Kit.{not-false}
 use Rattle.model.specs.Layout.{Job, Layout, placeOf}
 use Rattle.model.specs.Refusal.{Outcome, given}
 use Rattle.model.specs.Lent.{rowBound, columnBound, pieceBound}

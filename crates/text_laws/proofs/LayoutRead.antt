@@ -1,13 +1,6 @@
 -- Document 01, 'When a call says no', reading a layout: a layout that reading gives has a placement for each piece, in an allowed
 -- turn and inside, so that no call refuses it with 7, 9 or 10. Assumes nothing.
-use mathlib.Core.List.{List, [], _∷_}
-use mathlib.Core.Path.{_≡_, refl, ap}
-use Prim.Native.Nat.{ℕ, zero, suc, _+_, _<_}
-use native.Mathlib.Nat.{add-zero}
-use native.Mathlib.Omega.{arith}
-use lib.Dec.{eqb}
-use lib.ListN.{length}
-use borrow.Author.Tests.{not-false, eqb-true}
+use Rattle.list_laws.proofs.Kit.{_≡_, ap, refl, List, [], _∷_, _+_, _<_, suc, zero, ℕ, add-zero, arith, eqb, length, eqb-true, not-false}
 use Rattle.model.specs.Layout.{Job, Layout, allowed, inside, placeOf}
 use Rattle.model.specs.Refusal.{Outcome, given}
 use Rattle.model.specs.Text.{fourFields, lineAt}

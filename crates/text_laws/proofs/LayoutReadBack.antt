@@ -1,15 +1,8 @@
 -- Document 01, 'Start, layout text, sheet' and 'When a call says no': what the writer writes of a layout whose placements are inside
 -- in allowed turns is read back as that layout. Line by line: each written line lies ahead of the reader, is of the right form,
 -- and none of its causes is there; after the last line the text ends. Assumes nothing.
-use mathlib.Core.Bool.{true, not}
-use mathlib.Core.List.{List, [], _∷_, _++_}
-use mathlib.Core.Path.{_≡_, refl, ap, _∙_}
-use Prim.Native.Nat.{ℕ, suc, _+_, _≤_, _<_}
-use native.Mathlib.Nat.{add-zero, zero-add}
-use native.Mathlib.Omega.{arith}
-use lib.Dec.{leb}
-use lib.ListN.{length}
-use borrow.Author.Tests.{eq-eqb, leb-true}
+use Rattle.list_laws.proofs.Kit.{_∙_, _≡_, ap, refl, not, true, List, [], _++_, _∷_, _+_, _<_, _≤_, suc, ℕ, add-zero, zero-add, arith, leb, length, eq-eqb}
+use Rattle.list_laws.proofs.Kit.{leb-true}
 use Rattle.model.specs.Piece.{degrees}
 use Rattle.model.specs.Layout.{Job, Layout, inside, placeOf, turnedPiece}
 use Rattle.model.specs.Refusal.{given, unless}

@@ -1,15 +1,7 @@
 -- Document 01, 'When a call says no', reading a layout: each refusal has its cause, and the line that it names begins where the count of
 -- line ends says. The reader goes from line to line; at each the lines before it are read. Assumes nothing.
-use mathlib.Core.Bool.{Bool, true, not, _&&_}
-use mathlib.Core.List.{List, []}
-use mathlib.Core.Logic.{inl, inr, ⊎-elim}
-use mathlib.Core.Path.{_≡_, refl, sym, ap, subst}
-use Prim.Native.Nat.{ℕ, zero, suc, _+_}
-use native.Mathlib.Nat.{zero-add}
-use native.Mathlib.Omega.{arith}
-use lib.Dec.{eqb}
-use lib.ListN.{length}
-use borrow.Author.Tests.{not-true, not-false, eq-eqb, eqb-false}
+use Rattle.list_laws.proofs.Kit.{_≡_, ap, refl, subst, sym, Bool, _&&_, not, true, inl, inr, ⊎-elim, List, [], _+_, suc, zero, ℕ, zero-add, arith, eqb}
+use Rattle.list_laws.proofs.Kit.{length, eq-eqb, eqb-false, not-false, not-true}
 use Rattle.model.specs.Piece.{degrees}
 use Rattle.model.specs.Layout.{Job, Layout, allowed, inside}
 use Rattle.model.specs.Refusal.{refused, Cause, cause, refusalOf, wrongForm, outOfRange, noSuchPiece, outsideSheet, wrongLength}

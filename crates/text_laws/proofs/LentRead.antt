@@ -2,16 +2,8 @@
 -- gives." The check passes exactly the lent jobs whose W, L, n, n entries and box pixels are there and are what reading some text
 -- gives. What lies beyond in the buffers plays no part: the job and the job without it agree entry by entry and pixel by pixel.
 -- Assumes nothing.
-use mathlib.Core.Bool.{true, _&&_}
-use mathlib.Core.List.{List, []}
-use mathlib.Core.Path.{_≡_, refl, sym, ap, ap₂, subst, _∙_}
-use mathlib.Core.Logic.{_↔_}
-use Prim.Native.Nat.{ℕ, zero, suc, _+_, _*_, _≤_, _<_}
-use native.Mathlib.Nat.{add-zero, zero-add, mul-comm}
-use native.Mathlib.Omega.{arith}
-use lib.Dec.{eqb, leb}
-use lib.ListN.{length, getD, take}
-use lib.Seq.{getD-take}
+use Rattle.list_laws.proofs.Kit.{_∙_, _≡_, ap, ap₂, refl, subst, sym, _&&_, true, _↔_, List, [], _*_, _+_, _<_, _≤_, suc, zero, ℕ, add-zero, mul-comm}
+use Rattle.list_laws.proofs.Kit.{zero-add, arith, eqb, leb, getD, length, take, getD-take}
 use Rattle.model.specs.Piece.{tight}
 use Rattle.model.specs.Lent.{Lent, entryColumns, entryRows, entryTurns, pixelStart, entryInRange, entryFits, lentShape, lentWell}
 use Rattle.list_laws.proofs.Numbers.{in-rows}

@@ -1,15 +1,7 @@
 -- Document 01, 'When a call says no', reading: "First place: line, from 1". A line that is read has one line end, its last byte, so the
 -- next line begins just behind it and its number is one more. Assumes nothing.
-use mathlib.Core.Bool.{Bool, true, false}
-use mathlib.Core.List.{List, [], _∷_, _++_, map}
-use mathlib.Core.Logic.{inl, inr}
-use mathlib.Core.Path.{_≡_, refl, sym, ap, _∙_}
-use Prim.Native.Nat.{ℕ, zero, suc, _+_, _/_, _%_, _≤_, _<_}
-use native.Mathlib.Nat.{add-zero}
-use native.Mathlib.Omega.{arith}
-use lib.Dec.{eqb, ltb}
-use lib.ListN.{length, List·getD-eq-default}
-use borrow.Author.Tests.{ne-eqb, ltb-true, ltb-false}
+use Rattle.list_laws.proofs.Kit.{_∙_, _≡_, ap, refl, sym, Bool, false, true, inl, inr, List, [], _++_, _∷_, map, _%_, _+_, _/_, _<_, _≤_, suc, zero, ℕ}
+use Rattle.list_laws.proofs.Kit.{add-zero, arith, eqb, ltb, List·getD-eq-default, length, ltb-false, ltb-true, ne-eqb}
 use Rattle.model.specs.Bounded.{oneIf}
 use Rattle.model.specs.Text.{byte, lineEnd, digitZero, standsAt, threeFields, fourFields, decimal, digits, fieldsText, lineText}
 use Rattle.model.specs.JobText.{rowWord, pixelMark, emptyMark}

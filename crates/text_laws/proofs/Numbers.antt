@@ -1,15 +1,9 @@
 -- Document 01, 'Job text': "A number has 1 to 5 digits, with a leading zero only in 0 itself." What `decimal` writes is a number, and
 -- reading gives it back. A number's digits are taken from the front by the reader and added at the end by the writer; both
 -- give the value `valueFrom`. Assumes nothing.
-use mathlib.Core.Bool.{Bool, true, false, not, _||_}
-use mathlib.Core.List.{List, [], _∷_, _++_}
-use mathlib.Core.Path.{_≡_, refl, sym, ap, _∙_}
-use Prim.Native.Nat.{ℕ, zero, suc, _+_, _-_, _*_, _/_, _%_, _^_, _≤_, _<_}
-use native.Mathlib.Nat.{add-zero, pow-suc}
-use native.Mathlib.Omega.{arith}
-use lib.Dec.{eqb, ltb}
-use lib.ListN.{length, getD, length-append}
-use borrow.Author.Tests.{eq-eqb, ne-eqb, lt-ltb, le-leb, ltb-true, ltb-false}
+use Rattle.list_laws.proofs.Kit.{_∙_, _≡_, ap, refl, sym, Bool, _||_, false, not, true, List, [], _++_, _∷_, _%_, _*_, _+_, _-_, _/_, _<_, _^_, _≤_, suc}
+use Rattle.list_laws.proofs.Kit.{zero, ℕ, add-zero, pow-suc, arith, eqb, ltb, getD, length, length-append, eq-eqb, le-leb, lt-ltb, ltb-false, ltb-true}
+use Rattle.list_laws.proofs.Kit.{ne-eqb}
 use Rattle.model.specs.Text.{byte, digitZero, isDigit, got, digitsFrom, digitBound, isNumber, asNumber, numberAt, decimal, digits}
 use Rattle.list_laws.proofs.Tests.{and-both, or-left, or-right}
 use Rattle.text_laws.proofs.Ahead.{Ahead, ahead-after, ahead-byte, ahead-word, ahead-next}

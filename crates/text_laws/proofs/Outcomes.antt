@@ -1,11 +1,6 @@
 -- Document 01, 'When a call says no': where no cause is there the value is given, and where a value is given every step before it
 -- went through. Assumes nothing.
-use mathlib.Core.Bool.{Bool, true, false}
-use mathlib.Core.List.{List, [], _∷_}
-use mathlib.Core.Path.{_≡_, refl}
-use Prim.Native.Nat.{ℕ, _+_}
-use native.Mathlib.Omega.{arith}
-use lib.ListN.{length}
+use Rattle.list_laws.proofs.Kit.{_≡_, refl, Bool, false, true, List, [], _∷_, _+_, ℕ, arith, length}
 use Rattle.model.specs.Refusal.{Outcome, refused, given, Cause, unless, refusalOf}
 use Rattle.model.specs.Text.{Reading, wrong, got, onward, formed, andThen, standsAt, after}
 use Rattle.model.specs.declared.Refusal.{Refusal}

@@ -1,12 +1,6 @@
 -- Document 01, 'When a call says no': what a refusal goes back to. A step that refuses had a cause, the first that is there; a line that
 -- refuses is of wrong form or went on to a step that refuses. Assumes nothing.
-use mathlib.Core.Bool.{Bool, true, false}
-use mathlib.Core.List.{List, [], _∷_}
-use mathlib.Core.Logic.{_⊎_, inl, inr}
-use mathlib.Core.Path.{_≡_, refl, sym, ap}
-use lib.Dec.{eqb}
-use borrow.Author.Tests.{eqb-true}
-use Prim.Native.Nat.{ℕ}
+use Rattle.list_laws.proofs.Kit.{_≡_, ap, refl, sym, Bool, false, true, _⊎_, inl, inr, List, [], _∷_, ℕ, eqb, eqb-true}
 use Rattle.model.specs.Refusal.{Outcome, refused, given, Cause, unless, refusalOf, wrongForm}
 use Rattle.model.specs.Text.{Reading, wrong, got, formed, andThen}
 use Rattle.model.specs.declared.Refusal.{Refusal}

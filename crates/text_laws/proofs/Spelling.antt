@@ -1,17 +1,9 @@
 -- Document 01, 'Job text' and 'Start, layout text, sheet': what is read at a position is written there just as the writer writes it. A
 -- word that is passed stands there; "a number has 1 to 5 digits, with a leading zero only in 0 itself", so a number has one
 -- spelling; fields and lines follow. Assumes nothing.
-use mathlib.Core.Bool.{Bool, true, false, not, _&&_, _||_, false≢true}
-use mathlib.Core.List.{List, [], _∷_, _++_, append-assoc, append-nil}
-use mathlib.Core.Logic.{⊎-elim}
-use mathlib.Core.Path.{_≡_, refl, sym, ap, _∙_}
-use Prim.Native.Nat.{ℕ, zero, suc, _+_, _-_, _*_, _/_, _%_, _≤_, _<_}
-use native.Mathlib.Nat.{add-zero}
-use native.Mathlib.Omega.{arith}
-use lib.Dec.{eqb, leb, ltb}
-use lib.ListN.{length, getD, length-append}
-use lib.Seq.{ext-getD}
-use borrow.Author.Tests.{eq-eqb, eqb-true, eqb-false, lt-ltb, le-ltb, leb-true, ltb-true, not-true}
+use Rattle.list_laws.proofs.Kit.{_∙_, _≡_, ap, refl, sym, Bool, _&&_, _||_, false, false≢true, not, true, ⊎-elim, List, [], _++_, _∷_, append-assoc}
+use Rattle.list_laws.proofs.Kit.{append-nil, _%_, _*_, _+_, _-_, _/_, _<_, _≤_, suc, zero, ℕ, add-zero, arith, eqb, leb, ltb, getD, length, length-append}
+use Rattle.list_laws.proofs.Kit.{ext-getD, eq-eqb, eqb-false, eqb-true, le-ltb, leb-true, lt-ltb, ltb-true, not-true}
 use Rattle.model.specs.Text.{byte, digitZero, isDigit, Reading, wrong, got, standsAt, after, Digits, digitsFrom, digitBound, isNumber, numberAt, fieldAt}
 use Rattle.model.specs.Text.{fieldsAt, lineAt, decimal, digits, fieldsText, lineText}
 use Rattle.list_laws.proofs.Tests.{and-left, and-right, or-cases, clash}

@@ -1,11 +1,6 @@
 -- Document 01, 'Job text' (the table and the pixel store) and 'Sheet and panels' (a box that is not loose): where a piece's pixels
 -- begin in the store, parts of the store, and boxes that agree. Assumes nothing.
-use mathlib.Core.Bool.{Bool, _&&_}
-use mathlib.Core.List.{List, _∷_}
-use mathlib.Core.Path.{_≡_, ap, ap₂, _∙_}
-use Prim.Native.Nat.{ℕ, suc, _+_, _-_, _*_, _<_}
-use native.Mathlib.Omega.{arith}
-use lib.ListN.{getD}
+use Rattle.list_laws.proofs.Kit.{_∙_, _≡_, ap, ap₂, Bool, _&&_, List, _∷_, _*_, _+_, _-_, _<_, suc, ℕ, arith, getD}
 use Rattle.model.specs.Bounded.{anyBelow}
 use Rattle.model.specs.Piece.{Shape, tight, tightAlong, holds, extent, other}
 use Rattle.model.specs.Lent.{entryArea, pixelStart}

@@ -1,10 +1,5 @@
 -- A line's fields read one after the other: the numbers so far stand in front of those that are left to read. Assumes nothing.
-use mathlib.Core.List.{List, [], _∷_}
-use mathlib.Core.Path.{_≡_, refl, sym, _∙_, ap}
-use Prim.Native.Nat.{ℕ, zero, suc, _+_, _-_, _≤_, _<_}
-use native.Mathlib.Omega.{arith}
-use lib.ListN.{length, set}
-use lib.Seq.{getD-set-same, getD-set-other}
+use Rattle.list_laws.proofs.Kit.{_∙_, _≡_, ap, refl, sym, List, [], _∷_, _+_, _-_, _<_, _≤_, suc, zero, ℕ, arith, length, set, getD-set-other, getD-set-same}
 use Rattle.model.specs.Text.{Reading, wrong, got, onward, comma, fieldAt, fieldsAt, threeFields, fourFields, field}
 use Rattle.text_numbers.specs.Lines.{endByte, fieldEnds, inFront}
 

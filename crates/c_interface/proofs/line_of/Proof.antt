@@ -1,5 +1,5 @@
 -- `c_interface::line_of` meets its contract: the test decides. Assumes nothing.
-use borrow.Author.Tests.{eq-eqb, ne-eqb}
+use Rattle.list_laws.proofs.Kit.{eq-eqb, ne-eqb}
 use Rattle.c_interface.specs.Numbers.{lineOf}
 use Rattle.c_interface.proofs.line_of.Statement.{statement}
 use Rattle.c_interface.proofs.line_of.Tie as tie

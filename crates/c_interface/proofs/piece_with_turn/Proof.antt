@@ -1,6 +1,5 @@
 -- `c_interface::piece_with_turn` meets its contract by what `turn_of` says of the degrees. Assumes nothing.
-use mathlib.Core.Path.{sym, _∙_}
-use borrow.Author.Needs.{needs}
+use Rattle.list_laws.proofs.Kit.{_∙_, sym, needs}
 use Rattle.model.specs.Buffer.{turnOfDegrees, turnPasses, isTurn}
 use Rattle.layout_places.proofs.Places.{unknown-none, known-some}
 use Rattle.c_interface.specs.Numbers.{pieceWithTurn}

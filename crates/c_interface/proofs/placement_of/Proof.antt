@@ -1,5 +1,5 @@
 -- `c_interface::placement_of` meets its contract by what `turn_or_zero` says of the degrees. Assumes nothing.
-use borrow.Author.Needs.{needs}
+use Rattle.list_laws.proofs.Kit.{needs}
 use Rattle.c_interface.proofs.placement_of.Statement.{statement}
 use Rattle.c_interface.proofs.placement_of.Tie as tie
 

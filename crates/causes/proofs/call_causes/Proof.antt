@@ -1,9 +1,5 @@
 -- `causes::call_causes` meets its contract: at each place the causes before it are not there, so that its own decides. Assumes nothing.
-use mathlib.Core.Bool.{true, not}
-use mathlib.Core.Path.{_≡_, sym, ap, _∙_}
-use borrow.Author.Needs.{needs}
-use borrow.Author.Tests.{not-true, not-false, eq-eqb, ne-eqb}
-use lib.ListN.{length}
+use Rattle.list_laws.proofs.Kit.{_∙_, _≡_, ap, sym, not, true, length, needs, eq-eqb, ne-eqb, not-false, not-true}
 use Rattle.model.specs.Lent.{Lent, lentBy, lentWell}
 use Rattle.job_laws.proofs.Checked.{facts}
 use Rattle.text_laws.proofs.Causes.{there, next}

@@ -1,6 +1,5 @@
 -- `causes::layout_causes` meets its contract: nothing of the call's own is wrong. Assumes nothing.
-use mathlib.Core.Path.{ap, _∙_}
-use borrow.Author.Needs.{needs}
+use Rattle.list_laws.proofs.Kit.{_∙_, ap, needs}
 use Rattle.model.specs.Answers.{doneAnswer}
 use Rattle.model.specs.Lent.{lentBy}
 use Rattle.causes.proofs.Asked.{layout-asked}

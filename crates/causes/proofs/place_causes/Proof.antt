@@ -1,9 +1,5 @@
 -- `causes::place_causes` meets its contract: a turn of the layout, then the call's own piece, then a placement. Assumes nothing.
-use mathlib.Core.Bool.{false, _||_}
-use mathlib.Core.List.{List}
-use mathlib.Core.Path.{_≡_, sym, ap₂, _∙_}
-use Prim.Native.Nat.{ℕ}
-use borrow.Author.Needs.{needs}
+use Rattle.list_laws.proofs.Kit.{_∙_, _≡_, ap₂, sym, _||_, false, List, ℕ, needs}
 use Rattle.model.specs.Lent.{Lent, lentBy, jobOf}
 use Rattle.model.specs.Calls.{someTurnWrong}
 use Rattle.list_laws.proofs.Tests.{or-left, or-right}

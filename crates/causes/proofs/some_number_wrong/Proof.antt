@@ -1,6 +1,5 @@
 -- `causes::some_number_wrong` meets its contract: by the test of the weights. Assumes nothing.
-use mathlib.Core.Path.{sym, _∙_}
-use borrow.Author.Needs.{needs}
+use Rattle.list_laws.proofs.Kit.{_∙_, sym, needs}
 use Rattle.causes.proofs.some_number_wrong.Statement.{statement}
 use Rattle.causes.proofs.some_number_wrong.Tie as tie
 

@@ -1,17 +1,10 @@
 -- `causes::some_outside` meets its contract. The loop's invariant: the placements of the pieces passed are inside. Assumes nothing.
-use mathlib.Core.Bool.{true}
-use mathlib.Core.List.{List}
-use mathlib.Core.Path.{_≡_, sym, _∙_}
-use Prim.Native.Nat.{ℕ, _≤_, _<_, _-_}
-use native.Mathlib.Omega.{arith}
-use borrow.Author.Count.{below-more}
-use borrow.Author.Tests.{not-true, not-false}
+use Rattle.list_laws.proofs.Kit.{_∙_, _≡_, sym, true, List, _-_, _<_, _≤_, ℕ, arith, below-more, needs, not-false, not-true}
 use Rattle.model.specs.Layout.{inside, placeOf}
 use Rattle.model.specs.Lent.{lentBy, jobOf}
 use Rattle.model.specs.Buffer.{layoutOf}
 use Rattle.model.specs.Calls.{someOutside}
 use Rattle.list_laws.proofs.Searches.{one-fails, none-fails}
-use borrow.Author.Needs.{needs}
 use Rattle.causes.proofs.some_outside.Statement.{statement}
 use Rattle.causes.proofs.some_outside.Tie as tie
 

@@ -1,13 +1,5 @@
 -- `causes::some_turn_wrong` meets its contract. The loop's invariant: the turns of the pieces passed are allowed. Assumes nothing.
-use mathlib.Core.Bool.{true}
-use mathlib.Core.List.{List, []}
-use mathlib.Core.Path.{_≡_, sym, _∙_}
-use Prim.Native.Nat.{ℕ, _≤_, _<_, _-_}
-use native.Mathlib.Omega.{arith}
-use borrow.Author.Count.{below-more}
-use borrow.Author.Needs.{needs}
-use borrow.Author.Tests.{not-true, not-false}
-use lib.ListN.{getD}
+use Rattle.list_laws.proofs.Kit.{_∙_, _≡_, sym, true, List, [], _-_, _<_, _≤_, ℕ, arith, getD, below-more, needs, not-false, not-true}
 use Rattle.model.specs.Lent.{lentBy, jobOf}
 use Rattle.model.specs.Calls.{allowedDegrees, someTurnWrong}
 use Rattle.list_laws.proofs.Searches.{one-fails, none-fails}

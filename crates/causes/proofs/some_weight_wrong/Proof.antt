@@ -1,11 +1,7 @@
 -- `causes::some_weight_wrong` meets its contract. The loop's invariant: a wrong weight is among those left. Assumes nothing.
-use mathlib.Core.Path.{_≡_, refl, sym, _∙_}
-use Prim.Native.Nat.{_-_, _≤_}
-use native.Mathlib.Omega.{arith}
-use lib.ListN.{length, drop}
+use Rattle.list_laws.proofs.Kit.{_∙_, _≡_, refl, sym, _-_, _≤_, arith, drop, length, needs}
 use Rattle.model.specs.Calls.{someWeightWrong}
 use Rattle.causes.proofs.Weights.{weight-zero, weight-large, weight-right, weights-end}
-use borrow.Author.Needs.{needs}
 use Rattle.causes.proofs.some_weight_wrong.Statement.{statement}
 use Rattle.causes.proofs.some_weight_wrong.Tie as tie
 

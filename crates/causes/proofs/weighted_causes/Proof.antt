@@ -1,8 +1,5 @@
 -- `causes::weighted_causes` meets its contract: the length of the weights is asked behind the job, whose pieces are then few. Assumes nothing.
-use mathlib.Core.Bool.{Bool}
-use mathlib.Core.List.{List, _∷_}
-use mathlib.Core.Path.{ap, _∙_}
-use borrow.Author.Needs.{needs}
+use Rattle.list_laws.proofs.Kit.{_∙_, ap, Bool, List, _∷_, needs}
 use Rattle.model.specs.Answers.{doneAnswer}
 use Rattle.model.specs.Refusal.{Cause, cause, unless, outOfRange}
 use Rattle.model.specs.Calls.{jobCause, layoutLength, weightsLength}

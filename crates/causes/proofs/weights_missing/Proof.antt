@@ -1,6 +1,5 @@
 -- `causes::weights_missing` meets its contract: by the tests. Assumes nothing.
-use native.Mathlib.Omega.{arith}
-use borrow.Author.Needs.{needs}
+use Rattle.list_laws.proofs.Kit.{arith, needs}
 use Rattle.causes.proofs.weights_missing.Statement.{statement}
 use Rattle.causes.proofs.weights_missing.Tie as tie
 

@@ -1,7 +1,5 @@
 -- `job_limits::numbers_in_range` makes the tests of its definition in their order. Assumes nothing.
-use mathlib.Core.Bool.{Bool, true, _&&_}
-use mathlib.Core.Path.{_≡_}
-use borrow.Author.Needs.{needs}
+use Rattle.list_laws.proofs.Kit.{_≡_, Bool, _&&_, true, needs}
 use Rattle.list_laws.proofs.Tests.{said-no, said-yes}
 use Rattle.job_limits.proofs.numbers_in_range.Statement.{statement}
 use Rattle.job_limits.proofs.numbers_in_range.Tie as tie

@@ -1,9 +1,8 @@
 -- `job_limits::sheet_in_range` makes the tests of its definition in their order; in range, the product is far below 2^64. Assumes nothing.
-use native.Mathlib.Omega.{arith}
+use Rattle.list_laws.proofs.Kit.{arith, needs}
 use Rattle.model.specs.Lent.{sheetInRange}
 use Rattle.list_laws.proofs.Tests.{said-no, said-yes}
 use Rattle.job_limits.proofs.Ranges.{sheet-small}
-use borrow.Author.Needs.{needs}
 use Rattle.job_limits.proofs.sheet_in_range.Statement.{statement}
 use Rattle.job_limits.proofs.sheet_in_range.Tie as tie
 

@@ -1,6 +1,5 @@
 -- `job_limits::sides_in_range` makes the tests of its definition in their order. Assumes nothing.
-use borrow.Author.Tests.{eq-eqb, ne-eqb}
-use borrow.Author.Needs.{needs}
+use Rattle.list_laws.proofs.Kit.{needs, eq-eqb, ne-eqb}
 use Rattle.list_laws.proofs.Tests.{said-no, said-yes}
 use Rattle.job_limits.proofs.sides_in_range.Statement.{statement}
 use Rattle.job_limits.proofs.sides_in_range.Tie as tie

@@ -1,5 +1,5 @@
 -- `job_limits::up_to` makes the two tests of its definition. Assumes nothing.
-use borrow.Author.Tests.{lt-leb, le-leb}
+use Rattle.list_laws.proofs.Kit.{le-leb, lt-leb}
 use Rattle.job_limits.proofs.up_to.Statement.{statement}
 use Rattle.job_limits.proofs.up_to.Tie as tie
 

@@ -1,16 +1,11 @@
 -- `job_lines::job_fields`: the form is that of the line's reading, and its numbers are the fields. Assumes nothing.
-use mathlib.Core.List.{List, []}
-use mathlib.Core.Path.{_≡_, sym, _∙_, ap}
-use Prim.Native.Nat.{ℕ, _≤_}
-use native.Mathlib.Omega.{arith}
-use lib.ListN.{length}
+use Rattle.list_laws.proofs.Kit.{_∙_, _≡_, ap, sym, List, [], _≤_, ℕ, arith, length, needs}
 use Rattle.model.specs.Refusal.{given}
 use Rattle.model.specs.Text.{Reading, wrong, got, threeFields, lineAt, formed}
 use Rattle.model.specs.JobText.{jobWord, asJobLine}
 use Rattle.text_numbers.specs.Lines.{inFront}
 use Rattle.job_lines.specs.Lines.{jobAnswer}
 use Rattle.job_lines.specs.declared.JobLineAnswer.the-variants as job
-use borrow.Author.Needs.{needs}
 use Rattle.job_lines.proofs.job_fields.Statement.{statement}
 use Rattle.job_lines.proofs.job_fields.Tie as tie
 

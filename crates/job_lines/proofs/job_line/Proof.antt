@@ -1,13 +1,8 @@
 -- `job_lines::job_line`: form, then ranges. Assumes nothing.
-use mathlib.Core.Path.{_≡_, sym, _∙_, ap}
-use Prim.Native.Nat.{_≤_}
-use native.Mathlib.Nat.{le-trans}
-use native.Mathlib.Omega.{arith}
-use lib.ListN.{length}
+use Rattle.list_laws.proofs.Kit.{_∙_, _≡_, ap, sym, _≤_, le-trans, arith, length, needs}
 use Rattle.job_lines.specs.Lines.{jobLineOf}
 use Rattle.job_lines.specs.declared.JobLineAnswer.the-variants as job
 use Rattle.job_lines.proofs.Forms.{job-line-refused, job-line-ranged, job-next}
-use borrow.Author.Needs.{needs}
 use Rattle.job_lines.proofs.job_line.Statement.{statement}
 use Rattle.job_lines.proofs.job_line.Tie as tie
 

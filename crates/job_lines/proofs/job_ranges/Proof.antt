@@ -1,15 +1,10 @@
 -- `job_lines::job_ranges` makes the tests of `jobLineCauses` in their order. Assumes nothing.
-use mathlib.Core.Bool.{true}
-use mathlib.Core.Path.{_≡_, _∙_, ap}
-use Prim.Native.Nat.{_*_, _≤_}
-use native.Mathlib.Omega.{arith}
-use borrow.Author.Tests.{lt-ltb, le-ltb}
+use Rattle.list_laws.proofs.Kit.{_∙_, _≡_, ap, true, _*_, _≤_, arith, needs, le-ltb, lt-ltb}
 use Rattle.model.specs.Refusal.{unless}
 use Rattle.model.specs.Lent.{numbersInRange}
 use Rattle.list_laws.proofs.Tests.{said-no, said-yes}
 use Rattle.job_lines.specs.declared.JobLineAnswer.the-variants as job
 use Rattle.job_limits.proofs.Ranges.{sheet-small, few-count}
-use borrow.Author.Needs.{needs}
 use Rattle.job_lines.proofs.job_ranges.Statement.{statement}
 use Rattle.job_lines.proofs.job_ranges.Tie as tie
 

@@ -1,16 +1,11 @@
 -- `job_lines::piece_fields`: the form is that of the line's reading, and its numbers are the fields. Assumes nothing.
-use mathlib.Core.List.{List, []}
-use mathlib.Core.Path.{_≡_, sym, _∙_, ap}
-use Prim.Native.Nat.{ℕ, _≤_}
-use native.Mathlib.Omega.{arith}
-use lib.ListN.{length}
+use Rattle.list_laws.proofs.Kit.{_∙_, _≡_, ap, sym, List, [], _≤_, ℕ, arith, length, needs}
 use Rattle.model.specs.Refusal.{given}
 use Rattle.model.specs.Text.{Reading, wrong, got, fourFields, lineAt, formed}
 use Rattle.model.specs.JobText.{pieceWord, asPieceLine}
 use Rattle.text_numbers.specs.Lines.{inFront}
 use Rattle.job_lines.specs.Lines.{pieceAnswer}
 use Rattle.job_lines.specs.declared.PieceLineAnswer.the-variants as piece
-use borrow.Author.Needs.{needs}
 use Rattle.job_lines.proofs.piece_fields.Statement.{statement}
 use Rattle.job_lines.proofs.piece_fields.Tie as tie
 

@@ -1,13 +1,8 @@
 -- `job_lines::piece_line`: form, then ranges. Assumes nothing.
-use mathlib.Core.Path.{_≡_, sym, _∙_, ap}
-use Prim.Native.Nat.{_≤_}
-use native.Mathlib.Nat.{le-trans}
-use native.Mathlib.Omega.{arith}
-use lib.ListN.{length}
+use Rattle.list_laws.proofs.Kit.{_∙_, _≡_, ap, sym, _≤_, le-trans, arith, length, needs}
 use Rattle.job_lines.specs.Lines.{jobLineOf, pieceLineOf}
 use Rattle.job_lines.specs.declared.PieceLineAnswer.the-variants as piece
 use Rattle.job_lines.proofs.Forms.{piece-line-refused, piece-line-ranged, piece-next}
-use borrow.Author.Needs.{needs}
 use Rattle.job_lines.proofs.piece_line.Statement.{statement}
 use Rattle.job_lines.proofs.piece_line.Tie as tie
 

@@ -1,12 +1,9 @@
 -- `job_lines::piece_ranges` makes the tests of `pieceLineCauses` in their order. Assumes nothing.
-use mathlib.Core.Path.{_∙_, ap}
-use native.Mathlib.Omega.{arith}
-use borrow.Author.Tests.{eq-eqb, ne-eqb, lt-ltb, le-ltb}
+use Rattle.list_laws.proofs.Kit.{_∙_, ap, arith, needs, eq-eqb, le-ltb, lt-ltb, ne-eqb}
 use Rattle.model.specs.Refusal.{unless}
 use Rattle.job_laws.proofs.Ranges.{area-of}
 use Rattle.list_laws.proofs.Tests.{said-no, said-yes}
 use Rattle.job_lines.specs.declared.PieceLineAnswer.the-variants as piece
-use borrow.Author.Needs.{needs}
 use Rattle.job_lines.proofs.piece_ranges.Statement.{statement}
 use Rattle.job_lines.proofs.piece_ranges.Tie as tie
 

@@ -1,14 +1,9 @@
 -- `job_rows::fill_marks`: storing the marks that are left, behind those that are stored, is what is left of storing all. Assumes nothing.
-use mathlib.Core.Path.{_≡_, refl, sym, _∙_, ap}
-use Prim.Native.Nat.{suc, _≤_, _+_, _-_}
-use native.Mathlib.Nat.{add-zero, sub-zero}
-use native.Mathlib.Omega.{arith}
-use lib.ListN.{length, set}
+use Rattle.list_laws.proofs.Kit.{_∙_, _≡_, ap, refl, sym, _+_, _-_, _≤_, suc, add-zero, sub-zero, arith, length, set, needs}
 use Rattle.model.specs.Text.{byte, wrong, got}
 use Rattle.model.specs.JobText.{markAt, marksAt}
 use Rattle.job_rows.specs.Stores.{markBit}
 use Rattle.job_rows.proofs.Marks.{fillMarks, mark-read, mark-none, marks-more, marks-none, marks-end, stored-yes, stored-no}
-use borrow.Author.Needs.{needs}
 use Rattle.job_rows.proofs.fill_marks.Statement.{statement}
 use Rattle.job_rows.proofs.fill_marks.Tie as tie
 

@@ -1,13 +1,9 @@
 -- `job_rows::fill_row`: the word, the marks, the line end. Assumes nothing.
-use mathlib.Core.Path.{_≡_, refl, ap}
-use Prim.Native.Nat.{ℕ, _+_}
-use lib.Dec.{eqb}
-use borrow.Author.Tests.{not-true, not-false}
+use Rattle.list_laws.proofs.Kit.{_≡_, ap, refl, _+_, ℕ, eqb, needs, not-false, not-true}
 use Rattle.model.specs.Text.{wrong}
 use Rattle.model.specs.JobText.{marksAt, rowAt}
 use Rattle.list_laws.proofs.Tests.{said-no, said-yes}
 use Rattle.job_rows.proofs.Marks.{row-not, row-none, row-last, stored-kept, stored-lost}
-use borrow.Author.Needs.{needs}
 use Rattle.job_rows.proofs.fill_row.Statement.{statement}
 use Rattle.job_rows.proofs.fill_row.Tie as tie
 

@@ -1,17 +1,11 @@
 -- `job_rows::fill_rows`: storing the rows that are left, behind those that are stored, is what is left of storing all. Assumes nothing.
-use mathlib.Core.Path.{_≡_, refl, sym, _∙_, ap}
-use Prim.Native.Nat.{ℕ, suc, _≤_, _+_, _-_, _*_}
-use native.Mathlib.Nat.{mul-le-mul, suc-mul}
-use native.Mathlib.Omega.{arith}
-use lib.ListN.{length}
-use borrow.Author.Tests.{not-true, not-false}
+use Rattle.list_laws.proofs.Kit.{_∙_, _≡_, ap, refl, sym, _*_, _+_, _-_, _≤_, suc, ℕ, mul-le-mul, suc-mul, arith, length, needs, not-false, not-true}
 use Rattle.model.specs.Refusal.{refused, wrongForm}
 use Rattle.model.specs.Text.{wrong}
 use Rattle.model.specs.JobText.{rowAt, rowsAt}
 use Rattle.job_lines.specs.Lines.{refusalAt}
 use Rattle.job_rows.specs.declared.RowsAnswer.the-variants as rows
 use Rattle.job_rows.proofs.Marks.{fillRows, stored-kept, stored-lost, row-step, row-inside, rows-none, rows-end, rows-given, rows-refused}
-use borrow.Author.Needs.{needs}
 use Rattle.job_rows.proofs.fill_rows.Statement.{statement}
 use Rattle.job_rows.proofs.fill_rows.Tie as tie
 

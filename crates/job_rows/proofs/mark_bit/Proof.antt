@@ -1,5 +1,5 @@
 -- `job_rows::mark_bit` makes the two tests of its definition. Assumes nothing.
-use borrow.Author.Tests.{eq-eqb, ne-eqb}
+use Rattle.list_laws.proofs.Kit.{eq-eqb, ne-eqb}
 use Rattle.job_rows.specs.Stores.{markBit}
 use Rattle.job_rows.proofs.mark_bit.Statement.{statement}
 use Rattle.job_rows.proofs.mark_bit.Tie as tie

@@ -1,10 +1,5 @@
 -- `layout_length_calls::longest_end` meets its contract. The loop's invariant: the largest right end of the pieces passed. Assumes nothing.
-use mathlib.Core.List.{List}
-use mathlib.Core.Path.{_≡_, refl}
-use Prim.Native.Nat.{ℕ, _≤_, _-_}
-use native.Mathlib.Numerals.{add-one}
-use native.Mathlib.Omega.{arith}
-use borrow.Author.Needs.{needs}
+use Rattle.list_laws.proofs.Kit.{_≡_, refl, List, _-_, _≤_, ℕ, add-one, arith, needs}
 use Rattle.model.specs.Layout.{rightmost, usedLength}
 use Rattle.model.specs.Lent.{lentBy, jobOf}
 use Rattle.model.specs.Buffer.{layoutOf}

@@ -1,5 +1,5 @@
 -- `layout_length_calls::right_end` meets its contract by what it is told of the placement and the turned box. Assumes nothing.
-use borrow.Author.Needs.{needs}
+use Rattle.list_laws.proofs.Kit.{needs}
 use Rattle.layout_length_calls.proofs.right_end.Statement.{statement}
 use Rattle.layout_length_calls.proofs.right_end.Tie as tie
 

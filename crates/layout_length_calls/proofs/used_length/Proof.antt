@@ -1,6 +1,5 @@
 -- `layout_length_calls::used_length` meets its contract: the causes refuse, or none is there and the length is given. Assumes nothing.
-use mathlib.Core.Path.{sym, _∙_}
-use borrow.Author.Needs.{needs}
+use Rattle.list_laws.proofs.Kit.{_∙_, sym, needs}
 use Rattle.model.specs.Lent.{Lent, lentBy}
 use Rattle.model.specs.Calls.{layoutCauses, usedLengthCall}
 use Rattle.text_laws.specs.Outcomes.{NoCause}

@@ -1,7 +1,5 @@
 -- `layout_places::allowed` meets its contract by the sum of turns in the table. Assumes nothing.
-use mathlib.Core.Path.{ap, _∙_}
-use Prim.Native.Nat.{ℕ}
-use borrow.Author.Needs.{needs}
+use Rattle.list_laws.proofs.Kit.{_∙_, ap, ℕ, needs}
 use Rattle.model.specs.Piece.{allows}
 use Rattle.model.specs.Lent.{jobOf}
 use Rattle.layout_places.proofs.allowed.Statement.{statement}

@@ -1,6 +1,5 @@
 -- `layout_places::allowed_degrees` meets its contract by what `turn_of` says of the degrees. Assumes nothing.
-use mathlib.Core.Path.{sym, _∙_}
-use borrow.Author.Needs.{needs}
+use Rattle.list_laws.proofs.Kit.{_∙_, sym, needs}
 use Rattle.model.specs.Lent.{jobOf}
 use Rattle.model.specs.Buffer.{turnOfDegrees, turnPasses}
 use Rattle.model.specs.Calls.{allowedDegrees}

@@ -1,5 +1,5 @@
 -- `layout_places::allows` meets its contract: a turn's part of the sum is not 0, so that the sum can be divided by it. Assumes nothing.
-use borrow.Author.Needs.{needs}
+use Rattle.list_laws.proofs.Kit.{needs}
 use Rattle.model.specs.Piece.{allows}
 use Rattle.layout_places.proofs.Places.{bit-positive}
 use Rattle.layout_places.proofs.allows.Statement.{statement}

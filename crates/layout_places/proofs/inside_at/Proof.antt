@@ -1,6 +1,5 @@
 -- `layout_places::inside_at` meets its contract: the two tests are those of the turned box's sides (`inside-by-sides`). Assumes nothing.
-use borrow.Author.Needs.{needs}
-use borrow.Author.Tests.{le-leb, lt-leb}
+use Rattle.list_laws.proofs.Kit.{needs, le-leb, lt-leb}
 use Rattle.model.specs.Lent.{jobOf, lentBy}
 use Rattle.layout_places.specs.Boxes.{placeAt}
 use Rattle.layout_places.proofs.Places.{inside-by-sides}

@@ -1,10 +1,6 @@
 -- `layout_places::known` meets its contract: a piece number past the last fails the test, an entry that the table has not allows no turn,
 -- and for another the table says which turns are allowed. Assumes nothing.
-use mathlib.Core.Path.{sym}
-use mathlib.Core.List.{[]}
-use borrow.Author.Tests.{lt-ltb, le-ltb}
-use borrow.Author.Needs.{needs}
-use lib.ListN.{List·getD-eq-default}
+use Rattle.list_laws.proofs.Kit.{sym, [], List·getD-eq-default, needs, le-ltb, lt-ltb}
 use Rattle.model.specs.Lent.{jobOf}
 use Rattle.layout_places.proofs.Places.{none-allowed}
 use Rattle.layout_places.proofs.known.Statement.{statement}

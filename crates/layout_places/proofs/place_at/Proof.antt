@@ -1,6 +1,5 @@
 -- `layout_places::place_at` meets its contract: a placement stands in its entry (`place-of-entry`). Assumes nothing.
-use mathlib.Core.Path.{sym}
-use borrow.Author.Needs.{needs}
+use Rattle.list_laws.proofs.Kit.{sym, needs}
 use Rattle.layout_places.proofs.Places.{place-of-entry}
 use Rattle.layout_places.proofs.place_at.Statement.{statement}
 use Rattle.layout_places.proofs.place_at.Tie as tie

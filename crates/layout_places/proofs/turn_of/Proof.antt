@@ -1,5 +1,5 @@
 -- `layout_places::turn_of` meets its contract: each arm's number is one of the four, and the last arm's is none of them. Assumes nothing.
-use borrow.Author.Tests.{ne-eqb}
+use Rattle.list_laws.proofs.Kit.{ne-eqb}
 use Rattle.model.specs.Buffer.{turnOfDegrees}
 use Rattle.layout_places.proofs.turn_of.Statement.{statement}
 use Rattle.layout_places.proofs.turn_of.Tie as tie

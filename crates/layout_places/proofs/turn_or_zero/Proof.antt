@@ -1,6 +1,5 @@
 -- `layout_places::turn_or_zero` meets its contract by what `turn_of` says of the degrees. Assumes nothing.
-use mathlib.Core.Path.{sym, _∙_}
-use borrow.Author.Needs.{needs}
+use Rattle.list_laws.proofs.Kit.{_∙_, sym, needs}
 use Rattle.model.specs.Buffer.{turnOf, turnOfDegrees}
 use Rattle.layout_places.proofs.Places.{unknown-none, known-some}
 use Rattle.layout_places.proofs.turn_or_zero.Statement.{statement}

@@ -1,8 +1,5 @@
 -- `layout_read_calls::fill_layout` meets its contract: the first reading has no buffer, the second fills it whole. Assumes nothing.
-use mathlib.Core.List.{[]}
-use mathlib.Core.Path.{_≡_, sym, _∙_, ap}
-use borrow.Author.Needs.{needs}
-use lib.ListN.{length, length-map}
+use Rattle.list_laws.proofs.Kit.{_∙_, _≡_, ap, sym, [], length, length-map, needs}
 use Rattle.model.specs.Refusal.{refused, given, plainRefusal}
 use Rattle.model.specs.Lent.{lentBy, jobOf}
 use Rattle.model.specs.Buffer.{entryOf, entriesOf}

@@ -1,14 +1,11 @@
 -- `layout_read_calls::layout_line` meets its contract: form first, then the three numbers. Assumes nothing.
-use mathlib.Core.List.{[]}
-use mathlib.Core.Path.{_≡_}
-use native.Mathlib.Omega.{arith}
+use Rattle.list_laws.proofs.Kit.{_≡_, [], arith, needs}
 use Rattle.model.specs.Lent.{jobOf, lentBy}
 use Rattle.model.specs.Text.{wrong, got, threeFields, lineAt}
 use Rattle.model.specs.LayoutText.{layoutWord}
 use Rattle.list_laws.proofs.Tests.{said-no, said-yes}
 use Rattle.text_numbers.specs.Lines.{inFront}
 use Rattle.layout_read_calls.proofs.Lines.{layout-line-wrong, layout-line-unlike, layout-line-given}
-use borrow.Author.Needs.{needs}
 use Rattle.layout_read_calls.proofs.layout_line.Statement.{statement}
 use Rattle.layout_read_calls.proofs.layout_line.Tie as tie
 

@@ -1,14 +1,11 @@
 -- `layout_read_calls::placement_line` meets its contract: form first, then what its numbers give. Assumes nothing.
-use mathlib.Core.List.{[]}
-use mathlib.Core.Path.{_≡_, sym, _∙_}
-use native.Mathlib.Omega.{arith}
+use Rattle.list_laws.proofs.Kit.{_∙_, _≡_, sym, [], arith, needs}
 use Rattle.model.specs.Lent.{jobOf, lentBy}
 use Rattle.model.specs.Text.{wrong, got, fourFields, lineAt, andThen}
 use Rattle.model.specs.LayoutText.{atWord}
 use Rattle.text_numbers.specs.Lines.{inFront}
 use Rattle.layout_read_calls.specs.Readings.{placeOnLine}
 use Rattle.layout_read_calls.proofs.Lines.{line-wrong, line-placed, place-refused, place-placed}
-use borrow.Author.Needs.{needs}
 use Rattle.layout_read_calls.proofs.placement_line.Statement.{statement}
 use Rattle.layout_read_calls.proofs.placement_line.Tie as tie
 

@@ -1,8 +1,5 @@
 -- `layout_read_calls::placement_of` meets its contract, cause by cause; a corner inside is that of its clipped fields. Assumes nothing.
-use mathlib.Core.Option.{none, some}
-use mathlib.Core.Path.{_≡_, sym, ap, _∙_}
-use borrow.Author.Needs.{needs}
-use borrow.Author.Tests.{not-true, not-false}
+use Rattle.list_laws.proofs.Kit.{_∙_, _≡_, ap, sym, none, some, needs, not-false, not-true}
 use Rattle.model.specs.Lent.{jobOf, lentBy}
 use Rattle.layout_places.proofs.Places.{unknown-none, known-some}
 use Rattle.layout_read_calls.specs.Readings.{turnOnLine, placeAnswer}

@@ -1,9 +1,5 @@
 -- `layout_read_calls::read_layout` meets its contract, part by part. Assumes nothing.
-use mathlib.Core.Bool.{true, false}
-use mathlib.Core.Path.{_≡_, sym, _∙_, ap}
-use borrow.Author.Needs.{needs}
-use borrow.Author.Tests.{not-true, not-false}
-use lib.ListN.{length}
+use Rattle.list_laws.proofs.Kit.{_∙_, _≡_, ap, sym, false, true, length, needs, not-false, not-true}
 use Rattle.model.specs.Refusal.{refused, plainRefusal}
 use Rattle.model.specs.Lent.{Lent, lentBy, jobOf, lentWell}
 use Rattle.model.specs.LayoutText.{layoutLine}

@@ -1,11 +1,6 @@
 -- `layout_read_calls::read_placements` meets its contract. The loop's invariant: what is read so far is at the front of the buffer, and
 -- what is left decides the whole (`ReadProgress`). Assumes nothing.
-use mathlib.Core.List.{List}
-use mathlib.Core.Path.{_≡_, refl, sym, _∙_, ap}
-use Prim.Native.Nat.{ℕ, _+_, _-_, _≤_}
-use native.Mathlib.Omega.{arith}
-use borrow.Author.Needs.{needs}
-use lib.ListN.{length}
+use Rattle.list_laws.proofs.Kit.{_∙_, _≡_, ap, refl, sym, List, _+_, _-_, _≤_, ℕ, arith, length, needs}
 use Rattle.model.specs.Layout.{Layout}
 use Rattle.model.specs.Refusal.{refused, given}
 use Rattle.model.specs.Lent.{jobOf, lentBy}

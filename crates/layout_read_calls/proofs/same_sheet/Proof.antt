@@ -1,5 +1,5 @@
 -- `layout_read_calls::same_sheet` meets its contract by its tests. Assumes nothing.
-use borrow.Author.Tests.{eq-eqb, ne-eqb}
+use Rattle.list_laws.proofs.Kit.{eq-eqb, ne-eqb}
 use Rattle.layout_read_calls.proofs.same_sheet.Statement.{statement}
 use Rattle.layout_read_calls.proofs.same_sheet.Tie as tie
 

@@ -1,7 +1,5 @@
 -- `layout_read_calls::set_entry` meets its contract: a store past the end changes nothing. Assumes nothing.
-use mathlib.Core.Path.{sym}
-use borrow.Author.Needs.{needs}
-use lib.Seq.{set-out}
+use Rattle.list_laws.proofs.Kit.{sym, set-out, needs}
 use Rattle.layout_read_calls.proofs.set_entry.Statement.{statement}
 use Rattle.layout_read_calls.proofs.set_entry.Tie as tie
 

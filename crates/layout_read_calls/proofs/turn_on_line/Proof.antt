@@ -1,6 +1,5 @@
 -- `layout_read_calls::turn_on_line` meets its contract: degrees above 270 are those of no turn. Assumes nothing.
-use borrow.Author.Needs.{needs}
-use borrow.Author.Tests.{eq-eqb, ne-eqb}
+use Rattle.list_laws.proofs.Kit.{needs, eq-eqb, ne-eqb}
 use Rattle.layout_read_calls.specs.Readings.{turnOnLine}
 use Rattle.layout_read_calls.proofs.Lines.{no-turn-above}
 use Rattle.layout_read_calls.proofs.turn_on_line.Statement.{statement}

@@ -1,13 +1,6 @@
 -- `layout_start_calls::start` meets its contract: on a refusal nothing is written, else the pieces in falling order are stacked (`start-laid`).
 -- Assumes nothing.
-use mathlib.Core.Bool.{true, false}
-use mathlib.Core.Path.{_≡_, sym, _∙_, ap}
-use Prim.Native.Nat.{_≤_}
-use native.Mathlib.Omega.{arith}
-use borrow.Author.Needs.{needs}
-use borrow.Author.Tests.{not-true, not-false, eq-eqb, ne-eqb}
-use lib.Dec.{eqb}
-use lib.ListN.{length}
+use Rattle.list_laws.proofs.Kit.{_∙_, _≡_, ap, sym, false, true, _≤_, arith, eqb, length, needs, eq-eqb, ne-eqb, not-false, not-true}
 use Rattle.model.specs.Start.{start}
 use Rattle.model.specs.Refusal.{refused, given, unless, plainRefusal}
 use Rattle.model.specs.Lent.{Lent, lentBy, lentWell, jobOf}

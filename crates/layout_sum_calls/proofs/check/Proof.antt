@@ -1,6 +1,5 @@
 -- `layout_sum_calls::check` meets its contract: the causes of the layout refuse, or the first pair that shares a pixel does. Assumes nothing.
-use mathlib.Core.List.{[], _∷_}
-use mathlib.Core.Path.{sym, ap, _∙_}
+use Rattle.list_laws.proofs.Kit.{_∙_, ap, sym, [], _∷_, needs}
 use Rattle.model.specs.Layout.{sharingPair}
 use Rattle.model.specs.Lent.{Lent, lentBy, jobOf}
 use Rattle.model.specs.Buffer.{layoutOf}
@@ -11,7 +10,6 @@ use Rattle.model.specs.Answers.{doneAnswer}
 use Rattle.causes.proofs.Passed.{layout-laid}
 use Rattle.layout_sum_calls.specs.Answers.{sharedAnswer}
 use Rattle.layout_sum_calls.proofs.Checks.{shared-check}
-use borrow.Author.Needs.{needs}
 use Rattle.layout_sum_calls.proofs.check.Statement.{statement}
 use Rattle.layout_sum_calls.proofs.check.Tie as tie
 

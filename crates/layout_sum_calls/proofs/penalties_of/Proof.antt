@@ -1,11 +1,10 @@
 -- `layout_sum_calls::penalties_of` meets its contract: the strips of every piece in every turn are made, and the table from them. Assumes nothing.
-use mathlib.Core.Path.{refl, sym, subst}
+use Rattle.list_laws.proofs.Kit.{refl, subst, sym, needs}
 use Rattle.model.specs.Lent.{lentBy, jobOf}
 use Rattle.model.specs.Buffer.{layoutOf}
 use Rattle.search_laws.specs.Table.{PenaltyTable}
 use Rattle.search_table.specs.Drawn.{Drawn}
 use Rattle.search_shapes.proofs.Rooms.{room-of}
-use borrow.Author.Needs.{needs}
 use Rattle.layout_sum_calls.proofs.penalties_of.Statement.{statement}
 use Rattle.layout_sum_calls.proofs.penalties_of.Tie as tie
 

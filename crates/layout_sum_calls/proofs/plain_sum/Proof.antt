@@ -1,5 +1,5 @@
 -- `layout_sum_calls::plain_sum` meets its contract: the causes refuse, or none is there and the sum is given. Assumes nothing.
-use mathlib.Core.Path.{refl, sym, _∙_}
+use Rattle.list_laws.proofs.Kit.{_∙_, refl, sym, needs}
 use Rattle.model.specs.Lent.{Lent, lentBy, jobOf}
 use Rattle.model.specs.Buffer.{layoutOf}
 use Rattle.model.specs.Calls.{layoutCauses, plainSumCall}
@@ -8,7 +8,6 @@ use Rattle.text_laws.specs.Outcomes.{NoCause}
 use Rattle.text_laws.proofs.Outcomes.{unless-given}
 use Rattle.text_laws.proofs.Causes.{passed-none, refused-alone}
 use Rattle.causes.proofs.Passed.{layout-laid}
-use borrow.Author.Needs.{needs}
 use Rattle.layout_sum_calls.proofs.plain_sum.Statement.{statement}
 use Rattle.layout_sum_calls.proofs.plain_sum.Tie as tie
 

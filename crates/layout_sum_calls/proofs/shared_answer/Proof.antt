@@ -1,7 +1,6 @@
 -- `layout_sum_calls::shared_answer` meets its contract: by the two cases. Assumes nothing.
-use mathlib.Core.Path.{sym, ap}
+use Rattle.list_laws.proofs.Kit.{ap, sym, needs}
 use Rattle.layout_sum_calls.specs.Answers.{sharedAnswer}
-use borrow.Author.Needs.{needs}
 use Rattle.layout_sum_calls.proofs.shared_answer.Statement.{statement}
 use Rattle.layout_sum_calls.proofs.shared_answer.Tie as tie
 

@@ -1,6 +1,5 @@
 -- `layout_sum_calls::weighted_sum` meets its contract: the causes refuse, or none is there and the sum is given. Assumes nothing.
-use mathlib.Core.Bool.{false}
-use mathlib.Core.Path.{refl, sym, ap, _∙_}
+use Rattle.list_laws.proofs.Kit.{_∙_, ap, refl, sym, false, needs}
 use Rattle.model.specs.Answers.{numberAnswer}
 use Rattle.model.specs.Layout.{weightedSum}
 use Rattle.model.specs.declared.NumberAnswer.{NumberAnswer}
@@ -14,7 +13,6 @@ use Rattle.text_laws.proofs.Causes.{passed-none, refused-alone}
 use Rattle.causes.specs.Asked.{weightedCauses}
 use Rattle.causes.proofs.Asked.{sum-asked}
 use Rattle.causes.proofs.Passed.{Weighable, weighted-passed}
-use borrow.Author.Needs.{needs}
 use Rattle.layout_sum_calls.proofs.weighted_sum.Statement.{statement}
 use Rattle.layout_sum_calls.proofs.weighted_sum.Tie as tie
 

@@ -1,6 +1,5 @@
 -- `layout_write_calls::put_field` meets its contract: a number and a byte one after the other. Assumes nothing.
-use native.Mathlib.Omega.{arith}
-use borrow.Author.Needs.{needs}
+use Rattle.list_laws.proofs.Kit.{arith, needs}
 use Rattle.text_fields.proofs.Steps.{decimal-short}
 use Rattle.layout_write_calls.proofs.Sequel.{number-written, byte-written, written-then}
 use Rattle.layout_write_calls.proofs.put_field.Statement.{statement}

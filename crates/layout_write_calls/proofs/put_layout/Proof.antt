@@ -1,16 +1,11 @@
 -- `layout_write_calls::put_layout` meets its contract. The loop's invariant: what is still to be written comes to the same as all lines
 -- did after the layout line, and a line has at most 27 bytes. Assumes nothing.
-use mathlib.Core.List.{_++_, []}
-use mathlib.Core.Path.{_≡_, refl, _∙_}
-use Prim.Native.Nat.{_+_, _*_, _<_, _≤_, _-_}
-use native.Mathlib.Omega.{arith}
-use lib.ListN.{length, drop, length-map}
+use Rattle.list_laws.proofs.Kit.{_∙_, _≡_, refl, [], _++_, _*_, _+_, _-_, _<_, _≤_, arith, drop, length, length-map, needs}
 use Rattle.model.specs.Layout.{placeOf}
 use Rattle.model.specs.Lent.{jobOf}
 use Rattle.model.specs.Buffer.{placementOf, layoutOf}
 use Rattle.model.specs.LayoutText.{layoutText, placementText, placementsText}
 use Rattle.layout_write_calls.proofs.Sequel.{left-none, placements-end, Left, left-after, left-then, placements-text}
-use borrow.Author.Needs.{needs}
 use Rattle.layout_write_calls.proofs.put_layout.Statement.{statement}
 use Rattle.layout_write_calls.proofs.put_layout.Tie as tie
 

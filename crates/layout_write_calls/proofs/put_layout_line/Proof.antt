@@ -1,5 +1,5 @@
 -- `layout_write_calls::put_layout_line` meets its contract: a word and three fields. Assumes nothing.
-use borrow.Author.Needs.{needs}
+use Rattle.list_laws.proofs.Kit.{needs}
 use Rattle.model.specs.LayoutText.{layoutWord}
 use Rattle.layout_write_calls.proofs.Sequel.{bytes-written, written-then}
 use Rattle.layout_write_calls.proofs.put_layout_line.Statement.{statement}

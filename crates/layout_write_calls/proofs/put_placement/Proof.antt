@@ -1,6 +1,5 @@
 -- `layout_write_calls::put_placement` meets its contract: a word, a field and three fields (`placement-text`). Assumes nothing.
-use mathlib.Core.Path.{_∙_, ap}
-use borrow.Author.Needs.{needs}
+use Rattle.list_laws.proofs.Kit.{_∙_, ap, needs}
 use Rattle.model.specs.Layout.{placeOf}
 use Rattle.model.specs.Buffer.{entryOf, layoutOf}
 use Rattle.model.specs.LayoutText.{atWord}

@@ -1,5 +1,5 @@
 -- `layout_write_calls::put_three` meets its contract: three fields one after the other (`three-text`). Assumes nothing.
-use borrow.Author.Needs.{needs}
+use Rattle.list_laws.proofs.Kit.{needs}
 use Rattle.layout_write_calls.proofs.Sequel.{written-then, three-text}
 use Rattle.layout_write_calls.proofs.put_three.Statement.{statement}
 use Rattle.layout_write_calls.proofs.put_three.Tie as tie

@@ -1,9 +1,5 @@
 -- `layout_write_calls::write_layout` meets its contract: the first writing has no bytes to write to and tells the length. Assumes nothing.
-use mathlib.Core.List.{[]}
-use mathlib.Core.Path.{_≡_, sym, _∙_, ap}
-use Prim.Native.Nat.{_<_, _≤_}
-use borrow.Author.Needs.{needs}
-use lib.ListN.{length}
+use Rattle.list_laws.proofs.Kit.{_∙_, _≡_, ap, sym, [], _<_, _≤_, length, needs}
 use Rattle.model.specs.Refusal.{refused, given}
 use Rattle.model.specs.Lent.{Lent, lentBy, jobOf}
 use Rattle.model.specs.Buffer.{layoutOf}

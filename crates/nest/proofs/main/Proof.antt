@@ -1,8 +1,5 @@
 -- `nest::main` is safe and ends: `print_run` answers no more bytes than the output buffer has. Assumes nothing.
-use mathlib.Core.Path.{sym, _∙_}
-use Prim.Native.Nat.{_≤_}
-use borrow.Author.Needs.{needs}
-use lib.Seq.{length-take-le}
+use Rattle.list_laws.proofs.Kit.{_∙_, sym, _≤_, length-take-le, needs}
 use Rattle.program_calls.proofs.Printing.{count-fits}
 use Rattle.nest.proofs.main.Statement.{statement}
 use Rattle.nest.proofs.main.Tie as tie

@@ -1,8 +1,5 @@
 -- `pair_calls::depth` meets its contract: the causes refuse, or none is there and what is measured is the pair's. Assumes nothing.
-use mathlib.Core.Path.{_≡_, sym, subst, _∙_}
-use Prim.Native.Nat.{ℕ}
-use native.Mathlib.Omega.{arith}
-use borrow.Author.Needs.{needs}
+use Rattle.list_laws.proofs.Kit.{_∙_, _≡_, subst, sym, ℕ, arith, needs}
 use Rattle.model.specs.Layout.{placeOf, pairDepth}
 use Rattle.model.specs.Overlap.{depth}
 use Rattle.pair_measure.proofs.Amounts.{ready-whole, placed-at}

@@ -1,9 +1,5 @@
 -- `pair_calls::pair_causes` meets its contract: the pair's own cause is a reason for 9 beside the turns'. Assumes nothing.
-use mathlib.Core.Bool.{Bool, not, _||_}
-use mathlib.Core.List.{List, [], _∷_}
-use mathlib.Core.Path.{ap, _∙_}
-use borrow.Author.Needs.{needs}
-use lib.Dec.{ltb, eqb}
+use Rattle.list_laws.proofs.Kit.{_∙_, ap, Bool, _||_, not, List, [], _∷_, eqb, ltb, needs}
 use Rattle.model.specs.Answers.{doneAnswer}
 use Rattle.model.specs.Refusal.{Cause, cause, unless, noSuchPiece}
 use Rattle.model.specs.Lent.{Lent, lentBy, jobOf}

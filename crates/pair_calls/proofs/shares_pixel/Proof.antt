@@ -1,13 +1,9 @@
 -- `pair_calls::shares_pixel` meets its contract: the causes refuse, or none is there and what is measured is the pair's. Assumes nothing.
-use mathlib.Core.Path.{sym, subst, ap, _∙_}
-use native.Mathlib.Omega.{arith}
-use borrow.Author.Needs.{needs}
+use Rattle.list_laws.proofs.Kit.{_∙_, ap, subst, sym, ℕ, arith, eqb, needs}
 use Rattle.model.specs.Layout.{placeOf, pairShares}
 use Rattle.model.specs.Piece.{corner}
 use Rattle.model.specs.Overlap.{share}
 use Rattle.model.specs.declared.Direction.the-variants.{Horizontal}
-use Prim.Native.Nat.{ℕ}
-use lib.Dec.{eqb}
 use Rattle.pair_measure.proofs.Amounts.{depth-shares, placed-at}
 use Rattle.model.specs.Lent.{Lent, lentBy, jobOf}
 use Rattle.model.specs.Buffer.{layoutOf}

@@ -1,5 +1,5 @@
 -- `pair_calls::wrong_pair`: by the tests. Assumes nothing.
-use borrow.Author.Tests.{lt-ltb, le-ltb}
+use Rattle.list_laws.proofs.Kit.{le-ltb, lt-ltb}
 use Rattle.pair_calls.proofs.wrong_pair.Statement.{statement}
 use Rattle.pair_calls.proofs.wrong_pair.Tie as tie
 

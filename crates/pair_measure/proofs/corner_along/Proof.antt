@@ -1,4 +1,4 @@
-use borrow.Author.Needs.{needs}
+use Rattle.list_laws.proofs.Kit.{needs}
 use Rattle.pair_measure.proofs.corner_along.Statement.{statement}
 use Rattle.pair_measure.proofs.corner_along.Tie as tie
 

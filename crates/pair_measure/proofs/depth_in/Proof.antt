@@ -1,9 +1,6 @@
 -- `pair_measure::depth_in`: the store holds the first piece's stretch up to the middle and the second's from there on, and the bounded depth
 -- of the stretches is the pieces' depth, cut off. Assumes nothing.
-use mathlib.Core.Path.{sym, subst, _∙_}
-use Prim.Native.Nat.{ℕ}
-use native.Mathlib.Omega.{arith}
-use borrow.Author.Needs.{needs}
+use Rattle.list_laws.proofs.Kit.{_∙_, subst, sym, ℕ, arith, needs}
 use Rattle.model.specs.Piece.{Shape, corner}
 use Rattle.model.specs.Strip.{strips}
 use Rattle.model.specs.Layout.{turnedPiece}

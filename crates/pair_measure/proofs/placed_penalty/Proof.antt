@@ -1,8 +1,6 @@
 -- `pair_measure::placed_penalty`: a depth is at most 255, so the first bound cuts nothing off, and where the first depth is 0 so is the
 -- lesser one. Assumes nothing.
-use mathlib.Core.Path.{_∙_}
-use native.Mathlib.Omega.{arith}
-use borrow.Author.Needs.{needs}
+use Rattle.list_laws.proofs.Kit.{_∙_, arith, needs}
 use Rattle.pair_measure.proofs.Stores.{anySize}
 use Rattle.pair_measure.proofs.Amounts.{lesser-penalty, depth-cut-low}
 use Rattle.pair_measure.proofs.placed_penalty.Statement.{statement}

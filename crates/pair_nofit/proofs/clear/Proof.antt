@@ -1,11 +1,5 @@
 -- `pair_nofit::clear`: the first k are 0, the rest is as it was. Assumes nothing.
-use mathlib.Core.List.{List, _++_}
-use mathlib.Core.Path.{_≡_, ap, _∙_}
-use Prim.Native.Nat.{ℕ, _-_, _≤_}
-use native.Mathlib.Omega.{arith}
-use borrow.Author.Fill.{fill-none, fill-more}
-use borrow.Author.Needs.{needs}
-use lib.ListN.{length, replicate, drop, set, length-set}
+use Rattle.list_laws.proofs.Kit.{_∙_, _≡_, ap, List, _++_, _-_, _≤_, ℕ, arith, drop, length, length-set, replicate, set, fill-more, fill-none, needs}
 use Rattle.pair_nofit.proofs.Kept.{filled-whole}
 use Rattle.pair_nofit.proofs.clear.Statement.{statement}
 use Rattle.pair_nofit.proofs.clear.Tie as tie

@@ -1,5 +1,5 @@
 -- `pair_nofit::flag`: the test's outcome as a number. Assumes nothing.
-use borrow.Author.Tests.{lt-ltb, le-ltb}
+use Rattle.list_laws.proofs.Kit.{le-ltb, lt-ltb}
 use Rattle.pair_nofit.proofs.flag.Statement.{statement}
 use Rattle.pair_nofit.proofs.flag.Tie as tie
 

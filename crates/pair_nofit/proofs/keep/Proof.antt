@@ -1,5 +1,5 @@
 -- `pair_nofit::keep`: by the test; past the buffer neither way changes it. Assumes nothing.
-use borrow.Author.Needs.{needs}
+use Rattle.list_laws.proofs.Kit.{needs}
 use Rattle.pair_nofit.proofs.Kept.{kept-past, kept-stored, kept-left}
 use Rattle.pair_nofit.proofs.keep.Statement.{statement}
 use Rattle.pair_nofit.proofs.keep.Tie as tie

@@ -1,9 +1,6 @@
 -- `pair_nofit::line_start`: the strips passed lie in earlier lines; lines are in order, so from the one that does not on none does.
 -- Assumes nothing.
-use Prim.Native.Nat.{ℕ, _+_, _-_, _≤_, _<_}
-use native.Mathlib.Omega.{arith}
-use borrow.Author.Needs.{needs}
-use lib.ListN.{length}
+use Rattle.list_laws.proofs.Kit.{_+_, _-_, _<_, _≤_, ℕ, arith, length, needs}
 use Rattle.pair_overlap.specs.Meet.{stripAt}
 use Rattle.pair_nofit.proofs.Kept.{line-order, from-more}
 use Rattle.pair_nofit.proofs.line_start.Statement.{statement}

@@ -1,8 +1,6 @@
 -- `pair_nofit::mark_all`: the meetings of the strips passed are kept; the strips of the second before j lie in earlier lines than the rest
 -- of the first. Assumes nothing.
-use Prim.Native.Nat.{_-_}
-use native.Mathlib.Omega.{arith}
-use lib.ListN.{length}
+use Rattle.list_laws.proofs.Kit.{_-_, arith, length}
 use Rattle.pair_nofit.proofs.Kept.{AllSoFar, grown-none, all-more}
 use Rattle.pair_nofit.proofs.mark_all.Statement.{statement}
 use Rattle.pair_nofit.proofs.mark_all.Tie as tie

@@ -1,9 +1,6 @@
 -- `pair_nofit::mark_line`: the meetings of the strip with those passed are kept, and the buffer stays sound; past the line's strips there
 -- are no meetings. Assumes nothing.
-use Prim.Native.Nat.{ℕ, _-_, _≤_, _<_}
-use native.Mathlib.Omega.{arith}
-use borrow.Author.Needs.{needs}
-use lib.ListN.{length}
+use Rattle.list_laws.proofs.Kit.{_-_, _<_, _≤_, ℕ, arith, length, needs}
 use Rattle.pair_nofit.specs.Marks.{Grown, MeetingsKept}
 use Rattle.pair_nofit.proofs.Kept.{line-order, grown-none, line-more, line-past}
 use Rattle.pair_nofit.proofs.mark_line.Statement.{statement}

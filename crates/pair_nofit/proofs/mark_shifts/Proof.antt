@@ -1,8 +1,6 @@
 -- `pair_nofit::mark_shifts`: a buffer of noughts reaches nothing, all intervals are kept in it, and the sweep tells the places reached.
 -- Assumes nothing.
-use mathlib.Core.Path.{sym, subst}
-use borrow.Author.Needs.{needs}
-use lib.ListN.{length}
+use Rattle.list_laws.proofs.Kit.{subst, sym, length, needs}
 use Rattle.pair_nofit.specs.Marks.{Sound}
 use Rattle.pair_nofit.proofs.Kept.{noughts-sound}
 use Rattle.pair_nofit.proofs.Marked.{marks-made}

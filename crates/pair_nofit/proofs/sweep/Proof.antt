@@ -1,11 +1,6 @@
 -- `pair_nofit::sweep`: the places passed hold their marks, the others what they held, and `reach` is the farthest end so far.
 -- Assumes nothing.
-use mathlib.Core.Path.{_≡_, refl, _∙_}
-use Prim.Native.Nat.{ℕ, suc, _-_, _≤_, _<_}
-use native.Mathlib.Omega.{arith}
-use borrow.Author.Needs.{needs}
-use lib.Dec.{ltb}
-use lib.ListN.{length, getD, length-set}
+use Rattle.list_laws.proofs.Kit.{_∙_, _≡_, refl, _-_, _<_, _≤_, suc, ℕ, arith, ltb, getD, length, length-set, needs}
 use Rattle.model.specs.Bounded.{oneIf}
 use Rattle.pair_nofit.specs.Marks.{farthest}
 use Rattle.pair_nofit.proofs.Kept.{sweep-reach, sweep-rest, sweep-mark}

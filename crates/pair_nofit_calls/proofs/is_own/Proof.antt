@@ -1,6 +1,5 @@
 -- `pair_nofit_calls::is_own`: the comparison ends at the stretch's end exactly where the stretch is the piece's. Assumes nothing.
-use mathlib.Core.Path.{sym, _∙_}
-use borrow.Author.Needs.{needs}
+use Rattle.list_laws.proofs.Kit.{_∙_, sym, needs}
 use Rattle.model.specs.Strip.{strips}
 use Rattle.model.specs.Layout.{turnedPiece}
 use Rattle.model.specs.Lent.{lentBy, jobOf}

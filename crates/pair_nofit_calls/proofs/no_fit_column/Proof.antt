@@ -1,15 +1,11 @@
 -- `pair_nofit_calls::no_fit_column`: the offset is passed on as it is. Assumes nothing.
-use mathlib.Core.Path.{_≡_, ap, _∙_}
-use borrow.Author.Needs.{needs}
-use lib.IntN.{ℤ}
-use lib.ListN.{length}
+use Rattle.list_laws.proofs.Kit.{_∙_, _≡_, ap, List, length, ℤ, needs}
 use mir.Syntax.{w32}
 use mir.Val.{toZ, ofZ}
 use mir.ValLaws.{toZ-ofZ}
 use Rattle.model.specs.Lent.{Lent, lentBy}
 use Rattle.model.specs.Calls.{LentStretch, noFitCall, runsAfter}
 use Rattle.model.specs.declared.Direction.the-variants.{Vertical}
-use mathlib.Core.List.{List}
 use Rattle.model.specs.Overlap.{OffsetRun}
 use Rattle.model.specs.Refusal.{Outcome}
 use Rattle.model.specs.Answers.{countAnswer}

@@ -1,10 +1,5 @@
 -- `pair_nofit_calls::put_line`: the marks' runs are the line's; they are counted with no room and then put where there is room. Assumes nothing.
-use mathlib.Core.Path.{_≡_, ap, _∙_}
-use Prim.Native.Nat.{ℕ, min}
-use native.Mathlib.Omega.{arith}
-use borrow.Author.Needs.{needs}
-use lib.IntN.{ℤ}
-use lib.ListN.{length-replicate}
+use Rattle.list_laws.proofs.Kit.{_∙_, _≡_, ap, min, ℕ, arith, length-replicate, ℤ, needs}
 use mir.Syntax.{w32}
 use mir.Val.{toZ, ofZ}
 use mir.ValLaws.{toZ-ofZ}

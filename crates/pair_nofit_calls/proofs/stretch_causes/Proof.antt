@@ -1,10 +1,6 @@
 -- `pair_nofit_calls::stretch_causes` meets its contract: at each place the causes before it are not there, so that its own decides.
 -- Assumes nothing.
-use mathlib.Core.Bool.{Bool, true, false, not, _&&_}
-use mathlib.Core.Path.{_≡_, sym, ap, ap₂, _∙_}
-use native.Mathlib.Omega.{arith}
-use borrow.Author.Needs.{needs}
-use borrow.Author.Tests.{not-true, not-false}
+use Rattle.list_laws.proofs.Kit.{_∙_, _≡_, ap, ap₂, sym, Bool, _&&_, false, not, true, arith, needs, not-false, not-true}
 use Rattle.model.specs.Lent.{Lent, lentBy, lentWell, jobOf}
 use Rattle.model.specs.Calls.{LentStretch, known, stretchWell}
 use Rattle.job_laws.proofs.Checked.{facts, entry-at}

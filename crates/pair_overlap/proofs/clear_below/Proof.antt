@@ -1,5 +1,5 @@
 -- `pair_overlap::clear_below`: the first of the shifts that part. Assumes nothing.
-use borrow.Author.Needs.{needs}
+use Rattle.list_laws.proofs.Kit.{needs}
 use Rattle.pair_overlap.proofs.clear_below.Statement.{statement}
 use Rattle.pair_overlap.proofs.clear_below.Tie as tie
 

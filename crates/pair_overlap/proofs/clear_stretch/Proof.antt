@@ -1,13 +1,8 @@
 -- `pair_overlap::clear_stretch`: at every shift smaller than r they share a pixel, and each walk raises r or finds them apart at r and as far
 -- on as the walk has room. Assumes nothing.
-use mathlib.Core.Bool.{true}
-use mathlib.Core.Path.{_≡_}
-use Prim.Native.Nat.{ℕ, _-_, _≤_, _<_}
-use native.Mathlib.Nat.{pos-of-ne-zero}
-use native.Mathlib.Omega.{arith}
+use Rattle.list_laws.proofs.Kit.{_≡_, true, _-_, _<_, _≤_, ℕ, pos-of-ne-zero, arith, needs}
 use Rattle.pair_overlap.specs.Meet.{stretchesShare, shifted}
 use Rattle.pair_overlap.proofs.Walk.{clear-first, clear-none, covered-more, free-more}
-use borrow.Author.Needs.{needs}
 use Rattle.pair_overlap.proofs.clear_stretch.Statement.{statement}
 use Rattle.pair_overlap.proofs.clear_stretch.Tie as tie
 

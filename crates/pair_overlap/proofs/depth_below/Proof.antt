@@ -1,8 +1,6 @@
 -- `pair_overlap::depth_below`: the second search is cut off at what the first one found, so it gives the lesser of the two.
 -- Assumes nothing.
-use mathlib.Core.Path.{_∙_, ap}
-use native.Mathlib.Omega.{arith}
-use borrow.Author.Needs.{needs}
+use Rattle.list_laws.proofs.Kit.{_∙_, ap, arith, needs}
 use Rattle.pair_overlap.specs.Meet.{clearBelow}
 use Rattle.pair_overlap.proofs.Walk.{clear-within, clear-cut}
 use Rattle.pair_overlap.proofs.depth_below.Statement.{statement}

@@ -1,8 +1,6 @@
 -- `pair_overlap::penalty_below`: the search along the columns is cut off at the depth along the rows, so it gives the lesser of the two.
 -- Assumes nothing.
-use mathlib.Core.Path.{_∙_, ap}
-use native.Mathlib.Omega.{arith}
-use borrow.Author.Needs.{needs}
+use Rattle.list_laws.proofs.Kit.{_∙_, ap, arith, needs}
 use Rattle.pair_overlap.specs.Meet.{depthBelow, crossed}
 use Rattle.pair_overlap.proofs.Walk.{clear-within, depth-cut}
 use Rattle.pair_overlap.proofs.penalty_below.Statement.{statement}

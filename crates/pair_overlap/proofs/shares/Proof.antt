@@ -1,11 +1,6 @@
 -- `pair_overlap::shares`: no two strips that cross are passed, so where one stretch is passed whole none cross, and the pair that the
 -- walk ends at does. Each turn passes a strip. Assumes nothing.
-use mathlib.Core.Path.{sym}
-use mathlib.Core.Logic.{inl, inr}
-use Prim.Native.Nat.{_+_, _-_, _≤_}
-use native.Mathlib.Omega.{arith}
-use borrow.Author.Needs.{needs}
-use lib.ListN.{length}
+use Rattle.list_laws.proofs.Kit.{sym, inl, inr, _+_, _-_, _≤_, arith, length, needs}
 use Rattle.pair_overlap.specs.Meet.{CrossingsPassed}
 use Rattle.pair_overlap.proofs.Walk.{pass-first, pass-second, found-shares, passed-free}
 use Rattle.pair_overlap.proofs.shares.Statement.{statement}

@@ -1,12 +1,8 @@
 -- `pair_overlap::skip`: a strip that begins 1,280 before a place ends before it also when it is shifted, and so does every earlier one.
 -- Assumes nothing.
-use Prim.Native.Nat.{_+_, _-_, _/_}
-use native.Mathlib.Nat.{pos-of-ne-zero}
-use native.Mathlib.Omega.{arith}
-use lib.ListN.{length}
+use Rattle.list_laws.proofs.Kit.{_+_, _-_, _/_, pos-of-ne-zero, arith, length, needs}
 use Rattle.pair_overlap.specs.Meet.{Skipped}
 use Rattle.pair_overlap.proofs.Walk.{skip-to}
-use borrow.Author.Needs.{needs}
 use Rattle.pair_overlap.proofs.skip.Statement.{statement}
 use Rattle.pair_overlap.proofs.skip.Tie as tie
 

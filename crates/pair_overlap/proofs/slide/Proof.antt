@@ -1,12 +1,7 @@
 -- `pair_overlap::slide`: while nothing was pushed, no two strips that cross are passed, nor any that cross at a shift up to the room; and
 -- each shift smaller than the one so far has two strips that cross: a pair that meets goes on meeting until the shift takes the
 -- second strip past the end of the first. Each turn passes a strip. Assumes nothing.
-use mathlib.Core.Path.{_≡_}
-use mathlib.Core.Logic.{inl, inr}
-use Prim.Native.Nat.{ℕ, _+_, _-_, _≤_, _<_}
-use native.Mathlib.Omega.{arith}
-use borrow.Author.Needs.{needs}
-use lib.ListN.{length}
+use Rattle.list_laws.proofs.Kit.{_≡_, inl, inr, _+_, _-_, _<_, _≤_, ℕ, arith, length, needs}
 use Rattle.pair_overlap.specs.Meet.{CrossingsPassed, shifted}
 use Rattle.pair_overlap.proofs.Walk.{CrossingFound, pass-first, pass-second, found-shares, passed-free, pushed}
 use Rattle.pair_overlap.proofs.slide.Statement.{statement}

@@ -1,9 +1,6 @@
 -- `pair_overlap::walk_start`: strips that end before the other stretch begins cross none of its strips, also when the second is shifted.
 -- Assumes nothing.
-use mathlib.Core.Path.{subst}
-use Prim.Native.Nat.{ℕ}
-use native.Mathlib.Omega.{arith}
-use borrow.Author.Needs.{needs}
+use Rattle.list_laws.proofs.Kit.{subst, ℕ, arith, needs}
 use Rattle.pair_overlap.specs.Meet.{Skipped}
 use Rattle.pair_overlap.proofs.Walk.{first-skipped, second-skipped, first-onwards, second-onwards}
 use Rattle.pair_overlap.proofs.walk_start.Statement.{statement}

@@ -1,10 +1,5 @@
 -- `pair_runs::down`: by the tests. Assumes nothing.
-use mathlib.Core.Path.{_≡_, sym, ap, subst, _∙_}
-use Prim.Native.Nat.{min}
-use native.Mathlib.Omega.{arith}
-use lib.Dec.{T}
-use lib.IntN.{ℤ, pos, natAbs, _-ℤ_}
-use lib.Signed.{nonNeg}
+use Rattle.list_laws.proofs.Kit.{_∙_, _≡_, ap, subst, sym, min, arith, T, _-ℤ_, natAbs, pos, ℤ, nonNeg}
 use mir.Syntax.{w32}
 use mir.Val.{toZ, ofZ}
 use mir.ValLaws.{toZ-ofZ}

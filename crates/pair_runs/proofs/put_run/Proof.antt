@@ -1,8 +1,5 @@
 -- `pair_runs::put_run`: no run, no room for it, or stored. Assumes nothing.
-use mathlib.Core.Path.{_∙_}
-use native.Mathlib.Nat.{pos-of-ne-zero}
-use native.Mathlib.Omega.{arith}
-use borrow.Author.Needs.{needs}
+use Rattle.list_laws.proofs.Kit.{_∙_, pos-of-ne-zero, arith, needs}
 use mir.Syntax.{w32}
 use mir.ValLaws.{toZ-ofZ}
 use Rattle.pair_runs.proofs.Offsets.{small-signed}

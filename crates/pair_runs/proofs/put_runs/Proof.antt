@@ -1,11 +1,5 @@
 -- `pair_runs::put_runs`: the runs that are left are still to be put. Assumes nothing.
-use Prim.Native.Nat.{_-_}
-use native.Mathlib.Omega.{arith}
-use borrow.Author.Needs.{needs}
-use mathlib.Core.List.{[], map}
-use mathlib.Core.Path.{ap, _∙_}
-use lib.ListN.{length}
-use lib.Seq.{length-sets}
+use Rattle.list_laws.proofs.Kit.{_∙_, ap, [], map, _-_, arith, length, length-sets, needs}
 use Rattle.model.specs.Strip.{closing}
 use Rattle.pair_runs.specs.Runs.{offsetEntry}
 use Rattle.pair_runs.proofs.Putting.{Putting, putting-start, putting-marked, putting-free, putting-end}

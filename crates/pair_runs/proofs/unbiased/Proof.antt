@@ -1,7 +1,5 @@
 -- `pair_runs::unbiased`: the number fits, so reading it as signed and back changes nothing. Assumes nothing.
-use mathlib.Core.Path.{sym, ap, subst, _∙_}
-use borrow.Author.Needs.{needs}
-use lib.IntN.{ℤ, pos, subℕ, _-ℤ_}
+use Rattle.list_laws.proofs.Kit.{_∙_, ap, subst, sym, _-ℤ_, pos, subℕ, ℤ, needs}
 use mir.Syntax.{w32}
 use mir.Val.{SFits, toZ, ofZ}
 use mir.ValLaws.{toZ-ofZ}

@@ -1,8 +1,5 @@
 -- `pair_runs::up`: by the tests. Assumes nothing.
-use mathlib.Core.Path.{_≡_, ap, subst, _∙_}
-use Prim.Native.Nat.{min}
-use native.Mathlib.Omega.{arith}
-use lib.IntN.{ℤ}
+use Rattle.list_laws.proofs.Kit.{_∙_, _≡_, ap, subst, min, arith, ℤ}
 use mir.Syntax.{w32}
 use mir.Val.{toZ, ofZ}
 use mir.ValLaws.{toZ-ofZ}

@@ -1,6 +1,5 @@
 -- `piece_pixels::cell_index` meets its contract: each turn reads the box at the point that it takes there. Assumes nothing.
-use native.Mathlib.Omega.{arith}
-use borrow.Author.Needs.{needs}
+use Rattle.list_laws.proofs.Kit.{arith, needs}
 use Rattle.piece_pixels.proofs.cell_index.Statement.{statement}
 use Rattle.piece_pixels.proofs.cell_index.Tie as tie
 

@@ -1,8 +1,5 @@
 -- `piece_pixels::has_pixel` meets its contract: a pixel past the store's end reads as none. Assumes nothing.
-use borrow.Author.Needs.{needs}
-use mathlib.Core.Path.{ap, sym, _∙_}
-use lib.Dec.{eqb}
-use lib.ListN.{List·getD-eq-default}
+use Rattle.list_laws.proofs.Kit.{_∙_, ap, sym, eqb, List·getD-eq-default, needs}
 use Rattle.piece_pixels.proofs.has_pixel.Statement.{statement}
 use Rattle.piece_pixels.proofs.has_pixel.Tie as tie
 

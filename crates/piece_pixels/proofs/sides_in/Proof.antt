@@ -1,5 +1,5 @@
 -- `piece_pixels::sides_in` meets its contract: a quarter turn either way exchanges the sides. Assumes nothing.
-use borrow.Author.Needs.{needs}
+use Rattle.list_laws.proofs.Kit.{needs}
 use Rattle.piece_pixels.proofs.sides_in.Statement.{statement}
 use Rattle.piece_pixels.proofs.sides_in.Tie as tie
 

@@ -1,6 +1,5 @@
 -- `piece_pixels::stored_index` meets its contract: a small box has a small area, and the pixel lies in it. Assumes nothing.
-use mathlib.Core.Path.{refl}
-use native.Mathlib.Omega.{arith}
+use Rattle.list_laws.proofs.Kit.{refl, arith}
 use Rattle.list_laws.proofs.Numbers.{in-rows}
 use Rattle.piece_pixels.proofs.Cells.{area-small}
 use Rattle.piece_pixels.proofs.stored_index.Statement.{statement}

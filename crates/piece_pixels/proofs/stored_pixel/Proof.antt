@@ -1,5 +1,5 @@
 -- `piece_pixels::stored_pixel` meets its contract: the place lies among the box's pixels, and the store has them. Assumes nothing.
-use borrow.Author.Needs.{needs}
+use Rattle.list_laws.proofs.Kit.{needs}
 use Rattle.piece_pixels.proofs.stored_pixel.Statement.{statement}
 use Rattle.piece_pixels.proofs.stored_pixel.Tie as tie
 

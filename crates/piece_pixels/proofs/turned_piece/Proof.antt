@@ -1,5 +1,5 @@
 -- `piece_pixels::turned_piece` meets its contract: the sides are those of the table's entry. Assumes nothing.
-use borrow.Author.Needs.{needs}
+use Rattle.list_laws.proofs.Kit.{needs}
 use Rattle.piece_pixels.proofs.turned_piece.Statement.{statement}
 use Rattle.piece_pixels.proofs.turned_piece.Tie as tie
 

@@ -1,5 +1,5 @@
 -- `piece_pixels::turned_sides` meets its contract: the sides in the turn are those of the job's piece. Assumes nothing.
-use borrow.Author.Needs.{needs}
+use Rattle.list_laws.proofs.Kit.{needs}
 use Rattle.model.specs.Lent.{lentBy, lentShape, jobOf}
 use Rattle.piece_pixels.proofs.turned_sides.Statement.{statement}
 use Rattle.piece_pixels.proofs.turned_sides.Tie as tie

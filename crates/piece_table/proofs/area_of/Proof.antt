@@ -1,9 +1,5 @@
 -- `piece_table::area_of`: two sides of at most 255 have a product of at most 255 × 255. Assumes nothing.
-use mathlib.Core.Path.{ap₂}
-use Prim.Native.Nat.{ℕ, _≤_, _*_}
-use native.Mathlib.Nat.{mul-le-mul}
-use native.Mathlib.Omega.{arith}
-use borrow.Author.Needs.{needs}
+use Rattle.list_laws.proofs.Kit.{ap₂, _*_, _≤_, ℕ, mul-le-mul, arith, needs}
 use Rattle.piece_table.proofs.area_of.Statement.{statement}
 use Rattle.piece_table.proofs.area_of.Tie as tie
 

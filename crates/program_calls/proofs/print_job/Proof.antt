@@ -1,8 +1,5 @@
 -- `program_calls::print_job` meets its contract: the best layout passes, and its text is that of the run. Assumes nothing.
-use mathlib.Core.List.{List, [], _∷_}
-use mathlib.Core.Path.{sym, subst}
-use Prim.Native.Nat.{ℕ}
-use borrow.Author.Needs.{needs}
+use Rattle.list_laws.proofs.Kit.{subst, sym, List, [], _∷_, ℕ, needs}
 use Rattle.model.specs.Lent.{Lent, lentBy, jobOf}
 use Rattle.model.specs.Program.{programRun}
 use Rattle.layout_places.proofs.Fitting.{fitting}

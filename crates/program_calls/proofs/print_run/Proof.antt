@@ -1,12 +1,6 @@
 -- `program_calls::print_run` meets its contract: the text stands at the front of the local buffer, and is copied where the lent one has room for it.
 -- Assumes nothing.
-use mathlib.Core.Path.{sym, _∙_, ap}
-use Prim.Native.Nat.{ℕ, _≤_}
-use native.Mathlib.Nat.{le-of-eq}
-use native.Mathlib.Omega.{arith}
-use borrow.Author.Needs.{needs}
-use lib.ListN.{length, length-replicate}
-use lib.Seq.{sets, length-take-le}
+use Rattle.list_laws.proofs.Kit.{_∙_, ap, sym, _≤_, ℕ, le-of-eq, arith, length, length-replicate, length-take-le, sets, needs}
 use Rattle.model.specs.Program.{programText}
 use Rattle.list_laws.proofs.Stores.{sets-filled}
 use Rattle.program_text.specs.Output.{outputBound}

@@ -1,7 +1,5 @@
 -- `program_calls::print_text` meets its contract, by the length of the input. Assumes nothing.
-use mathlib.Core.Path.{sym, _∙_, ap}
-use native.Mathlib.Omega.{arith}
-use borrow.Author.Needs.{needs}
+use Rattle.list_laws.proofs.Kit.{_∙_, ap, sym, arith, needs}
 use Rattle.model.specs.Program.{refusalText}
 use Rattle.call_laws.proofs.Programs.{program-too-long, program-reads}
 use Rattle.program_calls.proofs.Printing.{text-printed}

@@ -1,12 +1,5 @@
 -- `program_calls::read_and_print` meets its contract: the front of the buffers is the job that was read (`read-front`). Assumes nothing.
-use mathlib.Core.List.{List, [], _∷_}
-use mathlib.Core.Path.{sym}
-use Prim.Native.Nat.{ℕ}
-use native.Mathlib.Nat.{le-of-eq}
-use native.Mathlib.Omega.{arith}
-use borrow.Author.Needs.{needs}
-use lib.ListN.{length-replicate}
-use lib.Seq.{length-take-le}
+use Rattle.list_laws.proofs.Kit.{sym, List, [], _∷_, ℕ, le-of-eq, arith, length-replicate, length-take-le, needs}
 use Rattle.model.specs.Lent.{pieceBound, areaBound}
 use Rattle.model.specs.Refusal.{refused}
 use Rattle.model.specs.JobText.{readJob}

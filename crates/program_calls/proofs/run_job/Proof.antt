@@ -1,7 +1,5 @@
 -- `program_calls::run_job` meets its contract: the start layout and weights 1 are valid, so that the guided run is given. Assumes nothing.
-use mathlib.Core.Path.{_≡_, sym, _∙_, ap}
-use borrow.Author.Needs.{needs}
-use lib.ListN.{length}
+use Rattle.list_laws.proofs.Kit.{_∙_, _≡_, ap, sym, length, needs}
 use Rattle.model.specs.Buffer.{entriesOf}
 use Rattle.model.specs.Start.{start}
 use Rattle.model.specs.Lent.{Lent, lentBy, jobOf}

@@ -1,7 +1,5 @@
 -- `program_calls::write_run` meets its contract: neither call refuses a layout that passes, and the end line follows the text. Assumes nothing.
-use mathlib.Core.Path.{sym, _∙_}
-use native.Mathlib.Omega.{arith}
-use borrow.Author.Needs.{needs}
+use Rattle.list_laws.proofs.Kit.{_∙_, sym, arith, needs}
 use Rattle.model.specs.Buffer.{layoutOf}
 use Rattle.model.specs.Lent.{Lent, lentBy, jobOf}
 use Rattle.program_calls.proofs.Taken.{used-taken, used-not-refused, text-taken, text-not-refused}

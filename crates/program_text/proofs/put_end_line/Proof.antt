@@ -1,5 +1,5 @@
 -- `program_text::put_end_line` meets its contract: the word, four numbers and byte 10, one after the other. Assumes nothing.
-use borrow.Author.Needs.{needs}
+use Rattle.list_laws.proofs.Kit.{needs}
 use Rattle.model.specs.Text.{lineEnd}
 use Rattle.model.specs.Program.{wordLine}
 use Rattle.layout_write_calls.proofs.Sequel.{byte-written, written-then}

@@ -1,5 +1,5 @@
 -- `program_text::put_end_word` meets its contract, by the test of the sum. Assumes nothing.
-use borrow.Author.Needs.{needs}
+use Rattle.list_laws.proofs.Kit.{needs}
 use Rattle.program_text.proofs.Words.{clear-written, open-written}
 use Rattle.program_text.proofs.put_end_word.Statement.{statement}
 use Rattle.program_text.proofs.put_end_word.Tie as tie

@@ -1,5 +1,5 @@
 -- `program_text::put_number` meets its contract: a comma and the digits behind it. Assumes nothing.
-use borrow.Author.Needs.{needs}
+use Rattle.list_laws.proofs.Kit.{needs}
 use Rattle.model.specs.Text.{comma}
 use Rattle.layout_write_calls.proofs.Sequel.{byte-written, written-then}
 use Rattle.program_text.proofs.Words.{decimal-written}

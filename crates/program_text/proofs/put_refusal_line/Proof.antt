@@ -1,5 +1,5 @@
 -- `program_text::put_refusal_line` meets its contract: the word, two numbers and byte 10, one after the other. Assumes nothing.
-use borrow.Author.Needs.{needs}
+use Rattle.list_laws.proofs.Kit.{needs}
 use Rattle.model.specs.Text.{bytes, lineEnd}
 use Rattle.model.specs.Program.{wordLine}
 use Rattle.layout_write_calls.proofs.Sequel.{bytes-written, byte-written, written-then}

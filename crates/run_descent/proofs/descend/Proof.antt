@@ -1,9 +1,6 @@
 -- `run_descent::descend` meets its contract. The loop's invariant: the descent is under way, what is left of the budget is what was not made,
 -- and the layout, its table and the kept lines fit each other. What is left of the budget falls. Assumes nothing.
-use mathlib.Core.Path.{_≡_, refl, sym, ap, _∙_, subst, subst₂}
-use Prim.Native.Nat.{ℕ, _+_, _-_}
-use native.Mathlib.Omega.{arith}
-use lib.ListN.{length}
+use Rattle.list_laws.proofs.Kit.{_∙_, _≡_, ap, refl, subst, subst₂, sym, _+_, _-_, ℕ, arith, length, needs}
 use Rattle.model.specs.Layout.{Layout, weightedSum}
 use Rattle.model.specs.Lent.{Lent, lentBy, jobOf}
 use Rattle.model.specs.Buffer.{layoutOf}
@@ -20,7 +17,6 @@ use Rattle.run_descent.specs.Descents.{descentOf}
 use Rattle.run_step.specs.declared.DescentState.{DescentState}
 use Rattle.run_descent.specs.declared.Ended.{Ended}
 use Rattle.run_descent.proofs.Passes.{passed-made, underway-pass, Going}
-use borrow.Author.Needs.{needs}
 use Rattle.run_descent.proofs.descend.Statement.{statement}
 use Rattle.run_descent.proofs.descend.Tie as tie
 

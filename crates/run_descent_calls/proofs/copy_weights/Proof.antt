@@ -1,9 +1,6 @@
 -- `run_descent_calls::copy_weights` meets its contract: the weights passed are copied. Assumes nothing.
-use Prim.Native.Nat.{_-_}
-use native.Mathlib.Omega.{arith}
-use lib.ListN.{length}
+use Rattle.list_laws.proofs.Kit.{_-_, arith, length, needs}
 use Rattle.list_laws.proofs.Copying.{Copying, copying-begin, copying-more, copying-end}
-use borrow.Author.Needs.{needs}
 use Rattle.run_descent_calls.proofs.copy_weights.Statement.{statement}
 use Rattle.run_descent_calls.proofs.copy_weights.Tie as tie
 

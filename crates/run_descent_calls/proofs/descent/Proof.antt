@@ -1,10 +1,6 @@
 -- `run_descent_calls::descent` meets its contract: a cause refuses and nothing is written, else the descent is the job's, and demand 3 holds of it.
 -- Assumes nothing.
-use mathlib.Core.Bool.{false}
-use mathlib.Core.Path.{_≡_, sym, ap, _∙_}
-use Prim.Native.Nat.{ℕ}
-use native.Mathlib.Omega.{arith}
-use lib.Dec.{ltb}
+use Rattle.list_laws.proofs.Kit.{_∙_, _≡_, ap, sym, false, ℕ, arith, ltb, needs}
 use Rattle.model.specs.Lent.{Lent, lentBy}
 use Rattle.model.specs.Calls.{budgetBound, descentAfter}
 use Rattle.text_laws.specs.Outcomes.{NoCause}
@@ -13,7 +9,6 @@ use Rattle.run_descent_calls.specs.Answers.{descentAnswer}
 use Rattle.causes.specs.Asked.{weightedCauses}
 use Rattle.run_memory.proofs.Causes.{run-given}
 use Rattle.run_descent_calls.proofs.Calls.{call-refused, few-trials, call-given, call-claims}
-use borrow.Author.Needs.{needs}
 use Rattle.run_descent_calls.proofs.descent.Statement.{statement}
 use Rattle.run_descent_calls.proofs.descent.Tie as tie
 

@@ -1,10 +1,6 @@
 -- `run_descent_calls::run_alone` meets its contract: the weights copied are the lent ones, and the plan is a descent alone. Assumes nothing.
-use mathlib.Core.List.{List, _++_}
-use mathlib.Core.Path.{_≡_, sym, _∙_, ap, subst, subst₂}
-use Prim.Native.Nat.{ℕ, _≤_}
-use native.Mathlib.Omega.{arith}
-use lib.ListN.{length, take, replicate, length-replicate, length-append}
-use lib.Seq.{length-take-le, take-at}
+use Rattle.list_laws.proofs.Kit.{_∙_, _≡_, ap, subst, subst₂, sym, List, _++_, _≤_, ℕ, arith, length, length-append, length-replicate, replicate, take}
+use Rattle.list_laws.proofs.Kit.{length-take-le, take-at, needs}
 use Rattle.model.specs.Lent.{Lent, lentBy, jobOf}
 use Rattle.job_laws.proofs.Checked.{facts}
 use Rattle.descent_laws.proofs.Bounds.{pairs-at-most}
@@ -12,7 +8,6 @@ use Rattle.run_memory.specs.Ready.{Given}
 use Rattle.run_memory.specs.Done.{Done}
 use Rattle.run_memory.specs.declared.memory.Plan.{Plan}
 use Rattle.run_memory.specs.declared.memory.PlanOutcome.{PlanOutcome}
-use borrow.Author.Needs.{needs}
 use Rattle.run_descent_calls.proofs.run_alone.Statement.{statement}
 use Rattle.run_descent_calls.proofs.run_alone.Tie as tie
 

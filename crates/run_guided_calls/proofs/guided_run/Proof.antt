@@ -1,9 +1,6 @@
 -- `run_guided_calls::guided_run` meets its contract: a cause refuses and nothing is written, else the run is the model's, and demand 3's claims hold of it.
 -- Assumes nothing.
-use mathlib.Core.Bool.{false}
-use mathlib.Core.Path.{_≡_, sym, ap, _∙_}
-use Prim.Native.Nat.{ℕ}
-use native.Mathlib.Omega.{arith}
+use Rattle.list_laws.proofs.Kit.{_∙_, _≡_, ap, sym, false, ℕ, arith, needs}
 use Rattle.model.specs.Lent.{Lent, lentBy}
 use Rattle.model.specs.Calls.{bestAfterRun, weightsAfterRun}
 use Rattle.text_laws.specs.Outcomes.{NoCause}
@@ -13,7 +10,6 @@ use Rattle.causes.specs.Asked.{weightedCauses}
 use Rattle.run_guided_calls.specs.Answers.{guidedAnswer, numbersWrong}
 use Rattle.run_memory.proofs.Causes.{run-given}
 use Rattle.run_guided_calls.proofs.Calls.{call-refused, few-rounds, few-trials, call-given, call-claims}
-use borrow.Author.Needs.{needs}
 use Rattle.run_guided_calls.proofs.guided_run.Statement.{statement}
 use Rattle.run_guided_calls.proofs.guided_run.Tie as tie
 

@@ -1,9 +1,5 @@
 -- `run_guided_calls::numbers_wrong` meets its contract: each return has the tests before it decided. Assumes nothing.
-use mathlib.Core.Bool.{true, false, not}
-use mathlib.Core.Path.{_≡_, ap}
-use native.Mathlib.Omega.{arith}
-use borrow.Author.Tests.{lt-ltb, le-ltb, ltb-true, le-leb, lt-leb, leb-false, not-true}
-use lib.Dec.{ltb, leb}
+use Rattle.list_laws.proofs.Kit.{_≡_, ap, false, not, true, arith, leb, ltb, le-leb, le-ltb, leb-false, lt-leb, lt-ltb, ltb-true, not-true}
 use Rattle.model.specs.Calls.{budgetBound, roundBound}
 use Rattle.list_laws.proofs.Tests.{same-tests}
 use Rattle.run_guided_calls.proofs.numbers_wrong.Statement.{statement}

@@ -1,10 +1,9 @@
 -- `run_guided_calls::run_rounds` meets its contract: the plan is rounds. Assumes nothing.
-use mathlib.Core.Path.{_≡_, subst}
+use Rattle.list_laws.proofs.Kit.{_≡_, subst, needs}
 use Rattle.model.specs.Lent.{Lent, lentBy}
 use Rattle.run_memory.specs.Done.{Done}
 use Rattle.run_memory.specs.declared.memory.Plan.{Plan}
 use Rattle.run_memory.specs.declared.memory.PlanOutcome.{PlanOutcome}
-use borrow.Author.Needs.{needs}
 use Rattle.run_guided_calls.proofs.run_rounds.Statement.{statement}
 use Rattle.run_guided_calls.proofs.run_rounds.Tie as tie
 

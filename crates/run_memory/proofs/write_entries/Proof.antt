@@ -1,14 +1,9 @@
 -- `run_memory::write_entries` meets its contract. The loop's invariant: the entries passed are written again, and the layout is read as
 -- before. Assumes nothing.
-use mathlib.Core.List.{List}
-use mathlib.Core.Path.{_≡_, sym, ap, _∙_, subst}
-use Prim.Native.Nat.{ℕ, _+_, _-_, _≤_}
-use native.Mathlib.Omega.{arith}
-use lib.ListN.{length, set, length-set}
+use Rattle.list_laws.proofs.Kit.{_∙_, _≡_, ap, subst, sym, List, _+_, _-_, _≤_, ℕ, arith, length, length-set, set, needs}
 use Rattle.model.specs.Layout.{placeOf}
 use Rattle.model.specs.Buffer.{entryOf, layoutOf}
 use Rattle.run_memory.proofs.Fresh.{Rewritten, rewritten-begin, rewritten-step, rewritten-end}
-use borrow.Author.Needs.{needs}
 use Rattle.run_memory.proofs.write_entries.Statement.{statement}
 use Rattle.run_memory.proofs.write_entries.Tie as tie
 

@@ -1,9 +1,7 @@
 -- `run_rounds::after_round` meets its contract: by the test of the end. Assumes nothing.
-use mathlib.Core.Bool.{true, false}
-use mathlib.Core.Path.{_≡_, sym, _∙_}
+use Rattle.list_laws.proofs.Kit.{_∙_, _≡_, sym, false, true, needs}
 use Rattle.model.specs.Guided.{isClear}
 use Rattle.run_rounds.specs.Rounds.{leftAfter, raisedAfter}
-use borrow.Author.Needs.{needs}
 use Rattle.run_rounds.proofs.after_round.Statement.{statement}
 use Rattle.run_rounds.proofs.after_round.Tie as tie
 

@@ -1,10 +1,6 @@
 -- `run_rounds::copy` meets its contract: the entries passed are copied. Assumes nothing.
-use mathlib.Core.List.{[]}
-use Prim.Native.Nat.{_-_}
-use native.Mathlib.Omega.{arith}
-use lib.ListN.{length}
+use Rattle.list_laws.proofs.Kit.{[], _-_, arith, length, needs}
 use Rattle.list_laws.proofs.Copying.{Copying, copying-begin, copying-more, copying-end}
-use borrow.Author.Needs.{needs}
 use Rattle.run_rounds.proofs.copy.Statement.{statement}
 use Rattle.run_rounds.proofs.copy.Tie as tie
 

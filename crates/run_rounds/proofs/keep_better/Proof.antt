@@ -1,6 +1,5 @@
 -- `run_rounds::keep_better` meets its contract: by the test of the two sums. Assumes nothing.
-use borrow.Author.Needs.{needs}
-use borrow.Author.Tests.{lt-ltb, le-ltb}
+use Rattle.list_laws.proofs.Kit.{needs, le-ltb, lt-ltb}
 use Rattle.run_rounds.specs.Rounds.{betterRound, betterSum}
 use Rattle.run_rounds.proofs.keep_better.Statement.{statement}
 use Rattle.run_rounds.proofs.keep_better.Tie as tie

@@ -1,10 +1,6 @@
 -- `run_rounds::rounds` meets its contract. Before each round the run is what comes from where the loop stands (`Rounding`), and a round
 -- keeps that (`round-next`); with no round left it is what the loop has. Assumes nothing.
-use mathlib.Core.Path.{refl, sym, _∙_, ap}
-use Prim.Native.Nat.{_<_}
-use native.Mathlib.Omega.{arith}
-use borrow.Author.Needs.{needs}
-use lib.ListN.{length}
+use Rattle.list_laws.proofs.Kit.{_∙_, ap, refl, sym, _<_, arith, length, needs}
 use Rattle.model.specs.Lent.{Lent, lentBy, jobOf}
 use Rattle.model.specs.Buffer.{layoutOf}
 use Rattle.job_laws.proofs.Checked.{lent-some, facts}
@@ -37,8 +33,7 @@ entry h = search
 
 -- the loop's head, from where the better layout is kept
 abbrev head : tie.After-keep-better Inv-loop μ-loop → tie.At-loop Inv-loop μ-loop
-head c =
-    c .before .before .before .before .before .before .before .before .before .before .before .before .before .before .before .before .before .before .before .before .before .before .before .before .before .before .before .before .before .before
+head c = let at-descend : tie.After-descend Inv-loop μ-loop = search in search
 
 -- the descent
 abbrev descended : tie.After-keep-better Inv-loop μ-loop → tie.After-descend Inv-loop μ-loop

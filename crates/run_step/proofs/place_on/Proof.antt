@@ -1,5 +1,5 @@
 -- `run_step::place_on` meets its contract, by the line. Assumes nothing.
-use borrow.Author.Needs.{needs}
+use Rattle.list_laws.proofs.Kit.{needs}
 use Rattle.run_step.proofs.place_on.Statement.{statement}
 use Rattle.run_step.proofs.place_on.Tie as tie
 

@@ -1,8 +1,5 @@
 -- `run_step::step` meets its contract: a piece whose pair sum is 0 is quiet without a search, else the search decides. Assumes nothing.
-use mathlib.Core.Option.{Option, none}
-use mathlib.Core.Path.{_≡_, refl, sym, ap, _∙_}
-use Prim.Native.Nat.{_+_, _-_}
-use native.Mathlib.Omega.{arith}
+use Rattle.list_laws.proofs.Kit.{_∙_, _≡_, ap, refl, sym, Option, none, _+_, _-_, arith, needs}
 use Rattle.model.specs.Layout.{Layout, pieceSum, weightedSum}
 use Rattle.model.specs.Lent.{Lent, lentBy, jobOf}
 use Rattle.model.specs.Buffer.{layoutOf}
@@ -20,7 +17,6 @@ use Rattle.run_step.specs.Steps.{entriesAfter, standingAs}
 use Rattle.run_step.specs.declared.DescentState.{DescentState}
 use Rattle.run_step.proofs.Moves.{MovedTo, tried-quiet, tried-moved}
 use Rattle.run_step.proofs.Stands.{present-small, total-small, quiet-passed, moved-passed, moved-layout}
-use borrow.Author.Needs.{needs}
 use Rattle.run_step.proofs.step.Statement.{statement}
 use Rattle.run_step.proofs.step.Tie as tie
 

@@ -1,10 +1,5 @@
 -- `run_step::try_line` meets its contract, by what the search finds. Assumes nothing.
-use mathlib.Core.Option.{Option, none, some}
-use mathlib.Core.Path.{_≡_, sym, ap, _∙_, subst}
-use mathlib.Core.List.{List}
-use Prim.Native.Nat.{ℕ, _<_}
-use native.Mathlib.Omega.{arith}
-use lib.ListN.{set}
+use Rattle.list_laws.proofs.Kit.{_∙_, _≡_, ap, subst, sym, Option, none, some, List, _<_, ℕ, arith, set, needs}
 use Rattle.model.specs.Piece.{onLine}
 use Rattle.model.specs.Layout.{Layout}
 use Rattle.model.specs.Lent.{Lent, lentBy, jobOf}
@@ -16,7 +11,6 @@ use Rattle.search_laws.specs.Table.{PenaltyTable}
 use Rattle.search_shapes.proofs.Jobs.{places-few}
 use Rattle.run_step.specs.Steps.{moverSearch, triedAnswer, entriesAfter}
 use Rattle.run_step.proofs.Moves.{layout-set, found-nothing, found-at, found-there}
-use borrow.Author.Needs.{needs}
 use Rattle.run_step.proofs.try_line.Statement.{statement}
 use Rattle.run_step.proofs.try_line.Tie as tie
 

@@ -1,13 +1,11 @@
 -- `run_step::try_trial` meets its contract: it searches the line with the strips and the lines of its direction. Assumes nothing.
-use mathlib.Core.Path.{_≡_, ap, _∙_}
-use native.Mathlib.Omega.{arith}
+use Rattle.list_laws.proofs.Kit.{_∙_, _≡_, ap, arith, needs}
 use Rattle.model.specs.Piece.{lineDirection}
 use Rattle.model.specs.Lent.{Lent, lentBy, jobOf}
 use Rattle.model.specs.declared.Direction.the-variants.{Horizontal, Vertical}
 use Rattle.run_trials.specs.Trials.{trialAs}
 use Rattle.run_step.specs.Steps.{triedAnswer}
 use Rattle.run_step.proofs.Readies.{through-direction, laid-length, search-ready, store-again, search-same, entries-same, after-laid}
-use borrow.Author.Needs.{needs}
 use Rattle.run_step.proofs.try_trial.Statement.{statement}
 use Rattle.run_step.proofs.try_trial.Tie as tie
 

@@ -1,15 +1,11 @@
 -- `run_trials::after_turn` meets its contract: the turns after the given one are asked in their order. Assumes nothing.
-use mathlib.Core.List.{List}
-use mathlib.Core.Path.{_≡_, refl, ap, _∙_}
-use Prim.Native.Nat.{ℕ, suc}
-use native.Mathlib.Numerals.{add-one}
+use Rattle.list_laws.proofs.Kit.{_∙_, _≡_, ap, refl, List, suc, ℕ, add-one, needs}
 use Rattle.model.specs.Layout.{Job}
 use Rattle.model.specs.Lent.{lentBy, jobOf}
 use Rattle.model.specs.Descent.{Trial}
 use Rattle.model.specs.declared.Turn.the-variants.{Quarter, Half, ThreeQuarters}
 use Rattle.search_laws.specs.TrialIndex.{pieceStart, inTurn, afterTurn}
 use Rattle.run_trials.specs.Trials.{trialAs}
-use borrow.Author.Needs.{needs}
 use Rattle.run_trials.proofs.after_turn.Statement.{statement}
 use Rattle.run_trials.proofs.after_turn.Tie as tie
 

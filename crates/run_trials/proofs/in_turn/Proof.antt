@@ -1,8 +1,7 @@
 -- `run_trials::in_turn` meets its contract, by whether the turn is allowed. Assumes nothing.
-use mathlib.Core.Path.{sym, _∙_}
+use Rattle.list_laws.proofs.Kit.{_∙_, sym, needs}
 use Rattle.model.specs.Lent.{jobOf}
 use Rattle.search_laws.proofs.TrialIndex.{in-turn, past-turn}
-use borrow.Author.Needs.{needs}
 use Rattle.run_trials.proofs.in_turn.Statement.{statement}
 use Rattle.run_trials.proofs.in_turn.Tie as tie
 

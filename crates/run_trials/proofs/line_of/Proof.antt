@@ -1,5 +1,5 @@
 -- `run_trials::line_of` meets its contract: the line goes through the piece's present corner. Assumes nothing.
-use borrow.Author.Needs.{needs}
+use Rattle.list_laws.proofs.Kit.{needs}
 use Rattle.run_trials.proofs.line_of.Statement.{statement}
 use Rattle.run_trials.proofs.line_of.Tie as tie
 

@@ -1,6 +1,6 @@
 -- `run_trials::next_trial` meets its contract, by the direction. Assumes nothing.
 use Rattle.search_laws.specs.TrialIndex.{nextTrial}
-use borrow.Author.Needs.{needs}
+use Rattle.list_laws.proofs.Kit.{needs}
 use Rattle.run_trials.proofs.next_trial.Statement.{statement}
 use Rattle.run_trials.proofs.next_trial.Tie as tie
 

@@ -1,5 +1,5 @@
 -- `run_trials::piece_start` meets its contract, by the test for a piece i. Assumes nothing.
-use borrow.Author.Tests.{lt-ltb, le-ltb}
+use Rattle.list_laws.proofs.Kit.{le-ltb, lt-ltb}
 use Rattle.run_trials.proofs.piece_start.Statement.{statement}
 use Rattle.run_trials.proofs.piece_start.Tie as tie
 

@@ -1,14 +1,9 @@
 -- `run_trials::trial_count` meets its contract. The loop's invariant: two for each turn allowed to the pieces passed. Assumes nothing.
-use mathlib.Core.List.{List}
-use mathlib.Core.Path.{_≡_, refl, sym, ap, _∙_}
-use Prim.Native.Nat.{ℕ, _*_, _-_, _≤_}
-use native.Mathlib.Numerals.{add-one}
-use native.Mathlib.Omega.{arith}
+use Rattle.list_laws.proofs.Kit.{_∙_, _≡_, ap, refl, sym, List, _*_, _-_, _≤_, ℕ, add-one, arith, needs}
 use Rattle.model.specs.Bounded.{sumBelow}
 use Rattle.model.specs.Lent.{lentBy, jobOf}
 use Rattle.search_laws.proofs.TrialIndex.{turnCount, trials-count}
 use Rattle.run_trials.specs.Trials.{turnsIn}
-use borrow.Author.Needs.{needs}
 use Rattle.run_trials.proofs.trial_count.Statement.{statement}
 use Rattle.run_trials.proofs.trial_count.Tie as tie
 

@@ -1,7 +1,6 @@
 -- `run_trials::turns_in` meets its contract: it counts the turns that are allowed. Assumes nothing.
-use native.Mathlib.Omega.{arith}
+use Rattle.list_laws.proofs.Kit.{arith, needs}
 use Rattle.run_trials.specs.Trials.{turnsIn}
-use borrow.Author.Needs.{needs}
 use Rattle.run_trials.proofs.turns_in.Statement.{statement}
 use Rattle.run_trials.proofs.turns_in.Tie as tie
 

@@ -1,6 +1,5 @@
 -- `search_bounded::renew_placed` meets its contract: only the mover's entries change. Assumes nothing.
-use mathlib.Core.Path.{sym, ap, subst}
-use Prim.Native.Nat.{ℕ, _<_}
+use Rattle.list_laws.proofs.Kit.{ap, subst, sym, _<_, ℕ, needs}
 use Rattle.model.specs.Piece.{onLine}
 use Rattle.model.specs.Lent.{lentBy, jobOf}
 use Rattle.model.specs.Buffer.{layoutOf}
@@ -8,7 +7,6 @@ use Rattle.search_laws.proofs.Table.{renewed-begin, renewed-end}
 use Rattle.search_tracks.specs.declared.Track.{Track}
 use Rattle.search_bounded.proofs.Searching.{track-asked, on-track}
 use Rattle.search_bounded.proofs.Renewing.{mover-placed}
-use borrow.Author.Needs.{needs}
 use Rattle.search_bounded.proofs.renew_placed.Statement.{statement}
 use Rattle.search_bounded.proofs.renew_placed.Tie as tie
 

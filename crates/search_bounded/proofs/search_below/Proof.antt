@@ -1,12 +1,7 @@
 -- `search_bounded::search_below` meets its contract: of the scratch as many sums are taken as the line has places. Assumes nothing.
-use mathlib.Core.Path.{sym}
-use Prim.Native.Nat.{_≤_}
-use native.Mathlib.Omega.{arith}
-use lib.ListN.{length}
-use lib.Seq.{length-take-le}
+use Rattle.list_laws.proofs.Kit.{sym, _≤_, arith, length, length-take-le, needs}
 use Rattle.model.specs.Lent.{lentBy}
 use Rattle.search_bounded.proofs.Searching.{lines-ready, track-asked, on-track, places-most}
-use borrow.Author.Needs.{needs}
 use Rattle.search_bounded.proofs.search_below.Statement.{statement}
 use Rattle.search_bounded.proofs.search_below.Tie as tie
 

@@ -1,11 +1,9 @@
 -- `search_bounded::search_over` meets its contract: the least of the sums of all pieces, which are 0 at first. Assumes nothing.
-use mathlib.Core.Path.{ap, _∙_}
-use native.Mathlib.Omega.{arith}
+use Rattle.list_laws.proofs.Kit.{_∙_, ap, arith, needs}
 use Rattle.model.specs.Lent.{lentBy}
 use Rattle.model.specs.Buffer.{layoutOf}
 use Rattle.search_line_sums.specs.Answers.{foundAnswer}
 use Rattle.search_bounded.proofs.Searching.{places-most, summed-none, summed-found}
-use borrow.Author.Needs.{needs}
 use Rattle.search_bounded.proofs.search_over.Statement.{statement}
 use Rattle.search_bounded.proofs.search_over.Tie as tie
 

@@ -1,10 +1,8 @@
 -- `search_calls::best_answer` meets its contract, by what was found. Assumes nothing.
-use mathlib.Core.Path.{sym, ap, subst, _∙_}
-use native.Mathlib.Omega.{arith}
+use Rattle.list_laws.proofs.Kit.{_∙_, ap, subst, sym, arith, needs}
 use Rattle.model.specs.declared.Coordinate.{Coordinate}
 use Rattle.search_calls.specs.Answers.{InReach, bestAnswer}
 use Rattle.search_calls.specs.declared.SearchAnswer.the-variants.{Best, Refused}
-use borrow.Author.Needs.{needs}
 use Rattle.search_calls.proofs.best_answer.Statement.{statement}
 use Rattle.search_calls.proofs.best_answer.Tie as tie
 

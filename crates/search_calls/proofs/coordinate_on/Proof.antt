@@ -1,8 +1,7 @@
 -- `search_calls::coordinate_on` meets its contract, by the line. Assumes nothing.
-use mathlib.Core.Path.{sym, ap}
+use Rattle.list_laws.proofs.Kit.{ap, sym, needs}
 use Rattle.model.specs.Piece.{coordinateOn}
 use Rattle.model.specs.declared.Line.{Line}
-use borrow.Author.Needs.{needs}
 use Rattle.search_calls.proofs.coordinate_on.Statement.{statement}
 use Rattle.search_calls.proofs.coordinate_on.Tie as tie
 

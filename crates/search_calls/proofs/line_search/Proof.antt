@@ -1,7 +1,5 @@
 -- `search_calls::line_search` meets its contract: the causes refuse, or none is there and the search decides. Assumes nothing.
-use mathlib.Core.List.{[], _∷_}
-use mathlib.Core.Path.{sym, ap, subst, _∙_}
-use lib.Dec.{eqb}
+use Rattle.list_laws.proofs.Kit.{_∙_, ap, subst, sym, [], _∷_, eqb, needs}
 use Rattle.model.specs.Search.{places, searchLine}
 use Rattle.model.specs.Refusal.{cause, emptyLine}
 use Rattle.model.specs.Lent.{lentBy, jobOf}
@@ -11,7 +9,6 @@ use Rattle.text_laws.specs.Outcomes.{NoCause}
 use Rattle.text_laws.proofs.Causes.{passed-none, none-then, refused-then}
 use Rattle.search_calls.specs.Answers.{InReach, bestAnswer, searchAnswer, searchCauses}
 use Rattle.search_calls.proofs.Answering.{search-ready, best-is, best-in-reach}
-use borrow.Author.Needs.{needs}
 use Rattle.search_calls.proofs.line_search.Statement.{statement}
 use Rattle.search_calls.proofs.line_search.Tie as tie
 

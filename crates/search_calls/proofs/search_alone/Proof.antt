@@ -1,14 +1,10 @@
 -- `search_calls::search_alone` meets its contract: the largest bound is above every sum. Assumes nothing.
-use mathlib.Core.Path.{sym, ap, _∙_}
-use Prim.Native.Nat.{ℕ}
-use native.Mathlib.Omega.{arith}
-use lib.ListN.{length-replicate}
+use Rattle.list_laws.proofs.Kit.{_∙_, ap, sym, ℕ, arith, length-replicate, needs}
 use Rattle.model.specs.Piece.{lineDirection}
 use Rattle.model.specs.Lent.{lentBy}
 use Rattle.search_shapes.proofs.Rooms.{room-of}
 use Rattle.search_line_sums.specs.Answers.{foundAnswer}
 use Rattle.search_calls.proofs.Answering.{store-wide, store-fresh, store-length, search-whole}
-use borrow.Author.Needs.{needs}
 use Rattle.search_calls.proofs.search_alone.Statement.{statement}
 use Rattle.search_calls.proofs.search_alone.Tie as tie
 

@@ -1,7 +1,5 @@
 -- `search_calls::search_causes` meets its contract: a piece that is not known is a reason for 9 beside the turns'. Assumes nothing.
-use mathlib.Core.Bool.{Bool, false, not}
-use mathlib.Core.Path.{ap, _∙_}
-use borrow.Author.Needs.{needs}
+use Rattle.list_laws.proofs.Kit.{_∙_, ap, Bool, false, not, needs}
 use Rattle.model.specs.Answers.{doneAnswer, firstCause}
 use Rattle.model.specs.Lent.{Lent, lentBy}
 use Rattle.causes.specs.Asked.{weightedCauses}

@@ -1,11 +1,8 @@
 -- `search_line_sums::add_line` meets its contract. The loop's invariant: the sums passed have their part, the others are as they were.
 -- Assumes nothing.
-use Prim.Native.Nat.{_+_, _≤_, _-_}
-use native.Mathlib.Omega.{arith}
-use lib.ListN.{length, getD}
+use Rattle.list_laws.proofs.Kit.{_+_, _-_, _≤_, arith, getD, length, needs}
 use Rattle.list_laws.proofs.Passes.{Passing}
 use Rattle.search_line_sums.proofs.Scans.{part-small, Raised, raise-begin, raise-step, raise-end}
-use borrow.Author.Needs.{needs}
 use Rattle.search_line_sums.proofs.add_line.Statement.{statement}
 use Rattle.search_line_sums.proofs.add_line.Tie as tie
 

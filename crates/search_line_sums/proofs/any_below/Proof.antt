@@ -1,12 +1,6 @@
 -- `search_line_sums::any_below` meets its contract. The loop's invariant: no sum passed is below the bound. Assumes nothing.
-use mathlib.Core.Path.{sym}
-use Prim.Native.Nat.{ℕ, _≤_, _<_, _-_}
-use native.Mathlib.Omega.{arith}
-use borrow.Author.Count.{below-more}
-use borrow.Author.Tests.{lt-ltb, le-ltb}
-use lib.ListN.{length, getD}
+use Rattle.list_laws.proofs.Kit.{sym, _-_, _<_, _≤_, ℕ, arith, getD, length, below-more, needs, le-ltb, lt-ltb}
 use Rattle.list_laws.proofs.Bounded.{any-from, none-any}
-use borrow.Author.Needs.{needs}
 use Rattle.search_line_sums.proofs.any_below.Statement.{statement}
 use Rattle.search_line_sums.proofs.any_below.Tie as tie
 

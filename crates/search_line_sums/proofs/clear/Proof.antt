@@ -1,12 +1,7 @@
 -- `search_line_sums::clear` meets its contract: the sums below k are 0. Assumes nothing.
-use mathlib.Core.Logic.{⊎-elim}
-use mathlib.Core.Path.{_≡_, refl}
-use Prim.Native.Nat.{ℕ, _≤_, _-_, _<_}
-use native.Mathlib.Omega.{arith}
-use lib.ListN.{length, List·getD-eq-default}
+use Rattle.list_laws.proofs.Kit.{_≡_, refl, ⊎-elim, _-_, _<_, _≤_, ℕ, arith, List·getD-eq-default, length, needs}
 use Rattle.list_laws.proofs.Passes.{Passing, pass-none, pass-set}
 use Rattle.list_laws.proofs.Numbers.{below-or}
-use borrow.Author.Needs.{needs}
 use Rattle.search_line_sums.proofs.clear.Statement.{statement}
 use Rattle.search_line_sums.proofs.clear.Tie as tie
 

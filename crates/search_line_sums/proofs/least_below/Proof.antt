@@ -1,11 +1,7 @@
 -- `search_line_sums::least_below` meets its contract. The loop's invariant: `low` and `at` are the search's answer for the sums passed.
 -- Assumes nothing.
-use mathlib.Core.Logic.{⊎-elim}
-use Prim.Native.Nat.{_≤_, _-_}
-use native.Mathlib.Omega.{arith}
-use lib.ListN.{length}
+use Rattle.list_laws.proofs.Kit.{⊎-elim, _-_, _≤_, arith, length, needs}
 use Rattle.search_line_sums.proofs.Scans.{Scanned, scan-begin, scan-lower, scan-keep, scan-found, scan-none}
-use borrow.Author.Needs.{needs}
 use Rattle.search_line_sums.proofs.least_below.Statement.{statement}
 use Rattle.search_line_sums.proofs.least_below.Tie as tie
 

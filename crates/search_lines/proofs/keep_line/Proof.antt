@@ -1,15 +1,11 @@
 -- `search_lines::keep_line` meets its contract: a slot whose tag is the key holds the line; another is made anew, which leaves the others as they
 -- are. Assumes nothing.
-use mathlib.Core.Path.{refl, _∙_}
-use Prim.Native.Nat.{_+_, _*_, _≤_}
-use native.Mathlib.Omega.{arith}
-use lib.ListN.{length, length-set}
+use Rattle.list_laws.proofs.Kit.{_∙_, refl, _*_, _+_, _≤_, arith, length, length-set, needs}
 use Rattle.model.specs.Lent.{Lent, lentBy, jobOf}
 use Rattle.job_laws.proofs.Checked.{lent-few}
 use Rattle.search_lines.specs.Making.{SmallTwo}
 use Rattle.search_lines.proofs.Keeping.{slot-within, renewed}
 use Rattle.search_lines.proofs.Making.{small-two, moved-there, standing-there}
-use borrow.Author.Needs.{needs}
 use Rattle.search_lines.proofs.keep_line.Statement.{statement}
 use Rattle.search_lines.proofs.keep_line.Tie as tie
 

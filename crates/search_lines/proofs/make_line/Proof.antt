@@ -1,15 +1,11 @@
 -- `search_lines::make_line` meets its contract: the part of the store has a byte for each place at which the boxes meet, and gets the penalties of
 -- the two pieces' strips. Assumes nothing.
-use mathlib.Core.Path.{_≡_, _∙_}
-use Prim.Native.Nat.{_+_, _-_, _≤_}
-use native.Mathlib.Omega.{arith}
-use lib.ListN.{length, take, drop, length-take, length-drop}
+use Rattle.list_laws.proofs.Kit.{_∙_, _≡_, _+_, _-_, _≤_, arith, drop, length, length-drop, length-take, take, needs}
 use Rattle.model.specs.Piece.{extent}
 use Rattle.model.specs.Lent.{Lent, lentBy}
 use Rattle.search_lines.specs.Making.{movedShape, standingShape}
 use Rattle.search_lines.proofs.Making.{moved-entry, standing-entry, moved-held, standing-held, moved-small, moved-some, moved-strips, standing-strips}
 use Rattle.search_lines.proofs.Making.{reach, boxed, made}
-use borrow.Author.Needs.{needs}
 use Rattle.search_lines.proofs.make_line.Statement.{statement}
 use Rattle.search_lines.proofs.make_line.Tie as tie
 

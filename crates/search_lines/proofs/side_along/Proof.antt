@@ -1,7 +1,6 @@
 -- `search_lines::side_along` meets its contract: the turned box's columns or its rows, by the direction. Assumes nothing.
-use mathlib.Core.Path.{ap}
+use Rattle.list_laws.proofs.Kit.{ap, needs}
 use Rattle.piece_pixels.specs.declared.Sides.{Sides}
-use borrow.Author.Needs.{needs}
 use Rattle.search_lines.proofs.side_along.Statement.{statement}
 use Rattle.search_lines.proofs.side_along.Tie as tie
 

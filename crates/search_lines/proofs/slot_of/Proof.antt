@@ -1,6 +1,5 @@
 -- `search_lines::slot_of` meets its contract: a remainder is below its divisor. Assumes nothing.
-use native.Mathlib.Nat.{mod-lt}
-use borrow.Author.Needs.{needs}
+use Rattle.list_laws.proofs.Kit.{mod-lt, needs}
 use Rattle.search_lines.proofs.slot_of.Statement.{statement}
 use Rattle.search_lines.proofs.slot_of.Tie as tie
 

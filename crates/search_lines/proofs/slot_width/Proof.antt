@@ -1,12 +1,8 @@
 -- `search_lines::slot_width` meets its contract. The loop's invariant: no side of a piece below i is above the largest so far. Assumes nothing.
-use mathlib.Core.List.{[]}
-use mathlib.Core.Path.{_≡_, ap}
-use Prim.Native.Nat.{_-_, _≤_}
-use native.Mathlib.Omega.{arith}
+use Rattle.list_laws.proofs.Kit.{_≡_, ap, [], _-_, _≤_, arith, needs}
 use Rattle.model.specs.Lent.{jobOf, entryColumns, entryRows}
 use Rattle.piece_pixels.specs.declared.Sides.{Sides}
 use Rattle.search_lines.proofs.Keeping.{SidesCovered, covered-none, covered-more, covered-wide}
-use borrow.Author.Needs.{needs}
 use Rattle.search_lines.proofs.slot_width.Statement.{statement}
 use Rattle.search_lines.proofs.slot_width.Tie as tie
 

@@ -1,9 +1,7 @@
 -- `search_penalties::add_strip`: the outline of the strip's line is widened, the others stay. Assumes nothing.
-use mathlib.Core.Path.{sym, subst}
-use lib.ListN.{length-set}
+use Rattle.list_laws.proofs.Kit.{subst, sym, length-set, needs}
 use Rattle.search_penalties.specs.Outlines.{Outlined}
 use Rattle.search_penalties.proofs.Outlining.{outlines-set}
-use borrow.Author.Needs.{needs}
 use Rattle.search_penalties.proofs.add_strip.Statement.{statement}
 use Rattle.search_penalties.proofs.add_strip.Tie as tie
 

@@ -1,7 +1,5 @@
 -- `search_penalties::cap`: the places of the stretch below k are lowered. Assumes nothing.
-use Prim.Native.Nat.{_≤_, _-_}
-use native.Mathlib.Omega.{arith}
-use borrow.Author.Needs.{needs}
+use Rattle.list_laws.proofs.Kit.{_-_, _≤_, arith, needs}
 use Rattle.list_laws.proofs.Passes.{Passing}
 use Rattle.search_penalties.proofs.Passes.{cappedAt, cap-none, cap-set, cap-done}
 use Rattle.search_penalties.proofs.cap.Statement.{statement}

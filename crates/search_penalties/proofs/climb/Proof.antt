@@ -1,6 +1,5 @@
 -- `search_penalties::climb`: all places from `from` up to c are taken, by the lines passed. Assumes nothing.
-use Prim.Native.Nat.{_≤_, _<_, _+_, _-_}
-use native.Mathlib.Omega.{arith}
+use Rattle.list_laws.proofs.Kit.{_+_, _-_, _<_, _≤_, arith}
 use Rattle.search_penalties.specs.Outlines.{Taken}
 use Rattle.search_penalties.proofs.Outlining.{taken-more}
 use Rattle.search_penalties.proofs.climb.Statement.{statement}

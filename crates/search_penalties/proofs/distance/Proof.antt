@@ -1,7 +1,5 @@
 -- `search_penalties::distance`: at a place above 0 the distance is one more, at most the largest byte. Assumes nothing.
-use native.Mathlib.Nat.{pos-of-ne-zero}
-use native.Mathlib.Omega.{arith}
-use borrow.Author.Needs.{needs}
+use Rattle.list_laws.proofs.Kit.{pos-of-ne-zero, arith, needs}
 use Rattle.search_penalties.proofs.Passes.{farther-more}
 use Rattle.search_penalties.proofs.distance.Statement.{statement}
 use Rattle.search_penalties.proofs.distance.Tie as tie

@@ -1,10 +1,5 @@
 -- `search_penalties::fall`: the places from k on are lowered to their distance, and d is that of place k. Assumes nothing.
-use mathlib.Core.List.{List}
-use mathlib.Core.Path.{_≡_, _∙_, ap₂}
-use Prim.Native.Nat.{ℕ, _≤_, _-_, min}
-use native.Mathlib.Omega.{arith}
-use borrow.Author.Needs.{needs}
-use lib.ListN.{length, getD}
+use Rattle.list_laws.proofs.Kit.{_∙_, _≡_, ap₂, List, _-_, _≤_, min, ℕ, arith, getD, length, needs}
 use Rattle.list_laws.proofs.Passes.{Backing, back-none, back-set}
 use Rattle.search_penalties.specs.Line.{fallen}
 use Rattle.search_penalties.proofs.Passes.{fallen-none, fallen-value}

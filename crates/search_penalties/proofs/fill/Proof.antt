@@ -1,10 +1,6 @@
 -- `search_penalties::fill`: the places below k are set. Assumes nothing.
-use mathlib.Core.Path.{_≡_, refl}
-use Prim.Native.Nat.{ℕ, _≤_, _-_}
-use native.Mathlib.Omega.{arith}
-use lib.ListN.{length}
+use Rattle.list_laws.proofs.Kit.{_≡_, refl, _-_, _≤_, ℕ, arith, length, needs}
 use Rattle.list_laws.proofs.Passes.{Passing, pass-none, pass-set}
-use borrow.Author.Needs.{needs}
 use Rattle.search_penalties.proofs.fill.Statement.{statement}
 use Rattle.search_penalties.proofs.fill.Tie as tie
 

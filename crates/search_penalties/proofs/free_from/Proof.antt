@@ -1,7 +1,6 @@
 -- `search_penalties::free_from`: the least shift of the moved piece at which they share no pixel, from place k, and the shifts from it on
 -- that share none. Assumes nothing.
-use native.Mathlib.Omega.{arith}
-use borrow.Author.Needs.{needs}
+use Rattle.list_laws.proofs.Kit.{arith, needs}
 use Rattle.search_penalties.proofs.Depths.{free-first}
 use Rattle.search_penalties.proofs.free_from.Statement.{statement}
 use Rattle.search_penalties.proofs.free_from.Tie as tie

@@ -1,11 +1,5 @@
 -- `search_penalties::last_above`: no place of the stretch from k on is above r. Assumes nothing.
-use Prim.Native.Nat.{ℕ, _≤_, _<_, _-_}
-use mathlib.Core.Logic.{⊎-elim}
-use mathlib.Core.Path.{_≡_, subst}
-use native.Mathlib.Nat.{eq-or-lt-of-le}
-use native.Mathlib.Omega.{arith}
-use lib.ListN.{getD}
-use borrow.Author.Needs.{needs}
+use Rattle.list_laws.proofs.Kit.{_≡_, subst, ⊎-elim, _-_, _<_, _≤_, ℕ, eq-or-lt-of-le, arith, getD, needs}
 use Rattle.search_penalties.proofs.last_above.Statement.{statement}
 use Rattle.search_penalties.proofs.last_above.Tie as tie
 

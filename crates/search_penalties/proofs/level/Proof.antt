@@ -1,5 +1,5 @@
 -- `search_penalties::level`: the places that outlines show to be taken are spared, and the rest is lowered. Assumes nothing.
-use native.Mathlib.Omega.{arith}
+use Rattle.list_laws.proofs.Kit.{arith}
 use Rattle.search_penalties.specs.Line.{takenAt}
 use Rattle.search_penalties.proofs.Passes.{outside-spared}
 use Rattle.search_penalties.proofs.level.Statement.{statement}

@@ -1,10 +1,6 @@
 -- `search_penalties::levels`: before level r every place holds the lesser of what it held at first and the least shift below r that parts
 -- the pieces, and outside of the stretch no place is above r. Assumes nothing.
-use mathlib.Core.Path.{_≡_, refl, _∙_}
-use Prim.Native.Nat.{ℕ, _≤_, _<_, _-_}
-use native.Mathlib.Omega.{arith}
-use borrow.Author.Needs.{needs}
-use lib.ListN.{length, getD}
+use Rattle.list_laws.proofs.Kit.{_∙_, _≡_, refl, _-_, _<_, _≤_, ℕ, arith, getD, length, needs}
 use Rattle.search_penalties.specs.Line.{Outside}
 use Rattle.search_penalties.proofs.Passes.{outside-none, outside-more, outside-lowered, outside-last, outside-first, outside-all}
 use Rattle.search_penalties.proofs.Across.{LineAt, line-start, line-step, line-done}

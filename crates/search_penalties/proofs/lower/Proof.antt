@@ -1,11 +1,9 @@
 -- `search_penalties::lower`: the places below k are lowered, those before the stretch from the start. A jump passes places at which a pixel
 -- is shared and lowers the free ones after them. Assumes nothing.
-use Prim.Native.Nat.{_≤_, _-_}
-use native.Mathlib.Omega.{arith}
+use Rattle.list_laws.proofs.Kit.{_-_, _≤_, arith, needs}
 use Rattle.list_laws.proofs.Passes.{Passing}
 use Rattle.search_penalties.specs.Line.{takenAt}
 use Rattle.search_penalties.proofs.Passes.{loweredAt, lower-none, lower-low, gap-goes-on, lower-gap, lower-done}
-use borrow.Author.Needs.{needs}
 use Rattle.search_penalties.proofs.lower.Statement.{statement}
 use Rattle.search_penalties.proofs.lower.Tie as tie
 

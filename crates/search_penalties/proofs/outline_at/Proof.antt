@@ -1,6 +1,5 @@
 -- `search_penalties::outline_at`: each number of the entry is read. Assumes nothing.
-use native.Mathlib.Omega.{arith}
-use borrow.Author.Needs.{needs}
+use Rattle.list_laws.proofs.Kit.{arith, needs}
 use Rattle.search_penalties.proofs.outline_at.Statement.{statement}
 use Rattle.search_penalties.proofs.outline_at.Tie as tie
 

@@ -1,7 +1,5 @@
 -- `search_penalties::outline_lines`: the table holds outlines of the strips passed, which are the piece's. Assumes nothing.
-use Prim.Native.Nat.{_≤_, _-_}
-use native.Mathlib.Omega.{arith}
-use lib.ListN.{length}
+use Rattle.list_laws.proofs.Kit.{_-_, _≤_, arith, length}
 use Rattle.search_penalties.specs.Outlines.{StripStanding, Outlines}
 use Rattle.search_penalties.proofs.Outlining.{outlines-none}
 use Rattle.search_penalties.proofs.outline_lines.Statement.{statement}

@@ -1,10 +1,7 @@
 -- `search_penalties::outline_reaches`: the standing line's strip is longer than every gap of the moved line, so it meets one of its strips
 -- wherever it lies between their ends. Assumes nothing.
-use mathlib.Core.Path.{refl}
-use native.Mathlib.Nat.{pos-of-ne-zero}
-use native.Mathlib.Omega.{arith}
+use Rattle.list_laws.proofs.Kit.{refl, pos-of-ne-zero, arith, needs}
 use Rattle.search_penalties.proofs.Outlining.{reached-none, reached-outline}
-use borrow.Author.Needs.{needs}
 use Rattle.search_penalties.proofs.outline_reaches.Statement.{statement}
 use Rattle.search_penalties.proofs.outline_reaches.Tie as tie
 

@@ -1,7 +1,5 @@
 -- `search_penalties::penalties`: marks, distances on either side, and levels give the penalties. Assumes nothing.
-use mathlib.Core.Path.{_∙_}
-use native.Mathlib.Omega.{arith}
-use borrow.Author.Needs.{needs}
+use Rattle.list_laws.proofs.Kit.{_∙_, arith, needs}
 use Rattle.search_penalties.proofs.Passes.{outside-none, outside-spared}
 use Rattle.search_penalties.proofs.Outlining.{blank-zeros}
 use Rattle.search_penalties.proofs.Lines.{ds-length, ds-grounded, line-whole}

@@ -1,10 +1,5 @@
 -- `search_penalties::rise`: the places below k hold their distance, and d is that of the last one. Assumes nothing.
-use mathlib.Core.List.{List}
-use mathlib.Core.Path.{_≡_, refl}
-use Prim.Native.Nat.{ℕ, suc, _≤_, _-_}
-use native.Mathlib.Omega.{arith}
-use borrow.Author.Needs.{needs}
-use lib.ListN.{length}
+use Rattle.list_laws.proofs.Kit.{_≡_, refl, List, _-_, _≤_, suc, ℕ, arith, length, needs}
 use Rattle.list_laws.proofs.Passes.{Passing, pass-none, pass-set}
 use Rattle.search_penalties.specs.Line.{risen}
 use Rattle.search_penalties.proofs.Passes.{risen-value, risen-next}

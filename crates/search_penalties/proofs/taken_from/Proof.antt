@@ -1,8 +1,6 @@
 -- `search_penalties::taken_from`: line y of the moved piece meets line z of the standing one, and so do the lines after them. Assumes nothing.
-use native.Mathlib.Nat.{pos-of-ne-zero}
-use native.Mathlib.Omega.{arith}
+use Rattle.list_laws.proofs.Kit.{pos-of-ne-zero, arith, needs}
 use Rattle.search_penalties.proofs.Outlining.{taken-none, taken-both}
-use borrow.Author.Needs.{needs}
 use Rattle.search_penalties.proofs.taken_from.Statement.{statement}
 use Rattle.search_penalties.proofs.taken_from.Tie as tie
 

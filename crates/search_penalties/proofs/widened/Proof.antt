@@ -1,8 +1,6 @@
 -- `search_penalties::widened`: the gap before the strip is counted, and the longer of the two strips is kept. Assumes nothing.
-use native.Mathlib.Nat.{pos-of-ne-zero}
-use native.Mathlib.Omega.{arith}
+use Rattle.list_laws.proofs.Kit.{pos-of-ne-zero, arith, needs}
 use Rattle.search_penalties.proofs.Outlining.{outline-first, outline-more}
-use borrow.Author.Needs.{needs}
 use Rattle.search_penalties.proofs.widened.Statement.{statement}
 use Rattle.search_penalties.proofs.widened.Tie as tie
 

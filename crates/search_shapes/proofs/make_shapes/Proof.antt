@@ -1,10 +1,6 @@
 -- `search_shapes::make_shapes` meets its contract. The loop's invariant: the shapes with numbers below k stand in the store, and the next
 -- one begins at `at`, which is at most the number of box pixels passed. Assumes nothing.
-use mathlib.Core.Bool.{true}
-use mathlib.Core.Path.{_≡_, refl, sym, _∙_, subst}
-use Prim.Native.Nat.{_≤_, _<_, _-_, _*_, _/_}
-use native.Mathlib.Omega.{arith}
-use lib.ListN.{length, set, length-set}
+use Rattle.list_laws.proofs.Kit.{_∙_, _≡_, refl, subst, sym, true, _*_, _-_, _/_, _<_, _≤_, arith, length, length-set, set, needs}
 use Rattle.model.specs.Strip.{strips}
 use Rattle.model.specs.Layout.{turnedPiece}
 use Rattle.model.specs.Lent.{lentBy, jobOf, lentWell}
@@ -14,7 +10,6 @@ use Rattle.job_laws.proofs.Checked.{facts, entry-at}
 use Rattle.strip_scan.specs.Put.{Appended}
 use Rattle.search_shapes.specs.Shapes.{numberedShape, ShapesRoom}
 use Rattle.search_shapes.proofs.Making.{Made, Fits, made-none, fits-next, made-more, made-all}
-use borrow.Author.Needs.{needs}
 use Rattle.search_shapes.proofs.make_shapes.Statement.{statement}
 use Rattle.search_shapes.proofs.make_shapes.Tie as tie
 

@@ -1,5 +1,5 @@
 -- `search_shapes::numbered_turn` meets its contract: the last arm is of the numbers from 3 on. Assumes nothing.
-use borrow.Author.Needs.{needs}
+use Rattle.list_laws.proofs.Kit.{needs}
 use Rattle.search_shapes.proofs.Numbers.{last-turn}
 use Rattle.search_shapes.proofs.numbered_turn.Statement.{statement}
 use Rattle.search_shapes.proofs.numbered_turn.Tie as tie

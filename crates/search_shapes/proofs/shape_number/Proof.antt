@@ -1,6 +1,5 @@
 -- `search_shapes::shape_number` meets its contract: a turn's number is below 4. Assumes nothing.
-use native.Mathlib.Omega.{arith}
-use borrow.Author.Needs.{needs}
+use Rattle.list_laws.proofs.Kit.{arith, needs}
 use Rattle.search_shapes.proofs.Numbers.{turn-below}
 use Rattle.search_shapes.proofs.shape_number.Statement.{statement}
 use Rattle.search_shapes.proofs.shape_number.Tie as tie

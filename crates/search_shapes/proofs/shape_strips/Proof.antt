@@ -1,9 +1,7 @@
 -- `search_shapes::shape_strips` meets its contract: two neighbouring starts bound the part, which is the shape's strips. Assumes nothing.
-use native.Mathlib.Omega.{arith}
-use Prim.Native.Nat.{_+_}
+use Rattle.list_laws.proofs.Kit.{_+_, arith, needs}
 use Rattle.search_shapes.specs.Shapes.{Held}
 use Rattle.search_shapes.proofs.Making.{strips-of}
-use borrow.Author.Needs.{needs}
 use Rattle.search_shapes.proofs.shape_strips.Statement.{statement}
 use Rattle.search_shapes.proofs.shape_strips.Tie as tie
 

@@ -1,8 +1,6 @@
 -- `search_sums::pair_index` meets its contract: the row's start in closed form, and the place in the row. Assumes nothing.
-use Prim.Native.Nat.{_+_}
-use native.Mathlib.Omega.{arith}
+use Rattle.list_laws.proofs.Kit.{_+_, arith, needs}
 use Rattle.search_sums.proofs.Rows.{few-times, row-closed}
-use borrow.Author.Needs.{needs}
 use Rattle.search_sums.proofs.pair_index.Statement.{statement}
 use Rattle.search_sums.proofs.pair_index.Tie as tie
 

@@ -1,12 +1,8 @@
 -- `search_sums::plain_total` meets its contract: the plain sum is the weighted sum by weights 1. Assumes nothing.
-use mathlib.Core.Path.{_≡_, sym, ap, _∙_}
-use Prim.Native.Nat.{ℕ}
-use native.Mathlib.Omega.{arith}
-use lib.ListN.{length, length-take, length-replicate}
+use Rattle.list_laws.proofs.Kit.{_∙_, _≡_, ap, sym, ℕ, arith, length, length-replicate, length-take, needs}
 use Rattle.model.specs.Layout.{weightedSum, plainSum, unitWeights}
 use Rattle.descent_laws.proofs.Bounds.{pairs-at-most}
 use Rattle.search_sums.proofs.Rows.{ones-taken}
-use borrow.Author.Needs.{needs}
 use Rattle.search_sums.proofs.plain_total.Statement.{statement}
 use Rattle.search_sums.proofs.plain_total.Tie as tie
 

@@ -1,8 +1,5 @@
 -- `search_sums::raise` meets its contract. The loop's invariant: the weights before the next row's are raised. Assumes nothing.
-use mathlib.Core.Path.{_≡_, refl, sym, ap, _∙_, subst}
-use Prim.Native.Nat.{_+_, _-_, _≤_}
-use native.Mathlib.Omega.{arith}
-use lib.ListN.{length}
+use Rattle.list_laws.proofs.Kit.{_∙_, _≡_, ap, refl, subst, sym, _+_, _-_, _≤_, arith, length}
 use Rattle.model.specs.Layout.{Job, Layout}
 use Rattle.descent_laws.proofs.Bounds.{pairs-at-most}
 use Rattle.descent_laws.specs.Claims.{ValidWeights}

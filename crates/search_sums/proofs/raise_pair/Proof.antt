@@ -1,6 +1,6 @@
 -- `search_sums::raise_pair` meets its contract, test by test. Assumes nothing.
 use Rattle.search_sums.proofs.Rising.{raised-none, raised-more, raised-full}
-use borrow.Author.Needs.{needs}
+use Rattle.list_laws.proofs.Kit.{needs}
 use Rattle.search_sums.proofs.raise_pair.Statement.{statement}
 use Rattle.search_sums.proofs.raise_pair.Tie as tie
 

@@ -1,10 +1,6 @@
 -- `search_sums::raise_row` meets its contract. The loop's invariant: the weights at positions before `at` are raised, and `at` is
 -- the position of the pair (i, k). Assumes nothing.
-use mathlib.Core.List.{List}
-use mathlib.Core.Path.{_≡_, refl, sym, _∙_, subst}
-use Prim.Native.Nat.{ℕ, _+_, _*_, _-_, _≤_}
-use native.Mathlib.Omega.{arith}
-use lib.ListN.{length, getD}
+use Rattle.list_laws.proofs.Kit.{_∙_, _≡_, refl, subst, sym, List, _*_, _+_, _-_, _≤_, ℕ, arith, getD, length}
 use Rattle.model.specs.Layout.{Job, Layout}
 use Rattle.descent_laws.specs.Claims.{ValidWeights}
 use Rattle.search_laws.specs.Pairs.{pairIndex, rowStart}

@@ -1,9 +1,6 @@
 -- `search_sums::row_part` meets its contract. The loop's invariant: the sum so far is that of the row's pairs passed, and the next
 -- weight is that of the pair (i, k). Assumes nothing.
-use mathlib.Core.Path.{_≡_}
-use Prim.Native.Nat.{_+_, _*_, _-_, _≤_}
-use native.Mathlib.Omega.{arith}
-use lib.ListN.{getD}
+use Rattle.list_laws.proofs.Kit.{_≡_, _*_, _+_, _-_, _≤_, arith, getD}
 use Rattle.model.specs.Bounded.{sumBelow}
 use Rattle.search_sums.proofs.Rows.{PairPlace, row-place, term-small, partTerm, part-more, part-all}
 use Rattle.search_sums.proofs.row_part.Statement.{statement}

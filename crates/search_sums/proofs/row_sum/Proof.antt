@@ -1,11 +1,7 @@
 -- `search_sums::row_sum` meets its contract. The loop's invariant: the sum so far is that of the pieces passed. Assumes nothing.
-use mathlib.Core.Path.{_≡_, refl, sym, _∙_, subst}
-use Prim.Native.Nat.{_+_, _*_, _-_, _≤_}
-use native.Mathlib.Omega.{arith}
-use lib.ListN.{getD}
+use Rattle.list_laws.proofs.Kit.{_∙_, _≡_, refl, subst, sym, _*_, _+_, _-_, _≤_, arith, getD, needs}
 use Rattle.model.specs.Bounded.{sumBelow}
 use Rattle.search_sums.proofs.Rows.{term-small, rowTerm, row-more, row-all}
-use borrow.Author.Needs.{needs}
 use Rattle.search_sums.proofs.row_sum.Statement.{statement}
 use Rattle.search_sums.proofs.row_sum.Tie as tie
 

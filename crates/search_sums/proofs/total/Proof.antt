@@ -1,8 +1,6 @@
 -- `search_sums::total` meets its contract. The loop's invariant: the sum so far is that of the rows passed, and the next row's
 -- weights begin at `from`. Assumes nothing.
-use mathlib.Core.Path.{_≡_, refl, sym, _∙_, subst}
-use Prim.Native.Nat.{_*_, _-_, _≤_}
-use native.Mathlib.Omega.{arith}
+use Rattle.list_laws.proofs.Kit.{_∙_, _≡_, refl, subst, sym, _*_, _-_, _≤_, arith}
 use Rattle.model.specs.Bounded.{sumBelow}
 use Rattle.descent_laws.proofs.Bounds.{pairs-at-most}
 use Rattle.search_laws.specs.Pairs.{rowStart}

@@ -1,9 +1,7 @@
 -- `search_sums::weight_between` meets its contract, by which number is the lower. Assumes nothing.
-use mathlib.Core.Path.{sym}
-use native.Mathlib.Omega.{arith}
+use Rattle.list_laws.proofs.Kit.{sym, arith, needs}
 use Rattle.search_laws.proofs.Pairs.{pair-below}
 use Rattle.search_laws.proofs.PieceSum.{weight-self, weight-above, weight-below}
-use borrow.Author.Needs.{needs}
 use Rattle.search_sums.proofs.weight_between.Statement.{statement}
 use Rattle.search_sums.proofs.weight_between.Tie as tie
 

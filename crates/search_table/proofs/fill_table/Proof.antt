@@ -1,9 +1,5 @@
 -- `search_table::fill_table` meets its contract. The loop's invariant: the table of the pieces passed is made. Assumes nothing.
-use mathlib.Core.List.{List}
-use mathlib.Core.Path.{_≡_, refl, _∙_, subst}
-use Prim.Native.Nat.{ℕ, _+_, _-_, _≤_}
-use native.Mathlib.Omega.{arith}
-use lib.ListN.{length}
+use Rattle.list_laws.proofs.Kit.{_∙_, _≡_, refl, subst, List, _+_, _-_, _≤_, ℕ, arith, length}
 use Rattle.model.specs.Lent.{lentBy, jobOf}
 use Rattle.model.specs.Buffer.{layoutOf}
 use Rattle.model.specs.declared.JobSize.{JobSize}

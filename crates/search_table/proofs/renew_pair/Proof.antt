@@ -1,14 +1,10 @@
 -- `search_table::renew_pair` meets its contract: a piece with itself is passed over, else both entries are set. Assumes nothing.
-use mathlib.Core.Path.{_≡_, subst}
-use Prim.Native.Nat.{_+_, _<_}
-use native.Mathlib.Omega.{arith}
-use lib.ListN.{length, length-set}
+use Rattle.list_laws.proofs.Kit.{_≡_, subst, _+_, _<_, arith, length, length-set, needs}
 use Rattle.model.specs.Lent.{lentBy, jobOf}
 use Rattle.model.specs.Buffer.{layoutOf}
 use Rattle.search_laws.specs.Table.{Renewed, entry}
 use Rattle.search_laws.proofs.Table.{renewed-self, renewed-step}
 use Rattle.search_table.proofs.Placed.{few-placed}
-use borrow.Author.Needs.{needs}
 use Rattle.search_table.proofs.renew_pair.Statement.{statement}
 use Rattle.search_table.proofs.renew_pair.Tie as tie
 

@@ -1,7 +1,6 @@
 -- `search_tracks::reach_of` meets its contract: boxes apart across meet nowhere, others along a stretch of places. Assumes nothing.
-use mathlib.Core.Path.{refl}
+use Rattle.list_laws.proofs.Kit.{refl, needs}
 use Rattle.search_tracks.proofs.Tracks.{reach-meeting}
-use borrow.Author.Needs.{needs}
 use Rattle.search_tracks.proofs.reach_of.Statement.{statement}
 use Rattle.search_tracks.proofs.reach_of.Tie as tie
 

@@ -1,7 +1,6 @@
 -- `search_tracks::room_on` meets its contract, by whether the box lies in the sheet across the line. Assumes nothing.
-use native.Mathlib.Omega.{arith}
+use Rattle.list_laws.proofs.Kit.{arith, needs}
 use Rattle.search_tracks.proofs.Tracks.{room-none, room-some}
-use borrow.Author.Needs.{needs}
 use Rattle.search_tracks.proofs.room_on.Statement.{statement}
 use Rattle.search_tracks.proofs.room_on.Tie as tie
 

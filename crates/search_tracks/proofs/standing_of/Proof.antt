@@ -2,7 +2,7 @@
 use Rattle.model.specs.Lent.{lentBy, jobOf}
 use Rattle.model.specs.Buffer.{layoutOf}
 use Rattle.search_tracks.proofs.Tracks.{standing-row, standing-column}
-use borrow.Author.Needs.{needs}
+use Rattle.list_laws.proofs.Kit.{needs}
 use Rattle.search_tracks.proofs.standing_of.Statement.{statement}
 use Rattle.search_tracks.proofs.standing_of.Tie as tie
 

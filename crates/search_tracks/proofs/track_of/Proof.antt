@@ -1,8 +1,7 @@
 -- `search_tracks::track_of` meets its contract, by the line. Assumes nothing.
-use native.Mathlib.Omega.{arith}
+use Rattle.list_laws.proofs.Kit.{arith, needs}
 use Rattle.model.specs.Lent.{lentBy, jobOf}
 use Rattle.search_tracks.proofs.Tracks.{track-row, track-column}
-use borrow.Author.Needs.{needs}
 use Rattle.search_tracks.proofs.track_of.Statement.{statement}
 use Rattle.search_tracks.proofs.track_of.Tie as tie
 

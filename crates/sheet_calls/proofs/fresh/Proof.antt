@@ -1,9 +1,6 @@
 -- `fresh`: the number that the check gave decides the outcome, and clearing the counts is the fresh sheet.
 -- Assumes nothing.
-use mathlib.Core.Path.{sym, _∙_, ap}
-use Prim.Native.Nat.{ℕ}
-use lib.ListN.{length, replicate}
-use borrow.Author.Needs.{needs}
+use Rattle.list_laws.proofs.Kit.{_∙_, ap, sym, ℕ, length, replicate, needs}
 use Rattle.model.specs.Lent.{lentBy, jobOf}
 use Rattle.model.specs.Cover.{fresh}
 use Rattle.sheet_calls.proofs.fresh.Statement.{statement}

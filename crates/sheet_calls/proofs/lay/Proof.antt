@@ -1,10 +1,7 @@
 -- `lay`: the numbers that the checks gave decide the outcome; where none refuses, moving the piece's pixels up is the sheet's lay, since
 -- every count is at most the number of pieces.
 -- Assumes nothing.
-use mathlib.Core.Path.{_≡_, sym, _∙_}
-use Prim.Native.Nat.{_<_}
-use native.Mathlib.Omega.{arith}
-use borrow.Author.Needs.{needs}
+use Rattle.list_laws.proofs.Kit.{_∙_, _≡_, sym, _<_, arith, needs}
 use Rattle.model.specs.Lent.{Lent, lentBy, jobOf}
 use Rattle.model.specs.Calls.{layCall}
 use Rattle.model.specs.Cover.{Sheet, lay, layCauses}

@@ -1,10 +1,7 @@
 -- `withdraw`: the numbers that the checks gave decide the outcome; where none refuses, moving the pixels of the piece down where its entry
 -- says that it lies is the sheet's withdraw. A laid entry of a sheet that passed its test is inside.
 -- Assumes nothing.
-use mathlib.Core.Path.{_≡_, sym, _∙_}
-use Prim.Native.Nat.{_<_}
-use native.Mathlib.Omega.{arith}
-use borrow.Author.Needs.{needs}
+use Rattle.list_laws.proofs.Kit.{_∙_, _≡_, sym, _<_, arith, needs}
 use Rattle.model.specs.Lent.{Lent, lentBy, jobOf}
 use Rattle.model.specs.Calls.{withdrawCall}
 use Rattle.model.specs.Cover.{Sheet, withdraw, withdrawCauses}

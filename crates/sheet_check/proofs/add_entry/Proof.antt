@@ -1,9 +1,6 @@
 -- `add_entry`: a piece that is not laid changes nothing; a laid one is inside, by the test of its entry.
 -- Assumes nothing.
-use mathlib.Core.Path.{_∙_}
-use native.Mathlib.Omega.{arith}
-use borrow.Author.Needs.{needs}
-use borrow.Author.Tests.{not-true, not-false}
+use Rattle.list_laws.proofs.Kit.{_∙_, arith, needs, not-false, not-true}
 use Rattle.model.specs.Lent.{lentBy, jobOf}
 use Rattle.job_laws.proofs.Checked.{facts}
 use Rattle.sheet_check.proofs.add_entry.Tie as tie

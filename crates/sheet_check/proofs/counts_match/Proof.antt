@@ -1,11 +1,6 @@
 -- `counts_match`: the front of the room holds the counts made anew, and the comparison asks just what the test does.
 -- Assumes nothing.
-use mathlib.Core.Path.{_≡_, _∙_, sym}
-use mathlib.Core.List.{_++_}
-use native.Mathlib.Omega.{arith}
-use lib.ListN.{length, take, drop, length-append}
-use lib.Seq.{length-take-le, take-length, take-at}
-use borrow.Author.Needs.{needs}
+use Rattle.list_laws.proofs.Kit.{_∙_, _≡_, sym, _++_, arith, drop, length, length-append, take, length-take-le, take-at, take-length, needs}
 use Rattle.model.specs.Lent.{lentBy, jobOf}
 use Rattle.list_laws.proofs.Lists.{front-length}
 use Rattle.sheet_check.proofs.Recounts.{same-counted}

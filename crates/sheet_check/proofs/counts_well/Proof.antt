@@ -1,9 +1,6 @@
 -- `counts_well`: a sheet has at most 65,536 pixels, so there is room.
 -- Assumes nothing.
-use Prim.Native.Nat.{_≤_}
-use native.Mathlib.Omega.{arith}
-use lib.ListN.{length}
-use borrow.Author.Needs.{needs}
+use Rattle.list_laws.proofs.Kit.{_≤_, arith, length, needs}
 use Rattle.job_laws.proofs.Checked.{facts}
 use Rattle.sheet_check.proofs.counts_well.Statement.{statement}
 use Rattle.sheet_check.proofs.counts_well.Tie as tie

@@ -1,13 +1,6 @@
 -- `entries_well`: every entry that the loop has passed is well.
 -- Assumes nothing.
-use mathlib.Core.Bool.{true}
-use mathlib.Core.List.{List}
-use mathlib.Core.Path.{_≡_, _∙_, sym}
-use Prim.Native.Nat.{ℕ, _≤_, _<_, _-_}
-use native.Mathlib.Omega.{arith}
-use borrow.Author.Tests.{not-true, not-false}
-use borrow.Author.Needs.{needs}
-use borrow.Author.Count.{below-more}
+use Rattle.list_laws.proofs.Kit.{_∙_, _≡_, sym, true, List, _-_, _<_, _≤_, ℕ, arith, below-more, needs, not-false, not-true}
 use Rattle.model.specs.Lent.{lentBy, jobOf}
 use Rattle.model.specs.Cover.{entryWell}
 use Rattle.list_laws.proofs.Bounded.{all-at, all-from}

@@ -1,12 +1,6 @@
 -- `entry_well`: the entry passes as blank, or the parts of the other test fail one after another.
 -- Assumes nothing.
-use mathlib.Core.Bool.{true}
-use mathlib.Core.List.{[]}
-use lib.Dec.{ltb}
-use mathlib.Core.Path.{_≡_, _∙_, sym}
-use native.Mathlib.Omega.{arith}
-use borrow.Author.Tests.{not-true, not-false, ltb-true}
-use borrow.Author.Needs.{needs}
+use Rattle.list_laws.proofs.Kit.{_∙_, _≡_, sym, true, [], arith, ltb, needs, ltb-true, not-false, not-true}
 use Rattle.model.specs.Lent.{jobOf}
 use Rattle.list_laws.proofs.Tests.{and-left}
 use Rattle.sheet_check.proofs.Entries.{blank-passes, free-fails, unknown-fails, inside-passes}

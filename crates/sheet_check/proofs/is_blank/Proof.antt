@@ -1,10 +1,6 @@
 -- `is_blank`: the first part that differs from the blank entry fails the test.
 -- Assumes nothing.
-use mathlib.Core.Bool.{true, false}
-use mathlib.Core.Path.{_≡_, _∙_}
-use lib.Dec.{eqb}
-use borrow.Author.Tests.{ne-eqb, eq-eqb}
-use borrow.Author.Needs.{needs}
+use Rattle.list_laws.proofs.Kit.{_∙_, _≡_, false, true, eqb, needs, eq-eqb, ne-eqb}
 use Rattle.model.specs.Piece.{degrees}
 use Rattle.model.specs.Cover.{isBlank}
 use Rattle.sheet_check.proofs.is_blank.Tie as tie

@@ -1,13 +1,9 @@
 -- `recount`: each count is the number of the pieces passed that are laid on its pixel.
 -- Assumes nothing.
-use mathlib.Core.Path.{_≡_, _∙_, sym, ap}
-use Prim.Native.Nat.{_≤_, _-_, _*_}
-use native.Mathlib.Omega.{arith}
-use lib.ListN.{length, replicate, length-replicate}
+use Rattle.list_laws.proofs.Kit.{_∙_, _≡_, ap, sym, _*_, _-_, _≤_, arith, length, length-replicate, replicate, needs}
 use Rattle.model.specs.Lent.{lentBy, jobOf}
 use Rattle.job_laws.proofs.Checked.{facts}
 use Rattle.sheet_check.proofs.recount.Tie as tie
-use borrow.Author.Needs.{needs}
 use Rattle.sheet_check.proofs.recount.Statement.{statement}
 use Rattle.sheet_check.proofs.Recounts.{CountedBelow, none-counted, added-below, all-counted, length-added}
 use Rattle.sheet_check.specs.Counted.{addedEntry}

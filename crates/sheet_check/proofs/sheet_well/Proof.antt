@@ -1,9 +1,6 @@
 -- `sheet_well`: the record has 64 entries by its type and the counts their length by the check before, so the two tests are left.
 -- Assumes nothing.
-use mathlib.Core.Bool.{true, false, _&&_}
-use mathlib.Core.Path.{_≡_, _∙_, sym}
-use borrow.Author.Tests.{not-true, not-false}
-use lib.ListN.{length, length-map}
+use Rattle.list_laws.proofs.Kit.{_∙_, _≡_, sym, _&&_, false, true, length, length-map, not-false, not-true}
 use Rattle.model.specs.Lent.{lentBy, jobOf, pieceBound}
 use Rattle.model.specs.Cover.{Sheet, entryWell, sheetWell}
 use Rattle.model.specs.Bounded.{allBelow}

@@ -1,13 +1,7 @@
 -- `clear`: zeros stand in front, and what was there before stands behind.
 -- Assumes nothing.
-use mathlib.Core.Path.{_≡_, refl, _∙_}
-use mathlib.Core.List.{_++_, append-nil}
-use Prim.Native.Nat.{_≤_, _<_, _-_}
-use native.Mathlib.Omega.{arith}
-use lib.ListN.{length, replicate, drop, length-set}
-use lib.Seq.{drop-length}
-use borrow.Author.Fill.{fill-none, fill-more}
-use borrow.Author.Needs.{needs}
+use Rattle.list_laws.proofs.Kit.{_∙_, _≡_, refl, _++_, append-nil, _-_, _<_, _≤_, arith, drop, length, length-set, replicate, drop-length, fill-more}
+use Rattle.list_laws.proofs.Kit.{fill-none, needs}
 use Rattle.sheet_counts.proofs.clear.Statement.{statement}
 use Rattle.sheet_counts.proofs.clear.Tie as tie
 

@@ -1,9 +1,6 @@
 -- `corner_number`: a coordinate is below 65,536 and the sheet has at most 4,096 columns, so the number fits.
 -- Assumes nothing.
-use Prim.Native.Nat.{_≤_, _*_}
-use native.Mathlib.Nat.{mul-le-mul}
-use native.Mathlib.Omega.{arith}
-use borrow.Author.Needs.{needs}
+use Rattle.list_laws.proofs.Kit.{_*_, _≤_, mul-le-mul, arith, needs}
 use Rattle.sheet_counts.proofs.corner_number.Statement.{statement}
 use Rattle.sheet_counts.proofs.corner_number.Tie as tie
 

@@ -1,8 +1,6 @@
 -- `move_piece`: the piece's box, its turned sides and its corner are what the laws of a piece on the sheet speak of.
 -- Assumes nothing.
-use mathlib.Core.Path.{refl, _∙_}
-use native.Mathlib.Omega.{arith}
-use borrow.Author.Needs.{needs}
+use Rattle.list_laws.proofs.Kit.{_∙_, refl, arith, needs}
 use Rattle.model.specs.Lent.{lentBy}
 use Rattle.job_laws.proofs.Checked.{facts}
 use Rattle.piece_pixels.proofs.Jobs.{entry-stored}

@@ -1,11 +1,6 @@
 -- `move_row`: what the columns that are left make of the present counts is what all columns make of the first ones.
 -- Assumes nothing.
-use mathlib.Core.Path.{_≡_, refl, sym, _∙_}
-use Prim.Native.Nat.{_≤_, _-_}
-use native.Mathlib.Omega.{arith}
-use native.Mathlib.Nat.{sub-zero}
-use lib.ListN.{length, length-set}
-use borrow.Author.Needs.{needs}
+use Rattle.list_laws.proofs.Kit.{_∙_, _≡_, refl, sym, _-_, _≤_, sub-zero, arith, length, length-set, needs}
 use Rattle.sheet_counts.proofs.move_row.Statement.{statement}
 use Rattle.sheet_counts.proofs.move_row.Tie as tie
 use Rattle.sheet_counts.specs.Stamp.{movedRun, onAt}

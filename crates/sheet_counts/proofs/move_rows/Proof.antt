@@ -1,12 +1,6 @@
 -- `move_rows`: what the rows that are left make of the present counts is what all rows make of the first ones.
 -- Assumes nothing.
-use mathlib.Core.Path.{_≡_, refl, sym, _∙_, ap}
-use Prim.Native.Nat.{ℕ, _≤_, _-_, _+_, _*_}
-use native.Mathlib.Nat.{sub-zero, zero-mul, suc-mul}
-use native.Mathlib.Numerals.{add-one}
-use native.Mathlib.Omega.{arith}
-use lib.ListN.{length}
-use borrow.Author.Needs.{needs}
+use Rattle.list_laws.proofs.Kit.{_∙_, _≡_, ap, refl, sym, _*_, _+_, _-_, _≤_, ℕ, add-one, sub-zero, suc-mul, zero-mul, arith, length, needs}
 use Rattle.sheet_counts.proofs.move_rows.Statement.{statement}
 use Rattle.sheet_counts.proofs.move_rows.Tie as tie
 use Rattle.sheet_counts.specs.Stamp.{movedRun, movedRows, onAt}

@@ -1,8 +1,6 @@
 -- `moved_count`: each way's tests say which clause of `moved` it is.
 -- Assumes nothing.
-use borrow.Author.Needs.{needs}
-use borrow.Author.Tests.{not-true, not-false, lt-ltb, le-ltb}
-use native.Mathlib.Omega.{arith}
+use Rattle.list_laws.proofs.Kit.{arith, needs, le-ltb, lt-ltb, not-false, not-true}
 use Rattle.sheet_counts.proofs.moved_count.Statement.{statement}
 use Rattle.sheet_counts.proofs.moved_count.Tie as tie
 

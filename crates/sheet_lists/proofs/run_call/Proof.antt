@@ -1,7 +1,6 @@
 -- `run_call`: the call that the numbers name is made, and on a ready sheet it comes to what the definition of a call says.
 -- Assumes nothing.
-use mathlib.Core.Path.{_∙_, ap}
-use borrow.Author.Needs.{needs}
+use Rattle.list_laws.proofs.Kit.{_∙_, ap, needs}
 use Rattle.model.specs.Cover.{afterwards}
 use Rattle.model.specs.Lent.{lentBy}
 use Rattle.model.specs.Calls.{layCall, withdrawCall}

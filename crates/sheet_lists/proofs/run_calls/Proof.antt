@@ -1,9 +1,6 @@
 -- `run_calls`: a refused fresh sheet is the answer. After a given one the calls run from the fresh sheet, and demand 2 holds of what they leave.
 -- Assumes nothing.
-use mathlib.Core.Path.{_≡_, sym, subst, _∙_, ap}
-use Prim.Native.Nat.{ℕ}
-use native.Mathlib.Omega.{arith}
-use borrow.Author.Needs.{needs}
+use Rattle.list_laws.proofs.Kit.{_∙_, _≡_, ap, subst, sym, ℕ, arith, needs}
 use Rattle.model.specs.Lent.{lentBy, jobOf}
 use Rattle.model.specs.Cover.{Sheet, fresh, afterCalls}
 use Rattle.job_laws.proofs.Checked.{facts}

@@ -1,10 +1,6 @@
 -- `run_from`: the calls that are left, from the present sheet, come to what all calls from the first one do.
 -- Assumes nothing.
-use mathlib.Core.Path.{_≡_, refl, sym, subst, _∙_, ap}
-use mathlib.Core.List.{[]}
-use Prim.Native.Nat.{_≤_, _-_, _+_}
-use native.Mathlib.Omega.{arith}
-use lib.ListN.{length, getD, drop}
+use Rattle.list_laws.proofs.Kit.{_∙_, _≡_, ap, refl, subst, sym, [], _+_, _-_, _≤_, arith, drop, getD, length}
 use Rattle.model.specs.Cover.{Sheet, called, afterwards, afterCalls}
 use Rattle.model.specs.Lent.{lentBy, jobOf}
 use Rattle.sheet_lists.proofs.CallLists.{ready-after, calls-step, calls-end}

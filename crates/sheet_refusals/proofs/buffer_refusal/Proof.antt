@@ -1,11 +1,6 @@
 -- `buffer_refusal`: each way's tests say which cause is the first.
 -- Assumes nothing.
-use mathlib.Core.Bool.{true, false}
-use mathlib.Core.Path.{_≡_, _∙_, sym}
-use Prim.Native.Nat.{_*_}
-use native.Mathlib.Omega.{arith}
-use borrow.Author.Tests.{not-true, not-false, eq-eqb, ne-eqb}
-use borrow.Author.Needs.{needs}
+use Rattle.list_laws.proofs.Kit.{_∙_, _≡_, sym, false, true, _*_, arith, needs, eq-eqb, ne-eqb, not-false, not-true}
 use Rattle.model.specs.Lent.{lentBy, lentWell}
 use Rattle.job_laws.proofs.Checked.{facts}
 use Rattle.sheet_refusals.specs.Causes.{firstNumber}

@@ -1,13 +1,6 @@
 -- `lay_refusal`: each way's tests say which cause is the first.
 -- Assumes nothing.
-use mathlib.Core.List.{[]}
-use mathlib.Core.Path.{_≡_, _∙_, sym}
-use mathlib.Core.Bool.{Bool, true, false, not, _&&_}
-use Prim.Native.Nat.{ℕ, _<_}
-use native.Mathlib.Omega.{arith}
-use lib.Dec.{ltb}
-use borrow.Author.Tests.{not-true, not-false, ltb-true}
-use borrow.Author.Needs.{needs}
+use Rattle.list_laws.proofs.Kit.{_∙_, _≡_, sym, Bool, _&&_, false, not, true, [], _<_, ℕ, arith, ltb, needs, ltb-true, not-false, not-true}
 use Rattle.model.specs.Lent.{lentBy, jobOf}
 use Rattle.model.specs.Cover.{layCauses}
 use Rattle.model.specs.Layout.{allowed, inside}

@@ -1,8 +1,6 @@
 -- `sheet_refusal`: the causes of the buffer come first; where none is there, the test of the sheet is left.
 -- Assumes nothing.
-use mathlib.Core.Path.{_∙_, sym}
-use borrow.Author.Needs.{needs}
-use borrow.Author.Tests.{not-true, not-false}
+use Rattle.list_laws.proofs.Kit.{_∙_, sym, needs, not-false, not-true}
 use Rattle.sheet_refusals.specs.Causes.{sheetOf}
 use Rattle.sheet_refusals.proofs.Buffers.{buffer-passed, sheet-number, sheet-number-8, sheet-number-0}
 use Rattle.sheet_refusals.proofs.sheet_refusal.Statement.{statement}

@@ -1,7 +1,6 @@
 -- `withdraw_refusal`: each way's tests say which cause is the first.
 -- Assumes nothing.
-use borrow.Author.Needs.{needs}
-use borrow.Author.Tests.{not-true, not-false, lt-ltb, le-ltb}
+use Rattle.list_laws.proofs.Kit.{needs, le-ltb, lt-ltb, not-false, not-true}
 use Rattle.model.specs.Cover.{withdrawCauses}
 use Rattle.model.specs.Lent.{jobOf}
 use Rattle.sheet_refusals.specs.Causes.{firstNumber}

@@ -1,8 +1,6 @@
 -- `strip_calls::strips` meets its contract: each refusal is the call's first cause, and the stores are filled where both have room. Assumes
 -- nothing.
-use mathlib.Core.Bool.{true, false}
-use mathlib.Core.Path.{_≡_, sym, ap, ap₂, _∙_}
-use borrow.Author.Tests.{not-true, not-false}
+use Rattle.list_laws.proofs.Kit.{_∙_, _≡_, ap, ap₂, sym, false, true, needs, not-false, not-true}
 use Rattle.model.specs.Lent.{Lent, lentBy, lentWell, jobOf}
 use Rattle.model.specs.Calls.{Stores, turnListWrong, storesAfter}
 use Rattle.job_laws.proofs.Checked.{facts}
@@ -12,7 +10,6 @@ use Rattle.strip_calls.specs.Stores.{storesBy}
 use Rattle.strip_calls.specs.Rooms.{roomForBoth, hasRoom}
 use Rattle.strip_store.proofs.Filling.{made-ready}
 use Rattle.strip_calls.proofs.Outcomes.{strips-job, strips-turns, strips-short, strips-given}
-use borrow.Author.Needs.{needs}
 use Rattle.strip_calls.proofs.strips.Statement.{statement}
 use Rattle.strip_calls.proofs.strips.Tie as tie
 

@@ -1,14 +1,8 @@
 -- `strip_check::at_place` meets its contract. The loop's invariant: no strip passed holds the place. Assumes nothing.
-use mathlib.Core.Bool.{false}
-use mathlib.Core.Path.{_≡_, sym, ap, _∙_}
-use Prim.Native.Nat.{ℕ, _-_, _≤_, _<_}
-use native.Mathlib.Omega.{arith}
-use lib.ListN.{length}
-use borrow.Author.Count.{below-more}
+use Rattle.list_laws.proofs.Kit.{_∙_, _≡_, ap, sym, false, _-_, _<_, _≤_, ℕ, arith, length, below-more, needs}
 use Rattle.list_laws.proofs.Searches.{any-found, any-missed}
 use Rattle.strip_check.specs.Check.{stripIn, reaches}
 use Rattle.strip_check.proofs.Reading.{read-is}
-use borrow.Author.Needs.{needs}
 use Rattle.strip_check.proofs.at_place.Statement.{statement}
 use Rattle.strip_check.proofs.at_place.Tie as tie
 

@@ -1,8 +1,5 @@
 -- `strip_check::fits` meets its contract. Assumes nothing.
-use Prim.Native.Nat.{_≤_, _<_}
-use native.Mathlib.Omega.{arith}
-use borrow.Author.Tests.{lt-ltb, le-ltb}
-use borrow.Author.Needs.{needs}
+use Rattle.list_laws.proofs.Kit.{_<_, _≤_, arith, needs, le-ltb, lt-ltb}
 use Rattle.strip_check.proofs.fits.Statement.{statement}
 use Rattle.strip_check.proofs.fits.Tie as tie
 

@@ -1,9 +1,7 @@
 -- `strip_check::in_order` meets its contract. Assumes nothing.
-use mathlib.Core.Path.{ap₂, _∙_}
-use borrow.Author.Tests.{eq-eqb, ne-eqb}
+use Rattle.list_laws.proofs.Kit.{_∙_, ap₂, needs, eq-eqb, ne-eqb}
 use Rattle.strip_check.proofs.Reading.{read-is}
 use Rattle.strip_check.specs.Check.{standsBefore, follows}
-use borrow.Author.Needs.{needs}
 use Rattle.strip_check.proofs.in_order.Statement.{statement}
 use Rattle.strip_check.proofs.in_order.Tie as tie
 

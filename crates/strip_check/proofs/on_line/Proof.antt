@@ -1,17 +1,9 @@
 -- `strip_check::on_line` meets its contract. The loop's invariant: no strip passed lies in the line. Assumes nothing.
-use mathlib.Core.Bool.{false}
-use mathlib.Core.Path.{_≡_, sym, ap, _∙_}
-use Prim.Native.Nat.{ℕ, _-_, _≤_, _<_}
-use native.Mathlib.Omega.{arith}
-use lib.Dec.{eqb}
-use lib.ListN.{length}
-use borrow.Author.Count.{below-more}
-use borrow.Author.Tests.{eq-eqb, ne-eqb}
+use Rattle.list_laws.proofs.Kit.{_∙_, _≡_, ap, sym, false, _-_, _<_, _≤_, ℕ, arith, eqb, length, below-more, needs, eq-eqb, ne-eqb}
 use Rattle.model.specs.Strip.{Strip}
 use Rattle.list_laws.proofs.Searches.{any-found, any-missed}
 use Rattle.strip_check.specs.Check.{stripIn}
 use Rattle.strip_check.proofs.Reading.{read-is}
-use borrow.Author.Needs.{needs}
 use Rattle.strip_check.proofs.on_line.Statement.{statement}
 use Rattle.strip_check.proofs.on_line.Tie as tie
 

@@ -1,6 +1,5 @@
 -- `strip_check::reaches_place` meets its contract. Assumes nothing.
-use borrow.Author.Tests.{le-leb, lt-leb}
-use borrow.Author.Needs.{needs}
+use Rattle.list_laws.proofs.Kit.{needs, le-leb, lt-leb}
 use Rattle.strip_check.proofs.reaches_place.Statement.{statement}
 use Rattle.strip_check.proofs.reaches_place.Tie as tie
 

@@ -1,9 +1,5 @@
 -- `strip_check::stands_before` meets its contract. Assumes nothing.
-use mathlib.Core.Path.{_≡_}
-use Prim.Native.Nat.{_≤_, _<_}
-use native.Mathlib.Omega.{arith}
-use borrow.Author.Tests.{lt-ltb, le-ltb, eq-eqb, ne-eqb}
-use borrow.Author.Needs.{needs}
+use Rattle.list_laws.proofs.Kit.{_≡_, _<_, _≤_, arith, needs, eq-eqb, le-ltb, lt-ltb, ne-eqb}
 use Rattle.strip_check.proofs.stands_before.Statement.{statement}
 use Rattle.strip_check.proofs.stands_before.Tie as tie
 

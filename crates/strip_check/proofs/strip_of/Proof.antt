@@ -1,9 +1,7 @@
 -- `strip_check::strip_of` meets its contract: an array of three has three numbers. Assumes nothing.
-use mathlib.Core.Path.{_≡_, sym, _∙_}
-use lib.ListN.{length}
+use Rattle.list_laws.proofs.Kit.{_∙_, _≡_, sym, length, needs}
 use Rattle.model.specs.Buffer.{stripEntry}
 use Rattle.strip_check.proofs.Reading.{three-numbers}
-use borrow.Author.Needs.{needs}
 use Rattle.strip_check.proofs.strip_of.Statement.{statement}
 use Rattle.strip_check.proofs.strip_of.Tie as tie
 

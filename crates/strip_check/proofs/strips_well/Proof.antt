@@ -1,18 +1,11 @@
 -- `strip_check::strips_well` meets its contract: valid strips are a piece's exactly where they reach the outer lines. Assumes nothing.
-use mathlib.Core.Bool.{Bool, true, _&&_}
-use mathlib.Core.Path.{_≡_, sym, _∙_}
-use Prim.Native.Nat.{_-_}
-use native.Mathlib.Omega.{arith}
-use lib.Dec.{eqb}
-use lib.ListN.{length}
-use borrow.Author.Tests.{not-true, not-false}
+use Rattle.list_laws.proofs.Kit.{_∙_, _≡_, sym, Bool, _&&_, true, _-_, arith, eqb, length, needs, not-false, not-true}
 use Rattle.model.specs.Bounded.{anyBelow}
 use Rattle.model.specs.Piece.{other}
 use Rattle.model.specs.Calls.{stripsWell}
 use Rattle.list_laws.proofs.Tests.{first-fails, second-fails}
 use Rattle.strip_check.specs.Check.{stripIn}
 use Rattle.strip_check.proofs.Edges.{touches, side-some, not-well-here, well-here}
-use borrow.Author.Needs.{needs}
 use Rattle.strip_check.proofs.strips_well.Statement.{statement}
 use Rattle.strip_check.proofs.strips_well.Tie as tie
 

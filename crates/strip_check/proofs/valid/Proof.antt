@@ -1,15 +1,9 @@
-use borrow.Author.Count.{below-more}
-use borrow.Author.Tests.{not-true, not-false}
+use Rattle.list_laws.proofs.Kit.{_∙_, _≡_, ap, sym, false≢true, true, _-_, _<_, _≤_, ℕ, arith, below-more, needs, not-false, not-true}
 use Rattle.list_laws.proofs.Searches.{all-passed, not-all}
 use Rattle.list_laws.proofs.Tests.{and-both, first-fails, second-fails}
 use Rattle.strip_check.proofs.Reading.{read-is, read-whole}
 -- `strip_check::valid` meets its contract. The loop's invariant: every strip passed is well. Assumes nothing.
-use mathlib.Core.Bool.{true, false≢true}
-use mathlib.Core.Path.{_≡_, sym, ap, _∙_}
-use Prim.Native.Nat.{ℕ, _-_, _≤_, _<_}
-use native.Mathlib.Omega.{arith}
 use Rattle.strip_check.specs.Check.{stripIn, fitsIn, wellAt, Whole}
-use borrow.Author.Needs.{needs}
 use Rattle.strip_check.proofs.valid.Statement.{statement}
 use Rattle.strip_check.proofs.valid.Tie as tie
 

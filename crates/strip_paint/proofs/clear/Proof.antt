@@ -1,11 +1,6 @@
 -- `strip_paint::clear` meets its contract. The loop's invariant: the pixels passed are 0, the others as at first. Assumes nothing.
-use mathlib.Core.List.{_++_}
-use mathlib.Core.Path.{_≡_, ap, _∙_}
-use Prim.Native.Nat.{_-_, _≤_}
-use native.Mathlib.Omega.{arith}
-use lib.ListN.{length, drop, replicate, length-append, length-replicate, length-drop}
-use borrow.Author.Fill.{fill-none, fill-more}
-use borrow.Author.Needs.{needs}
+use Rattle.list_laws.proofs.Kit.{_∙_, _≡_, ap, _++_, _-_, _≤_, arith, drop, length, length-append, length-drop, length-replicate, replicate, fill-more}
+use Rattle.list_laws.proofs.Kit.{fill-none, needs}
 use Rattle.strip_paint.proofs.clear.Statement.{statement}
 use Rattle.strip_paint.proofs.clear.Tie as tie
 

@@ -1,6 +1,6 @@
 -- `strip_paint::mark` meets its contract: a place of a buffer is one point. Assumes nothing.
 use Rattle.strip_paint.proofs.Painting.{one-painted}
-use borrow.Author.Needs.{needs}
+use Rattle.list_laws.proofs.Kit.{needs}
 use Rattle.strip_paint.proofs.mark.Statement.{statement}
 use Rattle.strip_paint.proofs.mark.Tie as tie
 

@@ -1,5 +1,5 @@
 -- `strip_paint::mark_cell` meets its contract. Assumes nothing.
-use borrow.Author.Needs.{needs}
+use Rattle.list_laws.proofs.Kit.{needs}
 use Rattle.strip_paint.proofs.mark_cell.Statement.{statement}
 use Rattle.strip_paint.proofs.mark_cell.Tie as tie
 

@@ -1,11 +1,9 @@
 -- `strip_paint::paint_strip` meets its contract. The loop's invariant: the part of the strip from `at` on is still to be set.
 -- Assumes nothing.
-use Prim.Native.Nat.{_-_, _≤_}
-use native.Mathlib.Omega.{arith}
+use Rattle.list_laws.proofs.Kit.{_-_, _≤_, arith, needs}
 use Rattle.model.specs.Strip.{stripHas}
 use Rattle.strip_check.specs.Check.{asStrip}
 use Rattle.strip_paint.proofs.Painting.{Painting, paint-start, paint-step, paint-end, partOf, part-whole, part-step, part-none, side-small, cell-room}
-use borrow.Author.Needs.{needs}
 use Rattle.strip_paint.proofs.paint_strip.Statement.{statement}
 use Rattle.strip_paint.proofs.paint_strip.Tie as tie
 

@@ -1,17 +1,12 @@
 -- `strip_paint::paint_strips` meets its contract. The loop's invariant: the strips from `i` on are still to be set.
 -- Assumes nothing.
-use mathlib.Core.List.{map}
-use mathlib.Core.Path.{refl, sym, subst}
-use Prim.Native.Nat.{_-_, _≤_}
-use native.Mathlib.Omega.{arith}
-use lib.ListN.{length, drop}
+use Rattle.list_laws.proofs.Kit.{refl, subst, sym, map, _-_, _≤_, arith, drop, length, needs}
 use Rattle.model.specs.Strip.{stripHas, stripsHave}
 use Rattle.model.specs.Buffer.{entryStrip}
 use Rattle.strip_laws.specs.Strips.{StripFits}
 use Rattle.strip_paint.specs.Paint.{Painted}
 use Rattle.strip_check.proofs.Reading.{read-is}
 use Rattle.strip_paint.proofs.Painting.{Painting, paint-start, paint-step, paint-end, strips-step, strips-none, room-again}
-use borrow.Author.Needs.{needs}
 use Rattle.strip_paint.proofs.paint_strips.Statement.{statement}
 use Rattle.strip_paint.proofs.paint_strips.Tie as tie
 

@@ -3,7 +3,7 @@ use Rattle.strip_check.proofs.Validity.{strip-listed}
 use Rattle.strip_check.proofs.Edges.{well-valid}
 use Rattle.strip_paint.proofs.Painting.{room-again}
 use Rattle.strip_paint.proofs.Written.{written}
-use borrow.Author.Needs.{needs}
+use Rattle.list_laws.proofs.Kit.{needs}
 use Rattle.strip_paint.proofs.write.Statement.{statement}
 use Rattle.strip_paint.proofs.write.Tie as tie
 

@@ -1,19 +1,12 @@
 -- `strip_rebuild_calls::rebuild` meets its contract: each refusal is the call's first cause, and nothing is written before the last of them.
 -- Assumes nothing.
-use mathlib.Core.Bool.{true}
-use mathlib.Core.Path.{_≡_, sym, ap, _∙_}
-use Prim.Native.Nat.{_*_, _≤_}
-use native.Mathlib.Nat.{mul-le-mul}
-use native.Mathlib.Omega.{arith}
-use borrow.Author.Tests.{not-true, not-false}
-use lib.ListN.{length}
+use Rattle.list_laws.proofs.Kit.{_∙_, _≡_, ap, sym, true, _*_, _≤_, mul-le-mul, arith, length, needs, not-false, not-true}
 use Rattle.model.specs.Lent.{upTo}
 use Rattle.model.specs.Piece.{sideBound}
 use Rattle.model.specs.Calls.{stripsWell, pixelsAfter}
 use Rattle.model.specs.Answers.{doneAnswer}
 use Rattle.strip_rebuild_calls.proofs.Again.{after-again}
 use Rattle.strip_rebuild_calls.proofs.Outcomes.{side-range, refused-columns, refused-rows, refused-strips, refused-room, given-set}
-use borrow.Author.Needs.{needs}
 use Rattle.strip_rebuild_calls.proofs.rebuild.Statement.{statement}
 use Rattle.strip_rebuild_calls.proofs.rebuild.Tie as tie
 

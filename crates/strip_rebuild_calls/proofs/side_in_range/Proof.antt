@@ -1,7 +1,5 @@
 -- `strip_rebuild_calls::side_in_range` meets its contract. Assumes nothing.
-use Prim.Native.Nat.{_≤_, _<_}
-use native.Mathlib.Omega.{arith}
-use borrow.Author.Tests.{le-leb, lt-leb}
+use Rattle.list_laws.proofs.Kit.{_<_, _≤_, arith, le-leb, lt-leb}
 use Rattle.strip_rebuild_calls.proofs.side_in_range.Statement.{statement}
 use Rattle.strip_rebuild_calls.proofs.side_in_range.Tie as tie
 

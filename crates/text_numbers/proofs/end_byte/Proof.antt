@@ -1,6 +1,5 @@
 -- `text_numbers::end_byte` meets its contract: byte 10 where no field is behind, a comma else. Assumes nothing.
-use native.Mathlib.Omega.{arith}
-use borrow.Author.Needs.{needs}
+use Rattle.list_laws.proofs.Kit.{arith, needs}
 use Rattle.text_numbers.proofs.Steps.{comma-before}
 use Rattle.text_numbers.proofs.end_byte.Statement.{statement}
 use Rattle.text_numbers.proofs.end_byte.Tie as tie

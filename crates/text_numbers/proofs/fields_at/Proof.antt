@@ -1,16 +1,11 @@
 -- `text_numbers::fields_at` meets its contract. The loop's invariant: the numbers so far, in front of the fields that are left, are what
 -- the whole reads. Assumes nothing.
-use mathlib.Core.List.{[]}
-use mathlib.Core.Path.{_≡_, refl, sym, _∙_}
-use Prim.Native.Nat.{_-_, _<_, _≤_}
-use native.Mathlib.Omega.{arith}
-use lib.ListN.{length, length-set}
+use Rattle.list_laws.proofs.Kit.{_∙_, _≡_, refl, sym, [], _-_, _<_, _≤_, arith, length, length-set, needs}
 use Rattle.model.specs.Text.{fieldAt, fieldsAt, got, wrong}
 use Rattle.text_fields.proofs.Steps.{got-of, wrong-of}
 use Rattle.text_fields.specs.declared.Number.the-variants as number
 use Rattle.text_numbers.specs.Lines.{fieldEnds}
 use Rattle.text_numbers.proofs.Steps.{readOn, read-none, read-more, read-wrong, read-all}
-use borrow.Author.Needs.{needs}
 use Rattle.text_numbers.proofs.fields_at.Statement.{statement}
 use Rattle.text_numbers.proofs.fields_at.Tie as tie
 

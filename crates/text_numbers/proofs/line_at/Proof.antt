@@ -1,11 +1,9 @@
 -- `text_numbers::line_at` meets its contract: wrong where the word does not stand, else what the fields behind it are. Assumes nothing.
-use mathlib.Core.Path.{_∙_}
-use native.Mathlib.Omega.{arith}
+use Rattle.list_laws.proofs.Kit.{_∙_, arith, needs}
 use Rattle.model.specs.Text.{fieldsAt}
 use Rattle.list_laws.proofs.Tests.{said-no, said-yes}
 use Rattle.text_fields.proofs.Steps.{after-not, after-word}
 use Rattle.text_numbers.specs.Lines.{fieldEnds}
-use borrow.Author.Needs.{needs}
 use Rattle.text_numbers.proofs.line_at.Statement.{statement}
 use Rattle.text_numbers.proofs.line_at.Tie as tie
 

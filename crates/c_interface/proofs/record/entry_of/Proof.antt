@@ -1,8 +1,5 @@
 -- `c_interface::record::entry_of` meets its contract: the two tests decide whether the numbers are an entry. Assumes nothing.
-use mathlib.Core.Path.{sym, _∙_}
-use native.Mathlib.Omega.{arith}
-use lib.ListN.{getD}
-use borrow.Author.Needs.{needs}
+use Rattle.list_laws.proofs.Kit.{_∙_, sym, arith, getD, needs}
 use Rattle.model.specs.Buffer.{turnOfDegrees}
 use Rattle.layout_places.proofs.Places.{unknown-none, known-some}
 use Rattle.c_interface.proofs.Entries.{laid-wrong, turn-wrong, numbers-right}

@@ -1,5 +1,5 @@
 -- `c_interface::record::numbers_of` meets its contract: laid is 1 or 0 by the test. Assumes nothing.
-use borrow.Author.Needs.{needs}
+use Rattle.list_laws.proofs.Kit.{needs}
 use Rattle.c_interface.proofs.record.numbers_of.Statement.{statement}
 use Rattle.c_interface.proofs.record.numbers_of.Tie as tie
 

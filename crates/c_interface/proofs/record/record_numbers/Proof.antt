@@ -1,9 +1,5 @@
 -- `c_interface::record::record_numbers` meets its contract. The loop's invariant: the entries passed are written as their numbers. Assumes nothing.
-use mathlib.Core.Path.{_≡_, sym, _∙_}
-use Prim.Native.Nat.{_-_, _≤_}
-use native.Mathlib.Omega.{arith}
-use lib.ListN.{length, length-map}
-use borrow.Author.Needs.{needs}
+use Rattle.list_laws.proofs.Kit.{_∙_, _≡_, sym, _-_, _≤_, arith, length, length-map, needs}
 use Rattle.model.specs.Cover.{blank}
 use Rattle.c_interface.specs.Records.{entryNumbers}
 use Rattle.c_interface.proofs.Mapped.{Mapped, mapped-begin, mapped-step, mapped-end}

@@ -1,10 +1,5 @@
 -- `c_interface::record::record_of` meets its contract. The loop's invariant: the entries passed are those that their numbers are. Assumes nothing.
-use mathlib.Core.Path.{_≡_, sym}
-use mathlib.Core.List.{[]}
-use Prim.Native.Nat.{_-_, _≤_}
-use native.Mathlib.Omega.{arith}
-use lib.ListN.{length}
-use borrow.Author.Needs.{needs}
+use Rattle.list_laws.proofs.Kit.{_≡_, sym, [], _-_, _≤_, arith, length, needs}
 use Rattle.c_interface.specs.Records.{entryOfNumbers}
 use Rattle.c_interface.proofs.Mapped.{Mapped, mapped-begin, mapped-step, mapped-end}
 use Rattle.c_interface.proofs.record.record_of.Statement.{statement}

@@ -1,5 +1,5 @@
 -- `c_interface::record::stray_entry` meets its contract by what `placement_of` ensures. Assumes nothing.
-use borrow.Author.Needs.{needs}
+use Rattle.list_laws.proofs.Kit.{needs}
 use Rattle.c_interface.proofs.record.stray_entry.Statement.{statement}
 use Rattle.c_interface.proofs.record.stray_entry.Tie as tie
 

@@ -1,10 +1,5 @@
 -- `job_calls::reader::fill_box`: the rows, then the box, whose pixels are those of the store. Assumes nothing.
-use mathlib.Core.Bool.{true, false}
-use mathlib.Core.Path.{_≡_, sym, _∙_, ap, subst}
-use Prim.Native.Nat.{suc, _+_, _≤_}
-use native.Mathlib.Numerals.{add-one}
-use native.Mathlib.Omega.{arith}
-use lib.ListN.{length}
+use Rattle.list_laws.proofs.Kit.{_∙_, _≡_, ap, subst, sym, false, true, _+_, _≤_, suc, add-one, arith, length, needs}
 use Rattle.model.specs.Piece.{tight}
 use Rattle.model.specs.JobText.{rowsAt, boxShape}
 use Rattle.list_laws.proofs.Tests.{said-no, said-yes}
@@ -15,7 +10,6 @@ use Rattle.job_rows.specs.declared.RowsAnswer.the-variants as rows
 use Rattle.job_calls.specs.declared.reader.PieceAnswer.the-variants as piece
 use Rattle.job_rows.proofs.Marks.{rows-facts}
 use Rattle.job_calls.proofs.Filling.{rows-told, rows-denied, box-same, box-denied, box-loose, box-given}
-use borrow.Author.Needs.{needs}
 use Rattle.job_calls.proofs.reader.fill_box.Statement.{statement}
 use Rattle.job_calls.proofs.reader.fill_box.Tie as tie
 

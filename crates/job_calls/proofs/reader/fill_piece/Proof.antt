@@ -1,8 +1,5 @@
 -- `job_calls::reader::fill_piece`: the line, then entry and rows. Assumes nothing.
-use mathlib.Core.Path.{_≡_, refl, sym, _∙_, ap, subst}
-use Prim.Native.Nat.{_≤_}
-use native.Mathlib.Omega.{arith}
-use lib.ListN.{length, set}
+use Rattle.list_laws.proofs.Kit.{_∙_, _≡_, ap, refl, subst, sym, _≤_, arith, length, set, needs}
 use Rattle.model.specs.JobText.{pieceLine}
 use Rattle.job_laws.proofs.Ranges.{few-turns}
 use Rattle.job_lines.specs.Lines.{jobLineOf, pieceLineOf, pieceNext, Ranged}
@@ -12,7 +9,6 @@ use Rattle.job_lines.specs.declared.PieceLineAnswer.the-variants as piece
 use Rattle.job_check.specs.Boxes.{Side}
 use Rattle.job_check.proofs.Boxes.{sides-of}
 use Rattle.job_calls.proofs.Filling.{line-denied, line-told, piece-denied, piece-boxed, box-entered}
-use borrow.Author.Needs.{needs}
 use Rattle.job_calls.proofs.reader.fill_piece.Statement.{statement}
 use Rattle.job_calls.proofs.reader.fill_piece.Tie as tie
 

@@ -1,10 +1,5 @@
 -- `job_calls::reader::fill_pieces`: storing the pieces that are left, behind those that are stored, is what is left of storing all. Assumes nothing.
-use mathlib.Core.Path.{_≡_, refl, sym, _∙_, ap, subst}
-use Prim.Native.Nat.{suc, _+_, _-_, _*_, _≤_}
-use native.Mathlib.Nat.{sub-zero}
-use native.Mathlib.Numerals.{add-one}
-use native.Mathlib.Omega.{arith}
-use lib.ListN.{length}
+use Rattle.list_laws.proofs.Kit.{_∙_, _≡_, ap, refl, subst, sym, _*_, _+_, _-_, _≤_, suc, add-one, sub-zero, arith, length, needs}
 use Rattle.model.specs.Refusal.{refused, given, wrongForm}
 use Rattle.model.specs.JobText.{pieceAt, piecesAt}
 use Rattle.job_lines.specs.Lines.{refusalAt, jobLineOf}
@@ -12,7 +7,6 @@ use Rattle.job_calls.specs.Reading.{PlaceWithin}
 use Rattle.job_calls.specs.declared.reader.PieceAnswer.the-variants as place
 use Rattle.job_calls.specs.declared.reader.PiecesAnswer.the-variants as pieces
 use Rattle.job_calls.proofs.Filling.{fillPieces, place-denied, pieces-denied, pieces-step, pieces-extra, pieces-end, pieces-given, pieces-refused}
-use borrow.Author.Needs.{needs}
 use Rattle.job_calls.proofs.reader.fill_pieces.Statement.{statement}
 use Rattle.job_calls.proofs.reader.fill_pieces.Tie as tie
 

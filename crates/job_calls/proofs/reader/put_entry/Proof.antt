@@ -1,7 +1,5 @@
 -- `job_calls::reader::put_entry`: a store past the end changes nothing. Assumes nothing.
-use mathlib.Core.Path.{sym}
-use lib.Seq.{set-out}
-use borrow.Author.Needs.{needs}
+use Rattle.list_laws.proofs.Kit.{sym, set-out, needs}
 use Rattle.job_calls.proofs.reader.put_entry.Statement.{statement}
 use Rattle.job_calls.proofs.reader.put_entry.Tie as tie
 

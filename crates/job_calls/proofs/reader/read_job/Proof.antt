@@ -1,13 +1,10 @@
 -- `job_calls::reader::read_job`: the job line, then the pieces. Assumes nothing.
-use mathlib.Core.Path.{_≡_, refl, sym, _∙_, subst}
-use Prim.Native.Nat.{_≤_}
-use lib.ListN.{length}
+use Rattle.list_laws.proofs.Kit.{_∙_, _≡_, refl, subst, sym, _≤_, length, needs}
 use Rattle.model.specs.JobText.{jobLine, readJob}
 use Rattle.job_lines.specs.Lines.{jobLineOf}
 use Rattle.job_calls.specs.Reading.{Leaves}
 use Rattle.job_lines.specs.declared.JobLineAnswer.the-variants as job
 use Rattle.job_calls.proofs.Filling.{head-denied, head-told, job-denied, job-roomed, leaves-refused}
-use borrow.Author.Needs.{needs}
 use Rattle.job_calls.proofs.reader.read_job.Statement.{statement}
 use Rattle.job_calls.proofs.reader.read_job.Tie as tie
 

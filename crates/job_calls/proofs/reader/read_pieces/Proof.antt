@@ -1,12 +1,5 @@
 -- `job_calls::reader::read_pieces`: a run over empty buffers writes nothing; with room for both, the second run fills them. Assumes nothing.
-use mathlib.Core.Bool.{true, false, _||_}
-use mathlib.Core.List.{List, _++_}
-use mathlib.Core.Path.{_≡_, refl, sym, _∙_, ap, subst}
-use Prim.Native.Nat.{ℕ, _≤_, _<_}
-use lib.Dec.{ltb}
-use lib.ListN.{length}
-use lib.Seq.{sets}
-use borrow.Author.Tests.{lt-ltb, le-ltb}
+use Rattle.list_laws.proofs.Kit.{_∙_, _≡_, ap, refl, subst, sym, _||_, false, true, List, _++_, _<_, _≤_, ℕ, ltb, length, sets, needs, le-ltb, lt-ltb}
 use Rattle.model.specs.Refusal.{given}
 use Rattle.model.specs.JobText.{piecesAt, asLent}
 use Rattle.list_laws.proofs.Lists.{nothing-before}
@@ -16,7 +9,6 @@ use Rattle.job_calls.specs.Reading.{PiecesStored, JobFilled, roomed, Lea
 use Rattle.job_calls.specs.declared.JobAnswer.the-variants as answer
 use Rattle.job_calls.specs.declared.reader.PiecesAnswer.the-variants as pieces
 use Rattle.job_calls.proofs.Filling.{pieces-told, pieces-not, pieces-count, room-denied, room-short, room-given, leaves-refused}
-use borrow.Author.Needs.{needs}
 use Rattle.job_calls.proofs.reader.read_pieces.Statement.{statement}
 use Rattle.job_calls.proofs.reader.read_pieces.Tie as tie
 

@@ -1,15 +1,7 @@
 -- `job_check::lent::all_bits`: the bytes before k are 0 or 1. Assumes nothing.
-use mathlib.Core.Bool.{true}
-use mathlib.Core.Path.{_≡_, sym}
-use Prim.Native.Nat.{ℕ, _≤_, _<_, _-_}
-use native.Mathlib.Omega.{arith}
-use lib.Dec.{leb}
-use lib.ListN.{getD}
-use borrow.Author.Count.{below-none, below-more}
-use borrow.Author.Tests.{le-leb, lt-leb}
+use Rattle.list_laws.proofs.Kit.{_≡_, sym, true, _-_, _<_, _≤_, ℕ, arith, leb, getD, below-more, below-none, needs, le-leb, lt-leb}
 use Rattle.list_laws.proofs.Searches.{not-all}
 use Rattle.list_laws.proofs.Bounded.{all-from}
-use borrow.Author.Needs.{needs}
 use Rattle.job_check.proofs.lent.all_bits.Statement.{statement}
 use Rattle.job_check.proofs.lent.all_bits.Tie as tie
 

@@ -1,14 +1,10 @@
 -- `job_check::lent::box_tight` looks along the four lines of its definition, bottom, top, left and right. Assumes nothing.
-use mathlib.Core.Bool.{true, false}
-use mathlib.Core.Path.{_≡_, sym, _∙_}
-use Prim.Native.Nat.{_-_}
-use native.Mathlib.Omega.{arith}
+use Rattle.list_laws.proofs.Kit.{_∙_, _≡_, sym, false, true, _-_, arith, needs}
 use Rattle.model.specs.Piece.{tight, holds}
 use Rattle.model.specs.declared.Direction.the-variants.{Horizontal, Vertical}
 use Rattle.list_laws.proofs.Tests.{said-no, said-yes}
 use Rattle.job_check.specs.Boxes.{boxIn}
 use Rattle.job_check.proofs.Boxes.{row-marks, column-marks, last-row}
-use borrow.Author.Needs.{needs}
 use Rattle.job_check.proofs.lent.box_tight.Statement.{statement}
 use Rattle.job_check.proofs.lent.box_tight.Tie as tie
 

@@ -1,17 +1,11 @@
 -- `job_check::lent::boxes_tight`: the boxes before i are tight, and the pixels of piece i begin at `start`. Assumes nothing.
-use mathlib.Core.Bool.{Bool, true}
-use mathlib.Core.Path.{_≡_, refl, sym}
-use Prim.Native.Nat.{ℕ, _≤_, _<_, _*_, _-_}
-use native.Mathlib.Numerals.{add-one}
-use native.Mathlib.Omega.{arith}
-use borrow.Author.Count.{below-none, below-more}
+use Rattle.list_laws.proofs.Kit.{_≡_, refl, sym, Bool, true, _*_, _-_, _<_, _≤_, ℕ, add-one, arith, below-more, below-none, needs}
 use Rattle.model.specs.Piece.{tight}
 use Rattle.model.specs.Lent.{pixelStart, entryArea}
 use Rattle.list_laws.proofs.Searches.{not-all}
 use Rattle.list_laws.proofs.Tests.{said-no, said-yes}
 use Rattle.list_laws.proofs.Bounded.{all-from}
 use Rattle.job_check.specs.Boxes.{storedBox}
-use borrow.Author.Needs.{needs}
 use Rattle.job_check.proofs.lent.boxes_tight.Statement.{statement}
 use Rattle.job_check.proofs.lent.boxes_tight.Tie as tie
 

@@ -1,10 +1,9 @@
 -- `job_check::lent::check_job` checks table, store, bytes and boxes in the order of `lentWell`, whose first five parts are those of a table.
 -- Assumes nothing.
-use borrow.Author.Tests.{lt-leb, le-leb}
+use Rattle.list_laws.proofs.Kit.{needs, le-leb, lt-leb}
 use Rattle.model.specs.Lent.{lentWell}
 use Rattle.list_laws.proofs.Tests.{said-no, said-yes}
 use Rattle.job_check.proofs.Boxes.{table-facts}
-use borrow.Author.Needs.{needs}
 use Rattle.job_check.proofs.lent.check_job.Statement.{statement}
 use Rattle.job_check.proofs.lent.check_job.Tie as tie
 

@@ -1,14 +1,9 @@
 -- `job_check::lent::entries_in_range`: the entries before i are in range. Assumes nothing.
-use mathlib.Core.Bool.{true}
-use mathlib.Core.Path.{_≡_, sym}
-use Prim.Native.Nat.{ℕ, _≤_, _<_, _-_}
-use native.Mathlib.Omega.{arith}
-use borrow.Author.Count.{below-none, below-more}
+use Rattle.list_laws.proofs.Kit.{_≡_, sym, true, _-_, _<_, _≤_, ℕ, arith, below-more, below-none, needs}
 use Rattle.model.specs.Lent.{entryInRange}
 use Rattle.list_laws.proofs.Searches.{not-all}
 use Rattle.list_laws.proofs.Tests.{said-no, said-yes}
 use Rattle.list_laws.proofs.Bounded.{all-from}
-use borrow.Author.Needs.{needs}
 use Rattle.job_check.proofs.lent.entries_in_range.Statement.{statement}
 use Rattle.job_check.proofs.lent.entries_in_range.Tie as tie
 

@@ -1,8 +1,6 @@
 -- `job_check::lent::entry_fits` makes the tests of its definition in their order. Assumes nothing.
-use Prim.Native.Nat.{_≤_, _<_}
-use borrow.Author.Tests.{le-leb, lt-leb}
+use Rattle.list_laws.proofs.Kit.{_<_, _≤_, needs, le-leb, lt-leb}
 use Rattle.model.specs.Lent.{entryColumns, entryFits}
-use borrow.Author.Needs.{needs}
 use Rattle.job_check.proofs.lent.entry_fits.Statement.{statement}
 use Rattle.job_check.proofs.lent.entry_fits.Tie as tie
 

@@ -1,7 +1,6 @@
 -- `job_check::lent::entry_in_range` takes the three numbers from the table. Assumes nothing.
-use mathlib.Core.Path.{_∙_}
+use Rattle.list_laws.proofs.Kit.{_∙_, needs}
 use Rattle.model.specs.Lent.{entryInRange}
-use borrow.Author.Needs.{needs}
 use Rattle.job_check.proofs.lent.entry_in_range.Statement.{statement}
 use Rattle.job_check.proofs.lent.entry_in_range.Tie as tie
 

@@ -1,10 +1,6 @@
 -- `job_check::lent::pixel_start`: the sum is that of the areas before k, and at most 65,025 for each of at most 64. Assumes nothing.
-use mathlib.Core.Path.{_≡_, refl}
-use Prim.Native.Nat.{_≤_, _*_, _-_}
-use native.Mathlib.Numerals.{add-one}
-use native.Mathlib.Omega.{arith}
+use Rattle.list_laws.proofs.Kit.{_≡_, refl, _*_, _-_, _≤_, add-one, arith, needs}
 use Rattle.model.specs.Lent.{pixelStart, entryArea}
-use borrow.Author.Needs.{needs}
 use Rattle.job_check.proofs.lent.pixel_start.Statement.{statement}
 use Rattle.job_check.proofs.lent.pixel_start.Tie as tie
 

@@ -1,15 +1,6 @@
 -- `job_check::lent::some_mark`: none of the bytes before k is the mark. Assumes nothing.
-use mathlib.Core.Bool.{Bool, true, false}
-use mathlib.Core.Path.{_≡_, sym, _∙_}
-use Prim.Native.Nat.{ℕ, _≤_, _<_, _*_, _+_, _-_}
-use native.Mathlib.Nat.{suc-mul}
-use native.Mathlib.Numerals.{add-one}
-use native.Mathlib.Omega.{arith}
-use lib.Dec.{eqb}
-use lib.ListN.{getD}
-use borrow.Author.Count.{below-none, below-more}
-use borrow.Author.Tests.{eq-eqb, ne-eqb}
-use borrow.Author.Needs.{needs}
+use Rattle.list_laws.proofs.Kit.{_∙_, _≡_, sym, Bool, false, true, _*_, _+_, _-_, _<_, _≤_, ℕ, add-one, suc-mul, arith, eqb, getD, below-more, below-none}
+use Rattle.list_laws.proofs.Kit.{needs, eq-eqb, ne-eqb}
 use Rattle.list_laws.proofs.Bounded.{any-from, none-any}
 use Rattle.job_check.proofs.lent.some_mark.Statement.{statement}
 use Rattle.job_check.proofs.lent.some_mark.Tie as tie

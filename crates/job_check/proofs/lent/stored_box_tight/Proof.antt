@@ -1,7 +1,6 @@
 -- `job_check::lent::stored_box_tight` takes sides and start of the box from its entry. Assumes nothing.
-use native.Mathlib.Omega.{arith}
+use Rattle.list_laws.proofs.Kit.{arith, needs}
 use Rattle.job_check.proofs.Boxes.{sides}
-use borrow.Author.Needs.{needs}
 use Rattle.job_check.proofs.lent.stored_box_tight.Statement.{statement}
 use Rattle.job_check.proofs.lent.stored_box_tight.Tie as tie
 

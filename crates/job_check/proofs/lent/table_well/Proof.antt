@@ -1,9 +1,7 @@
 -- `job_check::lent::table_well` makes the tests of its definition in their order. Assumes nothing.
-use native.Mathlib.Omega.{arith}
-use borrow.Author.Tests.{lt-leb, le-leb}
+use Rattle.list_laws.proofs.Kit.{arith, needs, le-leb, lt-leb}
 use Rattle.list_laws.proofs.Tests.{said-no, said-yes}
 use Rattle.job_laws.proofs.Ranges.{sheet-few}
-use borrow.Author.Needs.{needs}
 use Rattle.job_check.proofs.lent.table_well.Statement.{statement}
 use Rattle.job_check.proofs.lent.table_well.Tie as tie
 

@@ -1,10 +1,7 @@
 -- `layout_places::numbers::pair_count` meets its contract: n pieces have n(n - 1)/2 pairs. Assumes nothing.
-use Prim.Native.Nat.{_*_, _-_, _≤_}
-use native.Mathlib.Omega.{arith}
+use Rattle.list_laws.proofs.Kit.{_*_, _-_, _≤_, mul-le-mul, mul-one, mul-sub, arith, needs}
 use Rattle.model.specs.Layout.{pairsFrom}
-use native.Mathlib.Nat.{mul-le-mul, mul-sub, mul-one}
 use Rattle.descent_laws.proofs.Bounds.{pairs-length}
-use borrow.Author.Needs.{needs}
 use Rattle.layout_places.proofs.numbers.pair_count.Statement.{statement}
 use Rattle.layout_places.proofs.numbers.pair_count.Tie as tie
 

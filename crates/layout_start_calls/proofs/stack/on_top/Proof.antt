@@ -1,5 +1,5 @@
 -- `layout_start_calls::stack::on_top` meets its contract by what it is told of the side and the smaller number. Assumes nothing.
-use borrow.Author.Needs.{needs}
+use Rattle.list_laws.proofs.Kit.{needs}
 use Rattle.model.specs.Lent.{jobOf}
 use Rattle.layout_start_calls.proofs.stack.on_top.Statement.{statement}
 use Rattle.layout_start_calls.proofs.stack.on_top.Tie as tie

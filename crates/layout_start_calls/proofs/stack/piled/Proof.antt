@@ -1,6 +1,5 @@
 -- `layout_start_calls::stack::piled` meets its contract by what it is told of the sides. Assumes nothing.
-use native.Mathlib.Omega.{arith}
-use borrow.Author.Needs.{needs}
+use Rattle.list_laws.proofs.Kit.{arith, needs}
 use Rattle.model.specs.Lent.{jobOf}
 use Rattle.layout_start_calls.proofs.stack.piled.Statement.{statement}
 use Rattle.layout_start_calls.proofs.stack.piled.Tie as tie

@@ -1,8 +1,5 @@
 -- `layout_start_calls::stack::room_for` meets its contract by its test. Assumes nothing.
-use mathlib.Core.Path.{sym}
-use Prim.Native.Nat.{_+_, _<_, _≤_}
-use native.Mathlib.Omega.{arith}
-use borrow.Author.Needs.{needs}
+use Rattle.list_laws.proofs.Kit.{sym, _+_, _<_, _≤_, arith, needs}
 use Rattle.model.specs.Lent.{lentBy, jobOf, entryRows}
 use Rattle.layout_start_calls.specs.Stacks.{stackOf}
 use Rattle.layout_start_calls.proofs.Stacks.{room-new, room-same}

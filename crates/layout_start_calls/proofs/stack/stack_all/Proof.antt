@@ -1,16 +1,11 @@
 -- `layout_start_calls::stack::stack_all` meets its contract. The loop's invariant: stacking what is left of the order comes to what stacking all
 -- of it comes to; the pile ends within 255 columns a piece and stays below the sheet's top. Assumes nothing.
-use mathlib.Core.List.{List, []}
-use mathlib.Core.Path.{_≡_, refl, sym, ap, _∙_}
-use Prim.Native.Nat.{ℕ, _+_, _*_, _≤_, _<_, _-_}
-use native.Mathlib.Omega.{arith}
-use lib.ListN.{length, getD, take, drop, length-set, length-take, drop-of-length-le}
-use lib.Seq.{getD-take, length-take-le}
+use Rattle.list_laws.proofs.Kit.{_∙_, _≡_, ap, refl, sym, List, [], _*_, _+_, _-_, _<_, _≤_, ℕ, arith, drop, drop-of-length-le, getD, length, length-set}
+use Rattle.list_laws.proofs.Kit.{length-take, take, getD-take, length-take-le, needs}
 use Rattle.model.specs.Lent.{lentBy, jobOf}
 use Rattle.model.specs.Buffer.{entryOf}
 use Rattle.layout_start_calls.specs.Stacks.{stackOf, emptyStack, stackEntries}
 use Rattle.layout_start_calls.proofs.Stacks.{stack-step}
-use borrow.Author.Needs.{needs}
 use Rattle.layout_start_calls.proofs.stack.stack_all.Statement.{statement}
 use Rattle.layout_start_calls.proofs.stack.stack_all.Tie as tie
 

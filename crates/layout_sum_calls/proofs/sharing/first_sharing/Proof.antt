@@ -1,10 +1,6 @@
 -- `layout_sum_calls::sharing::first_sharing` meets its contract. The loop's invariant: the first pair that shares a pixel is among those of the
 -- rows left. Assumes nothing.
-use mathlib.Core.List.{List}
-use mathlib.Core.Path.{_≡_, sym, ap, _∙_}
-use Prim.Native.Nat.{ℕ, _-_}
-use native.Mathlib.Omega.{arith}
-use lib.ListN.{length}
+use Rattle.list_laws.proofs.Kit.{_∙_, _≡_, ap, sym, List, _-_, ℕ, arith, length}
 use Rattle.model.specs.Layout.{pairShares, pairsFrom, firstPair, sharingPair}
 use Rattle.model.specs.Lent.{lentBy, jobOf}
 use Rattle.model.specs.Buffer.{layoutOf}

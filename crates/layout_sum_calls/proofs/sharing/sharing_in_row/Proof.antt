@@ -1,16 +1,12 @@
 -- `layout_sum_calls::sharing::sharing_in_row` meets its contract. The loop's invariant: the row's first pair that shares a pixel is among those
 -- left. Assumes nothing.
-use mathlib.Core.List.{List}
-use mathlib.Core.Path.{sym, _∙_}
-use Prim.Native.Nat.{ℕ, _-_}
-use lib.ListN.{length}
+use Rattle.list_laws.proofs.Kit.{_∙_, sym, List, _-_, ℕ, length, needs}
 use Rattle.model.specs.Layout.{pairShares}
 use Rattle.model.specs.Lent.{lentBy, jobOf}
 use Rattle.model.specs.Buffer.{layoutOf}
 use Rattle.model.specs.declared.JobSize.{JobSize}
 use Rattle.search_table.specs.Drawn.{RowsDrawn}
 use Rattle.layout_sum_calls.proofs.FirstPair.{LeftInRow, row-begin, row-first, row-next, row-none}
-use borrow.Author.Needs.{needs}
 use Rattle.layout_sum_calls.proofs.sharing.sharing_in_row.Statement.{statement}
 use Rattle.layout_sum_calls.proofs.sharing.sharing_in_row.Tie as tie
 

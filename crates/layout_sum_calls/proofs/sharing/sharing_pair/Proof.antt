@@ -1,8 +1,7 @@
 -- `layout_sum_calls::sharing::sharing_pair` meets its contract: the row strips of every piece in every turn are made, and the pairs walked over.
 -- Assumes nothing.
-use mathlib.Core.Path.{sym}
+use Rattle.list_laws.proofs.Kit.{sym, needs}
 use Rattle.search_shapes.proofs.Rooms.{room-of}
-use borrow.Author.Needs.{needs}
 use Rattle.layout_sum_calls.proofs.sharing.sharing_pair.Statement.{statement}
 use Rattle.layout_sum_calls.proofs.sharing.sharing_pair.Tie as tie
 

@@ -1,6 +1,5 @@
 -- `run_memory::memory::empty_lines` meets its contract. Assumes nothing.
-use Prim.Native.Nat.{ℕ}
-use lib.ListN.{length-replicate}
+use Rattle.list_laws.proofs.Kit.{ℕ, length-replicate}
 use Rattle.run_memory.proofs.memory.empty_lines.Statement.{statement}
 use Rattle.run_memory.proofs.memory.empty_lines.Tie as tie
 

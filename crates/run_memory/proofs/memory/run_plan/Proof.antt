@@ -1,10 +1,9 @@
 -- `run_memory::memory::run_plan` meets its contract, by the plan. Assumes nothing.
-use mathlib.Core.Path.{sym, subst}
+use Rattle.list_laws.proofs.Kit.{subst, sym, needs}
 use Rattle.model.specs.Lent.{Lent, lentBy}
 use Rattle.run_memory.specs.Done.{FewRounds, Done}
 use Rattle.run_memory.specs.declared.memory.Plan.{Plan}
 use Rattle.run_memory.specs.declared.memory.PlanOutcome.{PlanOutcome}
-use borrow.Author.Needs.{needs}
 use Rattle.run_memory.proofs.memory.run_plan.Statement.{statement}
 use Rattle.run_memory.proofs.memory.run_plan.Tie as tie
 

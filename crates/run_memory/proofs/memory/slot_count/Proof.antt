@@ -1,6 +1,6 @@
 -- `run_memory::memory::slot_count` meets its contract. Assumes nothing.
 use Rattle.run_memory.proofs.Fresh.{slots-of}
-use borrow.Author.Needs.{needs}
+use Rattle.list_laws.proofs.Kit.{needs}
 use Rattle.run_memory.proofs.memory.slot_count.Statement.{statement}
 use Rattle.run_memory.proofs.memory.slot_count.Tie as tie
 

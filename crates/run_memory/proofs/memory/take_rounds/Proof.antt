@@ -1,15 +1,10 @@
 -- `run_memory::memory::take_rounds` meets its contract: the layout at hand begins as the given one. Assumes nothing.
-use mathlib.Core.List.{List, [], _∷_, _++_}
-use mathlib.Core.Path.{_≡_, sym, _∙_, ap, subst}
-use Prim.Native.Nat.{ℕ, _≤_}
-use native.Mathlib.Omega.{arith}
-use lib.ListN.{length, take, replicate, length-replicate, length-append}
-use lib.Seq.{length-take-le, take-at}
+use Rattle.list_laws.proofs.Kit.{_∙_, _≡_, ap, subst, sym, List, [], _++_, _∷_, _≤_, ℕ, arith, length, length-append, length-replicate, replicate, take}
+use Rattle.list_laws.proofs.Kit.{length-take-le, take-at, needs}
 use Rattle.model.specs.Lent.{Lent, lentBy, pieceBound}
 use Rattle.job_laws.proofs.Checked.{facts}
 use Rattle.run_step.specs.Ready.{LaidOut}
 use Rattle.run_rounds.specs.Rounds.{Ran}
-use borrow.Author.Needs.{needs}
 use Rattle.run_memory.proofs.memory.take_rounds.Statement.{statement}
 use Rattle.run_memory.proofs.memory.take_rounds.Tie as tie
 

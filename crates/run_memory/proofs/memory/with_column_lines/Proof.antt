@@ -1,15 +1,11 @@
 -- `run_memory::memory::with_column_lines` meets its contract: fresh tags name no line, and the table is the layout's. Assumes nothing.
-use mathlib.Core.Path.{refl, sym, subst}
-use Prim.Native.Nat.{ℕ}
-use native.Mathlib.Omega.{arith}
-use lib.ListN.{length-replicate}
+use Rattle.list_laws.proofs.Kit.{refl, subst, sym, ℕ, arith, length-replicate, needs}
 use Rattle.model.specs.Lent.{Lent, lentBy, jobOf}
 use Rattle.model.specs.Buffer.{layoutOf}
 use Rattle.model.specs.declared.Direction.the-variants.{Vertical}
 use Rattle.search_laws.specs.Table.{PenaltyTable}
 use Rattle.search_table.specs.Drawn.{Drawn}
 use Rattle.run_memory.proofs.Fresh.{tags-lent, store-fresh}
-use borrow.Author.Needs.{needs}
 use Rattle.run_memory.proofs.memory.with_column_lines.Statement.{statement}
 use Rattle.run_memory.proofs.memory.with_column_lines.Tie as tie
 

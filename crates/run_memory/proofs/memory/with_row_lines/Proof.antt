@@ -1,10 +1,9 @@
 -- `run_memory::memory::with_row_lines` meets its contract: fresh tags name no line, and every line fits a slot. Assumes nothing.
-use mathlib.Core.Path.{sym}
+use Rattle.list_laws.proofs.Kit.{sym, needs}
 use Rattle.model.specs.Lent.{Lent, lentBy, jobOf}
 use Rattle.model.specs.declared.Direction.the-variants.{Horizontal}
 use Rattle.job_laws.proofs.Checked.{facts}
 use Rattle.run_memory.proofs.Fresh.{tags-lent, store-fresh}
-use borrow.Author.Needs.{needs}
 use Rattle.run_memory.proofs.memory.with_row_lines.Statement.{statement}
 use Rattle.run_memory.proofs.memory.with_row_lines.Tie as tie
 

@@ -1,7 +1,6 @@
 -- `run_memory::memory::with_strips` meets its contract: the strips are made in both directions. Assumes nothing.
-use mathlib.Core.Path.{sym}
+use Rattle.list_laws.proofs.Kit.{sym, needs}
 use Rattle.search_shapes.proofs.Rooms.{room-of}
-use borrow.Author.Needs.{needs}
 use Rattle.run_memory.proofs.memory.with_strips.Statement.{statement}
 use Rattle.run_memory.proofs.memory.with_strips.Tie as tie
 

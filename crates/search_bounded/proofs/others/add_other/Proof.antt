@@ -1,15 +1,11 @@
 -- `search_bounded::others::add_other` meets its contract: the piece itself has no part, one that reaches no place below the bound may be left out, and
 -- another's part is added. Assumes nothing.
-use mathlib.Core.Path.{refl, sym, _∙_}
-use Prim.Native.Nat.{_-_}
-use native.Mathlib.Omega.{arith}
-use borrow.Author.Tests.{not-true}
+use Rattle.list_laws.proofs.Kit.{_∙_, refl, sym, _-_, arith, needs, not-true}
 use Rattle.model.specs.Lent.{lentBy, jobOf}
 use Rattle.model.specs.Buffer.{layoutOf}
 use Rattle.job_laws.proofs.Checked.{facts}
 use Rattle.search_bounded.proofs.Readings.{piece-entries, part-most}
 use Rattle.search_bounded.proofs.Summing.{summed-self, sums-to-add, summed-left, summed-unread, summed-added}
-use borrow.Author.Needs.{needs}
 use Rattle.search_bounded.proofs.others.add_other.Statement.{statement}
 use Rattle.search_bounded.proofs.others.add_other.Tie as tie
 

@@ -1,8 +1,5 @@
 -- `search_bounded::others::add_others` meets its contract. The loop's invariant: the sums are those of the pieces passed. Assumes nothing.
-use mathlib.Core.Path.{_≡_, refl, _∙_, subst}
-use Prim.Native.Nat.{_-_, _≤_}
-use native.Mathlib.Omega.{arith}
-use lib.ListN.{length}
+use Rattle.list_laws.proofs.Kit.{_∙_, _≡_, refl, subst, _-_, _≤_, arith, length}
 use Rattle.model.specs.Piece.{lineDirection}
 use Rattle.model.specs.Lent.{lentBy, jobOf}
 use Rattle.model.specs.Buffer.{layoutOf}

@@ -1,11 +1,9 @@
 -- `search_bounded::others::add_reached` meets its contract: the kept line is read from where the places in reach begin in it. Assumes nothing.
-use native.Mathlib.Omega.{arith}
-use lib.ListN.{length-take, length-drop}
+use Rattle.list_laws.proofs.Kit.{arith, length-drop, length-take, needs}
 use Rattle.model.specs.Lent.{lentBy}
 use Rattle.model.specs.Buffer.{layoutOf}
 use Rattle.job_laws.proofs.Checked.{facts}
 use Rattle.search_bounded.proofs.Readings.{weight-pairs, weight-small, reach-within, reach-added}
-use borrow.Author.Needs.{needs}
 use Rattle.search_bounded.proofs.others.add_reached.Statement.{statement}
 use Rattle.search_bounded.proofs.others.add_reached.Tie as tie
 

@@ -1,5 +1,5 @@
 -- `search_bounded::others::beside` meets its contract. Assumes nothing.
-use borrow.Author.Needs.{needs}
+use Rattle.list_laws.proofs.Kit.{needs}
 use Rattle.search_bounded.proofs.others.beside.Statement.{statement}
 use Rattle.search_bounded.proofs.others.beside.Tie as tie
 

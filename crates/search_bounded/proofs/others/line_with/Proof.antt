@@ -1,7 +1,7 @@
 -- `search_bounded::others::line_with` meets its contract: a kept line serves every two corners with its offset across. Assumes nothing.
 use Rattle.model.specs.Lent.{lentBy}
 use Rattle.search_bounded.proofs.Readings.{line-asked, line-kept, line-ready, line-read}
-use borrow.Author.Needs.{needs}
+use Rattle.list_laws.proofs.Kit.{needs}
 use Rattle.search_bounded.proofs.others.line_with.Statement.{statement}
 use Rattle.search_bounded.proofs.others.line_with.Tie as tie
 

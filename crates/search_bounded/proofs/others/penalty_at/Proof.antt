@@ -1,12 +1,9 @@
 -- `search_bounded::others::penalty_at` meets its contract: 0 out of reach, else read from the kept line. Assumes nothing.
-use mathlib.Core.Logic.{inl, inr}
-use mathlib.Core.Path.{sym}
-use native.Mathlib.Omega.{arith}
+use Rattle.list_laws.proofs.Kit.{sym, inl, inr, arith, needs}
 use Rattle.model.specs.Lent.{lentBy}
 use Rattle.model.specs.Buffer.{layoutOf}
 use Rattle.search_bounded.proofs.Readings.{piece-entries, reach-within, reach-at}
 use Rattle.search_bounded.proofs.Summing.{outside-zero}
-use borrow.Author.Needs.{needs}
 use Rattle.search_bounded.proofs.others.penalty_at.Statement.{statement}
 use Rattle.search_bounded.proofs.others.penalty_at.Tie as tie
 

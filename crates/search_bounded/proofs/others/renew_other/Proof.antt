@@ -1,7 +1,5 @@
 -- `search_bounded::others::renew_other` meets its contract: the mover itself is passed over, else both entries are set. Assumes nothing.
-use mathlib.Core.Path.{sym, _∙_}
-use native.Mathlib.Omega.{arith}
-use lib.ListN.{length-set}
+use Rattle.list_laws.proofs.Kit.{_∙_, sym, arith, length-set, needs}
 use Rattle.model.specs.Piece.{onLine}
 use Rattle.model.specs.Lent.{lentBy, jobOf}
 use Rattle.model.specs.Buffer.{layoutOf}
@@ -9,7 +7,6 @@ use Rattle.job_laws.proofs.Checked.{facts}
 use Rattle.search_laws.proofs.PieceSum.{penalty-on}
 use Rattle.search_laws.proofs.Table.{renewed-step}
 use Rattle.search_bounded.proofs.Renewing.{renewed-own}
-use borrow.Author.Needs.{needs}
 use Rattle.search_bounded.proofs.others.renew_other.Statement.{statement}
 use Rattle.search_bounded.proofs.others.renew_other.Tie as tie
 

@@ -1,9 +1,6 @@
 -- `search_bounded::others::renew_others` meets its contract. The loop's invariant: the entries of the mover with the pieces passed are made.
 -- Assumes nothing.
-use mathlib.Core.Path.{_≡_, refl, _∙_, subst}
-use Prim.Native.Nat.{_-_, _≤_}
-use native.Mathlib.Omega.{arith}
-use lib.ListN.{length}
+use Rattle.list_laws.proofs.Kit.{_∙_, _≡_, refl, subst, _-_, _≤_, arith, length}
 use Rattle.model.specs.Piece.{lineDirection, onLine}
 use Rattle.model.specs.Lent.{lentBy, jobOf}
 use Rattle.model.specs.Buffer.{layoutOf}

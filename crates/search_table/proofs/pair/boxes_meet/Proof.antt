@@ -1,12 +1,10 @@
 -- `search_table::pair::boxes_meet` meets its contract: boxes that do not meet along rows or columns share no pixel. Assumes nothing.
-use mathlib.Core.Path.{sym, _∙_}
-use borrow.Author.Tests.{not-true}
+use Rattle.list_laws.proofs.Kit.{_∙_, sym, needs, not-true}
 use Rattle.model.specs.Piece.{corner}
 use Rattle.model.specs.Layout.{turnedPiece}
 use Rattle.model.specs.Lent.{Lent, lentBy, jobOf}
 use Rattle.model.specs.declared.Direction.the-variants.{Horizontal, Vertical}
 use Rattle.search_table.proofs.Placed.{boxes-apart}
-use borrow.Author.Needs.{needs}
 use Rattle.search_table.proofs.pair.boxes_meet.Statement.{statement}
 use Rattle.search_table.proofs.pair.boxes_meet.Tie as tie
 

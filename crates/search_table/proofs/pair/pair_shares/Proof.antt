@@ -1,11 +1,9 @@
 -- `search_table::pair::pair_shares` meets its contract: boxes that do not meet share no pixel, and else the row strips tell. Assumes nothing.
-use mathlib.Core.Path.{sym, _∙_}
-use borrow.Author.Tests.{not-true}
+use Rattle.list_laws.proofs.Kit.{_∙_, sym, needs, not-true}
 use Rattle.model.specs.Lent.{Lent, lentBy, jobOf}
 use Rattle.model.specs.Buffer.{layoutOf}
 use Rattle.model.specs.declared.Direction.the-variants.{Horizontal}
 use Rattle.search_table.proofs.Placed.{entry-there, job-there, on-sheet, near, stretches-share, pair-is}
-use borrow.Author.Needs.{needs}
 use Rattle.search_table.proofs.pair.pair_shares.Statement.{statement}
 use Rattle.search_table.proofs.pair.pair_shares.Tie as tie
 

@@ -1,16 +1,11 @@
 -- `search_table::pair::placed_penalty` meets its contract: boxes that do not meet have penalty 0, and else the strips tell it. Assumes nothing.
-use mathlib.Core.List.{List}
-use mathlib.Core.Path.{_≡_, _∙_}
-use Prim.Native.Nat.{ℕ, min, _≤_}
-use native.Mathlib.Omega.{arith}
-use borrow.Author.Tests.{not-true}
+use Rattle.list_laws.proofs.Kit.{_∙_, _≡_, List, _≤_, min, ℕ, arith, needs, not-true}
 use Rattle.model.specs.Lent.{Lent, lentBy, jobOf}
 use Rattle.model.specs.Buffer.{layoutOf}
 use Rattle.model.specs.declared.Direction.the-variants.{Horizontal, Vertical}
 use Rattle.model.specs.declared.JobSize.{JobSize}
 use Rattle.search_table.specs.Drawn.{Drawn, placedPenalty}
 use Rattle.search_table.proofs.Placed.{entry-there, job-there, on-sheet, near, stretches-penalty, placed-apart, placed-is, placed-bound}
-use borrow.Author.Needs.{needs}
 use Rattle.search_table.proofs.pair.placed_penalty.Statement.{statement}
 use Rattle.search_table.proofs.pair.placed_penalty.Tie as tie
 

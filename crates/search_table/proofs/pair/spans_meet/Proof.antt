@@ -1,6 +1,5 @@
 -- `search_table::pair::spans_meet` meets its contract: each way out follows one of the two tests. Assumes nothing.
-use borrow.Author.Tests.{lt-ltb, le-ltb}
-use borrow.Author.Needs.{needs}
+use Rattle.list_laws.proofs.Kit.{needs, le-ltb, lt-ltb}
 use Rattle.search_table.proofs.pair.spans_meet.Statement.{statement}
 use Rattle.search_table.proofs.pair.spans_meet.Tie as tie
 

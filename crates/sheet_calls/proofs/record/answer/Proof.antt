@@ -1,7 +1,6 @@
 -- `answer`: the number decides, and the refusal has it and no places.
 -- Assumes nothing.
-use borrow.Author.Tests.{eq-eqb, ne-eqb}
-use borrow.Author.Needs.{needs}
+use Rattle.list_laws.proofs.Kit.{needs, eq-eqb, ne-eqb}
 use Rattle.sheet_calls.proofs.record.answer.Statement.{statement}
 use Rattle.sheet_calls.specs.Answers.{answerBy}
 use Rattle.sheet_calls.proofs.record.answer.Tie as tie

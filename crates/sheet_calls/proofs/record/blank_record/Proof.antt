@@ -1,6 +1,6 @@
 -- `blank_record`: each of the 64 entries is the blank one.
 -- Assumes nothing.
-use borrow.Author.Needs.{needs}
+use Rattle.list_laws.proofs.Kit.{needs}
 use Rattle.sheet_calls.proofs.record.blank_record.Statement.{statement}
 use Rattle.sheet_calls.proofs.record.blank_record.Tie as tie
 

@@ -1,6 +1,5 @@
 -- `sigbrol::jobs::sigbrol_read_job` meets its contract by what the answer tells. Assumes nothing.
-use mathlib.Core.Path.{sym, _∙_}
-use lib.ListN.{length}
+use Rattle.list_laws.proofs.Kit.{_∙_, sym, length}
 use Rattle.model.specs.Lent.{Lent}
 use Rattle.model.specs.Refusal.{Outcome}
 use Rattle.model.specs.JobText.{readJob}

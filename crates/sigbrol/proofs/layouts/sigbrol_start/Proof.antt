@@ -1,6 +1,5 @@
 -- `sigbrol::layouts::sigbrol_start` meets its contract by what the answer tells. Assumes nothing.
-use mathlib.Core.Path.{_≡_, sym, _∙_}
-use lib.ListN.{length}
+use Rattle.list_laws.proofs.Kit.{_∙_, _≡_, sym, length}
 use Rattle.model.specs.Layout.{Layout}
 use Rattle.model.specs.Answers.{doneAnswer}
 use Rattle.model.specs.Refusal.{Outcome}

@@ -1,6 +1,5 @@
 -- `sigbrol::layouts::sigbrol_weighted_sum` meets its contract by what the answer tells. Assumes nothing.
-use mathlib.Core.Path.{_≡_, sym, _∙_}
-use Prim.Native.Nat.{ℕ}
+use Rattle.list_laws.proofs.Kit.{_∙_, _≡_, sym, ℕ}
 use Rattle.model.specs.Answers.{numberAnswer}
 use Rattle.model.specs.Refusal.{Outcome}
 use Rattle.model.specs.Calls.{weightedSumCall}

@@ -1,8 +1,5 @@
 -- `sigbrol::no_fit::sigbrol_no_fit_row` meets its contract by what the answer tells. Assumes nothing.
-use mathlib.Core.List.{List}
-use mathlib.Core.Path.{_≡_, sym, subst, _∙_}
-use lib.IntN.{ℤ}
-use lib.ListN.{length}
+use Rattle.list_laws.proofs.Kit.{_∙_, _≡_, subst, sym, List, length, ℤ}
 use mir.Syntax.{w32}
 use mir.Val.{toZ, ofZ}
 use mir.ValLaws.{toZ-ofZ}

@@ -1,12 +1,10 @@
 -- `sigbrol::pairs_of::sigbrol_depth` meets its contract by what the answer tells. Assumes nothing.
-use mathlib.Core.Path.{_≡_, sym, _∙_}
-use Prim.Native.Nat.{ℕ}
+use Rattle.list_laws.proofs.Kit.{_∙_, _≡_, sym, ℕ, needs}
 use Rattle.model.specs.Answers.{numberAnswer}
 use Rattle.model.specs.Refusal.{Outcome}
 use Rattle.model.specs.Calls.{depthCall}
 use Rattle.c_interface.specs.Numbers.{lentAs, directionOf}
 use Rattle.sigbrol.proofs.Told.{reply-by, leaves-by, number-told}
-use borrow.Author.Needs.{needs}
 use Rattle.sigbrol.proofs.pairs_of.sigbrol_depth.Statement.{statement}
 use Rattle.sigbrol.proofs.pairs_of.sigbrol_depth.Tie as tie
 

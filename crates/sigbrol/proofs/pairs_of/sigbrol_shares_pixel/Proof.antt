@@ -1,6 +1,5 @@
 -- `sigbrol::pairs_of::sigbrol_shares_pixel` meets its contract by what the answer tells. Assumes nothing.
-use mathlib.Core.Path.{_≡_, sym, _∙_}
-use mathlib.Core.Bool.{Bool}
+use Rattle.list_laws.proofs.Kit.{_∙_, _≡_, sym, Bool}
 use Rattle.model.specs.Bounded.{oneIf}
 use Rattle.model.specs.Refusal.{Outcome}
 use Rattle.model.specs.Calls.{shareCall}

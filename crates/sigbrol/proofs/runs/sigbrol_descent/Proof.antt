@@ -1,7 +1,6 @@
 -- `sigbrol::runs::sigbrol_descent` meets its contract by what the answer tells; demand 3 is what the inner call says of the
 -- descent, by the numbers that tell it. Assumes nothing.
-use mathlib.Core.Path.{_≡_, sym, _∙_, ap}
-use native.Mathlib.Omega.{arith}
+use Rattle.list_laws.proofs.Kit.{_∙_, _≡_, ap, sym, arith, needs}
 use Rattle.model.specs.Descent.{Descent}
 use Rattle.model.specs.Refusal.{Outcome}
 use Rattle.model.specs.Calls.{descentCall}
@@ -11,7 +10,6 @@ use Rattle.c_interface.specs.Numbers.{lentAs}
 use Rattle.c_interface.specs.declared.Reply.{Reply}
 use Rattle.sigbrol.proofs.Told.{reply-by, leaves-by, refusal-told, ended-told}
 use Rattle.sigbrol.proofs.Claimed.{descent-claimed, descent-numbered}
-use borrow.Author.Needs.{needs}
 use Rattle.sigbrol.proofs.runs.sigbrol_descent.Statement.{statement}
 use Rattle.sigbrol.proofs.runs.sigbrol_descent.Tie as tie
 

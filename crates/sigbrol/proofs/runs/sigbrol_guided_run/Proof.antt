@@ -1,7 +1,6 @@
 -- `sigbrol::runs::sigbrol_guided_run` meets its contract by what the answer tells; demand 3 is what the inner call says of the
 -- run, by the numbers that tell it. Assumes nothing.
-use mathlib.Core.Path.{_≡_, sym, _∙_, ap}
-use native.Mathlib.Omega.{arith}
+use Rattle.list_laws.proofs.Kit.{_∙_, _≡_, ap, sym, arith}
 use Rattle.model.specs.Guided.{Guided}
 use Rattle.model.specs.Refusal.{Outcome}
 use Rattle.model.specs.Calls.{guidedCall}

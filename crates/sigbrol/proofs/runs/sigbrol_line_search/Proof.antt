@@ -1,5 +1,5 @@
 -- `sigbrol::runs::sigbrol_line_search` meets its contract by what the answer tells. Assumes nothing.
-use mathlib.Core.Path.{_≡_, sym, _∙_}
+use Rattle.list_laws.proofs.Kit.{_∙_, _≡_, sym}
 use Rattle.model.specs.Buffer.{turnOf}
 use Rattle.model.specs.Search.{Best}
 use Rattle.model.specs.Refusal.{Outcome}

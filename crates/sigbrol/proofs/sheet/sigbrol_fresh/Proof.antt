@@ -1,7 +1,5 @@
 -- `sigbrol_fresh` meets its contract by what `fresh` answers. Assumes nothing.
-use mathlib.Core.Path.{_≡_, _∙_}
-use lib.ListN.{length}
-use borrow.Author.Needs.{needs}
+use Rattle.list_laws.proofs.Kit.{_∙_, _≡_, length, needs}
 use Rattle.model.specs.Refusal.{Outcome}
 use Rattle.model.specs.Calls.{freshCall, countsAfter}
 use Rattle.model.specs.Cover.{Sheet}

@@ -1,6 +1,5 @@
 -- `sigbrol_lay` meets its contract by what `lay` answers on the record that the buffer holds. Assumes nothing.
-use mathlib.Core.Path.{_≡_, _∙_}
-use borrow.Author.Needs.{needs}
+use Rattle.list_laws.proofs.Kit.{_∙_, _≡_, needs}
 use Rattle.model.specs.Buffer.{placement}
 use Rattle.model.specs.Refusal.{Outcome}
 use Rattle.model.specs.Calls.{layCall, countsAfter}

@@ -1,6 +1,5 @@
 -- `sigbrol_withdraw` meets its contract by what `withdraw` answers on the record that the buffer holds. Assumes nothing.
-use mathlib.Core.Path.{_≡_, _∙_}
-use borrow.Author.Needs.{needs}
+use Rattle.list_laws.proofs.Kit.{_∙_, _≡_, needs}
 use Rattle.model.specs.Refusal.{Outcome}
 use Rattle.model.specs.Calls.{withdrawCall, countsAfter}
 use Rattle.model.specs.Cover.{Sheet}

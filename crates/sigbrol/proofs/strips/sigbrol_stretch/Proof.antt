@@ -1,9 +1,5 @@
 -- `sigbrol::strips::sigbrol_stretch` meets its contract: the length decides, since a stretch is given exactly where it is not empty. Assumes nothing.
-use mathlib.Core.List.{List}
-use mathlib.Core.Path.{_≡_, sym, _∙_, ap}
-use Prim.Native.Nat.{ℕ}
-use native.Mathlib.Omega.{arith}
-use lib.ListN.{length}
+use Rattle.list_laws.proofs.Kit.{_∙_, _≡_, ap, sym, List, ℕ, arith, length}
 use Rattle.model.specs.Lent.{Lent}
 use Rattle.model.specs.Calls.{Stores, stretchCall, stretchGiven}
 use Rattle.c_interface.specs.Numbers.{lentAs, directionOf}

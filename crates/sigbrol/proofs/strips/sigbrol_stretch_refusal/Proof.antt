@@ -1,5 +1,5 @@
 -- `sigbrol::strips::sigbrol_stretch_refusal` meets its contract, as the call that it hands on meets its own. Assumes nothing.
-use borrow.Author.Needs.{needs}
+use Rattle.list_laws.proofs.Kit.{needs}
 use Rattle.sigbrol.proofs.strips.sigbrol_stretch_refusal.Statement.{statement}
 use Rattle.sigbrol.proofs.strips.sigbrol_stretch_refusal.Tie as tie
 

@@ -1,5 +1,5 @@
 -- `sigbrol::strips::sigbrol_strips` meets its contract by what the answer tells. Assumes nothing.
-use mathlib.Core.Path.{_≡_, sym, _∙_}
+use Rattle.list_laws.proofs.Kit.{_∙_, _≡_, sym}
 use Rattle.model.specs.Answers.{doneAnswer}
 use Rattle.model.specs.Refusal.{Outcome}
 use Rattle.model.specs.Calls.{Stores, stripsCall, storesAfter}

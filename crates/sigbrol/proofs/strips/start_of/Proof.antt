@@ -1,7 +1,5 @@
 -- `sigbrol::strips::start_of` meets its contract: the test decides. Assumes nothing.
-use native.Mathlib.Omega.{arith}
-use borrow.Author.Needs.{needs}
-use borrow.Author.Tests.{eq-eqb, ne-eqb}
+use Rattle.list_laws.proofs.Kit.{arith, needs, eq-eqb, ne-eqb}
 use Rattle.sigbrol.specs.Places.{startIn}
 use Rattle.sigbrol.proofs.strips.start_of.Statement.{statement}
 use Rattle.sigbrol.proofs.strips.start_of.Tie as tie

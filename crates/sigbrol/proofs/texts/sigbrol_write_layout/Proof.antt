@@ -1,8 +1,5 @@
 -- `sigbrol::texts::sigbrol_write_layout` meets its contract by what the answer tells. Assumes nothing.
-use mathlib.Core.Path.{_≡_, sym, _∙_}
-use mathlib.Core.List.{List}
-use Prim.Native.Nat.{ℕ}
-use lib.ListN.{length}
+use Rattle.list_laws.proofs.Kit.{_∙_, _≡_, sym, List, ℕ, length}
 use Rattle.model.specs.Answers.{countAnswer}
 use Rattle.model.specs.Refusal.{Outcome}
 use Rattle.model.specs.Calls.{writeLayoutCall}

@@ -1,12 +1,9 @@
 -- `strip_calls::compare::same_stores` meets its contract: one store after the other. Assumes nothing.
-use mathlib.Core.Bool.{_&&_}
-use mathlib.Core.Path.{sym, ap, ap₂, _∙_}
-use borrow.Author.Tests.{not-true, not-false}
+use Rattle.list_laws.proofs.Kit.{_∙_, ap, ap₂, sym, _&&_, needs, not-false, not-true}
 use Rattle.model.specs.Lent.{lentBy, jobOf}
 use Rattle.model.specs.Store.{storeWell}
 use Rattle.model.specs.Calls.{storesWell}
 use Rattle.model.specs.declared.Direction.the-variants.{Vertical}
-use borrow.Author.Needs.{needs}
 use Rattle.strip_calls.proofs.compare.same_stores.Statement.{statement}
 use Rattle.strip_calls.proofs.compare.same_stores.Tie as tie
 

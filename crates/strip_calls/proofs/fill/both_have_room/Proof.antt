@@ -1,11 +1,8 @@
 -- `strip_calls::fill::both_have_room` meets its contract: one store after the other. Assumes nothing.
-use mathlib.Core.Bool.{_&&_}
-use mathlib.Core.Path.{sym, ap, ap₂, _∙_}
-use borrow.Author.Tests.{not-true, not-false}
+use Rattle.list_laws.proofs.Kit.{_∙_, ap, ap₂, sym, _&&_, needs, not-false, not-true}
 use Rattle.model.specs.Lent.{lentBy, jobOf}
 use Rattle.model.specs.declared.Direction.the-variants.{Vertical}
 use Rattle.strip_store.specs.Rooms.{storeFits}
-use borrow.Author.Needs.{needs}
 use Rattle.strip_calls.proofs.fill.both_have_room.Statement.{statement}
 use Rattle.strip_calls.proofs.fill.both_have_room.Tie as tie
 

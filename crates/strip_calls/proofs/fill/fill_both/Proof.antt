@@ -1,7 +1,7 @@
 -- `strip_calls::fill::fill_both` meets its contract: each store and its starts are filled over the front. Assumes nothing.
 use Rattle.model.specs.Lent.{lentBy, jobOf}
 use Rattle.strip_calls.proofs.Outcomes.{stores-filled}
-use borrow.Author.Needs.{needs}
+use Rattle.list_laws.proofs.Kit.{needs}
 use Rattle.strip_calls.proofs.fill.fill_both.Statement.{statement}
 use Rattle.strip_calls.proofs.fill.fill_both.Tie as tie
 

@@ -1,10 +1,6 @@
 -- `strip_calls::stretch::part` meets its contract. Assumes nothing.
-use mathlib.Core.Path.{_≡_}
-use Prim.Native.Nat.{suc, _+_, _≤_}
-use native.Mathlib.Omega.{arith}
-use lib.ListN.{length, getD}
+use Rattle.list_laws.proofs.Kit.{_≡_, _+_, _≤_, suc, arith, getD, length, needs}
 use Rattle.model.specs.Store.{stretchIn}
-use borrow.Author.Needs.{needs}
 use Rattle.strip_calls.proofs.stretch.part.Statement.{statement}
 use Rattle.strip_calls.proofs.stretch.part.Tie as tie
 

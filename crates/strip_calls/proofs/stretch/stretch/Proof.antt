@@ -1,10 +1,9 @@
 -- `strip_calls::stretch::stretch` meets its contract: where no number is told the stretch can be cut out of its store. Assumes nothing.
-use mathlib.Core.Path.{sym, ap, _∙_}
+use Rattle.list_laws.proofs.Kit.{_∙_, ap, sym, needs}
 use Rattle.model.specs.Lent.{Lent, lentBy}
 use Rattle.model.specs.Calls.{Stores, stretchCall, stretchOf, stretchGiven}
 use Rattle.strip_calls.specs.Stores.{storesBy}
 use Rattle.strip_calls.proofs.Outcomes.{StretchPassed, stretch-empty, stretch-passed}
-use borrow.Author.Needs.{needs}
 use Rattle.strip_calls.proofs.stretch.stretch.Statement.{statement}
 use Rattle.strip_calls.proofs.stretch.stretch.Tie as tie
 

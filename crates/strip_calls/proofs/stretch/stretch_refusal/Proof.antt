@@ -1,14 +1,11 @@
 -- `strip_calls::stretch::stretch_refusal` meets its contract: each number is that of the call's first cause. Assumes nothing.
-use mathlib.Core.Bool.{true, false}
-use mathlib.Core.Path.{_≡_, sym, ap, _∙_}
-use borrow.Author.Tests.{not-true, not-false}
+use Rattle.list_laws.proofs.Kit.{_∙_, _≡_, ap, sym, false, true, needs, not-false, not-true}
 use Rattle.model.specs.Lent.{Lent, lentBy, lentWell, jobOf}
 use Rattle.model.specs.Calls.{Stores, turnListWrong, stretchNumber}
 use Rattle.job_laws.proofs.Checked.{facts}
 use Rattle.strip_calls.specs.Stores.{storesBy}
 use Rattle.strip_store.proofs.Filling.{made-ready}
 use Rattle.strip_calls.proofs.Outcomes.{stretch-job, stretch-turns, stretch-piece, stretch-store, stretch-given}
-use borrow.Author.Needs.{needs}
 use Rattle.strip_calls.proofs.stretch.stretch_refusal.Statement.{statement}
 use Rattle.strip_calls.proofs.stretch.stretch_refusal.Tie as tie
 

@@ -1,17 +1,9 @@
 -- `strip_calls::turns::wrong` meets its contract. The loop's invariant: the turns passed are allowed. Assumes nothing.
-use mathlib.Core.Bool.{true, not, _||_}
-use mathlib.Core.List.{List}
-use mathlib.Core.Path.{_≡_, sym, ap, _∙_}
-use Prim.Native.Nat.{ℕ, _-_, _≤_, _<_}
-use native.Mathlib.Omega.{arith}
-use lib.Dec.{eqb}
-use lib.ListN.{length, getD}
-use borrow.Author.Count.{below-more}
-use borrow.Author.Tests.{eq-eqb, ne-eqb, not-true, not-false}
+use Rattle.list_laws.proofs.Kit.{_∙_, _≡_, ap, sym, _||_, not, true, List, _-_, _<_, _≤_, ℕ, arith, eqb, getD, length, below-more, needs, eq-eqb, ne-eqb}
+use Rattle.list_laws.proofs.Kit.{not-false, not-true}
 use Rattle.model.specs.Bounded.{anyBelow}
 use Rattle.model.specs.Lent.{lentBy, jobOf}
 use Rattle.model.specs.Calls.{allowedDegrees, turnListWrong}
-use borrow.Author.Needs.{needs}
 use Rattle.list_laws.proofs.Searches.{one-fails, none-fails}
 use Rattle.list_laws.proofs.Tests.{or-left}
 use Rattle.strip_calls.proofs.turns.wrong.Statement.{statement}

@@ -1,5 +1,5 @@
 -- `strip_scan::compare::compare_piece` meets its contract: the turned piece of the table's entry shows the job's piece. Assumes nothing.
-use mathlib.Core.Path.{ap, _∙_}
+use Rattle.list_laws.proofs.Kit.{_∙_, ap}
 use Rattle.model.specs.Strip.{strips}
 use Rattle.piece_pixels.specs.Turned.{shownBy}
 use Rattle.piece_pixels.proofs.Jobs.{shown-piece}

@@ -1,17 +1,12 @@
 -- `strip_scan::compare::compare_strips` meets its contract. The loop's invariant: comparing the strips from the present cell on decides
 -- it. Assumes nothing.
-use mathlib.Core.Path.{subst, sym, ap, _∙_}
-use Prim.Native.Nat.{_≤_, _^_}
-use native.Mathlib.Omega.{arith}
-use lib.ListN.{length}
-use borrow.Author.Tests.{not-true, not-false}
+use Rattle.list_laws.proofs.Kit.{_∙_, ap, subst, sym, _^_, _≤_, arith, length, needs, not-false, not-true}
 use Rattle.model.specs.Strip.{strips}
 use Rattle.piece_pixels.specs.Turned.{shownBy}
 use Rattle.strip_scan.specs.Scan.{turnedSide, stripsAt, NextIs, NextStripIs}
 use Rattle.strip_scan.proofs.Scanning.{all-strips, side-of, side-small}
 use Rattle.strip_scan.proofs.Counts.{piece-few}
 use Rattle.strip_scan.proofs.Comparing.{Comparing, compare-start, compare-step, compare-unlike, compare-end}
-use borrow.Author.Needs.{needs}
 use Rattle.strip_scan.proofs.compare.compare_strips.Statement.{statement}
 use Rattle.strip_scan.proofs.compare.compare_strips.Tie as tie
 

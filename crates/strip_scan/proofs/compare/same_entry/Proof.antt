@@ -1,10 +1,6 @@
 -- `strip_scan::compare::same_entry` meets its contract: an array of three has three numbers. Assumes nothing.
-use mathlib.Core.Bool.{Bool, true, false, _&&_}
-use mathlib.Core.Path.{_≡_, sym, _∙_}
-use lib.ListN.{length}
-use borrow.Author.Tests.{eq-eqb, ne-eqb}
+use Rattle.list_laws.proofs.Kit.{_∙_, _≡_, sym, Bool, _&&_, false, true, length, needs, eq-eqb, ne-eqb}
 use Rattle.strip_scan.proofs.Comparing.{same-three}
-use borrow.Author.Needs.{needs}
 use Rattle.strip_scan.proofs.compare.same_entry.Statement.{statement}
 use Rattle.strip_scan.proofs.compare.same_entry.Tie as tie
 

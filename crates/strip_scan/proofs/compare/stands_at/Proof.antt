@@ -1,7 +1,6 @@
 -- `strip_scan::compare::stands_at` meets its contract: past the end of the store no strip stands. Assumes nothing.
-use mathlib.Core.Path.{sym}
+use Rattle.list_laws.proofs.Kit.{sym, needs}
 use Rattle.strip_scan.proofs.Comparing.{none-there}
-use borrow.Author.Needs.{needs}
 use Rattle.strip_scan.proofs.compare.stands_at.Statement.{statement}
 use Rattle.strip_scan.proofs.compare.stands_at.Tie as tie
 

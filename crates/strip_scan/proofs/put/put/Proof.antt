@@ -1,7 +1,5 @@
 -- `strip_scan::put::put` meets its contract: a store past the end does nothing. Assumes nothing.
-use mathlib.Core.Path.{sym}
-use lib.Seq.{set-out}
-use borrow.Author.Needs.{needs}
+use Rattle.list_laws.proofs.Kit.{sym, set-out, needs}
 use Rattle.strip_scan.proofs.put.put.Statement.{statement}
 use Rattle.strip_scan.proofs.put.put.Tie as tie
 

@@ -1,11 +1,10 @@
 -- `strip_scan::put::put_piece` meets its contract: the turned piece of the table's entry shows the job's piece. Assumes nothing.
-use mathlib.Core.Path.{subst, ap, _∙_}
+use Rattle.list_laws.proofs.Kit.{_∙_, ap, subst, needs}
 use Rattle.model.specs.Strip.{strips}
 use Rattle.piece_pixels.specs.Turned.{shownBy}
 use Rattle.piece_pixels.proofs.Jobs.{shown-piece}
 use Rattle.strip_scan.specs.Put.{Appended}
 use Rattle.strip_scan.proofs.Jobs.{made-small}
-use borrow.Author.Needs.{needs}
 use Rattle.strip_scan.proofs.put.put_piece.Statement.{statement}
 use Rattle.strip_scan.proofs.put.put_piece.Tie as tie
 

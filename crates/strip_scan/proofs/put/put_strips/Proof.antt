@@ -1,9 +1,6 @@
 -- `strip_scan::put::put_strips` meets its contract. The loop's invariant: storing the strips from the present cell on is all that is
 -- left to do. Assumes nothing.
-use mathlib.Core.Path.{subst, ap}
-use Prim.Native.Nat.{_≤_, _^_}
-use native.Mathlib.Omega.{arith}
-use lib.ListN.{length}
+use Rattle.list_laws.proofs.Kit.{ap, subst, _^_, _≤_, arith, length, needs}
 use Rattle.model.specs.Piece.{other}
 use Rattle.model.specs.Strip.{strips}
 use Rattle.piece_pixels.specs.Turned.{shownBy}
@@ -11,7 +8,6 @@ use Rattle.strip_scan.specs.Scan.{turnedSide, stripsAt, NextIs, NextStri
 use Rattle.strip_scan.proofs.Scanning.{all-strips, side-of, side-small}
 use Rattle.strip_scan.proofs.Counts.{piece-few}
 use Rattle.strip_scan.proofs.Appending.{Appending, append-start, append-step, append-end, append-length}
-use borrow.Author.Needs.{needs}
 use Rattle.strip_scan.proofs.put.put_strips.Statement.{statement}
 use Rattle.strip_scan.proofs.put.put_strips.Tie as tie
 

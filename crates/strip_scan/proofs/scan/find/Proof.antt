@@ -1,10 +1,6 @@
 -- `strip_scan::scan::find` meets its contract. The loop's invariant: the first wanted cell from `at` on is that from `from` on.
 -- Assumes nothing.
-use borrow.Author.Needs.{needs}
-use mathlib.Core.Bool.{Bool, Bool·beq}
-use mathlib.Core.Path.{_≡_, refl, sym, _∙_}
-use Prim.Native.Nat.{_-_, _≤_}
-use native.Mathlib.Omega.{arith}
+use Rattle.list_laws.proofs.Kit.{_∙_, _≡_, refl, sym, Bool, Bool·beq, _-_, _≤_, arith, needs}
 use Rattle.model.specs.Bounded.{firstFrom}
 use Rattle.model.specs.Piece.{cell}
 use Rattle.list_laws.proofs.Firsts.{first-stop, first-go, first-end}

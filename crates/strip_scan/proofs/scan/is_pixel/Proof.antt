@@ -1,5 +1,5 @@
 -- `strip_scan::scan::is_pixel` meets its contract. Assumes nothing.
-use borrow.Author.Needs.{needs}
+use Rattle.list_laws.proofs.Kit.{needs}
 use Rattle.strip_scan.proofs.scan.is_pixel.Statement.{statement}
 use Rattle.strip_scan.proofs.scan.is_pixel.Tie as tie
 

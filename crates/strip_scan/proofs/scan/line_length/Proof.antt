@@ -1,7 +1,5 @@
 -- `strip_scan::scan::line_length` meets its contract: the turned box's sides are those of the turned piece. Assumes nothing.
-use borrow.Author.Needs.{needs}
-use mathlib.Core.List.{[]}
-use mathlib.Core.Path.{refl, ap}
+use Rattle.list_laws.proofs.Kit.{ap, refl, [], needs}
 use Rattle.piece_pixels.specs.Turned.{storedBy}
 use Rattle.piece_pixels.specs.declared.Sides.{Sides}
 use Rattle.strip_scan.proofs.scan.line_length.Statement.{statement}

@@ -1,10 +1,6 @@
 -- `strip_scan::scan::next_strip` meets its contract. The loop's invariant: the strips from the present cell on are those from the
 -- given cell on, since the lines between have no pixel left. Assumes nothing.
-use borrow.Author.Needs.{needs}
-use mathlib.Core.Bool.{Bool, false, Bool·beq}
-use mathlib.Core.Path.{_≡_, refl, sym, _∙_}
-use Prim.Native.Nat.{ℕ, _-_, _≤_}
-use native.Mathlib.Omega.{arith}
+use Rattle.list_laws.proofs.Kit.{_∙_, _≡_, refl, sym, Bool, Bool·beq, false, _-_, _≤_, ℕ, arith, needs}
 use Rattle.model.specs.Bounded.{firstFrom}
 use Rattle.model.specs.Piece.{cell}
 use Rattle.list_laws.proofs.Bounded.{first-from}

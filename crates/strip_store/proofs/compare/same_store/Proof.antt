@@ -1,14 +1,10 @@
 -- `strip_calls::compare::same_store` meets its contract. The loop's invariant: comparing the pieces from `i` on decides it. Assumes nothing.
-use Prim.Native.Nat.{_-_, _≤_}
-use native.Mathlib.Omega.{arith}
-use mathlib.Core.Path.{sym, _∙_}
-use borrow.Author.Tests.{not-true, not-false}
+use Rattle.list_laws.proofs.Kit.{_∙_, sym, _-_, _≤_, arith, needs, not-false, not-true}
 use Rattle.model.specs.Lent.{lentBy, jobOf}
 use Rattle.job_laws.proofs.Checked.{facts, entry-at}
 use Rattle.strip_store.proofs.Filling.{store-small}
 use Rattle.strip_store.proofs.Checking.{Checking, check-start, check-start-wrong, check-unlike, check-step, check-end, until-from, unlike-from}
 use Rattle.strip_store.proofs.Checking.{stretch-compared}
-use borrow.Author.Needs.{needs}
 use Rattle.strip_store.proofs.compare.same_store.Statement.{statement}
 use Rattle.strip_store.proofs.compare.same_store.Tie as tie
 

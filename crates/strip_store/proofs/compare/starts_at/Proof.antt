@@ -1,7 +1,5 @@
 -- `strip_calls::compare::starts_at` meets its contract. Assumes nothing.
-use native.Mathlib.Omega.{arith}
-use borrow.Author.Tests.{lt-ltb, le-ltb}
-use borrow.Author.Needs.{needs}
+use Rattle.list_laws.proofs.Kit.{arith, needs, le-ltb, lt-ltb}
 use Rattle.strip_store.proofs.compare.starts_at.Statement.{statement}
 use Rattle.strip_store.proofs.compare.starts_at.Tie as tie
 

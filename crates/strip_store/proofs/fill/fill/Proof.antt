@@ -1,12 +1,9 @@
 -- `strip_calls::fill::fill` meets its contract. The loop's invariant: storing the strips and starts of the pieces from `i` on is all that is
 -- left to do. Assumes nothing.
-use Prim.Native.Nat.{_-_, _≤_}
-use native.Mathlib.Omega.{arith}
-use mathlib.Core.Path.{_∙_}
+use Rattle.list_laws.proofs.Kit.{_∙_, _-_, _≤_, arith, needs}
 use Rattle.model.specs.Lent.{lentBy, jobOf}
 use Rattle.job_laws.proofs.Checked.{facts, entry-at}
 use Rattle.strip_store.proofs.Filling.{Filling, fill-start, fill-step, fill-end, fill-lengths, store-small, appended-piece}
-use borrow.Author.Needs.{needs}
 use Rattle.strip_store.proofs.fill.fill.Statement.{statement}
 use Rattle.strip_store.proofs.fill.fill.Tie as tie
 

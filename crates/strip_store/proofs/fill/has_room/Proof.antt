@@ -1,7 +1,7 @@
 -- `strip_calls::fill::has_room` meets its contract: filling no store tells how many strips are needed. Assumes nothing.
 use Rattle.model.specs.Lent.{lentBy, jobOf}
 use Rattle.strip_store.proofs.Filling.{no-room, room-by-starts}
-use borrow.Author.Needs.{needs}
+use Rattle.list_laws.proofs.Kit.{needs}
 use Rattle.strip_store.proofs.fill.has_room.Statement.{statement}
 use Rattle.strip_store.proofs.fill.has_room.Tie as tie
 

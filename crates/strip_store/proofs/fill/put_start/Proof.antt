@@ -1,7 +1,5 @@
 -- `strip_calls::fill::put_start` meets its contract: a store past the end does nothing. Assumes nothing.
-use mathlib.Core.Path.{sym}
-use lib.Seq.{set-out}
-use borrow.Author.Needs.{needs}
+use Rattle.list_laws.proofs.Kit.{sym, set-out, needs}
 use Rattle.strip_store.proofs.fill.put_start.Statement.{statement}
 use Rattle.strip_store.proofs.fill.put_start.Tie as tie
 

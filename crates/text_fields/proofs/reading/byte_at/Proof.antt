@@ -1,7 +1,5 @@
 -- `text_fields::reading::byte_at`: past the end the list has its default. Assumes nothing.
-use mathlib.Core.Path.{sym}
-use lib.ListN.{List·getD-eq-default}
-use borrow.Author.Needs.{needs}
+use Rattle.list_laws.proofs.Kit.{sym, List·getD-eq-default, needs}
 use Rattle.text_fields.proofs.reading.byte_at.Statement.{statement}
 use Rattle.text_fields.proofs.reading.byte_at.Tie as tie
 

@@ -1,8 +1,6 @@
 -- `text_fields::reading::digit_value`: a digit is at least 48 and below 58. Assumes nothing.
-use mathlib.Core.Path.{refl}
-use native.Mathlib.Omega.{arith}
+use Rattle.list_laws.proofs.Kit.{refl, arith, needs}
 use Rattle.text_fields.proofs.Steps.{digit-range}
-use borrow.Author.Needs.{needs}
 use Rattle.text_fields.proofs.reading.digit_value.Statement.{statement}
 use Rattle.text_fields.proofs.reading.digit_value.Tie as tie
 

@@ -1,17 +1,10 @@
 -- `text_fields::reading::digits_from`: what is left to read, behind the digits so far, is what was to be read at first. At most 99,999 can come
 -- of it. Assumes nothing.
-use mathlib.Core.Bool.{true, false}
-use mathlib.Core.Path.{_≡_, refl, sym, _∙_, ap}
-use Prim.Native.Nat.{suc, _≤_, _+_, _-_, _*_}
-use native.Mathlib.Nat.{le-trans}
-use native.Mathlib.Numerals.{add-one}
-use native.Mathlib.Omega.{arith}
-use lib.ListN.{length}
+use Rattle.list_laws.proofs.Kit.{_∙_, _≡_, ap, refl, sym, false, true, _*_, _+_, _-_, _≤_, suc, add-one, le-trans, arith, length, needs}
 use Rattle.model.specs.Text.{byte, isDigit, digitsFrom}
 use Rattle.list_laws.proofs.Tests.{said-no, said-yes}
 use Rattle.text_fields.specs.Answers.{digitRun}
 use Rattle.text_fields.proofs.Steps.{digit-inside, digits-more, digits-end, digits-none, largest, largest-grows, largest-above}
-use borrow.Author.Needs.{needs}
 use Rattle.text_fields.proofs.reading.digits_from.Statement.{statement}
 use Rattle.text_fields.proofs.reading.digits_from.Tie as tie
 

@@ -1,12 +1,8 @@
 -- `text_fields::reading::field_at`: wrong where there is no number or another byte behind it. Assumes nothing.
-use mathlib.Core.Path.{_≡_, sym, _∙_}
-use Prim.Native.Nat.{_≤_}
-use native.Mathlib.Omega.{arith}
-use lib.ListN.{length}
+use Rattle.list_laws.proofs.Kit.{_∙_, _≡_, sym, _≤_, arith, length, needs}
 use Rattle.model.specs.Text.{byte, numberAt, got, wrong}
 use Rattle.text_fields.specs.declared.Number.the-variants.{Got}
 use Rattle.text_fields.proofs.Steps.{byte-inside, got-of, wrong-of, field-none, field-wrong, field-got}
-use borrow.Author.Needs.{needs}
 use Rattle.text_fields.proofs.reading.field_at.Statement.{statement}
 use Rattle.text_fields.proofs.reading.field_at.Tie as tie
 

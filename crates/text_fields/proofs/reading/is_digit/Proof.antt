@@ -1,5 +1,5 @@
 -- `text_fields::reading::is_digit` makes the two tests of its definition. Assumes nothing.
-use borrow.Author.Tests.{lt-leb, le-leb}
+use Rattle.list_laws.proofs.Kit.{le-leb, lt-leb}
 use Rattle.text_fields.proofs.reading.is_digit.Statement.{statement}
 use Rattle.text_fields.proofs.reading.is_digit.Tie as tie
 

@@ -1,14 +1,8 @@
 -- `text_fields::reading::number_at` makes the tests of `isNumber` on the run of digits. Assumes nothing.
-use mathlib.Core.Bool.{true, false}
-use mathlib.Core.Path.{_≡_, sym, _∙_}
-use Prim.Native.Nat.{suc}
-use native.Mathlib.Numerals.{add-one}
-use native.Mathlib.Omega.{arith}
-use borrow.Author.Tests.{eq-eqb, ne-eqb}
+use Rattle.list_laws.proofs.Kit.{_∙_, _≡_, sym, false, true, suc, add-one, arith, needs, eq-eqb, ne-eqb}
 use Rattle.model.specs.Text.{byte, isDigit, isNumber}
 use Rattle.list_laws.proofs.Tests.{said-no, said-yes}
 use Rattle.text_fields.proofs.Steps.{digit-inside, number-none, number-got, number-wrong}
-use borrow.Author.Needs.{needs}
 use Rattle.text_fields.proofs.reading.number_at.Statement.{statement}
 use Rattle.text_fields.proofs.reading.number_at.Tie as tie
 

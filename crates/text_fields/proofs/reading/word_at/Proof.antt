@@ -1,13 +1,7 @@
 -- `text_fields::reading::word_at`: the rest of the word stands at the next position exactly when the whole stands at the first. Assumes nothing.
-use mathlib.Core.Path.{_≡_, sym, _∙_, ap}
-use Prim.Native.Nat.{suc, _≤_, _+_, _-_}
-use native.Mathlib.Nat.{add-zero}
-use native.Mathlib.Numerals.{add-one}
-use native.Mathlib.Omega.{arith}
-use lib.ListN.{length, drop}
+use Rattle.list_laws.proofs.Kit.{_∙_, _≡_, ap, sym, _+_, _-_, _≤_, suc, add-one, add-zero, arith, drop, length, needs}
 use Rattle.model.specs.Text.{standsAt}
 use Rattle.text_fields.proofs.Steps.{stands-more, stands-not, stands-all}
-use borrow.Author.Needs.{needs}
 use Rattle.text_fields.proofs.reading.word_at.Statement.{statement}
 use Rattle.text_fields.proofs.reading.word_at.Tie as tie
 

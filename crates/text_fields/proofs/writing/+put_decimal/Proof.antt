@@ -1,15 +1,9 @@
 -- `text_fields::writing::put_decimal`: the digits in front are those of a tenth of the number, in one place less. The measure is the number of
 -- places. Assumes nothing.
-use mathlib.Core.List.{[], _∷_, _++_}
-use mathlib.Core.Path.{_≡_, _∙_, ap}
-use Prim.Native.Nat.{suc, _+_, _-_, _/_, _%_}
-use native.Mathlib.Omega.{arith}
-use lib.ListN.{length, length-append}
-use lib.Seq.{sets}
+use Rattle.list_laws.proofs.Kit.{_∙_, _≡_, ap, [], _++_, _∷_, _%_, _+_, _-_, _/_, _<_, suc, ℕ, arith, length, length-append, sets}
 use Rattle.model.specs.Text.{decimal}
 use Rattle.list_laws.proofs.Stores.{sets-append}
 use Rattle.text_fields.proofs.Steps.{decimal-none, decimal-one, decimal-more, decimal-short}
-use Prim.Native.Nat.{ℕ, _<_}
 use borrow.Fn.Kinds.{In}
 use borrow.Fn.PlainCycle.{Measures, is, falls, and}
 use Rattle.text_fields.proofs.writing.put_decimal.Reads as put-decimal

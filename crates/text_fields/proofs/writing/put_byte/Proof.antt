@@ -1,7 +1,5 @@
 -- `text_fields::writing::put_byte`: a store past the end changes nothing. Assumes nothing.
-use mathlib.Core.Path.{refl, sym}
-use lib.Seq.{set-out}
-use borrow.Author.Needs.{needs}
+use Rattle.list_laws.proofs.Kit.{refl, sym, set-out, needs}
 use Rattle.text_fields.proofs.writing.put_byte.Statement.{statement}
 use Rattle.text_fields.proofs.writing.put_byte.Tie as tie
 

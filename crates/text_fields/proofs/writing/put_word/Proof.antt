@@ -1,13 +1,6 @@
 -- `text_fields::writing::put_word`: storing the rest of the word is what is left of storing the whole. Assumes nothing.
-use mathlib.Core.Path.{_≡_, refl, sym, _∙_, ap}
-use Prim.Native.Nat.{ℕ, suc, _≤_, _+_, _-_}
-use native.Mathlib.Nat.{add-zero}
-use native.Mathlib.Numerals.{add-one}
-use native.Mathlib.Omega.{arith}
-use lib.ListN.{length, drop, getD, set}
-use lib.Seq.{sets}
+use Rattle.list_laws.proofs.Kit.{_∙_, _≡_, ap, refl, sym, _+_, _-_, _≤_, suc, ℕ, add-one, add-zero, arith, drop, getD, length, set, sets, needs}
 use Rattle.list_laws.proofs.Stores.{sets-first, sets-none}
-use borrow.Author.Needs.{needs}
 use Rattle.text_fields.proofs.writing.put_word.Statement.{statement}
 use Rattle.text_fields.proofs.writing.put_word.Tie as tie
 
