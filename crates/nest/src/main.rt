@@ -1,4 +1,4 @@
-// The program: standard input in, what document 01 says of it out. What is printed is decided and proved in `program`.
+// The program: standard input in, what document 01 says of it out. What is printed is decided and proved in `program_calls`.
 use libc::STDERR_FILENO;
 use libc::STDIN_FILENO;
 use libc::STDOUT_FILENO;

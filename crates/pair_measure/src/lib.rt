@@ -1,5 +1,5 @@
 // Depth and penalty of two placed pieces. Document 01, 'No-fit rows and penalty'. The strips of both pieces in their turns are put into
-// one local store, the second piece's behind the first's, and the functions of the crate overlap are lent each piece's part of it.
+// one local store, the second piece's behind the first's, and the functions of pair_overlap are lent each piece's part of it.
 //
 // What a penalty costs: a walk over two stretches takes a step for each strip of the lines that both pieces have, and a depth a few
 // walks for each sign, two where each line has one strip; the penalty is at most two depths, the second cut off at the first.
