@@ -39,7 +39,7 @@ extern "C" {
 #endif
 
 /* The version of this interface. It grows by 1 where anything below changes for a caller. */
-#define SIGBROL_VERSION 2
+#define SIGBROL_VERSION 3
 
 /* The largest numbers of a job: pieces, bytes of all boxes together, bytes of a job text that the program reads. */
 #define SIGBROL_PIECES 64
@@ -224,7 +224,8 @@ sigbrol_reply sigbrol_plain_sum(size_t rows, size_t columns, size_t count, const
                                 const uint8_t *pixels, size_t pixels_length, const uint16_t (*layout)[3], size_t layout_length,
                                 uint64_t *sum);
 
-/* The largest right end of a piece: fills `used`. Refused: 8 the job; 7 the layout's length; 9; 10. */
+/* The columns of cloth that the layout spends, from the smallest corner x to the largest right end of a piece: fills `used`. What is
+ * blank left of the first piece goes back to the roll. Refused: 8 the job; 7 the layout's length; 9; 10. */
 sigbrol_reply sigbrol_used_length(size_t rows, size_t columns, size_t count, const uint8_t (*table)[3], size_t table_length,
                                   const uint8_t *pixels, size_t pixels_length, const uint16_t (*layout)[3], size_t layout_length,
                                   size_t *used);

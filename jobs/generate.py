@@ -219,6 +219,14 @@ def small_jobs():
     write("start-order", job_text(7, 12, [
         (full(2, 3), 1), (full(4, 2), 1), (full(4, 3), 1), (full(6, 2), 1), (full(2, 2), 1),
         (full(4, 2), 1), (full(1, 7), 1), (full(6, 3), 1), (full(2, 4), 1)]))
+    # The run ends with no piece at the sheet's left edge.
+    write("free-left-clear", job_text(3, 7, [(["##.##", "#..#."], 15), (["##.#", "#.#."], 5)]))
+    write("free-left-turned", job_text(3, 10, [
+        ([".#.#", "#..#"], 15), (full(1, 2), 3), (["###", "#..", "###"], 15), (PIXEL, 1),
+        (["#...", "##.#", "####"], 3)]))
+    write("free-left-open", job_text(5, 9, [
+        (["##.#", "####", "...#", "..#."], 1), (["####", "###.", "..##", "####"], 15),
+        ([".#..", "#.##", "#.#.", ".#.."], 15), (["#.", ".#", ".#"], 3)]))
     random = Random(35)
     write("weights-grow", job_text(12, 10, [
         (blob(random, random.between(4, 7), random.between(4, 6)), 15) for _ in range(7)]))

@@ -1,5 +1,7 @@
 //! A job and its layout, read by the second program's library, and where the pieces lie.
 
+use std::ops::Range;
+
 use second::job::{self, Job, Refusal};
 use second::layout;
 
@@ -21,10 +23,12 @@ pub struct Layout {
 }
 
 impl Layout {
-    /// The largest right end of the pieces.
-    pub fn used_length(&self) -> usize {
+    /// The columns from the smallest corner x to the largest right end of the pieces.
+    pub fn used_columns(&self) -> Range<usize> {
         let right_end = |piece: &Placed| piece.x + piece.grid.columns;
-        self.pieces.iter().map(right_end).max().unwrap_or(0)
+        let first = self.pieces.iter().map(|piece| piece.x).min();
+        let end = self.pieces.iter().map(right_end).max();
+        first.unwrap_or(0)..end.unwrap_or(0)
     }
 
     /// The sheet's pixels that two or more pieces cover.
@@ -106,7 +110,7 @@ mod tests {
     fn pieces_lie_turned_at_their_corners() {
         let text = "layout,1,2,4,2\nat,0,0,0,0\nat,1,180,1,0\nend,clear,0,0,0,3\nand more";
         let layout = layout(text).expect("the layout is right");
-        assert_eq!(layout.used_length(), 3);
+        assert_eq!(layout.used_columns(), 0..3);
         assert_eq!(layout.shared().count(), 0);
         assert!(!layout.pieces[1].grid.has(0, 0) && layout.pieces[1].grid.has(1, 0));
     }

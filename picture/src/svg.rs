@@ -91,7 +91,7 @@ impl Picture<'_> {
             counted(self.layout.pieces.len(), "piece"),
             counted(self.layout.rows, "row"),
             counted(self.layout.columns, "column"),
-            self.layout.used_length(),
+            self.layout.used_columns().len(),
             counted(self.shared.count(), "shared pixel"),
         )
     }
@@ -227,21 +227,24 @@ impl Picture<'_> {
         )
     }
 
-    /// The used length: a line across the sheet and its number above.
+    /// The used length: a line across the sheet at either end, one between them above the sheet, and the number on it.
     fn used_length(&self) -> String {
-        let length = self.layout.used_length();
-        let (x, top, bottom) = (self.x(length), TOP - 10, self.y(0) + 5);
-        // The words stay on the side of the line that has more room.
-        let (anchor, words_x) = if 2 * length > self.layout.columns {
-            ("end", x + 4)
+        let used = self.layout.used_columns();
+        let (left, right) = (self.x(used.start), self.x(used.end));
+        let (top, bottom) = (TOP - 10, self.y(0) + 5);
+        // The words reach into the side of the picture that has more room.
+        let (anchor, words_x) = if used.start + used.end > self.layout.columns {
+            ("end", right + 4)
         } else {
-            ("start", x - 4)
+            ("start", left - 4)
         };
         format!(
-            "<path stroke=\"#0050c8\" stroke-width=\"2\" stroke-dasharray=\"7 4\" d=\"M{x} {top}V{bottom}\"/>\n\
+            "<path stroke=\"#0050c8\" stroke-width=\"2\" stroke-dasharray=\"7 4\" fill=\"none\" \
+             d=\"M{left} {bottom}V{top}H{right}V{bottom}\"/>\n\
              <text x=\"{words_x}\" y=\"{}\" text-anchor=\"{anchor}\" font-size=\"13\" \
-             fill=\"#0050c8\">used length {length}</text>\n",
+             fill=\"#0050c8\">used length {}</text>\n",
             top - 5,
+            used.len(),
         )
     }
 }
@@ -292,7 +295,14 @@ mod tests {
     #[test]
     fn used_length_is_marked() {
         let text = picture("at,0,0,0,0\nat,1,0,3,0\n");
-        assert!(text.contains("d=\"M494 24V939\"") && text.contains(">used length 5</text>"));
+        assert!(
+            text.contains("d=\"M44 939V24H494V939\"") && text.contains(">used length 5</text>")
+        );
+        // Cloth that is free on the left is not used.
+        let text = picture("at,0,0,7,0\nat,1,0,4,0\n");
+        assert!(
+            text.contains("d=\"M404 939V24H854V939\"") && text.contains(">used length 5</text>")
+        );
     }
 
     #[test]

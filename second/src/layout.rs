@@ -2,6 +2,7 @@
 
 use std::cmp::Reverse;
 use std::fmt::Write;
+use std::ops::Range;
 
 use crate::job::{Job, Lines, Piece, Refusal};
 use crate::shape::{Direction, Turn};
@@ -53,13 +54,16 @@ pub fn start(job: &Job) -> Vec<Placement> {
     layout
 }
 
-/// The largest right end of the placed pieces.
+/// The columns that the placed pieces take up, from the first that one of them begins in to the last that one of them ends in.
 pub fn used_length(job: &Job, layout: &[Placement]) -> usize {
-    let right_end = |(index, place): (usize, &Placement)| {
+    let taken = |(index, place): (usize, &Placement)| {
         let [columns, _] = job.pieces[index].shape.turned_box(place.turn);
-        place.x + columns
+        place.x..place.x + columns
     };
-    layout.iter().enumerate().map(right_end).max().unwrap_or(0)
+    let taken: Vec<Range<usize>> = layout.iter().enumerate().map(taken).collect();
+    let begin = taken.iter().map(|columns| columns.start).min();
+    let end = taken.iter().map(|columns| columns.end).max();
+    end.unwrap_or(0) - begin.unwrap_or(0)
 }
 
 /// The layout text.

@@ -1,7 +1,7 @@
 //! The marked examples P1 to P12 and the two examples of the program.
 
 use second::job::{Job, Piece};
-use second::layout::Placement;
+use second::layout::{self, Placement};
 use second::nofit::{BitShape, NoFit};
 use second::penalty::PenaltyMaps;
 use second::search::{Descent, End, LinePlace, Search};
@@ -87,6 +87,19 @@ fn depths_and_penalty(first: Shape, second: Shape, dx: usize, dy: usize) -> (usi
         vertical,
         maps.penalty(0, at(0, 0, 0), 1, at(0, dx, dy)),
     )
+}
+
+#[test]
+fn used_length_begins_at_the_first_piece() {
+    let bars = vec![a(), shape(&["####"]), shape(&["#", "#", "#"])];
+    let job = job(4, 9, 15, bars);
+    let free_on_the_left = [at(0, 4, 0), at(90, 6, 0), at(270, 2, 2)];
+    assert_eq!(layout::used_length(&job, &free_on_the_left), 5);
+    let at_the_edge = free_on_the_left.map(|place| Placement {
+        x: place.x - 2,
+        ..place
+    });
+    assert_eq!(layout::used_length(&job, &at_the_edge), 5);
 }
 
 #[test]

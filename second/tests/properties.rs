@@ -4,7 +4,7 @@ mod oracle;
 
 use oracle::{Lcg, Place, Problem, STEPS};
 use second::job::{self, Job};
-use second::layout::Placement;
+use second::layout::{self, Placement};
 use second::nofit::{BitShape, NoFit};
 use second::penalty::PenaltyMaps;
 use second::search::{End, Search};
@@ -192,6 +192,20 @@ fn depths_and_no_fit_rows() {
             }
         }
     }
+}
+
+#[test]
+fn used_lengths() {
+    let mut lcg = Lcg(12);
+    let mut free_on_the_left = 0;
+    for _ in 0..300 {
+        let problem = lcg.problem(5, 5);
+        let layout = lcg.layout(&problem);
+        let found = layout::used_length(&job_of(&problem), &placements(&layout));
+        assert_eq!(found as i32, problem.used_length(&layout));
+        free_on_the_left += layout.iter().all(|place| place.corner.0 > 0) as i32;
+    }
+    assert!(free_on_the_left > 30);
 }
 
 #[test]

@@ -88,7 +88,7 @@ pub record Demand1Calls : Type 0 where
   pub checks : (l : Lent) (es : List (List ℕ)) (u : Unit {0}) → checkCall l es ≡ given u → Checked (jobOf l) (layoutOf es)
   pub checkNames : (l : Lent) (es : List (List ℕ)) (p : Pair) → checkCall l es ≡ refused (sharedRefusal p)
       → LowestPair (jobOf l) (layoutOf es) p
-  -- the used length is the largest right end
+  -- the used length reaches from the smallest corner x to the largest right end
   pub usedLengths : (l : Lent) (es : List (List ℕ)) (n : ℕ) → usedLengthCall l es ≡ given n → UsedClaims (jobOf l) (layoutOf es) n
   -- the program prints the text of the run that the calls give, or the reader's refusal, or `refused,7,0` for too long an input
   pub program : (input : List ℕ) (l : Lent) → length input ≤ inputBound → readJob input pieceBound areaBound ≡ given l → Prints input l

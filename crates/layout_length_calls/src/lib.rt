@@ -1,4 +1,4 @@
-// The used length of a layout. Document 01, 'Start, layout text, sheet' and 'When a call says no'.
+// The used length of a layout. Document 02, point 1, and document 01, 'When a call says no'.
 use causes::layout_causes;
 use layout_places::place_at;
 use model::DoneAnswer;
@@ -8,16 +8,26 @@ use model::PieceEntry;
 use model::PlaceEntry;
 use piece_pixels::turned_sides;
 use whole_numbers::larger;
+use whole_numbers::smaller;
 ghost use mathlib.Core.Path.{_≡_};
 ghost use mathlib.Core.List.{List};
 ghost use Prim.Native.Nat.{ℕ, _<_, _≤_};
 ghost use lib.ListN.{length};
 ghost use Rattle.model.specs.Answers.{numberAnswer};
-ghost use Rattle.model.specs.Layout.{rightEnd, usedLength};
+ghost use Rattle.model.specs.Layout.{cornerIn, rightEnd, usedLength};
 ghost use Rattle.model.specs.Lent.{lentBy, jobOf};
 ghost use Rattle.model.specs.Buffer.{layoutOf};
 ghost use Rattle.model.specs.Calls.{usedLengthCall};
 ghost use Rattle.model.specs.declared.JobSize.{JobSize};
+ghost use Rattle.call_laws.specs.Lengths.{UsedClaims};
+
+// The left end of piece i: its corner x.
+fn left_end(layout: &[PlaceEntry], i: usize) -> usize
+    requires { ⌜ i < length (now layout) ⌝ }
+    ensures { λ r. ⌜ r ≡ cornerIn (layoutOf (now (layout .entry))) i .x ⌝ }
+{
+    place_at(layout, i).x.0 as usize
+}
 
 // The right end of piece i: corner x plus the turned box's columns.
 fn right_end(table: &[PieceEntry], layout: &[PlaceEntry], i: usize) -> usize
@@ -30,18 +40,22 @@ fn right_end(table: &[PieceEntry], layout: &[PlaceEntry], i: usize) -> usize
     place.x.0 as usize + sides.columns
 }
 
-// The used length of a layout: the largest right end.
-fn longest_end(size: JobSize, table: &[PieceEntry], layout: &[PlaceEntry]) -> usize
-    requires { ⌜ (size .count ≤ length (now table)) × (length (now layout) ≡ size .count) ⌝ }
+// The used length of a layout: the largest right end less the smallest corner x.
+fn length_between_ends(size: JobSize, table: &[PieceEntry], layout: &[PlaceEntry]) -> usize
+    requires { ⌜ (0 < size .count) × (size .count ≤ length (now table)) × (length (now layout) ≡ size .count) ⌝ }
     ensures { λ r. ⌜ ((pixels : List ℕ) → r ≡ usedLength (jobOf (lentBy size (now (table .entry)) pixels)) (layoutOf (now (layout .entry)))) ⌝ }
 {
-    let mut longest = 0;
+    let mut last = 0;
+    let mut first = left_end(layout, 0);
     let mut i = 0;
     while i < size.count {
-        longest = larger(longest, right_end(table, layout, i));
+        let right = right_end(table, layout, i);
+        let left = left_end(layout, i);
+        last = larger(last, right);
+        first = smaller(first, left);
         i += 1;
     }
-    longest
+    last - first
 }
 
 // The used length of a layout, or its refusal.
@@ -51,10 +65,11 @@ pub fn used_length(
     pixels: &[u8],
     layout: &[PlaceEntry],
 ) -> NumberAnswer
-    ensures { λ r. ⌜ r ≡ numberAnswer (usedLengthCall (lentBy size (now (table .entry)) (now (pixels .entry))) (now (layout .entry))) ⌝ }
+    ensures answer { λ r. ⌜ r ≡ numberAnswer (usedLengthCall (lentBy size (now (table .entry)) (now (pixels .entry))) (now (layout .entry))) ⌝ }
+    ensures length { λ r. ⌜ ((n : ℕ) → r ≡ NumberAnswer.Number n → UsedClaims (jobOf (lentBy size (now (table .entry)) (now (pixels .entry)))) (layoutOf (now (layout .entry))) n) ⌝ }
 {
     match layout_causes(size, table, pixels, layout) {
         DoneAnswer::Refused(refusal) => NumberAnswer::Refused(refusal),
-        DoneAnswer::Done => NumberAnswer::Number(longest_end(size, table, layout) as u64),
+        DoneAnswer::Done => NumberAnswer::Number(length_between_ends(size, table, layout) as u64),
     }
 }

@@ -1,8 +1,9 @@
--- Laws of tests, numbers, bounded searches and sums, lists, stores into lists, and loops over them.
+-- Laws of tests, numbers, bounded searches, extremes and sums, lists, stores into lists, and loops over them.
 pub mod Tests
 pub mod Numbers
 pub mod Bounded
 pub mod Firsts
+pub mod Extremes
 pub mod Searches
 pub mod Sums
 pub mod Lists

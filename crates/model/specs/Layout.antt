@@ -1,8 +1,8 @@
--- Document 01, 'Sheet and panels' (inside), 'No-fit rows and penalty' (weights and sums), 'Start, layout text, sheet' (used
--- length) and the check of a layout. Assumes nothing.
+-- Document 01, 'Sheet and panels' (inside), 'No-fit rows and penalty' (weights and sums) and the check of a layout; document 02,
+-- point 1 (used length). Assumes nothing.
 use mathlib.Core.Bool.{Bool, true, false, _&&_, _||_}
 use mathlib.Core.List.{List, [], _∷_, _++_}
-use Prim.Native.Nat.{ℕ, zero, suc, _+_, _*_, max}
+use Prim.Native.Nat.{ℕ, zero, suc, _+_, _-_, _*_, min, max}
 use mathlib.Core.Option.{Option, none, some}
 use lib.Dec.{leb, eqb}
 use lib.ListN.{length, getD, replicate}
@@ -138,9 +138,14 @@ unfoldable pub rightmost : Job → Layout → ℕ → ℕ
 rightmost j v zero = 0
 rightmost j v (suc n) = max (rightmost j v n) (rightEnd j v n)
 
--- the used length: the largest right end
+-- the smallest corner x of piece 0 and of the pieces below n
+unfoldable pub leftmost : Layout → ℕ → ℕ
+leftmost v zero = cornerIn v 0 .x
+leftmost v (suc n) = min (leftmost v n) (cornerIn v n .x)
+
+-- the used length: the largest right end less the smallest corner x
 unfoldable pub usedLength : Job → Layout → ℕ
-usedLength j v = rightmost j v (j .size .count)
+usedLength j v = rightmost j v (j .size .count) - leftmost v (j .size .count)
 
 -- the first pair of the list that passes
 unfoldable pub firstPair : (Pair → Bool) → List Pair → Option Pair

@@ -1,6 +1,6 @@
 -- Worked examples beside P1 to P12, one test that the checker computes: what the program prints for document 01's two examples, for
--- a refused job and at the limit of its input, a start layout with pieces of equal length and a full stack, and a piece of separate
--- parts. Assumes nothing.
+-- a refused job and at the limit of its input, a start layout with pieces of equal length and a full stack, the used length of a layout
+-- that leaves cloth on its left, and a piece of separate parts. Assumes nothing.
 use mathlib.Core.Bool.{Bool, true, _&&_, _||_}
 use mathlib.Core.List.{List, [], _∷_, map}
 use mathlib.Core.Path.{_≡_, refl}
@@ -12,7 +12,7 @@ use Rattle.model.specs.Piece.{Shape, allows, tight}
 use Rattle.model.specs.Strip.{runsFrom, stripsFrom, strips}
 use Rattle.model.specs.Overlap.{share, apartAt, depth, penalty}
 use Rattle.model.specs.Layout.{Job, Layout, pairsWith, pairsFrom, pairShares, pairPenalty, sumOver, weightedSum, plainSum, pieceSum, unitWeights}
-use Rattle.model.specs.Layout.{rightmost, usedLength, inside, placeOf}
+use Rattle.model.specs.Layout.{rightmost, leftmost, usedLength, inside, placeOf}
 use Rattle.model.specs.Search.{places, sumAt, least, searchLine}
 use Rattle.model.specs.Descent.{turnTrials, pieceTrials, trialsFrom, trials, attempt, descendFrom, descend}
 use Rattle.model.specs.Guided.{raisedOver, raised, rounds, bestAfter, lastWeights, madeIn, movesIn, outcome, guide}
@@ -80,6 +80,28 @@ corners v =
 started : Bool
 started = sameNumbers (corners (start fourBoxes)) (0 ∷ 2 ∷ 0 ∷ 0 ∷ 3 ∷ 0 ∷ 5 ∷ 0 ∷ [])
 
+-- ── the used length ──
+
+-- a box of 2 × 2, a bar of 4 columns and a bar of 3 rows on a sheet of 4 rows and 9 columns
+threeBars : Job
+threeBars =
+    record {
+      size = record { rows = 4; columns = 9; count = 3 };
+      piece = λ i. record { shape = getD (full 2 2 ∷ full 4 1 ∷ full 1 3 ∷ []) i (full 1 1); turns = 15 };
+    }
+
+-- the box at column 4; the bar of 4 columns stands upright at column 6 and ends at 7; the other lies flat, from column 2 to 5
+freeOnTheLeft : Layout
+freeOnTheLeft = placement 0 4 0 ∷ placement 90 6 0 ∷ placement 270 2 2 ∷ []
+
+-- the same layout two columns further left
+atTheEdge : Layout
+atTheEdge = placement 0 2 0 ∷ placement 90 4 0 ∷ placement 270 0 2 ∷ []
+
+-- from 2 to 7, and from 0 to 5
+lengthsUsed : Bool
+lengthsUsed = sameNumbers (usedLength threeBars freeOnTheLeft ∷ usedLength threeBars atTheEdge ∷ []) (5 ∷ 5 ∷ [])
+
 -- ── a piece of separate parts ──
 
 -- two pixels, (0, 0) and (2, 1), in a box of 3 columns and 2 rows; they do not touch, and column 1 has none
@@ -112,13 +134,13 @@ separateParts =
 
 -- all of them
 pub worked : Bool
-worked = printedText && inputLength && largestSum && weightsLeft && started && separateParts
+worked = printedText && inputLength && largestSum && weightsLeft && started && lengthsUsed && separateParts
 
 -- the worked examples hold of the definitions
 pub worked-hold : worked ≡ true
-unfolding worked printedText inputLength largestSum weightsLeft started separateParts parts beside partsAndPixel sameEntries turnOfDegrees turnOf runsFrom
+unfolding worked printedText inputLength largestSum weightsLeft started lengthsUsed threeBars freeOnTheLeft atTheEdge separateParts parts beside partsAndPixel sameEntries turnOfDegrees turnOf runsFrom
     stripsFrom coversPixel mapFrom fresh lay layCauses called afterCalls corners twoSquares fourBoxes full wordLine runText programRun programText sameNumbers
-    share apartAt depth penalty pairsWith pairsFrom pairShares pairPenalty sumOver weightedSum plainSum pieceSum unitWeights rightmost usedLength places sumAt
+    share apartAt depth penalty pairsWith pairsFrom pairShares pairPenalty sumOver weightedSum plainSum pieceSum unitWeights rightmost leftmost usedLength places sumAt
     least searchLine turnTrials pieceTrials trialsFrom trials attempt descendFrom descend raisedOver raised rounds bestAfter lastWeights madeIn movesIn outcome
     guide insert fallingOrder stackAll start allows tight inside unless jobOf pixelStart standsAt digitsFrom numberAt fieldAt fieldsAt decimal fieldsText
     jobLine pieceLine markAt marksAt rowAt rowsAt pieceAt piecesAt readJob placementsText layoutText

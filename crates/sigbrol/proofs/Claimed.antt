@@ -1,10 +1,10 @@
--- What demand 3 says of a run, over the numbers that C is given: they are those of the run, and a reply of number 0 tells that there was one,
--- since every cause of a refusal has a number other than 0. Assumes nothing.
+-- What is said of a used length and of a run, over the numbers that C is given: they are those of the call, and a reply of number 0 tells
+-- that it was not refused, since every cause of a refusal has a number other than 0. Assumes nothing.
 use Rattle.list_laws.proofs.Kit.{_∙_, _≡_, ap, subst, sym, List, _<_, ℕ, arith}
 use Rattle.model.specs.Layout.{Job, Layout}
 use Rattle.model.specs.Lent.{Lent}
 use Rattle.model.specs.Refusal.{refused}
-use Rattle.model.specs.Calls.{descentCall, guidedCall}
+use Rattle.model.specs.Calls.{layoutCauses, usedLengthCall, descentCall, guidedCall}
 use Rattle.model.specs.declared.End.{End}
 use Rattle.model.specs.declared.Refusal.{Refusal}
 use Rattle.model.specs.Buffer.{endNumber}
@@ -21,6 +21,11 @@ pub descent-claimed : (j : Job) (ws : List ℕ) (budget : ℕ) (from to : Layout
 descent-claimed j ws budget from to e k h claims =
     subst (λ (end : End). DescentClaims j ws budget from (record { end = end; layout = to; sum = e .sum; made = e .made; moves = e .moves }))
     (sym (ap endTold h ∙ end-back (e .end))) claims
+
+-- a refused used length has a number
+pub used-numbered : (l : Lent) (es : List (List ℕ)) (r : Refusal) → usedLengthCall l es ≡ refused r → 0 < r .number
+unfolding usedLengthCall layoutCauses
+used-numbered l es r e = refused-numbered _ _ r (omega arith, (omega arith, (omega arith, (omega arith, tt)))) e
 
 -- a refused descent has a number
 pub descent-numbered : (l : Lent) (es : List (List ℕ)) (ws : List ℕ) (budget : ℕ) (r : Refusal) → descentCall l es ws budget ≡ refused r

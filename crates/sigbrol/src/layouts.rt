@@ -9,7 +9,10 @@ use model::PieceEntry;
 use model::PlaceEntry;
 ghost use mathlib.Core.Path.{_≡_};
 ghost use lib.ListN.{length};
+ghost use Rattle.model.specs.Lent.{jobOf};
+ghost use Rattle.model.specs.Buffer.{layoutOf};
 ghost use Rattle.model.specs.Calls.{leaving, layoutAfter, weightedSumCall, plainSumCall, usedLengthCall, checkCall, startCall};
+ghost use Rattle.call_laws.specs.Lengths.{UsedClaims};
 ghost use Rattle.c_interface.specs.Numbers.{lentAs};
 ghost use Rattle.c_interface.specs.Replies.{replyTo};
 
@@ -79,6 +82,7 @@ pub extern "C" fn sigbrol_used_length(
 ) -> Reply
     ensures answer { λ r. ⌜ r ≡ replyTo (usedLengthCall (lentAs rows columns count (now (table .entry)) (now (pixels .entry))) (now (layout .entry))) ⌝ }
     ensures used { λ r. ⌜ now (used .exit) ≡ leaving (λ a. a) (now (used .entry)) (usedLengthCall (lentAs rows columns count (now (table .entry)) (now (pixels .entry))) (now (layout .entry))) ⌝ }
+    ensures length { λ r. ⌜ (r .number ≡ 0 → UsedClaims (jobOf (lentAs rows columns count (now (table .entry)) (now (pixels .entry)))) (layoutOf (now (layout .entry))) (now (used .exit))) ⌝ }
 {
     match layout_length_calls::used_length(size_of(rows, columns, count), table, pixels, layout) {
         NumberAnswer::Number(length) => {

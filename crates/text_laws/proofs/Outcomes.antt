@@ -3,6 +3,8 @@
 use Rattle.list_laws.proofs.Kit.{_≡_, refl, Bool, false, true, List, [], _∷_, _+_, ℕ, arith, length}
 use Rattle.model.specs.Refusal.{Outcome, refused, given, Cause, unless, refusalOf}
 use Rattle.model.specs.Text.{Reading, wrong, got, onward, formed, andThen, standsAt, after}
+use Rattle.model.specs.Answers.{numberAnswer}
+use Rattle.model.specs.declared.NumberAnswer.{NumberAnswer}
 use Rattle.model.specs.declared.Refusal.{Refusal}
 use Rattle.text_laws.specs.Outcomes.{NoCause, Unless}
 
@@ -15,6 +17,11 @@ unless-given (c ∷ cs) a h = rw (h .0, unless) (unless-given cs a (h .1))
 -- a refusal is no value
 pub refused-given : {A : Type 0} {r : Refusal} {a : A} → refused r ≡ given a → ⊥
 refused-given {A} {r} {a} e = let z : _≡_ {A = ℕ} 0 1 = cc in omega arith
+
+-- a number that is answered is given
+pub number-given : (o : Outcome ℕ) (n : ℕ) → NumberAnswer.Number n ≡ numberAnswer o → o ≡ given n
+number-given (refused r) n e = let z : _≡_ {A = ℕ} 0 1 = cc in absurd (omega arith)
+number-given (given k) n e = cc
 
 -- the first cause is not there
 given-step : {A : Type 0} (c : Cause) (cs : List Cause) (a b : A) (t : Bool) → c .there ≡ t → (unless cs a ≡ given b → Unless cs a b)

@@ -184,7 +184,7 @@ impl Job {
         Ok(sum)
     }
 
-    /// The largest right end of a piece.
+    /// The columns of cloth that a layout spends, from the smallest corner x to the largest right end.
     pub fn used_length(&self, layout: &[Place]) -> Result<usize, Refused> {
         let mut used = 0;
         lend!(

@@ -5,7 +5,7 @@
 #![no_std]
 
 /// The version of the interface.
-pub const VERSION: u32 = 2;
+pub const VERSION: u32 = 3;
 
 /// The largest numbers of a job: pieces, bytes of all boxes together, bytes of a job text that the program reads.
 pub const PIECES: usize = 64;

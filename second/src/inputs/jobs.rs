@@ -105,6 +105,7 @@ pub fn kinds() -> Vec<Kind> {
         kind("tiled", 150, tiled),
         kind("holes", 80, holes),
         kind("separate parts", 80, separate_parts),
+        kind("interlocking", 100, interlocking),
         kind("dust", 80, dust),
         kind("single pixels", 60, single_pixels),
         kind("long strips", 80, long_strips),
@@ -239,6 +240,23 @@ fn separate_parts(random: &mut Random) -> Job {
         }
     });
     Job::filled(pieces, random.between(0, 6), random.between(60, 100))
+}
+
+/// Two or three thin pieces of about one length, in turn 0 only, on a sheet a little longer. They part by sliding into each other's gaps, so
+/// that many a run ends with cloth free on the left.
+fn interlocking(random: &mut Random) -> Job {
+    let (columns, rows) = (random.between(4, 8), random.between(2, 3));
+    let count = random.between(2, 3);
+    let thin = |_| Piece {
+        shape: shapes::draw(columns, rows, |_, _| random.chance(40)),
+        turns: 1,
+    };
+    let pieces: Vec<Piece> = (0..count).map(thin).collect();
+    Job {
+        rows: pieces.iter().map(Piece::rows).max().unwrap_or(1),
+        columns: columns + random.between(1, 3),
+        pieces,
+    }
 }
 
 /// Pieces of grains with many strips a line.

@@ -280,17 +280,33 @@ impl Problem {
         text
     }
 
+    /// The used length over pixel sets: the columns from the leftmost pixel of all panels to the rightmost. A box has a pixel in its first
+    /// and in its last column, so these are the columns between the boxes' ends.
+    pub fn used_length(&self, layout: &[Place]) -> i32 {
+        let columns_of = |(panel, place): (&Panel, &Place)| {
+            let corner = place.corner.0;
+            let pixels = turned(panel, place.turn).into_iter();
+            pixels.map(|(x, _)| corner + x).collect::<Vec<i32>>()
+        };
+        let columns: Vec<i32> = self
+            .panels
+            .iter()
+            .zip(layout)
+            .flat_map(columns_of)
+            .collect();
+        columns.iter().max().unwrap() - columns.iter().min().unwrap() + 1
+    }
+
     /// The program's output for this job.
     pub fn output(&self) -> String {
         let unit = vec![1; self.pairs().len()];
         let (best, sum, _, trials, moves) = self.guided_run(&self.start(), &unit, 20, 1_000);
         let mut text = format!("layout,1,{},{},{}\n", self.w, self.l, best.len());
-        let mut used = 0;
         for (i, place) in best.iter().enumerate() {
             let (x, y) = place.corner;
             text += &format!("at,{},{},{},{}\n", i, 90 * place.turn, x, y);
-            used = used.max(x + turned_box(&self.panels[i], place.turn).0);
         }
+        let used = self.used_length(&best);
         let word = if sum == 0 { "clear" } else { "open" };
         text + &format!("end,{word},{sum},{trials},{moves},{used}\n")
     }

@@ -13,7 +13,7 @@ returns c =
     let a = at-start .args in
     let l : Lent = lentBy (a .size) (a .table .now) (a .pixels .now) in
     let p = at-start .pre in
-    absurd (used-not-refused l (a .layout .now) (p .0) _ (sym (c .enum-told .given .1) ∙ c .before .before .used-length .ensures))
+    absurd (used-not-refused l (a .layout .now) (p .0) _ (sym (c .enum-told .given .1) ∙ c .before .before .used-length .ensures .0))
 
 returns-2 : tie.Need-returns-2
 returns-2 c =
@@ -53,7 +53,7 @@ returns-3 c =
     let long = p .1 in
     let w = text-taken l (a .layout .now) (p .0) (a .text .now) (omega arith) _ _ (sym (at-next .next .given .1) ∙ at-write-layout .write-layout .ensures .0)
     (at-write-layout .write-layout .ensures .1) in
-    let used = used-taken l (a .layout .now) (p .0) _ (sym (at-used .used .given .1) ∙ at-used-length .used-length .ensures) in
+    let used = used-taken l (a .layout .now) (p .0) _ (sym (at-used .used .given .1) ∙ at-used-length .used-length .ensures .0) in
     run-written (jobOf l) (a .run) (layoutOf (a .layout .now)) _ _ _ _ _ _ used w (c .before .before .put-end-line .ensures)
 
 pub write-run-spec : {M : Type 1} → statement M

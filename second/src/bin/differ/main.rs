@@ -57,7 +57,11 @@ fn compare_all(program: &str) -> io::Result<bool> {
     for cause in total.missing_causes() {
         println!("no input is refused by {cause}");
     }
-    Ok(total.different == 0 && total.missing_causes().is_empty())
+    if total.none_free_left() {
+        println!("no layout leaves cloth on its left");
+    }
+    let all_tried = total.missing_causes().is_empty() && !total.none_free_left();
+    Ok(total.different == 0 && all_tried)
 }
 
 /// Runs the program on the inputs of a kind; also gives the first difference.

@@ -11,6 +11,8 @@ pub struct Tally {
     inputs: usize,
     clear: usize,
     open: usize,
+    /// Accepted inputs whose layout leaves the sheet's first column free.
+    free_left: usize,
     /// Refused inputs by the number of the cause, from 1.
     refused: [usize; CAUSES],
     pub different: usize,
@@ -28,6 +30,12 @@ impl Tally {
         } else if let Some(cause) = refusal(expected) {
             self.refused[cause - 1] += 1;
         }
+        self.free_left += usize::from(is_free_left(expected));
+    }
+
+    /// Whether no layout leaves cloth on its left, which leaves that part of the used length untried.
+    pub fn none_free_left(&self) -> bool {
+        self.free_left == 0
     }
 
     /// The numbers by which no input is refused.
@@ -40,8 +48,8 @@ impl Tally {
     pub fn head() -> String {
         let causes: String = (1..=CAUSES).map(|cause| format!("  by {cause}")).collect();
         format!(
-            "{:<20}{:>7}{:>10}{:>7}{:>6}{:>9}{causes}{:>11}",
-            "kind", "inputs", "accepted", "clear", "open", "refused", "different"
+            "{:<20}{:>7}{:>10}{:>7}{:>6}{:>11}{:>9}{causes}{:>11}",
+            "kind", "inputs", "accepted", "clear", "open", "free left", "refused", "different"
         )
     }
 
@@ -49,11 +57,12 @@ impl Tally {
     pub fn line(&self, name: &str) -> String {
         let causes: String = self.refused.iter().map(|n| format!("{n:>6}")).collect();
         format!(
-            "{name:<20}{:>7}{:>10}{:>7}{:>6}{:>9}{causes}{:>11}",
+            "{name:<20}{:>7}{:>10}{:>7}{:>6}{:>11}{:>9}{causes}{:>11}",
             self.inputs,
             self.clear + self.open,
             self.clear,
             self.open,
+            self.free_left,
             self.refused.iter().sum::<usize>(),
             self.different
         )
@@ -66,11 +75,19 @@ impl AddAssign for Tally {
         self.inputs += other.inputs;
         self.clear += other.clear;
         self.open += other.open;
+        self.free_left += other.free_left;
         for (count, more) in self.refused.iter_mut().zip(other.refused) {
             *count += more;
         }
         self.different += other.different;
     }
+}
+
+/// Whether an output has pieces and none with its corner in column 0.
+fn is_free_left(output: &str) -> bool {
+    let places = output.lines().filter(|line| line.starts_with("at,"));
+    let mut corners = places.filter_map(|line| line.split(',').nth(3));
+    corners.next().is_some_and(|first| first != "0") && corners.all(|corner| corner != "0")
 }
 
 /// The number of the cause that an output names.

@@ -1,10 +1,12 @@
 -- `sigbrol::layouts::sigbrol_used_length` meets its contract by what the answer tells. Assumes nothing.
-use Rattle.list_laws.proofs.Kit.{_∙_, _≡_, sym, ℕ}
+use Rattle.list_laws.proofs.Kit.{_∙_, _≡_, ap, sym, ℕ, arith}
 use Rattle.model.specs.Answers.{numberAnswer}
 use Rattle.model.specs.Refusal.{Outcome}
 use Rattle.model.specs.Calls.{usedLengthCall}
 use Rattle.c_interface.specs.Numbers.{lentAs}
-use Rattle.sigbrol.proofs.Told.{reply-by, leaves-by, number-told}
+use Rattle.c_interface.specs.declared.Reply.{Reply}
+use Rattle.sigbrol.proofs.Told.{reply-by, leaves-by, refusal-told, number-told}
+use Rattle.sigbrol.proofs.Claimed.{used-numbered}
 use Rattle.sigbrol.proofs.layouts.sigbrol_used_length.Statement.{statement}
 use Rattle.sigbrol.proofs.layouts.sigbrol_used_length.Tie as tie
 
@@ -17,7 +19,7 @@ answered : (c : tie.After-used-length) →
     let at-start : tie.Start = search in
     c .used-length .result ≡ numberAnswer (outcome (at-start))
 unfolding outcome
-answered c = rw (c .before .size-of .ensures) at (c .used-length .ensures)
+answered c = rw (c .before .size-of .ensures) at (c .used-length .ensures .0)
 
 size-of-requires : tie.Need-size-of-requires
 size-of-requires c κs = tt
@@ -44,7 +46,13 @@ returns c =
     let at-start : tie.Start = search in
     let o = outcome (at-start) in
     let t = number-told o (sym (c .before .before .length .given .1) ∙ answered (at-used-length)) in
-    (c .done .ensures ∙ reply-by (λ k. k) o t, leaves-by (λ k. k) (λ k. k) _ o t)
+    let sized : tie.After-size-of = search in (
+      c .done .ensures ∙ reply-by (λ k. k) o t,
+      (
+        leaves-by (λ k. k) (λ k. k) _ o t,
+        λ zero. rw (sized .size-of .ensures) at (at-used-length .used-length .ensures .1 _ (c .before .before .length .given .1)),
+      ),
+    )
 
 returns-2 : tie.Need-returns-2
 unfolding outcome
@@ -53,7 +61,13 @@ returns-2 c =
     let at-start : tie.Start = search in
     let o = outcome (at-start) in
     let t = number-told o (sym (c .before .before .refusal .given .1) ∙ answered (at-used-length)) in
-    (c .refused .ensures ∙ reply-by (λ k. k) o t, leaves-by (λ k. k) (λ k. k) _ o t)
+    let a = at-start .args in
+    let positive =
+    used-numbered (lentAs (a .rows) (a .columns) (a .count) (a .table .now) (a .pixels .now)) (a .layout .now) _ (refusal-told (λ k. k) o _ t) in
+    let number = ap (λ (x : Reply). x .number) (c .refused .ensures) in (
+      c .refused .ensures ∙ reply-by (λ k. k) o t,
+      (leaves-by (λ k. k) (λ k. k) _ o t, λ zero. absurd (omega (arith, positive, number, zero))),
+    )
 
 pub sigbrol-used-length-spec : {M : Type 1} → statement M
 sigbrol-used-length-spec =
