@@ -20,17 +20,11 @@ pub struct Layout {
     pub rows: usize,
     pub columns: usize,
     pub pieces: Vec<Placed>,
+    /// The columns from the smallest corner x to the largest right end of the pieces.
+    pub used_columns: Range<usize>,
 }
 
 impl Layout {
-    /// The columns from the smallest corner x to the largest right end of the pieces.
-    pub fn used_columns(&self) -> Range<usize> {
-        let right_end = |piece: &Placed| piece.x + piece.grid.columns;
-        let first = self.pieces.iter().map(|piece| piece.x).min();
-        let end = self.pieces.iter().map(right_end).max();
-        first.unwrap_or(0)..end.unwrap_or(0)
-    }
-
     /// The sheet's pixels that two or more pieces cover.
     pub fn shared(&self) -> Grid {
         let mut counts = vec![0; self.rows * self.columns];
@@ -54,6 +48,7 @@ pub fn read(job: &[u8], layout: &[u8]) -> Result<Layout, String> {
         rows: job.rows,
         columns: job.columns,
         pieces: placed(&job, &places),
+        used_columns: layout::used_columns(&job, &places),
     })
 }
 
@@ -110,7 +105,7 @@ mod tests {
     fn pieces_lie_turned_at_their_corners() {
         let text = "layout,1,2,4,2\nat,0,0,0,0\nat,1,180,1,0\nend,clear,0,0,0,3\nand more";
         let layout = layout(text).expect("the layout is right");
-        assert_eq!(layout.used_columns(), 0..3);
+        assert_eq!(layout.used_columns, 0..3);
         assert_eq!(layout.shared().count(), 0);
         assert!(!layout.pieces[1].grid.has(0, 0) && layout.pieces[1].grid.has(1, 0));
     }

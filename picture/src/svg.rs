@@ -91,7 +91,7 @@ impl Picture<'_> {
             counted(self.layout.pieces.len(), "piece"),
             counted(self.layout.rows, "row"),
             counted(self.layout.columns, "column"),
-            self.layout.used_columns().len(),
+            self.layout.used_columns.len(),
             counted(self.shared.count(), "shared pixel"),
         )
     }
@@ -229,7 +229,7 @@ impl Picture<'_> {
 
     /// The used length: a line across the sheet at either end, one between them above the sheet, and the number on it.
     fn used_length(&self) -> String {
-        let used = self.layout.used_columns();
+        let used = &self.layout.used_columns;
         let (left, right) = (self.x(used.start), self.x(used.end));
         let (top, bottom) = (TOP - 10, self.y(0) + 5);
         // The words reach into the side of the picture that has more room.

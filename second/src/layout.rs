@@ -55,7 +55,7 @@ pub fn start(job: &Job) -> Vec<Placement> {
 }
 
 /// The columns that the placed pieces take up, from the first that one of them begins in to the last that one of them ends in.
-pub fn used_length(job: &Job, layout: &[Placement]) -> usize {
+pub fn used_columns(job: &Job, layout: &[Placement]) -> Range<usize> {
     let taken = |(index, place): (usize, &Placement)| {
         let [columns, _] = job.pieces[index].shape.turned_box(place.turn);
         place.x..place.x + columns
@@ -63,7 +63,12 @@ pub fn used_length(job: &Job, layout: &[Placement]) -> usize {
     let taken: Vec<Range<usize>> = layout.iter().enumerate().map(taken).collect();
     let begin = taken.iter().map(|columns| columns.start).min();
     let end = taken.iter().map(|columns| columns.end).max();
-    end.unwrap_or(0) - begin.unwrap_or(0)
+    begin.unwrap_or(0)..end.unwrap_or(0)
+}
+
+/// The used length: how many these are.
+pub fn used_length(job: &Job, layout: &[Placement]) -> usize {
+    used_columns(job, layout).len()
 }
 
 /// The layout text.

@@ -91,7 +91,7 @@ used-from-edge j v some =
 shifted-back : (n : ℕ) (v v′ : Layout) (a b : ℕ) → Shifted n v v′ a b → Shifted n v′ v b a
 shifted-back n v v′ a b s = record { turns = λ i l. sym (s .turns i l); columns = λ i l. sym (s .columns i l) }
 
--- a shift makes no layout longer
+-- a shift makes no layout shorter
 shifted-at-most : (j : Job) (v v′ : Layout) (a b : ℕ) → 0 < j .size .count → Shifted (j .size .count) v v′ a b → usedLength j v ≤ usedLength j v′
 shifted-at-most j v v′ a b some s =
     let w = used-attained j v some in

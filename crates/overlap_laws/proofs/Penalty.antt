@@ -1,21 +1,18 @@
 -- Document 01, 'No-fit rows and penalty' and demand 2: the penalty is the smaller of the two depths. It is 0 exactly when no pixel
 -- is shared, since each depth is, and it does not depend on which piece is called first, since neither depth does.
 -- Assumes nothing.
-use Rattle.list_laws.proofs.Kit.{_∙_, _≡_, sym, false, Iff·trans, _↔_, _⊎_, inl, inr, ⊎-elim, _≤_, min, ℕ, eq-or-lt-of-le, min-le-left, min-le-right, arith}
+use Rattle.list_laws.proofs.Kit.{_∙_, _≡_, sym, false, Iff·trans, _↔_, _⊎_, ⊎-elim, _≤_, min-le-left, min-le-right, arith}
 use Rattle.model.specs.Piece.{Point, Shape, extent}
 use Rattle.model.specs.Overlap.{share, depth, penalty}
 use Rattle.model.specs.declared.Direction.{Direction}
 use Rattle.model.specs.declared.Direction.the-variants.{Horizontal, Vertical}
 use Rattle.list_laws.proofs.Tests.{clash, fails}
+use Rattle.list_laws.proofs.Extremes.{min-one}
 use Rattle.overlap_laws.specs.Overlap.{PenaltyLaws, SharedPixel}
 use Rattle.overlap_laws.proofs.Share.{SameDifference, SamePixels, share-exactly, share-from, share-witness}
 use Rattle.overlap_laws.proofs.Depth.{depth-exactly, depth-zero, zero-depth, depth-symmetric, depth-difference, depth-pixels, depth-bound}
 use Rattle.overlap_laws.proofs.PixelDepth.{shares-at-shift, shares-unshifted, depth-over-pixels, over-pixels-depth, penalty-over-pixels}
 use Rattle.overlap_laws.proofs.PixelDepth.{over-pixels-penalty}
-
--- the smaller of two numbers is one of them
-min-one : (a b : ℕ) → (min a b ≡ a) ⊎ (min a b ≡ b)
-min-one a b = ⊎-elim (λ e. inr e) (λ l. inl (omega arith)) (eq-or-lt-of-le (min-le-right a b))
 
 module _ (s : Shape) (u : Point) (t : Shape) (v : Point) where
   -- the penalty is at most each depth

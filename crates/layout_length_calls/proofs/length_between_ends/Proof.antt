@@ -57,17 +57,17 @@ loop-again c =
     )
 
 -- all pieces are passed
-all-passed : (p : tie.Else1 Inv-loop μ-loop) →
+at-the-end : (p : tie.Else1 Inv-loop μ-loop) →
     let at-loop : tie.At-loop Inv-loop μ-loop = search in
     let at-start : tie.Start Inv-loop μ-loop = search in
     at-loop .loop .i ≡ at-start .args .size .count
-all-passed p = omega arith
+at-the-end p = omega arith
 
 sub-result : tie.Need-sub-result Inv-loop μ-loop
 sub-result c =
     let at-loop : tie.At-loop Inv-loop μ-loop = search in
     let at-start : tie.Start Inv-loop μ-loop = search in
-    let e = all-passed c in
+    let e = at-the-end c in
     let h = at-start .pre .0 in
     let some : 0 < at-loop .loop .i = omega arith in
     let ordered : at-loop .loop .first ≤ at-loop .loop .last =
@@ -78,7 +78,7 @@ returns : tie.Need-returns Inv-loop μ-loop
 unfolding usedLength jobOf
 returns c = λ pixels.
     let at-loop : tie.At-loop Inv-loop μ-loop = search in
-    rw (at-loop .loop .inv .1 pixels, at-loop .loop .inv .2, all-passed c)
+    rw (at-loop .loop .inv .1 pixels, at-loop .loop .inv .2, at-the-end c)
 
 pub length-between-ends-spec : {M : Type 1} → statement M
 length-between-ends-spec =
