@@ -39,7 +39,7 @@ extern "C" {
 #endif
 
 /* The version of this interface. It grows by 1 where anything below changes for a caller. */
-#define SIGBROL_VERSION 3
+#define SIGBROL_VERSION 4
 
 /* The largest numbers of a job: pieces, bytes of all boxes together, bytes of a job text that the program reads. */
 #define SIGBROL_PIECES 64
@@ -53,6 +53,9 @@ extern "C" {
 #define SIGBROL_RUNS 255
 #define SIGBROL_LAYOUT_TEXT 2048
 #define SIGBROL_OUTPUT 4096
+
+/* How many lines suffice for the cut list of every layout on a sheet. */
+#define SIGBROL_CUT_LINES(rows, columns) (((size_t)(rows) + 1) * ((size_t)(columns) + 1))
 
 /* How many pairs n pieces have, so how many weights, and the largest weight. */
 #define SIGBROL_PAIRS(n) ((size_t)(n) * ((size_t)(n) - 1) / 2)
@@ -68,6 +71,14 @@ extern "C" {
 /* Directions, for `vertical`. */
 #define SIGBROL_HORIZONTAL 0
 #define SIGBROL_VERTICAL 1
+
+/* What the knife does at a step. */
+#define SIGBROL_STEP_DONE 0
+#define SIGBROL_STEP_LIFT 1
+#define SIGBROL_STEP_CUT 2
+
+/* The largest pitch: the side of a pixel in sixty-fourths of a millimetre. */
+#define SIGBROL_PITCH 4096
 
 /* The numbers of refusals. README.md says what to do about each. */
 #define SIGBROL_DONE 0
@@ -253,6 +264,34 @@ sigbrol_reply sigbrol_write_layout(size_t rows, size_t columns, size_t count, co
 sigbrol_reply sigbrol_read_layout(size_t rows, size_t columns, size_t count, const uint8_t (*table)[3], size_t table_length,
                                   const uint8_t *pixels, size_t pixels_length, const uint8_t *text, size_t text_length,
                                   uint16_t (*layout)[3], size_t layout_length);
+
+/* ---- the cut list ---- */
+
+/* The lines to cut of a layout that passes sigbrol_check: fills the front of `lines` and `lines_count`, how many there are. An entry is
+ * {direction, line, first, last} in pixel lines, 0 to W or L: row y lies between the lines y and y + 1. A horizontal line (0) stands at
+ * y = line from x = first to x = last, a vertical one (1) at x = line from y = first to y = last. Horizontals come first, by y, then x;
+ * verticals by x, then y. Every side between a pixel of a piece and one that is not of that piece, or the sheet's outside, lies on just
+ * one line, nothing else is cut, and no two lines could be joined.
+ * SIGBROL_CUT_LINES(rows, columns) lines suffice for every layout.
+ * Refused: 8 the job; 7 the layout's length; 9; 10; 12 as sigbrol_check; 7 the line buffer is too short. */
+sigbrol_reply sigbrol_cut_lines(size_t rows, size_t columns, size_t count, const uint8_t (*table)[3], size_t table_length,
+                                const uint8_t *pixels, size_t pixels_length, const uint16_t (*layout)[3], size_t layout_length,
+                                uint16_t (*lines)[4], size_t lines_length, size_t *lines_count);
+
+/* Step number `step`, from 0, of the cut list of a layout that passes sigbrol_check: fills `word` with SIGBROL_STEP_LIFT or
+ * SIGBROL_STEP_CUT, and `x` and `y` with the point to lift or to cut to in millimetres, exactly pixel line x pitch / 64; or `word` alone
+ * with SIGBROL_STEP_DONE, for every number past the last. Steps 2k and 2k + 1 are a lift to the smaller end of line k and a cut to the
+ * other. Each call makes the whole list: for more than a few steps make the lines once and ask sigbrol_line_step.
+ * Refused: 8 the job; 7 the layout's length; 2 a pitch that is none of 1 to SIGBROL_PITCH; 9; 10; 12 as sigbrol_check. */
+sigbrol_reply sigbrol_cut_step(size_t rows, size_t columns, size_t count, const uint8_t (*table)[3], size_t table_length,
+                               const uint8_t *pixels, size_t pixels_length, const uint16_t (*layout)[3], size_t layout_length,
+                               uint32_t pitch, uint64_t step, uint8_t *word, double *x, double *y);
+
+/* The same step of lines that are lent, found without a search. Lend just the `lines_count` lines that sigbrol_cut_lines filled, not the
+ * whole buffer: every entry that is lent is a line, whatever it holds, and a direction other than 0 is vertical.
+ * Refused: 2 a pitch that is none of 1 to SIGBROL_PITCH. */
+sigbrol_reply sigbrol_line_step(const uint16_t (*lines)[4], size_t lines_length, uint32_t pitch, uint64_t step, uint8_t *word,
+                                double *x, double *y);
 
 /* ---- search ---- */
 

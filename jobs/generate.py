@@ -115,6 +115,11 @@ def grain(random, columns, rows, percent):
     return draw(columns, rows, lambda x, y: random.between(1, 100) <= percent or corner(x, y))
 
 
+def lattice(columns, rows):
+    """Single pixels that touch no other: every second one of every second row."""
+    return draw(columns, rows, lambda x, y: x % 2 == 0 and y % 2 == 0)
+
+
 def blob(random, columns, rows):
     """An irregular piece: a box with slanted corners and one or two notches."""
     cuts = [(random.between(1, columns // 2), random.between(1, rows // 2)) for _ in range(4)]
@@ -230,6 +235,19 @@ def small_jobs():
     random = Random(35)
     write("weights-grow", job_text(12, 10, [
         (blob(random, random.between(4, 7), random.between(4, 6)), 15) for _ in range(7)]))
+
+
+def cut_jobs():
+    """Jobs that end clear and whose cut lists each show one thing."""
+    write("cut-free-hole", job_text(4, 6, [(frame(4, 4, 1), 1), (full(2, 3), 1)]))
+    write("cut-crossing", job_text(7, 9, [
+        (frame(5, 4, 1), 1), (full(5, 3), 1), (full(4, 4), 1), (angle(4, 3, 1, 2), 1)]))
+    # Boxes of 13 rows do not fit above one another. The last two pieces end at the sheet's right
+    # edge, one above the other.
+    random = Random(36)
+    dust = [grain(random, 79, 13, 30) if k % 2 == 0 else lattice(79, 13) for k in range(51)]
+    dust += [lattice(67, 13), lattice(67, 3)]
+    write("cut-dust", job_text(16, 4096, [(shape, 1) for shape in dust]))
 
 
 def damaged_jobs():
@@ -380,6 +398,7 @@ def real_jobs():
 
 if __name__ == "__main__":
     small_jobs()
+    cut_jobs()
     damaged_jobs()
     write("limit-65536-bytes", sized_job(65536))
     write("refused-7-65537-bytes", sized_job(65537))

@@ -1,5 +1,6 @@
 /* Nests the pieces of a job round by round through sigbrol.h. Reads the job text from standard input, tells the progress on standard
- * error and prints the best layout and how the search ended, as the program `nest` does in one go. */
+ * error, with the length of the cut list where the layout is clear, and prints the best layout and how the search ended, as the program
+ * `nest` does in one go. */
 #include <inttypes.h>
 #include <stdio.h>
 #include <stdlib.h>
@@ -9,6 +10,9 @@
 
 #define ROUNDS 20
 #define BUDGET 1000
+
+/* The side of a pixel in sixty-fourths of a millimetre: 1.5 mm. */
+#define PITCH 96
 
 /* What the search holds: the present layout and weights, the best layout so far with its plain sum, and the work of all rounds. */
 typedef struct {
@@ -102,11 +106,38 @@ static uint8_t run_round(const sigbrol_job *job, search *s, int number)
     return end;
 }
 
+/* Tells how many lines the knife follows and how long they are together, step by step. A coordinate is a multiple of 1/64 mm, so that
+ * the sum is exact, and no more than 15 digits are needed for it. */
+static void tell_cut_list(const sigbrol_job *job, uint16_t (*layout)[3])
+{
+    size_t room = SIGBROL_CUT_LINES(job->rows, job->columns), count = 0;
+    uint16_t(*lines)[4] = malloc(room * sizeof *lines);
+    if (lines == NULL) {
+        perror("cut list");
+        exit(EXIT_FAILURE);
+    }
+    must("sigbrol_cut_lines", sigbrol_cut_lines(SIGBROL_LENT(job), SIGBROL_PLACES(layout), job->count, lines, room, &count));
+
+    uint8_t word = SIGBROL_STEP_LIFT;
+    double x = 0, y = 0, length = 0;
+    for (uint64_t step = 0; word != SIGBROL_STEP_DONE; step++) {
+        double from_x = x, from_y = y;
+        must("sigbrol_line_step", sigbrol_line_step((const uint16_t(*)[4])lines, count, PITCH, step, &word, &x, &y));
+        if (word == SIGBROL_STEP_CUT) {
+            /* One of the two is 0. */
+            length += (x - from_x) + (y - from_y);
+        }
+    }
+    free(lines);
+    fprintf(stderr, "cut list: %zu lines, %.15g mm\n", count, length);
+}
+
 /* Prints the best layout and the last line. A layout that is called clear has passed the check before. */
 static void print_best(const sigbrol_job *job, search *s)
 {
     if (s->best_sum == 0) {
         must("sigbrol_check", sigbrol_check(SIGBROL_LENT(job), SIGBROL_PLACES(s->best), job->count));
+        tell_cut_list(job, s->best);
     }
     uint8_t text[SIGBROL_LAYOUT_TEXT];
     size_t written = 0, used = 0;

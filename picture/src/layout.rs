@@ -2,6 +2,7 @@
 
 use std::ops::Range;
 
+use second::cut::{self, CutLine};
 use second::job::{self, Job, Refusal};
 use second::layout;
 
@@ -22,6 +23,8 @@ pub struct Layout {
     pub pieces: Vec<Placed>,
     /// The columns from the smallest corner x to the largest right end of the pieces.
     pub used_columns: Range<usize>,
+    /// The lines to cut.
+    pub cut_lines: Vec<CutLine>,
 }
 
 impl Layout {
@@ -49,6 +52,7 @@ pub fn read(job: &[u8], layout: &[u8]) -> Result<Layout, String> {
         columns: job.columns,
         pieces: placed(&job, &places),
         used_columns: layout::used_columns(&job, &places),
+        cut_lines: cut::lines(&job, &places),
     })
 }
 

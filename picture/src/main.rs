@@ -1,4 +1,4 @@
-//! Draws a layout as SVG: `picture JOB LAYOUT > layout.svg`.
+//! Draws a layout as SVG: `picture JOB LAYOUT > layout.svg`, and with the option `--cut` the lines to cut over it.
 //!
 //! `layout` reads the two texts through the second program's library, `grid` has pixel sets, `outline`
 //! finds their edges, `label` the places of the numbers, `colour` the colours, and `svg` draws.
@@ -28,11 +28,18 @@ fn main() -> ExitCode {
 
 /// The picture of the job and the layout that the arguments name.
 fn picture(arguments: &[String]) -> Result<String, String> {
-    let [job, layout] = arguments else {
-        return Err("usage: picture JOB LAYOUT".to_string());
+    let (cut, files) = match arguments {
+        [option, files @ ..] if option == "--cut" => (true, files),
+        files => (false, files),
+    };
+    let [job, layout] = files else {
+        return Err("usage: picture [--cut] JOB LAYOUT".to_string());
     };
     let layout = layout::read(&bytes(job)?, &bytes(layout)?)?;
-    Ok(svg::draw(&layout))
+    if cut && layout.shared().count() > 0 {
+        return Err("layout: pieces share a pixel: do not cut".to_string());
+    }
+    Ok(svg::draw(&layout, cut))
 }
 
 /// The bytes of a file.

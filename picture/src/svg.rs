@@ -1,5 +1,7 @@
 //! The picture of a layout.
 
+use second::cut::CutLine;
+
 use crate::colour::colours;
 use crate::grid::Grid;
 use crate::label::largest_square;
@@ -30,9 +32,9 @@ const HATCHING: &str = r##"<defs>
 </defs>
 "##;
 
-/// The SVG text of a layout.
-pub fn draw(layout: &Layout) -> String {
-    let picture = Picture::new(layout);
+/// The SVG text of a layout, with the lines to cut or without.
+pub fn draw(layout: &Layout, cut: bool) -> String {
+    let picture = Picture::new(layout, cut);
     let width = LEAST_WIDTH.max(picture.x(layout.columns) + RIGHT);
     let height = picture.y(0) + BOTTOM;
     // What is drawn later lies in front.
@@ -49,6 +51,7 @@ pub fn draw(layout: &Layout) -> String {
         picture.shared_pixels(),
         picture.piece_numbers(),
         picture.used_length(),
+        picture.cut_lines(),
         picture.caption_text(height - 14),
         "</svg>\n".to_string(),
     ]
@@ -61,16 +64,19 @@ struct Picture<'a> {
     shared: Grid,
     /// The side of a pixel in the picture.
     scale: usize,
+    /// Whether the lines to cut are drawn.
+    cut: bool,
 }
 
 impl Picture<'_> {
     /// Chooses a size that fills a usual screen and in which every pixel can be seen.
-    fn new(layout: &Layout) -> Picture<'_> {
+    fn new(layout: &Layout, cut: bool) -> Picture<'_> {
         let scale = (1200 / layout.columns).min(900 / layout.rows);
         Picture {
             layout,
             shared: layout.shared(),
             scale: scale.clamp(2, 96),
+            cut,
         }
     }
 
@@ -86,8 +92,13 @@ impl Picture<'_> {
 
     /// What the picture shows, in words.
     fn caption(&self) -> String {
+        let cut = if self.cut {
+            format!(", {} to cut", counted(self.layout.cut_lines.len(), "line"))
+        } else {
+            String::new()
+        };
         format!(
-            "{}, {} by {}, used length {}, {}",
+            "{}, {} by {}, used length {}, {}{cut}",
             counted(self.layout.pieces.len(), "piece"),
             counted(self.layout.rows, "row"),
             counted(self.layout.columns, "column"),
@@ -227,6 +238,35 @@ impl Picture<'_> {
         )
     }
 
+    /// The lines to cut, in red, which is free where no pixel is shared: a bar where the knife is let down, an arrow where it is lifted.
+    fn cut_lines(&self) -> String {
+        if !self.cut {
+            return String::new();
+        }
+        let lines = self.layout.cut_lines.iter();
+        let path: String = lines.map(|line| self.cut_line(line)).collect();
+        format!("<path fill=\"none\" stroke=\"#d80000\" stroke-width=\"2\" d=\"{path}\"/>\n")
+    }
+
+    /// A line to cut. It is drawn a little short at both ends, so that lines which meet there can be told from lines that cross.
+    fn cut_line(&self, line: &CutLine) -> String {
+        let (short, mark) = (self.scale / 8, (self.scale / 8).clamp(1, 6));
+        let length = (line.last - line.first) * self.scale - 2 * short;
+        if line.vertical {
+            let (x, y) = (self.x(line.line), self.y(line.first) - short);
+            let (left, right, back) = (x - mark, x + mark, y - length + mark);
+            format!(
+                "M{left} {y}H{right}M{x} {y}v-{length}M{left} {back}l{mark} -{mark}l{mark} {mark}"
+            )
+        } else {
+            let (x, y) = (self.x(line.first) + short, self.y(line.line));
+            let (top, bottom, back) = (y - mark, y + mark, x + length - mark);
+            format!(
+                "M{x} {top}V{bottom}M{x} {y}h{length}M{back} {top}l{mark} {mark}l-{mark} {mark}"
+            )
+        }
+    }
+
     /// The used length: a line across the sheet at either end, one between them above the sheet, and the number on it.
     fn used_length(&self) -> String {
         let used = &self.layout.used_columns;
@@ -262,9 +302,14 @@ mod tests {
 
     /// The picture of a corner piece and a square on a sheet of 10 rows and 12 columns, scale 90.
     fn picture(places: &str) -> String {
+        draw(&laid(places), false)
+    }
+
+    /// The layout of these pieces.
+    fn laid(places: &str) -> Layout {
         let job = b"job,1,10,12,2\npiece,0,2,2,15\nrow,##\nrow,#.\npiece,1,2,2,1\nrow,##\nrow,##\n";
         let text = format!("layout,1,10,12,2\n{places}");
-        draw(&layout::read(job, text.as_bytes()).expect("job and layout are right"))
+        layout::read(job, text.as_bytes()).expect("job and layout are right")
     }
 
     #[test]
@@ -303,6 +348,29 @@ mod tests {
         assert!(
             text.contains("d=\"M404 939V24H854V939\"") && text.contains(">used length 5</text>")
         );
+    }
+
+    #[test]
+    fn lines_to_cut_lie_over_the_pieces() {
+        // The corner piece stands left of the square.
+        let layout = laid("at,0,0,0,0\nat,1,0,2,0\n");
+        let text = draw(&layout, true);
+        assert!(
+            text.contains(", 0 shared pixels, 8 lines to cut</title>"),
+            "{text}"
+        );
+        // The first line goes along the bottom of both, from (0, 0) to (4, 0).
+        assert!(
+            text.contains(" d=\"M55 928V940M55 934h338M387 928l6 6l-6 6M"),
+            "{text}"
+        );
+        // The last one goes up the square's right side, from (4, 0) to (4, 2).
+        assert!(
+            text.contains("M398 923H410M404 923v-158M398 771l6 -6l6 6\"/>\n"),
+            "{text}"
+        );
+        let without = draw(&layout, false);
+        assert!(!without.contains("to cut") && !without.contains("#d80000\" stroke-width"));
     }
 
     #[test]

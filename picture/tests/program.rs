@@ -4,6 +4,8 @@ use std::path::{Path, PathBuf};
 use std::process::{Command, Output};
 use std::{env, fs, process};
 
+use second::{cut, job, layout};
+
 /// A file of the example jobs.
 fn example(name: &str) -> PathBuf {
     Path::new(env!("CARGO_MANIFEST_DIR"))
@@ -19,6 +21,22 @@ fn run(job: &Path, layout: &Path) -> Output {
         .expect("the program runs")
 }
 
+/// Runs the program on a job and a layout with the option for the lines to cut.
+fn run_cut(job: &Path, layout: &Path) -> Output {
+    Command::new(env!("CARGO_BIN_EXE_picture"))
+        .arg("--cut")
+        .args([job, layout])
+        .output()
+        .expect("the program runs")
+}
+
+/// The example jobs.
+fn jobs() -> impl Iterator<Item = PathBuf> {
+    let files = fs::read_dir(example("")).expect("the folder is there");
+    let files = files.map(|file| file.expect("the file is there").path());
+    files.filter(|file| file.extension().is_some_and(|kind| kind == "job"))
+}
+
 /// Checks that the program says something on standard error only and fails.
 fn assert_refused(output: &Output) {
     assert_eq!(output.status.code(), Some(1));
@@ -27,9 +45,7 @@ fn assert_refused(output: &Output) {
 
 #[test]
 fn every_layout_of_the_examples_is_drawn() {
-    let files = fs::read_dir(example("")).expect("the folder is there");
-    let jobs = files.map(|file| file.expect("the file is there").path());
-    for job in jobs.filter(|file| file.extension().is_some_and(|kind| kind == "job")) {
+    for job in jobs() {
         let layout = job.with_extension("out");
         let output = run(&job, &layout);
         let text = fs::read_to_string(&layout).expect("the output is there");
@@ -48,6 +64,28 @@ fn every_layout_of_the_examples_is_drawn() {
         );
         let pieces = text.matches("\nat,").count();
         assert_eq!(picture.matches("<title>piece ").count(), pieces, "{job:?}");
+    }
+}
+
+#[test]
+fn lines_to_cut_are_drawn_over_clear_layouts_alone() {
+    for file in jobs() {
+        let output = run_cut(&file, &file.with_extension("out"));
+        let text = fs::read_to_string(file.with_extension("out")).expect("the output is there");
+        let Some(end) = text.find("end,clear,") else {
+            assert_refused(&output);
+            continue;
+        };
+        let job = job::read(&fs::read(&file).expect("the job is there")).expect("a right job");
+        let places = layout::read(&job, &text.as_bytes()[..end]).expect("a right layout");
+        let picture = String::from_utf8(output.stdout).expect("the picture is text");
+        let (_, path) = picture
+            .split_once("stroke=\"#d80000\" stroke-width=\"2\" d=\"")
+            .expect("the lines are there");
+        let (path, _) = path.split_once('"').expect("the path ends");
+        // A bar, the line and an arrow.
+        let drawn = path.matches('M').count();
+        assert_eq!(drawn, 3 * cut::lines(&job, &places).len(), "{file:?}");
     }
 }
 

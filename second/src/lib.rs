@@ -1,11 +1,12 @@
 //! Nesting of pieces on a pixel sheet, as document 01 lays it down.
 //!
 //! `job` reads the job text, `shape` turns pieces and makes strips, `nofit` finds the offsets at
-//! which two pieces overlap, `penalty` turns these into penalty maps, `search` moves the pieces
-//! and `layout` makes the start layout and the layout text. `calls` has the calls over lent buffers
-//! with their refusals, and `inputs` makes what other programs are compared on.
+//! which two pieces overlap, `penalty` turns these into penalty maps, `search` moves the pieces,
+//! `layout` makes the start layout and the layout text, and `cut` the cut list. `calls` has the
+//! calls over lent buffers with their refusals, and `inputs` makes what other programs are compared on.
 
 pub mod calls;
+pub mod cut;
 pub mod inputs;
 pub mod job;
 pub mod layout;

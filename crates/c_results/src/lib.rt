@@ -1,11 +1,14 @@
-// What an exported call hands over beside its reply: yes or no, a descent's end and a place as numbers, and the numbers of a job and of a run.
+// What an exported call hands over beside its reply: yes or no, a descent's end and a place as numbers, the numbers of a job and of a run, and
+// a step of the cut list.
 use model::Coordinate;
+use model::CutStep;
 use model::End;
 use model::JobSize;
 ghost use mathlib.Core.Path.{_≡_};
 ghost use Rattle.model.specs.Bounded.{oneIf};
 ghost use Rattle.model.specs.Piece.{coordinateNumber};
 ghost use Rattle.model.specs.Buffer.{endNumber};
+ghost use Rattle.c_results.specs.Steps.{stepWord, stepX, stepY};
 
 // 1 for yes, 0 for no.
 pub fn bit_of(yes: bool) -> u8
@@ -55,4 +58,27 @@ pub fn put_run(total: u64, made: u64, moved: u64, sum: &mut u64, trials: &mut u6
     *sum = total;
     *trials = made;
     *moves = moved;
+}
+
+// Hands over a step of the cut list: its word, and its point where it has one.
+pub fn put_step(step: CutStep, word: &mut u8, x: &mut f64, y: &mut f64)
+    ensures word { λ r. ⌜ now (word .exit) ≡ stepWord step ⌝ }
+    ensures x { λ r. ⌜ now (x .exit) ≡ stepX (now (x .entry)) step ⌝ }
+    ensures y { λ r. ⌜ now (y .exit) ≡ stepY (now (y .entry)) step ⌝ }
+{
+    match step {
+        CutStep::Done => {
+            *word = 0;
+        }
+        CutStep::Lift(across, up) => {
+            *word = 1;
+            *x = across;
+            *y = up;
+        }
+        CutStep::Cut(across, up) => {
+            *word = 2;
+            *x = across;
+            *y = up;
+        }
+    }
 }

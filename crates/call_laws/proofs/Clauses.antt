@@ -11,7 +11,7 @@ use Rattle.model.specs.LayoutText.{readLayout}
 use Rattle.model.specs.Program.{refusalText, printed, programText, inputBound, programCall}
 use Rattle.model.specs.Calls.{leaving, stretchNumber, stripsCall, stretchCall, noFitCall, rebuildCall, pairCauses, shareCall, depthCall, penaltyCall}
 use Rattle.model.specs.Calls.{weightedSumCall, layoutCauses, plainSumCall, usedLengthCall, searchCall, descentCall, guidedCall, startCall, writeLayoutCall}
-use Rattle.model.specs.Calls.{readLayoutCall, checkCall, freshCall, sheetCauses, layCall, withdrawCall}
+use Rattle.model.specs.Calls.{readLayoutCall, checkCall, freshCall, sheetCauses, layCall, withdrawCall, cutLinesCall, cutStepCall, lineStepCall}
 use Rattle.model.specs.declared.Refusal.{Refusal}
 use Rattle.call_laws.specs.Clause.{CallClaims, BufferClaims, Answers}
 use Rattle.call_laws.specs.Clauses.{CallClauses}
@@ -84,7 +84,7 @@ program-clause input = program-test input (ltb inputBound (length input))
 pub call-clauses : CallClauses
 unfolding stripsCall stretchCall noFitCall rebuildCall pairCauses shareCall depthCall penaltyCall weightedSumCall layoutCauses
     plainSumCall usedLengthCall searchCall descentCall guidedCall startCall writeLayoutCall checkCall freshCall sheetCauses
-    layCall layCauses withdrawCall withdrawCauses programCall
+    layCall layCauses withdrawCall withdrawCauses programCall cutLinesCall cutStepCall lineStepCall
 call-clauses =
     record {
       readJobAnswer = λ text m n. answers (readJob text m n);
@@ -121,6 +121,10 @@ call-clauses =
       readLayoutByLine = layout-by-line;
       readLayoutBuffer = λ l text before. leaving-claims _ before _;
       check = λ l es. unless-claims _ _;
+      cutList = λ l es room. unless-claims _ _;
+      cutListLines = λ l es before. leaving-claims _ before _;
+      cutStep = λ l es pitch k. unless-claims _ _;
+      lineStep = λ ls pitch k. unless-claims _ _;
       freshSheet = λ l room. unless-claims _ _;
       freshSheetCounts = λ l before. leaving-claims _ before _;
       lays = λ l s i p. unless-claims _ _;

@@ -19,7 +19,9 @@ use Rattle.model.specs.Program.{inputBound, refusalText, programText}
 use Rattle.model.specs.Calls.{Stores, stripsCall, storesAfter, stretchWell, usedLengthCall, descentAfter, bestAfterRun, weightsAfterRun, stretchCall}
 use Rattle.model.specs.Calls.{stretchGiven, stretchNumber, LentStretch, noFitCall, stripsWell, rebuildCall, shareCall, depthCall, penaltyCall, weightedSumCall}
 use Rattle.model.specs.Calls.{plainSumCall, searchCall, descentCall, guidedCall, writeLayoutCall, readLayoutCall, startCall, checkCall, freshCall, layCall}
-use Rattle.model.specs.Calls.{withdrawCall}
+use Rattle.model.specs.Calls.{withdrawCall, cutLinesCall, cutStepCall, lineStepCall}
+use Rattle.model.specs.Cut.{CutLine, cutLines, lineEntry}
+use Rattle.model.specs.declared.CutStep.{CutStep}
 use Rattle.model.specs.declared.Turn.{Turn}
 use Rattle.model.specs.declared.Direction.{Direction}
 use Rattle.model.specs.declared.Line.{Line}
@@ -51,6 +53,9 @@ use Rattle.call_laws.proofs.Clauses.{call-clauses}
 use Rattle.call_laws.proofs.Texts.{start-given, layout-given, written-read-back}
 use Rattle.call_laws.specs.Lengths.{UsedClaims}
 use Rattle.call_laws.proofs.Lengths.{used-given}
+use Rattle.call_laws.specs.Cuts.{CutListClaims}
+use Rattle.cut_laws.specs.Exact.{StepExact}
+use Rattle.call_laws.proofs.Cuts.{cut-given, step-given, same-steps}
 use Rattle.call_laws.specs.Reading.{jobLeft, JobLeft, FrontRead}
 use Rattle.call_laws.proofs.Reading.{job-given, front-given}
 use Rattle.call_laws.specs.Programs.{Prints}
@@ -90,6 +95,13 @@ pub record Demand1Calls : Type 0 where
       → LowestPair (jobOf l) (layoutOf es) p
   -- the used length reaches from the smallest corner x to the largest right end
   pub usedLengths : (l : Lent) (es : List (List ℕ)) (n : ℕ) → usedLengthCall l es ≡ given n → UsedClaims (jobOf l) (layoutOf es) n
+  -- lines and steps of a cut list that are given are those of a layout that passes the check, and the steps of such lines are the layout's
+  pub cutLists : (l : Lent) (es : List (List ℕ)) (room : ℕ) (ls : List CutLine) → cutLinesCall l es room ≡ given ls
+      → (ls ≡ cutLines (jobOf l) (layoutOf es)) × CutListClaims l es
+  pub cutSteps : (l : Lent) (es : List (List ℕ)) (pitch k : ℕ) (t : CutStep) → cutStepCall l es pitch k ≡ given t
+      → CutListClaims l es × StepExact (cutLines (jobOf l) (layoutOf es)) pitch k t
+  pub lineSteps : (l : Lent) (es : List (List ℕ)) (room : ℕ) (ls : List CutLine) (pitch k : ℕ) → cutLinesCall l es room ≡ given ls
+      → lineStepCall (map lineEntry ls) pitch k ≡ cutStepCall l es pitch k
   -- the program prints the text of the run that the calls give, or the reader's refusal, or `refused,7,0` for too long an input
   pub program : (input : List ℕ) (l : Lent) → length input ≤ inputBound → readJob input pieceBound areaBound ≡ given l → Prints input l
   pub programRefused : (input : List ℕ) (r : Refusal) → length input ≤ inputBound → readJob input pieceBound areaBound ≡ refused r
@@ -193,6 +205,9 @@ demand1-calls =
       checks = check-given;
       checkNames = check-shared;
       usedLengths = used-given;
+      cutLists = cut-given;
+      cutSteps = step-given;
+      lineSteps = same-steps;
       program = program-prints;
       programRefused = program-refuses;
       programLong = program-too-long;

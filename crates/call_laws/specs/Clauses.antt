@@ -28,7 +28,8 @@ use Rattle.model.specs.Calls.{rebuiltFrom, stripsWell, rebuildCall, pixelsAfter
 use Rattle.model.specs.Calls.{usedLengthCall, bestPlace, searchCall, budgetBound, roundBound, descentCall, descentAfter, guidedCall, bestAfterRun}
 use Rattle.model.specs.Calls.{weightsAfterRun}
 use Rattle.model.specs.Calls.{tableAfter, storeAfter, layoutAfter, writeLayoutCall, textAfter, readLayoutCall, startCall, sharedCause, checkCall}
-use Rattle.model.specs.Calls.{freshCall, countsAfter, layCall, withdrawCall}
+use Rattle.model.specs.Calls.{freshCall, countsAfter, layCall, withdrawCall, cutLinesCall, linesAfter, cutStepCall, lineStepCall}
+use Rattle.model.specs.Cut.{cutLines, stepAt, stepIn, pitchBound, lineEntry, entryLine}
 use Rattle.model.specs.declared.Turn.{Turn}
 use Rattle.model.specs.declared.Direction.{Direction}
 use Rattle.model.specs.declared.Line.{Line}
@@ -237,6 +238,34 @@ pub record CallClauses : Type 0 where
       ∷ cause outsideSheet (someOutside (jobOf l) (layoutOf es))
       ∷ sharedCause (sharingPair (jobOf l) (layoutOf es)) ∷ [])
       tt (checkCall l es)
+  -- ── the cut list ──
+  -- all lines: 8, 7 the layout's length, 9, 10, 12 with the pair, 7 for the line buffer
+  pub cutList : (l : Lent) (es : List (List ℕ)) (room : ℕ)
+      → CallClaims
+      (cause notOurs (not (lentWell l))
+      ∷ cause wrongLength (not (eqb (length es) (l .size .count)))
+      ∷ cause noSuchPiece (someTurnWrong (jobOf l) es)
+      ∷ cause outsideSheet (someOutside (jobOf l) (layoutOf es))
+      ∷ sharedCause (sharingPair (jobOf l) (layoutOf es))
+      ∷ cause wrongLength (ltb room (length (cutLines (jobOf l) (layoutOf es)))) ∷ [])
+      (cutLines (jobOf l) (layoutOf es)) (cutLinesCall l es room)
+  -- the line buffer: the lines over its front
+  pub cutListLines : (l : Lent) (es before : List (List ℕ))
+      → BufferClaims (λ ls. filled (map lineEntry ls) before) before (linesAfter before (cutLinesCall l es (length before)))
+      (cutLinesCall l es (length before))
+  -- a step of a layout: 8, 7, 2 for the pitch, 9, 10, 12 with the pair
+  pub cutStep : (l : Lent) (es : List (List ℕ)) (pitch k : ℕ)
+      → CallClaims
+      (cause notOurs (not (lentWell l))
+      ∷ cause wrongLength (not (eqb (length es) (l .size .count)))
+      ∷ cause outOfRange (not (upTo pitchBound pitch))
+      ∷ cause noSuchPiece (someTurnWrong (jobOf l) es)
+      ∷ cause outsideSheet (someOutside (jobOf l) (layoutOf es))
+      ∷ sharedCause (sharingPair (jobOf l) (layoutOf es)) ∷ [])
+      (stepIn pitch (stepAt (cutLines (jobOf l) (layoutOf es)) k)) (cutStepCall l es pitch k)
+  -- a step of a list of lines: 2 for the pitch
+  pub lineStep : (ls : List (List ℕ)) (pitch k : ℕ)
+      → CallClaims (cause outOfRange (not (upTo pitchBound pitch)) ∷ []) (stepIn pitch (stepAt (map entryLine ls) k)) (lineStepCall ls pitch k)
   -- ── the sheet ──
   -- fresh sheet: 8, 7
   pub freshSheet : (l : Lent) (room : ℕ)

@@ -1,5 +1,5 @@
--- Document 01, 'When a call says no': what each public call gives and leaves in lent memory, and its causes of refusal in their
--- order. How a job or a layout is read line by line stands in JobText and LayoutText. Assumes nothing.
+-- Document 01, 'When a call says no', and document 02, point 2 (the cut list): what each public call gives and leaves in lent memory,
+-- and its causes of refusal in their order. How a job or a layout is read line by line stands in JobText and LayoutText. Assumes nothing.
 --
 -- The refusals of each call, in their order; places are 0 unless named. Refusal gives each number its name.
 --   read a job             by line (first place): 1, 2, then 3 (job line) or 6, 4 (piece line); 5 at a piece's last row;
@@ -20,6 +20,10 @@
 --   read a layout          8; by line (first place): 1, 2, 9, 10; 1 for anything after the last line; then 7
 --                                                                                          readLayoutCall; LayoutText, readLayout
 --   check a layout         8, 7, 9, 10, 12 (both places: the pair)                         checkCall
+--   cut lines              8, 7 the layout's length, 9, 10, 12 (the pair), 7 the line buffer
+--                                                                                          cutLinesCall
+--   cut step               8, 7, 2 the pitch, 9, 10, 12 (the pair)                         cutStepCall
+--   line step              2 the pitch                                                     lineStepCall
 --   fresh sheet            8, 7                                                            freshCall
 --   lay                    8 the job, 7, 8 the sheet, 9, 13, 10                            layCall; Cover, layCauses
 --   withdraw               8 the job, 7, 8 the sheet, 9, 14                                withdrawCall; Cover, withdrawCauses
@@ -51,10 +55,12 @@ use Rattle.model.specs.Text.{andThen}
 use Rattle.model.specs.LayoutText.{layoutText, readLayout}
 use Rattle.model.specs.Store.{store, starts, storeWell, stretchIn}
 use Rattle.model.specs.Cover.{Sheet, fresh, lay, withdraw, layCauses, withdrawCauses, sheetWell}
+use Rattle.model.specs.Cut.{CutLine, cutLines, stepAt, pitchBound, stepIn, lineEntry, entryLine}
 use Rattle.model.specs.declared.Turn.{Turn}
 use Rattle.model.specs.declared.Direction.{Direction}
 use Rattle.model.specs.declared.Direction.the-variants.{Horizontal, Vertical}
 use Rattle.model.specs.declared.Line.{Line}
+use Rattle.model.specs.declared.CutStep.{CutStep}
 use Rattle.model.specs.declared.Placement.{Placement}
 
 -- what a lent buffer holds after a call: the given value's content, or on a refusal what it held before
@@ -377,6 +383,36 @@ checkCall l es =
     unless
     (layoutCauses l es ++ (sharedCause (sharingPair (jobOf l) (layoutOf es)) ∷ []))
     tt
+
+-- ── the cut list ──
+
+-- the pitch is out of range: 1 to 4,096 sixty-fourths of a millimetre
+abbrev pub pitchCause : ℕ → Cause
+pitchCause pitch = cause outOfRange (not (upTo pitchBound pitch))
+
+-- the lines of a layout that passes the check: 8, 7, 9, 10, 12, then 7 for the line buffer
+unfoldable pub cutLinesCall : Lent → List (List ℕ) → ℕ → Outcome (List CutLine)
+cutLinesCall l es room =
+    unless
+    (layoutCauses l es
+    ++ (sharedCause (sharingPair (jobOf l) (layoutOf es)) ∷ atLeast (length (cutLines (jobOf l) (layoutOf es))) room ∷ []))
+    (cutLines (jobOf l) (layoutOf es))
+
+-- what the line buffer holds after the lines are given
+abbrev pub linesAfter : List (List ℕ) → Outcome (List CutLine) → List (List ℕ)
+linesAfter before o = leaving (λ ls. filled (map lineEntry ls) before) before o
+
+-- step number k of the cut list of a layout that passes the check, in millimetres: 8, 7, 2 for the pitch, 9, 10, 12
+unfoldable pub cutStepCall : Lent → List (List ℕ) → ℕ → ℕ → Outcome CutStep
+cutStepCall l es pitch k =
+    unless
+    (jobCause l ∷ layoutLength l es ∷ pitchCause pitch ∷ turnsCause l es ∷ outsideCause l es
+    ∷ sharedCause (sharingPair (jobOf l) (layoutOf es)) ∷ [])
+    (stepIn pitch (stepAt (cutLines (jobOf l) (layoutOf es)) k))
+
+-- step number k of a lent list of lines, in millimetres: 2 for the pitch
+unfoldable pub lineStepCall : List (List ℕ) → ℕ → ℕ → Outcome CutStep
+lineStepCall ls pitch k = unless (pitchCause pitch ∷ []) (stepIn pitch (stepAt (map entryLine ls) k))
 
 -- ── the sheet of cover counts ──
 

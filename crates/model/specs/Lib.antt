@@ -28,8 +28,10 @@ pub mod JobText
 pub mod LayoutText
 pub mod Store
 pub mod Cover
+pub mod Cut
 pub mod Calls
 pub mod Program
 pub mod Examples
 pub mod Worked
+pub mod CutExamples
 pub mod TextExamples

@@ -98,6 +98,9 @@ pub type StripEntry = [u8; 3];
 // A placement in a layout buffer: degrees, column and row.
 pub type PlaceEntry = [u16; 3];
 
+// A line to cut in a line buffer: its direction (0 horizontal, 1 vertical), its pixel line, and the pixel lines at which it begins and ends.
+pub type LineEntry = [u16; 4];
+
 // A refusal: its number and two places, 0 unless named.
 pub struct Refusal {
     pub number: u8,
@@ -115,6 +118,13 @@ pub enum DoneAnswer {
 pub enum NumberAnswer {
     Number(u64),
     Refused(Refusal),
+}
+
+// A step of the knife, its point in millimetres: lift to (x, y), cut to (x, y), or done.
+pub enum CutStep {
+    Lift(f64, f64),
+    Cut(f64, f64),
+    Done,
 }
 
 // The refusal with this number and no places.

@@ -1,5 +1,5 @@
 -- What the calls on a sheet come to, by the numbers that their checks gave, and what they answer. Assumes nothing.
-use Rattle.list_laws.proofs.Kit.{_∙_, _≡_, ap, fun-ext, refl, sym, false, not, true, ⊎-elim, List, [], append-nil, _*_, _+_, _-_, _<_, ℕ, arith, eqb, getD}
+use Rattle.list_laws.proofs.Kit.{_∙_, _≡_, ap, fun-ext, refl, sym, not, true, ⊎-elim, List, [], append-nil, _*_, _+_, _-_, _<_, ℕ, arith, eqb, getD}
 use Rattle.list_laws.proofs.Kit.{length, ext-getD, eq-eqb, eqb-true, ne-eqb, not-false}
 use Rattle.model.specs.Bounded.{oneIf}
 use Rattle.model.specs.Layout.{Job, inside}
@@ -17,6 +17,7 @@ use Rattle.cover_laws.proofs.Calls.{LayTaken, WithdrawTaken, lay-given, withdra
 use Rattle.cover_laws.proofs.Counts.{LaidWell}
 use Rattle.cover_laws.proofs.Reached.{well-sound}
 use Rattle.sheet_counts.specs.Stamp.{moved, movedBy}
+use Rattle.sheet_counts.specs.declared.Change.the-variants.{OneMore, OneLess}
 use Rattle.sheet_calls.specs.Answers.{recordOf, givenAnswer, answerBy, sheetAnswer}
 use Rattle.sheet_refusals.specs.Causes.{firstNumber, bufferCauses}
 use Rattle.sheet_calls.specs.Ready.{SheetReady}
@@ -114,19 +115,19 @@ given-answer o s before cs cs′ r e e′ e″ = rw e (e′, e″)
 
 -- where each count has room, laying adds one on each pixel that the piece covers
 pub moved-lays : (j : Job) (i : ℕ) (p : Placement) (s : Sheet) → ((k : ℕ) → k < length (s .counts) → getD (s .counts) k 0 < 255)
-    → movedBy true j i p (s .counts) ≡ lay j s i p .counts
+    → movedBy OneMore j i p (s .counts) ≡ lay j s i p .counts
 unfolding lay
 moved-lays j i p s room =
     ext-getD 0 _ _ (length-mapFrom _ 0 (s .counts) ∙ sym (length-mapFrom _ 0 (s .counts)))
     (λ k l.
-    let l′ : k < length (s .counts) = rw (length-mapFrom (λ m c. moved true (coversPixel j i p m) c) 0 (s .counts)) at l in
-    getD-mapFrom (λ m c. moved true (coversPixel j i p m) c) 0 (s .counts) k l′
+    let l′ : k < length (s .counts) = rw (length-mapFrom (λ m c. moved OneMore (coversPixel j i p m) c) 0 (s .counts)) at l in
+    getD-mapFrom (λ m c. moved OneMore (coversPixel j i p m) c) 0 (s .counts) k l′
     ∙ moved-up (coversPixel j i p (0 + k)) (getD (s .counts) k 0) (room k l′)
     ∙ sym (getD-mapFrom (λ m c. c + oneIf (coversPixel j i p m)) 0 (s .counts) k l′))
 
 -- withdrawing takes one off
 pub moved-withdraws : (j : Job) (i : ℕ) (s : Sheet) (e : Entry) → e ≡ entryIn (s .pieces) i
-    → movedBy false j i (e .place) (s .counts) ≡ withdraw j s i .counts
+    → movedBy OneLess j i (e .place) (s .counts) ≡ withdraw j s i .counts
 unfolding withdraw
 moved-withdraws j i s e same =
     ap (λ (f : ℕ → ℕ → ℕ). mapFrom f 0 (s .counts)) (fun-ext (λ k. fun-ext (λ c. moved-down (coversPixel j i (e .place) k) c)))

@@ -6,6 +6,7 @@ use model::JobSize;
 use model::PieceEntry;
 use model::Placement;
 use model::Record;
+use sheet_counts::Change;
 ghost use mathlib.Core.Path.{_≡_};
 ghost use lib.ListN.{length};
 ghost use Rattle.model.specs.Lent.{lentBy};
@@ -57,7 +58,7 @@ pub fn lay(
     if laying != 0 {
         return record::answer(laying, sheet);
     }
-    sheet_counts::move_piece(size, table, pixels, piece, place, true, counts);
+    sheet_counts::move_piece(size, table, pixels, piece, place, Change::OneMore, counts);
     let laid = Entry { laid: true, place };
     record::answer(0, record::with_entry(sheet, piece, laid))
 }
@@ -85,7 +86,7 @@ pub fn withdraw(
     }
     let entry = sheet_check::entry_of(sheet, piece);
     let place = entry.place;
-    sheet_counts::move_piece(size, table, pixels, piece, place, false, counts);
+    sheet_counts::move_piece(size, table, pixels, piece, place, Change::OneLess, counts);
     let off = record::origin();
     let free = Entry {
         laid: false,

@@ -15,17 +15,18 @@ use Rattle.cover_laws.proofs.Calls.{length-mapFrom, getD-mapFrom}
 use Rattle.cover_laws.proofs.Counts.{LaidWell}
 use Rattle.cover_laws.proofs.Reached.{entry-sound}
 use Rattle.sheet_counts.specs.Stamp.{moved, movedBy}
+use Rattle.sheet_counts.specs.declared.Change.the-variants.{OneMore, OneLess}
 use Rattle.sheet_check.specs.Counted.{addedEntry, Recounted}
 
 -- ── one count ──
 
 -- below a byte's last count, laying adds one where the piece covers the pixel
-pub moved-up : (b : Bool) (c : ℕ) → c < 255 → moved true b c ≡ c + oneIf b
+pub moved-up : (b : Bool) (c : ℕ) → c < 255 → moved OneMore b c ≡ c + oneIf b
 moved-up true c l = rw (lt-ltb c 255 l, moved)
 moved-up false c l = omega arith
 
 -- withdrawing takes one off
-pub moved-down : (b : Bool) (c : ℕ) → moved false b c ≡ c - oneIf b
+pub moved-down : (b : Bool) (c : ℕ) → moved OneLess b c ≡ c - oneIf b
 moved-down true c = refl
 moved-down false c = omega arith
 
@@ -50,7 +51,7 @@ free-added j es i e cs same free = sym (rw (← same, free) (map-same 0 cs))
 
 -- a laid piece is added where it lies
 pub laid-added : (j : Job) (es : List Entry) (i : ℕ) (e : Entry) (cs : List ℕ) → e ≡ entryIn es i → e .laid ≡ true
-    → movedBy true j i (e .place) cs ≡ addedEntry j es i cs
+    → movedBy OneMore j i (e .place) cs ≡ addedEntry j es i cs
 laid-added j es i e cs same laid = sym (rw (← same, laid))
 
 -- ── piece after piece ──
@@ -72,7 +73,7 @@ added-below j es i cs few counted k l =
     let l′ : k < length cs = rw (length-added j es i cs) at l in
     let so : getD cs k 0 ≡ sumBelow i (λ m. oneIf (laidOn j es k m)) = counted k l′ in
     let bound : sumBelow i (λ m. oneIf (laidOn j es k m)) ≤ i = passing-bound i (laidOn j es k) in
-    getD-mapFrom (λ m c. moved true (laidOn j es m i) c) 0 cs k l′ ∙ ap (λ (n : ℕ). moved true (laidOn j es n i) (getD cs k 0)) (zero-add k)
+    getD-mapFrom (λ m c. moved OneMore (laidOn j es m i) c) 0 cs k l′ ∙ ap (λ (n : ℕ). moved OneMore (laidOn j es n i) (getD cs k 0)) (zero-add k)
     ∙ moved-up (laidOn j es k i) (getD cs k 0) (omega arith) ∙ ap (λ (n : ℕ). n + oneIf (laidOn j es k i)) so
     ∙ sym (ap (λ (n : ℕ). sumBelow n (λ m. oneIf (laidOn j es k m))) (add-one i))
 

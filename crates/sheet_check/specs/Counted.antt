@@ -11,6 +11,7 @@ use Rattle.model.specs.Lent.{Lent, jobOf, lentWell, pieceBound}
 use Rattle.model.specs.Cover.{mapFrom, laidOn, laidCount, entryWell}
 use Rattle.model.specs.declared.Entry.{Entry}
 use Rattle.sheet_counts.specs.Stamp.{moved}
+use Rattle.sheet_counts.specs.declared.Change.the-variants.{OneMore}
 
 -- the counts of a record may be made anew: the job is well, every entry is, and there is a count for each pixel
 pub record CanCount (l : Lent) (es : List Entry) (room : ℕ) : Type 0 where
@@ -20,7 +21,7 @@ pub record CanCount (l : Lent) (es : List Entry) (room : ℕ) : Type 0 where
 
 -- one more on each pixel that piece i covers, where it is laid
 abbrev pub addedEntry : Job → List Entry → ℕ → List ℕ → List ℕ
-addedEntry j es i cs = mapFrom (λ k c. moved true (laidOn j es k i) c) 0 cs
+addedEntry j es i cs = mapFrom (λ k c. moved OneMore (laidOn j es k i) c) 0 cs
 
 -- each count is the number of laid pieces on its pixel: the last part of the test `sheetWell`
 abbrev pub countsWell : Job → List Entry → List ℕ → Bool

@@ -7,6 +7,7 @@ use model::JobSize;
 use model::PIECE_BOUND;
 use model::PieceEntry;
 use model::Record;
+use sheet_counts::Change;
 ghost use mathlib.Core.Path.{_≡_};
 ghost use mathlib.Core.Bool.{true};
 ghost use mathlib.Core.List.{List};
@@ -95,7 +96,7 @@ fn add_entry(
         return;
     }
     let place = entry.place;
-    sheet_counts::move_piece(size, table, pixels, i, place, true, made);
+    sheet_counts::move_piece(size, table, pixels, i, place, Change::OneMore, made);
 }
 
 // The counts that the laid pieces make.

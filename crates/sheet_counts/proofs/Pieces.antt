@@ -1,6 +1,6 @@
 -- A piece that passed its checks: its places are on the sheet, and moving its rows is what the sheet's definition says of the piece.
 -- Assumes nothing.
-use Rattle.list_laws.proofs.Kit.{_∙_, _≡_, ap, Bool, List, [], _*_, _+_, _<_, _≤_, suc, ℕ, add-mul, mul-le-mul-right, suc-mul, arith, leb, length, leb-true}
+use Rattle.list_laws.proofs.Kit.{_∙_, _≡_, ap, List, [], _*_, _+_, _<_, _≤_, suc, ℕ, add-mul, mul-le-mul-right, suc-mul, arith, leb, length, leb-true}
 use Rattle.model.specs.Piece.{corner}
 use Rattle.model.specs.Layout.{turnedPiece, inside}
 use Rattle.model.specs.Lent.{Lent, jobOf, pixelStart}
@@ -13,6 +13,7 @@ use Rattle.piece_pixels.specs.Turned.{sidesOf, madeOf, shownBy}
 use Rattle.piece_pixels.specs.declared.Sides.{Sides}
 use Rattle.piece_pixels.specs.declared.TurnedPiece.{TurnedPiece}
 use Rattle.piece_pixels.proofs.Cells.{shown-sides}
+use Rattle.sheet_counts.specs.declared.Change.{Change}
 use Rattle.sheet_counts.specs.Stamp.{movedBy, StampRoom, onAt, movedRows}
 use Rattle.sheet_counts.specs.Ready.{StampReady}
 use Rattle.sheet_counts.proofs.Rows.{stamped}
@@ -79,10 +80,10 @@ module _ (l : Lent) (i : ℕ) (p : Placement) (room : ℕ) (ready : StampReady l
       }
 
   -- moving its rows is what the sheet's definition says of the piece
-  pub piece-moved : (up : Bool) (cs : List ℕ) → length cs ≡ room
-      → movedRows up (onAt (l .pixels) (turnedPieceAt l i (p .turn))) (l .size .columns) (turnedPiece (jobOf l) i (p .turn) .columns) cs
+  pub piece-moved : (change : Change) (cs : List ℕ) → length cs ≡ room
+      → movedRows change (onAt (l .pixels) (turnedPieceAt l i (p .turn))) (l .size .columns) (turnedPiece (jobOf l) i (p .turn) .columns) cs
       (p .y .0 * l .size .columns + p .x .0) 0 (turnedPiece (jobOf l) i (p .turn) .rows)
-      ≡ movedBy up (jobOf l) i p cs
+      ≡ movedBy change (jobOf l) i p cs
   unfolding coversPixel jobOf
-  piece-moved up cs same =
-      stamped (jobOf l) (turnedPiece (jobOf l) i (p .turn)) (corner p) within-columns within-rows up cs (same ∙ ready .full)
+  piece-moved change cs same =
+      stamped (jobOf l) (turnedPiece (jobOf l) i (p .turn)) (corner p) within-columns within-rows change cs (same ∙ ready .full)

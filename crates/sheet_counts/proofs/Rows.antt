@@ -9,46 +9,47 @@ use Rattle.model.specs.Cover.{pixelAt, mapFrom}
 use Rattle.list_laws.proofs.Tests.{and-left, and-right, and-both, clash, decided}
 use Rattle.cover_laws.proofs.Calls.{length-mapFrom, getD-mapFrom}
 use Rattle.cover_laws.proofs.Pixels.{pixel-at, PixelOnSheet, number-pixel}
+use Rattle.sheet_counts.specs.declared.Change.{Change}
 use Rattle.sheet_counts.specs.Stamp.{moved, movedRun, movedRows}
 use Rattle.sheet_counts.proofs.Runs.{length-run, run-outside, run-inside}
 
-module _ (up : Bool) (f : ℕ → ℕ → Bool) (sheet width : ℕ) where
+module _ (change : Change) (f : ℕ → ℕ → Bool) (sheet width : ℕ) where
   -- the first of the rows that are left
   pub rows-step : (cs : List ℕ) (from y n : ℕ) → y < n
-      → movedRows up f sheet width cs from y (n - y)
-      ≡ movedRows up f sheet width (movedRun up (f y) from cs 0 width) (from + sheet) (y + 1) (n - (y + 1))
+      → movedRows change f sheet width cs from y (n - y)
+      ≡ movedRows change f sheet width (movedRun change (f y) from cs 0 width) (from + sheet) (y + 1) (n - (y + 1))
   unfolding movedRows
   rows-step cs from y n l =
       let left : n - y ≡ suc (n - (y + 1)) = omega arith in
       rw (left, movedRows, add-one)
 
   -- no row is left
-  pub rows-end : (cs : List ℕ) (from y n : ℕ) → n ≤ y → movedRows up f sheet width cs from y (n - y) ≡ cs
+  pub rows-end : (cs : List ℕ) (from y n : ℕ) → n ≤ y → movedRows change f sheet width cs from y (n - y) ≡ cs
   unfolding movedRows
   rows-end cs from y n l =
       let left : n - y ≡ 0 = omega arith in
       rw left
 
-module _ (up : Bool) (f : ℕ → ℕ → Bool) (sheet width : ℕ) (narrow : width ≤ sheet) where
+module _ (change : Change) (f : ℕ → ℕ → Bool) (sheet width : ℕ) (narrow : width ≤ sheet) where
   -- as many counts as before
-  pub length-rows : (cs : List ℕ) (from y left : ℕ) → length (movedRows up f sheet width cs from y left) ≡ length cs
+  pub length-rows : (cs : List ℕ) (from y left : ℕ) → length (movedRows change f sheet width cs from y left) ≡ length cs
   unfolding movedRows
   length-rows cs from y zero = refl
   length-rows cs from y (suc left) =
-      length-rows (movedRun up (f y) from cs 0 width) (from + sheet) (suc y) left ∙ length-run up (f y) from cs 0 width
+      length-rows (movedRun change (f y) from cs 0 width) (from + sheet) (suc y) left ∙ length-run change (f y) from cs 0 width
 
   -- a count before the first row stays
-  rows-below : (cs : List ℕ) (from y left m : ℕ) → m < from → getD (movedRows up f sheet width cs from y left) m 0 ≡ getD cs m 0
+  rows-below : (cs : List ℕ) (from y left m : ℕ) → m < from → getD (movedRows change f sheet width cs from y left) m 0 ≡ getD cs m 0
   unfolding movedRows
   rows-below cs from y zero m l = refl
   rows-below cs from y (suc left) m l =
-      rows-below (movedRun up (f y) from cs 0 width) (from + sheet) (suc y) left m (omega arith)
-      ∙ run-outside up (f y) from cs 0 width m (inl (omega arith))
+      rows-below (movedRun change (f y) from cs 0 width) (from + sheet) (suc y) left m (omega arith)
+      ∙ run-outside change (f y) from cs 0 width m (inl (omega arith))
 
   -- the count of row d and column e moves by its pixel
   pub rows-inside : (cs : List ℕ) (from y left d e : ℕ) → d < left → e < width → from + (d * sheet + e) < length cs
-      → getD (movedRows up f sheet width cs from y left) (from + (d * sheet + e)) 0
-      ≡ moved up (f (y + d) e) (getD cs (from + (d * sheet + e)) 0)
+      → getD (movedRows change f sheet width cs from y left) (from + (d * sheet + e)) 0
+      ≡ moved change (f (y + d) e) (getD cs (from + (d * sheet + e)) 0)
   unfolding movedRows
   rows-inside cs from y zero d e l l′ h = absurd (omega arith)
   rows-inside cs from y (suc left) zero e l l′ h =
@@ -56,26 +57,27 @@ module _ (up : Bool) (f : ℕ → ℕ → Bool) (sheet width : ℕ) (narrow : wi
       let row : y + 0 ≡ y = omega arith in
       let here : from + (0 + e) ≡ from + e = omega arith in
       rw (first, row)
-      (rows-below (movedRun up (f y) from cs 0 width) (from + sheet) (suc y) left (from + (0 + e)) (omega arith)
-      ∙ run-inside up (f y) from cs 0 width e l′ (let q = first in omega arith) ∙ ap (λ (n : ℕ). moved up (f y n) (getD cs (from + (0 + e)) 0)) (zero-add e))
+      (rows-below (movedRun change (f y) from cs 0 width) (from + sheet) (suc y) left (from + (0 + e)) (omega arith)
+      ∙ run-inside change (f y) from cs 0 width e l′ (let q = first in omega arith)
+      ∙ ap (λ (n : ℕ). moved change (f y n) (getD cs (from + (0 + e)) 0)) (zero-add e))
   rows-inside cs from y (suc left) (suc d) e l l′ h =
       let step : suc d * sheet ≡ d * sheet + sheet = suc-mul d sheet in
       let there : from + (suc d * sheet + e) ≡ from + sheet + (d * sheet + e) = omega arith in
       let row : y + suc d ≡ suc y + d = omega arith in
       rw (there, row)
-      (rows-inside (movedRun up (f y) from cs 0 width) (from + sheet) (suc y) left d e (omega arith) l′
-      (rw (length-run up (f y) from cs 0 width) (omega arith))
-      ∙ ap (moved up (f (suc y + d) e)) (run-outside up (f y) from cs 0 width (from + sheet + (d * sheet + e)) (inr (omega arith))))
+      (rows-inside (movedRun change (f y) from cs 0 width) (from + sheet) (suc y) left d e (omega arith) l′
+      (rw (length-run change (f y) from cs 0 width) (omega arith))
+      ∙ ap (moved change (f (suc y + d) e)) (run-outside change (f y) from cs 0 width (from + sheet + (d * sheet + e)) (inr (omega arith))))
 
   -- a count in no row stays
   pub rows-outside : (cs : List ℕ) (from y left m : ℕ) → ((d e : ℕ) → d < left → e < width → m ≢ from + (d * sheet + e))
-      → getD (movedRows up f sheet width cs from y left) m 0 ≡ getD cs m 0
+      → getD (movedRows change f sheet width cs from y left) m 0 ≡ getD cs m 0
   unfolding movedRows
   rows-outside cs from y zero m h = refl
   rows-outside cs from y (suc left) m h =
-      rows-outside (movedRun up (f y) from cs 0 width) (from + sheet) (suc y) left m
+      rows-outside (movedRun change (f y) from cs 0 width) (from + sheet) (suc y) left m
       (λ d e l l′ q. h (suc d) e (omega arith) l′ (let step = suc-mul d sheet in omega arith))
-      ∙ run-outside up (f y) from cs 0 width m
+      ∙ run-outside change (f y) from cs 0 width m
       (⊎-elim (λ t. inl (let l = ltb-true m from t in omega arith))
       (λ t.
       ⊎-elim
@@ -165,42 +167,43 @@ module _ (j : Job) (s : Shape) (v : Point) (long : v .x + s .columns ≤ j .size
       omega arith
 
   -- each count after the piece's rows
-  stamped-at : (up : Bool) (cs : List ℕ) (k : ℕ) → length cs ≡ j .size .rows * j .size .columns → k < length cs
-      → getD (movedRows up (λ y x. s .has x y) (j .size .columns) (s .columns) cs first 0 (s .rows)) k 0
-      ≡ moved up (covers s v (pixelAt j k)) (getD cs k 0)
-  stamped-at up cs k full l = ⊎-elim inner outer (box-cases s v (pixelAt j k))
+  stamped-at : (change : Change) (cs : List ℕ) (k : ℕ) → length cs ≡ j .size .rows * j .size .columns → k < length cs
+      → getD (movedRows change (λ y x. s .has x y) (j .size .columns) (s .columns) cs first 0 (s .rows)) k 0
+      ≡ moved change (covers s v (pixelAt j k)) (getD cs k 0)
+  stamped-at change cs k full l = ⊎-elim inner outer (box-cases s v (pixelAt j k))
     where
       on : PixelOnSheet j k (pixelAt j k)
       on = number-pixel j k (omega arith)
 
-      inner : RowWithin s v (pixelAt j k) → getD (movedRows up (λ y x. s .has x y) (j .size .columns) (s .columns) cs first 0 (s .rows)) k 0
-          ≡ moved up (covers s v (pixelAt j k)) (getD cs k 0)
+      inner : RowWithin s v (pixelAt j k) → getD (movedRows change (λ y x. s .has x y) (j .size .columns) (s .columns) cs first 0 (s .rows)) k 0
+          ≡ moved change (covers s v (pixelAt j k)) (getD cs k 0)
       inner w =
           let here : k ≡ first + (w .d * j .size .columns + w .e) = place-number (w .d) (w .e) k (pixelAt j k) (on .number) (w .x) (w .y) in
           let there : first + (w .d * j .size .columns + w .e) < length cs = omega arith in
-          ap (λ (m : ℕ). getD (movedRows up (λ y x. s .has x y) (j .size .columns) (s .columns) cs first 0 (s .rows)) m 0) here
-          ∙ rows-inside up (λ y x. s .has x y) (j .size .columns) (s .columns) (omega arith) cs first 0 (s .rows) (w .d) (w .e) (w .row) (w .column) there
-          ∙ ap (λ (n : ℕ). moved up (s .has (w .e) n) (getD cs (first + (w .d * j .size .columns + w .e)) 0)) (zero-add (w .d))
-          ∙ ap (λ (m : ℕ). moved up (s .has (w .e) (w .d)) (getD cs m 0)) (sym here)
-          ∙ ap (λ (b : Bool). moved up b (getD cs k 0)) (sym (w .covered))
+          ap (λ (m : ℕ). getD (movedRows change (λ y x. s .has x y) (j .size .columns) (s .columns) cs first 0 (s .rows)) m 0) here
+          ∙ rows-inside change (λ y x. s .has x y) (j .size .columns) (s .columns) (omega arith) cs first 0 (s .rows) (w .d) (w .e) (w .row) (w .column) there
+          ∙ ap (λ (n : ℕ). moved change (s .has (w .e) n) (getD cs (first + (w .d * j .size .columns + w .e)) 0)) (zero-add (w .d))
+          ∙ ap (λ (m : ℕ). moved change (s .has (w .e) (w .d)) (getD cs m 0)) (sym here)
+          ∙ ap (λ (b : Bool). moved change b (getD cs k 0)) (sym (w .covered))
 
-      outer : Beside s v (pixelAt j k) → getD (movedRows up (λ y x. s .has x y) (j .size .columns) (s .columns) cs first 0 (s .rows)) k 0
-          ≡ moved up (covers s v (pixelAt j k)) (getD cs k 0)
+      outer : Beside s v (pixelAt j k) → getD (movedRows change (λ y x. s .has x y) (j .size .columns) (s .columns) cs first 0 (s .rows)) k 0
+          ≡ moved change (covers s v (pixelAt j k)) (getD cs k 0)
       outer b =
-          rows-outside up (λ y x. s .has x y) (j .size .columns) (s .columns) (omega arith) cs first 0 (s .rows) k
+          rows-outside change (λ y x. s .has x y) (j .size .columns) (s .columns) (omega arith) cs first 0 (s .rows) k
           (λ d e l₁ l₂ q.
           let split : (v .y + d) * j .size .columns ≡ v .y * j .size .columns + d * j .size .columns = add-mul (v .y) d (j .size .columns) in
           let number : k ≡ (v .y + d) * j .size .columns + (v .x + e) = omega arith in
           let place = ap (pixelAt j) number ∙ pixel-at j (v .x + e) (v .y + d) (omega arith) in
           b .nowhere d e l₁ l₂ (ap (λ (p : Point). p .x) place) (ap (λ (p : Point). p .y) place))
-          ∙ ap (λ (t : Bool). moved up t (getD cs k 0)) (sym (b .uncovered))
+          ∙ ap (λ (t : Bool). moved change t (getD cs k 0)) (sym (b .uncovered))
 
   -- the piece's rows move the counts as the sheet's definition says
-  pub stamped : (up : Bool) (cs : List ℕ) → length cs ≡ j .size .rows * j .size .columns
-      → movedRows up (λ y x. s .has x y) (j .size .columns) (s .columns) cs first 0 (s .rows) ≡ mapFrom (λ k c. moved up (covers s v (pixelAt j k)) c) 0 cs
-  stamped up cs full =
+  pub stamped : (change : Change) (cs : List ℕ) → length cs ≡ j .size .rows * j .size .columns
+      → movedRows change (λ y x. s .has x y) (j .size .columns) (s .columns) cs first 0 (s .rows)
+      ≡ mapFrom (λ k c. moved change (covers s v (pixelAt j k)) c) 0 cs
+  stamped change cs full =
       ext-getD 0 _ _
-      (length-rows up (λ y x. s .has x y) (j .size .columns) (s .columns) (omega arith) cs first 0 (s .rows) ∙ sym (length-mapFrom _ 0 cs))
+      (length-rows change (λ y x. s .has x y) (j .size .columns) (s .columns) (omega arith) cs first 0 (s .rows) ∙ sym (length-mapFrom _ 0 cs))
       (λ k l.
-      let l′ : k < length cs = rw (length-rows up (λ y x. s .has x y) (j .size .columns) (s .columns) (omega arith) cs first 0 (s .rows)) at l in
-      stamped-at up cs k full l′ ∙ sym (getD-mapFrom (λ m c. moved up (covers s v (pixelAt j m)) c) 0 cs k l′ ∙ rw zero-add))
+      let l′ : k < length cs = rw (length-rows change (λ y x. s .has x y) (j .size .columns) (s .columns) (omega arith) cs first 0 (s .rows)) at l in
+      stamped-at change cs k full l′ ∙ sym (getD-mapFrom (λ m c. moved change (covers s v (pixelAt j m)) c) 0 cs k l′ ∙ rw zero-add))

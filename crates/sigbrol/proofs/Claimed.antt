@@ -1,13 +1,13 @@
 -- What is said of a used length and of a run, over the numbers that C is given: they are those of the call, and a reply of number 0 tells
 -- that it was not refused, since every cause of a refusal has a number other than 0. Assumes nothing.
-use Rattle.list_laws.proofs.Kit.{_∙_, _≡_, ap, subst, sym, List, _<_, ℕ, arith}
-use Rattle.model.specs.Layout.{Job, Layout}
-use Rattle.model.specs.Lent.{Lent}
+use Rattle.list_laws.proofs.Kit.{_∙_, _≡_, ap, subst, sym, Option, none, some, List, _<_, ℕ, arith}
+use Rattle.model.specs.Layout.{Job, Layout, Pair, sharingPair}
+use Rattle.model.specs.Lent.{Lent, jobOf}
 use Rattle.model.specs.Refusal.{refused}
-use Rattle.model.specs.Calls.{layoutCauses, usedLengthCall, descentCall, guidedCall}
+use Rattle.model.specs.Calls.{layoutCauses, sharedCause, usedLengthCall, cutLinesCall, cutStepCall, descentCall, guidedCall}
 use Rattle.model.specs.declared.End.{End}
 use Rattle.model.specs.declared.Refusal.{Refusal}
-use Rattle.model.specs.Buffer.{endNumber}
+use Rattle.model.specs.Buffer.{endNumber, layoutOf}
 use Rattle.descent_laws.specs.Claims.{DescentClaims}
 use Rattle.run_descent.specs.Descents.{descentOf}
 use Rattle.run_descent.specs.declared.Ended.{Ended}
@@ -26,6 +26,25 @@ descent-claimed j ws budget from to e k h claims =
 pub used-numbered : (l : Lent) (es : List (List ℕ)) (r : Refusal) → usedLengthCall l es ≡ refused r → 0 < r .number
 unfolding usedLengthCall layoutCauses
 used-numbered l es r e = refused-numbered _ _ r (omega arith, (omega arith, (omega arith, (omega arith, tt)))) e
+
+-- the cause of a shared pixel has one, whether it is there or not
+shared-numbered : (o : Option Pair) → 0 < sharedCause o .number
+shared-numbered none = omega arith
+shared-numbered (some p) = omega arith
+
+-- refused lines of a cut list have one
+pub cut-lines-numbered : (l : Lent) (es : List (List ℕ)) (room : ℕ) (r : Refusal) → cutLinesCall l es room ≡ refused r → 0 < r .number
+unfolding cutLinesCall layoutCauses
+cut-lines-numbered l es room r e =
+    let shared = shared-numbered (sharingPair (jobOf l) (layoutOf es)) in
+    refused-numbered _ _ r (omega arith, (omega arith, (omega arith, (omega arith, (shared, (omega arith, tt)))))) e
+
+-- so has a refused step of it
+pub cut-step-numbered : (l : Lent) (es : List (List ℕ)) (pitch k : ℕ) (r : Refusal) → cutStepCall l es pitch k ≡ refused r → 0 < r .number
+unfolding cutStepCall
+cut-step-numbered l es pitch k r e =
+    let shared = shared-numbered (sharingPair (jobOf l) (layoutOf es)) in
+    refused-numbered _ _ r (omega arith, (omega arith, (omega arith, (omega arith, (omega arith, (shared, tt)))))) e
 
 -- a refused descent has a number
 pub descent-numbered : (l : Lent) (es : List (List ℕ)) (ws : List ℕ) (budget : ℕ) (r : Refusal) → descentCall l es ws budget ≡ refused r

@@ -6,6 +6,10 @@ use Rattle.model.specs.Lent.{Lent}
 use Rattle.model.specs.Answers.{doneAnswer, numberAnswer, countAnswer}
 use Rattle.model.specs.Refusal.{Outcome, refused, given, Cause, refusalOf, unless}
 use Rattle.model.specs.Calls.{leaving}
+use lib.Ieee.{Float}
+use Rattle.model.specs.declared.CutStep.{CutStep}
+use Rattle.model.specs.declared.CutStep.the-variants.{Lift, Cut, Done}
+use Rattle.c_results.specs.Steps.{stepWord, stepX, stepY, toldStep}
 use Rattle.model.specs.declared.DoneAnswer.{DoneAnswer}
 use Rattle.model.specs.declared.NumberAnswer.{NumberAnswer}
 use Rattle.model.specs.declared.JobSize.{JobSize}
@@ -26,6 +30,8 @@ use Rattle.run_guided_calls.specs.declared.RunTotals.{RunTotals}
 use Rattle.c_interface.specs.Replies.{replyTo}
 use Rattle.job_calls.specs.Reading.{readAnswer}
 use Rattle.job_calls.specs.declared.JobAnswer.{JobAnswer}
+use Rattle.cut_step_calls.specs.Answers.{stepAnswer}
+use Rattle.cut_step_calls.specs.declared.StepAnswer.{StepAnswer}
 use Rattle.pair_calls.specs.Answers.{shareAnswer}
 use Rattle.pair_calls.specs.declared.ShareAnswer.{ShareAnswer}
 
@@ -114,6 +120,15 @@ pub share-told : (o : Outcome Bool) {x : ShareAnswer} → x ≡ shareAnswer o �
 share-told (refused r) e = ap shareTold e
 share-told (given a) e = ap shareTold e
 
+-- a step of the cut list
+abbrev pub stepTold : StepAnswer → Outcome CutStep
+stepTold (StepAnswer.Refused r) = refused r
+stepTold (StepAnswer.Step t) = given t
+
+pub step-told : (o : Outcome CutStep) {x : StepAnswer} → x ≡ stepAnswer o → stepTold x ≡ telling (λ a. a) o
+step-told (refused r) e = ap stepTold e
+step-told (given a) e = ap stepTold e
+
 -- the numbers of a job that is read
 abbrev pub sizeIn : Lent → JobSize
 sizeIn l = l .size
@@ -156,3 +171,9 @@ ranTold (GuidedAnswer.Ran run) = given run
 pub ran-told : (o : Outcome Guided) {x : GuidedAnswer} → x ≡ guidedAnswer o → ranTold x ≡ telling toldRun o
 ran-told (refused r) e = ap ranTold e
 ran-told (given g) e = ap ranTold e
+
+-- the word and the point that are handed over tell the step again
+pub told-back : (x y : Float) (t : CutStep) → toldStep (stepWord t) (stepX x t) (stepY y t) ≡ t
+told-back x y Done = refl
+told-back x y (Lift a b) = refl
+told-back x y (Cut a b) = refl

@@ -5,6 +5,7 @@ pub mod Boxes
 pub mod Tight
 pub mod Turns
 pub mod Strips
+pub mod Halves
 pub mod Rebuild
 pub mod ValidStrips
 pub mod Demand2Strips

@@ -1,16 +1,19 @@
 //! Nests the pieces of a job round by round through the interface for C. Reads the job text from standard input, tells the progress on
-//! standard error and prints the best layout and how the search ended, as the program `nest` does in one go.
-
-mod calls;
+//! standard error, with the length of the cut list where the layout is clear, and prints the best layout and how the search ended, as
+//! the program `nest` does in one go.
 
 use std::error::Error;
 use std::io::{self, Read, Write};
 use std::process::ExitCode;
 
-use calls::{End, Job, Place, Refused, TEXT};
+use sigbrol::safe::{line_step, End, Job, Refused, Step};
+use sigbrol::{Place, TEXT};
 
 const ROUNDS: usize = 20;
 const BUDGET: u32 = 1_000;
+
+/// The side of a pixel in sixty-fourths of a millimetre: 1.5 mm.
+const PITCH: u32 = 96;
 
 fn main() -> ExitCode {
     match run() {
@@ -116,6 +119,7 @@ impl Search {
     fn output(&self, job: &Job) -> Result<Vec<u8>, Refused> {
         let word = if self.best_sum == 0 {
             job.check(&self.best)?;
+            tell_cut_list(job, &self.best)?;
             "clear"
         } else {
             "open"
@@ -131,4 +135,21 @@ impl Search {
         output.extend(last.bytes());
         Ok(output)
     }
+}
+
+/// Tells how many lines the knife follows and how long they are together, step by step. A coordinate is a multiple of 1/64 mm, so that
+/// the sum is exact.
+fn tell_cut_list(job: &Job, layout: &[Place]) -> Result<(), Refused> {
+    let lines = job.cut_lines(layout)?;
+    let (mut from_x, mut from_y, mut length) = (0.0, 0.0, 0.0);
+    for step in 0.. {
+        match line_step(&lines, PITCH, step)? {
+            Step::Lift(x, y) => (from_x, from_y) = (x, y),
+            // One of the two is 0.
+            Step::Cut(x, y) => length += (x - from_x) + (y - from_y),
+            Step::Done => break,
+        }
+    }
+    eprintln!("cut list: {} lines, {length} mm", lines.len());
+    Ok(())
 }

@@ -1,11 +1,17 @@
 //! The functions of include/sigbrol.h, declared for Rust: first those that are lent no job, then the others, in the header's order. What
-//! each does and refuses stands there. A program that calls them links the archive that `rt staticlib sigbrol` makes
-//! (examples/rust/build.rs shows how).
+//! each does and refuses stands there. `safe` is a safe layer over some of them. A program that calls them links the archive that
+//! `rt staticlib sigbrol` makes (examples/rust/build.rs shows how).
 
 #![no_std]
 
+#[cfg(feature = "safe")]
+extern crate alloc;
+
+#[cfg(feature = "safe")]
+pub mod safe;
+
 /// The version of the interface.
-pub const VERSION: u32 = 3;
+pub const VERSION: u32 = 4;
 
 /// The largest numbers of a job: pieces, bytes of all boxes together, bytes of a job text that the program reads.
 pub const PIECES: usize = 64;
@@ -20,8 +26,21 @@ pub const RUNS: usize = 255;
 pub const LAYOUT_TEXT: usize = 2_048;
 pub const OUTPUT: usize = 4_096;
 
+/// How many lines suffice for the cut list of every layout on a sheet.
+pub const fn cut_lines_capacity(rows: usize, columns: usize) -> usize {
+    (rows + 1) * (columns + 1)
+}
+
 /// The largest weight.
 pub const WEIGHT: u32 = 65_535;
+
+/// What the knife does at a step.
+pub const STEP_DONE: u8 = 0;
+pub const STEP_LIFT: u8 = 1;
+pub const STEP_CUT: u8 = 2;
+
+/// The largest pitch: the side of a pixel in sixty-fourths of a millimetre.
+pub const PITCH: u32 = 4_096;
 
 /// How a descent ended.
 pub const CLEAR: u8 = 0;
@@ -56,6 +75,9 @@ pub type Place = [u16; 3];
 
 /// A piece's entry of the sheet record: laid, turn, x, y.
 pub type RecordEntry = [u16; 4];
+
+/// A line to cut: 0 horizontal or 1 vertical, its pixel line, first, last.
+pub type CutLine = [u16; 4];
 
 /// A run of offsets: first, count.
 pub type Run = [i32; 2];
@@ -108,6 +130,16 @@ extern "C" {
         strips_length: usize,
         pixels: *mut u8,
         pixels_length: usize,
+    ) -> Reply;
+
+    pub fn sigbrol_line_step(
+        lines: *const CutLine,
+        lines_length: usize,
+        pitch: u32,
+        step: u64,
+        word: *mut u8,
+        x: *mut f64,
+        y: *mut f64,
     ) -> Reply;
 
     pub fn sigbrol_program(
@@ -222,6 +254,24 @@ lent_a_job! {
     fn sigbrol_check(layout: *const Place, layout_length: usize) -> Reply;
 
     fn sigbrol_start(layout: *mut Place, layout_length: usize) -> Reply;
+
+    fn sigbrol_cut_lines(
+        layout: *const Place,
+        layout_length: usize,
+        lines: *mut CutLine,
+        lines_length: usize,
+        lines_count: *mut usize,
+    ) -> Reply;
+
+    fn sigbrol_cut_step(
+        layout: *const Place,
+        layout_length: usize,
+        pitch: u32,
+        step: u64,
+        word: *mut u8,
+        x: *mut f64,
+        y: *mut f64,
+    ) -> Reply;
 
     fn sigbrol_write_layout(
         layout: *const Place,

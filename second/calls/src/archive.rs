@@ -63,6 +63,9 @@ pub fn call(kind: Kind, memory: &mut Memory) -> Returned {
             Kind::WeightedSum | Kind::PlainSum | Kind::UsedLength | Kind::Check => {
                 reply(measure(kind, memory))
             }
+            Kind::CutLines => reply(cut_lines(memory)),
+            Kind::CutStep => reply(cut_step(memory)),
+            Kind::LineStep => reply(line_step(memory)),
             Kind::Start | Kind::WriteLayout | Kind::ReadLayout => reply(text(kind, memory)),
             Kind::LineSearch => reply(line_search(memory)),
             Kind::Descent => reply(descent(memory)),
@@ -259,6 +262,53 @@ unsafe fn measure(kind: Kind, memory: &mut Memory) -> Reply {
         Kind::UsedLength => lend!(memory, sigbrol_used_length, layout, length, used),
         _ => lend!(memory, sigbrol_check, layout, length),
     }
+}
+
+/// The lines of a cut list.
+unsafe fn cut_lines(memory: &mut Memory) -> Reply {
+    let (layout, length) = (at(&memory.layout), memory.layout.length());
+    let (lines, room) = (at_mut(&mut memory.cut_lines), memory.cut_lines.length());
+    let count = to!(memory.sizes, 0);
+    lend!(
+        memory,
+        sigbrol_cut_lines,
+        layout,
+        length,
+        lines,
+        room,
+        count
+    )
+}
+
+/// A step of the cut list of a layout.
+unsafe fn cut_step(memory: &mut Memory) -> Reply {
+    let (layout, length) = (at(&memory.layout), memory.layout.length());
+    let (pitch, step) = (memory.numbers.pitch, memory.numbers.step);
+    let word = to!(memory.bytes, 0);
+    let (x, y) = (to!(memory.doubles, 0), to!(memory.doubles, 1));
+    // The bits of a number with a fraction are compared, so that no two of them are mistaken for equal.
+    let (x, y): (*mut u64, *mut u64) = (x, y);
+    lend!(
+        memory,
+        sigbrol_cut_step,
+        layout,
+        length,
+        pitch,
+        step,
+        word,
+        x.cast(),
+        y.cast()
+    )
+}
+
+/// A step of lines.
+unsafe fn line_step(memory: &mut Memory) -> Reply {
+    let (lines, count) = (at(&memory.cut_lines), memory.cut_lines.length());
+    let (pitch, step) = (memory.numbers.pitch, memory.numbers.step);
+    let word = to!(memory.bytes, 0);
+    let (x, y) = (to!(memory.doubles, 0), to!(memory.doubles, 1));
+    let (x, y): (*mut u64, *mut u64) = (x, y);
+    sigbrol_line_step(lines, count, pitch, step, word, x.cast(), y.cast())
 }
 
 /// The start layout, and a layout read or written.

@@ -1,6 +1,6 @@
 //! Damage to a memory that a call accepts. Each damage has the cause by which the call is refused if nothing else is damaged.
 
-use second::calls::Cause;
+use second::calls::{self, Cause};
 use second::inputs::random::Random;
 
 use crate::guarded::{Cell, Guarded};
@@ -390,6 +390,21 @@ const ROUNDS: [Damage; 1] = [damage("rounds", Cause::Rounds, |random, memory| {
     memory.numbers.rounds = random.pick(&[0, 1_001, 65_537, u32::MAX]);
 })];
 
+/// The pitch of a cut list.
+const PITCH: [Damage; 1] = [damage("pitch", Cause::Pitch, |random, memory| {
+    memory.numbers.pitch = random.pick(&[0, 4_097, 65_536, 65_536 + 64, u32::MAX]);
+})];
+
+/// The room for the lines of a cut list.
+const LINES_SHORT: [Damage; 1] = [damage(
+    "line buffer short",
+    Cause::BufferShort,
+    |random, memory| {
+        let needed = cut_lines(memory);
+        shorten(random, &mut memory.cut_lines, needed);
+    },
+)];
+
 /// The line of a search.
 const HELD: [Damage; 1] = [damage("held line", Cause::NoPlace, |random, memory| {
     memory.numbers.held = random.pick(&[4_096, 32_768, 65_535]);
@@ -527,6 +542,9 @@ pub fn damages(kind: Kind) -> (Vec<Damage>, &'static [Damage]) {
         }
         Kind::WeightedSum => &[&LAYOUT_LENGTH, &WEIGHTS, &LAYOUT],
         Kind::PlainSum | Kind::UsedLength | Kind::Check => &[&LAYOUT_LENGTH, &LAYOUT],
+        Kind::CutLines => &[&LAYOUT_LENGTH, &LAYOUT, &LINES_SHORT],
+        Kind::CutStep => &[&LAYOUT_LENGTH, &PITCH, &LAYOUT],
+        Kind::LineStep => &[&PITCH],
         Kind::Start | Kind::ReadLayout => &[&LAYOUT_LENGTH],
         Kind::WriteLayout => &[&LAYOUT_LENGTH, &LAYOUT, &TEXT_SHORT],
         Kind::LineSearch => &[&LAYOUT_LENGTH, &WEIGHTS, &PIECE, &TURN, &LAYOUT, &HELD],
@@ -538,6 +556,12 @@ pub fn damages(kind: Kind) -> (Vec<Damage>, &'static [Damage]) {
         Kind::Withdraw => &[&COUNTS_LENGTH, &SHEET, &PIECE],
     };
     (own.concat(), if kind.is_lent_a_job() { &JOB } else { &[] })
+}
+
+/// How many lines a cut list has, 0 where there is none.
+fn cut_lines(memory: &Memory) -> usize {
+    let mut lines = memory.cut_lines.clone();
+    calls::cut_lines(&memory.job(), memory.layout.get(), lines.get_mut()).unwrap_or(0)
 }
 
 /// A place in a buffer, if it has one.

@@ -1,6 +1,7 @@
 //! The second program's call on the caller's memory.
 
 use second::calls::{self, Cause, Counts, Line, Refusal, Weighted};
+use second::cut::Step;
 
 use crate::kind::Kind;
 use crate::memory::{result, Memory};
@@ -48,6 +49,8 @@ pub fn call(kind: Kind, memory: &mut Memory) -> Expected {
         Kind::WeightedSum | Kind::PlainSum | Kind::UsedLength | Kind::Check => {
             reply(measure(kind, memory))
         }
+        Kind::CutLines => reply(cut_lines(memory)),
+        Kind::CutStep | Kind::LineStep => reply(step(kind, memory)),
         Kind::Start | Kind::WriteLayout | Kind::ReadLayout => reply(write(kind, memory)),
         Kind::LineSearch => reply(line_search(memory)),
         Kind::Descent => reply(descent(memory)),
@@ -182,6 +185,35 @@ fn measure(kind: Kind, memory: &mut Memory) -> Result<(), Refusal> {
             memory.sizes.get_mut()[result(0)] = used;
         }
         _ => calls::check(&job, layout)?,
+    }
+    Ok(())
+}
+
+/// The lines of a cut list.
+fn cut_lines(memory: &mut Memory) -> Result<(), Refusal> {
+    let mut lines = memory.cut_lines.clone();
+    let count = calls::cut_lines(&memory.job(), memory.layout.get(), lines.get_mut())?;
+    memory.cut_lines = lines;
+    memory.sizes.get_mut()[result(0)] = count;
+    Ok(())
+}
+
+/// A step of a cut list, of a layout or of lines; where the list is done no point is written.
+fn step(kind: Kind, memory: &mut Memory) -> Result<(), Refusal> {
+    let (pitch, number) = (memory.numbers.pitch, memory.numbers.step);
+    let step = if kind == Kind::CutStep {
+        calls::cut_step(&memory.job(), memory.layout.get(), pitch, number)?
+    } else {
+        calls::line_step(memory.cut_lines.get(), pitch, number)?
+    };
+    let (word, point) = match step {
+        Step::Done => (0, None),
+        Step::Lift(x, y) => (1, Some([x, y])),
+        Step::Cut(x, y) => (2, Some([x, y])),
+    };
+    memory.bytes.get_mut()[result(0)] = word;
+    for (place, number) in point.into_iter().flatten().enumerate() {
+        memory.doubles.get_mut()[result(place)] = number.to_bits();
     }
     Ok(())
 }

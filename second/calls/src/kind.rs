@@ -19,6 +19,9 @@ pub enum Kind {
     PlainSum,
     UsedLength,
     Check,
+    CutLines,
+    CutStep,
+    LineStep,
     Start,
     WriteLayout,
     ReadLayout,
@@ -39,7 +42,7 @@ const JOB: [Cause; 9] = [
 
 impl Kind {
     /// All calls, in the header's order.
-    pub const ALL: [Kind; 24] = {
+    pub const ALL: [Kind; 27] = {
         use Kind::*;
         [
             ReadJob,
@@ -56,6 +59,9 @@ impl Kind {
             PlainSum,
             UsedLength,
             Check,
+            CutLines,
+            CutStep,
+            LineStep,
             Start,
             WriteLayout,
             ReadLayout,
@@ -71,7 +77,10 @@ impl Kind {
 
     /// Whether the call is lent a job.
     pub fn is_lent_a_job(self) -> bool {
-        !matches!(self, Kind::ReadJob | Kind::Rebuild | Kind::Program)
+        !matches!(
+            self,
+            Kind::ReadJob | Kind::Rebuild | Kind::Program | Kind::LineStep
+        )
     }
 
     /// The causes of the call itself, those of a lent job left out.
@@ -96,6 +105,9 @@ impl Kind {
             Kind::WeightedSum => &[LayoutLength, WeightsLength, Weight, LayoutTurn, Outside],
             Kind::PlainSum | Kind::UsedLength => &[LayoutLength, LayoutTurn, Outside],
             Kind::Check => &[LayoutLength, LayoutTurn, Outside, Shared],
+            Kind::CutLines => &[LayoutLength, LayoutTurn, Outside, Shared, BufferShort],
+            Kind::CutStep => &[LayoutLength, Pitch, LayoutTurn, Outside, Shared],
+            Kind::LineStep => &[Pitch],
             Kind::Start => &[LayoutLength],
             Kind::WriteLayout => &[LayoutLength, LayoutTurn, Outside, BufferShort],
             Kind::ReadLayout => &[Form, TextNumber, Turn, Outside, LayoutLength],

@@ -21,6 +21,9 @@ pub struct Numbers {
     pub y: u16,
     pub budget: u32,
     pub rounds: u32,
+    /// The pitch and the number of a step.
+    pub pitch: u32,
+    pub step: u64,
     /// The box of a rebuilding.
     pub box_columns: u16,
     pub box_rows: u16,
@@ -49,12 +52,16 @@ pub struct Memory {
     /// A text, or rebuilt pixels, that are written.
     pub output: Guarded<u8>,
     pub runs: Guarded<[i32; 2]>,
+    /// Lines of a cut list: direction, pixel line, first, last.
+    pub cut_lines: Guarded<[u16; 4]>,
     pub record: Guarded<[u16; 4]>,
     pub counts: Guarded<u8>,
     /// Results by their width, each with an element between it and the next.
     pub bytes: Guarded<u8>,
     pub halves: Guarded<u32>,
     pub words: Guarded<u64>,
+    /// The bits of numbers with a fraction.
+    pub doubles: Guarded<u64>,
     pub sizes: Guarded<usize>,
 }
 
@@ -92,11 +99,13 @@ impl Memory {
             text: Guarded::new(&[]),
             output: Guarded::new(&[]),
             runs: Guarded::new(&[]),
+            cut_lines: Guarded::new(&[]),
             record: Guarded::junk(random, RECORD),
             counts: Guarded::new(&[]),
             bytes: Guarded::junk(random, 2),
             halves: Guarded::junk(random, 4),
             words: Guarded::junk(random, 6),
+            doubles: Guarded::junk(random, 4),
             sizes: Guarded::junk(random, 6),
         }
     }
@@ -145,11 +154,13 @@ impl Memory {
             text,
             output,
             runs,
+            cut_lines,
             record,
             counts,
             bytes,
             halves,
             words,
+            doubles,
             sizes
         )
     }

@@ -309,7 +309,7 @@ mod tests {
         assert_told(Kind::Descent, &|kind, memory| {
             let returned = same(kind, memory);
             if kind == Kind::Descent && returned.reply[0] == 0 {
-                memory.halves.get_mut()[result(0)] += 1;
+                memory.words.get_mut()[result(1)] += 1;
             }
             returned
         });

@@ -149,6 +149,7 @@ impl Scene {
                 let more = random.between(0, 50);
                 memory.output = Guarded::junk(random, OUTPUT + more);
             }
+            Kind::CutLines | Kind::CutStep | Kind::LineStep => self.fill_cut(random, &mut memory),
             Kind::Fresh | Kind::Lay | Kind::Withdraw => self.fill_sheet(random, &mut memory),
             _ => self.fill_layout(random, &mut memory, kind),
         }
@@ -294,6 +295,30 @@ impl Scene {
         if self.is_small() && numbers.budget <= 30 && random.chance(10) {
             numbers.rounds = random.pick(&[100, 999, 1_000]);
         }
+    }
+
+    /// A layout, mostly one that passes the check, with a pitch, the number of a step and room for lines.
+    fn fill_cut(&self, random: &mut Random, memory: &mut Memory) {
+        let layout = if self.is_small() && random.chance(80) {
+            self.clear_layout(random)
+        } else {
+            self.layout(random)
+        };
+        // Lines of one pixel line do not touch, so that no list has more.
+        let (rows, columns) = (self.job.rows, self.job.columns);
+        let mut lines = vec![[0; 4]; (rows + 1) * (columns + 1)];
+        let count = calls::cut_lines(&self.lent(), &layout, &mut lines).unwrap_or(0);
+        memory.layout = Guarded::new(&layout);
+        memory.cut_lines = roomy(random, &lines[..count]);
+        if random.chance(20) {
+            memory.cut_lines = Guarded::junk(random, count);
+        }
+        let numbers = &mut memory.numbers;
+        numbers.pitch = random.pick(&[1, 2, 63, 64, 65, 97, 4_095, 4_096]);
+        let steps = 2 * count as u64;
+        let within = random.between(0, 2 * count + 1) as u64;
+        let far = random.pick(&[steps, 1 << 32, (1 << 32) + 1, 1 << 63, u64::MAX]);
+        numbers.step = if random.chance(80) { within } else { far };
     }
 
     /// A sheet with some pieces laid, and a piece to be laid or withdrawn.

@@ -60,11 +60,29 @@ pub fn used_length(lent: &Lent, layout: &[[u16; 3]]) -> Result<usize, Refusal> {
 
 /// Passes a layout in which no two pieces share a pixel.
 pub fn check(lent: &Lent, layout: &[[u16; 3]]) -> Result<(), Refusal> {
-    let (job, places) = plain(lent, layout)?;
+    checked(lent, layout, || Ok(())).map(|_| ())
+}
+
+/// The placements of a layout that passes the check; `own` is asked after cause 7.
+pub(super) fn checked(
+    lent: &Lent,
+    layout: &[[u16; 3]],
+    own: impl Fn() -> Result<(), Refusal>,
+) -> Result<(Job, Vec<Placement>), Refusal> {
+    let job = lent.job()?;
+    require(layout.len() == lent.count, Cause::LayoutLength)?;
+    own()?;
+    let places = placements(&job, layout)?;
+    apart(&job, &places)?;
+    Ok((job, places))
+}
+
+/// Cause 12: two pieces share a pixel.
+fn apart(job: &Job, places: &[Placement]) -> Result<(), Refusal> {
     // The piece that holds each sheet pixel is told by painting; of all pairs that meet in a pixel the lowest is named.
     let mut holders: Vec<Vec<usize>> = vec![Vec::new(); job.rows * job.columns];
     let mut lowest = None;
-    for (number, (piece, place)) in job.pieces.iter().zip(&places).enumerate() {
+    for (number, (piece, place)) in job.pieces.iter().zip(places).enumerate() {
         let shape = piece.shape.turned(place.turn);
         for (x, y) in shape.pixels() {
             let cell = &mut holders[(place.y + y) * job.columns + place.x + x];

@@ -4,6 +4,7 @@
 //! turns stand in the buffers as the interface for C lays them down: a turn is its degrees, a layout entry is {turn, x, y}, a strip
 //! {line, first, count}, a record entry {laid, turn, x, y}.
 
+mod cut;
 mod layouts;
 mod lent;
 mod pairs;
@@ -11,6 +12,7 @@ mod sheet;
 mod strips;
 mod texts;
 
+pub use cut::{cut_lines, cut_step, line_step};
 pub use layouts::{
     check, descent, guided_run, line_search, plain_sum, start, used_length, weighted_sum, Ended,
     Line, Run, Weighted,
@@ -32,6 +34,7 @@ pub enum Cause {
     Budget,
     Rounds,
     Side,
+    Pitch,
     SheetArea,
     BoxAreas,
     LooseBox,
@@ -72,7 +75,7 @@ impl Cause {
         use Cause::*;
         match self {
             Form => 1,
-            TextNumber | Weight | Budget | Rounds | Side => 2,
+            TextNumber | Weight | Budget | Rounds | Side | Pitch => 2,
             SheetArea => 3,
             BoxAreas => 4,
             LooseBox => 5,

@@ -59,7 +59,7 @@ returns c =
     let box = at-turned-piece .turned-piece .ensures in
     let first = at-corner-number .corner-number .ensures in
     let moved = rw (box, start, first, sides .0 (a .size) (a .pixels .now)) at (c .before .before .move-rows .ensures) in
-    moved ∙ piece-moved l (a .i) (a .place) _ ready (a .up) (a .counts .now) refl
+    moved ∙ piece-moved l (a .i) (a .place) _ ready (a .change) (a .counts .now) refl
 
 pub move-piece-spec : {M : Type 1} → statement M
 move-piece-spec =

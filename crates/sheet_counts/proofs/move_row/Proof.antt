@@ -7,12 +7,12 @@ use Rattle.sheet_counts.specs.Stamp.{movedRun, onAt}
 use Rattle.sheet_counts.proofs.Runs.{run-step, run-end}
 
 abbrev Inv-loop : tie.InvT-loop
-Inv-loop pixels piece y from width up counts₀ x₀ counts x =
+Inv-loop pixels piece y from width change counts₀ x₀ counts x =
     (x ≤ width) × (length counts ≡ length counts₀)
-    × (movedRun up (onAt pixels piece y) from counts x (width - x) ≡ movedRun up (onAt pixels piece y) from counts₀ 0 width)
+    × (movedRun change (onAt pixels piece y) from counts x (width - x) ≡ movedRun change (onAt pixels piece y) from counts₀ 0 width)
 
 abbrev μ-loop : tie.MeasureT-loop
-μ-loop pixels piece y from width up counts₀ x₀ counts x = width - x
+μ-loop pixels piece y from width change counts₀ x₀ counts x = width - x
 
 loop-holds : tie.Need-loop-holds Inv-loop μ-loop
 loop-holds c = (omega arith, refl, rw sub-zero)
@@ -38,7 +38,7 @@ loop-again c =
       omega arith,
       simp length-set (now .inv .1),
       rw (count, on)
-          (sym (run-step (a .up) (onAt (a .pixels .now) (a .piece) (a .y)) (a .from) (now .counts) (now .x) (a .width) (in-loop .loop-test .taken))
+          (sym (run-step (a .change) (onAt (a .pixels .now) (a .piece) (a .y)) (a .from) (now .counts) (now .x) (a .width) (in-loop .loop-test .taken))
           ∙ now .inv .2),
     )
 
@@ -50,7 +50,7 @@ returns c =
     let at-start : tie.Start Inv-loop μ-loop = search in
     let a = at-start .args in
     let now = c .before .loop in
-    sym (run-end (a .up) (onAt (a .pixels .now) (a .piece) (a .y)) (a .from) (now .counts) (now .x) (a .width) (c .loop-test .left)) ∙ now .inv .2
+    sym (run-end (a .change) (onAt (a .pixels .now) (a .piece) (a .y)) (a .from) (now .counts) (now .x) (a .width) (c .loop-test .left)) ∙ now .inv .2
 
 pub move-row-spec : {M : Type 1} → statement M
 move-row-spec =

@@ -8,13 +8,13 @@ use Rattle.sheet_counts.proofs.Runs.{length-run}
 use Rattle.sheet_counts.proofs.Rows.{rows-step, rows-end}
 
 abbrev Inv-loop : tie.InvT-loop
-Inv-loop pixels piece first sheet width height up counts₀ from₀ y₀ counts from y =
+Inv-loop pixels piece first sheet width height change counts₀ from₀ y₀ counts from y =
     (y ≤ height) × (length counts ≡ length counts₀) × (from ≡ first + y * sheet)
-    × (movedRows up (onAt pixels piece) sheet width counts from y (height - y)
-    ≡ movedRows up (onAt pixels piece) sheet width counts₀ first 0 height)
+    × (movedRows change (onAt pixels piece) sheet width counts from y (height - y)
+    ≡ movedRows change (onAt pixels piece) sheet width counts₀ first 0 height)
 
 abbrev μ-loop : tie.MeasureT-loop
-μ-loop pixels piece first sheet width height up counts₀ from₀ y₀ counts from y = height - y
+μ-loop pixels piece first sheet width height change counts₀ from₀ y₀ counts from y = height - y
 
 loop-holds : tie.Need-loop-holds Inv-loop μ-loop
 loop-holds c = (omega arith, refl, (let none = zero-mul (c .before .before .args .sheet) in omega arith), rw sub-zero)
@@ -57,14 +57,14 @@ loop-again c =
     let now = at-loop .loop in
     let f = onAt (a .pixels .now) (a .piece) in
     let inside = in-loop .loop-test .taken in
-    let after : c .before .before .move-row .last .1 .1 .1 .1 .1 .1 .0 ≡ movedRun (a .up) (f (now .y)) (now .from) (now .counts) 0 (a .width) =
+    let after : c .before .before .move-row .last .1 .1 .1 .1 .1 .1 .0 ≡ movedRun (a .change) (f (now .y)) (now .from) (now .counts) 0 (a .width) =
     c .before .before .move-row .ensures in
     let from = now .inv .2 in
     let step : (now .y + 1) * a .sheet ≡ now .y * a .sheet + a .sheet = ap (λ (n : ℕ). n * a .sheet) (add-one (now .y)) ∙ suc-mul (now .y) (a .sheet) in (
       omega arith,
-      ap length after ∙ length-run (a .up) (f (now .y)) (now .from) (now .counts) 0 (a .width) ∙ now .inv .1,
+      ap length after ∙ length-run (a .change) (f (now .y)) (now .from) (now .counts) 0 (a .width) ∙ now .inv .1,
       omega arith,
-      rw after (sym (rows-step (a .up) f (a .sheet) (a .width) (now .counts) (now .from) (now .y) (a .height) inside) ∙ now .inv .3),
+      rw after (sym (rows-step (a .change) f (a .sheet) (a .width) (now .counts) (now .from) (now .y) (a .height) inside) ∙ now .inv .3),
     )
 
 same-length : tie.Need-same-length Inv-loop μ-loop
@@ -75,7 +75,7 @@ returns c =
     let at-start : tie.Start Inv-loop μ-loop = search in
     let a = at-start .args in
     let now = c .before .loop in
-    sym (rows-end (a .up) (onAt (a .pixels .now) (a .piece)) (a .sheet) (a .width) (now .counts) (now .from) (now .y) (a .height) (c .loop-test .left))
+    sym (rows-end (a .change) (onAt (a .pixels .now) (a .piece)) (a .sheet) (a .width) (now .counts) (now .from) (now .y) (a .height) (c .loop-test .left))
     ∙ now .inv .3
 
 pub move-rows-spec : {M : Type 1} → statement M

@@ -1,12 +1,16 @@
-//! A thin safe layer over the calls that the example uses.
+//! A thin safe layer over the calls that the examples and the cut list's program use.
 //!
 //! The layer is sound because a call trusts no byte that it is lent, keeps no pointer and writes only inside the lengths that it is
 //! given: every length below is that of a slice, and what a call writes is borrowed for it alone.
 
-use std::fmt;
+use alloc::vec;
+use alloc::vec::Vec;
+use core::fmt;
 
-pub use sigbrol::{Place, TEXT};
-use sigbrol::{Reply, CLEAR, DONE, LAYOUT_TEXT, PIECES, PIXELS, SETTLED};
+use crate::{
+    cut_lines_capacity, CutLine, Place, Reply, CLEAR, DONE, LAYOUT_TEXT, PIECES, PIXELS, SETTLED,
+    STEP_CUT, STEP_LIFT,
+};
 
 /// A call that is refused, and by what.
 #[derive(Clone, Copy, Debug, PartialEq, Eq)]
@@ -47,6 +51,36 @@ pub struct Descent {
     pub moves: u64,
 }
 
+/// What the knife does at a step; a point is x and y in millimetres.
+#[derive(Clone, Copy, Debug, PartialEq)]
+pub enum Step {
+    Lift(f64, f64),
+    Cut(f64, f64),
+    Done,
+}
+
+/// A step of the lines of a cut list.
+pub fn line_step(lines: &[CutLine], pitch: u32, step: u64) -> Result<Step, Refused> {
+    let (mut word, mut x, mut y) = (0, 0.0, 0.0);
+    // Sound by what the head of this file says.
+    accepted(unsafe {
+        crate::sigbrol_line_step(
+            lines.as_ptr(),
+            lines.len(),
+            pitch,
+            step,
+            &mut word,
+            &mut x,
+            &mut y,
+        )
+    })?;
+    Ok(match word {
+        STEP_LIFT => Step::Lift(x, y),
+        STEP_CUT => Step::Cut(x, y),
+        _ => Step::Done,
+    })
+}
+
 /// A job that has been read.
 pub struct Job {
     rows: usize,
@@ -62,7 +96,7 @@ macro_rules! lend {
         let Job { rows, columns, count, table, pixels } = $job;
         // Sound by what the head of this file says.
         accepted(unsafe {
-            sigbrol::$call(*rows, *columns, *count, table.as_ptr(), table.len(), pixels.as_ptr(), pixels.len(), $($argument),*)
+            crate::$call(*rows, *columns, *count, table.as_ptr(), table.len(), pixels.as_ptr(), pixels.len(), $($argument),*)
         })
     }};
 }
@@ -75,7 +109,7 @@ impl Job {
         let mut pixels = vec![0; PIXELS];
         // Sound by what the head of this file says.
         let reply = unsafe {
-            sigbrol::sigbrol_read_job(
+            crate::sigbrol_read_job(
                 text.as_ptr(),
                 text.len(),
                 table.as_mut_ptr(),
@@ -100,6 +134,42 @@ impl Job {
     /// The number of pieces.
     pub fn count(&self) -> usize {
         self.count
+    }
+
+    /// Rows and columns of the sheet.
+    pub fn sheet(&self) -> [usize; 2] {
+        [self.rows, self.columns]
+    }
+
+    /// Reads a layout text.
+    pub fn read_layout(&self, text: &[u8]) -> Result<Vec<Place>, Refused> {
+        let mut layout = vec![[0; 3]; self.count];
+        lend!(
+            self,
+            sigbrol_read_layout,
+            text.as_ptr(),
+            text.len(),
+            layout.as_mut_ptr(),
+            layout.len()
+        )?;
+        Ok(layout)
+    }
+
+    /// The lines to cut of a layout that passes the check.
+    pub fn cut_lines(&self, layout: &[Place]) -> Result<Vec<CutLine>, Refused> {
+        let mut lines = vec![[0; 4]; cut_lines_capacity(self.rows, self.columns)];
+        let mut count = 0;
+        lend!(
+            self,
+            sigbrol_cut_lines,
+            layout.as_ptr(),
+            layout.len(),
+            lines.as_mut_ptr(),
+            lines.len(),
+            &mut count
+        )?;
+        lines.truncate(count);
+        Ok(lines)
     }
 
     /// The start layout.

@@ -1,0 +1,2 @@
+-- What the functions of the crate say of one another.
+pub mod Painted

@@ -1,0 +1,3 @@
+-- The laws behind the scan; each function's proof stands in a folder of its name.
+pub mod Storing
+pub mod Rows

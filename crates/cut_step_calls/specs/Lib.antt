@@ -1,0 +1,2 @@
+-- The answers of the crate's calls.
+pub mod Answers

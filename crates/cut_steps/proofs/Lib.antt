@@ -1,0 +1,2 @@
+-- The law behind the steps; each function's proof stands in a folder of its name.
+pub mod Numbered

@@ -1,0 +1,14 @@
+-- `cut_to`: both coordinates of the line's end, in millimetres. Assumes nothing.
+use Rattle.list_laws.proofs.Kit.{needs}
+use Rattle.cut_steps.proofs.cut_to.Statement.{statement}
+use Rattle.cut_steps.proofs.cut_to.Tie as tie
+
+returns : tie.Need-returns
+returns c =
+    let x : tie.After-x-at = search in
+    let first : tie.After-millimetres = search in
+    let y : tie.After-y-at = search in
+    rw (c .millimetres2 .ensures .0, y .y-at .ensures, first .millimetres .ensures .0, x .x-at .ensures)
+
+pub cut-to-spec : {M : Type 1} → statement M
+cut-to-spec = tie.close (tie.spec (search needs) (search needs) (search needs) (search needs) (search needs) (search needs) returns)
