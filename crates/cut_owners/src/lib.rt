@@ -29,7 +29,15 @@ fn paint_piece(
 {
     let place = place_at(layout, i);
     let owner = i as u8 + 1;
-    sheet_counts::move_piece(size, table, pixels, i, place, Change::OwnedBy(owner), owners);
+    sheet_counts::move_piece(
+        size,
+        table,
+        pixels,
+        i,
+        place,
+        Change::OwnedBy(owner),
+        owners,
+    );
 }
 
 // The owner of each pixel of the sheet.

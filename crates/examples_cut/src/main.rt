@@ -165,7 +165,12 @@ fn main() {
     show_step(18446744073709551615);
     show_lines(TWO, &TWO_TABLE, &TWO_PIXELS, &OVER);
     show_lines(RING, &RING_TABLE, &RING_PIXELS, &IN_THE_HOLE);
-    show_lines(RING_ALONE, &RING_TABLE[..1], &RING_PIXELS[..9], &IN_THE_HOLE[..1]);
+    show_lines(
+        RING_ALONE,
+        &RING_TABLE[..1],
+        &RING_PIXELS[..9],
+        &IN_THE_HOLE[..1],
+    );
     put_answer(line_step(&[[1, 3, 1, 2]], 1, 1));
     put_answer(line_step(&[[1, 3, 1, 2]], 4097, 1));
 }

@@ -45,8 +45,8 @@ returns c =
           (
             put .1 .1 ∙ leaves-by (λ a. a) (stepY _) _ o t,
             λ zero.
-            let claims = rw (sized .size-of .ensures) at (called .cut-step .ensures .1 _ (how .taken .given .1)) in
-            (claims .0, rw (put .0, put .1 .0, put .1 .1, told-back _ _ _) (claims .1)),
+                let claims = rw (sized .size-of .ensures) at (called .cut-step .ensures .1 _ (how .taken .given .1)) in
+                (claims .0, rw (put .0, put .1 .0, put .1 .1, told-back _ _ _) (claims .1)),
           ),
         ),
       ),
