@@ -11,7 +11,8 @@
  *   it. Table and pixels may be longer than the job needs; what lies beyond is not looked at.
  * - A layout has an entry {turn, x, y} a piece, weights one number (1 to 65,535) a pair in the order (0,1), (0,2), .., (1,2), ..:
  *   both have exactly that length, SIGBROL_PAIRS(n) for the weights. Where a call only reads a layout that is not const, C up to C17
- *   asks for a cast: SIGBROL_PLACES(layout) has it, and SIGBROL_LENT and SIGBROL_READ_STORES have theirs.
+ *   asks for a cast: SIGBROL_PLACES(layout) has it, SIGBROL_LINES(lines) that of a line buffer, and SIGBROL_LENT and
+ *   SIGBROL_READ_STORES have theirs.
  * - A strip is {line, first, count}: in a row store {y, first x, count}, in a column store {x, first y, count}.
  * - `vertical` is 0 for a shift along the rows (horizontal) and any other number for one along the columns.
  *
@@ -27,7 +28,7 @@
  * a length has one element (a record sixty-four entries), and no buffer that a call writes overlaps another of its arguments. A pointer
  * is never kept. No function allocates, keeps state or does input and output, so any number of threads may call. A thread needs up to
  * 3 MB of stack: sigbrol_descent, sigbrol_guided_run and sigbrol_program take the most. This, and the lengths below that suffice, are
- * counted and not proved. */
+ * counted and not proved; that SIGBROL_CUT_LINES suffices is proved. */
 #ifndef SIGBROL_H
 #define SIGBROL_H
 
@@ -119,6 +120,9 @@ typedef struct {
 
 /* A layout as an argument of a call that only reads it. */
 #define SIGBROL_PLACES(layout) ((const uint16_t(*)[3])(layout))
+
+/* The lines of a cut list as an argument of a call that only reads them. */
+#define SIGBROL_LINES(lines) ((const uint16_t(*)[4])(lines))
 
 /* The strips of all pieces in the caller's memory: the row store and the column store, each with its starts. The eight arguments by which
  * sigbrol_strips fills them, and those by which sigbrol_stretch and sigbrol_stretch_refusal read them. */
@@ -268,11 +272,10 @@ sigbrol_reply sigbrol_read_layout(size_t rows, size_t columns, size_t count, con
 /* ---- the cut list ---- */
 
 /* The lines to cut of a layout that passes sigbrol_check: fills the front of `lines` and `lines_count`, how many there are. An entry is
- * {direction, line, first, last} in pixel lines, 0 to W or L: row y lies between the lines y and y + 1. A horizontal line (0) stands at
- * y = line from x = first to x = last, a vertical one (1) at x = line from y = first to y = last. Horizontals come first, by y, then x;
- * verticals by x, then y. Every side between a pixel of a piece and one that is not of that piece, or the sheet's outside, lies on just
- * one line, nothing else is cut, and no two lines could be joined.
- * SIGBROL_CUT_LINES(rows, columns) lines suffice for every layout.
+ * {direction, line, first, last}, the last three in pixel lines, 0 to W or L: row y lies between the lines y and y + 1. A horizontal line
+ * (0) stands at y = line from x = first to x = last, a vertical one (1) at x = line from y = first to y = last. Horizontals come first, by
+ * y, then x; verticals by x, then y. Every side between a pixel of a piece and one that is not of that piece, or the sheet's outside, lies
+ * on just one line, nothing else is cut, and no two lines could be joined. SIGBROL_CUT_LINES(rows, columns) lines suffice for every layout.
  * Refused: 8 the job; 7 the layout's length; 9; 10; 12 as sigbrol_check; 7 the line buffer is too short. */
 sigbrol_reply sigbrol_cut_lines(size_t rows, size_t columns, size_t count, const uint8_t (*table)[3], size_t table_length,
                                 const uint8_t *pixels, size_t pixels_length, const uint16_t (*layout)[3], size_t layout_length,

@@ -56,12 +56,17 @@ fn read_job(job: &Path) -> Job {
     job::read(&fs::read(job).expect("a job")).expect("a right job")
 }
 
+/// The text of a job's stored layout: the output without its last line.
+fn layout_text(job: &Path) -> String {
+    let mut output = fs::read_to_string(job.with_extension("out")).expect("an output");
+    output.truncate(output.find("end,").expect("a last line"));
+    output
+}
+
 /// The cuts of a job's stored layout by the second program.
 fn expected(job: &Path, pitch: u32) -> Vec<Cut> {
     let read = read_job(job);
-    let output = fs::read_to_string(job.with_extension("out")).expect("an output");
-    let end = output.find("end,").expect("a last line");
-    let places = layout::read(&read, output[..end].as_bytes()).expect("a right layout");
+    let places = layout::read(&read, layout_text(job).as_bytes()).expect("a right layout");
     let lines = second::cut::lines(&read, &places);
     let mut cuts = Vec::new();
     let mut from = (0.0, 0.0);
@@ -109,6 +114,28 @@ fn files_of_clear_jobs() {
     }
     assert_eq!(taken_files(&folder), [""; 0]);
     assert!(compared >= 70, "{compared}");
+}
+
+#[test]
+fn files_of_an_output_and_of_a_layout_text_byte_for_byte() {
+    let folder = new_folder("bytes");
+    let job = example("example-clear.job");
+    let text = folder.join("layout.txt");
+    fs::write(&text, layout_text(&job)).expect("the file is written");
+    let stored = Path::new(env!("CARGO_MANIFEST_DIR")).join("tests/expected/example-clear");
+    for (name, layout) in [("output", job.with_extension("out")), ("text", text)] {
+        let found = run(&folder, &job, &layout, "96", Some(name));
+        assert!(found.status.success(), "{found:?}");
+        for ending in ["svg", "dxf", "plt"] {
+            let written = fs::read_to_string(folder.join(name).with_extension(ending));
+            let stored = fs::read_to_string(stored.with_extension(ending));
+            assert_eq!(
+                written.expect("the program wrote the file"),
+                stored.expect("the file is there")
+            );
+        }
+    }
+    fs::remove_dir_all(folder).expect("the folder can be removed");
 }
 
 #[test]

@@ -1,4 +1,4 @@
-//! Each format gives back the cuts that were written, fractions of a sixty-fourth of a millimetre and long ways among them.
+//! Each format gives back the cuts that were written, sixty-fourths of a millimetre and long ways among them.
 
 mod read;
 

@@ -122,7 +122,7 @@ static void tell_cut_list(const sigbrol_job *job, uint16_t (*layout)[3])
     double x = 0, y = 0, length = 0;
     for (uint64_t step = 0; word != SIGBROL_STEP_DONE; step++) {
         double from_x = x, from_y = y;
-        must("sigbrol_line_step", sigbrol_line_step((const uint16_t(*)[4])lines, count, PITCH, step, &word, &x, &y));
+        must("sigbrol_line_step", sigbrol_line_step(SIGBROL_LINES(lines), count, PITCH, step, &word, &x, &y));
         if (word == SIGBROL_STEP_CUT) {
             /* One of the two is 0. */
             length += (x - from_x) + (y - from_y);

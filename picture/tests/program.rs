@@ -13,19 +13,11 @@ fn example(name: &str) -> PathBuf {
         .join(name)
 }
 
-/// Runs the program on a job and a layout.
-fn run(job: &Path, layout: &Path) -> Output {
+/// Runs the program with an option, or none, on the files that are named.
+fn run(option: Option<&str>, files: &[&Path]) -> Output {
     Command::new(env!("CARGO_BIN_EXE_picture"))
-        .args([job, layout])
-        .output()
-        .expect("the program runs")
-}
-
-/// Runs the program on a job and a layout with the option for the lines to cut.
-fn run_cut(job: &Path, layout: &Path) -> Output {
-    Command::new(env!("CARGO_BIN_EXE_picture"))
-        .arg("--cut")
-        .args([job, layout])
+        .args(option)
+        .args(files)
         .output()
         .expect("the program runs")
 }
@@ -47,7 +39,7 @@ fn assert_refused(output: &Output) {
 fn every_layout_of_the_examples_is_drawn() {
     for job in jobs() {
         let layout = job.with_extension("out");
-        let output = run(&job, &layout);
+        let output = run(None, &[&job, &layout]);
         let text = fs::read_to_string(&layout).expect("the output is there");
         if text.starts_with("refused,") {
             assert_refused(&output);
@@ -70,7 +62,7 @@ fn every_layout_of_the_examples_is_drawn() {
 #[test]
 fn lines_to_cut_are_drawn_over_clear_layouts_alone() {
     for file in jobs() {
-        let output = run_cut(&file, &file.with_extension("out"));
+        let output = run(Some("--cut"), &[&file, &file.with_extension("out")]);
         let text = fs::read_to_string(file.with_extension("out")).expect("the output is there");
         let Some(end) = text.find("end,clear,") else {
             assert_refused(&output);
@@ -92,18 +84,17 @@ fn lines_to_cut_are_drawn_over_clear_layouts_alone() {
 #[test]
 fn wrong_inputs_are_refused() {
     let (clear, open) = (example("example-clear.job"), example("example-open.out"));
-    assert_refused(&run(&clear, &open));
-    assert_refused(&run(&clear, &clear));
-    assert_refused(&run(&open, &open));
-    assert_refused(&run(&clear, &example("there-is-no-such-file")));
+    assert_refused(&run(None, &[&clear, &open]));
+    assert_refused(&run(None, &[&clear, &clear]));
+    assert_refused(&run(None, &[&open, &open]));
+    assert_refused(&run(None, &[&clear, &example("there-is-no-such-file")]));
     let noise = env::temp_dir().join(format!("picture-{}.out", process::id()));
     fs::write(&noise, b"layout,1,2,4,2\n\xff\xfe\n").expect("the file is written");
-    assert_refused(&run(&clear, &noise));
+    assert_refused(&run(None, &[&clear, &noise]));
     fs::remove_file(&noise).expect("the file is there");
 }
 
 #[test]
 fn two_files_are_needed() {
-    let output = Command::new(env!("CARGO_BIN_EXE_picture")).output();
-    assert_refused(&output.expect("the program runs"));
+    assert_refused(&run(None, &[]));
 }

@@ -183,6 +183,44 @@ fn the_first_cause_wins() {
 }
 
 #[test]
+fn the_first_cause_of_a_cut_list_wins() {
+    let job = job(4, 5, &[A, B, E]);
+    let right = [[0, 0, 0], [90, 2, 0], [0, 4, 3]];
+    let shared = [[0, 0, 0], [90, 1, 1], [0, 4, 3]];
+    let shared_outside = [[0, 0, 0], [90, 1, 1], [0, 5, 3]];
+    let spoilt_turn = [[0, 9, 9], [90, 2, 0], [45, 4, 3]];
+    let step = |layout: &[[u16; 3]], pitch| {
+        calls::cut_step(&job.lent(), layout, pitch, 0).map_err(|refusal| refusal.cause)
+    };
+    assert!(step(&right, 1).is_ok() && step(&right, 4_096).is_ok());
+    assert_eq!(step(&spoilt_turn[..2], 0), Err(Cause::LayoutLength));
+    assert_eq!(step(&spoilt_turn, 0), Err(Cause::Pitch));
+    assert_eq!(step(&shared, 4_097), Err(Cause::Pitch));
+    assert_eq!(step(&spoilt_turn, 1), Err(Cause::LayoutTurn));
+    assert_eq!(step(&shared_outside, 1), Err(Cause::Outside));
+    assert_eq!(step(&shared, 1), Err(Cause::Shared));
+
+    let lines = |lent: &Lent, layout: &[[u16; 3]]| {
+        // Room for one line, where there are more.
+        let mut lines = [[7; 4]];
+        let count = calls::cut_lines(lent, layout, &mut lines);
+        assert_eq!(lines, [[7; 4]]);
+        count.map_err(|refusal| refusal.cause)
+    };
+    assert_eq!(lines(&job.lent(), &right), Err(Cause::BufferShort));
+    assert_eq!(lines(&job.lent(), &shared), Err(Cause::Shared));
+    assert_eq!(lines(&job.lent(), &shared_outside), Err(Cause::Outside));
+    assert_eq!(lines(&job.lent(), &spoilt_turn), Err(Cause::LayoutTurn));
+    assert_eq!(
+        lines(&job.lent(), &spoilt_turn[..2]),
+        Err(Cause::LayoutLength)
+    );
+    let mut lent = job.lent();
+    lent.count = usize::MAX;
+    assert_eq!(lines(&lent, &spoilt_turn[..2]), Err(Cause::LentCount));
+}
+
+#[test]
 fn the_lowest_pair_is_named() {
     let job = job(4, 9, &[A, A, A, A]);
     let check = |layout| calls::check(&job.lent(), layout);

@@ -20,10 +20,6 @@ sizeAs rows columns count = record { rows = rows; columns = columns; count = cou
 abbrev pub lentAs : ℕ → ℕ → ℕ → List (List ℕ) → List ℕ → Lent
 lentAs rows columns count table pixels = lentBy (sizeAs rows columns count) table pixels
 
--- 0 is horizontal, every other number vertical
-abbrev pub directionOf : ℕ → Direction
-directionOf vertical = elim (eqb vertical 0) [ true ↦ Horizontal | false ↦ Vertical ]
-
 -- the line in a held row, or in a held column if vertical
 abbrev pub lineOf : ℕ → ℕ → Line
 lineOf vertical held =

@@ -11,7 +11,8 @@ use model::Refusal;
 use model::Row;
 ghost use mathlib.Core.Path.{_≡_};
 ghost use Rattle.model.specs.Buffer.{placement};
-ghost use Rattle.c_interface.specs.Numbers.{sizeAs, directionOf, lineOf, pieceWithTurn};
+ghost use Rattle.model.specs.Buffer.{directionOf};
+ghost use Rattle.c_interface.specs.Numbers.{sizeAs, lineOf, pieceWithTurn};
 ghost use Rattle.c_interface.specs.Replies.{done, refusedBy};
 
 pub mod record;

@@ -2,7 +2,7 @@
 -- content: nothing is asked of what is lent but what an earlier call gave, since a call that is not refused has found it in order.
 -- The calls are defined in model's Calls; each theorem named here is proved in the file that it is taken from. The last three theorems
 -- are the claims. Assumes nothing.
-use Rattle.list_laws.proofs.Kit.{_≡_, Bool, true, _↔_, _≢_, List, map, _*_, _<_, _≤_, ℕ, eqb, length, ℤ}
+use Rattle.list_laws.proofs.Kit.{_≡_, Bool, true, _↔_, _≢_, List, map, _*_, _<_, _≤_, ℕ, eqb, length, take, ℤ}
 use Rattle.model.specs.Piece.{Shape, onLine}
 use Rattle.model.specs.Overlap.{OffsetRun}
 use Rattle.model.specs.Layout.{Layout, Pair, inside, turnedPiece, shapeIn, cornerIn, unitWeights}
@@ -19,8 +19,8 @@ use Rattle.model.specs.Program.{inputBound, refusalText, programText}
 use Rattle.model.specs.Calls.{Stores, stripsCall, storesAfter, stretchWell, usedLengthCall, descentAfter, bestAfterRun, weightsAfterRun, stretchCall}
 use Rattle.model.specs.Calls.{stretchGiven, stretchNumber, LentStretch, noFitCall, stripsWell, rebuildCall, shareCall, depthCall, penaltyCall, weightedSumCall}
 use Rattle.model.specs.Calls.{plainSumCall, searchCall, descentCall, guidedCall, writeLayoutCall, readLayoutCall, startCall, checkCall, freshCall, layCall}
-use Rattle.model.specs.Calls.{withdrawCall, cutLinesCall, cutStepCall, lineStepCall}
-use Rattle.model.specs.Cut.{CutLine, cutLines, lineEntry}
+use Rattle.model.specs.Calls.{withdrawCall, cutLinesCall, linesAfter, cutStepCall, lineStepCall}
+use Rattle.model.specs.Cut.{CutLine, cutLines}
 use Rattle.model.specs.declared.CutStep.{CutStep}
 use Rattle.model.specs.declared.Turn.{Turn}
 use Rattle.model.specs.declared.Direction.{Direction}
@@ -95,13 +95,14 @@ pub record Demand1Calls : Type 0 where
       → LowestPair (jobOf l) (layoutOf es) p
   -- the used length reaches from the smallest corner x to the largest right end
   pub usedLengths : (l : Lent) (es : List (List ℕ)) (n : ℕ) → usedLengthCall l es ≡ given n → UsedClaims (jobOf l) (layoutOf es) n
-  -- lines and steps of a cut list that are given are those of a layout that passes the check, and the steps of such lines are the layout's
+  -- lines and steps of a cut list that are given are those of a layout that passes the check, and the steps of the lines that were stored are
+  -- the layout's
   pub cutLists : (l : Lent) (es : List (List ℕ)) (room : ℕ) (ls : List CutLine) → cutLinesCall l es room ≡ given ls
       → (ls ≡ cutLines (jobOf l) (layoutOf es)) × CutListClaims l es
   pub cutSteps : (l : Lent) (es : List (List ℕ)) (pitch k : ℕ) (t : CutStep) → cutStepCall l es pitch k ≡ given t
       → CutListClaims l es × StepExact (cutLines (jobOf l) (layoutOf es)) pitch k t
-  pub lineSteps : (l : Lent) (es : List (List ℕ)) (room : ℕ) (ls : List CutLine) (pitch k : ℕ) → cutLinesCall l es room ≡ given ls
-      → lineStepCall (map lineEntry ls) pitch k ≡ cutStepCall l es pitch k
+  pub lineSteps : (l : Lent) (es before : List (List ℕ)) (ls : List CutLine) (pitch k : ℕ) → cutLinesCall l es (length before) ≡ given ls
+      → lineStepCall (take (length ls) (linesAfter before (cutLinesCall l es (length before)))) pitch k ≡ cutStepCall l es pitch k
   -- the program prints the text of the run that the calls give, or the reader's refusal, or `refused,7,0` for too long an input
   pub program : (input : List ℕ) (l : Lent) → length input ≤ inputBound → readJob input pieceBound areaBound ≡ given l → Prints input l
   pub programRefused : (input : List ℕ) (r : Refusal) → length input ≤ inputBound → readJob input pieceBound areaBound ≡ refused r

@@ -4,11 +4,11 @@ use Rattle.list_laws.proofs.Kit.{_≡_, ap, ap₂, _++_, map, _*_, _+_, _<_, _�
 use Rattle.strip_laws.proofs.Strips.{strips-agree}
 use Rattle.model.specs.Piece.{point, other, extent}
 use Rattle.model.specs.Layout.{Job, Layout, sheetExtent}
-use Rattle.model.specs.Cut.{lineOf, sides, sideCount, cutLines}
+use Rattle.model.specs.Cut.{cutLineOf, sides, sideCount, cutLines}
 use Rattle.model.specs.declared.Direction.{Direction}
 use Rattle.model.specs.declared.Direction.the-variants.{Horizontal, Vertical}
 use Rattle.descent_laws.specs.Claims.{ValidLayout}
-use Rattle.cut_laws.specs.Lines.{lineAt, LinesClaims}
+use Rattle.cut_laws.specs.Lines.{cutLineAt, LinesClaims}
 use Rattle.cut_laws.specs.Sides.{Renumbered, OnSheetLines, CutClaims}
 use Rattle.cut_laws.proofs.Sides.{set-along, set-across, sides-exactly, renumbered-sides}
 use Rattle.cut_laws.proofs.Lines.{lines-claims}
@@ -37,10 +37,10 @@ module _ (j : Job) (v : Layout) where
   layout-lines = lines-claims (λ d. sides d j v)
 
   -- a place of a line lies on the sheet or on its edge
-  end-within : (k a : ℕ) → k < length (cutLines j v) → a ≤ lineAt (cutLines j v) k .last
-      → OnSheetLines j (point (lineAt (cutLines j v) k .direction) a (lineAt (cutLines j v) k .line))
+  end-within : (k a : ℕ) → k < length (cutLines j v) → a ≤ cutLineAt (cutLines j v) k .last
+      → OnSheetLines j (point (cutLineAt (cutLines j v) k .direction) a (cutLineAt (cutLines j v) k .line))
   end-within k a h b =
-      let l = lineAt (cutLines j v) k in
+      let l = cutLineAt (cutLines j v) k in
       let d = l .direction in
       let along = layout-lines .lastWithin k h in
       let across = layout-lines .lineWithin k h in
@@ -52,8 +52,8 @@ module _ (j : Job) (v : Layout) where
   renumbered : (j′ : Job) (v′ : Layout) → Renumbered j v j′ v′ → cutLines j′ v′ ≡ cutLines j v
   unfolding cutLines
   renumbered j′ v′ r =
-      ap₂ _++_ (ap (map (lineOf Horizontal)) (strips-agree Horizontal _ _ (renumbered-sides j v j′ v′ r Horizontal)))
-      (ap (map (lineOf Vertical)) (strips-agree Vertical _ _ (renumbered-sides j v j′ v′ r Vertical)))
+      ap₂ _++_ (ap (map (cutLineOf Horizontal)) (strips-agree Horizontal _ _ (renumbered-sides j v j′ v′ r Horizontal)))
+      (ap (map (cutLineOf Vertical)) (strips-agree Vertical _ _ (renumbered-sides j v j′ v′ r Vertical)))
 
   -- the request holds
   pub cut-claims : ValidLayout j v → CutClaims j v
@@ -65,8 +65,8 @@ module _ (j : Job) (v : Layout) where
         only = λ ms o. lines-unique (λ d. sides d j v) ms (cutLines j v) o (layout-lines .exactly);
         lengths = layout-lines .lengths;
         steps = step-claims (cutLines j v);
-        smallerWithin = λ k h. let s = layout-lines .exactly .some k h in end-within k (lineAt (cutLines j v) k .first) h (omega arith);
-        largerWithin = λ k h. end-within k (lineAt (cutLines j v) k .last) h (omega arith);
+        smallerWithin = λ k h. let s = layout-lines .exactly .some k h in end-within k (cutLineAt (cutLines j v) k .first) h (omega arith);
+        largerWithin = λ k h. end-within k (cutLineAt (cutLines j v) k .last) h (omega arith);
         fewLines =
             let few = layout-lines .few in
             let a = sides-along Horizontal j v in

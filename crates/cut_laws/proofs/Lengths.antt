@@ -6,7 +6,7 @@ use Rattle.list_laws.proofs.Sums.{sum-first, sum-agree}
 use Rattle.model.specs.Bounded.{sumBelow, oneIf}
 use Rattle.model.specs.Piece.{Shape, extent, cell, other}
 use Rattle.model.specs.Strip.{Run, closing, runsFrom, runs, stripOf, lineStrips, stripsFrom}
-use Rattle.model.specs.Cut.{CutLine, lineOf, totalLength, linesAlong, linesOf, unitCount}
+use Rattle.model.specs.Cut.{CutLine, cutLineOf, totalLength, linesAlong, linesOf, unitCount}
 use Rattle.model.specs.declared.Direction.{Direction}
 use Rattle.model.specs.declared.Direction.the-variants.{Horizontal, Vertical}
 
@@ -54,25 +54,25 @@ total-append [] ms = sym (zero-add (totalLength ms))
 total-append (l ∷ ls) ms = let e = total-append ls ms in omega arith
 
 -- the lines of the runs of pixel line c
-line-total : (d : Direction) (c : ℕ) (rs : List Run) → totalLength (map (lineOf d) (map (stripOf c) rs)) ≡ runTotal rs
+line-total : (d : Direction) (c : ℕ) (rs : List Run) → totalLength (map (cutLineOf d) (map (stripOf c) rs)) ≡ runTotal rs
 unfolding totalLength
 line-total d c [] = refl
 line-total d c (r ∷ rs) = let e = line-total d c rs in omega arith
 
 -- the lines of the next pixel lines
 from-total : (d : Direction) (s : Shape) (c left : ℕ)
-    → totalLength (map (lineOf d) (stripsFrom d s c left)) ≡ sumBelow left (λ k. sumBelow (extent d s) (λ a. oneIf (cell d s a (c + k))))
+    → totalLength (map (cutLineOf d) (stripsFrom d s c left)) ≡ sumBelow left (λ k. sumBelow (extent d s) (λ a. oneIf (cell d s a (c + k))))
 unfolding stripsFrom totalLength
 from-total d s c zero = refl
 from-total d s c (suc left) =
     let at : ℕ → ℕ = λ m. sumBelow (extent d s) (λ a. oneIf (cell d s a m)) in
-    let here : totalLength (map (lineOf d) (lineStrips d s c)) ≡ at (c + 0) =
+    let here : totalLength (map (cutLineOf d) (lineStrips d s c)) ≡ at (c + 0) =
     line-total d c (runs (λ a. cell d s a c) (extent d s)) ∙ runs-total (λ a. cell d s a c) (extent d s) ∙ ap at (omega arith) in
-    let later : totalLength (map (lineOf d) (stripsFrom d s (suc c) left)) ≡ sumBelow left (λ k. at (c + suc k)) =
+    let later : totalLength (map (cutLineOf d) (stripsFrom d s (suc c) left)) ≡ sumBelow left (λ k. at (c + suc k)) =
     from-total d s (suc c) left ∙ sum-agree left _ _ (λ k l. ap at (omega arith)) in
     let all = sum-first left (λ k. at (c + k)) in
-    ap totalLength (map-append (lineOf d) (lineStrips d s c) (stripsFrom d s (suc c) left))
-    ∙ total-append (map (lineOf d) (lineStrips d s c)) (map (lineOf d) (stripsFrom d s (suc c) left))
+    ap totalLength (map-append (cutLineOf d) (lineStrips d s c) (stripsFrom d s (suc c) left))
+    ∙ total-append (map (cutLineOf d) (lineStrips d s c)) (map (cutLineOf d) (stripsFrom d s (suc c) left))
     ∙ omega arith
 
 -- the lines of a set have as many pixels as the set has units

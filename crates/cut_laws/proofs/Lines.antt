@@ -1,10 +1,10 @@
 -- Document 02, point 2: the lines of two sets of units, one for each direction. A line is a strip of its set, so that the lines go over
 -- each unit once and over nothing else, none could be joined to another, and they stand in the request's order: this is what demand 2
 -- says of strips, for each direction, one list after the other. Assumes nothing.
-use Rattle.list_laws.proofs.Kit.{_∙_, _≡_, ap, refl, subst, sym, true, _⊎_, inl, inr, ⊎-elim, List, List·Memᴰ, List·Memᴰ·append-cases, List·Memᴰ·head}
-use Rattle.list_laws.proofs.Kit.{List·Memᴰ·not-nil, List·Memᴰ·tail, eqb, eqb-true, eqb-false, Memᴰ·append-left, Memᴰ·append-right, [], _++_, _∷_, _+_, _-_}
-use Rattle.list_laws.proofs.Kit.{_<_, _≤_, suc, ℕ, arith, length, length-append, length-map, getD, _*_}
-use Rattle.list_laws.proofs.Lists.{member-at, Source, map-source, map-member}
+use Rattle.list_laws.proofs.Kit.{_∙_, _≡_, ap, refl, subst, sym, true, _⊎_, inl, inr, ⊎-elim, List, List·Memᴰ, List·Memᴰ·append-cases}
+use Rattle.list_laws.proofs.Kit.{eqb, eqb-true, eqb-false, Memᴰ·append-left, Memᴰ·append-right, _++_, _+_, _-_}
+use Rattle.list_laws.proofs.Kit.{_<_, _≤_, suc, ℕ, arith, length, length-append, length-map, _*_}
+use Rattle.list_laws.proofs.Lists.{member-at, At, member-place, Source, map-source, map-member}
 use Rattle.list_laws.proofs.Numbers.{apart}
 use Rattle.list_laws.proofs.Tests.{decided}
 use Rattle.strip_laws.specs.Lists.{Pairwise}
@@ -15,10 +15,11 @@ use Rattle.strip_laws.proofs.Halves.{lines-half}
 use Rattle.strip_laws.proofs.Strips.{InStrips, have-in, strips-exactly, strips-maximal, strips-ordered}
 use Rattle.model.specs.Piece.{Shape, pixel, point, extent, other}
 use Rattle.model.specs.Strip.{Strip, strips}
-use Rattle.model.specs.Cut.{CutLine, lineOf, linesAlong, linesOf, directionNumber}
+use Rattle.model.specs.Buffer.{directionNumber}
+use Rattle.model.specs.Cut.{CutLine, cutLineOf, linesAlong, linesOf}
 use Rattle.model.specs.declared.Direction.{Direction}
 use Rattle.model.specs.declared.Direction.the-variants.{Horizontal, Vertical}
-use Rattle.cut_laws.specs.Lines.{lineAt, noLine, GoesOver, LineBefore, Joinable, LinesExactly, LinesClaims}
+use Rattle.cut_laws.specs.Lines.{cutLineAt, noLine, GoesOver, LineBefore, Joinable, LinesExactly, LinesClaims}
 use Rattle.cut_laws.proofs.Lengths.{lines-total}
 
 -- ── which lines are listed ──
@@ -28,12 +29,12 @@ record FromStrip (units : Direction → Shape) (l : CutLine) : Type 0 where
   direction : Direction
   strip : Strip
   listed : List·Memᴰ strip (strips direction (units direction))
-  is : l ≡ lineOf direction strip
+  is : l ≡ cutLineOf direction strip
 
 -- one of the lines along a direction is
 along-strip : (units : Direction → Shape) (d : Direction) (l : CutLine) → List·Memᴰ l (linesAlong d (units d)) → FromStrip units l
 along-strip units d l m =
-    let w : Source (lineOf d) (strips d (units d)) l = map-source (lineOf d) (strips d (units d)) m in
+    let w : Source (cutLineOf d) (strips d (units d)) l = map-source (cutLineOf d) (strips d (units d)) m in
     record { direction = d; strip = w .from; listed = w .listed; is = w .image }
 
 -- every line of the list is
@@ -42,27 +43,27 @@ from-strip units l m =
     ⊎-elim (along-strip units Horizontal l) (along-strip units Vertical l) (List·Memᴰ·append-cases (linesAlong Horizontal (units Horizontal)) m)
 
 -- a strip of a set is a line of the list
-strip-listed : (units : Direction → Shape) (d : Direction) (t : Strip) → List·Memᴰ t (strips d (units d)) → List·Memᴰ (lineOf d t) (linesOf units)
-strip-listed units Horizontal t m = Memᴰ·append-left (linesAlong Vertical (units Vertical)) (map-member (lineOf Horizontal) m)
-strip-listed units Vertical t m = Memᴰ·append-right (linesAlong Horizontal (units Horizontal)) (map-member (lineOf Vertical) m)
+strip-listed : (units : Direction → Shape) (d : Direction) (t : Strip) → List·Memᴰ t (strips d (units d)) → List·Memᴰ (cutLineOf d t) (linesOf units)
+strip-listed units Horizontal t m = Memᴰ·append-left (linesAlong Vertical (units Vertical)) (map-member (cutLineOf Horizontal) m)
+strip-listed units Vertical t m = Memᴰ·append-right (linesAlong Horizontal (units Horizontal)) (map-member (cutLineOf Vertical) m)
 
 -- ── the order ──
 
 -- strips in order make lines in order
-before-lines : (d : Direction) (t u : Strip) → StripBefore t u → LineBefore (lineOf d t) (lineOf d u)
+before-lines : (d : Direction) (t u : Strip) → StripBefore t u → LineBefore (cutLineOf d t) (cutLineOf d u)
 before-lines d t u h = inr (refl, h)
 
 -- the lines of a direction
 along-ordered : (d : Direction) (s : Shape) → Pairwise LineBefore (linesAlong d s)
-along-ordered d s = pairwise-map LineBefore (lineOf d) (before-lines d) (strips-ordered d s)
+along-ordered d s = pairwise-map LineBefore (cutLineOf d) (before-lines d) (strips-ordered d s)
 
 -- all lines
 lines-ordered : (units : Direction → Shape) → Pairwise LineBefore (linesOf units)
 lines-ordered units =
     pairwise-append (along-ordered Horizontal (units Horizontal)) (along-ordered Vertical (units Vertical))
     (λ l m p q.
-    let a : Source (lineOf Horizontal) (strips Horizontal (units Horizontal)) l = map-source _ _ p in
-    let b : Source (lineOf Vertical) (strips Vertical (units Vertical)) m = map-source _ _ q in
+    let a : Source (cutLineOf Horizontal) (strips Horizontal (units Horizontal)) l = map-source _ _ p in
+    let b : Source (cutLineOf Vertical) (strips Vertical (units Vertical)) m = map-source _ _ q in
     let e : directionNumber (l .direction) ≡ 0 = ap (λ (k : CutLine). directionNumber (k .direction)) (a .image) in
     let f : directionNumber (m .direction) ≡ 1 = ap (λ (k : CutLine). directionNumber (k .direction)) (b .image) in
     inl (omega arith))
@@ -86,23 +87,9 @@ over-both l m d a c p q =
     let h = q .high in
     record { direction = p .direction ∙ sym (q .direction); line = p .line ∙ sym (q .line); notAfter = omega arith; notBefore = omega arith }
 
--- where a member of a list stands
-pub record At {A : Type 0} (l : List A) (z a : A) : Type 0 where
-  pub number : ℕ
-  pub there : number < length l
-  pub is : getD l number z ≡ a
-
-pub member-place : {A : Type 0} (l : List A) (z a : A) → List·Memᴰ a l → At l z a
-member-place [] z a m = absurd (List·Memᴰ·not-nil m)
-member-place (b ∷ l) z a (List·Memᴰ·head e) = record { number = 0; there = omega arith; is = sym e }
-member-place (b ∷ l) z a (List·Memᴰ·tail m) =
-    let w = member-place l z a m in
-    let h = w .there in
-    record { number = suc (w .number); there = omega arith; is = w .is }
-
 -- the lines along a direction: at most half of the box's pixels along each line and one more
 along-few : (d : Direction) (s : Shape) → 2 * length (linesAlong d s) ≤ extent (other d) s * suc (extent d s)
-along-few d s = let e = length-map (strips d s) (lineOf d) in let h = lines-half d s 0 (extent (other d) s) in omega arith
+along-few d s = let e = length-map (strips d s) (cutLineOf d) in let h = lines-half d s 0 (extent (other d) s) in omega arith
 
 module _ (units : Direction → Shape) where
   -- a line of the list is a maximal strip of its set
@@ -119,7 +106,7 @@ module _ (units : Direction → Shape) where
   line-units : (l : CutLine) → List·Memᴰ l (linesOf units) → (d : Direction) (a c : ℕ) → GoesOver l d a c → pixel (units d) (point d a c) ≡ true
   line-units l m d a c over =
       let w = from-strip units l m in
-      let g : GoesOver (lineOf (w .direction) (w .strip)) d a c = subst (λ (k : CutLine). GoesOver k d a c) (w .is) over in
+      let g : GoesOver (cutLineOf (w .direction) (w .strip)) d a c = subst (λ (k : CutLine). GoesOver k d a c) (w .is) over in
       let unit : pixel (units (w .direction)) (point (w .direction) a (w .strip .line)) ≡ true = line-maximal l w .pixels a (g .low) (g .high) in
       subst (λ (e : Direction). pixel (units e) (point e a c) ≡ true) (g .direction)
       (subst (λ (k : ℕ). pixel (units (w .direction)) (point (w .direction) a k) ≡ true) (g .line) unit)
@@ -131,14 +118,14 @@ module _ (units : Direction → Shape) where
       let e = along-point d a c in
       let low = w .low in
       let high = w .high in (
-        lineOf d (w .strip),
+        cutLineOf d (w .strip),
         strip-listed units d (w .strip) (w .listed),
         record { direction = refl; line = w .line ∙ across-point d a c; low = omega arith; high = omega arith },
       )
 
   -- two lines that go over one unit are one
-  over-one : (d : Direction) (a c k m : ℕ) → k < length (linesOf units) → m < length (linesOf units) → GoesOver (lineAt (linesOf units) k) d a c
-      → GoesOver (lineAt (linesOf units) m) d a c → k ≡ m
+  over-one : (d : Direction) (a c k m : ℕ) → k < length (linesOf units) → m < length (linesOf units) → GoesOver (cutLineAt (linesOf units) k) d a c
+      → GoesOver (cutLineAt (linesOf units) m) d a c → k ≡ m
   over-one d a c k m l h p q =
       ⊎-elim (eqb-true k m)
       (λ e. absurd
@@ -156,10 +143,10 @@ module _ (units : Direction → Shape) where
         every = λ d a c h.
             let l = unit-line d a c h in
             let w : At ls noLine (l .0) = member-place ls noLine (l .0) (l .1) in
-            let over : GoesOver (lineAt ls (w .number)) d a c = subst (λ (k : CutLine). GoesOver k d a c) (sym (w .is)) (l .2) in
+            let over : GoesOver (cutLineAt ls (w .number)) d a c = subst (λ (k : CutLine). GoesOver k d a c) (sym (w .is)) (l .2) in
             record { number = w .number; there = w .there; over = over; only = λ k b g. over-one d a c k (w .number) b (w .there) g over };
-        nothingElse = λ k h. line-units (lineAt ls k) (member-at ls k noLine h);
-        some = λ k h. line-some (lineAt ls k) (member-at ls k noLine h);
+        nothingElse = λ k h. line-units (cutLineAt ls k) (member-at ls k noLine h);
+        some = λ k h. line-some (cutLineAt ls k) (member-at ls k noLine h);
         apart = λ k m a b n w.
             ⊎-elim (λ (h : k < m). before-apart _ _ (pairwise-at order k m noLine h b) w)
             (λ (h : m < k). before-apart _ _ (pairwise-at order m k noLine h a) (joined-back _ _ w))
@@ -171,7 +158,7 @@ module _ (units : Direction → Shape) where
   pub lines-claims : LinesClaims units (linesOf units)
   lines-claims =
       let ls : List CutLine = linesOf units in
-      let at : (k : ℕ) → k < length ls → FromStrip units (lineAt ls k) = λ k h. from-strip units (lineAt ls k) (member-at ls k noLine h) in
+      let at : (k : ℕ) → k < length ls → FromStrip units (cutLineAt ls k) = λ k h. from-strip units (cutLineAt ls k) (member-at ls k noLine h) in
       record {
         exactly = lines-exactly;
         lengths = lines-total units;
@@ -183,8 +170,8 @@ module _ (units : Direction → Shape) where
             let b = along-few Vertical (units Vertical) in omega arith;
         lineWithin = λ k h.
             let w = at k h in
-            subst (λ (l : CutLine). l .line < extent (other (l .direction)) (units (l .direction))) (sym (w .is)) (line-maximal (lineAt ls k) w .line);
+            subst (λ (l : CutLine). l .line < extent (other (l .direction)) (units (l .direction))) (sym (w .is)) (line-maximal (cutLineAt ls k) w .line);
         lastWithin = λ k h.
             let w = at k h in
-            subst (λ (l : CutLine). l .last ≤ extent (l .direction) (units (l .direction))) (sym (w .is)) (line-maximal (lineAt ls k) w .within);
+            subst (λ (l : CutLine). l .last ≤ extent (l .direction) (units (l .direction))) (sym (w .is)) (line-maximal (cutLineAt ls k) w .within);
       }

@@ -11,7 +11,7 @@ use Rattle.model.specs.Layout.{Job, Layout}
 use Rattle.model.specs.Cut.{differ, coversIn, sideOf}
 use Rattle.model.specs.declared.Direction.{Direction}
 use Rattle.descent_laws.specs.Claims.{ValidLayout, NoSharedPixel}
-use Rattle.cut_laws.specs.Sides.{HasPixel, OnSheet}
+use Rattle.cut_laws.specs.Sides.{HasPixel, IsSheetPixel}
 use Rattle.cut_laws.specs.Owners.{lastOf, owner, ownerBefore}
 use Rattle.cut_laws.proofs.Sides.{lies-pixel, pixel-on-sheet}
 
@@ -150,7 +150,7 @@ module _ (j : Job) (v : Layout) (free : NoSharedPixel j v) where
       (one-owner (point d a (suc c)))
 
 -- a place that is not on the sheet has no owner
-pub no-owner : (j : Job) (v : Layout) → ValidLayout j v → (p : Point) → (OnSheet j p → ⊥) → owner j v p ≡ 0
+pub no-owner : (j : Job) (v : Layout) → ValidLayout j v → (p : Point) → (IsSheetPixel j p → ⊥) → owner j v p ≡ 0
 no-owner j v within p h =
     last-none (λ i. coversIn j v i p) (j .size .count)
     (λ i l. fails (coversIn j v i p) (λ e. h (pixel-on-sheet j v within i l p (lies-pixel j v i p e))))

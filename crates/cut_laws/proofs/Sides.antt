@@ -2,7 +2,7 @@
 -- sheet's outside; they do not depend on the pieces' numbers. A piece that lies inside has no pixel outside the sheet, so that the test
 -- of the definition, one of the two places beside a unit and not the other, is what the request says in words. Assumes nothing.
 use Rattle.list_laws.proofs.Kit.{_∙_, _≡_, ap, ap₂, refl, subst, sym, Bool, false, true, false≢true, _≢_, _⊎_, inl, inr, _+_, _<_, _≤_, suc, zero, ℕ}
-use Rattle.list_laws.proofs.Kit.{arith, leb, leb-true, _↔_}
+use Rattle.list_laws.proofs.Kit.{_&&_, arith, leb, leb-true, ltb, ltb-true, _↔_}
 use Rattle.list_laws.proofs.Tests.{and-left, and-right, clash, fails, same-tests}
 use Rattle.list_laws.proofs.Bounded.{any-witness, any-from}
 use Rattle.strip_laws.specs.Boxes.{InBox, SameShape}
@@ -16,7 +16,7 @@ use Rattle.model.specs.declared.Direction.{Direction}
 use Rattle.model.specs.declared.Direction.the-variants.{Horizontal, Vertical}
 use Rattle.model.specs.declared.Placement.{Placement}
 use Rattle.descent_laws.specs.Claims.{ValidLayout}
-use Rattle.cut_laws.specs.Sides.{OnSheet, HasPixel, BesideUnit, SideBetween, Renumbered}
+use Rattle.cut_laws.specs.Sides.{IsSheetPixel, HasPixel, BesideUnit, SideBetween, Renumbered}
 
 -- ── sets of units ──
 
@@ -53,11 +53,30 @@ set-within d l w f a c h =
     let t = across-point d a c in
     (omega arith, omega arith)
 
--- sets with the same box and tests that agree
-same-set : (d : Direction) (l l′ w w′ : ℕ) (f f′ : ℕ → ℕ → Bool) → l ≡ l′ → w ≡ w′ → ((a c : ℕ) → f a c ≡ f′ a c)
+-- a pixel's test, where the two tests agree inside the box
+pixel-agree : (x y l w : ℕ) (b b′ : Bool) → (x < l → y < w → b ≡ b′) → (ltb x l && ltb y w && b) ≡ (ltb x l && ltb y w && b′)
+pixel-agree x y l w b b′ h = by-tests (ltb x l) (ltb y w) refl refl
+  where
+    by-tests : (p q : Bool) → ltb x l ≡ p → ltb y w ≡ q → (p && q && b) ≡ (p && q && b′)
+    by-tests true true e f = h (ltb-true x l e) (ltb-true y w f)
+    by-tests true false e f = refl
+    by-tests false q e f = refl
+
+-- sets with the same box whose tests agree inside it
+pub same-set : (d : Direction) (l l′ w w′ : ℕ) (f f′ : ℕ → ℕ → Bool) → l ≡ l′ → w ≡ w′ → ((a c : ℕ) → a < l → c < w → f a c ≡ f′ a c)
     → SameShape (setAlong d l w f) (setAlong d l′ w′ f′)
-same-set Horizontal l l′ w w′ f f′ e g h = record { columns = e; rows = g; pixels = λ p. rw (e, g, h (p .x) (p .y)) }
-same-set Vertical l l′ w w′ f f′ e g h = record { columns = g; rows = e; pixels = λ p. rw (e, g, h (p .y) (p .x)) }
+same-set Horizontal l l′ w w′ f f′ e g h =
+    record {
+      columns = e;
+      rows = g;
+      pixels = λ p. pixel-agree (p .x) (p .y) l w (f (p .x) (p .y)) (f′ (p .x) (p .y)) (h (p .x) (p .y)) ∙ rw (e, g);
+    }
+same-set Vertical l l′ w w′ f f′ e g h =
+    record {
+      columns = g;
+      rows = e;
+      pixels = λ p. pixel-agree (p .x) (p .y) w l (f (p .y) (p .x)) (f′ (p .y) (p .x)) (λ s t. h (p .y) (p .x) t s) ∙ rw (e, g);
+    }
 
 -- ── pixels of pieces ──
 
@@ -73,7 +92,7 @@ pixel-lies j v i p w =
     covers-from (shapeIn j v i) (cornerIn v i) p record { pixelAt = w .from; isPixel = w .isPixel; column = w .column; row = w .row }
 
 -- a pixel of a piece inside the sheet is on the sheet
-pub pixel-on-sheet : (j : Job) (v : Layout) → ValidLayout j v → (i : ℕ) → i < j .size .count → (p : Point) → HasPixel j v i p → OnSheet j p
+pub pixel-on-sheet : (j : Job) (v : Layout) → ValidLayout j v → (i : ℕ) → i < j .size .count → (p : Point) → HasPixel j v i p → IsSheetPixel j p
 unfolding inside
 pixel-on-sheet j v within i l p w =
     let box : PixelOf (shapeIn j v i) (w .from) = pixel-facts (shapeIn j v i) (w .from) (w .isPixel) in
@@ -87,7 +106,7 @@ pixel-on-sheet j v within i l p w =
     record { column = omega arith; row = omega arith }
 
 -- a pixel of the sheet by its coordinates along and across
-sheet-along : (d : Direction) (j : Job) (p : Point) → OnSheet j p → (along d p < sheetExtent d j) × (across d p < sheetExtent (other d) j)
+sheet-along : (d : Direction) (j : Job) (p : Point) → IsSheetPixel j p → (along d p < sheetExtent d j) × (across d p < sheetExtent (other d) j)
 sheet-along Horizontal j p h = (h .column, h .row)
 sheet-along Vertical j p h = (h .row, h .column)
 
@@ -163,7 +182,7 @@ module _ (d : Direction) (j : Job) (v : Layout) where
   -- ── from the words to the test ──
 
   -- where nothing of the piece lies beyond, its test fails there
-  nothing-beyond : ValidLayout j v → (i : ℕ) → i < j .size .count → (q : Point) → (HasPixel j v i q → ⊥) ⊎ (OnSheet j q → ⊥) → coversIn j v i q ≡ false
+  nothing-beyond : ValidLayout j v → (i : ℕ) → i < j .size .count → (q : Point) → (HasPixel j v i q → ⊥) ⊎ (IsSheetPixel j q → ⊥) → coversIn j v i q ≡ false
   nothing-beyond within i l q (inl h) = fails (coversIn j v i q) (λ e. h (lies-pixel j v i q e))
   nothing-beyond within i l q (inr h) = fails (coversIn j v i q) (λ e. h (pixel-on-sheet j v within i l q (lies-pixel j v i q e)))
 
@@ -184,7 +203,7 @@ module _ (d : Direction) (j : Job) (v : Layout) where
 
   -- a side in words is a unit of the sheet and a side of the piece that it names
   words-step : ValidLayout j v → (a c i : ℕ) → i < j .size .count → (p : Point) → HasPixel j v i p → BesideUnit d a c p
-      → ((q : Point) → BesideUnit d a c q → q ≢ p → (HasPixel j v i q → ⊥) ⊎ (OnSheet j q → ⊥))
+      → ((q : Point) → BesideUnit d a c q → q ≢ p → (HasPixel j v i q → ⊥) ⊎ (IsSheetPixel j q → ⊥))
       → (a < sheetExtent d j) × (c < suc (sheetExtent (other d) j)) × (sideOf d j v i a c ≡ true)
   words-step within a c i l p own (e, inl f) beyond =
       let on : coversIn j v i (point d a c) ≡ true = ap (coversIn j v i) (sym (place-is d a c p e f)) ∙ pixel-lies j v i p own in
@@ -245,7 +264,7 @@ pub renumbered-sides : (j : Job) (v : Layout) (j′ : Job) (v′ : Layout) → R
 unfolding sides
 renumbered-sides j v j′ v′ r d =
     same-set d (sheetExtent d j′) (sheetExtent d j) (suc (sheetExtent (other d) j′)) (suc (sheetExtent (other d) j)) _ _ (same-extent d)
-    (ap suc (same-extent (other d))) any-same
+    (ap suc (same-extent (other d))) (λ a c s t. any-same a c)
   where
     same-extent : (e : Direction) → sheetExtent e j′ ≡ sheetExtent e j
     same-extent Horizontal = r .columns

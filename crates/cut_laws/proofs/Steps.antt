@@ -3,7 +3,7 @@
 use Rattle.list_laws.proofs.Kit.{_∙_, _≡_, ap, refl, List, [], _∷_, _*_, _+_, _<_, suc, zero, ℕ, arith, length, getD, not-suc-le-zero, le-of-suc-le-suc}
 use Rattle.list_laws.proofs.Kit.{List·getD-eq-default}
 use Rattle.model.specs.Cut.{CutLine, lift, cut, done, smallerEnd, largerEnd, steps, stepAt}
-use Rattle.cut_laws.specs.Lines.{lineAt, StepClaims}
+use Rattle.cut_laws.specs.Lines.{cutLineAt, StepClaims}
 
 -- two steps for each line
 pub steps-length : (ls : List CutLine) → length (steps ls) ≡ 2 * length ls
@@ -12,7 +12,7 @@ steps-length [] = refl
 steps-length (l ∷ ls) = let e = steps-length ls in omega arith
 
 -- step 2k
-step-lifts : (ls : List CutLine) (k : ℕ) → k < length ls → getD (steps ls) (2 * k) done ≡ lift (smallerEnd (lineAt ls k))
+step-lifts : (ls : List CutLine) (k : ℕ) → k < length ls → getD (steps ls) (2 * k) done ≡ lift (smallerEnd (cutLineAt ls k))
 unfolding steps
 step-lifts [] k l = absurd (not-suc-le-zero l)
 step-lifts (m ∷ ls) zero l = refl
@@ -21,7 +21,7 @@ step-lifts (m ∷ ls) (suc k) l =
     ap (λ (i : ℕ). getD (steps (m ∷ ls)) i done) two ∙ step-lifts ls k (le-of-suc-le-suc l)
 
 -- step 2k + 1
-step-cuts : (ls : List CutLine) (k : ℕ) → k < length ls → getD (steps ls) (2 * k + 1) done ≡ cut (largerEnd (lineAt ls k))
+step-cuts : (ls : List CutLine) (k : ℕ) → k < length ls → getD (steps ls) (2 * k + 1) done ≡ cut (largerEnd (cutLineAt ls k))
 unfolding steps
 step-cuts [] k l = absurd (not-suc-le-zero l)
 step-cuts (m ∷ ls) zero l = refl

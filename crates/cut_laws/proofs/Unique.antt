@@ -3,16 +3,16 @@
 -- Assumes nothing.
 use Rattle.list_laws.proofs.Kit.{_≡_, ap, subst, sym, _⊎_, inl, inr, ⊎-elim, List, List·Memᴰ, [], _∷_, _-_, _<_, _≤_, suc, ℕ, arith, getD, length}
 use Rattle.list_laws.proofs.Kit.{eqb, eqb-false, eqb-true, false, true, le-refl, refl}
-use Rattle.list_laws.proofs.Lists.{member-at}
+use Rattle.list_laws.proofs.Lists.{member-at, At, member-place}
 use Rattle.list_laws.proofs.Numbers.{below-or}
 use Rattle.list_laws.proofs.Tests.{decided}
 use Rattle.strip_laws.specs.Lists.{Pairwise, none, more}
 use Rattle.strip_laws.proofs.Lists.{pairwise-unique}
 use Rattle.model.specs.Piece.{Shape, pixel, point}
-use Rattle.model.specs.Cut.{CutLine, directionNumber}
+use Rattle.model.specs.Buffer.{directionNumber}
+use Rattle.model.specs.Cut.{CutLine}
 use Rattle.model.specs.declared.Direction.{Direction}
-use Rattle.cut_laws.specs.Lines.{lineAt, noLine, GoesOver, CutOnce, LineBefore, LinesExactly}
-use Rattle.cut_laws.proofs.Lines.{At, member-place}
+use Rattle.cut_laws.specs.Lines.{cutLineAt, noLine, GoesOver, CutOnce, LineBefore, LinesExactly}
 
 -- ── the order ──
 
@@ -52,18 +52,18 @@ module _ (units : Direction → Shape) where
 
   -- a line that a unit of the set touches goes over it
   touching : (ls : List CutLine) → LinesExactly units ls → (k : ℕ) → k < length ls → (a : ℕ)
-      → pixel (units (lineAt ls k .direction)) (point (lineAt ls k .direction) a (lineAt ls k .line)) ≡ true → lineAt ls k .first ≤ suc a
-      → a ≤ lineAt ls k .last → (lineAt ls k .first ≤ a) × (a < lineAt ls k .last)
+      → pixel (units (cutLineAt ls k .direction)) (point (cutLineAt ls k .direction) a (cutLineAt ls k .line)) ≡ true → cutLineAt ls k .first ≤ suc a
+      → a ≤ cutLineAt ls k .last → (cutLineAt ls k .first ≤ a) × (a < cutLineAt ls k .last)
   touching ls c k h a unit low high =
-      let l : CutLine = lineAt ls k in
+      let l : CutLine = cutLineAt ls k in
       let w : CutOnce ls (l .direction) a (l .line) = c .every (l .direction) a (l .line) unit in
-      let over : GoesOver (lineAt ls (w .number)) (l .direction) a (l .line) = w .over in
+      let over : GoesOver (cutLineAt ls (w .number)) (l .direction) a (l .line) = w .over in
       let from = over .low in
       let to = over .high in
       ⊎-elim
       (λ (e : eqb (w .number) k ≡ true).
       let same : w .number ≡ k = eqb-true (w .number) k e in
-      let g : GoesOver l (l .direction) a (l .line) = subst (λ (n : ℕ). GoesOver (lineAt ls n) (l .direction) a (l .line)) same over in (g .low, g .high))
+      let g : GoesOver l (l .direction) a (l .line) = subst (λ (n : ℕ). GoesOver (cutLineAt ls n) (l .direction) a (l .line)) same over in (g .low, g .high))
       (λ (e : eqb (w .number) k ≡ false). absurd
       (c .apart (w .number) k (w .there) h (eqb-false (w .number) k e)
       record { direction = over .direction; line = over .line; notAfter = omega arith; notBefore = omega arith }))
@@ -72,7 +72,7 @@ module _ (units : Direction → Shape) where
   module _ (ls ms : List CutLine) (c : LinesExactly units ls) (o : LinesExactly units ms) (k : ℕ) (h : k < length ls) where
     -- the line, and what it goes over
     abbrev l : CutLine
-    l = lineAt ls k
+    l = cutLineAt ls k
 
     over-line : (a : ℕ) → l .first ≤ a → a < l .last → pixel (units (l .direction)) (point (l .direction) a (l .line)) ≡ true
     over-line a low high = c .nothingElse k h (l .direction) a (l .line) record { direction = refl; line = refl; low = low; high = high }
@@ -82,7 +82,7 @@ module _ (units : Direction → Shape) where
     found = o .every (l .direction) (l .first) (l .line) (over-line (l .first) (le-refl (l .first)) (c .some k h))
 
     abbrev m : CutLine
-    m = lineAt ms (found .number)
+    m = cutLineAt ms (found .number)
 
     -- what that line goes over
     over-other : (a : ℕ) → m .first ≤ a → a < m .last → pixel (units (l .direction)) (point (l .direction) a (l .line)) ≡ true

@@ -11,7 +11,7 @@ use Rattle.model.specs.Piece.{Point}
 use Rattle.model.specs.Cut.{CutLine, smallerEnd, largerEnd}
 use Rattle.model.specs.declared.CutStep.{CutStep}
 use Rattle.model.specs.declared.CutStep.the-variants.{Lift, Cut, Done}
-use Rattle.cut_laws.specs.Lines.{lineAt}
+use Rattle.cut_laws.specs.Lines.{cutLineAt}
 
 -- the two numbers are the point's pixel lines × pitch / 64, not rounded
 abbrev pub PointExact : ℕ → Point → Float → Float → Type 0
@@ -31,6 +31,6 @@ CutsTo pitch p Done = ⊥
 
 -- the step with number k of a list of lines: 2i lifts to the smaller end of line i, 2i + 1 cuts to its other end, and any later one is done
 pub record StepExact (ls : List CutLine) (pitch k : ℕ) (t : CutStep) : Type 0 where
-  pub lifts : (i : ℕ) → i < length ls → k ≡ 2 * i → LiftsTo pitch (smallerEnd (lineAt ls i)) t
-  pub cuts : (i : ℕ) → i < length ls → k ≡ 2 * i + 1 → CutsTo pitch (largerEnd (lineAt ls i)) t
+  pub lifts : (i : ℕ) → i < length ls → k ≡ 2 * i → LiftsTo pitch (smallerEnd (cutLineAt ls i)) t
+  pub cuts : (i : ℕ) → i < length ls → k ≡ 2 * i + 1 → CutsTo pitch (largerEnd (cutLineAt ls i)) t
   pub ends : 2 * length ls ≤ k → t ≡ Done

@@ -7,7 +7,8 @@ use mathlib.Core.Path.{_≡_}
 use Prim.Native.Nat.{ℕ, suc, _+_, _*_, _<_, _≤_}
 use lib.ListN.{length, getD}
 use Rattle.model.specs.Piece.{Shape, pixel, point, extent, other}
-use Rattle.model.specs.Cut.{CutLine, totalLength, unitCount, directionNumber, lift, cut, done, smallerEnd, largerEnd, stepAt}
+use Rattle.model.specs.Buffer.{directionNumber}
+use Rattle.model.specs.Cut.{CutLine, totalLength, unitCount, lift, cut, done, smallerEnd, largerEnd, stepAt}
 use Rattle.model.specs.declared.Direction.{Direction}
 use Rattle.model.specs.declared.Direction.the-variants.{Horizontal, Vertical}
 
@@ -16,8 +17,8 @@ abbrev pub noLine : CutLine
 noLine = record { direction = Horizontal; line = 0; first = 0; last = 0 }
 
 -- line number k of a list
-abbrev pub lineAt : List CutLine → ℕ → CutLine
-lineAt ls k = getD ls k noLine
+abbrev pub cutLineAt : List CutLine → ℕ → CutLine
+cutLineAt ls k = getD ls k noLine
 
 -- the line goes over the unit a of pixel line c along the direction
 pub record GoesOver (l : CutLine) (d : Direction) (a c : ℕ) : Type 0 where
@@ -30,8 +31,8 @@ pub record GoesOver (l : CutLine) (d : Direction) (a c : ℕ) : Type 0 where
 pub record CutOnce (ls : List CutLine) (d : Direction) (a c : ℕ) : Type 0 where
   pub number : ℕ
   pub there : number < length ls
-  pub over : GoesOver (lineAt ls number) d a c
-  pub only : (k : ℕ) → k < length ls → GoesOver (lineAt ls k) d a c → k ≡ number
+  pub over : GoesOver (cutLineAt ls number) d a c
+  pub only : (k : ℕ) → k < length ls → GoesOver (cutLineAt ls k) d a c → k ≡ number
 
 -- a line stands before another: horizontals before verticals, then by pixel line, then in the same pixel line with a gap between them
 abbrev pub LineBefore : CutLine → CutLine → Type 0
@@ -51,13 +52,13 @@ pub record LinesExactly (units : Direction → Shape) (ls : List CutLine) : Type
   -- just one line goes over each unit of the sets
   pub every : (d : Direction) (a c : ℕ) → pixel (units d) (point d a c) ≡ true → CutOnce ls d a c
   -- what a line goes over is a unit of the sets
-  pub nothingElse : (k : ℕ) → k < length ls → (d : Direction) (a c : ℕ) → GoesOver (lineAt ls k) d a c → pixel (units d) (point d a c) ≡ true
+  pub nothingElse : (k : ℕ) → k < length ls → (d : Direction) (a c : ℕ) → GoesOver (cutLineAt ls k) d a c → pixel (units d) (point d a c) ≡ true
   -- no line is empty
-  pub some : (k : ℕ) → k < length ls → lineAt ls k .first < lineAt ls k .last
+  pub some : (k : ℕ) → k < length ls → cutLineAt ls k .first < cutLineAt ls k .last
   -- no two lines could be joined
-  pub apart : (k m : ℕ) → k < length ls → m < length ls → k ≢ m → Joinable (lineAt ls k) (lineAt ls m) → ⊥
+  pub apart : (k m : ℕ) → k < length ls → m < length ls → k ≢ m → Joinable (cutLineAt ls k) (cutLineAt ls m) → ⊥
   -- each line stands before every later one
-  pub ordered : (k m : ℕ) → k < m → m < length ls → LineBefore (lineAt ls k) (lineAt ls m)
+  pub ordered : (k m : ℕ) → k < m → m < length ls → LineBefore (cutLineAt ls k) (cutLineAt ls m)
 
 -- the lines of the units, and what follows of their lengths, their number and their places
 pub record LinesClaims (units : Direction → Shape) (ls : List CutLine) : Type 0 where
@@ -69,11 +70,11 @@ pub record LinesClaims (units : Direction → Shape) (ls : List CutLine) : Type 
       ≤ extent Vertical (units Horizontal) * suc (extent Horizontal (units Horizontal))
       + extent Horizontal (units Vertical) * suc (extent Vertical (units Vertical))
   -- each line lies in the box of its set
-  pub lineWithin : (k : ℕ) → k < length ls → lineAt ls k .line < extent (other (lineAt ls k .direction)) (units (lineAt ls k .direction))
-  pub lastWithin : (k : ℕ) → k < length ls → lineAt ls k .last ≤ extent (lineAt ls k .direction) (units (lineAt ls k .direction))
+  pub lineWithin : (k : ℕ) → k < length ls → cutLineAt ls k .line < extent (other (cutLineAt ls k .direction)) (units (cutLineAt ls k .direction))
+  pub lastWithin : (k : ℕ) → k < length ls → cutLineAt ls k .last ≤ extent (cutLineAt ls k .direction) (units (cutLineAt ls k .direction))
 
 -- the steps of a list of lines: two for each line, its ends in order, and done for every later number
 pub record StepClaims (ls : List CutLine) : Type 0 where
-  pub lifts : (k : ℕ) → k < length ls → stepAt ls (2 * k) ≡ lift (smallerEnd (lineAt ls k))
-  pub cuts : (k : ℕ) → k < length ls → stepAt ls (2 * k + 1) ≡ cut (largerEnd (lineAt ls k))
+  pub lifts : (k : ℕ) → k < length ls → stepAt ls (2 * k) ≡ lift (smallerEnd (cutLineAt ls k))
+  pub cuts : (k : ℕ) → k < length ls → stepAt ls (2 * k + 1) ≡ cut (largerEnd (cutLineAt ls k))
   pub ends : (k : ℕ) → 2 * length ls ≤ k → stepAt ls k ≡ done

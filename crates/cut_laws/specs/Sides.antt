@@ -12,10 +12,10 @@ use Rattle.model.specs.Layout.{Job, Layout, shapeIn, cornerIn}
 use Rattle.model.specs.Lent.{columnBound}
 use Rattle.model.specs.Cut.{CutLine, sides, sideCount, totalLength, cutLines, smallerEnd, largerEnd, pitchBound, millimetres}
 use Rattle.model.specs.declared.Direction.{Direction}
-use Rattle.cut_laws.specs.Lines.{lineAt, LinesExactly, LinesClaims, StepClaims}
+use Rattle.cut_laws.specs.Lines.{cutLineAt, LinesExactly, LinesClaims, StepClaims}
 
 -- p is a pixel of the sheet
-pub record OnSheet (j : Job) (p : Point) : Type 0 where
+pub record IsSheetPixel (j : Job) (p : Point) : Type 0 where
   pub column : p .x < j .size .columns
   pub row : p .y < j .size .rows
 
@@ -38,7 +38,7 @@ pub record SideBetween (d : Direction) (j : Job) (v : Layout) (a c : ℕ) : Type
   pub place : Point
   pub beside : BesideUnit d a c place
   pub own : HasPixel j v piece place
-  pub beyond : (q : Point) → BesideUnit d a c q → q ≢ place → (HasPixel j v piece q → ⊥) ⊎ (OnSheet j q → ⊥)
+  pub beyond : (q : Point) → BesideUnit d a c q → q ≢ place → (HasPixel j v piece q → ⊥) ⊎ (IsSheetPixel j q → ⊥)
 
 -- the same pieces on the same sheet under other numbers, lying where they lay: piece i has number `number i`, and every number is taken. What
 -- counts is the pixels that each lies on, so that a lent job with its pieces in another order is one
@@ -70,8 +70,8 @@ pub record CutClaims (j : Job) (v : Layout) : Type 0 where
   -- the steps are the lines' ends, two for each line, and then done
   pub steps : StepClaims (cutLines j v)
   -- both ends of each line lie on the sheet or on its edge
-  pub smallerWithin : (k : ℕ) → k < length (cutLines j v) → OnSheetLines j (smallerEnd (lineAt (cutLines j v) k))
-  pub largerWithin : (k : ℕ) → k < length (cutLines j v) → OnSheetLines j (largerEnd (lineAt (cutLines j v) k))
+  pub smallerWithin : (k : ℕ) → k < length (cutLines j v) → OnSheetLines j (smallerEnd (cutLineAt (cutLines j v) k))
+  pub largerWithin : (k : ℕ) → k < length (cutLines j v) → OnSheetLines j (largerEnd (cutLineAt (cutLines j v) k))
   -- there are at most (W + 1) × (L + 1) lines
   pub fewLines : length (cutLines j v) ≤ suc (j .size .rows) * suc (j .size .columns)
   -- a renumbering of the pieces leaves the list as it is

@@ -4,7 +4,7 @@ use Rattle.list_laws.proofs.Kit.{le-ltb, sets}
 use Rattle.list_laws.proofs.Stores.{sets-append, sets-filled}
 use Rattle.model.specs.Refusal.{refused, given, plainRefusal, unless}
 use Rattle.model.specs.Strip.{Strip, strips}
-use Rattle.model.specs.Cut.{CutLine, lineOf, lineEntry}
+use Rattle.model.specs.Cut.{CutLine, cutLineOf, lineEntry}
 use Rattle.model.specs.Calls.{linesAfter}
 use Rattle.model.specs.declared.JobSize.{JobSize}
 use Rattle.model.specs.declared.Direction.the-variants.{Horizontal, Vertical}
@@ -37,21 +37,21 @@ module _ (size : JobSize) (os : List ℕ) {before after after′ : List (List �
   both-count =
       let a : next ≡ 0 + length hs = rows .end in
       let b : next′ ≡ next + length vs = columns .end in
-      let c : length (map (lineOf Horizontal) hs ++ map (lineOf Vertical) vs) ≡ length (map (lineOf Horizontal) hs) + length (map (lineOf Vertical) vs) =
-      length-append (map (lineOf Horizontal) hs) (map (lineOf Vertical) vs) in
-      let d : length (map (lineOf Horizontal) hs) ≡ length hs = length-map hs (lineOf Horizontal) in
-      let e : length (map (lineOf Vertical) vs) ≡ length vs = length-map vs (lineOf Vertical) in
+      let c : length (map (cutLineOf Horizontal) hs ++ map (cutLineOf Vertical) vs) ≡ length (map (cutLineOf Horizontal) hs) + length (map (cutLineOf Vertical) vs) =
+      length-append (map (cutLineOf Horizontal) hs) (map (cutLineOf Vertical) vs) in
+      let d : length (map (cutLineOf Horizontal) hs) ≡ length hs = length-map hs (cutLineOf Horizontal) in
+      let e : length (map (cutLineOf Vertical) vs) ≡ length vs = length-map vs (cutLineOf Vertical) in
       omega arith
 
   -- stored one after the other
   pub both-stored : after′ ≡ sets before 0 (map lineEntry (ownedLines size os))
   unfolding ownedLines
   both-stored =
-      let first : length (lineEntries Horizontal hs) ≡ length hs = length-map (map (lineOf Horizontal) hs) lineEntry ∙ length-map hs (lineOf Horizontal) in
+      let first : length (lineEntries Horizontal hs) ≡ length hs = length-map (map (cutLineOf Horizontal) hs) lineEntry ∙ length-map hs (cutLineOf Horizontal) in
       columns .stored
       ∙ ap₂ (λ (l : List (List ℕ)) (k : ℕ). sets l k (lineEntries Vertical vs)) (rows .stored) (rows .end ∙ ap (λ (k : ℕ). 0 + k) (sym first))
       ∙ sym (sets-append before 0 (lineEntries Horizontal hs) (lineEntries Vertical vs))
-      ∙ ap (sets before 0) (sym (map-append lineEntry (map (lineOf Horizontal) hs) (map (lineOf Vertical) vs)))
+      ∙ ap (sets before 0) (sym (map-append lineEntry (map (cutLineOf Horizontal) hs) (map (cutLineOf Vertical) vs)))
 
 -- ── room ──
 

@@ -8,39 +8,21 @@ use Rattle.cover_laws.proofs.Pixels.{pixel-at}
 use Rattle.model.specs.Bounded.{anyBelow}
 use Rattle.model.specs.Piece.{point, other}
 use Rattle.model.specs.Layout.{Job, Layout, sheetExtent}
-use Rattle.model.specs.Cut.{sideOf, setAlong, sides, lineOf, cutLines}
+use Rattle.model.specs.Cut.{sideOf, setAlong, sides, cutLineOf, cutLines}
 use Rattle.model.specs.declared.Direction.{Direction}
 use Rattle.model.specs.declared.Direction.the-variants.{Horizontal, Vertical}
 use Rattle.descent_laws.specs.Claims.{ValidLayout, NoSharedPixel}
-use Rattle.cut_laws.specs.Sides.{OnSheet}
+use Rattle.cut_laws.specs.Sides.{IsSheetPixel}
 use Rattle.cut_laws.specs.Owners.{owner, ownerBefore}
+use Rattle.cut_laws.proofs.Sides.{same-set}
 use Rattle.cut_laws.proofs.Owners.{sides-by-owner, no-owner}
-use Rattle.cut_owners.specs.Painted.{Painted}
+use Rattle.cut_owners.specs.OwnersPainted.{OwnersPainted}
 use Rattle.cut_scan.specs.Scan.{ownerAt, beforeAt, sideAt, gridUnits}
 use Rattle.cut_list.specs.Owned.{gridOf, ownedLines}
 
--- ── sets that agree inside their box ──
-
--- a pixel's test, where the two tests agree inside the box
-pixel-agree : (x y l w : ℕ) (b b′ : Bool) → (x < l → y < w → b ≡ b′) → (ltb x l && ltb y w && b) ≡ (ltb x l && ltb y w && b′)
-pixel-agree x y l w b b′ h = by-tests (ltb x l) (ltb y w) refl refl
-  where
-    by-tests : (p q : Bool) → ltb x l ≡ p → ltb y w ≡ q → (p && q && b) ≡ (p && q && b′)
-    by-tests true true e f = h (ltb-true x l e) (ltb-true y w f)
-    by-tests true false e f = refl
-    by-tests false q e f = refl
-
--- sets of one box whose tests agree inside it
-same-within : (d : Direction) (l w : ℕ) (f f′ : ℕ → ℕ → Bool) → ((a c : ℕ) → a < l → c < w → f a c ≡ f′ a c)
-    → SameShape (setAlong d l w f) (setAlong d l w f′)
-same-within Horizontal l w f f′ h =
-    record { columns = refl; rows = refl; pixels = λ p. pixel-agree (p .x) (p .y) l w (f (p .x) (p .y)) (f′ (p .x) (p .y)) (λ s t. h (p .x) (p .y) s t) }
-same-within Vertical l w f f′ h =
-    record { columns = refl; rows = refl; pixels = λ p. pixel-agree (p .x) (p .y) w l (f (p .y) (p .x)) (f′ (p .y) (p .x)) (λ s t. h (p .y) (p .x) t s) }
-
 -- ── the owners of a painted sheet ──
 
-module _ (j : Job) (v : Layout) (os : List ℕ) (painted : Painted j v os) where
+module _ (j : Job) (v : Layout) (os : List ℕ) (painted : OwnersPainted j v os) where
   -- the owner of a pixel of the sheet
   owner-read : (x y : ℕ) → x < j .size .columns → y < j .size .rows → getD os (y * j .size .columns + x) 0 ≡ owner j v (record { x = x; y = y })
   owner-read x y l h =
@@ -64,7 +46,7 @@ module _ (j : Job) (v : Layout) (os : List ℕ) (painted : Painted j v os) where
   grid-length Vertical = refl
 
   -- a place past the last line is not on the sheet
-  off-sheet : (d : Direction) (a c : ℕ) → sheetExtent (other d) j ≤ c → OnSheet j (point d a c) → ⊥
+  off-sheet : (d : Direction) (a c : ℕ) → sheetExtent (other d) j ≤ c → IsSheetPixel j (point d a c) → ⊥
   off-sheet Horizontal a c h w = let r = w .row in omega arith
   off-sheet Vertical a c h w = let r = w .column in omega arith
 
@@ -94,12 +76,12 @@ module _ (j : Job) (v : Layout) (os : List ℕ) (painted : Painted j v os) where
       -- the sets of units agree
       units-sides : (d : Direction) → SameShape (gridUnits d os (gridOf d (j .size))) (sides d j v)
       unfolding sides
-      units-sides Horizontal = same-within Horizontal _ _ _ _ (λ a c l h. side-read Horizontal a c l)
-      units-sides Vertical = same-within Vertical _ _ _ _ (λ a c l h. side-read Vertical a c l)
+      units-sides Horizontal = same-set Horizontal _ _ _ _ _ _ refl refl (λ a c l h. side-read Horizontal a c l)
+      units-sides Vertical = same-set Vertical _ _ _ _ _ _ refl refl (λ a c l h. side-read Vertical a c l)
 
       -- and so do their lines
       pub owned-lines : ownedLines (j .size) os ≡ cutLines j v
       unfolding ownedLines cutLines
       owned-lines =
-          ap₂ _++_ (ap (map (lineOf Horizontal)) (strips-agree Horizontal _ _ (units-sides Horizontal)))
-          (ap (map (lineOf Vertical)) (strips-agree Vertical _ _ (units-sides Vertical)))
+          ap₂ _++_ (ap (map (cutLineOf Horizontal)) (strips-agree Horizontal _ _ (units-sides Horizontal)))
+          (ap (map (cutLineOf Vertical)) (strips-agree Vertical _ _ (units-sides Vertical)))

@@ -28,7 +28,7 @@ ownedLines size os = linesOf (λ d. gridUnits d os (gridOf d size))
 abbrev pub inRoom : List CutLine → ℕ → Outcome (List CutLine)
 inRoom ls room = unless (atLeast (length ls) room ∷ []) ls
 
--- a sheet's sides are at most 4,096
+-- both sides of a sheet are at most document 01's limit of columns
 pub record SmallSheet (size : JobSize) : Type 0 where
   pub rows : size .rows ≤ columnBound
   pub columns : size .columns ≤ columnBound

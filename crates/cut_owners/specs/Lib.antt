@@ -1,2 +1,2 @@
 -- What the functions of the crate say of one another.
-pub mod Painted
+pub mod OwnersPainted

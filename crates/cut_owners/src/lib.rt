@@ -13,7 +13,7 @@ ghost use Rattle.model.specs.Buffer.{layoutOf};
 ghost use Rattle.descent_laws.specs.LentLayout.{Laid};
 ghost use Rattle.sheet_counts.specs.Stamp.{movedBy};
 ghost use Rattle.sheet_counts.specs.declared.Change.the-variants.{OwnedBy};
-ghost use Rattle.cut_owners.specs.Painted.{Painted};
+ghost use Rattle.cut_owners.specs.OwnersPainted.{OwnersPainted};
 
 // Piece i's pixels become its own.
 fn paint_piece(
@@ -49,7 +49,7 @@ pub fn paint(
     owners: &mut [u8],
 )
     requires { ⌜ Laid (lentBy size (now table) (now pixels)) (now layout) × (length (now owners) ≡ size .rows * size .columns) ⌝ }
-    ensures { λ _. ⌜ Painted (jobOf (lentBy size (now (table .entry)) (now (pixels .entry)))) (layoutOf (now (layout .entry))) (now (owners .exit)) ⌝ }
+    ensures { λ _. ⌜ OwnersPainted (jobOf (lentBy size (now (table .entry)) (now (pixels .entry)))) (layoutOf (now (layout .entry))) (now (owners .exit)) ⌝ }
 {
     sheet_counts::clear(owners);
     let count = size.count;

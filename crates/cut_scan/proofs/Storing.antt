@@ -4,17 +4,18 @@ use Rattle.list_laws.proofs.Kit.{length, length-append}
 use Rattle.list_laws.proofs.Kit.{length-map, length-sets, set, sets}
 use Rattle.list_laws.proofs.Stores.{sets-append}
 use Rattle.model.specs.Strip.{Strip, stripOf, closing}
-use Rattle.model.specs.Cut.{lineOf, lineEntry, directionNumber}
+use Rattle.model.specs.Buffer.{directionNumber}
+use Rattle.model.specs.Cut.{cutLineOf, lineEntry}
 use Rattle.model.specs.declared.Direction.{Direction}
 use Rattle.cut_scan.specs.Scan.{lineEntries, LinesAppended, Left}
 
 -- the entries of two lists of strips
 entries-append : (d : Direction) (ts us : List Strip) → lineEntries d (ts ++ us) ≡ lineEntries d ts ++ lineEntries d us
-entries-append d ts us = ap (map lineEntry) (map-append (lineOf d) ts us) ∙ map-append lineEntry (map (lineOf d) ts) (map (lineOf d) us)
+entries-append d ts us = ap (map lineEntry) (map-append (cutLineOf d) ts us) ∙ map-append lineEntry (map (cutLineOf d) ts) (map (cutLineOf d) us)
 
 -- as many entries as strips
 entries-length : (d : Direction) (ts : List Strip) → length (lineEntries d ts) ≡ length ts
-entries-length d ts = length-map (map (lineOf d) ts) lineEntry ∙ length-map ts (lineOf d)
+entries-length d ts = length-map (map (cutLineOf d) ts) lineEntry ∙ length-map ts (cutLineOf d)
 
 -- all is left at first
 pub left-start : (d : Direction) (before : List (List ℕ)) (from : ℕ) (all : List Strip) → Left d before from all before from all

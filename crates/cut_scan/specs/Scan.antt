@@ -9,11 +9,11 @@ use lib.Seq.{sets}
 use Rattle.model.specs.Piece.{Shape}
 use Rattle.model.specs.Strip.{Strip, stripOf, runsFrom}
 use Rattle.model.specs.Lent.{columnBound}
-use Rattle.model.specs.Cut.{setAlong, lineOf, lineEntry}
+use Rattle.model.specs.Cut.{setAlong, cutLineOf, lineEntry}
 use Rattle.model.specs.declared.Direction.{Direction}
 use Rattle.cut_scan.specs.declared.Grid.{Grid}
 
--- a sheet's sides are at most 4,096
+-- the four numbers of a grid are at most document 01's limit of columns
 pub record SmallGrid (g : Grid) : Type 0 where
   pub length : g .length ≤ columnBound
   pub lines : g .lines ≤ columnBound
@@ -43,7 +43,7 @@ rowFrom os g c a run = map (stripOf c) (runsFrom (λ k. sideAt os g k c) a (g .l
 
 -- strips as entries of a line buffer
 abbrev pub lineEntries : Direction → List Strip → List (List ℕ)
-lineEntries d ts = map lineEntry (map (lineOf d) ts)
+lineEntries d ts = map lineEntry (map (cutLineOf d) ts)
 
 -- the strips stand in the buffer from `at` on, as far as there is room, and the next one would stand at `next`
 pub record LinesAppended (d : Direction) (ts : List Strip) (before : List (List ℕ)) (at : ℕ) (after : List (List ℕ)) (next : ℕ) : Type 0 where

@@ -7,7 +7,7 @@ ghost use Prim.Native.Nat.{ℕ, _+_, _-_, _*_, _<_, _≤_, _^_};
 ghost use lib.ListN.{set};
 ghost use Rattle.model.specs.Strip.{Strip, stripOf, closing, strips};
 ghost use Rattle.model.specs.Lent.{columnBound};
-ghost use Rattle.model.specs.Cut.{directionNumber};
+ghost use Rattle.model.specs.Buffer.{directionNumber};
 ghost use Rattle.cut_scan.specs.Scan.{ownerAt, sideAt, gridUnits, SmallGrid, rowFrom, LinesAppended, Left};
 
 // The owners as a direction sees them: how many pixels lie along each of so many lines across, and how far apart in the buffer two

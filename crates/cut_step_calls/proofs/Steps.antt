@@ -1,7 +1,7 @@
 -- The outcomes of the calls for a step: the causes in the request's order, and the lines read back from a buffer. Assumes nothing.
 use Rattle.list_laws.proofs.Kit.{_∙_, _≡_, _≢_, ⊎-elim, ap, refl, sym, Bool, _||_, false, true, not, Option, none, some, List, [], _++_, _∷_, map, _+_, _<_}
 use Rattle.list_laws.proofs.Kit.{_≤_, ℕ}
-use Rattle.list_laws.proofs.Kit.{arith, drop, length, length-map, take, take-at, le-leb, le-ltb, lt-leb, lt-ltb, ltb}
+use Rattle.list_laws.proofs.Kit.{arith, length, take, le-leb, le-ltb, lt-leb, lt-ltb, ltb}
 use Rattle.list_laws.proofs.Numbers.{below-or}
 use Rattle.model.specs.Layout.{Pair, sharingPair}
 use Rattle.model.specs.Lent.{Lent, jobOf, upTo}
@@ -10,8 +10,7 @@ use Rattle.model.specs.Refusal.{Outcome, refused, given, Cause, cause, unless, 
 use Rattle.model.specs.Answers.{countAnswer, firstCause}
 use Rattle.model.specs.Cut.{CutLine, cutLines, pitchBound, stepAt, stepIn, lineEntry, entryLine}
 use Rattle.model.specs.Calls.{someTurnWrong, jobCause, layoutLength, turnsCause, outsideCause, layoutCauses, sharedCause, atLeast, pitchCause, cutLinesCall}
-use Rattle.model.specs.Calls.{cutStepCall}
-use Rattle.model.specs.Calls.{lineStepCall}
+use Rattle.model.specs.Calls.{linesAfter, cutStepCall, lineStepCall}
 use Rattle.model.specs.declared.Refusal.{Refusal}
 use Rattle.model.specs.declared.DoneAnswer.{DoneAnswer}
 use Rattle.model.specs.declared.NumberAnswer.{NumberAnswer}
@@ -24,7 +23,7 @@ use Rattle.causes.proofs.Asked.{or-nothing}
 use Rattle.causes.proofs.Passed.{laid-by}
 use Rattle.cut_laws.specs.Exact.{StepExact}
 use Rattle.call_laws.specs.Cuts.{mostLines, CutListClaims}
-use Rattle.call_laws.proofs.Cuts.{cut-list, step-given, entries-back, same-steps}
+use Rattle.call_laws.proofs.Cuts.{cut-list, step-given, entries-back, front-lines, same-steps}
 use Rattle.cut_line_calls.proofs.Outcomes.{count-given}
 use Rattle.cut_list.proofs.Listed.{enough-room}
 use Rattle.cut_step_calls.specs.declared.StepAnswer.{StepAnswer}
@@ -146,9 +145,9 @@ lines-told l es passed room n h e =
 -- ── the lines read back ──
 
 -- the front of a filled buffer holds the lines
-pub front-lines : (ms : List CutLine) (before : List (List ℕ)) (n : ℕ) → n ≡ length ms → map entryLine (take n (filled (map lineEntry ms) before)) ≡ ms
-front-lines ms before n e =
-    ap (map entryLine) (take-at (map lineEntry ms) (drop (length (map lineEntry ms)) before) n (length-map ms lineEntry ∙ sym e)) ∙ entries-back ms
+pub lines-back : (ms : List CutLine) (before : List (List ℕ)) (n : ℕ) → n ≡ length ms → map entryLine (take n (filled (map lineEntry ms) before)) ≡ ms
+lines-back ms before n e =
+    ap (λ (k : ℕ). map entryLine (take k (filled (map lineEntry ms) before))) e ∙ ap (map entryLine) (front-lines ms before) ∙ entries-back ms
 
 -- ── a step of a list of lines ──
 
@@ -165,10 +164,10 @@ module _ (lines : List (List ℕ)) (pitch k : ℕ) (b : Bool) (wrong : b ≡ not
 
 -- so an answer for such lines is the layout's answer
 pub same-answer : {r : StepAnswer} (lines : List (List ℕ)) (pitch k : ℕ) → r ≡ stepAnswer (lineStepCall lines pitch k)
-    → (l : Lent) (es : List (List ℕ)) (room : ℕ) (ms : List CutLine) → cutLinesCall l es room ≡ given ms → lines ≡ map lineEntry ms
-    → r ≡ stepAnswer (cutStepCall l es pitch k)
-same-answer lines pitch k e l es room ms o same =
-    e ∙ ap (λ (xs : List (List ℕ)). stepAnswer (lineStepCall xs pitch k)) same ∙ ap stepAnswer (same-steps l es room ms pitch k o)
+    → (l : Lent) (es before : List (List ℕ)) (ms : List CutLine) → cutLinesCall l es (length before) ≡ given ms
+    → lines ≡ take (length ms) (linesAfter before (cutLinesCall l es (length before))) → r ≡ stepAnswer (cutStepCall l es pitch k)
+same-answer lines pitch k e l es before ms o same =
+    e ∙ ap (λ (xs : List (List ℕ)). stepAnswer (lineStepCall xs pitch k)) same ∙ ap stepAnswer (same-steps l es before ms pitch k o)
 
 -- an answer that tells a step says so of the layout
 pub step-answered : (l : Lent) (es : List (List ℕ)) (pitch k : ℕ) {r : StepAnswer} → r ≡ stepAnswer (cutStepCall l es pitch k)

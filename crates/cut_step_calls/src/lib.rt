@@ -8,6 +8,7 @@ use model::DoneAnswer;
 use model::JobSize;
 use model::LineEntry;
 use model::NumberAnswer;
+use model::PITCH_BOUND;
 use model::PieceEntry;
 use model::PlaceEntry;
 use model::Refusal;
@@ -16,20 +17,17 @@ ghost use mathlib.Core.Path.{_≡_};
 ghost use mathlib.Core.Bool.{not};
 ghost use mathlib.Core.List.{List, map};
 ghost use Prim.Native.Nat.{ℕ, _≤_};
-ghost use lib.ListN.{length};
+ghost use lib.ListN.{length, take};
 ghost use Rattle.model.specs.Lent.{Lent, lentBy, jobOf, upTo};
 ghost use Rattle.model.specs.Buffer.{layoutOf};
 ghost use Rattle.model.specs.Refusal.{given};
-ghost use Rattle.model.specs.Cut.{CutLine, cutLines, pitchBound, lineEntry};
-ghost use Rattle.model.specs.Calls.{layoutCauses, cutLinesCall, cutStepCall, lineStepCall};
+ghost use Rattle.model.specs.Cut.{CutLine, cutLines, pitchBound, entryLine};
+ghost use Rattle.model.specs.Calls.{layoutCauses, cutLinesCall, linesAfter, cutStepCall, lineStepCall};
 ghost use Rattle.model.specs.declared.CutStep.{CutStep};
 ghost use Rattle.text_laws.specs.Outcomes.{NoCause};
 ghost use Rattle.cut_laws.specs.Exact.{StepExact};
 ghost use Rattle.call_laws.specs.Cuts.{mostLines, CutListClaims};
 ghost use Rattle.cut_step_calls.specs.Answers.{stepAnswer, sharedStep};
-
-// The largest pitch, in sixty-fourths of a millimetre.
-const PITCH_BOUND: u32 = 4096;
 
 // No layout has more lines.
 const MOST_LINES: usize = 70145;
@@ -51,7 +49,7 @@ fn pitch_wrong(pitch: u32) -> bool
 }
 
 // A buffer with room for the lines of every layout. What it holds plays no part, so that no caller's proof computes with it.
-fn empty_lines() -> [LineEntry; MOST_LINES]
+fn room_for_lines() -> [LineEntry; MOST_LINES]
     ensures { λ r. ⌜ length r ≡ mostLines ⌝ }
 {
     [[0u16; 4]; MOST_LINES]
@@ -99,16 +97,17 @@ pub fn cut_step(
     match call_causes(size, table, pixels, layout, wrong) {
         DoneAnswer::Refused(refusal) => StepAnswer::Refused(refusal),
         DoneAnswer::Done => {
-            let mut lines = empty_lines();
+            let mut lines = room_for_lines();
             listed_step(size, table, pixels, layout, pitch, step, &mut lines)
         }
     }
 }
 
-// Step number `step` of a list of lines, in millimetres, or a refusal: of the lines that a layout gave, the answer is that of `cut_step`.
+// Step number `step` of a list of lines, in millimetres, or a refusal: of the lines that `cut_lines` stored, the answer is that of `cut_step`.
 pub fn line_step(lines: &[LineEntry], pitch: u32, step: u64) -> StepAnswer
     ensures answer { λ r. ⌜ r ≡ stepAnswer (lineStepCall (now (lines .entry)) pitch step) ⌝ }
-    ensures same { λ r. ⌜ ((l : Lent) (layout : List (List ℕ)) (room : ℕ) (ls : List CutLine) → cutLinesCall l layout room ≡ given ls → now (lines .entry) ≡ map lineEntry ls → r ≡ stepAnswer (cutStepCall l layout pitch step)) ⌝ }
+    ensures same { λ r. ⌜ ((l : Lent) (layout before : List (List ℕ)) (ls : List CutLine) → cutLinesCall l layout (length before) ≡ given ls → now (lines .entry) ≡ take (length ls) (linesAfter before (cutLinesCall l layout (length before))) → r ≡ stepAnswer (cutStepCall l layout pitch step)) ⌝ }
+    ensures exact { λ r. ⌜ ((t : CutStep) → r ≡ StepAnswer.Step t → StepExact (map entryLine (now (lines .entry))) pitch step t) ⌝ }
 {
     if pitch_wrong(pitch) {
         return StepAnswer::Refused(plain_refusal(2));

@@ -8,6 +8,20 @@ member-at [] i z h = absurd (not-suc-le-zero h)
 member-at (a ∷ l) zero z h = List·Memᴰ·head refl
 member-at (a ∷ l) (suc i) z h = List·Memᴰ·tail (member-at l i z (le-of-suc-le-suc h))
 
+-- where a member of a list stands
+pub record At {A : Type 0} (l : List A) (z a : A) : Type 0 where
+  pub number : ℕ
+  pub there : number < length l
+  pub is : getD l number z ≡ a
+
+pub member-place : {A : Type 0} (l : List A) (z a : A) → List·Memᴰ a l → At l z a
+member-place [] z a m = absurd (List·Memᴰ·not-nil m)
+member-place (b ∷ l) z a (List·Memᴰ·head e) = record { number = 0; there = omega arith; is = sym e }
+member-place (b ∷ l) z a (List·Memᴰ·tail m) =
+    let w = member-place l z a m in
+    let h = w .there in
+    record { number = suc (w .number); there = omega arith; is = w .is }
+
 -- a list with an element is not empty
 pub member-length : {A : Type 0} {a : A} {l : List A} → List·Memᴰ a l → 0 < length l
 member-length (List·Memᴰ·head e) = omega arith

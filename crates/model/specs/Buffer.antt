@@ -16,6 +16,8 @@ use Rattle.model.specs.Layout.{Layout}
 use Rattle.model.specs.declared.Turn.{Turn}
 use Rattle.model.specs.declared.Turn.the-variants.{Zero, Quarter, Half, ThreeQuarters}
 use Rattle.model.specs.declared.Placement.{Placement}
+use Rattle.model.specs.declared.Direction.{Direction}
+use Rattle.model.specs.declared.Direction.the-variants.{Horizontal, Vertical}
 use Rattle.model.specs.declared.End.{End}
 use Rattle.model.specs.declared.End.the-variants.{Clear, Settled, Spent}
 
@@ -91,6 +93,15 @@ abbrev pub bytesOf : Shape → List ℕ
 bytesOf s = bytesFrom s 0 (s .columns * s .rows)
 
 -- ── how a descent ended ──
+
+-- a direction as a number: 0 horizontal, 1 vertical
+abbrev pub directionNumber : Direction → ℕ
+directionNumber Horizontal = 0
+directionNumber Vertical = 1
+
+-- the direction of a number: 0 is horizontal, every other one vertical
+abbrev pub directionOf : ℕ → Direction
+directionOf vertical = elim (eqb vertical 0) [ true ↦ Horizontal | false ↦ Vertical ]
 
 -- the end of a descent as a number
 abbrev pub endNumber : End → ℕ

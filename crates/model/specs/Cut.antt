@@ -7,7 +7,6 @@
 use mathlib.Core.Bool.{Bool, true, false, not}
 use mathlib.Core.List.{List, [], _∷_, _++_, map}
 use Prim.Native.Nat.{ℕ, zero, suc, _+_, _-_, _*_}
-use lib.Dec.{eqb}
 use lib.Ieee.{Float, binary64, ofInt, div}
 use lib.IntN.{pos}
 use lib.ListN.{getD}
@@ -15,6 +14,7 @@ use Rattle.model.specs.Bounded.{anyBelow, sumBelow, oneIf}
 use Rattle.model.specs.Piece.{Point, Shape, other, point, extent, cell, covers}
 use Rattle.model.specs.Strip.{Strip, strips}
 use Rattle.model.specs.Layout.{Job, Layout, sheetExtent, shapeIn, cornerIn}
+use Rattle.model.specs.Buffer.{directionNumber, directionOf}
 use Rattle.model.specs.declared.Direction.{Direction}
 use Rattle.model.specs.declared.Direction.the-variants.{Horizontal, Vertical}
 use Rattle.model.specs.declared.CutStep.{CutStep}
@@ -71,8 +71,8 @@ pub record CutLine : Type 0 where
   pub last : ℕ
 
 -- a run of units as a line
-abbrev pub lineOf : Direction → Strip → CutLine
-lineOf d t = record { direction = d; line = t .line; first = t .first; last = t .first + t .count }
+abbrev pub cutLineOf : Direction → Strip → CutLine
+cutLineOf d t = record { direction = d; line = t .line; first = t .first; last = t .first + t .count }
 
 -- a line's length in pixels
 abbrev pub lineLength : CutLine → ℕ
@@ -85,7 +85,7 @@ totalLength (l ∷ ls) = lineLength l + totalLength ls
 
 -- the lines of a set of units along the direction: its units joined end to end as far as they go
 abbrev pub linesAlong : Direction → Shape → List CutLine
-linesAlong d s = map (lineOf d) (strips d s)
+linesAlong d s = map (cutLineOf d) (strips d s)
 
 -- the lines of two such sets: horizontals first, by y, then x; verticals by x, then y
 abbrev pub linesOf : (Direction → Shape) → List CutLine
@@ -137,19 +137,10 @@ stepIn pitch done = Done
 
 -- ── lines in a lent buffer ──
 
--- a direction as a number: 0 horizontal, 1 vertical
-abbrev pub directionNumber : Direction → ℕ
-directionNumber Horizontal = 0
-directionNumber Vertical = 1
-
--- the direction of a number: horizontal for 0, else vertical
-abbrev pub numberDirection : ℕ → Direction
-numberDirection k = elim (eqb k 0) [ true ↦ Horizontal | false ↦ Vertical ]
-
 -- a line as an entry of a line buffer: direction, pixel line, first, last
 abbrev pub lineEntry : CutLine → List ℕ
 lineEntry l = directionNumber (l .direction) ∷ l .line ∷ l .first ∷ l .last ∷ []
 
 -- an entry of a line buffer as a line
 abbrev pub entryLine : List ℕ → CutLine
-entryLine e = record { direction = numberDirection (getD e 0 0); line = getD e 1 0; first = getD e 2 0; last = getD e 3 0 }
+entryLine e = record { direction = directionOf (getD e 0 0); line = getD e 1 0; first = getD e 2 0; last = getD e 3 0 }

@@ -1,6 +1,7 @@
 -- Document 02, point 2, worked examples of the cut list, one test that the checker computes: the request's two full 2 × 2 pieces with
--- 5 lines and 14 sides, a ring with a pixel in its hole and room around it, a piece of separate parts, one pixel alone, two pieces that touch along half a
--- side, one at the sheet's right and top edge, and points in millimetres. Assumes nothing.
+-- 5 lines and 14 sides, a ring with a pixel in its hole and room around it, the same two pieces under each other's number, a piece of
+-- separate parts, one pixel alone, two pieces that touch along half a side, one at the sheet's right and top edge, and points and steps in
+-- millimetres. Assumes nothing.
 use mathlib.Core.Bool.{Bool, true, false, not, _&&_, _||_}
 use mathlib.Core.List.{List, [], _∷_, map}
 use mathlib.Core.Path.{_≡_, refl}
@@ -62,15 +63,20 @@ squareSteps =
     ∷ (0 ∷ 4 ∷ 0 ∷ []) ∷ (1 ∷ 4 ∷ 2 ∷ []) ∷ (2 ∷ []) ∷ (2 ∷ []) ∷ (2 ∷ []) ∷ [])
 
 -- a ring of 5 × 5 around a hole of 3 × 3, and a single pixel in the middle of the hole: the hole is cut, and the pixel in it
-ringAndPixel : Job
-ringAndPixel =
-    jobWith 5 6 (record { columns = 5; rows = 5; has = λ x y. eqb x 0 || eqb x 4 || (eqb y 0 || eqb y 4) } ∷ full 1 1 ∷ [])
+ringShape : Shape
+ringShape = record { columns = 5; rows = 5; has = λ x y. eqb x 0 || eqb x 4 || (eqb y 0 || eqb y 4) }
+
+ringLines : List (List ℕ)
+ringLines =
+    (0 ∷ 0 ∷ 1 ∷ 6 ∷ []) ∷ (0 ∷ 1 ∷ 2 ∷ 5 ∷ []) ∷ (0 ∷ 2 ∷ 3 ∷ 4 ∷ []) ∷ (0 ∷ 3 ∷ 3 ∷ 4 ∷ []) ∷ (0 ∷ 4 ∷ 2 ∷ 5 ∷ []) ∷ (0 ∷ 5 ∷ 1 ∷ 6 ∷ [])
+    ∷ (1 ∷ 1 ∷ 0 ∷ 5 ∷ []) ∷ (1 ∷ 2 ∷ 1 ∷ 4 ∷ []) ∷ (1 ∷ 3 ∷ 2 ∷ 3 ∷ []) ∷ (1 ∷ 4 ∷ 2 ∷ 3 ∷ []) ∷ (1 ∷ 5 ∷ 1 ∷ 4 ∷ []) ∷ (1 ∷ 6 ∷ 0 ∷ 5 ∷ []) ∷ []
 
 ring : Bool
-ring =
-    listed ringAndPixel (placement 0 1 0 ∷ placement 0 3 2 ∷ []) 36
-    ((0 ∷ 0 ∷ 1 ∷ 6 ∷ []) ∷ (0 ∷ 1 ∷ 2 ∷ 5 ∷ []) ∷ (0 ∷ 2 ∷ 3 ∷ 4 ∷ []) ∷ (0 ∷ 3 ∷ 3 ∷ 4 ∷ []) ∷ (0 ∷ 4 ∷ 2 ∷ 5 ∷ []) ∷ (0 ∷ 5 ∷ 1 ∷ 6 ∷ [])
-    ∷ (1 ∷ 1 ∷ 0 ∷ 5 ∷ []) ∷ (1 ∷ 2 ∷ 1 ∷ 4 ∷ []) ∷ (1 ∷ 3 ∷ 2 ∷ 3 ∷ []) ∷ (1 ∷ 4 ∷ 2 ∷ 3 ∷ []) ∷ (1 ∷ 5 ∷ 1 ∷ 4 ∷ []) ∷ (1 ∷ 6 ∷ 0 ∷ 5 ∷ []) ∷ [])
+ring = listed (jobWith 5 6 (ringShape ∷ full 1 1 ∷ [])) (placement 0 1 0 ∷ placement 0 3 2 ∷ []) 36 ringLines
+
+-- the pixel as piece 0 and the ring as piece 1, where they were: the same lines
+renumbered : Bool
+renumbered = listed (jobWith 5 6 (full 1 1 ∷ ringShape ∷ [])) (placement 0 3 2 ∷ placement 0 1 0 ∷ []) 36 ringLines
 
 -- a piece of three separate pixels, (0, 0), (1, 1) and (2, 0): at its corners the lines of two pixels join and pass
 parts : Bool
@@ -115,19 +121,25 @@ isCut a b (Cut x y) = eq x a && eq y b
 isCut a b (Lift x y) = false
 isCut a b Done = false
 
+-- done
+abbrev isDone : CutStep → Bool
+isDone Done = true
+isDone (Lift x y) = false
+isDone (Cut x y) = false
+
 -- with a pitch of 96 the squares' second line is a lift to (0, 3) mm and a cut to (6, 3) mm, and after the last line they are done
 stepsInMillimetres : Bool
 stepsInMillimetres =
     isLift (fin false 0 (pos 0)) (fin false 3 (pos 0)) (stepIn 96 (stepAt (cutLines twoSquares sideBySide) 2))
     && isCut (fin false 3 (pos 1)) (fin false 3 (pos 0)) (stepIn 96 (stepAt (cutLines twoSquares sideBySide) 3))
-    && not (isCut (fin false 3 (pos 1)) (fin false 3 (pos 0)) (stepIn 96 (stepAt (cutLines twoSquares sideBySide) 10)))
+    && isDone (stepIn 96 (stepAt (cutLines twoSquares sideBySide) 10))
 
 -- all of them
 pub cutExamples : Bool
-cutExamples = squares && squareSteps && ring && parts && pixelAlone && halfASide && atTheEdge && inMillimetres && stepsInMillimetres
+cutExamples = squares && squareSteps && ring && renumbered && parts && pixelAlone && halfASide && atTheEdge && inMillimetres && stepsInMillimetres
 
 -- they hold of the definitions
 pub cut-examples-hold : cutExamples ≡ true
-unfolding cutExamples squares squareSteps ring parts pixelAlone halfASide atTheEdge inMillimetres stepsInMillimetres full jobWith listed twoSquares sideBySide
-    ringAndPixel runsFrom stripsFrom turnOfDegrees turnOf sameNumbers sameEntries sideOf sides unitCount sideCount totalLength cutLines steps stepAt millimetres eq round ofInt div
+unfolding cutExamples squares squareSteps ring renumbered parts pixelAlone halfASide atTheEdge inMillimetres stepsInMillimetres full jobWith listed twoSquares sideBySide
+    ringShape ringLines runsFrom stripsFrom turnOfDegrees turnOf sameNumbers sameEntries sideOf sides unitCount sideCount totalLength cutLines steps stepAt millimetres eq round ofInt div
 cut-examples-hold = refl

@@ -1,4 +1,4 @@
--- The mathematics of document 01, section by section. Each file's first lines name its section.
+-- The mathematics of document 01, section by section, and of document 02, point by point. Each file's first lines name its section or point.
 --
 -- For a reader who does not know antt: `name : A → B → C` says that name takes an A and a B and gives a C; `f a b` is f of a and b.
 -- `suc n` is n + 1, and `a - b` on ℕ is cut off: 0 where b is larger. In ℤ, `pos n` is n and `negsuc n` is -(n + 1).

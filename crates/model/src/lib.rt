@@ -1,5 +1,6 @@
 // The types that every crate shares. They follow document 01, 'Sheet and panels', 'Line search', 'Descent and guidance' and
-// 'When a call says no'; what the words mean is defined in specs/. Each limit stands here once, under the name that specs/ has for it.
+// 'When a call says no', and document 02; what the words mean is defined in specs/. Each limit stands here once, under the name that specs/
+// has for it.
 
 // The most rows of a sheet.
 pub const ROW_BOUND: usize = 512;
@@ -33,6 +34,9 @@ pub const BUDGET_BOUND: u32 = 1000000000;
 
 // The most rounds of a run.
 pub const ROUND_BOUND: u32 = 1000;
+
+// The largest pitch, in sixty-fourths of a millimetre.
+pub const PITCH_BOUND: u32 = 4096;
 
 ghost use mathlib.Core.Path.{_≡_};
 ghost use Rattle.model.specs.Refusal.{plainRefusal};

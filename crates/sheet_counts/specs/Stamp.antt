@@ -14,7 +14,7 @@ use Rattle.piece_pixels.specs.declared.TurnedPiece.{TurnedPiece}
 use Rattle.sheet_counts.specs.declared.Change.{Change}
 use Rattle.sheet_counts.specs.declared.Change.the-variants.{OneMore, OneLess, OwnedBy}
 
--- the count of a pixel after a change, which the piece covers or not; a byte's last count stays
+-- the count of a pixel, which the piece covers or not, after a change; a byte's last count stays
 abbrev pub moved : Change → Bool → ℕ → ℕ
 moved change false c = c
 moved OneMore true c = elim (ltb c 255) [ true ↦ c + 1 | false ↦ c ]

@@ -44,7 +44,7 @@ fn one_less(count: u8) -> u8
     0
 }
 
-// The count of a pixel after the change, which the piece covers or not.
+// The count of a pixel, which the piece covers or not, after the change.
 fn moved_count(count: u8, on: bool, change: Change) -> u8
     ensures { λ r. ⌜ r ≡ moved change on count ⌝ }
 {

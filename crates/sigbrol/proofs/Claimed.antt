@@ -1,10 +1,10 @@
--- What is said of a used length and of a run, over the numbers that C is given: they are those of the call, and a reply of number 0 tells
+-- What is said of a used length, of a cut list and of a run, over the numbers that C is given: they are those of the call, and a reply of number 0 tells
 -- that it was not refused, since every cause of a refusal has a number other than 0. Assumes nothing.
 use Rattle.list_laws.proofs.Kit.{_∙_, _≡_, ap, subst, sym, Option, none, some, List, _<_, ℕ, arith}
 use Rattle.model.specs.Layout.{Job, Layout, Pair, sharingPair}
 use Rattle.model.specs.Lent.{Lent, jobOf}
 use Rattle.model.specs.Refusal.{refused}
-use Rattle.model.specs.Calls.{layoutCauses, sharedCause, usedLengthCall, cutLinesCall, cutStepCall, descentCall, guidedCall}
+use Rattle.model.specs.Calls.{layoutCauses, sharedCause, usedLengthCall, cutLinesCall, cutStepCall, lineStepCall, descentCall, guidedCall}
 use Rattle.model.specs.declared.End.{End}
 use Rattle.model.specs.declared.Refusal.{Refusal}
 use Rattle.model.specs.Buffer.{endNumber, layoutOf}
@@ -39,7 +39,12 @@ cut-lines-numbered l es room r e =
     let shared = shared-numbered (sharingPair (jobOf l) (layoutOf es)) in
     refused-numbered _ _ r (omega arith, (omega arith, (omega arith, (omega arith, (shared, (omega arith, tt)))))) e
 
--- so has a refused step of it
+-- and a refused step of lent lines
+pub line-step-numbered : (lines : List (List ℕ)) (pitch k : ℕ) (r : Refusal) → lineStepCall lines pitch k ≡ refused r → 0 < r .number
+unfolding lineStepCall
+line-step-numbered lines pitch k r e = refused-numbered _ _ r (omega arith, tt) e
+
+-- so has a refused step of a layout
 pub cut-step-numbered : (l : Lent) (es : List (List ℕ)) (pitch k : ℕ) (r : Refusal) → cutStepCall l es pitch k ≡ refused r → 0 < r .number
 unfolding cutStepCall
 cut-step-numbered l es pitch k r e =

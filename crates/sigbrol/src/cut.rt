@@ -12,11 +12,11 @@ use model::PlaceEntry;
 ghost use mathlib.Core.Path.{_≡_};
 ghost use mathlib.Core.List.{List, map};
 ghost use Prim.Native.Nat.{ℕ};
-ghost use lib.ListN.{length};
+ghost use lib.ListN.{length, take};
 ghost use Rattle.model.specs.Lent.{Lent, jobOf};
 ghost use Rattle.model.specs.Buffer.{layoutOf};
 ghost use Rattle.model.specs.Refusal.{given};
-ghost use Rattle.model.specs.Cut.{CutLine, cutLines, lineEntry};
+ghost use Rattle.model.specs.Cut.{CutLine, cutLines, entryLine};
 ghost use Rattle.model.specs.Calls.{leaving, cutLinesCall, linesAfter, cutStepCall, lineStepCall};
 ghost use Rattle.cut_laws.specs.Exact.{StepExact};
 ghost use Rattle.call_laws.specs.Cuts.{CutListClaims};
@@ -87,7 +87,7 @@ pub extern "C" fn sigbrol_cut_step(
     }
 }
 
-// A step of lines that are lent; of the lines that a layout gave it is the layout's step.
+// A step of lines that are lent; of the lines that `sigbrol_cut_lines` stored it is the layout's step.
 #[no_mangle]
 pub extern "C" fn sigbrol_line_step(
     lines: &[LineEntry],
@@ -101,7 +101,8 @@ pub extern "C" fn sigbrol_line_step(
     ensures word { λ r. ⌜ now (word .exit) ≡ leaving stepWord (now (word .entry)) (lineStepCall (now (lines .entry)) pitch step) ⌝ }
     ensures x { λ r. ⌜ now (x .exit) ≡ leaving (stepX (now (x .entry))) (now (x .entry)) (lineStepCall (now (lines .entry)) pitch step) ⌝ }
     ensures y { λ r. ⌜ now (y .exit) ≡ leaving (stepY (now (y .entry))) (now (y .entry)) (lineStepCall (now (lines .entry)) pitch step) ⌝ }
-    ensures same { λ r. ⌜ ((l : Lent) (layout : List (List ℕ)) (room : ℕ) (ls : List CutLine) → cutLinesCall l layout room ≡ given ls → now (lines .entry) ≡ map lineEntry ls → lineStepCall (now (lines .entry)) pitch step ≡ cutStepCall l layout pitch step) ⌝ }
+    ensures same { λ r. ⌜ ((l : Lent) (layout before : List (List ℕ)) (ls : List CutLine) → cutLinesCall l layout (length before) ≡ given ls → now (lines .entry) ≡ take (length ls) (linesAfter before (cutLinesCall l layout (length before))) → lineStepCall (now (lines .entry)) pitch step ≡ cutStepCall l layout pitch step) ⌝ }
+    ensures exact { λ r. ⌜ (r .number ≡ 0 → StepExact (map entryLine (now (lines .entry))) pitch step (toldStep (now (word .exit)) (now (x .exit)) (now (y .exit)))) ⌝ }
 {
     match cut_step_calls::line_step(lines, pitch, step) {
         StepAnswer::Step(taken) => {

@@ -12,7 +12,8 @@ use pair_calls::ShareAnswer;
 ghost use mathlib.Core.Path.{_≡_};
 ghost use Rattle.model.specs.Bounded.{oneIf};
 ghost use Rattle.model.specs.Calls.{leaving, shareCall, depthCall, penaltyCall};
-ghost use Rattle.c_interface.specs.Numbers.{lentAs, directionOf};
+ghost use Rattle.model.specs.Buffer.{directionOf};
+ghost use Rattle.c_interface.specs.Numbers.{lentAs};
 ghost use Rattle.c_interface.specs.Replies.{replyTo};
 
 // Whether two pieces of a layout share a pixel: 1 or 0.

@@ -13,7 +13,8 @@ ghost use lib.ListN.{length};
 ghost use Rattle.model.specs.Calls.{leaving, stripsCall, storesAfter, stretchCall, stretchGiven, stretchNumber, rebuildCall, pixelsAfter};
 ghost use Rattle.strip_rebuild_calls.specs.Again.{Again};
 ghost use Rattle.strip_calls.specs.Stores.{storesBy};
-ghost use Rattle.c_interface.specs.Numbers.{lentAs, directionOf};
+ghost use Rattle.model.specs.Buffer.{directionOf};
+ghost use Rattle.c_interface.specs.Numbers.{lentAs};
 ghost use Rattle.c_interface.specs.Replies.{replyTo};
 ghost use Rattle.sigbrol.specs.Places.{startIn, stretchStart};
 

@@ -255,6 +255,16 @@ lent_a_job! {
 
     fn sigbrol_start(layout: *mut Place, layout_length: usize) -> Reply;
 
+    fn sigbrol_write_layout(
+        layout: *const Place,
+        layout_length: usize,
+        text: *mut u8,
+        text_length: usize,
+        written: *mut usize,
+    ) -> Reply;
+
+    fn sigbrol_read_layout(text: *const u8, text_length: usize, layout: *mut Place, layout_length: usize) -> Reply;
+
     fn sigbrol_cut_lines(
         layout: *const Place,
         layout_length: usize,
@@ -272,16 +282,6 @@ lent_a_job! {
         x: *mut f64,
         y: *mut f64,
     ) -> Reply;
-
-    fn sigbrol_write_layout(
-        layout: *const Place,
-        layout_length: usize,
-        text: *mut u8,
-        text_length: usize,
-        written: *mut usize,
-    ) -> Reply;
-
-    fn sigbrol_read_layout(text: *const u8, text_length: usize, layout: *mut Place, layout_length: usize) -> Reply;
 
     fn sigbrol_line_search(
         layout: *const Place,

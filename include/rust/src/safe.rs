@@ -1,7 +1,8 @@
 //! A thin safe layer over the calls that the examples and the cut list's program use.
 //!
 //! The layer is sound because a call trusts no byte that it is lent, keeps no pointer and writes only inside the lengths that it is
-//! given: every length below is that of a slice, and what a call writes is borrowed for it alone.
+//! given: every length below is that of a slice, and what a call writes is borrowed for it alone. A thread that calls needs up to 3 MB of
+//! stack beyond its own, more than the 2 MB that a thread of the standard library has unless `stack_size` says otherwise.
 
 use alloc::vec;
 use alloc::vec::Vec;
@@ -217,8 +218,8 @@ impl Job {
     pub fn boxes_meet(&self, layout: &[Place], i: usize, k: usize) -> bool {
         // The first and the end column and row of a turned box; its sides change places at 90 and 270 degrees.
         let ranges = |piece: usize| {
-            let [turn, x, y] = layout[piece];
-            let [l, w, _] = self.table[piece].map(u16::from);
+            let [turn, x, y] = layout[piece].map(u32::from);
+            let [l, w, _] = self.table[piece].map(u32::from);
             let (l, w) = if turn % 180 == 0 { (l, w) } else { (w, l) };
             [(x, x + l), (y, y + w)]
         };

@@ -232,7 +232,7 @@ fn describe(
         column_strips,
         column_starts
     );
-    show!(layout, weights, counts);
+    show!(layout, weights, cut_lines, counts);
     if before.counts.length() > 0 {
         text += &format!("\n  record {:?}", before.record.get());
     }

@@ -171,6 +171,7 @@ impl Memory {
             + self.pixels.length()
             + self.layout.length()
             + self.text.length()
+            + self.cut_lines.length()
             + self.counts.length()
     }
 }

@@ -233,6 +233,8 @@ fn run_texts(comparison: &mut Comparison) {
 
 #[cfg(test)]
 mod tests {
+    use second::calls::Cause;
+
     use super::*;
     use crate::expected::{self, Returned};
     use crate::memory::result;
@@ -340,6 +342,72 @@ mod tests {
             }
             returned
         });
+    }
+
+    #[test]
+    fn lines_that_are_written_though_the_buffer_is_too_short() {
+        assert_told(Kind::CutLines, &|kind, memory| {
+            let expected = expected::call(kind, memory);
+            if kind == Kind::CutLines && expected.cause == Some(Cause::BufferShort) {
+                let mut roomy = memory.clone();
+                let room = sigbrol::cut_lines_capacity(memory.rows, memory.columns);
+                roomy.cut_lines = Guarded::new(&vec![[0; 4]; room]);
+                expected::call(kind, &mut roomy);
+                let lines = memory.cut_lines.get_mut();
+                lines.copy_from_slice(&roomy.cut_lines.get()[..lines.len()]);
+            }
+            expected.returned
+        });
+    }
+
+    #[test]
+    fn lines_that_are_counted_and_not_written() {
+        assert_told(Kind::CutLines, &|kind, memory| {
+            let before = memory.cut_lines.clone();
+            let returned = same(kind, memory);
+            memory.cut_lines = before;
+            returned
+        });
+    }
+
+    #[test]
+    fn a_point_that_is_written_where_the_list_is_done() {
+        for wrong in [Kind::CutStep, Kind::LineStep] {
+            assert_told(wrong, &|kind, memory| {
+                let returned = same(kind, memory);
+                let done = returned.reply[0] == 0 && memory.bytes.get()[result(0)] == 0;
+                if kind == wrong && done {
+                    memory.doubles.get_mut()[result(0)] = 0.0_f64.to_bits();
+                }
+                returned
+            });
+        }
+    }
+
+    #[test]
+    fn x_and_y_the_other_way_round() {
+        for wrong in [Kind::CutStep, Kind::LineStep] {
+            assert_told(wrong, &|kind, memory| {
+                let returned = same(kind, memory);
+                let a_point = returned.reply[0] == 0 && memory.bytes.get()[result(0)] != 0;
+                if kind == wrong && a_point {
+                    memory.doubles.get_mut().swap(result(0), result(1));
+                }
+                returned
+            });
+        }
+    }
+
+    #[test]
+    fn lift_and_cut_the_other_way_round() {
+        for wrong in [Kind::CutStep, Kind::LineStep] {
+            assert_told(wrong, &|kind, memory| {
+                if kind == wrong {
+                    memory.numbers.step ^= 1;
+                }
+                same(kind, memory)
+            });
+        }
     }
 
     #[test]

@@ -149,7 +149,9 @@ impl Scene {
                 let more = random.between(0, 50);
                 memory.output = Guarded::junk(random, OUTPUT + more);
             }
-            Kind::CutLines | Kind::CutStep | Kind::LineStep => self.fill_cut(random, &mut memory),
+            Kind::CutLines | Kind::CutStep | Kind::LineStep => {
+                self.fill_cut(random, &mut memory, kind);
+            }
             Kind::Fresh | Kind::Lay | Kind::Withdraw => self.fill_sheet(random, &mut memory),
             _ => self.fill_layout(random, &mut memory, kind),
         }
@@ -297,21 +299,21 @@ impl Scene {
         }
     }
 
-    /// A layout, mostly one that passes the check, with a pitch, the number of a step and room for lines.
-    fn fill_cut(&self, random: &mut Random, memory: &mut Memory) {
+    /// A layout, mostly one that passes the check, with a pitch, the number of a step, and room for lines, mostly filled with the layout's
+    /// own where a call reads them.
+    fn fill_cut(&self, random: &mut Random, memory: &mut Memory, kind: Kind) {
         let layout = if self.is_small() && random.chance(80) {
             self.clear_layout(random)
         } else {
             self.layout(random)
         };
-        // Lines of one pixel line do not touch, so that no list has more.
-        let (rows, columns) = (self.job.rows, self.job.columns);
-        let mut lines = vec![[0; 4]; (rows + 1) * (columns + 1)];
+        let room = sigbrol::cut_lines_capacity(self.job.rows, self.job.columns);
+        let mut lines = vec![[0; 4]; room];
         let count = calls::cut_lines(&self.lent(), &layout, &mut lines).unwrap_or(0);
         memory.layout = Guarded::new(&layout);
         memory.cut_lines = roomy(random, &lines[..count]);
-        if random.chance(20) {
-            memory.cut_lines = Guarded::junk(random, count);
+        if kind == Kind::CutLines || random.chance(20) {
+            memory.cut_lines = Guarded::junk(random, memory.cut_lines.length());
         }
         let numbers = &mut memory.numbers;
         numbers.pitch = random.pick(&[1, 2, 63, 64, 65, 97, 4_095, 4_096]);

@@ -29,12 +29,22 @@ impl Weighted<'_> {
     }
 }
 
-/// The placements of a layout that is lent without weights: causes 8, 7, 9 and 10.
-fn plain(lent: &Lent, layout: &[[u16; 3]]) -> Result<(Job, Vec<Placement>), Refusal> {
+/// The placements of a layout that is lent without weights: causes 8, 7, those of `own`, 9 and 10.
+fn asked(
+    lent: &Lent,
+    layout: &[[u16; 3]],
+    own: impl Fn() -> Result<(), Refusal>,
+) -> Result<(Job, Vec<Placement>), Refusal> {
     let job = lent.job()?;
     require(layout.len() == lent.count, Cause::LayoutLength)?;
+    own()?;
     let places = placements(&job, layout)?;
     Ok((job, places))
+}
+
+/// The same of a call that has no cause of its own there.
+fn plain(lent: &Lent, layout: &[[u16; 3]]) -> Result<(Job, Vec<Placement>), Refusal> {
+    asked(lent, layout, || Ok(()))
 }
 
 /// The weighted sum of a layout.
@@ -63,16 +73,13 @@ pub fn check(lent: &Lent, layout: &[[u16; 3]]) -> Result<(), Refusal> {
     checked(lent, layout, || Ok(())).map(|_| ())
 }
 
-/// The placements of a layout that passes the check; `own` is asked after cause 7.
+/// The placements of a layout that passes the check; the causes of `own` come after 7.
 pub(super) fn checked(
     lent: &Lent,
     layout: &[[u16; 3]],
     own: impl Fn() -> Result<(), Refusal>,
 ) -> Result<(Job, Vec<Placement>), Refusal> {
-    let job = lent.job()?;
-    require(layout.len() == lent.count, Cause::LayoutLength)?;
-    own()?;
-    let places = placements(&job, layout)?;
+    let (job, places) = asked(lent, layout, own)?;
     apart(&job, &places)?;
     Ok((job, places))
 }

@@ -1,6 +1,6 @@
 -- `c_interface::direction_of` meets its contract: the test decides. Assumes nothing.
 use Rattle.list_laws.proofs.Kit.{eq-eqb, ne-eqb}
-use Rattle.c_interface.specs.Numbers.{directionOf}
+use Rattle.model.specs.Buffer.{directionOf}
 use Rattle.c_interface.proofs.direction_of.Statement.{statement}
 use Rattle.c_interface.proofs.direction_of.Tie as tie
 

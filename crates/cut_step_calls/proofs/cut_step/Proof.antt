@@ -23,8 +23,8 @@ listed-step-requires : tie.Need-listed-step-requires
 listed-step-requires c κs =
     let s : tie.Start = search in
     let p : tie.After-enum-told = search in
-    let room : tie.After-empty-lines = search in
-    let long = room .empty-lines .ensures in
+    let room : tie.After-room-for-lines = search in
+    let long = room .room-for-lines .ensures in
     (step-none (lent s) (s .args .layout .now) (s .args .pitch) (s .args .step) _ (passed p), omega arith)
 
 returns : tie.Need-returns

@@ -6,7 +6,7 @@ use Rattle.model.specs.Buffer.{layoutOf, filled}
 use Rattle.model.specs.Cut.{cutLines, lineEntry, entryLine}
 use Rattle.model.specs.Calls.{linesAfter}
 use Rattle.cut_step_calls.specs.Answers.{stepAnswer}
-use Rattle.cut_step_calls.proofs.Steps.{lines-left, lines-most, LinesTold, lines-told, count-refused, shared-refused, front-lines}
+use Rattle.cut_step_calls.proofs.Steps.{lines-left, lines-most, LinesTold, lines-told, count-refused, shared-refused, lines-back}
 use Rattle.cut_step_calls.proofs.listed_step.Statement.{statement}
 use Rattle.cut_step_calls.proofs.listed_step.Tie as tie
 
@@ -62,8 +62,8 @@ returns-2 c =
     let t = told p in
     let after : stored asked ≡ filled (map lineEntry ls) (a .lines .now) = asked .cut-lines .ensures .1 .0 ∙ ap (linesAfter (a .lines .now)) (t .lines) in
     let read : map entryLine (take (p .count .given .0 .0) (stored asked)) ≡ ls =
-    ap (λ (l : List (List ℕ)). map entryLine (take (p .count .given .0 .0) l)) after ∙ front-lines ls (a .lines .now) _ (t .count) in
-    rw (c .step-of .ensures, read) (sym (ap stepAnswer (t .step (a .pitch) (a .step))))
+    ap (λ (l : List (List ℕ)). map entryLine (take (p .count .given .0 .0) l)) after ∙ lines-back ls (a .lines .now) _ (t .count) in
+    rw (c .step-of .ensures .0, read) (sym (ap stepAnswer (t .step (a .pitch) (a .step))))
 
 pub listed-step-spec : {M : Type 1} → statement M
 listed-step-spec =

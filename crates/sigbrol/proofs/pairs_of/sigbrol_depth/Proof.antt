@@ -3,7 +3,8 @@ use Rattle.list_laws.proofs.Kit.{_∙_, _≡_, sym, ℕ, needs}
 use Rattle.model.specs.Answers.{numberAnswer}
 use Rattle.model.specs.Refusal.{Outcome}
 use Rattle.model.specs.Calls.{depthCall}
-use Rattle.c_interface.specs.Numbers.{lentAs, directionOf}
+use Rattle.model.specs.Buffer.{directionOf}
+use Rattle.c_interface.specs.Numbers.{lentAs}
 use Rattle.sigbrol.proofs.Told.{reply-by, leaves-by, number-told}
 use Rattle.sigbrol.proofs.pairs_of.sigbrol_depth.Statement.{statement}
 use Rattle.sigbrol.proofs.pairs_of.sigbrol_depth.Tie as tie

@@ -4,7 +4,7 @@ use Rattle.model.specs.Piece.{Shape}
 use Rattle.model.specs.Answers.{doneAnswer}
 use Rattle.model.specs.Refusal.{Outcome}
 use Rattle.model.specs.Calls.{rebuildCall, pixelsAfter}
-use Rattle.c_interface.specs.Numbers.{directionOf}
+use Rattle.model.specs.Buffer.{directionOf}
 use Rattle.strip_rebuild_calls.specs.Again.{Again}
 use Rattle.sigbrol.proofs.Told.{reply-by, done-told}
 use Rattle.sigbrol.proofs.strips.sigbrol_rebuild.Statement.{statement}

@@ -2,7 +2,8 @@
 use Rattle.list_laws.proofs.Kit.{_∙_, _≡_, ap, sym, List, ℕ, arith, length}
 use Rattle.model.specs.Lent.{Lent}
 use Rattle.model.specs.Calls.{Stores, stretchCall, stretchGiven}
-use Rattle.c_interface.specs.Numbers.{lentAs, directionOf}
+use Rattle.model.specs.Buffer.{directionOf}
+use Rattle.c_interface.specs.Numbers.{lentAs}
 use Rattle.strip_calls.specs.Stores.{storesBy}
 use Rattle.strip_calls.proofs.Outcomes.{StretchPassed}
 use Rattle.sigbrol.proofs.Stretches.{stretch-there, start-left, start-kept}

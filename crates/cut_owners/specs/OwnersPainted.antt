@@ -8,6 +8,6 @@ use Rattle.model.specs.Cover.{pixelAt}
 use Rattle.cut_laws.specs.Owners.{owner}
 
 -- each byte is the owner of its pixel
-pub record Painted (j : Job) (v : Layout) (os : List ℕ) : Type 0 where
+pub record OwnersPainted (j : Job) (v : Layout) (os : List ℕ) : Type 0 where
   pub full : length os ≡ j .size .rows * j .size .columns
   pub owners : (k : ℕ) → k < j .size .rows * j .size .columns → getD os k 0 ≡ owner j v (pixelAt j k)
