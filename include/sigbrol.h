@@ -40,7 +40,7 @@ extern "C" {
 #endif
 
 /* The version of this interface. It grows by 1 where anything below changes for a caller. */
-#define SIGBROL_VERSION 4
+#define SIGBROL_VERSION 5
 
 /* The largest numbers of a job: pieces, bytes of all boxes together, bytes of a job text that the program reads. */
 #define SIGBROL_PIECES 64
@@ -244,6 +244,16 @@ sigbrol_reply sigbrol_plain_sum(size_t rows, size_t columns, size_t count, const
 sigbrol_reply sigbrol_used_length(size_t rows, size_t columns, size_t count, const uint8_t (*table)[3], size_t table_length,
                                   const uint8_t *pixels, size_t pixels_length, const uint16_t (*layout)[3], size_t layout_length,
                                   size_t *used);
+
+/* A move before it is made: fills `sum` and `used` with what sigbrol_weighted_sum and sigbrol_used_length would fill them with if `piece` lay
+ * in `turn` with its corner at (x, y) and the others where they are. The layout stays as it is; the sum is 0 exactly when no two pieces
+ * would share a pixel. Made for every step of a drag: only pieces whose boxes meet are measured.
+ * Refused: 8 the job; 7 the length of the layout or the weights; 2 a weight; 9 no such piece, a turn that is not allowed, here or in the
+ * layout; 10 a placement outside, of the layout as it is, this piece's among them, or the new one. */
+sigbrol_reply sigbrol_preview(size_t rows, size_t columns, size_t count, const uint8_t (*table)[3], size_t table_length,
+                              const uint8_t *pixels, size_t pixels_length, const uint16_t (*layout)[3], size_t layout_length,
+                              const uint32_t *weights, size_t weights_length, size_t piece, uint16_t turn, uint16_t x, uint16_t y,
+                              uint64_t *sum, size_t *used);
 
 /* Passes exactly the layouts that the knife may follow: all inside in allowed turns, and no two pieces share a pixel. Writes nothing.
  * Refused: 8 the job; 7 the layout's length; 9; 10; 12 two pieces share a pixel, first and second = the pair with the lowest first

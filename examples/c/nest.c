@@ -1,6 +1,6 @@
 /* Nests the pieces of a job round by round through sigbrol.h. Reads the job text from standard input, tells the progress on standard
- * error, with the length of the cut list where the layout is clear, and prints the best layout and how the search ended, as the program
- * `nest` does in one go. */
+ * error, at the end what moves by hand would come to and, where the layout is clear, the length of its cut list, and prints the best
+ * layout and how the search ended, as the program `nest` does in one go. */
 #include <inttypes.h>
 #include <stdio.h>
 #include <stdlib.h>
@@ -43,13 +43,19 @@ static uint64_t plain_sum(const sigbrol_job *job, uint16_t (*layout)[3])
     return sum;
 }
 
+/* Makes the weight of each pair 1. */
+static void fill_unit_weights(const sigbrol_job *job, uint32_t *weights)
+{
+    for (size_t pair = 0; pair < SIGBROL_PAIRS(job->count); pair++) {
+        weights[pair] = 1;
+    }
+}
+
 /* The start layout with unit weights, which is the best one so far. */
 static void begin(const sigbrol_job *job, search *s)
 {
     must("sigbrol_start", sigbrol_start(SIGBROL_LENT(job), s->layout, job->count));
-    for (size_t pair = 0; pair < SIGBROL_PAIRS(job->count); pair++) {
-        s->weights[pair] = 1;
-    }
+    fill_unit_weights(job, s->weights);
     memcpy(s->best, s->layout, sizeof s->best);
     s->best_sum = plain_sum(job, s->layout);
     s->trials = 0;
@@ -132,18 +138,44 @@ static void tell_cut_list(const sigbrol_job *job, uint16_t (*layout)[3])
     fprintf(stderr, "cut list: %zu lines, %.15g mm\n", count, length);
 }
 
+/* Tells how many pieces of the best layout could be dragged one column to the left, each alone, at no higher plain sum, and the least used
+ * length after such a move or none. Nothing is moved. */
+static void tell_moves(const sigbrol_job *job, search *s, size_t used)
+{
+    uint32_t weights[SIGBROL_PAIRS(SIGBROL_PIECES)];
+    fill_unit_weights(job, weights);
+    size_t pieces = 0, least = used;
+    for (size_t piece = 0; piece < job->count; piece++) {
+        uint16_t turn = s->best[piece][0], x = s->best[piece][1], y = s->best[piece][2];
+        if (x == 0) {
+            continue;
+        }
+        uint64_t moved_sum = 0;
+        size_t moved_used = 0;
+        must("sigbrol_preview", sigbrol_preview(SIGBROL_LENT(job), SIGBROL_PLACES(s->best), job->count, weights,
+                                                SIGBROL_PAIRS(job->count), piece, turn, x - 1, y, &moved_sum, &moved_used));
+        if (moved_sum <= s->best_sum) {
+            pieces++;
+            least = moved_used < least ? moved_used : least;
+        }
+    }
+    fprintf(stderr, "preview: %zu of %zu pieces can go one column left, used length %zu at best\n", pieces, job->count, least);
+}
+
 /* Prints the best layout and the last line. A layout that is called clear has passed the check before. */
 static void print_best(const sigbrol_job *job, search *s)
 {
+    size_t used = 0;
+    must("sigbrol_used_length", sigbrol_used_length(SIGBROL_LENT(job), SIGBROL_PLACES(s->best), job->count, &used));
+    tell_moves(job, s, used);
     if (s->best_sum == 0) {
         must("sigbrol_check", sigbrol_check(SIGBROL_LENT(job), SIGBROL_PLACES(s->best), job->count));
         tell_cut_list(job, s->best);
     }
     uint8_t text[SIGBROL_LAYOUT_TEXT];
-    size_t written = 0, used = 0;
+    size_t written = 0;
     must("sigbrol_write_layout",
          sigbrol_write_layout(SIGBROL_LENT(job), SIGBROL_PLACES(s->best), job->count, text, sizeof text, &written));
-    must("sigbrol_used_length", sigbrol_used_length(SIGBROL_LENT(job), SIGBROL_PLACES(s->best), job->count, &used));
     fwrite(text, 1, written, stdout);
     printf("end,%s,%" PRIu64 ",%" PRIu64 ",%" PRIu64 ",%zu\n", s->best_sum == 0 ? "clear" : "open", s->best_sum, s->trials, s->moves,
            used);

@@ -3,7 +3,7 @@
 mod oracle;
 
 use oracle::{Lcg, Place, Problem, STEPS};
-use second::calls::{self, Cause, Counts, Lent, Line, Refusal, Stretch, Weighted, RECORD};
+use second::calls::{self, Cause, Counts, Lent, Line, Move, Refusal, Stretch, Weighted, RECORD};
 
 /// A job in buffers of its own.
 struct Buffers {
@@ -220,6 +220,81 @@ fn the_first_cause_of_a_cut_list_wins() {
     assert_eq!(lines(&lent, &spoilt_turn[..2]), Err(Cause::LentCount));
 }
 
+/// The sum and the length that a preview gives, or the cause by which it is refused.
+fn preview(
+    lent: &Lent,
+    layout: &[[u16; 3]],
+    weights: &[u32],
+    piece: usize,
+    [turn, x, y]: [u16; 3],
+) -> Result<(u64, usize), Cause> {
+    let given = Weighted { layout, weights };
+    let to = Move { piece, turn, x, y };
+    let figures = calls::preview(lent, given, to);
+    figures
+        .map(|figures| (figures.sum, figures.length))
+        .map_err(|refusal| refusal.cause)
+}
+
+#[test]
+fn previews_of_small_moves() {
+    let job = job(4, 5, &[A, B, E]);
+    let layout = [[0, 0, 0], [90, 2, 0], [0, 4, 3]];
+    let preview = |piece, place| preview(&job.lent(), &layout, &[5, 2, 3], piece, place);
+    assert_eq!(preview(0, [0, 0, 0]), Ok((0, 5)));
+    // The square shares a column with B, and nothing lies in the first column.
+    assert_eq!(preview(0, [0, 1, 0]), Ok((5, 4)));
+    // The single pixel lies on the square, and nothing in the last column.
+    assert_eq!(preview(2, [0, 0, 0]), Ok((2, 4)));
+}
+
+#[test]
+fn a_preview_in_a_turn_that_the_piece_may_not_take() {
+    // A strip in turns 0 and 180, and a single pixel in all four.
+    let text = "job,1,4,5,2\npiece,0,2,1,5\nrow,##\npiece,1,1,1,15\nrow,#\n";
+    let job = Buffers::read(text);
+    let preview = |old, piece, place| {
+        let layout = [[old, 0, 0], [0, 4, 3]];
+        preview(&job.lent(), &layout, &[7], piece, place)
+    };
+    // The strip ends on the pixel; nothing lies left of it then.
+    assert_eq!(preview(0, 0, [180, 3, 3]), Ok((7, 2)));
+    assert_eq!(preview(0, 1, [90, 3, 0]), Ok((0, 4)));
+    for turn in [90, 270, 360] {
+        assert_eq!(preview(0, 0, [turn, 3, 0]), Err(Cause::Turn));
+        assert_eq!(preview(turn, 0, [180, 3, 3]), Err(Cause::LayoutTurn));
+    }
+}
+
+#[test]
+fn the_first_cause_of_a_preview_wins() {
+    let job = job(4, 5, &[A, B, E]);
+    let right = [[0, 0, 0], [90, 2, 0], [0, 4, 3]];
+    let far = [0, 9, 9];
+    let weights = [5, 2, 3];
+    let cause = |layout: &[[u16; 3]], weights: &[u32], piece, place| {
+        preview(&job.lent(), layout, weights, piece, place).expect_err("a refusal")
+    };
+    let spoilt = [far, [45, 2, 0], right[2]];
+    let wrong = [45, 9, 9];
+    assert_eq!(cause(&spoilt[..2], &[0], 3, wrong), Cause::LayoutLength);
+    assert_eq!(cause(&spoilt, &[0], 3, wrong), Cause::WeightsLength);
+    assert_eq!(cause(&spoilt, &[0, 2, 3], 3, wrong), Cause::Weight);
+    assert_eq!(cause(&spoilt, &weights, 3, wrong), Cause::NoPiece);
+    assert_eq!(cause(&spoilt, &weights, 0, wrong), Cause::Turn);
+    assert_eq!(cause(&spoilt, &weights, 0, far), Cause::LayoutTurn);
+    // The old placement is asked too, although the figures do not depend on it.
+    let old_outside = [far, right[1], right[2]];
+    assert_eq!(cause(&old_outside, &weights, 0, far), Cause::Outside);
+    assert_eq!(cause(&old_outside, &weights, 0, right[0]), Cause::Outside);
+    assert_eq!(cause(&right, &weights, 0, far), Cause::NewOutside);
+    // A job that is none comes before all of these.
+    let mut lent = job.lent();
+    lent.count = 0;
+    let refused = preview(&lent, &spoilt[..2], &[0], 3, wrong);
+    assert_eq!(refused, Err(Cause::LentCount));
+}
+
 #[test]
 fn the_lowest_pair_is_named() {
     let job = job(4, 9, &[A, A, A, A]);
@@ -340,6 +415,31 @@ fn pairs_of_random_layouts() {
         let problem = lcg.problem(5, 6);
         let layout = lcg.layout(&problem);
         check_pairs(&problem, &layout);
+    }
+}
+
+#[test]
+fn previews_of_random_moves() {
+    let mut lcg = Lcg(79);
+    for _ in 0..100 {
+        let problem = lcg.problem(5, 5);
+        let job = Buffers::read(&problem.text());
+        let (layout, to) = (lcg.layout(&problem), lcg.layout(&problem));
+        let weights = lcg.weights(&problem);
+        let wide: Vec<u32> = weights.iter().map(|&weight| u32::from(weight)).collect();
+        for piece in 0..layout.len() {
+            let mut moved = layout.clone();
+            moved[piece] = to[piece];
+            let given = Weighted {
+                layout: &entries(&layout),
+                weights: &wide,
+            };
+            let [turn, x, y] = entries(&to)[piece];
+            let figures = calls::preview(&job.lent(), given, Move { piece, turn, x, y });
+            let figures = figures.expect("both placements are right");
+            assert_eq!(figures.sum, problem.sum(&moved, &weights, |_, _| true));
+            assert_eq!(figures.length as i32, problem.used_length(&moved));
+        }
     }
 }
 

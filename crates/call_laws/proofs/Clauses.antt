@@ -11,7 +11,7 @@ use Rattle.model.specs.LayoutText.{readLayout}
 use Rattle.model.specs.Program.{refusalText, printed, programText, inputBound, programCall}
 use Rattle.model.specs.Calls.{leaving, stretchNumber, stripsCall, stretchCall, noFitCall, rebuildCall, pairCauses, shareCall, depthCall, penaltyCall}
 use Rattle.model.specs.Calls.{weightedSumCall, layoutCauses, plainSumCall, usedLengthCall, searchCall, descentCall, guidedCall, startCall, writeLayoutCall}
-use Rattle.model.specs.Calls.{readLayoutCall, checkCall, freshCall, sheetCauses, layCall, withdrawCall, cutLinesCall, cutStepCall, lineStepCall}
+use Rattle.model.specs.Calls.{previewCall, readLayoutCall, checkCall, freshCall, sheetCauses, layCall, withdrawCall, cutLinesCall, cutStepCall, lineStepCall}
 use Rattle.model.specs.declared.Refusal.{Refusal}
 use Rattle.call_laws.specs.Clause.{CallClaims, BufferClaims, Answers}
 use Rattle.call_laws.specs.Clauses.{CallClauses}
@@ -83,7 +83,7 @@ program-clause input = program-test input (ltb inputBound (length input))
 -- every public call keeps its clause
 pub call-clauses : CallClauses
 unfolding stripsCall stretchCall noFitCall rebuildCall pairCauses shareCall depthCall penaltyCall weightedSumCall layoutCauses
-    plainSumCall usedLengthCall searchCall descentCall guidedCall startCall writeLayoutCall checkCall freshCall sheetCauses
+    plainSumCall usedLengthCall previewCall searchCall descentCall guidedCall startCall writeLayoutCall checkCall freshCall sheetCauses
     layCall layCauses withdrawCall withdrawCauses programCall cutLinesCall cutStepCall lineStepCall
 call-clauses =
     record {
@@ -106,6 +106,7 @@ call-clauses =
       weightedSumAnswer = λ l es ws. unless-claims _ _;
       plainSumAnswer = λ l es. unless-claims _ _;
       usedLengthAnswer = λ l es. unless-claims _ _;
+      preview = λ l es ws i p. unless-claims _ _;
       lineSearch = λ l es ws i t line. unless-claims _ _;
       descent = λ l es ws budget. unless-claims _ _;
       descentLayout = λ l es ws budget. leaving-claims _ es _;

@@ -5,7 +5,7 @@
 use Rattle.list_laws.proofs.Kit.{_≡_, Bool, true, _↔_, _≢_, List, map, _*_, _<_, _≤_, ℕ, eqb, length, take, ℤ}
 use Rattle.model.specs.Piece.{Shape, onLine}
 use Rattle.model.specs.Overlap.{OffsetRun}
-use Rattle.model.specs.Layout.{Layout, Pair, inside, turnedPiece, shapeIn, cornerIn, unitWeights}
+use Rattle.model.specs.Layout.{Layout, Pair, allowed, inside, placeOf, withPlace, figures, turnedPiece, shapeIn, cornerIn, unitWeights}
 use Rattle.model.specs.Buffer.{layoutOf, stripEntry}
 use Rattle.model.specs.Search.{Best, places}
 use Rattle.model.specs.Descent.{Descent, trials}
@@ -19,9 +19,10 @@ use Rattle.model.specs.Program.{inputBound, refusalText, programText}
 use Rattle.model.specs.Calls.{Stores, stripsCall, storesAfter, stretchWell, usedLengthCall, descentAfter, bestAfterRun, weightsAfterRun, stretchCall}
 use Rattle.model.specs.Calls.{stretchGiven, stretchNumber, LentStretch, noFitCall, stripsWell, rebuildCall, shareCall, depthCall, penaltyCall, weightedSumCall}
 use Rattle.model.specs.Calls.{plainSumCall, searchCall, descentCall, guidedCall, writeLayoutCall, readLayoutCall, startCall, checkCall, freshCall, layCall}
-use Rattle.model.specs.Calls.{withdrawCall, cutLinesCall, linesAfter, cutStepCall, lineStepCall}
+use Rattle.model.specs.Calls.{withdrawCall, previewCall, cutLinesCall, linesAfter, cutStepCall, lineStepCall}
 use Rattle.model.specs.Cut.{CutLine, cutLines}
 use Rattle.model.specs.declared.CutStep.{CutStep}
+use Rattle.model.specs.declared.Figures.{Figures}
 use Rattle.model.specs.declared.Turn.{Turn}
 use Rattle.model.specs.declared.Direction.{Direction}
 use Rattle.model.specs.declared.Line.{Line}
@@ -53,6 +54,8 @@ use Rattle.call_laws.proofs.Clauses.{call-clauses}
 use Rattle.call_laws.proofs.Texts.{start-given, layout-given, written-read-back}
 use Rattle.call_laws.specs.Lengths.{UsedClaims}
 use Rattle.call_laws.proofs.Lengths.{used-given}
+use Rattle.call_laws.specs.Previews.{PreviewClaims}
+use Rattle.call_laws.proofs.Previews.{preview-given, preview-gives, preview-at-rest}
 use Rattle.call_laws.specs.Cuts.{CutListClaims}
 use Rattle.cut_laws.specs.Exact.{StepExact}
 use Rattle.call_laws.proofs.Cuts.{cut-given, step-given, same-steps}
@@ -166,6 +169,17 @@ pub record Demand3Calls : Type 0 where
       → SumClaims (jobOf l) ws (layoutOf es) n
   pub plainSums : (l : Lent) (es : List (List ℕ)) (n : ℕ) → plainSumCall l es ≡ given n
       → SumClaims (jobOf l) (unitWeights (jobOf l .size .count)) (layoutOf es) n
+  -- the figures of a preview are those of the moved layout, which the calls give once the move is made
+  pub previews : (l : Lent) (es : List (List ℕ)) (ws : List ℕ) (i : ℕ) (p : Placement) (f : Figures) → previewCall l es ws i p ≡ given f
+      → PreviewClaims l es ws i p f
+  -- they are given wherever the sum of the layout is and the new placement is inside in a turn allowed to the piece
+  pub previewsGiven : (l : Lent) (es : List (List ℕ)) (ws : List ℕ) (i : ℕ) (p : Placement) (sum : ℕ) → weightedSumCall l es ws ≡ given sum
+      → i < l .size .count → allowed (jobOf l) i (p .turn) ≡ true → inside (jobOf l) i p ≡ true
+      → previewCall l es ws i p ≡ given (figures (jobOf l) ws (withPlace (layoutOf es) i p))
+  -- and with the piece's own placement they are the present ones
+  pub previewsAtRest : (l : Lent) (es : List (List ℕ)) (ws : List ℕ) (i sum used : ℕ) → weightedSumCall l es ws ≡ given sum
+      → usedLengthCall l es ≡ given used → i < l .size .count
+      → previewCall l es ws i (placeOf (layoutOf es) i) ≡ given (record { sum = sum; length = used })
   -- a line search finds the least sum over every inside corner on the line, and the smallest coordinate that has it
   pub searches : (l : Lent) (es : List (List ℕ)) (ws : List ℕ) (i : ℕ) (t : Turn) (line : Line) (b : Best)
       → searchCall l es ws i t line ≡ given b → LeastFound (jobOf l) ws (layoutOf es) i t line b
@@ -244,6 +258,9 @@ demand3-calls =
     record {
       weightedSums = weighted-given;
       plainSums = plain-given;
+      previews = preview-given;
+      previewsGiven = preview-gives;
+      previewsAtRest = preview-at-rest;
       searches = search-given;
       emptyLines = λ l. empty-line-exactly (jobOf l);
       trialsListed = λ l. trials-claims (jobOf l);

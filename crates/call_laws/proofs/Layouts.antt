@@ -3,17 +3,19 @@
 -- placement. Assumes nothing.
 use Rattle.list_laws.proofs.Kit.{_∙_, _≡_, ap, refl, Bool, false, false≢true, not, true, true≢false, Option, none, some, List, [], _∷_, _<_, suc, zero, ℕ}
 use Rattle.list_laws.proofs.Kit.{le-of-suc-le-suc, not-suc-le-zero, arith, leb, List·getD-map, getD, length, length-map, eqb-true, le-leb, leb-true}
-use Rattle.list_laws.proofs.Kit.{not-false}
+use Rattle.list_laws.proofs.Kit.{not-false, _||_, ltb, ltb-true, lt-ltb}
 use Rattle.model.specs.Piece.{degrees}
 use Rattle.model.specs.Layout.{Job, Layout, allowed, inside, placeOf, pairs}
 use Rattle.model.specs.Buffer.{turnOfDegrees, turnPasses, turnOf, entryOf, placementOf, entriesOf, layoutOf}
 use Rattle.model.specs.Guided.{weightBound}
 use Rattle.model.specs.Lent.{Lent, jobOf, lentWell, upTo}
 use Rattle.model.specs.Calls.{allowedDegrees, someTurnWrong, someOutside, someWeightWrong, jobCause, layoutLength, turnsCause, outsideCause, weightsLength}
+use Rattle.model.specs.Calls.{placingCauses}
 use Rattle.model.specs.declared.Turn.{Turn}
 use Rattle.model.specs.declared.Turn.the-variants.{Zero, Quarter, Half, ThreeQuarters}
-use Rattle.list_laws.proofs.Tests.{and-left, and-right, and-both}
+use Rattle.list_laws.proofs.Tests.{and-left, and-right, and-both, or-neither}
 use Rattle.list_laws.proofs.Bounded.{any-none, none-any}
+use Rattle.text_laws.specs.Outcomes.{NoCause}
 use Rattle.text_laws.proofs.Entries.{entries-read-back}
 use Rattle.descent_laws.specs.Claims.{InRange, ValidWeights, ValidLayout}
 
@@ -130,3 +132,40 @@ layout-valid l es size turns outside = buffer-valid (jobOf l) es (eqb-true (leng
 pub lent-weights-valid : (l : Lent) (ws : List ℕ) → weightsLength l ws .there ≡ false → someWeightWrong ws ≡ false → ValidWeights (jobOf l) ws
 unfolding jobOf
 lent-weights-valid l ws size e = weights-valid (jobOf l) ws (eqb-true (length ws) (length (pairs (l .size .count))) (not-false _ size)) e
+
+-- ── a piece placed in a turn ──
+
+-- what is known of a call that would place piece i in the turn
+pub record PlacingGiven (l : Lent) (es : List (List ℕ)) (ws : List ℕ) (i : ℕ) (t : Turn) : Type 0 where
+  -- of the job, the layout and the weights as they are lent
+  pub job : jobCause l .there ≡ false
+  pub size : layoutLength l es .there ≡ false
+  pub weightsSize : weightsLength l ws .there ≡ false
+  pub weightsRight : someWeightWrong ws ≡ false
+  pub turns : someTurnWrong (jobOf l) es ≡ false
+  pub outside : someOutside (jobOf l) (layoutOf es) ≡ false
+  -- of the piece and its turn
+  pub piece : i < l .size .count
+  pub turn : allowed (jobOf l) i t ≡ true
+
+-- where none of its causes is there
+pub placing-given : (l : Lent) (es : List (List ℕ)) (ws : List ℕ) (i : ℕ) (t : Turn) → NoCause (placingCauses l es ws i t) → PlacingGiven l es ws i t
+placing-given l es ws i t h =
+    let piece = or-neither (someTurnWrong (jobOf l) es || not (ltb i (l .size .count))) (not (allowed (jobOf l) i t)) (h .1 .1 .1 .1 .0) in
+    let turns = or-neither (someTurnWrong (jobOf l) es) (not (ltb i (l .size .count))) (piece .0) in
+    record {
+      job = h .0;
+      size = h .1 .0;
+      weightsSize = h .1 .1 .0;
+      weightsRight = h .1 .1 .1 .0;
+      turns = turns .0;
+      outside = h .1 .1 .1 .1 .1 .0;
+      piece = ltb-true i (l .size .count) (not-false _ (turns .1));
+      turn = not-false _ (piece .1);
+    }
+
+-- and none is there where this is known
+pub placing-free : (l : Lent) (es : List (List ℕ)) (ws : List ℕ) (i : ℕ) (t : Turn) → PlacingGiven l es ws i t → NoCause (placingCauses l es ws i t)
+placing-free l es ws i t g =
+    let here = lt-ltb i (l .size .count) (g .piece) in
+    (g .job, (g .size, (g .weightsSize, (g .weightsRight, (rw (g .turns, here, g .turn), (g .outside, tt))))))

@@ -12,6 +12,7 @@ pub mod Checks
 pub mod Texts
 pub mod Sheets
 pub mod Lengths
+pub mod Previews
 pub mod Cuts
 pub mod Reading
 pub mod Programs

@@ -26,7 +26,7 @@ use Rattle.model.specs.Calls.{someTurnWrong, someOutside, someWeightWrong, turn
 use Rattle.model.specs.Calls.{stretchOf, stretchCall, stretchGiven, stretchNumber, LentStretch, known, stretchWell, noFitOf, noFitCall, runsAfter}
 use Rattle.model.specs.Calls.{rebuiltFrom, stripsWell, rebuildCall, pixelsAfter, shareCall, depthCall, penaltyCall, weightedSumCall, plainSumCall}
 use Rattle.model.specs.Calls.{usedLengthCall, bestPlace, searchCall, budgetBound, roundBound, descentCall, descentAfter, guidedCall, bestAfterRun}
-use Rattle.model.specs.Calls.{weightsAfterRun}
+use Rattle.model.specs.Calls.{weightsAfterRun, previewCall}
 use Rattle.model.specs.Calls.{tableAfter, storeAfter, layoutAfter, writeLayoutCall, textAfter, readLayoutCall, startCall, sharedCause, checkCall}
 use Rattle.model.specs.Calls.{freshCall, countsAfter, layCall, withdrawCall, cutLinesCall, linesAfter, cutStepCall, lineStepCall}
 use Rattle.model.specs.Cut.{cutLines, stepAt, stepIn, pitchBound, lineEntry, entryLine}
@@ -35,7 +35,7 @@ use Rattle.model.specs.declared.Direction.{Direction}
 use Rattle.model.specs.declared.Line.{Line}
 use Rattle.model.specs.declared.Placement.{Placement}
 use Rattle.model.specs.declared.Refusal.{Refusal}
-use Rattle.model.specs.Layout.{pairOf}
+use Rattle.model.specs.Layout.{pairOf, withPlace, figures}
 use Rattle.call_laws.specs.Clause.{CallClaims, BufferClaims, Answers}
 
 -- one clause a public call, in document 01's order, the program last
@@ -158,6 +158,17 @@ pub record CallClauses : Type 0 where
       ∷ cause noSuchPiece (someTurnWrong (jobOf l) es)
       ∷ cause outsideSheet (someOutside (jobOf l) (layoutOf es)) ∷ [])
       (usedLength (jobOf l) (layoutOf es)) (usedLengthCall l es)
+  -- preview of a move: 8, 7 the layout, 7 the weights, 2, 9, 10, 10 the new placement
+  pub preview : (l : Lent) (es : List (List ℕ)) (ws : List ℕ) (i : ℕ) (p : Placement)
+      → CallClaims
+      (cause notOurs (not (lentWell l))
+      ∷ cause wrongLength (not (eqb (length es) (l .size .count)))
+      ∷ cause wrongLength (not (eqb (length ws) (length (pairs (l .size .count)))))
+      ∷ cause outOfRange (someWeightWrong ws)
+      ∷ cause noSuchPiece (someTurnWrong (jobOf l) es || not (ltb i (l .size .count)) || not (allowed (jobOf l) i (p .turn)))
+      ∷ cause outsideSheet (someOutside (jobOf l) (layoutOf es))
+      ∷ cause outsideSheet (not (inside (jobOf l) i p)) ∷ [])
+      (figures (jobOf l) ws (withPlace (layoutOf es) i p)) (previewCall l es ws i p)
   -- ── line search, descent, guided run ──
   -- line search: 8, 7 the layout, 7 the weights, 2, 9, 10, 11
   pub lineSearch : (l : Lent) (es : List (List ℕ)) (ws : List ℕ) (i : ℕ) (t : Turn) (line : Line)

@@ -6,6 +6,7 @@ pub mod Rebuilding
 pub mod Overlaps
 pub mod Checks
 pub mod Lengths
+pub mod Previews
 pub mod Cuts
 pub mod Reading
 pub mod Programs

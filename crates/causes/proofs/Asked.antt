@@ -1,18 +1,25 @@
 -- Causes that are not there drop out of a call's list, and where the job is refused for its numbers nothing behind it is asked: so what
 -- is asked here comes to what document 01 lists for each call. Assumes nothing.
-use Rattle.list_laws.proofs.Kit.{_∙_, _≡_, ap, refl, sym, Bool, _||_, false, not, true, List, [], _∷_, _≤_, ℕ, eqb, length}
-use Rattle.model.specs.Layout.{pairs}
+use Rattle.list_laws.proofs.Kit.{_∙_, _≡_, ap, refl, sym, Bool, _&&_, _||_, false, not, true, List, [], _∷_, _≤_, ℕ, eqb, ltb, length}
+use Rattle.model.specs.Layout.{pairs, allowed}
 use Rattle.model.specs.Refusal.{Cause, cause, unless, outOfRange, wrongLength, notOurs, noSuchPiece}
 use Rattle.model.specs.Lent.{Lent, jobOf, lentWell, pieceBound}
-use Rattle.model.specs.Calls.{someTurnWrong, someWeightWrong, jobCause, layoutLength, weightsLength, outsideCause, layoutCauses}
+use Rattle.model.specs.Calls.{someTurnWrong, someWeightWrong, jobCause, layoutLength, weightsLength, outsideCause, layoutCauses, placingCauses}
 use Rattle.job_laws.proofs.Checked.{facts}
 use Rattle.text_laws.proofs.Causes.{here-refused, not-there, behind}
+use Rattle.model.specs.declared.Turn.{Turn}
 use Rattle.causes.specs.Asked.{placeCauses, callCauses, weightedCauses}
 
 -- a test or nothing
 pub or-nothing : (b : Bool) → (b || false) ≡ b
 or-nothing true = refl
 or-nothing false = refl
+
+-- a piece is not known for one of two reasons
+either-unknown : (b x y : Bool) → (b || not (x && y)) ≡ ((b || not x) || not y)
+either-unknown true x y = refl
+either-unknown false true y = refl
+either-unknown false false y = refl
 
 -- the causes of a call on weights, by whether a number (2) and a piece or a turn (9) is wrong
 abbrev pub weighed : Lent → List (List ℕ) → List ℕ → Bool → Bool → List Cause
@@ -46,6 +53,15 @@ module _ {A : Type 0} (l : Lent) (es : List (List ℕ)) (a : A) where
       → unless (weightedCauses l es ws false false) a
       ≡ unless (weighed l es ws (someWeightWrong ws) (someTurnWrong (jobOf l) es)) a
   sum-asked ws = run-asked ws false ∙ ap (λ b. unless (weighed l es ws b (someTurnWrong (jobOf l) es)) a) (or-nothing (someWeightWrong ws))
+
+  -- a call that would place a piece in a turn
+  pub placing-asked : (ws : List ℕ) (i : ℕ) (t : Turn)
+      → unless (weightedCauses l es ws false (not (ltb i (l .size .count) && allowed (jobOf l) i t))) a ≡ unless (placingCauses l es ws i t) a
+  placing-asked ws i t =
+      let wrong = someTurnWrong (jobOf l) es || not (ltb i (l .size .count) && allowed (jobOf l) i t) in
+      ap (λ b. unless (weighed l es ws b wrong) a) (or-nothing (someWeightWrong ws))
+      ∙ ap (λ b. unless (weighed l es ws (someWeightWrong ws) b) a)
+      (either-unknown (someTurnWrong (jobOf l) es) (ltb i (l .size .count)) (allowed (jobOf l) i t))
 
   -- the length of the weights is asked behind the job
   pub weights-asked : (ws : List ℕ) (missing : Bool) (rest : List Cause)

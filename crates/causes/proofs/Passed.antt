@@ -1,14 +1,16 @@
 -- What the causes leave where none is there: a job that passes its check, a layout buffer that holds a valid layout, valid weights, and
 -- nothing wrong of the call's own. Assumes nothing.
-use Rattle.list_laws.proofs.Kit.{_≡_, Bool, false, List, _≤_, ℕ, eqb, length, eqb-true, not-false}
+use Rattle.list_laws.proofs.Kit.{_≡_, Bool, false, true, List, _<_, _≤_, ℕ, eqb, length, eqb-true, not-false}
+use Rattle.model.specs.Layout.{allowed}
 use Rattle.model.specs.Lent.{Lent, jobOf}
-use Rattle.model.specs.Calls.{someTurnWrong, someWeightWrong, jobCause, layoutLength, turnsCause, outsideCause, layoutCauses}
+use Rattle.model.specs.Calls.{someTurnWrong, someWeightWrong, jobCause, layoutLength, turnsCause, outsideCause, layoutCauses, placingCauses}
 use Rattle.list_laws.proofs.Tests.{or-neither}
 use Rattle.job_laws.proofs.Checked.{facts}
 use Rattle.text_laws.specs.Outcomes.{NoCause}
 use Rattle.descent_laws.specs.Claims.{ValidWeights}
 use Rattle.descent_laws.specs.LentLayout.{Laid}
-use Rattle.call_laws.proofs.Layouts.{job-well, layout-valid, lent-weights-valid}
+use Rattle.call_laws.proofs.Layouts.{job-well, layout-valid, lent-weights-valid, placing-given}
+use Rattle.model.specs.declared.Turn.{Turn}
 use Rattle.causes.specs.Asked.{weightedCauses}
 
 -- none of the four causes of a layout is there
@@ -48,4 +50,22 @@ weighted-passed l es ws number piece h =
       weights = lent-weights-valid l ws (h .1 .1 .0) (numbers .0);
       rightNumber = numbers .1;
       rightPiece = pieces .1;
+    }
+
+-- what holds of a call that would place a piece in a turn
+pub record Placeable (l : Lent) (es : List (List ℕ)) (ws : List ℕ) (i : ℕ) (t : Turn) : Type 0 where
+  pub laid : Laid l es
+  pub weights : ValidWeights (jobOf l) ws
+  pub piece : i < l .size .count
+  pub turn : allowed (jobOf l) i t ≡ true
+
+-- where none of its causes is there
+pub placing-passed : (l : Lent) (es : List (List ℕ)) (ws : List ℕ) (i : ℕ) (t : Turn) → NoCause (placingCauses l es ws i t) → Placeable l es ws i t
+placing-passed l es ws i t h =
+    let g = placing-given l es ws i t h in
+    record {
+      laid = laid-by l es (g .job) (g .size) (g .turns) (g .outside);
+      weights = lent-weights-valid l ws (g .weightsSize) (g .weightsRight);
+      piece = g .piece;
+      turn = g .turn;
     }

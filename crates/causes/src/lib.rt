@@ -3,6 +3,7 @@
 // over; which cause wins is decided here.
 use layout_places::allowed_degrees;
 use layout_places::inside;
+use layout_places::known;
 use layout_places::numbers::pair_count;
 use layout_places::place_at;
 use model::DoneAnswer;
@@ -10,6 +11,7 @@ use model::JobSize;
 use model::PIECE_BOUND;
 use model::PieceEntry;
 use model::PlaceEntry;
+use model::Turn;
 use model::WEIGHT_BOUND;
 use model::refused;
 ghost use mathlib.Core.Path.{_≡_};
@@ -22,7 +24,7 @@ ghost use Rattle.model.specs.Answers.{firstCause};
 ghost use Rattle.model.specs.Layout.{pairs};
 ghost use Rattle.model.specs.Lent.{lentBy, jobOf, pieceBound};
 ghost use Rattle.model.specs.Buffer.{layoutOf};
-ghost use Rattle.model.specs.Calls.{someTurnWrong, someOutside, someWeightWrong, layoutCauses};
+ghost use Rattle.model.specs.Calls.{someTurnWrong, someOutside, someWeightWrong, layoutCauses, placingCauses};
 ghost use Rattle.causes.specs.Asked.{placeCauses, callCauses, weightedCauses};
 
 // What a call's own tests found wrong, beside the job and the layout: a buffer's length (7), a number's range (2), a piece or its turn (9).
@@ -182,4 +184,21 @@ pub fn weighted_causes(
         piece: piece,
     };
     call_causes(size, table, pixels, layout, wrong)
+}
+
+// The causes of a call that would place a piece in a turn: 8, 7 the layout and the weights, 2, 9, also where there is no such piece or the
+// turn is not allowed to it, and 10 of the layout.
+pub fn placing_causes(
+    size: JobSize,
+    table: &[PieceEntry],
+    pixels: &[u8],
+    layout: &[PlaceEntry],
+    weights: &[u32],
+    piece: usize,
+    turn: Turn,
+) -> DoneAnswer
+    ensures { λ r. ⌜ r ≡ firstCause (placingCauses (lentBy size (now (table .entry)) (now (pixels .entry))) (now (layout .entry)) (now (weights .entry)) piece turn) ⌝ }
+{
+    let wrong = !known(size, table, piece, turn);
+    weighted_causes(size, table, pixels, layout, weights, false, wrong)
 }

@@ -41,7 +41,7 @@ fn right_end(table: &[PieceEntry], layout: &[PlaceEntry], i: usize) -> usize
 }
 
 // The used length of a layout: the largest right end less the smallest corner x.
-fn length_between_ends(size: JobSize, table: &[PieceEntry], layout: &[PlaceEntry]) -> usize
+pub fn length_between_ends(size: JobSize, table: &[PieceEntry], layout: &[PlaceEntry]) -> usize
     requires { ⌜ (0 < size .count) × (size .count ≤ length (now table)) × (length (now layout) ≡ size .count) ⌝ }
     ensures { λ r. ⌜ ((pixels : List ℕ) → r ≡ usedLength (jobOf (lentBy size (now (table .entry)) pixels)) (layoutOf (now (layout .entry)))) ⌝ }
 {

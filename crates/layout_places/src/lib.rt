@@ -115,6 +115,18 @@ pub fn entry_of(place: Placement) -> PlaceEntry
     [degrees_of(turn), place.x.0, place.y.0]
 }
 
+// Copies a layout buffer.
+pub fn copy(from: &[PlaceEntry], to: &mut [PlaceEntry])
+    requires { ⌜ length (now to) ≡ length (now from) ⌝ }
+    ensures { λ r. ⌜ now (to .exit) ≡ now (from .entry) ⌝ }
+{
+    let mut k = 0;
+    while k < from.len() {
+        to[k] = from[k];
+        k += 1;
+    }
+}
+
 // The box of piece i, turned, with its corner at column x and row y, lies in the sheet.
 pub fn inside_at(
     size: JobSize,

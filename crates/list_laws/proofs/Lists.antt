@@ -1,6 +1,7 @@
 -- Lists: what is an element, lists with no element, maps and repeats. Assumes nothing.
-use Rattle.list_laws.proofs.Kit.{_≡_, ap, refl, sym, List, List·Memᴰ, List·Memᴰ·head, List·Memᴰ·not-nil, List·Memᴰ·tail, [], _++_, _∷_, map, _<_, _≤_}
-use Rattle.list_laws.proofs.Kit.{suc, zero, ℕ, le-of-suc-le-suc, not-suc-le-zero, arith, getD, length, replicate, set, take, length-take-le}
+use Rattle.list_laws.proofs.Kit.{_∙_, _≡_, ap, refl, sym, List, List·Memᴰ, List·Memᴰ·head, List·Memᴰ·not-nil, List·Memᴰ·tail, [], _++_, _∷_, map}
+use Rattle.list_laws.proofs.Kit.{_<_, _≤_, suc, zero, ℕ, le-of-suc-le-suc, not-suc-le-zero, arith, getD, length, length-append, length-replicate}
+use Rattle.list_laws.proofs.Kit.{replicate, set, take, length-take-le, take-at}
 
 -- the element at a place is in the list
 pub member-at : {A : Type 0} (l : List A) (i : ℕ) (z : A) → i < length l → List·Memᴰ (getD l i z) l
@@ -62,6 +63,16 @@ map-set f [] i a = refl
 map-set f (x ∷ l) zero a = refl
 map-set {B = B} f (x ∷ l) (suc i) a = ap (λ (z : List B). f x ∷ z) (map-set f l i a)
 
+-- a front that was written anew holds what was written
+pub written-front : {A : Type 0} (n : ℕ) (written rest target : List A) → written ≡ target → length target ≡ n → take n (written ++ rest) ≡ target
+written-front n written rest target e l = take-at written rest n (ap length e ∙ l) ∙ e
+
+-- and the whole is long enough for it
+pub written-room : {A : Type 0} (n : ℕ) (written rest target : List A) → written ≡ target → length target ≡ n → n ≤ length (written ++ rest)
+written-room n written rest target e l =
+    let all = length-append written rest in
+    let same : length written ≡ length target = ap length e in omega arith
+
 -- a front is as long as asked
 pub front-length : {A : Type 0} (n : ℕ) (l : List A) → n ≤ length l → n ≡ length (take n l)
 front-length n l h = sym (length-take-le n l h)
@@ -71,3 +82,7 @@ pub take-repeat : {A : Type 0} (m n : ℕ) (a : A) → m ≤ n → take m (repli
 take-repeat zero n a h = refl
 take-repeat (suc m) zero a h = absurd (not-suc-le-zero h)
 take-repeat {A} (suc m) (suc n) a h = ap (λ (l : List A). a ∷ l) (take-repeat m n a (le-of-suc-le-suc h))
+
+-- so it is as long as asked
+pub repeated-front : {A : Type 0} (m n : ℕ) (a : A) → m ≤ n → length (take m (replicate n a)) ≡ m
+repeated-front m n a h = ap length (take-repeat m n a h) ∙ length-replicate m a

@@ -1,7 +1,8 @@
 -- Runs of stores, one after the other. Assumes nothing.
 use Rattle.list_laws.proofs.Kit.{_∙_, _≡_, ap, refl, sym, List, [], _++_, _∷_, append-assoc, append-nil, _+_, _<_, _≤_, suc, ℕ, add-suc, add-zero}
 use Rattle.list_laws.proofs.Kit.{suc-add, zero-add, arith, drop, drop-of-length-le, getD, length, length-drop, length-take, set, take}
-use Rattle.list_laws.proofs.Kit.{take-append-drop, drop-append-le, drop-at, drop-cons, sets, sets-eq, take-append-le, take-at}
+use Rattle.list_laws.proofs.Kit.{_-_, length-append, take-append-drop, drop-append-le, drop-at, drop-cons, drop-drop, sets, sets-eq}
+use Rattle.list_laws.proofs.Kit.{take-append-le, take-at}
 use Rattle.model.specs.Buffer.{filled}
 
 -- two runs, the second behind the first
@@ -59,3 +60,17 @@ module _ {A : Type 0} (store ts : List A) (at : ℕ) (room : at + length ts ≤ 
       ap (λ (l : List A). take (length ts) (drop at l)) in-three
       ∙ ap (take (length ts)) (drop-at (take at store) (ts ++ drop (at + length ts) store) at front-length)
       ∙ take-at ts (drop (at + length ts) store) (length ts) refl
+
+  -- what stands behind it is as before
+  pub part-after : (a n : ℕ) → at + length ts ≤ a → take n (drop a (sets store at ts)) ≡ take n (drop a store)
+  part-after a n h =
+      let end = at + length ts in
+      let more = a - end in
+      let far : end + more ≡ a = omega arith in
+      let front = take at store ++ ts in
+      let front-long : length front ≡ end = length-append (take at store) ts ∙ ap (λ (k : ℕ). k + length ts) front-length in
+      let behind : drop end (sets store at ts) ≡ drop end store =
+      ap (drop end) (sets-eq ts store at room) ∙ drop-at front (drop end store) end front-long in
+      ap (take n)
+      (ap (λ (k : ℕ). drop k (sets store at ts)) (sym far) ∙ sym (drop-drop more end (sets store at ts)) ∙ ap (drop more) behind
+      ∙ drop-drop more end store ∙ ap (λ (k : ℕ). drop k store) far)

@@ -1,5 +1,6 @@
--- Document 01, 'When a call says no', and document 02, point 2 (the cut list): what each public call gives and leaves in lent memory,
--- and its causes of refusal in their order. How a job or a layout is read line by line stands in JobText and LayoutText. Assumes nothing.
+-- Document 01, 'When a call says no', and document 02, points 2 (the cut list) and 3 (the preview of a move): what each public call gives
+-- and leaves in lent memory, and its causes of refusal in their order. How a job or a layout is read line by line stands in JobText and
+-- LayoutText. Assumes nothing.
 --
 -- The refusals of each call, in their order; places are 0 unless named. Refusal gives each number its name.
 --   read a job             by line (first place): 1, 2, then 3 (job line) or 6, 4 (piece line); 5 at a piece's last row;
@@ -13,6 +14,7 @@
 --   weighted sum           8, 7, 2, 9, 10                                                  weightedSumCall
 --   plain sum              8, 7, 9, 10                                                     plainSumCall
 --   used length            8, 7, 9, 10                                                     usedLengthCall
+--   preview of a move      8, 7, 2, 9, 10; 9 and 10 also of the new placement              previewCall
 --   line search            8, 7, 2, 9, 10, 11                                              searchCall
 --   descent, guided run    8, 7, 2, 9, 10                                                  descentCall, guidedCall
 --   start                  8, 7                                                            startCall
@@ -42,7 +44,7 @@ use Rattle.model.specs.Piece.{Shape, tight, sideBound}
 use Rattle.model.specs.Strip.{strips, rebuilt}
 use Rattle.model.specs.Overlap.{OffsetRun, noFit}
 use Rattle.model.specs.Layout.{Job, Layout, Pair, pairOf, pairs, turnedPiece, allowed, inside, placeOf, pairShares, pairPenalty, pairDepth, weightedSum}
-use Rattle.model.specs.Layout.{plainSum, usedLength, sharingPair}
+use Rattle.model.specs.Layout.{withPlace, plainSum, usedLength, figures, sharingPair}
 use Rattle.model.specs.Search.{Best, places, searchLine}
 use Rattle.model.specs.Descent.{Descent, descend}
 use Rattle.model.specs.Guided.{Guided, guide, weightBound}
@@ -61,6 +63,7 @@ use Rattle.model.specs.declared.Direction.{Direction}
 use Rattle.model.specs.declared.Direction.the-variants.{Horizontal, Vertical}
 use Rattle.model.specs.declared.Line.{Line}
 use Rattle.model.specs.declared.CutStep.{CutStep}
+use Rattle.model.specs.declared.Figures.{Figures}
 use Rattle.model.specs.declared.Placement.{Placement}
 
 -- what a lent buffer holds after a call: the given value's content, or on a refusal what it held before
@@ -288,7 +291,22 @@ plainSumCall l es = unless (layoutCauses l es) (plainSum (jobOf l) (layoutOf es)
 unfoldable pub usedLengthCall : Lent → List (List ℕ) → Outcome ℕ
 usedLengthCall l es = unless (layoutCauses l es) (usedLength (jobOf l) (layoutOf es))
 
--- ── line search, descent, guided run ──
+-- ── preview, line search, descent, guided run ──
+
+-- the causes of a call that would place piece i in the turn: 8, 7 the layout, 7 the weights, 2, 9, also where there is no such piece or the
+-- turn is not allowed to it, and 10 of the layout
+abbrev pub placingCauses : Lent → List (List ℕ) → List ℕ → ℕ → Turn → List Cause
+placingCauses l es ws i t =
+    jobCause l ∷ layoutLength l es ∷ weightsLength l ws ∷ weightsCause ws
+    ∷ cause noSuchPiece (someTurnWrong (jobOf l) es || not (ltb i (l .size .count)) || not (allowed (jobOf l) i t)) ∷ outsideCause l es ∷ []
+
+-- those of a preview: the ones of placing the piece in its new turn, then 10 where its new placement is outside
+abbrev pub previewCauses : Lent → List (List ℕ) → List ℕ → ℕ → Placement → List Cause
+previewCauses l es ws i p = placingCauses l es ws i (p .turn) ++ (cause outsideSheet (not (inside (jobOf l) i p)) ∷ [])
+
+-- the preview of a move: the figures of the layout with piece i placed at p
+unfoldable pub previewCall : Lent → List (List ℕ) → List ℕ → ℕ → Placement → Outcome Figures
+previewCall l es ws i p = unless (previewCauses l es ws i p) (figures (jobOf l) ws (withPlace (layoutOf es) i p))
 
 -- the best place, where there is one
 abbrev pub bestPlace : Option Best → Best
@@ -298,10 +316,7 @@ bestPlace (some b) = b
 -- the line search: 8, 7, 2, 9, 10, and 11 exactly where no inside corner lies on the line
 unfoldable pub searchCall : Lent → List (List ℕ) → List ℕ → ℕ → Turn → Line → Outcome Best
 searchCall l es ws i t line =
-    unless
-    (jobCause l ∷ layoutLength l es ∷ weightsLength l ws ∷ weightsCause ws
-    ∷ cause noSuchPiece (someTurnWrong (jobOf l) es || not (ltb i (l .size .count)) || not (allowed (jobOf l) i t))
-    ∷ outsideCause l es ∷ cause emptyLine (eqb (places (jobOf l) i t line) 0) ∷ [])
+    unless (placingCauses l es ws i t ++ (cause emptyLine (eqb (places (jobOf l) i t line) 0) ∷ []))
     (bestPlace (searchLine (jobOf l) ws (layoutOf es) i t line))
 
 -- the largest budget and round count

@@ -1,11 +1,11 @@
 -- Document 01, 'Sheet and panels' (inside), 'No-fit rows and penalty' (weights and sums) and the check of a layout; document 02,
--- point 1 (used length). Assumes nothing.
+-- points 1 (used length) and 3 (a piece placed anew, and what is shown of a layout). Assumes nothing.
 use mathlib.Core.Bool.{Bool, true, false, _&&_, _||_}
 use mathlib.Core.List.{List, [], _∷_, _++_}
 use Prim.Native.Nat.{ℕ, zero, suc, _+_, _-_, _*_, min, max}
 use mathlib.Core.Option.{Option, none, some}
 use lib.Dec.{leb, eqb}
-use lib.ListN.{length, getD, replicate}
+use lib.ListN.{length, getD, set, replicate}
 use Rattle.model.specs.Piece.{Point, Shape, Piece, turned, corner, allows}
 use Rattle.model.specs.Overlap.{share, penalty, depth}
 use Rattle.model.specs.declared.Turn.{Turn}
@@ -14,6 +14,7 @@ use Rattle.model.specs.declared.Direction.{Direction}
 use Rattle.model.specs.declared.Direction.the-variants.{Horizontal, Vertical}
 use Rattle.model.specs.declared.Placement.{Placement}
 use Rattle.model.specs.declared.JobSize.{JobSize}
+use Rattle.model.specs.declared.Figures.{Figures}
 
 -- a job: a sheet of so many rows (W) and columns (L), and so many pieces (n), numbered from 0
 pub record Job : Type 0 where
@@ -49,6 +50,10 @@ Layout = List Placement
 -- the placement of piece i
 abbrev pub placeOf : Layout → ℕ → Placement
 placeOf v i = getD v i origin
+
+-- the layout with piece i placed at p, every other piece as it is
+abbrev pub withPlace : Layout → ℕ → Placement → Layout
+withPlace v i p = set v i p
 
 -- the pixels of piece i as the layout turns it, and its corner
 abbrev pub shapeIn : Job → Layout → ℕ → Shape
@@ -146,6 +151,10 @@ leftmost v (suc n) = min (leftmost v n) (cornerIn v n .x)
 -- the used length: the largest right end less the smallest corner x
 unfoldable pub usedLength : Job → Layout → ℕ
 usedLength j v = rightmost j v (j .size .count) - leftmost v (j .size .count)
+
+-- what a preview shows of a layout by given weights: its weighted sum and its used length
+unfoldable pub figures : Job → List ℕ → Layout → Figures
+figures j ws v = record { sum = weightedSum j ws v; length = usedLength j v }
 
 -- the first pair of the list that passes
 unfoldable pub firstPair : (Pair → Bool) → List Pair → Option Pair

@@ -4,9 +4,8 @@ use mathlib.Core.List.{List}
 use mathlib.Core.Option.{Option, none, some}
 use Prim.Native.Nat.{ℕ, zero, suc, _+_, _-_}
 use lib.Dec.{leb, ltb}
-use lib.ListN.{set}
 use Rattle.model.specs.Piece.{extent, other, lineDirection, held, onLine}
-use Rattle.model.specs.Layout.{Job, Layout, sheetExtent, turnedPiece, pieceSum}
+use Rattle.model.specs.Layout.{Job, Layout, sheetExtent, turnedPiece, withPlace, pieceSum}
 use Rattle.model.specs.declared.Turn.{Turn}
 use Rattle.model.specs.declared.Line.{Line}
 
@@ -18,7 +17,7 @@ places j i t line =
 
 -- the layout with piece i in the turn at coordinate a on the line
 abbrev pub movedTo : Layout → ℕ → Turn → Line → ℕ → Layout
-movedTo v i t line a = set v i (onLine line t a)
+movedTo v i t line a = withPlace v i (onLine line t a)
 
 -- the piece's pair sum at coordinate a on the line
 unfoldable pub sumAt : Job → List ℕ → Layout → ℕ → Turn → Line → ℕ → ℕ

@@ -1,6 +1,6 @@
 -- Worked examples beside P1 to P12, one test that the checker computes: what the program prints for document 01's two examples, for
 -- a refused job and at the limit of its input, a start layout with pieces of equal length and a full stack, the used length of a layout
--- that leaves cloth on its left, and a piece of separate parts. Assumes nothing.
+-- that leaves cloth on its left, previews of a move, and a piece of separate parts. Assumes nothing.
 use mathlib.Core.Bool.{Bool, true, _&&_, _||_}
 use mathlib.Core.List.{List, [], _∷_, map}
 use mathlib.Core.Path.{_≡_, refl}
@@ -12,20 +12,22 @@ use Rattle.model.specs.Piece.{Shape, allows, tight}
 use Rattle.model.specs.Strip.{runsFrom, stripsFrom, strips}
 use Rattle.model.specs.Overlap.{share, apartAt, depth, penalty}
 use Rattle.model.specs.Layout.{Job, Layout, pairsWith, pairsFrom, pairShares, pairPenalty, sumOver, weightedSum, plainSum, pieceSum, unitWeights}
-use Rattle.model.specs.Layout.{rightmost, leftmost, usedLength, inside, placeOf}
+use Rattle.model.specs.Layout.{rightmost, leftmost, usedLength, figures, inside, placeOf}
 use Rattle.model.specs.Search.{places, sumAt, least, searchLine}
 use Rattle.model.specs.Descent.{turnTrials, pieceTrials, trialsFrom, trials, attempt, descendFrom, descend}
 use Rattle.model.specs.Guided.{raisedOver, raised, rounds, bestAfter, lastWeights, madeIn, movesIn, outcome, guide}
 use Rattle.model.specs.Start.{insert, fallingOrder, stackAll, start}
-use Rattle.model.specs.Refusal.{unless}
-use Rattle.model.specs.Lent.{jobOf, pixelStart}
+use Rattle.model.specs.Refusal.{Outcome, refused, given, unless}
+use Rattle.model.specs.Lent.{Lent, lentBy, jobOf, pixelStart, lentWell, entryInRange, entryFits, sheetInRange}
 use Rattle.model.specs.Buffer.{turnOfDegrees, turnOf, placement, stripEntry, sameNumbers, sameEntries}
 use Rattle.model.specs.Text.{bytes, comma, standsAt, digitsFrom, numberAt, fieldAt, fieldsAt, decimal, fieldsText}
 use Rattle.model.specs.JobText.{jobLine, pieceLine, markAt, marksAt, rowAt, rowsAt, pieceAt, piecesAt, readJob}
 use Rattle.model.specs.LayoutText.{placementsText, layoutText}
 use Rattle.model.specs.Program.{wordLine, endWord, runText, programRun, programText}
 use Rattle.model.specs.Cover.{coversPixel, mapFrom, fresh, lay, layCauses, laying, called, afterCalls}
+use Rattle.model.specs.Calls.{allowedDegrees, someTurnWrong, someOutside, someWeightWrong, previewCall}
 use Rattle.model.specs.TextExamples.{squares}
+use Rattle.model.specs.declared.Figures.{Figures}
 use Rattle.model.specs.declared.Direction.the-variants.{Horizontal, Vertical}
 
 -- a full box
@@ -102,6 +104,32 @@ atTheEdge = placement 0 2 0 ∷ placement 90 4 0 ∷ placement 270 0 2 ∷ []
 lengthsUsed : Bool
 lengthsUsed = sameNumbers (usedLength threeBars freeOnTheLeft ∷ usedLength threeBars atTheEdge ∷ []) (5 ∷ 5 ∷ [])
 
+-- ── the preview of a move ──
+
+-- three full 2 × 2 pieces, o = 1, lent for a sheet of 2 rows and 9 columns
+threeSquares : Lent
+threeSquares = lentBy (record { rows = 2; columns = 9; count = 3 }) (replicate 3 (2 ∷ 2 ∷ 1 ∷ [])) (replicate 12 1)
+
+-- what a preview tells: 0, the sum and the used length, or a refusal's number
+told : Outcome Figures → List ℕ
+told (refused r) = r .number ∷ []
+told (given f) = 0 ∷ f .sum ∷ f .length ∷ []
+
+-- the first two lie at columns 1 and 2, where they share one, the third at column a; by weights 3, 5 and 7, it is shown in the degrees at column x
+shown : ℕ → ℕ → ℕ → List ℕ
+shown a d x =
+    told (previewCall threeSquares ((0 ∷ 1 ∷ 0 ∷ []) ∷ (0 ∷ 2 ∷ 0 ∷ []) ∷ (0 ∷ a ∷ 0 ∷ []) ∷ []) (3 ∷ 5 ∷ 7 ∷ []) 2 (placement d x 0))
+
+-- from column 5: at 2 it lies on the second and shares a column with the first, at 3 one with the second, at 5 it stays, at 7 it is further off
+figuresShown : Bool
+figuresShown =
+    sameEntries (shown 5 0 2 ∷ shown 5 0 3 ∷ shown 5 0 5 ∷ shown 5 0 7 ∷ [])
+    ((0 ∷ 22 ∷ 3 ∷ []) ∷ (0 ∷ 10 ∷ 4 ∷ []) ∷ (0 ∷ 3 ∷ 6 ∷ []) ∷ (0 ∷ 3 ∷ 8 ∷ []) ∷ [])
+
+-- refused where it lies outside, where it would lie outside, and in a turn that is not allowed to it
+showsRefused : Bool
+showsRefused = sameEntries (shown 8 0 3 ∷ shown 5 0 8 ∷ shown 5 90 3 ∷ []) ((10 ∷ []) ∷ (10 ∷ []) ∷ (9 ∷ []) ∷ [])
+
 -- ── a piece of separate parts ──
 
 -- two pixels, (0, 0) and (2, 1), in a box of 3 columns and 2 rows; they do not touch, and column 1 has none
@@ -134,14 +162,16 @@ separateParts =
 
 -- all of them
 pub worked : Bool
-worked = printedText && inputLength && largestSum && weightsLeft && started && lengthsUsed && separateParts
+worked = printedText && inputLength && largestSum && weightsLeft && started && lengthsUsed && figuresShown && showsRefused && separateParts
 
 -- the worked examples hold of the definitions
 pub worked-hold : worked ≡ true
-unfolding worked printedText inputLength largestSum weightsLeft started lengthsUsed threeBars freeOnTheLeft atTheEdge separateParts parts beside partsAndPixel sameEntries turnOfDegrees turnOf runsFrom
-    stripsFrom coversPixel mapFrom fresh lay layCauses called afterCalls corners twoSquares fourBoxes full wordLine runText programRun programText sameNumbers
-    share apartAt depth penalty pairsWith pairsFrom pairShares pairPenalty sumOver weightedSum plainSum pieceSum unitWeights rightmost leftmost usedLength places sumAt
-    least searchLine turnTrials pieceTrials trialsFrom trials attempt descendFrom descend raisedOver raised rounds bestAfter lastWeights madeIn movesIn outcome
-    guide insert fallingOrder stackAll start allows tight inside unless jobOf pixelStart standsAt digitsFrom numberAt fieldAt fieldsAt decimal fieldsText
-    jobLine pieceLine markAt marksAt rowAt rowsAt pieceAt piecesAt readJob placementsText layoutText
+unfolding worked printedText inputLength largestSum weightsLeft started lengthsUsed threeBars freeOnTheLeft atTheEdge figuresShown showsRefused shown
+    told threeSquares separateParts parts beside partsAndPixel sameEntries turnOfDegrees turnOf runsFrom stripsFrom coversPixel mapFrom fresh lay
+    layCauses called afterCalls corners twoSquares fourBoxes full wordLine runText programRun programText sameNumbers share apartAt depth penalty
+    pairsWith pairsFrom pairShares pairPenalty sumOver weightedSum plainSum pieceSum unitWeights rightmost leftmost usedLength figures previewCall
+    lentWell entryInRange entryFits sheetInRange allowedDegrees someTurnWrong someOutside someWeightWrong places sumAt least searchLine turnTrials
+    pieceTrials trialsFrom trials attempt descendFrom descend raisedOver raised rounds bestAfter lastWeights madeIn movesIn outcome guide insert
+    fallingOrder stackAll start allows tight inside unless jobOf pixelStart standsAt digitsFrom numberAt fieldAt fieldsAt decimal fieldsText jobLine
+    pieceLine markAt marksAt rowAt rowsAt pieceAt piecesAt readJob placementsText layoutText
 worked-hold = refl

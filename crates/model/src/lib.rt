@@ -124,6 +124,12 @@ pub enum NumberAnswer {
     Refused(Refusal),
 }
 
+// What a preview shows of a layout: its weighted sum and its used length.
+pub struct Figures {
+    pub sum: u64,
+    pub length: u64,
+}
+
 // A step of the knife, its point in millimetres: lift to (x, y), cut to (x, y), or done.
 pub enum CutStep {
     Lift(f64, f64),

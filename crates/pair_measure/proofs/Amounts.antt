@@ -39,7 +39,7 @@ measured f j i p k q = f (turnedPiece j i (p .turn)) (corner p) (turnedPiece j k
 module _ (size : JobSize) (table : List (List ℕ)) (pixels : List ℕ) (i : ℕ) (p : Placement) (r : MeasureReady table i p) (k : ℕ) (q : Placement)
     (w : MeasureReady table k q) where
   -- the depth of two ready pieces is at most 255
-  ready-depth : (d : Direction) → measured (depth d) (jobOf (lentBy size table pixels)) i p k q ≤ 255
+  pub ready-depth : (d : Direction) → measured (depth d) (jobOf (lentBy size table pixels)) i p k q ≤ 255
   ready-depth d =
       depth-bound d _ (corner p) _ (corner q) (piece-extent size table pixels i (r .entry) (p .turn) d)
       (piece-extent size table pixels k (w .entry) (q .turn) d)

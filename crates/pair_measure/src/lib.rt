@@ -51,7 +51,7 @@ fn fill(
 }
 
 // A placement's corner as a direction sees it.
-fn corner_along(place: Placement, direction: Direction) -> Corner
+pub fn corner_along(place: Placement, direction: Direction) -> Corner
     ensures { λ r. ⌜ r ≡ seen direction (corner place) ⌝ }
 {
     let x = place.x.0 as u32;

@@ -9,7 +9,7 @@ use Rattle.list_laws.proofs.Numbers.{factor-positive}
 use Rattle.search_lines.proofs.Keeping.{none-kept}
 use Rattle.run_step.specs.Ready.{Store}
 use Rattle.run_memory.specs.Ready.{Slots}
-use Rattle.run_step.proofs.Moves.{layout-set}
+use Rattle.text_laws.proofs.Entries.{layout-set}
 
 -- ── slots ──
 

@@ -1,5 +1,6 @@
 // The memory of a run, of a descent alone or of the rounds of a guided run: strips, kept lines, the table of penalties and scratch. It is
 // local, and spread over nested functions, since it is too much for one.
+use layout_places::copy;
 use model::COLUMN_BOUND;
 use model::Direction;
 use model::JobSize;
@@ -10,7 +11,6 @@ use model::StripEntry;
 use run_descent::Ended;
 use run_descent::descend;
 use run_rounds::Tally;
-use run_rounds::copy;
 use run_rounds::rounds;
 use search_lines::slot_width;
 use search_shapes::STARTS_LENGTH;

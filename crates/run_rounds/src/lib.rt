@@ -1,5 +1,6 @@
 // The rounds of a guided run. Document 01, 'Descent and guidance': each round is a descent from where the one before it ended; the best
 // layout is the one with the least plain sum so far; weights are raised after each round that is not clear.
+use layout_places::copy;
 use model::End;
 use model::JobSize;
 use model::PieceEntry;
@@ -26,18 +27,6 @@ pub struct Tally {
     pub sum: u64,
     pub made: u64,
     pub moves: u64,
-}
-
-// Copies a layout buffer.
-pub fn copy(from: &[PlaceEntry], to: &mut [PlaceEntry])
-    requires { ⌜ length (now to) ≡ length (now from) ⌝ }
-    ensures { λ r. ⌜ now (to .exit) ≡ now (from .entry) ⌝ }
-{
-    let mut k = 0;
-    while k < from.len() {
-        to[k] = from[k];
-        k += 1;
-    }
 }
 
 // Takes a round's end for the best layout where its plain sum is smaller; gives the best layout's plain sum.

@@ -1,22 +1,16 @@
 -- A layout buffer with one entry written anew, and what the answers of a search and of a trial tell. Assumes nothing.
 use Rattle.list_laws.proofs.Kit.{_∙_, _≡_, ap, ap₂, refl, Option, none, some, List, _<_, ℕ, arith, set}
-use Rattle.model.specs.Buffer.{entryOf, placementOf, layoutOf, entriesOf}
+use Rattle.model.specs.Buffer.{entryOf, layoutOf, entriesOf}
 use Rattle.model.specs.Search.{Best}
 use Rattle.model.specs.declared.Placement.{Placement}
 use Rattle.list_laws.proofs.Lists.{map-set}
-use Rattle.text_laws.proofs.Entries.{entry-read-back}
+use Rattle.text_laws.proofs.Entries.{layout-set}
 use Rattle.search_laws.specs.BoundedSearch.{bestAt, belowBound}
 use Rattle.search_laws.proofs.BoundedSearch.{Lowest, bounded-is}
 use Rattle.search_line_sums.specs.Answers.{foundAnswer}
 use Rattle.search_line_sums.specs.declared.Found.{Found}
 use Rattle.run_step.specs.Steps.{triedAnswer}
 use Rattle.run_step.specs.declared.Tried.{Tried}
-
--- ── a buffer with one entry written anew ──
-
--- its layout has the placement
-pub layout-set : (es : List (List ℕ)) (i : ℕ) (p : Placement) → layoutOf (set es i (entryOf p)) ≡ set (layoutOf es) i p
-layout-set es i p = map-set placementOf es i (entryOf p) ∙ ap (set (layoutOf es) i) (entry-read-back p)
 
 -- a buffer that holds its layout as it is written still does
 pub written-set : (es : List (List ℕ)) (i : ℕ) (p : Placement) → entriesOf (layoutOf es) ≡ es

@@ -23,7 +23,8 @@ use Rattle.search_bounded.specs.Ready.{SearchReady}
 use Rattle.search_tracks.specs.declared.Mover.{Mover}
 use Rattle.run_step.specs.Ready.{LaidOut, Store}
 use Rattle.run_step.specs.Steps.{moverSearch, entriesAfter}
-use Rattle.run_step.proofs.Moves.{layout-set, written-set}
+use Rattle.text_laws.proofs.Entries.{layout-set}
+use Rattle.run_step.proofs.Moves.{written-set}
 
 -- ── before a trial ──
 

@@ -21,7 +21,7 @@ use Rattle.run_trials.specs.Trials.{trialAs}
 use Rattle.run_step.specs.Steps.{entriesAfter, standingAs, afterQuiet, afterMove}
 use Rattle.run_step.specs.declared.DescentState.{DescentState}
 use Rattle.run_trials.specs.declared.Trial.{Trial}
-use Rattle.run_step.proofs.Moves.{layout-set}
+use Rattle.text_laws.proofs.Entries.{layout-set}
 
 -- ── how large ──
 

@@ -1,61 +1,28 @@
--- The line search as a call: its causes, the strips and the store that it begins with, and its answer. Assumes nothing.
-use Rattle.list_laws.proofs.Kit.{_∙_, _≡_, ap, refl, sym, Bool, _&&_, _||_, false, not, true, Option, none, some, List, [], _∷_, _<_, _≤_, suc, zero, ℕ}
-use Rattle.list_laws.proofs.Kit.{arith, eqb, ltb, getD-replicate, length, length-map, length-replicate, replicate, ltb-true, ne-eqb, not-false}
-use Rattle.model.specs.Layout.{Job, Layout, allowed}
+-- The line search as a call: the strips and the store that it begins with, and its answer. Assumes nothing.
+use Rattle.list_laws.proofs.Kit.{_∙_, _≡_, ap, refl, sym, true, Option, none, some, List, [], _∷_, _<_, _≤_, suc, zero, ℕ}
+use Rattle.list_laws.proofs.Kit.{arith, eqb, getD-replicate, length, length-map, length-replicate, replicate, ne-eqb}
+use Rattle.model.specs.Layout.{Job, Layout}
 use Rattle.model.specs.Search.{Best, places, sumAt, least, searchLine}
 use Rattle.model.specs.Refusal.{cause, unless, emptyLine}
 use Rattle.model.specs.Lent.{Lent, jobOf, lentWell}
 use Rattle.model.specs.Buffer.{layoutOf, placementOf}
-use Rattle.model.specs.Calls.{someTurnWrong, someWeightWrong, bestPlace}
+use Rattle.model.specs.Calls.{bestPlace}
 use Rattle.model.specs.declared.Direction.{Direction}
 use Rattle.model.specs.declared.Line.{Line}
 use Rattle.model.specs.declared.Turn.{Turn}
-use Rattle.list_laws.proofs.Tests.{or-neither}
 use Rattle.job_laws.proofs.Checked.{facts}
-use Rattle.text_laws.specs.Outcomes.{NoCause}
 use Rattle.text_laws.proofs.Outcomes.{unless-given}
 use Rattle.descent_laws.specs.Claims.{ValidWeights}
 use Rattle.descent_laws.proofs.Search.{least-is}
 use Rattle.call_laws.proofs.Jobs.{lent-boxes-small}
-use Rattle.call_laws.proofs.Layouts.{lent-weights-valid}
 use Rattle.search_laws.specs.BoundedSearch.{belowBound}
 use Rattle.search_laws.proofs.LineSearch.{search-unbounded}
-use Rattle.causes.specs.Asked.{weightedCauses}
-use Rattle.causes.proofs.Asked.{or-nothing, weighed}
-use Rattle.causes.proofs.Passed.{laid-by}
 use Rattle.search_shapes.proofs.Jobs.{places-few}
 use Rattle.descent_laws.specs.LentLayout.{Laid}
 use Rattle.search_lines.specs.Kept.{LinesKept, Wide}
 use Rattle.search_lines.proofs.Keeping.{none-kept, twice-wide}
 use Rattle.search_line_sums.specs.Answers.{foundAnswer}
-use Rattle.search_calls.specs.Answers.{InReach, bestAnswer, searchAnswer, searchCauses}
-
--- ── causes ──
-
--- a piece is not known for one of two reasons
-either-unknown : (b x y : Bool) → (b || not (x && y)) ≡ ((b || not x) || not y)
-either-unknown true x y = refl
-either-unknown false true y = refl
-either-unknown false false y = refl
-
--- what is asked of the weights and of a piece that is not known comes to the search's causes
-pub search-asked : (l : Lent) (es : List (List ℕ)) (ws : List ℕ) (i : ℕ) (t : Turn)
-    → unless (weightedCauses l es ws false (not (ltb i (l .size .count) && allowed (jobOf l) i t))) (tt {0}) ≡ unless (searchCauses l es ws i t) (tt {0})
-search-asked l es ws i t =
-    let wrong = someTurnWrong (jobOf l) es || not (ltb i (l .size .count) && allowed (jobOf l) i t) in
-    ap (λ b. unless (weighed l es ws b wrong) (tt {0})) (or-nothing (someWeightWrong ws))
-    ∙ ap (λ b. unless (weighed l es ws (someWeightWrong ws) b) (tt {0}))
-    (either-unknown (someTurnWrong (jobOf l) es) (ltb i (l .size .count)) (allowed (jobOf l) i t))
-
--- what a search may assume where none of the causes is there
-pub search-ready : (l : Lent) (es : List (List ℕ)) (ws : List ℕ) (i : ℕ) (t : Turn) → NoCause (searchCauses l es ws i t)
-    → Laid l es × (ValidWeights (jobOf l) ws × (i < l .size .count))
-search-ready l es ws i t h =
-    let piece = or-neither (someTurnWrong (jobOf l) es || not (ltb i (l .size .count))) (not (allowed (jobOf l) i t)) (h .1 .1 .1 .1 .0) in
-    let turns = or-neither (someTurnWrong (jobOf l) es) (not (ltb i (l .size .count))) (piece .0) in (
-      laid-by l es (h .0) (h .1 .0) (turns .0) (h .1 .1 .1 .1 .1 .0),
-      (lent-weights-valid l ws (h .1 .1 .0) (h .1 .1 .1 .0), ltb-true i (l .size .count) (not-false _ (turns .1))),
-    )
+use Rattle.search_calls.specs.Answers.{InReach, bestAnswer, searchAnswer}
 
 -- ── the store ──
 

@@ -1,16 +1,9 @@
 -- The answers of this crate's calls, by the model's outcomes: a refusal keeps its number and places. Assumes nothing.
-use mathlib.Core.Bool.{not, _||_}
-use mathlib.Core.List.{List, [], _∷_}
-use Prim.Native.Nat.{ℕ, _≤_}
-use lib.Dec.{ltb}
+use Prim.Native.Nat.{_≤_}
 use Rattle.model.specs.Piece.{coordinateOn}
-use Rattle.model.specs.Layout.{allowed}
 use Rattle.model.specs.Search.{Best}
-use Rattle.model.specs.Lent.{Lent, jobOf}
-use Rattle.model.specs.Refusal.{Outcome, refused, given, Cause, cause, plainRefusal, noSuchPiece, emptyLine}
-use Rattle.model.specs.Calls.{someTurnWrong, jobCause, layoutLength, weightsLength, weightsCause, outsideCause}
+use Rattle.model.specs.Refusal.{Outcome, refused, given, plainRefusal, emptyLine}
 use Rattle.model.specs.declared.Line.{Line}
-use Rattle.model.specs.declared.Turn.{Turn}
 use Rattle.search_line_sums.specs.declared.Found.{Found}
 use Rattle.search_line_sums.specs.declared.Found.the-variants.{At, Nothing}
 use Rattle.search_calls.specs.declared.SearchAnswer.{SearchAnswer}
@@ -29,9 +22,3 @@ bestAnswer line Nothing = SearchAnswer.Refused (plainRefusal emptyLine)
 abbrev pub searchAnswer : Line → Outcome Best → SearchAnswer
 searchAnswer line (refused r) = SearchAnswer.Refused r
 searchAnswer line (given b) = SearchAnswer.Best (b .sum) (coordinateOn line (b .at))
-
--- the causes before the line's: 8, 7, 7, 2, 9, 10
-abbrev pub searchCauses : Lent → List (List ℕ) → List ℕ → ℕ → Turn → List Cause
-searchCauses l es ws i t =
-    jobCause l ∷ layoutLength l es ∷ weightsLength l ws ∷ weightsCause ws
-    ∷ cause noSuchPiece (someTurnWrong (jobOf l) es || not (ltb i (l .size .count)) || not (allowed (jobOf l) i t)) ∷ outsideCause l es ∷ []

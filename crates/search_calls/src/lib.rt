@@ -1,6 +1,5 @@
 // The line search as a call. Document 01, 'Line search' and 'When a call says no'.
-use causes::weighted_causes;
-use layout_places::known;
+use causes::placing_causes;
 use model::COLUMN_BOUND;
 use model::Column;
 use model::Coordinate;
@@ -21,7 +20,6 @@ use search_tracks::Mover;
 use search_tracks::direction_of;
 ghost use mathlib.Core.Path.{_≡_};
 ghost use Prim.Native.Nat.{_<_};
-ghost use Rattle.model.specs.Answers.{firstCause};
 ghost use Rattle.model.specs.Piece.{coordinateOn};
 ghost use Rattle.model.specs.Search.{searchLine};
 ghost use Rattle.model.specs.Lent.{lentBy, jobOf};
@@ -30,7 +28,7 @@ ghost use Rattle.model.specs.Calls.{searchCall};
 ghost use Rattle.descent_laws.specs.LentLayout.{Laid};
 ghost use Rattle.descent_laws.specs.Claims.{ValidWeights};
 ghost use Rattle.search_line_sums.specs.Answers.{foundAnswer};
-ghost use Rattle.search_calls.specs.Answers.{InReach, bestAnswer, searchAnswer, searchCauses};
+ghost use Rattle.search_calls.specs.Answers.{InReach, bestAnswer, searchAnswer};
 
 // How many penalty lines a search keeps: one for each standing piece.
 const SLOTS: usize = model::PIECE_BOUND;
@@ -92,22 +90,6 @@ fn search_alone(
     )
 }
 
-// The causes of a line search but the last: 8, 7, 2, 9, 10.
-fn search_causes(
-    size: JobSize,
-    table: &[PieceEntry],
-    pixels: &[u8],
-    layout: &[PlaceEntry],
-    weights: &[u32],
-    piece: usize,
-    turn: Turn,
-) -> DoneAnswer
-    ensures { λ r. ⌜ r ≡ firstCause (searchCauses (lentBy size (now (table .entry)) (now (pixels .entry))) (now (layout .entry)) (now (weights .entry)) piece turn) ⌝ }
-{
-    let wrong = !known(size, table, piece, turn);
-    weighted_causes(size, table, pixels, layout, weights, false, wrong)
-}
-
 // A coordinate of the line.
 fn coordinate_on(line: Line, at: u16) -> Coordinate
     ensures { λ r. ⌜ r ≡ coordinateOn line at ⌝ }
@@ -143,7 +125,7 @@ pub fn line_search(
 ) -> SearchAnswer
     ensures { λ r. ⌜ r ≡ searchAnswer line (searchCall (lentBy size (now (table .entry)) (now (pixels .entry))) (now (layout .entry)) (now (weights .entry)) piece turn line) ⌝ }
 {
-    match search_causes(size, table, pixels, layout, weights, piece, turn) {
+    match placing_causes(size, table, pixels, layout, weights, piece, turn) {
         DoneAnswer::Refused(refusal) => SearchAnswer::Refused(refusal),
         DoneAnswer::Done => {
             let mover = Mover {

@@ -1,5 +1,6 @@
 -- The laws that fast sums, line search, descent and guided run rest on, in the shape in which loops use them.
 pub mod Pairs
+pub mod Rows
 pub mod PieceSum
 pub mod BoundedSearch
 pub mod LineSearch

@@ -6,13 +6,14 @@ use Rattle.model.specs.Layout.{Job, Layout, pairs, pieceSum, weightedSum, unitW
 use Rattle.list_laws.proofs.Sums.{sum-step, sum-agree}
 use Rattle.list_laws.proofs.Lists.{take-repeat}
 use Rattle.descent_laws.proofs.Bounds.{pairs-at-most}
-use Rattle.search_laws.specs.Pairs.{rowStart, pairIndex}
-use Rattle.search_laws.proofs.Pairs.{pair-below, row-start-twice}
+use Rattle.search_laws.specs.Pairs.{rowStart, rowPart}
+use Rattle.search_laws.proofs.Pairs.{row-start-twice}
+use Rattle.search_laws.proofs.Rows.{part-there}
 use Rattle.search_laws.specs.PieceSum.{weightBetween}
 use Rattle.search_laws.proofs.PieceSum.{weighted-rows}
 use Rattle.search_laws.specs.Table.{entry, PenaltyTable}
 use Rattle.search_laws.proofs.Table.{table-piece-sum}
-use Rattle.search_sums.specs.Table.{Weighed, rowPart}
+use Rattle.search_sums.specs.Table.{Weighed, tableCost}
 
 -- ── positions ──
 
@@ -30,10 +31,6 @@ row-closed n i h =
 -- two numbers of pieces, multiplied
 pub few-times : (a b : ℕ) → a ≤ 64 → b ≤ 64 → a * b ≤ 4096
 few-times a b h g = let m : a * b ≤ 64 * 64 = mul-le-mul h g in omega arith
-
--- a weight times a penalty
-pub term-small : (w p : ℕ) → w < 4294967296 → p < 256 → w * p ≤ 1099511627776
-term-small w p h g = let m : w * p ≤ 4294967296 * 256 = (let a : w ≤ 4294967296 = omega arith in let b : p ≤ 256 = omega arith in mul-le-mul a b) in omega arith
 
 -- an entry of the table is one of 4,096
 pub entry-below : (n i k : ℕ) → n ≤ 64 → i < n → k < n → i * 64 + k < 4096
@@ -59,32 +56,6 @@ row-all j v n T ws i e =
 
 -- ── the weighted sum ──
 
--- the term of the m-th pair of row i, where its weights begin at `from`
-abbrev pub partTerm : List ℕ → List ℕ → ℕ → ℕ → ℕ → ℕ
-partTerm T ws i from m = getD ws (from + m) 0 * getD T (entry i (suc i + m)) 0
-
--- one more pair of the row
-pub part-more : (T ws : List ℕ) (i from k at sum : ℕ) → i + 1 ≤ k → at + (i + 1) ≡ from + k → sum ≡ sumBelow (k - (i + 1)) (partTerm T ws i from)
-    → sum + getD ws at 0 * getD T (entry i k) 0 ≡ sumBelow (k + 1 - (i + 1)) (partTerm T ws i from)
-part-more T ws i from k at sum h a e =
-    let m = k - (i + 1) in
-    let p : from + m ≡ at = omega arith in
-    let q : suc i + m ≡ k = omega arith in
-    let r : k + 1 - (i + 1) ≡ m + 1 = omega arith in
-    let s : partTerm T ws i from m ≡ getD ws at 0 * getD T (entry i k) 0 = rw (p, q) in
-    rw r (ap₂ _+_ e (sym s) ∙ sym (sum-step m (partTerm T ws i from)))
-
--- the whole row
-pub part-all : (n : ℕ) (T ws : List ℕ) (i from k sum : ℕ) → k ≡ n → sum ≡ sumBelow (k - (i + 1)) (partTerm T ws i from) → sum ≡ rowPart n T ws i from
-part-all n T ws i from k sum h e = let f : k - (i + 1) ≡ n - suc i = omega arith in rw f at e
-
--- the pair of row i at `at` has a weight
-pub part-there : (n i k at : ℕ) → i + 1 ≤ k → k < n → at + (i + 1) ≡ rowStart n i + k → at < length (pairs n)
-part-there n i k at h l e =
-    let p = pair-below n i k (omega arith) l in
-    let q : pairIndex n i k ≡ at = omega arith in
-    rw q at p
-
 -- a pair (i, k) of the table, and the position of its weight
 pub record PairPlace (n i k at : ℕ) (T ws : List ℕ) : Type 0 where
   pub few : n ≤ 64
@@ -106,20 +77,15 @@ row-place n i k at from T ws w s h l e =
 
 -- the weighted sum is the sum of all rows' parts
 pub all-parts : (j : Job) (v : Layout) (n : ℕ) (T ws : List ℕ) → j .size .count ≡ n → PenaltyTable j v n T → length ws ≡ length (pairs n)
-    → weightedSum j ws v ≡ sumBelow n (λ i. rowPart n T ws i (rowStart n i))
+    → weightedSum j ws v ≡ sumBelow n (λ i. rowPart n (tableCost T i) ws i (rowStart n i))
 all-parts j v n T ws e =
-    subst (λ n. PenaltyTable j v n T → length ws ≡ length (pairs n) → weightedSum j ws v ≡ sumBelow n (λ i. rowPart n T ws i (rowStart n i))) e
+    subst (λ n. PenaltyTable j v n T → length ws ≡ length (pairs n) → weightedSum j ws v ≡ sumBelow n (λ i. rowPart n (tableCost T i) ws i (rowStart n i))) e
     (λ t w.
     weighted-rows j ws v w
     ∙ sum-agree (j .size .count) _ _
     (λ i l.
     sum-agree (j .size .count - suc i) _ _
     (λ m b. ap (λ p. getD ws (rowStart (j .size .count) i + m) 0 * p) (sym (t .holds i (suc i + m) l (omega arith) (λ f. omega arith))))))
-
--- one more row
-pub parts-more : (n : ℕ) (T ws : List ℕ) (i from sum part : ℕ) → from ≡ rowStart n i → sum ≡ sumBelow i (λ i. rowPart n T ws i (rowStart n i))
-    → part ≡ rowPart n T ws i from → sum + part ≡ sumBelow (i + 1) (λ i. rowPart n T ws i (rowStart n i))
-parts-more n T ws i from sum part f e p = ap₂ _+_ e (p ∙ ap (rowPart n T ws i) f) ∙ sym (sum-step i (λ i. rowPart n T ws i (rowStart n i)))
 
 -- ── weights 1 ──
 

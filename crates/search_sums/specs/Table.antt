@@ -2,10 +2,9 @@
 use mathlib.Core.Bool.{Bool, true, false}
 use mathlib.Core.List.{List}
 use mathlib.Core.Path.{_≡_}
-use Prim.Native.Nat.{ℕ, suc, _+_, _*_, _-_, _≤_}
+use Prim.Native.Nat.{ℕ, _+_, _≤_}
 use lib.Dec.{eqb, ltb}
 use lib.ListN.{length, getD, set}
-use Rattle.model.specs.Bounded.{sumBelow}
 use Rattle.model.specs.Layout.{pairs}
 use Rattle.model.specs.Guided.{weightBound}
 use Rattle.model.specs.Lent.{pieceBound}
@@ -17,9 +16,9 @@ pub record Weighed (n : ℕ) (T ws : List ℕ) : Type 0 where
   pub size : length T ≡ 4096
   pub onePerPair : length ws ≡ length (pairs n)
 
--- the part of the pairs (i, i + 1), (i, i + 2), .. below n in the weighted sum, where their weights begin at `from`
-abbrev pub rowPart : ℕ → List ℕ → List ℕ → ℕ → ℕ → ℕ
-rowPart n T ws i from = sumBelow (n - suc i) (λ m. getD ws (from + m) 0 * getD T (entry i (suc i + m)) 0)
+-- what piece k costs in row i of the table
+abbrev pub tableCost : List ℕ → ℕ → ℕ → ℕ
+tableCost T i k = getD T (entry i k) 0
 
 -- the weights after that of a pair is raised by 1: unless its penalty is 0 or it is the largest
 abbrev pub raisedBy : Bool → Bool → List ℕ → ℕ → List ℕ

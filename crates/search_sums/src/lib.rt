@@ -13,11 +13,11 @@ ghost use Rattle.model.specs.Layout.{Job, Layout, pairs, pieceSum, weightedSum,
 ghost use Rattle.model.specs.Guided.{raised};
 ghost use Rattle.model.specs.Lent.{pieceBound};
 ghost use Rattle.descent_laws.specs.Claims.{ValidWeights};
-ghost use Rattle.search_laws.specs.Pairs.{rowStart, pairIndex};
+ghost use Rattle.search_laws.specs.Pairs.{rowStart, pairIndex, rowPart};
 ghost use Rattle.search_laws.specs.PieceSum.{weightBetween};
 ghost use Rattle.search_laws.specs.Table.{PenaltyTable};
 ghost use Rattle.search_laws.specs.Raising.{Raising};
-ghost use Rattle.search_sums.specs.Table.{Weighed, rowPart, raisedAt};
+ghost use Rattle.search_sums.specs.Table.{Weighed, tableCost, raisedAt};
 
 // The position of the pair (i, k), i below k, among the pairs of n pieces.
 pub fn pair_index(n: usize, i: usize, k: usize) -> usize
@@ -59,7 +59,7 @@ pub fn row_sum(penalties: &[u8], weights: &[u32], n: usize, i: usize) -> u64
 // The part of the pairs (i, i + 1), (i, i + 2), .. in the weighted sum. Their weights begin at `from`.
 fn row_part(penalties: &[u8], weights: &[u32], n: usize, i: usize, from: usize) -> u64
     requires { ⌜ Weighed n (now penalties) (now weights) ⌝ ∗ ⌜ (i < n) × (from ≡ rowStart n i) ⌝ }
-    ensures part { λ r. ⌜ r ≡ rowPart n (now (penalties .entry)) (now (weights .entry)) i from ⌝ }
+    ensures part { λ r. ⌜ r ≡ rowPart n (tableCost (now (penalties .entry)) i) (now (weights .entry)) i from ⌝ }
     ensures small { λ r. ⌜ r ≤ 2 ^ 46 ⌝ }
 {
     let mut sum = 0;

@@ -40,7 +40,13 @@ fn spans_meet(a: usize, m: usize, b: usize, n: usize) -> bool
 }
 
 // Whether the boxes of pieces i and k meet, placed as given.
-fn boxes_meet(table: &[PieceEntry], i: usize, place: Placement, k: usize, other: Placement) -> bool
+pub fn boxes_meet(
+    table: &[PieceEntry],
+    i: usize,
+    place: Placement,
+    k: usize,
+    other: Placement,
+) -> bool
     requires { ⌜ (i < length (now table)) × (k < length (now table)) ⌝ }
     ensures { λ r. ⌜ (r ≡ false → (size : JobSize) (pixels : List ℕ) → shareAt (lentBy size (now (table .entry)) pixels) i place k other ≡ false) ⌝ }
 {

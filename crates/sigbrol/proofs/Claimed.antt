@@ -1,11 +1,12 @@
--- What is said of a used length, of a cut list and of a run, over the numbers that C is given: they are those of the call, and a reply of number 0 tells
--- that it was not refused, since every cause of a refusal has a number other than 0. Assumes nothing.
+-- What is said of a used length, of a preview, of a cut list and of a run, over the numbers that C is given: they are those of the call, and a
+-- reply of number 0 tells that it was not refused, since every cause of a refusal has a number other than 0. Assumes nothing.
 use Rattle.list_laws.proofs.Kit.{_∙_, _≡_, ap, subst, sym, Option, none, some, List, _<_, ℕ, arith}
 use Rattle.model.specs.Layout.{Job, Layout, Pair, sharingPair}
 use Rattle.model.specs.Lent.{Lent, jobOf}
 use Rattle.model.specs.Refusal.{refused}
-use Rattle.model.specs.Calls.{layoutCauses, sharedCause, usedLengthCall, cutLinesCall, cutStepCall, lineStepCall, descentCall, guidedCall}
+use Rattle.model.specs.Calls.{layoutCauses, sharedCause, usedLengthCall, previewCall, cutLinesCall, cutStepCall, lineStepCall, descentCall, guidedCall}
 use Rattle.model.specs.declared.End.{End}
+use Rattle.model.specs.declared.Placement.{Placement}
 use Rattle.model.specs.declared.Refusal.{Refusal}
 use Rattle.model.specs.Buffer.{endNumber, layoutOf}
 use Rattle.descent_laws.specs.Claims.{DescentClaims}
@@ -26,6 +27,13 @@ descent-claimed j ws budget from to e k h claims =
 pub used-numbered : (l : Lent) (es : List (List ℕ)) (r : Refusal) → usedLengthCall l es ≡ refused r → 0 < r .number
 unfolding usedLengthCall layoutCauses
 used-numbered l es r e = refused-numbered _ _ r (omega arith, (omega arith, (omega arith, (omega arith, tt)))) e
+
+-- a refused preview has one
+pub preview-numbered : (l : Lent) (es : List (List ℕ)) (ws : List ℕ) (i : ℕ) (p : Placement) (r : Refusal) → previewCall l es ws i p ≡ refused r
+    → 0 < r .number
+unfolding previewCall
+preview-numbered l es ws i p r e =
+    refused-numbered _ _ r (omega arith, (omega arith, (omega arith, (omega arith, (omega arith, (omega arith, (omega arith, tt))))))) e
 
 -- the cause of a shared pixel has one, whether it is there or not
 shared-numbered : (o : Option Pair) → 0 < sharedCause o .number

@@ -11,6 +11,7 @@ use Rattle.model.specs.declared.CutStep.{CutStep}
 use Rattle.model.specs.declared.CutStep.the-variants.{Lift, Cut, Done}
 use Rattle.c_results.specs.Steps.{stepWord, stepX, stepY, toldStep}
 use Rattle.model.specs.declared.DoneAnswer.{DoneAnswer}
+use Rattle.model.specs.declared.Figures.{Figures}
 use Rattle.model.specs.declared.NumberAnswer.{NumberAnswer}
 use Rattle.model.specs.declared.JobSize.{JobSize}
 use Rattle.model.specs.declared.Line.{Line}
@@ -32,6 +33,8 @@ use Rattle.job_calls.specs.Reading.{readAnswer}
 use Rattle.job_calls.specs.declared.JobAnswer.{JobAnswer}
 use Rattle.cut_step_calls.specs.Answers.{stepAnswer}
 use Rattle.cut_step_calls.specs.declared.StepAnswer.{StepAnswer}
+use Rattle.layout_preview_calls.specs.Answers.{previewAnswer}
+use Rattle.layout_preview_calls.specs.declared.PreviewAnswer.{PreviewAnswer}
 use Rattle.pair_calls.specs.Answers.{shareAnswer}
 use Rattle.pair_calls.specs.declared.ShareAnswer.{ShareAnswer}
 
@@ -119,6 +122,15 @@ shareTold (ShareAnswer.Shares b) = given b
 pub share-told : (o : Outcome Bool) {x : ShareAnswer} → x ≡ shareAnswer o → shareTold x ≡ telling (λ a. a) o
 share-told (refused r) e = ap shareTold e
 share-told (given a) e = ap shareTold e
+
+-- the figures of a preview
+abbrev pub figuresTold : PreviewAnswer → Outcome Figures
+figuresTold (PreviewAnswer.Refused r) = refused r
+figuresTold (PreviewAnswer.Shown f) = given f
+
+pub figures-told : (o : Outcome Figures) {x : PreviewAnswer} → x ≡ previewAnswer o → figuresTold x ≡ telling (λ f. f) o
+figures-told (refused r) e = ap figuresTold e
+figures-told (given f) e = ap figuresTold e
 
 -- a step of the cut list
 abbrev pub stepTold : StepAnswer → Outcome CutStep

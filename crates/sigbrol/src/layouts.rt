@@ -1,8 +1,12 @@
-// A layout: its sums, its used length, its check, and the start layout.
+// A layout: its sums, its used length, the preview of a move, its check, and the start layout.
 use c_interface::Reply;
 use c_interface::done;
+use c_interface::piece_with_turn;
+use c_interface::placement_of;
 use c_interface::refused;
 use c_interface::size_of;
+use layout_preview_calls::PreviewAnswer;
+use layout_preview_calls::preview;
 use model::DoneAnswer;
 use model::NumberAnswer;
 use model::PieceEntry;
@@ -10,10 +14,11 @@ use model::PlaceEntry;
 ghost use mathlib.Core.Path.{_≡_};
 ghost use lib.ListN.{length};
 ghost use Rattle.model.specs.Lent.{jobOf};
-ghost use Rattle.model.specs.Buffer.{layoutOf};
-ghost use Rattle.model.specs.Calls.{leaving, layoutAfter, weightedSumCall, plainSumCall, usedLengthCall, checkCall, startCall};
+ghost use Rattle.model.specs.Buffer.{placement, layoutOf};
+ghost use Rattle.model.specs.Calls.{leaving, layoutAfter, weightedSumCall, plainSumCall, usedLengthCall, previewCall, checkCall, startCall};
 ghost use Rattle.call_laws.specs.Lengths.{UsedClaims};
-ghost use Rattle.c_interface.specs.Numbers.{lentAs};
+ghost use Rattle.call_laws.specs.Previews.{PreviewClaims};
+ghost use Rattle.c_interface.specs.Numbers.{lentAs, pieceWithTurn};
 ghost use Rattle.c_interface.specs.Replies.{replyTo};
 
 // The weighted sum of a layout.
@@ -90,6 +95,46 @@ pub extern "C" fn sigbrol_used_length(
             done()
         }
         NumberAnswer::Refused(refusal) => refused(refusal),
+    }
+}
+
+// The weighted sum and the used length that a layout would have with a piece placed anew.
+#[no_mangle]
+pub extern "C" fn sigbrol_preview(
+    rows: usize,
+    columns: usize,
+    count: usize,
+    table: &[PieceEntry],
+    pixels: &[u8],
+    layout: &[PlaceEntry],
+    weights: &[u32],
+    piece: usize,
+    turn: u16,
+    x: u16,
+    y: u16,
+    sum: &mut u64,
+    used: &mut usize,
+) -> Reply
+    ensures answer { λ r. ⌜ r ≡ replyTo (previewCall (lentAs rows columns count (now (table .entry)) (now (pixels .entry))) (now (layout .entry)) (now (weights .entry)) (pieceWithTurn turn piece) (placement turn x y)) ⌝ }
+    ensures sum { λ r. ⌜ now (sum .exit) ≡ leaving (λ a. a .sum) (now (sum .entry)) (previewCall (lentAs rows columns count (now (table .entry)) (now (pixels .entry))) (now (layout .entry)) (now (weights .entry)) (pieceWithTurn turn piece) (placement turn x y)) ⌝ }
+    ensures used { λ r. ⌜ now (used .exit) ≡ leaving (λ a. a .length) (now (used .entry)) (previewCall (lentAs rows columns count (now (table .entry)) (now (pixels .entry))) (now (layout .entry)) (now (weights .entry)) (pieceWithTurn turn piece) (placement turn x y)) ⌝ }
+    ensures figures { λ r. ⌜ (r .number ≡ 0 → PreviewClaims (lentAs rows columns count (now (table .entry)) (now (pixels .entry))) (now (layout .entry)) (now (weights .entry)) (pieceWithTurn turn piece) (placement turn x y) (record { sum = now (sum .exit); length = now (used .exit) })) ⌝ }
+{
+    match preview(
+        size_of(rows, columns, count),
+        table,
+        pixels,
+        layout,
+        weights,
+        piece_with_turn(turn, piece),
+        placement_of(turn, x, y),
+    ) {
+        PreviewAnswer::Shown(figures) => {
+            *sum = figures.sum;
+            *used = figures.length as usize;
+            done()
+        }
+        PreviewAnswer::Refused(refusal) => refused(refusal),
     }
 }
 

@@ -1,8 +1,9 @@
 -- Document 01, 'Start, layout text, sheet': a turn as degrees and a placement as an entry of a layout buffer are read back as they
 -- were, and an entry of three numbers whose first is the degrees of a turn comes back too. Assumes nothing.
-use Rattle.list_laws.proofs.Kit.{_≡_, ap, ap₂, refl, sym, Bool, false, false≢true, true, [], _∷_, ℕ, eqb, eqb-true}
+use Rattle.list_laws.proofs.Kit.{_∙_, _≡_, ap, ap₂, refl, sym, Bool, false, false≢true, true, List, [], _∷_, ℕ, eqb, set, eqb-true}
+use Rattle.list_laws.proofs.Lists.{map-set}
 use Rattle.model.specs.Piece.{degrees}
-use Rattle.model.specs.Layout.{Layout}
+use Rattle.model.specs.Layout.{Layout, withPlace}
 use Rattle.model.specs.Buffer.{turnOfDegrees, turnPasses, isTurn, turnOf, entryOf, placementOf, entriesOf, layoutOf}
 use Rattle.model.specs.declared.Turn.{Turn}
 use Rattle.model.specs.declared.Turn.the-variants.{Zero, Quarter, Half, ThreeQuarters}
@@ -39,6 +40,10 @@ degrees-of-turn d e = go (eqb d 0) (eqb d 90) (eqb d 180) (eqb d 270) refl refl 
 -- a placement's entry is read as the placement
 pub entry-read-back : (p : Placement) → placementOf (entryOf p) ≡ p
 entry-read-back p = ap (λ (t : Turn). record { turn = t; x = p .x; y = p .y }) (turn-of-degrees (p .turn))
+
+-- a layout buffer with one entry written anew has the placement
+pub layout-set : (es : List (List ℕ)) (i : ℕ) (p : Placement) → layoutOf (set es i (entryOf p)) ≡ withPlace (layoutOf es) i p
+layout-set es i p = map-set placementOf es i (entryOf p) ∙ ap (set (layoutOf es) i) (entry-read-back p)
 
 -- an entry is written as it was read
 pub entry-written-back : (d x y : ℕ) → isTurn d ≡ true → entryOf (placementOf (d ∷ x ∷ y ∷ [])) ≡ d ∷ x ∷ y ∷ []

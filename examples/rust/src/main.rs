@@ -1,6 +1,6 @@
 //! Nests the pieces of a job round by round through the interface for C. Reads the job text from standard input, tells the progress on
-//! standard error, with the length of the cut list where the layout is clear, and prints the best layout and how the search ended, as
-//! the program `nest` does in one go.
+//! standard error, at the end what moves by hand would come to and, where the layout is clear, the length of its cut list, and prints the
+//! best layout and how the search ended, as the program `nest` does in one go.
 
 use std::error::Error;
 use std::io::{self, Read, Write};
@@ -46,6 +46,11 @@ fn run() -> Result<(), Box<dyn Error>> {
     Ok(())
 }
 
+/// A weight of 1 for each pair of pieces.
+fn unit_weights(job: &Job) -> Vec<u32> {
+    vec![1; job.count() * (job.count() - 1) / 2]
+}
+
 /// What the search holds: the present layout and weights, the best layout so far with its plain sum, and the work of all rounds.
 struct Search {
     layout: Vec<Place>,
@@ -62,7 +67,7 @@ struct Search {
 fn nest(job: &Job) -> Result<Vec<u8>, Refused> {
     let layout = job.start()?;
     let mut search = Search {
-        weights: vec![1; job.count() * (job.count() - 1) / 2],
+        weights: unit_weights(job),
         best: layout.clone(),
         best_sum: job.plain_sum(&layout)?,
         layout,
@@ -117,6 +122,8 @@ impl Search {
 
     /// The best layout's text and the last line. A layout that is called clear has passed the check before.
     fn output(&self, job: &Job) -> Result<Vec<u8>, Refused> {
+        let used = job.used_length(&self.best)?;
+        self.tell_moves(job, used)?;
         let word = if self.best_sum == 0 {
             job.check(&self.best)?;
             tell_cut_list(job, &self.best)?;
@@ -126,14 +133,31 @@ impl Search {
         };
         let mut output = job.write_layout(&self.best)?;
         let last = format!(
-            "end,{word},{},{},{},{}\n",
-            self.best_sum,
-            self.trials,
-            self.moves,
-            job.used_length(&self.best)?
+            "end,{word},{},{},{},{used}\n",
+            self.best_sum, self.trials, self.moves
         );
         output.extend(last.bytes());
         Ok(output)
+    }
+
+    /// Tells how many pieces of the best layout could be dragged one column to the left, each alone, at no higher plain sum, and the
+    /// least used length after such a move or none. Nothing is moved.
+    fn tell_moves(&self, job: &Job, used: usize) -> Result<(), Refused> {
+        let weights = unit_weights(job);
+        let (mut pieces, mut least) = (0, used);
+        for (piece, &[turn, x, y]) in self.best.iter().enumerate() {
+            if x == 0 {
+                continue;
+            }
+            let moved = job.preview(&self.best, &weights, piece, [turn, x - 1, y])?;
+            if moved.sum <= self.best_sum {
+                pieces += 1;
+                least = least.min(moved.used);
+            }
+        }
+        let count = job.count();
+        eprintln!("preview: {pieces} of {count} pieces can go one column left, used length {least} at best");
+        Ok(())
     }
 }
 

@@ -11,7 +11,7 @@ extern crate alloc;
 pub mod safe;
 
 /// The version of the interface.
-pub const VERSION: u32 = 4;
+pub const VERSION: u32 = 5;
 
 /// The largest numbers of a job: pieces, bytes of all boxes together, bytes of a job text that the program reads.
 pub const PIECES: usize = 64;
@@ -250,6 +250,19 @@ lent_a_job! {
     fn sigbrol_plain_sum(layout: *const Place, layout_length: usize, sum: *mut u64) -> Reply;
 
     fn sigbrol_used_length(layout: *const Place, layout_length: usize, used: *mut usize) -> Reply;
+
+    fn sigbrol_preview(
+        layout: *const Place,
+        layout_length: usize,
+        weights: *const u32,
+        weights_length: usize,
+        piece: usize,
+        turn: u16,
+        x: u16,
+        y: u16,
+        sum: *mut u64,
+        used: *mut usize,
+    ) -> Reply;
 
     fn sigbrol_check(layout: *const Place, layout_length: usize) -> Reply;
 

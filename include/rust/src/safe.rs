@@ -52,6 +52,13 @@ pub struct Descent {
     pub moves: u64,
 }
 
+/// What a layout comes to: its weighted sum and the columns of cloth that it spends.
+#[derive(Clone, Copy, Debug, PartialEq, Eq)]
+pub struct Figures {
+    pub sum: u64,
+    pub used: usize,
+}
+
 /// What the knife does at a step; a point is x and y in millimetres.
 #[derive(Clone, Copy, Debug, PartialEq)]
 pub enum Step {
@@ -266,6 +273,33 @@ impl Job {
             &mut used
         )?;
         Ok(used)
+    }
+
+    /// What the layout would come to with one piece placed anew; the layout stays as it is.
+    pub fn preview(
+        &self,
+        layout: &[Place],
+        weights: &[u32],
+        piece: usize,
+        place: Place,
+    ) -> Result<Figures, Refused> {
+        let (mut sum, mut used) = (0, 0);
+        let [turn, x, y] = place;
+        lend!(
+            self,
+            sigbrol_preview,
+            layout.as_ptr(),
+            layout.len(),
+            weights.as_ptr(),
+            weights.len(),
+            piece,
+            turn,
+            x,
+            y,
+            &mut sum,
+            &mut used
+        )?;
+        Ok(Figures { sum, used })
     }
 
     /// The layout as text.

@@ -63,6 +63,7 @@ pub fn call(kind: Kind, memory: &mut Memory) -> Returned {
             Kind::WeightedSum | Kind::PlainSum | Kind::UsedLength | Kind::Check => {
                 reply(measure(kind, memory))
             }
+            Kind::Preview => reply(preview(memory)),
             Kind::CutLines => reply(cut_lines(memory)),
             Kind::CutStep => reply(cut_step(memory)),
             Kind::LineStep => reply(line_step(memory)),
@@ -262,6 +263,28 @@ unsafe fn measure(kind: Kind, memory: &mut Memory) -> Reply {
         Kind::UsedLength => lend!(memory, sigbrol_used_length, layout, length, used),
         _ => lend!(memory, sigbrol_check, layout, length),
     }
+}
+
+/// The preview of a move.
+unsafe fn preview(memory: &mut Memory) -> Reply {
+    let (layout, length) = (at(&memory.layout), memory.layout.length());
+    let (weights, weights_length) = (at(&memory.weights), memory.weights.length());
+    let (sum, used) = (to!(memory.words, 0), to!(memory.sizes, 0));
+    let numbers = memory.numbers;
+    lend!(
+        memory,
+        sigbrol_preview,
+        layout,
+        length,
+        weights,
+        weights_length,
+        numbers.i,
+        numbers.turn,
+        numbers.x,
+        numbers.y,
+        sum,
+        used
+    )
 }
 
 /// The lines of a cut list.

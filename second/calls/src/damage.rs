@@ -522,6 +522,33 @@ const LAY_OUTSIDE: [Damage; 1] = [damage("place to lay", Cause::Outside, |random
     *corner[usize::from(random.chance(50))] = far;
 })];
 
+/// The places of a piece that is moved, the old one and the new one.
+const MOVED: [Damage; 2] = [
+    damage(
+        "old place of the moved piece",
+        Cause::Outside,
+        |random, memory| {
+            let field = random.between(1, 2);
+            let piece = memory.numbers.i;
+            if let Some(&[turn, ..]) = memory.layout.get().get(piece) {
+                let corner = corner_outside(random, memory, piece, turn, field);
+                memory.layout.get_mut()[piece][field] = corner;
+            }
+        },
+    ),
+    damage(
+        "new place of the moved piece",
+        Cause::NewOutside,
+        |random, memory| {
+            let field = random.between(1, 2);
+            let (piece, turn) = (memory.numbers.i, memory.numbers.turn);
+            let corner = corner_outside(random, memory, piece, turn, field);
+            let numbers = &mut memory.numbers;
+            *[&mut numbers.x, &mut numbers.y][field - 1] = corner;
+        },
+    ),
+];
+
 /// Every damage that the causes of a call know: those of the call itself, and those of its job.
 pub fn damages(kind: Kind) -> (Vec<Damage>, &'static [Damage]) {
     let own: &[&[Damage]] = match kind {
@@ -542,6 +569,7 @@ pub fn damages(kind: Kind) -> (Vec<Damage>, &'static [Damage]) {
         }
         Kind::WeightedSum => &[&LAYOUT_LENGTH, &WEIGHTS, &LAYOUT],
         Kind::PlainSum | Kind::UsedLength | Kind::Check => &[&LAYOUT_LENGTH, &LAYOUT],
+        Kind::Preview => &[&LAYOUT_LENGTH, &WEIGHTS, &PIECE, &TURN, &LAYOUT, &MOVED],
         Kind::CutLines => &[&LAYOUT_LENGTH, &LAYOUT, &LINES_SHORT],
         Kind::CutStep => &[&LAYOUT_LENGTH, &PITCH, &LAYOUT],
         Kind::LineStep => &[&PITCH],
@@ -691,13 +719,25 @@ fn outside(random: &mut Random, memory: &mut Memory, field: usize) {
     let Some(place) = place_in(random, memory.layout.length()) else {
         return;
     };
-    let entry = memory.table.get().get(place).copied().unwrap_or([1; 3]);
-    let sideways = memory.layout.get()[place][0] % 180 == 90;
+    let turn = memory.layout.get()[place][0];
+    let corner = corner_outside(random, memory, place, turn, field);
+    memory.layout.get_mut()[place][field] = corner;
+}
+
+/// A coordinate at which a piece in a turn leaves the sheet, often just so; field 1 is the column, field 2 the row.
+fn corner_outside(
+    random: &mut Random,
+    memory: &Memory,
+    piece: usize,
+    turn: u16,
+    field: usize,
+) -> u16 {
+    let entry = memory.table.get().get(piece).copied().unwrap_or([1; 3]);
+    let sideways = turn % 180 == 90;
     let sheet = [memory.columns, memory.rows][field - 1];
     let side = entry[usize::from((field == 2) != sideways)];
     let beyond = sheet.min(4_096) + 1 - usize::from(side).min(sheet.min(4_096));
-    let corner = random.pick(&[beyond as u16, beyond as u16, 4_096, 32_768, 65_535]);
-    memory.layout.get_mut()[place][field] = corner;
+    random.pick(&[beyond as u16, beyond as u16, 4_096, 32_768, 65_535])
 }
 
 /// An entry of the record that is laid, or one that is not; any of a piece where there is none such.

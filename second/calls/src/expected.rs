@@ -1,6 +1,6 @@
 //! The second program's call on the caller's memory.
 
-use second::calls::{self, Cause, Counts, Line, Refusal, Weighted};
+use second::calls::{self, Cause, Counts, Line, Move, Refusal, Weighted};
 use second::cut::Step;
 
 use crate::kind::Kind;
@@ -49,6 +49,7 @@ pub fn call(kind: Kind, memory: &mut Memory) -> Expected {
         Kind::WeightedSum | Kind::PlainSum | Kind::UsedLength | Kind::Check => {
             reply(measure(kind, memory))
         }
+        Kind::Preview => reply(preview(memory)),
         Kind::CutLines => reply(cut_lines(memory)),
         Kind::CutStep | Kind::LineStep => reply(step(kind, memory)),
         Kind::Start | Kind::WriteLayout | Kind::ReadLayout => reply(write(kind, memory)),
@@ -186,6 +187,25 @@ fn measure(kind: Kind, memory: &mut Memory) -> Result<(), Refusal> {
         }
         _ => calls::check(&job, layout)?,
     }
+    Ok(())
+}
+
+/// The preview of a move.
+fn preview(memory: &mut Memory) -> Result<(), Refusal> {
+    let numbers = memory.numbers;
+    let given = Weighted {
+        layout: memory.layout.get(),
+        weights: memory.weights.get(),
+    };
+    let to = Move {
+        piece: numbers.i,
+        turn: numbers.turn,
+        x: numbers.x,
+        y: numbers.y,
+    };
+    let figures = calls::preview(&memory.job(), given, to)?;
+    memory.words.get_mut()[result(0)] = figures.sum;
+    memory.sizes.get_mut()[result(0)] = figures.length;
     Ok(())
 }
 

@@ -18,6 +18,7 @@ pub enum Kind {
     WeightedSum,
     PlainSum,
     UsedLength,
+    Preview,
     Check,
     Start,
     WriteLayout,
@@ -42,7 +43,7 @@ const JOB: [Cause; 9] = [
 
 impl Kind {
     /// All calls, in the header's order.
-    pub const ALL: [Kind; 27] = {
+    pub const ALL: [Kind; 28] = {
         use Kind::*;
         [
             ReadJob,
@@ -58,6 +59,7 @@ impl Kind {
             WeightedSum,
             PlainSum,
             UsedLength,
+            Preview,
             Check,
             Start,
             WriteLayout,
@@ -104,6 +106,16 @@ impl Kind {
             }
             Kind::WeightedSum => &[LayoutLength, WeightsLength, Weight, LayoutTurn, Outside],
             Kind::PlainSum | Kind::UsedLength => &[LayoutLength, LayoutTurn, Outside],
+            Kind::Preview => &[
+                LayoutLength,
+                WeightsLength,
+                Weight,
+                NoPiece,
+                Turn,
+                LayoutTurn,
+                Outside,
+                NewOutside,
+            ],
             Kind::Check => &[LayoutLength, LayoutTurn, Outside, Shared],
             Kind::Start => &[LayoutLength],
             Kind::WriteLayout => &[LayoutLength, LayoutTurn, Outside, BufferShort],

@@ -283,6 +283,11 @@ impl Scene {
         if random.chance(50) {
             numbers.turn = self.turn(random, i).degrees() as u16;
         }
+        if kind == Kind::Preview {
+            // Now and then the piece is moved to where it lies.
+            let to = [layout[i], self.place(random, i, 1)];
+            [numbers.turn, numbers.x, numbers.y] = to[usize::from(random.chance(80))];
+        }
         let (budgets, rounds): (&[usize], &[usize]) = if self.is_small() {
             (
                 &[0, 1, 2, 7, 30, 1_000, 1_000_000, 1_000_000_000],

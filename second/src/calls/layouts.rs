@@ -1,9 +1,9 @@
-//! Whole layouts: sums, used length, check, start layout, line search, descent and guided run.
+//! Whole layouts: sums, used length, preview of a move, check, start layout, line search, descent and guided run.
 
 use super::lent::{placements, write_placements};
 use super::{require, Cause, Lent, Refusal};
 use crate::job::Job;
-use crate::layout::{self, Placement};
+use crate::layout::{self, inside, Placement};
 use crate::search::{Descent, End, LinePlace, Search};
 use crate::shape::Direction;
 
@@ -66,6 +66,38 @@ pub fn plain_sum(lent: &Lent, layout: &[[u16; 3]]) -> Result<u64, Refusal> {
 pub fn used_length(lent: &Lent, layout: &[[u16; 3]]) -> Result<usize, Refusal> {
     let (job, places) = plain(lent, layout)?;
     Ok(layout::used_length(&job, &places))
+}
+
+/// A piece and the place that it would be moved to.
+#[derive(Clone, Copy)]
+pub struct Move {
+    pub piece: usize,
+    pub turn: u16,
+    pub x: u16,
+    pub y: u16,
+}
+
+/// The weighted sum and the used length of a layout.
+#[derive(Clone, Copy, Debug, PartialEq, Eq)]
+pub struct Figures {
+    pub sum: u64,
+    pub length: usize,
+}
+
+/// The figures of the layout with one piece moved, which is made on a copy.
+pub fn preview(lent: &Lent, given: Weighted, to: Move) -> Result<Figures, Refusal> {
+    let job = lent.job()?;
+    let weights = given.weights(&job)?;
+    let piece = job.pieces.get(to.piece).ok_or(Cause::NoPiece)?;
+    let turn = piece.turn_of(usize::from(to.turn)).ok_or(Cause::Turn)?;
+    let mut places = placements(&job, given.layout)?;
+    let [x, y] = [to.x, to.y].map(usize::from);
+    let place = Placement { turn, x, y };
+    require(inside(&job, piece, &place), Cause::NewOutside)?;
+    places[to.piece] = place;
+    let length = layout::used_length(&job, &places);
+    let sum = Search::new(&job, places, &weights).weighted_sum();
+    Ok(Figures { sum, length })
 }
 
 /// Passes a layout in which no two pieces share a pixel.

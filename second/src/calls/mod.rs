@@ -14,8 +14,8 @@ mod texts;
 
 pub use cut::{cut_lines, cut_step, line_step};
 pub use layouts::{
-    check, descent, guided_run, line_search, plain_sum, start, used_length, weighted_sum, Ended,
-    Line, Run, Weighted,
+    check, descent, guided_run, line_search, plain_sum, preview, start, used_length, weighted_sum,
+    Ended, Figures, Line, Move, Run, Weighted,
 };
 pub use lent::Lent;
 pub use pairs::{depth, no_fit_line, penalty, shares_pixel, Stretch};
@@ -63,6 +63,7 @@ pub enum Cause {
     Turn,
     LayoutTurn,
     Outside,
+    NewOutside,
     NoPlace,
     Shared,
     Laid,
@@ -84,7 +85,7 @@ impl Cause {
             LentSheet | LentCount | LentTable | LentBox | LentTurns | LentAreas | LentPixels
             | LentPixel | LentLoose | Store | Stretch | Strips | Record | Counts => 8,
             NoPiece | SamePiece | TurnsLength | Turn | LayoutTurn => 9,
-            Outside => 10,
+            Outside | NewOutside => 10,
             NoPlace => 11,
             Shared => 12,
             Laid => 13,

@@ -1,6 +1,6 @@
 -- `run_descent_calls::run_alone` meets its contract: the weights copied are the lent ones, and the plan is a descent alone. Assumes nothing.
-use Rattle.list_laws.proofs.Kit.{_∙_, _≡_, ap, subst, subst₂, sym, List, _++_, _≤_, ℕ, arith, length, length-append, length-replicate, replicate, take}
-use Rattle.list_laws.proofs.Kit.{length-take-le, take-at, needs}
+use Rattle.list_laws.proofs.Kit.{_∙_, _≡_, ap, refl, subst, subst₂, sym, List, _++_, _≤_, ℕ, arith, length, replicate, take, needs}
+use Rattle.list_laws.proofs.Lists.{written-front, written-room, repeated-front}
 use Rattle.model.specs.Lent.{Lent, lentBy, jobOf}
 use Rattle.job_laws.proofs.Checked.{facts}
 use Rattle.descent_laws.proofs.Bounds.{pairs-at-most}
@@ -26,18 +26,15 @@ few e =
 
 -- as much of a fresh array as there are weights
 fresh-part : (n : ℕ) → n ≤ 2016 → length (take n (replicate {A = ℕ} 2016 0)) ≡ n
-fresh-part n l = length-take-le n (replicate 2016 0) (let e = length-replicate {A = ℕ} 2016 0 in omega arith)
+fresh-part n l = repeated-front n 2016 0 l
 
 -- that part after the weights are copied
 copied-part : (ws copied rest : List ℕ) → copied ≡ ws → take (length ws) (copied ++ rest) ≡ ws
-copied-part ws copied rest e = take-at copied rest (length ws) (ap (λ xs. length xs) e) ∙ e
+copied-part ws copied rest e = written-front (length ws) copied rest ws e refl
 
 -- the whole is long enough for that part
 copied-room : (ws copied rest : List ℕ) → copied ≡ ws → length ws ≤ length (copied ++ rest)
-copied-room ws copied rest e =
-    let all = length-append copied rest in
-    let same : length copied ≡ length ws = ap (λ xs. length xs) e in
-    omega arith
+copied-room ws copied rest e = written-room (length ws) copied rest ws e refl
 
 array-borrow-prefix-own : tie.Need-array-borrow-prefix-own
 array-borrow-prefix-own c = few (c .before .before)

@@ -10,7 +10,8 @@ use Rattle.search_laws.specs.BoundedSearch.{bestAt}
 use Rattle.search_laws.specs.Table.{PenaltyTable}
 use Rattle.search_shapes.proofs.Jobs.{places-few}
 use Rattle.run_step.specs.Steps.{moverSearch, triedAnswer, entriesAfter}
-use Rattle.run_step.proofs.Moves.{layout-set, found-nothing, found-at, found-there}
+use Rattle.text_laws.proofs.Entries.{layout-set}
+use Rattle.run_step.proofs.Moves.{found-nothing, found-at, found-there}
 use Rattle.run_step.proofs.try_line.Statement.{statement}
 use Rattle.run_step.proofs.try_line.Tie as tie
 

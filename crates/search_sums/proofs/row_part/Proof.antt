@@ -2,14 +2,17 @@
 -- weight is that of the pair (i, k). Assumes nothing.
 use Rattle.list_laws.proofs.Kit.{_≡_, _*_, _+_, _-_, _≤_, arith, getD}
 use Rattle.model.specs.Bounded.{sumBelow}
-use Rattle.search_sums.proofs.Rows.{PairPlace, row-place, term-small, partTerm, part-more, part-all}
+use Rattle.search_laws.specs.Pairs.{partTerm}
+use Rattle.search_laws.proofs.Rows.{term-small, part-more, part-all}
+use Rattle.search_sums.specs.Table.{tableCost}
+use Rattle.search_sums.proofs.Rows.{PairPlace, row-place}
 use Rattle.search_sums.proofs.row_part.Statement.{statement}
 use Rattle.search_sums.proofs.row_part.Tie as tie
 
 abbrev Inv-loop : tie.InvT-loop
 Inv-loop penalties weights n i from sum₀ k₀ at₀ sum k at =
     (i + 1 ≤ k) × (k ≤ n) × (at + (i + 1) ≡ from + k) × (sum ≤ 1099511627776 * k)
-    × (sum ≡ sumBelow (k - (i + 1)) (partTerm penalties weights i from))
+    × (sum ≡ sumBelow (k - (i + 1)) (partTerm (tableCost penalties i) weights i from))
 
 abbrev μ-loop : tie.MeasureT-loop
 μ-loop penalties weights n i from sum₀ k₀ at₀ sum k at = n - k
@@ -108,7 +111,7 @@ loop-again c =
       omega arith,
       omega arith,
       omega arith,
-      part-more (a .penalties .now) (a .weights .now) (a .i) (a .from) (l .k) (l .at) (l .sum) b e (l .inv .4),
+      part-more (tableCost (a .penalties .now) (a .i)) (a .weights .now) (a .i) (a .from) (l .k) (l .at) (l .sum) b e (l .inv .4),
     )
 
 returns : tie.Need-returns Inv-loop μ-loop
@@ -118,7 +121,7 @@ returns c =
     let few = c .before .before .pre .0 .few in
     let sum = l .inv .3 in
     let done : l .k ≡ a .n = omega (arith, l .inv .1, c .loop-test .left) in
-    (part-all (a .n) (a .penalties .now) (a .weights .now) (a .i) (a .from) (l .k) (l .sum) done (l .inv .4), omega arith)
+    (part-all (a .n) (tableCost (a .penalties .now) (a .i)) (a .weights .now) (a .i) (a .from) (l .k) (l .sum) done (l .inv .4), omega arith)
 
 pub row-part-spec : {M : Type 1} → statement M
 row-part-spec =

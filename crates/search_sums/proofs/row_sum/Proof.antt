@@ -1,7 +1,8 @@
 -- `search_sums::row_sum` meets its contract. The loop's invariant: the sum so far is that of the pieces passed. Assumes nothing.
 use Rattle.list_laws.proofs.Kit.{_∙_, _≡_, refl, subst, sym, _*_, _+_, _-_, _≤_, arith, getD, needs}
 use Rattle.model.specs.Bounded.{sumBelow}
-use Rattle.search_sums.proofs.Rows.{term-small, rowTerm, row-more, row-all}
+use Rattle.search_laws.proofs.Rows.{term-small}
+use Rattle.search_sums.proofs.Rows.{rowTerm, row-more, row-all}
 use Rattle.search_sums.proofs.row_sum.Statement.{statement}
 use Rattle.search_sums.proofs.row_sum.Tie as tie
 

@@ -3,16 +3,17 @@
 use Rattle.list_laws.proofs.Kit.{_∙_, _≡_, refl, subst, sym, _*_, _-_, _≤_, arith}
 use Rattle.model.specs.Bounded.{sumBelow}
 use Rattle.descent_laws.proofs.Bounds.{pairs-at-most}
-use Rattle.search_laws.specs.Pairs.{rowStart}
+use Rattle.search_laws.specs.Pairs.{rowStart, rowPart}
 use Rattle.search_laws.proofs.Pairs.{row-next, row-below}
-use Rattle.search_sums.specs.Table.{rowPart}
-use Rattle.search_sums.proofs.Rows.{all-parts, parts-more}
+use Rattle.search_laws.proofs.Rows.{parts-more}
+use Rattle.search_sums.specs.Table.{tableCost}
+use Rattle.search_sums.proofs.Rows.{all-parts}
 use Rattle.search_sums.proofs.total.Statement.{statement}
 use Rattle.search_sums.proofs.total.Tie as tie
 
 abbrev Inv-loop : tie.InvT-loop
 Inv-loop penalties weights n sum₀ from₀ i₀ sum from i =
-    (i ≤ n) × (from ≡ rowStart n i) × (sum ≤ 70368744177664 * i) × (sum ≡ sumBelow i (λ a. rowPart n penalties weights a (rowStart n a)))
+    (i ≤ n) × (from ≡ rowStart n i) × (sum ≤ 70368744177664 * i) × (sum ≡ sumBelow i (λ a. rowPart n (tableCost penalties a) weights a (rowStart n a)))
 
 abbrev μ-loop : tie.MeasureT-loop
 μ-loop penalties weights n sum₀ from₀ i₀ sum from i = n - i
@@ -80,7 +81,7 @@ loop-again c =
       omega arith,
       omega (arith, row-next (a .n) (l .i)),
       omega arith,
-      parts-more (a .n) (a .penalties .now) (a .weights .now) (l .i) (l .from) (l .sum) _ (l .inv .1) (l .inv .3) (c .row-part .ensures .0),
+      parts-more (a .n) (tableCost (a .penalties .now)) (a .weights .now) (l .i) (l .from) (l .sum) _ (l .inv .1) (l .inv .3) (c .row-part .ensures .0),
     )
 
 returns : tie.Need-returns Inv-loop μ-loop
@@ -89,7 +90,7 @@ returns c = λ j v e t.
     let a = at-start .args in
     let l = c .before .loop in
     let done : l .i ≡ a .n = omega (arith, l .inv .0, c .loop-test .left) in
-    subst (λ k. l .sum ≡ sumBelow k (λ i. rowPart (a .n) (a .penalties .now) (a .weights .now) i (rowStart (a .n) i))) done (l .inv .3)
+    subst (λ k. l .sum ≡ sumBelow k (λ i. rowPart (a .n) (tableCost (a .penalties .now) i) (a .weights .now) i (rowStart (a .n) i))) done (l .inv .3)
     ∙ sym (all-parts j v (a .n) (a .penalties .now) (a .weights .now) e t (at-start .pre .onePerPair))
 
 pub total-spec : {M : Type 1} → statement M

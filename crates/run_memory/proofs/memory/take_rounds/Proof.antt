@@ -1,6 +1,6 @@
 -- `run_memory::memory::take_rounds` meets its contract: the layout at hand begins as the given one. Assumes nothing.
-use Rattle.list_laws.proofs.Kit.{_∙_, _≡_, ap, subst, sym, List, [], _++_, _∷_, _≤_, ℕ, arith, length, length-append, length-replicate, replicate, take}
-use Rattle.list_laws.proofs.Kit.{length-take-le, take-at, needs}
+use Rattle.list_laws.proofs.Kit.{_∙_, _≡_, ap, subst, sym, List, [], _++_, _∷_, _≤_, ℕ, length, replicate, take, needs}
+use Rattle.list_laws.proofs.Lists.{written-front, written-room, repeated-front}
 use Rattle.model.specs.Lent.{Lent, lentBy, pieceBound}
 use Rattle.job_laws.proofs.Checked.{facts}
 use Rattle.run_step.specs.Ready.{LaidOut}
@@ -26,20 +26,16 @@ fresh = replicate 64 (0 ∷ 0 ∷ 0 ∷ [])
 
 -- as much of it as the layout is long
 fresh-part : (n : ℕ) → n ≤ pieceBound → length (take n fresh) ≡ n
-fresh-part n l = length-take-le n fresh (let e = length-replicate {A = List ℕ} 64 (0 ∷ 0 ∷ 0 ∷ []) in omega arith)
+fresh-part n l = repeated-front n 64 (0 ∷ 0 ∷ 0 ∷ []) l
 
 -- that part after the layout is copied
 copied-part : (s : tie.Start) (copied rest : List (List ℕ)) → copied ≡ s .args .layout .now
     → take (s .args .size .count) (copied ++ rest) ≡ s .args .layout .now
-copied-part s copied rest e = take-at copied rest (s .args .size .count) (ap (λ es. length es) e ∙ whole s) ∙ e
+copied-part s copied rest e = written-front (s .args .size .count) copied rest (s .args .layout .now) e (whole s)
 
 -- the whole is long enough for that part
 copied-room : (s : tie.Start) (copied rest : List (List ℕ)) → copied ≡ s .args .layout .now → s .args .size .count ≤ length (copied ++ rest)
-copied-room s copied rest e =
-    let all = length-append copied rest in
-    let same : length copied ≡ length (s .args .layout .now) = ap (λ es. length es) e in
-    let pieces = whole s in
-    omega arith
+copied-room s copied rest e = written-room (s .args .size .count) copied rest (s .args .layout .now) e (whole s)
 
 array-borrow-prefix-present : tie.Need-array-borrow-prefix-present
 array-borrow-prefix-present c =

@@ -1,8 +1,8 @@
--- `run_rounds::copy` meets its contract: the entries passed are copied. Assumes nothing.
+-- `layout_places::copy` meets its contract: the entries passed are copied. Assumes nothing.
 use Rattle.list_laws.proofs.Kit.{[], _-_, arith, length, needs}
 use Rattle.list_laws.proofs.Copying.{Copying, copying-begin, copying-more, copying-end}
-use Rattle.run_rounds.proofs.copy.Statement.{statement}
-use Rattle.run_rounds.proofs.copy.Tie as tie
+use Rattle.layout_places.proofs.copy.Statement.{statement}
+use Rattle.layout_places.proofs.copy.Tie as tie
 
 abbrev Inv-loop : tie.InvT-loop
 Inv-loop from to₀ k₀ to k = Copying [] from to k

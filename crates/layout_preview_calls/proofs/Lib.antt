@@ -1,0 +1,2 @@
+-- What the answer of a preview says.
+pub mod Answered

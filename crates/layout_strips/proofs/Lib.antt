@@ -1,0 +1,2 @@
+-- What is kept of a layout's strips.
+pub mod Keeping
