@@ -171,10 +171,9 @@ fn pair(kind: Kind, memory: &mut Memory) -> Result<(), Refusal> {
 /// The sums, the used length and the check.
 fn measure(kind: Kind, memory: &mut Memory) -> Result<(), Refusal> {
     let (job, layout) = (memory.job(), memory.layout.get());
-    let weights = memory.weights.get();
     match kind {
         Kind::WeightedSum => {
-            let sum = calls::weighted_sum(&job, Weighted { layout, weights })?;
+            let sum = calls::weighted_sum(&job, weighted(memory))?;
             memory.words.get_mut()[result(0)] = sum;
         }
         Kind::PlainSum => {
@@ -190,13 +189,18 @@ fn measure(kind: Kind, memory: &mut Memory) -> Result<(), Refusal> {
     Ok(())
 }
 
+/// The layout with its weights.
+fn weighted(memory: &Memory) -> Weighted<'_> {
+    Weighted {
+        layout: memory.layout.get(),
+        weights: memory.weights.get(),
+    }
+}
+
 /// The preview of a move.
 fn preview(memory: &mut Memory) -> Result<(), Refusal> {
     let numbers = memory.numbers;
-    let given = Weighted {
-        layout: memory.layout.get(),
-        weights: memory.weights.get(),
-    };
+    let given = weighted(memory);
     let to = Move {
         piece: numbers.i,
         turn: numbers.turn,
@@ -260,10 +264,7 @@ fn write(kind: Kind, memory: &mut Memory) -> Result<(), Refusal> {
 /// A line search.
 fn line_search(memory: &mut Memory) -> Result<(), Refusal> {
     let numbers = memory.numbers;
-    let given = Weighted {
-        layout: memory.layout.get(),
-        weights: memory.weights.get(),
-    };
+    let given = weighted(memory);
     let line = Line {
         piece: numbers.i,
         turn: numbers.turn,

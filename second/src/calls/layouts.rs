@@ -5,7 +5,7 @@ use super::{require, Cause, Lent, Refusal};
 use crate::job::Job;
 use crate::layout::{self, inside, Placement};
 use crate::search::{Descent, End, LinePlace, Search};
-use crate::shape::Direction;
+use crate::shape::{Direction, Turn};
 
 /// The largest budget and the largest number of rounds.
 const MAX_BUDGET: u32 = 1_000_000_000;
@@ -84,16 +84,30 @@ pub struct Figures {
     pub length: usize,
 }
 
-/// The figures of the layout with one piece moved, which is made on a copy.
-pub fn preview(lent: &Lent, given: Weighted, to: Move) -> Result<Figures, Refusal> {
+/// What a call that would place a piece in a turn is lent, and that turn: causes 8, 7, 2, 9 and 10 of the layout.
+fn placing(
+    lent: &Lent,
+    given: Weighted,
+    piece: usize,
+    degrees: u16,
+) -> Result<(Job, Vec<u16>, Turn, Vec<Placement>), Refusal> {
     let job = lent.job()?;
     let weights = given.weights(&job)?;
-    let piece = job.pieces.get(to.piece).ok_or(Cause::NoPiece)?;
-    let turn = piece.turn_of(usize::from(to.turn)).ok_or(Cause::Turn)?;
-    let mut places = placements(&job, given.layout)?;
+    let piece = job.pieces.get(piece).ok_or(Cause::NoPiece)?;
+    let turn = piece.turn_of(usize::from(degrees)).ok_or(Cause::Turn)?;
+    let places = placements(&job, given.layout)?;
+    Ok((job, weights, turn, places))
+}
+
+/// The figures of the layout with one piece moved, which is made on a copy.
+pub fn preview(lent: &Lent, given: Weighted, to: Move) -> Result<Figures, Refusal> {
+    let (job, weights, turn, mut places) = placing(lent, given, to.piece, to.turn)?;
     let [x, y] = [to.x, to.y].map(usize::from);
     let place = Placement { turn, x, y };
-    require(inside(&job, piece, &place), Cause::NewOutside)?;
+    require(
+        inside(&job, &job.pieces[to.piece], &place),
+        Cause::NewOutside,
+    )?;
     places[to.piece] = place;
     let length = layout::used_length(&job, &places);
     let sum = Search::new(&job, places, &weights).weighted_sum();
@@ -158,11 +172,7 @@ pub struct Line {
 
 /// The least sum of a piece's pairs on a line, and the smallest coordinate that has it.
 pub fn line_search(lent: &Lent, given: Weighted, line: Line) -> Result<LinePlace, Refusal> {
-    let job = lent.job()?;
-    let weights = given.weights(&job)?;
-    let piece = job.pieces.get(line.piece).ok_or(Cause::NoPiece)?;
-    let turn = piece.turn_of(usize::from(line.turn)).ok_or(Cause::Turn)?;
-    let places = placements(&job, given.layout)?;
+    let (job, weights, turn, places) = placing(lent, given, line.piece, line.turn)?;
     let direction = Direction::ALL[usize::from(line.vertical)];
     let mut search = Search::new(&job, places, &weights);
     let found = search.line_search(line.piece, turn, direction, usize::from(line.held));
