@@ -47,12 +47,12 @@ pub at-member : (ts : List Strip) (i : ℕ) → i < length (map stripEntry ts) �
 at-member ts i h = rw (strip-at ts i no-strip h) (member-at ts i no-strip (omega (arith, length-entries ts)))
 
 -- a place of a strip of the list
-record PlaceOf (t : Strip) (ts : List Strip) : Type 0 where
-  number : ℕ
-  below : number < length (map stripEntry ts)
-  is : stripAt (map stripEntry ts) number ≡ t
+pub record PlaceOf (t : Strip) (ts : List Strip) : Type 0 where
+  pub number : ℕ
+  pub below : number < length (map stripEntry ts)
+  pub is : stripAt (map stripEntry ts) number ≡ t
 
-place-of : (t : Strip) (ts : List Strip) → List·Memᴰ t ts → PlaceOf t ts
+pub place-of : (t : Strip) (ts : List Strip) → List·Memᴰ t ts → PlaceOf t ts
 place-of t [] m = absurd (List·Memᴰ·not-nil m)
 place-of t (x ∷ ts) (List·Memᴰ·head e) = record { number = 0; below = omega arith; is = sym e }
 place-of t (x ∷ ts) (List·Memᴰ·tail m) =

@@ -63,7 +63,7 @@ module _ (j : Job) (ws : List ℕ) (budget : ℕ) (v : Layout) (a : (k : ℕ) �
 -- ── what holds before each pass of the code's loop ──
 
 pub record Going (l : Lent) (ws : List ℕ) (budget : ℕ) (v : Layout) (width : ℕ) (s : DescentState) (layout : List (List ℕ))
-    (penalties rowLines rowTags columnLines columnTags sums : List ℕ) : Type 0 where
+    (penalties rowLines rowTags columnLines columnTags sums maps : List ℕ) : Type 0 where
   pub underway : Underway (jobOf l) ws budget v (budget - s .made) (standingAs (layoutOf layout) s) (s .sum)
   pub laid : LaidOut l layout penalties
-  pub stores : LineStores (jobOf l) width rowLines rowTags columnLines columnTags sums
+  pub stores : LineStores (jobOf l) width rowLines rowTags columnLines columnTags sums maps

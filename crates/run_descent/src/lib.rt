@@ -66,8 +66,6 @@ pub fn descend(
     pixels: &[u8],
     rows: &[StripEntry],
     row_starts: &[u32],
-    columns: &[StripEntry],
-    column_starts: &[u32],
     weights: &[u32],
     budget: u32,
     width: usize,
@@ -78,15 +76,16 @@ pub fn descend(
     column_lines: &mut [u8],
     column_tags: &mut [u32],
     sums: &mut [u32],
+    maps: &mut [u64],
 ) -> Ended
-    requires { ⌜ Tools (lentBy size (now table) (now pixels)) (now rows) (now «row_starts») (now columns) (now «column_starts») width ⌝
+    requires { ⌜ Tools (lentBy size (now table) (now pixels)) (now rows) (now «row_starts») width ⌝
         ∗ ⌜ ValidWeights (jobOf (lentBy size (now table) (now pixels))) (now weights) ⌝
         ∗ ⌜ LaidOut (lentBy size (now table) (now pixels)) (now layout) (now penalties) ⌝
-        ∗ ⌜ LineStores (jobOf (lentBy size (now table) (now pixels))) width (now «row_lines») (now «row_tags») (now «column_lines») (now «column_tags») (now sums) ⌝
+        ∗ ⌜ LineStores (jobOf (lentBy size (now table) (now pixels))) width (now «row_lines») (now «row_tags») (now «column_lines») (now «column_tags») (now sums) (now maps) ⌝
         ∗ ⌜ budget ≤ budgetBound ⌝ }
     ensures result { λ r. ⌜ descend (jobOf (lentBy size (now (table .entry)) (now (pixels .entry)))) (now (weights .entry)) budget (layoutOf (now (layout .entry))) ≡ descentOf r (layoutOf (now (layout .exit))) ⌝ }
     ensures laid { λ r. ⌜ LaidOut (lentBy size (now (table .entry)) (now (pixels .entry))) (now (layout .exit)) (now (penalties .exit)) ⌝ }
-    ensures stores { λ r. ⌜ LineStores (jobOf (lentBy size (now (table .entry)) (now (pixels .entry)))) width (now («row_lines» .exit)) (now («row_tags» .exit)) (now («column_lines» .exit)) (now («column_tags» .exit)) (now (sums .exit)) ⌝ }
+    ensures stores { λ r. ⌜ LineStores (jobOf (lentBy size (now (table .entry)) (now (pixels .entry)))) width (now («row_lines» .exit)) (now («row_tags» .exit)) (now («column_lines» .exit)) (now («column_tags» .exit)) (now (sums .exit)) (now (maps .exit)) ⌝ }
 {
     let pieces = size.count;
     let count = trial_count(size, table);
@@ -107,8 +106,6 @@ pub fn descend(
             pixels,
             rows,
             row_starts,
-            columns,
-            column_starts,
             weights,
             at,
             width,
@@ -119,6 +116,7 @@ pub fn descend(
             column_lines,
             column_tags,
             sums,
+            maps,
         );
     }
 }

@@ -5,7 +5,6 @@ use Prim.Native.Nat.{ℕ, _*_, _<_, _≤_}
 use Rattle.model.specs.Lent.{Lent, jobOf}
 use Rattle.model.specs.Buffer.{layoutOf, entriesOf}
 use Rattle.model.specs.Calls.{budgetBound}
-use Rattle.search_lines.specs.Kept.{linesBound}
 use Rattle.descent_laws.specs.Claims.{ValidWeights}
 use Rattle.descent_laws.specs.LentLayout.{Laid}
 
@@ -17,8 +16,12 @@ pub record Given (l : Lent) (layout : List (List ℕ)) (ws : List ℕ) (budget :
   pub weights : ValidWeights (jobOf l) ws
   pub few : budget ≤ budgetBound
 
+-- the bytes of a store of lines
+abbrev pub linesLength : ℕ
+linesLength = 131072
+
 -- how many slots a store has: at least one, as many as its bytes have room for, and each has a tag
 pub record Slots (width slots : ℕ) : Type 0 where
   pub some : 0 < slots
-  pub room : slots * width ≤ linesBound
-  pub tagged : slots ≤ 8192
+  pub room : slots * width ≤ linesLength
+  pub tagged : slots ≤ 2048

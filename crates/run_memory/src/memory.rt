@@ -12,6 +12,7 @@ use run_descent::Ended;
 use run_descent::descend;
 use run_rounds::Tally;
 use run_rounds::rounds;
+use search_lines::MAP_SLOTS;
 use search_lines::slot_width;
 use search_shapes::STARTS_LENGTH;
 use search_shapes::empty_store;
@@ -21,10 +22,14 @@ use search_table::fill_table;
 ghost use mathlib.Core.Path.{_≡_};
 ghost use Prim.Native.Nat.{_≤_};
 ghost use lib.ListN.{length};
+ghost use Rattle.model.specs.Layout.{Job};
 ghost use Rattle.model.specs.Lent.{lentBy, jobOf};
+ghost use Rattle.model.specs.Buffer.{layoutOf};
 ghost use Rattle.model.specs.Calls.{roundBound};
 ghost use Rattle.model.specs.declared.Direction.{Direction};
-ghost use Rattle.search_lines.specs.Kept.{slotBound};
+ghost use Rattle.descent_laws.specs.LentLayout.{Laid};
+ghost use Rattle.search_laws.specs.Table.{PenaltyTable};
+ghost use Rattle.search_lines.specs.Kept.{MapsReady, slotBound};
 ghost use Rattle.search_shapes.specs.Shapes.{Shapes};
 ghost use Rattle.run_step.specs.Ready.{Tools, LaidOut, Store, LineStores};
 ghost use Rattle.run_rounds.specs.Rounds.{Ran};
@@ -32,10 +37,13 @@ ghost use Rattle.run_memory.specs.Ready.{Given, Slots};
 ghost use Rattle.run_memory.specs.Done.{FewRounds, Done};
 
 // The bytes of a store of penalty lines.
-const LINES_LENGTH: usize = 524288;
+const LINES_LENGTH: usize = 131072;
 
 // The most slots of one: its tags.
-const TAGS_LENGTH: usize = 8192;
+const TAGS_LENGTH: usize = 2048;
+
+// The words of a store of maps: its slots, and some thousand maps of pieces of middle size.
+const MAPS_LENGTH: usize = 212992;
 
 // What a run does: one descent, or at most so many rounds.
 pub enum Plan {
@@ -49,7 +57,7 @@ pub enum PlanOutcome {
     Rounds(Tally),
 }
 
-// How many slots of a width a store of 524,288 bytes and 8,192 tags has.
+// How many slots of a width a store of 131,072 bytes and 2,048 tags has.
 fn slot_count(width: usize) -> usize
     requires { ⌜ (64 ≤ width) × (width ≤ slotBound) ⌝ }
     ensures { λ r. ⌜ Slots width r ⌝ }
@@ -59,9 +67,19 @@ fn slot_count(width: usize) -> usize
 
 // Room for kept lines. While no tag names a line what it holds plays no part, so that no caller's proof computes with it.
 fn empty_lines() -> [u8; LINES_LENGTH]
-    ensures { λ r. ⌜ length r ≡ 524288 ⌝ }
+    ensures { λ r. ⌜ length r ≡ 131072 ⌝ }
 {
     [0u8; LINES_LENGTH]
+}
+
+// Room for kept maps, with none kept.
+fn empty_maps() -> [u64; MAPS_LENGTH]
+    ensures ready { λ r. ⌜ ((j : Job) → MapsReady j r) ⌝ }
+    ensures length { λ r. ⌜ length r ≡ 212992 ⌝ }
+{
+    let mut maps = [0u64; MAPS_LENGTH];
+    maps[MAP_SLOTS] = MAP_SLOTS as u64 + 1;
+    maps
 }
 
 // The rounds, with a buffer for the layout at hand; the best one stands in the lent buffer.
@@ -71,8 +89,6 @@ fn take_rounds(
     pixels: &[u8],
     rows: &[StripEntry],
     row_starts: &[u32],
-    columns: &[StripEntry],
-    column_starts: &[u32],
     count: u32,
     budget: u32,
     width: usize,
@@ -84,12 +100,13 @@ fn take_rounds(
     column_lines: &mut [u8],
     column_tags: &mut [u32],
     sums: &mut [u32],
+    maps: &mut [u64],
 ) -> Tally
     requires { ⌜ Given (lentBy size (now table) (now pixels)) (now layout) (now weights) budget ⌝
         ∗ ⌜ count ≤ roundBound ⌝
-        ∗ ⌜ Tools (lentBy size (now table) (now pixels)) (now rows) (now «row_starts») (now columns) (now «column_starts») width ⌝
+        ∗ ⌜ Tools (lentBy size (now table) (now pixels)) (now rows) (now «row_starts») width ⌝
         ∗ ⌜ LaidOut (lentBy size (now table) (now pixels)) (now layout) (now penalties) ⌝
-        ∗ ⌜ LineStores (jobOf (lentBy size (now table) (now pixels))) width (now «row_lines») (now «row_tags») (now «column_lines») (now «column_tags») (now sums) ⌝ }
+        ∗ ⌜ LineStores (jobOf (lentBy size (now table) (now pixels))) width (now «row_lines») (now «row_tags») (now «column_lines») (now «column_tags») (now sums) (now maps) ⌝ }
     ensures { λ r. ⌜ Ran (lentBy size (now (table .entry)) (now (pixels .entry))) (now (layout .entry)) (now (weights .entry)) count budget r (now (layout .exit)) (now (weights .exit)) ⌝ }
 {
     let mut present = [[0u16; 3]; PIECE_BOUND];
@@ -101,8 +118,6 @@ fn take_rounds(
         pixels,
         rows,
         row_starts,
-        columns,
-        column_starts,
         count,
         budget,
         width,
@@ -115,6 +130,7 @@ fn take_rounds(
         column_lines,
         column_tags,
         sums,
+        maps,
     )
 }
 
@@ -125,8 +141,6 @@ fn run_plan(
     pixels: &[u8],
     rows: &[StripEntry],
     row_starts: &[u32],
-    columns: &[StripEntry],
-    column_starts: &[u32],
     plan: Plan,
     budget: u32,
     width: usize,
@@ -138,12 +152,13 @@ fn run_plan(
     column_lines: &mut [u8],
     column_tags: &mut [u32],
     sums: &mut [u32],
+    maps: &mut [u64],
 ) -> PlanOutcome
     requires { ⌜ Given (lentBy size (now table) (now pixels)) (now layout) (now weights) budget ⌝
         ∗ ⌜ FewRounds plan ⌝
-        ∗ ⌜ Tools (lentBy size (now table) (now pixels)) (now rows) (now «row_starts») (now columns) (now «column_starts») width ⌝
+        ∗ ⌜ Tools (lentBy size (now table) (now pixels)) (now rows) (now «row_starts») width ⌝
         ∗ ⌜ LaidOut (lentBy size (now table) (now pixels)) (now layout) (now penalties) ⌝
-        ∗ ⌜ LineStores (jobOf (lentBy size (now table) (now pixels))) width (now «row_lines») (now «row_tags») (now «column_lines») (now «column_tags») (now sums) ⌝ }
+        ∗ ⌜ LineStores (jobOf (lentBy size (now table) (now pixels))) width (now «row_lines») (now «row_tags») (now «column_lines») (now «column_tags») (now sums) (now maps) ⌝ }
     ensures { λ r. ⌜ Done (lentBy size (now (table .entry)) (now (pixels .entry))) (now (layout .entry)) (now (weights .entry)) plan budget r (now (layout .exit)) (now (weights .exit)) ⌝ }
 {
     match plan {
@@ -153,8 +168,6 @@ fn run_plan(
             pixels,
             rows,
             row_starts,
-            columns,
-            column_starts,
             weights,
             budget,
             width,
@@ -165,6 +178,7 @@ fn run_plan(
             column_lines,
             column_tags,
             sums,
+            maps,
         )),
         Plan::Rounds(count) => PlanOutcome::Rounds(take_rounds(
             size,
@@ -172,8 +186,6 @@ fn run_plan(
             pixels,
             rows,
             row_starts,
-            columns,
-            column_starts,
             count,
             budget,
             width,
@@ -185,91 +197,82 @@ fn run_plan(
             column_lines,
             column_tags,
             sums,
+            maps,
         )),
     }
 }
 
-// The run, with a store for lines along columns, the table of penalties and scratch for the sums of a line.
+// The run, with a store for lines along columns and scratch for the sums of a line.
 fn with_column_lines(
     size: JobSize,
     table: &[PieceEntry],
     pixels: &[u8],
     rows: &[StripEntry],
     row_starts: &[u32],
-    columns: &[StripEntry],
-    column_starts: &[u32],
     plan: Plan,
     budget: u32,
     width: usize,
     layout: &mut [PlaceEntry],
     weights: &mut [u32],
+    penalties: &mut [u8],
     row_lines: &mut [u8],
     row_tags: &mut [u32],
+    maps: &mut [u64],
 ) -> PlanOutcome
     requires { ⌜ Given (lentBy size (now table) (now pixels)) (now layout) (now weights) budget ⌝
         ∗ ⌜ FewRounds plan ⌝
-        ∗ ⌜ Tools (lentBy size (now table) (now pixels)) (now rows) (now «row_starts») (now columns) (now «column_starts») width ⌝
-        ∗ ⌜ Store Direction.Horizontal (jobOf (lentBy size (now table) (now pixels))) width (now «row_lines») (now «row_tags») ⌝ }
+        ∗ ⌜ Tools (lentBy size (now table) (now pixels)) (now rows) (now «row_starts») width ⌝
+        ∗ ⌜ LaidOut (lentBy size (now table) (now pixels)) (now layout) (now penalties) ⌝
+        ∗ ⌜ Store Direction.Horizontal (jobOf (lentBy size (now table) (now pixels))) width (now «row_lines») (now «row_tags») (now maps) ⌝ }
     ensures { λ r. ⌜ Done (lentBy size (now (table .entry)) (now (pixels .entry))) (now (layout .entry)) (now (weights .entry)) plan budget r (now (layout .exit)) (now (weights .exit)) ⌝ }
 {
     let mut lines = empty_lines();
     let mut tags = [0u32; TAGS_LENGTH];
-    let mut penalties = [0u8; TABLE_LENGTH];
     let mut sums = [0u32; COLUMN_BOUND];
     let slots = slot_count(width);
-    fill_table(
-        rows,
-        row_starts,
-        columns,
-        column_starts,
-        table,
-        layout,
-        &mut penalties,
-    );
     run_plan(
         size,
         table,
         pixels,
         rows,
         row_starts,
-        columns,
-        column_starts,
         plan,
         budget,
         width,
         layout,
         weights,
-        &mut penalties,
+        penalties,
         row_lines,
         row_tags,
         &mut lines,
         &mut tags[..slots],
         &mut sums,
+        maps,
     )
 }
 
-// The run, with a store for lines along rows.
+// The run, with a store for lines along rows and one for maps.
 fn with_row_lines(
     size: JobSize,
     table: &[PieceEntry],
     pixels: &[u8],
     rows: &[StripEntry],
     row_starts: &[u32],
-    columns: &[StripEntry],
-    column_starts: &[u32],
     plan: Plan,
     budget: u32,
     layout: &mut [PlaceEntry],
     weights: &mut [u32],
+    penalties: &mut [u8],
 ) -> PlanOutcome
     requires { ⌜ Given (lentBy size (now table) (now pixels)) (now layout) (now weights) budget ⌝
         ∗ ⌜ FewRounds plan ⌝
         ∗ ⌜ Shapes Direction.Horizontal (jobOf (lentBy size (now table) (now pixels))) (now rows) (now «row_starts») ⌝
-        ∗ ⌜ Shapes Direction.Vertical (jobOf (lentBy size (now table) (now pixels))) (now columns) (now «column_starts») ⌝ }
+        ∗ ⌜ LaidOut (lentBy size (now table) (now pixels)) (now layout) (now penalties) ⌝ }
     ensures { λ r. ⌜ Done (lentBy size (now (table .entry)) (now (pixels .entry))) (now (layout .entry)) (now (weights .entry)) plan budget r (now (layout .exit)) (now (weights .exit)) ⌝ }
 {
     let mut lines = empty_lines();
     let mut tags = [0u32; TAGS_LENGTH];
+    let mut maps = empty_maps();
     let width = slot_width(size, table);
     let slots = slot_count(width);
     with_column_lines(
@@ -278,19 +281,55 @@ fn with_row_lines(
         pixels,
         rows,
         row_starts,
-        columns,
-        column_starts,
         plan,
         budget,
         width,
         layout,
         weights,
+        penalties,
         &mut lines,
         &mut tags[..slots],
+        &mut maps,
     )
 }
 
-// The run, with the strips of every piece in every turn.
+// Fills the table of the layout's penalties. The strips along columns are needed here only, so their store is gone when the run begins.
+fn first_table(
+    size: JobSize,
+    table: &[PieceEntry],
+    pixels: &[u8],
+    rows: &[StripEntry],
+    row_starts: &[u32],
+    layout: &[PlaceEntry],
+    penalties: &mut [u8],
+)
+    requires { ⌜ Laid (lentBy size (now table) (now pixels)) (now layout) ⌝
+        ∗ ⌜ Shapes Direction.Horizontal (jobOf (lentBy size (now table) (now pixels))) (now rows) (now «row_starts») ⌝
+        ∗ ⌜ length (now penalties) ≡ 4096 ⌝ }
+    ensures { λ r. ⌜ PenaltyTable (jobOf (lentBy size (now (table .entry)) (now (pixels .entry)))) (layoutOf (now (layout .entry))) (size .count) (now (penalties .exit)) ⌝ }
+{
+    let mut columns = empty_store();
+    let mut column_starts = [0u32; STARTS_LENGTH];
+    make_shapes(
+        size,
+        table,
+        pixels,
+        Direction::Vertical,
+        &mut columns,
+        &mut column_starts,
+    );
+    fill_table(
+        rows,
+        row_starts,
+        &columns,
+        &column_starts,
+        table,
+        layout,
+        penalties,
+    );
+}
+
+// The run, with the strips of every piece in every turn along rows and the table of penalties.
 pub fn with_strips(
     size: JobSize,
     table: &[PieceEntry],
@@ -305,8 +344,7 @@ pub fn with_strips(
 {
     let mut rows = empty_store();
     let mut row_starts = [0u32; STARTS_LENGTH];
-    let mut columns = empty_store();
-    let mut column_starts = [0u32; STARTS_LENGTH];
+    let mut penalties = [0u8; TABLE_LENGTH];
     make_shapes(
         size,
         table,
@@ -315,13 +353,14 @@ pub fn with_strips(
         &mut rows,
         &mut row_starts,
     );
-    make_shapes(
+    first_table(
         size,
         table,
         pixels,
-        Direction::Vertical,
-        &mut columns,
-        &mut column_starts,
+        &rows,
+        &row_starts,
+        layout,
+        &mut penalties,
     );
     with_row_lines(
         size,
@@ -329,11 +368,10 @@ pub fn with_strips(
         pixels,
         &rows,
         &row_starts,
-        &columns,
-        &column_starts,
         plan,
         budget,
         layout,
         weights,
+        &mut penalties,
     )
 }

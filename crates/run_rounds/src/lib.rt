@@ -75,8 +75,6 @@ pub fn rounds(
     pixels: &[u8],
     rows: &[StripEntry],
     row_starts: &[u32],
-    columns: &[StripEntry],
-    column_starts: &[u32],
     count: u32,
     budget: u32,
     width: usize,
@@ -89,11 +87,12 @@ pub fn rounds(
     column_lines: &mut [u8],
     column_tags: &mut [u32],
     sums: &mut [u32],
+    maps: &mut [u64],
 ) -> Tally
-    requires { ⌜ Tools (lentBy size (now table) (now pixels)) (now rows) (now «row_starts») (now columns) (now «column_starts») width ⌝
+    requires { ⌜ Tools (lentBy size (now table) (now pixels)) (now rows) (now «row_starts») width ⌝
         ∗ ⌜ ValidWeights (jobOf (lentBy size (now table) (now pixels))) (now weights) ⌝
         ∗ ⌜ LaidOut (lentBy size (now table) (now pixels)) (now present) (now penalties) ⌝
-        ∗ ⌜ LineStores (jobOf (lentBy size (now table) (now pixels))) width (now «row_lines») (now «row_tags») (now «column_lines») (now «column_tags») (now sums) ⌝ }
+        ∗ ⌜ LineStores (jobOf (lentBy size (now table) (now pixels))) width (now «row_lines») (now «row_tags») (now «column_lines») (now «column_tags») (now sums) (now maps) ⌝ }
     requires { ⌜ now best ≡ now present ⌝ ∗ ⌜ (count ≤ roundBound) × (budget ≤ budgetBound) ⌝ }
     ensures { λ r. ⌜ Ran (lentBy size (now (table .entry)) (now (pixels .entry))) (now (present .entry)) (now (weights .entry)) count budget r (now (best .exit)) (now (weights .exit)) ⌝ }
 {
@@ -109,8 +108,6 @@ pub fn rounds(
             pixels,
             rows,
             row_starts,
-            columns,
-            column_starts,
             weights,
             budget,
             width,
@@ -121,6 +118,7 @@ pub fn rounds(
             column_lines,
             column_tags,
             sums,
+            maps,
         );
         made = made + round.made as u64;
         moves = moves + round.moves as u64;

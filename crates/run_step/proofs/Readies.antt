@@ -19,6 +19,7 @@ use Rattle.search_laws.proofs.Loop.{trial-valid}
 use Rattle.search_shapes.specs.Shapes.{Shapes}
 use Rattle.descent_laws.specs.LentLayout.{Laid}
 use Rattle.search_lines.specs.Kept.{LinesKept, Wide}
+use Rattle.search_lines.proofs.Keeping.{with-maps}
 use Rattle.search_bounded.specs.Ready.{SearchReady}
 use Rattle.search_tracks.specs.declared.Mover.{Mover}
 use Rattle.run_step.specs.Ready.{LaidOut, Store}
@@ -45,11 +46,11 @@ laid-of l es T w h = record { well = w; whole = laid-length l es T h; valid = h 
 
 -- a search in a direction e that is the store's
 pub search-ready : (l : Lent) (d e : Direction) (strips : List (List ℕ)) (starts : List ℕ) (es : List (List ℕ)) (ws : List ℕ) (width : ℕ)
-    (T lines tags : List ℕ)
-    → e ≡ d → lentWell l ≡ true → LaidOut l es T → Shapes d (jobOf l) strips starts → ValidWeights (jobOf l) ws → Wide (jobOf l) width → width ≤ 512
-    → Store d (jobOf l) width lines tags → SearchReady l e strips starts es ws width lines tags
-search-ready l d e strips starts es ws width T lines tags same w h s v wide narrow k =
-    subst (λ (x : Direction). SearchReady l x strips starts es ws width lines tags) (sym same)
+    (T lines tags maps : List ℕ)
+    → e ≡ d → lentWell l ≡ true → LaidOut l es T → Shapes Horizontal (jobOf l) strips starts → ValidWeights (jobOf l) ws → Wide (jobOf l) width → width ≤ 512
+    → Store d (jobOf l) width lines tags maps → SearchReady l e strips starts es ws width lines tags maps
+search-ready l d e strips starts es ws width T lines tags maps same w h s v wide narrow k =
+    subst (λ (x : Direction). SearchReady l x strips starts es ws width lines tags maps) (sym same)
     (record { laid = laid-of l es T w h; shapes = s; weighed = v; wide = wide; narrow = narrow; kept = k .kept; fits = k .fits })
 
 -- ── after a trial ──
@@ -71,12 +72,18 @@ module _ (j : Job) (ws : List ℕ) (es : List (List ℕ)) (k : Trial) (line : Li
     entries-same new e = e ∙ ap₂ (λ (x : Line) (o : Option Best). entriesAfter es (k .piece) (k .turn) x o) isLine search-same
 
 -- a store whose lines were renewed
-pub store-again : (d e : Direction) (j : Job) (width : ℕ) (lines tags new newTags : List ℕ) → e ≡ d → Store d j width lines tags
-    → LinesKept e j width new newTags
-    → length new ≡ length lines → Store d j width new newTags
-store-again d e j width lines tags new newTags same k h n =
+pub store-again : (d e : Direction) (j : Job) (width : ℕ) (lines tags maps new newTags newMaps : List ℕ) → e ≡ d → Store d j width lines tags maps
+    → LinesKept e j width new newTags newMaps
+    → length new ≡ length lines → Store d j width new newTags newMaps
+store-again d e j width lines tags maps new newTags newMaps same k h n =
     let f = k .fits in
-    record { kept = subst (λ (x : Direction). LinesKept x j width new newTags) same h; fits = omega arith }
+    record { kept = subst (λ (x : Direction). LinesKept x j width new newTags newMaps) same h; fits = omega arith }
+
+-- a store whose maps were renewed with another's
+pub store-beside : (d e : Direction) (j : Job) (width : ℕ) (lines tags maps others otherTags newMaps : List ℕ) → Store d j width lines tags maps
+    → LinesKept e j width others otherTags newMaps → Store d j width lines tags newMaps
+store-beside d e j width lines tags maps others otherTags newMaps k h =
+    record { kept = with-maps d j width lines tags maps newMaps (h .ready) (k .kept); fits = k .fits }
 
 module _ (l : Lent) (ws : List ℕ) (es : List (List ℕ)) (T : List ℕ) (k : Trial) (proper : Proper (jobOf l) 0 (jobOf l .size .count) k)
     (h : LaidOut l es T) where

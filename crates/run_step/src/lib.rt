@@ -88,12 +88,13 @@ fn try_line(
     lines: &mut [u8],
     tags: &mut [u32],
     sums: &mut [u32],
+    maps: &mut [u64],
 ) -> Tried
-    requires { ⌜ SearchReady (lentBy size (now table) (now pixels)) (lineDirection (mover .line)) (now strips) (now starts) (now layout) (now weights) width (now lines) (now tags) ⌝ ∗ ⌜ mover .piece < size .count ⌝ ∗ ⌜ PenaltyTable (jobOf (lentBy size (now table) (now pixels))) (layoutOf (now layout)) (size .count) (now penalties) ⌝ ∗ ⌜ columnBound ≤ length (now sums) ⌝ }
+    requires { ⌜ SearchReady (lentBy size (now table) (now pixels)) (lineDirection (mover .line)) (now strips) (now starts) (now layout) (now weights) width (now lines) (now tags) (now maps) ⌝ ∗ ⌜ mover .piece < size .count ⌝ ∗ ⌜ PenaltyTable (jobOf (lentBy size (now table) (now pixels))) (layoutOf (now layout)) (size .count) (now penalties) ⌝ ∗ ⌜ columnBound ≤ length (now sums) ⌝ }
     ensures answer { λ r. ⌜ r ≡ triedAnswer (moverSearch (jobOf (lentBy size (now (table .entry)) (now (pixels .entry)))) (now (weights .entry)) (layoutOf (now (layout .entry))) mover bound) ⌝ }
     ensures memory { λ r. ⌜ now (layout .exit) ≡ entriesAfter (now (layout .entry)) (mover .piece) (mover .turn) (mover .line) (moverSearch (jobOf (lentBy size (now (table .entry)) (now (pixels .entry)))) (now (weights .entry)) (layoutOf (now (layout .entry))) mover bound) ⌝ }
     ensures renewed { λ r. ⌜ PenaltyTable (jobOf (lentBy size (now (table .entry)) (now (pixels .entry)))) (layoutOf (now (layout .exit))) (size .count) (now (penalties .exit)) ⌝ }
-    ensures kept { λ r. ⌜ LinesKept (lineDirection (mover .line)) (jobOf (lentBy size (now (table .entry)) (now (pixels .entry)))) width (now (lines .exit)) (now (tags .exit)) ⌝ }
+    ensures kept { λ r. ⌜ LinesKept (lineDirection (mover .line)) (jobOf (lentBy size (now (table .entry)) (now (pixels .entry)))) width (now (lines .exit)) (now (tags .exit)) (now (maps .exit)) ⌝ }
 {
     let Found::At(sum, at) = search_below(
         size,
@@ -109,6 +110,7 @@ fn try_line(
         lines,
         tags,
         sums,
+        maps,
     ) else {
         return Tried::Quiet;
     };
@@ -125,6 +127,7 @@ fn try_line(
         lines,
         tags,
         penalties,
+        maps,
     );
     let piece = mover.piece;
     let turn = mover.turn;
@@ -140,8 +143,6 @@ fn try_trial(
     pixels: &[u8],
     rows: &[StripEntry],
     row_starts: &[u32],
-    columns: &[StripEntry],
-    column_starts: &[u32],
     weights: &[u32],
     trial: Trial,
     present: u32,
@@ -153,17 +154,18 @@ fn try_trial(
     column_lines: &mut [u8],
     column_tags: &mut [u32],
     sums: &mut [u32],
+    maps: &mut [u64],
 ) -> Tried
-    requires { ⌜ Tools (lentBy size (now table) (now pixels)) (now rows) (now «row_starts») (now columns) (now «column_starts») width ⌝
+    requires { ⌜ Tools (lentBy size (now table) (now pixels)) (now rows) (now «row_starts») width ⌝
         ∗ ⌜ ValidWeights (jobOf (lentBy size (now table) (now pixels))) (now weights) ⌝
         ∗ ⌜ LaidOut (lentBy size (now table) (now pixels)) (now layout) (now penalties) ⌝
-        ∗ ⌜ LineStores (jobOf (lentBy size (now table) (now pixels))) width (now «row_lines») (now «row_tags») (now «column_lines») (now «column_tags») (now sums) ⌝ }
+        ∗ ⌜ LineStores (jobOf (lentBy size (now table) (now pixels))) width (now «row_lines») (now «row_tags») (now «column_lines») (now «column_tags») (now sums) (now maps) ⌝ }
     requires { ⌜ Proper (jobOf (lentBy size (now table) (now pixels))) 0 (size .count) (trialAs trial) ⌝
         ∗ ⌜ present ≡ pieceSum (jobOf (lentBy size (now table) (now pixels))) (now weights) (layoutOf (now layout)) (trial .piece) ⌝ }
     ensures answer { λ r. ⌜ r ≡ triedAnswer (trialSearch (jobOf (lentBy size (now (table .entry)) (now (pixels .entry)))) (now (weights .entry)) (layoutOf (now (layout .entry))) (trialAs trial)) ⌝ }
     ensures memory { λ r. ⌜ now (layout .exit) ≡ entriesAfter (now (layout .entry)) (trial .piece) (trial .turn) (trialLine (layoutOf (now (layout .entry))) (trialAs trial)) (trialSearch (jobOf (lentBy size (now (table .entry)) (now (pixels .entry)))) (now (weights .entry)) (layoutOf (now (layout .entry))) (trialAs trial)) ⌝ }
     ensures laid { λ r. ⌜ LaidOut (lentBy size (now (table .entry)) (now (pixels .entry))) (now (layout .exit)) (now (penalties .exit)) ⌝ }
-    ensures stores { λ r. ⌜ LineStores (jobOf (lentBy size (now (table .entry)) (now (pixels .entry)))) width (now («row_lines» .exit)) (now («row_tags» .exit)) (now («column_lines» .exit)) (now («column_tags» .exit)) (now (sums .exit)) ⌝ }
+    ensures stores { λ r. ⌜ LineStores (jobOf (lentBy size (now (table .entry)) (now (pixels .entry)))) width (now («row_lines» .exit)) (now («row_tags» .exit)) (now («column_lines» .exit)) (now («column_tags» .exit)) (now (sums .exit)) (now (maps .exit)) ⌝ }
 {
     let turn = trial.turn;
     let direction = trial.direction;
@@ -189,13 +191,14 @@ fn try_trial(
             row_lines,
             row_tags,
             sums,
+            maps,
         ),
         Direction::Vertical => try_line(
             size,
             table,
             pixels,
-            columns,
-            column_starts,
+            rows,
+            row_starts,
             weights,
             mover,
             present,
@@ -205,6 +208,7 @@ fn try_trial(
             column_lines,
             column_tags,
             sums,
+            maps,
         ),
     }
 }
@@ -244,8 +248,6 @@ pub fn step(
     pixels: &[u8],
     rows: &[StripEntry],
     row_starts: &[u32],
-    columns: &[StripEntry],
-    column_starts: &[u32],
     weights: &[u32],
     at: DescentState,
     width: usize,
@@ -256,18 +258,19 @@ pub fn step(
     column_lines: &mut [u8],
     column_tags: &mut [u32],
     sums: &mut [u32],
+    maps: &mut [u64],
 ) -> DescentState
-    requires { ⌜ Tools (lentBy size (now table) (now pixels)) (now rows) (now «row_starts») (now columns) (now «column_starts») width ⌝
+    requires { ⌜ Tools (lentBy size (now table) (now pixels)) (now rows) (now «row_starts») width ⌝
         ∗ ⌜ ValidWeights (jobOf (lentBy size (now table) (now pixels))) (now weights) ⌝
         ∗ ⌜ LaidOut (lentBy size (now table) (now pixels)) (now layout) (now penalties) ⌝
-        ∗ ⌜ LineStores (jobOf (lentBy size (now table) (now pixels))) width (now «row_lines») (now «row_tags») (now «column_lines») (now «column_tags») (now sums) ⌝ }
+        ∗ ⌜ LineStores (jobOf (lentBy size (now table) (now pixels))) width (now «row_lines») (now «row_tags») (now «column_lines») (now «column_tags») (now sums) (now maps) ⌝ }
     requires { ⌜ Proper (jobOf (lentBy size (now table) (now pixels))) 0 (size .count) (trialAs (at .trial)) ⌝
         ∗ ⌜ at .sum ≡ weightedSum (jobOf (lentBy size (now table) (now pixels))) (now weights) (layoutOf (now layout)) ⌝
         ∗ ⌜ (at .quiet < 1000) × ((at .made < budgetBound) × (at .moves ≤ at .made)) ⌝ }
     ensures passed { λ r. ⌜ standingAs (layoutOf (now (layout .exit))) r ≡ passed (jobOf (lentBy size (now (table .entry)) (now (pixels .entry)))) (standingAs (layoutOf (now (layout .entry))) at) (attempt (jobOf (lentBy size (now (table .entry)) (now (pixels .entry)))) (now (weights .entry)) (layoutOf (now (layout .entry))) (trialAs (at .trial))) ⌝ }
     ensures sum { λ r. ⌜ r .sum ≡ weightedSum (jobOf (lentBy size (now (table .entry)) (now (pixels .entry)))) (now (weights .entry)) (layoutOf (now (layout .exit))) ⌝ }
     ensures laid { λ r. ⌜ LaidOut (lentBy size (now (table .entry)) (now (pixels .entry))) (now (layout .exit)) (now (penalties .exit)) ⌝ }
-    ensures stores { λ r. ⌜ LineStores (jobOf (lentBy size (now (table .entry)) (now (pixels .entry)))) width (now («row_lines» .exit)) (now («row_tags» .exit)) (now («column_lines» .exit)) (now («column_tags» .exit)) (now (sums .exit)) ⌝ }
+    ensures stores { λ r. ⌜ LineStores (jobOf (lentBy size (now (table .entry)) (now (pixels .entry)))) width (now («row_lines» .exit)) (now («row_tags» .exit)) (now («column_lines» .exit)) (now («column_tags» .exit)) (now (sums .exit)) (now (maps .exit)) ⌝ }
 {
     let sum = at.sum;
     let trial = at.trial;
@@ -282,8 +285,6 @@ pub fn step(
         pixels,
         rows,
         row_starts,
-        columns,
-        column_starts,
         weights,
         trial,
         present as u32,
@@ -295,6 +296,7 @@ pub fn step(
         column_lines,
         column_tags,
         sums,
+        maps,
     ) else {
         return after_quiet(at, next);
     };

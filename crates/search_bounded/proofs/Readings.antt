@@ -14,7 +14,8 @@ use Rattle.descent_laws.specs.Claims.{ValidWeights}
 use Rattle.search_laws.specs.PieceSum.{weightBetween, penaltyOn}
 use Rattle.search_laws.proofs.PieceSum.{weight-bound}
 use Rattle.descent_laws.specs.LentLayout.{Laid}
-use Rattle.search_lines.specs.Kept.{linePlaces, HoldsLine, LinesKept}
+use Rattle.search_laws.specs.Lines.{linePlaces, HoldsLine}
+use Rattle.search_lines.specs.Kept.{LinesKept}
 use Rattle.search_lines.specs.Making.{Asked}
 use Rattle.search_lines.specs.declared.Two.{Two}
 use Rattle.search_lines.proofs.Placed.{line-on}
@@ -33,30 +34,30 @@ abbrev pub twoOf : Mover → Track → StandingPiece → ℕ → Two
 twoOf m t s k =
     record { moved = m .piece; «moved_turn» = m .turn; standing = k; «standing_turn» = s .turn; offset = s .across + 255 - t .held }
 
-module _ (l : Lent) (strips : List (List ℕ)) (starts : List ℕ) (layout : List (List ℕ)) (width : ℕ) (lines tags : List ℕ) (m : Mover) (t : Track)
+module _ (l : Lent) (strips : List (List ℕ)) (starts : List ℕ) (layout : List (List ℕ)) (width : ℕ) (lines tags maps : List ℕ) (m : Mover) (t : Track)
     (s : StandingPiece) (k : ℕ) (d : Direction) (along-line : d ≡ lineDirection (m .line))
-    (ready : LinesReady l (lineDirection (m .line)) strips starts layout width lines tags) (track : OnTrack l m t) (there : k < l .size .count)
+    (ready : LinesReady l (lineDirection (m .line)) strips starts layout width lines tags maps) (track : OnTrack l m t) (there : k < l .size .count)
   where
     -- what is asked for is there
-    pub line-asked : s .across + 255 - t .held < 1024 → Asked l d strips starts (twoOf m t s k)
+    pub line-asked : s .across + 255 - t .held < 1024 → Asked l strips starts (twoOf m t s k)
     line-asked near =
-        record { well = ready .laid .well; shapes = rw along-line (ready .shapes); moved = track .piece; standing = there; offset = near }
+        record { well = ready .laid .well; shapes = ready .shapes; moved = track .piece; standing = there; offset = near }
 
     -- the store is kept in the direction
-    pub line-kept : LinesKept d (jobOf l) width lines tags
+    pub line-kept : LinesKept d (jobOf l) width lines tags maps
     line-kept = rw along-line (ready .kept)
 
     -- the store after a line is made or found
-    pub line-ready : (lines′ tags′ : List ℕ) → LinesKept d (jobOf l) width lines′ tags′ → length lines′ ≡ length lines
-        → LinesReady l (lineDirection (m .line)) strips starts layout width lines′ tags′
-    line-ready lines′ tags′ kept e =
+    pub line-ready : (lines′ tags′ maps′ : List ℕ) → LinesKept d (jobOf l) width lines′ tags′ maps′ → length lines′ ≡ length lines
+        → LinesReady l (lineDirection (m .line)) strips starts layout width lines′ tags′ maps′
+    line-ready lines′ tags′ maps′ kept e =
         let f = ready .fits in
         record {
           laid = ready .laid;
           shapes = ready .shapes;
           wide = ready .wide;
           narrow = ready .narrow;
-          kept = subst (λ (d : Direction). LinesKept d (jobOf l) width lines′ tags′) along-line kept;
+          kept = subst (λ (d : Direction). LinesKept d (jobOf l) width lines′ tags′ maps′) along-line kept;
           fits = omega arith;
         }
 

@@ -26,9 +26,9 @@ use Rattle.search_line_sums.proofs.Scans.{sumOf}
 
 -- all but the weights
 pub lines-ready : {l : Lent} {d : Direction} {strips : List (List ℕ)} {starts : List ℕ} {layout : List (List ℕ)} {weights : List ℕ} {width : ℕ}
-    {lines tags : List ℕ}
-    → SearchReady l d strips starts layout weights width lines tags
-    → LinesReady l d strips starts layout width lines tags
+    {lines tags maps : List ℕ}
+    → SearchReady l d strips starts layout weights width lines tags maps
+    → LinesReady l d strips starts layout width lines tags maps
 lines-ready s =
     record { laid = s .laid; shapes = s .shapes; wide = s .wide; narrow = s .narrow; kept = s .kept; fits = s .fits }
 

@@ -1,5 +1,5 @@
--- What a search along a direction works on: a job and a layout that pass their checks, the strips of every piece in every turn along the
--- direction, a store of kept lines, and weights. Assumes nothing.
+-- What a search along a direction works on: a job and a layout that pass their checks, the strips of every piece in every turn along
+-- rows, a store of kept lines, and weights. Assumes nothing.
 use mathlib.Core.List.{List}
 use mathlib.Core.Path.{_≡_}
 use Prim.Native.Nat.{ℕ, _<_, _≤_}
@@ -7,6 +7,7 @@ use lib.ListN.{length}
 use Rattle.model.specs.Lent.{Lent, jobOf}
 use Rattle.model.specs.Layout.{Job, Layout}
 use Rattle.model.specs.declared.Direction.{Direction}
+use Rattle.model.specs.declared.Direction.the-variants.{Horizontal}
 use Rattle.descent_laws.specs.Claims.{ValidWeights}
 use Rattle.search_shapes.specs.Shapes.{Shapes}
 use Rattle.descent_laws.specs.LentLayout.{Laid}
@@ -18,23 +19,23 @@ use Rattle.search_tracks.specs.declared.StandingPiece.{StandingPiece}
 
 -- with the weights
 pub record SearchReady (l : Lent) (d : Direction) (strips : List (List ℕ)) (starts : List ℕ) (layout : List (List ℕ)) (weights : List ℕ) (width : ℕ)
-    (lines tags : List ℕ) : Type 0 where
+    (lines tags maps : List ℕ) : Type 0 where
   pub laid : Laid l layout
-  pub shapes : Shapes d (jobOf l) strips starts
+  pub shapes : Shapes Horizontal (jobOf l) strips starts
   pub weighed : ValidWeights (jobOf l) weights
   pub wide : Wide (jobOf l) width
   pub narrow : width ≤ slotBound
-  pub kept : LinesKept d (jobOf l) width lines tags
+  pub kept : LinesKept d (jobOf l) width lines tags maps
   pub fits : length lines ≤ linesBound
 
 -- without them
 pub record LinesReady (l : Lent) (d : Direction) (strips : List (List ℕ)) (starts : List ℕ) (layout : List (List ℕ)) (width : ℕ)
-    (lines tags : List ℕ) : Type 0 where
+    (lines tags maps : List ℕ) : Type 0 where
   pub laid : Laid l layout
-  pub shapes : Shapes d (jobOf l) strips starts
+  pub shapes : Shapes Horizontal (jobOf l) strips starts
   pub wide : Wide (jobOf l) width
   pub narrow : width ≤ slotBound
-  pub kept : LinesKept d (jobOf l) width lines tags
+  pub kept : LinesKept d (jobOf l) width lines tags maps
   pub fits : length lines ≤ linesBound
 
 -- the track is that of the mover, a piece of the job

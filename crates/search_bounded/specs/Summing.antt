@@ -9,7 +9,7 @@ use Rattle.model.specs.Layout.{Job, Layout, turnedPiece, shapeIn, cornerIn}
 use Rattle.model.specs.Search.{places}
 use Rattle.search_laws.specs.BoundedSearch.{Serves}
 use Rattle.search_laws.specs.PieceSum.{weightBetween, penaltyOn}
-use Rattle.search_lines.specs.Kept.{linePlaces}
+use Rattle.search_laws.specs.Lines.{linePlaces}
 use Rattle.search_tracks.specs.declared.Mover.{Mover}
 use Rattle.search_tracks.specs.declared.Track.{Track}
 use Rattle.search_tracks.specs.declared.StandingPiece.{StandingPiece}

@@ -45,13 +45,14 @@ fn search_over(
     lines: &mut [u8],
     tags: &mut [u32],
     sums: &mut [u32],
+    maps: &mut [u64],
 ) -> Found
-    requires { ⌜ LinesReady (lentBy size (now table) (now pixels)) (lineDirection (mover .line)) (now strips) (now starts) (now layout) width (now lines) (now tags) ⌝
+    requires { ⌜ LinesReady (lentBy size (now table) (now pixels)) (lineDirection (mover .line)) (now strips) (now starts) (now layout) width (now lines) (now tags) (now maps) ⌝
         ∗ ⌜ ValidWeights (jobOf (lentBy size (now table) (now pixels))) (now weights) ⌝
         ∗ ⌜ OnTrack (lentBy size (now table) (now pixels)) mover track ⌝
         ∗ ⌜ length (now sums) ≡ track .places ⌝ }
     ensures found { λ r. ⌜ r ≡ foundAnswer (belowBound (sumAt (jobOf (lentBy size (now (table .entry)) (now (pixels .entry)))) (now (weights .entry)) (layoutOf (now (layout .entry))) (mover .piece) (mover .turn) (mover .line)) (places (jobOf (lentBy size (now (table .entry)) (now (pixels .entry)))) (mover .piece) (mover .turn) (mover .line)) bound) ⌝ }
-    ensures ready { λ r. ⌜ LinesReady (lentBy size (now (table .entry)) (now (pixels .entry))) (lineDirection (mover .line)) (now (strips .entry)) (now (starts .entry)) (now (layout .entry)) width (now (lines .exit)) (now (tags .exit)) ⌝ }
+    ensures ready { λ r. ⌜ LinesReady (lentBy size (now (table .entry)) (now (pixels .entry))) (lineDirection (mover .line)) (now (strips .entry)) (now (starts .entry)) (now (layout .entry)) width (now (lines .exit)) (now (tags .exit)) (now (maps .exit)) ⌝ }
 {
     clear(sums);
     add_others(
@@ -69,6 +70,7 @@ fn search_over(
         lines,
         tags,
         sums,
+        maps,
     );
     least_below(sums, bound)
 }
@@ -89,10 +91,11 @@ pub fn search_below(
     lines: &mut [u8],
     tags: &mut [u32],
     sums: &mut [u32],
+    maps: &mut [u64],
 ) -> Found
-    requires { ⌜ SearchReady (lentBy size (now table) (now pixels)) (lineDirection (mover .line)) (now strips) (now starts) (now layout) (now weights) width (now lines) (now tags) ⌝ ∗ ⌜ mover .piece < size .count ⌝ ∗ ⌜ columnBound ≤ length (now sums) ⌝ }
+    requires { ⌜ SearchReady (lentBy size (now table) (now pixels)) (lineDirection (mover .line)) (now strips) (now starts) (now layout) (now weights) width (now lines) (now tags) (now maps) ⌝ ∗ ⌜ mover .piece < size .count ⌝ ∗ ⌜ columnBound ≤ length (now sums) ⌝ }
     ensures found { λ r. ⌜ r ≡ foundAnswer (belowBound (sumAt (jobOf (lentBy size (now (table .entry)) (now (pixels .entry)))) (now (weights .entry)) (layoutOf (now (layout .entry))) (mover .piece) (mover .turn) (mover .line)) (places (jobOf (lentBy size (now (table .entry)) (now (pixels .entry)))) (mover .piece) (mover .turn) (mover .line)) bound) ⌝ }
-    ensures kept { λ r. ⌜ LinesKept (lineDirection (mover .line)) (jobOf (lentBy size (now (table .entry)) (now (pixels .entry)))) width (now (lines .exit)) (now (tags .exit)) ⌝ }
+    ensures kept { λ r. ⌜ LinesKept (lineDirection (mover .line)) (jobOf (lentBy size (now (table .entry)) (now (pixels .entry)))) width (now (lines .exit)) (now (tags .exit)) (now (maps .exit)) ⌝ }
     ensures sizes { λ r. ⌜ (length (now (lines .exit)) ≡ length (now (lines .entry))) × (length (now (tags .exit)) ≡ length (now (tags .entry))) ⌝ }
 {
     let track = track_of(size, table, mover);
@@ -112,6 +115,7 @@ pub fn search_below(
         lines,
         tags,
         &mut sums[..places],
+        maps,
     )
 }
 
@@ -129,12 +133,13 @@ pub fn renew_placed(
     lines: &mut [u8],
     tags: &mut [u32],
     penalties: &mut [u8],
+    maps: &mut [u64],
 )
-    requires { ⌜ LinesReady (lentBy size (now table) (now pixels)) (lineDirection (mover .line)) (now strips) (now starts) (now layout) width (now lines) (now tags) ⌝
+    requires { ⌜ LinesReady (lentBy size (now table) (now pixels)) (lineDirection (mover .line)) (now strips) (now starts) (now layout) width (now lines) (now tags) (now maps) ⌝
         ∗ ⌜ (mover .piece < size .count) × (at < places (jobOf (lentBy size (now table) (now pixels))) (mover .piece) (mover .turn) (mover .line)) ⌝
         ∗ ⌜ PenaltyTable (jobOf (lentBy size (now table) (now pixels))) (layoutOf (now layout)) (size .count) (now penalties) ⌝ }
     ensures table { λ r. ⌜ PenaltyTable (jobOf (lentBy size (now (table .entry)) (now (pixels .entry)))) (movedTo (layoutOf (now (layout .entry))) (mover .piece) (mover .turn) (mover .line) at) (size .count) (now (penalties .exit)) ⌝ }
-    ensures kept { λ r. ⌜ LinesKept (lineDirection (mover .line)) (jobOf (lentBy size (now (table .entry)) (now (pixels .entry)))) width (now (lines .exit)) (now (tags .exit)) ⌝ }
+    ensures kept { λ r. ⌜ LinesKept (lineDirection (mover .line)) (jobOf (lentBy size (now (table .entry)) (now (pixels .entry)))) width (now (lines .exit)) (now (tags .exit)) (now (maps .exit)) ⌝ }
     ensures sizes { λ r. ⌜ (length (now (lines .exit)) ≡ length (now (lines .entry))) × (length (now (tags .exit)) ≡ length (now (tags .entry))) ⌝ }
 {
     let track = track_of(size, table, mover);
@@ -152,5 +157,6 @@ pub fn renew_placed(
         lines,
         tags,
         penalties,
+        maps,
     );
 }

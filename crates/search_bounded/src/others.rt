@@ -25,7 +25,7 @@ ghost use Rattle.model.specs.Piece.{lineDirection, onLine};
 ghost use Rattle.model.specs.declared.JobSize.{JobSize};
 ghost use Rattle.model.specs.Lent.{lentBy, jobOf};
 ghost use Rattle.model.specs.Buffer.{layoutOf};
-ghost use Rattle.search_lines.specs.Kept.{middle};
+ghost use Rattle.search_laws.specs.Lines.{middle};
 ghost use Rattle.descent_laws.specs.Claims.{ValidWeights};
 ghost use Rattle.search_laws.specs.Table.{Renewed};
 ghost use Rattle.search_bounded.specs.Ready.{LinesReady, OnTrack, IsStanding};
@@ -55,13 +55,14 @@ fn line_with(
     width: usize,
     lines: &mut [u8],
     tags: &mut [u32],
+    maps: &mut [u64],
 ) -> usize
-    requires { ⌜ LinesReady (lentBy size (now table) (now pixels)) (lineDirection (mover .line)) (now strips) (now starts) (now layout) width (now lines) (now tags) ⌝
+    requires { ⌜ LinesReady (lentBy size (now table) (now pixels)) (lineDirection (mover .line)) (now strips) (now starts) (now layout) width (now lines) (now tags) (now maps) ⌝
         ∗ ⌜ OnTrack (lentBy size (now table) (now pixels)) mover track ⌝
         ∗ ⌜ IsStanding (jobOf (lentBy size (now table) (now pixels))) (layoutOf (now layout)) (lineDirection (mover .line)) k standing ⌝
         ∗ ⌜ (k < size .count) × ((track .held ≤ standing .across + middle) × (standing .across + middle - track .held < 1024)) ⌝ }
     ensures line { λ r. ⌜ LineRead (jobOf (lentBy size (now (table .entry)) (now (pixels .entry)))) (layoutOf (now (layout .entry))) mover k (now (lines .exit)) r ⌝ }
-    ensures ready { λ r. ⌜ LinesReady (lentBy size (now (table .entry)) (now (pixels .entry))) (lineDirection (mover .line)) (now (strips .entry)) (now (starts .entry)) (now (layout .entry)) width (now (lines .exit)) (now (tags .exit)) ⌝ }
+    ensures ready { λ r. ⌜ LinesReady (lentBy size (now (table .entry)) (now (pixels .entry))) (lineDirection (mover .line)) (now (strips .entry)) (now (starts .entry)) (now (layout .entry)) width (now (lines .exit)) (now (tags .exit)) (now (maps .exit)) ⌝ }
 {
     let line = mover.line;
     let moved_turn = mover.turn;
@@ -84,6 +85,7 @@ fn line_with(
         width,
         lines,
         tags,
+        maps,
     )
 }
 
@@ -105,14 +107,15 @@ fn add_reached(
     lines: &mut [u8],
     tags: &mut [u32],
     sums: &mut [u32],
+    maps: &mut [u64],
 )
-    requires { ⌜ LinesReady (lentBy size (now table) (now pixels)) (lineDirection (mover .line)) (now strips) (now starts) (now layout) width (now lines) (now tags) ⌝
+    requires { ⌜ LinesReady (lentBy size (now table) (now pixels)) (lineDirection (mover .line)) (now strips) (now starts) (now layout) width (now lines) (now tags) (now maps) ⌝
         ∗ ⌜ ValidWeights (jobOf (lentBy size (now table) (now pixels))) (now weights) ⌝
         ∗ ⌜ OnTrack (lentBy size (now table) (now pixels)) mover track ⌝
         ∗ ⌜ IsStanding (jobOf (lentBy size (now table) (now pixels))) (layoutOf (now layout)) (lineDirection (mover .line)) k standing ⌝
         ∗ ⌜ (k < size .count) × ToAdd track standing reach (now sums) ⌝ }
     ensures added { λ r. ⌜ PartAdded (jobOf (lentBy size (now (table .entry)) (now (pixels .entry)))) (now (weights .entry)) (layoutOf (now (layout .entry))) mover k reach (now (sums .entry)) (now (sums .exit)) ⌝ }
-    ensures ready { λ r. ⌜ LinesReady (lentBy size (now (table .entry)) (now (pixels .entry))) (lineDirection (mover .line)) (now (strips .entry)) (now (starts .entry)) (now (layout .entry)) width (now (lines .exit)) (now (tags .exit)) ⌝ }
+    ensures ready { λ r. ⌜ LinesReady (lentBy size (now (table .entry)) (now (pixels .entry))) (lineDirection (mover .line)) (now (strips .entry)) (now (starts .entry)) (now (layout .entry)) width (now (lines .exit)) (now (tags .exit)) (now (maps .exit)) ⌝ }
 {
     let low = reach.low;
     let high = reach.high;
@@ -131,6 +134,7 @@ fn add_reached(
         width,
         lines,
         tags,
+        maps,
     );
     let from = slot + reach.from;
     let end = from + (high - low);
@@ -154,14 +158,15 @@ pub fn add_other(
     lines: &mut [u8],
     tags: &mut [u32],
     sums: &mut [u32],
+    maps: &mut [u64],
 )
-    requires { ⌜ LinesReady (lentBy size (now table) (now pixels)) (lineDirection (mover .line)) (now strips) (now starts) (now layout) width (now lines) (now tags) ⌝
+    requires { ⌜ LinesReady (lentBy size (now table) (now pixels)) (lineDirection (mover .line)) (now strips) (now starts) (now layout) width (now lines) (now tags) (now maps) ⌝
         ∗ ⌜ ValidWeights (jobOf (lentBy size (now table) (now pixels))) (now weights) ⌝
         ∗ ⌜ OnTrack (lentBy size (now table) (now pixels)) mover track ⌝
         ∗ ⌜ k < size .count ⌝
         ∗ ⌜ Summed (jobOf (lentBy size (now table) (now pixels))) (now weights) (layoutOf (now layout)) mover bound k (now sums) ⌝ }
     ensures summed { λ r. ⌜ Summed (jobOf (lentBy size (now (table .entry)) (now (pixels .entry)))) (now (weights .entry)) (layoutOf (now (layout .entry))) mover bound (k + 1) (now (sums .exit)) ⌝ }
-    ensures ready { λ r. ⌜ LinesReady (lentBy size (now (table .entry)) (now (pixels .entry))) (lineDirection (mover .line)) (now (strips .entry)) (now (starts .entry)) (now (layout .entry)) width (now (lines .exit)) (now (tags .exit)) ⌝ }
+    ensures ready { λ r. ⌜ LinesReady (lentBy size (now (table .entry)) (now (pixels .entry))) (lineDirection (mover .line)) (now (strips .entry)) (now (starts .entry)) (now (layout .entry)) width (now (lines .exit)) (now (tags .exit)) (now (maps .exit)) ⌝ }
 {
     if k == mover.piece {
         return;
@@ -193,6 +198,7 @@ pub fn add_other(
         lines,
         tags,
         sums,
+        maps,
     );
 }
 
@@ -211,13 +217,14 @@ pub fn penalty_at(
     width: usize,
     lines: &mut [u8],
     tags: &mut [u32],
+    maps: &mut [u64],
 ) -> u8
-    requires { ⌜ LinesReady (lentBy size (now table) (now pixels)) (lineDirection (mover .line)) (now strips) (now starts) (now layout) width (now lines) (now tags) ⌝
+    requires { ⌜ LinesReady (lentBy size (now table) (now pixels)) (lineDirection (mover .line)) (now strips) (now starts) (now layout) width (now lines) (now tags) (now maps) ⌝
         ∗ ⌜ OnTrack (lentBy size (now table) (now pixels)) mover track ⌝
         ∗ ⌜ k < size .count ⌝
         ∗ ⌜ at < track .places ⌝ }
     ensures penalty { λ r. ⌜ r ≡ moverPenalty (jobOf (lentBy size (now (table .entry)) (now (pixels .entry)))) (layoutOf (now (layout .entry))) mover at k ⌝ }
-    ensures ready { λ r. ⌜ LinesReady (lentBy size (now (table .entry)) (now (pixels .entry))) (lineDirection (mover .line)) (now (strips .entry)) (now (starts .entry)) (now (layout .entry)) width (now (lines .exit)) (now (tags .exit)) ⌝ }
+    ensures ready { λ r. ⌜ LinesReady (lentBy size (now (table .entry)) (now (pixels .entry))) (lineDirection (mover .line)) (now (strips .entry)) (now (starts .entry)) (now (layout .entry)) width (now (lines .exit)) (now (tags .exit)) (now (maps .exit)) ⌝ }
 {
     let standing = beside(table, layout, mover, k);
     let reach = reach_of(track, standing);
@@ -243,6 +250,7 @@ pub fn penalty_at(
         width,
         lines,
         tags,
+        maps,
     );
     let from = slot + reach.from + (at - low);
     lines[from]
@@ -264,13 +272,14 @@ pub fn add_others(
     lines: &mut [u8],
     tags: &mut [u32],
     sums: &mut [u32],
+    maps: &mut [u64],
 )
-    requires { ⌜ LinesReady (lentBy size (now table) (now pixels)) (lineDirection (mover .line)) (now strips) (now starts) (now layout) width (now lines) (now tags) ⌝
+    requires { ⌜ LinesReady (lentBy size (now table) (now pixels)) (lineDirection (mover .line)) (now strips) (now starts) (now layout) width (now lines) (now tags) (now maps) ⌝
         ∗ ⌜ ValidWeights (jobOf (lentBy size (now table) (now pixels))) (now weights) ⌝
         ∗ ⌜ OnTrack (lentBy size (now table) (now pixels)) mover track ⌝
         ∗ ⌜ Summed (jobOf (lentBy size (now table) (now pixels))) (now weights) (layoutOf (now layout)) mover bound 0 (now sums) ⌝ }
     ensures summed { λ r. ⌜ Summed (jobOf (lentBy size (now (table .entry)) (now (pixels .entry)))) (now (weights .entry)) (layoutOf (now (layout .entry))) mover bound (size .count) (now (sums .exit)) ⌝ }
-    ensures ready { λ r. ⌜ LinesReady (lentBy size (now (table .entry)) (now (pixels .entry))) (lineDirection (mover .line)) (now (strips .entry)) (now (starts .entry)) (now (layout .entry)) width (now (lines .exit)) (now (tags .exit)) ⌝ }
+    ensures ready { λ r. ⌜ LinesReady (lentBy size (now (table .entry)) (now (pixels .entry))) (lineDirection (mover .line)) (now (strips .entry)) (now (starts .entry)) (now (layout .entry)) width (now (lines .exit)) (now (tags .exit)) (now (maps .exit)) ⌝ }
 {
     let mut k = 0;
     while k < size.count {
@@ -290,6 +299,7 @@ pub fn add_others(
             lines,
             tags,
             sums,
+            maps,
         );
         k += 1;
     }
@@ -311,13 +321,14 @@ fn renew_other(
     lines: &mut [u8],
     tags: &mut [u32],
     penalties: &mut [u8],
+    maps: &mut [u64],
 )
-    requires { ⌜ LinesReady (lentBy size (now table) (now pixels)) (lineDirection (mover .line)) (now strips) (now starts) (now layout) width (now lines) (now tags) ⌝
+    requires { ⌜ LinesReady (lentBy size (now table) (now pixels)) (lineDirection (mover .line)) (now strips) (now starts) (now layout) width (now lines) (now tags) (now maps) ⌝
         ∗ ⌜ OnTrack (lentBy size (now table) (now pixels)) mover track ⌝
         ∗ ⌜ (k < size .count) × (at < track .places) ⌝
         ∗ ⌜ Renewed (jobOf (lentBy size (now table) (now pixels))) (layoutOf (now layout)) (size .count) (mover .piece) (onLine (mover .line) (mover .turn) at) k (now penalties) ⌝ }
     ensures renewed { λ r. ⌜ Renewed (jobOf (lentBy size (now (table .entry)) (now (pixels .entry)))) (layoutOf (now (layout .entry))) (size .count) (mover .piece) (onLine (mover .line) (mover .turn) at) (k + 1) (now (penalties .exit)) ⌝ }
-    ensures ready { λ r. ⌜ LinesReady (lentBy size (now (table .entry)) (now (pixels .entry))) (lineDirection (mover .line)) (now (strips .entry)) (now (starts .entry)) (now (layout .entry)) width (now (lines .exit)) (now (tags .exit)) ⌝ }
+    ensures ready { λ r. ⌜ LinesReady (lentBy size (now (table .entry)) (now (pixels .entry))) (lineDirection (mover .line)) (now (strips .entry)) (now (starts .entry)) (now (layout .entry)) width (now (lines .exit)) (now (tags .exit)) (now (maps .exit)) ⌝ }
 {
     let i = mover.piece;
     if k == i {
@@ -337,6 +348,7 @@ fn renew_other(
         width,
         lines,
         tags,
+        maps,
     );
     penalties[i * PIECE_BOUND + k] = p;
     penalties[k * PIECE_BOUND + i] = p;
@@ -357,13 +369,14 @@ pub fn renew_others(
     lines: &mut [u8],
     tags: &mut [u32],
     penalties: &mut [u8],
+    maps: &mut [u64],
 )
-    requires { ⌜ LinesReady (lentBy size (now table) (now pixels)) (lineDirection (mover .line)) (now strips) (now starts) (now layout) width (now lines) (now tags) ⌝
+    requires { ⌜ LinesReady (lentBy size (now table) (now pixels)) (lineDirection (mover .line)) (now strips) (now starts) (now layout) width (now lines) (now tags) (now maps) ⌝
         ∗ ⌜ OnTrack (lentBy size (now table) (now pixels)) mover track ⌝
         ∗ ⌜ at < track .places ⌝
         ∗ ⌜ Renewed (jobOf (lentBy size (now table) (now pixels))) (layoutOf (now layout)) (size .count) (mover .piece) (onLine (mover .line) (mover .turn) at) 0 (now penalties) ⌝ }
     ensures renewed { λ r. ⌜ Renewed (jobOf (lentBy size (now (table .entry)) (now (pixels .entry)))) (layoutOf (now (layout .entry))) (size .count) (mover .piece) (onLine (mover .line) (mover .turn) at) (size .count) (now (penalties .exit)) ⌝ }
-    ensures ready { λ r. ⌜ LinesReady (lentBy size (now (table .entry)) (now (pixels .entry))) (lineDirection (mover .line)) (now (strips .entry)) (now (starts .entry)) (now (layout .entry)) width (now (lines .exit)) (now (tags .exit)) ⌝ }
+    ensures ready { λ r. ⌜ LinesReady (lentBy size (now (table .entry)) (now (pixels .entry))) (lineDirection (mover .line)) (now (strips .entry)) (now (starts .entry)) (now (layout .entry)) width (now (lines .exit)) (now (tags .exit)) (now (maps .exit)) ⌝ }
 {
     let mut k = 0;
     while k < size.count {
@@ -382,6 +395,7 @@ pub fn renew_others(
             lines,
             tags,
             penalties,
+            maps,
         );
         k += 1;
     }

@@ -19,7 +19,7 @@ use Rattle.search_laws.specs.BoundedSearch.{belowBound}
 use Rattle.search_laws.proofs.LineSearch.{search-unbounded}
 use Rattle.search_shapes.proofs.Jobs.{places-few}
 use Rattle.descent_laws.specs.LentLayout.{Laid}
-use Rattle.search_lines.specs.Kept.{LinesKept, Wide}
+use Rattle.search_lines.specs.Kept.{MapsReady, LinesKept, Wide}
 use Rattle.search_lines.proofs.Keeping.{none-kept, twice-wide}
 use Rattle.search_line_sums.specs.Answers.{foundAnswer}
 use Rattle.search_calls.specs.Answers.{InReach, bestAnswer, searchAnswer}
@@ -37,9 +37,9 @@ store-wide l w =
     (omega arith, omega arith))
 
 -- a fresh store keeps no line
-pub store-fresh : (d : Direction) (l : Lent) → LinesKept d (jobOf l) 512 (replicate 32768 0) (replicate 64 0)
-store-fresh d l =
-    none-kept d (jobOf l) 512 (replicate 32768 0) (replicate 64 0)
+pub store-fresh : (d : Direction) (l : Lent) (maps : List ℕ) → MapsReady (jobOf l) maps → LinesKept d (jobOf l) 512 (replicate 32768 0) (replicate 64 0) maps
+store-fresh d l maps ready =
+    none-kept d (jobOf l) 512 (replicate 32768 0) (replicate 64 0) maps ready
     (let a = length-replicate {A = ℕ} 64 0 in let b = length-replicate {A = ℕ} 32768 0 in omega arith)
     (let a = length-replicate {A = ℕ} 64 0 in omega arith)
     (λ m b. getD-replicate {A = ℕ} 64 m 0 0 (let a = length-replicate {A = ℕ} 64 0 in omega arith))

@@ -3,6 +3,7 @@ use causes::placing_causes;
 use model::COLUMN_BOUND;
 use model::Column;
 use model::Coordinate;
+use model::Direction;
 use model::DoneAnswer;
 use model::JobSize;
 use model::Line;
@@ -14,12 +15,14 @@ use model::Turn;
 use model::plain_refusal;
 use search_bounded::search_below;
 use search_line_sums::Found;
+use search_lines::MAP_SLOTS;
 use search_shapes::STARTS_LENGTH;
 use search_shapes::empty_store;
 use search_tracks::Mover;
-use search_tracks::direction_of;
 ghost use mathlib.Core.Path.{_≡_};
 ghost use Prim.Native.Nat.{_<_};
+ghost use lib.ListN.{length};
+ghost use Rattle.model.specs.Layout.{Job};
 ghost use Rattle.model.specs.Piece.{coordinateOn};
 ghost use Rattle.model.specs.Search.{searchLine};
 ghost use Rattle.model.specs.Lent.{lentBy, jobOf};
@@ -27,6 +30,7 @@ ghost use Rattle.model.specs.Buffer.{layoutOf};
 ghost use Rattle.model.specs.Calls.{searchCall};
 ghost use Rattle.descent_laws.specs.LentLayout.{Laid};
 ghost use Rattle.descent_laws.specs.Claims.{ValidWeights};
+ghost use Rattle.search_lines.specs.Kept.{MapsReady};
 ghost use Rattle.search_line_sums.specs.Answers.{foundAnswer};
 ghost use Rattle.search_calls.specs.Answers.{InReach, bestAnswer, searchAnswer};
 
@@ -35,6 +39,9 @@ const SLOTS: usize = model::PIECE_BOUND;
 
 // The bytes of a line: more than twice the largest box side.
 const SLOT_WIDTH: usize = 512;
+
+// The words of a store of maps: its slots, and room for one map at least.
+const MAPS_LENGTH: usize = 24576;
 
 // No sum reaches it: a search without a bound.
 const NO_BOUND: u32 = 4294967295;
@@ -45,7 +52,17 @@ pub enum SearchAnswer {
     Refused(Refusal),
 }
 
-// The line search without a bound, with strips and a store of its own.
+// Room for the maps of one search, with none kept.
+fn empty_maps() -> [u64; MAPS_LENGTH]
+    ensures ready { λ r. ⌜ ((j : Job) → MapsReady j r) ⌝ }
+    ensures length { λ r. ⌜ length r ≡ 24576 ⌝ }
+{
+    let mut maps = [0u64; MAPS_LENGTH];
+    maps[MAP_SLOTS] = MAP_SLOTS as u64 + 1;
+    maps
+}
+
+// The line search without a bound, with strips and stores of its own.
 fn search_alone(
     size: JobSize,
     table: &[PieceEntry],
@@ -59,17 +76,17 @@ fn search_alone(
         ∗ ⌜ mover .piece < size .count ⌝ }
     ensures { λ r. ⌜ r ≡ foundAnswer (searchLine (jobOf (lentBy size (now (table .entry)) (now (pixels .entry)))) (now (weights .entry)) (layoutOf (now (layout .entry))) (mover .piece) (mover .turn) (mover .line)) ⌝ }
 {
-    let line = mover.line;
     let mut strips = empty_store();
     let mut starts = [0u32; STARTS_LENGTH];
     let mut store = [0u8; SLOTS * SLOT_WIDTH];
     let mut tags = [0u32; SLOTS];
     let mut sums = [0u32; COLUMN_BOUND];
+    let mut maps = empty_maps();
     search_shapes::make_shapes(
         size,
         table,
         pixels,
-        direction_of(line),
+        Direction::Horizontal,
         &mut strips,
         &mut starts,
     );
@@ -87,6 +104,7 @@ fn search_alone(
         &mut store,
         &mut tags,
         &mut sums,
+        &mut maps,
     )
 }
 

@@ -1,6 +1,6 @@
 -- How the store stays right: one with no tag is, and one stays so when a slot is made anew. Assumes nothing.
 use Rattle.list_laws.proofs.Kit.{_∙_, _≡_, ap, sym, ⊎-elim, List, _*_, _+_, _<_, _≤_, ℕ, arith, getD, length, length-set, set, getD-set-other, getD-set-same}
-use Rattle.list_laws.proofs.Kit.{ℕ-discrete}
+use Rattle.list_laws.proofs.Kit.{ℕ-discrete, getD-replicate, length-replicate, replicate}
 use Rattle.model.specs.Layout.{Job, turnedPiece}
 use Rattle.model.specs.Lent.{lentBy, jobOf, pieceBound, entryColumns, entryRows}
 use Rattle.model.specs.declared.Direction.{Direction}
@@ -10,7 +10,13 @@ use Rattle.list_laws.proofs.Numbers.{slot-before, below-or}
 use Rattle.job_laws.proofs.Turned.{turned-extent}
 use Rattle.search_shapes.specs.Shapes.{numberedShape, shapeNumber}
 use Rattle.search_shapes.proofs.Numbers.{turn-below, number-back}
-use Rattle.search_lines.specs.Kept.{keyOf, HoldsLine, LinesKept, Wide}
+use Rattle.search_bits.specs.Bit.{lengthLimit}
+use Rattle.search_laws.specs.Lines.{HoldsLine}
+use Rattle.search_maps.specs.Map.{mapBound}
+use Rattle.search_map_store.specs.Store.{Forgotten}
+use Rattle.search_map_store.proofs.Keeping as maps
+use Rattle.search_map_laws.specs.Keys.{directionOf, movedOf, standingOf}
+use Rattle.search_lines.specs.Kept.{keyOf, mapSlots, MapsReady, LinesKept, Wide}
 use Rattle.search_lines.specs.Making.{LineMade}
 
 -- ── keys ──
@@ -23,23 +29,28 @@ same-shape j i k t u e = sym (number-back j i t) ∙ ap (numberedShape j) e ∙ 
 
 module _ (d : Direction) (j : Job) (width : ℕ) where
   -- a store with no tag keeps no line
-  pub none-kept : (lines tags : List ℕ) → length tags * width ≤ length lines → 0 < length tags → ((m : ℕ) → m < length tags → getD tags m 0 ≡ 0)
-      → LinesKept d j width lines tags
-  none-kept lines tags room some none =
+  pub none-kept : (lines tags maps : List ℕ) → MapsReady j maps → length tags * width ≤ length lines → 0 < length tags
+      → ((m : ℕ) → m < length tags → getD tags m 0 ≡ 0) → LinesKept d j width lines tags maps
+  none-kept lines tags maps ready room some none =
       record {
+        ready = ready;
         room = room;
         some = some;
         holds = λ m i k t u offset l a b c e. absurd (let z = none m l in omega arith);
       }
 
-  module _ (lines tags : List ℕ) (kept : LinesKept d j width lines tags) where
+  -- the lines of a store do not rest on the maps
+  pub with-maps : (lines tags maps more : List ℕ) → MapsReady j more → LinesKept d j width lines tags maps → LinesKept d j width lines tags more
+  with-maps lines tags maps more ready kept = record { ready = ready; room = kept .room; some = kept .some; holds = kept .holds }
+
+  module _ (lines tags maps : List ℕ) (kept : LinesKept d j width lines tags maps) where
     -- a slot lies in the store
     pub slot-within : (m : ℕ) → m < length tags → m * width + width ≤ length lines
     slot-within m l = let r = kept .room in let h = slot-before m (length tags) width l in omega arith
 
-    module _ (m i k : ℕ) (t u : Turn) (offset : ℕ) (new : List ℕ) (few : j .size .count ≤ pieceBound) (slot : m < length tags) (first : i < j .size .count)
+    module _ (m i k : ℕ) (t u : Turn) (offset : ℕ) (new more : List ℕ) (few : j .size .count ≤ pieceBound) (slot : m < length tags) (first : i < j .size .count)
         (second : k < j .size .count) (near : offset < 1024) (wide : Wide j width)
-        (made : LineMade d (turnedPiece j i t) (turnedPiece j k u) offset lines (m * width) new)
+        (made : LineMade d (turnedPiece j i t) (turnedPiece j k u) offset lines (m * width) new) (ready : MapsReady j more)
       where
         -- the tag of the slot
         abbrev key : ℕ
@@ -70,12 +81,13 @@ module _ (d : Direction) (j : Job) (width : ℕ) where
             (below-or n m)
 
         -- the store with the slot made anew
-        pub renewed : LinesKept d j width new (set tags m key)
+        pub renewed : LinesKept d j width new (set tags m key) more
         renewed =
             let same : length (set tags m key) ≡ length tags = simp length-set in
             let r = kept .room in
             let z = made .same in
             record {
+              ready = ready;
               room = rw (same, z) r;
               some = rw same (kept .some);
               holds = λ n i′ k′ t′ u′ offset′ l a b c e. by-slot n i′ k′ t′ u′ offset′ (omega arith) a b c e (ℕ-discrete n m);
@@ -91,6 +103,26 @@ module _ (d : Direction) (j : Job) (width : ℕ) where
                 let f : getD (set tags m key) n 0 ≡ getD tags n 0 = getD-set-other tags m n key 0 h in
                 let w = wide i′ k′ t′ u′ d a b in
                 λ x y. other-byte n x h (omega arith) ∙ kept .holds n i′ k′ t′ u′ offset′ l a b c (sym f ∙ e) x y
+
+-- ── the maps ──
+
+-- a store whose maps are forgotten is ready
+pub maps-ready : (j : Job) (xs ys : List ℕ) → mapSlots + 1 + mapBound ≤ length xs → length xs < lengthLimit → Forgotten mapSlots xs ys → MapsReady j ys
+maps-ready j xs ys room short g =
+    let e = g .same in
+    record { kept = maps.none-kept mapSlots directionOf (movedOf j) (standingOf j) xs ys (omega arith) g; room = omega arith; short = omega arith }
+
+-- so is a fresh one, with the end past the slots
+pub maps-fresh : (n : ℕ) → mapSlots + 1 + mapBound ≤ n → n < lengthLimit → (j : Job) → MapsReady j (set (replicate n 0) mapSlots (mapSlots + 1))
+maps-fresh n room short j =
+    let long : length {A = ℕ} (replicate n 0) ≡ n = length-replicate {A = ℕ} n 0 in
+    maps-ready j (replicate n 0) (set (replicate n 0) mapSlots (mapSlots + 1)) (omega arith) (omega arith)
+    (record {
+      same = length-set (replicate {A = ℕ} n 0) mapSlots (mapSlots + 1);
+      none = λ m l.
+          getD-set-other (replicate n 0) mapSlots m (mapSlots + 1) 0 (λ e. omega arith) ∙ getD-replicate {A = ℕ} n m 0 0 (omega arith);
+      end = getD-set-same (replicate n 0) mapSlots (mapSlots + 1) 0 (omega arith);
+    })
 
 -- ── how wide a slot is ──
 

@@ -1,21 +1,30 @@
 -- One line, made in its part of the store: what its making asks of the two pieces' strips, and what the store holds then. Assumes nothing.
-use Rattle.list_laws.proofs.Kit.{_∙_, _≡_, ap, sym, List, _++_, _+_, _-_, _<_, _≤_, ℕ, arith, List·getD-append, drop, getD, length, length-append}
-use Rattle.list_laws.proofs.Kit.{length-drop, take, getD-append-add, getD-drop, getD-take, length-take-le}
-use Rattle.model.specs.Piece.{extent, sideBound}
+use Rattle.list_laws.proofs.Kit.{_∙_, _≡_, ap, subst, sym, List, _++_, _+_, _-_, _<_, _≤_, ℕ, arith, List·getD-append, drop, getD, length, length-append}
+use Rattle.list_laws.proofs.Kit.{length-drop, length-take, take, getD-append-add, getD-drop, getD-take, length-take-le}
+use Rattle.model.specs.Piece.{Shape, turned}
 use Rattle.model.specs.Layout.{Job, turnedPiece}
 use Rattle.model.specs.Lent.{Lent, jobOf}
 use Rattle.model.specs.declared.Direction.{Direction}
-use Rattle.strip_laws.proofs.Tight.{tight-side}
-use Rattle.job_laws.proofs.Checked.{facts, lent-few, lent-turned-small}
-use Rattle.call_laws.proofs.Jobs.{lent-tight}
-use Rattle.search_penalties.specs.declared.LinePair.{LinePair}
-use Rattle.search_penalties.specs.Line.{penaltyAt, penaltyLine, LineReach, Boxed}
-use Rattle.search_penalties.proofs.Lines.{values-at}
-use Rattle.search_penalties.proofs.Sets.{biasedPair, line-penalty, line-boxed}
+use Rattle.model.specs.declared.Direction.the-variants.{Horizontal, Vertical}
+use Rattle.model.specs.declared.Turn.{Turn}
+use Rattle.model.specs.declared.Turn.the-variants.{Half}
+use Rattle.job_laws.proofs.Checked.{facts, lent-few}
+use Rattle.pair_overlap.specs.Seen.{entries}
+use Rattle.search_bits.specs.Bit.{lengthLimit}
 use Rattle.search_shapes.specs.Shapes.{shapeNumber, Held, Shapes, StripsOf}
+use Rattle.search_maps.specs.declared.Sides.{Sides}
+use Rattle.search_maps.specs.Map.{opposite, sidesOf, columnsOf, rowsOf, mapWords, SidesFit, StripsIn, MapOf}
+use Rattle.search_maps.proofs.Fitting.{rows-small}
+use Rattle.search_map_lines.specs.Line.{Bordered, ByteSides, LineOf, placesOf}
+use Rattle.search_map_store.specs.Store.{endOf, MapAt, StoreFits, Kept}
+use Rattle.search_map_laws.specs.Keys.{directionOf, movedOf, standingOf}
+use Rattle.search_map_laws.proofs.Borders.{bordered}
+use Rattle.search_map_laws.proofs.Keys.{moved-back, standing-back}
+use Rattle.search_map_laws.proofs.Pieces.{sides-fit, byte-sides, moved-entries, moved-in, standing-entries, standing-in}
 use Rattle.search_lines.specs.declared.Two.{Two}
-use Rattle.search_lines.specs.Kept.{middle, linePlaces, linePenalty}
-use Rattle.search_lines.specs.Making.{movedShape, standingShape, SmallTwo, Asked, LineMade}
+use Rattle.search_laws.specs.Lines.{linePlaces}
+use Rattle.search_lines.specs.Kept.{mapSlots, MapsReady}
+use Rattle.search_lines.specs.Making.{movedShape, standingShape, mapKeyOfTwo, SmallTwo, Asked, MapFound, LineMade}
 
 -- ── a part of a list, written anew ──
 
@@ -28,7 +37,7 @@ module _ (xs ys : List ℕ) (a n : ℕ) (full : length ys ≡ n) (room : a + n �
   front = length-take-le a xs (omega arith)
 
   -- before the part it is as it was
-  put-before : (k : ℕ) → k < a → getD put k 0 ≡ getD xs k 0
+  pub put-before : (k : ℕ) → k < a → getD put k 0 ≡ getD xs k 0
   put-before k h =
       let f = front in
       List·getD-append (take a xs) (ys ++ drop n (drop a xs)) 0 k (omega arith) ∙ getD-take a xs k 0 h
@@ -40,11 +49,11 @@ module _ (xs ys : List ℕ) (a n : ℕ) (full : length ys ≡ n) (room : a + n �
       ap (λ (m : ℕ). getD put m 0) e ∙ getD-append-add (take a xs) (ys ++ drop n (drop a xs)) k 0
 
   -- the part is ys
-  put-in : (k : ℕ) → k < n → getD put (a + k) 0 ≡ getD ys k 0
+  pub put-in : (k : ℕ) → k < n → getD put (a + k) 0 ≡ getD ys k 0
   put-in k h = put-from k ∙ List·getD-append ys (drop n (drop a xs)) 0 k (omega arith)
 
   -- after the part it is as it was
-  put-after : (k : ℕ) → a + n ≤ k → getD put k 0 ≡ getD xs k 0
+  pub put-after : (k : ℕ) → a + n ≤ k → getD put k 0 ≡ getD xs k 0
   put-after k h =
       let m : ℕ = k - (a + n) in
       let e : k ≡ a + (n + m) = omega arith in
@@ -53,12 +62,12 @@ module _ (xs ys : List ℕ) (a n : ℕ) (full : length ys ≡ n) (room : a + n �
       ∙ getD-append-add ys (drop n (drop a xs)) m 0 ∙ getD-drop n (drop a xs) m 0 ∙ getD-drop a xs (n + m) 0 ∙ ap (λ (i : ℕ). getD xs i 0) (sym e)
 
   -- it is as long as it was
-  put-length : length put ≡ length xs
+  pub put-length : length put ≡ length xs
   put-length = let f = front in simp (length-append, length-drop) (omega arith)
 
 -- ── two pieces of a job ──
 
-module _ (l : Lent) (d : Direction) (store : List (List ℕ)) (starts : List ℕ) (two : Two) (asked : Asked l d store starts two) where
+module _ (l : Lent) (store : List (List ℕ)) (starts : List ℕ) (two : Two) (asked : Asked l store starts two) where
   pub moved-there : two .moved < jobOf l .size .count
   unfolding jobOf
   moved-there = asked .moved
@@ -82,76 +91,141 @@ module _ (l : Lent) (d : Direction) (store : List (List ℕ)) (starts : List ℕ
   pub standing-entry : two .standing < length (l .table)
   standing-entry = let m = asked .standing in let f = facts l (asked .well) .entries in omega arith
 
-  -- the strips of both are in the store
-  pub moved-held : Held store starts (shapeNumber (two .moved) (two .«moved_turn»))
-  moved-held = asked .shapes .at (two .moved) (two .«moved_turn») moved-there .held
+  -- the strips of both are in the store, in any turn
+  pub moved-held : (t : Turn) → Held store starts (shapeNumber (two .moved) t)
+  moved-held t = asked .shapes .at (two .moved) t moved-there .held
 
   pub standing-held : Held store starts (shapeNumber (two .standing) (two .«standing_turn»))
   standing-held = asked .shapes .at (two .standing) (two .«standing_turn») standing-there .held
 
-  -- their sides are from 1 to 255
-  pub moved-small : (e : Direction) → extent e (movedShape l two) ≤ sideBound
-  moved-small e = lent-turned-small l (asked .well) e (two .moved) (two .«moved_turn») moved-there
+  module _ (z : Sides) (is : z ≡ sidesOf Horizontal (movedShape l two) (standingShape l two)) where
+    -- their sides are such as maps are made for
+    pub sides-made : SidesFit z
+    sides-made =
+        subst SidesFit (sym is)
+        (sides-fit l (asked .well) Horizontal (two .moved) (two .standing) (two .«moved_turn») (two .«standing_turn») moved-there standing-there)
 
-  pub standing-small : (e : Direction) → extent e (standingShape l two) ≤ sideBound
-  standing-small e = lent-turned-small l (asked .well) e (two .standing) (two .«standing_turn») standing-there
+    -- and every penalty fits a byte
+    pub sides-byte : ByteSides z
+    sides-byte =
+        subst ByteSides (sym is)
+        (byte-sides l (asked .well) Horizontal (two .moved) (two .standing) (two .«moved_turn») (two .«standing_turn») moved-there standing-there)
 
-  pub moved-some : 0 < extent d (movedShape l two)
-  moved-some = tight-side d (movedShape l two) (lent-tight l (asked .well) (two .moved) (two .«moved_turn») moved-there)
+    -- a line has as many places as a row or a column of the map has cells
+    pub line-places : (d : Direction) → placesOf d z ≡ linePlaces d (movedShape l two) (standingShape l two)
+    line-places Horizontal = ap columnsOf is
+    line-places Vertical = ap rowsOf is
 
-  -- what two stretches are that a call is asked for
-  pub moved-strips : (es : List (List ℕ))
-      → ((e : Direction) (j : Job) → Shapes e j store starts → two .moved < j .size .count → StripsOf e (turnedPiece j (two .moved) (two .«moved_turn»)) es)
-      → StripsOf d (movedShape l two) es
-  moved-strips es told = told d (jobOf l) (asked .shapes) moved-there
+    -- the store has room for the map
+    pub store-fits : (key slot : ℕ) → key < 65536 → slot < mapSlots → (maps : List ℕ) → MapsReady (jobOf l) maps → StoreFits z key slot mapSlots maps
+    store-fits key slot small there maps m =
+        let f = sides-made in
+        let n : ℕ = z .«moved_across» + z .«standing_across» + 1 in
+        let h = rows-small z f n (omega (arith, f .moved-across .high, f .standing-across .high)) in
+        record { slot-in = there; few = omega arith; end = m .kept .low; room = (let r = m .room in omega arith); short = m .short }
 
-  pub standing-strips : (es : List (List ℕ))
-      → ((e : Direction) (j : Job) → Shapes e j store starts → two .standing < j .size .count
-      → StripsOf e (turnedPiece j (two .standing) (two .«standing_turn»)) es)
-      → StripsOf d (standingShape l two) es
-  standing-strips es told = told d (jobOf l) (asked .shapes) standing-there
+    -- the moved piece's strips in the opposite turn are those that a map is made from
+    pub moved-asked : (u : Turn) → u ≡ opposite (two .«moved_turn») → (es : List (List ℕ))
+        → ((e : Direction) (j : Job) → Shapes e j store starts → two .moved < j .size .count → StripsOf e (turnedPiece j (two .moved) u) es)
+        → StripsIn (z .«moved_along») (z .«moved_across») es × (es ≡ entries Horizontal (turned Half (movedShape l two)))
+    moved-asked u e es told =
+        let s : Shape = jobOf l .piece (two .moved) .shape in
+        let h : StripsOf Horizontal (turned (opposite (two .«moved_turn»)) s) es =
+        subst (λ (t : Turn). StripsOf Horizontal (turned t s) es) e (told Horizontal (jobOf l) (asked .shapes) moved-there) in (
+          subst (λ (y : Sides). StripsIn (y .«moved_along») (y .«moved_across») es) (sym is) (moved-in Horizontal (two .«moved_turn») s es h),
+          moved-entries Horizontal (two .«moved_turn») s es h,
+        )
 
-  module _ (es fs : List (List ℕ)) (first : StripsOf d (movedShape l two) es) (second : StripsOf d (standingShape l two) fs) (la lb n : ℕ)
-      (long : la ≡ extent d (movedShape l two)) (wide : lb ≡ extent d (standingShape l two)) (places : n ≡ la + lb - 1)
-    where
-      -- the line of the two
-      abbrev pair : LinePair
-      pair = biasedPair (la - 1) middle (two .offset)
+    -- so are the standing one's in its turn
+    pub standing-asked : (es : List (List ℕ))
+        → ((e : Direction) (j : Job) → Shapes e j store starts → two .standing < j .size .count
+        → StripsOf e (turnedPiece j (two .standing) (two .«standing_turn»)) es)
+        → StripsIn (z .«standing_along») (z .«standing_across») es × (es ≡ entries Horizontal (standingShape l two))
+    standing-asked es told =
+        let s : Shape = jobOf l .piece (two .standing) .shape in
+        let h = told Horizontal (jobOf l) (asked .shapes) standing-there in (
+          subst (λ (y : Sides). StripsIn (y .«standing_along») (y .«standing_across») es) (sym is) (standing-in Horizontal (two .«standing_turn») s es h),
+          standing-entries Horizontal (two .«standing_turn») s es h,
+        )
 
-      -- the places are those at which the boxes meet
-      line-places : n ≡ linePlaces d (movedShape l two) (standingShape l two)
-      line-places = omega arith
+    module _ (es fs : List (List ℕ)) (key : ℕ) (first : es ≡ entries Horizontal (turned Half (movedShape l two))) (second : fs ≡ entries Horizontal (standingShape l two))
+        (keyed : key ≡ mapKeyOfTwo two) where
+      -- the key's shapes are these
+      moved-is : movedOf (jobOf l) key ≡ movedShape l two
+      moved-is =
+          ap (movedOf (jobOf l)) keyed
+          ∙ moved-back (jobOf l) (two .moved) (two .«moved_turn») (two .standing) (two .«standing_turn») (small-two .moved) (small-two .standing)
 
-      -- the corners and the line are in reach
-      pub reach : LineReach pair n
-      reach =
-          let s = moved-small d in
-          let t = standing-small d in
-          let o = asked .offset in
-          record { bias = omega arith; moved = omega arith; standing = omega arith; places = omega arith }
+      standing-is : standingOf (jobOf l) key ≡ standingShape l two
+      standing-is =
+          ap (standingOf (jobOf l)) keyed
+          ∙ standing-back (jobOf l) (two .moved) (two .«moved_turn») (two .standing) (two .«standing_turn») (small-two .moved) (small-two .standing)
 
-      -- the line has every place at which the boxes meet
-      pub boxed : Boxed es fs pair n
-      boxed =
-          rw (first .same, second .same, long, line-places) (line-boxed d (movedShape l two) (standingShape l two) middle (two .offset) moved-some)
+      -- what is asked of two shapes
+      abbrev Fits : Shape → Shape → Type 0
+      Fits s t = (z ≡ sidesOf Horizontal s t) × (es ≡ entries Horizontal (turned Half s)) × (fs ≡ entries Horizontal t)
 
-      -- what the line holds
-      pub line-held : (k : ℕ) → k < n → getD (penaltyLine es fs pair n) k 0 ≡ linePenalty d (movedShape l two) (standingShape l two) (two .offset) k
-      unfolding penaltyLine linePenalty
-      line-held k h =
-          values-at (penaltyAt es fs pair) 0 n k h
-          ∙ (let z : 0 + k ≡ k = omega arith in
-          rw (z, first .same, second .same, long)
-          (line-penalty d (movedShape l two) (standingShape l two) (extent d (movedShape l two) - 1) middle (two .offset) k moved-small standing-small))
+      fits : Fits (movedOf (jobOf l) key) (standingOf (jobOf l) key)
+      fits =
+          subst (λ (s : Shape). Fits s (standingOf (jobOf l) key)) (sym moved-is)
+          (subst (λ (t : Shape). Fits (movedShape l two) t) (sym standing-is) (is, first, second))
 
-      -- the store with the line in its part
-      pub made : (lines part : List ℕ) (at : ℕ) → length part ≡ n → at + n ≤ length lines → part ≡ penaltyLine es fs pair n
-          → LineMade d (movedShape l two) (standingShape l two) (two .offset) lines at (take at lines ++ (part ++ drop n (drop at lines)))
-      made lines part at full room e =
-          let p = line-places in
+      -- the map that a call finds
+      pub map-found : (maps new : List ℕ) (r : ℕ) → MapsReady (jobOf l) maps
+          → ((e : ℕ → Direction) (s t : ℕ → Shape) → z ≡ sidesOf (e key) (s key) (t key) → es ≡ entries (e key) (turned Half (s key))
+          → fs ≡ entries (e key) (t key) → Kept mapSlots e s t key maps new r)
+          → MapFound (jobOf l) (movedShape l two) (standingShape l two) maps new r
+      map-found maps new r m told =
+          let k = told directionOf (movedOf (jobOf l)) (standingOf (jobOf l)) (fits .0) (fits .1) (fits .2) in
+          let x = k .right (m .kept) in
+          let same = k .same in
+          let room = m .room in
+          let short = m .short in
+          let end : ℕ = endOf mapSlots new in
+          let found : MapAt Horizontal (movedShape l two) (standingShape l two) new r end =
+          subst (λ (t : Shape). MapAt Horizontal (movedShape l two) t new r end) standing-is
+          (subst (λ (s : Shape). MapAt Horizontal s (standingOf (jobOf l) key) new r end) moved-is (x .1)) in
           record {
-            same = put-length lines part at n full room;
-            line = λ k h. put-in lines part at n full room k (omega arith) ∙ ap (λ (xs : List ℕ). getD xs k 0) e ∙ line-held k (omega arith);
-            before = put-before lines part at n full room;
-            after = λ k h. put-after lines part at n full room k (omega arith);
+            same = same;
+            ready = record { kept = x .0; room = omega arith; short = omega arith };
+            map = record { within = (let w = found .within in let h = x .0 .high in omega arith); map = found .map };
           }
+
+    module _ (maps new : List ℕ) (r n : ℕ) (f : MapFound (jobOf l) (movedShape l two) (standingShape l two) maps new r) (long : n ≡ mapWords z) where
+      words-are : n ≡ mapWords (sidesOf Horizontal (movedShape l two) (standingShape l two))
+      words-are = long ∙ ap mapWords is
+
+      -- the map that was found lies in the store
+      pub found-within : r + n ≤ length new
+      found-within = let w = f .map .within in let e = words-are in omega arith
+
+      -- as it is lent
+      pub found-map : MapOf Horizontal (movedShape l two) (standingShape l two) (take (r + n - r) (drop r new))
+      found-map =
+          let e : mapWords (sidesOf Horizontal (movedShape l two) (standingShape l two)) ≡ r + n - r = (let w = words-are in omega arith) in
+          subst (λ (k : ℕ). MapOf Horizontal (movedShape l two) (standingShape l two) (take k (drop r new))) e (f .map .map)
+
+      -- with a clear row before its cells and one after them
+      pub found-bordered : Bordered z (take (r + n - r) (drop r new))
+      found-bordered =
+          let short = f .ready .short in
+          let h : length (take (r + n - r) (drop r new)) < lengthLimit = simp (length-take, length-drop) (omega arith) in
+          subst (λ (y : Sides). Bordered y (take (r + n - r) (drop r new))) (sym is)
+          (bordered Horizontal (movedShape l two) (standingShape l two) (take (r + n - r) (drop r new)) (subst SidesFit is sides-made) h found-map)
+
+    -- the store with the line in its part
+    pub made : (d : Direction) (lines part : List ℕ) (at n : ℕ) → n ≡ placesOf d z → at + n ≤ length lines
+        → LineOf d (movedShape l two) (standingShape l two) (two .offset) (take n (drop at lines)) part
+        → LineMade d (movedShape l two) (standingShape l two) (two .offset) lines at (take at lines ++ (part ++ drop n (drop at lines)))
+    made d lines part at n e room line =
+        let p : n ≡ linePlaces d (movedShape l two) (standingShape l two) = e ∙ line-places d in
+        let long : length (take n (drop at lines)) ≡ n = simp (length-take, length-drop) (omega arith) in
+        let full : length part ≡ n = line .same ∙ long in
+        record {
+          same = put-length lines part at n full room;
+          line = λ k h.
+              let z : 0 + k ≡ k = omega arith in
+              put-in lines part at n full room k (omega arith) ∙ ap (λ (i : ℕ). getD part i 0) (sym z) ∙ line .line k h;
+          before = put-before lines part at n full room;
+          after = λ k h. put-after lines part at n full room k (omega arith);
+        }

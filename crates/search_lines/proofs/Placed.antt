@@ -11,7 +11,7 @@ use Rattle.model.specs.declared.Turn.{Turn}
 use Rattle.overlap_laws.proofs.Share.{same-difference, along-point, across-point}
 use Rattle.overlap_laws.proofs.Penalty.{penalty-difference}
 use Rattle.search_laws.specs.PieceSum.{penaltyOn}
-use Rattle.search_lines.specs.Kept.{middle, linePenalty}
+use Rattle.search_laws.specs.Lines.{middle, linePenalty}
 
 -- where the corner of a placement on a line is along it, and across it
 along-on : (line : Line) (t : Turn) (a : ℕ) → along (lineDirection line) (corner (onLine line t a)) ≡ a

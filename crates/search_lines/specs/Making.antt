@@ -2,15 +2,19 @@
 use mathlib.Core.Bool.{true}
 use mathlib.Core.List.{List}
 use mathlib.Core.Path.{_≡_}
-use Prim.Native.Nat.{ℕ, _+_, _<_, _≤_}
+use Prim.Native.Nat.{ℕ, _+_, _-_, _<_, _≤_}
 use lib.ListN.{length, getD}
 use Rattle.model.specs.Piece.{Shape}
-use Rattle.model.specs.Layout.{turnedPiece}
+use Rattle.model.specs.Layout.{Job, turnedPiece}
 use Rattle.model.specs.Lent.{Lent, jobOf, lentWell, pieceBound}
 use Rattle.model.specs.declared.Direction.{Direction}
+use Rattle.model.specs.declared.Direction.the-variants.{Horizontal}
 use Rattle.search_shapes.specs.Shapes.{shapeNumber, Shapes}
 use Rattle.search_lines.specs.declared.Two.{Two}
-use Rattle.search_lines.specs.Kept.{linePlaces, keyOf, HoldsLine}
+use Rattle.search_laws.specs.Lines.{linePlaces, HoldsLine}
+use Rattle.search_map_store.specs.Store.{MapAt}
+use Rattle.search_map_laws.specs.Keys.{mapKey}
+use Rattle.search_lines.specs.Kept.{keyOf, MapsReady}
 
 -- the two pieces' shapes
 abbrev pub movedShape : Lent → Two → Shape
@@ -23,19 +27,45 @@ standingShape l two = turnedPiece (jobOf l) (two .standing) (two .«standing_tur
 abbrev pub keyOfTwo : Two → ℕ
 keyOfTwo two = keyOf (shapeNumber (two .moved) (two .«moved_turn»)) (shapeNumber (two .standing) (two .«standing_turn»)) (two .offset)
 
+-- the key of their map
+abbrev pub mapKeyOfTwo : Two → ℕ
+mapKeyOfTwo two = mapKey (shapeNumber (two .moved) (two .«moved_turn»)) (shapeNumber (two .standing) (two .«standing_turn»))
+
+-- the two with their parts exchanged: what moved stands, at the mirrored offset
+abbrev pub exchangedTwo : Two → Two
+exchangedTwo two =
+    record {
+      moved = two .standing;
+      «moved_turn» = two .«standing_turn»;
+      standing = two .moved;
+      «standing_turn» = two .«moved_turn»;
+      offset = 510 - two .offset;
+    }
+
+-- the bytes of a line backwards
+pub record Backwards (xs ys : List ℕ) : Type 0 where
+  pub same : length ys ≡ length xs
+  pub each : (k : ℕ) → k < length xs → getD ys k 0 ≡ getD xs (length xs - 1 - k) 0
+
 -- numbers that a key has room for
 pub record SmallTwo (two : Two) : Type 0 where
   pub moved : two .moved < pieceBound
   pub standing : two .standing < pieceBound
   pub offset : two .offset < 1024
 
--- two pieces of a job that passes its check, and the strips of all its pieces
-pub record Asked (l : Lent) (d : Direction) (strips : List (List ℕ)) (starts : List ℕ) (two : Two) : Type 0 where
+-- two pieces of a job that passes its check, and the strips of all its pieces along rows
+pub record Asked (l : Lent) (strips : List (List ℕ)) (starts : List ℕ) (two : Two) : Type 0 where
   pub well : lentWell l ≡ true
-  pub shapes : Shapes d (jobOf l) strips starts
+  pub shapes : Shapes Horizontal (jobOf l) strips starts
   pub moved : two .moved < l .size .count
   pub standing : two .standing < l .size .count
   pub offset : two .offset < 1024
+
+-- the map of two shapes stands from r on, and the store is as ready as it was
+pub record MapFound (j : Job) (s t : Shape) (old new : List ℕ) (r : ℕ) : Type 0 where
+  pub same : length new ≡ length old
+  pub ready : MapsReady j new
+  pub map : MapAt Horizontal s t new r (length new)
 
 -- the line stands from `at` on, and outside it nothing is written
 pub record LineMade (d : Direction) (s t : Shape) (offset : ℕ) (old : List ℕ) (at : ℕ) (new : List ℕ) : Type 0 where

@@ -2,28 +2,40 @@
 // standing one; most lines survive many moves, so most are found.
 ghost use mathlib.Core.Path.{_≡_};
 ghost use mathlib.Core.List.{List};
-ghost use Prim.Native.Nat.{ℕ, _+_, _<_, _≤_};
+ghost use Prim.Native.Nat.{ℕ, _+_, _-_, _<_, _≤_};
 ghost use lib.ListN.{length};
-ghost use Rattle.model.specs.Piece.{extent};
-ghost use Rattle.model.specs.Layout.{turnedPiece};
 ghost use Rattle.model.specs.Lent.{lentBy, jobOf};
 ghost use Rattle.model.specs.declared.JobSize.{JobSize};
-ghost use Rattle.search_lines.specs.Kept.{linePlaces, HoldsLine, LinesKept, Wide, linesBound, slotBound};
-ghost use Rattle.search_lines.specs.Making.{movedShape, standingShape, keyOfTwo, SmallTwo, Asked, LineMade};
+ghost use Rattle.model.specs.declared.Direction.the-variants.{Horizontal};
+ghost use Rattle.search_laws.specs.Lines.{linePlaces, HoldsLine};
+ghost use Rattle.search_maps.specs.Map.{sidesOf};
+ghost use Rattle.search_lines.specs.Kept.{mapSlots, MapsReady, LinesKept, Wide, linesBound, slotBound};
+ghost use Rattle.search_lines.specs.Making.{movedShape, standingShape, keyOfTwo, mapKeyOfTwo, SmallTwo, Asked, MapFound, LineMade, Backwards, exchangedTwo};
+ghost use Rattle.search_lines.specs.Sources.{Named, turnedTwo, mirroredOffset, plainSource, backSource, quarterSource, sourcePlaces, SameLine, SourceMade};
+ghost use Rattle.search_map_laws.specs.Turns.{turnBefore};
 use model::Direction;
 use model::JobSize;
 use model::PIECE_BOUND;
 use model::PieceEntry;
 use model::StripEntry;
 use model::Turn;
-use search_penalties::LinePair;
+use search_maps::Sides;
 use whole_numbers::larger;
 
 // The row of a moved piece to which the offset of a standing one is counted: no offset that matters is below 0.
-pub const MIDDLE: usize = 255;
+pub const MIDDLE: usize = search_map_lines::MIDDLE;
 
-// The same, as a corner holds it.
-const MIDDLE_ROW: u32 = MIDDLE as u32;
+// Twice the middle: an offset and its mirrored one come to it.
+const MIRROR: usize = 2 * MIDDLE;
+
+// More than the places of any line.
+const LINE_LENGTH: usize = 512;
+
+// The shapes of a job: each piece in four turns.
+const SHAPES: usize = 4 * PIECE_BOUND;
+
+// The slots of a store of maps: for each piece, each other one and each turn.
+pub const MAP_SLOTS: usize = PIECE_BOUND * PIECE_BOUND * 4;
 
 // Every offset that a key holds is below it.
 const OFFSETS: usize = 1024;
@@ -41,6 +53,13 @@ pub struct Two {
     pub standing: usize,
     pub standing_turn: Turn,
     pub offset: usize,
+}
+
+// The line of two pieces along a direction, read forwards or backwards.
+pub struct Source {
+    pub two: Two,
+    pub direction: Direction,
+    pub back: bool,
 }
 
 // How many bytes a slot has to have: twice the largest box side of the job, and at least 64.
@@ -81,19 +100,344 @@ fn slot_of(two: Two, slots: usize) -> usize
     (search_shapes::shape_number(two.moved, turn) * PIECE_BOUND + two.standing) % slots
 }
 
-// The pixels of a turned box along the direction.
-fn side_along(table: &[PieceEntry], piece: usize, turn: Turn, direction: Direction) -> usize
-    requires { ⌜ piece < length (now table) ⌝ }
-    ensures { λ r. ⌜ ((size : JobSize) (pixels : List ℕ) → r ≡ extent direction (turnedPiece (jobOf (lentBy size (now (table .entry)) pixels)) piece turn)) ⌝ }
+// The box sides of two pieces, along rows and across them.
+fn sides_of(table: &[PieceEntry], two: Two) -> Sides
+    requires { ⌜ (two .moved < length (now table)) × (two .standing < length (now table)) ⌝ }
+    ensures { λ r. ⌜ ((size : JobSize) (pixels : List ℕ) → r ≡ sidesOf Horizontal (movedShape (lentBy size (now (table .entry)) pixels) two) (standingShape (lentBy size (now (table .entry)) pixels) two)) ⌝ }
 {
-    let sides = piece_pixels::turned_sides(table, piece, turn);
-    match direction {
-        Direction::Horizontal => sides.columns,
-        Direction::Vertical => sides.rows,
+    let moved_turn = two.moved_turn;
+    let standing_turn = two.standing_turn;
+    let moved = piece_pixels::turned_sides(table, two.moved, moved_turn);
+    let standing = piece_pixels::turned_sides(table, two.standing, standing_turn);
+    Sides {
+        moved_along: moved.columns,
+        moved_across: moved.rows,
+        standing_along: standing.columns,
+        standing_across: standing.rows,
     }
 }
 
-// Makes the line of two pieces, from a place of the store on.
+// The key of two pieces' map.
+fn map_key(two: Two) -> usize
+    requires { ⌜ SmallTwo two ⌝ }
+    ensures { λ r. ⌜ (r ≡ mapKeyOfTwo two) × (r < 65536) ⌝ }
+{
+    let moved_turn = two.moved_turn;
+    let standing_turn = two.standing_turn;
+    let a = search_shapes::shape_number(two.moved, moved_turn);
+    let b = search_shapes::shape_number(two.standing, standing_turn);
+    a * SHAPES + b
+}
+
+// The slot of their map: one for each moved piece, each standing one and each turn of that. The maps that are kept have the moved piece in no turn.
+fn map_slot(two: Two) -> usize
+    requires { ⌜ SmallTwo two ⌝ }
+    ensures { λ r. ⌜ r < mapSlots ⌝ }
+{
+    let turn = two.standing_turn;
+    search_shapes::shape_number(two.moved * PIECE_BOUND + two.standing, turn)
+}
+
+// Where the map of two pieces begins. It is made where it is not kept.
+fn find_map(
+    size: JobSize,
+    table: &[PieceEntry],
+    pixels: &[u8],
+    strips: &[StripEntry],
+    starts: &[u32],
+    two: Two,
+    sides: Sides,
+    maps: &mut [u64],
+) -> usize
+    requires { ⌜ Asked (lentBy size (now table) (now pixels)) (now strips) (now starts) two ⌝
+        ∗ ⌜ sides ≡ sidesOf Horizontal (movedShape (lentBy size (now table) (now pixels)) two) (standingShape (lentBy size (now table) (now pixels)) two) ⌝
+        ∗ ⌜ MapsReady (jobOf (lentBy size (now table) (now pixels))) (now maps) ⌝ }
+    ensures { λ r. ⌜ MapFound (jobOf (lentBy size (now (table .entry)) (now (pixels .entry)))) (movedShape (lentBy size (now (table .entry)) (now (pixels .entry))) two) (standingShape (lentBy size (now (table .entry)) (now (pixels .entry))) two) (now (maps .entry)) (now (maps .exit)) r ⌝ }
+{
+    let moved_turn = two.moved_turn;
+    let standing_turn = two.standing_turn;
+    let opposite = search_maps::opposite_turn(moved_turn);
+    let a = search_shapes::shape_strips(strips, starts, two.moved, opposite);
+    let b = search_shapes::shape_strips(strips, starts, two.standing, standing_turn);
+    let key = map_key(two);
+    let slot = map_slot(two);
+    search_map_store::keep_map(a, b, sides, key, slot, MAP_SLOTS, maps)
+}
+
+// Makes the line of two pieces from their own map, from a place on; gives its number of places.
+fn draw_line(
+    size: JobSize,
+    table: &[PieceEntry],
+    pixels: &[u8],
+    direction: Direction,
+    strips: &[StripEntry],
+    starts: &[u32],
+    two: Two,
+    at: usize,
+    lines: &mut [u8],
+    maps: &mut [u64],
+) -> usize
+    requires { ⌜ Asked (lentBy size (now table) (now pixels)) (now strips) (now starts) two ⌝
+        ∗ ⌜ at + linePlaces direction (movedShape (lentBy size (now table) (now pixels)) two) (standingShape (lentBy size (now table) (now pixels)) two) ≤ length (now lines) ⌝
+        ∗ ⌜ length (now lines) ≤ linesBound ⌝
+        ∗ ⌜ MapsReady (jobOf (lentBy size (now table) (now pixels))) (now maps) ⌝ }
+    ensures line { λ r. ⌜ LineMade direction (movedShape (lentBy size (now (table .entry)) (now (pixels .entry))) two) (standingShape (lentBy size (now (table .entry)) (now (pixels .entry))) two) (two .offset) (now (lines .entry)) at (now (lines .exit)) ⌝ }
+    ensures maps { λ r. ⌜ MapsReady (jobOf (lentBy size (now (table .entry)) (now (pixels .entry)))) (now (maps .exit)) ⌝ }
+    ensures count { λ r. ⌜ r ≡ linePlaces direction (movedShape (lentBy size (now (table .entry)) (now (pixels .entry))) two) (standingShape (lentBy size (now (table .entry)) (now (pixels .entry))) two) ⌝ }
+{
+    let sides = sides_of(table, two);
+    let from = find_map(size, table, pixels, strips, starts, two, sides, maps);
+    let to = from + search_maps::map_words(sides);
+    let count = search_map_lines::line_places(direction, sides);
+    let end = at + count;
+    search_map_lines::map_line(
+        direction,
+        &maps[from..to],
+        sides,
+        two.offset,
+        &mut lines[at..end],
+    );
+    count
+}
+
+// The two pieces with their parts exchanged: what moved stands, at the mirrored offset. From 510 on the boxes do not meet, nor do they at 0.
+fn exchanged(two: Two) -> Two
+    ensures { λ r. ⌜ r ≡ exchangedTwo two ⌝ }
+{
+    let moved_turn = two.moved_turn;
+    let standing_turn = two.standing_turn;
+    Two {
+        moved: two.standing,
+        moved_turn: standing_turn,
+        standing: two.moved,
+        standing_turn: moved_turn,
+        offset: less(MIRROR, two.offset),
+    }
+}
+
+// How far the first number is above the second.
+fn less(x: usize, y: usize) -> usize
+    ensures { λ r. ⌜ r ≡ x - y ⌝ }
+{
+    if x < y {
+        return 0;
+    }
+    x - y
+}
+
+// Copies a line backwards.
+fn copy_back(from: &[u8], to: &mut [u8])
+    requires { ⌜ length (now to) ≡ length (now from) ⌝ }
+    ensures { λ r. ⌜ Backwards (now (from .entry)) (now (to .exit)) ⌝ }
+{
+    let n = from.len();
+    let mut k = 0;
+    while k < n {
+        to[k] = from[n - 1 - k];
+        k += 1;
+    }
+}
+
+// The turn that is a quarter turn less.
+fn turn_before(turn: Turn) -> Turn
+    ensures { λ r. ⌜ r ≡ turnBefore turn ⌝ }
+{
+    match turn {
+        Turn::Zero => Turn::ThreeQuarters,
+        Turn::Quarter => Turn::Zero,
+        Turn::Half => Turn::Quarter,
+        Turn::ThreeQuarters => Turn::Half,
+    }
+}
+
+// The two pieces, both turned back by a quarter, at an offset.
+fn turned_two(two: Two, offset: usize) -> Two
+    ensures { λ r. ⌜ r ≡ turnedTwo two offset ⌝ }
+{
+    let moved_turn = two.moved_turn;
+    let standing_turn = two.standing_turn;
+    Two {
+        moved: two.moved,
+        moved_turn: turn_before(moved_turn),
+        standing: two.standing,
+        standing_turn: turn_before(standing_turn),
+        offset,
+    }
+}
+
+// The offset of two pieces beside a column, when the sheet is turned back by a quarter: it is counted from the other side of the boxes.
+fn mirrored_offset(size: JobSize, table: &[PieceEntry], pixels: &[u8], two: Two) -> usize
+    requires { ⌜ Named (lentBy size (now table) (now pixels)) two ⌝ }
+    ensures { λ r. ⌜ r ≡ mirroredOffset (lentBy size (now (table .entry)) (now (pixels .entry))) two ⌝ }
+{
+    let sides = sides_of(table, two);
+    less(
+        MIRROR + sides.moved_along,
+        sides.standing_along + two.offset,
+    )
+}
+
+// The same line from both pieces turned back by a quarter: along the other direction, backwards or at the mirrored offset.
+fn quarter_back(size: JobSize, table: &[PieceEntry], pixels: &[u8], source: Source) -> Source
+    requires { ⌜ Named (lentBy size (now table) (now pixels)) (source .two) ⌝ }
+    ensures { λ r. ⌜ r ≡ quarterSource (lentBy size (now (table .entry)) (now (pixels .entry))) source ⌝ }
+{
+    let two = source.two;
+    let direction = source.direction;
+    match direction {
+        Direction::Horizontal => Source {
+            two: turned_two(two, two.offset),
+            direction: Direction::Vertical,
+            back: !source.back,
+        },
+        Direction::Vertical => Source {
+            two: turned_two(two, mirrored_offset(size, table, pixels, two)),
+            direction: Direction::Horizontal,
+            back: source.back,
+        },
+    }
+}
+
+// The same line from both pieces turned back by half.
+fn half_back(size: JobSize, table: &[PieceEntry], pixels: &[u8], source: Source) -> Source
+    requires { ⌜ Named (lentBy size (now table) (now pixels)) (source .two) ⌝ }
+    ensures { λ r. ⌜ SameLine (lentBy size (now (table .entry)) (now (pixels .entry))) source r ⌝ }
+{
+    let once = quarter_back(size, table, pixels, source);
+    quarter_back(size, table, pixels, once)
+}
+
+// The same line with the moved piece in no turn.
+fn straight(size: JobSize, table: &[PieceEntry], pixels: &[u8], source: Source) -> Source
+    requires { ⌜ Named (lentBy size (now table) (now pixels)) (source .two) ⌝ }
+    ensures { λ r. ⌜ SameLine (lentBy size (now (table .entry)) (now (pixels .entry))) source r ⌝ }
+{
+    let two = source.two;
+    let turn = two.moved_turn;
+    match turn {
+        Turn::Zero => source,
+        Turn::Quarter => quarter_back(size, table, pixels, source),
+        Turn::Half => half_back(size, table, pixels, source),
+        Turn::ThreeQuarters => {
+            let twice = half_back(size, table, pixels, source);
+            quarter_back(size, table, pixels, twice)
+        }
+    }
+}
+
+// The line of two pieces, with the piece of the lower number moved: that of the two exchanged is the same backwards.
+fn ordered(
+    size: JobSize,
+    table: &[PieceEntry],
+    pixels: &[u8],
+    direction: Direction,
+    two: Two,
+) -> Source
+    requires { ⌜ Named (lentBy size (now table) (now pixels)) two ⌝ }
+    ensures { λ r. ⌜ SameLine (lentBy size (now (table .entry)) (now (pixels .entry))) (plainSource direction two) r ⌝ }
+{
+    if two.standing < two.moved {
+        return Source {
+            two: exchanged(two),
+            direction,
+            back: true,
+        };
+    }
+    Source {
+        two,
+        direction,
+        back: false,
+    }
+}
+
+// Makes the line of two pieces backwards.
+fn draw_back(
+    size: JobSize,
+    table: &[PieceEntry],
+    pixels: &[u8],
+    direction: Direction,
+    strips: &[StripEntry],
+    starts: &[u32],
+    two: Two,
+    at: usize,
+    lines: &mut [u8],
+    maps: &mut [u64],
+)
+    requires { ⌜ Asked (lentBy size (now table) (now pixels)) (now strips) (now starts) two ⌝
+        ∗ ⌜ at + linePlaces direction (movedShape (lentBy size (now table) (now pixels)) two) (standingShape (lentBy size (now table) (now pixels)) two) ≤ length (now lines) ⌝
+        ∗ ⌜ length (now lines) ≤ linesBound ⌝
+        ∗ ⌜ MapsReady (jobOf (lentBy size (now table) (now pixels))) (now maps) ⌝ }
+    ensures line { λ r. ⌜ SourceMade (lentBy size (now (table .entry)) (now (pixels .entry))) (backSource direction two) (now (lines .entry)) at (now (lines .exit)) ⌝ }
+    ensures maps { λ r. ⌜ MapsReady (jobOf (lentBy size (now (table .entry)) (now (pixels .entry)))) (now (maps .exit)) ⌝ }
+{
+    let mut drawn = [0u8; LINE_LENGTH];
+    let count = draw_line(
+        size,
+        table,
+        pixels,
+        direction,
+        strips,
+        starts,
+        two,
+        0,
+        &mut drawn,
+        maps,
+    );
+    let end = at + count;
+    copy_back(&drawn[..count], &mut lines[at..end]);
+}
+
+// Makes the line of a source, from a place of the store on.
+fn draw_source(
+    size: JobSize,
+    table: &[PieceEntry],
+    pixels: &[u8],
+    strips: &[StripEntry],
+    starts: &[u32],
+    source: Source,
+    at: usize,
+    lines: &mut [u8],
+    maps: &mut [u64],
+)
+    requires { ⌜ Asked (lentBy size (now table) (now pixels)) (now strips) (now starts) (source .two) ⌝
+        ∗ ⌜ at + sourcePlaces (lentBy size (now table) (now pixels)) source ≤ length (now lines) ⌝
+        ∗ ⌜ length (now lines) ≤ linesBound ⌝
+        ∗ ⌜ MapsReady (jobOf (lentBy size (now table) (now pixels))) (now maps) ⌝ }
+    ensures line { λ r. ⌜ SourceMade (lentBy size (now (table .entry)) (now (pixels .entry))) source (now (lines .entry)) at (now (lines .exit)) ⌝ }
+    ensures maps { λ r. ⌜ MapsReady (jobOf (lentBy size (now (table .entry)) (now (pixels .entry)))) (now (maps .exit)) ⌝ }
+{
+    let two = source.two;
+    let direction = source.direction;
+    if source.back {
+        draw_back(
+            size,
+            table,
+            pixels,
+            direction,
+            strips,
+            starts,
+            two,
+            at,
+            lines,
+            maps,
+        );
+        return;
+    }
+    draw_line(
+        size,
+        table,
+        pixels,
+        direction,
+        strips,
+        starts,
+        two,
+        at,
+        lines,
+        maps,
+    );
+}
+
+// Makes the line of two pieces, from a place of the store on. One map serves both orders of two pieces and all turns of both together.
 fn make_line(
     size: JobSize,
     table: &[PieceEntry],
@@ -104,24 +448,18 @@ fn make_line(
     two: Two,
     at: usize,
     lines: &mut [u8],
+    maps: &mut [u64],
 )
-    requires { ⌜ Asked (lentBy size (now table) (now pixels)) direction (now strips) (now starts) two ⌝
+    requires { ⌜ Asked (lentBy size (now table) (now pixels)) (now strips) (now starts) two ⌝
         ∗ ⌜ at + linePlaces direction (movedShape (lentBy size (now table) (now pixels)) two) (standingShape (lentBy size (now table) (now pixels)) two) ≤ length (now lines) ⌝
-        ∗ ⌜ length (now lines) ≤ linesBound ⌝ }
-    ensures { λ r. ⌜ LineMade direction (movedShape (lentBy size (now (table .entry)) (now (pixels .entry))) two) (standingShape (lentBy size (now (table .entry)) (now (pixels .entry))) two) (two .offset) (now (lines .entry)) at (now (lines .exit)) ⌝ }
+        ∗ ⌜ length (now lines) ≤ linesBound ⌝
+        ∗ ⌜ MapsReady (jobOf (lentBy size (now table) (now pixels))) (now maps) ⌝ }
+    ensures line { λ r. ⌜ LineMade direction (movedShape (lentBy size (now (table .entry)) (now (pixels .entry))) two) (standingShape (lentBy size (now (table .entry)) (now (pixels .entry))) two) (two .offset) (now (lines .entry)) at (now (lines .exit)) ⌝ }
+    ensures maps { λ r. ⌜ MapsReady (jobOf (lentBy size (now (table .entry)) (now (pixels .entry)))) (now (maps .exit)) ⌝ }
 {
-    let moved_turn = two.moved_turn;
-    let standing_turn = two.standing_turn;
-    let a = search_shapes::shape_strips(strips, starts, two.moved, moved_turn);
-    let b = search_shapes::shape_strips(strips, starts, two.standing, standing_turn);
-    let last = side_along(table, two.moved, moved_turn, direction) - 1;
-    let end = at + last + side_along(table, two.standing, standing_turn, direction);
-    let pair = LinePair {
-        bias: last as u32,
-        moved: MIDDLE_ROW,
-        standing: two.offset as u32,
-    };
-    search_penalties::penalties(a, b, pair, &mut lines[at..end]);
+    let first = ordered(size, table, pixels, direction, two);
+    let source = straight(size, table, pixels, first);
+    draw_source(size, table, pixels, strips, starts, source, at, lines, maps);
 }
 
 // The place in the store at which the line of two pieces stands. It is made where it is not kept.
@@ -136,13 +474,14 @@ pub fn keep_line(
     width: usize,
     lines: &mut [u8],
     tags: &mut [u32],
+    maps: &mut [u64],
 ) -> usize
-    requires { ⌜ Asked (lentBy size (now table) (now pixels)) direction (now strips) (now starts) two ⌝
+    requires { ⌜ Asked (lentBy size (now table) (now pixels)) (now strips) (now starts) two ⌝
         ∗ ⌜ Wide (jobOf (lentBy size (now table) (now pixels))) width ⌝ ∗ ⌜ width ≤ slotBound ⌝
-        ∗ ⌜ LinesKept direction (jobOf (lentBy size (now table) (now pixels))) width (now lines) (now tags) ⌝ ∗ ⌜ length (now lines) ≤ linesBound ⌝ }
+        ∗ ⌜ LinesKept direction (jobOf (lentBy size (now table) (now pixels))) width (now lines) (now tags) (now maps) ⌝ ∗ ⌜ length (now lines) ≤ linesBound ⌝ }
     ensures line { λ r. ⌜ HoldsLine direction (movedShape (lentBy size (now (table .entry)) (now (pixels .entry))) two) (standingShape (lentBy size (now (table .entry)) (now (pixels .entry))) two) (two .offset) (now (lines .exit)) r ⌝ }
     ensures within { λ r. ⌜ r + width ≤ length (now (lines .exit)) ⌝ }
-    ensures kept { λ r. ⌜ LinesKept direction (jobOf (lentBy size (now (table .entry)) (now (pixels .entry)))) width (now (lines .exit)) (now (tags .exit)) ⌝ }
+    ensures kept { λ r. ⌜ LinesKept direction (jobOf (lentBy size (now (table .entry)) (now (pixels .entry)))) width (now (lines .exit)) (now (tags .exit)) (now (maps .exit)) ⌝ }
     ensures sizes { λ r. ⌜ (length (now (lines .exit)) ≡ length (now (lines .entry))) × (length (now (tags .exit)) ≡ length (now (tags .entry))) ⌝ }
 {
     let slot = slot_of(two, tags.len());
@@ -161,6 +500,7 @@ pub fn keep_line(
         two,
         at,
         lines,
+        maps,
     );
     tags[slot] = key;
     at

@@ -5,20 +5,20 @@ use Rattle.list_laws.proofs.Kit.{length-map, length-set, set, getD-set-other, g
 use Rattle.model.specs.Piece.{Shape, extent, sideBound}
 use Rattle.model.specs.Strip.{Strip, strips}
 use Rattle.model.specs.Buffer.{stripEntry}
-use Rattle.model.specs.Lent.{Lent, jobOf, lentWell, pieceBound}
+use Rattle.model.specs.Lent.{Lent, jobOf, lentWell, pieceBound, entryArea}
 use Rattle.model.specs.declared.Direction.{Direction}
 use Rattle.list_laws.proofs.Stores.{part-before, part-stored}
 use Rattle.job_laws.proofs.Checked.{facts, entry-at}
 use Rattle.strip_scan.specs.Put.{Appended}
 use Rattle.pair_overlap.proofs.Shapes.{entries-ordered}
 use Rattle.search_shapes.specs.Shapes.{shapeNumber, numberedShape, part, ShapeAt, Shapes, StripsOf, ShapesRoom}
-use Rattle.search_shapes.proofs.Numbers.{turn-below, number-back, reached, reached-next, reached-few, shape-few, shape-small}
+use Rattle.search_shapes.proofs.Numbers.{turn-below, number-back, reached, reached-next, reached-few, shape-half, shape-small}
 
 -- the shapes with numbers below k are stored, and the next one goes to `at`
 pub record Made (d : Direction) (l : Lent) (store : List (List ℕ)) (starts : List ℕ) (k at : ℕ) : Type 0 where
   pub next : getD starts k 0 ≡ at
   pub before : (m : ℕ) → m ≤ k → getD starts m 0 ≤ at
-  pub few : at ≤ reached (l .table) k
+  pub few : 2 * at ≤ reached (l .table) k + 255 * k
   pub shapes : (m : ℕ) → m < k → ShapeAt d (numberedShape (jobOf l) m) store starts m
 
 -- before the first
@@ -37,7 +37,8 @@ pub record Fits (d : Direction) (l : Lent) (k at : ℕ) : Type 0 where
   pub piece : k / 4 < l .size .count
   pub few : l .size .count ≤ pieceBound
   pub entries : l .size .count ≤ length (l .table)
-  pub strips : at + length (strips d (numberedShape (jobOf l) k)) ≤ 262144
+  pub half : 2 * length (strips d (numberedShape (jobOf l) k)) ≤ entryArea (l .table) (k / 4) + 255
+  pub strips : at + length (strips d (numberedShape (jobOf l) k)) ≤ 163840
   pub small : extent d (numberedShape (jobOf l) k) ≤ sideBound
 
 pub fits-next : (d : Direction) (l : Lent) (store : List (List ℕ)) (starts : List ℕ) (k at : ℕ) → lentWell l ≡ true → k < l .size .count * 4
@@ -48,11 +49,14 @@ fits-next d l store starts k at e h m =
     let g = entry-at l (k / 4) e p in
     let few = m .few in
     let areas = f .areas in
+    let half = shape-half d l k (g .columns) (g .rows) in
+    let most = f .fewPieces in
     record {
       piece = p;
       few = facts l e .fewPieces;
       entries = f .entries;
-      strips = omega (arith, shape-few d l k, reached-few (l .table) k (l .size .count) h);
+      half = half;
+      strips = omega (arith, reached-few (l .table) k (l .size .count) h);
       small = shape-small d l k (g .columns) (g .rows);
     }
 
@@ -126,7 +130,7 @@ module _ (d : Direction) (l : Lent) (store after : List (List ℕ)) (starts : Li
               ⊎-elim (λ (h : i ≡ k + 1). rw (h, new-start) (omega arith))
               (λ (h : i < k + 1). rw (same-start i (omega arith)) (omega (arith, m .before i (omega arith))))
               (eq-or-lt-of-le b);
-          few = omega (arith, shape-few d l k, reached-next (l .table) k);
+          few = omega (arith, f .half, reached-next (l .table) k);
           shapes =
               λ i b.
               ⊎-elim (λ (h : i ≡ k). subst (λ n. ShapeAt d (numberedShape (jobOf l) n) after (set starts (k + 1) next) n) (sym h) added)

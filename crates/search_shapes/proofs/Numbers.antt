@@ -1,7 +1,7 @@
--- The numbers of shapes: each piece in each turn has its own, and the strips up to one are at most as many as the pixels of the
--- boxes up to it. Assumes nothing.
+-- The numbers of shapes: each piece in each turn has its own, and twice the strips of one are at most the pixels of its box and 255
+-- more. Assumes nothing.
 use Rattle.list_laws.proofs.Kit.{_≡_, refl, ⊎-elim, List, _%_, _*_, _+_, _/_, _<_, _≤_, suc, zero, ℕ, add-one, mul-le-mul-right, suc-mul, arith, length}
-use Rattle.model.specs.Piece.{extent, sideBound}
+use Rattle.model.specs.Piece.{Shape, extent, other, sideBound}
 use Rattle.model.specs.Strip.{strips}
 use Rattle.model.specs.Layout.{Job, turnedPiece}
 use Rattle.model.specs.Lent.{Lent, jobOf, pixelStart, entryArea, entryColumns, entryRows}
@@ -11,7 +11,7 @@ use Rattle.model.specs.declared.Turn.the-variants.{Zero, Quarter, Half, ThreeQu
 use Rattle.list_laws.proofs.Numbers.{below-or}
 use Rattle.job_laws.proofs.Turned.{turned-extent}
 use Rattle.job_laws.proofs.Starts.{start-end}
-use Rattle.strip_scan.proofs.Counts.{strips-few}
+use Rattle.pair_measure.proofs.Rooms.{strips-half}
 use Rattle.descent_laws.specs.Trials.{turnNumber}
 use Rattle.search_shapes.specs.Shapes.{numberedTurn, shapeNumber, numberedShape}
 
@@ -44,8 +44,7 @@ number-back j i t =
     let q : (i * 4 + turnNumber t) % 4 ≡ turnNumber t = omega arith in
     rw (p, q, turn-back t)
 
--- the most strips that the shapes with numbers below k can have: four times the pixels of the pieces passed, and those of the present
--- piece once for each turn passed
+-- the pixels of the shapes with numbers below k: four times those of the pieces passed, and those of the present piece once for each turn passed
 abbrev pub most : List (List ℕ) → ℕ → ℕ → ℕ
 most table i n = 4 * pixelStart table i + n * entryArea table i
 
@@ -74,7 +73,7 @@ reached-next table k =
     rw (e, f, g) (omega (arith, start-next table i)))
     (below-or n 3)
 
--- the shapes of a job have at most four times as many strips as the boxes have pixels
+-- the shapes of a job have at most four times as many pixels as its boxes
 pub reached-few : (table : List (List ℕ)) (k n : ℕ) → k < n * 4 → reached table k + entryArea table (k / 4) ≤ 4 * pixelStart table n
 reached-few table k n h =
     let i = k / 4 in
@@ -83,10 +82,13 @@ reached-few table k n h =
     let m : suc (k % 4) * area ≤ 4 * area = mul-le-mul-right area (omega arith) in
     omega (arith, suc-mul (k % 4) area)
 
--- a shape has at most as many strips as its box has pixels
-pub shape-few : (d : Direction) (l : Lent) (k : ℕ) → length (strips d (numberedShape (jobOf l) k)) ≤ entryArea (l .table) (k / 4)
+-- twice the strips of a shape are at most the pixels of its box and one for each line
+pub shape-half : (d : Direction) (l : Lent) (k : ℕ) → entryColumns (l .table) (k / 4) ≤ sideBound → entryRows (l .table) (k / 4) ≤ sideBound
+    → 2 * length (strips d (numberedShape (jobOf l) k)) ≤ entryArea (l .table) (k / 4) + 255
 unfolding jobOf
-shape-few d l k = strips-few d (numberedTurn (k % 4)) (jobOf l .piece (k / 4) .shape)
+shape-half d l k c r =
+    let s : Shape = jobOf l .piece (k / 4) .shape in
+    omega (arith, strips-half d (numberedTurn (k % 4)) s, turned-extent (other d) (numberedTurn (k % 4)) s sideBound c r)
 
 -- a shape's sides are within document 01's bound where its entry's are
 pub shape-small : (d : Direction) (l : Lent) (k : ℕ) → entryColumns (l .table) (k / 4) ≤ sideBound → entryRows (l .table) (k / 4) ≤ sideBound

@@ -56,7 +56,7 @@ pub record StripsOf (d : Direction) (s : Shape) (stretch : List (List ℕ)) : Ty
 
 -- the strips that a store of every piece in every turn has room for, and its starts: one for each piece in each turn, and the end
 abbrev pub storeBound : ℕ
-storeBound = 262144
+storeBound = 163840
 
 abbrev pub startsBound : ℕ
 startsBound = 257

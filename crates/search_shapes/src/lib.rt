@@ -16,7 +16,7 @@ use model::StripEntry;
 use model::Turn;
 
 // The strips that a store of every piece in every turn has room for.
-pub const STORE_LENGTH: usize = 262144;
+pub const STORE_LENGTH: usize = 163840;
 
 // Its starts: one for each piece in each turn, and the end.
 pub const STARTS_LENGTH: usize = 4 * model::PIECE_BOUND + 1;

@@ -21,9 +21,9 @@ use Rattle.run_descent.proofs.descend.Statement.{statement}
 use Rattle.run_descent.proofs.descend.Tie as tie
 
 abbrev Inv-loop : tie.InvT-loop
-Inv-loop size table pixels rows row-starts columns column-starts weights budget width layout₀ penalties₀ row-lines₀ row-tags₀ column-lines₀ column-tags₀ sums₀
-    pieces count at₀ layout penalties row-lines row-tags column-lines column-tags sums at =
-    Going (lentBy size table pixels) weights budget (layoutOf layout₀) width at layout penalties row-lines row-tags column-lines column-tags sums
+Inv-loop size table pixels rows row-starts weights budget width layout₀ penalties₀ row-lines₀ row-tags₀ column-lines₀ column-tags₀ sums₀ maps₀
+    pieces count at₀ layout penalties row-lines row-tags column-lines column-tags sums maps at =
+    Going (lentBy size table pixels) weights budget (layoutOf layout₀) width at layout penalties row-lines row-tags column-lines column-tags sums maps
     × (length layout ≡ length layout₀)
     × (length penalties ≡ length penalties₀)
     × (length row-lines ≡ length row-lines₀)
@@ -31,10 +31,11 @@ Inv-loop size table pixels rows row-starts columns column-starts weights budget 
     × (length column-lines ≡ length column-lines₀)
     × (length column-tags ≡ length column-tags₀)
     × (length sums ≡ length sums₀)
+    × (length maps ≡ length maps₀)
 
 abbrev μ-loop : tie.MeasureT-loop
-μ-loop size table pixels rows row-starts columns column-starts weights budget width layout₀ penalties₀ row-lines₀ row-tags₀ column-lines₀ column-tags₀ sums₀
-    pieces count at₀ layout penalties row-lines row-tags column-lines column-tags sums at = budget - at .made
+μ-loop size table pixels rows row-starts weights budget width layout₀ penalties₀ row-lines₀ row-tags₀ column-lines₀ column-tags₀ sums₀ maps₀
+    pieces count at₀ layout penalties row-lines row-tags column-lines column-tags sums maps at = budget - at .made
 
 -- the lent job and the given layout
 abbrev lent : tie.Start Inv-loop μ-loop → Lent
@@ -76,7 +77,7 @@ loop-holds c =
     subst (λ (s : DescentState).
     Underway j (at-start .args .weights .now) (at-start .args .budget) v (at-start .args .budget - s .made) (standingAs v s) (s .sum))
     (sym (c .beginning .ensures)) here in
-    (record { underway = under; laid = at-start .pre .1 .1 .0; stores = at-start .pre .1 .1 .1 .0 }, refl, refl, refl, refl, refl, refl, refl)
+    (record { underway = under; laid = at-start .pre .1 .1 .0; stores = at-start .pre .1 .1 .1 .0 }, refl, refl, refl, refl, refl, refl, refl, refl)
 
 -- the entry, from the loop's head
 abbrev entry : tie.At-loop Inv-loop μ-loop → tie.Start Inv-loop μ-loop
@@ -131,6 +132,11 @@ same-length-7 c =
     let at-loop : tie.At-loop Inv-loop μ-loop = search in
     at-loop .loop .inv .7
 
+same-length-8 : tie.Need-same-length-8 Inv-loop μ-loop
+same-length-8 c =
+    let at-loop : tie.At-loop Inv-loop μ-loop = search in
+    at-loop .loop .inv .8
+
 returns : tie.Need-returns Inv-loop μ-loop
 unfolding jobOf
 returns c =
@@ -146,40 +152,45 @@ returns c =
       (at-loop .loop .inv .0 .laid, at-loop .loop .inv .0 .stores),
     )
 
-same-length-8 : tie.Need-same-length-8 Inv-loop μ-loop
-same-length-8 c =
-    let at-loop : tie.At-loop Inv-loop μ-loop = search in
-    at-loop .loop .inv .1
-
 same-length-9 : tie.Need-same-length-9 Inv-loop μ-loop
 same-length-9 c =
     let at-loop : tie.At-loop Inv-loop μ-loop = search in
-    at-loop .loop .inv .2
+    at-loop .loop .inv .1
 
 same-length-10 : tie.Need-same-length-10 Inv-loop μ-loop
 same-length-10 c =
     let at-loop : tie.At-loop Inv-loop μ-loop = search in
-    at-loop .loop .inv .3
+    at-loop .loop .inv .2
 
 same-length-11 : tie.Need-same-length-11 Inv-loop μ-loop
 same-length-11 c =
     let at-loop : tie.At-loop Inv-loop μ-loop = search in
-    at-loop .loop .inv .4
+    at-loop .loop .inv .3
 
 same-length-12 : tie.Need-same-length-12 Inv-loop μ-loop
 same-length-12 c =
     let at-loop : tie.At-loop Inv-loop μ-loop = search in
-    at-loop .loop .inv .5
+    at-loop .loop .inv .4
 
 same-length-13 : tie.Need-same-length-13 Inv-loop μ-loop
 same-length-13 c =
     let at-loop : tie.At-loop Inv-loop μ-loop = search in
-    at-loop .loop .inv .6
+    at-loop .loop .inv .5
 
 same-length-14 : tie.Need-same-length-14 Inv-loop μ-loop
 same-length-14 c =
     let at-loop : tie.At-loop Inv-loop μ-loop = search in
+    at-loop .loop .inv .6
+
+same-length-15 : tie.Need-same-length-15 Inv-loop μ-loop
+same-length-15 c =
+    let at-loop : tie.At-loop Inv-loop μ-loop = search in
     at-loop .loop .inv .7
+
+same-length-16 : tie.Need-same-length-16 Inv-loop μ-loop
+same-length-16 c =
+    let at-loop : tie.At-loop Inv-loop μ-loop = search in
+    at-loop .loop .inv .8
 
 returns-2 : tie.Need-returns-2 Inv-loop μ-loop
 unfolding jobOf
@@ -197,40 +208,45 @@ returns-2 c =
       (at-loop .loop .inv .0 .laid, at-loop .loop .inv .0 .stores),
     )
 
-same-length-15 : tie.Need-same-length-15 Inv-loop μ-loop
-same-length-15 c =
-    let at-loop : tie.At-loop Inv-loop μ-loop = search in
-    at-loop .loop .inv .1
-
-same-length-16 : tie.Need-same-length-16 Inv-loop μ-loop
-same-length-16 c =
-    let at-loop : tie.At-loop Inv-loop μ-loop = search in
-    at-loop .loop .inv .2
-
 same-length-17 : tie.Need-same-length-17 Inv-loop μ-loop
 same-length-17 c =
     let at-loop : tie.At-loop Inv-loop μ-loop = search in
-    at-loop .loop .inv .3
+    at-loop .loop .inv .1
 
 same-length-18 : tie.Need-same-length-18 Inv-loop μ-loop
 same-length-18 c =
     let at-loop : tie.At-loop Inv-loop μ-loop = search in
-    at-loop .loop .inv .4
+    at-loop .loop .inv .2
 
 same-length-19 : tie.Need-same-length-19 Inv-loop μ-loop
 same-length-19 c =
     let at-loop : tie.At-loop Inv-loop μ-loop = search in
-    at-loop .loop .inv .5
+    at-loop .loop .inv .3
 
 same-length-20 : tie.Need-same-length-20 Inv-loop μ-loop
 same-length-20 c =
     let at-loop : tie.At-loop Inv-loop μ-loop = search in
-    at-loop .loop .inv .6
+    at-loop .loop .inv .4
 
 same-length-21 : tie.Need-same-length-21 Inv-loop μ-loop
 same-length-21 c =
     let at-loop : tie.At-loop Inv-loop μ-loop = search in
+    at-loop .loop .inv .5
+
+same-length-22 : tie.Need-same-length-22 Inv-loop μ-loop
+same-length-22 c =
+    let at-loop : tie.At-loop Inv-loop μ-loop = search in
+    at-loop .loop .inv .6
+
+same-length-23 : tie.Need-same-length-23 Inv-loop μ-loop
+same-length-23 c =
+    let at-loop : tie.At-loop Inv-loop μ-loop = search in
     at-loop .loop .inv .7
+
+same-length-24 : tie.Need-same-length-24 Inv-loop μ-loop
+same-length-24 c =
+    let at-loop : tie.At-loop Inv-loop μ-loop = search in
+    at-loop .loop .inv .8
 
 returns-3 : tie.Need-returns-3 Inv-loop μ-loop
 unfolding jobOf
@@ -302,7 +318,7 @@ loop-again c =
     let e = entry at-loop in
     let j = jobOf (lent e) in
     let s = at-step .step in
-    let new = s .last .1 .1 .1 .1 .1 .1 .1 .1 .1 .1 .0 in
+    let new = s .last .1 .1 .1 .1 .1 .1 .1 .1 .0 in
     let left = e .args .budget - at-loop .loop .at .made in
     let within = at-loop .loop .inv .0 .underway .counted in
     let differs = at-else3 .if3 .left in
@@ -317,19 +333,21 @@ loop-again c =
     (s .result .sum) =
     subst (λ (n : ℕ). Underway j (e .args .weights .now) (e .args .budget) (given e) n (standingAs (layoutOf new) (s .result)) (s .result .sum)) rest pass in (
       record { underway = under; laid = s .ensures .1 .1 .0; stores = s .ensures .1 .1 .1 },
-      s .kept .1 .1 .1 .1 .1 .1 .1 .1 .1 .1 .0 ∙ at-loop .loop .inv .1,
-      s .kept .1 .1 .1 .1 .1 .1 .1 .1 .1 .1 .1 .0 ∙ at-loop .loop .inv .2,
-      s .kept .1 .1 .1 .1 .1 .1 .1 .1 .1 .1 .1 .1 .0 ∙ at-loop .loop .inv .3,
-      s .kept .1 .1 .1 .1 .1 .1 .1 .1 .1 .1 .1 .1 .1 .0 ∙ at-loop .loop .inv .4,
-      s .kept .1 .1 .1 .1 .1 .1 .1 .1 .1 .1 .1 .1 .1 .1 .0 ∙ at-loop .loop .inv .5,
-      s .kept .1 .1 .1 .1 .1 .1 .1 .1 .1 .1 .1 .1 .1 .1 .1 .0 ∙ at-loop .loop .inv .6,
-      s .kept .1 .1 .1 .1 .1 .1 .1 .1 .1 .1 .1 .1 .1 .1 .1 .1 .0 ∙ at-loop .loop .inv .7,
+      s .kept .1 .1 .1 .1 .1 .1 .1 .1 .0 ∙ at-loop .loop .inv .1,
+      s .kept .1 .1 .1 .1 .1 .1 .1 .1 .1 .0 ∙ at-loop .loop .inv .2,
+      s .kept .1 .1 .1 .1 .1 .1 .1 .1 .1 .1 .0 ∙ at-loop .loop .inv .3,
+      s .kept .1 .1 .1 .1 .1 .1 .1 .1 .1 .1 .1 .0 ∙ at-loop .loop .inv .4,
+      s .kept .1 .1 .1 .1 .1 .1 .1 .1 .1 .1 .1 .1 .0 ∙ at-loop .loop .inv .5,
+      s .kept .1 .1 .1 .1 .1 .1 .1 .1 .1 .1 .1 .1 .1 .0 ∙ at-loop .loop .inv .6,
+      s .kept .1 .1 .1 .1 .1 .1 .1 .1 .1 .1 .1 .1 .1 .1 .0 ∙ at-loop .loop .inv .7,
+      s .kept .1 .1 .1 .1 .1 .1 .1 .1 .1 .1 .1 .1 .1 .1 .1 .0 ∙ at-loop .loop .inv .8,
     )
 
 pub descend-spec : {M : Type 1} → statement M
 descend-spec =
     tie.close (tie.spec
     Inv-loop μ-loop trial-count-requires total-requires (search needs) loop-holds (search needs) same-length same-length-2 same-length-3
-    same-length-4 same-length-5 same-length-6 same-length-7 returns (search needs) same-length-8 same-length-9 same-length-10
-    same-length-11 same-length-12 same-length-13 same-length-14 returns-2 (search needs) same-length-15 same-length-16 same-length-17
-    same-length-18 same-length-19 same-length-20 same-length-21 returns-3 step-requires loop-less loop-again)
+    same-length-4 same-length-5 same-length-6 same-length-7 same-length-8 returns (search needs) same-length-9 same-length-10
+    same-length-11 same-length-12 same-length-13 same-length-14 same-length-15 same-length-16 returns-2 (search needs) same-length-17
+    same-length-18 same-length-19 same-length-20 same-length-21 same-length-22 same-length-23 same-length-24 returns-3 step-requires
+    loop-less loop-again)

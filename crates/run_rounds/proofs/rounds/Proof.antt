@@ -9,16 +9,16 @@ use Rattle.run_rounds.proofs.rounds.Statement.{statement}
 use Rattle.run_rounds.proofs.rounds.Tie as tie
 
 abbrev Inv-loop : tie.InvT-loop
-Inv-loop size table pixels rows row-starts columns column-starts count budget width present₀ best₀ weights₀ penalties₀ row-lines₀ row-tags₀ column-lines₀
-    column-tags₀ sums₀ n sum₀ made₀ moves₀ left₀ present best weights penalties row-lines row-tags column-lines column-tags sums sum made moves left =
+Inv-loop size table pixels rows row-starts count budget width present₀ best₀ weights₀ penalties₀ row-lines₀ row-tags₀ column-lines₀
+    column-tags₀ sums₀ maps₀ n sum₀ made₀ moves₀ left₀ present best weights penalties row-lines row-tags column-lines column-tags sums maps sum made moves left =
     Rounding (lentBy size table pixels) width weights₀ count budget (layoutOf present₀) present best weights penalties row-lines row-tags column-lines
-    column-tags sums sum made moves left
-    × Sizes present best weights penalties row-lines row-tags column-lines column-tags sums present₀ best₀ weights₀ penalties₀ row-lines₀ row-tags₀
-    column-lines₀ column-tags₀ sums₀
+    column-tags sums maps sum made moves left
+    × Sizes present best weights penalties row-lines row-tags column-lines column-tags sums maps present₀ best₀ weights₀ penalties₀ row-lines₀ row-tags₀
+    column-lines₀ column-tags₀ sums₀ maps₀
 
 abbrev μ-loop : tie.MeasureT-loop
-μ-loop size table pixels rows row-starts columns column-starts count budget width present₀ best₀ weights₀ penalties₀ row-lines₀ row-tags₀ column-lines₀
-    column-tags₀ sums₀ n sum₀ made₀ moves₀ left₀ present best weights penalties row-lines row-tags column-lines column-tags sums sum made moves left =
+μ-loop size table pixels rows row-starts count budget width present₀ best₀ weights₀ penalties₀ row-lines₀ row-tags₀ column-lines₀
+    column-tags₀ sums₀ maps₀ n sum₀ made₀ moves₀ left₀ present best weights penalties row-lines row-tags column-lines column-tags sums maps sum made moves left =
     left
 
 -- ── places ──
@@ -39,6 +39,10 @@ head c = let at-descend : tie.After-descend Inv-loop μ-loop = search in search
 abbrev descended : tie.After-keep-better Inv-loop μ-loop → tie.After-descend Inv-loop μ-loop
 descended c = search
 
+-- the round, from its descent
+abbrev inside : tie.After-descend Inv-loop μ-loop → tie.In-loop Inv-loop μ-loop
+inside c = search
+
 -- ── laws at these places ──
 
 -- the job has a piece
@@ -49,10 +53,11 @@ some-piece s = lent-some (job s) (s .pre .0 .well)
 rounded : (c : tie.After-keep-better Inv-loop μ-loop)
     → Rounded (job (entry (head c))) (entry (head c) .args .width) (entry (head c) .args .budget) (head c .loop .present) (head c .loop .best)
     (head c .loop .weights)
-    (head c .loop .sum) (descended c .descend .result) (descended c .descend .last .1 .1 .1 .1 .1 .1 .1 .1 .1 .1 .0) (c .keep-better .last .1 .1 .0)
+    (head c .loop .sum) (descended c .descend .result) (descended c .descend .last .1 .1 .1 .1 .1 .1 .1 .1 .0) (c .keep-better .last .1 .1 .0)
+    (descended c .descend .last .1 .1 .1 .1 .1 .1 .1 .1 .1 .0) (descended c .descend .last .1 .1 .1 .1 .1 .1 .1 .1 .1 .1 .0)
     (descended c .descend .last .1 .1 .1 .1 .1 .1 .1 .1 .1 .1 .1 .0) (descended c .descend .last .1 .1 .1 .1 .1 .1 .1 .1 .1 .1 .1 .1 .0)
     (descended c .descend .last .1 .1 .1 .1 .1 .1 .1 .1 .1 .1 .1 .1 .1 .0) (descended c .descend .last .1 .1 .1 .1 .1 .1 .1 .1 .1 .1 .1 .1 .1 .1 .0)
-    (descended c .descend .last .1 .1 .1 .1 .1 .1 .1 .1 .1 .1 .1 .1 .1 .1 .1 .0) (descended c .descend .last .1 .1 .1 .1 .1 .1 .1 .1 .1 .1 .1 .1 .1 .1 .1 .1 .0)
+    (descended c .descend .last .1 .1 .1 .1 .1 .1 .1 .1 .1 .1 .1 .1 .1 .1 .1 .0)
     (c .before .before .before .plain-total2 .result) (c .keep-better .result)
 rounded c =
     let at-plain-total2 : tie.After-plain-total2 Inv-loop μ-loop = search in
@@ -62,7 +67,7 @@ rounded c =
       result = said .0;
       laid = said .1 .0;
       stores = said .1 .1;
-      plainIs = at-plain-total2 .plain-total2 .ensures (jobOf l) (layoutOf (descended c .descend .last .1 .1 .1 .1 .1 .1 .1 .1 .1 .1 .0)) (job-count l)
+      plainIs = at-plain-total2 .plain-total2 .ensures (jobOf l) (layoutOf (descended c .descend .last .1 .1 .1 .1 .1 .1 .1 .1 .0)) (job-count l)
           (said .1 .0 .table);
       bestIs = c .keep-better .ensures .0;
       sumIs = c .keep-better .ensures .1;
@@ -92,6 +97,7 @@ loop-holds c =
         sameColumnLines = refl;
         sameColumnTags = refl;
         sameSums = refl;
+        sameMaps = refl;
       },
     )
 
@@ -128,30 +134,27 @@ keep-better-requires c κs =
     let at-loop : tie.At-loop Inv-loop μ-loop = search in
     let before = at-loop .loop .inv .1 in
     before .sameBest ∙ ap (λ b. length b) (entry at-loop .pre .1 .1 .1 .1 .0) ∙ sym (before .sameLayout)
-    ∙ sym (at-descend .descend .kept .1 .1 .1 .1 .1 .1 .1 .1 .1 .1 .0)
+    ∙ sym (at-descend .descend .kept .1 .1 .1 .1 .1 .1 .1 .1 .0)
 
 after-round-requires : tie.Need-after-round-requires Inv-loop μ-loop
 after-round-requires c κs =
     let at-keep-better : tie.After-keep-better Inv-loop μ-loop = search in
-    let at-row-lines : tie.After-row-lines Inv-loop μ-loop = search in
     let s = entry (head at-keep-better) in (
       weighed (job s) (s .pre .0 .well) (rounded at-keep-better .laid) (head at-keep-better .loop .inv .0 .underway .validWeights),
-      at-row-lines .before .before .before .before .before .before .before .before .before .before .before .before .before .loop-test .taken,
+      inside (descended at-keep-better) .loop-test .taken,
     )
 
 loop-less : tie.Need-loop-less Inv-loop μ-loop
 loop-less c =
     let at-keep-better : tie.After-keep-better Inv-loop μ-loop = search in
-    let at-row-lines : tie.After-row-lines Inv-loop μ-loop = search in
     let falls = left-falls (descended at-keep-better .descend .result .end) (head at-keep-better .loop .left)
-    (at-row-lines .before .before .before .before .before .before .before .before .before .before .before .before .before .loop-test .taken) in
+    (inside (descended at-keep-better) .loop-test .taken) in
     let left = c .before .before .after-round .ensures .0 in
     omega arith
 
 loop-again : tie.Need-loop-again Inv-loop μ-loop
 loop-again c =
     let at-keep-better : tie.After-keep-better Inv-loop μ-loop = search in
-    let at-row-lines : tie.After-row-lines Inv-loop μ-loop = search in
     let s = entry (head at-keep-better) in
     let stands = head at-keep-better .loop .inv .0 in
     let before = head at-keep-better .loop .inv .1 in
@@ -159,18 +162,19 @@ loop-again c =
     let after = c .before .before .after-round in
     let kept = descended at-keep-better .descend .kept in (
       round-next (some-piece s) stands
-          (at-row-lines .before .before .before .before .before .before .before .before .before .before .before .before .before .loop-test .taken) round
+          (inside (descended at-keep-better) .loop-test .taken) round
           (after .ensures .1 (jobOf (job s)) _ (job-count (job s)) (round .laid .table) (stands .underway .validWeights)) (after .ensures .0),
       record {
-        sameLayout = kept .1 .1 .1 .1 .1 .1 .1 .1 .1 .1 .0 ∙ before .sameLayout;
+        sameLayout = kept .1 .1 .1 .1 .1 .1 .1 .1 .0 ∙ before .sameLayout;
         sameBest = at-keep-better .keep-better .kept .1 .1 .0 ∙ before .sameBest;
         sameWeights = after .kept .1 .1 .1 .0 ∙ before .sameWeights;
-        samePenalties = kept .1 .1 .1 .1 .1 .1 .1 .1 .1 .1 .1 .0 ∙ before .samePenalties;
-        sameRowLines = kept .1 .1 .1 .1 .1 .1 .1 .1 .1 .1 .1 .1 .0 ∙ before .sameRowLines;
-        sameRowTags = kept .1 .1 .1 .1 .1 .1 .1 .1 .1 .1 .1 .1 .1 .0 ∙ before .sameRowTags;
-        sameColumnLines = kept .1 .1 .1 .1 .1 .1 .1 .1 .1 .1 .1 .1 .1 .1 .0 ∙ before .sameColumnLines;
-        sameColumnTags = kept .1 .1 .1 .1 .1 .1 .1 .1 .1 .1 .1 .1 .1 .1 .1 .0 ∙ before .sameColumnTags;
-        sameSums = kept .1 .1 .1 .1 .1 .1 .1 .1 .1 .1 .1 .1 .1 .1 .1 .1 .0 ∙ before .sameSums;
+        samePenalties = kept .1 .1 .1 .1 .1 .1 .1 .1 .1 .0 ∙ before .samePenalties;
+        sameRowLines = kept .1 .1 .1 .1 .1 .1 .1 .1 .1 .1 .0 ∙ before .sameRowLines;
+        sameRowTags = kept .1 .1 .1 .1 .1 .1 .1 .1 .1 .1 .1 .0 ∙ before .sameRowTags;
+        sameColumnLines = kept .1 .1 .1 .1 .1 .1 .1 .1 .1 .1 .1 .1 .0 ∙ before .sameColumnLines;
+        sameColumnTags = kept .1 .1 .1 .1 .1 .1 .1 .1 .1 .1 .1 .1 .1 .0 ∙ before .sameColumnTags;
+        sameSums = kept .1 .1 .1 .1 .1 .1 .1 .1 .1 .1 .1 .1 .1 .1 .0 ∙ before .sameSums;
+        sameMaps = kept .1 .1 .1 .1 .1 .1 .1 .1 .1 .1 .1 .1 .1 .1 .1 .0 ∙ before .sameMaps;
       },
     )
 
@@ -201,6 +205,9 @@ same-length-8 c = c .before .loop .inv .1 .sameColumnTags
 same-length-9 : tie.Need-same-length-9 Inv-loop μ-loop
 same-length-9 c = c .before .loop .inv .1 .sameSums
 
+same-length-10 : tie.Need-same-length-10 Inv-loop μ-loop
+same-length-10 c = c .before .loop .inv .1 .sameMaps
+
 returns : tie.Need-returns Inv-loop μ-loop
 returns c =
     let h = c .before in
@@ -212,4 +219,4 @@ rounds-spec =
     tie.close (tie.spec
     Inv-loop μ-loop plain-total-requires loop-holds descend-requires (search needs) add-made (search needs) add-moves
     plain-total-requires-2 keep-better-requires after-round-requires loop-less loop-again same-length same-length-2 same-length-3
-    same-length-4 same-length-5 same-length-6 same-length-7 same-length-8 same-length-9 returns)
+    same-length-4 same-length-5 same-length-6 same-length-7 same-length-8 same-length-9 same-length-10 returns)

@@ -98,11 +98,11 @@ summed c = search
 
 -- what the layout buffer holds after the trial
 abbrev left : tie.After-try-trial → Layout
-left c = layoutOf (c .try-trial .last .1 .1 .1 .1 .1 .1 .1 .1 .1 .1 .1 .0)
+left c = layoutOf (c .try-trial .last .1 .1 .1 .1 .1 .1 .1 .1 .1 .0)
 
 -- and what it is by the search
 after : (c : tie.After-try-trial) (o : Option Best) → sought (entry (summed c)) ≡ o
-    → c .try-trial .last .1 .1 .1 .1 .1 .1 .1 .1 .1 .1 .1 .0
+    → c .try-trial .last .1 .1 .1 .1 .1 .1 .1 .1 .1 .0
     ≡ entriesAfter (entry (summed c) .args .layout .now) (trialAt (entry (summed c)) .piece) (trialAt (entry (summed c)) .turn)
     (trialLine (layoutAt (entry (summed c))) (trialAt (entry (summed c)))) o
 after c o found =
@@ -114,9 +114,61 @@ after-quiet-requires-2 : tie.Need-after-quiet-requires-2
 after-quiet-requires-2 c κs =
     let at-try-trial : tie.After-try-trial = search in
     let at-next-trial : tie.After-next-trial = search in
-    let at-shared-slice-known4 : tie.After-shared-slice-known4 = search in
+    let at-shared-slice-known3 : tie.After-shared-slice-known3 = search in
     let at-start : tie.Start = search in
     let n = at-start .pre .1 .1 .1 .1 .1 .1 in (n .0, n .1 .0)
+
+-- ── the buffers are as long as before ──
+
+same-length-2 : tie.Need-same-length-2
+same-length-2 c = let at-try-trial : tie.After-try-trial = search in at-try-trial .try-trial .kept .1 .1 .1 .1 .1 .1 .1 .1 .1 .0
+
+same-length-3 : tie.Need-same-length-3
+same-length-3 c = let at-try-trial : tie.After-try-trial = search in at-try-trial .try-trial .kept .1 .1 .1 .1 .1 .1 .1 .1 .1 .1 .0
+
+same-length-4 : tie.Need-same-length-4
+same-length-4 c = let at-try-trial : tie.After-try-trial = search in at-try-trial .try-trial .kept .1 .1 .1 .1 .1 .1 .1 .1 .1 .1 .1 .0
+
+same-length-5 : tie.Need-same-length-5
+same-length-5 c = let at-try-trial : tie.After-try-trial = search in at-try-trial .try-trial .kept .1 .1 .1 .1 .1 .1 .1 .1 .1 .1 .1 .1 .0
+
+same-length-6 : tie.Need-same-length-6
+same-length-6 c = let at-try-trial : tie.After-try-trial = search in at-try-trial .try-trial .kept .1 .1 .1 .1 .1 .1 .1 .1 .1 .1 .1 .1 .1 .0
+
+same-length-7 : tie.Need-same-length-7
+same-length-7 c = let at-try-trial : tie.After-try-trial = search in at-try-trial .try-trial .kept .1 .1 .1 .1 .1 .1 .1 .1 .1 .1 .1 .1 .1 .1 .0
+
+same-length-8 : tie.Need-same-length-8
+same-length-8 c = let at-try-trial : tie.After-try-trial = search in at-try-trial .try-trial .kept .1 .1 .1 .1 .1 .1 .1 .1 .1 .1 .1 .1 .1 .1 .1 .0
+
+same-length-9 : tie.Need-same-length-9
+same-length-9 c = let at-try-trial : tie.After-try-trial = search in at-try-trial .try-trial .kept .1 .1 .1 .1 .1 .1 .1 .1 .1 .1 .1 .1 .1 .1 .1 .1 .0
+
+same-length-10 : tie.Need-same-length-10
+same-length-10 c = let at-try-trial : tie.After-try-trial = search in at-try-trial .try-trial .kept .1 .1 .1 .1 .1 .1 .1 .1 .1 .0
+
+same-length-11 : tie.Need-same-length-11
+same-length-11 c = let at-try-trial : tie.After-try-trial = search in at-try-trial .try-trial .kept .1 .1 .1 .1 .1 .1 .1 .1 .1 .1 .0
+
+same-length-12 : tie.Need-same-length-12
+same-length-12 c = let at-try-trial : tie.After-try-trial = search in at-try-trial .try-trial .kept .1 .1 .1 .1 .1 .1 .1 .1 .1 .1 .1 .0
+
+same-length-13 : tie.Need-same-length-13
+same-length-13 c = let at-try-trial : tie.After-try-trial = search in at-try-trial .try-trial .kept .1 .1 .1 .1 .1 .1 .1 .1 .1 .1 .1 .1 .0
+
+same-length-14 : tie.Need-same-length-14
+same-length-14 c = let at-try-trial : tie.After-try-trial = search in at-try-trial .try-trial .kept .1 .1 .1 .1 .1 .1 .1 .1 .1 .1 .1 .1 .1 .0
+
+same-length-15 : tie.Need-same-length-15
+same-length-15 c = let at-try-trial : tie.After-try-trial = search in at-try-trial .try-trial .kept .1 .1 .1 .1 .1 .1 .1 .1 .1 .1 .1 .1 .1 .1 .0
+
+same-length-16 : tie.Need-same-length-16
+same-length-16 c = let at-try-trial : tie.After-try-trial = search in at-try-trial .try-trial .kept .1 .1 .1 .1 .1 .1 .1 .1 .1 .1 .1 .1 .1 .1 .1 .0
+
+same-length-17 : tie.Need-same-length-17
+same-length-17 c = let at-try-trial : tie.After-try-trial = search in at-try-trial .try-trial .kept .1 .1 .1 .1 .1 .1 .1 .1 .1 .1 .1 .1 .1 .1 .1 .1 .0
+
+-- ── what a trial comes to ──
 
 returns-2 : tie.Need-returns-2
 returns-2 c =
@@ -171,7 +223,7 @@ after-move-requires : tie.Need-after-move-requires
 after-move-requires c κs =
     let at-try-trial : tie.After-try-trial = search in
     let at-next-trial : tie.After-next-trial = search in
-    let at-shared-slice-known4 : tie.After-shared-slice-known4 = search in
+    let at-shared-slice-known3 : tie.After-shared-slice-known3 = search in
     let at-start : tie.Start = search in
     let n = at-start .pre .1 .1 .1 .1 .1 .1 in (n .1 .0, n .1 .1)
 
@@ -202,6 +254,6 @@ pub step-spec : {M : Type 1} → statement M
 step-spec =
     tie.close (tie.spec
     next-trial-requires row-sum-requires after-quiet-requires (search needs) returns cast-try-trial try-trial-requires (search needs)
-    (search needs) after-quiet-requires-2 (search needs) (search needs) (search needs) (search needs) (search needs) (search needs)
-    (search needs) returns-2 sub-after-move (search needs) add-after-move after-move-requires (search needs) (search needs) (search needs)
-    (search needs) (search needs) (search needs) (search needs) returns-3)
+    (search needs) after-quiet-requires-2 same-length-2 same-length-3 same-length-4 same-length-5 same-length-6 same-length-7 same-length-8
+    same-length-9 returns-2 sub-after-move (search needs) add-after-move after-move-requires same-length-10 same-length-11 same-length-12
+    same-length-13 same-length-14 same-length-15 same-length-16 same-length-17 returns-3)

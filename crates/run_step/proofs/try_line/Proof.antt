@@ -78,8 +78,8 @@ place-on-requires c κs =
     let few = places-few (lent e) (e .pre .0 .laid .well) (e .args .mover .piece) (e .args .mover .turn) (e .args .mover .line) in
     omega arith
 
-mul-t32 : tie.Need-mul-t32
-mul-t32 c =
+mul-t35 : tie.Need-mul-t35
+mul-t35 c =
     let at-known-told : tie.After-known-told = search in
     let at-search-below : tie.After-search-below = search in
     let at-shared-slice-known3 : tie.After-shared-slice-known3 = search in
@@ -97,6 +97,30 @@ slice-set-from-layout c =
     let whole = at-start .pre .0 .laid .whole in
     let below = at-start .pre .1 .0 in
     omega arith
+
+-- the search, from where the table is renewed
+abbrev searched : tie.After-renew-placed → tie.After-search-below
+searched c = let at-sum : tie.After-sum = search in search
+
+same-length-8 : tie.Need-same-length-8
+same-length-8 c =
+    let at-renew-placed : tie.After-renew-placed = search in
+    at-renew-placed .renew-placed .kept .1 .1 .1 .1 .1 .1 .1 .1 .1 .0 ∙ searched at-renew-placed .search-below .kept .1 .1 .1 .1 .1 .1 .1 .1 .1 .1 .0
+
+same-length-9 : tie.Need-same-length-9
+same-length-9 c =
+    let at-renew-placed : tie.After-renew-placed = search in
+    at-renew-placed .renew-placed .kept .1 .1 .1 .1 .1 .1 .1 .1 .1 .1 .0 ∙ searched at-renew-placed .search-below .kept .1 .1 .1 .1 .1 .1 .1 .1 .1 .1 .1 .0
+
+same-length-10 : tie.Need-same-length-10
+same-length-10 c =
+    let at-renew-placed : tie.After-renew-placed = search in
+    searched at-renew-placed .search-below .kept .1 .1 .1 .1 .1 .1 .1 .1 .1 .1 .1 .1 .0
+
+same-length-11 : tie.Need-same-length-11
+same-length-11 c =
+    let at-renew-placed : tie.After-renew-placed = search in
+    at-renew-placed .renew-placed .kept .1 .1 .1 .1 .1 .1 .1 .1 .1 .1 .1 .1 .0 ∙ searched at-renew-placed .search-below .kept .1 .1 .1 .1 .1 .1 .1 .1 .1 .1 .1 .1 .1 .0
 
 returns-2 : tie.Need-returns-2
 returns-2 c =
@@ -126,6 +150,6 @@ returns-2 c =
 pub try-line-spec : {M : Type 1} → statement M
 try-line-spec =
     tie.close (tie.spec
-    search-below-requires (search needs) (search needs) (search needs) (search needs) (search needs) (search needs) returns (search needs)
-    renew-placed-requires place-on-requires (search needs) mul-t32 slice-set-from-layout (search needs) (search needs) (search needs)
-    (search needs) (search needs) returns-2)
+    search-below-requires (search needs) (search needs) (search needs) (search needs) (search needs) (search needs) (search needs) returns (search needs)
+    renew-placed-requires place-on-requires (search needs) mul-t35 slice-set-from-layout (search needs) (search needs)
+    same-length-8 same-length-9 same-length-10 same-length-11 returns-2)

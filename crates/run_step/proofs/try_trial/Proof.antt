@@ -5,7 +5,7 @@ use Rattle.model.specs.Lent.{Lent, lentBy, jobOf}
 use Rattle.model.specs.declared.Direction.the-variants.{Horizontal, Vertical}
 use Rattle.run_trials.specs.Trials.{trialAs}
 use Rattle.run_step.specs.Steps.{triedAnswer}
-use Rattle.run_step.proofs.Readies.{through-direction, laid-length, search-ready, store-again, search-same, entries-same, after-laid}
+use Rattle.run_step.proofs.Readies.{through-direction, laid-length, search-ready, store-again, store-beside, search-same, entries-same, after-laid}
 use Rattle.run_step.proofs.try_trial.Statement.{statement}
 use Rattle.run_step.proofs.try_trial.Tie as tie
 
@@ -32,7 +32,7 @@ try-line-requires c κs =
     let at-line-of : tie.After-line-of = search in
     let at-start : tie.Start = search in
     let tools = at-start .pre .0 in (
-      search-ready (lent at-start) Horizontal _ _ _ _ _ _ (at-start .args .penalties .now) _ _ (along (at-line-of) ∙ at-enum-told .enum-told .given .1)
+      search-ready (lent at-start) Horizontal _ _ _ _ _ _ (at-start .args .penalties .now) _ _ _ (along (at-line-of) ∙ at-enum-told .enum-told .given .1)
           (tools .well) (at-start .pre .1 .1 .0) (tools .horizontal) (at-start .pre .1 .0)
           (tools .wide) (tools .narrow) (at-start .pre .1 .1 .1 .0 .inRows),
       (at-start .pre .1 .1 .1 .1 .0 .below, (at-start .pre .1 .1 .0 .table, at-start .pre .1 .1 .1 .0 .scratch)),
@@ -44,8 +44,8 @@ try-line-requires-2 c κs =
     let at-line-of : tie.After-line-of = search in
     let at-start : tie.Start = search in
     let tools = at-start .pre .0 in (
-      search-ready (lent at-start) Vertical _ _ _ _ _ _ (at-start .args .penalties .now) _ _ (along (at-line-of) ∙ at-enum-told2 .enum-told2 .given .1)
-          (tools .well) (at-start .pre .1 .1 .0) (tools .vertical) (at-start .pre .1 .0)
+      search-ready (lent at-start) Vertical _ _ _ _ _ _ (at-start .args .penalties .now) _ _ _ (along (at-line-of) ∙ at-enum-told2 .enum-told2 .given .1)
+          (tools .well) (at-start .pre .1 .1 .0) (tools .horizontal) (at-start .pre .1 .0)
           (tools .wide) (tools .narrow) (at-start .pre .1 .1 .1 .0 .inColumns),
       (at-start .pre .1 .1 .1 .1 .0 .below, (at-start .pre .1 .1 .0 .table, at-start .pre .1 .1 .1 .0 .scratch)),
     )
@@ -56,7 +56,7 @@ returns c =
     let at-try-line : tie.After-try-line = search in
     let at-enum-told : tie.After-enum-told = search in
     let at-line-of : tie.After-line-of = search in
-    let at-shared-slice-known4 : tie.After-shared-slice-known4 = search in
+    let at-shared-slice-known3 : tie.After-shared-slice-known3 = search in
     let at-start : tie.Start = search in
     let j = jobOf (lent at-start) in
     let ws = at-start .args .weights .now in
@@ -66,7 +66,7 @@ returns c =
     let f = at-line-of .line-of in
     let sum = at-start .pre .1 .1 .1 .1 .1 in
     let wrote = entries-same j ws es k (f .result) (at-start .args .present) (f .ensures) sum _ (t .ensures .1 .0) in
-    let kept = store-again Horizontal _ j (at-start .args .width) _ _ _ _ (along (at-line-of) ∙ at-enum-told .enum-told .given .1)
+    let kept = store-again Horizontal _ j (at-start .args .width) _ _ _ _ _ _ (along (at-line-of) ∙ at-enum-told .enum-told .given .1)
     (at-start .pre .1 .1 .1 .0 .inRows) (t .ensures .1 .1 .1) (t .kept .1 .1 .1 .1 .1 .1 .1 .1 .1 .1 .1 .0) in (
       t .ensures .0 ∙ ap triedAnswer (search-same j ws es k (f .result) (at-start .args .present) (f .ensures) sum),
       (
@@ -76,7 +76,7 @@ returns c =
               (t .ensures .1 .1 .0),
           record {
             inRows = kept;
-            inColumns = at-start .pre .1 .1 .1 .0 .inColumns;
+            inColumns = store-beside Vertical _ j (at-start .args .width) _ _ _ _ _ _ (at-start .pre .1 .1 .1 .0 .inColumns) (t .ensures .1 .1 .1);
             scratch = let same = t .kept .1 .1 .1 .1 .1 .1 .1 .1 .1 .1 .1 .1 .1 .0 in let room = at-start .pre .1 .1 .1 .0 .scratch in omega arith;
           },
         ),
@@ -89,7 +89,7 @@ returns-2 c =
     let at-try-line2 : tie.After-try-line2 = search in
     let at-enum-told2 : tie.After-enum-told2 = search in
     let at-line-of : tie.After-line-of = search in
-    let at-shared-slice-known4 : tie.After-shared-slice-known4 = search in
+    let at-shared-slice-known3 : tie.After-shared-slice-known3 = search in
     let at-start : tie.Start = search in
     let j = jobOf (lent at-start) in
     let ws = at-start .args .weights .now in
@@ -99,7 +99,7 @@ returns-2 c =
     let f = at-line-of .line-of in
     let sum = at-start .pre .1 .1 .1 .1 .1 in
     let wrote = entries-same j ws es k (f .result) (at-start .args .present) (f .ensures) sum _ (t .ensures .1 .0) in
-    let kept = store-again Vertical _ j (at-start .args .width) _ _ _ _ (along (at-line-of) ∙ at-enum-told2 .enum-told2 .given .1)
+    let kept = store-again Vertical _ j (at-start .args .width) _ _ _ _ _ _ (along (at-line-of) ∙ at-enum-told2 .enum-told2 .given .1)
     (at-start .pre .1 .1 .1 .0 .inColumns) (t .ensures .1 .1 .1) (t .kept .1 .1 .1 .1 .1 .1 .1 .1 .1 .1 .1 .0) in (
       t .ensures .0 ∙ ap triedAnswer (search-same j ws es k (f .result) (at-start .args .present) (f .ensures) sum),
       (
@@ -109,7 +109,7 @@ returns-2 c =
               (t .ensures .1 .1 .0),
           record {
             inColumns = kept;
-            inRows = at-start .pre .1 .1 .1 .0 .inRows;
+            inRows = store-beside Horizontal _ j (at-start .args .width) _ _ _ _ _ _ (at-start .pre .1 .1 .1 .0 .inRows) (t .ensures .1 .1 .1);
             scratch = let same = t .kept .1 .1 .1 .1 .1 .1 .1 .1 .1 .1 .1 .1 .1 .0 in let room = at-start .pre .1 .1 .1 .0 .scratch in omega arith;
           },
         ),
@@ -120,4 +120,4 @@ pub try-trial-spec : {M : Type 1} → statement M
 try-trial-spec =
     tie.close (tie.spec
     line-of-requires (search needs) try-line-requires (search needs) try-line-requires-2 (search needs) (search needs) (search needs)
-    (search needs) (search needs) returns (search needs) (search needs) (search needs) (search needs) (search needs) returns-2)
+    (search needs) (search needs) (search needs) returns (search needs) (search needs) (search needs) (search needs) (search needs) (search needs) returns-2)

@@ -51,4 +51,4 @@ returns c =
     )
 
 pub renew-placed-spec : {M : Type 1} → statement M
-renew-placed-spec = tie.close (tie.spec track-of-requires renew-others-requires (search needs) (search needs) (search needs) returns)
+renew-placed-spec = tie.close (tie.spec track-of-requires renew-others-requires (search needs) (search needs) (search needs) (search needs) returns)

@@ -54,4 +54,4 @@ pub search-below-spec : {M : Type 1} → statement M
 search-below-spec =
     tie.close (tie.spec
     track-of-requires slice-relend-prefix-search-over slice-aggregate-search-over search-over-requires (search needs) (search needs)
-    (search needs) returns)
+    (search needs) (search needs) returns)

@@ -39,10 +39,14 @@ least-below-requires c κs =
     let most = places-most l (a .mover) (a .track) (at-start .pre .1 .1 .0) in
     omega arith
 
+-- the entry, from where all are added
+abbrev entry : tie.After-add-others → tie.Start
+entry c = search
+
 returns : tie.Need-returns
 returns c =
     let at-add-others : tie.After-add-others = search in
-    let at-start : tie.Start = search in
+    let at-start = entry at-add-others in
     let a = at-start .args in
     let l = lentBy (a .size) (a .table .now) (a .pixels .now) in
     let x = at-add-others .add-others in (
@@ -55,4 +59,4 @@ returns c =
 
 pub search-over-spec : {M : Type 1} → statement M
 search-over-spec =
-    tie.close (tie.spec (search needs) add-others-requires least-below-requires (search needs) (search needs) (search needs) returns)
+    tie.close (tie.spec (search needs) add-others-requires least-below-requires (search needs) (search needs) (search needs) (search needs) returns)

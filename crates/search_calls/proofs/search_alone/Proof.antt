@@ -20,21 +20,24 @@ make-shapes-requires c κs =
 search-below-requires : tie.Need-search-below-requires
 search-below-requires c κs =
     let at-start : tie.Start = search in
-    let turned : tie.After-direction-of = search in
     let shaped : tie.After-make-shapes = search in
+    let mapped : tie.After-empty-maps = search in
     let a = at-start .args in
     let l = lentBy (a .size) (a .table .now) (a .pixels .now) in (
       record {
         laid = at-start .pre .0;
-        shapes = rw (turned .direction-of .ensures) at (shaped .make-shapes .ensures);
+        shapes = shaped .make-shapes .ensures;
         weighed = at-start .pre .1 .0;
         wide = store-wide l (at-start .pre .0 .well);
         narrow = omega arith;
-        kept = store-fresh (lineDirection (a .mover .line)) l;
+        kept = store-fresh (lineDirection (a .mover .line)) l (mapped .empty-maps .result) (mapped .empty-maps .ensures .0 _);
         fits = store-length;
       },
       (at-start .pre .1 .1, let n = length-replicate {A = ℕ} 4096 0 in omega arith),
     )
+
+slice-aggregate-search-below-6 : tie.Need-slice-aggregate-search-below-6
+slice-aggregate-search-below-6 c = let made : tie.After-empty-maps = search in sym (made .empty-maps .ensures .1)
 
 returns : tie.Need-returns
 returns c =
@@ -61,5 +64,6 @@ search-alone-spec =
     (search needs)
     (search needs)
     (search needs)
+    slice-aggregate-search-below-6
     search-below-requires
     returns)

@@ -15,7 +15,7 @@ lent c = lentBy (c .args .size) (c .args .table .now) (c .args .pixels .now)
 
 -- the numbers of the two pieces
 small : (e : tie.Start) → SmallTwo (e .args .two)
-small e = small-two (lent e) _ _ _ (e .args .two) (e .pre .0)
+small e = small-two (lent e) _ _ (e .args .two) (e .pre .0)
 
 slot-of-requires : tie.Need-slot-of-requires
 slot-of-requires c κs =
@@ -35,7 +35,7 @@ within : (c : tie.After-key-of)
 within c =
     let at-start : tie.Start = search in
     slot-within (at-start .args .direction) (jobOf (lent at-start)) (at-start .args .width) (at-start .args .lines .now) (at-start .args .tags .now)
-    (at-start .pre .1 .1 .1 .0) (c .before .slot-of .result) (c .before .slot-of .ensures)
+    (at-start .args .maps .now) (at-start .pre .1 .1 .1 .0) (c .before .slot-of .result) (c .before .slot-of .ensures)
 
 mul-at : tie.Need-mul-at
 mul-at c =
@@ -43,6 +43,9 @@ mul-at c =
     let w = within c in
     let f = at-start .pre .1 .1 .1 .1 in
     omega arith
+
+mul-if1 : tie.Need-mul-if1
+mul-if1 c = search needs
 
 returns : tie.Need-returns
 returns c =
@@ -54,7 +57,7 @@ returns c =
     let kept = at-start .pre .1 .1 .1 .0 in
     let line = kept .holds (at-slot-of .slot-of .result) (two .moved) (two .standing) (two .«moved_turn») (two .«standing_turn») (two .offset)
     (at-slot-of .slot-of .ensures)
-    (moved-there (lent at-start) _ _ _ two asked) (standing-there (lent at-start) _ _ _ two asked) (asked .offset) (c .if1 .taken ∙ b .key-of .ensures) in
+    (moved-there (lent at-start) _ _ two asked) (standing-there (lent at-start) _ _ two asked) (asked .offset) (c .if1 .taken ∙ b .key-of .ensures) in
     (line, (within b, (kept, (refl, refl))))
 
 make-line-requires : tie.Need-make-line-requires
@@ -64,9 +67,19 @@ make-line-requires c κs =
     let two = at-start .args .two in
     let asked = at-start .pre .0 in
     let wide = at-start .pre .1 .0 (two .moved) (two .standing) (two .«moved_turn») (two .«standing_turn») (at-start .args .direction)
-    (moved-there (lent at-start) _ _ _ two asked) (standing-there (lent at-start) _ _ _ two asked) in
+    (moved-there (lent at-start) _ _ two asked) (standing-there (lent at-start) _ _ two asked) in
     let w = within at-key-of in
-    (asked, (omega arith, at-start .pre .1 .1 .1 .1))
+    (asked, (omega arith, (at-start .pre .1 .1 .1 .1, at-start .pre .1 .1 .1 .0 .ready)))
+
+mul-tags : tie.Need-mul-tags
+mul-tags c =
+    let at-key-of : tie.After-key-of = search in
+    mul-if1 at-key-of
+
+slice-write-tags : tie.Need-slice-write-tags
+slice-write-tags c =
+    let at-slot-of : tie.After-slot-of = search in
+    at-slot-of .slot-of .ensures
 
 returns-2 : tie.Need-returns-2
 returns-2 c =
@@ -75,18 +88,19 @@ returns-2 c =
     let at-start : tie.Start = search in
     let two = at-start .args .two in
     let asked = at-start .pre .0 in
-    let made = c .before .before .make-line .ensures in
+    let at-make-line : tie.After-make-line = search in
+    let made = at-make-line .make-line .ensures .0 in
     let same = made .same in
     let w = within at-key-of in
     let kept = renewed (at-start .args .direction) (jobOf (lent at-start)) (at-start .args .width) (at-start .args .lines .now) (at-start .args .tags .now)
-    (at-start .pre .1 .1 .1 .0) (at-slot-of .slot-of .result)
-    (two .moved) (two .standing) (two .«moved_turn») (two .«standing_turn») (two .offset) _ (lent-few (lent at-start) (asked .well))
+    (at-start .args .maps .now) (at-start .pre .1 .1 .1 .0) (at-slot-of .slot-of .result)
+    (two .moved) (two .standing) (two .«moved_turn») (two .«standing_turn») (two .offset) _ _ (lent-few (lent at-start) (asked .well))
     (at-slot-of .slot-of .ensures)
-    (moved-there (lent at-start) _ _ _ two asked) (standing-there (lent at-start) _ _ _ two asked) (asked .offset) (at-start .pre .1 .0) made in
+    (moved-there (lent at-start) _ _ two asked) (standing-there (lent at-start) _ _ two asked) (asked .offset) (at-start .pre .1 .0) made (at-make-line .make-line .ensures .1) in
     (made .line, (omega arith, (rw (at-key-of .key-of .ensures) kept, (same, simp length-set))))
 
 pub keep-line-spec : {M : Type 1} → statement M
 keep-line-spec =
     tie.close (tie.spec
-    slot-of-requires key-of-requires mul-at (search needs) (search needs) returns make-line-requires (search needs) (search needs)
-    (search needs) (search needs) returns-2)
+    slot-of-requires key-of-requires mul-at mul-if1 (search needs) returns make-line-requires mul-tags slice-write-tags
+    (search needs) (search needs) (search needs) returns-2)

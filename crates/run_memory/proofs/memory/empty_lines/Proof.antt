@@ -4,7 +4,7 @@ use Rattle.run_memory.proofs.memory.empty_lines.Statement.{statement}
 use Rattle.run_memory.proofs.memory.empty_lines.Tie as tie
 
 returns : tie.Need-returns
-returns c = length-replicate {A = ℕ} 524288 0
+returns c = length-replicate {A = ℕ} 131072 0
 
 pub empty-lines-spec : {M : Type 1} → statement M
 empty-lines-spec = tie.close (tie.spec returns)

@@ -25,30 +25,98 @@ take-rounds-requires c κs =
       (subst FewRounds (at-plan .plan .given .1) (at-start .pre .1 .0), (at-start .pre .1 .1 .0, (at-start .pre .1 .1 .1 .0, at-start .pre .1 .1 .1 .1))),
     )
 
+-- the plan and the entry, from where it is done
+abbrev alone : tie.After-descend → tie.After-enum-told
+alone c = search
+
+abbrev entry : tie.After-enum-told → tie.Start
+entry c = search
+
+abbrev planned : tie.After-take-rounds → tie.After-plan
+planned c = search
+
+abbrev entry-2 : tie.After-plan → tie.Start
+entry-2 c = search
+
+-- ── the buffers are as long as before ──
+
+same-length : tie.Need-same-length
+same-length c = let at-descend : tie.After-descend = search in at-descend .descend .kept .1 .1 .1 .1 .1 .1 .1 .1 .0
+
+same-length-3 : tie.Need-same-length-3
+same-length-3 c = let at-descend : tie.After-descend = search in at-descend .descend .kept .1 .1 .1 .1 .1 .1 .1 .1 .1 .0
+
+same-length-4 : tie.Need-same-length-4
+same-length-4 c = let at-descend : tie.After-descend = search in at-descend .descend .kept .1 .1 .1 .1 .1 .1 .1 .1 .1 .1 .0
+
+same-length-5 : tie.Need-same-length-5
+same-length-5 c = let at-descend : tie.After-descend = search in at-descend .descend .kept .1 .1 .1 .1 .1 .1 .1 .1 .1 .1 .1 .0
+
+same-length-6 : tie.Need-same-length-6
+same-length-6 c = let at-descend : tie.After-descend = search in at-descend .descend .kept .1 .1 .1 .1 .1 .1 .1 .1 .1 .1 .1 .1 .0
+
+same-length-7 : tie.Need-same-length-7
+same-length-7 c = let at-descend : tie.After-descend = search in at-descend .descend .kept .1 .1 .1 .1 .1 .1 .1 .1 .1 .1 .1 .1 .1 .0
+
+same-length-8 : tie.Need-same-length-8
+same-length-8 c = let at-descend : tie.After-descend = search in at-descend .descend .kept .1 .1 .1 .1 .1 .1 .1 .1 .1 .1 .1 .1 .1 .1 .0
+
+same-length-9 : tie.Need-same-length-9
+same-length-9 c = let at-descend : tie.After-descend = search in at-descend .descend .kept .1 .1 .1 .1 .1 .1 .1 .1 .1 .1 .1 .1 .1 .1 .1 .0
+
+same-length-10 : tie.Need-same-length-10
+same-length-10 c = let at-take-rounds : tie.After-take-rounds = search in at-take-rounds .take-rounds .kept .1 .1 .1 .1 .1 .1 .1 .1 .0
+
+same-length-11 : tie.Need-same-length-11
+same-length-11 c = let at-take-rounds : tie.After-take-rounds = search in at-take-rounds .take-rounds .kept .1 .1 .1 .1 .1 .1 .1 .1 .1 .0
+
+same-length-12 : tie.Need-same-length-12
+same-length-12 c = let at-take-rounds : tie.After-take-rounds = search in at-take-rounds .take-rounds .kept .1 .1 .1 .1 .1 .1 .1 .1 .1 .1 .0
+
+same-length-13 : tie.Need-same-length-13
+same-length-13 c = let at-take-rounds : tie.After-take-rounds = search in at-take-rounds .take-rounds .kept .1 .1 .1 .1 .1 .1 .1 .1 .1 .1 .1 .0
+
+same-length-14 : tie.Need-same-length-14
+same-length-14 c = let at-take-rounds : tie.After-take-rounds = search in at-take-rounds .take-rounds .kept .1 .1 .1 .1 .1 .1 .1 .1 .1 .1 .1 .1 .0
+
+same-length-15 : tie.Need-same-length-15
+same-length-15 c = let at-take-rounds : tie.After-take-rounds = search in at-take-rounds .take-rounds .kept .1 .1 .1 .1 .1 .1 .1 .1 .1 .1 .1 .1 .1 .0
+
+same-length-16 : tie.Need-same-length-16
+same-length-16 c = let at-take-rounds : tie.After-take-rounds = search in at-take-rounds .take-rounds .kept .1 .1 .1 .1 .1 .1 .1 .1 .1 .1 .1 .1 .1 .1 .0
+
+same-length-17 : tie.Need-same-length-17
+same-length-17 c = let at-take-rounds : tie.After-take-rounds = search in at-take-rounds .take-rounds .kept .1 .1 .1 .1 .1 .1 .1 .1 .1 .1 .1 .1 .1 .1 .1 .0
+
+same-length-18 : tie.Need-same-length-18
+same-length-18 c = let at-take-rounds : tie.After-take-rounds = search in at-take-rounds .take-rounds .kept .1 .1 .1 .1 .1 .1 .1 .1 .1 .1 .1 .1 .1 .1 .1 .1 .0
+
+-- ── what was planned is done ──
+
 returns : tie.Need-returns
 returns c =
     let at-descend : tie.After-descend = search in
-    let at-enum-told : tie.After-enum-told = search in
-    let at-start : tie.Start = search in
+    let at-enum-told = alone at-descend in
+    let at-start = entry at-enum-told in
     let d = at-descend .descend in
     subst (λ (p : Plan).
     Done (lent at-start) (at-start .args .layout .now) (at-start .args .weights .now) p (at-start .args .budget) (PlanOutcome.Alone (d .result))
-    (d .last .1 .1 .1 .1 .1 .1 .1 .1 .1 .1 .0) (at-start .args .weights .now)) (sym (at-enum-told .enum-told .given .1))
+    (d .last .1 .1 .1 .1 .1 .1 .1 .1 .0) (at-start .args .weights .now)) (sym (at-enum-told .enum-told .given .1))
     (record { result = d .ensures .0; written = d .ensures .1 .0 .written })
 
 returns-2 : tie.Need-returns-2
 returns-2 c =
     let at-take-rounds : tie.After-take-rounds = search in
-    let at-plan : tie.After-plan = search in
-    let at-start : tie.Start = search in
+    let at-plan = planned at-take-rounds in
+    let at-start = entry-2 at-plan in
     let d = at-take-rounds .take-rounds in
     subst (λ (p : Plan).
     Done (lent at-start) (at-start .args .layout .now) (at-start .args .weights .now) p (at-start .args .budget) (PlanOutcome.Rounds (d .result))
-    (d .last .1 .1 .1 .1 .1 .1 .1 .1 .1 .1 .0) (d .last .1 .1 .1 .1 .1 .1 .1 .1 .1 .1 .1 .0)) (sym (at-plan .plan .given .1)) (d .ensures)
+    (d .last .1 .1 .1 .1 .1 .1 .1 .1 .0) (d .last .1 .1 .1 .1 .1 .1 .1 .1 .1 .0)) (sym (at-plan .plan .given .1)) (d .ensures)
 
 pub run-plan-spec : {M : Type 1} → statement M
 run-plan-spec =
     tie.close (tie.spec
-    (search needs) descend-requires (search needs) take-rounds-requires (search needs) (search needs) (search needs) (search needs)
-    (search needs) (search needs) (search needs) (search needs) returns (search needs) (search needs) (search needs) (search needs)
-    (search needs) (search needs) (search needs) (search needs) returns-2)
+    (search needs) descend-requires (search needs) take-rounds-requires same-length (search needs) same-length-3 same-length-4 same-length-5
+    same-length-6 same-length-7 same-length-8 same-length-9 returns same-length-10 same-length-11 same-length-12 same-length-13 same-length-14
+    same-length-15 same-length-16 same-length-17 same-length-18 returns-2)

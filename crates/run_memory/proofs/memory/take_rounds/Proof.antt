@@ -78,19 +78,27 @@ rounds-requires c κs =
       ),
     )
 
+-- the copy and the entry, from where the rounds are taken
+abbrev copied : tie.After-rounds → tie.After-copy
+copied c = search
+
+abbrev entry : tie.After-copy → tie.Start
+entry c = search
+
 returns : tie.Need-returns
 returns c =
     let at-rounds : tie.After-rounds = search in
-    let at-copy : tie.After-copy = search in
-    let at-start : tie.Start = search in
+    let at-copy = copied at-rounds in
+    let at-start = entry at-copy in
     let made = at-rounds .rounds in
     subst
     (λ v. Ran (job at-start) v (at-start .args .weights .now) (at-start .args .count) (at-start .args .budget) (made .result)
-    (made .last .1 .1 .1 .1 .1 .1 .1 .1 .1 .1 .1 .0) (made .last .1 .1 .1 .1 .1 .1 .1 .1 .1 .1 .1 .1 .0))
+    (made .last .1 .1 .1 .1 .1 .1 .1 .1 .1 .0) (made .last .1 .1 .1 .1 .1 .1 .1 .1 .1 .1 .0))
     (copied-part at-start _ _ (at-copy .copy .ensures)) (made .ensures)
 
 pub take-rounds-spec : {M : Type 1} → statement M
 take-rounds-spec =
     tie.close (tie.spec
     array-borrow-prefix-present slice-aggregate-copy copy-requires array-borrow-prefix-present-2 slice-aggregate-rounds rounds-requires
-    (search needs) (search needs) (search needs) (search needs) (search needs) (search needs) (search needs) (search needs) returns)
+    (search needs) (search needs) (search needs) (search needs) (search needs) (search needs) (search needs) (search needs) (search needs)
+    returns)

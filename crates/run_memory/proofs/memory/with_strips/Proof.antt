@@ -1,5 +1,5 @@
--- `run_memory::memory::with_strips` meets its contract: the strips are made in both directions. Assumes nothing.
-use Rattle.list_laws.proofs.Kit.{sym, needs}
+-- `run_memory::memory::with_strips` meets its contract: the strips are made along rows, and the table is the layout's. Assumes nothing.
+use Rattle.list_laws.proofs.Kit.{refl, sym, needs}
 use Rattle.search_shapes.proofs.Rooms.{room-of}
 use Rattle.run_memory.proofs.memory.with_strips.Statement.{statement}
 use Rattle.run_memory.proofs.memory.with_strips.Tie as tie
@@ -13,21 +13,21 @@ make-shapes-requires c κs =
     let made : tie.After-empty-store = search in
     (at-start .pre .0 .laid .well, room-of _ (made .empty-store .ensures))
 
-slice-aggregate-make-shapes-3 : tie.Need-slice-aggregate-make-shapes-3
-slice-aggregate-make-shapes-3 c = let made : tie.After-empty-store2 = search in sym (made .empty-store2 .ensures)
-
-make-shapes-requires-2 : tie.Need-make-shapes-requires-2
-make-shapes-requires-2 c κs =
-    let at-start : tie.Start = search in
-    let made : tie.After-empty-store2 = search in
-    (at-start .pre .0 .laid .well, room-of _ (made .empty-store2 .ensures))
+first-table-requires : tie.Need-first-table-requires
+first-table-requires c κs =
+    let e : tie.Start = search in
+    let in-rows : tie.After-make-shapes = search in
+    (e .pre .0 .laid, (in-rows .make-shapes .ensures, refl))
 
 with-row-lines-requires : tie.Need-with-row-lines-requires
 with-row-lines-requires c κs =
-    let at-start : tie.Start = search in
+    let e : tie.Start = search in
     let in-rows : tie.After-make-shapes = search in
-    let in-columns : tie.After-make-shapes2 = search in
-    (at-start .pre .0, (at-start .pre .1, (in-rows .make-shapes .ensures, in-columns .make-shapes2 .ensures)))
+    let filled : tie.After-first-table = search in
+    let g = e .pre .0 in (
+      g,
+      (e .pre .1, (in-rows .make-shapes .ensures, record { valid = g .laid .valid; written = g .written; table = filled .first-table .ensures })),
+    )
 
 returns : tie.Need-returns
 returns c = let ran : tie.After-with-row-lines = search in ran .with-row-lines .ensures
@@ -35,6 +35,5 @@ returns c = let ran : tie.After-with-row-lines = search in ran .with-row-lines .
 pub with-strips-spec : {M : Type 1} → statement M
 with-strips-spec =
     tie.close (tie.spec
-    (search needs) (search needs) slice-aggregate-make-shapes (search needs) make-shapes-requires slice-aggregate-make-shapes-3
-    (search needs) make-shapes-requires-2 (search needs) (search needs) (search needs) (search needs) with-row-lines-requires
-    (search needs) (search needs) returns)
+    (search needs) slice-aggregate-make-shapes (search needs) make-shapes-requires (search needs) (search needs) (search needs) first-table-requires
+    (search needs) (search needs) (search needs) with-row-lines-requires (search needs) (search needs) returns)

@@ -149,4 +149,4 @@ pub add-other-spec : {M : Type 1} → statement M
 add-other-spec =
     tie.close (tie.spec
     returns beside-requires reach-of-requires returns-2 mul-any-below (search needs) (search needs) part-any-below-end (search needs)
-    (search needs) returns-3 add-reached-requires (search needs) (search needs) (search needs) returns-4)
+    (search needs) returns-3 add-reached-requires (search needs) (search needs) (search needs) (search needs) returns-4)

@@ -110,4 +110,4 @@ pub add-reached-spec : {M : Type 1} → statement M
 add-reached-spec =
     tie.close (tie.spec
     weight-between-requires (search needs) line-with-requires add-from sub-end add-end (search needs) (search needs) part-add-line-end
-    add-line-requires (search needs) (search needs) (search needs) returns)
+    add-line-requires (search needs) (search needs) (search needs) (search needs) returns)

@@ -95,4 +95,4 @@ pub renew-other-spec : {M : Type 1} → statement M
 renew-other-spec =
     tie.close (tie.spec
     returns (λ c κs. search needs) mul-penalties add-penalties slice-write-penalties mul-penalties-2 add-penalties-2
-    slice-write-penalties-2 (search needs) (search needs) (search needs) returns-2)
+    slice-write-penalties-2 (search needs) (search needs) (search needs) (search needs) returns-2)

@@ -1,0 +1,2 @@
+-- The bits of words.
+pub mod Bit

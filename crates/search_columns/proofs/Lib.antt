@@ -1,0 +1,3 @@
+-- Laws of distances down a column.
+pub mod Gaps
+pub mod Counts

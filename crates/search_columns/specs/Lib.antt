@@ -1,0 +1,2 @@
+-- Distances down a column of a map.
+pub mod Column

@@ -1,0 +1,3 @@
+-- Laws of levels in one slice.
+pub mod Within
+pub mod Growing

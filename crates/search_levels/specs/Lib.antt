@@ -1,0 +1,2 @@
+-- Levels of widened marks in one slice.
+pub mod Levels

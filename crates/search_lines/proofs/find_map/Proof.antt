@@ -1,0 +1,76 @@
+-- `search_lines::find_map` meets its contract: the map of the key is the map of the two pieces. Assumes nothing.
+use Rattle.list_laws.proofs.Kit.{needs}
+use Rattle.model.specs.Lent.{Lent, lentBy}
+use Rattle.search_lines.proofs.Making.{small-two, moved-held, standing-held, sides-made, store-fits, moved-asked, standing-asked, map-found}
+use Rattle.search_lines.proofs.find_map.Statement.{statement}
+use Rattle.search_lines.proofs.find_map.Tie as tie
+
+-- the lent job
+abbrev lent : tie.Start → Lent
+lent c = lentBy (c .args .size) (c .args .table .now) (c .args .pixels .now)
+
+shape-strips-requires : tie.Need-shape-strips-requires
+shape-strips-requires c κs =
+    let at-start : tie.Start = search in
+    let at-opposite-turn : tie.After-opposite-turn = search in
+    moved-held (lent at-start) _ _ (at-start .args .two) (at-start .pre .0) (at-opposite-turn .opposite-turn .result)
+
+shape-strips-requires-2 : tie.Need-shape-strips-requires-2
+shape-strips-requires-2 c κs =
+    let at-start : tie.Start = search in
+    standing-held (lent at-start) _ _ (at-start .args .two) (at-start .pre .0)
+
+map-key-requires : tie.Need-map-key-requires
+map-key-requires c κs =
+    let at-start : tie.Start = search in
+    small-two (lent at-start) _ _ (at-start .args .two) (at-start .pre .0)
+
+map-slot-requires : tie.Need-map-slot-requires
+map-slot-requires c κs =
+    let at-start : tie.Start = search in
+    small-two (lent at-start) _ _ (at-start .args .two) (at-start .pre .0)
+
+keep-map-requires : tie.Need-keep-map-requires
+keep-map-requires c κs =
+    let at-start : tie.Start = search in
+    let at-opposite-turn : tie.After-opposite-turn = search in
+    let at-shape-strips : tie.After-shape-strips = search in
+    let at-shape-strips2 : tie.After-shape-strips2 = search in
+    let at-map-key : tie.After-map-key = search in
+    let at-map-slot : tie.After-map-slot = search in
+    let l = lent at-start in
+    let two = at-start .args .two in
+    let z = at-start .args .sides in
+    let asked = at-start .pre .0 in
+    let is = at-start .pre .1 .0 in (
+      sides-made l _ _ two asked z is,
+      (
+        moved-asked l _ _ two asked z is _ (at-opposite-turn .opposite-turn .ensures) _ (at-shape-strips .shape-strips .ensures) .0,
+        (
+          standing-asked l _ _ two asked z is _ (at-shape-strips2 .shape-strips2 .ensures) .0,
+          store-fits l _ _ two asked z is _ _ (at-map-key .map-key .ensures .1) (at-map-slot .map-slot .ensures) _ (at-start .pre .1 .1),
+        ),
+      ),
+    )
+
+returns : tie.Need-returns
+returns c =
+    let at-start : tie.Start = search in
+    let at-opposite-turn : tie.After-opposite-turn = search in
+    let at-shape-strips : tie.After-shape-strips = search in
+    let at-shape-strips2 : tie.After-shape-strips2 = search in
+    let at-map-key : tie.After-map-key = search in
+    let at-keep-map : tie.After-keep-map = search in
+    let l = lent at-start in
+    let two = at-start .args .two in
+    let z = at-start .args .sides in
+    let asked = at-start .pre .0 in
+    let is = at-start .pre .1 .0 in
+    map-found l _ _ two asked z is _ _ _
+    (moved-asked l _ _ two asked z is _ (at-opposite-turn .opposite-turn .ensures) _ (at-shape-strips .shape-strips .ensures) .1)
+    (standing-asked l _ _ two asked z is _ (at-shape-strips2 .shape-strips2 .ensures) .1)
+    (at-map-key .map-key .ensures .0) _ _ _ (at-start .pre .1 .1) (at-keep-map .keep-map .ensures)
+
+pub find-map-spec : {M : Type 1} → statement M
+find-map-spec =
+    tie.close (tie.spec (search needs) shape-strips-requires shape-strips-requires-2 map-key-requires map-slot-requires keep-map-requires (search needs) returns)

@@ -1,0 +1,3 @@
+-- Keys of the maps of a job.
+pub mod Keys
+pub mod Turns

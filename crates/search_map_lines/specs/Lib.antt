@@ -1,0 +1,2 @@
+-- Penalty lines from maps.
+pub mod Line

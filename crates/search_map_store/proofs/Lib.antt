@@ -1,0 +1,2 @@
+-- Laws of kept maps.
+pub mod Keeping

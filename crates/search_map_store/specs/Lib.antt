@@ -1,0 +1,2 @@
+-- Kept maps.
+pub mod Store

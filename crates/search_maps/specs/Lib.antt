@@ -1,0 +1,3 @@
+-- The map of two pieces.
+pub mod Map
+pub mod Making

@@ -1,0 +1,3 @@
+-- Laws of strips added to marks.
+pub mod Adding
+pub mod Sums

@@ -1,0 +1,2 @@
+-- Strips added to marks.
+pub mod Marks

@@ -1,0 +1,4 @@
+-- Laws of distances.
+pub mod Windows
+pub mod Places
+pub mod Layers

@@ -1,0 +1,2 @@
+-- Distances from clear bits.
+pub mod Peel

@@ -1,3 +1,0 @@
--- What the line of penalties of two pieces is. Assumes nothing.
-pub mod Line
-pub mod Outlines

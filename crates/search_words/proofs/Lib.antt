@@ -1,0 +1,3 @@
+-- Laws of strings moved up.
+pub mod Moved
+pub mod Flats

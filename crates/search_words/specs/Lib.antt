@@ -1,0 +1,2 @@
+-- Strings of bits moved up into others.
+pub mod Words
