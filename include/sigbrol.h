@@ -24,6 +24,10 @@
  *
  * Memory. A call writes what its comment says that it fills, and nothing else: what lies beyond the front of a buffer stays untouched.
  *
+ * Workspace. sigbrol_descent, sigbrol_guided_run and sigbrol_program are lent words to work in, of any content and any number, 0 included.
+ * What a call replies and fills does not depend on them; more of them is faster, up to what the job's pieces need. They need not be cleared,
+ * and one workspace may serve call after call. After a call that is not refused they hold anything; a refusal leaves them as they were.
+ *
  * What the caller sees to: a pointer has as many elements behind it as its length says (it may be null where that is 0), one without
  * a length has one element (a record sixty-four entries), and no buffer that a call writes overlaps another of its arguments. A pointer
  * is never kept. No function allocates, keeps state or does input and output, so any number of threads may call. A thread needs up to
@@ -40,7 +44,7 @@ extern "C" {
 #endif
 
 /* The version of this interface. It grows by 1 where anything below changes for a caller. */
-#define SIGBROL_VERSION 5
+#define SIGBROL_VERSION 6
 
 /* The largest numbers of a job: pieces, bytes of all boxes together, bytes of a job text that the program reads. */
 #define SIGBROL_PIECES 64
@@ -54,6 +58,10 @@ extern "C" {
 #define SIGBROL_RUNS 255
 #define SIGBROL_LAYOUT_TEXT 2048
 #define SIGBROL_OUTPUT 4096
+
+/* Words of a workspace: fewer than the first are not used; the second hold the maps of a job of middle size, 2 MB. */
+#define SIGBROL_WORKSPACE_LEAST 20986
+#define SIGBROL_WORKSPACE 262144
 
 /* How many lines suffice for the cut list of every layout on a sheet. */
 #define SIGBROL_CUT_LINES(rows, columns) (((size_t)(rows) + 1) * ((size_t)(columns) + 1))
@@ -327,8 +335,8 @@ sigbrol_reply sigbrol_line_search(size_t rows, size_t columns, size_t count, con
  * Refused: 8 the job; 7 the length of the layout or the weights; 2 a weight or the budget; 9; 10. */
 sigbrol_reply sigbrol_descent(size_t rows, size_t columns, size_t count, const uint8_t (*table)[3], size_t table_length,
                               const uint8_t *pixels, size_t pixels_length, uint16_t (*layout)[3], size_t layout_length,
-                              const uint32_t *weights, size_t weights_length, uint32_t budget, uint8_t *end, uint64_t *sum,
-                              uint64_t *trials, uint64_t *moves);
+                              const uint32_t *weights, size_t weights_length, uint32_t budget, uint64_t *workspace,
+                              size_t workspace_length, uint8_t *end, uint64_t *sum, uint64_t *trials, uint64_t *moves);
 
 /* A guided run of at most `rounds` descents (1 to 1,000), each of at most `budget` trials; after each that is not clear the weight of
  * every pair that shares a pixel grows by 1, up to 65,535. The layout becomes the best one, the weights the new ones; fills `sum` (the
@@ -336,13 +344,15 @@ sigbrol_reply sigbrol_descent(size_t rows, size_t columns, size_t count, const u
  * Refused: 8 the job; 7 the length of the layout or the weights; 2 a weight, the budget or the rounds; 9; 10. */
 sigbrol_reply sigbrol_guided_run(size_t rows, size_t columns, size_t count, const uint8_t (*table)[3], size_t table_length,
                                  const uint8_t *pixels, size_t pixels_length, uint16_t (*layout)[3], size_t layout_length,
-                                 uint32_t *weights, size_t weights_length, uint32_t rounds, uint32_t budget, uint64_t *sum,
-                                 uint64_t *trials, uint64_t *moves);
+                                 uint32_t *weights, size_t weights_length, uint32_t rounds, uint32_t budget, uint64_t *workspace,
+                                 size_t workspace_length, uint64_t *sum, uint64_t *trials, uint64_t *moves);
 
 /* The whole program on a job text: fills the front of `output` with what `nest` prints for this input and `written` with how many bytes
- * that are, at most SIGBROL_OUTPUT. A job that is refused is told in that text.
+ * that are, at most SIGBROL_OUTPUT. A job that is refused is told in that text. The workspace is used where the output buffer has room for
+ * SIGBROL_OUTPUT bytes, so that no refusal comes after it was written.
  * Refused: 7 the output buffer is shorter than the text. */
-sigbrol_reply sigbrol_program(const uint8_t *input, size_t input_length, uint8_t *output, size_t output_length, size_t *written);
+sigbrol_reply sigbrol_program(const uint8_t *input, size_t input_length, uint8_t *output, size_t output_length, uint64_t *workspace,
+                              size_t workspace_length, size_t *written);
 
 /* ---- the sheet of cover counts ---- */
 

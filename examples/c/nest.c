@@ -24,6 +24,9 @@ typedef struct {
     uint64_t moves;
 } search;
 
+/* Words for the descents to work in. They take the same memory round after round, and it need not be cleared. */
+static uint64_t workspace[SIGBROL_WORKSPACE];
+
 static const char *const end_names[] = {"clear", "settled", "spent"};
 
 /* Ends the program where a call is refused. After a job has been read that is a mistake of this program, such as a wrong length. */
@@ -98,7 +101,7 @@ static uint8_t run_round(const sigbrol_job *job, search *s, int number)
     uint8_t end = 0;
     uint64_t weighted = 0, trials = 0, moves = 0;
     must("sigbrol_descent", sigbrol_descent(SIGBROL_LENT(job), s->layout, job->count, s->weights, SIGBROL_PAIRS(job->count), BUDGET,
-                                            &end, &weighted, &trials, &moves));
+                                            workspace, SIGBROL_WORKSPACE, &end, &weighted, &trials, &moves));
     s->trials += trials;
     s->moves += moves;
 

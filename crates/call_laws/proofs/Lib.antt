@@ -16,4 +16,5 @@ pub mod Previews
 pub mod Cuts
 pub mod Reading
 pub mod Programs
+pub mod Workspaces
 pub mod Demands

@@ -10,4 +10,5 @@ pub mod Previews
 pub mod Cuts
 pub mod Reading
 pub mod Programs
+pub mod Workspaces
 pub mod Sheets

@@ -416,6 +416,7 @@ fn show_descent(columns: usize, budget: u32) {
     let pixels = TWO_PIXELS;
     let mut layout = [[0u16, 0, 0], [0, 0, 0]];
     let weights = [1u32];
+    let mut workspace = [0u64; 0];
     match run_descent_calls::descent(
         sheet(columns),
         &table,
@@ -423,6 +424,7 @@ fn show_descent(columns: usize, budget: u32) {
         &mut layout,
         &weights,
         budget,
+        &mut workspace,
     ) {
         DescentAnswer::Refused(refusal) => put_refused(refusal.number),
         DescentAnswer::Ended(ended) => {

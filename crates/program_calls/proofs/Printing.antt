@@ -1,5 +1,6 @@
--- What stands in the output buffer in the end. Assumes nothing.
-use Rattle.list_laws.proofs.Kit.{_∙_, _≡_, ap, Bool, false, true, List, _<_, _≤_, ℕ, arith, ltb, length, take, take-at, le-ltb, lt-ltb}
+-- What stands in the output buffer and in the workspace in the end. Assumes nothing.
+use Rattle.list_laws.proofs.Kit.{_∙_, _≡_, ap, refl, Bool, false, true, List, [], _++_, _∷_, _<_, _≤_, ℕ, arith, ltb, drop, length, length-append}
+use Rattle.list_laws.proofs.Kit.{length-drop, length-take-le, take, take-at, le-ltb, lt-ltb, ltb-true}
 use Rattle.model.specs.Lent.{Lent}
 use Rattle.model.specs.Refusal.{Outcome, refused, given, unless, wrongLength, plainRefusal}
 use Rattle.model.specs.declared.Refusal.{Refusal}
@@ -11,6 +12,8 @@ use Rattle.model.specs.Answers.{countAnswer}
 use Rattle.model.specs.declared.NumberAnswer.{NumberAnswer}
 use Rattle.layout_write_calls.specs.Written.{Written}
 use Rattle.program_text.specs.Output.{outputBound}
+use Rattle.call_laws.specs.Workspaces.{LeftFree}
+use Rattle.program_calls.specs.Runs.{UsedWords}
 
 -- a larger bound
 pub written-more : {before bytes after : List ℕ} {at most more next : ℕ} → Written before at bytes most next after → most ≤ more
@@ -64,6 +67,39 @@ leaves-written input before k after e m h few =
     let short : length (programText input) ≤ outputBound = omega arith in
     let text = leaves-text input before fits short in
     (ap NumberAnswer.Number e ∙ text .0, (m ∙ text .1 .0, short))
+
+-- ── the workspace ──
+
+-- as much of a list is left as there was, when its front is written
+whole-length : (old written : List ℕ) (n : ℕ) → n ≤ length old → length written ≡ length (take n old) → length (written ++ drop n old) ≡ length old
+whole-length old written n within same =
+    let front = length-take-le n old within in
+    let rest = length-drop n old in
+    let all = length-append written (drop n old) in
+    omega arith
+
+-- a list of which no element was lent is as it was
+none-lent : (old written : List ℕ) (n : ℕ) → n ≡ 0 → length written ≡ length (take n old) → written ++ drop n old ≡ old
+none-lent old [] n none same = rw none refl
+none-lent old (w ∷ written) n none same = absurd (let front : length (take n old) ≡ 0 = rw none refl in omega arith)
+
+-- what is left, by the test of the buffer
+left-by : (t : Bool) (r : Refusal) (text old new : List ℕ) → (t ≡ true → new ≡ old) → length new ≡ length old
+    → LeftFree {A = List ℕ} (elim t as (λ _. Outcome (List ℕ)) [ true ↦ refused r | false ↦ given text ]) old new
+left-by true r text old new same long = same refl
+left-by false r text old new same long = long
+
+-- a workspace of which so many words were lent as the output buffer's room allows
+pub workspace-left : (input : List ℕ) (room : ℕ) (old written : List ℕ) (used : ℕ) → UsedWords room (length old) used → length written ≡ length (take used old)
+    → length (programText input) ≤ outputBound
+    → LeftFree (programCall input room) old (written ++ drop used old)
+unfolding programCall unless
+workspace-left input room old written used words same few =
+    left-by (ltb room (length (programText input))) (plainRefusal wrongLength) (programText input) old (written ++ drop used old)
+    (λ t. let short : room < length (programText input) = ltb-true room (length (programText input)) t in none-lent old written used (words .none (omega arith)) same)
+    (whole-length old written used (words .within) same)
+
+-- ── the answer ──
 
 -- how many bytes are told, by the test of the buffer
 count-step : (t : Bool) (r : Refusal) (text : List ℕ) (k : ℕ)

@@ -12,9 +12,10 @@ ghost use Rattle.model.specs.Answers.{countAnswer};
 ghost use Rattle.model.specs.JobText.{readJob};
 ghost use Rattle.model.specs.Program.{runText, programRun, printed, programText, programCall};
 ghost use Rattle.text_laws.specs.Outcomes.{NoCause};
+ghost use Rattle.call_laws.specs.Workspaces.{LeftFree};
 ghost use Rattle.layout_write_calls.specs.Written.{Written};
 ghost use Rattle.program_text.specs.Output.{outputBound};
-ghost use Rattle.program_calls.specs.Runs.{Gives, runWith};
+ghost use Rattle.program_calls.specs.Runs.{Gives, runWith, UsedWords};
 use job_calls::JobAnswer;
 use layout_places::numbers::pair_count;
 use model::AREA_BOUND;
@@ -50,6 +51,7 @@ fn run_job(
     table: &[PieceEntry],
     pixels: &[u8],
     layout: &mut [PlaceEntry],
+    workspace: &mut [u64],
 ) -> RunTotals
     requires { ⌜ (lentWell (lentBy size (now table) (now pixels)) ≡ true) × (length (now layout) ≡ size .count) ⌝ }
     ensures { λ r. ⌜ Gives r (now (layout .exit)) (programRun (jobOf (lentBy size (now (table .entry)) (now (pixels .entry))))) ⌝ }
@@ -65,6 +67,7 @@ fn run_job(
         &mut weights[..pairs],
         PROGRAM_ROUNDS,
         PROGRAM_BUDGET,
+        workspace,
     ) {
         GuidedAnswer::Ran(run) => run,
         // The start layout and weights 1 are valid: this does not happen.
@@ -114,19 +117,25 @@ fn write_run(
 }
 
 // Runs a job that was read and writes how the run went.
-fn print_job(size: JobSize, table: &[PieceEntry], pixels: &[u8], text: &mut [u8]) -> usize
+fn print_job(
+    size: JobSize,
+    table: &[PieceEntry],
+    pixels: &[u8],
+    text: &mut [u8],
+    workspace: &mut [u64],
+) -> usize
     requires { ⌜ (lentWell (lentBy size (now table) (now pixels)) ≡ true) × (outputBound ≤ length (now text)) ⌝ }
     ensures { λ r. ⌜ Written (now (text .entry)) 0 (printed (given (lentBy size (now (table .entry)) (now (pixels .entry))))) outputBound r (now (text .exit)) ⌝ }
 {
     let mut layout = [[0u16; 3]; PIECE_BOUND];
     let count = size.count;
     let places: &mut [PlaceEntry] = &mut layout[..count];
-    let run = run_job(size, table, pixels, places);
+    let run = run_job(size, table, pixels, places, workspace);
     write_run(size, table, pixels, places, run, text)
 }
 
 // Reads a job, runs it and writes how the run went, or writes the refusal. The calls are lent just the entries and bytes that were read.
-fn read_and_print(input: &[u8], text: &mut [u8]) -> usize
+fn read_and_print(input: &[u8], text: &mut [u8], workspace: &mut [u64]) -> usize
     requires { ⌜ outputBound ≤ length (now text) ⌝ }
     ensures { λ r. ⌜ Written (now (text .entry)) 0 (printed (readJob (now (input .entry)) pieceBound areaBound)) outputBound r (now (text .exit)) ⌝ }
 {
@@ -138,31 +147,43 @@ fn read_and_print(input: &[u8], text: &mut [u8]) -> usize
             let count = size.count;
             let entries = &table[..count];
             let area = job_check::pixel_start(entries, count);
-            print_job(size, entries, &pixels[..area], text)
+            print_job(size, entries, &pixels[..area], text, workspace)
         }
     }
 }
 
 // What the program prints for its input, at the front of a buffer that every output fits, and how many bytes that are.
-fn print_text(input: &[u8], text: &mut [u8]) -> usize
+fn print_text(input: &[u8], text: &mut [u8], workspace: &mut [u64]) -> usize
     requires { ⌜ outputBound ≤ length (now text) ⌝ }
     ensures { λ r. ⌜ Written (now (text .entry)) 0 (programText (now (input .entry))) outputBound r (now (text .exit)) ⌝ }
 {
     if INPUT_BOUND < input.len() {
         return put_refusal_line(text, plain_refusal(7));
     }
-    read_and_print(input, text)
+    read_and_print(input, text, workspace)
+}
+
+// How many words of a workspace are used: none where the output buffer may be too short, since a refusal leaves the workspace as it is.
+fn words_used(room: usize, words: usize) -> usize
+    ensures { λ r. ⌜ UsedWords room words r ⌝ }
+{
+    if room < OUTPUT_BOUND {
+        return 0;
+    }
+    words
 }
 
 // What the program prints for its input, written to the front of an output buffer, and how many bytes that are: at most 4,096. A buffer
-// that the text does not fit is refused by 7 and left as it is.
-pub fn print_run(input: &[u8], output: &mut [u8]) -> NumberAnswer
+// that the text does not fit is refused by 7 and left as it is. What is printed does not depend on the workspace, whose words are free after it.
+pub fn print_run(input: &[u8], output: &mut [u8], workspace: &mut [u64]) -> NumberAnswer
     ensures answer { λ r. ⌜ r ≡ countAnswer (programCall (now (input .entry)) (length (now (output .entry)))) ⌝ }
     ensures memory { λ r. ⌜ now (output .exit) ≡ textAfter (now (output .entry)) (programCall (now (input .entry)) (length (now (output .entry)))) ⌝ }
+    ensures workspace { λ r. ⌜ LeftFree (programCall (now (input .entry)) (length (now (output .entry)))) (now (workspace .entry)) (now (workspace .exit)) ⌝ }
     ensures fits { λ r. ⌜ length (programText (now (input .entry))) ≤ outputBound ⌝ }
 {
     let mut text = [0u8; OUTPUT_BOUND];
-    let count = print_text(input, &mut text);
+    let used = words_used(output.len(), workspace.len());
+    let count = print_text(input, &mut text, &mut workspace[..used]);
     if output.len() < count {
         return NumberAnswer::Refused(plain_refusal(7));
     }

@@ -20,6 +20,7 @@ ghost use Rattle.model.specs.Lent.{lentBy, jobOf};
 ghost use Rattle.model.specs.Buffer.{layoutOf};
 ghost use Rattle.model.specs.Calls.{descentCall, descentAfter};
 ghost use Rattle.descent_laws.specs.Claims.{DescentClaims};
+ghost use Rattle.call_laws.specs.Workspaces.{LeftFree};
 ghost use Rattle.run_descent.specs.Descents.{descentOf};
 ghost use Rattle.run_descent.specs.declared.Ended.{Ended};
 ghost use Rattle.run_memory.specs.Ready.{Given};
@@ -52,6 +53,7 @@ fn run_alone(
     weights: &[u32],
     budget: u32,
     layout: &mut [PlaceEntry],
+    workspace: &mut [u64],
 ) -> Ended
     requires { ⌜ Given (lentBy size (now table) (now pixels)) (now layout) (now weights) budget ⌝ }
     ensures { λ r. ⌜ Descended (lentBy size (now (table .entry)) (now (pixels .entry))) (now (layout .entry)) (now (weights .entry)) budget r (now (layout .exit)) ⌝ }
@@ -67,6 +69,7 @@ fn run_alone(
         budget,
         layout,
         &mut own[..n],
+        workspace,
     ) {
         PlanOutcome::Alone(ended) => ended,
         // One descent is planned: this does not happen.
@@ -79,7 +82,8 @@ fn run_alone(
     }
 }
 
-// The descent: 8, 7, 2, 9, 10. The layout buffer holds the layout at the end; a refusal writes nothing.
+// The descent: 8, 7, 2, 9, 10. The layout buffer holds the layout at the end; a refusal writes nothing. The answer does not depend on the workspace,
+// whose words are free after it.
 pub fn descent(
     size: JobSize,
     table: &[PieceEntry],
@@ -87,9 +91,11 @@ pub fn descent(
     layout: &mut [PlaceEntry],
     weights: &[u32],
     budget: u32,
+    workspace: &mut [u64],
 ) -> DescentAnswer
     ensures answer { λ r. ⌜ r ≡ descentAnswer (descentCall (lentBy size (now (table .entry)) (now (pixels .entry))) (now (layout .entry)) (now (weights .entry)) budget) ⌝ }
     ensures memory { λ r. ⌜ now (layout .exit) ≡ descentAfter (now (layout .entry)) (descentCall (lentBy size (now (table .entry)) (now (pixels .entry))) (now (layout .entry)) (now (weights .entry)) budget) ⌝ }
+    ensures workspace { λ r. ⌜ LeftFree (descentCall (lentBy size (now (table .entry)) (now (pixels .entry))) (now (layout .entry)) (now (weights .entry)) budget) (now (workspace .entry)) (now (workspace .exit)) ⌝ }
     ensures demand3 { λ r. ⌜ ((e : Ended) → r ≡ DescentAnswer.Ended e → DescentClaims (jobOf (lentBy size (now (table .entry)) (now (pixels .entry)))) (now (weights .entry)) budget (layoutOf (now (layout .entry))) (descentOf e (layoutOf (now (layout .exit))))) ⌝ }
 {
     match weighted_causes(
@@ -104,7 +110,7 @@ pub fn descent(
         DoneAnswer::Refused(refusal) => DescentAnswer::Refused(refusal),
         DoneAnswer::Done => {
             write_entries(layout);
-            DescentAnswer::Ended(run_alone(size, table, pixels, weights, budget, layout))
+            DescentAnswer::Ended(run_alone(size, table, pixels, weights, budget, layout, workspace))
         }
     }
 }

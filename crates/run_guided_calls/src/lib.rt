@@ -18,6 +18,7 @@ ghost use Rattle.model.specs.Lent.{lentBy, jobOf};
 ghost use Rattle.model.specs.Buffer.{layoutOf};
 ghost use Rattle.model.specs.Calls.{roundBound, guidedCall, bestAfterRun, weightsAfterRun};
 ghost use Rattle.descent_laws.specs.Claims.{GuidedClaims};
+ghost use Rattle.call_laws.specs.Workspaces.{LeftFree};
 ghost use Rattle.search_laws.specs.Results.{guidedOf};
 ghost use Rattle.run_rounds.specs.Rounds.{Ran};
 ghost use Rattle.run_memory.specs.Ready.{Given};
@@ -59,6 +60,7 @@ fn run_rounds(
     budget: u32,
     layout: &mut [PlaceEntry],
     weights: &mut [u32],
+    workspace: &mut [u64],
 ) -> RunTotals
     requires { ⌜ Given (lentBy size (now table) (now pixels)) (now layout) (now weights) budget ⌝ ∗ ⌜ rounds ≤ roundBound ⌝ }
     ensures { λ r. ⌜ Ran (lentBy size (now (table .entry)) (now (pixels .entry))) (now (layout .entry)) (now (weights .entry)) rounds budget (tallyOf r) (now (layout .exit)) (now (weights .exit)) ⌝ }
@@ -71,6 +73,7 @@ fn run_rounds(
         budget,
         layout,
         weights,
+        workspace,
     ) {
         PlanOutcome::Rounds(told) => RunTotals {
             sum: told.sum,
@@ -87,7 +90,8 @@ fn run_rounds(
 }
 
 // A guided run of at most so many rounds, each with the budget. The layout buffer holds the best layout after it, the weight buffer the
-// new weights; on a refusal nothing is written. Demand 3's claims hold of the run and of each of its rounds.
+// new weights; on a refusal nothing is written. The answer does not depend on the workspace, whose words are free after it. Demand 3's claims hold
+// of the run and of each of its rounds.
 pub fn guided_run(
     size: JobSize,
     table: &[PieceEntry],
@@ -96,10 +100,12 @@ pub fn guided_run(
     weights: &mut [u32],
     rounds: u32,
     budget: u32,
+    workspace: &mut [u64],
 ) -> GuidedAnswer
     ensures answer { λ r. ⌜ r ≡ guidedAnswer (guidedCall (lentBy size (now (table .entry)) (now (pixels .entry))) (now (layout .entry)) (now (weights .entry)) rounds budget) ⌝ }
     ensures layout { λ r. ⌜ now (layout .exit) ≡ bestAfterRun (now (layout .entry)) (guidedCall (lentBy size (now (table .entry)) (now (pixels .entry))) (now (layout .entry)) (now (weights .entry)) rounds budget) ⌝ }
     ensures weights { λ r. ⌜ now (weights .exit) ≡ weightsAfterRun (now (weights .entry)) (guidedCall (lentBy size (now (table .entry)) (now (pixels .entry))) (now (layout .entry)) (now (weights .entry)) rounds budget) ⌝ }
+    ensures workspace { λ r. ⌜ LeftFree (guidedCall (lentBy size (now (table .entry)) (now (pixels .entry))) (now (layout .entry)) (now (weights .entry)) rounds budget) (now (workspace .entry)) (now (workspace .exit)) ⌝ }
     ensures demand3 { λ r. ⌜ ((run : RunTotals) → r ≡ GuidedAnswer.Ran run → GuidedClaims (jobOf (lentBy size (now (table .entry)) (now (pixels .entry)))) (now (weights .entry)) rounds budget (layoutOf (now (layout .entry))) (model.rounds (jobOf (lentBy size (now (table .entry)) (now (pixels .entry)))) rounds budget (now (weights .entry)) (layoutOf (now (layout .entry)))) (guidedOf (layoutOf (now (layout .exit))) (run .sum) (now (weights .exit)) (run .made) (run .moves))) ⌝ }
 {
     match weighted_causes(
@@ -114,7 +120,16 @@ pub fn guided_run(
         DoneAnswer::Refused(refusal) => GuidedAnswer::Refused(refusal),
         DoneAnswer::Done => {
             write_entries(layout);
-            GuidedAnswer::Ran(run_rounds(size, table, pixels, rounds, budget, layout, weights))
+            GuidedAnswer::Ran(run_rounds(
+                size,
+                table,
+                pixels,
+                rounds,
+                budget,
+                layout,
+                weights,
+                workspace,
+            ))
         }
     }
 }

@@ -1,5 +1,5 @@
-// The memory of a run, of a descent alone or of the rounds of a guided run: strips, kept lines, the table of penalties and scratch. It is
-// local, and spread over nested functions, since it is too much for one.
+// The memory of a run, of a descent alone or of the rounds of a guided run: strips, kept lines, the table of penalties and scratch, all of it local
+// and spread over nested functions, since it is too much for one; and kept maps, in a workspace that the caller lends.
 use layout_places::copy;
 use model::COLUMN_BOUND;
 use model::Direction;
@@ -12,13 +12,15 @@ use run_descent::Ended;
 use run_descent::descend;
 use run_rounds::Tally;
 use run_rounds::rounds;
-use search_lines::MAP_SLOTS;
+use search_lines::LEAST_MAPS;
+use search_lines::ready_maps;
 use search_lines::slot_width;
 use search_shapes::STARTS_LENGTH;
 use search_shapes::empty_store;
 use search_shapes::make_shapes;
 use search_table::TABLE_LENGTH;
 use search_table::fill_table;
+use whole_numbers::smaller;
 ghost use mathlib.Core.Path.{_≡_};
 ghost use Prim.Native.Nat.{_≤_};
 ghost use lib.ListN.{length};
@@ -29,7 +31,7 @@ ghost use Rattle.model.specs.Calls.{roundBound};
 ghost use Rattle.model.specs.declared.Direction.{Direction};
 ghost use Rattle.descent_laws.specs.LentLayout.{Laid};
 ghost use Rattle.search_laws.specs.Table.{PenaltyTable};
-ghost use Rattle.search_lines.specs.Kept.{MapsReady, slotBound};
+ghost use Rattle.search_lines.specs.Kept.{leastMaps, MapsReady, slotBound};
 ghost use Rattle.search_shapes.specs.Shapes.{Shapes};
 ghost use Rattle.run_step.specs.Ready.{Tools, LaidOut, Store, LineStores};
 ghost use Rattle.run_rounds.specs.Rounds.{Ran};
@@ -42,8 +44,8 @@ const LINES_LENGTH: usize = 131072;
 // The most slots of one: its tags.
 const TAGS_LENGTH: usize = 2048;
 
-// The words of a store of maps: its slots, and some thousand maps of pieces of middle size.
-const MAPS_LENGTH: usize = 212992;
+// The most words of a workspace that are used: more than the maps of any job.
+const MOST_MAPS: usize = 33554432;
 
 // What a run does: one descent, or at most so many rounds.
 pub enum Plan {
@@ -72,14 +74,11 @@ fn empty_lines() -> [u8; LINES_LENGTH]
     [0u8; LINES_LENGTH]
 }
 
-// Room for kept maps, with none kept.
-fn empty_maps() -> [u64; MAPS_LENGTH]
-    ensures ready { λ r. ⌜ ((j : Job) → MapsReady j r) ⌝ }
-    ensures length { λ r. ⌜ length r ≡ 212992 ⌝ }
+// Room for the maps of a run that is lent none. What it holds plays no part.
+fn empty_maps() -> [u64; LEAST_MAPS]
+    ensures { λ r. ⌜ length r ≡ leastMaps ⌝ }
 {
-    let mut maps = [0u64; MAPS_LENGTH];
-    maps[MAP_SLOTS] = MAP_SLOTS as u64 + 1;
-    maps
+    [0u64; LEAST_MAPS]
 }
 
 // The rounds, with a buffer for the layout at hand; the best one stands in the lent buffer.
@@ -251,8 +250,51 @@ fn with_column_lines(
     )
 }
 
-// The run, with a store for lines along rows and one for maps.
+// The run, with a store for lines along rows.
 fn with_row_lines(
+    size: JobSize,
+    table: &[PieceEntry],
+    pixels: &[u8],
+    rows: &[StripEntry],
+    row_starts: &[u32],
+    plan: Plan,
+    budget: u32,
+    layout: &mut [PlaceEntry],
+    weights: &mut [u32],
+    penalties: &mut [u8],
+    maps: &mut [u64],
+) -> PlanOutcome
+    requires { ⌜ Given (lentBy size (now table) (now pixels)) (now layout) (now weights) budget ⌝
+        ∗ ⌜ FewRounds plan ⌝
+        ∗ ⌜ Shapes Direction.Horizontal (jobOf (lentBy size (now table) (now pixels))) (now rows) (now «row_starts») ⌝
+        ∗ ⌜ LaidOut (lentBy size (now table) (now pixels)) (now layout) (now penalties) ⌝
+        ∗ ⌜ MapsReady (jobOf (lentBy size (now table) (now pixels))) (now maps) ⌝ }
+    ensures { λ r. ⌜ Done (lentBy size (now (table .entry)) (now (pixels .entry))) (now (layout .entry)) (now (weights .entry)) plan budget r (now (layout .exit)) (now (weights .exit)) ⌝ }
+{
+    let mut lines = empty_lines();
+    let mut tags = [0u32; TAGS_LENGTH];
+    let width = slot_width(size, table);
+    let slots = slot_count(width);
+    with_column_lines(
+        size,
+        table,
+        pixels,
+        rows,
+        row_starts,
+        plan,
+        budget,
+        width,
+        layout,
+        weights,
+        penalties,
+        &mut lines,
+        &mut tags[..slots],
+        maps,
+    )
+}
+
+// The run, with a store of maps of its own.
+fn with_own_maps(
     size: JobSize,
     table: &[PieceEntry],
     pixels: &[u8],
@@ -270,12 +312,9 @@ fn with_row_lines(
         ∗ ⌜ LaidOut (lentBy size (now table) (now pixels)) (now layout) (now penalties) ⌝ }
     ensures { λ r. ⌜ Done (lentBy size (now (table .entry)) (now (pixels .entry))) (now (layout .entry)) (now (weights .entry)) plan budget r (now (layout .exit)) (now (weights .exit)) ⌝ }
 {
-    let mut lines = empty_lines();
-    let mut tags = [0u32; TAGS_LENGTH];
     let mut maps = empty_maps();
-    let width = slot_width(size, table);
-    let slots = slot_count(width);
-    with_column_lines(
+    ready_maps(size, table, pixels, &mut maps);
+    with_row_lines(
         size,
         table,
         pixels,
@@ -283,13 +322,62 @@ fn with_row_lines(
         row_starts,
         plan,
         budget,
-        width,
         layout,
         weights,
         penalties,
-        &mut lines,
-        &mut tags[..slots],
         &mut maps,
+    )
+}
+
+// The run, with its maps in the workspace, or in a store of its own where the workspace is too short for the largest map.
+fn with_workspace(
+    size: JobSize,
+    table: &[PieceEntry],
+    pixels: &[u8],
+    rows: &[StripEntry],
+    row_starts: &[u32],
+    plan: Plan,
+    budget: u32,
+    layout: &mut [PlaceEntry],
+    weights: &mut [u32],
+    penalties: &mut [u8],
+    workspace: &mut [u64],
+) -> PlanOutcome
+    requires { ⌜ Given (lentBy size (now table) (now pixels)) (now layout) (now weights) budget ⌝
+        ∗ ⌜ FewRounds plan ⌝
+        ∗ ⌜ Shapes Direction.Horizontal (jobOf (lentBy size (now table) (now pixels))) (now rows) (now «row_starts») ⌝
+        ∗ ⌜ LaidOut (lentBy size (now table) (now pixels)) (now layout) (now penalties) ⌝ }
+    ensures { λ r. ⌜ Done (lentBy size (now (table .entry)) (now (pixels .entry))) (now (layout .entry)) (now (weights .entry)) plan budget r (now (layout .exit)) (now (weights .exit)) ⌝ }
+{
+    let used = smaller(workspace.len(), MOST_MAPS);
+    if used < LEAST_MAPS {
+        return with_own_maps(
+            size,
+            table,
+            pixels,
+            rows,
+            row_starts,
+            plan,
+            budget,
+            layout,
+            weights,
+            penalties,
+        );
+    }
+    let maps: &mut [u64] = &mut workspace[..used];
+    ready_maps(size, table, pixels, maps);
+    with_row_lines(
+        size,
+        table,
+        pixels,
+        rows,
+        row_starts,
+        plan,
+        budget,
+        layout,
+        weights,
+        penalties,
+        maps,
     )
 }
 
@@ -338,6 +426,7 @@ pub fn with_strips(
     budget: u32,
     layout: &mut [PlaceEntry],
     weights: &mut [u32],
+    workspace: &mut [u64],
 ) -> PlanOutcome
     requires { ⌜ Given (lentBy size (now table) (now pixels)) (now layout) (now weights) budget ⌝ ∗ ⌜ FewRounds plan ⌝ }
     ensures { λ r. ⌜ Done (lentBy size (now (table .entry)) (now (pixels .entry))) (now (layout .entry)) (now (weights .entry)) plan budget r (now (layout .exit)) (now (weights .exit)) ⌝ }
@@ -362,7 +451,7 @@ pub fn with_strips(
         layout,
         &mut penalties,
     );
-    with_row_lines(
+    with_workspace(
         size,
         table,
         pixels,
@@ -373,5 +462,6 @@ pub fn with_strips(
         layout,
         weights,
         &mut penalties,
+        workspace,
     )
 }

@@ -12,11 +12,10 @@ use Rattle.search_shapes.specs.Shapes.{numberedShape, shapeNumber}
 use Rattle.search_shapes.proofs.Numbers.{turn-below, number-back}
 use Rattle.search_bits.specs.Bit.{lengthLimit}
 use Rattle.search_laws.specs.Lines.{HoldsLine}
-use Rattle.search_maps.specs.Map.{mapBound}
 use Rattle.search_map_store.specs.Store.{Forgotten}
 use Rattle.search_map_store.proofs.Keeping as maps
 use Rattle.search_map_laws.specs.Keys.{directionOf, movedOf, standingOf}
-use Rattle.search_lines.specs.Kept.{keyOf, mapSlots, MapsReady, LinesKept, Wide}
+use Rattle.search_lines.specs.Kept.{keyOf, mapSlots, leastMaps, MapsReady, LinesKept, Wide}
 use Rattle.search_lines.specs.Making.{LineMade}
 
 -- ── keys ──
@@ -107,13 +106,13 @@ module _ (d : Direction) (j : Job) (width : ℕ) where
 -- ── the maps ──
 
 -- a store whose maps are forgotten is ready
-pub maps-ready : (j : Job) (xs ys : List ℕ) → mapSlots + 1 + mapBound ≤ length xs → length xs < lengthLimit → Forgotten mapSlots xs ys → MapsReady j ys
+pub maps-ready : (j : Job) (xs ys : List ℕ) → leastMaps ≤ length xs → length xs < lengthLimit → Forgotten mapSlots xs ys → MapsReady j ys
 maps-ready j xs ys room short g =
     let e = g .same in
     record { kept = maps.none-kept mapSlots directionOf (movedOf j) (standingOf j) xs ys (omega arith) g; room = omega arith; short = omega arith }
 
 -- so is a fresh one, with the end past the slots
-pub maps-fresh : (n : ℕ) → mapSlots + 1 + mapBound ≤ n → n < lengthLimit → (j : Job) → MapsReady j (set (replicate n 0) mapSlots (mapSlots + 1))
+pub maps-fresh : (n : ℕ) → leastMaps ≤ n → n < lengthLimit → (j : Job) → MapsReady j (set (replicate n 0) mapSlots (mapSlots + 1))
 maps-fresh n room short j =
     let long : length {A = ℕ} (replicate n 0) ≡ n = length-replicate {A = ℕ} n 0 in
     maps-ready j (replicate n 0) (set (replicate n 0) mapSlots (mapSlots + 1)) (omega arith) (omega arith)

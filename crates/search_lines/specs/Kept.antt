@@ -30,10 +30,14 @@ keyOf a b offset = a * 262144 + b * 1024 + offset + 1
 abbrev pub mapSlots : ℕ
 mapSlots = 16384
 
+-- the least words of a store of maps: its slots, its end and the largest map
+abbrev pub leastMaps : ℕ
+leastMaps = mapSlots + 1 + mapBound
+
 -- a store keeps maps of the job, and has room for every one of them
 pub record MapsReady (j : Job) (maps : List ℕ) : Type 0 where
   pub kept : MapsKept mapSlots directionOf (movedOf j) (standingOf j) maps
-  pub room : mapSlots + 1 + mapBound ≤ length maps
+  pub room : leastMaps ≤ length maps
   pub short : length maps < lengthLimit
 
 -- slot m, of `width` bytes, holds the line that its tag names; the maps are ready for more

@@ -2,14 +2,16 @@
 // standing one; most lines survive many moves, so most are found.
 ghost use mathlib.Core.Path.{_≡_};
 ghost use mathlib.Core.List.{List};
+ghost use mathlib.Core.Bool.{true};
 ghost use Prim.Native.Nat.{ℕ, _+_, _-_, _<_, _≤_};
 ghost use lib.ListN.{length};
-ghost use Rattle.model.specs.Lent.{lentBy, jobOf};
+ghost use Rattle.model.specs.Lent.{lentBy, jobOf, lentWell};
 ghost use Rattle.model.specs.declared.JobSize.{JobSize};
 ghost use Rattle.model.specs.declared.Direction.the-variants.{Horizontal};
 ghost use Rattle.search_laws.specs.Lines.{linePlaces, HoldsLine};
 ghost use Rattle.search_maps.specs.Map.{sidesOf};
-ghost use Rattle.search_lines.specs.Kept.{mapSlots, MapsReady, LinesKept, Wide, linesBound, slotBound};
+ghost use Rattle.search_bits.specs.Bit.{lengthLimit};
+ghost use Rattle.search_lines.specs.Kept.{mapSlots, leastMaps, MapsReady, LinesKept, Wide, linesBound, slotBound};
 ghost use Rattle.search_lines.specs.Making.{movedShape, standingShape, keyOfTwo, mapKeyOfTwo, SmallTwo, Asked, MapFound, LineMade, Backwards, exchangedTwo};
 ghost use Rattle.search_lines.specs.Sources.{Named, turnedTwo, mirroredOffset, plainSource, backSource, quarterSource, sourcePlaces, SameLine, SourceMade};
 ghost use Rattle.search_map_laws.specs.Turns.{turnBefore};
@@ -36,6 +38,9 @@ const SHAPES: usize = 4 * PIECE_BOUND;
 
 // The slots of a store of maps: for each piece, each other one and each turn.
 pub const MAP_SLOTS: usize = PIECE_BOUND * PIECE_BOUND * 4;
+
+// The least words of a store of maps: its slots, its end and the largest map.
+pub const LEAST_MAPS: usize = MAP_SLOTS + 1 + search_maps::MAP_WORDS;
 
 // Every offset that a key holds is below it.
 const OFFSETS: usize = 1024;
@@ -77,6 +82,14 @@ pub fn slot_width(size: JobSize, table: &[PieceEntry]) -> usize
         i += 1;
     }
     side * 2
+}
+
+// Readies words of any content for the maps of a job, with none kept.
+pub fn ready_maps(size: JobSize, table: &[PieceEntry], pixels: &[u8], maps: &mut [u64])
+    requires { ⌜ lentWell (lentBy size (now table) (now pixels)) ≡ true ⌝ ∗ ⌜ (leastMaps ≤ length (now maps)) × (length (now maps) < lengthLimit) ⌝ }
+    ensures { λ r. ⌜ MapsReady (jobOf (lentBy size (now (table .entry)) (now (pixels .entry)))) (now (maps .exit)) ⌝ }
+{
+    search_map_store::forget_maps(maps, MAP_SLOTS);
 }
 
 // The key of two pieces in their turns and an offset.

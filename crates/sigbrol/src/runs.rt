@@ -20,6 +20,7 @@ ghost use Rattle.model.specs.Lent.{jobOf};
 ghost use Rattle.model.specs.Buffer.{turnOf, layoutOf, endNumber};
 ghost use Rattle.model.specs.Calls.{leaving, searchCall, descentCall, descentAfter, guidedCall, bestAfterRun, weightsAfterRun};
 ghost use Rattle.descent_laws.specs.Claims.{DescentClaims, GuidedClaims};
+ghost use Rattle.call_laws.specs.Workspaces.{LeftFree};
 ghost use Rattle.c_interface.specs.Numbers.{lentAs, lineOf, pieceWithTurn};
 ghost use Rattle.c_interface.specs.Replies.{replyTo};
 ghost use Rattle.c_results.specs.Runs.{descentTold, guidedTold};
@@ -76,6 +77,7 @@ pub extern "C" fn sigbrol_descent(
     layout: &mut [PlaceEntry],
     weights: &[u32],
     budget: u32,
+    workspace: &mut [u64],
     end: &mut u8,
     sum: &mut u64,
     trials: &mut u64,
@@ -83,6 +85,7 @@ pub extern "C" fn sigbrol_descent(
 ) -> Reply
     ensures answer { λ r. ⌜ r ≡ replyTo (descentCall (lentAs rows columns count (now (table .entry)) (now (pixels .entry))) (now (layout .entry)) (now (weights .entry)) budget) ⌝ }
     ensures memory { λ r. ⌜ now (layout .exit) ≡ descentAfter (now (layout .entry)) (descentCall (lentAs rows columns count (now (table .entry)) (now (pixels .entry))) (now (layout .entry)) (now (weights .entry)) budget) ⌝ }
+    ensures workspace { λ r. ⌜ LeftFree (descentCall (lentAs rows columns count (now (table .entry)) (now (pixels .entry))) (now (layout .entry)) (now (weights .entry)) budget) (now (workspace .entry)) (now (workspace .exit)) ⌝ }
     ensures end { λ r. ⌜ now (end .exit) ≡ leaving (λ a. endNumber (a .end)) (now (end .entry)) (descentCall (lentAs rows columns count (now (table .entry)) (now (pixels .entry))) (now (layout .entry)) (now (weights .entry)) budget) ⌝ }
     ensures sum { λ r. ⌜ now (sum .exit) ≡ leaving (λ a. a .sum) (now (sum .entry)) (descentCall (lentAs rows columns count (now (table .entry)) (now (pixels .entry))) (now (layout .entry)) (now (weights .entry)) budget) ⌝ }
     ensures trials { λ r. ⌜ now (trials .exit) ≡ leaving (λ a. a .made) (now (trials .entry)) (descentCall (lentAs rows columns count (now (table .entry)) (now (pixels .entry))) (now (layout .entry)) (now (weights .entry)) budget) ⌝ }
@@ -96,6 +99,7 @@ pub extern "C" fn sigbrol_descent(
         layout,
         weights,
         budget,
+        workspace,
     ) {
         DescentAnswer::Ended(ended) => {
             let how = ended.end;
@@ -126,6 +130,7 @@ pub extern "C" fn sigbrol_guided_run(
     weights: &mut [u32],
     rounds: u32,
     budget: u32,
+    workspace: &mut [u64],
     sum: &mut u64,
     trials: &mut u64,
     moves: &mut u64,
@@ -133,13 +138,23 @@ pub extern "C" fn sigbrol_guided_run(
     ensures answer { λ r. ⌜ r ≡ replyTo (guidedCall (lentAs rows columns count (now (table .entry)) (now (pixels .entry))) (now (layout .entry)) (now (weights .entry)) rounds budget) ⌝ }
     ensures best { λ r. ⌜ now (layout .exit) ≡ bestAfterRun (now (layout .entry)) (guidedCall (lentAs rows columns count (now (table .entry)) (now (pixels .entry))) (now (layout .entry)) (now (weights .entry)) rounds budget) ⌝ }
     ensures raised { λ r. ⌜ now (weights .exit) ≡ weightsAfterRun (now (weights .entry)) (guidedCall (lentAs rows columns count (now (table .entry)) (now (pixels .entry))) (now (layout .entry)) (now (weights .entry)) rounds budget) ⌝ }
+    ensures workspace { λ r. ⌜ LeftFree (guidedCall (lentAs rows columns count (now (table .entry)) (now (pixels .entry))) (now (layout .entry)) (now (weights .entry)) rounds budget) (now (workspace .entry)) (now (workspace .exit)) ⌝ }
     ensures sum { λ r. ⌜ now (sum .exit) ≡ leaving (λ a. a .sum) (now (sum .entry)) (guidedCall (lentAs rows columns count (now (table .entry)) (now (pixels .entry))) (now (layout .entry)) (now (weights .entry)) rounds budget) ⌝ }
     ensures trials { λ r. ⌜ now (trials .exit) ≡ leaving (λ a. a .made) (now (trials .entry)) (guidedCall (lentAs rows columns count (now (table .entry)) (now (pixels .entry))) (now (layout .entry)) (now (weights .entry)) rounds budget) ⌝ }
     ensures moves { λ r. ⌜ now (moves .exit) ≡ leaving (λ a. a .moves) (now (moves .entry)) (guidedCall (lentAs rows columns count (now (table .entry)) (now (pixels .entry))) (now (layout .entry)) (now (weights .entry)) rounds budget) ⌝ }
     ensures demand3 { λ r. ⌜ (r .number ≡ 0 → GuidedClaims (jobOf (lentAs rows columns count (now (table .entry)) (now (pixels .entry)))) (now (weights .entry)) rounds budget (layoutOf (now (layout .entry))) (model.rounds (jobOf (lentAs rows columns count (now (table .entry)) (now (pixels .entry)))) rounds budget (now (weights .entry)) (layoutOf (now (layout .entry)))) (guidedTold (now (sum .exit)) (now (trials .exit)) (now (moves .exit)) (layoutOf (now (layout .exit))) (now (weights .exit)))) ⌝ }
 {
     let size = size_of(rows, columns, count);
-    match run_guided_calls::guided_run(size, table, pixels, layout, weights, rounds, budget) {
+    match run_guided_calls::guided_run(
+        size,
+        table,
+        pixels,
+        layout,
+        weights,
+        rounds,
+        budget,
+        workspace,
+    ) {
         GuidedAnswer::Ran(run) => {
             put_run(run.sum, run.made, run.moves, sum, trials, moves);
             done()

@@ -12,6 +12,7 @@ ghost use Prim.Native.Nat.{_≤_};
 ghost use lib.ListN.{length};
 ghost use Rattle.model.specs.Calls.{leaving, layoutAfter, textAfter, writeLayoutCall, readLayoutCall};
 ghost use Rattle.model.specs.Program.{programText, programCall};
+ghost use Rattle.call_laws.specs.Workspaces.{LeftFree};
 ghost use Rattle.program_text.specs.Output.{outputBound};
 ghost use Rattle.c_interface.specs.Numbers.{lentAs};
 ghost use Rattle.c_interface.specs.Replies.{replyTo};
@@ -75,13 +76,19 @@ pub extern "C" fn sigbrol_read_layout(
 
 // What the program prints for an input, and how many bytes it has: at most 4,096.
 #[no_mangle]
-pub extern "C" fn sigbrol_program(input: &[u8], output: &mut [u8], written: &mut usize) -> Reply
+pub extern "C" fn sigbrol_program(
+    input: &[u8],
+    output: &mut [u8],
+    workspace: &mut [u64],
+    written: &mut usize,
+) -> Reply
     ensures answer { λ r. ⌜ r ≡ replyTo (programCall (now (input .entry)) (length (now (output .entry)))) ⌝ }
     ensures memory { λ r. ⌜ now (output .exit) ≡ textAfter (now (output .entry)) (programCall (now (input .entry)) (length (now (output .entry)))) ⌝ }
+    ensures workspace { λ r. ⌜ LeftFree (programCall (now (input .entry)) (length (now (output .entry)))) (now (workspace .entry)) (now (workspace .exit)) ⌝ }
     ensures written { λ r. ⌜ now (written .exit) ≡ leaving (λ a. length a) (now (written .entry)) (programCall (now (input .entry)) (length (now (output .entry)))) ⌝ }
     ensures fits { λ r. ⌜ length (programText (now (input .entry))) ≤ outputBound ⌝ }
 {
-    match program_calls::print_run(input, output) {
+    match program_calls::print_run(input, output, workspace) {
         NumberAnswer::Number(count) => {
             *written = count as usize;
             done()

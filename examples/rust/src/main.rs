@@ -7,7 +7,7 @@ use std::io::{self, Read, Write};
 use std::process::ExitCode;
 
 use sigbrol::safe::{line_step, End, Job, Refused, Step};
-use sigbrol::{Place, TEXT};
+use sigbrol::{Place, TEXT, WORKSPACE};
 
 const ROUNDS: usize = 20;
 const BUDGET: u32 = 1_000;
@@ -59,6 +59,8 @@ struct Search {
     best_sum: u64,
     trials: u64,
     moves: u64,
+    /// Words for the descents to work in, round after round.
+    workspace: Vec<u64>,
 }
 
 /// Runs the rounds from the start layout with unit weights and gives what is printed.
@@ -73,6 +75,7 @@ fn nest(job: &Job) -> Result<Vec<u8>, Refused> {
         layout,
         trials: 0,
         moves: 0,
+        workspace: vec![0; WORKSPACE],
     };
     for number in 1..=ROUNDS {
         if search.round(job, number)? == End::Clear {
@@ -86,7 +89,7 @@ fn nest(job: &Job) -> Result<Vec<u8>, Refused> {
 impl Search {
     /// One round: a descent from the present layout, the best layout kept. Gives how the descent ended.
     fn round(&mut self, job: &Job, number: usize) -> Result<End, Refused> {
-        let descent = job.descent(&mut self.layout, &self.weights, BUDGET)?;
+        let descent = job.descent(&mut self.layout, &self.weights, BUDGET, &mut self.workspace)?;
         self.trials += descent.trials;
         self.moves += descent.moves;
 

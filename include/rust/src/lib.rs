@@ -11,7 +11,7 @@ extern crate alloc;
 pub mod safe;
 
 /// The version of the interface.
-pub const VERSION: u32 = 5;
+pub const VERSION: u32 = 6;
 
 /// The largest numbers of a job: pieces, bytes of all boxes together, bytes of a job text that the program reads.
 pub const PIECES: usize = 64;
@@ -25,6 +25,10 @@ pub const STARTS: usize = PIECES + 1;
 pub const RUNS: usize = 255;
 pub const LAYOUT_TEXT: usize = 2_048;
 pub const OUTPUT: usize = 4_096;
+
+/// Words of a workspace: fewer than the first are not used; the second hold the maps of a job of middle size.
+pub const WORKSPACE_LEAST: usize = 20_986;
+pub const WORKSPACE: usize = 262_144;
 
 /// How many lines suffice for the cut list of every layout on a sheet.
 pub const fn cut_lines_capacity(rows: usize, columns: usize) -> usize {
@@ -147,6 +151,8 @@ extern "C" {
         input_length: usize,
         output: *mut u8,
         output_length: usize,
+        workspace: *mut u64,
+        workspace_length: usize,
         written: *mut usize,
     ) -> Reply;
 }
@@ -315,6 +321,8 @@ lent_a_job! {
         weights: *const u32,
         weights_length: usize,
         budget: u32,
+        workspace: *mut u64,
+        workspace_length: usize,
         end: *mut u8,
         sum: *mut u64,
         trials: *mut u64,
@@ -328,6 +336,8 @@ lent_a_job! {
         weights_length: usize,
         rounds: u32,
         budget: u32,
+        workspace: *mut u64,
+        workspace_length: usize,
         sum: *mut u64,
         trials: *mut u64,
         moves: *mut u64,

@@ -187,12 +187,13 @@ impl Job {
         Ok(layout)
     }
 
-    /// A descent; the layout becomes the one at its end.
+    /// A descent; the layout becomes the one at its end. The workspace may have any content and length.
     pub fn descent(
         &self,
         layout: &mut [Place],
         weights: &[u32],
         budget: u32,
+        workspace: &mut [u64],
     ) -> Result<Descent, Refused> {
         let (mut end, mut sum, mut trials, mut moves) = (0, 0, 0, 0);
         lend!(
@@ -203,6 +204,8 @@ impl Job {
             weights.as_ptr(),
             weights.len(),
             budget,
+            workspace.as_mut_ptr(),
+            workspace.len(),
             &mut end,
             &mut sum,
             &mut trials,

@@ -390,6 +390,7 @@ unsafe fn line_search(memory: &mut Memory) -> Reply {
 unsafe fn descent(memory: &mut Memory) -> Reply {
     let (layout, length) = (at_mut(&mut memory.layout), memory.layout.length());
     let (weights, weights_length) = (at(&memory.weights), memory.weights.length());
+    let (workspace, words) = (at_mut(&mut memory.workspace), memory.workspace.length());
     let (end, sum) = (to!(memory.bytes, 0), to!(memory.words, 0));
     let (trials, moves) = (to!(memory.words, 1), to!(memory.words, 2));
     lend!(
@@ -400,6 +401,8 @@ unsafe fn descent(memory: &mut Memory) -> Reply {
         weights,
         weights_length,
         memory.numbers.budget,
+        workspace,
+        words,
         end,
         sum,
         trials,
@@ -411,6 +414,7 @@ unsafe fn descent(memory: &mut Memory) -> Reply {
 unsafe fn guided_run(memory: &mut Memory) -> Reply {
     let (layout, length) = (at_mut(&mut memory.layout), memory.layout.length());
     let (weights, weights_length) = (at_mut(&mut memory.weights), memory.weights.length());
+    let (workspace, words) = (at_mut(&mut memory.workspace), memory.workspace.length());
     let sum = to!(memory.words, 0);
     let (trials, moves) = (to!(memory.words, 1), to!(memory.words, 2));
     lend!(
@@ -422,6 +426,8 @@ unsafe fn guided_run(memory: &mut Memory) -> Reply {
         weights_length,
         memory.numbers.rounds,
         memory.numbers.budget,
+        workspace,
+        words,
         sum,
         trials,
         moves
@@ -432,8 +438,17 @@ unsafe fn guided_run(memory: &mut Memory) -> Reply {
 unsafe fn program(memory: &mut Memory) -> Reply {
     let (input, input_length) = (at(&memory.text), memory.text.length());
     let (output, output_length) = (at_mut(&mut memory.output), memory.output.length());
+    let (workspace, words) = (at_mut(&mut memory.workspace), memory.workspace.length());
     let written = to!(memory.sizes, 0);
-    sigbrol_program(input, input_length, output, output_length, written)
+    sigbrol_program(
+        input,
+        input_length,
+        output,
+        output_length,
+        workspace,
+        words,
+        written,
+    )
 }
 
 /// Fresh, lay and withdraw.

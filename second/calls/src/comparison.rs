@@ -3,8 +3,10 @@
 use std::collections::BTreeMap;
 
 use second::calls::Cause;
+use second::inputs::random::Random;
 
 use crate::expected::{self, Returned};
+use crate::guarded::Guarded;
 use crate::kind::Kind;
 use crate::memory::{result, Memory};
 
@@ -13,6 +15,9 @@ const NUMBERS: u32 = 14;
 
 /// The ends of a descent, in the order of their numbers.
 const ENDS: [&str; 3] = ["clear", "settled", "spent"];
+
+/// The fewest words of a workspace that a run uses.
+const WORKSPACE_LEAST: usize = 20_986;
 
 /// Differences that are described at the end.
 const DESCRIBED: usize = 5;
@@ -41,6 +46,8 @@ pub struct Comparison<'a> {
     descents: [usize; 3],
     /// For each kind the number of differences and the one with the smallest input.
     different: BTreeMap<Kind, (usize, Difference)>,
+    /// The workspace as the last run left it.
+    left: Vec<u64>,
 }
 
 impl<'a> Comparison<'a> {
@@ -51,6 +58,7 @@ impl<'a> Comparison<'a> {
             ended: BTreeMap::new(),
             descents: [0; 3],
             different: BTreeMap::new(),
+            left: Vec::new(),
         }
     }
 
@@ -63,6 +71,10 @@ impl<'a> Comparison<'a> {
         if kind == Kind::Descent && expected.cause.is_none() {
             self.descents[usize::from(memory.bytes.get()[result(0)])] += 1;
         }
+        if kind.has_workspace() && expected.cause.is_none() {
+            memory.workspace.take(&found.workspace);
+            self.left = memory.workspace.get().to_vec();
+        }
         let change = memory.difference(&found);
         if returned == expected.returned && change.is_none() {
             return;
@@ -70,6 +82,19 @@ impl<'a> Comparison<'a> {
         let size = before.size();
         let text = describe(kind, &before, origin, expected.returned, returned, change);
         self.add_differences(kind, 1, Difference { size, text });
+    }
+
+    /// A workspace: none, a short one, one that a run uses, of arbitrary content or as the last run left it, whatever its job was.
+    pub fn workspace(&self, random: &mut Random) -> Guarded<u64> {
+        let short = random.between(1, WORKSPACE_LEAST - 1);
+        let long = WORKSPACE_LEAST + random.pick(&[0, 1, 700, 9_000]);
+        let length = random.pick(&[0, short, long, long]);
+        if random.chance(50) {
+            return Guarded::junk(random, length);
+        }
+        let mut words = self.left.clone();
+        words.resize(length, 0);
+        Guarded::new(&words)
     }
 
     /// Counts differences of a kind, of which one has the smallest input.

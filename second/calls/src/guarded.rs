@@ -95,6 +95,11 @@ impl<T: Cell> Guarded<T> {
         *self = Guarded::new(&content);
     }
 
+    /// Takes the elements of another buffer of the same length; the guards stay.
+    pub fn take(&mut self, other: &Guarded<T>) {
+        self.get_mut().copy_from_slice(other.get());
+    }
+
     /// In words, the first element that is not as in this buffer.
     pub fn difference(&self, found: &Guarded<T>) -> Option<String> {
         let mut pairs = self.cells.iter().zip(&found.cells);

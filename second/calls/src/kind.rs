@@ -85,6 +85,11 @@ impl Kind {
         )
     }
 
+    /// Whether the call is lent a workspace.
+    pub fn has_workspace(self) -> bool {
+        matches!(self, Kind::Descent | Kind::GuidedRun | Kind::Program)
+    }
+
     /// The causes of the call itself, those of a lent job left out.
     fn own_causes(self) -> &'static [Cause] {
         match self {

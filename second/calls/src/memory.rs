@@ -56,6 +56,8 @@ pub struct Memory {
     pub cut_lines: Guarded<[u16; 4]>,
     pub record: Guarded<[u16; 4]>,
     pub counts: Guarded<u8>,
+    /// Words that a run is lent to work in; what they hold after it is free.
+    pub workspace: Guarded<u64>,
     /// Results by their width, each with an element between it and the next.
     pub bytes: Guarded<u8>,
     pub halves: Guarded<u32>,
@@ -102,6 +104,7 @@ impl Memory {
             cut_lines: Guarded::new(&[]),
             record: Guarded::junk(random, RECORD),
             counts: Guarded::new(&[]),
+            workspace: Guarded::new(&[]),
             bytes: Guarded::junk(random, 2),
             halves: Guarded::junk(random, 4),
             words: Guarded::junk(random, 6),
@@ -157,6 +160,7 @@ impl Memory {
             cut_lines,
             record,
             counts,
+            workspace,
             bytes,
             halves,
             words,

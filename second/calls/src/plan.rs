@@ -141,6 +141,9 @@ fn call(
     damages: &[Damage],
 ) {
     let mut memory = scene.memory(random, kind);
+    if kind.has_workspace() {
+        memory.workspace = comparison.workspace(random);
+    }
     for damage in damages {
         (damage.apply)(random, &mut memory);
     }
@@ -225,6 +228,7 @@ fn run_texts(comparison: &mut Comparison) {
                 let needed = second::run(text).len();
                 let length = random.pick(&[0, needed - 1, needed, needed + 1, 4_096]);
                 memory.output = Guarded::junk(&mut random, length);
+                memory.workspace = comparison.workspace(&mut random);
                 comparison.call(Kind::Program, &mut memory, &origin);
             }
         }
@@ -315,6 +319,31 @@ mod tests {
             }
             returned
         });
+    }
+
+    #[test]
+    fn a_refused_run_that_has_used_its_workspace() {
+        assert_told(Kind::GuidedRun, &|kind, memory| {
+            let returned = same(kind, memory);
+            let refused = kind == Kind::GuidedRun && returned.reply[0] != 0;
+            if let Some(word) = memory.workspace.get_mut().last_mut().filter(|_| refused) {
+                *word ^= 1;
+            }
+            returned
+        });
+    }
+
+    #[test]
+    fn what_a_run_leaves_in_its_workspace_is_free() {
+        let summary = compared(&|kind, memory| {
+            let returned = same(kind, memory);
+            if kind.has_workspace() && returned.reply[0] == 0 {
+                memory.workspace.get_mut().fill(7);
+            }
+            returned
+        })
+        .summary();
+        assert!(summary.ends_with(" calls, 0 different"), "{summary}");
     }
 
     #[test]

@@ -1,15 +1,13 @@
--- `nest::main` is safe and ends: `print_run` answers no more bytes than the output buffer has. Assumes nothing.
-use Rattle.list_laws.proofs.Kit.{_∙_, sym, _≤_, length-take-le, needs}
-use Rattle.program_calls.proofs.Printing.{count-fits}
+-- `nest::main` is safe and ends: `print_sized` answers no more bytes than the output buffer has. Assumes nothing.
+use Rattle.list_laws.proofs.Kit.{sym, _≤_, length-take-le, needs}
 use Rattle.nest.proofs.main.Statement.{statement}
 use Rattle.nest.proofs.main.Tie as tie
 
 -- the text has at most as many bytes as the buffer
 counted : (c : tie.After-known-told) → c .before .written .given .0 .0 ≤ 4096
 counted c =
-    let at-print-run : tie.After-print-run = search in
-    let run = at-print-run .print-run .ensures in
-    count-fits _ _ _ (sym (c .before .written .given .1) ∙ run .0) (run .1 .1)
+    let printed : tie.After-print-sized = search in
+    printed .print-sized .ensures _ (c .before .written .given .1)
 
 array-share-prefix-output : tie.Need-array-share-prefix-output
 array-share-prefix-output c = let h = counted c in search needs

@@ -12,7 +12,8 @@ use Rattle.program_calls.proofs.print_job.Tie as tie
 
 array-borrow-prefix-layout : tie.Need-array-borrow-prefix-layout
 array-borrow-prefix-layout c =
-    fitting (c .before .before .args .size) (c .before .before .args .table .now) (c .before .before .args .pixels .now) (c .before .before .pre .0) .fewPieces
+    let at-start : tie.Start = search in
+    fitting (at-start .args .size) (at-start .args .table .now) (at-start .args .pixels .now) (at-start .pre .0) .fewPieces
 
 slice-aggregate-places : tie.Need-slice-aggregate-places
 slice-aggregate-places c =
@@ -51,4 +52,4 @@ returns c =
 
 pub print-job-spec : {M : Type 1} → statement M
 print-job-spec =
-    tie.close (tie.spec array-borrow-prefix-layout slice-aggregate-places run-job-requires write-run-requires (search needs) returns)
+    tie.close (tie.spec array-borrow-prefix-layout slice-aggregate-places run-job-requires write-run-requires (search needs) (search needs) returns)

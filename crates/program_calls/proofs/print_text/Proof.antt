@@ -18,9 +18,10 @@ returns c =
 returns-2 : tie.Need-returns-2
 returns-2 c =
     let at-else1 : tie.Else1 = search in
+    let printed : tie.After-read-and-print = search in
     let at-start : tie.Start = search in
     let a = at-start .args in
-    text-printed (a .input .now) _ (program-reads (a .input .now) (at-else1 .if1 .left)) (c .before .before .read-and-print .ensures) (omega arith)
+    text-printed (a .input .now) _ (program-reads (a .input .now) (at-else1 .if1 .left)) (printed .read-and-print .ensures) (omega arith)
 
 pub print-text-spec : {M : Type 1} → statement M
-print-text-spec = tie.close (tie.spec (search needs) (search needs) (search needs) returns (search needs) (search needs) returns-2)
+print-text-spec = tie.close (tie.spec (search needs) (search needs) (search needs) returns (search needs) (search needs) (search needs) returns-2)

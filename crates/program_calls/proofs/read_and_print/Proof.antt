@@ -48,7 +48,8 @@ slice-aggregate-print-job c = sym (length-take-le _ _ (read-lends (c .before) .b
 print-job-requires : tie.Need-print-job-requires
 print-job-requires c κs =
     let at-start : tie.Start = search in
-    (read-lends (c .before .before) .well, at-start .pre)
+    let lends : tie.After-pixel-start = search in
+    (read-lends lends .well, at-start .pre)
 
 returns : tie.Need-returns
 returns c =
@@ -63,11 +64,12 @@ returns c =
 returns-2 : tie.Need-returns-2
 returns-2 c =
     let at-pixel-start : tie.After-pixel-start = search in
-    written-printed _ _ (read-lends (at-pixel-start) .job) (c .before .before .print-job .ensures) (omega arith)
+    let printed : tie.After-print-job = search in
+    written-printed _ _ (read-lends (at-pixel-start) .job) (printed .print-job .ensures) (omega arith)
 
 pub read-and-print-spec : {M : Type 1} → statement M
 read-and-print-spec =
     tie.close (tie.spec
     (search needs) (search needs) (search needs) (search needs) (search needs) (search needs) array-share-prefix-table
     slice-aggregate-entries pixel-start-requires array-share-prefix-pixels slice-aggregate-print-job print-job-requires (search needs)
-    returns (search needs) returns-2)
+    returns (search needs) (search needs) returns-2)

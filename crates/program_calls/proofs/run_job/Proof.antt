@@ -64,4 +64,4 @@ pub run-job-spec : {M : Type 1} → statement M
 run-job-spec =
     tie.close (tie.spec
     (search needs) pair-count-requires array-borrow-prefix-weights slice-aggregate-guided-run (search needs) (search needs) (search needs)
-    (search needs) returns (search needs) returns-2)
+    (search needs) (search needs) returns (search needs) (search needs) returns-2)

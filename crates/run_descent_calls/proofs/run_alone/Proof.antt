@@ -37,7 +37,7 @@ copied-room : (ws copied rest : List ℕ) → copied ≡ ws → length ws ≤ le
 copied-room ws copied rest e = written-room (length ws) copied rest ws e refl
 
 array-borrow-prefix-own : tie.Need-array-borrow-prefix-own
-array-borrow-prefix-own c = few (c .before .before)
+array-borrow-prefix-own c = let at-start : tie.Start = search in few at-start
 
 slice-aggregate-copy-weights : tie.Need-slice-aggregate-copy-weights
 slice-aggregate-copy-weights c =
@@ -52,7 +52,8 @@ copy-weights-requires c κs =
 array-borrow-prefix-own-2 : tie.Need-array-borrow-prefix-own-2
 array-borrow-prefix-own-2 c =
     let at-start : tie.Start = search in
-    copied-room (at-start .args .weights .now) _ _ (c .before .before .copy-weights .ensures)
+    let copied : tie.After-copy-weights = search in
+    copied-room (at-start .args .weights .now) _ _ (copied .copy-weights .ensures)
 
 slice-aggregate-with-strips : tie.Need-slice-aggregate-with-strips
 slice-aggregate-with-strips c =
@@ -97,4 +98,4 @@ pub run-alone-spec : {M : Type 1} → statement M
 run-alone-spec =
     tie.close (tie.spec
     array-borrow-prefix-own slice-aggregate-copy-weights copy-weights-requires array-borrow-prefix-own-2 slice-aggregate-with-strips
-    with-strips-requires (search needs) (search needs) (search needs) returns (search needs) returns-2)
+    with-strips-requires (search needs) (search needs) (search needs) (search needs) returns (search needs) (search needs) returns-2)

@@ -6,6 +6,7 @@ use Rattle.model.specs.Calls.{bestAfterRun, weightsAfterRun}
 use Rattle.text_laws.specs.Outcomes.{NoCause}
 use Rattle.model.specs.Answers.{firstCause}
 use Rattle.text_laws.proofs.Causes.{passed-none}
+use Rattle.call_laws.proofs.Workspaces.{left-refused, left-given}
 use Rattle.causes.specs.Asked.{weightedCauses}
 use Rattle.run_guided_calls.specs.Answers.{guidedAnswer, numbersWrong}
 use Rattle.run_memory.proofs.Causes.{run-given}
@@ -46,7 +47,10 @@ returns c =
       sym (ap guidedAnswer no),
       (
         sym (ap (bestAfterRun (a .layout .now)) no),
-        (sym (ap (weightsAfterRun (a .weights .now)) no), λ run same. absurd (let z : _≡_ {A = ℕ} 0 1 = cc in omega arith)),
+        (
+          sym (ap (weightsAfterRun (a .weights .now)) no),
+          (left-refused _ _ (a .workspace .now) no, λ run same. absurd (let z : _≡_ {A = ℕ} 0 1 = cc in omega arith)),
+        ),
       ),
     )
 
@@ -73,8 +77,11 @@ returns-2 c =
         sym (ap (bestAfterRun (a .layout .now)) is ∙ ran .ensures .written),
         (
           sym (ap (weightsAfterRun (a .weights .now)) is),
-          call-claims l (a .layout .now) (a .weights .now) (a .rounds) (a .budget) none (written .last .0) (written .ensures) (ran .result)
-              (ran .last .1 .1 .1 .1 .1 .0) (ran .last .1 .1 .1 .1 .1 .1 .0) (ran .ensures),
+          (
+            left-given _ _ (a .workspace .now) (ran .last .1 .1 .1 .1 .1 .1 .1 .0) is (ran .kept .1 .1 .1 .1 .1 .1 .1 .0),
+            call-claims l (a .layout .now) (a .weights .now) (a .rounds) (a .budget) none (written .last .0) (written .ensures) (ran .result)
+                (ran .last .1 .1 .1 .1 .1 .0) (ran .last .1 .1 .1 .1 .1 .1 .0) (ran .ensures),
+          ),
         ),
       ),
     )
@@ -83,4 +90,4 @@ pub guided-run-spec : {M : Type 1} → statement M
 guided-run-spec =
     tie.close (tie.spec
     (search needs) (search needs) (search needs) (search needs) (search needs) run-rounds-requires (search needs) (search needs) returns
-    (search needs) (search needs) returns-2)
+    (search needs) (search needs) (search needs) returns-2)

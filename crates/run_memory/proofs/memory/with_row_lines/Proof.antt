@@ -23,14 +23,10 @@ slice-aggregate-with-column-lines-2 c =
     let counted : tie.After-slot-count = search in
     sym (tags-lent (wide .slot-width .result) (counted .slot-count .result) (counted .slot-count .ensures))
 
-slice-aggregate-with-column-lines-3 : tie.Need-slice-aggregate-with-column-lines-3
-slice-aggregate-with-column-lines-3 c = let made : tie.After-empty-maps = search in sym (made .empty-maps .ensures .1)
-
 with-column-lines-requires : tie.Need-with-column-lines-requires
 with-column-lines-requires c κs =
     let s : tie.Start = search in
     let lines : tie.After-empty-lines = search in
-    let maps : tie.After-empty-maps = search in
     let wide : tie.After-slot-width = search in
     let counted : tie.After-slot-count = search in
     let width = wide .slot-width in
@@ -47,9 +43,9 @@ with-column-lines-requires c κs =
             narrow = width .ensures .1 .1;
           },
           (
-            s .pre .1 .1 .1,
-            store-fresh Horizontal (jobOf (job s)) (width .result) (slots .result) (lines .empty-lines .result) (maps .empty-maps .result)
-                (lines .empty-lines .ensures) (slots .ensures) (maps .empty-maps .ensures .0 (jobOf (job s))),
+            s .pre .1 .1 .1 .0,
+            store-fresh Horizontal (jobOf (job s)) (width .result) (slots .result) (lines .empty-lines .result) (s .args .maps .now)
+                (lines .empty-lines .ensures) (slots .ensures) (s .pre .1 .1 .1 .1),
           ),
         ),
       ),
@@ -61,5 +57,5 @@ returns c = let ran : tie.After-with-column-lines = search in ran .with-column-l
 pub with-row-lines-spec : {M : Type 1} → statement M
 with-row-lines-spec =
     tie.close (tie.spec
-    (search needs) (search needs) slot-width-requires (search needs) slice-aggregate-with-column-lines (search needs) slice-aggregate-with-column-lines-2
-    slice-aggregate-with-column-lines-3 with-column-lines-requires (search needs) (search needs) (search needs) returns)
+    (search needs) slot-width-requires (search needs) slice-aggregate-with-column-lines (search needs) slice-aggregate-with-column-lines-2
+    with-column-lines-requires (search needs) (search needs) (search needs) (search needs) returns)

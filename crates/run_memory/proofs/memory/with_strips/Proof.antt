@@ -19,8 +19,8 @@ first-table-requires c κs =
     let in-rows : tie.After-make-shapes = search in
     (e .pre .0 .laid, (in-rows .make-shapes .ensures, refl))
 
-with-row-lines-requires : tie.Need-with-row-lines-requires
-with-row-lines-requires c κs =
+with-workspace-requires : tie.Need-with-workspace-requires
+with-workspace-requires c κs =
     let e : tie.Start = search in
     let in-rows : tie.After-make-shapes = search in
     let filled : tie.After-first-table = search in
@@ -30,10 +30,10 @@ with-row-lines-requires c κs =
     )
 
 returns : tie.Need-returns
-returns c = let ran : tie.After-with-row-lines = search in ran .with-row-lines .ensures
+returns c = let ran : tie.After-with-workspace = search in ran .with-workspace .ensures
 
 pub with-strips-spec : {M : Type 1} → statement M
 with-strips-spec =
     tie.close (tie.spec
     (search needs) slice-aggregate-make-shapes (search needs) make-shapes-requires (search needs) (search needs) (search needs) first-table-requires
-    (search needs) (search needs) (search needs) with-row-lines-requires (search needs) (search needs) returns)
+    (search needs) (search needs) (search needs) with-workspace-requires (search needs) (search needs) (search needs) returns)

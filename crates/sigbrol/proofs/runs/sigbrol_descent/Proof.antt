@@ -23,7 +23,7 @@ answered : (c : tie.After-descent) →
     let at-start : tie.Start = search in
     c .descent .result ≡ descentAnswer (outcome (at-start))
 unfolding outcome
-answered c = rw (c .before .before .size-of .ensures) at (c .descent .ensures .0)
+answered c = let sized : tie.After-size-of = search in rw (sized .size-of .ensures) at (c .descent .ensures .0)
 
 size-of-requires : tie.Need-size-of-requires
 size-of-requires c κs = tt
@@ -68,17 +68,20 @@ returns c =
       (
         rw (sized .size-of .ensures) at (called .descent .ensures .1 .0),
         (
-          number .end-number .ensures ∙ leaves-by endedOf (λ e. endNumber (e .end)) _ o t,
+          rw (sized .size-of .ensures) at (called .descent .ensures .1 .1 .0),
           (
-            numbers .0 ∙ leaves-by endedOf (λ e. e .sum) _ o t,
+            number .end-number .ensures ∙ leaves-by endedOf (λ e. endNumber (e .end)) _ o t,
             (
-              numbers .1 .0 ∙ leaves-by endedOf (λ e. e .made) _ o t,
+              numbers .0 ∙ leaves-by endedOf (λ e. e .sum) _ o t,
               (
-                numbers .1 .1 ∙ leaves-by endedOf (λ e. e .moves) _ o t,
-                λ zero.
-                    rw (numbers .0, numbers .1 .0, numbers .1 .1)
-                    (descent-claimed _ _ _ _ _ _ _ (number .end-number .ensures)
-                    (rw (sized .size-of .ensures) at (called .descent .ensures .1 .1 _ (how .ended .given .1)))),
+                numbers .1 .0 ∙ leaves-by endedOf (λ e. e .made) _ o t,
+                (
+                  numbers .1 .1 ∙ leaves-by endedOf (λ e. e .moves) _ o t,
+                  λ zero.
+                      rw (numbers .0, numbers .1 .0, numbers .1 .1)
+                      (descent-claimed _ _ _ _ _ _ _ (number .end-number .ensures)
+                      (rw (sized .size-of .ensures) at (called .descent .ensures .1 .1 .1 _ (how .ended .given .1)))),
+                ),
               ),
             ),
           ),
@@ -86,8 +89,8 @@ returns c =
       ),
     )
 
-same-length-2 : tie.Need-same-length-2
-same-length-2 c =
+same-length-3 : tie.Need-same-length-3
+same-length-3 c =
     let at-descent : tie.After-descent = search in
     at-descent .descent .kept .1 .1 .1 .0
 
@@ -108,10 +111,13 @@ returns-2 c =
       (
         rw (at-size-of .size-of .ensures) at (at-descent .descent .ensures .1 .0),
         (
-          leaves-by endedOf (λ e. endNumber (e .end)) _ o t,
+          rw (at-size-of .size-of .ensures) at (at-descent .descent .ensures .1 .1 .0),
           (
-            leaves-by endedOf (λ e. e .sum) _ o t,
-            (leaves-by endedOf (λ e. e .made) _ o t, (leaves-by endedOf (λ e. e .moves) _ o t, λ zero. absurd (omega (arith, positive, number, zero)))),
+            leaves-by endedOf (λ e. endNumber (e .end)) _ o t,
+            (
+              leaves-by endedOf (λ e. e .sum) _ o t,
+              (leaves-by endedOf (λ e. e .made) _ o t, (leaves-by endedOf (λ e. e .moves) _ o t, λ zero. absurd (omega (arith, positive, number, zero)))),
+            ),
           ),
         ),
       ),
@@ -121,4 +127,4 @@ pub sigbrol-descent-spec : {M : Type 1} → statement M
 sigbrol-descent-spec =
     tie.close (tie.spec
     size-of-requires descent-requires enum-known-ended end-number-requires (search needs) (search needs) put-run-requires done-requires
-    enum-known-refusal refused-requires same-length returns same-length-2 returns-2)
+    enum-known-refusal refused-requires same-length (search needs) returns same-length-3 (search needs) returns-2)

@@ -1,6 +1,6 @@
 -- `sigbrol::runs::sigbrol_guided_run` meets its contract by what the answer tells; demand 3 is what the inner call says of the
 -- run, by the numbers that tell it. Assumes nothing.
-use Rattle.list_laws.proofs.Kit.{_∙_, _≡_, ap, sym, arith}
+use Rattle.list_laws.proofs.Kit.{_∙_, _≡_, ap, sym, arith, needs}
 use Rattle.model.specs.Guided.{Guided}
 use Rattle.model.specs.Refusal.{Outcome}
 use Rattle.model.specs.Calls.{guidedCall}
@@ -70,14 +70,17 @@ returns c =
         (
           rw (sized .size-of .ensures) at (called .guided-run .ensures .1 .1 .0),
           (
-            numbers .0 ∙ leaves-by toldRun (λ r. r .sum) _ o t,
+            rw (sized .size-of .ensures) at (called .guided-run .ensures .1 .1 .1 .0),
             (
-              numbers .1 .0 ∙ leaves-by toldRun (λ r. r .made) _ o t,
+              numbers .0 ∙ leaves-by toldRun (λ r. r .sum) _ o t,
               (
-                numbers .1 .1 ∙ leaves-by toldRun (λ r. r .moves) _ o t,
-                λ zero.
-                    rw (numbers .0, numbers .1 .0, numbers .1 .1)
-                    (rw (sized .size-of .ensures) at (called .guided-run .ensures .1 .1 .1 _ (how .run .given .1))),
+                numbers .1 .0 ∙ leaves-by toldRun (λ r. r .made) _ o t,
+                (
+                  numbers .1 .1 ∙ leaves-by toldRun (λ r. r .moves) _ o t,
+                  λ zero.
+                      rw (numbers .0, numbers .1 .0, numbers .1 .1)
+                      (rw (sized .size-of .ensures) at (called .guided-run .ensures .1 .1 .1 .1 _ (how .run .given .1))),
+                ),
               ),
             ),
           ),
@@ -85,13 +88,13 @@ returns c =
       ),
     )
 
-same-length-3 : tie.Need-same-length-3
-same-length-3 c =
+same-length-4 : tie.Need-same-length-4
+same-length-4 c =
     let at-guided-run : tie.After-guided-run = search in
     at-guided-run .guided-run .kept .1 .1 .1 .0
 
-same-length-4 : tie.Need-same-length-4
-same-length-4 c =
+same-length-5 : tie.Need-same-length-5
+same-length-5 c =
     let at-guided-run : tie.After-guided-run = search in
     at-guided-run .guided-run .kept .1 .1 .1 .1 .0
 
@@ -114,8 +117,11 @@ returns-2 c =
         (
           rw (at-size-of .size-of .ensures) at (at-guided-run .guided-run .ensures .1 .1 .0),
           (
-            leaves-by toldRun (λ r. r .sum) _ o t,
-            (leaves-by toldRun (λ r. r .made) _ o t, (leaves-by toldRun (λ r. r .moves) _ o t, λ zero. absurd (omega (arith, positive, number, zero)))),
+            rw (at-size-of .size-of .ensures) at (at-guided-run .guided-run .ensures .1 .1 .1 .0),
+            (
+              leaves-by toldRun (λ r. r .sum) _ o t,
+              (leaves-by toldRun (λ r. r .made) _ o t, (leaves-by toldRun (λ r. r .moves) _ o t, λ zero. absurd (omega (arith, positive, number, zero)))),
+            ),
           ),
         ),
       ),
@@ -134,7 +140,9 @@ sigbrol-guided-run-spec =
     refused-requires
     same-length
     same-length-2
+    (search needs)
     returns
-    same-length-3
     same-length-4
+    same-length-5
+    (search needs)
     returns-2)

@@ -1,5 +1,5 @@
 -- `sigbrol::texts::sigbrol_program` meets its contract by what the answer tells. Assumes nothing.
-use Rattle.list_laws.proofs.Kit.{_∙_, _≡_, sym, List, ℕ, length}
+use Rattle.list_laws.proofs.Kit.{_∙_, _≡_, sym, List, ℕ, length, needs}
 use Rattle.model.specs.Answers.{countAnswer}
 use Rattle.model.specs.Refusal.{Outcome}
 use Rattle.model.specs.Program.{programCall}
@@ -46,11 +46,14 @@ returns c =
     let o = outcome (at-start) in
     let t = count-told o (sym (c .before .before .count .given .1) ∙ answered (at-print-run)) in (
       c .done .ensures ∙ reply-by (λ text. length text) o t,
-      (at-print-run .print-run .ensures .1 .0, (leaves-by (λ text. length text) (λ k. k) _ o t, at-print-run .print-run .ensures .1 .1)),
+      (
+        at-print-run .print-run .ensures .1 .0,
+        (at-print-run .print-run .ensures .1 .1 .0, (leaves-by (λ text. length text) (λ k. k) _ o t, at-print-run .print-run .ensures .1 .1 .1)),
+      ),
     )
 
-same-length-2 : tie.Need-same-length-2
-same-length-2 c =
+same-length-3 : tie.Need-same-length-3
+same-length-3 c =
     let at-print-run : tie.After-print-run = search in
     at-print-run .print-run .kept .1 .0
 
@@ -62,7 +65,10 @@ returns-2 c =
     let o = outcome (at-start) in
     let t = count-told o (sym (c .before .before .refusal .given .1) ∙ answered (at-print-run)) in (
       c .refused .ensures ∙ reply-by (λ text. length text) o t,
-      (at-print-run .print-run .ensures .1 .0, (leaves-by (λ text. length text) (λ k. k) _ o t, at-print-run .print-run .ensures .1 .1)),
+      (
+        at-print-run .print-run .ensures .1 .0,
+        (at-print-run .print-run .ensures .1 .1 .0, (leaves-by (λ text. length text) (λ k. k) _ o t, at-print-run .print-run .ensures .1 .1 .1)),
+      ),
     )
 
 pub sigbrol-program-spec : {M : Type 1} → statement M
@@ -75,6 +81,8 @@ sigbrol-program-spec =
     enum-known-refusal
     refused-requires
     same-length
+    (search needs)
     returns
-    same-length-2
+    same-length-3
+    (search needs)
     returns-2)
