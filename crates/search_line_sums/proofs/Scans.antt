@@ -1,15 +1,63 @@
 -- Loops over the sums at the places of a line: the least one so far, and sums to which a line is added. Assumes nothing.
-use Rattle.list_laws.proofs.Kit.{_∙_, _≡_, ap, ap₂, refl, subst, sym, List, _*_, _+_, _-_, _<_, _≤_, ℕ, mul-le-mul, arith, getD, length, set}
+use Rattle.list_laws.proofs.Kit.{_∙_, _≡_, ap, ap₂, refl, subst, sym, Bool, _||_, false, true, zero, suc, List, _*_, _+_, _-_, _<_, _≤_, ℕ, mul-le-mul, arith, getD, length, set}
+use Rattle.list_laws.proofs.Kit.{_⊎_, inl, inr, add-one, ltb, ltb-false}
+use Rattle.list_laws.proofs.Numbers.{below-or}
+use Rattle.list_laws.proofs.Bounded.{any-witness, any-from, any-none}
 use Rattle.list_laws.proofs.Passes.{Passing, pass-none, pass-over, pass-set}
+use Rattle.model.specs.Bounded.{anyBelow}
 use Rattle.search_laws.specs.BoundedSearch.{belowBound}
 use Rattle.search_laws.proofs.BoundedSearch.{answerOf, answer-begin, answer-lower, answer-keep, answer-some, answer-none, whole-serves}
-use Rattle.search_line_sums.specs.Answers.{foundAnswer}
+use Rattle.search_line_sums.specs.Answers.{foundAnswer, NoneBelow}
 use Rattle.search_line_sums.specs.Added.{LineAdded}
 use Rattle.search_line_sums.specs.declared.Found.the-variants.{At, Nothing}
 
 -- the sum at a place
 abbrev pub sumOf : List ℕ → ℕ → ℕ
 sumOf sums a = getD sums a 0
+
+-- ── some sum below a bound ──
+
+-- the tests below n, asked one after the other
+abbrev ors : ℕ → (ℕ → Bool) → Bool
+ors zero f = false
+ors (suc n) f = ors n f || f n
+
+-- that is the search
+any-ors : (n : ℕ) (f : ℕ → Bool) → ors n f ≡ anyBelow n f
+any-ors zero f = refl
+any-ors (suc n) f = ap (λ (a : Bool). a || f n) (any-ors n f) ∙ last (anyBelow n f) (f n)
+  where
+    last : (a b : Bool) → (a || b) ≡ elim b as (λ _. Bool) [ true ↦ true | false ↦ a ]
+    last true true = refl
+    last true false = refl
+    last false true = refl
+    last false false = refl
+
+-- four of them
+pub any-four : (f : ℕ → Bool) (b : Bool) → b ≡ f 0 → (((b || f 1) || f 2) || f 3) ≡ anyBelow 4 f
+any-four f b e = ap (λ (a : Bool). ((a || f 1) || f 2) || f 3) e ∙ any-ors 4 f
+
+-- the tests from a place on
+abbrev pub belowAt : List ℕ → ℕ → ℕ → ℕ → Bool
+belowAt sums bound at k = ltb (getD sums (at + k) 0) bound
+
+-- one of four sums is below the bound
+pub four-some : (sums : List ℕ) (bound at : ℕ) → at + 4 ≤ length sums → anyBelow 4 (belowAt sums bound at) ≡ true
+    → anyBelow (length sums) (λ a. ltb (getD sums a 0) bound) ≡ true
+four-some sums bound at l e =
+    let w = any-witness 4 (belowAt sums bound at) e in
+    any-from (length sums) (at + w .number) (λ a. ltb (getD sums a 0) bound) (omega (arith, w .below)) (w .passing)
+
+-- none of them is
+pub four-none : (sums : List ℕ) (bound at : ℕ) → at + 4 ≤ length sums → anyBelow 4 (belowAt sums bound at) ≡ false → NoneBelow sums bound at
+    → NoneBelow sums bound (at + 4)
+four-none sums bound at l e h = record { inside = l; each = λ k b. go k b (below-or k at) }
+  where
+    go : (k : ℕ) → k < at + 4 → (k < at) ⊎ (at ≤ k) → bound ≤ getD sums k 0
+    go k b (inl m) = h .each k m
+    go k b (inr m) =
+        let z : at + (k - at) ≡ k = omega arith in
+        ltb-false (getD sums k 0) bound (ap (λ (i : ℕ). ltb (getD sums i 0) bound) (sym z) ∙ any-none 4 (belowAt sums bound at) e (k - at) (omega arith))
 
 -- ── the least sum ──
 
@@ -52,6 +100,18 @@ module _ (sums : List ℕ) (bound low at a : ℕ) (s : Scanned sums bound low at
   pub scan-none : a ≡ length sums → bound ≤ low → Nothing ≡ foundAnswer (belowBound (sumOf sums) (length sums) bound)
   scan-none e l = sym (ap foundAnswer (subst (λ (n : ℕ). belowBound (sumOf sums) n bound ≡ answerOf bound low at) e (s .answer) ∙ answer-none bound low at l))
 
+-- where no sum is below the bound, none changes anything
+scan-all : (sums : List ℕ) (bound n : ℕ) → ((k : ℕ) → k < n → ltb (getD sums k 0) bound ≡ false) → Scanned sums bound bound 0 n
+scan-all sums bound zero h = scan-begin sums bound
+scan-all sums bound (suc n) h =
+    subst (Scanned sums bound bound 0) (add-one n)
+    (scan-keep sums bound bound 0 n (scan-all sums bound n (λ k l. h k (omega arith))) (ltb-false (getD sums n 0) bound (h n (omega arith))))
+
+pub scan-nothing : (sums : List ℕ) (bound : ℕ) → anyBelow (length sums) (λ a. ltb (getD sums a 0) bound) ≡ false
+    → Nothing ≡ foundAnswer (belowBound (sumOf sums) (length sums) bound)
+scan-nothing sums bound e =
+    scan-none sums bound bound 0 (length sums) (scan-all sums bound (length sums) (any-none (length sums) (λ a. ltb (getD sums a 0) bound) e)) refl (omega arith)
+
 -- ── adding a line ──
 
 -- weight × penalty is below 2²⁴
@@ -71,16 +131,16 @@ module _ (weight low : ℕ) (line before : List ℕ) where
       (λ j a b. record { under = λ c. refl; over = λ c. absurd (omega arith) }) (pass-none (Raised weight low line before) before)
 
   -- one more sum
-  pub raise-step : (after : List ℕ) (k : ℕ) → low + k < length after → Passing (Raised weight low line before) before after (low + k)
-      → Passing (Raised weight low line before) before (set after (low + k) (getD after (low + k) 0 + weight * getD line k 0)) (low + (k + 1))
-  raise-step after k l w =
+  pub raise-step : (after : List ℕ) (k y : ℕ) → y ≡ getD after (low + k) 0 + weight * getD line k 0 → low + k < length after
+      → Passing (Raised weight low line before) before after (low + k) → Passing (Raised weight low line before) before (set after (low + k) y) (low + (k + 1))
+  raise-step after k y v l w =
       let e : low + k - low ≡ k = omega arith in
       let f : low + k + 1 ≡ low + (k + 1) = omega arith in
-      subst (Passing (Raised weight low line before) before (set after (low + k) (getD after (low + k) 0 + weight * getD line k 0))) f
-      (pass-set (Raised weight low line before) before after (low + k) _ l
+      subst (Passing (Raised weight low line before) before (set after (low + k) y)) f
+      (pass-set (Raised weight low line before) before after (low + k) y l
       (record {
         under = λ c. absurd (omega arith);
-        over = λ c. ap₂ (λ (x i : ℕ). x + weight * getD line i 0) (w .rest (low + k) (omega arith)) (sym e);
+        over = λ c. v ∙ ap₂ (λ (x i : ℕ). x + weight * getD line i 0) (w .rest (low + k) (omega arith)) (sym e);
       }) w)
 
   -- all sums are passed

@@ -1,83 +1,17 @@
--- `search_line_sums::add_line` meets its contract. The loop's invariant: the sums passed have their part, the others are as they were.
--- Assumes nothing.
-use Rattle.list_laws.proofs.Kit.{_+_, _-_, _≤_, arith, getD, length, needs}
-use Rattle.list_laws.proofs.Passes.{Passing}
-use Rattle.search_line_sums.proofs.Scans.{part-small, Raised, raise-begin, raise-step, raise-end}
+-- `search_line_sums::add_line` meets its contract: the penalties themselves where the weight is 1. Assumes nothing.
+use Rattle.list_laws.proofs.Kit.{subst, sym, ℕ, needs}
+use Rattle.search_line_sums.specs.Added.{LineAdded}
 use Rattle.search_line_sums.proofs.add_line.Statement.{statement}
 use Rattle.search_line_sums.proofs.add_line.Tie as tie
 
-abbrev Inv-loop : tie.InvT-loop
-Inv-loop sums₀ low line weight k₀ sums k = (k ≤ length line) × Passing (Raised weight low line sums₀) sums₀ sums (low + k)
-
-abbrev μ-loop : tie.MeasureT-loop
-μ-loop sums₀ low line weight k₀ sums k = length line - k
-
-loop-holds : tie.Need-loop-holds Inv-loop μ-loop
-loop-holds c = (omega arith, raise-begin _ _ _ _)
-
-cast-sums : tie.Need-cast-sums Inv-loop μ-loop
-cast-sums c = omega (arith, c .shared-slice-known .given (c .before .before .loop .k))
-
-mul-sums : tie.Need-mul-sums Inv-loop μ-loop
-mul-sums c =
-    let at-start : tie.Start Inv-loop μ-loop = search in
-    let a = at-start .args in
-    let b = c .shared-slice-known .given (c .before .before .loop .k) in
-    let m = part-small (a .weight) (getD (a .line .now) (c .before .before .loop .k) 0) (at-start .pre .1 .0) (omega arith) in
-    omega arith
-
-slice-read-sums : tie.Need-slice-read-sums Inv-loop μ-loop
-slice-read-sums c =
-    let at-loop : tie.At-loop Inv-loop μ-loop = search in
-    let at-start : tie.Start Inv-loop μ-loop = search in
-    let e = at-loop .loop .inv .1 .same in
-    let t = c .before .before .loop-test .taken in
-    let p = at-start .pre .0 in
-    omega arith
-
-add-sums-2 : tie.Need-add-sums-2 Inv-loop μ-loop
-add-sums-2 c =
-    let at-loop : tie.At-loop Inv-loop μ-loop = search in
-    let at-start : tie.Start Inv-loop μ-loop = search in
-    let a = at-start .args in
-    let p = at-loop .loop in
-    let b = c .before .shared-slice-known .given (p .k) in
-    let m = part-small (a .weight) (getD (a .line .now) (p .k) 0) (at-start .pre .1 .0) (omega arith) in
-    let e = p .inv .1 .rest (a .low + p .k) (omega arith) in
-    let s = at-start .pre .1 .1 (a .low + p .k) in
-    omega arith
-
-slice-write-sums : tie.Need-slice-write-sums Inv-loop μ-loop
-slice-write-sums c =
-    let at-loop : tie.At-loop Inv-loop μ-loop = search in
-    let at-start : tie.Start Inv-loop μ-loop = search in
-    let e = at-loop .loop .inv .1 .same in
-    let t = c .before .before .loop-test .taken in
-    let p = at-start .pre .0 in
-    omega arith
-
-loop-again : tie.Need-loop-again Inv-loop μ-loop
-loop-again c =
-    let at-loop : tie.At-loop Inv-loop μ-loop = search in
-    let at-start : tie.Start Inv-loop μ-loop = search in
-    let a = at-start .args in
-    let p = at-loop .loop in
-    let e = p .inv .1 .same in
-    let t = c .before .before .loop-test .taken in
-    let r = at-start .pre .0 in
-    (omega arith, raise-step (a .weight) (a .low) (a .line .now) (a .sums .now) (p .sums) (p .k) (omega arith) (p .inv .1))
-
-same-length : tie.Need-same-length Inv-loop μ-loop
-same-length c = c .before .loop .inv .1 .same
-
-returns : tie.Need-returns Inv-loop μ-loop
+returns : tie.Need-returns
 returns c =
-    let a = c .before .before .args in
-    let p = c .before .loop in
-    raise-end (a .weight) (a .low) (a .line .now) (a .sums .now) (p .sums) (p .k) (omega arith) (p .inv .1)
+    let at-start : tie.Start = search in
+    let at-then : tie.Then1 = search in
+    let at-add-once : tie.After-add-once = search in
+    let a = at-start .args in
+    subst (λ (w : ℕ). LineAdded w (a .low) (a .line .now) (a .sums .now) (at-add-once .add-once .last .0)) (sym (at-then .if1 .taken)) (at-add-once .add-once .ensures)
 
 pub add-line-spec : {M : Type 1} → statement M
 add-line-spec =
-    tie.close (tie.spec
-    Inv-loop μ-loop loop-holds (search needs) cast-sums mul-sums (search needs) (search needs) slice-read-sums add-sums-2 slice-write-sums
-    (search needs) (search needs) loop-again same-length returns)
+    tie.close (tie.spec (λ c κs. search needs) (λ c. search needs) returns (λ c κs. search needs) (λ c. search needs) (λ c. search needs))
