@@ -43,9 +43,9 @@ abbrev pub rowTerm : ℕ → List ℕ → List ℕ → ℕ → ℕ → ℕ
 rowTerm n T ws i k = weightBetween n ws i k * getD T (entry i k) 0
 
 -- one more term
-pub row-more : (n : ℕ) (T ws : List ℕ) (i k sum w : ℕ) → sum ≡ sumBelow k (rowTerm n T ws i) → w ≡ weightBetween n ws i k
-    → sum + w * getD T (entry i k) 0 ≡ sumBelow (k + 1) (rowTerm n T ws i)
-row-more n T ws i k sum w e f = ap₂ (λ a b. a + b * getD T (entry i k) 0) e f ∙ sym (sum-step k (rowTerm n T ws i))
+pub row-more : (n : ℕ) (T ws : List ℕ) (i k sum cost : ℕ) → sum ≡ sumBelow k (rowTerm n T ws i) → cost ≡ rowTerm n T ws i k
+    → sum + cost ≡ sumBelow (k + 1) (rowTerm n T ws i)
+row-more n T ws i k sum cost e f = ap₂ (λ a b. a + b) e f ∙ sym (sum-step k (rowTerm n T ws i))
 
 -- all terms
 pub row-all : (j : Job) (v : Layout) (n : ℕ) (T ws : List ℕ) (i : ℕ) → j .size .count ≡ n → PenaltyTable j v n T → i < n → length ws ≡ length (pairs n)

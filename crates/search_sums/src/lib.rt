@@ -7,7 +7,7 @@ use model::PIECE_BOUND;
 use model::WEIGHT_BOUND;
 ghost use mathlib.Core.Path.{_≡_};
 ghost use mathlib.Core.List.{List};
-ghost use Prim.Native.Nat.{ℕ, _+_, _<_, _≤_, _^_};
+ghost use Prim.Native.Nat.{ℕ, _+_, _*_, _<_, _≤_, _^_};
 ghost use lib.ListN.{length, replicate};
 ghost use Rattle.model.specs.Layout.{Job, Layout, pairs, pieceSum, weightedSum, plainSum};
 ghost use Rattle.model.specs.Guided.{raised};
@@ -42,6 +42,18 @@ pub fn weight_between(weights: &[u32], n: usize, i: usize, k: usize) -> u64
     weights[pair_index(n, k, i)] as u64
 }
 
+// The part of pieces i and k in a sum. Most pairs have no penalty, and of those no weight is looked up.
+fn cost_between(weights: &[u32], n: usize, i: usize, k: usize, penalty: u8) -> u64
+    requires { ⌜ (n ≤ pieceBound) × ((i < n) × (k < n)) ⌝ ∗ ⌜ length (now weights) ≡ length (pairs n) ⌝ }
+    ensures cost { λ r. ⌜ r ≡ weightBetween n (now (weights .entry)) i k * penalty ⌝ }
+    ensures small { λ r. ⌜ r ≤ 2 ^ 40 ⌝ }
+{
+    if penalty == 0 {
+        return 0;
+    }
+    weight_between(weights, n, i, k) * (penalty as u64)
+}
+
 // Piece i's pair sum.
 pub fn row_sum(penalties: &[u8], weights: &[u32], n: usize, i: usize) -> u64
     requires { ⌜ Weighed n (now penalties) (now weights) ⌝ ∗ ⌜ i < n ⌝ }
@@ -50,7 +62,7 @@ pub fn row_sum(penalties: &[u8], weights: &[u32], n: usize, i: usize) -> u64
     let mut sum = 0;
     let mut k = 0;
     while k < n {
-        sum += weight_between(weights, n, i, k) * (penalties[i * PIECE_BOUND + k] as u64);
+        sum += cost_between(weights, n, i, k, penalties[i * PIECE_BOUND + k]);
         k += 1;
     }
     sum
