@@ -5,7 +5,7 @@ use Rattle.list_laws.proofs.Numbers.{below-or}
 use Rattle.list_laws.proofs.Tests.{and-both, clash, first-fails, second-fails}
 use Rattle.search_bits.specs.Bit.{bitIn}
 use Rattle.search_peel.specs.Peel.{around, Distance, PlaceDone}
-use Rattle.search_columns.specs.Column.{FirstClear, beside, GapsDone, counted, fallen, risen, Fallen, Risen, Ended, ColumnDone}
+use Rattle.search_columns.specs.Column.{FirstClear, FirstWithin, beside, under, SidesDone, counted, fallen, Fallen, Ended, ColumnDone}
 
 -- ── counts ──
 
@@ -15,21 +15,9 @@ count-more zero n l = absurd (omega arith)
 count-more (suc v) n l = add-one n
 
 -- a count is at most one more
-count-most : (v n : ℕ) → counted v n ≤ n + 1
+pub count-most : (v n : ℕ) → counted v n ≤ n + 1
 count-most zero n = omega arith
 count-most (suc v) n = omega arith
-
--- one step of the count up to a place
-pub risen-value : (xs : List ℕ) (k n x v : ℕ) → n ≡ risen xs k → x ≡ getD xs k 0 → v ≡ counted x n → v ≡ risen xs (suc k)
-risen-value xs k n x v e f g = g ∙ ap₂ counted f e
-
-pub risen-next : (xs : List ℕ) (k v : ℕ) → v ≡ risen xs (suc k) → v ≡ risen xs (k + 1)
-risen-next xs k v e = e ∙ ap (risen xs) (sym (add-one k))
-
--- it is at most the number of places
-pub risen-most : (xs : List ℕ) (k : ℕ) → risen xs k ≤ k
-risen-most xs zero = omega arith
-risen-most xs (suc k) = let l = risen-most xs k in let m = count-most (getD xs k 0) (risen xs k) in omega arith
 
 -- the count from a place on, one place before
 fallen-step : (xs : List ℕ) (k n : ℕ) → k < n → fallen xs k (n - k) ≡ counted (getD xs k 0) (fallen xs (k + 1) (n - (k + 1)))
@@ -81,6 +69,30 @@ first-both f g m n a b =
 first-tells : (f : ℕ → Bool) (n : ℕ) (b : Bool) → f 0 ≡ b → FirstClear f n → (n ≡ 0 → b ≡ false) × (0 < n → b ≡ true)
 first-tells f n b h c = (λ e. sym h ∙ ap f (sym e) ∙ c .here, λ l. sym h ∙ c .before 0 l)
 
+-- tests alike
+first-same : (f g : ℕ → Bool) (n : ℕ) → ((t : ℕ) → g t ≡ f t) → FirstClear f n → FirstClear g n
+first-same f g n h c = record { before = λ t l. h t ∙ c .before t l; here = h n ∙ c .here }
+
+-- one place more: the nearest clear bit is the place itself, or one farther than from the place after it
+count-first : (f g : ℕ → Bool) (b : Bool) (v n : ℕ) → f 0 ≡ b → ((t : ℕ) → f (suc t) ≡ g t) → (v ≡ 0 → b ≡ false) × (0 < v → b ≡ true)
+    → FirstClear g n → FirstClear f (counted v n)
+count-first f g b zero n here further tells c = first-zero f (here ∙ tells .0 refl)
+count-first f g b (suc v) n here further tells c = first-suc f g n (here ∙ tells .1 (omega arith)) further c
+
+-- a bounded one tells the first test too
+within-tells : (f : ℕ → Bool) (bound v : ℕ) (b : Bool) → f 0 ≡ b → 0 < bound → FirstWithin f bound v → (v ≡ 0 → b ≡ false) × (0 < v → b ≡ true)
+within-tells f bound v b h some c = (λ e. sym h ∙ ap f (sym e) ∙ c .here (omega arith), λ l. sym h ∙ c .before 0 l)
+
+-- of two tests together, the one asked up to the count of the other
+within-both : (f g : ℕ → Bool) (n v : ℕ) → FirstWithin f (n + 1) v → FirstClear g (counted v n) → FirstClear (λ t. f t && g t) v
+within-both f g n zero a b = first-zero (λ t. f t && g t) (first-fails (g 0) (a .here (omega arith)))
+within-both f g n (suc v) a b =
+    record { before = λ t l. and-both (a .before t l) (b .before t (omega (arith, a .few))); here = go (below-or v n) }
+  where
+    go : (v < n) ⊎ (n ≤ v) → (f (suc v) && g (suc v)) ≡ false
+    go (inl l) = first-fails (g (suc v)) (a .here (omega arith))
+    go (inr l) = let e : v ≡ n = omega (arith, a .few) in second-fails (f (suc v)) (ap (λ (k : ℕ). g (suc k)) e ∙ b .here)
+
 -- ── at the place itself ──
 
 -- a test asked twice
@@ -96,12 +108,29 @@ beside-here ws p =
     let b : p - 0 ≡ p = omega arith in
     ap₂ (λ (x y : ℕ). bitIn ws x && bitIn ws y) a b ∙ and-same (bitIn ws p)
 
-above-here : (ws : List ℕ) (w p : ℕ) → (beside ws p 0 && bitIn ws (p + 0 * w)) ≡ bitIn ws p
-above-here ws w p = let a : p + 0 * w ≡ p = omega arith in ap₂ _&&_ (beside-here ws p) (ap (bitIn ws) a) ∙ and-same (bitIn ws p)
+under-here : (ws : List ℕ) (w p : ℕ) → under ws w p 0 ≡ bitIn ws p
+unfolding under
+under-here ws w p = let a : p - 0 * w ≡ p = omega arith in ap₂ _&&_ (beside-here ws p) (ap (bitIn ws) a) ∙ and-same (bitIn ws p)
+
+-- the rows above are asked after the rows below
+around-under : (ws : List ℕ) (w p t : ℕ) → around ws w p t ≡ (under ws w p t && bitIn ws (p + t * w))
+unfolding around under beside
+around-under ws w p t = and-swap (bitIn ws (p + t) && bitIn ws (p - t)) (bitIn ws (p + t * w)) (bitIn ws (p - t * w))
+  where
+    and-swap : (a b c : Bool) → ((a && b) && c) ≡ ((a && c) && b)
+    and-swap true true c = and-one c
+      where
+        and-one : (c : Bool) → c ≡ (c && true)
+        and-one true = refl
+        and-one false = refl
+    and-swap true false true = refl
+    and-swap true false false = refl
+    and-swap false b c = refl
 
 around-here : (ws : List ℕ) (w p : ℕ) → around ws w p 0 ≡ bitIn ws p
-unfolding around beside
-around-here ws w p = let a : p - 0 * w ≡ p = omega arith in ap₂ _&&_ (above-here ws w p) (ap (bitIn ws) a) ∙ and-same (bitIn ws p)
+around-here ws w p =
+    let a : p + 0 * w ≡ p = omega arith in
+    around-under ws w p 0 ∙ ap₂ _&&_ (under-here ws w p) (ap (bitIn ws) a) ∙ and-same (bitIn ws p)
 
 -- ── bits of the column ──
 
@@ -109,15 +138,6 @@ module _ (ws : List ℕ) (w p : ℕ) (xs : List ℕ) where
   -- a place of the line holds 0 exactly where its bit is clear
   abbrev pub Tells : Type 0
   Tells = (y : ℕ) → y < length xs → (getD xs y 0 ≡ 0 → bitIn ws (p + y * w) ≡ false) × (0 < getD xs y 0 → bitIn ws (p + y * w) ≡ true)
-
-  module _ (tells : Tells) (k : ℕ) (l : k < length xs) (n : ℕ) (f g : ℕ → Bool) (here : f 0 ≡ bitIn ws (p + k * w)) (further : (t : ℕ) → f (suc t) ≡ g t) where
-    -- one place more: the nearest clear bit is the place itself, or one farther than from the place after it
-    count-clear : FirstClear g n → FirstClear f (counted (getD xs k 0) n)
-    count-clear c = go (getD xs k 0) refl
-      where
-        go : (v : ℕ) → getD xs k 0 ≡ v → FirstClear f (counted v n)
-        go zero e = first-zero f (here ∙ tells k l .0 e)
-        go (suc v) e = first-suc f g n (here ∙ tells k l .1 (omega arith)) further c
 
   -- the count from a place on tells the nearest clear bit above
   pub fallen-clear : Tells → bitIn ws (p + length xs * w) ≡ false → (k left : ℕ) → k + left ≡ length xs
@@ -129,65 +149,63 @@ module _ (ws : List ℕ) (w p : ℕ) (xs : List ℕ) where
       first-zero (λ t. bitIn ws (p + k * w + t * w)) (ap (bitIn ws) o ∙ top)
   fallen-clear tells top k (suc left) e =
       let o : p + k * w + 0 * w ≡ p + k * w = omega arith in
-      count-clear tells k (omega arith) (fallen xs (suc k) left) (λ t. bitIn ws (p + k * w + t * w)) (λ t. bitIn ws (p + suc k * w + t * w)) (ap (bitIn ws) o)
-      (λ t. ap (bitIn ws) (let z : p + k * w + suc t * w ≡ p + suc k * w + t * w = omega arith in z))
+      count-first (λ t. bitIn ws (p + k * w + t * w)) (λ t. bitIn ws (p + suc k * w + t * w)) (bitIn ws (p + k * w)) (getD xs k 0) (fallen xs (suc k) left)
+      (ap (bitIn ws) o) (λ t. ap (bitIn ws) (let z : p + k * w + suc t * w ≡ p + suc k * w + t * w = omega arith in z)) (tells k (omega arith))
       (fallen-clear tells top (suc k) left (omega arith))
 
-  -- the count up to a place tells the nearest clear bit below
-  pub risen-clear : Tells → w ≤ p → bitIn ws (p - w) ≡ false → (k : ℕ) → k < length xs
-      → FirstClear (λ t. bitIn ws (p + k * w - t * w)) (risen xs (suc k))
-  risen-clear tells past floor zero l =
-      let o : p + 0 * w - 0 * w ≡ p + 0 * w = omega arith in
-      let q : p + 0 * w - suc 0 * w ≡ p - w = omega arith in
-      count-clear tells 0 l 0 (λ t. bitIn ws (p + 0 * w - t * w)) (λ t. bitIn ws (p + 0 * w - suc t * w)) (ap (bitIn ws) o) (λ t. refl)
-      (first-zero (λ t. bitIn ws (p + 0 * w - suc t * w)) (ap (bitIn ws) q ∙ floor))
-  risen-clear tells past floor (suc j) l =
-      let o : p + suc j * w - 0 * w ≡ p + suc j * w = omega arith in
-      count-clear tells (suc j) l (risen xs (suc j)) (λ t. bitIn ws (p + suc j * w - t * w)) (λ t. bitIn ws (p + j * w - t * w)) (ap (bitIn ws) o)
-      (λ t. ap (bitIn ws) (let z : p + suc j * w - suc t * w ≡ p + j * w - t * w = omega arith in z))
-      (risen-clear tells past floor j (omega arith))
+-- ── down the column, place by place ──
+
+-- n places in a row are set below a place, from the one w below it on
+abbrev pub Under : List ℕ → ℕ → ℕ → ℕ → Type 0
+Under ws w q n = FirstClear (λ t. bitIn ws (q - suc t * w)) n
+
+-- below the first place of the column there is none
+pub under-start : (ws : List ℕ) (w p : ℕ) → bitIn ws (p - w) ≡ false → Under ws w p 0
+under-start ws w p floor =
+    let o : p - suc 0 * w ≡ p - w = omega arith in
+    first-zero (λ t. bitIn ws (p - suc t * w)) (ap (bitIn ws) o ∙ floor)
+
+module _ (ws : List ℕ) (w q n v : ℕ) (h : Under ws w q n) (g : FirstWithin (beside ws q) (n + 1) v) where
+  -- at the place itself
+  under-count : FirstClear (λ t. bitIn ws (q - t * w)) (counted v n)
+  under-count =
+      let o : q - 0 * w ≡ q = omega arith in
+      count-first (λ t. bitIn ws (q - t * w)) (λ t. bitIn ws (q - suc t * w)) (bitIn ws q) v n (ap (bitIn ws) o) (λ t. refl)
+      (within-tells (beside ws q) (n + 1) v (bitIn ws q) (beside-here ws q) (omega arith) g) h
+
+  -- so below the next place
+  pub under-next : (m : ℕ) → m ≡ counted v n → Under ws w (q + w) m
+  under-next m e =
+      subst (Under ws w (q + w)) (sym e)
+      (first-same (λ t. bitIn ws (q - t * w)) (λ t. bitIn ws (q + w - suc t * w)) (counted v n)
+      (λ t. ap (bitIn ws) (let z : q + w - suc t * w ≡ q - t * w = omega arith in z)) under-count)
+
+  -- and what the place holds is the least of three sides
+  pub under-place : FirstClear (under ws w q) v
+  unfolding under
+  under-place = within-both (beside ws q) (λ t. bitIn ws (q - t * w)) n v g under-count
 
 -- ── the line ──
 
-module _ (ws : List ℕ) (w p : ℕ) (line gaps lowered done : List ℕ) (g : GapsDone ws w p line gaps) (f : Fallen gaps lowered) (r : Risen lowered done)
-    (ends : Ended ws w p (length line))
-  where
-    -- after the gaps a place tells its bit
-    gaps-tell : Tells ws w p gaps
-    gaps-tell y l =
-        first-tells (beside ws (p + y * w)) (getD gaps y 0) (bitIn ws (p + y * w)) (beside-here ws (p + y * w)) (g .each y (omega (arith, g .same)))
+module _ (ws : List ℕ) (w p : ℕ) (line sides done : List ℕ) (g : SidesDone ws w p line sides) (f : Fallen sides done) (ends : Ended ws w p (length line)) where
+  -- a place tells its bit
+  sides-tell : Tells ws w p sides
+  sides-tell y l =
+      first-tells (under ws w (p + y * w)) (getD sides y 0) (bitIn ws (p + y * w)) (under-here ws w (p + y * w)) (g .each y (omega (arith, g .same)))
 
-    -- with the clear bit above
-    three : (y : ℕ) → y < length line → FirstClear (λ t. beside ws (p + y * w) t && bitIn ws (p + y * w + t * w)) (getD lowered y 0)
-    three y l =
-        let top = ends .top in
-        let n = g .same in
-        let top′ : bitIn ws (p + length gaps * w) ≡ false = ap (λ (i : ℕ). bitIn ws (p + i * w)) n ∙ top in
-        subst (FirstClear (λ t. beside ws (p + y * w) t && bitIn ws (p + y * w + t * w))) (sym (f .at y (omega arith)))
-        (first-both (beside ws (p + y * w)) (λ t. bitIn ws (p + y * w + t * w)) (getD gaps y 0) (fallen gaps y (length gaps - y)) (g .each y l)
-        (fallen-clear ws w p gaps gaps-tell top′ y (length gaps - y) (omega arith)))
-
-    -- the place still tells its bit
-    lowered-tell : Tells ws w p lowered
-    lowered-tell y l =
-        let n = g .same in
-        let m = f .same in
-        first-tells (λ t. beside ws (p + y * w) t && bitIn ws (p + y * w + t * w)) (getD lowered y 0) (bitIn ws (p + y * w)) (above-here ws w (p + y * w))
-        (three y (omega arith))
-
-    -- and with the one below
-    pub column-done : ColumnDone ws w p line done
-    unfolding around beside
-    column-done =
-        let n = g .same in
-        let m = f .same in
-        record {
-          same = r .same ∙ m ∙ n;
-          each = λ y l.
-              subst (FirstClear (around ws w (p + y * w))) (sym (r .at y (omega arith)))
-              (first-both (λ t. beside ws (p + y * w) t && bitIn ws (p + y * w + t * w)) (λ t. bitIn ws (p + y * w - t * w)) (getD lowered y 0)
-              (risen lowered (suc y)) (three y l) (risen-clear ws w p lowered lowered-tell (ends .past) (ends .floor) y (omega arith)));
-        }
+  -- with the clear bit above
+  pub column-done : ColumnDone ws w p line done
+  column-done =
+      let n = g .same in
+      let top : bitIn ws (p + length sides * w) ≡ false = ap (λ (i : ℕ). bitIn ws (p + i * w)) n ∙ ends .top in
+      record {
+        same = f .same ∙ n;
+        each = λ y l.
+            subst (FirstClear (around ws w (p + y * w))) (sym (f .at y (omega arith)))
+            (first-same (λ t. under ws w (p + y * w) t && bitIn ws (p + y * w + t * w)) (around ws w (p + y * w)) _ (around-under ws w (p + y * w))
+            (first-both (under ws w (p + y * w)) (λ t. bitIn ws (p + y * w + t * w)) (getD sides y 0) (fallen sides y (length sides - y)) (g .each y l)
+            (fallen-clear ws w p sides sides-tell top y (length sides - y) (omega arith))));
+      }
 
 -- a place that holds the least such distance is done, as a place of a row is
 pub first-done : (ws : List ℕ) (w p n : ℕ) → FirstClear (around ws w p) n → PlaceDone ws w p 0 n

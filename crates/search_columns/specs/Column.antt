@@ -13,20 +13,35 @@ pub record FirstClear (f : ℕ → Bool) (n : ℕ) : Type 0 where
   pub before : (t : ℕ) → t < n → f t ≡ true
   pub here : f n ≡ false
 
+-- n is the least number below the bound that fails the test, or the bound where none does
+pub record FirstWithin (f : ℕ → Bool) (bound n : ℕ) : Type 0 where
+  pub few : n ≤ bound
+  pub before : (t : ℕ) → t < n → f t ≡ true
+  pub here : n < bound → f n ≡ false
+
 -- the bits t away from p are set on both sides
 unfoldable pub beside : List ℕ → ℕ → ℕ → Bool
 beside ws p t = bitIn ws (p + t) && bitIn ws (p - t)
 
--- the clear bits at and below p: the one t below p stands t below the word's top
-pub record ClearBelow (ws : List ℕ) (p r : ℕ) : Type 0 where
-  pub small : r < 18446744073709551616
-  pub each : (t : ℕ) → t ≤ p → t < 64 → bitAt r (63 - t) ≡ not (bitIn ws (p - t))
+-- the bits t away from p are set on both sides and t rows below
+unfoldable pub under : List ℕ → ℕ → ℕ → ℕ → Bool
+under ws w p t = beside ws p t && bitIn ws (p - t * w)
 
--- n + k is the least distance from n on at which a side of p is clear, where it is below n + 64
-pub record GapWithin (ws : List ℕ) (p n k : ℕ) : Type 0 where
+-- the clear bits at and above p, as many of them as the size says: the one t above p stands at t
+pub record ClearAbove (ws : List ℕ) (p size r : ℕ) : Type 0 where
+  pub small : r < 18446744073709551616
+  pub each : (t : ℕ) → t < size → bitAt r t ≡ not (bitIn ws (p + t))
+
+-- those at and below p: the one t below p stands t below the word's top
+pub record ClearBelow (ws : List ℕ) (p size r : ℕ) : Type 0 where
+  pub small : r < 18446744073709551616
+  pub each : (t : ℕ) → t ≤ p → t < size → bitAt r (63 - t) ≡ not (bitIn ws (p - t))
+
+-- n + k is the least distance from n on at which a side of p is clear, where it is below n + size
+pub record GapWithin (ws : List ℕ) (p n size k : ℕ) : Type 0 where
   pub few : k ≤ 64
-  pub before : (i : ℕ) → i < k → n + i ≤ p → beside ws p (n + i) ≡ true
-  pub here : k < 64 → n + k ≤ p → beside ws p (n + k) ≡ false
+  pub before : (i : ℕ) → i < k → i < size → n + i ≤ p → beside ws p (n + i) ≡ true
+  pub here : k < size → n + k ≤ p → beside ws p (n + k) ≡ false
 
 -- at the reach a side of p is clear, and all that is read up to it lies in the map
 pub record Walled (ws : List ℕ) (p : ℕ) : Type 0 where
@@ -42,10 +57,10 @@ pub record ColumnWalled (ws : List ℕ) (w p n : ℕ) : Type 0 where
   pub each : (y : ℕ) → y < n → Walled ws (p + y * w)
   pub small : p + n * w < lengthLimit
 
--- each place holds how far its bit lies from a clear one along its row
-pub record GapsDone (ws : List ℕ) (w p : ℕ) (xs ys : List ℕ) : Type 0 where
+-- each place holds how far its bit lies from a clear one along its row or down the column
+pub record SidesDone (ws : List ℕ) (w p : ℕ) (xs ys : List ℕ) : Type 0 where
   pub same : length ys ≡ length xs
-  pub each : (y : ℕ) → y < length xs → FirstClear (beside ws (p + y * w)) (getD ys y 0)
+  pub each : (y : ℕ) → y < length xs → FirstClear (under ws w (p + y * w)) (getD ys y 0)
 
 -- one more than the count n at a neighbour, but 0 at a clear place
 abbrev pub counted : ℕ → ℕ → ℕ
@@ -57,20 +72,10 @@ abbrev pub fallen : List ℕ → ℕ → ℕ → ℕ
 fallen xs k zero = 0
 fallen xs k (suc left) = counted (getD xs k 0) (fallen xs (suc k) left)
 
--- how many places, from k - 1 down, hold no 0
-abbrev pub risen : List ℕ → ℕ → ℕ
-risen xs zero = 0
-risen xs (suc k) = counted (getD xs k 0) (risen xs k)
-
 -- every place is lowered to the count from it on
 pub record Fallen (xs ys : List ℕ) : Type 0 where
   pub same : length ys ≡ length xs
   pub at : (k : ℕ) → k < length xs → getD ys k 0 ≡ min (getD xs k 0) (fallen xs k (length xs - k))
-
--- every place is lowered to the count up to it
-pub record Risen (xs ys : List ℕ) : Type 0 where
-  pub same : length ys ≡ length xs
-  pub at : (k : ℕ) → k < length xs → getD ys k 0 ≡ min (getD xs k 0) (risen xs (suc k))
 
 -- the bits before the column's first place and after its last are clear
 pub record Ended (ws : List ℕ) (w p n : ℕ) : Type 0 where
