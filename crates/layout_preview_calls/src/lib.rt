@@ -1,15 +1,10 @@
 // The preview of a move: the weighted sum and the used length that a layout would have with one piece placed anew. Document 02, point 3, and
-// document 01, 'When a call says no'. The layout is lent for reading; the figures are measured on a copy, pair by pair, with strips that are made
-// when a pair first needs them.
+// document 01, 'When a call says no'. The layout is lent for reading; the figures are measured on a copy.
 use causes::placing_causes;
 use layout_length_calls::length_between_ends;
 use layout_places::copy;
 use layout_places::entry_of;
 use layout_places::inside;
-use layout_strips::StripSpan;
-use layout_strips::empty_store;
-use layout_strips::no_spans;
-use layout_strips::penalty_of;
 use model::DoneAnswer;
 use model::Figures;
 use model::JobSize;
@@ -18,25 +13,21 @@ use model::PieceEntry;
 use model::PlaceEntry;
 use model::Placement;
 use model::Refusal;
-use model::StripEntry;
 use model::refused;
+use search_sums::total;
+use search_table::penalties_of;
 ghost use mathlib.Core.Path.{_≡_};
-ghost use Prim.Native.Nat.{_<_, _≤_, _^_};
+ghost use Prim.Native.Nat.{_<_};
 ghost use lib.ListN.{length};
 ghost use Rattle.model.specs.Answers.{firstCause};
-ghost use Rattle.model.specs.Layout.{pairs, withPlace, weightedSum, figures};
+ghost use Rattle.model.specs.Layout.{withPlace, figures};
 ghost use Rattle.model.specs.Lent.{lentBy, jobOf};
 ghost use Rattle.model.specs.Buffer.{layoutOf};
 ghost use Rattle.model.specs.Calls.{previewCauses, previewCall};
-ghost use Rattle.model.specs.declared.Direction.the-variants.{Horizontal, Vertical};
 ghost use Rattle.model.specs.declared.Figures.{Figures};
-ghost use Rattle.model.specs.declared.JobSize.{JobSize};
 ghost use Rattle.descent_laws.specs.Claims.{ValidWeights};
 ghost use Rattle.descent_laws.specs.LentLayout.{Laid};
 ghost use Rattle.call_laws.specs.Previews.{entriesWith, PreviewClaims};
-ghost use Rattle.search_laws.specs.Pairs.{rowStart, rowPart};
-ghost use Rattle.search_laws.specs.PieceSum.{penaltyBetween};
-ghost use Rattle.layout_strips.specs.Kept.{Drawable, Kept};
 ghost use Rattle.layout_preview_calls.specs.Answers.{previewAnswer};
 ghost use Rattle.layout_preview_calls.specs.Movable.{Movable};
 
@@ -44,111 +35,6 @@ ghost use Rattle.layout_preview_calls.specs.Movable.{Movable};
 pub enum PreviewAnswer {
     Shown(Figures),
     Refused(Refusal),
-}
-
-// What the pairs (i, i + 1), (i, i + 2), .. count in the weighted sum. Their weights begin at `from`.
-fn row_part(
-    table: &[PieceEntry],
-    pixels: &[u8],
-    layout: &[PlaceEntry],
-    weights: &[u32],
-    i: usize,
-    from: usize,
-    rows: &mut [StripEntry],
-    row_spans: &mut [StripSpan],
-    columns: &mut [StripEntry],
-    column_spans: &mut [StripSpan],
-) -> u64
-    requires { ⌜ Drawable (now table) (now layout) ⌝
-        ∗ ⌜ length (now weights) ≡ length (pairs (length (now layout))) ⌝
-        ∗ ⌜ (i < length (now layout)) × (from ≡ rowStart (length (now layout)) i) ⌝
-        ∗ ⌜ Kept Horizontal (now table) (now pixels) (now layout) (now rows) (now «row_spans») ⌝
-        ∗ ⌜ Kept Vertical (now table) (now pixels) (now layout) (now columns) (now «column_spans») ⌝ }
-    ensures part { λ r. ⌜ ((size : JobSize) → r ≡ rowPart (length (now (layout .entry))) (penaltyBetween (jobOf (lentBy size (now (table .entry)) (now (pixels .entry)))) (layoutOf (now (layout .entry))) i) (now (weights .entry)) i from) ⌝ }
-    ensures small { λ r. ⌜ r ≤ 2 ^ 46 ⌝ }
-    ensures rows { λ r. ⌜ Kept Horizontal (now (table .entry)) (now (pixels .entry)) (now (layout .entry)) (now (rows .exit)) (now («row_spans» .exit)) ⌝ }
-    ensures columns { λ r. ⌜ Kept Vertical (now (table .entry)) (now (pixels .entry)) (now (layout .entry)) (now (columns .exit)) (now («column_spans» .exit)) ⌝ }
-{
-    let mut sum = 0;
-    let mut k = i + 1;
-    let mut at = from;
-    while k < layout.len() {
-        let penalty = penalty_of(
-            table,
-            pixels,
-            layout,
-            i,
-            k,
-            rows,
-            row_spans,
-            columns,
-            column_spans,
-        );
-        sum += (weights[at] as u64) * (penalty as u64);
-        k += 1;
-        at += 1;
-    }
-    sum
-}
-
-// The weighted sum of a layout, with the strips of its pieces in lent stores.
-fn sum_in(
-    table: &[PieceEntry],
-    pixels: &[u8],
-    layout: &[PlaceEntry],
-    weights: &[u32],
-    rows: &mut [StripEntry],
-    row_spans: &mut [StripSpan],
-    columns: &mut [StripEntry],
-    column_spans: &mut [StripSpan],
-) -> u64
-    requires { ⌜ Drawable (now table) (now layout) ⌝
-        ∗ ⌜ length (now weights) ≡ length (pairs (length (now layout))) ⌝
-        ∗ ⌜ Kept Horizontal (now table) (now pixels) (now layout) (now rows) (now «row_spans») ⌝
-        ∗ ⌜ Kept Vertical (now table) (now pixels) (now layout) (now columns) (now «column_spans») ⌝ }
-    ensures { λ r. ⌜ ((size : JobSize) → size .count ≡ length (now (layout .entry)) → r ≡ weightedSum (jobOf (lentBy size (now (table .entry)) (now (pixels .entry)))) (now (weights .entry)) (layoutOf (now (layout .entry)))) ⌝ }
-{
-    let mut sum = 0;
-    let mut from = 0;
-    let mut i = 0;
-    while i < layout.len() {
-        sum += row_part(
-            table,
-            pixels,
-            layout,
-            weights,
-            i,
-            from,
-            rows,
-            row_spans,
-            columns,
-            column_spans,
-        );
-        i += 1;
-        from += layout.len() - i;
-    }
-    sum
-}
-
-// The weighted sum of a layout.
-fn sum_of(table: &[PieceEntry], pixels: &[u8], layout: &[PlaceEntry], weights: &[u32]) -> u64
-    requires { ⌜ Drawable (now table) (now layout) ⌝ ∗ ⌜ length (now weights) ≡ length (pairs (length (now layout))) ⌝ }
-    ensures { λ r. ⌜ ((size : JobSize) → size .count ≡ length (now (layout .entry)) → r ≡ weightedSum (jobOf (lentBy size (now (table .entry)) (now (pixels .entry)))) (now (weights .entry)) (layoutOf (now (layout .entry)))) ⌝ }
-{
-    let mut rows = empty_store();
-    let mut row_spans = no_spans();
-    let mut columns = empty_store();
-    let mut column_spans = no_spans();
-    sum_in(
-        table,
-        pixels,
-        layout,
-        weights,
-        &mut rows,
-        &mut row_spans,
-        &mut columns,
-        &mut column_spans,
-    )
 }
 
 // Makes a copy of a layout with one piece placed anew.
@@ -178,7 +64,8 @@ fn figures_on(
     ensures { λ r. ⌜ r ≡ figures (jobOf (lentBy size (now (table .entry)) (now (pixels .entry)))) (now (weights .entry)) (withPlace (layoutOf (now (layout .entry))) piece place) ⌝ }
 {
     put_moved(layout, piece, place, moved);
-    let sum = sum_of(table, pixels, moved, weights);
+    let penalties = penalties_of(table, pixels, moved);
+    let sum = total(&penalties, weights, size.count);
     let length = length_between_ends(size, table, moved) as u64;
     Figures { sum, length }
 }

@@ -1,6 +1,9 @@
 // The strips of the pieces of a layout, in the turns that it gives them, made when they are first asked for, and what is measured of two pieces
 // by them. Document 01, 'No-fit rows and penalty'. Each piece has a part of a store to itself, an entry for each pixel of its box, so that it
 // does not matter which pieces are asked for, or in what order.
+mod boxes;
+
+use boxes::boxes_meet;
 use job_check::pixel_start;
 use layout_places::place_at;
 use model::AREA_BOUND;
@@ -10,14 +13,13 @@ use model::PieceEntry;
 use model::PlaceEntry;
 use model::StripEntry;
 use pair_measure::corner_along;
-use search_table::pair::boxes_meet;
 use strip_scan::put::put_piece;
 ghost use mathlib.Core.Path.{_≡_};
 ghost use mathlib.Core.Logic.{_≢_};
 ghost use Prim.Native.Nat.{ℕ, _-_, _<_, _≤_, min};
 ghost use lib.ListN.{length, take, drop};
 ghost use Rattle.model.specs.Overlap.{depth};
-ghost use Rattle.model.specs.Layout.{cornerIn};
+ghost use Rattle.model.specs.Layout.{cornerIn, pairOf, pairShares};
 ghost use Rattle.model.specs.Lent.{lentBy, jobOf, areaBound};
 ghost use Rattle.model.specs.Buffer.{layoutOf};
 ghost use Rattle.model.specs.declared.Direction.the-variants.{Horizontal, Vertical};
@@ -106,8 +108,58 @@ fn depth_of(
     )
 }
 
-// The penalty of two pieces of a layout: the lesser depth. Boxes that do not meet share no pixel, so that no strips are made for them; the depth
-// along the columns is cut off at the one along the rows, and not asked for, nor are column strips made, where that is 0.
+// The depth of two pieces of a layout along the rows, cut off at a bound. Boxes that do not meet share no pixel, so that no strips are made for them.
+fn depth_along_rows(
+    table: &[PieceEntry],
+    pixels: &[u8],
+    layout: &[PlaceEntry],
+    i: usize,
+    k: usize,
+    bound: u32,
+    rows: &mut [StripEntry],
+    row_spans: &mut [StripSpan],
+) -> u32
+    requires { ⌜ Drawable (now table) (now layout) ⌝ ∗ ⌜ (i < length (now layout)) × (k < length (now layout)) ⌝ ∗ ⌜ bound ≤ 256 ⌝ ∗ ⌜ Kept Horizontal (now table) (now pixels) (now layout) (now rows) (now «row_spans») ⌝ }
+    ensures depth { λ r. ⌜ ((size : JobSize) → r ≡ min (depth Horizontal (drawnShape size (now (table .entry)) (now (pixels .entry)) (now (layout .entry)) i) (cornerIn (layoutOf (now (layout .entry))) i) (drawnShape size (now (table .entry)) (now (pixels .entry)) (now (layout .entry)) k) (cornerIn (layoutOf (now (layout .entry))) k)) bound) ⌝ }
+    ensures kept { λ r. ⌜ Kept Horizontal (now (table .entry)) (now (pixels .entry)) (now (layout .entry)) (now (rows .exit)) (now («row_spans» .exit)) ⌝ }
+{
+    let p = place_at(layout, i);
+    let q = place_at(layout, k);
+    if !boxes_meet(table, i, p, k, q) {
+        return 0;
+    }
+    depth_of(
+        table,
+        pixels,
+        layout,
+        i,
+        k,
+        Direction::Horizontal,
+        bound,
+        rows,
+        row_spans,
+    )
+}
+
+// Whether two pieces of a layout share a pixel: the walk over their strips ends at the first.
+pub fn shares_of(
+    table: &[PieceEntry],
+    pixels: &[u8],
+    layout: &[PlaceEntry],
+    i: usize,
+    k: usize,
+    rows: &mut [StripEntry],
+    row_spans: &mut [StripSpan],
+) -> bool
+    requires { ⌜ Drawable (now table) (now layout) ⌝ ∗ ⌜ (i < length (now layout)) × (k < length (now layout)) ⌝ ∗ ⌜ Kept Horizontal (now table) (now pixels) (now layout) (now rows) (now «row_spans») ⌝ }
+    ensures shares { λ r. ⌜ ((size : JobSize) → r ≡ pairShares (jobOf (lentBy size (now (table .entry)) (now (pixels .entry)))) (layoutOf (now (layout .entry))) (pairOf i k)) ⌝ }
+    ensures kept { λ r. ⌜ Kept Horizontal (now (table .entry)) (now (pixels .entry)) (now (layout .entry)) (now (rows .exit)) (now («row_spans» .exit)) ⌝ }
+{
+    depth_along_rows(table, pixels, layout, i, k, 1, rows, row_spans) == 1
+}
+
+// The penalty of two pieces of a layout: the lesser depth. The depth along the columns is cut off at the one along the rows, and not asked for, nor
+// are column strips made, where that is 0.
 pub fn penalty_of(
     table: &[PieceEntry],
     pixels: &[u8],
@@ -125,22 +177,7 @@ pub fn penalty_of(
     ensures rows { λ r. ⌜ Kept Horizontal (now (table .entry)) (now (pixels .entry)) (now (layout .entry)) (now (rows .exit)) (now («row_spans» .exit)) ⌝ }
     ensures columns { λ r. ⌜ Kept Vertical (now (table .entry)) (now (pixels .entry)) (now (layout .entry)) (now (columns .exit)) (now («column_spans» .exit)) ⌝ }
 {
-    let p = place_at(layout, i);
-    let q = place_at(layout, k);
-    if !boxes_meet(table, i, p, k, q) {
-        return 0;
-    }
-    let along_rows = depth_of(
-        table,
-        pixels,
-        layout,
-        i,
-        k,
-        Direction::Horizontal,
-        256,
-        rows,
-        row_spans,
-    );
+    let along_rows = depth_along_rows(table, pixels, layout, i, k, 256, rows, row_spans);
     if along_rows == 0 {
         return 0;
     }

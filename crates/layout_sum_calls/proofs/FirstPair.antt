@@ -3,7 +3,6 @@ use Rattle.list_laws.proofs.Kit.{_∙_, _≡_, ap, sym, Bool, false, true, Opti
 use Rattle.model.specs.Layout.{Pair, pairOf, pairsWith, pairsFrom, pairShares, firstPair, sharingPair}
 use Rattle.model.specs.Lent.{Lent, jobOf}
 use Rattle.model.specs.Buffer.{layoutOf}
-use Rattle.descent_laws.specs.LentLayout.{Laid}
 use Rattle.layout_sum_calls.specs.Sharing.{rowBefore, RowFirst}
 
 module _ (test : Pair → Bool) (n i : ℕ) (rest : List Pair) where
@@ -59,11 +58,10 @@ pub row-none : (test : Pair → Bool) (n i k : ℕ) → n ≤ k → LeftInRow te
 row-none test n i k h l = record { found = λ b rest. absurd (omega arith); none = λ b rest. l rest ∙ row-done test n i rest k h }
 
 -- all rows
-pub rows-begin : (l : Lent) (layout : List (List ℕ)) → Laid l layout
+pub rows-begin : (l : Lent) (layout : List (List ℕ)) → l .size .count ≡ length layout
     → sharingPair (jobOf l) (layoutOf layout) ≡ firstPair (pairShares (jobOf l) (layoutOf layout)) (pairsFrom 0 (length layout - 0))
 unfolding sharingPair jobOf
-rows-begin l layout h =
-    let whole = h .whole in
+rows-begin l layout whole =
     let e : l .size .count ≡ length layout - 0 = omega arith in
     ap (λ n. firstPair (pairShares (jobOf l) (layoutOf layout)) (pairsFrom 0 n)) e
 

@@ -4,71 +4,22 @@ mod sharing;
 
 use causes::layout_causes;
 use causes::weighted_causes;
-use model::Direction;
 use model::DoneAnswer;
 use model::JobSize;
 use model::NumberAnswer;
 use model::PieceEntry;
 use model::PlaceEntry;
 use model::Refusal;
-use search_shapes::STARTS_LENGTH;
 use search_sums::plain_total;
 use search_sums::total;
-use search_table::TABLE_LENGTH;
-use search_table::fill_table;
+use search_table::penalties_of;
 use sharing::SharingPair;
 use sharing::sharing_pair;
 ghost use mathlib.Core.Path.{_≡_};
 ghost use Rattle.model.specs.Answers.{doneAnswer, numberAnswer};
-ghost use Rattle.model.specs.Lent.{lentBy, jobOf};
-ghost use Rattle.model.specs.Buffer.{layoutOf};
+ghost use Rattle.model.specs.Lent.{lentBy};
 ghost use Rattle.model.specs.Calls.{weightedSumCall, plainSumCall, checkCall};
-ghost use Rattle.search_laws.specs.Table.{PenaltyTable};
-ghost use Rattle.descent_laws.specs.LentLayout.{Laid};
 ghost use Rattle.layout_sum_calls.specs.Answers.{sharedAnswer};
-
-// The table of pair penalties of a job's layout.
-fn penalties_of(
-    size: JobSize,
-    table: &[PieceEntry],
-    pixels: &[u8],
-    layout: &[PlaceEntry],
-) -> [u8; TABLE_LENGTH]
-    requires { ⌜ Laid (lentBy size (now table) (now pixels)) (now layout) ⌝ }
-    ensures { λ r. ⌜ PenaltyTable (jobOf (lentBy size (now (table .entry)) (now (pixels .entry)))) (layoutOf (now (layout .entry))) (size .count) r ⌝ }
-{
-    let mut rows = search_shapes::empty_store();
-    let mut row_starts = [0u32; STARTS_LENGTH];
-    let mut columns = search_shapes::empty_store();
-    let mut column_starts = [0u32; STARTS_LENGTH];
-    let mut penalties = [0u8; TABLE_LENGTH];
-    search_shapes::make_shapes(
-        size,
-        table,
-        pixels,
-        Direction::Horizontal,
-        &mut rows,
-        &mut row_starts,
-    );
-    search_shapes::make_shapes(
-        size,
-        table,
-        pixels,
-        Direction::Vertical,
-        &mut columns,
-        &mut column_starts,
-    );
-    fill_table(
-        &rows,
-        &row_starts,
-        &columns,
-        &column_starts,
-        table,
-        layout,
-        &mut penalties,
-    );
-    penalties
-}
 
 // The weighted sum of a layout, or its refusal.
 pub fn weighted_sum(
@@ -83,7 +34,7 @@ pub fn weighted_sum(
     match weighted_causes(size, table, pixels, layout, weights, false, false) {
         DoneAnswer::Refused(refusal) => NumberAnswer::Refused(refusal),
         DoneAnswer::Done => {
-            let penalties = penalties_of(size, table, pixels, layout);
+            let penalties = penalties_of(table, pixels, layout);
             NumberAnswer::Number(total(&penalties, weights, size.count))
         }
     }
@@ -101,7 +52,7 @@ pub fn plain_sum(
     match layout_causes(size, table, pixels, layout) {
         DoneAnswer::Refused(refusal) => NumberAnswer::Refused(refusal),
         DoneAnswer::Done => {
-            let penalties = penalties_of(size, table, pixels, layout);
+            let penalties = penalties_of(table, pixels, layout);
             NumberAnswer::Number(plain_total(&penalties, size.count))
         }
     }
@@ -132,6 +83,6 @@ pub fn check(
 {
     match layout_causes(size, table, pixels, layout) {
         DoneAnswer::Refused(refusal) => DoneAnswer::Refused(refusal),
-        DoneAnswer::Done => shared_answer(sharing_pair(size, table, pixels, layout)),
+        DoneAnswer::Done => shared_answer(sharing_pair(table, pixels, layout)),
     }
 }

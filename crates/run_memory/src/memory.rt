@@ -18,8 +18,7 @@ use search_lines::slot_width;
 use search_shapes::STARTS_LENGTH;
 use search_shapes::empty_store;
 use search_shapes::make_shapes;
-use search_table::TABLE_LENGTH;
-use search_table::fill_table;
+use search_table::penalties_of;
 use whole_numbers::smaller;
 ghost use mathlib.Core.Path.{_≡_};
 ghost use Prim.Native.Nat.{_≤_};
@@ -29,8 +28,6 @@ ghost use Rattle.model.specs.Lent.{lentBy, jobOf};
 ghost use Rattle.model.specs.Buffer.{layoutOf};
 ghost use Rattle.model.specs.Calls.{roundBound};
 ghost use Rattle.model.specs.declared.Direction.{Direction};
-ghost use Rattle.descent_laws.specs.LentLayout.{Laid};
-ghost use Rattle.search_laws.specs.Table.{PenaltyTable};
 ghost use Rattle.search_lines.specs.Kept.{leastMaps, MapsReady, slotBound};
 ghost use Rattle.search_shapes.specs.Shapes.{Shapes};
 ghost use Rattle.run_step.specs.Ready.{Tools, LaidOut, Store, LineStores};
@@ -381,42 +378,6 @@ fn with_workspace(
     )
 }
 
-// Fills the table of the layout's penalties. The strips along columns are needed here only, so their store is gone when the run begins.
-fn first_table(
-    size: JobSize,
-    table: &[PieceEntry],
-    pixels: &[u8],
-    rows: &[StripEntry],
-    row_starts: &[u32],
-    layout: &[PlaceEntry],
-    penalties: &mut [u8],
-)
-    requires { ⌜ Laid (lentBy size (now table) (now pixels)) (now layout) ⌝
-        ∗ ⌜ Shapes Direction.Horizontal (jobOf (lentBy size (now table) (now pixels))) (now rows) (now «row_starts») ⌝
-        ∗ ⌜ length (now penalties) ≡ 4096 ⌝ }
-    ensures { λ r. ⌜ PenaltyTable (jobOf (lentBy size (now (table .entry)) (now (pixels .entry)))) (layoutOf (now (layout .entry))) (size .count) (now (penalties .exit)) ⌝ }
-{
-    let mut columns = empty_store();
-    let mut column_starts = [0u32; STARTS_LENGTH];
-    make_shapes(
-        size,
-        table,
-        pixels,
-        Direction::Vertical,
-        &mut columns,
-        &mut column_starts,
-    );
-    fill_table(
-        rows,
-        row_starts,
-        &columns,
-        &column_starts,
-        table,
-        layout,
-        penalties,
-    );
-}
-
 // The run, with the strips of every piece in every turn along rows and the table of penalties.
 pub fn with_strips(
     size: JobSize,
@@ -431,9 +392,9 @@ pub fn with_strips(
     requires { ⌜ Given (lentBy size (now table) (now pixels)) (now layout) (now weights) budget ⌝ ∗ ⌜ FewRounds plan ⌝ }
     ensures { λ r. ⌜ Done (lentBy size (now (table .entry)) (now (pixels .entry))) (now (layout .entry)) (now (weights .entry)) plan budget r (now (layout .exit)) (now (weights .exit)) ⌝ }
 {
+    let mut penalties = penalties_of(table, pixels, layout);
     let mut rows = empty_store();
     let mut row_starts = [0u32; STARTS_LENGTH];
-    let mut penalties = [0u8; TABLE_LENGTH];
     make_shapes(
         size,
         table,
@@ -441,15 +402,6 @@ pub fn with_strips(
         Direction::Horizontal,
         &mut rows,
         &mut row_starts,
-    );
-    first_table(
-        size,
-        table,
-        pixels,
-        &rows,
-        &row_starts,
-        layout,
-        &mut penalties,
     );
     with_workspace(
         size,

@@ -1,123 +1,123 @@
-// The table of pair penalties, which a descent keeps: 64 x 64 entries, that of pieces i and k at i * 64 + k and at k * 64 + i. What
-// lies on the diagonal plays no part. The number of pieces is the layout's length.
-pub mod pair;
-
-use layout_places::place_at;
+// The table of pair penalties, which sums are taken from and a descent keeps: 64 x 64 entries, that of pieces i and k at i * 64 + k and at
+// k * 64 + i. What lies on the diagonal plays no part. The number of pieces is the layout's length.
+use layout_strips::StripSpan;
+use layout_strips::empty_store;
+use layout_strips::no_spans;
+use layout_strips::penalty_of;
 use model::PIECE_BOUND;
 use model::PieceEntry;
 use model::PlaceEntry;
-use model::Placement;
 use model::StripEntry;
-use pair::placed_penalty;
 ghost use mathlib.Core.Path.{_≡_};
-ghost use mathlib.Core.List.{List};
-ghost use Prim.Native.Nat.{ℕ, _+_, _<_, _≤_};
+ghost use Prim.Native.Nat.{_+_, _<_};
 ghost use lib.ListN.{length};
 ghost use Rattle.model.specs.Lent.{lentBy, jobOf};
 ghost use Rattle.model.specs.Buffer.{layoutOf};
+ghost use Rattle.model.specs.declared.Direction.the-variants.{Horizontal, Vertical};
 ghost use Rattle.model.specs.declared.JobSize.{JobSize};
-ghost use Rattle.search_laws.specs.Table.{PenaltyTable, Renewed};
-ghost use Rattle.search_table.specs.Drawn.{Drawn, SomeDrawn, OnSheet};
+ghost use Rattle.search_laws.specs.Table.{PenaltyTable};
+ghost use Rattle.layout_strips.specs.Kept.{Drawable, Kept};
 
 // The entries of the table: one for each two piece numbers.
 pub const TABLE_LENGTH: usize = PIECE_BOUND * PIECE_BOUND;
 
-// Makes the entries of pieces i, placed as given, and k.
-fn renew_pair(
-    rows: &[StripEntry],
-    row_starts: &[u32],
-    columns: &[StripEntry],
-    column_starts: &[u32],
+// Makes the entries of piece i and each piece below it.
+fn fill_row(
     table: &[PieceEntry],
+    pixels: &[u8],
     layout: &[PlaceEntry],
     i: usize,
-    place: Placement,
-    k: usize,
+    rows: &mut [StripEntry],
+    row_spans: &mut [StripSpan],
+    columns: &mut [StripEntry],
+    column_spans: &mut [StripSpan],
     penalties: &mut [u8],
 )
-    requires { ⌜ SomeDrawn (now table) (now rows) (now «row_starts») (now columns) (now «column_starts») (now layout) ⌝ ∗ ⌜ (i < length (now layout)) × (k < length (now layout)) ⌝ ∗ ⌜ OnSheet place ⌝ ∗ ⌜ length (now penalties) ≡ 4096 ⌝ }
-    ensures { λ r. ⌜ ((size : JobSize) (pixels : List ℕ) (n : ℕ) → Drawn (lentBy size (now (table .entry)) pixels) (now (rows .entry)) (now («row_starts» .entry)) (now (columns .entry)) (now («column_starts» .entry)) (now (layout .entry)) → i < n → k < n → n ≤ length (now (layout .entry)) → Renewed (jobOf (lentBy size (now (table .entry)) pixels)) (layoutOf (now (layout .entry))) n i place k (now (penalties .entry)) → Renewed (jobOf (lentBy size (now (table .entry)) pixels)) (layoutOf (now (layout .entry))) n i place (k + 1) (now (penalties .exit))) ⌝ }
-{
-    if i == k {
-        return;
-    }
-    let p = placed_penalty(
-        rows,
-        row_starts,
-        columns,
-        column_starts,
-        table,
-        layout,
-        i,
-        place,
-        k,
-    ) as u8;
-    penalties[i * PIECE_BOUND + k] = p;
-    penalties[k * PIECE_BOUND + i] = p;
-}
-
-// Makes the entries of piece i, placed as given, and each piece below `count`.
-pub fn renew_row(
-    rows: &[StripEntry],
-    row_starts: &[u32],
-    columns: &[StripEntry],
-    column_starts: &[u32],
-    table: &[PieceEntry],
-    layout: &[PlaceEntry],
-    count: usize,
-    i: usize,
-    place: Placement,
-    penalties: &mut [u8],
-)
-    requires { ⌜ SomeDrawn (now table) (now rows) (now «row_starts») (now columns) (now «column_starts») (now layout) ⌝ ∗ ⌜ (i < count) × (count ≤ length (now layout)) ⌝ ∗ ⌜ OnSheet place ⌝ ∗ ⌜ length (now penalties) ≡ 4096 ⌝ }
-    ensures { λ r. ⌜ ((size : JobSize) (pixels : List ℕ) → Drawn (lentBy size (now (table .entry)) pixels) (now (rows .entry)) (now («row_starts» .entry)) (now (columns .entry)) (now («column_starts» .entry)) (now (layout .entry)) → Renewed (jobOf (lentBy size (now (table .entry)) pixels)) (layoutOf (now (layout .entry))) count i place 0 (now (penalties .entry)) → Renewed (jobOf (lentBy size (now (table .entry)) pixels)) (layoutOf (now (layout .entry))) count i place count (now (penalties .exit))) ⌝ }
+    requires { ⌜ Drawable (now table) (now layout) ⌝
+        ∗ ⌜ i < length (now layout) ⌝
+        ∗ ⌜ Kept Horizontal (now table) (now pixels) (now layout) (now rows) (now «row_spans») ⌝
+        ∗ ⌜ Kept Vertical (now table) (now pixels) (now layout) (now columns) (now «column_spans») ⌝
+        ∗ ⌜ length (now penalties) ≡ 4096 ⌝ }
+    ensures table { λ r. ⌜ ((size : JobSize) → PenaltyTable (jobOf (lentBy size (now (table .entry)) (now (pixels .entry)))) (layoutOf (now (layout .entry))) i (now (penalties .entry)) → PenaltyTable (jobOf (lentBy size (now (table .entry)) (now (pixels .entry)))) (layoutOf (now (layout .entry))) (i + 1) (now (penalties .exit))) ⌝ }
+    ensures rows { λ r. ⌜ Kept Horizontal (now (table .entry)) (now (pixels .entry)) (now (layout .entry)) (now (rows .exit)) (now («row_spans» .exit)) ⌝ }
+    ensures columns { λ r. ⌜ Kept Vertical (now (table .entry)) (now (pixels .entry)) (now (layout .entry)) (now (columns .exit)) (now («column_spans» .exit)) ⌝ }
 {
     let mut k = 0;
-    while k < count {
-        renew_pair(
-            rows,
-            row_starts,
-            columns,
-            column_starts,
+    while k < i {
+        let p = penalty_of(
             table,
+            pixels,
             layout,
             i,
-            place,
             k,
-            penalties,
-        );
+            rows,
+            row_spans,
+            columns,
+            column_spans,
+        ) as u8;
+        penalties[i * PIECE_BOUND + k] = p;
+        penalties[k * PIECE_BOUND + i] = p;
         k += 1;
     }
 }
 
-// Makes the whole table of a layout.
-pub fn fill_table(
-    rows: &[StripEntry],
-    row_starts: &[u32],
-    columns: &[StripEntry],
-    column_starts: &[u32],
+// Makes the whole table of a layout, with the strips of its pieces in lent stores.
+fn fill_table(
     table: &[PieceEntry],
+    pixels: &[u8],
     layout: &[PlaceEntry],
+    rows: &mut [StripEntry],
+    row_spans: &mut [StripSpan],
+    columns: &mut [StripEntry],
+    column_spans: &mut [StripSpan],
     penalties: &mut [u8],
 )
-    requires { ⌜ SomeDrawn (now table) (now rows) (now «row_starts») (now columns) (now «column_starts») (now layout) ⌝ ∗ ⌜ length (now penalties) ≡ 4096 ⌝ }
-    ensures { λ r. ⌜ ((size : JobSize) (pixels : List ℕ) → Drawn (lentBy size (now (table .entry)) pixels) (now (rows .entry)) (now («row_starts» .entry)) (now (columns .entry)) (now («column_starts» .entry)) (now (layout .entry)) → PenaltyTable (jobOf (lentBy size (now (table .entry)) pixels)) (layoutOf (now (layout .entry))) (length (now (layout .entry))) (now (penalties .exit))) ⌝ }
+    requires { ⌜ Drawable (now table) (now layout) ⌝
+        ∗ ⌜ Kept Horizontal (now table) (now pixels) (now layout) (now rows) (now «row_spans») ⌝
+        ∗ ⌜ Kept Vertical (now table) (now pixels) (now layout) (now columns) (now «column_spans») ⌝
+        ∗ ⌜ length (now penalties) ≡ 4096 ⌝ }
+    ensures { λ r. ⌜ ((size : JobSize) → size .count ≡ length (now (layout .entry)) → PenaltyTable (jobOf (lentBy size (now (table .entry)) (now (pixels .entry)))) (layoutOf (now (layout .entry))) (size .count) (now (penalties .exit))) ⌝ }
 {
     let mut i = 0;
     while i < layout.len() {
-        let place = place_at(layout, i);
-        renew_row(
-            rows,
-            row_starts,
-            columns,
-            column_starts,
+        fill_row(
             table,
+            pixels,
             layout,
-            i + 1,
             i,
-            place,
+            rows,
+            row_spans,
+            columns,
+            column_spans,
             penalties,
         );
         i += 1;
     }
+}
+
+// The table of a layout.
+pub fn penalties_of(
+    table: &[PieceEntry],
+    pixels: &[u8],
+    layout: &[PlaceEntry],
+) -> [u8; TABLE_LENGTH]
+    requires { ⌜ Drawable (now table) (now layout) ⌝ }
+    ensures { λ r. ⌜ ((size : JobSize) → size .count ≡ length (now (layout .entry)) → PenaltyTable (jobOf (lentBy size (now (table .entry)) (now (pixels .entry)))) (layoutOf (now (layout .entry))) (size .count) r) ⌝ }
+{
+    let mut rows = empty_store();
+    let mut row_spans = no_spans();
+    let mut columns = empty_store();
+    let mut column_spans = no_spans();
+    let mut penalties = [0u8; TABLE_LENGTH];
+    fill_table(
+        table,
+        pixels,
+        layout,
+        &mut rows,
+        &mut row_spans,
+        &mut columns,
+        &mut column_spans,
+        &mut penalties,
+    );
+    penalties
 }

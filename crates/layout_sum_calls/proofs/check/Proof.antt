@@ -8,6 +8,7 @@ use Rattle.text_laws.specs.Outcomes.{NoCause}
 use Rattle.text_laws.proofs.Causes.{passed-none, none-then, refused-then}
 use Rattle.model.specs.Answers.{doneAnswer}
 use Rattle.causes.proofs.Passed.{layout-laid}
+use Rattle.layout_strips.proofs.Keeping.{laid-drawable}
 use Rattle.layout_sum_calls.specs.Answers.{sharedAnswer}
 use Rattle.layout_sum_calls.proofs.Checks.{shared-check}
 use Rattle.layout_sum_calls.proofs.check.Statement.{statement}
@@ -19,7 +20,7 @@ sharing-pair-requires c κs =
     let a = at-start .args in
     let l : Lent = lentBy (a .size) (a .table .now) (a .pixels .now) in
     let none : NoCause (layoutCauses l (a .layout .now)) = passed-none _ (sym (c .enum-told .given .1) ∙ c .before .before .layout-causes .ensures) in
-    layout-laid l (a .layout .now) none
+    laid-drawable l (a .layout .now) (layout-laid l (a .layout .now) none)
 
 returns : tie.Need-returns
 unfolding checkCall
@@ -42,7 +43,7 @@ returns-2 c =
     let none : NoCause (layoutCauses l (a .layout .now)) =
     passed-none _ (sym (c .before .before .enum-told .given .1) ∙ at-layout-causes .layout-causes .ensures) in
     let pair = sharingPair (jobOf l) (layoutOf (a .layout .now)) in
-    c .shared-answer .ensures ∙ ap sharedAnswer (c .before .sharing-pair .ensures) ∙ shared-check pair
+    c .shared-answer .ensures ∙ ap sharedAnswer (c .before .sharing-pair .ensures (a .size) (sym (layout-laid l (a .layout .now) none .whole))) ∙ shared-check pair
     ∙ sym (ap doneAnswer (none-then (layoutCauses l (a .layout .now)) (sharedCause pair ∷ []) tt none))
 
 pub check-spec : {M : Type 1} → statement M

@@ -7,44 +7,56 @@ use Rattle.job_laws.proofs.Checked.{facts}
 use Rattle.text_laws.specs.Outcomes.{NoCause}
 use Rattle.text_laws.proofs.Outcomes.{unless-given}
 use Rattle.text_laws.proofs.Causes.{passed-none, refused-alone}
+use Rattle.descent_laws.specs.LentLayout.{Laid}
+use Rattle.search_laws.specs.Table.{PenaltyTable}
 use Rattle.causes.proofs.Passed.{layout-laid}
+use Rattle.layout_strips.proofs.Keeping.{laid-drawable}
 use Rattle.layout_sum_calls.proofs.plain_sum.Statement.{statement}
 use Rattle.layout_sum_calls.proofs.plain_sum.Tie as tie
 
+-- the lent job
+abbrev lent : tie.Start → Lent
+lent s = lentBy (s .args .size) (s .args .table .now) (s .args .pixels .now)
+
+-- none of the causes is there
+passed : (p : tie.After-enum-told) → let s : tie.Start = search in NoCause (layoutCauses (lent s) (s .args .layout .now))
+passed p = let asked : tie.After-layout-causes = search in passed-none _ (sym (p .enum-told .given .1) ∙ asked .layout-causes .ensures)
+
+-- so the layout is one that calls take
+valid : (p : tie.After-enum-told) → let s : tie.Start = search in Laid (lent s) (s .args .layout .now)
+valid p = let s : tie.Start = search in layout-laid (lent s) (s .args .layout .now) (passed p)
+
 penalties-of-requires : tie.Need-penalties-of-requires
-penalties-of-requires c κs =
-    let at-start : tie.Start = search in
-    let a = at-start .args in
-    let l : Lent = lentBy (a .size) (a .table .now) (a .pixels .now) in
-    let none : NoCause (layoutCauses l (a .layout .now)) = passed-none _ (sym (c .enum-told .given .1) ∙ c .before .before .layout-causes .ensures) in
-    layout-laid l (a .layout .now) none
+penalties-of-requires c κs = let s : tie.Start = search in laid-drawable (lent s) (s .args .layout .now) (valid c)
+
+-- the table is that of the job's layout
+filled : (c : tie.After-penalties-of) → let s : tie.Start = search in
+    PenaltyTable (jobOf (lent s)) (layoutOf (s .args .layout .now)) (s .args .size .count) (c .penalties-of .result)
+filled c =
+    let s : tie.Start = search in
+    let told : tie.After-enum-told = search in
+    c .penalties-of .ensures (s .args .size) (sym (valid told .whole))
 
 plain-total-requires : tie.Need-plain-total-requires
 plain-total-requires c κs =
-    let at-layout-causes : tie.After-layout-causes = search in
-    let at-start : tie.Start = search in
-    let a = at-start .args in
-    let l : Lent = lentBy (a .size) (a .table .now) (a .pixels .now) in
-    let none : NoCause (layoutCauses l (a .layout .now)) =
-    passed-none _ (sym (c .before .before .enum-told .given .1) ∙ at-layout-causes .layout-causes .ensures) in
-    (facts l (layout-laid l (a .layout .now) none .well) .fewPieces, c .before .penalties-of .ensures .size)
+    let s : tie.Start = search in
+    let told : tie.After-enum-told = search in
+    let made : tie.After-penalties-of = search in
+    (facts (lent s) (valid told .well) .fewPieces, filled made .size)
 
 returns : tie.Need-returns
 unfolding plainSumCall
 returns c =
-    let at-layout-causes : tie.After-layout-causes = search in
-    rw (refused-alone _ _ _ (sym (c .before .refusal .given .1) ∙ at-layout-causes .layout-causes .ensures))
+    let asked : tie.After-layout-causes = search in
+    rw (refused-alone _ _ _ (sym (c .before .refusal .given .1) ∙ asked .layout-causes .ensures))
 
 returns-2 : tie.Need-returns-2
 unfolding plainSumCall jobOf
 returns-2 c =
-    let at-enum-told : tie.After-enum-told = search in
-    let at-layout-causes : tie.After-layout-causes = search in
-    let at-start : tie.Start = search in
-    let a = at-start .args in
-    let l : Lent = lentBy (a .size) (a .table .now) (a .pixels .now) in
-    let none : NoCause (layoutCauses l (a .layout .now)) = passed-none _ (sym (at-enum-told .enum-told .given .1) ∙ at-layout-causes .layout-causes .ensures) in
-    rw (unless-given _ _ none, c .plain-total .ensures (jobOf l) (layoutOf (a .layout .now)) refl (c .before .before .penalties-of .ensures))
+    let s : tie.Start = search in
+    let told : tie.After-enum-told = search in
+    let made : tie.After-penalties-of = search in
+    rw (unless-given _ _ (passed told), c .plain-total .ensures (jobOf (lent s)) (layoutOf (s .args .layout .now)) refl (filled made))
 
 pub plain-sum-spec : {M : Type 1} → statement M
 plain-sum-spec =

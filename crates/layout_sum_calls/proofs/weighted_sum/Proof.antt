@@ -10,9 +10,11 @@ use Rattle.job_laws.proofs.Checked.{facts}
 use Rattle.text_laws.specs.Outcomes.{NoCause}
 use Rattle.text_laws.proofs.Outcomes.{unless-given}
 use Rattle.text_laws.proofs.Causes.{passed-none, refused-alone}
+use Rattle.search_laws.specs.Table.{PenaltyTable}
 use Rattle.causes.specs.Asked.{weightedCauses}
 use Rattle.causes.proofs.Asked.{sum-asked}
 use Rattle.causes.proofs.Passed.{Weighable, weighted-passed}
+use Rattle.layout_strips.proofs.Keeping.{laid-drawable}
 use Rattle.layout_sum_calls.proofs.weighted_sum.Statement.{statement}
 use Rattle.layout_sum_calls.proofs.weighted_sum.Tie as tie
 
@@ -30,7 +32,15 @@ valid : (p : tie.After-enum-told) → let s : tie.Start = search in Weighable (l
 valid p = let s : tie.Start = search in weighted-passed (lent s) (s .args .layout .now) (s .args .weights .now) false false (passed p)
 
 penalties-of-requires : tie.Need-penalties-of-requires
-penalties-of-requires c κs = valid c .laid
+penalties-of-requires c κs = let s : tie.Start = search in laid-drawable (lent s) (s .args .layout .now) (valid c .laid)
+
+-- the table is that of the job's layout
+filled : (c : tie.After-penalties-of) → let s : tie.Start = search in
+    PenaltyTable (jobOf (lent s)) (layoutOf (s .args .layout .now)) (s .args .size .count) (c .penalties-of .result)
+filled c =
+    let s : tie.Start = search in
+    let told : tie.After-enum-told = search in
+    c .penalties-of .ensures (s .args .size) (sym (valid told .laid .whole))
 
 total-requires : tie.Need-total-requires
 unfolding jobOf
@@ -38,7 +48,7 @@ total-requires c κs =
     let s : tie.Start = search in
     let told : tie.After-enum-told = search in
     let made : tie.After-penalties-of = search in
-    record { few = facts (lent s) (valid told .laid .well) .fewPieces; size = made .penalties-of .ensures .size; onePerPair = valid told .weights .onePerPair }
+    record { few = facts (lent s) (valid told .laid .well) .fewPieces; size = filled made .size; onePerPair = valid told .weights .onePerPair }
 
 returns : tie.Need-returns
 unfolding weightedSumCall
@@ -56,7 +66,7 @@ returns-2 c =
     let told : tie.After-enum-told = search in
     let made : tie.After-penalties-of = search in
     let sum = weightedSum (jobOf (lent s)) (s .args .weights .now) (layoutOf (s .args .layout .now)) in
-    ap NumberAnswer.Number (c .total .ensures (jobOf (lent s)) (layoutOf (s .args .layout .now)) refl (made .penalties-of .ensures))
+    ap NumberAnswer.Number (c .total .ensures (jobOf (lent s)) (layoutOf (s .args .layout .now)) refl (filled made))
     ∙ sym (ap numberAnswer (sym (sum-asked (lent s) (s .args .layout .now) sum (s .args .weights .now)) ∙ unless-given _ sum (passed told)))
 
 pub weighted-sum-spec : {M : Type 1} → statement M

@@ -1,87 +1,91 @@
--- `search_table::fill_table` meets its contract. The loop's invariant: the table of the pieces passed is made. Assumes nothing.
-use Rattle.list_laws.proofs.Kit.{_∙_, _≡_, refl, subst, List, _+_, _-_, _≤_, ℕ, arith, length}
+-- `search_table::fill_table` meets its contract. The loop's invariant: the table of the pieces passed is made, and what is made of strips stands.
+-- Assumes nothing.
+use Rattle.list_laws.proofs.Kit.{_∙_, _≡_, refl, subst, _-_, _≤_, arith, length}
 use Rattle.model.specs.Lent.{lentBy, jobOf}
 use Rattle.model.specs.Buffer.{layoutOf}
+use Rattle.model.specs.declared.Direction.the-variants.{Horizontal, Vertical}
 use Rattle.model.specs.declared.JobSize.{JobSize}
-use Rattle.search_laws.specs.Table.{PenaltyTable, Renewed}
-use Rattle.search_laws.proofs.Table.{table-empty, added-begin, added-end}
-use Rattle.search_table.specs.Drawn.{Drawn}
-use Rattle.search_table.proofs.Placed.{on-sheet}
+use Rattle.search_laws.specs.Table.{PenaltyTable}
+use Rattle.search_laws.proofs.Table.{table-empty}
+use Rattle.layout_strips.specs.Kept.{Kept}
 use Rattle.search_table.proofs.fill_table.Statement.{statement}
 use Rattle.search_table.proofs.fill_table.Tie as tie
 
 abbrev Inv-loop : tie.InvT-loop
-Inv-loop rows row-starts columns column-starts table layout penalties₀ i₀ penalties i =
-    (i ≤ length layout) × (length penalties ≡ length penalties₀)
-    × ((size : JobSize) (pixels : List ℕ) → Drawn (lentBy size table pixels) rows row-starts columns column-starts layout
-    → PenaltyTable (jobOf (lentBy size table pixels)) (layoutOf layout) i penalties)
+Inv-loop table pixels layout rows₀ row-spans₀ columns₀ column-spans₀ penalties₀ i₀ rows row-spans columns column-spans penalties i =
+    (i ≤ length layout) × (length rows ≡ length rows₀) × (length row-spans ≡ length row-spans₀) × (length columns ≡ length columns₀)
+    × (length column-spans ≡ length column-spans₀) × (length penalties ≡ length penalties₀) × Kept Horizontal table pixels layout rows row-spans
+    × Kept Vertical table pixels layout columns column-spans
+    × ((size : JobSize) → PenaltyTable (jobOf (lentBy size table pixels)) (layoutOf layout) i penalties)
 
 abbrev μ-loop : tie.MeasureT-loop
-μ-loop rows row-starts columns column-starts table layout penalties₀ i₀ penalties i = length layout - i
+μ-loop table pixels layout rows₀ row-spans₀ columns₀ column-spans₀ penalties₀ i₀ rows row-spans columns column-spans penalties i = length layout - i
 
 loop-holds : tie.Need-loop-holds Inv-loop μ-loop
 loop-holds c =
-    let at-start : tie.Start Inv-loop μ-loop = search in
-    (omega arith, refl, λ size pixels d. table-empty _ _ _ (at-start .pre .1))
+    let s : tie.Start Inv-loop μ-loop = search in
+    (omega arith, refl, refl, refl, refl, refl, s .pre .1 .0, s .pre .1 .1 .0, λ size. table-empty _ _ _ (s .pre .1 .1 .1))
 
-place-at-requires : tie.Need-place-at-requires Inv-loop μ-loop
-place-at-requires c κs = c .loop-test .taken
-
-add-renew-row : tie.Need-add-renew-row Inv-loop μ-loop
-add-renew-row c = omega (arith, c .before .loop-test .taken)
-
-renew-row-requires : tie.Need-renew-row-requires Inv-loop μ-loop
-renew-row-requires c κs =
+fill-row-requires : tie.Need-fill-row-requires Inv-loop μ-loop
+fill-row-requires c κs =
     let at-loop : tie.At-loop Inv-loop μ-loop = search in
-    let at-start : tie.Start Inv-loop μ-loop = search in
-    let d = at-start .pre .0 .drawn .inRows .laid in (
-      at-start .pre .0,
-      (
-        (omega arith, omega (arith, c .before .before .loop-test .taken)),
-        (rw (c .before .place-at .ensures) (on-sheet _ _ d _ (c .before .before .loop-test .taken)), at-loop .loop .inv .1 ∙ at-start .pre .1),
-      ),
-    )
+    let s : tie.Start Inv-loop μ-loop = search in
+    let in-loop : tie.In-loop Inv-loop μ-loop = search in
+    let l = at-loop .loop in
+    (s .pre .0, (in-loop .loop-test .taken, (l .inv .6, (l .inv .7, l .inv .5 ∙ s .pre .1 .1 .1))))
 
 add-i : tie.Need-add-i Inv-loop μ-loop
 add-i c =
+    let s : tie.Start Inv-loop μ-loop = search in
     let in-loop : tie.In-loop Inv-loop μ-loop = search in
-    omega (arith, in-loop .loop-test .taken)
+    let few = s .pre .0 .few in
+    let taken = in-loop .loop-test .taken in omega arith
 
 loop-less : tie.Need-loop-less Inv-loop μ-loop
-loop-less c =
-    let in-loop : tie.In-loop Inv-loop μ-loop = search in
-    omega (arith, in-loop .loop-test .taken)
+loop-less c = let in-loop : tie.In-loop Inv-loop μ-loop = search in let l = in-loop .loop-test .taken in omega arith
 
 loop-again : tie.Need-loop-again Inv-loop μ-loop
 loop-again c =
-    let at-place-at : tie.After-place-at Inv-loop μ-loop = search in
-    let in-loop : tie.In-loop Inv-loop μ-loop = search in
     let at-loop : tie.At-loop Inv-loop μ-loop = search in
-    let at-start : tie.Start Inv-loop μ-loop = search in
-    let a = at-start .args in
-    let l = at-loop .loop in (
-      omega (arith, in-loop .loop-test .taken),
-      c .before .before .renew-row .kept .1 .1 .1 .1 .1 .1 .1 .1 .1 .0 ∙ l .inv .1,
-      λ size pixels d.
-          let j = jobOf (lentBy size (a .table .now) pixels) in
-          let v = layoutOf (a .layout .now) in
-          let T = c .before .before .renew-row .last .1 .1 .1 .1 .1 .1 .1 .1 .1 .0 in
-          added-end j v (l .i) T
-          (subst (λ p. Renewed j v (l .i + 1) (l .i) p (l .i + 1) T) (at-place-at .place-at .ensures)
-          (c .before .before .renew-row .ensures size pixels d
-          (added-begin j v (l .i) (at-place-at .place-at .result) (l .penalties) (l .inv .2 size pixels d)))),
+    let in-loop : tie.In-loop Inv-loop μ-loop = search in
+    let filled : tie.After-fill-row Inv-loop μ-loop = search in
+    let l = at-loop .loop in
+    let row = filled .fill-row in
+    let taken = in-loop .loop-test .taken in (
+      omega arith,
+      row .kept .1 .1 .1 .1 .0 ∙ l .inv .1,
+      row .kept .1 .1 .1 .1 .1 .0 ∙ l .inv .2,
+      row .kept .1 .1 .1 .1 .1 .1 .0 ∙ l .inv .3,
+      row .kept .1 .1 .1 .1 .1 .1 .1 .0 ∙ l .inv .4,
+      row .kept .1 .1 .1 .1 .1 .1 .1 .1 .0 ∙ l .inv .5,
+      row .ensures .1 .0,
+      row .ensures .1 .1,
+      λ size. row .ensures .0 size (l .inv .8 size),
     )
 
 same-length : tie.Need-same-length Inv-loop μ-loop
-same-length c = c .before .loop .inv .1
+same-length c = let at-loop : tie.At-loop Inv-loop μ-loop = search in at-loop .loop .inv .1
+
+same-length-2 : tie.Need-same-length-2 Inv-loop μ-loop
+same-length-2 c = let at-loop : tie.At-loop Inv-loop μ-loop = search in at-loop .loop .inv .2
+
+same-length-3 : tie.Need-same-length-3 Inv-loop μ-loop
+same-length-3 c = let at-loop : tie.At-loop Inv-loop μ-loop = search in at-loop .loop .inv .3
+
+same-length-4 : tie.Need-same-length-4 Inv-loop μ-loop
+same-length-4 c = let at-loop : tie.At-loop Inv-loop μ-loop = search in at-loop .loop .inv .4
+
+same-length-5 : tie.Need-same-length-5 Inv-loop μ-loop
+same-length-5 c = let at-loop : tie.At-loop Inv-loop μ-loop = search in at-loop .loop .inv .5
 
 returns : tie.Need-returns Inv-loop μ-loop
-returns c = λ size pixels d.
-    let at-start : tie.Start Inv-loop μ-loop = search in
-    let a = at-start .args in
-    let l = c .before .loop in
-    let done : l .i ≡ length (a .layout .now) = omega (arith, l .inv .0, c .loop-test .left) in
-    subst (λ n. PenaltyTable (jobOf (lentBy size (a .table .now) pixels)) (layoutOf (a .layout .now)) n (l .penalties)) done (l .inv .2 size pixels d)
+returns c = λ size whole.
+    let at-loop : tie.At-loop Inv-loop μ-loop = search in
+    let s : tie.Start Inv-loop μ-loop = search in
+    let a = s .args in
+    let l = at-loop .loop in
+    let done : l .i ≡ size .count = omega (arith, whole, l .inv .0, c .loop-test .left) in
+    subst (λ n. PenaltyTable (jobOf (lentBy size (a .table .now) (a .pixels .now))) (layoutOf (a .layout .now)) n (l .penalties)) done (l .inv .8 size)
 
 pub fill-table-spec : {M : Type 1} → statement M
 fill-table-spec =
@@ -90,11 +94,13 @@ fill-table-spec =
     Inv-loop
     μ-loop
     loop-holds
-    place-at-requires
-    add-renew-row
-    renew-row-requires
+    fill-row-requires
     add-i
     loop-less
     loop-again
     same-length
+    same-length-2
+    same-length-3
+    same-length-4
+    same-length-5
     returns)

@@ -1,47 +1,61 @@
 -- `layout_sum_calls::sharing::sharing_in_row` meets its contract. The loop's invariant: the row's first pair that shares a pixel is among those
--- left. Assumes nothing.
-use Rattle.list_laws.proofs.Kit.{_∙_, sym, List, _-_, ℕ, length, needs}
+-- left, and what is made of strips stands. Assumes nothing.
+use Rattle.list_laws.proofs.Kit.{_∙_, _≡_, refl, sym, _-_, arith, length, needs}
 use Rattle.model.specs.Layout.{pairShares}
 use Rattle.model.specs.Lent.{lentBy, jobOf}
 use Rattle.model.specs.Buffer.{layoutOf}
+use Rattle.model.specs.declared.Direction.the-variants.{Horizontal}
 use Rattle.model.specs.declared.JobSize.{JobSize}
-use Rattle.search_table.specs.Drawn.{RowsDrawn}
+use Rattle.layout_strips.specs.Kept.{Kept}
 use Rattle.layout_sum_calls.proofs.FirstPair.{LeftInRow, row-begin, row-first, row-next, row-none}
 use Rattle.layout_sum_calls.proofs.sharing.sharing_in_row.Statement.{statement}
 use Rattle.layout_sum_calls.proofs.sharing.sharing_in_row.Tie as tie
 
 abbrev Inv-loop : tie.InvT-loop
-Inv-loop rows row-starts table layout i k₀ k =
-    (size : JobSize) (pixels : List ℕ) → RowsDrawn (lentBy size table pixels) rows row-starts layout
-    → LeftInRow (pairShares (jobOf (lentBy size table pixels)) (layoutOf layout)) (length layout) i k
+Inv-loop table pixels layout i rows₀ row-spans₀ k₀ rows row-spans k =
+    ((size : JobSize) → LeftInRow (pairShares (jobOf (lentBy size table pixels)) (layoutOf layout)) (length layout) i k)
+    × (length rows ≡ length rows₀) × (length row-spans ≡ length row-spans₀) × Kept Horizontal table pixels layout rows row-spans
 
 abbrev μ-loop : tie.MeasureT-loop
-μ-loop rows row-starts table layout i k₀ k = length layout - k
+μ-loop table pixels layout i rows₀ row-spans₀ k₀ rows row-spans k = length layout - k
 
 loop-holds : tie.Need-loop-holds Inv-loop μ-loop
-loop-holds c = λ size pixels d. row-begin _ _ _
+loop-holds c = let s : tie.Start Inv-loop μ-loop = search in (λ size. row-begin _ _ _, refl, refl, s .pre .1 .1)
 
-pair-shares-requires : tie.Need-pair-shares-requires Inv-loop μ-loop
-pair-shares-requires c κs =
-    let at-start : tie.Start Inv-loop μ-loop = search in
-    (at-start .pre .0, (at-start .pre .1, c .loop-test .taken))
+shares-of-requires : tie.Need-shares-of-requires Inv-loop μ-loop
+shares-of-requires c κs =
+    let at-loop : tie.At-loop Inv-loop μ-loop = search in
+    let in-loop : tie.In-loop Inv-loop μ-loop = search in
+    let s : tie.Start Inv-loop μ-loop = search in
+    (s .pre .0, ((s .pre .1 .0, in-loop .loop-test .taken), at-loop .loop .inv .3))
 
 returns : tie.Need-returns Inv-loop μ-loop
-returns c = λ size pixels d.
+returns c =
     let at-loop : tie.At-loop Inv-loop μ-loop = search in
-    row-first _ _ _ _ (c .before .before .loop-test .taken) (sym (c .before .pair-shares .ensures size pixels d) ∙ c .if1 .taken)
-    (at-loop .loop .inv size pixels d)
+    let in-loop : tie.In-loop Inv-loop μ-loop = search in
+    let asked : tie.After-shares-of Inv-loop μ-loop = search in (
+      λ size. row-first _ _ _ _ (in-loop .loop-test .taken) (sym (asked .shares-of .ensures .0 size) ∙ c .if1 .taken) (at-loop .loop .inv .0 size),
+      asked .shares-of .ensures .1,
+    )
 
 loop-again : tie.Need-loop-again Inv-loop μ-loop
-loop-again c = λ size pixels d.
+loop-again c =
     let at-loop : tie.At-loop Inv-loop μ-loop = search in
-    row-next _ _ _ _ (c .before .before .loop-test .taken) (sym (c .before .pair-shares .ensures size pixels d) ∙ c .if1 .left)
-    (at-loop .loop .inv size pixels d)
+    let in-loop : tie.In-loop Inv-loop μ-loop = search in
+    let asked : tie.After-shares-of Inv-loop μ-loop = search in (
+      λ size. row-next _ _ _ _ (in-loop .loop-test .taken) (sym (asked .shares-of .ensures .0 size) ∙ c .if1 .left) (at-loop .loop .inv .0 size),
+      asked .shares-of .kept .1 .1 .1 .1 .1 .0 ∙ at-loop .loop .inv .1,
+      asked .shares-of .kept .1 .1 .1 .1 .1 .1 .0 ∙ at-loop .loop .inv .2,
+      asked .shares-of .ensures .1,
+    )
 
 returns-2 : tie.Need-returns-2 Inv-loop μ-loop
-returns-2 c = λ size pixels d. row-none _ _ _ _ (c .loop-test .left) (c .before .loop .inv size pixels d)
+returns-2 c =
+    let at-loop : tie.At-loop Inv-loop μ-loop = search in
+    (λ size. row-none _ _ _ _ (c .loop-test .left) (at-loop .loop .inv .0 size), at-loop .loop .inv .3)
 
 pub sharing-in-row-spec : {M : Type 1} → statement M
 sharing-in-row-spec =
     tie.close (tie.spec
-    Inv-loop μ-loop (search needs) loop-holds pair-shares-requires returns (search needs) (search needs) loop-again returns-2)
+    Inv-loop μ-loop (search needs) loop-holds shares-of-requires (search needs) (search needs) returns (search needs) (search needs) loop-again
+    (search needs) (search needs) returns-2)

@@ -1,12 +1,12 @@
--- `search_table::pair::boxes_meet` meets its contract: boxes that do not meet along rows or columns share no pixel. Assumes nothing.
+-- `layout_strips::boxes::boxes_meet` meets its contract: boxes that do not meet along rows or columns share no pixel. Assumes nothing.
 use Rattle.list_laws.proofs.Kit.{_∙_, sym, needs, not-true}
 use Rattle.model.specs.Piece.{corner}
 use Rattle.model.specs.Layout.{turnedPiece}
 use Rattle.model.specs.Lent.{Lent, lentBy, jobOf}
 use Rattle.model.specs.declared.Direction.the-variants.{Horizontal, Vertical}
-use Rattle.search_table.proofs.Placed.{boxes-apart}
-use Rattle.search_table.proofs.pair.boxes_meet.Statement.{statement}
-use Rattle.search_table.proofs.pair.boxes_meet.Tie as tie
+use Rattle.layout_strips.proofs.Apart.{boxes-apart}
+use Rattle.layout_strips.proofs.boxes.boxes_meet.Statement.{statement}
+use Rattle.layout_strips.proofs.boxes.boxes_meet.Tie as tie
 
 returns : tie.Need-returns
 returns c = λ e size pixels.

@@ -1,7 +1,7 @@
--- `search_table::pair::spans_meet` meets its contract: each way out follows one of the two tests. Assumes nothing.
+-- `layout_strips::boxes::spans_meet` meets its contract: each way out follows one of the two tests. Assumes nothing.
 use Rattle.list_laws.proofs.Kit.{needs, le-ltb, lt-ltb}
-use Rattle.search_table.proofs.pair.spans_meet.Statement.{statement}
-use Rattle.search_table.proofs.pair.spans_meet.Tie as tie
+use Rattle.layout_strips.proofs.boxes.spans_meet.Statement.{statement}
+use Rattle.layout_strips.proofs.boxes.spans_meet.Tie as tie
 
 returns : tie.Need-returns
 returns c = simp (lt-ltb _ _ (c .if1 .taken))
