@@ -108,40 +108,7 @@ fn depth_of(
     )
 }
 
-// The depth of two pieces of a layout along the rows, cut off at a bound. Boxes that do not meet share no pixel, so that no strips are made for them.
-fn depth_along_rows(
-    table: &[PieceEntry],
-    pixels: &[u8],
-    layout: &[PlaceEntry],
-    i: usize,
-    k: usize,
-    bound: u32,
-    rows: &mut [StripEntry],
-    row_spans: &mut [StripSpan],
-) -> u32
-    requires { ⌜ Drawable (now table) (now layout) ⌝ ∗ ⌜ (i < length (now layout)) × (k < length (now layout)) ⌝ ∗ ⌜ bound ≤ 256 ⌝ ∗ ⌜ Kept Horizontal (now table) (now pixels) (now layout) (now rows) (now «row_spans») ⌝ }
-    ensures depth { λ r. ⌜ ((size : JobSize) → r ≡ min (depth Horizontal (drawnShape size (now (table .entry)) (now (pixels .entry)) (now (layout .entry)) i) (cornerIn (layoutOf (now (layout .entry))) i) (drawnShape size (now (table .entry)) (now (pixels .entry)) (now (layout .entry)) k) (cornerIn (layoutOf (now (layout .entry))) k)) bound) ⌝ }
-    ensures kept { λ r. ⌜ Kept Horizontal (now (table .entry)) (now (pixels .entry)) (now (layout .entry)) (now (rows .exit)) (now («row_spans» .exit)) ⌝ }
-{
-    let p = place_at(layout, i);
-    let q = place_at(layout, k);
-    if !boxes_meet(table, i, p, k, q) {
-        return 0;
-    }
-    depth_of(
-        table,
-        pixels,
-        layout,
-        i,
-        k,
-        Direction::Horizontal,
-        bound,
-        rows,
-        row_spans,
-    )
-}
-
-// Whether two pieces of a layout share a pixel: the walk over their strips ends at the first.
+// Whether two pieces of a layout share a pixel: the walk over their strips ends at the first. No strips are made for boxes that do not meet.
 pub fn shares_of(
     table: &[PieceEntry],
     pixels: &[u8],
@@ -155,11 +122,25 @@ pub fn shares_of(
     ensures shares { λ r. ⌜ ((size : JobSize) → r ≡ pairShares (jobOf (lentBy size (now (table .entry)) (now (pixels .entry)))) (layoutOf (now (layout .entry))) (pairOf i k)) ⌝ }
     ensures kept { λ r. ⌜ Kept Horizontal (now (table .entry)) (now (pixels .entry)) (now (layout .entry)) (now (rows .exit)) (now («row_spans» .exit)) ⌝ }
 {
-    depth_along_rows(table, pixels, layout, i, k, 1, rows, row_spans) == 1
+    if !boxes_meet(table, layout, i, k) {
+        return false;
+    }
+    depth_of(
+        table,
+        pixels,
+        layout,
+        i,
+        k,
+        Direction::Horizontal,
+        1,
+        rows,
+        row_spans,
+    )
+        == 1
 }
 
-// The penalty of two pieces of a layout: the lesser depth. The depth along the columns is cut off at the one along the rows, and not asked for, nor
-// are column strips made, where that is 0.
+// The penalty of two pieces of a layout: the lesser depth. No strips are made for boxes that do not meet; the depth along the columns is cut off at
+// the one along the rows, and not asked for, nor are column strips made, where that is 0.
 pub fn penalty_of(
     table: &[PieceEntry],
     pixels: &[u8],
@@ -177,7 +158,20 @@ pub fn penalty_of(
     ensures rows { λ r. ⌜ Kept Horizontal (now (table .entry)) (now (pixels .entry)) (now (layout .entry)) (now (rows .exit)) (now («row_spans» .exit)) ⌝ }
     ensures columns { λ r. ⌜ Kept Vertical (now (table .entry)) (now (pixels .entry)) (now (layout .entry)) (now (columns .exit)) (now («column_spans» .exit)) ⌝ }
 {
-    let along_rows = depth_along_rows(table, pixels, layout, i, k, 256, rows, row_spans);
+    if !boxes_meet(table, layout, i, k) {
+        return 0;
+    }
+    let along_rows = depth_of(
+        table,
+        pixels,
+        layout,
+        i,
+        k,
+        Direction::Horizontal,
+        256,
+        rows,
+        row_spans,
+    );
     if along_rows == 0 {
         return 0;
     }

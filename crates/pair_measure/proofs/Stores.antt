@@ -1,6 +1,6 @@
 -- The strips of two pieces of a job in a local store: they are few enough to fit it, and each piece's part of it is its stretch, which
 -- the functions over strips can take. Assumes nothing.
-use Rattle.list_laws.proofs.Kit.{_∙_, _≡_, ap, subst, sym, List, _++_, append-assoc, map, _*_, _+_, _-_, _<_, _≤_, ℕ, arith, drop, length, length-map, take}
+use Rattle.list_laws.proofs.Kit.{_∙_, _≡_, ap, subst, sym, List, _++_, append-assoc, map, _*_, _+_, _-_, _<_, _≤_, ℕ, mul-le-mul, arith, drop, length, length-map, take}
 use Rattle.list_laws.proofs.Kit.{drop-at, length-sets, sets-eq, take-at}
 use Rattle.model.specs.Piece.{Shape, extent, other, corner}
 use Rattle.model.specs.Strip.{Strip, strips}
@@ -19,7 +19,7 @@ use Rattle.pair_overlap.specs.Meet.{Ordered, Near, depthBelow}
 use Rattle.pair_overlap.specs.declared.Corner.{Corner}
 use Rattle.pair_overlap.specs.Seen.{entries, seen}
 use Rattle.pair_overlap.proofs.Shapes.{entries-ordered}
-use Rattle.pair_measure.specs.Ready.{Together, pairRoom}
+use Rattle.pair_measure.specs.Ready.{Roomy}
 use Rattle.pair_measure.proofs.Rooms.{strips-half}
 
 -- the shapes of a job do not depend on its sheet: any will do
@@ -72,19 +72,25 @@ module _ (size : JobSize) (table : List (List ℕ)) (pixels : List ℕ) (i : ℕ
       let s : Shape = lentShape (lentBy size table pixels) i in
       omega (arith, strips-half d t s, turned-extent (other d) t s 255 (e .columns) (e .rows))
 
+  -- so they are at most 65,536
+  pub piece-most : length (strips d (turnedPiece (jobOf (lentBy size table pixels)) i t)) ≤ 65536
+  piece-most =
+      let area : entryArea table i ≤ 255 * 255 = mul-le-mul (e .columns) (e .rows) in
+      let few = piece-few in omega arith
+
   -- its stretch is in order
   pub piece-ordered : Ordered (entries d (turnedPiece (jobOf (lentBy size table pixels)) i t))
   piece-ordered = entries-ordered d _ piece-extent
 
 module _ (size : JobSize) (table : List (List ℕ)) (pixels : List ℕ) (i k : ℕ) (e : EntryAt table i (pixelStart table i))
-    (f : EntryAt table k (pixelStart table k)) (g : Together table i k) (t u : Turn) (d : Direction) where
+    (f : EntryAt table k (pixelStart table k)) (n : ℕ) (g : Roomy table i k n) (t u : Turn) (d : Direction) where
   -- the strips of two pieces have room in a store
   pub both-few : length (strips d (turnedPiece (jobOf (lentBy size table pixels)) i t))
-      + length (strips d (turnedPiece (jobOf (lentBy size table pixels)) k u)) ≤ pairRoom
+      + length (strips d (turnedPiece (jobOf (lentBy size table pixels)) k u)) ≤ n
   both-few = omega (arith, piece-few size table pixels i e t d, piece-few size table pixels k f u d)
 
   -- and stand in it one behind the other
-  pub both-behind : (before between after : List (List ℕ)) (middle end : ℕ) → length before ≡ pairRoom
+  pub both-behind : (before between after : List (List ℕ)) (middle end : ℕ) → length before ≡ n
       → Appended (strips d (turnedPiece (jobOf (lentBy size table pixels)) i t)) before 0 between middle
       → Appended (strips d (turnedPiece (jobOf (lentBy size table pixels)) k u)) between middle after end
       → StretchBehind (strips d (turnedPiece (jobOf (lentBy size table pixels)) i t)) (strips d (turnedPiece (jobOf (lentBy size table pixels)) k u))

@@ -1,5 +1,6 @@
 // Depth and penalty of two placed pieces. Document 01, 'No-fit rows and penalty'. The strips of both pieces in their turns are put into
-// one local store, the second piece's behind the first's, and the functions of pair_overlap are lent each piece's part of it.
+// one local store, the second piece's behind the first's, and the functions of pair_overlap are lent each piece's part of it. A store is
+// cleared when it is made, so that small pieces have a small one.
 //
 // What a penalty costs: a walk over two stretches takes a step for each strip of the lines that both pieces have, and a depth a few
 // walks for each sign, two where each line has one strip; the penalty is at most two depths, the second cut off at the first.
@@ -9,8 +10,10 @@ use model::Placement;
 use model::StripEntry;
 use model::Turn;
 use pair_overlap::Corner;
+use piece_table::area_of;
 ghost use mathlib.Core.Path.{_≡_};
-ghost use Prim.Native.Nat.{min, _≤_, _^_};
+ghost use mathlib.Core.Bool.{true};
+ghost use Prim.Native.Nat.{min, _<_, _≤_, _^_};
 ghost use lib.ListN.{length};
 ghost use Rattle.model.specs.Piece.{corner};
 ghost use Rattle.model.specs.Strip.{strips};
@@ -21,16 +24,34 @@ ghost use Rattle.model.specs.declared.JobSize.{JobSize};
 ghost use Rattle.job_laws.specs.Entries.{EntryAt};
 ghost use Rattle.strip_scan.specs.Put.{Appended};
 ghost use Rattle.pair_overlap.specs.Seen.{seen};
-ghost use Rattle.pair_measure.specs.Ready.{MeasureReady, Together, pairRoom};
+ghost use Rattle.pair_measure.specs.Ready.{MeasureReady, Together, Roomy, pairRoom, smallRoom};
 
 // The most strips of two pieces of a job along a direction.
 const PAIR_ROOM: usize = 33023;
+
+// The strips of a small store: room for those of two pieces whose boxes have 7,682 pixels together.
+const SMALL_ROOM: usize = 4096;
 
 // A store with room for the strips of any two pieces of a job along a direction. What it holds plays no part.
 fn empty_store() -> [StripEntry; PAIR_ROOM]
     ensures { λ r. ⌜ length r ≡ pairRoom ⌝ }
 {
     [[0u8; 3]; PAIR_ROOM]
+}
+
+// A small store. What it holds plays no part.
+fn small_store() -> [StripEntry; SMALL_ROOM]
+    ensures { λ r. ⌜ length r ≡ smallRoom ⌝ }
+{
+    [[0u8; 3]; SMALL_ROOM]
+}
+
+// Whether a small store has room for the strips of two pieces.
+fn few_strips(table: &[PieceEntry], i: usize, k: usize) -> bool
+    requires { ⌜ (i < length (now table)) × (k < length (now table)) ⌝ }
+    ensures { λ r. ⌜ (r ≡ true → Roomy (now (table .entry)) i k smallRoom) ⌝ }
+{
+    area_of(table, i) + area_of(table, k) + 510 <= 2 * SMALL_ROOM
 }
 
 // Puts the strips of a piece in a turn into a store from `at` on, and tells where the next strip would stand.
@@ -80,7 +101,7 @@ fn depth_in(
     bound: u32,
     store: &mut [StripEntry],
 ) -> u32
-    requires { ⌜ MeasureReady (now table) i p ⌝ ∗ ⌜ MeasureReady (now table) k q ⌝ ∗ ⌜ Together (now table) i k ⌝ ∗ ⌜ bound ≤ 256 ⌝ ∗ ⌜ length (now store) ≡ pairRoom ⌝ }
+    requires { ⌜ MeasureReady (now table) i p ⌝ ∗ ⌜ MeasureReady (now table) k q ⌝ ∗ ⌜ bound ≤ 256 ⌝ ∗ ⌜ Roomy (now table) i k (length (now store)) ⌝ }
     ensures { λ r. ⌜ ((size : JobSize) → r ≡ min (depth direction (turnedPiece (jobOf (lentBy size (now (table .entry)) (now (pixels .entry)))) i (p .turn)) (corner p) (turnedPiece (jobOf (lentBy size (now (table .entry)) (now (pixels .entry)))) k (q .turn)) (corner q)) bound) ⌝ }
 {
     let first = p.turn;
@@ -109,35 +130,29 @@ pub fn placed_depth(
     requires { ⌜ MeasureReady (now table) i p ⌝ ∗ ⌜ MeasureReady (now table) k q ⌝ ∗ ⌜ Together (now table) i k ⌝ ∗ ⌜ bound ≤ 256 ⌝ }
     ensures { λ r. ⌜ ((size : JobSize) → r ≡ min (depth direction (turnedPiece (jobOf (lentBy size (now (table .entry)) (now (pixels .entry)))) i (p .turn)) (corner p) (turnedPiece (jobOf (lentBy size (now (table .entry)) (now (pixels .entry)))) k (q .turn)) (corner q)) bound) ⌝ }
 {
+    if few_strips(table, i, k) {
+        let mut store = small_store();
+        return depth_in(table, pixels, i, p, k, q, direction, bound, &mut store);
+    }
     let mut store = empty_store();
     depth_in(table, pixels, i, p, k, q, direction, bound, &mut store)
 }
 
-// The penalty of two placed pieces: the lesser depth. The store holds the row strips, then the column strips; the second depth is cut
+// The penalty of two placed pieces: the lesser depth. The lent store holds the row strips, then the column strips; the second depth is cut
 // off at the first, and not asked for where that is 0.
-pub fn placed_penalty(
+fn penalty_in(
     table: &[PieceEntry],
     pixels: &[u8],
     i: usize,
     p: Placement,
     k: usize,
     q: Placement,
+    store: &mut [StripEntry],
 ) -> u32
-    requires { ⌜ MeasureReady (now table) i p ⌝ ∗ ⌜ MeasureReady (now table) k q ⌝ ∗ ⌜ Together (now table) i k ⌝ }
+    requires { ⌜ MeasureReady (now table) i p ⌝ ∗ ⌜ MeasureReady (now table) k q ⌝ ∗ ⌜ Roomy (now table) i k (length (now store)) ⌝ }
     ensures { λ r. ⌜ ((size : JobSize) → r ≡ penalty (turnedPiece (jobOf (lentBy size (now (table .entry)) (now (pixels .entry)))) i (p .turn)) (corner p) (turnedPiece (jobOf (lentBy size (now (table .entry)) (now (pixels .entry)))) k (q .turn)) (corner q)) ⌝ }
 {
-    let mut store = empty_store();
-    let along_rows = depth_in(
-        table,
-        pixels,
-        i,
-        p,
-        k,
-        q,
-        Direction::Horizontal,
-        256,
-        &mut store,
-    );
+    let along_rows = depth_in(table, pixels, i, p, k, q, Direction::Horizontal, 256, store);
     if along_rows == 0 {
         return 0;
     }
@@ -150,6 +165,26 @@ pub fn placed_penalty(
         q,
         Direction::Vertical,
         along_rows,
-        &mut store,
+        store,
     )
+}
+
+// The penalty of two placed pieces.
+pub fn placed_penalty(
+    table: &[PieceEntry],
+    pixels: &[u8],
+    i: usize,
+    p: Placement,
+    k: usize,
+    q: Placement,
+) -> u32
+    requires { ⌜ MeasureReady (now table) i p ⌝ ∗ ⌜ MeasureReady (now table) k q ⌝ ∗ ⌜ Together (now table) i k ⌝ }
+    ensures { λ r. ⌜ ((size : JobSize) → r ≡ penalty (turnedPiece (jobOf (lentBy size (now (table .entry)) (now (pixels .entry)))) i (p .turn)) (corner p) (turnedPiece (jobOf (lentBy size (now (table .entry)) (now (pixels .entry)))) k (q .turn)) (corner q)) ⌝ }
+{
+    if few_strips(table, i, k) {
+        let mut store = small_store();
+        return penalty_in(table, pixels, i, p, k, q, &mut store);
+    }
+    let mut store = empty_store();
+    penalty_in(table, pixels, i, p, k, q, &mut store)
 }

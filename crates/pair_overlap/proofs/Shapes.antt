@@ -1,6 +1,6 @@
 -- What the definitions over lent stretches come to for the strips of pixel sets, in every direction: the stretches share a pixel
--- exactly when the placed sets do, and the bounded depth and penalty are document 01's, cut off at the bound. Strips hold just
--- the pixels of their set, so a common pixel of two strips is a shared pixel, and a shared pixel lies in a strip of each.
+-- exactly when the placed sets do, and the bounded depth is document 01's, cut off at the bound. Strips hold just the pixels of
+-- their set, so a common pixel of two strips is a shared pixel, and a shared pixel lies in a strip of each.
 -- Assumes nothing.
 use Rattle.list_laws.proofs.Kit.{_∙_, _≡_, ap, ap₂, refl, subst, subst₂, sym, Bool, _||_, not, true, ⊎-elim, List, List·Memᴰ, List·Memᴰ·head}
 use Rattle.list_laws.proofs.Kit.{List·Memᴰ·not-nil, List·Memᴰ·tail, [], _∷_, map, _+_, _-_, _<_, _≤_, min, suc, zero, ℕ, eq-or-lt-of-le, le-of-suc-le-suc}
@@ -9,9 +9,8 @@ use Rattle.model.specs.Bounded.{firstFrom}
 use Rattle.model.specs.Piece.{Point, Shape, along, across, point, shift, extent}
 use Rattle.model.specs.Strip.{Strip, strips}
 use Rattle.model.specs.Buffer.{stripEntry}
-use Rattle.model.specs.Overlap.{share, apartAt, depth, penalty}
+use Rattle.model.specs.Overlap.{share, apartAt, depth}
 use Rattle.model.specs.declared.Direction.{Direction}
-use Rattle.model.specs.declared.Direction.the-variants.{Horizontal, Vertical}
 use Rattle.list_laws.proofs.Firsts.{FirstBelow, first-found, first-unique}
 use Rattle.list_laws.proofs.Numbers.{below-or}
 use Rattle.list_laws.proofs.Lists.{member-at}
@@ -23,7 +22,7 @@ use Rattle.overlap_laws.specs.Overlap.{SharedPixel}
 use Rattle.overlap_laws.proofs.Share.{share-witness, share-from, share-symmetric, shared-along, shared-across, shared-over, along-point, across-point}
 use Rattle.overlap_laws.proofs.Share.{along-shift, across-shift}
 use Rattle.overlap_laws.proofs.Depth.{depth-before, depth-apart}
-use Rattle.pair_overlap.specs.Meet.{stripAt, stripBegin, Ordered, shifted, meet, stretchesShare, clearAt, clearBelow, depthBelow, penaltyBelow}
+use Rattle.pair_overlap.specs.Meet.{stripAt, stripBegin, Ordered, shifted, meet, stretchesShare, clearAt, clearBelow, depthBelow}
 pub use Rattle.pair_overlap.specs.Seen.{entries, seen}
 use Rattle.pair_overlap.proofs.Walk.{Meeting, meet-facts, facts-meet, meet-share, StripsMeet, share-meet}
 
@@ -211,16 +210,3 @@ module _ (d : Direction) (s : Shape) (u : Point) (t : Shape) (v : Point) where
   pub entries-depth : (bound : ℕ) → depthBelow (entries d s) (seen d u) (entries d t) (seen d v) bound ≡ min (depth d s u t v) bound
   entries-depth bound =
       first-unique (apartAt d s u t v) bound _ (depth-first bound) ∙ sym (first-unique (apartAt d s u t v) bound _ (depth-cut-first bound))
-
--- the lesser of two numbers, cut off
-lesser-cut : (a b n : ℕ) → min (min a n) (min b n) ≡ min (min a b) n
-lesser-cut a b n = omega arith
-
--- the bounded penalty of row strips and column strips is the penalty, cut off at the bound
-pub entries-penalty : (s : Shape) (u : Point) (t : Shape) (v : Point) (bound : ℕ)
-    → penaltyBelow (entries Horizontal s) (entries Vertical s) (seen Horizontal u) (entries Horizontal t) (entries Vertical t) (seen Horizontal v) bound
-    ≡ min (penalty s u t v) bound
-unfolding penalty
-entries-penalty s u t v bound =
-    ap₂ min (entries-depth Horizontal s u t v bound) (entries-depth Vertical s u t v bound)
-    ∙ lesser-cut (depth Horizontal s u t v) (depth Vertical s u t v) bound

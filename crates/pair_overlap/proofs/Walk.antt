@@ -10,7 +10,7 @@ use Rattle.list_laws.proofs.Numbers.{below-or}
 use Rattle.list_laws.proofs.Tests.{and-left, and-right, and-both, fails}
 use Rattle.list_laws.proofs.Bounded.{any-witness, any-from}
 use Rattle.pair_overlap.specs.Meet.{stripAt, stripBegin, Ordered, Crossing, CrossingsPassed, Skipped, shiftBound, baseOf, shifted, meet, stretchesShare}
-use Rattle.pair_overlap.specs.Meet.{clearAt, clearBelow, depthBelow}
+use Rattle.pair_overlap.specs.Meet.{clearAt, clearBelow}
 use Rattle.pair_overlap.specs.declared.Corner.{Corner}
 
 -- what it is for two placed strips to hold a common pixel
@@ -234,8 +234,3 @@ pub clear-cut : (es : List (List ℕ)) (u : Corner) (fs : List (List ℕ)) (v : 
     → clearBelow es u fs v p ≡ min p (clearBelow es u fs v bound)
 unfolding clearBelow
 clear-cut es u fs v bound p l = first-cut (clearAt es u fs v) bound p l
-
--- and so is the depth
-pub depth-cut : (es : List (List ℕ)) (u : Corner) (fs : List (List ℕ)) (v : Corner) (bound p : ℕ) → p ≤ bound
-    → depthBelow es u fs v p ≡ min p (depthBelow es u fs v bound)
-depth-cut es u fs v bound p l = omega (arith, clear-cut es u fs v bound p l, clear-cut fs v es u bound p l)

@@ -101,15 +101,6 @@ clearBelow es u fs v bound = firstFrom (clearAt es u fs v) 0 bound
 abbrev pub depthBelow : List (List ℕ) → Corner → List (List ℕ) → Corner → ℕ → ℕ
 depthBelow es u fs v bound = min (clearBelow es u fs v bound) (clearBelow fs v es u bound)
 
--- a corner as the other direction sees it
-abbrev pub crossed : Corner → Corner
-crossed u = record { along = u .across; across = u .along }
-
--- the lesser depth of two pieces, of row strips and of column strips; the corners are seen along the rows
-abbrev pub penaltyBelow : List (List ℕ) → List (List ℕ) → Corner → List (List ℕ) → List (List ℕ) → Corner → ℕ → ℕ
-penaltyBelow rows columns u rows′ columns′ v bound =
-    min (depthBelow rows u rows′ v bound) (depthBelow columns (crossed u) columns′ (crossed v) bound)
-
 -- what one walk tells of the shifts of the second: at all below r's shift they hold a common pixel; if that is 0 they hold none at
 -- any up to r's room
 pub record Slid (es : List (List ℕ)) (u : Corner) (fs : List (List ℕ)) (v : Corner) (limit : ℕ) (r : Leeway) : Type 0 where

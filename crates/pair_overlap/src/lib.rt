@@ -6,7 +6,7 @@ use whole_numbers::wide;
 ghost use mathlib.Core.Path.{_≡_};
 ghost use Prim.Native.Nat.{_+_, _<_, _≤_, min};
 ghost use lib.ListN.{length};
-ghost use Rattle.pair_overlap.specs.Meet.{stripAt, baseOf, Ordered, Near, NearShifted, shiftBound, SpanOf, Skipped, WalkBegun, Slid, ClearStretch, stretchesShare, clearBelow, depthBelow, penaltyBelow};
+ghost use Rattle.pair_overlap.specs.Meet.{stripAt, baseOf, Ordered, Near, NearShifted, shiftBound, SpanOf, Skipped, WalkBegun, Slid, ClearStretch, clearBelow, depthBelow};
 
 // How far the begin of a line lies from that of the next: more than any place along a line.
 const LINE_STEP: u32 = 65536;
@@ -124,33 +124,6 @@ fn walk_start(a: &[StripEntry], x: u32, b: &[StripEntry], y: u32) -> Heads
     Heads { first, second }
 }
 
-// Whether the two pieces share a pixel. Both stretches are walked together, once, up to the first shared pixel.
-pub fn shares(a: &[StripEntry], u: Corner, b: &[StripEntry], v: Corner) -> bool
-    requires { ⌜ Ordered (now a) ⌝ ∗ ⌜ Ordered (now b) ⌝ ∗ ⌜ Near u ⌝ ∗ ⌜ Near v ⌝ }
-    ensures { λ r. ⌜ r ≡ stretchesShare (now (a .entry)) u (now (b .entry)) v ⌝ }
-{
-    let x = base(u);
-    let y = base(v);
-    let start = walk_start(a, x, b, y);
-    let mut i = start.first;
-    let mut j = start.second;
-    while i < a.len() {
-        if b.len() <= j {
-            return false;
-        }
-        let p = span_at(a, i, x);
-        let q = span_at(b, j, y);
-        if p.end <= q.begin {
-            i += 1;
-        } else if q.end <= p.begin {
-            j += 1;
-        } else {
-            return true;
-        }
-    }
-    false
-}
-
 // How far the second piece has at least to be shifted along the strips until they share no pixel, as far as one walk tells: each
 // pair of strips that meet pushes it on, and the walk goes on with the shift so far. If none meet, the walk also tells how far
 // the second piece may be shifted before one of its strips meets the next one.
@@ -231,30 +204,4 @@ pub fn depth_below(a: &[StripEntry], u: Corner, b: &[StripEntry], v: Corner, bou
 {
     let up = clear_below(a, u, b, v, bound);
     clear_below(b, v, a, u, up)
-}
-
-// The penalty if it is below the bound, else the bound: the lesser of the depth along the rows and the depth along the columns.
-// The corners are seen along the rows.
-pub fn penalty_below(
-    arows: &[StripEntry],
-    acolumns: &[StripEntry],
-    u: Corner,
-    brows: &[StripEntry],
-    bcolumns: &[StripEntry],
-    v: Corner,
-    bound: u32,
-) -> u32
-    requires { ⌜ Ordered (now arows) × Ordered (now acolumns) ⌝ ∗ ⌜ Ordered (now brows) × Ordered (now bcolumns) ⌝ ∗ ⌜ Near u × Near v ⌝ ∗ ⌜ bound ≤ shiftBound ⌝ }
-    ensures { λ r. ⌜ r ≡ penaltyBelow (now (arows .entry)) (now (acolumns .entry)) u (now (brows .entry)) (now (bcolumns .entry)) v bound ⌝ }
-{
-    let wide = depth_below(arows, u, brows, v, bound);
-    let p = Corner {
-        along: u.across,
-        across: u.along,
-    };
-    let q = Corner {
-        along: v.across,
-        across: v.along,
-    };
-    depth_below(acolumns, p, bcolumns, q, wide)
 }

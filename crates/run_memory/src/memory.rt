@@ -25,7 +25,6 @@ ghost use Prim.Native.Nat.{_≤_};
 ghost use lib.ListN.{length};
 ghost use Rattle.model.specs.Layout.{Job};
 ghost use Rattle.model.specs.Lent.{lentBy, jobOf};
-ghost use Rattle.model.specs.Buffer.{layoutOf};
 ghost use Rattle.model.specs.Calls.{roundBound};
 ghost use Rattle.model.specs.declared.Direction.{Direction};
 ghost use Rattle.search_lines.specs.Kept.{leastMaps, MapsReady, slotBound};

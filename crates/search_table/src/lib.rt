@@ -21,8 +21,8 @@ ghost use Rattle.layout_strips.specs.Kept.{Drawable, Kept};
 // The entries of the table: one for each two piece numbers.
 pub const TABLE_LENGTH: usize = PIECE_BOUND * PIECE_BOUND;
 
-// Makes the entries of piece i and each piece below it.
-fn fill_row(
+// Adds piece i to the table of those below it: makes its entries with each of them.
+fn add_piece(
     table: &[PieceEntry],
     pixels: &[u8],
     layout: &[PlaceEntry],
@@ -80,7 +80,7 @@ fn fill_table(
 {
     let mut i = 0;
     while i < layout.len() {
-        fill_row(
+        add_piece(
             table,
             pixels,
             layout,

@@ -1,6 +1,6 @@
 -- `layout_preview_calls::figures_on` meets its contract: the copy holds the moved layout, and its figures are those. Both layouts are ones that
 -- calls take, so that only the result tells them apart. Assumes nothing.
-use Rattle.list_laws.proofs.Kit.{_∙_, _≡_, ap, refl, subst, sym, List, ℕ, arith, length, needs}
+use Rattle.list_laws.proofs.Kit.{_∙_, _≡_, ap, refl, subst, sym, List, ℕ, arith, needs}
 use Rattle.model.specs.Layout.{withPlace, figures}
 use Rattle.model.specs.Lent.{Lent, lentBy, jobOf}
 use Rattle.model.specs.Buffer.{layoutOf}

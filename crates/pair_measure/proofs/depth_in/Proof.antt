@@ -1,6 +1,6 @@
 -- `pair_measure::depth_in`: the store holds the first piece's stretch up to the middle and the second's from there on, and the bounded depth
 -- of the stretches is the pieces' depth, cut off. Assumes nothing.
-use Rattle.list_laws.proofs.Kit.{_∙_, subst, sym, ℕ, arith, needs}
+use Rattle.list_laws.proofs.Kit.{_∙_, refl, subst, sym, _≤_, ℕ, arith, length, needs}
 use Rattle.model.specs.Piece.{Shape, corner}
 use Rattle.model.specs.Strip.{strips}
 use Rattle.model.specs.Layout.{turnedPiece}
@@ -8,7 +8,7 @@ use Rattle.model.specs.Lent.{lentBy, jobOf}
 use Rattle.model.specs.declared.JobSize.{JobSize}
 use Rattle.pair_overlap.specs.Meet.{Ordered}
 use Rattle.pair_overlap.proofs.Shapes.{entries-depth}
-use Rattle.pair_measure.proofs.Stores.{anySize, StretchBehind, both-few, both-behind, piece-ordered, seen-near, same-depth}
+use Rattle.pair_measure.proofs.Stores.{anySize, StretchBehind, piece-most, both-behind, piece-ordered, seen-near, same-depth}
 use Rattle.pair_measure.proofs.depth_in.Statement.{statement}
 use Rattle.pair_measure.proofs.depth_in.Tie as tie
 
@@ -40,17 +40,21 @@ behind size c =
     let at-fill : tie.After-fill = search in
     let s = entry c .args in
     let r = entry c .pre in
-    both-behind size (s .table .now) (s .pixels .now) (s .i) (s .k) (r .0 .entry) (r .1 .0 .entry) (r .1 .1 .0) (s .p .turn) (s .q .turn) (s .direction)
+    both-behind size (s .table .now) (s .pixels .now) (s .i) (s .k) (r .0 .entry) (r .1 .0 .entry) _ (r .1 .1 .1) (s .p .turn) (s .q .turn) (s .direction)
     (s .store .now) (at-fill .fill .last .1 .1 .1 .1 .1 .0) (c .before .fill2 .last .1 .1 .1 .1 .1 .0) (middle c) (end c)
-    (r .1 .1 .1 .1) (at-fill .fill .ensures size) (c .before .fill2 .ensures size)
+    refl (at-fill .fill .ensures size) (c .before .fill2 .ensures size)
+
+-- the first piece has at most 65,536 strips
+first-few : (c : tie.After-store2) → length (strips (entry c .args .direction) (one anySize c)) ≤ 65536
+first-few c =
+    let s = entry c .args in piece-most anySize (s .table .now) (s .pixels .now) (s .i) (entry c .pre .0 .entry) (s .p .turn) (s .direction)
 
 fill-requires-2 : tie.Need-fill-requires-2
 fill-requires-2 c κs =
     let at-start : tie.Start = search in
     let s = at-start .args in
     let r = at-start .pre in
-    let few =
-    both-few anySize (s .table .now) (s .pixels .now) (s .i) (s .k) (r .0 .entry) (r .1 .0 .entry) (r .1 .1 .0) (s .p .turn) (s .q .turn) (s .direction) in
+    let few = piece-most anySize (s .table .now) (s .pixels .now) (s .i) (r .0 .entry) (s .p .turn) (s .direction) in
     ((r .1 .0 .entry, r .1 .0 .few), omega (arith, c .before .before .fill .ensures anySize .end))
 
 part-depth-below-end : tie.Need-part-depth-below-end
@@ -59,7 +63,11 @@ part-depth-below-end c =
     let b = behind anySize (at-store2) in omega (arith, b .order, b .within)
 
 mul-depth-below-2 : tie.Need-mul-depth-below-2
-mul-depth-below-2 c = let b = behind anySize (c .before .before .before .before) in omega (arith, b .order, b .within)
+mul-depth-below-2 c =
+    let at-store2 : tie.After-store2 = search in
+    let at-fill : tie.After-fill = search in
+    let few = first-few at-store2 in
+    let end = at-fill .fill .ensures anySize .end in omega arith
 
 sub-depth-below-2 : tie.Need-sub-depth-below-2
 sub-depth-below-2 c =
@@ -92,7 +100,7 @@ depth-below-requires c κs =
             seen-near (s .direction) (s .p) _ (at-corner-along .corner-along .ensures) (r .0 .x) (r .0 .y),
             seen-near (s .direction) (s .q) _ (at-corner-along2 .corner-along2 .ensures) (r .1 .0 .x) (r .1 .0 .y),
           ),
-          omega (arith, r .1 .1 .1 .0),
+          omega (arith, r .1 .1 .0),
         ),
       ),
     )

@@ -26,8 +26,8 @@ loop-holds c =
     let s : tie.Start Inv-loop μ-loop = search in
     (omega arith, refl, refl, refl, refl, refl, s .pre .1 .0, s .pre .1 .1 .0, λ size. table-empty _ _ _ (s .pre .1 .1 .1))
 
-fill-row-requires : tie.Need-fill-row-requires Inv-loop μ-loop
-fill-row-requires c κs =
+add-piece-requires : tie.Need-add-piece-requires Inv-loop μ-loop
+add-piece-requires c κs =
     let at-loop : tie.At-loop Inv-loop μ-loop = search in
     let s : tie.Start Inv-loop μ-loop = search in
     let in-loop : tie.In-loop Inv-loop μ-loop = search in
@@ -48,19 +48,19 @@ loop-again : tie.Need-loop-again Inv-loop μ-loop
 loop-again c =
     let at-loop : tie.At-loop Inv-loop μ-loop = search in
     let in-loop : tie.In-loop Inv-loop μ-loop = search in
-    let filled : tie.After-fill-row Inv-loop μ-loop = search in
+    let filled : tie.After-add-piece Inv-loop μ-loop = search in
     let l = at-loop .loop in
-    let row = filled .fill-row in
+    let added = filled .add-piece in
     let taken = in-loop .loop-test .taken in (
       omega arith,
-      row .kept .1 .1 .1 .1 .0 ∙ l .inv .1,
-      row .kept .1 .1 .1 .1 .1 .0 ∙ l .inv .2,
-      row .kept .1 .1 .1 .1 .1 .1 .0 ∙ l .inv .3,
-      row .kept .1 .1 .1 .1 .1 .1 .1 .0 ∙ l .inv .4,
-      row .kept .1 .1 .1 .1 .1 .1 .1 .1 .0 ∙ l .inv .5,
-      row .ensures .1 .0,
-      row .ensures .1 .1,
-      λ size. row .ensures .0 size (l .inv .8 size),
+      added .kept .1 .1 .1 .1 .0 ∙ l .inv .1,
+      added .kept .1 .1 .1 .1 .1 .0 ∙ l .inv .2,
+      added .kept .1 .1 .1 .1 .1 .1 .0 ∙ l .inv .3,
+      added .kept .1 .1 .1 .1 .1 .1 .1 .0 ∙ l .inv .4,
+      added .kept .1 .1 .1 .1 .1 .1 .1 .1 .0 ∙ l .inv .5,
+      added .ensures .1 .0,
+      added .ensures .1 .1,
+      λ size. added .ensures .0 size (l .inv .8 size),
     )
 
 same-length : tie.Need-same-length Inv-loop μ-loop
@@ -94,7 +94,7 @@ fill-table-spec =
     Inv-loop
     μ-loop
     loop-holds
-    fill-row-requires
+    add-piece-requires
     add-i
     loop-less
     loop-again

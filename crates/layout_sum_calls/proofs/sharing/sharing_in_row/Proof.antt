@@ -1,6 +1,6 @@
 -- `layout_sum_calls::sharing::sharing_in_row` meets its contract. The loop's invariant: the row's first pair that shares a pixel is among those
 -- left, and what is made of strips stands. Assumes nothing.
-use Rattle.list_laws.proofs.Kit.{_∙_, _≡_, refl, sym, _-_, arith, length, needs}
+use Rattle.list_laws.proofs.Kit.{_∙_, _≡_, refl, sym, _-_, length, needs}
 use Rattle.model.specs.Layout.{pairShares}
 use Rattle.model.specs.Lent.{lentBy, jobOf}
 use Rattle.model.specs.Buffer.{layoutOf}

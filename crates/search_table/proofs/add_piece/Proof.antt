@@ -1,6 +1,6 @@
--- `search_table::fill_row` meets its contract. The loop's invariant: the entries of the piece with those passed are made, and what is made of strips
+-- `search_table::add_piece` meets its contract. The loop's invariant: the entries of the piece with those passed are made, and what is made of strips
 -- stands. Assumes nothing.
-use Rattle.list_laws.proofs.Kit.{_∙_, _≡_, refl, subst, sym, _+_, _-_, _<_, _≤_, arith, length, length-set}
+use Rattle.list_laws.proofs.Kit.{_∙_, _≡_, refl, subst, _+_, _-_, _<_, _≤_, arith, length, length-set}
 use Rattle.model.specs.Layout.{placeOf}
 use Rattle.model.specs.Lent.{lentBy, jobOf}
 use Rattle.model.specs.Buffer.{layoutOf}
@@ -9,8 +9,8 @@ use Rattle.model.specs.declared.JobSize.{JobSize}
 use Rattle.search_laws.specs.Table.{PenaltyTable, Renewed, entry}
 use Rattle.search_laws.proofs.Table.{added-begin, added-end, renewed-self, renewed-step}
 use Rattle.layout_strips.specs.Kept.{Kept}
-use Rattle.search_table.proofs.fill_row.Statement.{statement}
-use Rattle.search_table.proofs.fill_row.Tie as tie
+use Rattle.search_table.proofs.add_piece.Statement.{statement}
+use Rattle.search_table.proofs.add_piece.Tie as tie
 
 abbrev Inv-loop : tie.InvT-loop
 Inv-loop table pixels layout i rows₀ row-spans₀ columns₀ column-spans₀ penalties₀ k₀ rows row-spans columns column-spans penalties k =
@@ -151,8 +151,8 @@ returns c =
       (l .inv .6, l .inv .7),
     )
 
-pub fill-row-spec : {M : Type 1} → statement M
-fill-row-spec =
+pub add-piece-spec : {M : Type 1} → statement M
+add-piece-spec =
     tie.close
     (tie.spec
     Inv-loop
