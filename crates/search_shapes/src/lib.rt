@@ -1,4 +1,4 @@
-// The strips of every piece in every turn, made once and read many times: what the sums and searches work on. Shape number
+// The strips of every piece in every turn, made once and read many times: what the searches work on. Shape number
 // 4 i + t is piece i in turn t; specs/Shapes.antt says how the buffers hold it.
 ghost use mathlib.Core.Path.{_≡_};
 ghost use mathlib.Core.Bool.{true};
