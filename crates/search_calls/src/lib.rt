@@ -15,14 +15,14 @@ use model::Turn;
 use model::plain_refusal;
 use search_bounded::search_below;
 use search_line_sums::Found;
-use search_lines::MAP_SLOTS;
+use search_lines::LEAST_MAPS;
+use search_lines::ready_maps;
 use search_shapes::STARTS_LENGTH;
 use search_shapes::empty_store;
 use search_tracks::Mover;
 ghost use mathlib.Core.Path.{_≡_};
 ghost use Prim.Native.Nat.{_<_};
 ghost use lib.ListN.{length};
-ghost use Rattle.model.specs.Layout.{Job};
 ghost use Rattle.model.specs.Piece.{coordinateOn};
 ghost use Rattle.model.specs.Search.{searchLine};
 ghost use Rattle.model.specs.Lent.{lentBy, jobOf};
@@ -30,7 +30,6 @@ ghost use Rattle.model.specs.Buffer.{layoutOf};
 ghost use Rattle.model.specs.Calls.{searchCall};
 ghost use Rattle.descent_laws.specs.LentLayout.{Laid};
 ghost use Rattle.descent_laws.specs.Claims.{ValidWeights};
-ghost use Rattle.search_lines.specs.Kept.{MapsReady};
 ghost use Rattle.search_line_sums.specs.Answers.{foundAnswer};
 ghost use Rattle.search_calls.specs.Answers.{InReach, bestAnswer, searchAnswer};
 
@@ -40,9 +39,6 @@ const SLOTS: usize = model::PIECE_BOUND;
 // The bytes of a line: more than twice the largest box side.
 const SLOT_WIDTH: usize = 512;
 
-// The words of a store of maps: its slots, and room for one map at least.
-const MAPS_LENGTH: usize = 24576;
-
 // No sum reaches it: a search without a bound.
 const NO_BOUND: u32 = 4294967295;
 
@@ -50,16 +46,6 @@ const NO_BOUND: u32 = 4294967295;
 pub enum SearchAnswer {
     Best(u64, Coordinate),
     Refused(Refusal),
-}
-
-// Room for the maps of one search, with none kept.
-fn empty_maps() -> [u64; MAPS_LENGTH]
-    ensures ready { λ r. ⌜ ((j : Job) → MapsReady j r) ⌝ }
-    ensures length { λ r. ⌜ length r ≡ 24576 ⌝ }
-{
-    let mut maps = [0u64; MAPS_LENGTH];
-    maps[MAP_SLOTS] = MAP_SLOTS as u64 + 1;
-    maps
 }
 
 // The line search without a bound, with strips and stores of its own.
@@ -81,7 +67,8 @@ fn search_alone(
     let mut store = [0u8; SLOTS * SLOT_WIDTH];
     let mut tags = [0u32; SLOTS];
     let mut sums = [0u32; COLUMN_BOUND];
-    let mut maps = empty_maps();
+    let mut maps = [0u64; LEAST_MAPS];
+    ready_maps(size, table, pixels, &mut maps);
     search_shapes::make_shapes(
         size,
         table,

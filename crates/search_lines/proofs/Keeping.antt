@@ -1,6 +1,6 @@
 -- How the store stays right: one with no tag is, and one stays so when a slot is made anew. Assumes nothing.
 use Rattle.list_laws.proofs.Kit.{_∙_, _≡_, ap, sym, ⊎-elim, List, _*_, _+_, _<_, _≤_, ℕ, arith, getD, length, length-set, set, getD-set-other, getD-set-same}
-use Rattle.list_laws.proofs.Kit.{ℕ-discrete, getD-replicate, length-replicate, replicate}
+use Rattle.list_laws.proofs.Kit.{ℕ-discrete}
 use Rattle.model.specs.Layout.{Job, turnedPiece}
 use Rattle.model.specs.Lent.{lentBy, jobOf, pieceBound, entryColumns, entryRows}
 use Rattle.model.specs.declared.Direction.{Direction}
@@ -10,12 +10,8 @@ use Rattle.list_laws.proofs.Numbers.{slot-before, below-or}
 use Rattle.job_laws.proofs.Turned.{turned-extent}
 use Rattle.search_shapes.specs.Shapes.{numberedShape, shapeNumber}
 use Rattle.search_shapes.proofs.Numbers.{turn-below, number-back}
-use Rattle.search_bits.specs.Bit.{lengthLimit}
 use Rattle.search_laws.specs.Lines.{HoldsLine}
-use Rattle.search_map_store.specs.Store.{Forgotten}
-use Rattle.search_map_store.proofs.Keeping as maps
-use Rattle.search_map_laws.specs.Keys.{directionOf, movedOf, standingOf}
-use Rattle.search_lines.specs.Kept.{keyOf, mapSlots, leastMaps, MapsReady, LinesKept, Wide}
+use Rattle.search_lines.specs.Kept.{keyOf, MapsReady, LinesKept, Wide}
 use Rattle.search_lines.specs.Making.{LineMade}
 
 -- ── keys ──
@@ -102,26 +98,6 @@ module _ (d : Direction) (j : Job) (width : ℕ) where
                 let f : getD (set tags m key) n 0 ≡ getD tags n 0 = getD-set-other tags m n key 0 h in
                 let w = wide i′ k′ t′ u′ d a b in
                 λ x y. other-byte n x h (omega arith) ∙ kept .holds n i′ k′ t′ u′ offset′ l a b c (sym f ∙ e) x y
-
--- ── the maps ──
-
--- a store whose maps are forgotten is ready
-pub maps-ready : (j : Job) (xs ys : List ℕ) → leastMaps ≤ length xs → length xs < lengthLimit → Forgotten mapSlots xs ys → MapsReady j ys
-maps-ready j xs ys room short g =
-    let e = g .same in
-    record { kept = maps.none-kept mapSlots directionOf (movedOf j) (standingOf j) xs ys (omega arith) g; room = omega arith; short = omega arith }
-
--- so is a fresh one, with the end past the slots
-pub maps-fresh : (n : ℕ) → leastMaps ≤ n → n < lengthLimit → (j : Job) → MapsReady j (set (replicate n 0) mapSlots (mapSlots + 1))
-maps-fresh n room short j =
-    let long : length {A = ℕ} (replicate n 0) ≡ n = length-replicate {A = ℕ} n 0 in
-    maps-ready j (replicate n 0) (set (replicate n 0) mapSlots (mapSlots + 1)) (omega arith) (omega arith)
-    (record {
-      same = length-set (replicate {A = ℕ} n 0) mapSlots (mapSlots + 1);
-      none = λ m l.
-          getD-set-other (replicate n 0) mapSlots m (mapSlots + 1) 0 (λ e. omega arith) ∙ getD-replicate {A = ℕ} n m 0 0 (omega arith);
-      end = getD-set-same (replicate n 0) mapSlots (mapSlots + 1) 0 (omega arith);
-    })
 
 -- ── how wide a slot is ──
 

@@ -1,6 +1,6 @@
 -- One line, made in its part of the store: what its making asks of the two pieces' strips, and what the store holds then. Assumes nothing.
-use Rattle.list_laws.proofs.Kit.{_∙_, _≡_, ap, subst, sym, List, _++_, _+_, _-_, _<_, _≤_, ℕ, arith, List·getD-append, drop, getD, length, length-append}
-use Rattle.list_laws.proofs.Kit.{length-drop, length-take, take, getD-append-add, getD-drop, getD-take, length-take-le}
+use Rattle.list_laws.proofs.Kit.{_∙_, _≡_, ap, subst, sym, List, _++_, _+_, _-_, _<_, _≤_, ℕ, arith, drop, drop-drop, getD, length, length-drop}
+use Rattle.list_laws.proofs.Kit.{length-take, take}
 use Rattle.model.specs.Piece.{Shape, turned}
 use Rattle.model.specs.Layout.{Job, turnedPiece}
 use Rattle.model.specs.Lent.{Lent, jobOf}
@@ -23,47 +23,9 @@ use Rattle.search_map_laws.proofs.Keys.{moved-back, standing-back}
 use Rattle.search_map_laws.proofs.Pieces.{sides-fit, byte-sides, moved-entries, moved-in, standing-entries, standing-in}
 use Rattle.search_lines.specs.declared.Two.{Two}
 use Rattle.search_laws.specs.Lines.{linePlaces}
-use Rattle.search_lines.specs.Kept.{mapSlots, MapsReady}
+use Rattle.search_lines.specs.Kept.{classWords, mapSlots, MapsReady}
 use Rattle.search_lines.specs.Making.{movedShape, standingShape, mapKeyOfTwo, SmallTwo, Asked, MapFound, LineMade}
-
--- ── a part of a list, written anew ──
-
-module _ (xs ys : List ℕ) (a n : ℕ) (full : length ys ≡ n) (room : a + n ≤ length xs) where
-  -- the list with ys in the place of the n elements from a on
-  abbrev put : List ℕ
-  put = take a xs ++ (ys ++ drop n (drop a xs))
-
-  front : length (take a xs) ≡ a
-  front = length-take-le a xs (omega arith)
-
-  -- before the part it is as it was
-  pub put-before : (k : ℕ) → k < a → getD put k 0 ≡ getD xs k 0
-  put-before k h =
-      let f = front in
-      List·getD-append (take a xs) (ys ++ drop n (drop a xs)) 0 k (omega arith) ∙ getD-take a xs k 0 h
-
-  -- from a on
-  put-from : (k : ℕ) → getD put (a + k) 0 ≡ getD (ys ++ drop n (drop a xs)) k 0
-  put-from k =
-      let e : a + k ≡ length (take a xs) + k = (let f = front in omega arith) in
-      ap (λ (m : ℕ). getD put m 0) e ∙ getD-append-add (take a xs) (ys ++ drop n (drop a xs)) k 0
-
-  -- the part is ys
-  pub put-in : (k : ℕ) → k < n → getD put (a + k) 0 ≡ getD ys k 0
-  put-in k h = put-from k ∙ List·getD-append ys (drop n (drop a xs)) 0 k (omega arith)
-
-  -- after the part it is as it was
-  pub put-after : (k : ℕ) → a + n ≤ k → getD put k 0 ≡ getD xs k 0
-  put-after k h =
-      let m : ℕ = k - (a + n) in
-      let e : k ≡ a + (n + m) = omega arith in
-      let e′ : n + m ≡ length ys + m = omega arith in
-      ap (λ (i : ℕ). getD put i 0) e ∙ put-from (n + m) ∙ ap (λ (i : ℕ). getD (ys ++ drop n (drop a xs)) i 0) e′
-      ∙ getD-append-add ys (drop n (drop a xs)) m 0 ∙ getD-drop n (drop a xs) m 0 ∙ getD-drop a xs (n + m) 0 ∙ ap (λ (i : ℕ). getD xs i 0) (sym e)
-
-  -- it is as long as it was
-  pub put-length : length put ≡ length xs
-  put-length = let f = front in simp (length-append, length-drop) (omega arith)
+use Rattle.search_lines.proofs.Parts.{put-before, put-in, put-after, put-length, rest-lent, rest-is, ready-again}
 
 -- ── two pieces of a job ──
 
@@ -117,12 +79,17 @@ module _ (l : Lent) (store : List (List ℕ)) (starts : List ℕ) (two : Two) (a
     line-places Vertical = ap rowsOf is
 
     -- the store has room for the map
-    pub store-fits : (key slot : ℕ) → key < 65536 → slot < mapSlots → (maps : List ℕ) → MapsReady (jobOf l) maps → StoreFits z key slot mapSlots maps
-    store-fits key slot small there maps m =
+    pub store-fits : (key slot : ℕ) → key < 65536 → slot < mapSlots → (maps : List ℕ) (n : ℕ) → n ≡ length maps - classWords → MapsReady (jobOf l) maps
+        → StoreFits z key slot mapSlots (take n (drop classWords maps))
+    store-fits key slot small there maps n rest m =
         let f = sides-made in
-        let n : ℕ = z .«moved_across» + z .«standing_across» + 1 in
-        let h = rows-small z f n (omega (arith, f .moved-across .high, f .standing-across .high)) in
-        record { slot-in = there; few = omega arith; end = m .kept .low; room = (let r = m .room in omega arith); short = m .short }
+        let k : ℕ = z .«moved_across» + z .«standing_across» + 1 in
+        let h = rows-small z f k (omega (arith, f .moved-across .high, f .standing-across .high)) in
+        let room = m .room in
+        let short = m .short in
+        let long : length (drop classWords maps) ≡ length maps - classWords = length-drop classWords maps in
+        subst (StoreFits z key slot mapSlots) (sym (rest-lent maps n rest))
+        (record { slot-in = there; few = omega arith; end = m .kept .low; room = omega arith; short = omega arith })
 
     -- the moved piece's strips in the opposite turn are those that a map is made from
     pub moved-asked : (u : Turn) → u ≡ opposite (two .«moved_turn») → (es : List (List ℕ))
@@ -170,26 +137,55 @@ module _ (l : Lent) (store : List (List ℕ)) (starts : List ℕ) (two : Two) (a
           subst (λ (s : Shape). Fits s (standingOf (jobOf l) key)) (sym moved-is)
           (subst (λ (t : Shape). Fits (movedShape l two) t) (sym standing-is) (is, first, second))
 
-      -- the map that a call finds
-      pub map-found : (maps new : List ℕ) (r : ℕ) → MapsReady (jobOf l) maps
-          → ((e : ℕ → Direction) (s t : ℕ → Shape) → z ≡ sidesOf (e key) (s key) (t key) → es ≡ entries (e key) (turned Half (s key))
-          → fs ≡ entries (e key) (t key) → Kept mapSlots e s t key maps new r)
-          → MapFound (jobOf l) (movedShape l two) (standingShape l two) maps new r
-      map-found maps new r m told =
-          let k = told directionOf (movedOf (jobOf l)) (standingOf (jobOf l)) (fits .0) (fits .1) (fits .2) in
-          let x = k .right (m .kept) in
-          let same = k .same in
-          let room = m .room in
-          let short = m .short in
-          let end : ℕ = endOf mapSlots new in
-          let found : MapAt Horizontal (movedShape l two) (standingShape l two) new r end =
-          subst (λ (t : Shape). MapAt Horizontal (movedShape l two) t new r end) standing-is
-          (subst (λ (s : Shape). MapAt Horizontal s (standingOf (jobOf l) key) new r end) moved-is (x .1)) in
-          record {
-            same = same;
-            ready = record { kept = x .0; room = omega arith; short = omega arith };
-            map = record { within = (let w = found .within in let h = x .0 .high in omega arith); map = found .map };
-          }
+      module _ (maps part : List ℕ) (n r : ℕ) (m : MapsReady (jobOf l) maps) (rest : n ≡ length maps - classWords)
+          (told : (e : ℕ → Direction) (s t : ℕ → Shape) → z ≡ sidesOf (e key) (s key) (t key) → es ≡ entries (e key) (turned Half (s key))
+          → fs ≡ entries (e key) (t key) → Kept mapSlots e s t key (take n (drop classWords maps)) part r)
+        where
+          -- what the call tells of the words past the classes
+          kept : Kept mapSlots directionOf (movedOf (jobOf l)) (standingOf (jobOf l)) key (drop classWords maps) part r
+          kept =
+              subst (λ (ws : List ℕ). Kept mapSlots directionOf (movedOf (jobOf l)) (standingOf (jobOf l)) key ws part r) (rest-lent maps n rest)
+              (told directionOf (movedOf (jobOf l)) (standingOf (jobOf l)) (fits .0) (fits .1) (fits .2))
+
+          -- they are as many as before
+          part-full : length part ≡ n
+          part-full = let room = m .room in kept .same ∙ simp length-drop (omega arith)
+
+          -- each piece has a class
+          few : jobOf l .size .count ≤ classWords
+          few = lent-few l (asked .well)
+
+          -- the slice with the part in its place
+          abbrev new : List ℕ
+          new = take classWords maps ++ (part ++ drop n (drop classWords maps))
+
+          new-same : length new ≡ length maps
+          new-same = let room = m .room in put-length maps part classWords n part-full (omega arith)
+
+          -- the map, counted from the classes' end
+          found : MapAt Horizontal (movedShape l two) (standingShape l two) part r (endOf mapSlots part)
+          found =
+              subst (λ (t : Shape). MapAt Horizontal (movedShape l two) t part r (endOf mapSlots part)) standing-is
+              (subst (λ (s : Shape). MapAt Horizontal s (standingOf (jobOf l) key) part r (endOf mapSlots part)) moved-is (kept .right (m .kept) .1))
+
+          -- the map that a call finds, past the classes
+          pub map-found : MapFound (jobOf l) (movedShape l two) (standingShape l two) maps new (classWords + r)
+          map-found =
+              let k : ℕ = mapWords (sidesOf Horizontal (movedShape l two) (standingShape l two)) in
+              let w = found .within in
+              let h = kept .right (m .kept) .0 .high in
+              let f = part-full in
+              let room = m .room in
+              let e : drop r part ≡ drop (classWords + r) new =
+              ap (drop r) (sym (rest-is (jobOf l) maps part n rest part-full few (m .classes) (m .room) (m .short))) ∙ drop-drop r classWords new in
+              record {
+                same = new-same;
+                ready = ready-again (jobOf l) maps part n rest part-full few (m .classes) (m .room) (m .short) (kept .right (m .kept) .0);
+                map = record {
+                  within = let s = new-same in omega arith;
+                  map = subst (λ (ws : List ℕ). MapOf Horizontal (movedShape l two) (standingShape l two) (take k ws)) e (found .map);
+                };
+              }
 
     module _ (maps new : List ℕ) (r n : ℕ) (f : MapFound (jobOf l) (movedShape l two) (standingShape l two) maps new r) (long : n ≡ mapWords z) where
       words-are : n ≡ mapWords (sidesOf Horizontal (movedShape l two) (standingShape l two))

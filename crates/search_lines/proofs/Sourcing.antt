@@ -6,16 +6,20 @@ use Rattle.model.specs.Lent.{Lent, jobOf}
 use Rattle.model.specs.declared.Direction.{Direction}
 use Rattle.model.specs.declared.Direction.the-variants.{Horizontal, Vertical}
 use Rattle.job_laws.proofs.Checked.{facts, lent-turned-small}
+use Rattle.strip_laws.specs.Boxes.{SameShape}
+use Rattle.strip_laws.proofs.Boxes.{same-extent}
+use Rattle.search_classes.specs.Classes.{Classes}
+use Rattle.search_classes.proofs.Equals.{turned-same}
 use Rattle.search_laws.specs.Lines.{linePlaces, linePenalty, HoldsLine}
 use Rattle.search_map_laws.specs.Turns.{turnBefore}
 use Rattle.search_map_laws.proofs.Pieces.{sides-fit}
-use Rattle.search_map_laws.proofs.Quarters.{row-back, column-back, sides-back}
+use Rattle.search_map_laws.proofs.Quarters.{line-same, row-back, column-back, sides-back}
 use Rattle.search_lines.specs.declared.Two.{Two}
 use Rattle.search_lines.specs.declared.Source.{Source}
 use Rattle.search_lines.specs.Making.{movedShape, standingShape, exchangedTwo, Asked, LineMade, Backwards}
-use Rattle.search_lines.specs.Sources.{Named, SameLine, plainSource, backSource, mirroredOffset, quarterAlong, quarterSource, SourceMade}
+use Rattle.search_lines.specs.Sources.{Named, SameLine, plainSource, backSource, mirroredOffset, classedTwo, quarterAlong, quarterSource, SourceMade}
 use Rattle.search_lines.proofs.Exchanging.{exchanged-penalty}
-use Rattle.search_lines.proofs.Making.{put-length, put-in, put-before, put-after}
+use Rattle.search_lines.proofs.Parts.{put-length, put-in, put-before, put-after}
 
 -- ── the same line ──
 
@@ -72,6 +76,27 @@ module _ (l : Lent) (two : Two) (n : Named l two) where
         each = λ k h.
             ap (λ (m : ℕ). linePenalty d (standingShape l two) (movedShape l two) (510 - two .offset) (m - 1 - k)) e
             ∙ exchanged-penalty d (movedShape l two) (standingShape l two) (two .offset) k (side-some d) (standing-some d) h (moved-small (other d));
+      }
+
+  -- the classes of the two give the same line
+  pub classed-same : (classes : List ℕ) → Classes (jobOf l) classes → (d : Direction) → SameLine l (plainSource d two) (plainSource d (classedTwo classes two))
+  classed-same classes c d =
+      let both : Two = classedTwo classes two in
+      let a : SameShape (movedShape l two) (movedShape l both) =
+      turned-same _ _ (c (two .moved) moved-there .1) (two .«moved_turn») in
+      let b : SameShape (standingShape l two) (standingShape l both) =
+      turned-same _ _ (c (two .standing) standing-there .1) (two .«standing_turn») in
+      let ea = same-extent d (movedShape l two) (movedShape l both) a in
+      let eb = same-extent d (standingShape l two) (standingShape l both) b in
+      record {
+        named = record {
+          well = n .well;
+          moved = (let h = c (two .moved) moved-there .0 in let m = n .moved in omega arith);
+          standing = (let h = c (two .standing) standing-there .0 in let m = n .standing in omega arith);
+          offset = n .offset;
+        };
+        places = omega arith;
+        each = λ k h. sym (line-same d (movedShape l two) (standingShape l two) (movedShape l both) (standingShape l both) (two .offset) k a b);
       }
 
   -- both turned back by a quarter are named as well

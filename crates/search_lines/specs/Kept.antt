@@ -1,10 +1,11 @@
 -- Penalty lines of two pieces, kept for later searches: each slot of the store has a tag, and a slot whose tag is the key of two pieces in
 -- their turns and an offset across holds their line. Neither the corners along the line nor the weights play a part in it, so a
--- line stays right when pieces move. The maps that lines are made from are kept beside them. Assumes nothing.
+-- line stays right when pieces move. The maps that lines are made from are kept beside them, behind the classes of the pieces: one map serves equal
+-- pieces. Assumes nothing.
 use mathlib.Core.List.{List}
 use mathlib.Core.Path.{_≡_}
 use Prim.Native.Nat.{ℕ, _+_, _*_, _<_, _≤_}
-use lib.ListN.{length, getD}
+use lib.ListN.{length, getD, drop}
 use Rattle.model.specs.Layout.{Job, turnedPiece}
 use Rattle.model.specs.declared.Direction.{Direction}
 use Rattle.model.specs.declared.Turn.{Turn}
@@ -12,6 +13,7 @@ use Rattle.search_bits.specs.Bit.{lengthLimit}
 use Rattle.search_shapes.specs.Shapes.{shapeNumber}
 use Rattle.search_laws.specs.Lines.{linePlaces, HoldsLine}
 use Rattle.search_maps.specs.Map.{mapBound}
+use Rattle.search_classes.specs.Classes.{Classes}
 use Rattle.search_map_store.specs.Store.{MapsKept}
 use Rattle.search_map_laws.specs.Keys.{directionOf, movedOf, standingOf}
 
@@ -26,17 +28,22 @@ linesBound = 524288
 abbrev pub keyOf : ℕ → ℕ → ℕ → ℕ
 keyOf a b offset = a * 262144 + b * 1024 + offset + 1
 
--- the slots of a store of maps: for each piece, each other one and each turn
+-- the words of the classes
+abbrev pub classWords : ℕ
+classWords = 64
+
+-- the slots of a store of maps: for each two pieces, and one with itself, and each turn
 abbrev pub mapSlots : ℕ
-mapSlots = 16384
+mapSlots = 8320
 
--- the least words of a store of maps: its slots, its end and the largest map
+-- the least words of a store of maps: classes, slots, the end, and room for the largest map
 abbrev pub leastMaps : ℕ
-leastMaps = mapSlots + 1 + mapBound
+leastMaps = classWords + mapSlots + 1 + mapBound
 
--- a store keeps maps of the job, and has room for every one of them
+-- the first words are the classes of the job's pieces; the others are a store that keeps maps of the job, and has room for every one of them
 pub record MapsReady (j : Job) (maps : List ℕ) : Type 0 where
-  pub kept : MapsKept mapSlots directionOf (movedOf j) (standingOf j) maps
+  pub classes : Classes j maps
+  pub kept : MapsKept mapSlots directionOf (movedOf j) (standingOf j) (drop classWords maps)
   pub room : leastMaps ≤ length maps
   pub short : length maps < lengthLimit
 

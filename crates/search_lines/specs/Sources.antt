@@ -1,5 +1,5 @@
--- Where a line is read: it is the line of two pieces along a direction, forwards or backwards. One line has many sources: of the two exchanged, and of both
--- turned by a quarter, along the other direction. Assumes nothing.
+-- Where a line is read: it is the line of two pieces along a direction, forwards or backwards. One line has many sources: of pieces equal to the two, of
+-- the two exchanged, and of both turned by a quarter, along the other direction. Assumes nothing.
 use mathlib.Core.Bool.{Bool, true, false, not}
 use mathlib.Core.List.{List}
 use mathlib.Core.Path.{_≡_}
@@ -47,6 +47,17 @@ plainSource d two = record { two = two; direction = d; back = false }
 
 abbrev pub backSource : Direction → Two → Source
 backSource d two = record { two = two; direction = d; back = true }
+
+-- the classes of the two, in their turns and at their offset
+abbrev pub classedTwo : List ℕ → Two → Two
+classedTwo classes two =
+    record {
+      moved = getD classes (two .moved) 0;
+      «moved_turn» = two .«moved_turn»;
+      standing = getD classes (two .standing) 0;
+      «standing_turn» = two .«standing_turn»;
+      offset = two .offset;
+    }
 
 -- the two pieces, both turned back by a quarter, at an offset
 abbrev pub turnedTwo : Two → ℕ → Two

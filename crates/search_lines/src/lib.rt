@@ -9,11 +9,11 @@ ghost use Rattle.model.specs.Lent.{lentBy, jobOf, lentWell};
 ghost use Rattle.model.specs.declared.JobSize.{JobSize};
 ghost use Rattle.model.specs.declared.Direction.the-variants.{Horizontal};
 ghost use Rattle.search_laws.specs.Lines.{linePlaces, HoldsLine};
-ghost use Rattle.search_maps.specs.Map.{sidesOf};
 ghost use Rattle.search_bits.specs.Bit.{lengthLimit};
+ghost use Rattle.search_maps.specs.Map.{sidesOf};
 ghost use Rattle.search_lines.specs.Kept.{mapSlots, leastMaps, MapsReady, LinesKept, Wide, linesBound, slotBound};
 ghost use Rattle.search_lines.specs.Making.{movedShape, standingShape, keyOfTwo, mapKeyOfTwo, SmallTwo, Asked, MapFound, LineMade, Backwards, exchangedTwo};
-ghost use Rattle.search_lines.specs.Sources.{Named, turnedTwo, mirroredOffset, plainSource, backSource, quarterSource, sourcePlaces, SameLine, SourceMade};
+ghost use Rattle.search_lines.specs.Sources.{Named, classedTwo, turnedTwo, mirroredOffset, plainSource, backSource, quarterSource, sourcePlaces, SameLine, SourceMade};
 ghost use Rattle.search_map_laws.specs.Turns.{turnBefore};
 use model::Direction;
 use model::JobSize;
@@ -36,11 +36,14 @@ const LINE_LENGTH: usize = 512;
 // The shapes of a job: each piece in four turns.
 const SHAPES: usize = 4 * PIECE_BOUND;
 
-// The slots of a store of maps: for each piece, each other one and each turn.
-pub const MAP_SLOTS: usize = PIECE_BOUND * PIECE_BOUND * 4;
+// The words of the classes, before the maps: one for each piece.
+const CLASS_WORDS: usize = PIECE_BOUND;
 
-// The least words of a store of maps: its slots, its end and the largest map.
-pub const LEAST_MAPS: usize = MAP_SLOTS + 1 + search_maps::MAP_WORDS;
+// The slots of a store of maps: for each two pieces, and one with itself, and each turn of the standing one.
+const MAP_SLOTS: usize = PIECE_BOUND * (PIECE_BOUND + 1) * 2;
+
+// The least words of a store of maps: classes, slots, the end, and room for the largest map.
+pub const LEAST_MAPS: usize = CLASS_WORDS + MAP_SLOTS + 1 + search_maps::MAP_WORDS;
 
 // Every offset that a key holds is below it.
 const OFFSETS: usize = 1024;
@@ -82,14 +85,6 @@ pub fn slot_width(size: JobSize, table: &[PieceEntry]) -> usize
         i += 1;
     }
     side * 2
-}
-
-// Readies words of any content for the maps of a job, with none kept.
-pub fn ready_maps(size: JobSize, table: &[PieceEntry], pixels: &[u8], maps: &mut [u64])
-    requires { ⌜ lentWell (lentBy size (now table) (now pixels)) ≡ true ⌝ ∗ ⌜ (leastMaps ≤ length (now maps)) × (length (now maps) < lengthLimit) ⌝ }
-    ensures { λ r. ⌜ MapsReady (jobOf (lentBy size (now (table .entry)) (now (pixels .entry)))) (now (maps .exit)) ⌝ }
-{
-    search_map_store::forget_maps(maps, MAP_SLOTS);
 }
 
 // The key of two pieces in their turns and an offset.
@@ -142,13 +137,25 @@ fn map_key(two: Two) -> usize
     a * SHAPES + b
 }
 
-// The slot of their map: one for each moved piece, each standing one and each turn of that. The maps that are kept have the moved piece in no turn.
+// The slot of their map: one for each two pieces, the moved one's number not above the other's, and each turn of the standing one. The maps that are
+// kept are such, with the moved piece in no turn.
 fn map_slot(two: Two) -> usize
     requires { ⌜ SmallTwo two ⌝ }
     ensures { λ r. ⌜ r < mapSlots ⌝ }
 {
     let turn = two.standing_turn;
-    search_shapes::shape_number(two.moved * PIECE_BOUND + two.standing, turn)
+    let before = two.standing * (two.standing + 1) / 2;
+    search_shapes::shape_number(before + two.moved, turn)
+}
+
+// Readies a store for a job, whatever it holds: the classes of the job's pieces, and no map.
+pub fn ready_maps(size: JobSize, table: &[PieceEntry], pixels: &[u8], maps: &mut [u64])
+    requires { ⌜ lentWell (lentBy size (now table) (now pixels)) ≡ true ⌝ ∗ ⌜ (leastMaps ≤ length (now maps)) × (length (now maps) < lengthLimit) ⌝ }
+    ensures { λ r. ⌜ MapsReady (jobOf (lentBy size (now (table .entry)) (now (pixels .entry)))) (now (maps .exit)) ⌝ }
+{
+    search_classes::put_classes(size, table, pixels, maps);
+    let from = CLASS_WORDS;
+    search_map_store::forget_maps(&mut maps[from..], MAP_SLOTS);
 }
 
 // Where the map of two pieces begins. It is made where it is not kept.
@@ -174,7 +181,9 @@ fn find_map(
     let b = search_shapes::shape_strips(strips, starts, two.standing, standing_turn);
     let key = map_key(two);
     let slot = map_slot(two);
-    search_map_store::keep_map(a, b, sides, key, slot, MAP_SLOTS, maps)
+    let from = CLASS_WORDS;
+    let at = search_map_store::keep_map(a, b, sides, key, slot, MAP_SLOTS, &mut maps[from..]);
+    from + at
 }
 
 // Makes the line of two pieces from their own map, from a place on; gives its number of places.
@@ -450,7 +459,26 @@ fn draw_source(
     );
 }
 
-// Makes the line of two pieces, from a place of the store on. One map serves both orders of two pieces and all turns of both together.
+// The two pieces' classes in their turns, at the offset.
+fn classed(two: Two, classes: &[u64]) -> Two
+    requires { ⌜ (two .moved < length (now classes)) × (two .standing < length (now classes)) ⌝ }
+    ensures { λ r. ⌜ r ≡ classedTwo (now (classes .entry)) two ⌝ }
+{
+    let moved = two.moved;
+    let moved_turn = two.moved_turn;
+    let standing = two.standing;
+    let standing_turn = two.standing_turn;
+    Two {
+        moved: classes[moved] as usize,
+        moved_turn,
+        standing: classes[standing] as usize,
+        standing_turn,
+        offset: two.offset,
+    }
+}
+
+// Makes the line of two pieces, from a place of the store on. One map serves all pieces equal to the two, both orders of them and all turns of both
+// together.
 fn make_line(
     size: JobSize,
     table: &[PieceEntry],
@@ -470,7 +498,8 @@ fn make_line(
     ensures line { λ r. ⌜ LineMade direction (movedShape (lentBy size (now (table .entry)) (now (pixels .entry))) two) (standingShape (lentBy size (now (table .entry)) (now (pixels .entry))) two) (two .offset) (now (lines .entry)) at (now (lines .exit)) ⌝ }
     ensures maps { λ r. ⌜ MapsReady (jobOf (lentBy size (now (table .entry)) (now (pixels .entry)))) (now (maps .exit)) ⌝ }
 {
-    let first = ordered(size, table, pixels, direction, two);
+    let equal = classed(two, maps);
+    let first = ordered(size, table, pixels, direction, equal);
     let source = straight(size, table, pixels, first);
     draw_source(size, table, pixels, strips, starts, source, at, lines, maps);
 }

@@ -162,7 +162,7 @@ quarter-after ThreeQuarters s =
     same-in-box (turned ThreeQuarters s) (turned Quarter (turned Half s)) refl refl (λ x y l m. ap₂ (s .has) refl (omega arith))
 
 -- shapes alike have lines alike
-line-same : (d : Direction) (s t s′ t′ : Shape) (o k : ℕ) → SameShape s s′ → SameShape t t′ → linePenalty d s t o k ≡ linePenalty d s′ t′ o k
+pub line-same : (d : Direction) (s t s′ t′ : Shape) (o k : ℕ) → SameShape s s′ → SameShape t t′ → linePenalty d s t o k ≡ linePenalty d s′ t′ o k
 unfolding linePenalty
 line-same d s t s′ t′ o k a b =
     penalty-pixels s (point d k middle) t (point d (extent d s - 1) o) s′ t′ (a .pixels) (b .pixels)

@@ -8,6 +8,12 @@ use Rattle.search_calls.proofs.Answering.{store-wide, store-fresh, stor
 use Rattle.search_calls.proofs.search_alone.Statement.{statement}
 use Rattle.search_calls.proofs.search_alone.Tie as tie
 
+ready-maps-requires : tie.Need-ready-maps-requires
+ready-maps-requires c κs =
+    let at-start : tie.Start = search in
+    let n = length-replicate {A = ℕ} 12986 0 in
+    (at-start .pre .0 .well, (omega arith, omega arith))
+
 slice-aggregate-make-shapes : tie.Need-slice-aggregate-make-shapes
 slice-aggregate-make-shapes c = let made : tie.After-empty-store = search in sym (made .empty-store .ensures)
 
@@ -21,7 +27,7 @@ search-below-requires : tie.Need-search-below-requires
 search-below-requires c κs =
     let at-start : tie.Start = search in
     let shaped : tie.After-make-shapes = search in
-    let mapped : tie.After-empty-maps = search in
+    let mapped : tie.After-ready-maps = search in
     let a = at-start .args in
     let l = lentBy (a .size) (a .table .now) (a .pixels .now) in (
       record {
@@ -30,14 +36,11 @@ search-below-requires c κs =
         weighed = at-start .pre .1 .0;
         wide = store-wide l (at-start .pre .0 .well);
         narrow = omega arith;
-        kept = store-fresh (lineDirection (a .mover .line)) l (mapped .empty-maps .result) (mapped .empty-maps .ensures .0 _);
+        kept = store-fresh (lineDirection (a .mover .line)) l _ (mapped .ready-maps .ensures);
         fits = store-length;
       },
       (at-start .pre .1 .1, let n = length-replicate {A = ℕ} 4096 0 in omega arith),
     )
-
-slice-aggregate-search-below-6 : tie.Need-slice-aggregate-search-below-6
-slice-aggregate-search-below-6 c = let made : tie.After-empty-maps = search in sym (made .empty-maps .ensures .1)
 
 returns : tie.Need-returns
 returns c =
@@ -52,18 +55,6 @@ returns c =
 
 pub search-alone-spec : {M : Type 1} → statement M
 search-alone-spec =
-    tie.close
-    (tie.spec
-    (search needs)
-    (search needs)
-    slice-aggregate-make-shapes
-    (search needs)
-    make-shapes-requires
-    (search needs)
-    (search needs)
-    (search needs)
-    (search needs)
-    (search needs)
-    slice-aggregate-search-below-6
-    search-below-requires
-    returns)
+    tie.close (tie.spec
+    (search needs) (search needs) ready-maps-requires slice-aggregate-make-shapes (search needs) make-shapes-requires (search needs) (search needs)
+    (search needs) (search needs) (search needs) (search needs) search-below-requires returns)

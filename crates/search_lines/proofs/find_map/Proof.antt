@@ -1,6 +1,8 @@
 -- `search_lines::find_map` meets its contract: the map of the key is the map of the two pieces. Assumes nothing.
-use Rattle.list_laws.proofs.Kit.{needs}
-use Rattle.model.specs.Lent.{Lent, lentBy}
+use Rattle.list_laws.proofs.Kit.{refl, List, _++_, _+_, _-_, ℕ, arith, drop, length, take, needs}
+use Rattle.model.specs.Lent.{Lent, lentBy, jobOf}
+use Rattle.search_lines.specs.Kept.{classWords}
+use Rattle.search_lines.specs.Making.{movedShape, standingShape, MapFound}
 use Rattle.search_lines.proofs.Making.{small-two, moved-held, standing-held, sides-made, store-fits, moved-asked, standing-asked, map-found}
 use Rattle.search_lines.proofs.find_map.Statement.{statement}
 use Rattle.search_lines.proofs.find_map.Tie as tie
@@ -48,29 +50,56 @@ keep-map-requires c κs =
         moved-asked l _ _ two asked z is _ (at-opposite-turn .opposite-turn .ensures) _ (at-shape-strips .shape-strips .ensures) .0,
         (
           standing-asked l _ _ two asked z is _ (at-shape-strips2 .shape-strips2 .ensures) .0,
-          store-fits l _ _ two asked z is _ _ (at-map-key .map-key .ensures .1) (at-map-slot .map-slot .ensures) _ (at-start .pre .1 .1),
+          store-fits l _ _ two asked z is _ _ (at-map-key .map-key .ensures .1) (at-map-slot .map-slot .ensures) _ _ refl (at-start .pre .1 .1),
         ),
       ),
     )
 
-returns : tie.Need-returns
-returns c =
-    let at-start : tie.Start = search in
+-- the entry, from where the map is found
+abbrev entry : tie.After-keep-map → tie.Start
+entry c = search
+
+-- the words past the classes, with the map
+abbrev part : tie.After-keep-map → List ℕ
+part c = c .keep-map .last .1 .1 .1 .1 .1 .1 .0
+
+-- the map that is found
+found : (c : tie.After-keep-map)
+    →
+    let l = lent (entry c) in
+    let two = entry c .args .two in
+    let maps = entry c .args .maps .now in
+    MapFound (jobOf l) (movedShape l two) (standingShape l two) maps
+    (take classWords maps ++ (part c ++ drop (length maps - classWords) (drop classWords maps))) (classWords + c .keep-map .result)
+found c =
     let at-opposite-turn : tie.After-opposite-turn = search in
     let at-shape-strips : tie.After-shape-strips = search in
     let at-shape-strips2 : tie.After-shape-strips2 = search in
     let at-map-key : tie.After-map-key = search in
-    let at-keep-map : tie.After-keep-map = search in
-    let l = lent at-start in
-    let two = at-start .args .two in
-    let z = at-start .args .sides in
-    let asked = at-start .pre .0 in
-    let is = at-start .pre .1 .0 in
+    let e = entry c in
+    let l = lent e in
+    let two = e .args .two in
+    let z = e .args .sides in
+    let asked = e .pre .0 in
+    let is = e .pre .1 .0 in
     map-found l _ _ two asked z is _ _ _
     (moved-asked l _ _ two asked z is _ (at-opposite-turn .opposite-turn .ensures) _ (at-shape-strips .shape-strips .ensures) .1)
     (standing-asked l _ _ two asked z is _ (at-shape-strips2 .shape-strips2 .ensures) .1)
-    (at-map-key .map-key .ensures .0) _ _ _ (at-start .pre .1 .1) (at-keep-map .keep-map .ensures)
+    (at-map-key .map-key .ensures .0) _ _ _ _ (e .pre .1 .1) refl (c .keep-map .ensures)
+
+add-result : tie.Need-add-result
+add-result c =
+    let at-keep-map : tie.After-keep-map = search in
+    let f = found at-keep-map in
+    let within = f .map .within in
+    let short = f .ready .short in
+    omega arith
+
+returns : tie.Need-returns
+returns c = let at-keep-map : tie.After-keep-map = search in found at-keep-map
 
 pub find-map-spec : {M : Type 1} → statement M
 find-map-spec =
-    tie.close (tie.spec (search needs) shape-strips-requires shape-strips-requires-2 map-key-requires map-slot-requires keep-map-requires (search needs) returns)
+    tie.close (tie.spec
+    (search needs) shape-strips-requires shape-strips-requires-2 map-key-requires map-slot-requires (search needs) (search needs) (search needs) (search needs)
+    keep-map-requires add-result (search needs) returns)

@@ -1,0 +1,2 @@
+-- Laws of equal pieces.
+pub mod Equals

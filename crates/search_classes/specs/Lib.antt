@@ -1,0 +1,2 @@
+-- Equal pieces of a job.
+pub mod Classes
