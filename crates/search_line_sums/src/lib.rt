@@ -35,10 +35,7 @@ fn four_below(sums: &[u32], at: usize, bound: u32) -> bool
     requires { ⌜ at + 4 ≤ length (now sums) ⌝ }
     ensures { λ r. ⌜ r ≡ anyBelow 4 (λ k. ltb (getD (now (sums .entry)) (at + k) 0) bound) ⌝ }
 {
-    (sums[at] < bound)
-        | (sums[at + 1] < bound)
-        | (sums[at + 2] < bound)
-        | (sums[at + 3] < bound)
+    (sums[at] < bound) | (sums[at + 1] < bound) | (sums[at + 2] < bound) | (sums[at + 3] < bound)
 }
 
 // Whether some sum is below the bound, where none before the given place is.
