@@ -3,3 +3,4 @@ pub mod Readings
 pub mod Summing
 pub mod Renewing
 pub mod Searching
+pub mod Near

@@ -96,12 +96,16 @@ pub weight-small : (l : Lent) (ws : List ℕ) (i k w : ℕ) → ValidWeights (jo
 unfolding jobOf
 weight-small l ws i k w v e = let b = weight-bound (jobOf l) ws i k v in omega arith
 
--- a piece of the layout has its entry in the table and in the layout
-pub piece-entries : (l : Lent) (layout : List (List ℕ)) (k : ℕ) → Laid l layout → k < l .size .count → (k < length (l .table)) × (k < length layout)
-piece-entries l layout k laid b =
+-- the pieces have their entries in the table and in the layout
+pub entries-all : (l : Lent) (layout : List (List ℕ)) → Laid l layout → (l .size .count ≤ length (l .table)) × (l .size .count ≤ length layout)
+entries-all l layout laid =
     let e = facts l (laid .well) .entries in
     let w = laid .whole in
     (omega arith, omega arith)
+
+-- so has each of them
+pub piece-entries : (l : Lent) (layout : List (List ℕ)) (k : ℕ) → Laid l layout → k < l .size .count → (k < length (l .table)) × (k < length layout)
+piece-entries l layout k laid b = let e = entries-all l layout laid in (omega arith, omega arith)
 
 -- a part is below 2²⁴
 pub part-most : (l : Lent) (ws : List ℕ) (v : Layout) (m : Mover) (k : ℕ) → lentWell l ≡ true → ValidWeights (jobOf l) ws → m .piece < l .size .count

@@ -23,7 +23,7 @@ use Rattle.search_tracks.specs.declared.StandingPiece.{StandingPiece}
 use Rattle.search_tracks.specs.declared.Reach.{Reach}
 use Rattle.search_tracks.specs.Boxes.{BoxesMeet, MeetingReach}
 use Rattle.search_bounded.specs.Ready.{OnTrack, IsStanding}
-use Rattle.search_bounded.specs.Summing.{moverPenalty, partAt, moverPlaces, Summed, PartAdded, ToAdd}
+use Rattle.search_bounded.specs.Summing.{moverPenalty, partAt, Apart, moverPlaces, Summed, PartAdded, ToAdd}
 
 -- ── pieces that are apart ──
 
@@ -100,6 +100,12 @@ module _ (j : Job) (ws : List ℕ) (v : Layout) (m : Mover) (bound k : ℕ) (bef
 -- a part is 0 where the penalty is
 part-zero : (j : Job) (ws : List ℕ) (v : Layout) (m : Mover) (a k : ℕ) → moverPenalty j v m a k ≡ 0 → partAt j ws v m a k ≡ 0
 part-zero j ws v m a k e = ap (λ (p : ℕ). weightBetween (j .size .count) ws (m .piece) k * p) e ∙ mul-zero (weightBetween (j .size .count) ws (m .piece) k)
+
+-- a piece without penalty has no part
+pub summed-apart : (j : Job) (ws : List ℕ) (v : Layout) (m : Mover) (bound k : ℕ) (before : List ℕ) → Summed j ws v m bound k before → Apart j v m k
+    → Summed j ws v m bound (k + 1) before
+summed-apart j ws v m bound k before s h =
+    summed-next j ws v m bound k before s before refl (λ a l. inl (refl, part-zero j ws v m a k (h a))) (λ a. omega arith)
 
 module _ (l : Lent) (ws : List ℕ) (v : Layout) (m : Mover) (t : Track) (st : StandingPiece) (bound k : ℕ) (r : Reach) (before : List ℕ)
     (track : OnTrack l m t) (standing : IsStanding (jobOf l) v (lineDirection (m .line)) k st) (reached : MeetingReach t st r)

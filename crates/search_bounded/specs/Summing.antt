@@ -1,4 +1,5 @@
 -- The sums along a line while the pieces are added one after the other. Assumes nothing.
+use mathlib.Core.Bool.{true, false}
 use mathlib.Core.List.{List}
 use mathlib.Core.Path.{_≡_}
 use Prim.Native.Nat.{ℕ, _+_, _*_, _-_, _<_, _≤_}
@@ -10,6 +11,7 @@ use Rattle.model.specs.Search.{places}
 use Rattle.search_laws.specs.BoundedSearch.{Serves}
 use Rattle.search_laws.specs.PieceSum.{weightBetween, penaltyOn}
 use Rattle.search_laws.specs.Lines.{linePlaces}
+use Rattle.search_bits.specs.Bit.{bitAt}
 use Rattle.search_tracks.specs.declared.Mover.{Mover}
 use Rattle.search_tracks.specs.declared.Track.{Track}
 use Rattle.search_tracks.specs.declared.StandingPiece.{StandingPiece}
@@ -23,6 +25,16 @@ moverPenalty j v m a k = penaltyOn j v (m .piece) (m .turn) (m .line) a k
 -- the part of piece k in the sum at coordinate a
 abbrev pub partAt : Job → List ℕ → Layout → Mover → ℕ → ℕ → ℕ
 partAt j ws v m a k = weightBetween (j .size .count) ws (m .piece) k * moverPenalty j v m a k
+
+-- piece k has no penalty with the mover at any place
+abbrev pub Apart : Job → Layout → Mover → ℕ → Type 0
+Apart j v m k = (a : ℕ) → moverPenalty j v m a k ≡ 0
+
+-- a bit for each of the pieces below n, clear only where the piece is apart
+pub record NearTold (j : Job) (v : Layout) (m : Mover) (n near : ℕ) : Type 0 where
+  pub small : near < 18446744073709551616
+  pub few : (k : ℕ) → bitAt near k ≡ true → k < n
+  pub apart : (k : ℕ) → k < n → bitAt near k ≡ false → Apart j v m k
 
 -- how many places the line has
 abbrev pub moverPlaces : Job → Mover → ℕ

@@ -15,6 +15,7 @@ use search_tracks::Reach;
 use search_tracks::StandingPiece;
 use search_tracks::Track;
 use search_tracks::direction_of;
+use search_tracks::meets_across;
 use search_tracks::reach_of;
 use search_tracks::standing_of;
 ghost use mathlib.Core.Path.{_≡_};
@@ -23,13 +24,14 @@ ghost use Prim.Native.Nat.{ℕ, _+_, _-_, _<_, _≤_};
 ghost use lib.ListN.{length};
 ghost use Rattle.model.specs.Piece.{lineDirection, onLine};
 ghost use Rattle.model.specs.declared.JobSize.{JobSize};
-ghost use Rattle.model.specs.Lent.{lentBy, jobOf};
+ghost use Rattle.model.specs.Lent.{lentBy, jobOf, pieceBound};
 ghost use Rattle.model.specs.Buffer.{layoutOf};
 ghost use Rattle.search_laws.specs.Lines.{middle};
 ghost use Rattle.descent_laws.specs.Claims.{ValidWeights};
 ghost use Rattle.search_laws.specs.Table.{Renewed};
+ghost use Rattle.search_tracks.specs.Boxes.{SmallTrack};
 ghost use Rattle.search_bounded.specs.Ready.{LinesReady, OnTrack, IsStanding};
-ghost use Rattle.search_bounded.specs.Summing.{moverPenalty, LineRead, ToAdd, PartAdded, Summed};
+ghost use Rattle.search_bounded.specs.Summing.{moverPenalty, Apart, NearTold, LineRead, ToAdd, PartAdded, Summed};
 
 // Piece k beside the mover's line.
 fn beside(table: &[PieceEntry], layout: &[PlaceEntry], mover: Mover, k: usize) -> StandingPiece
@@ -256,7 +258,46 @@ pub fn penalty_at(
     lines[from]
 }
 
-// Adds the part of every piece to the sums.
+// 1 where piece k's box meets the mover's across the line, else 0.
+fn near_bit(
+    table: &[PieceEntry],
+    layout: &[PlaceEntry],
+    mover: Mover,
+    track: Track,
+    k: usize,
+) -> u64
+    requires { ⌜ SmallTrack track ⌝ ∗ ⌜ (k < length (now table)) × (k < length (now layout)) ⌝ }
+    ensures bit { λ r. ⌜ r < 2 ⌝ }
+    ensures apart { λ r. ⌜ ((size : JobSize) (pixels : List ℕ) → OnTrack (lentBy size (now (table .entry)) pixels) mover track → r ≡ 0 → Apart (jobOf (lentBy size (now (table .entry)) pixels)) (layoutOf (now (layout .entry))) mover k) ⌝ }
+{
+    let standing = beside(table, layout, mover, k);
+    if meets_across(track, standing) {
+        return 1;
+    }
+    0
+}
+
+// A bit for each piece, set where its box meets the mover's across the line.
+fn near_pieces(
+    size: JobSize,
+    table: &[PieceEntry],
+    layout: &[PlaceEntry],
+    mover: Mover,
+    track: Track,
+) -> u64
+    requires { ⌜ SmallTrack track ⌝ ∗ ⌜ (size .count ≤ pieceBound) × ((size .count ≤ length (now table)) × (size .count ≤ length (now layout))) ⌝ }
+    ensures { λ r. ⌜ ((pixels : List ℕ) → OnTrack (lentBy size (now (table .entry)) pixels) mover track → NearTold (jobOf (lentBy size (now (table .entry)) pixels)) (layoutOf (now (layout .entry))) mover (size .count) r) ⌝ }
+{
+    let mut near = 0;
+    let mut k = 0;
+    while k < size.count {
+        near = near | (near_bit(table, layout, mover, track, k) << k);
+        k += 1;
+    }
+    near
+}
+
+// Adds the part of every piece to the sums: the pieces that the mover cannot meet are passed over.
 pub fn add_others(
     size: JobSize,
     table: &[PieceEntry],
@@ -281,8 +322,9 @@ pub fn add_others(
     ensures summed { λ r. ⌜ Summed (jobOf (lentBy size (now (table .entry)) (now (pixels .entry)))) (now (weights .entry)) (layoutOf (now (layout .entry))) mover bound (size .count) (now (sums .exit)) ⌝ }
     ensures ready { λ r. ⌜ LinesReady (lentBy size (now (table .entry)) (now (pixels .entry))) (lineDirection (mover .line)) (now (strips .entry)) (now (starts .entry)) (now (layout .entry)) width (now (lines .exit)) (now (tags .exit)) (now (maps .exit)) ⌝ }
 {
-    let mut k = 0;
-    while k < size.count {
+    let mut left = near_pieces(size, table, layout, mover, track);
+    while left != 0 {
+        let k = u64::trailing_zeros(left) as usize;
         add_other(
             size,
             table,
@@ -301,7 +343,7 @@ pub fn add_others(
             sums,
             maps,
         );
-        k += 1;
+        left = left & (left - 1);
     }
 }
 

@@ -1,5 +1,6 @@
 -- Boxes beside a line: the moving piece's places, and the places at which its box meets a standing one's. Assumes nothing.
-use Rattle.list_laws.proofs.Kit.{_≡_, subst, sym, ⊎-elim, _+_, _-_, _<_, _≤_, min, suc, ℕ, arith, le-leb, lt-leb}
+use Rattle.list_laws.proofs.Kit.{_≡_, subst, sym, ⊎-elim, _+_, _-_, _<_, _≤_, min, suc, ℕ, _&&_, arith, le-leb, lt-leb, ltb, lt-ltb}
+use Rattle.list_laws.proofs.Tests.{and-both, clash}
 use Rattle.model.specs.Layout.{Job, Layout, turnedPiece, placeOf}
 use Rattle.model.specs.Search.{places}
 use Rattle.model.specs.declared.Direction.{Direction}
@@ -14,7 +15,7 @@ use Rattle.piece_pixels.specs.Turned.{sidesOf}
 use Rattle.search_tracks.specs.declared.Mover.{Mover}
 use Rattle.search_tracks.specs.declared.Track.{Track}
 use Rattle.search_tracks.specs.declared.StandingPiece.{StandingPiece}
-use Rattle.search_tracks.specs.Boxes.{roomOn, trackOn, trackOf, standingOf, SmallTrack, SmallStanding, BoxesMeet, MeetingReach}
+use Rattle.search_tracks.specs.Boxes.{roomOn, trackOn, trackOf, standingOf, SmallTrack, SmallStanding, BoxesMeet, MeetingTold, MeetingReach}
 
 -- a line that leaves the sheet's height has no place
 pub room-none : (length width held sheet height : ℕ) → height < held + width → 0 ≡ roomOn length width held sheet height
@@ -57,6 +58,10 @@ module _ (j : Job) (v : Layout) (k : ℕ) (p : Placement) (s : Sides) (placed : 
   standing-column d e = rw (e, sides, placed)
 
 -- ── where boxes meet ──
+
+-- they meet nowhere unless both tests across pass
+pub told-both : (t : Track) (s : StandingPiece) → MeetingTold t s (ltb (t .held) (s .across + s .width) && ltb (s .across) (t .held + t .width))
+told-both t s = record { apart = λ e a m. clash (and-both (lt-ltb (t .held) (s .across + s .width) (m .below)) (lt-ltb (s .across) (t .held + t .width) (m .above))) e }
 
 -- boxes that are apart across meet nowhere
 pub reach-none : (t : Track) (s : StandingPiece) → ((a : ℕ) → BoxesMeet t s a → ⊥) → MeetingReach t s (record { low = 0; high = 0; from = 0 })

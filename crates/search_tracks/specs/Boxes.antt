@@ -1,5 +1,5 @@
 -- Boxes as a line sees them. Assumes nothing.
-use mathlib.Core.Bool.{true, false}
+use mathlib.Core.Bool.{Bool, true, false}
 use mathlib.Core.Logic.{_⊎_}
 use mathlib.Core.Path.{_≡_}
 use Prim.Native.Nat.{ℕ, suc, _+_, _-_, _<_, _≤_}
@@ -64,6 +64,10 @@ pub record BoxesMeet (t : Track) (s : StandingPiece) (a : ℕ) : Type 0 where
   pub behind : s .along < a + t .length
   pub below : t .held < s .across + s .width
   pub above : s .across < t .held + t .width
+
+-- the answer is no only where they meet at no place
+pub record MeetingTold (t : Track) (s : StandingPiece) (r : Bool) : Type 0 where
+  pub apart : r ≡ false → (a : ℕ) → BoxesMeet t s a → ⊥
 
 -- what holds where there is such a place: where the places begin in the line of the two, that they end in it, and the offset across
 pub record Touching (t : Track) (s : StandingPiece) (r : Reach) : Type 0 where

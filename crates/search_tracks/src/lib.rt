@@ -14,7 +14,7 @@ ghost use Rattle.model.specs.Piece.{lineDirection};
 ghost use Rattle.model.specs.Lent.{lentBy, jobOf, columnBound, sideBound};
 ghost use Rattle.model.specs.Buffer.{layoutOf};
 ghost use Rattle.model.specs.declared.JobSize.{JobSize};
-ghost use Rattle.search_tracks.specs.Boxes.{trackOf, standingOf, roomOn, SmallTrack, SmallStanding, MeetingReach};
+ghost use Rattle.search_tracks.specs.Boxes.{trackOf, standingOf, roomOn, SmallTrack, SmallStanding, MeetingTold, MeetingReach};
 
 // A piece that moves: its number, its turn and the line that it moves on.
 pub struct Mover {
@@ -148,6 +148,15 @@ fn low_of(along: usize, length: usize) -> usize
         return 0;
     }
     along + 1 - length
+}
+
+// Whether the boxes meet across the line. Both tests are made in one: neither can be foretold.
+pub fn meets_across(track: Track, standing: StandingPiece) -> bool
+    requires { ⌜ SmallTrack track ⌝ ∗ ⌜ SmallStanding standing ⌝ }
+    ensures { λ r. ⌜ MeetingTold track standing r ⌝ }
+{
+    (track.held < standing.across + standing.width)
+        & (standing.across < track.held + track.width)
 }
 
 // Where the boxes meet.

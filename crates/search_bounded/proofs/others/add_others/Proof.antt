@@ -1,101 +1,102 @@
--- `search_bounded::others::add_others` meets its contract. The loop's invariant: the sums are those of the pieces passed. Assumes nothing.
-use Rattle.list_laws.proofs.Kit.{_∙_, _≡_, refl, subst, _-_, _≤_, arith, length}
+-- `search_bounded::others::add_others` meets its contract. The loop's invariant: the sums are those of the pieces before the next one that is
+-- left. Assumes nothing.
+use Rattle.list_laws.proofs.Kit.{_∙_, _≡_, refl, _-_, _<_, _≤_, arith, length, needs}
 use Rattle.model.specs.Piece.{lineDirection}
 use Rattle.model.specs.Lent.{lentBy, jobOf}
 use Rattle.model.specs.Buffer.{layoutOf}
 use Rattle.job_laws.proofs.Checked.{facts}
+use lib.Count.{trailing-le}
+use Rattle.search_bits.proofs.Lowest.{cleared-lt}
 use Rattle.search_bounded.specs.Ready.{LinesReady}
-use Rattle.search_bounded.specs.Summing.{Summed}
+use Rattle.search_bounded.proofs.Readings.{entries-all}
+use Rattle.search_bounded.proofs.Near.{Adding, adding-start, adding-at, adding-step, adding-end}
 use Rattle.search_bounded.proofs.others.add_others.Statement.{statement}
 use Rattle.search_bounded.proofs.others.add_others.Tie as tie
 
 abbrev Inv-loop : tie.InvT-loop
-Inv-loop size table pixels strips starts layout weights mover track bound width lines₀ tags₀ sums₀ maps₀ k₀ lines tags sums maps k =
-    (k ≤ size .count) × (length lines ≡ length lines₀) × (length tags ≡ length tags₀) × (length sums ≡ length sums₀) × (length maps ≡ length maps₀)
-    × Summed (jobOf (lentBy size table pixels)) weights (layoutOf layout) mover bound k sums
+Inv-loop size table pixels strips starts layout weights mover track bound width lines₀ tags₀ sums₀ maps₀ left₀ lines tags sums maps left =
+    (length lines ≡ length lines₀) × (length tags ≡ length tags₀) × (length sums ≡ length sums₀) × (length maps ≡ length maps₀)
+    × Adding (jobOf (lentBy size table pixels)) weights (layoutOf layout) mover bound (size .count) left sums
     × LinesReady (lentBy size table pixels) (lineDirection (mover .line)) strips starts layout width lines tags maps
 
 abbrev μ-loop : tie.MeasureT-loop
-μ-loop size table pixels strips starts layout weights mover track bound width lines₀ tags₀ sums₀ maps₀ k₀ lines tags sums maps k = size .count - k
+μ-loop size table pixels strips starts layout weights mover track bound width lines₀ tags₀ sums₀ maps₀ left₀ lines tags sums maps left = left
+
+near-pieces-requires : tie.Need-near-pieces-requires Inv-loop μ-loop
+near-pieces-requires c κs =
+    let at-start : tie.Start Inv-loop μ-loop = search in
+    let a = at-start .args in
+    let l = lentBy (a .size) (a .table .now) (a .pixels .now) in
+    let e = entries-all l (a .layout .now) (at-start .pre .0 .laid) in
+    (at-start .pre .1 .1 .0 .small, (facts l (at-start .pre .0 .laid .well) .fewPieces, e))
 
 loop-holds : tie.Need-loop-holds Inv-loop μ-loop
 loop-holds c =
     let at-start : tie.Start Inv-loop μ-loop = search in
-    (omega arith, refl, refl, refl, refl, at-start .pre .1 .1 .1, at-start .pre .0)
+    let a = at-start .args in (
+      refl,
+      refl,
+      refl,
+      refl,
+      adding-start _ (a .weights .now) _ _ (a .bound) _ _ (a .sums .now) (c .near-pieces .ensures (a .pixels .now) (at-start .pre .1 .1 .0)) (at-start .pre .1 .1 .1),
+      at-start .pre .0,
+    )
+
+cast-k : tie.Need-cast-k Inv-loop μ-loop
+cast-k c =
+    let at-loop : tie.At-loop Inv-loop μ-loop = search in
+    omega (arith, trailing-le 64 (at-loop .loop .left))
 
 add-other-requires : tie.Need-add-other-requires Inv-loop μ-loop
 add-other-requires c κs =
-    let at-then1 : tie.Then1 Inv-loop μ-loop = search in
+    let at-in : tie.In-loop Inv-loop μ-loop = search in
     let at-loop : tie.At-loop Inv-loop μ-loop = search in
     let at-start : tie.Start Inv-loop μ-loop = search in
     let p = at-loop .loop in
-    (p .inv .6, (at-start .pre .1 .0, (at-start .pre .1 .1 .0, (at-then1 .if1 .taken, p .inv .5))))
-
-add-k : tie.Need-add-k Inv-loop μ-loop
-add-k c =
-    let at-then1 : tie.Then1 Inv-loop μ-loop = search in
-    let at-start : tie.Start Inv-loop μ-loop = search in
-    let t = at-then1 .if1 .taken in omega (arith, facts _ (at-start .pre .0 .laid .well) .fewPieces)
+    let x = adding-at _ _ _ _ _ _ (p .left) (p .sums) (at-in .loop-test .taken) (p .inv .4) in
+    (p .inv .5, (at-start .pre .1 .0, (at-start .pre .1 .1 .0, (x .0, x .1))))
 
 loop-less : tie.Need-loop-less Inv-loop μ-loop
 loop-less c =
-    let at-then1 : tie.Then1 Inv-loop μ-loop = search in
-    let t = at-then1 .if1 .taken in omega arith
+    let at-in : tie.In-loop Inv-loop μ-loop = search in
+    let at-loop : tie.At-loop Inv-loop μ-loop = search in
+    let t = at-in .loop-test .taken in
+    cleared-lt (at-loop .loop .left) (omega arith)
 
 loop-again : tie.Need-loop-again Inv-loop μ-loop
 loop-again c =
     let at-add-other : tie.After-add-other Inv-loop μ-loop = search in
-    let at-then1 : tie.Then1 Inv-loop μ-loop = search in
+    let at-in : tie.In-loop Inv-loop μ-loop = search in
     let at-loop : tie.At-loop Inv-loop μ-loop = search in
     let p = at-loop .loop in
-    let t = at-then1 .if1 .taken in
     let x = at-add-other .add-other in (
-      omega arith,
-      x .kept .1 .1 .1 .1 .1 .1 .1 .1 .1 .1 .1 .1 .0 ∙ p .inv .1,
-      x .kept .1 .1 .1 .1 .1 .1 .1 .1 .1 .1 .1 .1 .1 .0 ∙ p .inv .2,
-      x .kept .1 .1 .1 .1 .1 .1 .1 .1 .1 .1 .1 .1 .1 .1 .0 ∙ p .inv .3,
-      x .kept .1 .1 .1 .1 .1 .1 .1 .1 .1 .1 .1 .1 .1 .1 .1 .0 ∙ p .inv .4,
-      x .ensures .0,
+      x .kept .1 .1 .1 .1 .1 .1 .1 .1 .1 .1 .1 .1 .0 ∙ p .inv .0,
+      x .kept .1 .1 .1 .1 .1 .1 .1 .1 .1 .1 .1 .1 .1 .0 ∙ p .inv .1,
+      x .kept .1 .1 .1 .1 .1 .1 .1 .1 .1 .1 .1 .1 .1 .1 .0 ∙ p .inv .2,
+      x .kept .1 .1 .1 .1 .1 .1 .1 .1 .1 .1 .1 .1 .1 .1 .1 .0 ∙ p .inv .3,
+      adding-step _ _ _ _ _ _ (p .left) (p .sums) (at-in .loop-test .taken) (p .inv .4) _ (x .ensures .0),
       x .ensures .1,
     )
 
 same-length : tie.Need-same-length Inv-loop μ-loop
-same-length c = c .before .before .loop .inv .1
+same-length c = let at-loop : tie.At-loop Inv-loop μ-loop = search in at-loop .loop .inv .0
 
 same-length-2 : tie.Need-same-length-2 Inv-loop μ-loop
-same-length-2 c = c .before .before .loop .inv .2
+same-length-2 c = let at-loop : tie.At-loop Inv-loop μ-loop = search in at-loop .loop .inv .1
 
 same-length-3 : tie.Need-same-length-3 Inv-loop μ-loop
-same-length-3 c = c .before .before .loop .inv .3
+same-length-3 c = let at-loop : tie.At-loop Inv-loop μ-loop = search in at-loop .loop .inv .2
 
 same-length-4 : tie.Need-same-length-4 Inv-loop μ-loop
-same-length-4 c = c .before .before .loop .inv .4
+same-length-4 c = let at-loop : tie.At-loop Inv-loop μ-loop = search in at-loop .loop .inv .3
 
 returns : tie.Need-returns Inv-loop μ-loop
 returns c =
-    let at-start : tie.Start Inv-loop μ-loop = search in
-    let a = at-start .args in
-    let p = c .before .before .loop in
-    let done : p .k ≡ a .size .count = (let t = c .if1 .left in let b = p .inv .0 in omega arith) in (
-      subst (λ k.
-          Summed (jobOf (lentBy (a .size) (a .table .now) (a .pixels .now))) (a .weights .now) (layoutOf (a .layout .now)) (a .mover) (a .bound) k (p .sums))
-          done (p .inv .5),
-      p .inv .6,
-    )
+    let at-loop : tie.At-loop Inv-loop μ-loop = search in
+    let p = at-loop .loop in
+    (adding-end _ _ _ _ _ _ (p .left) (p .sums) (c .loop-test .left) (p .inv .4), p .inv .5)
 
 pub add-others-spec : {M : Type 1} → statement M
 add-others-spec =
-    tie.close
-    (tie.spec
-    Inv-loop
-    μ-loop
-    loop-holds
-    add-other-requires
-    add-k
-    loop-less
-    loop-again
-    same-length
-    same-length-2
-    same-length-3
-    same-length-4
-    returns)
+    tie.close (tie.spec Inv-loop μ-loop near-pieces-requires loop-holds cast-k add-other-requires (search needs) loop-less loop-again same-length same-length-2
+    same-length-3 same-length-4 returns)
