@@ -155,8 +155,7 @@ pub fn meets_across(track: Track, standing: StandingPiece) -> bool
     requires { ⌜ SmallTrack track ⌝ ∗ ⌜ SmallStanding standing ⌝ }
     ensures { λ r. ⌜ MeetingTold track standing r ⌝ }
 {
-    (track.held < standing.across + standing.width)
-        & (standing.across < track.held + track.width)
+    (track.held < standing.across + standing.width) & (standing.across < track.held + track.width)
 }
 
 // Where the boxes meet.
