@@ -99,6 +99,7 @@ bit-mul-low x zero i l = absurd (omega arith)
 bit-mul-low x (suc s) zero l = ap isSet (shifted-even x s)
 bit-mul-low x (suc s) (suc i) l = ap (λ (n : ℕ). bitAt n i) (shifted-half x s) ∙ bit-mul-low x s i (omega arith)
 
+-- a bit of a number moved up, above where it begins
 pub bit-mul-high : (x s i : ℕ) → bitAt (x * 2 ^ s) (s + i) ≡ bitAt x i
 unfolding bitAt
 bit-mul-high x zero i = ap₂ bitAt (mul-one x) (zero-add i)

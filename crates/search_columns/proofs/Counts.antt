@@ -26,6 +26,7 @@ fallen-step xs k n l =
     let f : suc k ≡ k + 1 = omega arith in
     ap (fallen xs k) e ∙ ap (λ (z : ℕ). counted (getD xs k 0) (fallen xs z (n - (k + 1)))) f
 
+-- past the last place it is 0
 pub fallen-none : (xs : List ℕ) (n : ℕ) → 0 ≡ fallen xs n (n - n)
 fallen-none xs n = let e : n - n ≡ 0 = omega arith in sym (ap (fallen xs n) e)
 

@@ -8,7 +8,7 @@ use Rattle.model.specs.Piece.{Shape, point, extent}
 use Rattle.model.specs.Overlap.{penalty}
 use Rattle.model.specs.declared.Direction.{Direction}
 
--- where the moved piece stands across: an offset of the standing piece is counted from here, so none is below 0
+-- where the moved piece stands across: an offset of the standing piece is counted from here, so none that matters is below 0
 abbrev pub middle : ℕ
 middle = 255
 

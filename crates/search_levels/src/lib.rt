@@ -1,5 +1,5 @@
-// Levels of one string of bits in one slice of words: level k has 2 ^ k marks for each mark of level 0. A strip of any length is two moves
-// up of one level.
+// Levels of one string of bits in one slice of words: level k has 2 ^ k marks for each mark of level 0. A strip of up to 511 pixels is one or
+// two moves up of one level.
 ghost use Prim.Native.Nat.{_+_, _<_, _≤_};
 ghost use lib.ListN.{length};
 ghost use Rattle.search_words.specs.Words.{OrRow};

@@ -1,5 +1,6 @@
 // Penalty lines, made once and kept as long as they are right: see specs/Kept.antt. A search asks for the line of a moved piece and a
-// standing one; most lines survive many moves, so most are found.
+// standing one; most lines survive many moves, so most are found. A line that is not kept is read from the map of the two pieces' classes, the
+// one of the lower number moved and in no turn: see specs/Sources.antt.
 ghost use mathlib.Core.Path.{_≡_};
 ghost use mathlib.Core.List.{List};
 ghost use mathlib.Core.Bool.{true};
@@ -24,7 +25,7 @@ use model::Turn;
 use search_maps::Sides;
 use whole_numbers::larger;
 
-// The row of a moved piece to which the offset of a standing one is counted: no offset that matters is below 0.
+// Where the moved piece's corner stands across: no offset of a standing one that matters is below 0.
 pub const MIDDLE: usize = search_map_lines::MIDDLE;
 
 // Twice the middle: an offset and its mirrored one come to it.
@@ -54,7 +55,7 @@ const KEYS: usize = 4 * PIECE_BOUND * OFFSETS;
 // Half the least width of a slot.
 const LEAST_SIDE: usize = 32;
 
-// Two pieces in their turns, and the standing one's offset across the line, counted from the moved one's middle.
+// Two pieces in their turns, and the standing one's offset across the line: MIDDLE where both corners are on one line.
 pub struct Two {
     pub moved: usize,
     pub moved_turn: Turn,
@@ -222,7 +223,8 @@ fn draw_line(
     count
 }
 
-// The two pieces with their parts exchanged: what moved stands, at the mirrored offset. From 510 on the boxes do not meet, nor do they at 0.
+// The two pieces with their parts exchanged: what moved stands, at the mirrored offset. At 0 and from
+// 510 on the boxes do not meet, so that an offset that would be below 0 may be 0.
 fn exchanged(two: Two) -> Two
     ensures { λ r. ⌜ r ≡ exchangedTwo two ⌝ }
 {

@@ -52,6 +52,7 @@ module _ (d : Direction) (t : Turn) (s : Shape) (es : List (List ℕ)) where
   pub moved-entries : StripsOf d (turned (opposite t) s) es → es ≡ entries d (turned Half (turned t s))
   moved-entries h = h .same ∙ opposite-entries d t s
 
+  -- and lie in its box
   pub moved-in : StripsOf d (turned (opposite t) s) es → StripsIn (extent d (turned t s)) (extent (other d) (turned t s)) es
   moved-in h =
       subst (StripsIn (extent d (turned t s)) (extent (other d) (turned t s))) (sym (h .same)) (opposite-in d t s)
@@ -60,5 +61,6 @@ module _ (d : Direction) (t : Turn) (s : Shape) (es : List (List ℕ)) where
   pub standing-entries : StripsOf d (turned t s) es → es ≡ entries d (turned t s)
   standing-entries h = h .same
 
+  -- and lie in its box
   pub standing-in : StripsOf d (turned t s) es → StripsIn (extent d (turned t s)) (extent (other d) (turned t s)) es
   standing-in h = subst (StripsIn (extent d (turned t s)) (extent (other d) (turned t s))) (sym (h .same)) (strips-in d (turned t s))

@@ -133,6 +133,7 @@ module _ (slots : ℕ) (d : ℕ → Direction) (s t : ℕ → Shape) (z : Sides)
     (ez : z ≡ sidesOf (d key) (s key) (t key)) (map : MapOf (d key) (s key) (t key) part) (size : n ≡ mapWords z) (same : m ≡ n)
     (full : length part ≡ m) (room : RoomFor slots n words ys at) (there : slot < slots) (small : at < beginLimit)
   where
+    -- the part lies in the words
     fits : at + m ≤ length ys
     fits = let f = room .fits in let r = room .same in omega arith
 
@@ -148,6 +149,7 @@ module _ (slots : ℕ) (d : ℕ → Direction) (s t : ℕ → Shape) (z : Sides)
     abbrev words′ : List ℕ
     words′ = set told slots (at + n)
 
+    -- each of these is as long as the words were
     put-same : length put′ ≡ length ys
     put-same = put-length ys part at m full fits
 
@@ -157,9 +159,11 @@ module _ (slots : ℕ) (d : ℕ → Direction) (s t : ℕ → Shape) (z : Sides)
     all-same : length words′ ≡ length words
     all-same = length-set told slots (at + n) ∙ told-same ∙ room .same
 
+    -- the end is past the map
     end-is : endOf slots words′ ≡ at + n
     end-is = let e = told-same in let f = fits in let l = room .low in getD-set-same told slots (at + n) 0 (omega arith)
 
+    -- the slots are those before the end was written
     slot-at : (i : ℕ) → i < slots → getD words′ i 0 ≡ getD told i 0
     slot-at i l = getD-set-other told slots i (at + n) 0 (λ e. omega arith)
 
@@ -171,6 +175,7 @@ module _ (slots : ℕ) (d : ℕ → Direction) (s t : ℕ → Shape) (z : Sides)
         set-stands (d k) (s k) (t k) told slots (at + n) a end (omega arith) (omega arith)
         (set-stands (d k) (s k) (t k) put′ slot (slotWord key at) a end (omega arith) (omega arith) p)
 
+    -- the map of the key stands in its part
     new : MapAt (d key) (s key) (t key) words′ at (at + n)
     new =
         let e : m ≡ mapWords (sidesOf (d key) (s key) (t key)) = same ∙ size ∙ ap mapWords ez in

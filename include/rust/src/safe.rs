@@ -1,8 +1,8 @@
 //! A thin safe layer over the calls that the examples and the cut list's program use.
 //!
 //! The layer is sound because a call trusts no byte that it is lent, keeps no pointer and writes only inside the lengths that it is
-//! given: every length below is that of a slice, and what a call writes is borrowed for it alone. A thread that calls needs up to 3 MB of
-//! stack beyond its own, more than the 2 MB that a thread of the standard library has unless `stack_size` says otherwise.
+//! given: every length below is that of a slice, and what a call writes is borrowed for it alone. A thread that calls needs up to 1.5 MB
+//! of stack beyond its own; one of the standard library has 2 MB unless `stack_size` says otherwise.
 
 use alloc::vec;
 use alloc::vec::Vec;

@@ -9,8 +9,8 @@ use calls::plan;
 /// Threads that make the calls.
 const THREADS: usize = 2;
 
-/// The stack of a thread, enough for the calls that ask for most.
-const STACK: usize = 8 << 20;
+/// The stack of a thread: 1.5 MB, which the header says that every call takes at most, and half a megabyte for the comparison itself.
+const STACK: usize = 2 << 20;
 
 fn main() -> ExitCode {
     let comparison = plan::run(&archive::call, THREADS, STACK);
