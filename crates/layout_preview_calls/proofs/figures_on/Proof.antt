@@ -58,8 +58,10 @@ filled : (c : tie.After-penalties-of) → let s : tie.Start = search in
 filled c =
     let s : tie.Start = search in
     let put : tie.After-put-moved = search in
+    let new-whole = sym (copied put .whole) in
+    let old-whole = sym (s .pre .0 .whole) in
     subst (λ v. PenaltyTable (jobOf (lent s)) v (s .args .size .count) (c .penalties-of .result)) (moved-is put)
-    (c .penalties-of .ensures (s .args .size) (sym (copied put .whole)))
+    (c .penalties-of .ensures (s .args .size) search)
 
 total-requires : tie.Need-total-requires
 unfolding jobOf
