@@ -1,9 +1,9 @@
 -- The pieces that the mover can meet, as the bits of a word: how the word is made, and how its pieces are added one after the other.
 -- Assumes nothing.
 use Rattle.list_laws.proofs.Kit.{_∙_, _≡_, ap, refl, subst, sym, Bool, _&&_, _||_, false, not, true, _⊎_, inl, inr, List, _%_, _*_, _+_, _-_, _<_, _^_, _≤_}
-use Rattle.list_laws.proofs.Kit.{suc, zero, ℕ, arith, mod-lt, mul-zero, leb, le-leb, eq-eqb, ne-eqb, add-one, eqb}
+use Rattle.list_laws.proofs.Kit.{suc, zero, ℕ, arith, mod-lt, leb, le-leb, eq-eqb, ne-eqb, eqb}
 use Rattle.list_laws.proofs.Numbers.{below-or}
-use Rattle.list_laws.proofs.Tests.{and-left, and-right, clash, or-cases, or-neither, fails}
+use Rattle.list_laws.proofs.Tests.{and-left, and-right, clash, or-cases, or-neither}
 use lib.Bits.{bitOr, bitAnd, or-lt}
 use lib.Count.{trailingZeros}
 use lib.Pow.{pow-pos}

@@ -2,7 +2,7 @@
 use Rattle.list_laws.proofs.Kit.{_∙_, _≡_, ap, refl, subst, sym, Bool, _&&_, false, not, true, _⊎_, inl, inr, List, _%_, _*_, _+_, _-_, _<_, _^_, _≤_, min, ℕ, _/_, arith}
 use Rattle.list_laws.proofs.Numbers.{below-or}
 use Rattle.list_laws.proofs.Tests.{and-both, clash, first-fails, second-fails}
-use lib.Count.{trailingZeros, leadingZeros, trailing-le, leading-le}
+use lib.Count.{trailingZeros, leadingZeros, leading-le}
 use Rattle.search_bits.specs.Bit.{bitAt, bitIn}
 use Rattle.search_bits.proofs.Lowest.{trailing-set, trailing-clear}
 use Rattle.search_bits.proofs.Highest.{leading-set, leading-clear}

@@ -1,5 +1,5 @@
 -- `search_line_sums::any_below` meets its contract. The loop's invariant: no sum passed is below the bound. Assumes nothing.
-use Rattle.list_laws.proofs.Kit.{_∙_, _≡_, ap, subst, sym, ⊎-elim, _+_, _-_, ℕ, arith, length, needs}
+use Rattle.list_laws.proofs.Kit.{_∙_, _≡_, subst, sym, ⊎-elim, _+_, _-_, arith, length, needs}
 use Rattle.list_laws.proofs.Tests.{or-cases, or-neither}
 use Rattle.search_line_sums.specs.Answers.{NoneBelow}
 use Rattle.search_line_sums.proofs.Scans.{four-some, four-none}

@@ -1,5 +1,5 @@
 -- `search_sums::cost_between` meets its contract: nothing at no penalty, else weight × penalty. Assumes nothing.
-use Rattle.list_laws.proofs.Kit.{_∙_, _≡_, ap, sym, _*_, ℕ, arith, mul-zero, needs}
+use Rattle.list_laws.proofs.Kit.{_∙_, ap, sym, _*_, ℕ, arith, mul-zero, needs}
 use Rattle.search_laws.proofs.Rows.{term-small}
 use Rattle.search_laws.specs.PieceSum.{weightBetween}
 use Rattle.search_sums.proofs.cost_between.Statement.{statement}

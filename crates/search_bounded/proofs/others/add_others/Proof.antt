@@ -1,6 +1,6 @@
 -- `search_bounded::others::add_others` meets its contract. The loop's invariant: the sums are those of the pieces before the next one that is
 -- left. Assumes nothing.
-use Rattle.list_laws.proofs.Kit.{_∙_, _≡_, refl, _-_, _<_, _≤_, arith, length, needs}
+use Rattle.list_laws.proofs.Kit.{_∙_, _≡_, refl, _-_, arith, length, needs}
 use Rattle.model.specs.Piece.{lineDirection}
 use Rattle.model.specs.Lent.{lentBy, jobOf}
 use Rattle.model.specs.Buffer.{layoutOf}

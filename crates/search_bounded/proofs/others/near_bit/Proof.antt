@@ -1,5 +1,5 @@
 -- `search_bounded::others::near_bit` meets its contract: where the boxes do not meet across, the two are apart. Assumes nothing.
-use Rattle.list_laws.proofs.Kit.{_≡_, arith, needs}
+use Rattle.list_laws.proofs.Kit.{arith, needs}
 use mathlib.Core.List.{[]}
 use Rattle.model.specs.Lent.{lentBy}
 use Rattle.model.specs.Buffer.{layoutOf}

@@ -1,5 +1,5 @@
 -- `search_bounded::others::near_pieces` meets its contract. The loop's invariant: the word tells of the pieces below k. Assumes nothing.
-use Rattle.list_laws.proofs.Kit.{_≡_, subst, List, _-_, _≤_, ℕ, arith, needs}
+use Rattle.list_laws.proofs.Kit.{_≡_, subst, List, _-_, _≤_, ℕ, arith}
 use Rattle.model.specs.Lent.{lentBy, jobOf}
 use Rattle.model.specs.Buffer.{layoutOf}
 use Rattle.search_bounded.specs.Ready.{OnTrack}
