@@ -60,7 +60,7 @@ extern "C" {
 #define SIGBROL_OUTPUT 4096
 
 /* Words of a workspace: fewer than the first are not used; the second hold the maps of a job of middle size, 2 MB. */
-#define SIGBROL_WORKSPACE_LEAST 12986
+#define SIGBROL_WORKSPACE_LEAST 29061
 #define SIGBROL_WORKSPACE 262144
 
 /* How many lines suffice for the cut list of every layout on a sheet. */

@@ -14,9 +14,9 @@ use Rattle.search_bits.specs.Bit.{lengthLimit}
 use Rattle.search_shapes.specs.Shapes.{shapeNumber, Held, Shapes, StripsOf}
 use Rattle.search_maps.specs.declared.Sides.{Sides}
 use Rattle.search_maps.specs.Map.{opposite, sidesOf, columnsOf, rowsOf, mapWords, SidesFit, StripsIn, MapOf}
-use Rattle.search_maps.proofs.Fitting.{rows-small}
 use Rattle.search_map_lines.specs.Line.{Bordered, ByteSides, LineOf, placesOf}
 use Rattle.search_map_store.specs.Store.{endOf, MapAt, StoreFits, Kept}
+use Rattle.search_map_store.proofs.Keeping.{room-most}
 use Rattle.search_map_laws.specs.Keys.{directionOf, movedOf, standingOf}
 use Rattle.search_map_laws.proofs.Borders.{bordered}
 use Rattle.search_map_laws.proofs.Keys.{moved-back, standing-back}
@@ -78,13 +78,11 @@ module _ (l : Lent) (store : List (List ℕ)) (starts : List ℕ) (two : Two) (a
     line-places Horizontal = ap columnsOf is
     line-places Vertical = ap rowsOf is
 
-    -- the store has room for the map
+    -- the store has room to make the map
     pub store-fits : (key slot : ℕ) → key < 65536 → slot < mapSlots → (maps : List ℕ) (n : ℕ) → n ≡ length maps - classWords → MapsReady (jobOf l) maps
         → StoreFits z key slot mapSlots (take n (drop classWords maps))
     store-fits key slot small there maps n rest m =
-        let f = sides-made in
-        let k : ℕ = z .«moved_across» + z .«standing_across» + 1 in
-        let h = rows-small z f k (omega (arith, f .moved-across .high, f .standing-across .high)) in
+        let h = room-most z sides-made in
         let room = m .room in
         let short = m .short in
         let long : length (drop classWords maps) ≡ length maps - classWords = length-drop classWords maps in

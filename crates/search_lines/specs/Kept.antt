@@ -12,7 +12,7 @@ use Rattle.model.specs.declared.Turn.{Turn}
 use Rattle.search_bits.specs.Bit.{lengthLimit}
 use Rattle.search_shapes.specs.Shapes.{shapeNumber}
 use Rattle.search_laws.specs.Lines.{linePlaces, HoldsLine}
-use Rattle.search_maps.specs.Map.{mapBound}
+use Rattle.search_maps.specs.Map.{scratchBound}
 use Rattle.search_classes.specs.Classes.{Classes}
 use Rattle.search_map_store.specs.Store.{MapsKept}
 use Rattle.search_map_laws.specs.Keys.{directionOf, movedOf, standingOf}
@@ -36,11 +36,11 @@ classWords = 64
 abbrev pub mapSlots : ℕ
 mapSlots = 8320
 
--- the least words of a store of maps: classes, slots, the end, and room for the largest map
+-- the least words of a store of maps: classes, slots, the end, and room to make every map
 abbrev pub leastMaps : ℕ
-leastMaps = classWords + mapSlots + 1 + mapBound
+leastMaps = classWords + mapSlots + 1 + scratchBound
 
--- the first words are the classes of the job's pieces; the others are a store that keeps maps of the job, and has room for every one of them
+-- the first words are the classes of the job's pieces; the others are a store that keeps maps of the job, and has room to make every one of them
 pub record MapsReady (j : Job) (maps : List ℕ) : Type 0 where
   pub classes : Classes j maps
   pub kept : MapsKept mapSlots directionOf (movedOf j) (standingOf j) (drop classWords maps)

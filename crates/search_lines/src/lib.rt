@@ -43,8 +43,9 @@ const CLASS_WORDS: usize = PIECE_BOUND;
 // The slots of a store of maps: for each two pieces, and one with itself, and each turn of the standing one.
 const MAP_SLOTS: usize = PIECE_BOUND * (PIECE_BOUND + 1) * 2;
 
-// The least words of a store of maps: classes, slots, the end, and room for the largest map.
-pub const LEAST_MAPS: usize = CLASS_WORDS + MAP_SLOTS + 1 + search_maps::MAP_WORDS;
+// The least words of a store of maps: classes, slots, the end, and room to make every map. The longest scratch is longer than the largest
+// map.
+pub const LEAST_MAPS: usize = CLASS_WORDS + MAP_SLOTS + 1 + search_maps::SCRATCH_WORDS;
 
 // Every offset that a key holds is below it.
 const OFFSETS: usize = 1024;

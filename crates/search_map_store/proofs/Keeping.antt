@@ -1,4 +1,4 @@
--- One more map in the store: the maps before it are as they were. Assumes nothing.
+-- One more map in the store, made elsewhere and copied where it is large: the maps before it are as they were. Assumes nothing.
 use Rattle.list_laws.proofs.Kit.{_∙_, _≡_, ap, refl, subst, subst₂, sym, List, _++_, _*_, _+_, _-_, _/_, _%_, _<_, _≤_, ℕ, arith, List·getD-append}
 use Rattle.list_laws.proofs.Kit.{drop, getD, length, length-append, length-drop, length-set, length-take, take, getD-append-add, getD-take, set}
 use Rattle.list_laws.proofs.Kit.{getD-set-other, getD-set-same, length-take-le, ℕ-discrete}
@@ -8,9 +8,22 @@ use Rattle.model.specs.declared.Direction.{Direction}
 use Rattle.search_bits.specs.Bit.{bitAt, bitIn}
 use Rattle.search_bits.proofs.Strings.{bit-alike, bit-in, bit-part}
 use Rattle.search_maps.specs.declared.Sides.{Sides}
-use Rattle.search_maps.specs.Map.{sidesOf, mapWords, cellPlace, MapOf}
+use Rattle.search_maps.specs.Map.{sidesOf, mapWords, scratchBound, mapBound, cellPlace, SidesFit, MapOf}
+use Rattle.search_maps.proofs.Fitting.{rows-small, scratch-most}
 use Rattle.search_maps.proofs.Shared.{cell-in}
-use Rattle.search_map_store.specs.Store.{beginLimit, slotWord, endOf, MapAt, MapsBefore, MapsKept, Forgotten, RoomFor, Kept}
+use Rattle.search_map_store.specs.Store.{beginLimit, slotWord, endOf, roomWords, Copied, MapAt, MapsBefore, MapsKept, Forgotten, RoomFor, Kept}
+
+-- ── words of a map ──
+
+-- no map has more words than the bound
+pub map-most : (z : Sides) → SidesFit z → mapWords z ≤ mapBound
+map-most z f =
+    let h = rows-small z f (z .«moved_across» + z .«standing_across» + 1) (omega (arith, f .moved-across .high, f .standing-across .high)) in
+    omega arith
+
+-- none is made in more words than the largest scratch has
+pub room-most : (z : Sides) → SidesFit z → roomWords z ≤ scratchBound
+room-most z f = let m = map-most z f in let s = scratch-most z f in omega arith
 
 -- words with the same bits hold the same map
 map-same : (d : Direction) (s t : Shape) (ws vs : List ℕ) → mapWords (sidesOf d s t) ≤ length vs
@@ -21,6 +34,14 @@ map-same d s t ws vs l e m =
       cells = λ X Y x y. e (cellPlace (sidesOf d s t) X Y) (cell-in (sidesOf d s t) X Y (omega arith) (omega arith)) ∙ m .cells X Y x y;
       only = λ p h b. m .only p h (sym (e p h) ∙ b);
     }
+
+-- a map whose words are copied is a map
+pub map-copied : (z : Sides) (n : ℕ) (ws xs vs : List ℕ) → n ≡ mapWords z → mapWords z ≤ length xs → Copied n ws xs vs
+    → (d : Direction) (s t : Shape) → z ≡ sidesOf d s t → MapOf d s t ws → MapOf d s t vs
+map-copied z n ws xs vs e l c d s t ez m =
+    let k : n ≡ mapWords (sidesOf d s t) = e ∙ ap mapWords ez in
+    let q = c .same in
+    map-same d s t ws vs (omega arith) (λ p h. bit-alike vs ws p (c .each (p / 64) (omega arith))) m
 
 -- a map stands when a word before it is set
 set-stands : (d : Direction) (s t : Shape) (ws : List ℕ) (i v a end : ℕ) → i < a → end ≤ length ws → MapAt d s t ws a end → MapAt d s t (set ws i v) a end
@@ -37,10 +58,6 @@ set-stands d s t ws i v a end l h m =
           ∙ bit-alike (set ws i v) ws (a * 64 + p) (getD-set-other ws i ((a * 64 + p) / 64) v 0 (λ z. omega arith))
           ∙ sym (bit-part ws a k p q)) (m .map);
     }
-
--- a map that ends before a place ends before a later one
-ends-later : (d : Direction) (s t : Shape) (ws : List ℕ) (a end later : ℕ) → end ≤ later → MapAt d s t ws a end → MapAt d s t ws a later
-ends-later d s t ws a end later l m = record { within = (let w = m .within in omega arith); map = m .map }
 
 -- ── a part of the words, written anew ──
 
@@ -91,15 +108,15 @@ module _ (xs part : List ℕ) (at n : ℕ) (full : length part ≡ n) (room : at
             (λ p h. bit-part put a k p h ∙ bit-before (a * 64 + p) (omega arith) ∙ sym (bit-part xs a k p h)) (m .map);
       }
 
-  -- the part is a map that stands
-  pub part-stands : (d : Direction) (s t : Shape) → n ≡ mapWords (sidesOf d s t) → MapOf d s t part → MapAt d s t put at (at + n)
-  part-stands d s t e m =
-      let k : ℕ = mapWords (sidesOf d s t) in
+  -- a map at the front of the part stands
+  pub part-stands : (d : Direction) (s t : Shape) (k : ℕ) → k ≡ mapWords (sidesOf d s t) → k ≤ n → MapOf d s t part → MapAt d s t put at (at + k)
+  part-stands d s t k e l m =
+      let w : ℕ = mapWords (sidesOf d s t) in
       let len = put-length in
-      let there : length (take k (drop at put)) ≡ k = simp (length-take, length-drop) (omega arith) in
+      let there : length (take w (drop at put)) ≡ w = simp (length-take, length-drop) (omega arith) in
       record {
         within = omega arith;
-        map = map-same d s t part (take k (drop at put)) (omega arith) (λ p h. bit-part put at k p h ∙ bit-inside p (omega arith)) m;
+        map = map-same d s t part (take w (drop at put)) (omega arith) (λ p h. bit-part put at w p h ∙ bit-inside p (omega arith)) m;
       }
 
 -- ── slots ──
@@ -129,9 +146,9 @@ room-first slots n xs ys l g =
 
 -- ── one more map ──
 
-module _ (slots : ℕ) (d : ℕ → Direction) (s t : ℕ → Shape) (z : Sides) (key slot : ℕ) (words ys part : List ℕ) (at n m : ℕ)
-    (ez : z ≡ sidesOf (d key) (s key) (t key)) (map : MapOf (d key) (s key) (t key) part) (size : n ≡ mapWords z) (same : m ≡ n)
-    (full : length part ≡ m) (room : RoomFor slots n words ys at) (there : slot < slots) (small : at < beginLimit)
+module _ (slots : ℕ) (d : ℕ → Direction) (s t : ℕ → Shape) (z : Sides) (key slot : ℕ) (words ys part : List ℕ) (at n k m : ℕ)
+    (ez : z ≡ sidesOf (d key) (s key) (t key)) (map : MapOf (d key) (s key) (t key) part) (size : n ≡ mapWords z) (wide : n ≤ k) (same : m ≡ k)
+    (full : length part ≡ m) (room : RoomFor slots k words ys at) (there : slot < slots) (small : at < beginLimit)
   where
     -- the part lies in the words
     fits : at + m ≤ length ys
@@ -178,10 +195,9 @@ module _ (slots : ℕ) (d : ℕ → Direction) (s t : ℕ → Shape) (z : Sides)
     -- the map of the key stands in its part
     new : MapAt (d key) (s key) (t key) words′ at (at + n)
     new =
-        let e : m ≡ mapWords (sidesOf (d key) (s key) (t key)) = same ∙ size ∙ ap mapWords ez in
         let f = fits in
         stands key at (at + n) (room .low) (omega arith)
-        (ends-later (d key) (s key) (t key) put′ at (at + m) (at + n) (omega arith) (part-stands ys part at m full fits (d key) (s key) (t key) e map))
+        (part-stands ys part at m full fits (d key) (s key) (t key) n (size ∙ ap mapWords ez) (omega arith) map)
 
     -- the key has its map, and the other maps are as they were
     pub added : Kept slots d s t key words words′ at

@@ -3,13 +3,13 @@
 -- caller's: d, s and t have them by key. Assumes nothing.
 use mathlib.Core.List.{List}
 use mathlib.Core.Path.{_≡_}
-use Prim.Native.Nat.{ℕ, _+_, _*_, _<_, _≤_}
+use Prim.Native.Nat.{ℕ, _+_, _*_, _<_, _≤_, max}
 use lib.ListN.{length, getD, take, drop}
 use Rattle.model.specs.Piece.{Shape}
 use Rattle.model.specs.declared.Direction.{Direction}
 use Rattle.search_bits.specs.Bit.{lengthLimit}
 use Rattle.search_maps.specs.declared.Sides.{Sides}
-use Rattle.search_maps.specs.Map.{sidesOf, mapWords, MapOf}
+use Rattle.search_maps.specs.Map.{sidesOf, mapWords, scratchWords, MapOf}
 
 -- every begin is below it
 abbrev pub beginLimit : ℕ
@@ -26,6 +26,15 @@ slotWord key at = (key + 1) * beginLimit + at
 -- where the next map goes
 abbrev pub endOf : ℕ → List ℕ → ℕ
 endOf slots words = getD words slots 0
+
+-- the words that a map is made in: its own, or its scratch where that is longer
+abbrev pub roomWords : Sides → ℕ
+roomWords z = max (mapWords z) (scratchWords z)
+
+-- the first n words are copied
+pub record Copied (n : ℕ) (from xs ys : List ℕ) : Type 0 where
+  pub same : length ys ≡ length xs
+  pub each : (k : ℕ) → k < n → getD ys k 0 ≡ getD from k 0
 
 -- the map of two shapes stands from `at` on, before `end`
 pub record MapAt (d : Direction) (s t : Shape) (words : List ℕ) (at end : ℕ) : Type 0 where
@@ -56,12 +65,12 @@ pub record RoomFor (slots n : ℕ) (xs ys : List ℕ) (r : ℕ) : Type 0 where
   pub fits : r + n ≤ length xs
   pub kept : (d : ℕ → Direction) (s t : ℕ → Shape) → MapsKept slots d s t xs → MapsBefore slots d s t ys r
 
--- the slot is one of the slots, and there is room for the map if it is the only one
+-- the slot is one of the slots, and there is room to make the map if it is the only one
 pub record StoreFits (z : Sides) (key slot slots : ℕ) (words : List ℕ) : Type 0 where
   pub slot-in : slot < slots
   pub few : key < keyLimit
   pub end : slots + 1 ≤ endOf slots words
-  pub room : slots + 1 + mapWords z ≤ length words
+  pub room : slots + 1 + roomWords z ≤ length words
   pub short : length words < lengthLimit
 
 -- the map of the key stands from r on, and all maps that are kept are right if they were

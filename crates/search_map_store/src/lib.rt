@@ -1,5 +1,5 @@
 // Maps, made once and kept: they stand one after the other in one slice of words, behind slots that tell whose map begins where. Where no
-// room is left, all maps are forgotten.
+// room is left to make one, all maps are forgotten.
 ghost use mathlib.Core.Path.{_≡_};
 ghost use Prim.Native.Nat.{ℕ, _+_, _<_, _≤_};
 ghost use lib.ListN.{length};
@@ -9,15 +9,16 @@ ghost use Rattle.model.specs.declared.Turn.the-variants.{Half};
 ghost use Rattle.pair_overlap.specs.Seen.{entries};
 ghost use Rattle.search_bits.specs.Bit.{lengthLimit};
 ghost use Rattle.search_maps.specs.Map.{sidesOf, SidesFit, StripsIn, ScratchRoom, MapRoom, MapOf};
-ghost use Rattle.search_map_store.specs.Store.{endOf, Forgotten, RoomFor, StoreFits, Kept};
+ghost use Rattle.search_map_store.specs.Store.{endOf, roomWords, Copied, Forgotten, RoomFor, StoreFits, Kept};
 use model::StripEntry;
-use search_maps::SCRATCH_WORDS;
+use search_maps::MAP_WORDS;
 use search_maps::Sides;
+use whole_numbers::larger;
 
 // Every begin is below it: a slot holds a key and a begin.
 const BEGINS: u64 = 4294967296;
 
-// The words of scratch for maps of small pieces. There are many of these, and clearing the scratch of a large one would take longer than
+// The words of scratch for maps of small pieces. There are many of these, and clearing what a large one is made in would take longer than
 // making a small map.
 const SMALL_SCRATCH: usize = 512;
 
@@ -59,22 +60,36 @@ fn make_small(moved: &[StripEntry], standing: &[StripEntry], sides: Sides, words
     search_maps::make_map(moved, standing, sides, &mut scratch, words);
 }
 
-// Makes the map of any two pieces.
+// Copies the first n words.
+fn copy_words(from: &[u64], to: &mut [u64], n: usize)
+    requires { ⌜ (n ≤ length (now from)) × (n ≤ length (now to)) ⌝ }
+    ensures { λ r. ⌜ Copied n (now (from .entry)) (now (to .entry)) (now (to .exit)) ⌝ }
+{
+    let mut k = 0;
+    while k < n {
+        to[k] = from[k];
+        k += 1;
+    }
+}
+
+// Makes the map of any two pieces. The words that it goes to are its scratch before: scratch that is enough for every map is several times as
+// long as a map, and a local array of that length would be touched page by page by every caller that this is compiled into.
 fn make_large(moved: &[StripEntry], standing: &[StripEntry], sides: Sides, words: &mut [u64])
     requires { ⌜ SidesFit sides ⌝ ∗ ⌜ StripsIn (sides .«moved_along») (sides .«moved_across») (now moved) ⌝
         ∗ ⌜ StripsIn (sides .«standing_along») (sides .«standing_across») (now standing) ⌝
-        ∗ ⌜ MapRoom sides (length (now words)) ⌝ }
+        ∗ ⌜ ScratchRoom sides (length (now words)) ⌝ ∗ ⌜ MapRoom sides (length (now words)) ⌝ }
     ensures { λ r. ⌜ ((d : Direction) (s t : Shape) → sides ≡ sidesOf d s t → now (moved .entry) ≡ entries d (turned Half s) → now (standing .entry) ≡ entries d t → MapOf d s t (now (words .exit))) ⌝ }
 {
-    let mut scratch = [0u64; SCRATCH_WORDS];
-    search_maps::make_map(moved, standing, sides, &mut scratch, words);
+    let mut map = [0u64; MAP_WORDS];
+    search_maps::make_map(moved, standing, sides, words, &mut map);
+    copy_words(&map, words, search_maps::map_words(sides));
 }
 
 // Makes the map of two pieces, with scratch by their size.
 fn make_sized(moved: &[StripEntry], standing: &[StripEntry], sides: Sides, words: &mut [u64])
     requires { ⌜ SidesFit sides ⌝ ∗ ⌜ StripsIn (sides .«moved_along») (sides .«moved_across») (now moved) ⌝
         ∗ ⌜ StripsIn (sides .«standing_along») (sides .«standing_across») (now standing) ⌝
-        ∗ ⌜ MapRoom sides (length (now words)) ⌝ }
+        ∗ ⌜ ScratchRoom sides (length (now words)) ⌝ ∗ ⌜ MapRoom sides (length (now words)) ⌝ }
     ensures { λ r. ⌜ ((d : Direction) (s t : Shape) → sides ≡ sidesOf d s t → now (moved .entry) ≡ entries d (turned Half s) → now (standing .entry) ≡ entries d t → MapOf d s t (now (words .exit))) ⌝ }
 {
     if search_maps::scratch_words(sides) <= SMALL_SCRATCH {
@@ -82,6 +97,17 @@ fn make_sized(moved: &[StripEntry], standing: &[StripEntry], sides: Sides, words
         return;
     }
     make_large(moved, standing, sides, words);
+}
+
+// The words that a map is made in. Those past the map are free again then.
+fn room_words(sides: Sides) -> usize
+    requires { ⌜ SidesFit sides ⌝ }
+    ensures { λ r. ⌜ r ≡ roomWords sides ⌝ }
+{
+    larger(
+        search_maps::map_words(sides),
+        search_maps::scratch_words(sides),
+    )
 }
 
 // Makes the map of two pieces and keeps it under a key.
@@ -99,10 +125,11 @@ fn add_map(
         ∗ ⌜ StoreFits sides key slot slots (now words) ⌝ }
     ensures { λ r. ⌜ ((d : ℕ → Direction) (s t : ℕ → Shape) → sides ≡ sidesOf (d key) (s key) (t key) → now (moved .entry) ≡ entries (d key) (turned Half (s key)) → now (standing .entry) ≡ entries (d key) (t key) → Kept slots d s t key (now (words .entry)) (now (words .exit)) r) ⌝ }
 {
-    let n = search_maps::map_words(sides);
-    let at = room_for(words, slots, n);
-    let end = at + n;
-    make_sized(moved, standing, sides, &mut words[at..end]);
+    let room = room_words(sides);
+    let at = room_for(words, slots, room);
+    let to = at + room;
+    make_sized(moved, standing, sides, &mut words[at..to]);
+    let end = at + search_maps::map_words(sides);
     words[slot] = (key as u64 + 1) * BEGINS + at as u64;
     words[slots] = end as u64;
     at

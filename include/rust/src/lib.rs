@@ -27,7 +27,7 @@ pub const LAYOUT_TEXT: usize = 2_048;
 pub const OUTPUT: usize = 4_096;
 
 /// Words of a workspace: fewer than the first are not used; the second hold the maps of a job of middle size.
-pub const WORKSPACE_LEAST: usize = 12_986;
+pub const WORKSPACE_LEAST: usize = 29_061;
 pub const WORKSPACE: usize = 262_144;
 
 /// How many lines suffice for the cut list of every layout on a sheet.

@@ -11,7 +11,7 @@ use Rattle.search_calls.proofs.search_alone.Tie as tie
 ready-maps-requires : tie.Need-ready-maps-requires
 ready-maps-requires c κs =
     let at-start : tie.Start = search in
-    let n = length-replicate {A = ℕ} 12986 0 in
+    let n = length-replicate {A = ℕ} 29061 0 in
     (at-start .pre .0 .well, (omega arith, omega arith))
 
 slice-aggregate-make-shapes : tie.Need-slice-aggregate-make-shapes

@@ -11,7 +11,7 @@ make-small-requires c κs =
     let e = at-scratch-words .scratch-words .ensures in
     let at-then1 : tie.Then1 = search in
     let l = at-then1 .if1 .taken in
-    (p .0, (p .1 .0, (p .1 .1 .0, (record { enough = omega arith; short = omega arith }, p .1 .1 .1))))
+    (p .0, (p .1 .0, (p .1 .1 .0, (record { enough = omega arith; short = omega arith }, p .1 .1 .1 .1))))
 
 returns : tie.Need-returns
 returns c =
