@@ -1,15 +1,11 @@
 // A whole descent: trial after trial until an end is reached. Document 01, 'Descent and guidance'.
-use model::Direction;
 use model::End;
 use model::JobSize;
 use model::PieceEntry;
 use model::PlaceEntry;
 use model::StripEntry;
-use model::Turn;
 use run_step::DescentState;
 use run_step::step;
-use run_trials::Trial;
-use run_trials::trial_count;
 use search_sums::total;
 ghost use mathlib.Core.Path.{_≡_};
 ghost use Prim.Native.Nat.{_≤_};
@@ -18,6 +14,7 @@ ghost use Rattle.model.specs.Buffer.{layoutOf};
 ghost use Rattle.model.specs.Descent.{descend};
 ghost use Rattle.model.specs.Calls.{budgetBound};
 ghost use Rattle.descent_laws.specs.Claims.{ValidWeights};
+ghost use Rattle.run_trials.specs.Trials.{TrialList};
 ghost use Rattle.run_step.specs.Ready.{Tools, LaidOut, LineStores};
 ghost use Rattle.run_descent.specs.Descents.{startingAt, descentOf};
 
@@ -41,7 +38,7 @@ fn end_at(end: End, at: DescentState) -> Ended
     }
 }
 
-// The beginning of a descent: nothing counted, the first trial.
+// The beginning of a descent: nothing counted, the first place.
 fn beginning(sum: u64) -> DescentState
     ensures { λ r. ⌜ r ≡ startingAt sum ⌝ }
 {
@@ -50,16 +47,12 @@ fn beginning(sum: u64) -> DescentState
         quiet: 0,
         made: 0,
         moves: 0,
-        trial: Trial {
-            piece: 0,
-            turn: Turn::Zero,
-            direction: Direction::Horizontal,
-        },
+        next: 0,
     }
 }
 
-// The descent from the layout in the buffer, which holds the layout at the end after it. Before each trial: sum zero, clear; else quiet
-// count T, settled; else budget used up, spent.
+// The descent over the lent trials from the layout in the buffer, which holds the layout at the end after it. Before each trial: sum zero,
+// clear; else quiet count T, settled; else budget used up, spent. So where there is no trial none is read.
 pub fn descend(
     size: JobSize,
     table: &[PieceEntry],
@@ -77,18 +70,20 @@ pub fn descend(
     column_tags: &mut [u32],
     sums: &mut [u32],
     maps: &mut [u64],
+    trials: &[u16],
 ) -> Ended
     requires { ⌜ Tools (lentBy size (now table) (now pixels)) (now rows) (now «row_starts») width ⌝
         ∗ ⌜ ValidWeights (jobOf (lentBy size (now table) (now pixels))) (now weights) ⌝
         ∗ ⌜ LaidOut (lentBy size (now table) (now pixels)) (now layout) (now penalties) ⌝
         ∗ ⌜ LineStores (jobOf (lentBy size (now table) (now pixels))) width (now «row_lines») (now «row_tags») (now «column_lines») (now «column_tags») (now sums) (now maps) ⌝
         ∗ ⌜ budget ≤ budgetBound ⌝ }
+    requires { ⌜ TrialList (jobOf (lentBy size (now table) (now pixels))) (now trials) ⌝ }
     ensures result { λ r. ⌜ descend (jobOf (lentBy size (now (table .entry)) (now (pixels .entry)))) (now (weights .entry)) budget (layoutOf (now (layout .entry))) ≡ descentOf r (layoutOf (now (layout .exit))) ⌝ }
     ensures laid { λ r. ⌜ LaidOut (lentBy size (now (table .entry)) (now (pixels .entry))) (now (layout .exit)) (now (penalties .exit)) ⌝ }
     ensures stores { λ r. ⌜ LineStores (jobOf (lentBy size (now (table .entry)) (now (pixels .entry)))) width (now («row_lines» .exit)) (now («row_tags» .exit)) (now («column_lines» .exit)) (now («column_tags» .exit)) (now (sums .exit)) (now (maps .exit)) ⌝ }
 {
     let pieces = size.count;
-    let count = trial_count(size, table);
+    let count = trials.len();
     let mut at = beginning(total(penalties, weights, pieces));
     loop {
         if at.sum == 0 {
@@ -117,6 +112,7 @@ pub fn descend(
             column_tags,
             sums,
             maps,
+            trials,
         );
     }
 }

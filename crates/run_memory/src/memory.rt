@@ -12,6 +12,8 @@ use run_descent::Ended;
 use run_descent::descend;
 use run_rounds::Tally;
 use run_rounds::rounds;
+use run_trials::TRIAL_BOUND;
+use run_trials::make_trials;
 use search_lines::LEAST_MAPS;
 use search_lines::ready_maps;
 use search_lines::slot_width;
@@ -29,6 +31,7 @@ ghost use Rattle.model.specs.Calls.{roundBound};
 ghost use Rattle.model.specs.declared.Direction.{Direction};
 ghost use Rattle.search_lines.specs.Kept.{leastMaps, MapsReady, slotBound};
 ghost use Rattle.search_shapes.specs.Shapes.{Shapes};
+ghost use Rattle.run_trials.specs.Trials.{TrialList};
 ghost use Rattle.run_step.specs.Ready.{Tools, LaidOut, Store, LineStores};
 ghost use Rattle.run_rounds.specs.Rounds.{Ran};
 ghost use Rattle.run_memory.specs.Ready.{Given, Slots};
@@ -96,12 +99,14 @@ fn take_rounds(
     column_tags: &mut [u32],
     sums: &mut [u32],
     maps: &mut [u64],
+    trials: &[u16],
 ) -> Tally
     requires { ⌜ Given (lentBy size (now table) (now pixels)) (now layout) (now weights) budget ⌝
         ∗ ⌜ count ≤ roundBound ⌝
         ∗ ⌜ Tools (lentBy size (now table) (now pixels)) (now rows) (now «row_starts») width ⌝
         ∗ ⌜ LaidOut (lentBy size (now table) (now pixels)) (now layout) (now penalties) ⌝
         ∗ ⌜ LineStores (jobOf (lentBy size (now table) (now pixels))) width (now «row_lines») (now «row_tags») (now «column_lines») (now «column_tags») (now sums) (now maps) ⌝ }
+    requires { ⌜ TrialList (jobOf (lentBy size (now table) (now pixels))) (now trials) ⌝ }
     ensures { λ r. ⌜ Ran (lentBy size (now (table .entry)) (now (pixels .entry))) (now (layout .entry)) (now (weights .entry)) count budget r (now (layout .exit)) (now (weights .exit)) ⌝ }
 {
     let mut present = [[0u16; 3]; PIECE_BOUND];
@@ -126,6 +131,7 @@ fn take_rounds(
         column_tags,
         sums,
         maps,
+        trials,
     )
 }
 
@@ -148,12 +154,14 @@ fn run_plan(
     column_tags: &mut [u32],
     sums: &mut [u32],
     maps: &mut [u64],
+    trials: &[u16],
 ) -> PlanOutcome
     requires { ⌜ Given (lentBy size (now table) (now pixels)) (now layout) (now weights) budget ⌝
         ∗ ⌜ FewRounds plan ⌝
         ∗ ⌜ Tools (lentBy size (now table) (now pixels)) (now rows) (now «row_starts») width ⌝
         ∗ ⌜ LaidOut (lentBy size (now table) (now pixels)) (now layout) (now penalties) ⌝
         ∗ ⌜ LineStores (jobOf (lentBy size (now table) (now pixels))) width (now «row_lines») (now «row_tags») (now «column_lines») (now «column_tags») (now sums) (now maps) ⌝ }
+    requires { ⌜ TrialList (jobOf (lentBy size (now table) (now pixels))) (now trials) ⌝ }
     ensures { λ r. ⌜ Done (lentBy size (now (table .entry)) (now (pixels .entry))) (now (layout .entry)) (now (weights .entry)) plan budget r (now (layout .exit)) (now (weights .exit)) ⌝ }
 {
     match plan {
@@ -174,6 +182,7 @@ fn run_plan(
             column_tags,
             sums,
             maps,
+            trials,
         )),
         Plan::Rounds(count) => PlanOutcome::Rounds(take_rounds(
             size,
@@ -193,6 +202,7 @@ fn run_plan(
             column_tags,
             sums,
             maps,
+            trials,
         )),
     }
 }
@@ -213,12 +223,14 @@ fn with_column_lines(
     row_lines: &mut [u8],
     row_tags: &mut [u32],
     maps: &mut [u64],
+    trials: &[u16],
 ) -> PlanOutcome
     requires { ⌜ Given (lentBy size (now table) (now pixels)) (now layout) (now weights) budget ⌝
         ∗ ⌜ FewRounds plan ⌝
         ∗ ⌜ Tools (lentBy size (now table) (now pixels)) (now rows) (now «row_starts») width ⌝
         ∗ ⌜ LaidOut (lentBy size (now table) (now pixels)) (now layout) (now penalties) ⌝
         ∗ ⌜ Store Direction.Horizontal (jobOf (lentBy size (now table) (now pixels))) width (now «row_lines») (now «row_tags») (now maps) ⌝ }
+    requires { ⌜ TrialList (jobOf (lentBy size (now table) (now pixels))) (now trials) ⌝ }
     ensures { λ r. ⌜ Done (lentBy size (now (table .entry)) (now (pixels .entry))) (now (layout .entry)) (now (weights .entry)) plan budget r (now (layout .exit)) (now (weights .exit)) ⌝ }
 {
     let mut lines = empty_lines();
@@ -243,6 +255,7 @@ fn with_column_lines(
         &mut tags[..slots],
         &mut sums,
         maps,
+        trials,
     )
 }
 
@@ -259,12 +272,14 @@ fn with_row_lines(
     weights: &mut [u32],
     penalties: &mut [u8],
     maps: &mut [u64],
+    trials: &[u16],
 ) -> PlanOutcome
     requires { ⌜ Given (lentBy size (now table) (now pixels)) (now layout) (now weights) budget ⌝
         ∗ ⌜ FewRounds plan ⌝
         ∗ ⌜ Shapes Direction.Horizontal (jobOf (lentBy size (now table) (now pixels))) (now rows) (now «row_starts») ⌝
         ∗ ⌜ LaidOut (lentBy size (now table) (now pixels)) (now layout) (now penalties) ⌝
         ∗ ⌜ MapsReady (jobOf (lentBy size (now table) (now pixels))) (now maps) ⌝ }
+    requires { ⌜ TrialList (jobOf (lentBy size (now table) (now pixels))) (now trials) ⌝ }
     ensures { λ r. ⌜ Done (lentBy size (now (table .entry)) (now (pixels .entry))) (now (layout .entry)) (now (weights .entry)) plan budget r (now (layout .exit)) (now (weights .exit)) ⌝ }
 {
     let mut lines = empty_lines();
@@ -286,6 +301,7 @@ fn with_row_lines(
         &mut lines,
         &mut tags[..slots],
         maps,
+        trials,
     )
 }
 
@@ -301,11 +317,13 @@ fn with_own_maps(
     layout: &mut [PlaceEntry],
     weights: &mut [u32],
     penalties: &mut [u8],
+    trials: &[u16],
 ) -> PlanOutcome
     requires { ⌜ Given (lentBy size (now table) (now pixels)) (now layout) (now weights) budget ⌝
         ∗ ⌜ FewRounds plan ⌝
         ∗ ⌜ Shapes Direction.Horizontal (jobOf (lentBy size (now table) (now pixels))) (now rows) (now «row_starts») ⌝
         ∗ ⌜ LaidOut (lentBy size (now table) (now pixels)) (now layout) (now penalties) ⌝ }
+    requires { ⌜ TrialList (jobOf (lentBy size (now table) (now pixels))) (now trials) ⌝ }
     ensures { λ r. ⌜ Done (lentBy size (now (table .entry)) (now (pixels .entry))) (now (layout .entry)) (now (weights .entry)) plan budget r (now (layout .exit)) (now (weights .exit)) ⌝ }
 {
     let mut maps = empty_maps();
@@ -322,6 +340,7 @@ fn with_own_maps(
         weights,
         penalties,
         &mut maps,
+        trials,
     )
 }
 
@@ -338,11 +357,13 @@ fn with_workspace(
     weights: &mut [u32],
     penalties: &mut [u8],
     workspace: &mut [u64],
+    trials: &[u16],
 ) -> PlanOutcome
     requires { ⌜ Given (lentBy size (now table) (now pixels)) (now layout) (now weights) budget ⌝
         ∗ ⌜ FewRounds plan ⌝
         ∗ ⌜ Shapes Direction.Horizontal (jobOf (lentBy size (now table) (now pixels))) (now rows) (now «row_starts») ⌝
         ∗ ⌜ LaidOut (lentBy size (now table) (now pixels)) (now layout) (now penalties) ⌝ }
+    requires { ⌜ TrialList (jobOf (lentBy size (now table) (now pixels))) (now trials) ⌝ }
     ensures { λ r. ⌜ Done (lentBy size (now (table .entry)) (now (pixels .entry))) (now (layout .entry)) (now (weights .entry)) plan budget r (now (layout .exit)) (now (weights .exit)) ⌝ }
 {
     let used = smaller(workspace.len(), MOST_MAPS);
@@ -358,6 +379,7 @@ fn with_workspace(
             layout,
             weights,
             penalties,
+            trials,
         );
     }
     let maps: &mut [u64] = &mut workspace[..used];
@@ -374,10 +396,11 @@ fn with_workspace(
         weights,
         penalties,
         maps,
+        trials,
     )
 }
 
-// The run, with the strips of every piece in every turn along rows and the table of penalties.
+// The run, with the list of its trials, the strips of every piece in every turn along rows and the table of penalties.
 pub fn with_strips(
     size: JobSize,
     table: &[PieceEntry],
@@ -392,6 +415,8 @@ pub fn with_strips(
     ensures { λ r. ⌜ Done (lentBy size (now (table .entry)) (now (pixels .entry))) (now (layout .entry)) (now (weights .entry)) plan budget r (now (layout .exit)) (now (weights .exit)) ⌝ }
 {
     let mut penalties = penalties_of(table, pixels, layout);
+    let mut trials = [0u16; TRIAL_BOUND];
+    let count = make_trials(size, table, &mut trials);
     let mut rows = empty_store();
     let mut row_starts = [0u32; STARTS_LENGTH];
     make_shapes(
@@ -414,5 +439,6 @@ pub fn with_strips(
         weights,
         &mut penalties,
         workspace,
+        &trials[..count],
     )
 }

@@ -19,6 +19,7 @@ ghost use Rattle.model.specs.Calls.{budgetBound, roundBound};
 ghost use Rattle.descent_laws.specs.Claims.{ValidWeights};
 ghost use Rattle.search_laws.specs.Table.{PenaltyTable};
 ghost use Rattle.search_sums.specs.Table.{Weighed};
+ghost use Rattle.run_trials.specs.Trials.{TrialList};
 ghost use Rattle.run_step.specs.Ready.{Tools, LaidOut, LineStores};
 ghost use Rattle.run_rounds.specs.Rounds.{betterRound, betterSum, leftAfter, raisedAfter, Ran};
 
@@ -88,12 +89,13 @@ pub fn rounds(
     column_tags: &mut [u32],
     sums: &mut [u32],
     maps: &mut [u64],
+    trials: &[u16],
 ) -> Tally
     requires { ⌜ Tools (lentBy size (now table) (now pixels)) (now rows) (now «row_starts») width ⌝
         ∗ ⌜ ValidWeights (jobOf (lentBy size (now table) (now pixels))) (now weights) ⌝
         ∗ ⌜ LaidOut (lentBy size (now table) (now pixels)) (now present) (now penalties) ⌝
         ∗ ⌜ LineStores (jobOf (lentBy size (now table) (now pixels))) width (now «row_lines») (now «row_tags») (now «column_lines») (now «column_tags») (now sums) (now maps) ⌝ }
-    requires { ⌜ now best ≡ now present ⌝ ∗ ⌜ (count ≤ roundBound) × (budget ≤ budgetBound) ⌝ }
+    requires { ⌜ now best ≡ now present ⌝ ∗ ⌜ (count ≤ roundBound) × (budget ≤ budgetBound) ⌝ ∗ ⌜ TrialList (jobOf (lentBy size (now table) (now pixels))) (now trials) ⌝ }
     ensures { λ r. ⌜ Ran (lentBy size (now (table .entry)) (now (pixels .entry))) (now (present .entry)) (now (weights .entry)) count budget r (now (best .exit)) (now (weights .exit)) ⌝ }
 {
     let n = size.count;
@@ -119,6 +121,7 @@ pub fn rounds(
             column_tags,
             sums,
             maps,
+            trials,
         );
         made = made + round.made as u64;
         moves = moves + round.moves as u64;

@@ -1,12 +1,11 @@
 -- Where a descent stands after a trial, and how large its numbers are. Assumes nothing.
-use Rattle.list_laws.proofs.Kit.{_∙_, _≡_, ap, sym, true, some, List, _+_, _<_, _≤_, ℕ, arith}
+use Rattle.list_laws.proofs.Kit.{_∙_, _≡_, ap, sym, true, some, List, _<_, _≤_, ℕ, add-one, arith, getD, length, length-map}
 use Rattle.model.specs.Piece.{onLine}
 use Rattle.model.specs.Layout.{Job, Layout, pieceSum, weightedSum}
 use Rattle.model.specs.Lent.{Lent, jobOf, lentWell}
 use Rattle.model.specs.Buffer.{layoutOf}
 use Rattle.model.specs.Search.{Best}
-use Rattle.model.specs.Descent.{moved, quiet, trialLine, attempt}
-use Rattle.model.specs.Descent as model
+use Rattle.model.specs.Descent.{Trial, Attempt, moved, quiet, proceed, trialAfter, trialLine, attempt, noTrial, step}
 use Rattle.job_laws.proofs.Checked.{facts}
 use Rattle.call_laws.proofs.Jobs.{lent-boxes-small}
 use Rattle.descent_laws.specs.Claims.{ValidWeights}
@@ -14,13 +13,10 @@ use Rattle.descent_laws.specs.Sums.{sumBound}
 use Rattle.descent_laws.proofs.Bounds.{weighted-at-most}
 use Rattle.search_laws.specs.PieceSum.{penaltyBetween}
 use Rattle.search_laws.proofs.PieceSum.{piece-sum, pieceSumBound, running-bound, between-bound}
-use Rattle.search_laws.specs.TrialIndex.{nextTrial}
-use Rattle.search_laws.specs.Loop as loop
 use Rattle.search_laws.proofs.Loop.{trialMoved}
-use Rattle.run_trials.specs.Trials.{trialAs}
+use Rattle.run_trials.specs.Trials.{trialOfCode, trialsOf}
 use Rattle.run_step.specs.Steps.{entriesAfter, standingAs, afterQuiet, afterMove}
 use Rattle.run_step.specs.declared.DescentState.{DescentState}
-use Rattle.run_trials.specs.declared.Trial.{Trial}
 use Rattle.text_laws.proofs.Entries.{layout-set}
 
 -- ── how large ──
@@ -41,24 +37,33 @@ module _ (l : Lent) (well : lentWell l ≡ true) (ws : List ℕ) (weights : Vali
 
 -- ── after a trial ──
 
-module _ (j : Job) (ws : List ℕ) (v : Layout) (s : DescentState) (next : Trial) (isNext : trialAs next ≡ nextTrial j (trialAs (s .trial))) where
+module _ (codes : List ℕ) (v : Layout) (s : DescentState) (next : ℕ) (isNext : next ≡ trialAfter (length codes) (s .next)) where
   -- a quiet trial
-  pub quiet-passed : (r : DescentState) → r ≡ afterQuiet s next → attempt j ws v (trialAs (s .trial)) ≡ quiet
-      → standingAs v r ≡ loop.passed j (standingAs v s) (attempt j ws v (trialAs (s .trial)))
-  quiet-passed r e q =
-      ap (standingAs v) e
-      ∙ ap (loop.standing v (s .quiet + 1) (s .made + 1) (s .moves)) isNext
-      ∙ ap (loop.passed j (standingAs v s)) (sym q)
+  after-quiet : (r : DescentState) → r ≡ afterQuiet s next → standingAs v r ≡ proceed (length (trialsOf codes)) (standingAs v s) quiet
+  after-quiet r e = rw (e, isNext, length-map codes trialOfCode, add-one (s .quiet), add-one (s .made))
 
   -- a move
-  pub moved-passed : (w : Layout) (r : DescentState) (sum : ℕ) → r ≡ afterMove s next sum → attempt j ws v (trialAs (s .trial)) ≡ moved w
-      → standingAs w r ≡ loop.passed j (standingAs v s) (attempt j ws v (trialAs (s .trial)))
-  moved-passed w r sum e m =
-      ap (standingAs w) e
-      ∙ ap (loop.standing w 0 (s .made + 1) (s .moves + 1)) isNext
-      ∙ ap (loop.passed j (standingAs v s)) (sym m)
+  after-move : (w : Layout) (r : DescentState) (sum : ℕ) → r ≡ afterMove s next sum
+      → standingAs w r ≡ proceed (length (trialsOf codes)) (standingAs v s) (moved w)
+  after-move w r sum e = rw (e, isNext, length-map codes trialOfCode, add-one (s .made), add-one (s .moves))
+
+  module _ (j : Job) (ws : List ℕ) (k : Trial) (isTrial : k ≡ getD (trialsOf codes) (s .next) noTrial) where
+    -- the step is the trial's
+    taken : (a : Attempt) → attempt j ws v k ≡ a
+        → proceed (length (trialsOf codes)) (standingAs v s) a ≡ step (weightedSum j ws) (attempt j ws) (trialsOf codes) (standingAs v s)
+    taken a e = ap (proceed (length (trialsOf codes)) (standingAs v s)) (sym e ∙ ap (attempt j ws v) isTrial)
+
+    -- a step whose trial is quiet
+    pub quiet-passed : (r : DescentState) → r ≡ afterQuiet s next → attempt j ws v k ≡ quiet
+        → standingAs v r ≡ step (weightedSum j ws) (attempt j ws) (trialsOf codes) (standingAs v s)
+    quiet-passed r e q = after-quiet r e ∙ taken quiet q
+
+    -- a step whose trial moves
+    pub moved-passed : (w : Layout) (r : DescentState) (sum : ℕ) → r ≡ afterMove s next sum → attempt j ws v k ≡ moved w
+        → standingAs w r ≡ step (weightedSum j ws) (attempt j ws) (trialsOf codes) (standingAs v s)
+    moved-passed w r sum e m = after-move w r sum e ∙ taken (moved w) m
 
 -- the layout after a move
-pub moved-layout : (es new : List (List ℕ)) (k : model.Trial) (b : Best)
+pub moved-layout : (es new : List (List ℕ)) (k : Trial) (b : Best)
     → new ≡ entriesAfter es (k .piece) (k .turn) (trialLine (layoutOf es) k) (some b) → layoutOf new ≡ trialMoved (layoutOf es) k (b .at)
 moved-layout es new k b e = ap layoutOf e ∙ layout-set es (k .piece) (onLine (trialLine (layoutOf es) k) (k .turn) (b .at))

@@ -5,17 +5,16 @@ use Prim.Native.Nat.{ℕ, _+_}
 use lib.ListN.{set}
 use Rattle.model.specs.Piece.{onLine}
 use Rattle.model.specs.Layout.{Job, Layout}
+use Rattle.model.specs.Descent.{Progress}
 use Rattle.model.specs.Search.{Best, places, sumAt}
 use Rattle.model.specs.Buffer.{entryOf}
 use Rattle.model.specs.declared.Turn.{Turn}
 use Rattle.model.specs.declared.Line.{Line}
 use Rattle.search_laws.specs.BoundedSearch.{belowBound}
-use Rattle.search_laws.specs.Loop as loop
+use Rattle.search_laws.specs.Loop.{standing}
 use Rattle.search_tracks.specs.declared.Mover.{Mover}
 use Rattle.run_step.specs.declared.Tried.{Tried}
 use Rattle.run_step.specs.declared.DescentState.{DescentState}
-use Rattle.run_trials.specs.declared.Trial.{Trial}
-use Rattle.run_trials.specs.Trials.{trialAs}
 
 -- the search of a mover's line for the least sum below a bound
 abbrev pub moverSearch : Job → List ℕ → Layout → Mover → ℕ → Option Best
@@ -32,13 +31,13 @@ entriesAfter es i t line none = es
 entriesAfter es i t line (some b) = set es i (entryOf (onLine line t (b .at)))
 
 -- where the descent stands, with the layout that its buffer holds
-abbrev pub standingAs : Layout → DescentState → loop.Standing
-standingAs v s = loop.standing v (s .quiet) (s .made) (s .moves) (trialAs (s .trial))
+abbrev pub standingAs : Layout → DescentState → Progress
+standingAs v s = standing v (s .quiet) (s .made) (s .moves) (s .next)
 
 -- after a quiet trial the quiet count is 1 more
-abbrev pub afterQuiet : DescentState → Trial → DescentState
-afterQuiet s next = record { sum = s .sum; quiet = s .quiet + 1; made = s .made + 1; moves = s .moves; trial = next }
+abbrev pub afterQuiet : DescentState → ℕ → DescentState
+afterQuiet s next = record { sum = s .sum; quiet = s .quiet + 1; made = s .made + 1; moves = s .moves; next = next }
 
 -- after a move it is 0
-abbrev pub afterMove : DescentState → Trial → ℕ → DescentState
-afterMove s next sum = record { sum = sum; quiet = 0; made = s .made + 1; moves = s .moves + 1; trial = next }
+abbrev pub afterMove : DescentState → ℕ → ℕ → DescentState
+afterMove s next sum = record { sum = sum; quiet = 0; made = s .made + 1; moves = s .moves + 1; next = next }

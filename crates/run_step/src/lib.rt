@@ -12,28 +12,29 @@ use model::StripEntry;
 use model::Turn;
 use run_trials::Trial;
 use run_trials::line_of;
-use run_trials::next_trial;
+use run_trials::next_place;
+use run_trials::trial_at;
 use search_bounded::renew_placed;
 use search_bounded::search_below;
 use search_line_sums::Found;
 use search_sums::row_sum;
 use search_tracks::Mover;
 ghost use mathlib.Core.Path.{_≡_};
-ghost use Prim.Native.Nat.{_<_, _≤_};
-ghost use lib.ListN.{length};
+ghost use Prim.Native.Nat.{_+_, _^_, _<_, _≤_};
+ghost use lib.ListN.{length, getD};
 ghost use Rattle.model.specs.Piece.{onLine, lineDirection};
 ghost use Rattle.model.specs.Lent.{lentBy, jobOf, columnBound};
 ghost use Rattle.model.specs.Layout.{pieceSum, weightedSum};
 ghost use Rattle.model.specs.Buffer.{layoutOf};
-ghost use Rattle.model.specs.Descent.{attempt, trialLine};
+ghost use Rattle.model.specs.Descent.{attempt, trialLine, noTrial, step};
 ghost use Rattle.model.specs.Calls.{budgetBound};
 ghost use Rattle.descent_laws.specs.Claims.{ValidWeights};
 ghost use Rattle.descent_laws.specs.Trials.{Proper};
 ghost use Rattle.search_laws.specs.Table.{PenaltyTable};
-ghost use Rattle.search_laws.specs.Loop.{passed, trialSearch};
+ghost use Rattle.search_laws.specs.Loop.{trialSearch};
 ghost use Rattle.search_lines.specs.Kept.{LinesKept};
 ghost use Rattle.search_bounded.specs.Ready.{SearchReady};
-ghost use Rattle.run_trials.specs.Trials.{trialAs};
+ghost use Rattle.run_trials.specs.Trials.{trialAs, trialsOf};
 ghost use Rattle.run_step.specs.Ready.{Tools, LaidOut, LineStores};
 ghost use Rattle.run_step.specs.Steps.{moverSearch, triedAnswer, entriesAfter, standingAs, afterQuiet, afterMove};
 
@@ -43,13 +44,13 @@ pub enum Tried {
     Quiet,
 }
 
-// Where a descent stands: the weighted sum, the quiet count, trials made, moves, and the trial that comes next.
+// Where a descent stands: the weighted sum, the quiet count, trials made, moves, and the place of the trial that comes next.
 pub struct DescentState {
     pub sum: u64,
     pub quiet: usize,
     pub made: u32,
     pub moves: u32,
-    pub trial: Trial,
+    pub next: usize,
 }
 
 // The placement in a turn at a coordinate of a line.
@@ -214,8 +215,8 @@ fn try_trial(
 }
 
 // After a quiet trial: the quiet count grows by 1.
-fn after_quiet(at: DescentState, next: Trial) -> DescentState
-    requires { ⌜ (at .quiet < 1000) × (at .made < budgetBound) ⌝ }
+fn after_quiet(at: DescentState, next: usize) -> DescentState
+    requires { ⌜ (at .quiet + 1 < 2 ^ 64) × (at .made < budgetBound) ⌝ }
     ensures { λ r. ⌜ r ≡ afterQuiet at next ⌝ }
 {
     DescentState {
@@ -223,12 +224,12 @@ fn after_quiet(at: DescentState, next: Trial) -> DescentState
         quiet: at.quiet + 1,
         made: at.made + 1,
         moves: at.moves,
-        trial: next,
+        next: next,
     }
 }
 
 // After a move to a given sum: the quiet count becomes 0.
-fn after_move(at: DescentState, next: Trial, sum: u64) -> DescentState
+fn after_move(at: DescentState, next: usize, sum: u64) -> DescentState
     requires { ⌜ (at .made < budgetBound) × (at .moves ≤ at .made) ⌝ }
     ensures { λ r. ⌜ r ≡ afterMove at next sum ⌝ }
 {
@@ -237,7 +238,7 @@ fn after_move(at: DescentState, next: Trial, sum: u64) -> DescentState
         quiet: 0,
         made: at.made + 1,
         moves: at.moves + 1,
-        trial: next,
+        next: next,
     }
 }
 
@@ -259,22 +260,24 @@ pub fn step(
     column_tags: &mut [u32],
     sums: &mut [u32],
     maps: &mut [u64],
+    trials: &[u16],
 ) -> DescentState
     requires { ⌜ Tools (lentBy size (now table) (now pixels)) (now rows) (now «row_starts») width ⌝
         ∗ ⌜ ValidWeights (jobOf (lentBy size (now table) (now pixels))) (now weights) ⌝
         ∗ ⌜ LaidOut (lentBy size (now table) (now pixels)) (now layout) (now penalties) ⌝
         ∗ ⌜ LineStores (jobOf (lentBy size (now table) (now pixels))) width (now «row_lines») (now «row_tags») (now «column_lines») (now «column_tags») (now sums) (now maps) ⌝ }
-    requires { ⌜ Proper (jobOf (lentBy size (now table) (now pixels))) 0 (size .count) (trialAs (at .trial)) ⌝
+    requires { ⌜ Proper (jobOf (lentBy size (now table) (now pixels))) 0 (size .count) (getD (trialsOf (now trials)) (at .next) noTrial) ⌝
         ∗ ⌜ at .sum ≡ weightedSum (jobOf (lentBy size (now table) (now pixels))) (now weights) (layoutOf (now layout)) ⌝
-        ∗ ⌜ (at .quiet < 1000) × ((at .made < budgetBound) × (at .moves ≤ at .made)) ⌝ }
-    ensures passed { λ r. ⌜ standingAs (layoutOf (now (layout .exit))) r ≡ passed (jobOf (lentBy size (now (table .entry)) (now (pixels .entry)))) (standingAs (layoutOf (now (layout .entry))) at) (attempt (jobOf (lentBy size (now (table .entry)) (now (pixels .entry)))) (now (weights .entry)) (layoutOf (now (layout .entry))) (trialAs (at .trial))) ⌝ }
+        ∗ ⌜ (at .quiet < length (now trials)) × ((at .made < budgetBound) × ((at .moves ≤ at .made) × (at .next < length (now trials)))) ⌝ }
+    ensures passed { λ r. ⌜ standingAs (layoutOf (now (layout .exit))) r ≡ step (weightedSum (jobOf (lentBy size (now (table .entry)) (now (pixels .entry)))) (now (weights .entry))) (attempt (jobOf (lentBy size (now (table .entry)) (now (pixels .entry)))) (now (weights .entry))) (trialsOf (now (trials .entry))) (standingAs (layoutOf (now (layout .entry))) at) ⌝ }
     ensures sum { λ r. ⌜ r .sum ≡ weightedSum (jobOf (lentBy size (now (table .entry)) (now (pixels .entry)))) (now (weights .entry)) (layoutOf (now (layout .exit))) ⌝ }
     ensures laid { λ r. ⌜ LaidOut (lentBy size (now (table .entry)) (now (pixels .entry))) (now (layout .exit)) (now (penalties .exit)) ⌝ }
     ensures stores { λ r. ⌜ LineStores (jobOf (lentBy size (now (table .entry)) (now (pixels .entry)))) width (now («row_lines» .exit)) (now («row_tags» .exit)) (now («column_lines» .exit)) (now («column_tags» .exit)) (now (sums .exit)) (now (maps .exit)) ⌝ }
 {
     let sum = at.sum;
-    let trial = at.trial;
-    let next = next_trial(size, table, trial);
+    let place = at.next;
+    let trial = trial_at(trials, place);
+    let next = next_place(trials.len(), place);
     let present = row_sum(penalties, weights, size.count, trial.piece);
     if present == 0 {
         return after_quiet(at, next);

@@ -5,7 +5,6 @@ pub mod PieceSum
 pub mod BoundedSearch
 pub mod LineSearch
 pub mod Table
-pub mod TrialIndex
 pub mod Loop
 pub mod GuidedLoop
 pub mod Covering

@@ -1,85 +1,71 @@
--- Document 01, 'Descent and guidance', a whole descent as a loop: it stands at a layout, three counts and the trial that comes next, with so
--- much of the budget left. `onward` is what is still to come from there, so what the whole descent gives is always `onward` of
--- where the loop stands: each pass of the loop is one of the laws below, and its end is another. The list of trials is not made; the
--- next trial follows from the present one. Assumes nothing.
-use Rattle.list_laws.proofs.Kit.{_∙_, _≡_, ap, refl, sym, false, true, _≢_, Option, none, some, List, _+_, _-_, _<_, _≤_, suc, zero, ℕ, add-one, arith, eqb}
+-- Document 01, 'Descent and guidance', a whole descent as a loop: it stands at a layout, three counts and the place of the trial that comes
+-- next, with so much of the budget left. What the whole descent gives is always what comes from where the loop stands: each pass of
+-- the loop is one of the laws below, and its end is another. They hold over any list of trials, one without a trial too: no trial is read
+-- before the quiet count differs from their number. Assumes nothing.
+use Rattle.list_laws.proofs.Kit.{_∙_, _≡_, ap, refl, subst, sym, _≢_, none, some, List, _+_, _-_, _<_, _≤_, suc, zero, ℕ, arith}
 use Rattle.list_laws.proofs.Kit.{getD, length, eq-eqb, ne-eqb}
-use Rattle.model.specs.Layout.{Job, Layout, allowed, weightedSum, pieceSum}
+use Rattle.list_laws.proofs.Lists.{member-at}
+use Rattle.model.specs.Layout.{Job, Layout, weightedSum, pieceSum}
 use Rattle.model.specs.Piece.{onLine}
 use Rattle.model.specs.Search.{Best, movedTo, sumAt}
-use Rattle.model.specs.Descent.{Trial, Attempt, moved, quiet, Progress, Descent, trials, trialLine, attempt, begin, proceed, noTrial, step, descendFrom}
-use Rattle.model.specs.Descent.{descend}
-use Rattle.model.specs.declared.Turn.the-variants.{Zero}
-use Rattle.model.specs.declared.Direction.the-variants.{Horizontal}
+use Rattle.model.specs.Descent.{Trial, Attempt, moved, quiet, Progress, Descent, trials, trialLine, attempt, begin, proceed, noTrial, descendFrom, descend}
 use Rattle.model.specs.declared.End.{End}
 use Rattle.model.specs.declared.End.the-variants.{Clear, Settled, Spent}
 use Rattle.descent_laws.proofs.Run.{after-there}
-use Rattle.descent_laws.specs.Trials.{trialOf, Proper}
-use Rattle.descent_laws.proofs.Trials.{Position, position, trial-mem}
+use Rattle.descent_laws.specs.Trials.{Proper}
+use Rattle.descent_laws.proofs.Trials.{mem-trial}
 use Rattle.descent_laws.specs.Claims.{ValidLayout}
-use Rattle.descent_laws.proofs.Descent.{attempt-moved, zero-quiet}
-use Rattle.search_laws.specs.Loop.{Standing, standing, passed, trialSums, trialPlaces, trialSearch}
+use Rattle.descent_laws.proofs.Descent.{attempt-moved}
+use Rattle.search_laws.specs.Loop.{trialSums, trialPlaces, trialSearch}
 use Rattle.search_laws.proofs.PieceSum.{moved-sum}
 use Rattle.search_laws.proofs.BoundedSearch.{Lowest, bounded-is}
 use Rattle.search_laws.proofs.LineSearch.{bestTaken, attempt-below}
-use Rattle.search_laws.specs.TrialIndex.{nextTrial}
-use Rattle.search_laws.proofs.TrialIndex.{first-trial, next-trial, next-proper}
-
--- ── where the loop stands ──
-
--- the end that is reached here whatever is left of the budget
-abbrev pub endsNow : Job → List ℕ → Standing → Option End
-endsNow j ws s =
-    elim (eqb (weightedSum j ws (s .layout)) 0)
-    [ true ↦ some Clear | false ↦ elim (eqb (s .quietCount) (length (trials j))) [ true ↦ some Settled | false ↦ none ] ]
-
--- the descent ends here
-abbrev pub endedAt : Job → List ℕ → End → Standing → Descent
-endedAt j ws e s = record { end = e; layout = s .layout; sum = weightedSum j ws (s .layout); made = s .made; moves = s .moves }
-
--- what a descent gives from here on, with so much of the budget left
-unfoldable pub stepOnward : Job → List ℕ → ℕ → Standing → Descent
-stepOnward j ws zero s = elim (endsNow j ws s) [ some e ↦ endedAt j ws e s | none ↦ endedAt j ws Spent s ]
-stepOnward j ws (suc left) s =
-    elim (endsNow j ws s) [ some e ↦ endedAt j ws e s | none ↦ stepOnward j ws left (passed j s (attempt j ws (s .layout) (s .trial))) ]
-
--- the beginning: the given layout, nothing counted, the first trial
-abbrev pub beginning : Layout → Standing
-beginning v = standing v 0 0 0 (trialOf 0 Zero Horizontal)
 
 -- ── one pass of the loop ──
 
-module _ (j : Job) (ws : List ℕ) (s : Standing) where
+-- what a descent over given trials gives from here on, with so much of the budget left
+abbrev pub onward : Job → List ℕ → List Trial → ℕ → Progress → Descent
+onward j ws ks left s = descendFrom (weightedSum j ws) (attempt j ws) ks left s
+
+-- the trial that comes next
+abbrev pub nextOf : List Trial → Progress → Trial
+nextOf ks s = getD ks (s .next) noTrial
+
+-- what a descent gives that ends at s, from the sum kept beside it
+abbrev pub closed : End → Progress → ℕ → Descent
+closed e s sum = record { end = e; layout = s .layout; sum = sum; made = s .made; moves = s .moves }
+
+module _ (j : Job) (ws : List ℕ) (ks : List Trial) (s : Progress) where
   -- sum zero: clear
-  pub onward-clear : (left : ℕ) → weightedSum j ws (s .layout) ≡ 0 → stepOnward j ws left s ≡ endedAt j ws Clear s
-  unfolding stepOnward
-  onward-clear zero e = rw (eq-eqb (weightedSum j ws (s .layout)) 0 e, stepOnward)
-  onward-clear (suc left) e = rw (eq-eqb (weightedSum j ws (s .layout)) 0 e, stepOnward)
+  pub onward-clear : (left : ℕ) → weightedSum j ws (s .layout) ≡ 0 → onward j ws ks left s ≡ closed Clear s (weightedSum j ws (s .layout))
+  unfolding descendFrom
+  onward-clear zero e = rw (eq-eqb (weightedSum j ws (s .layout)) 0 e, descendFrom)
+  onward-clear (suc left) e = rw (eq-eqb (weightedSum j ws (s .layout)) 0 e, descendFrom)
 
-  -- else quiet count T: settled
-  pub onward-settled : (left : ℕ) → weightedSum j ws (s .layout) ≢ 0 → s .quietCount ≡ length (trials j)
-      → stepOnward j ws left s ≡ endedAt j ws Settled s
-  unfolding stepOnward
-  onward-settled zero d e = rw (ne-eqb (weightedSum j ws (s .layout)) 0 d, eq-eqb (s .quietCount) (length (trials j)) e, stepOnward)
-  onward-settled (suc left) d e = rw (ne-eqb (weightedSum j ws (s .layout)) 0 d, eq-eqb (s .quietCount) (length (trials j)) e, stepOnward)
+  module _ (positive : weightedSum j ws (s .layout) ≢ 0) where
+    -- else quiet count T: settled
+    pub onward-settled : (left : ℕ) → s .quietCount ≡ length ks → onward j ws ks left s ≡ closed Settled s (weightedSum j ws (s .layout))
+    unfolding descendFrom
+    onward-settled zero e = rw (ne-eqb (weightedSum j ws (s .layout)) 0 positive, eq-eqb (s .quietCount) (length ks) e, descendFrom)
+    onward-settled (suc left) e = rw (ne-eqb (weightedSum j ws (s .layout)) 0 positive, eq-eqb (s .quietCount) (length ks) e, descendFrom)
 
-  module _ (positive : weightedSum j ws (s .layout) ≢ 0) (unsettled : s .quietCount ≢ length (trials j)) where
-    -- else budget used up: spent
-    pub onward-spent : stepOnward j ws 0 s ≡ endedAt j ws Spent s
-    unfolding stepOnward
-    onward-spent = rw (ne-eqb (weightedSum j ws (s .layout)) 0 positive, ne-eqb (s .quietCount) (length (trials j)) unsettled, stepOnward)
+    module _ (unsettled : s .quietCount ≢ length ks) where
+      -- else budget used up: spent
+      pub onward-spent : onward j ws ks 0 s ≡ closed Spent s (weightedSum j ws (s .layout))
+      unfolding descendFrom
+      onward-spent = rw (ne-eqb (weightedSum j ws (s .layout)) 0 positive, ne-eqb (s .quietCount) (length ks) unsettled, descendFrom)
 
-    -- else a trial is taken
-    onward-suc : (left : ℕ) → stepOnward j ws (suc left) s ≡ stepOnward j ws left (passed j s (attempt j ws (s .layout) (s .trial)))
-    unfolding stepOnward
-    onward-suc left = rw (ne-eqb (weightedSum j ws (s .layout)) 0 positive, ne-eqb (s .quietCount) (length (trials j)) unsettled, stepOnward)
+      -- else a trial is taken
+      onward-suc : (left : ℕ) → onward j ws ks (suc left) s ≡ onward j ws ks left (proceed (length ks) s (attempt j ws (s .layout) (nextOf ks s)))
+      unfolding descendFrom
+      onward-suc left = rw (ne-eqb (weightedSum j ws (s .layout)) 0 positive, ne-eqb (s .quietCount) (length ks) unsettled, descendFrom)
 
-    -- the trial came to an attempt
-    pub onward-step : (left : ℕ) (a : Attempt) → 0 < left → attempt j ws (s .layout) (s .trial) ≡ a
-        → stepOnward j ws left s ≡ stepOnward j ws (left - 1) (passed j s a)
-    onward-step left a l e =
-        let more : left ≡ suc (left - 1) = omega arith in
-        ap (λ n. stepOnward j ws n s) more ∙ onward-suc (left - 1) ∙ ap (λ b. stepOnward j ws (left - 1) (passed j s b)) e
+      -- the trial came to an attempt
+      pub onward-step : (left : ℕ) (a : Attempt) → 0 < left → attempt j ws (s .layout) (nextOf ks s) ≡ a
+          → onward j ws ks left s ≡ onward j ws ks (left - 1) (proceed (length ks) s a)
+      onward-step left a l e =
+          let more : left ≡ suc (left - 1) = omega arith in
+          ap (λ n. onward j ws ks n s) more ∙ onward-suc (left - 1) ∙ ap (λ b. onward j ws ks (left - 1) (proceed (length ks) s b)) e
 
 -- ── the trial, as the search with a bound ──
 
@@ -121,101 +107,38 @@ module _ (j : Job) (ws : List ℕ) (v : Layout) (k : Trial) where
   pub trial-valid : (b : Best) → Proper j 0 (j .size .count) k → ValidLayout j v → trialSearch j ws v k ≡ some b → ValidLayout j (trialMoved v k (b .at))
   trial-valid b p h e = attempt-moved j ws v (trialMoved v k (b .at)) k p h (trial-moved b e) .0
 
-module _ (j : Job) (ws : List ℕ) (s : Standing) (positive : weightedSum j ws (s .layout) ≢ 0) (unsettled : s .quietCount ≢ length (trials j))
-    (left : ℕ) (budget : 0 < left)
-  where
-    -- a pass of the loop that moves
-    pub onward-moved : (b : Best) → trialSearch j ws (s .layout) (s .trial) ≡ some b
-        → stepOnward j ws left s
-        ≡ stepOnward j ws (left - 1) (standing (trialMoved (s .layout) (s .trial) (b .at)) 0 (s .made + 1) (s .moves + 1) (nextTrial j (s .trial)))
-    onward-moved b e = onward-step j ws s positive unsettled left _ budget (trial-moved j ws (s .layout) (s .trial) b e)
-
-    -- a pass of the loop that does not
-    pub onward-quiet : trialSearch j ws (s .layout) (s .trial) ≡ none
-        → stepOnward j ws left s ≡ stepOnward j ws (left - 1) (standing (s .layout) (s .quietCount + 1) (s .made + 1) (s .moves) (nextTrial j (s .trial)))
-    onward-quiet e = onward-step j ws s positive unsettled left _ budget (trial-quiet j ws (s .layout) (s .trial) e)
-
-    -- the pass of a piece whose pair sum is 0, without a search
-    pub onward-idle : pieceSum j ws (s .layout) (s .trial .piece) ≡ 0
-        → stepOnward j ws left s ≡ stepOnward j ws (left - 1) (standing (s .layout) (s .quietCount + 1) (s .made + 1) (s .moves) (nextTrial j (s .trial)))
-    onward-idle e = onward-step j ws s positive unsettled left _ budget (zero-quiet j ws (s .layout) (s .trial) e)
-
--- ── the whole descent ──
-
--- where a descent by numbers of trials stands
-abbrev standsAt : Job → Progress → Standing
-standsAt j s = standing (s .layout) (s .quietCount) (s .made) (s .moves) (getD (trials j) (s .next) noTrial)
-
-module _ (j : Job) (ws : List ℕ) (a : (k : ℕ) → k < j .size .count → allowed j k Zero ≡ true) where
-  -- a trial by number is a trial by the one before it
-  passes : (s : Progress) → s .next < length (trials j) → (t : Attempt) → standsAt j (proceed (length (trials j)) s t) ≡ passed j (standsAt j s) t
-  passes s l (moved w) = rw (next-trial j a (s .next) l, add-one (s .made), add-one (s .moves))
-  passes s l quiet = rw (next-trial j a (s .next) l, add-one (s .made), add-one (s .quietCount))
-
-  -- the number of the next trial is one of the list's
-  next-there : (s : Progress) → s .next < length (trials j) → (t : Attempt) → proceed (length (trials j)) s t .next < length (trials j)
-  next-there s l (moved w) = after-there (length (trials j)) (s .next) (omega arith)
-  next-there s l quiet = after-there (length (trials j)) (s .next) (omega arith)
-
-  -- from any point on
-  from-onward : (left : ℕ) (s : Progress) → s .next < length (trials j)
-      → descendFrom (weightedSum j ws) (attempt j ws) (trials j) left s ≡ stepOnward j ws left (standsAt j s)
-  unfolding descendFrom stepOnward
-  from-onward zero s l = refl
-  from-onward (suc left) s l =
-      ap (λ later. elim (endsNow j ws (standsAt j s)) as (λ _. Descent) [ some e ↦ endedAt j ws e (standsAt j s) | none ↦ later ])
-      (from-onward left (step (weightedSum j ws) (attempt j ws) (trials j) s)
-      (next-there s l (attempt j ws (s .layout) (getD (trials j) (s .next) noTrial)))
-      ∙ ap (stepOnward j ws left) (passes s l (attempt j ws (s .layout) (getD (trials j) (s .next) noTrial))))
-
-  -- there is a trial where there is a piece
-  pub trials-some : 0 < j .size .count → 0 < length (trials j)
-  trials-some l =
-      let p : Position (trialOf 0 Zero Horizontal) noTrial (trials j) = position noTrial (trials j) (trial-mem j 0 Zero Horizontal l (a 0 l)) in
-      let b = p .below in
-      omega arith
-
-  -- the descent is what comes from its beginning on
-  pub descend-onward : (budget : ℕ) (v : Layout) → 0 < j .size .count → descend j ws budget v ≡ stepOnward j ws budget (beginning v)
-  unfolding descend
-  descend-onward budget v l =
-      from-onward budget (begin v) (trials-some l) ∙ ap (λ k. stepOnward j ws budget (standing v 0 0 0 k)) (first-trial j a)
-
 -- ── what holds before each pass ──
 
--- the loop of the descent from v stands at s, with `left` of the budget, and `sum` is kept beside it
-pub record Underway (j : Job) (ws : List ℕ) (budget : ℕ) (v : Layout) (left : ℕ) (s : Standing) (sum : ℕ) : Type 0 where
-  pub result : descend j ws budget v ≡ stepOnward j ws left s
+-- the loop of the descent over the trials ks from v stands at s, with `left` of the budget, and `sum` is kept beside it; where there is a trial
+-- the one that comes next is one of them
+pub record Underway (j : Job) (ws : List ℕ) (ks : List Trial) (budget : ℕ) (v : Layout) (left : ℕ) (s : Progress) (sum : ℕ) : Type 0 where
+  pub result : onward j ws ks budget (begin v) ≡ onward j ws ks left s
   pub sumIs : sum ≡ weightedSum j ws (s .layout)
   pub valid : ValidLayout j (s .layout)
-  pub proper : Proper j 0 (j .size .count) (s .trial)
+  pub there : 0 < length ks → s .next < length ks
   pub counted : s .made + left ≡ budget
   pub movesMade : s .moves ≤ s .made
-  pub quietFew : s .quietCount ≤ length (trials j)
+  pub quietFew : s .quietCount ≤ length ks
 
--- what a descent gives that ends at s, from the sum kept beside it
-abbrev pub closed : End → Standing → ℕ → Descent
-closed e s sum = record { end = e; layout = s .layout; sum = sum; made = s .made; moves = s .moves }
-
-module _ (j : Job) (ws : List ℕ) (budget : ℕ) (v : Layout) (a : (k : ℕ) → k < j .size .count → allowed j k Zero ≡ true) (some-piece : 0 < j .size .count) where
+module _ (j : Job) (ws : List ℕ) (ks : List Trial) (budget : ℕ) (v : Layout) where
   -- it holds before the first pass
-  pub underway-begin : ValidLayout j v → Underway j ws budget v budget (beginning v) (weightedSum j ws v)
+  pub underway-begin : ValidLayout j v → Underway j ws ks budget v budget (begin v) (weightedSum j ws v)
   underway-begin h =
       record {
-        result = descend-onward j ws a budget v some-piece;
+        result = refl;
         sumIs = refl;
         valid = h;
-        proper = record { from = omega arith; below = some-piece; turnAllowed = a 0 some-piece };
+        there = λ l. l;
         counted = omega arith;
         movesMade = omega arith;
         quietFew = omega arith;
       }
 
-  module _ (left : ℕ) (s : Standing) (sum : ℕ) (u : Underway j ws budget v left s sum) where
+  module _ (left : ℕ) (s : Progress) (sum : ℕ) (u : Underway j ws ks budget v left s sum) where
     -- sum zero: the descent is clear
-    pub underway-clear : sum ≡ 0 → descend j ws budget v ≡ closed Clear s sum
+    pub underway-clear : sum ≡ 0 → onward j ws ks budget (begin v) ≡ closed Clear s sum
     underway-clear e =
-        u .result ∙ onward-clear j ws s left (sym (u .sumIs) ∙ e) ∙ ap (closed Clear s) (sym (u .sumIs))
+        u .result ∙ onward-clear j ws ks s left (sym (u .sumIs) ∙ e) ∙ ap (closed Clear s) (sym (u .sumIs))
 
     module _ (positive : sum ≢ 0) where
       -- the layout's sum is not zero
@@ -223,52 +146,62 @@ module _ (j : Job) (ws : List ℕ) (budget : ℕ) (v : Layout) (a : (k : ℕ) �
       positive-now e = positive (u .sumIs ∙ e)
 
       -- else quiet count T: it is settled
-      pub underway-settled : s .quietCount ≡ length (trials j) → descend j ws budget v ≡ closed Settled s sum
-      underway-settled e = u .result ∙ onward-settled j ws s left positive-now e ∙ ap (closed Settled s) (sym (u .sumIs))
+      pub underway-settled : s .quietCount ≡ length ks → onward j ws ks budget (begin v) ≡ closed Settled s sum
+      underway-settled e = u .result ∙ onward-settled j ws ks s positive-now left e ∙ ap (closed Settled s) (sym (u .sumIs))
 
-      module _ (unsettled : s .quietCount ≢ length (trials j)) where
+      module _ (unsettled : s .quietCount ≢ length ks) where
         -- else nothing left: it is spent
-        pub underway-spent : left ≡ 0 → descend j ws budget v ≡ closed Spent s sum
+        pub underway-spent : left ≡ 0 → onward j ws ks budget (begin v) ≡ closed Spent s sum
         underway-spent e =
-            u .result ∙ ap (λ n. stepOnward j ws n s) e ∙ onward-spent j ws s positive-now unsettled ∙ ap (closed Spent s) (sym (u .sumIs))
+            u .result ∙ ap (λ n. onward j ws ks n s) e ∙ onward-spent j ws ks s positive-now unsettled ∙ ap (closed Spent s) (sym (u .sumIs))
 
-        -- a pass that moves
-        pub underway-moved : (b : Best) → 0 < left → trialSearch j ws (s .layout) (s .trial) ≡ some b
-            → Underway j ws budget v (left - 1)
-            (standing (trialMoved (s .layout) (s .trial) (b .at)) 0 (s .made + 1) (s .moves + 1) (nextTrial j (s .trial)))
-            (sum - pieceSum j ws (s .layout) (s .trial .piece) + b .sum)
-        underway-moved b l e =
-            record {
-              result = u .result ∙ onward-moved j ws s positive-now unsettled left l b e;
-              sumIs = rw (u .sumIs) (sym (trial-sum j ws (s .layout) (s .trial) b e));
-              valid = trial-valid j ws (s .layout) (s .trial) b (u .proper) (u .valid) e;
-              proper = next-proper j a (s .trial) (u .proper);
-              counted = let c = u .counted in omega arith;
-              movesMade = let m = u .movesMade in omega arith;
-              quietFew = omega arith;
-            }
+        -- else there is a trial that comes next
+        pub underway-there : s .next < length ks
+        underway-there = let q = u .quietFew in let d = unsettled in u .there (omega arith)
 
-        -- a pass that does not, whatever its attempt was judged by
-        underway-kept : 0 < left
-            → stepOnward j ws left s ≡ stepOnward j ws (left - 1) (standing (s .layout) (s .quietCount + 1) (s .made + 1) (s .moves) (nextTrial j (s .trial)))
-            → Underway j ws budget v (left - 1) (standing (s .layout) (s .quietCount + 1) (s .made + 1) (s .moves) (nextTrial j (s .trial))) sum
-        underway-kept l e =
-            record {
-              result = u .result ∙ e;
-              sumIs = u .sumIs;
-              valid = u .valid;
-              proper = next-proper j a (s .trial) (u .proper);
-              counted = let c = u .counted in omega arith;
-              movesMade = let m = u .movesMade in omega arith;
-              quietFew = let q = u .quietFew in let d = unsettled in omega arith;
-            }
+        module _ (more : 0 < left) where
+          -- what holds before the next pass, by what the trial came to
+          pass-at : (t : Attempt) → attempt j ws (s .layout) (nextOf ks s) ≡ t → ValidLayout j (proceed (length ks) s t .layout)
+              → Underway j ws ks budget v (left - 1) (proceed (length ks) s t) (weightedSum j ws (proceed (length ks) s t .layout))
+          pass-at (moved w) e h =
+              record {
+                result = u .result ∙ onward-step j ws ks s positive-now unsettled left (moved w) more e;
+                sumIs = refl;
+                valid = h;
+                there = after-there (length ks) (s .next);
+                counted = let c = u .counted in omega arith;
+                movesMade = let m = u .movesMade in omega arith;
+                quietFew = omega arith;
+              }
+          pass-at quiet e h =
+              record {
+                result = u .result ∙ onward-step j ws ks s positive-now unsettled left quiet more e;
+                sumIs = refl;
+                valid = h;
+                there = after-there (length ks) (s .next);
+                counted = let c = u .counted in omega arith;
+                movesMade = let m = u .movesMade in omega arith;
+                quietFew = let q = u .quietFew in let d = unsettled in omega arith;
+              }
 
-        -- a pass whose search finds no place
-        pub underway-quiet : 0 < left → trialSearch j ws (s .layout) (s .trial) ≡ none
-            → Underway j ws budget v (left - 1) (standing (s .layout) (s .quietCount + 1) (s .made + 1) (s .moves) (nextTrial j (s .trial))) sum
-        underway-quiet l e = underway-kept l (onward-quiet j ws s positive-now unsettled left l e)
+          -- what holds before the next pass
+          pub underway-pass : (r : Progress) (total : ℕ) → r ≡ proceed (length ks) s (attempt j ws (s .layout) (nextOf ks s))
+              → total ≡ weightedSum j ws (r .layout) → ValidLayout j (r .layout) → Underway j ws ks budget v (left - 1) r total
+          underway-pass r total e t h =
+              let valid : ValidLayout j (proceed (length ks) s (attempt j ws (s .layout) (nextOf ks s)) .layout) =
+              subst (λ (z : Progress). ValidLayout j (z .layout)) e h in
+              let there : Underway j ws ks budget v (left - 1) r (weightedSum j ws (r .layout)) =
+              subst (λ (z : Progress). Underway j ws ks budget v (left - 1) z (weightedSum j ws (z .layout))) (sym e)
+              (pass-at (attempt j ws (s .layout) (nextOf ks s)) refl valid) in
+              subst (λ (n : ℕ). Underway j ws ks budget v (left - 1) r n) (sym t) there
 
-        -- a pass of a piece whose pair sum is 0, without a search
-        pub underway-idle : 0 < left → pieceSum j ws (s .layout) (s .trial .piece) ≡ 0
-            → Underway j ws budget v (left - 1) (standing (s .layout) (s .quietCount + 1) (s .made + 1) (s .moves) (nextTrial j (s .trial))) sum
-        underway-idle l e = underway-kept l (onward-idle j ws s positive-now unsettled left l e)
+-- ── the trials of a job ──
+
+-- the descent of a job is the one over its trials
+pub descend-over : (j : Job) (ws : List ℕ) (budget : ℕ) (v : Layout) → descend j ws budget v ≡ onward j ws (trials j) budget (begin v)
+unfolding descend
+descend-over j ws budget v = refl
+
+-- the trial at a place of the list is of a piece of the job in a turn allowed to it
+pub trial-proper : (j : Job) (m : ℕ) → m < length (trials j) → Proper j 0 (j .size .count) (getD (trials j) m noTrial)
+trial-proper j m l = mem-trial j _ (member-at (trials j) m noTrial l)

@@ -4,7 +4,6 @@ pub mod PieceSum
 pub mod Lines
 pub mod Table
 pub mod BoundedSearch
-pub mod TrialIndex
 pub mod Loop
 pub mod Results
 pub mod Raising

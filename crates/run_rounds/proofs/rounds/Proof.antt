@@ -10,7 +10,8 @@ use Rattle.run_rounds.proofs.rounds.Tie as tie
 
 abbrev Inv-loop : tie.InvT-loop
 Inv-loop size table pixels rows row-starts count budget width present₀ best₀ weights₀ penalties₀ row-lines₀ row-tags₀ column-lines₀
-    column-tags₀ sums₀ maps₀ n sum₀ made₀ moves₀ left₀ present best weights penalties row-lines row-tags column-lines column-tags sums maps sum made moves left =
+    column-tags₀ sums₀ maps₀ trials n sum₀ made₀ moves₀ left₀
+    present best weights penalties row-lines row-tags column-lines column-tags sums maps sum made moves left =
     Rounding (lentBy size table pixels) width weights₀ count budget (layoutOf present₀) present best weights penalties row-lines row-tags column-lines
     column-tags sums maps sum made moves left
     × Sizes present best weights penalties row-lines row-tags column-lines column-tags sums maps present₀ best₀ weights₀ penalties₀ row-lines₀ row-tags₀
@@ -18,7 +19,8 @@ Inv-loop size table pixels rows row-starts count budget width present₀ best₀
 
 abbrev μ-loop : tie.MeasureT-loop
 μ-loop size table pixels rows row-starts count budget width present₀ best₀ weights₀ penalties₀ row-lines₀ row-tags₀ column-lines₀
-    column-tags₀ sums₀ maps₀ n sum₀ made₀ moves₀ left₀ present best weights penalties row-lines row-tags column-lines column-tags sums maps sum made moves left =
+    column-tags₀ sums₀ maps₀ trials n sum₀ made₀ moves₀ left₀
+    present best weights penalties row-lines row-tags column-lines column-tags sums maps sum made moves left =
     left
 
 -- ── places ──
@@ -105,19 +107,20 @@ descend-requires : tie.Need-descend-requires Inv-loop μ-loop
 descend-requires c κs =
     let at-loop : tie.At-loop Inv-loop μ-loop = search in
     let stands = at-loop .loop .inv .0 in
-    (entry at-loop .pre .0, (stands .underway .validWeights, (stands .laid, (stands .stores, entry at-loop .pre .1 .1 .1 .1 .1 .1))))
+    let e = entry at-loop in
+    (e .pre .0, (stands .underway .validWeights, (stands .laid, (stands .stores, (e .pre .1 .1 .1 .1 .1 .0 .1, e .pre .1 .1 .1 .1 .1 .1)))))
 
 add-made : tie.Need-add-made Inv-loop μ-loop
 add-made c =
     let at-loop : tie.At-loop Inv-loop μ-loop = search in
-    let bounds = entry at-loop .pre .1 .1 .1 .1 .1 in
+    let bounds = entry at-loop .pre .1 .1 .1 .1 .1 .0 in
     let few = rounding-few (some-piece (entry at-loop)) (at-loop .loop .inv .0) (bounds .0) (bounds .1) in
     omega arith
 
 add-moves : tie.Need-add-moves Inv-loop μ-loop
 add-moves c =
     let at-loop : tie.At-loop Inv-loop μ-loop = search in
-    let bounds = entry at-loop .pre .1 .1 .1 .1 .1 in
+    let bounds = entry at-loop .pre .1 .1 .1 .1 .1 .0 in
     let few = rounding-few (some-piece (entry at-loop)) (at-loop .loop .inv .0) (bounds .0) (bounds .1) in
     omega arith
 

@@ -15,7 +15,7 @@ descend-requires : tie.Need-descend-requires
 descend-requires c κs =
     let at-start : tie.Start = search in
     let g = at-start .pre .0 in
-    (at-start .pre .1 .1 .0, (g .weights, (at-start .pre .1 .1 .1 .0, (at-start .pre .1 .1 .1 .1, g .few))))
+    (at-start .pre .1 .1 .0, (g .weights, (at-start .pre .1 .1 .1 .0, (at-start .pre .1 .1 .1 .1 .0, (g .few, at-start .pre .1 .1 .1 .1 .1)))))
 
 take-rounds-requires : tie.Need-take-rounds-requires
 take-rounds-requires c κs =

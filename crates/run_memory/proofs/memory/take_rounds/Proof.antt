@@ -73,7 +73,7 @@ rounds-requires c κs =
         given .weights,
         (
           subst (λ v. LaidOut (job at-start) v (at-start .args .penalties .now)) (sym present) (at-start .pre .1 .1 .1 .0),
-          (at-start .pre .1 .1 .1 .1, (sym present, (at-start .pre .1 .0, given .few))),
+          (at-start .pre .1 .1 .1 .1 .0, (sym present, ((at-start .pre .1 .0, given .few), at-start .pre .1 .1 .1 .1 .1))),
         ),
       ),
     )

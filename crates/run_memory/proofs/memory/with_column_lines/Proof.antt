@@ -28,11 +28,14 @@ run-plan-requires c κs =
     let slots = counted .slot-count in
     let columns =
     store-fresh Vertical (jobOf (lent e)) (e .args .width) (slots .result) (lines .empty-lines .result) (e .args .maps .now) (lines .empty-lines .ensures)
-    (slots .ensures) (e .pre .1 .1 .1 .1 .kept .ready) in (
+    (slots .ensures) (e .pre .1 .1 .1 .1 .0 .kept .ready) in (
       e .pre .0,
       (
         e .pre .1 .0,
-        (e .pre .1 .1 .0, (e .pre .1 .1 .1 .0, record { inRows = e .pre .1 .1 .1 .1; inColumns = columns; scratch = omega arith })),
+        (
+          e .pre .1 .1 .0,
+          (e .pre .1 .1 .1 .0, (record { inRows = e .pre .1 .1 .1 .1 .0; inColumns = columns; scratch = omega arith }, e .pre .1 .1 .1 .1 .1)),
+        ),
       ),
     )
 

@@ -44,8 +44,11 @@ with-column-lines-requires c κs =
           },
           (
             s .pre .1 .1 .1 .0,
-            store-fresh Horizontal (jobOf (job s)) (width .result) (slots .result) (lines .empty-lines .result) (s .args .maps .now)
-                (lines .empty-lines .ensures) (slots .ensures) (s .pre .1 .1 .1 .1),
+            (
+              store-fresh Horizontal (jobOf (job s)) (width .result) (slots .result) (lines .empty-lines .result) (s .args .maps .now)
+                  (lines .empty-lines .ensures) (slots .ensures) (s .pre .1 .1 .1 .1 .0),
+              s .pre .1 .1 .1 .1 .1,
+            ),
           ),
         ),
       ),

@@ -55,7 +55,7 @@ with-row-lines-requires : tie.Need-with-row-lines-requires
 with-row-lines-requires c κs =
     let s : tie.Start = search in
     let ready : tie.After-ready-maps = search in
-    (s .pre .0, (s .pre .1 .0, (s .pre .1 .1 .0, (s .pre .1 .1 .1, ready .ready-maps .ensures))))
+    (s .pre .0, (s .pre .1 .0, (s .pre .1 .1 .0, (s .pre .1 .1 .1 .0, (ready .ready-maps .ensures, s .pre .1 .1 .1 .1)))))
 
 returns-2 : tie.Need-returns-2
 returns-2 c = let ran : tie.After-with-row-lines = search in ran .with-row-lines .ensures
