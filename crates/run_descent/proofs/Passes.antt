@@ -5,7 +5,9 @@ use Rattle.model.specs.Lent.{Lent, jobOf}
 use Rattle.model.specs.Buffer.{layoutOf}
 use Rattle.model.specs.Descent.{Trial, Progress, Attempt, moved, quiet, proceed, noTrial, step, trials}
 use Rattle.search_laws.proofs.Loop.{Underway}
-use Rattle.run_step.specs.Ready.{LaidOut, LineStores}
+use Rattle.search_lines.specs.declared.RunSize.{RunSize}
+use Rattle.search_beside.specs.Ready.{LinesReady}
+use Rattle.run_step.specs.Ready.{LaidOut}
 use Rattle.run_step.specs.Steps.{standingAs}
 use Rattle.run_step.specs.declared.DescentState.{DescentState}
 
@@ -20,8 +22,8 @@ step-made sum try ks s = one-made (length ks) s (try (s .layout) (getD ks (s .ne
 
 -- ── what holds before each pass of the code's loop ──
 
-pub record Going (l : Lent) (ws : List ℕ) (budget : ℕ) (v : Layout) (width : ℕ) (s : DescentState) (layout : List (List ℕ))
-    (penalties rowLines rowTags columnLines columnTags sums maps : List ℕ) : Type 0 where
+pub record Going (l : Lent) (r : RunSize) (strips : List (List ℕ)) (starts ws : List ℕ) (budget : ℕ) (v : Layout) (s : DescentState)
+    (layout : List (List ℕ)) (penalties lines maps : List ℕ) : Type 0 where
   pub underway : Underway (jobOf l) ws (trials (jobOf l)) budget v (budget - s .made) (standingAs (layoutOf layout) s) (s .sum)
   pub laid : LaidOut l layout penalties
-  pub stores : LineStores (jobOf l) width rowLines rowTags columnLines columnTags sums maps
+  pub ready : LinesReady l r strips starts lines maps

@@ -15,10 +15,11 @@ use run_memory::memory::PlanOutcome;
 use run_memory::memory::with_strips;
 use run_memory::write_entries;
 ghost use mathlib.Core.Path.{_≡_};
+ghost use Prim.Native.Nat.{_≤_};
 ghost use lib.ListN.{length};
 ghost use Rattle.model.specs.Lent.{lentBy, jobOf};
 ghost use Rattle.model.specs.Buffer.{layoutOf};
-ghost use Rattle.model.specs.Calls.{descentCall, descentAfter};
+ghost use Rattle.model.specs.Calls.{budgetBound, descentCall, descentAfter};
 ghost use Rattle.descent_laws.specs.Claims.{DescentClaims};
 ghost use Rattle.call_laws.specs.Workspaces.{LeftFree};
 ghost use Rattle.run_descent.specs.Descents.{descentOf};
@@ -55,7 +56,7 @@ fn run_alone(
     layout: &mut [PlaceEntry],
     workspace: &mut [u64],
 ) -> Ended
-    requires { ⌜ Given (lentBy size (now table) (now pixels)) (now layout) (now weights) budget ⌝ }
+    requires { ⌜ Given (lentBy size (now table) (now pixels)) (now layout) (now weights) ⌝ ∗ ⌜ budget ≤ budgetBound ⌝ }
     ensures { λ r. ⌜ Descended (lentBy size (now (table .entry)) (now (pixels .entry))) (now (layout .entry)) (now (weights .entry)) budget r (now (layout .exit)) ⌝ }
 {
     let mut own = [0u32; PAIR_BOUND];
@@ -65,8 +66,7 @@ fn run_alone(
         size,
         table,
         pixels,
-        Plan::Alone,
-        budget,
+        Plan::Alone(budget),
         layout,
         &mut own[..n],
         workspace,

@@ -11,16 +11,16 @@ use run_memory::memory::Plan;
 use run_memory::memory::PlanOutcome;
 use run_memory::memory::with_strips;
 use run_memory::write_entries;
+use run_rounds::Terms;
 ghost use mathlib.Core.Path.{_≡_};
-ghost use Prim.Native.Nat.{_≤_};
 ghost use Rattle.model.specs.Guided as model;
 ghost use Rattle.model.specs.Lent.{lentBy, jobOf};
 ghost use Rattle.model.specs.Buffer.{layoutOf};
-ghost use Rattle.model.specs.Calls.{roundBound, guidedCall, bestAfterRun, weightsAfterRun};
+ghost use Rattle.model.specs.Calls.{guidedCall, bestAfterRun, weightsAfterRun};
 ghost use Rattle.descent_laws.specs.Claims.{GuidedClaims};
 ghost use Rattle.call_laws.specs.Workspaces.{LeftFree};
 ghost use Rattle.search_laws.specs.Results.{guidedOf};
-ghost use Rattle.run_rounds.specs.Rounds.{Ran};
+ghost use Rattle.run_rounds.specs.Rounds.{InRange, Ran};
 ghost use Rattle.run_memory.specs.Ready.{Given};
 ghost use Rattle.run_guided_calls.specs.Answers.{tallyOf, guidedAnswer, numbersWrong};
 
@@ -56,21 +56,19 @@ fn run_rounds(
     size: JobSize,
     table: &[PieceEntry],
     pixels: &[u8],
-    rounds: u32,
-    budget: u32,
+    terms: Terms,
     layout: &mut [PlaceEntry],
     weights: &mut [u32],
     workspace: &mut [u64],
 ) -> RunTotals
-    requires { ⌜ Given (lentBy size (now table) (now pixels)) (now layout) (now weights) budget ⌝ ∗ ⌜ rounds ≤ roundBound ⌝ }
-    ensures { λ r. ⌜ Ran (lentBy size (now (table .entry)) (now (pixels .entry))) (now (layout .entry)) (now (weights .entry)) rounds budget (tallyOf r) (now (layout .exit)) (now (weights .exit)) ⌝ }
+    requires { ⌜ Given (lentBy size (now table) (now pixels)) (now layout) (now weights) ⌝ ∗ ⌜ InRange terms ⌝ }
+    ensures { λ r. ⌜ Ran (lentBy size (now (table .entry)) (now (pixels .entry))) (now (layout .entry)) (now (weights .entry)) (terms .count) (terms .budget) (tallyOf r) (now (layout .exit)) (now (weights .exit)) ⌝ }
 {
     match with_strips(
         size,
         table,
         pixels,
-        Plan::Rounds(rounds),
-        budget,
+        Plan::Rounds(terms),
         layout,
         weights,
         workspace,
@@ -120,16 +118,11 @@ pub fn guided_run(
         DoneAnswer::Refused(refusal) => GuidedAnswer::Refused(refusal),
         DoneAnswer::Done => {
             write_entries(layout);
-            GuidedAnswer::Ran(run_rounds(
-                size,
-                table,
-                pixels,
-                rounds,
+            let terms = Terms {
+                count: rounds,
                 budget,
-                layout,
-                weights,
-                workspace,
-            ))
+            };
+            GuidedAnswer::Ran(run_rounds(size, table, pixels, terms, layout, weights, workspace))
         }
     }
 }

@@ -1,47 +1,21 @@
--- Stores with no line kept, and a layout buffer that is written again. Assumes nothing.
+-- The slots of a store of lines, and a layout buffer that is written again. Assumes nothing.
 use Rattle.list_laws.proofs.Kit.{_∙_, _≡_, ap, refl, sym, _⊎_, inl, inr, List, [], _∷_, _%_, _*_, _+_, _/_, _<_, _≤_, suc, zero, ℕ, div-add-mod'}
-use Rattle.list_laws.proofs.Kit.{eq-or-lt-of-le, mod-lt, mul-le-mul-left, arith, getD, getD-replicate, length, length-map, length-replicate, length-set}
-use Rattle.list_laws.proofs.Kit.{replicate, set, take, ext-getD, getD-set-other, getD-set-same, getD-take, length-take-le, set-getD}
-use Rattle.model.specs.Layout.{Job, Layout, placeOf, origin}
+use Rattle.list_laws.proofs.Kit.{eq-or-lt-of-le, mod-lt, arith, getD, length, length-map, length-set}
+use Rattle.list_laws.proofs.Kit.{set, ext-getD, getD-set-other, getD-set-same, set-getD}
+use Rattle.model.specs.Layout.{Layout, placeOf, origin}
 use Rattle.model.specs.Buffer.{entryOf, placementOf, layoutOf, entriesOf}
-use Rattle.model.specs.declared.Direction.{Direction}
 use Rattle.list_laws.proofs.Numbers.{factor-positive}
-use Rattle.search_lines.specs.Kept.{MapsReady}
-use Rattle.search_lines.proofs.Keeping.{none-kept}
-use Rattle.run_step.specs.Ready.{Store}
 use Rattle.run_memory.specs.Ready.{Slots}
 use Rattle.text_laws.proofs.Entries.{layout-set}
 
 -- ── slots ──
 
 -- as many slots as the bytes have room for
-pub slots-of : (width : ℕ) → 64 ≤ width → width ≤ 512 → Slots width (131072 / width)
+pub slots-of : (width : ℕ) → 68 ≤ width → width ≤ 514 → Slots width (524288 / width)
 slots-of width low high =
-    let whole : 131072 / width * width + 131072 % width ≡ 131072 = div-add-mod' 131072 width in
-    let rest : 131072 % width < width = mod-lt 131072 (omega arith) in
-    let least : 131072 / width * 64 ≤ 131072 / width * width = mul-le-mul-left (131072 / width) low in
-    record { some = factor-positive (131072 / width) width (omega arith); room = omega arith; tagged = omega arith }
-
--- so many tags are lent
-pub tags-lent : (width slots : ℕ) → Slots width slots → length {A = ℕ} (take slots (replicate 2048 0)) ≡ slots
-tags-lent width slots s =
-    let all : length {A = ℕ} (replicate 2048 0) ≡ 2048 = length-replicate {A = ℕ} 2048 0 in
-    let few = s .tagged in
-    length-take-le slots (replicate 2048 0) (omega arith)
-
--- with no tag there is no line, whatever the bytes are
-pub store-fresh : (d : Direction) (j : Job) (width slots : ℕ) (lines maps : List ℕ) → length lines ≡ 131072 → Slots width slots → MapsReady j maps
-    → Store d j width lines (take slots (replicate 2048 0)) maps
-store-fresh d j width slots lines maps bytes s ready =
-    let count = tags-lent width slots s in
-    let some = s .some in
-    let few = s .tagged in
-    record {
-      kept =
-          none-kept d j width lines (take slots (replicate 2048 0)) maps ready (rw (count, bytes) (s .room)) (omega arith)
-          (λ m l. getD-take slots (replicate 2048 0) m 0 (omega arith) ∙ getD-replicate {A = ℕ} 2048 m 0 0 (omega arith));
-      fits = omega arith;
-    }
+    let whole : 524288 / width * width + 524288 % width ≡ 524288 = div-add-mod' 524288 width in
+    let rest : 524288 % width < width = mod-lt 524288 (omega arith) in
+    record { some = factor-positive (524288 / width) width (omega arith); room = omega arith }
 
 -- ── a buffer that is written again ──
 

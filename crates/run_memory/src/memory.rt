@@ -1,7 +1,6 @@
-// The memory of a run, of a descent alone or of the rounds of a guided run: strips, kept lines, the table of penalties and scratch, all of it local
+// The memory of a run, of a descent alone or of the rounds of a guided run: strips, trials, kept lines and the table of penalties, all of it local
 // and spread over nested functions, since it is too much for one; and kept maps, in a workspace that the caller lends.
 use layout_places::copy;
-use model::COLUMN_BOUND;
 use model::Direction;
 use model::JobSize;
 use model::PIECE_BOUND;
@@ -11,10 +10,12 @@ use model::StripEntry;
 use run_descent::Ended;
 use run_descent::descend;
 use run_rounds::Tally;
+use run_rounds::Terms;
 use run_rounds::rounds;
 use run_trials::TRIAL_BOUND;
 use run_trials::make_trials;
 use search_lines::LEAST_MAPS;
+use search_lines::RunSize;
 use search_lines::ready_maps;
 use search_lines::slot_width;
 use search_shapes::STARTS_LENGTH;
@@ -23,33 +24,29 @@ use search_shapes::make_shapes;
 use search_table::penalties_of;
 use whole_numbers::smaller;
 ghost use mathlib.Core.Path.{_≡_};
-ghost use Prim.Native.Nat.{_≤_};
-ghost use lib.ListN.{length};
-ghost use Rattle.model.specs.Layout.{Job};
+ghost use Prim.Native.Nat.{ℕ, _≤_};
+ghost use lib.ListN.{length, getD};
 ghost use Rattle.model.specs.Lent.{lentBy, jobOf};
-ghost use Rattle.model.specs.Calls.{roundBound};
 ghost use Rattle.model.specs.declared.Direction.{Direction};
-ghost use Rattle.search_lines.specs.Kept.{leastMaps, MapsReady, slotBound};
+ghost use Rattle.search_lines.specs.Kept.{leastMaps, linesBound, MapsReady, slotBound};
 ghost use Rattle.search_shapes.specs.Shapes.{Shapes};
+ghost use Rattle.search_beside.specs.Ready.{LinesReady};
 ghost use Rattle.run_trials.specs.Trials.{TrialList};
-ghost use Rattle.run_step.specs.Ready.{Tools, LaidOut, Store, LineStores};
-ghost use Rattle.run_rounds.specs.Rounds.{Ran};
+ghost use Rattle.run_step.specs.Ready.{LaidOut};
+ghost use Rattle.run_rounds.specs.Rounds.{InRange, Ran};
 ghost use Rattle.run_memory.specs.Ready.{Given, Slots};
-ghost use Rattle.run_memory.specs.Done.{FewRounds, Done};
+ghost use Rattle.run_memory.specs.Done.{PlanInRange, Done};
 
-// The bytes of a store of penalty lines.
-const LINES_LENGTH: usize = 131072;
-
-// The most slots of one: its tags.
-const TAGS_LENGTH: usize = 2048;
+// The bytes of a store of penalty lines: of both directions, so that a job with most of its lines along one has room for them.
+const LINES_LENGTH: usize = 524288;
 
 // The most words of a workspace that are used: more than the maps of any job.
 const MOST_MAPS: usize = 33554432;
 
-// What a run does: one descent, or at most so many rounds.
+// What a run does: one descent with a budget, or rounds on given terms.
 pub enum Plan {
-    Alone,
-    Rounds(u32),
+    Alone(u32),
+    Rounds(Terms),
 }
 
 // What a run comes to beside its buffers.
@@ -58,17 +55,17 @@ pub enum PlanOutcome {
     Rounds(Tally),
 }
 
-// How many slots of a width a store of 131,072 bytes and 2,048 tags has.
+// How many slots of a width a store of lines has.
 fn slot_count(width: usize) -> usize
-    requires { ⌜ (64 ≤ width) × (width ≤ slotBound) ⌝ }
+    requires { ⌜ (68 ≤ width) × (width ≤ slotBound) ⌝ }
     ensures { λ r. ⌜ Slots width r ⌝ }
 {
     LINES_LENGTH / width
 }
 
-// Room for kept lines. While no tag names a line what it holds plays no part, so that no caller's proof computes with it.
+// Room for kept lines, with no key in it. A proof that saw the literal would compute with it.
 fn empty_lines() -> [u8; LINES_LENGTH]
-    ensures { λ r. ⌜ length r ≡ 131072 ⌝ }
+    ensures { λ r. ⌜ (length r ≡ linesBound) × ((k : ℕ) → getD r k 0 ≡ 0) ⌝ }
 {
     [0u8; LINES_LENGTH]
 }
@@ -82,226 +79,142 @@ fn empty_maps() -> [u64; LEAST_MAPS]
 
 // The rounds, with a buffer for the layout at hand; the best one stands in the lent buffer.
 fn take_rounds(
-    size: JobSize,
+    run: RunSize,
     table: &[PieceEntry],
     pixels: &[u8],
-    rows: &[StripEntry],
-    row_starts: &[u32],
-    count: u32,
-    budget: u32,
-    width: usize,
+    strips: &[StripEntry],
+    starts: &[u32],
+    trials: &[u16],
+    terms: Terms,
     layout: &mut [PlaceEntry],
     weights: &mut [u32],
     penalties: &mut [u8],
-    row_lines: &mut [u8],
-    row_tags: &mut [u32],
-    column_lines: &mut [u8],
-    column_tags: &mut [u32],
-    sums: &mut [u32],
+    lines: &mut [u8],
     maps: &mut [u64],
-    trials: &[u16],
 ) -> Tally
-    requires { ⌜ Given (lentBy size (now table) (now pixels)) (now layout) (now weights) budget ⌝
-        ∗ ⌜ count ≤ roundBound ⌝
-        ∗ ⌜ Tools (lentBy size (now table) (now pixels)) (now rows) (now «row_starts») width ⌝
-        ∗ ⌜ LaidOut (lentBy size (now table) (now pixels)) (now layout) (now penalties) ⌝
-        ∗ ⌜ LineStores (jobOf (lentBy size (now table) (now pixels))) width (now «row_lines») (now «row_tags») (now «column_lines») (now «column_tags») (now sums) (now maps) ⌝ }
-    requires { ⌜ TrialList (jobOf (lentBy size (now table) (now pixels))) (now trials) ⌝ }
-    ensures { λ r. ⌜ Ran (lentBy size (now (table .entry)) (now (pixels .entry))) (now (layout .entry)) (now (weights .entry)) count budget r (now (layout .exit)) (now (weights .exit)) ⌝ }
+    requires { ⌜ Given (lentBy (run .size) (now table) (now pixels)) (now layout) (now weights) ⌝
+        ∗ ⌜ InRange terms ⌝
+        ∗ ⌜ LinesReady (lentBy (run .size) (now table) (now pixels)) run (now strips) (now starts) (now lines) (now maps) ⌝
+        ∗ ⌜ LaidOut (lentBy (run .size) (now table) (now pixels)) (now layout) (now penalties) ⌝
+        ∗ ⌜ TrialList (jobOf (lentBy (run .size) (now table) (now pixels))) (now trials) ⌝ }
+    ensures { λ r. ⌜ Ran (lentBy (run .size) (now (table .entry)) (now (pixels .entry))) (now (layout .entry)) (now (weights .entry)) (terms .count) (terms .budget) r (now (layout .exit)) (now (weights .exit)) ⌝ }
 {
     let mut present = [[0u16; 3]; PIECE_BOUND];
-    let n = size.count;
+    let n = run.size.count;
     copy(layout, &mut present[..n]);
     rounds(
-        size,
+        run,
         table,
         pixels,
-        rows,
-        row_starts,
-        count,
-        budget,
-        width,
+        strips,
+        starts,
+        trials,
+        terms,
         &mut present[..n],
         layout,
         weights,
         penalties,
-        row_lines,
-        row_tags,
-        column_lines,
-        column_tags,
-        sums,
+        lines,
         maps,
-        trials,
     )
 }
 
 // The run that is planned.
 fn run_plan(
-    size: JobSize,
+    run: RunSize,
     table: &[PieceEntry],
     pixels: &[u8],
-    rows: &[StripEntry],
-    row_starts: &[u32],
+    strips: &[StripEntry],
+    starts: &[u32],
+    trials: &[u16],
     plan: Plan,
-    budget: u32,
-    width: usize,
     layout: &mut [PlaceEntry],
     weights: &mut [u32],
     penalties: &mut [u8],
-    row_lines: &mut [u8],
-    row_tags: &mut [u32],
-    column_lines: &mut [u8],
-    column_tags: &mut [u32],
-    sums: &mut [u32],
+    lines: &mut [u8],
     maps: &mut [u64],
-    trials: &[u16],
 ) -> PlanOutcome
-    requires { ⌜ Given (lentBy size (now table) (now pixels)) (now layout) (now weights) budget ⌝
-        ∗ ⌜ FewRounds plan ⌝
-        ∗ ⌜ Tools (lentBy size (now table) (now pixels)) (now rows) (now «row_starts») width ⌝
-        ∗ ⌜ LaidOut (lentBy size (now table) (now pixels)) (now layout) (now penalties) ⌝
-        ∗ ⌜ LineStores (jobOf (lentBy size (now table) (now pixels))) width (now «row_lines») (now «row_tags») (now «column_lines») (now «column_tags») (now sums) (now maps) ⌝ }
-    requires { ⌜ TrialList (jobOf (lentBy size (now table) (now pixels))) (now trials) ⌝ }
-    ensures { λ r. ⌜ Done (lentBy size (now (table .entry)) (now (pixels .entry))) (now (layout .entry)) (now (weights .entry)) plan budget r (now (layout .exit)) (now (weights .exit)) ⌝ }
+    requires { ⌜ Given (lentBy (run .size) (now table) (now pixels)) (now layout) (now weights) ⌝
+        ∗ ⌜ PlanInRange plan ⌝
+        ∗ ⌜ LinesReady (lentBy (run .size) (now table) (now pixels)) run (now strips) (now starts) (now lines) (now maps) ⌝
+        ∗ ⌜ LaidOut (lentBy (run .size) (now table) (now pixels)) (now layout) (now penalties) ⌝
+        ∗ ⌜ TrialList (jobOf (lentBy (run .size) (now table) (now pixels))) (now trials) ⌝ }
+    ensures { λ r. ⌜ Done (lentBy (run .size) (now (table .entry)) (now (pixels .entry))) (now (layout .entry)) (now (weights .entry)) plan r (now (layout .exit)) (now (weights .exit)) ⌝ }
 {
     match plan {
-        Plan::Alone => PlanOutcome::Alone(descend(
-            size,
+        Plan::Alone(budget) => PlanOutcome::Alone(descend(
+            run,
             table,
             pixels,
-            rows,
-            row_starts,
+            strips,
+            starts,
+            trials,
             weights,
             budget,
-            width,
             layout,
             penalties,
-            row_lines,
-            row_tags,
-            column_lines,
-            column_tags,
-            sums,
+            lines,
             maps,
-            trials,
         )),
-        Plan::Rounds(count) => PlanOutcome::Rounds(take_rounds(
-            size,
+        Plan::Rounds(terms) => PlanOutcome::Rounds(take_rounds(
+            run,
             table,
             pixels,
-            rows,
-            row_starts,
-            count,
-            budget,
-            width,
+            strips,
+            starts,
+            trials,
+            terms,
             layout,
             weights,
             penalties,
-            row_lines,
-            row_tags,
-            column_lines,
-            column_tags,
-            sums,
+            lines,
             maps,
-            trials,
         )),
     }
 }
 
-// The run, with a store for lines along columns and scratch for the sums of a line.
-fn with_column_lines(
+// The run, with a store for lines.
+fn with_lines(
     size: JobSize,
     table: &[PieceEntry],
     pixels: &[u8],
-    rows: &[StripEntry],
-    row_starts: &[u32],
-    plan: Plan,
-    budget: u32,
-    width: usize,
-    layout: &mut [PlaceEntry],
-    weights: &mut [u32],
-    penalties: &mut [u8],
-    row_lines: &mut [u8],
-    row_tags: &mut [u32],
-    maps: &mut [u64],
+    strips: &[StripEntry],
+    starts: &[u32],
     trials: &[u16],
-) -> PlanOutcome
-    requires { ⌜ Given (lentBy size (now table) (now pixels)) (now layout) (now weights) budget ⌝
-        ∗ ⌜ FewRounds plan ⌝
-        ∗ ⌜ Tools (lentBy size (now table) (now pixels)) (now rows) (now «row_starts») width ⌝
-        ∗ ⌜ LaidOut (lentBy size (now table) (now pixels)) (now layout) (now penalties) ⌝
-        ∗ ⌜ Store Direction.Horizontal (jobOf (lentBy size (now table) (now pixels))) width (now «row_lines») (now «row_tags») (now maps) ⌝ }
-    requires { ⌜ TrialList (jobOf (lentBy size (now table) (now pixels))) (now trials) ⌝ }
-    ensures { λ r. ⌜ Done (lentBy size (now (table .entry)) (now (pixels .entry))) (now (layout .entry)) (now (weights .entry)) plan budget r (now (layout .exit)) (now (weights .exit)) ⌝ }
-{
-    let mut lines = empty_lines();
-    let mut tags = [0u32; TAGS_LENGTH];
-    let mut sums = [0u32; COLUMN_BOUND];
-    let slots = slot_count(width);
-    run_plan(
-        size,
-        table,
-        pixels,
-        rows,
-        row_starts,
-        plan,
-        budget,
-        width,
-        layout,
-        weights,
-        penalties,
-        row_lines,
-        row_tags,
-        &mut lines,
-        &mut tags[..slots],
-        &mut sums,
-        maps,
-        trials,
-    )
-}
-
-// The run, with a store for lines along rows.
-fn with_row_lines(
-    size: JobSize,
-    table: &[PieceEntry],
-    pixels: &[u8],
-    rows: &[StripEntry],
-    row_starts: &[u32],
     plan: Plan,
-    budget: u32,
     layout: &mut [PlaceEntry],
     weights: &mut [u32],
     penalties: &mut [u8],
     maps: &mut [u64],
-    trials: &[u16],
 ) -> PlanOutcome
-    requires { ⌜ Given (lentBy size (now table) (now pixels)) (now layout) (now weights) budget ⌝
-        ∗ ⌜ FewRounds plan ⌝
-        ∗ ⌜ Shapes Direction.Horizontal (jobOf (lentBy size (now table) (now pixels))) (now rows) (now «row_starts») ⌝
-        ∗ ⌜ LaidOut (lentBy size (now table) (now pixels)) (now layout) (now penalties) ⌝
+    requires { ⌜ Given (lentBy size (now table) (now pixels)) (now layout) (now weights) ⌝
+        ∗ ⌜ PlanInRange plan ⌝
+        ∗ ⌜ Shapes Direction.Horizontal (jobOf (lentBy size (now table) (now pixels))) (now strips) (now starts) ⌝ }
+    requires { ⌜ LaidOut (lentBy size (now table) (now pixels)) (now layout) (now penalties) ⌝
+        ∗ ⌜ TrialList (jobOf (lentBy size (now table) (now pixels))) (now trials) ⌝
         ∗ ⌜ MapsReady (jobOf (lentBy size (now table) (now pixels))) (now maps) ⌝ }
-    requires { ⌜ TrialList (jobOf (lentBy size (now table) (now pixels))) (now trials) ⌝ }
-    ensures { λ r. ⌜ Done (lentBy size (now (table .entry)) (now (pixels .entry))) (now (layout .entry)) (now (weights .entry)) plan budget r (now (layout .exit)) (now (weights .exit)) ⌝ }
+    ensures { λ r. ⌜ Done (lentBy size (now (table .entry)) (now (pixels .entry))) (now (layout .entry)) (now (weights .entry)) plan r (now (layout .exit)) (now (weights .exit)) ⌝ }
 {
     let mut lines = empty_lines();
-    let mut tags = [0u32; TAGS_LENGTH];
     let width = slot_width(size, table);
-    let slots = slot_count(width);
-    with_column_lines(
+    let run = RunSize {
         size,
+        slots: slot_count(width),
+        width,
+    };
+    run_plan(
+        run,
         table,
         pixels,
-        rows,
-        row_starts,
+        strips,
+        starts,
+        trials,
         plan,
-        budget,
-        width,
         layout,
         weights,
         penalties,
         &mut lines,
-        &mut tags[..slots],
         maps,
-        trials,
     )
 }
 
@@ -310,37 +223,35 @@ fn with_own_maps(
     size: JobSize,
     table: &[PieceEntry],
     pixels: &[u8],
-    rows: &[StripEntry],
-    row_starts: &[u32],
+    strips: &[StripEntry],
+    starts: &[u32],
+    trials: &[u16],
     plan: Plan,
-    budget: u32,
     layout: &mut [PlaceEntry],
     weights: &mut [u32],
     penalties: &mut [u8],
-    trials: &[u16],
 ) -> PlanOutcome
-    requires { ⌜ Given (lentBy size (now table) (now pixels)) (now layout) (now weights) budget ⌝
-        ∗ ⌜ FewRounds plan ⌝
-        ∗ ⌜ Shapes Direction.Horizontal (jobOf (lentBy size (now table) (now pixels))) (now rows) (now «row_starts») ⌝
-        ∗ ⌜ LaidOut (lentBy size (now table) (now pixels)) (now layout) (now penalties) ⌝ }
-    requires { ⌜ TrialList (jobOf (lentBy size (now table) (now pixels))) (now trials) ⌝ }
-    ensures { λ r. ⌜ Done (lentBy size (now (table .entry)) (now (pixels .entry))) (now (layout .entry)) (now (weights .entry)) plan budget r (now (layout .exit)) (now (weights .exit)) ⌝ }
+    requires { ⌜ Given (lentBy size (now table) (now pixels)) (now layout) (now weights) ⌝
+        ∗ ⌜ PlanInRange plan ⌝
+        ∗ ⌜ Shapes Direction.Horizontal (jobOf (lentBy size (now table) (now pixels))) (now strips) (now starts) ⌝
+        ∗ ⌜ LaidOut (lentBy size (now table) (now pixels)) (now layout) (now penalties) ⌝
+        ∗ ⌜ TrialList (jobOf (lentBy size (now table) (now pixels))) (now trials) ⌝ }
+    ensures { λ r. ⌜ Done (lentBy size (now (table .entry)) (now (pixels .entry))) (now (layout .entry)) (now (weights .entry)) plan r (now (layout .exit)) (now (weights .exit)) ⌝ }
 {
     let mut maps = empty_maps();
     ready_maps(size, table, pixels, &mut maps);
-    with_row_lines(
+    with_lines(
         size,
         table,
         pixels,
-        rows,
-        row_starts,
+        strips,
+        starts,
+        trials,
         plan,
-        budget,
         layout,
         weights,
         penalties,
         &mut maps,
-        trials,
     )
 }
 
@@ -349,22 +260,21 @@ fn with_workspace(
     size: JobSize,
     table: &[PieceEntry],
     pixels: &[u8],
-    rows: &[StripEntry],
-    row_starts: &[u32],
+    strips: &[StripEntry],
+    starts: &[u32],
+    trials: &[u16],
     plan: Plan,
-    budget: u32,
     layout: &mut [PlaceEntry],
     weights: &mut [u32],
     penalties: &mut [u8],
     workspace: &mut [u64],
-    trials: &[u16],
 ) -> PlanOutcome
-    requires { ⌜ Given (lentBy size (now table) (now pixels)) (now layout) (now weights) budget ⌝
-        ∗ ⌜ FewRounds plan ⌝
-        ∗ ⌜ Shapes Direction.Horizontal (jobOf (lentBy size (now table) (now pixels))) (now rows) (now «row_starts») ⌝
-        ∗ ⌜ LaidOut (lentBy size (now table) (now pixels)) (now layout) (now penalties) ⌝ }
-    requires { ⌜ TrialList (jobOf (lentBy size (now table) (now pixels))) (now trials) ⌝ }
-    ensures { λ r. ⌜ Done (lentBy size (now (table .entry)) (now (pixels .entry))) (now (layout .entry)) (now (weights .entry)) plan budget r (now (layout .exit)) (now (weights .exit)) ⌝ }
+    requires { ⌜ Given (lentBy size (now table) (now pixels)) (now layout) (now weights) ⌝
+        ∗ ⌜ PlanInRange plan ⌝
+        ∗ ⌜ Shapes Direction.Horizontal (jobOf (lentBy size (now table) (now pixels))) (now strips) (now starts) ⌝
+        ∗ ⌜ LaidOut (lentBy size (now table) (now pixels)) (now layout) (now penalties) ⌝
+        ∗ ⌜ TrialList (jobOf (lentBy size (now table) (now pixels))) (now trials) ⌝ }
+    ensures { λ r. ⌜ Done (lentBy size (now (table .entry)) (now (pixels .entry))) (now (layout .entry)) (now (weights .entry)) plan r (now (layout .exit)) (now (weights .exit)) ⌝ }
 {
     let used = smaller(workspace.len(), MOST_MAPS);
     if used < LEAST_MAPS {
@@ -372,73 +282,69 @@ fn with_workspace(
             size,
             table,
             pixels,
-            rows,
-            row_starts,
+            strips,
+            starts,
+            trials,
             plan,
-            budget,
             layout,
             weights,
             penalties,
-            trials,
         );
     }
     let maps: &mut [u64] = &mut workspace[..used];
     ready_maps(size, table, pixels, maps);
-    with_row_lines(
+    with_lines(
         size,
         table,
         pixels,
-        rows,
-        row_starts,
+        strips,
+        starts,
+        trials,
         plan,
-        budget,
         layout,
         weights,
         penalties,
         maps,
-        trials,
     )
 }
 
-// The run, with the list of its trials, the strips of every piece in every turn along rows and the table of penalties.
+// The run, with the strips of every piece in every turn along rows, the list of trials and the table of penalties.
 pub fn with_strips(
     size: JobSize,
     table: &[PieceEntry],
     pixels: &[u8],
     plan: Plan,
-    budget: u32,
     layout: &mut [PlaceEntry],
     weights: &mut [u32],
     workspace: &mut [u64],
 ) -> PlanOutcome
-    requires { ⌜ Given (lentBy size (now table) (now pixels)) (now layout) (now weights) budget ⌝ ∗ ⌜ FewRounds plan ⌝ }
-    ensures { λ r. ⌜ Done (lentBy size (now (table .entry)) (now (pixels .entry))) (now (layout .entry)) (now (weights .entry)) plan budget r (now (layout .exit)) (now (weights .exit)) ⌝ }
+    requires { ⌜ Given (lentBy size (now table) (now pixels)) (now layout) (now weights) ⌝ ∗ ⌜ PlanInRange plan ⌝ }
+    ensures { λ r. ⌜ Done (lentBy size (now (table .entry)) (now (pixels .entry))) (now (layout .entry)) (now (weights .entry)) plan r (now (layout .exit)) (now (weights .exit)) ⌝ }
 {
     let mut penalties = penalties_of(table, pixels, layout);
     let mut trials = [0u16; TRIAL_BOUND];
     let count = make_trials(size, table, &mut trials);
-    let mut rows = empty_store();
-    let mut row_starts = [0u32; STARTS_LENGTH];
+    let mut strips = empty_store();
+    let mut starts = [0u32; STARTS_LENGTH];
     make_shapes(
         size,
         table,
         pixels,
         Direction::Horizontal,
-        &mut rows,
-        &mut row_starts,
+        &mut strips,
+        &mut starts,
     );
     with_workspace(
         size,
         table,
         pixels,
-        &rows,
-        &row_starts,
+        &strips,
+        &starts,
+        &trials[..count],
         plan,
-        budget,
         layout,
         weights,
         &mut penalties,
         workspace,
-        &trials[..count],
     )
 }

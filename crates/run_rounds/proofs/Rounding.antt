@@ -15,7 +15,9 @@ use Rattle.descent_laws.specs.Claims.{ValidWeights, ValidLayout, DescentClaims}
 use Rattle.search_laws.specs.Results.{guidedOf}
 use Rattle.search_laws.proofs.GuidedLoop.{Guiding, guiding, guide-done, GuidedUnderway, guided-begin, guided-done, round-claims, guided-clear, guided-open}
 use Rattle.search_sums.specs.Table.{Weighed}
-use Rattle.run_step.specs.Ready.{LaidOut, LineStores}
+use Rattle.search_lines.specs.declared.RunSize.{RunSize}
+use Rattle.search_beside.specs.Ready.{LinesReady}
+use Rattle.run_step.specs.Ready.{LaidOut}
 use Rattle.run_descent.specs.Descents.{descentOf}
 use Rattle.run_descent.specs.declared.Ended.{Ended}
 use Rattle.run_rounds.specs.Rounds.{betterRound, betterSum, leftAfter, raisedAfter}
@@ -82,57 +84,52 @@ left-falls Spent left l = omega arith
 -- ── before each round ──
 
 -- the buffers of the loop, and so many rounds left
-pub record Rounding (l : Lent) (width : ℕ) (ws₀ : List ℕ) (count budget : ℕ) (v₀ : Layout) (layout best : List (List ℕ))
-    (weights penalties rowLines rowTags columnLines columnTags sums maps : List ℕ) (sum made moves left : ℕ) : Type 0
+pub record Rounding (l : Lent) (r : RunSize) (strips : List (List ℕ)) (starts ws₀ : List ℕ) (count budget : ℕ) (v₀ : Layout) (layout best : List (List ℕ))
+    (weights penalties lines maps : List ℕ) (sum made moves left : ℕ) : Type 0
   where
     pub laid : LaidOut l layout penalties
-    pub stores : LineStores (jobOf l) width rowLines rowTags columnLines columnTags sums maps
+    pub ready : LinesReady l r strips starts lines maps
     pub underway : GuidedUnderway (jobOf l) ws₀ count budget v₀ left (guiding (layoutOf layout) weights (layoutOf best) made moves) sum
     pub written : entriesOf (layoutOf best) ≡ best
 
 -- the buffers are as long as at the beginning
-pub record Sizes (layout best : List (List ℕ)) (weights penalties rowLines rowTags columnLines columnTags sums maps : List ℕ) (layout₀ best₀ : List (List ℕ))
-    (weights₀ penalties₀ rowLines₀ rowTags₀ columnLines₀ columnTags₀ sums₀ maps₀ : List ℕ) : Type 0
+pub record Sizes (layout best : List (List ℕ)) (weights penalties lines maps : List ℕ) (layout₀ best₀ : List (List ℕ))
+    (weights₀ penalties₀ lines₀ maps₀ : List ℕ) : Type 0
   where
     pub sameLayout : length layout ≡ length layout₀
     pub sameBest : length best ≡ length best₀
     pub sameWeights : length weights ≡ length weights₀
     pub samePenalties : length penalties ≡ length penalties₀
-    pub sameRowLines : length rowLines ≡ length rowLines₀
-    pub sameRowTags : length rowTags ≡ length rowTags₀
-    pub sameColumnLines : length columnLines ≡ length columnLines₀
-    pub sameColumnTags : length columnTags ≡ length columnTags₀
-    pub sameSums : length sums ≡ length sums₀
+    pub sameLines : length lines ≡ length lines₀
     pub sameMaps : length maps ≡ length maps₀
 
 -- what a round does: its descent, and the better of its end and the best layout so far
-pub record Rounded (l : Lent) (width budget : ℕ) (layout best : List (List ℕ)) (weights : List ℕ) (sum : ℕ) (e : Ended) (layout′ best′ : List (List ℕ))
-    (penalties′ rowLines′ rowTags′ columnLines′ columnTags′ sums′ maps′ : List ℕ) (plain sum′ : ℕ) : Type 0
+pub record Rounded (l : Lent) (r : RunSize) (strips : List (List ℕ)) (starts : List ℕ) (budget : ℕ) (layout best : List (List ℕ)) (weights : List ℕ) (sum : ℕ)
+    (e : Ended) (layout′ best′ : List (List ℕ)) (penalties′ lines′ maps′ : List ℕ) (plain sum′ : ℕ) : Type 0
   where
     pub result : descend (jobOf l) weights budget (layoutOf layout) ≡ descentOf e (layoutOf layout′)
     pub laid : LaidOut l layout′ penalties′
-    pub stores : LineStores (jobOf l) width rowLines′ rowTags′ columnLines′ columnTags′ sums′ maps′
+    pub ready : LinesReady l r strips starts lines′ maps′
     pub plainIs : plain ≡ plainSum (jobOf l) (layoutOf layout′)
     pub bestIs : best′ ≡ betterRound plain sum layout′ best
     pub sumIs : sum′ ≡ betterSum plain sum
 
 -- before the first round the given layout is the best
-pub rounding-begin : {l : Lent} {width : ℕ} (count budget : ℕ) {layout best : List (List ℕ)}
-    {weights penalties rowLines rowTags columnLines columnTags sums maps : List ℕ}
-    {sum : ℕ} → 0 < jobOf l .size .count → LaidOut l layout penalties → LineStores (jobOf l) width rowLines rowTags columnLines columnTags sums maps
+pub rounding-begin : {l : Lent} {r : RunSize} {strips : List (List ℕ)} {starts : List ℕ} (count budget : ℕ) {layout best : List (List ℕ)}
+    {weights penalties lines maps : List ℕ} {sum : ℕ} → 0 < jobOf l .size .count → LaidOut l layout penalties → LinesReady l r strips starts lines maps
     → ValidWeights (jobOf l) weights → best ≡ layout → sum ≡ plainSum (jobOf l) (layoutOf layout)
-    → Rounding l width weights count budget (layoutOf layout) layout best weights penalties rowLines rowTags columnLines columnTags sums maps sum 0 0 count
-rounding-begin {l} count budget {layout} {best} {weights} some-piece h stores w e f =
+    → Rounding l r strips starts weights count budget (layoutOf layout) layout best weights penalties lines maps sum 0 0 count
+rounding-begin {l} count budget {layout} {best} {weights} some-piece h ready w e f =
     record {
       laid = h;
-      stores = stores;
+      ready = ready;
       underway = rw (e, f) (guided-begin (jobOf l) weights count budget (layoutOf layout) some-piece (h .valid) w);
       written = rw e (h .written);
     }
 
-module _ {l : Lent} {width : ℕ} {ws₀ : List ℕ} {count budget : ℕ} {v₀ : Layout} (some-piece : 0 < jobOf l .size .count) where
-  module _ {layout best : List (List ℕ)} {weights penalties rowLines rowTags columnLines columnTags sums maps : List ℕ} {sum made moves left : ℕ}
-      (h : Rounding l width ws₀ count budget v₀ layout best weights penalties rowLines rowTags columnLines columnTags sums maps sum made moves left)
+module _ {l : Lent} {run : RunSize} {strips : List (List ℕ)} {starts ws₀ : List ℕ} {count budget : ℕ} {v₀ : Layout} (some-piece : 0 < jobOf l .size .count) where
+  module _ {layout best : List (List ℕ)} {weights penalties lines maps : List ℕ} {sum made moves left : ℕ}
+      (h : Rounding l run strips starts ws₀ count budget v₀ layout best weights penalties lines maps sum made moves left)
     where
       -- the trials and moves of all rounds so far are few
       pub rounding-few : count ≤ roundBound → budget ≤ budgetBound → (made ≤ 1000000000000) × (moves ≤ 1000000000000)
@@ -146,9 +143,9 @@ module _ {l : Lent} {width : ℕ} {ws₀ : List ℕ} {count budget : ℕ} {v₀ 
       pub rounding-done : left ≡ 0 → guide (jobOf l) count budget ws₀ v₀ ≡ guidedOf (layoutOf best) sum weights made moves
       rounding-done e = guided-done (jobOf l) ws₀ count budget v₀ some-piece left _ sum (h .underway) e
 
-      module _ {e : Ended} {layout′ best′ : List (List ℕ)} {penalties′ rowLines′ rowTags′ columnLines′ columnTags′ sums′ maps′ : List ℕ} {plain sum′ : ℕ}
+      module _ {e : Ended} {layout′ best′ : List (List ℕ)} {penalties′ lines′ maps′ : List ℕ} {plain sum′ : ℕ}
           (more : 0 < left)
-          (r : Rounded l width budget layout best weights sum e layout′ best′ penalties′ rowLines′ rowTags′ columnLines′ columnTags′ sums′ maps′ plain sum′)
+          (r : Rounded l run strips starts budget layout best weights sum e layout′ best′ penalties′ lines′ maps′ plain sum′)
         where
           -- the better layout and its plain sum
           round-best : bestOf (jobOf l) (layoutOf best) (layoutOf layout′) ≡ layoutOf best′
@@ -173,7 +170,7 @@ module _ {l : Lent} {width : ℕ} {ws₀ : List ℕ} {count budget : ℕ} {v₀ 
 
           -- a clear round ends the run: what holds with no round left
           round-clear : e .end ≡ Clear
-              → Rounding l width ws₀ count budget v₀ layout′ best′ weights penalties′ rowLines′ rowTags′ columnLines′ columnTags′ sums′ maps′ sum′ (made + e .made)
+              → Rounding l run strips starts ws₀ count budget v₀ layout′ best′ weights penalties′ lines′ maps′ sum′ (made + e .made)
               (moves + e .moves) 0
           round-clear c =
               let s : Guiding = guiding (layoutOf layout′) weights (layoutOf best′) (made + e .made) (moves + e .moves) in
@@ -184,7 +181,7 @@ module _ {l : Lent} {width : ℕ} {ws₀ : List ℕ} {count budget : ℕ} {v₀ 
               let fewer = round-said .movesAtMostMade in
               record {
                 laid = r .laid;
-                stores = r .stores;
+                ready = r .ready;
                 underway =
                     record {
                       result =
@@ -203,13 +200,12 @@ module _ {l : Lent} {width : ℕ} {ws₀ : List ℕ} {count budget : ℕ} {v₀ 
 
           -- any other: what holds before the next
           round-open : e .end ≢ Clear
-              → Rounding l width ws₀ count budget v₀ layout′ best′ (raised (jobOf l) (layoutOf layout′) weights) penalties′ rowLines′ rowTags′ columnLines′
-              columnTags′ sums′ maps′ sum′
+              → Rounding l run strips starts ws₀ count budget v₀ layout′ best′ (raised (jobOf l) (layoutOf layout′) weights) penalties′ lines′ maps′ sum′
               (made + e .made) (moves + e .moves) (left - 1)
           round-open c =
               record {
                 laid = r .laid;
-                stores = r .stores;
+                ready = r .ready;
                 underway =
                     guided-open (jobOf l) ws₀ count budget v₀ some-piece left _ sum (h .underway) (descentOf e (layoutOf layout′)) (layoutOf best′) sum′ more
                     (r .result) round-best round-sum c;
@@ -218,9 +214,7 @@ module _ {l : Lent} {width : ℕ} {ws₀ : List ℕ} {count budget : ℕ} {v₀ 
 
           -- by its end
           round-at : (end : End) → e .end ≡ end
-              → Rounding l width ws₀ count budget v₀ layout′ best′ (raisedAfter (jobOf l) (layoutOf layout′) end weights) penalties′ rowLines′ rowTags′
-              columnLines′
-              columnTags′ sums′ maps′ sum′ (made + e .made) (moves + e .moves) (leftAfter end left)
+              → Rounding l run strips starts ws₀ count budget v₀ layout′ best′ (raisedAfter (jobOf l) (layoutOf layout′) end weights) penalties′ lines′ maps′ sum′ (made + e .made) (moves + e .moves) (leftAfter end left)
           round-at Clear c = round-clear c
           round-at Settled c = round-open (λ q. never (sym c ∙ q))
             where
@@ -234,6 +228,6 @@ module _ {l : Lent} {width : ℕ} {ws₀ : List ℕ} {count budget : ℕ} {v₀ 
           -- what holds after a round
           pub round-next : {weights′ : List ℕ} {left′ : ℕ} → weights′ ≡ raisedAfter (jobOf l) (layoutOf layout′) (e .end) weights
               → left′ ≡ leftAfter (e .end) left
-              → Rounding l width ws₀ count budget v₀ layout′ best′ weights′ penalties′ rowLines′ rowTags′ columnLines′ columnTags′ sums′ maps′ sum′ (made + e .made)
+              → Rounding l run strips starts ws₀ count budget v₀ layout′ best′ weights′ penalties′ lines′ maps′ sum′ (made + e .made)
               (moves + e .moves) left′
           round-next w m = rw (w, m) (round-at (e .end) refl)

@@ -2,7 +2,7 @@
 use mathlib.Core.Bool.{true, false}
 use mathlib.Core.List.{List}
 use mathlib.Core.Path.{_≡_}
-use Prim.Native.Nat.{ℕ, _-_}
+use Prim.Native.Nat.{ℕ, _-_, _≤_}
 use lib.Dec.{ltb}
 use Rattle.model.specs.Layout.{Job, Layout}
 use Rattle.model.specs.Guided.{raised, isClear, guide}
@@ -10,7 +10,9 @@ use Rattle.model.specs.Lent.{Lent, jobOf}
 use Rattle.model.specs.Buffer.{layoutOf, entriesOf}
 use Rattle.model.specs.declared.End.{End}
 use Rattle.search_laws.specs.Results.{guidedOf}
+use Rattle.model.specs.Calls.{budgetBound, roundBound}
 use Rattle.run_rounds.specs.declared.Tally.{Tally}
+use Rattle.run_rounds.specs.declared.Terms.{Terms}
 
 -- the better of a round's end and the best layout so far, by their plain sums
 abbrev pub betterRound : ℕ → ℕ → List (List ℕ) → List (List ℕ) → List (List ℕ)
@@ -27,6 +29,11 @@ leftAfter end left = elim (isClear end) [ true ↦ 0 | false ↦ left - 1 ]
 -- the weights after a round that ends at a layout: raised unless it is clear
 abbrev pub raisedAfter : Job → Layout → End → List ℕ → List ℕ
 raisedAfter j v end ws = elim (isClear end) [ true ↦ ws | false ↦ raised j v ws ]
+
+-- terms in document 01's range
+pub record InRange (t : Terms) : Type 0 where
+  pub rounds : t .count ≤ roundBound
+  pub budget : t .budget ≤ budgetBound
 
 -- the guided run from a layout buffer is the model's: its best layout and its weights stand in the buffers, the rest is told beside them
 pub record Ran (l : Lent) (layout : List (List ℕ)) (weights : List ℕ) (count budget : ℕ) (told : Tally) (best : List (List ℕ)) (raised : List ℕ) : Type 0 where

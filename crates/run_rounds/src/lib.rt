@@ -2,32 +2,38 @@
 // layout is the one with the least plain sum so far; weights are raised after each round that is not clear.
 use layout_places::copy;
 use model::End;
-use model::JobSize;
 use model::PieceEntry;
 use model::PlaceEntry;
 use model::StripEntry;
 use run_descent::descend;
+use search_lines::RunSize;
 use search_sums::plain_total;
 use search_sums::raise;
 ghost use mathlib.Core.Path.{_≡_};
-ghost use Prim.Native.Nat.{_<_, _≤_};
+ghost use Prim.Native.Nat.{_<_};
 ghost use lib.ListN.{length};
 ghost use Rattle.model.specs.Layout.{Job, Layout};
 ghost use Rattle.model.specs.Guided.{isClear};
 ghost use Rattle.model.specs.Lent.{lentBy, jobOf};
-ghost use Rattle.model.specs.Calls.{budgetBound, roundBound};
 ghost use Rattle.descent_laws.specs.Claims.{ValidWeights};
 ghost use Rattle.search_laws.specs.Table.{PenaltyTable};
 ghost use Rattle.search_sums.specs.Table.{Weighed};
 ghost use Rattle.run_trials.specs.Trials.{TrialList};
-ghost use Rattle.run_step.specs.Ready.{Tools, LaidOut, LineStores};
-ghost use Rattle.run_rounds.specs.Rounds.{betterRound, betterSum, leftAfter, raisedAfter, Ran};
+ghost use Rattle.search_beside.specs.Ready.{LinesReady};
+ghost use Rattle.run_step.specs.Ready.{LaidOut};
+ghost use Rattle.run_rounds.specs.Rounds.{betterRound, betterSum, leftAfter, raisedAfter, InRange, Ran};
 
 // What rounds come to beside the best layout and the weights: the best layout's plain sum, and the trials and moves of all rounds.
 pub struct Tally {
     pub sum: u64,
     pub made: u64,
     pub moves: u64,
+}
+
+// The terms of a guided run: how many rounds at most, and the budget of each.
+pub struct Terms {
+    pub count: u32,
+    pub budget: u32,
 }
 
 // Takes a round's end for the best layout where its plain sum is smaller; gives the best layout's plain sum.
@@ -71,57 +77,45 @@ fn after_round(end: End, left: u32, penalties: &[u8], weights: &mut [u32], n: us
 
 // At most so many rounds from the layout `present` on, which is the best so far. The best layout stands in `best` at the end.
 pub fn rounds(
-    size: JobSize,
+    run: RunSize,
     table: &[PieceEntry],
     pixels: &[u8],
-    rows: &[StripEntry],
-    row_starts: &[u32],
-    count: u32,
-    budget: u32,
-    width: usize,
+    strips: &[StripEntry],
+    starts: &[u32],
+    trials: &[u16],
+    terms: Terms,
     present: &mut [PlaceEntry],
     best: &mut [PlaceEntry],
     weights: &mut [u32],
     penalties: &mut [u8],
-    row_lines: &mut [u8],
-    row_tags: &mut [u32],
-    column_lines: &mut [u8],
-    column_tags: &mut [u32],
-    sums: &mut [u32],
+    lines: &mut [u8],
     maps: &mut [u64],
-    trials: &[u16],
 ) -> Tally
-    requires { ⌜ Tools (lentBy size (now table) (now pixels)) (now rows) (now «row_starts») width ⌝
-        ∗ ⌜ ValidWeights (jobOf (lentBy size (now table) (now pixels))) (now weights) ⌝
-        ∗ ⌜ LaidOut (lentBy size (now table) (now pixels)) (now present) (now penalties) ⌝
-        ∗ ⌜ LineStores (jobOf (lentBy size (now table) (now pixels))) width (now «row_lines») (now «row_tags») (now «column_lines») (now «column_tags») (now sums) (now maps) ⌝ }
-    requires { ⌜ now best ≡ now present ⌝ ∗ ⌜ (count ≤ roundBound) × (budget ≤ budgetBound) ⌝ ∗ ⌜ TrialList (jobOf (lentBy size (now table) (now pixels))) (now trials) ⌝ }
-    ensures { λ r. ⌜ Ran (lentBy size (now (table .entry)) (now (pixels .entry))) (now (present .entry)) (now (weights .entry)) count budget r (now (best .exit)) (now (weights .exit)) ⌝ }
+    requires { ⌜ LinesReady (lentBy (run .size) (now table) (now pixels)) run (now strips) (now starts) (now lines) (now maps) ⌝
+        ∗ ⌜ ValidWeights (jobOf (lentBy (run .size) (now table) (now pixels))) (now weights) ⌝
+        ∗ ⌜ LaidOut (lentBy (run .size) (now table) (now pixels)) (now present) (now penalties) ⌝ }
+    requires { ⌜ now best ≡ now present ⌝ ∗ ⌜ InRange terms ⌝ ∗ ⌜ TrialList (jobOf (lentBy (run .size) (now table) (now pixels))) (now trials) ⌝ }
+    ensures { λ r. ⌜ Ran (lentBy (run .size) (now (table .entry)) (now (pixels .entry))) (now (present .entry)) (now (weights .entry)) (terms .count) (terms .budget) r (now (best .exit)) (now (weights .exit)) ⌝ }
 {
-    let n = size.count;
+    let n = run.size.count;
     let mut sum = plain_total(penalties, n);
     let mut made: u64 = 0;
     let mut moves: u64 = 0;
-    let mut left = count;
+    let mut left = terms.count;
     while 0 < left {
         let round = descend(
-            size,
+            run,
             table,
             pixels,
-            rows,
-            row_starts,
+            strips,
+            starts,
+            trials,
             weights,
-            budget,
-            width,
+            terms.budget,
             present,
             penalties,
-            row_lines,
-            row_tags,
-            column_lines,
-            column_tags,
-            sums,
+            lines,
             maps,
-            trials,
         );
         made = made + round.made as u64;
         moves = moves + round.moves as u64;

@@ -1,38 +1,25 @@
--- What is at hand before a trial and after it: what a search asks for, the layout that a trial leaves, and the stores of lines.
--- Assumes nothing.
-use Rattle.list_laws.proofs.Kit.{_∙_, _≡_, ap₂, refl, subst, sym, true, Option, none, some, List, _≤_, ℕ, arith, length, length-map}
-use Rattle.model.specs.Piece.{lineDirection, lineThrough, onLine}
+-- What is at hand before a trial and after it: what a search asks for and the layout that a trial leaves. Assumes nothing.
+use Rattle.list_laws.proofs.Kit.{_∙_, _≡_, ap₂, refl, subst, sym, true, Option, none, some, List, ℕ, length, length-map}
+use Rattle.model.specs.Piece.{onLine}
 use Rattle.model.specs.Layout.{Job, pieceSum}
 use Rattle.model.specs.Lent.{Lent, jobOf, lentWell}
 use Rattle.model.specs.Buffer.{placementOf, layoutOf, entriesOf}
 use Rattle.model.specs.Search.{Best}
 use Rattle.model.specs.Descent.{Trial, trialLine}
-use Rattle.model.specs.declared.Direction.{Direction}
-use Rattle.model.specs.declared.Direction.the-variants.{Horizontal, Vertical}
 use Rattle.model.specs.declared.Line.{Line}
-use Rattle.model.specs.declared.Placement.{Placement}
-use Rattle.descent_laws.specs.Claims.{ValidWeights, ValidLayout}
+use Rattle.descent_laws.specs.Claims.{ValidLayout}
 use Rattle.descent_laws.specs.Trials.{Proper}
 use Rattle.search_laws.specs.Table.{PenaltyTable}
 use Rattle.search_laws.specs.Loop.{trialSearch}
 use Rattle.search_laws.proofs.Loop.{trial-valid}
-use Rattle.search_shapes.specs.Shapes.{Shapes}
 use Rattle.descent_laws.specs.LentLayout.{Laid}
-use Rattle.search_lines.specs.Kept.{LinesKept, Wide}
-use Rattle.search_lines.proofs.Keeping.{with-maps}
-use Rattle.search_bounded.specs.Ready.{SearchReady}
 use Rattle.search_tracks.specs.declared.Mover.{Mover}
-use Rattle.run_step.specs.Ready.{LaidOut, Store}
+use Rattle.run_step.specs.Ready.{LaidOut}
 use Rattle.run_step.specs.Steps.{moverSearch, entriesAfter}
 use Rattle.text_laws.proofs.Entries.{layout-set}
 use Rattle.run_step.proofs.Moves.{written-set}
 
 -- ── before a trial ──
-
--- the line in a direction has that direction
-pub through-direction : (d : Direction) (p : Placement) → lineDirection (lineThrough d p) ≡ d
-through-direction Horizontal p = refl
-through-direction Vertical p = refl
 
 -- a buffer has an entry a piece
 pub laid-length : (l : Lent) (es : List (List ℕ)) (T : List ℕ) → LaidOut l es T → length es ≡ l .size .count
@@ -43,15 +30,6 @@ laid-length l es T h = sym (length-map es placementOf) ∙ h .valid .onePerPiece
 pub laid-of : (l : Lent) (es : List (List ℕ)) (T : List ℕ) → lentWell l ≡ true → LaidOut l es T → Laid l es
 unfolding jobOf
 laid-of l es T w h = record { well = w; whole = laid-length l es T h; valid = h .valid }
-
--- a search in a direction e that is the store's
-pub search-ready : (l : Lent) (d e : Direction) (strips : List (List ℕ)) (starts : List ℕ) (es : List (List ℕ)) (ws : List ℕ) (width : ℕ)
-    (T lines tags maps : List ℕ)
-    → e ≡ d → lentWell l ≡ true → LaidOut l es T → Shapes Horizontal (jobOf l) strips starts → ValidWeights (jobOf l) ws → Wide (jobOf l) width → width ≤ 512
-    → Store d (jobOf l) width lines tags maps → SearchReady l e strips starts es ws width lines tags maps
-search-ready l d e strips starts es ws width T lines tags maps same w h s v wide narrow k =
-    subst (λ (x : Direction). SearchReady l x strips starts es ws width lines tags maps) (sym same)
-    (record { laid = laid-of l es T w h; shapes = s; weighed = v; wide = wide; narrow = narrow; kept = k .kept; fits = k .fits })
 
 -- ── after a trial ──
 
@@ -70,20 +48,6 @@ module _ (j : Job) (ws : List ℕ) (es : List (List ℕ)) (k : Trial) (line : Li
     pub entries-same : (new : List (List ℕ)) → new ≡ entriesAfter es (k .piece) (k .turn) line (moverSearch j ws (layoutOf es) (moverOf k line) present)
         → new ≡ entriesAfter es (k .piece) (k .turn) (trialLine (layoutOf es) k) (trialSearch j ws (layoutOf es) k)
     entries-same new e = e ∙ ap₂ (λ (x : Line) (o : Option Best). entriesAfter es (k .piece) (k .turn) x o) isLine search-same
-
--- a store whose lines were renewed
-pub store-again : (d e : Direction) (j : Job) (width : ℕ) (lines tags maps new newTags newMaps : List ℕ) → e ≡ d → Store d j width lines tags maps
-    → LinesKept e j width new newTags newMaps
-    → length new ≡ length lines → Store d j width new newTags newMaps
-store-again d e j width lines tags maps new newTags newMaps same k h n =
-    let f = k .fits in
-    record { kept = subst (λ (x : Direction). LinesKept x j width new newTags newMaps) same h; fits = omega arith }
-
--- a store whose maps were renewed with another's
-pub store-beside : (d e : Direction) (j : Job) (width : ℕ) (lines tags maps others otherTags newMaps : List ℕ) → Store d j width lines tags maps
-    → LinesKept e j width others otherTags newMaps → Store d j width lines tags newMaps
-store-beside d e j width lines tags maps others otherTags newMaps k h =
-    record { kept = with-maps d j width lines tags maps newMaps (h .ready) (k .kept); fits = k .fits }
 
 module _ (l : Lent) (ws : List ℕ) (es : List (List ℕ)) (T : List ℕ) (k : Trial) (proper : Proper (jobOf l) 0 (jobOf l .size .count) k)
     (h : LaidOut l es T) where

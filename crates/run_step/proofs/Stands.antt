@@ -1,11 +1,11 @@
 -- Where a descent stands after a trial, and how large its numbers are. Assumes nothing.
-use Rattle.list_laws.proofs.Kit.{_∙_, _≡_, ap, sym, true, some, List, _<_, _≤_, ℕ, add-one, arith, getD, length, length-map}
+use Rattle.list_laws.proofs.Kit.{_∙_, _≡_, ap, refl, sym, true, some, List, _<_, _≤_, ℕ, add-one, arith, getD, length, length-map}
 use Rattle.model.specs.Piece.{onLine}
 use Rattle.model.specs.Layout.{Job, Layout, pieceSum, weightedSum}
 use Rattle.model.specs.Lent.{Lent, jobOf, lentWell}
 use Rattle.model.specs.Buffer.{layoutOf}
 use Rattle.model.specs.Search.{Best}
-use Rattle.model.specs.Descent.{Trial, Attempt, moved, quiet, proceed, trialAfter, trialLine, attempt, noTrial, step}
+use Rattle.model.specs.Descent.{Trial, Progress, Attempt, moved, quiet, proceed, trialAfter, trialLine, attempt, noTrial, step}
 use Rattle.job_laws.proofs.Checked.{facts}
 use Rattle.call_laws.proofs.Jobs.{lent-boxes-small}
 use Rattle.descent_laws.specs.Claims.{ValidWeights}

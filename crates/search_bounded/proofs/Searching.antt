@@ -1,15 +1,12 @@
 -- A search as a whole: its track, sums that are 0 at first, and what the least of them is at the end. Assumes nothing.
 use Rattle.list_laws.proofs.Kit.{_∙_, _≡_, ap, refl, subst, sym, true, Option, none, some, List, _<_, _≤_, suc, zero, ℕ, arith, getD, length, length-map}
-use Rattle.list_laws.proofs.Kit.{length-replicate, replicate, take, length-take-le, decLt}
-use Rattle.model.specs.Piece.{lineDirection}
-use Rattle.model.specs.Layout.{Job, Layout, turnedPiece}
+use Rattle.list_laws.proofs.Kit.{replicate, take, decLt}
+use Rattle.list_laws.proofs.Lists.{take-repeat}
+use Rattle.search_lines.proofs.Keeping.{cleared-byte}
+use Rattle.model.specs.Layout.{Job, Layout}
 use Rattle.model.specs.Search.{Best, sumAt}
-use Rattle.model.specs.Lent.{Lent, jobOf, lentWell}
+use Rattle.model.specs.Lent.{Lent, jobOf}
 use Rattle.model.specs.Buffer.{layoutOf, placementOf}
-use Rattle.model.specs.declared.Direction.{Direction}
-use Rattle.strip_laws.proofs.Tight.{tight-side}
-use Rattle.job_laws.proofs.Checked.{facts}
-use Rattle.call_laws.proofs.Jobs.{lent-tight}
 use Rattle.descent_laws.specs.Claims.{ValidWeights}
 use Rattle.search_laws.specs.BoundedSearch.{Serves, limit, belowBound}
 use Rattle.search_laws.proofs.BoundedSearch.{Bounded, bounded-is, search-serves, whole-serves}
@@ -17,44 +14,15 @@ use Rattle.search_laws.proofs.PieceSum.{sum-at}
 use Rattle.descent_laws.specs.LentLayout.{Laid}
 use Rattle.search_tracks.specs.declared.Mover.{Mover}
 use Rattle.search_tracks.specs.declared.Track.{Track}
-use Rattle.search_tracks.specs.Boxes.{trackOf, SmallTrack}
-use Rattle.search_bounded.specs.Ready.{SearchReady, LinesReady, OnTrack}
+use Rattle.search_beside.specs.Ready.{OnTrack}
 use Rattle.search_bounded.specs.Summing.{moverPlaces, Summed}
 use Rattle.search_line_sums.proofs.Scans.{sumOf}
 
 -- ── before the search ──
 
--- all but the weights
-pub lines-ready : {l : Lent} {d : Direction} {strips : List (List ℕ)} {starts : List ℕ} {layout : List (List ℕ)} {weights : List ℕ} {width : ℕ}
-    {lines tags maps : List ℕ}
-    → SearchReady l d strips starts layout weights width lines tags maps
-    → LinesReady l d strips starts layout width lines tags maps
-lines-ready s =
-    record { laid = s .laid; shapes = s .shapes; wide = s .wide; narrow = s .narrow; kept = s .kept; fits = s .fits }
-
--- the mover has its entry, and the sheet its bounds
-pub track-asked : (l : Lent) (i : ℕ) → lentWell l ≡ true → i < l .size .count → (i < length (l .table)) × ((l .size .columns ≤ 4096) × (l .size .rows ≤ 4096))
-track-asked l i w b =
-    let e = facts l w .entries in
-    let c = facts l w .fewColumns in
-    let r = facts l w .fewRows in
-    (omega arith, (omega arith, omega arith))
-
--- the mover's track
-pub on-track : (l : Lent) (m : Mover) (t : Track) → lentWell l ≡ true → m .piece < l .size .count → t ≡ trackOf (jobOf l) m → SmallTrack t → OnTrack l m t
-unfolding jobOf
-on-track l m t w b e s =
-    record {
-      is = e;
-      small = s;
-      some = subst (λ (z : Track). 0 < z .length) (sym e)
-          (tight-side (lineDirection (m .line)) (turnedPiece (jobOf l) (m .piece) (m .turn)) (lent-tight l w (m .piece) (m .turn) b));
-      piece = b;
-    }
-
--- it has at most 4,096 places
-pub places-most : (l : Lent) (m : Mover) (t : Track) → OnTrack l m t → t .places ≤ 4096
-places-most l m t o = let s = o .small .places in let p = o .some in omega arith
+-- every one of the first sums of a cleared array is 0
+pub cleared-zero : (k n a : ℕ) → k ≤ n → getD {A = ℕ} (take k (replicate n 0)) a 0 ≡ 0
+cleared-zero k n a l = ap (λ (xs : List ℕ). getD xs a 0) (take-repeat k n 0 l) ∙ cleared-byte k a
 
 -- sums that are 0, one for each place, are the sums of no piece
 pub summed-none : (l : Lent) (ws : List ℕ) (v : Layout) (m : Mover) (t : Track) (bound : ℕ) (sums : List ℕ) → OnTrack l m t → length sums ≡ t .places

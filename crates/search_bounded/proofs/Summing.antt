@@ -3,57 +3,25 @@
 use Rattle.list_laws.proofs.Kit.{_∙_, _≡_, ap, refl, subst, sym, false, true, _⊎_, inl, inr, ⊎-elim, List, _*_, _+_, _-_, _<_, _≤_, ℕ, mul-zero, zero-mul}
 use Rattle.list_laws.proofs.Kit.{arith, ltb, drop, getD, length, length-drop, length-take, take, getD-drop, getD-take, ltb-false, decLt}
 use Rattle.model.specs.Bounded.{anyBelow, sumBelow}
-use Rattle.model.specs.Piece.{Point, along, across, other, lineDirection}
-use Rattle.model.specs.Layout.{Job, Layout, cornerIn}
+use Rattle.model.specs.Piece.{lineDirection}
+use Rattle.model.specs.Layout.{Job, Layout}
 use Rattle.model.specs.Lent.{Lent, jobOf}
-use Rattle.model.specs.declared.Direction.{Direction}
-use Rattle.model.specs.declared.Direction.the-variants.{Horizontal, Vertical}
 use Rattle.list_laws.proofs.Numbers.{below-or}
-use Rattle.list_laws.proofs.Tests.{fails}
 use Rattle.list_laws.proofs.Sums.{sum-step}
 use Rattle.list_laws.proofs.Bounded.{any-none}
 use Rattle.search_laws.specs.BoundedSearch.{Serves}
 use Rattle.search_laws.proofs.BoundedSearch.{serves-skip, serves-stop}
 use Rattle.search_laws.specs.PieceSum.{weightBetween}
 use Rattle.search_laws.proofs.PieceSum.{weight-self}
-use Rattle.search_laws.proofs.Covering.{meets, apart-penalty, meets-along, meets-across}
 use Rattle.search_tracks.specs.declared.Mover.{Mover}
 use Rattle.search_tracks.specs.declared.Track.{Track}
 use Rattle.search_tracks.specs.declared.StandingPiece.{StandingPiece}
 use Rattle.search_tracks.specs.declared.Reach.{Reach}
-use Rattle.search_tracks.specs.Boxes.{BoxesMeet, MeetingReach}
-use Rattle.search_bounded.specs.Ready.{OnTrack, IsStanding}
-use Rattle.search_bounded.specs.Summing.{moverPenalty, partAt, Apart, moverPlaces, Summed, PartAdded, ToAdd}
-
--- ── pieces that are apart ──
-
--- the coordinate across is that along the other direction
-across-other : (d : Direction) (p : Point) → along (other d) p ≡ across d p
-across-other Horizontal p = refl
-across-other Vertical p = refl
-
-module _ (l : Lent) (v : Layout) (m : Mover) (t : Track) (s : StandingPiece) (k : ℕ) (track : OnTrack l m t)
-    (standing : IsStanding (jobOf l) v (lineDirection (m .line)) k s)
-  where
-    -- pieces that share a pixel have boxes that meet
-    meeting-boxes : (a : ℕ) → meets (jobOf l) v (m .piece) (m .turn) (m .line) a k ≡ true → BoxesMeet t s a
-    meeting-boxes a e =
-        let x = meets-along (jobOf l) v (m .piece) (m .turn) (m .line) a k e in
-        let y = meets-across (jobOf l) v (m .piece) (m .turn) (m .line) a k e in
-        let c : along (other (lineDirection (m .line))) (cornerIn v k) ≡ across (lineDirection (m .line)) (cornerIn v k) =
-        across-other (lineDirection (m .line)) (cornerIn v k) in
-        rw (track .is, standing .is)
-        (record { before = x .0; behind = x .1; below = omega arith; above = omega arith })
-
-    -- so where the boxes do not meet the penalty is 0
-    pub apart-zero : (a : ℕ) → (BoxesMeet t s a → ⊥) → moverPenalty (jobOf l) v m a k ≡ 0
-    apart-zero a h = apart-penalty (jobOf l) v (m .piece) (m .turn) (m .line) a k (fails _ (λ e. h (meeting-boxes a e)))
-
-    -- as it is out of reach
-    pub outside-zero : (r : Reach) → MeetingReach t s r → (a : ℕ) → a < t .places → (a < r .low) ⊎ (r .high ≤ a) → moverPenalty (jobOf l) v m a k ≡ 0
-    outside-zero r h a b o = apart-zero a (h .outside a b o)
-
--- ── one more piece ──
+use Rattle.search_tracks.specs.Boxes.{MeetingReach}
+use Rattle.search_beside.specs.Ready.{OnTrack, IsStanding}
+use Rattle.search_beside.specs.Reading.{moverPenalty, Apart}
+use Rattle.search_beside.proofs.Outside.{outside-zero}
+use Rattle.search_bounded.specs.Summing.{partAt, moverPlaces, Summed, PartAdded}
 
 -- what becomes of a sum x for a part f k: it stays, as the part is 0 or the bound is reached, or the part is added
 abbrev Grown : ℕ → ℕ → ℕ → ℕ → Type 0
@@ -124,13 +92,17 @@ module _ (l : Lent) (ws : List ℕ) (v : Layout) (m : Mover) (t : Track) (st : S
         let p : t .places ≡ moverPlaces (jobOf l) m = ap (λ (z : Track). z .places) (track .is) in
         part-zero (jobOf l) ws v m a k (outside-zero l v m t st k track standing r reached a (omega arith) o)
 
-    -- sums in reach have room for its part
-    pub sums-to-add : r .low < r .high → k < 64 → ToAdd t st r before
-    sums-to-add some few =
+    -- there is a sum for each place in reach
+    pub sums-within : r .high ≤ length before
+    sums-within =
         let p : t .places ≡ moverPlaces (jobOf l) m = ap (λ (z : Track). z .places) (track .is) in
         let w = reached .within in
         let e = s .long in
-        record { touching = reached .touching some; some = some; within = omega arith; small = λ a. (let b = s .small a in omega arith) }
+        omega arith
+
+    -- with room for its part
+    pub sums-small : k < 64 → (a : ℕ) → getD before a 0 ≤ 1073741824
+    sums-small few a = let b = s .small a in omega arith
 
     -- a piece that reaches no place below the bound is left out
     pub summed-left : ((a : ℕ) → r .low ≤ a → a < r .high → bound ≤ getD before a 0) → Summed (jobOf l) ws v m bound (k + 1) before

@@ -3,160 +3,196 @@
 // trial of the descent asks only for sums below a bound, so a piece is left out where every sum in its reach is at the bound already.
 mod others;
 
-use model::JobSize;
+use model::COLUMN_BOUND;
 use model::PieceEntry;
 use model::PlaceEntry;
 use model::StripEntry;
+use others::Wanted;
 use others::add_others;
-use others::renew_others;
+use search_beside::Sweep;
 use search_line_sums::Found;
-use search_line_sums::clear;
 use search_line_sums::least_below;
+use search_lines::RunSize;
 use search_tracks::Mover;
-use search_tracks::Track;
 use search_tracks::track_of;
 ghost use mathlib.Core.Path.{_≡_};
-ghost use Prim.Native.Nat.{_<_, _≤_};
-ghost use lib.ListN.{length};
-ghost use Rattle.model.specs.Piece.{lineDirection};
-ghost use Rattle.model.specs.Search.{places, sumAt, movedTo};
-ghost use Rattle.model.specs.Lent.{lentBy, jobOf, columnBound};
+ghost use Prim.Native.Nat.{ℕ, _<_, _≤_};
+ghost use lib.ListN.{length, getD};
+ghost use Rattle.model.specs.Search.{places, sumAt};
+ghost use Rattle.model.specs.Lent.{lentBy, jobOf};
 ghost use Rattle.model.specs.Buffer.{layoutOf};
-ghost use Rattle.search_laws.specs.BoundedSearch.{belowBound};
-ghost use Rattle.search_laws.specs.Table.{PenaltyTable};
-ghost use Rattle.search_lines.specs.Kept.{LinesKept};
 ghost use Rattle.descent_laws.specs.Claims.{ValidWeights};
+ghost use Rattle.descent_laws.specs.LentLayout.{Laid};
+ghost use Rattle.search_laws.specs.BoundedSearch.{belowBound};
 ghost use Rattle.search_line_sums.specs.Answers.{foundAnswer};
-ghost use Rattle.search_bounded.specs.Ready.{SearchReady, LinesReady, OnTrack};
+ghost use Rattle.search_beside.specs.Ready.{LinesReady, OnTrack};
 
-// The search, over a sum for each place of the line.
+// The places of a line that has sums of its own: most lines have no more.
+const SHORT_LINE: usize = 512;
+
+// The search, over a sum for each place of the line, 0 at first.
 fn search_over(
-    size: JobSize,
+    run: RunSize,
     table: &[PieceEntry],
     pixels: &[u8],
     strips: &[StripEntry],
     starts: &[u32],
     layout: &[PlaceEntry],
     weights: &[u32],
-    mover: Mover,
-    track: Track,
-    bound: u32,
-    width: usize,
+    wanted: Wanted,
     lines: &mut [u8],
-    tags: &mut [u32],
-    sums: &mut [u32],
     maps: &mut [u64],
+    sums: &mut [u32],
 ) -> Found
-    requires { ⌜ LinesReady (lentBy size (now table) (now pixels)) (lineDirection (mover .line)) (now strips) (now starts) (now layout) width (now lines) (now tags) (now maps) ⌝
-        ∗ ⌜ ValidWeights (jobOf (lentBy size (now table) (now pixels))) (now weights) ⌝
-        ∗ ⌜ OnTrack (lentBy size (now table) (now pixels)) mover track ⌝
-        ∗ ⌜ length (now sums) ≡ track .places ⌝ }
-    ensures found { λ r. ⌜ r ≡ foundAnswer (belowBound (sumAt (jobOf (lentBy size (now (table .entry)) (now (pixels .entry)))) (now (weights .entry)) (layoutOf (now (layout .entry))) (mover .piece) (mover .turn) (mover .line)) (places (jobOf (lentBy size (now (table .entry)) (now (pixels .entry)))) (mover .piece) (mover .turn) (mover .line)) bound) ⌝ }
-    ensures ready { λ r. ⌜ LinesReady (lentBy size (now (table .entry)) (now (pixels .entry))) (lineDirection (mover .line)) (now (strips .entry)) (now (starts .entry)) (now (layout .entry)) width (now (lines .exit)) (now (tags .exit)) (now (maps .exit)) ⌝ }
+    requires { ⌜ LinesReady (lentBy (run .size) (now table) (now pixels)) run (now strips) (now starts) (now lines) (now maps) ⌝
+        ∗ ⌜ Laid (lentBy (run .size) (now table) (now pixels)) (now layout) ⌝
+        ∗ ⌜ ValidWeights (jobOf (lentBy (run .size) (now table) (now pixels))) (now weights) ⌝
+        ∗ ⌜ OnTrack (lentBy (run .size) (now table) (now pixels)) (wanted .sweep .mover) (wanted .sweep .track) ⌝
+        ∗ ⌜ (length (now sums) ≡ wanted .sweep .track .places) × ((a : ℕ) → getD (now sums) a 0 ≡ 0) ⌝ }
+    ensures found { λ r. ⌜ r ≡ foundAnswer (belowBound (sumAt (jobOf (lentBy (run .size) (now (table .entry)) (now (pixels .entry)))) (now (weights .entry)) (layoutOf (now (layout .entry))) (wanted .sweep .mover .piece) (wanted .sweep .mover .turn) (wanted .sweep .mover .line)) (places (jobOf (lentBy (run .size) (now (table .entry)) (now (pixels .entry)))) (wanted .sweep .mover .piece) (wanted .sweep .mover .turn) (wanted .sweep .mover .line)) (wanted .bound)) ⌝ }
+    ensures ready { λ r. ⌜ LinesReady (lentBy (run .size) (now (table .entry)) (now (pixels .entry))) run (now (strips .entry)) (now (starts .entry)) (now (lines .exit)) (now (maps .exit)) ⌝ }
 {
-    clear(sums);
     add_others(
-        size,
+        run,
         table,
         pixels,
         strips,
         starts,
         layout,
         weights,
-        mover,
-        track,
-        bound,
-        width,
+        wanted,
         lines,
-        tags,
-        sums,
         maps,
+        sums,
     );
-    least_below(sums, bound)
+    least_below(sums, wanted.bound)
 }
 
-// The least pair sum of the mover below the bound over every inside corner on its line, and the smallest coordinate that has it. `sums` is
-// scratch: only as much of it as the line has places is cleared, and what it holds at the end says nothing.
-pub fn search_below(
-    size: JobSize,
+// The search on a line of few places.
+fn search_short(
+    run: RunSize,
     table: &[PieceEntry],
     pixels: &[u8],
     strips: &[StripEntry],
     starts: &[u32],
     layout: &[PlaceEntry],
     weights: &[u32],
-    mover: Mover,
-    bound: u32,
-    width: usize,
+    wanted: Wanted,
     lines: &mut [u8],
-    tags: &mut [u32],
-    sums: &mut [u32],
     maps: &mut [u64],
 ) -> Found
-    requires { ⌜ SearchReady (lentBy size (now table) (now pixels)) (lineDirection (mover .line)) (now strips) (now starts) (now layout) (now weights) width (now lines) (now tags) (now maps) ⌝ ∗ ⌜ mover .piece < size .count ⌝ ∗ ⌜ columnBound ≤ length (now sums) ⌝ }
-    ensures found { λ r. ⌜ r ≡ foundAnswer (belowBound (sumAt (jobOf (lentBy size (now (table .entry)) (now (pixels .entry)))) (now (weights .entry)) (layoutOf (now (layout .entry))) (mover .piece) (mover .turn) (mover .line)) (places (jobOf (lentBy size (now (table .entry)) (now (pixels .entry)))) (mover .piece) (mover .turn) (mover .line)) bound) ⌝ }
-    ensures kept { λ r. ⌜ LinesKept (lineDirection (mover .line)) (jobOf (lentBy size (now (table .entry)) (now (pixels .entry)))) width (now (lines .exit)) (now (tags .exit)) (now (maps .exit)) ⌝ }
-    ensures sizes { λ r. ⌜ (length (now (lines .exit)) ≡ length (now (lines .entry))) × (length (now (tags .exit)) ≡ length (now (tags .entry))) ⌝ }
+    requires { ⌜ LinesReady (lentBy (run .size) (now table) (now pixels)) run (now strips) (now starts) (now lines) (now maps) ⌝
+        ∗ ⌜ Laid (lentBy (run .size) (now table) (now pixels)) (now layout) ⌝
+        ∗ ⌜ ValidWeights (jobOf (lentBy (run .size) (now table) (now pixels))) (now weights) ⌝
+        ∗ ⌜ OnTrack (lentBy (run .size) (now table) (now pixels)) (wanted .sweep .mover) (wanted .sweep .track) ⌝
+        ∗ ⌜ wanted .sweep .track .places ≤ 512 ⌝ }
+    ensures found { λ r. ⌜ r ≡ foundAnswer (belowBound (sumAt (jobOf (lentBy (run .size) (now (table .entry)) (now (pixels .entry)))) (now (weights .entry)) (layoutOf (now (layout .entry))) (wanted .sweep .mover .piece) (wanted .sweep .mover .turn) (wanted .sweep .mover .line)) (places (jobOf (lentBy (run .size) (now (table .entry)) (now (pixels .entry)))) (wanted .sweep .mover .piece) (wanted .sweep .mover .turn) (wanted .sweep .mover .line)) (wanted .bound)) ⌝ }
+    ensures ready { λ r. ⌜ LinesReady (lentBy (run .size) (now (table .entry)) (now (pixels .entry))) run (now (strips .entry)) (now (starts .entry)) (now (lines .exit)) (now (maps .exit)) ⌝ }
 {
-    let track = track_of(size, table, mover);
-    let places = track.places;
+    let mut sums = [0u32; SHORT_LINE];
+    let count = wanted.sweep.track.places;
     search_over(
-        size,
+        run,
         table,
         pixels,
         strips,
         starts,
         layout,
         weights,
-        mover,
-        track,
-        bound,
-        width,
+        wanted,
         lines,
-        tags,
-        &mut sums[..places],
         maps,
+        &mut sums[..count],
     )
 }
 
-// Renews the table of pair penalties for the mover at a place of its line.
-pub fn renew_placed(
-    size: JobSize,
+// The search on a line of any number of places.
+fn search_long(
+    run: RunSize,
     table: &[PieceEntry],
     pixels: &[u8],
     strips: &[StripEntry],
     starts: &[u32],
     layout: &[PlaceEntry],
-    mover: Mover,
-    at: usize,
-    width: usize,
+    weights: &[u32],
+    wanted: Wanted,
     lines: &mut [u8],
-    tags: &mut [u32],
-    penalties: &mut [u8],
     maps: &mut [u64],
-)
-    requires { ⌜ LinesReady (lentBy size (now table) (now pixels)) (lineDirection (mover .line)) (now strips) (now starts) (now layout) width (now lines) (now tags) (now maps) ⌝
-        ∗ ⌜ (mover .piece < size .count) × (at < places (jobOf (lentBy size (now table) (now pixels))) (mover .piece) (mover .turn) (mover .line)) ⌝
-        ∗ ⌜ PenaltyTable (jobOf (lentBy size (now table) (now pixels))) (layoutOf (now layout)) (size .count) (now penalties) ⌝ }
-    ensures table { λ r. ⌜ PenaltyTable (jobOf (lentBy size (now (table .entry)) (now (pixels .entry)))) (movedTo (layoutOf (now (layout .entry))) (mover .piece) (mover .turn) (mover .line) at) (size .count) (now (penalties .exit)) ⌝ }
-    ensures kept { λ r. ⌜ LinesKept (lineDirection (mover .line)) (jobOf (lentBy size (now (table .entry)) (now (pixels .entry)))) width (now (lines .exit)) (now (tags .exit)) (now (maps .exit)) ⌝ }
-    ensures sizes { λ r. ⌜ (length (now (lines .exit)) ≡ length (now (lines .entry))) × (length (now (tags .exit)) ≡ length (now (tags .entry))) ⌝ }
+) -> Found
+    requires { ⌜ LinesReady (lentBy (run .size) (now table) (now pixels)) run (now strips) (now starts) (now lines) (now maps) ⌝
+        ∗ ⌜ Laid (lentBy (run .size) (now table) (now pixels)) (now layout) ⌝
+        ∗ ⌜ ValidWeights (jobOf (lentBy (run .size) (now table) (now pixels))) (now weights) ⌝
+        ∗ ⌜ OnTrack (lentBy (run .size) (now table) (now pixels)) (wanted .sweep .mover) (wanted .sweep .track) ⌝ }
+    ensures found { λ r. ⌜ r ≡ foundAnswer (belowBound (sumAt (jobOf (lentBy (run .size) (now (table .entry)) (now (pixels .entry)))) (now (weights .entry)) (layoutOf (now (layout .entry))) (wanted .sweep .mover .piece) (wanted .sweep .mover .turn) (wanted .sweep .mover .line)) (places (jobOf (lentBy (run .size) (now (table .entry)) (now (pixels .entry)))) (wanted .sweep .mover .piece) (wanted .sweep .mover .turn) (wanted .sweep .mover .line)) (wanted .bound)) ⌝ }
+    ensures ready { λ r. ⌜ LinesReady (lentBy (run .size) (now (table .entry)) (now (pixels .entry))) run (now (strips .entry)) (now (starts .entry)) (now (lines .exit)) (now (maps .exit)) ⌝ }
 {
-    let track = track_of(size, table, mover);
-    renew_others(
-        size,
+    let mut sums = [0u32; COLUMN_BOUND];
+    let count = wanted.sweep.track.places;
+    search_over(
+        run,
         table,
         pixels,
         strips,
         starts,
         layout,
-        mover,
-        track,
-        at,
-        width,
+        weights,
+        wanted,
         lines,
-        tags,
-        penalties,
         maps,
-    );
+        &mut sums[..count],
+    )
+}
+
+// The least pair sum of the mover below the bound over every inside corner on its line, and the smallest coordinate that has it. The sums are
+// local, and a short line does not pay for the clearing of those of a long one.
+pub fn search_below(
+    run: RunSize,
+    table: &[PieceEntry],
+    pixels: &[u8],
+    strips: &[StripEntry],
+    starts: &[u32],
+    layout: &[PlaceEntry],
+    weights: &[u32],
+    mover: Mover,
+    bound: u32,
+    lines: &mut [u8],
+    maps: &mut [u64],
+) -> Found
+    requires { ⌜ LinesReady (lentBy (run .size) (now table) (now pixels)) run (now strips) (now starts) (now lines) (now maps) ⌝
+        ∗ ⌜ Laid (lentBy (run .size) (now table) (now pixels)) (now layout) ⌝
+        ∗ ⌜ ValidWeights (jobOf (lentBy (run .size) (now table) (now pixels))) (now weights) ⌝
+        ∗ ⌜ mover .piece < run .size .count ⌝ }
+    ensures found { λ r. ⌜ r ≡ foundAnswer (belowBound (sumAt (jobOf (lentBy (run .size) (now (table .entry)) (now (pixels .entry)))) (now (weights .entry)) (layoutOf (now (layout .entry))) (mover .piece) (mover .turn) (mover .line)) (places (jobOf (lentBy (run .size) (now (table .entry)) (now (pixels .entry)))) (mover .piece) (mover .turn) (mover .line)) bound) ⌝ }
+    ensures ready { λ r. ⌜ LinesReady (lentBy (run .size) (now (table .entry)) (now (pixels .entry))) run (now (strips .entry)) (now (starts .entry)) (now (lines .exit)) (now (maps .exit)) ⌝ }
+{
+    let size = run.size;
+    let track = track_of(size, table, mover);
+    let sweep = Sweep { mover, track };
+    let wanted = Wanted { sweep, bound };
+    if track.places <= SHORT_LINE {
+        return search_short(
+            run,
+            table,
+            pixels,
+            strips,
+            starts,
+            layout,
+            weights,
+            wanted,
+            lines,
+            maps,
+        );
+    }
+    search_long(
+        run,
+        table,
+        pixels,
+        strips,
+        starts,
+        layout,
+        weights,
+        wanted,
+        lines,
+        maps,
+    )
 }

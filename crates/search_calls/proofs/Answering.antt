@@ -1,13 +1,13 @@
 -- The line search as a call: the strips and the store that it begins with, and its answer. Assumes nothing.
 use Rattle.list_laws.proofs.Kit.{_∙_, _≡_, ap, refl, sym, true, Option, none, some, List, [], _∷_, _<_, _≤_, suc, zero, ℕ}
-use Rattle.list_laws.proofs.Kit.{arith, eqb, getD-replicate, length, length-map, length-replicate, replicate, ne-eqb}
+use Rattle.list_laws.proofs.Kit.{arith, eqb, length-map, length-replicate, replicate, ne-eqb}
 use Rattle.model.specs.Layout.{Job, Layout}
 use Rattle.model.specs.Search.{Best, places, sumAt, least, searchLine}
 use Rattle.model.specs.Refusal.{cause, unless, emptyLine}
 use Rattle.model.specs.Lent.{Lent, jobOf, lentWell}
 use Rattle.model.specs.Buffer.{layoutOf, placementOf}
 use Rattle.model.specs.Calls.{bestPlace}
-use Rattle.model.specs.declared.Direction.{Direction}
+use Rattle.model.specs.declared.Direction.the-variants.{Horizontal}
 use Rattle.model.specs.declared.Line.{Line}
 use Rattle.model.specs.declared.Turn.{Turn}
 use Rattle.job_laws.proofs.Checked.{facts}
@@ -19,34 +19,38 @@ use Rattle.search_laws.specs.BoundedSearch.{belowBound}
 use Rattle.search_laws.proofs.LineSearch.{search-unbounded}
 use Rattle.search_shapes.proofs.Jobs.{places-few}
 use Rattle.descent_laws.specs.LentLayout.{Laid}
-use Rattle.search_lines.specs.Kept.{MapsReady, LinesKept, Wide}
-use Rattle.search_lines.proofs.Keeping.{none-kept, twice-wide}
+use Rattle.search_shapes.specs.Shapes.{Shapes}
+use Rattle.search_lines.specs.Kept.{MapsReady}
+use Rattle.search_lines.proofs.Keeping.{none-kept, twice-wide, cleared-byte}
+use Rattle.search_beside.specs.Ready.{LinesReady}
 use Rattle.search_line_sums.specs.Answers.{foundAnswer}
 use Rattle.search_calls.specs.Answers.{InReach, bestAnswer, searchAnswer}
 
 -- ── the store ──
 
--- slots of 512 bytes have room for every line
-pub store-wide : (l : Lent) → lentWell l ≡ true → Wide (jobOf l) 512
-store-wide l w =
-    twice-wide (jobOf l) 256
-    (λ i b.
-    let s = lent-boxes-small l w in
-    let c = s .columnsSmall i b in
-    let r = s .rowsSmall i b in
-    (omega arith, omega arith))
-
--- a fresh store keeps no line
-pub store-fresh : (d : Direction) (l : Lent) (maps : List ℕ) → MapsReady (jobOf l) maps → LinesKept d (jobOf l) 512 (replicate 32768 0) (replicate 64 0) maps
-store-fresh d l maps ready =
-    none-kept d (jobOf l) 512 (replicate 32768 0) (replicate 64 0) maps ready
-    (let a = length-replicate {A = ℕ} 64 0 in let b = length-replicate {A = ℕ} 32768 0 in omega arith)
-    (let a = length-replicate {A = ℕ} 64 0 in omega arith)
-    (λ m b. getD-replicate {A = ℕ} 64 m 0 0 (let a = length-replicate {A = ℕ} 64 0 in omega arith))
-
--- its length
-pub store-length : length (replicate {A = ℕ} 32768 0) ≤ 524288
-store-length = let b = length-replicate {A = ℕ} 32768 0 in omega arith
+-- a fresh store of slots that have room for every line keeps none
+pub store-ready : (l : Lent) (strips : List (List ℕ)) (starts maps : List ℕ) → lentWell l ≡ true → Shapes Horizontal (jobOf l) strips starts
+    → MapsReady (jobOf l) maps
+    → LinesReady l (record { size = l .size; slots = 64; width = 514 }) strips starts (replicate 32896 0) maps
+store-ready l strips starts maps w shapes ready =
+    let n = length-replicate {A = ℕ} 32896 0 in
+    record {
+      well = w;
+      shapes = shapes;
+      fit =
+          record {
+            wide =
+                twice-wide (jobOf l) 255
+                (λ i b.
+                let s = lent-boxes-small l w in
+                (s .columnsSmall i b, s .rowsSmall i b));
+            narrow = omega arith;
+            fits = omega arith;
+          };
+      kept =
+          none-kept (jobOf l) (record { size = l .size; slots = 64; width = 514 }) (replicate 32896 0) maps ready (omega arith) (omega arith)
+          (cleared-byte 32896);
+    }
 
 -- ── the answer ──
 

@@ -1,6 +1,5 @@
 // The line search as a call. Document 01, 'Line search' and 'When a call says no'.
 use causes::placing_causes;
-use model::COLUMN_BOUND;
 use model::Column;
 use model::Coordinate;
 use model::Direction;
@@ -16,6 +15,7 @@ use model::plain_refusal;
 use search_bounded::search_below;
 use search_line_sums::Found;
 use search_lines::LEAST_MAPS;
+use search_lines::RunSize;
 use search_lines::ready_maps;
 use search_shapes::STARTS_LENGTH;
 use search_shapes::empty_store;
@@ -36,8 +36,8 @@ ghost use Rattle.search_calls.specs.Answers.{InReach, bestAnswer, search
 // How many penalty lines a search keeps: one for each standing piece.
 const SLOTS: usize = model::PIECE_BOUND;
 
-// The bytes of a line: more than twice the largest box side.
-const SLOT_WIDTH: usize = 512;
+// The bytes of a slot: its key's and twice the largest box side.
+const SLOT_WIDTH: usize = search_lines::KEY_BYTES + 510;
 
 // No sum reaches it: a search without a bound.
 const NO_BOUND: u32 = 4294967295;
@@ -64,9 +64,7 @@ fn search_alone(
 {
     let mut strips = empty_store();
     let mut starts = [0u32; STARTS_LENGTH];
-    let mut store = [0u8; SLOTS * SLOT_WIDTH];
-    let mut tags = [0u32; SLOTS];
-    let mut sums = [0u32; COLUMN_BOUND];
+    let mut lines = [0u8; SLOTS * SLOT_WIDTH];
     let mut maps = [0u64; LEAST_MAPS];
     ready_maps(size, table, pixels, &mut maps);
     search_shapes::make_shapes(
@@ -77,8 +75,13 @@ fn search_alone(
         &mut strips,
         &mut starts,
     );
-    search_below(
+    let run = RunSize {
         size,
+        slots: SLOTS,
+        width: SLOT_WIDTH,
+    };
+    search_below(
+        run,
         table,
         pixels,
         &strips,
@@ -87,10 +90,7 @@ fn search_alone(
         weights,
         mover,
         NO_BOUND,
-        SLOT_WIDTH,
-        &mut store,
-        &mut tags,
-        &mut sums,
+        &mut lines,
         &mut maps,
     )
 }

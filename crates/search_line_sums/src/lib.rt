@@ -19,17 +19,6 @@ pub enum Found {
     Nothing,
 }
 
-// Sets every sum to 0.
-pub fn clear(sums: &mut [u32])
-    ensures { λ r. ⌜ ((a : ℕ) → getD (now (sums .exit)) a 0 ≡ 0) ⌝ }
-{
-    let mut k = 0;
-    while k < sums.len() {
-        sums[k] = 0;
-        k += 1;
-    }
-}
-
 // Whether one of four sums, from a place on, is below the bound: all are compared at once.
 fn four_below(sums: &[u32], at: usize, bound: u32) -> bool
     requires { ⌜ at + 4 ≤ length (now sums) ⌝ }

@@ -1,13 +1,14 @@
--- Penalty lines of two pieces, kept for later searches: each slot of the store has a tag, and a slot whose tag is the key of two pieces in
--- their turns and an offset across holds their line. Neither the corners along the line nor the weights play a part in it, so a
--- line stays right when pieces move. The maps that lines are made from are kept beside them, behind the classes of the pieces: one map serves equal
--- pieces. Assumes nothing.
+-- Penalty lines of two pieces, kept for later searches: each slot of the store begins with a key, and a slot whose key is that of two pieces in
+-- their turns, a direction and an offset across holds their line behind it. Neither the corners along the line nor the weights play a part in it,
+-- so a line stays right when pieces move. The maps that lines are made from are kept beside them, behind the classes of the pieces: one map
+-- serves equal pieces. Assumes nothing.
 use mathlib.Core.List.{List}
 use mathlib.Core.Path.{_≡_}
 use Prim.Native.Nat.{ℕ, _+_, _*_, _<_, _≤_}
 use lib.ListN.{length, getD, drop}
 use Rattle.model.specs.Layout.{Job, turnedPiece}
 use Rattle.model.specs.declared.Direction.{Direction}
+use Rattle.model.specs.declared.Direction.the-variants.{Horizontal, Vertical}
 use Rattle.model.specs.declared.Turn.{Turn}
 use Rattle.search_bits.specs.Bit.{lengthLimit}
 use Rattle.search_shapes.specs.Shapes.{shapeNumber}
@@ -16,17 +17,31 @@ use Rattle.search_maps.specs.Map.{scratchBound}
 use Rattle.search_classes.specs.Classes.{Classes}
 use Rattle.search_map_store.specs.Store.{MapsKept}
 use Rattle.search_map_laws.specs.Keys.{directionOf, movedOf, standingOf}
+use Rattle.search_lines.specs.declared.RunSize.{RunSize}
 
 -- the most bytes of a slot, and of a store of lines
 abbrev pub slotBound : ℕ
-slotBound = 512
+slotBound = 514
 
 abbrev pub linesBound : ℕ
 linesBound = 524288
 
--- the key of two pieces in their turns and an offset; it is not 0
-abbrev pub keyOf : ℕ → ℕ → ℕ → ℕ
-keyOf a b offset = a * 262144 + b * 1024 + offset + 1
+-- the bytes of a slot before its line: they hold its key
+abbrev pub keyBytes : ℕ
+keyBytes = 4
+
+-- the key that the bytes from p on hold
+abbrev pub keyAt : List ℕ → ℕ → ℕ
+keyAt xs p = getD xs p 0 + getD xs (p + 1) 0 * 256 + getD xs (p + 2) 0 * 65536 + getD xs (p + 3) 0 * 16777216
+
+-- the number by which a key tells directions apart
+abbrev pub directionNumber : Direction → ℕ
+directionNumber Horizontal = 0
+directionNumber Vertical = 1
+
+-- the key of two pieces in their turns, a direction and an offset; it is not 0
+abbrev pub keyOf : Direction → ℕ → ℕ → ℕ → ℕ
+keyOf d a b offset = directionNumber d * 67108864 + a * 262144 + b * 1024 + offset + 1
 
 -- the words of the classes
 abbrev pub classWords : ℕ
@@ -47,15 +62,22 @@ pub record MapsReady (j : Job) (maps : List ℕ) : Type 0 where
   pub room : leastMaps ≤ length maps
   pub short : length maps < lengthLimit
 
--- slot m, of `width` bytes, holds the line that its tag names; the maps are ready for more
-pub record LinesKept (d : Direction) (j : Job) (width : ℕ) (lines tags maps : List ℕ) : Type 0 where
+-- slot m, of `width` bytes, holds the line that its key names; the maps are ready for more
+pub record LinesKept (j : Job) (r : RunSize) (lines maps : List ℕ) : Type 0 where
   pub ready : MapsReady j maps
-  pub room : length tags * width ≤ length lines
-  pub some : 0 < length tags
-  pub holds : (m i k : ℕ) (t u : Turn) (offset : ℕ) → m < length tags → i < j .size .count → k < j .size .count → offset < 1024
-      → getD tags m 0 ≡ keyOf (shapeNumber i t) (shapeNumber k u) offset
-      → HoldsLine d (turnedPiece j i t) (turnedPiece j k u) offset lines (m * width)
+  pub room : r .slots * r .width ≤ length lines
+  pub some : 0 < r .slots
+  pub holds : (m i k : ℕ) (t u : Turn) (d : Direction) (offset : ℕ) → m < r .slots → i < j .size .count → k < j .size .count → offset < 1024
+      → keyAt lines (m * r .width) ≡ keyOf d (shapeNumber i t) (shapeNumber k u) offset
+      → HoldsLine d (turnedPiece j i t) (turnedPiece j k u) offset lines (m * r .width + keyBytes)
 
--- a slot has room for the line of every two pieces of the job
+-- a slot has room for its key and the line of every two pieces of the job
 abbrev pub Wide : Job → ℕ → Type 0
-Wide j width = (i k : ℕ) (t u : Turn) (d : Direction) → i < j .size .count → k < j .size .count → linePlaces d (turnedPiece j i t) (turnedPiece j k u) ≤ width
+Wide j width =
+    (i k : ℕ) (t u : Turn) (d : Direction) → i < j .size .count → k < j .size .count → linePlaces d (turnedPiece j i t) (turnedPiece j k u) + keyBytes ≤ width
+
+-- a store of lines as a run has it: slots wide enough, no wider than the widest, and no more bytes than a store has
+pub record LinesFit (j : Job) (r : RunSize) (lines : List ℕ) : Type 0 where
+  pub wide : Wide j (r .width)
+  pub narrow : r .width ≤ slotBound
+  pub fits : length lines ≤ linesBound

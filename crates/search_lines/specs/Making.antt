@@ -14,7 +14,7 @@ use Rattle.search_lines.specs.declared.Two.{Two}
 use Rattle.search_laws.specs.Lines.{linePlaces, HoldsLine}
 use Rattle.search_map_store.specs.Store.{MapAt}
 use Rattle.search_map_laws.specs.Keys.{mapKey}
-use Rattle.search_lines.specs.Kept.{keyOf, MapsReady}
+use Rattle.search_lines.specs.Kept.{keyOf, keyAt, keyBytes, MapsReady}
 
 -- the two pieces' shapes
 abbrev pub movedShape : Lent → Two → Shape
@@ -23,9 +23,9 @@ movedShape l two = turnedPiece (jobOf l) (two .moved) (two .«moved_turn»)
 abbrev pub standingShape : Lent → Two → Shape
 standingShape l two = turnedPiece (jobOf l) (two .standing) (two .«standing_turn»)
 
--- their key
-abbrev pub keyOfTwo : Two → ℕ
-keyOfTwo two = keyOf (shapeNumber (two .moved) (two .«moved_turn»)) (shapeNumber (two .standing) (two .«standing_turn»)) (two .offset)
+-- their key, in a direction
+abbrev pub keyOfTwo : Direction → Two → ℕ
+keyOfTwo d two = keyOf d (shapeNumber (two .moved) (two .«moved_turn»)) (shapeNumber (two .standing) (two .«standing_turn»)) (two .offset)
 
 -- the key of their map
 abbrev pub mapKeyOfTwo : Two → ℕ
@@ -73,3 +73,10 @@ pub record LineMade (d : Direction) (s t : Shape) (offset : ℕ) (old : List ℕ
   pub line : HoldsLine d s t offset new at
   pub before : (k : ℕ) → k < at → getD new k 0 ≡ getD old k 0
   pub after : (k : ℕ) → at + linePlaces d s t ≤ k → getD new k 0 ≡ getD old k 0
+
+-- the key stands from `at` on, and outside its bytes nothing is written
+pub record KeyPut (key at : ℕ) (old new : List ℕ) : Type 0 where
+  pub same : length new ≡ length old
+  pub key-is : keyAt new at ≡ key
+  pub before : (k : ℕ) → k < at → getD new k 0 ≡ getD old k 0
+  pub after : (k : ℕ) → at + keyBytes ≤ k → getD new k 0 ≡ getD old k 0

@@ -12,8 +12,8 @@ ghost use Rattle.model.specs.declared.Direction.the-variants.{Horizontal};
 ghost use Rattle.search_laws.specs.Lines.{linePlaces, HoldsLine};
 ghost use Rattle.search_bits.specs.Bit.{lengthLimit};
 ghost use Rattle.search_maps.specs.Map.{sidesOf};
-ghost use Rattle.search_lines.specs.Kept.{mapSlots, leastMaps, MapsReady, LinesKept, Wide, linesBound, slotBound};
-ghost use Rattle.search_lines.specs.Making.{movedShape, standingShape, keyOfTwo, mapKeyOfTwo, SmallTwo, Asked, MapFound, LineMade, Backwards, exchangedTwo};
+ghost use Rattle.search_lines.specs.Kept.{mapSlots, leastMaps, MapsReady, LinesKept, LinesFit, Wide, directionNumber, keyAt, keyBytes, linesBound, slotBound};
+ghost use Rattle.search_lines.specs.Making.{movedShape, standingShape, keyOfTwo, mapKeyOfTwo, SmallTwo, Asked, MapFound, LineMade, KeyPut, Backwards, exchangedTwo};
 ghost use Rattle.search_lines.specs.Sources.{Named, classedTwo, turnedTwo, mirroredOffset, plainSource, backSource, quarterSource, sourcePlaces, SameLine, SourceMade};
 ghost use Rattle.search_map_laws.specs.Turns.{turnBefore};
 use model::Direction;
@@ -24,6 +24,7 @@ use model::StripEntry;
 use model::Turn;
 use search_maps::Sides;
 use whole_numbers::larger;
+use whole_numbers::wide;
 
 // Where the moved piece's corner stands across: no offset of a standing one that matters is below 0.
 pub const MIDDLE: usize = search_map_lines::MIDDLE;
@@ -53,8 +54,24 @@ const OFFSETS: usize = 1024;
 // The keys of one moved piece in a turn: each standing one in a turn, at each offset.
 const KEYS: usize = 4 * PIECE_BOUND * OFFSETS;
 
-// Half the least width of a slot.
+// The keys of one direction: each moved piece in a turn.
+const DIRECTION_KEYS: usize = 4 * PIECE_BOUND * KEYS;
+
+// The slots that one direction asks for: each moved piece in a turn beside each standing one.
+const DIRECTION_SLOTS: usize = 4 * PIECE_BOUND * PIECE_BOUND;
+
+// The bytes of a slot before its line: they hold its key.
+pub const KEY_BYTES: usize = 4;
+
+// The least box side that a slot is made for.
 const LEAST_SIDE: usize = 32;
+
+// The sizes of a run: its job's, how many slots its store of lines has, and the bytes of each.
+pub struct RunSize {
+    pub size: JobSize,
+    pub slots: usize,
+    pub width: usize,
+}
 
 // Two pieces in their turns, and the standing one's offset across the line: MIDDLE where both corners are on one line.
 pub struct Two {
@@ -72,11 +89,11 @@ pub struct Source {
     pub back: bool,
 }
 
-// How many bytes a slot has to have: twice the largest box side of the job, and at least 64.
+// How many bytes a slot has to have: its key's and twice the largest box side of the job.
 pub fn slot_width(size: JobSize, table: &[PieceEntry]) -> usize
     requires { ⌜ size .count ≤ length (now table) ⌝ }
     ensures wide { λ r. ⌜ ((pixels : List ℕ) → Wide (jobOf (lentBy size (now (table .entry)) pixels)) r) ⌝ }
-    ensures bounds { λ r. ⌜ (64 ≤ r) × (r ≤ slotBound) ⌝ }
+    ensures bounds { λ r. ⌜ (68 ≤ r) × (r ≤ slotBound) ⌝ }
 {
     let count = size.count;
     let mut side: usize = LEAST_SIDE;
@@ -86,28 +103,62 @@ pub fn slot_width(size: JobSize, table: &[PieceEntry]) -> usize
         side = larger(side, larger(sides.columns, sides.rows));
         i += 1;
     }
-    side * 2
+    side * 2 + KEY_BYTES
 }
 
-// The key of two pieces in their turns and an offset.
-fn key_of(two: Two) -> u32
+// The number by which keys and slots tell directions apart.
+fn direction_number(direction: Direction) -> usize
+    ensures { λ r. ⌜ (r ≡ directionNumber direction) × (r ≤ 1) ⌝ }
+{
+    match direction {
+        Direction::Horizontal => 0,
+        Direction::Vertical => 1,
+    }
+}
+
+// The key of two pieces in their turns, a direction and an offset.
+fn key_of(direction: Direction, two: Two) -> u32
     requires { ⌜ SmallTwo two ⌝ }
-    ensures { λ r. ⌜ r ≡ keyOfTwo two ⌝ }
+    ensures { λ r. ⌜ r ≡ keyOfTwo direction two ⌝ }
 {
     let moved_turn = two.moved_turn;
     let standing_turn = two.standing_turn;
+    let d = direction_number(direction);
     let a = search_shapes::shape_number(two.moved, moved_turn);
     let b = search_shapes::shape_number(two.standing, standing_turn);
-    (a * KEYS + b * OFFSETS + two.offset + 1) as u32
+    (d * DIRECTION_KEYS + a * KEYS + b * OFFSETS + two.offset + 1) as u32
 }
 
-// The slot of two pieces: one for each moved piece in a turn and each standing piece, as far as there are slots.
-fn slot_of(two: Two, slots: usize) -> usize
+// The slot of two pieces: one for each direction, moved piece in a turn and standing piece, as far as there are slots.
+fn slot_of(direction: Direction, two: Two, slots: usize) -> usize
     requires { ⌜ SmallTwo two × (0 < slots) ⌝ }
     ensures { λ r. ⌜ r < slots ⌝ }
 {
     let turn = two.moved_turn;
-    (search_shapes::shape_number(two.moved, turn) * PIECE_BOUND + two.standing) % slots
+    let d = direction_number(direction);
+    let shape = search_shapes::shape_number(two.moved, turn);
+    (d * DIRECTION_SLOTS + shape * PIECE_BOUND + two.standing) % slots
+}
+
+// The key that stands at a place of the store.
+fn key_at(lines: &[u8], at: usize) -> u32
+    requires { ⌜ (at + keyBytes ≤ length (now lines)) × (length (now lines) ≤ linesBound) ⌝ }
+    ensures { λ r. ⌜ r ≡ keyAt (now (lines .entry)) at ⌝ }
+{
+    let low = wide(lines[at]) + wide(lines[at + 1]) * 256;
+    let high = wide(lines[at + 2]) + wide(lines[at + 3]) * 256;
+    low + high * 65536
+}
+
+// Puts a key at a place of the store.
+fn put_key(lines: &mut [u8], at: usize, key: u32)
+    requires { ⌜ (at + keyBytes ≤ length (now lines)) × (length (now lines) ≤ linesBound) ⌝ }
+    ensures { λ r. ⌜ KeyPut key at (now (lines .entry)) (now (lines .exit)) ⌝ }
+{
+    lines[at] = (key % 256) as u8;
+    lines[at + 1] = (key / 256 % 256) as u8;
+    lines[at + 2] = (key / 65536 % 256) as u8;
+    lines[at + 3] = (key / 16777216) as u8;
 }
 
 // The box sides of two pieces, along rows and across them.
@@ -509,31 +560,31 @@ fn make_line(
 
 // The place in the store at which the line of two pieces stands. It is made where it is not kept.
 pub fn keep_line(
-    size: JobSize,
+    run: RunSize,
     table: &[PieceEntry],
     pixels: &[u8],
     direction: Direction,
     strips: &[StripEntry],
     starts: &[u32],
     two: Two,
-    width: usize,
     lines: &mut [u8],
-    tags: &mut [u32],
     maps: &mut [u64],
 ) -> usize
-    requires { ⌜ Asked (lentBy size (now table) (now pixels)) (now strips) (now starts) two ⌝
-        ∗ ⌜ Wide (jobOf (lentBy size (now table) (now pixels))) width ⌝ ∗ ⌜ width ≤ slotBound ⌝
-        ∗ ⌜ LinesKept direction (jobOf (lentBy size (now table) (now pixels))) width (now lines) (now tags) (now maps) ⌝ ∗ ⌜ length (now lines) ≤ linesBound ⌝ }
-    ensures line { λ r. ⌜ HoldsLine direction (movedShape (lentBy size (now (table .entry)) (now (pixels .entry))) two) (standingShape (lentBy size (now (table .entry)) (now (pixels .entry))) two) (two .offset) (now (lines .exit)) r ⌝ }
-    ensures within { λ r. ⌜ r + width ≤ length (now (lines .exit)) ⌝ }
-    ensures kept { λ r. ⌜ LinesKept direction (jobOf (lentBy size (now (table .entry)) (now (pixels .entry)))) width (now (lines .exit)) (now (tags .exit)) (now (maps .exit)) ⌝ }
-    ensures sizes { λ r. ⌜ (length (now (lines .exit)) ≡ length (now (lines .entry))) × (length (now (tags .exit)) ≡ length (now (tags .entry))) ⌝ }
+    requires { ⌜ Asked (lentBy (run .size) (now table) (now pixels)) (now strips) (now starts) two ⌝
+        ∗ ⌜ LinesFit (jobOf (lentBy (run .size) (now table) (now pixels))) run (now lines) ⌝
+        ∗ ⌜ LinesKept (jobOf (lentBy (run .size) (now table) (now pixels))) run (now lines) (now maps) ⌝ }
+    ensures line { λ r. ⌜ HoldsLine direction (movedShape (lentBy (run .size) (now (table .entry)) (now (pixels .entry))) two) (standingShape (lentBy (run .size) (now (table .entry)) (now (pixels .entry))) two) (two .offset) (now (lines .exit)) r ⌝ }
+    ensures within { λ r. ⌜ r + linePlaces direction (movedShape (lentBy (run .size) (now (table .entry)) (now (pixels .entry))) two) (standingShape (lentBy (run .size) (now (table .entry)) (now (pixels .entry))) two) ≤ length (now (lines .exit)) ⌝ }
+    ensures kept { λ r. ⌜ LinesKept (jobOf (lentBy (run .size) (now (table .entry)) (now (pixels .entry)))) run (now (lines .exit)) (now (maps .exit)) ⌝ }
+    ensures same { λ r. ⌜ length (now (lines .exit)) ≡ length (now (lines .entry)) ⌝ }
 {
-    let slot = slot_of(two, tags.len());
-    let key = key_of(two);
-    let at = slot * width;
-    if tags[slot] == key {
-        return at;
+    let size = run.size;
+    let slot = slot_of(direction, two, run.slots);
+    let key = key_of(direction, two);
+    let at = slot * run.width;
+    let from = at + KEY_BYTES;
+    if key_at(lines, at) == key {
+        return from;
     }
     make_line(
         size,
@@ -543,10 +594,10 @@ pub fn keep_line(
         strips,
         starts,
         two,
-        at,
+        from,
         lines,
         maps,
     );
-    tags[slot] = key;
-    at
+    put_key(lines, at, key);
+    from
 }

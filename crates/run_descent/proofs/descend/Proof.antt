@@ -21,25 +21,19 @@ use Rattle.run_descent.proofs.descend.Statement.{statement}
 use Rattle.run_descent.proofs.descend.Tie as tie
 
 abbrev Inv-loop : tie.InvT-loop
-Inv-loop size table pixels rows row-starts weights budget width layout₀ penalties₀ row-lines₀ row-tags₀ column-lines₀ column-tags₀ sums₀ maps₀
-    trials pieces count at₀ layout penalties row-lines row-tags column-lines column-tags sums maps at =
-    Going (lentBy size table pixels) weights budget (layoutOf layout₀) width at layout penalties row-lines row-tags column-lines column-tags sums maps
+Inv-loop run table pixels strips starts trials weights budget layout₀ penalties₀ lines₀ maps₀ pieces count at₀ layout penalties lines maps at =
+    Going (lentBy (run .size) table pixels) run strips starts weights budget (layoutOf layout₀) at layout penalties lines maps
     × (length layout ≡ length layout₀)
     × (length penalties ≡ length penalties₀)
-    × (length row-lines ≡ length row-lines₀)
-    × (length row-tags ≡ length row-tags₀)
-    × (length column-lines ≡ length column-lines₀)
-    × (length column-tags ≡ length column-tags₀)
-    × (length sums ≡ length sums₀)
+    × (length lines ≡ length lines₀)
     × (length maps ≡ length maps₀)
 
 abbrev μ-loop : tie.MeasureT-loop
-μ-loop size table pixels rows row-starts weights budget width layout₀ penalties₀ row-lines₀ row-tags₀ column-lines₀ column-tags₀ sums₀ maps₀
-    trials pieces count at₀ layout penalties row-lines row-tags column-lines column-tags sums maps at = budget - at .made
+μ-loop run table pixels strips starts trials weights budget layout₀ penalties₀ lines₀ maps₀ pieces count at₀ layout penalties lines maps at = budget - at .made
 
 -- the lent job and the given layout
 abbrev lent : tie.Start Inv-loop μ-loop → Lent
-lent e = lentBy (e .args .size) (e .args .table .now) (e .args .pixels .now)
+lent e = lentBy (e .args .run .size) (e .args .table .now) (e .args .pixels .now)
 
 abbrev given : tie.Start Inv-loop μ-loop → Layout
 given e = layoutOf (e .args .layout .now)
@@ -49,7 +43,7 @@ abbrev jobTrials : tie.Start Inv-loop μ-loop → List Trial
 jobTrials e = trials (jobOf (lent e))
 
 lists : (e : tie.Start Inv-loop μ-loop) → trialsOf (e .args .trials .now) ≡ jobTrials e
-lists e = e .pre .1 .1 .1 .1 .1
+lists e = e .pre .1 .1 .1 .1
 
 -- T
 count-is : (e : tie.Start Inv-loop μ-loop) → length (e .args .trials .now) ≡ length (jobTrials e)
@@ -82,7 +76,7 @@ loop-holds c =
     subst (λ (s : DescentState).
     Underway j (at-start .args .weights .now) ks (at-start .args .budget) v (at-start .args .budget - s .made) (standingAs v s) (s .sum))
     (sym (c .beginning .ensures)) here in
-    (record { underway = under; laid = at-start .pre .1 .1 .0; stores = at-start .pre .1 .1 .1 .0 }, refl, refl, refl, refl, refl, refl, refl, refl)
+    (record { underway = under; laid = at-start .pre .1 .1 .0; ready = at-start .pre .0 }, refl, refl, refl, refl)
 
 -- the entry, from the loop's head
 abbrev entry : tie.At-loop Inv-loop μ-loop → tie.Start Inv-loop μ-loop
@@ -95,44 +89,16 @@ EndsAs c e =
     ≡ descentOf (record { end = e; sum = c .loop .at .sum; made = c .loop .at .made; moves = c .loop .at .moves }) (layoutOf (c .loop .layout))
 
 same-length : tie.Need-same-length Inv-loop μ-loop
-same-length c =
-    let at-loop : tie.At-loop Inv-loop μ-loop = search in
-    at-loop .loop .inv .1
+same-length c = let at-loop : tie.At-loop Inv-loop μ-loop = search in at-loop .loop .inv .1
 
 same-length-2 : tie.Need-same-length-2 Inv-loop μ-loop
-same-length-2 c =
-    let at-loop : tie.At-loop Inv-loop μ-loop = search in
-    at-loop .loop .inv .2
+same-length-2 c = let at-loop : tie.At-loop Inv-loop μ-loop = search in at-loop .loop .inv .2
 
 same-length-3 : tie.Need-same-length-3 Inv-loop μ-loop
-same-length-3 c =
-    let at-loop : tie.At-loop Inv-loop μ-loop = search in
-    at-loop .loop .inv .3
+same-length-3 c = let at-loop : tie.At-loop Inv-loop μ-loop = search in at-loop .loop .inv .3
 
 same-length-4 : tie.Need-same-length-4 Inv-loop μ-loop
-same-length-4 c =
-    let at-loop : tie.At-loop Inv-loop μ-loop = search in
-    at-loop .loop .inv .4
-
-same-length-5 : tie.Need-same-length-5 Inv-loop μ-loop
-same-length-5 c =
-    let at-loop : tie.At-loop Inv-loop μ-loop = search in
-    at-loop .loop .inv .5
-
-same-length-6 : tie.Need-same-length-6 Inv-loop μ-loop
-same-length-6 c =
-    let at-loop : tie.At-loop Inv-loop μ-loop = search in
-    at-loop .loop .inv .6
-
-same-length-7 : tie.Need-same-length-7 Inv-loop μ-loop
-same-length-7 c =
-    let at-loop : tie.At-loop Inv-loop μ-loop = search in
-    at-loop .loop .inv .7
-
-same-length-8 : tie.Need-same-length-8 Inv-loop μ-loop
-same-length-8 c =
-    let at-loop : tie.At-loop Inv-loop μ-loop = search in
-    at-loop .loop .inv .8
+same-length-4 c = let at-loop : tie.At-loop Inv-loop μ-loop = search in at-loop .loop .inv .4
 
 returns : tie.Need-returns Inv-loop μ-loop
 unfolding jobOf
@@ -142,52 +108,23 @@ returns c =
     let j = jobOf (lent e) in
     let is : EndsAs at-loop Clear =
     descend-over j (e .args .weights .now) (e .args .budget) (given e)
-    ∙ underway-clear j (e .args .weights .now) (jobTrials e) (e .args .budget) (given e)
-    (e .args .budget - at-loop .loop .at .made) _ (at-loop .loop .at .sum) (at-loop .loop .inv .0 .underway)
+    ∙ underway-clear j (e .args .weights .now) (jobTrials e) (e .args .budget) (given e) (e .args .budget - at-loop .loop .at .made) _ (at-loop .loop .at .sum) (at-loop .loop .inv .0 .underway)
     (c .before .if1 .taken) in (
       is ∙ ap (λ (x : Ended). descentOf x (layoutOf (at-loop .loop .layout))) (sym (c .end-at .ensures)),
-      (at-loop .loop .inv .0 .laid, at-loop .loop .inv .0 .stores),
+      (at-loop .loop .inv .0 .laid, at-loop .loop .inv .0 .ready),
     )
 
-same-length-9 : tie.Need-same-length-9 Inv-loop μ-loop
-same-length-9 c =
-    let at-loop : tie.At-loop Inv-loop μ-loop = search in
-    at-loop .loop .inv .1
+same-length-5 : tie.Need-same-length-5 Inv-loop μ-loop
+same-length-5 c = let at-loop : tie.At-loop Inv-loop μ-loop = search in at-loop .loop .inv .1
 
-same-length-10 : tie.Need-same-length-10 Inv-loop μ-loop
-same-length-10 c =
-    let at-loop : tie.At-loop Inv-loop μ-loop = search in
-    at-loop .loop .inv .2
+same-length-6 : tie.Need-same-length-6 Inv-loop μ-loop
+same-length-6 c = let at-loop : tie.At-loop Inv-loop μ-loop = search in at-loop .loop .inv .2
 
-same-length-11 : tie.Need-same-length-11 Inv-loop μ-loop
-same-length-11 c =
-    let at-loop : tie.At-loop Inv-loop μ-loop = search in
-    at-loop .loop .inv .3
+same-length-7 : tie.Need-same-length-7 Inv-loop μ-loop
+same-length-7 c = let at-loop : tie.At-loop Inv-loop μ-loop = search in at-loop .loop .inv .3
 
-same-length-12 : tie.Need-same-length-12 Inv-loop μ-loop
-same-length-12 c =
-    let at-loop : tie.At-loop Inv-loop μ-loop = search in
-    at-loop .loop .inv .4
-
-same-length-13 : tie.Need-same-length-13 Inv-loop μ-loop
-same-length-13 c =
-    let at-loop : tie.At-loop Inv-loop μ-loop = search in
-    at-loop .loop .inv .5
-
-same-length-14 : tie.Need-same-length-14 Inv-loop μ-loop
-same-length-14 c =
-    let at-loop : tie.At-loop Inv-loop μ-loop = search in
-    at-loop .loop .inv .6
-
-same-length-15 : tie.Need-same-length-15 Inv-loop μ-loop
-same-length-15 c =
-    let at-loop : tie.At-loop Inv-loop μ-loop = search in
-    at-loop .loop .inv .7
-
-same-length-16 : tie.Need-same-length-16 Inv-loop μ-loop
-same-length-16 c =
-    let at-loop : tie.At-loop Inv-loop μ-loop = search in
-    at-loop .loop .inv .8
+same-length-8 : tie.Need-same-length-8 Inv-loop μ-loop
+same-length-8 c = let at-loop : tie.At-loop Inv-loop μ-loop = search in at-loop .loop .inv .4
 
 returns-2 : tie.Need-returns-2 Inv-loop μ-loop
 unfolding jobOf
@@ -198,52 +135,23 @@ returns-2 c =
     let j = jobOf (lent e) in
     let is : EndsAs at-loop Settled =
     descend-over j (e .args .weights .now) (e .args .budget) (given e)
-    ∙ underway-settled j (e .args .weights .now) (jobTrials e) (e .args .budget) (given e)
-    (e .args .budget - at-loop .loop .at .made) _ (at-loop .loop .at .sum) (at-loop .loop .inv .0 .underway)
+    ∙ underway-settled j (e .args .weights .now) (jobTrials e) (e .args .budget) (given e) (e .args .budget - at-loop .loop .at .made) _ (at-loop .loop .at .sum) (at-loop .loop .inv .0 .underway)
     (at-else1 .if1 .left) (c .before .if2 .taken ∙ count-is e) in (
       is ∙ ap (λ (x : Ended). descentOf x (layoutOf (at-loop .loop .layout))) (sym (c .end-at2 .ensures)),
-      (at-loop .loop .inv .0 .laid, at-loop .loop .inv .0 .stores),
+      (at-loop .loop .inv .0 .laid, at-loop .loop .inv .0 .ready),
     )
 
-same-length-17 : tie.Need-same-length-17 Inv-loop μ-loop
-same-length-17 c =
-    let at-loop : tie.At-loop Inv-loop μ-loop = search in
-    at-loop .loop .inv .1
+same-length-9 : tie.Need-same-length-9 Inv-loop μ-loop
+same-length-9 c = let at-loop : tie.At-loop Inv-loop μ-loop = search in at-loop .loop .inv .1
 
-same-length-18 : tie.Need-same-length-18 Inv-loop μ-loop
-same-length-18 c =
-    let at-loop : tie.At-loop Inv-loop μ-loop = search in
-    at-loop .loop .inv .2
+same-length-10 : tie.Need-same-length-10 Inv-loop μ-loop
+same-length-10 c = let at-loop : tie.At-loop Inv-loop μ-loop = search in at-loop .loop .inv .2
 
-same-length-19 : tie.Need-same-length-19 Inv-loop μ-loop
-same-length-19 c =
-    let at-loop : tie.At-loop Inv-loop μ-loop = search in
-    at-loop .loop .inv .3
+same-length-11 : tie.Need-same-length-11 Inv-loop μ-loop
+same-length-11 c = let at-loop : tie.At-loop Inv-loop μ-loop = search in at-loop .loop .inv .3
 
-same-length-20 : tie.Need-same-length-20 Inv-loop μ-loop
-same-length-20 c =
-    let at-loop : tie.At-loop Inv-loop μ-loop = search in
-    at-loop .loop .inv .4
-
-same-length-21 : tie.Need-same-length-21 Inv-loop μ-loop
-same-length-21 c =
-    let at-loop : tie.At-loop Inv-loop μ-loop = search in
-    at-loop .loop .inv .5
-
-same-length-22 : tie.Need-same-length-22 Inv-loop μ-loop
-same-length-22 c =
-    let at-loop : tie.At-loop Inv-loop μ-loop = search in
-    at-loop .loop .inv .6
-
-same-length-23 : tie.Need-same-length-23 Inv-loop μ-loop
-same-length-23 c =
-    let at-loop : tie.At-loop Inv-loop μ-loop = search in
-    at-loop .loop .inv .7
-
-same-length-24 : tie.Need-same-length-24 Inv-loop μ-loop
-same-length-24 c =
-    let at-loop : tie.At-loop Inv-loop μ-loop = search in
-    at-loop .loop .inv .8
+same-length-12 : tie.Need-same-length-12 Inv-loop μ-loop
+same-length-12 c = let at-loop : tie.At-loop Inv-loop μ-loop = search in at-loop .loop .inv .4
 
 returns-3 : tie.Need-returns-3 Inv-loop μ-loop
 unfolding jobOf
@@ -255,11 +163,10 @@ returns-3 c =
     let j = jobOf (lent e) in
     let is : EndsAs at-loop Spent =
     descend-over j (e .args .weights .now) (e .args .budget) (given e)
-    ∙ underway-spent j (e .args .weights .now) (jobTrials e) (e .args .budget) (given e)
-    (e .args .budget - at-loop .loop .at .made) _ (at-loop .loop .at .sum) (at-loop .loop .inv .0 .underway)
+    ∙ underway-spent j (e .args .weights .now) (jobTrials e) (e .args .budget) (given e) (e .args .budget - at-loop .loop .at .made) _ (at-loop .loop .at .sum) (at-loop .loop .inv .0 .underway)
     (at-else1 .if1 .left) (λ z. at-else2 .if2 .left (z ∙ sym (count-is e))) (let made = c .before .if3 .taken in omega arith) in (
       is ∙ ap (λ (x : Ended). descentOf x (layoutOf (at-loop .loop .layout))) (sym (c .end-at3 .ensures)),
-      (at-loop .loop .inv .0 .laid, at-loop .loop .inv .0 .stores),
+      (at-loop .loop .inv .0 .laid, at-loop .loop .inv .0 .ready),
     )
 
 -- where none of the three ends is reached there is a trial that comes next
@@ -283,21 +190,15 @@ step-requires c κs =
     let u = at-loop .loop .inv .0 .underway in
     let within = u .counted in
     let differs = at-else3 .if3 .left in
-    let most = e .pre .1 .1 .1 .1 .0 in
+    let most = e .pre .1 .1 .1 .0 in
     let unsettled = at-else2 .if2 .left in
     let count = count-is e in
     let quiet = u .quietFew in
     let next = there at-else2 in
-    let proper = subst (λ (ks : List Trial). Proper (jobOf (lent e)) 0 (e .args .size .count) (getD ks (at-loop .loop .at .next) noTrial)) (sym (lists e))
+    let proper = subst (λ (ks : List Trial). Proper (jobOf (lent e)) 0 (e .args .run .size .count) (getD ks (at-loop .loop .at .next) noTrial)) (sym (lists e))
     (trial-proper (jobOf (lent e)) (at-loop .loop .at .next) next) in (
-      e .pre .0,
-      (
-        e .pre .1 .0,
-        (
-          at-loop .loop .inv .0 .laid,
-          (at-loop .loop .inv .0 .stores, (proper, (u .sumIs, (omega arith, (omega arith, (u .movesMade, omega arith)))))),
-        ),
-      ),
+      at-loop .loop .inv .0 .ready,
+      (e .pre .1 .0, (at-loop .loop .inv .0 .laid, (proper, (u .sumIs, (omega arith, (omega arith, (u .movesMade, omega arith))))))),
     )
 
 -- the loop's head, from where a step was taken
@@ -354,31 +255,24 @@ loop-again c =
     let differs = at-else3 .if3 .left in
     let one = made-one (at-step) in
     let rest : left - 1 ≡ e .args .budget - s .result .made = omega arith in
-    let ws = e .args .weights .now in
-    let ks = jobTrials e in
-    let pass : Underway j ws ks (e .args .budget) (given e) (left - 1) (standingAs (layoutOf new) (s .result)) (s .result .sum) =
-    underway-pass j ws ks (e .args .budget) (given e) left _ (at-loop .loop .at .sum)
+    let pass : Underway j (e .args .weights .now) (jobTrials e) (e .args .budget) (given e) (left - 1) (standingAs (layoutOf new) (s .result)) (s .result .sum) =
+    underway-pass j (e .args .weights .now) (jobTrials e) (e .args .budget) (given e) left _ (at-loop .loop .at .sum)
     (at-loop .loop .inv .0 .underway)
     (at-else1 .if1 .left) (λ z. at-else2 .if2 .left (z ∙ sym (count-is e))) (omega arith) _ (s .result .sum) (stepped at-step) (s .ensures .1 .0)
     (s .ensures .1 .1 .0 .valid) in
-    let under : Underway j ws ks (e .args .budget) (given e) (e .args .budget - s .result .made) (standingAs (layoutOf new) (s .result)) (s .result .sum) =
-    subst (λ (n : ℕ). Underway j ws ks (e .args .budget) (given e) n (standingAs (layoutOf new) (s .result)) (s .result .sum)) rest pass in (
-      record { underway = under; laid = s .ensures .1 .1 .0; stores = s .ensures .1 .1 .1 },
+    let under : Underway j (e .args .weights .now) (jobTrials e) (e .args .budget) (given e) (e .args .budget - s .result .made) (standingAs (layoutOf new) (s .result))
+    (s .result .sum) =
+    subst (λ (n : ℕ). Underway j (e .args .weights .now) (jobTrials e) (e .args .budget) (given e) n (standingAs (layoutOf new) (s .result)) (s .result .sum)) rest pass in (
+      record { underway = under; laid = s .ensures .1 .1 .0; ready = s .ensures .1 .1 .1 },
       s .kept .1 .1 .1 .1 .1 .1 .1 .1 .0 ∙ at-loop .loop .inv .1,
       s .kept .1 .1 .1 .1 .1 .1 .1 .1 .1 .0 ∙ at-loop .loop .inv .2,
       s .kept .1 .1 .1 .1 .1 .1 .1 .1 .1 .1 .0 ∙ at-loop .loop .inv .3,
       s .kept .1 .1 .1 .1 .1 .1 .1 .1 .1 .1 .1 .0 ∙ at-loop .loop .inv .4,
-      s .kept .1 .1 .1 .1 .1 .1 .1 .1 .1 .1 .1 .1 .0 ∙ at-loop .loop .inv .5,
-      s .kept .1 .1 .1 .1 .1 .1 .1 .1 .1 .1 .1 .1 .1 .0 ∙ at-loop .loop .inv .6,
-      s .kept .1 .1 .1 .1 .1 .1 .1 .1 .1 .1 .1 .1 .1 .1 .0 ∙ at-loop .loop .inv .7,
-      s .kept .1 .1 .1 .1 .1 .1 .1 .1 .1 .1 .1 .1 .1 .1 .1 .0 ∙ at-loop .loop .inv .8,
     )
 
 pub descend-spec : {M : Type 1} → statement M
 descend-spec =
     tie.close (tie.spec
-    Inv-loop μ-loop total-requires (search needs) loop-holds (search needs) same-length same-length-2 same-length-3
-    same-length-4 same-length-5 same-length-6 same-length-7 same-length-8 returns (search needs) same-length-9 same-length-10
-    same-length-11 same-length-12 same-length-13 same-length-14 same-length-15 same-length-16 returns-2 (search needs) same-length-17
-    same-length-18 same-length-19 same-length-20 same-length-21 same-length-22 same-length-23 same-length-24 returns-3 step-requires
-    loop-less loop-again)
+    Inv-loop μ-loop total-requires (search needs) loop-holds (search needs) same-length same-length-2 same-length-3 same-length-4 returns
+    (search needs) same-length-5 same-length-6 same-length-7 same-length-8 returns-2 (search needs) same-length-9 same-length-10 same-length-11
+    same-length-12 returns-3 step-requires loop-less loop-again)

@@ -28,11 +28,11 @@ run-alone-requires : tie.Need-run-alone-requires
 run-alone-requires c κs =
     let at-write-entries : tie.After-write-entries = search in
     let at-enum-told : tie.After-enum-told = search in
-    let at-start : tie.Start = search in
-    run-given (lent at-start) (at-start .args .layout .now) (at-start .args .weights .now) (ltb budgetBound (at-start .args .budget)) (at-start .args .budget)
-    (none (at-enum-told))
-    (few-trials (lent at-start) (at-start .args .layout .now) (at-start .args .weights .now) (at-start .args .budget) (none (at-enum-told))) _
-    (at-write-entries .write-entries .ensures)
+    let at-start : tie.Start = search in (
+      run-given (lent at-start) (at-start .args .layout .now) (at-start .args .weights .now) (ltb budgetBound (at-start .args .budget)) (none at-enum-told) _
+          (at-write-entries .write-entries .ensures),
+      few-trials (lent at-start) (at-start .args .layout .now) (at-start .args .weights .now) (at-start .args .budget) (none at-enum-told),
+    )
 
 returns : tie.Need-returns
 returns c =

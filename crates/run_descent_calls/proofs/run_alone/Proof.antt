@@ -19,7 +19,7 @@ lent e = lentBy (e .args .size) (e .args .table .now) (e .args .pixels .now)
 few : (e : tie.Start) → length (e .args .weights .now) ≤ 2016
 unfolding jobOf
 few e =
-    let g = e .pre in
+    let g = e .pre .0 in
     let one = g .weights .onePerPair in
     let most = pairs-at-most (e .args .size .count) (facts (lent e) (g .laid .well) .fewPieces) in
     omega arith
@@ -65,16 +65,16 @@ with-strips-requires : tie.Need-with-strips-requires
 with-strips-requires c κs =
     let at-copy-weights : tie.After-copy-weights = search in
     let at-start : tie.Start = search in (
-      subst (λ ws. Given (lent at-start) (at-start .args .layout .now) ws (at-start .args .budget))
-          (sym (copied-part (at-start .args .weights .now) _ _ (at-copy-weights .copy-weights .ensures))) (at-start .pre),
-      omega arith,
+      subst (λ ws. Given (lent at-start) (at-start .args .layout .now) ws)
+          (sym (copied-part (at-start .args .weights .now) _ _ (at-copy-weights .copy-weights .ensures))) (at-start .pre .0),
+      at-start .pre .1,
     )
 
 -- what was done with weights that are the lent ones, by what the run came to
 done : (l : Lent) (layout : List (List ℕ)) (budget : ℕ) (new : List (List ℕ)) (raised : List ℕ) {copied ws : List ℕ} {result o : PlanOutcome} → copied ≡ ws
     → result ≡ o
-    → Done l layout copied Plan.Alone budget result new raised → Done l layout ws Plan.Alone budget o new raised
-done l layout budget new raised e f d = subst₂ (λ (w : List ℕ) (x : PlanOutcome). Done l layout w Plan.Alone budget x new raised) e f d
+    → Done l layout copied (Plan.Alone budget) result new raised → Done l layout ws (Plan.Alone budget) o new raised
+done l layout budget new raised e f d = subst₂ (λ (w : List ℕ) (x : PlanOutcome). Done l layout w (Plan.Alone budget) x new raised) e f d
 
 returns : tie.Need-returns
 returns c =
@@ -82,7 +82,7 @@ returns c =
     let at-copy-weights : tie.After-copy-weights = search in
     let at-start : tie.Start = search in
     let w = at-with-strips .with-strips in
-    done (lent at-start) (at-start .args .layout .now) (at-start .args .budget) (w .last .1 .1 .1 .1 .1 .0) (w .last .1 .1 .1 .1 .1 .1 .0)
+    done (lent at-start) (at-start .args .layout .now) (at-start .args .budget) (w .last .1 .1 .1 .1 .0) (w .last .1 .1 .1 .1 .1 .0)
     (copied-part (at-start .args .weights .now) _ _ (at-copy-weights .copy-weights .ensures)) (c .before .ended .given .1) (w .ensures)
 
 returns-2 : tie.Need-returns-2
@@ -91,7 +91,7 @@ returns-2 c =
     let at-copy-weights : tie.After-copy-weights = search in
     let at-start : tie.Start = search in
     let w = at-with-strips .with-strips in
-    absurd (done (lent at-start) (at-start .args .layout .now) (at-start .args .budget) (w .last .1 .1 .1 .1 .1 .0) (w .last .1 .1 .1 .1 .1 .1 .0)
+    absurd (done (lent at-start) (at-start .args .layout .now) (at-start .args .budget) (w .last .1 .1 .1 .1 .0) (w .last .1 .1 .1 .1 .1 .0)
     (copied-part (at-start .args .weights .now) _ _ (at-copy-weights .copy-weights .ensures)) (c .enum-told .given .1) (w .ensures))
 
 pub run-alone-spec : {M : Type 1} → statement M

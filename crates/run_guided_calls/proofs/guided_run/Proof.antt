@@ -27,10 +27,12 @@ run-rounds-requires c κs =
     passed-none _
     (sym (at-enum-told .enum-told .given .1) ∙ at-weighted-causes .weighted-causes .ensures
     ∙ ap (λ b. firstCause (weightedCauses l (a .layout .now) (a .weights .now) b false)) (at-numbers-wrong .numbers-wrong .ensures)) in (
-      run-given l (a .layout .now) (a .weights .now) (numbersWrong (a .rounds) (a .budget)) (a .budget) none
-          (few-trials l (a .layout .now) (a .weights .now) (a .rounds) (a .budget) none) (at-write-entries .write-entries .last .0)
+      run-given l (a .layout .now) (a .weights .now) (numbersWrong (a .rounds) (a .budget)) none (at-write-entries .write-entries .last .0)
           (at-write-entries .write-entries .ensures),
-      few-rounds l (a .layout .now) (a .weights .now) (a .rounds) (a .budget) none,
+      record {
+        rounds = few-rounds l (a .layout .now) (a .weights .now) (a .rounds) (a .budget) none;
+        budget = few-trials l (a .layout .now) (a .weights .now) (a .rounds) (a .budget) none;
+      },
     )
 
 returns : tie.Need-returns
@@ -71,16 +73,16 @@ returns-2 c =
     let written = at-write-entries .write-entries in
     let ran = at-run-rounds .run-rounds in
     let is = call-given l (a .layout .now) (a .weights .now) (a .rounds) (a .budget) none (written .last .0) (written .ensures) (ran .result)
-    (ran .last .1 .1 .1 .1 .1 .0) (ran .last .1 .1 .1 .1 .1 .1 .0) (ran .ensures) in (
+    (ran .last .1 .1 .1 .1 .0) (ran .last .1 .1 .1 .1 .1 .0) (ran .ensures) in (
       sym (ap guidedAnswer is),
       (
         sym (ap (bestAfterRun (a .layout .now)) is ∙ ran .ensures .written),
         (
           sym (ap (weightsAfterRun (a .weights .now)) is),
           (
-            left-given _ _ (a .workspace .now) (ran .last .1 .1 .1 .1 .1 .1 .1 .0) is (ran .kept .1 .1 .1 .1 .1 .1 .1 .0),
+            left-given _ _ (a .workspace .now) (ran .last .1 .1 .1 .1 .1 .1 .0) is (ran .kept .1 .1 .1 .1 .1 .1 .0),
             call-claims l (a .layout .now) (a .weights .now) (a .rounds) (a .budget) none (written .last .0) (written .ensures) (ran .result)
-                (ran .last .1 .1 .1 .1 .1 .0) (ran .last .1 .1 .1 .1 .1 .1 .0) (ran .ensures),
+                (ran .last .1 .1 .1 .1 .0) (ran .last .1 .1 .1 .1 .1 .0) (ran .ensures),
           ),
         ),
       ),

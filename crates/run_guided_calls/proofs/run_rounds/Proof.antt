@@ -20,14 +20,14 @@ with-strips-requires c κs =
 done : (c : tie.After-with-strips) (o : PlanOutcome) →
     let at-start : tie.Start = search in
     c .with-strips .result ≡ o
-    → Done (lent (at-start)) (at-start .args .layout .now) (at-start .args .weights .now) (Plan.Rounds (at-start .args .rounds)) (at-start .args .budget) o
-    (c .with-strips .last .1 .1 .1 .1 .1 .0) (c .with-strips .last .1 .1 .1 .1 .1 .1 .0)
+    → Done (lent (at-start)) (at-start .args .layout .now) (at-start .args .weights .now) (Plan.Rounds (at-start .args .terms)) o
+    (c .with-strips .last .1 .1 .1 .1 .0) (c .with-strips .last .1 .1 .1 .1 .1 .0)
 done c o is =
     let at-start : tie.Start = search in
     let w = c .with-strips in
     subst (λ (x : PlanOutcome).
-    Done (lent at-start) (at-start .args .layout .now) (at-start .args .weights .now) (Plan.Rounds (at-start .args .rounds)) (at-start .args .budget) x
-    (w .last .1 .1 .1 .1 .1 .0) (w .last .1 .1 .1 .1 .1 .1 .0)) is (w .ensures)
+    Done (lent at-start) (at-start .args .layout .now) (at-start .args .weights .now) (Plan.Rounds (at-start .args .terms)) x
+    (w .last .1 .1 .1 .1 .0) (w .last .1 .1 .1 .1 .1 .0)) is (w .ensures)
 
 returns : tie.Need-returns
 returns c =

@@ -9,25 +9,21 @@ use Rattle.run_rounds.proofs.rounds.Statement.{statement}
 use Rattle.run_rounds.proofs.rounds.Tie as tie
 
 abbrev Inv-loop : tie.InvT-loop
-Inv-loop size table pixels rows row-starts count budget width present₀ best₀ weights₀ penalties₀ row-lines₀ row-tags₀ column-lines₀
-    column-tags₀ sums₀ maps₀ trials n sum₀ made₀ moves₀ left₀
-    present best weights penalties row-lines row-tags column-lines column-tags sums maps sum made moves left =
-    Rounding (lentBy size table pixels) width weights₀ count budget (layoutOf present₀) present best weights penalties row-lines row-tags column-lines
-    column-tags sums maps sum made moves left
-    × Sizes present best weights penalties row-lines row-tags column-lines column-tags sums maps present₀ best₀ weights₀ penalties₀ row-lines₀ row-tags₀
-    column-lines₀ column-tags₀ sums₀ maps₀
+Inv-loop run table pixels strips starts trials terms present₀ best₀ weights₀ penalties₀ lines₀ maps₀ n sum₀ made₀ moves₀ left₀
+    present best weights penalties lines maps sum made moves left =
+    Rounding (lentBy (run .size) table pixels) run strips starts weights₀ (terms .count) (terms .budget) (layoutOf present₀) present best weights penalties
+    lines maps sum made moves left
+    × Sizes present best weights penalties lines maps present₀ best₀ weights₀ penalties₀ lines₀ maps₀
 
 abbrev μ-loop : tie.MeasureT-loop
-μ-loop size table pixels rows row-starts count budget width present₀ best₀ weights₀ penalties₀ row-lines₀ row-tags₀ column-lines₀
-    column-tags₀ sums₀ maps₀ trials n sum₀ made₀ moves₀ left₀
-    present best weights penalties row-lines row-tags column-lines column-tags sums maps sum made moves left =
-    left
+μ-loop run table pixels strips starts trials terms present₀ best₀ weights₀ penalties₀ lines₀ maps₀ n sum₀ made₀ moves₀ left₀
+    present best weights penalties lines maps sum made moves left = left
 
 -- ── places ──
 
 -- the job at the function's entry
 abbrev job : tie.Start Inv-loop μ-loop → Lent
-job s = lentBy (s .args .size) (s .args .table .now) (s .args .pixels .now)
+job s = lentBy (s .args .run .size) (s .args .table .now) (s .args .pixels .now)
 
 -- the function's entry, from the loop's head
 abbrev entry : tie.At-loop Inv-loop μ-loop → tie.Start Inv-loop μ-loop
@@ -53,14 +49,11 @@ some-piece s = lent-some (job s) (s .pre .0 .well)
 
 -- what a round does
 rounded : (c : tie.After-keep-better Inv-loop μ-loop)
-    → Rounded (job (entry (head c))) (entry (head c) .args .width) (entry (head c) .args .budget) (head c .loop .present) (head c .loop .best)
-    (head c .loop .weights)
-    (head c .loop .sum) (descended c .descend .result) (descended c .descend .last .1 .1 .1 .1 .1 .1 .1 .1 .0) (c .keep-better .last .1 .1 .0)
+    → Rounded (job (entry (head c))) (entry (head c) .args .run) (entry (head c) .args .strips .now) (entry (head c) .args .starts .now)
+    (entry (head c) .args .terms .budget) (head c .loop .present) (head c .loop .best) (head c .loop .weights) (head c .loop .sum)
+    (descended c .descend .result) (descended c .descend .last .1 .1 .1 .1 .1 .1 .1 .1 .0) (c .keep-better .last .1 .1 .0)
     (descended c .descend .last .1 .1 .1 .1 .1 .1 .1 .1 .1 .0) (descended c .descend .last .1 .1 .1 .1 .1 .1 .1 .1 .1 .1 .0)
-    (descended c .descend .last .1 .1 .1 .1 .1 .1 .1 .1 .1 .1 .1 .0) (descended c .descend .last .1 .1 .1 .1 .1 .1 .1 .1 .1 .1 .1 .1 .0)
-    (descended c .descend .last .1 .1 .1 .1 .1 .1 .1 .1 .1 .1 .1 .1 .1 .0) (descended c .descend .last .1 .1 .1 .1 .1 .1 .1 .1 .1 .1 .1 .1 .1 .1 .0)
-    (descended c .descend .last .1 .1 .1 .1 .1 .1 .1 .1 .1 .1 .1 .1 .1 .1 .1 .0)
-    (c .before .before .before .plain-total2 .result) (c .keep-better .result)
+    (descended c .descend .last .1 .1 .1 .1 .1 .1 .1 .1 .1 .1 .1 .0) (c .before .before .before .plain-total2 .result) (c .keep-better .result)
 rounded c =
     let at-plain-total2 : tie.After-plain-total2 Inv-loop μ-loop = search in
     let said = descended c .descend .ensures in
@@ -68,7 +61,7 @@ rounded c =
     record {
       result = said .0;
       laid = said .1 .0;
-      stores = said .1 .1;
+      ready = said .1 .1;
       plainIs = at-plain-total2 .plain-total2 .ensures (jobOf l) (layoutOf (descended c .descend .last .1 .1 .1 .1 .1 .1 .1 .1 .0)) (job-count l)
           (said .1 .0 .table);
       bestIs = c .keep-better .ensures .0;
@@ -86,19 +79,15 @@ loop-holds : tie.Need-loop-holds Inv-loop μ-loop
 loop-holds c =
     let at-start : tie.Start Inv-loop μ-loop = search in
     let laid = at-start .pre .1 .1 .0 in (
-      rounding-begin (at-start .args .count) (at-start .args .budget) (some-piece at-start) laid (at-start .pre .1 .1 .1 .0) (at-start .pre .1 .0)
-          (at-start .pre .1 .1 .1 .1 .0)
+      rounding-begin (at-start .args .terms .count) (at-start .args .terms .budget) (some-piece at-start) laid (at-start .pre .0) (at-start .pre .1 .0)
+          (at-start .pre .1 .1 .1 .0)
           (c .plain-total .ensures (jobOf (job at-start)) (layoutOf (at-start .args .present .now)) (job-count (job at-start)) (laid .table)),
       record {
         sameLayout = refl;
         sameBest = refl;
         sameWeights = refl;
         samePenalties = refl;
-        sameRowLines = refl;
-        sameRowTags = refl;
-        sameColumnLines = refl;
-        sameColumnTags = refl;
-        sameSums = refl;
+        sameLines = refl;
         sameMaps = refl;
       },
     )
@@ -107,21 +96,20 @@ descend-requires : tie.Need-descend-requires Inv-loop μ-loop
 descend-requires c κs =
     let at-loop : tie.At-loop Inv-loop μ-loop = search in
     let stands = at-loop .loop .inv .0 in
-    let e = entry at-loop in
-    (e .pre .0, (stands .underway .validWeights, (stands .laid, (stands .stores, (e .pre .1 .1 .1 .1 .1 .0 .1, e .pre .1 .1 .1 .1 .1 .1)))))
+    (stands .ready, (stands .underway .validWeights, (stands .laid, (entry at-loop .pre .1 .1 .1 .1 .0 .budget, entry at-loop .pre .1 .1 .1 .1 .1))))
 
 add-made : tie.Need-add-made Inv-loop μ-loop
 add-made c =
     let at-loop : tie.At-loop Inv-loop μ-loop = search in
-    let bounds = entry at-loop .pre .1 .1 .1 .1 .1 .0 in
-    let few = rounding-few (some-piece (entry at-loop)) (at-loop .loop .inv .0) (bounds .0) (bounds .1) in
+    let bounds = entry at-loop .pre .1 .1 .1 .1 .0 in
+    let few = rounding-few (some-piece (entry at-loop)) (at-loop .loop .inv .0) (bounds .rounds) (bounds .budget) in
     omega arith
 
 add-moves : tie.Need-add-moves Inv-loop μ-loop
 add-moves c =
     let at-loop : tie.At-loop Inv-loop μ-loop = search in
-    let bounds = entry at-loop .pre .1 .1 .1 .1 .1 .0 in
-    let few = rounding-few (some-piece (entry at-loop)) (at-loop .loop .inv .0) (bounds .0) (bounds .1) in
+    let bounds = entry at-loop .pre .1 .1 .1 .1 .0 in
+    let few = rounding-few (some-piece (entry at-loop)) (at-loop .loop .inv .0) (bounds .rounds) (bounds .budget) in
     omega arith
 
 plain-total-requires-2 : tie.Need-plain-total-requires-2 Inv-loop μ-loop
@@ -136,7 +124,7 @@ keep-better-requires c κs =
     let at-descend : tie.After-descend Inv-loop μ-loop = search in
     let at-loop : tie.At-loop Inv-loop μ-loop = search in
     let before = at-loop .loop .inv .1 in
-    before .sameBest ∙ ap (λ b. length b) (entry at-loop .pre .1 .1 .1 .1 .0) ∙ sym (before .sameLayout)
+    before .sameBest ∙ ap (λ b. length b) (entry at-loop .pre .1 .1 .1 .0) ∙ sym (before .sameLayout)
     ∙ sym (at-descend .descend .kept .1 .1 .1 .1 .1 .1 .1 .1 .0)
 
 after-round-requires : tie.Need-after-round-requires Inv-loop μ-loop
@@ -172,12 +160,8 @@ loop-again c =
         sameBest = at-keep-better .keep-better .kept .1 .1 .0 ∙ before .sameBest;
         sameWeights = after .kept .1 .1 .1 .0 ∙ before .sameWeights;
         samePenalties = kept .1 .1 .1 .1 .1 .1 .1 .1 .1 .0 ∙ before .samePenalties;
-        sameRowLines = kept .1 .1 .1 .1 .1 .1 .1 .1 .1 .1 .0 ∙ before .sameRowLines;
-        sameRowTags = kept .1 .1 .1 .1 .1 .1 .1 .1 .1 .1 .1 .0 ∙ before .sameRowTags;
-        sameColumnLines = kept .1 .1 .1 .1 .1 .1 .1 .1 .1 .1 .1 .1 .0 ∙ before .sameColumnLines;
-        sameColumnTags = kept .1 .1 .1 .1 .1 .1 .1 .1 .1 .1 .1 .1 .1 .0 ∙ before .sameColumnTags;
-        sameSums = kept .1 .1 .1 .1 .1 .1 .1 .1 .1 .1 .1 .1 .1 .1 .0 ∙ before .sameSums;
-        sameMaps = kept .1 .1 .1 .1 .1 .1 .1 .1 .1 .1 .1 .1 .1 .1 .1 .0 ∙ before .sameMaps;
+        sameLines = kept .1 .1 .1 .1 .1 .1 .1 .1 .1 .1 .0 ∙ before .sameLines;
+        sameMaps = kept .1 .1 .1 .1 .1 .1 .1 .1 .1 .1 .1 .0 ∙ before .sameMaps;
       },
     )
 
@@ -194,22 +178,10 @@ same-length-4 : tie.Need-same-length-4 Inv-loop μ-loop
 same-length-4 c = c .before .loop .inv .1 .samePenalties
 
 same-length-5 : tie.Need-same-length-5 Inv-loop μ-loop
-same-length-5 c = c .before .loop .inv .1 .sameRowLines
+same-length-5 c = c .before .loop .inv .1 .sameLines
 
 same-length-6 : tie.Need-same-length-6 Inv-loop μ-loop
-same-length-6 c = c .before .loop .inv .1 .sameRowTags
-
-same-length-7 : tie.Need-same-length-7 Inv-loop μ-loop
-same-length-7 c = c .before .loop .inv .1 .sameColumnLines
-
-same-length-8 : tie.Need-same-length-8 Inv-loop μ-loop
-same-length-8 c = c .before .loop .inv .1 .sameColumnTags
-
-same-length-9 : tie.Need-same-length-9 Inv-loop μ-loop
-same-length-9 c = c .before .loop .inv .1 .sameSums
-
-same-length-10 : tie.Need-same-length-10 Inv-loop μ-loop
-same-length-10 c = c .before .loop .inv .1 .sameMaps
+same-length-6 c = c .before .loop .inv .1 .sameMaps
 
 returns : tie.Need-returns Inv-loop μ-loop
 returns c =
@@ -222,4 +194,4 @@ rounds-spec =
     tie.close (tie.spec
     Inv-loop μ-loop plain-total-requires loop-holds descend-requires (search needs) add-made (search needs) add-moves
     plain-total-requires-2 keep-better-requires after-round-requires loop-less loop-again same-length same-length-2 same-length-3
-    same-length-4 same-length-5 same-length-6 same-length-7 same-length-8 same-length-9 same-length-10 returns)
+    same-length-4 same-length-5 same-length-6 returns)

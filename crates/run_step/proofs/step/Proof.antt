@@ -22,7 +22,7 @@ use Rattle.run_step.proofs.step.Tie as tie
 
 -- the lent job and the layout at hand
 abbrev lent : tie.Start → Lent
-lent e = lentBy (e .args .size) (e .args .table .now) (e .args .pixels .now)
+lent e = lentBy (e .args .run .size) (e .args .table .now) (e .args .pixels .now)
 
 abbrev layoutAt : tie.Start → Layout
 layoutAt e = layoutOf (e .args .layout .now)
@@ -35,16 +35,16 @@ abbrev start : tie.After-trial-at → tie.Start
 start c = search
 
 -- it is of a piece of the job in a turn allowed to it
-proper : (c : tie.After-trial-at) → Proper (jobOf (lent (start c))) 0 (start c .args .size .count) (readTrial c)
+proper : (c : tie.After-trial-at) → Proper (jobOf (lent (start c))) 0 (start c .args .run .size .count) (readTrial c)
 proper c =
     let e = start c in
-    subst (λ (k : model.Trial). Proper (jobOf (lent e)) 0 (e .args .size .count) k) (sym (c .trial-at .ensures)) (e .pre .1 .1 .1 .1 .0)
+    subst (λ (k : model.Trial). Proper (jobOf (lent e)) 0 (e .args .run .size .count) k) (sym (c .trial-at .ensures)) (e .pre .1 .1 .1 .0)
 
 trial-at-requires : tie.Need-trial-at-requires
-trial-at-requires c κs = let at-start : tie.Start = search in at-start .pre .1 .1 .1 .1 .1 .1 .1 .1 .1
+trial-at-requires c κs = let at-start : tie.Start = search in at-start .pre .1 .1 .1 .1 .1 .1 .1 .1
 
 next-place-requires : tie.Need-next-place-requires
-next-place-requires c κs = let at-start : tie.Start = search in at-start .pre .1 .1 .1 .1 .1 .1 .1 .1 .1
+next-place-requires c κs = let at-start : tie.Start = search in at-start .pre .1 .1 .1 .1 .1 .1 .1 .1
 
 row-sum-requires : tie.Need-row-sum-requires
 unfolding jobOf
@@ -83,14 +83,14 @@ placed c = search
 -- one more quiet trial is still a number: there are as many trials at least
 counted : (e : tie.Start) → e .args .at .quiet + 1 < 2 ^ 64
 counted e =
-    let few = e .pre .1 .1 .1 .1 .1 .1 .0 in
-    let fits : length (e .args .trials .now) < 2 ^ 64 = e .good .1 .1 .1 .1 .1 .1 .1 .1 .1 .1 .1 .1 .1 .1 .1 .1 .0 .0 in
+    let few = e .pre .1 .1 .1 .1 .1 .0 in
+    let fits : length (e .args .trials .now) < 2 ^ 64 = e .good .1 .1 .1 .1 .1 .0 .0 in
     omega arith
 
 after-quiet-requires : tie.Need-after-quiet-requires
 after-quiet-requires c κs =
     let at-start : tie.Start = search in
-    (counted at-start, at-start .pre .1 .1 .1 .1 .1 .1 .1 .0)
+    (counted at-start, at-start .pre .1 .1 .1 .1 .1 .1 .0)
 
 returns : tie.Need-returns
 returns c =
@@ -101,7 +101,7 @@ returns c =
     let still = zero-quiet j (e .args .weights .now) (layoutAt e) (trialAt b) (sym (present b) ∙ c .before .if1 .taken) in (
       quiet-passed (e .args .trials .now) (layoutAt e) (e .args .at) _ (placed b .next-place .ensures) j (e .args .weights .now) (trialAt b)
           (reading b .trial-at .ensures) (r .result) (r .ensures) still,
-      (ap (λ (s : DescentState). s .sum) (r .ensures) ∙ e .pre .1 .1 .1 .1 .1 .0, (e .pre .1 .1 .0, e .pre .1 .1 .1 .0)),
+      (ap (λ (s : DescentState). s .sum) (r .ensures) ∙ e .pre .1 .1 .1 .1 .0, (e .pre .1 .1 .0, e .pre .0)),
     )
 
 cast-try-trial : tie.Need-cast-try-trial
@@ -117,7 +117,7 @@ try-trial-requires : tie.Need-try-trial-requires
 try-trial-requires c κs =
     let at-row-sum : tie.After-row-sum = search in
     let e = entry at-row-sum in
-    (e .pre .0, (e .pre .1 .0, (e .pre .1 .1 .0, (e .pre .1 .1 .1 .0, (proper (reading at-row-sum), present at-row-sum)))))
+    (e .pre .0, (e .pre .1 .0, (e .pre .1 .1 .0, (proper (reading at-row-sum), present at-row-sum))))
 
 -- the present pair sum, from where the trial was taken
 abbrev summed : tie.After-try-trial → tie.After-row-sum
@@ -125,11 +125,11 @@ summed c = search
 
 -- what the layout buffer holds after the trial
 abbrev left : tie.After-try-trial → Layout
-left c = layoutOf (c .try-trial .last .1 .1 .1 .1 .1 .1 .1 .1 .1 .0)
+left c = layoutOf (c .try-trial .last .1 .1 .1 .1 .1 .1 .1 .1 .0)
 
 -- and what it is by the search
 after : (c : tie.After-try-trial) (o : Option Best) → sought (summed c) ≡ o
-    → c .try-trial .last .1 .1 .1 .1 .1 .1 .1 .1 .1 .0
+    → c .try-trial .last .1 .1 .1 .1 .1 .1 .1 .1 .0
     ≡ entriesAfter (entry (summed c) .args .layout .now) (trialAt (summed c) .piece) (trialAt (summed c) .turn)
     (trialLine (layoutAt (entry (summed c))) (trialAt (summed c))) o
 after c o found =
@@ -142,57 +142,33 @@ after-quiet-requires-2 : tie.Need-after-quiet-requires-2
 after-quiet-requires-2 c κs =
     let at-try-trial : tie.After-try-trial = search in
     let e = entry (summed at-try-trial) in
-    (counted e, e .pre .1 .1 .1 .1 .1 .1 .1 .0)
+    (counted e, e .pre .1 .1 .1 .1 .1 .1 .0)
 
 -- ── the buffers are as long as before ──
 
 same-length-2 : tie.Need-same-length-2
-same-length-2 c = let at-try-trial : tie.After-try-trial = search in at-try-trial .try-trial .kept .1 .1 .1 .1 .1 .1 .1 .1 .1 .0
+same-length-2 c = let at-try-trial : tie.After-try-trial = search in at-try-trial .try-trial .kept .1 .1 .1 .1 .1 .1 .1 .1 .0
 
 same-length-3 : tie.Need-same-length-3
-same-length-3 c = let at-try-trial : tie.After-try-trial = search in at-try-trial .try-trial .kept .1 .1 .1 .1 .1 .1 .1 .1 .1 .1 .0
+same-length-3 c = let at-try-trial : tie.After-try-trial = search in at-try-trial .try-trial .kept .1 .1 .1 .1 .1 .1 .1 .1 .1 .0
 
 same-length-4 : tie.Need-same-length-4
-same-length-4 c = let at-try-trial : tie.After-try-trial = search in at-try-trial .try-trial .kept .1 .1 .1 .1 .1 .1 .1 .1 .1 .1 .1 .0
+same-length-4 c = let at-try-trial : tie.After-try-trial = search in at-try-trial .try-trial .kept .1 .1 .1 .1 .1 .1 .1 .1 .1 .1 .0
 
 same-length-5 : tie.Need-same-length-5
-same-length-5 c = let at-try-trial : tie.After-try-trial = search in at-try-trial .try-trial .kept .1 .1 .1 .1 .1 .1 .1 .1 .1 .1 .1 .1 .0
+same-length-5 c = let at-try-trial : tie.After-try-trial = search in at-try-trial .try-trial .kept .1 .1 .1 .1 .1 .1 .1 .1 .1 .1 .1 .0
 
 same-length-6 : tie.Need-same-length-6
-same-length-6 c = let at-try-trial : tie.After-try-trial = search in at-try-trial .try-trial .kept .1 .1 .1 .1 .1 .1 .1 .1 .1 .1 .1 .1 .1 .0
+same-length-6 c = let at-try-trial : tie.After-try-trial = search in at-try-trial .try-trial .kept .1 .1 .1 .1 .1 .1 .1 .1 .0
 
 same-length-7 : tie.Need-same-length-7
-same-length-7 c = let at-try-trial : tie.After-try-trial = search in at-try-trial .try-trial .kept .1 .1 .1 .1 .1 .1 .1 .1 .1 .1 .1 .1 .1 .1 .0
+same-length-7 c = let at-try-trial : tie.After-try-trial = search in at-try-trial .try-trial .kept .1 .1 .1 .1 .1 .1 .1 .1 .1 .0
 
 same-length-8 : tie.Need-same-length-8
-same-length-8 c = let at-try-trial : tie.After-try-trial = search in at-try-trial .try-trial .kept .1 .1 .1 .1 .1 .1 .1 .1 .1 .1 .1 .1 .1 .1 .1 .0
+same-length-8 c = let at-try-trial : tie.After-try-trial = search in at-try-trial .try-trial .kept .1 .1 .1 .1 .1 .1 .1 .1 .1 .1 .0
 
 same-length-9 : tie.Need-same-length-9
-same-length-9 c = let at-try-trial : tie.After-try-trial = search in at-try-trial .try-trial .kept .1 .1 .1 .1 .1 .1 .1 .1 .1 .1 .1 .1 .1 .1 .1 .1 .0
-
-same-length-10 : tie.Need-same-length-10
-same-length-10 c = let at-try-trial : tie.After-try-trial = search in at-try-trial .try-trial .kept .1 .1 .1 .1 .1 .1 .1 .1 .1 .0
-
-same-length-11 : tie.Need-same-length-11
-same-length-11 c = let at-try-trial : tie.After-try-trial = search in at-try-trial .try-trial .kept .1 .1 .1 .1 .1 .1 .1 .1 .1 .1 .0
-
-same-length-12 : tie.Need-same-length-12
-same-length-12 c = let at-try-trial : tie.After-try-trial = search in at-try-trial .try-trial .kept .1 .1 .1 .1 .1 .1 .1 .1 .1 .1 .1 .0
-
-same-length-13 : tie.Need-same-length-13
-same-length-13 c = let at-try-trial : tie.After-try-trial = search in at-try-trial .try-trial .kept .1 .1 .1 .1 .1 .1 .1 .1 .1 .1 .1 .1 .0
-
-same-length-14 : tie.Need-same-length-14
-same-length-14 c = let at-try-trial : tie.After-try-trial = search in at-try-trial .try-trial .kept .1 .1 .1 .1 .1 .1 .1 .1 .1 .1 .1 .1 .1 .0
-
-same-length-15 : tie.Need-same-length-15
-same-length-15 c = let at-try-trial : tie.After-try-trial = search in at-try-trial .try-trial .kept .1 .1 .1 .1 .1 .1 .1 .1 .1 .1 .1 .1 .1 .1 .0
-
-same-length-16 : tie.Need-same-length-16
-same-length-16 c = let at-try-trial : tie.After-try-trial = search in at-try-trial .try-trial .kept .1 .1 .1 .1 .1 .1 .1 .1 .1 .1 .1 .1 .1 .1 .1 .0
-
-same-length-17 : tie.Need-same-length-17
-same-length-17 c = let at-try-trial : tie.After-try-trial = search in at-try-trial .try-trial .kept .1 .1 .1 .1 .1 .1 .1 .1 .1 .1 .1 .1 .1 .1 .1 .1 .0
+same-length-9 c = let at-try-trial : tie.After-try-trial = search in at-try-trial .try-trial .kept .1 .1 .1 .1 .1 .1 .1 .1 .1 .1 .1 .0
 
 -- ── what a trial comes to ──
 
@@ -210,7 +186,7 @@ returns-2 c =
     (reading b .trial-at .ensures) (r .result) (r .ensures) (trial-quiet j ws (layoutAt e) (trialAt b) nothing) in (
       ap (λ (w : Layout). standingAs w (r .result)) same ∙ passed,
       (
-        ap (λ (s : DescentState). s .sum) (r .ensures) ∙ e .pre .1 .1 .1 .1 .1 .0 ∙ sym (ap (weightedSum j ws) same),
+        ap (λ (s : DescentState). s .sum) (r .ensures) ∙ e .pre .1 .1 .1 .1 .0 ∙ sym (ap (weightedSum j ws) same),
         (at-try-trial .try-trial .ensures .1 .1 .0, at-try-trial .try-trial .ensures .1 .1 .1),
       ),
     )
@@ -229,7 +205,7 @@ sub-after-move c =
     let e = entry at-row-sum in
     let is = present at-row-sum in
     let most = piece-at-most (jobOf (lent e)) (e .args .weights .now) (layoutAt e) (trialAt at-row-sum .piece) in
-    let sum = e .pre .1 .1 .1 .1 .1 .0 in
+    let sum = e .pre .1 .1 .1 .1 .0 in
     omega arith
 
 add-after-move : tie.Need-add-after-move
@@ -242,14 +218,14 @@ add-after-move c =
     let most = piece-at-most j (e .args .weights .now) (layoutAt e) (trialAt at-row-sum .piece) in
     let small = total-small (lent e) (e .pre .0 .well) (e .args .weights .now) (e .pre .1 .0) (layoutAt e) in
     let less = trial-place j (e .args .weights .now) (layoutAt e) (trialAt at-row-sum) (m .best) (m .found) .1 in
-    let sum = e .pre .1 .1 .1 .1 .1 .0 in
+    let sum = e .pre .1 .1 .1 .1 .0 in
     let least = m .sum in
     omega arith
 
 after-move-requires : tie.Need-after-move-requires
 after-move-requires c κs =
     let at-try-trial : tie.After-try-trial = search in
-    let n = entry (summed at-try-trial) .pre .1 .1 .1 .1 .1 .1 in (n .1 .0, n .1 .1 .0)
+    let n = entry (summed at-try-trial) .pre .1 .1 .1 .1 .1 in (n .1 .0, n .1 .1 .0)
 
 returns-3 : tie.Need-returns-3
 returns-3 c =
@@ -268,7 +244,7 @@ returns-3 c =
     ap (weightedSum j ws) there ∙ trial-sum j ws (layoutAt e) (trialAt b) (m .best) (m .found) in
     let now : r .result .sum ≡ e .args .at .sum - b .row-sum .result + c .before .before .found .given .0 .0 = ap (λ (s : DescentState). s .sum) (r .ensures) in
     let is = present b in
-    let sum = e .pre .1 .1 .1 .1 .1 .0 in
+    let sum = e .pre .1 .1 .1 .1 .0 in
     let least = m .sum in (
       moved-passed (e .args .trials .now) (layoutAt e) (e .args .at) _ (placed b .next-place .ensures) j ws (trialAt b) (reading b .trial-at .ensures)
           (left at-try-trial) (r .result) _ (r .ensures) took,
@@ -279,6 +255,5 @@ pub step-spec : {M : Type 1} → statement M
 step-spec =
     tie.close (tie.spec
     trial-at-requires next-place-requires row-sum-requires after-quiet-requires (search needs) returns cast-try-trial try-trial-requires (search needs)
-    (search needs) after-quiet-requires-2 same-length-2 same-length-3 same-length-4 same-length-5 same-length-6 same-length-7 same-length-8
-    same-length-9 returns-2 sub-after-move (search needs) add-after-move after-move-requires same-length-10 same-length-11 same-length-12
-    same-length-13 same-length-14 same-length-15 same-length-16 same-length-17 returns-3)
+    (search needs) after-quiet-requires-2 same-length-2 same-length-3 same-length-4 same-length-5 returns-2 sub-after-move (search needs) add-after-move
+    after-move-requires same-length-6 same-length-7 same-length-8 same-length-9 returns-3)

@@ -17,7 +17,7 @@ use Rattle.run_step.proofs.try_line.Tie as tie
 
 -- the lent job, and what the search comes to
 abbrev lent : tie.Start → Lent
-lent e = lentBy (e .args .size) (e .args .table .now) (e .args .pixels .now)
+lent e = lentBy (e .args .run .size) (e .args .table .now) (e .args .pixels .now)
 
 abbrev sought : tie.Start → Option Best
 sought e = moverSearch (jobOf (lent e)) (e .args .weights .now) (layoutOf (e .args .layout .now)) (e .args .mover) (e .args .bound)
@@ -29,14 +29,14 @@ entriesBy e o = entriesAfter (e .args .layout .now) (e .args .mover .piece) (e .
 search-below-requires : tie.Need-search-below-requires
 search-below-requires c κs =
     let at-start : tie.Start = search in
-    (at-start .pre .0, (at-start .pre .1 .0, at-start .pre .1 .1 .1))
+    (at-start .pre .0, (at-start .pre .1 .1 .0, (at-start .pre .1 .0, at-start .pre .1 .1 .1 .0)))
 
 returns : tie.Need-returns
 returns c =
     let at-search-below : tie.After-search-below = search in
     let at-start : tie.Start = search in
     let nothing : sought at-start ≡ none = found-nothing (sought at-start) (sym (c .enum-told .given .1) ∙ at-search-below .search-below .ensures .0) in
-    (ap triedAnswer (sym nothing), (ap (entriesBy at-start) (sym nothing), (at-start .pre .1 .1 .0, at-search-below .search-below .ensures .1 .0)))
+    (ap triedAnswer (sym nothing), (ap (entriesBy at-start) (sym nothing), (at-start .pre .1 .1 .1 .1, at-search-below .search-below .ensures .1)))
 
 -- the entry, from where a place was found
 abbrev entry : tie.After-sum → tie.Start
@@ -62,30 +62,24 @@ renew-placed-requires c κs =
     let at-sum : tie.After-sum = search in
     let at-search-below : tie.After-search-below = search in
     let e = entry at-sum in
-    let r = e .pre .0 in
-    let s = at-search-below .search-below in
-    let same = s .ensures .1 .1 .0 in
-    let fits = r .fits in (
-      record { laid = r .laid; shapes = r .shapes; wide = r .wide; narrow = r .narrow; kept = s .ensures .1 .0; fits = omega arith },
-      ((e .pre .1 .0, there at-sum), e .pre .1 .1 .0),
-    )
+    (at-search-below .search-below .ensures .1, (e .pre .1 .1 .0, ((e .pre .1 .1 .1 .0, there at-sum), e .pre .1 .1 .1 .1)))
 
 place-on-requires : tie.Need-place-on-requires
 place-on-requires c κs =
     let at-sum : tie.After-sum = search in
     let e = entry at-sum in
     let below = there at-sum in
-    let few = places-few (lent e) (e .pre .0 .laid .well) (e .args .mover .piece) (e .args .mover .turn) (e .args .mover .line) in
+    let few = places-few (lent e) (e .pre .0 .well) (e .args .mover .piece) (e .args .mover .turn) (e .args .mover .line) in
     omega arith
 
-mul-t35 : tie.Need-mul-t35
-mul-t35 c =
+mul-t28 : tie.Need-mul-t28
+mul-t28 c =
     let at-known-told : tie.After-known-told = search in
     let at-search-below : tie.After-search-below = search in
     let at-shared-slice-known3 : tie.After-shared-slice-known3 = search in
     let at-start : tie.Start = search in
-    let few = facts (lent at-start) (at-start .pre .0 .laid .well) .fewPieces in
-    let below = at-start .pre .1 .0 in
+    let few = facts (lent at-start) (at-start .pre .0 .well) .fewPieces in
+    let below = at-start .pre .1 .1 .1 .0 in
     omega arith
 
 slice-set-from-layout : tie.Need-slice-set-from-layout
@@ -94,33 +88,26 @@ slice-set-from-layout c =
     let at-search-below : tie.After-search-below = search in
     let at-shared-slice-known3 : tie.After-shared-slice-known3 = search in
     let at-start : tie.Start = search in
-    let whole = at-start .pre .0 .laid .whole in
-    let below = at-start .pre .1 .0 in
+    let whole = at-start .pre .1 .1 .0 .whole in
+    let below = at-start .pre .1 .1 .1 .0 in
     omega arith
 
 -- the search, from where the table is renewed
 abbrev searched : tie.After-renew-placed → tie.After-search-below
 searched c = let at-sum : tie.After-sum = search in search
 
-same-length-8 : tie.Need-same-length-8
-same-length-8 c =
-    let at-renew-placed : tie.After-renew-placed = search in
-    at-renew-placed .renew-placed .kept .1 .1 .1 .1 .1 .1 .1 .1 .1 .0 ∙ searched at-renew-placed .search-below .kept .1 .1 .1 .1 .1 .1 .1 .1 .1 .1 .0
+same-length-5 : tie.Need-same-length-5
+same-length-5 c = let x : tie.After-renew-placed = search in x .renew-placed .kept .1 .1 .1 .1 .1 .1 .1 .1 .1 .1 .0
 
-same-length-9 : tie.Need-same-length-9
-same-length-9 c =
-    let at-renew-placed : tie.After-renew-placed = search in
-    at-renew-placed .renew-placed .kept .1 .1 .1 .1 .1 .1 .1 .1 .1 .1 .0 ∙ searched at-renew-placed .search-below .kept .1 .1 .1 .1 .1 .1 .1 .1 .1 .1 .1 .0
+same-length-6 : tie.Need-same-length-6
+same-length-6 c =
+    let x : tie.After-renew-placed = search in
+    x .renew-placed .kept .1 .1 .1 .1 .1 .1 .1 .1 .0 ∙ searched x .search-below .kept .1 .1 .1 .1 .1 .1 .1 .1 .1 .0
 
-same-length-10 : tie.Need-same-length-10
-same-length-10 c =
-    let at-renew-placed : tie.After-renew-placed = search in
-    searched at-renew-placed .search-below .kept .1 .1 .1 .1 .1 .1 .1 .1 .1 .1 .1 .1 .0
-
-same-length-11 : tie.Need-same-length-11
-same-length-11 c =
-    let at-renew-placed : tie.After-renew-placed = search in
-    at-renew-placed .renew-placed .kept .1 .1 .1 .1 .1 .1 .1 .1 .1 .1 .1 .1 .0 ∙ searched at-renew-placed .search-below .kept .1 .1 .1 .1 .1 .1 .1 .1 .1 .1 .1 .1 .1 .0
+same-length-7 : tie.Need-same-length-7
+same-length-7 c =
+    let x : tie.After-renew-placed = search in
+    x .renew-placed .kept .1 .1 .1 .1 .1 .1 .1 .1 .1 .0 ∙ searched x .search-below .kept .1 .1 .1 .1 .1 .1 .1 .1 .1 .1 .0
 
 returns-2 : tie.Need-returns-2
 returns-2 c =
@@ -140,9 +127,9 @@ returns-2 c =
       (
         stored ∙ ap (entriesBy e) (sym (found at-sum)),
         (
-          subst (λ (w : Layout). PenaltyTable (jobOf (lent e)) w (e .args .size .count) (r .last .1 .1 .1 .1 .1 .1 .1 .1 .1 .1 .1 .0)) (sym placed)
+          subst (λ (w : Layout). PenaltyTable (jobOf (lent e)) w (e .args .run .size .count) (r .last .1 .1 .1 .1 .1 .1 .1 .1 .1 .1 .0)) (sym placed)
               (r .ensures .0),
-          r .ensures .1 .0,
+          r .ensures .1,
         ),
       ),
     )
@@ -150,6 +137,5 @@ returns-2 c =
 pub try-line-spec : {M : Type 1} → statement M
 try-line-spec =
     tie.close (tie.spec
-    search-below-requires (search needs) (search needs) (search needs) (search needs) (search needs) (search needs) (search needs) returns (search needs)
-    renew-placed-requires place-on-requires (search needs) mul-t35 slice-set-from-layout (search needs) (search needs)
-    same-length-8 same-length-9 same-length-10 same-length-11 returns-2)
+    search-below-requires (search needs) (search needs) (search needs) (search needs) (search needs) returns (search needs) renew-placed-requires
+    place-on-requires (search needs) mul-t28 slice-set-from-layout (search needs) same-length-5 same-length-6 same-length-7 returns-2)

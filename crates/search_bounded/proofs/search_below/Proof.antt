@@ -1,57 +1,49 @@
--- `search_bounded::search_below` meets its contract: of the scratch as many sums are taken as the line has places. Assumes nothing.
-use Rattle.list_laws.proofs.Kit.{sym, _≤_, arith, length, length-take-le, needs}
-use Rattle.model.specs.Lent.{lentBy}
-use Rattle.search_bounded.proofs.Searching.{lines-ready, track-asked, on-track, places-most}
+-- `search_bounded::search_below` meets its contract: what is looked for stands on the mover's own track. Assumes nothing.
+use Rattle.list_laws.proofs.Kit.{needs}
+use Rattle.model.specs.Lent.{Lent, lentBy}
+use Rattle.search_beside.specs.Ready.{OnTrack}
+use Rattle.search_beside.proofs.Tracks.{track-asked, on-track}
 use Rattle.search_bounded.proofs.search_below.Statement.{statement}
 use Rattle.search_bounded.proofs.search_below.Tie as tie
 
+-- the lent job
+abbrev lent : tie.Start → Lent
+lent e = lentBy (e .args .run .size) (e .args .table .now) (e .args .pixels .now)
+
 track-of-requires : tie.Need-track-of-requires
-track-of-requires c κs =
-    let at-start : tie.Start = search in
-    let a = at-start .args in
-    let l = lentBy (a .size) (a .table .now) (a .pixels .now) in
-    track-asked l (a .mover .piece) (at-start .pre .0 .laid .well) (at-start .pre .1 .0)
+track-of-requires c κs = let e : tie.Start = search in track-asked (lent e) (e .args .mover .piece) (e .pre .0 .well) (e .pre .1 .1 .1)
 
--- the scratch is long enough
-scratch : (c : tie.After-track-of) →
-    let at-start : tie.Start = search in
-    c .track-of .result .places ≤ length (at-start .args .sums .now)
-scratch c =
-    let at-start : tie.Start = search in
-    let a = at-start .args in
-    let l = lentBy (a .size) (a .table .now) (a .pixels .now) in
+-- the entry, from where the track is known
+abbrev entry : tie.After-track-of → tie.Start
+entry c = search
+
+-- it is the mover's
+tracked : (c : tie.After-track-of) → OnTrack (lent (entry c)) (entry c .args .mover) (c .track-of .result)
+tracked c =
+    let e = entry c in
     let t = c .track-of in
-    let most = places-most l (a .mover) (t .result)
-    (on-track l (a .mover) (t .result) (at-start .pre .0 .laid .well) (at-start .pre .1 .0) (t .ensures .0 (a .pixels .now)) (t .ensures .1)) in
-    let room = at-start .pre .1 .1 in
-    omega arith
+    on-track (lent e) (e .args .mover) (t .result) (e .pre .0 .well) (e .pre .1 .1 .1) (t .ensures .0 (e .args .pixels .now)) (t .ensures .1)
 
-slice-relend-prefix-search-over : tie.Need-slice-relend-prefix-search-over
-slice-relend-prefix-search-over c = scratch (c .before .before)
+search-short-requires : tie.Need-search-short-requires
+search-short-requires c κs =
+    let t : tie.After-track-of = search in
+    let e = entry t in
+    let i : tie.Then1 = search in
+    (e .pre .0, (e .pre .1 .0, (e .pre .1 .1 .0, (tracked t, i .if1 .taken))))
 
-slice-aggregate-search-over : tie.Need-slice-aggregate-search-over
-slice-aggregate-search-over c =
-    let at-track-of : tie.After-track-of = search in
-    sym (length-take-le _ _ (scratch (at-track-of)))
-
-search-over-requires : tie.Need-search-over-requires
-search-over-requires c κs =
-    let at-track-of : tie.After-track-of = search in
-    let at-start : tie.Start = search in
-    let a = at-start .args in
-    let l = lentBy (a .size) (a .table .now) (a .pixels .now) in
-    let t = at-track-of .track-of in
-    let o = on-track l (a .mover) (t .result) (at-start .pre .0 .laid .well) (at-start .pre .1 .0) (t .ensures .0 (a .pixels .now)) (t .ensures .1) in
-    (lines-ready (at-start .pre .0), (at-start .pre .0 .weighed, (o, length-take-le _ _ (scratch (at-track-of)))))
+search-long-requires : tie.Need-search-long-requires
+search-long-requires c κs =
+    let t : tie.After-track-of = search in
+    let e = entry t in
+    (e .pre .0, (e .pre .1 .0, (e .pre .1 .1 .0, tracked t)))
 
 returns : tie.Need-returns
-returns c =
-    let at-search-over : tie.After-search-over = search in
-    let x = at-search-over .search-over in
-    (x .ensures .0, (x .ensures .1 .kept, (x .kept .1 .1 .1 .1 .1 .1 .1 .1 .1 .1 .1 .0, x .kept .1 .1 .1 .1 .1 .1 .1 .1 .1 .1 .1 .1 .0)))
+returns c = let x : tie.After-search-short = search in x .search-short .ensures
+
+returns-2 : tie.Need-returns-2
+returns-2 c = let x : tie.After-search-long = search in x .search-long .ensures
 
 pub search-below-spec : {M : Type 1} → statement M
 search-below-spec =
     tie.close (tie.spec
-    track-of-requires slice-relend-prefix-search-over slice-aggregate-search-over search-over-requires (search needs) (search needs)
-    (search needs) (search needs) returns)
+    track-of-requires search-short-requires (search needs) (search needs) returns search-long-requires (search needs) (search needs) returns-2)

@@ -1,10 +1,9 @@
 -- `search_calls::search_alone` meets its contract: the largest bound is above every sum. Assumes nothing.
 use Rattle.list_laws.proofs.Kit.{_∙_, ap, sym, ℕ, arith, length-replicate, needs}
-use Rattle.model.specs.Piece.{lineDirection}
 use Rattle.model.specs.Lent.{lentBy}
 use Rattle.search_shapes.proofs.Rooms.{room-of}
 use Rattle.search_line_sums.specs.Answers.{foundAnswer}
-use Rattle.search_calls.proofs.Answering.{store-wide, store-fresh, store-length, search-whole}
+use Rattle.search_calls.proofs.Answering.{store-ready, search-whole}
 use Rattle.search_calls.proofs.search_alone.Statement.{statement}
 use Rattle.search_calls.proofs.search_alone.Tie as tie
 
@@ -30,16 +29,8 @@ search-below-requires c κs =
     let mapped : tie.After-ready-maps = search in
     let a = at-start .args in
     let l = lentBy (a .size) (a .table .now) (a .pixels .now) in (
-      record {
-        laid = at-start .pre .0;
-        shapes = shaped .make-shapes .ensures;
-        weighed = at-start .pre .1 .0;
-        wide = store-wide l (at-start .pre .0 .well);
-        narrow = omega arith;
-        kept = store-fresh (lineDirection (a .mover .line)) l _ (mapped .ready-maps .ensures);
-        fits = store-length;
-      },
-      (at-start .pre .1 .1, let n = length-replicate {A = ℕ} 4096 0 in omega arith),
+      store-ready l _ _ _ (at-start .pre .0 .well) (shaped .make-shapes .ensures) (mapped .ready-maps .ensures),
+      (at-start .pre .0, (at-start .pre .1 .0, at-start .pre .1 .1)),
     )
 
 returns : tie.Need-returns
@@ -57,4 +48,4 @@ pub search-alone-spec : {M : Type 1} → statement M
 search-alone-spec =
     tie.close (tie.spec
     (search needs) (search needs) ready-maps-requires slice-aggregate-make-shapes (search needs) make-shapes-requires (search needs) (search needs)
-    (search needs) (search needs) (search needs) (search needs) search-below-requires returns)
+    (search needs) (search needs) search-below-requires returns)

@@ -4,7 +4,7 @@ use Rattle.search_lines.proofs.slot_of.Statement.{statement}
 use Rattle.search_lines.proofs.slot_of.Tie as tie
 
 returns : tie.Need-returns
-returns c = mod-lt _ (c .before .before .pre .1)
+returns c = let e : tie.Start = search in mod-lt _ (e .pre .1)
 
 pub slot-of-spec : {M : Type 1} → statement M
-slot-of-spec = tie.close (tie.spec (search needs) (search needs) (search needs) (search needs) returns)
+slot-of-spec = tie.close (tie.spec (search needs) (search needs) (search needs) (search needs) (search needs) (search needs) (search needs) returns)

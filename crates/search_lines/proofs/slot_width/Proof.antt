@@ -41,4 +41,4 @@ returns c =
 pub slot-width-spec : {M : Type 1} → statement M
 slot-width-spec =
     tie.close (tie.spec
-    Inv-loop μ-loop loop-holds (search needs) (search needs) (search needs) (search needs) (search needs) loop-again (search needs) returns)
+    Inv-loop μ-loop loop-holds (search needs) (search needs) (search needs) (search needs) (search needs) loop-again (search needs) (search needs) returns)

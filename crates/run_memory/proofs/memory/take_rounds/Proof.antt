@@ -10,14 +10,14 @@ use Rattle.run_memory.proofs.memory.take_rounds.Tie as tie
 
 -- the lent job
 abbrev job : tie.Start → Lent
-job s = lentBy (s .args .size) (s .args .table .now) (s .args .pixels .now)
+job s = lentBy (s .args .run .size) (s .args .table .now) (s .args .pixels .now)
 
 -- it has at most 64 pieces
-few : (s : tie.Start) → s .args .size .count ≤ pieceBound
+few : (s : tie.Start) → s .args .run .size .count ≤ pieceBound
 few s = facts (job s) (s .pre .0 .laid .well) .fewPieces
 
 -- the layout has an entry for each
-whole : (s : tie.Start) → length (s .args .layout .now) ≡ s .args .size .count
+whole : (s : tie.Start) → length (s .args .layout .now) ≡ s .args .run .size .count
 whole s = s .pre .0 .laid .whole
 
 -- a fresh array
@@ -30,12 +30,12 @@ fresh-part n l = repeated-front n 64 (0 ∷ 0 ∷ 0 ∷ []) l
 
 -- that part after the layout is copied
 copied-part : (s : tie.Start) (copied rest : List (List ℕ)) → copied ≡ s .args .layout .now
-    → take (s .args .size .count) (copied ++ rest) ≡ s .args .layout .now
-copied-part s copied rest e = written-front (s .args .size .count) copied rest (s .args .layout .now) e (whole s)
+    → take (s .args .run .size .count) (copied ++ rest) ≡ s .args .layout .now
+copied-part s copied rest e = written-front (s .args .run .size .count) copied rest (s .args .layout .now) e (whole s)
 
 -- the whole is long enough for that part
-copied-room : (s : tie.Start) (copied rest : List (List ℕ)) → copied ≡ s .args .layout .now → s .args .size .count ≤ length (copied ++ rest)
-copied-room s copied rest e = written-room (s .args .size .count) copied rest (s .args .layout .now) e (whole s)
+copied-room : (s : tie.Start) (copied rest : List (List ℕ)) → copied ≡ s .args .layout .now → s .args .run .size .count ≤ length (copied ++ rest)
+copied-room s copied rest e = written-room (s .args .run .size .count) copied rest (s .args .layout .now) e (whole s)
 
 array-borrow-prefix-present : tie.Need-array-borrow-prefix-present
 array-borrow-prefix-present c =
@@ -45,12 +45,12 @@ array-borrow-prefix-present c =
 slice-aggregate-copy : tie.Need-slice-aggregate-copy
 slice-aggregate-copy c =
     let at-start : tie.Start = search in
-    sym (fresh-part (at-start .args .size .count) (few at-start))
+    sym (fresh-part (at-start .args .run .size .count) (few at-start))
 
 copy-requires : tie.Need-copy-requires
 copy-requires c κs =
     let at-start : tie.Start = search in
-    fresh-part (at-start .args .size .count) (few at-start) ∙ sym (whole at-start)
+    fresh-part (at-start .args .run .size .count) (few at-start) ∙ sym (whole at-start)
 
 array-borrow-prefix-present-2 : tie.Need-array-borrow-prefix-present-2
 array-borrow-prefix-present-2 c =
@@ -73,7 +73,7 @@ rounds-requires c κs =
         given .weights,
         (
           subst (λ v. LaidOut (job at-start) v (at-start .args .penalties .now)) (sym present) (at-start .pre .1 .1 .1 .0),
-          (at-start .pre .1 .1 .1 .1 .0, (sym present, ((at-start .pre .1 .0, given .few), at-start .pre .1 .1 .1 .1 .1))),
+          (sym present, (at-start .pre .1 .0, at-start .pre .1 .1 .1 .1)),
         ),
       ),
     )
@@ -92,13 +92,12 @@ returns c =
     let at-start = entry at-copy in
     let made = at-rounds .rounds in
     subst
-    (λ v. Ran (job at-start) v (at-start .args .weights .now) (at-start .args .count) (at-start .args .budget) (made .result)
-    (made .last .1 .1 .1 .1 .1 .1 .1 .1 .1 .0) (made .last .1 .1 .1 .1 .1 .1 .1 .1 .1 .1 .0))
+    (λ v. Ran (job at-start) v (at-start .args .weights .now) (at-start .args .terms .count) (at-start .args .terms .budget) (made .result)
+    (made .last .1 .1 .1 .1 .1 .1 .1 .1 .0) (made .last .1 .1 .1 .1 .1 .1 .1 .1 .1 .0))
     (copied-part at-start _ _ (at-copy .copy .ensures)) (made .ensures)
 
 pub take-rounds-spec : {M : Type 1} → statement M
 take-rounds-spec =
     tie.close (tie.spec
     array-borrow-prefix-present slice-aggregate-copy copy-requires array-borrow-prefix-present-2 slice-aggregate-rounds rounds-requires
-    (search needs) (search needs) (search needs) (search needs) (search needs) (search needs) (search needs) (search needs) (search needs)
-    returns)
+    (search needs) (search needs) (search needs) (search needs) (search needs) returns)

@@ -13,16 +13,16 @@ ready-maps-requires c κs =
     let long = made .empty-maps .ensures in
     (s .pre .0 .laid .well, (omega arith, omega arith))
 
-with-row-lines-requires : tie.Need-with-row-lines-requires
-with-row-lines-requires c κs =
+with-lines-requires : tie.Need-with-lines-requires
+with-lines-requires c κs =
     let s : tie.Start = search in
     let ready : tie.After-ready-maps = search in
-    (s .pre .0, (s .pre .1 .0, (s .pre .1 .1 .0, (s .pre .1 .1 .1 .0, (ready .ready-maps .ensures, s .pre .1 .1 .1 .1)))))
+    (s .pre .0, (s .pre .1 .0, (s .pre .1 .1 .0, (s .pre .1 .1 .1 .0, (s .pre .1 .1 .1 .1, ready .ready-maps .ensures)))))
 
 returns : tie.Need-returns
-returns c = let ran : tie.After-with-row-lines = search in ran .with-row-lines .ensures
+returns c = let ran : tie.After-with-lines = search in ran .with-lines .ensures
 
 pub with-own-maps-spec : {M : Type 1} → statement M
 with-own-maps-spec =
     tie.close (tie.spec
-    (search needs) slice-aggregate-ready-maps ready-maps-requires (search needs) with-row-lines-requires (search needs) (search needs) (search needs) returns)
+    (search needs) slice-aggregate-ready-maps ready-maps-requires (search needs) with-lines-requires (search needs) (search needs) (search needs) returns)

@@ -45,8 +45,8 @@ make-shapes-requires c κs =
 array-share-prefix-trials : tie.Need-array-share-prefix-trials
 array-share-prefix-trials c = let listed : tie.After-make-trials = search in enough listed
 
-slice-aggregate-with-workspace-4 : tie.Need-slice-aggregate-with-workspace-4
-slice-aggregate-with-workspace-4 c =
+slice-aggregate-with-workspace-3 : tie.Need-slice-aggregate-with-workspace-3
+slice-aggregate-with-workspace-3 c =
     let listed : tie.After-make-trials = search in
     front-length (listed .make-trials .result) (listed .make-trials .last .1 .1 .0) (enough listed)
 
@@ -77,5 +77,5 @@ pub with-strips-spec : {M : Type 1} → statement M
 with-strips-spec =
     tie.close (tie.spec
     penalties-of-requires (search needs) make-trials-requires (search needs) slice-aggregate-make-shapes (search needs) make-shapes-requires
-    (search needs) (search needs) (search needs) array-share-prefix-trials slice-aggregate-with-workspace-4 with-workspace-requires
+    (search needs) (search needs) array-share-prefix-trials slice-aggregate-with-workspace-3 (search needs) with-workspace-requires
     (search needs) (search needs) (search needs) returns)

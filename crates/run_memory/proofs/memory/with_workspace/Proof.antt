@@ -51,17 +51,17 @@ ready-maps-requires c κs =
     let least = enough .if1 .left in
     (s .pre .0 .laid .well, (omega arith, omega arith))
 
-with-row-lines-requires : tie.Need-with-row-lines-requires
-with-row-lines-requires c κs =
+with-lines-requires : tie.Need-with-lines-requires
+with-lines-requires c κs =
     let s : tie.Start = search in
     let ready : tie.After-ready-maps = search in
-    (s .pre .0, (s .pre .1 .0, (s .pre .1 .1 .0, (s .pre .1 .1 .1 .0, (ready .ready-maps .ensures, s .pre .1 .1 .1 .1)))))
+    (s .pre .0, (s .pre .1 .0, (s .pre .1 .1 .0, (s .pre .1 .1 .1 .0, (s .pre .1 .1 .1 .1, ready .ready-maps .ensures)))))
 
 returns-2 : tie.Need-returns-2
-returns-2 c = let ran : tie.After-with-row-lines = search in ran .with-row-lines .ensures
+returns-2 c = let ran : tie.After-with-lines = search in ran .with-lines .ensures
 
 pub with-workspace-spec : {M : Type 1} → statement M
 with-workspace-spec =
     tie.close (tie.spec
     (search needs) with-own-maps-requires (search needs) (search needs) (search needs) returns slice-relend-prefix-maps slice-aggregate-maps
-    ready-maps-requires with-row-lines-requires (search needs) (search needs) (search needs) (search needs) returns-2)
+    ready-maps-requires with-lines-requires (search needs) (search needs) (search needs) (search needs) returns-2)

@@ -1,34 +1,33 @@
 -- `search_bounded::others::add_others` meets its contract. The loop's invariant: the sums are those of the pieces before the next one that is
 -- left. Assumes nothing.
 use Rattle.list_laws.proofs.Kit.{_∙_, _≡_, refl, _-_, arith, length, needs}
-use Rattle.model.specs.Piece.{lineDirection}
 use Rattle.model.specs.Lent.{lentBy, jobOf}
 use Rattle.model.specs.Buffer.{layoutOf}
 use Rattle.job_laws.proofs.Checked.{facts}
 use lib.Count.{trailing-le}
 use Rattle.search_bits.proofs.Lowest.{cleared-lt}
-use Rattle.search_bounded.specs.Ready.{LinesReady}
-use Rattle.search_bounded.proofs.Readings.{entries-all}
+use Rattle.search_beside.specs.Ready.{LinesReady}
+use Rattle.search_beside.proofs.Readings.{entries-all}
 use Rattle.search_bounded.proofs.Near.{Adding, adding-start, adding-at, adding-step, adding-end}
 use Rattle.search_bounded.proofs.others.add_others.Statement.{statement}
 use Rattle.search_bounded.proofs.others.add_others.Tie as tie
 
 abbrev Inv-loop : tie.InvT-loop
-Inv-loop size table pixels strips starts layout weights mover track bound width lines₀ tags₀ sums₀ maps₀ left₀ lines tags sums maps left =
-    (length lines ≡ length lines₀) × (length tags ≡ length tags₀) × (length sums ≡ length sums₀) × (length maps ≡ length maps₀)
-    × Adding (jobOf (lentBy size table pixels)) weights (layoutOf layout) mover bound (size .count) left sums
-    × LinesReady (lentBy size table pixels) (lineDirection (mover .line)) strips starts layout width lines tags maps
+Inv-loop run table pixels strips starts layout weights wanted lines₀ maps₀ sums₀ left₀ lines maps sums left =
+    (length lines ≡ length lines₀) × (length maps ≡ length maps₀) × (length sums ≡ length sums₀)
+    × Adding (jobOf (lentBy (run .size) table pixels)) weights (layoutOf layout) (wanted .sweep .mover) (wanted .bound) (run .size .count) left sums
+    × LinesReady (lentBy (run .size) table pixels) run strips starts lines maps
 
 abbrev μ-loop : tie.MeasureT-loop
-μ-loop size table pixels strips starts layout weights mover track bound width lines₀ tags₀ sums₀ maps₀ left₀ lines tags sums maps left = left
+μ-loop run table pixels strips starts layout weights wanted lines₀ maps₀ sums₀ left₀ lines maps sums left = left
 
 near-pieces-requires : tie.Need-near-pieces-requires Inv-loop μ-loop
 near-pieces-requires c κs =
     let at-start : tie.Start Inv-loop μ-loop = search in
     let a = at-start .args in
-    let l = lentBy (a .size) (a .table .now) (a .pixels .now) in
-    let e = entries-all l (a .layout .now) (at-start .pre .0 .laid) in
-    (at-start .pre .1 .1 .0 .small, (facts l (at-start .pre .0 .laid .well) .fewPieces, e))
+    let l = lentBy (a .run .size) (a .table .now) (a .pixels .now) in
+    let e = entries-all l (a .layout .now) (at-start .pre .1 .0) in
+    (at-start .pre .1 .1 .1 .0 .small, (facts l (at-start .pre .0 .well) .fewPieces, e))
 
 loop-holds : tie.Need-loop-holds Inv-loop μ-loop
 loop-holds c =
@@ -37,8 +36,8 @@ loop-holds c =
       refl,
       refl,
       refl,
-      refl,
-      adding-start _ (a .weights .now) _ _ (a .bound) _ _ (a .sums .now) (c .near-pieces .ensures (a .pixels .now) (at-start .pre .1 .1 .0)) (at-start .pre .1 .1 .1),
+      adding-start _ (a .weights .now) _ _ (a .wanted .bound) _ _ (a .sums .now) (c .near-pieces .ensures (a .pixels .now) (at-start .pre .1 .1 .1 .0))
+          (at-start .pre .1 .1 .1 .1),
       at-start .pre .0,
     )
 
@@ -53,8 +52,8 @@ add-other-requires c κs =
     let at-loop : tie.At-loop Inv-loop μ-loop = search in
     let at-start : tie.Start Inv-loop μ-loop = search in
     let p = at-loop .loop in
-    let x = adding-at _ _ _ _ _ _ (p .left) (p .sums) (at-in .loop-test .taken) (p .inv .4) in
-    (p .inv .5, (at-start .pre .1 .0, (at-start .pre .1 .1 .0, (x .0, x .1))))
+    let x = adding-at _ _ _ _ _ _ (p .left) (p .sums) (at-in .loop-test .taken) (p .inv .3) in
+    (p .inv .4, (at-start .pre .1 .0, (at-start .pre .1 .1 .0, (at-start .pre .1 .1 .1 .0, (x .0, x .1)))))
 
 loop-less : tie.Need-loop-less Inv-loop μ-loop
 loop-less c =
@@ -70,11 +69,10 @@ loop-again c =
     let at-loop : tie.At-loop Inv-loop μ-loop = search in
     let p = at-loop .loop in
     let x = at-add-other .add-other in (
-      x .kept .1 .1 .1 .1 .1 .1 .1 .1 .1 .1 .1 .1 .0 ∙ p .inv .0,
-      x .kept .1 .1 .1 .1 .1 .1 .1 .1 .1 .1 .1 .1 .1 .0 ∙ p .inv .1,
-      x .kept .1 .1 .1 .1 .1 .1 .1 .1 .1 .1 .1 .1 .1 .1 .0 ∙ p .inv .2,
-      x .kept .1 .1 .1 .1 .1 .1 .1 .1 .1 .1 .1 .1 .1 .1 .1 .0 ∙ p .inv .3,
-      adding-step _ _ _ _ _ _ (p .left) (p .sums) (at-in .loop-test .taken) (p .inv .4) _ (x .ensures .0),
+      x .kept .1 .1 .1 .1 .1 .1 .1 .1 .1 .0 ∙ p .inv .0,
+      x .kept .1 .1 .1 .1 .1 .1 .1 .1 .1 .1 .0 ∙ p .inv .1,
+      x .kept .1 .1 .1 .1 .1 .1 .1 .1 .1 .1 .1 .0 ∙ p .inv .2,
+      adding-step _ _ _ _ _ _ (p .left) (p .sums) (at-in .loop-test .taken) (p .inv .3) _ (x .ensures .0),
       x .ensures .1,
     )
 
@@ -87,16 +85,13 @@ same-length-2 c = let at-loop : tie.At-loop Inv-loop μ-loop = search in at-loop
 same-length-3 : tie.Need-same-length-3 Inv-loop μ-loop
 same-length-3 c = let at-loop : tie.At-loop Inv-loop μ-loop = search in at-loop .loop .inv .2
 
-same-length-4 : tie.Need-same-length-4 Inv-loop μ-loop
-same-length-4 c = let at-loop : tie.At-loop Inv-loop μ-loop = search in at-loop .loop .inv .3
-
 returns : tie.Need-returns Inv-loop μ-loop
 returns c =
     let at-loop : tie.At-loop Inv-loop μ-loop = search in
     let p = at-loop .loop in
-    (adding-end _ _ _ _ _ _ (p .left) (p .sums) (c .loop-test .left) (p .inv .4), p .inv .5)
+    (adding-end _ _ _ _ _ _ (p .left) (p .sums) (c .loop-test .left) (p .inv .3), p .inv .4)
 
 pub add-others-spec : {M : Type 1} → statement M
 add-others-spec =
     tie.close (tie.spec Inv-loop μ-loop near-pieces-requires loop-holds cast-k add-other-requires (search needs) loop-less loop-again same-length same-length-2
-    same-length-3 same-length-4 returns)
+    same-length-3 returns)

@@ -1,0 +1,3 @@
+-- What the contracts of this crate cite beside the model's definitions.
+pub mod Ready
+pub mod Reading
