@@ -1,6 +1,7 @@
 -- Document 02, point 2, the cut list of a lent layout: a layout whose lines or steps are given passes the check, so that the request's claims
 -- hold of it, within document 01's limits; and the steps of the lines that are given are the layout's. Assumes nothing.
-use Rattle.list_laws.proofs.Kit.{_∙_, _≡_, ap, refl, subst, sym, true, List, [], _∷_, map, _*_, _<_, _≤_, suc, ℕ, arith, drop, length, length-map, take, take-at}
+use Rattle.list_laws.proofs.Kit.{_∙_, _≡_, ap, refl, subst, sym, true, List, [], _∷_, map}
+use Rattle.list_laws.proofs.Kit.{_*_, _<_, _≤_, suc, ℕ, arith, drop, length, length-map, take, take-at}
 use Rattle.list_laws.proofs.Tests.{said-yes}
 use Rattle.model.specs.Layout.{sharingPair}
 use Rattle.model.specs.Lent.{Lent, jobOf}

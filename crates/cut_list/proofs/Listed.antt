@@ -37,7 +37,8 @@ module _ (size : JobSize) (os : List ℕ) {before after after′ : List (List �
   both-count =
       let a : next ≡ 0 + length hs = rows .end in
       let b : next′ ≡ next + length vs = columns .end in
-      let c : length (map (cutLineOf Horizontal) hs ++ map (cutLineOf Vertical) vs) ≡ length (map (cutLineOf Horizontal) hs) + length (map (cutLineOf Vertical) vs) =
+      let c : length (map (cutLineOf Horizontal) hs ++ map (cutLineOf Vertical) vs)
+      ≡ length (map (cutLineOf Horizontal) hs) + length (map (cutLineOf Vertical) vs) =
       length-append (map (cutLineOf Horizontal) hs) (map (cutLineOf Vertical) vs) in
       let d : length (map (cutLineOf Horizontal) hs) ≡ length hs = length-map hs (cutLineOf Horizontal) in
       let e : length (map (cutLineOf Vertical) vs) ≡ length vs = length-map vs (cutLineOf Vertical) in
@@ -47,7 +48,8 @@ module _ (size : JobSize) (os : List ℕ) {before after after′ : List (List �
   pub both-stored : after′ ≡ sets before 0 (map lineEntry (ownedLines size os))
   unfolding ownedLines
   both-stored =
-      let first : length (lineEntries Horizontal hs) ≡ length hs = length-map (map (cutLineOf Horizontal) hs) lineEntry ∙ length-map hs (cutLineOf Horizontal) in
+      let first : length (lineEntries Horizontal hs) ≡ length hs =
+      length-map (map (cutLineOf Horizontal) hs) lineEntry ∙ length-map hs (cutLineOf Horizontal) in
       columns .stored
       ∙ ap₂ (λ (l : List (List ℕ)) (k : ℕ). sets l k (lineEntries Vertical vs)) (rows .stored) (rows .end ∙ ap (λ (k : ℕ). 0 + k) (sym first))
       ∙ sym (sets-append before 0 (lineEntries Horizontal hs) (lineEntries Vertical vs))

@@ -1,5 +1,6 @@
 -- A step by its number's half and its oddness. Assumes nothing.
-use Rattle.list_laws.proofs.Kit.{_∙_, _≡_, ap, refl, subst, sym, List, [], map, _*_, _+_, _/_, _%_, _<_, _≤_, ℕ, arith, getD, length, length-map, List·getD-map, _≢_}
+use Rattle.list_laws.proofs.Kit.{_∙_, _≡_, ap, refl, subst, sym, List, [], map}
+use Rattle.list_laws.proofs.Kit.{_*_, _+_, _/_, _%_, _<_, _≤_, ℕ, arith, getD, length, length-map, List·getD-map, _≢_}
 use Rattle.model.specs.Cut.{CutLine, lift, cut, done, smallerEnd, largerEnd, stepAt, entryLine}
 use Rattle.model.specs.declared.CutStep.{CutStep}
 use Rattle.model.specs.declared.CutStep.the-variants.{Done}

@@ -14,7 +14,8 @@ use Rattle.model.specs.Piece.{Shape}
 use Rattle.model.specs.Strip.{runsFrom, stripsFrom}
 use Rattle.model.specs.Layout.{Job, Layout}
 use Rattle.model.specs.Buffer.{turnOfDegrees, turnOf, placement, sameNumbers, sameEntries}
-use Rattle.model.specs.Cut.{sideOf, sides, unitCount, sideCount, totalLength, cutLines, Step, lift, cut, done, steps, stepAt, millimetres, stepIn, lineEntry}
+use Rattle.model.specs.Cut.{sideOf, sides, unitCount, sideCount, totalLength, cutLines}
+use Rattle.model.specs.Cut.{Step, lift, cut, done, steps, stepAt, millimetres, stepIn, lineEntry}
 use Rattle.model.specs.declared.CutStep.{CutStep}
 use Rattle.model.specs.declared.CutStep.the-variants.{Lift, Cut, Done}
 
@@ -140,6 +141,8 @@ cutExamples = squares && squareSteps && ring && renumbered && parts && pixelAlon
 
 -- they hold of the definitions
 pub cut-examples-hold : cutExamples ≡ true
-unfolding cutExamples squares squareSteps ring renumbered parts pixelAlone halfASide atTheEdge inMillimetres stepsInMillimetres full jobWith listed twoSquares sideBySide
-    ringShape ringLines runsFrom stripsFrom turnOfDegrees turnOf sameNumbers sameEntries sideOf sides unitCount sideCount totalLength cutLines steps stepAt millimetres eq round ofInt div
+unfolding cutExamples squares squareSteps ring renumbered parts pixelAlone halfASide atTheEdge inMillimetres stepsInMillimetres
+    full jobWith listed twoSquares sideBySide
+    ringShape ringLines runsFrom stripsFrom turnOfDegrees turnOf sameNumbers sameEntries
+    sideOf sides unitCount sideCount totalLength cutLines steps stepAt millimetres eq round ofInt div
 cut-examples-hold = refl

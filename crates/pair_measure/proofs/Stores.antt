@@ -1,6 +1,7 @@
 -- The strips of two pieces of a job in a local store: they are few enough to fit it, and each piece's part of it is its stretch, which
 -- the functions over strips can take. Assumes nothing.
-use Rattle.list_laws.proofs.Kit.{_∙_, _≡_, ap, subst, sym, List, _++_, append-assoc, map, _*_, _+_, _-_, _<_, _≤_, ℕ, mul-le-mul, arith, drop, length, length-map, take}
+use Rattle.list_laws.proofs.Kit.{_∙_, _≡_, ap, subst, sym, List, _++_, append-assoc, map}
+use Rattle.list_laws.proofs.Kit.{_*_, _+_, _-_, _<_, _≤_, ℕ, mul-le-mul, arith, drop, length, length-map, take}
 use Rattle.list_laws.proofs.Kit.{drop-at, length-sets, sets-eq, take-at}
 use Rattle.model.specs.Piece.{Shape, extent, other, corner}
 use Rattle.model.specs.Strip.{Strip, strips}

@@ -96,7 +96,9 @@ pub workspace-left : (input : List ℕ) (room : ℕ) (old written : List ℕ) (u
 unfolding programCall unless
 workspace-left input room old written used words same few =
     left-by (ltb room (length (programText input))) (plainRefusal wrongLength) (programText input) old (written ++ drop used old)
-    (λ t. let short : room < length (programText input) = ltb-true room (length (programText input)) t in none-lent old written used (words .none (omega arith)) same)
+    (λ t.
+    let short : room < length (programText input) = ltb-true room (length (programText input)) t in
+    none-lent old written used (words .none (omega arith)) same)
     (whole-length old written used (words .within) same)
 
 -- ── the answer ──

@@ -127,7 +127,8 @@ rounding-begin {l} count budget {layout} {best} {weights} some-piece h ready w e
       written = rw e (h .written);
     }
 
-module _ {l : Lent} {run : RunSize} {strips : List (List ℕ)} {starts ws₀ : List ℕ} {count budget : ℕ} {v₀ : Layout} (some-piece : 0 < jobOf l .size .count) where
+module _ {l : Lent} {run : RunSize} {strips : List (List ℕ)} {starts ws₀ : List ℕ} {count budget : ℕ} {v₀ : Layout}
+    (some-piece : 0 < jobOf l .size .count) where
   module _ {layout best : List (List ℕ)} {weights penalties lines maps : List ℕ} {sum made moves left : ℕ}
       (h : Rounding l run strips starts ws₀ count budget v₀ layout best weights penalties lines maps sum made moves left)
     where
@@ -214,7 +215,8 @@ module _ {l : Lent} {run : RunSize} {strips : List (List ℕ)} {starts ws₀ : L
 
           -- by its end
           round-at : (end : End) → e .end ≡ end
-              → Rounding l run strips starts ws₀ count budget v₀ layout′ best′ (raisedAfter (jobOf l) (layoutOf layout′) end weights) penalties′ lines′ maps′ sum′ (made + e .made) (moves + e .moves) (leftAfter end left)
+              → Rounding l run strips starts ws₀ count budget v₀ layout′ best′ (raisedAfter (jobOf l) (layoutOf layout′) end weights)
+              penalties′ lines′ maps′ sum′ (made + e .made) (moves + e .moves) (leftAfter end left)
           round-at Clear c = round-clear c
           round-at Settled c = round-open (λ q. never (sym c ∙ q))
             where

@@ -63,7 +63,9 @@ module _ (l : Lent) (v : Layout) (m : Mover) (t : Track) (s : StandingPiece) (k 
               let i : ℕ = a - r .low in
               let e : r .low + i ≡ a = omega arith in
               let g : getD part i 0 ≡ moverPenalty (jobOf l) v m a k =
-              getD-take n (drop (slot + r .from) lines) i 0 (omega arith) ∙ getD-drop (slot + r .from) lines i 0 ∙ reach-at l v m t s k r lines slot track standing touching line a low high in
+              getD-take n (drop (slot + r .from) lines) i 0 (omega arith)
+              ∙ getD-drop (slot + r .from) lines i 0
+              ∙ reach-at l v m t s k r lines slot track standing touching line a low high in
               subst (λ (z : ℕ). getD after z 0 ≡ getD before z 0 + partAt (jobOf l) ws v m a k) e
               (h .part i (omega arith) ∙ ap₂ (λ (x y : ℕ). getD before (r .low + i) 0 + x * y) w g);
           below = λ a b. h .below a b;

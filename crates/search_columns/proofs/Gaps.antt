@@ -1,5 +1,6 @@
 -- The nearest clear bit of a row, to both sides of a place. Assumes nothing.
-use Rattle.list_laws.proofs.Kit.{_∙_, _≡_, ap, refl, subst, sym, Bool, _&&_, false, not, true, _⊎_, inl, inr, List, _%_, _*_, _+_, _-_, _<_, _^_, _≤_, min, ℕ, _/_, arith}
+use Rattle.list_laws.proofs.Kit.{_∙_, _≡_, ap, refl, subst, sym, Bool, _&&_, false, not, true, _⊎_, inl, inr, List}
+use Rattle.list_laws.proofs.Kit.{_%_, _*_, _+_, _-_, _<_, _^_, _≤_, min, ℕ, _/_, arith}
 use Rattle.list_laws.proofs.Numbers.{below-or}
 use Rattle.list_laws.proofs.Tests.{and-both, clash, first-fails, second-fails}
 use lib.Count.{trailingZeros, leadingZeros, leading-le}

@@ -32,7 +32,8 @@ copy-more xs from to k ys lf lt g =
 -- the source, which lies before the row, is as it was
 pub within-step : (xs : List ℕ) (at start blocks s : ℕ) (ys : List ℕ) (low j : ℕ) → j < blocks → at + j < length ys → start + blocks ≤ at
     → getD ys (start + (j - s / 64)) 0 < 18446744073709551616 → Moving xs at xs start blocks s ys low j
-    → Moving xs at xs start blocks s (set ys (at + j) (bitOr (getD ys (at + j) 0) (moved (getD ys (start + (j - s / 64)) 0) low (s % 64)))) (getD ys (start + (j - s / 64)) 0) (j + 1)
+    → Moving xs at xs start blocks s (set ys (at + j) (bitOr (getD ys (at + j) 0) (moved (getD ys (start + (j - s / 64)) 0) low (s % 64))))
+    (getD ys (start + (j - s / 64)) 0) (j + 1)
 within-step xs at start blocks s ys low j jb jl ls h g =
     let e : getD ys (start + (j - s / 64)) 0 ≡ getD xs (start + (j - s / 64)) 0 = g .before (start + (j - s / 64)) (omega arith) in
     subst (λ (a : ℕ). Moving xs at xs start blocks s (set ys (at + j) (bitOr (getD ys (at + j) 0) (moved a low (s % 64)))) a (j + 1)) (sym e)

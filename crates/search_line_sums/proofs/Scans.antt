@@ -1,5 +1,6 @@
 -- Loops over the sums at the places of a line: the least one so far, and sums to which a line is added. Assumes nothing.
-use Rattle.list_laws.proofs.Kit.{_∙_, _≡_, ap, ap₂, refl, subst, sym, Bool, _||_, false, true, zero, suc, List, _*_, _+_, _-_, _<_, _≤_, ℕ, mul-le-mul, arith, getD, length, set}
+use Rattle.list_laws.proofs.Kit.{_∙_, _≡_, ap, ap₂, refl, subst, sym, Bool, _||_, false, true, zero, suc, List}
+use Rattle.list_laws.proofs.Kit.{_*_, _+_, _-_, _<_, _≤_, ℕ, mul-le-mul, arith, getD, length, set}
 use Rattle.list_laws.proofs.Kit.{_⊎_, inl, inr, add-one, ltb, ltb-false}
 use Rattle.list_laws.proofs.Numbers.{below-or}
 use Rattle.list_laws.proofs.Bounded.{any-witness, any-from, any-none}
@@ -110,7 +111,8 @@ scan-all sums bound (suc n) h =
 pub scan-nothing : (sums : List ℕ) (bound : ℕ) → anyBelow (length sums) (λ a. ltb (getD sums a 0) bound) ≡ false
     → Nothing ≡ foundAnswer (belowBound (sumOf sums) (length sums) bound)
 scan-nothing sums bound e =
-    scan-none sums bound bound 0 (length sums) (scan-all sums bound (length sums) (any-none (length sums) (λ a. ltb (getD sums a 0) bound) e)) refl (omega arith)
+    scan-none sums bound bound 0 (length sums)
+    (scan-all sums bound (length sums) (any-none (length sums) (λ a. ltb (getD sums a 0) bound) e)) refl (omega arith)
 
 -- ── adding a line ──
 

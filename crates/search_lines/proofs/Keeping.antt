@@ -173,7 +173,8 @@ module _ (j : Job) (r : RunSize) where
                 → keyAt new (n * r .width) ≡ keyOf d′ (shapeNumber i′ t′) (shapeNumber k′ u′) offset′ → Dec (n ≡ m)
                 → HoldsLine d′ (turnedPiece j i′ t′) (turnedPiece j k′ u′) offset′ new (n * r .width + keyBytes)
             by-slot n i′ k′ t′ u′ d′ offset′ l a b c e (yes h) =
-                rw h (own-slot i′ k′ t′ u′ d′ offset′ a b c (sym is ∙ sym (put .key-is) ∙ subst (λ (z : ℕ). keyAt new (z * r .width) ≡ keyOf d′ (shapeNumber i′ t′) (shapeNumber k′ u′) offset′) h e))
+                rw h (own-slot i′ k′ t′ u′ d′ offset′ a b c
+                (sym is ∙ sym (put .key-is) ∙ subst (λ (z : ℕ). keyAt new (z * r .width) ≡ keyOf d′ (shapeNumber i′ t′) (shapeNumber k′ u′) offset′) h e))
             by-slot n i′ k′ t′ u′ d′ offset′ l a b c e (no h) =
                 let w = wide i′ k′ t′ u′ d′ a b in
                 λ x y. other-byte-of n x h (omega arith) ∙ kept .holds n i′ k′ t′ u′ d′ offset′ l a b c (sym (other-key n h) ∙ e) x y

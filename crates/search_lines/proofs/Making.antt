@@ -113,7 +113,8 @@ module _ (l : Lent) (store : List (List ℕ)) (starts : List ℕ) (two : Two) (a
           standing-entries Horizontal (two .«standing_turn») s es h,
         )
 
-    module _ (es fs : List (List ℕ)) (key : ℕ) (first : es ≡ entries Horizontal (turned Half (movedShape l two))) (second : fs ≡ entries Horizontal (standingShape l two))
+    module _ (es fs : List (List ℕ)) (key : ℕ) (first : es ≡ entries Horizontal (turned Half (movedShape l two)))
+        (second : fs ≡ entries Horizontal (standingShape l two))
         (keyed : key ≡ mapKeyOfTwo two) where
       -- the key's shapes are these
       moved-is : movedOf (jobOf l) key ≡ movedShape l two

@@ -15,7 +15,8 @@ module _ (z : Sides) (f : SidesFit z) where
   all-rows =
       let e : rowsOf z + 1 ≡ z .«moved_across» + z .«standing_across» = omega (arith, f .moved-across .low) in
       let h : (rowsOf z + 1) * rowWidth z ≤ (z .«moved_across» + z .«standing_across») * rowWidth z = mul-le-mul-right (rowWidth z) (omega arith) in
-      let q : (z .«moved_across» + z .«standing_across» + 1) * rowWidth z ≡ (z .«moved_across» + z .«standing_across») * rowWidth z + rowWidth z = omega arith in
+      let q : (z .«moved_across» + z .«standing_across» + 1) * rowWidth z
+      ≡ (z .«moved_across» + z .«standing_across») * rowWidth z + rowWidth z = omega arith in
       omega arith
 
   -- a cell stands past the first row and before the last

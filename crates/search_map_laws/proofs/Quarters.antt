@@ -194,7 +194,8 @@ module _ (a b : Shape) (t u : Turn) (o k : ℕ) where
       let f = quarter-after u b .columns in
       line-same Vertical (turned t a) (turned u b) (turned Quarter s) (turned Quarter r) o k (quarter-after t a) (quarter-after u b)
       ∙ column-quarter s r o k (omega arith)
-      ∙ ap (λ (n : ℕ). linePenalty Horizontal s r n k) (let z : 510 + s .rows - (r .rows + o) ≡ 510 + turned t a .columns - (turned u b .columns + o) = omega arith in z)
+      ∙ ap (λ (n : ℕ). linePenalty Horizontal s r n k)
+      (let z : 510 + s .rows - (r .rows + o) ≡ 510 + turned t a .columns - (turned u b .columns + o) = omega arith in z)
 
   -- the sides are exchanged
   pub sides-back : (s .rows ≡ turned t a .columns) × (s .columns ≡ turned t a .rows) × (r .rows ≡ turned u b .columns) × (r .columns ≡ turned u b .rows)

@@ -1,5 +1,6 @@
 -- A line from a row or a column of a map: where it is read, and what it holds. Assumes nothing.
-use Rattle.list_laws.proofs.Kit.{_∙_, _≡_, ap, ap₂, subst, subst₂, subst₃, sym, _&&_, false, _⊎_, inl, inr, ⊎-elim, List, _*_, _+_, _-_, _<_, _≤_, min, ℕ, arith, getD}
+use Rattle.list_laws.proofs.Kit.{_∙_, _≡_, ap, ap₂, subst, subst₂, subst₃, sym, _&&_, false, _⊎_, inl, inr, ⊎-elim, List}
+use Rattle.list_laws.proofs.Kit.{_*_, _+_, _-_, _<_, _≤_, min, ℕ, arith, getD}
 use Rattle.list_laws.proofs.Kit.{List·getD-eq-default, length, mul-le-mul-right}
 use Rattle.list_laws.proofs.Numbers.{below-or}
 use Rattle.list_laws.proofs.Tests.{first-fails, second-fails}
@@ -63,7 +64,9 @@ module _ (z : Sides) (ws : List ℕ) (f : SidesFit z) (small : ByteSides z) (b :
         low = mul-le-mul-right (rowWidth z) (omega arith);
         high = omega (arith, f .moved-along .low);
         room = b .short;
-        ends = λ x l. far-clear x l (⊎-elim (λ (h : row < rowsOf z + 1 - row). inl (omega arith)) (λ (h : rowsOf z + 1 - row ≤ row). inr (omega arith)) (below-or row (rowsOf z + 1 - row)));
+        ends = λ x l.
+            far-clear x l (⊎-elim (λ (h : row < rowsOf z + 1 - row). inl (omega arith)) (λ (h : rowsOf z + 1 - row ≤ row). inr (omega arith))
+            (below-or row (rowsOf z + 1 - row)));
       }
 
   -- so it is for the width that the code has
@@ -72,7 +75,8 @@ module _ (z : Sides) (ws : List ℕ) (f : SidesFit z) (small : ByteSides z) (b :
 
 -- the row's place is small
 pub row-small : (z : Sides) (row w : ℕ) → SidesFit z → w ≡ rowWidth z → row ≤ rowsOf z → (row * w ≤ 541 * w) × (w ≤ 542)
-row-small z row w f e h = (mul-le-mul-right w (omega (arith, f .moved-across .high, f .standing-across .high)), omega (arith, f .moved-along .high, f .standing-along .high))
+row-small z row w f e h =
+    (mul-le-mul-right w (omega (arith, f .moved-across .high, f .standing-across .high)), omega (arith, f .moved-along .high, f .standing-along .high))
 
 -- ── what a line holds ──
 
@@ -158,7 +162,9 @@ module _ (z : Sides) (ws : List ℕ) (f : SidesFit z) (small : ByteSides z) (b :
             let i : (y + 1) * rowWidth z ≡ y * rowWidth z + rowWidth z = omega arith in
             record {
               reach = wall;
-              clear = wall-clear y l (⊎-elim (λ (h : X + 1 < columnsOf z - X). inl (omega arith)) (λ (h : columnsOf z - X ≤ X + 1). inr (omega arith)) (below-or (X + 1) (columnsOf z - X)));
+              clear =
+                  wall-clear y l (⊎-elim (λ (h : X + 1 < columnsOf z - X). inl (omega arith)) (λ (h : columnsOf z - X ≤ X + 1). inr (omega arith))
+                  (below-or (X + 1) (columnsOf z - X)));
               few = omega (arith, small .moved-along, small .standing-along);
               low = omega arith;
               high = omega arith;
@@ -168,7 +174,10 @@ module _ (z : Sides) (ws : List ℕ) (f : SidesFit z) (small : ByteSides z) (b :
       }
     where
       rows-few : (rowsOf z * rowWidth z ≤ 541 * rowWidth z) × (rowWidth z ≤ 542)
-      rows-few = (mul-le-mul-right (rowWidth z) (omega (arith, f .moved-across .high, f .standing-across .high)), omega (arith, f .moved-along .high, f .standing-along .high))
+      rows-few = (
+        mul-le-mul-right (rowWidth z) (omega (arith, f .moved-across .high, f .standing-across .high)),
+        omega (arith, f .moved-along .high, f .standing-along .high),
+      )
 
   -- it ends at the clear rows
   column-ended : Ended ws (rowWidth z) (rowWidth z + X) (rowsOf z)

@@ -280,4 +280,6 @@ pub far-penalty : (d : Direction) (s t : Shape) (offset k : ℕ) → (middle + e
 unfolding linePenalty
 far-penalty d s t offset k h =
     penalty-zero s (point d k middle) t (point d (extent d s - 1) offset)
-    (fails _ (λ e. let n = share-near d s t k middle (extent d s - 1) offset e in ⊎-elim (λ (l : middle + extent (other d) s ≤ offset). omega arith) (λ (l : offset + extent (other d) t ≤ middle). omega arith) h))
+    (fails _ (λ e.
+    let n = share-near d s t k middle (extent d s - 1) offset e in
+    ⊎-elim (λ (l : middle + extent (other d) s ≤ offset). omega arith) (λ (l : offset + extent (other d) t ≤ middle). omega arith) h))

@@ -1,5 +1,6 @@
 -- Numbers of maps, and strips that lie in a box. Assumes nothing.
-use Rattle.list_laws.proofs.Kit.{_≡_, ap, ap₂, subst, subst₂, sym, List, _*_, _+_, _-_, _/_, _<_, _^_, _≤_, ℕ, add-zero, arith, length, mul-le-mul, mul-le-mul-right}
+use Rattle.list_laws.proofs.Kit.{_≡_, ap, ap₂, subst, subst₂, sym, List}
+use Rattle.list_laws.proofs.Kit.{_*_, _+_, _-_, _/_, _<_, _^_, _≤_, ℕ, add-zero, arith, length, mul-le-mul, mul-le-mul-right}
 use Rattle.model.specs.Piece.{Shape, other, extent}
 use Rattle.model.specs.Strip.{strips}
 use Rattle.model.specs.declared.Direction.{Direction}

@@ -259,7 +259,8 @@ module _ (d : Direction) (s t : Shape) (bs xs ys zs : List ℕ)
           room = let p = made .same in let q = clear .same in omega arith;
           cells = λ X Y l m.
               same-tests _ _
-              (λ h. meets-shared d s t X Y (at-cell X Y (omega arith) (found (cellPlace (sidesOf d s t) X Y) (cell-in (sidesOf d s t) X Y (omega arith) (omega arith)) h)))
+              (λ h. meets-shared d s t X Y
+              (at-cell X Y (omega arith) (found (cellPlace (sidesOf d s t) X Y) (cell-in (sidesOf d s t) X Y (omega arith) (omega arith)) h)))
               (λ h. set-at X Y (shared-meets d s t X Y h));
           only = λ p l h.
               let k = found p l h in
@@ -273,7 +274,8 @@ pub map-from : (d : Direction) (s t : Shape) (z : Sides) (moved standing : List 
     → MapFilled standing z (levelOf gs (markWords z) 0) xs zs → MapOf d s t zs
 map-from d s t z moved standing levels gs xs zs ez em et v room m =
     subst₃
-    (λ (y : Sides) (es fs : List (List ℕ)). LevelsMade es y levels gs → mapWords y ≤ length xs → MapFilled fs y (levelOf gs (markWords y) 0) xs zs → MapOf d s t zs)
+    (λ (y : Sides) (es fs : List (List ℕ)). LevelsMade es y levels gs → mapWords y ≤ length xs
+    → MapFilled fs y (levelOf gs (markWords y) 0) xs zs → MapOf d s t zs)
     (sym ez) (sym em) (sym et)
     (λ v′ r m′. map-made d s t (levelOf gs (markWords (sidesOf d s t)) 0) xs (m′ .cleared) zs (v′ .marks) (m′ .clear) r (m′ .made))
     v room m

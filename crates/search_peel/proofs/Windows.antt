@@ -26,7 +26,9 @@ module _ (ws : List ℕ) (p : ℕ) (ha : getD ws (p / 64) 0 < 184467440737095516
   pub window : BitsAt ws p (bitOr (getD ws (p / 64) 0 / 2 ^ (p % 64)) (getD ws (p / 64 + 1) 0 * 2 ^ 1 % 2 ^ 64 * 2 ^ (63 - p % 64) % 2 ^ 64))
   window =
       record {
-        small = or-lt 64 (getD ws (p / 64) 0 / 2 ^ (p % 64)) (getD ws (p / 64 + 1) 0 * 2 ^ 1 % 2 ^ 64 * 2 ^ (63 - p % 64) % 2 ^ 64) (omega (arith, shr-le (getD ws (p / 64) 0) (p % 64))) (mod-lt (getD ws (p / 64 + 1) 0 * 2 ^ 1 % 2 ^ 64 * 2 ^ (63 - p % 64)) (pow-pos 64));
+        small =
+            or-lt 64 (getD ws (p / 64) 0 / 2 ^ (p % 64)) (getD ws (p / 64 + 1) 0 * 2 ^ 1 % 2 ^ 64 * 2 ^ (63 - p % 64) % 2 ^ 64)
+            (omega (arith, shr-le (getD ws (p / 64) 0) (p % 64))) (mod-lt (getD ws (p / 64 + 1) 0 * 2 ^ 1 % 2 ^ 64 * 2 ^ (63 - p % 64)) (pow-pos 64));
         each = λ i l.
             bit-or (getD ws (p / 64) 0 / 2 ^ (p % 64)) (getD ws (p / 64 + 1) 0 * 2 ^ 1 % 2 ^ 64 * 2 ^ (63 - p % 64) % 2 ^ 64) i
             ∙ ap₂ _||_ (bit-shr (getD ws (p / 64) 0) (p % 64) i) (bit-shl 64 (getD ws (p / 64 + 1) 0 * 2 ^ 1 % 2 ^ 64) (63 - p % 64) i l)
@@ -72,10 +74,13 @@ inner-from ws w p r v a b c d lr lf ha hb hc hd =
           let ec : p + r * w + i ≡ p + i + r * w = omega arith in
           let ed : p - r * w + i ≡ p + i - r * w = omega arith in
           bit-and (bitAnd (bitAnd (bitAnd v a) b) c) d i
-          ∙ ap (λ (x : Bool). x && bitAt d i) (bit-and (bitAnd (bitAnd v a) b) c i ∙ ap (λ (x : Bool). x && bitAt c i) (bit-and (bitAnd v a) b i ∙ ap (λ (x : Bool). x && bitAt b i) (bit-and v a i)))
+          ∙ ap (λ (x : Bool). x && bitAt d i)
+          (bit-and (bitAnd (bitAnd v a) b) c i
+          ∙ ap (λ (x : Bool). x && bitAt c i) (bit-and (bitAnd v a) b i ∙ ap (λ (x : Bool). x && bitAt b i) (bit-and v a i)))
           ∙ and-four (bitAt v i) (bitAt a i) (bitAt b i) (bitAt c i) (bitAt d i)
           ∙ ap (λ (x : Bool). bitAt v i && x)
-          (ap₂ _&&_ (ap₂ _&&_ (ap₂ _&&_ (ha .each i l ∙ ap (bitIn ws) ea) (hb .each i l ∙ ap (bitIn ws) eb)) (hc .each i l ∙ ap (bitIn ws) ec)) (hd .each i l ∙ ap (bitIn ws) ed));
+          (ap₂ _&&_ (ap₂ _&&_ (ap₂ _&&_ (ha .each i l ∙ ap (bitIn ws) ea) (hb .each i l ∙ ap (bitIn ws) eb)) (hc .each i l ∙ ap (bitIn ws) ec))
+          (hd .each i l ∙ ap (bitIn ws) ed));
     }
 
 -- a row is no shorter than a step

@@ -61,7 +61,8 @@ module _ (j : Job) (v : Layout) (k : ℕ) (p : Placement) (s : Sides) (placed : 
 
 -- they meet nowhere unless both tests across pass
 pub told-both : (t : Track) (s : StandingPiece) → MeetingTold t s (ltb (t .held) (s .across + s .width) && ltb (s .across) (t .held + t .width))
-told-both t s = record { apart = λ e a m. clash (and-both (lt-ltb (t .held) (s .across + s .width) (m .below)) (lt-ltb (s .across) (t .held + t .width) (m .above))) e }
+told-both t s =
+    record { apart = λ e a m. clash (and-both (lt-ltb (t .held) (s .across + s .width) (m .below)) (lt-ltb (s .across) (t .held + t .width) (m .above))) e }
 
 -- boxes that are apart across meet nowhere
 pub reach-none : (t : Track) (s : StandingPiece) → ((a : ℕ) → BoxesMeet t s a → ⊥) → MeetingReach t s (record { low = 0; high = 0; from = 0 })

@@ -37,7 +37,8 @@ module _ (fs : List ℕ) (start s j low i : ℕ) (l : i < 64) (ge : s / 64 ≤ j
           simp (le-leb (s % 64) i m, le-leb s (j * 64 + i) (omega arith), bit-above 64 low (64 - s % 64 + i) (lo .small) (omega arith))
           (or-false _ ∙ sym (bit-in fs (start + (j - s / 64)) (i - s % 64) (start * 64 + (j * 64 + i - s)) (omega arith) (omega arith)))
       go (inl m) (yes e) =
-          simp (lt-leb (s % 64) i m, lt-leb s (j * 64 + i) (omega arith)) (ap (λ (n : ℕ). bitAt n (64 - s % 64 + i)) (lo .none e) ∙ bit-of-zero (64 - s % 64 + i))
+          simp (lt-leb (s % 64) i m, lt-leb s (j * 64 + i) (omega arith))
+          (ap (λ (n : ℕ). bitAt n (64 - s % 64 + i)) (lo .none e) ∙ bit-of-zero (64 - s % 64 + i))
       go (inl m) (no f) =
           simp (lt-leb (s % 64) i m, le-leb s (j * 64 + i) (omega arith))
           (ap (λ (n : ℕ). bitAt n (64 - s % 64 + i)) (lo .one (omega arith))
@@ -72,7 +73,8 @@ module _ (xs : List ℕ) (at : ℕ) (fs : List ℕ) (start blocks s : ℕ) where
   -- one more word
   pub move-step : (ys : List ℕ) (low j : ℕ) → j < blocks → at + j < length ys → getD fs (start + (j - s / 64)) 0 < 18446744073709551616
       → Moving xs at fs start blocks s ys low j
-      → Moving xs at fs start blocks s (set ys (at + j) (bitOr (getD ys (at + j) 0) (moved (getD fs (start + (j - s / 64)) 0) low (s % 64)))) (getD fs (start + (j - s / 64)) 0) (j + 1)
+      → Moving xs at fs start blocks s (set ys (at + j) (bitOr (getD ys (at + j) 0) (moved (getD fs (start + (j - s / 64)) 0) low (s % 64))))
+      (getD fs (start + (j - s / 64)) 0) (j + 1)
   unfolding orBit
   move-step ys low j jb jl small g =
       record {
@@ -99,10 +101,13 @@ module _ (xs : List ℕ) (at : ℕ) (fs : List ℕ) (start blocks s : ℕ) where
           ap (λ (n : ℕ). bitAt (getD (set ys (at + j) (bitOr (getD ys (at + j) 0) (moved (getD fs (start + (j - s / 64)) 0) low (s % 64)))) (at + n) 0) i) e
           ∙ ap (λ (n : ℕ). bitAt n i) (getD-set-same ys (at + j) (bitOr (getD ys (at + j) 0) (moved (getD fs (start + (j - s / 64)) 0) low (s % 64))) 0 jl)
           ∙ bit-or (getD ys (at + j) 0) (moved (getD fs (start + (j - s / 64)) 0) low (s % 64)) i
-          ∙ ap₂ _||_ (ap (λ (n : ℕ). bitAt n i) (g .rest (at + j) (omega arith)) ∙ sym (bit-in xs (at + j) i (at * 64 + (j * 64 + i)) m (omega arith))) (moved-at fs start s j low i m (g .ge) (g .lo))
+          ∙ ap₂ _||_ (ap (λ (n : ℕ). bitAt n i) (g .rest (at + j) (omega arith)) ∙ sym (bit-in xs (at + j) i (at * 64 + (j * 64 + i)) m (omega arith)))
+          (moved-at fs start s j low i m (g .ge) (g .lo))
           ∙ ap (λ (n : ℕ). orBit xs at fs start s (n * 64 + i)) (sym e)
       go k i l m (no f) =
-          ap (λ (n : ℕ). bitAt n i) (getD-set-other ys (at + j) (at + k) (bitOr (getD ys (at + j) 0) (moved (getD fs (start + (j - s / 64)) 0) low (s % 64))) 0 (omega arith)) ∙ g .done k i (omega arith) m
+          ap (λ (n : ℕ). bitAt n i)
+          (getD-set-other ys (at + j) (at + k) (bitOr (getD ys (at + j) 0) (moved (getD fs (start + (j - s / 64)) 0) low (s % 64))) 0 (omega arith))
+          ∙ g .done k i (omega arith) m
 
   -- after the last
   pub move-end : (ys : List ℕ) (low j : ℕ) → blocks ≤ j → Moving xs at fs start blocks s ys low j → OrRow xs at fs start blocks s ys

@@ -43,7 +43,9 @@ returns-2 c =
     let none : NoCause (layoutCauses l (a .layout .now)) =
     passed-none _ (sym (c .before .before .enum-told .given .1) ∙ at-layout-causes .layout-causes .ensures) in
     let pair = sharingPair (jobOf l) (layoutOf (a .layout .now)) in
-    c .shared-answer .ensures ∙ ap sharedAnswer (c .before .sharing-pair .ensures (a .size) (sym (layout-laid l (a .layout .now) none .whole))) ∙ shared-check pair
+    c .shared-answer .ensures
+    ∙ ap sharedAnswer (c .before .sharing-pair .ensures (a .size) (sym (layout-laid l (a .layout .now) none .whole)))
+    ∙ shared-check pair
     ∙ sym (ap doneAnswer (none-then (layoutCauses l (a .layout .now)) (sharedCause pair ∷ []) tt none))
 
 pub check-spec : {M : Type 1} → statement M

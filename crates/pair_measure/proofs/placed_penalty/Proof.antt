@@ -11,7 +11,8 @@ penalty-in-requires c κs =
     let tested : tie.Then1 = search in
     let made : tie.After-small-store = search in
     let r = s .pre in
-    let room = subst (Roomy (s .args .table .now) (s .args .i) (s .args .k)) (sym (made .small-store .ensures)) (asked .few-strips .ensures (tested .if1 .taken)) in
+    let room = subst (Roomy (s .args .table .now) (s .args .i) (s .args .k)) (sym (made .small-store .ensures))
+    (asked .few-strips .ensures (tested .if1 .taken)) in
     (r .0, (r .1 .0, room))
 
 penalty-in-requires-2 : tie.Need-penalty-in-requires-2

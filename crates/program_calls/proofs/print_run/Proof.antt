@@ -30,7 +30,8 @@ returns c =
     let long = c .before .if1 .taken in
     let t : TextLeaves (a .input .now) (a .output .now) (NumberAnswer.Refused (c .plain-refusal .result)) (a .output .now) =
     rw (c .plain-refusal .ensures) (leaves-short (a .input .now) (a .output .now) (omega arith) (w .short)) in
-    let left = workspace-left (a .input .now) (length (a .output .now)) (a .workspace .now) (at-print-text .print-text .last .1 .1 .0) (used .words-used .result) (used .words-used .ensures)
+    let left = workspace-left (a .input .now) (length (a .output .now)) (a .workspace .now) (at-print-text .print-text .last .1 .1 .0)
+    (used .words-used .result) (used .words-used .ensures)
     (at-print-text .print-text .kept .1 .1 .0) (w .short) in
     (t .0, (t .1 .0, (left, t .1 .1)))
 
@@ -54,7 +55,8 @@ returns-2 c =
     let t = leaves-written (a .input .now) (a .output .now) (at-print-text .print-text .result) (put .put-word .last .0) (omega arith)
     (put .put-word .ensures .1 ∙ ap (sets (a .output .now) 0) front ∙ sets-filled (a .output .now) (programText (a .input .now)) fits)
     (omega arith) (omega arith) in
-    let left = workspace-left (a .input .now) (length (a .output .now)) (a .workspace .now) (at-print-text .print-text .last .1 .1 .0) (used .words-used .result) (used .words-used .ensures)
+    let left = workspace-left (a .input .now) (length (a .output .now)) (a .workspace .now) (at-print-text .print-text .last .1 .1 .0)
+    (used .words-used .result) (used .words-used .ensures)
     (at-print-text .print-text .kept .1 .1 .0) short in
     (t .0, (t .1 .0, (left, t .1 .1)))
 

@@ -108,7 +108,8 @@ returns c =
     let j = jobOf (lent e) in
     let is : EndsAs at-loop Clear =
     descend-over j (e .args .weights .now) (e .args .budget) (given e)
-    ∙ underway-clear j (e .args .weights .now) (jobTrials e) (e .args .budget) (given e) (e .args .budget - at-loop .loop .at .made) _ (at-loop .loop .at .sum) (at-loop .loop .inv .0 .underway)
+    ∙ underway-clear j (e .args .weights .now) (jobTrials e) (e .args .budget) (given e)
+    (e .args .budget - at-loop .loop .at .made) _ (at-loop .loop .at .sum) (at-loop .loop .inv .0 .underway)
     (c .before .if1 .taken) in (
       is ∙ ap (λ (x : Ended). descentOf x (layoutOf (at-loop .loop .layout))) (sym (c .end-at .ensures)),
       (at-loop .loop .inv .0 .laid, at-loop .loop .inv .0 .ready),
@@ -135,7 +136,8 @@ returns-2 c =
     let j = jobOf (lent e) in
     let is : EndsAs at-loop Settled =
     descend-over j (e .args .weights .now) (e .args .budget) (given e)
-    ∙ underway-settled j (e .args .weights .now) (jobTrials e) (e .args .budget) (given e) (e .args .budget - at-loop .loop .at .made) _ (at-loop .loop .at .sum) (at-loop .loop .inv .0 .underway)
+    ∙ underway-settled j (e .args .weights .now) (jobTrials e) (e .args .budget) (given e)
+    (e .args .budget - at-loop .loop .at .made) _ (at-loop .loop .at .sum) (at-loop .loop .inv .0 .underway)
     (at-else1 .if1 .left) (c .before .if2 .taken ∙ count-is e) in (
       is ∙ ap (λ (x : Ended). descentOf x (layoutOf (at-loop .loop .layout))) (sym (c .end-at2 .ensures)),
       (at-loop .loop .inv .0 .laid, at-loop .loop .inv .0 .ready),
@@ -163,7 +165,8 @@ returns-3 c =
     let j = jobOf (lent e) in
     let is : EndsAs at-loop Spent =
     descend-over j (e .args .weights .now) (e .args .budget) (given e)
-    ∙ underway-spent j (e .args .weights .now) (jobTrials e) (e .args .budget) (given e) (e .args .budget - at-loop .loop .at .made) _ (at-loop .loop .at .sum) (at-loop .loop .inv .0 .underway)
+    ∙ underway-spent j (e .args .weights .now) (jobTrials e) (e .args .budget) (given e)
+    (e .args .budget - at-loop .loop .at .made) _ (at-loop .loop .at .sum) (at-loop .loop .inv .0 .underway)
     (at-else1 .if1 .left) (λ z. at-else2 .if2 .left (z ∙ sym (count-is e))) (let made = c .before .if3 .taken in omega arith) in (
       is ∙ ap (λ (x : Ended). descentOf x (layoutOf (at-loop .loop .layout))) (sym (c .end-at3 .ensures)),
       (at-loop .loop .inv .0 .laid, at-loop .loop .inv .0 .ready),
@@ -255,14 +258,17 @@ loop-again c =
     let differs = at-else3 .if3 .left in
     let one = made-one (at-step) in
     let rest : left - 1 ≡ e .args .budget - s .result .made = omega arith in
-    let pass : Underway j (e .args .weights .now) (jobTrials e) (e .args .budget) (given e) (left - 1) (standingAs (layoutOf new) (s .result)) (s .result .sum) =
+    let pass : Underway j (e .args .weights .now) (jobTrials e) (e .args .budget) (given e) (left - 1)
+    (standingAs (layoutOf new) (s .result)) (s .result .sum) =
     underway-pass j (e .args .weights .now) (jobTrials e) (e .args .budget) (given e) left _ (at-loop .loop .at .sum)
     (at-loop .loop .inv .0 .underway)
     (at-else1 .if1 .left) (λ z. at-else2 .if2 .left (z ∙ sym (count-is e))) (omega arith) _ (s .result .sum) (stepped at-step) (s .ensures .1 .0)
     (s .ensures .1 .1 .0 .valid) in
-    let under : Underway j (e .args .weights .now) (jobTrials e) (e .args .budget) (given e) (e .args .budget - s .result .made) (standingAs (layoutOf new) (s .result))
+    let under : Underway j (e .args .weights .now) (jobTrials e) (e .args .budget) (given e) (e .args .budget - s .result .made)
+    (standingAs (layoutOf new) (s .result))
     (s .result .sum) =
-    subst (λ (n : ℕ). Underway j (e .args .weights .now) (jobTrials e) (e .args .budget) (given e) n (standingAs (layoutOf new) (s .result)) (s .result .sum)) rest pass in (
+    subst (λ (n : ℕ). Underway j (e .args .weights .now) (jobTrials e) (e .args .budget) (given e) n (standingAs (layoutOf new) (s .result)) (s .result .sum))
+    rest pass in (
       record { underway = under; laid = s .ensures .1 .1 .0; ready = s .ensures .1 .1 .1 },
       s .kept .1 .1 .1 .1 .1 .1 .1 .1 .0 ∙ at-loop .loop .inv .1,
       s .kept .1 .1 .1 .1 .1 .1 .1 .1 .1 .0 ∙ at-loop .loop .inv .2,

@@ -42,4 +42,5 @@ returns-2 c =
 pub run-rounds-spec : {M : Type 1} → statement M
 run-rounds-spec =
     tie.close (tie.spec
-    with-strips-requires (search needs) (search needs) (search needs) (search needs) (search needs) returns (search needs) (search needs) (search needs) returns-2)
+    with-strips-requires (search needs) (search needs) (search needs) (search needs) (search needs)
+    returns (search needs) (search needs) (search needs) returns-2)

@@ -18,7 +18,8 @@ returns c =
     let d = third .add-turn3 .ensures .1 in
     let e = last .add-turn4 .ensures .1 in (
       λ size pixels. piece-added (jobOf (lentBy size (at-start .args .table .now) pixels)) (at-start .args .i)
-          (trialsOf (take (at-start .args .at) (at-start .args .store .now))) _ _ _ _ (first .add-turn .ensures .0 size pixels) (second .add-turn2 .ensures .0 size pixels)
+          (trialsOf (take (at-start .args .at) (at-start .args .store .now))) _ _ _ _ (first .add-turn .ensures .0 size pixels)
+          (second .add-turn2 .ensures .0 size pixels)
           (third .add-turn3 .ensures .0 size pixels) (last .add-turn4 .ensures .0 size pixels),
       omega arith,
     )

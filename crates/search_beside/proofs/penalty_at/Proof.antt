@@ -30,7 +30,8 @@ returns c =
     let l = lentBy (a .run .size) (a .table .now) (a .pixels .now) in
     let b = c .before .before .beside in
     let r = c .before .reach-of in (
-      sym (outside-zero l (layoutOf (a .layout .now)) (a .sweep .mover) (a .sweep .track) (b .result) (a .k) (at-start .pre .1 .1 .0) (b .ensures (a .run .size) (a .pixels .now))
+      sym (outside-zero l (layoutOf (a .layout .now)) (a .sweep .mover) (a .sweep .track) (b .result) (a .k)
+          (at-start .pre .1 .1 .0) (b .ensures (a .run .size) (a .pixels .now))
           (r .result) (r .ensures) (a .at) (at-start .pre .1 .1 .1 .1) (inl (c .if1 .taken))),
       at-start .pre .0,
     )
@@ -43,7 +44,8 @@ returns-2 c =
     let l = lentBy (a .run .size) (a .table .now) (a .pixels .now) in
     let b = at-beside .beside in
     let r = c .before .before .reach-of in (
-      sym (outside-zero l (layoutOf (a .layout .now)) (a .sweep .mover) (a .sweep .track) (b .result) (a .k) (at-start .pre .1 .1 .0) (b .ensures (a .run .size) (a .pixels .now))
+      sym (outside-zero l (layoutOf (a .layout .now)) (a .sweep .mover) (a .sweep .track) (b .result) (a .k)
+          (at-start .pre .1 .1 .0) (b .ensures (a .run .size) (a .pixels .now))
           (r .result) (r .ensures) (a .at) (at-start .pre .1 .1 .1 .1) (inr (c .if2 .taken))),
       at-start .pre .0,
     )

@@ -16,7 +16,8 @@ returns c =
     let a = at-start .args in
     let j = jobOf (lentBy (a .run .size) (a .table .now) (a .pixels .now)) in
     let p = onLine (a .sweep .mover .line) (a .sweep .mover .turn) (a .at) in (
-      renewed-own j (layoutOf (a .layout .now)) (a .run .size .count) (a .sweep .mover .piece) p (a .k) (a .penalties .now) (c .if1 .taken) (at-start .pre .1 .1 .1 .1),
+      renewed-own j (layoutOf (a .layout .now)) (a .run .size .count) (a .sweep .mover .piece) p (a .k) (a .penalties .now)
+          (c .if1 .taken) (at-start .pre .1 .1 .1 .1),
       at-start .pre .0,
     )
 
@@ -86,7 +87,8 @@ returns-2 c =
       renewed-step j (layoutOf (a .layout .now)) (a .run .size .count) (a .sweep .mover .piece) p (a .k) (x .result) (a .penalties .now)
           (facts _ (at-start .pre .0 .well) .fewPieces) (at-start .pre .1 .1 .0 .piece) (at-start .pre .1 .1 .1 .0 .0)
           (λ q. at-else1 .if1 .left (sym q))
-          (x .ensures .0 ∙ sym (penalty-on j (layoutOf (a .layout .now)) (a .sweep .mover .piece) (a .sweep .mover .turn) (a .sweep .mover .line) (a .at) (a .k)))
+          (x .ensures .0
+          ∙ sym (penalty-on j (layoutOf (a .layout .now)) (a .sweep .mover .piece) (a .sweep .mover .turn) (a .sweep .mover .line) (a .at) (a .k)))
           (at-start .pre .1 .1 .1 .1),
       x .ensures .1,
     )

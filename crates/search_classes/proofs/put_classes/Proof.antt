@@ -42,7 +42,8 @@ loop-again c =
     let at : tie.At-loop Inv-loop μ-loop = search in
     let n = at .loop .inv .1 in
     let room = e .pre .1 in
-    let p = pass-set (ClassOf (jobOf (lent e))) _ (at .loop .words) (at .loop .i) (c .class-of .result) (omega arith) (c .class-of .ensures) (at .loop .inv .2) in
+    let p = pass-set (ClassOf (jobOf (lent e))) _ (at .loop .words) (at .loop .i) (c .class-of .result)
+    (omega arith) (c .class-of .ensures) (at .loop .inv .2) in
     (omega arith, p .same, p)
 
 same-length : tie.Need-same-length Inv-loop μ-loop

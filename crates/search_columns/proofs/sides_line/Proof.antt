@@ -32,7 +32,8 @@ loop-holds c =
 few : (c : tie.In-loop Inv-loop μ-loop)
     →
     let at-start : tie.Start Inv-loop μ-loop = search in
-    (c .before .loop .n ≤ c .before .loop .y) × (c .before .loop .y + 1 ≤ length (at-start .args .line .now)) × (length (at-start .args .line .now) ≤ 1000000000)
+    (c .before .loop .n ≤ c .before .loop .y) × (c .before .loop .y + 1 ≤ length (at-start .args .line .now))
+    × (length (at-start .args .line .now) ≤ 1000000000)
 few c =
     let at-start : tie.Start Inv-loop μ-loop = search in
     let o = c .before .loop in

@@ -10,7 +10,8 @@ returns c =
     let at-then : tie.Then1 = search in
     let at-add-once : tie.After-add-once = search in
     let a = at-start .args in
-    subst (λ (w : ℕ). LineAdded w (a .low) (a .line .now) (a .sums .now) (at-add-once .add-once .last .0)) (sym (at-then .if1 .taken)) (at-add-once .add-once .ensures)
+    subst (λ (w : ℕ). LineAdded w (a .low) (a .line .now) (a .sums .now) (at-add-once .add-once .last .0))
+    (sym (at-then .if1 .taken)) (at-add-once .add-once .ensures)
 
 pub add-line-spec : {M : Type 1} → statement M
 add-line-spec =

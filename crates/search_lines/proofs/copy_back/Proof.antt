@@ -21,7 +21,8 @@ loop-again c =
     let o = at-loop .loop in
     let from = at-start .args .from .now in
     let same = at-start .pre in
-    let p = pass-set (λ (j v : ℕ). v ≡ getD from (length from - 1 - j) 0) _ (o .to) (o .k) (getD from (length from - 1 - o .k) 0) (omega arith) refl (o .inv .2) in
+    let p = pass-set (λ (j v : ℕ). v ≡ getD from (length from - 1 - j) 0) _ (o .to) (o .k) (getD from (length from - 1 - o .k) 0)
+    (omega arith) refl (o .inv .2) in
     (omega arith, p .same, p)
 
 same-length : tie.Need-same-length Inv-loop μ-loop

@@ -27,7 +27,8 @@ returns : tie.Need-returns
 returns c =
     let b : tie.After-quarter-back = search in
     let l = lent (entry b) in
-    same-on l (entry b .args .source) (b .quarter-back .result) _ (once b) (quarter-told l (b .quarter-back .result) _ (once b .named) (c .quarter-back2 .ensures))
+    same-on l (entry b .args .source) (b .quarter-back .result) _ (once b)
+    (quarter-told l (b .quarter-back .result) _ (once b .named) (c .quarter-back2 .ensures))
 
 pub half-back-spec : {M : Type 1} → statement M
 half-back-spec = tie.close (tie.spec quarter-back-requires quarter-back-requires-2 returns)

@@ -114,12 +114,16 @@ returns-2 c =
     let y = put .same in
     let w = within s in
     let r = roomy e in
-    let line = line-put (jobOf (lent e)) (e .args .run) (e .args .lines .now) (e .args .maps .now) (e .pre .1 .1) (s .slot-of .result) (two .moved) (two .standing)
+    let line = line-put (jobOf (lent e)) (e .args .run) (e .args .lines .now) (e .args .maps .now) (e .pre .1 .1)
+    (s .slot-of .result) (two .moved) (two .standing)
     (two .«moved_turn») (two .«standing_turn») (e .args .direction) (two .offset) _ _ _ (lent-few (lent e) (asked .well)) (s .slot-of .ensures)
-    (moved-there (lent e) _ _ two asked) (standing-there (lent e) _ _ two asked) (asked .offset) (e .pre .1 .0 .wide) made (m .make-line .ensures .1) _ (k .key-of .ensures) put in
-    let kept = renewed (jobOf (lent e)) (e .args .run) (e .args .lines .now) (e .args .maps .now) (e .pre .1 .1) (s .slot-of .result) (two .moved) (two .standing)
+    (moved-there (lent e) _ _ two asked) (standing-there (lent e) _ _ two asked) (asked .offset) (e .pre .1 .0 .wide) made
+    (m .make-line .ensures .1) _ (k .key-of .ensures) put in
+    let kept = renewed (jobOf (lent e)) (e .args .run) (e .args .lines .now) (e .args .maps .now) (e .pre .1 .1)
+    (s .slot-of .result) (two .moved) (two .standing)
     (two .«moved_turn») (two .«standing_turn») (e .args .direction) (two .offset) _ _ _ (lent-few (lent e) (asked .well)) (s .slot-of .ensures)
-    (moved-there (lent e) _ _ two asked) (standing-there (lent e) _ _ two asked) (asked .offset) (e .pre .1 .0 .wide) made (m .make-line .ensures .1) _ (k .key-of .ensures) put in
+    (moved-there (lent e) _ _ two asked) (standing-there (lent e) _ _ two asked) (asked .offset) (e .pre .1 .0 .wide) made
+    (m .make-line .ensures .1) _ (k .key-of .ensures) put in
     (line, (omega arith, (kept, omega arith)))
 
 pub keep-line-spec : {M : Type 1} → statement M

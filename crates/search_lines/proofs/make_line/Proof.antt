@@ -63,8 +63,10 @@ returns : tie.Need-returns
 returns c =
     let b : tie.After-straight = search in
     let d : tie.After-draw-source = search in
-    let e = entry b in
-    (made-same (lent e) (e .args .direction) (e .args .two) _ (e .args .lines .now) (e .args .at) _ (same b) (d .draw-source .ensures .0), d .draw-source .ensures .1)
+    let e = entry b in (
+      made-same (lent e) (e .args .direction) (e .args .two) _ (e .args .lines .now) (e .args .at) _ (same b) (d .draw-source .ensures .0),
+      d .draw-source .ensures .1,
+    )
 
 pub make-line-spec : {M : Type 1} → statement M
 make-line-spec = tie.close (tie.spec classed-requires ordered-requires straight-requires draw-source-requires (search needs) (search needs) returns)

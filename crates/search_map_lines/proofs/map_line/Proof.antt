@@ -29,7 +29,8 @@ returns c =
     let at-map-row : tie.After-map-row = search in
     let a = at-start .args in
     λ s t e m.
-    subst (λ (d : Direction). LineOf d s t (a .offset) (a .line .now) (at-map-row .map-row .last .1 .1 .1 .0)) (sym (at-told .enum-told .given .1)) (at-map-row .map-row .ensures _ s t e m)
+    subst (λ (d : Direction). LineOf d s t (a .offset) (a .line .now) (at-map-row .map-row .last .1 .1 .1 .0))
+    (sym (at-told .enum-told .given .1)) (at-map-row .map-row .ensures _ s t e m)
 
 returns-2 : tie.Need-returns-2
 returns-2 c =
@@ -38,7 +39,8 @@ returns-2 c =
     let at-map-column : tie.After-map-column = search in
     let a = at-start .args in
     λ s t e m.
-    subst (λ (d : Direction). LineOf d s t (a .offset) (a .line .now) (at-map-column .map-column .last .1 .1 .1 .0)) (sym (at-told .enum-told2 .given .1)) (at-map-column .map-column .ensures s t e m)
+    subst (λ (d : Direction). LineOf d s t (a .offset) (a .line .now) (at-map-column .map-column .last .1 .1 .1 .0))
+    (sym (at-told .enum-told2 .given .1)) (at-map-column .map-column .ensures s t e m)
 
 pub map-line-spec : {M : Type 1} → statement M
 map-line-spec =

@@ -48,4 +48,5 @@ returns c =
 
 pub row-line-spec : {M : Type 1} → statement M
 row-line-spec =
-    tie.close (tie.spec Inv-loop μ-loop loop-holds (omega arith) (search needs) add-peel peel-requires (omega arith) (omega arith) loop-again same-length returns)
+    tie.close (tie.spec Inv-loop μ-loop loop-holds (omega arith) (search needs) add-peel peel-requires (omega arith) (omega arith)
+    loop-again same-length returns)

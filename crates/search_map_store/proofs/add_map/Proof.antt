@@ -79,7 +79,8 @@ returns c =
     let made = at-make-sized .make-sized in
     λ d s t ez em et.
     added (a .slots) d s t (a .sides) (a .key) (a .slot) (a .words .now) _ _ at (c .map-words .result) k (at + k - at) ez
-    (made .ensures (d (a .key)) (s (a .key)) (t (a .key)) ez em et) size (omega arith) (omega arith) (made .kept .1 .1 .1 .0 ∙ simp (length-take, length-drop) (omega arith)) fits
+    (made .ensures (d (a .key)) (s (a .key)) (t (a .key)) ez em et) size (omega arith) (omega arith)
+    (made .kept .1 .1 .1 .0 ∙ simp (length-take, length-drop) (omega arith)) fits
     (at-start .pre .1 .1 .1 .slot-in) (omega arith)
 
 pub add-map-spec : {M : Type 1} → statement M

@@ -12,7 +12,8 @@ make-marks-requires c κs =
     let at-mark-words : tie.After-mark-words = search in
     let a = at-start .args in
     let f =
-    marks-fit (a .sides) (at-start .pre .0) _ _ _ (at-row-width .row-width .ensures) (at-mark-words .mark-words .ensures) (at-start .pre .1 .1 .0) (a .moved .now)
+    marks-fit (a .sides) (at-start .pre .0) _ _ _ (at-row-width .row-width .ensures) (at-mark-words .mark-words .ensures)
+    (at-start .pre .1 .1 .0) (a .moved .now)
     (at-start .pre .1 .0) in
     (f .0, (f .1, f .2))
 

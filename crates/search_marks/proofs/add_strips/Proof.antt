@@ -23,8 +23,10 @@ add-strip-requires c κs =
     let f = at-start .pre .1 .0 (o .i) (c .before .before .loop-test .taken) in
     let r = c .before .span-at .ensures in
     let place = r .place-is in
-    let count = r .count-is in
-    (at-start .pre .0, record { some = omega (arith, f .some); few = omega (arith, f .few); within = omega (arith, f .within); below = omega (arith, f .below) })
+    let count = r .count-is in (
+      at-start .pre .0,
+      record { some = omega (arith, f .some); few = omega (arith, f .few); within = omega (arith, f .within); below = omega (arith, f .below) },
+    )
 
 loop-again : tie.Need-loop-again Inv-loop μ-loop
 loop-again c =

@@ -61,7 +61,8 @@ fill-requires c κs =
     let at-start : tie.Start Inv-loop μ-loop = search in
     let a = at-start .args in
     let o = c .before .before .before .loop in
-    leaves-in (a .ws .now) (a .w) (a .p) (a .count) (a .at) (a .line .now) (at-start .pre .0) (o .line) (o .v) _ (o .r) (o .inv .1) (c .before .inner .ensures) _
+    leaves-in (a .ws .now) (a .w) (a .p) (a .count) (a .at) (a .line .now) (at-start .pre .0)
+    (o .line) (o .v) _ (o .r) (o .inv .1) (c .before .inner .ensures) _
     (omega arith) (omega arith)
 
 add-r : tie.Need-add-r Inv-loop μ-loop

@@ -23,7 +23,9 @@ abbrev μ-loop : tie.MeasureT-loop
 μ-loop table pixels layout rows₀ row-spans₀ i₀ rows row-spans i = length layout - i
 
 loop-holds : tie.Need-loop-holds Inv-loop μ-loop
-loop-holds c = let s : tie.Start Inv-loop μ-loop = search in (λ size whole. rows-begin (lentBy size (s .args .table .now) (s .args .pixels .now)) (s .args .layout .now) whole, refl, refl, s .pre .1)
+loop-holds c =
+    let s : tie.Start Inv-loop μ-loop = search in
+    (λ size whole. rows-begin (lentBy size (s .args .table .now) (s .args .pixels .now)) (s .args .layout .now) whole, refl, refl, s .pre .1)
 
 sharing-in-row-requires : tie.Need-sharing-in-row-requires Inv-loop μ-loop
 sharing-in-row-requires c κs =

@@ -14,8 +14,16 @@ lent e = lentBy (e .args .run .size) (e .args .table .now) (e .args .pixels .now
 descend-requires : tie.Need-descend-requires
 descend-requires c κs =
     let at-plan : tie.After-plan = search in
-    let at-start : tie.Start = search in
-    (at-start .pre .1 .1 .0, (at-start .pre .0 .weights, (at-start .pre .1 .1 .1 .0, (subst PlanInRange (at-plan .plan .given .1) (at-start .pre .1 .0), at-start .pre .1 .1 .1 .1))))
+    let at-start : tie.Start = search in (
+      at-start .pre .1 .1 .0,
+      (
+        at-start .pre .0 .weights,
+        (
+          at-start .pre .1 .1 .1 .0,
+          (subst PlanInRange (at-plan .plan .given .1) (at-start .pre .1 .0), at-start .pre .1 .1 .1 .1),
+        ),
+      ),
+    )
 
 take-rounds-requires : tie.Need-take-rounds-requires
 take-rounds-requires c κs =

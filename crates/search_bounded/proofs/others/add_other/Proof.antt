@@ -143,9 +143,11 @@ add-reached-requires c κs =
       (
         (some-place x, within r),
         (
-          weight-small (lent e) (a .weights .now) (a .wanted .sweep .mover .piece) (a .k) (w .weight-between .result) (e .pre .1 .1 .0) (w .weight-between .ensures .0),
+          weight-small (lent e) (a .weights .now) (a .wanted .sweep .mover .piece) (a .k) (w .weight-between .result)
+              (e .pre .1 .1 .0) (w .weight-between .ensures .0),
           sums-small (lent e) (a .weights .now) (laidOut e) (a .wanted .sweep .mover) (a .wanted .sweep .track) (b .result) (a .wanted .bound) (a .k)
-              (r .reach-of .result) (a .sums .now) (e .pre .1 .1 .1 .0) (b .ensures (a .run .size) (a .pixels .now)) (r .reach-of .ensures) (e .pre .1 .1 .1 .1 .1)
+              (r .reach-of .result) (a .sums .now) (e .pre .1 .1 .1 .0) (b .ensures (a .run .size) (a .pixels .now))
+              (r .reach-of .ensures) (e .pre .1 .1 .1 .1 .1)
               (omega arith),
         ),
       ),
@@ -160,7 +162,8 @@ returns-4 c =
     let e = entry r in
     let a = e .args in
     let b = stood r .beside in
-    let part = reach-added (lent e) (laidOut e) (a .wanted .sweep .mover) (a .wanted .sweep .track) (b .result) (a .k) (r .reach-of .result) _ (x .line-with .result)
+    let part = reach-added (lent e) (laidOut e) (a .wanted .sweep .mover) (a .wanted .sweep .track) (b .result) (a .k)
+    (r .reach-of .result) _ (x .line-with .result)
     (e .pre .1 .1 .1 .0) (b .ensures (a .run .size) (a .pixels .now)) (r .reach-of .ensures .touching (some-place x)) (line x)
     (a .weights .now) (w .weight-between .result) (a .sums .now) _ (w .weight-between .ensures .0) (some-place x) (y .add-reached .ensures) in (
       summed-added (lent e) (a .weights .now) (laidOut e) (a .wanted .sweep .mover) (a .wanted .sweep .track) (b .result) (a .wanted .bound) (a .k)

@@ -62,7 +62,13 @@ returns-2 c =
     let positive = cut-step-numbered (lent at-start) (at-start .args .layout .now) _ _ _ (refusal-told (λ a. a) o _ t) in
     let number = ap (λ (x : Reply). x .number) (c .refused .ensures) in (
       c .refused .ensures ∙ reply-by (λ a. a) o t,
-      (leaves-by (λ a. a) stepWord _ o t, (leaves-by (λ a. a) (stepX _) _ o t, (leaves-by (λ a. a) (stepY _) _ o t, λ zero. absurd (omega (arith, positive, number, zero))))),
+      (
+        leaves-by (λ a. a) stepWord _ o t,
+        (
+          leaves-by (λ a. a) (stepX _) _ o t,
+          (leaves-by (λ a. a) (stepY _) _ o t, λ zero. absurd (omega (arith, positive, number, zero))),
+        ),
+      ),
     )
 
 pub sigbrol-cut-step-spec : {M : Type 1} → statement M

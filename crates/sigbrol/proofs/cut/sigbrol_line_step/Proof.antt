@@ -67,7 +67,16 @@ returns-2 c =
     let positive = line-step-numbered (at-start .args .lines .now) _ _ _ (refusal-told (λ a. a) o _ t) in
     let number = ap (λ (x : Reply). x .number) (c .refused .ensures) in (
       c .refused .ensures ∙ reply-by (λ a. a) o t,
-      (leaves-by (λ a. a) stepWord _ o t, (leaves-by (λ a. a) (stepX _) _ o t, (leaves-by (λ a. a) (stepY _) _ o t, (layout-steps at-start, λ zero. absurd (omega (arith, positive, number, zero)))))),
+      (
+        leaves-by (λ a. a) stepWord _ o t,
+        (
+          leaves-by (λ a. a) (stepX _) _ o t,
+          (
+            leaves-by (λ a. a) (stepY _) _ o t,
+            (layout-steps at-start, λ zero. absurd (omega (arith, positive, number, zero))),
+          ),
+        ),
+      ),
     )
 
 pub sigbrol-line-step-spec : {M : Type 1} → statement M
