@@ -31,7 +31,7 @@
  * What the caller sees to: a pointer has as many elements behind it as its length says (it may be null where that is 0), one without
  * a length has one element (a record sixty-four entries), and no buffer that a call writes overlaps another of its arguments. A pointer
  * is never kept. No function allocates, keeps state or does input and output, so any number of threads may call. A thread needs up to
- * 1.5 MB of stack: sigbrol_descent, sigbrol_guided_run and sigbrol_program take the most, 1.1 MB as measured. This, and the lengths below that
+ * 1.5 MB of stack: sigbrol_descent, sigbrol_guided_run and sigbrol_program take the most, 1.4 MB as measured. This, and the lengths below that
  * suffice, are counted and not proved; that SIGBROL_CUT_LINES suffices is proved. */
 #ifndef SIGBROL_H
 #define SIGBROL_H
