@@ -151,9 +151,12 @@ def piece_text(number, shape, turns):
     return "\n".join(lines + ["row," + row for row in shape]) + "\n"
 
 
-def job_text(rows, columns, pieces):
-    """The text of a job; pieces are pairs of shape and turn sum."""
-    text = "job,1,%d,%d,%d\n" % (rows, columns, len(pieces))
+def job_text(rows, columns, pieces, gap=None):
+    """The text of a job; pieces are pairs of shape and turn sum. With a gap it is of version 2."""
+    if gap is None:
+        text = "job,1,%d,%d,%d\n" % (rows, columns, len(pieces))
+    else:
+        text = "job,2,%d,%d,%d,%d\n" % (rows, columns, len(pieces), gap)
     return text + "".join(piece_text(k, shape, turns) for k, (shape, turns) in enumerate(pieces))
 
 
@@ -180,6 +183,13 @@ CORNER = ["##", "#."]
 PIXEL = ["#"]
 
 
+def hole_rings():
+    """Rings with pieces for their holes."""
+    return [
+        (ring(12, 12, 70), 1), (disc(8, 8), 1), (ring(8, 8, 50), 1), (disc(4, 4), 1),
+        (frame(8, 10, 2), 3), (full(4, 6), 1), (disc(3, 3), 1)]
+
+
 def small_jobs():
     """Jobs that each cover one thing."""
     write("example-clear", job_text(2, 4, [(SQUARE, 1)] * 2))
@@ -188,9 +198,7 @@ def small_jobs():
     write("pixel-two", job_text(1, 1, [(PIXEL, 15)] * 2))
     write("boxes-meet", job_text(2, 3, [(CORNER, 1), (CORNER, 5)]))
     write("hole-pixels", job_text(5, 6, [(frame(5, 5, 1), 1)] + [(PIXEL, 1)] * 6))
-    write("hole-rings", job_text(12, 28, [
-        (ring(12, 12, 70), 1), (disc(8, 8), 1), (ring(8, 8, 50), 1), (disc(4, 4), 1),
-        (frame(8, 10, 2), 3), (full(4, 6), 1), (disc(3, 3), 1)]))
+    write("hole-rings", job_text(12, 28, hole_rings()))
     write("parts-interlock", job_text(5, 12, [
         (["#.#.#.#"], 5), ([".#.#.#."[1:-1]], 5), (["##..##", "......", "##..##"], 1),
         (["##", "..", "##"], 3), (["#...#", ".....", "..#.."], 15), (["#.#", "...", "#.#"], 1)]))
@@ -250,6 +258,41 @@ def cut_jobs():
     write("cut-dust", job_text(16, 4096, [(shape, 1) for shape in dust]))
 
 
+def gap_jobs():
+    """Jobs with a gap."""
+    write("gap-example-open", job_text(2, 4, [(SQUARE, 1)] * 2, 1))
+    write("gap-example-clear", job_text(2, 5, [(SQUARE, 1)] * 2, 1))
+    write("gap-zero", job_text(12, 28, hole_rings(), 0))
+    # With a gap the pixel may not lie in the hole: it needs a column of its own and one between.
+    ring_and_pixel = [(frame(3, 3, 1), 1), (PIXEL, 1)]
+    write("gap-ring-pixel-open", job_text(3, 4, ring_and_pixel, 1))
+    write("gap-ring-pixel-clear", job_text(3, 5, ring_and_pixel, 1))
+    # A frame whose hole is just large enough for a square and the gap around it.
+    write("gap-hole-square", job_text(9, 15, [
+        (frame(9, 9, 1), 1), (full(3, 3), 1), (full(3, 9), 1)], 2))
+    # Pixels of their own, and parts of one piece that are less than the gap apart.
+    write("gap-corners", job_text(5, 8, [(PIXEL, 1)] * 4 + [
+        (["#..", "..#"], 15), (["#.", ".#", "#."], 5)], 1))
+    write("gap-turns", job_text(10, 21, [
+        (angle(4, 3, 1, 1), 15), (angle(3, 5, 1, 1), 15), (["###", ".#.", ".#."], 7),
+        (["##.", ".##"], 11), (["#...", "####"], 9), (wedge(4, 5), 13)], 1))
+    write("gap-pixels", job_text(28, 64, [(PIXEL, 1)] * 24, 8))
+    # A sheet that is no larger than its piece: the gap is none to the sheet's edge.
+    write("gap-edge", job_text(4, 5, [(full(5, 4), 15)], 8))
+    # Boxes as long and as wide as they may be and the text has room for.
+    for name, rows, columns, shapes in [
+        ("gap-limit-lying", 126, 257, [full(255, 125)] * 2),
+        ("gap-limit-cross", 256, 256, [full(255, 124), full(124, 255)]),
+    ]:
+        text = job_text(rows, columns, [(shape, 5) for shape in shapes], 8)
+        assert len(text) <= 65536, (name, len(text))
+        write(name, text)
+    # The pieces of a real-sized job, on sheets that grow with the gap.
+    write("gap-1-large", job_text(180, 256, real_large(), 1))
+    write("gap-4-large", job_text(180, 364, real_large(), 4))
+    write("gap-8-large", job_text(180, 364, real_large()[:40], 8))
+
+
 def damaged_jobs():
     """Jobs that are refused, by the number of the cause."""
     good = job_text(4, 6, [(angle(3, 2, 1, 1), 5), (SQUARE, 3)])
@@ -262,7 +305,13 @@ def damaged_jobs():
     write("refused-1-missing-row", good[: good.rindex("row,")])
     write("refused-1-missing-piece", good[: good.index("piece,1")])
     write("refused-1-carriage-return", good.replace("\n", "\r\n"))
-    change("1-version", "job,1,", "job,2,")
+    change("1-version", "job,1,", "job,3,")
+    change("1-version-with-gap", "job,1,4,6,2", "job,3,4,6,2,1")
+    change("1-gap-missing", "job,1,4,6,2", "job,2,4,6,2")
+    change("1-gap-too-many", "job,1,4,6,2", "job,1,4,6,2,1")
+    change("1-gap-twice", "job,1,4,6,2", "job,2,4,6,2,1,1")
+    change("1-gap-leading-zero", "job,1,4,6,2", "job,2,4,6,2,08")
+    change("1-gap-empty", "job,1,4,6,2", "job,2,4,6,2,")
     change("1-leading-zero", "job,1,4,6,2", "job,1,04,6,2")
     change("1-six-digits", "job,1,4,6,2", "job,1,4,100000,2")
     change("1-sign", "piece,0,3,", "piece,-0,3,")
@@ -276,11 +325,14 @@ def damaged_jobs():
     change("2-sheet-columns", "job,1,4,6,2", "job,1,4,4097,2")
     change("2-no-pieces", "job,1,4,6,2", "job,1,4,6,0")
     change("2-pieces-65", "job,1,4,6,2", "job,1,4,6,65")
+    change("2-gap-9", "job,1,4,6,2", "job,2,4,6,2,9")
+    change("2-gap-before-area", "job,1,4,6,2", "job,2,512,129,2,9")
     change("2-wrong-number", "piece,1,", "piece,0,")
     change("2-side-zero", "piece,0,3,2,5", "piece,0,3,0,5")
     change("2-side-256", "piece,0,3,2,5", "piece,0,256,2,5")
     change("2-even-turns", "piece,0,3,2,5", "piece,0,3,2,6")
     change("2-turns-17", "piece,0,3,2,5", "piece,0,3,2,17")
+    change("3-gap-sheet-area", "job,1,4,6,2", "job,2,512,129,2,8")
     change("3-sheet-area", "job,1,4,6,2", "job,1,512,129,2")
     small, limit = job_text(256, 256, [(full(32, 16), 1), (PIXEL, 1)]), "piece,1,1,1,1"
     write("refused-4-box-areas", small.replace(limit, "piece,1,255,255,1"))
@@ -399,6 +451,7 @@ def real_jobs():
 if __name__ == "__main__":
     small_jobs()
     cut_jobs()
+    gap_jobs()
     damaged_jobs()
     write("limit-65536-bytes", sized_job(65536))
     write("refused-7-65537-bytes", sized_job(65537))

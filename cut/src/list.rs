@@ -46,7 +46,7 @@ fn said(what: &str, refused: Refused) -> String {
     let reply = refused.0;
     match reply.number {
         sigbrol::SHARED_PIXEL => format!(
-            "{what}: pieces {} and {} share a pixel: do not cut",
+            "{what}: pieces {} and {} share a pixel or lie within the gap: do not cut",
             reply.first, reply.second
         ),
         sigbrol::OUT_OF_RANGE if what == "pitch" => format!("{what}: 1 to {}", sigbrol::PITCH),

@@ -163,7 +163,13 @@ fn what_is_refused_leaves_no_file() {
             "example-open.job",
             "example-open.out",
             "64",
-            "layout: pieces 0 and 1 share a pixel: do not cut\n",
+            "layout: pieces 0 and 1 share a pixel or lie within the gap: do not cut\n",
+        ),
+        (
+            "gap-example-open.job",
+            "gap-example-open.out",
+            "64",
+            "layout: pieces 0 and 1 share a pixel or lie within the gap: do not cut\n",
         ),
         (
             "example-clear.job",

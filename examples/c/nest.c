@@ -65,15 +65,15 @@ static void begin(const sigbrol_job *job, search *s)
     s->moves = 0;
 }
 
-/* Whether two placed pieces share a pixel. Where their boxes lie apart there is none, which spares most of the calls. */
-static int shares_pixel(const sigbrol_job *job, uint16_t (*layout)[3], size_t i, size_t k)
+/* Whether two placed pieces conflict. Where their boxes lie further apart than the gap they do not, which spares most of the calls. */
+static int conflict(const sigbrol_job *job, uint16_t (*layout)[3], size_t i, size_t k)
 {
     for (int axis = 0; axis < 2; axis++) {
         /* Columns and rows of a box change places at 90 and 270 degrees. */
         int i_side = job->table[i][layout[i][0] % 180 == 0 ? axis : 1 - axis];
         int k_side = job->table[k][layout[k][0] % 180 == 0 ? axis : 1 - axis];
-        int i_from = layout[i][1 + axis], k_from = layout[k][1 + axis];
-        if (i_from + i_side <= k_from || k_from + k_side <= i_from) {
+        int i_from = layout[i][1 + axis], k_from = layout[k][1 + axis], gap = (int)job->gap;
+        if (i_from + i_side + gap <= k_from || k_from + k_side + gap <= i_from) {
             return 0;
         }
     }
@@ -82,13 +82,13 @@ static int shares_pixel(const sigbrol_job *job, uint16_t (*layout)[3], size_t i,
     return shares;
 }
 
-/* Raises the weight of each pair that shares a pixel by 1; the largest weight stays. */
+/* Raises the weight of each pair that conflicts by 1; the largest weight stays. */
 static void raise_weights(const sigbrol_job *job, search *s)
 {
     size_t pair = 0;
     for (size_t i = 0; i < job->count; i++) {
         for (size_t k = i + 1; k < job->count; k++, pair++) {
-            if (s->weights[pair] < SIGBROL_WEIGHT && shares_pixel(job, s->layout, i, k)) {
+            if (s->weights[pair] < SIGBROL_WEIGHT && conflict(job, s->layout, i, k)) {
                 s->weights[pair]++;
             }
         }
@@ -199,7 +199,7 @@ static int read_job(sigbrol_job *job)
         return 0;
     }
     sigbrol_reply reply = sigbrol_read_job(text, length, job->table, SIGBROL_PIECES, job->pixels, SIGBROL_PIXELS, &job->rows,
-                                           &job->columns, &job->count);
+                                           &job->columns, &job->count, &job->gap);
     if (reply.number != SIGBROL_DONE) {
         printf("refused,%" PRIu32 ",%" PRIu32 "\n", reply.number, reply.first);
         return 0;

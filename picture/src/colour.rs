@@ -6,7 +6,7 @@ pub struct Colours {
     pub outline: String,
 }
 
-/// Colours that differ from piece to piece; none is red, which is kept for shared pixels.
+/// Colours that differ from piece to piece; none is red, which is kept for conflicts.
 pub fn colours(number: usize) -> Colours {
     // Steps of the golden section keep any number of hues well apart; 30 degrees around red are left out.
     let hue = 30.0 + 300.0 * (number as f64 * 0.618_034).fract();

@@ -11,6 +11,8 @@ use crate::grid::Grid;
 /// A piece where it lies: its turned pixels and the corner of its turned box.
 pub struct Placed {
     pub grid: Grid,
+    /// The same widened by the gap; its corner lies a gap lower and further left.
+    wide: Grid,
     pub degrees: usize,
     pub x: usize,
     pub y: usize,
@@ -20,6 +22,8 @@ pub struct Placed {
 pub struct Layout {
     pub rows: usize,
     pub columns: usize,
+    /// How many columns and rows the pieces are to keep free between them.
+    pub gap: usize,
     pub pieces: Vec<Placed>,
     /// The columns from the smallest corner x to the largest right end of the pieces.
     pub used_columns: Range<usize>,
@@ -28,16 +32,33 @@ pub struct Layout {
 }
 
 impl Layout {
-    /// The sheet's pixels that two or more pieces cover.
-    pub fn shared(&self) -> Grid {
-        let mut counts = vec![0; self.rows * self.columns];
+    /// The sheet's pixels at most the gap from a piece, its own among them.
+    pub fn band(&self, piece: &Placed) -> Grid {
+        Grid::new(self.columns, self.rows, |x, y| {
+            // A coordinate below 0 wraps to one beyond the box, where the set has no cell.
+            let (across, up) = (x + self.gap, y + self.gap);
+            piece
+                .wide
+                .has(across.wrapping_sub(piece.x), up.wrapping_sub(piece.y))
+        })
+    }
+
+    /// The pieces' pixels that are at most the gap from another piece; without a gap, those that two or more pieces cover.
+    pub fn conflicts(&self) -> Grid {
+        let mut covered = vec![false; self.rows * self.columns];
+        let mut near = vec![0; self.rows * self.columns];
         for piece in &self.pieces {
             for (x, y) in piece.grid.cells() {
-                counts[(piece.y + y) * self.columns + piece.x + x] += 1;
+                covered[(piece.y + y) * self.columns + piece.x + x] = true;
+            }
+            for (x, y) in self.band(piece).cells() {
+                near[y * self.columns + x] += 1;
             }
         }
+        // One of the pieces near a pixel is its own.
         Grid::new(self.columns, self.rows, |x, y| {
-            counts[y * self.columns + x] > 1
+            let pixel = y * self.columns + x;
+            covered[pixel] && near[pixel] > 1
         })
     }
 }
@@ -50,6 +71,7 @@ pub fn read(job: &[u8], layout: &[u8]) -> Result<Layout, String> {
     Ok(Layout {
         rows: job.rows,
         columns: job.columns,
+        gap: job.gap,
         pieces: placed(&job, &places),
         used_columns: layout::used_columns(&job, &places),
         cut_lines: cut::lines(&job, &places),
@@ -59,11 +81,15 @@ pub fn read(job: &[u8], layout: &[u8]) -> Result<Layout, String> {
 /// The pieces of a job where a layout puts them.
 fn placed(job: &Job, places: &[layout::Placement]) -> Vec<Placed> {
     let pieces = job.pieces.iter().zip(places);
-    let placed = pieces.map(|(piece, place)| Placed {
-        grid: Grid::of_shape(&piece.shape.turned(place.turn)),
-        degrees: place.turn.degrees(),
-        x: place.x,
-        y: place.y,
+    let placed = pieces.map(|(piece, place)| {
+        let shape = piece.shape.turned(place.turn);
+        Placed {
+            grid: Grid::of_shape(&shape),
+            wide: Grid::of_shape(&shape.widened(job.gap)),
+            degrees: place.turn.degrees(),
+            x: place.x,
+            y: place.y,
+        }
     });
     placed.collect()
 }
@@ -105,21 +131,42 @@ mod tests {
         read(job().as_bytes(), text.as_bytes())
     }
 
+    /// The same with a gap.
+    fn layout_with_gap(gap: usize, text: &str) -> Layout {
+        let line = format!("job,2,2,4,2,{gap}\n");
+        let job = job().replacen("job,1,2,4,2\n", &line, 1);
+        read(job.as_bytes(), text.as_bytes()).expect("job and layout are right")
+    }
+
     #[test]
     fn pieces_lie_turned_at_their_corners() {
         let text = "layout,1,2,4,2\nat,0,0,0,0\nat,1,180,1,0\nend,clear,0,0,0,3\nand more";
         let layout = layout(text).expect("the layout is right");
         assert_eq!(layout.used_columns, 0..3);
-        assert_eq!(layout.shared().count(), 0);
+        assert_eq!(layout.conflicts().count(), 0);
         assert!(!layout.pieces[1].grid.has(0, 0) && layout.pieces[1].grid.has(1, 0));
     }
 
     #[test]
     fn shared_pixels() {
         let text = "layout,1,2,4,2\nat,0,0,1,0\nat,1,0,2,0\n";
-        let shared = layout(text).expect("the layout is right").shared();
+        let shared = layout(text).expect("the layout is right").conflicts();
         assert_eq!(shared.count(), 1);
         assert!(shared.has(2, 0));
+    }
+
+    #[test]
+    fn pixels_within_the_gap() {
+        // Just two pixels meet at their corners; the others are two columns from the other piece.
+        let text = "layout,1,2,4,2\nat,0,0,0,0\nat,1,180,2,0\n";
+        let layout = layout_with_gap(1, text);
+        assert_eq!(layout.conflicts(), Grid::of_marks(&[".#..", "..#."]));
+        assert_eq!(
+            layout.band(&layout.pieces[0]),
+            Grid::of_marks(&["###.", "###."])
+        );
+        assert_eq!(layout_with_gap(0, text).conflicts().count(), 0);
+        assert_eq!(layout_with_gap(8, text).conflicts().count(), 6);
     }
 
     #[test]

@@ -36,8 +36,9 @@ fn picture(arguments: &[String]) -> Result<String, String> {
         return Err("usage: picture [--cut] JOB LAYOUT".to_string());
     };
     let layout = layout::read(&bytes(job)?, &bytes(layout)?)?;
-    if cut && layout.shared().count() > 0 {
-        return Err("layout: pieces share a pixel: do not cut".to_string());
+    if cut && layout.conflicts().count() > 0 {
+        let words = "layout: pieces share a pixel or lie within the gap: do not cut";
+        return Err(words.to_string());
     }
     Ok(svg::draw(&layout, cut))
 }

@@ -23,7 +23,7 @@ const BOTTOM: usize = 56;
 /// The least width of the picture, so that the caption has room.
 const LEAST_WIDTH: usize = 540;
 
-/// The hatching of shared pixels.
+/// The hatching of pixels in conflict.
 const HATCHING: &str = r##"<defs>
 <pattern id="shared" width="6" height="6" patternUnits="userSpaceOnUse" patternTransform="rotate(45)">
 <rect width="6" height="6" fill="#ffffff" fill-opacity="0.6"/>
@@ -48,7 +48,8 @@ pub fn draw(layout: &Layout, cut: bool) -> String {
         format!("<rect width=\"{width}\" height=\"{height}\" fill=\"#ffffff\"/>\n"),
         picture.sheet(),
         picture.pieces(),
-        picture.shared_pixels(),
+        picture.bands(),
+        picture.conflicting_pixels(),
         picture.piece_numbers(),
         picture.used_length(),
         picture.cut_lines(),
@@ -61,7 +62,8 @@ pub fn draw(layout: &Layout, cut: bool) -> String {
 /// A layout and what is needed to draw it.
 struct Picture<'a> {
     layout: &'a Layout,
-    shared: Grid,
+    /// The pixels in conflict.
+    conflicts: Grid,
     /// The side of a pixel in the picture.
     scale: usize,
     /// Whether the lines to cut are drawn.
@@ -74,7 +76,7 @@ impl Picture<'_> {
         let scale = (1200 / layout.columns).min(900 / layout.rows);
         Picture {
             layout,
-            shared: layout.shared(),
+            conflicts: layout.conflicts(),
             scale: scale.clamp(2, 96),
             cut,
         }
@@ -103,8 +105,17 @@ impl Picture<'_> {
             counted(self.layout.rows, "row"),
             counted(self.layout.columns, "column"),
             self.layout.used_columns.len(),
-            counted(self.shared.count(), "shared pixel"),
+            self.conflicts_in_words(),
         )
+    }
+
+    /// The gap, where there is one, and how many pixels are in conflict.
+    fn conflicts_in_words(&self) -> String {
+        let pixels = self.conflicts.count();
+        match self.layout.gap {
+            0 => counted(pixels, "shared pixel"),
+            gap => format!("gap {gap}, {} in conflict", counted(pixels, "pixel")),
+        }
     }
 
     /// The caption as a line of the picture.
@@ -169,9 +180,23 @@ impl Picture<'_> {
         format!("<g fill-rule=\"evenodd\" fill-opacity=\"0.85\" stroke-linejoin=\"round\">\n{pieces}</g>\n")
     }
 
-    /// The pixels that several pieces cover, hatched.
-    fn shared_pixels(&self) -> String {
-        let path = self.path(&self.shared, 0, 0);
+    /// Where there is a gap, a thin line around the pixels at most the gap from each piece: no pixel of another may lie within.
+    fn bands(&self) -> String {
+        if self.layout.gap == 0 {
+            return String::new();
+        }
+        let band = |(number, piece): (usize, &Placed)| {
+            let path = self.path(&self.layout.band(piece), 0, 0);
+            let colour = colours(number).outline;
+            format!("<path stroke=\"{colour}\" d=\"{path}\"/>\n")
+        };
+        let bands: String = self.layout.pieces.iter().enumerate().map(band).collect();
+        format!("<g fill=\"none\" stroke-width=\"0.7\" stroke-dasharray=\"4 3\">\n{bands}</g>\n")
+    }
+
+    /// The pixels in conflict, hatched.
+    fn conflicting_pixels(&self) -> String {
+        let path = self.path(&self.conflicts, 0, 0);
         if path.is_empty() {
             return path;
         }
@@ -218,7 +243,7 @@ impl Picture<'_> {
     fn piece_number(&self, number: usize) -> String {
         let piece = &self.layout.pieces[number];
         let own = Grid::new(piece.grid.columns, piece.grid.rows, |x, y| {
-            piece.grid.has(x, y) && !self.shared.has(piece.x + x, piece.y + y)
+            piece.grid.has(x, y) && !self.conflicts.has(piece.x + x, piece.y + y)
         });
         let square = largest_square(&own).or_else(|| largest_square(&piece.grid));
         let Some(square) = square else {
@@ -238,7 +263,7 @@ impl Picture<'_> {
         )
     }
 
-    /// The lines to cut, in red, which is free where no pixel is shared: a bar where the knife is let down, an arrow where it is lifted.
+    /// The lines to cut, in red, which is free where no pixel is in conflict: a bar where the knife is let down, an arrow where it is lifted.
     fn cut_lines(&self) -> String {
         if !self.cut {
             return String::new();
@@ -305,11 +330,19 @@ mod tests {
         draw(&laid(places), false)
     }
 
-    /// The layout of these pieces.
+    /// The layout of these pieces without a gap.
     fn laid(places: &str) -> Layout {
-        let job = b"job,1,10,12,2\npiece,0,2,2,15\nrow,##\nrow,#.\npiece,1,2,2,1\nrow,##\nrow,##\n";
-        let text = format!("layout,1,10,12,2\n{places}");
-        layout::read(job, text.as_bytes()).expect("job and layout are right")
+        laid_with("job,1,10,12,2", places)
+    }
+
+    /// Their layout by a first line of the job.
+    fn laid_with(line: &str, places: &str) -> Layout {
+        let pieces = "piece,0,2,2,15\nrow,##\nrow,#.\npiece,1,2,2,1\nrow,##\nrow,##\n";
+        let (job, text) = (
+            format!("{line}\n{pieces}"),
+            format!("layout,1,10,12,2\n{places}"),
+        );
+        layout::read(job.as_bytes(), text.as_bytes()).expect("job and layout are right")
     }
 
     #[test]
@@ -335,6 +368,30 @@ mod tests {
         let meeting = picture("at,0,0,0,0\nat,1,0,1,0\n");
         assert!(meeting.contains("url(#shared)") && meeting.contains("1 shared pixel</title>"));
         assert!(meeting.contains("d=\"M134 934h90v-90h-90z\""));
+    }
+
+    #[test]
+    fn the_gap_is_shown_and_what_lies_within_it_is_hatched() {
+        let places = "at,0,0,0,0\nat,1,0,3,0\n";
+        let draw_with = |line: &str| draw(&laid_with(line, places), false);
+        assert_eq!(draw_with("job,2,10,12,2,0"), draw(&laid(places), false));
+        // A free column lies between the two: enough for a gap of 1.
+        let kept = draw_with("job,2,10,12,2,1");
+        assert!(kept.contains(", gap 1, 0 pixels in conflict</title>") && !kept.contains("url(#"));
+        // The band of the corner piece ends at the sheet's edge; that of the square has all its corners.
+        assert!(
+            kept.contains(" d=\"M44 934h270v-180h-90v-90h-180z\"/>"),
+            "{kept}"
+        );
+        assert!(kept.contains(" d=\"M224 934h360v-270h-360z\"/>"), "{kept}");
+        // With a gap of 2 the lower right pixel of the corner piece and the left column of the square are too near.
+        let missed = draw_with("job,2,10,12,2,2");
+        assert!(
+            missed.contains(", gap 2, 3 pixels in conflict</title>"),
+            "{missed}"
+        );
+        assert!(missed.contains("url(#shared)"));
+        assert_eq!(missed.matches("stroke-dasharray=\"4 3\"").count(), 1);
     }
 
     #[test]

@@ -82,6 +82,21 @@ fn lines_to_cut_are_drawn_over_clear_layouts_alone() {
 }
 
 #[test]
+fn a_layout_that_does_not_keep_the_gap_is_not_cut() {
+    let (job, layout) = (
+        example("gap-example-open.job"),
+        example("gap-example-open.out"),
+    );
+    let output = run(Some("--cut"), &[&job, &layout]);
+    assert_refused(&output);
+    let words = "layout: pieces share a pixel or lie within the gap: do not cut\n";
+    assert_eq!(String::from_utf8_lossy(&output.stderr), words);
+    // The same layout of the job without a gap.
+    let job = example("example-clear.job");
+    assert!(run(Some("--cut"), &[&job, &layout]).status.success());
+}
+
+#[test]
 fn wrong_inputs_are_refused() {
     let (clear, open) = (example("example-clear.job"), example("example-open.out"));
     assert_refused(&run(None, &[&clear, &open]));

@@ -5,6 +5,9 @@ use crate::shape::{Shape, Turn};
 /// Largest number of sheet pixels, and largest total of box areas.
 pub const MAX_AREA: usize = 65_536;
 
+/// Largest gap that a job may ask for.
+pub const MAX_GAP: usize = 8;
+
 /// A refused text: the number of the cause and the line, from 1.
 #[derive(Clone, Copy, Debug, PartialEq, Eq)]
 pub struct Refusal {
@@ -43,10 +46,13 @@ impl Piece {
 }
 
 /// A sheet of `rows` by `columns` pixels and the pieces to lay on it.
+///
+/// Two pieces conflict when a pixel of one is at most `gap` columns and at most `gap` rows from a pixel of the other.
 #[derive(Clone, Debug)]
 pub struct Job {
     pub rows: usize,
     pub columns: usize,
+    pub gap: usize,
     pub pieces: Vec<Piece>,
 }
 
@@ -60,10 +66,16 @@ impl Job {
 /// Reads a whole job text; the first cause of refusal, line by line, is returned.
 pub fn read(text: &[u8]) -> Result<Job, Refusal> {
     let mut lines = Lines::new(text);
-    let (rows, columns, count) = read_job_line(&mut lines)?;
+    let JobHeader {
+        rows,
+        columns,
+        count,
+        gap,
+    } = read_job_line(&mut lines)?;
     let mut job = Job {
         rows,
         columns,
+        gap,
         pieces: Vec::with_capacity(count),
     };
     let mut area = 0;
@@ -134,13 +146,13 @@ impl<'a> Lines<'a> {
     }
 }
 
-/// The four numbers of a line that begins with the word, if the line is of that form.
-fn numbers(line: &[u8], word: &[u8]) -> Option<[usize; 4]> {
+/// The numbers of a line that begins with the word and has just so many fields behind it, if the line is of that form.
+fn numbers<const COUNT: usize>(line: &[u8], word: &[u8]) -> Option<[usize; COUNT]> {
     let mut fields = line.split(|&byte| byte == b',');
     if fields.next() != Some(word) {
         return None;
     }
-    let mut values = [0; 4];
+    let mut values = [0; COUNT];
     for value in &mut values {
         *value = number(fields.next()?)?;
     }
@@ -156,15 +168,42 @@ fn number(field: &[u8]) -> Option<usize> {
     well_formed.then(|| field.iter().fold(0, append_digit))
 }
 
-/// Reads the first line: sheet rows, sheet columns and the number of pieces.
-fn read_job_line(lines: &mut Lines) -> Result<(usize, usize, usize), Refusal> {
-    let [version, rows, columns, count] = lines.take_numbers(b"job")?;
-    lines.require(version == 1, 1)?;
-    let in_range =
-        (1..=512).contains(&rows) && (1..=4096).contains(&columns) && (1..=64).contains(&count);
+/// What the first line says of the job.
+struct JobHeader {
+    rows: usize,
+    columns: usize,
+    count: usize,
+    gap: usize,
+}
+
+/// The first line of either version, if it has that version's number of fields.
+fn job_header(line: &[u8]) -> Option<JobHeader> {
+    let (rows, columns, count, gap) = if let Some([1, rows, columns, count]) = numbers(line, b"job")
+    {
+        (rows, columns, count, 0)
+    } else if let Some([2, rows, columns, count, gap]) = numbers(line, b"job") {
+        (rows, columns, count, gap)
+    } else {
+        return None;
+    };
+    Some(JobHeader {
+        rows,
+        columns,
+        count,
+        gap,
+    })
+}
+
+/// Reads the first line.
+fn read_job_line(lines: &mut Lines) -> Result<JobHeader, Refusal> {
+    let header = job_header(lines.take()?).ok_or_else(|| lines.refuse(1))?;
+    let in_range = (1..=512).contains(&header.rows)
+        && (1..=4096).contains(&header.columns)
+        && (1..=64).contains(&header.count)
+        && header.gap <= MAX_GAP;
     lines.require(in_range, 2)?;
-    lines.require(rows * columns <= MAX_AREA, 3)?;
-    Ok((rows, columns, count))
+    lines.require(header.rows * header.columns <= MAX_AREA, 3)?;
+    Ok(header)
 }
 
 /// What a piece line says of the piece.

@@ -1,4 +1,5 @@
-//! The no-fit region of two pieces: the corner offsets at which they share a pixel.
+//! The no-fit region of two pieces: the corner offsets at which they share a pixel. That of two pieces that are to keep a gap is the
+//! region of the one widened by the gap and the other.
 
 use crate::shape::{Direction, Shape, Strip};
 

@@ -2,15 +2,16 @@
 
 use std::cell::OnceCell;
 
-use crate::job::{Job, Piece};
+use crate::job::{Job, Piece, MAX_GAP};
 use crate::layout::Placement;
 use crate::nofit::{BitShape, NoFit};
 use crate::shape::{Direction, Shape, Turn};
 
 /// The penalty at every cell of a no-fit box, kept by rows and by columns.
 ///
-/// Every depth is at most 255: a box side is at most 255, so a run of a no-fit line has at most
-/// 509 cells, and its middle cell is 255 steps from both ends.
+/// A byte is wide enough, though a depth may be larger. Of two full boxes, one in the middle of the other, the penalty is the gap
+/// and half the sum of their columns or of their rows, whichever is smaller. Box areas of at most 65,536 together make that 199 at
+/// most, with 255 by 128 and 128 by 255 pixels and the largest gap. Without a gap every depth is at most 255.
 #[derive(Clone)]
 pub struct PenaltyMap {
     columns: usize,
@@ -63,19 +64,23 @@ impl PenaltyMap {
     }
 }
 
-/// The numbers 1 to 255, and 255 down to 1: both slopes of the depth over a run.
-const SLOPES: [u8; 510] = {
-    let mut slopes = [0; 510];
+/// The largest depth: that of two pieces of 255 columns with the largest gap. Every run has its middle at most so far from its ends.
+const MAX_DEPTH: usize = 255 + MAX_GAP;
+
+/// The numbers 1 to the largest depth, and down to 1 again: both slopes of the depth over a run. What a byte cannot hold is 255
+/// instead, since no penalty is larger.
+const SLOPES: [u8; 2 * MAX_DEPTH] = {
+    let mut slopes = [u8::MAX; 2 * MAX_DEPTH];
     let mut k = 0;
     while k < 255 {
         slopes[k] = k as u8 + 1;
-        slopes[509 - k] = k as u8 + 1;
+        slopes[2 * MAX_DEPTH - 1 - k] = k as u8 + 1;
         k += 1;
     }
     slopes
 };
 
-/// The horizontal depth at every cell, by rows; it is 0 exactly outside the no-fit region.
+/// The horizontal depth at every cell, by rows, as far as a byte holds it; it is 0 exactly outside the no-fit region.
 fn horizontal_depths(no_fit: &NoFit) -> Vec<u8> {
     let columns = no_fit.columns();
     let mut depths = vec![0; columns * no_fit.rows()];
@@ -128,9 +133,9 @@ fn transposed(by_row: &[u8], columns: usize) -> Vec<u8> {
     by_column
 }
 
-/// The penalties of a pair at the places of a line where the pieces' boxes meet.
+/// The penalties of a pair at the places of a line where the pieces' boxes come within the gap.
 pub struct PairLine<'a> {
-    /// The moving piece's smallest coordinate at which the boxes meet.
+    /// The moving piece's smallest coordinate at which they do.
     pub low: isize,
     /// One penalty a coordinate, without gaps.
     pub penalties: &'a [u8],
@@ -154,16 +159,21 @@ impl PairLine<'_> {
 /// The penalty maps of all pairs in all turns, each made when it is first asked for.
 ///
 /// Turning both pieces of a pair turns its map as a picture. So the maps are kept for the relative
-/// turn alone, with the first piece at turn 0, and are read turned.
+/// turn alone, with the first piece at turn 0, and are read turned. The first piece is widened by the
+/// gap, so that a map has as many lines more on every side.
 pub struct PenaltyMaps {
     /// For each piece the number of its shape; equal pieces share one.
     shape_of: Vec<usize>,
     /// Each shape in its four turns.
     shapes: Vec<[BitShape; 4]>,
+    /// Each shape in turn 0, widened by the gap; none where there is no gap.
+    widened: Vec<BitShape>,
     /// Maps by first shape, second shape, which is no lower in number, and relative turn.
     maps: Vec<OnceCell<Box<PenaltyMap>>>,
     /// Columns and rows of each piece's box in its four turns.
     boxes: Vec<[[usize; 2]; 4]>,
+    /// The same with the gap behind the last column and row.
+    reaches: Vec<[[usize; 2]; 4]>,
 }
 
 impl PenaltyMaps {
@@ -179,12 +189,18 @@ impl PenaltyMaps {
             }
         }
         let in_turns = |shape: &&Shape| Turn::ALL.map(|turn| BitShape::new(&shape.turned(turn)));
+        let widened = |shape: &&Shape| BitShape::new(&shape.widened(job.gap));
+        let to_widen = if job.gap > 0 { &distinct[..] } else { &[] };
         let boxes = |piece: &Piece| Turn::ALL.map(|turn| piece.shape.turned_box(turn));
+        let boxes: Vec<[[usize; 2]; 4]> = job.pieces.iter().map(boxes).collect();
+        let reach = |sides: &[[usize; 2]; 4]| sides.map(|side| side.map(|side| side + job.gap));
         PenaltyMaps {
             shape_of,
             shapes: distinct.iter().map(in_turns).collect(),
+            widened: to_widen.iter().map(widened).collect(),
             maps: vec![OnceCell::new(); 4 * distinct.len() * distinct.len()],
-            boxes: job.pieces.iter().map(boxes).collect(),
+            reaches: boxes.iter().map(reach).collect(),
+            boxes,
         }
     }
 
@@ -193,13 +209,18 @@ impl PenaltyMaps {
         self.boxes[piece][turn.index()][direction.index()]
     }
 
+    /// The same and the gap.
+    fn reach(&self, piece: usize, turn: Turn, direction: Direction) -> usize {
+        self.reaches[piece][turn.index()][direction.index()]
+    }
+
     /// The penalty of two placed pieces.
     pub fn penalty(&self, i: usize, at_i: Placement, j: usize, at_j: Placement) -> u8 {
         self.line(i, at_i.turn, Direction::Horizontal, at_i.y, j, at_j)
             .map_or(0, |line| line.at(at_i.x))
     }
 
-    /// The penalties of a moving piece with another one along a line, if the line meets its box.
+    /// The penalties of a moving piece with another one along a line, if the line comes within the gap of its box.
     pub fn line(
         &self,
         moving: usize,
@@ -210,8 +231,8 @@ impl PenaltyMaps {
         place: Placement,
     ) -> Option<PairLine<'_>> {
         let cross = direction.crossing();
-        let moving_across = self.extent(moving, turn, cross);
-        let other_across = self.extent(other, place.turn, cross);
+        let moving_across = self.reach(moving, turn, cross);
+        let other_across = self.reach(other, place.turn, cross);
         let other_held = place.along(cross);
         if held >= other_held + other_across || other_held >= held + moving_across {
             return None;
@@ -226,7 +247,7 @@ impl PenaltyMaps {
             (map, place.turn, held + moving_across - 1 - other_held)
         };
         let (penalties, against_offset) = map.turned_line(first_turn, direction, cell);
-        let moving_along = self.extent(moving, turn, direction);
+        let moving_along = self.reach(moving, turn, direction);
         Some(PairLine {
             low: place.along(direction) as isize - moving_along as isize + 1,
             penalties,
@@ -241,7 +262,7 @@ impl PenaltyMaps {
         let relative = second_turn.relative_to(first_turn);
         let cell = &self.maps[4 * (a * self.shapes.len() + b) + relative.index()];
         cell.get_or_init(|| {
-            let fixed = &self.shapes[a][0];
+            let fixed = self.widened.get(a).unwrap_or(&self.shapes[a][0]);
             let opposite_moving = &self.shapes[b][relative.opposite().index()];
             Box::new(PenaltyMap::new(&NoFit::new(fixed, opposite_moving)))
         })

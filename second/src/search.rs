@@ -223,7 +223,7 @@ impl<'a> Search<'a> {
             direction,
         } = trial;
         let present = self.piece_sums[piece];
-        // No place has a sum below zero, so a piece without overlap needs no search.
+        // No place has a sum below zero, so a piece without conflict needs no search.
         if present == 0 {
             return false;
         }
@@ -255,7 +255,7 @@ impl<'a> Search<'a> {
         }
     }
 
-    /// Repeats the descent and raises the weights of overlapping pairs between the rounds.
+    /// Repeats the descent and raises the weights of conflicting pairs between the rounds.
     pub fn guided_run(mut self, rounds: usize, budget: u64) -> Guided {
         let mut best = self.layout.clone();
         let mut plain_sum = self.plain_sum();
@@ -284,12 +284,12 @@ impl<'a> Search<'a> {
         }
     }
 
-    /// Raises the weight of each pair that shares a pixel by 1; the largest weight, 65,535, stays.
+    /// Raises the weight of each pair that conflicts by 1; the largest weight, 65,535, stays.
     fn raise_weights(&mut self) {
         for (i, j) in pairs(self.layout.len()) {
             let penalty = self.penalties.get(i, j);
             let weight = self.weights.get(i, j);
-            // A pair shares a pixel exactly when its penalty is not zero.
+            // A pair conflicts exactly when its penalty is not zero.
             if penalty == 0 || weight == u16::MAX {
                 continue;
             }

@@ -129,6 +129,23 @@ impl Shape {
         Shape::new(self.rows, cells.collect())
     }
 
+    /// The cells at most `gap` columns and at most `gap` rows from a pixel. The box grows by the gap on every side, so that its corner
+    /// lies that much lower and further left.
+    pub fn widened(&self, gap: usize) -> Shape {
+        let along_rows = self.smeared(2 * gap);
+        along_rows.transposed().smeared(2 * gap).transposed()
+    }
+
+    /// Each pixel with so many cells to the right of it, in a box longer by as many.
+    fn smeared(&self, reach: usize) -> Shape {
+        let columns = self.columns + reach;
+        let mut pixels = vec![false; columns * self.rows];
+        for Strip { y, first, count } in self.row_strips() {
+            pixels[y * columns + first..][..count + reach].fill(true);
+        }
+        Shape::new(columns, pixels)
+    }
+
     /// Whether the first and last row and column each hold a pixel.
     pub fn is_tight(&self) -> bool {
         let row_used = |y: usize| (0..self.columns).any(|x| self.has(x, y));

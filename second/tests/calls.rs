@@ -7,7 +7,7 @@ use second::calls::{self, Cause, Counts, Lent, Line, Move, Refusal, Stretch, Wei
 
 /// A job in buffers of its own.
 struct Buffers {
-    numbers: [usize; 3],
+    numbers: [usize; 4],
     table: Vec<[u8; 3]>,
     pixels: Vec<u8>,
 }
@@ -26,11 +26,12 @@ impl Buffers {
     }
 
     fn lent(&self) -> Lent<'_> {
-        let [rows, columns, count] = self.numbers;
+        let [rows, columns, count, gap] = self.numbers;
         Lent {
             rows,
             columns,
             count,
+            gap,
             table: &self.table,
             pixels: &self.pixels,
         }
@@ -39,7 +40,12 @@ impl Buffers {
 
 /// A job of pieces that are given by their rows, the bottom row first, all in every turn.
 fn job(rows: usize, columns: usize, pieces: &[&[&str]]) -> Buffers {
-    let mut text = format!("job,1,{rows},{columns},{}\n", pieces.len());
+    job_with_gap(rows, columns, 0, pieces)
+}
+
+/// The same with a gap.
+fn job_with_gap(rows: usize, columns: usize, gap: usize, pieces: &[&[&str]]) -> Buffers {
+    let mut text = format!("job,2,{rows},{columns},{},{gap}\n", pieces.len());
     for (number, marks) in pieces.iter().enumerate() {
         text += &format!("piece,{number},{},{},15\n", marks[0].len(), marks.len());
         marks.iter().for_each(|row| text += &format!("row,{row}\n"));
@@ -110,6 +116,26 @@ fn no_fit_rows_of_squares() {
 }
 
 #[test]
+fn no_fit_lines_of_squares_with_a_gap() {
+    let job = job_with_gap(9, 9, 1, &[A, A]);
+    let strips = strips(&job, 0);
+    let square = |piece| Stretch {
+        piece,
+        turn: 0,
+        strips: &strips,
+    };
+    for vertical in [false, true] {
+        for (offset, expected) in [(-3, 0), (-2, 1), (1, 1), (2, 1), (3, 0), (i32::MAX, 0)] {
+            let mut runs = [[0; 2]];
+            let pair = [square(0), square(1)];
+            let count = calls::no_fit_line(&job.lent(), pair, vertical, offset, &mut runs);
+            assert_eq!(count, Ok(expected));
+            assert!(expected == 0 || runs[0] == [-2, 5]);
+        }
+    }
+}
+
+#[test]
 fn depths_and_penalties_of_the_shop() {
     let depths = |pieces: &[&[&str]], layout: [[u16; 3]; 2]| {
         let job = job(9, 9, pieces);
@@ -122,6 +148,61 @@ fn depths_and_penalties_of_the_shop() {
     assert_eq!(depths(&[D, E], [[0, 3, 3], [0, 4, 4]]), [0, 0, 0]);
     assert_eq!(depths(&[D, E], [[0, 3, 3], [0, 4, 3]]), [2, 1, 1]);
     assert_eq!(depths(&[B, B], [[0, 3, 3], [180, 4, 3]])[2], 0);
+}
+
+#[test]
+fn conflicts_of_the_shop_with_a_gap() {
+    let measured = |gap, pieces: &[&[&str]], layout: [[u16; 3]; 2]| {
+        let job = job_with_gap(9, 9, gap, pieces);
+        let depth = |vertical| calls::depth(&job.lent(), &layout, 0, 1, vertical);
+        let penalty = calls::penalty(&job.lent(), &layout, 1, 0);
+        let depths = [depth(false), depth(true), penalty];
+        let conflict = calls::shares_pixel(&job.lent(), &layout, 0, 1);
+        assert_eq!(
+            calls::check(&job.lent(), &layout).is_err(),
+            conflict == Ok(true)
+        );
+        depths.map(|number| number.expect("the layout is right"))
+    };
+    assert_eq!(measured(1, &[A, A], [[0, 3, 3], [0, 4, 3]]), [2, 3, 2]);
+    assert_eq!(measured(1, &[B, B], [[0, 3, 3], [180, 4, 3]]), [2, 2, 2]);
+    // A single pixel in the ring's hole.
+    assert_eq!(measured(0, &[D, E], [[0, 3, 3], [0, 4, 4]]), [0, 0, 0]);
+    assert_eq!(measured(1, &[D, E], [[0, 3, 3], [0, 4, 4]]), [3, 3, 3]);
+    // Two pixels that touch at their corners, and such that are a knight's move apart: both columns and rows count.
+    assert_eq!(measured(1, &[E, E], [[0, 3, 3], [0, 4, 4]]), [1, 1, 1]);
+    assert_eq!(measured(1, &[E, E], [[0, 3, 3], [0, 4, 5]]), [0, 0, 0]);
+    assert_eq!(measured(1, &[E, E], [[0, 3, 3], [0, 5, 4]]), [0, 0, 0]);
+    // The sheet's edge is no piece.
+    assert_eq!(measured(8, &[E, E], [[0, 0, 0], [0, 8, 8]]), [1, 1, 1]);
+    let alone = job_with_gap(1, 1, 8, &[E]);
+    assert_eq!(calls::check(&alone.lent(), &[[0; 3]]), Ok(()));
+}
+
+#[test]
+fn gaps_that_no_reading_gives() {
+    let job = job(9, 9, &[E, E]);
+    for gap in [9, 10, 255, 256, 1 << 16, 1 << 32, usize::MAX] {
+        let mut lent = job.lent();
+        lent.gap = gap;
+        let refused = calls::check(&lent, &[]).map_err(|refusal| refusal.cause);
+        assert_eq!(refused, Err(Cause::LentGap));
+        assert_eq!(Cause::LentGap.number(), 8);
+    }
+}
+
+#[test]
+fn counts_are_of_pixels_alone() {
+    let job = job_with_gap(3, 3, 8, &[E, E]);
+    let (mut record, mut counts) = ([[0; 4]; RECORD], [0; 9]);
+    for (piece, place) in [[0, 0, 0], [0, 1, 0]].into_iter().enumerate() {
+        let sheet = Counts {
+            record: &mut record,
+            counts: &mut counts,
+        };
+        assert_eq!(calls::lay(&job.lent(), sheet, piece, place), Ok(()));
+    }
+    assert_eq!(counts, [1, 1, 0, 0, 0, 0, 0, 0, 0]);
 }
 
 #[test]
@@ -198,7 +279,7 @@ fn the_first_cause_of_a_cut_list_wins() {
     assert_eq!(step(&shared, 4_097), Err(Cause::Pitch));
     assert_eq!(step(&spoilt_turn, 1), Err(Cause::LayoutTurn));
     assert_eq!(step(&shared_outside, 1), Err(Cause::Outside));
-    assert_eq!(step(&shared, 1), Err(Cause::Shared));
+    assert_eq!(step(&shared, 1), Err(Cause::Conflict));
 
     let lines = |lent: &Lent, layout: &[[u16; 3]]| {
         // Room for one line, where there are more.
@@ -208,7 +289,7 @@ fn the_first_cause_of_a_cut_list_wins() {
         count.map_err(|refusal| refusal.cause)
     };
     assert_eq!(lines(&job.lent(), &right), Err(Cause::BufferShort));
-    assert_eq!(lines(&job.lent(), &shared), Err(Cause::Shared));
+    assert_eq!(lines(&job.lent(), &shared), Err(Cause::Conflict));
     assert_eq!(lines(&job.lent(), &shared_outside), Err(Cause::Outside));
     assert_eq!(lines(&job.lent(), &spoilt_turn), Err(Cause::LayoutTurn));
     assert_eq!(
@@ -301,7 +382,7 @@ fn the_lowest_pair_is_named() {
     let check = |layout| calls::check(&job.lent(), layout);
     let shared = |first, second| {
         let places = [first, second];
-        let cause = Cause::Shared;
+        let cause = Cause::Conflict;
         Err(Refusal { cause, places })
     };
     assert_eq!(check(&[[0, 0, 0], [0, 2, 0], [0, 4, 0], [0, 6, 0]]), Ok(()));
@@ -385,23 +466,24 @@ fn entries(layout: &[Place]) -> Vec<[u16; 3]> {
 
 /// Compares every call about two pieces with the definitions.
 fn check_pairs(problem: &Problem, layout: &[Place]) {
-    let (job, given) = (Buffers::read(&problem.text()), entries(layout));
+    let (job, given, g) = (Buffers::read(&problem.text()), entries(layout), problem.g);
     let mut lowest = Ok(());
     for (i, k) in problem.pairs() {
         let pixels = [i, k].map(|piece| oracle::turned(&problem.panels[piece], layout[piece].turn));
         let (from, to) = (layout[i].corner, layout[k].corner);
         let offset = (to.0 - from.0, to.1 - from.1);
         let expected =
-            STEPS.map(|step| oracle::depth(&pixels[0], &pixels[1], offset, step) as usize);
+            STEPS.map(|step| oracle::depth(g, &pixels[0], &pixels[1], offset, step) as usize);
         for (vertical, depth) in [false, true].into_iter().zip(expected) {
             assert_eq!(calls::depth(&job.lent(), &given, i, k, vertical), Ok(depth));
             assert_eq!(calls::depth(&job.lent(), &given, k, i, vertical), Ok(depth));
         }
-        let shares = oracle::shares(&pixels[0], &pixels[1], offset);
-        assert_eq!(calls::shares_pixel(&job.lent(), &given, i, k), Ok(shares));
-        if shares && lowest.is_ok() {
+        let conflict = oracle::conflicts(g, &pixels[0], &pixels[1], offset);
+        let found = calls::shares_pixel(&job.lent(), &given, i, k);
+        assert_eq!(found, Ok(conflict));
+        if conflict && lowest.is_ok() {
             let places = [i, k];
-            let cause = Cause::Shared;
+            let cause = Cause::Conflict;
             lowest = Err(Refusal { cause, places });
         }
     }
@@ -450,7 +532,8 @@ fn no_fit_lines_of_random_pieces() {
         let (l, w) = (lcg.range(1, 6), lcg.range(1, 6));
         let panels = vec![lcg.panel(l, w, 60), lcg.panel(w, l, 60)];
         let (w, l) = (9, 9);
-        let problem = Problem { w, l, panels };
+        let g = lcg.gap();
+        let problem = Problem { w, l, g, panels };
         let job = Buffers::read(&problem.text());
         for vertical in [false, true] {
             check_lines(&problem, &job, vertical);
@@ -476,7 +559,7 @@ fn check_lines(problem: &Problem, job: &Buffers, vertical: bool) {
             strips: &lent[usize::from(vertical)].0[range.expect("the stores are right")],
         }
     };
-    for offset in -8..=8 {
+    for offset in -16..=16 {
         let mut runs = [[0; 2]; 20];
         let pair = [stretch(0), stretch(1)];
         let count = calls::no_fit_line(&job.lent(), pair, vertical, offset, &mut runs);
@@ -486,13 +569,13 @@ fn check_lines(problem: &Problem, job: &Buffers, vertical: bool) {
             } else {
                 (along, offset)
             };
-            oracle::shares(pixels[0], pixels[1], d)
+            oracle::conflicts(problem.g, pixels[0], pixels[1], d)
         };
         let found = &runs[..count.expect("the stretches are right")];
         let listed = found
             .iter()
             .flat_map(|&[first, count]| first..first + count);
-        assert!(listed.eq((-20..20).filter(covered)));
+        assert!(listed.eq((-30..30).filter(covered)));
         assert!(found
             .windows(2)
             .all(|pair| pair[0][0] + pair[0][1] < pair[1][0]));

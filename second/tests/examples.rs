@@ -1,4 +1,4 @@
-//! The marked examples P1 to P12 and the two examples of the program.
+//! The marked examples P1 to P12 and the two examples of the program, those of them that a gap changes, and the largest depth and penalty.
 
 use second::job::{Job, Piece};
 use second::layout::{self, Placement};
@@ -51,37 +51,57 @@ fn job(rows: usize, columns: usize, turn_sum: usize, shapes: Vec<Shape>) -> Job 
     Job {
         rows,
         columns,
+        gap: 0,
         pieces,
     }
 }
 
-/// The no-fit region of two shapes.
-fn no_fit(fixed: &Shape, moving: &Shape) -> NoFit {
+/// The no-fit region of two shapes that are to keep a gap.
+fn no_fit(fixed: &Shape, moving: &Shape, gap: usize) -> NoFit {
     let opposite = moving.turned(Turn::ALL[2]);
-    NoFit::new(&BitShape::new(fixed), &BitShape::new(&opposite))
+    NoFit::new(
+        &BitShape::new(&fixed.widened(gap)),
+        &BitShape::new(&opposite),
+    )
 }
 
 /// The no-fit row of A and A at a row offset, as column offsets.
-fn no_fit_row_of_a(row_offset: usize) -> Vec<(isize, usize)> {
-    let region = no_fit(&a(), &a());
-    // The box of offsets runs from -1 to 1; the rows beyond it are empty.
-    let row = row_offset + 1;
+fn no_fit_row_of_a(row_offset: usize, gap: usize) -> Vec<(isize, usize)> {
+    let region = no_fit(&a(), &a(), gap);
+    // Without a gap the box of offsets runs from -1 to 1; the rows beyond it are empty.
+    let row = row_offset + gap + 1;
     if row >= region.rows() {
         return Vec::new();
     }
     region
         .row_runs(row)
-        .map(|(first, count)| (first as isize - 1, count))
+        .map(|(first, count)| (first as isize - 1 - gap as isize, count))
         .collect()
 }
 
-/// Both depths and the penalty of two shapes in turn 0; the offset is not negative.
+/// Both depths and the penalty of two shapes in turn 0 without a gap; the offset is not negative.
 fn depths_and_penalty(first: Shape, second: Shape, dx: usize, dy: usize) -> (usize, usize, u8) {
-    let region = no_fit(&first, &second);
-    let cell = (dx + second.columns() - 1, dy + second.rows() - 1);
+    depths_with_gap(first, second, dx, dy, 0)
+}
+
+/// The same with a gap.
+fn depths_with_gap(
+    first: Shape,
+    second: Shape,
+    dx: usize,
+    dy: usize,
+    gap: usize,
+) -> (usize, usize, u8) {
+    let region = no_fit(&first, &second, gap);
+    let cell = (
+        dx + gap + second.columns() - 1,
+        dy + gap + second.rows() - 1,
+    );
     let horizontal = region.depth(Direction::Horizontal, cell.0, cell.1);
     let vertical = region.depth(Direction::Vertical, cell.0, cell.1);
-    let maps = PenaltyMaps::new(&job(9, 9, 1, vec![first, second]));
+    let mut job = job(9, 9, 1, vec![first, second]);
+    job.gap = gap;
+    let maps = PenaltyMaps::new(&job);
     (
         horizontal,
         vertical,
@@ -121,17 +141,21 @@ fn p2_turn_by_90() {
 
 #[test]
 fn p3_no_fit_row_at_1() {
-    assert_eq!(no_fit_row_of_a(1), [(-1, 3)]);
+    assert_eq!(no_fit_row_of_a(1, 0), [(-1, 3)]);
+    assert_eq!(no_fit_row_of_a(1, 1), [(-2, 5)]);
 }
 
 #[test]
 fn p4_no_fit_row_at_2() {
-    assert_eq!(no_fit_row_of_a(2), []);
+    assert_eq!(no_fit_row_of_a(2, 0), []);
+    assert_eq!(no_fit_row_of_a(2, 1), [(-2, 5)]);
+    assert_eq!(no_fit_row_of_a(3, 1), []);
 }
 
 #[test]
 fn p5_depths_of_half_overlap() {
     assert_eq!(depths_and_penalty(a(), a(), 1, 0), (1, 2, 1));
+    assert_eq!(depths_with_gap(a(), a(), 1, 0, 1), (2, 3, 2));
 }
 
 #[test]
@@ -142,6 +166,8 @@ fn p6_penalty_of_full_overlap() {
 #[test]
 fn p7_pixel_in_a_hole() {
     assert_eq!(depths_and_penalty(d(), e(), 1, 1), (0, 0, 0));
+    // With a gap there is no room in the hole: the pixel has to leave the ring and keep one free column or row.
+    assert_eq!(depths_with_gap(d(), e(), 1, 1, 1), (3, 3, 3));
 }
 
 #[test]
@@ -155,6 +181,49 @@ fn p9_boxes_meet_without_overlap() {
     assert_eq!(maps.penalty(0, at(0, 0, 0), 1, at(180, 1, 0)), 0);
     assert_eq!(maps.penalty(1, at(180, 1, 0), 0, at(0, 0, 0)), 0);
     assert_eq!(maps.penalty(0, at(0, 0, 0), 1, at(180, 0, 0)), 1);
+    let turned = || b().turned(Turn::ALL[2]);
+    assert_eq!(depths_with_gap(b(), turned(), 1, 0, 0), (0, 0, 0));
+    assert_eq!(depths_with_gap(b(), turned(), 1, 0, 1), (2, 2, 2));
+}
+
+/// A full rectangle.
+fn full(columns: usize, rows: usize) -> Shape {
+    Shape::new(columns, vec![true; columns * rows])
+}
+
+#[test]
+fn largest_depth() {
+    let depths = |gap| depths_with_gap(full(255, 128), full(255, 128), 0, 0, gap);
+    assert_eq!(depths(0), (255, 128, 128));
+    assert_eq!(depths(8), (263, 136, 136));
+}
+
+#[test]
+fn largest_penalty() {
+    // The upright piece has its middle column and row where the lying one has its own.
+    let mut job = job(256, 256, 1, vec![full(255, 128), full(128, 255)]);
+    job.gap = 8;
+    let maps = PenaltyMaps::new(&job);
+    let penalty = |x, y| maps.penalty(0, at(0, 0, y), 1, at(0, x, 0));
+    assert_eq!(penalty(63, 63), 199);
+    assert_eq!(penalty(64, 64), 199);
+    assert_eq!(penalty(62, 63), 198);
+    assert_eq!(penalty(64, 65), 198);
+    // No two boxes whose areas fit a job have a larger one: half the columns of both, or half the rows, and the gap.
+    let sides = || (1..=255).flat_map(|columns| (1..=255).map(move |rows| (columns, rows)));
+    let mut largest = 0;
+    for (columns, rows) in sides().filter(|(columns, rows)| columns * rows <= 65_536) {
+        // The columns of the other box decide how many rows it may have.
+        for other_columns in 1..=255 {
+            let room = (65_536 - columns * rows) / other_columns;
+            let other_rows = room.min(255);
+            if other_rows > 0 {
+                let half = (columns + other_columns).min(rows + other_rows) / 2;
+                largest = largest.max(half + 8);
+            }
+        }
+    }
+    assert_eq!(largest, 199);
 }
 
 #[test]
@@ -210,9 +279,12 @@ fn p12_descent_ends_settled_or_spent() {
     );
 }
 
+/// The pieces of a job text of two full 2 x 2 panels.
+const SQUARES: &str = "piece,0,2,2,1\nrow,##\nrow,##\npiece,1,2,2,1\nrow,##\nrow,##\n";
+
 /// The job text of two full 2 x 2 panels on a sheet of 2 rows.
 fn two_squares(columns: usize) -> String {
-    format!("job,1,2,{columns},2\npiece,0,2,2,1\nrow,##\nrow,##\npiece,1,2,2,1\nrow,##\nrow,##\n")
+    format!("job,1,2,{columns},2\n{SQUARES}")
 }
 
 #[test]
@@ -225,4 +297,18 @@ fn program_example_clear() {
 fn program_example_open() {
     let expected = "layout,1,2,3,2\nat,0,0,0,0\nat,1,0,1,0\nend,open,1,80,0,3\n";
     assert_eq!(second::run(two_squares(3).as_bytes()), expected);
+}
+
+#[test]
+fn program_examples_with_a_gap() {
+    let run = |columns, gap| {
+        let text = format!("job,2,2,{columns},2,{gap}\n{SQUARES}");
+        second::run(text.as_bytes())
+    };
+    let without = second::run(two_squares(4).as_bytes());
+    assert_eq!(run(4, 0), without);
+    let open = "layout,1,2,4,2\nat,0,0,0,0\nat,1,0,2,0\nend,open,1,80,0,4\n";
+    assert_eq!(run(4, 1), open);
+    let clear = "layout,1,2,5,2\nat,0,0,0,0\nat,1,0,3,0\nend,clear,0,3,1,5\n";
+    assert_eq!(run(5, 1), clear);
 }

@@ -30,15 +30,16 @@ fn placements(layout: &[Place]) -> Vec<Placement> {
     layout.iter().map(placement).collect()
 }
 
-/// Compares the penalties of two panels at every offset where their boxes meet or nearly do.
+/// Compares the penalties of two panels at every offset where their boxes come within the gap or nearly do.
 fn check_all_offsets(problem: &Problem, turns: [i32; 2]) {
     let maps = PenaltyMaps::new(&job_of(problem));
     let pixels = [0, 1].map(|k| oracle::turned(&problem.panels[k], turns[k]));
     let boxes = [0, 1].map(|k| oracle::turned_box(&problem.panels[k], turns[k]));
     // The first corner is far enough from 0 that every second corner is not negative.
-    let base = (boxes[1].0 + 1, boxes[1].1 + 1);
-    for dx in -boxes[1].0 - 1..=boxes[0].0 + 1 {
-        for dy in -boxes[1].1 - 1..=boxes[0].1 + 1 {
+    let more = problem.g + 1;
+    let base = (boxes[1].0 + more, boxes[1].1 + more);
+    for dx in -boxes[1].0 - more..=boxes[0].0 + more {
+        for dy in -boxes[1].1 - more..=boxes[0].1 + more {
             let first = Place {
                 turn: turns[0],
                 corner: base,
@@ -47,7 +48,7 @@ fn check_all_offsets(problem: &Problem, turns: [i32; 2]) {
                 turn: turns[1],
                 corner: (base.0 + dx, base.1 + dy),
             };
-            let expected = oracle::penalty(&pixels[0], &pixels[1], (dx, dy));
+            let expected = oracle::penalty(problem.g, &pixels[0], &pixels[1], (dx, dy));
             let (first, second) = (placement(&first), placement(&second));
             assert_eq!(u64::from(maps.penalty(0, first, 1, second)), expected);
             assert_eq!(u64::from(maps.penalty(1, second, 0, first)), expected);
@@ -68,10 +69,39 @@ fn penalty_maps_of_small_pieces() {
         let problem = Problem {
             w: 30,
             l: 30,
+            g: lcg.gap(),
             panels,
         };
         for turns in 0..16 {
             check_all_offsets(&problem, [turns / 4, turns % 4]);
+        }
+    }
+}
+
+#[test]
+fn widened_shapes() {
+    let mut lcg = Lcg(13);
+    for _ in 0..60 {
+        let (l, w) = (lcg.range(1, 7), lcg.range(1, 7));
+        let panel = lcg.panel(l, w, 40);
+        let g = lcg.range(0, 8);
+        let problem = Problem {
+            w: 9,
+            l: 9,
+            g: 0,
+            panels: vec![panel.clone()],
+        };
+        let widened = job_of(&problem).pieces[0].shape.widened(g as usize);
+        assert_eq!(widened.columns() as i32, l + 2 * g);
+        assert_eq!(widened.rows() as i32, w + 2 * g);
+        let has = |x: i32, y: i32| {
+            let cell = [(x - g, y - g)];
+            oracle::conflicts(g, &panel.pixels, &cell, (0, 0))
+        };
+        for y in 0..widened.rows() {
+            for x in 0..widened.columns() {
+                assert_eq!(widened.has(x, y), has(x as i32, y as i32));
+            }
         }
     }
 }
@@ -84,6 +114,7 @@ fn penalty_maps_of_equal_pieces() {
         let problem = Problem {
             w: 20,
             l: 20,
+            g: lcg.gap(),
             panels: vec![panel.clone(), panel],
         };
         for turns in 0..16 {
@@ -95,11 +126,14 @@ fn penalty_maps_of_equal_pieces() {
 #[test]
 fn penalty_maps_of_long_pieces() {
     let mut lcg = Lcg(3);
-    for (sides, percent) in [
-        ([70, 2, 64, 1], 20),
-        ([130, 1, 3, 3], 40),
-        ([65, 2, 2, 66], 12),
-        ([255, 1, 255, 1], 9),
+    for (sides, percent, g) in [
+        ([70, 2, 64, 1], 20, 0),
+        ([130, 1, 3, 3], 40, 0),
+        ([65, 2, 2, 66], 12, 0),
+        ([255, 1, 255, 1], 9, 0),
+        ([130, 1, 3, 3], 40, 1),
+        ([65, 2, 2, 66], 12, 3),
+        ([255, 1, 255, 1], 9, 8),
     ] {
         let panels = vec![
             lcg.panel(sides[0], sides[1], percent),
@@ -108,6 +142,7 @@ fn penalty_maps_of_long_pieces() {
         let problem = Problem {
             w: 100,
             l: 300,
+            g,
             panels,
         };
         for turns in [[0, 0], [0, 1], [3, 2]] {
@@ -123,6 +158,7 @@ fn penalty_of_the_largest_full_pieces() {
     let problem = Problem {
         w: 255,
         l: 255,
+        g: 0,
         panels: vec![bar.clone(), bar],
     };
     let maps = PenaltyMaps::new(&job_of(&problem));
@@ -145,6 +181,7 @@ fn penalty_of_the_largest_full_pieces() {
     let maps = PenaltyMaps::new(&Job {
         rows: 255,
         columns: 255,
+        gap: 0,
         pieces,
     });
     assert_eq!(maps.penalty(0, lying, 1, lying), 255);
@@ -165,11 +202,17 @@ fn depths_and_no_fit_rows() {
             lcg.panel(sides[0], sides[1], 55),
             lcg.panel(sides[2], sides[3], 55),
         ];
-        let problem = Problem { w: 9, l: 9, panels };
+        let g = lcg.gap();
+        let problem = Problem {
+            w: 9,
+            l: 9,
+            g,
+            panels,
+        };
         let job = job_of(&problem);
         let opposite = job.pieces[1].shape.turned(Turn::ALL[2]);
         let region = NoFit::new(
-            &BitShape::new(&job.pieces[0].shape),
+            &BitShape::new(&job.pieces[0].shape.widened(job.gap)),
             &BitShape::new(&opposite),
         );
         let (i, j) = (&problem.panels[0].pixels, &problem.panels[1].pixels);
@@ -183,11 +226,14 @@ fn depths_and_no_fit_rows() {
                 .windows(2)
                 .all(|pair| pair[0].0 + pair[0].1 < pair[1].0));
             for (column, covered) in covered.into_iter().enumerate() {
-                let d = (column as i32 - sides[2] + 1, row as i32 - sides[3] + 1);
-                assert_eq!(covered, oracle::shares(i, j, d));
+                let d = (
+                    column as i32 - g - sides[2] + 1,
+                    row as i32 - g - sides[3] + 1,
+                );
+                assert_eq!(covered, oracle::conflicts(g, i, j, d));
                 for (direction, step) in Direction::ALL.into_iter().zip(STEPS) {
                     let depth = region.depth(direction, column, row) as u64;
-                    assert_eq!(depth, oracle::depth(i, j, d, step));
+                    assert_eq!(depth, oracle::depth(g, i, j, d, step));
                 }
             }
         }

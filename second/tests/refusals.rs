@@ -34,6 +34,16 @@ fn accepted_unchanged() {
 }
 
 #[test]
+fn every_gap_is_accepted() {
+    assert_eq!(with_lines(&[(1, "job,2,9,8,2,0")]), with_lines(&[]));
+    for gap in 0..=8 {
+        let line = format!("job,2,9,8,2,{gap}");
+        // The layout text has no gap and keeps its version.
+        assert!(with_lines(&[(1, &line)]).starts_with("layout,1,9,8,2\n"));
+    }
+}
+
+#[test]
 fn wrong_form_of_the_job_line() {
     for line in [
         "",
@@ -41,6 +51,24 @@ fn wrong_form_of_the_job_line() {
         "job,1,9,8",
         "job,1,9,8,2,",
         "job,1,9,8,2,1",
+        "job,1,9,8,2,0",
+        "job,2,9,8,2,",
+        "job,2,9,8,2,1,",
+        "job,2,9,8,2,1,1",
+        "job,2,9,8,2,00",
+        "job,2,9,8,2,08",
+        "job,2,9,8,2,-1",
+        "job,2,9,8,2,+1",
+        "job,2,9,8,2, 1",
+        "job,2,9,8,2,1 ",
+        "job,2,9,8,2,1\r",
+        "job,2,9,8,2,100000",
+        "job,2,9,8,2,x",
+        "job,02,9,8,2,1",
+        "job,3,9,8,2",
+        "job,3,9,8,2,1",
+        "job,0,9,8,2,1",
+        "job,258,9,8,2,1",
         "job,2,9,8,2",
         "job,0,9,8,2",
         "job,01,9,8,2",
@@ -72,6 +100,9 @@ fn wrong_form_of_the_job_line() {
 fn form_comes_before_range() {
     assert_refused(1, "job,1,0,8,x", 1);
     assert_refused(1, "job,2,0,8,2", 1);
+    assert_refused(1, "job,3,0,8,2,9", 1);
+    assert_refused(1, "job,2,0,8,2,x", 1);
+    assert_refused(1, "job,2,9,8,2,9,", 1);
     assert_refused(1, "job,1,512,4096,65,", 1);
     assert_refused(2, "piece,1,2,2,x", 1);
     assert_refused(2, "piece,0,9,9,1,1", 1);
@@ -91,6 +122,14 @@ fn range_of_the_job_line() {
     ] {
         assert_refused(1, line, 2);
     }
+    for gap in [
+        "9", "10", "16", "255", "256", "264", "65535", "65536", "99999",
+    ] {
+        assert_refused(1, &format!("job,2,9,8,2,{gap}"), 2);
+    }
+    assert_refused(1, "job,2,513,8,2,8", 2);
+    assert_refused(1, "job,2,512,129,2,9", 2);
+    assert_refused(1, "job,2,512,129,2,8", 3);
     assert_refused(1, "job,1,512,129,2", 3);
     assert_refused(1, "job,1,17,4096,2", 3);
     assert!(with_lines(&[(1, "job,1,512,128,2")]).starts_with("layout,1,512,128,2\n"));

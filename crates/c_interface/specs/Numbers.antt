@@ -1,4 +1,4 @@
--- How the numbers that an exported call is handed stand for document 01's types. Every number stands for something, so that no
+-- How the numbers that an exported call is handed stand for the documents' types. Every number stands for something, so that no
 -- content is left without a meaning. Assumes nothing.
 use mathlib.Core.Bool.{true, false}
 use mathlib.Core.List.{List}
@@ -13,12 +13,12 @@ use Rattle.model.specs.declared.Line.{Line}
 use Rattle.model.specs.declared.Line.the-variants.{InRow, InColumn}
 
 -- a job's numbers, from those that a call is handed
-abbrev pub sizeAs : ℕ → ℕ → ℕ → JobSize
-sizeAs rows columns count = record { rows = rows; columns = columns; count = count }
+abbrev pub sizeAs : ℕ → ℕ → ℕ → ℕ → JobSize
+sizeAs rows columns count gap = record { rows = rows; columns = columns; count = count; gap = gap }
 
 -- the job that the numbers, the table and the pixels lend
-abbrev pub lentAs : ℕ → ℕ → ℕ → List (List ℕ) → List ℕ → Lent
-lentAs rows columns count table pixels = lentBy (sizeAs rows columns count) table pixels
+abbrev pub lentAs : ℕ → ℕ → ℕ → ℕ → List (List ℕ) → List ℕ → Lent
+lentAs rows columns count gap table pixels = lentBy (sizeAs rows columns count gap) table pixels
 
 -- the line in a held row, or in a held column if vertical
 abbrev pub lineOf : ℕ → ℕ → Line

@@ -48,13 +48,14 @@ pub fn refused(refusal: Refusal) -> Reply
 }
 
 // A job's numbers.
-pub fn size_of(rows: usize, columns: usize, count: usize) -> JobSize
-    ensures { λ r. ⌜ r ≡ sizeAs rows columns count ⌝ }
+pub fn size_of(rows: usize, columns: usize, count: usize, gap: usize) -> JobSize
+    ensures { λ r. ⌜ r ≡ sizeAs rows columns count gap ⌝ }
 {
     JobSize {
         rows: rows,
         columns: columns,
         count: count,
+        gap: gap,
     }
 }
 

@@ -39,14 +39,22 @@ pub fn coordinate_number(coordinate: Coordinate) -> usize
 }
 
 // Hands over the numbers of a job.
-pub fn put_size(size: JobSize, rows: &mut usize, columns: &mut usize, count: &mut usize)
+pub fn put_size(
+    size: JobSize,
+    rows: &mut usize,
+    columns: &mut usize,
+    count: &mut usize,
+    gap: &mut usize,
+)
     ensures rows { λ r. ⌜ now (rows .exit) ≡ size .rows ⌝ }
     ensures columns { λ r. ⌜ now (columns .exit) ≡ size .columns ⌝ }
     ensures count { λ r. ⌜ now (count .exit) ≡ size .count ⌝ }
+    ensures gap { λ r. ⌜ now (gap .exit) ≡ size .gap ⌝ }
 {
     *rows = size.rows;
     *columns = size.columns;
     *count = size.count;
+    *gap = size.gap;
 }
 
 // Hands over what a run comes to beside its buffers: a sum, how many trials were made, and how many moves.

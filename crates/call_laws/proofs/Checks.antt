@@ -1,22 +1,22 @@
--- Document 01, 'When a call says no', checking a layout: a layout that passes is valid and no two of its pieces share a pixel; refusal 12
--- names the pair that shares one, lowest first number, then lowest second. The pairs are listed in that order, and the check names
--- the first that shares. Assumes nothing.
+-- Document 01, 'When a call says no', checking a layout: a layout that passes is valid and no two of its pieces conflict; refusal 12
+-- names the pair that does, lowest first number, then lowest second. The pairs are listed in that order, and the check names
+-- the first that conflicts. Assumes nothing.
 use Rattle.list_laws.proofs.Kit.{_∙_, _≡_, ap, refl, subst, sym, Bool, false, true, _≢_, _⊎_, inl, inr, ⊎-elim, Option, none, some, List, List·Memᴰ}
 use Rattle.list_laws.proofs.Kit.{List·Memᴰ·cases-cons, List·Memᴰ·head, List·Memᴰ·not-nil, List·Memᴰ·tail, [], _++_, _∷_, suc, zero, ℕ, arith}
-use Rattle.model.specs.Layout.{Job, Layout, Pair, pairsWith, pairsFrom, pairs, pairShares, firstPair, sharingPair}
+use Rattle.model.specs.Layout.{Job, Layout, Pair, pairsWith, pairsFrom, pairs, pairConflicts, firstPair, conflictingPair}
 use Rattle.model.specs.Buffer.{layoutOf}
 use Rattle.model.specs.Lent.{Lent, jobOf}
 use Rattle.model.specs.Refusal.{Outcome, refused, given, Cause, unless, refusalOf}
-use Rattle.model.specs.Calls.{jobCause, layoutLength, turnsCause, outsideCause, layoutCauses, sharedCause, checkCall}
+use Rattle.model.specs.Calls.{jobCause, layoutLength, turnsCause, outsideCause, layoutCauses, conflictCause, checkCall}
 use Rattle.model.specs.declared.Refusal.{Refusal}
 use Rattle.list_laws.proofs.Tests.{clash}
 use Rattle.strip_laws.specs.Lists.{Pairwise, none as no-more, more}
 use Rattle.strip_laws.proofs.Lists.{pairwise-append}
 use Rattle.text_laws.proofs.Outcomes.{given-unless}
-use Rattle.overlap_laws.proofs.Share.{share-from, share-witness}
-use Rattle.descent_laws.specs.Claims.{NoSharedPixel}
+use Rattle.overlap_laws.proofs.Grown.{conflict-from, conflict-witness}
+use Rattle.descent_laws.specs.Claims.{NoConflict}
 use Rattle.descent_laws.proofs.Sums.{pair-mem, mem-pair, mem-with, mem-from}
-use Rattle.call_laws.specs.Checks.{PairBefore, LowestPair, Checked, sharedRefusal}
+use Rattle.call_laws.specs.Checks.{PairBefore, LowestPair, Checked, conflictRefusal}
 use Rattle.call_laws.proofs.Layouts.{layout-valid}
 
 -- ── the order of pairs ──
@@ -71,41 +71,41 @@ first-found test (p ∷ ps) (more before rest) = found-step test p ps (test p) r
 
 -- ── the check ──
 
--- what the search for a pair that shares a pixel finds
-abbrev pub Sharing : Job → Layout → Option Pair → Type 0
-Sharing j v none = NoSharedPixel j v
-Sharing j v (some p) = LowestPair j v p
+-- what the search for a pair that conflicts finds
+abbrev pub Conflicting : Job → Layout → Option Pair → Type 0
+Conflicting j v none = NoConflict j v
+Conflicting j v (some p) = LowestPair j v p
 
 -- from the tests to the pixels
-sharing-step : (j : Job) (v : Layout) (o : Option Pair) → FirstFound (pairShares j v) (pairs (j .size .count)) o → Sharing j v o
-unfolding pairShares
-sharing-step j v none found =
-    λ i k l m w. clash (share-from _ _ _ _ w) (found (record { first = i; second = k }) (pair-mem (j .size .count) i k l m))
-sharing-step j v (some p) found =
+conflicting-step : (j : Job) (v : Layout) (o : Option Pair) → FirstFound (pairConflicts j v) (pairs (j .size .count)) o → Conflicting j v o
+unfolding pairConflicts
+conflicting-step j v none found =
+    λ i k l m w. clash (conflict-from _ _ _ _ _ w) (found (record { first = i; second = k }) (pair-mem (j .size .count) i k l m))
+conflicting-step j v (some p) found =
     record {
       ordered = mem-pair (j .size .count) p (found .0);
-      shared = share-witness _ _ _ _ (found .1);
-      lowest = λ i k l m w. found .2 (record { first = i; second = k }) (pair-mem (j .size .count) i k l m) (share-from _ _ _ _ w);
+      conflicts = conflict-witness _ _ _ _ _ (found .1);
+      lowest = λ i k l m w. found .2 (record { first = i; second = k }) (pair-mem (j .size .count) i k l m) (conflict-from _ _ _ _ _ w);
     }
 
 -- the search answers so
-pub sharing : (j : Job) (v : Layout) → Sharing j v (sharingPair j v)
-unfolding sharingPair
-sharing j v = sharing-step j v (sharingPair j v) (first-found (pairShares j v) (pairs (j .size .count)) (pairs-ordered (j .size .count)))
+pub conflicting : (j : Job) (v : Layout) → Conflicting j v (conflictingPair j v)
+unfolding conflictingPair
+conflicting j v = conflicting-step j v (conflictingPair j v) (first-found (pairConflicts j v) (pairs (j .size .count)) (pairs-ordered (j .size .count)))
 
--- where the search's cause is not there, no two pieces share a pixel
-none-shared : (j : Job) (v : Layout) (o : Option Pair) → Sharing j v o → sharedCause o .there ≡ false → NoSharedPixel j v
-none-shared j v none h e = h
-none-shared j v (some p) h e = absurd (clash refl e)
+-- where the search's cause is not there, no two pieces conflict
+none-conflict : (j : Job) (v : Layout) (o : Option Pair) → Conflicting j v o → conflictCause o .there ≡ false → NoConflict j v
+none-conflict j v none h e = h
+none-conflict j v (some p) h e = absurd (clash refl e)
 
--- a layout that passes the check is valid, and no two of its pieces share a pixel
+-- a layout that passes the check is valid, and no two of its pieces conflict
 pub check-given : (l : Lent) (es : List (List ℕ)) (u : Unit {0}) → checkCall l es ≡ given u → Checked (jobOf l) (layoutOf es)
 unfolding checkCall layoutCauses
 check-given l es u e =
-    let n = given-unless (layoutCauses l es ++ (sharedCause (sharingPair (jobOf l) (layoutOf es)) ∷ [])) tt u e .none in
+    let n = given-unless (layoutCauses l es ++ (conflictCause (conflictingPair (jobOf l) (layoutOf es)) ∷ [])) tt u e .none in
     record {
       valid = layout-valid l es (n .1 .0) (n .1 .1 .0) (n .1 .1 .1 .0);
-      apart = none-shared (jobOf l) (layoutOf es) (sharingPair (jobOf l) (layoutOf es)) (sharing (jobOf l) (layoutOf es)) (n .1 .1 .1 .1 .0);
+      apart = none-conflict (jobOf l) (layoutOf es) (conflictingPair (jobOf l) (layoutOf es)) (conflicting (jobOf l) (layoutOf es)) (n .1 .1 .1 .1 .0);
     }
 
 -- by whether the first cause is there
@@ -122,21 +122,21 @@ unfolding unless
 past c cs a r n e = past-step c cs a r (c .there) n e
 
 -- the last cause names the pair that is found
-names-found : (j : Job) (v : Layout) (o : Option Pair) (p : Pair) → Sharing j v o
-    → unless (sharedCause o ∷ []) (tt {0}) ≡ refused (sharedRefusal p) → LowestPair j v p
+names-found : (j : Job) (v : Layout) (o : Option Pair) (p : Pair) → Conflicting j v o
+    → unless (conflictCause o ∷ []) (tt {0}) ≡ refused (conflictRefusal p) → LowestPair j v p
 unfolding unless
 names-found j v none p h e = absurd (let z : _≡_ {A = ℕ} 0 1 = cc in omega arith)
 names-found j v (some q) p h e =
-    let same : sharedRefusal q ≡ sharedRefusal p = cc in
+    let same : conflictRefusal q ≡ conflictRefusal p = cc in
     let pair : q ≡ p = λ i. record { first = same i .first; second = same i .second } in
     subst (LowestPair j v) pair h
 
--- refusal 12 names the lowest pair that shares a pixel
-pub check-shared : (l : Lent) (es : List (List ℕ)) (p : Pair) → checkCall l es ≡ refused (sharedRefusal p) → LowestPair (jobOf l) (layoutOf es) p
+-- refusal 12 names the lowest pair that conflicts
+pub check-conflict : (l : Lent) (es : List (List ℕ)) (p : Pair) → checkCall l es ≡ refused (conflictRefusal p) → LowestPair (jobOf l) (layoutOf es) p
 unfolding checkCall layoutCauses
-check-shared l es p e =
-    let o : Option Pair = sharingPair (jobOf l) (layoutOf es) in
-    let r : Refusal = sharedRefusal p in
-    names-found (jobOf l) (layoutOf es) o p (sharing (jobOf l) (layoutOf es))
-    (past (outsideCause l es) (sharedCause o ∷ []) tt r (omega arith)
+check-conflict l es p e =
+    let o : Option Pair = conflictingPair (jobOf l) (layoutOf es) in
+    let r : Refusal = conflictRefusal p in
+    names-found (jobOf l) (layoutOf es) o p (conflicting (jobOf l) (layoutOf es))
+    (past (outsideCause l es) (conflictCause o ∷ []) tt r (omega arith)
     (past (turnsCause l es) _ tt r (omega arith) (past (layoutLength l es) _ tt r (omega arith) (past (jobCause l) _ tt r (omega arith) e))))

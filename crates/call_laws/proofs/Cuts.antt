@@ -3,13 +3,13 @@
 use Rattle.list_laws.proofs.Kit.{_∙_, _≡_, ap, refl, subst, sym, true, List, [], _∷_, map}
 use Rattle.list_laws.proofs.Kit.{_*_, _<_, _≤_, suc, ℕ, arith, drop, length, length-map, take, take-at}
 use Rattle.list_laws.proofs.Tests.{said-yes}
-use Rattle.model.specs.Layout.{sharingPair}
+use Rattle.model.specs.Layout.{conflictingPair}
 use Rattle.model.specs.Lent.{Lent, jobOf}
 use Rattle.model.specs.Buffer.{layoutOf, filled}
 use Rattle.model.specs.Refusal.{Outcome, given, Cause, unless}
 use Rattle.model.specs.Buffer.{directionNumber, directionOf}
 use Rattle.model.specs.Cut.{CutLine, cutLines, smallerEnd, largerEnd, pitchBound, stepAt, stepIn, lineEntry, entryLine}
-use Rattle.model.specs.Calls.{jobCause, layoutLength, turnsCause, outsideCause, layoutCauses, sharedCause, pitchCause, cutLinesCall, cutStepCall}
+use Rattle.model.specs.Calls.{jobCause, layoutLength, turnsCause, outsideCause, layoutCauses, conflictCause, pitchCause, cutLinesCall, cutStepCall}
 use Rattle.model.specs.Calls.{linesAfter, lineStepCall}
 use Rattle.model.specs.declared.CutStep.{CutStep}
 use Rattle.model.specs.declared.Direction.{Direction}
@@ -99,7 +99,7 @@ unfolding cutLinesCall layoutCauses lineStepCall cutStepCall
 given-steps l es room ms pitch k e =
     let u = given-unless _ (cutLines (jobOf l) (layoutOf es)) ms e in
     let n = u .none in
-    let shared : Cause = sharedCause (sharingPair (jobOf l) (layoutOf es)) in
+    let shared : Cause = conflictCause (conflictingPair (jobOf l) (layoutOf es)) in
     let step : CutStep = stepIn pitch (stepAt (cutLines (jobOf l) (layoutOf es)) k) in
     ap (λ (ls : List CutLine). unless (pitchCause pitch ∷ []) (stepIn pitch (stepAt ls k))) (entries-back ms ∙ sym (u .same))
     ∙ sym

@@ -32,7 +32,6 @@ use Rattle.text_laws.proofs.JobRead.{job-read-well}
 use Rattle.text_laws.specs.Texts.{Readable, Demand1Text}
 use Rattle.text_laws.proofs.Demand1Text.{demand1-text}
 use Rattle.text_laws.proofs.LentRead.{lent-well-readable}
-use Rattle.overlap_laws.specs.Overlap.{SharedPixel}
 use Rattle.overlap_laws.specs.NoFit.{NoFitLine}
 use Rattle.cover_laws.specs.Effects.{LayGives, WithdrawGives}
 use Rattle.cover_laws.specs.CoverClaims.{CoverHolds}
@@ -43,10 +42,10 @@ use Rattle.call_laws.specs.Stores.{StretchClaims}
 use Rattle.call_laws.proofs.Stores.{stretch-some, stretch-tells, stretch-after, stretch-lent, stretch-rebuilt}
 use Rattle.call_laws.specs.Rebuilding.{PieceOf, RebuildClaims, RebuiltAs}
 use Rattle.call_laws.proofs.Rebuilding.{strips-well-piece, rebuild-given}
-use Rattle.call_laws.specs.Overlaps.{PenaltyClaims, SumClaims, DepthClaims}
+use Rattle.call_laws.specs.Overlaps.{PairNear, PenaltyClaims, SumClaims, DepthClaims}
 use Rattle.call_laws.proofs.Overlaps.{penalty-given, penalty-order, depth-given, share-given, no-fit-given, weighted-given, plain-given}
-use Rattle.call_laws.specs.Checks.{LowestPair, Checked, sharedRefusal}
-use Rattle.call_laws.proofs.Checks.{check-given, check-shared}
+use Rattle.call_laws.specs.Checks.{LowestPair, Checked, conflictRefusal}
+use Rattle.call_laws.proofs.Checks.{check-given, check-conflict}
 use Rattle.strip_laws.specs.Turns.{TurnedExactly}
 use Rattle.strip_laws.proofs.Turns.{turned-exactly}
 use Rattle.call_laws.specs.Clauses.{CallClauses}
@@ -92,9 +91,9 @@ pub record Demand1Calls : Type 0 where
   pub layoutRead : (l : Lent) (text : List ℕ) (room : ℕ) (v : Layout) → readLayoutCall l text room ≡ given v → ValidLayout (jobOf l) v
   pub writtenRead : (l : Lent) (es : List (List ℕ)) (room : ℕ) (text : List ℕ) → writeLayoutCall l es room ≡ given text
       → readLayoutCall l text (l .size .count) ≡ given (layoutOf es)
-  -- a layout that passes the check is valid with no shared pixel, and refusal 12 names the lowest pair that shares one
+  -- a layout that passes the check is valid with no conflict, and refusal 12 names the lowest pair that conflicts
   pub checks : (l : Lent) (es : List (List ℕ)) (u : Unit {0}) → checkCall l es ≡ given u → Checked (jobOf l) (layoutOf es)
-  pub checkNames : (l : Lent) (es : List (List ℕ)) (p : Pair) → checkCall l es ≡ refused (sharedRefusal p)
+  pub checkNames : (l : Lent) (es : List (List ℕ)) (p : Pair) → checkCall l es ≡ refused (conflictRefusal p)
       → LowestPair (jobOf l) (layoutOf es) p
   -- the used length reaches from the smallest corner x to the largest right end
   pub usedLengths : (l : Lent) (es : List (List ℕ)) (n : ℕ) → usedLengthCall l es ≡ given n → UsedClaims (jobOf l) (layoutOf es) n
@@ -138,17 +137,16 @@ pub record Demand2Calls : Type 0 where
       → (stripsWell d columns rows es ≡ true) ↔ ((s : Shape) × PieceOf d columns rows es s)
   pub rebuilds : (d : Direction) (columns rows : ℕ) (es : List (List ℕ)) (room : ℕ) (s : Shape) → rebuildCall d columns rows es room ≡ given s
       → RebuildClaims d columns rows es s
-  -- shared-pixel test, depths, penalty and no-fit rows and columns are those of the pixel sets
+  -- the test for a conflict, depths, penalty and no-fit rows and columns are those of the pixel sets, by the job's gap
   pub shares : (l : Lent) (es : List (List ℕ)) (i k : ℕ) (b : Bool) → shareCall l es i k ≡ given b
-      → (b ≡ true)
-      ↔ SharedPixel (shapeIn (jobOf l) (layoutOf es) i) (cornerIn (layoutOf es) i) (shapeIn (jobOf l) (layoutOf es) k) (cornerIn (layoutOf es) k)
+      → (b ≡ true) ↔ PairNear (jobOf l) (layoutOf es) i k
   pub depths : (d : Direction) (l : Lent) (es : List (List ℕ)) (i k n : ℕ) → depthCall d l es i k ≡ given n
       → DepthClaims d (jobOf l) (layoutOf es) i k n
   pub penalties : (l : Lent) (es : List (List ℕ)) (i k n : ℕ) → penaltyCall l es i k ≡ given n → PenaltyClaims (jobOf l) (layoutOf es) i k n
   -- the penalty does not depend on which piece is called first
   pub penaltyAlike : (l : Lent) (es : List (List ℕ)) (i k : ℕ) → penaltyCall l es i k ≡ penaltyCall l es k i
   pub noFits : (d : Direction) (l : Lent) (p q : LentStretch) (o : ℤ) (room : ℕ) (rs : List OffsetRun) → noFitCall d l p q o room ≡ given rs
-      → NoFitLine d (turnedPiece (jobOf l) (p .piece) (p .turn)) (turnedPiece (jobOf l) (q .piece) (q .turn)) o rs
+      → NoFitLine (l .size .gap) d (turnedPiece (jobOf l) (p .piece) (p .turn)) (turnedPiece (jobOf l) (q .piece) (q .turn)) o rs
   -- after every list of lay and withdraw calls from a fresh sheet each pixel's count is the number of laid pieces on it
   pub counts : (l : Lent) (room : ℕ) (s : Sheet) → freshCall l room ≡ given s → (cs : List Call)
       → CoverHolds (jobOf l) cs (afterSheetCalls l s cs)
@@ -164,7 +162,7 @@ pub record Demand2Calls : Type 0 where
 -- ── demand 3: sums, line search, descent, guided run ──
 
 pub record Demand3Calls : Type 0 where
-  -- a sum is 0 exactly when no two pieces share a pixel
+  -- a sum is 0 exactly when no two pieces conflict
   pub weightedSums : (l : Lent) (es : List (List ℕ)) (ws : List ℕ) (n : ℕ) → weightedSumCall l es ws ≡ given n
       → SumClaims (jobOf l) ws (layoutOf es) n
   pub plainSums : (l : Lent) (es : List (List ℕ)) (n : ℕ) → plainSumCall l es ≡ given n
@@ -218,7 +216,7 @@ demand1-calls =
       layoutRead = layout-given;
       writtenRead = written-read-back;
       checks = check-given;
-      checkNames = check-shared;
+      checkNames = check-conflict;
       usedLengths = used-given;
       cutLists = cut-given;
       cutSteps = step-given;

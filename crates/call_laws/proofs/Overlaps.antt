@@ -1,10 +1,10 @@
--- Demand 2 of the public calls (document 01, 'No-fit rows and penalty'): whatever a caller lends, a shared-pixel test, a depth, a penalty,
--- a no-fit row or a sum that is not refused is that of the pieces' pixel sets where the lent layout puts them. The call's causes are
+-- Demand 2 of the public calls (document 01, 'No-fit rows and penalty', with document 02's gap): whatever a caller lends, a test for a conflict,
+-- a depth, a penalty, a no-fit row or a sum that is not refused is that of the pieces' pixel sets where the lent layout puts them. The call's causes are
 -- not there, so the two numbers are pieces of the job, and a lent job's boxes have sides of at most 255. Assumes nothing.
-use Rattle.list_laws.proofs.Kit.{_≡_, ap, ap₂, refl, sym, Bool, _&&_, _||_, false, not, true, _↔_, _≢_, List, [], _∷_, _<_, ℕ, eqb, ltb, ℤ, eq-eqb, eqb-false}
+use Rattle.list_laws.proofs.Kit.{_≡_, ap, ap₂, refl, sym, Bool, _&&_, _||_, false, not, true, ⊎-elim, _↔_, _≢_, List, [], _∷_, _<_, _≤_, ℕ, eqb, ltb, ℤ, eq-eqb, eqb-false}
 use Rattle.list_laws.proofs.Kit.{eqb-true, ltb-true, not-false}
 use Rattle.model.specs.Overlap.{OffsetRun}
-use Rattle.model.specs.Layout.{Job, Layout, turnedPiece, shapeIn, cornerIn, placeOf, pairOf, pairShares, pairPenalty, pairDepth, weightedSum, plainSum}
+use Rattle.model.specs.Layout.{Job, Layout, turnedPiece, shapeIn, cornerIn, placeOf, pairOf, pairConflicts, pairPenalty, pairDepth, weightedSum, plainSum}
 use Rattle.model.specs.Layout.{unitWeights}
 use Rattle.model.specs.Buffer.{layoutOf}
 use Rattle.model.specs.Lent.{Lent, jobOf, lentWell}
@@ -14,19 +14,17 @@ use Rattle.model.specs.Calls.{noFitCall, layoutCauses, weightedSumCall, plainSu
 use Rattle.model.specs.declared.Direction.{Direction}
 use Rattle.model.specs.declared.Direction.the-variants.{Horizontal}
 use Rattle.list_laws.proofs.Tests.{and-left, and-right, or-neither, same-tests}
-use Rattle.job_laws.proofs.Checked.{lent-few, lent-turned-small}
+use Rattle.list_laws.proofs.Numbers.{apart}
+use Rattle.job_laws.proofs.Checked.{lent-few, lent-gap, lent-turned-small}
 use Rattle.text_laws.specs.Outcomes.{NoCause}
 use Rattle.text_laws.proofs.Outcomes.{given-unless}
-use Rattle.overlap_laws.specs.Overlap.{SharedPixel}
-use Rattle.overlap_laws.proofs.Share.{share-symmetric}
-use Rattle.overlap_laws.proofs.Depth.{depth-symmetric}
-use Rattle.overlap_laws.proofs.Penalty.{penalty-symmetric, demand2-penalty}
+use Rattle.overlap_laws.proofs.Penalty.{conflict-symmetric, conflict-depth-symmetric, conflict-penalty-symmetric, demand2-penalty, paper-penalty}
 use Rattle.overlap_laws.specs.NoFit.{NoFitLine}
 use Rattle.descent_laws.specs.Claims.{ValidLayout, ValidWeights}
-use Rattle.descent_laws.proofs.Sums.{zero-exactly}
+use Rattle.descent_laws.proofs.Sums.{zero-exactly, pair-mem}
 use Rattle.descent_laws.proofs.Guided.{unit-valid}
-use Rattle.descent_laws.proofs.Bounds.{weighted-at-most}
-use Rattle.call_laws.specs.Overlaps.{PairLaws, DepthClaims, PenaltyClaims, SumClaims}
+use Rattle.descent_laws.proofs.Bounds.{BoxesSmall, pair-penalty-largest, weighted-at-most}
+use Rattle.call_laws.specs.Overlaps.{PairLaws, PairNear, DepthClaims, PenaltyClaims, SumClaims}
 use Rattle.call_laws.proofs.Jobs.{lent-boxes-small, lent-no-fit}
 use Rattle.call_laws.proofs.Layouts.{job-well, layout-valid, lent-weights-valid}
 
@@ -58,6 +56,17 @@ pair-given l es i k none =
       distinct = eqb-false i k (abc .1);
     }
 
+-- the penalty of two pieces, whichever is lower, is at most 199
+pair-small : (j : Job) → BoxesSmall j → (v : Layout) (i k : ℕ) → i < j .size .count → k < j .size .count → i ≢ k → pairPenalty j v (pairOf i k) ≤ 199
+unfolding pairPenalty
+pair-small j small v i k a b n =
+    ⊎-elim
+    (λ l. pair-penalty-largest j small v (pairOf i k) (pair-mem (j .size .count) i k l b))
+    (λ l.
+    rw (conflict-penalty-symmetric (j .size .gap) (shapeIn j v i) (cornerIn v i) (shapeIn j v k) (cornerIn v k))
+    (pair-penalty-largest j small v (pairOf k i) (pair-mem (j .size .count) k i l a)))
+    (apart i k n)
+
 -- a penalty that the call gives
 pub penalty-given : (l : Lent) (es : List (List ℕ)) (i k n : ℕ) → penaltyCall l es i k ≡ given n → PenaltyClaims (jobOf l) (layoutOf es) i k n
 unfolding penaltyCall pairPenalty
@@ -66,16 +75,15 @@ penalty-given l es i k n e =
     let v : Layout = layoutOf es in
     let u = given-unless (pairCauses l es i k) (pairPenalty j v (pairOf i k)) n e in
     let p : PairGiven l es i k = pair-given l es i k (u .none) in
-    let laws : PairLaws j v i k = demand2-penalty _ _ _ _ in
+    let laws : PairLaws j v i k = demand2-penalty _ _ _ _ _ in
     rw (← u .same)
     (record {
       is = refl;
       laws = laws;
       overPixels = laws .pixelPenalty _ .1 refl;
       zeroExactly = laws .zeroNoPixel;
-      small =
-          laws .bounded Horizontal (lent-turned-small l (p .well) Horizontal i (placeOf v i .turn) (p .first))
-          (lent-turned-small l (p .well) Horizontal k (placeOf v k .turn) (p .second));
+      paper = λ none. rw none (paper-penalty _ _ _ _ .penalty-is);
+      small = pair-small j (lent-boxes-small l (p .well)) v i k (p .first) (p .second) (p .distinct);
     })
 
 -- a depth that the call gives
@@ -84,24 +92,32 @@ pub depth-given : (d : Direction) (l : Lent) (es : List (List ℕ)) (i k n : ℕ
 unfolding depthCall pairDepth
 depth-given d l es i k n e =
     let u = given-unless (pairCauses l es i k) (pairDepth d (jobOf l) (layoutOf es) (pairOf i k)) n e in
-    let laws : PairLaws (jobOf l) (layoutOf es) i k = demand2-penalty _ _ _ _ in
-    rw (← u .same) (record { shifts = laws .depths d; overPixels = laws .pixelDepths d _ .1 refl })
+    let laws : PairLaws (jobOf l) (layoutOf es) i k = demand2-penalty _ _ _ _ _ in
+    let p : PairGiven l es i k = pair-given l es i k (u .none) in
+    let v : Layout = layoutOf es in
+    rw (← u .same)
+    (record {
+      shifts = laws .depths d;
+      overPixels = laws .pixelDepths d _ .1 refl;
+      small =
+          laws .bounded d (lent-gap l (p .well)) (lent-turned-small l (p .well) d i (placeOf v i .turn) (p .first))
+          (lent-turned-small l (p .well) d k (placeOf v k .turn) (p .second));
+    })
 
--- a shared-pixel test that the call gives says yes exactly when the two pieces share a pixel
+-- a test that the call gives says yes exactly when the two pieces conflict
 pub share-given : (l : Lent) (es : List (List ℕ)) (i k : ℕ) (b : Bool) → shareCall l es i k ≡ given b
-    → (b ≡ true)
-    ↔ SharedPixel (shapeIn (jobOf l) (layoutOf es) i) (cornerIn (layoutOf es) i) (shapeIn (jobOf l) (layoutOf es) k) (cornerIn (layoutOf es) k)
-unfolding shareCall pairShares
+    → (b ≡ true) ↔ PairNear (jobOf l) (layoutOf es) i k
+unfolding shareCall pairConflicts
 share-given l es i k b e =
-    let u = given-unless (pairCauses l es i k) (pairShares (jobOf l) (layoutOf es) (pairOf i k)) b e in
-    rw (← u .same) (demand2-penalty _ _ _ _ .sharedExactly)
+    let u = given-unless (pairCauses l es i k) (pairConflicts (jobOf l) (layoutOf es) (pairOf i k)) b e in
+    rw (← u .same) (demand2-penalty _ _ _ _ _ .conflictExactly)
 
 -- ── no-fit rows and columns ──
 
 -- a no-fit row or column that the call gives is as document 01 says
 pub no-fit-given : (d : Direction) (l : Lent) (p q : LentStretch) (o : ℤ) (room : ℕ) (rs : List OffsetRun) → noFitCall d l p q o room ≡ given rs
-    → NoFitLine d (turnedPiece (jobOf l) (p .piece) (p .turn)) (turnedPiece (jobOf l) (q .piece) (q .turn)) o rs
-unfolding noFitCall noFitOf known
+    → NoFitLine (l .size .gap) d (turnedPiece (jobOf l) (p .piece) (p .turn)) (turnedPiece (jobOf l) (q .piece) (q .turn)) o rs
+unfolding noFitCall noFitOf known jobOf
 no-fit-given d l p q o room rs e =
     let u = given-unless _ (noFitOf d (jobOf l) p q o) rs e in
     let both : (known (jobOf l) p && known (jobOf l) q) ≡ true = not-false _ (u .none .1 .0) in
@@ -161,14 +177,14 @@ causes-order l es i k =
 -- the penalty call answers the same whichever piece is called first, refusals among its answers
 pub penalty-order : (l : Lent) (es : List (List ℕ)) (i k : ℕ) → penaltyCall l es i k ≡ penaltyCall l es k i
 unfolding penaltyCall pairPenalty
-penalty-order l es i k = ap₂ (λ (cs : List Cause) (n : ℕ). unless cs n) (causes-order l es i k) (penalty-symmetric _ _ _ _)
+penalty-order l es i k = ap₂ (λ (cs : List Cause) (n : ℕ). unless cs n) (causes-order l es i k) (conflict-penalty-symmetric _ _ _ _ _)
 
 -- and so does the depth call
 pub depth-order : (d : Direction) (l : Lent) (es : List (List ℕ)) (i k : ℕ) → depthCall d l es i k ≡ depthCall d l es k i
 unfolding depthCall pairDepth
-depth-order d l es i k = ap₂ (λ (cs : List Cause) (n : ℕ). unless cs n) (causes-order l es i k) (depth-symmetric d _ _ _ _)
+depth-order d l es i k = ap₂ (λ (cs : List Cause) (n : ℕ). unless cs n) (causes-order l es i k) (conflict-depth-symmetric _ d _ _ _ _)
 
--- and the shared-pixel test
+-- and the test for a conflict
 pub share-order : (l : Lent) (es : List (List ℕ)) (i k : ℕ) → shareCall l es i k ≡ shareCall l es k i
-unfolding shareCall pairShares
-share-order l es i k = ap₂ (λ (cs : List Cause) (b : Bool). unless cs b) (causes-order l es i k) (share-symmetric _ _ _ _)
+unfolding shareCall pairConflicts
+share-order l es i k = ap₂ (λ (cs : List Cause) (b : Bool). unless cs b) (causes-order l es i k) (conflict-symmetric _ _ _ _ _)

@@ -2,29 +2,29 @@
 use mathlib.Core.Logic.{_⊎_}
 use mathlib.Core.Path.{_≡_}
 use Prim.Native.Nat.{_<_, ℕ}
-use Rattle.model.specs.Layout.{Pair, Job, Layout, shapeIn, cornerIn}
-use Rattle.model.specs.Refusal.{sharedPixel}
+use Rattle.model.specs.Layout.{Pair, Job, Layout}
+use Rattle.model.specs.Refusal.{piecesConflict}
 use Rattle.model.specs.declared.Refusal.{Refusal}
-use Rattle.overlap_laws.specs.Overlap.{SharedPixel}
 use Rattle.descent_laws.specs.Sums.{PairOrdered}
-use Rattle.descent_laws.specs.Claims.{ValidLayout, NoSharedPixel}
+use Rattle.descent_laws.specs.Claims.{ValidLayout, NoConflict}
+use Rattle.call_laws.specs.Overlaps.{PairNear}
 
 -- the pair p stands before the pair q: a lower first number, or the same and a lower second
 abbrev pub PairBefore : Pair → Pair → Type 0
 PairBefore p q = (p .first < q .first) ⊎ ((p .first ≡ q .first) × (p .second < q .second))
 
--- the pair that the check names: of two pieces that share a pixel, and every other such pair stands after it
+-- the pair that the check names: of two pieces that conflict, and every other such pair stands after it
 pub record LowestPair (j : Job) (v : Layout) (p : Pair) : Type 0 where
   pub ordered : PairOrdered 0 (j .size .count) p
-  pub shared : SharedPixel (shapeIn j v (p .first)) (cornerIn v (p .first)) (shapeIn j v (p .second)) (cornerIn v (p .second))
-  pub lowest : (i k : ℕ) → i < k → k < j .size .count → SharedPixel (shapeIn j v i) (cornerIn v i) (shapeIn j v k) (cornerIn v k)
+  pub conflicts : PairNear j v (p .first) (p .second)
+  pub lowest : (i k : ℕ) → i < k → k < j .size .count → PairNear j v i k
       → (p ≡ record { first = i; second = k }) ⊎ PairBefore p (record { first = i; second = k })
 
 -- a layout that passes the check
 pub record Checked (j : Job) (v : Layout) : Type 0 where
   pub valid : ValidLayout j v
-  pub apart : NoSharedPixel j v
+  pub apart : NoConflict j v
 
--- the refusal of a pair that shares a pixel
-abbrev pub sharedRefusal : Pair → Refusal
-sharedRefusal p = record { number = sharedPixel; first = p .first; second = p .second }
+-- the refusal of a pair that conflicts
+abbrev pub conflictRefusal : Pair → Refusal
+conflictRefusal p = record { number = piecesConflict; first = p .first; second = p .second }

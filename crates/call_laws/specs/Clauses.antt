@@ -9,7 +9,7 @@ use lib.Dec.{ltb, eqb}
 use lib.IntN.{ℤ}
 use lib.ListN.{length}
 use Rattle.model.specs.Piece.{Shape, sideBound}
-use Rattle.model.specs.Layout.{pairs, allowed, inside, pairShares, pairDepth, pairPenalty, weightedSum, plainSum, usedLength, sharingPair}
+use Rattle.model.specs.Layout.{pairs, allowed, inside, pairConflicts, pairDepth, pairPenalty, weightedSum, plainSum, usedLength, conflictingPair}
 use Rattle.model.specs.Buffer.{layoutOf, entriesOf, runEntry, bytesOf, filled}
 use Rattle.model.specs.Search.{places, searchLine}
 use Rattle.model.specs.Descent.{descend}
@@ -27,7 +27,7 @@ use Rattle.model.specs.Calls.{stretchOf, stretchCall, stretchGiven, stretchNumb
 use Rattle.model.specs.Calls.{rebuiltFrom, stripsWell, rebuildCall, pixelsAfter, shareCall, depthCall, penaltyCall, weightedSumCall, plainSumCall}
 use Rattle.model.specs.Calls.{usedLengthCall, bestPlace, searchCall, budgetBound, roundBound, descentCall, descentAfter, guidedCall, bestAfterRun}
 use Rattle.model.specs.Calls.{weightsAfterRun, previewCall}
-use Rattle.model.specs.Calls.{tableAfter, storeAfter, layoutAfter, writeLayoutCall, textAfter, readLayoutCall, startCall, sharedCause, checkCall}
+use Rattle.model.specs.Calls.{tableAfter, storeAfter, layoutAfter, writeLayoutCall, textAfter, readLayoutCall, startCall, conflictCause, checkCall}
 use Rattle.model.specs.Calls.{freshCall, countsAfter, layCall, withdrawCall, cutLinesCall, linesAfter, cutStepCall, lineStepCall}
 use Rattle.model.specs.Cut.{cutLines, stepAt, stepIn, pitchBound, lineEntry, entryLine}
 use Rattle.model.specs.declared.Turn.{Turn}
@@ -108,14 +108,14 @@ pub record CallClauses : Type 0 where
       → BufferClaims (λ (s : Shape). filled (bytesOf s) before) before (pixelsAfter before (rebuildCall d columns rows es (length before)))
       (rebuildCall d columns rows es (length before))
   -- ── pairs, sums, used length ──
-  -- shared-pixel test: 8, 7, 9, 10
+  -- test for a conflict: 8, 7, 9, 10
   pub sharedPixelTest : (l : Lent) (es : List (List ℕ)) (i k : ℕ)
       → CallClaims
       (cause notOurs (not (lentWell l))
       ∷ cause wrongLength (not (eqb (length es) (l .size .count)))
       ∷ cause noSuchPiece (someTurnWrong (jobOf l) es || not (ltb i (l .size .count)) || not (ltb k (l .size .count)) || eqb i k)
       ∷ cause outsideSheet (someOutside (jobOf l) (layoutOf es)) ∷ [])
-      (pairShares (jobOf l) (layoutOf es) (pairOf i k)) (shareCall l es i k)
+      (pairConflicts (jobOf l) (layoutOf es) (pairOf i k)) (shareCall l es i k)
   -- depth along a direction: 8, 7, 9, 10
   pub depth : (d : Direction) (l : Lent) (es : List (List ℕ)) (i k : ℕ)
       → CallClaims
@@ -240,14 +240,14 @@ pub record CallClauses : Type 0 where
   -- the layout buffer: the layout that was read
   pub readLayoutBuffer : (l : Lent) (text : List ℕ) (before : List (List ℕ))
       → BufferClaims entriesOf before (layoutAfter before (readLayoutCall l text (length before))) (readLayoutCall l text (length before))
-  -- check of a layout: 8, 7, 9, 10, and 12 with the pair that shares a pixel as its places
+  -- check of a layout: 8, 7, 9, 10, and 12 with the pair that conflicts as its places
   pub check : (l : Lent) (es : List (List ℕ))
       → CallClaims
       (cause notOurs (not (lentWell l))
       ∷ cause wrongLength (not (eqb (length es) (l .size .count)))
       ∷ cause noSuchPiece (someTurnWrong (jobOf l) es)
       ∷ cause outsideSheet (someOutside (jobOf l) (layoutOf es))
-      ∷ sharedCause (sharingPair (jobOf l) (layoutOf es)) ∷ [])
+      ∷ conflictCause (conflictingPair (jobOf l) (layoutOf es)) ∷ [])
       tt (checkCall l es)
   -- ── the cut list ──
   -- all lines: 8, 7 the layout's length, 9, 10, 12 with the pair, 7 for the line buffer
@@ -257,7 +257,7 @@ pub record CallClauses : Type 0 where
       ∷ cause wrongLength (not (eqb (length es) (l .size .count)))
       ∷ cause noSuchPiece (someTurnWrong (jobOf l) es)
       ∷ cause outsideSheet (someOutside (jobOf l) (layoutOf es))
-      ∷ sharedCause (sharingPair (jobOf l) (layoutOf es))
+      ∷ conflictCause (conflictingPair (jobOf l) (layoutOf es))
       ∷ cause wrongLength (ltb room (length (cutLines (jobOf l) (layoutOf es)))) ∷ [])
       (cutLines (jobOf l) (layoutOf es)) (cutLinesCall l es room)
   -- the line buffer: the lines over its front
@@ -272,7 +272,7 @@ pub record CallClauses : Type 0 where
       ∷ cause outOfRange (not (upTo pitchBound pitch))
       ∷ cause noSuchPiece (someTurnWrong (jobOf l) es)
       ∷ cause outsideSheet (someOutside (jobOf l) (layoutOf es))
-      ∷ sharedCause (sharingPair (jobOf l) (layoutOf es)) ∷ [])
+      ∷ conflictCause (conflictingPair (jobOf l) (layoutOf es)) ∷ [])
       (stepIn pitch (stepAt (cutLines (jobOf l) (layoutOf es)) k)) (cutStepCall l es pitch k)
   -- a step of a list of lines: 2 for the pitch
   pub lineStep : (ls : List (List ℕ)) (pitch k : ℕ)

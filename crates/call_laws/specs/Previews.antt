@@ -25,7 +25,7 @@ pub record PreviewClaims (l : Lent) (es : List (List ℕ)) (ws : List ℕ) (i : 
   pub there : placeOf (withPlace (layoutOf es) i p) i ≡ p
   pub othersStay : (k : ℕ) → k ≢ i → placeOf (withPlace (layoutOf es) i p) k ≡ placeOf (layoutOf es) k
   pub valid : ValidLayout (jobOf l) (withPlace (layoutOf es) i p)
-  -- the sum is its weighted sum, 0 exactly when no two of its pieces share a pixel
+  -- the sum is its weighted sum, 0 exactly when no two of its pieces conflict
   pub sumOf : SumClaims (jobOf l) ws (withPlace (layoutOf es) i p) (f .sum)
   -- the length is its used length
   pub lengthIs : f .length ≡ usedLength (jobOf l) (withPlace (layoutOf es) i p)

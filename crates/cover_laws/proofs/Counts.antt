@@ -13,6 +13,7 @@ use Rattle.model.specs.Cover.{Sheet, blank, laidAt, entryIn, coversPixel, fresh
 use Rattle.model.specs.Cover.{Call, laying, withdrawing, called, afterwards, afterCalls, laidOn, laidCount}
 use Rattle.model.specs.declared.Placement.{Placement}
 use Rattle.model.specs.declared.Entry.{Entry}
+use Rattle.list_laws.proofs.Lists.{repeat-at}
 use Rattle.list_laws.proofs.Sums.{sum-agree, sum-grown, sum-zero, passing-bound}
 use Rattle.list_laws.proofs.Tests.{decided}
 use Rattle.cover_laws.proofs.Calls.{length-mapFrom, getD-mapFrom, LayTaken, WithdrawTaken, lay-given, withdraw-given}
@@ -70,12 +71,6 @@ count-bound j es k = passing-bound (j .size .count) (laidOn j es k)
 
 -- ── entries ──
 
--- an entry of a list of n like ones
-replicate-at : {A : Type 0} (n i : ℕ) (a : A) → getD (replicate n a) i a ≡ a
-replicate-at zero i a = refl
-replicate-at (suc n) zero a = refl
-replicate-at (suc n) (suc i) a = replicate-at n i a
-
 -- where one entry is replaced by one that passes and the others passed, all pass
 pub entry-set : (P : ℕ → Entry → Type 0) (es : List Entry) (i : ℕ) (e : Entry) → i < length es → P i e
     → ((m : ℕ) → P m (entryIn es m)) → (m : ℕ) → P m (entryIn (set es i e) m)
@@ -89,7 +84,7 @@ entry-set P es i e l here others m =
 -- every entry of a fresh sheet is blank
 pub fresh-entry : (j : Job) (i : ℕ) → entryIn (fresh j .pieces) i ≡ blank
 unfolding fresh
-fresh-entry j i = replicate-at pieceBound i blank
+fresh-entry j i = repeat-at pieceBound i blank
 
 -- a fresh sheet is sound
 pub fresh-sound : (j : Job) → Sound j (fresh j)
@@ -99,7 +94,7 @@ fresh-sound j =
       pieces = length-replicate pieceBound blank;
       counts = length-replicate (j .size .rows * j .size .columns) 0;
       entry = λ i. inl (fresh-entry j i);
-      count = λ k l. replicate-at (j .size .rows * j .size .columns) k 0 ∙ sym (blank-count j (fresh j .pieces) k (fresh-entry j));
+      count = λ k l. repeat-at (j .size .rows * j .size .columns) k 0 ∙ sym (blank-count j (fresh j .pieces) k (fresh-entry j));
     }
 
 module _ (j : Job) where

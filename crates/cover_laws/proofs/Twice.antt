@@ -13,7 +13,7 @@ use Rattle.model.specs.declared.Placement.{Placement}
 twoSquares : Job
 twoSquares =
     record {
-      size = record { rows = 2; columns = 3; count = 2 };
+      size = record { rows = 2; columns = 3; count = 2; gap = 0 };
       piece = λ i. record { shape = record { columns = 2; rows = 2; has = λ x y. true }; turns = 1 };
     }
 

@@ -1,4 +1,4 @@
--- In a layout in which no two pieces share a pixel, a unit is a side exactly when the places before and after it have different owners.
+-- In a layout in which no two pieces conflict, so that none share a pixel, a unit is a side exactly when the places before and after it have different owners.
 -- Assumes nothing.
 use Rattle.list_laws.proofs.Kit.{_∙_, _≡_, ap, refl, sym, Bool, false, true, false≢true, not, _≢_, _⊎_, inl, inr, ⊎-elim, _<_, suc, zero, ℕ}
 use Rattle.list_laws.proofs.Kit.{arith, eqb, eq-eqb, ne-eqb, eqb-true, eqb-false, not-suc-le-zero}
@@ -10,7 +10,7 @@ use Rattle.model.specs.Piece.{Point, point}
 use Rattle.model.specs.Layout.{Job, Layout}
 use Rattle.model.specs.Cut.{differ, coversIn, sideOf}
 use Rattle.model.specs.declared.Direction.{Direction}
-use Rattle.descent_laws.specs.Claims.{ValidLayout, NoSharedPixel}
+use Rattle.descent_laws.specs.Claims.{ValidLayout, NoConflict}
 use Rattle.cut_laws.specs.Sides.{HasPixel, IsSheetPixel}
 use Rattle.cut_laws.specs.Owners.{lastOf, owner, ownerBefore}
 use Rattle.cut_laws.proofs.Sides.{lies-pixel, pixel-on-sheet}
@@ -114,8 +114,8 @@ module _ (f g : ℕ → Bool) (n : ℕ) (one : One f n) (one′ : One g n) where
 
 -- ── owners ──
 
-module _ (j : Job) (v : Layout) (free : NoSharedPixel j v) where
-  -- two pieces that have a pixel at one place share it
+module _ (j : Job) (v : Layout) (free : NoConflict j v) where
+  -- two pieces that have a pixel at one place conflict, by every gap
   none-shared : (i k : ℕ) (p : Point) → i < k → k < j .size .count → HasPixel j v i p → HasPixel j v k p → ⊥
   none-shared i k p l h a b =
       free i k l h
@@ -124,8 +124,10 @@ module _ (j : Job) (v : Layout) (free : NoSharedPixel j v) where
         q = b .from;
         ofFirst = a .isPixel;
         ofSecond = b .isPixel;
-        column = a .column ∙ sym (b .column);
-        row = a .row ∙ sym (b .row);
+        left = omega (arith, a .column, b .column);
+        right = omega (arith, a .column, b .column);
+        below = omega (arith, a .row, b .row);
+        above = omega (arith, a .row, b .row);
       }
 
   -- a place has at most one owner

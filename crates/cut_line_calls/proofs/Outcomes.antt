@@ -1,12 +1,12 @@
 -- The outcome of the call for all lines, by what the check of the layout answers. Assumes nothing.
 use Rattle.list_laws.proofs.Kit.{_∙_, _≡_, refl, sym, List, [], _++_, _∷_, ℕ, arith, length}
-use Rattle.model.specs.Layout.{sharingPair}
+use Rattle.model.specs.Layout.{conflictingPair}
 use Rattle.model.specs.Lent.{Lent, jobOf}
 use Rattle.model.specs.Buffer.{layoutOf}
 use Rattle.model.specs.Refusal.{Outcome, refused, given, Cause, unless}
 use Rattle.model.specs.Answers.{doneAnswer, countAnswer, firstCause}
 use Rattle.model.specs.Cut.{CutLine, cutLines}
-use Rattle.model.specs.Calls.{layoutCauses, sharedCause, checkCall, atLeast, cutLinesCall}
+use Rattle.model.specs.Calls.{layoutCauses, conflictCause, checkCall, atLeast, cutLinesCall}
 use Rattle.model.specs.declared.Refusal.{Refusal}
 use Rattle.model.specs.declared.DoneAnswer.{DoneAnswer}
 use Rattle.model.specs.declared.NumberAnswer.{NumberAnswer}
@@ -22,7 +22,7 @@ use Rattle.cut_list.specs.Owned.{inRoom, LaidApart}
 module _ (l : Lent) (es : List (List ℕ)) where
   -- the causes of the check
   abbrev checkCauses : List Cause
-  checkCauses = layoutCauses l es ++ (sharedCause (sharingPair (jobOf l) (layoutOf es)) ∷ [])
+  checkCauses = layoutCauses l es ++ (conflictCause (conflictingPair (jobOf l) (layoutOf es)) ∷ [])
 
   -- the check is what they come to
   check-first : doneAnswer (checkCall l es) ≡ firstCause checkCauses

@@ -11,7 +11,7 @@ use Rattle.model.specs.Layout.{Job, Layout, sheetExtent}
 use Rattle.model.specs.Cut.{sideOf, setAlong, sides, cutLineOf, cutLines}
 use Rattle.model.specs.declared.Direction.{Direction}
 use Rattle.model.specs.declared.Direction.the-variants.{Horizontal, Vertical}
-use Rattle.descent_laws.specs.Claims.{ValidLayout, NoSharedPixel}
+use Rattle.descent_laws.specs.Claims.{ValidLayout, NoConflict}
 use Rattle.cut_laws.specs.Sides.{IsSheetPixel}
 use Rattle.cut_laws.specs.Owners.{owner, ownerBefore}
 use Rattle.cut_laws.proofs.Sides.{same-set}
@@ -66,7 +66,7 @@ module _ (j : Job) (v : Layout) (os : List ℕ) (painted : OwnersPainted j v os)
     owner-before d a zero l = refl
     owner-before d a (suc c) l = owner-at d a c l
 
-    module _ (apart : NoSharedPixel j v) where
+    module _ (apart : NoConflict j v) where
       -- a unit lies between different owners exactly when it is a side
       side-read : (d : Direction) (a c : ℕ) → a < sheetExtent d j
           → sideAt os (gridOf d (j .size)) a c ≡ anyBelow (j .size .count) (λ i. sideOf d j v i a c)

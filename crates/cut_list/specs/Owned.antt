@@ -10,7 +10,7 @@ use Rattle.model.specs.Cut.{CutLine, linesOf}
 use Rattle.model.specs.declared.JobSize.{JobSize}
 use Rattle.model.specs.declared.Direction.{Direction}
 use Rattle.model.specs.declared.Direction.the-variants.{Horizontal, Vertical}
-use Rattle.descent_laws.specs.Claims.{NoSharedPixel}
+use Rattle.descent_laws.specs.Claims.{NoConflict}
 use Rattle.descent_laws.specs.LentLayout.{Laid}
 use Rattle.cut_scan.specs.Scan.{gridUnits}
 use Rattle.cut_scan.specs.declared.Grid.{Grid}
@@ -33,7 +33,7 @@ pub record SmallSheet (size : JobSize) : Type 0 where
   pub rows : size .rows ≤ columnBound
   pub columns : size .columns ≤ columnBound
 
--- a checked job and a valid layout in which no two pieces share a pixel
+-- a checked job and a valid layout in which no two pieces conflict
 pub record LaidApart (l : Lent) (layout : List (List ℕ)) : Type 0 where
   pub laid : Laid l layout
-  pub apart : NoSharedPixel (jobOf l) (layoutOf layout)
+  pub apart : NoConflict (jobOf l) (layoutOf layout)

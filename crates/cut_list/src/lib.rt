@@ -67,7 +67,7 @@ fn lines_of(size: JobSize, owners: &[u8], lines: &mut [LineEntry]) -> NumberAnsw
     NumberAnswer::Number(needed as u64)
 }
 
-// The lines of a layout in which no two pieces share a pixel, or refusal 7; `owners` is room for those of the sheet's pixels.
+// The lines of a layout in which no two pieces conflict, or refusal 7; `owners` is room for those of the sheet's pixels.
 pub fn layout_lines(
     size: JobSize,
     table: &[PieceEntry],

@@ -3,13 +3,13 @@ use Rattle.list_laws.proofs.Kit.{_∙_, _≡_, _≢_, ⊎-elim, ap, refl, sym, 
 use Rattle.list_laws.proofs.Kit.{_≤_, ℕ}
 use Rattle.list_laws.proofs.Kit.{arith, length, take, le-leb, le-ltb, lt-leb, lt-ltb, ltb}
 use Rattle.list_laws.proofs.Numbers.{below-or}
-use Rattle.model.specs.Layout.{Pair, sharingPair}
+use Rattle.model.specs.Layout.{Pair, conflictingPair}
 use Rattle.model.specs.Lent.{Lent, jobOf, upTo}
 use Rattle.model.specs.Buffer.{layoutOf, filled}
 use Rattle.model.specs.Refusal.{Outcome, refused, given, Cause, cause, unless, refusalOf, plainRefusal, wrongLength, noSuchPiece}
 use Rattle.model.specs.Answers.{countAnswer, firstCause}
 use Rattle.model.specs.Cut.{CutLine, cutLines, pitchBound, stepAt, stepIn, lineEntry, entryLine}
-use Rattle.model.specs.Calls.{someTurnWrong, jobCause, layoutLength, turnsCause, outsideCause, layoutCauses, sharedCause, atLeast, pitchCause, cutLinesCall}
+use Rattle.model.specs.Calls.{someTurnWrong, jobCause, layoutLength, turnsCause, outsideCause, layoutCauses, conflictCause, atLeast, pitchCause, cutLinesCall}
 use Rattle.model.specs.Calls.{linesAfter, cutStepCall, lineStepCall}
 use Rattle.model.specs.declared.Refusal.{Refusal}
 use Rattle.model.specs.declared.DoneAnswer.{DoneAnswer}
@@ -62,7 +62,7 @@ module _ (l : Lent) (es : List (List ℕ)) (pitch k : ℕ) where
 
   -- the step call is these, and then 12
   step-call : cutStepCall l es pitch k
-      ≡ unless (stepCauses ++ (sharedCause (sharingPair (jobOf l) (layoutOf es)) ∷ [])) (stepIn pitch (stepAt (cutLines (jobOf l) (layoutOf es)) k))
+      ≡ unless (stepCauses ++ (conflictCause (conflictingPair (jobOf l) (layoutOf es)) ∷ [])) (stepIn pitch (stepAt (cutLines (jobOf l) (layoutOf es)) k))
   unfolding cutStepCall
   step-call = refl
 
@@ -95,16 +95,16 @@ module _ (l : Lent) (es : List (List ℕ)) (passed : NoCause (layoutCauses l es)
       let laid = laid-by l es (passed .0) (passed .1 .0) (passed .1 .1 .0) (passed .1 .1 .1 .0) in cut-list l es (laid .well) (laid .valid) .most
 
   -- with room for them only 12 is left
-  room-left : (o : Option Pair) (room : ℕ) → length ls ≤ room → unless (sharedCause o ∷ atLeast (length ls) room ∷ []) ls ≡ unless (sharedCause o ∷ []) ls
+  room-left : (o : Option Pair) (room : ℕ) → length ls ≤ room → unless (conflictCause o ∷ atLeast (length ls) room ∷ []) ls ≡ unless (conflictCause o ∷ []) ls
   unfolding unless
   room-left none room h = enough-room ls room h
   room-left (some p) room h = refl
 
-  pub lines-left : (room : ℕ) → mostLines ≤ room → cutLinesCall l es room ≡ unless (sharedCause (sharingPair (jobOf l) (layoutOf es)) ∷ []) ls
+  pub lines-left : (room : ℕ) → mostLines ≤ room → cutLinesCall l es room ≡ unless (conflictCause (conflictingPair (jobOf l) (layoutOf es)) ∷ []) ls
   unfolding cutLinesCall
   lines-left room h =
       let most = lines-most in
-      none-then (layoutCauses l es) _ _ passed ∙ room-left (sharingPair (jobOf l) (layoutOf es)) room (omega arith)
+      none-then (layoutCauses l es) _ _ passed ∙ room-left (conflictingPair (jobOf l) (layoutOf es)) room (omega arith)
 
 -- a cause refuses whatever the call would give
 same-refused : {A B : Type 0} (c : Cause) (a : A) (b : B) (r : Refusal) → unless (c ∷ []) a ≡ refused r → unless (c ∷ []) b ≡ refused r
@@ -123,8 +123,8 @@ count-refused (given ls) r e = let z : _≡_ {A = ℕ} 0 1 = cc in absurd (omega
 
 -- refused by 12
 pub shared-refused : (l : Lent) (es : List (List ℕ)) (pitch k : ℕ) (r : Refusal)
-    → unless (sharedCause (sharingPair (jobOf l) (layoutOf es)) ∷ []) (cutLines (jobOf l) (layoutOf es)) ≡ refused r → sharedStep l es pitch k ≡ refused r
-shared-refused l es pitch k r e = same-refused (sharedCause (sharingPair (jobOf l) (layoutOf es))) _ _ r e
+    → unless (conflictCause (conflictingPair (jobOf l) (layoutOf es)) ∷ []) (cutLines (jobOf l) (layoutOf es)) ≡ refused r → sharedStep l es pitch k ≡ refused r
+shared-refused l es pitch k r e = same-refused (conflictCause (conflictingPair (jobOf l) (layoutOf es))) _ _ r e
 
 -- what the number of lines tells, where there is room for them: the lines are given, and so is every step
 pub record LinesTold (l : Lent) (es : List (List ℕ)) (room n : ℕ) : Type 0 where

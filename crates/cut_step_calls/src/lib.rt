@@ -55,7 +55,7 @@ fn room_for_lines() -> [LineEntry; MOST_LINES]
     [[0u16; 4]; MOST_LINES]
 }
 
-// A step of a layout of which all is checked but shared pixels: refusal 12 with the pair, or the step. `lines` is room for the lines.
+// A step of a layout of which all is checked but conflicts: refusal 12 with the pair, or the step. `lines` is room for the lines.
 fn listed_step(
     size: JobSize,
     table: &[PieceEntry],

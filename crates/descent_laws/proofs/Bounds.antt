@@ -1,14 +1,15 @@
--- How large document 01's sums and counts grow: there are n(n - 1)/2 pairs, a penalty is at most 255 and a weight at most 65,535, so
--- a weighted sum of at most 64 pieces is below 2³⁵. Assumes nothing.
+-- How large document 01's sums and counts grow: there are n(n - 1)/2 pairs, a penalty is at most 199 with document 02's gap, and so at most 255, as
+-- the bound of a sum has it, and a weight at most 65,535, so a weighted sum of at most 64 pieces is below 2³⁵. Assumes nothing.
 use Rattle.list_laws.proofs.Kit.{_∙_, _≡_, ap, refl, Bool, false, true, List, List·Memᴰ, List·Memᴰ·head, List·Memᴰ·tail, [], _∷_, _*_, _+_, _<_, _≤_, suc}
 use Rattle.list_laws.proofs.Kit.{zero, ℕ, le-trans, mul-le-mul, mul-le-mul-left, mul-le-mul-right, mul-suc, suc-mul, arith, getD, length, length-append}
-use Rattle.model.specs.Piece.{sideBound}
+use Rattle.model.specs.Piece.{sideBound, gapBound, extent}
 use Rattle.model.specs.Layout.{Job, Layout, Pair, placeOf, shapeIn, pairs, pairsWith, pairsFrom, pairPenalty, sumOver, weightedSum, pieceSum}
 use Rattle.model.specs.Guided.{weightBound, Round, madeIn, movesIn}
-use Rattle.model.specs.Lent.{pieceBound}
-use Rattle.model.specs.declared.Direction.the-variants.{Horizontal}
-use Rattle.job_laws.proofs.Turned.{turned-extent}
-use Rattle.overlap_laws.proofs.Penalty.{penalty-bound}
+use Rattle.model.specs.Lent.{pieceBound, areaBound}
+use Rattle.model.specs.declared.Direction.{Direction}
+use Rattle.model.specs.declared.Direction.the-variants.{Horizontal, Vertical}
+use Rattle.job_laws.proofs.Turned.{turned-extent, turned-area}
+use Rattle.overlap_laws.proofs.Largest.{penalty-largest}
 use Rattle.descent_laws.specs.Sums.{sumBound, PairOrdered}
 use Rattle.descent_laws.specs.Claims.{ValidWeights, RoundClaims}
 use Rattle.descent_laws.proofs.Sums.{mem-pair, piece-at-most}
@@ -56,23 +57,35 @@ sum-at-most test cost (p ∷ ps) (w ∷ ws) W C h g =
     let later = sum-at-most test cost ps ws W C (λ k l. h (suc k) (omega arith)) (λ q m. g q (List·Memᴰ·tail m)) in
     omega (arith, suc-mul (length ps) (W * C))
 
--- each piece's box has sides of at most 255
+-- each piece's box has sides of at most 255, any two have at most 65,536 pixels together, and the gap is at most 8
 pub record BoxesSmall (j : Job) : Type 0 where
   pub columnsSmall : (i : ℕ) → i < j .size .count → j .piece i .shape .columns ≤ sideBound
   pub rowsSmall : (i : ℕ) → i < j .size .count → j .piece i .shape .rows ≤ sideBound
+  pub together : (i k : ℕ) → i < k → k < j .size .count
+      → j .piece i .shape .columns * j .piece i .shape .rows + j .piece k .shape .columns * j .piece k .shape .rows ≤ areaBound
+  pub gapSmall : j .size .gap ≤ gapBound
 
--- a piece of the layout has at most 255 columns
-piece-columns : (j : Job) → BoxesSmall j → (v : Layout) (i : ℕ) → i < j .size .count → shapeIn j v i .columns ≤ sideBound
-piece-columns j small v i l = turned-extent Horizontal (placeOf v i .turn) (j .piece i .shape) sideBound (small .columnsSmall i l) (small .rowsSmall i l)
+-- a piece of the layout has at most 255 columns and rows
+piece-extent : (d : Direction) (j : Job) → BoxesSmall j → (v : Layout) (i : ℕ) → i < j .size .count → extent d (shapeIn j v i) ≤ sideBound
+piece-extent d j small v i l = turned-extent d (placeOf v i .turn) (j .piece i .shape) sideBound (small .columnsSmall i l) (small .rowsSmall i l)
 
--- a pair's penalty is at most 255
-pub pair-penalty-at-most : (j : Job) → BoxesSmall j → (v : Layout) (p : Pair) → List·Memᴰ p (pairs (j .size .count)) → pairPenalty j v p ≤ sideBound
+-- a pair's penalty is at most 199
+pub pair-penalty-largest : (j : Job) → BoxesSmall j → (v : Layout) (p : Pair) → List·Memᴰ p (pairs (j .size .count)) → pairPenalty j v p ≤ 199
 unfolding pairPenalty
-pair-penalty-at-most j small v p m =
+pair-penalty-largest j small v p m =
     let o : PairOrdered 0 (j .size .count) p = mem-pair (j .size .count) p m in
     let second : p .second < j .size .count = o .below in
     let first : p .first < j .size .count = (let l = o .rising in omega arith) in
-    penalty-bound _ _ _ _ Horizontal (piece-columns j small v (p .first) first) (piece-columns j small v (p .second) second)
+    let a = turned-area (placeOf v (p .first) .turn) (j .piece (p .first) .shape) in
+    let b = turned-area (placeOf v (p .second) .turn) (j .piece (p .second) .shape) in
+    penalty-largest _ _ _ _ _ (small .gapSmall)
+    (piece-extent Horizontal j small v (p .first) first) (piece-extent Vertical j small v (p .first) first)
+    (piece-extent Horizontal j small v (p .second) second) (piece-extent Vertical j small v (p .second) second)
+    (omega (arith, a, b, small .together (p .first) (p .second) (o .rising) second))
+
+-- and so it fits a byte
+pub pair-penalty-at-most : (j : Job) → BoxesSmall j → (v : Layout) (p : Pair) → List·Memᴰ p (pairs (j .size .count)) → pairPenalty j v p ≤ sideBound
+pair-penalty-at-most j small v p m = omega (arith, pair-penalty-largest j small v p m)
 
 -- a weighted sum of at most 64 pieces
 pub weighted-at-most : (j : Job) (ws : List ℕ) (v : Layout) → j .size .count ≤ pieceBound → BoxesSmall j → ValidWeights j ws → weightedSum j ws v ≤ sumBound

@@ -4,12 +4,12 @@
 use Rattle.list_laws.proofs.Kit.{_∙_, _≡_, ap, refl, Bool, false, true, _↔_, _≢_, _⊎_, inl, inr, ⊎-elim, List, List·Memᴰ, List·Memᴰ·cases-cons}
 use Rattle.list_laws.proofs.Kit.{List·Memᴰ·head, List·Memᴰ·not-nil, List·Memᴰ·tail, [], _∷_, _<_, _≤_, min, suc, zero, ℕ, le-refl, le-trans, arith, lit≤, ltb}
 use Rattle.list_laws.proofs.Kit.{getD, getD-replicate, length, length-replicate, ltb-false, ltb-true}
-use Rattle.model.specs.Layout.{Job, Layout, Pair, pairs, pairShares, unitWeights, plainSum}
+use Rattle.model.specs.Layout.{Job, Layout, Pair, pairs, pairConflicts, unitWeights, plainSum}
 use Rattle.model.specs.Descent.{Descent, descend}
 use Rattle.model.specs.Guided.{weightBound, raisedOver, raised, Round, isClear, weightsAfter, roundFrom, rounds, bestOf, bestAfter, lastWeights, outcome, guide}
 use Rattle.model.specs.declared.End.{End}
 use Rattle.model.specs.declared.End.the-variants.{Clear, Settled, Spent}
-use Rattle.descent_laws.specs.Claims.{InRange, ValidWeights, ValidLayout, NoSharedPixel, DescentClaims, RoundClaims, Follows, roundAt, RoundsClaims}
+use Rattle.descent_laws.specs.Claims.{InRange, ValidWeights, ValidLayout, NoConflict, DescentClaims, RoundClaims, Follows, roundAt, RoundsClaims}
 use Rattle.descent_laws.specs.Claims.{RoundEnd, GuidedClaims}
 use Rattle.descent_laws.proofs.Sums.{zero-exactly}
 use Rattle.descent_laws.proofs.Run.{impossible}
@@ -42,10 +42,10 @@ raised-range test (p ∷ ps) (w ∷ ws) h (suc k) l = raised-range test ps ws (�
 pub raised-valid : (j : Job) (v : Layout) (ws : List ℕ) → ValidWeights j ws → ValidWeights j (raised j v ws)
 unfolding raised
 raised-valid j v ws h =
-    let e = raised-length (pairShares j v) (pairs (j .size .count)) ws in
+    let e = raised-length (pairConflicts j v) (pairs (j .size .count)) ws in
     record {
       onePerPair = e ∙ h .onePerPair;
-      inRange = λ k l. raised-range (pairShares j v) (pairs (j .size .count)) ws (h .inRange) k (omega arith);
+      inRange = λ k l. raised-range (pairConflicts j v) (pairs (j .size .count)) ws (h .inRange) k (omega arith);
     }
 
 -- raised or not, the weights are valid
@@ -65,8 +65,8 @@ unit-valid j =
     let e = length-replicate {A = ℕ} (length (pairs (j .size .count))) 1 in
     record { onePerPair = e; inRange = λ k l. rw (getD-replicate {A = ℕ} (length (pairs (j .size .count))) k 1 0 (omega arith)) (lit≤ tt, lit≤ tt) }
 
--- a plain sum is 0 exactly when no two pieces share a pixel
-pub plain-zero : (j : Job) (v : Layout) → (plainSum j v ≡ 0) ↔ NoSharedPixel j v
+-- a plain sum is 0 exactly when no two pieces conflict
+pub plain-zero : (j : Job) (v : Layout) → (plainSum j v ≡ 0) ↔ NoConflict j v
 unfolding plainSum
 plain-zero j v = zero-exactly j (unitWeights (j .size .count)) v (unit-valid j)
 

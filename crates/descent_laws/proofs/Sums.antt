@@ -1,19 +1,19 @@
 -- Document 01, 'No-fit rows and penalty', weights and sums: the weighted sum is a piece's pair sum and the sum of the pairs that do
 -- not name it. The latter stay as they are when the piece is placed anew, so comparing weighted sums is comparing pair sums.
--- A weighted sum is 0 exactly when no two pieces share a pixel, since weights are at least 1. Assumes nothing.
+-- A weighted sum is 0 exactly when no two pieces conflict, since weights are at least 1. Assumes nothing.
 use Rattle.list_laws.proofs.Kit.{_∙_, _≡_, ap, ap₂, refl, subst, sym, Bool, false, not, true, _↔_, ⊎-elim, List, List·Memᴰ, List·Memᴰ·append-cases}
 use Rattle.list_laws.proofs.Kit.{List·Memᴰ·cases-cons, List·Memᴰ·head, List·Memᴰ·not-nil, List·Memᴰ·tail, Memᴰ·append-left, Memᴰ·append-right, [], _∷_, _*_}
 use Rattle.list_laws.proofs.Kit.{_+_, _<_, _≤_, suc, zero, ℕ, eq-or-lt-of-le, mul-le-mul-right, mul-zero, arith, eqb, getD, length, set, getD-set-other}
 use Rattle.list_laws.proofs.Kit.{eqb-false, not-true}
 use Rattle.model.specs.Piece.{corner}
-use Rattle.model.specs.Overlap.{penalty}
+use Rattle.model.specs.Overlap.{conflictPenalty}
 use Rattle.model.specs.Layout.{Job, Layout, Pair, turnedPiece, origin, pairs, pairsWith, pairsFrom, pairPenalty, names, sumOver, weightedSum, pieceSum}
 use Rattle.model.specs.declared.Placement.{Placement}
 use Rattle.list_laws.proofs.Tests.{or-neither, clash, fails}
-use Rattle.overlap_laws.proofs.Share.{share-from, share-witness}
-use Rattle.overlap_laws.proofs.Penalty.{zero-penalty, penalty-zero}
+use Rattle.overlap_laws.proofs.Grown.{conflict-from, conflict-witness}
+use Rattle.overlap_laws.proofs.Penalty.{zero-conflict, conflict-zero}
 use Rattle.descent_laws.specs.Sums.{PairOrdered}
-use Rattle.descent_laws.specs.Claims.{ValidWeights, NoSharedPixel}
+use Rattle.descent_laws.specs.Claims.{ValidWeights, NoConflict}
 
 -- ── sums over pairs ──
 
@@ -120,7 +120,7 @@ mem-pair n p m = let r = mem-from 0 n p m in record { from = omega arith; rising
 
 -- a pair's penalty, from the placements of its two pieces
 penaltyAt : Job → Pair → Placement → Placement → ℕ
-penaltyAt j q a b = penalty (turnedPiece j (q .first) (a .turn)) (corner a) (turnedPiece j (q .second) (b .turn)) (corner b)
+penaltyAt j q a b = conflictPenalty (j .size .gap) (turnedPiece j (q .first) (a .turn)) (corner a) (turnedPiece j (q .second) (b .turn)) (corner b)
 
 -- a pair that does not name the piece has the penalty that it had
 pub other-pair : (j : Job) (v : Layout) (i : ℕ) (p : Placement) (q : Pair) → not (names i q) ≡ true
@@ -158,16 +158,16 @@ placed-anew j ws v i p = omega (arith, weighted-split j ws v i, weighted-split j
 
 -- ── a sum of 0 ──
 
--- a weighted sum is 0 exactly when no two pieces share a pixel
-pub zero-exactly : (j : Job) (ws : List ℕ) (v : Layout) → ValidWeights j ws → (weightedSum j ws v ≡ 0) ↔ NoSharedPixel j v
+-- a weighted sum is 0 exactly when no two pieces conflict
+pub zero-exactly : (j : Job) (ws : List ℕ) (v : Layout) → ValidWeights j ws → (weightedSum j ws v ≡ 0) ↔ NoConflict j v
 unfolding weightedSum pairPenalty
 zero-exactly j ws v h = (
   (λ e i k l m both.
-      clash (share-from _ _ _ _ both)
-      (zero-penalty _ _ _ _
+      clash (conflict-from _ _ _ _ _ both)
+      (zero-conflict _ _ _ _ _
       (zero-sum-costs (pairPenalty j v) (pairs (j .size .count)) ws (omega arith) (λ n b. h .inRange n b .0) e
       (record { first = i; second = k }) (pair-mem (j .size .count) i k l m)))),
   (λ apart. zero-costs-sum (pairPenalty j v) (pairs (j .size .count)) ws
       (λ q m. let o = mem-pair (j .size .count) q m in
-      penalty-zero _ _ _ _ (fails _ (λ s. apart (q .first) (q .second) (o .rising) (o .below) (share-witness _ _ _ _ s))))),
+      conflict-zero _ _ _ _ _ (fails _ (λ s. apart (q .first) (q .second) (o .rising) (o .below) (conflict-witness _ _ _ _ _ s))))),
 )

@@ -12,7 +12,7 @@ use Rattle.model.specs.Guided.{weightBound, raised, Round, Guided, rounds, guid
 use Rattle.model.specs.declared.Turn.{Turn}
 use Rattle.model.specs.declared.Direction.{Direction}
 use Rattle.model.specs.declared.End.the-variants.{Clear, Settled, Spent}
-use Rattle.overlap_laws.specs.Overlap.{SharedPixel}
+use Rattle.overlap_laws.specs.Overlap.{NearPixels}
 
 -- ── what is given ──
 
@@ -33,9 +33,10 @@ pub record ValidLayout (j : Job) (v : Layout) : Type 0 where
 
 -- ── what is said of a layout ──
 
--- no two pieces share a pixel
-abbrev pub NoSharedPixel : Job → Layout → Type 0
-NoSharedPixel j v = (i k : ℕ) → i < k → k < j .size .count → SharedPixel (shapeIn j v i) (cornerIn v i) (shapeIn j v k) (cornerIn v k) → ⊥
+-- no two pieces conflict: no pixel of one is at most g columns and at most g rows from a pixel of another. With a gap of 0, no two share a pixel
+abbrev pub NoConflict : Job → Layout → Type 0
+NoConflict j v =
+    (i k : ℕ) → i < k → k < j .size .count → NearPixels (j .size .gap) (shapeIn j v i) (cornerIn v i) (shapeIn j v k) (cornerIn v k) → ⊥
 
 -- w differs from v in one piece, which lies inside in a turn allowed to it, its corner in the same row or column
 pub record Rival (j : Job) (v w : Layout) : Type 0 where
@@ -65,8 +66,8 @@ pub record DescentClaims (j : Job) (ws : List ℕ) (budget : ℕ) (v : Layout) (
   pub rival : (d .end ≡ Settled) ⊎ (d .end ≡ Clear) → (w : Layout) → Rival j (d .layout) w → d .sum ≤ weightedSum j ws w
   -- however it ends, its sum is at most the given one
   pub sumAtMost : d .sum ≤ weightedSum j ws v
-  -- and zero exactly when no two pieces share a pixel
-  pub zeroExactly : (d .sum ≡ 0) ↔ NoSharedPixel j (d .layout)
+  -- and zero exactly when no two pieces conflict
+  pub zeroExactly : (d .sum ≡ 0) ↔ NoConflict j (d .layout)
   -- moves are at most the fall in the sum
   pub movesAtMostFall : d .moves + d .sum ≤ weightedSum j ws v
   -- with T trials and S the first sum, a budget of T × (S + 1) or more never ends spent
@@ -126,8 +127,8 @@ pub record RoundEnd (rs : List Round) (v : Layout) : Type 0 where
 pub record GuidedClaims (j : Job) (ws : List ℕ) (K budget : ℕ) (v : Layout) (rs : List Round) (g : Guided) : Type 0 where
   -- the layout is handed back with its own plain sum
   pub sumOfLayout : g .sum ≡ plainSum j (g .layout)
-  -- zero exactly when no two pieces share a pixel
-  pub zeroExactly : (g .sum ≡ 0) ↔ NoSharedPixel j (g .layout)
+  -- zero exactly when no two pieces conflict
+  pub zeroExactly : (g .sum ≡ 0) ↔ NoConflict j (g .layout)
   -- and the least among the given layout's and all rounds' ends
   pub givenOrRoundEnd : (g .layout ≡ v) ⊎ RoundEnd rs (g .layout)
   pub atMostGiven : g .sum ≤ plainSum j v

@@ -17,6 +17,7 @@ const TWO: JobSize = JobSize {
     rows: 2,
     columns: 4,
     count: 2,
+    gap: 0,
 };
 
 const TWO_TABLE: [PieceEntry; 2] = [[2, 2, 1], [2, 2, 1]];
@@ -31,6 +32,7 @@ const RING: JobSize = JobSize {
     rows: 4,
     columns: 5,
     count: 2,
+    gap: 0,
 };
 
 const RING_TABLE: [PieceEntry; 2] = [[3, 3, 1], [1, 1, 1]];
@@ -43,6 +45,7 @@ const RING_ALONE: JobSize = JobSize {
     rows: 4,
     columns: 5,
     count: 1,
+    gap: 0,
 };
 
 // A number behind a blank.

@@ -1,6 +1,8 @@
-// Reads document 01's example job and some others, each from its text, and writes what the reader answers: the job's numbers, its first
-// entry, its first eight pixel bytes and whether the check of a lent job passes; or the refusal's number and line.
+// Reads document 01's example job and some others, each from its text, and writes what the reader answers: the job's numbers with the gap,
+// its first entry, its first eight pixel bytes and whether the check of a lent job passes; or the refusal's number and line. Then lends the
+// example with gaps that no text has or has.
 use job_calls::JobAnswer;
+use model::JobSize;
 use model::StripEntry;
 
 // A number behind a comma.
@@ -49,6 +51,7 @@ fn show(text: &[u8]) {
             put(size.rows as u64);
             put(size.columns as u64);
             put(size.count as u64);
+            put(size.gap as u64);
             put_entry(table[0]);
             io::write_all(1, b",");
             put_marks([pixels[0], pixels[1], pixels[2], pixels[3]]);
@@ -66,12 +69,18 @@ fn show_read() {
     show(b"job,1,2,4,2\npiece,0,2,2,1\nrow,##\nrow,##\npiece,1,2,2,1\nrow,##\nrow,##\n");
     show(b"job,1,512,128,1\npiece,0,3,2,15\nrow,###\nrow,#..\n");
     show(b"job,1,1,1,1\npiece,0,1,1,1\nrow,#\n");
+    show(b"job,2,1,1,1,0\npiece,0,1,1,1\nrow,#\n");
+    show(b"job,2,2,4,2,1\npiece,0,2,2,1\nrow,##\nrow,##\npiece,1,2,2,1\nrow,##\nrow,##\n");
+    show(b"job,2,512,128,1,8\npiece,0,3,2,15\nrow,###\nrow,#..\n");
 }
 
 // Lines of wrong form.
 fn show_wrong_form() {
     show(b"");
     show(b"job,2,2,4,1\n");
+    show(b"job,1,2,4,1,0\n");
+    show(b"job,3,2,4,1,0\n");
+    show(b"job,2,2,4,1,08\n");
     show(b"job,1,02,4,1\n");
     show(b"job,1,2,4,1\npiece,0,2,2,1\nrow,##\n");
     show(b"job,1,2,4,1\npiece,0,2,2,1\nrow,##\nrow,###\n");
@@ -81,6 +90,7 @@ fn show_wrong_form() {
 // Numbers out of range, areas, boxes and buffers.
 fn show_refused() {
     show(b"job,1,513,4,1\n");
+    show(b"job,2,2,4,1,9\n");
     show(b"job,1,512,129,1\n");
     show(b"job,1,2,4,1\npiece,0,2,2,2\n");
     show(b"job,1,2,4,1\npiece,0,5,2,1\n");
@@ -89,8 +99,29 @@ fn show_refused() {
     show(b"job,1,1,17,1\npiece,0,17,1,1\nrow,#################\n");
 }
 
+// A full 2 x 2 piece on a sheet of 2 rows and 4 columns, lent with a gap.
+fn show_lent(gap: usize) {
+    let size = JobSize {
+        rows: 2,
+        columns: 4,
+        count: 1,
+        gap,
+    };
+    let table = [[2u8, 2, 1]];
+    let pixels = [1u8; 4];
+    io::write_all(1, b"lent");
+    put(gap as u64);
+    if job_check::check_job(size, &table, &pixels) {
+        io::write_all(1, b",checked");
+    }
+    io::write_all(1, b"\n");
+}
+
 fn main() {
     show_read();
     show_wrong_form();
     show_refused();
+    show_lent(0);
+    show_lent(8);
+    show_lent(9);
 }

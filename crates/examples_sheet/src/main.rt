@@ -1,6 +1,6 @@
 // Document 01's example job, a sheet of 2 rows and 4 columns with two full 2 x 2 pieces in turn 0, through the calls on the sheet of
-// cover counts. Each line has the number of the refusal, 00 for a call that is taken up, whether piece 0 and piece 1 are laid, and the
-// counts of the eight pixels.
+// cover counts, with a gap of 1, which plays no part in them. Each line has the number of the refusal, 00 for a call that is taken up,
+// whether piece 0 and piece 1 are laid, and the counts of the eight pixels.
 use libc::STDOUT_FILENO;
 use model::Column;
 use model::DoneAnswer;
@@ -18,6 +18,7 @@ const SIZE: JobSize = JobSize {
     rows: 2,
     columns: 4,
     count: 2,
+    gap: 1,
 };
 
 const TABLE: [PieceEntry; 2] = [[2, 2, 1], [2, 2, 1]];

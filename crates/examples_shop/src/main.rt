@@ -23,6 +23,7 @@ const SIZE: JobSize = JobSize {
     rows: 8,
     columns: 16,
     count: 6,
+    gap: 0,
 };
 
 const TABLE: [PieceEntry; 6] = [
@@ -367,6 +368,7 @@ fn sheet(columns: usize) -> JobSize {
         rows: 2,
         columns,
         count: 2,
+        gap: 0,
     }
 }
 

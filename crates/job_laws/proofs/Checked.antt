@@ -5,8 +5,8 @@ use Rattle.model.specs.Bounded.{allBelow}
 use Rattle.model.specs.Piece.{tight, extent}
 use Rattle.model.specs.Overlap.{offsetBound}
 use Rattle.model.specs.Layout.{turnedPiece}
-use Rattle.model.specs.Lent.{Lent, rowBound, columnBound, pieceBound, areaBound, turnsBound, sideBound, upTo, entryColumns, entryRows, entryTurns}
-use Rattle.model.specs.Lent.{entryArea, pixelStart, entryInRange, entryFits, lentShape, jobOf, sheetInRange, lentWell}
+use Rattle.model.specs.Lent.{Lent, rowBound, columnBound, pieceBound, gapBound, areaBound, turnsBound, sideBound, upTo, entryColumns, entryRows}
+use Rattle.model.specs.Lent.{entryTurns, entryArea, pixelStart, entryInRange, entryFits, lentShape, jobOf, sheetInRange, lentWell}
 use Rattle.model.specs.declared.Direction.{Direction}
 use Rattle.model.specs.declared.Turn.{Turn}
 use Rattle.job_laws.specs.Entries.{EntryAt}
@@ -20,7 +20,7 @@ use Rattle.job_laws.proofs.Turned.{turned-side}
 
 -- the tests that make the check
 pub record Parts (l : Lent) : Type 0 where
-  -- W, L, n and W × L are in range
+  -- W, L, n, g and W × L are in range
   pub sheet : sheetInRange (l .size) ≡ true
   -- the table has n entries
   pub entries : l .size .count ≤ length (l .table)
@@ -93,7 +93,7 @@ well l f =
 
 -- what a job that passes its check gives
 pub record Facts (l : Lent) : Type 0 where
-  -- W, L, n and W × L pass the sheet's test
+  -- W, L, n, g and W × L pass the sheet's test
   pub sheet : sheetInRange (l .size) ≡ true
   -- the sheet has a row
   pub someRows : 1 ≤ l .size .rows
@@ -107,6 +107,8 @@ pub record Facts (l : Lent) : Type 0 where
   pub somePieces : 0 < l .size .count
   -- and at most 64
   pub fewPieces : l .size .count ≤ pieceBound
+  -- the gap is at most 8
+  pub smallGap : l .size .gap ≤ gapBound
   -- the sheet has at most 65,536 pixels
   pub area : l .size .rows * l .size .columns ≤ areaBound
   -- the table has n entries
@@ -135,9 +137,9 @@ pub record Facts (l : Lent) : Type 0 where
   pub turnedInRange : (d : Direction) (i : ℕ) (t : Turn) → i < l .size .count → upTo sideBound (extent d (turnedPiece (jobOf l) i t)) ≡ true
   -- and so at most 255
   pub turnedSmall : (d : Direction) (i : ℕ) (t : Turn) → i < l .size .count → extent d (turnedPiece (jobOf l) i t) ≤ sideBound
-  -- two pixels of two boxes, each counted from its box's edge, are at most 254 apart
+  -- two pixels of two boxes, each counted from its box's edge, are at most 254 apart, and with the gap at most 262
   pub offsets : (d : Direction) (i k : ℕ) (t u : Turn) → i < l .size .count → k < l .size .count → (p q : ℕ) → p < extent d (turnedPiece (jobOf l) i t)
-      → q < extent d (turnedPiece (jobOf l) k u) → (p - q ≤ offsetBound) × (q - p ≤ offsetBound)
+      → q < extent d (turnedPiece (jobOf l) k u) → (p - q + l .size .gap ≤ offsetBound) × (q - p + l .size .gap ≤ offsetBound)
   -- the boxes have at most 65,536 pixels together
   pub areas : pixelStart (l .table) (l .size .count) ≤ areaBound
   -- a piece's pixels end no later than those of all pieces
@@ -171,6 +173,7 @@ facts l e =
       fewColumns = up-to columnBound (l .size .columns) (n .columns);
       somePieces = at-least pieceBound (l .size .count) (n .pieces);
       fewPieces = up-to pieceBound (l .size .count) (n .pieces);
+      smallGap = n .gap;
       area = s .area;
       entries = f .entries;
       ranges = f .ranges;
@@ -185,7 +188,7 @@ facts l e =
       rowsFit = λ i b. leb-true _ _ (and-right (leb (entryColumns (l .table) i) (l .size .columns)) _ (f .fits i b));
       turnedInRange = turned-range l f;
       turnedSmall = small;
-      offsets = λ d i k t u a b p q x y. (let h = small d i t a in omega arith, let h = small d k u b in omega arith);
+      offsets = λ d i k t u a b p q x y. let g = n .gap in (let h = small d i t a in omega arith, let h = small d k u b in omega arith);
       areas = f .areas;
       ends = λ i b. start-end (l .table) i (l .size .count) b;
       store = f .store;
@@ -211,6 +214,11 @@ module _ (l : Lent) (e : lentWell l ≡ true) where
   pub lent-few : jobOf l .size .count ≤ pieceBound
   unfolding jobOf
   lent-few = facts l e .fewPieces
+
+  -- its gap is at most 8
+  pub lent-gap : jobOf l .size .gap ≤ gapBound
+  unfolding jobOf
+  lent-gap = facts l e .smallGap
 
   -- each side of a box is in range in every turn
   pub lent-side-in-range : (d : Direction) (i : ℕ) (t : Turn) → i < jobOf l .size .count

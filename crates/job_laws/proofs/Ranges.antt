@@ -1,6 +1,6 @@
 -- What a number, a sheet and an entry in range give: each test is a list of tests, taken apart. Assumes nothing.
 use Rattle.list_laws.proofs.Kit.{_≡_, Bool, _&&_, true, List, _%_, _*_, _≤_, ℕ, mul-le-mul, eqb, leb, leb-true}
-use Rattle.model.specs.Lent.{rowBound, columnBound, pieceBound, areaBound, turnsBound, sideBound, upTo, numbersInRange, sheetInRange}
+use Rattle.model.specs.Lent.{rowBound, columnBound, pieceBound, gapBound, areaBound, turnsBound, sideBound, upTo, numbersInRange, sheetInRange}
 use Rattle.model.specs.Lent.{entryColumns, entryRows, entryTurns, entryInRange}
 use Rattle.model.specs.declared.JobSize.{JobSize}
 use Rattle.list_laws.proofs.Tests.{and-left, and-right}
@@ -13,7 +13,7 @@ at-least bound k e = leb-true 1 k (and-left (leb 1 k) (leb k bound) e)
 pub up-to : (bound k : ℕ) → upTo bound k ≡ true → k ≤ bound
 up-to bound k e = leb-true k bound (and-right (leb 1 k) (leb k bound) e)
 
--- what W, L and n in range give
+-- what W, L, n and g in range give
 pub record NumberFacts (size : JobSize) : Type 0 where
   -- W passes its test
   pub rows : upTo rowBound (size .rows) ≡ true
@@ -21,6 +21,8 @@ pub record NumberFacts (size : JobSize) : Type 0 where
   pub columns : upTo columnBound (size .columns) ≡ true
   -- n passes its test
   pub pieces : upTo pieceBound (size .count) ≡ true
+  -- g is at most 8
+  pub gap : size .gap ≤ gapBound
 
 -- they do
 pub number-facts : (size : JobSize) → numbersInRange size ≡ true → NumberFacts size
@@ -28,8 +30,15 @@ number-facts size e =
     let a : Bool = upTo rowBound (size .rows) in
     let b : Bool = upTo columnBound (size .columns) in
     let c : Bool = upTo pieceBound (size .count) in
-    let ab : (a && b) ≡ true = and-left (a && b) c e in
-    record { rows = and-left a b ab; columns = and-right a b ab; pieces = and-right (a && b) c e }
+    let d : Bool = leb (size .gap) gapBound in
+    let abc : (a && b && c) ≡ true = and-left (a && b && c) d e in
+    let ab : (a && b) ≡ true = and-left (a && b) c abc in
+    record {
+      rows = and-left a b ab;
+      columns = and-right a b ab;
+      pieces = and-right (a && b) c abc;
+      gap = leb-true (size .gap) gapBound (and-right (a && b && c) d e);
+    }
 
 -- what a sheet in range gives
 pub record SheetFacts (size : JobSize) : Type 0 where

@@ -1,5 +1,5 @@
-// Document 01's limits, 'Sheet and panels': the ranges of a sheet's and of a box's numbers. The check of a lent job and the reader of a
-// job text ask for the same.
+// Document 01's limits, 'Sheet and panels', and document 02's of the gap: the ranges of a job's and of a box's numbers. The check of a lent
+// job and the reader of a job text ask for the same.
 use model::AREA_BOUND;
 use model::COLUMN_BOUND;
 use model::JobSize;
@@ -11,6 +11,9 @@ ghost use mathlib.Core.Path.{_≡_};
 ghost use Rattle.model.specs.Lent.{upTo, numbersInRange, sheetInRange};
 ghost use Rattle.text_laws.specs.Limits.{sidesInRange};
 
+// The largest gap between pieces.
+pub const GAP_BOUND: usize = 8;
+
 // From 1 to the bound.
 fn up_to(bound: usize, k: usize) -> bool
     ensures { λ r. ⌜ r ≡ upTo bound k ⌝ }
@@ -21,7 +24,7 @@ fn up_to(bound: usize, k: usize) -> bool
     k <= bound
 }
 
-// W, L and n are in range.
+// W, L, n and g are in range.
 pub fn numbers_in_range(size: JobSize) -> bool
     ensures { λ r. ⌜ r ≡ numbersInRange size ⌝ }
 {
@@ -31,7 +34,10 @@ pub fn numbers_in_range(size: JobSize) -> bool
     if !up_to(COLUMN_BOUND, size.columns) {
         return false;
     }
-    up_to(PIECE_BOUND, size.count)
+    if !up_to(PIECE_BOUND, size.count) {
+        return false;
+    }
+    size.gap <= GAP_BOUND
 }
 
 // They are, and the sheet is not too large.

@@ -1,9 +1,10 @@
 -- The form of a line and then its ranges, and what its refusal says. Assumes nothing.
 use Rattle.list_laws.proofs.Kit.{_≡_, ap, refl, sym, Bool, false, true, List, [], _∷_, _≤_, ℕ, le-refl, arith}
 use Rattle.model.specs.Refusal.{Outcome, refused, given, Cause, refusalOf, unless, wrongForm}
-use Rattle.model.specs.Text.{Reading, wrong, got, threeFields, fourFields, lineAt, formed}
-use Rattle.model.specs.JobText.{JobLine, PieceLine, jobWord, pieceWord, asJobLine, asPieceLine, jobLine, jobLineCauses, pieceLine, pieceLineCauses}
-use Rattle.job_lines.specs.Lines.{refusalAt, headOf, jobLineOf, jobAnswer, jobForm, headNext, pieceOf, pieceLineOf, pieceAnswer, pieceForm, pieceNext}
+use Rattle.model.specs.Text.{Reading, wrong, got, fourFields, lineAt, field, orElse, formed}
+use Rattle.model.specs.JobText.{JobLine, PieceLine, pieceWord, jobNumbers, asJobLine, asPieceLine, jobLine, jobLineCauses, pieceLine, pieceLineCauses}
+use Rattle.job_lines.specs.Lines.{refusalAt, headOf, jobLineOf, jobAnswer, saidBy, jobForm, headNext, pieceOf, pieceLineOf, pieceAnswer, pieceForm}
+use Rattle.job_lines.specs.Lines.{pieceNext}
 use Rattle.model.specs.declared.Refusal.{Refusal}
 use Rattle.job_lines.specs.declared.JobHead.{JobHead}
 use Rattle.job_lines.specs.declared.JobLineAnswer.the-variants as job
@@ -47,15 +48,35 @@ job-apart s l e = let z : _≡_ {A = ℕ} 0 1 = cc in omega arith
 job-same : (k l : JobLine) → jobAnswer (given k) ≡ jobAnswer (given l) → k ≡ l
 job-same k l e = let h : headOf k ≡ headOf l = cc in ap jobLineOf h
 
+-- numbers that agree with a buffer's at every place say what the buffer's first four say
+pub said-numbers : (ks numbers : List ℕ) (next : ℕ) → ((k : ℕ) → field ks k ≡ field numbers k)
+    → jobAnswer (given (asJobLine ks next)) ≡ jobAnswer (given (asJobLine numbers next))
+said-numbers ks numbers next e =
+    let at0 = e 0 in
+    let at1 = e 1 in
+    let at2 = e 2 in
+    let at3 = e 3 in
+    rw (at0, at1, at2, at3)
+
+-- a line of the first version is the line, whatever the other would be
+pub first-said : (r s : Reading (List ℕ)) (j : JobHead) → job.Line j ≡ jobAnswer (saidBy r) → job.Line j ≡ jobAnswer (saidBy (orElse r s))
+first-said wrong s j e = absurd (job-apart (refusalAt wrongForm 1) (jobLineOf j) (sym e))
+first-said (got ks p) s j e = e
+
+-- where it is none, the other is it
+pub other-said : (r s : Reading (List ℕ)) (q : Refusal) → job.Refused q ≡ jobAnswer (saidBy r) → jobAnswer (saidBy s) ≡ jobAnswer (saidBy (orElse r s))
+other-said wrong s q e = refl
+other-said (got ks p) s q e = absurd (job-apart q (asJobLine ks p) e)
+
 pub job-line-refused : (text : List ℕ) (s : Refusal) → job.Refused s ≡ jobAnswer (jobForm text) → jobAnswer (jobLine text) ≡ job.Refused (refusalAt wrongForm 1)
 unfolding jobLine
-job-line-refused text s e = form-refused 1 asJobLine jobLineCauses jobAnswer job-apart job-same (lineAt jobWord threeFields text 0) s e
+job-line-refused text s e = form-refused 1 asJobLine jobLineCauses jobAnswer job-apart job-same (jobNumbers text) s e
 
 pub job-line-ranged : (text : List ℕ) (j : JobHead) → job.Line j ≡ jobAnswer (jobForm text)
     → jobAnswer (jobLine text) ≡ jobAnswer (unless (jobLineCauses (jobLineOf j)) (jobLineOf j))
 unfolding jobLine
 job-line-ranged text j e =
-    form-given 1 asJobLine jobLineCauses jobAnswer job-apart job-same (lineAt jobWord threeFields text 0) (jobLineOf j) e
+    form-given 1 asJobLine jobLineCauses jobAnswer job-apart job-same (jobNumbers text) (jobLineOf j) e
 
 pub job-next : (j : JobLine) → headNext (jobAnswer (unless (jobLineCauses j) j)) ≤ j .next
 job-next j = unless-at-most (λ o. headNext (jobAnswer o)) (j .next) j (λ s. omega arith) (le-refl (j .next)) (jobLineCauses j)

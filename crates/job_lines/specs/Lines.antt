@@ -4,8 +4,8 @@ use mathlib.Core.List.{List}
 use mathlib.Core.Path.{_≡_}
 use Prim.Native.Nat.{ℕ, _+_, _*_, _≤_}
 use Rattle.model.specs.Refusal.{Outcome, refused, given}
-use Rattle.model.specs.Text.{threeFields, fourFields, lineAt, formed}
-use Rattle.model.specs.JobText.{JobLine, PieceLine, jobWord, pieceWord, asJobLine, asPieceLine}
+use Rattle.model.specs.Text.{Reading, fourFields, lineAt, formed}
+use Rattle.model.specs.JobText.{JobLine, PieceLine, pieceWord, jobNumbers, asJobLine, asPieceLine}
 use Rattle.model.specs.declared.Refusal.{Refusal}
 use Rattle.model.specs.Lent.{areaBound}
 use Rattle.text_laws.specs.Limits.{sidesInRange}
@@ -33,9 +33,13 @@ abbrev pub jobAnswer : Outcome JobLine → JobLineAnswer
 jobAnswer (refused r) = job.Refused r
 jobAnswer (given j) = job.Line (headOf j)
 
--- the form of the job line alone
+-- what the numbers of a job line say, its form alone
+abbrev pub saidBy : Reading (List ℕ) → Outcome JobLine
+saidBy r = formed 1 r (λ ks next. given (asJobLine ks next))
+
+-- the form of the job line alone, of either version
 abbrev pub jobForm : List ℕ → Outcome JobLine
-jobForm text = formed 1 (lineAt jobWord threeFields text 0) (λ ks next. given (asJobLine ks next))
+jobForm text = saidBy (jobNumbers text)
 
 -- the position after the line; 0 where it is refused
 abbrev pub headNext : JobLineAnswer → ℕ

@@ -1,5 +1,5 @@
-// The job line and the piece lines: document 01, 'Job text' and 'When a call says no', reading a job. A line's form comes before its
-// ranges.
+// The job line and the piece lines: document 01, 'Job text' and 'When a call says no', reading a job; document 02, point 4, the job line of
+// version 2. A line's form comes before its ranges.
 use job_limits::numbers_in_range;
 use job_limits::sides_in_range;
 use model::AREA_BOUND;
@@ -11,11 +11,13 @@ ghost use mathlib.Core.Path.{_≡_};
 ghost use Prim.Native.Nat.{_+_, _*_, _<_, _≤_, _^_};
 ghost use lib.ListN.{length};
 ghost use Rattle.model.specs.Refusal.{unless};
+ghost use Rattle.model.specs.Text.{lineAt};
 ghost use Rattle.model.specs.JobText.{jobLine, jobLineCauses, pieceLine, pieceLineCauses};
 ghost use Rattle.model.specs.Lent.{areaBound, pieceBound};
-ghost use Rattle.job_lines.specs.Lines.{refusalAt, jobLineOf, jobAnswer, jobForm, headNext, headCount, pieceLineOf, pieceAnswer, pieceForm, pieceNext, Ranged};
+ghost use Rattle.text_numbers.specs.Lines.{fieldEnds};
+ghost use Rattle.job_lines.specs.Lines.{refusalAt, jobLineOf, jobAnswer, saidBy, jobForm, headNext, headCount, pieceLineOf, pieceAnswer, pieceForm, pieceNext, Ranged};
 
-// What the job line says: W rows, L columns, n pieces; and the position after it.
+// What the job line says: W rows, L columns, n pieces, the gap g; and the position after it.
 pub struct JobHead {
     pub size: JobSize,
     pub next: usize,
@@ -54,11 +56,12 @@ pub fn refusal(number: u8, line: usize) -> Refusal
     }
 }
 
-// The form of the job line, `job,1,W,L,n`.
-fn job_fields(text: &[u8]) -> JobLineAnswer
-    ensures { λ r. ⌜ (r ≡ jobAnswer (jobForm (now (text .entry)))) × (headNext r ≤ length (now (text .entry))) ⌝ }
+// The form of a job line that begins with the version's word and has so many numbers: W, L, n and g, which is 0 where it is not there.
+fn version_fields(text: &[u8], word: &[u8], count: usize) -> JobLineAnswer
+    requires { ⌜ (0 < count) × (count ≤ 8) ⌝ }
+    ensures { λ r. ⌜ (r ≡ jobAnswer (saidBy (lineAt (now (word .entry)) (fieldEnds count) (now (text .entry)) 0))) × (headNext r ≤ length (now (text .entry))) ⌝ }
 {
-    let line = line_at(text, 0, b"job,1,", 3);
+    let line = line_at(text, 0, word, count);
     let form = line.form;
     let LineForm::Right(next) = form else {
         return JobLineAnswer::Refused(refusal(1, 1));
@@ -68,8 +71,19 @@ fn job_fields(text: &[u8]) -> JobLineAnswer
         rows: numbers[0],
         columns: numbers[1],
         count: numbers[2],
+        gap: numbers[3],
     };
     JobLineAnswer::Line(JobHead { size, next })
+}
+
+// The form of the job line, `job,1,W,L,n`, or else `job,2,W,L,n,g`.
+fn job_fields(text: &[u8]) -> JobLineAnswer
+    ensures { λ r. ⌜ (r ≡ jobAnswer (jobForm (now (text .entry)))) × (headNext r ≤ length (now (text .entry))) ⌝ }
+{
+    match version_fields(text, b"job,1,", 3) {
+        JobLineAnswer::Line(j) => JobLineAnswer::Line(j),
+        JobLineAnswer::Refused(_) => version_fields(text, b"job,2,", 4),
+    }
 }
 
 // The ranges of the job line: a number out of range, then the sheet too large.

@@ -64,7 +64,7 @@ fn figures_on(
     ensures { λ r. ⌜ r ≡ figures (jobOf (lentBy size (now (table .entry)) (now (pixels .entry)))) (now (weights .entry)) (withPlace (layoutOf (now (layout .entry))) piece place) ⌝ }
 {
     put_moved(layout, piece, place, moved);
-    let penalties = penalties_of(table, pixels, moved);
+    let penalties = penalties_of(size, table, pixels, moved);
     let sum = total(&penalties, weights, size.count);
     let length = length_between_ends(size, table, moved) as u64;
     Figures { sum, length }

@@ -1,6 +1,6 @@
 // The strips of the pieces of a layout, in the turns that it gives them, made when they are first asked for, and what is measured of two pieces
-// by them. Document 01, 'No-fit rows and penalty'. Each piece has a part of a store to itself, an entry for each pixel of its box, so that it
-// does not matter which pieces are asked for, or in what order.
+// by them and a gap. Document 01, 'No-fit rows and penalty', and document 02, point 4. Each piece has a part of a store to itself, an entry for
+// each pixel of its box, so that it does not matter which pieces are asked for, or in what order.
 mod boxes;
 
 use boxes::boxes_meet;
@@ -18,8 +18,9 @@ ghost use mathlib.Core.Path.{_≡_};
 ghost use mathlib.Core.Logic.{_≢_};
 ghost use Prim.Native.Nat.{ℕ, _-_, _<_, _≤_, min};
 ghost use lib.ListN.{length, take, drop};
-ghost use Rattle.model.specs.Overlap.{depth};
-ghost use Rattle.model.specs.Layout.{cornerIn, pairOf, pairShares};
+ghost use Rattle.model.specs.Piece.{gapBound};
+ghost use Rattle.model.specs.Overlap.{conflictDepth};
+ghost use Rattle.model.specs.Layout.{cornerIn, pairOf, pairConflicts};
 ghost use Rattle.model.specs.Lent.{lentBy, jobOf, areaBound};
 ghost use Rattle.model.specs.Buffer.{layoutOf};
 ghost use Rattle.model.specs.declared.Direction.the-variants.{Horizontal, Vertical};
@@ -77,7 +78,7 @@ fn strips_of<'a>(store: &'a [StripEntry], spans: &[StripSpan], i: usize) -> &'a 
     &store[from..to]
 }
 
-// The depth of two pieces of a layout along a direction, cut off at a bound.
+// The depth of two pieces of a layout along a direction by a gap, cut off at a bound.
 fn depth_of(
     table: &[PieceEntry],
     pixels: &[u8],
@@ -85,12 +86,13 @@ fn depth_of(
     i: usize,
     k: usize,
     direction: Direction,
+    gap: u32,
     bound: u32,
     store: &mut [StripEntry],
     spans: &mut [StripSpan],
 ) -> u32
-    requires { ⌜ Drawable (now table) (now layout) ⌝ ∗ ⌜ (i < length (now layout)) × (k < length (now layout)) ⌝ ∗ ⌜ bound ≤ 256 ⌝ ∗ ⌜ Kept direction (now table) (now pixels) (now layout) (now store) (now spans) ⌝ }
-    ensures depth { λ r. ⌜ ((size : JobSize) → r ≡ min (depth direction (drawnShape size (now (table .entry)) (now (pixels .entry)) (now (layout .entry)) i) (cornerIn (layoutOf (now (layout .entry))) i) (drawnShape size (now (table .entry)) (now (pixels .entry)) (now (layout .entry)) k) (cornerIn (layoutOf (now (layout .entry))) k)) bound) ⌝ }
+    requires { ⌜ Drawable (now table) (now layout) ⌝ ∗ ⌜ (i < length (now layout)) × (k < length (now layout)) ⌝ ∗ ⌜ (gap ≤ gapBound) × (bound ≤ 264) ⌝ ∗ ⌜ Kept direction (now table) (now pixels) (now layout) (now store) (now spans) ⌝ }
+    ensures depth { λ r. ⌜ ((size : JobSize) → r ≡ min (conflictDepth gap direction (drawnShape size (now (table .entry)) (now (pixels .entry)) (now (layout .entry)) i) (cornerIn (layoutOf (now (layout .entry))) i) (drawnShape size (now (table .entry)) (now (pixels .entry)) (now (layout .entry)) k) (cornerIn (layoutOf (now (layout .entry))) k)) bound) ⌝ }
     ensures kept { λ r. ⌜ Kept direction (now (table .entry)) (now (pixels .entry)) (now (layout .entry)) (now (store .exit)) (now (spans .exit)) ⌝ }
 {
     draw(table, pixels, layout, i, direction, store, spans);
@@ -104,25 +106,28 @@ fn depth_of(
         u,
         strips_of(strips, made, k),
         v,
+        gap,
         bound,
     )
 }
 
-// Whether two pieces of a layout share a pixel: the walk over their strips ends at the first. No strips are made for boxes that do not meet.
-pub fn shares_of(
+// Whether two pieces of a layout conflict by a gap: the walk over their strips ends at the first two that do. No strips are made for boxes farther
+// apart.
+pub fn conflicts_of(
     table: &[PieceEntry],
     pixels: &[u8],
     layout: &[PlaceEntry],
     i: usize,
     k: usize,
+    gap: u32,
     rows: &mut [StripEntry],
     row_spans: &mut [StripSpan],
 ) -> bool
-    requires { ⌜ Drawable (now table) (now layout) ⌝ ∗ ⌜ (i < length (now layout)) × (k < length (now layout)) ⌝ ∗ ⌜ Kept Horizontal (now table) (now pixels) (now layout) (now rows) (now «row_spans») ⌝ }
-    ensures shares { λ r. ⌜ ((size : JobSize) → r ≡ pairShares (jobOf (lentBy size (now (table .entry)) (now (pixels .entry)))) (layoutOf (now (layout .entry))) (pairOf i k)) ⌝ }
+    requires { ⌜ Drawable (now table) (now layout) ⌝ ∗ ⌜ (i < length (now layout)) × (k < length (now layout)) ⌝ ∗ ⌜ Kept Horizontal (now table) (now pixels) (now layout) (now rows) (now «row_spans») ⌝ ∗ ⌜ gap ≤ gapBound ⌝ }
+    ensures conflicts { λ r. ⌜ ((size : JobSize) → size .gap ≡ gap → r ≡ pairConflicts (jobOf (lentBy size (now (table .entry)) (now (pixels .entry)))) (layoutOf (now (layout .entry))) (pairOf i k)) ⌝ }
     ensures kept { λ r. ⌜ Kept Horizontal (now (table .entry)) (now (pixels .entry)) (now (layout .entry)) (now (rows .exit)) (now («row_spans» .exit)) ⌝ }
 {
-    if !boxes_meet(table, layout, i, k) {
+    if !boxes_meet(table, layout, i, k, gap) {
         return false;
     }
     depth_of(
@@ -132,6 +137,7 @@ pub fn shares_of(
         i,
         k,
         Direction::Horizontal,
+        gap,
         1,
         rows,
         row_spans,
@@ -139,26 +145,28 @@ pub fn shares_of(
         == 1
 }
 
-// The penalty of two pieces of a layout: the lesser depth. No strips are made for boxes that do not meet; the depth along the columns is cut off at
-// the one along the rows, and not asked for, nor are column strips made, where that is 0.
+// The penalty of two pieces of a layout by a gap: the lesser depth. No strips are made for boxes farther apart; the depth along the columns is cut
+// off at the one along the rows, and not asked for, nor are column strips made, where that is 0. The penalty of two different pieces fits a byte,
+// since their boxes are not both long and high.
 pub fn penalty_of(
     table: &[PieceEntry],
     pixels: &[u8],
     layout: &[PlaceEntry],
     i: usize,
     k: usize,
+    gap: u32,
     rows: &mut [StripEntry],
     row_spans: &mut [StripSpan],
     columns: &mut [StripEntry],
     column_spans: &mut [StripSpan],
 ) -> u32
-    requires { ⌜ Drawable (now table) (now layout) ⌝ ∗ ⌜ (i < length (now layout)) × (k < length (now layout)) ⌝ ∗ ⌜ Kept Horizontal (now table) (now pixels) (now layout) (now rows) (now «row_spans») ⌝ ∗ ⌜ Kept Vertical (now table) (now pixels) (now layout) (now columns) (now «column_spans») ⌝ }
-    ensures penalty { λ r. ⌜ ((size : JobSize) → r ≡ penaltyBetween (jobOf (lentBy size (now (table .entry)) (now (pixels .entry)))) (layoutOf (now (layout .entry))) i k) ⌝ }
-    ensures small { λ r. ⌜ r ≤ 255 ⌝ }
+    requires { ⌜ Drawable (now table) (now layout) ⌝ ∗ ⌜ (i < length (now layout)) × (k < length (now layout)) ⌝ ∗ ⌜ Kept Horizontal (now table) (now pixels) (now layout) (now rows) (now «row_spans») ⌝ ∗ ⌜ Kept Vertical (now table) (now pixels) (now layout) (now columns) (now «column_spans») ⌝ ∗ ⌜ gap ≤ gapBound ⌝ }
+    ensures penalty { λ r. ⌜ ((size : JobSize) → size .gap ≡ gap → r ≡ penaltyBetween (jobOf (lentBy size (now (table .entry)) (now (pixels .entry)))) (layoutOf (now (layout .entry))) i k) ⌝ }
+    ensures small { λ r. ⌜ (i ≢ k → r ≤ 255) ⌝ }
     ensures rows { λ r. ⌜ Kept Horizontal (now (table .entry)) (now (pixels .entry)) (now (layout .entry)) (now (rows .exit)) (now («row_spans» .exit)) ⌝ }
     ensures columns { λ r. ⌜ Kept Vertical (now (table .entry)) (now (pixels .entry)) (now (layout .entry)) (now (columns .exit)) (now («column_spans» .exit)) ⌝ }
 {
-    if !boxes_meet(table, layout, i, k) {
+    if !boxes_meet(table, layout, i, k, gap) {
         return 0;
     }
     let along_rows = depth_of(
@@ -168,7 +176,8 @@ pub fn penalty_of(
         i,
         k,
         Direction::Horizontal,
-        256,
+        gap,
+        264,
         rows,
         row_spans,
     );
@@ -182,6 +191,7 @@ pub fn penalty_of(
         i,
         k,
         Direction::Vertical,
+        gap,
         along_rows,
         columns,
         column_spans,

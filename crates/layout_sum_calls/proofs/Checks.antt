@@ -3,11 +3,11 @@ use Rattle.list_laws.proofs.Kit.{_≡_, refl, Option, none, some, [], _∷_}
 use Rattle.model.specs.Answers.{doneAnswer}
 use Rattle.model.specs.Layout.{Pair}
 use Rattle.model.specs.Refusal.{unless}
-use Rattle.model.specs.Calls.{sharedCause}
-use Rattle.layout_sum_calls.specs.Answers.{sharingAnswer, sharedAnswer}
+use Rattle.model.specs.Calls.{conflictCause}
+use Rattle.layout_sum_calls.specs.Answers.{conflictingAnswer, conflictAnswer}
 
--- what the check says of the first pair that shares a pixel
-pub shared-check : (o : Option Pair) → sharedAnswer (sharingAnswer o) ≡ doneAnswer (unless (sharedCause o ∷ []) (tt {0}))
+-- what the check says of the first pair that conflicts
+pub conflict-check : (o : Option Pair) → conflictAnswer (conflictingAnswer o) ≡ doneAnswer (unless (conflictCause o ∷ []) (tt {0}))
 unfolding unless
-shared-check none = refl
-shared-check (some p) = refl
+conflict-check none = refl
+conflict-check (some p) = refl

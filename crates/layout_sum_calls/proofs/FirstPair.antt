@@ -1,9 +1,9 @@
--- The first pair that shares a pixel, found row by row. Assumes nothing.
+-- The first pair that conflicts, found row by row. Assumes nothing.
 use Rattle.list_laws.proofs.Kit.{_∙_, _≡_, ap, sym, Bool, false, true, Option, none, some, List, _++_, _+_, _-_, _<_, _≤_, suc, ℕ, add-one, arith, length}
-use Rattle.model.specs.Layout.{Pair, pairOf, pairsWith, pairsFrom, pairShares, firstPair, sharingPair}
+use Rattle.model.specs.Layout.{Pair, pairOf, pairsWith, pairsFrom, pairConflicts, firstPair, conflictingPair}
 use Rattle.model.specs.Lent.{Lent, jobOf}
 use Rattle.model.specs.Buffer.{layoutOf}
-use Rattle.layout_sum_calls.specs.Sharing.{rowBefore, RowFirst}
+use Rattle.layout_sum_calls.specs.Conflicting.{rowBefore, RowFirst}
 
 module _ (test : Pair → Bool) (n i : ℕ) (rest : List Pair) where
   -- what is left of the row from k on, in front of the rest
@@ -59,11 +59,11 @@ row-none test n i k h l = record { found = λ b rest. absurd (omega arith); none
 
 -- all rows
 pub rows-begin : (l : Lent) (layout : List (List ℕ)) → l .size .count ≡ length layout
-    → sharingPair (jobOf l) (layoutOf layout) ≡ firstPair (pairShares (jobOf l) (layoutOf layout)) (pairsFrom 0 (length layout - 0))
-unfolding sharingPair jobOf
+    → conflictingPair (jobOf l) (layoutOf layout) ≡ firstPair (pairConflicts (jobOf l) (layoutOf layout)) (pairsFrom 0 (length layout - 0))
+unfolding conflictingPair jobOf
 rows-begin l layout whole =
     let e : l .size .count ≡ length layout - 0 = omega arith in
-    ap (λ n. firstPair (pairShares (jobOf l) (layoutOf layout)) (pairsFrom 0 n)) e
+    ap (λ n. firstPair (pairConflicts (jobOf l) (layoutOf layout)) (pairsFrom 0 n)) e
 
 -- the rows from i on: the first row, and those after it
 pub rows-left : (test : Pair → Bool) (n i : ℕ) → i < n

@@ -1,3 +1,3 @@
--- Laws of the first pair that shares a pixel and of refusals.
+-- Laws of the first pair that conflicts and of refusals.
 pub mod FirstPair
 pub mod Checks

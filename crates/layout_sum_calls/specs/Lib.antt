@@ -1,3 +1,3 @@
 -- What the contracts of this crate cite beside the model's definitions.
-pub mod Sharing
+pub mod Conflicting
 pub mod Answers

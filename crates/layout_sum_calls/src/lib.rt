@@ -1,9 +1,11 @@
 // Sums over the pairs of a layout, and its check. Document 01, 'No-fit rows and penalty' (weights and sums) and 'When a call says
 // no'. The calls here refuse by number and measure a whole layout.
-mod sharing;
+mod conflicting;
 
 use causes::layout_causes;
 use causes::weighted_causes;
+use conflicting::ConflictingPair;
+use conflicting::conflicting_pair;
 use model::DoneAnswer;
 use model::JobSize;
 use model::NumberAnswer;
@@ -13,13 +15,11 @@ use model::Refusal;
 use search_sums::plain_total;
 use search_sums::total;
 use search_table::penalties_of;
-use sharing::SharingPair;
-use sharing::sharing_pair;
 ghost use mathlib.Core.Path.{_≡_};
 ghost use Rattle.model.specs.Answers.{doneAnswer, numberAnswer};
 ghost use Rattle.model.specs.Lent.{lentBy};
 ghost use Rattle.model.specs.Calls.{weightedSumCall, plainSumCall, checkCall};
-ghost use Rattle.layout_sum_calls.specs.Answers.{sharedAnswer};
+ghost use Rattle.layout_sum_calls.specs.Answers.{conflictAnswer};
 
 // The weighted sum of a layout, or its refusal.
 pub fn weighted_sum(
@@ -34,7 +34,7 @@ pub fn weighted_sum(
     match weighted_causes(size, table, pixels, layout, weights, false, false) {
         DoneAnswer::Refused(refusal) => NumberAnswer::Refused(refusal),
         DoneAnswer::Done => {
-            let penalties = penalties_of(table, pixels, layout);
+            let penalties = penalties_of(size, table, pixels, layout);
             NumberAnswer::Number(total(&penalties, weights, size.count))
         }
     }
@@ -52,23 +52,23 @@ pub fn plain_sum(
     match layout_causes(size, table, pixels, layout) {
         DoneAnswer::Refused(refusal) => NumberAnswer::Refused(refusal),
         DoneAnswer::Done => {
-            let penalties = penalties_of(table, pixels, layout);
+            let penalties = penalties_of(size, table, pixels, layout);
             NumberAnswer::Number(plain_total(&penalties, size.count))
         }
     }
 }
 
-// What the check says of the first pair that shares a pixel: refusal 12 with the pair.
-fn shared_answer(pair: SharingPair) -> DoneAnswer
-    ensures { λ r. ⌜ r ≡ sharedAnswer pair ⌝ }
+// What the check says of the first pair that conflicts: refusal 12 with the pair.
+fn conflict_answer(pair: ConflictingPair) -> DoneAnswer
+    ensures { λ r. ⌜ r ≡ conflictAnswer pair ⌝ }
 {
     match pair {
-        SharingPair::Sharing(first, second) => DoneAnswer::Refused(Refusal {
+        ConflictingPair::Conflicting(first, second) => DoneAnswer::Refused(Refusal {
             number: 12,
             first,
             second,
         }),
-        SharingPair::Apart => DoneAnswer::Done,
+        ConflictingPair::Apart => DoneAnswer::Done,
     }
 }
 
@@ -83,6 +83,6 @@ pub fn check(
 {
     match layout_causes(size, table, pixels, layout) {
         DoneAnswer::Refused(refusal) => DoneAnswer::Refused(refusal),
-        DoneAnswer::Done => shared_answer(sharing_pair(table, pixels, layout)),
+        DoneAnswer::Done => conflict_answer(conflicting_pair(size, table, pixels, layout)),
     }
 }

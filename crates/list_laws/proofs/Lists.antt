@@ -86,3 +86,9 @@ take-repeat {A} (suc m) (suc n) a h = ap (λ (l : List A). a ∷ l) (take-repeat
 -- so it is as long as asked
 pub repeated-front : {A : Type 0} (m n : ℕ) (a : A) → m ≤ n → length (take m (replicate n a)) ≡ m
 repeated-front m n a h = ap length (take-repeat m n a h) ∙ length-replicate m a
+
+-- every place of a repeat
+pub repeat-at : {A : Type 0} (n i : ℕ) (a : A) → getD (replicate n a) i a ≡ a
+repeat-at zero i a = refl
+repeat-at (suc n) zero a = refl
+repeat-at (suc n) (suc i) a = repeat-at n i a

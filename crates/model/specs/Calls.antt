@@ -1,5 +1,5 @@
--- Document 01, 'When a call says no', and document 02, points 2 (the cut list) and 3 (the preview of a move): what each public call gives
--- and leaves in lent memory, and its causes of refusal in their order. How a job or a layout is read line by line stands in JobText and
+-- Document 01, 'When a call says no', and document 02, points 2 (the cut list), 3 (the preview of a move) and 4 (the gap): what each public
+-- call gives and leaves in lent memory, and its causes of refusal in their order. How a job or a layout is read line by line stands in JobText and
 -- LayoutText. Assumes nothing.
 --
 -- The refusals of each call, in their order; places are 0 unless named. Refusal gives each number its name.
@@ -9,7 +9,7 @@
 --   stretch, its refusal   8 the job, 9, 8 a store                                         stretchCall, stretchNumber
 --   no-fit row, column     8 the job, 9, 8 a stretch, 7                                    noFitCall
 --   rebuild                2, 8, 7                                                         rebuildCall
---   shared pixel, depths   8, 7, 9, 10                                                     shareCall, depthCall
+--   conflict, depths       8, 7, 9, 10                                                     shareCall, depthCall
 --   penalty                8, 7, 9, 10                                                     penaltyCall
 --   weighted sum           8, 7, 2, 9, 10                                                  weightedSumCall
 --   plain sum              8, 7, 9, 10                                                     plainSumCall
@@ -43,14 +43,14 @@ use Rattle.model.specs.Bounded.{anyBelow}
 use Rattle.model.specs.Piece.{Shape, tight, sideBound}
 use Rattle.model.specs.Strip.{strips, rebuilt}
 use Rattle.model.specs.Overlap.{OffsetRun, noFit}
-use Rattle.model.specs.Layout.{Job, Layout, Pair, pairOf, pairs, turnedPiece, allowed, inside, placeOf, pairShares, pairPenalty, pairDepth, weightedSum}
-use Rattle.model.specs.Layout.{withPlace, plainSum, usedLength, figures, sharingPair}
+use Rattle.model.specs.Layout.{Job, Layout, Pair, pairOf, pairs, turnedPiece, allowed, inside, placeOf, pairConflicts, pairPenalty, pairDepth, weightedSum}
+use Rattle.model.specs.Layout.{withPlace, plainSum, usedLength, figures, conflictingPair}
 use Rattle.model.specs.Search.{Best, places, searchLine}
 use Rattle.model.specs.Descent.{Descent, descend}
 use Rattle.model.specs.Guided.{Guided, guide, weightBound}
 use Rattle.model.specs.Start.{start}
 use Rattle.model.specs.Refusal.{Outcome, refused, given, Cause, cause, unless, outOfRange, wrongLength, notOurs, noSuchPiece, outsideSheet, emptyLine}
-use Rattle.model.specs.Refusal.{sharedPixel}
+use Rattle.model.specs.Refusal.{piecesConflict}
 use Rattle.model.specs.Lent.{Lent, jobOf, lentWell, upTo}
 use Rattle.model.specs.Buffer.{turnPasses, layoutOf, entriesOf, stripEntry, entryStrip, runEntry, bytesOf, filled, sameEntries}
 use Rattle.model.specs.Text.{andThen}
@@ -214,7 +214,7 @@ stretchWell d j p = sameEntries (p .stretch) (map stripEntry (strips d (turnedPi
 
 -- the no-fit row (horizontal, by a row offset) or column (vertical, by a column offset) of two pieces
 unfoldable pub noFitOf : Direction → Job → LentStretch → LentStretch → ℤ → List OffsetRun
-noFitOf d j p q offset = noFit d (turnedPiece j (p .piece) (p .turn)) (turnedPiece j (q .piece) (q .turn)) offset
+noFitOf d j p q offset = noFit (j .size .gap) d (turnedPiece j (p .piece) (p .turn)) (turnedPiece j (q .piece) (q .turn)) offset
 
 -- the no-fit call: 8 the job, 9, 8 a stretch, 7
 unfoldable pub noFitCall : Direction → Lent → LentStretch → LentStretch → ℤ → ℕ → Outcome (List OffsetRun)
@@ -261,9 +261,9 @@ pairCause l es i k =
 unfoldable pub pairCauses : Lent → List (List ℕ) → ℕ → ℕ → List Cause
 pairCauses l es i k = jobCause l ∷ layoutLength l es ∷ pairCause l es i k ∷ outsideCause l es ∷ []
 
--- the shared-pixel test
+-- whether two pieces conflict; with a gap of 0, the shared-pixel test
 unfoldable pub shareCall : Lent → List (List ℕ) → ℕ → ℕ → Outcome Bool
-shareCall l es i k = unless (pairCauses l es i k) (pairShares (jobOf l) (layoutOf es) (pairOf i k))
+shareCall l es i k = unless (pairCauses l es i k) (pairConflicts (jobOf l) (layoutOf es) (pairOf i k))
 
 -- the depth along a direction
 unfoldable pub depthCall : Direction → Lent → List (List ℕ) → ℕ → ℕ → Outcome ℕ
@@ -387,16 +387,16 @@ readLayoutCall l text room = andThen (unless (jobCause l ∷ []) (jobOf l)) (λ 
 unfoldable pub startCall : Lent → ℕ → Outcome Layout
 startCall l room = unless (jobCause l ∷ exactly (l .size .count) room ∷ []) (start (jobOf l))
 
--- 12, with the pair that shares a pixel
-abbrev pub sharedCause : Option Pair → Cause
-sharedCause none = cause sharedPixel false
-sharedCause (some p) = record { there = true; number = sharedPixel; first = p .first; second = p .second }
+-- 12, with the pair that conflicts
+abbrev pub conflictCause : Option Pair → Cause
+conflictCause none = cause piecesConflict false
+conflictCause (some p) = record { there = true; number = piecesConflict; first = p .first; second = p .second }
 
 -- the check of a layout: 8, 7, 9, 10, 12
 unfoldable pub checkCall : Lent → List (List ℕ) → Outcome (Unit {0})
 checkCall l es =
     unless
-    (layoutCauses l es ++ (sharedCause (sharingPair (jobOf l) (layoutOf es)) ∷ []))
+    (layoutCauses l es ++ (conflictCause (conflictingPair (jobOf l) (layoutOf es)) ∷ []))
     tt
 
 -- ── the cut list ──
@@ -410,7 +410,7 @@ unfoldable pub cutLinesCall : Lent → List (List ℕ) → ℕ → Outcome (List
 cutLinesCall l es room =
     unless
     (layoutCauses l es
-    ++ (sharedCause (sharingPair (jobOf l) (layoutOf es)) ∷ atLeast (length (cutLines (jobOf l) (layoutOf es))) room ∷ []))
+    ++ (conflictCause (conflictingPair (jobOf l) (layoutOf es)) ∷ atLeast (length (cutLines (jobOf l) (layoutOf es))) room ∷ []))
     (cutLines (jobOf l) (layoutOf es))
 
 -- what the line buffer holds after the lines are given
@@ -422,7 +422,7 @@ unfoldable pub cutStepCall : Lent → List (List ℕ) → ℕ → ℕ → Outcom
 cutStepCall l es pitch k =
     unless
     (jobCause l ∷ layoutLength l es ∷ pitchCause pitch ∷ turnsCause l es ∷ outsideCause l es
-    ∷ sharedCause (sharingPair (jobOf l) (layoutOf es)) ∷ [])
+    ∷ conflictCause (conflictingPair (jobOf l) (layoutOf es)) ∷ [])
     (stepIn pitch (stepAt (cutLines (jobOf l) (layoutOf es)) k))
 
 -- step number k of a lent list of lines, in millimetres: 2 for the pitch

@@ -27,7 +27,7 @@ full columns rows = record { columns = columns; rows = rows; has = λ x y. true 
 jobWith : ℕ → ℕ → List Shape → Job
 jobWith rows columns shapes =
     record {
-      size = record { rows = rows; columns = columns; count = length shapes };
+      size = record { rows = rows; columns = columns; count = length shapes; gap = 0 };
       piece = λ i. record { shape = getD shapes i (full 1 1); turns = 15 };
     }
 

@@ -1,4 +1,5 @@
--- Document 01, 'Marked examples of the shop': P1 to P12, one test that the checker computes. Assumes nothing.
+-- Document 01, 'Marked examples of the shop': P1 to P12, one test that the checker computes, and some of them again with the gap 1 of
+-- document 02, point 4. Assumes nothing.
 use mathlib.Core.Bool.{Bool, true, not, _&&_}
 use mathlib.Core.List.{List, [], _∷_}
 use mathlib.Core.Option.{Option, none, some}
@@ -9,7 +10,7 @@ use lib.IntN.{ℤ, pos, negsuc}
 use Rattle.model.specs.Buffer.{endNumber, sameNumbers}
 use Rattle.model.specs.Piece.{Point, Shape, Piece, pixel, turned}
 use Rattle.model.specs.Strip.{Strip, strips, runsFrom, stripsFrom}
-use Rattle.model.specs.Overlap.{OffsetRun, noFit, noFitAt, share, apartAt, depth, penalty}
+use Rattle.model.specs.Overlap.{OffsetRun, noFit, noFitAt, nearTo, conflict, freeAt, conflictDepth, conflictPenalty}
 use Rattle.model.specs.Layout.{Job, pairsWith, pairsFrom, pairPenalty, sumOver, weightedSum, pieceSum, inside}
 use Rattle.model.specs.Search.{Best, places, sumAt, least, searchLine}
 use Rattle.model.specs.Descent.{Descent, turnTrials, pieceTrials, trialsFrom, trials, attempt, descendFrom, descend}
@@ -72,7 +73,7 @@ place a b = record { turn = Zero; x = record { 0 = a }; y = record { 0 = b } }
 
 -- two full 2 × 2 pieces, o = 1, on a sheet of 2 rows and so many columns
 twoSquares : ℕ → Job
-twoSquares columns = record { size = record { rows = 2; columns = columns; count = 2 }; piece = λ i. record { shape = shapeA; turns = 1 } }
+twoSquares columns = record { size = record { rows = 2; columns = columns; count = 2; gap = 0 }; piece = λ i. record { shape = shapeA; turns = 1 } }
 
 -- ── the examples ──
 
@@ -85,30 +86,30 @@ P2 =
     && not (pixel (turned Quarter shapeB) (at 0 1))
 
 P3 : Bool
-P3 = sameNumbers (flatRuns (noFit Horizontal shapeA shapeA (pos 1))) (1 ∷ 1 ∷ 3 ∷ [])
+P3 = sameNumbers (flatRuns (noFit 0 Horizontal shapeA shapeA (pos 1))) (1 ∷ 1 ∷ 3 ∷ [])
 
 P4 : Bool
-P4 = sameNumbers (flatRuns (noFit Horizontal shapeA shapeA (pos 2))) []
+P4 = sameNumbers (flatRuns (noFit 0 Horizontal shapeA shapeA (pos 2))) []
 
--- the two depths, horizontal first, and the penalty
-measures : Shape → Point → Shape → Point → List ℕ
-measures s u t v = depth Horizontal s u t v ∷ depth Vertical s u t v ∷ penalty s u t v ∷ []
+-- the two depths by a gap, horizontal first, and the penalty
+measures : ℕ → Shape → Point → Shape → Point → List ℕ
+measures g s u t v = conflictDepth g Horizontal s u t v ∷ conflictDepth g Vertical s u t v ∷ conflictPenalty g s u t v ∷ []
 
 P5 : Bool
-P5 = sameNumbers (measures shapeA (at 0 0) shapeA (at 1 0)) (1 ∷ 2 ∷ 1 ∷ [])
+P5 = sameNumbers (measures 0 shapeA (at 0 0) shapeA (at 1 0)) (1 ∷ 2 ∷ 1 ∷ [])
 
 P6 : Bool
-P6 = eqb (penalty shapeA (at 0 0) shapeA (at 0 0)) 2
+P6 = eqb (conflictPenalty 0 shapeA (at 0 0) shapeA (at 0 0)) 2
 
 P7 : Bool
-P7 = eqb (penalty shapeD (at 0 0) shapeE (at 1 1)) 0
+P7 = eqb (conflictPenalty 0 shapeD (at 0 0) shapeE (at 1 1)) 0
 
 P8 : Bool
-P8 = sameNumbers (measures shapeD (at 0 0) shapeE (at 1 0)) (2 ∷ 1 ∷ 1 ∷ [])
+P8 = sameNumbers (measures 0 shapeD (at 0 0) shapeE (at 1 0)) (2 ∷ 1 ∷ 1 ∷ [])
 
 -- A fills B's box, so that the boxes meet where two of A share a pixel
 P9 : Bool
-P9 = share shapeA (at 0 0) shapeA (at 1 0) && eqb (penalty shapeB (at 0 0) (turned Half shapeB) (at 1 0)) 0
+P9 = conflict 0 shapeA (at 0 0) shapeA (at 1 0) && eqb (conflictPenalty 0 shapeB (at 0 0) (turned Half shapeB) (at 1 0)) 0
 
 P10 : Bool
 P10 = sameNumbers (flatBest (searchLine (twoSquares 4) (3 ∷ []) (place 1 0 ∷ place 0 0 ∷ []) 1 Zero (InRow (record { 0 = 0 })))) (3 ∷ 0 ∷ [])
@@ -123,13 +124,37 @@ P11 = sameNumbers (descentOf 4 5) (0 ∷ 0 ∷ 1 ∷ 1 ∷ [])
 P12 : Bool
 P12 = sameNumbers (descentOf 3 5) (1 ∷ 1 ∷ 5 ∷ 1 ∷ []) && sameNumbers (descentOf 3 4) (2 ∷ 1 ∷ 4 ∷ 1 ∷ [])
 
+-- ── with a gap ──
+
+-- a single pixel in the ring's hole conflicts by a gap of 1, and not by 0
+ringsHole : Bool
+ringsHole = conflict 1 shapeD (at 0 0) shapeE (at 1 1) && not (conflict 0 shapeD (at 0 0) shapeE (at 1 1))
+
+-- P3, P5 and P9 by a gap of 1: the no-fit row grows by one offset at both ends, a column more is to be shifted, and the two of P9 conflict
+P3wide : Bool
+P3wide = sameNumbers (flatRuns (noFit 1 Horizontal shapeA shapeA (pos 1))) (1 ∷ 2 ∷ 5 ∷ [])
+
+P5wide : Bool
+P5wide = sameNumbers (measures 1 shapeA (at 0 0) shapeA (at 1 0)) (2 ∷ 3 ∷ 2 ∷ [])
+
+P9wide : Bool
+P9wide = sameNumbers (measures 1 shapeB (at 0 0) (turned Half shapeB) (at 1 0)) (2 ∷ 2 ∷ 2 ∷ [])
+
+-- columns and rows both count, each by itself: single pixels one column and one row apart conflict by a gap of 1, and those two columns
+-- apart in one row do not
+bothCount : Bool
+bothCount =
+    conflict 1 shapeE (at 0 0) shapeE (at 1 1) && not (conflict 1 shapeE (at 0 0) shapeE (at 2 0)) && not (conflict 1 shapeE (at 0 0) shapeE (at 0 2))
+
 -- all of them
 pub examples : Bool
-examples = P1 && P2 && P3 && P4 && P5 && P6 && P7 && P8 && P9 && P10 && P11 && P12
+examples =
+    P1 && P2 && P3 && P4 && P5 && P6 && P7 && P8 && P9 && P10 && P11 && P12 && ringsHole && P3wide && P5wide && P9wide && bothCount
 
--- P1 to P12 hold of the definitions
+-- P1 to P12 hold of the definitions, and so do those with a gap
 pub examples-hold : examples ≡ true
-unfolding examples P1 P2 P3 P4 P5 P6 P7 P8 P9 P10 P11 P12 sameNumbers flatStrips signed flatRuns flatBest flatDescent shapeA shapeB shapeD shapeE at place
-    twoSquares measures descentOf runsFrom stripsFrom noFitAt noFit share apartAt depth penalty pairsWith pairsFrom pairPenalty sumOver weightedSum pieceSum
-    inside places sumAt least searchLine turnTrials pieceTrials trialsFrom trials attempt descendFrom descend Rattle.model.specs.Piece.allows
+unfolding examples P1 P2 P3 P4 P5 P6 P7 P8 P9 P10 P11 P12 ringsHole P3wide P5wide P9wide bothCount sameNumbers flatStrips signed flatRuns flatBest
+    flatDescent shapeA shapeB shapeD shapeE at place twoSquares measures descentOf runsFrom stripsFrom noFitAt noFit nearTo conflict freeAt
+    conflictDepth conflictPenalty pairsWith pairsFrom pairPenalty sumOver weightedSum pieceSum inside places sumAt least searchLine turnTrials
+    pieceTrials trialsFrom trials attempt descendFrom descend Rattle.model.specs.Piece.allows
 examples-hold = refl

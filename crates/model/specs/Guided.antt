@@ -4,7 +4,7 @@ use mathlib.Core.Bool.{Bool, true, false}
 use mathlib.Core.List.{List, [], _∷_}
 use Prim.Native.Nat.{ℕ, zero, suc, _+_, min}
 use lib.Dec.{ltb}
-use Rattle.model.specs.Layout.{Job, Layout, Pair, pairs, pairShares, plainSum}
+use Rattle.model.specs.Layout.{Job, Layout, Pair, pairs, pairConflicts, plainSum}
 use Rattle.model.specs.Descent.{Descent, descend}
 use Rattle.model.specs.declared.End.{End}
 use Rattle.model.specs.declared.End.the-variants.{Clear, Settled, Spent}
@@ -19,9 +19,9 @@ raisedOver test ps [] = []
 raisedOver test [] (w ∷ ws) = w ∷ ws
 raisedOver test (p ∷ ps) (w ∷ ws) = elim (test p) [ true ↦ min (suc w) weightBound | false ↦ w ] ∷ raisedOver test ps ws
 
--- the weights after a round that is not clear: each pair that shares a pixel at its end is raised
+-- the weights after a round that is not clear: each pair that conflicts at its end is raised
 unfoldable pub raised : Job → Layout → List ℕ → List ℕ
-raised j v ws = raisedOver (pairShares j v) (pairs (j .size .count)) ws
+raised j v ws = raisedOver (pairConflicts j v) (pairs (j .size .count)) ws
 
 -- a round: the layout and weights that it begins with, and its descent
 pub record Round : Type 0 where

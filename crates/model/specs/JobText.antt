@@ -10,11 +10,15 @@ use Rattle.model.specs.Refusal.{Outcome, given, Cause, cause, unless, wr
 use Rattle.model.specs.Refusal.{wrongLength}
 use Rattle.model.specs.Lent.{Lent, turnsBound, areaBound, upTo, numbersInRange}
 use Rattle.model.specs.declared.JobSize.{JobSize}
-use Rattle.model.specs.Text.{bytes, byte, lineEnd, Reading, wrong, got, onward, after, threeFields, fourFields, lineAt, field, causeIn, formed, andThen}
+use Rattle.model.specs.Text.{bytes, byte, lineEnd, Reading, wrong, got, onward, after, threeFields, fourFields, lineAt, orElse, field, causeIn, formed, andThen}
 
 -- the word that begins the job line; 1 is the version
 abbrev pub jobWord : List ℕ
 jobWord = bytes "job,1,"
+
+-- the word that begins a job line of version 2, which has a gap (document 02, point 4)
+abbrev pub gapWord : List ℕ
+gapWord = bytes "job,2,"
 
 -- the word that begins a piece line
 abbrev pub pieceWord : List ℕ
@@ -26,14 +30,19 @@ rowWord = bytes "row,"
 
 -- ── the job line ──
 
--- what the job line says: W rows, L columns, n pieces; and the position after it
+-- what the job line says: W rows, L columns, n pieces, the gap g; and the position after it
 pub record JobLine : Type 0 where
   pub size : JobSize
   pub next : ℕ
 
--- the numbers W, L, n that are read, and the position after them
+-- the numbers W, L, n, g that are read, and the position after them; where no fourth is read, g is 0
 abbrev pub asJobLine : List ℕ → ℕ → JobLine
-asJobLine ks next = record { size = record { rows = field ks 0; columns = field ks 1; count = field ks 2 }; next = next }
+asJobLine ks next =
+    record { size = record { rows = field ks 0; columns = field ks 1; count = field ks 2; gap = field ks 3 }; next = next }
+
+-- the numbers of the job line: `job,1,W,L,n` or `job,2,W,L,n,g`
+abbrev pub jobNumbers : List ℕ → Reading (List ℕ)
+jobNumbers text = orElse (lineAt jobWord threeFields text 0) (lineAt gapWord fourFields text 0)
 
 -- a number out of range, then W × L above 65,536
 abbrev pub jobLineCauses : JobLine → List Cause
@@ -41,10 +50,9 @@ jobLineCauses j =
     causeIn 1 outOfRange (not (numbersInRange (j .size)))
     ∷ causeIn 1 sheetTooLarge (ltb areaBound (j .size .rows * j .size .columns)) ∷ []
 
--- the job line, `job,1,W,L,n`
+-- the job line
 unfoldable pub jobLine : List ℕ → Outcome JobLine
-jobLine text =
-    formed 1 (lineAt jobWord threeFields text 0) (λ ks next. unless (jobLineCauses (asJobLine ks next)) (asJobLine ks next))
+jobLine text = formed 1 (jobNumbers text) (λ ks next. unless (jobLineCauses (asJobLine ks next)) (asJobLine ks next))
 
 -- ── a piece line ──
 

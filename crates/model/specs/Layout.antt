@@ -1,5 +1,5 @@
 -- Document 01, 'Sheet and panels' (inside), 'No-fit rows and penalty' (weights and sums) and the check of a layout; document 02,
--- points 1 (used length) and 3 (a piece placed anew, and what is shown of a layout). Assumes nothing.
+-- points 1 (used length), 3 (a piece placed anew, and what is shown of a layout) and 4 (the gap). Assumes nothing.
 use mathlib.Core.Bool.{Bool, true, false, _&&_, _||_}
 use mathlib.Core.List.{List, [], _∷_, _++_}
 use Prim.Native.Nat.{ℕ, zero, suc, _+_, _-_, _*_, min, max}
@@ -7,7 +7,7 @@ use mathlib.Core.Option.{Option, none, some}
 use lib.Dec.{leb, eqb}
 use lib.ListN.{length, getD, set, replicate}
 use Rattle.model.specs.Piece.{Point, Shape, Piece, turned, corner, allows}
-use Rattle.model.specs.Overlap.{share, penalty, depth}
+use Rattle.model.specs.Overlap.{conflict, conflictPenalty, conflictDepth}
 use Rattle.model.specs.declared.Turn.{Turn}
 use Rattle.model.specs.declared.Turn.the-variants.{Zero}
 use Rattle.model.specs.declared.Direction.{Direction}
@@ -16,7 +16,7 @@ use Rattle.model.specs.declared.Placement.{Placement}
 use Rattle.model.specs.declared.JobSize.{JobSize}
 use Rattle.model.specs.declared.Figures.{Figures}
 
--- a job: a sheet of so many rows (W) and columns (L), and so many pieces (n), numbered from 0
+-- a job: a sheet of so many rows (W) and columns (L), so many pieces (n), numbered from 0, and a gap between them (g)
 pub record Job : Type 0 where
   pub size : JobSize
   pub piece : ℕ → Piece
@@ -92,17 +92,17 @@ abbrev pub ofPair : {A : Type 0} → (Shape → Point → Shape → Point → A)
 ofPair measure j v p =
     measure (shapeIn j v (p .first)) (cornerIn v (p .first)) (shapeIn j v (p .second)) (cornerIn v (p .second))
 
--- the pair's pieces share a pixel in the layout
-unfoldable pub pairShares : Job → Layout → Pair → Bool
-pairShares j v p = ofPair share j v p
+-- the pair's pieces conflict in the layout, by the job's gap
+unfoldable pub pairConflicts : Job → Layout → Pair → Bool
+pairConflicts j v p = ofPair (conflict (j .size .gap)) j v p
 
 -- the pair's penalty in the layout
 unfoldable pub pairPenalty : Job → Layout → Pair → ℕ
-pairPenalty j v p = ofPair penalty j v p
+pairPenalty j v p = ofPair (conflictPenalty (j .size .gap)) j v p
 
 -- the pair's depth along the direction in the layout
 unfoldable pub pairDepth : Direction → Job → Layout → Pair → ℕ
-pairDepth d j v p = ofPair (depth d) j v p
+pairDepth d j v p = ofPair (conflictDepth (j .size .gap) d) j v p
 
 -- the pair names piece i
 abbrev pub names : ℕ → Pair → Bool
@@ -162,5 +162,5 @@ firstPair test [] = none
 firstPair test (p ∷ ps) = elim (test p) [ true ↦ some p | false ↦ firstPair test ps ]
 
 -- the pair that the check of a layout names: lowest first number, then lowest second
-unfoldable pub sharingPair : Job → Layout → Option Pair
-sharingPair j v = firstPair (pairShares j v) (pairs (j .size .count))
+unfoldable pub conflictingPair : Job → Layout → Option Pair
+conflictingPair j v = firstPair (pairConflicts j v) (pairs (j .size .count))

@@ -1,4 +1,4 @@
--- A job as it is lent to a call: document 01's W, L and n, a table of n entries (l, w, o) and a store of one byte a box pixel,
+-- A job as it is lent to a call: document 01's W, L and n, document 02's gap g, a table of n entries (l, w, o) and a store of one byte a box pixel,
 -- row by row, piece after piece. Buffers may be longer than the job needs. Assumes nothing.
 use mathlib.Core.Bool.{Bool, _&&_}
 use mathlib.Core.List.{List, []}
@@ -7,7 +7,7 @@ use lib.Dec.{leb, eqb}
 use lib.ListN.{length, getD}
 use Rattle.model.specs.Bounded.{allBelow, sumBelow}
 use Rattle.model.specs.Piece.{Shape, tight}
-pub use Rattle.model.specs.Piece.{sideBound}
+pub use Rattle.model.specs.Piece.{sideBound, gapBound}
 use Rattle.model.specs.Layout.{Job}
 use Rattle.model.specs.declared.JobSize.{JobSize}
 
@@ -94,9 +94,10 @@ jobOf j =
       piece = λ i. record { shape = lentShape j i; turns = entryTurns (j .table) i };
     }
 
--- W, L and n are in range
+-- W, L, n and g are in range
 abbrev pub numbersInRange : JobSize → Bool
-numbersInRange size = upTo rowBound (size .rows) && upTo columnBound (size .columns) && upTo pieceBound (size .count)
+numbersInRange size =
+    upTo rowBound (size .rows) && upTo columnBound (size .columns) && upTo pieceBound (size .count) && leb (size .gap) gapBound
 
 -- they are, and the sheet is not too large
 unfoldable pub sheetInRange : JobSize → Bool

@@ -23,6 +23,10 @@ pub record Point : Type 0 where
 abbrev pub sideBound : ℕ
 sideBound = 255
 
+-- the largest gap between pieces (document 02, point 4)
+abbrev pub gapBound : ℕ
+gapBound = 8
+
 -- a set of pixels in a box of so many columns and rows; what `has` says outside the box plays no part
 pub record Shape : Type 0 where
   pub columns : ℕ

@@ -80,9 +80,9 @@ outsideSheet = 10
 abbrev pub emptyLine : ℕ
 emptyLine = 11
 
--- two pieces share a pixel
-abbrev pub sharedPixel : ℕ
-sharedPixel = 12
+-- two pieces conflict; with a gap of 0, they share a pixel
+abbrev pub piecesConflict : ℕ
+piecesConflict = 12
 
 -- the piece is laid already
 abbrev pub laidAlready : ℕ

@@ -113,6 +113,11 @@ fourFields = comma ∷ comma ∷ comma ∷ lineEnd ∷ []
 abbrev pub lineAt : List ℕ → List ℕ → List ℕ → ℕ → Reading (List ℕ)
 lineAt word ends text p = after word text p (fieldsAt ends text)
 
+-- a reading, or another where it is wrong
+abbrev pub orElse : {A : Type 0} → Reading A → Reading A → Reading A
+orElse wrong other = other
+orElse (got a p) other = got a p
+
 -- the k-th of the numbers read, from 0
 abbrev pub field : List ℕ → ℕ → ℕ
 field ks k = getD ks k 0

@@ -1,5 +1,6 @@
--- Document 01, 'Job text', 'Start, layout text, sheet' and 'When a call says no': a job and a layout that are read and written,
--- and damaged texts that are refused, one test that the checker computes; and one of which row line is y = 0. Assumes nothing.
+-- Document 01, 'Job text', 'Start, layout text, sheet' and 'When a call says no', and document 02's job line of version 2: a job and a
+-- layout that are read and written, and damaged texts that are refused, one test that the checker computes; and one of which row line is
+-- y = 0. Assumes nothing.
 use mathlib.Core.Bool.{Bool, true, _&&_}
 use mathlib.Core.List.{List, [], _∷_, _++_}
 use mathlib.Core.Path.{_≡_, refl}
@@ -28,9 +29,9 @@ flat : {A : Type 0} → (A → List ℕ) → Outcome A → List ℕ
 flat f (refused r) = 0 ∷ r .number ∷ r .first ∷ r .second ∷ []
 flat f (given a) = 1 ∷ f a
 
--- a job written out: W, L, n, the table, the pixel bytes
+-- a job written out: W, L, n, g, the table, the pixel bytes
 flatLent : Lent → List ℕ
-flatLent k = k .size .rows ∷ k .size .columns ∷ k .size .count ∷ joined (k .table) ++ k .pixels
+flatLent k = k .size .rows ∷ k .size .columns ∷ k .size .count ∷ k .size .gap ∷ joined (k .table) ++ k .pixels
 
 -- a piece line written out: i, l, w, o, the position after it
 flatPiece : PieceLine → List ℕ
@@ -73,9 +74,18 @@ squares = "piece,0,2,2,1\nrow,##\nrow,##\npiece,1,2,2,1\nrow,##\nrow,##\n"
 example : Lent
 example =
     record {
-      size = record { rows = 2; columns = 4; count = 2 };
+      size = record { rows = 2; columns = 4; count = 2; gap = 0 };
       table = (2 ∷ 2 ∷ 1 ∷ []) ∷ (2 ∷ 2 ∷ 1 ∷ []) ∷ [];
       pixels = 1 ∷ 1 ∷ 1 ∷ 1 ∷ 1 ∷ 1 ∷ 1 ∷ 1 ∷ [];
+    }
+
+-- the same job with another gap
+withGap : ℕ → Lent → Lent
+withGap g k =
+    record {
+      size = record { rows = k .size .rows; columns = k .size .columns; count = k .size .count; gap = g };
+      table = k .table;
+      pixels = k .pixels;
     }
 
 -- what reading comes to, with buffers of the given lengths
@@ -94,17 +104,17 @@ reads =
     sameNumbers (readWith 2 8 ("job,1,2,4,2\n" ++ᵗ squares)) (1 ∷ flatLent example)
     && sameNumbers (readWith 64 65536 ("job,1,2,4,2\n" ++ᵗ squares)) (1 ∷ flatLent example)
     && sameNumbers (readWith 1 6 "job,1,12,34,1\npiece,0,3,2,15\nrow,##.\nrow,#.#\n")
-    (1 ∷ 12 ∷ 34 ∷ 1 ∷ 3 ∷ 2 ∷ 15 ∷ 1 ∷ 1 ∷ 0 ∷ 1 ∷ 0 ∷ 1 ∷ [])
+    (1 ∷ 12 ∷ 34 ∷ 1 ∷ 0 ∷ 3 ∷ 2 ∷ 15 ∷ 1 ∷ 1 ∷ 0 ∷ 1 ∷ 0 ∷ 1 ∷ [])
     && sameNumbers (readWith 2 7 "job,1,2,3,2\npiece,0,3,2,15\nrow,##.\nrow,#.#\npiece,1,1,1,3\nrow,#\n")
-    (1 ∷ 2 ∷ 3 ∷ 2 ∷ 3 ∷ 2 ∷ 15 ∷ 1 ∷ 1 ∷ 3 ∷ 1 ∷ 1 ∷ 0 ∷ 1 ∷ 0 ∷ 1 ∷ 1 ∷ [])
+    (1 ∷ 2 ∷ 3 ∷ 2 ∷ 0 ∷ 3 ∷ 2 ∷ 15 ∷ 1 ∷ 1 ∷ 3 ∷ 1 ∷ 1 ∷ 0 ∷ 1 ∷ 0 ∷ 1 ∷ 1 ∷ [])
     && sameNumbers (readWith 1 8 ("job,1,2,4,2\n" ++ᵗ squares)) (0 ∷ 7 ∷ 0 ∷ 0 ∷ [])
     && sameNumbers (readWith 2 7 ("job,1,2,4,2\n" ++ᵗ squares)) (0 ∷ 7 ∷ 0 ∷ 0 ∷ [])
 
--- wrong form of the job line: no text, no line end, another word, version 2, a leading zero, six digits, a sign, no number, the
+-- wrong form of the job line: no text, no line end, another word, no version, a leading zero, six digits, a sign, no number, the
 -- bytes before 0 and after 9, a field too few or too many, a byte before the line end, a byte 0
 jobLineForm : Bool
 jobLineForm =
-    refuses "" 1 1 && refuses "job,1,2,4,2" 1 1 && refuses "Job,1,2,4,2\n" 1 1 && refuses "job,2,2,4,2\n" 1 1
+    refuses "" 1 1 && refuses "job,1,2,4,2" 1 1 && refuses "Job,1,2,4,2\n" 1 1 && refuses "job,,2,4,2\n" 1 1
     && refuses "job,1,02,4,2\n" 1 1
     && refuses "job,1,00,4,2\n" 1 1
     && refuses "job,1,2,123456,2\n" 1 1
@@ -129,6 +139,36 @@ jobLineRange =
     && refuses "job,1,512,128,64\n" 1 2
     && refuses "job,1,16,4096,64\n" 1 2
 
+-- version 2: the example with the gaps 1, 0 and 8; a gap above 8, also where the sheet is too large; W out of range; and the largest
+-- numbers, which pass: line 2 is what is missing
+gapLines : Bool
+gapLines =
+    sameNumbers (readWith 2 8 ("job,2,2,4,2,1\n" ++ᵗ squares)) (1 ∷ flatLent (withGap 1 example))
+    && sameNumbers (readWith 2 8 ("job,2,2,4,2,0\n" ++ᵗ squares)) (1 ∷ flatLent example)
+    && sameNumbers (readWith 64 65536 ("job,2,2,4,2,8\n" ++ᵗ squares)) (1 ∷ flatLent (withGap 8 example))
+    && refuses "job,2,2,4,2,9\n" 2 1
+    && refuses "job,2,2,4,2,99999\n" 2 1
+    && refuses "job,2,512,4096,64,9\n" 2 1
+    && refuses "job,2,512,4096,64,8\n" 3 1
+    && refuses "job,2,0,4,2,8\n" 2 1
+    && refuses "job,2,16,4096,64,8\n" 1 2
+
+-- wrong form of a line with a gap: the number of fields of the other version, versions 0, 3 and 02, a leading zero, six digits, no
+-- number, no line end, a field too many, and form before range
+gapLineForm : Bool
+gapLineForm =
+    refuses ("job,2,2,4,2\n" ++ᵗ squares) 1 1 && refuses ("job,1,2,4,2,0\n" ++ᵗ squares) 1 1 && refuses "job,0,2,4,2,1\n" 1 1
+    && refuses "job,3,2,4,2,1\n" 1 1
+    && refuses "job,3,2,4,2\n" 1 1
+    && refuses "job,02,2,4,2,1\n" 1 1
+    && refuses "job,2,2,4,2,01\n" 1 1
+    && refuses "job,2,2,4,2,000001\n" 1 1
+    && refuses "job,2,2,4,2,\n" 1 1
+    && refuses "job,2,2,4,2,1" 1 1
+    && refuses "job,2,2,4,2,1,1\n" 1 1
+    && refuses "job,2,0,4,65,x\n" 1 1
+    && refuses "job,2,2,4,2,9" 1 1
+
 -- piece lines: form, number, sides, sum of turns, larger than the sheet, their order, and the longest sides, which pass
 pieceLines : Bool
 pieceLines =
@@ -148,13 +188,14 @@ pieceLines =
 -- the line of piece 1 after boxes of the given area, on line 9
 secondPiece : ℕ → List ℕ
 secondPiece area =
-    flat flatPiece (pieceLine (bytes "piece,1,2,2,1\n") (record { size = record { rows = 2; columns = 4; count = 2 }; next = 0 }) 1 area 0 9)
+    flat flatPiece (pieceLine (bytes "piece,1,2,2,1\n") (record { size = record { rows = 2; columns = 4; count = 2; gap = 0 }; next = 0 }) 1 area 0 9)
 
 -- pieces 1 and 2 after boxes of the given area, from line 9 on; the row lines of piece 2 are missing
 laterPieces : ℕ → List ℕ
 laterPieces area =
     flat flatPieces
-    (piecesAt (bytes "piece,1,1,1,1\nrow,#\npiece,2,2,2,1\n") (record { size = record { rows = 2; columns = 4; count = 3 }; next = 0 }) 2 1 area 0 9)
+    (piecesAt (bytes "piece,1,1,1,1\nrow,#\npiece,2,2,2,1\n") (record { size = record { rows = 2; columns = 4; count = 3; gap = 0 }; next = 0 })
+    2 1 area 0 9)
 
 -- box areas so far: up to 65,536, and above, by this box or by those before it
 boxAreas : Bool
@@ -202,6 +243,12 @@ layoutWritten =
     && sameNumbers (layoutWith 1 startText) (0 ∷ 7 ∷ 0 ∷ 0 ∷ [])
     && sameNumbers (layoutWith 3 startText) (0 ∷ 7 ∷ 0 ∷ 0 ∷ [])
 
+-- a job with a gap has the same layout text, and its pieces may lie at the sheet's edge
+gapLayout : Bool
+gapLayout =
+    sameNumbers (layoutText (jobOf (withGap 8 example)) (start (jobOf (withGap 8 example)))) (bytes startText)
+    && sameNumbers (flat flatLayout (readLayout (jobOf (withGap 8 example)) (bytes startText) 2)) (1 ∷ 0 ∷ 0 ∷ 0 ∷ 0 ∷ 2 ∷ 0 ∷ [])
+
 -- damaged layout texts: form, numbers unlike the job's, degrees of no turn, a turn not allowed, a placement outside, a missing and
 -- an extra line, and the order of causes
 layoutDamaged : Bool
@@ -226,7 +273,7 @@ layoutDamaged =
 bars : Lent
 bars =
     record {
-      size = record { rows = 12; columns = 345; count = 4 };
+      size = record { rows = 12; columns = 345; count = 4; gap = 0 };
       table = (2 ∷ 1 ∷ 15 ∷ []) ∷ (2 ∷ 1 ∷ 15 ∷ []) ∷ (2 ∷ 1 ∷ 15 ∷ []) ∷ (2 ∷ 1 ∷ 15 ∷ []) ∷ [];
       pixels = 1 ∷ 1 ∷ 1 ∷ 1 ∷ 1 ∷ 1 ∷ 1 ∷ 1 ∷ [];
     }
@@ -247,12 +294,15 @@ turnsRead =
 -- all of them
 pub textExamples : Bool
 textExamples =
-    reads && jobLineForm && jobLineRange && pieceLines && boxAreas && rowLines && layoutWritten && layoutDamaged && turnsRead
+    reads && jobLineForm && jobLineRange && gapLines && gapLineForm && pieceLines && boxAreas && rowLines && layoutWritten && gapLayout
+    && layoutDamaged
+    && turnsRead
 
--- the texts are read, written and refused as document 01 says
+-- the texts are read, written and refused as the documents say
 pub text-examples-hold : textExamples ≡ true
-unfolding textExamples reads jobLineForm jobLineRange pieceLines boxAreas rowLines layoutWritten layoutDamaged turnsRead joined flat flatLent flatPiece
-    flatPieces flatLayout example bars turnedText readWith refuses secondPiece laterPieces layoutWith layoutRefuses startText sameNumbers tight allows inside
-    unless jobOf pixelStart standsAt digitsFrom numberAt fieldAt fieldsAt decimal fieldsText jobLine pieceLine markAt marksAt rowAt rowsAt pieceAt piecesAt
-    readJob turnOfDegrees isTurn turnOf placementsText layoutText layoutLine placementLine placementsAt readLayout start stackAll fallingOrder insert
+unfolding textExamples reads jobLineForm jobLineRange gapLines gapLineForm pieceLines boxAreas rowLines layoutWritten gapLayout layoutDamaged
+    turnsRead joined flat flatLent flatPiece flatPieces flatLayout example withGap bars turnedText readWith refuses secondPiece laterPieces layoutWith
+    layoutRefuses startText sameNumbers tight allows inside unless jobOf pixelStart standsAt digitsFrom numberAt fieldAt fieldsAt decimal fieldsText
+    jobLine pieceLine markAt marksAt rowAt rowsAt pieceAt piecesAt readJob turnOfDegrees isTurn turnOf placementsText layoutText layoutLine
+    placementLine placementsAt readLayout start stackAll fallingOrder insert
 text-examples-hold = refl

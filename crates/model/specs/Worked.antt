@@ -1,6 +1,6 @@
 -- Worked examples beside P1 to P12, one test that the checker computes: what the program prints for document 01's two examples, for
 -- a refused job and at the limit of its input, a start layout with pieces of equal length and a full stack, the used length of a layout
--- that leaves cloth on its left, previews of a move, and a piece of separate parts. Assumes nothing.
+-- that leaves cloth on its left, previews of a move, the check of a layout with a gap, and a piece of separate parts. Assumes nothing.
 use mathlib.Core.Bool.{Bool, true, _&&_, _||_}
 use mathlib.Core.List.{List, [], _∷_, map}
 use mathlib.Core.Path.{_≡_, refl}
@@ -10,9 +10,9 @@ use lib.Dec.{eqb}
 use lib.ListN.{getD, replicate}
 use Rattle.model.specs.Piece.{Shape, allows, tight}
 use Rattle.model.specs.Strip.{runsFrom, stripsFrom, strips}
-use Rattle.model.specs.Overlap.{share, apartAt, depth, penalty}
-use Rattle.model.specs.Layout.{Job, Layout, pairsWith, pairsFrom, pairShares, pairPenalty, sumOver, weightedSum, plainSum, pieceSum, unitWeights}
-use Rattle.model.specs.Layout.{rightmost, leftmost, usedLength, figures, inside, placeOf}
+use Rattle.model.specs.Overlap.{nearTo, conflict, freeAt, conflictDepth, conflictPenalty}
+use Rattle.model.specs.Layout.{Job, Layout, pairsWith, pairsFrom, pairConflicts, pairPenalty, sumOver, weightedSum, plainSum, pieceSum, unitWeights}
+use Rattle.model.specs.Layout.{rightmost, leftmost, usedLength, figures, firstPair, conflictingPair, inside, placeOf}
 use Rattle.model.specs.Search.{places, sumAt, least, searchLine}
 use Rattle.model.specs.Descent.{turnTrials, pieceTrials, trialsFrom, trials, attempt, descendFrom, descend}
 use Rattle.model.specs.Guided.{raisedOver, raised, rounds, bestAfter, lastWeights, madeIn, movesIn, outcome, guide}
@@ -25,7 +25,7 @@ use Rattle.model.specs.JobText.{jobLine, pieceLine, markAt, marksAt, row
 use Rattle.model.specs.LayoutText.{placementsText, layoutText}
 use Rattle.model.specs.Program.{wordLine, endWord, runText, programRun, programText}
 use Rattle.model.specs.Cover.{coversPixel, mapFrom, fresh, lay, layCauses, laying, called, afterCalls}
-use Rattle.model.specs.Calls.{allowedDegrees, someTurnWrong, someOutside, someWeightWrong, previewCall}
+use Rattle.model.specs.Calls.{allowedDegrees, someTurnWrong, someOutside, someWeightWrong, layoutCauses, previewCall, checkCall}
 use Rattle.model.specs.TextExamples.{squares}
 use Rattle.model.specs.declared.Figures.{Figures}
 use Rattle.model.specs.declared.Direction.the-variants.{Horizontal, Vertical}
@@ -36,11 +36,13 @@ full columns rows = record { columns = columns; rows = rows; has = λ x y. true 
 
 -- ── the program ──
 
--- document 01's two full 2 × 2 pieces on a sheet of 2 rows and 4 columns, then 3; and a piece longer than the sheet
+-- document 01's two full 2 × 2 pieces on a sheet of 2 rows and 4 columns, then 3; on 4 columns with a gap of 1; and a piece longer than
+-- the sheet
 printedText : Bool
 printedText =
     sameNumbers (programText (bytes ("job,1,2,4,2\n" ++ᵗ squares))) (bytes "layout,1,2,4,2\nat,0,0,0,0\nat,1,0,2,0\nend,clear,0,0,0,4\n")
     && sameNumbers (programText (bytes ("job,1,2,3,2\n" ++ᵗ squares))) (bytes "layout,1,2,3,2\nat,0,0,0,0\nat,1,0,1,0\nend,open,1,80,0,3\n")
+    && sameNumbers (programText (bytes ("job,2,2,4,2,1\n" ++ᵗ squares))) (bytes "layout,1,2,4,2\nat,0,0,0,0\nat,1,0,2,0\nend,open,1,80,0,4\n")
     && sameNumbers (programText (bytes "job,1,2,4,2\npiece,0,5,2,1\n")) (bytes "refused,6,2\n")
 
 -- an input of 65,536 bytes is read, and refused at its first line; one byte more is too much
@@ -53,14 +55,16 @@ inputLength =
 largestSum : Bool
 largestSum = sameNumbers (wordLine (endWord 514080) (514080 ∷ 20000 ∷ 0 ∷ 4096 ∷ [])) (bytes "end,open,514080,20000,0,4096\n")
 
--- two full 2 × 2 pieces, o = 1, on a sheet of 2 rows and so many columns
-twoSquares : ℕ → Job
-twoSquares columns = record { size = record { rows = 2; columns = columns; count = 2 }; piece = λ i. record { shape = full 2 2; turns = 1 } }
+-- two full 2 × 2 pieces, o = 1, on a sheet of 2 rows and so many columns, with a gap
+twoSquares : ℕ → ℕ → Job
+twoSquares columns gap = record { size = record { rows = 2; columns = columns; count = 2; gap = gap }; piece = λ i. record { shape = full 2 2; turns = 1 } }
 
--- the weight at the end of the program's run: 1 with L = 4, where the start is clear; raised by each of the 20 rounds with L = 3
+-- the weight at the end of the program's run: 1 with L = 4, where the start is clear; raised by each of the 20 rounds with L = 3, and with
+-- L = 4 and a gap of 1, where they lie side by side and share no pixel
 weightsLeft : Bool
 weightsLeft =
-    sameNumbers (programRun (twoSquares 4) .weights) (1 ∷ []) && sameNumbers (programRun (twoSquares 3) .weights) (21 ∷ [])
+    sameNumbers (programRun (twoSquares 4 0) .weights) (1 ∷ []) && sameNumbers (programRun (twoSquares 3 0) .weights) (21 ∷ [])
+    && sameNumbers (programRun (twoSquares 4 1) .weights) (21 ∷ [])
 
 -- ── a start layout ──
 
@@ -68,7 +72,7 @@ weightsLeft =
 fourBoxes : Job
 fourBoxes =
     record {
-      size = record { rows = 4; columns = 6; count = 4 };
+      size = record { rows = 4; columns = 6; count = 4; gap = 0 };
       piece = λ i. record { shape = getD (full 2 2 ∷ full 3 2 ∷ full 2 2 ∷ full 1 4 ∷ []) i (full 1 1); turns = 1 };
     }
 
@@ -88,7 +92,7 @@ started = sameNumbers (corners (start fourBoxes)) (0 ∷ 2 ∷ 0 ∷ 0 ∷ 3 ∷
 threeBars : Job
 threeBars =
     record {
-      size = record { rows = 4; columns = 9; count = 3 };
+      size = record { rows = 4; columns = 9; count = 3; gap = 0 };
       piece = λ i. record { shape = getD (full 2 2 ∷ full 4 1 ∷ full 1 3 ∷ []) i (full 1 1); turns = 15 };
     }
 
@@ -106,9 +110,13 @@ lengthsUsed = sameNumbers (usedLength threeBars freeOnTheLeft ∷ usedLength thr
 
 -- ── the preview of a move ──
 
--- three full 2 × 2 pieces, o = 1, lent for a sheet of 2 rows and 9 columns
-threeSquares : Lent
-threeSquares = lentBy (record { rows = 2; columns = 9; count = 3 }) (replicate 3 (2 ∷ 2 ∷ 1 ∷ [])) (replicate 12 1)
+-- three full 2 × 2 pieces, o = 1, lent for a sheet of 2 rows and 9 columns with a gap
+threeSquares : ℕ → Lent
+threeSquares gap = lentBy (record { rows = 2; columns = 9; count = 3; gap = gap }) (replicate 3 (2 ∷ 2 ∷ 1 ∷ [])) (replicate 12 1)
+
+-- their layout in turn 0 with corners at three columns
+inARow : ℕ → ℕ → ℕ → List (List ℕ)
+inARow a b c = (0 ∷ a ∷ 0 ∷ []) ∷ (0 ∷ b ∷ 0 ∷ []) ∷ (0 ∷ c ∷ 0 ∷ []) ∷ []
 
 -- what a preview tells: 0, the sum and the used length, or a refusal's number
 told : Outcome Figures → List ℕ
@@ -117,8 +125,7 @@ told (given f) = 0 ∷ f .sum ∷ f .length ∷ []
 
 -- the first two lie at columns 1 and 2, where they share one, the third at column a; by weights 3, 5 and 7, it is shown in the degrees at column x
 shown : ℕ → ℕ → ℕ → List ℕ
-shown a d x =
-    told (previewCall threeSquares ((0 ∷ 1 ∷ 0 ∷ []) ∷ (0 ∷ 2 ∷ 0 ∷ []) ∷ (0 ∷ a ∷ 0 ∷ []) ∷ []) (3 ∷ 5 ∷ 7 ∷ []) 2 (placement d x 0))
+shown a d x = told (previewCall (threeSquares 0) (inARow 1 2 a) (3 ∷ 5 ∷ 7 ∷ []) 2 (placement d x 0))
 
 -- from column 5: at 2 it lies on the second and shares a column with the first, at 3 one with the second, at 5 it stays, at 7 it is further off
 figuresShown : Bool
@@ -130,6 +137,22 @@ figuresShown =
 showsRefused : Bool
 showsRefused = sameEntries (shown 8 0 3 ∷ shown 5 0 8 ∷ shown 5 90 3 ∷ []) ((10 ∷ []) ∷ (10 ∷ []) ∷ (9 ∷ []) ∷ [])
 
+-- ── the check of a layout ──
+
+-- what a check tells: 0, or a refusal's number and its places
+verdict : Outcome (Unit {0}) → List ℕ
+verdict (refused r) = r .number ∷ r .first ∷ r .second ∷ []
+verdict (given u) = 0 ∷ []
+
+-- squares 1 and 2 side by side are refused by a gap of 1, as that pair, and pass without a gap; with a free column between any two they
+-- pass by a gap of 1, though they touch the sheet's edges, which no gap is asked to
+checked : Bool
+checked =
+    sameEntries
+    (verdict (checkCall (threeSquares 1) (inARow 0 3 5)) ∷ verdict (checkCall (threeSquares 0) (inARow 0 3 5))
+    ∷ verdict (checkCall (threeSquares 1) (inARow 0 3 7)) ∷ [])
+    ((12 ∷ 1 ∷ 2 ∷ []) ∷ (0 ∷ []) ∷ (0 ∷ []) ∷ [])
+
 -- ── a piece of separate parts ──
 
 -- two pixels, (0, 0) and (2, 1), in a box of 3 columns and 2 rows; they do not touch, and column 1 has none
@@ -138,13 +161,13 @@ parts = record { columns = 3; rows = 2; has = λ x y. (eqb x 0 && eqb y 0) || (e
 
 -- its penalty with a single pixel at (x, y) of its box
 beside : ℕ → ℕ → ℕ
-beside x y = penalty parts (record { x = 0; y = 0 }) (full 1 1) (record { x = x; y = y })
+beside x y = conflictPenalty 0 parts (record { x = 0; y = 0 }) (full 1 1) (record { x = x; y = y })
 
--- the piece of two parts and a single pixel on a sheet of 2 rows and 4 columns
+-- the piece of two parts and a single pixel on a sheet of 2 rows and 4 columns; the gap plays no part in counts
 partsAndPixel : Job
 partsAndPixel =
     record {
-      size = record { rows = 2; columns = 4; count = 2 };
+      size = record { rows = 2; columns = 4; count = 2; gap = 1 };
       piece = λ i. record { shape = getD (parts ∷ full 1 1 ∷ []) i (full 1 1); turns = 1 };
     }
 
@@ -162,16 +185,17 @@ separateParts =
 
 -- all of them
 pub worked : Bool
-worked = printedText && inputLength && largestSum && weightsLeft && started && lengthsUsed && figuresShown && showsRefused && separateParts
+worked = printedText && inputLength && largestSum && weightsLeft && started && lengthsUsed && figuresShown && showsRefused && checked && separateParts
 
 -- the worked examples hold of the definitions
 pub worked-hold : worked ≡ true
 unfolding worked printedText inputLength largestSum weightsLeft started lengthsUsed threeBars freeOnTheLeft atTheEdge figuresShown showsRefused shown
-    told threeSquares separateParts parts beside partsAndPixel sameEntries turnOfDegrees turnOf runsFrom stripsFrom coversPixel mapFrom fresh lay
-    layCauses called afterCalls corners twoSquares fourBoxes full wordLine runText programRun programText sameNumbers share apartAt depth penalty
-    pairsWith pairsFrom pairShares pairPenalty sumOver weightedSum plainSum pieceSum unitWeights rightmost leftmost usedLength figures previewCall
-    lentWell entryInRange entryFits sheetInRange allowedDegrees someTurnWrong someOutside someWeightWrong places sumAt least searchLine turnTrials
-    pieceTrials trialsFrom trials attempt descendFrom descend raisedOver raised rounds bestAfter lastWeights madeIn movesIn outcome guide insert
-    fallingOrder stackAll start allows tight inside unless jobOf pixelStart standsAt digitsFrom numberAt fieldAt fieldsAt decimal fieldsText jobLine
-    pieceLine markAt marksAt rowAt rowsAt pieceAt piecesAt readJob placementsText layoutText
+    told threeSquares inARow verdict checked separateParts parts beside partsAndPixel sameEntries turnOfDegrees turnOf runsFrom stripsFrom coversPixel
+    mapFrom fresh lay layCauses called afterCalls corners twoSquares fourBoxes full wordLine runText programRun programText sameNumbers nearTo
+    conflict freeAt conflictDepth conflictPenalty pairsWith pairsFrom pairConflicts pairPenalty sumOver weightedSum plainSum pieceSum unitWeights
+    rightmost leftmost usedLength figures firstPair conflictingPair layoutCauses checkCall previewCall lentWell entryInRange entryFits sheetInRange
+    allowedDegrees someTurnWrong someOutside someWeightWrong places sumAt least searchLine turnTrials pieceTrials trialsFrom trials attempt
+    descendFrom descend raisedOver raised rounds bestAfter lastWeights madeIn movesIn outcome guide insert fallingOrder stackAll start allows tight
+    inside unless jobOf pixelStart standsAt digitsFrom numberAt fieldAt fieldsAt decimal fieldsText jobLine pieceLine markAt marksAt rowAt rowsAt
+    pieceAt piecesAt readJob placementsText layoutText
 worked-hold = refl

@@ -24,7 +24,7 @@ pub const SIDE_BOUND: usize = 255;
 pub const TURNS_BOUND: usize = 15;
 
 // The farthest that an offset of a no-fit line goes either way.
-pub const OFFSET_BOUND: u32 = 254;
+pub const OFFSET_BOUND: u32 = 262;
 
 // The largest weight of a pair.
 pub const WEIGHT_BOUND: u32 = 65535;
@@ -86,11 +86,13 @@ pub struct Placement {
     pub y: Row,
 }
 
-// A job's numbers: the sheet's rows (W) and columns (L), and how many pieces there are (n). Its table and its pixels are lent beside it.
+// A job's numbers: the sheet's rows (W) and columns (L), how many pieces there are (n), and the gap between them (g). Its table and its
+// pixels are lent beside it.
 pub struct JobSize {
     pub rows: usize,
     pub columns: usize,
     pub count: usize,
+    pub gap: usize,
 }
 
 // An entry of a piece table: l columns, w rows and o, the sum of the allowed turns.

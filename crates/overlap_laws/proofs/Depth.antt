@@ -3,7 +3,7 @@
 -- parts the two, so all before it share a pixel; and it does not run out, since a shift by half the sum of the two extents, or
 -- more, parts them for one of the signs: pixels shared at both signs would lie farther apart than the boxes reach.
 -- Assumes nothing.
-use Rattle.list_laws.proofs.Kit.{_∙_, _≡_, ap, refl, sym, false, not, true, _⊎_, inl, inr, ⊎-elim, _+_, _<_, _≤_, suc, zero, ℕ, eq-or-lt-of-le, le-antisymm}
+use Rattle.list_laws.proofs.Kit.{_∙_, _≡_, ap, refl, sym, Bool, false, not, true, _⊎_, inl, inr, ⊎-elim, _+_, _<_, _≤_, suc, zero, ℕ, eq-or-lt-of-le, le-antisymm}
 use Rattle.list_laws.proofs.Kit.{arith, by-contra, natAbs, negsuc, pos, ℤ, not-false, not-true}
 use Rattle.model.specs.Piece.{Point, Shape, shift, extent}
 use Rattle.model.specs.Overlap.{share, apartAt, reach, depth}
@@ -178,11 +178,11 @@ depth-pixels d s u t v s′ t′ e f =
 -- ── over whole shifts ──
 
 -- t shifted up by m
-shift-up : (d : Direction) (s : Shape) (u : Point) (t : Shape) (v : Point) (m : ℕ) → share s u t (shift d m v) ≡ false → PartingShift d s u t v m
+shift-up : (d : Direction) (s : Shape) (u : Point) (t : Shape) (v : Point) (m : ℕ) → share s u t (shift d m v) ≡ false → PartingShift (sharesShifted d s u t v) m
 shift-up d s u t v m e = record { amount = pos m; size = refl; apart = rw (shift-zero d u) e }
 
 -- t shifted down by m: s shifted up by m
-shift-down : (d : Direction) (s : Shape) (u : Point) (t : Shape) (v : Point) (m : ℕ) → share s (shift d m u) t v ≡ false → PartingShift d s u t v m
+shift-down : (d : Direction) (s : Shape) (u : Point) (t : Shape) (v : Point) (m : ℕ) → share s (shift d m u) t v ≡ false → PartingShift (sharesShifted d s u t v) m
 shift-down d s u t v zero e = record { amount = pos 0; size = refl; apart = rw (shift-zero d v) e }
 shift-down d s u t v (suc n) e = record { amount = negsuc n; size = refl; apart = rw (shift-zero d v) e }
 
@@ -193,7 +193,7 @@ apart-shifted d s u t v (pos n) e = apart-second d s u t v n (rw (shift-zero d u
 apart-shifted d s u t v (negsuc n) e = apart-first d s u t v (suc n) (rw (shift-zero d v) at e)
 
 -- the depth is the least |z|, z whole, such that t shifted by z shares no pixel with s
-pub depth-exactly : (d : Direction) (s : Shape) (u : Point) (t : Shape) (v : Point) → LeastShift d s u t v (depth d s u t v)
+pub depth-exactly : (d : Direction) (s : Shape) (u : Point) (t : Shape) (v : Point) → LeastShift (sharesShifted d s u t v) (depth d s u t v)
 depth-exactly d s u t v =
     record {
       parting = ⊎-elim (shift-up d s u t v _) (shift-down d s u t v _) (depth-parts d s u t v);
@@ -201,9 +201,8 @@ depth-exactly d s u t v =
     }
 
 -- there is one such number
-pub least-shift-unique : (d : Direction) (s : Shape) (u : Point) (t : Shape) (v : Point) (m : ℕ) → LeastShift d s u t v m → m ≡ depth d s u t v
-least-shift-unique d s u t v m l =
-    let r : LeastShift d s u t v (depth d s u t v) = depth-exactly d s u t v in
+pub least-shift-unique : (meet : ℤ → Bool) (m n : ℕ) → LeastShift meet m → LeastShift meet n → m ≡ n
+least-shift-unique meet m n l r =
     le-antisymm
     (rw (r .parting .size) at (l .least (r .parting .amount) (r .parting .apart)))
     (rw (l .parting .size) at (r .least (l .parting .amount) (l .parting .apart)))

@@ -2,8 +2,11 @@
 -- Demand2Overlap has the claim.
 pub mod Share
 pub mod Depth
+pub mod Grown
 pub mod Whole
 pub mod NoFit
 pub mod PixelDepth
 pub mod Penalty
+pub mod Largest
 pub mod Demand2Overlap
+pub mod GrownTurns

@@ -1,87 +1,87 @@
--- Document 01, 'No-fit rows and penalty': the no-fit row of s and t at a row offset lists the column offsets at which they share a
--- pixel, as maximal runs, ascending; no-fit columns likewise. Offsets are d = p - q for pixels p of s and q of t, so with sides
--- of at most 255 they lie between -254 and 254, and `noFit`, which tries these, leaves none out. That the runs list just the
--- offsets that pass, are maximal and ascend is the law of `runs`, carried from numbers biased by 254 to whole numbers.
+-- Document 01, 'No-fit rows and penalty', and document 02, point 4: the no-fit row of s and t at a row offset lists the column offsets at which
+-- they conflict, as maximal runs, ascending; no-fit columns likewise. Offsets are at most g from p - q for pixels p of s and q of t, so with sides
+-- of at most 255 and a gap of at most 8 they lie between -262 and 262, and `noFit`, which tries these, leaves none out. That the runs list just
+-- the offsets that pass, are maximal and ascend is the law of `runs`, carried from numbers biased by 262 to whole numbers.
 -- Assumes nothing.
-use Rattle.list_laws.proofs.Kit.{_∙_, _≡_, ap, subst, sym, true, Iff·symm, Iff·trans, _↔_, List, map, _+_, _-_, _<_, _≤_, suc, ℕ, arith, _+ℤ_, pos, predℤ}
-use Rattle.list_laws.proofs.Kit.{subℕ, ℤ, _<ℤ_, _≤ℤ_}
-use Rattle.model.specs.Piece.{Point, Shape, pixel, along, across, point, extent}
+use Rattle.list_laws.proofs.Kit.{_∙_, _≡_, ap, subst, sym, true, ⊎-elim, Iff·symm, Iff·trans, _↔_, List, map, _+_, _-_, _<_, _≤_, suc, ℕ, arith, _+ℤ_, pos, negsuc, predℤ, natAbs}
+use Rattle.list_laws.proofs.Kit.{subℕ, ℤ, _<ℤ_, _≤ℤ_, leb, leb-true, leb-false}
+use Rattle.model.specs.Piece.{Point, Shape, along, across, point, extent}
 use Rattle.model.specs.Strip.{Run, runs}
-use Rattle.model.specs.Overlap.{share, noFit, noFitAt, offsetBound, up, down, OffsetRun, unbiased}
+use Rattle.model.specs.Overlap.{conflict, noFit, noFitAt, offsetBound, up, down, OffsetRun, unbiased}
 use Rattle.model.specs.declared.Direction.{Direction}
 use Rattle.list_laws.proofs.Lists.{Source, map-source, map-member}
-use Rattle.list_laws.proofs.Tests.{clash}
+use Rattle.list_laws.proofs.Tests.{clash, decided}
 use Rattle.strip_laws.proofs.Lists.{pairwise-map}
 use Rattle.strip_laws.proofs.Runs.{MaximalRun, InRuns, RunBefore, runs-exactly, runs-maximal, runs-ascending}
-use Rattle.overlap_laws.specs.NoFit.{PixelOffset, InOffsetRuns, MaximalOffsetRun, OffsetRunBefore, NoFitLine}
-use Rattle.overlap_laws.specs.Overlap.{SharedPixel}
-use Rattle.overlap_laws.proofs.Share.{share-witness, share-from, shared-along, shared-across, shared-over, pixel-along, along-point, across-point}
-use Rattle.overlap_laws.proofs.Whole.{whole-eq, sub-whole, up-down, sub-eq, eq-sub, pred-whole, add-whole, le-whole, whole-le, lt-whole, whole-lt}
+use Rattle.overlap_laws.specs.NoFit.{InOffsetRuns, MaximalOffsetRun, OffsetRunBefore, NoFitLine}
+use Rattle.overlap_laws.specs.PixelDepth.{PixelOffset}
+use Rattle.overlap_laws.specs.Overlap.{NearPixels}
+use Rattle.overlap_laws.proofs.Share.{pixel-along, along-point, across-point}
+use Rattle.overlap_laws.proofs.Grown.{conflict-witness, conflict-from, near-along, near-across, near-over}
+use Rattle.overlap_laws.proofs.Whole.{whole-eq, sub-whole, up-down, sub-eq, pred-whole, add-whole, add-signed, sub-up, sub-down, le-whole, whole-le, lt-whole, whole-lt}
 
 -- ── offsets ──
 
--- they share a pixel exactly when the corners' difference is an offset of two pixels, d = p - q
-pub share-offset : (d : Direction) (s : Shape) (u : Point) (t : Shape) (v : Point)
-    → (share s u t v ≡ true) ↔ PixelOffset d s t (subℕ (along d v) (along d u)) (subℕ (across d v) (across d u))
-share-offset d s u t v = (
+-- how far a difference goes up and down together is its size
+size-parts : (z : ℤ) → natAbs z ≡ up z + down z
+size-parts (pos n) = omega arith
+size-parts (negsuc n) = omega arith
+
+-- the difference of numbers at most g apart is at most g, and of numbers whose difference is at most g neither is more than g above the other
+size-within : (g m n : ℕ) → m ≤ n + g → n ≤ m + g → natAbs (subℕ m n) ≤ g
+size-within g m n h k =
+    ⊎-elim
+    (λ e. omega (arith, size-parts (subℕ m n), sub-whole m n, sub-down m n (leb-true m n e)))
+    (λ e. let l = leb-false m n e in omega (arith, size-parts (subℕ m n), sub-whole m n, sub-up m n (omega arith)))
+    (decided (leb m n))
+
+-- a - b and p - q differ by the difference of a + q and b + p
+offset-by : (a b p q : ℕ) → subℕ a b ≡ subℕ p q +ℤ subℕ (a + q) (b + p)
+offset-by a b p q =
+    whole-eq _ _
+    (omega (arith, sub-whole a b, sub-whole p q, sub-whole (a + q) (b + p), add-signed (subℕ p q) (subℕ (a + q) (b + p))))
+
+-- where they differ by at most g, neither of a + q and b + p is more than g above the other
+offset-near : (g a b p q : ℕ) (z : ℤ) → natAbs z ≤ g → subℕ a b ≡ subℕ p q +ℤ z → (a + q ≤ b + p + g) × (b + p ≤ a + q + g)
+offset-near g a b p q z h e =
+    let c = add-signed (subℕ p q) z in
+    let n = size-parts z in
+    let l = sub-whole a b in
+    let r = sub-whole p q in
+    (omega (arith, ap up e, ap down e), omega (arith, ap up e, ap down e))
+
+-- they conflict exactly when the corners' difference is an offset of two pixels, d = p - q, but for at most g
+pub conflict-offset : (g : ℕ) (d : Direction) (s : Shape) (u : Point) (t : Shape) (v : Point)
+    → (conflict g s u t v ≡ true) ↔ PixelOffset g d s t (subℕ (along d v) (along d u)) (subℕ (across d v) (across d u))
+conflict-offset g d s u t v = (
   λ e.
-      let w : SharedPixel s u t v = share-witness s u t v e in
+      let w : NearPixels g s u t v = conflict-witness g s u t v e in
+      let a = near-along d w in
+      let c = near-across d w in
       record {
         p = w .p;
         q = w .q;
         ofFirst = w .ofFirst;
         ofSecond = w .ofSecond;
-        alongIs = sub-eq (along d v) (along d u) (along d (w .p)) (along d (w .q)) (omega (arith, shared-along d w));
-        acrossIs = sub-eq (across d v) (across d u) (across d (w .p)) (across d (w .q)) (omega (arith, shared-across d w));
+        alongBy = subℕ (along d v + along d (w .q)) (along d u + along d (w .p));
+        acrossBy = subℕ (across d v + across d (w .q)) (across d u + across d (w .p));
+        alongSmall = size-within g _ _ (a .1) (a .0);
+        acrossSmall = size-within g _ _ (c .1) (c .0);
+        alongIs = offset-by (along d v) (along d u) (along d (w .p)) (along d (w .q));
+        acrossIs = offset-by (across d v) (across d u) (across d (w .p)) (across d (w .q));
       },
   λ w.
-      share-from s u t v
-      (shared-over d s u t v (w .p) (w .q) (w .ofFirst) (w .ofSecond)
-      (omega (arith, eq-sub (along d v) (along d u) (along d (w .p)) (along d (w .q)) (w .alongIs)))
-      (omega (arith, eq-sub (across d v) (across d u) (across d (w .p)) (across d (w .q)) (w .acrossIs)))),
+      let a = offset-near g (along d v) (along d u) (along d (w .p)) (along d (w .q)) (w .alongBy) (w .alongSmall) (w .alongIs) in
+      let c = offset-near g (across d v) (across d u) (across d (w .p)) (across d (w .q)) (w .acrossBy) (w .acrossSmall) (w .acrossIs) in
+      conflict-from g s u t v (near-over d g s u t v (w .p) (w .q) (w .ofFirst) (w .ofSecond) (a .1) (a .0) (c .1) (c .0)),
 )
 
 -- the biased test passes at k exactly when k - offsetBound is an offset of two pixels
-pub no-fit-at : (d : Direction) (s t : Shape) (o : ℤ) (k : ℕ) → (noFitAt d s t o k ≡ true) ↔ PixelOffset d s t (subℕ k offsetBound) o
+pub no-fit-at : (g : ℕ) (d : Direction) (s t : Shape) (o : ℤ) (k : ℕ) → (noFitAt g d s t o k ≡ true) ↔ PixelOffset g d s t (subℕ k offsetBound) o
 unfolding noFitAt
-no-fit-at d s t o k =
+no-fit-at g d s t o k =
     rw (along-point d k (up o), along-point d offsetBound (down o), across-point d k (up o), across-point d offsetBound (down o), up-down o)
-    at (share-offset d s (point d offsetBound (down o)) t (point d k (up o)))
-
--- the same in ℕ, as a search over biased numbers meets it: p + offsetBound = q + k along the direction, p - q = o across it
-pub record BiasedOffset (d : Direction) (s t : Shape) (o : ℤ) (k : ℕ) : Type 0 where
-  pub p : Point
-  pub q : Point
-  pub ofFirst : pixel s p ≡ true
-  pub ofSecond : pixel t q ≡ true
-  pub alongIs : along d p + offsetBound ≡ along d q + k
-  pub acrossIs : across d p + down o ≡ across d q + up o
-
--- the biased test passes at k exactly when there are such pixels
-pub no-fit-at-biased : (d : Direction) (s t : Shape) (o : ℤ) (k : ℕ) → (noFitAt d s t o k ≡ true) ↔ BiasedOffset d s t o k
-no-fit-at-biased d s t o k = (
-  λ e.
-      let w : PixelOffset d s t (subℕ k offsetBound) o = no-fit-at d s t o k .0 e in
-      let c = sub-whole (across d (w .p)) (across d (w .q)) in
-      record {
-        p = w .p;
-        q = w .q;
-        ofFirst = w .ofFirst;
-        ofSecond = w .ofSecond;
-        alongIs = omega (arith, eq-sub k offsetBound (along d (w .p)) (along d (w .q)) (w .alongIs));
-        acrossIs = omega (arith, ap up (w .acrossIs), ap down (w .acrossIs));
-      },
-  λ w.
-      no-fit-at d s t o k .1
-      record {
-        p = w .p;
-        q = w .q;
-        ofFirst = w .ofFirst;
-        ofSecond = w .ofSecond;
-        alongIs = sub-eq k offsetBound (along d (w .p)) (along d (w .q)) (omega (arith, w .alongIs));
-        acrossIs = whole-eq o (subℕ (across d (w .p)) (across d (w .q))) (omega (arith, w .acrossIs, sub-whole (across d (w .p)) (across d (w .q))));
-      },
-)
+    at (conflict-offset g d s (point d offsetBound (down o)) t (point d k (up o)))
 
 -- ── the range of offsets ──
 
@@ -91,22 +91,29 @@ pub record Biased (a : ℤ) : Type 0 where
   pub below : number < offsetBound + offsetBound + 1
   pub is : a ≡ subℕ number offsetBound
 
--- with sides along the direction of at most 255, the search tries every offset
-pub offset-biased : (d : Direction) (s t : Shape) → extent d s ≤ 255 → extent d t ≤ 255 → (a o : ℤ) → PixelOffset d s t a o → Biased a
-offset-biased d s t h k a o w =
+-- with sides along the direction of at most 255 and a gap of at most 8, the search tries every offset
+pub offset-biased : (g : ℕ) (d : Direction) (s t : Shape) → g ≤ 8 → extent d s ≤ 255 → extent d t ≤ 255 → (a o : ℤ) → PixelOffset g d s t a o
+    → Biased a
+offset-biased g d s t small h k a o w =
     let l : along d (w .p) < extent d s = pixel-along d s (w .p) (w .ofFirst) in
     let r : along d (w .q) < extent d t = pixel-along d t (w .q) (w .ofSecond) in
+    let e = sub-whole (along d (w .p)) (along d (w .q)) in
+    let c = add-signed (subℕ (along d (w .p)) (along d (w .q))) (w .alongBy) in
+    let n = size-parts (w .alongBy) in
+    let m : natAbs (w .alongBy) ≤ g = w .alongSmall in
+    let b : ℕ = up a + offsetBound - down a in
+    let f = sub-whole (up a + offsetBound - down a) offsetBound in
     record {
-      number = along d (w .p) + offsetBound - along d (w .q);
-      below = omega arith;
-      is = w .alongIs ∙ sub-eq (along d (w .p)) (along d (w .q)) (along d (w .p) + offsetBound - along d (w .q)) offsetBound (omega arith);
+      number = b;
+      below = omega (arith, ap up (w .alongIs), ap down (w .alongIs));
+      is = whole-eq a (subℕ b offsetBound) (omega (arith, ap up (w .alongIs), ap down (w .alongIs)));
     }
 
--- and every offset lies between -254 and 254
-pub offset-range : (d : Direction) (s t : Shape) → extent d s ≤ 255 → extent d t ≤ 255 → (a o : ℤ) → PixelOffset d s t a o
+-- and every offset lies between -262 and 262
+pub offset-range : (g : ℕ) (d : Direction) (s t : Shape) → g ≤ 8 → extent d s ≤ 255 → extent d t ≤ 255 → (a o : ℤ) → PixelOffset g d s t a o
     → (subℕ 0 offsetBound ≤ℤ a) × (a ≤ℤ pos offsetBound)
-offset-range d s t h k a o w =
-    let b : Biased a = offset-biased d s t h k a o w in
+offset-range g d s t small h k a o w =
+    let b : Biased a = offset-biased g d s t small h k a o w in
     let l : b .number < offsetBound + offsetBound + 1 = b .below in
     let e = sub-whole (b .number) offsetBound in
     rw (b .is)
@@ -122,7 +129,7 @@ listed-biased k rs w =
     let h : k < r .first + r .count = w .high in
     let e = sub-whole (r .first) offsetBound in
     let f = sub-whole k offsetBound in
-    let g = add-whole (subℕ (r .first) offsetBound) (r .count) in
+    let sum = add-whole (subℕ (r .first) offsetBound) (r .count) in
     record {
       run = unbiased r;
       listed = map-member unbiased (w .listed);
@@ -144,7 +151,7 @@ biased-listed a rs w =
     let l = le-whole (subℕ (r .first) offsetBound) a (subst (λ (x : OffsetRun). x .first ≤ℤ a) (m .image) (w .low)) in
     let h = lt-whole a (subℕ (r .first) offsetBound +ℤ pos (r .count)) (subst (λ (x : OffsetRun). a <ℤ (x .first +ℤ pos (x .count))) (m .image) (w .high)) in
     let e = sub-whole (r .first) offsetBound in
-    let g = add-whole (subℕ (r .first) offsetBound) (r .count) in
+    let sum = add-whole (subℕ (r .first) offsetBound) (r .count) in
     let k : ℕ = up a + offsetBound - down a in
     let f = sub-whole (up a + offsetBound - down a) offsetBound in
     record {
@@ -153,45 +160,45 @@ biased-listed a rs w =
       inside = record { run = r; listed = m .listed; low = omega arith; high = omega arith };
     }
 
-module _ (d : Direction) (s t : Shape) (o : ℤ) where
-  -- a listed offset is the offset of two pixels
-  pub no-fit-sound : (a : ℤ) → InOffsetRuns a (noFit d s t o) → PixelOffset d s t a o
+module _ (g : ℕ) (d : Direction) (s t : Shape) (o : ℤ) where
+  -- a listed offset is the offset of two pixels, but for at most g
+  pub no-fit-sound : (a : ℤ) → InOffsetRuns a (noFit g d s t o) → PixelOffset g d s t a o
   unfolding noFit
   no-fit-sound a w =
-      let b : Unbiasing a (runs (noFitAt d s t o) (offsetBound + offsetBound + 1)) = biased-listed a _ w in
-      rw (b .is) (no-fit-at d s t o (b .number) .0 (runs-exactly (noFitAt d s t o) _ (b .number) .0 (b .inside) .1))
+      let b : Unbiasing a (runs (noFitAt g d s t o) (offsetBound + offsetBound + 1)) = biased-listed a _ w in
+      rw (b .is) (no-fit-at g d s t o (b .number) .0 (runs-exactly (noFitAt g d s t o) _ (b .number) .0 (b .inside) .1))
 
-  -- the offset of two pixels is listed, for sides along the direction of at most 255
-  pub no-fit-complete : extent d s ≤ 255 → extent d t ≤ 255 → (a : ℤ) → PixelOffset d s t a o → InOffsetRuns a (noFit d s t o)
+  -- the offset of two pixels is listed, for sides along the direction of at most 255 and a gap of at most 8
+  pub no-fit-complete : g ≤ 8 → extent d s ≤ 255 → extent d t ≤ 255 → (a : ℤ) → PixelOffset g d s t a o → InOffsetRuns a (noFit g d s t o)
   unfolding noFit
-  no-fit-complete h k a w =
-      let b : Biased a = offset-biased d s t h k a o w in
-      let e : noFitAt d s t o (b .number) ≡ true = no-fit-at d s t o (b .number) .1 (rw (b .is) at w) in
-      rw (b .is) (listed-biased (b .number) _ (runs-exactly (noFitAt d s t o) _ (b .number) .1 (b .below, e)))
+  no-fit-complete small h k a w =
+      let b : Biased a = offset-biased g d s t small h k a o w in
+      let e : noFitAt g d s t o (b .number) ≡ true = no-fit-at g d s t o (b .number) .1 (rw (b .is) at w) in
+      rw (b .is) (listed-biased (b .number) _ (runs-exactly (noFitAt g d s t o) _ (b .number) .1 (b .below, e)))
 
 -- a maximal run of biased numbers is a maximal run of offsets
-run-maximal : (d : Direction) (s t : Shape) (o : ℤ) → extent d s ≤ 255 → extent d t ≤ 255 → (r : Run)
-    → MaximalRun (noFitAt d s t o) (offsetBound + offsetBound + 1) r → MaximalOffsetRun d s t o (unbiased r)
-run-maximal d s t o h k r m =
+run-maximal : (g : ℕ) (d : Direction) (s t : Shape) (o : ℤ) → g ≤ 8 → extent d s ≤ 255 → extent d t ≤ 255 → (r : Run)
+    → MaximalRun (noFitAt g d s t o) (offsetBound + offsetBound + 1) r → MaximalOffsetRun g d s t o (unbiased r)
+run-maximal g d s t o small h k r m =
     let first : ℤ = subℕ (r .first) offsetBound in
     let e = sub-whole (r .first) offsetBound in
     record {
       some = m .some;
       before =
           λ w.
-          let b : Biased (predℤ first) = offset-biased d s t h k (predℤ first) o w in
+          let b : Biased (predℤ first) = offset-biased g d s t small h k (predℤ first) o w in
           let f = sub-whole (b .number) offsetBound in
-          let g = pred-whole first in
+          let sum = pred-whole first in
           let l : suc (b .number) ≡ r .first = omega (arith, ap up (b .is), ap down (b .is)) in
-          clash (no-fit-at d s t o (b .number) .1 (rw (b .is) at w)) (m .before (b .number) l);
+          clash (no-fit-at g d s t o (b .number) .1 (rw (b .is) at w)) (m .before (b .number) l);
       after =
           λ w.
-          let b : Biased (first +ℤ pos (r .count)) = offset-biased d s t h k (first +ℤ pos (r .count)) o w in
+          let b : Biased (first +ℤ pos (r .count)) = offset-biased g d s t small h k (first +ℤ pos (r .count)) o w in
           let f = sub-whole (b .number) offsetBound in
-          let g = add-whole first (r .count) in
+          let sum = add-whole first (r .count) in
           let l : b .number ≡ r .first + r .count = omega (arith, ap up (b .is), ap down (b .is)) in
           let below : b .number < offsetBound + offsetBound + 1 = b .below in
-          clash (no-fit-at d s t o (b .number) .1 (rw (b .is) at w)) (rw l (m .after (omega arith)));
+          clash (no-fit-at g d s t o (b .number) .1 (rw (b .is) at w)) (rw l (m .after (omega arith)));
     }
 
 -- a run before another is before it as offsets
@@ -199,26 +206,28 @@ run-before : (r q : Run) → RunBefore r q → OffsetRunBefore (unbiased r) (unb
 run-before r q h =
     let e = sub-whole (r .first) offsetBound in
     let f = sub-whole (q .first) offsetBound in
-    let g = add-whole (subℕ (r .first) offsetBound) (r .count) in
+    let sum = add-whole (subℕ (r .first) offsetBound) (r .count) in
     whole-lt (subℕ (r .first) offsetBound +ℤ pos (r .count)) (subℕ (q .first) offsetBound) (omega arith)
 
 -- the no-fit row (horizontal) at a row offset, or the no-fit column (vertical) at a column offset, for boxes with sides of at most 255
-pub no-fit-line : (d : Direction) (s t : Shape) → extent d s ≤ 255 → extent d t ≤ 255 → (o : ℤ) → NoFitLine d s t o (noFit d s t o)
+-- and a gap of at most 8
+pub no-fit-line : (g : ℕ) (d : Direction) (s t : Shape) → g ≤ 8 → extent d s ≤ 255 → extent d t ≤ 255 → (o : ℤ) → NoFitLine g d s t o (noFit g d s t o)
 unfolding noFit
-no-fit-line d s t h k o =
+no-fit-line g d s t small h k o =
     let n : ℕ = offsetBound + offsetBound + 1 in
     record {
-      exactly = λ a. (no-fit-sound d s t o a, no-fit-complete d s t o h k a);
-      inRange = λ a w. offset-range d s t h k a o (no-fit-sound d s t o a w);
+      exactly = λ a. (no-fit-sound g d s t o a, no-fit-complete g d s t o small h k a);
+      inRange = λ a w. offset-range g d s t small h k a o (no-fit-sound g d s t o a w);
       maximal =
           λ r m.
-          let z : Source unbiased (runs (noFitAt d s t o) n) r = map-source unbiased (runs (noFitAt d s t o) n) m in
-          subst (MaximalOffsetRun d s t o) (sym (z .image)) (run-maximal d s t o h k (z .from) (runs-maximal (noFitAt d s t o) n (z .from) (z .listed)));
-      ascending = pairwise-map OffsetRunBefore unbiased run-before (runs-ascending (noFitAt d s t o) n);
+          let z : Source unbiased (runs (noFitAt g d s t o) n) r = map-source unbiased (runs (noFitAt g d s t o) n) m in
+          subst (MaximalOffsetRun g d s t o) (sym (z .image)) (run-maximal g d s t o small h k (z .from) (runs-maximal (noFitAt g d s t o) n (z .from) (z .listed)));
+      ascending = pairwise-map OffsetRunBefore unbiased run-before (runs-ascending (noFitAt g d s t o) n);
     }
 
--- two placed pieces share a pixel exactly when the corners' difference along the direction is listed at their difference across it
-pub no-fit-share : (d : Direction) (s : Shape) (u : Point) (t : Shape) (v : Point) → extent d s ≤ 255 → extent d t ≤ 255
-    → (share s u t v ≡ true) ↔ InOffsetRuns (subℕ (along d v) (along d u)) (noFit d s t (subℕ (across d v) (across d u)))
-no-fit-share d s u t v h k =
-    Iff·trans (share-offset d s u t v) (Iff·symm (no-fit-line d s t h k (subℕ (across d v) (across d u)) .exactly (subℕ (along d v) (along d u))))
+-- two placed pieces conflict exactly when the corners' difference along the direction is listed at their difference across it
+pub no-fit-conflict : (g : ℕ) (d : Direction) (s : Shape) (u : Point) (t : Shape) (v : Point) → g ≤ 8 → extent d s ≤ 255 → extent d t ≤ 255
+    → (conflict g s u t v ≡ true) ↔ InOffsetRuns (subℕ (along d v) (along d u)) (noFit g d s t (subℕ (across d v) (across d u)))
+no-fit-conflict g d s u t v small h k =
+    Iff·trans (conflict-offset g d s u t v)
+    (Iff·symm (no-fit-line g d s t small h k (subℕ (across d v) (across d u)) .exactly (subℕ (along d v) (along d u))))

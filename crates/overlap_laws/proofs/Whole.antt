@@ -21,6 +21,21 @@ sub-test m n false e = let h = ltb-false m n e in omega arith
 pub sub-whole : (m n : ℕ) → down (subℕ m n) + m ≡ up (subℕ m n) + n
 sub-whole m n = sub-test m n (ltb m n) refl
 
+-- the difference goes down only where n is larger, and up only where m is
+down-test : (m n : ℕ) (b : Bool) → ltb m n ≡ b → n ≤ m → down (cond b (negsuc (n - suc m)) (pos (m - n))) ≡ 0
+down-test m n true e l = let h = ltb-true m n e in absurd (omega arith)
+down-test m n false e l = refl
+
+up-test : (m n : ℕ) (b : Bool) → ltb m n ≡ b → m ≤ n → up (cond b (negsuc (n - suc m)) (pos (m - n))) ≡ 0
+up-test m n true e l = refl
+up-test m n false e l = let h = ltb-false m n e in omega arith
+
+pub sub-up : (m n : ℕ) → n ≤ m → down (subℕ m n) ≡ 0
+sub-up m n l = down-test m n (ltb m n) refl l
+
+pub sub-down : (m n : ℕ) → m ≤ n → up (subℕ m n) ≡ 0
+sub-down m n l = up-test m n (ltb m n) refl l
+
 -- a whole number is the difference of how far it goes up and down
 pub up-down : (z : ℤ) → subℕ (up z) (down z) ≡ z
 up-down z = whole-eq _ _ (omega (arith, sub-whole (up z) (down z)))

@@ -1,8 +1,9 @@
 -- Where no cause refuses a call on a pair, both pieces are ready to be measured: their table entries are checked, their corners lie in
 -- the sheet, and as two pieces of one job they have no more pixels than its boxes. Assumes nothing.
-use Rattle.list_laws.proofs.Kit.{_≡_, refl, Bool, _||_, false, not, true, List, _<_, ℕ, arith, eqb, ltb, length, eqb-false, ltb-true, not-false}
+use Rattle.list_laws.proofs.Kit.{_≡_, refl, Bool, _||_, false, not, true, List, _<_, _≤_, ℕ, arith, eqb, ltb, length, eqb-false, ltb-true, not-false}
 use Rattle.model.specs.Layout.{placeOf}
-use Rattle.model.specs.Lent.{Lent, jobOf}
+use Rattle.model.specs.Lent.{Lent, jobOf, gapBound}
+use Rattle.job_laws.proofs.Checked.{facts}
 use Rattle.model.specs.Buffer.{layoutOf}
 use Rattle.model.specs.Calls.{someTurnWrong, pairCauses}
 use Rattle.list_laws.proofs.Tests.{or-neither}
@@ -24,6 +25,7 @@ pub record Measurable (l : Lent) (es : List (List ℕ)) (i k : ℕ) : Type 0 whe
   pub first : MeasureReady (l .table) i (placeOf (layoutOf es) i)
   pub second : MeasureReady (l .table) k (placeOf (layoutOf es) k)
   pub together : Together (l .table) i k
+  pub gapSmall : l .size .gap ≤ gapBound
 
 pub measurable : (l : Lent) (es : List (List ℕ)) (i k : ℕ) → NoCause (pairCauses l es i k) → Measurable l es i k
 unfolding pairCauses
@@ -42,4 +44,5 @@ measurable l es i k h =
       first = piece-ready l es laid i a;
       second = piece-ready l es laid k b;
       together = pair-together l (laid .well) i k a b (eqb-false i k (or-neither ((t || u) || v) (eqb i k) (h .1 .1 .0) .1));
+      gapSmall = facts l (laid .well) .smallGap;
     }

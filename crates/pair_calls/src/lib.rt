@@ -1,4 +1,5 @@
-// Shared pixel, depth and penalty of two pieces of a layout. Document 01, 'No-fit rows and penalty' and 'When a call says no'.
+// Whether two pieces of a layout conflict, their depth and their penalty, by the job's gap; with no gap to conflict is to share a pixel.
+// Document 01, 'No-fit rows and penalty' and 'When a call says no', and document 02, point 4.
 use causes::Wrong;
 use causes::call_causes;
 use model::Direction;
@@ -19,7 +20,10 @@ ghost use Rattle.model.specs.Lent.{lentBy};
 ghost use Rattle.model.specs.Calls.{pairCauses, shareCall, depthCall, penaltyCall};
 ghost use Rattle.pair_calls.specs.Answers.{shareAnswer};
 
-// Whether two pieces share a pixel, or why the question is refused.
+// One more than the largest depth, that of two boxes of 255 with a gap of 8.
+const DEPTH_END: u32 = 264;
+
+// Whether two pieces conflict, or why the question is refused.
 pub enum ShareAnswer {
     Shares(bool),
     Refused(Refusal),
@@ -57,7 +61,7 @@ fn pair_causes(
     call_causes(size, table, pixels, layout, wrong)
 }
 
-// Whether pieces i and k share a pixel in the layout.
+// Whether pieces i and k conflict in the layout: with no gap, whether they share a pixel.
 pub fn shares_pixel(
     size: JobSize,
     table: &[PieceEntry],
@@ -70,8 +74,9 @@ pub fn shares_pixel(
 {
     match pair_causes(size, table, pixels, layout, i, k) {
         DoneAnswer::Refused(refusal) => ShareAnswer::Refused(refusal),
-        DoneAnswer::Done => ShareAnswer::Shares(
-            placed_depth(
+        DoneAnswer::Done => {
+            let gap = size.gap as u32;
+            let amount = placed_depth(
                 table,
                 pixels,
                 i,
@@ -79,10 +84,11 @@ pub fn shares_pixel(
                 k,
                 layout_places::place_at(layout, k),
                 Direction::Horizontal,
+                gap,
                 1,
-            )
-                == 1,
-        ),
+            );
+            ShareAnswer::Shares(amount == 1)
+        }
     }
 }
 
@@ -102,6 +108,7 @@ pub fn depth(
     match pair_causes(size, table, pixels, layout, i, k) {
         DoneAnswer::Refused(refusal) => NumberAnswer::Refused(refusal),
         DoneAnswer::Done => {
+            let gap = size.gap as u32;
             let amount = placed_depth(
                 table,
                 pixels,
@@ -110,7 +117,8 @@ pub fn depth(
                 k,
                 layout_places::place_at(layout, k),
                 direction,
-                256,
+                gap,
+                DEPTH_END,
             );
             NumberAnswer::Number(amount as u64)
         }
@@ -132,6 +140,7 @@ pub fn penalty(
     match pair_causes(size, table, pixels, layout, i, k) {
         DoneAnswer::Refused(refusal) => NumberAnswer::Refused(refusal),
         DoneAnswer::Done => {
+            let gap = size.gap as u32;
             let amount = placed_penalty(
                 table,
                 pixels,
@@ -139,6 +148,7 @@ pub fn penalty(
                 layout_places::place_at(layout, i),
                 k,
                 layout_places::place_at(layout, k),
+                gap,
             );
             NumberAnswer::Number(amount as u64)
         }

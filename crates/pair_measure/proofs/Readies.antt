@@ -1,8 +1,8 @@
 -- The pieces of a layout that calls take are ready to be measured: their table entries are checked, their corners lie in the sheet, and two
 -- pieces of one job have together no more pixels than its boxes. Assumes nothing.
-use Rattle.list_laws.proofs.Kit.{_≡_, _≢_, sym, _&&_, true, ⊎-elim, List, _+_, _<_, ℕ, eq-or-lt-of-le, arith, leb, ltb, leb-true, ltb-false, ltb-true}
+use Rattle.list_laws.proofs.Kit.{_≡_, _≢_, sym, _&&_, true, ⊎-elim, List, _+_, _<_, _≤_, ℕ, eq-or-lt-of-le, arith, leb, ltb, leb-true, ltb-false, ltb-true}
 use Rattle.model.specs.Layout.{inside, placeOf, turnedPiece}
-use Rattle.model.specs.Lent.{Lent, jobOf, lentWell}
+use Rattle.model.specs.Lent.{Lent, jobOf, lentWell, pixelStart, areaBound}
 use Rattle.model.specs.Buffer.{layoutOf}
 use Rattle.list_laws.proofs.Tests.{and-left, and-right, decided}
 use Rattle.job_laws.proofs.Checked.{facts, Facts, entry-at}
@@ -29,15 +29,18 @@ piece-ready l es laid i b =
       y = omega (arith, leb-true top (l .size .rows) (and-right (leb right (l .size .columns)) _ e));
     }
 
--- of two pieces the earlier one's pixels end before the later one's begin
-pub pair-together : (l : Lent) → lentWell l ≡ true → (i k : ℕ) → i < l .size .count → k < l .size .count → i ≢ k → Together (l .table) i k
-pair-together l w i k a b e =
-    let all = facts l w .areas in
+-- of two of n pieces the earlier one's pixels end before the later one's begin
+pub both-together : (table : List (List ℕ)) (n : ℕ) → pixelStart table n ≤ areaBound → (i k : ℕ) → i < n → k < n → i ≢ k → Together table i k
+both-together table n all i k a b e =
     ⊎-elim
-    (λ h. omega (arith, start-end (l .table) i k (ltb-true i k h), start-end (l .table) k (l .size .count) b))
+    (λ h. omega (arith, start-end table i k (ltb-true i k h), start-end table k n b))
     (λ h.
     ⊎-elim
     (λ (q : k ≡ i). absurd (e (sym q)))
-    (λ (m : k < i). omega (arith, start-end (l .table) k i m, start-end (l .table) i (l .size .count) a))
+    (λ (m : k < i). omega (arith, start-end table k i m, start-end table i n a))
     (eq-or-lt-of-le (ltb-false i k h)))
     (decided (ltb i k))
+
+-- of two pieces of a job
+pub pair-together : (l : Lent) → lentWell l ≡ true → (i k : ℕ) → i < l .size .count → k < l .size .count → i ≢ k → Together (l .table) i k
+pair-together l w = both-together (l .table) (l .size .count) (facts l w .areas)

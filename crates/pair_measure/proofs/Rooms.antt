@@ -10,7 +10,7 @@ use Rattle.model.specs.declared.Direction.{Direction}
 use Rattle.model.specs.declared.Direction.the-variants.{Horizontal, Vertical}
 
 -- the lines of a turned box have its pixels
-turned-lines : (d : Direction) (t : Turn) (s : Shape) → extent (other d) (turned t s) * extent d (turned t s) ≡ s .columns * s .rows
+pub turned-lines : (d : Direction) (t : Turn) (s : Shape) → extent (other d) (turned t s) * extent d (turned t s) ≡ s .columns * s .rows
 turned-lines Horizontal Zero s = mul-comm (s .rows) (s .columns)
 turned-lines Horizontal Quarter s = refl
 turned-lines Horizontal Half s = mul-comm (s .rows) (s .columns)

@@ -21,11 +21,11 @@ use Rattle.pair_overlap.specs.declared.Corner.{Corner}
 use Rattle.pair_overlap.specs.Seen.{entries, seen}
 use Rattle.pair_overlap.proofs.Shapes.{entries-ordered}
 use Rattle.pair_measure.specs.Ready.{Roomy}
-use Rattle.pair_measure.proofs.Rooms.{strips-half}
+use Rattle.pair_measure.proofs.Rooms.{turned-lines, strips-half}
 
 -- the shapes of a job do not depend on its sheet: any will do
 pub anySize : JobSize
-anySize = record { rows = 0; columns = 0; count = 0 }
+anySize = record { rows = 0; columns = 0; count = 0; gap = 0 }
 
 -- two stretches in a store, the second behind the first
 pub record StretchBehind (ts us : List Strip) (after : List (List ℕ)) (middle end : ℕ) : Type 0 where
@@ -65,6 +65,12 @@ module _ (size : JobSize) (table : List (List ℕ)) (pixels : List ℕ) (i : ℕ
   pub piece-extent : extent d (turnedPiece (jobOf (lentBy size table pixels)) i t) ≤ 255
   unfolding jobOf
   piece-extent = turned-extent d t (lentShape (lentBy size table pixels) i) 255 (e .columns) (e .rows)
+
+  -- its box has the pixels of its entry
+  pub piece-area : turnedPiece (jobOf (lentBy size table pixels)) i t .columns * turnedPiece (jobOf (lentBy size table pixels)) i t .rows
+      ≡ entryArea table i
+  unfolding jobOf
+  piece-area = turned-lines Vertical t (lentShape (lentBy size table pixels) i)
 
   -- twice its strips are at most its pixels and one for each line
   piece-few : 2 * length (strips d (turnedPiece (jobOf (lentBy size table pixels)) i t)) ≤ entryArea table i + 255
@@ -107,6 +113,6 @@ pub seen-near : (d : Direction) (p : Placement) (u : Corner) → u ≡ seen d (c
 seen-near d p u e x y = subst Near (sym e) (near-seen d p x y)
 
 -- equal stretches and corners have equal bounded depths
-pub same-depth : (es es′ : List (List ℕ)) (u u′ : Corner) (fs fs′ : List (List ℕ)) (v v′ : Corner) (bound : ℕ) → es ≡ es′ → u ≡ u′ → fs ≡ fs′ → v ≡ v′
-    → depthBelow es u fs v bound ≡ depthBelow es′ u′ fs′ v′ bound
-same-depth es es′ u u′ fs fs′ v v′ bound a b c d = λ i. depthBelow (a i) (b i) (c i) (d i) bound
+pub same-depth : (g : ℕ) (es es′ : List (List ℕ)) (u u′ : Corner) (fs fs′ : List (List ℕ)) (v v′ : Corner) (bound : ℕ) → es ≡ es′ → u ≡ u′
+    → fs ≡ fs′ → v ≡ v′ → depthBelow g es u fs v bound ≡ depthBelow g es′ u′ fs′ v′ bound
+same-depth g es es′ u u′ fs fs′ v v′ bound a b c d = λ i. depthBelow g (a i) (b i) (c i) (d i) bound

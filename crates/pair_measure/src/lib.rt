@@ -1,9 +1,10 @@
-// Depth and penalty of two placed pieces. Document 01, 'No-fit rows and penalty'. The strips of both pieces in their turns are put into
-// one local store, the second piece's behind the first's, and the functions of pair_overlap are lent each piece's part of it. A store is
-// cleared when it is made, so that small pieces have a small one.
+// Depth and penalty of two placed pieces by a gap. Document 01, 'No-fit rows and penalty', and document 02, point 4. The strips of both pieces
+// in their turns are put into one local store, the second piece's behind the first's, and the functions of pair_overlap are lent each piece's
+// part of it. A store is cleared when it is made, so that small pieces have a small one.
 //
 // What a penalty costs: a walk over two stretches takes a step for each strip of the lines that both pieces have, and a depth a few
-// walks for each sign, two where each line has one strip; the penalty is at most two depths, the second cut off at the first.
+// walks for each sign, two where each line has one strip and there is no gap, and with a gap as many for each distance of lines up to it; the
+// penalty is at most two depths, the second cut off at the first.
 use model::Direction;
 use model::PieceEntry;
 use model::Placement;
@@ -15,9 +16,9 @@ ghost use mathlib.Core.Path.{_≡_};
 ghost use mathlib.Core.Bool.{true};
 ghost use Prim.Native.Nat.{min, _<_, _≤_, _^_};
 ghost use lib.ListN.{length};
-ghost use Rattle.model.specs.Piece.{corner};
+ghost use Rattle.model.specs.Piece.{corner, gapBound};
 ghost use Rattle.model.specs.Strip.{strips};
-ghost use Rattle.model.specs.Overlap.{depth, penalty};
+ghost use Rattle.model.specs.Overlap.{conflictDepth, conflictPenalty};
 ghost use Rattle.model.specs.Layout.{turnedPiece};
 ghost use Rattle.model.specs.Lent.{lentBy, jobOf, pixelStart, pieceBound};
 ghost use Rattle.model.specs.declared.JobSize.{JobSize};
@@ -89,7 +90,7 @@ pub fn corner_along(place: Placement, direction: Direction) -> Corner
     }
 }
 
-// The depth of two placed pieces along a direction, cut off at a bound, with their strips in a lent store.
+// The depth of two placed pieces along a direction by a gap, cut off at a bound, with their strips in a lent store.
 fn depth_in(
     table: &[PieceEntry],
     pixels: &[u8],
@@ -98,11 +99,12 @@ fn depth_in(
     k: usize,
     q: Placement,
     direction: Direction,
+    gap: u32,
     bound: u32,
     store: &mut [StripEntry],
 ) -> u32
-    requires { ⌜ MeasureReady (now table) i p ⌝ ∗ ⌜ MeasureReady (now table) k q ⌝ ∗ ⌜ bound ≤ 256 ⌝ ∗ ⌜ Roomy (now table) i k (length (now store)) ⌝ }
-    ensures { λ r. ⌜ ((size : JobSize) → r ≡ min (depth direction (turnedPiece (jobOf (lentBy size (now (table .entry)) (now (pixels .entry)))) i (p .turn)) (corner p) (turnedPiece (jobOf (lentBy size (now (table .entry)) (now (pixels .entry)))) k (q .turn)) (corner q)) bound) ⌝ }
+    requires { ⌜ MeasureReady (now table) i p ⌝ ∗ ⌜ MeasureReady (now table) k q ⌝ ∗ ⌜ (gap ≤ gapBound) × (bound ≤ 264) ⌝ ∗ ⌜ Roomy (now table) i k (length (now store)) ⌝ }
+    ensures { λ r. ⌜ ((size : JobSize) → r ≡ min (conflictDepth gap direction (turnedPiece (jobOf (lentBy size (now (table .entry)) (now (pixels .entry)))) i (p .turn)) (corner p) (turnedPiece (jobOf (lentBy size (now (table .entry)) (now (pixels .entry)))) k (q .turn)) (corner q)) bound) ⌝ }
 {
     let first = p.turn;
     let second = q.turn;
@@ -112,11 +114,18 @@ fn depth_in(
     let u = corner_along(p, direction);
     let v = corner_along(q, direction);
     let strips = &store[..];
-    pair_overlap::depth_below(&strips[front..middle], u, &strips[middle..end], v, bound)
+    pair_overlap::depth_below(
+        &strips[front..middle],
+        u,
+        &strips[middle..end],
+        v,
+        gap,
+        bound,
+    )
 }
 
-// The depth of two placed pieces along a direction, cut off at a bound. With the bound 1 it tells whether they share a pixel, and the
-// walk ends at the first.
+// The depth of two placed pieces along a direction by a gap, cut off at a bound. With the bound 1 it tells whether they conflict, and the walk
+// ends at the first two strips that do.
 pub fn placed_depth(
     table: &[PieceEntry],
     pixels: &[u8],
@@ -125,20 +134,21 @@ pub fn placed_depth(
     k: usize,
     q: Placement,
     direction: Direction,
+    gap: u32,
     bound: u32,
 ) -> u32
-    requires { ⌜ MeasureReady (now table) i p ⌝ ∗ ⌜ MeasureReady (now table) k q ⌝ ∗ ⌜ Together (now table) i k ⌝ ∗ ⌜ bound ≤ 256 ⌝ }
-    ensures { λ r. ⌜ ((size : JobSize) → r ≡ min (depth direction (turnedPiece (jobOf (lentBy size (now (table .entry)) (now (pixels .entry)))) i (p .turn)) (corner p) (turnedPiece (jobOf (lentBy size (now (table .entry)) (now (pixels .entry)))) k (q .turn)) (corner q)) bound) ⌝ }
+    requires { ⌜ MeasureReady (now table) i p ⌝ ∗ ⌜ MeasureReady (now table) k q ⌝ ∗ ⌜ Together (now table) i k ⌝ ∗ ⌜ (gap ≤ gapBound) × (bound ≤ 264) ⌝ }
+    ensures { λ r. ⌜ ((size : JobSize) → r ≡ min (conflictDepth gap direction (turnedPiece (jobOf (lentBy size (now (table .entry)) (now (pixels .entry)))) i (p .turn)) (corner p) (turnedPiece (jobOf (lentBy size (now (table .entry)) (now (pixels .entry)))) k (q .turn)) (corner q)) bound) ⌝ }
 {
     if few_strips(table, i, k) {
         let mut store = small_store();
-        return depth_in(table, pixels, i, p, k, q, direction, bound, &mut store);
+        return depth_in(table, pixels, i, p, k, q, direction, gap, bound, &mut store);
     }
     let mut store = empty_store();
-    depth_in(table, pixels, i, p, k, q, direction, bound, &mut store)
+    depth_in(table, pixels, i, p, k, q, direction, gap, bound, &mut store)
 }
 
-// The penalty of two placed pieces: the lesser depth. The lent store holds the row strips, then the column strips; the second depth is cut
+// The penalty of two placed pieces by a gap: the lesser depth. The lent store holds the row strips, then the column strips; the second depth is cut
 // off at the first, and not asked for where that is 0.
 fn penalty_in(
     table: &[PieceEntry],
@@ -147,12 +157,24 @@ fn penalty_in(
     p: Placement,
     k: usize,
     q: Placement,
+    gap: u32,
     store: &mut [StripEntry],
 ) -> u32
-    requires { ⌜ MeasureReady (now table) i p ⌝ ∗ ⌜ MeasureReady (now table) k q ⌝ ∗ ⌜ Roomy (now table) i k (length (now store)) ⌝ }
-    ensures { λ r. ⌜ ((size : JobSize) → r ≡ penalty (turnedPiece (jobOf (lentBy size (now (table .entry)) (now (pixels .entry)))) i (p .turn)) (corner p) (turnedPiece (jobOf (lentBy size (now (table .entry)) (now (pixels .entry)))) k (q .turn)) (corner q)) ⌝ }
+    requires { ⌜ MeasureReady (now table) i p ⌝ ∗ ⌜ MeasureReady (now table) k q ⌝ ∗ ⌜ gap ≤ gapBound ⌝ ∗ ⌜ Roomy (now table) i k (length (now store)) ⌝ }
+    ensures { λ r. ⌜ ((size : JobSize) → r ≡ conflictPenalty gap (turnedPiece (jobOf (lentBy size (now (table .entry)) (now (pixels .entry)))) i (p .turn)) (corner p) (turnedPiece (jobOf (lentBy size (now (table .entry)) (now (pixels .entry)))) k (q .turn)) (corner q)) ⌝ }
 {
-    let along_rows = depth_in(table, pixels, i, p, k, q, Direction::Horizontal, 256, store);
+    let along_rows = depth_in(
+        table,
+        pixels,
+        i,
+        p,
+        k,
+        q,
+        Direction::Horizontal,
+        gap,
+        264,
+        store,
+    );
     if along_rows == 0 {
         return 0;
     }
@@ -164,12 +186,13 @@ fn penalty_in(
         k,
         q,
         Direction::Vertical,
+        gap,
         along_rows,
         store,
     )
 }
 
-// The penalty of two placed pieces.
+// The penalty of two placed pieces by a gap.
 pub fn placed_penalty(
     table: &[PieceEntry],
     pixels: &[u8],
@@ -177,14 +200,15 @@ pub fn placed_penalty(
     p: Placement,
     k: usize,
     q: Placement,
+    gap: u32,
 ) -> u32
-    requires { ⌜ MeasureReady (now table) i p ⌝ ∗ ⌜ MeasureReady (now table) k q ⌝ ∗ ⌜ Together (now table) i k ⌝ }
-    ensures { λ r. ⌜ ((size : JobSize) → r ≡ penalty (turnedPiece (jobOf (lentBy size (now (table .entry)) (now (pixels .entry)))) i (p .turn)) (corner p) (turnedPiece (jobOf (lentBy size (now (table .entry)) (now (pixels .entry)))) k (q .turn)) (corner q)) ⌝ }
+    requires { ⌜ MeasureReady (now table) i p ⌝ ∗ ⌜ MeasureReady (now table) k q ⌝ ∗ ⌜ Together (now table) i k ⌝ ∗ ⌜ gap ≤ gapBound ⌝ }
+    ensures { λ r. ⌜ ((size : JobSize) → r ≡ conflictPenalty gap (turnedPiece (jobOf (lentBy size (now (table .entry)) (now (pixels .entry)))) i (p .turn)) (corner p) (turnedPiece (jobOf (lentBy size (now (table .entry)) (now (pixels .entry)))) k (q .turn)) (corner q)) ⌝ }
 {
     if few_strips(table, i, k) {
         let mut store = small_store();
-        return penalty_in(table, pixels, i, p, k, q, &mut store);
+        return penalty_in(table, pixels, i, p, k, q, gap, &mut store);
     }
     let mut store = empty_store();
-    penalty_in(table, pixels, i, p, k, q, &mut store)
+    penalty_in(table, pixels, i, p, k, q, gap, &mut store)
 }

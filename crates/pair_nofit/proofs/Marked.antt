@@ -1,6 +1,6 @@
--- The marks of a line: where all intervals are kept and none is wrong, a place is covered exactly when they share a pixel there.
--- For the strips of pixel sets, the marks from the largest negative offset on are the no-fit line of document 01. Assumes nothing.
-use Rattle.list_laws.proofs.Kit.{_∙_, _≡_, ap, ap₂, refl, sym, Bool, true, ⊎-elim, List, _+_, _<_, _≤_, suc, zero, ℕ, add-zero, arith, ltb, getD, length}
+-- The marks of a line: where all intervals are kept and none is wrong, a place is covered exactly when strips are at most the gap apart there.
+-- For the strips of pixel sets, the marks from the largest negative offset on are the no-fit line. Assumes nothing.
+use Rattle.list_laws.proofs.Kit.{_∙_, _≡_, ap, ap₂, refl, subst, sym, Bool, true, ⊎-elim, List, _+_, _<_, _≤_, suc, zero, ℕ, add-zero, arith, ltb, getD, length}
 use Rattle.list_laws.proofs.Kit.{length-replicate, replicate, ext-getD, ℤ, lt-ltb, ltb-true}
 use Rattle.model.specs.Bounded.{oneIf}
 use Rattle.model.specs.Piece.{Shape, point}
@@ -9,12 +9,12 @@ use Rattle.model.specs.declared.Direction.{Direction}
 use Rattle.list_laws.proofs.Numbers.{below-or}
 use Rattle.list_laws.proofs.Tests.{same-tests}
 use Rattle.overlap_laws.proofs.Share.{along-point, across-point}
-use Rattle.pair_overlap.specs.Meet.{shifted, stretchesShare}
+use Rattle.pair_overlap.specs.Meet.{shifted, stretchesMeet}
 use Rattle.pair_overlap.specs.declared.Corner.{Corner}
-use Rattle.pair_overlap.proofs.Walk.{StripsMeet, share-meet}
 use Rattle.pair_overlap.specs.Seen.{entries, seen}
-use Rattle.pair_overlap.proofs.Shapes.{entries-share}
-use Rattle.pair_nofit.specs.Marks.{flagsFrom, sharesAt, marksOf, ShiftReached, AllMarked, Swept, farthest}
+use Rattle.pair_overlap.proofs.Shapes.{entries-conflict}
+use Rattle.pair_nofit.specs.Marks.{flagsFrom, meetsAt, marksOf, ShiftReached, GapMarked, Swept, farthest}
+use Rattle.pair_nofit.proofs.Kept.{noughts-reach}
 
 -- ── flags ──
 
@@ -71,21 +71,21 @@ farthest-reached far m e =
 -- ── the marks ──
 
 -- a cleared buffer, with all intervals kept, swept
-pub marks-made : (es : List (List ℕ)) (u : Corner) (fs : List (List ℕ)) (v : Corner) (n : ℕ) (cleared far after : List ℕ) → cleared ≡ replicate n 0
-    → AllMarked es u fs v cleared far → Swept far after → after ≡ marksOf es u fs v n
-marks-made es u fs v n cleared far after e m s =
-    let many : length far ≡ n = m .grown .same ∙ ap length e ∙ length-replicate {A = ℕ} n 0 in
-    ext-getD 0 after (marksOf es u fs v n) (s .same ∙ many ∙ sym (flags-length (sharesAt es u fs v) 0 n))
+pub marks-made : (g : ℕ) (es : List (List ℕ)) (u : Corner) (fs : List (List ℕ)) (v : Corner) (n : ℕ) (cleared far after : List ℕ)
+    → cleared ≡ replicate n 0 → GapMarked g es u fs v cleared far → Swept far after → after ≡ marksOf g es u fs v n
+marks-made g es u fs v n cleared far after e m s =
+    let many : length far ≡ n = m .same ∙ ap length e ∙ length-replicate {A = ℕ} n 0 in
+    ext-getD 0 after (marksOf g es u fs v n) (s .same ∙ many ∙ sym (flags-length (meetsAt g es u fs v) 0 n))
     (λ k l.
     let b : k < length far = omega (arith, s .same) in
     s .marks k b
     ∙ ap oneIf
-    (same-tests (ltb k (farthest far (suc k))) (sharesAt es u fs v k)
-    (λ h. m .grown .sound k b (farthest-reached far k h))
+    (same-tests (ltb k (farthest far (suc k))) (meetsAt g es u fs v k)
     (λ h.
-    let w : StripsMeet es u fs (shifted k v) = share-meet es u fs (shifted k v) h in
-    reached-farthest far k (m .kept (w .i) (w .j) (w .iBelow) (w .jBelow) k b (w .meets))))
-    ∙ sym (flags-at (sharesAt es u fs v) n k (omega arith)))
+    ⊎-elim (λ r. absurd (noughts-reach n k (omega arith) (subst (λ (z : List ℕ). ShiftReached z k) e r))) (λ r. r)
+    (m .sound k b (farthest-reached far k h)))
+    (λ h. reached-farthest far k (m .kept k b h)))
+    ∙ sym (flags-at (meetsAt g es u fs v) n k (omega arith)))
 
 -- ── no-fit lines ──
 
@@ -103,12 +103,12 @@ seen-point d a c =
     let f : _≡_ {A = ℕ} _ c = across-point d a c in
     λ i. record { along = e i; across = f i }
 
--- they share a pixel at the biased offset k exactly when the no-fit line has it
-pub marks-no-fit : (d : Direction) (s t : Shape) (o : ℤ) (k : ℕ)
-    → sharesAt (entries d s) (firstCorner o) (entries d t) (secondCorner o) k ≡ noFitAt d s t o k
+-- they conflict at the biased offset k exactly when the no-fit line has it
+pub marks-no-fit : (g : ℕ) (d : Direction) (s t : Shape) (o : ℤ) (k : ℕ)
+    → meetsAt g (entries d s) (firstCorner o) (entries d t) (secondCorner o) k ≡ noFitAt g d s t o k
 unfolding noFitAt
-marks-no-fit d s t o k =
+marks-no-fit g d s t o k =
     let z : 0 + k ≡ k = omega arith in
     let e : shifted k (secondCorner o) ≡ seen d (point d k (up o)) = (λ i. record { along = z i; across = up o }) ∙ sym (seen-point d k (up o)) in
-    ap₂ (λ (x y : Corner). stretchesShare (entries d s) x (entries d t) y) (sym (seen-point d offsetBound (down o))) e
-    ∙ entries-share d s (point d offsetBound (down o)) t (point d k (up o))
+    ap₂ (λ (x y : Corner). stretchesMeet g (entries d s) x (entries d t) y) (sym (seen-point d offsetBound (down o))) e
+    ∙ entries-conflict g d s (point d offsetBound (down o)) t (point d k (up o))

@@ -9,11 +9,11 @@ use Rattle.model.specs.declared.Refusal.{Refusal}
 use Rattle.list_laws.proofs.Lists.{nothing-before}
 use Rattle.strip_laws.proofs.Runs.{runs-agree}
 use Rattle.pair_overlap.specs.declared.Corner.{Corner}
-use Rattle.pair_nofit.specs.Marks.{flagsFrom, sharesAt, marksOf}
+use Rattle.pair_nofit.specs.Marks.{flagsFrom, meetsAt, marksOf}
 use Rattle.pair_nofit.proofs.Marked.{flags-length, flags-at}
 use Rattle.model.specs.Answers.{countAnswer}
 use Rattle.pair_nofit_calls.specs.Lines.{lowCorner, highCorner, lineRuns, lineOutcome, lineAfter}
-use Rattle.pair_runs.specs.Runs.{offsetEntry, offsetCount, marked, Put}
+use Rattle.pair_runs.specs.Runs.{offsetEntry, offsetCount, farthest, marked, Put}
 use Rattle.model.specs.declared.NumberAnswer.{NumberAnswer}
 
 -- a flag is 1 exactly where the number passes
@@ -28,19 +28,19 @@ flag-runs f n =
     ∙ runs-agree (marked (flagsFrom f 0 n)) f n (λ k l. ap (λ (z : ℕ). eqb z 1) (flags-at f n k l) ∙ flag-one (f k))
 
 -- the runs of the marks are the line's
-pub marks-line : (es fs : List (List ℕ)) (o : ℤ) (x y n : ℕ) (marks : List ℕ) → x ≡ min (down o) 255 → y ≡ min (up o) 255 → n ≡ offsetCount
-    → marks ≡ marksOf es (record { along = offsetBound; across = x }) fs (record { along = 0; across = y }) n
-    → runs (marked marks) (length marks) ≡ lineRuns es fs o
-marks-line es fs o x y n marks a b c e =
+pub marks-line : (g : ℕ) (es fs : List (List ℕ)) (o : ℤ) (x y n : ℕ) (marks : List ℕ) → x ≡ min (down o) farthest → y ≡ min (up o) farthest → n ≡ offsetCount
+    → marks ≡ marksOf g es (record { along = offsetBound; across = x }) fs (record { along = 0; across = y }) n
+    → runs (marked marks) (length marks) ≡ lineRuns g es fs o
+marks-line g es fs o x y n marks a b c e =
     let u : ℕ → Corner = λ z. record { along = offsetBound; across = z } in
     let v : ℕ → Corner = λ z. record { along = 0; across = z } in
-    let f : marks ≡ marksOf es (lowCorner o) fs (highCorner o) offsetCount = e ∙ (λ i. marksOf es (u (a i)) fs (v (b i)) (c i)) in
-    ap (λ (z : List ℕ). runs (marked z) (length z)) f ∙ flag-runs (sharesAt es (lowCorner o) fs (highCorner o)) offsetCount
+    let f : marks ≡ marksOf g es (lowCorner o) fs (highCorner o) offsetCount = e ∙ (λ i. marksOf g es (u (a i)) fs (v (b i)) (c i)) in
+    ap (λ (z : List ℕ). runs (marked z) (length z)) f ∙ flag-runs (meetsAt g es (lowCorner o) fs (highCorner o)) offsetCount
 
 none-stored : (rs : List Run) (last : List (List ℤ)) (needed : ℕ) → Put rs [] 0 last needed → length last ≡ 0
 none-stored rs last needed p = ap length (p .stored) ∙ length-sets [] 0 (map offsetEntry rs)
 
-module _ (es fs : List (List ℕ)) (o : ℤ) (rs : List Run) (r : rs ≡ lineRuns es fs o) (before last : List (List ℤ)) (needed : ℕ)
+module _ (g : ℕ) (es fs : List (List ℕ)) (o : ℤ) (rs : List Run) (r : rs ≡ lineRuns g es fs o) (before last : List (List ℤ)) (needed : ℕ)
     (p : Put rs [] 0 last needed) where
   -- what the buffer holds after the count: what it held
   pub counted-same : last ++ before ≡ before
@@ -48,23 +48,24 @@ module _ (es fs : List (List ℕ)) (o : ℤ) (rs : List Run) (r : rs ≡ lineRun
 
   -- no room: refused
   pub line-short : length (last ++ before) < needed → (w : Refusal) → w ≡ plainRefusal wrongLength
-      → (NumberAnswer.Refused w ≡ countAnswer (lineOutcome es fs o (length before))) × (last ++ before ≡ lineAfter before (lineOutcome es fs o (length before)))
+      → (NumberAnswer.Refused w ≡ countAnswer (lineOutcome g es fs o (length before)))
+      × (last ++ before ≡ lineAfter before (lineOutcome g es fs o (length before)))
   unfolding unless
   line-short l w e =
-      let t : ltb (length before) (length (lineRuns es fs o)) ≡ true =
-      lt-ltb (length before) (length (lineRuns es fs o)) (omega (arith, p .end, ap length r, ap length counted-same)) in
-      let g : lineOutcome es fs o (length before) ≡ refused (plainRefusal wrongLength) = rw (t, unless) in
-      (ap NumberAnswer.Refused e ∙ ap countAnswer (sym g), counted-same ∙ ap (lineAfter before) (sym g))
+      let t : ltb (length before) (length (lineRuns g es fs o)) ≡ true =
+      lt-ltb (length before) (length (lineRuns g es fs o)) (omega (arith, p .end, ap length r, ap length counted-same)) in
+      let f : lineOutcome g es fs o (length before) ≡ refused (plainRefusal wrongLength) = rw (t, unless) in
+      (ap NumberAnswer.Refused e ∙ ap countAnswer (sym f), counted-same ∙ ap (lineAfter before) (sym f))
 
   -- room: given
   pub line-room : needed ≤ length (last ++ before) → (after : List (List ℤ)) (n : ℕ) → Put rs (last ++ before) 0 after n
-      → (NumberAnswer.Number n ≡ countAnswer (lineOutcome es fs o (length before))) × (after ≡ lineAfter before (lineOutcome es fs o (length before)))
+      → (NumberAnswer.Number n ≡ countAnswer (lineOutcome g es fs o (length before))) × (after ≡ lineAfter before (lineOutcome g es fs o (length before)))
   unfolding unless
   line-room l after n q =
-      let t : ltb (length before) (length (lineRuns es fs o)) ≡ false =
-      le-ltb (length before) (length (lineRuns es fs o)) (omega (arith, p .end, ap length r, ap length counted-same)) in
-      let g : lineOutcome es fs o (length before) ≡ given (lineRuns es fs o) = rw (t, unless) in
-      let m : n ≡ length (lineRuns es fs o) = omega (arith, q .end, ap length r) in (
-        ap NumberAnswer.Number m ∙ ap countAnswer (sym g),
-        q .stored ∙ ap₂ (λ (b : List (List ℤ)) (z : List Run). sets b 0 (map offsetEntry z)) counted-same r ∙ ap (lineAfter before) (sym g),
+      let t : ltb (length before) (length (lineRuns g es fs o)) ≡ false =
+      le-ltb (length before) (length (lineRuns g es fs o)) (omega (arith, p .end, ap length r, ap length counted-same)) in
+      let f : lineOutcome g es fs o (length before) ≡ given (lineRuns g es fs o) = rw (t, unless) in
+      let m : n ≡ length (lineRuns g es fs o) = omega (arith, q .end, ap length r) in (
+        ap NumberAnswer.Number m ∙ ap countAnswer (sym f),
+        q .stored ∙ ap₂ (λ (b : List (List ℤ)) (z : List Run). sets b 0 (map offsetEntry z)) counted-same r ∙ ap (lineAfter before) (sym f),
       )

@@ -8,28 +8,28 @@ use lib.Seq.{sets}
 use Rattle.model.specs.Strip.{Run, runs}
 use Rattle.model.specs.Overlap.{offsetBound, up, down}
 use Rattle.model.specs.Refusal.{Outcome, Cause, cause, unless, noSuchPiece, notOurs}
-use Rattle.model.specs.Lent.{Lent, jobOf, sideBound}
+use Rattle.model.specs.Lent.{Lent, jobOf}
 use Rattle.model.specs.Calls.{LentStretch, known, stretchWell, jobCause, atLeast, leaving}
 use Rattle.model.specs.declared.Direction.{Direction}
 use Rattle.model.specs.declared.Turn.{Turn}
 use Rattle.pair_overlap.specs.declared.Corner.{Corner}
-use Rattle.pair_nofit.specs.Marks.{sharesAt}
-use Rattle.pair_runs.specs.Runs.{offsetEntry, offsetCount}
+use Rattle.pair_nofit.specs.Marks.{meetsAt}
+use Rattle.pair_runs.specs.Runs.{offsetEntry, offsetCount, farthest}
 
--- the corners at which the marks are a no-fit line's; offsets of 255 and more have none
+-- the corners at which the marks are a no-fit line's; at offsets across of 263 and more no pieces conflict
 abbrev pub lowCorner : ℤ → Corner
-lowCorner o = record { along = offsetBound; across = min (down o) sideBound }
+lowCorner o = record { along = offsetBound; across = min (down o) farthest }
 
 abbrev pub highCorner : ℤ → Corner
-highCorner o = record { along = 0; across = min (up o) sideBound }
+highCorner o = record { along = 0; across = min (up o) farthest }
 
--- the runs of the offsets at which two stretches share a pixel
-abbrev pub lineRuns : List (List ℕ) → List (List ℕ) → ℤ → List Run
-lineRuns es fs o = runs (sharesAt es (lowCorner o) fs (highCorner o)) offsetCount
+-- the runs of the offsets at which strips of two stretches are at most g apart
+abbrev pub lineRuns : ℕ → List (List ℕ) → List (List ℕ) → ℤ → List Run
+lineRuns g es fs o = runs (meetsAt g es (lowCorner o) fs (highCorner o)) offsetCount
 
 -- they are given where there is room for them
-abbrev pub lineOutcome : List (List ℕ) → List (List ℕ) → ℤ → ℕ → Outcome (List Run)
-lineOutcome es fs o room = unless (atLeast (length (lineRuns es fs o)) room ∷ []) (lineRuns es fs o)
+abbrev pub lineOutcome : ℕ → List (List ℕ) → List (List ℕ) → ℤ → ℕ → Outcome (List Run)
+lineOutcome g es fs o room = unless (atLeast (length (lineRuns g es fs o)) room ∷ []) (lineRuns g es fs o)
 
 -- what the run buffer then holds
 abbrev pub lineAfter : List (List ℤ) → Outcome (List Run) → List (List ℤ)

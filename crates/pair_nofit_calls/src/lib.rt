@@ -1,4 +1,4 @@
-// No-fit rows and columns of two pieces, from their lent stretches. Document 01, 'No-fit rows and penalty'.
+// No-fit rows and columns of two pieces, from their lent stretches. Document 01, 'No-fit rows and penalty', and document 02, point 4.
 use layout_places::known;
 use model::ColumnOffset;
 use model::Direction;
@@ -21,7 +21,7 @@ ghost use mathlib.Core.Path.{_≡_};
 ghost use Prim.Native.Nat.{_≤_};
 ghost use lib.ListN.{length};
 ghost use Rattle.model.specs.Answers.{countAnswer, firstCause};
-ghost use Rattle.model.specs.Lent.{lentBy, jobOf, pixelStart, pieceBound};
+ghost use Rattle.model.specs.Lent.{lentBy, jobOf, pixelStart, pieceBound, gapBound};
 ghost use Rattle.model.specs.Calls.{stretchWell, noFitCall, runsAfter};
 ghost use Rattle.model.specs.declared.JobSize.{JobSize};
 ghost use Rattle.job_laws.specs.Entries.{EntryAt};
@@ -37,11 +37,17 @@ pub struct PieceInTurn {
     pub turn: Turn,
 }
 
-// Puts the no-fit line of two stretches at an offset into the buffer, if there is room for it, and tells how many runs it has.
-fn put_line(a: &[StripEntry], b: &[StripEntry], offset: i32, out: &mut [[i32; 2]]) -> NumberAnswer
-    requires { ⌜ Ordered (now a) ⌝ ∗ ⌜ Ordered (now b) ⌝ }
-    ensures answer { λ r. ⌜ r ≡ countAnswer (lineOutcome (now (a .entry)) (now (b .entry)) offset (length (now (out .entry)))) ⌝ }
-    ensures memory { λ r. ⌜ now (out .exit) ≡ lineAfter (now (out .entry)) (lineOutcome (now (a .entry)) (now (b .entry)) offset (length (now (out .entry)))) ⌝ }
+// Puts the no-fit line of two stretches by a gap, at an offset, into the buffer, if there is room for it, and tells how many runs it has.
+fn put_line(
+    a: &[StripEntry],
+    b: &[StripEntry],
+    gap: u32,
+    offset: i32,
+    out: &mut [[i32; 2]],
+) -> NumberAnswer
+    requires { ⌜ Ordered (now a) ⌝ ∗ ⌜ Ordered (now b) ⌝ ∗ ⌜ gap ≤ gapBound ⌝ }
+    ensures answer { λ r. ⌜ r ≡ countAnswer (lineOutcome gap (now (a .entry)) (now (b .entry)) offset (length (now (out .entry)))) ⌝ }
+    ensures memory { λ r. ⌜ now (out .exit) ≡ lineAfter (now (out .entry)) (lineOutcome gap (now (a .entry)) (now (b .entry)) offset (length (now (out .entry)))) ⌝ }
 {
     let u = Corner {
         along: OFFSET_BOUND,
@@ -52,7 +58,7 @@ fn put_line(a: &[StripEntry], b: &[StripEntry], offset: i32, out: &mut [[i32; 2]
         across: up(offset),
     };
     let mut marks = [0u16; OFFSET_COUNT];
-    pair_nofit::mark_shifts(a, u, b, v, &mut marks);
+    pair_nofit::mark_shifts(a, u, b, v, gap, &mut marks);
     let needed = put_runs(&marks, &mut out[..0]);
     if out.len() < needed {
         return NumberAnswer::Refused(plain_refusal(7));
@@ -141,11 +147,14 @@ fn no_fit(
 {
     match stretch_causes(size, table, pixels, first, a, second, b, direction) {
         DoneAnswer::Refused(refusal) => NumberAnswer::Refused(refusal),
-        DoneAnswer::Done => put_line(a, b, offset, out),
+        DoneAnswer::Done => {
+            let gap = size.gap as u32;
+            put_line(a, b, gap, offset, out)
+        }
     }
 }
 
-// The no-fit row of two pieces in their turns at a row offset, from their row strips: the column offsets at which they share a pixel.
+// The no-fit row of two pieces in their turns at a row offset, from their row strips: the column offsets at which they conflict.
 pub fn no_fit_row(
     size: JobSize,
     table: &[PieceEntry],
@@ -174,8 +183,7 @@ pub fn no_fit_row(
     )
 }
 
-// The no-fit column of two pieces in their turns at a column offset, from their column strips: the row offsets at which they share
-// a pixel.
+// The no-fit column of two pieces in their turns at a column offset, from their column strips: the row offsets at which they conflict.
 pub fn no_fit_column(
     size: JobSize,
     table: &[PieceEntry],

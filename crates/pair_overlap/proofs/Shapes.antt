@@ -1,7 +1,6 @@
--- What the definitions over lent stretches come to for the strips of pixel sets, in every direction: the stretches share a pixel
--- exactly when the placed sets do, and the bounded depth is document 01's, cut off at the bound. Strips hold just the pixels of
--- their set, so a common pixel of two strips is a shared pixel, and a shared pixel lies in a strip of each.
--- Assumes nothing.
+-- What the definitions over lent stretches come to for the strips of pixel sets, in every direction: two strips are at most the gap apart exactly
+-- when the placed sets conflict, and the bounded depth is the sets', cut off at the bound. Strips hold just the pixels of their set, so two strips
+-- at most the gap apart have two pixels that are, and two such pixels each lie in a strip. Assumes nothing.
 use Rattle.list_laws.proofs.Kit.{_∙_, _≡_, ap, ap₂, refl, subst, subst₂, sym, Bool, _||_, not, true, ⊎-elim, List, List·Memᴰ, List·Memᴰ·head}
 use Rattle.list_laws.proofs.Kit.{List·Memᴰ·not-nil, List·Memᴰ·tail, [], _∷_, map, _+_, _-_, _<_, _≤_, min, suc, zero, ℕ, eq-or-lt-of-le, le-of-suc-le-suc}
 use Rattle.list_laws.proofs.Kit.{not-suc-le-zero, arith, getD, length}
@@ -9,7 +8,7 @@ use Rattle.model.specs.Bounded.{firstFrom}
 use Rattle.model.specs.Piece.{Point, Shape, along, across, point, shift, extent}
 use Rattle.model.specs.Strip.{Strip, strips}
 use Rattle.model.specs.Buffer.{stripEntry}
-use Rattle.model.specs.Overlap.{share, apartAt, depth}
+use Rattle.model.specs.Overlap.{share, conflict, apartAt, depth, conflictDepth}
 use Rattle.model.specs.declared.Direction.{Direction}
 use Rattle.list_laws.proofs.Firsts.{FirstBelow, first-found, first-unique}
 use Rattle.list_laws.proofs.Numbers.{below-or}
@@ -18,13 +17,14 @@ use Rattle.list_laws.proofs.Tests.{or-left, or-right, same-tests}
 use Rattle.strip_laws.proofs.Lists.{pairwise-at}
 use Rattle.strip_laws.specs.Strips.{MaximalStrip, StripBefore}
 use Rattle.strip_laws.proofs.Strips.{InStrips, have-in, strips-exactly, strips-maximal, strips-ordered}
-use Rattle.overlap_laws.specs.Overlap.{SharedPixel}
-use Rattle.overlap_laws.proofs.Share.{share-witness, share-from, share-symmetric, shared-along, shared-across, shared-over, along-point, across-point}
-use Rattle.overlap_laws.proofs.Share.{along-shift, across-shift}
+use Rattle.overlap_laws.specs.Overlap.{NearPixels}
+use Rattle.overlap_laws.specs.Grown.{grown}
+use Rattle.overlap_laws.proofs.Share.{share-symmetric, along-point, across-point, along-shift, across-shift}
 use Rattle.overlap_laws.proofs.Depth.{depth-before, depth-apart}
-use Rattle.pair_overlap.specs.Meet.{stripAt, stripBegin, Ordered, shifted, meet, stretchesShare, clearAt, clearBelow, depthBelow}
+use Rattle.overlap_laws.proofs.Grown.{conflict-witness, conflict-from, near-along, near-across, near-over, conflict-grown, depth-grown}
+use Rattle.pair_overlap.specs.Meet.{stripAt, stripBegin, Ordered, shifted, meet, stretchesMeet, clearAt, clearBelow, depthBelow}
 pub use Rattle.pair_overlap.specs.Seen.{entries, seen}
-use Rattle.pair_overlap.proofs.Walk.{Meeting, meet-facts, facts-meet, meet-share, StripsMeet, share-meet}
+use Rattle.pair_overlap.proofs.Walk.{Meeting, meet-facts, facts-meet, meet-stretches, StripsMeet, stretches-meet}
 
 -- ── strips by place ──
 
@@ -90,43 +90,50 @@ entries-ordered d s h =
       short = λ i l. let w = strips-maximal d s _ (at-member (strips d s) i l) .within in omega arith;
     }
 
--- ── shared pixels ──
+-- ── pixels at most g apart ──
 
-module _ (d : Direction) (s : Shape) (u : Point) (t : Shape) (v : Point) where
-  -- two strips' pixels at one place
-  strips-pixel : (p q : Strip) → MaximalStrip d s p → MaximalStrip d t q → p .line + across d u ≡ q .line + across d v
+module _ (g : ℕ) (d : Direction) (s : Shape) (u : Point) (t : Shape) (v : Point) where
+  -- two strips' pixels at most g apart
+  strips-pixel : (p q : Strip) → MaximalStrip d s p → MaximalStrip d t q → Meeting g p (seen d u) q (seen d v)
       → (a b : ℕ) → p .first ≤ a → a < p .first + p .count → q .first ≤ b → b < q .first + q .count
-      → along d u + a ≡ along d v + b → SharedPixel s u t v
-  strips-pixel p q m n e a b al ah bl bh f =
-      shared-over d s u t v (point d a (p .line)) (point d b (q .line)) (m .pixels a al ah) (n .pixels b bl bh)
+      → along d u + a ≤ along d v + b + g → along d v + b ≤ along d u + a + g → NearPixels g s u t v
+  strips-pixel p q m n w a b al ah bl bh e f =
+      let above = w .above in
+      let below = w .below in
+      near-over d g s u t v (point d a (p .line)) (point d b (q .line)) (m .pixels a al ah) (n .pixels b bl bh)
+      (omega (arith, along-point d a (p .line), along-point d b (q .line)))
       (omega (arith, along-point d a (p .line), along-point d b (q .line)))
       (omega (arith, across-point d a (p .line), across-point d b (q .line)))
+      (omega (arith, across-point d a (p .line), across-point d b (q .line)))
 
-  -- two strips that hold a common pixel share it: the later of the two firsts is one
-  meeting-shared : (p q : Strip) → MaximalStrip d s p → MaximalStrip d t q → Meeting p (seen d u) q (seen d v) → SharedPixel s u t v
-  meeting-shared p q m n w =
+  -- two strips at most g apart have two such pixels: the first pixel of the one that begins later, and of the other the pixel there or, where it
+  -- ends before, its last
+  meeting-near : (p q : Strip) → MaximalStrip d s p → MaximalStrip d t q → Meeting g p (seen d u) q (seen d v) → NearPixels g s u t v
+  meeting-near p q m n w =
       let a = m .some in
       let b = n .some in
       let l = w .low in
       let h = w .high in
       ⊎-elim
       (λ (e : q .first + along d v < p .first + along d u).
-      strips-pixel p q m n (w .line) (p .first) (p .first + along d u - along d v) (omega arith) (omega arith) (omega arith) (omega arith) (omega arith))
+      strips-pixel p q m n w (p .first) (min (p .first + along d u - along d v) (q .first + q .count - 1)) (omega arith) (omega arith) (omega arith)
+      (omega arith) (omega arith) (omega arith))
       (λ (e : p .first + along d u ≤ q .first + along d v).
-      strips-pixel p q m n (w .line) (q .first + along d v - along d u) (q .first) (omega arith) (omega arith) (omega arith) (omega arith) (omega arith))
+      strips-pixel p q m n w (min (q .first + along d v - along d u) (p .first + p .count - 1)) (q .first) (omega arith) (omega arith) (omega arith)
+      (omega arith) (omega arith) (omega arith))
       (below-or (q .first + along d v) (p .first + along d u))
 
-  stretches-shared : stretchesShare (entries d s) (seen d u) (entries d t) (seen d v) ≡ true → share s u t v ≡ true
-  stretches-shared e =
-      let m : StripsMeet (entries d s) (seen d u) (entries d t) (seen d v) = share-meet (entries d s) (seen d u) (entries d t) (seen d v) e in
-      share-from s u t v
-      (meeting-shared _ _ (strips-maximal d s _ (at-member (strips d s) (m .i) (m .iBelow)))
+  stretches-near : stretchesMeet g (entries d s) (seen d u) (entries d t) (seen d v) ≡ true → conflict g s u t v ≡ true
+  stretches-near e =
+      let m : StripsMeet g (entries d s) (seen d u) (entries d t) (seen d v) = stretches-meet g (entries d s) (seen d u) (entries d t) (seen d v) e in
+      conflict-from g s u t v
+      (meeting-near _ _ (strips-maximal d s _ (at-member (strips d s) (m .i) (m .iBelow)))
       (strips-maximal d t _ (at-member (strips d t) (m .j) (m .jBelow)))
-      (meet-facts _ (seen d u) _ (seen d v) (m .meets)))
+      (meet-facts g _ (seen d u) _ (seen d v) (m .meets)))
 
-  shared-stretches : share s u t v ≡ true → stretchesShare (entries d s) (seen d u) (entries d t) (seen d v) ≡ true
-  shared-stretches e =
-      let w : SharedPixel s u t v = share-witness s u t v e in
+  near-stretches : conflict g s u t v ≡ true → stretchesMeet g (entries d s) (seen d u) (entries d t) (seen d v) ≡ true
+  near-stretches e =
+      let w : NearPixels g s u t v = conflict-witness g s u t v e in
       let p : InStrips d (strips d s) (w .p) = have-in d (strips d s) (w .p) (strips-exactly d s (w .p) ∙ w .ofFirst) in
       let q : InStrips d (strips d t) (w .q) = have-in d (strips d t) (w .q) (strips-exactly d t (w .q) ∙ w .ofSecond) in
       let i : PlaceOf (p .strip) (strips d s) = place-of (p .strip) (strips d s) (p .listed) in
@@ -137,18 +144,19 @@ module _ (d : Direction) (s : Shape) (u : Point) (t : Shape) (v : Point) where
       let ah = p .high in
       let bl = q .low in
       let bh = q .high in
-      let f = shared-along d w in
-      let g = shared-across d w in
-      let m : meet (p .strip) (seen d u) (q .strip) (seen d v) ≡ true =
-      facts-meet (p .strip) (seen d u) (q .strip) (seen d v) record { line = omega arith; low = omega arith; high = omega arith } in
-      meet-share (entries d s) (seen d u) (entries d t) (seen d v) (i .number) (j .number) (i .below) (j .below)
-      (subst₂ (λ (x y : Strip). meet x (seen d u) y (seen d v) ≡ true) (sym (i .is)) (sym (j .is)) m)
+      let f = near-along d w in
+      let h = near-across d w in
+      let m : meet g (p .strip) (seen d u) (q .strip) (seen d v) ≡ true =
+      facts-meet g (p .strip) (seen d u) (q .strip) (seen d v)
+      record { above = omega arith; below = omega arith; low = omega arith; high = omega arith } in
+      meet-stretches g (entries d s) (seen d u) (entries d t) (seen d v) (i .number) (j .number) (i .below) (j .below)
+      (subst₂ (λ (x y : Strip). meet g x (seen d u) y (seen d v) ≡ true) (sym (i .is)) (sym (j .is)) m)
 
-  -- the strips of two placed sets hold a common pixel exactly when the sets share one
-  pub entries-share : stretchesShare (entries d s) (seen d u) (entries d t) (seen d v) ≡ share s u t v
-  entries-share = same-tests _ _ stretches-shared shared-stretches
+  -- some strips of two placed sets are at most g apart exactly when the sets conflict
+  pub entries-conflict : stretchesMeet g (entries d s) (seen d u) (entries d t) (seen d v) ≡ conflict g s u t v
+  entries-conflict = same-tests _ _ stretches-near near-stretches
 
--- ── depth and penalty ──
+-- ── the depth: that of the shapes grown by the gap ──
 
 -- a shifted corner
 seen-shift : (d : Direction) (k : ℕ) (v : Point) → shifted k (seen d v) ≡ seen d (shift d k v)
@@ -157,28 +165,31 @@ seen-shift d k v =
     let f : across d v ≡ across d (shift d k v) = sym (across-shift d k v) in
     λ i. record { along = e i; across = f i }
 
-module _ (d : Direction) (s : Shape) (u : Point) (t : Shape) (v : Point) where
-  -- the stretches are clear at k exactly when the sets share no pixel once the second is shifted by k
-  clear-share : (k : ℕ) → clearAt (entries d s) (seen d u) (entries d t) (seen d v) k ≡ not (share s u t (shift d k v))
+module _ (g : ℕ) (d : Direction) (s : Shape) (u : Point) (t : Shape) (v : Point) where
+  -- the stretches are clear at k exactly when the grown shapes share no pixel once the second is shifted by k
+  clear-share : (k : ℕ) → clearAt g (entries d s) (seen d u) (entries d t) (seen d v) k ≡ not (share (grown g s) u (grown g t) (shift d k v))
   clear-share k =
-      ap not (ap (stretchesShare (entries d s) (seen d u) (entries d t)) (seen-shift d k v) ∙ entries-share d s u t (shift d k v))
+      ap not
+      (ap (stretchesMeet g (entries d s) (seen d u) (entries d t)) (seen-shift d k v)
+      ∙ entries-conflict g d s u t (shift d k v)
+      ∙ conflict-grown g s u t (shift d k v))
 
-module _ (d : Direction) (s : Shape) (u : Point) (t : Shape) (v : Point) where
+module _ (g : ℕ) (d : Direction) (s : Shape) (u : Point) (t : Shape) (v : Point) where
   -- apart at k exactly when one of the two is clear at k
-  apart-clear : (k : ℕ) → apartAt d s u t v k
-      ≡ (clearAt (entries d s) (seen d u) (entries d t) (seen d v) k || clearAt (entries d t) (seen d v) (entries d s) (seen d u) k)
+  apart-clear : (k : ℕ) → apartAt d (grown g s) u (grown g t) v k
+      ≡ (clearAt g (entries d s) (seen d u) (entries d t) (seen d v) k || clearAt g (entries d t) (seen d v) (entries d s) (seen d u) k)
   unfolding apartAt
   apart-clear k =
       sym
-      (ap₂ _||_ (clear-share d s u t v k) (clear-share d t v s u k ∙ ap not (share-symmetric t v s (shift d k u))))
+      (ap₂ _||_ (clear-share g d s u t v k) (clear-share g d t v s u k ∙ ap not (share-symmetric (grown g t) v (grown g s) (shift d k u))))
 
   -- the lesser of the two least shifts is the first at which they are apart
   depth-first : (bound : ℕ)
-      → FirstBelow (apartAt d s u t v) bound (depthBelow (entries d s) (seen d u) (entries d t) (seen d v) bound)
+      → FirstBelow (apartAt d (grown g s) u (grown g t) v) bound (depthBelow g (entries d s) (seen d u) (entries d t) (seen d v) bound)
   unfolding clearBelow
   depth-first bound =
-      let f : ℕ → Bool = clearAt (entries d s) (seen d u) (entries d t) (seen d v) in
-      let g : ℕ → Bool = clearAt (entries d t) (seen d v) (entries d s) (seen d u) in
+      let f : ℕ → Bool = clearAt g (entries d s) (seen d u) (entries d t) (seen d v) in
+      let g : ℕ → Bool = clearAt g (entries d t) (seen d v) (entries d s) (seen d u) in
       let p = firstFrom f 0 bound in
       let q = firstFrom g 0 bound in
       let a : FirstBelow f bound p = first-found f bound in
@@ -197,16 +208,19 @@ module _ (d : Direction) (s : Shape) (u : Point) (t : Shape) (v : Point) where
       }
 
   -- the depth, cut off at the bound, is the first shift at which they are apart
-  pub depth-cut-first : (bound : ℕ) → FirstBelow (apartAt d s u t v) bound (min (depth d s u t v) bound)
+  depth-cut-first : (bound : ℕ) → FirstBelow (apartAt d (grown g s) u (grown g t) v) bound (min (depth d (grown g s) u (grown g t) v) bound)
   unfolding apartAt
   depth-cut-first bound =
+      let deep = depth d (grown g s) u (grown g t) v in
       record {
         within = omega arith;
-        before = λ k m. let both = depth-before d s u t v k (omega arith) in ap₂ _||_ (ap not (both .0)) (ap not (both .1));
-        passing = λ m. let e : min (depth d s u t v) bound ≡ depth d s u t v = omega arith in rw e (depth-apart d s u t v);
+        before = λ k m. let both = depth-before d (grown g s) u (grown g t) v k (omega arith) in ap₂ _||_ (ap not (both .0)) (ap not (both .1));
+        passing = λ m. let e : min deep bound ≡ deep = omega arith in rw e (depth-apart d (grown g s) u (grown g t) v);
       }
 
   -- the bounded depth of the strips is the depth, cut off at the bound
-  pub entries-depth : (bound : ℕ) → depthBelow (entries d s) (seen d u) (entries d t) (seen d v) bound ≡ min (depth d s u t v) bound
+  pub entries-depth : (bound : ℕ) → depthBelow g (entries d s) (seen d u) (entries d t) (seen d v) bound ≡ min (conflictDepth g d s u t v) bound
   entries-depth bound =
-      first-unique (apartAt d s u t v) bound _ (depth-first bound) ∙ sym (first-unique (apartAt d s u t v) bound _ (depth-cut-first bound))
+      first-unique (apartAt d (grown g s) u (grown g t) v) bound _ (depth-first bound)
+      ∙ sym (first-unique (apartAt d (grown g s) u (grown g t) v) bound _ (depth-cut-first bound))
+      ∙ ap (λ (z : ℕ). min z bound) (sym (depth-grown g d s u t v))

@@ -17,7 +17,7 @@ put-past end zero at before l h = absurd (omega arith)
 put-past end (suc n) at before l h = record { end = refl; stored = sym (set-out before at _ h) }
 
 -- stored
-pub put-one : (end count at : ℕ) (before : List (List ℤ)) (first many : ℤ) → 0 < count → first ≡ subℕ (end - count) 254 → many ≡ pos count
+pub put-one : (end count at : ℕ) (before : List (List ℤ)) (first many : ℤ) → 0 < count → first ≡ subℕ (end - count) 262 → many ≡ pos count
     → Put (closing end count []) before at (set before at (first ∷ many ∷ [])) (at + 1)
 put-one end zero at before first many l e f = absurd (omega arith)
 put-one end (suc n) at before first many l e f =

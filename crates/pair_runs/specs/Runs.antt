@@ -8,12 +8,16 @@ use lib.IntN.{ℤ}
 use lib.ListN.{length, getD}
 use lib.Seq.{sets}
 use Rattle.model.specs.Strip.{Run}
-use Rattle.model.specs.Overlap.{unbiased}
+use Rattle.model.specs.Overlap.{unbiased, offsetBound}
 use Rattle.model.specs.Buffer.{runEntry}
 
--- the number of offsets of a no-fit line: from -254 to 254
+-- the number of offsets of a no-fit line: from -262 to 262
 abbrev pub offsetCount : ℕ
-offsetCount = 509
+offsetCount = 525
+
+-- an offset that goes so far either way parts any two pieces, whatever the gap
+abbrev pub farthest : ℕ
+farthest = offsetBound + 1
 
 -- a run of biased offsets as an entry of a run buffer
 abbrev pub offsetEntry : Run → List ℤ

@@ -6,34 +6,32 @@ ghost use lib.IntN.{subℕ};
 ghost use lib.ListN.{length};
 ghost use Rattle.model.specs.Strip.{runs, closing};
 ghost use Rattle.model.specs.Overlap.{up, down, offsetBound};
-ghost use Rattle.pair_runs.specs.Runs.{offsetCount, marked, Put};
-ghost use Rattle.model.specs.Lent.{sideBound};
+ghost use Rattle.pair_runs.specs.Runs.{offsetCount, farthest, marked, Put};
 use model::OFFSET_BOUND;
-use model::SIDE_BOUND;
 
 // What an offset is counted from.
 const OFFSET_BIAS: i32 = OFFSET_BOUND as i32;
 
-// Offsets across that go this far, or farther, share no pixel.
-const FARTHEST: u32 = SIDE_BOUND as u32;
+// At offsets across that go this far, or farther, no pieces conflict by any gap.
+const FARTHEST: u32 = OFFSET_BOUND + 1;
 
 // The same upwards.
-const FARTHEST_UP: i32 = SIDE_BOUND as i32;
+const FARTHEST_UP: i32 = OFFSET_BIAS + 1;
 
 // And downwards.
 const FARTHEST_DOWN: i32 = 0 - FARTHEST_UP;
 
 // A biased offset as a signed one.
 fn unbiased(k: u32) -> i32
-    requires { ⌜ k < 512 ⌝ }
+    requires { ⌜ k < 1024 ⌝ }
     ensures { λ r. ⌜ r ≡ subℕ k offsetBound ⌝ }
 {
     (k as i32) - OFFSET_BIAS
 }
 
-// How far an offset goes up, up to 255.
+// How far an offset goes up, up to 263.
 pub fn up(o: i32) -> u32
-    ensures { λ r. ⌜ r ≡ min (up o) sideBound ⌝ }
+    ensures { λ r. ⌜ r ≡ min (up o) farthest ⌝ }
 {
     if o < 0 {
         return 0;
@@ -44,9 +42,9 @@ pub fn up(o: i32) -> u32
     o as u32
 }
 
-// How far an offset goes down, up to 255.
+// How far an offset goes down, up to 263.
 pub fn down(o: i32) -> u32
-    ensures { λ r. ⌜ r ≡ min (down o) sideBound ⌝ }
+    ensures { λ r. ⌜ r ≡ min (down o) farthest ⌝ }
 {
     if 0 <= o {
         return 0;

@@ -11,7 +11,7 @@ use Rattle.text_laws.proofs.Entries.{layout-set}
 -- ── slots ──
 
 -- as many slots as the bytes have room for
-pub slots-of : (width : ℕ) → 68 ≤ width → width ≤ 514 → Slots width (524288 / width)
+pub slots-of : (width : ℕ) → 68 ≤ width → width ≤ 530 → Slots width (524288 / width)
 slots-of width low high =
     let whole : 524288 / width * width + 524288 % width ≡ 524288 = div-add-mod' 524288 width in
     let rest : 524288 % width < width = mod-lt 524288 (omega arith) in

@@ -321,7 +321,7 @@ pub fn with_strips(
     requires { ⌜ Given (lentBy size (now table) (now pixels)) (now layout) (now weights) ⌝ ∗ ⌜ PlanInRange plan ⌝ }
     ensures { λ r. ⌜ Done (lentBy size (now (table .entry)) (now (pixels .entry))) (now (layout .entry)) (now (weights .entry)) plan r (now (layout .exit)) (now (weights .exit)) ⌝ }
 {
-    let mut penalties = penalties_of(table, pixels, layout);
+    let mut penalties = penalties_of(size, table, pixels, layout);
     let mut trials = [0u16; TRIAL_BOUND];
     let count = make_trials(size, table, &mut trials);
     let mut strips = empty_store();

@@ -23,7 +23,7 @@ across-other Vertical p = refl
 module _ (l : Lent) (v : Layout) (m : Mover) (t : Track) (s : StandingPiece) (k : ℕ) (track : OnTrack l m t)
     (standing : IsStanding (jobOf l) v (lineDirection (m .line)) k s)
   where
-    -- pieces that share a pixel have boxes that meet
+    -- grown pieces that share a pixel have boxes that meet
     meeting-boxes : (a : ℕ) → meets (jobOf l) v (m .piece) (m .turn) (m .line) a k ≡ true → BoxesMeet t s a
     meeting-boxes a e =
         let x = meets-along (jobOf l) v (m .piece) (m .turn) (m .line) a k e in

@@ -5,7 +5,8 @@ use mathlib.Core.Path.{_≡_}
 use Prim.Native.Nat.{ℕ, _+_, _-_, _<_, _≤_}
 use lib.ListN.{length, getD}
 use Rattle.model.specs.Piece.{along, extent, lineDirection}
-use Rattle.model.specs.Layout.{Job, Layout, turnedPiece, shapeIn, cornerIn}
+use Rattle.model.specs.Layout.{Job, Layout, cornerIn}
+use Rattle.overlap_laws.specs.Grown.{grownPiece, grownIn}
 use Rattle.search_laws.specs.PieceSum.{penaltyOn}
 use Rattle.search_laws.specs.Lines.{linePlaces}
 use Rattle.search_bits.specs.Bit.{bitAt}
@@ -27,7 +28,7 @@ pub record NearTold (j : Job) (v : Layout) (m : Mover) (n near : ℕ) : Type 0 w
 
 -- from place r on the bytes are the penalties of the mover and piece k
 pub record LineRead (j : Job) (v : Layout) (m : Mover) (k : ℕ) (lines : List ℕ) (r : ℕ) : Type 0 where
-  pub within : r + linePlaces (lineDirection (m .line)) (turnedPiece j (m .piece) (m .turn)) (shapeIn j v k) ≤ length lines
-  pub at : (a c : ℕ) → c < linePlaces (lineDirection (m .line)) (turnedPiece j (m .piece) (m .turn)) (shapeIn j v k)
-      → c + along (lineDirection (m .line)) (cornerIn v k) ≡ a + (extent (lineDirection (m .line)) (turnedPiece j (m .piece) (m .turn)) - 1)
+  pub within : r + linePlaces (lineDirection (m .line)) (grownPiece j (m .piece) (m .turn)) (grownIn j v k) ≤ length lines
+  pub at : (a c : ℕ) → c < linePlaces (lineDirection (m .line)) (grownPiece j (m .piece) (m .turn)) (grownIn j v k)
+      → c + along (lineDirection (m .line)) (cornerIn v k) ≡ a + (extent (lineDirection (m .line)) (grownPiece j (m .piece) (m .turn)) - 1)
       → getD lines (r + c) 0 ≡ moverPenalty j v m a k

@@ -3,7 +3,7 @@
 use mathlib.Core.Bool.{true}
 use mathlib.Core.List.{List}
 use mathlib.Core.Path.{_≡_}
-use Prim.Native.Nat.{ℕ, _<_}
+use Prim.Native.Nat.{ℕ, _<_, _≤_}
 use Rattle.model.specs.Lent.{Lent, jobOf, lentWell}
 use Rattle.model.specs.Layout.{Job, Layout}
 use Rattle.model.specs.declared.Direction.{Direction}
@@ -28,6 +28,7 @@ pub record OnTrack (l : Lent) (m : Mover) (t : Track) : Type 0 where
   pub is : t ≡ trackOf (jobOf l) m
   pub small : SmallTrack t
   pub some : 0 < t .length
+  pub few : t .places ≤ 4096
   pub piece : m .piece < l .size .count
 
 -- the standing piece is piece k of the layout

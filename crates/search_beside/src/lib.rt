@@ -18,14 +18,14 @@ use search_tracks::reach_of;
 use search_tracks::standing_of;
 use search_tracks::track_of;
 ghost use mathlib.Core.Path.{_≡_};
+ghost use mathlib.Core.Logic.{_≢_};
 ghost use mathlib.Core.List.{List};
 ghost use Prim.Native.Nat.{ℕ, _+_, _-_, _<_, _≤_};
 ghost use lib.ListN.{length};
 ghost use Rattle.model.specs.Piece.{lineDirection, onLine};
-ghost use Rattle.model.specs.declared.JobSize.{JobSize};
 ghost use Rattle.model.specs.Layout.{Layout};
 ghost use Rattle.model.specs.Search.{places, movedTo};
-ghost use Rattle.model.specs.Lent.{lentBy, jobOf, pieceBound};
+ghost use Rattle.model.specs.Lent.{lentBy, jobOf, pieceBound, gapBound};
 ghost use Rattle.model.specs.Buffer.{layoutOf};
 ghost use Rattle.descent_laws.specs.LentLayout.{Laid};
 ghost use Rattle.search_laws.specs.Lines.{middle};
@@ -41,12 +41,18 @@ pub struct Sweep {
 }
 
 // Piece k beside the mover's line.
-pub fn beside(table: &[PieceEntry], layout: &[PlaceEntry], mover: Mover, k: usize) -> StandingPiece
-    requires { ⌜ (k < length (now table)) × (k < length (now layout)) ⌝ }
-    ensures { λ r. ⌜ ((size : JobSize) (pixels : List ℕ) → IsStanding (jobOf (lentBy size (now (table .entry)) pixels)) (layoutOf (now (layout .entry))) (lineDirection (mover .line)) k r) ⌝ }
+pub fn beside(
+    size: JobSize,
+    table: &[PieceEntry],
+    layout: &[PlaceEntry],
+    mover: Mover,
+    k: usize,
+) -> StandingPiece
+    requires { ⌜ (k < length (now table)) × (k < length (now layout)) ⌝ ∗ ⌜ size .gap ≤ gapBound ⌝ }
+    ensures { λ r. ⌜ ((pixels : List ℕ) → IsStanding (jobOf (lentBy size (now (table .entry)) pixels)) (layoutOf (now (layout .entry))) (lineDirection (mover .line)) k r) ⌝ }
 {
     let line = mover.line;
-    standing_of(table, layout, direction_of(line), k)
+    standing_of(size, table, layout, direction_of(line), k)
 }
 
 // Where the line of penalties of the mover and piece k begins in the store.
@@ -64,7 +70,8 @@ pub fn line_with(
 ) -> usize
     requires { ⌜ LinesReady (lentBy (run .size) (now table) (now pixels)) run (now strips) (now starts) (now lines) (now maps) ⌝
         ∗ ⌜ OnTrack (lentBy (run .size) (now table) (now pixels)) (sweep .mover) (sweep .track) ⌝
-        ∗ ⌜ (k < run .size .count) × ((sweep .track .held ≤ standing .across + middle) × (standing .across + middle - sweep .track .held < 1024)) ⌝ }
+        ∗ ⌜ (k < run .size .count) × ((sweep .track .held ≤ standing .across + middle) × (standing .across + middle - sweep .track .held < 1024)) ⌝
+        ∗ ⌜ sweep .mover .piece ≢ k ⌝ }
     ensures line { λ r. ⌜ ((v : Layout) → IsStanding (jobOf (lentBy (run .size) (now (table .entry)) (now (pixels .entry)))) v (lineDirection (sweep .mover .line)) k standing → LineRead (jobOf (lentBy (run .size) (now (table .entry)) (now (pixels .entry)))) v (sweep .mover) k (now (lines .exit)) r) ⌝ }
     ensures ready { λ r. ⌜ LinesReady (lentBy (run .size) (now (table .entry)) (now (pixels .entry))) run (now (strips .entry)) (now (starts .entry)) (now (lines .exit)) (now (maps .exit)) ⌝ }
 {
@@ -109,14 +116,15 @@ fn penalty_at(
     requires { ⌜ LinesReady (lentBy (run .size) (now table) (now pixels)) run (now strips) (now starts) (now lines) (now maps) ⌝
         ∗ ⌜ Laid (lentBy (run .size) (now table) (now pixels)) (now layout) ⌝
         ∗ ⌜ OnTrack (lentBy (run .size) (now table) (now pixels)) (sweep .mover) (sweep .track) ⌝
-        ∗ ⌜ k < run .size .count ⌝
+        ∗ ⌜ (k < run .size .count) × (sweep .mover .piece ≢ k) ⌝
         ∗ ⌜ at < sweep .track .places ⌝ }
     ensures penalty { λ r. ⌜ r ≡ moverPenalty (jobOf (lentBy (run .size) (now (table .entry)) (now (pixels .entry)))) (layoutOf (now (layout .entry))) (sweep .mover) at k ⌝ }
     ensures ready { λ r. ⌜ LinesReady (lentBy (run .size) (now (table .entry)) (now (pixels .entry))) run (now (strips .entry)) (now (starts .entry)) (now (lines .exit)) (now (maps .exit)) ⌝ }
 {
     let mover = sweep.mover;
     let track = sweep.track;
-    let standing = beside(table, layout, mover, k);
+    let size = run.size;
+    let standing = beside(size, table, layout, mover, k);
     let reach = reach_of(track, standing);
     let low = reach.low;
     let high = reach.high;
@@ -144,17 +152,18 @@ fn penalty_at(
 
 // 1 where piece k's box meets the mover's across the line, else 0.
 fn near_bit(
+    size: JobSize,
     table: &[PieceEntry],
     layout: &[PlaceEntry],
     mover: Mover,
     track: Track,
     k: usize,
 ) -> u64
-    requires { ⌜ SmallTrack track ⌝ ∗ ⌜ (k < length (now table)) × (k < length (now layout)) ⌝ }
+    requires { ⌜ SmallTrack track ⌝ ∗ ⌜ (k < length (now table)) × (k < length (now layout)) ⌝ ∗ ⌜ size .gap ≤ gapBound ⌝ }
     ensures bit { λ r. ⌜ r < 2 ⌝ }
-    ensures apart { λ r. ⌜ ((size : JobSize) (pixels : List ℕ) → OnTrack (lentBy size (now (table .entry)) pixels) mover track → r ≡ 0 → Apart (jobOf (lentBy size (now (table .entry)) pixels)) (layoutOf (now (layout .entry))) mover k) ⌝ }
+    ensures apart { λ r. ⌜ ((pixels : List ℕ) → OnTrack (lentBy size (now (table .entry)) pixels) mover track → r ≡ 0 → Apart (jobOf (lentBy size (now (table .entry)) pixels)) (layoutOf (now (layout .entry))) mover k) ⌝ }
 {
-    let standing = beside(table, layout, mover, k);
+    let standing = beside(size, table, layout, mover, k);
     if meets_across(track, standing) {
         return 1;
     }
@@ -169,13 +178,13 @@ pub fn near_pieces(
     mover: Mover,
     track: Track,
 ) -> u64
-    requires { ⌜ SmallTrack track ⌝ ∗ ⌜ (size .count ≤ pieceBound) × ((size .count ≤ length (now table)) × (size .count ≤ length (now layout))) ⌝ }
+    requires { ⌜ SmallTrack track ⌝ ∗ ⌜ (size .count ≤ pieceBound) × ((size .count ≤ length (now table)) × (size .count ≤ length (now layout))) ⌝ ∗ ⌜ size .gap ≤ gapBound ⌝ }
     ensures { λ r. ⌜ ((pixels : List ℕ) → OnTrack (lentBy size (now (table .entry)) pixels) mover track → NearTold (jobOf (lentBy size (now (table .entry)) pixels)) (layoutOf (now (layout .entry))) mover (size .count) r) ⌝ }
 {
     let mut near = 0;
     let mut k = 0;
     while k < size.count {
-        near = near | (near_bit(table, layout, mover, track, k) << k);
+        near = near | (near_bit(size, table, layout, mover, track, k) << k);
         k += 1;
     }
     near

@@ -1,15 +1,16 @@
 -- A piece's part in the sums along a line: its weight, how large it is at most, and that it is added where it is in reach. Assumes nothing.
-use Rattle.list_laws.proofs.Kit.{_∙_, _≡_, ap₂, subst, true, List, _*_, _+_, _-_, _<_, _≤_, ℕ, arith, drop, getD, length, length-drop, length-take}
+use Rattle.list_laws.proofs.Kit.{_∙_, _≡_, _≢_, ap₂, subst, ⊎-elim, true, List, _*_, _+_, _-_, _<_, _≤_, ℕ, arith, drop, getD, length, length-drop, length-take}
 use Rattle.list_laws.proofs.Kit.{take, getD-drop, getD-take}
 use Rattle.model.specs.Piece.{lineDirection, corner, onLine}
-use Rattle.model.specs.Layout.{Layout, turnedPiece, placeOf, shapeIn, cornerIn, pairs}
+use Rattle.model.specs.Layout.{Layout, placeOf, cornerIn, pairs}
 use Rattle.model.specs.Lent.{Lent, jobOf, lentWell}
-use Rattle.model.specs.declared.Direction.the-variants.{Horizontal}
-use Rattle.job_laws.proofs.Checked.{lent-turned-small}
-use Rattle.overlap_laws.proofs.Penalty.{penalty-bound}
+use Rattle.model.specs.declared.Direction.the-variants.{Horizontal, Vertical}
+use Rattle.overlap_laws.specs.Grown.{grownPiece, grownIn}
+use Rattle.overlap_laws.proofs.Penalty.{penalty-half}
 use Rattle.descent_laws.specs.Claims.{ValidWeights}
 use Rattle.search_laws.specs.PieceSum.{weightBetween, penaltyOn}
 use Rattle.search_laws.proofs.PieceSum.{weight-bound}
+use Rattle.search_map_laws.proofs.Pieces.{asked-small}
 use Rattle.search_line_sums.specs.Added.{LineAdded}
 use Rattle.search_line_sums.proofs.Scans.{part-small}
 use Rattle.search_tracks.specs.declared.Mover.{Mover}
@@ -34,13 +35,17 @@ weight-small l ws i k w v e = let b = weight-bound (jobOf l) ws i k v in omega a
 
 -- a part is below 2²⁴
 pub part-most : (l : Lent) (ws : List ℕ) (v : Layout) (m : Mover) (k : ℕ) → lentWell l ≡ true → ValidWeights (jobOf l) ws → m .piece < l .size .count
-    → k < l .size .count → (a : ℕ) → partAt (jobOf l) ws v m a k ≤ 16777216
+    → k < l .size .count → m .piece ≢ k → (a : ℕ) → partAt (jobOf l) ws v m a k ≤ 16777216
 unfolding jobOf penaltyOn
-part-most l ws v m k well valid i b a =
+part-most l ws v m k well valid i b others a =
     let w : weightBetween (jobOf l .size .count) ws (m .piece) k ≤ 65535 = weight-bound (jobOf l) ws (m .piece) k valid in
+    let s = grownPiece (jobOf l) (m .piece) (m .turn) in
+    let t = grownIn (jobOf l) v k in
     let p : moverPenalty (jobOf l) v m a k ≤ 255 =
-    penalty-bound (turnedPiece (jobOf l) (m .piece) (m .turn)) (corner (onLine (m .line) (m .turn) a)) (shapeIn (jobOf l) v k) (cornerIn v k) Horizontal
-    (lent-turned-small l well Horizontal (m .piece) (m .turn) i) (lent-turned-small l well Horizontal k (placeOf v k .turn) b) in
+    ⊎-elim
+    (λ h. penalty-half s (corner (onLine (m .line) (m .turn) a)) t (cornerIn v k) Horizontal 255 h)
+    (λ h. penalty-half s (corner (onLine (m .line) (m .turn) a)) t (cornerIn v k) Vertical 255 h)
+    (asked-small l well (m .piece) k (m .turn) (placeOf v k .turn) i b others) in
     let s = part-small (weightBetween (jobOf l .size .count) ws (m .piece) k) (moverPenalty (jobOf l) v m a k) w (omega arith) in
     omega arith
 

@@ -74,7 +74,8 @@ fn add_other(
     if k == mover.piece {
         return;
     }
-    let standing = beside(table, layout, mover, k);
+    let size = run.size;
+    let standing = beside(size, table, layout, mover, k);
     let reach = reach_of(track, standing);
     let low = reach.low;
     let high = reach.high;

@@ -31,25 +31,28 @@ use Rattle.search_calls.specs.Answers.{InReach, bestAnswer, searchAnswer
 -- a fresh store of slots that have room for every line keeps none
 pub store-ready : (l : Lent) (strips : List (List ℕ)) (starts maps : List ℕ) → lentWell l ≡ true → Shapes Horizontal (jobOf l) strips starts
     → MapsReady (jobOf l) maps
-    → LinesReady l (record { size = l .size; slots = 64; width = 514 }) strips starts (replicate 32896 0) maps
+    → LinesReady l (record { size = l .size; slots = 64; width = 530 }) strips starts (replicate 33920 0) maps
 store-ready l strips starts maps w shapes ready =
-    let n = length-replicate {A = ℕ} 32896 0 in
+    let n = length-replicate {A = ℕ} 33920 0 in
     record {
       well = w;
       shapes = shapes;
       fit =
           record {
             wide =
-                twice-wide (jobOf l) 255
+                twice-wide (jobOf l) 263
                 (λ i b.
                 let s = lent-boxes-small l w in
-                (s .columnsSmall i b, s .rowsSmall i b));
+                let g = s .gapSmall in
+                let c = s .columnsSmall i b in
+                let r = s .rowsSmall i b in
+                (omega arith, omega arith));
             narrow = omega arith;
             fits = omega arith;
           };
       kept =
-          none-kept (jobOf l) (record { size = l .size; slots = 64; width = 514 }) (replicate 32896 0) maps ready (omega arith) (omega arith)
-          (cleared-byte 32896);
+          none-kept (jobOf l) (record { size = l .size; slots = 64; width = 530 }) (replicate 33920 0) maps ready (omega arith) (omega arith)
+          (cleared-byte 33920);
     }
 
 -- ── the answer ──

@@ -37,7 +37,7 @@ ghost use Rattle.search_calls.specs.Answers.{InReach, bestAnswer, search
 const SLOTS: usize = model::PIECE_BOUND;
 
 // The bytes of a slot: its key's and twice the largest box side.
-const SLOT_WIDTH: usize = search_lines::KEY_BYTES + 510;
+const SLOT_WIDTH: usize = search_lines::KEY_BYTES + 526;
 
 // No sum reaches it: a search without a bound.
 const NO_BOUND: u32 = 4294967295;

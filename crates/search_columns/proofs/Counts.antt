@@ -1,11 +1,12 @@
 -- Counts up and down a column, and what they say of its bits. Assumes nothing.
 use Rattle.list_laws.proofs.Kit.{_∙_, _≡_, ap, ap₂, refl, subst, sym, Bool, _&&_, false, true, _⊎_, inl, inr, List, _*_, _+_, _-_, _<_, _≤_, min, suc, zero, ℕ}
-use Rattle.list_laws.proofs.Kit.{add-one, arith, getD, length}
+use Rattle.list_laws.proofs.Kit.{add-one, arith, by-contra, getD, length}
 use Rattle.list_laws.proofs.Numbers.{below-or}
 use Rattle.list_laws.proofs.Tests.{and-both, clash, first-fails, second-fails}
 use Rattle.search_bits.specs.Bit.{bitIn}
 use Rattle.search_peel.specs.Peel.{around, Distance, PlaceDone}
-use Rattle.search_columns.specs.Column.{FirstClear, FirstWithin, beside, under, SidesDone, counted, fallen, Fallen, Ended, ColumnDone}
+use Rattle.search_columns.specs.Column.{byteMost, FirstClear, FirstWithin, beside, under, SidesDone, counted, fallen, Fallen, Ended, ColumnEnds}
+use Rattle.search_columns.specs.Column.{ColumnDone}
 
 -- ── counts ──
 
@@ -57,15 +58,6 @@ first-suc f g n e h c = record { before = go; here = h n ∙ c .here }
     go zero l = e
     go (suc t) l = h t ∙ c .before t (omega arith)
 
--- of two tests together
-first-both : (f g : ℕ → Bool) (m n : ℕ) → FirstClear f m → FirstClear g n → FirstClear (λ t. f t && g t) (min m n)
-first-both f g m n a b =
-    record { before = λ t l. and-both (a .before t (omega arith)) (b .before t (omega arith)); here = go (below-or m n) }
-  where
-    go : (m < n) ⊎ (n ≤ m) → (f (min m n) && g (min m n)) ≡ false
-    go (inl l) = let e : min m n ≡ m = omega arith in first-fails (g (min m n)) (ap f e ∙ a .here)
-    go (inr l) = let e : min m n ≡ n = omega arith in second-fails (f (min m n)) (ap g e ∙ b .here)
-
 -- 0 exactly where the test fails at once
 first-tells : (f : ℕ → Bool) (n : ℕ) (b : Bool) → f 0 ≡ b → FirstClear f n → (n ≡ 0 → b ≡ false) × (0 < n → b ≡ true)
 first-tells f n b h c = (λ e. sym h ∙ ap f (sym e) ∙ c .here, λ l. sym h ∙ c .before 0 l)
@@ -84,15 +76,45 @@ count-first f g b (suc v) n here further tells c = first-suc f g n (here ∙ tel
 within-tells : (f : ℕ → Bool) (bound v : ℕ) (b : Bool) → f 0 ≡ b → 0 < bound → FirstWithin f bound v → (v ≡ 0 → b ≡ false) × (0 < v → b ≡ true)
 within-tells f bound v b h some c = (λ e. sym h ∙ ap f (sym e) ∙ c .here (omega arith), λ l. sym h ∙ c .before 0 l)
 
--- of two tests together, the one asked up to the count of the other
-within-both : (f g : ℕ → Bool) (n v : ℕ) → FirstWithin f (n + 1) v → FirstClear g (counted v n) → FirstClear (λ t. f t && g t) v
-within-both f g n zero a b = first-zero (λ t. f t && g t) (first-fails (g 0) (a .here (omega arith)))
-within-both f g n (suc v) a b =
-    record { before = λ t l. and-both (a .before t l) (b .before t (omega (arith, a .few))); here = go (below-or v n) }
+-- of two tests together, the one asked up to the count of the other or to a limit
+within-count : (f g : ℕ → Bool) (n limit bound v : ℕ) → 0 < limit → bound ≡ min (n + 1) limit → FirstWithin f bound v → FirstClear g (counted v n)
+    → FirstWithin (λ t. f t && g t) limit v
+within-count f g n limit bound zero some e a b =
+    record { few = omega arith; before = λ t l. absurd (omega arith); here = λ l. first-fails (g 0) (a .here (omega arith)) }
+within-count f g n limit bound (suc v) some e a b =
+    record {
+      few = omega (arith, a .few);
+      before = λ t l. and-both (a .before t l) (b .before t (omega (arith, a .few)));
+      here = λ l. go l (below-or v n);
+    }
   where
-    go : (v < n) ⊎ (n ≤ v) → (f (suc v) && g (suc v)) ≡ false
-    go (inl l) = first-fails (g (suc v)) (a .here (omega arith))
-    go (inr l) = let e : v ≡ n = omega (arith, a .few) in second-fails (f (suc v)) (ap (λ (k : ℕ). g (suc k)) e ∙ b .here)
+    go : suc v < limit → (v < n) ⊎ (n ≤ v) → (f (suc v) && g (suc v)) ≡ false
+    go l (inl m) = first-fails (g (suc v)) (a .here (omega arith))
+    go l (inr m) = let k : v ≡ n = omega (arith, a .few) in second-fails (f (suc v)) (ap (λ (i : ℕ). g (suc i)) k ∙ b .here)
+
+-- of two tests together, the one asked up to a bound
+within-both : (f g : ℕ → Bool) (bound m n : ℕ) → FirstWithin f bound m → FirstClear g n → FirstWithin (λ t. f t && g t) bound (min m n)
+within-both f g bound m n a b =
+    record {
+      few = omega (arith, a .few);
+      before = λ t l. and-both (a .before t (omega arith)) (b .before t (omega arith));
+      here = λ l. go l (below-or m n);
+    }
+  where
+    go : min m n < bound → (m < n) ⊎ (n ≤ m) → (f (min m n) && g (min m n)) ≡ false
+    go l (inl k) = let e : min m n ≡ m = omega arith in first-fails (g (min m n)) (ap f e ∙ a .here (omega arith))
+    go l (inr k) = let e : min m n ≡ n = omega arith in second-fails (f (min m n)) (ap g e ∙ b .here)
+
+-- where some number up to the bound fails the test, the bound cuts nothing off
+within-exact : (f : ℕ → Bool) (bound n t : ℕ) → FirstWithin f bound n → t ≤ bound → f t ≡ false → FirstClear f n
+within-exact f bound n t c l e = record { before = c .before; here = go (below-or n bound) }
+  where
+    go : (n < bound) ⊎ (bound ≤ n) → f n ≡ false
+    go (inl m) = c .here m
+    go (inr m) =
+        let k : n ≤ t = by-contra n t (λ b. clash (c .before t b) e) in
+        let q : n ≡ t = omega (arith, c .few) in
+        ap f q ∙ e
 
 -- ── at the place itself ──
 
@@ -127,6 +149,11 @@ around-under ws w p t = and-swap (bitIn ws (p + t) && bitIn ws (p - t)) (bitIn w
     and-swap true false true = refl
     and-swap true false false = refl
     and-swap false b c = refl
+
+-- a place that ends along its row ends
+pub beside-clear : (ws : List ℕ) (w p t : ℕ) → beside ws p t ≡ false → around ws w p t ≡ false
+unfolding around beside
+beside-clear ws w p t e = first-fails (bitIn ws (p - t * w)) (first-fails (bitIn ws (p + t * w)) e)
 
 around-here : (ws : List ℕ) (w p : ℕ) → around ws w p 0 ≡ bitIn ws p
 around-here ws w p =
@@ -166,33 +193,35 @@ under-start ws w p floor =
     let o : p - suc 0 * w ≡ p - w = omega arith in
     first-zero (λ t. bitIn ws (p - suc t * w)) (ap (bitIn ws) o ∙ floor)
 
-module _ (ws : List ℕ) (w q n v : ℕ) (h : Under ws w q n) (g : FirstWithin (beside ws q) (n + 1) v) where
+module _ (ws : List ℕ) (w q n bound v : ℕ) (e : bound ≡ min (n + 1) byteMost) (h : Under ws w q n) (g : FirstWithin (beside ws q) bound v) where
   -- at the place itself
   under-count : FirstClear (λ t. bitIn ws (q - t * w)) (counted v n)
   under-count =
       let o : q - 0 * w ≡ q = omega arith in
       count-first (λ t. bitIn ws (q - t * w)) (λ t. bitIn ws (q - suc t * w)) (bitIn ws q) v n (ap (bitIn ws) o) (λ t. refl)
-      (within-tells (beside ws q) (n + 1) v (bitIn ws q) (beside-here ws q) (omega arith) g) h
+      (within-tells (beside ws q) bound v (bitIn ws q) (beside-here ws q) (omega arith) g) h
 
   -- so below the next place
   pub under-next : (m : ℕ) → m ≡ counted v n → Under ws w (q + w) m
-  under-next m e =
-      subst (Under ws w (q + w)) (sym e)
+  under-next m k =
+      subst (Under ws w (q + w)) (sym k)
       (first-same (λ t. bitIn ws (q - t * w)) (λ t. bitIn ws (q + w - suc t * w)) (counted v n)
       (λ t. ap (bitIn ws) (let z : q + w - suc t * w ≡ q - t * w = omega arith in z)) under-count)
 
-  -- and what the place holds is the least of three sides
-  pub under-place : FirstClear (under ws w q) v
+  -- and what the place holds is the least of three sides, where a byte holds it
+  pub under-place : FirstWithin (under ws w q) byteMost v
   unfolding under
-  under-place = within-both (beside ws q) (λ t. bitIn ws (q - t * w)) n v g under-count
+  under-place = within-count (beside ws q) (λ t. bitIn ws (q - t * w)) n byteMost bound v (omega arith) e g under-count
 
 -- ── the line ──
 
-module _ (ws : List ℕ) (w p : ℕ) (line sides done : List ℕ) (g : SidesDone ws w p line sides) (f : Fallen sides done) (ends : Ended ws w p (length line)) where
+module _ (ws : List ℕ) (w p : ℕ) (line sides done : List ℕ) (g : SidesDone ws w p line sides) (f : Fallen sides done) (ends : Ended ws w p (length line))
+    (near : ColumnEnds ws w p (length line)) where
   -- a place tells its bit
   sides-tell : Tells ws w p sides
   sides-tell y l =
-      first-tells (under ws w (p + y * w)) (getD sides y 0) (bitIn ws (p + y * w)) (under-here ws w (p + y * w)) (g .each y (omega (arith, g .same)))
+      within-tells (under ws w (p + y * w)) byteMost (getD sides y 0) (bitIn ws (p + y * w)) (under-here ws w (p + y * w)) (omega arith)
+      (g .each y (omega (arith, g .same)))
 
   -- with the clear bit above
   pub column-done : ColumnDone ws w p line done
@@ -202,10 +231,13 @@ module _ (ws : List ℕ) (w p : ℕ) (line sides done : List ℕ) (g : SidesDone
       record {
         same = f .same ∙ n;
         each = λ y l.
+            let q = near .each y l in
             subst (FirstClear (around ws w (p + y * w))) (sym (f .at y (omega arith)))
             (first-same (λ t. under ws w (p + y * w) t && bitIn ws (p + y * w + t * w)) (around ws w (p + y * w)) _ (around-under ws w (p + y * w))
-            (first-both (under ws w (p + y * w)) (λ t. bitIn ws (p + y * w + t * w)) (getD sides y 0) (fallen sides y (length sides - y)) (g .each y l)
-            (fallen-clear ws w p sides sides-tell top y (length sides - y) (omega arith))));
+            (within-exact (λ t. under ws w (p + y * w) t && bitIn ws (p + y * w + t * w)) byteMost _ (q .at)
+            (within-both (under ws w (p + y * w)) (λ t. bitIn ws (p + y * w + t * w)) byteMost (getD sides y 0) (fallen sides y (length sides - y))
+            (g .each y l) (fallen-clear ws w p sides sides-tell top y (length sides - y) (omega arith)))
+            (q .near) (sym (around-under ws w (p + y * w) (q .at)) ∙ q .clear)));
       }
 
 -- a place that holds the least such distance is done, as a place of a row is

@@ -162,12 +162,8 @@ module _ (ws : List ℕ) (p : ℕ) (h : Walled ws p) where
       record { set = λ t l. set-on n 64 t g l; within = q; near = no-farther (n + 64) k (g .near) q }
 
   -- the word with a clear bit
-  pub gap-end : (n k : ℕ) → GapGoing ws p h n k → k < 64 → FirstClear (beside ws p) (n + k) × (n + k < 256)
-  gap-end n k g l =
-      let m = g .near in (
-        record { before = λ t b. set-on n k t g b; here = g .within .here l (omega (arith, h .low)) },
-        omega (arith, h .few),
-      )
+  pub gap-end : (n k : ℕ) → GapGoing ws p h n k → k < 64 → FirstClear (beside ws p) (n + k)
+  gap-end n k g l = let m = g .near in record { before = λ t b. set-on n k t g b; here = g .within .here l (omega (arith, h .low)) }
 
 -- ── no farther than a bound ──
 

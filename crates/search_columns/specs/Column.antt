@@ -6,7 +6,11 @@ use mathlib.Core.Path.{_≡_}
 use Prim.Native.Nat.{ℕ, zero, suc, _+_, _-_, _*_, _<_, _≤_, min}
 use lib.ListN.{length, getD}
 use Rattle.search_bits.specs.Bit.{bitAt, bitIn, lengthLimit}
-use Rattle.search_peel.specs.Peel.{around}
+use Rattle.search_peel.specs.Peel.{around, EndsBy}
+
+-- the largest number that a byte holds
+abbrev pub byteMost : ℕ
+byteMost = 255
 
 -- n is the least number that fails the test
 pub record FirstClear (f : ℕ → Bool) (n : ℕ) : Type 0 where
@@ -47,7 +51,6 @@ pub record GapWithin (ws : List ℕ) (p n size k : ℕ) : Type 0 where
 pub record Walled (ws : List ℕ) (p : ℕ) : Type 0 where
   pub reach : ℕ
   pub clear : beside ws p reach ≡ false
-  pub few : reach < 256
   pub low : reach ≤ p
   pub high : p + reach + 128 ≤ length ws * 64
   pub room : length ws < lengthLimit
@@ -57,10 +60,10 @@ pub record ColumnWalled (ws : List ℕ) (w p n : ℕ) : Type 0 where
   pub each : (y : ℕ) → y < n → Walled ws (p + y * w)
   pub small : p + n * w < lengthLimit
 
--- each place holds how far its bit lies from a clear one along its row or down the column
+-- each place holds how far its bit lies from a clear one along its row or down the column, or the largest number of a byte where none is nearer
 pub record SidesDone (ws : List ℕ) (w p : ℕ) (xs ys : List ℕ) : Type 0 where
   pub same : length ys ≡ length xs
-  pub each : (y : ℕ) → y < length xs → FirstClear (under ws w (p + y * w)) (getD ys y 0)
+  pub each : (y : ℕ) → y < length xs → FirstWithin (under ws w (p + y * w)) byteMost (getD ys y 0)
 
 -- one more than the count n at a neighbour, but 0 at a clear place
 abbrev pub counted : ℕ → ℕ → ℕ
@@ -82,6 +85,10 @@ pub record Ended (ws : List ℕ) (w p n : ℕ) : Type 0 where
   pub past : w ≤ p
   pub floor : bitIn ws (p - w) ≡ false
   pub top : bitIn ws (p + n * w) ≡ false
+
+-- a side of each of n places of a column, the first of them at p, is clear at a distance that a byte holds
+pub record ColumnEnds (ws : List ℕ) (w p n : ℕ) : Type 0 where
+  pub each : (y : ℕ) → y < n → EndsBy ws w (p + y * w) byteMost
 
 -- each place holds how far its bit lies from a clear one, to all four sides
 pub record ColumnDone (ws : List ℕ) (w p : ℕ) (xs ys : List ℕ) : Type 0 where

@@ -5,7 +5,7 @@ ghost use Prim.Native.Nat.{_+_, _*_, _<_, _≤_, min};
 ghost use lib.Count.{trailingZeros, leadingZeros};
 ghost use lib.ListN.{length};
 ghost use Rattle.search_bits.specs.Bit.{lengthLimit};
-ghost use Rattle.search_columns.specs.Column.{FirstClear, FirstWithin, beside, ClearBelow, GapWithin, Walled, ColumnWalled, SidesDone, counted, Fallen, Ended, ColumnDone};
+ghost use Rattle.search_columns.specs.Column.{FirstClear, FirstWithin, beside, ClearBelow, GapWithin, Walled, ColumnWalled, SidesDone, counted, Fallen, Ended, ColumnEnds, ColumnDone};
 use search_peel::bits_at;
 use whole_numbers::smaller;
 
@@ -15,6 +15,9 @@ const WORD: usize = 64;
 const HALF: usize = 32;
 
 const TOP: usize = 63;
+
+// The largest number that a byte holds.
+const BYTE_MOST: usize = 255;
 
 // The clear bits at and below p: the one t below p stands t below the word's top.
 fn clear_below(ws: &[u64], p: usize) -> u64
@@ -46,7 +49,7 @@ fn gap_within(ws: &[u64], p: usize, n: usize) -> usize
 // How far p lies from the nearest clear bit of its row; 0 where it is clear itself.
 fn far_gap(ws: &[u64], p: usize) -> usize
     requires { ⌜ Walled (now ws) p ⌝ }
-    ensures { λ r. ⌜ FirstClear (beside (now (ws .entry)) p) r × (r < 256) ⌝ }
+    ensures { λ r. ⌜ FirstClear (beside (now (ws .entry)) p) r ⌝ }
 {
     let mut n = 0;
     let mut k = gap_within(ws, p, 0);
@@ -69,7 +72,7 @@ fn near_gap(ws: &[u64], p: usize) -> usize
 // How far p lies from the nearest clear bit of its row, or the bound where none is nearer.
 fn row_gap(ws: &[u64], p: usize, bound: usize) -> usize
     requires { ⌜ Walled (now ws) p ⌝ }
-    ensures { λ r. ⌜ FirstWithin (beside (now (ws .entry)) p) bound r × (r < 256) ⌝ }
+    ensures { λ r. ⌜ FirstWithin (beside (now (ws .entry)) p) bound r ⌝ }
 {
     if p >= HALF {
         let k = smaller(near_gap(ws, p), bound);
@@ -98,7 +101,7 @@ fn lesser(v: u8, n: usize) -> u8
     smaller(v as usize, n) as u8
 }
 
-// Sets each place of the line to how far its bit lies from a clear one along its row or down the column.
+// Sets each place of the line to how far its bit lies from a clear one along its row or down the column, but to no more than a byte holds.
 fn sides_line(ws: &[u64], w: usize, p: usize, line: &mut [u8])
     requires { ⌜ ColumnWalled (now ws) w p (length (now line)) ⌝ ∗ ⌜ Ended (now ws) w p (length (now line)) ⌝ ∗ ⌜ length (now line) < lengthLimit ⌝ }
     ensures { λ r. ⌜ SidesDone (now (ws .entry)) w p (now (line .entry)) (now (line .exit)) ⌝ }
@@ -107,7 +110,7 @@ fn sides_line(ws: &[u64], w: usize, p: usize, line: &mut [u8])
     let mut q = p;
     let mut y = 0;
     while y < line.len() {
-        let v = row_gap(ws, q, n + 1) as u8;
+        let v = row_gap(ws, q, smaller(n + 1, BYTE_MOST)) as u8;
         line[y] = v;
         n = count_on(v, n);
         q += w;
@@ -131,7 +134,8 @@ fn fall(line: &mut [u8])
 
 // Sets each place of the line to how far its bit lies from a clear one; the bits are w apart, the first of them at p.
 pub fn column_line(ws: &[u64], w: usize, p: usize, line: &mut [u8])
-    requires { ⌜ ColumnWalled (now ws) w p (length (now line)) ⌝ ∗ ⌜ Ended (now ws) w p (length (now line)) ⌝ ∗ ⌜ length (now line) < lengthLimit ⌝ }
+    requires { ⌜ ColumnWalled (now ws) w p (length (now line)) ⌝ ∗ ⌜ Ended (now ws) w p (length (now line)) ⌝ ∗ ⌜ ColumnEnds (now ws) w p (length (now line)) ⌝
+        ∗ ⌜ length (now line) < lengthLimit ⌝ }
     ensures { λ r. ⌜ ColumnDone (now (ws .entry)) w p (now (line .entry)) (now (line .exit)) ⌝ }
 {
     sides_line(ws, w, p, line);

@@ -1,12 +1,12 @@
--- Document 01, 'Line search': which pieces a piece covers at a place of its line, and what that says of the sum there. A place at which it
--- shares a pixel with no piece has sum 0, and the smallest such place is the answer; at any other place the weights of the pieces that
--- it shares one with are a lower bound of the sum, so the penalties are needed only where that is below the limit. Assumes nothing.
+-- Document 01, 'Line search': which pieces a piece conflicts with at a place of its line, and what that says of the sum there. A place at which
+-- it conflicts with no piece has sum 0, and the smallest such place is the answer; at any other place the weights of the pieces that
+-- it conflicts with are a lower bound of the sum, so the penalties are needed only where that is below the limit. Assumes nothing.
 use Rattle.list_laws.proofs.Kit.{_∙_, _≡_, refl, Bool, false, true, _≢_, some, List, _*_, _+_, _<_, _≤_, ℕ, mul-le-mul, mul-le-mul-left, mul-zero, arith}
 use Rattle.list_laws.proofs.Kit.{length}
 use Rattle.model.specs.Bounded.{sumBelow, oneIf}
 use Rattle.model.specs.Piece.{Point, Shape, along, extent, other, corner, lineDirection, held, onLine}
 use Rattle.model.specs.Overlap.{share}
-use Rattle.model.specs.Layout.{Job, Layout, turnedPiece, shapeIn, cornerIn}
+use Rattle.model.specs.Layout.{Job, Layout, cornerIn}
 use Rattle.model.specs.Search.{sumAt}
 use Rattle.model.specs.declared.Turn.{Turn}
 use Rattle.model.specs.declared.Direction.{Direction}
@@ -15,6 +15,7 @@ use Rattle.model.specs.declared.Line.the-variants.{InRow, InColumn}
 use Rattle.list_laws.proofs.Sums.{sum-zero, sum-le, term-at-most}
 use Rattle.list_laws.proofs.Tests.{clash}
 use Rattle.overlap_laws.specs.Overlap.{SharedPixel}
+use Rattle.overlap_laws.specs.Grown.{grownPiece, grownIn}
 use Rattle.overlap_laws.proofs.Share.{share-witness, shared-along, pixel-along}
 use Rattle.overlap_laws.proofs.Penalty.{zero-penalty, penalty-zero}
 use Rattle.descent_laws.specs.Claims.{ValidWeights}
@@ -23,9 +24,9 @@ use Rattle.search_laws.proofs.PieceSum.{share-agree, weight-positive, s
 use Rattle.search_laws.specs.BoundedSearch.{belowBound, bestAt}
 use Rattle.search_laws.proofs.BoundedSearch.{zero-answer}
 
--- piece i in the turn at coordinate a on the line shares a pixel with piece k as the layout places it
+-- piece i in the turn at coordinate a on the line conflicts with piece k as the layout places it: both grown, they share a pixel
 unfoldable pub meets : Job → Layout → ℕ → Turn → Line → ℕ → ℕ → Bool
-meets j v i t line a k = share (turnedPiece j i t) (corner (onLine line t a)) (shapeIn j v k) (cornerIn v k)
+meets j v i t line a k = share (grownPiece j i t) (corner (onLine line t a)) (grownIn j v k) (cornerIn v k)
 
 -- where they share none the penalty is 0
 pub apart-penalty : (j : Job) (v : Layout) (i : ℕ) (t : Turn) (line : Line) (a k : ℕ) → meets j v i t line a k ≡ false → penaltyOn j v i t line a k ≡ 0
@@ -39,7 +40,7 @@ meeting-penalty j v i t line a k e =
     let n : penaltyOn j v i t line a k ≢ 0 = λ z. clash e (zero-penalty _ _ _ _ z) in
     omega arith
 
--- the test for a shared pixel, as a number, is at most the penalty
+-- the test for a conflict, as a number, is at most the penalty
 test-penalty : (j : Job) (v : Layout) (i : ℕ) (t : Turn) (line : Line) (a k : ℕ) (b : Bool) → meets j v i t line a k ≡ b
     → oneIf b ≤ penaltyOn j v i t line a k
 test-penalty j v i t line a k true e = meeting-penalty j v i t line a k e
@@ -106,17 +107,17 @@ across-line (InColumn c) t a = refl
 
 -- the places of a line at which piece k is met lie within its box's columns or rows and the moving piece's before them
 pub meets-along : (j : Job) (v : Layout) (i : ℕ) (t : Turn) (line : Line) (a k : ℕ) → meets j v i t line a k ≡ true
-    → (a < along (lineDirection line) (cornerIn v k) + extent (lineDirection line) (shapeIn j v k))
-    × (along (lineDirection line) (cornerIn v k) < a + extent (lineDirection line) (turnedPiece j i t))
+    → (a < along (lineDirection line) (cornerIn v k) + extent (lineDirection line) (grownIn j v k))
+    × (along (lineDirection line) (cornerIn v k) < a + extent (lineDirection line) (grownPiece j i t))
 unfolding meets
 meets-along j v i t line a k e =
-    rw (along-line line t a) at (share-boxes (lineDirection line) (turnedPiece j i t) (corner (onLine line t a)) (shapeIn j v k) (cornerIn v k) e)
+    rw (along-line line t a) at (share-boxes (lineDirection line) (grownPiece j i t) (corner (onLine line t a)) (grownIn j v k) (cornerIn v k) e)
 
 -- piece k is met only where the two boxes meet across the line
 pub meets-across : (j : Job) (v : Layout) (i : ℕ) (t : Turn) (line : Line) (a k : ℕ) → meets j v i t line a k ≡ true
-    → (held line < along (other (lineDirection line)) (cornerIn v k) + extent (other (lineDirection line)) (shapeIn j v k))
-    × (along (other (lineDirection line)) (cornerIn v k) < held line + extent (other (lineDirection line)) (turnedPiece j i t))
+    → (held line < along (other (lineDirection line)) (cornerIn v k) + extent (other (lineDirection line)) (grownIn j v k))
+    × (along (other (lineDirection line)) (cornerIn v k) < held line + extent (other (lineDirection line)) (grownPiece j i t))
 unfolding meets
 meets-across j v i t line a k e =
     rw (across-line line t a)
-    at (share-boxes (other (lineDirection line)) (turnedPiece j i t) (corner (onLine line t a)) (shapeIn j v k) (cornerIn v k) e)
+    at (share-boxes (other (lineDirection line)) (grownPiece j i t) (corner (onLine line t a)) (grownIn j v k) (cornerIn v k) e)

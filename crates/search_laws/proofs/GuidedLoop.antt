@@ -4,7 +4,7 @@
 use Rattle.list_laws.proofs.Kit.{_∙_, _≡_, ap, refl, sym, Bool, false, true, _≢_, ⊎-elim, List, [], _∷_, _*_, _+_, _-_, _<_, _≤_, min, suc, zero, ℕ, add-one}
 use Rattle.list_laws.proofs.Kit.{add-assoc, eq-or-lt-of-le, suc-mul, arith, ltb, getD, length, length-set, set, ext-getD, getD-set-other, getD-set-same}
 use Rattle.list_laws.proofs.Kit.{set-getD, le-ltb, lt-ltb}
-use Rattle.model.specs.Layout.{Job, Layout, Pair, pairOf, pairs, pairShares, plainSum}
+use Rattle.model.specs.Layout.{Job, Layout, Pair, pairOf, pairs, pairConflicts, plainSum}
 use Rattle.model.specs.Descent.{Descent, descend}
 use Rattle.model.specs.Guided.{weightBound, raisedOver, raised, Round, isClear, weightsAfter, roundFrom, rounds, bestOf, bestAfter, lastWeights, madeIn}
 use Rattle.model.specs.Guided.{movesIn, Guided, outcome, guide}
@@ -277,18 +277,18 @@ module _ (j : Job) (v : Layout) (ws now : List ℕ) (i k : ℕ) (one : length ws
   where
     -- the weight of the pair (i, k) after raising
     raised-at : getD (raised j v ws) (pairIndex (j .size .count) i k) 0
-        ≡ elim (pairShares j v (pairOf i k)) as (λ _. ℕ) [
+        ≡ elim (pairConflicts j v (pairOf i k)) as (λ _. ℕ) [
           | true ↦ min (suc (getD ws (pairIndex (j .size .count) i k) 0)) weightBound
           | false ↦ getD ws (pairIndex (j .size .count) i k) 0
         ]
     unfolding raised
     raised-at =
         let fits = pair-below (j .size .count) i k rising below in
-        raised-over-at (pairShares j v) (pairs (j .size .count)) ws (pairIndex (j .size .count) i k) (omega arith) fits
+        raised-over-at (pairConflicts j v) (pairs (j .size .count)) ws (pairIndex (j .size .count) i k) (omega arith) fits
         ∙ rw (pair-at (j .size .count) i k noPair rising below)
 
-    -- a pair that shares a pixel has its weight raised by 1, 65,535 stays
-    pub raising-shared : pairShares j v (pairOf i k) ≡ true
+    -- a pair that conflicts has its weight raised by 1, 65,535 stays
+    pub raising-shared : pairConflicts j v (pairOf i k) ≡ true
         → Raising j v ws (pairIndex (j .size .count) i k + 1)
         (set now (pairIndex (j .size .count) i k) (min (getD now (pairIndex (j .size .count) i k) 0 + 1) weightBound))
     raising-shared e = record { size = length-set now c w ∙ h .size; done = done; rest = rest }
@@ -312,21 +312,21 @@ module _ (j : Job) (v : Layout) (ws now : List ℕ) (i k : ℕ) (one : length ws
         rest m l = getD-set-other now c m w 0 (λ z. omega arith) ∙ h .rest m (omega arith)
 
     -- below the largest weight that is 1 more
-    pub raising-more : pairShares j v (pairOf i k) ≡ true → getD now (pairIndex (j .size .count) i k) 0 < weightBound
+    pub raising-more : pairConflicts j v (pairOf i k) ≡ true → getD now (pairIndex (j .size .count) i k) 0 < weightBound
         → Raising j v ws (pairIndex (j .size .count) i k + 1) (set now (pairIndex (j .size .count) i k) (getD now (pairIndex (j .size .count) i k) 0 + 1))
     raising-more e l =
         let more : min (getD now (pairIndex (j .size .count) i k) 0 + 1) weightBound ≡ getD now (pairIndex (j .size .count) i k) 0 + 1 = omega arith in
         rw more at (raising-shared e)
 
     -- the largest weight stays, with no store
-    pub raising-full : pairShares j v (pairOf i k) ≡ true → weightBound ≤ getD now (pairIndex (j .size .count) i k) 0
+    pub raising-full : pairConflicts j v (pairOf i k) ≡ true → weightBound ≤ getD now (pairIndex (j .size .count) i k) 0
         → getD now (pairIndex (j .size .count) i k) 0 ≤ weightBound → Raising j v ws (pairIndex (j .size .count) i k + 1) now
     raising-full e l m =
         let full : min (getD now (pairIndex (j .size .count) i k) 0 + 1) weightBound ≡ getD now (pairIndex (j .size .count) i k) 0 = omega arith in
         rw (set-getD now (pairIndex (j .size .count) i k) 0) at (rw full at (raising-shared e))
 
-    -- one that shares none keeps its weight
-    pub raising-apart : pairShares j v (pairOf i k) ≡ false → Raising j v ws (pairIndex (j .size .count) i k + 1) now
+    -- one that does not keeps its weight
+    pub raising-apart : pairConflicts j v (pairOf i k) ≡ false → Raising j v ws (pairIndex (j .size .count) i k + 1) now
     raising-apart e = record { size = h .size; done = done; rest = λ m l. h .rest m (omega arith) }
       where
         c : ℕ

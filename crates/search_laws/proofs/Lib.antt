@@ -8,4 +8,3 @@ pub mod Table
 pub mod Loop
 pub mod GuidedLoop
 pub mod Covering
-pub mod Marks

@@ -6,7 +6,7 @@ use Rattle.list_laws.proofs.Kit.{mul-le-mul, zero-mul, arith, eqb, ltb, List·g
 use Rattle.list_laws.proofs.Kit.{le-ltb, lt-ltb, ne-eqb, decLt, ℕ-discrete}
 use Rattle.model.specs.Bounded.{sumBelow}
 use Rattle.model.specs.Piece.{onLine, sideBound}
-use Rattle.model.specs.Layout.{Job, Layout, Pair, origin, shapeIn, cornerIn, pairs, pairPenalty, names, sumOver, weightedSum, pieceSum}
+use Rattle.model.specs.Layout.{Job, Layout, Pair, origin, placeOf, shapeIn, cornerIn, pairs, pairPenalty, names, sumOver, weightedSum, pieceSum}
 use Rattle.model.specs.Search.{sumAt}
 use Rattle.model.specs.Guided.{weightBound}
 use Rattle.model.specs.Lent.{pieceBound}
@@ -17,7 +17,10 @@ use Rattle.model.specs.declared.Placement.{Placement}
 use Rattle.list_laws.proofs.Sums.{sum-agree, sum-zero, sum-single, sum-add, sum-first, sum-bound, sum-grows, sum-changed, term-at-most, three-parts}
 use Rattle.list_laws.proofs.Tests.{or-left, or-right}
 use Rattle.list_laws.proofs.Numbers.{apart}
-use Rattle.overlap_laws.proofs.Penalty.{penalty-symmetric}
+use Rattle.overlap_laws.proofs.Grown.{penalty-grown}
+use Rattle.overlap_laws.proofs.GrownTurns.{turned-grown}
+use Rattle.overlap_laws.proofs.Penalty.{penalty-symmetric, penalty-pixels}
+use Rattle.overlap_laws.specs.Grown.{grownIn}
 use Rattle.descent_laws.specs.Claims.{ValidWeights}
 use Rattle.descent_laws.proofs.Sums.{pair-mem, piece-at-most, placed-anew}
 use Rattle.descent_laws.specs.Sums.{sumBound}
@@ -101,11 +104,23 @@ pub weighted-sum : (j : Job) (ws : List ℕ) (v : Layout) → length ws ≡ leng
 unfolding weightedSum pairTerm
 weighted-sum j ws v e = over-positions (λ p. true) (pairPenalty j v) (pairs (j .size .count)) ws e
 
+-- a pair's penalty by the gap is that of its two pieces, grown
+pub pair-between : (j : Job) (v : Layout) (i k : ℕ) → pairPenalty j v (pairOf i k) ≡ penaltyBetween j v i k
+unfolding pairPenalty penaltyPlaced
+pair-between j v i k =
+    let g = j .size .gap in
+    let s = turned-grown (placeOf v i .turn) g (j .piece i .shape) in
+    let t = turned-grown (placeOf v k .turn) g (j .piece k .shape) in
+    penalty-grown g (shapeIn j v i) (cornerIn v i) (shapeIn j v k) (cornerIn v k)
+    ∙ sym (penalty-pixels (grownIn j v i) (cornerIn v i) (grownIn j v k) (cornerIn v k) _ _ (s .pixels) (t .pixels))
+
 -- the part of the pair (i, k)
 pub pair-term : (j : Job) (ws : List ℕ) (v : Layout) (i k : ℕ) → i < k → k < j .size .count
     → pairTerm j ws v (pairIndex (j .size .count) i k) ≡ getD ws (pairIndex (j .size .count) i k) 0 * penaltyBetween j v i k
-unfolding pairTerm penaltyPlaced pairPenalty
-pair-term j ws v i k l h = ap (λ q. getD ws (pairIndex (j .size .count) i k) 0 * pairPenalty j v q) (pair-at (j .size .count) i k noPair l h)
+unfolding pairTerm
+pair-term j ws v i k l h =
+    ap (λ q. getD ws (pairIndex (j .size .count) i k) 0 * pairPenalty j v q) (pair-at (j .size .count) i k noPair l h)
+    ∙ ap (λ c. getD ws (pairIndex (j .size .count) i k) 0 * c) (pair-between j v i k)
 
 -- ── row by row ──
 
@@ -202,15 +217,18 @@ module _ (n : ℕ) (cost : Pair → ℕ) (ws : List ℕ) (i : ℕ) (there : i < 
 
 -- ── a piece's pair sum ──
 
--- in either order the pair has the penalty of the two pieces
-between-cost : (j : Job) (v : Layout) (i k : ℕ) → i ≢ k → costBetween (pairPenalty j v) i k ≡ penaltyBetween j v i k
-unfolding pairPenalty penaltyPlaced
-between-cost j v i k d = ⊎-elim (λ l. cost-above (pairPenalty j v) i k l) (λ l. cost-below (pairPenalty j v) i k l ∙ penalty-symmetric _ _ _ _) (apart i k d)
-
 -- the penalty of two pieces does not depend on which is named first
 pub between-symmetric : (j : Job) (v : Layout) (i k : ℕ) → penaltyBetween j v i k ≡ penaltyBetween j v k i
 unfolding penaltyPlaced
 between-symmetric j v i k = penalty-symmetric _ _ _ _
+
+-- in either order the pair has the penalty of the two pieces
+between-cost : (j : Job) (v : Layout) (i k : ℕ) → i ≢ k → costBetween (pairPenalty j v) i k ≡ penaltyBetween j v i k
+between-cost j v i k d =
+    ⊎-elim
+    (λ l. cost-above (pairPenalty j v) i k l ∙ pair-between j v i k)
+    (λ l. cost-below (pairPenalty j v) i k l ∙ pair-between j v k i ∙ between-symmetric j v k i)
+    (apart i k d)
 
 -- the weight of a piece with itself is 0, whatever stands beside it
 pub share-agree : (n : ℕ) (ws : List ℕ) (i k : ℕ) (a b : ℕ) → (i ≢ k → a ≡ b) → weightBetween n ws i k * a ≡ weightBetween n ws i k * b
@@ -275,13 +293,15 @@ sum-at j ws v i t line a l g e =
 pub weighted-rows : (j : Job) (ws : List ℕ) (v : Layout) → length ws ≡ length (pairs (j .size .count))
     → weightedSum j ws v
     ≡ sumBelow (j .size .count) (λ i. sumBelow (j .size .count - suc i) (λ m. getD ws (rowStart (j .size .count) i + m) 0 * penaltyBetween j v i (suc i + m)))
-unfolding pairTerm penaltyPlaced pairPenalty
+unfolding pairTerm
 weighted-rows j ws v e =
     weighted-sum j ws v e
     ∙ positions-rows (j .size .count) (pairTerm j ws v)
     ∙ sum-agree (j .size .count) _ _
     (λ i l. sum-agree (j .size .count - suc i) _ _
-    (λ m h. ap (λ q. getD ws (rowStart (j .size .count) i + m) 0 * pairPenalty j v q) (row-at (j .size .count) i m noPair (omega arith))))
+    (λ m h.
+    ap (λ q. getD ws (rowStart (j .size .count) i + m) 0 * pairPenalty j v q) (row-at (j .size .count) i m noPair (omega arith))
+    ∙ ap (λ c. getD ws (rowStart (j .size .count) i + m) 0 * c) (pair-between j v i (suc i + m))))
 
 -- the weighted sum after a piece is placed anew: the old pair sum taken off, the new one added
 pub moved-sum : (j : Job) (ws : List ℕ) (v : Layout) (i : ℕ) (p : Placement)
@@ -341,11 +361,11 @@ weight-positive j ws i k w l h d =
 
 -- the penalty of two pieces is at most 255
 pub between-bound : (j : Job) → BoxesSmall j → (v : Layout) (i k : ℕ) → i < j .size .count → k < j .size .count → i ≢ k → penaltyBetween j v i k ≤ sideBound
-unfolding pairPenalty penaltyPlaced
 between-bound j small v i k l h d =
-    ⊎-elim (λ g. pair-penalty-at-most j small v (pairOf i k) (pair-mem (j .size .count) i k g h))
-    (λ g. rw (penalty-symmetric (shapeIn j v i) (cornerIn v i) (shapeIn j v k) (cornerIn v k))
-    (pair-penalty-at-most j small v (pairOf k i) (pair-mem (j .size .count) k i g l))) (apart i k d)
+    ⊎-elim
+    (λ g. rw (← pair-between j v i k) (pair-penalty-at-most j small v (pairOf i k) (pair-mem (j .size .count) i k g h)))
+    (λ g. rw (between-symmetric j v i k, ← pair-between j v k i) (pair-penalty-at-most j small v (pairOf k i) (pair-mem (j .size .count) k i g l)))
+    (apart i k d)
 
 -- a piece's pair sum, and every running sum of it, is at most 63 × 65,535 × 255, which is below 2³⁰
 abbrev pub pieceSumBound : ℕ

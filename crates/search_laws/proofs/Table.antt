@@ -5,19 +5,19 @@ use Rattle.list_laws.proofs.Kit.{_∙_, _≡_, ap, refl, sym, not, _≢_, ⊎-e
 use Rattle.list_laws.proofs.Kit.{eqb, getD, getD-replicate, length, length-replicate, length-set, set, getD-set-other, getD-set-same, eq-eqb, ne-eqb}
 use Rattle.list_laws.proofs.Kit.{not-true, ℕ-discrete}
 use Rattle.model.specs.Bounded.{sumBelow}
-use Rattle.model.specs.Layout.{Job, Layout, placeOf, pairOf, pairs, pairShares, pieceSum, unitWeights, plainSum}
+use Rattle.model.specs.Layout.{Job, Layout, placeOf, pairOf, pairs, pairConflicts, pairPenalty, pieceSum, unitWeights, plainSum}
 use Rattle.model.specs.declared.Placement.{Placement}
 use Rattle.list_laws.proofs.Sums.{sum-agree, sum-zero, term-at-most}
 use Rattle.list_laws.proofs.Tests.{same-tests, passes, clash}
 use Rattle.list_laws.proofs.Numbers.{below-more}
-use Rattle.overlap_laws.proofs.Penalty.{zero-penalty, penalty-zero}
+use Rattle.overlap_laws.proofs.Penalty.{zero-conflict, conflict-zero}
 use Rattle.descent_laws.specs.Claims.{ValidWeights}
 use Rattle.search_laws.specs.Table.{entry, PenaltyTable, Renewed}
 use Rattle.search_laws.specs.Pairs.{rowStart, pairIndex}
 use Rattle.search_laws.proofs.Pairs.{pair-below}
 use Rattle.search_laws.specs.PieceSum.{weightBetween, penaltyPlaced, penaltyBetween}
 use Rattle.search_laws.proofs.PieceSum.{pairTerm, share-agree, weight-positive, pair-term, piece-sum, placed-penalty, others-penalty, between-symmetric}
-use Rattle.search_laws.proofs.PieceSum.{weighted-sum, positions-rows, moved-sum}
+use Rattle.search_laws.proofs.PieceSum.{weighted-sum, positions-rows, moved-sum, pair-between}
 
 -- a table of no pieces
 pub table-empty : (j : Job) (v : Layout) (T : List ℕ) → length T ≡ 4096 → PenaltyTable j v 0 T
@@ -140,15 +140,16 @@ module _ (j : Job) (ws : List ℕ) (v : Layout) (T : List ℕ) (h : PenaltyTable
       pair-term j ws v i k l b
       ∙ ap (λ c. getD ws (pairIndex (j .size .count) i k) 0 * c) (sym (h .holds i k (omega arith) b (λ e. omega arith)))
 
-  -- the pair (i, k) shares a pixel exactly where its entry is not 0
-  pub table-shares : (i k : ℕ) → i < k → k < j .size .count → pairShares j v (pairOf i k) ≡ not (eqb (getD T (entry i k) 0) 0)
-  unfolding pairShares penaltyPlaced
-  table-shares i k l b =
-      let e : getD T (entry i k) 0 ≡ penaltyBetween j v i k = h .holds i k (omega arith) b (λ e. omega arith) in
+  -- the pair (i, k) conflicts exactly where its entry is not 0
+  pub table-conflicts : (i k : ℕ) → i < k → k < j .size .count → pairConflicts j v (pairOf i k) ≡ not (eqb (getD T (entry i k) 0) 0)
+  unfolding pairConflicts pairPenalty
+  table-conflicts i k l b =
+      let e : getD T (entry i k) 0 ≡ pairPenalty j v (pairOf i k)
+      = h .holds i k (omega arith) b (λ e. omega arith) ∙ sym (pair-between j v i k) in
       rw e
       (same-tests _ _
-      (λ s. ap not (ne-eqb (penaltyBetween j v i k) 0 (λ z. clash s (zero-penalty _ _ _ _ z))))
-      (λ s. passes _ (λ z. clash (eq-eqb (penaltyBetween j v i k) 0 (penalty-zero _ _ _ _ z)) (not-true _ s))))
+      (λ s. ap not (ne-eqb (pairPenalty j v (pairOf i k)) 0 (λ z. clash s (zero-conflict _ _ _ _ _ z))))
+      (λ s. passes _ (λ z. clash (eq-eqb (pairPenalty j v (pairOf i k)) 0 (conflict-zero _ _ _ _ _ z)) (not-true _ s))))
 
 -- ── the plain sum ──
 

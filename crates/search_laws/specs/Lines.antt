@@ -4,13 +4,13 @@ use mathlib.Core.List.{List}
 use mathlib.Core.Path.{_≡_}
 use Prim.Native.Nat.{ℕ, _+_, _-_, _<_}
 use lib.ListN.{getD}
-use Rattle.model.specs.Piece.{Shape, point, extent}
+use Rattle.model.specs.Piece.{Shape, sideBound, gapBound, point, extent}
 use Rattle.model.specs.Overlap.{penalty}
 use Rattle.model.specs.declared.Direction.{Direction}
 
 -- where the moved piece stands across: an offset of the standing piece is counted from here, so none that matters is below 0
 abbrev pub middle : ℕ
-middle = 255
+middle = sideBound + gapBound
 
 -- how many places a line has: those at which the boxes meet along it
 abbrev pub linePlaces : Direction → Shape → Shape → ℕ

@@ -2,13 +2,14 @@
 use Rattle.list_laws.proofs.Kit.{_∙_, _≡_, ap, refl, subst, sym, ⊎-elim, List, _*_, _+_, _/_, _%_, _<_, _≤_, ℕ, arith, getD, length, set}
 use Rattle.list_laws.proofs.Kit.{List·getD-eq-default, decLt, getD-replicate, length-replicate, length-set, replicate, getD-set-other, getD-set-same}
 use Rattle.list_laws.proofs.Kit.{ℕ-discrete}
-use Rattle.model.specs.Layout.{Job, turnedPiece}
+use Rattle.model.specs.Layout.{Job}
 use Rattle.model.specs.Lent.{lentBy, jobOf, pieceBound, entryColumns, entryRows}
 use Rattle.model.specs.declared.Direction.{Direction}
 use Rattle.model.specs.declared.Direction.the-variants.{Horizontal, Vertical}
 use Rattle.model.specs.declared.JobSize.{JobSize}
 use Rattle.model.specs.declared.Turn.{Turn}
 use Rattle.list_laws.proofs.Numbers.{slot-before, below-or}
+use Rattle.overlap_laws.specs.Grown.{grown, grownPiece}
 use Rattle.job_laws.proofs.Turned.{turned-extent}
 use Rattle.search_shapes.specs.Shapes.{numberedShape, shapeNumber}
 use Rattle.search_shapes.proofs.Numbers.{turn-below, number-back}
@@ -19,9 +20,13 @@ use Rattle.search_lines.specs.Making.{LineMade, KeyPut}
 
 -- ── keys ──
 
+-- the job whose pieces are this one's, grown by its gap
+abbrev grownJob : Job → Job
+grownJob j = record { size = j .size; piece = λ i. record { shape = grown (j .size .gap) (j .piece i .shape); turns = j .piece i .turns } }
+
 -- pieces and turns of one number have one shape
-pub same-shape : (j : Job) (i k : ℕ) (t u : Turn) → shapeNumber i t ≡ shapeNumber k u → turnedPiece j i t ≡ turnedPiece j k u
-same-shape j i k t u e = sym (number-back j i t) ∙ ap (numberedShape j) e ∙ number-back j k u
+pub same-shape : (j : Job) (i k : ℕ) (t u : Turn) → shapeNumber i t ≡ shapeNumber k u → grownPiece j i t ≡ grownPiece j k u
+same-shape j i k t u e = sym (number-back (grownJob j) i t) ∙ ap (numberedShape (grownJob j)) e ∙ number-back (grownJob j) k u
 
 -- a direction has one number
 same-direction : (d d′ : Direction) → directionNumber d ≡ directionNumber d′ → d ≡ d′
@@ -107,17 +112,17 @@ module _ (j : Job) (r : RunSize) where
 
     module _ (m i k : ℕ) (t u : Turn) (d : Direction) (offset : ℕ) (made new more : List ℕ) (few : j .size .count ≤ pieceBound) (slot : m < r .slots)
         (first : i < j .size .count) (second : k < j .size .count) (near : offset < 1024) (wide : Wide j (r .width))
-        (line : LineMade d (turnedPiece j i t) (turnedPiece j k u) offset lines (m * r .width + keyBytes) made) (ready : MapsReady j more)
+        (line : LineMade d (grownPiece j i t) (grownPiece j k u) offset lines (m * r .width + keyBytes) made) (ready : MapsReady j more)
         (key : ℕ) (is : key ≡ keyOf d (shapeNumber i t) (shapeNumber k u) offset) (put : KeyPut key (m * r .width) made new)
       where
         -- the line of the slot, behind its key
-        pub line-put : HoldsLine d (turnedPiece j i t) (turnedPiece j k u) offset new (m * r .width + keyBytes)
+        pub line-put : HoldsLine d (grownPiece j i t) (grownPiece j k u) offset new (m * r .width + keyBytes)
         line-put x l = put .after (m * r .width + keyBytes + x) (omega arith) ∙ line .line x l
 
         -- the slot holds every line that its key names: they are all one
         own-slot : (i′ k′ : ℕ) (t′ u′ : Turn) (d′ : Direction) (offset′ : ℕ) → i′ < j .size .count → k′ < j .size .count → offset′ < 1024
             → keyOf d (shapeNumber i t) (shapeNumber k u) offset ≡ keyOf d′ (shapeNumber i′ t′) (shapeNumber k′ u′) offset′
-            → HoldsLine d′ (turnedPiece j i′ t′) (turnedPiece j k′ u′) offset′ new (m * r .width + keyBytes)
+            → HoldsLine d′ (grownPiece j i′ t′) (grownPiece j k′ u′) offset′ new (m * r .width + keyBytes)
         own-slot i′ k′ t′ u′ d′ offset′ a b c e =
             let v : shapeNumber i t < 256 = (let y = turn-below t in omega arith) in
             let v′ : shapeNumber i′ t′ < 256 = (let y = turn-below t′ in omega arith) in
@@ -127,8 +132,8 @@ module _ (j : Job) (r : RunSize) where
             let p : shapeNumber i t ≡ shapeNumber i′ t′ = omega arith in
             let q : shapeNumber k u ≡ shapeNumber k′ u′ = omega arith in
             let o : offset ≡ offset′ = omega arith in
-            let f : turnedPiece j i t ≡ turnedPiece j i′ t′ = same-shape j i i′ t t′ p in
-            let g : turnedPiece j k u ≡ turnedPiece j k′ u′ = same-shape j k k′ u u′ q in
+            let f : grownPiece j i t ≡ grownPiece j i′ t′ = same-shape j i i′ t t′ p in
+            let g : grownPiece j k u ≡ grownPiece j k′ u′ = same-shape j k k′ u u′ q in
             rw (← same-direction d d′ n, ← f, ← g, ← o) line-put
 
         -- a byte of another slot is as before
@@ -171,7 +176,7 @@ module _ (j : Job) (r : RunSize) where
           where
             by-slot : (n i′ k′ : ℕ) (t′ u′ : Turn) (d′ : Direction) (offset′ : ℕ) → n < r .slots → i′ < j .size .count → k′ < j .size .count → offset′ < 1024
                 → keyAt new (n * r .width) ≡ keyOf d′ (shapeNumber i′ t′) (shapeNumber k′ u′) offset′ → Dec (n ≡ m)
-                → HoldsLine d′ (turnedPiece j i′ t′) (turnedPiece j k′ u′) offset′ new (n * r .width + keyBytes)
+                → HoldsLine d′ (grownPiece j i′ t′) (grownPiece j k′ u′) offset′ new (n * r .width + keyBytes)
             by-slot n i′ k′ t′ u′ d′ offset′ l a b c e (yes h) =
                 rw h (own-slot i′ k′ t′ u′ d′ offset′ a b c
                 (sym is ∙ sym (put .key-is) ∙ subst (λ (z : ℕ). keyAt new (z * r .width) ≡ keyOf d′ (shapeNumber i′ t′) (shapeNumber k′ u′) offset′) h e))
@@ -187,12 +192,13 @@ module _ (j : Job) (r : RunSize) where
 
 -- ── how wide a slot is ──
 
--- twice the largest side and a key are wide enough
-pub twice-wide : (j : Job) (n : ℕ) → ((i : ℕ) → i < j .size .count → (j .piece i .shape .columns ≤ n) × (j .piece i .shape .rows ≤ n))
+-- twice the largest side with the gap and a key are wide enough
+pub twice-wide : (j : Job) (n : ℕ)
+    → ((i : ℕ) → i < j .size .count → (j .piece i .shape .columns + j .size .gap ≤ n) × (j .piece i .shape .rows + j .size .gap ≤ n))
     → Wide j (n * 2 + keyBytes)
 twice-wide j n small i k t u d a b =
-    let x = turned-extent d t (j .piece i .shape) n (small i a .0) (small i a .1) in
-    let y = turned-extent d u (j .piece k .shape) n (small k b .0) (small k b .1) in
+    let x = turned-extent d t (grownJob j .piece i .shape) n (small i a .0) (small i a .1) in
+    let y = turned-extent d u (grownJob j .piece k .shape) n (small k b .0) (small k b .1) in
     omega arith
 
 -- no side of the first n entries is above the number
@@ -217,9 +223,10 @@ covered-more table side n more w up c r =
         (λ (h : n ≤ i). let e : i ≡ n = omega arith in rw e last)
         (below-or i n)
 
--- twice the number and a key are wide enough for a job of these entries
+-- twice the number with the gap and a key are wide enough for a job of these entries
 pub covered-wide : (size : JobSize) (table : List (List ℕ)) (pixels : List ℕ) (side n : ℕ) → size .count ≤ n → SidesCovered table side n
-    → Wide (jobOf (lentBy size table pixels)) (side * 2 + keyBytes)
+    → Wide (jobOf (lentBy size table pixels)) ((side + size .gap) * 2 + keyBytes)
 unfolding jobOf
 covered-wide size table pixels side n l w =
-    twice-wide (jobOf (lentBy size table pixels)) side (λ i h. (w .columns i (omega arith), w .rows i (omega arith)))
+    twice-wide (jobOf (lentBy size table pixels)) (side + size .gap)
+    (λ i h. (omega (arith, w .columns i (omega arith)), omega (arith, w .rows i (omega arith))))

@@ -3,11 +3,12 @@
 use Rattle.list_laws.proofs.Kit.{_≡_, refl, _+_, _-_, ℕ, arith}
 use Rattle.model.specs.Piece.{Point, Shape, along, across, point, extent, corner, lineDirection, held, onLine}
 use Rattle.model.specs.Overlap.{penalty}
-use Rattle.model.specs.Layout.{Job, Layout, turnedPiece, shapeIn, cornerIn}
+use Rattle.model.specs.Layout.{Job, Layout, cornerIn}
 use Rattle.model.specs.declared.Direction.{Direction}
 use Rattle.model.specs.declared.Line.{Line}
 use Rattle.model.specs.declared.Line.the-variants.{InRow, InColumn}
 use Rattle.model.specs.declared.Turn.{Turn}
+use Rattle.overlap_laws.specs.Grown.{grownPiece, grownIn}
 use Rattle.overlap_laws.proofs.Share.{same-difference, along-point, across-point}
 use Rattle.overlap_laws.proofs.Penalty.{penalty-difference}
 use Rattle.search_laws.specs.PieceSum.{penaltyOn}
@@ -36,11 +37,11 @@ line-penalty-at d s u t v o c e f =
 
 -- piece i in the turn at coordinate a on the line, and piece k as the layout places it: place c of their line
 pub line-on : (j : Job) (v : Layout) (i : ℕ) (t : Turn) (line : Line) (a k o c : ℕ)
-    → c + along (lineDirection line) (cornerIn v k) ≡ a + (extent (lineDirection line) (turnedPiece j i t) - 1)
+    → c + along (lineDirection line) (cornerIn v k) ≡ a + (extent (lineDirection line) (grownPiece j i t) - 1)
     → o + held line ≡ across (lineDirection line) (cornerIn v k) + middle
-    → penaltyOn j v i t line a k ≡ linePenalty (lineDirection line) (turnedPiece j i t) (shapeIn j v k) o c
+    → penaltyOn j v i t line a k ≡ linePenalty (lineDirection line) (grownPiece j i t) (grownIn j v k) o c
 unfolding penaltyOn
 line-on j v i t line a k o c e f =
     let p : along (lineDirection line) (corner (onLine line t a)) ≡ a = along-on line t a in
     let q : across (lineDirection line) (corner (onLine line t a)) ≡ held line = across-on line t a in
-    line-penalty-at (lineDirection line) (turnedPiece j i t) (corner (onLine line t a)) (shapeIn j v k) (cornerIn v k) o c (omega arith) (omega arith)
+    line-penalty-at (lineDirection line) (grownPiece j i t) (corner (onLine line t a)) (grownIn j v k) (cornerIn v k) o c (omega arith) (omega arith)

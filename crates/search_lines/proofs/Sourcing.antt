@@ -1,18 +1,21 @@
 -- Sources that give the same line, and lines made from them. Assumes nothing.
-use Rattle.list_laws.proofs.Kit.{_∙_, _≡_, ap, refl, subst, sym, Bool, false, true, List, _++_, _+_, _-_, _<_, _≤_, ℕ, arith, drop, getD, length, take}
-use Rattle.list_laws.proofs.Kit.{getD-take, length-drop, length-take-le}
+use Rattle.list_laws.proofs.Kit.{_∙_, _≡_, ap, refl, subst, sym, ⊎-elim, inl, inr, Bool, false, true, List, _++_, _+_, _-_, _<_, _≤_, ℕ, arith, drop, getD}
+use Rattle.list_laws.proofs.Kit.{getD-take, length, length-drop, length-take-le, take}
 use Rattle.model.specs.Piece.{Shape, extent, other, turned}
-use Rattle.model.specs.Lent.{Lent, jobOf}
+use Rattle.model.specs.Lent.{Lent, jobOf, gapBound}
 use Rattle.model.specs.declared.Direction.{Direction}
 use Rattle.model.specs.declared.Direction.the-variants.{Horizontal, Vertical}
-use Rattle.job_laws.proofs.Checked.{facts, lent-turned-small}
+use Rattle.job_laws.proofs.Checked.{facts}
 use Rattle.strip_laws.specs.Boxes.{SameShape}
 use Rattle.strip_laws.proofs.Boxes.{same-extent}
+use Rattle.overlap_laws.specs.Grown.{grown, wideBound}
 use Rattle.search_classes.specs.Classes.{Classes}
 use Rattle.search_classes.proofs.Equals.{turned-same}
-use Rattle.search_laws.specs.Lines.{linePlaces, linePenalty, HoldsLine}
+use Rattle.search_laws.specs.Lines.{middle, linePlaces, linePenalty, HoldsLine}
+use Rattle.search_map_laws.specs.Boxes.{ShortTogether}
 use Rattle.search_map_laws.specs.Turns.{turnBefore}
-use Rattle.search_map_laws.proofs.Pieces.{sides-fit}
+use Rattle.search_map_laws.proofs.Grown.{grown-same}
+use Rattle.search_map_laws.proofs.Pieces.{grown-some, grown-small}
 use Rattle.search_map_laws.proofs.Quarters.{line-same, row-back, column-back, sides-back}
 use Rattle.search_lines.specs.declared.Two.{Two}
 use Rattle.search_lines.specs.declared.Source.{Source}
@@ -20,6 +23,22 @@ use Rattle.search_lines.specs.Making.{movedShape, standingShape, exchang
 use Rattle.search_lines.specs.Sources.{Named, SameLine, plainSource, backSource, mirroredOffset, classedTwo, quarterAlong, quarterSource, SourceMade}
 use Rattle.search_lines.proofs.Exchanging.{exchanged-penalty}
 use Rattle.search_lines.proofs.Parts.{put-length, put-in, put-before, put-after}
+
+-- ── short together ──
+
+-- shapes alike are short together as well
+short-same : (s t s′ t′ : Shape) → SameShape s s′ → SameShape t t′ → ShortTogether s t → ShortTogether s′ t′
+short-same s t s′ t′ a b h =
+    ⊎-elim (λ x. inl (omega (arith, x, a .columns, b .columns))) (λ x. inr (omega (arith, x, a .rows, b .rows))) h
+
+-- and so are the two exchanged
+short-exchanged : (s t : Shape) → ShortTogether s t → ShortTogether t s
+short-exchanged s t h = ⊎-elim (λ x. inl (omega (arith, x))) (λ x. inr (omega (arith, x))) h
+
+-- and the two turned by a quarter
+short-turned : (s t s′ t′ : Shape) → s′ .rows ≡ s .columns → s′ .columns ≡ s .rows → t′ .rows ≡ t .columns → t′ .columns ≡ t .rows
+    → ShortTogether s t → ShortTogether s′ t′
+short-turned s t s′ t′ a b c e h = ⊎-elim (λ x. inr (omega (arith, x, a, c))) (λ x. inl (omega (arith, x, b, e))) h
 
 -- ── the same line ──
 
@@ -44,26 +63,24 @@ module _ (l : Lent) (two : Two) (n : Named l two) where
   standing-there = n .standing
 
   -- their entries are in the table
-  pub named-entries : (two .moved < length (l .table)) × (two .standing < length (l .table)) × (two .offset < 1024)
-  named-entries = let f = facts l (n .well) .entries in (omega (arith, n .moved), omega (arith, n .standing), n .offset)
+  pub named-entries : (two .moved < length (l .table)) × (two .standing < length (l .table)) × (l .size .gap ≤ gapBound)
+  named-entries = let f = facts l (n .well) .entries in (omega (arith, n .moved), omega (arith, n .standing), facts l (n .well) .smallGap)
 
-  -- their sides are 1 to 255
+  -- their sides are 1 to 263
   side-some : (d : Direction) → 1 ≤ extent d (movedShape l two)
-  side-some d =
-      sides-fit l (n .well) d (two .moved) (two .standing) (two .«moved_turn») (two .«standing_turn») moved-there standing-there .moved-along .low
+  side-some d = grown-some l (n .well) (two .moved) (two .«moved_turn») moved-there d
 
   standing-some : (d : Direction) → 1 ≤ extent d (standingShape l two)
-  standing-some d =
-      sides-fit l (n .well) d (two .moved) (two .standing) (two .«moved_turn») (two .«standing_turn») moved-there standing-there .standing-along .low
+  standing-some d = grown-some l (n .well) (two .standing) (two .«standing_turn») standing-there d
 
-  pub moved-small : (d : Direction) → extent d (movedShape l two) ≤ 255
-  moved-small d = lent-turned-small l (n .well) d (two .moved) (two .«moved_turn») moved-there
+  pub moved-small : (d : Direction) → extent d (movedShape l two) ≤ wideBound
+  moved-small d = grown-small l (n .well) (two .moved) (two .«moved_turn») moved-there d
 
-  pub standing-small : (d : Direction) → extent d (standingShape l two) ≤ 255
-  standing-small d = lent-turned-small l (n .well) d (two .standing) (two .«standing_turn») standing-there
+  pub standing-small : (d : Direction) → extent d (standingShape l two) ≤ wideBound
+  standing-small d = grown-small l (n .well) (two .standing) (two .«standing_turn») standing-there d
 
   -- they fit a local line
-  pub places-few : (d : Direction) → linePlaces d (movedShape l two) (standingShape l two) ≤ 512
+  pub places-few : (d : Direction) → linePlaces d (movedShape l two) (standingShape l two) ≤ 526
   places-few d = let a = moved-small d in let b = standing-small d in omega arith
 
   -- the two exchanged give the line backwards
@@ -71,10 +88,16 @@ module _ (l : Lent) (two : Two) (n : Named l two) where
   exchanged-same d =
       let e : linePlaces d (standingShape l two) (movedShape l two) ≡ linePlaces d (movedShape l two) (standingShape l two) = omega arith in
       record {
-        named = record { well = n .well; moved = n .standing; standing = n .moved; offset = omega arith };
+        named = record {
+          well = n .well;
+          moved = n .standing;
+          standing = n .moved;
+          offset = omega arith;
+          small = short-exchanged (movedShape l two) (standingShape l two) (n .small);
+        };
         places = e;
         each = λ k h.
-            ap (λ (m : ℕ). linePenalty d (standingShape l two) (movedShape l two) (510 - two .offset) (m - 1 - k)) e
+            ap (λ (m : ℕ). linePenalty d (standingShape l two) (movedShape l two) (middle + middle - two .offset) (m - 1 - k)) e
             ∙ exchanged-penalty d (movedShape l two) (standingShape l two) (two .offset) k (side-some d) (standing-some d) h (moved-small (other d));
       }
 
@@ -83,9 +106,9 @@ module _ (l : Lent) (two : Two) (n : Named l two) where
   classed-same classes c d =
       let both : Two = classedTwo classes two in
       let a : SameShape (movedShape l two) (movedShape l both) =
-      turned-same _ _ (c (two .moved) moved-there .1) (two .«moved_turn») in
+      turned-same _ _ (grown-same (jobOf l .size .gap) _ _ (c (two .moved) moved-there .1)) (two .«moved_turn») in
       let b : SameShape (standingShape l two) (standingShape l both) =
-      turned-same _ _ (c (two .standing) standing-there .1) (two .«standing_turn») in
+      turned-same _ _ (grown-same (jobOf l .size .gap) _ _ (c (two .standing) standing-there .1)) (two .«standing_turn») in
       let ea = same-extent d (movedShape l two) (movedShape l both) a in
       let eb = same-extent d (standingShape l two) (standingShape l both) b in
       record {
@@ -94,23 +117,18 @@ module _ (l : Lent) (two : Two) (n : Named l two) where
           moved = (let h = c (two .moved) moved-there .0 in let m = n .moved in omega arith);
           standing = (let h = c (two .standing) standing-there .0 in let m = n .standing in omega arith);
           offset = n .offset;
+          small = short-same (movedShape l two) (standingShape l two) (movedShape l both) (standingShape l both) a b (n .small);
         };
         places = omega arith;
         each = λ k h. sym (line-same d (movedShape l two) (standingShape l two) (movedShape l both) (standingShape l both) (two .offset) k a b);
       }
 
-  -- both turned back by a quarter are named as well
-  quarter-named : (d : Direction) (back : Bool) → Named l (quarterAlong d l two back .two)
-  quarter-named Horizontal back = record { well = n .well; moved = n .moved; standing = n .standing; offset = n .offset }
-  quarter-named Vertical back =
-      record { well = n .well; moved = n .moved; standing = n .standing; offset = (let a = moved-small Horizontal in omega arith) }
-
-  -- the shapes before their turns, and both turned back by a quarter
+  -- the grown shapes before their turns, and both turned back by a quarter
   abbrev first : Shape
-  first = jobOf l .piece (two .moved) .shape
+  first = grown (jobOf l .size .gap) (jobOf l .piece (two .moved) .shape)
 
   abbrev second : Shape
-  second = jobOf l .piece (two .standing) .shape
+  second = grown (jobOf l .size .gap) (jobOf l .piece (two .standing) .shape)
 
   abbrev firstBack : Shape
   firstBack = turned (turnBefore (two .«moved_turn»)) first
@@ -118,6 +136,19 @@ module _ (l : Lent) (two : Two) (n : Named l two) where
   abbrev secondBack : Shape
   secondBack = turned (turnBefore (two .«standing_turn»)) second
 
+  -- they are short together
+  short-back : ShortTogether firstBack secondBack
+  short-back =
+      let e = sides-back first second (two .«moved_turn») (two .«standing_turn») (two .offset) 0 in
+      short-turned (movedShape l two) (standingShape l two) firstBack secondBack (e .0) (e .1) (e .2) (e .3) (n .small)
+
+  -- so they are named as well
+  quarter-named : (d : Direction) (back : Bool) → Named l (quarterAlong d l two back .two)
+  quarter-named Horizontal back = record { well = n .well; moved = n .moved; standing = n .standing; offset = n .offset; small = short-back }
+  quarter-named Vertical back =
+      record { well = n .well; moved = n .moved; standing = n .standing; offset = (let a = moved-small Horizontal in omega arith); small = short-back }
+
+  -- their lines have as many places
   back-places : (linePlaces Vertical firstBack secondBack ≡ linePlaces Horizontal (movedShape l two) (standingShape l two))
       × (linePlaces Horizontal firstBack secondBack ≡ linePlaces Vertical (movedShape l two) (standingShape l two))
   back-places =
@@ -177,11 +208,12 @@ pub asked-source : (l : Lent) (d : Direction) (store : List (List ℕ)) (starts 
     → SameLine l (plainSource d two) a → Asked l store starts (a .two)
 asked-source l d store starts two a asked same =
     let n = same .named in
-    record { well = asked .well; shapes = asked .shapes; moved = n .moved; standing = n .standing; offset = n .offset }
+    record { well = asked .well; shapes = asked .shapes; moved = n .moved; standing = n .standing; offset = n .offset; small = n .small }
 
 -- what is asked for is named
 pub asked-named : (l : Lent) (store : List (List ℕ)) (starts : List ℕ) (two : Two) → Asked l store starts two → Named l two
-asked-named l store starts two asked = record { well = asked .well; moved = asked .moved; standing = asked .standing; offset = asked .offset }
+asked-named l store starts two asked =
+    record { well = asked .well; moved = asked .moved; standing = asked .standing; offset = asked .offset; small = asked .small }
 
 -- ── lines made ──
 

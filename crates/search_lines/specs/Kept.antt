@@ -1,15 +1,16 @@
--- Penalty lines of two pieces, kept for later searches: each slot of the store begins with a key, and a slot whose key is that of two pieces in
--- their turns, a direction and an offset across holds their line behind it. Neither the corners along the line nor the weights play a part in it,
--- so a line stays right when pieces move. The maps that lines are made from are kept beside them, behind the classes of the pieces: one map
--- serves equal pieces. Assumes nothing.
+-- Penalty lines of two pieces, both grown by the job's gap, kept for later searches: each slot of the store begins with a key, and a slot whose key is
+-- that of two pieces in their turns, a direction and an offset across holds their line behind it. Neither the corners along the line nor the
+-- weights play a part in it, so a line stays right when pieces move. The maps that lines are made from are kept beside them, behind the
+-- classes of the pieces: one map serves equal pieces. Assumes nothing.
 use mathlib.Core.List.{List}
 use mathlib.Core.Path.{_≡_}
 use Prim.Native.Nat.{ℕ, _+_, _*_, _<_, _≤_}
 use lib.ListN.{length, getD, drop}
-use Rattle.model.specs.Layout.{Job, turnedPiece}
+use Rattle.model.specs.Layout.{Job}
 use Rattle.model.specs.declared.Direction.{Direction}
 use Rattle.model.specs.declared.Direction.the-variants.{Horizontal, Vertical}
 use Rattle.model.specs.declared.Turn.{Turn}
+use Rattle.overlap_laws.specs.Grown.{grownPiece}
 use Rattle.search_bits.specs.Bit.{lengthLimit}
 use Rattle.search_shapes.specs.Shapes.{shapeNumber}
 use Rattle.search_laws.specs.Lines.{linePlaces, HoldsLine}
@@ -21,7 +22,7 @@ use Rattle.search_lines.specs.declared.RunSize.{RunSize}
 
 -- the most bytes of a slot, and of a store of lines
 abbrev pub slotBound : ℕ
-slotBound = 514
+slotBound = 530
 
 abbrev pub linesBound : ℕ
 linesBound = 524288
@@ -69,12 +70,12 @@ pub record LinesKept (j : Job) (r : RunSize) (lines maps : List ℕ) : Type 0 wh
   pub some : 0 < r .slots
   pub holds : (m i k : ℕ) (t u : Turn) (d : Direction) (offset : ℕ) → m < r .slots → i < j .size .count → k < j .size .count → offset < 1024
       → keyAt lines (m * r .width) ≡ keyOf d (shapeNumber i t) (shapeNumber k u) offset
-      → HoldsLine d (turnedPiece j i t) (turnedPiece j k u) offset lines (m * r .width + keyBytes)
+      → HoldsLine d (grownPiece j i t) (grownPiece j k u) offset lines (m * r .width + keyBytes)
 
 -- a slot has room for its key and the line of every two pieces of the job
 abbrev pub Wide : Job → ℕ → Type 0
 Wide j width =
-    (i k : ℕ) (t u : Turn) (d : Direction) → i < j .size .count → k < j .size .count → linePlaces d (turnedPiece j i t) (turnedPiece j k u) + keyBytes ≤ width
+    (i k : ℕ) (t u : Turn) (d : Direction) → i < j .size .count → k < j .size .count → linePlaces d (grownPiece j i t) (grownPiece j k u) + keyBytes ≤ width
 
 -- a store of lines as a run has it: slots wide enough, no wider than the widest, and no more bytes than a store has
 pub record LinesFit (j : Job) (r : RunSize) (lines : List ℕ) : Type 0 where

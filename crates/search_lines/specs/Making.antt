@@ -5,23 +5,25 @@ use mathlib.Core.Path.{_≡_}
 use Prim.Native.Nat.{ℕ, _+_, _-_, _<_, _≤_}
 use lib.ListN.{length, getD}
 use Rattle.model.specs.Piece.{Shape}
-use Rattle.model.specs.Layout.{Job, turnedPiece}
+use Rattle.model.specs.Layout.{Job}
 use Rattle.model.specs.Lent.{Lent, jobOf, lentWell, pieceBound}
 use Rattle.model.specs.declared.Direction.{Direction}
 use Rattle.model.specs.declared.Direction.the-variants.{Horizontal}
+use Rattle.overlap_laws.specs.Grown.{grownPiece}
 use Rattle.search_shapes.specs.Shapes.{shapeNumber, Shapes}
 use Rattle.search_lines.specs.declared.Two.{Two}
-use Rattle.search_laws.specs.Lines.{linePlaces, HoldsLine}
+use Rattle.search_laws.specs.Lines.{middle, linePlaces, HoldsLine}
 use Rattle.search_map_store.specs.Store.{MapAt}
 use Rattle.search_map_laws.specs.Keys.{mapKey}
+use Rattle.search_map_laws.specs.Boxes.{ShortTogether}
 use Rattle.search_lines.specs.Kept.{keyOf, keyAt, keyBytes, MapsReady}
 
--- the two pieces' shapes
+-- the two pieces' shapes, grown by the gap
 abbrev pub movedShape : Lent → Two → Shape
-movedShape l two = turnedPiece (jobOf l) (two .moved) (two .«moved_turn»)
+movedShape l two = grownPiece (jobOf l) (two .moved) (two .«moved_turn»)
 
 abbrev pub standingShape : Lent → Two → Shape
-standingShape l two = turnedPiece (jobOf l) (two .standing) (two .«standing_turn»)
+standingShape l two = grownPiece (jobOf l) (two .standing) (two .«standing_turn»)
 
 -- their key, in a direction
 abbrev pub keyOfTwo : Direction → Two → ℕ
@@ -39,7 +41,7 @@ exchangedTwo two =
       «moved_turn» = two .«standing_turn»;
       standing = two .moved;
       «standing_turn» = two .«moved_turn»;
-      offset = 510 - two .offset;
+      offset = middle + middle - two .offset;
     }
 
 -- the bytes of a line backwards
@@ -53,13 +55,14 @@ pub record SmallTwo (two : Two) : Type 0 where
   pub standing : two .standing < pieceBound
   pub offset : two .offset < 1024
 
--- two pieces of a job that passes its check, and the strips of all its pieces along rows
+-- two pieces of a job that passes its check, short together as two different ones are, and the strips of all its pieces along rows
 pub record Asked (l : Lent) (strips : List (List ℕ)) (starts : List ℕ) (two : Two) : Type 0 where
   pub well : lentWell l ≡ true
   pub shapes : Shapes Horizontal (jobOf l) strips starts
   pub moved : two .moved < l .size .count
   pub standing : two .standing < l .size .count
   pub offset : two .offset < 1024
+  pub small : ShortTogether (movedShape l two) (standingShape l two)
 
 -- the map of two shapes stands from r on, and the store is as ready as it was
 pub record MapFound (j : Job) (s t : Shape) (old new : List ℕ) (r : ℕ) : Type 0 where

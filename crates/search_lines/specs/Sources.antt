@@ -8,18 +8,20 @@ use lib.ListN.{length, getD}
 use Rattle.model.specs.Lent.{Lent, lentWell}
 use Rattle.model.specs.declared.Direction.{Direction}
 use Rattle.model.specs.declared.Direction.the-variants.{Horizontal, Vertical}
-use Rattle.search_laws.specs.Lines.{linePlaces, linePenalty}
+use Rattle.search_laws.specs.Lines.{middle, linePlaces, linePenalty}
+use Rattle.search_map_laws.specs.Boxes.{ShortTogether}
 use Rattle.search_map_laws.specs.Turns.{turnBefore}
 use Rattle.search_lines.specs.declared.Two.{Two}
 use Rattle.search_lines.specs.declared.Source.{Source}
 use Rattle.search_lines.specs.Making.{movedShape, standingShape}
 
--- two pieces of a job that passes its check
+-- two pieces of a job that passes its check, short together as two different ones are
 pub record Named (l : Lent) (two : Two) : Type 0 where
   pub well : lentWell l ≡ true
   pub moved : two .moved < l .size .count
   pub standing : two .standing < l .size .count
   pub offset : two .offset < 1024
+  pub small : ShortTogether (movedShape l two) (standingShape l two)
 
 -- place k of n, counted from the other end where a line is read backwards
 abbrev pub placeIn : Bool → ℕ → ℕ → ℕ
@@ -72,7 +74,7 @@ turnedTwo two o =
 
 -- the offset beside a column, counted from the other side of the boxes
 abbrev pub mirroredOffset : Lent → Two → ℕ
-mirroredOffset l two = 510 + movedShape l two .columns - (standingShape l two .columns + two .offset)
+mirroredOffset l two = middle + middle + movedShape l two .columns - (standingShape l two .columns + two .offset)
 
 -- the source of both pieces turned back by a quarter
 abbrev pub quarterAlong : Direction → Lent → Two → Bool → Source

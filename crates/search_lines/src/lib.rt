@@ -6,12 +6,14 @@ ghost use mathlib.Core.List.{List};
 ghost use mathlib.Core.Bool.{true};
 ghost use Prim.Native.Nat.{ℕ, _+_, _-_, _<_, _≤_};
 ghost use lib.ListN.{length};
-ghost use Rattle.model.specs.Lent.{lentBy, jobOf, lentWell};
+ghost use Rattle.model.specs.Layout.{turnedPiece};
+ghost use Rattle.model.specs.Lent.{lentBy, jobOf, lentWell, gapBound};
 ghost use Rattle.model.specs.declared.JobSize.{JobSize};
 ghost use Rattle.model.specs.declared.Direction.the-variants.{Horizontal};
+ghost use Rattle.overlap_laws.specs.Grown.{grown};
 ghost use Rattle.search_laws.specs.Lines.{linePlaces, HoldsLine};
 ghost use Rattle.search_bits.specs.Bit.{lengthLimit};
-ghost use Rattle.search_maps.specs.Map.{sidesOf};
+ghost use Rattle.search_maps.specs.Map.{extraLimit, sidesOf};
 ghost use Rattle.search_lines.specs.Kept.{mapSlots, leastMaps, MapsReady, LinesKept, LinesFit, Wide, directionNumber, keyAt, keyBytes, linesBound, slotBound};
 ghost use Rattle.search_lines.specs.Making.{movedShape, standingShape, keyOfTwo, mapKeyOfTwo, SmallTwo, Asked, MapFound, LineMade, KeyPut, Backwards, exchangedTwo};
 ghost use Rattle.search_lines.specs.Sources.{Named, classedTwo, turnedTwo, mirroredOffset, plainSource, backSource, quarterSource, sourcePlaces, SameLine, SourceMade};
@@ -33,7 +35,7 @@ pub const MIDDLE: usize = search_map_lines::MIDDLE;
 const MIRROR: usize = 2 * MIDDLE;
 
 // More than the places of any line.
-const LINE_LENGTH: usize = 512;
+const LINE_LENGTH: usize = 526;
 
 // The shapes of a job: each piece in four turns.
 const SHAPES: usize = 4 * PIECE_BOUND;
@@ -89,9 +91,9 @@ pub struct Source {
     pub back: bool,
 }
 
-// How many bytes a slot has to have: its key's and twice the largest box side of the job.
+// How many bytes a slot has to have: its key's and twice the largest box side of the job, grown by the gap.
 pub fn slot_width(size: JobSize, table: &[PieceEntry]) -> usize
-    requires { ⌜ size .count ≤ length (now table) ⌝ }
+    requires { ⌜ (size .count ≤ length (now table)) × (size .gap ≤ gapBound) ⌝ }
     ensures wide { λ r. ⌜ ((pixels : List ℕ) → Wide (jobOf (lentBy size (now (table .entry)) pixels)) r) ⌝ }
     ensures bounds { λ r. ⌜ (68 ≤ r) × (r ≤ slotBound) ⌝ }
 {
@@ -103,7 +105,7 @@ pub fn slot_width(size: JobSize, table: &[PieceEntry]) -> usize
         side = larger(side, larger(sides.columns, sides.rows));
         i += 1;
     }
-    side * 2 + KEY_BYTES
+    (side + size.gap) * 2 + KEY_BYTES
 }
 
 // The number by which keys and slots tell directions apart.
@@ -161,21 +163,29 @@ fn put_key(lines: &mut [u8], at: usize, key: u32)
     lines[at + 3] = (key / 16777216) as u8;
 }
 
-// The box sides of two pieces, along rows and across them.
-fn sides_of(table: &[PieceEntry], two: Two) -> Sides
-    requires { ⌜ (two .moved < length (now table)) × (two .standing < length (now table)) ⌝ }
-    ensures { λ r. ⌜ ((size : JobSize) (pixels : List ℕ) → r ≡ sidesOf Horizontal (movedShape (lentBy size (now (table .entry)) pixels) two) (standingShape (lentBy size (now (table .entry)) pixels) two)) ⌝ }
+// The box sides of two pieces, along rows and across them, each grown by its number.
+fn grown_sides(table: &[PieceEntry], two: Two, moved_by: usize, standing_by: usize) -> Sides
+    requires { ⌜ (two .moved < length (now table)) × (two .standing < length (now table)) ⌝ ∗ ⌜ («moved_by» ≤ extraLimit) × («standing_by» ≤ extraLimit) ⌝ }
+    ensures { λ r. ⌜ ((size : JobSize) (pixels : List ℕ) → r ≡ sidesOf Horizontal (grown «moved_by» (turnedPiece (jobOf (lentBy size (now (table .entry)) pixels)) (two .moved) (two .«moved_turn»))) (grown «standing_by» (turnedPiece (jobOf (lentBy size (now (table .entry)) pixels)) (two .standing) (two .«standing_turn»)))) ⌝ }
 {
     let moved_turn = two.moved_turn;
     let standing_turn = two.standing_turn;
     let moved = piece_pixels::turned_sides(table, two.moved, moved_turn);
     let standing = piece_pixels::turned_sides(table, two.standing, standing_turn);
     Sides {
-        moved_along: moved.columns,
-        moved_across: moved.rows,
-        standing_along: standing.columns,
-        standing_across: standing.rows,
+        moved_along: moved.columns + moved_by,
+        moved_across: moved.rows + moved_by,
+        standing_along: standing.columns + standing_by,
+        standing_across: standing.rows + standing_by,
     }
+}
+
+// The box sides of two pieces, grown by the gap.
+fn sides_of(size: JobSize, table: &[PieceEntry], two: Two) -> Sides
+    requires { ⌜ (two .moved < length (now table)) × (two .standing < length (now table)) × (size .gap ≤ gapBound) ⌝ }
+    ensures { λ r. ⌜ ((pixels : List ℕ) → r ≡ sidesOf Horizontal (movedShape (lentBy size (now (table .entry)) pixels) two) (standingShape (lentBy size (now (table .entry)) pixels) two)) ⌝ }
+{
+    grown_sides(table, two, size.gap, size.gap)
 }
 
 // The key of two pieces' map.
@@ -211,7 +221,8 @@ pub fn ready_maps(size: JobSize, table: &[PieceEntry], pixels: &[u8], maps: &mut
     search_map_store::forget_maps(&mut maps[from..], MAP_SLOTS);
 }
 
-// Where the map of two pieces begins. It is made where it is not kept.
+// Where the map of two pieces begins. It is made where it is not kept, of the moved piece grown by twice the gap, which is the map of both grown by
+// the gap: the strips are those of the pieces as they are.
 fn find_map(
     size: JobSize,
     table: &[PieceEntry],
@@ -219,11 +230,9 @@ fn find_map(
     strips: &[StripEntry],
     starts: &[u32],
     two: Two,
-    sides: Sides,
     maps: &mut [u64],
 ) -> usize
     requires { ⌜ Asked (lentBy size (now table) (now pixels)) (now strips) (now starts) two ⌝
-        ∗ ⌜ sides ≡ sidesOf Horizontal (movedShape (lentBy size (now table) (now pixels)) two) (standingShape (lentBy size (now table) (now pixels)) two) ⌝
         ∗ ⌜ MapsReady (jobOf (lentBy size (now table) (now pixels))) (now maps) ⌝ }
     ensures { λ r. ⌜ MapFound (jobOf (lentBy size (now (table .entry)) (now (pixels .entry)))) (movedShape (lentBy size (now (table .entry)) (now (pixels .entry))) two) (standingShape (lentBy size (now (table .entry)) (now (pixels .entry))) two) (now (maps .entry)) (now (maps .exit)) r ⌝ }
 {
@@ -232,10 +241,21 @@ fn find_map(
     let opposite = search_maps::opposite_turn(moved_turn);
     let a = search_shapes::shape_strips(strips, starts, two.moved, opposite);
     let b = search_shapes::shape_strips(strips, starts, two.standing, standing_turn);
+    let extra = size.gap + size.gap;
+    let sides = grown_sides(table, two, extra, 0);
     let key = map_key(two);
     let slot = map_slot(two);
     let from = CLASS_WORDS;
-    let at = search_map_store::keep_map(a, b, sides, key, slot, MAP_SLOTS, &mut maps[from..]);
+    let at = search_map_store::keep_map(
+        a,
+        b,
+        sides,
+        extra,
+        key,
+        slot,
+        MAP_SLOTS,
+        &mut maps[from..],
+    );
     from + at
 }
 
@@ -260,8 +280,8 @@ fn draw_line(
     ensures maps { λ r. ⌜ MapsReady (jobOf (lentBy size (now (table .entry)) (now (pixels .entry)))) (now (maps .exit)) ⌝ }
     ensures count { λ r. ⌜ r ≡ linePlaces direction (movedShape (lentBy size (now (table .entry)) (now (pixels .entry))) two) (standingShape (lentBy size (now (table .entry)) (now (pixels .entry))) two) ⌝ }
 {
-    let sides = sides_of(table, two);
-    let from = find_map(size, table, pixels, strips, starts, two, sides, maps);
+    let sides = sides_of(size, table, two);
+    let from = find_map(size, table, pixels, strips, starts, two, maps);
     let to = from + search_maps::map_words(sides);
     let count = search_map_lines::line_places(direction, sides);
     let end = at + count;
@@ -276,7 +296,7 @@ fn draw_line(
 }
 
 // The two pieces with their parts exchanged: what moved stands, at the mirrored offset. At 0 and from
-// 510 on the boxes do not meet, so that an offset that would be below 0 may be 0.
+// MIRROR on the boxes do not meet, so that an offset that would be below 0 may be 0.
 fn exchanged(two: Two) -> Two
     ensures { λ r. ⌜ r ≡ exchangedTwo two ⌝ }
 {
@@ -346,7 +366,7 @@ fn mirrored_offset(size: JobSize, table: &[PieceEntry], pixels: &[u8], two: Two)
     requires { ⌜ Named (lentBy size (now table) (now pixels)) two ⌝ }
     ensures { λ r. ⌜ r ≡ mirroredOffset (lentBy size (now (table .entry)) (now (pixels .entry))) two ⌝ }
 {
-    let sides = sides_of(table, two);
+    let sides = sides_of(size, table, two);
     less(
         MIRROR + sides.moved_along,
         sides.standing_along + two.offset,

@@ -1,5 +1,5 @@
 -- Laws of the maps of a job's pieces.
+pub mod Grown
 pub mod Pieces
-pub mod Borders
 pub mod Keys
 pub mod Quarters

@@ -14,6 +14,7 @@ use Rattle.strip_laws.specs.Turns.{image}
 use Rattle.strip_laws.proofs.Boxes.{pixel-in-box, same-extent}
 use Rattle.strip_laws.proofs.Turns.{image-pixel, turned-exactly}
 use Rattle.overlap_laws.specs.Overlap.{SharedPixel}
+use Rattle.overlap_laws.specs.Grown.{wideBound}
 use Rattle.overlap_laws.proofs.Share.{share-witness, share-from}
 use Rattle.overlap_laws.proofs.Depth.{apart-first, apart-second, depth-least, depth-parts}
 use Rattle.overlap_laws.proofs.Penalty.{penalty-pixels}
@@ -131,7 +132,7 @@ row-quarter s t o k some there =
     (record { column = omega arith; row = omega arith }))
 
 -- one along a column, at an offset that has a mirrored one
-near-quarter : (s t : Shape) (o o′ k : ℕ) → t .rows + o + o′ ≡ 510 + s .rows
+near-quarter : (s t : Shape) (o o′ k : ℕ) → t .rows + o + o′ ≡ middle + middle + s .rows
     → linePenalty Vertical (turned Quarter s) (turned Quarter t) o k ≡ linePenalty Horizontal s t o′ k
 unfolding linePenalty
 near-quarter s t o o′ k e =
@@ -139,16 +140,16 @@ near-quarter s t o o′ k e =
     (record { column = omega arith; row = omega arith }))
 
 -- and at any: where there is none the boxes do not meet
-column-quarter : (s t : Shape) (o k : ℕ) → t .rows ≤ 255
-    → linePenalty Vertical (turned Quarter s) (turned Quarter t) o k ≡ linePenalty Horizontal s t (510 + s .rows - (t .rows + o)) k
-column-quarter s t o k small = go (below-or (510 + s .rows) (t .rows + o))
+column-quarter : (s t : Shape) (o k : ℕ) → t .rows ≤ wideBound
+    → linePenalty Vertical (turned Quarter s) (turned Quarter t) o k ≡ linePenalty Horizontal s t (middle + middle + s .rows - (t .rows + o)) k
+column-quarter s t o k small = go (below-or (middle + middle + s .rows) (t .rows + o))
   where
-    go : (510 + s .rows < t .rows + o) ⊎ (t .rows + o ≤ 510 + s .rows)
-        → linePenalty Vertical (turned Quarter s) (turned Quarter t) o k ≡ linePenalty Horizontal s t (510 + s .rows - (t .rows + o)) k
+    go : (middle + middle + s .rows < t .rows + o) ⊎ (t .rows + o ≤ middle + middle + s .rows)
+        → linePenalty Vertical (turned Quarter s) (turned Quarter t) o k ≡ linePenalty Horizontal s t (middle + middle + s .rows - (t .rows + o)) k
     go (inl l) =
         far-penalty Vertical (turned Quarter s) (turned Quarter t) o k (inl (omega arith))
-        ∙ sym (far-penalty Horizontal s t (510 + s .rows - (t .rows + o)) k (inr (omega arith)))
-    go (inr l) = near-quarter s t o (510 + s .rows - (t .rows + o)) k (omega arith)
+        ∙ sym (far-penalty Horizontal s t (middle + middle + s .rows - (t .rows + o)) k (inr (omega arith)))
+    go (inr l) = near-quarter s t o (middle + middle + s .rows - (t .rows + o)) k (omega arith)
 
 -- ── any turn ──
 
@@ -187,15 +188,15 @@ module _ (a b : Shape) (t u : Turn) (o k : ℕ) where
       ∙ ap (linePenalty Vertical s r o) (let z : s .rows + r .rows - 1 - 1 - k ≡ turned t a .columns + turned u b .columns - 1 - 1 - k = omega arith in z)
 
   -- the line along a column
-  pub column-back : turned u b .columns ≤ 255
-      → linePenalty Vertical (turned t a) (turned u b) o k ≡ linePenalty Horizontal s r (510 + turned t a .columns - (turned u b .columns + o)) k
+  pub column-back : turned u b .columns ≤ wideBound
+      → linePenalty Vertical (turned t a) (turned u b) o k ≡ linePenalty Horizontal s r (middle + middle + turned t a .columns - (turned u b .columns + o)) k
   column-back small =
       let e = quarter-after t a .columns in
       let f = quarter-after u b .columns in
       line-same Vertical (turned t a) (turned u b) (turned Quarter s) (turned Quarter r) o k (quarter-after t a) (quarter-after u b)
       ∙ column-quarter s r o k (omega arith)
       ∙ ap (λ (n : ℕ). linePenalty Horizontal s r n k)
-      (let z : 510 + s .rows - (r .rows + o) ≡ 510 + turned t a .columns - (turned u b .columns + o) = omega arith in z)
+      (let z : middle + middle + s .rows - (r .rows + o) ≡ middle + middle + turned t a .columns - (turned u b .columns + o) = omega arith in z)
 
   -- the sides are exchanged
   pub sides-back : (s .rows ≡ turned t a .columns) × (s .columns ≡ turned t a .rows) × (r .rows ≡ turned u b .columns) × (r .columns ≡ turned u b .rows)

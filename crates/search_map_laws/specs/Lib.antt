@@ -1,3 +1,4 @@
--- Keys of the maps of a job, and turns counted back.
+-- Keys of the maps of a job, two boxes, and turns counted back.
 pub mod Keys
+pub mod Boxes
 pub mod Turns

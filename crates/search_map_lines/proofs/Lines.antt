@@ -1,7 +1,8 @@
 -- A line from a row or a column of a map: where it is read, and what it holds. Assumes nothing.
-use Rattle.list_laws.proofs.Kit.{_∙_, _≡_, ap, ap₂, subst, subst₂, subst₃, sym, _&&_, false, _⊎_, inl, inr, ⊎-elim, List}
+use Rattle.list_laws.proofs.Kit.{_∙_, _≡_, ap, ap₂, subst, subst₂, subst₃, sym, _&&_, false, _⊎_, inl, inr, List}
 use Rattle.list_laws.proofs.Kit.{_*_, _+_, _-_, _<_, _≤_, min, ℕ, arith, getD}
 use Rattle.list_laws.proofs.Kit.{List·getD-eq-default, length, mul-le-mul-right}
+use native.Mathlib.Nat.{le-min}
 use Rattle.list_laws.proofs.Numbers.{below-or}
 use Rattle.list_laws.proofs.Tests.{first-fails, second-fails}
 use Rattle.model.specs.Piece.{Shape, other, extent}
@@ -12,61 +13,136 @@ use Rattle.search_bits.specs.Bit.{bitIn}
 use Rattle.search_words.specs.Words.{Cleared}
 use Rattle.search_maps.specs.declared.Sides.{Sides}
 use Rattle.search_maps.specs.Map.{sidesOf, columnsOf, rowsOf, rowWidth, cellPlace, SidesFit, MapOf}
-use Rattle.search_peel.specs.Peel.{around, PlaceDone}
-use Rattle.search_columns.specs.Column.{beside, ColumnWalled, Ended, ColumnDone}
-use Rattle.search_columns.proofs.Counts.{first-done}
+use Rattle.search_peel.specs.Peel.{around, EndsBy, PlaceDone}
+use Rattle.search_columns.specs.Column.{byteMost, beside, ColumnWalled, Ended, ColumnEnds, ColumnDone}
+use Rattle.search_columns.proofs.Counts.{beside-clear, first-done}
 use Rattle.search_map_lines.specs.Line.{RowReaches, RowDone, Bordered, ByteSides, LineOf}
 use Rattle.search_map_lines.proofs.Penalties.{place-penalty, column-penalty, far-penalty}
+
+-- ── where a place ends ──
+
+-- the distance of the nearer of the ends 0 and n
+abbrev nearer : ℕ → ℕ → ℕ
+nearer n k = min k (n - k)
+
+-- a byte counts it where the ends are near each other
+nearer-small : (n k : ℕ) → n ≤ 511 → nearer n k ≤ byteMost
+nearer-small n k l = omega arith
+
+-- the distance of the nearer of the clear bits of a row, from column X
+abbrev wall : Sides → ℕ → ℕ
+wall z X = nearer (rowWidth z) (X + 1)
+
+-- the distance of the nearer of the clear rows
+abbrev far : Sides → ℕ → ℕ
+far z row = nearer (rowsOf z + 1) row
+
+-- as far as a byte counts, and no farther than the nearer of the clear rows
+abbrev reachOf : Sides → ℕ → ℕ
+reachOf z row = min byteMost (far z row)
+
+module _ (z : Sides) (ws : List ℕ) (f : SidesFit z) (b : Bordered z ws) (row : ℕ) (low : 1 ≤ row) (high : row ≤ rowsOf z) (X : ℕ)
+    (inside : X < columnsOf z) where
+  -- one of the two bits is met
+  wall-clear : beside ws (row * rowWidth z + X) (wall z X) ≡ false
+  unfolding beside
+  wall-clear = go (below-or (X + 1) (rowWidth z - (X + 1)))
+    where
+      p : ℕ
+      p = row * rowWidth z + X
+
+      go : (X + 1 < rowWidth z - (X + 1)) ⊎ (rowWidth z - (X + 1) ≤ X + 1) → (bitIn ws (p + wall z X) && bitIn ws (p - wall z X)) ≡ false
+      go (inl l) =
+          let n : row ≡ row - 1 + 1 = omega arith in
+          let i : row * rowWidth z ≡ (row - 1 + 1) * rowWidth z = ap (λ (k : ℕ). k * rowWidth z) n in
+          let k : (row - 1 + 1) * rowWidth z ≡ (row - 1) * rowWidth z + rowWidth z = omega arith in
+          let j : p - wall z X ≡ (row - 1) * rowWidth z + columnsOf z = omega (arith, f .moved-along .low) in
+          second-fails (bitIn ws (p + wall z X)) (ap (bitIn ws) j ∙ b .ends (row - 1) (omega arith))
+      go (inr l) =
+          let j : p + wall z X ≡ row * rowWidth z + columnsOf z = omega arith in
+          first-fails (bitIn ws (p - wall z X)) (ap (bitIn ws) j ∙ b .ends row high)
+
+  -- one of the two rows is met
+  far-clear : around ws (rowWidth z) (row * rowWidth z + X) (far z row) ≡ false
+  unfolding around
+  far-clear = go (below-or row (rowsOf z + 1 - row))
+    where
+      p : ℕ
+      p = row * rowWidth z + X
+
+      t : ℕ
+      t = far z row
+
+      go : (row < rowsOf z + 1 - row) ⊎ (rowsOf z + 1 - row ≤ row)
+          → (((bitIn ws (p + t) && bitIn ws (p - t)) && bitIn ws (p + t * rowWidth z)) && bitIn ws (p - t * rowWidth z)) ≡ false
+      go (inl h) =
+          let e : t ≡ row = omega arith in
+          let i : t * rowWidth z ≡ row * rowWidth z = ap (λ (k : ℕ). k * rowWidth z) e in
+          let j : p - t * rowWidth z ≡ X = omega arith in
+          second-fails ((bitIn ws (p + t) && bitIn ws (p - t)) && bitIn ws (p + t * rowWidth z)) (ap (bitIn ws) j ∙ b .floor X (omega arith))
+      go (inr h) =
+          let e : t ≡ rowsOf z + 1 - row = omega arith in
+          let i : t * rowWidth z ≡ (rowsOf z + 1 - row) * rowWidth z = ap (λ (k : ℕ). k * rowWidth z) e in
+          let n : row + (rowsOf z + 1 - row) ≡ rowsOf z + 1 = omega arith in
+          let k : row * rowWidth z + (rowsOf z + 1 - row) * rowWidth z ≡ (row + (rowsOf z + 1 - row)) * rowWidth z = omega arith in
+          let g : row * rowWidth z + t * rowWidth z ≡ (rowsOf z + 1) * rowWidth z = (let m = k ∙ ap (λ (k : ℕ). k * rowWidth z) n in omega arith) in
+          let j : p + t * rowWidth z ≡ (rowsOf z + 1) * rowWidth z + X = omega arith in
+          first-fails (bitIn ws (p - t * rowWidth z)) (second-fails (bitIn ws (p + t) && bitIn ws (p - t)) (ap (bitIn ws) j ∙ b .top X (omega arith)))
+
+  -- within the reach the place ends: where both rows are farther off than a byte counts, the sides across are long, so a bit of its own row is near
+  place-ends : ByteSides z → EndsBy ws (rowWidth z) (row * rowWidth z + X) (reachOf z row)
+  place-ends sides = go (below-or byteMost (far z row))
+    where
+      near : (z .«moved_along» + z .«standing_along» ≤ 511) ⊎ (z .«moved_across» + z .«standing_across» ≤ 511) → byteMost < far z row → wall z X ≤ byteMost
+      near (inl s) h = nearer-small (rowWidth z) (X + 1) s
+      near (inr s) h =
+          let n : rowsOf z + 1 ≤ 511 = omega (arith, f .moved-across .low) in
+          let k = nearer-small (rowsOf z + 1) row n in
+          absurd (omega arith)
+
+      go : (byteMost < far z row) ⊎ (far z row ≤ byteMost) → EndsBy ws (rowWidth z) (row * rowWidth z + X) (reachOf z row)
+      go (inl h) =
+          let n = near (sides .small) h in
+          record {
+            at = wall z X;
+            some = le-min (omega arith) (omega arith);
+            near = le-min n (omega arith);
+            clear = beside-clear ws (rowWidth z) (row * rowWidth z + X) (wall z X) wall-clear;
+          }
+      go (inr h) =
+          record {
+            at = far z row;
+            some = le-min low (omega arith);
+            near = le-min h (omega arith);
+            clear = far-clear;
+          }
 
 -- ── where a row is read ──
 
 module _ (z : Sides) (ws : List ℕ) (f : SidesFit z) (small : ByteSides z) (b : Bordered z ws) (row : ℕ) (low : 1 ≤ row) (high : row ≤ rowsOf z) where
-  -- as far as the nearer of the clear rows
-  abbrev far : ℕ
-  far = min row (rowsOf z + 1 - row)
-
-  -- there one of the two rows is met
-  far-clear : (x : ℕ) → x < columnsOf z → (far ≡ row) ⊎ (far ≡ rowsOf z + 1 - row) → around ws (rowWidth z) (row * rowWidth z + x) far ≡ false
-  unfolding around
-  far-clear x l (inl e) =
-      let i : far * rowWidth z ≡ row * rowWidth z = ap (λ (k : ℕ). k * rowWidth z) e in
-      let j : row * rowWidth z + x - far * rowWidth z ≡ x = omega arith in
-      let q : ℕ = row * rowWidth z + x in
-      second-fails ((bitIn ws (q + far) && bitIn ws (q - far)) && bitIn ws (q + far * rowWidth z)) (ap (bitIn ws) j ∙ b .floor x (omega arith))
-  far-clear x l (inr e) =
-      let i : far * rowWidth z ≡ (rowsOf z + 1 - row) * rowWidth z = ap (λ (k : ℕ). k * rowWidth z) e in
-      let n : row + (rowsOf z + 1 - row) ≡ rowsOf z + 1 = omega arith in
-      let k : row * rowWidth z + (rowsOf z + 1 - row) * rowWidth z ≡ (row + (rowsOf z + 1 - row)) * rowWidth z = omega arith in
-      let h : row * rowWidth z + far * rowWidth z ≡ (rowsOf z + 1) * rowWidth z = (let q = k ∙ ap (λ (k : ℕ). k * rowWidth z) n in omega arith) in
-      let j : row * rowWidth z + x + far * rowWidth z ≡ (rowsOf z + 1) * rowWidth z + x = omega arith in
-      let q : ℕ = row * rowWidth z + x in
-      first-fails (bitIn ws (q - far * rowWidth z)) (second-fails (bitIn ws (q + far) && bitIn ws (q - far)) (ap (bitIn ws) j ∙ b .top x (omega arith)))
-
   -- all of it lies in the map
-  far-in : (row + far) * rowWidth z ≤ (rowsOf z + 1) * rowWidth z
+  far-in : (row + far z row) * rowWidth z ≤ (rowsOf z + 1) * rowWidth z
   far-in = mul-le-mul-right (rowWidth z) (omega arith)
 
   -- the row can be read so far
   row-read : RowReaches ws (rowWidth z) (row * rowWidth z) (columnsOf z)
   row-read =
       let i = far-in in
-      let j : (row + far) * rowWidth z ≡ row * rowWidth z + far * rowWidth z = omega arith in
+      let h : reachOf z row * rowWidth z ≤ far z row * rowWidth z = mul-le-mul-right (rowWidth z) (omega arith) in
+      let j : (row + far z row) * rowWidth z ≡ row * rowWidth z + far z row * rowWidth z = omega arith in
       let k : (z .«moved_across» + z .«standing_across» + 1) * rowWidth z
       ≡ (z .«moved_across» + z .«standing_across») * rowWidth z + rowWidth z = omega arith in
       let n : rowsOf z + 1 ≡ z .«moved_across» + z .«standing_across» = omega (arith, f .moved-across .low) in
       let q : (rowsOf z + 1) * rowWidth z ≡ (z .«moved_across» + z .«standing_across») * rowWidth z = ap (λ (k : ℕ). k * rowWidth z) n in
       let r = b .room in
       record {
-        reach = far;
+        reach = reachOf z row;
         wide = omega (arith, f .moved-along .low);
-        some = omega arith;
-        short = omega (arith, small .moved, small .standing);
+        short = omega arith;
         low = mul-le-mul-right (rowWidth z) (omega arith);
         high = omega (arith, f .moved-along .low);
         room = b .short;
-        ends = λ x l.
-            far-clear x l (⊎-elim (λ (h : row < rowsOf z + 1 - row). inl (omega arith)) (λ (h : rowsOf z + 1 - row ≤ row). inr (omega arith))
-            (below-or row (rowsOf z + 1 - row)));
+        ends = λ x l. place-ends z ws f b row low high x l small;
       }
 
   -- so it is for the width that the code has
@@ -130,26 +206,16 @@ near-line d s t z ws offset w row xs ys zs ez ew f m low high at k g =
 -- ── where a column is read ──
 
 module _ (z : Sides) (ws : List ℕ) (f : SidesFit z) (small : ByteSides z) (b : Bordered z ws) (X : ℕ) (inside : X < columnsOf z) where
-  -- as far as the nearer of the clear bits of a row
-  abbrev wall : ℕ
-  wall = min (X + 1) (columnsOf z - X)
-
-  -- there one of the two is met
-  wall-clear : (y : ℕ) → y < rowsOf z → (wall ≡ X + 1) ⊎ (wall ≡ columnsOf z - X) → beside ws (rowWidth z + X + y * rowWidth z) wall ≡ false
-  unfolding beside
-  wall-clear y l (inl e) =
-      let j : rowWidth z + X + y * rowWidth z - wall ≡ y * rowWidth z + columnsOf z = omega (arith, f .moved-along .low) in
-      second-fails (bitIn ws (rowWidth z + X + y * rowWidth z + wall)) (ap (bitIn ws) j ∙ b .ends y (omega arith))
-  wall-clear y l (inr e) =
-      let j : rowWidth z + X + y * rowWidth z + wall ≡ (y + 1) * rowWidth z + columnsOf z = omega arith in
-      first-fails (bitIn ws (rowWidth z + X + y * rowWidth z - wall)) (ap (bitIn ws) j ∙ b .ends (y + 1) (omega arith))
-
   -- all of it lies in the map
   rows-in : (rowsOf z + 2) * rowWidth z + 128 ≤ length ws * 64
   rows-in =
       let n : rowsOf z + 2 ≡ z .«moved_across» + z .«standing_across» + 1 = omega (arith, f .moved-across .low) in
       let q : (rowsOf z + 2) * rowWidth z ≡ (z .«moved_across» + z .«standing_across» + 1) * rowWidth z = ap (λ (k : ℕ). k * rowWidth z) n in
       omega (arith, b .room)
+
+  -- a place of the column in its row
+  place-in : (y : ℕ) → rowWidth z + X + y * rowWidth z ≡ (y + 1) * rowWidth z + X
+  place-in y = omega arith
 
   -- so each place of the column can be read
   column-walled : ColumnWalled ws (rowWidth z) (rowWidth z + X) (rowsOf z)
@@ -160,12 +226,10 @@ module _ (z : Sides) (ws : List ℕ) (f : SidesFit z) (small : ByteSides z) (b :
         each = λ y l.
             let k : (y + 1) * rowWidth z ≤ rowsOf z * rowWidth z = mul-le-mul-right (rowWidth z) (omega arith) in
             let i : (y + 1) * rowWidth z ≡ y * rowWidth z + rowWidth z = omega arith in
+            let p = place-in y in
             record {
-              reach = wall;
-              clear =
-                  wall-clear y l (⊎-elim (λ (h : X + 1 < columnsOf z - X). inl (omega arith)) (λ (h : columnsOf z - X ≤ X + 1). inr (omega arith))
-                  (below-or (X + 1) (columnsOf z - X)));
-              few = omega (arith, small .moved-along, small .standing-along);
+              reach = wall z X;
+              clear = ap (λ (q : ℕ). beside ws q (wall z X)) p ∙ wall-clear z ws f b (y + 1) (omega arith) (omega arith) X inside;
               low = omega arith;
               high = omega arith;
               room = b .short;
@@ -190,10 +254,25 @@ module _ (z : Sides) (ws : List ℕ) (f : SidesFit z) (small : ByteSides z) (b :
         top = ap (bitIn ws) j ∙ b .top X (omega arith);
       }
 
+  -- each of its places ends as far off as a byte counts
+  column-ends : ColumnEnds ws (rowWidth z) (rowWidth z + X) (rowsOf z)
+  column-ends =
+      record {
+        each = λ y l.
+            let e = place-ends z ws f b (y + 1) (omega arith) (omega arith) X inside small in
+            record {
+              at = e .at;
+              some = e .some;
+              near = omega (arith, e .near);
+              clear = ap (λ (q : ℕ). around ws (rowWidth z) q (e .at)) (place-in y) ∙ e .clear;
+            };
+      }
+
   -- so it is for the width and the places that the code has
-  pub column-reaches : (w n : ℕ) → w ≡ rowWidth z → n ≡ rowsOf z → ColumnWalled ws w (w + X) n × Ended ws w (w + X) n
+  pub column-reaches : (w n : ℕ) → w ≡ rowWidth z → n ≡ rowsOf z → ColumnWalled ws w (w + X) n × Ended ws w (w + X) n × ColumnEnds ws w (w + X) n
   column-reaches w n e g =
-      subst₂ (λ (k m : ℕ). ColumnWalled ws k (k + X) m × Ended ws k (k + X) m) (sym e) (sym g) (column-walled, column-ended)
+      subst₂ (λ (k m : ℕ). ColumnWalled ws k (k + X) m × Ended ws k (k + X) m × ColumnEnds ws k (k + X) m) (sym e) (sym g)
+      (column-walled, column-ended, column-ends)
 
 -- the column of cells at the offset
 pub near-column : (s t : Shape) (z : Sides) (ws : List ℕ) (offset w X : ℕ) (xs ys zs : List ℕ) → z ≡ sidesOf Horizontal s t → w ≡ rowWidth z

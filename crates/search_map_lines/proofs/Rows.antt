@@ -1,7 +1,7 @@
 -- A row of a map done block by block. Assumes nothing.
 use Rattle.list_laws.proofs.Kit.{_∙_, _≡_, ap, refl, subst, subst₃, sym, _⊎_, inl, inr, List, _+_, _-_, _<_, _≤_, ℕ, arith, getD, length}
 use Rattle.list_laws.proofs.Numbers.{below-or}
-use Rattle.search_peel.specs.Peel.{around, PlaceDone, Reaches, Peeled}
+use Rattle.search_peel.specs.Peel.{PlaceDone, EndsBy, Reaches, Peeled}
 use Rattle.search_map_lines.specs.Line.{RowReaches, RowDone}
 
 -- the places below `at` are done
@@ -21,7 +21,6 @@ module _ (ws : List ℕ) (w p places : ℕ) (xs : List ℕ) where
       record {
         reach = h .reach;
         wide = h .wide;
-        some = h .some;
         short = h .short;
         low = omega (arith, h .low);
         high = omega (arith, h .high);
@@ -29,7 +28,7 @@ module _ (ws : List ℕ) (w p places : ℕ) (xs : List ℕ) where
         few = (o, l);
         ends = λ x i.
             let e : p + at + x ≡ p + (at + x) = omega arith in
-            ap (λ (q : ℕ). around ws w q (h .reach)) e ∙ h .ends (at + x) (omega arith);
+            subst (λ (q : ℕ). EndsBy ws w q (h .reach)) (sym e) (h .ends (at + x) (omega arith));
       }
 
   -- one more block

@@ -1,28 +1,29 @@
 -- What a line made from a map holds. Assumes nothing.
 use mathlib.Core.Bool.{false}
 use mathlib.Core.List.{List}
+use mathlib.Core.Logic.{_⊎_}
 use mathlib.Core.Path.{_≡_}
 use Prim.Native.Nat.{ℕ, _+_, _*_, _<_, _≤_}
 use lib.ListN.{length, getD}
-use Rattle.model.specs.Piece.{Shape, sideBound}
+use Rattle.model.specs.Piece.{Shape}
 use Rattle.model.specs.declared.Direction.{Direction}
 use Rattle.model.specs.declared.Direction.the-variants.{Horizontal, Vertical}
+use Rattle.overlap_laws.specs.Grown.{wideBound}
 use Rattle.search_laws.specs.Lines.{linePlaces, HoldsLine}
 use Rattle.search_bits.specs.Bit.{bitIn, lengthLimit}
 use Rattle.search_maps.specs.declared.Sides.{Sides}
 use Rattle.search_maps.specs.Map.{columnsOf, rowsOf, rowWidth, mapWords}
-use Rattle.search_peel.specs.Peel.{around, PlaceDone}
+use Rattle.search_peel.specs.Peel.{EndsBy, PlaceDone}
 
--- at the reach a side of each place of the row is clear, and all that is read up to it lies in the map
+-- within the reach a side of each place of the row is clear, and all that is read up to it lies in the map
 pub record RowReaches (ws : List ℕ) (w p places : ℕ) : Type 0 where
   pub reach : ℕ
   pub wide : 1 ≤ w
-  pub some : 1 ≤ reach
   pub short : reach < 256
   pub low : reach * w ≤ p
   pub high : p + places + reach * w + 128 ≤ length ws * 64
   pub room : length ws < lengthLimit
-  pub ends : (x : ℕ) → x < places → around ws w (p + x) reach ≡ false
+  pub ends : (x : ℕ) → x < places → EndsBy ws w (p + x) reach
 
 -- each place of the row is done
 pub record RowDone (ws : List ℕ) (w p places : ℕ) (xs ys : List ℕ) : Type 0 where
@@ -38,12 +39,13 @@ pub record Bordered (z : Sides) (ws : List ℕ) : Type 0 where
   pub top : (x : ℕ) → x < rowWidth z → bitIn ws ((rowsOf z + 1) * rowWidth z + x) ≡ false
   pub ends : (y : ℕ) → y ≤ rowsOf z → bitIn ws (y * rowWidth z + columnsOf z) ≡ false
 
--- sides at which every penalty fits a byte
+-- sides at which every penalty fits a byte: in one of the directions half of the two sides together is below 256, and the boxes part within that
 pub record ByteSides (z : Sides) : Type 0 where
-  pub moved : z .«moved_across» ≤ sideBound
-  pub standing : z .«standing_across» ≤ sideBound
-  pub moved-along : z .«moved_along» ≤ sideBound
-  pub standing-along : z .«standing_along» ≤ sideBound
+  pub moved : z .«moved_across» ≤ wideBound
+  pub standing : z .«standing_across» ≤ wideBound
+  pub moved-along : z .«moved_along» ≤ wideBound
+  pub standing-along : z .«standing_along» ≤ wideBound
+  pub small : (z .«moved_along» + z .«standing_along» ≤ 511) ⊎ (z .«moved_across» + z .«standing_across» ≤ 511)
 
 -- the first places of a slice hold the line of s and t, the others what they held
 pub record LineOf (d : Direction) (s t : Shape) (offset : ℕ) (old new : List ℕ) : Type 0 where

@@ -15,8 +15,8 @@ use model::Direction;
 use search_maps::Sides;
 use whole_numbers::smaller;
 
-// Where the moved piece stands across: an offset of the standing one is counted from here.
-pub const MIDDLE: usize = 255;
+// Where the moved piece stands across: an offset of the standing one is counted from here. It is the longest box side with the largest gap, 255 + 8.
+pub const MIDDLE: usize = 263;
 
 // The places that are read at once.
 const BLOCK: usize = 64;

@@ -7,6 +7,7 @@ use Prim.Native.Nat.{ℕ, _+_, _*_, _<_, _≤_, max}
 use lib.ListN.{length, getD, take, drop}
 use Rattle.model.specs.Piece.{Shape}
 use Rattle.model.specs.declared.Direction.{Direction}
+use Rattle.overlap_laws.specs.Grown.{grown}
 use Rattle.search_bits.specs.Bit.{lengthLimit}
 use Rattle.search_maps.specs.declared.Sides.{Sides}
 use Rattle.search_maps.specs.Map.{sidesOf, mapWords, scratchWords, MapOf}
@@ -30,6 +31,10 @@ endOf slots words = getD words slots 0
 -- the words that a map is made in: its own, or its scratch where that is longer
 abbrev pub roomWords : Sides → ℕ
 roomWords z = max (mapWords z) (scratchWords z)
+
+-- the shapes of all keys, each grown by `extra`
+abbrev pub allGrown : ℕ → (ℕ → Shape) → ℕ → Shape
+allGrown extra s key = grown extra (s key)
 
 -- the first n words are copied
 pub record Copied (n : ℕ) (from xs ys : List ℕ) : Type 0 where

@@ -6,10 +6,11 @@ ghost use lib.ListN.{length};
 ghost use Rattle.model.specs.Piece.{Shape, turned};
 ghost use Rattle.model.specs.declared.Direction.{Direction};
 ghost use Rattle.model.specs.declared.Turn.the-variants.{Half};
+ghost use Rattle.overlap_laws.specs.Grown.{grown};
 ghost use Rattle.pair_overlap.specs.Seen.{entries};
 ghost use Rattle.search_bits.specs.Bit.{lengthLimit};
-ghost use Rattle.search_maps.specs.Map.{sidesOf, SidesFit, StripsIn, ScratchRoom, MapRoom, MapOf};
-ghost use Rattle.search_map_store.specs.Store.{endOf, roomWords, Copied, Forgotten, RoomFor, StoreFits, Kept};
+ghost use Rattle.search_maps.specs.Map.{sidesOf, SidesFit, StripsIn, MovedIn, ScratchRoom, MapRoom, MapOf};
+ghost use Rattle.search_map_store.specs.Store.{endOf, roomWords, allGrown, Copied, Forgotten, RoomFor, StoreFits, Kept};
 use model::StripEntry;
 use search_maps::MAP_WORDS;
 use search_maps::Sides;
@@ -49,15 +50,21 @@ fn room_for(words: &mut [u64], slots: usize, n: usize) -> usize
     slots + 1
 }
 
-// Makes the map of two small pieces.
-fn make_small(moved: &[StripEntry], standing: &[StripEntry], sides: Sides, words: &mut [u64])
-    requires { ⌜ SidesFit sides ⌝ ∗ ⌜ StripsIn (sides .«moved_along») (sides .«moved_across») (now moved) ⌝
+// Makes the map of two small pieces, the moved one grown by `extra`.
+fn make_small(
+    moved: &[StripEntry],
+    standing: &[StripEntry],
+    sides: Sides,
+    extra: usize,
+    words: &mut [u64],
+)
+    requires { ⌜ SidesFit sides ⌝ ∗ ⌜ MovedIn sides extra (now moved) ⌝
         ∗ ⌜ StripsIn (sides .«standing_along») (sides .«standing_across») (now standing) ⌝
         ∗ ⌜ ScratchRoom sides 512 ⌝ ∗ ⌜ MapRoom sides (length (now words)) ⌝ }
-    ensures { λ r. ⌜ ((d : Direction) (s t : Shape) → sides ≡ sidesOf d s t → now (moved .entry) ≡ entries d (turned Half s) → now (standing .entry) ≡ entries d t → MapOf d s t (now (words .exit))) ⌝ }
+    ensures { λ r. ⌜ ((d : Direction) (s t : Shape) → sides ≡ sidesOf d (grown extra s) t → now (moved .entry) ≡ entries d (turned Half s) → now (standing .entry) ≡ entries d t → MapOf d (grown extra s) t (now (words .exit))) ⌝ }
 {
     let mut scratch = [0u64; SMALL_SCRATCH];
-    search_maps::make_map(moved, standing, sides, &mut scratch, words);
+    search_maps::make_map(moved, standing, sides, extra, &mut scratch, words);
 }
 
 // Copies the first n words.
@@ -72,31 +79,44 @@ fn copy_words(from: &[u64], to: &mut [u64], n: usize)
     }
 }
 
-// Makes the map of any two pieces. The words that it goes to are its scratch before: scratch that is enough for every map is several times as
-// long as a map, and a local array of that length would be touched page by page by every caller that this is compiled into.
-fn make_large(moved: &[StripEntry], standing: &[StripEntry], sides: Sides, words: &mut [u64])
-    requires { ⌜ SidesFit sides ⌝ ∗ ⌜ StripsIn (sides .«moved_along») (sides .«moved_across») (now moved) ⌝
+// Makes the map of any two pieces, the moved one grown by `extra`. The words that it goes to are its scratch before: scratch that is enough for
+// every map is several times as long as a map, and a local array of that length would be touched page by page by every caller that this is
+// compiled into.
+fn make_large(
+    moved: &[StripEntry],
+    standing: &[StripEntry],
+    sides: Sides,
+    extra: usize,
+    words: &mut [u64],
+)
+    requires { ⌜ SidesFit sides ⌝ ∗ ⌜ MovedIn sides extra (now moved) ⌝
         ∗ ⌜ StripsIn (sides .«standing_along») (sides .«standing_across») (now standing) ⌝
         ∗ ⌜ ScratchRoom sides (length (now words)) ⌝ ∗ ⌜ MapRoom sides (length (now words)) ⌝ }
-    ensures { λ r. ⌜ ((d : Direction) (s t : Shape) → sides ≡ sidesOf d s t → now (moved .entry) ≡ entries d (turned Half s) → now (standing .entry) ≡ entries d t → MapOf d s t (now (words .exit))) ⌝ }
+    ensures { λ r. ⌜ ((d : Direction) (s t : Shape) → sides ≡ sidesOf d (grown extra s) t → now (moved .entry) ≡ entries d (turned Half s) → now (standing .entry) ≡ entries d t → MapOf d (grown extra s) t (now (words .exit))) ⌝ }
 {
     let mut map = [0u64; MAP_WORDS];
-    search_maps::make_map(moved, standing, sides, words, &mut map);
+    search_maps::make_map(moved, standing, sides, extra, words, &mut map);
     copy_words(&map, words, search_maps::map_words(sides));
 }
 
-// Makes the map of two pieces, with scratch by their size.
-fn make_sized(moved: &[StripEntry], standing: &[StripEntry], sides: Sides, words: &mut [u64])
-    requires { ⌜ SidesFit sides ⌝ ∗ ⌜ StripsIn (sides .«moved_along») (sides .«moved_across») (now moved) ⌝
+// Makes the map of two pieces, the moved one grown by `extra`, with scratch by their size.
+fn make_sized(
+    moved: &[StripEntry],
+    standing: &[StripEntry],
+    sides: Sides,
+    extra: usize,
+    words: &mut [u64],
+)
+    requires { ⌜ SidesFit sides ⌝ ∗ ⌜ MovedIn sides extra (now moved) ⌝
         ∗ ⌜ StripsIn (sides .«standing_along») (sides .«standing_across») (now standing) ⌝
         ∗ ⌜ ScratchRoom sides (length (now words)) ⌝ ∗ ⌜ MapRoom sides (length (now words)) ⌝ }
-    ensures { λ r. ⌜ ((d : Direction) (s t : Shape) → sides ≡ sidesOf d s t → now (moved .entry) ≡ entries d (turned Half s) → now (standing .entry) ≡ entries d t → MapOf d s t (now (words .exit))) ⌝ }
+    ensures { λ r. ⌜ ((d : Direction) (s t : Shape) → sides ≡ sidesOf d (grown extra s) t → now (moved .entry) ≡ entries d (turned Half s) → now (standing .entry) ≡ entries d t → MapOf d (grown extra s) t (now (words .exit))) ⌝ }
 {
     if search_maps::scratch_words(sides) <= SMALL_SCRATCH {
-        make_small(moved, standing, sides, words);
+        make_small(moved, standing, sides, extra, words);
         return;
     }
-    make_large(moved, standing, sides, words);
+    make_large(moved, standing, sides, extra, words);
 }
 
 // The words that a map is made in. Those past the map are free again then.
@@ -110,49 +130,51 @@ fn room_words(sides: Sides) -> usize
     )
 }
 
-// Makes the map of two pieces and keeps it under a key.
+// Makes the map of two pieces, the moved one grown by `extra`, and keeps it under a key.
 fn add_map(
     moved: &[StripEntry],
     standing: &[StripEntry],
     sides: Sides,
+    extra: usize,
     key: usize,
     slot: usize,
     slots: usize,
     words: &mut [u64],
 ) -> usize
-    requires { ⌜ SidesFit sides ⌝ ∗ ⌜ StripsIn (sides .«moved_along») (sides .«moved_across») (now moved) ⌝
+    requires { ⌜ SidesFit sides ⌝ ∗ ⌜ MovedIn sides extra (now moved) ⌝
         ∗ ⌜ StripsIn (sides .«standing_along») (sides .«standing_across») (now standing) ⌝
         ∗ ⌜ StoreFits sides key slot slots (now words) ⌝ }
-    ensures { λ r. ⌜ ((d : ℕ → Direction) (s t : ℕ → Shape) → sides ≡ sidesOf (d key) (s key) (t key) → now (moved .entry) ≡ entries (d key) (turned Half (s key)) → now (standing .entry) ≡ entries (d key) (t key) → Kept slots d s t key (now (words .entry)) (now (words .exit)) r) ⌝ }
+    ensures { λ r. ⌜ ((d : ℕ → Direction) (s t : ℕ → Shape) → sides ≡ sidesOf (d key) (grown extra (s key)) (t key) → now (moved .entry) ≡ entries (d key) (turned Half (s key)) → now (standing .entry) ≡ entries (d key) (t key) → Kept slots d (allGrown extra s) t key (now (words .entry)) (now (words .exit)) r) ⌝ }
 {
     let room = room_words(sides);
     let at = room_for(words, slots, room);
     let to = at + room;
-    make_sized(moved, standing, sides, &mut words[at..to]);
+    make_sized(moved, standing, sides, extra, &mut words[at..to]);
     let end = at + search_maps::map_words(sides);
     words[slot] = (key as u64 + 1) * BEGINS + at as u64;
     words[slots] = end as u64;
     at
 }
 
-// Where the map of two pieces begins that is kept under a key. It is made where the slot has none of that key.
+// Where the map of two pieces, the moved one grown by `extra`, begins that is kept under a key. It is made where the slot has none of that key.
 pub fn keep_map(
     moved: &[StripEntry],
     standing: &[StripEntry],
     sides: Sides,
+    extra: usize,
     key: usize,
     slot: usize,
     slots: usize,
     words: &mut [u64],
 ) -> usize
-    requires { ⌜ SidesFit sides ⌝ ∗ ⌜ StripsIn (sides .«moved_along») (sides .«moved_across») (now moved) ⌝
+    requires { ⌜ SidesFit sides ⌝ ∗ ⌜ MovedIn sides extra (now moved) ⌝
         ∗ ⌜ StripsIn (sides .«standing_along») (sides .«standing_across») (now standing) ⌝
         ∗ ⌜ StoreFits sides key slot slots (now words) ⌝ }
-    ensures { λ r. ⌜ ((d : ℕ → Direction) (s t : ℕ → Shape) → sides ≡ sidesOf (d key) (s key) (t key) → now (moved .entry) ≡ entries (d key) (turned Half (s key)) → now (standing .entry) ≡ entries (d key) (t key) → Kept slots d s t key (now (words .entry)) (now (words .exit)) r) ⌝ }
+    ensures { λ r. ⌜ ((d : ℕ → Direction) (s t : ℕ → Shape) → sides ≡ sidesOf (d key) (grown extra (s key)) (t key) → now (moved .entry) ≡ entries (d key) (turned Half (s key)) → now (standing .entry) ≡ entries (d key) (t key) → Kept slots d (allGrown extra s) t key (now (words .entry)) (now (words .exit)) r) ⌝ }
 {
     let held = words[slot];
     if held / BEGINS == key as u64 + 1 {
         return (held % BEGINS) as usize;
     }
-    add_map(moved, standing, sides, key, slot, slots, words)
+    add_map(moved, standing, sides, extra, key, slot, slots, words)
 }

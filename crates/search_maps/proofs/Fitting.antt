@@ -14,7 +14,7 @@ use Rattle.search_levels.specs.Levels.{Levels, LevelRoom, levelOf}
 use Rattle.search_levels.proofs.Growing.{doubled}
 use Rattle.search_marks.specs.Marks.{StripsFit, LevelOf, Made, placeOf}
 use Rattle.search_maps.specs.declared.Sides.{Sides}
-use Rattle.search_maps.specs.Map.{rowWidth, markWords, mapWords, scratchWords, scratchBound, SidesFit, StripsIn, ScratchRoom, MapRoom}
+use Rattle.search_maps.specs.Map.{rowWidth, markWords, mapWords, scratchWords, scratchBound, SidesFit, StripsIn, MovedIn, ScratchRoom, MapRoom}
 use Rattle.search_maps.specs.Making.{LevelsFor, MapFilled}
 
 -- a row has few bits
@@ -53,10 +53,21 @@ strips-fit w up size levels room along across es b lw ll lr ls i l =
     let p : placeOf w up (stripAt es i) + stripAt es i .count ≤ (across + up) * w = omega arith in
     record { some = e .some; few = omega arith; within = omega arith; below = omega arith }
 
+-- strips of a box lie in a larger one
+pub strips-wider : (along across along′ across′ : ℕ) (es : List (List ℕ)) → along ≤ along′ → across ≤ across′ → StripsIn along across es
+    → StripsIn along′ across′ es
+strips-wider along across along′ across′ es la lc b =
+    record {
+      each = λ i l.
+          let e = b .each i l in
+          record { some = e .some; within = omega (arith, e .within); line = omega (arith, e .line) };
+    }
+
 -- the moved piece's strips are marked within the scratch
-pub marks-fit : (z : Sides) → SidesFit z → (w size n : ℕ) → w ≡ rowWidth z → size ≡ markWords z → ScratchRoom z n → (es : List (List ℕ))
-    → StripsIn (z .«moved_along») (z .«moved_across») es → (size ≤ n) × StripsFit w 0 5 9 n es × (w < 1000)
-marks-fit z f w size n ew es room ss b =
+pub marks-fit : (z : Sides) → SidesFit z → (w size n : ℕ) → w ≡ rowWidth z → size ≡ markWords z → ScratchRoom z n → (extra : ℕ) (es : List (List ℕ))
+    → MovedIn z extra es → (size ≤ n) × StripsFit w 0 5 9 n es × (w < 1000)
+marks-fit z f w size n ew es room extra ss m =
+    let b = strips-wider _ _ (z .«moved_along») (z .«moved_across») ss (omega arith) (omega arith) (m .strips) in
     let H : ℕ = z .«moved_across» in
     let e : (H + 0) * w ≡ H * rowWidth z = ap₂ _*_ (add-zero H) ew in
     let h = marks-small z f in

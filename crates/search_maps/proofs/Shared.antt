@@ -12,7 +12,10 @@ use Rattle.model.specs.declared.Turn.the-variants.{Half}
 use Rattle.strip_laws.proofs.Boxes.{along-point, across-point, box-along, box-across, pixel-in-box, point-again}
 use Rattle.strip_laws.proofs.Strips.{InStrips, have-in, strips-exactly, strips-maximal}
 use Rattle.strip_laws.proofs.Turns.{image-pixel}
+use Rattle.overlap_laws.specs.Grown.{grown}
 use Rattle.overlap_laws.specs.Overlap.{SharedPixel}
+use Rattle.overlap_laws.proofs.Grown.{grown-witness, grown-from}
+use Rattle.overlap_laws.proofs.GrownTurns.{turned-grown}
 use Rattle.overlap_laws.proofs.Share.{share-witness, share-from, shared-along, shared-across, shared-over}
 use Rattle.pair_overlap.specs.Meet.{stripAt}
 use Rattle.pair_overlap.specs.Seen.{entries}
@@ -25,7 +28,7 @@ use Rattle.search_marks.specs.Marks.{Made}
 use Rattle.search_marks.proofs.Sums.{Sum, made-only, made-set}
 use Rattle.search_maps.specs.declared.Sides.{Sides}
 use Rattle.search_maps.specs.Map.{sidesOf, columnsOf, rowsOf, rowWidth, markWords, mapWords, cellPlace, sharedAt, MapOf}
-use Rattle.search_maps.specs.Making.{StripPoint, MarksOf, LevelsMade, MapFilled}
+use Rattle.search_maps.specs.Making.{StripPoint, GrownPoint, MarksOf, LevelsMade, MapFilled}
 
 -- ── points of strips are pixels ──
 
@@ -67,6 +70,71 @@ half-pixel Vertical s a c l m = image-pixel Half s (point Vertical a c) (record 
 pub half-extent : (e : Direction) (s : Shape) → extent e (turned Half s) ≡ extent e s
 half-extent Horizontal s = refl
 half-extent Vertical s = refl
+
+-- ── the moved shape, grown ──
+
+-- a shape has the pixel with the given coordinates
+abbrev pub PixelAt : Direction → Shape → ℕ → ℕ → Type 0
+PixelAt d m a c = pixel m (point d a c) ≡ true
+
+-- a grown point of a shape's strips is a pixel of the grown shape
+point-grown : (d : Direction) (m : Shape) (e a c : ℕ) → GrownPoint (entries d m) e a c → PixelAt d (grown e m) a c
+point-grown d m e a c h = go d (strip-pixel d m (h .fromAlong) (h .fromAcross) (h .from))
+  where
+    right : (h .fromAlong ≤ a) × (a ≤ h .fromAlong + e)
+    right = let x = h .along in let f = h .fewAlong in (omega arith, omega arith)
+
+    up : (h .fromAcross ≤ c) × (c ≤ h .fromAcross + e)
+    up = let y = h .across in let f = h .fewAcross in (omega arith, omega arith)
+
+    go : (k : Direction) → PixelAt k m (h .fromAlong) (h .fromAcross) → PixelAt k (grown e m) a c
+    go Horizontal p =
+        grown-from e m (point Horizontal a c)
+        (record { from = _; isPixel = p; right = right .0; near-right = right .1; up = up .0; near-up = up .1 })
+    go Vertical p =
+        grown-from e m (point Vertical a c)
+        (record { from = _; isPixel = p; right = up .0; near-right = up .1; up = right .0; near-up = right .1 })
+
+-- a point at most e further than a pixel of the shape is a grown point of its strips
+near : (d : Direction) (m : Shape) (e a c i j : ℕ) → PixelAt d m i j → i ≤ a → a ≤ i + e → j ≤ c → c ≤ j + e → GrownPoint (entries d m) e a c
+near d m e a c i j p ai ae cj ce =
+    record {
+      fromAlong = i;
+      fromAcross = j;
+      byAlong = a - i;
+      byAcross = c - j;
+      from = pixel-strip d m i j p;
+      fewAlong = omega arith;
+      fewAcross = omega arith;
+      along = omega arith;
+      across = omega arith;
+    }
+
+-- and every pixel of the grown shape is one
+grown-point : (d : Direction) (m : Shape) (e a c : ℕ) → PixelAt d (grown e m) a c → GrownPoint (entries d m) e a c
+grown-point Horizontal m e a c p =
+    let w = grown-witness e m (point Horizontal a c) p in
+    near Horizontal m e a c (w .from .x) (w .from .y) (w .isPixel) (w .right) (w .near-right) (w .up) (w .near-up)
+grown-point Vertical m e a c p =
+    let w = grown-witness e m (point Vertical a c) p in
+    near Vertical m e a c (w .from .y) (w .from .x) (w .isPixel) (w .up) (w .near-up) (w .right) (w .near-right)
+
+-- the marks of a shape turned by half, grown, are the marks of the grown shape turned by half
+grown-marks : (d : Direction) (s : Shape) (e w : ℕ) (bs : List ℕ) → MarksOf (GrownPoint (entries d (turned Half s)) e) w bs
+    → MarksOf (PixelAt d (turned Half (grown e s))) w bs
+grown-marks d s e w bs m =
+    let same = turned-grown Half e s in
+    record {
+      set = λ a c p. m .set a c (grown-point d (turned Half s) e a c (sym (same .pixels (point d a c)) ∙ p));
+      only = λ p b.
+          let k = m .only p b in
+          record {
+            a = k .a;
+            c = k .c;
+            point = same .pixels (point d (k .a) (k .c)) ∙ point-grown d (turned Half s) e (k .a) (k .c) (k .point);
+            place = k .place;
+          };
+    }
 
 -- a pixel at given coordinates has them in the box
 pixel-bounds : (d : Direction) (m : Shape) (a c : ℕ) → pixel m (point d a c) ≡ true → (a < extent d m) × (c < extent (other d) m)
@@ -175,7 +243,7 @@ cell-in z X Y l m =
     omega arith
 
 module _ (d : Direction) (s t : Shape) (bs xs ys zs : List ℕ)
-    (marks : MarksOf (entries d (turned Half s)) (rowWidth (sidesOf d s t)) bs)
+    (marks : MarksOf (PixelAt d (turned Half s)) (rowWidth (sidesOf d s t)) bs)
     (clear : Cleared (mapWords (sidesOf d s t)) xs ys) (room : mapWords (sidesOf d s t) ≤ length xs)
     (made : Made ys bs (entries d t) (rowWidth (sidesOf d s t)) 1 (length (entries d t)) zs)
   where
@@ -203,7 +271,7 @@ module _ (d : Direction) (s t : Shape) (bs xs ys zs : List ℕ)
             c = m .c;
             b = e .first + k .t;
             e = e .line;
-            ofMoved = strip-pixel d (turned Half s) (m .a) (m .c) (m .point);
+            ofMoved = m .point;
             ofStanding = strip-pixel d t (e .first + k .t) (e .line)
                 (record { number = k .i; below = k .i-in; line = refl; low = omega arith; high = omega arith });
             column = refl;
@@ -224,7 +292,6 @@ module _ (d : Direction) (s t : Shape) (bs xs ys zs : List ℕ)
     set-at : (X Y : ℕ) → Meets d s t X Y → bitIn zs (cellPlace (sidesOf d s t) X Y) ≡ true
     set-at X Y k =
         let w = rowWidth (sidesOf d s t) in
-        let m = pixel-strip d (turned Half s) (k .a) (k .c) (k .ofMoved) in
         let n = pixel-strip d t (k .b) (k .e) (k .ofStanding) in
         let e = stripAt (entries d t) (n .number) in
         let lo = n .low in
@@ -239,7 +306,7 @@ module _ (d : Direction) (s t : Shape) (bs xs ys zs : List ℕ)
           q = k .c * w + k .a;
           i-in = n .below;
           t-in = omega arith;
-          marked = marks .set (k .a) (k .c) m;
+          marked = marks .set (k .a) (k .c) (k .ofMoved);
           sum = omega arith;
         })
 
@@ -268,14 +335,16 @@ module _ (d : Direction) (s t : Shape) (bs xs ys zs : List ℕ)
               record { X = k .X; Y = k .Y; column = c .0; row = c .1; place = k .place };
         }
 
--- so it is for the sides and stretches that the code has
-pub map-from : (d : Direction) (s t : Shape) (z : Sides) (moved standing : List (List ℕ)) (levels : ℕ) (gs xs zs : List ℕ)
-    → z ≡ sidesOf d s t → moved ≡ entries d (turned Half s) → standing ≡ entries d t → LevelsMade moved z levels gs → mapWords z ≤ length xs
-    → MapFilled standing z (levelOf gs (markWords z) 0) xs zs → MapOf d s t zs
-map-from d s t z moved standing levels gs xs zs ez em et v room m =
+-- so it is for the sides and stretches that the code has, and the moved shape grown
+pub map-from : (d : Direction) (s t : Shape) (z : Sides) (moved standing : List (List ℕ)) (extra levels : ℕ) (gs xs zs : List ℕ)
+    → z ≡ sidesOf d (grown extra s) t → moved ≡ entries d (turned Half s) → standing ≡ entries d t → LevelsMade moved z extra levels gs
+    → mapWords z ≤ length xs → MapFilled standing z (levelOf gs (markWords z) 0) xs zs → MapOf d (grown extra s) t zs
+map-from d s t z moved standing extra levels gs xs zs ez em et v room m =
     subst₃
-    (λ (y : Sides) (es fs : List (List ℕ)). LevelsMade es y levels gs → mapWords y ≤ length xs
-    → MapFilled fs y (levelOf gs (markWords y) 0) xs zs → MapOf d s t zs)
+    (λ (y : Sides) (es fs : List (List ℕ)). LevelsMade es y extra levels gs → mapWords y ≤ length xs
+    → MapFilled fs y (levelOf gs (markWords y) 0) xs zs → MapOf d (grown extra s) t zs)
     (sym ez) (sym em) (sym et)
-    (λ v′ r m′. map-made d s t (levelOf gs (markWords (sidesOf d s t)) 0) xs (m′ .cleared) zs (v′ .marks) (m′ .clear) r (m′ .made))
+    (λ v′ r m′.
+    map-made d (grown extra s) t (levelOf gs (markWords (sidesOf d (grown extra s) t)) 0) xs (m′ .cleared) zs (grown-marks d s extra _ _ (v′ .marks))
+    (m′ .clear) r (m′ .made))
     v room m

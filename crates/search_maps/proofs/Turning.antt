@@ -1,17 +1,19 @@
 -- A piece in the opposite turn is the piece turned by half, so its strips are those that a map of the moved piece is made from. Assumes nothing.
-use Rattle.list_laws.proofs.Kit.{_∙_, _≡_, ap, ap₂, refl, subst₂, sym, List, map, _<_, ℕ, arith}
+use Rattle.list_laws.proofs.Kit.{_∙_, _≡_, ap, ap₂, refl, subst₂, sym, List, map, _-_, _<_, _≤_, ℕ, arith}
 use Rattle.list_laws.proofs.Tests.{same-tests}
 use Rattle.model.specs.Piece.{Shape, pixel, other, extent, turned}
 use Rattle.model.specs.Strip.{Strip}
 use Rattle.model.specs.Buffer.{stripEntry}
 use Rattle.model.specs.declared.Direction.{Direction}
+use Rattle.model.specs.declared.Direction.the-variants.{Horizontal, Vertical}
 use Rattle.model.specs.declared.Turn.{Turn}
 use Rattle.model.specs.declared.Turn.the-variants.{Zero, Quarter, Half, ThreeQuarters}
 use Rattle.strip_laws.specs.Boxes.{InBox, SameShape}
 use Rattle.strip_laws.proofs.Boxes.{pixel-in-box, pixel-in, same-extent}
 use Rattle.strip_laws.proofs.Strips.{strips-agree}
+use Rattle.overlap_laws.specs.Grown.{grown}
 use Rattle.pair_overlap.specs.Seen.{entries}
-use Rattle.search_maps.specs.Map.{opposite, StripsIn}
+use Rattle.search_maps.specs.Map.{opposite, sidesOf, extraLimit, StripsIn, MovedIn}
 use Rattle.search_maps.proofs.Fitting.{strips-in}
 use Rattle.search_maps.proofs.Shared.{half-extent}
 
@@ -56,3 +58,18 @@ opposite-in d t s =
     (same-extent d (turned (opposite t) s) (turned Half (turned t s)) h ∙ half-extent d (turned t s))
     (same-extent (other d) (turned (opposite t) s) (turned Half (turned t s)) h ∙ half-extent (other d) (turned t s))
     (strips-in d (turned (opposite t) s))
+
+-- a grown box without its growth
+ungrown : (d : Direction) (s : Shape) (extra : ℕ) → extent d s ≡ extent d (grown extra s) - extra
+ungrown Horizontal s extra = omega arith
+ungrown Vertical s extra = omega arith
+
+-- so they lie as `make_map` asks for, where the piece is grown
+pub opposite-moved : (d : Direction) (t : Turn) (s u : Shape) (extra : ℕ) → extra ≤ extraLimit
+    → MovedIn (sidesOf d (grown extra (turned t s)) u) extra (entries d (turned (opposite t) s))
+opposite-moved d t s u extra l =
+    record {
+      few = l;
+      strips = subst₂ (λ (a c : ℕ). StripsIn a c (entries d (turned (opposite t) s))) (ungrown d (turned t s) extra) (ungrown (other d) (turned t s) extra)
+          (opposite-in d t s);
+    }

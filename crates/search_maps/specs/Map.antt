@@ -21,6 +21,10 @@ use Rattle.search_maps.specs.declared.Sides.{Sides}
 abbrev pub sideLimit : ℕ
 sideLimit = 271
 
+-- the most that the moved shape is grown by: twice the largest gap
+abbrev pub extraLimit : ℕ
+extraLimit = 16
+
 -- the words of scratch that are enough for every map
 abbrev pub scratchBound : ℕ
 scratchBound = 20676
@@ -109,6 +113,11 @@ pub record StripIn (along across : ℕ) (e : Strip) : Type 0 where
 -- so does every strip of a stretch
 pub record StripsIn (along across : ℕ) (es : List (List ℕ)) : Type 0 where
   pub each : (i : ℕ) → i < length es → StripIn along across (stripAt es i)
+
+-- the strips of a moved shape that is to be grown by `extra` lie in the box that it has before
+pub record MovedIn (z : Sides) (extra : ℕ) (es : List (List ℕ)) : Type 0 where
+  pub few : extra ≤ extraLimit
+  pub strips : StripsIn (z .«moved_along» - extra) (z .«moved_across» - extra) es
 
 -- a scratch slice has room for a map's levels
 pub record ScratchRoom (z : Sides) (n : ℕ) : Type 0 where

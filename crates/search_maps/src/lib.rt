@@ -1,18 +1,20 @@
 // The map of a moved piece and a standing one: one bit for each offset of their corners at which the boxes meet, set exactly where the
 // pieces share a pixel. Such an offset is a pixel of the standing piece plus a pixel of the moved piece turned by half, so the map is made
 // by adding the one's strips to the other's marks. specs/Map.antt says where a bit stands. One code for rows and columns: strips of
-// rows make the map that is read along rows.
+// rows make the map that is read along rows. Pieces that are to keep a gap make the map of the moved piece grown by it: its marks
+// are moved up by so many pixels and rows as well.
 ghost use mathlib.Core.Path.{_≡_};
 ghost use Prim.Native.Nat.{_+_, _*_, _<_, _≤_};
 ghost use lib.ListN.{length};
 ghost use Rattle.model.specs.Piece.{Shape, turned};
 ghost use Rattle.model.specs.declared.Direction.{Direction};
 ghost use Rattle.model.specs.declared.Turn.the-variants.{Half};
+ghost use Rattle.overlap_laws.specs.Grown.{grown};
 ghost use Rattle.pair_overlap.specs.Seen.{entries};
 ghost use Rattle.search_levels.specs.Levels.{Levels, levelBound, levelOf};
 ghost use Rattle.search_marks.specs.Marks.{StripsFit, widthLimit};
-ghost use Rattle.search_maps.specs.Map.{opposite, sidesOf, rowWidth, markWords, mapWords, scratchWords, SidesFit, StripsIn, ScratchRoom, MapRoom, MapOf};
-ghost use Rattle.search_maps.specs.Making.{pointSize, Points, MarksMade, LevelsMade, LevelsFor, MapFilled};
+ghost use Rattle.search_maps.specs.Map.{opposite, sidesOf, rowWidth, markWords, mapWords, scratchWords, extraLimit, SidesFit, StripsIn, MovedIn, ScratchRoom, MapRoom, MapOf};
+ghost use Rattle.search_maps.specs.Making.{pointSize, Points, StripPoint, MarksMade, MarksGrown, LevelsMade, LevelsFor, MapFilled};
 use model::StripEntry;
 use model::Turn;
 use search_levels::LEVELS;
@@ -96,21 +98,31 @@ fn point_levels() -> [u64; POINT_WORDS]
 // Marks the pixels of a piece's strips in the first words, in rows of w bits.
 fn make_marks(scratch: &mut [u64], es: &[StripEntry], w: usize, size: usize)
     requires { ⌜ size ≤ length (now scratch) ⌝ ∗ ⌜ StripsFit w 0 pointSize levelBound (length (now scratch)) (now es) ⌝ ∗ ⌜ w < widthLimit ⌝ }
-    ensures { λ r. ⌜ MarksMade (now (es .entry)) w size (now (scratch .entry)) (now (scratch .exit)) ⌝ }
+    ensures { λ r. ⌜ MarksMade (StripPoint (now (es .entry))) w size (now (scratch .entry)) (now (scratch .exit)) ⌝ }
 {
     let points = point_levels();
     search_words::clear_words(scratch, size);
     search_marks::add_strips(scratch, &points, POINT_SIZE, LEVELS, es, w, 0);
 }
 
-// Marks the moved piece's pixels, and widens them.
-fn make_levels(scratch: &mut [u64], moved: &[StripEntry], sides: Sides, levels: usize)
-    requires { ⌜ SidesFit sides ⌝ ∗ ⌜ StripsIn (sides .«moved_along») (sides .«moved_across») (now moved) ⌝ ∗ ⌜ ScratchRoom sides (length (now scratch)) ⌝ ∗ ⌜ LevelsFor (sides .«standing_along») levels ⌝ }
-    ensures { λ r. ⌜ LevelsMade (now (moved .entry)) sides levels (now (scratch .exit)) ⌝ }
+// Grows the marks in the first words, in rows of w bits, by `extra` pixels to the right and by as many rows up.
+fn grow_marks(scratch: &mut [u64], w: usize, size: usize, extra: usize)
+    requires { ⌜ (size ≤ length (now scratch)) × (w < widthLimit) × (extra ≤ extraLimit) ⌝ }
+    ensures { λ r. ⌜ MarksGrown w size extra (now (scratch .entry)) (now (scratch .exit)) ⌝ }
+{
+    search_words::grow(scratch, size, 1, extra + 1);
+    search_words::grow(scratch, size, w, extra + 1);
+}
+
+// Marks the pixels of the moved piece grown by `extra`, and widens them.
+fn make_levels(scratch: &mut [u64], moved: &[StripEntry], sides: Sides, extra: usize, levels: usize)
+    requires { ⌜ SidesFit sides ⌝ ∗ ⌜ MovedIn sides extra (now moved) ⌝ ∗ ⌜ ScratchRoom sides (length (now scratch)) ⌝ ∗ ⌜ LevelsFor (sides .«standing_along») levels ⌝ }
+    ensures { λ r. ⌜ LevelsMade (now (moved .entry)) sides extra levels (now (scratch .exit)) ⌝ }
 {
     let w = row_width(sides);
     let size = mark_words(sides);
     make_marks(scratch, moved, w, size);
+    grow_marks(scratch, w, size, extra);
     search_levels::widen_levels(scratch, size, levels);
 }
 
@@ -126,20 +138,22 @@ fn fill_map(words: &mut [u64], marks: &[u64], standing: &[StripEntry], sides: Si
     search_marks::add_strips(words, marks, size, levels, standing, w, 1);
 }
 
-// Makes the map of two pieces. The moved piece's strips are lent in the opposite turn.
+// Makes the map of a moved piece grown by `extra` and a standing one as it is; the sides are those of the grown one. The moved piece's strips are
+// lent as they are before it grows, and in the opposite turn.
 pub fn make_map(
     moved: &[StripEntry],
     standing: &[StripEntry],
     sides: Sides,
+    extra: usize,
     scratch: &mut [u64],
     words: &mut [u64],
 )
-    requires { ⌜ SidesFit sides ⌝ ∗ ⌜ StripsIn (sides .«moved_along») (sides .«moved_across») (now moved) ⌝
+    requires { ⌜ SidesFit sides ⌝ ∗ ⌜ MovedIn sides extra (now moved) ⌝
         ∗ ⌜ StripsIn (sides .«standing_along») (sides .«standing_across») (now standing) ⌝
         ∗ ⌜ ScratchRoom sides (length (now scratch)) ⌝ ∗ ⌜ MapRoom sides (length (now words)) ⌝ }
-    ensures { λ r. ⌜ ((d : Direction) (s t : Shape) → sides ≡ sidesOf d s t → now (moved .entry) ≡ entries d (turned Half s) → now (standing .entry) ≡ entries d t → MapOf d s t (now (words .exit))) ⌝ }
+    ensures { λ r. ⌜ ((d : Direction) (s t : Shape) → sides ≡ sidesOf d (grown extra s) t → now (moved .entry) ≡ entries d (turned Half s) → now (standing .entry) ≡ entries d t → MapOf d (grown extra s) t (now (words .exit))) ⌝ }
 {
     let levels = search_marks::level_of(sides.standing_along) + 1;
-    make_levels(scratch, moved, sides, levels);
+    make_levels(scratch, moved, sides, extra, levels);
     fill_map(words, scratch, standing, sides, levels);
 }

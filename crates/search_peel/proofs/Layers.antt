@@ -1,6 +1,6 @@
 -- Layers of set bits peeled off, one distance after the other. Assumes nothing.
 use Rattle.list_laws.proofs.Kit.{_∙_, _≡_, ap, ap₂, refl, subst, sym, Bool, _&&_, false, not, true, _⊎_, inl, inr, List, _+_, _-_, _<_, _^_, _≤_, ℕ}
-use Rattle.list_laws.proofs.Kit.{arith, lt-ltb, ltb-true, getD, length}
+use Rattle.list_laws.proofs.Kit.{arith, by-contra, lt-ltb, ltb-true, getD, length}
 use Rattle.list_laws.proofs.Numbers.{below-or, below-more}
 use Rattle.list_laws.proofs.Tests.{and-left, and-right, clash, decided, first-fails}
 use lib.Bits.{bitAnd, and-le-l}
@@ -64,13 +64,12 @@ module _ (ws : List ℕ) (w p count at : ℕ) (xs : List ℕ) (h : Reaches ws w 
 
   -- no place is open past the reach
   pub peel-in : (ys : List ℕ) (v r : ℕ) → (v ≡ 0 → ⊥) → Peeling ws w p count at xs ys v r → r ≤ h .reach
-  peel-in ys v r n g = go (below-or (h .reach) r)
-    where
-      go : (h .reach < r) ⊎ (r ≤ h .reach) → r ≤ h .reach
-      go (inr l) = l
-      go (inl l) =
-          let e : bitAt v (trailingZeros 64 v) ≡ true = trailing-set 64 v (omega arith) (g .small) in
-          absurd (clash (g .kept (trailingZeros 64 v) (h .reach) e (h .some) l) (h .ends (trailingZeros 64 v) (g .few (trailingZeros 64 v) e)))
+  peel-in ys v r n g =
+      let x = trailingZeros 64 v in
+      let e : bitAt v x ≡ true = trailing-set 64 v (omega arith) (g .small) in
+      let q = h .ends x (g .few x e) in
+      let l : r ≤ q .at = by-contra r (q .at) (λ m. clash (g .kept x (q .at) e (q .some) m) (q .clear)) in
+      omega (arith, q .near)
 
   module _ (ys : List ℕ) (v n r : ℕ) (g : Peeling ws w p count at xs ys v r) (o : Inner ws w p r v n) where
     -- the bits that leave

@@ -52,17 +52,23 @@ pub record PlaceDone (ws : List ℕ) (w p old new : ℕ) : Type 0 where
   pub marked : bitIn ws p ≡ true → Distance ws w p new
   pub clear : bitIn ws p ≡ false → new ≡ old
 
--- at the reach a side of each of the places is clear, and all that is read up to it lies in the map
+-- a side of p is clear at a distance from 1 to the reach. It need not be clear farther on: along a row the bits past its end are those of the next
+pub record EndsBy (ws : List ℕ) (w p reach : ℕ) : Type 0 where
+  pub at : ℕ
+  pub some : 1 ≤ at
+  pub near : at ≤ reach
+  pub clear : around ws w p at ≡ false
+
+-- within the reach a side of each of the places is clear, and all that is read up to it lies in the map
 pub record Reaches (ws : List ℕ) (w p count : ℕ) : Type 0 where
   pub reach : ℕ
   pub wide : 1 ≤ w
-  pub some : 1 ≤ reach
   pub short : reach < 256
   pub low : reach * w ≤ p
   pub high : p + reach * w + 128 ≤ length ws * 64
   pub room : length ws < lengthLimit
   pub few : (1 ≤ count) × (count ≤ 64)
-  pub ends : (x : ℕ) → x < count → around ws w (p + x) reach ≡ false
+  pub ends : (x : ℕ) → x < count → EndsBy ws w (p + x) reach
 
 -- `count` places of the line, from `at` on, are done
 pub record Peeled (ws : List ℕ) (w p count at : ℕ) (xs ys : List ℕ) : Type 0 where

@@ -1,4 +1,4 @@
--- Weights that are raised pair by pair, as the table tells which pairs share a pixel. Assumes nothing.
+-- Weights that are raised pair by pair, as the table tells which pairs conflict. Assumes nothing.
 use Rattle.list_laws.proofs.Kit.{_∙_, _≡_, ap, ap₂, refl, subst, sym, Bool, false, not, true, List, _+_, _<_, _≤_, ℕ, arith, eqb, ltb, getD, length, set}
 use Rattle.list_laws.proofs.Kit.{eq-eqb, le-ltb, lt-ltb, ltb-false, ltb-true, ne-eqb}
 use Rattle.model.specs.Layout.{Job, Layout, pairs}
@@ -7,7 +7,7 @@ use Rattle.descent_laws.specs.Claims.{ValidWeights}
 use Rattle.search_laws.specs.Pairs.{pairIndex, rowStart}
 use Rattle.search_laws.proofs.Pairs.{pair-below, last-index}
 use Rattle.search_laws.specs.Table.{entry, PenaltyTable}
-use Rattle.search_laws.proofs.Table.{table-shares}
+use Rattle.search_laws.proofs.Table.{table-conflicts}
 use Rattle.search_laws.specs.Raising.{Raising}
 use Rattle.search_laws.proofs.GuidedLoop.{raising-more, raising-full, raising-apart, raising-end}
 use Rattle.search_sums.specs.Table.{raisedBy, raisedAt}
@@ -37,14 +37,14 @@ module _ (j : Job) (v : Layout) (ws now T : List ℕ) (i k : ℕ) (t : PenaltyTa
     cases : (a b : Bool) → eqb (getD T (entry i k) 0) 0 ≡ a → ltb (getD now at 0) weightBound ≡ b
         → Raising j v ws (at + 1) (raisedBy a b now at)
     unfolding at
-    cases true b e f = raising-apart j v ws now i k (valid .onePerPair) rising below h (table-shares j ws v T t i k rising below ∙ ap not e)
+    cases true b e f = raising-apart j v ws now i k (valid .onePerPair) rising below h (table-conflicts j ws v T t i k rising below ∙ ap not e)
     cases false true e f =
-        raising-more j v ws now i k (valid .onePerPair) rising below h (table-shares j ws v T t i k rising below ∙ ap not e) (ltb-true _ _ f)
+        raising-more j v ws now i k (valid .onePerPair) rising below h (table-conflicts j ws v T t i k rising below ∙ ap not e) (ltb-true _ _ f)
     cases false false e f =
         let there : pairIndex (j .size .count) i k < length ws =
         (let p = pair-below (j .size .count) i k rising below in let o = valid .onePerPair in omega arith) in
         let most = valid .inRange (pairIndex (j .size .count) i k) there .1 in
-        raising-full j v ws now i k (valid .onePerPair) rising below h (table-shares j ws v T t i k rising below ∙ ap not e) (ltb-false _ _ f)
+        raising-full j v ws now i k (valid .onePerPair) rising below h (table-conflicts j ws v T t i k rising below ∙ ap not e) (ltb-false _ _ f)
         (omega (arith, h .rest (pairIndex (j .size .count) i k) (omega arith)))
 
     -- the pair's weight

@@ -131,7 +131,7 @@ fn raise_pair(weights: &mut [u32], at: usize, penalty: u8)
     }
 }
 
-// Raises the weights of the pairs (i, i + 1), (i, i + 2), .. that share a pixel. They begin at `from`.
+// Raises the weights of the pairs (i, i + 1), (i, i + 2), .. that conflict. They begin at `from`.
 fn raise_row(penalties: &[u8], weights: &mut [u32], n: usize, i: usize, from: usize)
     requires { ⌜ Weighed n (now penalties) (now weights) ⌝ ∗ ⌜ (i < n) × (from ≡ rowStart n i) ⌝ }
     ensures { λ r. ⌜ ((j : Job) (v : Layout) (ws : List ℕ) → j .size .count ≡ n → PenaltyTable j v n (now (penalties .entry)) → ValidWeights j ws → Raising j v ws from (now (weights .entry)) → Raising j v ws (rowStart n (i + 1)) (now (weights .exit))) ⌝ }
@@ -145,7 +145,7 @@ fn raise_row(penalties: &[u8], weights: &mut [u32], n: usize, i: usize, from: us
     }
 }
 
-// Raises the weight of each pair that shares a pixel.
+// Raises the weight of each pair that conflicts.
 pub fn raise(penalties: &[u8], weights: &mut [u32], n: usize)
     requires { ⌜ Weighed n (now penalties) (now weights) ⌝ }
     ensures { λ r. ⌜ ((j : Job) (v : Layout) → j .size .count ≡ n → PenaltyTable j v n (now (penalties .entry)) → ValidWeights j (now (weights .entry)) → now (weights .exit) ≡ raised j v (now (weights .entry))) ⌝ }

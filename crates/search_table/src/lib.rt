@@ -4,12 +4,14 @@ use layout_strips::StripSpan;
 use layout_strips::empty_store;
 use layout_strips::no_spans;
 use layout_strips::penalty_of;
+use model::JobSize;
 use model::PIECE_BOUND;
 use model::PieceEntry;
 use model::PlaceEntry;
 use model::StripEntry;
 ghost use mathlib.Core.Path.{_≡_};
-ghost use Prim.Native.Nat.{_+_, _<_};
+ghost use Prim.Native.Nat.{_+_, _<_, _≤_};
+ghost use Rattle.model.specs.Piece.{gapBound};
 ghost use lib.ListN.{length};
 ghost use Rattle.model.specs.Lent.{lentBy, jobOf};
 ghost use Rattle.model.specs.Buffer.{layoutOf};
@@ -27,6 +29,7 @@ fn add_piece(
     pixels: &[u8],
     layout: &[PlaceEntry],
     i: usize,
+    gap: u32,
     rows: &mut [StripEntry],
     row_spans: &mut [StripSpan],
     columns: &mut [StripEntry],
@@ -34,11 +37,11 @@ fn add_piece(
     penalties: &mut [u8],
 )
     requires { ⌜ Drawable (now table) (now layout) ⌝
-        ∗ ⌜ i < length (now layout) ⌝
+        ∗ ⌜ (i < length (now layout)) × (gap ≤ gapBound) ⌝
         ∗ ⌜ Kept Horizontal (now table) (now pixels) (now layout) (now rows) (now «row_spans») ⌝
         ∗ ⌜ Kept Vertical (now table) (now pixels) (now layout) (now columns) (now «column_spans») ⌝
         ∗ ⌜ length (now penalties) ≡ 4096 ⌝ }
-    ensures table { λ r. ⌜ ((size : JobSize) → PenaltyTable (jobOf (lentBy size (now (table .entry)) (now (pixels .entry)))) (layoutOf (now (layout .entry))) i (now (penalties .entry)) → PenaltyTable (jobOf (lentBy size (now (table .entry)) (now (pixels .entry)))) (layoutOf (now (layout .entry))) (i + 1) (now (penalties .exit))) ⌝ }
+    ensures table { λ r. ⌜ ((size : JobSize) → size .gap ≡ gap → PenaltyTable (jobOf (lentBy size (now (table .entry)) (now (pixels .entry)))) (layoutOf (now (layout .entry))) i (now (penalties .entry)) → PenaltyTable (jobOf (lentBy size (now (table .entry)) (now (pixels .entry)))) (layoutOf (now (layout .entry))) (i + 1) (now (penalties .exit))) ⌝ }
     ensures rows { λ r. ⌜ Kept Horizontal (now (table .entry)) (now (pixels .entry)) (now (layout .entry)) (now (rows .exit)) (now («row_spans» .exit)) ⌝ }
     ensures columns { λ r. ⌜ Kept Vertical (now (table .entry)) (now (pixels .entry)) (now (layout .entry)) (now (columns .exit)) (now («column_spans» .exit)) ⌝ }
 {
@@ -50,6 +53,7 @@ fn add_piece(
             layout,
             i,
             k,
+            gap,
             rows,
             row_spans,
             columns,
@@ -66,6 +70,7 @@ fn fill_table(
     table: &[PieceEntry],
     pixels: &[u8],
     layout: &[PlaceEntry],
+    gap: u32,
     rows: &mut [StripEntry],
     row_spans: &mut [StripSpan],
     columns: &mut [StripEntry],
@@ -75,8 +80,9 @@ fn fill_table(
     requires { ⌜ Drawable (now table) (now layout) ⌝
         ∗ ⌜ Kept Horizontal (now table) (now pixels) (now layout) (now rows) (now «row_spans») ⌝
         ∗ ⌜ Kept Vertical (now table) (now pixels) (now layout) (now columns) (now «column_spans») ⌝
-        ∗ ⌜ length (now penalties) ≡ 4096 ⌝ }
-    ensures { λ r. ⌜ ((size : JobSize) → size .count ≡ length (now (layout .entry)) → PenaltyTable (jobOf (lentBy size (now (table .entry)) (now (pixels .entry)))) (layoutOf (now (layout .entry))) (size .count) (now (penalties .exit))) ⌝ }
+        ∗ ⌜ length (now penalties) ≡ 4096 ⌝
+        ∗ ⌜ gap ≤ gapBound ⌝ }
+    ensures { λ r. ⌜ ((size : JobSize) → size .gap ≡ gap → size .count ≡ length (now (layout .entry)) → PenaltyTable (jobOf (lentBy size (now (table .entry)) (now (pixels .entry)))) (layoutOf (now (layout .entry))) (size .count) (now (penalties .exit))) ⌝ }
 {
     let mut i = 0;
     while i < layout.len() {
@@ -85,6 +91,7 @@ fn fill_table(
             pixels,
             layout,
             i,
+            gap,
             rows,
             row_spans,
             columns,
@@ -95,15 +102,17 @@ fn fill_table(
     }
 }
 
-// The table of a layout.
+// The table of a layout, by the job's gap.
 pub fn penalties_of(
+    size: JobSize,
     table: &[PieceEntry],
     pixels: &[u8],
     layout: &[PlaceEntry],
 ) -> [u8; TABLE_LENGTH]
-    requires { ⌜ Drawable (now table) (now layout) ⌝ }
-    ensures { λ r. ⌜ ((size : JobSize) → size .count ≡ length (now (layout .entry)) → PenaltyTable (jobOf (lentBy size (now (table .entry)) (now (pixels .entry)))) (layoutOf (now (layout .entry))) (size .count) r) ⌝ }
+    requires { ⌜ Drawable (now table) (now layout) ⌝ ∗ ⌜ size .gap ≤ gapBound ⌝ }
+    ensures { λ r. ⌜ (size .count ≡ length (now (layout .entry)) → PenaltyTable (jobOf (lentBy size (now (table .entry)) (now (pixels .entry)))) (layoutOf (now (layout .entry))) (size .count) r) ⌝ }
 {
+    let gap = size.gap as u32;
     let mut rows = empty_store();
     let mut row_spans = no_spans();
     let mut columns = empty_store();
@@ -113,6 +122,7 @@ pub fn penalties_of(
         table,
         pixels,
         layout,
+        gap,
         &mut rows,
         &mut row_spans,
         &mut columns,

@@ -1,4 +1,4 @@
-// Boxes as a line sees them: the coordinates and sides along it and across it. Rows and columns are alike from here on.
+// Boxes as a line sees them: the coordinates and sides along it and across it, the sides grown by the gap. Rows and columns are alike from here on.
 use model::Direction;
 use model::JobSize;
 use model::Line;
@@ -11,9 +11,8 @@ ghost use mathlib.Core.List.{List};
 ghost use Prim.Native.Nat.{ℕ, _+_, _-_, _<_, _≤_};
 ghost use lib.ListN.{length};
 ghost use Rattle.model.specs.Piece.{lineDirection};
-ghost use Rattle.model.specs.Lent.{lentBy, jobOf, columnBound, sideBound};
+ghost use Rattle.model.specs.Lent.{lentBy, jobOf, columnBound, sideBound, gapBound};
 ghost use Rattle.model.specs.Buffer.{layoutOf};
-ghost use Rattle.model.specs.declared.JobSize.{JobSize};
 ghost use Rattle.search_tracks.specs.Boxes.{trackOf, standingOf, roomOn, SmallTrack, SmallStanding, MeetingTold, MeetingReach};
 
 // A piece that moves: its number, its turn and the line that it moves on.
@@ -23,7 +22,7 @@ pub struct Mover {
     pub line: Line,
 }
 
-// A moving piece on its line: its box's sides along and across, the held coordinate, and how many places the line has for it.
+// A moving piece on its line: its grown box's sides along and across, the held coordinate, and how many places the line has for the piece.
 pub struct Track {
     pub length: usize,
     pub width: usize,
@@ -31,7 +30,7 @@ pub struct Track {
     pub places: usize,
 }
 
-// A standing piece beside the line: its turn, its corner's coordinates along and across, and its box's sides along and across.
+// A standing piece beside the line: its turn, its corner's coordinates along and across, and its grown box's sides along and across.
 pub struct StandingPiece {
     pub turn: Turn,
     pub along: usize,
@@ -75,7 +74,7 @@ fn room_on(length: usize, width: usize, held: usize, sheet: usize, height: usize
 
 // The moving piece on its line.
 pub fn track_of(size: JobSize, table: &[PieceEntry], mover: Mover) -> Track
-    requires { ⌜ (mover .piece < length (now table)) × ((size .columns ≤ columnBound) × (size .rows ≤ columnBound)) ⌝ }
+    requires { ⌜ (mover .piece < length (now table)) × ((size .columns ≤ columnBound) × (size .rows ≤ columnBound)) ⌝ ∗ ⌜ size .gap ≤ gapBound ⌝ }
     ensures track { λ r. ⌜ ((pixels : List ℕ) → r ≡ trackOf (jobOf (lentBy size (now (table .entry)) pixels)) mover) ⌝ }
     ensures small { λ r. ⌜ SmallTrack r ⌝ }
 {
@@ -83,12 +82,14 @@ pub fn track_of(size: JobSize, table: &[PieceEntry], mover: Mover) -> Track
     let turn = mover.turn;
     let line = mover.line;
     let sides = piece_pixels::turned_sides(table, piece, turn);
+    let columns = sides.columns + size.gap;
+    let rows = sides.rows + size.gap;
     match line {
         Line::InRow(row) => {
             let held = row.0 as usize;
             Track {
-                length: sides.columns,
-                width: sides.rows,
+                length: columns,
+                width: rows,
                 held: held,
                 places: room_on(sides.columns, sides.rows, held, size.columns, size.rows),
             }
@@ -96,8 +97,8 @@ pub fn track_of(size: JobSize, table: &[PieceEntry], mover: Mover) -> Track
         Line::InColumn(column) => {
             let held = column.0 as usize;
             Track {
-                length: sides.rows,
-                width: sides.columns,
+                length: rows,
+                width: columns,
                 held: held,
                 places: room_on(sides.rows, sides.columns, held, size.rows, size.columns),
             }
@@ -107,18 +108,21 @@ pub fn track_of(size: JobSize, table: &[PieceEntry], mover: Mover) -> Track
 
 // Piece k as the layout places it, beside a line of the direction.
 pub fn standing_of(
+    size: JobSize,
     table: &[PieceEntry],
     layout: &[PlaceEntry],
     direction: Direction,
     k: usize,
 ) -> StandingPiece
-    requires { ⌜ (k < length (now table)) × (k < length (now layout)) ⌝ }
-    ensures standing { λ r. ⌜ ((size : JobSize) (pixels : List ℕ) → r ≡ standingOf (jobOf (lentBy size (now (table .entry)) pixels)) (layoutOf (now (layout .entry))) direction k) ⌝ }
+    requires { ⌜ (k < length (now table)) × (k < length (now layout)) ⌝ ∗ ⌜ size .gap ≤ gapBound ⌝ }
+    ensures standing { λ r. ⌜ ((pixels : List ℕ) → r ≡ standingOf (jobOf (lentBy size (now (table .entry)) pixels)) (layoutOf (now (layout .entry))) direction k) ⌝ }
     ensures small { λ r. ⌜ SmallStanding r ⌝ }
 {
     let place = layout_places::place_at(layout, k);
     let turn = place.turn;
     let sides = piece_pixels::turned_sides(table, k, turn);
+    let columns = sides.columns + size.gap;
+    let rows = sides.rows + size.gap;
     let x = place.x.0 as usize;
     let y = place.y.0 as usize;
     match direction {
@@ -126,15 +130,15 @@ pub fn standing_of(
             turn: turn,
             along: x,
             across: y,
-            length: sides.columns,
-            width: sides.rows,
+            length: columns,
+            width: rows,
         },
         Direction::Vertical => StandingPiece {
             turn: turn,
             along: y,
             across: x,
-            length: sides.rows,
-            width: sides.columns,
+            length: rows,
+            width: columns,
         },
     }
 }

@@ -19,7 +19,7 @@ pub record Low (fs : List ℕ) (start skip j low : ℕ) : Type 0 where
   pub one : skip < j → low ≡ getD fs (start + (j - 1 - skip)) 0
 
 -- bit i of such a word
-bit-moved : (a low up i : ℕ) → i < 64 → up < 64 → bitAt (moved a low up) i ≡ ((leb up i && bitAt a (i - up)) || bitAt low (64 - up + i))
+pub bit-moved : (a low up i : ℕ) → i < 64 → up < 64 → bitAt (moved a low up) i ≡ ((leb up i && bitAt a (i - up)) || bitAt low (64 - up + i))
 bit-moved a low up i l u =
     let e : 1 + (63 - up + i) ≡ 64 - up + i = omega arith in
     bit-or (a * 2 ^ up % 2 ^ 64) (low / 2 ^ 1 / 2 ^ (63 - up)) i

@@ -1,5 +1,5 @@
 -- A string of bits that takes over another, moved up. Assumes nothing.
-use mathlib.Core.Bool.{Bool, false, _&&_, _||_}
+use mathlib.Core.Bool.{Bool, true, false, _&&_, _||_}
 use mathlib.Core.List.{List}
 use mathlib.Core.Path.{_≡_}
 use Prim.Native.Nat.{ℕ, _+_, _-_, _*_, _/_, _<_, _≤_}
@@ -46,3 +46,23 @@ pub record StripMarked (xs bs : List ℕ) (place count : ℕ) (ys : List ℕ) : 
 -- so it is for the string whose marks ws widens
 abbrev pub StripOf : List ℕ → List ℕ → ℕ → ℕ → ℕ → List ℕ → Type 0
 StripOf xs ws n place count ys = (bs : List ℕ) → Widened bs n ws → StripMarked xs bs place count ys
+
+-- the first `count` words take over their own bits, moved up by s; the others are as they were
+pub record Spread (count s : ℕ) (xs ys : List ℕ) : Type 0 where
+  pub same : length ys ≡ length xs
+  pub each : (p : ℕ) → p < count * 64 → bitIn ys p ≡ orBit xs 0 xs 0 s p
+  pub rest : (j : ℕ) → count ≤ j → getD ys j 0 ≡ getD xs j 0
+
+-- a set bit of xs lies fewer than n units below p
+pub record Below (xs : List ℕ) (unit n p : ℕ) : Type 0 where
+  pub t : ℕ
+  pub q : ℕ
+  pub few : t < n
+  pub marked : bitIn xs q ≡ true
+  pub place : p ≡ q + t * unit
+
+-- the first `count` words take over their own bits, moved up by 1, 2, .., n - 1 units: a bit is set exactly where one is set so far below it
+pub record Repeated (count unit n : ℕ) (xs ys : List ℕ) : Type 0 where
+  pub same : length ys ≡ length xs
+  pub set : (p : ℕ) → p < count * 64 → Below xs unit n p → bitIn ys p ≡ true
+  pub only : (p : ℕ) → p < count * 64 → bitIn ys p ≡ true → Below xs unit n p

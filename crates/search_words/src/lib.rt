@@ -1,8 +1,9 @@
-// Words as one string of bits, moved up into another and taken over there: what the map of two pieces is made by.
-ghost use Prim.Native.Nat.{_+_, _/_, _<_, _≤_};
+// Words as one string of bits, moved up into another and taken over there, or taken over by itself: what the map of two pieces is made by.
+ghost use Prim.Native.Nat.{_+_, _*_, _/_, _<_, _≤_};
 ghost use lib.ListN.{length};
 ghost use Rattle.search_bits.specs.Bit.{lengthLimit};
-ghost use Rattle.search_words.specs.Words.{OrRow, OrFlat, Spare, StripOf, Cleared};
+ghost use Rattle.search_words.specs.Words.{OrRow, OrFlat, Spare, StripOf, Cleared, Spread, Repeated};
+use whole_numbers::smaller;
 
 // Sets the first words to 0.
 pub fn clear_words(words: &mut [u64], count: usize)
@@ -52,4 +53,40 @@ pub fn or_strip(to: &mut [u64], wide: &[u64], n: usize, place: usize, count: usi
         return;
     }
     or_flat(to, wide, place + (count - n));
+}
+
+// The string of the first `count` words takes over its own bits, moved up by s: from the top down, so that every word that is read is as
+// it was.
+fn spread(words: &mut [u64], count: usize, s: usize)
+    requires { ⌜ count ≤ length (now words) ⌝ }
+    ensures { λ r. ⌜ Spread count s (now (words .entry)) (now (words .exit)) ⌝ }
+{
+    let skip = s / 64;
+    if count <= skip {
+        return;
+    }
+    let up = s % 64;
+    let mut j = count - 1;
+    let mut a = words[j - skip];
+    while skip < j {
+        let b = words[j - skip - 1];
+        words[j] |= (a << up) | ((b >> 1) >> (63 - up));
+        a = b;
+        j -= 1;
+    }
+    words[skip] |= a << up;
+}
+
+// The string of the first `count` words takes over its own bits, moved up by 1, 2, .., n - 1 times the unit. Each turn does as much again
+// as is done.
+pub fn grow(words: &mut [u64], count: usize, unit: usize, n: usize)
+    requires { ⌜ (count ≤ length (now words)) × (1 ≤ n) × (n * unit < lengthLimit) ⌝ }
+    ensures { λ r. ⌜ Repeated count unit n (now (words .entry)) (now (words .exit)) ⌝ }
+{
+    let mut done = 1;
+    while done < n {
+        let step = smaller(done, n - done);
+        spread(words, count, step * unit);
+        done += step;
+    }
 }

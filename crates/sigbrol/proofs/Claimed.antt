@@ -1,10 +1,10 @@
 -- What is said of a used length, of a preview, of a cut list and of a run, over the numbers that C is given: they are those of the call, and a
 -- reply of number 0 tells that it was not refused, since every cause of a refusal has a number other than 0. Assumes nothing.
 use Rattle.list_laws.proofs.Kit.{_∙_, _≡_, ap, subst, sym, Option, none, some, List, _<_, ℕ, arith}
-use Rattle.model.specs.Layout.{Job, Layout, Pair, sharingPair}
+use Rattle.model.specs.Layout.{Job, Layout, Pair, conflictingPair}
 use Rattle.model.specs.Lent.{Lent, jobOf}
 use Rattle.model.specs.Refusal.{refused}
-use Rattle.model.specs.Calls.{layoutCauses, sharedCause, usedLengthCall, previewCall, cutLinesCall, cutStepCall, lineStepCall, descentCall, guidedCall}
+use Rattle.model.specs.Calls.{layoutCauses, conflictCause, usedLengthCall, previewCall, cutLinesCall, cutStepCall, lineStepCall, descentCall, guidedCall}
 use Rattle.model.specs.declared.End.{End}
 use Rattle.model.specs.declared.Placement.{Placement}
 use Rattle.model.specs.declared.Refusal.{Refusal}
@@ -35,8 +35,8 @@ unfolding previewCall
 preview-numbered l es ws i p r e =
     refused-numbered _ _ r (omega arith, (omega arith, (omega arith, (omega arith, (omega arith, (omega arith, (omega arith, tt))))))) e
 
--- the cause of a shared pixel has one, whether it is there or not
-shared-numbered : (o : Option Pair) → 0 < sharedCause o .number
+-- the cause of a conflict has one, whether it is there or not
+shared-numbered : (o : Option Pair) → 0 < conflictCause o .number
 shared-numbered none = omega arith
 shared-numbered (some p) = omega arith
 
@@ -44,7 +44,7 @@ shared-numbered (some p) = omega arith
 pub cut-lines-numbered : (l : Lent) (es : List (List ℕ)) (room : ℕ) (r : Refusal) → cutLinesCall l es room ≡ refused r → 0 < r .number
 unfolding cutLinesCall layoutCauses
 cut-lines-numbered l es room r e =
-    let shared = shared-numbered (sharingPair (jobOf l) (layoutOf es)) in
+    let shared = shared-numbered (conflictingPair (jobOf l) (layoutOf es)) in
     refused-numbered _ _ r (omega arith, (omega arith, (omega arith, (omega arith, (shared, (omega arith, tt)))))) e
 
 -- and a refused step of lent lines
@@ -56,7 +56,7 @@ line-step-numbered lines pitch k r e = refused-numbered _ _ r (omega arith, tt) 
 pub cut-step-numbered : (l : Lent) (es : List (List ℕ)) (pitch k : ℕ) (r : Refusal) → cutStepCall l es pitch k ≡ refused r → 0 < r .number
 unfolding cutStepCall
 cut-step-numbered l es pitch k r e =
-    let shared = shared-numbered (sharingPair (jobOf l) (layoutOf es)) in
+    let shared = shared-numbered (conflictingPair (jobOf l) (layoutOf es)) in
     refused-numbered _ _ r (omega arith, (omega arith, (omega arith, (omega arith, (omega arith, (shared, tt)))))) e
 
 -- a refused descent has a number

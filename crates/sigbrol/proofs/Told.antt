@@ -114,7 +114,7 @@ pub count-told : {A : Type 0} (o : Outcome (List A)) {x : NumberAnswer} → x �
 count-told (refused r) e = ap numberTold e
 count-told (given xs) e = ap numberTold e
 
--- whether a pixel is shared
+-- whether two pieces conflict
 abbrev pub shareTold : ShareAnswer → Outcome Bool
 shareTold (ShareAnswer.Refused r) = refused r
 shareTold (ShareAnswer.Shares b) = given b

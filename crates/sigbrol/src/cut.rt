@@ -30,18 +30,25 @@ pub extern "C" fn sigbrol_cut_lines(
     rows: usize,
     columns: usize,
     count: usize,
+    gap: usize,
     table: &[PieceEntry],
     pixels: &[u8],
     layout: &[PlaceEntry],
     lines: &mut [LineEntry],
     lines_count: &mut usize,
 ) -> Reply
-    ensures answer { λ r. ⌜ r ≡ replyTo (cutLinesCall (lentAs rows columns count (now (table .entry)) (now (pixels .entry))) (now (layout .entry)) (length (now (lines .entry)))) ⌝ }
-    ensures memory { λ r. ⌜ now (lines .exit) ≡ linesAfter (now (lines .entry)) (cutLinesCall (lentAs rows columns count (now (table .entry)) (now (pixels .entry))) (now (layout .entry)) (length (now (lines .entry)))) ⌝ }
-    ensures count { λ r. ⌜ now («lines_count» .exit) ≡ leaving (λ a. length a) (now («lines_count» .entry)) (cutLinesCall (lentAs rows columns count (now (table .entry)) (now (pixels .entry))) (now (layout .entry)) (length (now (lines .entry)))) ⌝ }
-    ensures claims { λ r. ⌜ (r .number ≡ 0 → CutListClaims (lentAs rows columns count (now (table .entry)) (now (pixels .entry))) (now (layout .entry))) ⌝ }
+    ensures answer { λ r. ⌜ r ≡ replyTo (cutLinesCall (lentAs rows columns count gap (now (table .entry)) (now (pixels .entry))) (now (layout .entry)) (length (now (lines .entry)))) ⌝ }
+    ensures memory { λ r. ⌜ now (lines .exit) ≡ linesAfter (now (lines .entry)) (cutLinesCall (lentAs rows columns count gap (now (table .entry)) (now (pixels .entry))) (now (layout .entry)) (length (now (lines .entry)))) ⌝ }
+    ensures count { λ r. ⌜ now («lines_count» .exit) ≡ leaving (λ a. length a) (now («lines_count» .entry)) (cutLinesCall (lentAs rows columns count gap (now (table .entry)) (now (pixels .entry))) (now (layout .entry)) (length (now (lines .entry)))) ⌝ }
+    ensures claims { λ r. ⌜ (r .number ≡ 0 → CutListClaims (lentAs rows columns count gap (now (table .entry)) (now (pixels .entry))) (now (layout .entry))) ⌝ }
 {
-    match cut_line_calls::cut_lines(size_of(rows, columns, count), table, pixels, layout, lines) {
+    match cut_line_calls::cut_lines(
+        size_of(rows, columns, count, gap),
+        table,
+        pixels,
+        layout,
+        lines,
+    ) {
         NumberAnswer::Number(length) => {
             *lines_count = length as usize;
             done()
@@ -56,6 +63,7 @@ pub extern "C" fn sigbrol_cut_step(
     rows: usize,
     columns: usize,
     count: usize,
+    gap: usize,
     table: &[PieceEntry],
     pixels: &[u8],
     layout: &[PlaceEntry],
@@ -65,14 +73,14 @@ pub extern "C" fn sigbrol_cut_step(
     x: &mut f64,
     y: &mut f64,
 ) -> Reply
-    ensures answer { λ r. ⌜ r ≡ replyTo (cutStepCall (lentAs rows columns count (now (table .entry)) (now (pixels .entry))) (now (layout .entry)) pitch step) ⌝ }
-    ensures word { λ r. ⌜ now (word .exit) ≡ leaving stepWord (now (word .entry)) (cutStepCall (lentAs rows columns count (now (table .entry)) (now (pixels .entry))) (now (layout .entry)) pitch step) ⌝ }
-    ensures x { λ r. ⌜ now (x .exit) ≡ leaving (stepX (now (x .entry))) (now (x .entry)) (cutStepCall (lentAs rows columns count (now (table .entry)) (now (pixels .entry))) (now (layout .entry)) pitch step) ⌝ }
-    ensures y { λ r. ⌜ now (y .exit) ≡ leaving (stepY (now (y .entry))) (now (y .entry)) (cutStepCall (lentAs rows columns count (now (table .entry)) (now (pixels .entry))) (now (layout .entry)) pitch step) ⌝ }
-    ensures claims { λ r. ⌜ (r .number ≡ 0 → CutListClaims (lentAs rows columns count (now (table .entry)) (now (pixels .entry))) (now (layout .entry)) × StepExact (cutLines (jobOf (lentAs rows columns count (now (table .entry)) (now (pixels .entry)))) (layoutOf (now (layout .entry)))) pitch step (toldStep (now (word .exit)) (now (x .exit)) (now (y .exit)))) ⌝ }
+    ensures answer { λ r. ⌜ r ≡ replyTo (cutStepCall (lentAs rows columns count gap (now (table .entry)) (now (pixels .entry))) (now (layout .entry)) pitch step) ⌝ }
+    ensures word { λ r. ⌜ now (word .exit) ≡ leaving stepWord (now (word .entry)) (cutStepCall (lentAs rows columns count gap (now (table .entry)) (now (pixels .entry))) (now (layout .entry)) pitch step) ⌝ }
+    ensures x { λ r. ⌜ now (x .exit) ≡ leaving (stepX (now (x .entry))) (now (x .entry)) (cutStepCall (lentAs rows columns count gap (now (table .entry)) (now (pixels .entry))) (now (layout .entry)) pitch step) ⌝ }
+    ensures y { λ r. ⌜ now (y .exit) ≡ leaving (stepY (now (y .entry))) (now (y .entry)) (cutStepCall (lentAs rows columns count gap (now (table .entry)) (now (pixels .entry))) (now (layout .entry)) pitch step) ⌝ }
+    ensures claims { λ r. ⌜ (r .number ≡ 0 → CutListClaims (lentAs rows columns count gap (now (table .entry)) (now (pixels .entry))) (now (layout .entry)) × StepExact (cutLines (jobOf (lentAs rows columns count gap (now (table .entry)) (now (pixels .entry)))) (layoutOf (now (layout .entry)))) pitch step (toldStep (now (word .exit)) (now (x .exit)) (now (y .exit)))) ⌝ }
 {
     match cut_step_calls::cut_step(
-        size_of(rows, columns, count),
+        size_of(rows, columns, count, gap),
         table,
         pixels,
         layout,

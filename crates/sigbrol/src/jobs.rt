@@ -20,6 +20,7 @@ pub extern "C" fn sigbrol_read_job(
     rows: &mut usize,
     columns: &mut usize,
     count: &mut usize,
+    gap: &mut usize,
 ) -> Reply
     ensures answer { λ r. ⌜ r ≡ replyTo (readJob (now (text .entry)) (length (now (table .entry))) (length (now (pixels .entry)))) ⌝ }
     ensures entries { λ r. ⌜ now (table .exit) ≡ tableAfter (now (table .entry)) (readJob (now (text .entry)) (length (now (table .entry))) (length (now (pixels .entry)))) ⌝ }
@@ -27,10 +28,11 @@ pub extern "C" fn sigbrol_read_job(
     ensures rows { λ r. ⌜ now (rows .exit) ≡ leaving (λ a. a .size .rows) (now (rows .entry)) (readJob (now (text .entry)) (length (now (table .entry))) (length (now (pixels .entry)))) ⌝ }
     ensures columns { λ r. ⌜ now (columns .exit) ≡ leaving (λ a. a .size .columns) (now (columns .entry)) (readJob (now (text .entry)) (length (now (table .entry))) (length (now (pixels .entry)))) ⌝ }
     ensures count { λ r. ⌜ now (count .exit) ≡ leaving (λ a. a .size .count) (now (count .entry)) (readJob (now (text .entry)) (length (now (table .entry))) (length (now (pixels .entry)))) ⌝ }
+    ensures gap { λ r. ⌜ now (gap .exit) ≡ leaving (λ a. a .size .gap) (now (gap .entry)) (readJob (now (text .entry)) (length (now (table .entry))) (length (now (pixels .entry)))) ⌝ }
 {
     match job_calls::read_job(text, table, pixels) {
         JobAnswer::Read(size) => {
-            put_size(size, rows, columns, count);
+            put_size(size, rows, columns, count, gap);
             done()
         }
         JobAnswer::Refused(refusal) => refused(refusal),

@@ -27,17 +27,18 @@ pub extern "C" fn sigbrol_weighted_sum(
     rows: usize,
     columns: usize,
     count: usize,
+    gap: usize,
     table: &[PieceEntry],
     pixels: &[u8],
     layout: &[PlaceEntry],
     weights: &[u32],
     sum: &mut u64,
 ) -> Reply
-    ensures answer { λ r. ⌜ r ≡ replyTo (weightedSumCall (lentAs rows columns count (now (table .entry)) (now (pixels .entry))) (now (layout .entry)) (now (weights .entry))) ⌝ }
-    ensures sum { λ r. ⌜ now (sum .exit) ≡ leaving (λ a. a) (now (sum .entry)) (weightedSumCall (lentAs rows columns count (now (table .entry)) (now (pixels .entry))) (now (layout .entry)) (now (weights .entry))) ⌝ }
+    ensures answer { λ r. ⌜ r ≡ replyTo (weightedSumCall (lentAs rows columns count gap (now (table .entry)) (now (pixels .entry))) (now (layout .entry)) (now (weights .entry))) ⌝ }
+    ensures sum { λ r. ⌜ now (sum .exit) ≡ leaving (λ a. a) (now (sum .entry)) (weightedSumCall (lentAs rows columns count gap (now (table .entry)) (now (pixels .entry))) (now (layout .entry)) (now (weights .entry))) ⌝ }
 {
     match layout_sum_calls::weighted_sum(
-        size_of(rows, columns, count),
+        size_of(rows, columns, count, gap),
         table,
         pixels,
         layout,
@@ -57,15 +58,16 @@ pub extern "C" fn sigbrol_plain_sum(
     rows: usize,
     columns: usize,
     count: usize,
+    gap: usize,
     table: &[PieceEntry],
     pixels: &[u8],
     layout: &[PlaceEntry],
     sum: &mut u64,
 ) -> Reply
-    ensures answer { λ r. ⌜ r ≡ replyTo (plainSumCall (lentAs rows columns count (now (table .entry)) (now (pixels .entry))) (now (layout .entry))) ⌝ }
-    ensures sum { λ r. ⌜ now (sum .exit) ≡ leaving (λ a. a) (now (sum .entry)) (plainSumCall (lentAs rows columns count (now (table .entry)) (now (pixels .entry))) (now (layout .entry))) ⌝ }
+    ensures answer { λ r. ⌜ r ≡ replyTo (plainSumCall (lentAs rows columns count gap (now (table .entry)) (now (pixels .entry))) (now (layout .entry))) ⌝ }
+    ensures sum { λ r. ⌜ now (sum .exit) ≡ leaving (λ a. a) (now (sum .entry)) (plainSumCall (lentAs rows columns count gap (now (table .entry)) (now (pixels .entry))) (now (layout .entry))) ⌝ }
 {
-    match layout_sum_calls::plain_sum(size_of(rows, columns, count), table, pixels, layout) {
+    match layout_sum_calls::plain_sum(size_of(rows, columns, count, gap), table, pixels, layout) {
         NumberAnswer::Number(total) => {
             *sum = total;
             done()
@@ -80,16 +82,22 @@ pub extern "C" fn sigbrol_used_length(
     rows: usize,
     columns: usize,
     count: usize,
+    gap: usize,
     table: &[PieceEntry],
     pixels: &[u8],
     layout: &[PlaceEntry],
     used: &mut usize,
 ) -> Reply
-    ensures answer { λ r. ⌜ r ≡ replyTo (usedLengthCall (lentAs rows columns count (now (table .entry)) (now (pixels .entry))) (now (layout .entry))) ⌝ }
-    ensures used { λ r. ⌜ now (used .exit) ≡ leaving (λ a. a) (now (used .entry)) (usedLengthCall (lentAs rows columns count (now (table .entry)) (now (pixels .entry))) (now (layout .entry))) ⌝ }
-    ensures length { λ r. ⌜ (r .number ≡ 0 → UsedClaims (jobOf (lentAs rows columns count (now (table .entry)) (now (pixels .entry)))) (layoutOf (now (layout .entry))) (now (used .exit))) ⌝ }
+    ensures answer { λ r. ⌜ r ≡ replyTo (usedLengthCall (lentAs rows columns count gap (now (table .entry)) (now (pixels .entry))) (now (layout .entry))) ⌝ }
+    ensures used { λ r. ⌜ now (used .exit) ≡ leaving (λ a. a) (now (used .entry)) (usedLengthCall (lentAs rows columns count gap (now (table .entry)) (now (pixels .entry))) (now (layout .entry))) ⌝ }
+    ensures length { λ r. ⌜ (r .number ≡ 0 → UsedClaims (jobOf (lentAs rows columns count gap (now (table .entry)) (now (pixels .entry)))) (layoutOf (now (layout .entry))) (now (used .exit))) ⌝ }
 {
-    match layout_length_calls::used_length(size_of(rows, columns, count), table, pixels, layout) {
+    match layout_length_calls::used_length(
+        size_of(rows, columns, count, gap),
+        table,
+        pixels,
+        layout,
+    ) {
         NumberAnswer::Number(length) => {
             *used = length as usize;
             done()
@@ -104,6 +112,7 @@ pub extern "C" fn sigbrol_preview(
     rows: usize,
     columns: usize,
     count: usize,
+    gap: usize,
     table: &[PieceEntry],
     pixels: &[u8],
     layout: &[PlaceEntry],
@@ -115,13 +124,13 @@ pub extern "C" fn sigbrol_preview(
     sum: &mut u64,
     used: &mut usize,
 ) -> Reply
-    ensures answer { λ r. ⌜ r ≡ replyTo (previewCall (lentAs rows columns count (now (table .entry)) (now (pixels .entry))) (now (layout .entry)) (now (weights .entry)) (pieceWithTurn turn piece) (placement turn x y)) ⌝ }
-    ensures sum { λ r. ⌜ now (sum .exit) ≡ leaving (λ a. a .sum) (now (sum .entry)) (previewCall (lentAs rows columns count (now (table .entry)) (now (pixels .entry))) (now (layout .entry)) (now (weights .entry)) (pieceWithTurn turn piece) (placement turn x y)) ⌝ }
-    ensures used { λ r. ⌜ now (used .exit) ≡ leaving (λ a. a .length) (now (used .entry)) (previewCall (lentAs rows columns count (now (table .entry)) (now (pixels .entry))) (now (layout .entry)) (now (weights .entry)) (pieceWithTurn turn piece) (placement turn x y)) ⌝ }
-    ensures figures { λ r. ⌜ (r .number ≡ 0 → PreviewClaims (lentAs rows columns count (now (table .entry)) (now (pixels .entry))) (now (layout .entry)) (now (weights .entry)) (pieceWithTurn turn piece) (placement turn x y) (record { sum = now (sum .exit); length = now (used .exit) })) ⌝ }
+    ensures answer { λ r. ⌜ r ≡ replyTo (previewCall (lentAs rows columns count gap (now (table .entry)) (now (pixels .entry))) (now (layout .entry)) (now (weights .entry)) (pieceWithTurn turn piece) (placement turn x y)) ⌝ }
+    ensures sum { λ r. ⌜ now (sum .exit) ≡ leaving (λ a. a .sum) (now (sum .entry)) (previewCall (lentAs rows columns count gap (now (table .entry)) (now (pixels .entry))) (now (layout .entry)) (now (weights .entry)) (pieceWithTurn turn piece) (placement turn x y)) ⌝ }
+    ensures used { λ r. ⌜ now (used .exit) ≡ leaving (λ a. a .length) (now (used .entry)) (previewCall (lentAs rows columns count gap (now (table .entry)) (now (pixels .entry))) (now (layout .entry)) (now (weights .entry)) (pieceWithTurn turn piece) (placement turn x y)) ⌝ }
+    ensures figures { λ r. ⌜ (r .number ≡ 0 → PreviewClaims (lentAs rows columns count gap (now (table .entry)) (now (pixels .entry))) (now (layout .entry)) (now (weights .entry)) (pieceWithTurn turn piece) (placement turn x y) (record { sum = now (sum .exit); length = now (used .exit) })) ⌝ }
 {
     match preview(
-        size_of(rows, columns, count),
+        size_of(rows, columns, count, gap),
         table,
         pixels,
         layout,
@@ -144,13 +153,14 @@ pub extern "C" fn sigbrol_check(
     rows: usize,
     columns: usize,
     count: usize,
+    gap: usize,
     table: &[PieceEntry],
     pixels: &[u8],
     layout: &[PlaceEntry],
 ) -> Reply
-    ensures answer { λ r. ⌜ r ≡ replyTo (checkCall (lentAs rows columns count (now (table .entry)) (now (pixels .entry))) (now (layout .entry))) ⌝ }
+    ensures answer { λ r. ⌜ r ≡ replyTo (checkCall (lentAs rows columns count gap (now (table .entry)) (now (pixels .entry))) (now (layout .entry))) ⌝ }
 {
-    match layout_sum_calls::check(size_of(rows, columns, count), table, pixels, layout) {
+    match layout_sum_calls::check(size_of(rows, columns, count, gap), table, pixels, layout) {
         DoneAnswer::Done => done(),
         DoneAnswer::Refused(refusal) => refused(refusal),
     }
@@ -162,14 +172,15 @@ pub extern "C" fn sigbrol_start(
     rows: usize,
     columns: usize,
     count: usize,
+    gap: usize,
     table: &[PieceEntry],
     pixels: &[u8],
     layout: &mut [PlaceEntry],
 ) -> Reply
-    ensures answer { λ r. ⌜ r ≡ replyTo (startCall (lentAs rows columns count (now (table .entry)) (now (pixels .entry))) (length (now (layout .entry)))) ⌝ }
-    ensures memory { λ r. ⌜ now (layout .exit) ≡ layoutAfter (now (layout .entry)) (startCall (lentAs rows columns count (now (table .entry)) (now (pixels .entry))) (length (now (layout .entry)))) ⌝ }
+    ensures answer { λ r. ⌜ r ≡ replyTo (startCall (lentAs rows columns count gap (now (table .entry)) (now (pixels .entry))) (length (now (layout .entry)))) ⌝ }
+    ensures memory { λ r. ⌜ now (layout .exit) ≡ layoutAfter (now (layout .entry)) (startCall (lentAs rows columns count gap (now (table .entry)) (now (pixels .entry))) (length (now (layout .entry)))) ⌝ }
 {
-    match layout_start_calls::start(size_of(rows, columns, count), table, pixels, layout) {
+    match layout_start_calls::start(size_of(rows, columns, count, gap), table, pixels, layout) {
         DoneAnswer::Done => done(),
         DoneAnswer::Refused(refusal) => refused(refusal),
     }

@@ -20,12 +20,13 @@ ghost use Rattle.pair_nofit_calls.specs.Lines.{lentStretch};
 ghost use Rattle.c_interface.specs.Numbers.{lentAs, pieceWithTurn};
 ghost use Rattle.c_interface.specs.Replies.{replyTo};
 
-// The no-fit row of two pieces at a row offset: the column offsets at which they share a pixel.
+// The no-fit row of two pieces at a row offset: the column offsets at which they conflict.
 #[no_mangle]
 pub extern "C" fn sigbrol_no_fit_row(
     rows: usize,
     columns: usize,
     count: usize,
+    gap: usize,
     table: &[PieceEntry],
     pixels: &[u8],
     i: usize,
@@ -38,11 +39,11 @@ pub extern "C" fn sigbrol_no_fit_row(
     runs: &mut [[i32; 2]],
     runs_count: &mut usize,
 ) -> Reply
-    ensures answer { λ r. ⌜ r ≡ replyTo (noFitCall Horizontal (lentAs rows columns count (now (table .entry)) (now (pixels .entry))) (lentStretch (pieceWithTurn «i_turn» i) (turnOf «i_turn») (now («i_strips» .entry))) (lentStretch (pieceWithTurn «k_turn» k) (turnOf «k_turn») (now («k_strips» .entry))) offset (length (now (runs .entry)))) ⌝ }
-    ensures memory { λ r. ⌜ now (runs .exit) ≡ runsAfter (now (runs .entry)) (noFitCall Horizontal (lentAs rows columns count (now (table .entry)) (now (pixels .entry))) (lentStretch (pieceWithTurn «i_turn» i) (turnOf «i_turn») (now («i_strips» .entry))) (lentStretch (pieceWithTurn «k_turn» k) (turnOf «k_turn») (now («k_strips» .entry))) offset (length (now (runs .entry)))) ⌝ }
-    ensures counted { λ r. ⌜ now («runs_count» .exit) ≡ leaving (λ a. length a) (now («runs_count» .entry)) (noFitCall Horizontal (lentAs rows columns count (now (table .entry)) (now (pixels .entry))) (lentStretch (pieceWithTurn «i_turn» i) (turnOf «i_turn») (now («i_strips» .entry))) (lentStretch (pieceWithTurn «k_turn» k) (turnOf «k_turn») (now («k_strips» .entry))) offset (length (now (runs .entry)))) ⌝ }
+    ensures answer { λ r. ⌜ r ≡ replyTo (noFitCall Horizontal (lentAs rows columns count gap (now (table .entry)) (now (pixels .entry))) (lentStretch (pieceWithTurn «i_turn» i) (turnOf «i_turn») (now («i_strips» .entry))) (lentStretch (pieceWithTurn «k_turn» k) (turnOf «k_turn») (now («k_strips» .entry))) offset (length (now (runs .entry)))) ⌝ }
+    ensures memory { λ r. ⌜ now (runs .exit) ≡ runsAfter (now (runs .entry)) (noFitCall Horizontal (lentAs rows columns count gap (now (table .entry)) (now (pixels .entry))) (lentStretch (pieceWithTurn «i_turn» i) (turnOf «i_turn») (now («i_strips» .entry))) (lentStretch (pieceWithTurn «k_turn» k) (turnOf «k_turn») (now («k_strips» .entry))) offset (length (now (runs .entry)))) ⌝ }
+    ensures counted { λ r. ⌜ now («runs_count» .exit) ≡ leaving (λ a. length a) (now («runs_count» .entry)) (noFitCall Horizontal (lentAs rows columns count gap (now (table .entry)) (now (pixels .entry))) (lentStretch (pieceWithTurn «i_turn» i) (turnOf «i_turn») (now («i_strips» .entry))) (lentStretch (pieceWithTurn «k_turn» k) (turnOf «k_turn») (now («k_strips» .entry))) offset (length (now (runs .entry)))) ⌝ }
 {
-    let size = size_of(rows, columns, count);
+    let size = size_of(rows, columns, count, gap);
     let first = PieceInTurn {
         piece: piece_with_turn(i_turn, i),
         turn: turn_or_zero(i_turn),
@@ -70,12 +71,13 @@ pub extern "C" fn sigbrol_no_fit_row(
     }
 }
 
-// The no-fit column of two pieces at a column offset: the row offsets at which they share a pixel.
+// The no-fit column of two pieces at a column offset: the row offsets at which they conflict.
 #[no_mangle]
 pub extern "C" fn sigbrol_no_fit_column(
     rows: usize,
     columns: usize,
     count: usize,
+    gap: usize,
     table: &[PieceEntry],
     pixels: &[u8],
     i: usize,
@@ -88,11 +90,11 @@ pub extern "C" fn sigbrol_no_fit_column(
     runs: &mut [[i32; 2]],
     runs_count: &mut usize,
 ) -> Reply
-    ensures answer { λ r. ⌜ r ≡ replyTo (noFitCall Vertical (lentAs rows columns count (now (table .entry)) (now (pixels .entry))) (lentStretch (pieceWithTurn «i_turn» i) (turnOf «i_turn») (now («i_strips» .entry))) (lentStretch (pieceWithTurn «k_turn» k) (turnOf «k_turn») (now («k_strips» .entry))) offset (length (now (runs .entry)))) ⌝ }
-    ensures memory { λ r. ⌜ now (runs .exit) ≡ runsAfter (now (runs .entry)) (noFitCall Vertical (lentAs rows columns count (now (table .entry)) (now (pixels .entry))) (lentStretch (pieceWithTurn «i_turn» i) (turnOf «i_turn») (now («i_strips» .entry))) (lentStretch (pieceWithTurn «k_turn» k) (turnOf «k_turn») (now («k_strips» .entry))) offset (length (now (runs .entry)))) ⌝ }
-    ensures counted { λ r. ⌜ now («runs_count» .exit) ≡ leaving (λ a. length a) (now («runs_count» .entry)) (noFitCall Vertical (lentAs rows columns count (now (table .entry)) (now (pixels .entry))) (lentStretch (pieceWithTurn «i_turn» i) (turnOf «i_turn») (now («i_strips» .entry))) (lentStretch (pieceWithTurn «k_turn» k) (turnOf «k_turn») (now («k_strips» .entry))) offset (length (now (runs .entry)))) ⌝ }
+    ensures answer { λ r. ⌜ r ≡ replyTo (noFitCall Vertical (lentAs rows columns count gap (now (table .entry)) (now (pixels .entry))) (lentStretch (pieceWithTurn «i_turn» i) (turnOf «i_turn») (now («i_strips» .entry))) (lentStretch (pieceWithTurn «k_turn» k) (turnOf «k_turn») (now («k_strips» .entry))) offset (length (now (runs .entry)))) ⌝ }
+    ensures memory { λ r. ⌜ now (runs .exit) ≡ runsAfter (now (runs .entry)) (noFitCall Vertical (lentAs rows columns count gap (now (table .entry)) (now (pixels .entry))) (lentStretch (pieceWithTurn «i_turn» i) (turnOf «i_turn») (now («i_strips» .entry))) (lentStretch (pieceWithTurn «k_turn» k) (turnOf «k_turn») (now («k_strips» .entry))) offset (length (now (runs .entry)))) ⌝ }
+    ensures counted { λ r. ⌜ now («runs_count» .exit) ≡ leaving (λ a. length a) (now («runs_count» .entry)) (noFitCall Vertical (lentAs rows columns count gap (now (table .entry)) (now (pixels .entry))) (lentStretch (pieceWithTurn «i_turn» i) (turnOf «i_turn») (now («i_strips» .entry))) (lentStretch (pieceWithTurn «k_turn» k) (turnOf «k_turn») (now («k_strips» .entry))) offset (length (now (runs .entry)))) ⌝ }
 {
-    let size = size_of(rows, columns, count);
+    let size = size_of(rows, columns, count, gap);
     let first = PieceInTurn {
         piece: piece_with_turn(i_turn, i),
         turn: turn_or_zero(i_turn),

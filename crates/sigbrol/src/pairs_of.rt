@@ -16,12 +16,13 @@ ghost use Rattle.model.specs.Buffer.{directionOf};
 ghost use Rattle.c_interface.specs.Numbers.{lentAs};
 ghost use Rattle.c_interface.specs.Replies.{replyTo};
 
-// Whether two pieces of a layout share a pixel: 1 or 0.
+// Whether two pieces of a layout conflict, which with a gap of 0 is to share a pixel: 1 or 0.
 #[no_mangle]
 pub extern "C" fn sigbrol_shares_pixel(
     rows: usize,
     columns: usize,
     count: usize,
+    gap: usize,
     table: &[PieceEntry],
     pixels: &[u8],
     layout: &[PlaceEntry],
@@ -29,10 +30,17 @@ pub extern "C" fn sigbrol_shares_pixel(
     k: usize,
     shares: &mut u8,
 ) -> Reply
-    ensures answer { λ r. ⌜ r ≡ replyTo (shareCall (lentAs rows columns count (now (table .entry)) (now (pixels .entry))) (now (layout .entry)) i k) ⌝ }
-    ensures shares { λ r. ⌜ now (shares .exit) ≡ leaving (λ a. oneIf a) (now (shares .entry)) (shareCall (lentAs rows columns count (now (table .entry)) (now (pixels .entry))) (now (layout .entry)) i k) ⌝ }
+    ensures answer { λ r. ⌜ r ≡ replyTo (shareCall (lentAs rows columns count gap (now (table .entry)) (now (pixels .entry))) (now (layout .entry)) i k) ⌝ }
+    ensures shares { λ r. ⌜ now (shares .exit) ≡ leaving (λ a. oneIf a) (now (shares .entry)) (shareCall (lentAs rows columns count gap (now (table .entry)) (now (pixels .entry))) (now (layout .entry)) i k) ⌝ }
 {
-    match pair_calls::shares_pixel(size_of(rows, columns, count), table, pixels, layout, i, k) {
+    match pair_calls::shares_pixel(
+        size_of(rows, columns, count, gap),
+        table,
+        pixels,
+        layout,
+        i,
+        k,
+    ) {
         ShareAnswer::Shares(yes) => {
             *shares = bit_of(yes);
             done()
@@ -47,6 +55,7 @@ pub extern "C" fn sigbrol_depth(
     rows: usize,
     columns: usize,
     count: usize,
+    gap: usize,
     table: &[PieceEntry],
     pixels: &[u8],
     layout: &[PlaceEntry],
@@ -55,10 +64,10 @@ pub extern "C" fn sigbrol_depth(
     vertical: u8,
     depth: &mut u32,
 ) -> Reply
-    ensures answer { λ r. ⌜ r ≡ replyTo (depthCall (directionOf vertical) (lentAs rows columns count (now (table .entry)) (now (pixels .entry))) (now (layout .entry)) i k) ⌝ }
-    ensures depth { λ r. ⌜ now (depth .exit) ≡ leaving (λ a. a) (now (depth .entry)) (depthCall (directionOf vertical) (lentAs rows columns count (now (table .entry)) (now (pixels .entry))) (now (layout .entry)) i k) ⌝ }
+    ensures answer { λ r. ⌜ r ≡ replyTo (depthCall (directionOf vertical) (lentAs rows columns count gap (now (table .entry)) (now (pixels .entry))) (now (layout .entry)) i k) ⌝ }
+    ensures depth { λ r. ⌜ now (depth .exit) ≡ leaving (λ a. a) (now (depth .entry)) (depthCall (directionOf vertical) (lentAs rows columns count gap (now (table .entry)) (now (pixels .entry))) (now (layout .entry)) i k) ⌝ }
 {
-    let size = size_of(rows, columns, count);
+    let size = size_of(rows, columns, count, gap);
     match pair_calls::depth(size, table, pixels, layout, i, k, direction_of(vertical)) {
         NumberAnswer::Number(amount) => {
             *depth = amount as u32;
@@ -74,6 +83,7 @@ pub extern "C" fn sigbrol_penalty(
     rows: usize,
     columns: usize,
     count: usize,
+    gap: usize,
     table: &[PieceEntry],
     pixels: &[u8],
     layout: &[PlaceEntry],
@@ -81,10 +91,17 @@ pub extern "C" fn sigbrol_penalty(
     k: usize,
     penalty: &mut u32,
 ) -> Reply
-    ensures answer { λ r. ⌜ r ≡ replyTo (penaltyCall (lentAs rows columns count (now (table .entry)) (now (pixels .entry))) (now (layout .entry)) i k) ⌝ }
-    ensures penalty { λ r. ⌜ now (penalty .exit) ≡ leaving (λ a. a) (now (penalty .entry)) (penaltyCall (lentAs rows columns count (now (table .entry)) (now (pixels .entry))) (now (layout .entry)) i k) ⌝ }
+    ensures answer { λ r. ⌜ r ≡ replyTo (penaltyCall (lentAs rows columns count gap (now (table .entry)) (now (pixels .entry))) (now (layout .entry)) i k) ⌝ }
+    ensures penalty { λ r. ⌜ now (penalty .exit) ≡ leaving (λ a. a) (now (penalty .entry)) (penaltyCall (lentAs rows columns count gap (now (table .entry)) (now (pixels .entry))) (now (layout .entry)) i k) ⌝ }
 {
-    match pair_calls::penalty(size_of(rows, columns, count), table, pixels, layout, i, k) {
+    match pair_calls::penalty(
+        size_of(rows, columns, count, gap),
+        table,
+        pixels,
+        layout,
+        i,
+        k,
+    ) {
         NumberAnswer::Number(amount) => {
             *penalty = amount as u32;
             done()

@@ -31,6 +31,7 @@ pub extern "C" fn sigbrol_line_search(
     rows: usize,
     columns: usize,
     count: usize,
+    gap: usize,
     table: &[PieceEntry],
     pixels: &[u8],
     layout: &[PlaceEntry],
@@ -42,11 +43,11 @@ pub extern "C" fn sigbrol_line_search(
     sum: &mut u64,
     at: &mut usize,
 ) -> Reply
-    ensures answer { λ r. ⌜ r ≡ replyTo (searchCall (lentAs rows columns count (now (table .entry)) (now (pixels .entry))) (now (layout .entry)) (now (weights .entry)) (pieceWithTurn turn piece) (turnOf turn) (lineOf vertical held)) ⌝ }
-    ensures sum { λ r. ⌜ now (sum .exit) ≡ leaving (λ a. a .sum) (now (sum .entry)) (searchCall (lentAs rows columns count (now (table .entry)) (now (pixels .entry))) (now (layout .entry)) (now (weights .entry)) (pieceWithTurn turn piece) (turnOf turn) (lineOf vertical held)) ⌝ }
-    ensures at { λ r. ⌜ now (at .exit) ≡ leaving (λ a. a .at) (now (at .entry)) (searchCall (lentAs rows columns count (now (table .entry)) (now (pixels .entry))) (now (layout .entry)) (now (weights .entry)) (pieceWithTurn turn piece) (turnOf turn) (lineOf vertical held)) ⌝ }
+    ensures answer { λ r. ⌜ r ≡ replyTo (searchCall (lentAs rows columns count gap (now (table .entry)) (now (pixels .entry))) (now (layout .entry)) (now (weights .entry)) (pieceWithTurn turn piece) (turnOf turn) (lineOf vertical held)) ⌝ }
+    ensures sum { λ r. ⌜ now (sum .exit) ≡ leaving (λ a. a .sum) (now (sum .entry)) (searchCall (lentAs rows columns count gap (now (table .entry)) (now (pixels .entry))) (now (layout .entry)) (now (weights .entry)) (pieceWithTurn turn piece) (turnOf turn) (lineOf vertical held)) ⌝ }
+    ensures at { λ r. ⌜ now (at .exit) ≡ leaving (λ a. a .at) (now (at .entry)) (searchCall (lentAs rows columns count gap (now (table .entry)) (now (pixels .entry))) (now (layout .entry)) (now (weights .entry)) (pieceWithTurn turn piece) (turnOf turn) (lineOf vertical held)) ⌝ }
 {
-    let size = size_of(rows, columns, count);
+    let size = size_of(rows, columns, count, gap);
     match search_calls::line_search(
         size,
         table,
@@ -72,6 +73,7 @@ pub extern "C" fn sigbrol_descent(
     rows: usize,
     columns: usize,
     count: usize,
+    gap: usize,
     table: &[PieceEntry],
     pixels: &[u8],
     layout: &mut [PlaceEntry],
@@ -83,17 +85,17 @@ pub extern "C" fn sigbrol_descent(
     trials: &mut u64,
     moves: &mut u64,
 ) -> Reply
-    ensures answer { λ r. ⌜ r ≡ replyTo (descentCall (lentAs rows columns count (now (table .entry)) (now (pixels .entry))) (now (layout .entry)) (now (weights .entry)) budget) ⌝ }
-    ensures memory { λ r. ⌜ now (layout .exit) ≡ descentAfter (now (layout .entry)) (descentCall (lentAs rows columns count (now (table .entry)) (now (pixels .entry))) (now (layout .entry)) (now (weights .entry)) budget) ⌝ }
-    ensures workspace { λ r. ⌜ LeftFree (descentCall (lentAs rows columns count (now (table .entry)) (now (pixels .entry))) (now (layout .entry)) (now (weights .entry)) budget) (now (workspace .entry)) (now (workspace .exit)) ⌝ }
-    ensures end { λ r. ⌜ now (end .exit) ≡ leaving (λ a. endNumber (a .end)) (now (end .entry)) (descentCall (lentAs rows columns count (now (table .entry)) (now (pixels .entry))) (now (layout .entry)) (now (weights .entry)) budget) ⌝ }
-    ensures sum { λ r. ⌜ now (sum .exit) ≡ leaving (λ a. a .sum) (now (sum .entry)) (descentCall (lentAs rows columns count (now (table .entry)) (now (pixels .entry))) (now (layout .entry)) (now (weights .entry)) budget) ⌝ }
-    ensures trials { λ r. ⌜ now (trials .exit) ≡ leaving (λ a. a .made) (now (trials .entry)) (descentCall (lentAs rows columns count (now (table .entry)) (now (pixels .entry))) (now (layout .entry)) (now (weights .entry)) budget) ⌝ }
-    ensures moves { λ r. ⌜ now (moves .exit) ≡ leaving (λ a. a .moves) (now (moves .entry)) (descentCall (lentAs rows columns count (now (table .entry)) (now (pixels .entry))) (now (layout .entry)) (now (weights .entry)) budget) ⌝ }
-    ensures demand3 { λ r. ⌜ (r .number ≡ 0 → DescentClaims (jobOf (lentAs rows columns count (now (table .entry)) (now (pixels .entry)))) (now (weights .entry)) budget (layoutOf (now (layout .entry))) (descentTold (now (end .exit)) (now (sum .exit)) (now (trials .exit)) (now (moves .exit)) (layoutOf (now (layout .exit))))) ⌝ }
+    ensures answer { λ r. ⌜ r ≡ replyTo (descentCall (lentAs rows columns count gap (now (table .entry)) (now (pixels .entry))) (now (layout .entry)) (now (weights .entry)) budget) ⌝ }
+    ensures memory { λ r. ⌜ now (layout .exit) ≡ descentAfter (now (layout .entry)) (descentCall (lentAs rows columns count gap (now (table .entry)) (now (pixels .entry))) (now (layout .entry)) (now (weights .entry)) budget) ⌝ }
+    ensures workspace { λ r. ⌜ LeftFree (descentCall (lentAs rows columns count gap (now (table .entry)) (now (pixels .entry))) (now (layout .entry)) (now (weights .entry)) budget) (now (workspace .entry)) (now (workspace .exit)) ⌝ }
+    ensures end { λ r. ⌜ now (end .exit) ≡ leaving (λ a. endNumber (a .end)) (now (end .entry)) (descentCall (lentAs rows columns count gap (now (table .entry)) (now (pixels .entry))) (now (layout .entry)) (now (weights .entry)) budget) ⌝ }
+    ensures sum { λ r. ⌜ now (sum .exit) ≡ leaving (λ a. a .sum) (now (sum .entry)) (descentCall (lentAs rows columns count gap (now (table .entry)) (now (pixels .entry))) (now (layout .entry)) (now (weights .entry)) budget) ⌝ }
+    ensures trials { λ r. ⌜ now (trials .exit) ≡ leaving (λ a. a .made) (now (trials .entry)) (descentCall (lentAs rows columns count gap (now (table .entry)) (now (pixels .entry))) (now (layout .entry)) (now (weights .entry)) budget) ⌝ }
+    ensures moves { λ r. ⌜ now (moves .exit) ≡ leaving (λ a. a .moves) (now (moves .entry)) (descentCall (lentAs rows columns count gap (now (table .entry)) (now (pixels .entry))) (now (layout .entry)) (now (weights .entry)) budget) ⌝ }
+    ensures demand3 { λ r. ⌜ (r .number ≡ 0 → DescentClaims (jobOf (lentAs rows columns count gap (now (table .entry)) (now (pixels .entry)))) (now (weights .entry)) budget (layoutOf (now (layout .entry))) (descentTold (now (end .exit)) (now (sum .exit)) (now (trials .exit)) (now (moves .exit)) (layoutOf (now (layout .exit))))) ⌝ }
 {
     match run_descent_calls::descent(
-        size_of(rows, columns, count),
+        size_of(rows, columns, count, gap),
         table,
         pixels,
         layout,
@@ -124,6 +126,7 @@ pub extern "C" fn sigbrol_guided_run(
     rows: usize,
     columns: usize,
     count: usize,
+    gap: usize,
     table: &[PieceEntry],
     pixels: &[u8],
     layout: &mut [PlaceEntry],
@@ -135,16 +138,16 @@ pub extern "C" fn sigbrol_guided_run(
     trials: &mut u64,
     moves: &mut u64,
 ) -> Reply
-    ensures answer { λ r. ⌜ r ≡ replyTo (guidedCall (lentAs rows columns count (now (table .entry)) (now (pixels .entry))) (now (layout .entry)) (now (weights .entry)) rounds budget) ⌝ }
-    ensures best { λ r. ⌜ now (layout .exit) ≡ bestAfterRun (now (layout .entry)) (guidedCall (lentAs rows columns count (now (table .entry)) (now (pixels .entry))) (now (layout .entry)) (now (weights .entry)) rounds budget) ⌝ }
-    ensures raised { λ r. ⌜ now (weights .exit) ≡ weightsAfterRun (now (weights .entry)) (guidedCall (lentAs rows columns count (now (table .entry)) (now (pixels .entry))) (now (layout .entry)) (now (weights .entry)) rounds budget) ⌝ }
-    ensures workspace { λ r. ⌜ LeftFree (guidedCall (lentAs rows columns count (now (table .entry)) (now (pixels .entry))) (now (layout .entry)) (now (weights .entry)) rounds budget) (now (workspace .entry)) (now (workspace .exit)) ⌝ }
-    ensures sum { λ r. ⌜ now (sum .exit) ≡ leaving (λ a. a .sum) (now (sum .entry)) (guidedCall (lentAs rows columns count (now (table .entry)) (now (pixels .entry))) (now (layout .entry)) (now (weights .entry)) rounds budget) ⌝ }
-    ensures trials { λ r. ⌜ now (trials .exit) ≡ leaving (λ a. a .made) (now (trials .entry)) (guidedCall (lentAs rows columns count (now (table .entry)) (now (pixels .entry))) (now (layout .entry)) (now (weights .entry)) rounds budget) ⌝ }
-    ensures moves { λ r. ⌜ now (moves .exit) ≡ leaving (λ a. a .moves) (now (moves .entry)) (guidedCall (lentAs rows columns count (now (table .entry)) (now (pixels .entry))) (now (layout .entry)) (now (weights .entry)) rounds budget) ⌝ }
-    ensures demand3 { λ r. ⌜ (r .number ≡ 0 → GuidedClaims (jobOf (lentAs rows columns count (now (table .entry)) (now (pixels .entry)))) (now (weights .entry)) rounds budget (layoutOf (now (layout .entry))) (model.rounds (jobOf (lentAs rows columns count (now (table .entry)) (now (pixels .entry)))) rounds budget (now (weights .entry)) (layoutOf (now (layout .entry)))) (guidedTold (now (sum .exit)) (now (trials .exit)) (now (moves .exit)) (layoutOf (now (layout .exit))) (now (weights .exit)))) ⌝ }
+    ensures answer { λ r. ⌜ r ≡ replyTo (guidedCall (lentAs rows columns count gap (now (table .entry)) (now (pixels .entry))) (now (layout .entry)) (now (weights .entry)) rounds budget) ⌝ }
+    ensures best { λ r. ⌜ now (layout .exit) ≡ bestAfterRun (now (layout .entry)) (guidedCall (lentAs rows columns count gap (now (table .entry)) (now (pixels .entry))) (now (layout .entry)) (now (weights .entry)) rounds budget) ⌝ }
+    ensures raised { λ r. ⌜ now (weights .exit) ≡ weightsAfterRun (now (weights .entry)) (guidedCall (lentAs rows columns count gap (now (table .entry)) (now (pixels .entry))) (now (layout .entry)) (now (weights .entry)) rounds budget) ⌝ }
+    ensures workspace { λ r. ⌜ LeftFree (guidedCall (lentAs rows columns count gap (now (table .entry)) (now (pixels .entry))) (now (layout .entry)) (now (weights .entry)) rounds budget) (now (workspace .entry)) (now (workspace .exit)) ⌝ }
+    ensures sum { λ r. ⌜ now (sum .exit) ≡ leaving (λ a. a .sum) (now (sum .entry)) (guidedCall (lentAs rows columns count gap (now (table .entry)) (now (pixels .entry))) (now (layout .entry)) (now (weights .entry)) rounds budget) ⌝ }
+    ensures trials { λ r. ⌜ now (trials .exit) ≡ leaving (λ a. a .made) (now (trials .entry)) (guidedCall (lentAs rows columns count gap (now (table .entry)) (now (pixels .entry))) (now (layout .entry)) (now (weights .entry)) rounds budget) ⌝ }
+    ensures moves { λ r. ⌜ now (moves .exit) ≡ leaving (λ a. a .moves) (now (moves .entry)) (guidedCall (lentAs rows columns count gap (now (table .entry)) (now (pixels .entry))) (now (layout .entry)) (now (weights .entry)) rounds budget) ⌝ }
+    ensures demand3 { λ r. ⌜ (r .number ≡ 0 → GuidedClaims (jobOf (lentAs rows columns count gap (now (table .entry)) (now (pixels .entry)))) (now (weights .entry)) rounds budget (layoutOf (now (layout .entry))) (model.rounds (jobOf (lentAs rows columns count gap (now (table .entry)) (now (pixels .entry)))) rounds budget (now (weights .entry)) (layoutOf (now (layout .entry)))) (guidedTold (now (sum .exit)) (now (trials .exit)) (now (moves .exit)) (layoutOf (now (layout .exit))) (now (weights .exit)))) ⌝ }
 {
-    let size = size_of(rows, columns, count);
+    let size = size_of(rows, columns, count, gap);
     match run_guided_calls::guided_run(
         size,
         table,

@@ -25,16 +25,17 @@ pub extern "C" fn sigbrol_fresh(
     rows: usize,
     columns: usize,
     count: usize,
+    gap: usize,
     table: &[PieceEntry],
     pixels: &[u8],
     entries: &mut [[u16; 4]; PIECE_BOUND],
     counts: &mut [u8],
 ) -> Reply
-    ensures answer { λ r. ⌜ r ≡ replyTo (freshCall (lentAs rows columns count (now (table .entry)) (now (pixels .entry))) (length (now (counts .entry)))) ⌝ }
-    ensures laid { λ r. ⌜ now (entries .exit) ≡ recordAfter (now (entries .entry)) (freshCall (lentAs rows columns count (now (table .entry)) (now (pixels .entry))) (length (now (counts .entry)))) ⌝ }
-    ensures pixels { λ r. ⌜ now (counts .exit) ≡ countsAfter (now (counts .entry)) (freshCall (lentAs rows columns count (now (table .entry)) (now (pixels .entry))) (length (now (counts .entry)))) ⌝ }
+    ensures answer { λ r. ⌜ r ≡ replyTo (freshCall (lentAs rows columns count gap (now (table .entry)) (now (pixels .entry))) (length (now (counts .entry)))) ⌝ }
+    ensures laid { λ r. ⌜ now (entries .exit) ≡ recordAfter (now (entries .entry)) (freshCall (lentAs rows columns count gap (now (table .entry)) (now (pixels .entry))) (length (now (counts .entry)))) ⌝ }
+    ensures pixels { λ r. ⌜ now (counts .exit) ≡ countsAfter (now (counts .entry)) (freshCall (lentAs rows columns count gap (now (table .entry)) (now (pixels .entry))) (length (now (counts .entry)))) ⌝ }
 {
-    let answer = sheet_calls::fresh(size_of(rows, columns, count), table, pixels, counts);
+    let answer = sheet_calls::fresh(size_of(rows, columns, count, gap), table, pixels, counts);
     let reply = answer.reply;
     match reply {
         DoneAnswer::Done => {
@@ -51,6 +52,7 @@ pub extern "C" fn sigbrol_lay(
     rows: usize,
     columns: usize,
     count: usize,
+    gap: usize,
     table: &[PieceEntry],
     pixels: &[u8],
     entries: &mut [[u16; 4]; PIECE_BOUND],
@@ -60,12 +62,12 @@ pub extern "C" fn sigbrol_lay(
     x: u16,
     y: u16,
 ) -> Reply
-    ensures answer { λ r. ⌜ r ≡ replyTo (layCall (lentAs rows columns count (now (table .entry)) (now (pixels .entry))) (sheetOf (recordIn (now (entries .entry))) (now (counts .entry))) (pieceWithTurn turn piece) (placement turn x y)) ⌝ }
-    ensures laid { λ r. ⌜ now (entries .exit) ≡ recordAfter (now (entries .entry)) (layCall (lentAs rows columns count (now (table .entry)) (now (pixels .entry))) (sheetOf (recordIn (now (entries .entry))) (now (counts .entry))) (pieceWithTurn turn piece) (placement turn x y)) ⌝ }
-    ensures pixels { λ r. ⌜ now (counts .exit) ≡ countsAfter (now (counts .entry)) (layCall (lentAs rows columns count (now (table .entry)) (now (pixels .entry))) (sheetOf (recordIn (now (entries .entry))) (now (counts .entry))) (pieceWithTurn turn piece) (placement turn x y)) ⌝ }
+    ensures answer { λ r. ⌜ r ≡ replyTo (layCall (lentAs rows columns count gap (now (table .entry)) (now (pixels .entry))) (sheetOf (recordIn (now (entries .entry))) (now (counts .entry))) (pieceWithTurn turn piece) (placement turn x y)) ⌝ }
+    ensures laid { λ r. ⌜ now (entries .exit) ≡ recordAfter (now (entries .entry)) (layCall (lentAs rows columns count gap (now (table .entry)) (now (pixels .entry))) (sheetOf (recordIn (now (entries .entry))) (now (counts .entry))) (pieceWithTurn turn piece) (placement turn x y)) ⌝ }
+    ensures pixels { λ r. ⌜ now (counts .exit) ≡ countsAfter (now (counts .entry)) (layCall (lentAs rows columns count gap (now (table .entry)) (now (pixels .entry))) (sheetOf (recordIn (now (entries .entry))) (now (counts .entry))) (pieceWithTurn turn piece) (placement turn x y)) ⌝ }
 {
     let answer = sheet_calls::lay(
-        size_of(rows, columns, count),
+        size_of(rows, columns, count, gap),
         table,
         pixels,
         read_record(entries),
@@ -89,19 +91,20 @@ pub extern "C" fn sigbrol_withdraw(
     rows: usize,
     columns: usize,
     count: usize,
+    gap: usize,
     table: &[PieceEntry],
     pixels: &[u8],
     entries: &mut [[u16; 4]; PIECE_BOUND],
     counts: &mut [u8],
     piece: usize,
 ) -> Reply
-    ensures answer { λ r. ⌜ r ≡ replyTo (withdrawCall (lentAs rows columns count (now (table .entry)) (now (pixels .entry))) (sheetOf (recordIn (now (entries .entry))) (now (counts .entry))) piece) ⌝ }
-    ensures laid { λ r. ⌜ now (entries .exit) ≡ recordAfter (now (entries .entry)) (withdrawCall (lentAs rows columns count (now (table .entry)) (now (pixels .entry))) (sheetOf (recordIn (now (entries .entry))) (now (counts .entry))) piece) ⌝ }
-    ensures pixels { λ r. ⌜ now (counts .exit) ≡ countsAfter (now (counts .entry)) (withdrawCall (lentAs rows columns count (now (table .entry)) (now (pixels .entry))) (sheetOf (recordIn (now (entries .entry))) (now (counts .entry))) piece) ⌝ }
+    ensures answer { λ r. ⌜ r ≡ replyTo (withdrawCall (lentAs rows columns count gap (now (table .entry)) (now (pixels .entry))) (sheetOf (recordIn (now (entries .entry))) (now (counts .entry))) piece) ⌝ }
+    ensures laid { λ r. ⌜ now (entries .exit) ≡ recordAfter (now (entries .entry)) (withdrawCall (lentAs rows columns count gap (now (table .entry)) (now (pixels .entry))) (sheetOf (recordIn (now (entries .entry))) (now (counts .entry))) piece) ⌝ }
+    ensures pixels { λ r. ⌜ now (counts .exit) ≡ countsAfter (now (counts .entry)) (withdrawCall (lentAs rows columns count gap (now (table .entry)) (now (pixels .entry))) (sheetOf (recordIn (now (entries .entry))) (now (counts .entry))) piece) ⌝ }
 {
     let sheet = read_record(entries);
     let answer = sheet_calls::withdraw(
-        size_of(rows, columns, count),
+        size_of(rows, columns, count, gap),
         table,
         pixels,
         sheet,

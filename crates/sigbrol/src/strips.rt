@@ -24,6 +24,7 @@ pub extern "C" fn sigbrol_strips(
     rows: usize,
     columns: usize,
     count: usize,
+    gap: usize,
     table: &[PieceEntry],
     pixels: &[u8],
     turns: &[u16],
@@ -32,10 +33,10 @@ pub extern "C" fn sigbrol_strips(
     column_strips: &mut [StripEntry],
     column_starts: &mut [u32],
 ) -> Reply
-    ensures answer { λ r. ⌜ r ≡ replyTo (stripsCall (lentAs rows columns count (now (table .entry)) (now (pixels .entry))) (now (turns .entry)) (storesBy (now («row_strips» .entry)) (now («row_starts» .entry)) (now («column_strips» .entry)) (now («column_starts» .entry)))) ⌝ }
-    ensures memory { λ r. ⌜ storesBy (now («row_strips» .exit)) (now («row_starts» .exit)) (now («column_strips» .exit)) (now («column_starts» .exit)) ≡ storesAfter (storesBy (now («row_strips» .entry)) (now («row_starts» .entry)) (now («column_strips» .entry)) (now («column_starts» .entry))) (stripsCall (lentAs rows columns count (now (table .entry)) (now (pixels .entry))) (now (turns .entry)) (storesBy (now («row_strips» .entry)) (now («row_starts» .entry)) (now («column_strips» .entry)) (now («column_starts» .entry)))) ⌝ }
+    ensures answer { λ r. ⌜ r ≡ replyTo (stripsCall (lentAs rows columns count gap (now (table .entry)) (now (pixels .entry))) (now (turns .entry)) (storesBy (now («row_strips» .entry)) (now («row_starts» .entry)) (now («column_strips» .entry)) (now («column_starts» .entry)))) ⌝ }
+    ensures memory { λ r. ⌜ storesBy (now («row_strips» .exit)) (now («row_starts» .exit)) (now («column_strips» .exit)) (now («column_starts» .exit)) ≡ storesAfter (storesBy (now («row_strips» .entry)) (now («row_starts» .entry)) (now («column_strips» .entry)) (now («column_starts» .entry))) (stripsCall (lentAs rows columns count gap (now (table .entry)) (now (pixels .entry))) (now (turns .entry)) (storesBy (now («row_strips» .entry)) (now («row_starts» .entry)) (now («column_strips» .entry)) (now («column_starts» .entry)))) ⌝ }
 {
-    let size = size_of(rows, columns, count);
+    let size = size_of(rows, columns, count, gap);
     match strip_calls::strips(
         size,
         table,
@@ -70,6 +71,7 @@ pub extern "C" fn sigbrol_stretch<'a>(
     rows: usize,
     columns: usize,
     count: usize,
+    gap: usize,
     table: &[PieceEntry],
     pixels: &[u8],
     turns: &[u16],
@@ -81,10 +83,10 @@ pub extern "C" fn sigbrol_stretch<'a>(
     vertical: u8,
     first: &mut usize,
 ) -> usize
-    ensures answer { λ r. ⌜ r ≡ length (stretchGiven (stretchCall (lentAs rows columns count (now (table .entry)) (now (pixels .entry))) (now (turns .entry)) (storesBy (now («row_strips» .entry)) (now («row_starts» .entry)) (now («column_strips» .entry)) (now («column_starts» .entry))) piece (directionOf vertical))) ⌝ }
-    ensures place { λ r. ⌜ now (first .exit) ≡ leaving (λ a. stretchStart (directionOf vertical) (storesBy (now («row_strips» .entry)) (now («row_starts» .entry)) (now («column_strips» .entry)) (now («column_starts» .entry))) piece) (now (first .entry)) (stretchCall (lentAs rows columns count (now (table .entry)) (now (pixels .entry))) (now (turns .entry)) (storesBy (now («row_strips» .entry)) (now («row_starts» .entry)) (now («column_strips» .entry)) (now («column_starts» .entry))) piece (directionOf vertical)) ⌝ }
+    ensures answer { λ r. ⌜ r ≡ length (stretchGiven (stretchCall (lentAs rows columns count gap (now (table .entry)) (now (pixels .entry))) (now (turns .entry)) (storesBy (now («row_strips» .entry)) (now («row_starts» .entry)) (now («column_strips» .entry)) (now («column_starts» .entry))) piece (directionOf vertical))) ⌝ }
+    ensures place { λ r. ⌜ now (first .exit) ≡ leaving (λ a. stretchStart (directionOf vertical) (storesBy (now («row_strips» .entry)) (now («row_starts» .entry)) (now («column_strips» .entry)) (now («column_starts» .entry))) piece) (now (first .entry)) (stretchCall (lentAs rows columns count gap (now (table .entry)) (now (pixels .entry))) (now (turns .entry)) (storesBy (now («row_strips» .entry)) (now («row_starts» .entry)) (now («column_strips» .entry)) (now («column_starts» .entry))) piece (directionOf vertical)) ⌝ }
 {
-    let size = size_of(rows, columns, count);
+    let size = size_of(rows, columns, count, gap);
     let direction = direction_of(vertical);
     let strips = strip_calls::stretch::stretch(
         size,
@@ -111,6 +113,7 @@ pub extern "C" fn sigbrol_stretch_refusal(
     rows: usize,
     columns: usize,
     count: usize,
+    gap: usize,
     table: &[PieceEntry],
     pixels: &[u8],
     turns: &[u16],
@@ -121,9 +124,9 @@ pub extern "C" fn sigbrol_stretch_refusal(
     piece: usize,
     vertical: u8,
 ) -> u32
-    ensures answer { λ r. ⌜ r ≡ stretchNumber (stretchCall (lentAs rows columns count (now (table .entry)) (now (pixels .entry))) (now (turns .entry)) (storesBy (now («row_strips» .entry)) (now («row_starts» .entry)) (now («column_strips» .entry)) (now («column_starts» .entry))) piece (directionOf vertical)) ⌝ }
+    ensures answer { λ r. ⌜ r ≡ stretchNumber (stretchCall (lentAs rows columns count gap (now (table .entry)) (now (pixels .entry))) (now (turns .entry)) (storesBy (now («row_strips» .entry)) (now («row_starts» .entry)) (now («column_strips» .entry)) (now («column_starts» .entry))) piece (directionOf vertical)) ⌝ }
 {
-    let size = size_of(rows, columns, count);
+    let size = size_of(rows, columns, count, gap);
     let direction = direction_of(vertical);
     strip_calls::stretch::stretch_refusal(
         size,

@@ -23,18 +23,19 @@ pub extern "C" fn sigbrol_write_layout(
     rows: usize,
     columns: usize,
     count: usize,
+    gap: usize,
     table: &[PieceEntry],
     pixels: &[u8],
     layout: &[PlaceEntry],
     text: &mut [u8],
     written: &mut usize,
 ) -> Reply
-    ensures answer { λ r. ⌜ r ≡ replyTo (writeLayoutCall (lentAs rows columns count (now (table .entry)) (now (pixels .entry))) (now (layout .entry)) (length (now (text .entry)))) ⌝ }
-    ensures memory { λ r. ⌜ now (text .exit) ≡ textAfter (now (text .entry)) (writeLayoutCall (lentAs rows columns count (now (table .entry)) (now (pixels .entry))) (now (layout .entry)) (length (now (text .entry)))) ⌝ }
-    ensures written { λ r. ⌜ now (written .exit) ≡ leaving (λ a. length a) (now (written .entry)) (writeLayoutCall (lentAs rows columns count (now (table .entry)) (now (pixels .entry))) (now (layout .entry)) (length (now (text .entry)))) ⌝ }
+    ensures answer { λ r. ⌜ r ≡ replyTo (writeLayoutCall (lentAs rows columns count gap (now (table .entry)) (now (pixels .entry))) (now (layout .entry)) (length (now (text .entry)))) ⌝ }
+    ensures memory { λ r. ⌜ now (text .exit) ≡ textAfter (now (text .entry)) (writeLayoutCall (lentAs rows columns count gap (now (table .entry)) (now (pixels .entry))) (now (layout .entry)) (length (now (text .entry)))) ⌝ }
+    ensures written { λ r. ⌜ now (written .exit) ≡ leaving (λ a. length a) (now (written .entry)) (writeLayoutCall (lentAs rows columns count gap (now (table .entry)) (now (pixels .entry))) (now (layout .entry)) (length (now (text .entry)))) ⌝ }
 {
     match layout_write_calls::write_layout(
-        size_of(rows, columns, count),
+        size_of(rows, columns, count, gap),
         table,
         pixels,
         layout,
@@ -54,16 +55,17 @@ pub extern "C" fn sigbrol_read_layout(
     rows: usize,
     columns: usize,
     count: usize,
+    gap: usize,
     table: &[PieceEntry],
     pixels: &[u8],
     text: &[u8],
     layout: &mut [PlaceEntry],
 ) -> Reply
-    ensures answer { λ r. ⌜ r ≡ replyTo (readLayoutCall (lentAs rows columns count (now (table .entry)) (now (pixels .entry))) (now (text .entry)) (length (now (layout .entry)))) ⌝ }
-    ensures memory { λ r. ⌜ now (layout .exit) ≡ layoutAfter (now (layout .entry)) (readLayoutCall (lentAs rows columns count (now (table .entry)) (now (pixels .entry))) (now (text .entry)) (length (now (layout .entry)))) ⌝ }
+    ensures answer { λ r. ⌜ r ≡ replyTo (readLayoutCall (lentAs rows columns count gap (now (table .entry)) (now (pixels .entry))) (now (text .entry)) (length (now (layout .entry)))) ⌝ }
+    ensures memory { λ r. ⌜ now (layout .exit) ≡ layoutAfter (now (layout .entry)) (readLayoutCall (lentAs rows columns count gap (now (table .entry)) (now (pixels .entry))) (now (text .entry)) (length (now (layout .entry)))) ⌝ }
 {
     match layout_read_calls::read_layout(
-        size_of(rows, columns, count),
+        size_of(rows, columns, count, gap),
         table,
         pixels,
         text,

@@ -1,6 +1,7 @@
 -- How many strips there can be: no more than pixels of the box. Assumes nothing.
 use Rattle.list_laws.proofs.Kit.{_∙_, _≡_, refl, Bool, false, true, List, _*_, _+_, _≤_, suc, zero, ℕ, mul-comm, mul-le-mul, suc-mul, arith, length}
 use Rattle.list_laws.proofs.Kit.{length-append, length-map}
+use Rattle.job_laws.proofs.Turned.{turned-area}
 use Rattle.model.specs.Piece.{Shape, turned, extent, other, cell}
 use Rattle.model.specs.Strip.{Run, closing, runsFrom, stripsFrom, strips}
 use Rattle.model.specs.declared.Turn.{Turn}
@@ -42,13 +43,6 @@ lines-few d s c (suc left) =
 box-area : (d : Direction) (s : Shape) → extent (other d) s * extent d s ≡ s .columns * s .rows
 box-area Horizontal s = mul-comm (s .rows) (s .columns)
 box-area Vertical s = refl
-
--- a turn keeps the number of the box's pixels
-turned-area : (t : Turn) (s : Shape) → turned t s .columns * turned t s .rows ≡ s .columns * s .rows
-turned-area Zero s = refl
-turned-area Quarter s = mul-comm (s .rows) (s .columns)
-turned-area Half s = refl
-turned-area ThreeQuarters s = mul-comm (s .rows) (s .columns)
 
 -- there are no more strips of a turned shape than pixels of its box
 pub strips-few : (d : Direction) (t : Turn) (s : Shape) → length (strips d (turned t s)) ≤ s .columns * s .rows

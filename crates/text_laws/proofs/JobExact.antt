@@ -1,21 +1,24 @@
--- Document 01, 'Job text' and 'When a call says no': a text that is read as a job is just the text of that job, so no other text is
--- accepted. Line by line: a line that is read is written there in its one spelling; the rows of a piece are its part of the pixel
--- store; nothing follows the last line. Assumes nothing.
-use Rattle.list_laws.proofs.Kit.{_∙_, _≡_, ap, ap₂, refl, subst, sym, Bool, _&&_, false, true, _↔_, List, [], _++_, _∷_, map, _%_, _*_, _+_, _<_, suc, zero}
+-- Document 01, 'Job text' and 'When a call says no': a text that is read as a job is just a text of that job, in version 2 or, without a
+-- gap, in version 1, so no other text is accepted. Line by line: a line that is read is written there in its one spelling; the rows of a
+-- piece are its part of the pixel store; nothing follows the last line. Assumes nothing.
+use Rattle.list_laws.proofs.Kit.{_∙_, _≡_, ap, ap₂, refl, subst, sym, Bool, _&&_, false, true, _↔_, inl, inr, ⊎-elim, List, [], _++_, _∷_, map, _%_, _*_, _+_}
+use Rattle.list_laws.proofs.Kit.{_<_, suc, zero}
 use Rattle.list_laws.proofs.Kit.{ℕ, add-zero, mul-comm, suc-mul, zero-add, zero-mul, arith, eqb, leb, List·getD-append, getD, length, length-append}
 use Rattle.list_laws.proofs.Kit.{getD-append-add, eqb-true, not-false}
 use Rattle.model.specs.Refusal.{Outcome, given}
 use Rattle.model.specs.Lent.{Lent, turnsBound, upTo, entryColumns, entryRows, entryTurns, pixelStart}
 use Rattle.model.specs.Piece.{sideBound}
 use Rattle.model.specs.Text.{byte, lineEnd, Reading, wrong, got, onward, after, threeFields, fourFields, lineAt, lineText}
-use Rattle.model.specs.JobText.{jobWord, pieceWord, rowWord, JobLine, asJobLine, jobLineCauses, jobLine, PieceLine, asPieceLine, pieceLineCauses, pieceLine}
+use Rattle.model.specs.JobText.{jobWord, gapWord, jobNumbers, pieceWord, rowWord, JobLine, asJobLine, jobLineCauses, jobLine, PieceLine, asPieceLine}
+use Rattle.model.specs.JobText.{pieceLineCauses, pieceLine}
 use Rattle.model.specs.JobText.{markAt, marksAt, rowAt, Rows, rowsAt, PieceText, rowsCauses, asPieceText, pieceAt, Pieces, noPieces, withPiece, piecesAt}
 use Rattle.model.specs.JobText.{asLent, bufferCauses, readJob, pixelMark, emptyMark}
 use Rattle.list_laws.proofs.Tests.{and-left}
-use Rattle.text_laws.specs.JobWriting.{bytesPart, mark, rowText, rowsText, pieceText, piecesText, jobText, exactJob}
+use Rattle.text_laws.specs.JobWriting.{bytesPart, mark, rowText, rowsText, pieceText, piecesText, plainLine, gapLine, SaysSize, jobTextBehind}
+use Rattle.text_laws.specs.JobWriting.{TextOf, exactJob}
 use Rattle.text_laws.specs.Exact.{JobWritten}
 use Rattle.text_laws.specs.Outcomes.{Unless}
-use Rattle.text_laws.proofs.Outcomes.{given-unless, given-before, given-formed, wrong-got, Onward, got-onward}
+use Rattle.text_laws.proofs.Outcomes.{given-unless, given-before, given-formed, wrong-got, got-either, Onward, got-onward}
 use Rattle.job_laws.proofs.Checked.{Facts, facts}
 use Rattle.text_laws.proofs.JobRead.{JustRead, job-read-just, job-read-well}
 use Rattle.text_laws.proofs.JobReadBack.{job-read-back}
@@ -292,33 +295,62 @@ pieces-spelled text j k (suc left) i area p line r c e =
 
 -- ── the job ──
 
+-- a job line that is given is written there, in the one version or the other
+pub record JobLineSpelled (text : List ℕ) (j : JobLine) : Type 0 where
+  pub line : List ℕ
+  pub says : SaysSize (j .size) line
+  pub spells : Spells text 0 (j .next) line
+
+-- the numbers of a line of version 1
+plain-spelled : (text : List ℕ) (ks : List ℕ) (next : ℕ) → lineAt jobWord threeFields text 0 ≡ got ks next → JobLineSpelled text (asJobLine ks next)
+plain-spelled text ks next e =
+    let r : SpelledLine jobWord threeFields text 0 next ks = line-spelled jobWord threeFields text 0 ks next e in
+    let three = three-fields ks (r .size) in
+    record {
+      line = plainLine (asJobLine ks next .size);
+      says = inr (refl, sym (ap (λ (l : List ℕ). getD l 3 0) three));
+      spells = spells-same (r .spells) refl (ap (lineText jobWord threeFields) (sym three));
+    }
+
+-- the numbers of a line of version 2
+gap-spelled : (text : List ℕ) (ks : List ℕ) (next : ℕ) → lineAt gapWord fourFields text 0 ≡ got ks next → JobLineSpelled text (asJobLine ks next)
+gap-spelled text ks next e =
+    let r : SpelledLine gapWord fourFields text 0 next ks = line-spelled gapWord fourFields text 0 ks next e in
+    record {
+      line = gapLine (asJobLine ks next .size);
+      says = inl refl;
+      spells = spells-same (r .spells) refl (ap (lineText gapWord fourFields) (sym (four-fields ks (r .size))));
+    }
+
 -- the job line that is given is written there
-pub job-line-spelled : (text : List ℕ) (j : JobLine) → jobLine text ≡ given j
-    → Spells text 0 (j .next) (lineText jobWord threeFields (j .size .rows ∷ j .size .columns ∷ j .size .count ∷ []))
+pub job-line-spelled : (text : List ℕ) (j : JobLine) → jobLine text ≡ given j → JobLineSpelled text j
 unfolding jobLine
 job-line-spelled text j e =
-    let f = given-formed 1 (lineAt jobWord threeFields text 0) _ j e in
+    let f = given-formed 1 (jobNumbers text) _ j e in
     let ks : List ℕ = f .value in
     let k : JobLine = asJobLine ks (f .next) in
     let u : Unless (jobLineCauses k) k j = given-unless (jobLineCauses k) k j (f .goes) in
-    let r : SpelledLine jobWord threeFields text 0 (f .next) ks = line-spelled jobWord threeFields text 0 ks (f .next) (f .reads) in
-    let spelled : Spells text 0 (k .next) (lineText jobWord threeFields (k .size .rows ∷ k .size .columns ∷ k .size .count ∷ [])) =
-    spells-same (r .spells) refl (ap (lineText jobWord threeFields) (sym (three-fields ks (r .size)))) in
-    rw (← u .same) spelled
+    rw (← u .same)
+    (⊎-elim (plain-spelled text ks (f .next)) (gap-spelled text ks (f .next))
+    (got-either (lineAt jobWord threeFields text 0) (lineAt gapWord fourFields text 0) ks (f .next) (f .reads)))
 
 -- a job line and pieces that are given make just the job's text
 pub pieces-only-text : (text : List ℕ) (j : JobLine) (r : Pieces) → jobLine text ≡ given j
-    → piecesAt text j (j .size .count) 0 0 (j .next) 2 ≡ given r → text ≡ jobText (asLent j r)
-unfolding jobText pixelStart
+    → piecesAt text j (j .size .count) 0 0 (j .next) 2 ≡ given r → TextOf text (asLent j r)
+unfolding jobTextBehind pixelStart
 pieces-only-text text j r e f =
     let k : Lent = asLent j r in
     let all : Continues k 0 (j .size .count) r =
     record { entries = λ m b. rw zero-add; bytes = λ m b. ap (λ (n : ℕ). getD (r .pixels) n 0) (zero-add m) } in
-    spells-whole (spells-then (job-line-spelled text j e) (pieces-spelled text j k (j .size .count) 0 0 (j .next) 2 r all f))
+    let s : JobLineSpelled text j = job-line-spelled text j e in
+    record {
+      line = s .line;
+      says = s .says;
+      written = spells-whole (spells-then (s .spells) (pieces-spelled text j k (j .size .count) 0 0 (j .next) 2 r all f));
+    }
 
--- a text that is read as a job is the text of that job
-pub job-only-text : (text : List ℕ) (tableLength pixelsLength : ℕ) (k : Lent) → readJob text tableLength pixelsLength ≡ given k
-    → text ≡ jobText k
+-- a text that is read as a job is a text of that job
+pub job-only-text : (text : List ℕ) (tableLength pixelsLength : ℕ) (k : Lent) → readJob text tableLength pixelsLength ≡ given k → TextOf text k
 unfolding readJob
 job-only-text text tableLength pixelsLength k e =
     let b = given-before (jobLine text) _ k e in
@@ -333,14 +365,15 @@ job-only-text text tableLength pixelsLength k e =
 read-whole : (text : List ℕ) (tableLength pixelsLength : ℕ) (k : Lent) → readJob text tableLength pixelsLength ≡ given k → exactJob k ≡ k
 read-whole text tableLength pixelsLength k e =
     let just : JustRead tableLength pixelsLength k = job-read-just text tableLength pixelsLength k e in
-    let again : readJob (jobText k) tableLength pixelsLength ≡ given (exactJob k) =
-    job-read-back k (job-read-well text tableLength pixelsLength k e) tableLength pixelsLength (just .entriesRoom)
+    let t : TextOf text k = job-only-text text tableLength pixelsLength k e in
+    let again : readJob (jobTextBehind (t .line) k) tableLength pixelsLength ≡ given (exactJob k) =
+    job-read-back k (job-read-well text tableLength pixelsLength k e) (t .line) (t .says) tableLength pixelsLength (just .entriesRoom)
     (let b = just .bytes in let r = just .bytesRoom in omega arith) in
     let same : _≡_ {A = Outcome Lent} (given (exactJob k)) (given k) =
-    sym again ∙ ap (λ (t : List ℕ). readJob t tableLength pixelsLength) (sym (job-only-text text tableLength pixelsLength k e)) ∙ e in
+    sym again ∙ ap (λ (s : List ℕ). readJob s tableLength pixelsLength) (sym (t .written)) ∙ e in
     cc
 
--- reading gives a job exactly where the text is its text, it passes the check, nothing lies beyond it and the buffers suffice
+-- reading gives a job exactly where the text is one of its texts, it passes the check, nothing lies beyond it and the buffers suffice
 pub job-read-exactly : (text : List ℕ) (tableLength pixelsLength : ℕ) (k : Lent)
     → (readJob text tableLength pixelsLength ≡ given k) ↔ JobWritten text tableLength pixelsLength k
 job-read-exactly text tableLength pixelsLength k = (
@@ -355,7 +388,8 @@ job-read-exactly text tableLength pixelsLength k = (
       }),
   (λ w.
       let f : Facts k = facts k (w .well) in
-      rw (w .written)
-      (job-read-back k (w .well) tableLength pixelsLength (w .entriesRoom) (let s = f .store in let r = w .bytesRoom in omega arith)
+      rw (w .written .written)
+      (job-read-back k (w .well) (w .written .line) (w .written .says) tableLength pixelsLength (w .entriesRoom)
+      (let s = f .store in let r = w .bytesRoom in omega arith)
       ∙ ap (λ (l : Lent). given l) (w .whole))),
 )

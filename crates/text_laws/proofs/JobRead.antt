@@ -8,8 +8,9 @@ use Rattle.model.specs.Piece.{Shape, tight, sideBound}
 use Rattle.model.specs.Refusal.{Outcome, given}
 use Rattle.model.specs.Lent.{Lent, turnsBound, areaBound, upTo, numbersInRange, entryColumns, entryRows, pixelStart, entryInRange, entryFits, lentShape}
 use Rattle.model.specs.Lent.{sheetInRange, lentWell}
-use Rattle.model.specs.Text.{byte, Reading, wrong, got, onward, after, lineEnd, threeFields, fourFields, lineAt}
-use Rattle.model.specs.JobText.{jobWord, pieceWord, rowWord, JobLine, asJobLine, jobLineCauses, jobLine, PieceLine, asPieceLine, pieceInRange, pieceLineCauses}
+use Rattle.model.specs.Text.{byte, Reading, wrong, got, onward, after, lineEnd, fourFields, lineAt}
+use Rattle.model.specs.JobText.{jobNumbers, pieceWord, rowWord, JobLine, asJobLine, jobLineCauses, jobLine, PieceLine, asPieceLine, pieceInRange}
+use Rattle.model.specs.JobText.{pieceLineCauses}
 use Rattle.model.specs.JobText.{pieceLine, pixelMark, emptyMark, markAt, marksAt, rowAt, Rows, rowsAt, boxShape, PieceText, rowsCauses, asPieceText, pieceAt}
 use Rattle.model.specs.JobText.{Pieces, noPieces, withPiece, piecesAt, asLent, bufferCauses, readJob}
 use Rattle.list_laws.proofs.Numbers.{in-rows}
@@ -164,7 +165,7 @@ piece-read text j i area p line h e =
 
 -- the pixels of piece i in a table and a store
 abbrev pub storedShape : Pieces → ℕ → Shape
-storedShape r i = lentShape (record { size = record { rows = 0; columns = 0; count = 0 }; table = r .table; pixels = r .pixels }) i
+storedShape r i = lentShape (record { size = record { rows = 0; columns = 0; count = 0; gap = 0 }; table = r .table; pixels = r .pixels }) i
 
 -- what is known of `left` pieces that are given, with the areas of the boxes before them
 pub record PiecesWell (j : JobLine) (left area : ℕ) (r : Pieces) : Type 0 where
@@ -287,7 +288,7 @@ pieces-read text j (suc left) i area p line r a e =
 job-line-read : (text : List ℕ) (j : JobLine) → jobLine text ≡ given j → sheetInRange (j .size) ≡ true
 unfolding jobLine sheetInRange
 job-line-read text j e =
-    let f = given-formed 1 (lineAt jobWord threeFields text 0) _ j e in
+    let f = given-formed 1 (jobNumbers text) _ j e in
     let k : JobLine = asJobLine (f .value) (f .next) in
     let u : Unless (jobLineCauses k) k j = given-unless (jobLineCauses k) k j (f .goes) in
     rw (← u .same)

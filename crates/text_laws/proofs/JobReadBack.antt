@@ -1,18 +1,21 @@
 -- Document 01, 'When a call says no', number 8: a lent job passes the check only if it is one that reading gives. Its text, written
 -- line by line, is read back as the job with just the entries and pixel bytes that it needs. Assumes nothing.
-use Rattle.list_laws.proofs.Kit.{_∙_, _≡_, ap, ap₂, refl, sym, Bool, _&&_, _||_, not, true, List, [], _++_, _∷_, append-assoc, map, _%_, _*_, _+_, _-_, _<_}
+use Rattle.list_laws.proofs.Kit.{_∙_, _≡_, ap, ap₂, refl, sym, Bool, _&&_, _||_, not, true, ⊎-elim, List, [], _++_, _∷_, append-assoc, map, _%_, _*_, _+_, _-_}
+use Rattle.list_laws.proofs.Kit.{_<_}
 use Rattle.list_laws.proofs.Kit.{_≤_, suc, zero, ℕ, add-zero, mul-comm, suc-mul, zero-add, zero-mul, arith, eqb, leb, getD, length, take, length-take-le}
 use Rattle.list_laws.proofs.Kit.{eq-eqb, le-ltb}
 use Rattle.model.specs.Piece.{tight, sideBound}
-use Rattle.model.specs.Refusal.{given}
+use Rattle.model.specs.Refusal.{given, unless}
 use Rattle.model.specs.Lent.{Lent, rowBound, columnBound, pieceBound, turnsBound, areaBound, upTo, numbersInRange, entryColumns, entryRows, entryTurns}
-use Rattle.model.specs.Lent.{pixelStart, entryInRange, lentShape, sheetInRange, lentWell}
-use Rattle.model.specs.Text.{Reading, got, onward, after, lineEnd, threeFields, fourFields, lineAt, lineText, formed, andThen}
-use Rattle.model.specs.JobText.{jobWord, pieceWord, rowWord, JobLine, jobLineCauses, jobLine, PieceLine, pieceLineCauses, pieceLine, markAt, marksAt, rowAt}
+use Rattle.model.specs.Lent.{gapBound, pixelStart, entryInRange, lentShape, sheetInRange, lentWell}
+use Rattle.model.specs.Text.{Reading, wrong, got, onward, standsAt, fieldsAt, after, lineEnd, threeFields, fourFields, lineAt, lineText, orElse, formed}
+use Rattle.model.specs.Text.{andThen}
+use Rattle.model.specs.JobText.{jobWord, gapWord, jobNumbers, asJobLine, pieceWord, rowWord, JobLine, jobLineCauses, jobLine, PieceLine, pieceLineCauses}
+use Rattle.model.specs.JobText.{pieceLine, markAt, marksAt, rowAt}
 use Rattle.model.specs.JobText.{rowsAt, boxShape, PieceText, asPieceText, pieceAt, noPieces, piecesAt, readJob}
 use Rattle.list_laws.proofs.Numbers.{in-rows}
 use Rattle.list_laws.proofs.Tests.{and-left}
-use Rattle.text_laws.proofs.Ahead.{Ahead, ahead-start, ahead-byte, ahead-next, ahead-word, after-ahead, ahead-end}
+use Rattle.text_laws.proofs.Ahead.{Ahead, ahead-start, ahead-byte, ahead-next, ahead-word, after-ahead, after-other, ahead-end}
 use Rattle.text_laws.proofs.Fields.{FieldReads, FieldGives, Writable, line-ahead}
 use Rattle.text_laws.specs.Outcomes.{NoCause}
 use Rattle.text_laws.proofs.Outcomes.{unless-given}
@@ -20,7 +23,9 @@ use Rattle.job_laws.proofs.Starts.{start-grows, start-end}
 use Rattle.text_laws.proofs.Store.{tight-agree}
 use Rattle.job_laws.proofs.Checked.{Facts, facts}
 use Rattle.text_laws.proofs.JobRead.{AllBits}
-use Rattle.text_laws.specs.JobWriting.{bytesPart, mark, rowText, rowsText, entryFields, pieceText, piecesText, jobText, entriesFrom, exactJob}
+use Rattle.text_laws.specs.JobWriting.{bytesPart, mark, rowText, rowsText, entryFields, pieceText, piecesText, plainLine, gapLine, SaysSize}
+use Rattle.text_laws.specs.JobWriting.{jobTextBehind}
+use Rattle.text_laws.specs.JobWriting.{entriesFrom, exactJob}
 use Rattle.text_laws.proofs.JobWriting.{part-length, part-at, part-append, part-front, pixelsFrom}
 
 -- ── rows ──
@@ -226,40 +231,77 @@ exact-pixels k h =
 
 -- ── the job ──
 
--- the job line that lies ahead
-job-line-ahead : {text : List ℕ} (k : Lent) → Facts k → (rest : List ℕ)
-    → Ahead text 0 (lineText jobWord threeFields (k .size .rows ∷ k .size .columns ∷ k .size .count ∷ []) ++ rest)
+-- a job line that lies ahead: the numbers that are read say the job's
+record SizeAhead (k : Lent) (text rest : List ℕ) : Type 0 where
+  numbers : List ℕ
+  next : ℕ
+  reads : jobNumbers text ≡ got numbers next
+  says : asJobLine numbers next ≡ sheetLine k next
+  ahead : Ahead text next rest
+
+module _ {text : List ℕ} (k : Lent) (facts : Facts k) (rest : List ℕ) where
+  -- one of version 1
+  plain-line-ahead : k .size .gap ≡ 0 → Ahead text 0 (plainLine (k .size) ++ rest) → SizeAhead k text rest
+  plain-line-ahead none a =
+      let ks : List ℕ = k .size .rows ∷ k .size .columns ∷ k .size .count ∷ [] in
+      let hr : k .size .rows ≤ rowBound = facts .fewRows in
+      let hc : k .size .columns ≤ columnBound = facts .fewColumns in
+      let hn : k .size .count ≤ pieceBound = facts .fewPieces in
+      let able : Writable threeFields ks = (refl, omega arith, (refl, omega arith, (refl, omega arith, tt))) in
+      let r : FieldReads (lineAt jobWord threeFields text 0) ks text rest = line-ahead jobWord threeFields ks rest able a in
+      record { numbers = ks; next = r .next; reads = rw (r .reads, orElse); says = says (r .next); ahead = r .ahead }
+    where
+      -- without a fourth number the gap is 0
+      says : (next : ℕ) → asJobLine (k .size .rows ∷ k .size .columns ∷ k .size .count ∷ []) next ≡ sheetLine k next
+      says next =
+          ap (λ (g : ℕ). asJobLine (k .size .rows ∷ k .size .columns ∷ k .size .count ∷ g ∷ []) next) (sym none)
+
+  -- one of version 2, whose word is not that of version 1
+  gap-line-ahead : Ahead text 0 (gapLine (k .size) ++ rest) → SizeAhead k text rest
+  unfolding standsAt
+  gap-line-ahead a =
+      let ks : List ℕ = k .size .rows ∷ k .size .columns ∷ k .size .count ∷ k .size .gap ∷ [] in
+      let hr : k .size .rows ≤ rowBound = facts .fewRows in
+      let hc : k .size .columns ≤ columnBound = facts .fewColumns in
+      let hn : k .size .count ≤ pieceBound = facts .fewPieces in
+      let hg : k .size .gap ≤ gapBound = facts .smallGap in
+      let able : Writable fourFields ks = (refl, omega arith, (refl, omega arith, (refl, omega arith, (refl, omega arith, tt)))) in
+      let r : FieldReads (lineAt gapWord fourFields text 0) ks text rest = line-ahead gapWord fourFields ks rest able a in
+      let other : lineAt jobWord threeFields text 0 ≡ wrong = after-other jobWord (fieldsAt threeFields text) a refl in
+      record { numbers = ks; next = r .next; reads = rw (other, orElse) (r .reads); says = refl; ahead = r .ahead }
+
+-- the job line that lies ahead, in the one version or the other
+job-line-ahead : {text : List ℕ} (k : Lent) → Facts k → (line rest : List ℕ) → SaysSize (k .size) line → Ahead text 0 (line ++ rest)
     → FieldGives (jobLine text) (sheetLine k) text rest
 unfolding jobLine sheetInRange
-job-line-ahead {text} k facts rest a =
-    let ks : List ℕ = k .size .rows ∷ k .size .columns ∷ k .size .count ∷ [] in
-    let hr : k .size .rows ≤ rowBound = facts .fewRows in
-    let hc : k .size .columns ≤ columnBound = facts .fewColumns in
-    let hn : k .size .count ≤ pieceBound = facts .fewPieces in
-    let able : Writable threeFields ks = (refl, omega arith, (refl, omega arith, (refl, omega arith, tt))) in
-    let r : FieldReads (lineAt jobWord threeFields text 0) ks text rest = line-ahead jobWord threeFields ks rest able a in
+job-line-ahead {text} k facts line rest says a =
+    let r : SizeAhead k text rest =
+    ⊎-elim (λ e. gap-line-ahead k facts rest (rw e at a)) (λ e. plain-line-ahead k facts rest (e .1) (rw (e .0) at a)) says in
     record {
       next = r .next;
       gives =
           rw (r .reads, formed)
-          (unless-given (jobLineCauses (sheetLine k (r .next))) (sheetLine k (r .next)) (
+          (ap (λ (j : JobLine). unless (jobLineCauses j) j) (r .says)
+          ∙ unless-given (jobLineCauses (sheetLine k (r .next))) (sheetLine k (r .next)) (
             ap not (and-left (numbersInRange (k .size)) (leb (k .size .rows * k .size .columns) areaBound) (facts .sheet)),
             (le-ltb areaBound (k .size .rows * k .size .columns) (facts .area), tt),
           ));
       ahead = r .ahead;
     }
 
--- a lent job that passes the check is one that reading gives: its text is read, with buffers that suffice, as just that job
-pub job-read-back : (k : Lent) → lentWell k ≡ true → (tableLength pixelsLength : ℕ) → k .size .count ≤ tableLength
-    → pixelStart (k .table) (k .size .count) ≤ pixelsLength → readJob (jobText k) tableLength pixelsLength ≡ given (exactJob k)
-unfolding readJob jobText pixelStart
-job-read-back k well tableLength pixelsLength ht hp =
+-- a lent job that passes the check is one that reading gives: its text, behind a job line of either version that says its numbers, is
+-- read, with buffers that suffice, as just that job
+pub job-read-back : (k : Lent) → lentWell k ≡ true → (line : List ℕ) → SaysSize (k .size) line → (tableLength pixelsLength : ℕ)
+    → k .size .count ≤ tableLength → pixelStart (k .table) (k .size .count) ≤ pixelsLength
+    → readJob (jobTextBehind line k) tableLength pixelsLength ≡ given (exactJob k)
+unfolding readJob jobTextBehind pixelStart
+job-read-back k well line says tableLength pixelsLength ht hp =
     let f : Facts k = facts k well in
-    let text : List ℕ = jobText k in
+    let text : List ℕ = jobTextBehind line k in
     let total : ℕ = pixelStart (k .table) (k .size .count) in
     let hn : k .size .count ≤ pieceBound = f .fewPieces in
     let g : FieldGives (jobLine text) (sheetLine k) text (piecesText k 0 (k .size .count)) =
-    job-line-ahead k f (piecesText k 0 (k .size .count)) (ahead-start text) in
+    job-line-ahead k f line (piecesText k 0 (k .size .count)) says (ahead-start text) in
     let pixels : pixelsFrom k 0 (k .size .count) ≡ take total (k .pixels) = exact-pixels k (f .store) in
     let r : piecesAt text (sheetLine k (g .next)) (k .size .count) 0 0 (g .next) 2
     ≡ given (record { table = entriesFrom (k .table) 0 (k .size .count); pixels = take total (k .pixels) }) =

@@ -7,9 +7,11 @@ use Rattle.model.specs.Refusal.{Outcome, refused, given, Cause, cause, refusalO
 use Rattle.model.specs.Refusal.{wrongLength}
 use Rattle.model.specs.Lent.{Lent, areaBound, upTo, numbersInRange}
 use Rattle.model.specs.Text.{threeFields, fourFields, lineAt, got, causeIn, andThen}
-use Rattle.model.specs.JobText.{jobWord, pieceWord, JobLine, asJobLine, jobLineCauses, jobLine, PieceLine, asPieceLine, pieceInRange, pieceLineCauses}
+use Rattle.model.specs.JobText.{jobWord, gapWord, jobNumbers, pieceWord, JobLine, asJobLine, jobLineCauses, jobLine, PieceLine, asPieceLine, pieceInRange}
+use Rattle.model.specs.JobText.{pieceLineCauses}
 use Rattle.model.specs.JobText.{pieceLine, rowAt, Rows, rowsAt, boxShape, PieceText, rowsCauses, asPieceText, pieceAt, noPieces, piecesAt, asLent, bufferCauses}
 use Rattle.model.specs.JobText.{readJob}
+use Rattle.model.specs.declared.JobSize.{JobSize}
 use Rattle.model.specs.declared.Refusal.{Refusal}
 use Rattle.list_laws.proofs.Tests.{or-cases, or-neither}
 use Rattle.text_laws.specs.LinePlaces.{LineBegins, LineThere}
@@ -22,7 +24,8 @@ use Rattle.text_laws.specs.Outcomes.{Unless}
 use Rattle.text_laws.proofs.Refused.{refused-unless, refused-before, refused-formed, chosen, choose}
 use Rattle.text_laws.proofs.LineCounts.{first-line, line-then, row-one, three-line, four-line}
 use Rattle.text_laws.proofs.JobRead.{LineWell, sides-some, piece-line-read}
-use Rattle.text_laws.proofs.JobExact.{row-spelled, piece-line-spelled, job-line-spelled}
+use Rattle.text_laws.proofs.JobExact.{row-spelled, piece-line-spelled, JobLineSpelled, job-line-spelled}
+use Rattle.text_laws.proofs.Spelling.{spells-same}
 
 -- ── where the next line begins ──
 
@@ -134,7 +137,7 @@ module _ (text : List ℕ) (tl pl : ℕ) where
       (λ n′. absurd (n′ .1))
       (n .1))
       (refused-unless (jobLineCauses j) j r (f .goes)))
-      (refused-formed 1 (lineAt jobWord threeFields text 0) _ r e)
+      (refused-formed 1 (jobNumbers text) _ r e)
 
   -- a piece line that refuses
   piece-line-refused : (line : ℕ) (a : PiecePlace text line) (r : Refusal)
@@ -315,6 +318,16 @@ module _ (text : List ℕ) (tl pl : ℕ) where
       (refused-before (piecesAt text j left (suc i) (area + h .columns * h .rows) (h .next) (suc (line + h .rows))) _ r (f .goes)))
       (refused-before (pieceAt text j i area p line) _ r e)
 
+  -- behind the job line, of either version, the second line begins
+  job-line-then : (j : JobLine) → jobLine text ≡ given j → LineBegins text 2 (j .next)
+  job-line-then j e =
+      let s : JobLineSpelled text j = job-line-spelled text j e in
+      let n : JobSize = j .size in
+      ⊎-elim
+      (λ g. four-line gapWord (n .rows) (n .columns) (n .count) (n .gap) refl (first-line text) (spells-same (s .spells) refl g))
+      (λ g. three-line jobWord (n .rows) (n .columns) (n .count) refl (first-line text) (spells-same (s .spells) refl (g .0)))
+      (s .says)
+
   -- every refusal has its cause
   all-caused : (r : Refusal) → readJob text tl pl ≡ refused r → Caused text tl pl r
   unfolding readJob
@@ -326,7 +339,7 @@ module _ (text : List ℕ) (tl pl : ℕ) where
       ⊎-elim
       (λ w.
       pieces-refused j (f .gives) (j .size .count) 0 0 (j .next) 2 (zero-add (j .size .count)) no-piece
-      (three-line jobWord (j .size .rows) (j .size .columns) (j .size .count) refl (first-line text) (job-line-spelled text j (f .gives)))
+      (job-line-then j (f .gives))
       r w)
       (λ g.
       let k : Lent = asLent j (g .value) in

@@ -1,8 +1,8 @@
 -- Document 01, 'When a call says no': "Every call lent a job, first: 8, its W, L, n, n entries and box pixels are none that reading
--- gives." The check passes exactly the lent jobs whose W, L, n, n entries and box pixels are there and are what reading some text
--- gives. What lies beyond in the buffers plays no part: the job and the job without it agree entry by entry and pixel by pixel.
--- Assumes nothing.
-use Rattle.list_laws.proofs.Kit.{_∙_, _≡_, ap, ap₂, refl, subst, sym, _&&_, true, _↔_, List, [], _*_, _+_, _<_, _≤_, suc, zero, ℕ, add-zero, mul-comm}
+-- gives", and so is its gap (document 02, point 4). The check passes exactly the lent jobs whose W, L, n, g, n entries and box pixels are
+-- there and are what reading some text gives. What lies beyond in the buffers plays no part: the job and the job without it agree entry by
+-- entry and pixel by pixel. Assumes nothing.
+use Rattle.list_laws.proofs.Kit.{_∙_, _≡_, ap, ap₂, refl, subst, sym, _&&_, true, _↔_, inl, List, [], _*_, _+_, _<_, _≤_, suc, zero, ℕ, add-zero, mul-comm}
 use Rattle.list_laws.proofs.Kit.{zero-add, arith, eqb, leb, getD, length, take, getD-take}
 use Rattle.model.specs.Piece.{tight}
 use Rattle.model.specs.Lent.{Lent, entryColumns, entryRows, entryTurns, pixelStart, entryInRange, entryFits, lentShape, lentWell}
@@ -13,7 +13,7 @@ use Rattle.text_laws.proofs.Store.{tight-agree}
 use Rattle.job_laws.proofs.Checked.{Facts, facts, well}
 use Rattle.text_laws.specs.Limits.{sidesInRange}
 use Rattle.text_laws.proofs.JobRead.{sides-some, job-read-well}
-use Rattle.text_laws.specs.JobWriting.{entryFields, jobText, entriesFrom, exactJob}
+use Rattle.text_laws.specs.JobWriting.{entryFields, gapLine, jobText, entriesFrom, exactJob}
 use Rattle.text_laws.proofs.JobReadBack.{job-read-back}
 
 -- the entries from number i on
@@ -105,7 +105,7 @@ lent-well-readable k = (
         entries = f .entries;
         store = f .store;
         text = jobText k;
-        reads = job-read-back k e (length (k .table)) (length (k .pixels)) (f .entries) (f .store);
+        reads = job-read-back k e (gapLine (k .size)) (inl refl) (length (k .table)) (length (k .pixels)) (f .entries) (f .store);
       }),
   (λ r. exactly-well k (r .entries) (r .store) (job-read-well (r .text) (length (k .table)) (length (k .pixels)) (exactJob k) (r .reads))),
 )

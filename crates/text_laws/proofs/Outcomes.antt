@@ -1,8 +1,8 @@
 -- Document 01, 'When a call says no': where no cause is there the value is given, and where a value is given every step before it
 -- went through. Assumes nothing.
-use Rattle.list_laws.proofs.Kit.{_≡_, refl, Bool, false, true, List, [], _∷_, _+_, ℕ, arith, length}
+use Rattle.list_laws.proofs.Kit.{_≡_, refl, Bool, false, true, _⊎_, inl, inr, List, [], _∷_, _+_, ℕ, arith, length}
 use Rattle.model.specs.Refusal.{Outcome, refused, given, Cause, unless, refusalOf}
-use Rattle.model.specs.Text.{Reading, wrong, got, onward, formed, andThen, standsAt, after}
+use Rattle.model.specs.Text.{Reading, wrong, got, onward, orElse, formed, andThen, standsAt, after}
 use Rattle.model.specs.Answers.{numberAnswer}
 use Rattle.model.specs.declared.NumberAnswer.{NumberAnswer}
 use Rattle.model.specs.declared.Refusal.{Refusal}
@@ -61,6 +61,11 @@ given-formed line (got a p) more b e = record { value = a; next = p; reads = ref
 -- wrong form is nothing read
 pub wrong-got : {A : Type 0} {a : A} {p : ℕ} → wrong ≡ got a p → ⊥
 wrong-got {A} {a} {p} e = let z : _≡_ {A = ℕ} 0 1 = cc in omega arith
+
+-- what one of two readings gives, the first or the second gives
+pub got-either : {A : Type 0} (r s : Reading A) (a : A) (p : ℕ) → orElse r s ≡ got a p → (r ≡ got a p) ⊎ (s ≡ got a p)
+got-either wrong s a p e = inr e
+got-either (got b q) s a p e = inl e
 
 -- what was read before something that is read
 pub record Onward {A B : Type 0} (r : Reading A) (more : A → ℕ → Reading B) (b : B) (q : ℕ) : Type 0 where

@@ -10,8 +10,9 @@ use lib.ListN.{length}
 use Rattle.model.specs.Piece.{tight}
 use Rattle.model.specs.Refusal.{refused, given, wrongForm, outOfRange, sheetTooLarge, boxesTooLarge, looseBox, boxTooLarge, wrongLength}
 use Rattle.model.specs.Lent.{Lent, areaBound, upTo, numbersInRange}
-use Rattle.model.specs.Text.{wrong, got, threeFields, fourFields, lineAt}
-use Rattle.model.specs.JobText.{jobWord, pieceWord, JobLine, asJobLine, jobLine, PieceLine, asPieceLine, pieceInRange, pieceLine, rowAt, Rows, rowsAt, boxShape}
+use Rattle.model.specs.Text.{wrong, got, fourFields, lineAt}
+use Rattle.model.specs.JobText.{pieceWord, JobLine, jobNumbers, asJobLine, jobLine, PieceLine, asPieceLine, pieceInRange, pieceLine, rowAt, Rows, rowsAt}
+use Rattle.model.specs.JobText.{boxShape}
 use Rattle.model.specs.JobText.{PieceText, pieceAt, readJob}
 use Rattle.model.specs.declared.Refusal.{Refusal}
 use Rattle.text_laws.specs.LinePlaces.{LineBegins, LineThere, refusalOnLine}
@@ -69,7 +70,7 @@ pub record SheetNumbers (text : List ℕ) (line : ℕ) : Type 0 where
   pub said : JobLine
   pub numbers : List ℕ
   pub next : ℕ
-  pub reads : lineAt jobWord threeFields text 0 ≡ got numbers next
+  pub reads : jobNumbers text ≡ got numbers next
   pub says : said ≡ asJobLine numbers next
 
 -- the line is a piece line, and its numbers are read
@@ -83,9 +84,9 @@ pub record PieceNumbers (text : List ℕ) (line : ℕ) : Type 0 where
 
 -- ── the causes ──
 
--- 1: the job line, a piece line or a row line is not of its form, or a line is there that is one too many
+-- 1: the job line is of no version's form, a piece line or a row line is not of its form, or a line is there that is one too many
 pub data JobFormWrong (text : List ℕ) (line : ℕ) : Type 0 where
-  wrong-job-line : line ≡ 1 → lineAt jobWord threeFields text 0 ≡ wrong → JobFormWrong text line
+  wrong-job-line : line ≡ 1 → jobNumbers text ≡ wrong → JobFormWrong text line
   wrong-piece-line : (a : PiecePlace text line) → lineAt pieceWord fourFields text (a .at) ≡ wrong → JobFormWrong text line
   wrong-row-line : (a : RowPlace text line) → rowAt text (a .head .columns) (a .at) ≡ wrong → JobFormWrong text line
   line-too-many : (a : EndPlace text line) → a .at < length text → JobFormWrong text line

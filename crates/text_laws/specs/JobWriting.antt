@@ -1,14 +1,17 @@
--- A lent job written as a job text (document 01, 'Job text'), and the job with just the entries and pixel bytes that it needs. No call
--- writes a job; the text says what a reader takes, and that every lent job that passes the check is one that reading gives.
--- Assumes nothing.
+-- A lent job written as a job text (document 01, 'Job text'; document 02, point 4), and the job with just the entries and pixel bytes
+-- that it needs. No call writes a job; the text says what a reader takes, and that every lent job that passes the check is one that
+-- reading gives. Assumes nothing.
 use mathlib.Core.Bool.{true, false}
 use mathlib.Core.List.{List, [], _∷_, _++_, map}
+use mathlib.Core.Logic.{_⊎_}
+use mathlib.Core.Path.{_≡_}
 use Prim.Native.Nat.{ℕ, zero, suc, _+_}
 use lib.Dec.{eqb}
 use lib.ListN.{getD, take}
 use Rattle.model.specs.Lent.{Lent, entryColumns, entryRows, entryTurns, pixelStart}
 use Rattle.model.specs.Text.{lineEnd, threeFields, fourFields, lineText}
-use Rattle.model.specs.JobText.{jobWord, pieceWord, rowWord, pixelMark, emptyMark}
+use Rattle.model.specs.JobText.{jobWord, gapWord, pieceWord, rowWord, pixelMark, emptyMark}
+use Rattle.model.specs.declared.JobSize.{JobSize}
 
 -- n numbers of the list from place s on
 abbrev pub bytesPart : List ℕ → ℕ → ℕ → List ℕ
@@ -43,9 +46,31 @@ unfoldable pub piecesText : Lent → ℕ → ℕ → List ℕ
 piecesText k i zero = []
 piecesText k i (suc left) = pieceText k i ++ piecesText k (suc i) left
 
--- the text of a lent job
-unfoldable pub jobText : Lent → List ℕ
-jobText k = lineText jobWord threeFields (k .size .rows ∷ k .size .columns ∷ k .size .count ∷ []) ++ piecesText k 0 (k .size .count)
+-- the job line of version 1, which has no gap
+abbrev pub plainLine : JobSize → List ℕ
+plainLine size = lineText jobWord threeFields (size .rows ∷ size .columns ∷ size .count ∷ [])
+
+-- the job line of version 2
+abbrev pub gapLine : JobSize → List ℕ
+gapLine size = lineText gapWord fourFields (size .rows ∷ size .columns ∷ size .count ∷ size .gap ∷ [])
+
+-- the line is a job line of these numbers: that of version 2, or that of version 1 where the gap is 0
+abbrev pub SaysSize : JobSize → List ℕ → Type 0
+SaysSize size line = (line ≡ gapLine size) ⊎ ((line ≡ plainLine size) × (size .gap ≡ 0))
+
+-- the text of a lent job behind a job line
+unfoldable pub jobTextBehind : List ℕ → Lent → List ℕ
+jobTextBehind line k = line ++ piecesText k 0 (k .size .count)
+
+-- the text is one of the job's: behind a job line of its numbers
+pub record TextOf (text : List ℕ) (k : Lent) : Type 0 where
+  pub line : List ℕ
+  pub says : SaysSize (k .size) line
+  pub written : text ≡ jobTextBehind line k
+
+-- its text in version 2, in which every job has one
+abbrev pub jobText : Lent → List ℕ
+jobText k = jobTextBehind (gapLine (k .size)) k
 
 -- ── the job that the text gives ──
 

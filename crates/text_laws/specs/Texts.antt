@@ -19,7 +19,7 @@ use Rattle.text_laws.specs.Exact.{JobWritten, LayoutWritten}
 use Rattle.text_laws.specs.JobRefusals.{JobRefusalClaims, JobCausesRefuse}
 use Rattle.text_laws.specs.LayoutRefusals.{LayoutRefusalClaims, LayoutCausesRefuse}
 
--- W, L, n, n entries and box pixels are there, and reading some text gives them
+-- W, L, n, g, n entries and box pixels are there, and reading some text gives them
 pub record Readable (k : Lent) : Type 0 where
   pub entries : k .size .count ≤ length (k .table)
   pub store : pixelStart (k .table) (k .size .count) ≤ length (k .pixels)
@@ -44,13 +44,13 @@ pub record Demand1Text : Type 0 where
   -- what reading a job gives passes the check that every call makes of a lent job
   pub readPasses : (text : List ℕ) (tableLength pixelsLength : ℕ) (k : Lent) → readJob text tableLength pixelsLength ≡ given k
       → lentWell k ≡ true
-  -- the check passes exactly the lent jobs whose W, L, n, n entries and box pixels are what reading some text gives
+  -- the check passes exactly the lent jobs whose W, L, n, g, n entries and box pixels are what reading some text gives
   pub checkExactly : (k : Lent) → (lentWell k ≡ true) ↔ Readable k
   -- what is written of a layout whose placements are inside in allowed turns is read back as that layout
   pub writtenRead : (j : Job) (v : Layout) → j .size .rows ≤ rowBound → j .size .columns ≤ columnBound → j .size .count ≤ pieceBound
       → length v ≡ j .size .count → ((i : ℕ) → i < j .size .count → Placed j i (placeOf v i))
       → readLayout j (layoutText j v) (j .size .count) ≡ given v
-  -- reading gives a job exactly where the text is the job's text, the job passes the check and the buffers suffice
+  -- reading gives a job exactly where the text is a text of the job, the job passes the check and the buffers suffice
   pub jobExactly : (text : List ℕ) (tableLength pixelsLength : ℕ) (k : Lent)
       → (readJob text tableLength pixelsLength ≡ given k) ↔ JobWritten text tableLength pixelsLength k
   -- a text that is read as a layout is that layout's text, whatever the job

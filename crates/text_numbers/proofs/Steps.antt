@@ -1,5 +1,7 @@
 -- A line's fields read one after the other: the numbers so far stand in front of those that are left to read. Assumes nothing.
-use Rattle.list_laws.proofs.Kit.{_∙_, _≡_, ap, refl, sym, List, [], _∷_, _+_, _-_, _<_, _≤_, suc, zero, ℕ, arith, length, set, getD-set-other, getD-set-same}
+use Rattle.list_laws.proofs.Kit.{_∙_, _≡_, ap, refl, sym, ⊎-elim, List, [], _∷_, _+_, _-_, _<_, _≤_, suc, zero, ℕ, arith, length, set, getD-set-other}
+use Rattle.list_laws.proofs.Kit.{getD-set-same, decLt}
+use Rattle.list_laws.proofs.Numbers.{below-suc}
 use Rattle.model.specs.Text.{Reading, wrong, got, onward, comma, fieldAt, fieldsAt, threeFields, fourFields, field}
 use Rattle.text_numbers.specs.Lines.{endByte, fieldEnds, inFront}
 
@@ -30,6 +32,36 @@ front-kept numbers ks (suc j) k v h =
 front-stored : (numbers ks : List ℕ) (k v : ℕ) → k < length numbers → inFront (set numbers k v) (suc k) ks ≡ inFront numbers k (v ∷ ks)
 front-stored numbers ks k v h =
     ap (λ (n : ℕ). inFront (set numbers k v) k (n ∷ ks)) (getD-set-same numbers k v 0 h) ∙ front-kept numbers (v ∷ ks) k k v (omega arith)
+
+-- behind the first k others
+pub behind-front : (numbers : List ℕ) (k j : ℕ) (ks : List ℕ) → k ≤ j → field (inFront numbers k ks) j ≡ field ks (j - k)
+behind-front numbers zero j ks h = let z : j - 0 ≡ j = omega arith in sym (ap (field ks) z)
+behind-front numbers (suc k) j ks h =
+    let s : j - k ≡ suc (j - suc k) = omega arith in
+    behind-front numbers k j (field numbers k ∷ ks) (omega arith) ∙ ap (field (field numbers k ∷ ks)) s
+
+-- the first k as they stand in the buffer
+pub in-front : (numbers : List ℕ) (k j : ℕ) (ks : List ℕ) → j < k → field (inFront numbers k ks) j ≡ field numbers j
+in-front numbers zero j ks h = absurd (omega arith)
+in-front numbers (suc k) j ks h =
+    ⊎-elim
+    (λ e.
+    let z : j - k ≡ 0 = omega arith in
+    behind-front numbers k j (field numbers k ∷ ks) (omega arith) ∙ ap (field (field numbers k ∷ ks)) z ∙ ap (field numbers) (sym e))
+    (λ l. in-front numbers k j (field numbers k ∷ ks) l)
+    (below-suc h)
+
+-- where zeros stand behind the first k, these are the buffer's at every place
+pub front-same : (numbers : List ℕ) (k : ℕ) → ((j : ℕ) → k ≤ j → field numbers j ≡ 0) → (j : ℕ) → field (inFront numbers k []) j ≡ field numbers j
+front-same numbers k h j = by-test (decLt j k)
+  where
+    by-test : Dec (j < k) → field (inFront numbers k []) j ≡ field numbers j
+    by-test (yes l) = in-front numbers k j [] l
+    by-test (no d) = let l : k ≤ j = omega arith in behind-front numbers k j [] l ∙ sym (h j l)
+
+-- a number stored at place k leaves zeros behind it
+pub zeros-kept : (numbers : List ℕ) (k v : ℕ) → ((j : ℕ) → k ≤ j → field numbers j ≡ 0) → (j : ℕ) → k + 1 ≤ j → field (set numbers k v) j ≡ 0
+zeros-kept numbers k v h j l = getD-set-other numbers k j v 0 (λ e. omega arith) ∙ h j (omega arith)
 
 -- ── fields ──
 

@@ -32,7 +32,8 @@ abbrev pub afterForm : LineForm → ℕ
 afterForm LineForm.Wrong = 0
 afterForm (LineForm.Right next) = next
 
--- the first `count` numbers and the form are what the definition reads, and the line lies in the text
+-- the first `count` numbers and the form are what the definition reads, the others are 0, and the line lies in the text
 pub record ReadsLine (r : LineNumbers) (count : ℕ) (reading : Reading (List ℕ)) (text : List ℕ) : Type 0 where
   pub same : reading ≡ formReading (inFront (r .numbers) count []) (r .form)
+  pub others : (k : ℕ) → count ≤ k → field (r .numbers) k ≡ 0
   pub inside : afterForm (r .form) ≤ length text

@@ -15,7 +15,7 @@ pub enum LineForm {
     Wrong,
 }
 
-// The numbers of a line, the first at index 0, and its form. Where the form is wrong the numbers say nothing.
+// The numbers of a line, the first at index 0, behind them zeros, and its form. Where the form is wrong the numbers say nothing.
 pub struct LineNumbers {
     pub numbers: [usize; 8],
     pub form: LineForm,

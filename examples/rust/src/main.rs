@@ -110,12 +110,12 @@ impl Search {
         Ok(descent.end)
     }
 
-    /// Raises the weight of each pair that shares a pixel by 1; the largest weight, 65,535, stays.
+    /// Raises the weight of each pair that conflicts by 1; the largest weight, 65,535, stays.
     fn raise_weights(&mut self, job: &Job) -> Result<(), Refused> {
         let count = job.count();
         let pairs = (0..count).flat_map(|i| (i + 1..count).map(move |k| (i, k)));
         for ((i, k), weight) in pairs.zip(&mut self.weights) {
-            // Boxes lie apart mostly, which spares most of the calls.
+            // Boxes lie further apart than the gap mostly, which spares most of the calls.
             if job.boxes_meet(&self.layout, i, k) && job.shares_pixel(&self.layout, i, k)? {
                 *weight = (*weight + 1).min(65_535);
             }

@@ -11,12 +11,17 @@ extern crate alloc;
 pub mod safe;
 
 /// The version of the interface.
-pub const VERSION: u32 = 6;
+pub const VERSION: u32 = 7;
 
 /// The largest numbers of a job: pieces, bytes of all boxes together, bytes of a job text that the program reads.
 pub const PIECES: usize = 64;
 pub const PIXELS: usize = 65_536;
 pub const TEXT: usize = 65_536;
+
+/// The largest gap, depth and penalty of two pieces of a job.
+pub const GAP: usize = 8;
+pub const DEPTH: u32 = 263;
+pub const PENALTY: u32 = 199;
 
 /// Lengths that suffice for every job: strips of a store, its starts, runs of a no-fit row or column, bytes of a layout text and of
 /// the program's output.
@@ -95,7 +100,7 @@ pub struct Reply {
     pub second: u32,
 }
 
-/// Declares functions whose first seven arguments lend a job.
+/// Declares functions whose first eight arguments lend a job.
 macro_rules! lent_a_job {
     ($(fn $name:ident($($argument:ident: $kind:ty),* $(,)?) -> $result:ty;)*) => {
         extern "C" {
@@ -103,6 +108,7 @@ macro_rules! lent_a_job {
                 rows: usize,
                 columns: usize,
                 count: usize,
+                gap: usize,
                 table: *const Entry,
                 table_length: usize,
                 pixels: *const u8,
@@ -124,6 +130,7 @@ extern "C" {
         rows: *mut usize,
         columns: *mut usize,
         count: *mut usize,
+        gap: *mut usize,
     ) -> Reply;
 
     pub fn sigbrol_rebuild(

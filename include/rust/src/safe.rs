@@ -94,6 +94,7 @@ pub struct Job {
     rows: usize,
     columns: usize,
     count: usize,
+    gap: usize,
     table: Vec<[u8; 3]>,
     pixels: Vec<u8>,
 }
@@ -101,10 +102,10 @@ pub struct Job {
 /// Makes a call that is lent the job, with further arguments, and gives a refusal as an error.
 macro_rules! lend {
     ($job:expr, $call:ident, $($argument:expr),*) => {{
-        let Job { rows, columns, count, table, pixels } = $job;
+        let Job { rows, columns, count, gap, table, pixels } = $job;
         // Sound by what the head of this file says.
         accepted(unsafe {
-            crate::$call(*rows, *columns, *count, table.as_ptr(), table.len(), pixels.as_ptr(), pixels.len(), $($argument),*)
+            crate::$call(*rows, *columns, *count, *gap, table.as_ptr(), table.len(), pixels.as_ptr(), pixels.len(), $($argument),*)
         })
     }};
 }
@@ -112,7 +113,7 @@ macro_rules! lend {
 impl Job {
     /// Reads a job text.
     pub fn read(text: &[u8]) -> Result<Job, Refused> {
-        let (mut rows, mut columns, mut count) = (0, 0, 0);
+        let (mut rows, mut columns, mut count, mut gap) = (0, 0, 0, 0);
         let mut table = vec![[0; 3]; PIECES];
         let mut pixels = vec![0; PIXELS];
         // Sound by what the head of this file says.
@@ -127,6 +128,7 @@ impl Job {
                 &mut rows,
                 &mut columns,
                 &mut count,
+                &mut gap,
             )
         };
         accepted(reply)?;
@@ -134,6 +136,7 @@ impl Job {
             rows,
             columns,
             count,
+            gap,
             table,
             pixels,
         })
@@ -224,7 +227,7 @@ impl Job {
         })
     }
 
-    /// Whether the boxes of two pieces meet; where they lie apart the pieces share no pixel.
+    /// Whether the boxes of two pieces come within the gap; where they do not, the pieces do not conflict.
     pub fn boxes_meet(&self, layout: &[Place], i: usize, k: usize) -> bool {
         // The first and the end column and row of a turned box; its sides change places at 90 and 270 degrees.
         let ranges = |piece: usize| {
@@ -233,11 +236,12 @@ impl Job {
             let (l, w) = if turn % 180 == 0 { (l, w) } else { (w, l) };
             [(x, x + l), (y, y + w)]
         };
+        let gap = self.gap as u32;
         let mut axes = ranges(i).into_iter().zip(ranges(k));
-        axes.all(|(one, other)| one.0 < other.1 && other.0 < one.1)
+        axes.all(|(one, other)| one.0 < other.1 + gap && other.0 < one.1 + gap)
     }
 
-    /// Whether two pieces share a pixel.
+    /// Whether two pieces conflict.
     pub fn shares_pixel(&self, layout: &[Place], i: usize, k: usize) -> Result<bool, Refused> {
         let mut shares = 0;
         lend!(

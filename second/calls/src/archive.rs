@@ -15,6 +15,7 @@ macro_rules! lend {
             $memory.rows,
             $memory.columns,
             $memory.count,
+            $memory.gap,
             at(&$memory.table),
             $memory.table.length(),
             at(&$memory.pixels),
@@ -98,6 +99,7 @@ unsafe fn read_job(memory: &mut Memory) -> Reply {
     let rows = to!(memory.sizes, 0);
     let columns = to!(memory.sizes, 1);
     let count = to!(memory.sizes, 2);
+    let gap = to!(memory.sizes, 3);
     sigbrol_read_job(
         text,
         text_length,
@@ -108,6 +110,7 @@ unsafe fn read_job(memory: &mut Memory) -> Reply {
         rows,
         columns,
         count,
+        gap,
     )
 }
 
@@ -228,7 +231,7 @@ unsafe fn no_fit(kind: Kind, memory: &mut Memory) -> Reply {
     )
 }
 
-/// Shared pixel, depth and penalty.
+/// Conflict, depth and penalty.
 unsafe fn pair(kind: Kind, memory: &mut Memory) -> Reply {
     let (layout, length) = (at(&memory.layout), memory.layout.length());
     let numbers = memory.numbers;

@@ -236,10 +236,11 @@ fn describe(
         rows,
         columns,
         count,
+        gap,
         numbers,
         ..
     } = before;
-    text += &format!("\n  W {rows}, L {columns}, n {count}, {numbers:?}");
+    text += &format!("\n  W {rows}, L {columns}, n {count}, gap {gap}, {numbers:?}");
     macro_rules! show {
         ($($field:ident),*) => {$(
             if before.$field.length() > 0 {

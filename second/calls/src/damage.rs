@@ -21,7 +21,7 @@ const fn damage(name: &'static str, cause: Cause, apply: fn(&mut Random, &mut Me
 }
 
 /// Damage to a lent job.
-const JOB: [Damage; 17] = [
+const JOB: [Damage; 18] = [
     damage("rows", Cause::LentSheet, |random, memory| {
         memory.rows = above(random, memory.rows, 512);
     }),
@@ -39,6 +39,10 @@ const JOB: [Damage; 17] = [
     damage("count", Cause::LentCount, |random, memory| {
         let count = above(random, memory.count, 64);
         memory.count = random.pick(&[0, count, count]);
+    }),
+    damage("gap", Cause::LentGap, |random, memory| {
+        let gap = above(random, memory.gap, 8);
+        memory.gap = random.pick(&[9, 255, 256 + memory.gap, gap, gap]);
     }),
     damage("table short", Cause::LentTable, |random, memory| {
         let length = random.between(0, memory.count.min(memory.table.length()).max(1) - 1);

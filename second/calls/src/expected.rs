@@ -147,7 +147,7 @@ fn no_fit(kind: Kind, memory: &mut Memory) -> Result<(), Refusal> {
     Ok(())
 }
 
-/// Shared pixel, depth and penalty.
+/// Conflict, depth and penalty.
 fn pair(kind: Kind, memory: &mut Memory) -> Result<(), Refusal> {
     let (job, layout, numbers) = (memory.job(), memory.layout.get(), memory.numbers);
     let (i, k) = (numbers.i, numbers.k);

@@ -36,8 +36,8 @@ pub enum Kind {
 }
 
 /// The causes of a lent job.
-const JOB: [Cause; 9] = [
-    LentSheet, LentCount, LentTable, LentBox, LentTurns, LentAreas, LentPixels, LentPixel,
+const JOB: [Cause; 10] = [
+    LentSheet, LentCount, LentGap, LentTable, LentBox, LentTurns, LentAreas, LentPixels, LentPixel,
     LentLoose,
 ];
 
@@ -121,12 +121,12 @@ impl Kind {
                 Outside,
                 NewOutside,
             ],
-            Kind::Check => &[LayoutLength, LayoutTurn, Outside, Shared],
+            Kind::Check => &[LayoutLength, LayoutTurn, Outside, Conflict],
             Kind::Start => &[LayoutLength],
             Kind::WriteLayout => &[LayoutLength, LayoutTurn, Outside, BufferShort],
             Kind::ReadLayout => &[Form, TextNumber, Turn, Outside, LayoutLength],
-            Kind::CutLines => &[LayoutLength, LayoutTurn, Outside, Shared, BufferShort],
-            Kind::CutStep => &[LayoutLength, Pitch, LayoutTurn, Outside, Shared],
+            Kind::CutLines => &[LayoutLength, LayoutTurn, Outside, Conflict, BufferShort],
+            Kind::CutStep => &[LayoutLength, Pitch, LayoutTurn, Outside, Conflict],
             Kind::LineStep => &[Pitch],
             Kind::LineSearch => &[
                 LayoutLength,

@@ -35,6 +35,7 @@ pub struct Memory {
     pub rows: usize,
     pub columns: usize,
     pub count: usize,
+    pub gap: usize,
     pub numbers: Numbers,
     pub table: Guarded<[u8; 3]>,
     pub pixels: Guarded<u8>,
@@ -88,6 +89,7 @@ impl Memory {
             rows: 0,
             columns: 0,
             count: 0,
+            gap: 0,
             numbers: Numbers::default(),
             table: Guarded::new(&[]),
             pixels: Guarded::new(&[]),
@@ -109,7 +111,7 @@ impl Memory {
             halves: Guarded::junk(random, 4),
             words: Guarded::junk(random, 6),
             doubles: Guarded::junk(random, 4),
-            sizes: Guarded::junk(random, 6),
+            sizes: Guarded::junk(random, 8),
         }
     }
 
@@ -119,6 +121,7 @@ impl Memory {
             rows: self.rows,
             columns: self.columns,
             count: self.count,
+            gap: self.gap,
             table: self.table.get(),
             pixels: self.pixels.get(),
         }

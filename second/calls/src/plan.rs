@@ -39,26 +39,38 @@ pub fn scenes() -> Vec<Scene> {
     scenes
 }
 
-/// Jobs whose boxes have as many pixels together as a job may have.
-fn full_stores() -> [Scene; 2] {
-    let full = |number: usize, columns: usize, rows: usize| {
+/// A job of full boxes, columns and rows, on a sheet of 256 rows and 256 columns.
+fn full_boxes(name: &str, gap: usize, boxes: &[(usize, usize)]) -> Scene {
+    let mut text = format!("job,2,256,256,{},{gap}\n", boxes.len());
+    for (number, &(columns, rows)) in boxes.iter().enumerate() {
         let row = format!("row,{}\n", "#".repeat(columns));
-        format!("piece,{number},{columns},{rows},15\n{}", row.repeat(rows))
-    };
-    let squares: String = (0..64).map(|number| full(number, 32, 32)).collect();
+        text += &format!("piece,{number},{columns},{rows},15\n{}", row.repeat(rows));
+    }
+    Scene::new(name.to_string(), text.into_bytes())
+}
+
+/// Jobs whose boxes have as many pixels together as a job may have.
+fn full_stores() -> [Scene; 3] {
     let boxes = [(255, 255), (255, 2), (1, 1)];
-    let boxes: String = boxes
-        .iter()
-        .enumerate()
-        .map(|(number, &(columns, rows))| full(number, columns, rows))
-        .collect();
-    let scene = |name: &str, text: String| Scene::new(name.to_string(), text.into_bytes());
     [
-        scene(
-            "full store of squares",
-            format!("job,1,256,256,64\n{squares}"),
+        full_boxes("full store of squares", 0, &[(32, 32); 64]),
+        full_boxes("full store of squares, gap", 3, &[(32, 32); 64]),
+        full_boxes("full store of boxes", 0, &boxes),
+    ]
+}
+
+/// Pairs of full boxes with the largest depths and the largest penalty of all jobs, and the layouts in which they have them. The text of
+/// such a job is longer than the program reads.
+fn largest() -> [(Scene, [[u16; 3]; 2]); 2] {
+    [
+        (
+            full_boxes("largest depth", 8, &[(255, 128); 2]),
+            [[0, 0, 0]; 2],
         ),
-        scene("full store of boxes", format!("job,1,256,256,3\n{boxes}")),
+        (
+            full_boxes("largest penalty", 8, &[(255, 128), (128, 255)]),
+            [[0, 0, 64], [0, 64, 0]],
+        ),
     ]
 }
 
@@ -71,6 +83,7 @@ pub fn run(other: Side, threads: usize, stack: usize) -> Comparison {
             run_scene(&mut comparison, scene, number);
         }
         if part == 0 {
+            run_largest(&mut comparison);
             run_texts(&mut comparison);
         }
         comparison
@@ -121,6 +134,36 @@ fn run_scene(comparison: &mut Comparison, scene: &Scene, number: usize) {
     }
     run_layout_texts(comparison, random, scene);
     run_sheet(comparison, random, scene);
+}
+
+/// The calls whose numbers are the largest that there can be, on the layouts that have them.
+fn run_largest(comparison: &mut Comparison) {
+    let mut random = Random::new(0);
+    for (scene, layout) in largest() {
+        for kind in [
+            Kind::SharesPixel,
+            Kind::Depth,
+            Kind::Penalty,
+            Kind::WeightedSum,
+            Kind::PlainSum,
+            Kind::Preview,
+            Kind::Check,
+            Kind::LineSearch,
+            Kind::Descent,
+            Kind::GuidedRun,
+        ] {
+            for vertical in [0, 1] {
+                let mut memory = scene.memory(&mut random, kind);
+                memory.layout = Guarded::new(&layout);
+                memory.numbers.vertical = vertical;
+                let origin = Origin {
+                    scene: &scene.name,
+                    damages: &[],
+                };
+                comparison.call(kind, &mut memory, &origin);
+            }
+        }
+    }
 }
 
 /// How many calls are made as they are accepted: fewer of what takes long on large jobs.
@@ -248,11 +291,11 @@ mod tests {
         expected::call(kind, memory).returned
     }
 
-    /// Compares a side on some small jobs of each kind. With steps of 29 every damage of every call comes up alone.
+    /// Compares a side on some small jobs of each kind. With steps of 31 every damage of every call comes up alone.
     fn compared(side: Side) -> Comparison {
         let mut comparison = Comparison::new(side);
         for (number, scene) in scenes().iter().enumerate() {
-            if number % 29 == 0 && scene.is_small() {
+            if number % 31 == 0 && scene.is_small() {
                 run_scene(&mut comparison, scene, number);
             }
         }
@@ -288,6 +331,128 @@ mod tests {
             }
             returned
         });
+    }
+
+    /// Every call that depends on the gap and not on its range alone.
+    const OF_CONFLICTS: [Kind; 14] = {
+        use Kind::*;
+        [
+            NoFitRow,
+            NoFitColumn,
+            SharesPixel,
+            Depth,
+            Penalty,
+            WeightedSum,
+            PlainSum,
+            Preview,
+            Check,
+            CutLines,
+            CutStep,
+            LineSearch,
+            Descent,
+            GuidedRun,
+        ]
+    };
+
+    /// Compares a side that takes a gap that a job may have for another one: every call that depends on it has to be told, and no other.
+    fn assert_gap_told(gap: fn(usize) -> usize) {
+        let side = |kind: Kind, memory: &mut Memory| {
+            let right = memory.gap;
+            if kind.is_lent_a_job() && right <= 8 {
+                memory.gap = gap(right);
+            }
+            let returned = same(kind, memory);
+            memory.gap = right;
+            returned
+        };
+        let comparison = compared(&side);
+        let summary = comparison.summary();
+        assert_eq!(comparison.different_kinds(), OF_CONFLICTS, "{summary}");
+    }
+
+    #[test]
+    fn a_gap_that_is_not_kept() {
+        assert_gap_told(|_| 0);
+    }
+
+    #[test]
+    fn a_gap_around_both_pieces() {
+        assert_gap_told(|gap| (2 * gap).min(8));
+    }
+
+    #[test]
+    fn a_gap_of_one_more_or_less() {
+        assert_gap_told(|gap| gap.saturating_sub(1));
+        assert_gap_told(|gap| (gap + 1).min(8));
+    }
+
+    #[test]
+    fn a_raise_only_where_pixels_are_shared() {
+        // The weights of pairs that conflict and share no pixel at the end of one round stay.
+        assert_told(Kind::GuidedRun, &|kind, memory| {
+            let before = memory.clone();
+            let returned = same(kind, memory);
+            let one_round = memory.numbers.rounds == 1 && returned.reply[0] == 0;
+            if kind == Kind::GuidedRun && one_round {
+                // A round is a descent, so its end is the descent's.
+                let mut end = before.clone();
+                same(Kind::Descent, &mut end);
+                end.gap = 0;
+                let count = memory.count;
+                let pairs = (0..count).flat_map(|i| (i + 1..count).map(move |k| (i, k)));
+                for (place, (i, k)) in pairs.enumerate() {
+                    (end.numbers.i, end.numbers.k) = (i, k);
+                    same(Kind::SharesPixel, &mut end);
+                    if end.bytes.get()[result(0)] == 0 {
+                        memory.weights.get_mut()[place] = before.weights.get()[place];
+                    }
+                }
+            }
+            returned
+        });
+    }
+
+    #[test]
+    fn a_gap_that_is_not_handed_out() {
+        // The number that the caller's memory held stays.
+        assert_told(Kind::ReadJob, &|kind, memory| {
+            let before = memory.sizes.get()[result(3)];
+            let returned = same(kind, memory);
+            if kind == Kind::ReadJob {
+                memory.sizes.get_mut()[result(3)] = before;
+            }
+            returned
+        });
+    }
+
+    #[test]
+    fn a_gap_that_is_cut_to_a_byte() {
+        assert_told(Kind::Fresh, &|kind, memory| {
+            let right = memory.gap;
+            if kind == Kind::Fresh {
+                memory.gap %= 256;
+            }
+            let returned = same(kind, memory);
+            memory.gap = right;
+            returned
+        });
+    }
+
+    #[test]
+    fn the_largest_depth_and_the_largest_penalty() {
+        for ((scene, layout), expected) in largest().into_iter().zip([[263, 136], [199, 199]]) {
+            let mut memory = scene.memory(&mut Random::new(1), Kind::Depth);
+            memory.layout = Guarded::new(&layout);
+            (memory.numbers.i, memory.numbers.k) = (0, 1);
+            let depths = [0, 1].map(|vertical| {
+                memory.numbers.vertical = vertical;
+                same(Kind::Depth, &mut memory);
+                memory.halves.get()[result(0)]
+            });
+            assert_eq!(depths, expected);
+            same(Kind::Penalty, &mut memory);
+            assert_eq!(memory.halves.get()[result(0)], expected[0].min(expected[1]));
+        }
     }
 
     #[test]

@@ -59,6 +59,7 @@ impl Scene {
             rows: self.job.rows,
             columns: self.job.columns,
             count: self.count(),
+            gap: self.job.gap,
             table: &self.table,
             pixels: &self.pixels,
         }
@@ -104,7 +105,7 @@ impl Scene {
             .collect()
     }
 
-    /// A layout in which no two pieces share a pixel, where a short search finds one.
+    /// A layout in which no two pieces conflict, where a short search finds one.
     fn clear_layout(&self, random: &mut Random) -> Vec<[u16; 3]> {
         let mut layout = self.layout(random);
         let mut weights = vec![1; self.job.pair_count()];
@@ -134,6 +135,7 @@ impl Scene {
             memory.rows = self.job.rows;
             memory.columns = self.job.columns;
             memory.count = self.count();
+            memory.gap = self.job.gap;
             memory.table = roomy(random, &self.table);
             memory.pixels = roomy(random, &self.pixels);
         }
@@ -229,9 +231,19 @@ impl Scene {
             let [columns, rows] = self.job.pieces[piece].shape.turned_box(turn);
             (if vertical { columns } else { rows }) as i32
         };
-        let meeting = across(i, turn) + across(k, k_turn) + 1;
-        let offset = random.between(0, meeting as usize) as i32 - across(k, k_turn);
-        let far = [i32::MIN, i32::MIN + 1, -65_536, 256, 65_536, i32::MAX];
+        let gap = self.job.gap as i32;
+        let meeting = across(i, turn) + across(k, k_turn) + 2 * gap + 1;
+        let offset = random.between(0, meeting as usize) as i32 - across(k, k_turn) - gap;
+        let far = [
+            i32::MIN,
+            i32::MIN + 1,
+            -65_536,
+            -263,
+            256,
+            263,
+            65_536,
+            i32::MAX,
+        ];
         let numbers = &mut memory.numbers;
         (numbers.i, numbers.k) = (i, k);
         numbers.turn = turn.degrees() as u16;

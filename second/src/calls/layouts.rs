@@ -114,7 +114,7 @@ pub fn preview(lent: &Lent, given: Weighted, to: Move) -> Result<Figures, Refusa
     Ok(Figures { sum, length })
 }
 
-/// Passes a layout in which no two pieces share a pixel.
+/// Passes a layout in which no two pieces conflict.
 pub fn check(lent: &Lent, layout: &[[u16; 3]]) -> Result<(), Refusal> {
     checked(lent, layout, || Ok(())).map(|_| ())
 }
@@ -130,24 +130,33 @@ pub(super) fn checked(
     Ok((job, places))
 }
 
-/// Cause 12: two pieces share a pixel.
+/// Cause 12: two pieces conflict.
 fn apart(job: &Job, places: &[Placement]) -> Result<(), Refusal> {
-    // The piece that holds each sheet pixel is told by painting; of all pairs that meet in a pixel the lowest is named.
-    let mut holders: Vec<Vec<usize>> = vec![Vec::new(); job.rows * job.columns];
+    // The pieces that come within the gap of each sheet pixel are told by painting them wide; of all pairs of such a piece and a later
+    // one that has the pixel the lowest is named.
+    let mut near: Vec<Vec<usize>> = vec![Vec::new(); job.rows * job.columns];
     let mut lowest = None;
     for (number, (piece, place)) in job.pieces.iter().zip(places).enumerate() {
         let shape = piece.shape.turned(place.turn);
         for (x, y) in shape.pixels() {
-            let cell = &mut holders[(place.y + y) * job.columns + place.x + x];
+            let cell = &near[(place.y + y) * job.columns + place.x + x];
             let met = cell.iter().map(|&other| [other, number]).min();
             lowest = [lowest, met].into_iter().flatten().min();
-            cell.push(number);
+        }
+        for (x, y) in shape.widened(job.gap).pixels() {
+            // The widened box begins a gap before the corner; where it leaves the sheet there are no pixels to be near to.
+            let cell = [place.x + x, place.y + y].map(|end| end.checked_sub(job.gap));
+            if let [Some(x), Some(y)] = cell {
+                if x < job.columns && y < job.rows {
+                    near[y * job.columns + x].push(number);
+                }
+            }
         }
     }
     match lowest {
         None => Ok(()),
         Some(places) => Err(Refusal {
-            cause: Cause::Shared,
+            cause: Cause::Conflict,
             places,
         }),
     }

@@ -1,16 +1,17 @@
 //! A job in a caller's buffers: cause 8 of every call that is lent one, and the causes of a layout beside it.
 
 use super::{require, Cause, Refusal};
-use crate::job::{Job, Piece, MAX_AREA};
+use crate::job::{Job, Piece, MAX_AREA, MAX_GAP};
 use crate::layout::{inside, Placement};
 use crate::shape::Shape;
 
-/// W, L, n, the piece table {l, w, o} and the pixel bytes.
+/// W, L, n, the gap, the piece table {l, w, o} and the pixel bytes.
 #[derive(Clone, Copy, Debug)]
 pub struct Lent<'a> {
     pub rows: usize,
     pub columns: usize,
     pub count: usize,
+    pub gap: usize,
     pub table: &'a [[u8; 3]],
     pub pixels: &'a [u8],
 }
@@ -24,6 +25,7 @@ impl Lent<'_> {
             Cause::LentSheet,
         )?;
         require((1..=64).contains(&self.count), Cause::LentCount)?;
+        require(self.gap <= MAX_GAP, Cause::LentGap)?;
         let table = self.table.get(..self.count).ok_or(Cause::LentTable)?;
         for &[columns, rows, turns] in table {
             let fits = |side: u8, sheet: usize| (1..=sheet).contains(&usize::from(side));
@@ -52,6 +54,7 @@ impl Lent<'_> {
         Ok(Job {
             rows: self.rows,
             columns: self.columns,
+            gap: self.gap,
             pieces,
         })
     }

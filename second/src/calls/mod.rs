@@ -45,6 +45,7 @@ pub enum Cause {
     CountsLength,
     LentSheet,
     LentCount,
+    LentGap,
     LentTable,
     LentBox,
     LentTurns,
@@ -65,7 +66,7 @@ pub enum Cause {
     Outside,
     NewOutside,
     NoPlace,
-    Shared,
+    Conflict,
     Laid,
     NotLaid,
 }
@@ -82,12 +83,12 @@ impl Cause {
             LooseBox => 5,
             BoxAboveSheet => 6,
             BufferShort | LayoutLength | WeightsLength | CountsLength => 7,
-            LentSheet | LentCount | LentTable | LentBox | LentTurns | LentAreas | LentPixels
-            | LentPixel | LentLoose | Store | Stretch | Strips | Record | Counts => 8,
+            LentSheet | LentCount | LentGap | LentTable | LentBox | LentTurns | LentAreas
+            | LentPixels | LentPixel | LentLoose | Store | Stretch | Strips | Record | Counts => 8,
             NoPiece | SamePiece | TurnsLength | Turn | LayoutTurn => 9,
             Outside | NewOutside => 10,
             NoPlace => 11,
-            Shared => 12,
+            Conflict => 12,
             Laid => 13,
             NotLaid => 14,
         }

@@ -1,4 +1,4 @@
-//! Two pieces: no-fit lines, shared pixel, depths and penalty.
+//! Two pieces: no-fit lines, conflict, depths and penalty.
 
 use super::lent::placements;
 use super::strips::entries;
@@ -15,10 +15,14 @@ pub struct Stretch<'a> {
     pub strips: &'a [[u8; 3]],
 }
 
-/// The no-fit region of two turned shapes, the first one fixed.
-fn region(fixed: &Shape, moving: &Shape) -> NoFit {
+/// The no-fit region of two turned shapes that are to keep a gap, the first one fixed. Widened by the gap, it has its corner a gap
+/// lower and further left, so that an offset is as much larger.
+fn region(fixed: &Shape, moving: &Shape, gap: usize) -> NoFit {
     let opposite = moving.turned(Turn::ALL[2]);
-    NoFit::new(&BitShape::new(fixed), &BitShape::new(&opposite))
+    NoFit::new(
+        &BitShape::new(&fixed.widened(gap)),
+        &BitShape::new(&opposite),
+    )
 }
 
 /// Fills the no-fit row of two pieces at a row offset, or the no-fit column at a column offset; gives how many runs there are.
@@ -43,20 +47,20 @@ pub fn no_fit_line(
     if vertical {
         shapes = shapes.iter().map(Shape::transposed).collect();
     }
-    let found = row_runs(&shapes[0], &shapes[1], offset);
+    let found = row_runs(&shapes[0], &shapes[1], job.gap, offset);
     let front = runs.get_mut(..found.len()).ok_or(Cause::BufferShort)?;
     front.copy_from_slice(&found);
     Ok(found.len())
 }
 
 /// The no-fit row of two shapes at a row offset.
-fn row_runs(fixed: &Shape, moving: &Shape, offset: i32) -> Vec<[i32; 2]> {
-    let region = region(fixed, moving);
-    let row = i64::from(offset) + moving.rows() as i64 - 1;
+fn row_runs(fixed: &Shape, moving: &Shape, gap: usize, offset: i32) -> Vec<[i32; 2]> {
+    let region = region(fixed, moving, gap);
+    let row = i64::from(offset) + (gap + moving.rows()) as i64 - 1;
     if !(0..region.rows() as i64).contains(&row) {
         return Vec::new();
     }
-    let least = moving.columns() as i32 - 1;
+    let least = (gap + moving.columns()) as i32 - 1;
     let run = |(first, count): (usize, usize)| [first as i32 - least, count as i32];
     region.row_runs(row as usize).map(run).collect()
 }
@@ -70,10 +74,10 @@ fn depths(lent: &Lent, layout: &[[u16; 3]], [i, k]: [usize; 2]) -> Result<[usize
     let places = placements(&job, layout)?;
     let turned = |job: &Job, piece: usize| job.pieces[piece].shape.turned(places[piece].turn);
     let (fixed, moving) = (turned(&job, i), turned(&job, k));
-    let region = region(&fixed, &moving);
-    // The cell of the offset, from the least offset at which the boxes meet; outside the region's box there is no overlap.
-    let column = (places[k].x + moving.columns() - 1).checked_sub(places[i].x);
-    let row = (places[k].y + moving.rows() - 1).checked_sub(places[i].y);
+    let region = region(&fixed, &moving, job.gap);
+    // The cell of the offset, from the least offset at which the boxes come within the gap; outside the region's box there is no conflict.
+    let column = (places[k].x + job.gap + moving.columns() - 1).checked_sub(places[i].x);
+    let row = (places[k].y + job.gap + moving.rows() - 1).checked_sub(places[i].y);
     Ok(match (column, row) {
         (Some(column), Some(row)) if column < region.columns() && row < region.rows() => {
             Direction::ALL.map(|direction| region.depth(direction, column, row))
@@ -82,9 +86,9 @@ fn depths(lent: &Lent, layout: &[[u16; 3]], [i, k]: [usize; 2]) -> Result<[usize
     })
 }
 
-/// Whether two pieces of a layout share a pixel.
+/// Whether two pieces of a layout conflict; without a gap that is sharing a pixel, which the call is named after.
 pub fn shares_pixel(lent: &Lent, layout: &[[u16; 3]], i: usize, k: usize) -> Result<bool, Refusal> {
-    // A shift by nothing parts exactly the pieces that share no pixel.
+    // A shift by nothing parts exactly the pieces that do not conflict.
     Ok(depths(lent, layout, [i, k])?[0] > 0)
 }
 

@@ -7,12 +7,12 @@ use crate::{job, layout};
 /// No output of the program is longer.
 pub const OUTPUT: usize = 4_096;
 
-/// Reads a job text into a table and a pixel store; gives W, L and n.
+/// Reads a job text into a table and a pixel store; gives W, L, n and the gap.
 pub fn read_job(
     text: &[u8],
     table: &mut [[u8; 3]],
     pixels: &mut [u8],
-) -> Result<[usize; 3], Refusal> {
+) -> Result<[usize; 4], Refusal> {
     let job = job::read(text)?;
     let shapes = || job.pieces.iter().map(|piece| &piece.shape);
     let total: usize = shapes().map(|shape| shape.columns() * shape.rows()).sum();
@@ -28,7 +28,7 @@ pub fn read_job(
     {
         *byte = u8::from(pixel);
     }
-    Ok([job.rows, job.columns, job.pieces.len()])
+    Ok([job.rows, job.columns, job.pieces.len(), job.gap])
 }
 
 /// Writes a layout's text into a buffer; gives its length.

@@ -23,6 +23,7 @@ pub fn kinds() -> Vec<Kind> {
         Kind::new("more after the end", 40, more_after_the_end),
         Kind::new("number misspelt", 150, number_misspelt),
         Kind::new("number changed", 250, number_changed),
+        Kind::new("gap or version", 120, gap_or_version),
         Kind::new("sheet area", 50, sheet_area),
         Kind::new("box areas", 40, box_areas),
         Kind::new("piece too large", 40, piece_too_large),
@@ -34,7 +35,7 @@ pub fn kinds() -> Vec<Kind> {
 }
 
 /// Texts that a reader can stumble over, the empty one first.
-const FIXED: [&[u8]; 16] = [
+const FIXED: [&[u8]; 26] = [
     b"",
     b"\n",
     b"\n\n\n",
@@ -51,18 +52,42 @@ const FIXED: [&[u8]; 16] = [
     b"job,1,1,1,1\npiece,0,1,1,1\nrow,.\n",
     b"job,1,512,4096,64\n",
     b"job,1,99999,99999,99999\n",
+    b"job,2\n",
+    b"job,2,1,1,1\npiece,0,1,1,1\nrow,#\n",
+    b"job,2,1,1,1,\npiece,0,1,1,1\nrow,#\n",
+    b"job,2,1,1,1,8,0\npiece,0,1,1,1\nrow,#\n",
+    b"job,2,1,1,1,9\npiece,0,1,1,1\nrow,#\n",
+    b"job,2,1,1,1,08\npiece,0,1,1,1\nrow,#\n",
+    b"job,1,1,1,1,0\npiece,0,1,1,1\nrow,#\n",
+    b"job,3,1,1,1,0\npiece,0,1,1,1\nrow,#\n",
+    b"job,2,512,4096,64,9\n",
+    b"job,2,512,4096,64,8\n",
 ];
 
-/// The text of a small job, on which damage is done.
+/// The text of a small job, on which damage is done, in either version.
 fn small_text(random: &mut Random) -> Vec<u8> {
-    jobs::small(random).text()
+    let job = jobs::small(random);
+    either_text(random, &job)
 }
 
-/// One text without its end, from each of its bytes on.
+/// The text of a job in either version.
+fn either_text(random: &mut Random, job: &Job) -> Vec<u8> {
+    if random.chance(50) {
+        job.text()
+    } else {
+        job.text_with_gap(jobs::any_gap(random))
+    }
+}
+
+/// A text of each version without its end, from each of its bytes on.
 fn cut_at_every_byte() -> Vec<Vec<u8>> {
-    let text = b"job,1,3,12,2\npiece,0,10,2,5\nrow,##########\nrow,#........#\n\
-        piece,1,2,1,15\nrow,##\n";
-    (0..text.len()).map(|end| text[..end].to_vec()).collect()
+    let pieces = "piece,0,10,2,5\nrow,##########\nrow,#........#\npiece,1,2,1,15\nrow,##\n";
+    let texts = ["job,1,3,12,2", "job,2,3,12,2,7"].map(|line| format!("{line}\n{pieces}"));
+    let ends = |text: &String| {
+        let text = text.clone().into_bytes();
+        (0..text.len()).map(move |end| text[..end].to_vec())
+    };
+    texts.iter().flat_map(ends).collect()
 }
 
 /// A text without its end.
@@ -166,7 +191,7 @@ fn more_after_the_end(random: &mut Random) -> Vec<u8> {
         "\0".to_string(),
         " ".to_string(),
     ];
-    let mut text = job.text();
+    let mut text = either_text(random, &job);
     text.extend(more[random.between(0, more.len() - 1)].bytes());
     text
 }
@@ -213,8 +238,8 @@ fn number_misspelt(random: &mut Random) -> Vec<u8> {
 }
 
 /// Numbers at and around the limits of every field.
-const NUMBERS: [usize; 28] = [
-    0, 1, 2, 3, 4, 7, 8, 10, 14, 15, 16, 17, 63, 64, 65, 128, 129, 254, 255, 256, 511, 512, 513,
+const NUMBERS: [usize; 29] = [
+    0, 1, 2, 3, 4, 7, 8, 9, 10, 14, 15, 16, 17, 63, 64, 65, 128, 129, 254, 255, 256, 511, 512, 513,
     4095, 4096, 4097, 65_536, 99_999,
 ];
 
@@ -232,6 +257,35 @@ fn number_changed(random: &mut Random) -> Vec<u8> {
     lines.concat()
 }
 
+/// Spellings of a gap: those that are read, too large ones, ones that are cut to a right number, and no numbers.
+const GAPS: [&str; 20] = [
+    "0", "1", "8", "9", "9", "9", "10", "16", "255", "256", "264", "65535", "65536", "99999", "08",
+    "00", "", "-1", "+1", "100000",
+];
+
+/// Versions: mostly the one that has a gap, the one that has none, some that are not known, and no numbers.
+const VERSIONS: [&str; 16] = [
+    "2", "2", "2", "2", "2", "2", "2", "2", "2", "1", "1", "3", "0", "02", "258", "65538",
+];
+
+/// A text whose first line has some version and the fields of that version or of another one, often with a gap that none has.
+fn gap_or_version(random: &mut Random) -> Vec<u8> {
+    let job = jobs::small(random);
+    let (rows, columns, count) = (job.rows, job.columns, job.pieces.len());
+    let version = random.pick(&VERSIONS);
+    let mut line = format!("job,{version},{rows},{columns},{count}");
+    for _ in 0..random.pick(&[0, 1, 1, 1, 1, 1, 1, 1, 1, 2]) {
+        line = line + "," + random.pick(&GAPS);
+    }
+    // A sheet that is too large as well comes after the gap.
+    if random.chance(10) {
+        line = line.replacen(&format!(",{rows},{columns},"), ",512,4096,", 1);
+    }
+    let text = String::from_utf8_lossy(&job.text()).into_owned();
+    let (_, pieces) = text.split_once('\n').expect("a text has a first line");
+    format!("{line}\n{pieces}").into_bytes()
+}
+
 /// A small job on a sheet of about the largest area, just above it or far above.
 fn sheet_area(random: &mut Random) -> Vec<u8> {
     let mut job = jobs::small(random);
@@ -240,7 +294,7 @@ fn sheet_area(random: &mut Random) -> Vec<u8> {
     job.columns = random
         .pick(&[columns, columns, columns + 100, 4096])
         .min(4096);
-    job.text()
+    either_text(random, &job)
 }
 
 /// A text whose last piece line brings the box areas to the largest total, just below or above.
@@ -274,7 +328,7 @@ fn piece_too_large(random: &mut Random) -> Vec<u8> {
     };
     let place = random.between(0, job.pieces.len());
     job.pieces.insert(place, Piece::new(random, shape));
-    job.text()
+    either_text(random, &job)
 }
 
 /// A job with a piece whose box has an empty line at one of its sides, added or made empty.
@@ -293,12 +347,13 @@ fn loose_box(random: &mut Random) -> Vec<u8> {
         6 => shape.iter_mut().for_each(|row| row[0] = false),
         _ => shape.iter_mut().for_each(|row| row[last_x] = false),
     }
-    job.text()
+    either_text(random, &job)
 }
 
 /// Bytes at random, after a right first line or none.
 fn random_bytes(random: &mut Random) -> Vec<u8> {
-    let mut text = random.pick(&["", "job,1,9,9,3\n"]).as_bytes().to_vec();
+    let lines = ["", "job,1,9,9,3\n", "job,2,9,9,3,4\n"];
+    let mut text = random.pick(&lines).as_bytes().to_vec();
     let any_byte = random.chance(50);
     for _ in 0..random.between(1, 300) {
         text.push(if any_byte {
@@ -314,6 +369,7 @@ fn random_bytes(random: &mut Random) -> Vec<u8> {
 fn words_in_disorder(random: &mut Random) -> Vec<u8> {
     let words = [
         "job,",
+        "job,2,",
         "piece,",
         "row,",
         "0",
@@ -332,7 +388,11 @@ fn words_in_disorder(random: &mut Random) -> Vec<u8> {
         "piece,1,1,1,1\n",
     ];
     let mut text = random
-        .pick(&["", "job,1,2,2,2\npiece,0,1,1,1\n"])
+        .pick(&[
+            "",
+            "job,1,2,2,2\npiece,0,1,1,1\n",
+            "job,2,2,2,2,1\npiece,0,1,1,1\n",
+        ])
         .to_string();
     for _ in 0..random.between(1, 20) {
         text += random.pick(&words);

@@ -62,14 +62,20 @@ pub struct Job {
 }
 
 impl Job {
-    /// The job text.
+    /// The job text in version 1, which has no gap.
     pub fn text(&self) -> Vec<u8> {
-        let mut text = format!(
-            "job,1,{},{},{}\n",
-            self.rows,
-            self.columns,
-            self.pieces.len()
-        );
+        let (rows, columns, count) = (self.rows, self.columns, self.pieces.len());
+        self.text_after(format!("job,1,{rows},{columns},{count}\n"))
+    }
+
+    /// The job text in version 2.
+    pub fn text_with_gap(&self, gap: usize) -> Vec<u8> {
+        let (rows, columns, count) = (self.rows, self.columns, self.pieces.len());
+        self.text_after(format!("job,2,{rows},{columns},{count},{gap}\n"))
+    }
+
+    /// A first line and the pieces behind it.
+    fn text_after(&self, mut text: String) -> Vec<u8> {
         for (number, piece) in self.pieces.iter().enumerate() {
             text += &piece.text(number);
         }
@@ -91,10 +97,13 @@ impl Job {
     }
 }
 
-/// Every kind of job that is accepted.
+/// Every kind of job that is accepted, first without a gap, then with one.
 pub fn kinds() -> Vec<Kind> {
     let kind = |name, count, make: fn(&mut Random) -> Job| {
         Kind::new(name, count, |random| make(random).text())
+    };
+    let gapped = |name, count, make: fn(&mut Random) -> Job| {
+        Kind::new(name, count, |random| with_gap(random, make))
     };
     vec![
         kind("small", 300, small),
@@ -117,7 +126,64 @@ pub fn kinds() -> Vec<Kind> {
         kind("64 pieces", 60, sixty_four_pieces),
         kind("equal pieces", 60, equal_pieces),
         kind("real size", 30, real_size),
+        gapped("small, gap", 130, small),
+        gapped("tight, gap", 60, tight),
+        gapped("roomy, gap", 60, roomy),
+        gapped("stacked, gap", 20, stacked),
+        gapped("tiled, gap", 30, tiled),
+        gapped("holes, gap", 60, holes),
+        gapped("separate parts, gap", 60, separate_parts),
+        gapped("interlocking, gap", 30, interlocking),
+        gapped("dust, gap", 30, dust),
+        gapped("single pixels, gap", 40, single_pixels),
+        gapped("long strips, gap", 30, long_strips),
+        gapped("far columns, gap", 10, far_columns),
+        gapped("one row, gap", 30, one_row),
+        gapped("one column, gap", 30, one_column),
+        gapped("largest sheets, gap", 20, largest_sheets),
+        gapped("64 pieces, gap", 20, sixty_four_pieces),
+        gapped("equal pieces, gap", 30, equal_pieces),
+        gapped("real size, gap", 10, real_size),
+        Kind::listed("gap at the limits", gap_at_the_limits()),
     ]
+}
+
+/// Any gap that a job may have, mostly a small one.
+pub fn any_gap(random: &mut Random) -> usize {
+    random.pick(&[0, 1, 1, 1, 2, 2, 3, 4, 5, 6, 7, 8, 8])
+}
+
+/// The text of a job with a gap, often on a longer sheet, so that some of them end clear.
+fn with_gap(random: &mut Random, make: fn(&mut Random) -> Job) -> Vec<u8> {
+    let mut job = make(random);
+    let longest = 4096.min(MAX_AREA / job.rows).max(job.columns);
+    job.columns = (job.columns * random.pick(&[2, 2, 3, 5, 8]) / 2).min(longest);
+    job.text_with_gap(any_gap(random))
+}
+
+/// Full pieces of the largest sides that a text has room for, with gaps up to the largest: the depths along the rows are above 255,
+/// and the penalties of the last pair are as large as a program can meet.
+fn gap_at_the_limits() -> Vec<Vec<u8>> {
+    let piece = |&(columns, rows): &(usize, usize)| Piece {
+        shape: shapes::full(columns, rows),
+        turns: 15,
+    };
+    let mut texts = Vec::new();
+    for (rows, columns, boxes) in [
+        (1, 4096, &[(MAX_SIDE, 1); 20][..]),
+        (512, 2, &[(1, MAX_SIDE); 5]),
+        (126, 257, &[(MAX_SIDE, 125); 2]),
+        (256, 256, &[(MAX_SIDE, 124), (124, MAX_SIDE)]),
+    ] {
+        let pieces = boxes.iter().map(piece).collect();
+        let job = Job {
+            rows,
+            columns,
+            pieces,
+        };
+        texts.extend([0, 1, 7, 8].map(|gap| job.text_with_gap(gap)));
+    }
+    texts
 }
 
 /// A number of pieces of the shapes that a maker gives.

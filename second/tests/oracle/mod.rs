@@ -29,11 +29,12 @@ pub struct Place {
     pub corner: Point,
 }
 
-/// Sheet rows, sheet columns and pieces.
+/// Sheet rows, sheet columns, gap and pieces.
 #[derive(Clone, Debug)]
 pub struct Problem {
     pub w: i32,
     pub l: i32,
+    pub g: i32,
     pub panels: Vec<Panel>,
 }
 
@@ -67,21 +68,21 @@ pub fn turned_box(panel: &Panel, turn: i32) -> Point {
     }
 }
 
-/// Whether two pixel sets share a pixel when the second is moved by d.
-pub fn shares(i: &[Point], j: &[Point], d: Point) -> bool {
-    i.iter()
-        .any(|p| j.iter().any(|q| (p.0 - q.0, p.1 - q.1) == d))
+/// Whether two pixel sets conflict when the second is moved by d: a pixel of one is at most g columns and g rows from one of the other.
+pub fn conflicts(g: i32, i: &[Point], j: &[Point], d: Point) -> bool {
+    let near = |p: &Point, q: &Point| (p.0 - q.0 - d.0).abs() <= g && (p.1 - q.1 - d.1).abs() <= g;
+    i.iter().any(|p| j.iter().any(|q| near(p, q)))
 }
 
 /// The depth along a direction: the least |t| that parts the sets.
-pub fn depth(i: &[Point], j: &[Point], d: Point, step: Step) -> u64 {
-    let apart = |t: i32| !shares(i, j, (d.0 + t * step.0, d.1 + t * step.1));
+pub fn depth(g: i32, i: &[Point], j: &[Point], d: Point, step: Step) -> u64 {
+    let apart = |t: i32| !conflicts(g, i, j, (d.0 + t * step.0, d.1 + t * step.1));
     (0..).find(|&t| apart(t) || apart(-t)).unwrap() as u64
 }
 
 /// The smaller of the two depths.
-pub fn penalty(i: &[Point], j: &[Point], d: Point) -> u64 {
-    depth(i, j, d, STEPS[0]).min(depth(i, j, d, STEPS[1]))
+pub fn penalty(g: i32, i: &[Point], j: &[Point], d: Point) -> u64 {
+    depth(g, i, j, d, STEPS[0]).min(depth(g, i, j, d, STEPS[1]))
 }
 
 impl Problem {
@@ -90,7 +91,7 @@ impl Problem {
         let pixels_i = turned(&self.panels[i], layout[i].turn);
         let pixels_j = turned(&self.panels[j], layout[j].turn);
         let (vi, vj) = (layout[i].corner, layout[j].corner);
-        penalty(&pixels_i, &pixels_j, (vj.0 - vi.0, vj.1 - vi.1))
+        penalty(self.g, &pixels_i, &pixels_j, (vj.0 - vi.0, vj.1 - vi.1))
     }
 
     /// All pairs in the order (0,1), (0,2) and so on.
@@ -261,9 +262,13 @@ impl Problem {
         layout
     }
 
-    /// The job text.
+    /// The job text: of version 2 where there is a gap.
     pub fn text(&self) -> String {
-        let mut text = format!("job,1,{},{},{}\n", self.w, self.l, self.panels.len());
+        let (w, l, g, n) = (self.w, self.l, self.g, self.panels.len());
+        let mut text = match g {
+            0 => format!("job,1,{w},{l},{n}\n"),
+            _ => format!("job,2,{w},{l},{n},{g}\n"),
+        };
         for (i, panel) in self.panels.iter().enumerate() {
             text += &format!("piece,{},{},{},{}\n", i, panel.l, panel.w, panel.o);
             for y in 0..panel.w {
@@ -325,6 +330,16 @@ impl Lcg {
         low + ((self.0 >> 33) % (high - low + 1) as u64) as i32
     }
 
+    /// A gap: often none, mostly a small one.
+    pub fn gap(&mut self) -> i32 {
+        match self.range(0, 9) {
+            0..=3 => 0,
+            4..=6 => 1,
+            7 | 8 => self.range(2, 4),
+            _ => self.range(5, 8),
+        }
+    }
+
     /// A tight panel of a box with some percentage of pixels and random turns.
     pub fn panel(&mut self, l: i32, w: i32, percent: i32) -> Panel {
         loop {
@@ -359,7 +374,8 @@ impl Lcg {
             let percent = self.range(30, 100);
             panels.push(self.panel(side_l, side_w, percent));
         }
-        Problem { w, l, panels }
+        let g = self.gap();
+        Problem { w, l, g, panels }
     }
 
     /// A job whose panels cover most of the sheet, so that overlap is hard to avoid.
@@ -377,6 +393,7 @@ impl Lcg {
         Problem {
             w,
             l: longest.max(pixels * 100 / (percent * w)),
+            g: self.gap(),
             panels,
         }
     }

@@ -1,5 +1,5 @@
 -- `job_limits::numbers_in_range` makes the tests of its definition in their order. Assumes nothing.
-use Rattle.list_laws.proofs.Kit.{_≡_, Bool, _&&_, true, needs}
+use Rattle.list_laws.proofs.Kit.{needs}
 use Rattle.list_laws.proofs.Tests.{said-no, said-yes}
 use Rattle.job_limits.proofs.numbers_in_range.Statement.{statement}
 use Rattle.job_limits.proofs.numbers_in_range.Tie as tie
@@ -12,16 +12,29 @@ returns-2 c =
     let at-up-to : tie.After-up-to = search in
     simp (said-yes (at-up-to .up-to .ensures) (c .before .before .if1 .left), said-no (c .before .up-to2 .ensures) (c .if2 .taken))
 
--- after two tests that pass, the third is the answer
-third : (a b : Bool) {c r : Bool} → a ≡ true → b ≡ true → r ≡ c → r ≡ (a && b && c)
-third a b e f g = simp (e, f, g)
-
 returns-3 : tie.Need-returns-3
 returns-3 c =
     let at-else1 : tie.Else1 = search in
     let at-up-to : tie.After-up-to = search in
-    third _ _ (said-yes (at-up-to .up-to .ensures) (at-else1 .if1 .left))
-    (said-yes (c .before .before .up-to2 .ensures) (c .before .if2 .left)) (c .up-to3 .ensures)
+    let at-else2 : tie.Else2 = search in
+    let at-up-to2 : tie.After-up-to2 = search in
+    simp (
+      said-yes (at-up-to .up-to .ensures) (at-else1 .if1 .left),
+      said-yes (at-up-to2 .up-to2 .ensures) (at-else2 .if2 .left),
+      said-no (c .before .up-to3 .ensures) (c .if3 .taken),
+    )
+
+returns-4 : tie.Need-returns-4
+returns-4 c =
+    let at-else1 : tie.Else1 = search in
+    let at-up-to : tie.After-up-to = search in
+    let at-else2 : tie.Else2 = search in
+    let at-up-to2 : tie.After-up-to2 = search in
+    simp (
+      said-yes (at-up-to .up-to .ensures) (at-else1 .if1 .left),
+      said-yes (at-up-to2 .up-to2 .ensures) (at-else2 .if2 .left),
+      said-yes (c .before .before .up-to3 .ensures) (c .before .if3 .left),
+    )
 
 pub numbers-in-range-spec : {M : Type 1} → statement M
-numbers-in-range-spec = tie.close (tie.spec (search needs) returns (search needs) returns-2 (search needs) returns-3)
+numbers-in-range-spec = tie.close (tie.spec (search needs) returns (search needs) returns-2 (search needs) returns-3 returns-4)

@@ -42,7 +42,8 @@ penalties-of-requires c κs =
     let s : tie.Start = search in
     let put : tie.After-put-moved = search in
     let new = laid-drawable (lent s) _ (copied put) in
-    let old = laid-drawable (lent s) _ (s .pre .0) in search
+    let old = laid-drawable (lent s) _ (s .pre .0) in
+    (search, facts (lent s) (s .pre .0 .well) .smallGap)
 
 -- as which a reader sees the copy
 moved-is : (c : tie.After-put-moved) → let s : tie.Start = search in
@@ -61,7 +62,7 @@ filled c =
     let new-whole = sym (copied put .whole) in
     let old-whole = sym (s .pre .0 .whole) in
     subst (λ v. PenaltyTable (jobOf (lent s)) v (s .args .size .count) (c .penalties-of .result)) (moved-is put)
-    (c .penalties-of .ensures (s .args .size) search)
+    (c .penalties-of .ensures search)
 
 total-requires : tie.Need-total-requires
 unfolding jobOf

@@ -156,9 +156,9 @@ returns c =
     let q = placeOf (layoutOf (a .layout .now)) (a .k) in (
       λ size.
           c .depth-below .ensures
-          ∙ same-depth _ _ _ _ _ _ _ _ (a .bound) (one .strips-of .ensures ∙ first both .holds size) (first-corner u)
+          ∙ same-depth (a .gap) _ _ _ _ _ _ _ _ (a .bound) (one .strips-of .ensures ∙ first both .holds size) (first-corner u)
           (two .strips-of2 .ensures ∙ second both .holds size) (second-corner v)
-          ∙ entries-depth (a .direction) (drawnShape size (a .table .now) (a .pixels .now) (a .layout .now) (a .i)) (corner p)
+          ∙ entries-depth (a .gap) (a .direction) (drawnShape size (a .table .now) (a .pixels .now) (a .layout .now) (a .i)) (corner p)
           (drawnShape size (a .table .now) (a .pixels .now) (a .layout .now) (a .k)) (corner q) (a .bound),
       both .draw2 .ensures .0,
     )

@@ -27,7 +27,9 @@ valid : (p : tie.After-enum-told) → let s : tie.Start = search in Laid (lent s
 valid p = let s : tie.Start = search in layout-laid (lent s) (s .args .layout .now) (passed p)
 
 penalties-of-requires : tie.Need-penalties-of-requires
-penalties-of-requires c κs = let s : tie.Start = search in laid-drawable (lent s) (s .args .layout .now) (valid c)
+penalties-of-requires c κs =
+    let s : tie.Start = search in
+    (laid-drawable (lent s) (s .args .layout .now) (valid c), facts (lent s) (valid c .well) .smallGap)
 
 -- the table is that of the job's layout
 filled : (c : tie.After-penalties-of) → let s : tie.Start = search in
@@ -35,7 +37,7 @@ filled : (c : tie.After-penalties-of) → let s : tie.Start = search in
 filled c =
     let s : tie.Start = search in
     let told : tie.After-enum-told = search in
-    c .penalties-of .ensures (s .args .size) (sym (valid told .whole))
+    c .penalties-of .ensures (sym (valid told .whole))
 
 plain-total-requires : tie.Need-plain-total-requires
 plain-total-requires c κs =

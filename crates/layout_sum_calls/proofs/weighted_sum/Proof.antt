@@ -32,7 +32,9 @@ valid : (p : tie.After-enum-told) → let s : tie.Start = search in Weighable (l
 valid p = let s : tie.Start = search in weighted-passed (lent s) (s .args .layout .now) (s .args .weights .now) false false (passed p)
 
 penalties-of-requires : tie.Need-penalties-of-requires
-penalties-of-requires c κs = let s : tie.Start = search in laid-drawable (lent s) (s .args .layout .now) (valid c .laid)
+penalties-of-requires c κs =
+    let s : tie.Start = search in
+    (laid-drawable (lent s) (s .args .layout .now) (valid c .laid), facts (lent s) (valid c .laid .well) .smallGap)
 
 -- the table is that of the job's layout
 filled : (c : tie.After-penalties-of) → let s : tie.Start = search in
@@ -40,7 +42,7 @@ filled : (c : tie.After-penalties-of) → let s : tie.Start = search in
 filled c =
     let s : tie.Start = search in
     let told : tie.After-enum-told = search in
-    c .penalties-of .ensures (s .args .size) (sym (valid told .laid .whole))
+    c .penalties-of .ensures (sym (valid told .laid .whole))
 
 total-requires : tie.Need-total-requires
 unfolding jobOf

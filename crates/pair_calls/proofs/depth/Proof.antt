@@ -1,7 +1,7 @@
 -- `pair_calls::depth` meets its contract: the causes refuse, or none is there and what is measured is the pair's. Assumes nothing.
 use Rattle.list_laws.proofs.Kit.{_∙_, _≡_, subst, sym, ℕ, arith, needs}
 use Rattle.model.specs.Layout.{placeOf, pairDepth}
-use Rattle.model.specs.Overlap.{depth}
+use Rattle.model.specs.Overlap.{conflictDepth}
 use Rattle.pair_measure.proofs.Amounts.{ready-whole, placed-at}
 use Rattle.model.specs.Lent.{Lent, lentBy, jobOf}
 use Rattle.model.specs.Buffer.{layoutOf}
@@ -33,8 +33,11 @@ first-ready p = let told : tie.After-enum-told = search in subst (MeasureReady _
 second-ready : (p : tie.After-place-at2) → let s : tie.Start = search in MeasureReady (s .args .table .now) (s .args .k) (p .place-at2 .result)
 second-ready p = let told : tie.After-enum-told = search in subst (MeasureReady _ _) (sym (p .place-at2 .ensures)) (ready told .second)
 
+cast-gap : tie.Need-cast-gap
+cast-gap c = let told : tie.After-enum-told = search in let g = ready told .gapSmall in omega arith
+
 place-at-requires : tie.Need-place-at-requires
-place-at-requires c κs = ready c .first-place
+place-at-requires c κs = let told : tie.After-enum-told = search in ready told .first-place
 
 place-at-requires-2 : tie.Need-place-at-requires-2
 place-at-requires-2 c κs = let told : tie.After-enum-told = search in ready told .second-place
@@ -43,7 +46,7 @@ placed-depth-requires : tie.Need-placed-depth-requires
 placed-depth-requires c κs =
     let told : tie.After-enum-told = search in
     let first : tie.After-place-at = search in
-    (first-ready first, (second-ready c, (ready told .together, omega arith)))
+    (first-ready first, (second-ready c, (ready told .together, (ready told .gapSmall, omega arith))))
 
 returns : tie.Need-returns
 unfolding depthCall
@@ -54,7 +57,7 @@ returns c =
     )
 
 returns-2 : tie.Need-returns-2
-unfolding depthCall pairDepth
+unfolding depthCall pairDepth jobOf
 returns-2 c =
     let s : tie.Start = search in
     let told : tie.After-enum-told = search in
@@ -68,9 +71,9 @@ returns-2 c =
     let v = layoutOf (a .layout .now) in (
       rw (
         unless-given _ _ (passed told),
-        ready-whole (a .size) (a .table .now) (a .pixels .now) (a .i) p (first-ready first) (a .k) q (second-ready second) (a .direction)
+        ready-whole (a .size .gap) (ready told .gapSmall) (a .size) (a .table .now) (a .pixels .now) (a .i) p (first-ready first) (a .k) q (second-ready second) (a .direction)
             (measured .placed-depth .result) (measured .placed-depth .ensures (a .size))
-            ∙ placed-at (depth (a .direction)) j (a .i) p (placeOf v (a .i)) (a .k) q (placeOf v (a .k))
+            ∙ placed-at (conflictDepth (a .size .gap) (a .direction)) j (a .i) p (placeOf v (a .i)) (a .k) q (placeOf v (a .k))
             (first .place-at .ensures) (second .place-at2 .ensures),
       ),
       λ k e. let same : measured .placed-depth .result ≡ k = cc in omega arith,
@@ -79,4 +82,4 @@ returns-2 c =
 pub depth-spec : {M : Type 1} → statement M
 depth-spec =
     tie.close
-    (tie.spec (search needs) (search needs) (search needs) place-at-requires place-at-requires-2 placed-depth-requires (search needs) returns returns-2)
+    (tie.spec (search needs) (search needs) (search needs) cast-gap place-at-requires place-at-requires-2 placed-depth-requires (search needs) returns returns-2)

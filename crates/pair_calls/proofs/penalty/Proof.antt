@@ -1,7 +1,7 @@
 -- `pair_calls::penalty` meets its contract: the causes refuse, or none is there and what is measured is the pair's. Assumes nothing.
 use Rattle.list_laws.proofs.Kit.{_∙_, _≡_, subst, sym, ℕ, arith, needs}
 use Rattle.model.specs.Layout.{placeOf, pairPenalty}
-use Rattle.model.specs.Overlap.{penalty}
+use Rattle.model.specs.Overlap.{conflictPenalty}
 use Rattle.pair_measure.proofs.Amounts.{placed-at}
 use Rattle.model.specs.Lent.{Lent, lentBy, jobOf}
 use Rattle.model.specs.Buffer.{layoutOf}
@@ -33,8 +33,11 @@ first-ready p = let told : tie.After-enum-told = search in subst (MeasureReady _
 second-ready : (p : tie.After-place-at2) → let s : tie.Start = search in MeasureReady (s .args .table .now) (s .args .k) (p .place-at2 .result)
 second-ready p = let told : tie.After-enum-told = search in subst (MeasureReady _ _) (sym (p .place-at2 .ensures)) (ready told .second)
 
+cast-gap : tie.Need-cast-gap
+cast-gap c = let told : tie.After-enum-told = search in let g = ready told .gapSmall in omega arith
+
 place-at-requires : tie.Need-place-at-requires
-place-at-requires c κs = ready c .first-place
+place-at-requires c κs = let told : tie.After-enum-told = search in ready told .first-place
 
 place-at-requires-2 : tie.Need-place-at-requires-2
 place-at-requires-2 c κs = let told : tie.After-enum-told = search in ready told .second-place
@@ -43,7 +46,7 @@ placed-penalty-requires : tie.Need-placed-penalty-requires
 placed-penalty-requires c κs =
     let told : tie.After-enum-told = search in
     let first : tie.After-place-at = search in
-    (first-ready first, (second-ready c, ready told .together))
+    (first-ready first, (second-ready c, (ready told .together, ready told .gapSmall)))
 
 returns : tie.Need-returns
 unfolding penaltyCall
@@ -54,7 +57,7 @@ returns c =
     )
 
 returns-2 : tie.Need-returns-2
-unfolding penaltyCall pairPenalty
+unfolding penaltyCall pairPenalty jobOf
 returns-2 c =
     let s : tie.Start = search in
     let told : tie.After-enum-told = search in
@@ -68,7 +71,7 @@ returns-2 c =
     let v = layoutOf (a .layout .now) in (
       rw (
         unless-given _ _ (passed told),
-        measured .placed-penalty .ensures (a .size) ∙ placed-at penalty j (a .i) p (placeOf v (a .i)) (a .k) q (placeOf v (a .k))
+        measured .placed-penalty .ensures (a .size) ∙ placed-at (conflictPenalty (a .size .gap)) j (a .i) p (placeOf v (a .i)) (a .k) q (placeOf v (a .k))
             (first .place-at .ensures) (second .place-at2 .ensures),
       ),
       λ k e. let same : measured .placed-penalty .result ≡ k = cc in omega arith,
@@ -77,4 +80,4 @@ returns-2 c =
 pub penalty-spec : {M : Type 1} → statement M
 penalty-spec =
     tie.close
-    (tie.spec (search needs) (search needs) (search needs) place-at-requires place-at-requires-2 placed-penalty-requires (search needs) returns returns-2)
+    (tie.spec (search needs) (search needs) (search needs) cast-gap place-at-requires place-at-requires-2 placed-penalty-requires (search needs) returns returns-2)

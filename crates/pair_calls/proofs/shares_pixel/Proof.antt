@@ -1,10 +1,10 @@
 -- `pair_calls::shares_pixel` meets its contract: the causes refuse, or none is there and what is measured is the pair's. Assumes nothing.
 use Rattle.list_laws.proofs.Kit.{_∙_, ap, subst, sym, ℕ, arith, eqb, needs}
-use Rattle.model.specs.Layout.{placeOf, pairShares}
+use Rattle.model.specs.Layout.{placeOf, pairConflicts}
 use Rattle.model.specs.Piece.{corner}
-use Rattle.model.specs.Overlap.{share}
+use Rattle.model.specs.Overlap.{conflict}
 use Rattle.model.specs.declared.Direction.the-variants.{Horizontal}
-use Rattle.pair_measure.proofs.Amounts.{depth-shares, placed-at}
+use Rattle.pair_measure.proofs.Amounts.{depth-conflicts, placed-at}
 use Rattle.model.specs.Lent.{Lent, lentBy, jobOf}
 use Rattle.model.specs.Buffer.{layoutOf}
 use Rattle.model.specs.Calls.{pairCauses, shareCall}
@@ -35,8 +35,11 @@ first-ready p = let told : tie.After-enum-told = search in subst (MeasureReady _
 second-ready : (p : tie.After-place-at2) → let s : tie.Start = search in MeasureReady (s .args .table .now) (s .args .k) (p .place-at2 .result)
 second-ready p = let told : tie.After-enum-told = search in subst (MeasureReady _ _) (sym (p .place-at2 .ensures)) (ready told .second)
 
+cast-gap : tie.Need-cast-gap
+cast-gap c = let told : tie.After-enum-told = search in let g = ready told .gapSmall in omega arith
+
 place-at-requires : tie.Need-place-at-requires
-place-at-requires c κs = ready c .first-place
+place-at-requires c κs = let told : tie.After-enum-told = search in ready told .first-place
 
 place-at-requires-2 : tie.Need-place-at-requires-2
 place-at-requires-2 c κs = let told : tie.After-enum-told = search in ready told .second-place
@@ -45,7 +48,7 @@ placed-depth-requires : tie.Need-placed-depth-requires
 placed-depth-requires c κs =
     let told : tie.After-enum-told = search in
     let first : tie.After-place-at = search in
-    (first-ready first, (second-ready c, (ready told .together, omega arith)))
+    (first-ready first, (second-ready c, (ready told .together, (ready told .gapSmall, omega arith))))
 
 returns : tie.Need-returns
 unfolding shareCall
@@ -54,7 +57,7 @@ returns c =
     rw (refused-alone _ _ _ (sym (c .before .refusal .given .1) ∙ asked .pair-causes .ensures))
 
 returns-2 : tie.Need-returns-2
-unfolding shareCall pairShares
+unfolding shareCall pairConflicts jobOf
 returns-2 c =
     let s : tie.Start = search in
     let told : tie.After-enum-told = search in
@@ -68,11 +71,11 @@ returns-2 c =
     let v = layoutOf (a .layout .now) in
     rw (
       unless-given _ _ (passed told),
-      ap (λ (n : ℕ). eqb n 1) (measured .placed-depth .ensures (a .size)) ∙ depth-shares Horizontal _ (corner p) _ (corner q)
-          ∙ placed-at share j (a .i) p (placeOf v (a .i)) (a .k) q (placeOf v (a .k)) (first .place-at .ensures) (second .place-at2 .ensures),
+      ap (λ (n : ℕ). eqb n 1) (measured .placed-depth .ensures (a .size)) ∙ depth-conflicts (a .size .gap) Horizontal _ (corner p) _ (corner q)
+          ∙ placed-at (conflict (a .size .gap)) j (a .i) p (placeOf v (a .i)) (a .k) q (placeOf v (a .k)) (first .place-at .ensures) (second .place-at2 .ensures),
     )
 
 pub shares-pixel-spec : {M : Type 1} → statement M
 shares-pixel-spec =
     tie.close
-    (tie.spec (search needs) (search needs) (search needs) place-at-requires place-at-requires-2 placed-depth-requires returns returns-2)
+    (tie.spec (search needs) (search needs) (search needs) cast-gap place-at-requires place-at-requires-2 placed-depth-requires returns returns-2)

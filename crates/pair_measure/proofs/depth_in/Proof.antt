@@ -113,8 +113,8 @@ returns c = λ size.
     let s = entry at-store2 .args in
     let b = behind size at-store2 in
     c .depth-below .ensures
-    ∙ same-depth _ _ _ _ _ _ _ _ (s .bound) (b .first) (at-corner-along .corner-along .ensures) (b .second) (at-corner-along2 .corner-along2 .ensures)
-    ∙ entries-depth (s .direction) (one size at-store2) (corner (s .p)) (two size at-store2) (corner (s .q)) (s .bound)
+    ∙ same-depth (s .gap) _ _ _ _ _ _ _ _ (s .bound) (b .first) (at-corner-along .corner-along .ensures) (b .second) (at-corner-along2 .corner-along2 .ensures)
+    ∙ entries-depth (s .gap) (s .direction) (one size at-store2) (corner (s .p)) (two size at-store2) (corner (s .q)) (s .bound)
 
 pub depth-in-spec : {M : Type 1} → statement M
 depth-in-spec =

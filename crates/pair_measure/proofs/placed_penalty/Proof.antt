@@ -13,7 +13,7 @@ penalty-in-requires c κs =
     let r = s .pre in
     let room = subst (Roomy (s .args .table .now) (s .args .i) (s .args .k)) (sym (made .small-store .ensures))
     (asked .few-strips .ensures (tested .if1 .taken)) in
-    (r .0, (r .1 .0, room))
+    (r .0, (r .1 .0, (r .1 .1 .1, room)))
 
 penalty-in-requires-2 : tie.Need-penalty-in-requires-2
 penalty-in-requires-2 c κs =
@@ -21,8 +21,8 @@ penalty-in-requires-2 c κs =
     let made : tie.After-empty-store = search in
     let r = s .pre in
     let wide = made .empty-store .ensures in
-    let together = r .1 .1 in
-    (r .0, (r .1 .0, omega arith))
+    let together = r .1 .1 .0 in
+    (r .0, (r .1 .0, (r .1 .1 .1, omega arith)))
 
 returns : tie.Need-returns
 returns c = let measured : tie.After-penalty-in = search in measured .penalty-in .ensures

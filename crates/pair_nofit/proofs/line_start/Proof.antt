@@ -16,7 +16,7 @@ loop-holds : tie.Need-loop-holds Inv-loop μ-loop
 loop-holds c = (omega arith, omega arith, λ l a b. absurd (omega arith))
 
 placed-at-requires : tie.Need-placed-at-requires Inv-loop μ-loop
-placed-at-requires c κs = (omega arith, c .before .before .pre .1 .0)
+placed-at-requires c κs = (omega arith, c .before .before .pre .1 .0, omega arith)
 
 returns : tie.Need-returns Inv-loop μ-loop
 returns c =

@@ -6,10 +6,10 @@ use Rattle.pair_nofit.proofs.mark_all.Statement.{statement}
 use Rattle.pair_nofit.proofs.mark_all.Tie as tie
 
 abbrev Inv-loop : tie.InvT-loop
-Inv-loop a u b v far₀ i₀ j₀ far i j = AllSoFar a u b v far₀ far i j
+Inv-loop a u b v gap far₀ i₀ j₀ far i j = AllSoFar gap a u b v far₀ far i j
 
 abbrev μ-loop : tie.MeasureT-loop
-μ-loop a u b v far₀ i₀ j₀ far i j = length a - i
+μ-loop a u b v gap far₀ i₀ j₀ far i j = length a - i
 
 loop-holds : tie.Need-loop-holds Inv-loop μ-loop
 loop-holds c =
@@ -17,7 +17,7 @@ loop-holds c =
     record {
       first = omega arith;
       second = omega arith;
-      grown = grown-none (s .a .now) (s .u) (s .b .now) (s .v) (s .far .now) (c .before .pre .1 .1 .1);
+      grown = grown-none (s .gap) (s .a .now) (s .u) (s .b .now) (s .v) (s .far .now);
       kept = λ k l a b. absurd (omega arith);
       passed = λ k l a b d. absurd (omega arith);
     }
@@ -25,24 +25,23 @@ loop-holds c =
 placed-at-requires : tie.Need-placed-at-requires Inv-loop μ-loop
 placed-at-requires c κs =
     let at-start : tie.Start Inv-loop μ-loop = search in
-    (c .loop-test .taken, at-start .pre .1 .1 .0 .0)
+    (c .loop-test .taken, at-start .pre .1 .1 .0, omega arith)
 
 line-start-requires : tie.Need-line-start-requires Inv-loop μ-loop
 line-start-requires c κs =
     let at-start : tie.Start Inv-loop μ-loop = search in
-    (at-start .pre .1 .0, (at-start .pre .1 .1 .0 .1, c .before .before .loop .inv .second))
+    (at-start .pre .1 .0, (at-start .pre .1 .1 .1, c .before .before .loop .inv .second))
 
 mark-line-requires : tie.Need-mark-line-requires Inv-loop μ-loop
 mark-line-requires c κs =
     let in-loop : tie.In-loop Inv-loop μ-loop = search in
-    let at-loop : tie.At-loop Inv-loop μ-loop = search in
     let at-start : tie.Start Inv-loop μ-loop = search in
     let e = c .before .before .placed-at .ensures .line in
     let r = c .before .line-start .ensures in (
       at-start .pre .1 .0,
       (
         (in-loop .loop-test .taken, r .within),
-        (at-start .pre .1 .1 .0, (λ l a b. omega (arith, r .from l a b), at-loop .loop .inv .grown .sound)),
+        (at-start .pre .1 .1, λ l a b. omega (arith, r .from l a b)),
       ),
     )
 
@@ -66,8 +65,8 @@ loop-again c =
     let at-start : tie.Start Inv-loop μ-loop = search in
     let s = at-start .args in
     let w = at-loop .loop in
-    all-more (s .a .now) (s .u) (s .b .now) (s .v) (at-start .pre .0) (s .far .now) (w .far) (c .before .before .mark-line .last .1 .1 .1 .1 .1 .1 .0) (w .i)
-    (w .j) (at-line-start .line-start .result)
+    all-more (s .gap) (s .a .now) (s .u) (s .b .now) (s .v) (at-start .pre .0) (s .far .now) (w .far)
+    (c .before .before .mark-line .last .1 .1 .1 .1 .1 .1 .1 .0) (w .i) (w .j) (at-line-start .line-start .result)
     (in-loop .loop-test .taken) (at-placed-at .placed-at .result .line) (at-placed-at .placed-at .ensures .line) (w .inv) (at-line-start .line-start .ensures)
     (c .before .before .mark-line .ensures)
 

@@ -7,30 +7,30 @@ use Rattle.pair_nofit.proofs.mark_line.Statement.{statement}
 use Rattle.pair_nofit.proofs.mark_line.Tie as tie
 
 abbrev Inv-loop : tie.InvT-loop
-Inv-loop a i u b from v far₀ j₀ far j =
-    (from ≤ j) × (j ≤ length b) × Grown a u b v far₀ far × ((l : ℕ) → from ≤ l → l < j → MeetingsKept a u b v far i l)
+Inv-loop a i u b from v gap far₀ j₀ far j =
+    (from ≤ j) × (j ≤ length b) × Grown gap a u b v far₀ far × ((l : ℕ) → from ≤ l → l < j → MeetingsKept gap a u b v far i l)
 
 abbrev μ-loop : tie.MeasureT-loop
-μ-loop a i u b from v far₀ j₀ far j = length b - j
+μ-loop a i u b from v gap far₀ j₀ far j = length b - j
 
 loop-holds : tie.Need-loop-holds Inv-loop μ-loop
 loop-holds c =
     let s = c .before .args in (
       omega arith,
       c .before .pre .1 .0 .1,
-      grown-none (s .a .now) (s .u) (s .b .now) (s .v) (s .far .now) (c .before .pre .1 .1 .1 .1),
+      grown-none (s .gap) (s .a .now) (s .u) (s .b .now) (s .v) (s .far .now),
       λ l a b. absurd (omega arith),
     )
 
 placed-at-requires : tie.Need-placed-at-requires Inv-loop μ-loop
 placed-at-requires c κs =
     let at-start : tie.Start Inv-loop μ-loop = search in
-    let p = at-start .pre in (p .1 .0 .0, p .1 .1 .0 .0)
+    let p = at-start .pre in (p .1 .0 .0, p .1 .1 .0 .0, p .1 .1 .0 .2)
 
 placed-at-requires-2 : tie.Need-placed-at-requires-2 Inv-loop μ-loop
 placed-at-requires-2 c κs =
     let at-start : tie.Start Inv-loop μ-loop = search in
-    let p = at-start .pre in (omega arith, p .1 .1 .0 .1)
+    let p = at-start .pre in (omega arith, p .1 .1 .0 .1, p .1 .1 .0 .2)
 
 same-length : tie.Need-same-length Inv-loop μ-loop
 same-length c =
@@ -50,7 +50,7 @@ returns c =
     record {
       grown = w .inv .2;
       kept =
-          line-past (s .a .now) (s .u) (s .b .now) (s .v) (w .far) (s .i) (s .from) (w .j) (w .inv .3)
+          line-past (s .gap) (s .a .now) (s .u) (s .b .now) (s .v) (w .far) (s .i) (s .from) (w .j) (w .inv .3)
           (λ l a b. omega (arith, c .if1 .taken, line-order (s .b .now) (at-start .pre .0) (w .j) l a b));
     }
 
@@ -94,10 +94,10 @@ loop-again c =
     let q = at-placed-at2 .placed-at2 .ensures in
     let l = in-loop .loop-test .taken in
     let more =
-    line-more (s .a .now) (s .u) (s .b .now) (s .v) (s .far .now) (w .far) (s .i) (s .from) (w .j) (at-minus .minus .result) (at-minus2 .minus2 .result)
-    (at-start .pre .1 .0 .0) l
+    line-more (s .gap) (s .a .now) (s .u) (s .b .now) (s .v) (s .far .now) (w .far) (s .i) (s .from) (w .j)
+    (at-minus .minus .result) (at-minus2 .minus2 .result) (at-start .pre .1 .0 .0) l
     (at-placed-at .placed-at .result) (at-placed-at2 .placed-at2 .result) p q
-    (omega (arith, p .line, q .line, at-else1 .if1 .left, at-start .pre .1 .1 .1 .0 (w .j) (w .inv .0) l)) (at-minus .minus .ensures)
+    (omega (arith, p .line, q .line, at-else1 .if1 .left, at-start .pre .1 .1 .1 (w .j) (w .inv .0) l)) (at-minus .minus .ensures)
     (at-minus2 .minus2 .ensures) (w .inv .2) (w .inv .3)
     (c .before .before .keep .last .0) (c .before .before .keep .ensures) in
     (omega (arith, w .inv .0), omega arith, more .0, more .1)

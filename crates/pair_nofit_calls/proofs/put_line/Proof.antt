@@ -4,6 +4,7 @@ use mir.Syntax.{w32}
 use mir.Val.{toZ, ofZ}
 use mir.ValLaws.{toZ-ofZ}
 use Rattle.model.specs.Overlap.{up, down}
+use Rattle.pair_runs.specs.Runs.{offsetCount, farthest}
 use Rattle.pair_nofit_calls.proofs.Lined.{marks-line, line-short, line-room}
 use Rattle.pair_nofit_calls.proofs.put_line.Statement.{statement}
 use Rattle.pair_nofit_calls.proofs.put_line.Tie as tie
@@ -11,7 +12,9 @@ use Rattle.pair_nofit_calls.proofs.put_line.Tie as tie
 mark-shifts-requires : tie.Need-mark-shifts-requires
 mark-shifts-requires c κs =
     let at-start : tie.Start = search in
-    (at-start .pre .0, (at-start .pre .1, (omega (arith, c .before .before .down .ensures), omega (arith, c .before .up .ensures))))
+    let down-small = c .before .before .down .ensures in
+    let up-small = c .before .up .ensures in
+    (at-start .pre .0, (at-start .pre .1 .0, ((omega arith, omega arith), (omega arith, omega arith), at-start .pre .1 .1)))
 
 returns : tie.Need-returns
 returns c =
@@ -22,9 +25,9 @@ returns c =
     let at-start : tie.Start = search in
     let s = at-start .args in
     let e : toZ w32 (ofZ w32 (s .offset)) ≡ s .offset = toZ-ofZ w32 (s .offset) (at-start .fits .offset) in
-    line-short (s .a .now) (s .b .now) (s .offset) _
-    (marks-line (s .a .now) (s .b .now) (s .offset) _ _ _ _ (at-down .down .ensures ∙ ap (λ (z : ℤ). min (down z) 255) e)
-    (at-up .up .ensures ∙ ap (λ (z : ℤ). min (up z) 255) e) (length-replicate {A = ℕ} 509 0) (at-mark-shifts .mark-shifts .ensures)) (s .out .now)
+    line-short (s .gap) (s .a .now) (s .b .now) (s .offset) _
+    (marks-line (s .gap) (s .a .now) (s .b .now) (s .offset) _ _ _ _ (at-down .down .ensures ∙ ap (λ (z : ℤ). min (down z) farthest) e)
+    (at-up .up .ensures ∙ ap (λ (z : ℤ). min (up z) farthest) e) (length-replicate {A = ℕ} offsetCount 0) (at-mark-shifts .mark-shifts .ensures)) (s .out .now)
     (at-put-runs .put-runs .last .1 .0) (at-put-runs .put-runs .result) (at-put-runs .put-runs .ensures)
     (c .before .if1 .taken) (c .plain-refusal .result) (c .plain-refusal .ensures)
 
@@ -38,9 +41,9 @@ returns-2 c =
     let at-start : tie.Start = search in
     let s = at-start .args in
     let e : toZ w32 (ofZ w32 (s .offset)) ≡ s .offset = toZ-ofZ w32 (s .offset) (at-start .fits .offset) in
-    line-room (s .a .now) (s .b .now) (s .offset) _
-    (marks-line (s .a .now) (s .b .now) (s .offset) _ _ _ _ (at-down .down .ensures ∙ ap (λ (z : ℤ). min (down z) 255) e)
-    (at-up .up .ensures ∙ ap (λ (z : ℤ). min (up z) 255) e) (length-replicate {A = ℕ} 509 0) (at-mark-shifts .mark-shifts .ensures)) (s .out .now)
+    line-room (s .gap) (s .a .now) (s .b .now) (s .offset) _
+    (marks-line (s .gap) (s .a .now) (s .b .now) (s .offset) _ _ _ _ (at-down .down .ensures ∙ ap (λ (z : ℤ). min (down z) farthest) e)
+    (at-up .up .ensures ∙ ap (λ (z : ℤ). min (up z) farthest) e) (length-replicate {A = ℕ} offsetCount 0) (at-mark-shifts .mark-shifts .ensures)) (s .out .now)
     (at-put-runs .put-runs .last .1 .0) (at-put-runs .put-runs .result) (at-put-runs .put-runs .ensures)
     (at-else1 .if1 .left) (c .before .put-runs2 .last .1 .0) (c .before .put-runs2 .result) (c .before .put-runs2 .ensures)
 

@@ -10,13 +10,22 @@ clear-below-requires-2 : tie.Need-clear-below-requires-2
 clear-below-requires-2 c κs =
     let s = c .before .args in
     let p = c .before .pre in
-    (p .1 .0, (p .0, ((p .1 .1 .0 .1, p .1 .1 .0 .0), omega (arith, c .clear-below .ensures, clear-within (s .a .now) (s .u) (s .b .now) (s .v) (s .bound)))))
+    let few = p .1 .1 .1 in (
+      p .1 .0,
+      (
+        p .0,
+        (
+          (p .1 .1 .0 .1, p .1 .1 .0 .0),
+          omega (arith, c .clear-below .ensures, clear-within (s .gap) (s .a .now) (s .u) (s .b .now) (s .v) (s .bound)),
+        ),
+      ),
+    )
 
 returns : tie.Need-returns
 returns c =
     let s = c .before .before .args in
-    c .clear-below2 .ensures ∙ ap (clearBelow (s .b .now) (s .v) (s .a .now) (s .u)) (c .before .clear-below .ensures)
-    ∙ clear-cut (s .b .now) (s .v) (s .a .now) (s .u) (s .bound) _ (clear-within (s .a .now) (s .u) (s .b .now) (s .v) (s .bound))
+    c .clear-below2 .ensures ∙ ap (clearBelow (s .gap) (s .b .now) (s .v) (s .a .now) (s .u)) (c .before .clear-below .ensures)
+    ∙ clear-cut (s .gap) (s .b .now) (s .v) (s .a .now) (s .u) (s .bound) _ (clear-within (s .gap) (s .a .now) (s .u) (s .b .now) (s .v) (s .bound))
 
 pub depth-below-spec : {M : Type 1} → statement M
 depth-below-spec = tie.close (tie.spec (λ c κs. search needs) clear-below-requires-2 returns)

@@ -1,4 +1,4 @@
--- `pair_overlap::skip`: a strip that begins 1,280 before a place ends before it also when it is shifted, and so does every earlier one.
+-- `pair_overlap::skip`: a strip that begins 1,288 before a place ends before it also when it is made longer and shifted, and so does every earlier one.
 -- Assumes nothing.
 use Rattle.list_laws.proofs.Kit.{_+_, _-_, _/_, pos-of-ne-zero, arith, length, needs}
 use Rattle.pair_overlap.specs.Meet.{Skipped}

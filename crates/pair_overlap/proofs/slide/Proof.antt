@@ -1,19 +1,19 @@
 -- `pair_overlap::slide`: while nothing was pushed, no two strips that cross are passed, nor any that cross at a shift up to the room; and
 -- each shift smaller than the one so far has two strips that cross: a pair that meets goes on meeting until the shift takes the
--- second strip past the end of the first. Each turn passes a strip. Assumes nothing.
+-- second strip the gap past the end of the first. Each turn passes a strip. Assumes nothing.
 use Rattle.list_laws.proofs.Kit.{_≡_, inl, inr, _+_, _-_, _<_, _≤_, ℕ, arith, length, needs}
 use Rattle.pair_overlap.specs.Meet.{CrossingsPassed, shifted}
-use Rattle.pair_overlap.proofs.Walk.{CrossingFound, pass-first, pass-second, found-shares, passed-free, pushed}
+use Rattle.pair_overlap.proofs.Walk.{CrossingFound, pass-first, pass-second, found-meets, passed-free, pushed}
 use Rattle.pair_overlap.proofs.slide.Statement.{statement}
 use Rattle.pair_overlap.proofs.slide.Tie as tie
 
 abbrev Inv-loop : tie.InvT-loop
-Inv-loop a b limit x y t₀ room₀ i₀ j₀ t room i j =
-    (i ≤ length a) × (j ≤ length b) × (t < limit) × (t ≡ 0 → (m : ℕ) → m ≤ room → CrossingsPassed a x b (y + m) i j)
-    × ((m : ℕ) → m < t → CrossingFound a x b (y + m)) × (room < limit)
+Inv-loop a b gap limit x y t₀ room₀ i₀ j₀ t room i j =
+    (i ≤ length a) × (j ≤ length b) × (t < limit) × (t ≡ 0 → (m : ℕ) → m ≤ room → CrossingsPassed gap a x b (y + m) i j)
+    × ((m : ℕ) → m < t → CrossingFound gap a x b (y + m)) × (room < limit)
 
 abbrev μ-loop : tie.MeasureT-loop
-μ-loop a b limit x y t₀ room₀ i₀ j₀ t room i j = (length a - i) + (length b - j)
+μ-loop a b gap limit x y t₀ room₀ i₀ j₀ t room i j = (length a - i) + (length b - j)
 
 walk-start-requires : tie.Need-walk-start-requires Inv-loop μ-loop
 walk-start-requires c κs =
@@ -30,7 +30,8 @@ loop-holds c =
     let at-start : tie.Start Inv-loop μ-loop = search in
     let w = c .walk-start .ensures in
     let few = at-start .pre .1 .1 .1 in
-    (w .first, w .second, omega arith, λ e m l. w .onwards m (omega arith), λ m l. absurd (omega arith), omega arith)
+    let gap = at-start .args .gap in
+    (w .first, w .second, omega arith, λ e m l. w .onwards gap m (few .0) (omega arith), λ m l. absurd (omega arith), omega arith)
 
 returns : tie.Need-returns Inv-loop μ-loop
 returns c =
@@ -45,11 +46,11 @@ returns c =
       within = omega arith;
       covered =
           λ k l.
-          found-shares (s .a .now) (s .u) (s .b .now) (shifted k (s .v)) (at-base .base .result) (at-base2 .base2 .result + k) (at-base .base .ensures)
-          (omega (arith, at-base2 .base2 .ensures)) (omega arith) (omega arith) (inv .4 k l);
+          found-meets (s .gap) (s .a .now) (s .u) (s .b .now) (shifted k (s .v)) (at-base .base .result) (at-base2 .base2 .result + k) (at-base .base .ensures)
+          (omega (arith, at-base2 .base2 .ensures)) (omega arith) (omega arith) (few .0) (inv .4 k l);
       free =
           λ e k l.
-          passed-free (s .a .now) (s .u) (s .b .now) (shifted k (s .v)) (at-base .base .result) (at-base2 .base2 .result + k) (at-base .base .ensures)
+          passed-free (s .gap) (s .a .now) (s .u) (s .b .now) (shifted k (s .v)) (at-base .base .result) (at-base2 .base2 .result + k) (at-base .base .ensures)
           (omega (arith, at-base2 .base2 .ensures)) _ _ (inr (c .if1 .taken)) (inv .3 e k l);
       short = inv .5;
     }
@@ -87,7 +88,9 @@ loop-again c =
       omega arith,
       omega arith,
       w .inv .2,
-      λ e m l. pass-first (s .a .now) (at-base .base .result) (s .b .now) (at-base2 .base2 .result + m) (w .i) (w .j) (at-start .pre .1 .0) (w .inv .3 e m l)
+      λ e m l.
+          pass-first (s .gap) (s .a .now) (at-base .base .result) (s .b .now) (at-base2 .base2 .result + m) (w .i) (w .j) (at-start .pre .1 .0)
+          (w .inv .3 e m l)
           (omega (arith, c .if2 .taken)),
       w .inv .4,
       w .inv .5,
@@ -126,7 +129,7 @@ loop-again-2 c =
       omega arith,
       w .inv .2,
       λ e m l.
-          pass-second (s .a .now) (at-base .base .result) (s .b .now) (at-base2 .base2 .result + m) (w .i) (w .j) (at-start .pre .0)
+          pass-second (s .gap) (s .a .now) (at-base .base .result) (s .b .now) (at-base2 .base2 .result + m) (w .i) (w .j) (at-start .pre .0)
           (w .inv .3 e m (omega arith))
           (omega arith),
       w .inv .4,
@@ -163,7 +166,7 @@ returns-2 c =
     let s = at-start .args in
     let w = at-loop .loop in
     let found =
-    pushed (s .a .now) (at-base .base .result) (s .b .now) (at-base2 .base2 .result) (w .t) (w .i) (w .j) (omega arith) (omega arith) (omega arith)
+    pushed (s .gap) (s .a .now) (at-base .base .result) (s .b .now) (at-base2 .base2 .result) (w .t) (w .i) (w .j) (omega arith) (omega arith) (omega arith)
     (omega arith)
     (record { firstBefore = omega (arith, at-else3 .if3 .left); secondBefore = omega (arith, at-else2 .if2 .left) }) (w .inv .4) in
     let near = at-start .pre .1 .1 .0 in
@@ -172,8 +175,8 @@ returns-2 c =
       within = omega arith;
       covered =
           λ k l.
-          found-shares (s .a .now) (s .u) (s .b .now) (shifted k (s .v)) (at-base .base .result) (at-base2 .base2 .result + k) (at-base .base .ensures)
-          (omega (arith, at-base2 .base2 .ensures)) (omega arith) (omega arith) (found k (omega (arith, c .if4 .taken)));
+          found-meets (s .gap) (s .a .now) (s .u) (s .b .now) (shifted k (s .v)) (at-base .base .result) (at-base2 .base2 .result + k) (at-base .base .ensures)
+          (omega (arith, at-base2 .base2 .ensures)) (omega arith) (omega arith) (few .0) (found k (omega (arith, c .if4 .taken)));
       free = λ e. absurd (omega arith);
       short = w .inv .5;
     }
@@ -193,7 +196,7 @@ loop-again-3 c =
     let s = at-start .args in
     let w = at-loop .loop in
     let found =
-    pushed (s .a .now) (at-base .base .result) (s .b .now) (at-base2 .base2 .result) (w .t) (w .i) (w .j) (omega arith) (omega arith) (omega arith)
+    pushed (s .gap) (s .a .now) (at-base .base .result) (s .b .now) (at-base2 .base2 .result) (w .t) (w .i) (w .j) (omega arith) (omega arith) (omega arith)
     (omega arith)
     (record { firstBefore = omega (arith, at-else3 .if3 .left); secondBefore = omega (arith, at-else2 .if2 .left) }) (w .inv .4) in (
       omega arith,
@@ -217,11 +220,11 @@ returns-3 c =
       within = omega arith;
       covered =
           λ k l.
-          found-shares (s .a .now) (s .u) (s .b .now) (shifted k (s .v)) (at-base .base .result) (at-base2 .base2 .result + k) (at-base .base .ensures)
-          (omega (arith, at-base2 .base2 .ensures)) (omega arith) (omega arith) (inv .4 k l);
+          found-meets (s .gap) (s .a .now) (s .u) (s .b .now) (shifted k (s .v)) (at-base .base .result) (at-base2 .base2 .result + k) (at-base .base .ensures)
+          (omega (arith, at-base2 .base2 .ensures)) (omega arith) (omega arith) (few .0) (inv .4 k l);
       free =
           λ e k l.
-          passed-free (s .a .now) (s .u) (s .b .now) (shifted k (s .v)) (at-base .base .result) (at-base2 .base2 .result + k) (at-base .base .ensures)
+          passed-free (s .gap) (s .a .now) (s .u) (s .b .now) (shifted k (s .v)) (at-base .base .result) (at-base2 .base2 .result + k) (at-base .base .ensures)
           (omega (arith, at-base2 .base2 .ensures)) _ _ (inl (c .loop-test .left)) (inv .3 e k l);
       short = inv .5;
     }

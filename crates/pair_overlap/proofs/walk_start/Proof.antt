@@ -1,8 +1,8 @@
--- `pair_overlap::walk_start`: strips that end before the other stretch begins cross none of its strips, also when the second is shifted.
+-- `pair_overlap::walk_start`: strips that end before the other stretch begins cross none of its strips, whatever the gap, also when the second is shifted.
 -- Assumes nothing.
 use Rattle.list_laws.proofs.Kit.{subst, ℕ, arith, needs}
 use Rattle.pair_overlap.specs.Meet.{Skipped}
-use Rattle.pair_overlap.proofs.Walk.{first-skipped, second-skipped, first-onwards, second-onwards}
+use Rattle.pair_overlap.proofs.Walk.{first-onwards, second-onwards}
 use Rattle.pair_overlap.proofs.walk_start.Statement.{statement}
 use Rattle.pair_overlap.proofs.walk_start.Tie as tie
 
@@ -16,8 +16,7 @@ returns-2 c =
     record {
       first = c .before .skip .ensures .within;
       second = omega arith;
-      passed = first-skipped (s .a .now) (s .x) (s .b .now) (s .y) i 0 o w;
-      onwards = λ m l. first-onwards (s .a .now) (s .x) (s .b .now) (s .y) i 0 o w m;
+      onwards = λ g m few l. first-onwards g few (s .a .now) (s .x) (s .b .now) (s .y) i 0 o w m;
     }
 
 returns-3 : tie.Need-returns-3
@@ -35,12 +34,10 @@ returns-3 c =
     record {
       first = at-skip .skip .ensures .within;
       second = c .skip2 .ensures .within;
-      passed =
-          second-skipped (s .a .now) (s .x) (s .b .now) (s .y) i j o (first-skipped (s .a .now) (s .x) (s .b .now) (s .y) i j o′ w) v;
       onwards =
-          λ m l.
-          second-onwards (s .a .now) (s .x) (s .b .now) (s .y) i j o v m l
-          (first-onwards (s .a .now) (s .x) (s .b .now) (s .y) i j o′ w m);
+          λ g m few l.
+          second-onwards g few (s .a .now) (s .x) (s .b .now) (s .y) i j o v m l
+          (first-onwards g few (s .a .now) (s .x) (s .b .now) (s .y) i j o′ w m);
     }
 
 pub walk-start-spec : {M : Type 1} → statement M

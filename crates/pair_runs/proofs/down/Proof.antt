@@ -12,13 +12,13 @@ returns : tie.Need-returns
 returns c =
     let o = c .before .args .o in
     let e : toZ w32 (ofZ w32 o) ≡ o = toZ-ofZ w32 o (c .before .fits .o) in
-    subst (λ (z : ℤ). 0 ≡ min (down z) 255) e (down-none (toZ w32 (ofZ w32 o)) (c .if1 .taken))
+    subst (λ (z : ℤ). 0 ≡ min (down z) 263) e (down-none (toZ w32 (ofZ w32 o)) (c .if1 .taken))
 
 returns-2 : tie.Need-returns-2
 returns-2 c =
     let o = c .before .before .args .o in
     let e : toZ w32 (ofZ w32 o) ≡ o = toZ-ofZ w32 o (c .before .before .fits .o) in
-    subst (λ (z : ℤ). 255 ≡ min (down z) 255) e (down-far (toZ w32 (ofZ w32 o)) (c .if2 .taken))
+    subst (λ (z : ℤ). 263 ≡ min (down z) 263) e (down-far (toZ w32 (ofZ w32 o)) (c .if2 .taken))
 
 sub-result : tie.Need-sub-result
 sub-result c =
@@ -41,7 +41,7 @@ returns-3 c =
     let e : toZ w32 (ofZ w32 o) ≡ o = toZ-ofZ w32 o (c .before .before .fits .o) in
     let z = toZ w32 (ofZ w32 o) in
     let n : NearOffset z = down-near z (c .before .if1 .left) (c .if2 .left) in
-    ap natAbs (toZ-ofZ w32 (pos 0 -ℤ z) (n .fits)) ∙ n .is ∙ ap (λ (y : ℤ). min (down y) 255) e
+    ap natAbs (toZ-ofZ w32 (pos 0 -ℤ z) (n .fits)) ∙ n .is ∙ ap (λ (y : ℤ). min (down y) 263) e
 
 pub down-spec : {M : Type 1} → statement M
 down-spec = tie.close (tie.spec returns returns-2 sub-result cast-result returns-3)

@@ -12,13 +12,13 @@ returns : tie.Need-returns
 returns c =
     let o = c .before .args .o in
     let e : toZ w32 (ofZ w32 o) ≡ o = toZ-ofZ w32 o (c .before .fits .o) in
-    subst (λ (z : ℤ). 0 ≡ min (up z) 255) e (up-none (toZ w32 (ofZ w32 o)) (c .if1 .taken))
+    subst (λ (z : ℤ). 0 ≡ min (up z) 263) e (up-none (toZ w32 (ofZ w32 o)) (c .if1 .taken))
 
 returns-2 : tie.Need-returns-2
 returns-2 c =
     let o = c .before .before .args .o in
     let e : toZ w32 (ofZ w32 o) ≡ o = toZ-ofZ w32 o (c .before .before .fits .o) in
-    subst (λ (z : ℤ). 255 ≡ min (up z) 255) e (up-far (toZ w32 (ofZ w32 o)) (c .if2 .taken))
+    subst (λ (z : ℤ). 263 ≡ min (up z) 263) e (up-far (toZ w32 (ofZ w32 o)) (c .if2 .taken))
 
 cast-result : tie.Need-cast-result
 cast-result c =
@@ -31,7 +31,7 @@ returns-3 : tie.Need-returns-3
 returns-3 c =
     let o = c .before .before .args .o in
     let e : toZ w32 (ofZ w32 o) ≡ o = toZ-ofZ w32 o (c .before .before .fits .o) in
-    up-near (toZ w32 (ofZ w32 o)) (c .before .if1 .left) (c .if2 .left) ∙ ap (λ (z : ℤ). min (up z) 255) e
+    up-near (toZ w32 (ofZ w32 o)) (c .before .if1 .left) (c .if2 .left) ∙ ap (λ (z : ℤ). min (up z) 263) e
 
 pub up-spec : {M : Type 1} → statement M
 up-spec = tie.close (tie.spec returns returns-2 cast-result returns-3)

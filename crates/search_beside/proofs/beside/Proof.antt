@@ -4,12 +4,12 @@ use Rattle.search_beside.proofs.beside.Statement.{statement}
 use Rattle.search_beside.proofs.beside.Tie as tie
 
 returns : tie.Need-returns
-returns c = λ size pixels.
+returns c = λ pixels.
     let a = c .before .before .args in
     let s = c .standing-of in
     let d = c .before .direction-of in
     record {
-      is = rw (d .ensures) at (s .ensures .0 size pixels);
+      is = rw (d .ensures) at (s .ensures .0 pixels);
       small = s .ensures .1;
     }
 

@@ -14,7 +14,7 @@ keep-line-requires c κs =
     let e : tie.Start = search in
     let a = e .args in (
       line-asked (lent e) (a .run) (a .strips .now) (a .starts .now) (a .lines .now) (a .maps .now) (a .sweep .mover) (a .sweep .track) (a .standing) (a .k)
-          (e .pre .0) (e .pre .1 .0) (e .pre .1 .1 .0) (e .pre .1 .1 .1 .1),
+          (e .pre .0) (e .pre .1 .0) (e .pre .1 .1 .0 .0) (e .pre .1 .1 .0 .1 .1) (e .pre .1 .1 .1),
       (e .pre .0 .fit, e .pre .0 .kept),
     )
 
@@ -26,10 +26,10 @@ returns c =
     let a = e .args in
     let x = k .keep-line in (
       line-read (lent e) (a .run) (a .strips .now) (a .starts .now) (a .lines .now) (a .maps .now) (a .sweep .mover) (a .sweep .track) (a .standing) (a .k)
-          (e .pre .0) (e .pre .1 .0) (e .pre .1 .1 .0) (d .direction-of .result) (d .direction-of .ensures) (e .pre .1 .1 .1 .0) _ (x .result) (x .ensures .0)
+          (e .pre .0) (e .pre .1 .0) (e .pre .1 .1 .0 .0) (d .direction-of .result) (d .direction-of .ensures) (e .pre .1 .1 .0 .1 .0) _ (x .result) (x .ensures .0)
           (x .ensures .1 .0),
       line-ready (lent e) (a .run) (a .strips .now) (a .starts .now) (a .lines .now) (a .maps .now) (a .sweep .mover) (a .sweep .track) (a .standing) (a .k)
-          (e .pre .0) (e .pre .1 .0) (e .pre .1 .1 .0) _ _ (x .ensures .1 .1 .0) (x .ensures .1 .1 .1),
+          (e .pre .0) (e .pre .1 .0) (e .pre .1 .1 .0 .0) _ _ (x .ensures .1 .1 .0) (x .ensures .1 .1 .1),
     )
 
 pub line-with-spec : {M : Type 1} → statement M

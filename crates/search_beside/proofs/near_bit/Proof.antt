@@ -11,10 +11,10 @@ use Rattle.search_beside.proofs.near_bit.Tie as tie
 meets-across-requires : tie.Need-meets-across-requires
 meets-across-requires c κs =
     let at-start : tie.Start = search in
-    (at-start .pre .0, c .beside .ensures (record { columns = 0; rows = 0; count = 0 }) [] .small)
+    (at-start .pre .0, c .beside .ensures [] .small)
 
 returns : tie.Need-returns
-returns c = (omega arith, λ size pixels track e. absurd (omega arith))
+returns c = (omega arith, λ pixels track e. absurd (omega arith))
 
 returns-2 : tie.Need-returns-2
 returns-2 c =
@@ -23,9 +23,9 @@ returns-2 c =
     let at-meets : tie.After-meets-across = search in
     let a = at-start .args in (
       omega arith,
-      λ size pixels track e x.
-          apart-zero (lentBy size (a .table .now) pixels) (layoutOf (a .layout .now)) (a .mover) (a .track) (at-beside .beside .result) (a .k) track
-          (at-beside .beside .ensures size pixels) x (at-meets .meets-across .ensures .apart (c .if1 .left) x),
+      λ pixels track e x.
+          apart-zero (lentBy (a .size) (a .table .now) pixels) (layoutOf (a .layout .now)) (a .mover) (a .track) (at-beside .beside .result) (a .k) track
+          (at-beside .beside .ensures pixels) x (at-meets .meets-across .ensures .apart (c .if1 .left) x),
     )
 
 pub near-bit-spec : {M : Type 1} → statement M

@@ -23,15 +23,15 @@ near-bit-requires : tie.Need-near-bit-requires Inv-loop μ-loop
 near-bit-requires c κs =
     let at-start : tie.Start Inv-loop μ-loop = search in
     let at-in : tie.Then1 Inv-loop μ-loop = search in
-    let p = at-start .pre .1 in
+    let p = at-start .pre .1 .0 in
     let t = at-in .if1 .taken in
-    (at-start .pre .0, (omega arith, omega arith))
+    (at-start .pre .0, ((omega arith, omega arith), at-start .pre .1 .1))
 
 shl-near : tie.Need-shl-near Inv-loop μ-loop
 shl-near c =
     let at-start : tie.Start Inv-loop μ-loop = search in
     let at-in : tie.Then1 Inv-loop μ-loop = search in
-    let p = at-start .pre .1 in
+    let p = at-start .pre .1 .0 in
     let t = at-in .if1 .taken in
     omega arith
 
@@ -39,7 +39,7 @@ add-k : tie.Need-add-k Inv-loop μ-loop
 add-k c =
     let at-start : tie.Start Inv-loop μ-loop = search in
     let at-in : tie.Then1 Inv-loop μ-loop = search in
-    let p = at-start .pre .1 in
+    let p = at-start .pre .1 .0 in
     let t = at-in .if1 .taken in
     omega arith
 
@@ -58,12 +58,12 @@ loop-again c =
     let a = at-start .args in
     let o = at-loop .loop in
     let t = at-in .if1 .taken in
-    let p = at-start .pre .1 in
+    let p = at-start .pre .1 .0 in
     let b = at-near-bit .near-bit in (
       omega arith,
       λ pixels on.
           near-more (jobOf (lentBy (a .size) (a .table .now) pixels)) (layoutOf (a .layout .now)) (a .mover) (o .k) (o .near) (b .result) (omega arith)
-          (b .ensures .0) (o .inv .1 pixels on) (b .ensures .1 (a .size) pixels on),
+          (b .ensures .0) (o .inv .1 pixels on) (b .ensures .1 pixels on),
     )
 
 returns : tie.Need-returns Inv-loop μ-loop

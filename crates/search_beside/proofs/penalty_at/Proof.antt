@@ -2,6 +2,7 @@
 use Rattle.list_laws.proofs.Kit.{_≡_, sym, inl, inr, List, _+_, _-_, _<_, _≤_, ℕ, arith, getD, length, needs}
 use Rattle.model.specs.Lent.{lentBy, jobOf}
 use Rattle.model.specs.Buffer.{layoutOf}
+use Rattle.job_laws.proofs.Checked.{facts}
 use Rattle.search_beside.specs.Reading.{moverPenalty}
 use Rattle.search_beside.proofs.Readings.{piece-entries, reach-within, reach-at}
 use Rattle.search_beside.proofs.Outside.{outside-zero}
@@ -13,7 +14,7 @@ beside-requires c κs =
     let at-start : tie.Start = search in
     let a = at-start .args in
     let l = lentBy (a .run .size) (a .table .now) (a .pixels .now) in
-    piece-entries l (a .layout .now) (a .k) (at-start .pre .1 .0) (at-start .pre .1 .1 .1 .0)
+    (piece-entries l (a .layout .now) (a .k) (at-start .pre .1 .0) (at-start .pre .1 .1 .1 .0 .0), facts l (at-start .pre .0 .well) .smallGap)
 
 reach-of-requires : tie.Need-reach-of-requires
 reach-of-requires c κs =
@@ -21,7 +22,7 @@ reach-of-requires c κs =
     let a = at-start .args in
     let l = lentBy (a .run .size) (a .table .now) (a .pixels .now) in
     let b = c .beside in
-    (at-start .pre .1 .1 .0 .small, (b .ensures (a .run .size) (a .pixels .now) .small, at-start .pre .1 .1 .0 .some))
+    (at-start .pre .1 .1 .0 .small, (b .ensures (a .pixels .now) .small, at-start .pre .1 .1 .0 .some))
 
 returns : tie.Need-returns
 returns c =
@@ -31,7 +32,7 @@ returns c =
     let b = c .before .before .beside in
     let r = c .before .reach-of in (
       sym (outside-zero l (layoutOf (a .layout .now)) (a .sweep .mover) (a .sweep .track) (b .result) (a .k)
-          (at-start .pre .1 .1 .0) (b .ensures (a .run .size) (a .pixels .now))
+          (at-start .pre .1 .1 .0) (b .ensures (a .pixels .now))
           (r .result) (r .ensures) (a .at) (at-start .pre .1 .1 .1 .1) (inl (c .if1 .taken))),
       at-start .pre .0,
     )
@@ -45,17 +46,21 @@ returns-2 c =
     let b = at-beside .beside in
     let r = c .before .before .reach-of in (
       sym (outside-zero l (layoutOf (a .layout .now)) (a .sweep .mover) (a .sweep .track) (b .result) (a .k)
-          (at-start .pre .1 .1 .0) (b .ensures (a .run .size) (a .pixels .now))
+          (at-start .pre .1 .1 .0) (b .ensures (a .pixels .now))
           (r .result) (r .ensures) (a .at) (at-start .pre .1 .1 .1 .1) (inr (c .if2 .taken))),
       at-start .pre .0,
     )
+
+-- the entry, from where it is known which pieces stand beside the line
+abbrev begun : tie.After-beside → tie.Start
+begun c = search
 
 line-with-requires : tie.Need-line-with-requires
 line-with-requires c κs =
     let at-else1 : tie.Else1 = search in
     let at-reach-of : tie.After-reach-of = search in
     let at-beside : tie.After-beside = search in
-    let at-start : tie.Start = search in
+    let at-start = begun at-beside in
     let a = at-start .args in
     let l = lentBy (a .run .size) (a .table .now) (a .pixels .now) in
     let b = at-beside .beside in
@@ -64,7 +69,7 @@ line-with-requires c κs =
     let at-else2 : tie.Else2 = search in
     let high = at-else2 .if2 .left in
     let t = r .ensures .touching (omega arith) in
-    (at-start .pre .0, (at-start .pre .1 .1 .0, (at-start .pre .1 .1 .1 .0, (t .lifted, t .near))))
+    (at-start .pre .0, (at-start .pre .1 .1 .0, ((at-start .pre .1 .1 .1 .0 .0, (t .lifted, t .near)), at-start .pre .1 .1 .1 .0 .1)))
 
 -- the entry and the reach, from where the line stands
 abbrev entry : tie.After-line-with → tie.Start
@@ -95,7 +100,7 @@ within c =
     let t = r .ensures .touching (omega arith) in
     let w = c .line-with in
     let h = reach-within l (layoutOf (a .layout .now)) (a .sweep .mover) (a .sweep .track) (b .result) (a .k) (r .result) (line c) (w .result) (e .pre .1 .1 .0)
-    (b .ensures (a .run .size) (a .pixels .now)) t (w .ensures .0 _ (b .ensures (a .run .size) (a .pixels .now))) in
+    (b .ensures (a .pixels .now)) t (w .ensures .0 _ (b .ensures (a .pixels .now))) in
     (omega arith, w .ensures .1 .fit .fits)
 
 add-from : tie.Need-add-from
@@ -127,7 +132,7 @@ read c =
     let t = r .ensures .touching (omega arith) in
     let w = c .line-with in
     reach-at l (layoutOf (a .layout .now)) (a .sweep .mover) (a .sweep .track) (b .result) (a .k) (r .result) (line c) (w .result)
-    (e .pre .1 .1 .0) (b .ensures (a .run .size) (a .pixels .now)) t (w .ensures .0 _ (b .ensures (a .run .size) (a .pixels .now))) (a .at) low high
+    (e .pre .1 .1 .0) (b .ensures (a .pixels .now)) t (w .ensures .0 _ (b .ensures (a .pixels .now))) (a .at) low high
 
 returns-3 : tie.Need-returns-3
 returns-3 c = let at-line-with : tie.After-line-with = search in (read at-line-with, at-line-with .line-with .ensures .1)

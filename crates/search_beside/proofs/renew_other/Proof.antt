@@ -21,6 +21,13 @@ returns c =
       at-start .pre .0,
     )
 
+penalty-at-requires : tie.Need-penalty-at-requires
+penalty-at-requires c κs =
+    let at-start : tie.Start = search in
+    let at-else1 : tie.Else1 = search in
+    let p = at-start .pre .1 .1 .1 .0 in
+    (at-start .pre .0, (at-start .pre .1 .0, (at-start .pre .1 .1 .0, ((p .0, λ q. at-else1 .if1 .left (sym q)), p .1))))
+
 mul-penalties : tie.Need-mul-penalties
 mul-penalties c =
     let at-start : tie.Start = search in
@@ -96,5 +103,5 @@ returns-2 c =
 pub renew-other-spec : {M : Type 1} → statement M
 renew-other-spec =
     tie.close (tie.spec
-    returns (λ c κs. search needs) mul-penalties add-penalties slice-write-penalties mul-penalties-2 add-penalties-2
+    returns penalty-at-requires mul-penalties add-penalties slice-write-penalties mul-penalties-2 add-penalties-2
     slice-write-penalties-2 (search needs) (search needs) (search needs) returns-2)

@@ -1,5 +1,5 @@
 -- `search_columns::far_gap` meets its contract: words are read until one has a clear bit. Assumes nothing.
-use Rattle.list_laws.proofs.Kit.{_≡_, subst, _-_, arith}
+use Rattle.list_laws.proofs.Kit.{_≡_, subst, _*_, _-_, arith, length}
 use Rattle.search_columns.specs.Column.{Walled}
 use Rattle.search_columns.proofs.Gaps.{GapGoing, gap-start, gap-next, gap-end}
 use Rattle.search_columns.proofs.far_gap.Statement.{statement}
@@ -9,7 +9,7 @@ abbrev Inv-loop : tie.InvT-loop
 Inv-loop ws p n₀ k₀ n k = (h : Walled ws p) → GapGoing ws p h n k
 
 abbrev μ-loop : tie.MeasureT-loop
-μ-loop ws p n₀ k₀ n k = 256 - n
+μ-loop ws p n₀ k₀ n k = length ws * 64 - n
 
 gap-within-requires : tie.Need-gap-within-requires Inv-loop μ-loop
 gap-within-requires c κs =
@@ -37,7 +37,7 @@ add-n : tie.Need-add-n Inv-loop μ-loop
 add-n c =
     let at-start : tie.Start Inv-loop μ-loop = search in
     let h = at-start .pre in
-    omega (arith, going c h .near, h .few)
+    omega (arith, going c h .near, h .high, h .room)
 
 gap-within-requires-2 : tie.Need-gap-within-requires-2 Inv-loop μ-loop
 gap-within-requires-2 c κs =
@@ -51,7 +51,7 @@ loop-less c =
     let at-start : tie.Start Inv-loop μ-loop = search in
     let at-in : tie.In-loop Inv-loop μ-loop = search in
     let h = at-start .pre in
-    omega (arith, going at-in h .near, h .few)
+    omega (arith, going at-in h .near, h .high)
 
 loop-again : tie.Need-loop-again Inv-loop μ-loop
 loop-again c =
@@ -63,7 +63,7 @@ add-result : tie.Need-add-result Inv-loop μ-loop
 add-result c =
     let at-start : tie.Start Inv-loop μ-loop = search in
     let h = at-start .pre in
-    omega (arith, c .before .loop .inv h .near, h .few)
+    omega (arith, c .before .loop .inv h .near, h .high, h .room)
 
 returns : tie.Need-returns Inv-loop μ-loop
 returns c =

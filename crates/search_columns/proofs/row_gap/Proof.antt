@@ -15,10 +15,8 @@ returns c =
     let at-start : tie.Start = search in
     let at-near-gap : tie.After-near-gap = search in
     let at-smaller : tie.After-smaller = search in
-    let a = at-start .args in (
-      near-within (a .ws .now) (a .p) (a .bound) _ _ (omega arith) (at-near-gap .near-gap .ensures) (at-smaller .smaller .ensures) (omega arith),
-      omega arith,
-    )
+    let a = at-start .args in
+    near-within (a .ws .now) (a .p) (a .bound) _ _ (omega arith) (at-near-gap .near-gap .ensures) (at-smaller .smaller .ensures) (omega arith)
 
 far-gap-requires : tie.Need-far-gap-requires
 far-gap-requires c κs = let at-start : tie.Start = search in at-start .pre
@@ -28,9 +26,8 @@ returns-2 c =
     let at-start : tie.Start = search in
     let at-far-gap : tie.After-far-gap = search in
     let a = at-start .args in
-    let h = at-far-gap .far-gap .ensures in
     let e = c .smaller2 .ensures in
-    (rw e (far-within _ (a .bound) _ (h .0)), omega (arith, h .1))
+    rw e (far-within _ (a .bound) _ (at-far-gap .far-gap .ensures))
 
 pub row-gap-spec : {M : Type 1} → statement M
 row-gap-spec = tie.close (tie.spec near-gap-requires (search needs) returns far-gap-requires (search needs) returns-2)

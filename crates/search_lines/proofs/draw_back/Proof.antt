@@ -12,13 +12,13 @@ abbrev lent : tie.Start → Lent
 lent c = lentBy (c .args .size) (c .args .table .now) (c .args .pixels .now)
 
 -- the line fits beside the store
-few : (e : tie.Start) → linePlaces (e .args .direction) (movedShape (lent e) (e .args .two)) (standingShape (lent e) (e .args .two)) ≤ 512
+few : (e : tie.Start) → linePlaces (e .args .direction) (movedShape (lent e) (e .args .two)) (standingShape (lent e) (e .args .two)) ≤ 526
 few e = places-few (lent e) (e .args .two) (asked-named (lent e) _ _ (e .args .two) (e .pre .0)) (e .args .direction)
 
 draw-line-requires : tie.Need-draw-line-requires
 draw-line-requires c κs =
     let e : tie.Start = search in
-    let n = length-replicate {A = ℕ} 512 0 in
+    let n = length-replicate {A = ℕ} 526 0 in
     let h = few e in
     (e .pre .0, (omega arith, (omega arith, e .pre .1 .1 .1)))
 
@@ -36,12 +36,12 @@ counted : (c : tie.After-draw-line)
     let a = entry c .args in
     let l = lent (entry c) in
     (c .draw-line .result ≡ linePlaces (a .direction) (movedShape l (a .two)) (standingShape l (a .two)))
-    × (c .draw-line .result ≤ length (drawn c)) × (length (drawn c) ≡ 512) × (a .at + c .draw-line .result ≤ length (a .lines .now))
+    × (c .draw-line .result ≤ length (drawn c)) × (length (drawn c) ≡ 526) × (a .at + c .draw-line .result ≤ length (a .lines .now))
     × (length (a .lines .now) ≤ 524288)
 counted c =
     let e = entry c in
     let n = c .draw-line .ensures .1 .1 in
-    let long : length (drawn c) ≡ 512 = c .draw-line .kept .1 .1 .1 .1 .1 .1 .1 .1 .0 ∙ length-replicate {A = ℕ} 512 0 in
+    let long : length (drawn c) ≡ 526 = c .draw-line .kept .1 .1 .1 .1 .1 .1 .1 .1 .0 ∙ length-replicate {A = ℕ} 526 0 in
     let h = few e in
     let room = e .pre .1 .0 in
     (n, omega arith, long, omega arith, e .pre .1 .1 .0)

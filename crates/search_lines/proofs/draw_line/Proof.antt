@@ -5,7 +5,8 @@ use Rattle.model.specs.Lent.{Lent, lentBy}
 use Rattle.model.specs.declared.Direction.the-variants.{Horizontal}
 use Rattle.search_maps.specs.Map.{sidesOf, SidesFit, MapOf}
 use Rattle.search_lines.specs.Making.{movedShape, standingShape}
-use Rattle.search_lines.proofs.Making.{moved-entry, standing-entry, sides-made, sides-byte, line-places, found-within, found-map, found-bordered, made}
+use Rattle.search_lines.proofs.Making.{moved-entry, standing-entry, gap-few, sides-made, sides-byte, line-places}
+use Rattle.search_lines.proofs.Making.{found-within, found-map, found-bordered, made}
 use Rattle.search_lines.proofs.draw_line.Statement.{statement}
 use Rattle.search_lines.proofs.draw_line.Tie as tie
 
@@ -16,7 +17,9 @@ lent c = lentBy (c .args .size) (c .args .table .now) (c .args .pixels .now)
 sides-of-requires : tie.Need-sides-of-requires
 sides-of-requires c κs =
     let at-start : tie.Start = search in
-    (moved-entry (lent at-start) _ _ (at-start .args .two) (at-start .pre .0), standing-entry (lent at-start) _ _ (at-start .args .two) (at-start .pre .0))
+    let two = at-start .args .two in
+    let asked = at-start .pre .0 in
+    (moved-entry (lent at-start) _ _ two asked, standing-entry (lent at-start) _ _ two asked, gap-few (lent at-start) _ _ two asked)
 
 -- the entry, from where the sides are known
 abbrev entry : tie.After-sides-of → tie.Start
@@ -26,7 +29,7 @@ entry c = search
 is : (c : tie.After-sides-of)
     → c .sides-of .result
     ≡ sidesOf Horizontal (movedShape (lent (entry c)) (entry c .args .two)) (standingShape (lent (entry c)) (entry c .args .two))
-is c = c .sides-of .ensures (entry c .args .size) (entry c .args .pixels .now)
+is c = c .sides-of .ensures (entry c .args .pixels .now)
 
 -- such as maps are made for
 fit : (c : tie.After-sides-of) → SidesFit (c .sides-of .result)
@@ -36,7 +39,7 @@ find-map-requires : tie.Need-find-map-requires
 find-map-requires c κs =
     let at-sides-of : tie.After-sides-of = search in
     let e = entry at-sides-of in
-    (e .pre .0, (is at-sides-of, e .pre .1 .1 .1))
+    (e .pre .0, e .pre .1 .1 .1)
 
 map-words-requires : tie.Need-map-words-requires
 map-words-requires c κs =
@@ -47,8 +50,8 @@ map-words-requires c κs =
 within : (c : tie.After-map-words)
     →
     let at-find-map : tie.After-find-map = search in
-    (at-find-map .find-map .result + c .map-words .result ≤ length (at-find-map .find-map .last .1 .1 .1 .1 .1 .1 .1 .0))
-    × (length (at-find-map .find-map .last .1 .1 .1 .1 .1 .1 .1 .0) < 1000000000)
+    (at-find-map .find-map .result + c .map-words .result ≤ length (at-find-map .find-map .last .1 .1 .1 .1 .1 .1 .0))
+    × (length (at-find-map .find-map .last .1 .1 .1 .1 .1 .1 .0) < 1000000000)
 within c =
     let at-sides-of : tie.After-sides-of = search in
     let at-find-map : tie.After-find-map = search in
@@ -101,7 +104,7 @@ lent-map : (c : tie.After-line-places)
     let at-start : tie.Start = search in
     let from = found c .find-map .result in
     MapOf Horizontal (movedShape (lent at-start) (at-start .args .two)) (standingShape (lent at-start) (at-start .args .two))
-    (take (from + counted c .map-words .result - from) (drop from (found c .find-map .last .1 .1 .1 .1 .1 .1 .1 .0)))
+    (take (from + counted c .map-words .result - from) (drop from (found c .find-map .last .1 .1 .1 .1 .1 .1 .0)))
 lent-map c =
     let at-sides-of : tie.After-sides-of = search in
     let e = entry at-sides-of in

@@ -7,10 +7,10 @@ use Rattle.search_lines.proofs.slot_width.Statement.{statement}
 use Rattle.search_lines.proofs.slot_width.Tie as tie
 
 abbrev Inv-loop : tie.InvT-loop
-Inv-loop table count side₀ i₀ side i = (32 ≤ side) × (side ≤ 255) × SidesCovered table side i
+Inv-loop size table count side₀ i₀ side i = (32 ≤ side) × (side ≤ 255) × SidesCovered table side i
 
 abbrev μ-loop : tie.MeasureT-loop
-μ-loop table count side₀ i₀ side i = count - i
+μ-loop size table count side₀ i₀ side i = count - i
 
 loop-holds : tie.Need-loop-holds Inv-loop μ-loop
 loop-holds c = (omega arith, omega arith, covered-none _ _)
@@ -34,11 +34,16 @@ loop-again c =
 
 returns : tie.Need-returns Inv-loop μ-loop
 returns c =
-    let l = c .before .loop in
-    let a = c .before .before .args in
-    (λ pixels. covered-wide (a .size) (a .table .now) pixels (l .side) (l .i) (c .loop-test .left) (l .inv .2), (omega arith, omega arith))
+    let at-loop : tie.At-loop Inv-loop μ-loop = search in
+    let at-start : tie.Start Inv-loop μ-loop = search in
+    let ended : tie.After-loop Inv-loop μ-loop = search in
+    let l = at-loop .loop in
+    let a = at-start .args in
+    let g = at-start .pre .1 in
+    (λ pixels. covered-wide (a .size) (a .table .now) pixels (l .side) (l .i) (ended .loop-test .left) (l .inv .2), (omega arith, omega arith))
 
 pub slot-width-spec : {M : Type 1} → statement M
 slot-width-spec =
     tie.close (tie.spec
-    Inv-loop μ-loop loop-holds (search needs) (search needs) (search needs) (search needs) (search needs) loop-again (search needs) (search needs) returns)
+    Inv-loop μ-loop loop-holds (search needs) (search needs) (search needs) (search needs) (search needs) loop-again (search needs)
+    (search needs) (search needs) returns)

@@ -54,7 +54,7 @@ column-line-requires c κs =
     let n = p .1 .1 .1 .1 in
     let r =
     column-reaches (a .sides) (a .words .now) (p .0) (p .1 .0) (p .1 .1 .0) _ (i .0) _ _ (at-row-width .row-width .ensures) (e ∙ sym n) in
-    (r .0, (r .1, omega (arith, p .0 .moved-across .high, p .0 .standing-across .high)))
+    (r .0, (r .1, (r .2, omega (arith, p .0 .moved-across .high, p .0 .standing-across .high))))
 
 returns-3 : tie.Need-returns-3
 returns-3 c =

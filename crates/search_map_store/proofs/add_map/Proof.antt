@@ -1,5 +1,6 @@
 -- `search_map_store::add_map` meets its contract: the map is made past all that are kept. Assumes nothing.
 use Rattle.list_laws.proofs.Kit.{_∙_, _+_, _-_, arith, length-append, length-drop, length-set, length-take, needs}
+use Rattle.search_map_store.specs.Store.{allGrown}
 use Rattle.search_map_store.proofs.Keeping.{added}
 use Rattle.search_map_store.proofs.add_map.Statement.{statement}
 use Rattle.search_map_store.proofs.add_map.Tie as tie
@@ -48,7 +49,7 @@ slice-write-words-2 c =
     let f = fits .fits in
     let e = fits .same in
     let room = p .room in
-    let full = at-make-sized .make-sized .kept .1 .1 .1 .0 in
+    let full = at-make-sized .make-sized .kept .1 .1 .1 .1 .0 in
     simp (length-set, length-append, length-drop, length-take, full) (omega arith)
 
 same-length : tie.Need-same-length
@@ -58,7 +59,7 @@ same-length c =
     let fits = at-room-for .room-for .ensures in
     let f = fits .fits in
     let e = fits .same in
-    let full = at-make-sized .make-sized .kept .1 .1 .1 .0 in
+    let full = at-make-sized .make-sized .kept .1 .1 .1 .1 .0 in
     simp (length-set, length-append, length-drop, length-take, full) (omega arith)
 
 returns : tie.Need-returns
@@ -78,9 +79,9 @@ returns c =
     let size = c .map-words .ensures in
     let made = at-make-sized .make-sized in
     λ d s t ez em et.
-    added (a .slots) d s t (a .sides) (a .key) (a .slot) (a .words .now) _ _ at (c .map-words .result) k (at + k - at) ez
+    added (a .slots) d (allGrown (a .extra) s) t (a .sides) (a .key) (a .slot) (a .words .now) _ _ at (c .map-words .result) k (at + k - at) ez
     (made .ensures (d (a .key)) (s (a .key)) (t (a .key)) ez em et) size (omega arith) (omega arith)
-    (made .kept .1 .1 .1 .0 ∙ simp (length-take, length-drop) (omega arith)) fits
+    (made .kept .1 .1 .1 .1 .0 ∙ simp (length-take, length-drop) (omega arith)) fits
     (at-start .pre .1 .1 .1 .slot-in) (omega arith)
 
 pub add-map-spec : {M : Type 1} → statement M

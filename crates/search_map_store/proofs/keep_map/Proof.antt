@@ -1,5 +1,6 @@
 -- `search_map_store::keep_map` meets its contract: a slot of that key has the map already. Assumes nothing.
 use Rattle.list_laws.proofs.Kit.{needs}
+use Rattle.search_map_store.specs.Store.{allGrown}
 use Rattle.search_map_store.proofs.Keeping.{found}
 use Rattle.search_map_store.proofs.keep_map.Statement.{statement}
 use Rattle.search_map_store.proofs.keep_map.Tie as tie
@@ -8,7 +9,7 @@ returns : tie.Need-returns
 returns c =
     let at-start : tie.Start = search in
     let a = at-start .args in
-    λ d s t ez em et. found (a .slots) d s t (a .key) (a .slot) (a .words .now) (at-start .pre .1 .1 .1 .slot-in) (c .if1 .taken)
+    λ d s t ez em et. found (a .slots) d (allGrown (a .extra) s) t (a .key) (a .slot) (a .words .now) (at-start .pre .1 .1 .1 .slot-in) (c .if1 .taken)
 
 add-map-requires : tie.Need-add-map-requires
 add-map-requires c κs =

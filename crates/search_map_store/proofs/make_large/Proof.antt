@@ -1,5 +1,6 @@
 -- `search_map_store::make_large` meets its contract: the words that are copied are the whole map. Assumes nothing.
 use Rattle.list_laws.proofs.Kit.{_≡_, arith, length, needs}
+use Rattle.overlap_laws.specs.Grown.{grown}
 use Rattle.search_maps.specs.Map.{mapBound}
 use Rattle.search_map_store.proofs.Keeping.{map-most, map-copied}
 use Rattle.search_map_store.proofs.make_large.Statement.{statement}
@@ -19,9 +20,9 @@ copy-words-requires c κs =
     let m = map-most (at-start .args .sides) (at-start .pre .0) in
     let e = at-map-words .map-words .ensures in
     let r = at-start .pre .1 .1 .1 .1 .enough in
-    let kept = at-make-map .make-map .kept .1 .1 .1 in
-    let words : length (at-make-map .make-map .last .1 .1 .1 .0) ≡ length (at-start .args .words .now) = kept .0 in
-    let map : length (at-make-map .make-map .last .1 .1 .1 .1 .0) ≡ mapBound = kept .1 .0 in
+    let kept = at-make-map .make-map .kept .1 .1 .1 .1 in
+    let words : length (at-make-map .make-map .last .1 .1 .1 .1 .0) ≡ length (at-start .args .words .now) = kept .0 in
+    let map : length (at-make-map .make-map .last .1 .1 .1 .1 .1 .0) ≡ mapBound = kept .1 .0 in
     (omega arith, omega arith)
 
 returns : tie.Need-returns
@@ -31,10 +32,10 @@ returns c =
     let at-map-words : tie.After-map-words = search in
     let at-copy-words : tie.After-copy-words = search in
     let r = at-start .pre .1 .1 .1 .1 .enough in
-    let words : length (at-make-map .make-map .last .1 .1 .1 .0) ≡ length (at-start .args .words .now) = at-make-map .make-map .kept .1 .1 .1 .0 in
+    let words : length (at-make-map .make-map .last .1 .1 .1 .1 .0) ≡ length (at-start .args .words .now) = at-make-map .make-map .kept .1 .1 .1 .1 .0 in
     λ d s t ez em et.
     map-copied (at-start .args .sides) _ _ _ _ (at-map-words .map-words .ensures) (omega arith)
-    (at-copy-words .copy-words .ensures) d s t ez (at-make-map .make-map .ensures d s t ez em et)
+    (at-copy-words .copy-words .ensures) d (grown (at-start .args .extra) s) t ez (at-make-map .make-map .ensures d s t ez em et)
 
 pub make-large-spec : {M : Type 1} → statement M
 make-large-spec =

@@ -1,4 +1,5 @@
--- `search_maps::make_map` meets its contract: the standing piece's strips are added to the marks of the moved one turned by half. Assumes nothing.
+-- `search_maps::make_map` meets its contract: the standing piece's strips are added to the marks of the moved one turned by half and grown.
+-- Assumes nothing.
 use Rattle.list_laws.proofs.Kit.{needs}
 use Rattle.search_maps.proofs.Fitting.{levels-for}
 use Rattle.search_maps.proofs.Shared.{map-from}
@@ -26,7 +27,7 @@ returns c =
     let at-make-levels : tie.After-make-levels = search in
     let a = at-start .args in
     λ d s t ez em et.
-    map-from d s t (a .sides) (a .moved .now) (a .standing .now) _ _ (a .words .now) _ ez em et (at-make-levels .make-levels .ensures)
+    map-from d s t (a .sides) (a .moved .now) (a .standing .now) (a .extra) _ _ (a .words .now) _ ez em et (at-make-levels .make-levels .ensures)
     (at-start .pre .1 .1 .1 .1 .enough) (c .before .before .fill-map .ensures)
 
 pub make-map-spec : {M : Type 1} → statement M

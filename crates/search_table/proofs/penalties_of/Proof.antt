@@ -25,18 +25,24 @@ fill-table-requires c κs =
     let column-spans : tie.After-no-spans2 = search in
     let wide = rows .empty-store .ensures in
     let wide2 = columns .empty-store2 .ensures in (
-      s .pre,
+      s .pre .0,
       (
-        kept-none _ _ _ _ _ _ (s .pre) (omega arith) (row-spans .no-spans .ensures),
-        (kept-none _ _ _ _ _ _ (s .pre) (omega arith) (column-spans .no-spans2 .ensures), refl),
+        kept-none _ _ _ _ _ _ (s .pre .0) (omega arith) (row-spans .no-spans .ensures),
+        (kept-none _ _ _ _ _ _ (s .pre .0) (omega arith) (column-spans .no-spans2 .ensures), (refl, s .pre .1)),
       ),
     )
 
 returns : tie.Need-returns
-returns c = let filled : tie.After-fill-table = search in filled .fill-table .ensures
+returns c =
+    let filled : tie.After-fill-table = search in
+    let s : tie.Start = search in
+    filled .fill-table .ensures (s .args .size) refl
+
+cast-gap : tie.Need-cast-gap
+cast-gap c = let s : tie.Start = search in let g = s .pre .1 in omega arith
 
 pub penalties-of-spec : {M : Type 1} → statement M
 penalties-of-spec =
     tie.close (tie.spec
-    (search needs) (search needs) (search needs) (search needs) slice-aggregate-fill-table slice-aggregate-fill-table-2 slice-aggregate-fill-table-3
+    cast-gap (search needs) (search needs) (search needs) (search needs) slice-aggregate-fill-table slice-aggregate-fill-table-2 slice-aggregate-fill-table-3
     slice-aggregate-fill-table-4 (search needs) fill-table-requires returns)

@@ -1,11 +1,12 @@
 -- `text_numbers::fields_at` meets its contract. The loop's invariant: the numbers so far, in front of the fields that are left, are what
 -- the whole reads. Assumes nothing.
-use Rattle.list_laws.proofs.Kit.{_∙_, _≡_, refl, sym, [], _-_, _<_, _≤_, arith, length, length-set, needs}
-use Rattle.model.specs.Text.{fieldAt, fieldsAt, got, wrong}
+use Rattle.list_laws.proofs.Kit.{_∙_, _≡_, refl, sym, [], _-_, _<_, _≤_, ℕ, arith, length, length-set, needs}
+use Rattle.model.specs.Text.{field, fieldAt, fieldsAt, got, wrong}
+use Rattle.list_laws.proofs.Lists.{repeat-at}
 use Rattle.text_fields.proofs.Steps.{got-of, wrong-of}
 use Rattle.text_fields.specs.declared.Number.the-variants as number
 use Rattle.text_numbers.specs.Lines.{fieldEnds}
-use Rattle.text_numbers.proofs.Steps.{readOn, read-none, read-more, read-wrong, read-all}
+use Rattle.text_numbers.proofs.Steps.{readOn, read-none, read-more, read-wrong, read-all, zeros-kept}
 use Rattle.text_numbers.proofs.fields_at.Statement.{statement}
 use Rattle.text_numbers.proofs.fields_at.Tie as tie
 
@@ -15,6 +16,7 @@ Inv-loop text p count numbers₀ next₀ k₀ numbers next k =
     × (length numbers ≡ 8)
     × (0 < k → next ≤ length text)
     × (readOn numbers k (fieldsAt (fieldEnds (count - k)) text next) ≡ fieldsAt (fieldEnds count) text p)
+    × ((j : ℕ) → k ≤ j → field numbers j ≡ 0)
 
 abbrev μ-loop : tie.MeasureT-loop
 μ-loop text p count numbers₀ next₀ k₀ numbers next k = count - k
@@ -22,7 +24,7 @@ abbrev μ-loop : tie.MeasureT-loop
 loop-holds : tie.Need-loop-holds Inv-loop μ-loop
 loop-holds c =
     let a = c .before .args in
-    (omega arith, refl, (λ h. absurd (omega arith)), read-none (a .text .now) [] (a .p) (a .count))
+    (omega arith, refl, (λ h. absurd (omega arith)), read-none (a .text .now) [] (a .p) (a .count), (λ j h. repeat-at 8 j 0))
 
 field-at-requires : tie.Need-field-at-requires Inv-loop μ-loop
 field-at-requires c κs = c .end-byte .ensures .1
@@ -41,6 +43,7 @@ returns c =
     wrong-of (fieldAt end text (l .next)) (sym (c .enum-told .given .1) ∙ c .before .before .field-at .ensures .same) in
     record {
       same = sym (l .inv .3) ∙ read-wrong text (l .numbers) (l .next) (l .k) (a .count) end (in-loop .loop-test .taken) (at-end-byte .end-byte .ensures .0) e;
+      others = λ j h. l .inv .4 j (omega arith);
       inside = omega arith;
     }
 
@@ -66,6 +69,7 @@ loop-again c =
       length-set (l .numbers) (l .k) _ ∙ l .inv .1,
       (λ h. i),
       read-more text (l .numbers) (l .next) (l .k) (a .count) end below (at-end-byte .end-byte .ensures .0) v q room e ∙ l .inv .3,
+      zeros-kept (l .numbers) (l .k) v (l .inv .4),
     )
 
 returns-2 : tie.Need-returns-2 Inv-loop μ-loop
@@ -76,6 +80,7 @@ returns-2 c =
     let done : l .k ≡ a .count = omega arith in
     record {
       same = sym (l .inv .3) ∙ read-all (a .text .now) (l .numbers) (l .next) (a .count) (l .k) done;
+      others = λ j h. l .inv .4 j (omega arith);
       inside = l .inv .2 (omega arith);
     }
 

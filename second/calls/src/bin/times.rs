@@ -4,8 +4,8 @@
 //! calls the least, microseconds of check, cut_lines and cut_step and nanoseconds of line_step.
 //!
 //! The preview, on the start layout and on the one at the end of the program's run, and on 64 squares on one spot: pieces, pairs whose boxes
-//! meet, pairs that share a pixel, and means of CPU time, milliseconds of a preview and of a weighted sum and microseconds of a penalty
-//! of a pair whose boxes meet.
+//! come within the gap, pairs that conflict, and means of CPU time, milliseconds of a preview and of a weighted sum and microseconds of a
+//! penalty of a pair whose boxes come within the gap.
 //!
 //!     SIGBROL_ARCHIVE=$PWD/target/staticlib/libsigbrol.a cargo run --release --offline --quiet \
 //!         --manifest-path second/calls/Cargo.toml --bin times jobs/real-*.job jobs/sheet-columns-4096.job jobs/cut-dust.job
@@ -156,7 +156,7 @@ fn penalty_each(memory: &mut Memory, pairs: &[(usize, usize)]) {
     }
 }
 
-/// Whether two pieces share a pixel.
+/// Whether two pieces conflict.
 fn shares(memory: &mut Memory, (i, k): (usize, usize)) -> bool {
     (memory.numbers.i, memory.numbers.k) = (i, k);
     call(Kind::SharesPixel, memory);
@@ -172,13 +172,14 @@ fn turned_box(memory: &Memory, piece: usize) -> [usize; 2] {
     }
 }
 
-/// Whether the boxes of two pieces meet.
+/// Whether the boxes of two pieces come within the gap.
 fn boxes_meet(memory: &Memory, i: usize, k: usize) -> bool {
     let [i_box, k_box] = [i, k].map(|piece| turned_box(memory, piece));
     let [i_place, k_place] = [i, k].map(|piece| memory.layout.get()[piece].map(usize::from));
     (0..2).all(|axis| {
         let (i_from, k_from) = (i_place[1 + axis], k_place[1 + axis]);
-        i_from < k_from + k_box[axis] && k_from < i_from + i_box[axis]
+        let gap = memory.gap;
+        i_from < k_from + k_box[axis] + gap && k_from < i_from + i_box[axis] + gap
     })
 }
 
@@ -190,7 +191,7 @@ fn main() {
     let jobs: Vec<(String, String)> = env::args().skip(1).map(read).collect();
     println!("cut list: L, lines, check µs, cut_lines µs, cut_step µs, line_step ns");
     jobs.iter().for_each(|(file, job)| time_cut_list(file, job));
-    println!("preview: pieces, boxes meet, share a pixel, preview ms, weighted sum ms, penalty µs");
+    println!("preview: pieces, boxes meet, conflict, preview ms, weighted sum ms, penalty µs");
     jobs.iter().for_each(|(file, job)| time_previews(file, job));
     time_one_spot();
 }

@@ -196,6 +196,34 @@ mod tests {
     }
 
     #[test]
+    fn every_gap_comes_up_and_matters() {
+        let kinds = jobs::kinds();
+        let inputs = || kinds.iter().flat_map(|kind| &kind.inputs);
+        let is_without = |input: &Vec<u8>| input.starts_with(b"job,1,");
+        assert!(inputs().any(is_without));
+        for gap in 0..=8 {
+            let of_gap = |input: &&Vec<u8>| !is_without(input) && gap_of(input) == gap;
+            let differs = |input: &Vec<u8>| second::run(input) != second::run(&without_gap(input));
+            // A gap of 0 is none.
+            assert_eq!(inputs().filter(of_gap).any(differs), gap > 0, "{gap}");
+            assert!(inputs().any(|input| of_gap(&input)), "{gap}");
+        }
+    }
+
+    /// The gap of a job.
+    fn gap_of(input: &[u8]) -> usize {
+        job::read(input).expect("the kinds are jobs").gap
+    }
+
+    /// The text of a job of version 2 as one of version 1.
+    fn without_gap(input: &[u8]) -> Vec<u8> {
+        let text = String::from_utf8_lossy(input);
+        let (line, pieces) = text.split_once('\n').expect("a text has a first line");
+        let (line, _) = line.rsplit_once(',').expect("the line has a gap");
+        format!("{}\n{pieces}", line.replacen("job,2,", "job,1,", 1)).into_bytes()
+    }
+
+    #[test]
     fn damaged_inputs_are_refused_by_every_cause() {
         let mut tally = Tally::default();
         for input in damage::kinds().iter().flat_map(|kind| &kind.inputs) {

@@ -10,4 +10,4 @@ returns-2 : tie.Need-returns-2
 returns-2 c = simp (le-ltb _ _ (c .if1 .left))
 
 pub spans-meet-spec : {M : Type 1} → statement M
-spans-meet-spec = tie.close (tie.spec (search needs) (search needs) returns returns-2)
+spans-meet-spec = tie.close (tie.spec (search needs) (search needs) (search needs) (search needs) returns returns-2)

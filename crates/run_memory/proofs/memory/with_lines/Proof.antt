@@ -11,7 +11,10 @@ abbrev lent : tie.Start → Lent
 lent e = lentBy (e .args .size) (e .args .table .now) (e .args .pixels .now)
 
 slot-width-requires : tie.Need-slot-width-requires
-slot-width-requires c κs = let e : tie.Start = search in facts (lent e) (e .pre .0 .laid .well) .entries
+slot-width-requires c κs =
+    let e : tie.Start = search in
+    let f = facts (lent e) (e .pre .0 .laid .well) in
+    (f .entries, f .smallGap)
 
 slice-aggregate-run-plan : tie.Need-slice-aggregate-run-plan
 slice-aggregate-run-plan c = let made : tie.After-empty-lines = search in sym (made .empty-lines .ensures .0)

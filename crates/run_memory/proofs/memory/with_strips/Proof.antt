@@ -16,7 +16,7 @@ lent e = lentBy (e .args .size) (e .args .table .now) (e .args .pixels .now)
 penalties-of-requires : tie.Need-penalties-of-requires
 penalties-of-requires c κs =
     let e : tie.Start = search in
-    laid-drawable (lent e) (e .args .layout .now) (e .pre .0 .laid)
+    (laid-drawable (lent e) (e .args .layout .now) (e .pre .0 .laid), facts (lent e) (e .pre .0 .laid .well) .smallGap)
 
 make-trials-requires : tie.Need-make-trials-requires
 make-trials-requires c κs =
@@ -63,7 +63,7 @@ with-workspace-requires c κs =
         (
           in-rows .make-shapes .ensures,
           (
-            record { valid = g .laid .valid; written = g .written; table = filled .penalties-of .ensures (e .args .size) (sym (g .laid .whole)) },
+            record { valid = g .laid .valid; written = g .written; table = filled .penalties-of .ensures (sym (g .laid .whole)) },
             listed .make-trials .ensures .0 (e .args .pixels .now),
           ),
         ),

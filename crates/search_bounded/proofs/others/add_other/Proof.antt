@@ -1,6 +1,6 @@
 -- `search_bounded::others::add_other` meets its contract: the piece itself has no part, one that reaches no place below the bound may be left out, and
 -- another's part is added. Assumes nothing.
-use Rattle.list_laws.proofs.Kit.{_∙_, refl, sym, _-_, _<_, _≤_, arith, length, needs, not-true}
+use Rattle.list_laws.proofs.Kit.{_∙_, _≢_, refl, sym, _-_, _<_, _≤_, arith, length, needs, not-true}
 use Rattle.model.specs.Layout.{Layout}
 use Rattle.model.specs.Lent.{Lent, lentBy, jobOf}
 use Rattle.model.specs.Buffer.{layoutOf}
@@ -29,12 +29,14 @@ returns c =
     )
 
 beside-requires : tie.Need-beside-requires
-beside-requires c κs = let e : tie.Start = search in piece-entries (lent e) (e .args .layout .now) (e .args .k) (e .pre .1 .0) (e .pre .1 .1 .1 .1 .0)
+beside-requires c κs =
+    let e : tie.Start = search in
+    (piece-entries (lent e) (e .args .layout .now) (e .args .k) (e .pre .1 .0) (e .pre .1 .1 .1 .1 .0), facts (lent e) (e .pre .0 .well) .smallGap)
 
 reach-of-requires : tie.Need-reach-of-requires
 reach-of-requires c κs =
     let e : tie.Start = search in
-    (e .pre .1 .1 .1 .0 .small, (c .beside .ensures (e .args .run .size) (e .args .pixels .now) .small, e .pre .1 .1 .1 .0 .some))
+    (e .pre .1 .1 .1 .0 .small, (c .beside .ensures (e .args .pixels .now) .small, e .pre .1 .1 .1 .0 .some))
 
 -- the entry and the standing piece, from where the reach is known
 abbrev entry : tie.After-reach-of → tie.Start
@@ -43,6 +45,10 @@ entry c = search
 abbrev stood : tie.After-reach-of → tie.After-beside
 stood c = search
 
+-- the piece is not the mover
+others : (c : tie.After-reach-of) → entry c .args .wanted .sweep .mover .piece ≢ entry c .args .k
+others c = let o : tie.Else1 = search in λ q. o .if1 .left (sym q)
+
 -- there is a sum for each place in reach
 within : (c : tie.After-reach-of) → c .reach-of .result .high ≤ length (entry c .args .sums .now)
 within c =
@@ -50,7 +56,7 @@ within c =
     let a = e .args in
     let b = stood c .beside in
     sums-within (lent e) (a .weights .now) (laidOut e) (a .wanted .sweep .mover) (a .wanted .sweep .track) (b .result) (a .wanted .bound) (a .k)
-    (c .reach-of .result) (a .sums .now) (e .pre .1 .1 .1 .0) (b .ensures (a .run .size) (a .pixels .now)) (c .reach-of .ensures) (e .pre .1 .1 .1 .1 .1)
+    (c .reach-of .result) (a .sums .now) (e .pre .1 .1 .1 .0) (b .ensures (a .pixels .now)) (c .reach-of .ensures) (e .pre .1 .1 .1 .1 .1)
 
 returns-2 : tie.Need-returns-2
 returns-2 c =
@@ -60,7 +66,7 @@ returns-2 c =
     let b = stood r .beside in
     let o = c .if2 .taken in (
       summed-left (lent e) (a .weights .now) (laidOut e) (a .wanted .sweep .mover) (a .wanted .sweep .track) (b .result) (a .wanted .bound) (a .k)
-          (r .reach-of .result) (a .sums .now) (e .pre .1 .1 .1 .0) (b .ensures (a .run .size) (a .pixels .now)) (r .reach-of .ensures) (e .pre .1 .1 .1 .1 .1)
+          (r .reach-of .result) (a .sums .now) (e .pre .1 .1 .1 .0) (b .ensures (a .pixels .now)) (r .reach-of .ensures) (e .pre .1 .1 .1 .1 .1)
           (λ x low high. absurd (omega arith)),
       e .pre .0,
     )
@@ -88,7 +94,7 @@ returns-3 c =
     let a = e .args in
     let b = stood r .beside in (
       summed-unread (lent e) (a .weights .now) (laidOut e) (a .wanted .sweep .mover) (a .wanted .sweep .track) (b .result) (a .wanted .bound) (a .k)
-          (r .reach-of .result) (a .sums .now) (e .pre .1 .1 .1 .0) (b .ensures (a .run .size) (a .pixels .now)) (r .reach-of .ensures) (e .pre .1 .1 .1 .1 .1)
+          (r .reach-of .result) (a .sums .now) (e .pre .1 .1 .1 .0) (b .ensures (a .pixels .now)) (r .reach-of .ensures) (e .pre .1 .1 .1 .1 .1)
           (r .reach-of .result .high - r .reach-of .result .low) refl (within r) (sym (not-true _ (c .if3 .taken)) ∙ c .before .any-below .ensures),
       e .pre .0,
     )
@@ -107,7 +113,7 @@ line-with-requires c κs =
     let e = entry r in
     let some = o .if2 .left in
     let t = r .reach-of .ensures .touching (omega arith) in
-    (e .pre .0, (e .pre .1 .1 .1 .0, (e .pre .1 .1 .1 .1 .0, (t .lifted, t .near))))
+    (e .pre .0, (e .pre .1 .1 .1 .0, ((e .pre .1 .1 .1 .1 .0, (t .lifted, t .near)), others r)))
 
 -- where the places in reach are known, from where the line is
 abbrev reached : tie.After-line-with → tie.After-reach-of
@@ -123,7 +129,7 @@ line : (c : tie.After-line-with)
     (c .line-with .last .1 .1 .1 .1 .1 .1 .1 .1 .0) (c .line-with .result)
 line c =
     let e = entry (reached c) in
-    c .line-with .ensures .0 (laidOut e) (stood (reached c) .beside .ensures (e .args .run .size) (e .args .pixels .now))
+    c .line-with .ensures .0 (laidOut e) (stood (reached c) .beside .ensures (e .args .pixels .now))
 
 add-reached-requires : tie.Need-add-reached-requires
 add-reached-requires c κs =
@@ -137,7 +143,7 @@ add-reached-requires c κs =
     let k = e .pre .1 .1 .1 .1 .0 in (
       (
         reach-within (lent e) (laidOut e) (a .wanted .sweep .mover) (a .wanted .sweep .track) (b .result) (a .k) (r .reach-of .result) _ (x .line-with .result)
-            (e .pre .1 .1 .1 .0) (b .ensures (a .run .size) (a .pixels .now)) (r .reach-of .ensures .touching (some-place x)) (line x),
+            (e .pre .1 .1 .1 .0) (b .ensures (a .pixels .now)) (r .reach-of .ensures .touching (some-place x)) (line x),
         x .line-with .ensures .1 .fit .fits,
       ),
       (
@@ -146,7 +152,7 @@ add-reached-requires c κs =
           weight-small (lent e) (a .weights .now) (a .wanted .sweep .mover .piece) (a .k) (w .weight-between .result)
               (e .pre .1 .1 .0) (w .weight-between .ensures .0),
           sums-small (lent e) (a .weights .now) (laidOut e) (a .wanted .sweep .mover) (a .wanted .sweep .track) (b .result) (a .wanted .bound) (a .k)
-              (r .reach-of .result) (a .sums .now) (e .pre .1 .1 .1 .0) (b .ensures (a .run .size) (a .pixels .now))
+              (r .reach-of .result) (a .sums .now) (e .pre .1 .1 .1 .0) (b .ensures (a .pixels .now))
               (r .reach-of .ensures) (e .pre .1 .1 .1 .1 .1)
               (omega arith),
         ),
@@ -164,13 +170,13 @@ returns-4 c =
     let b = stood r .beside in
     let part = reach-added (lent e) (laidOut e) (a .wanted .sweep .mover) (a .wanted .sweep .track) (b .result) (a .k)
     (r .reach-of .result) _ (x .line-with .result)
-    (e .pre .1 .1 .1 .0) (b .ensures (a .run .size) (a .pixels .now)) (r .reach-of .ensures .touching (some-place x)) (line x)
+    (e .pre .1 .1 .1 .0) (b .ensures (a .pixels .now)) (r .reach-of .ensures .touching (some-place x)) (line x)
     (a .weights .now) (w .weight-between .result) (a .sums .now) _ (w .weight-between .ensures .0) (some-place x) (y .add-reached .ensures) in (
       summed-added (lent e) (a .weights .now) (laidOut e) (a .wanted .sweep .mover) (a .wanted .sweep .track) (b .result) (a .wanted .bound) (a .k)
-          (r .reach-of .result) (a .sums .now) (e .pre .1 .1 .1 .0) (b .ensures (a .run .size) (a .pixels .now)) (r .reach-of .ensures) (e .pre .1 .1 .1 .1 .1)
+          (r .reach-of .result) (a .sums .now) (e .pre .1 .1 .1 .0) (b .ensures (a .pixels .now)) (r .reach-of .ensures) (e .pre .1 .1 .1 .1 .1)
           (y .add-reached .last .0)
           (part-most (lent e) (a .weights .now) (laidOut e) (a .wanted .sweep .mover) (a .k) (e .pre .0 .well) (e .pre .1 .1 .0) (e .pre .1 .1 .1 .0 .piece)
-          (e .pre .1 .1 .1 .1 .0)) part,
+          (e .pre .1 .1 .1 .1 .0) (others r)) part,
       x .line-with .ensures .1,
     )
 

@@ -27,7 +27,7 @@ near-pieces-requires c κs =
     let a = at-start .args in
     let l = lentBy (a .run .size) (a .table .now) (a .pixels .now) in
     let e = entries-all l (a .layout .now) (at-start .pre .1 .0) in
-    (at-start .pre .1 .1 .1 .0 .small, (facts l (at-start .pre .0 .well) .fewPieces, e))
+    (at-start .pre .1 .1 .1 .0 .small, ((facts l (at-start .pre .0 .well) .fewPieces, e), facts l (at-start .pre .0 .well) .smallGap))
 
 loop-holds : tie.Need-loop-holds Inv-loop μ-loop
 loop-holds c =

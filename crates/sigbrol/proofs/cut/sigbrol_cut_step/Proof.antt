@@ -15,7 +15,7 @@ use Rattle.sigbrol.proofs.cut.sigbrol_cut_step.Tie as tie
 
 -- the lent job
 abbrev lent : tie.Start → Lent
-lent s = let a = s .args in lentAs (a .rows) (a .columns) (a .count) (a .table .now) (a .pixels .now)
+lent s = let a = s .args in lentAs (a .rows) (a .columns) (a .count) (a .gap) (a .table .now) (a .pixels .now)
 
 -- the outcome of the call
 outcome : tie.Start → Outcome CutStep

@@ -53,7 +53,10 @@ returns c =
           l .pixels,
           (
             numbers .0 ∙ leaves-by sizeIn (λ s. s .rows) _ o t,
-            (numbers .1 .0 ∙ leaves-by sizeIn (λ s. s .columns) _ o t, numbers .1 .1 ∙ leaves-by sizeIn (λ s. s .count) _ o t),
+            (
+              numbers .1 .0 ∙ leaves-by sizeIn (λ s. s .columns) _ o t,
+              (numbers .1 .1 .0 ∙ leaves-by sizeIn (λ s. s .count) _ o t, numbers .1 .1 .1 ∙ leaves-by sizeIn (λ s. s .gap) _ o t),
+            ),
           ),
         ),
       ),
@@ -75,7 +78,16 @@ returns-2 c =
     let l = read .read-job .ensures in
     let t = job-told o (sym (why .refusal .given .1) ∙ l .answers) in (
       c .refused .ensures ∙ reply-by sizeIn o t,
-      (l .entries, (l .pixels, (leaves-by sizeIn (λ s. s .rows) _ o t, (leaves-by sizeIn (λ s. s .columns) _ o t, leaves-by sizeIn (λ s. s .count) _ o t)))),
+      (
+        l .entries,
+        (
+          l .pixels,
+          (
+            leaves-by sizeIn (λ s. s .rows) _ o t,
+            (leaves-by sizeIn (λ s. s .columns) _ o t, (leaves-by sizeIn (λ s. s .count) _ o t, leaves-by sizeIn (λ s. s .gap) _ o t)),
+          ),
+        ),
+      ),
     )
 
 pub sigbrol-read-job-spec : {M : Type 1} → statement M

@@ -10,7 +10,7 @@ use Rattle.sigbrol.proofs.layouts.sigbrol_check.Tie as tie
 
 -- the outcome of the call
 outcome : tie.Start → Outcome (Unit {0})
-outcome s = let a = s .args in checkCall (lentAs (a .rows) (a .columns) (a .count) (a .table .now) (a .pixels .now)) (a .layout .now)
+outcome s = let a = s .args in checkCall (lentAs (a .rows) (a .columns) (a .count) (a .gap) (a .table .now) (a .pixels .now)) (a .layout .now)
 
 -- its answer tells that outcome
 answered : (c : tie.After-check) →

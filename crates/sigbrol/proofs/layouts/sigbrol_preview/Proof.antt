@@ -15,7 +15,7 @@ use Rattle.sigbrol.proofs.layouts.sigbrol_preview.Tie as tie
 -- the outcome of the call
 outcome : tie.Start → Outcome Figures
 outcome s = let a = s .args in
-    previewCall (lentAs (a .rows) (a .columns) (a .count) (a .table .now) (a .pixels .now)) (a .layout .now) (a .weights .now)
+    previewCall (lentAs (a .rows) (a .columns) (a .count) (a .gap) (a .table .now) (a .pixels .now)) (a .layout .now) (a .weights .now)
     (pieceWithTurn (a .turn) (a .piece)) (placement (a .turn) (a .x) (a .y))
 
 -- its answer tells that outcome
@@ -59,7 +59,7 @@ returns-2 c =
     let t = figures-told o (sym (c .before .before .refusal .given .1) ∙ answered at-preview) in
     let a = at-start .args in
     let positive =
-    preview-numbered (lentAs (a .rows) (a .columns) (a .count) (a .table .now) (a .pixels .now)) (a .layout .now) (a .weights .now)
+    preview-numbered (lentAs (a .rows) (a .columns) (a .count) (a .gap) (a .table .now) (a .pixels .now)) (a .layout .now) (a .weights .now)
     (pieceWithTurn (a .turn) (a .piece)) (placement (a .turn) (a .x) (a .y)) _ (refusal-told (λ f. f) o _ t) in
     let number = ap (λ (x : Reply). x .number) (c .refused .ensures) in (
       c .refused .ensures ∙ reply-by (λ f. f) o t,

@@ -11,7 +11,7 @@ use Rattle.sigbrol.proofs.layouts.sigbrol_start.Tie as tie
 
 -- the outcome of the call
 outcome : tie.Start → Outcome Layout
-outcome s = let a = s .args in startCall (lentAs (a .rows) (a .columns) (a .count) (a .table .now) (a .pixels .now)) (length (a .layout .now))
+outcome s = let a = s .args in startCall (lentAs (a .rows) (a .columns) (a .count) (a .gap) (a .table .now) (a .pixels .now)) (length (a .layout .now))
 
 -- its answer tells that outcome
 answered : (c : tie.After-start) →

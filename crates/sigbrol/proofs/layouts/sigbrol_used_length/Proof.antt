@@ -12,7 +12,7 @@ use Rattle.sigbrol.proofs.layouts.sigbrol_used_length.Tie as tie
 
 -- the outcome of the call
 outcome : tie.Start → Outcome ℕ
-outcome s = let a = s .args in usedLengthCall (lentAs (a .rows) (a .columns) (a .count) (a .table .now) (a .pixels .now)) (a .layout .now)
+outcome s = let a = s .args in usedLengthCall (lentAs (a .rows) (a .columns) (a .count) (a .gap) (a .table .now) (a .pixels .now)) (a .layout .now)
 
 -- its answer tells that outcome
 answered : (c : tie.After-used-length) →
@@ -63,7 +63,7 @@ returns-2 c =
     let t = number-told o (sym (c .before .before .refusal .given .1) ∙ answered (at-used-length)) in
     let a = at-start .args in
     let positive =
-    used-numbered (lentAs (a .rows) (a .columns) (a .count) (a .table .now) (a .pixels .now)) (a .layout .now) _ (refusal-told (λ k. k) o _ t) in
+    used-numbered (lentAs (a .rows) (a .columns) (a .count) (a .gap) (a .table .now) (a .pixels .now)) (a .layout .now) _ (refusal-told (λ k. k) o _ t) in
     let number = ap (λ (x : Reply). x .number) (c .refused .ensures) in (
       c .refused .ensures ∙ reply-by (λ k. k) o t,
       (leaves-by (λ k. k) (λ k. k) _ o t, λ zero. absurd (omega (arith, positive, number, zero))),

@@ -10,7 +10,9 @@ use Rattle.sigbrol.proofs.layouts.sigbrol_weighted_sum.Tie as tie
 
 -- the outcome of the call
 outcome : tie.Start → Outcome ℕ
-outcome s = let a = s .args in weightedSumCall (lentAs (a .rows) (a .columns) (a .count) (a .table .now) (a .pixels .now)) (a .layout .now) (a .weights .now)
+outcome s =
+    let a = s .args in
+    weightedSumCall (lentAs (a .rows) (a .columns) (a .count) (a .gap) (a .table .now) (a .pixels .now)) (a .layout .now) (a .weights .now)
 
 -- its answer tells that outcome
 answered : (c : tie.After-weighted-sum) →

@@ -19,7 +19,7 @@ use Rattle.sigbrol.proofs.no_fit.sigbrol_no_fit_column.Tie as tie
 outcome : tie.Start → ℤ → Outcome (List OffsetRun)
 outcome s offset =
     let a = s .args in
-    noFitCall Vertical (lentAs (a .rows) (a .columns) (a .count) (a .table .now) (a .pixels .now))
+    noFitCall Vertical (lentAs (a .rows) (a .columns) (a .count) (a .gap) (a .table .now) (a .pixels .now))
     (lentStretch (pieceWithTurn (a .i-turn) (a .i)) (turnOf (a .i-turn)) (a .i-strips .now))
     (lentStretch (pieceWithTurn (a .k-turn) (a .k)) (turnOf (a .k-turn)) (a .k-strips .now)) offset (length (a .runs .now))
 

@@ -12,7 +12,7 @@ use Rattle.sigbrol.proofs.pairs_of.sigbrol_depth.Tie as tie
 -- the outcome of the call
 outcome : tie.Start → Outcome ℕ
 outcome s = let a = s .args in
-    depthCall (directionOf (a .vertical)) (lentAs (a .rows) (a .columns) (a .count) (a .table .now) (a .pixels .now)) (a .layout .now) (a .i) (a .k)
+    depthCall (directionOf (a .vertical)) (lentAs (a .rows) (a .columns) (a .count) (a .gap) (a .table .now) (a .pixels .now)) (a .layout .now) (a .i) (a .k)
 
 -- its answer tells that outcome
 answered : (c : tie.After-depth) →

@@ -10,7 +10,7 @@ use Rattle.sigbrol.proofs.pairs_of.sigbrol_penalty.Tie as tie
 
 -- the outcome of the call
 outcome : tie.Start → Outcome ℕ
-outcome s = let a = s .args in penaltyCall (lentAs (a .rows) (a .columns) (a .count) (a .table .now) (a .pixels .now)) (a .layout .now) (a .i) (a .k)
+outcome s = let a = s .args in penaltyCall (lentAs (a .rows) (a .columns) (a .count) (a .gap) (a .table .now) (a .pixels .now)) (a .layout .now) (a .i) (a .k)
 
 -- its answer tells that outcome
 answered : (c : tie.After-penalty) →

@@ -11,7 +11,7 @@ use Rattle.sigbrol.proofs.pairs_of.sigbrol_shares_pixel.Tie as tie
 
 -- the outcome of the call
 outcome : tie.Start → Outcome Bool
-outcome s = let a = s .args in shareCall (lentAs (a .rows) (a .columns) (a .count) (a .table .now) (a .pixels .now)) (a .layout .now) (a .i) (a .k)
+outcome s = let a = s .args in shareCall (lentAs (a .rows) (a .columns) (a .count) (a .gap) (a .table .now) (a .pixels .now)) (a .layout .now) (a .i) (a .k)
 
 -- its answer tells that outcome
 answered : (c : tie.After-shares-pixel) →

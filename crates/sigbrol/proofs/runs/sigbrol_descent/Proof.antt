@@ -16,7 +16,7 @@ use Rattle.sigbrol.proofs.runs.sigbrol_descent.Tie as tie
 -- the outcome of the call
 outcome : tie.Start → Outcome Descent
 outcome s = let a = s .args in
-    descentCall (lentAs (a .rows) (a .columns) (a .count) (a .table .now) (a .pixels .now)) (a .layout .now) (a .weights .now) (a .budget)
+    descentCall (lentAs (a .rows) (a .columns) (a .count) (a .gap) (a .table .now) (a .pixels .now)) (a .layout .now) (a .weights .now) (a .budget)
 
 -- its answer tells that outcome
 answered : (c : tie.After-descent) →
@@ -104,7 +104,7 @@ returns-2 c =
     let t = ended-told o (sym (c .before .before .refusal .given .1) ∙ answered (at-descent)) in
     let a = at-start .args in
     let positive =
-    descent-numbered (lentAs (a .rows) (a .columns) (a .count) (a .table .now) (a .pixels .now)) (a .layout .now) (a .weights .now) (a .budget) _
+    descent-numbered (lentAs (a .rows) (a .columns) (a .count) (a .gap) (a .table .now) (a .pixels .now)) (a .layout .now) (a .weights .now) (a .budget) _
     (refusal-told endedOf o _ t) in
     let number = ap (λ (x : Reply). x .number) (c .refused .ensures) in (
       c .refused .ensures ∙ reply-by endedOf o t,

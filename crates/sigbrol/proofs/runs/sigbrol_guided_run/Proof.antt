@@ -15,7 +15,7 @@ use Rattle.sigbrol.proofs.runs.sigbrol_guided_run.Tie as tie
 -- the outcome of the call
 outcome : tie.Start → Outcome Guided
 outcome s = let a = s .args in
-    guidedCall (lentAs (a .rows) (a .columns) (a .count) (a .table .now) (a .pixels .now)) (a .layout .now) (a .weights .now) (a .rounds) (a .budget)
+    guidedCall (lentAs (a .rows) (a .columns) (a .count) (a .gap) (a .table .now) (a .pixels .now)) (a .layout .now) (a .weights .now) (a .rounds) (a .budget)
 
 -- its answer tells that outcome
 answered : (c : tie.After-guided-run) →
@@ -108,7 +108,7 @@ returns-2 c =
     let t = ran-told o (sym (c .before .before .refusal .given .1) ∙ answered (at-guided-run)) in
     let a = at-start .args in
     let positive =
-    guided-numbered (lentAs (a .rows) (a .columns) (a .count) (a .table .now) (a .pixels .now)) (a .layout .now) (a .weights .now) (a .rounds)
+    guided-numbered (lentAs (a .rows) (a .columns) (a .count) (a .gap) (a .table .now) (a .pixels .now)) (a .layout .now) (a .weights .now) (a .rounds)
     (a .budget) _ (refusal-told toldRun o _ t) in
     let number = ap (λ (x : Reply). x .number) (c .refused .ensures) in (
       c .refused .ensures ∙ reply-by toldRun o t,

@@ -14,7 +14,7 @@ use Rattle.sigbrol.proofs.runs.sigbrol_line_search.Tie as tie
 -- the outcome of the call
 outcome : tie.Start → Outcome Best
 outcome s = let a = s .args in
-    searchCall (lentAs (a .rows) (a .columns) (a .count) (a .table .now) (a .pixels .now)) (a .layout .now) (a .weights .now)
+    searchCall (lentAs (a .rows) (a .columns) (a .count) (a .gap) (a .table .now) (a .pixels .now)) (a .layout .now) (a .weights .now)
     (pieceWithTurn (a .turn) (a .piece)) (turnOf (a .turn)) (lineOf (a .vertical) (a .held))
 
 -- its line

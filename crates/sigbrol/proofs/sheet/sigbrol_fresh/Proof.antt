@@ -14,7 +14,7 @@ abbrev outcome : tie.After-fresh → Outcome Sheet
 outcome c =
     let at-start : tie.Start = search in
     let a = at-start .args in
-    freshCall (lentAs (a .rows) (a .columns) (a .count) (a .table .now) (a .pixels .now)) (length (a .counts .now))
+    freshCall (lentAs (a .rows) (a .columns) (a .count) (a .gap) (a .table .now) (a .pixels .now)) (length (a .counts .now))
 
 -- what `fresh` answers
 answered : (c : tie.After-fresh) → c .fresh .result ≡ sheetAnswer blankRecord (outcome c)

@@ -17,7 +17,7 @@ abbrev outcome : tie.After-lay → Outcome Sheet
 outcome c =
     let at-start : tie.Start = search in
     let a = at-start .args in
-    layCall (lentAs (a .rows) (a .columns) (a .count) (a .table .now) (a .pixels .now)) (sheetOf (recordIn (a .entries .now)) (a .counts .now))
+    layCall (lentAs (a .rows) (a .columns) (a .count) (a .gap) (a .table .now) (a .pixels .now)) (sheetOf (recordIn (a .entries .now)) (a .counts .now))
     (pieceWithTurn (a .turn) (a .piece)) (placement (a .turn) (a .x) (a .y))
 
 -- what `lay` answers

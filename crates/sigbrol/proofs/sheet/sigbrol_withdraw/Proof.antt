@@ -16,7 +16,8 @@ abbrev outcome : tie.After-withdraw → Outcome Sheet
 outcome c =
     let at-start : tie.Start = search in
     let a = at-start .args in
-    withdrawCall (lentAs (a .rows) (a .columns) (a .count) (a .table .now) (a .pixels .now)) (sheetOf (recordIn (a .entries .now)) (a .counts .now)) (a .piece)
+    withdrawCall (lentAs (a .rows) (a .columns) (a .count) (a .gap) (a .table .now) (a .pixels .now))
+    (sheetOf (recordIn (a .entries .now)) (a .counts .now)) (a .piece)
 
 -- what `withdraw` answers
 answered : (c : tie.After-withdraw) →

@@ -12,7 +12,7 @@ use Rattle.sigbrol.proofs.strips.sigbrol_stretch.Tie as tie
 
 -- the lent job and stores
 abbrev lentJob : tie.Start → Lent
-lentJob s = let a = s .args in lentAs (a .rows) (a .columns) (a .count) (a .table .now) (a .pixels .now)
+lentJob s = let a = s .args in lentAs (a .rows) (a .columns) (a .count) (a .gap) (a .table .now) (a .pixels .now)
 
 abbrev lentStores : tie.Start → Stores
 lentStores s = let a = s .args in storesBy (a .row-strips .now) (a .row-starts .now) (a .column-strips .now) (a .column-starts .now)

@@ -15,7 +15,7 @@ lentStores s = let a = s .args in storesBy (a .row-strips .now) (a .row-starts .
 
 -- the outcome of the call
 outcome : tie.Start → Outcome Stores
-outcome s = let a = s .args in stripsCall (lentAs (a .rows) (a .columns) (a .count) (a .table .now) (a .pixels .now)) (a .turns .now) (lentStores s)
+outcome s = let a = s .args in stripsCall (lentAs (a .rows) (a .columns) (a .count) (a .gap) (a .table .now) (a .pixels .now)) (a .turns .now) (lentStores s)
 
 -- its answer tells that outcome
 answered : (c : tie.After-strips) →

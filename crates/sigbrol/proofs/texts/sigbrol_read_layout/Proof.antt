@@ -12,7 +12,7 @@ use Rattle.sigbrol.proofs.texts.sigbrol_read_layout.Tie as tie
 -- the outcome of the call
 outcome : tie.Start → Outcome Layout
 outcome s = let a = s .args in
-    readLayoutCall (lentAs (a .rows) (a .columns) (a .count) (a .table .now) (a .pixels .now)) (a .text .now) (length (a .layout .now))
+    readLayoutCall (lentAs (a .rows) (a .columns) (a .count) (a .gap) (a .table .now) (a .pixels .now)) (a .text .now) (length (a .layout .now))
 
 -- its answer tells that outcome
 answered : (c : tie.After-read-layout) →

@@ -11,7 +11,7 @@ use Rattle.sigbrol.proofs.texts.sigbrol_write_layout.Tie as tie
 -- the outcome of the call
 outcome : tie.Start → Outcome (List ℕ)
 outcome s = let a = s .args in
-    writeLayoutCall (lentAs (a .rows) (a .columns) (a .count) (a .table .now) (a .pixels .now)) (a .layout .now) (length (a .text .now))
+    writeLayoutCall (lentAs (a .rows) (a .columns) (a .count) (a .gap) (a .table .now) (a .pixels .now)) (a .layout .now) (length (a .text .now))
 
 -- its answer tells that outcome
 answered : (c : tie.After-write-layout) →
