@@ -42,8 +42,8 @@ use Rattle.call_laws.specs.Stores.{StretchClaims}
 use Rattle.call_laws.proofs.Stores.{stretch-some, stretch-tells, stretch-after, stretch-lent, stretch-rebuilt}
 use Rattle.call_laws.specs.Rebuilding.{PieceOf, RebuildClaims, RebuiltAs}
 use Rattle.call_laws.proofs.Rebuilding.{strips-well-piece, rebuild-given}
-use Rattle.call_laws.specs.Overlaps.{PairNear, PenaltyClaims, SumClaims, DepthClaims}
-use Rattle.call_laws.proofs.Overlaps.{penalty-given, penalty-order, depth-given, share-given, no-fit-given, weighted-given, plain-given}
+use Rattle.call_laws.specs.Overlaps.{PairNear, PairShared, PenaltyClaims, SumClaims, DepthClaims}
+use Rattle.call_laws.proofs.Overlaps.{penalty-given, penalty-order, depth-given, share-given, share-paper, no-fit-given, weighted-given, plain-given}
 use Rattle.call_laws.specs.Checks.{LowestPair, Checked, conflictRefusal}
 use Rattle.call_laws.proofs.Checks.{check-given, check-conflict}
 use Rattle.strip_laws.specs.Turns.{TurnedExactly}
@@ -140,6 +140,9 @@ pub record Demand2Calls : Type 0 where
   -- the test for a conflict, depths, penalty and no-fit rows and columns are those of the pixel sets, by the job's gap
   pub shares : (l : Lent) (es : List (List ℕ)) (i k : ℕ) (b : Bool) → shareCall l es i k ≡ given b
       → (b ≡ true) ↔ PairNear (jobOf l) (layoutOf es) i k
+  -- of a job without a gap the test is the paper's: it tells whether the two share a pixel
+  pub sharesPaper : (l : Lent) (es : List (List ℕ)) (i k : ℕ) (b : Bool) → shareCall l es i k ≡ given b → l .size .gap ≡ 0
+      → (b ≡ true) ↔ PairShared (jobOf l) (layoutOf es) i k
   pub depths : (d : Direction) (l : Lent) (es : List (List ℕ)) (i k n : ℕ) → depthCall d l es i k ≡ given n
       → DepthClaims d (jobOf l) (layoutOf es) i k n
   pub penalties : (l : Lent) (es : List (List ℕ)) (i k n : ℕ) → penaltyCall l es i k ≡ given n → PenaltyClaims (jobOf l) (layoutOf es) i k n
@@ -239,6 +242,7 @@ demand2-calls =
       rebuildCheck = strips-well-piece;
       rebuilds = rebuild-given;
       shares = share-given;
+      sharesPaper = share-paper;
       depths = depth-given;
       penalties = penalty-given;
       penaltyAlike = penalty-order;

@@ -1,7 +1,8 @@
 -- Demand 2 of the public calls (document 01, 'No-fit rows and penalty', with document 02's gap): whatever a caller lends, a test for a conflict,
 -- a depth, a penalty, a no-fit row or a sum that is not refused is that of the pieces' pixel sets where the lent layout puts them. The call's causes are
 -- not there, so the two numbers are pieces of the job, and a lent job's boxes have sides of at most 255. Assumes nothing.
-use Rattle.list_laws.proofs.Kit.{_≡_, ap, ap₂, refl, sym, Bool, _&&_, _||_, false, not, true, ⊎-elim, _↔_, _≢_, List, [], _∷_, _<_, _≤_, ℕ, eqb, ltb, ℤ, eq-eqb, eqb-false}
+use Rattle.list_laws.proofs.Kit.{_≡_, ap, ap₂, refl, sym, Bool, _&&_, _||_, false, not, true, ⊎-elim, _↔_, _≢_, List, []}
+use Rattle.list_laws.proofs.Kit.{_∷_, _<_, _≤_, ℕ, eqb, ltb, ℤ, eq-eqb, eqb-false}
 use Rattle.list_laws.proofs.Kit.{eqb-true, ltb-true, not-false}
 use Rattle.model.specs.Overlap.{OffsetRun}
 use Rattle.model.specs.Layout.{Job, Layout, turnedPiece, shapeIn, cornerIn, placeOf, pairOf, pairConflicts, pairPenalty, pairDepth, weightedSum, plainSum}
@@ -24,7 +25,7 @@ use Rattle.descent_laws.specs.Claims.{ValidLayout, ValidWeights}
 use Rattle.descent_laws.proofs.Sums.{zero-exactly, pair-mem}
 use Rattle.descent_laws.proofs.Guided.{unit-valid}
 use Rattle.descent_laws.proofs.Bounds.{BoxesSmall, pair-penalty-largest, weighted-at-most}
-use Rattle.call_laws.specs.Overlaps.{PairLaws, PairNear, DepthClaims, PenaltyClaims, SumClaims}
+use Rattle.call_laws.specs.Overlaps.{PairLaws, PairNear, PairShared, DepthClaims, PenaltyClaims, SumClaims}
 use Rattle.call_laws.proofs.Jobs.{lent-boxes-small, lent-no-fit}
 use Rattle.call_laws.proofs.Layouts.{job-well, layout-valid, lent-weights-valid}
 
@@ -99,6 +100,7 @@ depth-given d l es i k n e =
     (record {
       shifts = laws .depths d;
       overPixels = laws .pixelDepths d _ .1 refl;
+      paper = λ none. rw none (paper-penalty _ _ _ _ .depth-is d);
       small =
           laws .bounded d (lent-gap l (p .well)) (lent-turned-small l (p .well) d i (placeOf v i .turn) (p .first))
           (lent-turned-small l (p .well) d k (placeOf v k .turn) (p .second));
@@ -111,6 +113,15 @@ unfolding shareCall pairConflicts
 share-given l es i k b e =
     let u = given-unless (pairCauses l es i k) (pairConflicts (jobOf l) (layoutOf es) (pairOf i k)) b e in
     rw (← u .same) (demand2-penalty _ _ _ _ _ .conflictExactly)
+
+-- and in a job without a gap exactly when they share a pixel
+pub share-paper : (l : Lent) (es : List (List ℕ)) (i k : ℕ) (b : Bool) → shareCall l es i k ≡ given b → l .size .gap ≡ 0
+    → (b ≡ true) ↔ PairShared (jobOf l) (layoutOf es) i k
+unfolding shareCall pairConflicts jobOf
+share-paper l es i k b e none =
+    let u = given-unless (pairCauses l es i k) (pairConflicts (jobOf l) (layoutOf es) (pairOf i k)) b e in
+    let p = paper-penalty (shapeIn (jobOf l) (layoutOf es) i) (cornerIn (layoutOf es) i) (shapeIn (jobOf l) (layoutOf es) k) (cornerIn (layoutOf es) k) in
+    rw (← u .same, none, p .share-is) (p .sharedExactly)
 
 -- ── no-fit rows and columns ──
 

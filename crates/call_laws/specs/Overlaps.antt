@@ -5,10 +5,10 @@ use mathlib.Core.Logic.{_↔_}
 use mathlib.Core.Path.{_≡_}
 use Prim.Native.Nat.{ℕ, _≤_}
 use Rattle.model.specs.Layout.{Job, Layout, shapeIn, cornerIn, weightedSum}
-use Rattle.model.specs.Overlap.{penalty, conflictPenalty}
+use Rattle.model.specs.Overlap.{depth, penalty, conflictPenalty}
 use Rattle.model.specs.declared.Direction.{Direction}
 use Rattle.overlap_laws.specs.PixelDepth.{DepthOverPixels, PenaltyOverPixels}
-use Rattle.overlap_laws.specs.Overlap.{PenaltyLaws, NearPixels, LeastShift, conflictsShifted}
+use Rattle.overlap_laws.specs.Overlap.{PenaltyLaws, NearPixels, SharedPixel, LeastShift, conflictsShifted}
 use Rattle.descent_laws.specs.Claims.{NoConflict}
 use Rattle.descent_laws.specs.Sums.{sumBound}
 
@@ -20,12 +20,18 @@ PairLaws j v i k = PenaltyLaws (j .size .gap) (shapeIn j v i) (cornerIn v i) (sh
 abbrev pub PairNear : Job → Layout → ℕ → ℕ → Type 0
 PairNear j v i k = NearPixels (j .size .gap) (shapeIn j v i) (cornerIn v i) (shapeIn j v k) (cornerIn v k)
 
+-- the two pieces share a pixel
+abbrev pub PairShared : Job → Layout → ℕ → ℕ → Type 0
+PairShared j v i k = SharedPixel (shapeIn j v i) (cornerIn v i) (shapeIn j v k) (cornerIn v k)
+
 -- what a depth that is given means: it is the least |t|, t whole, such that the second piece shifted by t does not conflict with the first
 pub record DepthClaims (d : Direction) (j : Job) (v : Layout) (i k n : ℕ) : Type 0 where
   -- by the test for a conflict
   pub shifts : LeastShift (conflictsShifted (j .size .gap) d (shapeIn j v i) (cornerIn v i) (shapeIn j v k) (cornerIn v k)) n
   -- over pixels
   pub overPixels : DepthOverPixels (j .size .gap) d (shapeIn j v i) (cornerIn v i) (shapeIn j v k) (cornerIn v k) n
+  -- with a gap of 0 it is the paper's
+  pub paper : j .size .gap ≡ 0 → n ≡ depth d (shapeIn j v i) (cornerIn v i) (shapeIn j v k) (cornerIn v k)
   -- it is at most 263
   pub small : n ≤ 263
 

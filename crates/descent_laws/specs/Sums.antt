@@ -10,6 +10,6 @@ pub record PairOrdered (i n : ℕ) (p : Pair) : Type 0 where
   pub rising : p .first < p .second
   pub below : p .second < n
 
--- the largest weighted sum: 2,016 pairs, each of weight 65,535 and penalty 255
+-- a bound of the weighted sum: 2,016 pairs, each of weight 65,535 and penalty 255, which is more than any has
 abbrev pub sumBound : ℕ
 sumBound = 2016 * (weightBound * sideBound)

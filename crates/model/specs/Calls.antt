@@ -43,7 +43,8 @@ use Rattle.model.specs.Bounded.{anyBelow}
 use Rattle.model.specs.Piece.{Shape, tight, sideBound}
 use Rattle.model.specs.Strip.{strips, rebuilt}
 use Rattle.model.specs.Overlap.{OffsetRun, noFit}
-use Rattle.model.specs.Layout.{Job, Layout, Pair, pairOf, pairs, turnedPiece, allowed, inside, placeOf, pairConflicts, pairPenalty, pairDepth, weightedSum}
+use Rattle.model.specs.Layout.{Job, Layout, Pair, pairOf, pairs, turnedPiece, allowed, inside}
+use Rattle.model.specs.Layout.{placeOf, pairConflicts, pairPenalty, pairDepth, weightedSum}
 use Rattle.model.specs.Layout.{withPlace, plainSum, usedLength, figures, conflictingPair}
 use Rattle.model.specs.Search.{Best, places, searchLine}
 use Rattle.model.specs.Descent.{Descent, descend}

@@ -10,9 +10,10 @@ use Rattle.model.specs.Refusal.{Outcome, given, Cause, cause, unless, wr
 use Rattle.model.specs.Refusal.{wrongLength}
 use Rattle.model.specs.Lent.{Lent, turnsBound, areaBound, upTo, numbersInRange}
 use Rattle.model.specs.declared.JobSize.{JobSize}
-use Rattle.model.specs.Text.{bytes, byte, lineEnd, Reading, wrong, got, onward, after, threeFields, fourFields, lineAt, orElse, field, causeIn, formed, andThen}
+use Rattle.model.specs.Text.{bytes, byte, lineEnd, Reading, wrong, got, onward, after, threeFields, fourFields}
+use Rattle.model.specs.Text.{lineAt, orElse, field, causeIn, formed, andThen}
 
--- the word that begins the job line; 1 is the version
+-- the word that begins a job line of version 1, which has no gap
 abbrev pub jobWord : List ℕ
 jobWord = bytes "job,1,"
 

@@ -51,7 +51,7 @@ inputLength =
     sameNumbers (programText (replicate 65536 comma)) (bytes "refused,1,1\n")
     && sameNumbers (programText (replicate 65537 comma)) (bytes "refused,7,0\n")
 
--- the last line of the largest plain sum, 2,016 pairs of penalty 255, which has more digits than a job's numbers
+-- the last line of a plain sum of 2,016 times 255, more than any, which has more digits than a job's numbers
 largestSum : Bool
 largestSum = sameNumbers (wordLine (endWord 514080) (514080 ∷ 20000 ∷ 0 ∷ 4096 ∷ [])) (bytes "end,open,514080,20000,0,4096\n")
 

@@ -3,7 +3,8 @@
 -- parts the two, so all before it share a pixel; and it does not run out, since a shift by half the sum of the two extents, or
 -- more, parts them for one of the signs: pixels shared at both signs would lie farther apart than the boxes reach.
 -- Assumes nothing.
-use Rattle.list_laws.proofs.Kit.{_∙_, _≡_, ap, refl, sym, Bool, false, not, true, _⊎_, inl, inr, ⊎-elim, _+_, _<_, _≤_, suc, zero, ℕ, eq-or-lt-of-le, le-antisymm}
+use Rattle.list_laws.proofs.Kit.{_∙_, _≡_, ap, refl, sym, Bool, false, not, true, _⊎_, inl, inr, ⊎-elim, _+_}
+use Rattle.list_laws.proofs.Kit.{_<_, _≤_, suc, zero, ℕ, eq-or-lt-of-le, le-antisymm}
 use Rattle.list_laws.proofs.Kit.{arith, by-contra, natAbs, negsuc, pos, ℤ, not-false, not-true}
 use Rattle.model.specs.Piece.{Point, Shape, shift, extent}
 use Rattle.model.specs.Overlap.{share, apartAt, reach, depth}
@@ -178,11 +179,13 @@ depth-pixels d s u t v s′ t′ e f =
 -- ── over whole shifts ──
 
 -- t shifted up by m
-shift-up : (d : Direction) (s : Shape) (u : Point) (t : Shape) (v : Point) (m : ℕ) → share s u t (shift d m v) ≡ false → PartingShift (sharesShifted d s u t v) m
+shift-up : (d : Direction) (s : Shape) (u : Point) (t : Shape) (v : Point) (m : ℕ) → share s u t (shift d m v) ≡ false
+    → PartingShift (sharesShifted d s u t v) m
 shift-up d s u t v m e = record { amount = pos m; size = refl; apart = rw (shift-zero d u) e }
 
 -- t shifted down by m: s shifted up by m
-shift-down : (d : Direction) (s : Shape) (u : Point) (t : Shape) (v : Point) (m : ℕ) → share s (shift d m u) t v ≡ false → PartingShift (sharesShifted d s u t v) m
+shift-down : (d : Direction) (s : Shape) (u : Point) (t : Shape) (v : Point) (m : ℕ) → share s (shift d m u) t v ≡ false
+    → PartingShift (sharesShifted d s u t v) m
 shift-down d s u t v zero e = record { amount = pos 0; size = refl; apart = rw (shift-zero d v) e }
 shift-down d s u t v (suc n) e = record { amount = negsuc n; size = refl; apart = rw (shift-zero d v) e }
 

@@ -3,7 +3,8 @@
 -- meet at the larger of the two coordinates. And a pixel that both grown shapes have comes from two pixels at most g to its left and below it. The
 -- depths and the penalty follow. Instead of both growing by g, one may grow by g on every side: that is by 2g to the right and up, with the other's
 -- corner g further up and to the right. Assumes nothing.
-use Rattle.list_laws.proofs.Kit.{_∙_, _≡_, refl, sym, ap, _&&_, not, _||_, true, false, Bool, _↔_, _+_, _-_, _<_, _≤_, suc, zero, ℕ, arith, leb, le-leb, leb-true, max, min}
+use Rattle.list_laws.proofs.Kit.{_∙_, _≡_, refl, sym, ap, _&&_, not, _||_, true, false, Bool, _↔_, _+_, _-_, _<_, _≤_}
+use Rattle.list_laws.proofs.Kit.{suc, zero, ℕ, arith, leb, le-leb, leb-true, max, min}
 use Rattle.list_laws.proofs.Tests.{and-left, and-right, and-both, same-tests}
 use Rattle.list_laws.proofs.Bounded.{any-witness, any-from}
 use Rattle.model.specs.Bounded.{anyBelow, firstFrom}
@@ -13,7 +14,8 @@ use Rattle.model.specs.declared.Direction.{Direction}
 use Rattle.model.specs.declared.Direction.the-variants.{Horizontal, Vertical}
 use Rattle.overlap_laws.specs.Overlap.{SharedPixel, NearPixels, raised, sharesShifted, conflictsShifted}
 use Rattle.overlap_laws.specs.Grown.{grown, grownHas}
-use Rattle.overlap_laws.proofs.Share.{PixelOf, pixel-facts, pixel-from, Covered, covers-witness, covers-from, share-witness, share-from, share-symmetric, SamePixels}
+use Rattle.overlap_laws.proofs.Share.{PixelOf, pixel-facts, pixel-from, Covered, covers-witness, covers-from}
+use Rattle.overlap_laws.proofs.Share.{share-witness, share-from, share-symmetric, SamePixels}
 
 -- ── conflict, over pixels ──
 

@@ -1,7 +1,8 @@
 -- Document 02, point 4: the largest penalty. Two pieces of one job have boxes of at most 65,536 pixels together, so they cannot both be long and high: if the
 -- lengths came to 384 and the heights too, the boxes would be too large. So one of the depths is at most half of 383 and twice the gap, 199,
 -- though a depth alone may be 263. Boxes of 255 × 128 and 128 × 255 reach it. Assumes nothing.
-use Rattle.list_laws.proofs.Kit.{_≡_, ⊎-elim, _⊎_, inl, inr, _+_, _-_, _*_, _<_, _≤_, ℕ, add-mul, mul-add, mul-comm, mul-le-mul, arith, leb, leb-true, leb-false}
+use Rattle.list_laws.proofs.Kit.{_≡_, ⊎-elim, _⊎_, inl, inr, _+_, _-_, _*_, _<_, _≤_, ℕ, add-mul}
+use Rattle.list_laws.proofs.Kit.{mul-add, mul-comm, mul-le-mul, arith, leb, leb-true, leb-false}
 use Rattle.list_laws.proofs.Tests.{decided}
 use Rattle.model.specs.Piece.{Point, Shape, extent}
 use Rattle.model.specs.Overlap.{conflictPenalty}

@@ -3,7 +3,8 @@
 -- of at most 255 and a gap of at most 8 they lie between -262 and 262, and `noFit`, which tries these, leaves none out. That the runs list just
 -- the offsets that pass, are maximal and ascend is the law of `runs`, carried from numbers biased by 262 to whole numbers.
 -- Assumes nothing.
-use Rattle.list_laws.proofs.Kit.{_∙_, _≡_, ap, subst, sym, true, ⊎-elim, Iff·symm, Iff·trans, _↔_, List, map, _+_, _-_, _<_, _≤_, suc, ℕ, arith, _+ℤ_, pos, negsuc, predℤ, natAbs}
+use Rattle.list_laws.proofs.Kit.{_∙_, _≡_, ap, subst, sym, true, ⊎-elim, Iff·symm, Iff·trans, _↔_, List, map, _+_, _-_, _<_, _≤_}
+use Rattle.list_laws.proofs.Kit.{suc, ℕ, arith, _+ℤ_, pos, negsuc, predℤ, natAbs}
 use Rattle.list_laws.proofs.Kit.{subℕ, ℤ, _<ℤ_, _≤ℤ_, leb, leb-true, leb-false}
 use Rattle.model.specs.Piece.{Point, Shape, along, across, point, extent}
 use Rattle.model.specs.Strip.{Run, runs}
@@ -18,7 +19,8 @@ use Rattle.overlap_laws.specs.PixelDepth.{PixelOffset}
 use Rattle.overlap_laws.specs.Overlap.{NearPixels}
 use Rattle.overlap_laws.proofs.Share.{pixel-along, along-point, across-point}
 use Rattle.overlap_laws.proofs.Grown.{conflict-witness, conflict-from, near-along, near-across, near-over}
-use Rattle.overlap_laws.proofs.Whole.{whole-eq, sub-whole, up-down, sub-eq, pred-whole, add-whole, add-signed, sub-up, sub-down, le-whole, whole-le, lt-whole, whole-lt}
+use Rattle.overlap_laws.proofs.Whole.{whole-eq, sub-whole, up-down, sub-eq, pred-whole, add-whole, add-signed, sub-up}
+use Rattle.overlap_laws.proofs.Whole.{sub-down, le-whole, whole-le, lt-whole, whole-lt}
 
 -- ── offsets ──
 
@@ -221,7 +223,8 @@ no-fit-line g d s t small h k o =
       maximal =
           λ r m.
           let z : Source unbiased (runs (noFitAt g d s t o) n) r = map-source unbiased (runs (noFitAt g d s t o) n) m in
-          subst (MaximalOffsetRun g d s t o) (sym (z .image)) (run-maximal g d s t o small h k (z .from) (runs-maximal (noFitAt g d s t o) n (z .from) (z .listed)));
+          subst (MaximalOffsetRun g d s t o) (sym (z .image))
+          (run-maximal g d s t o small h k (z .from) (runs-maximal (noFitAt g d s t o) n (z .from) (z .listed)));
       ascending = pairwise-map OffsetRunBefore unbiased run-before (runs-ascending (noFitAt g d s t o) n);
     }
 

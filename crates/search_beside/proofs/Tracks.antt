@@ -28,7 +28,8 @@ track-asked l i w b =
     ((omega arith, (omega arith, omega arith)), facts l w .smallGap)
 
 -- a line has no more places than the sheet has pixels along it, for a box of some
-places-few : (j : Job) (i : ℕ) (t : Turn) (line : Line) → 1 ≤ extent (lineDirection line) (turnedPiece j i t) → places j i t line ≤ sheetExtent (lineDirection line) j
+places-few : (j : Job) (i : ℕ) (t : Turn) (line : Line) → 1 ≤ extent (lineDirection line) (turnedPiece j i t)
+    → places j i t line ≤ sheetExtent (lineDirection line) j
 unfolding places
 places-few j i t line some =
     go (leb (held line + extent (other (lineDirection line)) (turnedPiece j i t)) (sheetExtent (other (lineDirection line)) j))

@@ -1,7 +1,7 @@
 // The map of a moved piece and a standing one: one bit for each offset of their corners at which the boxes meet, set exactly where the
 // pieces share a pixel. Such an offset is a pixel of the standing piece plus a pixel of the moved piece turned by half, so the map is made
 // by adding the one's strips to the other's marks. specs/Map.antt says where a bit stands. One code for rows and columns: strips of
-// rows make the map that is read along rows. Pieces that are to keep a gap make the map of the moved piece grown by it: its marks
+// rows make the map that is read along rows. Pieces that are to keep a gap make the map of the moved piece grown by twice the gap: its marks
 // are moved up by so many pixels and rows as well.
 ghost use mathlib.Core.Path.{_≡_};
 ghost use Prim.Native.Nat.{_+_, _*_, _<_, _≤_};

@@ -71,8 +71,8 @@ returns-2 c =
     let v = layoutOf (a .layout .now) in (
       rw (
         unless-given _ _ (passed told),
-        ready-whole (a .size .gap) (ready told .gapSmall) (a .size) (a .table .now) (a .pixels .now) (a .i) p (first-ready first) (a .k) q (second-ready second) (a .direction)
-            (measured .placed-depth .result) (measured .placed-depth .ensures (a .size))
+        ready-whole (a .size .gap) (ready told .gapSmall) (a .size) (a .table .now) (a .pixels .now) (a .i) p (first-ready first)
+            (a .k) q (second-ready second) (a .direction) (measured .placed-depth .result) (measured .placed-depth .ensures (a .size))
             ∙ placed-at (conflictDepth (a .size .gap) (a .direction)) j (a .i) p (placeOf v (a .i)) (a .k) q (placeOf v (a .k))
             (first .place-at .ensures) (second .place-at2 .ensures),
       ),
@@ -82,4 +82,5 @@ returns-2 c =
 pub depth-spec : {M : Type 1} → statement M
 depth-spec =
     tie.close
-    (tie.spec (search needs) (search needs) (search needs) cast-gap place-at-requires place-at-requires-2 placed-depth-requires (search needs) returns returns-2)
+    (tie.spec (search needs) (search needs) (search needs) cast-gap place-at-requires place-at-requires-2 placed-depth-requires (search needs) returns
+    returns-2)

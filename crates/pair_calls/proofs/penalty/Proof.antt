@@ -80,4 +80,5 @@ returns-2 c =
 pub penalty-spec : {M : Type 1} → statement M
 penalty-spec =
     tie.close
-    (tie.spec (search needs) (search needs) (search needs) cast-gap place-at-requires place-at-requires-2 placed-penalty-requires (search needs) returns returns-2)
+    (tie.spec (search needs) (search needs) (search needs) cast-gap place-at-requires place-at-requires-2 placed-penalty-requires (search needs) returns
+    returns-2)

@@ -72,7 +72,8 @@ returns-2 c =
     rw (
       unless-given _ _ (passed told),
       ap (λ (n : ℕ). eqb n 1) (measured .placed-depth .ensures (a .size)) ∙ depth-conflicts (a .size .gap) Horizontal _ (corner p) _ (corner q)
-          ∙ placed-at (conflict (a .size .gap)) j (a .i) p (placeOf v (a .i)) (a .k) q (placeOf v (a .k)) (first .place-at .ensures) (second .place-at2 .ensures),
+          ∙ placed-at (conflict (a .size .gap)) j (a .i) p (placeOf v (a .i)) (a .k) q (placeOf v (a .k))
+          (first .place-at .ensures) (second .place-at2 .ensures),
     )
 
 pub shares-pixel-spec : {M : Type 1} → statement M

@@ -26,7 +26,8 @@ returns c =
     let a = e .args in
     let x = k .keep-line in (
       line-read (lent e) (a .run) (a .strips .now) (a .starts .now) (a .lines .now) (a .maps .now) (a .sweep .mover) (a .sweep .track) (a .standing) (a .k)
-          (e .pre .0) (e .pre .1 .0) (e .pre .1 .1 .0 .0) (d .direction-of .result) (d .direction-of .ensures) (e .pre .1 .1 .0 .1 .0) _ (x .result) (x .ensures .0)
+          (e .pre .0) (e .pre .1 .0) (e .pre .1 .1 .0 .0) (d .direction-of .result) (d .direction-of .ensures) (e .pre .1 .1 .0 .1 .0) _
+          (x .result) (x .ensures .0)
           (x .ensures .1 .0),
       line-ready (lent e) (a .run) (a .strips .now) (a .starts .now) (a .lines .now) (a .maps .now) (a .sweep .mover) (a .sweep .track) (a .standing) (a .k)
           (e .pre .0) (e .pre .1 .0) (e .pre .1 .1 .0 .0) _ _ (x .ensures .1 .1 .0) (x .ensures .1 .1 .1),

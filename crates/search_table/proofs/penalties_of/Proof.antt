@@ -28,7 +28,7 @@ fill-table-requires c κs =
       s .pre .0,
       (
         kept-none _ _ _ _ _ _ (s .pre .0) (omega arith) (row-spans .no-spans .ensures),
-        (kept-none _ _ _ _ _ _ (s .pre .0) (omega arith) (column-spans .no-spans2 .ensures), (refl, s .pre .1)),
+        (kept-none _ _ _ _ _ _ (s .pre .0) (omega arith) (column-spans .no-spans2 .ensures), (refl, let g = s .pre .1 in omega arith)),
       ),
     )
 

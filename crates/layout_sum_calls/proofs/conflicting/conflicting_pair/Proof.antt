@@ -16,7 +16,7 @@ first-conflicting-requires c κs =
     let rows : tie.After-empty-store = search in
     let spans : tie.After-no-spans = search in
     let wide = rows .empty-store .ensures in
-    (s .pre .0, (kept-none _ _ _ _ _ _ (s .pre .0) (omega arith) (spans .no-spans .ensures), s .pre .1))
+    (s .pre .0, (kept-none _ _ _ _ _ _ (s .pre .0) (omega arith) (spans .no-spans .ensures), let g = s .pre .1 in omega arith))
 
 returns : tie.Need-returns
 returns c =
