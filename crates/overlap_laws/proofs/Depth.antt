@@ -92,10 +92,6 @@ module _ (d : Direction) (s : Shape) (u : Point) (t : Shape) (v : Point) where
   pub depth-parts : (share s u t (shift d (depth d s u t v) v) ≡ false) ⊎ (share s (shift d (depth d s u t v) u) t v ≡ false)
   depth-parts = apart-cases (depth d s u t v) depth-apart
 
-  -- the depth is at most 255 for boxes with sides at most 255
-  pub depth-bound : extent d s ≤ 255 → extent d t ≤ 255 → depth d s u t v ≤ 255
-  depth-bound a b = depth-half 255 (omega arith)
-
   -- pieces that share no pixel have depth 0
   pub depth-zero : share s u t v ≡ false → depth d s u t v ≡ 0
   depth-zero e =

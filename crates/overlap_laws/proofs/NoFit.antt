@@ -19,7 +19,7 @@ use Rattle.overlap_laws.specs.PixelDepth.{PixelOffset}
 use Rattle.overlap_laws.specs.Overlap.{NearPixels}
 use Rattle.overlap_laws.proofs.Share.{pixel-along, along-point, across-point}
 use Rattle.overlap_laws.proofs.Grown.{conflict-witness, conflict-from, near-along, near-across, near-over}
-use Rattle.overlap_laws.proofs.Whole.{whole-eq, sub-whole, up-down, sub-eq, pred-whole, add-whole, add-signed, sub-up}
+use Rattle.overlap_laws.proofs.Whole.{whole-eq, sub-whole, up-down, pred-whole, add-whole, add-signed, sub-up}
 use Rattle.overlap_laws.proofs.Whole.{sub-down, le-whole, whole-le, lt-whole, whole-lt}
 
 -- ── offsets ──

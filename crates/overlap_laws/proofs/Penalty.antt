@@ -9,9 +9,9 @@ use Rattle.model.specs.declared.Direction.{Direction}
 use Rattle.model.specs.declared.Direction.the-variants.{Horizontal, Vertical}
 use Rattle.list_laws.proofs.Tests.{clash, fails}
 use Rattle.list_laws.proofs.Extremes.{min-one}
-use Rattle.overlap_laws.specs.Overlap.{PenaltyLaws, PaperLaws, SharedPixel, NearPixels}
+use Rattle.overlap_laws.specs.Overlap.{PenaltyLaws, PaperLaws, NearPixels}
 use Rattle.overlap_laws.specs.Grown.{grown}
-use Rattle.overlap_laws.proofs.Share.{SameDifference, SamePixels, share-exactly, share-witness, share-symmetric, share-pixels}
+use Rattle.overlap_laws.proofs.Share.{SameDifference, SamePixels, share-exactly, share-symmetric, share-pixels}
 use Rattle.overlap_laws.proofs.Grown.{conflict-exactly, conflict-from, conflict-witness, conflict-grown, conflict-widened, depth-grown, penalty-grown}
 use Rattle.overlap_laws.proofs.Grown.{grown-none, grown-extent}
 use Rattle.overlap_laws.proofs.Depth.{depth-zero, zero-depth, depth-symmetric, depth-difference, depth-pixels, depth-half}
@@ -92,22 +92,6 @@ conflict-depth-symmetric g d s u t v = depth-grown g d s u t v ∙ depth-symmetr
 
 pub conflict-penalty-symmetric : (g : ℕ) (s : Shape) (u : Point) (t : Shape) (v : Point) → conflictPenalty g s u t v ≡ conflictPenalty g t v s u
 conflict-penalty-symmetric g s u t v = penalty-grown g s u t v ∙ penalty-symmetric _ u _ v ∙ sym (penalty-grown g t v s u)
-
--- pieces that share a pixel conflict, by every gap
-pub share-conflict : (g : ℕ) (s : Shape) (u : Point) (t : Shape) (v : Point) → share s u t v ≡ true → conflict g s u t v ≡ true
-share-conflict g s u t v e =
-    let w : SharedPixel s u t v = share-witness s u t v e in
-    conflict-from g s u t v
-    (record {
-      p = w .p;
-      q = w .q;
-      ofFirst = w .ofFirst;
-      ofSecond = w .ofSecond;
-      left = omega (arith, w .column);
-      right = omega (arith, w .column);
-      below = omega (arith, w .row);
-      above = omega (arith, w .row);
-    })
 
 -- ── demand 2 ──
 

@@ -40,14 +40,6 @@ sub-down m n l = up-test m n (ltb m n) refl l
 pub up-down : (z : ℤ) → subℕ (up z) (down z) ≡ z
 up-down z = whole-eq _ _ (omega (arith, sub-whole (up z) (down z)))
 
--- differences of numbers as far apart are equal
-pub sub-eq : (m n k l : ℕ) → m + l ≡ k + n → subℕ m n ≡ subℕ k l
-sub-eq m n k l e = whole-eq _ _ (omega (arith, sub-whole m n, sub-whole k l))
-
--- numbers with equal differences are as far apart
-pub eq-sub : (m n k l : ℕ) → subℕ m n ≡ subℕ k l → m + l ≡ k + n
-eq-sub m n k l e = omega (arith, sub-whole m n, sub-whole k l, ap up e, ap down e)
-
 -- the number before a whole number
 pub pred-whole : (z : ℤ) → up (predℤ z) + down z + 1 ≡ up z + down (predℤ z)
 pred-whole (pos zero) = omega arith

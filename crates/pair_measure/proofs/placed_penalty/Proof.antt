@@ -13,7 +13,7 @@ penalty-in-requires c κs =
     let r = s .pre in
     let room = subst (Roomy (s .args .table .now) (s .args .i) (s .args .k)) (sym (made .small-store .ensures))
     (asked .few-strips .ensures (tested .if1 .taken)) in
-    (r .0, (r .1 .0, (r .1 .1 .1, room)))
+    (r .0, (r .1 .0, (let g = r .1 .1 .1 in omega arith, room)))
 
 penalty-in-requires-2 : tie.Need-penalty-in-requires-2
 penalty-in-requires-2 c κs =

@@ -43,7 +43,7 @@ put-line-requires c κs =
     let s : tie.Start = search in
     let d = s .args .direction in (
       first-ordered d (lent s) (one s) (two s) (passed told),
-      (second-ordered d (lent s) (one s) (two s) (passed told), small told),
+      (second-ordered d (lent s) (one s) (two s) (passed told), let g = small told in omega arith),
     )
 
 returns : tie.Need-returns
