@@ -6,8 +6,8 @@ use Rattle.list_laws.proofs.Tests.{and-right, clash, or-cases, or-neither}
 use lib.Bits.{bitOr, or-lt}
 use lib.Pow.{pow-pos}
 use Rattle.model.specs.Layout.{Job, Layout}
-use Rattle.search_bits.specs.Bit.{bitAt}
-use Rattle.search_bits.proofs.Laws.{bit-or, bit-shl, bit-above, bit-of-zero}
+use Rattle.bit_laws.specs.Bit.{bitAt}
+use Rattle.bit_laws.proofs.Laws.{bit-or, bit-shl, bit-above, bit-of-zero}
 use Rattle.search_tracks.specs.declared.Mover.{Mover}
 use Rattle.search_beside.specs.Reading.{Apart, NearTold}
 

@@ -9,7 +9,7 @@ use Rattle.model.specs.Layout.{Job, Layout, cornerIn}
 use Rattle.overlap_laws.specs.Grown.{grownPiece, grownIn}
 use Rattle.search_laws.specs.PieceSum.{penaltyOn}
 use Rattle.search_laws.specs.Lines.{linePlaces}
-use Rattle.search_bits.specs.Bit.{bitAt}
+use Rattle.bit_laws.specs.Bit.{bitAt}
 use Rattle.search_tracks.specs.declared.Mover.{Mover}
 
 -- the penalty of the mover at coordinate a and piece k

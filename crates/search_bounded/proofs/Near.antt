@@ -6,9 +6,9 @@ use Rattle.list_laws.proofs.Tests.{and-left, and-right, clash}
 use lib.Bits.{bitAnd}
 use lib.Count.{trailingZeros}
 use Rattle.model.specs.Layout.{Job, Layout}
-use Rattle.search_bits.specs.Bit.{bitAt}
-use Rattle.search_bits.proofs.Laws.{bit-of-zero}
-use Rattle.search_bits.proofs.Lowest.{trailing-set, trailing-clear, bit-cleared, cleared-lt}
+use Rattle.bit_laws.specs.Bit.{bitAt}
+use Rattle.bit_laws.proofs.Laws.{bit-of-zero}
+use Rattle.bit_laws.proofs.Lowest.{trailing-set, trailing-clear, bit-cleared, cleared-lt}
 use Rattle.search_tracks.specs.declared.Mover.{Mover}
 use Rattle.search_beside.specs.Reading.{Apart, NearTold}
 use Rattle.search_bounded.specs.Summing.{Summed}

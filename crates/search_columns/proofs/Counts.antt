@@ -3,7 +3,7 @@ use Rattle.list_laws.proofs.Kit.{_∙_, _≡_, ap, ap₂, refl, subst, sym, Boo
 use Rattle.list_laws.proofs.Kit.{add-one, arith, by-contra, getD, length}
 use Rattle.list_laws.proofs.Numbers.{below-or}
 use Rattle.list_laws.proofs.Tests.{and-both, clash, first-fails, second-fails}
-use Rattle.search_bits.specs.Bit.{bitIn}
+use Rattle.bit_laws.specs.Bit.{bitIn}
 use Rattle.search_peel.specs.Peel.{around, Distance, PlaceDone}
 use Rattle.search_columns.specs.Column.{byteMost, FirstClear, FirstWithin, beside, under, SidesDone, counted, fallen, Fallen, Ended, ColumnEnds}
 use Rattle.search_columns.specs.Column.{ColumnDone}

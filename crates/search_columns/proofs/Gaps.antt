@@ -4,14 +4,14 @@ use Rattle.list_laws.proofs.Kit.{_%_, _*_, _+_, _-_, _<_, _^_, _≤_, min, ℕ,
 use Rattle.list_laws.proofs.Numbers.{below-or}
 use Rattle.list_laws.proofs.Tests.{and-both, clash, first-fails, second-fails}
 use lib.Count.{trailingZeros, leadingZeros, leading-le}
-use Rattle.search_bits.specs.Bit.{bitAt, bitIn}
-use Rattle.search_bits.proofs.Lowest.{trailing-set, trailing-clear}
-use Rattle.search_bits.proofs.Highest.{leading-set, leading-clear}
+use Rattle.bit_laws.specs.Bit.{bitAt, bitIn}
+use Rattle.bit_laws.proofs.Lowest.{trailing-set, trailing-clear}
+use Rattle.bit_laws.proofs.Highest.{leading-set, leading-clear}
 use Rattle.search_columns.specs.Column.{FirstClear, FirstWithin, beside, ClearAbove, ClearBelow, GapWithin, Walled}
 use Rattle.list_laws.proofs.Kit.{mod-lt, le-leb, by-contra}
 use Rattle.list_laws.proofs.Tests.{said-no, said-yes}
 use lib.Pow.{pow-pos, shr-le}
-use Rattle.search_bits.proofs.Laws.{bit-not, bit-shl, bit-shr}
+use Rattle.bit_laws.proofs.Laws.{bit-not, bit-shl, bit-shr}
 use Rattle.search_peel.specs.Peel.{BitsAt}
 
 -- 64 bits from p - s on, turned over and moved to the top: the bit t below p

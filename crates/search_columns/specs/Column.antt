@@ -5,7 +5,7 @@ use mathlib.Core.List.{List}
 use mathlib.Core.Path.{_≡_}
 use Prim.Native.Nat.{ℕ, zero, suc, _+_, _-_, _*_, _<_, _≤_, min}
 use lib.ListN.{length, getD}
-use Rattle.search_bits.specs.Bit.{bitAt, bitIn, lengthLimit}
+use Rattle.bit_laws.specs.Bit.{bitAt, bitIn, lengthLimit}
 use Rattle.search_peel.specs.Peel.{around, EndsBy}
 
 -- the largest number that a byte holds

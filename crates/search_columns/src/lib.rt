@@ -4,7 +4,7 @@ ghost use mathlib.Core.Path.{_≡_};
 ghost use Prim.Native.Nat.{_+_, _*_, _<_, _≤_, min};
 ghost use lib.Count.{trailingZeros, leadingZeros};
 ghost use lib.ListN.{length};
-ghost use Rattle.search_bits.specs.Bit.{lengthLimit};
+ghost use Rattle.bit_laws.specs.Bit.{lengthLimit};
 ghost use Rattle.search_columns.specs.Column.{FirstClear, FirstWithin, beside, ClearBelow, GapWithin, Walled, ColumnWalled, SidesDone, counted, Fallen, Ended, ColumnEnds, ColumnDone};
 use search_peel::bits_at;
 use whole_numbers::smaller;

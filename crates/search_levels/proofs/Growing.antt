@@ -6,9 +6,9 @@ use Rattle.list_laws.proofs.Bounded.{any-witness, any-agree}
 use Rattle.list_laws.proofs.Tests.{and-left, and-right, clash, fails}
 use lib.Pow.{pow-mono}
 use Rattle.model.specs.Bounded.{anyBelow}
-use Rattle.search_bits.specs.Bit.{bitIn, lengthLimit}
-use Rattle.search_bits.proofs.Strings.{bit-alike, bit-part, bit-past}
-use Rattle.search_bits.proofs.Wider.{Down, any-wider}
+use Rattle.bit_laws.specs.Bit.{bitIn, lengthLimit}
+use Rattle.bit_laws.proofs.Strings.{bit-alike, bit-part, bit-past}
+use Rattle.bit_laws.proofs.Wider.{Down, any-wider}
 use Rattle.search_levels.specs.Levels.{levelOf, LevelRoom, NextLevel, Grown, Limited, Levels}
 
 -- a test by its cases

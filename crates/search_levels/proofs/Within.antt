@@ -2,8 +2,8 @@
 use Rattle.list_laws.proofs.Kit.{_∙_, _≡_, ap, ap₂, refl, subst, sym, Bool, _&&_, _||_, List, _%_, _*_, _+_, _-_, _/_, _<_, _≤_, ℕ, arith, leb}
 use Rattle.list_laws.proofs.Kit.{getD, length, length-set, set, getD-set-other, getD-set-same, ℕ-discrete}
 use lib.Bits.{bitOr}
-use Rattle.search_bits.specs.Bit.{bitAt, bitIn}
-use Rattle.search_bits.proofs.Strings.{bit-in}
+use Rattle.bit_laws.specs.Bit.{bitAt, bitIn}
+use Rattle.bit_laws.proofs.Strings.{bit-in}
 use Rattle.search_words.specs.Words.{orBit, OrRow}
 use Rattle.search_words.proofs.Moved.{moved, Moving, move-step}
 use Rattle.search_levels.specs.Levels.{Copied, NextLevel}

@@ -7,7 +7,7 @@ use Prim.Native.Nat.{ℕ, _+_, _-_, _*_, _^_, _<_, _≤_}
 use lib.Dec.{leb}
 use lib.ListN.{length, getD, take, drop}
 use Rattle.model.specs.Bounded.{anyBelow}
-use Rattle.search_bits.specs.Bit.{bitIn, lengthLimit}
+use Rattle.bit_laws.specs.Bit.{bitIn, lengthLimit}
 use Rattle.search_words.specs.Words.{Spare, Widened}
 
 -- the most levels: those of strips of up to 511 pixels

@@ -11,7 +11,7 @@ use Rattle.model.specs.declared.Turn.the-variants.{Half}
 use Rattle.job_laws.proofs.Checked.{facts, lent-few, lent-gap}
 use Rattle.overlap_laws.specs.Grown.{grown}
 use Rattle.pair_overlap.specs.Seen.{entries}
-use Rattle.search_bits.specs.Bit.{lengthLimit}
+use Rattle.bit_laws.specs.Bit.{lengthLimit}
 use Rattle.search_shapes.specs.Shapes.{shapeNumber, Held, Shapes, StripsOf}
 use Rattle.search_maps.specs.declared.Sides.{Sides}
 use Rattle.search_maps.specs.Map.{opposite, sidesOf, columnsOf, rowsOf, mapWords, SidesFit, StripsIn, MovedIn, MapOf}

@@ -3,7 +3,7 @@ use Rattle.list_laws.proofs.Kit.{_∙_, _≡_, ap, sym, List, _++_, _+_, _-_, _
 use Rattle.list_laws.proofs.Kit.{drop-of-length-le, getD, getD-append-add, getD-drop, getD-take, length, length-append, length-drop, length-take-le, take}
 use Rattle.list_laws.proofs.Kit.{take-all}
 use Rattle.model.specs.Layout.{Job}
-use Rattle.search_bits.specs.Bit.{lengthLimit}
+use Rattle.bit_laws.specs.Bit.{lengthLimit}
 use Rattle.search_classes.specs.Classes.{Classes}
 use Rattle.search_map_store.specs.Store.{MapsKept, Forgotten}
 use Rattle.search_map_store.proofs.Keeping.{none-kept}

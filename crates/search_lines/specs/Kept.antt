@@ -11,7 +11,7 @@ use Rattle.model.specs.declared.Direction.{Direction}
 use Rattle.model.specs.declared.Direction.the-variants.{Horizontal, Vertical}
 use Rattle.model.specs.declared.Turn.{Turn}
 use Rattle.overlap_laws.specs.Grown.{grownPiece}
-use Rattle.search_bits.specs.Bit.{lengthLimit}
+use Rattle.bit_laws.specs.Bit.{lengthLimit}
 use Rattle.search_shapes.specs.Shapes.{shapeNumber}
 use Rattle.search_laws.specs.Lines.{linePlaces, HoldsLine}
 use Rattle.search_maps.specs.Map.{scratchBound}

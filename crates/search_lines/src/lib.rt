@@ -12,7 +12,7 @@ ghost use Rattle.model.specs.declared.JobSize.{JobSize};
 ghost use Rattle.model.specs.declared.Direction.the-variants.{Horizontal};
 ghost use Rattle.overlap_laws.specs.Grown.{grown};
 ghost use Rattle.search_laws.specs.Lines.{linePlaces, HoldsLine};
-ghost use Rattle.search_bits.specs.Bit.{lengthLimit};
+ghost use Rattle.bit_laws.specs.Bit.{lengthLimit};
 ghost use Rattle.search_maps.specs.Map.{extraLimit, sidesOf};
 ghost use Rattle.search_lines.specs.Kept.{mapSlots, leastMaps, MapsReady, LinesKept, LinesFit, Wide, directionNumber, keyAt, keyBytes, linesBound, slotBound};
 ghost use Rattle.search_lines.specs.Making.{movedShape, standingShape, keyOfTwo, mapKeyOfTwo, SmallTwo, Asked, MapFound, LineMade, KeyPut, Backwards, exchangedTwo};

@@ -13,7 +13,7 @@ use Rattle.overlap_laws.specs.Grown.{grown}
 use Rattle.overlap_laws.proofs.Share.{share-pixels}
 use Rattle.overlap_laws.proofs.Grown.{grown-witness, grown-from, share-balanced}
 use Rattle.overlap_laws.proofs.GrownTurns.{turned-grown}
-use Rattle.search_bits.specs.Bit.{bitIn}
+use Rattle.bit_laws.specs.Bit.{bitIn}
 use Rattle.search_maps.specs.declared.Sides.{Sides}
 use Rattle.search_maps.specs.Map.{sidesOf, mapWords, cellPlace, sharedAt, MapOf}
 

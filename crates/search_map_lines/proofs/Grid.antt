@@ -5,7 +5,7 @@ use Rattle.list_laws.proofs.Kit.{mul-le-mul-right}
 use Rattle.list_laws.proofs.Tests.{fails, same-tests}
 use Rattle.model.specs.Piece.{Shape}
 use Rattle.model.specs.declared.Direction.{Direction}
-use Rattle.search_bits.specs.Bit.{bitIn, lengthLimit}
+use Rattle.bit_laws.specs.Bit.{bitIn, lengthLimit}
 use Rattle.search_maps.specs.Map.{sidesOf, columnsOf, rowsOf, rowWidth, cellPlace, sharedAt, SidesFit, MapOf}
 use Rattle.search_maps.proofs.Shared.{cell-in, two-digits, meets-in, shared-meets}
 use Rattle.search_map_lines.specs.Line.{Bordered}

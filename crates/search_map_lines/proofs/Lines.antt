@@ -9,7 +9,7 @@ use Rattle.model.specs.Piece.{Shape, other, extent}
 use Rattle.model.specs.declared.Direction.{Direction}
 use Rattle.model.specs.declared.Direction.the-variants.{Horizontal, Vertical}
 use Rattle.search_laws.specs.Lines.{middle, linePlaces}
-use Rattle.search_bits.specs.Bit.{bitIn}
+use Rattle.bit_laws.specs.Bit.{bitIn}
 use Rattle.search_words.specs.Words.{Cleared}
 use Rattle.search_maps.specs.declared.Sides.{Sides}
 use Rattle.search_maps.specs.Map.{sidesOf, columnsOf, rowsOf, rowWidth, cellPlace, SidesFit, MapOf}

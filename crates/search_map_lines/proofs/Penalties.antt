@@ -13,7 +13,7 @@ use Rattle.overlap_laws.proofs.Share.{share-witness, share-difference, shared-a
 use Rattle.overlap_laws.proofs.Depth.{depth-before, depth-parts}
 use Rattle.overlap_laws.proofs.Penalty.{penalty-le, penalty-attained, penalty-zero, zero-penalty, penalty-difference}
 use Rattle.search_laws.specs.Lines.{middle, linePenalty}
-use Rattle.search_bits.specs.Bit.{bitIn}
+use Rattle.bit_laws.specs.Bit.{bitIn}
 use Rattle.search_maps.specs.Map.{sidesOf, columnsOf, rowsOf, rowWidth, cellPlace, sharedAt, SidesFit, MapOf}
 use Rattle.search_peel.specs.Peel.{around, Distance, PlaceDone}
 use Rattle.search_map_lines.proofs.Grid.{bit-shared, floor-clear, top-clear, gap-clear}

@@ -10,7 +10,7 @@ use Rattle.model.specs.declared.Direction.{Direction}
 use Rattle.model.specs.declared.Direction.the-variants.{Horizontal, Vertical}
 use Rattle.overlap_laws.specs.Grown.{wideBound}
 use Rattle.search_laws.specs.Lines.{linePlaces, HoldsLine}
-use Rattle.search_bits.specs.Bit.{bitIn, lengthLimit}
+use Rattle.bit_laws.specs.Bit.{bitIn, lengthLimit}
 use Rattle.search_maps.specs.declared.Sides.{Sides}
 use Rattle.search_maps.specs.Map.{columnsOf, rowsOf, rowWidth, mapWords}
 use Rattle.search_peel.specs.Peel.{EndsBy, PlaceDone}

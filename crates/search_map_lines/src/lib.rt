@@ -7,7 +7,7 @@ ghost use lib.ListN.{length};
 ghost use Rattle.model.specs.Piece.{Shape};
 ghost use Rattle.model.specs.declared.Direction.{Direction};
 ghost use Rattle.model.specs.declared.Direction.the-variants.{Horizontal, Vertical};
-ghost use Rattle.search_bits.specs.Bit.{lengthLimit};
+ghost use Rattle.bit_laws.specs.Bit.{lengthLimit};
 ghost use Rattle.search_words.specs.Words.{Cleared};
 ghost use Rattle.search_maps.specs.Map.{sidesOf, columnsOf, rowsOf, SidesFit, MapOf};
 ghost use Rattle.search_map_lines.specs.Line.{RowReaches, RowDone, Bordered, ByteSides, LineOf, placesOf};

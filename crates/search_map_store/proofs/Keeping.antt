@@ -5,8 +5,8 @@ use Rattle.list_laws.proofs.Kit.{getD-set-other, getD-set-same, length-take-le,
 use Rattle.list_laws.proofs.Passes.{Passing}
 use Rattle.model.specs.Piece.{Shape}
 use Rattle.model.specs.declared.Direction.{Direction}
-use Rattle.search_bits.specs.Bit.{bitAt, bitIn}
-use Rattle.search_bits.proofs.Strings.{bit-alike, bit-in, bit-part}
+use Rattle.bit_laws.specs.Bit.{bitAt, bitIn}
+use Rattle.bit_laws.proofs.Strings.{bit-alike, bit-in, bit-part}
 use Rattle.search_maps.specs.declared.Sides.{Sides}
 use Rattle.search_maps.specs.Map.{sidesOf, mapWords, scratchBound, mapBound, cellPlace, SidesFit, MapOf}
 use Rattle.search_maps.proofs.Fitting.{rows-small, scratch-most}

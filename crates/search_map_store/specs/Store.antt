@@ -8,7 +8,7 @@ use lib.ListN.{length, getD, take, drop}
 use Rattle.model.specs.Piece.{Shape}
 use Rattle.model.specs.declared.Direction.{Direction}
 use Rattle.overlap_laws.specs.Grown.{grown}
-use Rattle.search_bits.specs.Bit.{lengthLimit}
+use Rattle.bit_laws.specs.Bit.{lengthLimit}
 use Rattle.search_maps.specs.declared.Sides.{Sides}
 use Rattle.search_maps.specs.Map.{sidesOf, mapWords, scratchWords, MapOf}
 

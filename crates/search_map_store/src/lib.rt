@@ -8,7 +8,7 @@ ghost use Rattle.model.specs.declared.Direction.{Direction};
 ghost use Rattle.model.specs.declared.Turn.the-variants.{Half};
 ghost use Rattle.overlap_laws.specs.Grown.{grown};
 ghost use Rattle.pair_overlap.specs.Seen.{entries};
-ghost use Rattle.search_bits.specs.Bit.{lengthLimit};
+ghost use Rattle.bit_laws.specs.Bit.{lengthLimit};
 ghost use Rattle.search_maps.specs.Map.{sidesOf, SidesFit, StripsIn, MovedIn, ScratchRoom, MapRoom, MapOf};
 ghost use Rattle.search_map_store.specs.Store.{endOf, roomWords, allGrown, Copied, Forgotten, RoomFor, StoreFits, Kept};
 use model::StripEntry;

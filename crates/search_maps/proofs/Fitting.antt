@@ -8,7 +8,7 @@ use Rattle.strip_laws.proofs.Strips.{strips-maximal}
 use Rattle.pair_overlap.specs.Meet.{stripAt}
 use Rattle.pair_overlap.specs.Seen.{entries}
 use Rattle.pair_overlap.proofs.Shapes.{at-member}
-use Rattle.search_bits.specs.Bit.{lengthLimit}
+use Rattle.bit_laws.specs.Bit.{lengthLimit}
 use Rattle.search_words.specs.Words.{Cleared}
 use Rattle.search_levels.specs.Levels.{Levels, LevelRoom, levelOf}
 use Rattle.search_levels.proofs.Growing.{doubled}

@@ -4,8 +4,8 @@ use Rattle.list_laws.proofs.Kit.{mul-le-mul-right, add-zero}
 use Rattle.list_laws.proofs.Numbers.{below-or}
 use Rattle.list_laws.proofs.Tests.{clash}
 use Rattle.pair_overlap.specs.Meet.{stripAt}
-use Rattle.search_bits.specs.Bit.{bitIn}
-use Rattle.search_bits.proofs.Strings.{bit-none, bit-past}
+use Rattle.bit_laws.specs.Bit.{bitIn}
+use Rattle.bit_laws.proofs.Strings.{bit-none, bit-past}
 use Rattle.search_words.specs.Words.{Cleared}
 use Rattle.search_levels.specs.Levels.{levelOf, LevelRoom, Levels, Grown, Limited}
 use Rattle.search_levels.proofs.Growing.{level-first, level-length, grown-levels}

@@ -3,9 +3,9 @@ use Rattle.list_laws.proofs.Kit.{_∙_, _≡_, refl, sym, true, _⊎_, inl, inr
 use Rattle.list_laws.proofs.Kit.{List·getD-eq-default, getD, getD-replicate, length, length-replicate, replicate, set, getD-set-other}
 use Rattle.list_laws.proofs.Numbers.{below-or}
 use Rattle.list_laws.proofs.Tests.{clash}
-use Rattle.search_bits.specs.Bit.{bitAt, bitIn}
-use Rattle.search_bits.proofs.Laws.{bit-of-zero}
-use Rattle.search_bits.proofs.Strings.{bit-in, bit-none, bit-past}
+use Rattle.bit_laws.specs.Bit.{bitAt, bitIn}
+use Rattle.bit_laws.proofs.Laws.{bit-of-zero}
+use Rattle.bit_laws.proofs.Strings.{bit-in, bit-none, bit-past}
 use Rattle.search_levels.specs.Levels.{levelOf, LevelRoom, Grown, Limited}
 use Rattle.search_levels.proofs.Growing.{level-first, level-length, grown-levels}
 use Rattle.search_maps.specs.Making.{Points}

@@ -20,8 +20,8 @@ use Rattle.overlap_laws.proofs.Share.{share-witness, share-from, shared-along, 
 use Rattle.pair_overlap.specs.Meet.{stripAt}
 use Rattle.pair_overlap.specs.Seen.{entries}
 use Rattle.pair_overlap.proofs.Shapes.{at-member, PlaceOf, place-of}
-use Rattle.search_bits.specs.Bit.{bitIn}
-use Rattle.search_bits.proofs.Strings.{bit-none}
+use Rattle.bit_laws.specs.Bit.{bitIn}
+use Rattle.bit_laws.proofs.Strings.{bit-none}
 use Rattle.search_words.specs.Words.{Cleared}
 use Rattle.search_levels.specs.Levels.{levelOf}
 use Rattle.search_marks.specs.Marks.{Made}

@@ -5,7 +5,7 @@ use mathlib.Core.Path.{_≡_}
 use Prim.Native.Nat.{ℕ, _+_, _-_, _*_, _^_, _<_, _≤_}
 use lib.ListN.{length}
 use Rattle.pair_overlap.specs.Meet.{stripAt}
-use Rattle.search_bits.specs.Bit.{bitIn}
+use Rattle.bit_laws.specs.Bit.{bitIn}
 use Rattle.search_words.specs.Words.{Cleared, Repeated}
 use Rattle.search_marks.specs.Marks.{Made}
 use Rattle.search_levels.specs.Levels.{Levels, levelOf, levelBound}

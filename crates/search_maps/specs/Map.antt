@@ -14,7 +14,7 @@ use Rattle.model.specs.declared.Direction.{Direction}
 use Rattle.model.specs.declared.Turn.{Turn}
 use Rattle.model.specs.declared.Turn.the-variants.{Zero, Quarter, Half, ThreeQuarters}
 use Rattle.pair_overlap.specs.Meet.{stripAt}
-use Rattle.search_bits.specs.Bit.{bitIn, lengthLimit}
+use Rattle.bit_laws.specs.Bit.{bitIn, lengthLimit}
 use Rattle.search_maps.specs.declared.Sides.{Sides}
 
 -- the most pixels along a box side that maps are made for: pieces widened by a gap have room

@@ -6,8 +6,8 @@ use lib.Count.{leadingZeros, leading-top}
 use lib.Pow.{pow-mono, shl-exact}
 use Rattle.model.specs.Bounded.{anyBelow}
 use Rattle.pair_overlap.specs.Meet.{stripAt}
-use Rattle.search_bits.specs.Bit.{bitIn}
-use Rattle.search_bits.proofs.Laws.{or-assoc, or-false}
+use Rattle.bit_laws.specs.Bit.{bitIn}
+use Rattle.bit_laws.proofs.Laws.{or-assoc, or-false}
 use Rattle.search_words.specs.Words.{Spare, Widened, StripMarked}
 use Rattle.search_levels.specs.Levels.{levelOf, Levels}
 use Rattle.search_marks.specs.Marks.{stripBit, LevelOf, SpanOf, Made}

@@ -5,7 +5,7 @@ use Rattle.list_laws.proofs.Bounded.{any-witness, any-from}
 use Rattle.list_laws.proofs.Tests.{and-left, and-right, and-both, or-cases, or-right}
 use Rattle.model.specs.Bounded.{anyBelow}
 use Rattle.pair_overlap.specs.Meet.{stripAt}
-use Rattle.search_bits.specs.Bit.{bitIn}
+use Rattle.bit_laws.specs.Bit.{bitIn}
 use Rattle.search_marks.specs.Marks.{placeOf, stripBit, Made}
 
 -- pixel t of strip i and a mark at q add up to p

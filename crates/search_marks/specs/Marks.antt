@@ -8,7 +8,7 @@ use lib.ListN.{length}
 use Rattle.model.specs.Bounded.{anyBelow}
 use Rattle.model.specs.Strip.{Strip}
 use Rattle.pair_overlap.specs.Meet.{stripAt}
-use Rattle.search_bits.specs.Bit.{bitIn, lengthLimit}
+use Rattle.bit_laws.specs.Bit.{bitIn, lengthLimit}
 use Rattle.search_levels.specs.Levels.{levelBound}
 use Rattle.search_marks.specs.declared.Span.{Span}
 

@@ -5,9 +5,9 @@ use Rattle.list_laws.proofs.Numbers.{below-or, below-more}
 use Rattle.list_laws.proofs.Tests.{and-left, and-right, clash, decided, first-fails}
 use lib.Bits.{bitAnd, and-le-l}
 use lib.Count.{trailingZeros}
-use Rattle.search_bits.specs.Bit.{bitAt, bitIn, lengthLimit}
-use Rattle.search_bits.proofs.Laws.{bit-and, bit-not, bit-above, bit-of-zero}
-use Rattle.search_bits.proofs.Lowest.{trailing-set}
+use Rattle.bit_laws.specs.Bit.{bitAt, bitIn, lengthLimit}
+use Rattle.bit_laws.proofs.Laws.{bit-and, bit-not, bit-above, bit-of-zero}
+use Rattle.bit_laws.proofs.Lowest.{trailing-set}
 use Rattle.search_peel.specs.Peel.{pickN, BitsAt, LowBits, around, Inner, BitsIn, Filled, Distance, PlaceDone, Reaches, Peeled}
 
 -- `v & !w`

@@ -3,9 +3,9 @@ use Rattle.list_laws.proofs.Kit.{_∙_, _≡_, ap, ap₂, refl, sym, Bool, _&&_
 use Rattle.list_laws.proofs.Kit.{getD, length, set, getD-set-other, getD-set-same, ℕ-discrete}
 use lib.Bits.{bitAnd}
 use lib.Count.{trailingZeros}
-use Rattle.search_bits.specs.Bit.{bitAt}
-use Rattle.search_bits.proofs.Laws.{bit-of-zero}
-use Rattle.search_bits.proofs.Lowest.{bit-cleared, trailing-set}
+use Rattle.bit_laws.specs.Bit.{bitAt}
+use Rattle.bit_laws.proofs.Laws.{bit-of-zero}
+use Rattle.bit_laws.proofs.Lowest.{bit-cleared, trailing-set}
 use Rattle.search_peel.specs.Peel.{pickN, Filled}
 
 -- what place x comes to, with the bits of m still to be filled

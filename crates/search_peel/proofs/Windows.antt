@@ -4,9 +4,9 @@ use Rattle.list_laws.proofs.Kit.{ℕ, arith, mod-lt, mul-le-mul-left, mul-one, 
 use Rattle.list_laws.proofs.Numbers.{below-or}
 use lib.Bits.{bitOr, bitAnd, or-lt, and-le-l}
 use lib.Pow.{pow-pos, shr-le}
-use Rattle.search_bits.specs.Bit.{bitAt, bitIn}
-use Rattle.search_bits.proofs.Laws.{or-false, bit-or, bit-and, bit-not, bit-shl, bit-shr, bit-above, bit-of-zero}
-use Rattle.search_bits.proofs.Strings.{bit-in}
+use Rattle.bit_laws.specs.Bit.{bitAt, bitIn}
+use Rattle.bit_laws.proofs.Laws.{or-false, bit-or, bit-and, bit-not, bit-shl, bit-shr, bit-above, bit-of-zero}
+use Rattle.bit_laws.proofs.Strings.{bit-in}
 use Rattle.search_peel.specs.Peel.{BitsAt, LowBits, around, Inner}
 
 -- every bit of the largest word is set

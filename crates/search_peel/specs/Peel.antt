@@ -5,7 +5,7 @@ use mathlib.Core.Path.{_≡_}
 use Prim.Native.Nat.{ℕ, _+_, _-_, _*_, _<_, _≤_}
 use lib.Dec.{ltb}
 use lib.ListN.{length, getD}
-use Rattle.search_bits.specs.Bit.{bitAt, bitIn, lengthLimit}
+use Rattle.bit_laws.specs.Bit.{bitAt, bitIn, lengthLimit}
 
 -- a by the test, or b
 abbrev pub pickN : Bool → ℕ → ℕ → ℕ

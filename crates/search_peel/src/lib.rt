@@ -2,7 +2,7 @@
 // four sides, and a place that leaves at level r gets r.
 ghost use Prim.Native.Nat.{_+_, _*_, _<_, _≤_};
 ghost use lib.ListN.{length};
-ghost use Rattle.search_bits.specs.Bit.{lengthLimit};
+ghost use Rattle.bit_laws.specs.Bit.{lengthLimit};
 ghost use Rattle.search_peel.specs.Peel.{BitsAt, LowBits, Inner, BitsIn, Filled, Reaches, Peeled};
 
 // A word of set bits.

@@ -3,10 +3,10 @@ use Rattle.list_laws.proofs.Kit.{_∙_, _≡_, ap, ap₂, refl, sym, Bool, _&&_
 use Rattle.list_laws.proofs.Kit.{le-leb, lt-leb, length}
 use Rattle.list_laws.proofs.Numbers.{below-or}
 use Rattle.model.specs.Bounded.{anyBelow}
-use Rattle.search_bits.specs.Bit.{bitIn}
-use Rattle.search_bits.proofs.Laws.{or-assoc}
-use Rattle.search_bits.proofs.Strings.{bit-alike}
-use Rattle.search_bits.proofs.Wider.{Down, any-wider}
+use Rattle.bit_laws.specs.Bit.{bitIn}
+use Rattle.bit_laws.proofs.Laws.{or-assoc}
+use Rattle.bit_laws.proofs.Strings.{bit-alike}
+use Rattle.bit_laws.proofs.Wider.{Down, any-wider}
 use Rattle.search_words.specs.Words.{orBit, OrRow, OrFlat, Spare, Widened, StripMarked}
 
 -- nothing is added, whatever it is asked with

@@ -4,9 +4,9 @@ use Rattle.list_laws.proofs.Kit.{arith, leb, le-leb, leb-true, lt-leb, getD, le
 use Rattle.list_laws.proofs.Numbers.{below-or}
 use Rattle.list_laws.proofs.Tests.{and-left, and-right, and-both, or-cases, or-left, or-right}
 use lib.Bits.{bitOr}
-use Rattle.search_bits.specs.Bit.{bitAt, bitIn}
-use Rattle.search_bits.proofs.Laws.{or-false, bit-or, bit-shl, bit-of-zero}
-use Rattle.search_bits.proofs.Strings.{bit-in}
+use Rattle.bit_laws.specs.Bit.{bitAt, bitIn}
+use Rattle.bit_laws.proofs.Laws.{or-false, bit-or, bit-shl, bit-of-zero}
+use Rattle.bit_laws.proofs.Strings.{bit-in}
 use Rattle.search_words.specs.Words.{orBit, Spread, Below, Repeated}
 use Rattle.search_words.proofs.Moved.{moved, Low, bit-moved, moved-at}
 

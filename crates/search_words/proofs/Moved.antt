@@ -3,9 +3,9 @@ use Rattle.list_laws.proofs.Kit.{_∙_, _≡_, ap, ap₂, refl, sym, _&&_, _||_
 use Rattle.list_laws.proofs.Kit.{arith, leb, le-leb, lt-leb, getD, length, length-set, set, getD-set-other, getD-set-same, ℕ-discrete}
 use Rattle.list_laws.proofs.Numbers.{below-or}
 use lib.Bits.{bitOr}
-use Rattle.search_bits.specs.Bit.{bitAt, bitIn}
-use Rattle.search_bits.proofs.Laws.{or-false, bit-or, bit-shl, bit-shr, bit-above, bit-of-zero}
-use Rattle.search_bits.proofs.Strings.{bit-in}
+use Rattle.bit_laws.specs.Bit.{bitAt, bitIn}
+use Rattle.bit_laws.proofs.Laws.{or-false, bit-or, bit-shl, bit-shr, bit-above, bit-of-zero}
+use Rattle.bit_laws.proofs.Strings.{bit-in}
 use Rattle.search_words.specs.Words.{orBit, OrRow}
 
 -- the bits that a word takes from a, moved up, and from the word below it

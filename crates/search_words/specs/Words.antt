@@ -6,7 +6,7 @@ use Prim.Native.Nat.{ℕ, _+_, _-_, _*_, _/_, _<_, _≤_}
 use lib.Dec.{leb}
 use lib.ListN.{length, getD}
 use Rattle.model.specs.Bounded.{anyBelow}
-use Rattle.search_bits.specs.Bit.{bitIn}
+use Rattle.bit_laws.specs.Bit.{bitIn}
 
 -- the first words are 0, the others as they were
 pub record Cleared (count : ℕ) (xs ys : List ℕ) : Type 0 where

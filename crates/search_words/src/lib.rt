@@ -1,7 +1,7 @@
 // Words as one string of bits, moved up into another and taken over there, or taken over by itself: what the map of two pieces is made by.
 ghost use Prim.Native.Nat.{_+_, _*_, _/_, _<_, _≤_};
 ghost use lib.ListN.{length};
-ghost use Rattle.search_bits.specs.Bit.{lengthLimit};
+ghost use Rattle.bit_laws.specs.Bit.{lengthLimit};
 ghost use Rattle.search_words.specs.Words.{OrRow, OrFlat, Spare, StripOf, Cleared, Spread, Repeated};
 use whole_numbers::smaller;
 

@@ -1,6 +1,6 @@
 -- `search_levels::widen_levels` meets its contract: each turn doubles the marks of the last level. Assumes nothing.
 use Rattle.list_laws.proofs.Kit.{_≡_, refl, subst, _*_, _+_, _-_, _<_, _^_, _≤_, ℕ, arith, length}
-use Rattle.search_bits.specs.Bit.{lengthLimit}
+use Rattle.bit_laws.specs.Bit.{lengthLimit}
 use Rattle.search_levels.specs.Levels.{Grown}
 use Rattle.search_levels.proofs.Growing.{grown-one, grown-more, next-fits, doubled}
 use Rattle.search_levels.proofs.widen_levels.Statement.{statement}

@@ -1,7 +1,7 @@
 -- `search_marks::add_strip` meets its contract: the level of the strip's count is one of the levels, and twice its power is enough.
 -- Assumes nothing.
 use Rattle.list_laws.proofs.Kit.{_≡_, _*_, _+_, _-_, _<_, _≤_, arith, length, needs}
-use Rattle.search_bits.specs.Bit.{lengthLimit}
+use Rattle.bit_laws.specs.Bit.{lengthLimit}
 use Rattle.search_marks.proofs.Adding.{level-below, few-count, level-in, length-as, spare-as, wide-as}
 use Rattle.search_marks.proofs.add_strip.Statement.{statement}
 use Rattle.search_marks.proofs.add_strip.Tie as tie

@@ -2,8 +2,8 @@
 use Rattle.list_laws.proofs.Kit.{_∙_, _≡_, refl, sym, true, _+_, _<_, ℕ, arith, getD, length, length-set, getD-set-other}
 use Rattle.list_laws.proofs.Tests.{and-left}
 use lib.Count.{trailingZeros, trailing-le}
-use Rattle.search_bits.specs.Bit.{bitAt, lengthLimit}
-use Rattle.search_bits.proofs.Lowest.{trailing-set, bit-cleared, cleared-lt}
+use Rattle.bit_laws.specs.Bit.{bitAt, lengthLimit}
+use Rattle.bit_laws.proofs.Lowest.{trailing-set, bit-cleared, cleared-lt}
 use Rattle.search_peel.proofs.Places.{Owes, fill-step, fill-end}
 use Rattle.search_peel.proofs.fill.Statement.{statement}
 use Rattle.search_peel.proofs.fill.Tie as tie

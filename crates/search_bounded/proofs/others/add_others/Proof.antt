@@ -5,7 +5,7 @@ use Rattle.model.specs.Lent.{lentBy, jobOf}
 use Rattle.model.specs.Buffer.{layoutOf}
 use Rattle.job_laws.proofs.Checked.{facts}
 use lib.Count.{trailing-le}
-use Rattle.search_bits.proofs.Lowest.{cleared-lt}
+use Rattle.bit_laws.proofs.Lowest.{cleared-lt}
 use Rattle.search_beside.specs.Ready.{LinesReady}
 use Rattle.search_beside.proofs.Readings.{entries-all}
 use Rattle.search_bounded.proofs.Near.{Adding, adding-start, adding-at, adding-step, adding-end}

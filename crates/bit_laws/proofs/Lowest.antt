@@ -5,8 +5,8 @@ use Rattle.list_laws.proofs.Numbers.{below-or}
 use Prim.Native.Nat.{suc-le-suc}
 use lib.Bits.{bitAnd, and-le-r}
 use lib.Count.{trailingZeros, under}
-use Rattle.search_bits.specs.Bit.{isSet, bitAt}
-use Rattle.search_bits.proofs.Laws.{bit-and}
+use Rattle.bit_laws.specs.Bit.{isSet, bitAt}
+use Rattle.bit_laws.proofs.Laws.{bit-and}
 
 -- a test asked twice
 and-same : (b : Bool) → (b && b) ≡ (b && not false)

@@ -2,8 +2,8 @@
 use Rattle.list_laws.proofs.Kit.{_∙_, _≡_, ap, false, true, _⊎_, inl, inr, _%_, _-_, _/_, _<_, _^_, _≤_, suc, zero, ℕ, arith}
 use Rattle.list_laws.proofs.Numbers.{below-or}
 use lib.Count.{leadingZeros, leading-top}
-use Rattle.search_bits.specs.Bit.{isSet, bitAt}
-use Rattle.search_bits.proofs.Laws.{bit-of-zero, bit-above}
+use Rattle.bit_laws.specs.Bit.{isSet, bitAt}
+use Rattle.bit_laws.proofs.Laws.{bit-of-zero, bit-above}
 
 -- the bit of the largest power of two is set
 pub top-set : (j x : ℕ) → 2 ^ j ≤ x → x < 2 ^ suc j → bitAt x j ≡ true

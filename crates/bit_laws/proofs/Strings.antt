@@ -1,8 +1,8 @@
 -- Bits of a list of words: a place by its word, a part of the list, and what is past its end. Assumes nothing.
 use Rattle.list_laws.proofs.Kit.{_∙_, _≡_, ap, ap₂, sym, false, List, _%_, _*_, _+_, _/_, _<_, _≤_, ℕ}
 use Rattle.list_laws.proofs.Kit.{arith, List·getD-eq-default, drop, getD, length, take, getD-drop, getD-take}
-use Rattle.search_bits.specs.Bit.{bitAt, bitIn}
-use Rattle.search_bits.proofs.Laws.{bit-of-zero}
+use Rattle.bit_laws.specs.Bit.{bitAt, bitIn}
+use Rattle.bit_laws.proofs.Laws.{bit-of-zero}
 
 -- a place by its word and its place in that word
 pub bit-in : (ws : List ℕ) (j i p : ℕ) → i < 64 → p ≡ j * 64 + i → bitIn ws p ≡ bitAt (getD ws j 0) i

@@ -8,7 +8,7 @@ use native.Mathlib.Numerals.{one-add}
 use lib.Arith.{digits-div, digits-mod}
 use lib.Bits.{bitAnd, bitOr, and-step, or-step, shifted-even, shifted-half}
 use lib.Pow.{shr-shr, mod-pow-add}
-use Rattle.search_bits.specs.Bit.{isSet, bitAt}
+use Rattle.bit_laws.specs.Bit.{isSet, bitAt}
 
 -- nothing is added
 pub or-false : (b : Bool) → (b || false) ≡ b
