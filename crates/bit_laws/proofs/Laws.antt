@@ -7,7 +7,7 @@ use native.Mathlib.Nat.{min-zero, zero-min, suc-min-suc, max-zero, zero-max, suc
 use native.Mathlib.Numerals.{one-add}
 use lib.Arith.{digits-div, digits-mod}
 use lib.Bits.{bitAnd, bitOr, and-step, or-step, shifted-even, shifted-half}
-use lib.Pow.{shr-shr, mod-pow-add}
+use lib.Pow.{pow-pos, shr-shr, mod-pow-add}
 use Rattle.bit_laws.specs.Bit.{isSet, bitAt}
 
 -- nothing is added
@@ -124,3 +124,7 @@ bit-not (suc k) x zero h l = go (x % 2) (mod-lt x (zero-lt-suc 1)) (omega arith)
     go (suc zero) g e = ap isSet e
     go (suc (suc d)) g e = absurd (omega arith)
 bit-not (suc k) x (suc i) h l = ap (λ (n : ℕ). bitAt n i) (omega arith) ∙ bit-not k (x / 2) i (omega arith) (omega arith)
+
+-- every bit of the largest word is set
+pub all-set : (i : ℕ) → i < 64 → bitAt 18446744073709551615 i ≡ true
+all-set i l = bit-not 64 0 i (pow-pos 64) l ∙ ap not (bit-of-zero i)

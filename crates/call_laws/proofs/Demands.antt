@@ -5,7 +5,7 @@
 use Rattle.list_laws.proofs.Kit.{_≡_, Bool, true, _↔_, _≢_, List, map, _*_, _<_, _≤_, ℕ, eqb, length, take, ℤ}
 use Rattle.model.specs.Piece.{Shape, onLine}
 use Rattle.model.specs.Overlap.{OffsetRun}
-use Rattle.model.specs.Layout.{Layout, Pair, allowed, inside, placeOf, withPlace, figures, turnedPiece, shapeIn, cornerIn, unitWeights}
+use Rattle.model.specs.Layout.{Layout, Pair, allowed, inside, placeOf, withPlace, figures, turnedPiece, unitWeights}
 use Rattle.model.specs.Buffer.{layoutOf, stripEntry}
 use Rattle.model.specs.Search.{Best, places}
 use Rattle.model.specs.Descent.{Descent, trials}
@@ -17,9 +17,9 @@ use Rattle.model.specs.JobText.{readJob}
 use Rattle.model.specs.Store.{turnIn, pieceStrips}
 use Rattle.model.specs.Program.{inputBound, refusalText, programText}
 use Rattle.model.specs.Calls.{Stores, stripsCall, storesAfter, stretchWell, usedLengthCall, descentAfter, bestAfterRun, weightsAfterRun, stretchCall}
-use Rattle.model.specs.Calls.{stretchGiven, stretchNumber, LentStretch, noFitCall, stripsWell, rebuildCall, shareCall, depthCall, penaltyCall, weightedSumCall}
-use Rattle.model.specs.Calls.{plainSumCall, searchCall, descentCall, guidedCall, writeLayoutCall, readLayoutCall, startCall, checkCall, freshCall, layCall}
-use Rattle.model.specs.Calls.{withdrawCall, previewCall, cutLinesCall, linesAfter, cutStepCall, lineStepCall}
+use Rattle.model.specs.Calls.{stretchGiven, stretchNumber, LentStretch, noFitCall, runsAfter, stripsWell, rebuildCall, shareCall, depthCall, penaltyCall}
+use Rattle.model.specs.Calls.{weightedSumCall, plainSumCall, searchCall, descentCall, guidedCall, writeLayoutCall, readLayoutCall, startCall, checkCall}
+use Rattle.model.specs.Calls.{freshCall, layCall, withdrawCall, previewCall, cutLinesCall, linesAfter, cutStepCall, lineStepCall}
 use Rattle.model.specs.Cut.{CutLine, cutLines}
 use Rattle.model.specs.declared.CutStep.{CutStep}
 use Rattle.model.specs.declared.Figures.{Figures}
@@ -44,6 +44,8 @@ use Rattle.call_laws.specs.Rebuilding.{PieceOf, RebuildClaims, RebuiltAs
 use Rattle.call_laws.proofs.Rebuilding.{strips-well-piece, rebuild-given}
 use Rattle.call_laws.specs.Overlaps.{PairNear, PairShared, PenaltyClaims, SumClaims, DepthClaims}
 use Rattle.call_laws.proofs.Overlaps.{penalty-given, penalty-order, depth-given, share-given, share-paper, no-fit-given, weighted-given, plain-given}
+use Rattle.call_laws.specs.NoFits.{OffsetsWithin}
+use Rattle.call_laws.proofs.NoFits.{offsets-given}
 use Rattle.call_laws.specs.Checks.{LowestPair, Checked, conflictRefusal}
 use Rattle.call_laws.proofs.Checks.{check-given, check-conflict}
 use Rattle.strip_laws.specs.Turns.{TurnedExactly}
@@ -150,6 +152,9 @@ pub record Demand2Calls : Type 0 where
   pub penaltyAlike : (l : Lent) (es : List (List ℕ)) (i k : ℕ) → penaltyCall l es i k ≡ penaltyCall l es k i
   pub noFits : (d : Direction) (l : Lent) (p q : LentStretch) (o : ℤ) (room : ℕ) (rs : List OffsetRun) → noFitCall d l p q o room ≡ given rs
       → NoFitLine (l .size .gap) d (turnedPiece (jobOf l) (p .piece) (p .turn)) (turnedPiece (jobOf l) (q .piece) (q .turn)) o rs
+  -- the runs that stand in the buffer lie between -(254 + g) and 254 + g, where g is the gap
+  pub noFitOffsets : (d : Direction) (l : Lent) (p q : LentStretch) (o : ℤ) (before : List (List ℤ)) (rs : List OffsetRun)
+      → noFitCall d l p q o (length before) ≡ given rs → OffsetsWithin (l .size .gap) (length rs) (runsAfter before (noFitCall d l p q o (length before)))
   -- after every list of lay and withdraw calls from a fresh sheet each pixel's count is the number of laid pieces on it
   pub counts : (l : Lent) (room : ℕ) (s : Sheet) → freshCall l room ≡ given s → (cs : List Call)
       → CoverHolds (jobOf l) cs (afterSheetCalls l s cs)
@@ -247,6 +252,7 @@ demand2-calls =
       penalties = penalty-given;
       penaltyAlike = penalty-order;
       noFits = no-fit-given;
+      noFitOffsets = offsets-given;
       counts = fresh-given;
       layCalls = lay-call;
       withdrawCalls = withdraw-call;

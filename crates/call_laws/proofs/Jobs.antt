@@ -46,7 +46,7 @@ module _ (l : Lent) (well : lentWell l ≡ true) where
       → NoFitLine (l .size .gap) d (turnedPiece (jobOf l) i t) (turnedPiece (jobOf l) k u) o
       (noFit (l .size .gap) d (turnedPiece (jobOf l) i t) (turnedPiece (jobOf l) k u) o)
   lent-no-fit d i k t u b c o =
-      no-fit-line (l .size .gap) d _ _ (facts l well .smallGap) (lent-turned-small l well d i t b) (lent-turned-small l well d k u c) o
+      no-fit-line (l .size .gap) d _ _ (facts l well .smallGap) (λ e. lent-turned-small l well e i t b) (λ e. lent-turned-small l well e k u c) o
 
   -- no piece of a lent job is without strips, in any turn and direction
   pub lent-strips-some : (d : Direction) (i : ℕ) (t : Turn) → i < jobOf l .size .count → 0 < length (strips d (turnedPiece (jobOf l) i t))

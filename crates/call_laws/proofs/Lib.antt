@@ -8,6 +8,7 @@ pub mod Clauses
 pub mod Rebuilding
 pub mod Stores
 pub mod Overlaps
+pub mod NoFits
 pub mod Checks
 pub mod Texts
 pub mod Sheets

@@ -4,6 +4,7 @@ pub mod Clauses
 pub mod Stores
 pub mod Rebuilding
 pub mod Overlaps
+pub mod NoFits
 pub mod Checks
 pub mod Lengths
 pub mod Previews

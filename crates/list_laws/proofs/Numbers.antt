@@ -31,7 +31,3 @@ in-rows {l} {w} {x} {y} hx hy = let h : suc y * l ≤ w * l = mul-le-mul-right l
 pub factor-positive : (q w : ℕ) → 0 < q * w → 0 < q
 factor-positive zero w h = absurd (let z = zero-mul w in omega arith)
 factor-positive (suc q) w h = omega arith
-
--- a slot ends before a later one begins
-pub slot-before : (m n width : ℕ) → m < n → m * width + width ≤ n * width
-slot-before m n width l = let h : suc m * width ≤ n * width = mul-le-mul-right width l in omega (arith, suc-mul m width)

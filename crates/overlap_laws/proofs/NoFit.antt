@@ -1,23 +1,24 @@
 -- Document 01, 'No-fit rows and penalty', and document 02, point 4: the no-fit row of s and t at a row offset lists the column offsets at which
--- they conflict, as maximal runs, ascending; no-fit columns likewise. Offsets are at most g from p - q for pixels p of s and q of t, so with sides
--- of at most 255 and a gap of at most 8 they lie between -262 and 262, and `noFit`, which tries these, leaves none out. That the runs list just
--- the offsets that pass, are maximal and ascend is the law of `runs`, carried from numbers biased by 262 to whole numbers.
--- Assumes nothing.
-use Rattle.list_laws.proofs.Kit.{_∙_, _≡_, ap, subst, sym, true, ⊎-elim, Iff·symm, Iff·trans, _↔_, List, map, _+_, _-_, _<_, _≤_}
+-- they conflict, as maximal runs, ascending; no-fit columns likewise. Document 02, point 5: offsets are at most g from p - q for pixels p of s and q
+-- of t, so with sides of at most 255 they lie between -(254 + g) and 254 + g, and for two full lines of 255 pixels both ends are offsets. With a gap
+-- of at most 8 `noFit`, which tries -262 to 262, leaves none out. That the runs list just the offsets that pass, are maximal and ascend is the law of
+-- `runs`, carried from numbers biased by 262 to whole numbers. Assumes nothing.
+use Rattle.list_laws.proofs.Kit.{_≡_, ap, refl, subst, sym, true, ⊎-elim, Iff·trans, _↔_, List, map, _+_, _-_, _<_, _≤_}
 use Rattle.list_laws.proofs.Kit.{suc, ℕ, arith, _+ℤ_, pos, negsuc, predℤ, natAbs}
-use Rattle.list_laws.proofs.Kit.{subℕ, ℤ, _<ℤ_, _≤ℤ_, leb, leb-true, leb-false}
-use Rattle.model.specs.Piece.{Point, Shape, along, across, point, extent}
+use Rattle.list_laws.proofs.Kit.{subℕ, ℤ, _<ℤ_, _≤ℤ_, leb, leb-true, leb-false, lt-ltb}
+use Rattle.model.specs.Piece.{Point, Shape, sideBound, pixel, other, along, across, point, extent}
 use Rattle.model.specs.Strip.{Run, runs}
 use Rattle.model.specs.Overlap.{conflict, noFit, noFitAt, offsetBound, up, down, OffsetRun, unbiased}
 use Rattle.model.specs.declared.Direction.{Direction}
+use Rattle.model.specs.declared.Direction.the-variants.{Horizontal, Vertical}
 use Rattle.list_laws.proofs.Lists.{Source, map-source, map-member}
 use Rattle.list_laws.proofs.Tests.{clash, decided}
 use Rattle.strip_laws.proofs.Lists.{pairwise-map}
 use Rattle.strip_laws.proofs.Runs.{MaximalRun, InRuns, RunBefore, runs-exactly, runs-maximal, runs-ascending}
-use Rattle.overlap_laws.specs.NoFit.{InOffsetRuns, MaximalOffsetRun, OffsetRunBefore, NoFitLine}
+use Rattle.overlap_laws.specs.NoFit.{offsetReach, Between, InOffsetRuns, MaximalOffsetRun, OffsetRunBefore, NoFitLine, ReachAttained}
 use Rattle.overlap_laws.specs.PixelDepth.{PixelOffset}
 use Rattle.overlap_laws.specs.Overlap.{NearPixels}
-use Rattle.overlap_laws.proofs.Share.{pixel-along, along-point, across-point}
+use Rattle.overlap_laws.proofs.Share.{pixel-along, pixel-across, along-point, across-point}
 use Rattle.overlap_laws.proofs.Grown.{conflict-witness, conflict-from, near-along, near-across, near-over}
 use Rattle.overlap_laws.proofs.Whole.{whole-eq, sub-whole, up-down, pred-whole, add-whole, add-signed, sub-up}
 use Rattle.overlap_laws.proofs.Whole.{sub-down, le-whole, whole-le, lt-whole, whole-lt}
@@ -111,15 +112,32 @@ offset-biased g d s t small h k a o w =
       is = whole-eq a (subℕ b offsetBound) (omega (arith, ap up (w .alongIs), ap down (w .alongIs)));
     }
 
--- and every offset lies between -262 and 262
-pub offset-range : (g : ℕ) (d : Direction) (s t : Shape) → g ≤ 8 → extent d s ≤ 255 → extent d t ≤ 255 → (a o : ℤ) → PixelOffset g d s t a o
-    → (subℕ 0 offsetBound ≤ℤ a) × (a ≤ℤ pos offsetBound)
-offset-range g d s t small h k a o w =
-    let b : Biased a = offset-biased g d s t small h k a o w in
-    let l : b .number < offsetBound + offsetBound + 1 = b .below in
-    let e = sub-whole (b .number) offsetBound in
-    rw (b .is)
-    (whole-le (subℕ 0 offsetBound) (subℕ (b .number) offsetBound) (omega arith), whole-le (subℕ (b .number) offsetBound) (pos offsetBound) (omega arith))
+-- the difference of two numbers below 255, but for at most g, lies between -254 and 254 but for g
+reach-between : (g m n : ℕ) (a z : ℤ) → m < 255 → n < 255 → natAbs z ≤ g → a ≡ subℕ m n +ℤ z → Between (offsetReach g) a
+reach-between g m n a z h k small is =
+    let e = sub-whole m n in
+    let c = add-signed (subℕ m n) z in
+    let parts = size-parts z in
+    let f = sub-whole 0 (offsetReach g) in (
+      whole-le (subℕ 0 (offsetReach g)) a (omega (arith, ap up is, ap down is)),
+      whole-le a (pos (offsetReach g)) (omega (arith, ap up is, ap down is)),
+    )
+
+-- with sides along the direction of at most 255, every offset lies there
+offset-range : (g : ℕ) (d : Direction) (s t : Shape) → extent d s ≤ 255 → extent d t ≤ 255 → (a o : ℤ) → PixelOffset g d s t a o
+    → Between (offsetReach g) a
+offset-range g d s t h k a o w =
+    let l : along d (w .p) < extent d s = pixel-along d s (w .p) (w .ofFirst) in
+    let r : along d (w .q) < extent d t = pixel-along d t (w .q) (w .ofSecond) in
+    reach-between g (along d (w .p)) (along d (w .q)) a (w .alongBy) (omega arith) (omega arith) (w .alongSmall) (w .alongIs)
+
+-- and with sides across it of at most 255, so does the offset across
+across-range : (g : ℕ) (d : Direction) (s t : Shape) → extent (other d) s ≤ 255 → extent (other d) t ≤ 255 → (a o : ℤ) → PixelOffset g d s t a o
+    → Between (offsetReach g) o
+across-range g d s t h k a o w =
+    let l : across d (w .p) < extent (other d) s = pixel-across d s (w .p) (w .ofFirst) in
+    let r : across d (w .q) < extent (other d) t = pixel-across d t (w .q) (w .ofSecond) in
+    reach-between g (across d (w .p)) (across d (w .q)) o (w .acrossBy) (omega arith) (omega arith) (w .acrossSmall) (w .acrossIs)
 
 -- ── the runs of a no-fit line ──
 
@@ -213,18 +231,20 @@ run-before r q h =
 
 -- the no-fit row (horizontal) at a row offset, or the no-fit column (vertical) at a column offset, for boxes with sides of at most 255
 -- and a gap of at most 8
-pub no-fit-line : (g : ℕ) (d : Direction) (s t : Shape) → g ≤ 8 → extent d s ≤ 255 → extent d t ≤ 255 → (o : ℤ) → NoFitLine g d s t o (noFit g d s t o)
+pub no-fit-line : (g : ℕ) (d : Direction) (s t : Shape) → g ≤ 8 → ((e : Direction) → extent e s ≤ 255) → ((e : Direction) → extent e t ≤ 255) → (o : ℤ)
+    → NoFitLine g d s t o (noFit g d s t o)
 unfolding noFit
 no-fit-line g d s t small h k o =
     let n : ℕ = offsetBound + offsetBound + 1 in
     record {
-      exactly = λ a. (no-fit-sound g d s t o a, no-fit-complete g d s t o small h k a);
-      inRange = λ a w. offset-range g d s t small h k a o (no-fit-sound g d s t o a w);
+      exactly = λ a. (no-fit-sound g d s t o a, no-fit-complete g d s t o small (h d) (k d) a);
+      inRange = λ a w. offset-range g d s t (h d) (k d) a o (no-fit-sound g d s t o a w);
+      acrossInRange = λ a w. across-range g d s t (h (other d)) (k (other d)) a o (no-fit-sound g d s t o a w);
       maximal =
           λ r m.
           let z : Source unbiased (runs (noFitAt g d s t o) n) r = map-source unbiased (runs (noFitAt g d s t o) n) m in
           subst (MaximalOffsetRun g d s t o) (sym (z .image))
-          (run-maximal g d s t o small h k (z .from) (runs-maximal (noFitAt g d s t o) n (z .from) (z .listed)));
+          (run-maximal g d s t o small (h d) (k d) (z .from) (runs-maximal (noFitAt g d s t o) n (z .from) (z .listed)));
       ascending = pairwise-map OffsetRunBefore unbiased run-before (runs-ascending (noFitAt g d s t o) n);
     }
 
@@ -232,5 +252,61 @@ no-fit-line g d s t small h k o =
 pub no-fit-conflict : (g : ℕ) (d : Direction) (s : Shape) (u : Point) (t : Shape) (v : Point) → g ≤ 8 → extent d s ≤ 255 → extent d t ≤ 255
     → (conflict g s u t v ≡ true) ↔ InOffsetRuns (subℕ (along d v) (along d u)) (noFit g d s t (subℕ (across d v) (across d u)))
 no-fit-conflict g d s u t v small h k =
-    Iff·trans (conflict-offset g d s u t v)
-    (Iff·symm (no-fit-line g d s t small h k (subℕ (across d v) (across d u)) .exactly (subℕ (along d v) (along d u))))
+    let a : ℤ = subℕ (along d v) (along d u) in
+    let o : ℤ = subℕ (across d v) (across d u) in
+    Iff·trans (conflict-offset g d s u t v) (no-fit-complete g d s t o small h k a, no-fit-sound g d s t o a)
+
+-- ── the range is sharp ──
+
+-- a full line of 255 pixels along the direction
+abbrev fullLine : Direction → Shape
+fullLine Horizontal = record { columns = sideBound; rows = 1; has = λ x y. true }
+fullLine Vertical = record { columns = 1; rows = sideBound; has = λ x y. true }
+
+-- its sides are at most 255
+line-small : (d e : Direction) → extent e (fullLine d) ≤ sideBound
+line-small Horizontal Horizontal = omega arith
+line-small Horizontal Vertical = omega arith
+line-small Vertical Horizontal = omega arith
+line-small Vertical Vertical = omega arith
+
+-- its pixel by number
+line-pixel : (d : Direction) (m : ℕ) → m < 255 → pixel (fullLine d) (point d m 0) ≡ true
+line-pixel Horizontal m h = rw (lt-ltb m sideBound h)
+line-pixel Vertical m h = rw (lt-ltb m sideBound h)
+
+-- two full lines at the offset 0 across have the difference of every two of their pixels as an offset, but for at most g
+line-offset : (g : ℕ) (d : Direction) (m n : ℕ) → m < 255 → n < 255 → (a z : ℤ) → natAbs z ≤ g → a ≡ subℕ m n +ℤ z
+    → PixelOffset g d (fullLine d) (fullLine d) a (pos 0)
+line-offset g d m n h k a z small is =
+    record {
+      p = point d m 0;
+      q = point d n 0;
+      ofFirst = line-pixel d m h;
+      ofSecond = line-pixel d n k;
+      alongBy = z;
+      acrossBy = pos 0;
+      alongSmall = small;
+      acrossSmall = omega arith;
+      alongIs = rw (along-point d m 0, along-point d n 0) is;
+      acrossIs = rw (across-point d m 0, across-point d n 0) refl;
+    }
+
+-- for every gap and in both directions there are two pieces whose offsets reach as far as the range, up and down: the last pixel of a full line is
+-- 254 and the gap beyond the first of another
+pub offset-reached : (g : ℕ) (d : Direction) → g ≤ 8 → ReachAttained g d
+offset-reached g d small =
+    let listed = no-fit-complete g d (fullLine d) (fullLine d) (pos 0) small (line-small d d) (line-small d d) in
+    let down-by = sub-whole 0 g in
+    let whole = sub-whole 0 (offsetReach g) in
+    let sum = add-signed (subℕ 0 254) (subℕ 0 g) in
+    record {
+      first = fullLine d;
+      second = fullLine d;
+      firstSmall = line-small d;
+      secondSmall = line-small d;
+      highest = listed _ (line-offset g d 254 0 (omega arith) (omega arith) _ (pos g) (omega arith) refl);
+      lowest =
+          listed _
+          (line-offset g d 0 254 (omega arith) (omega arith) _ (subℕ 0 g) (size-within g 0 g (omega arith) (omega arith)) (whole-eq _ _ (omega arith)));
+    }

@@ -6,7 +6,7 @@ use Rattle.list_laws.proofs.Kit.{_∙_, _≡_, refl, sym, _&&_, true, _↔_, _+
 use Rattle.list_laws.proofs.Tests.{and-left, and-right, and-both, same-tests}
 use Rattle.list_laws.proofs.Bounded.{any-witness, any-from}
 pub use Rattle.strip_laws.proofs.Boxes.{along-point, across-point}
-use Rattle.model.specs.Piece.{Point, Shape, pixel, covers, along, across, shift, extent}
+use Rattle.model.specs.Piece.{Point, Shape, pixel, covers, other, along, across, shift, extent}
 use Rattle.model.specs.Overlap.{share}
 use Rattle.model.specs.declared.Direction.{Direction}
 use Rattle.model.specs.declared.Direction.the-variants.{Horizontal, Vertical}
@@ -38,6 +38,11 @@ pixel-from s p f = and-both (and-both (lt-ltb _ _ (f .column)) (lt-ltb _ _ (f .r
 pub pixel-along : (d : Direction) (s : Shape) (p : Point) → pixel s p ≡ true → along d p < extent d s
 pixel-along Horizontal s p e = pixel-facts s p e .column
 pixel-along Vertical s p e = pixel-facts s p e .row
+
+-- and across it
+pub pixel-across : (d : Direction) (s : Shape) (p : Point) → pixel s p ≡ true → across d p < extent (other d) s
+pixel-across Horizontal s p e = pixel-facts s p e .row
+pixel-across Vertical s p e = pixel-facts s p e .column
 
 -- ── the sheet's pixels that a placed shape covers ──
 

@@ -1,50 +1,62 @@
--- The places along a line at which two pieces conflict by a gap: one after another, as 1 or 0. Assumes nothing.
-use mathlib.Core.Bool.{Bool, true, false}
-use mathlib.Core.List.{List, [], _∷_}
+-- The places along a line at which two pieces conflict by a gap, one bit a place: place m is bit m of a list of words. Assumes nothing.
+use mathlib.Core.Bool.{Bool, true, _&&_, _||_}
+use mathlib.Core.List.{List}
 use mathlib.Core.Logic.{_⊎_}
 use mathlib.Core.Path.{_≡_}
-use Prim.Native.Nat.{ℕ, zero, suc, _+_, max, _<_, _≤_}
-use lib.Dec.{ltb}
-use lib.ListN.{length, getD, set}
-use Rattle.model.specs.Bounded.{oneIf}
+use Prim.Native.Nat.{ℕ, _+_, _*_, _<_, _≤_}
+use lib.Dec.{leb, ltb}
+use lib.ListN.{length}
 use Rattle.model.specs.Strip.{Strip}
+use Rattle.bit_laws.specs.Bit.{bitAt, bitIn}
 use Rattle.pair_overlap.specs.Meet.{stripAt, shifted, meetInLine, linesMeet, stretchesMeet}
 use Rattle.pair_overlap.specs.declared.Corner.{Corner}
 use Rattle.pair_nofit.specs.declared.Placed.{Placed}
-
--- 1 for each of the next `left` numbers from k on that passes, else 0
-unfoldable pub flagsFrom : (ℕ → Bool) → ℕ → ℕ → List ℕ
-flagsFrom f k zero = []
-flagsFrom f k (suc left) = oneIf (f k) ∷ flagsFrom f (suc k) left
+use Rattle.pair_nofit.specs.declared.Covered.{Covered}
 
 -- some strips are at most g apart once the second is shifted by k
 abbrev pub meetsAt : ℕ → List (List ℕ) → Corner → List (List ℕ) → Corner → ℕ → Bool
 meetsAt g es u fs v k = stretchesMeet g es u fs (shifted k v)
 
--- the marks of the first n shifts of the second
-abbrev pub marksOf : ℕ → List (List ℕ) → Corner → List (List ℕ) → Corner → ℕ → List ℕ
-marksOf g es u fs v n = flagsFrom (meetsAt g es u fs v) 0 n
+-- the marks of as many shifts of the second as there are bits
+pub record ShiftsMarked (g : ℕ) (es : List (List ℕ)) (u : Corner) (fs : List (List ℕ)) (v : Corner) (before after : List ℕ) : Type 0 where
+  pub same : length after ≡ length before
+  pub each : (m : ℕ) → m < length after * 64 → bitIn after m ≡ meetsAt g es u fs v m
 
 -- ── how the marks are made ──
--- Two strips in one line are at most g apart at an interval of shifts. At the interval's first place the buffer keeps the farthest end of the
--- intervals that begin there, so a place is covered where one that begins at it or before ends after it.
+-- Two strips in one line are at most g apart at an interval of shifts: its bits are set, and none is ever cleared.
 
--- an interval that begins at the place or before it ends after it
-pub record ShiftReached (far : List ℕ) (m : ℕ) : Type 0 where
-  pub at : ℕ
-  pub low : at ≤ m
-  pub high : m < getD far at 0
+-- the number lies in the interval
+abbrev pub inInterval : ℕ → ℕ → ℕ → Bool
+inInterval low high m = leb low m && ltb m high
 
--- no interval was lost between two contents of the buffer, and a place that the later one reaches was reached, or strips in one line are at most g
--- apart there
+-- the bits of the interval in the word whose first place is `start`
+pub record WordBits (low high start word : ℕ) : Type 0 where
+  pub each : (i : ℕ) → i < 64 → bitAt word i ≡ inInterval low high (start + i)
+
+-- the interval marked beside what was marked, as far as the words go
+pub record IntervalMarked (low high : ℕ) (before after : List ℕ) : Type 0 where
+  pub same : length after ≡ length before
+  pub each : (m : ℕ) → m < length before * 64 → bitIn after m ≡ (bitIn before m || inInterval low high m)
+
+-- all shifts that are said to be covered are marked, as far as the words go
+abbrev pub Covers : Covered → List ℕ → Type 0
+Covers c marks = (m : ℕ) → m < length marks * 64 → c .low ≤ m → m < c .high → bitIn marks m ≡ true
+
+-- every number of r is one of the covered ones or of the interval
+pub record Joined (c : Covered) (low high : ℕ) (r : Covered) : Type 0 where
+  pub each : (m : ℕ) → r .low ≤ m → m < r .high → ((c .low ≤ m) × (m < c .high)) ⊎ ((low ≤ m) × (m < high))
+
+-- no mark was lost between two contents of the words, and a place that the later one marks was marked, or strips in one line are at most g apart
+-- there
 pub record Grown (g : ℕ) (es : List (List ℕ)) (u : Corner) (fs : List (List ℕ)) (v : Corner) (before after : List ℕ) : Type 0 where
   pub same : length after ≡ length before
-  pub grows : (k : ℕ) → getD before k 0 ≤ getD after k 0
-  pub sound : (m : ℕ) → m < length after → ShiftReached after m → ShiftReached before m ⊎ (linesMeet g es u fs (shifted m v) ≡ true)
+  pub grows : (m : ℕ) → bitIn before m ≡ true → bitIn after m ≡ true
+  pub sound : (m : ℕ) → bitIn after m ≡ true → (bitIn before m ≡ true) ⊎ (linesMeet g es u fs (shifted m v) ≡ true)
 
--- the buffer reaches every place where strip i of the first and strip l of the second are in one line and at most g apart
+-- every place where strip i of the first and strip l of the second are in one line and at most g apart is marked
 abbrev pub MeetingsKept : ℕ → List (List ℕ) → Corner → List (List ℕ) → Corner → List ℕ → ℕ → ℕ → Type 0
-MeetingsKept g es u fs v far i l = (m : ℕ) → m < length far → meetInLine g (stripAt es i) u (stripAt fs l) (shifted m v) ≡ true → ShiftReached far m
+MeetingsKept g es u fs v marks i l =
+    (m : ℕ) → m < length marks * 64 → meetInLine g (stripAt es i) u (stripAt fs l) (shifted m v) ≡ true → bitIn marks m ≡ true
 
 -- what one strip of the first stretch adds: all its meetings with the strips of the second from j on
 pub record LineMarked (g : ℕ) (es : List (List ℕ)) (u : Corner) (fs : List (List ℕ)) (v : Corner) (i j : ℕ) (before after : List ℕ) : Type 0 where
@@ -59,8 +71,8 @@ pub record AllMarked (g : ℕ) (es : List (List ℕ)) (u : Corner) (fs : List (L
 -- what all strips in lines at most g apart add
 pub record GapMarked (g : ℕ) (es : List (List ℕ)) (u : Corner) (fs : List (List ℕ)) (v : Corner) (before after : List ℕ) : Type 0 where
   pub same : length after ≡ length before
-  pub sound : (m : ℕ) → m < length after → ShiftReached after m → ShiftReached before m ⊎ (meetsAt g es u fs v m ≡ true)
-  pub kept : (m : ℕ) → m < length after → meetsAt g es u fs v m ≡ true → ShiftReached after m
+  pub sound : (m : ℕ) → bitIn after m ≡ true → (bitIn before m ≡ true) ⊎ (meetsAt g es u fs v m ≡ true)
+  pub kept : (m : ℕ) → m < length after * 64 → meetsAt g es u fs v m ≡ true → bitIn after m ≡ true
 
 -- where a line begins among the strips from j on: those before r lie in earlier lines, those from r on in that line or a later one
 pub record LineStart (fs : List (List ℕ)) (across line j r : ℕ) : Type 0 where
@@ -76,17 +88,3 @@ pub record PlacedAt (s : Strip) (u : Corner) (spread : ℕ) (r : Placed) : Type 
   pub end : r .end ≡ s .first + u .along + s .count + spread
   pub first : s .first < 256
   pub count : s .count < 256
-
--- the buffer with an interval kept: the larger of its end and what stands at its first place
-unfoldable pub keptAt : List ℕ → ℕ → ℕ → List ℕ
-keptAt far low high = elim (ltb (getD far low 0) high) [ true ↦ set far low high | false ↦ far ]
-
--- the farthest end of the intervals that begin before n
-abbrev pub farthest : List ℕ → ℕ → ℕ
-farthest far zero = 0
-farthest far (suc n) = max (farthest far n) (getD far n 0)
-
--- the farthest ends turned into marks
-pub record Swept (before after : List ℕ) : Type 0 where
-  pub same : length after ≡ length before
-  pub marks : (k : ℕ) → k < length before → getD after k 0 ≡ oneIf (ltb k (farthest before (suc k)))

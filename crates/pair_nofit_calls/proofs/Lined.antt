@@ -1,7 +1,6 @@
 -- The runs of a line's marks, and what putting them comes to. Assumes nothing.
-use Rattle.list_laws.proofs.Kit.{_∙_, _≡_, ap, ap₂, refl, sym, Bool, false, true, List, [], _++_, map, _<_, _≤_, min, ℕ, arith, eqb, ltb, length, length-sets}
+use Rattle.list_laws.proofs.Kit.{_∙_, _≡_, ap, ap₂, sym, false, true, List, [], _++_, map, _*_, _<_, _≤_, min, ℕ, arith, ltb, length, length-sets}
 use Rattle.list_laws.proofs.Kit.{sets, ℤ, le-ltb, lt-ltb}
-use Rattle.model.specs.Bounded.{oneIf}
 use Rattle.model.specs.Strip.{Run, runs}
 use Rattle.model.specs.Overlap.{offsetBound, up, down}
 use Rattle.model.specs.Refusal.{refused, given, unless, wrongLength, plainRefusal}
@@ -9,34 +8,25 @@ use Rattle.model.specs.declared.Refusal.{Refusal}
 use Rattle.list_laws.proofs.Lists.{nothing-before}
 use Rattle.strip_laws.proofs.Runs.{runs-agree}
 use Rattle.pair_overlap.specs.declared.Corner.{Corner}
-use Rattle.pair_nofit.specs.Marks.{flagsFrom, meetsAt, marksOf}
-use Rattle.pair_nofit.proofs.Marked.{flags-length, flags-at}
+use Rattle.bit_laws.specs.Bit.{bitIn}
+use Rattle.pair_nofit.specs.Marks.{meetsAt, ShiftsMarked}
 use Rattle.model.specs.Answers.{countAnswer}
 use Rattle.pair_nofit_calls.specs.Lines.{lowCorner, highCorner, lineRuns, lineOutcome, lineAfter}
-use Rattle.pair_runs.specs.Runs.{offsetEntry, offsetCount, farthest, marked, Put}
+use Rattle.pair_runs.specs.Runs.{offsetEntry, offsetCount, farthest, Put}
 use Rattle.model.specs.declared.NumberAnswer.{NumberAnswer}
 
--- a flag is 1 exactly where the number passes
-flag-one : (b : Bool) → eqb (oneIf b) 1 ≡ b
-flag-one true = refl
-flag-one false = refl
-
--- the runs of flags are the runs of the test
-flag-runs : (f : ℕ → Bool) (n : ℕ) → runs (marked (flagsFrom f 0 n)) (length (flagsFrom f 0 n)) ≡ runs f n
-flag-runs f n =
-    ap (runs (marked (flagsFrom f 0 n))) (flags-length f 0 n)
-    ∙ runs-agree (marked (flagsFrom f 0 n)) f n (λ k l. ap (λ (z : ℕ). eqb z 1) (flags-at f n k l) ∙ flag-one (f k))
-
--- the runs of the marks are the line's
-pub marks-line : (g : ℕ) (es fs : List (List ℕ)) (o : ℤ) (x y n : ℕ) (marks : List ℕ) → x ≡ min (down o) farthest → y ≡ min (up o) farthest → n ≡ offsetCount
-    → marks ≡ marksOf g es (record { along = offsetBound; across = x }) fs (record { along = 0; across = y }) n
-    → runs (marked marks) (length marks) ≡ lineRuns g es fs o
-marks-line g es fs o x y n marks a b c e =
+-- the runs of the marks are the line's, where there is a bit for each offset
+pub marks-line : (g : ℕ) (es fs : List (List ℕ)) (o : ℤ) (x y : ℕ) (before marks : List ℕ) → x ≡ min (down o) farthest → y ≡ min (up o) farthest
+    → ShiftsMarked g es (record { along = offsetBound; across = x }) fs (record { along = 0; across = y }) before marks
+    → offsetCount ≤ length before * 64
+    → runs (bitIn marks) offsetCount ≡ lineRuns g es fs o
+marks-line g es fs o x y before marks a b w l =
     let u : ℕ → Corner = λ z. record { along = offsetBound; across = z } in
     let v : ℕ → Corner = λ z. record { along = 0; across = z } in
-    let f : marks ≡ marksOf g es (lowCorner o) fs (highCorner o) offsetCount = e ∙ (λ i. marksOf g es (u (a i)) fs (v (b i)) (c i)) in
-    ap (λ (z : List ℕ). runs (marked z) (length z)) f ∙ flag-runs (meetsAt g es (lowCorner o) fs (highCorner o)) offsetCount
+    runs-agree (bitIn marks) (meetsAt g es (lowCorner o) fs (highCorner o)) offsetCount
+    (λ k h. w .each k (omega (arith, w .same)) ∙ (λ i. meetsAt g es (u (a i)) fs (v (b i)) k))
 
+-- a buffer without room stays without entries
 none-stored : (rs : List Run) (last : List (List ℤ)) (needed : ℕ) → Put rs [] 0 last needed → length last ≡ 0
 none-stored rs last needed p = ap length (p .stored) ∙ length-sets [] 0 (map offsetEntry rs)
 

@@ -1,4 +1,5 @@
-// No-fit rows and columns of two pieces, from their lent stretches. Document 01, 'No-fit rows and penalty', and document 02, point 4.
+// No-fit rows and columns of two pieces, from their lent stretches. Document 01, 'No-fit rows and penalty', and document 02, points 4 and 5: the
+// offsets of a line are kept as a bit each, nine words in all.
 use layout_places::known;
 use model::ColumnOffset;
 use model::Direction;
@@ -13,23 +14,25 @@ use model::Turn;
 use model::plain_refusal;
 use model::refused;
 use pair_overlap::Corner;
+use pair_runs::OFFSET_COUNT;
 use pair_runs::down;
 use pair_runs::put_runs;
 use pair_runs::up;
 use strip_scan::compare::Compared;
 ghost use mathlib.Core.Path.{_≡_};
-ghost use Prim.Native.Nat.{_≤_};
+ghost use Prim.Native.Nat.{ℕ, _≤_};
 ghost use lib.ListN.{length};
 ghost use Rattle.model.specs.Answers.{countAnswer, firstCause};
 ghost use Rattle.model.specs.Lent.{lentBy, jobOf, pixelStart, pieceBound, gapBound};
 ghost use Rattle.model.specs.Calls.{stretchWell, noFitCall, runsAfter};
 ghost use Rattle.model.specs.declared.JobSize.{JobSize};
 ghost use Rattle.job_laws.specs.Entries.{EntryAt};
+ghost use Rattle.call_laws.specs.NoFits.{OffsetsWithin};
 ghost use Rattle.pair_overlap.specs.Meet.{Ordered};
 ghost use Rattle.pair_nofit_calls.specs.Lines.{lineOutcome, lineAfter, lentStretch, stretchCauses};
 
-// How many offsets a no-fit line has.
-const OFFSET_COUNT: usize = 2 * (OFFSET_BOUND as usize) + 1;
+// How many words have a bit for each offset of a no-fit line.
+const OFFSET_WORDS: usize = OFFSET_COUNT / 64 + 1;
 
 // A piece in a turn.
 pub struct PieceInTurn {
@@ -57,7 +60,7 @@ fn put_line(
         along: 0,
         across: up(offset),
     };
-    let mut marks = [0u16; OFFSET_COUNT];
+    let mut marks = [0u64; OFFSET_WORDS];
     pair_nofit::mark_shifts(a, u, b, v, gap, &mut marks);
     let needed = put_runs(&marks, &mut out[..0]);
     if out.len() < needed {
@@ -168,6 +171,7 @@ pub fn no_fit_row(
 ) -> NumberAnswer
     ensures answer { λ r. ⌜ r ≡ countAnswer (noFitCall Direction.Horizontal (lentBy size (now (table .entry)) (now (pixels .entry))) (lentStretch (first .piece) (first .turn) (now (a .entry))) (lentStretch (second .piece) (second .turn) (now (b .entry))) (offset .0) (length (now (out .entry)))) ⌝ }
     ensures memory { λ r. ⌜ now (out .exit) ≡ runsAfter (now (out .entry)) (noFitCall Direction.Horizontal (lentBy size (now (table .entry)) (now (pixels .entry))) (lentStretch (first .piece) (first .turn) (now (a .entry))) (lentStretch (second .piece) (second .turn) (now (b .entry))) (offset .0) (length (now (out .entry)))) ⌝ }
+    ensures offsets { λ r. ⌜ ((n : ℕ) → r ≡ NumberAnswer.Number n → OffsetsWithin (size .gap) n (now (out .exit))) ⌝ }
 {
     no_fit(
         size,
@@ -197,6 +201,7 @@ pub fn no_fit_column(
 ) -> NumberAnswer
     ensures answer { λ r. ⌜ r ≡ countAnswer (noFitCall Direction.Vertical (lentBy size (now (table .entry)) (now (pixels .entry))) (lentStretch (first .piece) (first .turn) (now (a .entry))) (lentStretch (second .piece) (second .turn) (now (b .entry))) (offset .0) (length (now (out .entry)))) ⌝ }
     ensures memory { λ r. ⌜ now (out .exit) ≡ runsAfter (now (out .entry)) (noFitCall Direction.Vertical (lentBy size (now (table .entry)) (now (pixels .entry))) (lentStretch (first .piece) (first .turn) (now (a .entry))) (lentStretch (second .piece) (second .turn) (now (b .entry))) (offset .0) (length (now (out .entry)))) ⌝ }
+    ensures offsets { λ r. ⌜ ((n : ℕ) → r ≡ NumberAnswer.Number n → OffsetsWithin (size .gap) n (now (out .exit))) ⌝ }
 {
     no_fit(
         size,

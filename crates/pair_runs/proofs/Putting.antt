@@ -1,8 +1,11 @@
 -- Runs put into a buffer one after the other: what is left of them is still to be put. Assumes nothing.
-use Rattle.list_laws.proofs.Kit.{_∙_, _≡_, ap, ap₂, refl, subst, sym, Bool, false, true, List, [], _∷_, map, _+_, _-_, _<_, _≤_, suc, zero, ℕ, add-one}
-use Rattle.list_laws.proofs.Kit.{add-zero, arith, getD, length, set, length-sets, set-out, sets, pos, subℕ, ℤ, eq-eqb, ne-eqb}
+use Rattle.list_laws.proofs.Kit.{_∙_, _≡_, ap, ap₂, refl, sym, Bool, false, true, ⊎-elim, List, [], _∷_, map, _+_, _-_, _<_, _≤_, suc, zero, ℕ, add-one}
+use Rattle.list_laws.proofs.Kit.{add-zero, zero-add, arith, length, set, length-sets, set-out, sets, pos, subℕ, ℤ}
+use Rattle.list_laws.proofs.Numbers.{below-or}
+use Rattle.list_laws.proofs.Tests.{clash}
 use Rattle.model.specs.Strip.{Run, closing, runsFrom, runs}
-use Rattle.pair_runs.specs.Runs.{offsetEntry, marked, Put}
+use Rattle.bit_laws.specs.Bit.{bitIn}
+use Rattle.pair_runs.specs.Runs.{offsetEntry, offsetCount, NextPlace, Put}
 
 -- ── one run ──
 
@@ -25,17 +28,48 @@ put-one end (suc n) at before first many l e f =
 
 -- ── the runs that are left ──
 
+-- a number that passes makes the run longer
 runs-marked : (f : ℕ → Bool) (k left run : ℕ) → f k ≡ true → runsFrom f k (suc left) run ≡ runsFrom f (suc k) left (suc run)
 unfolding runsFrom
 runs-marked f k left run e = rw (e, runsFrom)
 
+-- one that fails ends it
 runs-free : (f : ℕ → Bool) (k left run : ℕ) → f k ≡ false → runsFrom f k (suc left) run ≡ closing k run (runsFrom f (suc k) left 0)
 unfolding runsFrom
 runs-free f k left run e = rw (e, runsFrom)
 
+-- so does the last
 runs-end : (f : ℕ → Bool) (k run : ℕ) → runsFrom f k 0 run ≡ closing k run []
 unfolding runsFrom
 runs-end f k run = refl
+
+-- n numbers that fail are passed at once
+runs-skip : (f : ℕ → Bool) (k left n : ℕ) → ((m : ℕ) → k ≤ m → m < k + n → f m ≡ false) → runsFrom f k (n + left) 0 ≡ runsFrom f (k + n) left 0
+runs-skip f k left zero e = ap₂ (λ (x y : ℕ). runsFrom f x y 0) (sym (add-zero k)) (zero-add left)
+runs-skip f k left (suc n) e =
+    let more : suc n + left ≡ suc (n + left) = omega arith in
+    let on : suc k + n ≡ k + suc n = omega arith in
+    ap (λ (x : ℕ). runsFrom f k x 0) more ∙ runs-free f k (n + left) 0 (e k (omega arith) (omega arith))
+    ∙ runs-skip f (suc k) left n (λ m a b. e m (omega arith) (omega arith)) ∙ ap (λ (x : ℕ). runsFrom f x left 0) on
+
+-- so are n that pass
+runs-stretch : (f : ℕ → Bool) (k left run n : ℕ) → ((m : ℕ) → k ≤ m → m < k + n → f m ≡ true)
+    → runsFrom f k (n + left) run ≡ runsFrom f (k + n) left (run + n)
+runs-stretch f k left run zero e =
+    ap (λ (x : ℕ). runsFrom f k x run) (zero-add left) ∙ ap₂ (λ (x y : ℕ). runsFrom f x left y) (sym (add-zero k)) (sym (add-zero run))
+runs-stretch f k left run (suc n) e =
+    let more : suc n + left ≡ suc (n + left) = omega arith in
+    let on : suc k + n ≡ k + suc n = omega arith in
+    let many : suc run + n ≡ run + suc n = omega arith in
+    ap (λ (x : ℕ). runsFrom f k x run) more ∙ runs-marked f k (n + left) run (e k (omega arith) (omega arith))
+    ∙ runs-stretch f (suc k) left (suc run) n (λ m a b. e m (omega arith) (omega arith)) ∙ ap₂ (λ (x y : ℕ). runsFrom f x left y) on many
+
+-- a run ends where a number fails, or there is none more
+runs-closed : (f : ℕ → Bool) (k left run : ℕ) → (0 < left → f k ≡ false) → runsFrom f k left run ≡ closing k run (runsFrom f k left 0)
+runs-closed f k zero run e = runs-end f k run ∙ ap (closing k run) (sym (runs-end f k 0))
+runs-closed f k (suc left) run e =
+    let free : f k ≡ false = e (omega arith) in
+    runs-free f k left run free ∙ ap (closing k run) (sym (runs-free f k left 0 free))
 
 -- a run that ends, put before those that are left
 closing-stored : (k run : ℕ) (rest : List Run) (before mid : List (List ℤ)) (at next : ℕ) → Put (closing k run []) before at mid next
@@ -45,84 +79,80 @@ closing-stored k zero rest before mid at next p =
 closing-stored k (suc run) rest before mid at next p =
     ap₂ (λ (l : List (List ℤ)) (i : ℕ). sets l i (map offsetEntry rest)) (sym (p .stored)) (sym (p .end ∙ add-one at))
 
+-- it counts one, if there is one
 closing-counted : (k run : ℕ) (rest : List Run) (before mid : List (List ℤ)) (at next : ℕ) → Put (closing k run []) before at mid next
     → at + length (closing k run rest) ≡ next + length rest
 closing-counted k zero rest before mid at next p = omega (arith, p .end)
 closing-counted k (suc run) rest before mid at next p = omega (arith, p .end)
 
+-- and no more
 closing-low : (k run : ℕ) (before mid : List (List ℤ)) (at next : ℕ) → Put (closing k run []) before at mid next → next ≤ at + 1
 closing-low k zero before mid at next p = omega (arith, p .end)
 closing-low k (suc run) before mid at next p = omega (arith, p .end)
 
 -- what was put so far: the runs that are left, put from `at` on, give what all of them give
-pub record Putting (marks : List ℕ) (first out : List (List ℤ)) (at count k : ℕ) : Type 0 where
-  pub run : count ≤ k
-  pub within : k ≤ length marks
+pub record Putting (marks : List ℕ) (first out : List (List ℤ)) (at k : ℕ) : Type 0 where
+  pub within : k ≤ offsetCount
   pub low : at ≤ k
   pub same : length out ≡ length first
-  pub counted : at + length (runsFrom (marked marks) k (length marks - k) count) ≡ length (runs (marked marks) (length marks))
-  pub stored : sets out at (map offsetEntry (runsFrom (marked marks) k (length marks - k) count))
-      ≡ sets first 0 (map offsetEntry (runs (marked marks) (length marks)))
+  pub counted : at + length (runsFrom (bitIn marks) k (offsetCount - k) 0) ≡ length (runs (bitIn marks) offsetCount)
+  pub stored : sets out at (map offsetEntry (runsFrom (bitIn marks) k (offsetCount - k) 0)) ≡ sets first 0 (map offsetEntry (runs (bitIn marks) offsetCount))
 
-pub putting-start : (marks : List ℕ) (first : List (List ℤ)) → Putting marks first first 0 0 0
-putting-start marks first =
-    let e : length marks - 0 ≡ length marks = omega arith in
-    record {
-      run = omega arith;
-      within = omega arith;
-      low = omega arith;
-      same = refl;
-      counted = rw e (omega arith);
-      stored = rw e;
-    }
+-- nothing is put
+pub putting-start : (marks : List ℕ) (first : List (List ℤ)) → Putting marks first first 0 0
+putting-start marks first = record { within = omega arith; low = omega arith; same = refl; counted = omega arith; stored = refl }
 
-module _ (marks : List ℕ) (first out : List (List ℤ)) (at count k : ℕ) (w : Putting marks first out at count k) where
-  -- a marked number more
-  pub putting-marked : k < length marks → getD marks k 0 ≡ 1 → Putting marks first out at (count + 1) (k + 1)
-  putting-marked l e =
-      let n : length marks - k ≡ suc (length marks - (k + 1)) = omega arith in
-      let r : runsFrom (marked marks) k (length marks - k) count ≡ runsFrom (marked marks) (k + 1) (length marks - (k + 1)) (count + 1) =
-      ap (λ (z : ℕ). runsFrom (marked marks) k z count) n ∙ runs-marked (marked marks) k _ count (eq-eqb _ 1 e)
-      ∙ ap₂ (λ (x y : ℕ). runsFrom (marked marks) x (length marks - (k + 1)) y) (sym (add-one k)) (sym (add-one count)) in
-      let a = w .run in
-      let b = w .low in
+module _ (marks : List ℕ) (k r e : ℕ) (p : NextPlace marks true k r) (q : NextPlace marks false r e) where
+  -- the run that begins at the next marked place and ends at the next free one comes before those from there on
+  next-run : runsFrom (bitIn marks) k (offsetCount - k) 0 ≡ closing e (e - r) (runsFrom (bitIn marks) e (offsetCount - e) 0)
+  next-run =
+      let a = p .low in
+      let b = q .low in
+      let c = q .high in
+      let skipped : offsetCount - k ≡ (r - k) + (offsetCount - r) = omega arith in
+      let first : k + (r - k) ≡ r = omega arith in
+      let passed : offsetCount - r ≡ (e - r) + (offsetCount - e) = omega arith in
+      let end : r + (e - r) ≡ e = omega arith in
+      ap (λ (x : ℕ). runsFrom (bitIn marks) k x 0) skipped
+      ∙ runs-skip (bitIn marks) k (offsetCount - r) (r - k) (λ m x y. p .before m x (omega arith))
+      ∙ ap₂ (λ (x y : ℕ). runsFrom (bitIn marks) x y 0) first passed
+      ∙ runs-stretch (bitIn marks) r (offsetCount - e) 0 (e - r) (λ m x y. q .before m x (omega arith))
+      ∙ ap₂ (λ (x y : ℕ). runsFrom (bitIn marks) x (offsetCount - e) y) end (zero-add (e - r))
+      ∙ runs-closed (bitIn marks) e (offsetCount - e) (e - r) (λ l. q .here (omega arith))
+
+  -- it ends later
+  pub next-later : k < offsetCount → k < e
+  next-later l =
+      ⊎-elim (λ h. h)
+      (λ (h : e ≤ k).
+      let a = p .low in
+      let b = q .low in
+      let same : r ≡ e = omega arith in
+      absurd (clash (p .here (omega arith)) (ap (bitIn marks) same ∙ q .here (omega arith))))
+      (below-or k e)
+
+module _ (marks : List ℕ) (first out : List (List ℤ)) (at k : ℕ) (w : Putting marks first out at k) where
+  -- a run more
+  pub putting-more : (r e : ℕ) → k < offsetCount → NextPlace marks true k r → NextPlace marks false r e → (mid : List (List ℤ)) (next : ℕ)
+      → Put (closing e (e - r) []) out at mid next → Putting marks first mid next e
+  putting-more r e l p q mid next put =
+      let rest : List Run = runsFrom (bitIn marks) e (offsetCount - e) 0 in
+      let same : runsFrom (bitIn marks) k (offsetCount - k) 0 ≡ closing e (e - r) rest = next-run marks k r e p q in
       record {
-        run = omega arith;
-        within = omega arith;
-        low = omega arith;
-        same = w .same;
-        counted = subst (λ (z : List Run). at + length z ≡ length (runs (marked marks) (length marks))) r (w .counted);
-        stored = subst (λ (z : List Run). sets out at (map offsetEntry z) ≡ sets first 0 (map offsetEntry (runs (marked marks) (length marks)))) r (w .stored);
+        within = q .high;
+        low = omega (arith, w .low, next-later marks k r e p q l, closing-low e (e - r) out mid at next put);
+        same = ap length (put .stored) ∙ length-sets out at (map offsetEntry (closing e (e - r) [])) ∙ w .same;
+        counted = sym (closing-counted e (e - r) rest out mid at next put) ∙ ap (λ (z : List Run). at + length z) (sym same) ∙ w .counted;
+        stored = sym (closing-stored e (e - r) rest out mid at next put) ∙ ap (λ (z : List Run). sets out at (map offsetEntry z)) (sym same) ∙ w .stored;
       }
 
-  -- a free number: the run before it ends
-  pub putting-free : k < length marks → (getD marks k 0 ≡ 1 → ⊥) → (mid : List (List ℤ)) (next : ℕ) → Put (closing k count []) out at mid next
-      → Putting marks first mid next 0 (k + 1)
-  putting-free l e mid next p =
-      let n : length marks - k ≡ suc (length marks - (k + 1)) = omega arith in
-      let rest : List Run = runsFrom (marked marks) (k + 1) (length marks - (k + 1)) 0 in
-      let r : runsFrom (marked marks) k (length marks - k) count ≡ closing k count rest =
-      ap (λ (z : ℕ). runsFrom (marked marks) k z count) n ∙ runs-free (marked marks) k _ count (ne-eqb _ 1 e)
-      ∙ ap (λ (x : ℕ). closing k count (runsFrom (marked marks) x (length marks - (k + 1)) 0)) (sym (add-one k)) in
-      let b = w .low in
-      record {
-        run = omega arith;
-        within = omega arith;
-        low = omega (arith, closing-low k count out mid at next p);
-        same = ap length (p .stored) ∙ length-sets out at (map offsetEntry (closing k count [])) ∙ w .same;
-        counted = sym (closing-counted k count rest out mid at next p) ∙ ap (λ (z : List Run). at + length z) (sym r) ∙ w .counted;
-        stored = sym (closing-stored k count rest out mid at next p) ∙ ap (λ (z : List Run). sets out at (map offsetEntry z)) (sym r) ∙ w .stored;
-      }
-
-  -- at the end the last run
-  pub putting-end : length marks ≤ k → (after : List (List ℤ)) (next : ℕ) → Put (closing k count []) out at after next
-      → Put (runs (marked marks) (length marks)) first 0 after next
-  putting-end l after next p =
+  -- at the end none is left
+  pub putting-end : offsetCount ≤ k → Put (runs (bitIn marks) offsetCount) first 0 out at
+  putting-end l =
       let b = w .within in
-      let n : length marks - k ≡ 0 = omega arith in
-      let r : runsFrom (marked marks) k (length marks - k) count ≡ closing k count [] =
-      ap (λ (z : ℕ). runsFrom (marked marks) k z count) n ∙ runs-end (marked marks) k count in
+      let n : offsetCount - k ≡ 0 = omega arith in
+      let none : runsFrom (bitIn marks) k (offsetCount - k) 0 ≡ [] = ap (λ (z : ℕ). runsFrom (bitIn marks) k z 0) n ∙ runs-end (bitIn marks) k 0 in
       record {
-        end = p .end ∙ ap (λ (z : List Run). at + length z) (sym r) ∙ w .counted ∙ omega arith;
-        stored = p .stored ∙ ap (λ (z : List Run). sets out at (map offsetEntry z)) (sym r) ∙ w .stored;
+        end = omega (arith, w .counted, ap length none);
+        stored = sym (ap (λ (z : List Run). sets out at (map offsetEntry z)) none) ∙ w .stored;
       }

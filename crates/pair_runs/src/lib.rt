@@ -1,13 +1,19 @@
-// Offsets of a no-fit line, and the runs of marked offsets as a run buffer holds them.
+// Offsets of a no-fit line, and the runs of marked offsets as a run buffer holds them. Offsets are marked by a bit each, from -262
+// on; where a run begins and ends is found by the zeros below a word's lowest set bit, so that 64 offsets are passed at a time.
 ghost use mathlib.Core.Path.{_≡_};
 ghost use mathlib.Core.List.{[]};
-ghost use Prim.Native.Nat.{min, _<_, _≤_};
+ghost use Prim.Native.Nat.{min, _*_, _<_, _≤_};
 ghost use lib.IntN.{subℕ};
 ghost use lib.ListN.{length};
 ghost use Rattle.model.specs.Strip.{runs, closing};
 ghost use Rattle.model.specs.Overlap.{up, down, offsetBound};
-ghost use Rattle.pair_runs.specs.Runs.{offsetCount, farthest, marked, Put};
+ghost use Rattle.bit_laws.specs.Bit.{bitIn};
+ghost use Rattle.pair_runs.specs.Runs.{offsetCount, farthest, Sought, NextPlace, Put};
 use model::OFFSET_BOUND;
+use whole_numbers::smaller;
+
+// How many offsets a no-fit line has.
+pub const OFFSET_COUNT: usize = 2 * (OFFSET_BOUND as usize) + 1;
 
 // What an offset is counted from.
 const OFFSET_BIAS: i32 = OFFSET_BOUND as i32;
@@ -70,23 +76,43 @@ fn put_run(out: &mut [[i32; 2]], at: usize, end: usize, count: usize) -> usize
     at + 1
 }
 
-// Puts the maximal runs of the marked offsets into the buffer, as far as there is room, and tells how many there are.
-pub fn put_runs(marks: &[u16], out: &mut [[i32; 2]]) -> usize
-    requires { ⌜ length (now marks) ≤ offsetCount ⌝ }
-    ensures { λ r. ⌜ Put (runs (marked (now (marks .entry))) (length (now (marks .entry)))) (now (out .entry)) 0 (now (out .exit)) r ⌝ }
+// A word in which the bits that are looked for are set: its own, or, where clear ones are looked for, their opposites.
+fn sought(word: u64, bit: bool) -> u64
+    ensures { λ r. ⌜ Sought word bit r ⌝ }
+{
+    if bit { word } else { !word }
+}
+
+// The first place from k on that is marked, or, where `bit` is false, that is not; the number of places where there is none. What is left of a
+// word after a shift begins with place p: its lowest set bit is the first place looked for, and if it is 0 there is none up to the word's end.
+fn next_place(marks: &[u64], k: usize, bit: bool) -> usize
+    requires { ⌜ (k ≤ offsetCount) × (offsetCount ≤ length (now marks) * 64) ⌝ }
+    ensures { λ r. ⌜ NextPlace (now (marks .entry)) bit k r ⌝ }
+{
+    let mut p = k;
+    while p < OFFSET_COUNT {
+        let left = sought(marks[p / 64], bit) >> (p % 64);
+        if left != 0 {
+            return smaller(p + (u64::trailing_zeros(left) as usize), OFFSET_COUNT);
+        }
+        p = (p / 64 + 1) * 64;
+    }
+    OFFSET_COUNT
+}
+
+// Puts the maximal runs of the marked offsets into the buffer, as far as there is room, and tells how many there are. A run begins at the next marked
+// place and ends before the next one that is not: what lies between two runs is passed at once, and so is a run, since all its bits are alike.
+pub fn put_runs(marks: &[u64], out: &mut [[i32; 2]]) -> usize
+    requires { ⌜ offsetCount ≤ length (now marks) * 64 ⌝ }
+    ensures { λ r. ⌜ Put (runs (bitIn (now (marks .entry))) offsetCount) (now (out .entry)) 0 (now (out .exit)) r ⌝ }
 {
     let mut at = 0;
-    let mut count = 0;
     let mut k = 0;
-    while k < marks.len() {
-        if marks[k] == 1 {
-            count += 1;
-            k += 1;
-        } else {
-            at = put_run(out, at, k, count);
-            count = 0;
-            k += 1;
-        }
+    while k < OFFSET_COUNT {
+        let first = next_place(marks, k, true);
+        let end = next_place(marks, first, false);
+        at = put_run(out, at, end, end - first);
+        k = end;
     }
-    put_run(out, at, k, count)
+    at
 }

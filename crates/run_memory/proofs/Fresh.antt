@@ -1,23 +1,10 @@
--- The slots of a store of lines, and a layout buffer that is written again. Assumes nothing.
-use Rattle.list_laws.proofs.Kit.{_∙_, _≡_, ap, refl, sym, _⊎_, inl, inr, List, [], _∷_, _%_, _*_, _+_, _/_, _<_, _≤_, suc, zero, ℕ, div-add-mod'}
-use Rattle.list_laws.proofs.Kit.{eq-or-lt-of-le, mod-lt, arith, getD, length, length-map, length-set}
+-- A layout buffer that is written again. Assumes nothing.
+use Rattle.list_laws.proofs.Kit.{_∙_, _≡_, ap, refl, sym, _⊎_, inl, inr, List, [], _∷_, _+_, _<_, suc, zero, ℕ}
+use Rattle.list_laws.proofs.Kit.{eq-or-lt-of-le, arith, getD, length, length-map, length-set}
 use Rattle.list_laws.proofs.Kit.{set, ext-getD, getD-set-other, getD-set-same, set-getD}
 use Rattle.model.specs.Layout.{Layout, placeOf, origin}
 use Rattle.model.specs.Buffer.{entryOf, placementOf, layoutOf, entriesOf}
-use Rattle.list_laws.proofs.Numbers.{factor-positive}
-use Rattle.run_memory.specs.Ready.{Slots}
 use Rattle.text_laws.proofs.Entries.{layout-set}
-
--- ── slots ──
-
--- as many slots as the bytes have room for
-pub slots-of : (width : ℕ) → 68 ≤ width → width ≤ 530 → Slots width (524288 / width)
-slots-of width low high =
-    let whole : 524288 / width * width + 524288 % width ≡ 524288 = div-add-mod' 524288 width in
-    let rest : 524288 % width < width = mod-lt 524288 (omega arith) in
-    record { some = factor-positive (524288 / width) width (omega arith); room = omega arith }
-
--- ── a buffer that is written again ──
 
 -- an entry of a layout's buffer
 entries-at : (v : Layout) (i : ℕ) → i < length v → getD (entriesOf v) i [] ≡ entryOf (placeOf v i)

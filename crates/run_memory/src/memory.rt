@@ -15,29 +15,29 @@ use run_rounds::rounds;
 use run_trials::TRIAL_BOUND;
 use run_trials::make_trials;
 use search_lines::LEAST_MAPS;
+use search_lines::RUN_SLOTS;
 use search_lines::RunSize;
 use search_lines::ready_maps;
-use search_lines::slot_width;
 use search_shapes::STARTS_LENGTH;
 use search_shapes::empty_store;
 use search_shapes::make_shapes;
 use search_table::penalties_of;
 use whole_numbers::smaller;
 ghost use mathlib.Core.Path.{_≡_};
-ghost use Prim.Native.Nat.{ℕ, _≤_};
+ghost use Prim.Native.Nat.{ℕ};
 ghost use lib.ListN.{length, getD};
 ghost use Rattle.model.specs.Lent.{lentBy, jobOf};
 ghost use Rattle.model.specs.declared.Direction.{Direction};
-ghost use Rattle.search_lines.specs.Kept.{leastMaps, linesBound, MapsReady, slotBound};
+ghost use Rattle.search_lines.specs.Kept.{leastMaps, linesBound, MapsReady};
 ghost use Rattle.search_shapes.specs.Shapes.{Shapes};
 ghost use Rattle.search_beside.specs.Ready.{LinesReady};
 ghost use Rattle.run_trials.specs.Trials.{TrialList};
 ghost use Rattle.run_step.specs.Ready.{LaidOut};
 ghost use Rattle.run_rounds.specs.Rounds.{InRange, Ran};
-ghost use Rattle.run_memory.specs.Ready.{Given, Slots};
+ghost use Rattle.run_memory.specs.Ready.{Given};
 ghost use Rattle.run_memory.specs.Done.{PlanInRange, Done};
 
-// The bytes of a store of penalty lines: of both directions, so that a job with most of its lines along one has room for them.
+// The bytes of a store of penalty lines: a quarter of them tells where each line stands.
 const LINES_LENGTH: usize = 524288;
 
 // The most words of a workspace that are used: more than the maps of any job.
@@ -55,15 +55,7 @@ pub enum PlanOutcome {
     Rounds(Tally),
 }
 
-// How many slots of a width a store of lines has.
-fn slot_count(width: usize) -> usize
-    requires { ⌜ (68 ≤ width) × (width ≤ slotBound) ⌝ }
-    ensures { λ r. ⌜ Slots width r ⌝ }
-{
-    LINES_LENGTH / width
-}
-
-// Room for kept lines, with no key in it. A proof that saw the literal would compute with it.
+// Room for kept lines, with no stretch in it. A proof that saw the literal would compute with it.
 fn empty_lines() -> [u8; LINES_LENGTH]
     ensures { λ r. ⌜ (length r ≡ linesBound) × ((k : ℕ) → getD r k 0 ≡ 0) ⌝ }
 {
@@ -196,11 +188,9 @@ fn with_lines(
     ensures { λ r. ⌜ Done (lentBy size (now (table .entry)) (now (pixels .entry))) (now (layout .entry)) (now (weights .entry)) plan r (now (layout .exit)) (now (weights .exit)) ⌝ }
 {
     let mut lines = empty_lines();
-    let width = slot_width(size, table);
     let run = RunSize {
         size,
-        slots: slot_count(width),
-        width,
+        slots: RUN_SLOTS,
     };
     run_plan(
         run,

@@ -49,10 +49,11 @@ module _ (l : Lent) (r : RunSize) (strips : List (List ℕ)) (starts lines maps 
     pub line-ready : (lines′ maps′ : List ℕ) → LinesKept (jobOf l) r lines′ maps′ → length lines′ ≡ length lines → LinesReady l r strips starts lines′ maps′
     line-ready lines′ maps′ kept e =
         let f = ready .fit .fits in
+        let g = ready .fit .room in
         record {
           well = ready .well;
           shapes = ready .shapes;
-          fit = record { wide = ready .fit .wide; narrow = ready .fit .narrow; fits = omega arith };
+          fit = record { room = omega arith; fits = omega arith };
           kept = kept;
         }
 

@@ -16,11 +16,11 @@ use Rattle.search_tracks.specs.declared.Mover.{Mover}
 use Rattle.search_tracks.specs.declared.Track.{Track}
 use Rattle.search_tracks.specs.declared.StandingPiece.{StandingPiece}
 
--- a run that is ready: its job passes the check, the strips are the job's, and the store keeps lines of it in slots that are wide enough
+-- a run that is ready: its job passes the check, the strips are the job's, and the store keeps lines of it and has room for the longest
 pub record LinesReady (l : Lent) (r : RunSize) (strips : List (List ℕ)) (starts lines maps : List ℕ) : Type 0 where
   pub well : lentWell l ≡ true
   pub shapes : Shapes Horizontal (jobOf l) strips starts
-  pub fit : LinesFit (jobOf l) r lines
+  pub fit : LinesFit r lines
   pub kept : LinesKept (jobOf l) r lines maps
 
 -- the track is that of the mover, a piece of the job

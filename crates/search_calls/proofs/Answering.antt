@@ -21,38 +21,26 @@ use Rattle.search_shapes.proofs.Jobs.{places-few}
 use Rattle.descent_laws.specs.LentLayout.{Laid}
 use Rattle.search_shapes.specs.Shapes.{Shapes}
 use Rattle.search_lines.specs.Kept.{MapsReady}
-use Rattle.search_lines.proofs.Keeping.{none-kept, twice-wide, cleared-byte}
+use Rattle.search_lines.proofs.Keeping.{none-kept, cleared-byte}
 use Rattle.search_beside.specs.Ready.{LinesReady}
 use Rattle.search_line_sums.specs.Answers.{foundAnswer}
 use Rattle.search_calls.specs.Answers.{InReach, bestAnswer, searchAnswer}
 
 -- ── the store ──
 
--- a fresh store of slots that have room for every line keeps none
+-- a fresh store that has room for every line keeps none
 pub store-ready : (l : Lent) (strips : List (List ℕ)) (starts maps : List ℕ) → lentWell l ≡ true → Shapes Horizontal (jobOf l) strips starts
     → MapsReady (jobOf l) maps
-    → LinesReady l (record { size = l .size; slots = 64; width = 530 }) strips starts (replicate 33920 0) maps
+    → LinesReady l (record { size = l .size; slots = 1 }) strips starts (replicate 548 0) maps
 store-ready l strips starts maps w shapes ready =
-    let n = length-replicate {A = ℕ} 33920 0 in
+    let n = length-replicate {A = ℕ} 548 0 in
     record {
       well = w;
       shapes = shapes;
-      fit =
-          record {
-            wide =
-                twice-wide (jobOf l) 263
-                (λ i b.
-                let s = lent-boxes-small l w in
-                let g = s .gapSmall in
-                let c = s .columnsSmall i b in
-                let r = s .rowsSmall i b in
-                (omega arith, omega arith));
-            narrow = omega arith;
-            fits = omega arith;
-          };
+      fit = record { room = omega arith; fits = omega arith };
       kept =
-          none-kept (jobOf l) (record { size = l .size; slots = 64; width = 530 }) (replicate 33920 0) maps ready (omega arith) (omega arith)
-          (cleared-byte 33920);
+          none-kept (jobOf l) (record { size = l .size; slots = 1 }) (replicate 548 0) maps ready (omega arith) (omega arith)
+          (cleared-byte 548);
     }
 
 -- ── the answer ──

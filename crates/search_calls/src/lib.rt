@@ -14,6 +14,7 @@ use model::Turn;
 use model::plain_refusal;
 use search_bounded::search_below;
 use search_line_sums::Found;
+use search_lines::LEAST_LINES;
 use search_lines::LEAST_MAPS;
 use search_lines::RunSize;
 use search_lines::ready_maps;
@@ -22,7 +23,6 @@ use search_shapes::empty_store;
 use search_tracks::Mover;
 ghost use mathlib.Core.Path.{_≡_};
 ghost use Prim.Native.Nat.{_<_};
-ghost use lib.ListN.{length};
 ghost use Rattle.model.specs.Piece.{coordinateOn};
 ghost use Rattle.model.specs.Search.{searchLine};
 ghost use Rattle.model.specs.Lent.{lentBy, jobOf};
@@ -33,11 +33,8 @@ ghost use Rattle.descent_laws.specs.Claims.{ValidWeights};
 ghost use Rattle.search_line_sums.specs.Answers.{foundAnswer};
 ghost use Rattle.search_calls.specs.Answers.{InReach, bestAnswer, searchAnswer};
 
-// How many penalty lines a search keeps: one for each standing piece.
-const SLOTS: usize = model::PIECE_BOUND;
-
-// The bytes of a slot: its key's and twice the largest box side.
-const SLOT_WIDTH: usize = search_lines::KEY_BYTES + 526;
+// How many penalty lines a search keeps at a time: it asks for each once.
+const SLOTS: usize = 1;
 
 // No sum reaches it: a search without a bound.
 const NO_BOUND: u32 = 4294967295;
@@ -64,7 +61,7 @@ fn search_alone(
 {
     let mut strips = empty_store();
     let mut starts = [0u32; STARTS_LENGTH];
-    let mut lines = [0u8; SLOTS * SLOT_WIDTH];
+    let mut lines = [0u8; LEAST_LINES];
     let mut maps = [0u64; LEAST_MAPS];
     ready_maps(size, table, pixels, &mut maps);
     search_shapes::make_shapes(
@@ -75,11 +72,7 @@ fn search_alone(
         &mut strips,
         &mut starts,
     );
-    let run = RunSize {
-        size,
-        slots: SLOTS,
-        width: SLOT_WIDTH,
-    };
+    let run = RunSize { size, slots: SLOTS };
     search_below(
         run,
         table,

@@ -1,22 +1,21 @@
--- How the store stays right: one with no key is, and one stays so when a slot is made anew. Assumes nothing.
-use Rattle.list_laws.proofs.Kit.{_∙_, _≡_, ap, refl, subst, sym, ⊎-elim, List, _*_, _+_, _/_, _%_, _<_, _≤_, ℕ, arith, getD, length, set}
+-- How the store stays right: one with no stretch is, and one stays so when a line is put into a stretch. Assumes nothing.
+use Rattle.list_laws.proofs.Kit.{_∙_, _≡_, ap, refl, subst, sym, _⊎_, inl, inr, ⊎-elim, List, _*_, _+_, _/_, _%_, _<_, _≤_, ℕ, arith, getD, length, set}
 use Rattle.list_laws.proofs.Kit.{List·getD-eq-default, decLt, getD-replicate, length-replicate, length-set, replicate, getD-set-other, getD-set-same}
 use Rattle.list_laws.proofs.Kit.{ℕ-discrete}
 use Rattle.model.specs.Layout.{Job}
-use Rattle.model.specs.Lent.{lentBy, jobOf, pieceBound, entryColumns, entryRows}
+use Rattle.model.specs.Lent.{pieceBound}
 use Rattle.model.specs.declared.Direction.{Direction}
 use Rattle.model.specs.declared.Direction.the-variants.{Horizontal, Vertical}
-use Rattle.model.specs.declared.JobSize.{JobSize}
 use Rattle.model.specs.declared.Turn.{Turn}
-use Rattle.list_laws.proofs.Numbers.{slot-before, below-or}
 use Rattle.overlap_laws.specs.Grown.{grown, grownPiece}
-use Rattle.job_laws.proofs.Turned.{turned-extent}
 use Rattle.search_shapes.specs.Shapes.{numberedShape, shapeNumber}
 use Rattle.search_shapes.proofs.Numbers.{turn-below, number-back}
-use Rattle.search_laws.specs.Lines.{HoldsLine}
+use Rattle.search_laws.specs.Lines.{linePlaces, HoldsLine}
+use Rattle.search_line_store.specs.Store.{firstUnit, unitsOf, tableEnd, beginOf, Claimed}
+use Rattle.search_line_store.proofs.Stretching.{units-kept, first-unit-kept, stretches-kept, no-units, no-stretches}
 use Rattle.search_lines.specs.declared.RunSize.{RunSize}
-use Rattle.search_lines.specs.Kept.{keyBytes, keyAt, directionNumber, keyOf, MapsReady, LinesKept, Wide}
-use Rattle.search_lines.specs.Making.{LineMade, KeyPut}
+use Rattle.search_lines.specs.Kept.{keyBytes, keyAt, directionNumber, keyOf, MapsReady, LineIn, LinesKept}
+use Rattle.search_lines.specs.Making.{LineMade, KeyPut, UnitsFit}
 
 -- ── keys ──
 
@@ -92,141 +91,130 @@ cleared-byte n k = by-place (decLt k n)
     by-place (no h) = let e = length-replicate {A = ℕ} n 0 in List·getD-eq-default (replicate n 0) 0 (omega arith)
 
 module _ (j : Job) (r : RunSize) where
-  -- a store of which no slot has a key keeps no line
-  pub none-kept : (lines maps : List ℕ) → MapsReady j maps → r .slots * r .width ≤ length lines → 0 < r .slots → ((k : ℕ) → getD lines k 0 ≡ 0)
+  -- a store of which no slot has a stretch keeps no line
+  pub none-kept : (lines maps : List ℕ) → MapsReady j maps → tableEnd (r .slots) ≤ length lines → 0 < r .slots → ((k : ℕ) → getD lines k 0 ≡ 0)
       → LinesKept j r lines maps
   none-kept lines maps ready room some none =
       record {
         ready = ready;
-        room = room;
         some = some;
+        stretches = no-stretches (r .slots) lines (λ k l. none k) room;
         holds =
-            λ m i k t u d offset l a b c e.
-            absurd (let p = m * r .width in let x = none p in let y = none (p + 1) in let z = none (p + 2) in let w = none (p + 3) in omega arith);
+            λ m i k t u d offset l a b c stretch e.
+            absurd (let n : unitsOf lines m ≡ 0 = no-units (r .slots) lines (λ k l. none k) m l in omega arith);
       }
 
-  module _ (lines maps : List ℕ) (kept : LinesKept j r lines maps) where
-    -- a slot lies in the store
-    pub slot-within : (m : ℕ) → m < r .slots → m * r .width + r .width ≤ length lines
-    slot-within m l = let room = kept .room in let h = slot-before m (r .slots) (r .width) l in omega arith
+  -- a stretch that a slot claims, with a line and then its key put into it
+  module _ (lines maps : List ℕ) (kept : LinesKept j r lines maps) (m i k : ℕ) (t u : Turn) (d : Direction) (offset units at : ℕ) (mid made new more : List ℕ)
+      (few : j .size .count ≤ pieceBound) (slot : m < r .slots) (first : i < j .size .count) (second : k < j .size .count) (near : offset < 1024)
+      (fit : UnitsFit d (grownPiece j i t) (grownPiece j k u) units) (claimed : Claimed (r .slots) m units lines mid at)
+      (line : LineMade d (grownPiece j i t) (grownPiece j k u) offset mid (at + keyBytes) made) (ready : MapsReady j more)
+      (key : ℕ) (is : key ≡ keyOf d (shapeNumber i t) (shapeNumber k u) offset) (put : KeyPut key at made new)
+    where
+      -- the line of the stretch, behind its key
+      pub line-put : HoldsLine d (grownPiece j i t) (grownPiece j k u) offset new (at + keyBytes)
+      line-put x l = put .after (at + keyBytes + x) (omega arith) ∙ line .line x l
 
-    module _ (m i k : ℕ) (t u : Turn) (d : Direction) (offset : ℕ) (made new more : List ℕ) (few : j .size .count ≤ pieceBound) (slot : m < r .slots)
-        (first : i < j .size .count) (second : k < j .size .count) (near : offset < 1024) (wide : Wide j (r .width))
-        (line : LineMade d (grownPiece j i t) (grownPiece j k u) offset lines (m * r .width + keyBytes) made) (ready : MapsReady j more)
-        (key : ℕ) (is : key ≡ keyOf d (shapeNumber i t) (shapeNumber k u) offset) (put : KeyPut key (m * r .width) made new)
-      where
-        -- the line of the slot, behind its key
-        pub line-put : HoldsLine d (grownPiece j i t) (grownPiece j k u) offset new (m * r .width + keyBytes)
-        line-put x l = put .after (m * r .width + keyBytes + x) (omega arith) ∙ line .line x l
+      -- the stretch holds every line that its key names: they are all one
+      own-line : (i′ k′ : ℕ) (t′ u′ : Turn) (d′ : Direction) (offset′ : ℕ) → i′ < j .size .count → k′ < j .size .count → offset′ < 1024
+          → keyOf d (shapeNumber i t) (shapeNumber k u) offset ≡ keyOf d′ (shapeNumber i′ t′) (shapeNumber k′ u′) offset′
+          → LineIn d′ (grownPiece j i′ t′) (grownPiece j k′ u′) offset′ new at (unitsOf mid m)
+      own-line i′ k′ t′ u′ d′ offset′ a b c e =
+          let v : shapeNumber i t < 256 = (let y = turn-below t in omega arith) in
+          let v′ : shapeNumber i′ t′ < 256 = (let y = turn-below t′ in omega arith) in
+          let x : shapeNumber k u < 256 = (let y = turn-below u in omega arith) in
+          let x′ : shapeNumber k′ u′ < 256 = (let y = turn-below u′ in omega arith) in
+          let n : directionNumber d ≡ directionNumber d′ = omega arith in
+          let p : shapeNumber i t ≡ shapeNumber i′ t′ = omega arith in
+          let q : shapeNumber k u ≡ shapeNumber k′ u′ = omega arith in
+          let o : offset ≡ offset′ = omega arith in
+          let f : grownPiece j i t ≡ grownPiece j i′ t′ = same-shape j i i′ t t′ p in
+          let g : grownPiece j k u ≡ grownPiece j k′ u′ = same-shape j k k′ u u′ q in
+          let own : LineIn d (grownPiece j i t) (grownPiece j k u) offset new at (unitsOf mid m) = (omega (arith, fit .enough, claimed .enough), line-put) in
+          rw (← same-direction d d′ n, ← f, ← g, ← o) own
 
-        -- the slot holds every line that its key names: they are all one
-        own-slot : (i′ k′ : ℕ) (t′ u′ : Turn) (d′ : Direction) (offset′ : ℕ) → i′ < j .size .count → k′ < j .size .count → offset′ < 1024
-            → keyOf d (shapeNumber i t) (shapeNumber k u) offset ≡ keyOf d′ (shapeNumber i′ t′) (shapeNumber k′ u′) offset′
-            → HoldsLine d′ (grownPiece j i′ t′) (grownPiece j k′ u′) offset′ new (m * r .width + keyBytes)
-        own-slot i′ k′ t′ u′ d′ offset′ a b c e =
-            let v : shapeNumber i t < 256 = (let y = turn-below t in omega arith) in
-            let v′ : shapeNumber i′ t′ < 256 = (let y = turn-below t′ in omega arith) in
-            let x : shapeNumber k u < 256 = (let y = turn-below u in omega arith) in
-            let x′ : shapeNumber k′ u′ < 256 = (let y = turn-below u′ in omega arith) in
-            let n : directionNumber d ≡ directionNumber d′ = omega arith in
-            let p : shapeNumber i t ≡ shapeNumber i′ t′ = omega arith in
-            let q : shapeNumber k u ≡ shapeNumber k′ u′ = omega arith in
-            let o : offset ≡ offset′ = omega arith in
-            let f : grownPiece j i t ≡ grownPiece j i′ t′ = same-shape j i i′ t t′ p in
-            let g : grownPiece j k u ≡ grownPiece j k′ u′ = same-shape j k k′ u u′ q in
-            rw (← same-direction d d′ n, ← f, ← g, ← o) line-put
+      -- the table of slots is as the claim left it
+      table-same : (x : ℕ) → x < tableEnd (r .slots) → getD new x 0 ≡ getD mid x 0
+      table-same x l = let e = claimed .begins in put .before x (omega arith) ∙ line .before x (omega arith)
 
-        -- a byte of another slot is as before
-        other-byte : (n c : ℕ) → (n ≡ m → ⊥) → c < r .width → getD new (n * r .width + c) 0 ≡ getD lines (n * r .width + c) 0
-        other-byte n c differs l =
-            let w = wide i k t u d first second in
-            ⊎-elim
-            (λ (h : n < m).
-            let b = slot-before n m (r .width) h in
-            put .before (n * r .width + c) (omega arith) ∙ line .before (n * r .width + c) (omega arith))
-            (λ (h : m ≤ n).
-            let b = slot-before m n (r .width) (omega arith) in
-            put .after (n * r .width + c) (omega arith) ∙ line .after (n * r .width + c) (omega arith))
-            (below-or n m)
+      same-length : length new ≡ length mid
+      same-length = put .same ∙ line .same
 
-        -- so is its key
-        other-key : (n : ℕ) → (n ≡ m → ⊥) → keyAt new (n * r .width) ≡ keyAt lines (n * r .width)
-        other-key n differs =
-            let w = wide i k t u d first second in
-            let at-first = other-byte n 0 differs (omega arith) in
-            let at : n * r .width + 0 ≡ n * r .width = omega arith in
-            let a : getD new (n * r .width) 0 ≡ getD lines (n * r .width) 0 = subst (λ (p : ℕ). getD new p 0 ≡ getD lines p 0) at at-first in
-            let b = other-byte n 1 differs (omega arith) in
-            let c = other-byte n 2 differs (omega arith) in
-            let e = other-byte n 3 differs (omega arith) in
-            omega arith
+      -- another slot that has a stretch has the one that it had
+      module _ (n : ℕ) (b : n < r .slots) (differs : n ≡ m → ⊥) (stretch : 0 < unitsOf new n) where
+        other-slot : (firstUnit mid n ≡ firstUnit lines n) × (unitsOf mid n ≡ unitsOf lines n)
+        other-slot =
+            ⊎-elim (λ h. h)
+            (λ h. let e = units-kept (r .slots) mid new same-length table-same n b in absurd (omega (arith, h .1)))
+            (claimed .others n b differs)
 
-        -- the store with the slot made anew
-        pub renewed : LinesKept j r new more
-        renewed =
-            let room = kept .room in
-            let x = line .same in
-            let y = put .same in
-            record {
-              ready = ready;
-              room = omega arith;
-              some = kept .some;
-              holds = λ n i′ k′ t′ u′ d′ offset′ l a b c e. by-slot n i′ k′ t′ u′ d′ offset′ l a b c e (ℕ-discrete n m);
-            }
+        -- a byte of its stretch is as before
+        other-byte : (c : ℕ) → c < unitsOf mid n * 8 → getD new (beginOf (r .slots) mid n + c) 0 ≡ getD lines (beginOf (r .slots) mid n + c) 0
+        other-byte c l =
+            let e = claimed .begins in
+            let f = fit .enough in
+            let g = claimed .enough in
+            claimed-byte e f g (claimed .stretches .apart n m b slot differs)
+            ∙ claimed .behind (beginOf (r .slots) mid n + c) (omega arith)
           where
-            by-slot : (n i′ k′ : ℕ) (t′ u′ : Turn) (d′ : Direction) (offset′ : ℕ) → n < r .slots → i′ < j .size .count → k′ < j .size .count → offset′ < 1024
-                → keyAt new (n * r .width) ≡ keyOf d′ (shapeNumber i′ t′) (shapeNumber k′ u′) offset′ → Dec (n ≡ m)
-                → HoldsLine d′ (grownPiece j i′ t′) (grownPiece j k′ u′) offset′ new (n * r .width + keyBytes)
-            by-slot n i′ k′ t′ u′ d′ offset′ l a b c e (yes h) =
-                rw h (own-slot i′ k′ t′ u′ d′ offset′ a b c
-                (sym is ∙ sym (put .key-is) ∙ subst (λ (z : ℕ). keyAt new (z * r .width) ≡ keyOf d′ (shapeNumber i′ t′) (shapeNumber k′ u′) offset′) h e))
-            by-slot n i′ k′ t′ u′ d′ offset′ l a b c e (no h) =
-                let w = wide i′ k′ t′ u′ d′ a b in
-                λ x y. other-byte-of n x h (omega arith) ∙ kept .holds n i′ k′ t′ u′ d′ offset′ l a b c (sym (other-key n h) ∙ e) x y
-              where
-                other-byte-of : (n c : ℕ) → (n ≡ m → ⊥) → c + keyBytes < r .width
-                    → getD new (n * r .width + keyBytes + c) 0 ≡ getD lines (n * r .width + keyBytes + c) 0
-                other-byte-of n c differs l =
-                    let at : n * r .width + keyBytes + c ≡ n * r .width + (keyBytes + c) = omega arith in
-                    rw at (other-byte n (keyBytes + c) differs (omega arith))
+            claimed-byte : at ≡ beginOf (r .slots) mid m → keyBytes + linePlaces d (grownPiece j i t) (grownPiece j k u) ≤ units * 8 → units ≤ unitsOf mid m
+                → (firstUnit mid n + unitsOf mid n ≤ firstUnit mid m) ⊎ (firstUnit mid m + unitsOf mid m ≤ firstUnit mid n)
+                → getD new (beginOf (r .slots) mid n + c) 0 ≡ getD mid (beginOf (r .slots) mid n + c) 0
+            claimed-byte e f g (inl h) = put .before _ (omega arith) ∙ line .before _ (omega arith)
+            claimed-byte e f g (inr h) = put .after _ (omega arith) ∙ line .after _ (omega arith)
 
--- ── how wide a slot is ──
+        other-holds : (i′ k′ : ℕ) (t′ u′ : Turn) (d′ : Direction) (offset′ : ℕ) → i′ < j .size .count → k′ < j .size .count → offset′ < 1024
+            → keyAt new (beginOf (r .slots) new n) ≡ keyOf d′ (shapeNumber i′ t′) (shapeNumber k′ u′) offset′
+            → LineIn d′ (grownPiece j i′ t′) (grownPiece j k′ u′) offset′ new (beginOf (r .slots) new n) (unitsOf new n)
+        other-holds i′ k′ t′ u′ d′ offset′ a c near′ e =
+            let place = first-unit-kept (r .slots) mid new same-length table-same n b in
+            let units-same = units-kept (r .slots) mid new same-length table-same n b in
+            let old-place = other-slot .0 in
+            let old-units = other-slot .1 in
+            let begin : beginOf (r .slots) new n ≡ beginOf (r .slots) mid n = omega arith in
+            let old-begin : beginOf (r .slots) lines n ≡ beginOf (r .slots) mid n = omega arith in
+            let here : ℕ = beginOf (r .slots) mid n in
+            let is-key : keyAt new here ≡ keyOf d′ (shapeNumber i′ t′) (shapeNumber k′ u′) offset′ =
+            subst (λ (z : ℕ). keyAt new z ≡ keyOf d′ (shapeNumber i′ t′) (shapeNumber k′ u′) offset′) begin e in
+            let at : here + 0 ≡ here = omega arith in
+            let byte-0 = rw at at (other-byte 0 (omega arith)) in
+            let byte-1 = other-byte 1 (omega arith) in
+            let byte-2 = other-byte 2 (omega arith) in
+            let byte-3 = other-byte 3 (omega arith) in
+            let same-key : keyAt lines here ≡ keyAt new here = omega arith in
+            let held =
+            kept .holds n i′ k′ t′ u′ d′ offset′ b a c near′ (omega arith)
+            (subst (λ (z : ℕ). keyAt lines z ≡ keyOf d′ (shapeNumber i′ t′) (shapeNumber k′ u′) offset′) (sym old-begin) (same-key ∙ is-key)) in
+            let room = held .0 in (
+              omega arith,
+              λ x l.
+                  let new-at : beginOf (r .slots) new n + keyBytes + x ≡ here + (keyBytes + x) = omega arith in
+                  let old-at : beginOf (r .slots) lines n + keyBytes + x ≡ here + (keyBytes + x) = omega arith in
+                  ap (λ (z : ℕ). getD new z 0) new-at ∙ other-byte (keyBytes + x) (omega arith) ∙ ap (λ (z : ℕ). getD lines z 0) (sym old-at) ∙ held .1 x l,
+            )
 
--- twice the largest side with the gap and a key are wide enough
-pub twice-wide : (j : Job) (n : ℕ)
-    → ((i : ℕ) → i < j .size .count → (j .piece i .shape .columns + j .size .gap ≤ n) × (j .piece i .shape .rows + j .size .gap ≤ n))
-    → Wide j (n * 2 + keyBytes)
-twice-wide j n small i k t u d a b =
-    let x = turned-extent d t (grownJob j .piece i .shape) n (small i a .0) (small i a .1) in
-    let y = turned-extent d u (grownJob j .piece k .shape) n (small k b .0) (small k b .1) in
-    omega arith
-
--- no side of the first n entries is above the number
-pub record SidesCovered (table : List (List ℕ)) (side n : ℕ) : Type 0 where
-  pub columns : (i : ℕ) → i < n → entryColumns table i ≤ side
-  pub rows : (i : ℕ) → i < n → entryRows table i ≤ side
-
--- there are none
-pub covered-none : (table : List (List ℕ)) (side : ℕ) → SidesCovered table side 0
-covered-none table side = record { columns = λ i l. absurd (omega arith); rows = λ i l. absurd (omega arith) }
-
--- one more
-pub covered-more : (table : List (List ℕ)) (side n more : ℕ) → SidesCovered table side n → side ≤ more → entryColumns table n ≤ more → entryRows table n ≤ more
-    → SidesCovered table more (n + 1)
-covered-more table side n more w up c r =
-    record { columns = λ i l. next (entryColumns table) (w .columns) c i l; rows = λ i l. next (entryRows table) (w .rows) r i l }
-  where
-    next : (f : ℕ → ℕ) → ((i : ℕ) → i < n → f i ≤ side) → f n ≤ more → (i : ℕ) → i < n + 1 → f i ≤ more
-    next f before last i l =
-        ⊎-elim
-        (λ (h : i < n). let b = before i h in omega arith)
-        (λ (h : n ≤ i). let e : i ≡ n = omega arith in rw e last)
-        (below-or i n)
-
--- twice the number with the gap and a key are wide enough for a job of these entries
-pub covered-wide : (size : JobSize) (table : List (List ℕ)) (pixels : List ℕ) (side n : ℕ) → size .count ≤ n → SidesCovered table side n
-    → Wide (jobOf (lentBy size table pixels)) ((side + size .gap) * 2 + keyBytes)
-unfolding jobOf
-covered-wide size table pixels side n l w =
-    twice-wide (jobOf (lentBy size table pixels)) (side + size .gap)
-    (λ i h. (omega (arith, w .columns i (omega arith)), omega (arith, w .rows i (omega arith))))
+      -- the store with the line in the slot's stretch
+      pub renewed : LinesKept j r new more
+      renewed =
+          record {
+            ready = ready;
+            some = kept .some;
+            stretches = stretches-kept (r .slots) mid new same-length table-same (claimed .stretches);
+            holds = λ n i′ k′ t′ u′ d′ offset′ l a b c s e. by-slot n i′ k′ t′ u′ d′ offset′ l a b c s e (ℕ-discrete n m);
+          }
+        where
+          by-slot : (n i′ k′ : ℕ) (t′ u′ : Turn) (d′ : Direction) (offset′ : ℕ) → n < r .slots → i′ < j .size .count → k′ < j .size .count → offset′ < 1024
+              → 0 < unitsOf new n → keyAt new (beginOf (r .slots) new n) ≡ keyOf d′ (shapeNumber i′ t′) (shapeNumber k′ u′) offset′ → Dec (n ≡ m)
+              → LineIn d′ (grownPiece j i′ t′) (grownPiece j k′ u′) offset′ new (beginOf (r .slots) new n) (unitsOf new n)
+          by-slot n i′ k′ t′ u′ d′ offset′ l a b c s e (yes h) =
+              let place = first-unit-kept (r .slots) mid new same-length table-same m slot in
+              let units-same = units-kept (r .slots) mid new same-length table-same m slot in
+              let begin : beginOf (r .slots) new m ≡ at = omega (arith, claimed .begins) in
+              let own-begin : beginOf (r .slots) new n ≡ at = ap (beginOf (r .slots) new) h ∙ begin in
+              let own-units : unitsOf new n ≡ unitsOf mid m = ap (unitsOf new) h ∙ units-same in
+              let is-key : keyAt new at ≡ keyOf d′ (shapeNumber i′ t′) (shapeNumber k′ u′) offset′ =
+              subst (λ (z : ℕ). keyAt new z ≡ keyOf d′ (shapeNumber i′ t′) (shapeNumber k′ u′) offset′) own-begin e in
+              subst (λ (z : ℕ). LineIn d′ (grownPiece j i′ t′) (grownPiece j k′ u′) offset′ new z (unitsOf new n)) (sym own-begin)
+              (subst (λ (z : ℕ). LineIn d′ (grownPiece j i′ t′) (grownPiece j k′ u′) offset′ new at z) (sym own-units)
+              (own-line i′ k′ t′ u′ d′ offset′ a b c (sym is ∙ sym (put .key-is) ∙ is-key)))
+          by-slot n i′ k′ t′ u′ d′ offset′ l a b c s e (no h) = other-holds n l h s i′ k′ t′ u′ d′ offset′ a b c e

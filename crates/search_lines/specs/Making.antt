@@ -2,7 +2,7 @@
 use mathlib.Core.Bool.{true}
 use mathlib.Core.List.{List}
 use mathlib.Core.Path.{_≡_}
-use Prim.Native.Nat.{ℕ, _+_, _-_, _<_, _≤_}
+use Prim.Native.Nat.{ℕ, _+_, _-_, _*_, _<_, _≤_}
 use lib.ListN.{length, getD}
 use Rattle.model.specs.Piece.{Shape}
 use Rattle.model.specs.Layout.{Job}
@@ -16,7 +16,7 @@ use Rattle.search_laws.specs.Lines.{middle, linePlaces, HoldsLine}
 use Rattle.search_map_store.specs.Store.{MapAt}
 use Rattle.search_map_laws.specs.Keys.{mapKey}
 use Rattle.search_map_laws.specs.Boxes.{ShortTogether}
-use Rattle.search_lines.specs.Kept.{keyOf, keyAt, keyBytes, MapsReady}
+use Rattle.search_lines.specs.Kept.{lineBound, keyOf, keyAt, keyBytes, MapsReady}
 
 -- the two pieces' shapes, grown by the gap
 abbrev pub movedShape : Lent → Two → Shape
@@ -83,3 +83,9 @@ pub record KeyPut (key at : ℕ) (old new : List ℕ) : Type 0 where
   pub key-is : keyAt new at ≡ key
   pub before : (k : ℕ) → k < at → getD new k 0 ≡ getD old k 0
   pub after : (k : ℕ) → at + keyBytes ≤ k → getD new k 0 ≡ getD old k 0
+
+-- units that hold the key and the line of two shapes, and are no more than those of the longest line
+pub record UnitsFit (d : Direction) (s t : Shape) (units : ℕ) : Type 0 where
+  pub some : 0 < units
+  pub enough : keyBytes + linePlaces d s t ≤ units * 8
+  pub few : units * 8 ≤ lineBound

@@ -4,7 +4,7 @@
 ghost use mathlib.Core.Path.{_≡_};
 ghost use mathlib.Core.List.{List};
 ghost use mathlib.Core.Bool.{true};
-ghost use Prim.Native.Nat.{ℕ, _+_, _-_, _<_, _≤_};
+ghost use Prim.Native.Nat.{ℕ, _+_, _-_, _*_, _<_, _≤_};
 ghost use lib.ListN.{length};
 ghost use Rattle.model.specs.Layout.{turnedPiece};
 ghost use Rattle.model.specs.Lent.{lentBy, jobOf, lentWell, gapBound};
@@ -14,8 +14,8 @@ ghost use Rattle.overlap_laws.specs.Grown.{grown};
 ghost use Rattle.search_laws.specs.Lines.{linePlaces, HoldsLine};
 ghost use Rattle.bit_laws.specs.Bit.{lengthLimit};
 ghost use Rattle.search_maps.specs.Map.{extraLimit, sidesOf};
-ghost use Rattle.search_lines.specs.Kept.{mapSlots, leastMaps, MapsReady, LinesKept, LinesFit, Wide, directionNumber, keyAt, keyBytes, linesBound, slotBound};
-ghost use Rattle.search_lines.specs.Making.{movedShape, standingShape, keyOfTwo, mapKeyOfTwo, SmallTwo, Asked, MapFound, LineMade, KeyPut, Backwards, exchangedTwo};
+ghost use Rattle.search_lines.specs.Kept.{mapSlots, leastMaps, MapsReady, LinesKept, LinesFit, directionNumber, keyAt, keyBytes, linesBound};
+ghost use Rattle.search_lines.specs.Making.{movedShape, standingShape, keyOfTwo, mapKeyOfTwo, SmallTwo, Asked, MapFound, LineMade, KeyPut, UnitsFit, Backwards, exchangedTwo};
 ghost use Rattle.search_lines.specs.Sources.{Named, classedTwo, turnedTwo, mirroredOffset, plainSource, backSource, quarterSource, sourcePlaces, SameLine, SourceMade};
 ghost use Rattle.search_map_laws.specs.Turns.{turnBefore};
 use model::Direction;
@@ -24,6 +24,10 @@ use model::PIECE_BOUND;
 use model::PieceEntry;
 use model::StripEntry;
 use model::Turn;
+use search_line_store::UNIT;
+use search_line_store::begin_of;
+use search_line_store::claim;
+use search_line_store::units_of;
 use search_maps::Sides;
 use whole_numbers::larger;
 use whole_numbers::wide;
@@ -62,17 +66,24 @@ const DIRECTION_KEYS: usize = 4 * PIECE_BOUND * KEYS;
 // The slots that one direction asks for: each moved piece in a turn beside each standing one.
 const DIRECTION_SLOTS: usize = 4 * PIECE_BOUND * PIECE_BOUND;
 
-// The bytes of a slot before its line: they hold its key.
-pub const KEY_BYTES: usize = 4;
+// The slots of a run: with so many, no two lines ask for one slot but those of the same two pieces.
+pub const RUN_SLOTS: usize = 2 * DIRECTION_SLOTS;
 
-// The least box side that a slot is made for.
-const LEAST_SIDE: usize = 32;
+// The bytes of a stretch before its line: they hold its key.
+const KEY_BYTES: usize = 4;
 
-// The sizes of a run: its job's, how many slots its store of lines has, and the bytes of each.
+// The most bytes of the stretch of a line.
+const LINE_STRETCH: usize = (KEY_BYTES + LINE_LENGTH + UNIT - 1) / UNIT * UNIT;
+
+// The least bytes of a store of lines with one slot: room for every line, one at a time.
+pub const LEAST_LINES: usize = search_line_store::SLOT_BYTES
+    + search_line_store::TABLE_REST
+    + LINE_STRETCH;
+
+// The sizes of a run: its job's, and how many slots its store of lines has.
 pub struct RunSize {
     pub size: JobSize,
     pub slots: usize,
-    pub width: usize,
 }
 
 // Two pieces in their turns, and the standing one's offset across the line: MIDDLE where both corners are on one line.
@@ -89,23 +100,6 @@ pub struct Source {
     pub two: Two,
     pub direction: Direction,
     pub back: bool,
-}
-
-// How many bytes a slot has to have: its key's and twice the largest box side of the job, grown by the gap.
-pub fn slot_width(size: JobSize, table: &[PieceEntry]) -> usize
-    requires { ⌜ (size .count ≤ length (now table)) × (size .gap ≤ gapBound) ⌝ }
-    ensures wide { λ r. ⌜ ((pixels : List ℕ) → Wide (jobOf (lentBy size (now (table .entry)) pixels)) r) ⌝ }
-    ensures bounds { λ r. ⌜ (68 ≤ r) × (r ≤ slotBound) ⌝ }
-{
-    let count = size.count;
-    let mut side: usize = LEAST_SIDE;
-    let mut i = 0;
-    while i < count {
-        let sides = piece_pixels::turned_sides(table, i, Turn::Zero);
-        side = larger(side, larger(sides.columns, sides.rows));
-        i += 1;
-    }
-    (side + size.gap) * 2 + KEY_BYTES
 }
 
 // The number by which keys and slots tell directions apart.
@@ -128,7 +122,7 @@ fn key_of(direction: Direction, two: Two) -> u32
     let d = direction_number(direction);
     let a = search_shapes::shape_number(two.moved, moved_turn);
     let b = search_shapes::shape_number(two.standing, standing_turn);
-    (d * DIRECTION_KEYS + a * KEYS + b * OFFSETS + two.offset + 1) as u32
+    (d * DIRECTION_KEYS + a * KEYS + b * OFFSETS + two.offset) as u32
 }
 
 // The slot of two pieces: one for each direction, moved piece in a turn and standing piece, as far as there are slots.
@@ -578,6 +572,34 @@ fn make_line(
     draw_source(size, table, pixels, strips, starts, source, at, lines, maps);
 }
 
+// How many units hold a key and so many bytes.
+fn units_for(bytes: usize) -> usize
+    requires { ⌜ bytes ≤ linesBound ⌝ }
+    ensures { λ r. ⌜ (keyBytes + bytes ≤ r * 8) × (r * 8 ≤ keyBytes + bytes + 7) ⌝ }
+{
+    (bytes + KEY_BYTES + UNIT - 1) / UNIT
+}
+
+// How many units the key and the line of two pieces take. The standing piece's longer side is counted whichever turn it is in, so that the slot does
+// not claim a second stretch when it is turned.
+fn line_units(
+    size: JobSize,
+    table: &[PieceEntry],
+    pixels: &[u8],
+    direction: Direction,
+    two: Two,
+) -> usize
+    requires { ⌜ Named (lentBy size (now table) (now pixels)) two ⌝ }
+    ensures { λ r. ⌜ UnitsFit direction (movedShape (lentBy size (now (table .entry)) (now (pixels .entry))) two) (standingShape (lentBy size (now (table .entry)) (now (pixels .entry))) two) r ⌝ }
+{
+    let sides = sides_of(size, table, two);
+    let longer = larger(sides.standing_along, sides.standing_across);
+    match direction {
+        Direction::Horizontal => units_for(sides.moved_along + longer),
+        Direction::Vertical => units_for(sides.moved_across + longer),
+    }
+}
+
 // The place in the store at which the line of two pieces stands. It is made where it is not kept.
 pub fn keep_line(
     run: RunSize,
@@ -591,7 +613,7 @@ pub fn keep_line(
     maps: &mut [u64],
 ) -> usize
     requires { ⌜ Asked (lentBy (run .size) (now table) (now pixels)) (now strips) (now starts) two ⌝
-        ∗ ⌜ LinesFit (jobOf (lentBy (run .size) (now table) (now pixels))) run (now lines) ⌝
+        ∗ ⌜ LinesFit run (now lines) ⌝
         ∗ ⌜ LinesKept (jobOf (lentBy (run .size) (now table) (now pixels))) run (now lines) (now maps) ⌝ }
     ensures line { λ r. ⌜ HoldsLine direction (movedShape (lentBy (run .size) (now (table .entry)) (now (pixels .entry))) two) (standingShape (lentBy (run .size) (now (table .entry)) (now (pixels .entry))) two) (two .offset) (now (lines .exit)) r ⌝ }
     ensures within { λ r. ⌜ r + linePlaces direction (movedShape (lentBy (run .size) (now (table .entry)) (now (pixels .entry))) two) (standingShape (lentBy (run .size) (now (table .entry)) (now (pixels .entry))) two) ≤ length (now (lines .exit)) ⌝ }
@@ -599,13 +621,18 @@ pub fn keep_line(
     ensures same { λ r. ⌜ length (now (lines .exit)) ≡ length (now (lines .entry)) ⌝ }
 {
     let size = run.size;
-    let slot = slot_of(direction, two, run.slots);
+    let slots = run.slots;
+    let slot = slot_of(direction, two, slots);
     let key = key_of(direction, two);
-    let at = slot * run.width;
-    let from = at + KEY_BYTES;
-    if key_at(lines, at) == key {
-        return from;
+    let held = begin_of(lines, slots, slot);
+    if units_of(lines, slots, slot) != 0 {
+        if key_at(lines, held) == key {
+            return held + KEY_BYTES;
+        }
     }
+    let units = line_units(size, table, pixels, direction, two);
+    let at = claim(lines, slots, slot, units);
+    let from = at + KEY_BYTES;
     make_line(
         size,
         table,

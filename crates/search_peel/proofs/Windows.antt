@@ -1,17 +1,13 @@
 -- 64 bits from any place on, and the first bits of a word. Assumes nothing.
-use Rattle.list_laws.proofs.Kit.{_∙_, _≡_, ap, ap₂, refl, sym, Bool, _&&_, _||_, false, not, true, _⊎_, inl, inr, List, _%_, _*_, _+_, _-_, _/_, _<_, _^_, _≤_}
+use Rattle.list_laws.proofs.Kit.{_∙_, _≡_, ap, ap₂, refl, sym, Bool, _&&_, _||_, false, true, _⊎_, inl, inr, List, _%_, _*_, _+_, _-_, _/_, _<_, _^_, _≤_}
 use Rattle.list_laws.proofs.Kit.{ℕ, arith, mod-lt, mul-le-mul-left, mul-one, leb, le-leb, lt-leb, ltb, le-ltb, lt-ltb, getD}
 use Rattle.list_laws.proofs.Numbers.{below-or}
 use lib.Bits.{bitOr, bitAnd, or-lt, and-le-l}
 use lib.Pow.{pow-pos, shr-le}
 use Rattle.bit_laws.specs.Bit.{bitAt, bitIn}
-use Rattle.bit_laws.proofs.Laws.{or-false, bit-or, bit-and, bit-not, bit-shl, bit-shr, bit-above, bit-of-zero}
+use Rattle.bit_laws.proofs.Laws.{or-false, bit-or, bit-and, bit-shl, bit-shr, bit-above, all-set}
 use Rattle.bit_laws.proofs.Strings.{bit-in}
 use Rattle.search_peel.specs.Peel.{BitsAt, LowBits, around, Inner}
-
--- every bit of the largest word is set
-all-set : (i : ℕ) → i < 64 → bitAt 18446744073709551615 i ≡ true
-all-set i l = bit-not 64 0 i (pow-pos 64) l ∙ ap not (bit-of-zero i)
 
 -- what is left of it when it is shifted down
 pub low-from : (count : ℕ) → count ≤ 64 → LowBits count (18446744073709551615 / 2 ^ (64 - count))

@@ -8,7 +8,7 @@ use Rattle.bit_laws.specs.Bit.{bitAt, bitIn}
 use Rattle.bit_laws.proofs.Laws.{or-false, bit-or, bit-shl, bit-of-zero}
 use Rattle.bit_laws.proofs.Strings.{bit-in}
 use Rattle.search_words.specs.Words.{orBit, Spread, Below, Repeated}
-use Rattle.search_words.proofs.Moved.{moved, Low, bit-moved, moved-at}
+use Rattle.search_words.proofs.Moved.{moved, bit-moved, moved-at}
 
 -- the words above j are done, and a is the word that moves up to j
 pub record Spreading (count s : ℕ) (xs ys : List ℕ) (a j : ℕ) : Type 0 where

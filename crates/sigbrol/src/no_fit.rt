@@ -16,6 +16,7 @@ ghost use lib.ListN.{length};
 ghost use Rattle.model.specs.Buffer.{turnOf};
 ghost use Rattle.model.specs.Calls.{leaving, noFitCall, runsAfter};
 ghost use Rattle.model.specs.declared.Direction.the-variants.{Horizontal, Vertical};
+ghost use Rattle.call_laws.specs.NoFits.{OffsetsWithin};
 ghost use Rattle.pair_nofit_calls.specs.Lines.{lentStretch};
 ghost use Rattle.c_interface.specs.Numbers.{lentAs, pieceWithTurn};
 ghost use Rattle.c_interface.specs.Replies.{replyTo};
@@ -42,6 +43,7 @@ pub extern "C" fn sigbrol_no_fit_row(
     ensures answer { λ r. ⌜ r ≡ replyTo (noFitCall Horizontal (lentAs rows columns count gap (now (table .entry)) (now (pixels .entry))) (lentStretch (pieceWithTurn «i_turn» i) (turnOf «i_turn») (now («i_strips» .entry))) (lentStretch (pieceWithTurn «k_turn» k) (turnOf «k_turn») (now («k_strips» .entry))) offset (length (now (runs .entry)))) ⌝ }
     ensures memory { λ r. ⌜ now (runs .exit) ≡ runsAfter (now (runs .entry)) (noFitCall Horizontal (lentAs rows columns count gap (now (table .entry)) (now (pixels .entry))) (lentStretch (pieceWithTurn «i_turn» i) (turnOf «i_turn») (now («i_strips» .entry))) (lentStretch (pieceWithTurn «k_turn» k) (turnOf «k_turn») (now («k_strips» .entry))) offset (length (now (runs .entry)))) ⌝ }
     ensures counted { λ r. ⌜ now («runs_count» .exit) ≡ leaving (λ a. length a) (now («runs_count» .entry)) (noFitCall Horizontal (lentAs rows columns count gap (now (table .entry)) (now (pixels .entry))) (lentStretch (pieceWithTurn «i_turn» i) (turnOf «i_turn») (now («i_strips» .entry))) (lentStretch (pieceWithTurn «k_turn» k) (turnOf «k_turn») (now («k_strips» .entry))) offset (length (now (runs .entry)))) ⌝ }
+    ensures offsets { λ r. ⌜ (r .number ≡ 0 → OffsetsWithin gap (now («runs_count» .exit)) (now (runs .exit))) ⌝ }
 {
     let size = size_of(rows, columns, count, gap);
     let first = PieceInTurn {
@@ -93,6 +95,7 @@ pub extern "C" fn sigbrol_no_fit_column(
     ensures answer { λ r. ⌜ r ≡ replyTo (noFitCall Vertical (lentAs rows columns count gap (now (table .entry)) (now (pixels .entry))) (lentStretch (pieceWithTurn «i_turn» i) (turnOf «i_turn») (now («i_strips» .entry))) (lentStretch (pieceWithTurn «k_turn» k) (turnOf «k_turn») (now («k_strips» .entry))) offset (length (now (runs .entry)))) ⌝ }
     ensures memory { λ r. ⌜ now (runs .exit) ≡ runsAfter (now (runs .entry)) (noFitCall Vertical (lentAs rows columns count gap (now (table .entry)) (now (pixels .entry))) (lentStretch (pieceWithTurn «i_turn» i) (turnOf «i_turn») (now («i_strips» .entry))) (lentStretch (pieceWithTurn «k_turn» k) (turnOf «k_turn») (now («k_strips» .entry))) offset (length (now (runs .entry)))) ⌝ }
     ensures counted { λ r. ⌜ now («runs_count» .exit) ≡ leaving (λ a. length a) (now («runs_count» .entry)) (noFitCall Vertical (lentAs rows columns count gap (now (table .entry)) (now (pixels .entry))) (lentStretch (pieceWithTurn «i_turn» i) (turnOf «i_turn») (now («i_strips» .entry))) (lentStretch (pieceWithTurn «k_turn» k) (turnOf «k_turn») (now («k_strips» .entry))) offset (length (now (runs .entry)))) ⌝ }
+    ensures offsets { λ r. ⌜ (r .number ≡ 0 → OffsetsWithin gap (now («runs_count» .exit)) (now (runs .exit))) ⌝ }
 {
     let size = size_of(rows, columns, count, gap);
     let first = PieceInTurn {

@@ -16,6 +16,16 @@ const NUMBERS: u32 = 14;
 /// The ends of a descent, in the order of their numbers.
 const ENDS: [&str; 3] = ["clear", "settled", "spent"];
 
+/// What has to come up in no-fit rows and in no-fit columns: runs from the smallest offset and to the largest, without a gap and with the
+/// largest gap, and the most runs that a line can have, which are those of every second offset without a gap.
+const OF_LINES: [&str; 5] = [
+    "a run from -254",
+    "a run to 254",
+    "a run from -262",
+    "a run to 262",
+    "255 runs",
+];
+
 /// The fewest words of a workspace that a run uses.
 const WORKSPACE_LEAST: usize = 29_061;
 
@@ -44,6 +54,8 @@ pub struct Comparison<'a> {
     ended: BTreeMap<(Kind, Option<Cause>), usize>,
     /// Accepted descents by their end: clear, settled, spent.
     descents: [usize; 3],
+    /// Accepted no-fit lines by their kind and by what has to come up in them.
+    lines: BTreeMap<(Kind, &'static str), usize>,
     /// For each kind the number of differences and the one with the smallest input.
     different: BTreeMap<Kind, (usize, Difference)>,
     /// The workspace as the last run left it.
@@ -57,6 +69,7 @@ impl<'a> Comparison<'a> {
             other,
             ended: BTreeMap::new(),
             descents: [0; 3],
+            lines: BTreeMap::new(),
             different: BTreeMap::new(),
             left: Vec::new(),
         }
@@ -70,6 +83,11 @@ impl<'a> Comparison<'a> {
         *self.ended.entry((kind, expected.cause)).or_default() += 1;
         if kind == Kind::Descent && expected.cause.is_none() {
             self.descents[usize::from(memory.bytes.get()[result(0)])] += 1;
+        }
+        if Kind::NO_FIT_LINES.contains(&kind) && expected.cause.is_none() {
+            for seen in of_line(memory) {
+                *self.lines.entry((kind, seen)).or_default() += 1;
+            }
         }
         if kind.has_workspace() && expected.cause.is_none() {
             memory.workspace.take(&found.workspace);
@@ -115,6 +133,9 @@ impl<'a> Comparison<'a> {
         for (count, more) in self.descents.iter_mut().zip(part.descents) {
             *count += more;
         }
+        for (line, count) in part.lines {
+            *self.lines.entry(line).or_default() += count;
+        }
         for (kind, (count, difference)) in part.different {
             self.add_differences(kind, count, difference);
         }
@@ -125,7 +146,7 @@ impl<'a> Comparison<'a> {
         self.different.keys().copied().collect()
     }
 
-    /// Whether no call was different and every cause of every call came up.
+    /// Whether no call was different and all that has to come up did.
     pub fn is_well(&self) -> bool {
         self.different.is_empty() && self.missing().is_empty()
     }
@@ -139,7 +160,15 @@ impl<'a> Comparison<'a> {
             .sum()
     }
 
-    /// In words, each way for a call to end that did not come up.
+    /// How many accepted no-fit lines of each kind have what has to come up in them.
+    fn lines_seen(&self) -> [(Kind, [(&'static str, usize); 5]); 2] {
+        Kind::NO_FIT_LINES.map(|kind| {
+            let count = |seen| self.lines.get(&(kind, seen)).copied().unwrap_or(0);
+            (kind, OF_LINES.map(|seen| (seen, count(seen))))
+        })
+    }
+
+    /// In words, each way for a call to end, and each thing that a no-fit line has to have, that did not come up.
     pub fn missing(&self) -> Vec<String> {
         let mut missing = Vec::new();
         for kind in Kind::ALL {
@@ -160,10 +189,14 @@ impl<'a> Comparison<'a> {
                 missing.push(format!("no descent ends {end}"));
             }
         }
+        for (kind, seen) in self.lines_seen() {
+            let unseen = seen.into_iter().filter(|(_, count)| *count == 0);
+            missing.extend(unseen.map(|(seen, _)| format!("no call of {kind:?} finds {seen}")));
+        }
         missing
     }
 
-    /// The table of all calls, the missing causes, the smallest differences and the totals.
+    /// The table of all calls, what came up and what is missing, the smallest differences and the totals.
     pub fn summary(&self) -> String {
         let numbers: String = (1..=NUMBERS)
             .map(|number| format!("{:>6}", format!("by {number}")))
@@ -176,6 +209,10 @@ impl<'a> Comparison<'a> {
         let ends = ENDS.iter().zip(self.descents);
         let ends: Vec<String> = ends.map(|(end, count)| format!("{count} {end}")).collect();
         lines.push(format!("descents that ended: {}", ends.join(", ")));
+        for (kind, seen) in self.lines_seen() {
+            let seen = seen.map(|(seen, count)| format!("{seen}: {count}"));
+            lines.push(format!("calls of {kind:?} that found {}", seen.join(", ")));
+        }
         lines.extend(self.missing());
         let mut differences: Vec<&(usize, Difference)> = self.different.values().collect();
         differences.sort_by_key(|(_, difference)| difference.size);
@@ -211,6 +248,22 @@ impl<'a> Comparison<'a> {
             format!("{kind:?}")
         )
     }
+}
+
+/// What has to come up in no-fit lines and does in the one that was found.
+fn of_line(memory: &Memory) -> impl Iterator<Item = &'static str> {
+    let runs = &memory.runs.get()[..memory.sizes.get()[result(0)]];
+    let first = runs.first().map(|&[first, _]| first);
+    let last = runs.last().map(|&[first, count]| first + count - 1);
+    let found = [
+        memory.gap == 0 && first == Some(-254),
+        memory.gap == 0 && last == Some(254),
+        first == Some(-262),
+        last == Some(262),
+        runs.len() == sigbrol::RUNS,
+    ];
+    let seen = OF_LINES.into_iter().zip(found);
+    seen.filter_map(|(seen, found)| found.then_some(seen))
 }
 
 /// Describes a difference: the call, its input as far as it is short, and what differs.

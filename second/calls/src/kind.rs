@@ -77,6 +77,9 @@ impl Kind {
         ]
     };
 
+    /// The calls that find a no-fit line.
+    pub const NO_FIT_LINES: [Kind; 2] = [Kind::NoFitRow, Kind::NoFitColumn];
+
     /// Whether the call is lent a job.
     pub fn is_lent_a_job(self) -> bool {
         !matches!(

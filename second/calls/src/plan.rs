@@ -4,6 +4,7 @@ use std::thread;
 
 use second::inputs::random::Random;
 use second::inputs::{damage as texts, jobs};
+use second::shape::Turn;
 
 use crate::comparison::{Comparison, Origin, Side};
 use crate::damage::{damages, Damage};
@@ -39,14 +40,21 @@ pub fn scenes() -> Vec<Scene> {
     scenes
 }
 
-/// A job of full boxes, columns and rows, on a sheet of 256 rows and 256 columns.
-fn full_boxes(name: &str, gap: usize, boxes: &[(usize, usize)]) -> Scene {
+/// A job of combs, columns and rows, on a sheet of 256 rows and 256 columns: of each box the first column is full, and from there on
+/// each that is so many columns apart from the one before, the last column among them.
+fn combs(name: &str, gap: usize, apart: usize, boxes: &[(usize, usize)]) -> Scene {
     let mut text = format!("job,2,256,256,{},{gap}\n", boxes.len());
     for (number, &(columns, rows)) in boxes.iter().enumerate() {
-        let row = format!("row,{}\n", "#".repeat(columns));
+        let further = format!("{}#", ".".repeat(apart - 1));
+        let row = format!("row,#{}\n", further.repeat((columns - 1) / apart));
         text += &format!("piece,{number},{columns},{rows},15\n{}", row.repeat(rows));
     }
     Scene::new(name.to_string(), text.into_bytes())
+}
+
+/// A job of full boxes, columns and rows, on such a sheet.
+fn full_boxes(name: &str, gap: usize, boxes: &[(usize, usize)]) -> Scene {
+    combs(name, gap, 1, boxes)
 }
 
 /// Jobs whose boxes have as many pixels together as a job may have.
@@ -74,6 +82,36 @@ fn largest() -> [(Scene, [[u16; 3]; 2]); 2] {
     ]
 }
 
+/// Pairs of pieces of 255 columns, each taken with the other and with itself: where they meet, their no-fit rows have runs at the smallest
+/// offset and at the largest. Without a gap combs of every second column have the most runs that there can be.
+fn farthest() -> [Scene; 4] {
+    let (boxes, bars) = ([(255, 255), (255, 2)], [(255, 3), (255, 1)]);
+    [
+        full_boxes("farthest offsets", 0, &boxes),
+        full_boxes("farthest offsets, gap", 8, &boxes),
+        combs("most runs", 0, 2, &bars),
+        combs("farthest runs, gap", 8, 127, &bars),
+    ]
+}
+
+/// The no-fit lines of such pairs at offset 0, at the smallest and the largest offset across at which they meet, and one farther; each with
+/// whether they meet. The no-fit columns are those of the pieces turned upright.
+fn farthest_lines(scene: &Scene, kind: Kind) -> Vec<(Memory, bool)> {
+    let random = &mut Random::new(0);
+    let turn = Turn::ALL[usize::from(kind == Kind::NoFitColumn)];
+    let mut lines = Vec::new();
+    for (i, k) in [(0, 0), (0, 1), (1, 0), (1, 1)] {
+        let pair = [(i, turn), (k, turn)];
+        let [smallest, largest] = scene.meeting_offsets(kind, pair);
+        for offset in [smallest - 1, smallest, 0, largest, largest + 1] {
+            let mut memory = scene.memory(random, kind);
+            scene.choose_line(random, &mut memory, kind, pair, offset);
+            lines.push((memory, (smallest..=largest).contains(&offset)));
+        }
+    }
+    lines
+}
+
 /// Makes every call of the comparison, in a number of threads that have the given stack.
 pub fn run(other: Side, threads: usize, stack: usize) -> Comparison {
     let scenes = scenes();
@@ -84,6 +122,7 @@ pub fn run(other: Side, threads: usize, stack: usize) -> Comparison {
         }
         if part == 0 {
             run_largest(&mut comparison);
+            run_farthest(&mut comparison);
             run_texts(&mut comparison);
         }
         comparison
@@ -160,6 +199,21 @@ fn run_largest(comparison: &mut Comparison) {
                     scene: &scene.name,
                     damages: &[],
                 };
+                comparison.call(kind, &mut memory, &origin);
+            }
+        }
+    }
+}
+
+/// The no-fit lines whose runs reach the farthest offsets that there can be, and those next to them that have no run.
+fn run_farthest(comparison: &mut Comparison) {
+    for scene in farthest() {
+        let origin = Origin {
+            scene: &scene.name,
+            damages: &[],
+        };
+        for kind in Kind::NO_FIT_LINES {
+            for (mut memory, _) in farthest_lines(&scene, kind) {
                 comparison.call(kind, &mut memory, &origin);
             }
         }
@@ -456,6 +510,91 @@ mod tests {
     }
 
     #[test]
+    fn the_farthest_offsets_and_the_most_runs() {
+        let every_second = (0..255).map(|number| [2 * number - 254, 1]);
+        let around_the_middles = [-254, -127, 0, 127, 254].map(|middle| [middle - 8, 17]);
+        let expected = [
+            vec![[-254, 509]],
+            vec![[-262, 525]],
+            every_second.collect(),
+            around_the_middles.to_vec(),
+        ];
+        for (scene, expected) in farthest().iter().zip(expected) {
+            for kind in Kind::NO_FIT_LINES {
+                for (mut memory, meet) in farthest_lines(scene, kind) {
+                    assert_eq!(same(kind, &mut memory).reply[0], 0);
+                    let found = &memory.runs.get()[..memory.sizes.get()[result(0)]];
+                    let expected = if meet { &expected[..] } else { &[] };
+                    let offset = memory.numbers.offset;
+                    assert_eq!(found, expected, "{}, {kind:?} at {offset}", scene.name);
+                }
+            }
+        }
+    }
+
+    #[test]
+    fn the_farthest_offsets_across() {
+        let offsets = farthest().map(|scene| {
+            let lines = farthest_lines(&scene, Kind::NoFitRow).into_iter();
+            let meeting = lines.filter(|(_, meet)| *meet);
+            let offsets = meeting.map(|(memory, _)| memory.numbers.offset);
+            offsets.fold([0, 0], |[low, high], offset| {
+                [low.min(offset), high.max(offset)]
+            })
+        });
+        assert_eq!(offsets, [[-254, 254], [-262, 262], [-2, 2], [-10, 10]]);
+    }
+
+    /// The farthest no-fit lines of a side.
+    fn compared_farthest(side: Side) -> Comparison {
+        let mut comparison = Comparison::new(side);
+        run_farthest(&mut comparison);
+        comparison
+    }
+
+    #[test]
+    fn the_farthest_lines_have_all_that_has_to_come_up_in_lines() {
+        let comparison = compared_farthest(&same);
+        let missing = comparison.missing();
+        let of_lines = missing.iter().filter(|text| text.contains(" finds "));
+        assert_eq!(of_lines.count(), 0, "{missing:?}");
+        // Of two scenes each, of four pairs at three offsets each; those with the most runs are of one scene.
+        let summary = comparison.summary();
+        for kind in Kind::NO_FIT_LINES {
+            let ends =
+                "a run from -254: 24, a run to 254: 24, a run from -262: 24, a run to 262: 24";
+            let line = format!("\ncalls of {kind:?} that found {ends}, 255 runs: 12\n");
+            assert!(summary.contains(&line), "{summary}");
+        }
+    }
+
+    #[test]
+    fn offsets_that_are_cut_off() {
+        // Runs of a job without a gap, or with the largest, are kept within offsets that are one too few at an end.
+        for (gap, kept) in [
+            (0, -253..=254),
+            (0, -254..=253),
+            (8, -261..=262),
+            (8, -262..=261),
+        ] {
+            let side = |kind: Kind, memory: &mut Memory| {
+                let returned = same(kind, memory);
+                if memory.gap == gap {
+                    let found = memory.sizes.get()[result(0)];
+                    for [first, count] in &mut memory.runs.get_mut()[..found] {
+                        let end = (*first + *count - 1).min(*kept.end());
+                        *first = (*first).max(*kept.start());
+                        *count = end - *first + 1;
+                    }
+                }
+                returned
+            };
+            let different = compared_farthest(&side).different_kinds();
+            assert_eq!(different, Kind::NO_FIT_LINES, "{kept:?}, gap {gap}");
+        }
+    }
+
+    #[test]
     fn a_withdraw_that_does_nothing() {
         assert_told(Kind::Withdraw, &|kind, memory| match kind {
             Kind::Withdraw => same(kind, &mut memory.clone()),
@@ -670,8 +809,9 @@ mod tests {
         let comparison = Comparison::new(&same);
         let causes: usize = Kind::ALL.iter().map(|kind| kind.causes().len()).sum();
         let missing = comparison.missing();
-        assert_eq!(missing.len(), causes + Kind::ALL.len() + 3);
+        assert_eq!(missing.len(), causes + Kind::ALL.len() + 3 + 2 * 5);
         assert!(missing.contains(&"no call of Lay is refused by 13, Laid".to_string()));
+        assert!(missing.contains(&"no call of NoFitColumn finds a run to 262".to_string()));
         assert!(!comparison.is_well());
     }
 }

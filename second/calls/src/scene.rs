@@ -220,20 +220,23 @@ impl Scene {
         memory.output = Guarded::junk(random, columns * rows + more);
     }
 
-    /// Two pieces, or one twice, with their strips, and an offset.
-    fn fill_pair(&self, random: &mut Random, memory: &mut Memory, kind: Kind) {
+    /// The smallest and the largest offset across a no-fit line at which the boxes of two turned pieces come within the gap.
+    pub fn meeting_offsets(&self, kind: Kind, pair: [(usize, Turn); 2]) -> [i32; 2] {
         let vertical = kind == Kind::NoFitColumn;
-        let (i, k) = (self.piece(random), self.piece(random));
-        let (turn, k_turn) = (self.turn(random, i), self.turn(random, k));
-        memory.row_strips = Guarded::new(&self.strips(i, turn, vertical));
-        memory.column_strips = Guarded::new(&self.strips(k, k_turn, vertical));
-        let across = |piece: usize, turn| {
+        let [i_across, k_across] = pair.map(|(piece, turn)| {
             let [columns, rows] = self.job.pieces[piece].shape.turned_box(turn);
             (if vertical { columns } else { rows }) as i32
-        };
+        });
         let gap = self.job.gap as i32;
-        let meeting = across(i, turn) + across(k, k_turn) + 2 * gap + 1;
-        let offset = random.between(0, meeting as usize) as i32 - across(k, k_turn) - gap;
+        [1 - k_across - gap, i_across - 1 + gap]
+    }
+
+    /// Two pieces, or one twice, with their strips, and an offset.
+    fn fill_pair(&self, random: &mut Random, memory: &mut Memory, kind: Kind) {
+        let (i, k) = (self.piece(random), self.piece(random));
+        let pair = [(i, self.turn(random, i)), (k, self.turn(random, k))];
+        let [smallest, largest] = self.meeting_offsets(kind, pair);
+        let near = random.between(0, (largest - smallest + 2) as usize) as i32 + smallest - 1;
         let far = [
             i32::MIN,
             i32::MIN + 1,
@@ -244,16 +247,32 @@ impl Scene {
             65_536,
             i32::MAX,
         ];
+        let offset = if random.chance(5) {
+            random.pick(&far)
+        } else {
+            near
+        };
+        self.choose_line(random, memory, kind, pair, offset);
+    }
+
+    /// The no-fit line of two turned pieces at an offset, with as much room as its runs take, or some more.
+    pub fn choose_line(
+        &self,
+        random: &mut Random,
+        memory: &mut Memory,
+        kind: Kind,
+        pair: [(usize, Turn); 2],
+        offset: i32,
+    ) {
+        let vertical = kind == Kind::NoFitColumn;
+        let [(i, turn), (k, k_turn)] = pair;
+        memory.row_strips = Guarded::new(&self.strips(i, turn, vertical));
+        memory.column_strips = Guarded::new(&self.strips(k, k_turn, vertical));
         let numbers = &mut memory.numbers;
         (numbers.i, numbers.k) = (i, k);
         numbers.turn = turn.degrees() as u16;
         numbers.k_turn = k_turn.degrees() as u16;
-        numbers.offset = if random.chance(5) {
-            random.pick(&far)
-        } else {
-            offset
-        };
-        // As many runs as there are, or some more.
+        numbers.offset = offset;
         memory.runs = Guarded::junk(random, 512);
         let mut after = memory.clone();
         expected::call(kind, &mut after);

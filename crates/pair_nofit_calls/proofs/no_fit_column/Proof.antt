@@ -1,4 +1,4 @@
--- `pair_nofit_calls::no_fit_column`: the offset is passed on as it is. Assumes nothing.
+-- `pair_nofit_calls::no_fit_column`: the offset is passed on as it is; answer and buffer are the call's, so the offsets lie in their range. Assumes nothing.
 use Rattle.list_laws.proofs.Kit.{_∙_, _≡_, ap, List, length, ℤ, needs}
 use mir.Syntax.{w32}
 use mir.Val.{toZ, ofZ}
@@ -9,6 +9,7 @@ use Rattle.model.specs.declared.Direction.the-variants.{Vertical}
 use Rattle.model.specs.Overlap.{OffsetRun}
 use Rattle.model.specs.Refusal.{Outcome}
 use Rattle.model.specs.Answers.{countAnswer}
+use Rattle.call_laws.proofs.NoFits.{offsets-answered}
 use Rattle.pair_nofit_calls.specs.Lines.{lentStretch}
 use Rattle.pair_nofit_calls.proofs.no_fit_column.Statement.{statement}
 use Rattle.pair_nofit_calls.proofs.no_fit_column.Tie as tie
@@ -23,7 +24,8 @@ returns c =
     let o = a .offset .0 in
     let e : toZ w32 (ofZ w32 o) ≡ o = toZ-ofZ w32 o (record { sfits = c .before .before .struct-told .given .0 .1 }) in
     let call : ℤ → Outcome (List OffsetRun) = λ z. noFitCall Vertical l p q z (length (a .out .now)) in
-    (c .before .no-fit .ensures .0 ∙ ap (λ (z : ℤ). countAnswer (call z)) e, c .before .no-fit .ensures .1 ∙ ap (λ (z : ℤ). runsAfter (a .out .now) (call z)) e)
+    offsets-answered Vertical l p q o (a .out .now) (c .before .no-fit .ensures .0 ∙ ap (λ (z : ℤ). countAnswer (call z)) e)
+    (c .before .no-fit .ensures .1 ∙ ap (λ (z : ℤ). runsAfter (a .out .now) (call z)) e)
 
 pub no-fit-column-spec : {M : Type 1} → statement M
 no-fit-column-spec = tie.close (tie.spec (search needs) (search needs) returns)

@@ -1,10 +1,10 @@
 -- `pair_nofit_calls::put_line`: the marks' runs are the line's; they are counted with no room and then put where there is room. Assumes nothing.
-use Rattle.list_laws.proofs.Kit.{_∙_, _≡_, ap, min, ℕ, arith, length-replicate, ℤ, needs}
+use Rattle.list_laws.proofs.Kit.{_∙_, _≡_, ap, min, arith, ℤ, needs}
 use mir.Syntax.{w32}
 use mir.Val.{toZ, ofZ}
 use mir.ValLaws.{toZ-ofZ}
 use Rattle.model.specs.Overlap.{up, down}
-use Rattle.pair_runs.specs.Runs.{offsetCount, farthest}
+use Rattle.pair_runs.specs.Runs.{farthest}
 use Rattle.pair_nofit_calls.proofs.Lined.{marks-line, line-short, line-room}
 use Rattle.pair_nofit_calls.proofs.put_line.Statement.{statement}
 use Rattle.pair_nofit_calls.proofs.put_line.Tie as tie
@@ -15,6 +15,16 @@ mark-shifts-requires c κs =
     let down-small = c .before .before .down .ensures in
     let up-small = c .before .up .ensures in
     (at-start .pre .0, (at-start .pre .1 .0, ((omega arith, omega arith), (omega arith, omega arith), at-start .pre .1 .1)))
+
+put-runs-requires : tie.Need-put-runs-requires
+put-runs-requires c κs =
+    let at-mark-shifts : tie.After-mark-shifts = search in
+    omega (arith, at-mark-shifts .mark-shifts .ensures .same)
+
+put-runs-requires-2 : tie.Need-put-runs-requires-2
+put-runs-requires-2 c κs =
+    let at-mark-shifts : tie.After-mark-shifts = search in
+    omega (arith, at-mark-shifts .mark-shifts .ensures .same)
 
 returns : tie.Need-returns
 returns c =
@@ -27,7 +37,7 @@ returns c =
     let e : toZ w32 (ofZ w32 (s .offset)) ≡ s .offset = toZ-ofZ w32 (s .offset) (at-start .fits .offset) in
     line-short (s .gap) (s .a .now) (s .b .now) (s .offset) _
     (marks-line (s .gap) (s .a .now) (s .b .now) (s .offset) _ _ _ _ (at-down .down .ensures ∙ ap (λ (z : ℤ). min (down z) farthest) e)
-    (at-up .up .ensures ∙ ap (λ (z : ℤ). min (up z) farthest) e) (length-replicate {A = ℕ} offsetCount 0) (at-mark-shifts .mark-shifts .ensures)) (s .out .now)
+    (at-up .up .ensures ∙ ap (λ (z : ℤ). min (up z) farthest) e) (at-mark-shifts .mark-shifts .ensures) (omega arith)) (s .out .now)
     (at-put-runs .put-runs .last .1 .0) (at-put-runs .put-runs .result) (at-put-runs .put-runs .ensures)
     (c .before .if1 .taken) (c .plain-refusal .result) (c .plain-refusal .ensures)
 
@@ -43,12 +53,12 @@ returns-2 c =
     let e : toZ w32 (ofZ w32 (s .offset)) ≡ s .offset = toZ-ofZ w32 (s .offset) (at-start .fits .offset) in
     line-room (s .gap) (s .a .now) (s .b .now) (s .offset) _
     (marks-line (s .gap) (s .a .now) (s .b .now) (s .offset) _ _ _ _ (at-down .down .ensures ∙ ap (λ (z : ℤ). min (down z) farthest) e)
-    (at-up .up .ensures ∙ ap (λ (z : ℤ). min (up z) farthest) e) (length-replicate {A = ℕ} offsetCount 0) (at-mark-shifts .mark-shifts .ensures)) (s .out .now)
+    (at-up .up .ensures ∙ ap (λ (z : ℤ). min (up z) farthest) e) (at-mark-shifts .mark-shifts .ensures) (omega arith)) (s .out .now)
     (at-put-runs .put-runs .last .1 .0) (at-put-runs .put-runs .result) (at-put-runs .put-runs .ensures)
     (at-else1 .if1 .left) (c .before .put-runs2 .last .1 .0) (c .before .put-runs2 .result) (c .before .put-runs2 .ensures)
 
 pub put-line-spec : {M : Type 1} → statement M
 put-line-spec =
     tie.close (tie.spec
-    (search needs) (search needs) (search needs) mark-shifts-requires (search needs) (search needs) (search needs) (search needs)
-    (search needs) (search needs) returns (search needs) (search needs) (search needs) returns-2)
+    (search needs) (search needs) (search needs) mark-shifts-requires (search needs) (search needs) (search needs) put-runs-requires
+    (search needs) (search needs) returns (search needs) put-runs-requires-2 (search needs) returns-2)

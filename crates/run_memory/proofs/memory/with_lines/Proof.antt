@@ -1,7 +1,6 @@
--- `run_memory::memory::with_lines` meets its contract: a store without a key keeps no line, and every line fits a slot. Assumes nothing.
+-- `run_memory::memory::with_lines` meets its contract: a store whose table is clear keeps no line, and has room for every line. Assumes nothing.
 use Rattle.list_laws.proofs.Kit.{sym, arith, needs}
 use Rattle.model.specs.Lent.{Lent, lentBy, jobOf}
-use Rattle.job_laws.proofs.Checked.{facts}
 use Rattle.search_lines.proofs.Keeping.{none-kept}
 use Rattle.run_memory.proofs.memory.with_lines.Statement.{statement}
 use Rattle.run_memory.proofs.memory.with_lines.Tie as tie
@@ -10,12 +9,6 @@ use Rattle.run_memory.proofs.memory.with_lines.Tie as tie
 abbrev lent : tie.Start → Lent
 lent e = lentBy (e .args .size) (e .args .table .now) (e .args .pixels .now)
 
-slot-width-requires : tie.Need-slot-width-requires
-slot-width-requires c κs =
-    let e : tie.Start = search in
-    let f = facts (lent e) (e .pre .0 .laid .well) in
-    (f .entries, f .smallGap)
-
 slice-aggregate-run-plan : tie.Need-slice-aggregate-run-plan
 slice-aggregate-run-plan c = let made : tie.After-empty-lines = search in sym (made .empty-lines .ensures .0)
 
@@ -23,12 +16,7 @@ run-plan-requires : tie.Need-run-plan-requires
 run-plan-requires c κs =
     let e : tie.Start = search in
     let made : tie.After-empty-lines = search in
-    let wide : tie.After-slot-width = search in
-    let counted : tie.After-slot-count = search in
-    let width = wide .slot-width in
-    let slots = counted .slot-count in
     let long = made .empty-lines .ensures .0 in
-    let room = slots .ensures .room in
     let well = e .pre .0 .laid .well in (
       e .pre .0,
       (
@@ -37,10 +25,10 @@ run-plan-requires c κs =
           record {
             well = well;
             shapes = e .pre .1 .1 .0;
-            fit = record { wide = width .ensures .0 (e .args .pixels .now); narrow = width .ensures .1 .1; fits = omega arith };
+            fit = record { room = omega arith; fits = omega arith };
             kept =
-                none-kept (jobOf (lent e)) (record { size = e .args .size; slots = slots .result; width = width .result }) (made .empty-lines .result)
-                (e .args .maps .now) (e .pre .1 .1 .1 .1 .1) (omega arith) (slots .ensures .some) (made .empty-lines .ensures .1);
+                none-kept (jobOf (lent e)) (record { size = e .args .size; slots = 32768 }) (made .empty-lines .result)
+                (e .args .maps .now) (e .pre .1 .1 .1 .1 .1) (omega arith) (omega arith) (made .empty-lines .ensures .1);
           },
           (e .pre .1 .1 .1 .0, e .pre .1 .1 .1 .1 .0),
         ),
@@ -53,5 +41,4 @@ returns c = let ran : tie.After-run-plan = search in ran .run-plan .ensures
 pub with-lines-spec : {M : Type 1} → statement M
 with-lines-spec =
     tie.close (tie.spec
-    (search needs) slot-width-requires (search needs) slice-aggregate-run-plan run-plan-requires (search needs) (search needs) (search needs) (search needs)
-    returns)
+    (search needs) slice-aggregate-run-plan run-plan-requires (search needs) (search needs) (search needs) (search needs) returns)

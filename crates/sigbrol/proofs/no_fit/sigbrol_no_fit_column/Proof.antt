@@ -1,5 +1,5 @@
 -- `sigbrol::no_fit::sigbrol_no_fit_column` meets its contract by what the answer tells. Assumes nothing.
-use Rattle.list_laws.proofs.Kit.{_∙_, _≡_, subst, sym, List, length, ℤ}
+use Rattle.list_laws.proofs.Kit.{_∙_, _≡_, ap, subst, sym, List, ℕ, arith, length, ℤ}
 use mir.Syntax.{w32}
 use mir.Val.{toZ, ofZ}
 use mir.ValLaws.{toZ-ofZ}
@@ -9,9 +9,13 @@ use Rattle.model.specs.Refusal.{Outcome}
 use Rattle.model.specs.Buffer.{turnOf}
 use Rattle.model.specs.Calls.{noFitCall, runsAfter}
 use Rattle.model.specs.declared.Direction.the-variants.{Vertical}
+use Rattle.model.specs.declared.NumberAnswer.{NumberAnswer}
+use Rattle.call_laws.specs.NoFits.{OffsetsWithin}
 use Rattle.pair_nofit_calls.specs.Lines.{lentStretch}
 use Rattle.c_interface.specs.Numbers.{lentAs, pieceWithTurn}
-use Rattle.sigbrol.proofs.Told.{reply-by, leaves-by, count-told}
+use Rattle.c_interface.specs.declared.Reply.{Reply}
+use Rattle.sigbrol.proofs.Told.{reply-by, leaves-by, refusal-told, count-told}
+use Rattle.sigbrol.proofs.Claimed.{no-fit-numbered}
 use Rattle.sigbrol.proofs.no_fit.sigbrol_no_fit_column.Statement.{statement}
 use Rattle.sigbrol.proofs.no_fit.sigbrol_no_fit_column.Tie as tie
 
@@ -23,11 +27,13 @@ outcome s offset =
     (lentStretch (pieceWithTurn (a .i-turn) (a .i)) (turnOf (a .i-turn)) (a .i-strips .now))
     (lentStretch (pieceWithTurn (a .k-turn) (a .k)) (turnOf (a .k-turn)) (a .k-strips .now)) offset (length (a .runs .now))
 
--- answer and runs are those of an outcome
+-- answer and runs are those of an outcome, and the offsets lie in their range
 Tells : (c : tie.After-no-fit-column) → Outcome (List OffsetRun) → Type 0
 Tells c o =
     let at-start : tie.Start = search in
-    (c .no-fit-column .result ≡ countAnswer o) × (c .no-fit-column .last .1 .1 .1 .1 .1 .1 .1 .1 .0 ≡ runsAfter (at-start .args .runs .now) o)
+    let left : List (List ℤ) = c .no-fit-column .last .1 .1 .1 .1 .1 .1 .1 .1 .0 in
+    (c .no-fit-column .result ≡ countAnswer o) × ((left ≡ runsAfter (at-start .args .runs .now) o)
+    × ((n : ℕ) → c .no-fit-column .result ≡ NumberAnswer.Number n → OffsetsWithin (at-start .args .gap) n left))
 
 -- they are the call's, the offset being handed on as it is
 told : (c : tie.After-no-fit-column) →
@@ -92,8 +98,10 @@ returns c =
     let at-start : tie.Start = search in
     let o = outcome (at-start) (at-start .args .offset) in
     let p = told (at-no-fit-column) in
-    let t = count-told o (sym (c .before .before .found .given .1) ∙ p .0) in
-    (c .done .ensures ∙ reply-by (λ rs. length rs) o t, (p .1, leaves-by (λ rs. length rs) (λ n. n) _ o t))
+    let t = count-told o (sym (c .before .before .found .given .1) ∙ p .0) in (
+      c .done .ensures ∙ reply-by (λ rs. length rs) o t,
+      (p .1 .0, (leaves-by (λ rs. length rs) (λ n. n) _ o t, λ zero. p .1 .1 _ (c .before .before .found .given .1))),
+    )
 
 same-length-2 : tie.Need-same-length-2
 same-length-2 c =
@@ -108,7 +116,11 @@ returns-2 c =
     let o = outcome (at-start) (at-start .args .offset) in
     let p = told (at-no-fit-column) in
     let t = count-told o (sym (c .before .before .refusal .given .1) ∙ p .0) in
-    (c .refused .ensures ∙ reply-by (λ rs. length rs) o t, (p .1, leaves-by (λ rs. length rs) (λ n. n) _ o t))
+    let positive = no-fit-numbered Vertical _ _ _ _ _ _ (refusal-told (λ rs. length rs) o _ t) in
+    let number = ap (λ (x : Reply). x .number) (c .refused .ensures) in (
+      c .refused .ensures ∙ reply-by (λ rs. length rs) o t,
+      (p .1 .0, (leaves-by (λ rs. length rs) (λ n. n) _ o t, λ zero. absurd (omega (arith, positive, number, zero)))),
+    )
 
 pub sigbrol-no-fit-column-spec : {M : Type 1} → statement M
 sigbrol-no-fit-column-spec =

@@ -1,0 +1,2 @@
+-- Stretches of bytes in one store.
+pub mod Store
