@@ -15,7 +15,7 @@ const SMALL_INPUT: usize = 2048;
 // words, and what is not used is cleared in vain.
 const SMALL_WORKSPACE: usize = 32768;
 
-const LARGE_WORKSPACE: usize = 212992;
+const LARGE_WORKSPACE: usize = 262144;
 
 // What is printed for a small job.
 fn print_small(input: &[u8], output: &mut [u8]) -> NumberAnswer
