@@ -210,8 +210,8 @@ sigbrol_reply sigbrol_rebuild(uint16_t rows, uint16_t columns, uint8_t vertical,
 /* ---- two pieces ---- */
 
 /* The column offsets at which pieces i and k, turned, conflict when k's corner is `offset` rows above i's: fills the front of `runs`
- * with {first, count}, ascending, and `runs_count`. Every offset lies between -262 and 262. The strips are the pieces' stretches from the
- * row store. SIGBROL_RUNS runs suffice for every two pieces.
+ * with {first, count}, ascending, and `runs_count`. Every offset lies between -(254 + gap) and 254 + gap, so that 16 bits hold it. The
+ * strips are the pieces' stretches from the row store. SIGBROL_RUNS runs suffice for every two pieces.
  * Refused: 8 the job; 9 no such piece, or a turn that is not allowed; 8 a stretch that is not that piece's; 7 `runs` is too short. */
 sigbrol_reply sigbrol_no_fit_row(size_t rows, size_t columns, size_t count, size_t gap, const uint8_t (*table)[3], size_t table_length,
                                  const uint8_t *pixels, size_t pixels_length, size_t i, uint16_t i_turn, const uint8_t (*i_strips)[3],
