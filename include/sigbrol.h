@@ -7,8 +7,12 @@
  * - x counts columns along the length L of the sheet, y rows across its width W, both from 0 at the bottom left. A piece's corner is the
  *   bottom-left pixel of its turned box. Turns are counterclockwise and stand as degrees: 0, 90, 180, 270.
  * - A job is lent as eight arguments, which SIGBROL_LENT takes from a sigbrol_job: W, L, n and the gap, the piece table with its length
- *   (an entry {l, w, o} a piece) and the pixel bytes with their length (1 or 0, row by row, piece after piece). sigbrol_read_job fills
- *   all of it. Table and pixels may be longer than the job needs; what lies beyond is not looked at.
+ *   (an entry {l, w, o, lock} a piece) and the pixel bytes with their length (1 or 0, row by row, piece after piece). sigbrol_read_job
+ *   fills all of it. Table and pixels may be longer than the job needs; what lies beyond is not looked at.
+ * - A piece is locked (SIGBROL_LOCKED in its entry) once it is under the knife, else free (SIGBROL_FREE). Start, descent and guided run
+ *   leave locked pieces where they are given, and a locked piece is not withdrawn. Every other call treats it as any piece: it is a part
+ *   of the layout, and its conflicts count. sigbrol_set_lock sets a lock; no call clears one but sigbrol_read_job, which fills the table
+ *   anew.
  * - Two pieces conflict when some pixel of one is at most `gap` columns and at most `gap` rows from some pixel of the other. With a gap
  *   of 0, which every job text of version 1 has, that is: when they share a pixel. There is no gap to the sheet's edge, and none in the
  *   sheet's counts.
@@ -22,8 +26,8 @@
  * Replies. A call replies {0, 0, 0} when it did its work. Otherwise it is refused: `number` says why, `first` and `second` where (0
  * unless said below), and not a byte of the caller's memory has changed. Of several causes the first in the order that the comment
  * gives wins; README.md has a table of all numbers with what to do. Every call that is lent a job begins with cause 8: the job, its gap
- * included, is none that sigbrol_read_job gives. Where a comment says 9 and 10 and no more, 9 is a turn of the layout that is not allowed
- * and 10 a placement that leaves the sheet.
+ * and its locks included, is none that sigbrol_read_job gives. Where a comment says 9 and 10 and no more, 9 is a turn of the layout that is
+ * not allowed and 10 a placement that leaves the sheet.
  *
  * Memory. A call writes what its comment says that it fills, and nothing else: what lies beyond the front of a buffer stays untouched.
  *
@@ -47,7 +51,7 @@ extern "C" {
 #endif
 
 /* The version of this interface. It grows by 1 where anything below changes for a caller. */
-#define SIGBROL_VERSION 7
+#define SIGBROL_VERSION 8
 
 /* The largest numbers of a job: pieces, bytes of all boxes together, bytes of a job text that the program reads. */
 #define SIGBROL_PIECES 64
@@ -86,6 +90,14 @@ extern "C" {
 #define SIGBROL_TURN_270 270
 #define SIGBROL_ALLOWS(turn) (1 << (turn) / 90)
 
+/* The lock of a piece, the last number of its entry of the table. */
+#define SIGBROL_FREE 0
+#define SIGBROL_LOCKED 1
+
+/* Stations, for `station`: the planner's may not set a lock, the cutter's may. */
+#define SIGBROL_PLANNER 0
+#define SIGBROL_CUTTER 1
+
 /* Directions, for `vertical`. */
 #define SIGBROL_HORIZONTAL 0
 #define SIGBROL_VERTICAL 1
@@ -114,6 +126,8 @@ extern "C" {
 #define SIGBROL_SHARED_PIXEL 12 /* two pieces conflict; the name is that of a gap of 0 */
 #define SIGBROL_LAID_ALREADY 13
 #define SIGBROL_NOT_LAID 14
+#define SIGBROL_PIECE_LOCKED 15
+#define SIGBROL_NOT_THE_CUTTER 16
 
 /* What a call replies: number 0, or why and where it is refused. */
 typedef struct {
@@ -122,19 +136,23 @@ typedef struct {
     uint32_t second;
 } sigbrol_reply;
 
-/* A job in the caller's memory, and the eight arguments that lend it. */
+/* A job in the caller's memory, and the eight arguments that lend it: to a call that only reads it, and to sigbrol_set_lock, which writes
+ * its table. */
 typedef struct {
     size_t rows;
     size_t columns;
     size_t count;
     size_t gap;
-    uint8_t table[SIGBROL_PIECES][3];
+    uint8_t table[SIGBROL_PIECES][4];
     uint8_t pixels[SIGBROL_PIXELS];
 } sigbrol_job;
 
 #define SIGBROL_LENT(job) \
-    (job)->rows, (job)->columns, (job)->count, (job)->gap, (const uint8_t(*)[3])(job)->table, (size_t)SIGBROL_PIECES, \
+    (job)->rows, (job)->columns, (job)->count, (job)->gap, (const uint8_t(*)[4])(job)->table, (size_t)SIGBROL_PIECES, \
         (job)->pixels, (size_t)SIGBROL_PIXELS
+
+#define SIGBROL_LENT_TO_LOCK(job) \
+    (job)->rows, (job)->columns, (job)->count, (job)->gap, (job)->table, (size_t)SIGBROL_PIECES, (job)->pixels, (size_t)SIGBROL_PIXELS
 
 /* A layout as an argument of a call that only reads it. */
 #define SIGBROL_PLACES(layout) ((const uint16_t(*)[3])(layout))
@@ -166,12 +184,20 @@ typedef struct {
 /* ---- a job ---- */
 
 /* Reads a job text of any length: fills `rows` (W), `columns` (L), `count` (n), `gap` (0 for version 1), the front of the table (n
- * entries) and the front of the pixels (a byte a box pixel). A table of SIGBROL_PIECES and SIGBROL_PIXELS bytes suffice for every job.
+ * entries, all free for versions 1 and 2) and the front of the pixels (a byte a box pixel). A table of SIGBROL_PIECES and SIGBROL_PIXELS
+ * bytes suffice for every job.
  * Refused, by line, first = the line from 1: 1 wrong form, an unknown version, a missing or an extra line; 2 a number out of range, a
- * gap above SIGBROL_GAP among them, a wrong piece number, an even o; 3 W x L above 65,536; 6 a box longer or wider than the sheet; 4
- * box areas above 65,536; 5 a loose box (the line of its last row). Then 7, first = 0: the table or the pixel buffer is too short. */
-sigbrol_reply sigbrol_read_job(const uint8_t *text, size_t text_length, uint8_t (*table)[3], size_t table_length, uint8_t *pixels,
+ * gap above SIGBROL_GAP and a lock above 1 among them, a wrong piece number, an even o; 3 W x L above 65,536; 6 a box longer or wider
+ * than the sheet; 4 box areas above 65,536; 5 a loose box (the line of its last row). Then 7, first = 0: the table or the pixel buffer is
+ * too short. */
+sigbrol_reply sigbrol_read_job(const uint8_t *text, size_t text_length, uint8_t (*table)[4], size_t table_length, uint8_t *pixels,
                                size_t pixels_length, size_t *rows, size_t *columns, size_t *count, size_t *gap);
+
+/* Locks a piece from a station: its entry of the table gets SIGBROL_LOCKED, nothing else in the table changes. A piece that is locked
+ * already stays so. Lend the job by SIGBROL_LENT_TO_LOCK.
+ * Refused: 8 the job; 2 a station other than SIGBROL_PLANNER and SIGBROL_CUTTER; 9 no such piece; 16 the station is the planner's. */
+sigbrol_reply sigbrol_set_lock(size_t rows, size_t columns, size_t count, size_t gap, uint8_t (*table)[4], size_t table_length,
+                               const uint8_t *pixels, size_t pixels_length, size_t piece, size_t station);
 
 /* ---- strips ---- */
 
@@ -179,7 +205,7 @@ sigbrol_reply sigbrol_read_job(const uint8_t *text, size_t text_length, uint8_t 
  * piece, and the front of the starts of each with n + 1 numbers: where each piece's strips begin, and the total. SIGBROL_STRIPS strips
  * a store and SIGBROL_STARTS starts suffice for every job.
  * Refused: 8 the job; 9 not n turns, or a turn that is not allowed; 7 a store or starts too short. */
-sigbrol_reply sigbrol_strips(size_t rows, size_t columns, size_t count, size_t gap, const uint8_t (*table)[3], size_t table_length,
+sigbrol_reply sigbrol_strips(size_t rows, size_t columns, size_t count, size_t gap, const uint8_t (*table)[4], size_t table_length,
                              const uint8_t *pixels, size_t pixels_length, const uint16_t *turns, size_t turns_length,
                              uint8_t (*row_strips)[3], size_t row_strips_length, uint32_t *row_starts, size_t row_starts_length,
                              uint8_t (*column_strips)[3], size_t column_strips_length, uint32_t *column_starts,
@@ -187,7 +213,7 @@ sigbrol_reply sigbrol_strips(size_t rows, size_t columns, size_t count, size_t g
 
 /* The stretch of a piece: how many strips it has, and in `first` where they begin in the row store, or in the column store if vertical.
  * 0 means refused (every piece has a strip): `first` is untouched, and sigbrol_stretch_refusal tells the number. */
-size_t sigbrol_stretch(size_t rows, size_t columns, size_t count, size_t gap, const uint8_t (*table)[3], size_t table_length,
+size_t sigbrol_stretch(size_t rows, size_t columns, size_t count, size_t gap, const uint8_t (*table)[4], size_t table_length,
                        const uint8_t *pixels, size_t pixels_length, const uint16_t *turns, size_t turns_length,
                        const uint8_t (*row_strips)[3], size_t row_strips_length, const uint32_t *row_starts, size_t row_starts_length,
                        const uint8_t (*column_strips)[3], size_t column_strips_length, const uint32_t *column_starts,
@@ -195,7 +221,7 @@ size_t sigbrol_stretch(size_t rows, size_t columns, size_t count, size_t gap, co
 
 /* The number by which sigbrol_stretch is refused on the same arguments, 0 where it is not: 8 the job; 9 no such piece, not n turns, or
  * a turn that is not allowed; 8 stores or starts that are not the job's in these turns. Writes nothing. */
-uint32_t sigbrol_stretch_refusal(size_t rows, size_t columns, size_t count, size_t gap, const uint8_t (*table)[3], size_t table_length,
+uint32_t sigbrol_stretch_refusal(size_t rows, size_t columns, size_t count, size_t gap, const uint8_t (*table)[4], size_t table_length,
                                  const uint8_t *pixels, size_t pixels_length, const uint16_t *turns, size_t turns_length,
                                  const uint8_t (*row_strips)[3], size_t row_strips_length, const uint32_t *row_starts,
                                  size_t row_starts_length, const uint8_t (*column_strips)[3], size_t column_strips_length,
@@ -213,14 +239,14 @@ sigbrol_reply sigbrol_rebuild(uint16_t rows, uint16_t columns, uint8_t vertical,
  * with {first, count}, ascending, and `runs_count`. Every offset lies between -(254 + gap) and 254 + gap, so that 16 bits hold it. The
  * strips are the pieces' stretches from the row store. SIGBROL_RUNS runs suffice for every two pieces.
  * Refused: 8 the job; 9 no such piece, or a turn that is not allowed; 8 a stretch that is not that piece's; 7 `runs` is too short. */
-sigbrol_reply sigbrol_no_fit_row(size_t rows, size_t columns, size_t count, size_t gap, const uint8_t (*table)[3], size_t table_length,
+sigbrol_reply sigbrol_no_fit_row(size_t rows, size_t columns, size_t count, size_t gap, const uint8_t (*table)[4], size_t table_length,
                                  const uint8_t *pixels, size_t pixels_length, size_t i, uint16_t i_turn, const uint8_t (*i_strips)[3],
                                  size_t i_strips_length, size_t k, uint16_t k_turn, const uint8_t (*k_strips)[3],
                                  size_t k_strips_length, int32_t offset, int32_t (*runs)[2], size_t runs_length, size_t *runs_count);
 
 /* The same along a column: the row offsets at which they conflict when k's corner is `offset` columns to the right of i's. The
  * strips are the pieces' stretches from the column store. Fills and is refused as sigbrol_no_fit_row. */
-sigbrol_reply sigbrol_no_fit_column(size_t rows, size_t columns, size_t count, size_t gap, const uint8_t (*table)[3],
+sigbrol_reply sigbrol_no_fit_column(size_t rows, size_t columns, size_t count, size_t gap, const uint8_t (*table)[4],
                                     size_t table_length, const uint8_t *pixels, size_t pixels_length, size_t i, uint16_t i_turn,
                                     const uint8_t (*i_strips)[3], size_t i_strips_length, size_t k, uint16_t k_turn,
                                     const uint8_t (*k_strips)[3], size_t k_strips_length, int32_t offset, int32_t (*runs)[2],
@@ -229,19 +255,19 @@ sigbrol_reply sigbrol_no_fit_column(size_t rows, size_t columns, size_t count, s
 /* Whether pieces i and k conflict in the layout, which with a gap of 0 is whether they share a pixel: fills `shares` with 1 or 0.
  * Refused: 8 the job; 7 the layout's length; 9 no such piece, i = k, or a turn of the layout that is not allowed; 10 a placement
  * outside, of any piece. */
-sigbrol_reply sigbrol_shares_pixel(size_t rows, size_t columns, size_t count, size_t gap, const uint8_t (*table)[3],
+sigbrol_reply sigbrol_shares_pixel(size_t rows, size_t columns, size_t count, size_t gap, const uint8_t (*table)[4],
                                    size_t table_length, const uint8_t *pixels, size_t pixels_length, const uint16_t (*layout)[3],
                                    size_t layout_length, size_t i, size_t k, uint8_t *shares);
 
 /* The least number of pixels by which piece k has to be shifted along the rows (the columns if vertical), either way, until it does not
  * conflict with i, be it over the sheet's edge: fills `depth`, at most SIGBROL_DEPTH. Refused as sigbrol_shares_pixel. */
-sigbrol_reply sigbrol_depth(size_t rows, size_t columns, size_t count, size_t gap, const uint8_t (*table)[3], size_t table_length,
+sigbrol_reply sigbrol_depth(size_t rows, size_t columns, size_t count, size_t gap, const uint8_t (*table)[4], size_t table_length,
                             const uint8_t *pixels, size_t pixels_length, const uint16_t (*layout)[3], size_t layout_length, size_t i,
                             size_t k, uint8_t vertical, uint32_t *depth);
 
 /* The penalty of pieces i and k, the smaller of the two depths: fills `penalty`, at most SIGBROL_PENALTY. Refused as
  * sigbrol_shares_pixel. */
-sigbrol_reply sigbrol_penalty(size_t rows, size_t columns, size_t count, size_t gap, const uint8_t (*table)[3], size_t table_length,
+sigbrol_reply sigbrol_penalty(size_t rows, size_t columns, size_t count, size_t gap, const uint8_t (*table)[4], size_t table_length,
                               const uint8_t *pixels, size_t pixels_length, const uint16_t (*layout)[3], size_t layout_length, size_t i,
                               size_t k, uint32_t *penalty);
 
@@ -249,18 +275,18 @@ sigbrol_reply sigbrol_penalty(size_t rows, size_t columns, size_t count, size_t 
 
 /* Weight x penalty over all pairs: fills `sum`.
  * Refused: 8 the job; 7 the length of the layout or the weights; 2 a weight that is none of 1 to 65,535; 9; 10. */
-sigbrol_reply sigbrol_weighted_sum(size_t rows, size_t columns, size_t count, size_t gap, const uint8_t (*table)[3],
+sigbrol_reply sigbrol_weighted_sum(size_t rows, size_t columns, size_t count, size_t gap, const uint8_t (*table)[4],
                                    size_t table_length, const uint8_t *pixels, size_t pixels_length, const uint16_t (*layout)[3],
                                    size_t layout_length, const uint32_t *weights, size_t weights_length, uint64_t *sum);
 
 /* The penalties of all pairs together: fills `sum`. Refused: 8 the job; 7 the layout's length; 9; 10. */
-sigbrol_reply sigbrol_plain_sum(size_t rows, size_t columns, size_t count, size_t gap, const uint8_t (*table)[3], size_t table_length,
+sigbrol_reply sigbrol_plain_sum(size_t rows, size_t columns, size_t count, size_t gap, const uint8_t (*table)[4], size_t table_length,
                                 const uint8_t *pixels, size_t pixels_length, const uint16_t (*layout)[3], size_t layout_length,
                                 uint64_t *sum);
 
 /* The columns of cloth that the layout spends, from the smallest corner x to the largest right end of a piece: fills `used`. What is
  * blank left of the first piece goes back to the roll. Refused: 8 the job; 7 the layout's length; 9; 10. */
-sigbrol_reply sigbrol_used_length(size_t rows, size_t columns, size_t count, size_t gap, const uint8_t (*table)[3], size_t table_length,
+sigbrol_reply sigbrol_used_length(size_t rows, size_t columns, size_t count, size_t gap, const uint8_t (*table)[4], size_t table_length,
                                   const uint8_t *pixels, size_t pixels_length, const uint16_t (*layout)[3], size_t layout_length,
                                   size_t *used);
 
@@ -269,7 +295,7 @@ sigbrol_reply sigbrol_used_length(size_t rows, size_t columns, size_t count, siz
  * would conflict. Made for every step of a drag: only pieces whose boxes come within the gap are measured.
  * Refused: 8 the job; 7 the length of the layout or the weights; 2 a weight; 9 no such piece, a turn that is not allowed, here or in the
  * layout; 10 a placement outside, of the layout as it is, this piece's among them, or the new one. */
-sigbrol_reply sigbrol_preview(size_t rows, size_t columns, size_t count, size_t gap, const uint8_t (*table)[3], size_t table_length,
+sigbrol_reply sigbrol_preview(size_t rows, size_t columns, size_t count, size_t gap, const uint8_t (*table)[4], size_t table_length,
                               const uint8_t *pixels, size_t pixels_length, const uint16_t (*layout)[3], size_t layout_length,
                               const uint32_t *weights, size_t weights_length, size_t piece, uint16_t turn, uint16_t x, uint16_t y,
                               uint64_t *sum, size_t *used);
@@ -277,24 +303,27 @@ sigbrol_reply sigbrol_preview(size_t rows, size_t columns, size_t count, size_t 
 /* Passes exactly the layouts that the knife may follow: all inside in allowed turns, and no two pieces conflict. Writes nothing.
  * Refused: 8 the job; 7 the layout's length; 9; 10; 12 two pieces conflict, first and second = the pair with the lowest first number,
  * then the lowest second. */
-sigbrol_reply sigbrol_check(size_t rows, size_t columns, size_t count, size_t gap, const uint8_t (*table)[3], size_t table_length,
+sigbrol_reply sigbrol_check(size_t rows, size_t columns, size_t count, size_t gap, const uint8_t (*table)[4], size_t table_length,
                             const uint8_t *pixels, size_t pixels_length, const uint16_t (*layout)[3], size_t layout_length);
 
-/* The start layout: fills `layout`. Refused: 8 the job; 7 the layout's length. */
-sigbrol_reply sigbrol_start(size_t rows, size_t columns, size_t count, size_t gap, const uint8_t (*table)[3], size_t table_length,
+/* The start layout: stacks the free pieces from the left, as if they were alone, and fills their entries of `layout`. The entries of
+ * locked pieces are read and stay: they say where these lie, and free pieces may be stacked on them. Those of free pieces are not read, so
+ * that without locks the layout may hold anything.
+ * Refused: 8 the job; 7 the layout's length; 9 a locked piece's turn that is not allowed; 10 a locked piece's placement outside. */
+sigbrol_reply sigbrol_start(size_t rows, size_t columns, size_t count, size_t gap, const uint8_t (*table)[4], size_t table_length,
                             const uint8_t *pixels, size_t pixels_length, uint16_t (*layout)[3], size_t layout_length);
 
 /* The layout as text: fills the front of `text` and `written`, how many bytes. SIGBROL_LAYOUT_TEXT bytes suffice for
  * every layout.
  * Refused: 8 the job; 7 the layout's length; 9; 10; 7 the text buffer is too short. */
-sigbrol_reply sigbrol_write_layout(size_t rows, size_t columns, size_t count, size_t gap, const uint8_t (*table)[3],
+sigbrol_reply sigbrol_write_layout(size_t rows, size_t columns, size_t count, size_t gap, const uint8_t (*table)[4],
                                    size_t table_length, const uint8_t *pixels, size_t pixels_length, const uint16_t (*layout)[3],
                                    size_t layout_length, uint8_t *text, size_t text_length, size_t *written);
 
 /* Reads a layout text of this job: fills `layout`.
  * Refused: 8 the job; by line, first = the line from 1: 1 wrong form, a missing or an extra line; 2 W, L, n or a piece number unlike
  * the job's, or a turn that is none of the four; 9 a turn that is not allowed; 10 outside. Then 7, first = 0: the layout's length. */
-sigbrol_reply sigbrol_read_layout(size_t rows, size_t columns, size_t count, size_t gap, const uint8_t (*table)[3], size_t table_length,
+sigbrol_reply sigbrol_read_layout(size_t rows, size_t columns, size_t count, size_t gap, const uint8_t (*table)[4], size_t table_length,
                                   const uint8_t *pixels, size_t pixels_length, const uint8_t *text, size_t text_length,
                                   uint16_t (*layout)[3], size_t layout_length);
 
@@ -306,7 +335,7 @@ sigbrol_reply sigbrol_read_layout(size_t rows, size_t columns, size_t count, siz
  * y, then x; verticals by x, then y. Every side between a pixel of a piece and one that is not of that piece, or the sheet's outside, lies
  * on just one line, nothing else is cut, and no two lines could be joined. SIGBROL_CUT_LINES(rows, columns) lines suffice for every layout.
  * Refused: 8 the job; 7 the layout's length; 9; 10; 12 as sigbrol_check; 7 the line buffer is too short. */
-sigbrol_reply sigbrol_cut_lines(size_t rows, size_t columns, size_t count, size_t gap, const uint8_t (*table)[3], size_t table_length,
+sigbrol_reply sigbrol_cut_lines(size_t rows, size_t columns, size_t count, size_t gap, const uint8_t (*table)[4], size_t table_length,
                                 const uint8_t *pixels, size_t pixels_length, const uint16_t (*layout)[3], size_t layout_length,
                                 uint16_t (*lines)[4], size_t lines_length, size_t *lines_count);
 
@@ -315,7 +344,7 @@ sigbrol_reply sigbrol_cut_lines(size_t rows, size_t columns, size_t count, size_
  * with SIGBROL_STEP_DONE, for every number past the last. Steps 2k and 2k + 1 are a lift to the smaller end of line k and a cut to the
  * other. Each call makes the whole list: for more than a few steps make the lines once and ask sigbrol_line_step.
  * Refused: 8 the job; 7 the layout's length; 2 a pitch that is none of 1 to SIGBROL_PITCH; 9; 10; 12 as sigbrol_check. */
-sigbrol_reply sigbrol_cut_step(size_t rows, size_t columns, size_t count, size_t gap, const uint8_t (*table)[3], size_t table_length,
+sigbrol_reply sigbrol_cut_step(size_t rows, size_t columns, size_t count, size_t gap, const uint8_t (*table)[4], size_t table_length,
                                const uint8_t *pixels, size_t pixels_length, const uint16_t (*layout)[3], size_t layout_length,
                                uint32_t pitch, uint64_t step, uint8_t *word, double *x, double *y);
 
@@ -331,36 +360,38 @@ sigbrol_reply sigbrol_line_step(const uint16_t (*lines)[4], size_t lines_length,
  * turn, fills `sum` with the least weighted sum of this piece's pairs and `at` with the smallest coordinate that has it.
  * Refused: 8 the job; 7 the length of the layout or the weights; 2 a weight; 9 no such piece, a turn that is not allowed, here or in
  * the layout; 10 a placement of the layout outside; 11 no inside corner lies on the line. */
-sigbrol_reply sigbrol_line_search(size_t rows, size_t columns, size_t count, size_t gap, const uint8_t (*table)[3], size_t table_length,
+sigbrol_reply sigbrol_line_search(size_t rows, size_t columns, size_t count, size_t gap, const uint8_t (*table)[4], size_t table_length,
                                   const uint8_t *pixels, size_t pixels_length, const uint16_t (*layout)[3], size_t layout_length,
                                   const uint32_t *weights, size_t weights_length, size_t piece, uint16_t turn, uint8_t vertical,
                                   uint16_t held, uint64_t *sum, size_t *at);
 
-/* How a descent ended: its sum is 0; no trial moves any more; the budget is used up. */
+/* How a descent ended: its sum is 0; no trial moves any more, or every piece is locked and there is none; the budget is used up. */
 #define SIGBROL_CLEAR 0
 #define SIGBROL_SETTLED 1
 #define SIGBROL_SPENT 2
 
-/* A descent of at most `budget` trials (0 to 1,000,000,000). A trial searches one line for a better place of one piece in one turn; a
- * move is a trial that found one. The layout becomes the one at the end; fills `end`, `sum` (its weighted sum), `trials` and `moves`.
+/* A descent of at most `budget` trials (0 to 1,000,000,000). A trial searches one line for a better place of one free piece in one turn;
+ * a move is a trial that found one. The layout becomes the one at the end, in which locked pieces lie where they were given; fills `end`,
+ * `sum` (its weighted sum), `trials` and `moves`.
  * Refused: 8 the job; 7 the length of the layout or the weights; 2 a weight or the budget; 9; 10. */
-sigbrol_reply sigbrol_descent(size_t rows, size_t columns, size_t count, size_t gap, const uint8_t (*table)[3], size_t table_length,
+sigbrol_reply sigbrol_descent(size_t rows, size_t columns, size_t count, size_t gap, const uint8_t (*table)[4], size_t table_length,
                               const uint8_t *pixels, size_t pixels_length, uint16_t (*layout)[3], size_t layout_length,
                               const uint32_t *weights, size_t weights_length, uint32_t budget, uint64_t *workspace,
                               size_t workspace_length, uint8_t *end, uint64_t *sum, uint64_t *trials, uint64_t *moves);
 
 /* A guided run of at most `rounds` descents (1 to 1,000), each of at most `budget` trials; after each that is not clear the weight of
- * every pair that conflicts grows by 1, up to 65,535. The layout becomes the best one, the weights the new ones; fills `sum` (the
- * best layout's plain sum), `trials` and `moves` of all rounds.
+ * every pair that conflicts grows by 1, up to 65,535. The layout becomes the best one, in which locked pieces lie where they were given,
+ * the weights the new ones; fills `sum` (the best layout's plain sum), `trials` and `moves` of all rounds.
  * Refused: 8 the job; 7 the length of the layout or the weights; 2 a weight, the budget or the rounds; 9; 10. */
-sigbrol_reply sigbrol_guided_run(size_t rows, size_t columns, size_t count, size_t gap, const uint8_t (*table)[3], size_t table_length,
+sigbrol_reply sigbrol_guided_run(size_t rows, size_t columns, size_t count, size_t gap, const uint8_t (*table)[4], size_t table_length,
                                  const uint8_t *pixels, size_t pixels_length, uint16_t (*layout)[3], size_t layout_length,
                                  uint32_t *weights, size_t weights_length, uint32_t rounds, uint32_t budget, uint64_t *workspace,
                                  size_t workspace_length, uint64_t *sum, uint64_t *trials, uint64_t *moves);
 
 /* The whole program on a job text: fills the front of `output` with what `nest` prints for this input and `written` with how many bytes
- * that are, at most SIGBROL_OUTPUT. A job that is refused is told in that text. The workspace is used where the output buffer has room for
- * SIGBROL_OUTPUT bytes, so that no refusal comes after it was written.
+ * that are, at most SIGBROL_OUTPUT. Locked pieces lie where the start layout of the same job without locks has them. A job that is refused
+ * is told in that text. The workspace is used where the output buffer has room for SIGBROL_OUTPUT bytes, so that no refusal comes after it
+ * was written.
  * Refused: 7 the output buffer is shorter than the text. */
 sigbrol_reply sigbrol_program(const uint8_t *input, size_t input_length, uint8_t *output, size_t output_length, uint64_t *workspace,
                               size_t workspace_length, size_t *written);
@@ -372,20 +403,20 @@ typedef uint16_t sigbrol_record[SIGBROL_PIECES][4];
 
 /* A fresh sheet: fills the record, nothing laid, and the counts, W x L zeros; pixel (x, y) has the count at y x L + x.
  * Refused: 8 the job; 7 not W x L counts. */
-sigbrol_reply sigbrol_fresh(size_t rows, size_t columns, size_t count, size_t gap, const uint8_t (*table)[3], size_t table_length,
+sigbrol_reply sigbrol_fresh(size_t rows, size_t columns, size_t count, size_t gap, const uint8_t (*table)[4], size_t table_length,
                             const uint8_t *pixels, size_t pixels_length, uint16_t (*record)[4], uint8_t *counts, size_t counts_length);
 
 /* Lays a piece: its entry of the record becomes {1, turn, x, y}, and each pixel that it covers counts one more, whatever the gap is.
  * Laid pieces may share pixels: a count above 1 says where.
  * Refused: 8 the job; 7 not W x L counts; 8 a record or counts that no list of calls gives; 9 no such piece, or a turn that is not
  * allowed; 13 laid already; 10 outside. */
-sigbrol_reply sigbrol_lay(size_t rows, size_t columns, size_t count, size_t gap, const uint8_t (*table)[3], size_t table_length,
+sigbrol_reply sigbrol_lay(size_t rows, size_t columns, size_t count, size_t gap, const uint8_t (*table)[4], size_t table_length,
                           const uint8_t *pixels, size_t pixels_length, uint16_t (*record)[4], uint8_t *counts, size_t counts_length,
                           size_t piece, uint16_t turn, uint16_t x, uint16_t y);
 
 /* Withdraws a piece: its entry becomes {0, 0, 0, 0}, and each pixel that it covered counts one less.
- * Refused: 8 the job; 7 not W x L counts; 8 a record or counts that no list of calls gives; 9 no such piece; 14 not laid. */
-sigbrol_reply sigbrol_withdraw(size_t rows, size_t columns, size_t count, size_t gap, const uint8_t (*table)[3], size_t table_length,
+ * Refused: 8 the job; 7 not W x L counts; 8 a record or counts that no list of calls gives; 9 no such piece; 14 not laid; 15 locked. */
+sigbrol_reply sigbrol_withdraw(size_t rows, size_t columns, size_t count, size_t gap, const uint8_t (*table)[4], size_t table_length,
                                const uint8_t *pixels, size_t pixels_length, uint16_t (*record)[4], uint8_t *counts,
                                size_t counts_length, size_t piece);
 

@@ -145,9 +145,9 @@ def pixels(shape):
     return sum(row.count("#") for row in shape)
 
 
-def piece_text(number, shape, turns):
-    """The lines of one piece."""
-    lines = ["piece,%d,%d,%d,%d" % (number, len(shape[0]), len(shape), turns)]
+def piece_text(number, shape, turns, end=""):
+    """The lines of one piece, the first with what it has behind the turns."""
+    lines = ["piece,%d,%d,%d,%d%s" % (number, len(shape[0]), len(shape), turns, end)]
     return "\n".join(lines + ["row," + row for row in shape]) + "\n"
 
 
@@ -158,6 +158,19 @@ def job_text(rows, columns, pieces, gap=None):
     else:
         text = "job,2,%d,%d,%d,%d\n" % (rows, columns, len(pieces), gap)
     return text + "".join(piece_text(k, shape, turns) for k, (shape, turns) in enumerate(pieces))
+
+
+def lock_text(rows, columns, pieces, locked, gap=0):
+    """The text of a job of version 3; the pieces of the given numbers are locked."""
+    text = "job,3,%d,%d,%d,%d\n" % (rows, columns, len(pieces), gap)
+    for k, (shape, turns) in enumerate(pieces):
+        text += piece_text(k, shape, turns, ",1" if k in locked else ",0")
+    return text
+
+
+def longest(pieces, count):
+    """The numbers of the longest pieces, of equal ones those that come first, which a start stacks first."""
+    return sorted(range(len(pieces)), key=lambda k: -len(pieces[k][0][0]))[:count]
 
 
 def write(name, text):
@@ -188,6 +201,13 @@ def hole_rings():
     return [
         (ring(12, 12, 70), 1), (disc(8, 8), 1), (ring(8, 8, 50), 1), (disc(4, 4), 1),
         (frame(8, 10, 2), 3), (full(4, 6), 1), (disc(3, 3), 1)]
+
+
+def start_order():
+    """Pieces of equal lengths and of several, for the order of the start layout."""
+    return [
+        (full(2, 3), 1), (full(4, 2), 1), (full(4, 3), 1), (full(6, 2), 1), (full(2, 2), 1),
+        (full(4, 2), 1), (full(1, 7), 1), (full(6, 3), 1), (full(2, 4), 1)]
 
 
 def small_jobs():
@@ -229,9 +249,7 @@ def small_jobs():
     write("piece-255-upright", job_text(256, 64, [
         (full(1, 255), 1), (full(20, 255), 5), (frame(24, 250, 3), 1), (ring(20, 60, 50), 15),
         (sail(18, 200, 5, 4), 5), (disc(12, 30), 3)]))
-    write("start-order", job_text(7, 12, [
-        (full(2, 3), 1), (full(4, 2), 1), (full(4, 3), 1), (full(6, 2), 1), (full(2, 2), 1),
-        (full(4, 2), 1), (full(1, 7), 1), (full(6, 3), 1), (full(2, 4), 1)]))
+    write("start-order", job_text(7, 12, start_order()))
     # The run ends with no piece at the sheet's left edge.
     write("free-left-clear", job_text(3, 7, [(["##.##", "#..#."], 15), (["##.#", "#.#."], 5)]))
     write("free-left-turned", job_text(3, 10, [
@@ -293,6 +311,37 @@ def gap_jobs():
     write("gap-8-large", job_text(180, 364, real_large()[:40], 8))
 
 
+def lock_jobs():
+    """Jobs with locks."""
+    squares = [(SQUARE, 1)] * 2
+    write("lock-none", lock_text(12, 28, hole_rings(), []))
+    # The free square is stacked from the left: it lies beside the locked one, or on it.
+    write("lock-last", lock_text(2, 4, squares, [1]))
+    write("lock-first", lock_text(2, 4, squares, [0]))
+    write("lock-last-open", lock_text(2, 3, squares, [1]))
+    write("lock-all-clear", lock_text(2, 4, squares, [0, 1]))
+    write("lock-all-open", lock_text(2, 3, squares, [0, 1]))
+    write("lock-start-order", lock_text(7, 12, start_order(), [2, 3, 6]))
+    # Locked pieces have turns, but no trials.
+    write("lock-turns", lock_text(8, 14, [
+        (angle(4, 3, 1, 1), 15), (angle(3, 5, 1, 1), 15), (["###", ".#.", ".#."], 7),
+        (["##.", ".##"], 11), (["#...", "####"], 9), (wedge(4, 5), 13)], [0, 3]))
+    # The pixels go around a locked ring and into its hole.
+    write("lock-ring-pixels", lock_text(5, 6, [(frame(5, 5, 1), 1)] + [(PIXEL, 1)] * 6, [0]))
+    # A gap to a locked piece is kept; two locked pieces within the gap stay there.
+    three = [(full(4, 3), 1), (full(3, 3), 5), (full(2, 3), 5)]
+    write("lock-gap", lock_text(3, 13, three, [0], 2))
+    write("lock-gap-open", lock_text(3, 13, three, [0, 1], 2))
+    write("lock-64", lock_text(16, 60, [
+        (angle(2 + k % 4, 2 + k % 3, 1, 1), 1 + 2 * (k % 8)) for k in range(64)], range(0, 64, 2)))
+    # A table that is half cut: the first stacks of a start are under the knife, the rest is laid anew.
+    random = Random(107)
+    pieces = [(mixed_shape(random), random.pick([1, 5, 5, 15])) for _ in range(28)]
+    write("lock-half-cut", lock_text(120, 150, pieces, longest(pieces, 12)))
+    # The two very large pieces of a real-sized job and some others are locked.
+    write("lock-large", lock_text(180, 256, real_large(), longest(real_large(), 9)))
+
+
 def damaged_jobs():
     """Jobs that are refused, by the number of the cause."""
     good = job_text(4, 6, [(angle(3, 2, 1, 1), 5), (SQUARE, 3)])
@@ -305,8 +354,8 @@ def damaged_jobs():
     write("refused-1-missing-row", good[: good.rindex("row,")])
     write("refused-1-missing-piece", good[: good.index("piece,1")])
     write("refused-1-carriage-return", good.replace("\n", "\r\n"))
-    change("1-version", "job,1,", "job,3,")
-    change("1-version-with-gap", "job,1,4,6,2", "job,3,4,6,2,1")
+    change("1-version", "job,1,", "job,4,")
+    change("1-version-with-gap", "job,1,4,6,2", "job,4,4,6,2,1")
     change("1-gap-missing", "job,1,4,6,2", "job,2,4,6,2")
     change("1-gap-too-many", "job,1,4,6,2", "job,1,4,6,2,1")
     change("1-gap-twice", "job,1,4,6,2", "job,2,4,6,2,1,1")
@@ -341,6 +390,20 @@ def damaged_jobs():
     change("5-loose-column", "row,###", "row,##.")
     change("6-too-long", "piece,1,2,2,3", "piece,1,7,2,3")
     change("6-too-wide", "piece,1,2,2,3", "piece,1,2,5,3")
+    locked = lock_text(4, 6, [(angle(3, 2, 1, 1), 5), (SQUARE, 3)], [0])
+    spell = lambda name, old, new: write("refused-" + name, locked.replace(old, new, 1))
+    assert locked.count("piece,0,3,2,5,1\n") == 1 and locked.count("piece,1,2,2,3,0\n") == 1
+    spell("1-lock-missing", "piece,1,2,2,3,0", "piece,1,2,2,3")
+    spell("1-lock-empty", "piece,1,2,2,3,0", "piece,1,2,2,3,")
+    spell("1-lock-twice", "piece,1,2,2,3,0", "piece,1,2,2,3,0,0")
+    spell("1-lock-leading-zero", "piece,0,3,2,5,1", "piece,0,3,2,5,01")
+    spell("1-lock-in-version-1", "job,3,4,6,2,0", "job,1,4,6,2")
+    spell("1-lock-in-version-2", "job,3,4,6,2,0", "job,2,4,6,2,0")
+    spell("1-lock-without-gap", "job,3,4,6,2,0", "job,3,4,6,2")
+    spell("2-lock", "piece,1,2,2,3,0", "piece,1,2,2,3,2")
+    spell("2-lock-before-size", "piece,1,2,2,3,0", "piece,1,7,2,3,2")
+    spell("2-lock-gap-9", "job,3,4,6,2,0", "job,3,4,6,2,9")
+    spell("6-lock-too-long", "piece,1,2,2,3,0", "piece,1,7,2,3,1")
 
 
 def sized_job(size):
@@ -452,6 +515,7 @@ if __name__ == "__main__":
     small_jobs()
     cut_jobs()
     gap_jobs()
+    lock_jobs()
     damaged_jobs()
     write("limit-65536-bytes", sized_job(65536))
     write("refused-7-65537-bytes", sized_job(65537))

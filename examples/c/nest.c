@@ -1,6 +1,6 @@
 /* Nests the pieces of a job round by round through sigbrol.h. Reads the job text from standard input, tells the progress on standard
- * error, at the end what moves by hand would come to and, where the layout is clear, the length of its cut list, and prints the best
- * layout and how the search ended, as the program `nest` does in one go. */
+ * error, at the end what moves by hand would come to, how the rest is laid anew once half of the layout is under the knife and, where the
+ * layout is clear, the length of its cut list, and prints the best layout and how the search ended, as the program `nest` does in one go. */
 #include <inttypes.h>
 #include <stdio.h>
 #include <stdlib.h>
@@ -10,6 +10,9 @@
 
 #define ROUNDS 20
 #define BUDGET 1000
+
+/* Rounds in which the rest of a table that is half cut is laid anew. */
+#define ROUNDS_OF_THE_REST 3
 
 /* The side of a pixel in sixty-fourths of a millimetre: 1.5 mm. */
 #define PITCH 96
@@ -54,10 +57,23 @@ static void fill_unit_weights(const sigbrol_job *job, uint32_t *weights)
     }
 }
 
+/* Fills the start layout. A job that is read with locks comes without placements: its locked pieces lie where a start of all pieces has
+ * them. */
+static void fill_start(const sigbrol_job *job, uint16_t (*layout)[3])
+{
+    static sigbrol_job all_free;
+    all_free = *job;
+    for (size_t piece = 0; piece < job->count; piece++) {
+        all_free.table[piece][3] = SIGBROL_FREE;
+    }
+    must("sigbrol_start", sigbrol_start(SIGBROL_LENT(&all_free), layout, job->count));
+    must("sigbrol_start", sigbrol_start(SIGBROL_LENT(job), layout, job->count));
+}
+
 /* The start layout with unit weights, which is the best one so far. */
 static void begin(const sigbrol_job *job, search *s)
 {
-    must("sigbrol_start", sigbrol_start(SIGBROL_LENT(job), s->layout, job->count));
+    fill_start(job, s->layout);
     fill_unit_weights(job, s->weights);
     memcpy(s->best, s->layout, sizeof s->best);
     s->best_sum = plain_sum(job, s->layout);
@@ -165,12 +181,65 @@ static void tell_moves(const sigbrol_job *job, search *s, size_t used)
     fprintf(stderr, "preview: %zu of %zu pieces can go one column left, used length %zu at best\n", pieces, job->count, least);
 }
 
+/* Locks every piece of a layout that begins left of a column: from the cutter's station, since the planner's may not. */
+static void lock_left_of(sigbrol_job *job, uint16_t (*layout)[3], size_t knife)
+{
+    for (size_t piece = 0; piece < job->count; piece++) {
+        if (layout[piece][1] < knife) {
+            sigbrol_reply reply = sigbrol_set_lock(SIGBROL_LENT_TO_LOCK(job), piece, SIGBROL_PLANNER);
+            if (reply.number != SIGBROL_NOT_THE_CUTTER) {
+                fprintf(stderr, "the planner's station is not refused\n");
+                exit(EXIT_FAILURE);
+            }
+            must("sigbrol_set_lock", sigbrol_set_lock(SIGBROL_LENT_TO_LOCK(job), piece, SIGBROL_CUTTER));
+        }
+    }
+}
+
+/* Tells how the rest is laid anew once the knife is at the middle of the used length: the pieces that begin left of it are locked, in a copy
+ * of the job, the free ones are stacked anew, and a guided run finds places for them. What is locked stays where it lies. */
+static void tell_half_cut(const sigbrol_job *job, search *s, size_t used)
+{
+    static sigbrol_job half;
+    uint16_t layout[SIGBROL_PIECES][3];
+    uint32_t weights[SIGBROL_PAIRS(SIGBROL_PIECES)];
+    uint64_t sum = 0, trials = 0, moves = 0;
+    half = *job;
+    memcpy(layout, s->best, sizeof layout);
+    size_t first = layout[0][1], locked = 0;
+    for (size_t piece = 0; piece < job->count; piece++) {
+        first = layout[piece][1] < first ? layout[piece][1] : first;
+    }
+    lock_left_of(&half, layout, first + (used + 1) / 2);
+    must("sigbrol_start", sigbrol_start(SIGBROL_LENT(&half), layout, half.count));
+    fill_unit_weights(&half, weights);
+    must("sigbrol_guided_run",
+         sigbrol_guided_run(SIGBROL_LENT(&half), layout, half.count, weights, SIGBROL_PAIRS(half.count), ROUNDS_OF_THE_REST, BUDGET,
+                            workspace, SIGBROL_WORKSPACE, &sum, &trials, &moves));
+
+    for (size_t piece = 0; piece < half.count; piece++) {
+        if (half.table[piece][3] == SIGBROL_LOCKED) {
+            locked++;
+            if (memcmp(layout[piece], s->best[piece], sizeof layout[piece]) != 0) {
+                fprintf(stderr, "piece %zu is locked and was moved\n", piece);
+                exit(EXIT_FAILURE);
+            }
+        }
+    }
+    must("sigbrol_used_length", sigbrol_used_length(SIGBROL_LENT(&half), SIGBROL_PLACES(layout), half.count, &used));
+    fprintf(stderr,
+            "half cut: %zu of %zu pieces locked, the rest laid anew: plain sum %" PRIu64 ", %" PRIu64 " trials, %" PRIu64
+            " moves, used length %zu\n",
+            locked, half.count, sum, trials, moves, used);
+}
+
 /* Prints the best layout and the last line. A layout that is called clear has passed the check before. */
 static void print_best(const sigbrol_job *job, search *s)
 {
     size_t used = 0;
     must("sigbrol_used_length", sigbrol_used_length(SIGBROL_LENT(job), SIGBROL_PLACES(s->best), job->count, &used));
     tell_moves(job, s, used);
+    tell_half_cut(job, s, used);
     if (s->best_sum == 0) {
         must("sigbrol_check", sigbrol_check(SIGBROL_LENT(job), SIGBROL_PLACES(s->best), job->count));
         tell_cut_list(job, s->best);

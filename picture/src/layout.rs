@@ -8,7 +8,7 @@ use second::layout;
 
 use crate::grid::Grid;
 
-/// A piece where it lies: its turned pixels and the corner of its turned box.
+/// A piece where it lies: its turned pixels and the corner of its turned box, and whether it is locked.
 pub struct Placed {
     pub grid: Grid,
     /// The same widened by the gap; its corner lies a gap lower and further left.
@@ -16,6 +16,7 @@ pub struct Placed {
     pub degrees: usize,
     pub x: usize,
     pub y: usize,
+    pub locked: bool,
 }
 
 /// A sheet with pieces on it.
@@ -89,6 +90,7 @@ fn placed(job: &Job, places: &[layout::Placement]) -> Vec<Placed> {
             degrees: place.turn.degrees(),
             x: place.x,
             y: place.y,
+            locked: piece.locked,
         }
     });
     placed.collect()
@@ -167,6 +169,21 @@ mod tests {
         );
         assert_eq!(layout_with_gap(0, text).conflicts().count(), 0);
         assert_eq!(layout_with_gap(8, text).conflicts().count(), 6);
+    }
+
+    #[test]
+    fn locks_are_those_of_the_job() {
+        let locked = |job: &str| {
+            let text = "layout,1,2,4,2\nat,0,0,0,0\nat,1,0,2,0\n";
+            let layout = read(job.as_bytes(), text.as_bytes()).expect("job and layout are right");
+            layout.pieces.iter().map(|piece| piece.locked).collect()
+        };
+        let older: Vec<bool> = locked(&job());
+        assert_eq!(older, [false, false]);
+        let job = job().replacen("job,1,2,4,2\n", "job,3,2,4,2,0\n", 1);
+        let job = job.replace("piece,0,2,2,5", "piece,0,2,2,5,0");
+        let job = job.replace("piece,1,2,2,5", "piece,1,2,2,5,1");
+        assert_eq!(locked(&job), [false, true]);
     }
 
     #[test]

@@ -48,6 +48,7 @@ pub fn draw(layout: &Layout, cut: bool) -> String {
         format!("<rect width=\"{width}\" height=\"{height}\" fill=\"#ffffff\"/>\n"),
         picture.sheet(),
         picture.pieces(),
+        picture.frames(),
         picture.bands(),
         picture.conflicting_pixels(),
         picture.piece_numbers(),
@@ -99,14 +100,24 @@ impl Picture<'_> {
         } else {
             String::new()
         };
+        let locked = match self.locked().count() {
+            0 => String::new(),
+            locked => format!(", {locked} locked"),
+        };
         format!(
-            "{}, {} by {}, used length {}, {}{cut}",
+            "{}{locked}, {} by {}, used length {}, {}{cut}",
             counted(self.layout.pieces.len(), "piece"),
             counted(self.layout.rows, "row"),
             counted(self.layout.columns, "column"),
             self.layout.used_columns.len(),
             self.conflicts_in_words(),
         )
+    }
+
+    /// The locked pieces and their numbers.
+    fn locked(&self) -> impl Iterator<Item = (usize, &Placed)> {
+        let pieces = self.layout.pieces.iter().enumerate();
+        pieces.filter(|(_, piece)| piece.locked)
     }
 
     /// The gap, where there is one, and how many pixels are in conflict.
@@ -166,8 +177,9 @@ impl Picture<'_> {
     fn pieces(&self) -> String {
         let piece = |(number, piece): (usize, &Placed)| {
             let colours = colours(number);
+            let locked = if piece.locked { ", locked" } else { "" };
             format!(
-                "<path fill=\"{}\" stroke=\"{}\" d=\"{}\"><title>piece {number}, turn {}, corner ({}, {})</title></path>\n",
+                "<path fill=\"{}\" stroke=\"{}\" d=\"{}\"><title>piece {number}, turn {}, corner ({}, {}){locked}</title></path>\n",
                 colours.fill,
                 colours.outline,
                 self.path(&piece.grid, piece.x, piece.y),
@@ -178,6 +190,20 @@ impl Picture<'_> {
         };
         let pieces: String = self.layout.pieces.iter().enumerate().map(piece).collect();
         format!("<g fill-rule=\"evenodd\" fill-opacity=\"0.85\" stroke-linejoin=\"round\">\n{pieces}</g>\n")
+    }
+
+    /// A dark frame along the inner side of each locked piece's outline.
+    fn frames(&self) -> String {
+        // Half of the line's width lies outside the piece, where it is cut off.
+        let width = self.scale.clamp(4, 12);
+        let frame = |(number, piece): (usize, &Placed)| {
+            let path = self.path(&piece.grid, piece.x, piece.y);
+            format!(
+                "<clipPath id=\"locked{number}\"><path clip-rule=\"evenodd\" d=\"{path}\"/></clipPath>\n\
+                 <path clip-path=\"url(#locked{number})\" fill=\"none\" stroke=\"#222222\" stroke-width=\"{width}\" d=\"{path}\"/>\n"
+            )
+        };
+        self.locked().map(frame).collect()
     }
 
     /// Where there is a gap, a thin line around the pixels at most the gap from each piece: no pixel of another may lie within.
@@ -392,6 +418,38 @@ mod tests {
         );
         assert!(missed.contains("url(#shared)"));
         assert_eq!(missed.matches("stroke-dasharray=\"4 3\"").count(), 1);
+    }
+
+    #[test]
+    fn locked_pieces_have_a_dark_frame() {
+        let pieces = |first: u8, second: u8| {
+            let corner = format!("piece,0,2,2,15,{first}\nrow,##\nrow,#.\n");
+            format!("{corner}piece,1,2,2,1,{second}\nrow,##\nrow,##\n")
+        };
+        let draw_with = |first: u8, second: u8| {
+            let job = format!("job,3,10,12,2,0\n{}", pieces(first, second));
+            let text = "layout,1,10,12,2\nat,0,0,0,0\nat,1,0,3,0\n";
+            let layout = layout::read(job.as_bytes(), text.as_bytes());
+            draw(&layout.expect("job and layout are right"), false)
+        };
+        let free = picture("at,0,0,0,0\nat,1,0,3,0\n");
+        assert_eq!(draw_with(0, 0), free);
+        assert!(!free.contains("locked"));
+        let one = draw_with(0, 1);
+        assert!(one.contains("<title>2 pieces, 1 locked, 10 rows by 12 columns, used length 5, "));
+        assert!(one.contains("<title>piece 0, turn 0, corner (0, 0)</title>"));
+        assert!(one.contains("<title>piece 1, turn 0, corner (3, 0), locked</title>"));
+        // The frame goes along the square's outline, and no further than the square.
+        let square = "d=\"M314 934h180v-180h-180z\"/>";
+        let clip =
+            format!("<clipPath id=\"locked1\"><path clip-rule=\"evenodd\" {square}</clipPath>");
+        assert!(one.contains(&clip), "{one}");
+        let frame = format!(
+            "<path clip-path=\"url(#locked1)\" fill=\"none\" stroke=\"#222222\" stroke-width=\"12\" {square}"
+        );
+        assert!(one.contains(&frame), "{one}");
+        assert!(draw_with(1, 1).contains("2 pieces, 2 locked, "));
+        assert_eq!(draw_with(1, 1).matches("<clipPath ").count(), 2);
     }
 
     #[test]

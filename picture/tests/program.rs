@@ -56,6 +56,14 @@ fn every_layout_of_the_examples_is_drawn() {
         );
         let pieces = text.matches("\nat,").count();
         assert_eq!(picture.matches("<title>piece ").count(), pieces, "{job:?}");
+        let read = job::read(&fs::read(&job).expect("the job is there")).expect("a right job");
+        let locked = read.pieces.iter().filter(|piece| piece.locked).count();
+        assert_eq!(
+            picture.matches(", locked</title>").count(),
+            locked,
+            "{job:?}"
+        );
+        assert_eq!(picture.matches("<clipPath ").count(), locked, "{job:?}");
     }
 }
 

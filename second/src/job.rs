@@ -8,6 +8,10 @@ pub const MAX_AREA: usize = 65_536;
 /// Largest gap that a job may ask for.
 pub const MAX_GAP: usize = 8;
 
+/// What the lock of a piece says: it is free, or locked.
+pub const FREE: usize = 0;
+pub const LOCKED: usize = 1;
+
 /// A refused text: the number of the cause and the line, from 1.
 #[derive(Clone, Copy, Debug, PartialEq, Eq)]
 pub struct Refusal {
@@ -15,17 +19,22 @@ pub struct Refusal {
     pub line: usize,
 }
 
-/// A piece: its pixels in turn 0 and the turns that it may take.
+/// A piece: its pixels in turn 0, the turns that it may take, and whether it is locked: under the knife, so that no run shifts it.
 #[derive(Clone, Debug)]
 pub struct Piece {
     pub shape: Shape,
     turn_sum: usize,
+    pub locked: bool,
 }
 
 impl Piece {
     /// A piece whose allowed turns are given as the sum of 1, 2, 4, 8.
-    pub fn new(shape: Shape, turn_sum: usize) -> Piece {
-        Piece { shape, turn_sum }
+    pub fn new(shape: Shape, turn_sum: usize, locked: bool) -> Piece {
+        Piece {
+            shape,
+            turn_sum,
+            locked,
+        }
     }
 
     /// The allowed turns as the sum of 1, 2, 4, 8.
@@ -67,6 +76,7 @@ impl Job {
 pub fn read(text: &[u8]) -> Result<Job, Refusal> {
     let mut lines = Lines::new(text);
     let JobHeader {
+        version,
         rows,
         columns,
         count,
@@ -80,7 +90,7 @@ pub fn read(text: &[u8]) -> Result<Job, Refusal> {
     };
     let mut area = 0;
     for index in 0..count {
-        let header = read_piece_line(&mut lines, &job, index, &mut area)?;
+        let header = read_piece_line(&mut lines, version, &job, index, &mut area)?;
         job.pieces.push(read_rows(&mut lines, header)?);
     }
     lines.expect_end()?;
@@ -130,8 +140,11 @@ impl<'a> Lines<'a> {
         }
     }
 
-    /// Takes a line of a word and four number fields.
-    pub(crate) fn take_numbers(&mut self, word: &[u8]) -> Result<[usize; 4], Refusal> {
+    /// Takes a line of a word and so many number fields.
+    pub(crate) fn take_numbers<const COUNT: usize>(
+        &mut self,
+        word: &[u8],
+    ) -> Result<[usize; COUNT], Refusal> {
         let line = self.take()?;
         numbers(line, word).ok_or_else(|| self.refuse(1))
     }
@@ -170,23 +183,21 @@ fn number(field: &[u8]) -> Option<usize> {
 
 /// What the first line says of the job.
 struct JobHeader {
+    version: usize,
     rows: usize,
     columns: usize,
     count: usize,
     gap: usize,
 }
 
-/// The first line of either version, if it has that version's number of fields.
+/// The first line of any version, if it has that version's number of fields: version 1 has no gap, versions 2 and 3 have one.
 fn job_header(line: &[u8]) -> Option<JobHeader> {
-    let (rows, columns, count, gap) = if let Some([1, rows, columns, count]) = numbers(line, b"job")
-    {
-        (rows, columns, count, 0)
-    } else if let Some([2, rows, columns, count, gap]) = numbers(line, b"job") {
-        (rows, columns, count, gap)
-    } else {
-        return None;
+    let [version, rows, columns, count, gap] = match numbers(line, b"job") {
+        Some([1, rows, columns, count]) => [1, rows, columns, count, 0],
+        _ => numbers(line, b"job").filter(|fields: &[usize; 5]| [2, 3].contains(&fields[0]))?,
     };
     Some(JobHeader {
+        version,
         rows,
         columns,
         count,
@@ -211,21 +222,29 @@ struct PieceHeader {
     columns: usize,
     rows: usize,
     turn_sum: usize,
+    locked: bool,
 }
 
-/// Reads a piece line and adds its box to the area so far.
+/// Reads a piece line and adds its box to the area so far. In version 3 it has a sixth field, the lock.
 fn read_piece_line(
     lines: &mut Lines,
+    version: usize,
     job: &Job,
     index: usize,
     area: &mut usize,
 ) -> Result<PieceHeader, Refusal> {
-    let [number, columns, rows, turn_sum] = lines.take_numbers(b"piece")?;
+    let [number, columns, rows, turn_sum, lock] = if version == 3 {
+        lines.take_numbers(b"piece")?
+    } else {
+        let [number, columns, rows, turn_sum] = lines.take_numbers(b"piece")?;
+        [number, columns, rows, turn_sum, FREE]
+    };
     let in_range = number == index
         && (1..=255).contains(&columns)
         && (1..=255).contains(&rows)
         && turn_sum <= 15
-        && turn_sum % 2 == 1;
+        && turn_sum % 2 == 1
+        && [FREE, LOCKED].contains(&lock);
     lines.require(in_range, 2)?;
     lines.require(columns <= job.columns && rows <= job.rows, 6)?;
     *area += columns * rows;
@@ -234,6 +253,7 @@ fn read_piece_line(
         columns,
         rows,
         turn_sum,
+        locked: lock == LOCKED,
     })
 }
 
@@ -250,5 +270,5 @@ fn read_rows(lines: &mut Lines, header: PieceHeader) -> Result<Piece, Refusal> {
     }
     let shape = Shape::new(header.columns, pixels);
     lines.require(shape.is_tight(), 5)?;
-    Ok(Piece::new(shape, header.turn_sum))
+    Ok(Piece::new(shape, header.turn_sum, header.locked))
 }

@@ -25,33 +25,47 @@ impl Placement {
     }
 }
 
-/// The start layout: columns of pieces by falling length, each filled from the bottom.
-pub fn start(job: &Job) -> Vec<Placement> {
-    let mut order: Vec<usize> = (0..job.pieces.len()).collect();
+/// The start layout, given where the locked pieces lie: the free ones are stacked as if they were alone.
+pub fn start(job: &Job, locked: impl Fn(usize) -> Placement) -> Vec<Placement> {
+    let is_free = |&index: &usize| !job.pieces[index].locked;
+    let mut stacked = stack(job, (0..job.pieces.len()).filter(is_free).collect()).into_iter();
+    let place = |(index, piece): (usize, &Piece)| {
+        if piece.locked {
+            locked(index)
+        } else {
+            stacked.next().expect("every free piece is stacked")
+        }
+    };
+    job.pieces.iter().enumerate().map(place).collect()
+}
+
+/// The start layout of a job that comes without placements: the locked pieces lie where a start of all pieces has them.
+pub fn own_start(job: &Job) -> Vec<Placement> {
+    let of_all = stack(job, (0..job.pieces.len()).collect());
+    start(job, |index| of_all[index])
+}
+
+/// Where some pieces, given by rising number, lie in stacks by falling length, each filled from the bottom.
+fn stack(job: &Job, pieces: Vec<usize>) -> Vec<Placement> {
+    let mut order: Vec<usize> = (0..pieces.len()).collect();
     // The sort is stable, so equally long pieces stay in the order of their numbers.
-    order.sort_by_key(|&index| Reverse(job.pieces[index].shape.columns()));
-    let mut layout = vec![
-        Placement {
-            turn: Turn::ALL[0],
-            x: 0,
-            y: 0
-        };
-        order.len()
-    ];
+    order.sort_by_key(|&k| Reverse(job.pieces[pieces[k]].shape.columns()));
+    let turn = Turn::ALL[0];
+    let mut places = vec![Placement { turn, x: 0, y: 0 }; pieces.len()];
     let (mut x, mut y, mut longest) = (0, 0, 0);
-    for index in order {
-        let shape = &job.pieces[index].shape;
+    for k in order {
+        let shape = &job.pieces[pieces[k]].shape;
         if y + shape.rows() > job.rows {
             x += longest;
             y = 0;
             longest = 0;
         }
-        layout[index].x = x.min(job.columns - shape.columns());
-        layout[index].y = y;
+        places[k].x = x.min(job.columns - shape.columns());
+        places[k].y = y;
         y += shape.rows();
         longest = longest.max(shape.columns());
     }
-    layout
+    places
 }
 
 /// The columns that the placed pieces take up, from the first that one of them begins in to the last that one of them ends in.

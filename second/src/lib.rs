@@ -1,4 +1,4 @@
-//! Nesting of pieces on a pixel sheet, as document 01 lays it down.
+//! Nesting of pieces on a pixel sheet, as document 01 lays it down and document 02 changes it.
 //!
 //! `job` reads the job text, `shape` turns pieces and makes strips, `nofit` finds the offsets at
 //! which two pieces overlap, `penalty` turns these into penalty maps, `search` moves the pieces,
@@ -45,7 +45,7 @@ fn read(input: &[u8]) -> Result<Job, Refusal> {
 
 /// Runs the guided search from the start layout and writes its result.
 fn nest(job: &Job) -> String {
-    let start = layout::start(job);
+    let start = layout::own_start(job);
     let unit_weights = vec![1; job.pair_count()];
     let guided = Search::new(job, start, &unit_weights).guided_run(ROUNDS, BUDGET);
     let word = if guided.plain_sum == 0 {

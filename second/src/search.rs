@@ -59,7 +59,7 @@ pub struct LinePlace {
 pub enum End {
     /// The sum is zero.
     Clear,
-    /// Every trial in turn was no move.
+    /// Every trial in turn was no move; where all pieces are locked there is none.
     Settled,
     /// The budget is used up.
     Spent,
@@ -300,10 +300,11 @@ impl<'a> Search<'a> {
     }
 }
 
-/// All trials of a job in their order.
+/// All trials of a job in their order; a locked piece has none.
 fn all_trials(job: &Job) -> Vec<Trial> {
     let mut trials = Vec::new();
-    for (piece, entry) in job.pieces.iter().enumerate() {
+    let pieces = job.pieces.iter().enumerate();
+    for (piece, entry) in pieces.filter(|(_, entry)| !entry.locked) {
         for turn in entry.turns() {
             trials.extend(Direction::ALL.map(|direction| Trial {
                 piece,

@@ -8,14 +8,14 @@ use second::calls::{self, Cause, Counts, Lent, Line, Move, Refusal, Stretch, Wei
 /// A job in buffers of its own.
 struct Buffers {
     numbers: [usize; 4],
-    table: Vec<[u8; 3]>,
+    table: Vec<[u8; 4]>,
     pixels: Vec<u8>,
 }
 
 impl Buffers {
     /// Reads a text; what lies beyond the job in the buffers is no part of it.
     fn read(text: &str) -> Buffers {
-        let (mut table, mut pixels) = (vec![[9; 3]; 64], vec![9; 65_536]);
+        let (mut table, mut pixels) = (vec![[9; 4]; 64], vec![9; 65_536]);
         let numbers = calls::read_job(text.as_bytes(), &mut table, &mut pixels);
         let numbers = numbers.expect("the text is that of a job");
         Buffers {
@@ -453,6 +453,153 @@ fn a_sheet_through_its_calls() {
     assert_eq!(on!(lay, 0, [0, 0, 0]), Err(Cause::Counts));
     record[2] = [1, 0, 0, 0];
     assert_eq!(on!(withdraw, 7), Err(Cause::Record));
+}
+
+/// The same job with some pieces locked.
+fn with_locks(mut job: Buffers, locks: &[u8]) -> Buffers {
+    for (entry, &lock) in job.table.iter_mut().zip(locks) {
+        entry[3] = lock;
+    }
+    job
+}
+
+#[test]
+fn locks_of_a_text_and_of_a_lent_table() {
+    let text =
+        "job,3,4,9,3,2\npiece,0,2,1,1,1\nrow,##\npiece,1,1,1,3,0\nrow,#\npiece,2,1,1,5,1\nrow,#\n";
+    let job = Buffers::read(text);
+    assert_eq!(job.numbers, [4, 9, 3, 2]);
+    assert_eq!(job.table[..3], [[2, 1, 1, 1], [1, 1, 3, 0], [1, 1, 5, 1]]);
+    assert_eq!(job.table[3], [9; 4]);
+    let older = Buffers::read("job,2,4,9,1,2\npiece,0,2,1,1\nrow,##\n");
+    assert_eq!(older.table[0], [2, 1, 1, 0]);
+    for lock in 0..=255 {
+        let job = with_locks(self::job(4, 9, &[A, B]), &[0, lock]);
+        let found = job.lent().job().map(|job| job.pieces[1].locked);
+        match lock {
+            0 | 1 => assert_eq!(found, Ok(lock == 1)),
+            _ => assert_eq!(found, Err(Cause::LentLock.into())),
+        }
+    }
+}
+
+#[test]
+fn setting_a_lock() {
+    let set = |locks: &[u8], piece: usize, station: usize| {
+        let job = with_locks(job(4, 9, &[A, B, E]), locks);
+        calls::set_lock(&job.lent(), piece, station).map_err(|refusal| refusal.cause)
+    };
+    assert_eq!(set(&[0, 0, 1], 1, calls::CUTTER), Ok([2, 2, 15, 1]));
+    assert_eq!(set(&[0, 0, 1], 2, calls::CUTTER), Ok([1, 1, 15, 1]));
+    for piece in 0..3 {
+        let refused = set(&[0, 0, 1], piece, calls::PLANNER);
+        assert_eq!(refused, Err(Cause::NotTheCutter));
+    }
+    for station in [2, 3, 256, 257, usize::MAX] {
+        assert_eq!(set(&[0, 0, 1], 1, station), Err(Cause::Station));
+        assert_eq!(set(&[0, 0, 1], 3, station), Err(Cause::Station));
+        assert_eq!(set(&[0, 0, 2], 3, station), Err(Cause::LentLock));
+    }
+    for station in [calls::PLANNER, calls::CUTTER] {
+        assert_eq!(set(&[0, 0, 1], 3, station), Err(Cause::NoPiece));
+        assert_eq!(set(&[0, 0, 1], usize::MAX, station), Err(Cause::NoPiece));
+    }
+}
+
+#[test]
+fn a_start_around_locked_pieces() {
+    let start = |locks: &[u8], given: &[[u16; 3]]| {
+        let job = with_locks(job(2, 9, &[A, A, &["#", "#"]]), locks);
+        let mut layout = given.to_vec();
+        let outcome = calls::start(&job.lent(), &mut layout);
+        assert!(outcome.is_ok() || layout == given);
+        outcome.map(|()| layout).map_err(|refusal| refusal.cause)
+    };
+    let junk = [45, 9_999, 9_999];
+    let all = [[0, 0, 0], [0, 2, 0], [0, 4, 0]];
+    assert_eq!(start(&[0, 0, 0], &[junk; 3]), Ok(all.to_vec()));
+    let around = [[0, 0, 0], [0, 5, 0], [0, 2, 0]];
+    assert_eq!(
+        start(&[0, 1, 0], &[junk, [0, 5, 0], junk]),
+        Ok(around.to_vec())
+    );
+    // The locked piece keeps its turn, and free ones may lie on it.
+    let on_it = [[180, 1, 0], [0, 0, 0], [0, 2, 0]];
+    assert_eq!(
+        start(&[1, 0, 0], &[[180, 1, 0], junk, junk]),
+        Ok(on_it.to_vec())
+    );
+    let given = [[90, 1, 0], [0, 1, 0], [90, 7, 1]];
+    assert_eq!(start(&[1, 1, 1], &given), Ok(given.to_vec()));
+    let far = [0, 8, 0];
+    assert_eq!(
+        start(&[0, 1, 0], &[junk, far, junk]),
+        Err(Cause::LockedOutside)
+    );
+    assert_eq!(
+        start(&[1, 0, 1], &[far, junk, junk]),
+        Err(Cause::LockedTurn)
+    );
+    assert_eq!(start(&[1, 0, 1], &[far, junk]), Err(Cause::LayoutLength));
+    assert_eq!(start(&[1, 0, 2], &[far, junk]), Err(Cause::LentLock));
+}
+
+#[test]
+fn a_sheet_with_locked_pieces() {
+    let job = with_locks(job(3, 3, &[A, B]), &[1, 0]);
+    let (mut record, mut counts) = ([[0; 4]; RECORD], [0; 9]);
+    macro_rules! on {
+        ($call:ident $(, $argument:expr)*) => {{
+            let sheet = Counts { record: &mut record, counts: &mut counts };
+            calls::$call(&job.lent(), sheet $(, $argument)*).map_err(|refusal| refusal.cause)
+        }};
+    }
+    assert_eq!(on!(withdraw, 0), Err(Cause::NotLaid));
+    assert_eq!(on!(lay, 0, [0, 1, 1]), Ok(()));
+    assert_eq!(on!(lay, 1, [90, 0, 0]), Ok(()));
+    assert_eq!(on!(lay, 0, [0, 0, 0]), Err(Cause::Laid));
+    assert_eq!(on!(withdraw, 0), Err(Cause::Locked));
+    assert_eq!(on!(withdraw, 2), Err(Cause::NoPiece));
+    assert_eq!(on!(withdraw, 1), Ok(()));
+    assert_eq!(counts, [0, 0, 0, 0, 1, 1, 0, 1, 1]);
+    assert_eq!(on!(withdraw, 1), Err(Cause::NotLaid));
+    counts[0] = 1;
+    assert_eq!(on!(withdraw, 0), Err(Cause::Counts));
+}
+
+#[test]
+fn calls_that_no_lock_changes() {
+    let free = job(4, 9, &[A, B, E]);
+    let locked = with_locks(job(4, 9, &[A, B, E]), &[1, 1, 1]);
+    let layout = [[0, 0, 0], [90, 1, 1], [0, 5, 3]];
+    let given = || Weighted {
+        layout: &layout,
+        weights: &[1, 2, 3],
+    };
+    let line = Line {
+        piece: 1,
+        turn: 0,
+        vertical: false,
+        held: 1,
+    };
+    let to = Move {
+        piece: 0,
+        turn: 0,
+        x: 3,
+        y: 2,
+    };
+    let [one, other] = [&free, &locked].map(|job| {
+        let lent = job.lent();
+        (
+            calls::line_search(&lent, given(), line),
+            calls::preview(&lent, given(), to),
+            calls::weighted_sum(&lent, given()),
+            calls::used_length(&lent, &layout),
+            calls::check(&lent, &layout),
+        )
+    });
+    assert!(one.0.is_ok());
+    assert_eq!(one, other);
 }
 
 /// The buffers of a layout.

@@ -1,4 +1,5 @@
-//! The marked examples P1 to P12 and the two examples of the program, those of them that a gap changes, and the largest depth and penalty.
+//! The marked examples P1 to P12 and the two examples of the program, those of them that a gap or a lock changes, and the largest depth and
+//! penalty.
 
 use second::job::{Job, Piece};
 use second::layout::{self, Placement};
@@ -46,7 +47,7 @@ fn at(degrees: usize, x: usize, y: usize) -> Placement {
 fn job(rows: usize, columns: usize, turn_sum: usize, shapes: Vec<Shape>) -> Job {
     let pieces = shapes
         .into_iter()
-        .map(|shape| Piece::new(shape, turn_sum))
+        .map(|shape| Piece::new(shape, turn_sum, false))
         .collect();
     Job {
         rows,
@@ -311,4 +312,65 @@ fn program_examples_with_a_gap() {
     assert_eq!(run(4, 1), open);
     let clear = "layout,1,2,5,2\nat,0,0,0,0\nat,1,0,3,0\nend,clear,0,3,1,5\n";
     assert_eq!(run(5, 1), clear);
+}
+
+/// The job text of such panels on a sheet of 2 rows, without a gap, with the lock of each.
+fn locked_squares(columns: usize, locks: &[u8]) -> String {
+    let square =
+        |(number, lock): (usize, &u8)| format!("piece,{number},2,2,1,{lock}\nrow,##\nrow,##\n");
+    let squares: String = locks.iter().enumerate().map(square).collect();
+    format!("job,3,2,{columns},{},0\n{squares}", locks.len())
+}
+
+#[test]
+fn program_examples_with_locks() {
+    let run = |columns, locks: &[u8]| second::run(locked_squares(columns, locks).as_bytes());
+    for columns in [3, 4] {
+        let without = second::run(two_squares(columns).as_bytes());
+        assert_eq!(run(columns, &[0, 0]), without);
+    }
+    // Both squares end where the start of all pieces has them. The second one, free, is stacked alone, lies on the locked first one and moves;
+    // a free square has two trials a round.
+    for (columns, locks, end) in [
+        (4, [0, 1], "clear,0,0,0,4"),
+        (4, [1, 0], "clear,0,1,1,4"),
+        (4, [1, 1], "clear,0,0,0,4"),
+        (3, [0, 1], "open,1,40,0,3"),
+        (3, [1, 0], "open,1,41,1,3"),
+        (3, [1, 1], "open,1,0,0,3"),
+    ] {
+        let right = columns - 2;
+        let layout = format!("layout,1,2,{columns},2\nat,0,0,0,0\nat,1,0,{right},0\n");
+        assert_eq!(run(columns, &locks), format!("{layout}end,{end}\n"));
+    }
+}
+
+#[test]
+fn descents_with_locks() {
+    let mut job = job(2, 9, 1, vec![a(), a(), a()]);
+    let mut descent = |locks: [bool; 3], columns: [usize; 3], budget| {
+        for (piece, locked) in job.pieces.iter_mut().zip(locks) {
+            piece.locked = locked;
+        }
+        let mut search = Search::new(&job, columns.map(|x| at(0, x, 0)).to_vec(), &[1; 3]);
+        let Descent {
+            end, trials, moves, ..
+        } = search.descent(budget);
+        let columns: Vec<usize> = search.layout().iter().map(|place| place.x).collect();
+        (end, trials, moves, columns)
+    };
+    let given = [0, 1, 4];
+    let free = [false; 3];
+    assert_eq!(descent(free, given, 9), (End::Clear, 1, 1, vec![6, 1, 4]));
+    let first = [true, false, false];
+    assert_eq!(descent(first, given, 9), (End::Clear, 1, 1, vec![0, 2, 4]));
+    let both = [true, true, false];
+    let stays = given.to_vec();
+    assert_eq!(descent(both, given, 9), (End::Settled, 2, 0, stays.clone()));
+    for budget in [0, 9] {
+        let settled = (End::Settled, 0, 0, stays.clone());
+        assert_eq!(descent([true; 3], given, budget), settled);
+    }
+    let clear = (End::Clear, 0, 0, vec![0, 2, 4]);
+    assert_eq!(descent([true; 3], [0, 2, 4], 0), clear);
 }

@@ -175,8 +175,8 @@ fn penalty_of_the_largest_full_pieces() {
     assert_eq!(bar.depth(Direction::Vertical, 254, 0), 1);
     let full = second::shape::Shape::new(255, vec![true; 255 * 255]);
     let pieces = vec![
-        second::job::Piece::new(full.clone(), 1),
-        second::job::Piece::new(full, 1),
+        second::job::Piece::new(full.clone(), 1, false),
+        second::job::Piece::new(full, 1, false),
     ];
     let maps = PenaltyMaps::new(&Job {
         rows: 255,
@@ -290,11 +290,11 @@ fn line_searches() {
     }
 }
 
-#[test]
-fn descents() {
-    let mut lcg = Lcg(7);
+/// Compares descents of crowded jobs, which may be changed first.
+fn check_descents(lcg: &mut Lcg, change: fn(&mut Lcg, Problem) -> Problem) {
     for _ in 0..80 {
         let problem = lcg.crowded_problem(6, 4);
+        let problem = change(lcg, problem);
         let job = job_of(&problem);
         let (mut layout, weights) = (lcg.layout(&problem), lcg.weights(&problem));
         let budget = lcg.range(0, 90) as u64;
@@ -316,10 +316,16 @@ fn descents() {
 }
 
 #[test]
-fn guided_runs() {
-    let mut lcg = Lcg(8);
+fn descents() {
+    check_descents(&mut Lcg(7), |_, problem| problem);
+    check_descents(&mut Lcg(14), Lcg::locked);
+}
+
+/// Compares guided runs of crowded jobs, which may be changed first.
+fn check_guided_runs(lcg: &mut Lcg, change: fn(&mut Lcg, Problem) -> Problem) {
     for _ in 0..40 {
         let problem = lcg.crowded_problem(6, 4);
+        let problem = change(lcg, problem);
         let job = job_of(&problem);
         let (layout, weights) = (lcg.layout(&problem), lcg.weights(&problem));
         let (rounds, budget) = (lcg.range(1, 8) as usize, lcg.range(0, 60) as u64);
@@ -332,10 +338,63 @@ fn guided_runs() {
 }
 
 #[test]
+fn guided_runs() {
+    check_guided_runs(&mut Lcg(8), |_, problem| problem);
+    check_guided_runs(&mut Lcg(15), Lcg::locked);
+}
+
+#[test]
+fn locked_panels_stay() {
+    let mut lcg = Lcg(17);
+    let (mut with_moves, mut all_locked) = (0, 0);
+    for _ in 0..80 {
+        let problem = lcg.crowded_problem(6, 4);
+        let problem = lcg.locked(problem);
+        let job = job_of(&problem);
+        let given = placements(&lcg.layout(&problem));
+        let weights = vec![1; job.pair_count()];
+        let run = Search::new(&job, given.clone(), &weights).guided_run(9, 200);
+        for ((piece, before), after) in job.pieces.iter().zip(&given).zip(&run.best) {
+            assert!(!piece.locked || before == after);
+        }
+        with_moves += i32::from(run.moves > 0 && job.pieces.iter().any(|piece| piece.locked));
+        if job.pieces.iter().all(|piece| piece.locked) {
+            assert_eq!((run.trials, run.moves), (0, 0));
+            let open = Search::new(&job, given, &weights).descent(0);
+            all_locked += i32::from(open.end == End::Settled);
+        }
+    }
+    assert!(
+        with_moves > 10 && all_locked > 5,
+        "{with_moves}, {all_locked}"
+    );
+}
+
+#[test]
+fn starts_around_locked_panels() {
+    let mut lcg = Lcg(18);
+    for _ in 0..300 {
+        let problem = lcg.problem(6, 5);
+        let problem = lcg.locked(problem);
+        let (job, given) = (job_of(&problem), lcg.layout(&problem));
+        let found = layout::start(&job, |index| placement(&given[index]));
+        assert_eq!(found, placements(&problem.start(&given)));
+        assert_eq!(layout::own_start(&job), placements(&problem.own_start()));
+    }
+}
+
+#[test]
 fn whole_program() {
     let mut lcg = Lcg(9);
     for _ in 0..30 {
         for problem in [lcg.problem(5, 3), lcg.crowded_problem(6, 4)] {
+            assert_eq!(second::run(problem.text().as_bytes()), problem.output());
+        }
+    }
+    let mut lcg = Lcg(16);
+    for _ in 0..30 {
+        for problem in [lcg.problem(5, 3), lcg.crowded_problem(6, 4)] {
+            let problem = lcg.locked(problem);
             assert_eq!(second::run(problem.text().as_bytes()), problem.output());
         }
     }

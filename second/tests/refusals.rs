@@ -66,7 +66,12 @@ fn wrong_form_of_the_job_line() {
         "job,2,9,8,2,x",
         "job,02,9,8,2,1",
         "job,3,9,8,2",
-        "job,3,9,8,2,1",
+        "job,3,9,8,2,",
+        "job,3,9,8,2,1,1",
+        "job,03,9,8,2,1",
+        "job,4,9,8,2",
+        "job,4,9,8,2,1",
+        "job,259,9,8,2,1",
         "job,0,9,8,2,1",
         "job,258,9,8,2,1",
         "job,2,9,8,2",
@@ -100,7 +105,8 @@ fn wrong_form_of_the_job_line() {
 fn form_comes_before_range() {
     assert_refused(1, "job,1,0,8,x", 1);
     assert_refused(1, "job,2,0,8,2", 1);
-    assert_refused(1, "job,3,0,8,2,9", 1);
+    assert_refused(1, "job,4,0,8,2,9", 1);
+    assert_refused(1, "job,3,0,8,2", 1);
     assert_refused(1, "job,2,0,8,2,x", 1);
     assert_refused(1, "job,2,9,8,2,9,", 1);
     assert_refused(1, "job,1,512,4096,65,", 1);
@@ -130,6 +136,9 @@ fn range_of_the_job_line() {
     assert_refused(1, "job,2,513,8,2,8", 2);
     assert_refused(1, "job,2,512,129,2,9", 2);
     assert_refused(1, "job,2,512,129,2,8", 3);
+    assert_refused(1, "job,3,9,8,2,9", 2);
+    assert_refused(1, "job,3,512,129,2,9", 2);
+    assert_refused(1, "job,3,512,129,2,8", 3);
     assert_refused(1, "job,1,512,129,2", 3);
     assert_refused(1, "job,1,17,4096,2", 3);
     assert!(with_lines(&[(1, "job,1,512,128,2")]).starts_with("layout,1,512,128,2\n"));
@@ -165,6 +174,55 @@ fn piece_line() {
     assert_refused(2, "piece,0,2,10,5", 6);
     assert_refused(5, "piece,0,1,1,15", 2);
     assert_refused(5, "piece,2,1,1,15", 2);
+}
+
+/// The output for the lines above as a job of version 3 with a gap of 0, with the two piece lines given.
+fn with_locks(first: &str, second: &str) -> String {
+    with_lines(&[(1, "job,3,9,8,2,0"), (2, first), (5, second)])
+}
+
+#[test]
+fn a_lock_in_version_3() {
+    let (free, free_pixel) = ("piece,0,2,2,5,0", "piece,1,1,1,15,0");
+    assert_eq!(with_locks(free, free_pixel), with_lines(&[]));
+    for first in [0, 1] {
+        for second in [0, 1] {
+            let first = format!("piece,0,2,2,5,{first}");
+            let second = format!("piece,1,1,1,15,{second}");
+            // The layout text has no locks and keeps its version.
+            assert!(with_locks(&first, &second).starts_with("layout,1,9,8,2\n"));
+        }
+    }
+    for lock in [
+        "", "00", "01", "-1", "+1", " 1", "1 ", "1\r", "x", "100000", "0,0",
+    ] {
+        let line = format!("piece,0,2,2,5,{lock}");
+        assert_eq!(with_locks(&line, free_pixel), "refused,1,2\n", "{line}");
+    }
+    for lock in [
+        "2", "3", "9", "10", "255", "256", "257", "65536", "65537", "99999",
+    ] {
+        let line = format!("piece,0,2,2,5,{lock}");
+        assert_eq!(with_locks(&line, free_pixel), "refused,2,2\n", "{line}");
+        let line = format!("piece,1,1,1,15,{lock}");
+        assert_eq!(with_locks(free, &line), "refused,2,5\n", "{line}");
+    }
+    // The form of the whole line comes first, and a lock out of range before a box above the sheet.
+    assert_eq!(with_locks("piece,0,2,2,5", free_pixel), "refused,1,2\n");
+    assert_eq!(with_locks("piece,0,9,2,5", free_pixel), "refused,1,2\n");
+    assert_eq!(with_locks("piece,0,9,2,5,2", free_pixel), "refused,2,2\n");
+    assert_eq!(with_locks("piece,0,9,2,5,1", free_pixel), "refused,6,2\n");
+    assert_eq!(with_locks(free, "piece,1,1,1,15"), "refused,1,5\n");
+}
+
+#[test]
+fn no_lock_in_older_versions() {
+    for lock in [0, 1] {
+        let line = format!("piece,0,2,2,5,{lock}");
+        assert_refused(2, &line, 1);
+        let gapped = with_lines(&[(1, "job,2,9,8,2,0"), (2, &line)]);
+        assert_eq!(gapped, "refused,1,2\n");
+    }
 }
 
 #[test]

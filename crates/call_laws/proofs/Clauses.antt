@@ -9,6 +9,7 @@ use Rattle.model.specs.Text.{andThen}
 use Rattle.model.specs.JobText.{readJob}
 use Rattle.model.specs.LayoutText.{readLayout}
 use Rattle.model.specs.Program.{refusalText, printed, programText, inputBound, programCall}
+use Rattle.model.specs.Calls.{setLockCall}
 use Rattle.model.specs.Calls.{leaving, stretchNumber, stripsCall, stretchCall, noFitCall, rebuildCall, pairCauses, shareCall, depthCall, penaltyCall}
 use Rattle.model.specs.Calls.{weightedSumCall, layoutCauses, plainSumCall, usedLengthCall, searchCall, descentCall, guidedCall, startCall, writeLayoutCall}
 use Rattle.model.specs.Calls.{previewCall, readLayoutCall, checkCall, freshCall, sheetCauses, layCall, withdrawCall, cutLinesCall, cutStepCall, lineStepCall}
@@ -82,7 +83,7 @@ program-clause input = program-test input (ltb inputBound (length input))
 
 -- every public call keeps its clause
 pub call-clauses : CallClauses
-unfolding stripsCall stretchCall noFitCall rebuildCall pairCauses shareCall depthCall penaltyCall weightedSumCall layoutCauses
+unfolding setLockCall stripsCall stretchCall noFitCall rebuildCall pairCauses shareCall depthCall penaltyCall weightedSumCall layoutCauses
     plainSumCall usedLengthCall previewCall searchCall descentCall guidedCall startCall writeLayoutCall checkCall freshCall sheetCauses
     layCall layCauses withdrawCall withdrawCauses programCall cutLinesCall cutStepCall lineStepCall
 call-clauses =
@@ -90,6 +91,8 @@ call-clauses =
       readJobAnswer = λ text m n. answers (readJob text m n);
       readJobTable = λ text table n. leaving-claims _ table _;
       readJobPixels = λ text m pixels. leaving-claims _ pixels _;
+      setLock = λ l i station. unless-claims _ _;
+      setLockTable = λ l i station. leaving-claims _ (l .table) _;
       strips = λ l ts lent. unless-claims _ _;
       stripsStores = λ l ts lent. leaving-claims _ lent _;
       stretch = λ l ts lent i d. unless-claims _ _;
@@ -113,8 +116,8 @@ call-clauses =
       guidedRun = λ l es ws count budget. unless-claims _ _;
       guidedRunLayout = λ l es ws count budget. leaving-claims _ es _;
       guidedRunWeights = λ l es ws count budget. leaving-claims _ ws _;
-      startLayout = λ l room. unless-claims _ _;
-      startLayoutBuffer = λ l before. leaving-claims _ before _;
+      startLayout = λ l es. unless-claims _ _;
+      startLayoutBuffer = λ l es. leaving-claims _ es _;
       writeLayout = λ l es room. unless-claims _ _;
       writeLayoutText = λ l es before. leaving-claims _ before _;
       readLayoutAnswer = λ l text room. answers (readLayoutCall l text room);

@@ -5,12 +5,12 @@
 use Rattle.list_laws.proofs.Kit.{_≡_, Bool, true, _↔_, _≢_, List, map, _*_, _<_, _≤_, ℕ, eqb, length, take, ℤ}
 use Rattle.model.specs.Piece.{Shape, onLine}
 use Rattle.model.specs.Overlap.{OffsetRun}
-use Rattle.model.specs.Layout.{Layout, Pair, allowed, inside, placeOf, withPlace, figures, turnedPiece, unitWeights}
+use Rattle.model.specs.Layout.{Layout, Pair, allowed, isLocked, inside, placeOf, withPlace, figures, turnedPiece, unitWeights}
 use Rattle.model.specs.Buffer.{layoutOf, stripEntry}
 use Rattle.model.specs.Search.{Best, places}
 use Rattle.model.specs.Descent.{Descent, trials}
 use Rattle.model.specs.Guided.{Guided, rounds}
-use Rattle.model.specs.Cover.{Sheet, Call, laying, withdrawing, called, sheetWell}
+use Rattle.model.specs.Cover.{Sheet, entryIn, Call, laying, withdrawing, called, sheetWell}
 use Rattle.model.specs.Lent.{Lent, jobOf, lentWell, pieceBound, areaBound}
 use Rattle.model.specs.Refusal.{refused, given, wrongLength}
 use Rattle.model.specs.JobText.{readJob}
@@ -19,7 +19,7 @@ use Rattle.model.specs.Program.{inputBound, refusalText, programText}
 use Rattle.model.specs.Calls.{Stores, stripsCall, storesAfter, stretchWell, usedLengthCall, descentAfter, bestAfterRun, weightsAfterRun, stretchCall}
 use Rattle.model.specs.Calls.{stretchGiven, stretchNumber, LentStretch, noFitCall, runsAfter, stripsWell, rebuildCall, shareCall, depthCall, penaltyCall}
 use Rattle.model.specs.Calls.{weightedSumCall, plainSumCall, searchCall, descentCall, guidedCall, writeLayoutCall, readLayoutCall, startCall, checkCall}
-use Rattle.model.specs.Calls.{freshCall, layCall, withdrawCall, previewCall, cutLinesCall, linesAfter, cutStepCall, lineStepCall}
+use Rattle.model.specs.Calls.{setLockCall, freshCall, layCall, withdrawCall, previewCall, cutLinesCall, linesAfter, cutStepCall, lineStepCall}
 use Rattle.model.specs.Cut.{CutLine, cutLines}
 use Rattle.model.specs.declared.CutStep.{CutStep}
 use Rattle.model.specs.declared.Figures.{Figures}
@@ -34,10 +34,12 @@ use Rattle.text_laws.proofs.Demand1Text.{demand1-text}
 use Rattle.text_laws.proofs.LentRead.{lent-well-readable}
 use Rattle.overlap_laws.specs.NoFit.{NoFitLine}
 use Rattle.cover_laws.specs.Effects.{LayGives, WithdrawGives}
-use Rattle.cover_laws.specs.CoverClaims.{CoverHolds}
+use Rattle.cover_laws.specs.CoverClaims.{CoverHolds, SheetsWithLocks}
+use Rattle.cover_laws.proofs.Locks.{sheets-with-locks}
 use Rattle.descent_laws.specs.Claims.{ValidLayout, TrialsClaims, DescentClaims, GuidedClaims}
 use Rattle.descent_laws.proofs.Order.{trials-claims}
 use Rattle.descent_laws.specs.Search.{LeastFound}
+use Rattle.descent_laws.specs.Start.{StartClaims}
 use Rattle.call_laws.specs.Stores.{StretchClaims}
 use Rattle.call_laws.proofs.Stores.{stretch-some, stretch-tells, stretch-after, stretch-lent, stretch-rebuilt}
 use Rattle.call_laws.specs.Rebuilding.{PieceOf, RebuildClaims, RebuiltAs}
@@ -66,7 +68,9 @@ use Rattle.call_laws.specs.Programs.{Prints}
 use Rattle.call_laws.proofs.Programs.{program-prints, program-refuses, program-too-long}
 use Rattle.call_laws.proofs.Runs.{search-given, empty-line-exactly, descent-given, descent-left, guided-given, guided-left}
 use Rattle.call_laws.specs.Sheets.{afterSheetCalls}
-use Rattle.call_laws.proofs.Sheets.{lay-given, withdraw-given, fresh-given, lay-call, withdraw-call, sheet-reached}
+use Rattle.call_laws.proofs.Sheets.{lay-given, withdraw-given, fresh-given, lay-call, withdraw-call, sheet-reached, locked-laid}
+use Rattle.call_laws.specs.Locks.{LockCall, afterLocks, LockGives, LocksClaims, Shop, ShopCall, afterShopCalls, ShopClaims}
+use Rattle.call_laws.proofs.Locks.{lock-gives, locks-claims, shop-claims}
 
 -- ── demand 1: results as laid down, and refusals ──
 
@@ -88,8 +92,12 @@ pub record Demand1Calls : Type 0 where
       → JobLeft l (jobLeft text table pixels l)
   pub jobFront : (text : List ℕ) (table : List (List ℕ)) (pixels : List ℕ) (l : Lent) → readJob text (length table) (length pixels) ≡ given l
       → FrontRead text table pixels l
-  -- the start layout and a layout that is read are valid, and what is written is read back
-  pub starts : (l : Lent) (room : ℕ) (v : Layout) → startCall l room ≡ given v → ValidLayout (jobOf l) v
+  -- a lock that is set changes that alone, and of every list of calls that set one: no call clears a lock, and the job is again one that reading gives
+  pub lockGiven : (l : Lent) (i station : ℕ) (table : List (List ℕ)) → setLockCall l i station ≡ given table → LockGives l i table
+  pub locks : (l : Lent) (cs : List LockCall) → LocksClaims l cs (afterLocks l cs)
+  -- the start layout is valid and leaves the locked pieces where they are given, a layout that is read is valid, and what is written is read
+  -- back
+  pub starts : (l : Lent) (es : List (List ℕ)) (v : Layout) → startCall l es ≡ given v → StartClaims (jobOf l) (layoutOf es) v
   pub layoutRead : (l : Lent) (text : List ℕ) (room : ℕ) (v : Layout) → readLayoutCall l text room ≡ given v → ValidLayout (jobOf l) v
   pub writtenRead : (l : Lent) (es : List (List ℕ)) (room : ℕ) (text : List ℕ) → writeLayoutCall l es room ≡ given text
       → readLayoutCall l text (l .size .count) ≡ given (layoutOf es)
@@ -158,6 +166,12 @@ pub record Demand2Calls : Type 0 where
   -- after every list of lay and withdraw calls from a fresh sheet each pixel's count is the number of laid pieces on it
   pub counts : (l : Lent) (room : ℕ) (s : Sheet) → freshCall l room ≡ given s → (cs : List Call)
       → CoverHolds (jobOf l) cs (afterSheetCalls l s cs)
+  -- a locked piece that is laid stays laid, at its place, after every list of such calls
+  pub lockedLaid : (l : Lent) (s : Sheet) (i : ℕ) → isLocked (jobOf l) i ≡ true → entryIn (s .pieces) i .laid ≡ true → (cs : List Call)
+      → entryIn (afterSheetCalls l s cs .pieces) i ≡ entryIn (s .pieces) i
+  -- and the counts stay right while locks are set between the calls: a lock makes no difference to which sheets are well
+  pub sheetsWithLocks : (l : Lent) → SheetsWithLocks l
+  pub locksBetween : (w : Shop) (cs : List ShopCall) → ShopClaims w (afterShopCalls w cs)
   -- of a lent job and a sheet that pass their checks, lay and withdraw are the calls of the sheet's own rules (Cover of the model)
   pub layCalls : (l : Lent) (s : Sheet) (i : ℕ) (p : Placement) → lentWell l ≡ true → sheetWell (jobOf l) s ≡ true
       → layCall l s i p ≡ called (jobOf l) s (laying i p)
@@ -192,7 +206,7 @@ pub record Demand3Calls : Type 0 where
   -- the cause of refusal 11 is there exactly where no inside corner lies on the line
   pub emptyLines : (l : Lent) (i : ℕ) (t : Turn) (line : Line)
       → (eqb (places (jobOf l) i t line) 0 ≡ true) ↔ ((a : ℕ) → inside (jobOf l) i (onLine line t a) ≡ true → ⊥)
-  -- the trials, T of them: every piece in every turn allowed to it and both directions, nothing else, each once
+  -- the trials, T of them: every free piece in every turn allowed to it and both directions, nothing else, each once
   pub trialsListed : (l : Lent) → TrialsClaims (jobOf l) (trials (jobOf l))
   -- demand 3's claims about a descent, whatever its budget
   pub descents : (l : Lent) (es : List (List ℕ)) (ws : List ℕ) (budget : ℕ) (d : Descent) → descentCall l es ws budget ≡ given d
@@ -220,6 +234,8 @@ demand1-calls =
       sheetCheck = sheet-reached;
       jobLeaves = job-given;
       jobFront = front-given;
+      lockGiven = lock-gives;
+      locks = locks-claims;
       starts = start-given;
       layoutRead = layout-given;
       writtenRead = written-read-back;
@@ -254,6 +270,9 @@ demand2-calls =
       noFits = no-fit-given;
       noFitOffsets = offsets-given;
       counts = fresh-given;
+      lockedLaid = locked-laid;
+      sheetsWithLocks = sheets-with-locks;
+      locksBetween = shop-claims;
       layCalls = lay-call;
       withdrawCalls = withdraw-call;
       lays = lay-given;

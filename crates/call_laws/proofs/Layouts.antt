@@ -1,23 +1,24 @@
 -- Document 01, 'When a call says no', 7, 9 and 10 of a layout and 7 and 2 of weights: lent buffers that are not refused hold a valid
 -- layout and valid weights, as demand 3 asks for. A layout buffer is read entry by entry, so what holds of each entry holds of each
 -- placement. Assumes nothing.
-use Rattle.list_laws.proofs.Kit.{_∙_, _≡_, ap, refl, Bool, false, false≢true, not, true, true≢false, Option, none, some, List, [], _∷_, _<_, suc, zero, ℕ}
+use Rattle.list_laws.proofs.Kit.{_∙_, _≡_, ap, refl, sym, Bool, false, false≢true, not, true, true≢false, Option, none, some, List, [], _∷_, _<_, suc, zero, ℕ}
 use Rattle.list_laws.proofs.Kit.{le-of-suc-le-suc, not-suc-le-zero, arith, leb, List·getD-map, getD, length, length-map, eqb-true, le-leb, leb-true}
-use Rattle.list_laws.proofs.Kit.{not-false, _||_, ltb, ltb-true, lt-ltb}
+use Rattle.list_laws.proofs.Kit.{not-false, eqb, _&&_, _||_, ltb, ltb-true, lt-ltb}
 use Rattle.model.specs.Piece.{degrees}
-use Rattle.model.specs.Layout.{Job, Layout, allowed, inside, placeOf, pairs}
+use Rattle.model.specs.Layout.{Job, Layout, allowed, isLocked, inside, placeOf, pairs}
 use Rattle.model.specs.Buffer.{turnOfDegrees, turnPasses, turnOf, entryOf, placementOf, entriesOf, layoutOf}
 use Rattle.model.specs.Guided.{weightBound}
 use Rattle.model.specs.Lent.{Lent, jobOf, lentWell, upTo}
 use Rattle.model.specs.Calls.{allowedDegrees, someTurnWrong, someOutside, someWeightWrong, jobCause, layoutLength, turnsCause, outsideCause, weightsLength}
-use Rattle.model.specs.Calls.{placingCauses}
+use Rattle.model.specs.Calls.{placingCauses, lockedTurnWrong, lockedOutside}
 use Rattle.model.specs.declared.Turn.{Turn}
 use Rattle.model.specs.declared.Turn.the-variants.{Zero, Quarter, Half, ThreeQuarters}
-use Rattle.list_laws.proofs.Tests.{and-left, and-right, and-both, or-neither}
+use Rattle.list_laws.proofs.Tests.{and-left, and-right, and-both, or-neither, second-fails}
 use Rattle.list_laws.proofs.Bounded.{any-none, none-any}
 use Rattle.text_laws.specs.Outcomes.{NoCause}
 use Rattle.text_laws.proofs.Entries.{entries-read-back}
 use Rattle.descent_laws.specs.Claims.{InRange, ValidWeights, ValidLayout}
+use Rattle.descent_laws.specs.Start.{LockedGiven}
 
 -- ── layouts ──
 
@@ -31,6 +32,43 @@ passes-step test (some t) e = e
 pub passes-turn : (test : Turn → Bool) (d : ℕ) → turnPasses test d ≡ true → test (turnOf d) ≡ true
 unfolding turnOf
 passes-turn test d e = passes-step test (turnOfDegrees d) e
+
+-- the turn by the tests for 0, 90, 180 and 270 degrees
+abbrev turnBy : Bool → Bool → Bool → Bool → Option Turn
+turnBy a b c e =
+    elim a as (λ _. Option Turn) [
+      | true ↦ some Zero
+      | false ↦
+          elim b as (λ _. Option Turn) [
+            | true ↦ some Quarter
+            | false ↦
+                elim c as (λ _. Option Turn)
+                [ true ↦ some Half | false ↦ elim e as (λ _. Option Turn) [ true ↦ some ThreeQuarters | false ↦ none ] ]
+          ]
+    ]
+
+-- by these tests
+degrees-at : (test : Turn → Bool) (d : ℕ) (a b c e : Bool) → eqb d 0 ≡ a → eqb d 90 ≡ b → eqb d 180 ≡ c → eqb d 270 ≡ e
+    → elim (turnBy a b c e) as (λ _. Bool) [ none ↦ false | some t ↦ test t ] ≡ true
+    → degrees (elim (turnBy a b c e) as (λ _. Turn) [ none ↦ Zero | some t ↦ t ]) ≡ d
+degrees-at test d true b c e h0 h1 h2 h3 p = sym (eqb-true d 0 h0)
+degrees-at test d false true c e h0 h1 h2 h3 p = sym (eqb-true d 90 h1)
+degrees-at test d false false true e h0 h1 h2 h3 p = sym (eqb-true d 180 h2)
+degrees-at test d false false false true h0 h1 h2 h3 p = sym (eqb-true d 270 h3)
+degrees-at test d false false false false h0 h1 h2 h3 p = absurd (false≢true p)
+
+-- degrees that pass are those of their turn
+passes-degrees : (test : Turn → Bool) (d : ℕ) → turnPasses test d ≡ true → degrees (turnOf d) ≡ d
+unfolding turnOf turnOfDegrees
+passes-degrees test d p = degrees-at test d (eqb d 0) (eqb d 90) (eqb d 180) (eqb d 270) refl refl refl refl p
+
+-- an entry of three numbers whose degrees pass is that of its placement
+pub entry-written : (test : Turn → Bool) (e : List ℕ) → length e ≡ 3 → turnPasses test (getD e 0 0) ≡ true → e ≡ entryOf (placementOf e)
+entry-written test [] n p = absurd (omega arith)
+entry-written test (d ∷ []) n p = absurd (omega arith)
+entry-written test (d ∷ x ∷ []) n p = absurd (omega arith)
+entry-written test (d ∷ x ∷ y ∷ []) n p = ap (λ (k : ℕ). k ∷ x ∷ y ∷ []) (sym (passes-degrees test d p))
+entry-written test (d ∷ x ∷ y ∷ z ∷ es) n p = absurd (omega arith)
 
 -- a piece's placement in a layout buffer is its entry's
 pub buffer-place : (es : List (List ℕ)) (i : ℕ) → placeOf (layoutOf es) i ≡ placementOf (getD es i [])
@@ -49,6 +87,40 @@ buffer-valid j es size turns outside =
           rw (buffer-place es i)
           (passes-turn (allowed j i) (getD (getD es i []) 0 0)
           (not-false _ (any-none (j .size .count) (λ k. not (turnPasses (allowed j k) (getD (getD es k []) 0 0))) turns i l)));
+    }
+
+-- ── locked placements ──
+
+-- a locked piece for which nothing is wrong passes
+locked-passes : (b c : Bool) → b ≡ true → (b && not c) ≡ false → c ≡ true
+locked-passes true c e h = not-false c h
+locked-passes false c e h = absurd (false≢true e)
+
+-- where no locked turn is wrong, a locked entry of three numbers is that of its placement
+pub locked-written : (j : Job) (es : List (List ℕ)) → lockedTurnWrong j es ≡ false → (i : ℕ) → i < j .size .count → isLocked j i ≡ true
+    → length (getD es i []) ≡ 3 → getD es i [] ≡ entryOf (placementOf (getD es i []))
+unfolding lockedTurnWrong allowedDegrees
+locked-written j es turns i l locked n =
+    entry-written (allowed j i) (getD es i []) n
+    (locked-passes (isLocked j i) _ locked
+    (any-none (j .size .count) (λ k. isLocked j k && not (turnPasses (allowed j k) (getD (getD es k []) 0 0))) turns i l))
+
+-- a layout buffer of the right length, none of whose locked turns is wrong and none of whose locked placements is outside, holds the locked
+-- placements
+pub locked-given : (j : Job) (es : List (List ℕ)) → length es ≡ j .size .count → lockedTurnWrong j es ≡ false → lockedOutside j (layoutOf es) ≡ false
+    → LockedGiven j (layoutOf es)
+unfolding lockedTurnWrong lockedOutside allowedDegrees
+locked-given j es size turns outside =
+    record {
+      onePerPiece = length-map es placementOf ∙ size;
+      insideSheet = λ i l locked.
+          locked-passes (isLocked j i) _ locked
+          (any-none (j .size .count) (λ k. isLocked j k && not (inside j k (placeOf (layoutOf es) k))) outside i l);
+      turnAllowed = λ i l locked.
+          rw (buffer-place es i)
+          (passes-turn (allowed j i) (getD (getD es i []) 0 0)
+          (locked-passes (isLocked j i) _ locked
+          (any-none (j .size .count) (λ k. isLocked j k && not (turnPasses (allowed j k) (getD (getD es k []) 0 0))) turns i l)));
     }
 
 -- ── weights ──
@@ -73,7 +145,7 @@ weights-valid j ws size e = record { onePerPair = size; inRange = weights-range 
 -- ── valid layouts and weights in buffers ──
 
 -- entry i of a layout's buffer
-entry-at : (v : Layout) (i : ℕ) → i < length v → getD (entriesOf v) i [] ≡ entryOf (placeOf v i)
+pub entry-at : (v : Layout) (i : ℕ) → i < length v → getD (entriesOf v) i [] ≡ entryOf (placeOf v i)
 entry-at [] i l = absurd (not-suc-le-zero l)
 entry-at (p ∷ v) zero l = refl
 entry-at (p ∷ v) (suc i) l = entry-at v i (le-of-suc-le-suc l)
@@ -105,6 +177,20 @@ valid-buffer j v h =
           let e : getD (entriesOf v) i [] ≡ entryOf (placeOf v i) = entry-at v i (omega arith) in
           rw e (ap not (turn-passes (allowed j i) (placeOf v i .turn) (h .turnAllowed i l))));
       outside = rw (entries-read-back v) (none-any (j .size .count) _ (λ i l. ap not (h .insideSheet i l)));
+    }
+
+-- nor by a start, which asks the locked ones alone
+pub record LockedPass (j : Job) (es : List (List ℕ)) : Type 0 where
+  pub turns : lockedTurnWrong j es ≡ false
+  pub outside : lockedOutside j (layoutOf es) ≡ false
+
+-- what is asked of every piece passes for the locked ones
+pub locked-buffer : (j : Job) (es : List (List ℕ)) → BufferPasses j es → LockedPass j es
+unfolding lockedTurnWrong lockedOutside someTurnWrong someOutside
+locked-buffer j es h =
+    record {
+      turns = none-any (j .size .count) _ (λ i l. second-fails (isLocked j i) (any-none (j .size .count) _ (h .turns) i l));
+      outside = none-any (j .size .count) _ (λ i l. second-fails (isLocked j i) (any-none (j .size .count) _ (h .outside) i l));
     }
 
 -- valid weights are none of them wrong

@@ -12,6 +12,7 @@ pub mod NoFits
 pub mod Checks
 pub mod Texts
 pub mod Sheets
+pub mod Locks
 pub mod Lengths
 pub mod Previews
 pub mod Cuts

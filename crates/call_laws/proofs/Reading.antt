@@ -3,7 +3,7 @@
 -- beyond plays no part, since the check and the pieces look at n entries and their boxes' bytes. Assumes nothing.
 use Rattle.list_laws.proofs.Kit.{_∙_, _≡_, ap, ap₂, refl, subst, true, List, [], _++_, _*_, _+_, _<_, _≤_, suc, zero, ℕ, mul-comm, arith, eqb}
 use Rattle.list_laws.proofs.Kit.{List·getD-append, drop, getD, length, length-append, take, take-append-seam}
-use Rattle.model.specs.Lent.{Lent, entryColumns, entryRows, entryTurns, pixelStart, entryInRange, entryFits, lentShape, lentWell}
+use Rattle.model.specs.Lent.{Lent, entryColumns, entryRows, pixelStart, entryInRange, entryFits, lentShape, lentWell}
 use Rattle.model.specs.Refusal.{given}
 use Rattle.model.specs.JobText.{readJob}
 use Rattle.model.specs.Calls.{tableAfter, storeAfter}
@@ -12,7 +12,7 @@ use Rattle.text_laws.specs.Texts.{Agree}
 use Rattle.job_laws.proofs.Starts.{start-end}
 use Rattle.text_laws.proofs.Store.{tight-agree}
 use Rattle.job_laws.proofs.Checked.{Facts, facts, well}
-use Rattle.text_laws.proofs.JobRead.{sides-some, JustRead, job-read-well, job-read-just}
+use Rattle.text_laws.proofs.JobRead.{JustRead, job-read-well, job-read-just}
 use Rattle.call_laws.specs.Reading.{jobLeft, JobLeft, FrontRead}
 
 -- the job with more entries and bytes behind its own
@@ -37,17 +37,17 @@ module _ (k : Lent) (passes : lentWell k ≡ true) (more : List (List ℕ)) (byt
 
   -- its pieces agree with the job's
   pub longer-agree : (i : ℕ) → i < k .size .count → Agree (lentShape (longer k more bytes) i) (lentShape k i)
-  unfolding entryInRange pixelStart
+  unfolding pixelStart
   longer-agree i l =
-      let some = sides-some (entryColumns (k .table) i) (entryRows (k .table) i) (entryTurns (k .table) i) (facts k passes .ranges i l) in
+      let f : Facts k = facts k passes in
       let c : ℕ = entryColumns (k .table) i in
       let w : ℕ = entryRows (k .table) i in
       let s : ℕ = pixelStart (k .table) i in
       record {
         columns = ap (λ (e : List ℕ). getD e 0 0) (same-entry i l);
         rows = ap (λ (e : List ℕ). getD e 1 0) (same-entry i l);
-        wide = some .0;
-        high = some .1;
+        wide = f .columnsSome i l;
+        high = f .rowsSome i l;
         has = λ x y hx hy.
             ap (λ (b : ℕ). eqb b 1)
             (ap₂ (λ (n : ℕ) (e : List ℕ). getD (k .pixels ++ bytes) (n + (y * getD e 0 0 + x)) 0) (same-start i (omega arith)) (same-entry i l)
@@ -87,6 +87,7 @@ job-given text table pixels k e =
       passes = longer-well k passes more bytes;
       pieces = longer-agree k passes more bytes;
       turns = λ i l. ap (λ (x : List ℕ). getD x 2 0) (same-entry k passes more bytes i l);
+      locks = λ i l. ap (λ (x : List ℕ). getD x 3 0) (same-entry k passes more bytes i l);
     })
 
 -- it is so: a call that is lent just these parts is lent the job that was read

@@ -1,6 +1,6 @@
 -- Demand 3 of the public calls (document 01, 'Line search' and 'Descent and guidance'): whatever a caller lends, a line search, a
 -- descent or a guided run that is not refused is the job's own, and what demand 3 claims holds of it. The call's causes are not
--- there, so the lent job has a piece and the lent buffers hold a valid layout and valid weights. Assumes nothing.
+-- there, so the lent buffers hold a valid layout and valid weights. Assumes nothing.
 use Rattle.list_laws.proofs.Kit.{_∙_, _≡_, ap, refl, _||_, not, true, _↔_, Option, none, some, List, _<_, _≤_, ℕ, arith, eqb, ltb, length, eq-eqb, eqb-false}
 use Rattle.list_laws.proofs.Kit.{eqb-true, le-ltb}
 use Rattle.model.specs.Piece.{onLine}
@@ -16,14 +16,13 @@ use Rattle.model.specs.Calls.{weightsAfterRun}
 use Rattle.model.specs.declared.Turn.{Turn}
 use Rattle.model.specs.declared.Line.{Line}
 use Rattle.list_laws.proofs.Tests.{or-neither, passes, or-none}
-use Rattle.job_laws.proofs.Checked.{lent-some}
 use Rattle.text_laws.proofs.Entries.{entries-read-back}
 use Rattle.text_laws.proofs.Outcomes.{given-unless, unless-given}
 use Rattle.descent_laws.specs.Claims.{ValidWeights, ValidLayout, DescentClaims, GuidedClaims}
 use Rattle.descent_laws.specs.Search.{LeastFound}
 use Rattle.descent_laws.proofs.Search.{Searched, searched, inside-below, below-inside}
 use Rattle.descent_laws.proofs.Demand3.{demand3}
-use Rattle.call_laws.proofs.Layouts.{BufferPasses, valid-buffer, weights-pass, job-well, layout-valid, lent-weights-valid}
+use Rattle.call_laws.proofs.Layouts.{BufferPasses, valid-buffer, weights-pass, layout-valid, lent-weights-valid}
 
 -- ── descent and guided run ──
 
@@ -36,7 +35,7 @@ descent-given l es ws budget d e =
     let range = or-neither (someWeightWrong ws) (ltb budgetBound budget) (u .none .1 .1 .1 .0) in
     let v : ValidLayout (jobOf l) (layoutOf es) = layout-valid l es (u .none .1 .0) (u .none .1 .1 .1 .1 .0) (u .none .1 .1 .1 .1 .1 .0) in
     let w : ValidWeights (jobOf l) ws = lent-weights-valid l ws (u .none .1 .1 .0) (range .0) in
-    rw (← u .same) (demand3 (jobOf l) ws (layoutOf es) (lent-some l (job-well l (u .none .0))) w v .descents budget)
+    rw (← u .same) (demand3 (jobOf l) ws (layoutOf es) w v .descents budget)
 
 -- a guided run that the call gives is the job's, and demand 3's claims hold of it and of each of its rounds
 pub guided-given : (l : Lent) (es : List (List ℕ)) (ws : List ℕ) (K budget : ℕ) (g : Guided) → guidedCall l es ws K budget ≡ given g
@@ -47,7 +46,7 @@ guided-given l es ws K budget g e =
     let range = or-neither (someWeightWrong ws || ltb budgetBound budget) (not (upTo roundBound K)) (u .none .1 .1 .1 .0) in
     let v : ValidLayout (jobOf l) (layoutOf es) = layout-valid l es (u .none .1 .0) (u .none .1 .1 .1 .1 .0) (u .none .1 .1 .1 .1 .1 .0) in
     let w : ValidWeights (jobOf l) ws = lent-weights-valid l ws (u .none .1 .1 .0) (or-neither (someWeightWrong ws) _ (range .0) .0) in
-    rw (← u .same) (demand3 (jobOf l) ws (layoutOf es) (lent-some l (job-well l (u .none .0))) w v .guidedRuns K budget)
+    rw (← u .same) (demand3 (jobOf l) ws (layoutOf es) w v .guidedRuns K budget)
 
 -- ── line search ──
 

@@ -2,12 +2,16 @@
 -- calls from a fresh sheet, refused ones among them, each pixel's count is the number of laid pieces on it. On a lent job that
 -- passes the check, each call also finds that its sheet is one that some list of calls gives, so the public calls are the calls
 -- that cover_laws speaks of. Assumes nothing.
-use Rattle.list_laws.proofs.Kit.{_∙_, _≡_, ap, refl, sym, true, _↔_, List, [], _∷_, _*_, _≤_, ℕ, eqb, length, eq-eqb, not-false}
+use Rattle.list_laws.proofs.Kit.{_∙_, _≡_, ap, refl, sym, false, true, _↔_, List, [], _∷_, _*_, _≤_, ℕ, eqb, length, eq-eqb, not-false}
+use Rattle.model.specs.Layout.{isLocked}
 use Rattle.model.specs.Lent.{Lent, jobOf, lentWell, pieceBound}
-use Rattle.model.specs.Refusal.{Outcome, given, unless}
+use Rattle.model.specs.Refusal.{Outcome, refused, given, unless}
 use Rattle.model.specs.Cover.{Sheet, Call, laying, withdrawing, called, afterwards, afterCalls, fresh, lay, withdraw, layCauses, withdrawCauses, sheetWell}
+use Rattle.model.specs.Cover.{entryIn}
 use Rattle.model.specs.Calls.{sheetCauses, freshCall, layCall, withdrawCall}
 use Rattle.model.specs.declared.Placement.{Placement}
+use Rattle.model.specs.declared.Entry.{Entry}
+use Rattle.list_laws.proofs.Tests.{clash}
 use Rattle.job_laws.proofs.Checked.{lent-few}
 use Rattle.text_laws.proofs.Outcomes.{given-unless}
 use Rattle.cover_laws.proofs.Reached.{well-sound, well-exactly}
@@ -60,7 +64,12 @@ sheet-call : (l : Lent) (s : Sheet) (c : Call) → lentWell l ≡ true → sheet
 sheet-call l s (laying i p) e h = lay-call l s i p e h
 sheet-call l s (withdrawing i) e h = withdraw-call l s i e h
 
--- and so is a list of them
+-- after it the sheet is again one that some list of calls gives
+pub sheet-call-well : (l : Lent) (s : Sheet) (c : Call) → lentWell l ≡ true → sheetWell (jobOf l) s ≡ true
+    → sheetWell (jobOf l) (afterwards s (sheetCall l s c)) ≡ true
+sheet-call-well l s c e h = rw (sheet-call l s c e h) (call-well (jobOf l) (lent-few l e) s c h)
+
+-- a list of public calls is a list of those that cover_laws speaks of
 pub sheet-calls : (l : Lent) (s : Sheet) (cs : List Call) → lentWell l ≡ true → sheetWell (jobOf l) s ≡ true
     → afterSheetCalls l s cs ≡ afterCalls (jobOf l) s cs
 unfolding afterSheetCalls afterCalls
@@ -93,3 +102,33 @@ sheet-reached l room f e s =
       λ h. (let r = well-exactly (jobOf l) few s .0 h in (r .0, same (r .0) ∙ r .1)),
       λ r. well-exactly (jobOf l) few s .1 (r .0, sym (same (r .0)) ∙ r .1),
     )
+
+-- ── locked pieces ──
+
+-- the entry of a locked piece that is laid, by what a public call comes to
+outcome-keeps : (l : Lent) (s : Sheet) (i : ℕ) → isLocked (jobOf l) i ≡ true → entryIn (s .pieces) i .laid ≡ true → (c : Call) (o : Outcome Sheet)
+    → sheetCall l s c ≡ o → entryIn (afterwards s o .pieces) i ≡ entryIn (s .pieces) i
+unfolding layCall layCauses withdrawCall withdrawCauses sheetCauses
+outcome-keeps l s i locked laid c (refused r) e = refl
+outcome-keeps l s i locked laid (laying m p) (given s′) e =
+    let none = given-unless (sheetCauses l s (layCauses (jobOf l) s m p)) (lay (jobOf l) s m p) s′ e .none in
+    let free : entryIn (s .pieces) m .laid ≡ false = none .1 .1 .1 .1 .0 in
+    lay-given l s s′ m p e .others i (λ q. clash laid (ap (λ (k : ℕ). entryIn (s .pieces) k .laid) q ∙ free))
+outcome-keeps l s i locked laid (withdrawing m) (given s′) e =
+    let none = given-unless (sheetCauses l s (withdrawCauses (jobOf l) s m)) (withdraw (jobOf l) s m) s′ e .none in
+    let free : isLocked (jobOf l) m ≡ false = none .1 .1 .1 .1 .1 .0 in
+    withdraw-given l s s′ m e .others i (λ q. clash locked (ap (λ (k : ℕ). isLocked (jobOf l) k) q ∙ free))
+
+-- after a public call
+pub call-keeps : (l : Lent) (s : Sheet) (i : ℕ) → isLocked (jobOf l) i ≡ true → entryIn (s .pieces) i .laid ≡ true → (c : Call)
+    → entryIn (afterwards s (sheetCall l s c) .pieces) i ≡ entryIn (s .pieces) i
+call-keeps l s i locked laid c = outcome-keeps l s i locked laid c (sheetCall l s c) refl
+
+-- a locked piece that is laid stays laid, at its place, after every list of public calls, whatever is lent
+pub locked-laid : (l : Lent) (s : Sheet) (i : ℕ) → isLocked (jobOf l) i ≡ true → entryIn (s .pieces) i .laid ≡ true → (cs : List Call)
+    → entryIn (afterSheetCalls l s cs .pieces) i ≡ entryIn (s .pieces) i
+unfolding afterSheetCalls
+locked-laid l s i locked laid [] = refl
+locked-laid l s i locked laid (c ∷ cs) =
+    let here = call-keeps l s i locked laid c in
+    locked-laid l (afterwards s (sheetCall l s c)) i locked (ap (λ (x : Entry). x .laid) here ∙ laid) cs ∙ here

@@ -1,27 +1,46 @@
--- Document 01, 'Job text' and 'Start, layout text, sheet', of the public calls: the start layout and a layout that is read are valid, and
+-- Document 01, 'Job text' and 'Start, layout text, sheet', of the public calls: the start layout is what the documents say, a layout that is read is valid, and
 -- what is written of a lent layout is read back as that layout. Assumes nothing.
-use Rattle.list_laws.proofs.Kit.{_≡_, true, List, [], _++_, _∷_, ℕ, zero-add, length}
+use Rattle.list_laws.proofs.Kit.{_∙_, _≡_, ap, eq-eqb, eqb-true, not, not-false, true, List, [], _++_, _∷_, ℕ, zero-add, length}
 use Rattle.model.specs.Layout.{Layout}
-use Rattle.model.specs.Buffer.{layoutOf}
+use Rattle.model.specs.Buffer.{entriesOf, layoutOf}
 use Rattle.model.specs.Start.{start}
 use Rattle.model.specs.Lent.{Lent, jobOf, lentWell}
 use Rattle.model.specs.Refusal.{given, unless}
 use Rattle.model.specs.LayoutText.{layoutText, readLayout}
-use Rattle.model.specs.Calls.{jobCause, layoutCauses, atLeast, startCall, writeLayoutCall, readLayoutCall}
+use Rattle.model.specs.Calls.{jobCause, layoutCauses, atLeast, startCauses, startCall, writeLayoutCall, readLayoutCall}
 use Rattle.job_laws.proofs.Checked.{Facts, facts}
-use Rattle.text_laws.proofs.Outcomes.{given-unless, given-before}
+use Rattle.text_laws.proofs.Outcomes.{given-unless, given-before, unless-given}
+use Rattle.text_laws.specs.Outcomes.{NoCause}
+use Rattle.text_laws.proofs.Entries.{entries-read-back}
 use Rattle.text_laws.proofs.LayoutRead.{layout-read-placed}
 use Rattle.text_laws.proofs.LayoutReadBack.{layout-read-back}
 use Rattle.descent_laws.specs.Claims.{ValidLayout}
-use Rattle.descent_laws.proofs.Lent.{lent-start-valid}
-use Rattle.call_laws.proofs.Layouts.{job-well, layout-valid}
+use Rattle.descent_laws.specs.Start.{StartClaims}
+use Rattle.descent_laws.proofs.Lent.{lent-start-claims}
+use Rattle.call_laws.proofs.Layouts.{BufferPasses, LockedPass, job-well, layout-valid, locked-given, valid-buffer, locked-buffer}
 
--- a start layout that the call gives is valid
-pub start-given : (l : Lent) (room : ℕ) (v : Layout) → startCall l room ≡ given v → ValidLayout (jobOf l) v
+-- where no cause of a start is there, it is what the documents say
+pub start-said : (l : Lent) (es : List (List ℕ)) → NoCause (startCauses l es) → StartClaims (jobOf l) (layoutOf es) (start (jobOf l) (layoutOf es))
+unfolding jobOf
+start-said l es h =
+    lent-start-claims l (layoutOf es) (job-well l (h .0))
+    (locked-given (jobOf l) es (eqb-true (length es) (l .size .count) (not-false _ (h .1 .0))) (h .1 .1 .0) (h .1 .1 .1 .0))
+
+-- a start layout that the call gives is so
+pub start-given : (l : Lent) (es : List (List ℕ)) (v : Layout) → startCall l es ≡ given v → StartClaims (jobOf l) (layoutOf es) v
 unfolding startCall
-start-given l room v e =
-    let u = given-unless _ (start (jobOf l)) v e in
-    rw (← u .same) (lent-start-valid l (job-well l (u .none .0)))
+start-given l es v e =
+    let u = given-unless (startCauses l es) (start (jobOf l) (layoutOf es)) v e in rw (← u .same) (start-said l es (u .none))
+
+-- a start is given where the lent buffer holds a valid layout
+pub start-taken : (l : Lent) → lentWell l ≡ true → (v : Layout) → ValidLayout (jobOf l) v → startCall l (entriesOf v) ≡ given (start (jobOf l) v)
+unfolding startCall jobOf
+start-taken l well v valid =
+    let p : BufferPasses (jobOf l) (entriesOf v) = valid-buffer (jobOf l) v valid in
+    let q : LockedPass (jobOf l) (entriesOf v) = locked-buffer (jobOf l) (entriesOf v) p in
+    unless-given (startCauses l (entriesOf v)) (start (jobOf l) (layoutOf (entriesOf v)))
+    (ap not well, (ap not (eq-eqb (length (entriesOf v)) (l .size .count) (p .size)), (q .turns, (q .outside, tt))))
+    ∙ ap (λ (w : Layout). given (start (jobOf l) w)) (entries-read-back v)
 
 -- a layout that the call reads is valid
 pub layout-given : (l : Lent) (text : List ℕ) (room : ℕ) (v : Layout) → readLayoutCall l text room ≡ given v → ValidLayout (jobOf l) v

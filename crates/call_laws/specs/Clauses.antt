@@ -9,7 +9,7 @@ use lib.Dec.{ltb, eqb}
 use lib.IntN.{ℤ}
 use lib.ListN.{length}
 use Rattle.model.specs.Piece.{Shape, sideBound}
-use Rattle.model.specs.Layout.{pairs, allowed, inside, pairConflicts, pairDepth, pairPenalty, weightedSum, plainSum, usedLength, conflictingPair}
+use Rattle.model.specs.Layout.{pairs, allowed, isLocked, inside, pairConflicts, pairDepth, pairPenalty, weightedSum, plainSum, usedLength, conflictingPair}
 use Rattle.model.specs.Buffer.{layoutOf, entriesOf, runEntry, bytesOf, filled}
 use Rattle.model.specs.Search.{places, searchLine}
 use Rattle.model.specs.Descent.{descend}
@@ -18,6 +18,7 @@ use Rattle.model.specs.Start.{start}
 use Rattle.model.specs.Cover.{Sheet, entryIn, fresh, lay, withdraw, afterwards, sheetWell}
 use Rattle.model.specs.Lent.{Lent, jobOf, lentWell, upTo, pieceBound, areaBound}
 use Rattle.model.specs.Refusal.{refused, given, cause, unless, outOfRange, wrongLength, notOurs, noSuchPiece, outsideSheet, emptyLine, laidAlready, notLaid}
+use Rattle.model.specs.Refusal.{pieceLocked, notTheCutter}
 use Rattle.model.specs.Text.{andThen}
 use Rattle.model.specs.JobText.{readJob}
 use Rattle.model.specs.LayoutText.{layoutText, readLayout}
@@ -27,7 +28,9 @@ use Rattle.model.specs.Calls.{stretchOf, stretchCall, stretchGiven, stretchNumb
 use Rattle.model.specs.Calls.{rebuiltFrom, stripsWell, rebuildCall, pixelsAfter, shareCall, depthCall, penaltyCall, weightedSumCall, plainSumCall}
 use Rattle.model.specs.Calls.{usedLengthCall, bestPlace, searchCall, budgetBound, roundBound, descentCall, descentAfter, guidedCall, bestAfterRun}
 use Rattle.model.specs.Calls.{weightsAfterRun, previewCall}
-use Rattle.model.specs.Calls.{tableAfter, storeAfter, layoutAfter, writeLayoutCall, textAfter, readLayoutCall, startCall, conflictCause, checkCall}
+use Rattle.model.specs.Calls.{tableAfter, storeAfter, layoutAfter, writeLayoutCall, textAfter, readLayoutCall, lockedTurnWrong, lockedOutside, startCall}
+use Rattle.model.specs.Calls.{conflictCause, checkCall}
+use Rattle.model.specs.Calls.{plannersStation, cuttersStation, withLock, setLockCall, lockedAfter}
 use Rattle.model.specs.Calls.{freshCall, countsAfter, layCall, withdrawCall, cutLinesCall, linesAfter, cutStepCall, lineStepCall}
 use Rattle.model.specs.Cut.{cutLines, stepAt, stepIn, pitchBound, lineEntry, entryLine}
 use Rattle.model.specs.declared.Turn.{Turn}
@@ -51,6 +54,18 @@ pub record CallClauses : Type 0 where
   pub readJobPixels : (text : List ℕ) (tableLength : ℕ) (pixels : List ℕ)
       → BufferClaims (λ l. filled (l .pixels) pixels) pixels (storeAfter pixels (readJob text tableLength (length pixels)))
       (readJob text tableLength (length pixels))
+  -- ── locks ──
+  -- setting a lock: 8, 2 the station, 9, 16
+  pub setLock : (l : Lent) (i station : ℕ)
+      → CallClaims
+      (cause notOurs (not (lentWell l))
+      ∷ cause outOfRange (ltb cuttersStation station)
+      ∷ cause noSuchPiece (not (ltb i (l .size .count)))
+      ∷ cause notTheCutter (eqb station plannersStation) ∷ [])
+      (withLock (l .table) i) (setLockCall l i station)
+  -- the table: the one with the lock set
+  pub setLockTable : (l : Lent) (i station : ℕ)
+      → BufferClaims (λ table. table) (l .table) (lockedAfter (l .table) (setLockCall l i station)) (setLockCall l i station)
   -- ── strips, stretch, no-fit rows and columns, rebuilding ──
   -- strips: 8, 9, 7
   pub strips : (l : Lent) (ts : List ℕ) (lent : Stores)
@@ -211,13 +226,16 @@ pub record CallClauses : Type 0 where
   pub guidedRunWeights : (l : Lent) (es : List (List ℕ)) (ws : List ℕ) (count budget : ℕ)
       → BufferClaims (λ g. g .weights) ws (weightsAfterRun ws (guidedCall l es ws count budget)) (guidedCall l es ws count budget)
   -- ── start, layout text, check ──
-  -- start layout: 8, 7
-  pub startLayout : (l : Lent) (room : ℕ)
-      → CallClaims (cause notOurs (not (lentWell l)) ∷ cause wrongLength (not (eqb room (l .size .count))) ∷ [])
-      (start (jobOf l)) (startCall l room)
+  -- start layout, with the locked placements of the layout buffer: 8, 7, 9 and 10 of these
+  pub startLayout : (l : Lent) (es : List (List ℕ))
+      → CallClaims
+      (cause notOurs (not (lentWell l))
+      ∷ cause wrongLength (not (eqb (length es) (l .size .count)))
+      ∷ cause noSuchPiece (lockedTurnWrong (jobOf l) es)
+      ∷ cause outsideSheet (lockedOutside (jobOf l) (layoutOf es)) ∷ [])
+      (start (jobOf l) (layoutOf es)) (startCall l es)
   -- the layout buffer: the start layout
-  pub startLayoutBuffer : (l : Lent) (before : List (List ℕ))
-      → BufferClaims entriesOf before (layoutAfter before (startCall l (length before))) (startCall l (length before))
+  pub startLayoutBuffer : (l : Lent) (es : List (List ℕ)) → BufferClaims entriesOf es (layoutAfter es (startCall l es)) (startCall l es)
   -- writing a layout: 8, 7 the layout, 9, 10, 7 the text buffer
   pub writeLayout : (l : Lent) (es : List (List ℕ)) (room : ℕ)
       → CallClaims
@@ -300,14 +318,15 @@ pub record CallClauses : Type 0 where
       → BufferClaims (λ s′. s′) s (afterwards s (layCall l s i p)) (layCall l s i p)
   pub layCounts : (l : Lent) (s : Sheet) (i : ℕ) (p : Placement)
       → BufferClaims (λ s′. s′ .counts) (s .counts) (countsAfter (s .counts) (layCall l s i p)) (layCall l s i p)
-  -- withdraw: 8 the job, 7, 8 the sheet, 9, 14
+  -- withdraw: 8 the job, 7, 8 the sheet, 9, 14, 15
   pub withdraws : (l : Lent) (s : Sheet) (i : ℕ)
       → CallClaims
       (cause notOurs (not (lentWell l))
       ∷ cause wrongLength (not (eqb (length (s .counts)) (l .size .rows * l .size .columns)))
       ∷ cause notOurs (not (sheetWell (jobOf l) s))
       ∷ cause noSuchPiece (not (ltb i (jobOf l .size .count)))
-      ∷ cause notLaid (not (entryIn (s .pieces) i .laid)) ∷ [])
+      ∷ cause notLaid (not (entryIn (s .pieces) i .laid))
+      ∷ cause pieceLocked (isLocked (jobOf l) i) ∷ [])
       (withdraw (jobOf l) s i) (withdrawCall l s i)
   -- record and counts together, and the count buffer
   pub withdrawSheet : (l : Lent) (s : Sheet) (i : ℕ)

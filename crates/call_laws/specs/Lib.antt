@@ -13,3 +13,4 @@ pub mod Reading
 pub mod Programs
 pub mod Workspaces
 pub mod Sheets
+pub mod Locks

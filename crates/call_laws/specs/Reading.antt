@@ -1,10 +1,10 @@
--- What reading a job leaves in the lent buffers (document 01, 'Job text'). The theorems are in proofs/Reading. Assumes nothing.
+-- What reading a job leaves in the lent buffers (document 01, 'Job text'; document 02, point 6). The theorems are in proofs/Reading. Assumes nothing.
 use mathlib.Core.Bool.{true}
 use mathlib.Core.List.{List}
 use mathlib.Core.Path.{_≡_}
 use Prim.Native.Nat.{ℕ, _<_}
 use lib.ListN.{length, take}
-use Rattle.model.specs.Lent.{Lent, entryTurns, lentShape, lentWell, pixelStart}
+use Rattle.model.specs.Lent.{Lent, entryTurns, entryLock, lentShape, lentWell, pixelStart}
 use Rattle.model.specs.JobText.{readJob}
 use Rattle.model.specs.Calls.{tableAfter, storeAfter}
 use Rattle.text_laws.specs.Texts.{Agree}
@@ -22,9 +22,10 @@ jobLeft text table pixels k =
 pub record JobLeft (k left : Lent) : Type 0 where
   -- it passes the check that every call makes of a lent job
   pub passes : lentWell left ≡ true
-  -- its pieces have the boxes, the pixels and the turns that were read
+  -- its pieces have the boxes, the pixels, the turns and the locks that were read
   pub pieces : (i : ℕ) → i < k .size .count → Agree (lentShape left i) (lentShape k i)
   pub turns : (i : ℕ) → i < k .size .count → entryTurns (left .table) i ≡ entryTurns (k .table) i
+  pub locks : (i : ℕ) → i < k .size .count → entryLock (left .table) i ≡ entryLock (k .table) i
 
 -- the front of the lent buffers is the job that was read, entry by entry and byte by byte
 pub record FrontRead (text : List ℕ) (table : List (List ℕ)) (pixels : List ℕ) (k : Lent) : Type 0 where

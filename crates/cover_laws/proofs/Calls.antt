@@ -3,7 +3,7 @@
 -- Assumes nothing.
 use Rattle.list_laws.proofs.Kit.{_∙_, _≡_, ap, refl, sym, _&&_, false, not, true, List, [], _++_, _∷_, _+_, _<_, suc, zero, ℕ, add-zero, le-of-suc-le-suc}
 use Rattle.list_laws.proofs.Kit.{not-suc-le-zero, arith, ltb, getD, length, lt-ltb, ltb-true, not-false}
-use Rattle.model.specs.Layout.{Job, allowed, inside}
+use Rattle.model.specs.Layout.{Job, allowed, isLocked, inside}
 use Rattle.model.specs.Refusal.{refused, given}
 use Rattle.model.specs.Cover.{Sheet, entryIn, mapFrom, lay, withdraw, layCauses, withdrawCauses}
 use Rattle.model.specs.Cover.{Call, laying, withdrawing, called, afterwards, afterCalls}
@@ -36,10 +36,15 @@ pub record LayTaken (j : Job) (s : Sheet) (i : ℕ) (p : Placement) : Type 0 whe
   pub free : entryIn (s .pieces) i .laid ≡ false
   pub within : inside j i p ≡ true
 
--- the withdraw of piece i is in order: a piece of the job that is laid
-pub record WithdrawTaken (j : Job) (s : Sheet) (i : ℕ) : Type 0 where
+-- piece i lies on the sheet: a piece of the job that is laid
+pub record Lies (j : Job) (s : Sheet) (i : ℕ) : Type 0 where
   pub piece : i < j .size .count
   pub laid : entryIn (s .pieces) i .laid ≡ true
+
+-- the withdraw of piece i is in order: it lies on the sheet and is free
+pub record WithdrawTaken (j : Job) (s : Sheet) (i : ℕ) : Type 0 where
+  pub lies : Lies j s i
+  pub free : isLocked j i ≡ false
 
 -- a lay that is given is in order and gives the sheet with the piece laid
 pub lay-given : (j : Job) (s s′ : Sheet) (i : ℕ) (p : Placement) → called j s (laying i p) ≡ given s′ → LayTaken j s i p × (lay j s i p ≡ s′)
@@ -69,8 +74,12 @@ unfolding called withdrawCauses
 withdraw-given j s s′ i e =
     let known = given-unless (withdrawCauses j s i) (withdraw j s i) s′ e in (
       record {
-        piece = ltb-true i (j .size .count) (not-false (ltb i (j .size .count)) (known .none .0));
-        laid = not-false (entryIn (s .pieces) i .laid) (known .none .1 .0);
+        lies =
+            record {
+              piece = ltb-true i (j .size .count) (not-false (ltb i (j .size .count)) (known .none .0));
+              laid = not-false (entryIn (s .pieces) i .laid) (known .none .1 .0);
+            };
+        free = known .none .1 .1 .0;
       },
       known .same,
     )
@@ -79,7 +88,7 @@ withdraw-given j s s′ i e =
 pub withdraw-taken : (j : Job) (s : Sheet) (i : ℕ) → WithdrawTaken j s i → called j s (withdrawing i) ≡ given (withdraw j s i)
 unfolding called withdrawCauses
 withdraw-taken j s i t =
-    unless-given (withdrawCauses j s i) (withdraw j s i) (ap not (lt-ltb i (j .size .count) (t .piece)), (ap not (t .laid), tt))
+    unless-given (withdrawCauses j s i) (withdraw j s i) (ap not (lt-ltb i (j .size .count) (t .lies .piece)), (ap not (t .lies .laid), (t .free, tt)))
 
 -- ── lists of calls ──
 

@@ -16,7 +16,7 @@ use Rattle.model.specs.declared.Entry.{Entry}
 use Rattle.list_laws.proofs.Lists.{repeat-at}
 use Rattle.list_laws.proofs.Sums.{sum-agree, sum-grown, sum-zero, passing-bound}
 use Rattle.list_laws.proofs.Tests.{decided}
-use Rattle.cover_laws.proofs.Calls.{length-mapFrom, getD-mapFrom, LayTaken, WithdrawTaken, lay-given, withdraw-given}
+use Rattle.cover_laws.proofs.Calls.{length-mapFrom, getD-mapFrom, LayTaken, Lies, lay-given, withdraw-given}
 
 -- the entry of a piece of the job, laid inside in an allowed turn
 pub record LaidWell (j : Job) (i : ℕ) (e : Entry) : Type 0 where
@@ -144,7 +144,7 @@ module _ (j : Job) (few : j .size .count ≤ pieceBound) where
   withdraw-entry s i sound l = getD-set-same (s .pieces) i blank blank (entry-there s i sound l)
 
   -- a laid piece counts on each pixel that it covers: what a withdraw takes off is there
-  pub covered-counts : (s : Sheet) (i k : ℕ) → Sound j s → WithdrawTaken j s i → k < j .size .rows * j .size .columns
+  pub covered-counts : (s : Sheet) (i k : ℕ) → Sound j s → Lies j s i → k < j .size .rows * j .size .columns
       → oneIf (coversPixel j i (entryIn (s .pieces) i .place) k) ≤ getD (s .counts) k 0
   covered-counts s i k sound t l =
       let count = sound .count k l in
@@ -167,8 +167,8 @@ module _ (j : Job) (few : j .size .count ≤ pieceBound) where
             ∙ sym (lay-count j (s .pieces) i p k (t .piece) there (t .free));
       }
 
-  -- a withdraw that is in order keeps the sheet sound
-  pub withdraw-sound : (s : Sheet) (i : ℕ) → Sound j s → WithdrawTaken j s i → Sound j (withdraw j s i)
+  -- the withdraw of a piece that lies there keeps the sheet sound
+  pub withdraw-sound : (s : Sheet) (i : ℕ) → Sound j s → Lies j s i → Sound j (withdraw j s i)
   unfolding withdraw
   withdraw-sound s i sound t =
       let there : i < length (s .pieces) = entry-there s i sound (t .piece) in
@@ -190,7 +190,7 @@ module _ (j : Job) (few : j .size .count ≤ pieceBound) where
   outcome-sound s (laying i p) (given s′) sound e =
       let known = lay-given j s s′ i p e in subst (λ (t : Sheet). Sound j t) (known .1) (lay-sound s i p sound (known .0))
   outcome-sound s (withdrawing i) (given s′) sound e =
-      let known = withdraw-given j s s′ i e in subst (λ (t : Sheet). Sound j t) (known .1) (withdraw-sound s i sound (known .0))
+      let known = withdraw-given j s s′ i e in subst (λ (t : Sheet). Sound j t) (known .1) (withdraw-sound s i sound (known .0 .lies))
 
   -- a call keeps the sheet sound
   pub call-sound : (s : Sheet) (c : Call) → Sound j s → Sound j (afterwards s (called j s c))

@@ -47,16 +47,16 @@ module _ (j : Job) (few : j .size .count ≤ pieceBound) where
   -- a withdraw that is in order, on a sound sheet
   withdraw-effect : (s : Sheet) (i : ℕ) → Sound j s → WithdrawTaken j s i → WithdrawGives j s i (withdraw j s i)
   withdraw-effect s i sound t =
-      let after : Sound j (withdraw j s i) = withdraw-sound j few s i sound t in
-      let here : entryIn (withdraw j s i .pieces) i ≡ blank = withdraw-entry j few s i sound (t .piece) in
+      let after : Sound j (withdraw j s i) = withdraw-sound j few s i sound (t .lies) in
+      let here : entryIn (withdraw j s i .pieces) i ≡ blank = withdraw-entry j few s i sound (t .lies .piece) in
       record {
         entry = here;
         others = withdraw-others j s i;
-        there = λ k l. covered-counts j few s i k sound t l;
+        there = λ k l. covered-counts j few s i k sound (t .lies) l;
         counts = λ k l. withdraw-counts j s i k sound l;
         bound = λ k l. counts-bound j (withdraw j s i) k after l;
         well = sound-well j (withdraw j s i) after;
-        again = unlaid-refused j (withdraw j s i) i (t .piece) (ap (λ (e : Entry). e .laid) here);
+        again = unlaid-refused j (withdraw j s i) i (t .lies .piece) (ap (λ (e : Entry). e .laid) here);
       }
 
   -- a given lay on a sheet that passes the test

@@ -118,7 +118,7 @@ module _ (j : Job) (few : j .size .count ≤ pieceBound) where
       rw (← (lay-given j s s′ m p e .1)) (lay-others j s m p i (λ q. eqb-false m i same (sym q)) ∙ h)
   last-step s i before (withdrawing m) (given s′) true sound e same h =
       let known = withdraw-given j s s′ m e in
-      rw (← (known .1), ← (eqb-true m i same)) (withdraw-entry j few s m sound (known .0 .piece))
+      rw (← (known .1), ← (eqb-true m i same)) (withdraw-entry j few s m sound (known .0 .lies .piece))
   last-step s i before (withdrawing m) (given s′) false sound e same h =
       rw (← (withdraw-given j s s′ m e .1)) (withdraw-others j s m i (λ q. eqb-false m i same (sym q)) ∙ h)
 

@@ -5,5 +5,6 @@ pub mod Last
 pub mod Reached
 pub mod Pixels
 pub mod Effects
+pub mod Locks
 pub mod Twice
 pub mod Demand2Cover

@@ -17,7 +17,7 @@ use Rattle.model.specs.declared.Placement.{Placement}
 use Rattle.model.specs.declared.Entry.{Entry}
 use Rattle.list_laws.proofs.Bounded.{all-at, all-from}
 use Rattle.list_laws.proofs.Tests.{and-left, and-right, and-both, or-cases, or-right, clash, decided}
-use Rattle.cover_laws.proofs.Calls.{LayTaken, WithdrawTaken, lay-taken, calls-append}
+use Rattle.cover_laws.proofs.Calls.{LayTaken, Lies, lay-taken, calls-append}
 use Rattle.cover_laws.proofs.Counts.{Sound, LaidWell, lay-entry, lay-others, withdraw-entry, withdraw-others, lay-sound, withdraw-sound, fresh-entry}
 use Rattle.cover_laws.proofs.Counts.{reached-sound, same-count}
 
@@ -199,7 +199,7 @@ module _ (j : Job) (few : j .size .count ≤ pieceBound) where
   lay-withdraw s i p sound t =
       let laid : Sound j (lay j s i p) = lay-sound j few s i p sound t in
       let here : entryIn (lay j s i p .pieces) i ≡ laidAt p = lay-entry j few s i p sound (t .piece) in
-      let order : WithdrawTaken j (lay j s i p) i = record { piece = t .piece; laid = ap (λ (e : Entry). e .laid) here } in
+      let order : Lies j (lay j s i p) i = record { piece = t .piece; laid = ap (λ (e : Entry). e .laid) here } in
       let free : entryIn (s .pieces) i ≡ blank =
       ⊎-elim (λ e. e) (λ w. absurd (clash (w .laid) (t .free))) (sound .entry i)
       in

@@ -1,6 +1,6 @@
 -- Document 01, 'Start, layout text, sheet', one computed example: a second lay and a second withdraw of a piece are refused and leave
 -- the counts alone. Sheet of 2 rows and 3 columns, two full 2 × 2 pieces. Assumes nothing.
-use Rattle.list_laws.proofs.Kit.{_≡_, refl, true, List, [], _∷_, ℕ}
+use Rattle.list_laws.proofs.Kit.{_≡_, refl, false, true, List, [], _∷_, ℕ}
 use Rattle.model.specs.Piece.{allows}
 use Rattle.model.specs.Layout.{Job, inside}
 use Rattle.model.specs.Refusal.{unless}
@@ -14,7 +14,7 @@ twoSquares : Job
 twoSquares =
     record {
       size = record { rows = 2; columns = 3; count = 2; gap = 0 };
-      piece = λ i. record { shape = record { columns = 2; rows = 2; has = λ x y. true }; turns = 1 };
+      piece = λ i. record { shape = record { columns = 2; rows = 2; has = λ x y. true }; turns = 1; locked = false };
     }
 
 -- turn 0 at column x of row 0

@@ -1,5 +1,6 @@
 -- What demand 2 says of the cover counts, in the words of document 01, 'Start, layout text, sheet': which pieces are laid, and how many
--- lie on a pixel. The theorem is `demand2-cover` in proofs/Demand2Cover. Assumes nothing.
+-- lie on a pixel. The theorem is `demand2-cover` in proofs/Demand2Cover. Document 02, point 6, adds what locks mean for a sheet; proofs/Locks
+-- has the theorems. Assumes nothing.
 use mathlib.Core.Bool.{_&&_, Bool, false, true}
 use mathlib.Core.List.{List}
 use mathlib.Core.Option.{Option, none, some}
@@ -9,10 +10,11 @@ use lib.ListN.{length, getD}
 use Rattle.model.specs.Bounded.{sumBelow, oneIf}
 use Rattle.model.specs.Piece.{Point, corner, covers}
 use Rattle.model.specs.Layout.{Job, turnedPiece, allowed, inside}
-use Rattle.model.specs.Cover.{entryIn, Call, laying, withdrawing, fresh, lastTaken, Sheet, laidAt, blank, laidCount, endsLaid}
+use Rattle.model.specs.Cover.{entryIn, Call, laying, withdrawing, fresh, lastTaken, Sheet, laidAt, blank, laidCount, endsLaid, sheetWell}
 use Rattle.model.specs.declared.Entry.{Entry}
 use Rattle.model.specs.declared.Placement.{Placement}
-use Rattle.model.specs.Lent.{pieceBound}
+use Rattle.model.specs.Lent.{Lent, lentBy, jobOf, pieceBound}
+use Rattle.model.specs.Calls.{withLock}
 
 -- the number of pieces that the record says are laid and that cover pixel q where they lie
 unfoldable pub laidPieces : Job → List Entry → Point → ℕ
@@ -59,3 +61,10 @@ pub record CoverHolds (j : Job) (cs : List Call) (s : Sheet) : Type 0 where
   pub unlaid : (i : ℕ) → entryIn (s .pieces) i .laid ≡ false → entryIn (s .pieces) i ≡ blank
   -- a piece that is laid lies where that last lay put it
   pub placed : (i : ℕ) → entryIn (s .pieces) i .laid ≡ true → LaidPiece j cs s i
+
+-- ── locks (document 02, point 6) ──
+
+-- with the lock of piece i set a sheet is one that some list of calls gives exactly where it was before: each count is the number of laid pieces on
+-- its pixel while locks are set between calls
+abbrev pub SheetsWithLocks : Lent → Type 0
+SheetsWithLocks l = (i : ℕ) (s : Sheet) → sheetWell (jobOf (lentBy (l .size) (withLock (l .table) i) (l .pixels))) s ≡ sheetWell (jobOf l) s

@@ -21,7 +21,7 @@ pub record LayGives (j : Job) (s : Sheet) (i : ℕ) (p : Placement) (s′ : Shee
   pub bound : (k : ℕ) → k < j .size .rows * j .size .columns → getD (s′ .counts) k 0 ≤ j .size .count
   -- the sheet is one that some list of calls gives
   pub well : sheetWell j s′ ≡ true
-  -- the same lay again is refused with 13, and a withdraw at once gives the same sheet back
+  -- the same lay again is refused with 13, and a withdraw at once, where the piece is free, gives the same sheet back
   pub again : called j s′ (laying i p) ≡ refused (record { number = laidAlready; first = 0; second = 0 })
   pub back : withdraw j s′ i ≡ s
 

@@ -1,12 +1,13 @@
 -- Document 01, 'Descent and guidance', a whole descent: what demand 3 says of it. A trial that is no move found no place on its line
 -- with a smaller pair sum, hence none with a smaller weighted sum, since the other pairs stay as they are; a move lowers the
--- weighted sum and keeps every piece inside in a turn allowed to it. The laws of a run do the rest. Assumes nothing.
+-- weighted sum and keeps every piece inside in a turn allowed to it, and every locked piece in its place, since a trial is of a free one. The
+-- laws of a run do the rest. Assumes nothing.
 use Rattle.list_laws.proofs.Kit.{_∙_, _≡_, ap, refl, sym, Bool, false, true, _≢_, ⊎-elim, Option, none, some, List, _*_, _+_, _<_, _≤_, ℕ, le-trans, arith}
-use Rattle.list_laws.proofs.Kit.{ltb, length, length-set, set, ext-getD, getD-set-other, getD-set-same, le-ltb, ltb-false, ltb-true, ℕ-discrete}
+use Rattle.list_laws.proofs.Kit.{eqb, ne-eqb, ltb, length, length-set, set, ext-getD, getD-set-other, getD-set-same, le-ltb, ltb-false, ltb-true, ℕ-discrete}
 use Rattle.model.specs.Piece.{onLine, lineThrough}
-use Rattle.model.specs.Layout.{Job, Layout, allowed, inside, origin, placeOf, weightedSum, pieceSum}
+use Rattle.model.specs.Layout.{Job, Layout, allowed, isLocked, inside, origin, placeOf, weightedSum, pieceSum}
 use Rattle.model.specs.Search.{Best, movedTo, searchLine}
-use Rattle.model.specs.Descent.{Trial, Attempt, moved, quiet, Descent, trials, trialLine, judged, noTrial, attempt, descend}
+use Rattle.model.specs.Descent.{Trial, Attempt, moved, quiet, Descent, trials, trialLine, judged, begin, noTrial, attempt, descendFrom, descend}
 use Rattle.model.specs.declared.Turn.{Turn}
 use Rattle.model.specs.declared.Direction.{Direction}
 use Rattle.model.specs.declared.Direction.the-variants.{Horizontal, Vertical}
@@ -14,14 +15,15 @@ use Rattle.model.specs.declared.End.the-variants.{Spent}
 use Rattle.model.specs.declared.Line.{Line}
 use Rattle.model.specs.declared.Line.the-variants.{InRow, InColumn}
 use Rattle.model.specs.declared.Placement.{Placement}
+use Rattle.list_laws.proofs.Tests.{clash}
 use Rattle.list_laws.proofs.Lists.{member-at}
-use Rattle.descent_laws.specs.Claims.{ValidWeights, ValidLayout, Rival, DescentClaims}
+use Rattle.descent_laws.specs.Claims.{ValidWeights, ValidLayout, AllLocked, LockedStay, Rival, DescentClaims}
 use Rattle.descent_laws.proofs.Sums.{placed-anew, zero-exactly}
 use Rattle.descent_laws.specs.Search.{LeastFound}
 use Rattle.descent_laws.proofs.Search.{Searched, searched}
 use Rattle.descent_laws.specs.Trials.{trialOf, Proper}
-use Rattle.descent_laws.proofs.Trials.{position, trial-mem, mem-trial}
-use Rattle.descent_laws.proofs.Run.{impossible, trialAt, DescentRan, ran}
+use Rattle.descent_laws.proofs.Trials.{position, trial-mem, mem-trial, no-trials}
+use Rattle.descent_laws.proofs.Run.{impossible, trialAt, DescentRan, ran, endAtOnce, ends-at-once}
 
 -- ── layouts ──
 
@@ -41,6 +43,14 @@ valid-set j v i p h l s a =
       insideSheet = λ k l′. set-keeps (λ n q. inside j n q ≡ true) v i p there s k (h .insideSheet k l′) (ℕ-discrete k i);
       turnAllowed = λ k l′. set-keeps (λ n q. allowed j n (q .turn) ≡ true) v i p there a k (h .turnAllowed k l′) (ℕ-discrete k i);
     }
+
+-- a free piece placed anew leaves the locked ones
+pub locked-set : (j : Job) (v : Layout) (i : ℕ) (p : Placement) → isLocked j i ≡ false → LockedStay j v (set v i p)
+locked-set j v i p free k l locked = getD-set-other v i k p origin (λ (e : k ≡ i). clash locked (rw e free))
+
+-- locked pieces that stay twice stay
+pub stay-on : (j : Job) (u v w : Layout) → LockedStay j u v → LockedStay j v w → LockedStay j u w
+stay-on j u v w a b k l locked = b k l locked ∙ a k l locked
 
 -- ── one trial ──
 
@@ -95,6 +105,10 @@ module _ (j : Job) (ws : List ℕ) (v : Layout) (i : ℕ) (t : Turn) (line : Lin
   step-valid : (w : Layout) → Step j ws v i t line w → ValidLayout j v → i < j .size .count → allowed j i t ≡ true → ValidLayout j w
   step-valid w s h l a = rw (s .result) (valid-set j v i (onLine line t (s .at)) h l (s .insideSheet) (rw (turn-on line t (s .at)) a))
 
+  -- a step of a free piece leaves the locked ones
+  step-stays : (w : Layout) → Step j ws v i t line w → isLocked j i ≡ false → LockedStay j v w
+  step-stays w s free = rw (s .result) (locked-set j v i (onLine line t (s .at)) free)
+
   -- a step lowers the weighted sum
   step-lower : (w : Layout) → Step j ws v i t line w → weightedSum j ws w < weightedSum j ws v
   step-lower w s =
@@ -102,11 +116,12 @@ module _ (j : Job) (ws : List ℕ) (v : Layout) (i : ℕ) (t : Turn) (line : Lin
       let less = s .smaller in
       rw (s .result) (omega arith)
 
--- a move keeps the layout valid and lowers the weighted sum
+-- a move keeps the layout valid, leaves the locked pieces, and lowers the weighted sum
 pub attempt-moved : (j : Job) (ws : List ℕ) (v w : Layout) (k : Trial) → Proper j 0 (j .size .count) k → ValidLayout j v
-    → attempt j ws v k ≡ moved w → ValidLayout j w × (weightedSum j ws w < weightedSum j ws v)
+    → attempt j ws v k ≡ moved w → ValidLayout j w × LockedStay j v w × (weightedSum j ws w < weightedSum j ws v)
 unfolding attempt
-attempt-moved j ws v w k p h e = (step-valid j ws v i t line w s h (p .below) (p .turnAllowed), step-lower j ws v i t line w s)
+attempt-moved j ws v w k p h e =
+    (step-valid j ws v i t line w s h (p .below) (p .turnAllowed), step-stays j ws v i t line w s (p .pieceFree), step-lower j ws v i t line w s)
   where
     i : ℕ
     i = k .piece
@@ -169,7 +184,7 @@ quiet-rival j ws v w h q r = rw (rival-set j v w h r) (⊎-elim inRow inColumn (
 
     along : (d : Direction) (a : ℕ) → onLine (lineThrough d (placeOf v i)) (p .turn) a ≡ p → weightedSum j ws v ≤ weightedSum j ws (set v i p)
     along d a e =
-        let pos = position noTrial (trials j) (trial-mem j i (p .turn) d (r .there) (r .turnAllowed)) in
+        let pos = position noTrial (trials j) (trial-mem j i (p .turn) d (r .there) (r .pieceFree) (r .turnAllowed)) in
         let k : Quiet j ws v (trialOf i (p .turn) d) = rw (pos .there) at (q (pos .number) (pos .below)) in
         rw e at (k a (rw e (r .insideSheet)))
 
@@ -181,46 +196,62 @@ quiet-rival j ws v w h q r = rw (rival-set j v w h r) (⊎-elim inRow inColumn (
 
 -- ── the whole descent ──
 
--- a job with a piece and a valid layout has a trial
-some-trial : (j : Job) (v : Layout) → 0 < j .size .count → ValidLayout j v → 0 < length (trials j)
-some-trial j v l h =
-    let pos = position noTrial (trials j) (trial-mem j 0 (placeOf v 0 .turn) Horizontal l (h .turnAllowed 0 l)) in
-    let b = pos .below in omega arith
+-- what holds of each layout u of a run from v: it is valid, and the locked pieces lie where they were given
+abbrev Kept : Job → Layout → Layout → Type 0
+Kept j v u = ValidLayout j u × LockedStay j v u
+
+-- a move keeps it
+kept-moved : (j : Job) (ws : List ℕ) (v u w : Layout) (k : Trial) → Proper j 0 (j .size .count) k → Kept j v u → attempt j ws u k ≡ moved w
+    → Kept j v w × (weightedSum j ws w < weightedSum j ws u)
+kept-moved j ws v u w k p g e = let m = attempt-moved j ws u w k p (g .0) e in ((m .0, stay-on j v u w (g .1) (m .1)), m .2)
 
 -- the run of the job's trials
-descent-ran : (j : Job) (ws : List ℕ) (budget : ℕ) (v : Layout) → 0 < j .size .count → ValidLayout j v
-    → DescentRan (weightedSum j ws) (trials j) (ValidLayout j) (Quiet j ws) v budget (descend j ws budget v)
+descent-ran : (j : Job) (ws : List ℕ) (budget : ℕ) (v : Layout) → ValidLayout j v
+    → DescentRan (weightedSum j ws) (trials j) (Kept j v) (Quiet j ws) v budget (descend j ws budget v)
 unfolding descend
-descent-ran j ws budget v l h =
-    ran (weightedSum j ws) (attempt j ws) (trials j) (ValidLayout j) (Quiet j ws) (some-trial j v l h)
-    (λ u w m b g e. attempt-moved j ws u w (trialAt (trials j) m) (mem-trial j _ (member-at (trials j) m noTrial b)) g e)
-    (λ u m b g e. attempt-quiet j ws u (trialAt (trials j) m) e) v budget h
+descent-ran j ws budget v h =
+    ran (weightedSum j ws) (attempt j ws) (trials j) (Kept j v) (Quiet j ws)
+    (λ u w m b g e. kept-moved j ws v u w (trialAt (trials j) m) (mem-trial j _ (member-at (trials j) m noTrial b)) g e)
+    (λ u m b g e. attempt-quiet j ws u (trialAt (trials j) m) e) v budget (h, λ i l locked. refl)
+
+-- with every piece locked there is no trial, and a run ends at once
+all-locked : (j : Job) (ws : List ℕ) (budget : ℕ) (v : Layout) → AllLocked j
+    → descend j ws budget v ≡ record { end = endAtOnce (eqb (weightedSum j ws v) 0); layout = v; sum = weightedSum j ws v; made = 0; moves = 0 }
+unfolding descend
+all-locked j ws budget v locked =
+    ap (λ (ts : List Trial). descendFrom (weightedSum j ws) (attempt j ws) ts budget (begin v)) (no-trials j locked)
+    ∙ ends-at-once (weightedSum j ws) (attempt j ws) v budget (eqb (weightedSum j ws v) 0) refl
 
 -- demand 3's claims hold of a descent
-pub descent-claims : (j : Job) (ws : List ℕ) (budget : ℕ) (v : Layout) → 0 < j .size .count → ValidWeights j ws → ValidLayout j v
+pub descent-claims : (j : Job) (ws : List ℕ) (budget : ℕ) (v : Layout) → ValidWeights j ws → ValidLayout j v
     → DescentClaims j ws budget v (descend j ws budget v)
-descent-claims j ws budget v l weights h =
+descent-claims j ws budget v weights h =
     record {
       rival =
-          λ c w r. ⊎-elim (λ e. rw (run .sumOfLayout) (quiet-rival j ws (d .layout) w (run .good) (run .settledMeansQuiet e) r))
+          λ c w r. ⊎-elim (λ e. rw (run .sumOfLayout) (quiet-rival j ws (d .layout) w (run .good .0) (run .settledMeansQuiet e) r))
           (λ e. let z = run .clearMeansZero e in omega arith) c;
       sumAtMost = atMost;
       zeroExactly = rw (run .sumOfLayout) (zero-exactly j ws (d .layout) weights);
       movesAtMostFall = run .movesAtMostFall;
       budgetSuffices = suffices;
       sumOfLayout = run .sumOfLayout;
-      valid = run .good;
+      valid = run .good .0;
       clearExactly = (run .clearMeansZero, run .zeroMeansClear);
       spentUsesBudget = run .spentMeansBudget;
       madeWithinBudget = run .madeWithinBudget;
       movesAtMostMade = run .movesAtMostMade;
+      lockedStay = run .good .1;
+      allLocked =
+          λ locked.
+          let e = all-locked j ws budget v locked in
+          rw e (refl, refl, λ notClear. ap endAtOnce (ne-eqb (weightedSum j ws v) 0 notClear));
     }
   where
     d : Descent
     d = descend j ws budget v
 
-    run : DescentRan (weightedSum j ws) (trials j) (ValidLayout j) (Quiet j ws) v budget d
-    run = descent-ran j ws budget v l h
+    run : DescentRan (weightedSum j ws) (trials j) (Kept j v) (Quiet j ws) v budget d
+    run = descent-ran j ws budget v h
 
     -- arithmetic proves these two claims and every weaker one, so they are said in full here too
     atMost : d .sum ≤ weightedSum j ws v

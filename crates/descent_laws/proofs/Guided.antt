@@ -3,17 +3,20 @@
 -- by comparing plain sums. Assumes nothing.
 use Rattle.list_laws.proofs.Kit.{_∙_, _≡_, ap, refl, Bool, false, true, _↔_, _≢_, _⊎_, inl, inr, ⊎-elim, List, List·Memᴰ, List·Memᴰ·cases-cons}
 use Rattle.list_laws.proofs.Kit.{List·Memᴰ·head, List·Memᴰ·not-nil, List·Memᴰ·tail, [], _∷_, _<_, _≤_, min, suc, zero, ℕ, le-refl, le-trans, arith, lit≤, ltb}
-use Rattle.list_laws.proofs.Kit.{getD, getD-replicate, length, length-replicate, ltb-false, ltb-true}
-use Rattle.model.specs.Layout.{Job, Layout, Pair, pairs, pairConflicts, unitWeights, plainSum}
+use Rattle.list_laws.proofs.Kit.{sym, ext-getD, getD, getD-replicate, length, length-replicate, ltb-false, ltb-true}
+use Rattle.model.specs.Layout.{Job, Layout, Pair, origin, pairs, pairConflicts, unitWeights, plainSum}
 use Rattle.model.specs.Descent.{Descent, descend}
-use Rattle.model.specs.Guided.{weightBound, raisedOver, raised, Round, isClear, weightsAfter, roundFrom, rounds, bestOf, bestAfter, lastWeights, outcome, guide}
+use Rattle.model.specs.Guided.{weightBound, raisedOver, raised, Round, isClear, weightsAfter, roundFrom, rounds, bestOf, bestAfter, lastWeights, outcome}
+use Rattle.model.specs.Guided.{guide, madeIn, movesIn}
 use Rattle.model.specs.declared.End.{End}
 use Rattle.model.specs.declared.End.the-variants.{Clear, Settled, Spent}
-use Rattle.descent_laws.specs.Claims.{InRange, ValidWeights, ValidLayout, NoConflict, DescentClaims, RoundClaims, Follows, roundAt, RoundsClaims}
-use Rattle.descent_laws.specs.Claims.{RoundEnd, GuidedClaims}
+use Rattle.descent_laws.specs.Claims.{InRange, ValidWeights, ValidLayout, AllLocked, LockedStay, NoConflict, DescentClaims, RoundClaims}
+use Rattle.descent_laws.specs.Claims.{Follows, noRound, roundAt, RoundsClaims, RoundEnd, GuidedClaims}
 use Rattle.descent_laws.proofs.Sums.{zero-exactly}
+use Rattle.list_laws.proofs.Lists.{member-at}
+use Rattle.descent_laws.proofs.Trials.{position}
 use Rattle.descent_laws.proofs.Run.{impossible}
-use Rattle.descent_laws.proofs.Descent.{descent-claims}
+use Rattle.descent_laws.proofs.Descent.{stay-on, descent-claims}
 
 -- ── weights ──
 
@@ -130,10 +133,10 @@ rounds-at j ws K budget v r h begins by true e later = clear-round j ws K budget
 rounds-at j ws K budget v r h begins by false e later = round-more j ws K budget v r _ h begins by (not-clear _ e) (later refl)
 
 -- the rounds of a guided run are so
-pub rounds-claims : (j : Job) (ws : List ℕ) (K budget : ℕ) (v : Layout) → 0 < j .size .count → ValidWeights j ws → ValidLayout j v
+pub rounds-claims : (j : Job) (ws : List ℕ) (K budget : ℕ) (v : Layout) → ValidWeights j ws → ValidLayout j v
     → RoundsClaims j ws K budget v (rounds j K budget ws v)
 unfolding rounds
-rounds-claims j ws zero budget v l weights h =
+rounds-claims j ws zero budget v weights h =
     record {
       each = λ r m. absurd (List·Memᴰ·not-nil m);
       some = λ b. b;
@@ -142,13 +145,13 @@ rounds-claims j ws zero budget v l weights h =
       next = λ k b. absurd (omega arith);
       fewerMeansClear = λ k e b. absurd (omega arith);
     }
-rounds-claims j ws (suc K) budget v l weights h =
-    let c : DescentClaims j ws budget v (descend j ws budget v) = descent-claims j ws budget v l weights h in
+rounds-claims j ws (suc K) budget v weights h =
+    let c : DescentClaims j ws budget v (descend j ws budget v) = descent-claims j ws budget v weights h in
     let d : Descent = descend j ws budget v in
     rounds-at j ws K budget v (roundFrom j budget ws v)
     (record { isDescent = refl; validLayout = h; validWeights = weights; claims = c }) refl refl _ refl
     (λ (e : isClear (d .end) ≡ false).
-    rw (e, weightsAfter) (rounds-claims j (raised j (d .layout) ws) K budget (d .layout) l (raised-valid j (d .layout) ws weights) (c .valid)))
+    rw (e, weightsAfter) (rounds-claims j (raised j (d .layout) ws) K budget (d .layout) (raised-valid j (d .layout) ws weights) (c .valid)))
 
 -- ── the best layout ──
 
@@ -208,11 +211,53 @@ last-valid j ws [] h each = h
 last-valid j ws (r ∷ rs) h each =
     last-valid j (weightsAfter j r) rs (after-valid j r (each r (List·Memᴰ·head refl))) (λ s m. each s (List·Memᴰ·tail m))
 
+-- at the end of each round the locked pieces lie where they were given, by its number
+stays-at : (j : Job) (ws : List ℕ) (K budget : ℕ) (v : Layout) (rs : List Round) → RoundsClaims j ws K budget v rs → (k : ℕ) → k < length rs
+    → LockedStay j v (roundAt rs k .descent .layout)
+stays-at j ws K budget v rs c zero l =
+    rw (c .first l .0) at (c .each (roundAt rs 0) (member-at rs 0 noRound l) .claims .lockedStay)
+stays-at j ws K budget v rs c (suc k) l =
+    stay-on j v (roundAt rs k .descent .layout) (roundAt rs (suc k) .descent .layout) (stays-at j ws K budget v rs c k (omega arith))
+    (rw (c .next k l .beginsAtEnd) at (c .each (roundAt rs (suc k)) (member-at rs (suc k) noRound l) .claims .lockedStay))
+
+-- at the end of each round the locked pieces lie where they were given
+round-stays : (j : Job) (ws : List ℕ) (K budget : ℕ) (v : Layout) (rs : List Round) → RoundsClaims j ws K budget v rs → (r : Round) → List·Memᴰ r rs
+    → LockedStay j v (r .descent .layout)
+round-stays j ws K budget v rs c r m =
+    let p = position noRound rs m in rw (p .there) at (stays-at j ws K budget v rs c (p .number) (p .below))
+
+-- rounds without a trial have none together, and no move
+none-made : (rs : List Round) → ((r : Round) → List·Memᴰ r rs → (r .descent .made ≡ 0) × (r .descent .moves ≡ 0)) → (madeIn rs ≡ 0) × (movesIn rs ≡ 0)
+unfolding madeIn movesIn
+none-made [] each = (refl, refl)
+none-made (r ∷ rs) each =
+    let here = each r (List·Memᴰ·head refl) in
+    let later = none-made rs (λ s m. each s (List·Memᴰ·tail m)) in
+    let made : r .descent .made ≡ 0 = here .0 in
+    let moves : r .descent .moves ≡ 0 = here .1 in
+    let madeLater : madeIn rs ≡ 0 = later .0 in
+    let movesLater : movesIn rs ≡ 0 = later .1 in
+    (omega arith, omega arith)
+
+-- with every piece locked, so has a round
+round-still : (j : Job) (budget : ℕ) (r : Round) → AllLocked j → RoundClaims j budget r → (r .descent .made ≡ 0) × (r .descent .moves ≡ 0)
+round-still j budget r locked c =
+    let e : r .descent .made ≡ 0 = c .claims .allLocked locked .0 in
+    let few = c .claims .movesAtMostMade in
+    (e, omega arith)
+
+-- two layouts of all pieces, locked in the same places, are one
+same-layout : (j : Job) (v w : Layout) → AllLocked j → ValidLayout j v → ValidLayout j w → LockedStay j v w → w ≡ v
+same-layout j v w locked a b stay =
+    let e = a .onePerPiece in
+    let e′ = b .onePerPiece in
+    ext-getD origin w v (e′ ∙ sym e) (λ i l. stay i (omega arith) (locked i (omega arith)))
+
 -- demand 3's claims hold of a guided run
-pub guided-claims : (j : Job) (ws : List ℕ) (K budget : ℕ) (v : Layout) → 0 < j .size .count → ValidWeights j ws → ValidLayout j v
+pub guided-claims : (j : Job) (ws : List ℕ) (K budget : ℕ) (v : Layout) → ValidWeights j ws → ValidLayout j v
     → GuidedClaims j ws K budget v (rounds j K budget ws v) (guide j K budget ws v)
 unfolding guide outcome
-guided-claims j ws K budget v l weights h =
+guided-claims j ws K budget v weights h =
     record {
       sumOfLayout = refl;
       zeroExactly = plain-zero j best;
@@ -220,9 +265,10 @@ guided-claims j ws K budget v l weights h =
       atMostGiven = b .atMostGiven;
       atMostRoundEnds = b .atMostRoundEnds;
       roundsClaims = c;
-      validLayout =
-          ⊎-elim (λ (e : best ≡ v). rw e h) (λ (x : RoundEnd rs best). rw (x .atEnd) (c .each (x .round) (x .member) .claims .valid)) (b .givenOrRoundEnd);
+      validLayout = valid;
       validWeights = last-valid j ws rs weights (λ r m. c .each r m .validWeights);
+      lockedStay = stays;
+      allLocked = λ locked. (same-layout j v best locked h valid stays, still locked .0, still locked .1);
     }
   where
     rs : List Round
@@ -235,4 +281,19 @@ guided-claims j ws K budget v l weights h =
     b = best-claims j v rs
 
     c : RoundsClaims j ws K budget v rs
-    c = rounds-claims j ws K budget v l weights h
+    c = rounds-claims j ws K budget v weights h
+
+    -- the best layout is valid
+    valid : ValidLayout j best
+    valid =
+        ⊎-elim (λ (e : best ≡ v). rw e h) (λ (x : RoundEnd rs best). rw (x .atEnd) (c .each (x .round) (x .member) .claims .valid)) (b .givenOrRoundEnd)
+
+    -- and has each locked piece where it was given
+    stays : LockedStay j v best
+    stays =
+        ⊎-elim (λ (e : best ≡ v). rw e (λ i l locked. refl))
+        (λ (x : RoundEnd rs best). rw (x .atEnd) (round-stays j ws K budget v rs c (x .round) (x .member))) (b .givenOrRoundEnd)
+
+    -- with every piece locked no round has a trial
+    still : AllLocked j → (madeIn rs ≡ 0) × (movesIn rs ≡ 0)
+    still locked = none-made rs (λ r m. round-still j budget r locked (c .each r m))

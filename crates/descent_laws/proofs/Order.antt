@@ -2,7 +2,7 @@
 -- since a number that tells its place in the order rises along the list. Assumes nothing.
 use Rattle.list_laws.proofs.Kit.{_≡_, ap, Bool, false, true, _≢_, List, [], _++_, _∷_, _*_, _+_, _<_, _≤_, suc, zero, ℕ, add-suc, le-refl, le-trans, suc-mul}
 use Rattle.list_laws.proofs.Kit.{arith, getD, length}
-use Rattle.model.specs.Layout.{Job, Pair, pairs, pairsWith, pairsFrom, allowed}
+use Rattle.model.specs.Layout.{Job, Pair, pairs, pairsWith, pairsFrom, allowed, isLocked}
 use Rattle.model.specs.Descent.{Trial, noTrial, turnTrials, pieceTrials, trialsFrom, trials}
 use Rattle.model.specs.declared.Turn.{Turn}
 use Rattle.model.specs.declared.Turn.the-variants.{Zero, Quarter, Half, ThreeQuarters}
@@ -10,7 +10,7 @@ use Rattle.model.specs.declared.Direction.{Direction}
 use Rattle.model.specs.declared.Direction.the-variants.{Horizontal, Vertical}
 use Rattle.descent_laws.specs.Claims.{TrialsClaims}
 use Rattle.descent_laws.specs.Trials.{turnNumber, trialOf}
-use Rattle.descent_laws.proofs.Trials.{trial-mem, mem-trial}
+use Rattle.descent_laws.proofs.Trials.{trial-mem, mem-trial, no-trials}
 
 -- ── rising lists ──
 
@@ -125,10 +125,13 @@ turnLow i t = 8 * i + 2 * turnNumber t
 abbrev turnHigh : ℕ → Turn → ℕ
 turnHigh i t = 8 * i + 2 * turnNumber t + 2
 
--- the trials of a piece rise
-piece-rise : (j : Job) (i : ℕ) → Rising trialKey (turnLow i Zero) (turnHigh i ThreeQuarters) (pieceTrials j i)
-unfolding pieceTrials
-piece-rise j i =
+-- by the lock: the trials of a free piece rise, and so does none
+piece-rise-at : (j : Job) (i : ℕ) (b : Bool)
+    → Rising trialKey (turnLow i Zero) (turnHigh i ThreeQuarters)
+    (elim b as (λ _. List Trial)
+    [ true ↦ [] | false ↦ turnTrials j i Zero ++ turnTrials j i Quarter ++ turnTrials j i Half ++ turnTrials j i ThreeQuarters ])
+piece-rise-at j i true = omega arith
+piece-rise-at j i false =
     rising-append trialKey (turnLow i Zero) (turnHigh i Half) (turnLow i ThreeQuarters) (turnHigh i ThreeQuarters)
     (turnTrials j i Zero ++ turnTrials j i Quarter ++ turnTrials j i Half) (turnTrials j i ThreeQuarters)
     (rising-append trialKey (turnLow i Zero) (turnHigh i Quarter) (turnLow i Half) (turnHigh i Half)
@@ -137,6 +140,11 @@ piece-rise j i =
     (turnTrials j i Quarter) (turn-rise j i Zero) (omega arith) (turn-rise j i Quarter))
     (omega arith) (turn-rise j i Half))
     (omega arith) (turn-rise j i ThreeQuarters)
+
+-- the trials of a piece rise
+piece-rise : (j : Job) (i : ℕ) → Rising trialKey (turnLow i Zero) (turnHigh i ThreeQuarters) (pieceTrials j i)
+unfolding pieceTrials
+piece-rise j i = piece-rise-at j i (isLocked j i)
 
 -- the trials of the pieces from i on rise
 trials-from-rise : (j : Job) (i left : ℕ) → Rising trialKey (8 * i) (8 * (i + left)) (trialsFrom j i left)
@@ -162,12 +170,14 @@ trials-once j = rising-once trialKey 0 (8 * (0 + j .size .count)) (trials j) noT
 pub trials-at-most : (j : Job) → length (trials j) ≤ 8 * j .size .count
 trials-at-most j = let l = rising-length trialKey 0 (8 * (0 + j .size .count)) (trials j) (trials-rise j) in omega arith
 
--- the list of trials is what document 01 says
+-- the list of trials is what the documents say
 pub trials-claims : (j : Job) → TrialsClaims j (trials j)
 trials-claims j =
     record {
       every = trial-mem j;
       pieceThere = λ k m. mem-trial j k m .below;
+      pieceFree = λ k m. mem-trial j k m .pieceFree;
       turnAllowed = λ k m. mem-trial j k m .turnAllowed;
       once = trials-once j;
+      noneLeft = λ h. ap length (no-trials j h);
     }

@@ -3,7 +3,7 @@
 -- ends before the next trial, going round; when it has all T trials, each of them is quiet at the end. A quiet trial makes the
 -- window one longer and a move lowers the sum by at least 1, so at most T trials are made for each unit of the sum, and T more.
 -- Assumes nothing.
-use Rattle.list_laws.proofs.Kit.{_≡_, refl, subst, sym, Bool, false, true, _≢_, ⊎-elim, Option, none, some, List, _*_, _+_, _<_, _≤_, suc, zero, ℕ}
+use Rattle.list_laws.proofs.Kit.{_≡_, refl, subst, sym, Bool, false, true, _≢_, ⊎-elim, Option, none, some, List, [], _*_, _+_, _<_, _≤_, suc, zero, ℕ}
 use Rattle.list_laws.proofs.Kit.{eq-or-lt-of-le, le-of-suc-le-suc, mul-add, mul-le-mul-left, mul-one, mul-suc, arith, eqb, ltb, getD, length, eqb-false}
 use Rattle.list_laws.proofs.Kit.{eqb-true, ltb-false, ltb-true, decLt}
 use Rattle.model.specs.Layout.{Layout}
@@ -92,14 +92,13 @@ pub record DescentRan (sum : Layout → ℕ) (ts : List Trial) (Good : Layout �
   pub spentMeansFew : d .end ≡ Spent → d .made < length ts * (sum v + 1)
 
 module _ (sum : Layout → ℕ) (try : Layout → Trial → Attempt) (ts : List Trial) (Good : Layout → Type 0) (Quiet : Layout → Trial → Type 0)
-    (some-trial : 0 < length ts)
     (move : (v w : Layout) (m : ℕ) → m < length ts → Good v → try v (trialAt ts m) ≡ moved w → Good w × (sum w < sum v))
     (rest : (v : Layout) (m : ℕ) → m < length ts → Good v → try v (trialAt ts m) ≡ quiet → Quiet v (trialAt ts m))
   where
     -- what holds before each trial of a run from v
     record Reached (v : Layout) (s : Progress) : Type 0 where
       good : Good (s .layout)
-      there : s .next < length ts
+      there : 0 < length ts → s .next < length ts
       window : Window (λ m. Quiet (s .layout) (trialAt ts m)) (length ts) (s .next) (s .quietCount)
       quietAtMost : s .quietCount ≤ length ts
       movesFall : s .moves + sum (s .layout) ≤ sum v
@@ -111,7 +110,7 @@ module _ (sum : Layout → ℕ) (try : Layout → Trial → Attempt) (ts : List 
     reached-begin v g =
         record {
           good = g;
-          there = some-trial;
+          there = λ h. h;
           window = no-window _ (length ts) 0;
           quietAtMost = omega arith;
           movesFall = omega arith;
@@ -123,7 +122,7 @@ module _ (sum : Layout → ℕ) (try : Layout → Trial → Attempt) (ts : List 
     reached-after : (v : Layout) (s : Progress) → Reached v s → s .quietCount < length ts → (a : Attempt)
         → try (s .layout) (trialAt ts (s .next)) ≡ a → Reached v (proceed (length ts) s a)
     reached-after v s r few (moved w) e =
-        let m = move (s .layout) w (s .next) (r .there) (r .good) e in
+        let m = move (s .layout) w (s .next) (r .there (omega arith)) (r .good) e in
         let lower : sum w < sum (s .layout) = m .1 in
         let fall : s .moves + sum (s .layout) ≤ sum v = r .movesFall in
         let bound : s .made + length ts * sum (s .layout) ≤ length ts * sum v + s .quietCount = r .madeFew in
@@ -131,7 +130,7 @@ module _ (sum : Layout → ℕ) (try : Layout → Trial → Attempt) (ts : List 
         let unit : length ts * suc (sum w) ≡ length ts * sum w + length ts = mul-suc (length ts) (sum w) in
         record {
           good = m .0;
-          there = after-there (length ts) (s .next) some-trial;
+          there = after-there (length ts) (s .next);
           window = no-window _ (length ts) _;
           quietAtMost = omega arith;
           movesFall = omega arith;
@@ -139,10 +138,11 @@ module _ (sum : Layout → ℕ) (try : Layout → Trial → Attempt) (ts : List 
           madeFew = omega arith;
         }
     reached-after v s r few quiet e =
+        let there : s .next < length ts = r .there (omega arith) in
         record {
           good = r .good;
-          there = after-there (length ts) (s .next) some-trial;
-          window = longer _ (length ts) (s .next) (s .quietCount) (r .window) (r .there) (rest (s .layout) (s .next) (r .there) (r .good) e);
+          there = after-there (length ts) (s .next);
+          window = longer _ (length ts) (s .next) (s .quietCount) (r .window) there (rest (s .layout) (s .next) there (r .good) e);
           quietAtMost = few;
           movesFall = r .movesFall;
           movesMade = let h = r .movesMade in omega arith;
@@ -186,7 +186,7 @@ module _ (sum : Layout → ℕ) (try : Layout → Trial → Attempt) (ts : List 
           madeWithinBudget = within;
           clearMeansZero = λ (h : Settled ≡ Clear). impossible (cc);
           zeroMeansClear = λ h. absurd (positive h);
-          settledMeansQuiet = λ _. all-hold _ (length ts) (s .next) (r .there) (rw e at (r .window));
+          settledMeansQuiet = λ _ m l. all-hold _ (length ts) (s .next) (r .there (omega arith)) (rw e at (r .window)) m l;
           spentMeansBudget = λ (h : Settled ≡ Spent). impossible (cc);
           spentMeansFew = λ (h : Settled ≡ Spent). impossible (cc);
         }
@@ -236,3 +236,17 @@ module _ (sum : Layout → ℕ) (try : Layout → Trial → Attempt) (ts : List 
     -- a run from v
     pub ran : (v : Layout) (budget : ℕ) → Good v → Outcome v budget (descendFrom sum try ts budget (begin v))
     ran v budget g = ran-from v budget budget (begin v) (reached-begin v g) (omega arith)
+
+-- the end that is reached without a trial: clear where the sum is 0, else settled
+abbrev pub endAtOnce : Bool → End
+endAtOnce true = Clear
+endAtOnce false = Settled
+
+-- without a trial a run ends where it begins, whatever the budget
+pub ends-at-once : (sum : Layout → ℕ) (try : Layout → Trial → Attempt) (v : Layout) (budget : ℕ) (b : Bool) → eqb (sum v) 0 ≡ b
+    → descendFrom sum try [] budget (begin v) ≡ ended sum try [] (endAtOnce b) (begin v)
+unfolding descendFrom
+ends-at-once sum try v zero true e = rw (e, descendFrom)
+ends-at-once sum try v zero false e = rw (e, descendFrom)
+ends-at-once sum try v (suc budget) true e = rw (e, descendFrom)
+ends-at-once sum try v (suc budget) false e = rw (e, descendFrom)

@@ -1,12 +1,13 @@
--- What demand 3 says of whole runs, in the words of document 01, 'Descent and guidance'. The theorem that it holds is `demand3` in
--- proofs/Demand3. Assumes nothing.
-use mathlib.Core.Bool.{true}
+-- What demand 3 says of whole runs, in the words of document 01, 'Descent and guidance', and of document 02, point 6: locked pieces stay, and
+-- the changes that a settled layout is compared with are of one free piece. The theorem that it holds is `demand3` in proofs/Demand3. Assumes
+-- nothing.
+use mathlib.Core.Bool.{true, false}
 use mathlib.Core.Path.{_≡_}
 use mathlib.Core.Logic.{_⊎_, _≢_, _↔_}
 use mathlib.Core.List.{List, [], List·Memᴰ}
 use Prim.Native.Nat.{ℕ, suc, _+_, _*_, _<_, _≤_}
 use lib.ListN.{length, getD}
-use Rattle.model.specs.Layout.{Job, Layout, allowed, inside, placeOf, shapeIn, cornerIn, pairs, weightedSum, plainSum}
+use Rattle.model.specs.Layout.{Job, Layout, allowed, isLocked, inside, placeOf, shapeIn, cornerIn, pairs, weightedSum, plainSum}
 use Rattle.model.specs.Descent.{Trial, noTrial, Descent, trials, descend}
 use Rattle.model.specs.Guided.{weightBound, raised, Round, Guided, rounds, guide}
 use Rattle.model.specs.declared.Turn.{Turn}
@@ -31,6 +32,10 @@ pub record ValidLayout (j : Job) (v : Layout) : Type 0 where
   pub insideSheet : (i : ℕ) → i < j .size .count → inside j i (placeOf v i) ≡ true
   pub turnAllowed : (i : ℕ) → i < j .size .count → allowed j i (placeOf v i .turn) ≡ true
 
+-- every piece of the job is locked
+abbrev pub AllLocked : Job → Type 0
+AllLocked j = (i : ℕ) → i < j .size .count → isLocked j i ≡ true
+
 -- ── what is said of a layout ──
 
 -- no two pieces conflict: no pixel of one is at most g columns and at most g rows from a pixel of another. With a gap of 0, no two share a pixel
@@ -38,10 +43,15 @@ abbrev pub NoConflict : Job → Layout → Type 0
 NoConflict j v =
     (i k : ℕ) → i < k → k < j .size .count → NearPixels (j .size .gap) (shapeIn j v i) (cornerIn v i) (shapeIn j v k) (cornerIn v k) → ⊥
 
--- w differs from v in one piece, which lies inside in a turn allowed to it, its corner in the same row or column
+-- each locked piece lies in w where it lies in v
+abbrev pub LockedStay : Job → Layout → Layout → Type 0
+LockedStay j v w = (i : ℕ) → i < j .size .count → isLocked j i ≡ true → placeOf w i ≡ placeOf v i
+
+-- w differs from v in one free piece, which lies inside in a turn allowed to it, its corner in the same row or column
 pub record Rival (j : Job) (v w : Layout) : Type 0 where
   pub piece : ℕ
   pub there : piece < j .size .count
+  pub pieceFree : isLocked j piece ≡ false
   pub onePerPiece : length w ≡ j .size .count
   pub othersSame : (k : ℕ) → k < j .size .count → k ≢ piece → placeOf w k ≡ placeOf v k
   pub insideSheet : inside j piece (placeOf w piece) ≡ true
@@ -50,18 +60,22 @@ pub record Rival (j : Job) (v w : Layout) : Type 0 where
 
 -- ── trials ──
 
--- the list of trials, whose length is T: every piece of the job in every turn allowed to it and both directions, nothing else, each once
+-- the list of trials, whose length is T: every free piece of the job in every turn allowed to it and both directions, nothing else, each once;
+-- none where every piece is locked
 pub record TrialsClaims (j : Job) (ts : List Trial) : Type 0 where
-  pub every : (i : ℕ) (t : Turn) (d : Direction) → i < j .size .count → allowed j i t ≡ true → List·Memᴰ (record { piece = i; turn = t; direction = d }) ts
+  pub every : (i : ℕ) (t : Turn) (d : Direction) → i < j .size .count → isLocked j i ≡ false → allowed j i t ≡ true
+      → List·Memᴰ (record { piece = i; turn = t; direction = d }) ts
   pub pieceThere : (k : Trial) → List·Memᴰ k ts → k .piece < j .size .count
+  pub pieceFree : (k : Trial) → List·Memᴰ k ts → isLocked j (k .piece) ≡ false
   pub turnAllowed : (k : Trial) → List·Memᴰ k ts → allowed j (k .piece) (k .turn) ≡ true
   pub once : (m n : ℕ) → m < n → n < length ts → getD ts m noTrial ≢ getD ts n noTrial
+  pub noneLeft : AllLocked j → length ts ≡ 0
 
 -- ── a descent ──
 
 -- what is said of a descent d from v by the weights ws with a budget
 pub record DescentClaims (j : Job) (ws : List ℕ) (budget : ℕ) (v : Layout) (d : Descent) : Type 0 where
-  -- settled or clear: every layout that differs in one piece, in any turn allowed to it, anywhere inside with its corner in the
+  -- settled or clear: every layout that differs in one free piece, in any turn allowed to it, anywhere inside with its corner in the
   -- same row or column, has at least as large a weighted sum
   pub rival : (d .end ≡ Settled) ⊎ (d .end ≡ Clear) → (w : Layout) → Rival j (d .layout) w → d .sum ≤ weightedSum j ws w
   -- however it ends, its sum is at most the given one
@@ -83,6 +97,10 @@ pub record DescentClaims (j : Job) (ws : List ℕ) (budget : ℕ) (v : Layout) (
   pub madeWithinBudget : d .made ≤ budget
   -- no more moves than trials
   pub movesAtMostMade : d .moves ≤ d .made
+  -- each locked piece lies where it was given
+  pub lockedStay : LockedStay j v (d .layout)
+  -- with every piece locked no trial is made, whatever the budget, and a given layout that is not clear is settled
+  pub allLocked : AllLocked j → (d .made ≡ 0) × (d .layout ≡ v) × (weightedSum j ws v ≢ 0 → d .end ≡ Settled)
 
 -- ── a guided run ──
 
@@ -138,6 +156,10 @@ pub record GuidedClaims (j : Job) (ws : List ℕ) (K budget : ℕ) (v : Layout) 
   -- each piece lies inside in a turn allowed to it, and the weights stay between 1 and 65,535
   pub validLayout : ValidLayout j (g .layout)
   pub validWeights : ValidWeights j (g .weights)
+  -- each locked piece lies where it was given
+  pub lockedStay : LockedStay j v (g .layout)
+  -- with every piece locked the given layout is handed back, and no trial is made
+  pub allLocked : AllLocked j → (g .layout ≡ v) × (g .made ≡ 0) × (g .moves ≡ 0)
 
 -- ── demand 3 ──
 

@@ -20,7 +20,7 @@ const TWO: JobSize = JobSize {
     gap: 0,
 };
 
-const TWO_TABLE: [PieceEntry; 2] = [[2, 2, 1], [2, 2, 1]];
+const TWO_TABLE: [PieceEntry; 2] = [[2, 2, 1, 0], [2, 2, 1, 0]];
 
 const TWO_PIXELS: [u8; 8] = [1, 1, 1, 1, 1, 1, 1, 1];
 
@@ -35,7 +35,7 @@ const RING: JobSize = JobSize {
     gap: 0,
 };
 
-const RING_TABLE: [PieceEntry; 2] = [[3, 3, 1], [1, 1, 1]];
+const RING_TABLE: [PieceEntry; 2] = [[3, 3, 1, 0], [1, 1, 1, 0]];
 
 const RING_PIXELS: [u8; 10] = [1, 1, 1, 1, 0, 1, 1, 1, 1, 1];
 

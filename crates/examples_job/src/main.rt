@@ -1,9 +1,9 @@
 // Reads document 01's example job and some others, each from its text, and writes what the reader answers: the job's numbers with the gap,
-// its first entry, its first eight pixel bytes and whether the check of a lent job passes; or the refusal's number and line. Then lends the
-// example with gaps that no text has or has.
+// its first entry with the lock, its first eight pixel bytes and whether the check of a lent job passes; or the refusal's number and line.
+// Then lends a piece with gaps and locks that no text has or has.
 use job_calls::JobAnswer;
 use model::JobSize;
-use model::StripEntry;
+use model::PieceEntry;
 
 // A number behind a comma.
 fn put(n: u64) {
@@ -11,11 +11,12 @@ fn put(n: u64) {
     io::print_decimal(1, n);
 }
 
-// An entry: l, w and o.
-fn put_entry(e: StripEntry) {
+// An entry: l, w, o and the lock.
+fn put_entry(e: PieceEntry) {
     put(e[0] as u64);
     put(e[1] as u64);
     put(e[2] as u64);
+    put(e[3] as u64);
 }
 
 // A pixel byte as its mark.
@@ -37,7 +38,7 @@ fn put_marks(b: [u8; 4]) {
 
 // What the reader answers for a text.
 fn show(text: &[u8]) {
-    let mut table = [[0u8; 3]; 4];
+    let mut table = [[0u8; 4]; 4];
     let mut pixels = [0u8; 16];
     match job_calls::read_job(text, &mut table, &mut pixels) {
         JobAnswer::Refused(r) => {
@@ -72,6 +73,8 @@ fn show_read() {
     show(b"job,2,1,1,1,0\npiece,0,1,1,1\nrow,#\n");
     show(b"job,2,2,4,2,1\npiece,0,2,2,1\nrow,##\nrow,##\npiece,1,2,2,1\nrow,##\nrow,##\n");
     show(b"job,2,512,128,1,8\npiece,0,3,2,15\nrow,###\nrow,#..\n");
+    show(b"job,3,1,1,1,0\npiece,0,1,1,1,0\nrow,#\n");
+    show(b"job,3,2,4,2,1\npiece,0,2,2,1,1\nrow,##\nrow,##\npiece,1,2,2,1,0\nrow,##\nrow,##\n");
 }
 
 // Lines of wrong form.
@@ -79,12 +82,16 @@ fn show_wrong_form() {
     show(b"");
     show(b"job,2,2,4,1\n");
     show(b"job,1,2,4,1,0\n");
-    show(b"job,3,2,4,1,0\n");
+    show(b"job,3,2,4,1\n");
+    show(b"job,4,2,4,1,0\n");
     show(b"job,2,2,4,1,08\n");
     show(b"job,1,02,4,1\n");
     show(b"job,1,2,4,1\npiece,0,2,2,1\nrow,##\n");
     show(b"job,1,2,4,1\npiece,0,2,2,1\nrow,##\nrow,###\n");
     show(b"job,1,1,1,1\npiece,0,1,1,1\nrow,#\n\n");
+    show(b"job,2,1,1,1,0\npiece,0,1,1,1,0\nrow,#\n");
+    show(b"job,3,1,1,1,0\npiece,0,1,1,1\nrow,#\n");
+    show(b"job,3,1,1,1,0\npiece,0,1,1,1,01\nrow,#\n");
 }
 
 // Numbers out of range, areas, boxes and buffers.
@@ -93,24 +100,26 @@ fn show_refused() {
     show(b"job,2,2,4,1,9\n");
     show(b"job,1,512,129,1\n");
     show(b"job,1,2,4,1\npiece,0,2,2,2\n");
+    show(b"job,3,2,4,1,0\npiece,0,2,2,1,2\n");
     show(b"job,1,2,4,1\npiece,0,5,2,1\n");
     show(b"job,1,2,4,1\npiece,0,2,2,1\nrow,..\nrow,##\n");
     show(b"job,1,2,4,1\npiece,0,2,2,1\nrow,#.\nrow,#.\n");
     show(b"job,1,1,17,1\npiece,0,17,1,1\nrow,#################\n");
 }
 
-// A full 2 x 2 piece on a sheet of 2 rows and 4 columns, lent with a gap.
-fn show_lent(gap: usize) {
+// A full 2 x 2 piece on a sheet of 2 rows and 4 columns, lent with a gap and a lock.
+fn show_lent(gap: usize, lock: u8) {
     let size = JobSize {
         rows: 2,
         columns: 4,
         count: 1,
         gap,
     };
-    let table = [[2u8, 2, 1]];
+    let table = [[2u8, 2, 1, lock]];
     let pixels = [1u8; 4];
     io::write_all(1, b"lent");
     put(gap as u64);
+    put(lock as u64);
     if job_check::check_job(size, &table, &pixels) {
         io::write_all(1, b",checked");
     }
@@ -121,7 +130,8 @@ fn main() {
     show_read();
     show_wrong_form();
     show_refused();
-    show_lent(0);
-    show_lent(8);
-    show_lent(9);
+    show_lent(0, 0);
+    show_lent(8, 1);
+    show_lent(9, 0);
+    show_lent(0, 2);
 }

@@ -1,6 +1,8 @@
 // Document 01's example job, a sheet of 2 rows and 4 columns with two full 2 x 2 pieces in turn 0, through the calls on the sheet of
 // cover counts, with a gap of 1, which plays no part in them. Each line has the number of the refusal, 00 for a call that is taken up,
-// whether piece 0 and piece 1 are laid, and the counts of the eight pixels.
+// whether piece 0 and piece 1 are laid, and the counts of the eight pixels. A line of setting a lock has the number and the two locks.
+use job_lock_calls::CUTTERS_STATION;
+use job_lock_calls::PLANNERS_STATION;
 use libc::STDOUT_FILENO;
 use model::Column;
 use model::DoneAnswer;
@@ -21,7 +23,7 @@ const SIZE: JobSize = JobSize {
     gap: 1,
 };
 
-const TABLE: [PieceEntry; 2] = [[2, 2, 1], [2, 2, 1]];
+const TABLE: [PieceEntry; 2] = [[2, 2, 1, 0], [2, 2, 1, 0]];
 
 const PIXELS: [u8; 8] = [1, 1, 1, 1, 1, 1, 1, 1];
 
@@ -85,13 +87,43 @@ fn lay(sheet: Record, counts: &mut [u8; 8], piece: usize, x: u16) -> Record {
     answer.sheet
 }
 
-// A withdraw of a piece.
-fn withdraw(sheet: Record, counts: &mut [u8; 8], piece: usize) -> Record {
-    let table = TABLE;
+// A withdraw of a piece, with the locks of a table.
+fn withdraw_from(
+    table: &[PieceEntry; 2],
+    sheet: Record,
+    counts: &mut [u8; 8],
+    piece: usize,
+) -> Record {
     let pixels = PIXELS;
-    let answer = sheet_calls::withdraw(SIZE, &table, &pixels, sheet, counts, piece);
+    let answer = sheet_calls::withdraw(SIZE, table, &pixels, sheet, counts, piece);
     show(answer, counts);
     answer.sheet
+}
+
+// A withdraw of a piece, none locked.
+fn withdraw(sheet: Record, counts: &mut [u8; 8], piece: usize) -> Record {
+    let table = TABLE;
+    withdraw_from(&table, sheet, counts, piece)
+}
+
+// The lock of a piece, asked for from a station.
+fn lock(table: &mut [PieceEntry; 2], piece: usize, station: usize) {
+    let pixels = PIXELS;
+    let refusal = number(job_lock_calls::set_lock(SIZE, table, &pixels, piece, station));
+    let line = [
+        digit(refusal / 10),
+        digit(refusal),
+        b' ',
+        b'l',
+        b'o',
+        b'c',
+        b'k',
+        b' ',
+        digit(table[0][3]),
+        digit(table[1][3]),
+        10,
+    ];
+    io::write_all(STDOUT_FILENO, &line);
 }
 
 // A fresh sheet.
@@ -135,8 +167,17 @@ fn main() {
     let outside = lay(again, &mut counts, 0, 3);
     // no such piece: 9
     let unknown = lay(outside, &mut counts, 2, 0);
+    // from the planner's station: 16; from the cutter's the lock is set, and stays
+    let mut table = TABLE;
+    lock(&mut table, 1, PLANNERS_STATION);
+    lock(&mut table, 1, CUTTERS_STATION);
+    lock(&mut table, 1, CUTTERS_STATION);
+    // no such piece: 9, before 16
+    lock(&mut table, 2, PLANNERS_STATION);
+    // locked: 15
+    let locked = withdraw_from(&table, unknown, &mut counts, 1);
     // counts that no list of calls gives: 8
     counts[7] = 5;
-    let _last = withdraw(unknown, &mut counts, 1);
+    let _last = withdraw(locked, &mut counts, 1);
     run(&mut counts);
 }

@@ -27,12 +27,12 @@ const SIZE: JobSize = JobSize {
 };
 
 const TABLE: [PieceEntry; 6] = [
-    [2, 2, 15],
-    [2, 2, 15],
-    [2, 2, 15],
-    [2, 2, 15],
-    [3, 3, 15],
-    [1, 1, 15],
+    [2, 2, 15, 0],
+    [2, 2, 15, 0],
+    [2, 2, 15, 0],
+    [2, 2, 15, 0],
+    [3, 3, 15, 0],
+    [1, 1, 15, 0],
 ];
 
 const PIXELS: [u8; 26] = [
@@ -65,7 +65,7 @@ const PIXELS: [u8; 26] = [
 ];
 
 // Two full 2 x 2 pieces in turn 0, for sheets of 2 rows.
-const TWO_TABLE: [PieceEntry; 2] = [[2, 2, 1], [2, 2, 1]];
+const TWO_TABLE: [PieceEntry; 2] = [[2, 2, 1, 0], [2, 2, 1, 0]];
 
 const TWO_PIXELS: [u8; 8] = [1, 1, 1, 1, 1, 1, 1, 1];
 

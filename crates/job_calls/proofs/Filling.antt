@@ -106,16 +106,16 @@ module _ (text : List ℕ) (j : JobLine) (i area p line : ℕ) where
 
 -- a box that is read is that of its line
 box-line : (text : List ℕ) (line : ℕ) (h : PieceLine) (t : PieceText) → boxAt text line h ≡ given t
-    → (h .columns ∷ h .rows ∷ h .turns ∷ []) ≡ (t .columns ∷ t .rows ∷ t .turns ∷ [])
+    → (h .columns ∷ h .rows ∷ h .turns ∷ h .lock ∷ []) ≡ (t .columns ∷ t .rows ∷ t .turns ∷ t .lock ∷ [])
 box-line text line h t e =
     let r = given-before (rowsAt text (h .columns) (h .rows) (h .next) (suc line)) _ t e in
     let u : Unless (rowsCauses line h (r .value)) (asPieceText h (r .value)) t =
     given-unless (rowsCauses line h (r .value)) (asPieceText h (r .value)) t (r .goes) in
-    ap (λ (k : PieceText). k .columns ∷ k .rows ∷ k .turns ∷ []) (u .same)
+    ap (λ (k : PieceText). k .columns ∷ k .rows ∷ k .turns ∷ k .lock ∷ []) (u .same)
 
 -- what stands in table and store after a piece
 pub box-entered : (text : List ℕ) (line i at : ℕ) (h : PieceLine) (table lastTable : List (List ℕ)) (store lastStore : List ℕ) (x : Outcome PieceText)
-    → boxAt text line h ≡ x → lastTable ≡ set table i (h .columns ∷ h .rows ∷ h .turns ∷ []) → BoxStored at store lastStore x
+    → boxAt text line h ≡ x → lastTable ≡ set table i (h .columns ∷ h .rows ∷ h .turns ∷ h .lock ∷ []) → BoxStored at store lastStore x
     → PieceStored i at table lastTable store lastStore x
 box-entered text line i at h table lastTable store lastStore (refused s) e k b = tt
 box-entered text line i at h table lastTable store lastStore (given t) e k b =
@@ -173,7 +173,7 @@ module _ (text : List ℕ) (j : JobLine) (left i area p line : ℕ) (table : Lis
   later : (t : PieceText) → length (t .pixels) ≡ t .columns * t .rows → (x : Outcome Pieces)
       → andThen (andThen x (front t)) (full i area table store)
       ≡ andThen x
-      (full (suc i) (area + t .columns * t .rows) (set table i (t .columns ∷ t .rows ∷ t .turns ∷ [])) (sets store area (t .pixels)))
+      (full (suc i) (area + t .columns * t .rows) (set table i (t .columns ∷ t .rows ∷ t .turns ∷ t .lock ∷ [])) (sets store area (t .pixels)))
   later t s (refused r) = refl
   later t s (given x) =
       ap (λ (k : List ℕ). whole k (area + length (t .pixels ++ x .pixels))) (sets-append store area (t .pixels) (x .pixels))
@@ -182,13 +182,14 @@ module _ (text : List ℕ) (j : JobLine) (left i area p line : ℕ) (table : Lis
       (let e = length-append (t .pixels) (x .pixels) in omega arith)
     where
       whole : List ℕ → ℕ → Outcome Full
-      whole pixels n = given (record { table = sets (set table i (t .columns ∷ t .rows ∷ t .turns ∷ [])) (suc i) (x .table); pixels = pixels; area = n })
+      whole pixels n =
+          given (record { table = sets (set table i (t .columns ∷ t .rows ∷ t .turns ∷ t .lock ∷ [])) (suc i) (x .table); pixels = pixels; area = n })
 
   -- a piece is stored and the others are left
   pieces-more : (t : PieceText) → pieceAt text j i area p line ≡ given t
       → fillPieces text j (suc left) i area p line table store
       ≡ fillPieces text j left (suc i) (area + t .columns * t .rows) (t .next) (suc (line + t .rows))
-      (set table i (t .columns ∷ t .rows ∷ t .turns ∷ [])) (sets store area (t .pixels))
+      (set table i (t .columns ∷ t .rows ∷ t .turns ∷ t .lock ∷ [])) (sets store area (t .pixels))
   unfolding piecesAt
   pieces-more t e =
       ap
@@ -210,10 +211,10 @@ module _ (text : List ℕ) (j : JobLine) (left i area p line : ℕ) (table : Lis
       let l : suc (line + t .rows) ≡ line + t .rows + 1 = omega arith in
       pieces-more t (o .gives)
       ∙ ap (λ (n : ℕ).
-      fillPieces text j left (suc i) (area + t .columns * t .rows) (t .next) n (set table i (t .columns ∷ t .rows ∷ t .turns ∷ []))
+      fillPieces text j left (suc i) (area + t .columns * t .rows) (t .next) n (set table i (t .columns ∷ t .rows ∷ t .turns ∷ t .lock ∷ []))
       (sets store area (t .pixels))) l
       ∙ ap (λ (q : Place).
-      fillPieces text j left (suc i) (q .area) (q .next) (q .line) (set table i (t .columns ∷ t .rows ∷ t .turns ∷ [])) (sets store area (t .pixels)))
+      fillPieces text j left (suc i) (q .area) (q .next) (q .line) (set table i (t .columns ∷ t .rows ∷ t .turns ∷ t .lock ∷ [])) (sets store area (t .pixels)))
       (sym (o .same))
       ∙ ap (λ (b : List (List ℕ)). fillPieces text j left (suc i) (at .area) (at .next) (at .line) b (sets store area (t .pixels))) (sym (f .entry))
       ∙ ap (λ (b : List ℕ). fillPieces text j left (suc i) (at .area) (at .next) (at .line) lastTable b) (sym (f .pixels))

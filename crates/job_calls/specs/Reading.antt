@@ -42,7 +42,7 @@ BoxStored at before last (given t) = last ≡ sets before at (t .pixels)
 
 -- the entry and the pixels of a piece that is read are stored
 pub record Entered (i at : ℕ) (table lastTable : List (List ℕ)) (store lastStore : List ℕ) (t : PieceText) : Type 0 where
-  pub entry : lastTable ≡ set table i (t .columns ∷ t .rows ∷ t .turns ∷ [])
+  pub entry : lastTable ≡ set table i (t .columns ∷ t .rows ∷ t .turns ∷ t .lock ∷ [])
   pub pixels : lastStore ≡ sets store at (t .pixels)
 
 abbrev pub PieceStored : ℕ → ℕ → List (List ℕ) → List (List ℕ) → List ℕ → List ℕ → Outcome PieceText → Type 0

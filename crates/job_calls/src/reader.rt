@@ -88,7 +88,7 @@ fn fill_piece(
     match piece_line(text, j, i, at.area, at.next, at.line) {
         PieceLineAnswer::Refused(r) => PieceAnswer::Refused(r),
         PieceLineAnswer::Line(h) => {
-            put_entry(table, i, piece_entry(h.columns, h.rows, h.turns));
+            put_entry(table, i, piece_entry(h.columns, h.rows, h.turns, h.lock));
             fill_box(text, h, at.area, at.line, pixels)
         }
     }

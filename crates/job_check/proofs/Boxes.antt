@@ -2,12 +2,12 @@
 use Rattle.list_laws.proofs.Kit.{_≡_, ap, Bool, _&&_, true, List, _*_, _+_, _-_, _<_, _≤_, ℕ, mul-le-mul, arith, eqb, leb, getD, length, leb-true}
 use Rattle.model.specs.Bounded.{allBelow}
 use Rattle.model.specs.Piece.{holds, sideBound}
-use Rattle.model.specs.Lent.{areaBound, pieceBound, entryColumns, entryRows, entryTurns, pixelStart, sheetInRange, entryInRange, entryFits}
+use Rattle.model.specs.Lent.{areaBound, pieceBound, lockBound, entryColumns, entryRows, entryTurns, entryLock, pixelStart, sheetInRange, entryInRange}
+use Rattle.model.specs.Lent.{entryFits, sidesInRange}
 use Rattle.model.specs.declared.JobSize.{JobSize}
 use Rattle.model.specs.declared.Direction.the-variants.{Horizontal, Vertical}
 use Rattle.list_laws.proofs.Bounded.{any-agree, all-at}
 use Rattle.list_laws.proofs.Tests.{and-left, and-right}
-use Rattle.text_laws.specs.Limits.{sidesInRange}
 use Rattle.job_check.specs.Boxes.{boxIn, someMark, tableWell, Side}
 use Rattle.job_laws.proofs.Ranges.{at-least, up-to, side-facts, sheet-few}
 
@@ -35,7 +35,9 @@ sides-of l w o e =
 -- the sides of an entry in range
 pub sides : (table : List (List ℕ)) (i : ℕ) → entryInRange table i ≡ true → Side (entryColumns table i) × Side (entryRows table i)
 unfolding entryInRange
-sides table i e = sides-of (entryColumns table i) (entryRows table i) (entryTurns table i) e
+sides table i e =
+    sides-of (entryColumns table i) (entryRows table i) (entryTurns table i)
+    (and-left (sidesInRange (entryColumns table i) (entryRows table i) (entryTurns table i)) (leb (entryLock table i) lockBound) e)
 
 -- what the check of a table says of its entries
 pub record TableFacts (size : JobSize) (table : List (List ℕ)) : Type 0 where

@@ -1,5 +1,6 @@
 // The check of a lent job: document 01, 'When a call says no', number 8. Each function answers one part of the check; none trusts what
 // the parts before it have not shown.
+use job_limits::lock_in_range;
 use job_limits::sheet_in_range;
 use job_limits::sides_in_range;
 use model::AREA_BOUND;
@@ -7,6 +8,7 @@ use model::JobSize;
 use model::PieceEntry;
 use piece_table::area_of;
 use piece_table::columns_of;
+use piece_table::lock_of;
 use piece_table::rows_of;
 use piece_table::turns_of;
 ghost use mathlib.Core.Path.{_≡_};
@@ -26,7 +28,10 @@ fn entry_in_range(table: &[PieceEntry], i: usize) -> bool
     let columns = columns_of(table, i);
     let rows = rows_of(table, i);
     let turns = turns_of(table, i) as usize;
-    sides_in_range(columns, rows, turns)
+    if !sides_in_range(columns, rows, turns) {
+        return false;
+    }
+    lock_in_range(lock_of(table, i) as usize)
 }
 
 // Every entry is in range.

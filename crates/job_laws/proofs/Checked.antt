@@ -6,13 +6,13 @@ use Rattle.model.specs.Piece.{tight, extent}
 use Rattle.model.specs.Overlap.{offsetBound}
 use Rattle.model.specs.Layout.{turnedPiece}
 use Rattle.model.specs.Lent.{Lent, rowBound, columnBound, pieceBound, gapBound, areaBound, turnsBound, sideBound, upTo, entryColumns, entryRows}
-use Rattle.model.specs.Lent.{entryTurns, entryArea, pixelStart, entryInRange, entryFits, lentShape, jobOf, sheetInRange, lentWell}
+use Rattle.model.specs.Lent.{lockBound, entryTurns, entryLock, entryArea, pixelStart, entryInRange, entryFits, lentShape, jobOf, sheetInRange, lentWell}
 use Rattle.model.specs.declared.Direction.{Direction}
 use Rattle.model.specs.declared.Turn.{Turn}
 use Rattle.job_laws.specs.Entries.{EntryAt}
 use Rattle.list_laws.proofs.Bounded.{all-at, all-from}
 use Rattle.list_laws.proofs.Tests.{and-left, and-right, and-both}
-use Rattle.job_laws.proofs.Ranges.{at-least, up-to, NumberFacts, SheetFacts, sheet-facts, SideFacts, entry-facts}
+use Rattle.job_laws.proofs.Ranges.{at-least, up-to, NumberFacts, SheetFacts, sheet-facts, SideFacts, entry-facts, entry-lock}
 use Rattle.job_laws.proofs.Starts.{start-end}
 use Rattle.job_laws.proofs.Turned.{turned-side}
 
@@ -127,6 +127,8 @@ pub record Facts (l : Lent) : Type 0 where
   pub turnsOdd : (i : ℕ) → i < l .size .count → eqb (entryTurns (l .table) i % 2) 1 ≡ true
   -- and at most 15
   pub turnsFew : (i : ℕ) → i < l .size .count → entryTurns (l .table) i ≤ turnsBound
+  -- each lock is 0 or 1
+  pub lockSmall : (i : ℕ) → i < l .size .count → entryLock (l .table) i ≤ lockBound
   -- each box passes the test of the sheet
   pub fits : (i : ℕ) → i < l .size .count → entryFits (l .size) (l .table) i ≡ true
   -- no box is longer than the sheet
@@ -183,6 +185,7 @@ facts l e =
       rowsSmall = λ i b. up-to sideBound (entryRows (l .table) i) (side i b .rows);
       turnsOdd = λ i b. side i b .odd;
       turnsFew = λ i b. side i b .few;
+      lockSmall = λ i b. entry-lock (l .table) i (f .ranges i b);
       fits = f .fits;
       columnsFit = λ i b. leb-true _ _ (and-left (leb (entryColumns (l .table) i) (l .size .columns)) _ (f .fits i b));
       rowsFit = λ i b. leb-true _ _ (and-right (leb (entryColumns (l .table) i) (l .size .columns)) _ (f .fits i b));

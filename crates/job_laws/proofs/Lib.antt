@@ -3,3 +3,4 @@ pub mod Ranges
 pub mod Starts
 pub mod Turned
 pub mod Checked
+pub mod Locks

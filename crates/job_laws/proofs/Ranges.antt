@@ -1,7 +1,7 @@
 -- What a number, a sheet and an entry in range give: each test is a list of tests, taken apart. Assumes nothing.
 use Rattle.list_laws.proofs.Kit.{_≡_, Bool, _&&_, true, List, _%_, _*_, _≤_, ℕ, mul-le-mul, eqb, leb, leb-true}
 use Rattle.model.specs.Lent.{rowBound, columnBound, pieceBound, gapBound, areaBound, turnsBound, sideBound, upTo, numbersInRange, sheetInRange}
-use Rattle.model.specs.Lent.{entryColumns, entryRows, entryTurns, entryInRange}
+use Rattle.model.specs.Lent.{sidesInRange, lockBound, entryColumns, entryRows, entryTurns, entryLock, entryInRange}
 use Rattle.model.specs.declared.JobSize.{JobSize}
 use Rattle.list_laws.proofs.Tests.{and-left, and-right}
 
@@ -73,7 +73,7 @@ pub record SideFacts (l w o : ℕ) : Type 0 where
   pub few : o ≤ turnsBound
 
 -- they do
-pub side-facts : (l w o : ℕ) → (upTo sideBound l && upTo sideBound w && eqb (o % 2) 1 && leb o turnsBound) ≡ true → SideFacts l w o
+pub side-facts : (l w o : ℕ) → sidesInRange l w o ≡ true → SideFacts l w o
 side-facts l w o e =
     let a : Bool = upTo sideBound l in
     let b : Bool = upTo sideBound w in
@@ -89,15 +89,25 @@ side-facts l w o e =
     }
 
 -- the area of a box with sides in range
-pub area-of : (l w o : ℕ) → (upTo sideBound l && upTo sideBound w && eqb (o % 2) 1 && leb o turnsBound) ≡ true → l * w ≤ sideBound * sideBound
+pub area-of : (l w o : ℕ) → sidesInRange l w o ≡ true → l * w ≤ sideBound * sideBound
 area-of l w o e = let s = side-facts l w o e in mul-le-mul (up-to sideBound l (s .columns)) (up-to sideBound w (s .rows))
 
 -- the sum of turns in range
-pub few-turns : (l w o : ℕ) → (upTo sideBound l && upTo sideBound w && eqb (o % 2) 1 && leb o turnsBound) ≡ true → o ≤ turnsBound
+pub few-turns : (l w o : ℕ) → sidesInRange l w o ≡ true → o ≤ turnsBound
 few-turns l w o e = side-facts l w o e .few
+
+-- the test of an entry's sides and turns
+abbrev sidesOf : List (List ℕ) → ℕ → Bool
+sidesOf table i = sidesInRange (entryColumns table i) (entryRows table i) (entryTurns table i)
 
 -- what an entry in range gives
 pub entry-facts : (table : List (List ℕ)) (i : ℕ) → entryInRange table i ≡ true
     → SideFacts (entryColumns table i) (entryRows table i) (entryTurns table i)
 unfolding entryInRange
-entry-facts table i e = side-facts (entryColumns table i) (entryRows table i) (entryTurns table i) e
+entry-facts table i e =
+    side-facts (entryColumns table i) (entryRows table i) (entryTurns table i) (and-left (sidesOf table i) (leb (entryLock table i) lockBound) e)
+
+-- and its lock is 0 or 1
+pub entry-lock : (table : List (List ℕ)) (i : ℕ) → entryInRange table i ≡ true → entryLock table i ≤ lockBound
+unfolding entryInRange
+entry-lock table i e = leb-true (entryLock table i) lockBound (and-right (sidesOf table i) (leb (entryLock table i) lockBound) e)

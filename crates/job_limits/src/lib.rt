@@ -1,15 +1,16 @@
-// Document 01's limits, 'Sheet and panels', and document 02's of the gap: the ranges of a job's and of a box's numbers. The check of a lent
+// Document 01's limits, 'Sheet and panels', and document 02's of the gap and of a lock: the ranges of a job's and of a piece's numbers. The check of a lent
 // job and the reader of a job text ask for the same.
 use model::AREA_BOUND;
 use model::COLUMN_BOUND;
 use model::JobSize;
+use model::LOCK_BOUND;
 use model::PIECE_BOUND;
 use model::ROW_BOUND;
 use model::SIDE_BOUND;
 use model::TURNS_BOUND;
 ghost use mathlib.Core.Path.{_≡_};
-ghost use Rattle.model.specs.Lent.{upTo, numbersInRange, sheetInRange};
-ghost use Rattle.text_laws.specs.Limits.{sidesInRange};
+ghost use lib.Dec.{leb};
+ghost use Rattle.model.specs.Lent.{upTo, numbersInRange, sheetInRange, sidesInRange, lockBound};
 
 // The largest gap between pieces.
 pub const GAP_BOUND: usize = 8;
@@ -64,4 +65,11 @@ pub fn sides_in_range(columns: usize, rows: usize, turns: usize) -> bool
         return false;
     }
     turns <= TURNS_BOUND
+}
+
+// The lock is 0 or 1.
+pub fn lock_in_range(lock: usize) -> bool
+    ensures { λ r. ⌜ r ≡ leb lock lockBound ⌝ }
+{
+    lock <= LOCK_BOUND
 }

@@ -1,5 +1,6 @@
-// The job line and the piece lines: document 01, 'Job text' and 'When a call says no', reading a job; document 02, point 4, the job line of
-// version 2. A line's form comes before its ranges.
+// The job line and the piece lines: document 01, 'Job text' and 'When a call says no', reading a job; document 02, points 4 and 6, versions 2
+// (a gap) and 3 (a lock on each piece line). A line's form comes before its ranges.
+use job_limits::lock_in_range;
 use job_limits::numbers_in_range;
 use job_limits::sides_in_range;
 use model::AREA_BOUND;
@@ -11,15 +12,15 @@ ghost use mathlib.Core.Path.{_≡_};
 ghost use Prim.Native.Nat.{_+_, _*_, _<_, _≤_, _^_};
 ghost use lib.ListN.{length};
 ghost use Rattle.model.specs.Refusal.{unless};
-ghost use Rattle.model.specs.Text.{lineAt};
-ghost use Rattle.model.specs.JobText.{jobLine, jobLineCauses, pieceLine, pieceLineCauses};
+ghost use Rattle.model.specs.JobText.{versionLine, jobLine, jobLineCauses, pieceEnds, pieceLine, pieceLineCauses};
 ghost use Rattle.model.specs.Lent.{areaBound, pieceBound};
 ghost use Rattle.text_numbers.specs.Lines.{fieldEnds};
 ghost use Rattle.job_lines.specs.Lines.{refusalAt, jobLineOf, jobAnswer, saidBy, jobForm, headNext, headCount, pieceLineOf, pieceAnswer, pieceForm, pieceNext, Ranged};
 
-// What the job line says: W rows, L columns, n pieces, the gap g; and the position after it.
+// What the job line says: W rows, L columns, n pieces, the gap g; whether its piece lines have a lock; and the position after it.
 pub struct JobHead {
     pub size: JobSize,
+    pub locks: bool,
     pub next: usize,
 }
 
@@ -29,12 +30,13 @@ pub enum JobLineAnswer {
     Refused(Refusal),
 }
 
-// What a piece line says: its number, l columns, w rows, the sum of turns; and the position after it.
+// What a piece line says: its number, l columns, w rows, the sum of turns, the lock; and the position after it.
 pub struct PieceHead {
     pub number: usize,
     pub columns: usize,
     pub rows: usize,
     pub turns: usize,
+    pub lock: usize,
     pub next: usize,
 }
 
@@ -56,10 +58,11 @@ pub fn refusal(number: u8, line: usize) -> Refusal
     }
 }
 
-// The form of a job line that begins with the version's word and has so many numbers: W, L, n and g, which is 0 where it is not there.
-fn version_fields(text: &[u8], word: &[u8], count: usize) -> JobLineAnswer
+// The form of a job line that begins with the version's word and has so many numbers: W, L, n and g, which is 0 where it is not there; the
+// version says whether piece lines have a lock.
+fn version_fields(text: &[u8], word: &[u8], count: usize, locks: bool) -> JobLineAnswer
     requires { ⌜ (0 < count) × (count ≤ 8) ⌝ }
-    ensures { λ r. ⌜ (r ≡ jobAnswer (saidBy (lineAt (now (word .entry)) (fieldEnds count) (now (text .entry)) 0))) × (headNext r ≤ length (now (text .entry))) ⌝ }
+    ensures { λ r. ⌜ (r ≡ jobAnswer (saidBy (versionLine (now (word .entry)) (fieldEnds count) locks (now (text .entry))))) × (headNext r ≤ length (now (text .entry))) ⌝ }
 {
     let line = line_at(text, 0, word, count);
     let form = line.form;
@@ -73,16 +76,19 @@ fn version_fields(text: &[u8], word: &[u8], count: usize) -> JobLineAnswer
         count: numbers[2],
         gap: numbers[3],
     };
-    JobLineAnswer::Line(JobHead { size, next })
+    JobLineAnswer::Line(JobHead { size, locks, next })
 }
 
-// The form of the job line, `job,1,W,L,n`, or else `job,2,W,L,n,g`.
+// The form of the job line, `job,1,W,L,n`, or else `job,2,W,L,n,g`, or else `job,3,W,L,n,g`.
 fn job_fields(text: &[u8]) -> JobLineAnswer
     ensures { λ r. ⌜ (r ≡ jobAnswer (jobForm (now (text .entry)))) × (headNext r ≤ length (now (text .entry))) ⌝ }
 {
-    match version_fields(text, b"job,1,", 3) {
+    match version_fields(text, b"job,1,", 3, false) {
         JobLineAnswer::Line(j) => JobLineAnswer::Line(j),
-        JobLineAnswer::Refused(_) => version_fields(text, b"job,2,", 4),
+        JobLineAnswer::Refused(_) => match version_fields(text, b"job,2,", 4, false) {
+            JobLineAnswer::Line(j) => JobLineAnswer::Line(j),
+            JobLineAnswer::Refused(_) => version_fields(text, b"job,3,", 4, true),
+        },
     }
 }
 
@@ -110,12 +116,23 @@ pub fn job_line(text: &[u8]) -> JobLineAnswer
     job_ranges(j)
 }
 
-// The form of a piece line, `piece,i,l,w,o`.
-fn piece_fields(text: &[u8], p: usize, line: usize) -> PieceLineAnswer
-    requires { ⌜ (p ≤ length (now text)) × (line < 2 ^ 32) ⌝ }
-    ensures { λ r. ⌜ (r ≡ pieceAnswer (pieceForm (now (text .entry)) p line)) × (pieceNext r ≤ length (now (text .entry))) ⌝ }
+// How many numbers a piece line has, with a lock or without.
+fn piece_count(locks: bool) -> usize
+    ensures { λ r. ⌜ (fieldEnds r ≡ pieceEnds locks) × (0 < r) × (r ≤ 8) ⌝ }
 {
-    let read = line_at(text, p, b"piece,", 4);
+    if locks {
+        return 5;
+    }
+    4
+}
+
+// The form of a piece line, `piece,i,l,w,o`, with locks `piece,i,l,w,o,k`; the lock is 0 where it is not there.
+fn piece_fields(text: &[u8], locks: bool, p: usize, line: usize) -> PieceLineAnswer
+    requires { ⌜ (p ≤ length (now text)) × (line < 2 ^ 32) ⌝ }
+    ensures { λ r. ⌜ (r ≡ pieceAnswer (pieceForm (now (text .entry)) locks p line)) × (pieceNext r ≤ length (now (text .entry))) ⌝ }
+{
+    let count = piece_count(locks);
+    let read = line_at(text, p, b"piece,", count);
     let form = read.form;
     let LineForm::Right(next) = form else {
         return PieceLineAnswer::Refused(refusal(1, line));
@@ -126,6 +143,7 @@ fn piece_fields(text: &[u8], p: usize, line: usize) -> PieceLineAnswer
         columns: numbers[1],
         rows: numbers[2],
         turns: numbers[3],
+        lock: numbers[4],
         next,
     })
 }
@@ -140,6 +158,9 @@ fn piece_ranges(j: JobHead, i: usize, area: usize, h: PieceHead, line: usize) ->
         return PieceLineAnswer::Refused(refusal(2, line));
     }
     if !sides_in_range(h.columns, h.rows, h.turns) {
+        return PieceLineAnswer::Refused(refusal(2, line));
+    }
+    if !lock_in_range(h.lock) {
         return PieceLineAnswer::Refused(refusal(2, line));
     }
     if j.size.columns < h.columns {
@@ -166,7 +187,7 @@ pub fn piece_line(
     requires { ⌜ (area ≤ areaBound) × (p ≤ length (now text)) × (line < 2 ^ 32) ⌝ }
     ensures { λ r. ⌜ (r ≡ pieceAnswer (pieceLine (now (text .entry)) (jobLineOf j) i area p line)) × (pieceNext r ≤ length (now (text .entry))) × Ranged area r ⌝ }
 {
-    let PieceLineAnswer::Line(h) = piece_fields(text, p, line) else {
+    let PieceLineAnswer::Line(h) = piece_fields(text, j.locks, p, line) else {
         return PieceLineAnswer::Refused(refusal(1, line));
     };
     piece_ranges(j, i, area, h, line)

@@ -1,15 +1,15 @@
--- The stacks of the start layout over the entries of a layout buffer. The order holds every piece, so that what the buffer held
+-- The stacks of the start layout over the entries of a layout buffer. Every piece that is stacked is written, so that what the buffer held for it
 -- before plays no part. Assumes nothing.
-use Rattle.list_laws.proofs.Kit.{_∙_, _≡_, ap, refl, sym, ⊎-elim, List, List·Memᴰ, List·Memᴰ·cases-cons, List·Memᴰ·not-nil, [], _∷_, _+_, _<_, _≤_, suc, zero}
-use Rattle.list_laws.proofs.Kit.{ℕ, add-one, arith, drop, getD, length, length-map, length-replicate, length-set, replicate, set, drop-cons, ext-getD}
-use Rattle.list_laws.proofs.Kit.{getD-set-other, getD-set-same, le-ltb, lt-ltb, ℕ-discrete}
+use Rattle.list_laws.proofs.Kit.{_∙_, _≡_, ap, refl, sym, List, [], _∷_, _+_, _<_, _≤_, ℕ, add-one, arith, drop, getD, length, length-map}
+use Rattle.list_laws.proofs.Kit.{length-replicate, replicate, set, drop-cons, le-ltb, lt-ltb}
 use Rattle.model.specs.Layout.{Job, Layout, origin}
-use Rattle.model.specs.Start.{boxRows, Stack, roomFor, onStack, stacked, stackAll, fallingOrder, start}
-use Rattle.model.specs.Lent.{Lent, jobOf}
-use Rattle.model.specs.Buffer.{entryOf, entriesOf}
-use Rattle.model.specs.declared.Placement.{Placement}
-use Rattle.descent_laws.proofs.Start.{order-exactly}
-use Rattle.layout_start_calls.specs.Stacks.{stackEntries, emptyStack}
+use Rattle.model.specs.Start.{boxRows, Stack, emptyStack, roomFor, onStack, stacked, stackAll, fallingOrder, freeOnly, start, startOfAll}
+use Rattle.model.specs.Buffer.{entryOf, placementOf, entriesOf, layoutOf}
+use Rattle.list_laws.proofs.Lists.{map-set, Alike, alike-set, alike-equal}
+use Rattle.descent_laws.proofs.Start.{order-exactly, out-locked}
+use Rattle.call_laws.proofs.Layouts.{buffer-place, entry-at}
+use Rattle.causes.specs.Locked.{LockedWritten}
+use Rattle.layout_start_calls.specs.Stacks.{stackEntries}
 
 -- a new stack to the right, where the piece would rise above the sheet
 pub room-new : (j : Job) (i : ℕ) (s : Stack) → j .size .rows < s .height + boxRows j i
@@ -22,45 +22,19 @@ room-same j i s h = rw (le-ltb (j .size .rows) (s .height + boxRows j i) h, room
 
 -- ── entries ──
 
--- a placement set in a layout is an entry set in its buffer
-entries-set : (v : Layout) (i : ℕ) (p : Placement) → entriesOf (set v i p) ≡ set (entriesOf v) i (entryOf p)
-entries-set [] i p = refl
-entries-set (q ∷ v) zero p = refl
-entries-set (q ∷ v) (suc i) p = ap (λ (es : List (List ℕ)). entryOf q ∷ es) (entries-set v i p)
-
 -- stacking in a layout is stacking in its buffer
 stack-entries : (j : Job) (is : List ℕ) (s : Stack) (v : Layout) → entriesOf (stackAll j is s v) ≡ stackEntries j is s (entriesOf v)
 unfolding stackAll stackEntries
 stack-entries j [] s v = refl
 stack-entries j (i ∷ is) s v =
     stack-entries j is (stacked j i (roomFor j i s)) (set v i (onStack j i (roomFor j i s)))
-    ∙ ap (stackEntries j is (stacked j i (roomFor j i s))) (entries-set v i (onStack j i (roomFor j i s)))
+    ∙ ap (stackEntries j is (stacked j i (roomFor j i s))) (map-set entryOf v i (onStack j i (roomFor j i s)))
 
--- ── what the buffer held before ──
-
--- two buffers of one length that agree wherever no piece of the list is
-record Alike (is : List ℕ) (es fs : List (List ℕ)) : Type 0 where
-  size : length es ≡ length fs
-  agree : (k : ℕ) → k < length es → (List·Memᴰ k is → ⊥) → getD es k [] ≡ getD fs k []
-
--- a piece of the list is set in both
-alike-set : (i : ℕ) (is : List ℕ) (es fs : List (List ℕ)) (e : List ℕ) → Alike (i ∷ is) es fs → Alike is (set es i e) (set fs i e)
-alike-set i is es fs e h =
-    record { size = length-set es i e ∙ h .size ∙ sym (length-set fs i e); agree = λ k l out. at k (rw length-set at l) out (ℕ-discrete k i) }
-  where
-    at : (k : ℕ) → k < length es → (List·Memᴰ k is → ⊥) → Dec (k ≡ i) → getD (set es i e) k [] ≡ getD (set fs i e) k []
-    at k l out (yes s) =
-        let z = h .size in rw s (getD-set-same es i e [] (omega arith) ∙ sym (getD-set-same fs i e [] (omega arith)))
-    at k l out (no n) =
-        getD-set-other es i k e [] n
-        ∙ h .agree k l (λ m. ⊎-elim n out (List·Memᴰ·cases-cons m))
-        ∙ sym (getD-set-other fs i k e [] n)
-
--- then stacking leaves them equal
-stack-alike : (j : Job) (is : List ℕ) (s : Stack) (es fs : List (List ℕ)) → Alike is es fs → stackEntries j is s es ≡ stackEntries j is s fs
+-- two buffers that agree wherever no piece of the list is are stacked alike
+stack-alike : (j : Job) (is : List ℕ) (s : Stack) (es fs : List (List ℕ)) → Alike [] is es fs → stackEntries j is s es ≡ stackEntries j is s fs
 unfolding stackEntries
-stack-alike j [] s es fs h = ext-getD [] es fs (h .size) (λ k l. h .agree k l List·Memᴰ·not-nil)
-stack-alike j (i ∷ is) s es fs h = stack-alike j is _ _ _ (alike-set i is es fs _ h)
+stack-alike j [] s es fs h = alike-equal [] es fs h
+stack-alike j (i ∷ is) s es fs h = stack-alike j is _ _ _ (alike-set [] i is es fs _ h)
 
 -- one piece of the order is stacked: room is made, it is placed, and it is on the stack
 pub stack-step : (j : Job) (order : List ℕ) (k i : ℕ) (before room after : Stack) (e : List ℕ) (es : List (List ℕ)) → k < length order
@@ -69,21 +43,35 @@ pub stack-step : (j : Job) (order : List ℕ) (k i : ℕ) (before room after : S
 unfolding stackEntries
 stack-step j order k i before room after e es l here made placed on = rw (on, placed, made, add-one, drop-cons order k 0 l, here, stackEntries)
 
--- the start layout in a buffer: the pieces in order, stacked over whatever it held
-start-entries : (j : Job) (es : List (List ℕ)) → length es ≡ j .size .count
-    → entriesOf (start j) ≡ stackEntries j (fallingOrder j (j .size .count)) emptyStack es
-unfolding start
-start-entries j es n =
-    stack-entries j (fallingOrder j (j .size .count)) emptyStack (replicate (j .size .count) origin)
-    ∙ stack-alike j (fallingOrder j (j .size .count)) emptyStack _ es
-    (record {
-      size = length-map (replicate (j .size .count) origin) entryOf ∙ length-replicate (j .size .count) origin ∙ sym n;
-      agree = λ k l out. absurd (out (order-exactly j (j .size .count) k .1 (rw (length-map, length-replicate) at l)));
-    })
+-- ── the start layout of all pieces ──
 
--- the pieces of a job stacked in falling order are its start layout
-pub start-laid : (l : Lent) (order : List ℕ) (es laid : List (List ℕ)) → length es ≡ l .size .count → order ≡ fallingOrder (jobOf l) (l .size .count)
-    → laid ≡ stackEntries (jobOf l) order emptyStack es → laid ≡ entriesOf (start (jobOf l))
-unfolding jobOf
-start-laid l order es laid n o e =
-    e ∙ ap (λ (is : List ℕ). stackEntries (jobOf l) is emptyStack es) o ∙ sym (start-entries (jobOf l) es n)
+-- the pieces of a job stacked in falling order over whatever the buffer held are its start layout of all pieces
+pub all-laid : (j : Job) (order : List ℕ) (es laid : List (List ℕ)) → length es ≡ j .size .count → order ≡ fallingOrder j (j .size .count)
+    → laid ≡ stackEntries j order emptyStack es → laid ≡ entriesOf (startOfAll j)
+unfolding startOfAll
+all-laid j order es laid n o e =
+    e ∙ ap (λ (is : List ℕ). stackEntries j is emptyStack es) o
+    ∙ stack-alike j (fallingOrder j (j .size .count)) emptyStack es (entriesOf (replicate (j .size .count) origin))
+    (record {
+      size = n ∙ sym (length-map (replicate (j .size .count) origin) entryOf ∙ length-replicate (j .size .count) origin);
+      agree = λ k l out. absurd (out (order-exactly j (j .size .count) k .1 (omega arith)));
+    })
+    ∙ sym (stack-entries j (fallingOrder j (j .size .count)) emptyStack (replicate (j .size .count) origin))
+
+-- ── the start layout with locked placements ──
+
+-- the free pieces stacked in falling order over a buffer whose locked entries are those of their placements are the start layout
+pub start-laid : (j : Job) (es laid : List (List ℕ)) → length es ≡ j .size .count → LockedWritten j es
+    → laid ≡ stackEntries j (freeOnly j (fallingOrder j (j .size .count))) emptyStack es → laid ≡ entriesOf (start j (layoutOf es))
+unfolding start
+start-laid j es laid n written e =
+    e
+    ∙ stack-alike j (freeOnly j (fallingOrder j (j .size .count))) emptyStack es (entriesOf (layoutOf es))
+    (record {
+      size = sym (length-map (layoutOf es) entryOf ∙ length-map es placementOf);
+      agree = λ k l out.
+          (let there : k < j .size .count = omega arith in
+          written k there (out-locked j k there out)
+          ∙ sym (entry-at (layoutOf es) k (let m = length-map es placementOf in omega arith) ∙ ap entryOf (buffer-place es k)));
+    })
+    ∙ sym (stack-entries j (freeOnly j (fallingOrder j (j .size .count))) emptyStack (layoutOf es))

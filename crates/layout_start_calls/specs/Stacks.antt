@@ -14,10 +14,6 @@ use Rattle.layout_start_calls.specs.declared.stack.Pile.{Pile}
 abbrev pub stackOf : Pile → Stack
 stackOf p = record { left = p .left .0; height = p .height .0; length = p .length }
 
--- the empty stack at the left edge
-abbrev pub emptyStack : Stack
-emptyStack = record { left = 0; height = 0; length = 0 }
-
 -- the pieces of the list placed one after the other in a layout buffer
 unfoldable pub stackEntries : Job → List ℕ → Stack → List (List ℕ) → List (List ℕ)
 stackEntries j [] s es = es

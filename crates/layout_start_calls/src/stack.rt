@@ -4,9 +4,9 @@ ghost use mathlib.Core.List.{List};
 ghost use Prim.Native.Nat.{ℕ, _+_, _<_, _≤_};
 ghost use lib.ListN.{length, getD, take};
 ghost use Rattle.model.specs.Lent.{lentBy, jobOf, entryColumns, entryRows, rowBound, columnBound, pieceBound};
-ghost use Rattle.model.specs.Start.{onStack};
+ghost use Rattle.model.specs.Start.{emptyStack, onStack};
 ghost use Rattle.layout_places.specs.Fitting.{Fitting};
-ghost use Rattle.layout_start_calls.specs.Stacks.{stackOf, emptyStack, stackEntries, PileRoom, Piled};
+ghost use Rattle.layout_start_calls.specs.Stacks.{stackOf, stackEntries, PileRoom, Piled};
 use layout_places::entry_of;
 use model::Column;
 use model::JobSize;
@@ -73,15 +73,16 @@ fn piled(size: JobSize, table: &[PieceEntry], i: usize, pile: Pile) -> Pile
     }
 }
 
-// The pieces of the order placed one after the other.
+// The first `count` pieces of the order placed one after the other.
 pub fn stack_all(
     size: JobSize,
     table: &[PieceEntry],
     order: &[usize; PIECE_BOUND],
+    count: usize,
     layout: &mut [PlaceEntry],
 )
-    requires { ⌜ Fitting size (now table) × ((k : ℕ) → k < size .count → getD (now order) k 0 < size .count) × (length (now order) ≡ pieceBound) × (length (now layout) ≡ size .count) ⌝ }
-    ensures { λ r. ⌜ ((pixels : List ℕ) → now (layout .exit) ≡ stackEntries (jobOf (lentBy size (now (table .entry)) pixels)) (take (size .count) (now (order .entry))) emptyStack (now (layout .entry))) ⌝ }
+    requires { ⌜ Fitting size (now table) × ((k : ℕ) → k < count → getD (now order) k 0 < size .count) × (count ≤ pieceBound) × (length (now order) ≡ pieceBound) × (length (now layout) ≡ size .count) ⌝ }
+    ensures { λ r. ⌜ ((pixels : List ℕ) → now (layout .exit) ≡ stackEntries (jobOf (lentBy size (now (table .entry)) pixels)) (take count (now (order .entry))) emptyStack (now (layout .entry))) ⌝ }
 {
     let mut pile = Pile {
         left: Column(0),
@@ -89,7 +90,7 @@ pub fn stack_all(
         length: 0,
     };
     let mut k = 0;
-    while k < size.count {
+    while k < count {
         let i = order[k];
         pile = room_for(size, table, i, pile);
         layout[i] = entry_of(on_top(size, table, i, pile));

@@ -18,7 +18,7 @@ pub use lib.Dec.{T, eqb, leb, leb→le, le→leb, lit≤, ltb, ltb→lt, lt→lt
 pub use lib.ListN.{List·getD-append, List·getD-eq-default, List·getD-map, drop, drop-of-length-le, getD, getD-replicate, length, length-append}
 pub use lib.ListN.{length-drop, length-map, length-replicate, length-set, length-take, replicate, set, take, take-append-drop}
 pub use lib.Seq.{append-snoc, drop-append-le, drop-append-seam, drop-at, drop-cons, drop-drop, drop-length, drop-set-lt, ext-getD, getD-append-add}
-pub use lib.Seq.{getD-drop, getD-set-other, getD-set-same, getD-take, length-sets, length-take-le, set-getD, set-out, sets, sets-eq, take-all}
+pub use lib.Seq.{getD-drop, getD-set-other, getD-set-same, getD-take, length-sets, length-take-le, set-getD, set-out, set-set, sets, sets-eq, take-all}
 pub use lib.Seq.{take-append-le, take-append-seam, take-at, take-length, take-set-lt, take-suc, take-suc-set, take-take}
 pub use lib.IntN.{_+ℤ_, _-ℤ_, natAbs, negsuc, pos, predℤ, subℕ, ℤ}
 pub use borrow.Author.Count.{below-more, below-none}

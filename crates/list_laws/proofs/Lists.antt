@@ -1,7 +1,8 @@
--- Lists: what is an element, lists with no element, maps and repeats. Assumes nothing.
+-- Lists: what is an element, lists with no element, maps and repeats, lists that are set at the same places. Assumes nothing.
 use Rattle.list_laws.proofs.Kit.{_∙_, _≡_, ap, refl, sym, List, List·Memᴰ, List·Memᴰ·head, List·Memᴰ·not-nil, List·Memᴰ·tail, [], _++_, _∷_, map}
 use Rattle.list_laws.proofs.Kit.{_<_, _≤_, suc, zero, ℕ, le-of-suc-le-suc, not-suc-le-zero, arith, getD, length, length-append, length-replicate}
-use Rattle.list_laws.proofs.Kit.{replicate, set, take, length-take-le, take-at}
+use Rattle.list_laws.proofs.Kit.{replicate, set, take, length-take-le, take-at, ⊎-elim, List·Memᴰ·cases-cons, length-set, getD-set-other, getD-set-same}
+use Rattle.list_laws.proofs.Kit.{ext-getD, ℕ-discrete}
 
 -- the element at a place is in the list
 pub member-at : {A : Type 0} (l : List A) (i : ℕ) (z : A) → i < length l → List·Memᴰ (getD l i z) l
@@ -92,3 +93,27 @@ pub repeat-at : {A : Type 0} (n i : ℕ) (a : A) → getD (replicate n a) i a �
 repeat-at zero i a = refl
 repeat-at (suc n) zero a = refl
 repeat-at (suc n) (suc i) a = repeat-at n i a
+
+-- ── two lists that are set at the same places ──
+
+-- two lists of one length that agree wherever no place of `is` is
+pub record Alike {A : Type 0} (z : A) (is : List ℕ) (xs ys : List A) : Type 0 where
+  pub size : length xs ≡ length ys
+  pub agree : (k : ℕ) → k < length xs → (List·Memᴰ k is → ⊥) → getD xs k z ≡ getD ys k z
+
+-- a place of `is` is set in both
+pub alike-set : {A : Type 0} (z : A) (i : ℕ) (is : List ℕ) (xs ys : List A) (a : A) → Alike z (i ∷ is) xs ys → Alike z is (set xs i a) (set ys i a)
+alike-set {A} z i is xs ys a h =
+    record { size = length-set xs i a ∙ h .size ∙ sym (length-set ys i a); agree = λ k l out. at k (rw length-set at l) out (ℕ-discrete k i) }
+  where
+    at : (k : ℕ) → k < length xs → (List·Memᴰ k is → ⊥) → Dec (k ≡ i) → getD (set xs i a) k z ≡ getD (set ys i a) k z
+    at k l out (yes s) =
+        let n = h .size in rw s (getD-set-same xs i a z (omega arith) ∙ sym (getD-set-same ys i a z (omega arith)))
+    at k l out (no n) =
+        getD-set-other xs i k a z n
+        ∙ h .agree k l (λ m. ⊎-elim n out (List·Memᴰ·cases-cons m))
+        ∙ sym (getD-set-other ys i k a z n)
+
+-- where every place is set they are equal
+pub alike-equal : {A : Type 0} (z : A) (xs ys : List A) → Alike z [] xs ys → xs ≡ ys
+alike-equal z xs ys h = ext-getD z xs ys (h .size) (λ k l. h .agree k l List·Memᴰ·not-nil)

@@ -1,5 +1,5 @@
--- Document 01, 'When a call says no', and document 02, points 2 (the cut list), 3 (the preview of a move) and 4 (the gap): what each public
--- call gives and leaves in lent memory, and its causes of refusal in their order. How a job or a layout is read line by line stands in JobText and
+-- Document 01, 'When a call says no', and document 02, points 2 (the cut list), 3 (the preview of a move), 4 (the gap) and 6 (locks): what each
+-- public call gives and leaves in lent memory, and its causes of refusal in their order. How a job or a layout is read line by line stands in JobText and
 -- LayoutText. Assumes nothing.
 --
 -- The refusals of each call, in their order; places are 0 unless named. Refusal gives each number its name.
@@ -17,7 +17,8 @@
 --   preview of a move      8, 7, 2, 9, 10; 9 and 10 also of the new placement              previewCall
 --   line search            8, 7, 2, 9, 10, 11                                              searchCall
 --   descent, guided run    8, 7, 2, 9, 10                                                  descentCall, guidedCall
---   start                  8, 7                                                            startCall
+--   set a lock             8, 2 the station, 9, 16                                         setLockCall
+--   start                  8, 7, 9, 10 of the locked placements                            startCall
 --   write a layout         8, 7 the layout's length, 9, 10, 7 the text buffer              writeLayoutCall
 --   read a layout          8; by line (first place): 1, 2, 9, 10; 1 for anything after the last line; then 7
 --                                                                                          readLayoutCall; LayoutText, readLayout
@@ -28,7 +29,7 @@
 --   line step              2 the pitch                                                     lineStepCall
 --   fresh sheet            8, 7                                                            freshCall
 --   lay                    8 the job, 7, 8 the sheet, 9, 13, 10                            layCall; Cover, layCauses
---   withdraw               8 the job, 7, 8 the sheet, 9, 14                                withdrawCall; Cover, withdrawCauses
+--   withdraw               8 the job, 7, 8 the sheet, 9, 14, 15                            withdrawCall; Cover, withdrawCauses
 --   the program            in its text: 7 (line 0) for too long an input, else the reader's
 --                                                                                          Program, programText
 --                          7 where a lent output buffer is shorter than the text           Program, programCall
@@ -38,12 +39,12 @@ use mathlib.Core.Option.{Option, none, some}
 use Prim.Native.Nat.{ℕ, _*_}
 use lib.Dec.{ltb, eqb}
 use lib.IntN.{ℤ}
-use lib.ListN.{length, getD}
+use lib.ListN.{length, getD, set}
 use Rattle.model.specs.Bounded.{anyBelow}
 use Rattle.model.specs.Piece.{Shape, tight, sideBound}
 use Rattle.model.specs.Strip.{strips, rebuilt}
 use Rattle.model.specs.Overlap.{OffsetRun, noFit}
-use Rattle.model.specs.Layout.{Job, Layout, Pair, pairOf, pairs, turnedPiece, allowed, inside}
+use Rattle.model.specs.Layout.{Job, Layout, Pair, pairOf, pairs, turnedPiece, allowed, isLocked, inside}
 use Rattle.model.specs.Layout.{placeOf, pairConflicts, pairPenalty, pairDepth, weightedSum}
 use Rattle.model.specs.Layout.{withPlace, plainSum, usedLength, figures, conflictingPair}
 use Rattle.model.specs.Search.{Best, places, searchLine}
@@ -51,8 +52,8 @@ use Rattle.model.specs.Descent.{Descent, descend}
 use Rattle.model.specs.Guided.{Guided, guide, weightBound}
 use Rattle.model.specs.Start.{start}
 use Rattle.model.specs.Refusal.{Outcome, refused, given, Cause, cause, unless, outOfRange, wrongLength, notOurs, noSuchPiece, outsideSheet, emptyLine}
-use Rattle.model.specs.Refusal.{piecesConflict}
-use Rattle.model.specs.Lent.{Lent, jobOf, lentWell, upTo}
+use Rattle.model.specs.Refusal.{piecesConflict, notTheCutter}
+use Rattle.model.specs.Lent.{Lent, entryColumns, entryRows, entryTurns, jobOf, lentWell, upTo}
 use Rattle.model.specs.Buffer.{turnPasses, layoutOf, entriesOf, stripEntry, entryStrip, runEntry, bytesOf, filled, sameEntries}
 use Rattle.model.specs.Text.{andThen}
 use Rattle.model.specs.LayoutText.{layoutText, readLayout}
@@ -384,9 +385,23 @@ textAfter before o = leaving (λ text. filled text before) before o
 unfoldable pub readLayoutCall : Lent → List ℕ → ℕ → Outcome Layout
 readLayoutCall l text room = andThen (unless (jobCause l ∷ []) (jobOf l)) (λ j. readLayout j text room)
 
--- the start layout: 8, 7
-unfoldable pub startCall : Lent → ℕ → Outcome Layout
-startCall l room = unless (jobCause l ∷ exactly (l .size .count) room ∷ []) (start (jobOf l))
+-- some locked piece's turn in a layout buffer is not allowed
+unfoldable pub lockedTurnWrong : Job → List (List ℕ) → Bool
+lockedTurnWrong j es = anyBelow (j .size .count) (λ i. isLocked j i && not (allowedDegrees j i (getD (getD es i []) 0 0)))
+
+-- some locked piece's placement is outside
+unfoldable pub lockedOutside : Job → Layout → Bool
+lockedOutside j v = anyBelow (j .size .count) (λ i. isLocked j i && not (inside j i (placeOf v i)))
+
+-- the causes of a start: 8, 7, 9, 10 of the locked placements
+abbrev pub startCauses : Lent → List (List ℕ) → List Cause
+startCauses l es =
+    jobCause l ∷ layoutLength l es ∷ cause noSuchPiece (lockedTurnWrong (jobOf l) es)
+    ∷ cause outsideSheet (lockedOutside (jobOf l) (layoutOf es)) ∷ []
+
+-- the start layout, with the locked placements of the lent one
+unfoldable pub startCall : Lent → List (List ℕ) → Outcome Layout
+startCall l es = unless (startCauses l es) (start (jobOf l) (layoutOf es))
 
 -- 12, with the pair that conflicts
 abbrev pub conflictCause : Option Pair → Cause
@@ -399,6 +414,31 @@ checkCall l es =
     unless
     (layoutCauses l es ++ (conflictCause (conflictingPair (jobOf l) (layoutOf es)) ∷ []))
     tt
+
+-- ── locks ──
+
+-- the stations that may ask for a lock: 0 the planner's, which may not set one, and 1 the cutter's, which may
+abbrev pub plannersStation : ℕ
+plannersStation = 0
+
+abbrev pub cuttersStation : ℕ
+cuttersStation = 1
+
+-- a table with the lock of piece i set, all else as it is
+unfoldable pub withLock : List (List ℕ) → ℕ → List (List ℕ)
+withLock table i = set table i (entryColumns table i ∷ entryRows table i ∷ entryTurns table i ∷ 1 ∷ [])
+
+-- setting a lock: 8, 2 a station that is none, 9 no such piece, 16 from the planner's station
+unfoldable pub setLockCall : Lent → ℕ → ℕ → Outcome (List (List ℕ))
+setLockCall l i station =
+    unless
+    (jobCause l ∷ cause outOfRange (ltb cuttersStation station) ∷ cause noSuchPiece (not (ltb i (l .size .count)))
+    ∷ cause notTheCutter (eqb station plannersStation) ∷ [])
+    (withLock (l .table) i)
+
+-- what the table holds after a lock is asked for
+abbrev pub lockedAfter : List (List ℕ) → Outcome (List (List ℕ)) → List (List ℕ)
+lockedAfter before o = leaving (λ table. table) before o
 
 -- ── the cut list ──
 
@@ -452,6 +492,6 @@ sheetCauses l s more = jobCause l ∷ countsLength l (length (s .counts)) ∷ ca
 unfoldable pub layCall : Lent → Sheet → ℕ → Placement → Outcome Sheet
 layCall l s i p = unless (sheetCauses l s (layCauses (jobOf l) s i p)) (lay (jobOf l) s i p)
 
--- withdraw: then 9, 14
+-- withdraw: then 9, 14, 15
 unfoldable pub withdrawCall : Lent → Sheet → ℕ → Outcome Sheet
 withdrawCall l s i = unless (sheetCauses l s (withdrawCauses (jobOf l) s i)) (withdraw (jobOf l) s i)

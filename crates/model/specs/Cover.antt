@@ -1,5 +1,5 @@
--- Document 01, 'Start, layout text, sheet', the sheet of cover counts: fresh, lay, withdraw, and what a list of calls gives.
--- Assumes nothing.
+-- Document 01, 'Start, layout text, sheet', the sheet of cover counts: fresh, lay, withdraw, and what a list of calls gives; document 02,
+-- point 6: a locked piece is not withdrawn. Assumes nothing.
 use mathlib.Core.Bool.{Bool, true, false, not, _&&_, _||_}
 use mathlib.Core.List.{List, [], _∷_}
 use mathlib.Core.Option.{Option, none, some}
@@ -8,9 +8,10 @@ use lib.Dec.{ltb, eqb}
 use lib.ListN.{length, getD, set, replicate}
 use Rattle.model.specs.Bounded.{allBelow, sumBelow, oneIf}
 use Rattle.model.specs.Piece.{Point, corner, covers, degrees}
-use Rattle.model.specs.Layout.{Job, turnedPiece, allowed, inside, origin}
+use Rattle.model.specs.Layout.{Job, turnedPiece, allowed, isLocked, inside, origin}
 use Rattle.model.specs.Lent.{pieceBound}
 use Rattle.model.specs.Refusal.{Outcome, refused, given, Cause, cause, unless, noSuchPiece, laidAlready, outsideSheet, notLaid}
+use Rattle.model.specs.Refusal.{pieceLocked}
 use Rattle.model.specs.declared.Placement.{Placement}
 use Rattle.model.specs.declared.Entry.{Entry}
 
@@ -72,9 +73,11 @@ layCauses j s i p =
     cause noSuchPiece (not (ltb i (j .size .count) && allowed j i (p .turn))) ∷ cause laidAlready (entryIn (s .pieces) i .laid)
     ∷ cause outsideSheet (not (inside j i p)) ∷ []
 
--- why a withdraw is refused: no such piece; not laid
+-- why a withdraw is refused: no such piece; not laid; locked
 unfoldable pub withdrawCauses : Job → Sheet → ℕ → List Cause
-withdrawCauses j s i = cause noSuchPiece (not (ltb i (j .size .count))) ∷ cause notLaid (not (entryIn (s .pieces) i .laid)) ∷ []
+withdrawCauses j s i =
+    cause noSuchPiece (not (ltb i (j .size .count))) ∷ cause notLaid (not (entryIn (s .pieces) i .laid))
+    ∷ cause pieceLocked (isLocked j i) ∷ []
 
 -- a call on a sheet
 pub data Call : Type 0 where

@@ -28,7 +28,7 @@ jobWith : ℕ → ℕ → List Shape → Job
 jobWith rows columns shapes =
     record {
       size = record { rows = rows; columns = columns; count = length shapes; gap = 0 };
-      piece = λ i. record { shape = getD shapes i (full 1 1); turns = 15 };
+      piece = λ i. record { shape = getD shapes i (full 1 1); turns = 15; locked = false };
     }
 
 -- a step as numbers: 0 for a lift, 1 for a cut, with x and y; 2 for done

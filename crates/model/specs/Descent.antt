@@ -1,4 +1,5 @@
--- Document 01, 'Descent and guidance', first part: trials, their order, one trial's outcome, and a whole descent.
+-- Document 01, 'Descent and guidance', first part: trials, their order, one trial's outcome, and a whole descent; document 02, point 6: a locked
+-- piece has no trial.
 -- A descent runs over any list of trials and knows nothing of how a trial is judged. Assumes nothing.
 use mathlib.Core.Bool.{true, false}
 use mathlib.Core.List.{List, [], _∷_, _++_}
@@ -7,7 +8,7 @@ use Prim.Native.Nat.{ℕ, zero, suc}
 use lib.Dec.{ltb, eqb}
 use lib.ListN.{length, getD}
 use Rattle.model.specs.Piece.{lineThrough}
-use Rattle.model.specs.Layout.{Job, Layout, allowed, placeOf, pieceSum, weightedSum}
+use Rattle.model.specs.Layout.{Job, Layout, allowed, isLocked, placeOf, pieceSum, weightedSum}
 use Rattle.model.specs.Search.{Best, movedTo, searchLine}
 use Rattle.model.specs.declared.Turn.{Turn}
 use Rattle.model.specs.declared.Turn.the-variants.{Zero, Quarter, Half, ThreeQuarters}
@@ -33,16 +34,18 @@ turnTrials j i t =
       | false ↦ []
     ]
 
--- the trials of one piece, by turn
+-- the trials of one piece, by turn; a locked piece has none
 unfoldable pub pieceTrials : Job → ℕ → List Trial
-pieceTrials j i = turnTrials j i Zero ++ turnTrials j i Quarter ++ turnTrials j i Half ++ turnTrials j i ThreeQuarters
+pieceTrials j i =
+    elim (isLocked j i)
+    [ true ↦ [] | false ↦ turnTrials j i Zero ++ turnTrials j i Quarter ++ turnTrials j i Half ++ turnTrials j i ThreeQuarters ]
 
 -- the trials of the next `left` pieces from i on
 unfoldable pub trialsFrom : Job → ℕ → ℕ → List Trial
 trialsFrom j i zero = []
 trialsFrom j i (suc left) = pieceTrials j i ++ trialsFrom j (suc i) left
 
--- all trials, in order of piece, turn, horizontal before vertical; T is its length
+-- all trials of free pieces, in order of piece, turn, horizontal before vertical; T is its length
 unfoldable pub trials : Job → List Trial
 trials j = trialsFrom j 0 (j .size .count)
 
@@ -99,7 +102,7 @@ proceed count s (moved v) =
 proceed count s quiet =
     record { layout = s .layout; quietCount = suc (s .quietCount); made = suc (s .made); moves = s .moves; next = trialAfter count (s .next) }
 
--- never looked up: the list of trials has the trial that comes next
+-- never looked up: while a descent goes on the list of trials has the trial that comes next
 abbrev pub noTrial : Trial
 noTrial = record { piece = 0; turn = Zero; direction = Horizontal }
 

@@ -1,6 +1,6 @@
 -- Document 01, 'Marked examples of the shop': P1 to P12, one test that the checker computes, and some of them again with the gap 1 of
 -- document 02, point 4. Assumes nothing.
-use mathlib.Core.Bool.{Bool, true, not, _&&_}
+use mathlib.Core.Bool.{Bool, true, false, not, _&&_}
 use mathlib.Core.List.{List, [], _∷_}
 use mathlib.Core.Option.{Option, none, some}
 use mathlib.Core.Path.{_≡_, refl}
@@ -73,7 +73,11 @@ place a b = record { turn = Zero; x = record { 0 = a }; y = record { 0 = b } }
 
 -- two full 2 × 2 pieces, o = 1, on a sheet of 2 rows and so many columns
 twoSquares : ℕ → Job
-twoSquares columns = record { size = record { rows = 2; columns = columns; count = 2; gap = 0 }; piece = λ i. record { shape = shapeA; turns = 1 } }
+twoSquares columns =
+    record {
+      size = record { rows = 2; columns = columns; count = 2; gap = 0 };
+      piece = λ i. record { shape = shapeA; turns = 1; locked = false };
+    }
 
 -- ── the examples ──
 

@@ -1,16 +1,17 @@
--- Document 01, 'Job text' and 'When a call says no', reading a job: line by line, then the whole. A line's form comes before its
--- ranges. The first place of a refusal is the line, from 1, and 0 for a buffer that is too short. Assumes nothing.
+-- Document 01, 'Job text' and 'When a call says no', reading a job: line by line, then the whole; document 02's versions 2 (point 4, a gap)
+-- and 3 (point 6, locks). A line's form comes before its ranges. The first place of a refusal is the line, from 1, and 0 for a buffer that is too
+-- short. Assumes nothing.
 use mathlib.Core.Bool.{Bool, true, false, not, _&&_, _||_}
 use mathlib.Core.List.{List, [], _∷_, _++_}
-use Prim.Native.Nat.{ℕ, zero, suc, _+_, _*_, _%_}
+use Prim.Native.Nat.{ℕ, zero, suc, _+_, _*_}
 use lib.Dec.{leb, ltb, eqb}
 use lib.ListN.{length, getD}
-use Rattle.model.specs.Piece.{Shape, tight, sideBound}
+use Rattle.model.specs.Piece.{Shape, tight}
 use Rattle.model.specs.Refusal.{Outcome, given, Cause, cause, unless, wrongForm, outOfRange, sheetTooLarge, boxesTooLarge, looseBox, boxTooLarge}
 use Rattle.model.specs.Refusal.{wrongLength}
-use Rattle.model.specs.Lent.{Lent, turnsBound, areaBound, upTo, numbersInRange}
+use Rattle.model.specs.Lent.{Lent, lockBound, areaBound, numbersInRange, sidesInRange}
 use Rattle.model.specs.declared.JobSize.{JobSize}
-use Rattle.model.specs.Text.{bytes, byte, lineEnd, Reading, wrong, got, onward, after, threeFields, fourFields}
+use Rattle.model.specs.Text.{bytes, byte, lineEnd, Reading, wrong, got, onward, after, threeFields, fourFields, fiveFields}
 use Rattle.model.specs.Text.{lineAt, orElse, field, causeIn, formed, andThen}
 
 -- the word that begins a job line of version 1, which has no gap
@@ -20,6 +21,10 @@ jobWord = bytes "job,1,"
 -- the word that begins a job line of version 2, which has a gap (document 02, point 4)
 abbrev pub gapWord : List ℕ
 gapWord = bytes "job,2,"
+
+-- the word that begins a job line of version 3, which has a gap, and whose piece lines have a lock (document 02, point 6)
+abbrev pub lockWord : List ℕ
+lockWord = bytes "job,3,"
 
 -- the word that begins a piece line
 abbrev pub pieceWord : List ℕ
@@ -31,19 +36,26 @@ rowWord = bytes "row,"
 
 -- ── the job line ──
 
--- what the job line says: W rows, L columns, n pieces, the gap g; and the position after it
+-- what the job line says: W rows, L columns, n pieces, the gap g; whether its piece lines have a lock; and the position after it
 pub record JobLine : Type 0 where
   pub size : JobSize
+  pub locks : Bool
   pub next : ℕ
 
 -- the numbers W, L, n, g that are read, and the position after them; where no fourth is read, g is 0
-abbrev pub asJobLine : List ℕ → ℕ → JobLine
-asJobLine ks next =
-    record { size = record { rows = field ks 0; columns = field ks 1; count = field ks 2; gap = field ks 3 }; next = next }
+abbrev pub asJobLine : Bool → List ℕ → ℕ → JobLine
+asJobLine locks ks next =
+    record { size = record { rows = field ks 0; columns = field ks 1; count = field ks 2; gap = field ks 3 }; locks = locks; next = next }
 
--- the numbers of the job line: `job,1,W,L,n` or `job,2,W,L,n,g`
-abbrev pub jobNumbers : List ℕ → Reading (List ℕ)
-jobNumbers text = orElse (lineAt jobWord threeFields text 0) (lineAt gapWord fourFields text 0)
+-- the job line of a version: its word, its fields, and whether its piece lines have a lock
+abbrev pub versionLine : List ℕ → List ℕ → Bool → List ℕ → Reading JobLine
+versionLine word ends locks text = onward (lineAt word ends text 0) (λ ks next. got (asJobLine locks ks next) next)
+
+-- the job line of any version: `job,1,W,L,n`, `job,2,W,L,n,g` or `job,3,W,L,n,g`
+abbrev pub jobVersions : List ℕ → Reading JobLine
+jobVersions text =
+    orElse (versionLine jobWord threeFields false text)
+    (orElse (versionLine gapWord fourFields false text) (versionLine lockWord fourFields true text))
 
 -- a number out of range, then W × L above 65,536
 abbrev pub jobLineCauses : JobLine → List Cause
@@ -53,28 +65,32 @@ jobLineCauses j =
 
 -- the job line
 unfoldable pub jobLine : List ℕ → Outcome JobLine
-jobLine text = formed 1 (jobNumbers text) (λ ks next. unless (jobLineCauses (asJobLine ks next)) (asJobLine ks next))
+jobLine text = formed 1 (jobVersions text) (λ j next. unless (jobLineCauses j) j)
 
 -- ── a piece line ──
 
--- what a piece line says: its number i, l columns, w rows, the sum o of turns; and the position after it
+-- what a piece line says: its number i, l columns, w rows, the sum o of turns, the lock; and the position after it
 pub record PieceLine : Type 0 where
   pub number : ℕ
   pub columns : ℕ
   pub rows : ℕ
   pub turns : ℕ
+  pub lock : ℕ
   pub next : ℕ
 
--- the numbers i, l, w, o that are read, and the position after them
+-- the end bytes of a piece line's fields: i, l, w, o, and the lock where the version has it
+abbrev pub pieceEnds : Bool → List ℕ
+pieceEnds false = fourFields
+pieceEnds true = fiveFields
+
+-- the numbers i, l, w, o and the lock that are read, and the position after them; where no lock is read, it is 0, free
 abbrev pub asPieceLine : List ℕ → ℕ → PieceLine
 asPieceLine ks next =
-    record { number = field ks 0; columns = field ks 1; rows = field ks 2; turns = field ks 3; next = next }
+    record { number = field ks 0; columns = field ks 1; rows = field ks 2; turns = field ks 3; lock = field ks 4; next = next }
 
--- the piece's number is i, its sides are in range, and the sum of turns is odd and at most 15
+-- the piece's number is i, its sides are in range, the sum of turns is odd and at most 15, and the lock is 0 or 1
 abbrev pub pieceInRange : ℕ → PieceLine → Bool
-pieceInRange i h =
-    eqb (h .number) i && upTo sideBound (h .columns) && upTo sideBound (h .rows) && eqb (h .turns % 2) 1
-    && leb (h .turns) turnsBound
+pieceInRange i h = eqb (h .number) i && sidesInRange (h .columns) (h .rows) (h .turns) && leb (h .lock) lockBound
 
 -- the line of piece i, with the areas of the boxes before it: out of range, box longer or wider than the sheet, box areas so
 -- far above 65,536
@@ -84,10 +100,10 @@ pieceLineCauses line j i area h =
     ∷ causeIn line boxTooLarge (ltb (j .size .columns) (h .columns) || ltb (j .size .rows) (h .rows))
     ∷ causeIn line boxesTooLarge (ltb areaBound (area + h .columns * h .rows)) ∷ []
 
--- the line of piece i at position p, `piece,i,l,w,o`
+-- the line of piece i at position p, `piece,i,l,w,o`, in version 3 `piece,i,l,w,o,k` with the lock k
 unfoldable pub pieceLine : List ℕ → JobLine → ℕ → ℕ → ℕ → ℕ → Outcome PieceLine
 pieceLine text j i area p line =
-    formed line (lineAt pieceWord fourFields text p)
+    formed line (lineAt pieceWord (pieceEnds (j .locks)) text p)
     (λ ks next. unless (pieceLineCauses line j i area (asPieceLine ks next)) (asPieceLine ks next))
 
 -- ── row lines ──
@@ -138,6 +154,7 @@ pub record PieceText : Type 0 where
   pub columns : ℕ
   pub rows : ℕ
   pub turns : ℕ
+  pub lock : ℕ
   pub pixels : List ℕ
   pub next : ℕ
 
@@ -148,7 +165,7 @@ rowsCauses line h r = causeIn (line + h .rows) looseBox (not (tight (boxShape (h
 -- the piece line and its row lines together
 abbrev pub asPieceText : PieceLine → Rows → PieceText
 asPieceText h r =
-    record { columns = h .columns; rows = h .rows; turns = h .turns; pixels = r .pixels; next = r .next }
+    record { columns = h .columns; rows = h .rows; turns = h .turns; lock = h .lock; pixels = r .pixels; next = r .next }
 
 -- piece i at position p: its piece line, on the given line, and w row lines
 unfoldable pub pieceAt : List ℕ → JobLine → ℕ → ℕ → ℕ → ℕ → Outcome PieceText
@@ -172,7 +189,7 @@ noPieces = record { table = []; pixels = [] }
 -- a piece in front of the later ones
 abbrev pub withPiece : PieceText → Pieces → Pieces
 withPiece h r =
-    record { table = (h .columns ∷ h .rows ∷ h .turns ∷ []) ∷ r .table; pixels = h .pixels ++ r .pixels }
+    record { table = (h .columns ∷ h .rows ∷ h .turns ∷ h .lock ∷ []) ∷ r .table; pixels = h .pixels ++ r .pixels }
 
 -- `left` pieces from number i on, the first at position p on the given line; nothing follows the last
 unfoldable pub piecesAt : List ℕ → JobLine → ℕ → ℕ → ℕ → ℕ → ℕ → Outcome Pieces

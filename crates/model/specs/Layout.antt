@@ -1,5 +1,5 @@
 -- Document 01, 'Sheet and panels' (inside), 'No-fit rows and penalty' (weights and sums) and the check of a layout; document 02,
--- points 1 (used length), 3 (a piece placed anew, and what is shown of a layout) and 4 (the gap). Assumes nothing.
+-- points 1 (used length), 3 (a piece placed anew, and what is shown of a layout), 4 (the gap) and 6 (locked pieces). Assumes nothing.
 use mathlib.Core.Bool.{Bool, true, false, _&&_, _||_}
 use mathlib.Core.List.{List, [], _∷_, _++_}
 use Prim.Native.Nat.{ℕ, zero, suc, _+_, _-_, _*_, min, max}
@@ -33,6 +33,10 @@ turnedPiece j i t = turned t (j .piece i .shape)
 -- the turn is allowed to the piece
 abbrev pub allowed : Job → ℕ → Turn → Bool
 allowed j i t = allows (j .piece i .turns) t
+
+-- the piece is locked: it is under the knife already (document 02, point 6)
+abbrev pub isLocked : Job → ℕ → Bool
+isLocked j i = j .piece i .locked
 
 -- the turned box lies in the sheet
 unfoldable pub inside : Job → ℕ → Placement → Bool

@@ -1,5 +1,5 @@
--- A job as it is lent to a call: document 01's W, L and n, document 02's gap g, a table of n entries (l, w, o) and a store of one byte a box pixel,
--- row by row, piece after piece. Buffers may be longer than the job needs. Assumes nothing.
+-- A job as it is lent to a call: document 01's W, L and n, document 02's gap g, a table of n entries (l, w, o and document 02's lock) and a store
+-- of one byte a box pixel, row by row, piece after piece. Buffers may be longer than the job needs. Assumes nothing.
 use mathlib.Core.Bool.{Bool, _&&_}
 use mathlib.Core.List.{List, []}
 use Prim.Native.Nat.{ℕ, _+_, _*_, _%_}
@@ -37,6 +37,10 @@ pieceBound = 64
 abbrev pub turnsBound : ℕ
 turnsBound = 15
 
+-- the largest lock: 1 locked, 0 free
+abbrev pub lockBound : ℕ
+lockBound = 1
+
 -- the most pixels of a sheet, and of all boxes together
 abbrev pub areaBound : ℕ
 areaBound = 65536
@@ -47,7 +51,7 @@ upTo bound k = leb 1 k && leb k bound
 
 -- ── the table ──
 
--- entry i of the table: l columns, w rows, o the sum of the turns
+-- entry i of the table: l columns, w rows, o the sum of the turns, and the lock
 abbrev pub entryColumns : List (List ℕ) → ℕ → ℕ
 entryColumns table i = getD (getD table i []) 0 0
 
@@ -57,6 +61,9 @@ entryRows table i = getD (getD table i []) 1 0
 abbrev pub entryTurns : List (List ℕ) → ℕ → ℕ
 entryTurns table i = getD (getD table i []) 2 0
 
+abbrev pub entryLock : List (List ℕ) → ℕ → ℕ
+entryLock table i = getD (getD table i []) 3 0
+
 -- the box area of entry i
 abbrev pub entryArea : List (List ℕ) → ℕ → ℕ
 entryArea table i = entryColumns table i * entryRows table i
@@ -65,11 +72,13 @@ entryArea table i = entryColumns table i * entryRows table i
 unfoldable pub pixelStart : List (List ℕ) → ℕ → ℕ
 pixelStart table i = sumBelow i (entryArea table)
 
--- the sides are in range and the sum of turns is odd and at most 15
+-- the sides l and w are in range, and the sum o of turns is odd and at most 15
+abbrev pub sidesInRange : ℕ → ℕ → ℕ → Bool
+sidesInRange l w o = upTo sideBound l && upTo sideBound w && eqb (o % 2) 1 && leb o turnsBound
+
+-- an entry's sides and turns are in range, and its lock is 0 or 1
 unfoldable pub entryInRange : List (List ℕ) → ℕ → Bool
-entryInRange table i =
-    upTo sideBound (entryColumns table i) && upTo sideBound (entryRows table i) && eqb (entryTurns table i % 2) 1
-    && leb (entryTurns table i) turnsBound
+entryInRange table i = sidesInRange (entryColumns table i) (entryRows table i) (entryTurns table i) && leb (entryLock table i) lockBound
 
 -- the box is no longer and no wider than the sheet
 unfoldable pub entryFits : JobSize → List (List ℕ) → ℕ → Bool
@@ -91,7 +100,7 @@ unfoldable pub jobOf : Lent → Job
 jobOf j =
     record {
       size = j .size;
-      piece = λ i. record { shape = lentShape j i; turns = entryTurns (j .table) i };
+      piece = λ i. record { shape = lentShape j i; turns = entryTurns (j .table) i; locked = eqb (entryLock (j .table) i) 1 };
     }
 
 -- W, L, n and g are in range

@@ -35,3 +35,4 @@ pub mod Examples
 pub mod Worked
 pub mod CutExamples
 pub mod TextExamples
+pub mod LockExamples

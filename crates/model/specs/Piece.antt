@@ -119,6 +119,7 @@ turnBit ThreeQuarters = 8
 pub record Piece : Type 0 where
   pub shape : Shape
   pub turns : ℕ
+  pub locked : Bool
 
 -- the sum o allows the turn
 unfoldable pub allows : ℕ → Turn → Bool

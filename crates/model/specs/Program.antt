@@ -1,6 +1,6 @@
 -- Document 01, 'Start, layout text, sheet', last part: what the program prints, as a function of the bytes of its input. It reads a
 -- job, takes the start layout and weights 1, makes a guided run and prints the best layout and how the run ended, or the
--- refusal. Assumes nothing.
+-- refusal. Document 02, point 6: locked pieces lie where the start of all pieces puts them. Assumes nothing.
 use mathlib.Core.Bool.{true, false}
 use mathlib.Core.List.{List, [], _∷_, _++_}
 use Prim.Native.Nat.{ℕ}
@@ -8,7 +8,7 @@ use lib.Dec.{ltb, eqb}
 use lib.ListN.{length}
 use Rattle.model.specs.Layout.{Job, unitWeights, usedLength}
 use Rattle.model.specs.Guided.{Guided, guide}
-use Rattle.model.specs.Start.{start}
+use Rattle.model.specs.Start.{programStart}
 use Rattle.model.specs.Refusal.{Outcome, refused, given, unless, wrongLength}
 use Rattle.model.specs.Calls.{atLeast}
 use Rattle.model.specs.Lent.{Lent, jobOf, pieceBound, areaBound}
@@ -46,9 +46,9 @@ unfoldable pub runText : Job → Guided → List ℕ
 runText j g =
     layoutText j (g .layout) ++ wordLine (endWord (g .sum)) (g .sum ∷ g .made ∷ g .moves ∷ usedLength j (g .layout) ∷ [])
 
--- the program's run of a job: from the start layout, by weights 1
+-- the program's run of a job: from its start layout, by weights 1
 unfoldable pub programRun : Job → Guided
-programRun j = guide j programRounds programBudget (unitWeights (j .size .count)) (start j)
+programRun j = guide j programRounds programBudget (unitWeights (j .size .count)) (programStart j)
 
 -- what is printed after the reading of a job: the refusal, or the run
 abbrev pub printed : Outcome Lent → List ℕ

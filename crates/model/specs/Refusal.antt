@@ -34,7 +34,7 @@ unfoldable pub unless : {A : Type 0} → List Cause → A → Outcome A
 unless [] a = given a
 unless (c ∷ cs) a = elim (c .there) [ true ↦ refused (refusalOf c) | false ↦ unless cs a ]
 
--- ── document 01's numbers ──
+-- ── document 01's numbers, and document 02's from 15 on ──
 
 -- wrong form of a line
 abbrev pub wrongForm : ℕ
@@ -91,3 +91,11 @@ laidAlready = 13
 -- the piece is not laid
 abbrev pub notLaid : ℕ
 notLaid = 14
+
+-- the piece is locked (document 02, point 6)
+abbrev pub pieceLocked : ℕ
+pieceLocked = 15
+
+-- a lock is set from the planner's station (document 02, point 6)
+abbrev pub notTheCutter : ℕ
+notTheCutter = 16

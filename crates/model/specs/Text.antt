@@ -109,6 +109,10 @@ threeFields = comma ∷ comma ∷ lineEnd ∷ []
 abbrev pub fourFields : List ℕ
 fourFields = comma ∷ comma ∷ comma ∷ lineEnd ∷ []
 
+-- the end bytes of the last five fields of a line
+abbrev pub fiveFields : List ℕ
+fiveFields = comma ∷ comma ∷ comma ∷ comma ∷ lineEnd ∷ []
+
 -- a line of a word and fields
 abbrev pub lineAt : List ℕ → List ℕ → List ℕ → ℕ → Reading (List ℕ)
 lineAt word ends text p = after word text p (fieldsAt ends text)

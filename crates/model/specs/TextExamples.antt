@@ -1,11 +1,12 @@
--- Document 01, 'Job text', 'Start, layout text, sheet' and 'When a call says no', and document 02's job line of version 2: a job and a
+-- Document 01, 'Job text', 'Start, layout text, sheet' and 'When a call says no', and document 02's versions 2 and 3 of a job: a job and a
 -- layout that are read and written, and damaged texts that are refused, one test that the checker computes; and one of which row line is
 -- y = 0. Assumes nothing.
-use mathlib.Core.Bool.{Bool, true, _&&_}
+use mathlib.Core.Bool.{Bool, true, false, _&&_}
 use mathlib.Core.List.{List, [], _∷_, _++_}
 use mathlib.Core.Path.{_≡_, refl}
 use Prim.Native.Nat.{ℕ}
 use Prim.Native.String.{String, _++_ as _++ᵗ_}
+use lib.ListN.{replicate}
 use Rattle.model.specs.Bounded.{oneIf}
 use Rattle.model.specs.Piece.{Shape, tight, allows}
 use Rattle.model.specs.Layout.{Job, Layout, inside}
@@ -15,7 +16,7 @@ use Rattle.model.specs.Text.{bytes, standsAt, digitsFrom, numberAt, fiel
 use Rattle.model.specs.JobText.{PieceLine, Pieces, jobLine, pieceLine, markAt, marksAt, rowAt, rowsAt, pieceAt, piecesAt, readJob}
 use Rattle.model.specs.Buffer.{sameNumbers, turnOfDegrees, isTurn, turnOf, entryOf}
 use Rattle.model.specs.LayoutText.{placementsText, layoutText, layoutLine, placementLine, placementsAt, readLayout}
-use Rattle.model.specs.Start.{start, stackAll, fallingOrder, insert}
+use Rattle.model.specs.Start.{startOfAll, stackAll, fallingOrder, insert}
 
 -- ── answers written out as numbers ──
 
@@ -33,9 +34,9 @@ flat f (given a) = 1 ∷ f a
 flatLent : Lent → List ℕ
 flatLent k = k .size .rows ∷ k .size .columns ∷ k .size .count ∷ k .size .gap ∷ joined (k .table) ++ k .pixels
 
--- a piece line written out: i, l, w, o, the position after it
+-- a piece line written out: i, l, w, o, the lock, the position after it
 flatPiece : PieceLine → List ℕ
-flatPiece h = h .number ∷ h .columns ∷ h .rows ∷ h .turns ∷ h .next ∷ []
+flatPiece h = h .number ∷ h .columns ∷ h .rows ∷ h .turns ∷ h .lock ∷ h .next ∷ []
 
 -- pieces written out: the table, the pixel bytes
 flatPieces : Pieces → List ℕ
@@ -75,7 +76,7 @@ example : Lent
 example =
     record {
       size = record { rows = 2; columns = 4; count = 2; gap = 0 };
-      table = (2 ∷ 2 ∷ 1 ∷ []) ∷ (2 ∷ 2 ∷ 1 ∷ []) ∷ [];
+      table = (2 ∷ 2 ∷ 1 ∷ 0 ∷ []) ∷ (2 ∷ 2 ∷ 1 ∷ 0 ∷ []) ∷ [];
       pixels = 1 ∷ 1 ∷ 1 ∷ 1 ∷ 1 ∷ 1 ∷ 1 ∷ 1 ∷ [];
     }
 
@@ -104,9 +105,9 @@ reads =
     sameNumbers (readWith 2 8 ("job,1,2,4,2\n" ++ᵗ squares)) (1 ∷ flatLent example)
     && sameNumbers (readWith 64 65536 ("job,1,2,4,2\n" ++ᵗ squares)) (1 ∷ flatLent example)
     && sameNumbers (readWith 1 6 "job,1,12,34,1\npiece,0,3,2,15\nrow,##.\nrow,#.#\n")
-    (1 ∷ 12 ∷ 34 ∷ 1 ∷ 0 ∷ 3 ∷ 2 ∷ 15 ∷ 1 ∷ 1 ∷ 0 ∷ 1 ∷ 0 ∷ 1 ∷ [])
+    (1 ∷ 12 ∷ 34 ∷ 1 ∷ 0 ∷ 3 ∷ 2 ∷ 15 ∷ 0 ∷ 1 ∷ 1 ∷ 0 ∷ 1 ∷ 0 ∷ 1 ∷ [])
     && sameNumbers (readWith 2 7 "job,1,2,3,2\npiece,0,3,2,15\nrow,##.\nrow,#.#\npiece,1,1,1,3\nrow,#\n")
-    (1 ∷ 2 ∷ 3 ∷ 2 ∷ 0 ∷ 3 ∷ 2 ∷ 15 ∷ 1 ∷ 1 ∷ 3 ∷ 1 ∷ 1 ∷ 0 ∷ 1 ∷ 0 ∷ 1 ∷ 1 ∷ [])
+    (1 ∷ 2 ∷ 3 ∷ 2 ∷ 0 ∷ 3 ∷ 2 ∷ 15 ∷ 0 ∷ 1 ∷ 1 ∷ 3 ∷ 0 ∷ 1 ∷ 1 ∷ 0 ∷ 1 ∷ 0 ∷ 1 ∷ 1 ∷ [])
     && sameNumbers (readWith 1 8 ("job,1,2,4,2\n" ++ᵗ squares)) (0 ∷ 7 ∷ 0 ∷ 0 ∷ [])
     && sameNumbers (readWith 2 7 ("job,1,2,4,2\n" ++ᵗ squares)) (0 ∷ 7 ∷ 0 ∷ 0 ∷ [])
 
@@ -153,13 +154,13 @@ gapLines =
     && refuses "job,2,0,4,2,8\n" 2 1
     && refuses "job,2,16,4096,64,8\n" 1 2
 
--- wrong form of a line with a gap: the number of fields of the other version, versions 0, 3 and 02, a leading zero, six digits, no
+-- wrong form of a line with a gap: the number of fields of another version, versions 0, 4 and 02, a leading zero, six digits, no
 -- number, no line end, a field too many, and form before range
 gapLineForm : Bool
 gapLineForm =
     refuses ("job,2,2,4,2\n" ++ᵗ squares) 1 1 && refuses ("job,1,2,4,2,0\n" ++ᵗ squares) 1 1 && refuses "job,0,2,4,2,1\n" 1 1
-    && refuses "job,3,2,4,2,1\n" 1 1
-    && refuses "job,3,2,4,2\n" 1 1
+    && refuses "job,4,2,4,2,1\n" 1 1
+    && refuses "job,4,2,4,2\n" 1 1
     && refuses "job,02,2,4,2,1\n" 1 1
     && refuses "job,2,2,4,2,01\n" 1 1
     && refuses "job,2,2,4,2,000001\n" 1 1
@@ -168,6 +169,47 @@ gapLineForm =
     && refuses "job,2,2,4,2,1,1\n" 1 1
     && refuses "job,2,0,4,65,x\n" 1 1
     && refuses "job,2,2,4,2,9" 1 1
+
+-- the two squares in version 3, with a lock each
+lockedSquares : String → String → String
+lockedSquares a b = "piece,0,2,2,1," ++ᵗ a ++ᵗ "\nrow,##\nrow,##\npiece,1,2,2,1," ++ᵗ b ++ᵗ "\nrow,##\nrow,##\n"
+
+-- the example with piece 1 locked and a gap of 1
+lockedExample : Lent
+lockedExample =
+    record {
+      size = record { rows = 2; columns = 4; count = 2; gap = 1 };
+      table = (2 ∷ 2 ∷ 1 ∷ 0 ∷ []) ∷ (2 ∷ 2 ∷ 1 ∷ 1 ∷ []) ∷ [];
+      pixels = replicate 8 1;
+    }
+
+-- version 3: the example with piece 1 locked and a gap of 1, and with no lock and no gap; a lock above 1, also where the box is larger than the
+-- sheet; a gap above 8
+lockLines : Bool
+lockLines =
+    sameNumbers (readWith 2 8 ("job,3,2,4,2,1\n" ++ᵗ lockedSquares "0" "1")) (1 ∷ flatLent lockedExample)
+    && sameNumbers (readWith 2 8 ("job,3,2,4,2,0\n" ++ᵗ lockedSquares "0" "0")) (1 ∷ flatLent example)
+    && refuses ("job,3,2,4,2,1\n" ++ᵗ lockedSquares "2" "0") 2 2
+    && refuses ("job,3,2,4,2,1\n" ++ᵗ lockedSquares "1" "99999") 2 5
+    && refuses "job,3,2,4,2,1\npiece,0,5,2,1,2\n" 2 2
+    && refuses "job,3,2,4,2,1\npiece,0,5,2,1,1\n" 6 2
+    && refuses "job,3,2,4,2,9\n" 2 1
+    && refuses "job,3,17,4096,2,8\n" 3 1
+
+-- wrong form in version 3: no gap, a number more, piece lines without a lock, a lock with a leading zero, of six digits, none and two, and form before
+-- range; and piece lines with a lock in older versions
+lockLineForm : Bool
+lockLineForm =
+    refuses ("job,3,2,4,2\n" ++ᵗ lockedSquares "0" "0") 1 1
+    && refuses ("job,3,2,4,2,1\n" ++ᵗ squares) 1 2
+    && refuses ("job,3,2,4,2,1,0\n" ++ᵗ lockedSquares "0" "0") 1 1
+    && refuses ("job,3,2,4,2,1\n" ++ᵗ lockedSquares "0" "01") 1 5
+    && refuses ("job,3,2,4,2,1\n" ++ᵗ lockedSquares "0" "000001") 1 5
+    && refuses ("job,3,2,4,2,1\n" ++ᵗ lockedSquares "" "0") 1 2
+    && refuses ("job,3,2,4,2,1\n" ++ᵗ lockedSquares "0,0" "0") 1 2
+    && refuses "job,3,2,4,2,1\npiece,0,0,2,1,2" 1 2
+    && refuses ("job,1,2,4,2\n" ++ᵗ lockedSquares "0" "0") 1 2
+    && refuses ("job,2,2,4,2,1\n" ++ᵗ lockedSquares "0" "0") 1 2
 
 -- piece lines: form, number, sides, sum of turns, larger than the sheet, their order, and the longest sides, which pass
 pieceLines : Bool
@@ -185,22 +227,29 @@ pieceLines =
     && refuses "job,1,512,128,2\npiece,0,2,256,1\n" 2 2
     && refuses "job,1,255,257,2\npiece,0,255,255,15\n" 1 3
 
--- the line of piece 1 after boxes of the given area, on line 9
+-- a line of piece 1 after boxes of the given area, on line 9
+pieceOne : Bool → String → ℕ → List ℕ
+pieceOne locks line area =
+    flat flatPiece (pieceLine (bytes line) (record { size = record { rows = 2; columns = 4; count = 2; gap = 0 }; locks = locks; next = 0 }) 1 area 0 9)
+
+-- its line without a lock
 secondPiece : ℕ → List ℕ
-secondPiece area =
-    flat flatPiece (pieceLine (bytes "piece,1,2,2,1\n") (record { size = record { rows = 2; columns = 4; count = 2; gap = 0 }; next = 0 }) 1 area 0 9)
+secondPiece area = pieceOne false "piece,1,2,2,1\n" area
 
 -- pieces 1 and 2 after boxes of the given area, from line 9 on; the row lines of piece 2 are missing
 laterPieces : ℕ → List ℕ
 laterPieces area =
     flat flatPieces
-    (piecesAt (bytes "piece,1,1,1,1\nrow,#\npiece,2,2,2,1\n") (record { size = record { rows = 2; columns = 4; count = 3; gap = 0 }; next = 0 })
+    (piecesAt (bytes "piece,1,1,1,1\nrow,#\npiece,2,2,2,1\n") (record { size = record { rows = 2; columns = 4; count = 3; gap = 0 }; locks = false; next = 0 })
     2 1 area 0 9)
 
--- box areas so far: up to 65,536, and above, by this box or by those before it
+-- box areas so far: up to 65,536, and above, by this box or by those before it; a lock above 1 comes before them
 boxAreas : Bool
 boxAreas =
-    sameNumbers (secondPiece 65532) (1 ∷ 1 ∷ 2 ∷ 2 ∷ 1 ∷ 14 ∷ []) && sameNumbers (secondPiece 65533) (0 ∷ 4 ∷ 9 ∷ 0 ∷ [])
+    sameNumbers (secondPiece 65532) (1 ∷ 1 ∷ 2 ∷ 2 ∷ 1 ∷ 0 ∷ 14 ∷ []) && sameNumbers (secondPiece 65533) (0 ∷ 4 ∷ 9 ∷ 0 ∷ [])
+    && sameNumbers (pieceOne true "piece,1,2,2,1,1\n" 65532) (1 ∷ 1 ∷ 2 ∷ 2 ∷ 1 ∷ 1 ∷ 16 ∷ [])
+    && sameNumbers (pieceOne true "piece,1,2,2,1,1\n" 65533) (0 ∷ 4 ∷ 9 ∷ 0 ∷ [])
+    && sameNumbers (pieceOne true "piece,1,2,2,1,2\n" 65533) (0 ∷ 2 ∷ 9 ∷ 0 ∷ [])
     && sameNumbers (laterPieces 65531) (0 ∷ 1 ∷ 12 ∷ 0 ∷ [])
     && sameNumbers (laterPieces 65532) (0 ∷ 4 ∷ 11 ∷ 0 ∷ [])
 
@@ -238,7 +287,7 @@ startText = "layout,1,2,4,2\nat,0,0,0,0\nat,1,0,2,0\n"
 -- it is written byte for byte and read back; a buffer of another length is refused
 layoutWritten : Bool
 layoutWritten =
-    sameNumbers (layoutText (jobOf example) (start (jobOf example))) (bytes startText)
+    sameNumbers (layoutText (jobOf example) (startOfAll (jobOf example))) (bytes startText)
     && sameNumbers (layoutWith 2 startText) (1 ∷ 0 ∷ 0 ∷ 0 ∷ 0 ∷ 2 ∷ 0 ∷ [])
     && sameNumbers (layoutWith 1 startText) (0 ∷ 7 ∷ 0 ∷ 0 ∷ [])
     && sameNumbers (layoutWith 3 startText) (0 ∷ 7 ∷ 0 ∷ 0 ∷ [])
@@ -246,7 +295,7 @@ layoutWritten =
 -- a job with a gap has the same layout text, and its pieces may lie at the sheet's edge
 gapLayout : Bool
 gapLayout =
-    sameNumbers (layoutText (jobOf (withGap 8 example)) (start (jobOf (withGap 8 example)))) (bytes startText)
+    sameNumbers (layoutText (jobOf (withGap 8 example)) (startOfAll (jobOf (withGap 8 example)))) (bytes startText)
     && sameNumbers (flat flatLayout (readLayout (jobOf (withGap 8 example)) (bytes startText) 2)) (1 ∷ 0 ∷ 0 ∷ 0 ∷ 0 ∷ 2 ∷ 0 ∷ [])
 
 -- damaged layout texts: form, numbers unlike the job's, degrees of no turn, a turn not allowed, a placement outside, a missing and
@@ -274,7 +323,7 @@ bars : Lent
 bars =
     record {
       size = record { rows = 12; columns = 345; count = 4; gap = 0 };
-      table = (2 ∷ 1 ∷ 15 ∷ []) ∷ (2 ∷ 1 ∷ 15 ∷ []) ∷ (2 ∷ 1 ∷ 15 ∷ []) ∷ (2 ∷ 1 ∷ 15 ∷ []) ∷ [];
+      table = replicate 4 (2 ∷ 1 ∷ 15 ∷ 0 ∷ []);
       pixels = 1 ∷ 1 ∷ 1 ∷ 1 ∷ 1 ∷ 1 ∷ 1 ∷ 1 ∷ [];
     }
 
@@ -294,15 +343,16 @@ turnsRead =
 -- all of them
 pub textExamples : Bool
 textExamples =
-    reads && jobLineForm && jobLineRange && gapLines && gapLineForm && pieceLines && boxAreas && rowLines && layoutWritten && gapLayout
+    reads && jobLineForm && jobLineRange && gapLines && gapLineForm && lockLines && lockLineForm && pieceLines && boxAreas && rowLines && layoutWritten
+    && gapLayout
     && layoutDamaged
     && turnsRead
 
 -- the texts are read, written and refused as the documents say
 pub text-examples-hold : textExamples ≡ true
-unfolding textExamples reads jobLineForm jobLineRange gapLines gapLineForm pieceLines boxAreas rowLines layoutWritten gapLayout layoutDamaged
-    turnsRead joined flat flatLent flatPiece flatPieces flatLayout example withGap bars turnedText readWith refuses secondPiece laterPieces layoutWith
-    layoutRefuses startText sameNumbers tight allows inside unless jobOf pixelStart standsAt digitsFrom numberAt fieldAt fieldsAt decimal fieldsText
-    jobLine pieceLine markAt marksAt rowAt rowsAt pieceAt piecesAt readJob turnOfDegrees isTurn turnOf placementsText layoutText layoutLine
-    placementLine placementsAt readLayout start stackAll fallingOrder insert
+unfolding textExamples reads jobLineForm jobLineRange gapLines gapLineForm lockLines lockLineForm pieceLines boxAreas rowLines layoutWritten gapLayout
+    layoutDamaged turnsRead lockedSquares lockedExample joined flat flatLent flatPiece flatPieces flatLayout example withGap bars turnedText readWith
+    refuses pieceOne secondPiece laterPieces layoutWith layoutRefuses startText sameNumbers tight allows inside unless jobOf pixelStart standsAt
+    digitsFrom numberAt fieldAt fieldsAt decimal fieldsText jobLine pieceLine markAt marksAt rowAt rowsAt pieceAt piecesAt readJob turnOfDegrees isTurn
+    turnOf placementsText layoutText layoutLine placementLine placementsAt readLayout startOfAll stackAll fallingOrder insert
 text-examples-hold = refl

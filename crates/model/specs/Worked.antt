@@ -1,7 +1,7 @@
 -- Worked examples beside P1 to P12, one test that the checker computes: what the program prints for document 01's two examples, for
 -- a refused job and at the limit of its input, a start layout with pieces of equal length and a full stack, the used length of a layout
 -- that leaves cloth on its left, previews of a move, the check of a layout with a gap, and a piece of separate parts. Assumes nothing.
-use mathlib.Core.Bool.{Bool, true, _&&_, _||_}
+use mathlib.Core.Bool.{Bool, true, false, _&&_, _||_}
 use mathlib.Core.List.{List, [], _∷_, map}
 use mathlib.Core.Path.{_≡_, refl}
 use Prim.Native.Nat.{ℕ}
@@ -16,7 +16,7 @@ use Rattle.model.specs.Layout.{rightmost, leftmost, usedLength, figures,
 use Rattle.model.specs.Search.{places, sumAt, least, searchLine}
 use Rattle.model.specs.Descent.{turnTrials, pieceTrials, trialsFrom, trials, attempt, descendFrom, descend}
 use Rattle.model.specs.Guided.{raisedOver, raised, rounds, bestAfter, lastWeights, madeIn, movesIn, outcome, guide}
-use Rattle.model.specs.Start.{insert, fallingOrder, stackAll, start}
+use Rattle.model.specs.Start.{insert, fallingOrder, freeOnly, stackAll, start, startOfAll}
 use Rattle.model.specs.Refusal.{Outcome, refused, given, unless}
 use Rattle.model.specs.Lent.{Lent, lentBy, jobOf, pixelStart, lentWell, entryInRange, entryFits, sheetInRange}
 use Rattle.model.specs.Buffer.{turnOfDegrees, turnOf, placement, stripEntry, sameNumbers, sameEntries}
@@ -57,7 +57,11 @@ largestSum = sameNumbers (wordLine (endWord 514080) (514080 ∷ 20000 ∷ 0 ∷ 
 
 -- two full 2 × 2 pieces, o = 1, on a sheet of 2 rows and so many columns, with a gap
 twoSquares : ℕ → ℕ → Job
-twoSquares columns gap = record { size = record { rows = 2; columns = columns; count = 2; gap = gap }; piece = λ i. record { shape = full 2 2; turns = 1 } }
+twoSquares columns gap =
+    record {
+      size = record { rows = 2; columns = columns; count = 2; gap = gap };
+      piece = λ i. record { shape = full 2 2; turns = 1; locked = false };
+    }
 
 -- the weight at the end of the program's run: 1 with L = 4, where the start is clear; raised by each of the 20 rounds with L = 3, and with
 -- L = 4 and a gap of 1, where they lie side by side and share no pixel
@@ -73,7 +77,7 @@ fourBoxes : Job
 fourBoxes =
     record {
       size = record { rows = 4; columns = 6; count = 4; gap = 0 };
-      piece = λ i. record { shape = getD (full 2 2 ∷ full 3 2 ∷ full 2 2 ∷ full 1 4 ∷ []) i (full 1 1); turns = 1 };
+      piece = λ i. record { shape = getD (full 2 2 ∷ full 3 2 ∷ full 2 2 ∷ full 1 4 ∷ []) i (full 1 1); turns = 1; locked = false };
     }
 
 -- the corners of the first four pieces of a layout, x and y of each
@@ -84,7 +88,7 @@ corners v =
 
 -- piece 1 is the longest, 0 fills its stack, 2 of the same length as 0 begins the next, and 3 does not fit on top of 2
 started : Bool
-started = sameNumbers (corners (start fourBoxes)) (0 ∷ 2 ∷ 0 ∷ 0 ∷ 3 ∷ 0 ∷ 5 ∷ 0 ∷ [])
+started = sameNumbers (corners (startOfAll fourBoxes)) (0 ∷ 2 ∷ 0 ∷ 0 ∷ 3 ∷ 0 ∷ 5 ∷ 0 ∷ [])
 
 -- ── the used length ──
 
@@ -93,7 +97,7 @@ threeBars : Job
 threeBars =
     record {
       size = record { rows = 4; columns = 9; count = 3; gap = 0 };
-      piece = λ i. record { shape = getD (full 2 2 ∷ full 4 1 ∷ full 1 3 ∷ []) i (full 1 1); turns = 15 };
+      piece = λ i. record { shape = getD (full 2 2 ∷ full 4 1 ∷ full 1 3 ∷ []) i (full 1 1); turns = 15; locked = false };
     }
 
 -- the box at column 4; the bar of 4 columns stands upright at column 6 and ends at 7; the other lies flat, from column 2 to 5
@@ -112,7 +116,7 @@ lengthsUsed = sameNumbers (usedLength threeBars freeOnTheLeft ∷ usedLength thr
 
 -- three full 2 × 2 pieces, o = 1, lent for a sheet of 2 rows and 9 columns with a gap
 threeSquares : ℕ → Lent
-threeSquares gap = lentBy (record { rows = 2; columns = 9; count = 3; gap = gap }) (replicate 3 (2 ∷ 2 ∷ 1 ∷ [])) (replicate 12 1)
+threeSquares gap = lentBy (record { rows = 2; columns = 9; count = 3; gap = gap }) (replicate 3 (2 ∷ 2 ∷ 1 ∷ 0 ∷ [])) (replicate 12 1)
 
 -- their layout in turn 0 with corners at three columns
 inARow : ℕ → ℕ → ℕ → List (List ℕ)
@@ -168,7 +172,7 @@ partsAndPixel : Job
 partsAndPixel =
     record {
       size = record { rows = 2; columns = 4; count = 2; gap = 1 };
-      piece = λ i. record { shape = getD (parts ∷ full 1 1 ∷ []) i (full 1 1); turns = 1 };
+      piece = λ i. record { shape = getD (parts ∷ full 1 1 ∷ []) i (full 1 1); turns = 1; locked = false };
     }
 
 -- its box is not loose; each part is a row strip and a column strip; a pixel between the parts has penalty 0, one on a part has 1;
@@ -189,13 +193,13 @@ worked = printedText && inputLength && largestSum && weightsLeft && started && l
 
 -- the worked examples hold of the definitions
 pub worked-hold : worked ≡ true
-unfolding worked printedText inputLength largestSum weightsLeft started lengthsUsed threeBars freeOnTheLeft atTheEdge figuresShown showsRefused shown
-    told threeSquares inARow verdict checked separateParts parts beside partsAndPixel sameEntries turnOfDegrees turnOf runsFrom stripsFrom coversPixel
-    mapFrom fresh lay layCauses called afterCalls corners twoSquares fourBoxes full wordLine runText programRun programText sameNumbers nearTo
-    conflict freeAt conflictDepth conflictPenalty pairsWith pairsFrom pairConflicts pairPenalty sumOver weightedSum plainSum pieceSum unitWeights
-    rightmost leftmost usedLength figures firstPair conflictingPair layoutCauses checkCall previewCall lentWell entryInRange entryFits sheetInRange
-    allowedDegrees someTurnWrong someOutside someWeightWrong places sumAt least searchLine turnTrials pieceTrials trialsFrom trials attempt
-    descendFrom descend raisedOver raised rounds bestAfter lastWeights madeIn movesIn outcome guide insert fallingOrder stackAll start allows tight
-    inside unless jobOf pixelStart standsAt digitsFrom numberAt fieldAt fieldsAt decimal fieldsText jobLine pieceLine markAt marksAt rowAt rowsAt
-    pieceAt piecesAt readJob placementsText layoutText
+unfolding worked printedText inputLength largestSum weightsLeft started lengthsUsed threeBars freeOnTheLeft atTheEdge figuresShown showsRefused shown told
+    threeSquares inARow verdict checked separateParts parts beside partsAndPixel sameEntries turnOfDegrees turnOf runsFrom stripsFrom coversPixel mapFrom
+    fresh lay layCauses called afterCalls corners twoSquares fourBoxes full wordLine runText programRun programText sameNumbers nearTo conflict freeAt
+    conflictDepth conflictPenalty pairsWith pairsFrom pairConflicts pairPenalty sumOver weightedSum plainSum pieceSum unitWeights rightmost leftmost
+    usedLength figures firstPair conflictingPair layoutCauses checkCall previewCall lentWell entryInRange entryFits sheetInRange allowedDegrees
+    someTurnWrong someOutside someWeightWrong places sumAt least searchLine turnTrials pieceTrials trialsFrom trials attempt descendFrom descend
+    raisedOver raised rounds bestAfter lastWeights madeIn movesIn outcome guide insert fallingOrder freeOnly stackAll start startOfAll allows tight inside
+    unless jobOf pixelStart standsAt digitsFrom numberAt fieldAt fieldsAt decimal fieldsText jobLine pieceLine markAt marksAt rowAt rowsAt pieceAt
+    piecesAt readJob placementsText layoutText
 worked-hold = refl

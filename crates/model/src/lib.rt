@@ -23,6 +23,9 @@ pub const SIDE_BOUND: usize = 255;
 // The largest sum of turns.
 pub const TURNS_BOUND: usize = 15;
 
+// The largest lock: 1 locked, 0 free.
+pub const LOCK_BOUND: usize = 1;
+
 // The farthest that an offset of a no-fit line goes either way.
 pub const OFFSET_BOUND: u32 = 262;
 
@@ -95,8 +98,8 @@ pub struct JobSize {
     pub gap: usize,
 }
 
-// An entry of a piece table: l columns, w rows and o, the sum of the allowed turns.
-pub type PieceEntry = [u8; 3];
+// An entry of a piece table: l columns, w rows, o, the sum of the allowed turns, and the lock, 1 locked or 0 free.
+pub type PieceEntry = [u8; 4];
 
 // A strip in a store: its line, its first pixel and its count of pixels.
 pub type StripEntry = [u8; 3];

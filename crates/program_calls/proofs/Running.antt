@@ -3,7 +3,7 @@ use Rattle.list_laws.proofs.Kit.{_∙_, _≡_, ap, sym, true, List, [], _∷_, 
 use Rattle.model.specs.Layout.{Job, Layout, pairs, unitWeights, usedLength}
 use Rattle.model.specs.Buffer.{entriesOf, layoutOf}
 use Rattle.model.specs.Guided.{Guided}
-use Rattle.model.specs.Start.{start}
+use Rattle.model.specs.Start.{programStart}
 use Rattle.model.specs.Lent.{Lent, jobOf, lentWell, pieceBound}
 use Rattle.model.specs.Refusal.{Outcome, given}
 use Rattle.model.specs.LayoutText.{layoutText}
@@ -41,7 +41,7 @@ ones n k few e = take-repeat k 2016 1 (pairs-few n k few e) ∙ ap (λ (m : ℕ)
 -- ── the run ──
 
 -- the call gives the program's run
-pub run-given : (l : Lent) (es : List (List ℕ)) (ws : List ℕ) → lentWell l ≡ true → es ≡ entriesOf (start (jobOf l)) → ws ≡ unitWeights (l .size .count)
+pub run-given : (l : Lent) (es : List (List ℕ)) (ws : List ℕ) → lentWell l ≡ true → es ≡ entriesOf (programStart (jobOf l)) → ws ≡ unitWeights (l .size .count)
     → guidedCall l es ws programRounds programBudget ≡ given (programRun (jobOf l))
 unfolding jobOf
 run-given l es ws well e f = rw (e, f) (program-run-given l well)

@@ -2,12 +2,11 @@
 use Rattle.list_laws.proofs.Kit.{_∙_, _≡_, ap, sym, not, true, List, _≤_, ℕ, zero-add, arith, length, length-map, eq-eqb, le-ltb}
 use Rattle.model.specs.Layout.{Layout, usedLength}
 use Rattle.model.specs.Buffer.{placementOf, entriesOf, layoutOf}
-use Rattle.model.specs.Start.{start}
 use Rattle.model.specs.Lent.{Lent, jobOf, lentWell}
 use Rattle.model.specs.Refusal.{given, unless}
 use Rattle.model.specs.LayoutText.{layoutText}
 use Rattle.model.specs.Program.{programRounds, programBudget, programRun}
-use Rattle.model.specs.Calls.{layoutCauses, usedLengthCall, writeLayoutCall, textAfter, startCall}
+use Rattle.model.specs.Calls.{layoutCauses, usedLengthCall, writeLayoutCall, textAfter}
 use Rattle.model.specs.declared.Refusal.{Refusal}
 use Rattle.list_laws.proofs.Stores.{sets-filled}
 use Rattle.job_laws.proofs.Checked.{lent-few}
@@ -24,11 +23,6 @@ use Rattle.causes.proofs.Passed.{layout-laid}
 use Rattle.layout_write_calls.specs.Written.{Written}
 use Rattle.list_laws.proofs.Stores.{sets-filled}
 use Rattle.program_calls.proofs.Short.{layout-short}
-
--- the start layout is given
-pub start-taken : (l : Lent) (room : ℕ) → lentWell l ≡ true → room ≡ l .size .count → startCall l room ≡ given (start (jobOf l))
-unfolding startCall
-start-taken l room well e = unless-given _ (start (jobOf l)) (ap not well, (ap not (eq-eqb room (l .size .count) e), tt))
 
 -- a buffer that holds a valid layout has none of a layout's causes
 layout-passes : (l : Lent) (v : Layout) → lentWell l ≡ true → ValidLayout (jobOf l) v → NoCause (layoutCauses l (entriesOf v))

@@ -1,17 +1,19 @@
 // The program, from the bytes of its input to the bytes of its output. Document 01, 'Start, layout text, sheet': it reads a job, takes the
-// start layout, makes a guided run by weights 1 and prints the best layout and how the run ended, or the refusal.
+// start layout, makes a guided run by weights 1 and prints the best layout and how the run ended, or the refusal. Document 02, point 6: locked
+// pieces lie where the start of all pieces puts them.
 ghost use mathlib.Core.Path.{_≡_};
 ghost use mathlib.Core.Bool.{true};
 ghost use Prim.Native.Nat.{_≤_};
 ghost use lib.ListN.{length};
 ghost use Rattle.model.specs.Lent.{lentBy, jobOf, lentWell, pieceBound, areaBound};
-ghost use Rattle.model.specs.Buffer.{layoutOf};
+ghost use Rattle.model.specs.Buffer.{entriesOf, layoutOf};
 ghost use Rattle.model.specs.Calls.{layoutCauses, textAfter};
 ghost use Rattle.model.specs.Refusal.{given};
 ghost use Rattle.model.specs.Answers.{countAnswer};
 ghost use Rattle.model.specs.JobText.{readJob};
 ghost use Rattle.model.specs.Program.{runText, programRun, printed, programText, programCall};
 ghost use Rattle.text_laws.specs.Outcomes.{NoCause};
+ghost use Rattle.model.specs.Start.{programStart};
 ghost use Rattle.call_laws.specs.Workspaces.{LeftFree};
 ghost use Rattle.layout_write_calls.specs.Written.{Written};
 ghost use Rattle.program_text.specs.Output.{outputBound};
@@ -45,6 +47,15 @@ const PROGRAM_ROUNDS: u32 = 20;
 // The budget of each.
 const PROGRAM_BUDGET: u32 = 1000;
 
+// The start layout of a job: locked pieces lie where the start of all pieces puts them.
+fn start_job(size: JobSize, table: &[PieceEntry], pixels: &[u8], layout: &mut [PlaceEntry])
+    requires { ⌜ (lentWell (lentBy size (now table) (now pixels)) ≡ true) × (length (now layout) ≡ size .count) ⌝ }
+    ensures { λ r. ⌜ now (layout .exit) ≡ entriesOf (programStart (jobOf (lentBy size (now (table .entry)) (now (pixels .entry))))) ⌝ }
+{
+    layout_start_calls::start_of_all(size, table, layout);
+    layout_start_calls::start(size, table, pixels, layout);
+}
+
 // The run of a job: from the start layout, by weights 1, 20 rounds of budget 1,000. The best layout is left in the layout buffer.
 fn run_job(
     size: JobSize,
@@ -56,7 +67,7 @@ fn run_job(
     requires { ⌜ (lentWell (lentBy size (now table) (now pixels)) ≡ true) × (length (now layout) ≡ size .count) ⌝ }
     ensures { λ r. ⌜ Gives r (now (layout .exit)) (programRun (jobOf (lentBy size (now (table .entry)) (now (pixels .entry))))) ⌝ }
 {
-    layout_start_calls::start(size, table, pixels, layout);
+    start_job(size, table, pixels, layout);
     let mut weights = [1u32; PAIR_BOUND];
     let pairs = pair_count(size.count);
     match guided_run(
@@ -139,7 +150,7 @@ fn read_and_print(input: &[u8], text: &mut [u8], workspace: &mut [u64]) -> usize
     requires { ⌜ outputBound ≤ length (now text) ⌝ }
     ensures { λ r. ⌜ Written (now (text .entry)) 0 (printed (readJob (now (input .entry)) pieceBound areaBound)) outputBound r (now (text .exit)) ⌝ }
 {
-    let mut table = [[0u8; 3]; PIECE_BOUND];
+    let mut table = [[0u8; 4]; PIECE_BOUND];
     let mut pixels = [0u8; AREA_BOUND];
     match job_calls::read_job(input, &mut table, &mut pixels) {
         JobAnswer::Refused(refusal) => put_refusal_line(text, refusal),

@@ -116,19 +116,18 @@ pub record Rounded (l : Lent) (r : RunSize) (strips : List (List ℕ)) (starts :
 
 -- before the first round the given layout is the best
 pub rounding-begin : {l : Lent} {r : RunSize} {strips : List (List ℕ)} {starts : List ℕ} (count budget : ℕ) {layout best : List (List ℕ)}
-    {weights penalties lines maps : List ℕ} {sum : ℕ} → 0 < jobOf l .size .count → LaidOut l layout penalties → LinesReady l r strips starts lines maps
+    {weights penalties lines maps : List ℕ} {sum : ℕ} → LaidOut l layout penalties → LinesReady l r strips starts lines maps
     → ValidWeights (jobOf l) weights → best ≡ layout → sum ≡ plainSum (jobOf l) (layoutOf layout)
     → Rounding l r strips starts weights count budget (layoutOf layout) layout best weights penalties lines maps sum 0 0 count
-rounding-begin {l} count budget {layout} {best} {weights} some-piece h ready w e f =
+rounding-begin {l} count budget {layout} {best} {weights} h ready w e f =
     record {
       laid = h;
       ready = ready;
-      underway = rw (e, f) (guided-begin (jobOf l) weights count budget (layoutOf layout) some-piece (h .valid) w);
+      underway = rw (e, f) (guided-begin (jobOf l) weights count budget (layoutOf layout) (h .valid) w);
       written = rw e (h .written);
     }
 
-module _ {l : Lent} {run : RunSize} {strips : List (List ℕ)} {starts ws₀ : List ℕ} {count budget : ℕ} {v₀ : Layout}
-    (some-piece : 0 < jobOf l .size .count) where
+module _ {l : Lent} {run : RunSize} {strips : List (List ℕ)} {starts ws₀ : List ℕ} {count budget : ℕ} {v₀ : Layout} where
   module _ {layout best : List (List ℕ)} {weights penalties lines maps : List ℕ} {sum made moves left : ℕ}
       (h : Rounding l run strips starts ws₀ count budget v₀ layout best weights penalties lines maps sum made moves left)
     where
@@ -142,7 +141,7 @@ module _ {l : Lent} {run : RunSize} {strips : List (List ℕ)} {starts ws₀ : L
 
       -- no round left: what the run gives
       pub rounding-done : left ≡ 0 → guide (jobOf l) count budget ws₀ v₀ ≡ guidedOf (layoutOf best) sum weights made moves
-      rounding-done e = guided-done (jobOf l) ws₀ count budget v₀ some-piece left _ sum (h .underway) e
+      rounding-done e = guided-done (jobOf l) ws₀ count budget v₀ left _ sum (h .underway) e
 
       module _ {e : Ended} {layout′ best′ : List (List ℕ)} {penalties′ lines′ maps′ : List ℕ} {plain sum′ : ℕ}
           (more : 0 < left)
@@ -165,7 +164,7 @@ module _ {l : Lent} {run : RunSize} {strips : List (List ℕ)} {starts ws₀ : L
           -- demand 3's claims hold of its descent
           round-said : DescentClaims (jobOf l) weights budget (layoutOf layout) (descentOf e (layoutOf layout′))
           round-said =
-              round-claims (jobOf l) ws₀ count budget v₀ some-piece left _ sum (h .underway) (descentOf e (layoutOf layout′)) (layoutOf best′) sum′ more
+              round-claims (jobOf l) ws₀ count budget v₀ left _ sum (h .underway) (descentOf e (layoutOf layout′)) (layoutOf best′) sum′ more
               (r .result)
               round-best round-sum
 
@@ -186,7 +185,7 @@ module _ {l : Lent} {run : RunSize} {strips : List (List ℕ)} {starts ws₀ : L
                 underway =
                     record {
                       result =
-                          guided-clear (jobOf l) ws₀ count budget v₀ some-piece left _ sum (h .underway) (descentOf e (layoutOf layout′)) (layoutOf best′) sum′
+                          guided-clear (jobOf l) ws₀ count budget v₀ left _ sum (h .underway) (descentOf e (layoutOf layout′)) (layoutOf best′) sum′
                           more (r .result) round-best round-sum c
                           ∙ ap (λ x. guidedOf (layoutOf best′) x weights (made + e .made) (moves + e .moves)) round-sum ∙ sym (guide-done (jobOf l) budget s);
                       bestSumIs = round-sum;
@@ -208,7 +207,7 @@ module _ {l : Lent} {run : RunSize} {strips : List (List ℕ)} {starts ws₀ : L
                 laid = r .laid;
                 ready = r .ready;
                 underway =
-                    guided-open (jobOf l) ws₀ count budget v₀ some-piece left _ sum (h .underway) (descentOf e (layoutOf layout′)) (layoutOf best′) sum′ more
+                    guided-open (jobOf l) ws₀ count budget v₀ left _ sum (h .underway) (descentOf e (layoutOf layout′)) (layoutOf best′) sum′ more
                     (r .result) round-best round-sum c;
                 written = round-written;
               }

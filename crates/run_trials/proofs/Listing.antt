@@ -1,7 +1,7 @@
 -- Trials as numbers: a trial's number stands for it, and the list of trials grows by a turn, a piece and the pieces that are left. Assumes nothing.
 use Rattle.list_laws.proofs.Kit.{_∙_, _≡_, ap, refl, sym, false, true, _≢_, List, [], _++_, _∷_, append-assoc, append-nil, map-append, _%_, _*_, _+_, _-_, _/_}
 use Rattle.list_laws.proofs.Kit.{_<_, _≤_, suc, zero, ℕ, add-one, arith, getD, length, length-set, set, take, take-suc-set, le-ltb, lt-ltb}
-use Rattle.model.specs.Layout.{Job, allowed}
+use Rattle.model.specs.Layout.{Job, allowed, isLocked}
 use Rattle.model.specs.Descent.{Trial, turnTrials, pieceTrials, trialsFrom, trials, trialAfter, noTrial}
 use Rattle.model.specs.declared.Turn.{Turn}
 use Rattle.model.specs.declared.Turn.the-variants.{ThreeQuarters}
@@ -71,12 +71,17 @@ module _ (j : Job) (i : ℕ) (t : Turn) (store : List ℕ) (at : ℕ) where
   unfolding turnTrials
   turn-passed not-may = rw (not-may, turnTrials, append-nil)
 
--- a piece, turn by turn
-pub piece-added : (j : Job) (i : ℕ) (start first second third last : List Trial)
+-- a locked piece: none
+pub piece-passed : (j : Job) (i : ℕ) (listed : List Trial) → isLocked j i ≡ true → listed ≡ listed ++ pieceTrials j i
+unfolding pieceTrials
+piece-passed j i listed locked = rw (locked, pieceTrials, append-nil)
+
+-- a free piece, turn by turn
+pub piece-added : (j : Job) (i : ℕ) (start first second third last : List Trial) → isLocked j i ≡ false
     → first ≡ start ++ turnTrials j i (turnAt 0) → second ≡ first ++ turnTrials j i (turnAt 1)
     → third ≡ second ++ turnTrials j i (turnAt 2) → last ≡ third ++ turnTrials j i (turnAt 3) → last ≡ start ++ pieceTrials j i
 unfolding pieceTrials turnAt
-piece-added j i start first second third last a b c d = rw (d, c, b, a) (simp append-assoc)
+piece-added j i start first second third last free a b c d = rw (d, c, b, a, free, pieceTrials) (simp append-assoc)
 
 -- ── the pieces that are left ──
 

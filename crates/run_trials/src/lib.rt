@@ -1,4 +1,4 @@
-// Trials in document 01's order, 'Descent and guidance': by piece, allowed turn, horizontal before vertical. The list of them is made once a
+// Trials in document 01's order, 'Descent and guidance': by free piece, allowed turn, horizontal before vertical. The list of them is made once a
 // run, a number for each, and a descent is lent it: what makes the list decides which trials there are, and nothing else does.
 use layout_places::allowed;
 use model::Direction;
@@ -7,6 +7,7 @@ use model::Line;
 use model::PieceEntry;
 use model::PlaceEntry;
 use model::Turn;
+use piece_table::is_locked;
 ghost use mathlib.Core.Path.{_≡_};
 ghost use mathlib.Core.List.{List, _++_};
 ghost use Prim.Native.Nat.{ℕ, _+_, _<_, _≤_};
@@ -103,12 +104,15 @@ fn add_turn(table: &[PieceEntry], i: usize, turn: usize, store: &mut [u16], at: 
     at
 }
 
-// Writes the trials of a piece, by turn, behind the first `at` of the list; gives how many the list has then.
+// Writes the trials of a piece, by turn, behind the first `at` of the list; gives how many the list has then. A locked piece has none.
 fn add_piece(table: &[PieceEntry], i: usize, store: &mut [u16], at: usize) -> usize
     requires { ⌜ (i < length (now table)) × (i < pieceBound) ⌝ ∗ ⌜ at + 8 ≤ length (now store) ⌝ }
     ensures listed { λ r. ⌜ ((size : JobSize) (pixels : List ℕ) → trialsOf (take r (now (store .exit))) ≡ trialsOf (take at (now (store .entry))) ++ pieceTrials (jobOf (lentBy size (now (table .entry)) pixels)) i) ⌝ }
     ensures few { λ r. ⌜ r ≤ at + 8 ⌝ }
 {
+    if is_locked(table, i) {
+        return at;
+    }
     let zero = add_turn(table, i, 0, store, at);
     let quarter = add_turn(table, i, 1, store, zero);
     let half = add_turn(table, i, 2, store, quarter);

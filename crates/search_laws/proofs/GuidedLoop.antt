@@ -197,7 +197,7 @@ best-valid-at j best v false h g = h
 best-valid : (j : Job) (best v : Layout) → ValidLayout j best → ValidLayout j v → ValidLayout j (bestOf j best v)
 best-valid j best v h g = best-valid-at j best v (ltb (plainSum j v) (plainSum j best)) h g
 
-module _ (j : Job) (ws : List ℕ) (count budget : ℕ) (v : Layout) (some-piece : 0 < j .size .count) where
+module _ (j : Job) (ws : List ℕ) (count budget : ℕ) (v : Layout) where
   -- it holds before the first round
   pub guided-begin : ValidLayout j v → ValidWeights j ws → GuidedUnderway j ws count budget v count (guiding v ws v 0 0) (plainSum j v)
   guided-begin h w =
@@ -224,7 +224,7 @@ module _ (j : Job) (ws : List ℕ) (count budget : ℕ) (v : Layout) (some-piece
       where
         -- demand 3's claims hold of the round
         pub round-claims : DescentClaims j (s .weights) budget (s .layout) d
-        round-claims = rw isRound at (descent-claims j (s .weights) budget (s .layout) some-piece (u .validWeights) (u .validLayout))
+        round-claims = rw isRound at (descent-claims j (s .weights) budget (s .layout) (u .validWeights) (u .validLayout))
 
         -- a clear round: what the run gives
         pub guided-clear : d .end ≡ Clear → guide j count budget ws v ≡ guidedOf best sum (s .weights) (s .made + d .made) (s .moves + d .moves)

@@ -21,7 +21,11 @@ use Rattle.search_lines.specs.Making.{LineMade, KeyPut, UnitsFit}
 
 -- the job whose pieces are this one's, grown by its gap
 abbrev grownJob : Job → Job
-grownJob j = record { size = j .size; piece = λ i. record { shape = grown (j .size .gap) (j .piece i .shape); turns = j .piece i .turns } }
+grownJob j =
+    record {
+      size = j .size;
+      piece = λ i. record { shape = grown (j .size .gap) (j .piece i .shape); turns = j .piece i .turns; locked = j .piece i .locked };
+    }
 
 -- pieces and turns of one number have one shape
 pub same-shape : (j : Job) (i k : ℕ) (t u : Turn) → shapeNumber i t ≡ shapeNumber k u → grownPiece j i t ≡ grownPiece j k u

@@ -13,7 +13,7 @@ use Rattle.model.specs.declared.Record.{Record}
 use Rattle.list_laws.proofs.Tests.{clash}
 use Rattle.text_laws.proofs.Outcomes.{unless-given}
 use Rattle.text_laws.specs.Outcomes.{NoCause}
-use Rattle.cover_laws.proofs.Calls.{LayTaken, WithdrawTaken, lay-given, withdraw-given, length-mapFrom, getD-mapFrom}
+use Rattle.cover_laws.proofs.Calls.{LayTaken, Lies, WithdrawTaken, lay-given, withdraw-given, length-mapFrom, getD-mapFrom}
 use Rattle.cover_laws.proofs.Counts.{LaidWell}
 use Rattle.cover_laws.proofs.Reached.{well-sound}
 use Rattle.sheet_counts.specs.Stamp.{moved, movedBy}
@@ -76,7 +76,7 @@ lay-plain j s i p = (refl, omega arith, (refl, omega arith, (refl, omega arith, 
 
 pub withdraw-plain : (j : Job) (s : Sheet) (i : ℕ) → Plain (withdrawCauses j s i)
 unfolding withdrawCauses
-withdraw-plain j s i = (refl, omega arith, (refl, omega arith, tt))
+withdraw-plain j s i = (refl, omega arith, (refl, omega arith, (refl, omega arith, tt)))
 
 -- a lay and a withdraw without a cause are in order
 pub lay-order : (j : Job) (s : Sheet) (i : ℕ) (p : Placement) → firstNumber (layCauses j s i p) ≡ 0 → LayTaken j s i p
@@ -133,9 +133,9 @@ moved-withdraws j i s e same =
     ap (λ (f : ℕ → ℕ → ℕ). mapFrom f 0 (s .counts)) (fun-ext (λ k. fun-ext (λ c. moved-down (coversPixel j i (e .place) k) c)))
     ∙ ap (λ (x : Entry). mapFrom (λ k c. c - oneIf (coversPixel j i (x .place) k)) 0 (s .counts)) same
 
--- a piece that may be withdrawn lies inside
-pub withdrawn-inside : (j : Job) (s : Sheet) (i : ℕ) (e : Entry) → e ≡ entryIn (s .pieces) i → sheetWell j s ≡ true → WithdrawTaken j s i
+-- a piece that lies on a sheet lies inside
+pub withdrawn-inside : (j : Job) (s : Sheet) (i : ℕ) (e : Entry) → e ≡ entryIn (s .pieces) i → sheetWell j s ≡ true → Lies j s i
     → inside j i (e .place) ≡ true
-withdrawn-inside j s i e same well order =
-    ⊎-elim (λ q. absurd (clash (order .laid) (ap (λ (x : Entry). x .laid) q))) (λ (w : LaidWell j i (entryIn (s .pieces) i)). rw same (w .within))
+withdrawn-inside j s i e same well here =
+    ⊎-elim (λ q. absurd (clash (here .laid) (ap (λ (x : Entry). x .laid) q))) (λ (w : LaidWell j i (entryIn (s .pieces) i)). rw same (w .within))
     (well-sound j s well .entry i)

@@ -64,7 +64,7 @@ pub fn lay(
 }
 
 // A piece withdrawn: its entry is blank, and each pixel that it covered counts one less. Refused: 8 the job, 7, 8 a record or counts that
-// no list of calls gives, 9 no such piece, 14 not laid.
+// no list of calls gives, 9 no such piece, 14 not laid, 15 locked.
 pub fn withdraw(
     size: JobSize,
     table: &[PieceEntry],
@@ -80,7 +80,7 @@ pub fn withdraw(
     if common != 0 {
         return record::answer(common, sheet);
     }
-    let withdrawing = sheet_refusals::withdraw_refusal(size, sheet, piece);
+    let withdrawing = sheet_refusals::withdraw_refusal(size, table, sheet, piece);
     if withdrawing != 0 {
         return record::answer(withdrawing, sheet);
     }

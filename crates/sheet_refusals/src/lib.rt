@@ -4,6 +4,7 @@ use model::JobSize;
 use model::PieceEntry;
 use model::Placement;
 use model::Record;
+use piece_table::is_locked;
 use sheet_check::entry_of;
 use sheet_check::sheet_well;
 ghost use mathlib.Core.Path.{_≡_};
@@ -73,17 +74,21 @@ pub fn lay_refusal(
     0
 }
 
-// Of withdraw: then 9 no such piece, 14 not laid.
-pub fn withdraw_refusal(size: JobSize, sheet: Record, piece: usize) -> u8
-    requires { ⌜ size .count ≤ pieceBound ⌝ }
-    ensures { λ r. ⌜ ((table : List (List ℕ)) (pixels counts : List ℕ) → r ≡ firstNumber (withdrawCauses (jobOf (lentBy size table pixels)) (sheetOf sheet counts) piece)) ⌝ }
+// Of withdraw: then 9 no such piece, 14 not laid, 15 locked.
+pub fn withdraw_refusal(size: JobSize, table: &[PieceEntry], sheet: Record, piece: usize) -> u8
+    requires { ⌜ (size .count ≤ length (now table)) × (size .count ≤ pieceBound) ⌝ }
+    ensures { λ r. ⌜ ((pixels counts : List ℕ) → r ≡ firstNumber (withdrawCauses (jobOf (lentBy size (now (table .entry)) pixels)) (sheetOf sheet counts) piece)) ⌝ }
 {
     if size.count <= piece {
         return 9;
     }
     let entry = entry_of(sheet, piece);
+    let locked = is_locked(table, piece);
     if !entry.laid {
         return 14;
+    }
+    if locked {
+        return 15;
     }
     0
 }

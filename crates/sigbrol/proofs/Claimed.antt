@@ -1,11 +1,12 @@
--- What is said of a used length, of a preview, of no-fit offsets, of a cut list and of a run, over the numbers that C is given: they are those of the
--- call, and a reply of number 0 tells that it was not refused, since every cause of a refusal has a number other than 0. Assumes nothing.
+-- What is said of a used length, of a preview, of a start, of no-fit offsets, of a cut list and of a run, over the numbers that C is given: they are
+-- those of the call, and a reply of number 0 tells that it was not refused, since every cause of a refusal has a number other than 0.
+-- Assumes nothing.
 use Rattle.list_laws.proofs.Kit.{_∙_, _≡_, ap, subst, sym, Option, none, some, List, _<_, ℕ, arith, ℤ}
 use Rattle.model.specs.Layout.{Job, Layout, Pair, conflictingPair}
 use Rattle.model.specs.Lent.{Lent, jobOf}
 use Rattle.model.specs.Refusal.{refused}
 use Rattle.model.specs.Calls.{layoutCauses, conflictCause, usedLengthCall, previewCall, LentStretch, noFitCall, cutLinesCall, cutStepCall, lineStepCall}
-use Rattle.model.specs.Calls.{descentCall, guidedCall}
+use Rattle.model.specs.Calls.{descentCall, guidedCall, startCall}
 use Rattle.model.specs.declared.Direction.{Direction}
 use Rattle.model.specs.declared.End.{End}
 use Rattle.model.specs.declared.Placement.{Placement}
@@ -36,6 +37,11 @@ pub preview-numbered : (l : Lent) (es : List (List ℕ)) (ws : List ℕ) (i : �
 unfolding previewCall
 preview-numbered l es ws i p r e =
     refused-numbered _ _ r (omega arith, (omega arith, (omega arith, (omega arith, (omega arith, (omega arith, (omega arith, tt))))))) e
+
+-- a refused start has one
+pub start-numbered : (l : Lent) (es : List (List ℕ)) (r : Refusal) → startCall l es ≡ refused r → 0 < r .number
+unfolding startCall
+start-numbered l es r e = refused-numbered _ _ r (omega arith, (omega arith, (omega arith, (omega arith, tt)))) e
 
 -- a refused no-fit row or column has one
 pub no-fit-numbered : (d : Direction) (l : Lent) (p q : LentStretch) (o : ℤ) (room : ℕ) (r : Refusal) → noFitCall d l p q o room ≡ refused r

@@ -1,14 +1,19 @@
-// Reading a job.
+// Reading a job, and setting a lock in it.
 use c_interface::Reply;
 use c_interface::done;
 use c_interface::refused;
+use c_interface::size_of;
 use c_results::put_size;
 use job_calls::JobAnswer;
+use model::DoneAnswer;
 use model::PieceEntry;
+ghost use mathlib.Core.List.{[], _∷_};
 ghost use mathlib.Core.Path.{_≡_};
 ghost use lib.ListN.{length};
 ghost use Rattle.model.specs.JobText.{readJob};
-ghost use Rattle.model.specs.Calls.{leaving, tableAfter, storeAfter};
+ghost use Rattle.model.specs.Calls.{leaving, tableAfter, storeAfter, setLockCall, lockedAfter};
+ghost use Rattle.call_laws.specs.Locks.{lockCall, LocksClaims};
+ghost use Rattle.c_interface.specs.Numbers.{lentAs};
 ghost use Rattle.c_interface.specs.Replies.{replyTo};
 
 // Reads a job text: the numbers, the table and the pixels are filled.
@@ -36,5 +41,33 @@ pub extern "C" fn sigbrol_read_job(
             done()
         }
         JobAnswer::Refused(refusal) => refused(refusal),
+    }
+}
+
+// Sets the lock of a piece, asked for from a station: 0 the planner's, which may not, 1 the cutter's.
+#[no_mangle]
+pub extern "C" fn sigbrol_set_lock(
+    rows: usize,
+    columns: usize,
+    count: usize,
+    gap: usize,
+    table: &mut [PieceEntry],
+    pixels: &[u8],
+    piece: usize,
+    station: usize,
+) -> Reply
+    ensures answer { λ r. ⌜ r ≡ replyTo (setLockCall (lentAs rows columns count gap (now (table .entry)) (now (pixels .entry))) piece station) ⌝ }
+    ensures entries { λ r. ⌜ now (table .exit) ≡ lockedAfter (now (table .entry)) (setLockCall (lentAs rows columns count gap (now (table .entry)) (now (pixels .entry))) piece station) ⌝ }
+    ensures locks { λ r. ⌜ LocksClaims (lentAs rows columns count gap (now (table .entry)) (now (pixels .entry))) (lockCall piece station ∷ []) (lentAs rows columns count gap (now (table .exit)) (now (pixels .entry))) ⌝ }
+{
+    match job_lock_calls::set_lock(
+        size_of(rows, columns, count, gap),
+        table,
+        pixels,
+        piece,
+        station,
+    ) {
+        DoneAnswer::Done => done(),
+        DoneAnswer::Refused(refusal) => refused(refusal),
     }
 }

@@ -12,10 +12,10 @@ use model::NumberAnswer;
 use model::PieceEntry;
 use model::PlaceEntry;
 ghost use mathlib.Core.Path.{_≡_};
-ghost use lib.ListN.{length};
 ghost use Rattle.model.specs.Lent.{jobOf};
 ghost use Rattle.model.specs.Buffer.{placement, layoutOf};
 ghost use Rattle.model.specs.Calls.{leaving, layoutAfter, weightedSumCall, plainSumCall, usedLengthCall, previewCall, checkCall, startCall};
+ghost use Rattle.descent_laws.specs.Start.{StartClaims};
 ghost use Rattle.call_laws.specs.Lengths.{UsedClaims};
 ghost use Rattle.call_laws.specs.Previews.{PreviewClaims};
 ghost use Rattle.c_interface.specs.Numbers.{lentAs, pieceWithTurn};
@@ -166,7 +166,7 @@ pub extern "C" fn sigbrol_check(
     }
 }
 
-// The start layout.
+// The start layout, with the locked placements of the layout buffer.
 #[no_mangle]
 pub extern "C" fn sigbrol_start(
     rows: usize,
@@ -177,8 +177,9 @@ pub extern "C" fn sigbrol_start(
     pixels: &[u8],
     layout: &mut [PlaceEntry],
 ) -> Reply
-    ensures answer { λ r. ⌜ r ≡ replyTo (startCall (lentAs rows columns count gap (now (table .entry)) (now (pixels .entry))) (length (now (layout .entry)))) ⌝ }
-    ensures memory { λ r. ⌜ now (layout .exit) ≡ layoutAfter (now (layout .entry)) (startCall (lentAs rows columns count gap (now (table .entry)) (now (pixels .entry))) (length (now (layout .entry)))) ⌝ }
+    ensures answer { λ r. ⌜ r ≡ replyTo (startCall (lentAs rows columns count gap (now (table .entry)) (now (pixels .entry))) (now (layout .entry))) ⌝ }
+    ensures memory { λ r. ⌜ now (layout .exit) ≡ layoutAfter (now (layout .entry)) (startCall (lentAs rows columns count gap (now (table .entry)) (now (pixels .entry))) (now (layout .entry))) ⌝ }
+    ensures layout { λ r. ⌜ (r .number ≡ 0 → StartClaims (jobOf (lentAs rows columns count gap (now (table .entry)) (now (pixels .entry)))) (layoutOf (now (layout .entry))) (layoutOf (now (layout .exit)))) ⌝ }
 {
     match layout_start_calls::start(size_of(rows, columns, count, gap), table, pixels, layout) {
         DoneAnswer::Done => done(),

@@ -5,7 +5,7 @@ use Rattle.list_laws.proofs.Kit.{arith, eqb, ltb, length, le-ltb, lt-ltb, ne-eq
 use Rattle.model.specs.Refusal.{refused, given, wrongForm, outOfRange, sheetTooLarge, boxesTooLarge, looseBox, boxTooLarge, wrongLength}
 use Rattle.model.specs.Lent.{Lent, areaBound}
 use Rattle.model.specs.Text.{formed, andThen}
-use Rattle.model.specs.JobText.{JobLine, asJobLine, jobLineCauses, jobLine, PieceLine, asPieceLine, pieceLineCauses, pieceLine, rowsAt, rowsCauses, asPieceText}
+use Rattle.model.specs.JobText.{JobLine, jobLineCauses, jobLine, PieceLine, asPieceLine, pieceLineCauses, pieceLine, rowsAt, rowsCauses, asPieceText}
 use Rattle.model.specs.JobText.{pieceAt, noPieces, piecesAt, asLent, bufferCauses, readJob}
 use Rattle.model.specs.declared.Refusal.{Refusal}
 use Rattle.list_laws.proofs.Tests.{or-left, or-right}
@@ -84,10 +84,7 @@ module _ (text : List ℕ) (tl pl : ℕ) (r : Refusal) where
   -- numbers of the job line with a cause
   sheet-stops : (line : ℕ) (a : SheetNumbers text line) → Refuses (jobLineCauses (a .said)) r → readJob text tl pl ≡ refused r
   unfolding jobLine
-  sheet-stops line a c =
-      let j : JobLine = asJobLine (a .numbers) (a .next) in
-      job-line-stops
-      (rw (a .reads, formed) (unless-refused (jobLineCauses j) j r (subst (λ (k : JobLine). Refuses (jobLineCauses k) r) (a .says) c)))
+  sheet-stops line a c = job-line-stops (rw (a .reads, formed) (unless-refused (jobLineCauses (a .said)) (a .said) r c))
 
   -- numbers of a piece line with a cause
   numbers-stop : (line : ℕ) (a : PieceNumbers text line)

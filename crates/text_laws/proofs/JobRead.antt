@@ -1,22 +1,21 @@
 -- Document 01, 'When a call says no': what reading a job gives passes the check of a lent job, so that no call refuses it with 8.
 -- A given outcome met no cause on any line; line by line that is what the check asks for. The pieces are read from the first
 -- on, and a piece in front moves the later ones by its area in the store. Assumes nothing.
-use Rattle.list_laws.proofs.Kit.{_∙_, _≡_, ap, fun-ext, refl, sym, Bool, _&&_, false, true, List, [], _++_, _∷_, _%_, _*_, _+_, _<_, _≤_, suc, zero, ℕ}
+use Rattle.list_laws.proofs.Kit.{_∙_, _≡_, ap, fun-ext, refl, sym, Bool, _&&_, false, true, List, [], _++_, _∷_, _*_, _+_, _<_, _≤_, suc, zero, ℕ}
 use Rattle.list_laws.proofs.Kit.{mul-comm, suc-mul, zero-add, zero-mul, arith, eqb, leb, ltb, List·getD-append, getD, length, length-append, getD-append-add}
 use Rattle.list_laws.proofs.Kit.{le-leb, ltb-false, not-false}
 use Rattle.model.specs.Piece.{Shape, tight, sideBound}
 use Rattle.model.specs.Refusal.{Outcome, given}
-use Rattle.model.specs.Lent.{Lent, turnsBound, areaBound, upTo, numbersInRange, entryColumns, entryRows, pixelStart, entryInRange, entryFits, lentShape}
-use Rattle.model.specs.Lent.{sheetInRange, lentWell}
-use Rattle.model.specs.Text.{byte, Reading, wrong, got, onward, after, lineEnd, fourFields, lineAt}
-use Rattle.model.specs.JobText.{jobNumbers, pieceWord, rowWord, JobLine, asJobLine, jobLineCauses, jobLine, PieceLine, asPieceLine, pieceInRange}
+use Rattle.model.specs.Lent.{Lent, lockBound, areaBound, numbersInRange, sidesInRange, entryColumns, entryRows, pixelStart, entryInRange, entryFits}
+use Rattle.model.specs.Lent.{lentShape, sheetInRange, lentWell}
+use Rattle.model.specs.Text.{byte, Reading, wrong, got, onward, after, lineEnd, lineAt}
+use Rattle.model.specs.JobText.{jobVersions, pieceWord, pieceEnds, rowWord, JobLine, jobLineCauses, jobLine, PieceLine, asPieceLine, pieceInRange}
 use Rattle.model.specs.JobText.{pieceLineCauses}
 use Rattle.model.specs.JobText.{pieceLine, pixelMark, emptyMark, markAt, marksAt, rowAt, Rows, rowsAt, boxShape, PieceText, rowsCauses, asPieceText, pieceAt}
 use Rattle.model.specs.JobText.{Pieces, noPieces, withPiece, piecesAt, asLent, bufferCauses, readJob}
 use Rattle.list_laws.proofs.Numbers.{in-rows}
 use Rattle.list_laws.proofs.Tests.{and-left, and-right, and-both, or-neither}
 use Rattle.job_laws.proofs.Ranges.{at-least, side-facts}
-use Rattle.text_laws.specs.Limits.{sidesInRange}
 use Rattle.text_laws.specs.Outcomes.{Unless}
 use Rattle.text_laws.proofs.Outcomes.{given-unless, given-before, given-formed, wrong-got, Onward, got-onward, got-after}
 use Rattle.job_laws.proofs.Checked.{well}
@@ -105,35 +104,30 @@ rows-read text l (suc left) p line r e =
 -- ── a piece ──
 
 -- what is known of a piece line that is given, with the areas of the boxes before it
-pub record LineWell (j : JobLine) (area l w o : ℕ) : Type 0 where
+pub record LineWell (j : JobLine) (area l w o lock : ℕ) : Type 0 where
   pub ranges : sidesInRange l w o ≡ true
+  pub lockSmall : leb lock lockBound ≡ true
   pub long : l ≤ j .size .columns
   pub high : w ≤ j .size .rows
   pub areas : area + l * w ≤ areaBound
 
 -- a piece line that is given
 pub piece-line-read : (text : List ℕ) (j : JobLine) (i area p line : ℕ) (h : PieceLine) → pieceLine text j i area p line ≡ given h
-    → LineWell j area (h .columns) (h .rows) (h .turns)
+    → LineWell j area (h .columns) (h .rows) (h .turns) (h .lock)
 unfolding pieceLine
 piece-line-read text j i area p line h e =
-    let f = given-formed line (lineAt pieceWord fourFields text p) _ h e in
+    let f = given-formed line (lineAt pieceWord (pieceEnds (j .locks)) text p) _ h e in
     let k : PieceLine = asPieceLine (f .value) (f .next) in
     let u : Unless (pieceLineCauses line j i area k) k h = given-unless (pieceLineCauses line j i area k) k h (f .goes) in
     let ranges : pieceInRange i k ≡ true = not-false (pieceInRange i k) (u .none .0) in
     let fit = or-neither (ltb (j .size .columns) (k .columns)) (ltb (j .size .rows) (k .rows)) (u .none .1 .0) in
     let a : Bool = eqb (k .number) i in
-    let b : Bool = upTo sideBound (k .columns) in
-    let c : Bool = upTo sideBound (k .rows) in
-    let d : Bool = eqb (k .turns % 2) 1 in
-    let t : Bool = leb (k .turns) turnsBound in
-    let abcd : (a && b && c && d) ≡ true = and-left (a && b && c && d) t ranges in
-    let abc : (a && b && c) ≡ true = and-left (a && b && c) d abcd in
-    let ab : (a && b) ≡ true = and-left (a && b) c abc in
+    let b : Bool = sidesInRange (k .columns) (k .rows) (k .turns) in
+    let c : Bool = leb (k .lock) lockBound in
     rw (← u .same)
     (record {
-      ranges =
-          and-both (and-both (and-both (and-right a b ab) (and-right (a && b) c abc)) (and-right (a && b && c) d abcd))
-          (and-right (a && b && c && d) t ranges);
+      ranges = and-right a b (and-left (a && b) c ranges);
+      lockSmall = and-right (a && b) c ranges;
       long = ltb-false (j .size .columns) (k .columns) (fit .0);
       high = ltb-false (j .size .rows) (k .rows) (fit .1);
       areas = ltb-false areaBound (area + k .columns * k .rows) (u .none .1 .1 .0);
@@ -141,7 +135,7 @@ piece-line-read text j i area p line h e =
 
 -- what is known of a piece that is given
 pub record PieceWell (j : JobLine) (area : ℕ) (h : PieceText) : Type 0 where
-  pub line : LineWell j area (h .columns) (h .rows) (h .turns)
+  pub line : LineWell j area (h .columns) (h .rows) (h .turns) (h .lock)
   pub store : Bits (h .rows * h .columns) (h .pixels)
   pub tightBox : tight (boxShape (h .columns) (h .rows) (h .pixels)) ≡ true
 
@@ -208,7 +202,7 @@ module _ (j : JobLine) (left area : ℕ) (h : PieceText) (r : Pieces) (first : P
   later-shape : (i : ℕ) → storedShape (withPiece h r) (suc i) ≡ storedShape r i
   later-shape i =
       let l : ℕ = entryColumns (r .table) i in
-      let e : List ℕ = h .columns ∷ h .rows ∷ h .turns ∷ [] in
+      let e : List ℕ = h .columns ∷ h .rows ∷ h .turns ∷ h .lock ∷ [] in
       ap (λ (f : ℕ → ℕ → Bool). record { columns = l; rows = entryRows (r .table) i; has = f })
       (fun-ext λ x.
       fun-ext λ y.
@@ -220,7 +214,7 @@ module _ (j : JobLine) (left area : ℕ) (h : PieceText) (r : Pieces) (first : P
   -- every entry is in range
   all-ranges : (i : ℕ) → i < suc left → entryInRange (withPiece h r .table) i ≡ true
   unfolding entryInRange
-  all-ranges zero l = first .line .ranges
+  all-ranges zero l = and-both (first .line .ranges) (first .line .lockSmall)
   all-ranges (suc i) l = later .ranges i (omega arith)
 
   -- every box fits into the sheet
@@ -237,7 +231,7 @@ module _ (j : JobLine) (left area : ℕ) (h : PieceText) (r : Pieces) (first : P
   -- a piece in front of the later ones
   piece-in-front : PiecesWell j (suc left) area (withPiece h r)
   piece-in-front =
-      let start = start-after (h .columns ∷ h .rows ∷ h .turns ∷ []) (r .table) left in
+      let start = start-after (h .columns ∷ h .rows ∷ h .turns ∷ h .lock ∷ []) (r .table) left in
       record {
         entries = ap suc (later .entries);
         ranges = all-ranges;
@@ -288,8 +282,8 @@ pieces-read text j (suc left) i area p line r a e =
 job-line-read : (text : List ℕ) (j : JobLine) → jobLine text ≡ given j → sheetInRange (j .size) ≡ true
 unfolding jobLine sheetInRange
 job-line-read text j e =
-    let f = given-formed 1 (jobNumbers text) _ j e in
-    let k : JobLine = asJobLine (f .value) (f .next) in
+    let f = given-formed 1 (jobVersions text) _ j e in
+    let k : JobLine = f .value in
     let u : Unless (jobLineCauses k) k j = given-unless (jobLineCauses k) k j (f .goes) in
     rw (← u .same)
     (and-both (not-false (numbersInRange (k .size)) (u .none .0))

@@ -6,9 +6,9 @@ use Rattle.model.specs.Piece.{tight}
 use Rattle.model.specs.Refusal.{Outcome, refused, given, Cause, cause, refusalOf, wrongForm, outOfRange, sheetTooLarge, boxesTooLarge, looseBox, boxTooLarge}
 use Rattle.model.specs.Refusal.{wrongLength}
 use Rattle.model.specs.Lent.{Lent, areaBound, upTo, numbersInRange}
-use Rattle.model.specs.Text.{threeFields, fourFields, lineAt, got, causeIn, andThen}
-use Rattle.model.specs.JobText.{jobWord, gapWord, jobNumbers, pieceWord, JobLine, asJobLine, jobLineCauses, jobLine, PieceLine, asPieceLine, pieceInRange}
-use Rattle.model.specs.JobText.{pieceLineCauses}
+use Rattle.model.specs.Text.{lineAt, fieldsText, got, causeIn, andThen}
+use Rattle.model.specs.JobText.{jobWord, gapWord, lockWord, jobVersions, pieceWord, pieceEnds, JobLine, jobLineCauses, jobLine, PieceLine, asPieceLine}
+use Rattle.model.specs.JobText.{pieceInRange, pieceLineCauses}
 use Rattle.model.specs.JobText.{pieceLine, rowAt, Rows, rowsAt, boxShape, PieceText, rowsCauses, asPieceText, pieceAt, noPieces, piecesAt, asLent, bufferCauses}
 use Rattle.model.specs.JobText.{readJob}
 use Rattle.model.specs.declared.JobSize.{JobSize}
@@ -22,18 +22,26 @@ use Rattle.text_laws.specs.JobRefusals.{JobRefusalClaims}
 use Rattle.text_laws.proofs.Outcomes.{refused-given, unless-given, given-before, given-formed, given-unless}
 use Rattle.text_laws.specs.Outcomes.{Unless}
 use Rattle.text_laws.proofs.Refused.{refused-unless, refused-before, refused-formed, chosen, choose}
-use Rattle.text_laws.proofs.LineCounts.{first-line, line-then, row-one, three-line, four-line}
+use Rattle.text_laws.proofs.LineCounts.{first-line, line-then, row-one, three-line, four-line, five-line}
 use Rattle.text_laws.proofs.JobRead.{LineWell, sides-some, piece-line-read}
-use Rattle.text_laws.proofs.JobExact.{row-spelled, piece-line-spelled, JobLineSpelled, job-line-spelled}
-use Rattle.text_laws.proofs.Spelling.{spells-same}
+use Rattle.text_laws.proofs.JobExact.{row-spelled, numbersText, piece-line-spelled, JobLineSpelled, job-line-spelled}
+use Rattle.text_laws.specs.JobWriting.{SaysSize}
+use Rattle.text_laws.proofs.Spelling.{Spells, spells-same}
 
 -- ── where the next line begins ──
+
+-- behind the line of a piece, with a lock or without
+numbers-then : {text : List ℕ} {line p : ℕ} (locks : Bool) (i : ℕ) (h : PieceLine) → LineBegins text line p
+    → Spells text p (h .next) (numbersText locks i h) → LineBegins text (suc line) (h .next)
+unfolding fieldsText
+numbers-then true i h b s = five-line pieceWord i (h .columns) (h .rows) (h .turns) (h .lock) refl b s
+numbers-then false i h b s = four-line pieceWord i (h .columns) (h .rows) (h .turns) refl b s
 
 -- behind a piece line
 piece-line-then : {text : List ℕ} {line p : ℕ} (j : JobLine) (i area : ℕ) (h : PieceLine) → LineBegins text line p
     → pieceLine text j i area p line ≡ given h → LineBegins text (suc line) (h .next)
 piece-line-then {text} {line} {p} j i area h b e =
-    four-line pieceWord i (h .columns) (h .rows) (h .turns) refl b (piece-line-spelled text j i area p line h e)
+    numbers-then (j .locks) i h b (piece-line-spelled text j i area p line h e .spells)
 
 -- behind a row line
 row-line-then : {text : List ℕ} {line p : ℕ} (l : ℕ) (ms : List ℕ) (q : ℕ) → LineBegins text line p → rowAt text l p ≡ got ms q
@@ -122,9 +130,8 @@ module _ (text : List ℕ) (tl pl : ℕ) where
       ⊎-elim
       (λ w. caused (causeIn 1 wrongForm true) (w .1) refl (wrong-job-line refl (w .0)))
       (λ f.
-      let j : JobLine = asJobLine (f .value) (f .next) in
-      let numbers : SheetNumbers text 1 =
-      record { first = refl; said = j; numbers = f .value; next = f .next; reads = f .reads; says = refl } in
+      let j : JobLine = f .value in
+      let numbers : SheetNumbers text 1 = record { first = refl; said = j; next = f .next; reads = f .reads } in
       let ranges : Bool = numbersInRange (j .size) in
       let large : Bool = ltb areaBound (j .size .rows * j .size .columns) in
       ⊎-elim
@@ -137,7 +144,7 @@ module _ (text : List ℕ) (tl pl : ℕ) where
       (λ n′. absurd (n′ .1))
       (n .1))
       (refused-unless (jobLineCauses j) j r (f .goes)))
-      (refused-formed 1 (jobNumbers text) _ r e)
+      (refused-formed 1 (jobVersions text) _ r e)
 
   -- a piece line that refuses
   piece-line-refused : (line : ℕ) (a : PiecePlace text line) (r : Refusal)
@@ -185,7 +192,7 @@ module _ (text : List ℕ) (tl pl : ℕ) where
       (n′ .1))
       (n .1))
       (refused-unless (pieceLineCauses line j i (a .area) h) h r (f .goes)))
-      (refused-formed line (lineAt pieceWord fourFields text (a .at)) _ r e)
+      (refused-formed line (lineAt pieceWord (pieceEnds (j .locks)) text (a .at)) _ r e)
 
   module _ (top : ℕ) (a : PiecePlace text top) (h : PieceLine)
       (heads : pieceLine text (a .job) (a .number) (a .area) (a .at) top ≡ given h) where
@@ -226,7 +233,7 @@ module _ (text : List ℕ) (tl pl : ℕ) where
       where
         from : (w : ℕ) → h .rows ≡ w → rowsAt text (h .columns) w (h .next) (suc top) ≡ given rows → LooseBox text (top + h .rows)
         from zero e reads′ =
-            let line : LineWell (a .job) (a .area) (h .columns) (h .rows) (h .turns) =
+            let line : LineWell (a .job) (a .area) (h .columns) (h .rows) (h .turns) (h .lock) =
             piece-line-read text (a .job) (a .number) (a .area) (a .at) top h heads in
             let some : 0 < h .rows = sides-some (h .columns) (h .rows) (h .turns) (line .ranges) .1 in
             absurd (omega arith)
@@ -318,15 +325,21 @@ module _ (text : List ℕ) (tl pl : ℕ) where
       (refused-before (piecesAt text j left (suc i) (area + h .columns * h .rows) (h .next) (suc (line + h .rows))) _ r (f .goes)))
       (refused-before (pieceAt text j i area p line) _ r e)
 
-  -- behind the job line, of either version, the second line begins
+  -- behind a job line, of whichever version, the second line begins
+  version-then : (n : JobSize) (locks : Bool) (line : List ℕ) (next : ℕ) → SaysSize n locks line → Spells text 0 next line → LineBegins text 2 next
+  version-then n true line next says s =
+      four-line lockWord (n .rows) (n .columns) (n .count) (n .gap) refl (first-line text) (spells-same s refl says)
+  version-then n false line next says s =
+      ⊎-elim
+      (λ g. four-line gapWord (n .rows) (n .columns) (n .count) (n .gap) refl (first-line text) (spells-same s refl g))
+      (λ g. three-line jobWord (n .rows) (n .columns) (n .count) refl (first-line text) (spells-same s refl (g .0)))
+      says
+
+  -- so it does behind the job line that is given
   job-line-then : (j : JobLine) → jobLine text ≡ given j → LineBegins text 2 (j .next)
   job-line-then j e =
       let s : JobLineSpelled text j = job-line-spelled text j e in
-      let n : JobSize = j .size in
-      ⊎-elim
-      (λ g. four-line gapWord (n .rows) (n .columns) (n .count) (n .gap) refl (first-line text) (spells-same (s .spells) refl g))
-      (λ g. three-line jobWord (n .rows) (n .columns) (n .count) refl (first-line text) (spells-same (s .spells) refl (g .0)))
-      (s .says)
+      version-then (j .size) (j .locks) (s .line) (j .next) (s .says) (s .spells)
 
   -- every refusal has its cause
   all-caused : (r : Refusal) → readJob text tl pl ≡ refused r → Caused text tl pl r

@@ -1,19 +1,19 @@
 -- Document 01, 'When a call says no': "Every call lent a job, first: 8, its W, L, n, n entries and box pixels are none that reading
--- gives", and so is its gap (document 02, point 4). The check passes exactly the lent jobs whose W, L, n, g, n entries and box pixels are
--- there and are what reading some text gives. What lies beyond in the buffers plays no part: the job and the job without it agree entry by
--- entry and pixel by pixel. Assumes nothing.
-use Rattle.list_laws.proofs.Kit.{_∙_, _≡_, ap, ap₂, refl, subst, sym, _&&_, true, _↔_, inl, List, [], _*_, _+_, _<_, _≤_, suc, zero, ℕ, add-zero, mul-comm}
-use Rattle.list_laws.proofs.Kit.{zero-add, arith, eqb, leb, getD, length, take, getD-take}
+-- gives", and so are its gap (document 02, point 4) and its locks (point 6). The check passes exactly the lent jobs whose W, L, n, g, n
+-- entries and box pixels are there and are what reading some text gives. What lies beyond in the buffers plays no part: the job and the job
+-- without it agree entry by entry and pixel by pixel. Assumes nothing.
+use Rattle.list_laws.proofs.Kit.{_∙_, _≡_, ap, ap₂, refl, subst, sym, _&&_, false≢true, true, _↔_, List, [], _*_, _+_, _<_, _≤_, suc, zero, ℕ, add-zero}
+use Rattle.list_laws.proofs.Kit.{mul-comm, zero-add, arith, eqb, leb, getD, length, take, getD-take}
 use Rattle.model.specs.Piece.{tight}
-use Rattle.model.specs.Lent.{Lent, entryColumns, entryRows, entryTurns, pixelStart, entryInRange, entryFits, lentShape, lentWell}
+use Rattle.model.specs.Lent.{Lent, lockBound, sideBound, sidesInRange, entryColumns, entryRows, pixelStart, entryInRange, entryFits, lentShape, lentWell}
 use Rattle.list_laws.proofs.Numbers.{in-rows}
 use Rattle.text_laws.specs.Texts.{Readable}
 use Rattle.job_laws.proofs.Starts.{start-end}
 use Rattle.text_laws.proofs.Store.{tight-agree}
 use Rattle.job_laws.proofs.Checked.{Facts, facts, well}
-use Rattle.text_laws.specs.Limits.{sidesInRange}
-use Rattle.text_laws.proofs.JobRead.{sides-some, job-read-well}
-use Rattle.text_laws.specs.JobWriting.{entryFields, gapLine, jobText, entriesFrom, exactJob}
+use Rattle.job_laws.proofs.Ranges.{at-least, entry-facts}
+use Rattle.text_laws.proofs.JobRead.{job-read-well}
+use Rattle.text_laws.specs.JobWriting.{entryFields, lockLine, jobText, entriesFrom, exactJob}
 use Rattle.text_laws.proofs.JobReadBack.{job-read-back}
 
 -- the entries from number i on
@@ -47,7 +47,8 @@ module _ (k : Lent) where
   -- its check tells the same of entries
   same-ranges : (i : ℕ) → i < k .size .count → entryInRange (exactJob k .table) i ≡ true → entryInRange (k .table) i ≡ true
   unfolding entryInRange
-  same-ranges i l e = subst (λ (x : List ℕ). sidesInRange (getD x 0 0) (getD x 1 0) (getD x 2 0) ≡ true) (same-entry i l) e
+  same-ranges i l e =
+      subst (λ (x : List ℕ). (sidesInRange (getD x 0 0) (getD x 1 0) (getD x 2 0) && leb (getD x 3 0) lockBound) ≡ true) (same-entry i l) e
 
   -- and of boxes in the sheet
   same-fits : (i : ℕ) → i < k .size .count → entryFits (k .size) (exactJob k .table) i ≡ true → entryFits (k .size) (k .table) i ≡ true
@@ -59,13 +60,13 @@ module _ (k : Lent) where
   unfolding entryInRange pixelStart
   same-tight i l e =
       let total : ℕ = pixelStart (k .table) (k .size .count) in
-      let some = sides-some (entryColumns (k .table) i) (entryRows (k .table) i) (entryTurns (k .table) i) (same-ranges i l e) in
+      let s = entry-facts (k .table) i (same-ranges i l e) in
       tight-agree (lentShape (exactJob k) i) (lentShape k i)
       (record {
         columns = same-columns i l;
         rows = same-rows i l;
-        wide = some .0;
-        high = some .1;
+        wide = at-least sideBound (entryColumns (k .table) i) (s .columns);
+        high = at-least sideBound (entryRows (k .table) i) (s .rows);
         has = λ x y hx hy.
             let s : ℕ = pixelStart (k .table) i in
             let c : ℕ = entryColumns (k .table) i in
@@ -105,7 +106,9 @@ lent-well-readable k = (
         entries = f .entries;
         store = f .store;
         text = jobText k;
-        reads = job-read-back k e (gapLine (k .size)) (inl refl) (length (k .table)) (length (k .pixels)) (f .entries) (f .store);
+        reads =
+            job-read-back k e true (lockLine (k .size)) refl (λ none. absurd (false≢true (sym none))) (length (k .table)) (length (k .pixels))
+            (f .entries) (f .store);
       }),
   (λ r. exactly-well k (r .entries) (r .store) (job-read-well (r .text) (length (k .table)) (length (k .pixels)) (exactJob k) (r .reads))),
 )

@@ -3,7 +3,7 @@
 use Rattle.list_laws.proofs.Kit.{_∙_, _≡_, ap, refl, sym, Bool, false, true, inl, inr, List, [], _++_, _∷_, map, _%_, _+_, _/_, _<_, _≤_, suc, zero, ℕ}
 use Rattle.list_laws.proofs.Kit.{add-zero, arith, eqb, ltb, List·getD-eq-default, length, ltb-false, ltb-true, ne-eqb}
 use Rattle.model.specs.Bounded.{oneIf}
-use Rattle.model.specs.Text.{byte, lineEnd, digitZero, standsAt, threeFields, fourFields, decimal, digits, fieldsText, lineText}
+use Rattle.model.specs.Text.{byte, lineEnd, digitZero, standsAt, threeFields, fourFields, fiveFields, decimal, digits, fieldsText, lineText}
 use Rattle.model.specs.JobText.{rowWord, pixelMark, emptyMark}
 use Rattle.text_laws.specs.JobWriting.{mark, rowText}
 use Rattle.text_laws.specs.LinePlaces.{lineEnds, Behind, LineBegins}
@@ -187,3 +187,8 @@ three-line word a b c w h s = line-then h s (line-one word threeFields (a ∷ b 
 pub four-line : {text : List ℕ} {line p q : ℕ} (word : List ℕ) (a b c d : ℕ) → endsIn word ≡ 0 → LineBegins text line p
     → Spells text p q (lineText word fourFields (a ∷ b ∷ c ∷ d ∷ [])) → LineBegins text (suc line) q
 four-line word a b c d w h s = line-then h s (line-one word fourFields (a ∷ b ∷ c ∷ d ∷ []) w (record { ends = refl; last = refl }) refl)
+
+-- a word without a line end and five numbers
+pub five-line : {text : List ℕ} {line p q : ℕ} (word : List ℕ) (a b c d e : ℕ) → endsIn word ≡ 0 → LineBegins text line p
+    → Spells text p q (lineText word fiveFields (a ∷ b ∷ c ∷ d ∷ e ∷ [])) → LineBegins text (suc line) q
+five-line word a b c d e w h s = line-then h s (line-one word fiveFields (a ∷ b ∷ c ∷ d ∷ e ∷ []) w (record { ends = refl; last = refl }) refl)

@@ -301,3 +301,8 @@ three-fields (a ∷ (b ∷ (c ∷ (d ∷ ks)))) h = absurd (omega arith)
 pub four-fields : (ks : List ℕ) → length ks ≡ 4 → getD ks 0 0 ∷ getD ks 1 0 ∷ getD ks 2 0 ∷ getD ks 3 0 ∷ [] ≡ ks
 four-fields [] h = absurd (omega arith)
 four-fields (a ∷ ks) h = ap (λ (l : List ℕ). a ∷ l) (three-fields ks (omega arith))
+
+-- five numbers are those by place
+pub five-fields : (ks : List ℕ) → length ks ≡ 5 → getD ks 0 0 ∷ getD ks 1 0 ∷ getD ks 2 0 ∷ getD ks 3 0 ∷ getD ks 4 0 ∷ [] ≡ ks
+five-fields [] h = absurd (omega arith)
+five-fields (a ∷ ks) h = ap (λ (l : List ℕ). a ∷ l) (four-fields ks (omega arith))

@@ -1,6 +1,6 @@
 -- Document 01, 'Job text', 'Start, layout text, sheet' and 'When a call says no': when a reader gives what. A text is read as a job or a
 -- layout exactly where it is what is written of it, what is written is well, and the buffers suffice. A layout has one text, a job one of
--- version 2 and, where its gap is 0, one of version 1. Assumes nothing.
+-- version 3, where nothing is locked one of version 2, and where its gap is 0 too one of version 1. Assumes nothing.
 use mathlib.Core.Bool.{true}
 use mathlib.Core.List.{List}
 use mathlib.Core.Path.{_≡_}

@@ -1,6 +1,6 @@
--- Document 01, 'When a call says no', reading a job: "No number comes without its cause." For each number the cause that its refusal has,
--- on the line that the refusal's first place names. Every clause says of that line that the lines before it are read, where it begins,
--- what it is to be, and what is wrong with it. Assumes nothing.
+-- Document 01, 'When a call says no', reading a job, in each version of document 02: "No number comes without its cause." For each number the
+-- cause that its refusal has, on the line that the refusal's first place names. Every clause says of that line that the lines before it are
+-- read, where it begins, what it is to be, and what is wrong with it. Assumes nothing.
 use mathlib.Core.Bool.{true, false}
 use mathlib.Core.List.{List}
 use mathlib.Core.Logic.{_⊎_}
@@ -10,8 +10,8 @@ use lib.ListN.{length}
 use Rattle.model.specs.Piece.{tight}
 use Rattle.model.specs.Refusal.{refused, given, wrongForm, outOfRange, sheetTooLarge, boxesTooLarge, looseBox, boxTooLarge, wrongLength}
 use Rattle.model.specs.Lent.{Lent, areaBound, upTo, numbersInRange}
-use Rattle.model.specs.Text.{wrong, got, fourFields, lineAt}
-use Rattle.model.specs.JobText.{pieceWord, JobLine, jobNumbers, asJobLine, jobLine, PieceLine, asPieceLine, pieceInRange, pieceLine, rowAt, Rows, rowsAt}
+use Rattle.model.specs.Text.{wrong, got, lineAt}
+use Rattle.model.specs.JobText.{pieceWord, pieceEnds, JobLine, jobVersions, jobLine, PieceLine, asPieceLine, pieceInRange, pieceLine, rowAt, Rows, rowsAt}
 use Rattle.model.specs.JobText.{boxShape}
 use Rattle.model.specs.JobText.{PieceText, pieceAt, readJob}
 use Rattle.model.specs.declared.Refusal.{Refusal}
@@ -68,10 +68,8 @@ pub record EndPlace (text : List ℕ) (line : ℕ) : Type 0 where
 pub record SheetNumbers (text : List ℕ) (line : ℕ) : Type 0 where
   pub first : line ≡ 1
   pub said : JobLine
-  pub numbers : List ℕ
   pub next : ℕ
-  pub reads : jobNumbers text ≡ got numbers next
-  pub says : said ≡ asJobLine numbers next
+  pub reads : jobVersions text ≡ got said next
 
 -- the line is a piece line, and its numbers are read
 pub record PieceNumbers (text : List ℕ) (line : ℕ) : Type 0 where
@@ -79,19 +77,20 @@ pub record PieceNumbers (text : List ℕ) (line : ℕ) : Type 0 where
   pub said : PieceLine
   pub numbers : List ℕ
   pub next : ℕ
-  pub reads : lineAt pieceWord fourFields text (place .at) ≡ got numbers next
+  pub reads : lineAt pieceWord (pieceEnds (place .job .locks)) text (place .at) ≡ got numbers next
   pub says : said ≡ asPieceLine numbers next
 
 -- ── the causes ──
 
--- 1: the job line is of no version's form, a piece line or a row line is not of its form, or a line is there that is one too many
+-- 1: the job line is of no version's form, a piece line is not of the version's form, a row line is not of its form, or a line is there that
+-- is one too many
 pub data JobFormWrong (text : List ℕ) (line : ℕ) : Type 0 where
-  wrong-job-line : line ≡ 1 → jobNumbers text ≡ wrong → JobFormWrong text line
-  wrong-piece-line : (a : PiecePlace text line) → lineAt pieceWord fourFields text (a .at) ≡ wrong → JobFormWrong text line
+  wrong-job-line : line ≡ 1 → jobVersions text ≡ wrong → JobFormWrong text line
+  wrong-piece-line : (a : PiecePlace text line) → lineAt pieceWord (pieceEnds (a .job .locks)) text (a .at) ≡ wrong → JobFormWrong text line
   wrong-row-line : (a : RowPlace text line) → rowAt text (a .head .columns) (a .at) ≡ wrong → JobFormWrong text line
   line-too-many : (a : EndPlace text line) → a .at < length text → JobFormWrong text line
 
--- 2: a number of the job line is out of range; or one of a piece line is, or i is not the piece's number, or o is even
+-- 2: a number of the job line is out of range; or one of a piece line is, or i is not the piece's number, o is even or the lock is above 1
 pub data JobOutOfRange (text : List ℕ) (line : ℕ) : Type 0 where
   sheet-out-of-range : (a : SheetNumbers text line) → numbersInRange (a .said .size) ≡ false → JobOutOfRange text line
   piece-out-of-range : (a : PieceNumbers text line) → pieceInRange (a .place .number) (a .said) ≡ false → JobOutOfRange text line

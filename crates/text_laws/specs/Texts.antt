@@ -44,7 +44,7 @@ pub record Demand1Text : Type 0 where
   -- what reading a job gives passes the check that every call makes of a lent job
   pub readPasses : (text : List ℕ) (tableLength pixelsLength : ℕ) (k : Lent) → readJob text tableLength pixelsLength ≡ given k
       → lentWell k ≡ true
-  -- the check passes exactly the lent jobs whose W, L, n, g, n entries and box pixels are what reading some text gives
+  -- the check passes exactly the lent jobs whose W, L, n, g, n entries, each with its lock, and box pixels are what reading some text gives
   pub checkExactly : (k : Lent) → (lentWell k ≡ true) ↔ Readable k
   -- what is written of a layout whose placements are inside in allowed turns is read back as that layout
   pub writtenRead : (j : Job) (v : Layout) → j .size .rows ≤ rowBound → j .size .columns ≤ columnBound → j .size .count ≤ pieceBound

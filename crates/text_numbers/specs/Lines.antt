@@ -12,7 +12,8 @@ abbrev pub endByte : ℕ → ℕ
 endByte zero = lineEnd
 endByte (suc behind) = comma
 
--- the end bytes of the last k fields of a line; three are the model's threeFields, four its fourFields
+-- the end bytes of the last k fields of a line; three are the model's threeFields, four its
+-- fourFields, five its fiveFields
 abbrev pub fieldEnds : ℕ → List ℕ
 fieldEnds zero = []
 fieldEnds (suc k) = endByte k ∷ fieldEnds k

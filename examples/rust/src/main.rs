@@ -1,16 +1,20 @@
 //! Nests the pieces of a job round by round through the interface for C. Reads the job text from standard input, tells the progress on
-//! standard error, at the end what moves by hand would come to and, where the layout is clear, the length of its cut list, and prints the
-//! best layout and how the search ended, as the program `nest` does in one go.
+//! standard error, at the end what moves by hand would come to, how the rest is laid anew once half of the layout is under the knife and,
+//! where the layout is clear, the length of its cut list, and prints the best layout and how the search ended, as the program `nest` does in
+//! one go.
 
 use std::error::Error;
 use std::io::{self, Read, Write};
 use std::process::ExitCode;
 
 use sigbrol::safe::{line_step, End, Job, Refused, Step};
-use sigbrol::{Place, TEXT, WORKSPACE};
+use sigbrol::{Place, CUTTER, NOT_THE_CUTTER, PLANNER, TEXT, WORKSPACE};
 
 const ROUNDS: usize = 20;
 const BUDGET: u32 = 1_000;
+
+/// Rounds in which the rest of a table that is half cut is laid anew.
+const ROUNDS_OF_THE_REST: u32 = 3;
 
 /// The side of a pixel in sixty-fourths of a millimetre: 1.5 mm.
 const PITCH: u32 = 96;
@@ -51,6 +55,14 @@ fn unit_weights(job: &Job) -> Vec<u32> {
     vec![1; job.count() * (job.count() - 1) / 2]
 }
 
+/// The start layout. A job that is read with locks comes without placements: its locked pieces lie where a start of all pieces has them.
+fn start(job: &Job) -> Result<Vec<Place>, Refused> {
+    let mut layout = vec![[0; 3]; job.count()];
+    job.with_all_free().start(&mut layout)?;
+    job.start(&mut layout)?;
+    Ok(layout)
+}
+
 /// What the search holds: the present layout and weights, the best layout so far with its plain sum, and the work of all rounds.
 struct Search {
     layout: Vec<Place>,
@@ -67,7 +79,7 @@ struct Search {
 ///
 /// After a job has been read a refusal is a mistake of this program, such as a wrong length.
 fn nest(job: &Job) -> Result<Vec<u8>, Refused> {
-    let layout = job.start()?;
+    let layout = start(job)?;
     let mut search = Search {
         weights: unit_weights(job),
         best: layout.clone(),
@@ -124,9 +136,10 @@ impl Search {
     }
 
     /// The best layout's text and the last line. A layout that is called clear has passed the check before.
-    fn output(&self, job: &Job) -> Result<Vec<u8>, Refused> {
+    fn output(&mut self, job: &Job) -> Result<Vec<u8>, Refused> {
         let used = job.used_length(&self.best)?;
         self.tell_moves(job, used)?;
+        self.tell_half_cut(job, used)?;
         let word = if self.best_sum == 0 {
             job.check(&self.best)?;
             tell_cut_list(job, &self.best)?;
@@ -160,6 +173,46 @@ impl Search {
         }
         let count = job.count();
         eprintln!("preview: {pieces} of {count} pieces can go one column left, used length {least} at best");
+        Ok(())
+    }
+
+    /// Tells how the rest is laid anew once the knife is at the middle of the used length: the pieces that begin left of it are locked from the
+    /// cutter's station, in a copy of the job, the free ones are stacked anew, and a guided run finds places for them. The planner's station
+    /// cannot lock, and what is locked stays where it lies.
+    fn tell_half_cut(&mut self, job: &Job, used: usize) -> Result<(), Refused> {
+        let mut job = job.clone();
+        let first = self.best.iter().map(|&[_, x, _]| usize::from(x)).min();
+        let knife = first.unwrap_or(0) + used.div_ceil(2);
+        for (piece, &[_, x, _]) in self.best.iter().enumerate() {
+            if usize::from(x) < knife {
+                let planner = job.set_lock(piece, PLANNER).err();
+                assert_eq!(
+                    planner.map(|Refused(reply)| reply.number),
+                    Some(NOT_THE_CUTTER)
+                );
+                job.set_lock(piece, CUTTER)?;
+            }
+        }
+        let mut layout = self.best.clone();
+        job.start(&mut layout)?;
+        let (mut weights, words) = (unit_weights(&job), &mut self.workspace);
+        let run = job.guided_run(&mut layout, &mut weights, ROUNDS_OF_THE_REST, BUDGET, words)?;
+
+        let locked: Vec<usize> = (0..job.count())
+            .filter(|&piece| job.is_locked(piece))
+            .collect();
+        assert!(locked
+            .iter()
+            .all(|&piece| layout[piece] == self.best[piece]));
+        eprintln!(
+            "half cut: {} of {} pieces locked, the rest laid anew: plain sum {}, {} trials, {} moves, used length {}",
+            locked.len(),
+            job.count(),
+            run.sum,
+            run.trials,
+            run.moves,
+            job.used_length(&layout)?
+        );
         Ok(())
     }
 }

@@ -1,6 +1,6 @@
-//! The functions of include/sigbrol.h, declared for Rust: first those that are lent no job, then the others, in the header's order. What
-//! each does and refuses stands there. `safe` is a safe layer over some of them. A program that calls them links the archive that
-//! `rt staticlib sigbrol` makes (examples/rust/build.rs shows how).
+//! The functions of include/sigbrol.h, declared for Rust: first those that are lent no job or write its table, then the others, in the
+//! header's order. What each does and refuses stands there. `safe` is a safe layer over some of them. A program that calls them links the
+//! archive that `rt staticlib sigbrol` makes (examples/rust/build.rs shows how).
 
 #![no_std]
 
@@ -11,7 +11,7 @@ extern crate alloc;
 pub mod safe;
 
 /// The version of the interface.
-pub const VERSION: u32 = 7;
+pub const VERSION: u32 = 8;
 
 /// The largest numbers of a job: pieces, bytes of all boxes together, bytes of a job text that the program reads.
 pub const PIECES: usize = 64;
@@ -39,6 +39,14 @@ pub const WORKSPACE: usize = 262_144;
 pub const fn cut_lines_capacity(rows: usize, columns: usize) -> usize {
     (rows + 1) * (columns + 1)
 }
+
+/// The lock of a piece.
+pub const FREE: u8 = 0;
+pub const LOCKED: u8 = 1;
+
+/// The stations that may ask for a lock: the planner's is refused, the cutter's sets it.
+pub const PLANNER: usize = 0;
+pub const CUTTER: usize = 1;
 
 /// The largest weight.
 pub const WEIGHT: u32 = 65_535;
@@ -72,9 +80,11 @@ pub const EMPTY_LINE: u32 = 11;
 pub const SHARED_PIXEL: u32 = 12;
 pub const LAID_ALREADY: u32 = 13;
 pub const NOT_LAID: u32 = 14;
+pub const PIECE_LOCKED: u32 = 15;
+pub const NOT_THE_CUTTER: u32 = 16;
 
-/// A piece's entry of the table: l, w, o.
-pub type Entry = [u8; 3];
+/// A piece's entry of the table: l, w, o, lock.
+pub type Entry = [u8; 4];
 
 /// A strip: line, first, count.
 pub type Strip = [u8; 3];
@@ -131,6 +141,20 @@ extern "C" {
         columns: *mut usize,
         count: *mut usize,
         gap: *mut usize,
+    ) -> Reply;
+
+    /// It is lent a job whose table it writes.
+    pub fn sigbrol_set_lock(
+        rows: usize,
+        columns: usize,
+        count: usize,
+        gap: usize,
+        table: *mut Entry,
+        table_length: usize,
+        pixels: *const u8,
+        pixels_length: usize,
+        piece: usize,
+        station: usize,
     ) -> Reply;
 
     pub fn sigbrol_rebuild(

@@ -9,8 +9,8 @@ use alloc::vec::Vec;
 use core::fmt;
 
 use crate::{
-    cut_lines_capacity, CutLine, Place, Reply, CLEAR, DONE, LAYOUT_TEXT, PIECES, PIXELS, SETTLED,
-    STEP_CUT, STEP_LIFT,
+    cut_lines_capacity, CutLine, Entry, Place, Reply, CLEAR, DONE, FREE, LAYOUT_TEXT, LOCKED,
+    PIECES, PIXELS, SETTLED, STEP_CUT, STEP_LIFT,
 };
 
 /// A call that is refused, and by what.
@@ -89,13 +89,21 @@ pub fn line_step(lines: &[CutLine], pitch: u32, step: u64) -> Result<Step, Refus
     })
 }
 
+/// What a guided run gives beside the layout and the weights.
+pub struct Guided {
+    pub sum: u64,
+    pub trials: u64,
+    pub moves: u64,
+}
+
 /// A job that has been read.
+#[derive(Clone)]
 pub struct Job {
     rows: usize,
     columns: usize,
     count: usize,
     gap: usize,
-    table: Vec<[u8; 3]>,
+    table: Vec<Entry>,
     pixels: Vec<u8>,
 }
 
@@ -114,7 +122,7 @@ impl Job {
     /// Reads a job text.
     pub fn read(text: &[u8]) -> Result<Job, Refused> {
         let (mut rows, mut columns, mut count, mut gap) = (0, 0, 0, 0);
-        let mut table = vec![[0; 3]; PIECES];
+        let mut table = vec![[0; 4]; PIECES];
         let mut pixels = vec![0; PIXELS];
         // Sound by what the head of this file says.
         let reply = unsafe {
@@ -152,6 +160,37 @@ impl Job {
         [self.rows, self.columns]
     }
 
+    /// Whether a piece is locked.
+    pub fn is_locked(&self, piece: usize) -> bool {
+        self.table[piece][3] == LOCKED
+    }
+
+    /// A copy of the job in which every piece is free.
+    pub fn with_all_free(&self) -> Job {
+        let mut job = self.clone();
+        job.table.iter_mut().for_each(|entry| entry[3] = FREE);
+        job
+    }
+
+    /// Locks a piece from a station.
+    pub fn set_lock(&mut self, piece: usize, station: usize) -> Result<(), Refused> {
+        // Sound by what the head of this file says.
+        accepted(unsafe {
+            crate::sigbrol_set_lock(
+                self.rows,
+                self.columns,
+                self.count,
+                self.gap,
+                self.table.as_mut_ptr(),
+                self.table.len(),
+                self.pixels.as_ptr(),
+                self.pixels.len(),
+                piece,
+                station,
+            )
+        })
+    }
+
     /// Reads a layout text.
     pub fn read_layout(&self, text: &[u8]) -> Result<Vec<Place>, Refused> {
         let mut layout = vec![[0; 3]; self.count];
@@ -183,11 +222,9 @@ impl Job {
         Ok(lines)
     }
 
-    /// The start layout.
-    pub fn start(&self) -> Result<Vec<Place>, Refused> {
-        let mut layout = vec![[0; 3]; self.count];
-        lend!(self, sigbrol_start, layout.as_mut_ptr(), layout.len())?;
-        Ok(layout)
+    /// The start layout: free pieces are stacked, locked ones stay where the layout has them.
+    pub fn start(&self, layout: &mut [Place]) -> Result<(), Refused> {
+        lend!(self, sigbrol_start, layout.as_mut_ptr(), layout.len())
     }
 
     /// A descent; the layout becomes the one at its end. The workspace may have any content and length.
@@ -227,12 +264,40 @@ impl Job {
         })
     }
 
+    /// A guided run; the layout becomes the best one, the weights the new ones. The workspace may have any content and length.
+    pub fn guided_run(
+        &self,
+        layout: &mut [Place],
+        weights: &mut [u32],
+        rounds: u32,
+        budget: u32,
+        workspace: &mut [u64],
+    ) -> Result<Guided, Refused> {
+        let (mut sum, mut trials, mut moves) = (0, 0, 0);
+        lend!(
+            self,
+            sigbrol_guided_run,
+            layout.as_mut_ptr(),
+            layout.len(),
+            weights.as_mut_ptr(),
+            weights.len(),
+            rounds,
+            budget,
+            workspace.as_mut_ptr(),
+            workspace.len(),
+            &mut sum,
+            &mut trials,
+            &mut moves
+        )?;
+        Ok(Guided { sum, trials, moves })
+    }
+
     /// Whether the boxes of two pieces come within the gap; where they do not, the pieces do not conflict.
     pub fn boxes_meet(&self, layout: &[Place], i: usize, k: usize) -> bool {
         // The first and the end column and row of a turned box; its sides change places at 90 and 270 degrees.
         let ranges = |piece: usize| {
             let [turn, x, y] = layout[piece].map(u32::from);
-            let [l, w, _] = self.table[piece].map(u32::from);
+            let [l, w, ..] = self.table[piece].map(u32::from);
             let (l, w) = if turn % 180 == 0 { (l, w) } else { (w, l) };
             [(x, x + l), (y, y + w)]
         };

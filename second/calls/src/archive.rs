@@ -57,6 +57,7 @@ pub fn call(kind: Kind, memory: &mut Memory) -> Returned {
             Kind::StretchRefusal => value(stretch_refusal(memory) as usize),
             Kind::Program => reply(program(memory)),
             Kind::ReadJob => reply(read_job(memory)),
+            Kind::SetLock => reply(set_lock(memory)),
             Kind::Strips => reply(strips(memory)),
             Kind::Rebuild => reply(rebuild(memory)),
             Kind::NoFitRow | Kind::NoFitColumn => reply(no_fit(kind, memory)),
@@ -111,6 +112,23 @@ unsafe fn read_job(memory: &mut Memory) -> Reply {
         columns,
         count,
         gap,
+    )
+}
+
+/// Sets a lock.
+unsafe fn set_lock(memory: &mut Memory) -> Reply {
+    let (table, table_length) = (at_mut(&mut memory.table), memory.table.length());
+    sigbrol_set_lock(
+        memory.rows,
+        memory.columns,
+        memory.count,
+        memory.gap,
+        table,
+        table_length,
+        at(&memory.pixels),
+        memory.pixels.length(),
+        memory.numbers.i,
+        memory.numbers.station,
     )
 }
 

@@ -11,7 +11,7 @@ use crate::kind::Kind;
 use crate::memory::{result, Memory};
 
 /// The largest number by which a call is refused.
-const NUMBERS: u32 = 14;
+const NUMBERS: u32 = 16;
 
 /// The ends of a descent, in the order of their numbers.
 const ENDS: [&str; 3] = ["clear", "settled", "spent"];
@@ -24,6 +24,19 @@ const OF_LINES: [&str; 5] = [
     "a run from -262",
     "a run to 262",
     "255 runs",
+];
+
+/// What has to come up with locked pieces.
+const OF_LOCKS: [&str; 9] = [
+    "a lock set",
+    "a lock set again",
+    "a start of locked and free pieces",
+    "a start of locked pieces alone",
+    "a descent that moves pieces beside locked ones",
+    "a descent of locked pieces alone that settles",
+    "a descent of locked pieces alone that settles without a budget",
+    "a guided run that moves pieces beside locked ones",
+    "a guided run of locked pieces alone that stays open",
 ];
 
 /// The fewest words of a workspace that a run uses.
@@ -56,6 +69,8 @@ pub struct Comparison<'a> {
     descents: [usize; 3],
     /// Accepted no-fit lines by their kind and by what has to come up in them.
     lines: BTreeMap<(Kind, &'static str), usize>,
+    /// Accepted calls by what has to come up with locked pieces.
+    locks: BTreeMap<&'static str, usize>,
     /// For each kind the number of differences and the one with the smallest input.
     different: BTreeMap<Kind, (usize, Difference)>,
     /// The workspace as the last run left it.
@@ -70,6 +85,7 @@ impl<'a> Comparison<'a> {
             ended: BTreeMap::new(),
             descents: [0; 3],
             lines: BTreeMap::new(),
+            locks: BTreeMap::new(),
             different: BTreeMap::new(),
             left: Vec::new(),
         }
@@ -87,6 +103,11 @@ impl<'a> Comparison<'a> {
         if Kind::NO_FIT_LINES.contains(&kind) && expected.cause.is_none() {
             for seen in of_line(memory) {
                 *self.lines.entry((kind, seen)).or_default() += 1;
+            }
+        }
+        if expected.cause.is_none() {
+            for seen in of_locks(kind, &before, memory) {
+                *self.locks.entry(seen).or_default() += 1;
             }
         }
         if kind.has_workspace() && expected.cause.is_none() {
@@ -136,6 +157,9 @@ impl<'a> Comparison<'a> {
         for (line, count) in part.lines {
             *self.lines.entry(line).or_default() += count;
         }
+        for (seen, count) in part.locks {
+            *self.locks.entry(seen).or_default() += count;
+        }
         for (kind, (count, difference)) in part.different {
             self.add_differences(kind, count, difference);
         }
@@ -168,7 +192,12 @@ impl<'a> Comparison<'a> {
         })
     }
 
-    /// In words, each way for a call to end, and each thing that a no-fit line has to have, that did not come up.
+    /// How many accepted calls had what has to come up with locked pieces.
+    fn locks_seen(&self) -> [(&'static str, usize); 9] {
+        OF_LOCKS.map(|seen| (seen, self.locks.get(seen).copied().unwrap_or(0)))
+    }
+
+    /// In words, each way for a call to end, and each thing that a no-fit line or a call with locked pieces has to have, that did not come up.
     pub fn missing(&self) -> Vec<String> {
         let mut missing = Vec::new();
         for kind in Kind::ALL {
@@ -193,6 +222,11 @@ impl<'a> Comparison<'a> {
             let unseen = seen.into_iter().filter(|(_, count)| *count == 0);
             missing.extend(unseen.map(|(seen, _)| format!("no call of {kind:?} finds {seen}")));
         }
+        let unseen = self
+            .locks_seen()
+            .into_iter()
+            .filter(|(_, count)| *count == 0);
+        missing.extend(unseen.map(|(seen, _)| format!("no call is {seen}")));
         missing
     }
 
@@ -213,6 +247,10 @@ impl<'a> Comparison<'a> {
             let seen = seen.map(|(seen, count)| format!("{seen}: {count}"));
             lines.push(format!("calls of {kind:?} that found {}", seen.join(", ")));
         }
+        let seen = self
+            .locks_seen()
+            .map(|(seen, count)| format!("{seen}: {count}"));
+        lines.push(format!("calls that were {}", seen.join(", ")));
         lines.extend(self.missing());
         let mut differences: Vec<&(usize, Difference)> = self.different.values().collect();
         differences.sort_by_key(|(_, difference)| difference.size);
@@ -263,6 +301,29 @@ fn of_line(memory: &Memory) -> impl Iterator<Item = &'static str> {
         runs.len() == sigbrol::RUNS,
     ];
     let seen = OF_LINES.into_iter().zip(found);
+    seen.filter_map(|(seen, found)| found.then_some(seen))
+}
+
+/// What has to come up with locked pieces and does in a call that was accepted.
+fn of_locks(kind: Kind, before: &Memory, after: &Memory) -> impl Iterator<Item = &'static str> {
+    let locked = before.locks().filter(|&locked| locked).count();
+    let all = locked == before.count;
+    let some = locked > 0 && !all;
+    let piece = before.locks().nth(before.numbers.i);
+    let moves = after.words.get()[result(2)] > 0;
+    let settles = kind == Kind::Descent && all && after.bytes.get()[result(0)] == 1;
+    let found = [
+        kind == Kind::SetLock && piece == Some(false),
+        kind == Kind::SetLock && piece == Some(true),
+        kind == Kind::Start && some,
+        kind == Kind::Start && all,
+        kind == Kind::Descent && some && moves,
+        settles,
+        settles && before.numbers.budget == 0,
+        kind == Kind::GuidedRun && some && moves,
+        kind == Kind::GuidedRun && all && after.words.get()[result(0)] > 0,
+    ];
+    let seen = OF_LOCKS.into_iter().zip(found);
     seen.filter_map(|(seen, found)| found.then_some(seen))
 }
 

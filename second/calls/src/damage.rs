@@ -1,7 +1,8 @@
 //! Damage to a memory that a call accepts. Each damage has the cause by which the call is refused if nothing else is damaged.
 
-use second::calls::{self, Cause};
+use second::calls::{self, Cause, TableEntry, PLANNER};
 use second::inputs::random::Random;
+use second::job::LOCKED;
 
 use crate::guarded::{Cell, Guarded};
 use crate::kind::Kind;
@@ -21,7 +22,7 @@ const fn damage(name: &'static str, cause: Cause, apply: fn(&mut Random, &mut Me
 }
 
 /// Damage to a lent job.
-const JOB: [Damage; 18] = [
+const JOB: [Damage; 19] = [
     damage("rows", Cause::LentSheet, |random, memory| {
         memory.rows = above(random, memory.rows, 512);
     }),
@@ -79,12 +80,17 @@ const JOB: [Damage; 18] = [
         let turns = 2 * random.between(8, 127) as u8 + 1;
         change(random, memory, |entry| entry[2] = turns);
     }),
+    damage("lock", Cause::LentLock, |random, memory| {
+        let lock = random.between(2, 255) as u8;
+        let lock = random.pick(&[2, 3, 128, 255, lock, lock]);
+        change(random, memory, |entry| entry[3] = lock);
+    }),
     damage("box areas", Cause::LentAreas, |random, memory| {
         // Full boxes with all their pixels there, of one pixel too many or of twice as many.
-        let table: &[[u8; 3]] = if random.chance(50) {
-            &[[255, 255, 1], [255, 2, 1], [1, 1, 1], [1, 1, 1]]
+        let table: &[TableEntry] = if random.chance(50) {
+            &[[255, 255, 1, 0], [255, 2, 1, 1], [1, 1, 1, 0], [1, 1, 1, 0]]
         } else {
-            &[[255, 255, 1], [255, 255, 1]]
+            &[[255, 255, 1, 0], [255, 255, 1, 0]]
         };
         (memory.rows, memory.columns, memory.count) = (256, 256, table.len());
         memory.table = Guarded::new(table);
@@ -116,6 +122,54 @@ const JOB: [Damage; 18] = [
         });
     }),
 ];
+
+/// The station that asks for a lock.
+const STATION: [Damage; 2] = [
+    damage("station", Cause::Station, |random, memory| {
+        // Some are the cutter's or the planner's where they are cut to a byte or a word.
+        let cut = [256, 257, 65_536, 65_537, 1 << 32, (1 << 32) + 1];
+        let near = [2, 2, 3, 255, usize::MAX];
+        memory.numbers.station = random.pick(&[&near[..], &cut[..]].concat());
+    }),
+    damage("planner's station", Cause::NotTheCutter, |_, memory| {
+        memory.numbers.station = PLANNER;
+    }),
+];
+
+/// The placements of locked pieces that a start is given; a piece is locked for it where none is.
+const LOCKED_PLACES: [Damage; 3] = [
+    damage(
+        "turn of a locked piece",
+        Cause::LockedTurn,
+        |random, memory| {
+            if let Some(piece) = locked_piece(random, memory) {
+                memory.layout.get_mut()[piece][0] = wrong_turn(random, memory, piece);
+            }
+        },
+    ),
+    damage(
+        "column of a locked piece",
+        Cause::LockedOutside,
+        |random, memory| {
+            locked_outside(random, memory, 1);
+        },
+    ),
+    damage(
+        "row of a locked piece",
+        Cause::LockedOutside,
+        |random, memory| {
+            locked_outside(random, memory, 2);
+        },
+    ),
+];
+
+/// The lock of a piece that is to be withdrawn.
+const LOCKED_PIECE: [Damage; 1] = [damage("piece locked", Cause::Locked, |_, memory| {
+    let piece = memory.numbers.i;
+    if let Some(entry) = entries(memory).get_mut(piece) {
+        entry[3] = LOCKED as u8;
+    }
+})];
 
 /// A list of turns.
 const TURNS: [Damage; 2] = [
@@ -557,6 +611,7 @@ const MOVED: [Damage; 2] = [
 pub fn damages(kind: Kind) -> (Vec<Damage>, &'static [Damage]) {
     let own: &[&[Damage]] = match kind {
         Kind::ReadJob => &[&READ_BUFFERS],
+        Kind::SetLock => &[&PIECE, &STATION],
         Kind::Strips => &[&TURNS, &STORES_SHORT],
         Kind::Stretch | Kind::StretchRefusal => &[&PIECE, &TURNS, &STORES_WRONG],
         Kind::Rebuild => &[&BOX, &REBUILT_SHORT],
@@ -577,7 +632,8 @@ pub fn damages(kind: Kind) -> (Vec<Damage>, &'static [Damage]) {
         Kind::CutLines => &[&LAYOUT_LENGTH, &LAYOUT, &LINES_SHORT],
         Kind::CutStep => &[&LAYOUT_LENGTH, &PITCH, &LAYOUT],
         Kind::LineStep => &[&PITCH],
-        Kind::Start | Kind::ReadLayout => &[&LAYOUT_LENGTH],
+        Kind::Start => &[&LAYOUT_LENGTH, &LOCKED_PLACES],
+        Kind::ReadLayout => &[&LAYOUT_LENGTH],
         Kind::WriteLayout => &[&LAYOUT_LENGTH, &LAYOUT, &TEXT_SHORT],
         Kind::LineSearch => &[&LAYOUT_LENGTH, &WEIGHTS, &PIECE, &TURN, &LAYOUT, &HELD],
         Kind::Descent => &[&LAYOUT_LENGTH, &WEIGHTS, &BUDGET, &LAYOUT],
@@ -585,7 +641,7 @@ pub fn damages(kind: Kind) -> (Vec<Damage>, &'static [Damage]) {
         Kind::Program => &[&OUTPUT_SHORT],
         Kind::Fresh => &[&COUNTS_LENGTH],
         Kind::Lay => &[&COUNTS_LENGTH, &SHEET, &PIECE, &TURN, &LAY_OUTSIDE],
-        Kind::Withdraw => &[&COUNTS_LENGTH, &SHEET, &PIECE],
+        Kind::Withdraw => &[&COUNTS_LENGTH, &SHEET, &PIECE, &LOCKED_PIECE],
     };
     (own.concat(), if kind.is_lent_a_job() { &JOB } else { &[] })
 }
@@ -670,13 +726,13 @@ fn needed_strips(memory: &Memory) -> [usize; 2] {
 }
 
 /// The table entries that the job has.
-fn entries(memory: &mut Memory) -> &mut [[u8; 3]] {
+fn entries(memory: &mut Memory) -> &mut [TableEntry] {
     let count = memory.count.min(memory.table.length());
     &mut memory.table.get_mut()[..count]
 }
 
 /// Changes a table entry.
-fn change(random: &mut Random, memory: &mut Memory, to: impl Fn(&mut [u8; 3])) {
+fn change(random: &mut Random, memory: &mut Memory, to: impl Fn(&mut TableEntry)) {
     let entries = entries(memory);
     if let Some(place) = place_in(random, entries.len()) {
         to(&mut entries[place]);
@@ -690,7 +746,7 @@ fn area(memory: &Memory) -> usize {
 }
 
 /// The pixels of a table entry's box.
-fn box_area(&[columns, rows, _]: &[u8; 3]) -> usize {
+fn box_area(&[columns, rows, ..]: &TableEntry) -> usize {
     usize::from(columns) * usize::from(rows)
 }
 
@@ -728,6 +784,32 @@ fn outside(random: &mut Random, memory: &mut Memory, field: usize) {
     memory.layout.get_mut()[place][field] = corner;
 }
 
+/// A locked piece that has an entry of the layout. Where there is none, a piece is locked and given a place at the sheet's corner, in turn 0,
+/// so that nothing else is wrong with it.
+fn locked_piece(random: &mut Random, memory: &mut Memory) -> Option<usize> {
+    let known = memory.layout.length();
+    let locked: Vec<usize> = (0..known)
+        .zip(memory.locks())
+        .filter_map(|(piece, locked)| locked.then_some(piece))
+        .collect();
+    if let Some(place) = place_in(random, locked.len()) {
+        return Some(locked[place]);
+    }
+    let piece = place_in(random, known.min(entries(memory).len()))?;
+    entries(memory)[piece][3] = LOCKED as u8;
+    memory.layout.get_mut()[piece] = [0; 3];
+    Some(piece)
+}
+
+/// Moves a locked piece of the layout outside; field 1 is the column, field 2 the row.
+fn locked_outside(random: &mut Random, memory: &mut Memory, field: usize) {
+    if let Some(piece) = locked_piece(random, memory) {
+        let turn = memory.layout.get()[piece][0];
+        let corner = corner_outside(random, memory, piece, turn, field);
+        memory.layout.get_mut()[piece][field] = corner;
+    }
+}
+
 /// A coordinate at which a piece in a turn leaves the sheet, often just so; field 1 is the column, field 2 the row.
 fn corner_outside(
     random: &mut Random,
@@ -736,7 +818,7 @@ fn corner_outside(
     turn: u16,
     field: usize,
 ) -> u16 {
-    let entry = memory.table.get().get(piece).copied().unwrap_or([1; 3]);
+    let entry = memory.table.get().get(piece).copied().unwrap_or([1; 4]);
     let sideways = turn % 180 == 90;
     let sheet = [memory.columns, memory.rows][field - 1];
     let side = entry[usize::from((field == 2) != sideways)];
@@ -769,19 +851,27 @@ mod tests {
         [&own, job].concat()
     }
 
-    /// Six pieces with some turns left out, on a sheet that has room.
-    fn scene() -> Scene {
-        let piece =
-            |number: usize, turns: usize| format!("piece,{number},3,2,{turns}\nrow,###\nrow,#.#\n");
+    /// Six pieces with some turns left out and some of them locked, on a sheet that has room.
+    fn scene(locks: [u8; 6]) -> Scene {
+        let piece = |number: usize, turns: usize| {
+            let lock = locks[number];
+            format!("piece,{number},3,2,{turns},{lock}\nrow,###\nrow,#.#\n")
+        };
         let turns = [1, 3, 5, 7, 9, 11];
         let pieces: String = (0..6).map(|number| piece(number, turns[number])).collect();
-        let text = format!("job,1,9,20,6\n{pieces}");
+        let text = format!("job,3,9,20,6,0\n{pieces}");
         Scene::new("test".to_string(), text.into_bytes())
     }
 
     #[test]
     fn each_damage_alone_gives_its_cause() {
-        let (scene, mut random) = (scene(), Random::new(1));
+        each_alone(&scene([0; 6]));
+        each_alone(&scene([0, 1, 0, 0, 1, 1]));
+    }
+
+    /// Every damage alone on a scene.
+    fn each_alone(scene: &Scene) {
+        let mut random = Random::new(1);
         for kind in Kind::ALL {
             for damage in all(kind) {
                 let mut tried = 0;
@@ -801,7 +891,7 @@ mod tests {
 
     #[test]
     fn a_refused_call_changes_nothing() {
-        let (scene, mut random) = (scene(), Random::new(2));
+        let (scene, mut random) = (scene([0, 1, 0, 0, 1, 1]), Random::new(2));
         for kind in Kind::ALL {
             for damage in all(kind) {
                 let mut memory = scene.memory(&mut random, kind);

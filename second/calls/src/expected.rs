@@ -43,6 +43,7 @@ pub fn call(kind: Kind, memory: &mut Memory) -> Expected {
         Kind::StretchRefusal => stretch_refusal(memory),
         Kind::Program => reply(program(memory)),
         Kind::ReadJob => reply(read_job(memory)),
+        Kind::SetLock => reply(set_lock(memory)),
         Kind::Strips | Kind::Rebuild => reply(strips(kind, memory)),
         Kind::NoFitRow | Kind::NoFitColumn => reply(no_fit(kind, memory)),
         Kind::SharesPixel | Kind::Depth | Kind::Penalty => reply(pair(kind, memory)),
@@ -67,6 +68,14 @@ fn read_job(memory: &mut Memory) -> Result<(), Refusal> {
     for (place, number) in numbers.into_iter().enumerate() {
         memory.sizes.get_mut()[result(place)] = number;
     }
+    Ok(())
+}
+
+/// Sets a lock.
+fn set_lock(memory: &mut Memory) -> Result<(), Refusal> {
+    let (piece, station) = (memory.numbers.i, memory.numbers.station);
+    let entry = calls::set_lock(&memory.job(), piece, station)?;
+    memory.table.get_mut()[piece] = entry;
     Ok(())
 }
 

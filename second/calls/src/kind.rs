@@ -6,6 +6,7 @@ use second::calls::Cause::{self, *};
 #[derive(Clone, Copy, Debug, PartialEq, Eq, PartialOrd, Ord)]
 pub enum Kind {
     ReadJob,
+    SetLock,
     Strips,
     Stretch,
     StretchRefusal,
@@ -36,17 +37,18 @@ pub enum Kind {
 }
 
 /// The causes of a lent job.
-const JOB: [Cause; 10] = [
-    LentSheet, LentCount, LentGap, LentTable, LentBox, LentTurns, LentAreas, LentPixels, LentPixel,
-    LentLoose,
+const JOB: [Cause; 11] = [
+    LentSheet, LentCount, LentGap, LentTable, LentBox, LentTurns, LentLock, LentAreas, LentPixels,
+    LentPixel, LentLoose,
 ];
 
 impl Kind {
     /// All calls, in the header's order.
-    pub const ALL: [Kind; 28] = {
+    pub const ALL: [Kind; 29] = {
         use Kind::*;
         [
             ReadJob,
+            SetLock,
             Strips,
             Stretch,
             StretchRefusal,
@@ -105,6 +107,7 @@ impl Kind {
                 BoxAboveSheet,
                 BufferShort,
             ],
+            Kind::SetLock => &[Station, NoPiece, NotTheCutter],
             Kind::Strips => &[TurnsLength, Turn, BufferShort],
             Kind::Stretch | Kind::StretchRefusal => &[NoPiece, TurnsLength, Turn, Store],
             Kind::Rebuild => &[Side, Strips, BufferShort],
@@ -125,7 +128,7 @@ impl Kind {
                 NewOutside,
             ],
             Kind::Check => &[LayoutLength, LayoutTurn, Outside, Conflict],
-            Kind::Start => &[LayoutLength],
+            Kind::Start => &[LayoutLength, LockedTurn, LockedOutside],
             Kind::WriteLayout => &[LayoutLength, LayoutTurn, Outside, BufferShort],
             Kind::ReadLayout => &[Form, TextNumber, Turn, Outside, LayoutLength],
             Kind::CutLines => &[LayoutLength, LayoutTurn, Outside, Conflict, BufferShort],
@@ -161,7 +164,7 @@ impl Kind {
             Kind::Program => &[BufferShort],
             Kind::Fresh => &[CountsLength],
             Kind::Lay => &[CountsLength, Record, Counts, NoPiece, Turn, Laid, Outside],
-            Kind::Withdraw => &[CountsLength, Record, Counts, NoPiece, NotLaid],
+            Kind::Withdraw => &[CountsLength, Record, Counts, NoPiece, NotLaid, Locked],
         }
     }
 

@@ -1,7 +1,8 @@
 //! Everything that a call may be lent. A call uses some of it; all of it is compared.
 
-use second::calls::{Lent, Stretch, RECORD};
+use second::calls::{Lent, Stretch, TableEntry, RECORD};
 use second::inputs::random::Random;
+use second::job::LOCKED;
 
 use crate::guarded::Guarded;
 
@@ -24,6 +25,8 @@ pub struct Numbers {
     /// The pitch and the number of a step.
     pub pitch: u32,
     pub step: u64,
+    /// The station that asks for a lock.
+    pub station: usize,
     /// The box of a rebuilding.
     pub box_columns: u16,
     pub box_rows: u16,
@@ -37,7 +40,7 @@ pub struct Memory {
     pub count: usize,
     pub gap: usize,
     pub numbers: Numbers,
-    pub table: Guarded<[u8; 3]>,
+    pub table: Guarded<TableEntry>,
     pub pixels: Guarded<u8>,
     pub turns: Guarded<u16>,
     /// The row store; the strips of a rebuilding; those of the first piece of a pair.
@@ -125,6 +128,13 @@ impl Memory {
             table: self.table.get(),
             pixels: self.pixels.get(),
         }
+    }
+
+    /// For each piece whether it is locked.
+    pub fn locks(&self) -> impl Iterator<Item = bool> + '_ {
+        let count = self.count.min(self.table.length());
+        let entries = self.table.get()[..count].iter();
+        entries.map(|entry| usize::from(entry[3]) == LOCKED)
     }
 
     /// The pair of a no-fit line as the second program is lent it.

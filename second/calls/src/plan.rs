@@ -25,6 +25,18 @@ const LAYOUT_TEXTS: usize = 6;
 /// Lays and withdraws from a fresh sheet of a job, at most.
 const SHEET_CALLS: usize = 60;
 
+/// Calls on a job while its pieces are locked one by one.
+const CUTTING_CALLS: usize = 20;
+
+/// Which calls these are.
+const WHILE_CUT: [Kind; 12] = {
+    use Kind::*;
+    [
+        SetLock, SetLock, SetLock, Start, Descent, GuidedRun, LineSearch, Preview, PlainSum, Lay,
+        Lay, Withdraw,
+    ]
+};
+
 /// Inputs whose program run is compared; the program itself is compared elsewhere on all of them.
 const PROGRAM_TEXT: usize = 2_000;
 
@@ -173,6 +185,9 @@ fn run_scene(comparison: &mut Comparison, scene: &Scene, number: usize) {
     }
     run_layout_texts(comparison, random, scene);
     run_sheet(comparison, random, scene);
+    if scene.is_small() {
+        run_cutting(comparison, random, scene);
+    }
 }
 
 /// The calls whose numbers are the largest that there can be, on the layouts that have them.
@@ -298,6 +313,44 @@ fn run_sheet(comparison: &mut Comparison, random: &mut Random, scene: &Scene) {
         let kind = random.pick(&[Kind::Lay, Kind::Lay, Kind::Withdraw]);
         comparison.call(kind, &mut memory, &origin);
     }
+}
+
+/// A list of calls while one piece after the other is locked, some of them refused; the memory is carried from call to call. No call clears
+/// a lock, and a locked piece stays where it lies.
+fn run_cutting(comparison: &mut Comparison, random: &mut Random, scene: &Scene) {
+    let origin = Origin {
+        scene: &scene.name,
+        damages: &["list of calls with locks"],
+    };
+    let mut memory = scene.memory(random, Kind::GuidedRun);
+    let sheet = scene.memory(random, Kind::Fresh);
+    (memory.record, memory.counts) = (sheet.record, sheet.counts);
+    comparison.call(Kind::Fresh, &mut memory, &origin);
+    let (refused, _) = damages(Kind::SetLock);
+    for _ in 0..CUTTING_CALLS {
+        let kind = random.pick(&WHILE_CUT);
+        scene.choose_lay(random, &mut memory);
+        if kind == Kind::SetLock {
+            scene.choose_lock(random, &mut memory);
+            if random.chance(40) {
+                (random.pick(&refused).apply)(random, &mut memory);
+            }
+        }
+        memory.workspace = match kind.has_workspace() {
+            true => comparison.workspace(random),
+            false => Guarded::new(&[]),
+        };
+        let before = memory.clone();
+        comparison.call(kind, &mut memory, &origin);
+        assert!(locked_stay(&before, &memory), "{kind:?} on {}", scene.name);
+    }
+}
+
+/// Whether every piece that was locked is locked and has its entry of the layout.
+fn locked_stay(before: &Memory, after: &Memory) -> bool {
+    let places = before.layout.get().iter().zip(after.layout.get());
+    let mut pieces = before.locks().zip(after.locks()).zip(places);
+    pieces.all(|((was, is), (place, now))| !was || is && place == now)
 }
 
 /// Damaged job texts through the reader and, where they are short, through the program.
@@ -603,6 +656,120 @@ mod tests {
     }
 
     #[test]
+    fn all_that_has_to_come_up_with_locks() {
+        let missing = compared(&same).missing();
+        let of_locks = |text: &&String| {
+            let numbers = ["by 15,", "by 16,", "LentLock", "Station", "Locked"];
+            text.starts_with("no call is ") || numbers.iter().any(|number| text.contains(number))
+        };
+        assert_eq!(missing.iter().filter(of_locks).count(), 0, "{missing:?}");
+    }
+
+    #[test]
+    fn a_lock_that_a_second_call_clears() {
+        assert_told(Kind::SetLock, &|kind, memory| {
+            let was = memory.locks().nth(memory.numbers.i);
+            let returned = same(kind, memory);
+            if kind == Kind::SetLock && returned.reply[0] == 0 && was == Some(true) {
+                let piece = memory.numbers.i;
+                memory.table.get_mut()[piece][3] = 0;
+            }
+            returned
+        });
+    }
+
+    #[test]
+    fn every_other_station_as_the_cutters() {
+        assert_told(Kind::SetLock, &|kind, memory| {
+            let station = memory.numbers.station;
+            if kind == Kind::SetLock && station > 1 {
+                memory.numbers.station = 1;
+            }
+            let returned = same(kind, memory);
+            memory.numbers.station = station;
+            returned
+        });
+    }
+
+    #[test]
+    fn a_planner_who_is_told_before_the_piece() {
+        assert_told(Kind::SetLock, &|kind, memory| {
+            let mut returned = same(kind, memory);
+            let planner = memory.numbers.station == 0;
+            if kind == Kind::SetLock && planner && returned.reply[0] == 9 {
+                returned.reply[0] = 16;
+            }
+            returned
+        });
+    }
+
+    /// Makes the second program's call on a table whose locks of right numbers are taken for others; the table is as before after it.
+    fn with_locks(kind: Kind, memory: &mut Memory, lock: fn(u8) -> u8) -> Returned {
+        let before = memory.table.clone();
+        for entry in memory.table.get_mut() {
+            entry[3] = lock(entry[3]);
+        }
+        let returned = same(kind, memory);
+        memory.table = before;
+        returned
+    }
+
+    /// The lock of a free piece in place of that of a locked one.
+    fn freed(lock: u8) -> u8 {
+        if lock == 1 {
+            0
+        } else {
+            lock
+        }
+    }
+
+    #[test]
+    fn locked_pieces_that_are_stacked_shifted_or_withdrawn() {
+        for wrong in [Kind::Start, Kind::Descent, Kind::GuidedRun, Kind::Withdraw] {
+            assert_told(wrong, &|kind, memory| {
+                if kind == wrong {
+                    return with_locks(kind, memory, freed);
+                }
+                same(kind, memory)
+            });
+        }
+    }
+
+    #[test]
+    fn a_start_that_reads_the_entries_of_free_pieces() {
+        assert_told(Kind::Start, &|kind, memory| {
+            if kind == Kind::Start {
+                let mut all = memory.clone();
+                let returned = with_locks(kind, &mut all, |lock| lock.max(1));
+                if returned.reply[0] != 0 {
+                    return returned;
+                }
+            }
+            same(kind, memory)
+        });
+    }
+
+    #[test]
+    fn a_lock_above_1_that_is_taken_for_locked() {
+        assert_told(Kind::Fresh, &|kind, memory| match kind {
+            Kind::Fresh => with_locks(kind, memory, |lock| lock.min(1)),
+            _ => same(kind, memory),
+        });
+    }
+
+    #[test]
+    fn a_withdraw_that_tells_the_lock_first() {
+        assert_told(Kind::Withdraw, &|kind, memory| {
+            let mut returned = same(kind, memory);
+            let locked = memory.locks().nth(memory.numbers.i) == Some(true);
+            if kind == Kind::Withdraw && returned.reply[0] == 14 && locked {
+                returned.reply[0] = 15;
+            }
+            returned
+        });
+    }
+
+    #[test]
     fn a_refused_lay_that_writes() {
         assert_told(Kind::Lay, &|kind, memory| {
             let returned = same(kind, memory);
@@ -809,7 +976,9 @@ mod tests {
         let comparison = Comparison::new(&same);
         let causes: usize = Kind::ALL.iter().map(|kind| kind.causes().len()).sum();
         let missing = comparison.missing();
-        assert_eq!(missing.len(), causes + Kind::ALL.len() + 3 + 2 * 5);
+        assert_eq!(missing.len(), causes + Kind::ALL.len() + 3 + 2 * 5 + 9);
+        assert!(missing.contains(&"no call of SetLock is refused by 16, NotTheCutter".to_string()));
+        assert!(missing.contains(&"no call is a lock set again".to_string()));
         assert!(missing.contains(&"no call of Lay is refused by 13, Laid".to_string()));
         assert!(missing.contains(&"no call of NoFitColumn finds a run to 262".to_string()));
         assert!(!comparison.is_well());

@@ -1,6 +1,6 @@
 //! Inputs that the calls accept, made from a job.
 
-use second::calls::{self, Lent, OUTPUT, RECORD};
+use second::calls::{self, Lent, TableEntry, CUTTER, OUTPUT, RECORD};
 use second::inputs::random::Random;
 use second::job::{self, Job};
 use second::layout;
@@ -19,7 +19,7 @@ pub struct Scene {
     pub name: String,
     pub text: Vec<u8>,
     job: Job,
-    table: Vec<[u8; 3]>,
+    table: Vec<TableEntry>,
     pixels: Vec<u8>,
 }
 
@@ -32,7 +32,7 @@ impl Scene {
             .iter()
             .map(|piece| piece.shape.columns() * piece.shape.rows())
             .sum();
-        let (mut table, mut pixels) = (vec![[0; 3]; job.pieces.len()], vec![0; area]);
+        let (mut table, mut pixels) = (vec![[0; 4]; job.pieces.len()], vec![0; area]);
         calls::read_job(&text, &mut table, &mut pixels).expect("the buffers are long enough");
         Scene {
             name,
@@ -94,7 +94,7 @@ impl Scene {
     fn layout(&self, random: &mut Random) -> Vec<[u16; 3]> {
         let part = random.pick(&[1, 2, 4, 100]);
         if random.chance(25) {
-            let start = layout::start(&self.job);
+            let start = layout::own_start(&self.job);
             return start
                 .iter()
                 .map(|place| [0, place.x as u16, place.y as u16])
@@ -103,6 +103,17 @@ impl Scene {
         (0..self.count())
             .map(|piece| self.place(random, piece, part))
             .collect()
+    }
+
+    /// A layout that a start is given: inside in allowed turns for locked pieces, arbitrary for free ones.
+    fn locked_layout(&self, random: &mut Random) -> Vec<[u16; 3]> {
+        let mut layout = Guarded::junk(random, self.count()).get().to_vec();
+        for (number, piece) in self.job.pieces.iter().enumerate() {
+            if piece.locked {
+                layout[number] = self.place(random, number, 1);
+            }
+        }
+        layout
     }
 
     /// A layout in which no two pieces conflict, where a short search finds one.
@@ -141,6 +152,7 @@ impl Scene {
         }
         match kind {
             Kind::ReadJob => self.fill_text(random, &mut memory),
+            Kind::SetLock => self.choose_lock(random, &mut memory),
             Kind::Strips => self.fill_stores(random, &mut memory, false),
             Kind::Stretch | Kind::StretchRefusal => self.fill_stores(random, &mut memory, true),
             Kind::Rebuild => self.fill_box(random, &mut memory),
@@ -166,6 +178,12 @@ impl Scene {
         let (table, pixels) = (random.between(0, 3), random.between(0, 9));
         memory.table = Guarded::junk(random, self.count() + table);
         memory.pixels = Guarded::junk(random, self.pixels.len() + pixels);
+    }
+
+    /// A piece to be locked from the cutter's station.
+    pub fn choose_lock(&self, random: &mut Random, memory: &mut Memory) {
+        memory.numbers.i = self.piece(random);
+        memory.numbers.station = CUTTER;
     }
 
     /// Turns, and stores of arbitrary or of right content.
@@ -296,7 +314,7 @@ impl Scene {
     /// A layout with what the calls about layouts and the searches take beside it.
     fn fill_layout(&self, random: &mut Random, memory: &mut Memory, kind: Kind) {
         let layout = match kind {
-            Kind::Start => Guarded::junk(random, self.count()).get().to_vec(),
+            Kind::Start => self.locked_layout(random),
             Kind::Check if self.is_small() && random.chance(50) => self.clear_layout(random),
             _ => self.layout(random),
         };

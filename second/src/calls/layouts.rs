@@ -162,11 +162,25 @@ fn apart(job: &Job, places: &[Placement]) -> Result<(), Refusal> {
     }
 }
 
-/// Fills the start layout.
+/// Fills the start layout; the entries of locked pieces are the placements that they keep, the others are not read.
 pub fn start(lent: &Lent, layout: &mut [[u16; 3]]) -> Result<(), Refusal> {
     let job = lent.job()?;
     require(layout.len() == lent.count, Cause::LayoutLength)?;
-    write_placements(layout, &layout::start(&job));
+    let locked = || (0..lent.count).filter(|&index| job.pieces[index].locked);
+    let turn = |index: usize| job.pieces[index].turn_of(usize::from(layout[index][0]));
+    require(
+        locked().all(|index| turn(index).is_some()),
+        Cause::LockedTurn,
+    )?;
+    let given = |index: usize| {
+        let [_, x, y] = layout[index].map(usize::from);
+        let turn = turn(index).expect("the turns of locked pieces are allowed");
+        Placement { turn, x, y }
+    };
+    let is_inside = |index: usize| inside(&job, &job.pieces[index], &given(index));
+    require(locked().all(is_inside), Cause::LockedOutside)?;
+    let places = layout::start(&job, given);
+    write_placements(layout, &places);
     Ok(())
 }
 

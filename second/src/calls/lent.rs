@@ -1,18 +1,21 @@
 //! A job in a caller's buffers: cause 8 of every call that is lent one, and the causes of a layout beside it.
 
 use super::{require, Cause, Refusal};
-use crate::job::{Job, Piece, MAX_AREA, MAX_GAP};
+use crate::job::{Job, Piece, FREE, LOCKED, MAX_AREA, MAX_GAP};
 use crate::layout::{inside, Placement};
 use crate::shape::Shape;
 
-/// W, L, n, the gap, the piece table {l, w, o} and the pixel bytes.
+/// A piece's entry of the table: {l, w, o, lock}.
+pub type TableEntry = [u8; 4];
+
+/// W, L, n, the gap, the piece table and the pixel bytes.
 #[derive(Clone, Copy, Debug)]
 pub struct Lent<'a> {
     pub rows: usize,
     pub columns: usize,
     pub count: usize,
     pub gap: usize,
-    pub table: &'a [[u8; 3]],
+    pub table: &'a [TableEntry],
     pub pixels: &'a [u8],
 }
 
@@ -27,15 +30,17 @@ impl Lent<'_> {
         require((1..=64).contains(&self.count), Cause::LentCount)?;
         require(self.gap <= MAX_GAP, Cause::LentGap)?;
         let table = self.table.get(..self.count).ok_or(Cause::LentTable)?;
-        for &[columns, rows, turns] in table {
+        for &[columns, rows, turns, lock] in table {
             let fits = |side: u8, sheet: usize| (1..=sheet).contains(&usize::from(side));
             require(
                 fits(columns, self.columns) && fits(rows, self.rows),
                 Cause::LentBox,
             )?;
             require(turns % 2 == 1 && turns <= 15, Cause::LentTurns)?;
+            let known = [FREE, LOCKED].contains(&usize::from(lock));
+            require(known, Cause::LentLock)?;
         }
-        let area = |&[columns, rows, _]: &[u8; 3]| usize::from(columns) * usize::from(rows);
+        let area = |&[columns, rows, ..]: &TableEntry| usize::from(columns) * usize::from(rows);
         let total: usize = table.iter().map(area).sum();
         require(total <= MAX_AREA, Cause::LentAreas)?;
         let pixels = self.pixels.get(..total).ok_or(Cause::LentPixels)?;
@@ -49,7 +54,8 @@ impl Lent<'_> {
             let bits = own.iter().map(|&byte| byte == 1).collect();
             let shape = Shape::new(usize::from(entry[0]), bits);
             require(shape.is_tight(), Cause::LentLoose)?;
-            pieces.push(Piece::new(shape, usize::from(entry[2])));
+            let [_, _, turns, lock] = entry.map(usize::from);
+            pieces.push(Piece::new(shape, turns, lock == LOCKED));
         }
         Ok(Job {
             rows: self.rows,

@@ -1,12 +1,13 @@
-//! The public calls of document 01 over buffers that a caller lends, with every cause of refusal in its order.
+//! The public calls of documents 01 and 02 over buffers that a caller lends, with every cause of refusal in its order.
 //!
 //! A call checks all its causes before it writes anything, so that a refused call leaves the buffers as they are. Placements, strips and
 //! turns stand in the buffers as the interface for C lays them down: a turn is its degrees, a layout entry is {turn, x, y}, a strip
-//! {line, first, count}, a record entry {laid, turn, x, y}.
+//! {line, first, count}, a record entry {laid, turn, x, y}, a table entry {l, w, o, lock}.
 
 mod cut;
 mod layouts;
 mod lent;
+mod locks;
 mod pairs;
 mod sheet;
 mod strips;
@@ -17,7 +18,8 @@ pub use layouts::{
     check, descent, guided_run, line_search, plain_sum, preview, start, used_length, weighted_sum,
     Ended, Figures, Line, Move, Run, Weighted,
 };
-pub use lent::Lent;
+pub use lent::{Lent, TableEntry};
+pub use locks::{set_lock, CUTTER, PLANNER};
 pub use pairs::{depth, no_fit_line, penalty, shares_pixel, Stretch};
 pub use sheet::{fresh, lay, withdraw, Counts, RecordEntry, RECORD};
 pub use strips::{rebuild, stretch, strips, Stores, StoresMut};
@@ -35,6 +37,7 @@ pub enum Cause {
     Rounds,
     Side,
     Pitch,
+    Station,
     SheetArea,
     BoxAreas,
     LooseBox,
@@ -49,6 +52,7 @@ pub enum Cause {
     LentTable,
     LentBox,
     LentTurns,
+    LentLock,
     LentAreas,
     LentPixels,
     LentPixel,
@@ -63,34 +67,41 @@ pub enum Cause {
     TurnsLength,
     Turn,
     LayoutTurn,
+    LockedTurn,
     Outside,
+    LockedOutside,
     NewOutside,
     NoPlace,
     Conflict,
     Laid,
     NotLaid,
+    Locked,
+    NotTheCutter,
 }
 
 impl Cause {
-    /// The number of document 01.
+    /// The number of document 01, or from 15 on of document 02.
     pub fn number(self) -> u32 {
         use Cause::*;
         match self {
             Form => 1,
-            TextNumber | Weight | Budget | Rounds | Side | Pitch => 2,
+            TextNumber | Weight | Budget | Rounds | Side | Pitch | Station => 2,
             SheetArea => 3,
             BoxAreas => 4,
             LooseBox => 5,
             BoxAboveSheet => 6,
             BufferShort | LayoutLength | WeightsLength | CountsLength => 7,
-            LentSheet | LentCount | LentGap | LentTable | LentBox | LentTurns | LentAreas
-            | LentPixels | LentPixel | LentLoose | Store | Stretch | Strips | Record | Counts => 8,
-            NoPiece | SamePiece | TurnsLength | Turn | LayoutTurn => 9,
-            Outside | NewOutside => 10,
+            LentSheet | LentCount | LentGap | LentTable | LentBox | LentTurns | LentLock
+            | LentAreas | LentPixels | LentPixel | LentLoose | Store | Stretch | Strips
+            | Record | Counts => 8,
+            NoPiece | SamePiece | TurnsLength | Turn | LayoutTurn | LockedTurn => 9,
+            Outside | LockedOutside | NewOutside => 10,
             NoPlace => 11,
             Conflict => 12,
             Laid => 13,
             NotLaid => 14,
+            Locked => 15,
+            NotTheCutter => 16,
         }
     }
 }

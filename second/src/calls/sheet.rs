@@ -82,13 +82,14 @@ pub fn lay(lent: &Lent, sheet: Counts, number: usize, at: [u16; 3]) -> Result<()
     Ok(())
 }
 
-/// Withdraws a laid piece.
+/// Withdraws a laid piece that is free.
 pub fn withdraw(lent: &Lent, sheet: Counts, number: usize) -> Result<(), Refusal> {
     let job = sheet.checked(lent)?;
     let piece = job.pieces.get(number).ok_or(Cause::NoPiece)?;
     let [laid, turn, x, y] = sheet.record[number];
     let place = placement(piece, [turn, x, y]).filter(|_| laid == 1);
     let place = place.ok_or(Cause::NotLaid)?;
+    require(!piece.locked, Cause::Locked)?;
     for pixel in covered(&job, piece, &place) {
         sheet.counts[pixel] -= 1;
     }

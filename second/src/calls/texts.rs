@@ -1,7 +1,7 @@
 //! The texts: a job read, a layout written and read, the program.
 
 use super::lent::{placements, write_placements};
-use super::{require, Cause, Lent, Refusal};
+use super::{require, Cause, Lent, Refusal, TableEntry};
 use crate::{job, layout};
 
 /// No output of the program is longer.
@@ -10,7 +10,7 @@ pub const OUTPUT: usize = 4_096;
 /// Reads a job text into a table and a pixel store; gives W, L, n and the gap.
 pub fn read_job(
     text: &[u8],
-    table: &mut [[u8; 3]],
+    table: &mut [TableEntry],
     pixels: &mut [u8],
 ) -> Result<[usize; 4], Refusal> {
     let job = job::read(text)?;
@@ -20,7 +20,9 @@ pub fn read_job(
     require(pixels.len() >= total, Cause::BufferShort)?;
     for (entry, piece) in table.iter_mut().zip(&job.pieces) {
         let shape = &piece.shape;
-        *entry = [shape.columns(), shape.rows(), piece.turn_sum()].map(|number| number as u8);
+        let lock = if piece.locked { job::LOCKED } else { job::FREE };
+        let numbers = [shape.columns(), shape.rows(), piece.turn_sum(), lock];
+        *entry = numbers.map(|number| number as u8);
     }
     for (byte, pixel) in pixels
         .iter_mut()

@@ -24,6 +24,7 @@ pub fn kinds() -> Vec<Kind> {
         Kind::new("number misspelt", 150, number_misspelt),
         Kind::new("number changed", 250, number_changed),
         Kind::new("gap or version", 120, gap_or_version),
+        Kind::new("lock or version", 120, lock_or_version),
         Kind::new("sheet area", 50, sheet_area),
         Kind::new("box areas", 40, box_areas),
         Kind::new("piece too large", 40, piece_too_large),
@@ -35,7 +36,7 @@ pub fn kinds() -> Vec<Kind> {
 }
 
 /// Texts that a reader can stumble over, the empty one first.
-const FIXED: [&[u8]; 26] = [
+const FIXED: [&[u8]; 33] = [
     b"",
     b"\n",
     b"\n\n\n",
@@ -60,29 +61,47 @@ const FIXED: [&[u8]; 26] = [
     b"job,2,1,1,1,08\npiece,0,1,1,1\nrow,#\n",
     b"job,1,1,1,1,0\npiece,0,1,1,1\nrow,#\n",
     b"job,3,1,1,1,0\npiece,0,1,1,1\nrow,#\n",
+    b"job,3,1,1,1,0\npiece,0,1,1,1,0\nrow,#\n",
+    b"job,3,1,1,1,8\npiece,0,1,1,1,1\nrow,#\n",
+    b"job,3,1,1,1,0\npiece,0,1,1,1,2\nrow,#\n",
+    b"job,3,1,1,1\npiece,0,1,1,1,1\nrow,#\n",
+    b"job,2,1,1,1,0\npiece,0,1,1,1,0\nrow,#\n",
+    b"job,1,1,1,1\npiece,0,1,1,1,0\nrow,#\n",
+    b"job,4,1,1,1,0\npiece,0,1,1,1,0\nrow,#\n",
     b"job,2,512,4096,64,9\n",
     b"job,2,512,4096,64,8\n",
 ];
 
-/// The text of a small job, on which damage is done, in either version.
+/// The text of a small job, on which damage is done, in any version.
 fn small_text(random: &mut Random) -> Vec<u8> {
     let job = jobs::small(random);
-    either_text(random, &job)
+    any_text(random, &job)
 }
 
-/// The text of a job in either version.
-fn either_text(random: &mut Random, job: &Job) -> Vec<u8> {
-    if random.chance(50) {
-        job.text()
-    } else {
-        job.text_with_gap(jobs::any_gap(random))
+/// The text of a job in any version.
+fn any_text(random: &mut Random, job: &Job) -> Vec<u8> {
+    let gap = jobs::any_gap(random);
+    match random.between(1, 3) {
+        1 => job.text(),
+        2 => job.text_with_gap(gap),
+        _ => {
+            let percent = jobs::any_locks(random);
+            job.text_with_locks(random, gap, percent)
+        }
     }
 }
 
 /// A text of each version without its end, from each of its bytes on.
 fn cut_at_every_byte() -> Vec<Vec<u8>> {
-    let pieces = "piece,0,10,2,5\nrow,##########\nrow,#........#\npiece,1,2,1,15\nrow,##\n";
-    let texts = ["job,1,3,12,2", "job,2,3,12,2,7"].map(|line| format!("{line}\n{pieces}"));
+    let versions = [
+        ("job,1,3,12,2", ["", ""]),
+        ("job,2,3,12,2,7", ["", ""]),
+        ("job,3,3,12,2,7", [",1", ",0"]),
+    ];
+    let texts = versions.map(|(line, [first, second])| {
+        let rows = "row,##########\nrow,#........#\n";
+        format!("{line}\npiece,0,10,2,5{first}\n{rows}piece,1,2,1,15{second}\nrow,##\n")
+    });
     let ends = |text: &String| {
         let text = text.clone().into_bytes();
         (0..text.len()).map(move |end| text[..end].to_vec())
@@ -191,7 +210,7 @@ fn more_after_the_end(random: &mut Random) -> Vec<u8> {
         "\0".to_string(),
         " ".to_string(),
     ];
-    let mut text = either_text(random, &job);
+    let mut text = any_text(random, &job);
     text.extend(more[random.between(0, more.len() - 1)].bytes());
     text
 }
@@ -263,9 +282,9 @@ const GAPS: [&str; 20] = [
     "00", "", "-1", "+1", "100000",
 ];
 
-/// Versions: mostly the one that has a gap, the one that has none, some that are not known, and no numbers.
-const VERSIONS: [&str; 16] = [
-    "2", "2", "2", "2", "2", "2", "2", "2", "2", "1", "1", "3", "0", "02", "258", "65538",
+/// Versions: mostly the one that has a gap, the one that has none, the one that has locks, some that are not known, and no numbers.
+const VERSIONS: [&str; 17] = [
+    "2", "2", "2", "2", "2", "2", "2", "2", "2", "1", "1", "3", "4", "0", "02", "258", "65538",
 ];
 
 /// A text whose first line has some version and the fields of that version or of another one, often with a gap that none has.
@@ -286,6 +305,41 @@ fn gap_or_version(random: &mut Random) -> Vec<u8> {
     format!("{line}\n{pieces}").into_bytes()
 }
 
+/// Spellings of what follows the turns of a piece: mostly a lock, locks that are none or are cut to a right number, no lock, or two.
+const LOCKS: [&str; 20] = [
+    ",0", ",0", ",0", ",1", ",1", ",1", ",2", ",2", ",3", ",255", ",256", ",257", ",65536",
+    ",65537", ",99999", ",00", ",01", ",", "", ",0,1",
+];
+
+/// A text of version 3, or of another one, with a piece line whose lock is spelt anew.
+fn lock_or_version(random: &mut Random) -> Vec<u8> {
+    let mut job = jobs::small(random);
+    let changed = random.between(0, job.pieces.len() - 1);
+    // A piece that is too large as well comes after the lock.
+    if random.chance(10) {
+        job.pieces[changed].shape = shapes::full(job.columns + 1, 1);
+    }
+    let (rows, columns, count) = (job.rows, job.columns, job.pieces.len());
+    let gap = jobs::any_gap(random);
+    let line = match random.between(1, 10) {
+        1 => format!("job,1,{rows},{columns},{count}\n"),
+        2 => format!("job,2,{rows},{columns},{count},{gap}\n"),
+        3 => format!("job,4,{rows},{columns},{count},{gap}\n"),
+        _ => format!("job,3,{rows},{columns},{count},{gap}\n"),
+    };
+    let piece = |(number, piece): (usize, &Piece)| {
+        let right = random.pick(&[",0", ",1"]);
+        let lock = if number == changed {
+            random.pick(&LOCKS)
+        } else {
+            right
+        };
+        piece.text_ending(number, lock)
+    };
+    let pieces: String = job.pieces.iter().enumerate().map(piece).collect();
+    (line + &pieces).into_bytes()
+}
+
 /// A small job on a sheet of about the largest area, just above it or far above.
 fn sheet_area(random: &mut Random) -> Vec<u8> {
     let mut job = jobs::small(random);
@@ -294,7 +348,7 @@ fn sheet_area(random: &mut Random) -> Vec<u8> {
     job.columns = random
         .pick(&[columns, columns, columns + 100, 4096])
         .min(4096);
-    either_text(random, &job)
+    any_text(random, &job)
 }
 
 /// A text whose last piece line brings the box areas to the largest total, just below or above.
@@ -328,7 +382,7 @@ fn piece_too_large(random: &mut Random) -> Vec<u8> {
     };
     let place = random.between(0, job.pieces.len());
     job.pieces.insert(place, Piece::new(random, shape));
-    either_text(random, &job)
+    any_text(random, &job)
 }
 
 /// A job with a piece whose box has an empty line at one of its sides, added or made empty.
@@ -347,12 +401,12 @@ fn loose_box(random: &mut Random) -> Vec<u8> {
         6 => shape.iter_mut().for_each(|row| row[0] = false),
         _ => shape.iter_mut().for_each(|row| row[last_x] = false),
     }
-    either_text(random, &job)
+    any_text(random, &job)
 }
 
 /// Bytes at random, after a right first line or none.
 fn random_bytes(random: &mut Random) -> Vec<u8> {
-    let lines = ["", "job,1,9,9,3\n", "job,2,9,9,3,4\n"];
+    let lines = ["", "job,1,9,9,3\n", "job,2,9,9,3,4\n", "job,3,9,9,3,4\n"];
     let mut text = random.pick(&lines).as_bytes().to_vec();
     let any_byte = random.chance(50);
     for _ in 0..random.between(1, 300) {
@@ -370,6 +424,7 @@ fn words_in_disorder(random: &mut Random) -> Vec<u8> {
     let words = [
         "job,",
         "job,2,",
+        "job,3,",
         "piece,",
         "row,",
         "0",
@@ -386,12 +441,14 @@ fn words_in_disorder(random: &mut Random) -> Vec<u8> {
         "1,2,2,2\n",
         "row,#\n",
         "piece,1,1,1,1\n",
+        "piece,1,1,1,1,1\n",
     ];
     let mut text = random
         .pick(&[
             "",
             "job,1,2,2,2\npiece,0,1,1,1\n",
             "job,2,2,2,2,1\npiece,0,1,1,1\n",
+            "job,3,2,2,2,1\npiece,0,1,1,1,1\n",
         ])
         .to_string();
     for _ in 0..random.between(1, 20) {

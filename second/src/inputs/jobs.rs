@@ -41,10 +41,15 @@ impl Piece {
         self.shape.iter().flatten().filter(|&&pixel| pixel).count()
     }
 
-    /// The lines of the piece in a job text.
+    /// The lines of the piece in a job text of version 1 or 2.
     pub fn text(&self, number: usize) -> String {
+        self.text_ending(number, "")
+    }
+
+    /// The lines of the piece in a job text, with what its first line has behind the turns: in version 3 a comma and the lock.
+    pub fn text_ending(&self, number: usize, end: &str) -> String {
         let (columns, rows, turns) = (self.columns(), self.rows(), self.turns);
-        let mut text = format!("piece,{number},{columns},{rows},{turns}\n");
+        let mut text = format!("piece,{number},{columns},{rows},{turns}{end}\n");
         for row in &self.shape {
             let mark = |&pixel: &bool| if pixel { '#' } else { '.' };
             let marks: String = row.iter().map(mark).collect();
@@ -82,6 +87,17 @@ impl Job {
         text.into_bytes()
     }
 
+    /// The job text in version 3, so many of a hundred pieces locked.
+    pub fn text_with_locks(&self, random: &mut Random, gap: usize, percent: usize) -> Vec<u8> {
+        let (rows, columns, count) = (self.rows, self.columns, self.pieces.len());
+        let mut text = format!("job,3,{rows},{columns},{count},{gap}\n");
+        for (number, piece) in self.pieces.iter().enumerate() {
+            let lock = if random.chance(percent) { ",1" } else { ",0" };
+            text += &piece.text_ending(number, lock);
+        }
+        text.into_bytes()
+    }
+
     /// Pieces on a sheet of some rows more than the widest one has, with so many of a hundred sheet
     /// pixels covered when none overlap, as far as the longest piece and the limit of area allow.
     fn filled(pieces: Vec<Piece>, more_rows: usize, percent: usize) -> Job {
@@ -97,13 +113,16 @@ impl Job {
     }
 }
 
-/// Every kind of job that is accepted, first without a gap, then with one.
+/// Every kind of job that is accepted, first without a gap, then with one, then with locks.
 pub fn kinds() -> Vec<Kind> {
     let kind = |name, count, make: fn(&mut Random) -> Job| {
         Kind::new(name, count, |random| make(random).text())
     };
     let gapped = |name, count, make: fn(&mut Random) -> Job| {
         Kind::new(name, count, |random| with_gap(random, make))
+    };
+    let locked = |name, count, make: fn(&mut Random) -> Job| {
+        Kind::new(name, count, |random| with_locks(random, make))
     };
     vec![
         kind("small", 300, small),
@@ -145,6 +164,26 @@ pub fn kinds() -> Vec<Kind> {
         gapped("equal pieces, gap", 30, equal_pieces),
         gapped("real size, gap", 10, real_size),
         Kind::listed("gap at the limits", gap_at_the_limits()),
+        locked("small, locks", 90, small),
+        locked("tight, locks", 50, tight),
+        locked("roomy, locks", 40, roomy),
+        locked("overfull, locks", 20, overfull),
+        locked("stacked, locks", 10, stacked),
+        locked("tiled, locks", 30, tiled),
+        locked("holes, locks", 30, holes),
+        locked("separate, locks", 20, separate_parts),
+        locked("interlocking, locks", 20, interlocking),
+        locked("dust, locks", 20, dust),
+        locked("pixels, locks", 20, single_pixels),
+        locked("long strips, locks", 10, long_strips),
+        locked("far columns, locks", 5, far_columns),
+        locked("one row, locks", 15, one_row),
+        locked("one column, locks", 15, one_column),
+        locked("largest, locks", 10, largest_sheets),
+        locked("one piece, locks", 10, one_piece),
+        locked("64 pieces, locks", 15, sixty_four_pieces),
+        locked("equal, locks", 20, equal_pieces),
+        locked("real size, locks", 10, real_size),
     ]
 }
 
@@ -153,12 +192,34 @@ pub fn any_gap(random: &mut Random) -> usize {
     random.pick(&[0, 1, 1, 1, 2, 2, 3, 4, 5, 6, 7, 8, 8])
 }
 
-/// The text of a job with a gap, often on a longer sheet, so that some of them end clear.
-fn with_gap(random: &mut Random, make: fn(&mut Random) -> Job) -> Vec<u8> {
+/// Any share of the pieces that may be locked, in a hundred: none, some or all.
+pub fn any_locks(random: &mut Random) -> usize {
+    random.pick(&[0, 15, 15, 40, 40, 70, 70, 100])
+}
+
+/// A job, often on a longer sheet, so that some of them end clear.
+fn roomier(random: &mut Random, make: fn(&mut Random) -> Job) -> Job {
     let mut job = make(random);
     let longest = 4096.min(MAX_AREA / job.rows).max(job.columns);
     job.columns = (job.columns * random.pick(&[2, 2, 3, 5, 8]) / 2).min(longest);
-    job.text_with_gap(any_gap(random))
+    job
+}
+
+/// The text of such a job with a gap.
+fn with_gap(random: &mut Random, make: fn(&mut Random) -> Job) -> Vec<u8> {
+    roomier(random, make).text_with_gap(any_gap(random))
+}
+
+/// The text of such a job with locks, half of them without a gap.
+fn with_locks(random: &mut Random, make: fn(&mut Random) -> Job) -> Vec<u8> {
+    let job = roomier(random, make);
+    let gap = if random.chance(50) {
+        0
+    } else {
+        any_gap(random)
+    };
+    let percent = any_locks(random);
+    job.text_with_locks(random, gap, percent)
 }
 
 /// Full pieces of the largest sides that a text has room for, with gaps up to the largest: the depths along the rows are above 255,

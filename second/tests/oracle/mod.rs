@@ -1,4 +1,4 @@
-//! The definitions of document 01 over pixel sets, written for clearness and not for speed.
+//! The definitions of documents 01 and 02 over pixel sets, written for clearness and not for speed.
 //!
 //! Nothing here uses the tested program. Directions are unit steps: (1, 0) and (0, 1).
 
@@ -13,13 +13,14 @@ pub type Step = Point;
 /// Both directions, horizontal first.
 pub const STEPS: [Step; 2] = [(1, 0), (0, 1)];
 
-/// A piece: box, allowed turns and pixels.
+/// A piece: box, allowed turns, pixels, and whether it is locked.
 #[derive(Clone, Debug)]
 pub struct Panel {
     pub l: i32,
     pub w: i32,
     pub o: i32,
     pub pixels: Vec<Point>,
+    pub locked: bool,
 }
 
 /// A quarter turn count and a corner.
@@ -156,12 +157,12 @@ impl Problem {
         best
     }
 
-    /// All trials in their order.
+    /// All trials of free panels in their order.
     pub fn trials(&self) -> Vec<(usize, i32, Step)> {
         let mut trials = Vec::new();
         for (number, panel) in self.panels.iter().enumerate() {
             for turn in 0..4 {
-                if panel.o >> turn & 1 == 1 {
+                if panel.o >> turn & 1 == 1 && !panel.locked {
                     trials.extend(STEPS.map(|step| (number, turn, step)));
                 }
             }
@@ -236,41 +237,59 @@ impl Problem {
         (best, sum, weights, trials, moves)
     }
 
-    /// The start layout.
-    pub fn start(&self) -> Vec<Place> {
+    /// The start layout: the free panels are stacked, the locked ones lie as given.
+    pub fn start(&self, given: &[Place]) -> Vec<Place> {
         let mut order: Vec<usize> = (0..self.panels.len()).collect();
         order.sort_by_key(|&i| (-self.panels[i].l, i));
-        let mut layout = vec![
-            Place {
-                turn: 0,
-                corner: (0, 0)
-            };
-            order.len()
-        ];
+        let mut layout = given.to_vec();
         let (mut x, mut y, mut m) = (0, 0, 0);
         for i in order {
             let panel = &self.panels[i];
+            if panel.locked {
+                continue;
+            }
             if y + panel.w > self.w {
                 x += m;
                 y = 0;
                 m = 0;
             }
-            layout[i].corner = (x.min(self.l - panel.l), y);
+            let corner = (x.min(self.l - panel.l), y);
+            layout[i] = Place { turn: 0, corner };
             y += panel.w;
             m = m.max(panel.l);
         }
         layout
     }
 
-    /// The job text: of version 2 where there is a gap.
+    /// The program's start layout: the locked panels lie where they would if none were locked.
+    pub fn own_start(&self) -> Vec<Place> {
+        let mut free = self.clone();
+        free.panels
+            .iter_mut()
+            .for_each(|panel| panel.locked = false);
+        let anywhere = Place {
+            turn: 0,
+            corner: (0, 0),
+        };
+        self.start(&free.start(&vec![anywhere; self.panels.len()]))
+    }
+
+    /// The job text: of version 3 where a panel is locked, else of version 2 where there is a gap.
     pub fn text(&self) -> String {
         let (w, l, g, n) = (self.w, self.l, self.g, self.panels.len());
-        let mut text = match g {
-            0 => format!("job,1,{w},{l},{n}\n"),
+        let locks = self.panels.iter().any(|panel| panel.locked);
+        let mut text = match (locks, g) {
+            (true, _) => format!("job,3,{w},{l},{n},{g}\n"),
+            (false, 0) => format!("job,1,{w},{l},{n}\n"),
             _ => format!("job,2,{w},{l},{n},{g}\n"),
         };
         for (i, panel) in self.panels.iter().enumerate() {
-            text += &format!("piece,{},{},{},{}\n", i, panel.l, panel.w, panel.o);
+            let lock = match (locks, panel.locked) {
+                (false, _) => "",
+                (true, false) => ",0",
+                (true, true) => ",1",
+            };
+            text += &format!("piece,{},{},{},{}{lock}\n", i, panel.l, panel.w, panel.o);
             for y in 0..panel.w {
                 let mark = |x| {
                     if panel.pixels.contains(&(x, y)) {
@@ -305,7 +324,7 @@ impl Problem {
     /// The program's output for this job.
     pub fn output(&self) -> String {
         let unit = vec![1; self.pairs().len()];
-        let (best, sum, _, trials, moves) = self.guided_run(&self.start(), &unit, 20, 1_000);
+        let (best, sum, _, trials, moves) = self.guided_run(&self.own_start(), &unit, 20, 1_000);
         let mut text = format!("layout,1,{},{},{}\n", self.w, self.l, best.len());
         for (i, place) in best.iter().enumerate() {
             let (x, y) = place.corner;
@@ -357,7 +376,14 @@ impl Lcg {
                 && pixels.iter().any(|p| p.1 == w - 1);
             if tight {
                 let o = 2 * self.range(0, 7) + 1;
-                return Panel { l, w, o, pixels };
+                let locked = false;
+                return Panel {
+                    l,
+                    w,
+                    o,
+                    pixels,
+                    locked,
+                };
             }
         }
     }
@@ -396,6 +422,15 @@ impl Lcg {
             g: self.gap(),
             panels,
         }
+    }
+
+    /// The job with some panels locked, now and then all of them.
+    pub fn locked(&mut self, mut problem: Problem) -> Problem {
+        let percent = [20, 50, 80, 100][self.range(0, 3) as usize];
+        for panel in &mut problem.panels {
+            panel.locked = self.range(1, 100) <= percent;
+        }
+        problem
     }
 
     /// An inside placement of each panel, in an allowed turn that fits the sheet.

@@ -1,15 +1,14 @@
 -- `program_calls::run_job` meets its contract: the start layout and weights 1 are valid, so that the guided run is given. Assumes nothing.
-use Rattle.list_laws.proofs.Kit.{_∙_, _≡_, ap, sym, length, needs}
-use Rattle.model.specs.Buffer.{entriesOf}
-use Rattle.model.specs.Start.{start}
+use Rattle.list_laws.proofs.Kit.{_∙_, sym, needs}
 use Rattle.model.specs.Lent.{Lent, lentBy, jobOf}
 use Rattle.model.specs.Program.{programRun}
-use Rattle.model.specs.Calls.{layoutAfter}
 use Rattle.layout_places.proofs.Fitting.{fitting}
-use Rattle.program_calls.proofs.Taken.{start-taken}
 use Rattle.program_calls.proofs.Running.{front-length, pairs-few, ones, run-given, run-gives, run-not-refused}
 use Rattle.program_calls.proofs.run_job.Statement.{statement}
 use Rattle.program_calls.proofs.run_job.Tie as tie
+
+start-job-requires : tie.Need-start-job-requires
+start-job-requires c κs = let at-start : tie.Start = search in (at-start .pre .0, at-start .pre .1)
 
 pair-count-requires : tie.Need-pair-count-requires
 pair-count-requires c κs =
@@ -33,13 +32,11 @@ returns : tie.Need-returns
 returns c =
     let at-guided-run : tie.After-guided-run = search in
     let at-pair-count : tie.After-pair-count = search in
-    let at-after-start : tie.After-start = search in
+    let at-after-start : tie.After-start-job = search in
     let at-start : tie.Start = search in
     let a = at-start .args in
     let l : Lent = lentBy (a .size) (a .table .now) (a .pixels .now) in
-    let s : at-after-start .start .last .1 .1 .1 .0 ≡ entriesOf (start (jobOf l)) =
-    at-after-start .start .ensures .1 ∙ ap (layoutAfter (a .layout .now)) (start-taken l (length (a .layout .now)) (at-start .pre .0) (at-start .pre .1)) in
-    let o = run-given l _ _ (at-start .pre .0) s
+    let o = run-given l _ _ (at-start .pre .0) (at-after-start .start-job .ensures)
     (ones (a .size .count) _ (fitting (at-start .args .size) (at-start .args .table .now) (at-start .args .pixels .now) (at-start .pre .0) .fewPieces)
     (at-pair-count .pair-count .ensures)) in
     run-gives _ (programRun (jobOf l)) o _ _ _ (sym (c .before .run .given .1) ∙ at-guided-run .guided-run .ensures .0)
@@ -49,13 +46,11 @@ returns-2 : tie.Need-returns-2
 returns-2 c =
     let at-guided-run : tie.After-guided-run = search in
     let at-pair-count : tie.After-pair-count = search in
-    let at-after-start : tie.After-start = search in
+    let at-after-start : tie.After-start-job = search in
     let at-start : tie.Start = search in
     let a = at-start .args in
     let l : Lent = lentBy (a .size) (a .table .now) (a .pixels .now) in
-    let s : at-after-start .start .last .1 .1 .1 .0 ≡ entriesOf (start (jobOf l)) =
-    at-after-start .start .ensures .1 ∙ ap (layoutAfter (a .layout .now)) (start-taken l (length (a .layout .now)) (at-start .pre .0) (at-start .pre .1)) in
-    let o = run-given l _ _ (at-start .pre .0) s
+    let o = run-given l _ _ (at-start .pre .0) (at-after-start .start-job .ensures)
     (ones (a .size .count) _ (fitting (at-start .args .size) (at-start .args .table .now) (at-start .args .pixels .now) (at-start .pre .0) .fewPieces)
     (at-pair-count .pair-count .ensures)) in
     absurd (run-not-refused _ (programRun (jobOf l)) o _ (sym (c .enum-told .given .1) ∙ at-guided-run .guided-run .ensures .0))
@@ -63,5 +58,5 @@ returns-2 c =
 pub run-job-spec : {M : Type 1} → statement M
 run-job-spec =
     tie.close (tie.spec
-    (search needs) pair-count-requires array-borrow-prefix-weights slice-aggregate-guided-run (search needs) (search needs) (search needs)
+    start-job-requires pair-count-requires array-borrow-prefix-weights slice-aggregate-guided-run (search needs) (search needs) (search needs)
     (search needs) (search needs) returns (search needs) (search needs) returns-2)

@@ -1,9 +1,9 @@
 -- `run_rounds::rounds` meets its contract. Before each round the run is what comes from where the loop stands (`Rounding`), and a round
 -- keeps that (`round-next`); with no round left it is what the loop has. Assumes nothing.
-use Rattle.list_laws.proofs.Kit.{_∙_, ap, refl, sym, _<_, arith, length, needs}
+use Rattle.list_laws.proofs.Kit.{_∙_, ap, refl, sym, arith, length, needs}
 use Rattle.model.specs.Lent.{Lent, lentBy, jobOf}
 use Rattle.model.specs.Buffer.{layoutOf}
-use Rattle.job_laws.proofs.Checked.{lent-some, facts}
+use Rattle.job_laws.proofs.Checked.{facts}
 use Rattle.run_rounds.proofs.Rounding.{job-count, weighed, left-falls, Rounding, Sizes, Rounded, rounding-begin, rounding-few, rounding-done, round-next}
 use Rattle.run_rounds.proofs.rounds.Statement.{statement}
 use Rattle.run_rounds.proofs.rounds.Tie as tie
@@ -43,10 +43,6 @@ inside c = search
 
 -- ── laws at these places ──
 
--- the job has a piece
-some-piece : (s : tie.Start Inv-loop μ-loop) → 0 < jobOf (job s) .size .count
-some-piece s = lent-some (job s) (s .pre .0 .well)
-
 -- what a round does
 rounded : (c : tie.After-keep-better Inv-loop μ-loop)
     → Rounded (job (entry (head c))) (entry (head c) .args .run) (entry (head c) .args .strips .now) (entry (head c) .args .starts .now)
@@ -79,7 +75,7 @@ loop-holds : tie.Need-loop-holds Inv-loop μ-loop
 loop-holds c =
     let at-start : tie.Start Inv-loop μ-loop = search in
     let laid = at-start .pre .1 .1 .0 in (
-      rounding-begin (at-start .args .terms .count) (at-start .args .terms .budget) (some-piece at-start) laid (at-start .pre .0) (at-start .pre .1 .0)
+      rounding-begin (at-start .args .terms .count) (at-start .args .terms .budget) laid (at-start .pre .0) (at-start .pre .1 .0)
           (at-start .pre .1 .1 .1 .0)
           (c .plain-total .ensures (jobOf (job at-start)) (layoutOf (at-start .args .present .now)) (job-count (job at-start)) (laid .table)),
       record {
@@ -102,14 +98,14 @@ add-made : tie.Need-add-made Inv-loop μ-loop
 add-made c =
     let at-loop : tie.At-loop Inv-loop μ-loop = search in
     let bounds = entry at-loop .pre .1 .1 .1 .1 .0 in
-    let few = rounding-few (some-piece (entry at-loop)) (at-loop .loop .inv .0) (bounds .rounds) (bounds .budget) in
+    let few = rounding-few (at-loop .loop .inv .0) (bounds .rounds) (bounds .budget) in
     omega arith
 
 add-moves : tie.Need-add-moves Inv-loop μ-loop
 add-moves c =
     let at-loop : tie.At-loop Inv-loop μ-loop = search in
     let bounds = entry at-loop .pre .1 .1 .1 .1 .0 in
-    let few = rounding-few (some-piece (entry at-loop)) (at-loop .loop .inv .0) (bounds .rounds) (bounds .budget) in
+    let few = rounding-few (at-loop .loop .inv .0) (bounds .rounds) (bounds .budget) in
     omega arith
 
 plain-total-requires-2 : tie.Need-plain-total-requires-2 Inv-loop μ-loop
@@ -152,7 +148,7 @@ loop-again c =
     let round = rounded at-keep-better in
     let after = c .before .before .after-round in
     let kept = descended at-keep-better .descend .kept in (
-      round-next (some-piece s) stands
+      round-next stands
           (inside (descended at-keep-better) .loop-test .taken) round
           (after .ensures .1 (jobOf (job s)) _ (job-count (job s)) (round .laid .table) (stands .underway .validWeights)) (after .ensures .0),
       record {
@@ -187,7 +183,7 @@ returns : tie.Need-returns Inv-loop μ-loop
 returns c =
     let h = c .before in
     let none = c .loop-test .left in
-    record { result = rounding-done (some-piece (entry h)) (h .loop .inv .0) (omega arith); written = h .loop .inv .0 .written }
+    record { result = rounding-done (h .loop .inv .0) (omega arith); written = h .loop .inv .0 .written }
 
 pub rounds-spec : {M : Type 1} → statement M
 rounds-spec =

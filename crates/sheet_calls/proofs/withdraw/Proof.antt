@@ -35,7 +35,7 @@ none : (c : tie.Else2) →
     firstNumber (withdrawCauses (jobOf (job at-start)) (sheet at-start) (at-start .args .piece)) ≡ 0
 none c =
     let at-start : tie.Start = search in
-    sym (c .before .withdraw-refusal .ensures (at-start .args .table .now) (at-start .args .pixels .now) (at-start .args .counts .now)) ∙ c .if2 .left
+    sym (c .before .withdraw-refusal .ensures (at-start .args .pixels .now) (at-start .args .counts .now)) ∙ c .if2 .left
 
 -- and the withdraw is in order
 order : (c : tie.Else2) →
@@ -53,7 +53,7 @@ unfolding jobOf
 few c =
     let at-start : tie.Start = search in
     let pieces = facts _ (ready (c .before .before) .well) .fewPieces in
-    let here : at-start .args .piece < at-start .args .size .count = order c .piece in
+    let here : at-start .args .piece < at-start .args .size .count = order c .lies .piece in
     omega arith
 
 returns : tie.Need-returns
@@ -67,7 +67,7 @@ returns c =
     (c .answer .ensures) (c .before .if1 .taken)
 
 withdraw-refusal-requires : tie.Need-withdraw-refusal-requires
-withdraw-refusal-requires c κs = facts _ (ready c .well) .fewPieces
+withdraw-refusal-requires c κs = (facts _ (ready c .well) .entries, facts _ (ready c .well) .fewPieces)
 
 returns-2 : tie.Need-returns-2
 unfolding withdrawCall
@@ -79,7 +79,7 @@ returns-2 c =
     (own-refused (job at-start) (sheet at-start) (withdrawCauses (jobOf (job at-start)) (sheet at-start) (at-start .args .piece))
     (withdraw (jobOf (job at-start)) (sheet at-start) (at-start .args .piece)) (own .result)
     (withdraw-plain (jobOf (job at-start)) (sheet at-start) (at-start .args .piece)) (ready (at-else1))
-    (own .ensures (at-start .args .table .now) (at-start .args .pixels .now) (at-start .args .counts .now)) (c .before .if2 .taken))
+    (own .ensures (at-start .args .pixels .now) (at-start .args .counts .now)) (c .before .if2 .taken))
     (c .answer2 .ensures) (c .before .if2 .taken)
 
 entry-of-requires : tie.Need-entry-of-requires
@@ -95,8 +95,10 @@ move-piece-requires c κs =
     let own = order (at-else2) in
     record {
       well = sheet-is .well;
-      piece = own .piece;
-      within = withdrawn-inside (jobOf (job at-start)) (sheet at-start) (at-start .args .piece) _ (c .before .before .entry-of .ensures) (sheet-is .sheet) own;
+      piece = own .lies .piece;
+      within =
+          withdrawn-inside (jobOf (job at-start)) (sheet at-start) (at-start .args .piece) _ (c .before .before .entry-of .ensures)
+          (sheet-is .sheet) (own .lies);
       full = sheet-is .full;
     }
 

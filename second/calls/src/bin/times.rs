@@ -165,7 +165,7 @@ fn shares(memory: &mut Memory, (i, k): (usize, usize)) -> bool {
 
 /// Columns and rows of a piece's turned box.
 fn turned_box(memory: &Memory, piece: usize) -> [usize; 2] {
-    let [l, w, _] = memory.table.get()[piece].map(usize::from);
+    let [l, w, ..] = memory.table.get()[piece].map(usize::from);
     match memory.layout.get()[piece][0] {
         0 | 180 => [l, w],
         _ => [w, l],

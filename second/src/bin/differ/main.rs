@@ -202,7 +202,7 @@ mod tests {
         let is_without = |input: &Vec<u8>| input.starts_with(b"job,1,");
         assert!(inputs().any(is_without));
         for gap in 0..=8 {
-            let of_gap = |input: &&Vec<u8>| !is_without(input) && gap_of(input) == gap;
+            let of_gap = |input: &&Vec<u8>| input.starts_with(b"job,2,") && gap_of(input) == gap;
             let differs = |input: &Vec<u8>| second::run(input) != second::run(&without_gap(input));
             // A gap of 0 is none.
             assert_eq!(inputs().filter(of_gap).any(differs), gap > 0, "{gap}");
@@ -221,6 +221,55 @@ mod tests {
         let (line, pieces) = text.split_once('\n').expect("a text has a first line");
         let (line, _) = line.rsplit_once(',').expect("the line has a gap");
         format!("{}\n{pieces}", line.replacen("job,2,", "job,1,", 1)).into_bytes()
+    }
+
+    #[test]
+    fn locks_come_up_and_matter() {
+        let kinds = jobs::kinds();
+        let inputs = || kinds.iter().flat_map(|kind| &kind.inputs);
+        let with_locks = || inputs().filter(|input| input.starts_with(b"job,3,"));
+        let share = |input: &[u8]| {
+            let pieces = job::read(input).expect("the kinds are jobs").pieces;
+            let locked = pieces.iter().filter(|piece| piece.locked).count();
+            (locked, pieces.len())
+        };
+        let ends = |input: &[u8], end: &str| second::run(input).contains(end);
+        // None locked, some, all; and of the last two clear and open ends, trials and none.
+        assert!(with_locks().any(|input| share(input).0 == 0));
+        let some = || {
+            with_locks().filter(|input| {
+                let (locked, count) = share(input);
+                0 < locked && locked < count
+            })
+        };
+        let all = || {
+            with_locks().filter(|input| {
+                let (locked, count) = share(input);
+                locked == count
+            })
+        };
+        for end in ["end,clear,", "end,open,"] {
+            assert!(some().any(|input| ends(input, end)), "{end}");
+            assert!(all().any(|input| ends(input, end)), "{end}");
+        }
+        assert!(some().any(|input| second::run(input) != second::run(&without_locks(input))));
+        // With all pieces locked there is no trial, so that nothing moves.
+        assert!(all().all(|input| second::run(input)
+            .lines()
+            .any(|line| line.starts_with("end,") && line.contains(",0,0,"))));
+        for gap in 0..=8 {
+            assert!(some().any(|input| gap_of(input) == gap), "{gap}");
+        }
+    }
+
+    /// The text of a job of version 3 with every piece free.
+    fn without_locks(input: &[u8]) -> Vec<u8> {
+        let text = String::from_utf8_lossy(input);
+        let free = |line: &str| match line.strip_suffix(",1") {
+            Some(piece) if line.starts_with("piece,") => format!("{piece},0\n"),
+            _ => format!("{line}\n"),
+        };
+        text.lines().map(free).collect::<String>().into_bytes()
     }
 
     #[test]

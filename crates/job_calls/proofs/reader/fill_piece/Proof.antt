@@ -41,12 +41,13 @@ piece-entry-requires c κs =
     let p : tie.After-h = search in
     let h = p .h .given .0 .0 in
     let o = few-turns (h .columns) (h .rows) (h .turns) (ranged p .0) in
-    (sided p .0 .high, sided p .1 .high, omega arith)
+    let k = ranged p .1 in
+    (sided p .0 .high, sided p .1 .high, omega arith, omega arith)
 
 fill-box-requires : tie.Need-fill-box-requires
 fill-box-requires c κs =
     let p : tie.After-h = search in
-    (onward p, sided p .0, sided p .1, ranged p .1, start p .pre .2)
+    (onward p, sided p .0, sided p .1, ranged p .2, start p .pre .2)
 
 returns : tie.Need-returns
 returns c =

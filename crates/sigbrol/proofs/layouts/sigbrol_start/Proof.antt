@@ -1,17 +1,19 @@
 -- `sigbrol::layouts::sigbrol_start` meets its contract by what the answer tells. Assumes nothing.
-use Rattle.list_laws.proofs.Kit.{_∙_, _≡_, sym, length}
+use Rattle.list_laws.proofs.Kit.{_∙_, _≡_, ap, sym, arith}
 use Rattle.model.specs.Layout.{Layout}
 use Rattle.model.specs.Answers.{doneAnswer}
 use Rattle.model.specs.Refusal.{Outcome}
 use Rattle.model.specs.Calls.{startCall}
 use Rattle.c_interface.specs.Numbers.{lentAs}
-use Rattle.sigbrol.proofs.Told.{reply-by, done-told}
+use Rattle.c_interface.specs.declared.Reply.{Reply}
+use Rattle.sigbrol.proofs.Told.{reply-by, refusal-told, done-told}
+use Rattle.sigbrol.proofs.Claimed.{start-numbered}
 use Rattle.sigbrol.proofs.layouts.sigbrol_start.Statement.{statement}
 use Rattle.sigbrol.proofs.layouts.sigbrol_start.Tie as tie
 
 -- the outcome of the call
 outcome : tie.Start → Outcome Layout
-outcome s = let a = s .args in startCall (lentAs (a .rows) (a .columns) (a .count) (a .gap) (a .table .now) (a .pixels .now)) (length (a .layout .now))
+outcome s = let a = s .args in startCall (lentAs (a .rows) (a .columns) (a .count) (a .gap) (a .table .now) (a .pixels .now)) (a .layout .now)
 
 -- its answer tells that outcome
 answered : (c : tie.After-start) →
@@ -50,8 +52,13 @@ returns c =
     let at-size-of : tie.After-size-of = search in
     let at-start : tie.Start = search in
     let o = outcome (at-start) in
-    let t = done-told o (sym (c .before .enum-told .given .1) ∙ answered (at-after-start)) in
-    (c .done .ensures ∙ reply-by (λ v. tt) o t, rw (at-size-of .size-of .ensures) at (at-after-start .start .ensures .1))
+    let t = done-told o (sym (c .before .enum-told .given .1) ∙ answered (at-after-start)) in (
+      c .done .ensures ∙ reply-by (λ v. tt) o t,
+      (
+        rw (at-size-of .size-of .ensures) at (at-after-start .start .ensures .1 .0),
+        λ zero. rw (at-size-of .size-of .ensures) at (at-after-start .start .ensures .1 .1 (c .before .enum-told .given .1)),
+      ),
+    )
 
 same-length-2 : tie.Need-same-length-2
 same-length-2 c =
@@ -66,7 +73,17 @@ returns-2 c =
     let at-start : tie.Start = search in
     let o = outcome (at-start) in
     let t = done-told o (sym (c .before .before .refusal .given .1) ∙ answered (at-after-start)) in
-    (c .refused .ensures ∙ reply-by (λ v. tt) o t, rw (at-size-of .size-of .ensures) at (at-after-start .start .ensures .1))
+    let a = at-start .args in
+    let positive =
+    start-numbered (lentAs (a .rows) (a .columns) (a .count) (a .gap) (a .table .now) (a .pixels .now)) (a .layout .now) _
+    (refusal-told (λ v. tt) o _ t) in
+    let number = ap (λ (x : Reply). x .number) (c .refused .ensures) in (
+      c .refused .ensures ∙ reply-by (λ v. tt) o t,
+      (
+        rw (at-size-of .size-of .ensures) at (at-after-start .start .ensures .1 .0),
+        λ zero. absurd (omega (arith, positive, number, zero)),
+      ),
+    )
 
 pub sigbrol-start-spec : {M : Type 1} → statement M
 sigbrol-start-spec =
