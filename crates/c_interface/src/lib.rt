@@ -1,4 +1,5 @@
 // What the exported calls share: the reply, and the core's types made of the numbers that a call is handed.
+#![tactic(auto)]
 
 ghost use Rattle.std.specs.Prelude.{◌≡◌};
 ghost use Rattle.model.specs.Buffer.{placement};

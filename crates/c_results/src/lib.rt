@@ -1,5 +1,7 @@
 // What an exported call hands over beside its reply: yes or no, a descent's end and a place as numbers, the numbers of a job and of a run, and
 // a step of the cut list.
+#![tactic(auto)]
+
 ghost use Rattle.std.specs.Prelude.{◌≡◌};
 ghost use Rattle.model.specs.Bounded.{one_if};
 ghost use Rattle.model.specs.Piece.{coordinate_number};

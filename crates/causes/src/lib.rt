@@ -1,6 +1,8 @@
 // The causes of refusal that calls on a layout share, in document 01's order ('When a call says no'): 8 the job, 7 a length, 2 a number,
 // 9 a piece or a turn, 10 a placement. A call asks its own tests first, by functions that need no checked job, and hands their answers
 // over; which cause wins is decided here.
+#![tactic(auto)]
+
 pub mod locked;
 
 ghost use Rattle.std.specs.Prelude.{◌≡◌, not, ◌||◌, List, ℕ, ◌≤◌, eqb, length};

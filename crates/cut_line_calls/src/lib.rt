@@ -1,4 +1,6 @@
 // The lines of a layout's cut list, all at once. Document 02, point 2.
+#![tactic(auto)]
+
 ghost use Rattle.std.specs.Prelude.{◌≡◌, ℕ, length};
 ghost use Rattle.model.specs.Answers.{count_answer};
 ghost use Rattle.model.specs.Lent.{lent_by};

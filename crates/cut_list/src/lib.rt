@@ -1,4 +1,6 @@
 // All lines of a layout, from the owners of its pixels: horizontals first, then verticals. Document 02, point 2.
+#![tactic(auto)]
+
 ghost use Rattle.std.specs.Prelude.{◌≡◌, map, ◌≤◌, length};
 ghost use Rattle.std.proofs.lemmas.List.Edits.{sets};
 ghost use Rattle.model.specs.Answers.{count_answer};

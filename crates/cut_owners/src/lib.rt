@@ -1,4 +1,6 @@
 // The owner of each pixel of the sheet, a byte a pixel: 0 where no piece lies on it, else the number of the piece plus 1. Document 02, point 2.
+#![tactic(auto)]
+
 ghost use Rattle.std.specs.Prelude.{◌≡◌, ◌+◌, ◌*◌, ◌<◌, length};
 ghost use Rattle.model.specs.Lent.{lent_by, job_of};
 ghost use Rattle.model.specs.Layout.{place_of};

@@ -1,4 +1,6 @@
 // Points of the cut list in millimetres. Document 02, point 2.
+#![tactic(auto)]
+
 ghost use Rattle.std.specs.Prelude.{false, ◌≡◌, ◌*◌};
 ghost use Rattle.std.specs.Float.Ieee.Exact.{HasValue};
 ghost use Rattle.model.specs.Cut.{millimetres};

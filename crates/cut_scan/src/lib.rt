@@ -1,4 +1,6 @@
 // The lines to cut, read from the owners of the sheet's pixels, one pixel line after another along either direction. Document 02, point 2.
+#![tactic(auto)]
+
 ghost use Rattle.std.specs.Prelude.{◌≡◌, List, [], map, ℕ, ◌+◌, ◌-◌, ◌*◌, ◌<◌, ◌≤◌, ◌^◌, set};
 ghost use Rattle.model.specs.Strip.{Strip, strip_of, closing, strips};
 ghost use Rattle.model.specs.Lent.{column_bound};

@@ -1,4 +1,6 @@
 // The steps of a cut list, one by one, in millimetres: from a layout, or from a list of its lines. Document 02, point 2.
+#![tactic(auto)]
+
 ghost use Rattle.std.specs.Prelude.{◌≡◌, not, List, map, ℕ, ◌≤◌, length, take};
 ghost use Rattle.model.specs.Lent.{Lent, lent_by, job_of, up_to};
 ghost use Rattle.model.specs.Buffer.{layout_of};

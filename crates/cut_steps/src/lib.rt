@@ -1,4 +1,6 @@
 // The steps of a list of lines, in millimetres. Document 02, point 2.
+#![tactic(auto)]
+
 ghost use Rattle.std.specs.Prelude.{◌≡◌, map, get_or};
 ghost use Rattle.model.specs.Piece.{point};
 ghost use Rattle.model.specs.Buffer.{direction_of};

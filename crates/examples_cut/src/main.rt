@@ -1,6 +1,8 @@
 // The cut list of document 02, point 2, through the calls: two full 2 x 2 pieces side by side, with their steps at a pitch of 96 (1.5 mm),
 // and a ring, its hole filled by a single pixel and then free: the hole is cut once either way. A line is its direction, its pixel
 // line, and where it begins and ends; a step tells whole thousandths of a millimetre.
+#![tactic(auto)]
+
 use cut_line_calls::cut_lines;
 use cut_step_calls::{StepAnswer, cut_step, line_step};
 use model::{CutStep, JobSize, LineEntry, NumberAnswer, PieceEntry, PlaceEntry, Refusal};

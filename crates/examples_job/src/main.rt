@@ -1,6 +1,8 @@
 // Reads document 01's example job and some others, each from its text, and writes what the reader answers: the job's numbers with the gap,
 // its first entry with the lock, its first eight pixel bytes and whether the check of a lent job passes; or the refusal's number and line.
 // Then lends a piece with gaps and locks that no text has or has.
+#![tactic(auto)]
+
 use job_calls::JobAnswer;
 use model::{JobSize, PieceEntry};
 

@@ -1,6 +1,8 @@
 // Document 01's example job, a sheet of 2 rows and 4 columns with two full 2 x 2 pieces in turn 0, through the calls on the sheet of
 // cover counts, with a gap of 1, which plays no part in them. Each line has the number of the refusal, 00 for a call that is taken up,
 // whether piece 0 and piece 1 are laid, and the counts of the eight pixels. A line of setting a lock has the number and the two locks.
+#![tactic(auto)]
+
 ghost use Rattle.std.specs.Prelude.{◌<◌};
 
 use job_lock_calls::{CUTTERS_STATION, PLANNERS_STATION};

@@ -1,6 +1,8 @@
 // The marked examples of the shop, P1 to P12 of document 01, through the calls. Each line has the example's name and what the calls
 // give. The pieces are A, A, B, B, D and E of document 01, on a sheet of 8 rows and 16 columns; P10 to P12 have a job of two A. The lines
 // with two pieces for a name are further no-fit lines: a row past D's hole, and a column of B in another turn.
+#![tactic(auto)]
+
 use model::{
     ColumnOffset, Coordinate, Direction, End, JobSize, Line, NumberAnswer, PieceEntry, PlaceEntry,
     Row, RowOffset, StripEntry, Turn,

@@ -1,5 +1,7 @@
 // Document 01's limits, 'Sheet and panels', and document 02's of the gap and of a lock: the ranges of a job's and of a piece's numbers. The check of a lent
 // job and the reader of a job text ask for the same.
+#![tactic(auto)]
+
 ghost use Rattle.std.specs.Prelude.{◌≡◌, leb};
 ghost use Rattle.model.specs.Lent.{up_to, numbers_in_range, sheet_in_range, sides_in_range, lock_bound};
 

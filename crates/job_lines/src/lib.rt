@@ -1,5 +1,7 @@
 // The job line and the piece lines: document 01, 'Job text' and 'When a call says no', reading a job; document 02, points 4 and 6, versions 2
 // (a gap) and 3 (a lock on each piece line). A line's form comes before its ranges.
+#![tactic(auto)]
+
 ghost use Rattle.std.specs.Prelude.{◌≡◌, ◌+◌, ◌*◌, ◌<◌, ◌≤◌, ◌^◌, length};
 ghost use Rattle.model.specs.Refusal.{unless};
 ghost use Rattle.model.specs.JobText.{version_line, job_line, job_line_causes, piece_ends, piece_line, piece_line_causes};

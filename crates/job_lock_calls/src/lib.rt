@@ -1,4 +1,6 @@
 // Setting a lock: document 02, point 6. The one call beside the reader that writes a piece table.
+#![tactic(auto)]
+
 ghost use Rattle.std.specs.Prelude.{[], ◌∷◌, ◌≡◌};
 ghost use Rattle.model.specs.Answers.{done_answer};
 ghost use Rattle.model.specs.Lent.{lent_by};

@@ -1,5 +1,7 @@
 // Row lines, stored as pixel bytes: document 01, 'Job text'. A byte past the end of the store is not stored, so that a run over empty
 // buffers tells whether the text is right and how long the store has to be.
+#![tactic(auto)]
+
 ghost use Rattle.std.specs.Prelude.{◌≡◌, ◌+◌, ◌*◌, ◌<◌, ◌≤◌, ◌^◌, length};
 ghost use Rattle.model.specs.JobText.{marks_at, row_at, rows_at};
 ghost use Rattle.model.specs.Lent.{side_bound};

@@ -1,4 +1,6 @@
 // A layout that passes the check, pushed left and down. Document 02, point 7.
+#![tactic(auto)]
+
 mod drawing;
 
 ghost use Rattle.std.specs.Prelude.{◌≡◌, ℕ};

@@ -1,5 +1,7 @@
 // A layout buffer in the form in which a layout is written: what a call that changes single entries begins with, so that the buffer at its end is
 // the layout's.
+#![tactic(auto)]
+
 ghost use Rattle.std.specs.Prelude.{◌≡◌};
 ghost use Rattle.model.specs.Buffer.{layout_of, entries_of};
 

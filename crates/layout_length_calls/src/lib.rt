@@ -1,4 +1,6 @@
 // The used length of a layout. Document 02, point 1, and document 01, 'When a call says no'.
+#![tactic(auto)]
+
 ghost use Rattle.std.specs.Prelude.{◌≡◌, List, ℕ, ◌<◌, ◌≤◌, length};
 ghost use Rattle.model.specs.Answers.{number_answer};
 ghost use Rattle.model.specs.Layout.{corner_in, right_end, used_length};

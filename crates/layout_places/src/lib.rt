@@ -1,5 +1,7 @@
 // Placements as a layout buffer holds them: turns as degrees, allowed turns and the inside test. Document 01, 'Sheet and panels' and
 // 'Start, layout text, sheet'.
+#![tactic(auto)]
+
 ghost use Rattle.std.specs.Prelude.{◌≡◌, ◌&&◌, List, ℕ, ◌<◌, ltb, length};
 ghost use Rattle.model.specs.Piece.{degrees, turn_bit, allows};
 ghost use Rattle.model.specs.Layout.{allowed, inside, place_of};

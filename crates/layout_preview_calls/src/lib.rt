@@ -1,5 +1,7 @@
 // The preview of a move: the weighted sum and the used length that a layout would have with one piece placed anew. Document 02, point 3, and
 // document 01, 'When a call says no'. The layout is lent for reading; the figures are measured on a copy.
+#![tactic(auto)]
+
 ghost use Rattle.std.specs.Prelude.{◌≡◌, ◌<◌, length};
 ghost use Rattle.model.specs.Answers.{first_cause};
 ghost use Rattle.model.specs.Layout.{with_place, figures};

@@ -1,6 +1,8 @@
 // The pieces of a layout pushed left and down. Document 02, point 7: free pieces in number order slide left, then down, until neither moves them, and
 // passes over all of them repeat until one moves nothing. The strips of all pieces along the rows and along the columns are lent; they do not
 // depend on where the pieces lie.
+#![tactic(auto)]
+
 ghost use Rattle.std.specs.Prelude.{◌≡◌, false, ◌<◌};
 ghost use Rattle.model.specs.Layout.{is_locked};
 ghost use Rattle.model.specs.Lent.{lent_by, job_of};

@@ -1,5 +1,7 @@
 // The reader of a layout text: the layout line, a line for each piece, and nothing behind them. Each line is asked for its form
 // first, then for its numbers. Document 01, 'Start, layout text, sheet' and 'When a call says no'.
+#![tactic(auto)]
+
 ghost use Rattle.std.specs.Prelude.{◌≡◌, true, ◌&&◌, List, ℕ, ◌<◌, ◌≤◌, min, eqb, length, set};
 ghost use Rattle.std.proofs.lemmas.List.Edits.{sets};
 ghost use Rattle.model.specs.Answers.{done_answer};

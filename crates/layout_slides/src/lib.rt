@@ -1,5 +1,7 @@
 // A piece of a layout slides left along its row or down along its column until it would conflict with another piece, or is at the sheet's edge.
 // Document 02, point 7. How far it slides is the least of what the other pieces leave it, told by their strips at once and not pixel by pixel.
+#![tactic(auto)]
+
 ghost use Rattle.std.specs.Prelude.{◌≡◌, List, ℕ, ◌-◌, ◌<◌, ◌≤◌, length};
 ghost use Rattle.model.specs.Bounded.{first_from};
 ghost use Rattle.model.specs.Piece.{along, corner, side_bound};

@@ -1,5 +1,7 @@
 // The start layout: the pieces by falling length, stacked from the left. Document 01, 'Start, layout text, sheet'; document 02, point 6: locked pieces
 // stay where they are given, and the entries of free ones are not read.
+#![tactic(auto)]
+
 ghost use Rattle.std.specs.Prelude.{◌≡◌, List, ℕ, length};
 ghost use Rattle.model.specs.Answers.{done_answer};
 ghost use Rattle.model.specs.Lent.{lent_by, job_of};

@@ -1,6 +1,8 @@
 // The strips of the pieces of a layout, in the turns that it gives them, made when they are first asked for, and what is measured of two pieces
 // by them and a gap. Document 01, 'No-fit rows and penalty', and document 02, point 4. Each piece has a part of a store to itself, an entry for
 // each pixel of its box, so that it does not matter which pieces are asked for, or in what order.
+#![tactic(auto)]
+
 mod boxes;
 
 ghost use Rattle.std.specs.Prelude.{◌≡◌, ◌≢◌, ℕ, ◌-◌, ◌<◌, ◌≤◌, min, length, take, drop};

@@ -1,5 +1,7 @@
 // Sums over the pairs of a layout, and its check. Document 01, 'No-fit rows and penalty' (weights and sums) and 'When a call says
 // no'. The calls here refuse by number and measure a whole layout.
+#![tactic(auto)]
+
 mod conflicting;
 
 ghost use Rattle.std.specs.Prelude.{◌≡◌};

@@ -1,5 +1,7 @@
 // The writer of a layout text, `layout,1,W,L,n` and for each piece `at,i,turn,x,y`: document 01, 'Start, layout text, sheet' and 'When a
 // call says no'.
+#![tactic(auto)]
+
 ghost use Rattle.std.specs.Prelude.{◌≡◌, List, [], ◌∷◌, ◌++◌, ℕ, ◌<◌, ◌≤◌, length};
 ghost use Rattle.std.proofs.lemmas.List.Edits.{sets};
 ghost use Rattle.model.specs.Answers.{count_answer};

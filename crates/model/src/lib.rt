@@ -1,6 +1,7 @@
 // The types that every crate shares. They follow document 01, 'Sheet and panels', 'Line search', 'Descent and guidance' and
 // 'When a call says no', and document 02; what the words mean is defined in specs/. Each limit stands here once, under the name that specs/
 // has for it.
+#![tactic(auto)]
 
 // The most rows of a sheet.
 pub const ROW_BOUND: usize = 512;

@@ -1,4 +1,6 @@
 // The program: standard input in, what document 01 says of it out. What is printed is decided and proved in `program_calls`.
+#![tactic(auto)]
+
 ghost use Rattle.std.specs.Prelude.{◌≡◌, ℕ, ◌≤◌};
 
 use libc::{STDERR_FILENO, STDIN_FILENO, STDOUT_FILENO};

@@ -1,5 +1,7 @@
 // Whether two pieces of a layout conflict, their depth and their penalty, by the job's gap; with no gap to conflict is to share a pixel.
 // Document 01, 'No-fit rows and penalty' and 'When a call says no', and document 02, point 4.
+#![tactic(auto)]
+
 ghost use Rattle.std.specs.Prelude.{◌≡◌, not, ◌||◌, ℕ, ◌<◌, ◌^◌, ltb, eqb};
 ghost use Rattle.model.specs.Answers.{first_cause, number_answer};
 ghost use Rattle.model.specs.Lent.{lent_by};

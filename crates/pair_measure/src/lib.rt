@@ -5,6 +5,8 @@
 // What a penalty costs: a walk over two stretches takes a step for each strip of the lines that both pieces have, and a depth a few
 // walks for each sign, two where each line has one strip and there is no gap, and with a gap as many for each distance of lines up to it; the
 // penalty is at most two depths, the second cut off at the first.
+#![tactic(auto)]
+
 ghost use Rattle.std.specs.Prelude.{◌≡◌, true, min, ◌<◌, ◌≤◌, ◌^◌, length};
 ghost use Rattle.model.specs.Piece.{corner, gap_bound};
 ghost use Rattle.model.specs.Strip.{strips};

@@ -2,6 +2,8 @@
 // A pass over the strips of matching lines for each distance of lines up to the gap; each strip of one with each strip of the other, both longer
 // by the gap, gives an interval of shifts. Shifts are marked by a bit each (document 02, point 5), so that a line's marks are a few words and an
 // interval is marked word by word and not place by place.
+#![tactic(auto)]
+
 ghost use Rattle.std.specs.Prelude.{◌≡◌, ℕ, ◌+◌, ◌-◌, min, max, ◌<◌, ◌≤◌, length, replicate};
 ghost use Rattle.model.specs.Piece.{gap_bound};
 ghost use Rattle.pair_overlap.specs.Meet.{strip_at, Ordered, Near, NearShifted};

@@ -1,5 +1,7 @@
 // No-fit rows and columns of two pieces, from their lent stretches. Document 01, 'No-fit rows and penalty', and document 02, points 4 and 5: the
 // offsets of a line are kept as a bit each, nine words in all.
+#![tactic(auto)]
+
 ghost use Rattle.std.specs.Prelude.{◌≡◌, ℕ, ◌≤◌, length};
 ghost use Rattle.model.specs.Answers.{count_answer, first_cause};
 ghost use Rattle.model.specs.Lent.{lent_by, job_of, pixel_start, piece_bound, gap_bound};

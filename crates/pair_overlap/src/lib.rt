@@ -2,6 +2,8 @@
 // here takes a stretch of strips for each piece, as (line, first, count) ordered by line, then first, all row strips or all column strips, and
 // each piece's corner. Along their line, strips of both pieces are taken longer by the gap; lines at most the gap apart are walked as one line,
 // one distance after another. The contracts speak of the lent lists; proofs/Shapes.antt says what they come to for the strips of a pixel set.
+#![tactic(auto)]
+
 ghost use Rattle.std.specs.Prelude.{◌≡◌, ◌+◌, ◌<◌, ◌≤◌, min, length};
 ghost use Rattle.model.specs.Piece.{gap_bound};
 ghost use Rattle.pair_overlap.specs.Meet.{strip_at, base_of, Ordered, Near, NearShifted, shift_bound, SpanOf, Skipped, WalkBegun, Slid, ClearStretch, NextLine, clear_below, depth_below};

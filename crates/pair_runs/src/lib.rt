@@ -1,5 +1,7 @@
 // Offsets of a no-fit line, and the runs of marked offsets as a run buffer holds them. Offsets are marked by a bit each, from -262
 // on; where a run begins and ends is found by the zeros below a word's lowest set bit, so that 64 offsets are passed at a time.
+#![tactic(auto)]
+
 ghost use Rattle.std.specs.Prelude.{◌≡◌, [], min, ◌*◌, ◌<◌, ◌≤◌, length};
 ghost use Rattle.std.proofs.Math.IntN.{sub_ℕ};
 ghost use Rattle.model.specs.Strip.{runs, closing};

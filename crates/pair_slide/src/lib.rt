@@ -1,5 +1,7 @@
 // A piece slides along its strips until it conflicts with another by a gap: document 02, point 7. The contract speaks of the lent lists;
 // proofs/Shapes.antt says what it comes to for the strips of a pixel set, and that sliding one piece on is sliding the other one back.
+#![tactic(auto)]
+
 ghost use Rattle.std.specs.Prelude.{◌≡◌, ◌&&◌, ◌+◌, ◌-◌, ◌<◌, ◌≤◌, ltb};
 ghost use Rattle.model.specs.Bounded.{first_from};
 ghost use Rattle.model.specs.Piece.{Point, Shape, along, across, point, gap_bound};

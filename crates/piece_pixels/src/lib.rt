@@ -1,5 +1,7 @@
 // A piece as the pixel store holds it, seen in a turn: the sides of its turned box, and where each of its pixels stands in the store.
 // Strips and the counts of a sheet both read pixels through this crate.
+#![tactic(auto)]
+
 ghost use Rattle.std.specs.Prelude.{◌≡◌, List, ℕ, ◌+◌, ◌*◌, ◌<◌, ◌≤◌, eqb, length, get_or};
 ghost use Rattle.model.specs.Piece.{Shape, turned};
 ghost use Rattle.model.specs.Layout.{turned_piece};

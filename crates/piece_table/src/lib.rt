@@ -1,5 +1,7 @@
 // The piece table of a job: an entry holds l columns, w rows, o, the sum of the allowed turns, and the lock. Only this crate knows the order
 // of an entry's numbers.
+#![tactic(auto)]
+
 ghost use Rattle.std.specs.Prelude.{[], ◌∷◌, ◌≡◌, ◌<◌, ◌≤◌, length, eqb};
 ghost use Rattle.model.specs.Lent.{entry_columns, entry_rows, entry_turns, entry_lock, entry_area};
 ghost use Rattle.model.specs.Calls.{with_lock};

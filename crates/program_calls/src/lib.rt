@@ -1,6 +1,8 @@
 // The program, from the bytes of its input to the bytes of its output. Document 01, 'Start, layout text, sheet': it reads a job, takes the
 // start layout, makes a guided run by weights 1 and prints the best layout and how the run ended, or the refusal. Document 02, point 6: locked
 // pieces lie where the start of all pieces puts them.
+#![tactic(auto)]
+
 ghost use Rattle.std.specs.Prelude.{◌≡◌, true, ◌≤◌, length};
 ghost use Rattle.model.specs.Lent.{lent_by, job_of, lent_well, piece_bound, area_bound};
 ghost use Rattle.model.specs.Buffer.{entries_of, layout_of};

@@ -1,4 +1,6 @@
 // The last line of what the program prints: how a run ended, or a refusal.
+#![tactic(auto)]
+
 ghost use Rattle.std.specs.Prelude.{[], ◌∷◌, ◌≤◌};
 ghost use Rattle.model.specs.Text.{comma, decimal};
 ghost use Rattle.model.specs.Program.{word_line, refusal_text, end_word};

@@ -1,4 +1,6 @@
 // A whole descent: trial after trial until an end is reached. Document 01, 'Descent and guidance'.
+#![tactic(auto)]
+
 ghost use Rattle.std.specs.Prelude.{◌≡◌, ◌≤◌};
 ghost use Rattle.model.specs.Lent.{lent_by, job_of};
 ghost use Rattle.model.specs.Buffer.{layout_of};

@@ -1,5 +1,7 @@
 // Descent: trials taken one after the other until nothing overlaps, nothing helps or the budget is used up. Document 01, 'Descent and
 // guidance'.
+#![tactic(auto)]
+
 ghost use Rattle.std.specs.Prelude.{◌≡◌, ◌≤◌, length};
 ghost use Rattle.model.specs.Lent.{lent_by, job_of};
 ghost use Rattle.model.specs.Buffer.{layout_of};

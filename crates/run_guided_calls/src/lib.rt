@@ -1,4 +1,6 @@
 // The guided run: rounds of descent with weights raised in between. Document 01, 'Descent and guidance' and 'When a call says no'.
+#![tactic(auto)]
+
 ghost use Rattle.std.specs.Prelude.{◌≡◌};
 ghost use Rattle.model.specs.Guided as model;
 ghost use Rattle.model.specs.Lent.{lent_by, job_of};

@@ -1,5 +1,7 @@
 // The rounds of a guided run. Document 01, 'Descent and guidance': each round is a descent from where the one before it ended; the best
 // layout is the one with the least plain sum so far; weights are raised after each round that is not clear.
+#![tactic(auto)]
+
 ghost use Rattle.std.specs.Prelude.{◌≡◌, ◌<◌, length};
 ghost use Rattle.model.specs.Layout.{Job, Layout};
 ghost use Rattle.model.specs.Guided.{is_clear};

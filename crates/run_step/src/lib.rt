@@ -1,5 +1,7 @@
 // One trial of a descent: the piece's line is searched for a place whose pair sum is below the present one, and the piece goes there if
 // there is one. Document 01, 'Descent and guidance'.
+#![tactic(auto)]
+
 ghost use Rattle.std.specs.Prelude.{◌≡◌, ◌+◌, ◌^◌, ◌<◌, ◌≤◌, length, get_or};
 ghost use Rattle.model.specs.Piece.{on_line};
 ghost use Rattle.model.specs.Lent.{lent_by, job_of};

@@ -1,5 +1,7 @@
 // Trials in document 01's order, 'Descent and guidance': by free piece, allowed turn, horizontal before vertical. The list of them is made once a
 // run, a number for each, and a descent is lent it: what makes the list decides which trials there are, and nothing else does.
+#![tactic(auto)]
+
 ghost use Rattle.std.specs.Prelude.{◌≡◌, List, ◌++◌, ℕ, ◌+◌, ◌<◌, ◌≤◌, length, get_or, take};
 ghost use Rattle.model.specs.Lent.{lent_by, job_of, piece_bound};
 ghost use Rattle.model.specs.Buffer.{layout_of};

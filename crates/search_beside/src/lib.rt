@@ -1,5 +1,7 @@
 // The penalties of a moving piece and the pieces beside its line, read from kept lines: what a search adds up and what the table of pair
 // penalties is renewed from. Nothing here knows a weight.
+#![tactic(auto)]
+
 ghost use Rattle.std.specs.Prelude.{◌≡◌, ◌≢◌, List, ℕ, ◌+◌, ◌-◌, ◌<◌, ◌≤◌, length};
 ghost use Rattle.model.specs.Piece.{line_direction, on_line};
 ghost use Rattle.model.specs.Layout.{Layout};

@@ -1,6 +1,8 @@
 // The line search with a bound. Document 01, 'Line search': the best inside corner on a line, the other pieces fixed. The sums at all places
 // of the line are made at once, piece after piece, each from the line of penalties of the two pieces, which is kept for later searches. A
 // trial of the descent asks only for sums below a bound, so a piece is left out where every sum in its reach is at the bound already.
+#![tactic(auto)]
+
 mod others;
 
 ghost use Rattle.std.specs.Prelude.{◌≡◌, ℕ, ◌<◌, ◌≤◌, length, get_or};

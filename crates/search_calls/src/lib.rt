@@ -1,4 +1,6 @@
 // The line search as a call. Document 01, 'Line search' and 'When a call says no'.
+#![tactic(auto)]
+
 ghost use Rattle.std.specs.Prelude.{◌≡◌, ◌<◌};
 ghost use Rattle.model.specs.Piece.{coordinate_on};
 ghost use Rattle.model.specs.Search.{search_line};

@@ -1,4 +1,6 @@
 // Equal pieces: see specs/Classes.antt. A job often has a piece many times; what is made of its shape alone is made for one of them.
+#![tactic(auto)]
+
 ghost use Rattle.std.specs.Prelude.{true, ◌≡◌, ℕ, ◌+◌, ◌<◌, ◌≤◌, length, get_or};
 ghost use Rattle.model.specs.Lent.{lent_by, job_of, lent_well, area_bound};
 ghost use Rattle.search_classes.specs.Classes.{Equal, Classes};

@@ -1,5 +1,7 @@
 // How far the set bits of a column of a map lie from a clear one: along their own rows, to both sides at once, and up and down the column, by
 // counting the set places on the way. A row is read no farther than the count so far, so that one word around a place nearly always does.
+#![tactic(auto)]
+
 ghost use Rattle.std.specs.Prelude.{◌≡◌, ◌+◌, ◌*◌, ◌<◌, ◌≤◌, min, length};
 ghost use Rattle.std.specs.Int.Count.{count_trailing_zeros, count_leading_zeros};
 ghost use Rattle.bit_laws.specs.Bit.{length_limit};

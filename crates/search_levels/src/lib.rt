@@ -1,5 +1,7 @@
 // Levels of one string of bits in one slice of words: level k has 2 ^ k marks for each mark of level 0. A strip of up to 511 pixels is one or
 // two moves up of one level.
+#![tactic(auto)]
+
 ghost use Rattle.std.specs.Prelude.{◌+◌, ◌<◌, ◌≤◌, length};
 ghost use Rattle.search_words.specs.Words.{OrRow};
 ghost use Rattle.search_levels.specs.Levels.{Copied, NextLevel, LevelRoom, Grown};

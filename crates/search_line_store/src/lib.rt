@@ -1,6 +1,8 @@
 // Stretches of bytes, one after the other in one store, behind a table that tells for each slot where its stretch begins and how long it is: see
 // specs/Store.antt. A stretch is as long as what it was asked for, so that short things take little room. Places and lengths are counted in units
 // of eight bytes, so that sixteen bits hold them. Where no room is left, all stretches are given up.
+#![tactic(auto)]
+
 ghost use Rattle.std.specs.Prelude.{◌≡◌, ◌+◌, ◌*◌, ◌<◌, ◌≤◌, length};
 ghost use Rattle.search_line_store.specs.Store.{line_store_bound, short_at, units_of, table_end, begin_of, Stretches, ShortPut, GivenUp, Claimed, Free};
 

@@ -1,4 +1,6 @@
 // Sums at the places of a line: a list of numbers, one a place.
+#![tactic(auto)]
+
 ghost use Rattle.std.specs.Prelude.{◌≡◌, ℕ, ◌+◌, ◌*◌, ◌<◌, ◌≤◌, ltb, length, get_or};
 ghost use Rattle.model.specs.Bounded.{any_below};
 ghost use Rattle.model.specs.Lent.{column_bound};

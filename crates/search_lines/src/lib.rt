@@ -1,6 +1,8 @@
 // Penalty lines, made once and kept as long as they are right: see specs/Kept.antt. A search asks for the line of a moved piece and a
 // standing one; most lines survive many moves, so most are found. A line that is not kept is read from the map of the two pieces' classes, the
 // one of the lower number moved and in no turn: see specs/Sources.antt.
+#![tactic(auto)]
+
 ghost use Rattle.std.specs.Prelude.{◌≡◌, List, true, ℕ, ◌+◌, ◌-◌, ◌*◌, ◌<◌, ◌≤◌, length};
 ghost use Rattle.model.specs.Layout.{turned_piece};
 ghost use Rattle.model.specs.Lent.{lent_by, job_of, lent_well, gap_bound};

@@ -1,6 +1,8 @@
 // Penalty lines from a map of two pieces: a cell that is clear has penalty 0; a set one has the least distance to a clear bit, along its row or
 // across the rows. The clear bits around the cells stand for the offsets at which the boxes part. A row of a map along rows is a line along
 // a row, a column of it a line along a column.
+#![tactic(auto)]
+
 ghost use Rattle.std.specs.Prelude.{◌≡◌, ◌+◌, ◌<◌, ◌≤◌, length};
 ghost use Rattle.model.specs.Piece.{Shape};
 ghost use Rattle.model.specs.declared.Direction.{Direction};

@@ -1,5 +1,7 @@
 // Maps, made once and kept: they stand one after the other in one slice of words, behind slots that tell whose map begins where. Where no
 // room is left to make one, all maps are forgotten.
+#![tactic(auto)]
+
 ghost use Rattle.std.specs.Prelude.{◌≡◌, ℕ, ◌+◌, ◌<◌, ◌≤◌, length};
 ghost use Rattle.model.specs.Piece.{Shape, turned};
 ghost use Rattle.model.specs.declared.Direction.{Direction};

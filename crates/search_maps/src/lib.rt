@@ -3,6 +3,8 @@
 // by adding the one's strips to the other's marks. specs/Map.antt says where a bit stands. One code for rows and columns: strips of
 // rows make the map that is read along rows. Pieces that are to keep a gap make the map of the moved piece grown by twice the gap: its marks
 // are moved up by so many pixels and rows as well.
+#![tactic(auto)]
+
 ghost use Rattle.std.specs.Prelude.{◌≡◌, ◌+◌, ◌*◌, ◌<◌, ◌≤◌, length};
 ghost use Rattle.model.specs.Piece.{Shape, turned};
 ghost use Rattle.model.specs.declared.Direction.{Direction};

@@ -1,5 +1,7 @@
 // The strips of a piece, added to the marks of another: a string of bits takes over the other piece's marks, moved up by each pixel of the
 // strips. Rows of the string are w bits wide, and pixel (along, across) stands at across * w + along.
+#![tactic(auto)]
+
 ghost use Rattle.std.specs.Prelude.{◌≡◌, ◌+◌, ◌*◌, ◌^◌, ◌<◌, ◌≤◌, length};
 ghost use Rattle.pair_overlap.specs.Meet.{strip_at};
 ghost use Rattle.search_words.specs.Words.{StripMarked};

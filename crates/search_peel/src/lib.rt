@@ -1,5 +1,7 @@
 // How far the set bits of a map lie from a clear one, 64 places of a row at a time: level r keeps the places that are set at distance r on all
 // four sides, and a place that leaves at level r gets r.
+#![tactic(auto)]
+
 ghost use Rattle.std.specs.Prelude.{◌+◌, ◌*◌, ◌<◌, ◌≤◌, length};
 ghost use Rattle.bit_laws.specs.Bit.{length_limit};
 ghost use Rattle.search_peel.specs.Peel.{BitsAt, LowBits, Inner, BitsIn, Filled, Reaches, Peeled};

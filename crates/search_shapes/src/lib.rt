@@ -1,5 +1,7 @@
 // The strips of every piece in every turn, made once and read many times: what the searches work on. Shape number
 // 4 i + t is piece i in turn t; specs/Shapes.antt says how the buffers hold it.
+#![tactic(auto)]
+
 ghost use Rattle.std.specs.Prelude.{◌≡◌, true, ◌+◌, ◌*◌, ◌<◌, ◌^◌, length};
 ghost use Rattle.model.specs.Lent.{lent_by, job_of, lent_well};
 ghost use Rattle.model.specs.Layout.{Job, turned_piece};

@@ -1,6 +1,8 @@
 // Sums over the table of pair penalties (64 x 64 entries, that of pieces i and k at i * 64 + k and at k * 64 + i) and the weights beside
 // it, which stand in the order of the pairs; and the weights that rise after a round. Document 01, 'No-fit rows and penalty' and 'Descent
 // and guidance'. The number of pieces is n.
+#![tactic(auto)]
+
 ghost use Rattle.std.specs.Prelude.{◌≡◌, List, ℕ, ◌+◌, ◌*◌, ◌<◌, ◌≤◌, ◌^◌, length, replicate};
 ghost use Rattle.model.specs.Layout.{Job, Layout, pairs, piece_sum, weighted_sum, plain_sum};
 ghost use Rattle.model.specs.Guided.{raised};

@@ -1,5 +1,7 @@
 // The table of pair penalties, which sums are taken from and a descent keeps: 64 x 64 entries, that of pieces i and k at i * 64 + k and at
 // k * 64 + i. What lies on the diagonal plays no part. The number of pieces is the layout's length.
+#![tactic(auto)]
+
 ghost use Rattle.std.specs.Prelude.{◌≡◌, ◌+◌, ◌<◌, ◌≤◌, length};
 ghost use Rattle.model.specs.Piece.{gap_bound};
 ghost use Rattle.model.specs.Lent.{lent_by, job_of};

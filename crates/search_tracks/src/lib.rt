@@ -1,4 +1,6 @@
 // Boxes as a line sees them: the coordinates and sides along it and across it, the sides grown by the gap. Rows and columns are alike from here on.
+#![tactic(auto)]
+
 ghost use Rattle.std.specs.Prelude.{◌≡◌, List, ℕ, ◌+◌, ◌-◌, ◌<◌, ◌≤◌, length};
 ghost use Rattle.model.specs.Piece.{line_direction};
 ghost use Rattle.model.specs.Lent.{lent_by, job_of, column_bound, side_bound, gap_bound};

@@ -1,4 +1,6 @@
 // Words as one string of bits, moved up into another and taken over there, or taken over by itself: what the map of two pieces is made by.
+#![tactic(auto)]
+
 ghost use Rattle.std.specs.Prelude.{◌+◌, ◌*◌, ◌/◌, ◌<◌, ◌≤◌, length};
 ghost use Rattle.bit_laws.specs.Bit.{length_limit};
 ghost use Rattle.search_words.specs.Words.{OrRow, OrFlat, Spare, StripOf, Cleared, Spread, Repeated};

@@ -1,5 +1,7 @@
 // The sheet of cover counts: document 01, 'Start, layout text, sheet' and 'When a call says no'. The record says which pieces are laid
 // and where; the lent buffer has one count a pixel, row by row, so that pixel (x, y) stands at y * L + x. A refused call writes nothing.
+#![tactic(auto)]
+
 ghost use Rattle.std.specs.Prelude.{◌≡◌, length};
 ghost use Rattle.model.specs.Lent.{lent_by};
 ghost use Rattle.model.specs.Calls.{fresh_call, lay_call, withdraw_call, counts_after};

@@ -1,5 +1,7 @@
 // The test for refusal 8 of lay and withdraw: a record and counts that some list of calls gives. Every entry is blank or a piece laid
 // well, and the counts are those that the laid pieces make anew.
+#![tactic(auto)]
+
 ghost use Rattle.std.specs.Prelude.{◌≡◌, true, List, ℕ, ◌*◌, ◌<◌, ◌≤◌, length};
 ghost use Rattle.model.specs.Bounded.{all_below};
 ghost use Rattle.model.specs.Lent.{lent_by, job_of, lent_well, piece_bound};

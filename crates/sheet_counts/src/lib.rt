@@ -1,5 +1,7 @@
 // A piece's pixels added to the counts of a sheet, taken off, or marked as one owner's: row by row of its turned box. It knows no sheet
 // record.
+#![tactic(auto)]
+
 ghost use Rattle.std.specs.Prelude.{◌≡◌, true, ℕ, ◌+◌, ◌*◌, ◌<◌, ◌≤◌, length, replicate};
 ghost use Rattle.model.specs.Lent.{lent_by, job_of, column_bound};
 ghost use Rattle.piece_pixels.specs.Turned.{InTurnedBox, PixelStored};

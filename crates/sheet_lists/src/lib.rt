@@ -1,4 +1,6 @@
 // Lists of calls from a fresh sheet, each through the public calls: what demand 2 says of every such list holds of what this code leaves.
+#![tactic(auto)]
+
 ghost use Rattle.std.specs.Prelude.{◌≡◌, length};
 ghost use Rattle.model.specs.Lent.{lent_by, job_of};
 ghost use Rattle.model.specs.Calls.{counts_after};

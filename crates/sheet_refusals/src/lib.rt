@@ -1,4 +1,6 @@
 // Why a call on the sheet is refused, by document 01's number, or 0: the first cause in the call's order.
+#![tactic(auto)]
+
 ghost use Rattle.std.specs.Prelude.{◌≡◌, List, [], ℕ, ◌≤◌, length};
 ghost use Rattle.model.specs.Lent.{lent_by, job_of, piece_bound};
 ghost use Rattle.model.specs.Calls.{sheet_causes};

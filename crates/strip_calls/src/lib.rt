@@ -1,4 +1,5 @@
 // The stores of a job's strips (document 01, 'Strips'): the strips call fills them, the stretch call hands out one piece's part.
+#![tactic(auto)]
 
 use model::{DoneAnswer, JobSize, PieceEntry, StripEntry, refused};
 use strip_store::fill::room_for;

@@ -1,4 +1,5 @@
 // Whether some piece of a box has just the given strips, by checks on strips and their neighbours alone.
+#![tactic(auto)]
 
 ghost use Rattle.std.specs.Prelude.{◌≡◌, true, ◌<◌, ◌≤◌, eqb, []};
 ghost use lib.ListN.{length, get_or};

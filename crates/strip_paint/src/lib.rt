@@ -1,4 +1,5 @@
 // Writing the pixels of strips into a pixel buffer, row by row of the box.
+#![tactic(auto)]
 
 ghost use Rattle.std.specs.Prelude.{◌≡◌, true, ◌++◌, map, ℕ, ◌+◌, ◌*◌, ◌<◌, ◌≤◌, length, drop, replicate};
 ghost use Rattle.model.specs.Piece.{point};

@@ -1,4 +1,5 @@
 // Rebuilding a piece from its strips (document 01, 'Strips'): the one pixel set of a box that has given row or column strips.
+#![tactic(auto)]
 
 ghost use Rattle.std.specs.Prelude.{◌≡◌, length};
 ghost use Rattle.model.specs.Answers.{done_answer};

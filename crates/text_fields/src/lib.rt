@@ -1,4 +1,6 @@
 // Bytes to numbers and words, numbers to bytes: document 01, 'Job text'. Nothing here knows what a job is.
+#![tactic(auto)]
+
 mod reading;
 mod writing;
 

@@ -1,2 +1,3 @@
 // Laws of the job text and the layout text: what follows from the definitions of the crate model. Their words stand in
 // specs/, the theorems in proofs/. The crate has no code.
+#![tactic(auto)]

@@ -1,5 +1,7 @@
 // A line of a word and numbers, read at a position: document 01, 'Job text' and 'Start, layout text, sheet'. Nothing here knows what
 // the numbers say.
+#![tactic(auto)]
+
 ghost use Rattle.std.specs.Prelude.{◌+◌, ◌<◌, ◌≤◌, ◌≡◌, length};
 ghost use Rattle.model.specs.Text.{fields_at, line_at};
 ghost use Rattle.text_numbers.specs.Lines.{end_byte, field_ends, ReadsLine};

@@ -1,4 +1,6 @@
 // Whole numbers, whatever they count: a byte as a wide number, and the larger and the smaller of two.
+#![tactic(auto)]
+
 ghost use Rattle.std.specs.Prelude.{◌≡◌, ◌<◌, min, max};
 
 // A byte as a number that sums fit in.
