@@ -129,8 +129,14 @@ def antt(text, table):
     def word(m):
         return table.get(m[0], m[0])
 
+    # The path of a `use` names folders and files, which stay.
     def code(part):
-        return WORD.sub(word, part)
+        path = re.compile(r"(?<![^\s])use [^\s{]+")
+        out, at = [], 0
+        for m in path.finditer(part):
+            out += [WORD.sub(word, part[at : m.start()]), m[0]]
+            at = m.end()
+        return "".join(out) + WORD.sub(word, part[at:])
 
     out, at = [], 0
     for m in re.finditer(r'"(?:[^"\\\n]|\\.)*"|--[^\n]*', text):

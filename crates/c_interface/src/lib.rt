@@ -14,7 +14,7 @@ pub mod record;
 
 // What an exported call replies: number 0, or why and where it is refused.
 #[repr(C)]
-#[derive(Drop)]
+#[derive(Clone, Copy)]
 pub struct Reply {
     pub number: u32,
     pub first: u32,

@@ -20,7 +20,7 @@ use model::{
 };
 
 // What a call's own tests found wrong, beside the job and the layout: a buffer's length (7), a number's range (2), a piece or its turn (9).
-#[derive(Drop)]
+#[derive(Clone, Copy)]
 pub struct Wrong {
     pub length: bool,
     pub number: bool,

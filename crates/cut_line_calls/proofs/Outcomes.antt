@@ -16,7 +16,7 @@ use Rattle.call_laws.proofs.Checks.{check_first, check_none, check_given}
 use Rattle.call_laws.specs.Cuts.{CutListClaims}
 use Rattle.call_laws.proofs.Cuts.{cut_given}
 use Rattle.causes.proofs.Passed.{laid_by}
-use Rattle.cut_list_lem.specs.Owned.{in_room, LaidApart}
+use Rattle.cut_list.specs.Owned.{in_room, LaidApart}
 
 module _ (l : Lent) (es : List (List ℕ)) where
   -- the lines call is the check, and then room

@@ -10,7 +10,7 @@ use Rattle.model.specs.declared.JobSize.{JobSize}
 use Rattle.model.specs.declared.Direction.TheVariants.{Horizontal, Vertical}
 use Rattle.text_laws.proofs.Causes.{here_refused, not_there}
 use Rattle.cut_scan.specs.Scan.{SmallGrid, grid_units, line_entries, LinesAppended}
-use Rattle.cut_list_lem.specs.Owned.{grid_of, owned_lines, in_room, SmallSheet}
+use Rattle.cut_list.specs.Owned.{grid_of, owned_lines, in_room, SmallSheet}
 
 -- ── the grids of a small sheet ──
 

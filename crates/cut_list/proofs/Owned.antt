@@ -18,7 +18,7 @@ use Rattle.cut_laws.proofs.Sides.{same_set}
 use Rattle.cut_laws.proofs.Owners.{sides_by_owner, no_owner}
 use Rattle.cut_owners.specs.OwnersPainted.{OwnersPainted}
 use Rattle.cut_scan.specs.Scan.{owner_at, before_at, side_at, grid_units}
-use Rattle.cut_list_lem.specs.Owned.{grid_of, owned_lines}
+use Rattle.cut_list.specs.Owned.{grid_of, owned_lines}
 
 -- ── the owners of a painted sheet ──
 

@@ -8,7 +8,7 @@ ghost use Rattle.model.specs.Lent.{lent_by, job_of, area_bound};
 ghost use Rattle.model.specs.Buffer.{layout_of};
 ghost use Rattle.model.specs.Cut.{line_entry, cut_lines};
 ghost use Rattle.model.specs.Calls.{lines_after};
-ghost use Rattle.cut_list_lem.specs.Owned.{grid_of, owned_lines, in_room, SmallSheet, LaidApart};
+ghost use Rattle.cut_list.specs.Owned.{grid_of, owned_lines, in_room, SmallSheet, LaidApart};
 
 use cut_owners::paint;
 use cut_scan::{Grid, put_lines};

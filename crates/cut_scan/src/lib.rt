@@ -11,7 +11,7 @@ use model::{Direction, LineEntry};
 
 // The owners as a direction sees them: how many pixels lie along each of so many lines across, and how far apart in the buffer two
 // neighbours are, along the direction and across it.
-#[derive(Drop)]
+#[derive(Clone, Copy)]
 pub struct Grid {
     pub length: usize,
     pub lines: usize,
@@ -93,7 +93,7 @@ fn close_run(
 }
 
 // Where the next line stands, and how many units just passed are sides.
-#[derive(Drop)]
+#[derive(Clone, Copy)]
 struct Passed {
     at: usize,
     run: usize,

@@ -25,7 +25,7 @@ use Rattle.cut_laws.specs.Exact.{StepExact}
 use Rattle.call_laws.specs.Cuts.{most_lines, CutListClaims}
 use Rattle.call_laws.proofs.Cuts.{cut_list_lem, step_given, entries_back, front_lines, same_steps}
 use Rattle.cut_line_calls.proofs.Outcomes.{count_given}
-use Rattle.cut_list_lem.proofs.Listed.{enough_room}
+use Rattle.cut_list.proofs.Listed.{enough_room}
 use Rattle.cut_step_calls.specs.declared.StepAnswer.{StepAnswer}
 use Rattle.cut_step_calls.specs.Answers.{step_answer, shared_step}
 

@@ -25,7 +25,7 @@ use model::{
 const MOST_LINES: usize = 70145;
 
 // What a call for a step answers: the step, or why it is refused.
-#[derive(Drop)]
+#[derive(Clone, Copy)]
 pub enum StepAnswer {
     Step(CutStep),
     Refused(Refusal),

@@ -6,7 +6,7 @@ mod reader;
 pub use reader::read_job;
 
 // What reading a job answers: the job's numbers, its table and pixels being filled, or a refusal.
-#[derive(Drop)]
+#[derive(Clone, Copy)]
 pub enum JobAnswer {
     Read(model::JobSize),
     Refused(model::Refusal),

@@ -17,7 +17,7 @@ use model::{PieceEntry, Refusal};
 use piece_table::piece_entry;
 
 // Where reading stands: the areas of the boxes so far, the position and the line of what follows.
-#[derive(Drop)]
+#[derive(Clone, Copy)]
 struct Place {
     area: usize,
     next: usize,
@@ -25,14 +25,14 @@ struct Place {
 }
 
 // Where reading stands after a piece, or why the piece is refused.
-#[derive(Drop)]
+#[derive(Clone, Copy)]
 enum PieceAnswer {
     Read(Place),
     Refused(Refusal),
 }
 
 // How many pixel bytes all pieces have, or why one is refused.
-#[derive(Drop)]
+#[derive(Clone, Copy)]
 enum PiecesAnswer {
     Read(usize),
     Refused(Refusal),

@@ -14,7 +14,7 @@ use model::{AREA_BOUND, JobSize, Refusal};
 use text_numbers::{LineForm, line_at};
 
 // What the job line says: W rows, L columns, n pieces, the gap g; whether its piece lines have a lock; and the position after it.
-#[derive(Drop)]
+#[derive(Clone, Copy)]
 pub struct JobHead {
     pub size: JobSize,
     pub locks: bool,
@@ -22,14 +22,14 @@ pub struct JobHead {
 }
 
 // The job line, or why it is refused.
-#[derive(Drop)]
+#[derive(Clone, Copy)]
 pub enum JobLineAnswer {
     Line(JobHead),
     Refused(Refusal),
 }
 
 // What a piece line says: its number, l columns, w rows, the sum of turns, the lock; and the position after it.
-#[derive(Drop)]
+#[derive(Clone, Copy)]
 pub struct PieceHead {
     pub number: usize,
     pub columns: usize,
@@ -40,7 +40,7 @@ pub struct PieceHead {
 }
 
 // A piece line, or why it is refused.
-#[derive(Drop)]
+#[derive(Clone, Copy)]
 pub enum PieceLineAnswer {
     Line(PieceHead),
     Refused(Refusal),

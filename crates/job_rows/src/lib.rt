@@ -12,7 +12,7 @@ use model::Refusal;
 use text_fields::{byte_at, put_byte, word_at};
 
 // The position after row lines, or why they are refused.
-#[derive(Drop)]
+#[derive(Clone, Copy)]
 pub enum RowsAnswer {
     Next(usize),
     Refused(Refusal),

@@ -19,7 +19,7 @@ use piece_pixels::turned_sides;
 use piece_table::turns_of;
 
 // The turn that degrees are, if there is one.
-#[derive(Drop)]
+#[derive(Clone, Copy)]
 pub enum TurnAnswer {
     Known(Turn),
     Unknown,

@@ -25,7 +25,7 @@ use search_sums::total;
 use search_table::penalties_of;
 
 // The figures of a layout with one piece placed anew, or why they are refused.
-#[derive(Drop)]
+#[derive(Clone, Copy)]
 pub enum PreviewAnswer {
     Shown(Figures),
     Refused(Refusal),

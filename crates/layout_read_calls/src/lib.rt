@@ -23,7 +23,7 @@ use model::{
 use text_numbers::{LineForm, line_at};
 
 // The numbers of a piece's line.
-#[derive(Drop)]
+#[derive(Clone, Copy)]
 struct PlacementFields {
     number: usize,
     degrees: usize,
@@ -32,21 +32,21 @@ struct PlacementFields {
 }
 
 // The position after the layout line, or why it is refused.
-#[derive(Drop)]
+#[derive(Clone, Copy)]
 enum PositionAnswer {
     After(usize),
     Refused(Refusal),
 }
 
 // A piece's placement, or why it is refused.
-#[derive(Drop)]
+#[derive(Clone, Copy)]
 enum PlaceAnswer {
     Placed(Placement),
     Refused(Refusal),
 }
 
 // The placement on a piece's line and the position after it, or why it is refused.
-#[derive(Drop)]
+#[derive(Clone, Copy)]
 enum LineAnswer {
     Read(Placement, usize),
     Refused(Refusal),

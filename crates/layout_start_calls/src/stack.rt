@@ -11,7 +11,7 @@ use piece_table::{columns_of, rows_of};
 use whole_numbers::{larger, smaller};
 
 // A stack of pieces: its left side, its height and its length so far. Document 01's X, Y and M.
-#[derive(Drop)]
+#[derive(Clone, Copy)]
 struct Pile {
     left: Column,
     height: Row,

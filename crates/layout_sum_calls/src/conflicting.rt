@@ -14,7 +14,7 @@ use layout_strips::{StripSpan, conflicts_of, empty_store, no_spans};
 use model::{JobSize, PieceEntry, PlaceEntry, StripEntry};
 
 // The pair that conflicts, if there is one.
-#[derive(Drop)]
+#[derive(Clone, Copy)]
 pub enum ConflictingPair {
     Conflicting(u32, u32),
     Apart,

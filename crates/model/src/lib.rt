@@ -46,23 +46,23 @@ ghost use Rattle.std.specs.Prelude.{◌≡◌};
 ghost use Rattle.model.specs.Refusal.{plain_refusal};
 
 // A column number x, along the length of the sheet.
-#[derive(Drop)]
+#[derive(Clone, Copy)]
 pub struct Column(pub u16);
 
 // A row number y, across the width of the sheet.
-#[derive(Drop)]
+#[derive(Clone, Copy)]
 pub struct Row(pub u16);
 
 // A difference of two column numbers.
-#[derive(Drop)]
+#[derive(Clone, Copy)]
 pub struct ColumnOffset(pub i32);
 
 // A difference of two row numbers.
-#[derive(Drop)]
+#[derive(Clone, Copy)]
 pub struct RowOffset(pub i32);
 
 // A counterclockwise turn by 0, 90, 180 or 270 degrees.
-#[derive(Drop)]
+#[derive(Clone, Copy)]
 pub enum Turn {
     Zero,
     Quarter,
@@ -71,28 +71,28 @@ pub enum Turn {
 }
 
 // The direction of a shift: along the rows or along the columns.
-#[derive(Drop)]
+#[derive(Clone, Copy)]
 pub enum Direction {
     Horizontal,
     Vertical,
 }
 
 // The line that a line search runs on: a held row, searched horizontally, or a held column, searched vertically.
-#[derive(Drop)]
+#[derive(Clone, Copy)]
 pub enum Line {
     InRow(Row),
     InColumn(Column),
 }
 
 // A coordinate on such a line, with its axis: a column where a row is held, a row where a column is held.
-#[derive(Drop)]
+#[derive(Clone, Copy)]
 pub enum Coordinate {
     AtColumn(Column),
     AtRow(Row),
 }
 
 // Where a piece lies: its turn, and the sheet pixel of its turned box's bottom-left pixel, the corner.
-#[derive(Drop)]
+#[derive(Clone, Copy)]
 pub struct Placement {
     pub turn: Turn,
     pub x: Column,
@@ -101,7 +101,7 @@ pub struct Placement {
 
 // A job's numbers: the sheet's rows (W) and columns (L), how many pieces there are (n), and the gap between them (g). Its table and its
 // pixels are lent beside it.
-#[derive(Drop)]
+#[derive(Clone, Copy)]
 pub struct JobSize {
     pub rows: usize,
     pub columns: usize,
@@ -122,7 +122,7 @@ pub type PlaceEntry = [u16; 3];
 pub type LineEntry = [u16; 4];
 
 // A refusal: its number and two places, 0 unless named.
-#[derive(Drop)]
+#[derive(Clone, Copy)]
 pub struct Refusal {
     pub number: u8,
     pub first: u32,
@@ -130,28 +130,28 @@ pub struct Refusal {
 }
 
 // A call that gives nothing but what it wrote or checked: it is done, or why it is refused.
-#[derive(Drop)]
+#[derive(Clone, Copy)]
 pub enum DoneAnswer {
     Done,
     Refused(Refusal),
 }
 
 // A call that gives a number, or why it is refused.
-#[derive(Drop)]
+#[derive(Clone, Copy)]
 pub enum NumberAnswer {
     Number(u64),
     Refused(Refusal),
 }
 
 // What a preview shows of a layout: its weighted sum and its used length.
-#[derive(Drop)]
+#[derive(Clone, Copy)]
 pub struct Figures {
     pub sum: u64,
     pub length: u64,
 }
 
 // A step of the knife, its point in millimetres: lift to (x, y), cut to (x, y), or done.
-#[derive(Drop)]
+#[derive(Clone, Copy)]
 pub enum CutStep {
     Lift(f64, f64),
     Cut(f64, f64),
@@ -177,7 +177,7 @@ pub fn refused(number: u8) -> DoneAnswer
 }
 
 // How a descent ends: sum zero, all trials quiet, or budget used up.
-#[derive(Drop)]
+#[derive(Clone, Copy)]
 pub enum End {
     Clear,
     Settled,
@@ -185,14 +185,14 @@ pub enum End {
 }
 
 // One piece's entry in the sheet record: whether it is laid and where. One that is not laid has turn 0 and corner (0, 0).
-#[derive(Drop)]
+#[derive(Clone, Copy)]
 pub struct Entry {
     pub laid: bool,
     pub place: Placement,
 }
 
 // The sheet record: an entry for each of the 64 piece numbers. Those from n on are of pieces that are not laid.
-#[derive(Drop)]
+#[derive(Clone, Copy)]
 pub struct Record {
     pub pieces: [Entry; PIECE_BOUND],
 }

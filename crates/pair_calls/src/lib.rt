@@ -16,7 +16,7 @@ use pair_measure::{placed_depth, placed_penalty};
 const DEPTH_END: u32 = 264;
 
 // Whether two pieces conflict, or why the question is refused.
-#[derive(Drop)]
+#[derive(Clone, Copy)]
 pub enum ShareAnswer {
     Shares(bool),
     Refused(Refusal),

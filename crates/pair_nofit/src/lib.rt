@@ -17,7 +17,7 @@ use whole_numbers::{larger, smaller, wide};
 const ALL: u64 = 18446744073709551615;
 
 // A strip of a placed piece: its line on the sheet, and where it begins and ends along the line.
-#[derive(Drop)]
+#[derive(Clone, Copy)]
 pub struct Placed {
     pub line: u32,
     pub begin: u32,
@@ -25,7 +25,7 @@ pub struct Placed {
 }
 
 // Shifts that are known to be marked: those from `low` up to and without `high`.
-#[derive(Drop)]
+#[derive(Clone, Copy)]
 pub struct Covered {
     pub low: u32,
     pub high: u32,

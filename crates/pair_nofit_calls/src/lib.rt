@@ -25,7 +25,7 @@ use strip_scan::compare::Compared;
 const OFFSET_WORDS: usize = OFFSET_COUNT / 64 + 1;
 
 // A piece in a turn.
-#[derive(Drop)]
+#[derive(Clone, Copy)]
 pub struct PieceInTurn {
     pub piece: usize,
     pub turn: Turn,

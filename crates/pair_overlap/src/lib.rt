@@ -18,35 +18,35 @@ const LINE_STEP: u32 = 65536;
 const SHIFT_REACH: u32 = 1288;
 
 // A piece's corner as its strips' direction sees it: the coordinate along them and the one across them.
-#[derive(Drop)]
+#[derive(Clone, Copy)]
 pub struct Corner {
     pub along: u32,
     pub across: u32,
 }
 
 // Where a placed strip begins and ends, in an order by line, then along: lines lie 65,536 apart.
-#[derive(Drop)]
+#[derive(Clone, Copy)]
 pub struct Span {
     pub begin: u32,
     pub end: u32,
 }
 
 // A place in each of two stretches.
-#[derive(Drop)]
+#[derive(Clone, Copy)]
 pub struct Heads {
     pub first: usize,
     pub second: usize,
 }
 
 // What a walk tells of the shifts of a piece: how far it has to go at least, and if that is 0, how far it may.
-#[derive(Drop)]
+#[derive(Clone, Copy)]
 pub struct Leeway {
     pub shift: u32,
     pub room: u32,
 }
 
 // Shifts from a first one up to an end.
-#[derive(Drop)]
+#[derive(Clone, Copy)]
 pub struct Shifts {
     pub first: u32,
     pub end: u32,

@@ -52,7 +52,7 @@ pub fn meets_below(
 }
 
 // A placed piece's box as its strips' direction sees it: its corner, how far it reaches along the strips, and over how many lines.
-#[derive(Drop)]
+#[derive(Clone, Copy)]
 pub struct PlacedBox {
     pub corner: Corner,
     pub length: usize,

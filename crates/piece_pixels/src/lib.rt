@@ -13,7 +13,7 @@ use model::{PieceEntry, Turn};
 use piece_table::{columns_of, rows_of};
 
 // A piece as the pixel store holds it, seen in a turn: where its pixels begin, its box's columns and rows, and the turn.
-#[derive(Drop)]
+#[derive(Clone, Copy)]
 pub struct TurnedPiece {
     pub start: usize,
     pub columns: usize,
@@ -22,7 +22,7 @@ pub struct TurnedPiece {
 }
 
 // The sides of a box.
-#[derive(Drop)]
+#[derive(Clone, Copy)]
 pub struct Sides {
     pub columns: usize,
     pub rows: usize,

@@ -18,7 +18,7 @@ use search_lines::RunSize;
 use search_sums::total;
 
 // How a descent ended: the end, the weighted sum, trials made and moves. Its layout stands in the layout buffer.
-#[derive(Drop)]
+#[derive(Clone, Copy)]
 pub struct Ended {
     pub end: End,
     pub sum: u64,

@@ -21,7 +21,7 @@ use run_descent::Ended;
 use run_memory::memory::{Plan, PlanOutcome, with_strips};
 
 // How a descent ended, or why it is refused.
-#[derive(Drop)]
+#[derive(Clone, Copy)]
 pub enum DescentAnswer {
     Ended(Ended),
     Refused(Refusal),

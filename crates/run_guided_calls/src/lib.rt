@@ -21,7 +21,7 @@ use run_rounds::Terms;
 
 // What a guided run comes to beside the best layout and the new weights: the best layout's plain sum, and the trials and moves of all
 // rounds.
-#[derive(Drop)]
+#[derive(Clone, Copy)]
 pub struct RunTotals {
     pub sum: u64,
     pub made: u64,
@@ -29,7 +29,7 @@ pub struct RunTotals {
 }
 
 // A guided run, or why it is refused.
-#[derive(Drop)]
+#[derive(Clone, Copy)]
 pub enum GuidedAnswer {
     Ran(RunTotals),
     Refused(Refusal),

@@ -29,14 +29,14 @@ const LINES_LENGTH: usize = 524288;
 const MOST_MAPS: usize = 33554432;
 
 // What a run does: one descent with a budget, or rounds on given terms.
-#[derive(Drop)]
+#[derive(Clone, Copy)]
 pub enum Plan {
     Alone(u32),
     Rounds(Terms),
 }
 
 // What a run comes to beside its buffers.
-#[derive(Drop)]
+#[derive(Clone, Copy)]
 pub enum PlanOutcome {
     Alone(Ended),
     Rounds(Tally),

@@ -21,7 +21,7 @@ use search_lines::RunSize;
 use search_sums::{plain_total, raise};
 
 // What rounds come to beside the best layout and the weights: the best layout's plain sum, and the trials and moves of all rounds.
-#[derive(Drop)]
+#[derive(Clone, Copy)]
 pub struct Tally {
     pub sum: u64,
     pub made: u64,
@@ -29,7 +29,7 @@ pub struct Tally {
 }
 
 // The terms of a guided run: how many rounds at most, and the budget of each.
-#[derive(Drop)]
+#[derive(Clone, Copy)]
 pub struct Terms {
     pub count: u32,
     pub budget: u32,

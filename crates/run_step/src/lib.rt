@@ -29,14 +29,14 @@ use search_sums::row_sum;
 use search_tracks::Mover;
 
 // What a trial comes to: a move, with the piece's pair sum at its new place, or quiet.
-#[derive(Drop)]
+#[derive(Clone, Copy)]
 pub enum Tried {
     Moved(u32),
     Quiet,
 }
 
 // Where a descent stands: the weighted sum, the quiet count, trials made, moves, and the place of the trial that comes next.
-#[derive(Drop)]
+#[derive(Clone, Copy)]
 pub struct DescentState {
     pub sum: u64,
     pub quiet: usize,

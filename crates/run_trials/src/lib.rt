@@ -18,7 +18,7 @@ use piece_table::is_locked;
 pub const TRIAL_BOUND: usize = 512;
 
 // A piece, a turn allowed to it and a direction.
-#[derive(Drop)]
+#[derive(Clone, Copy)]
 pub struct Trial {
     pub piece: usize,
     pub turn: Turn,

@@ -22,7 +22,7 @@ use search_tracks::{
 };
 
 // A piece on its way along a line, and its track there.
-#[derive(Drop)]
+#[derive(Clone, Copy)]
 pub struct Sweep {
     pub mover: Mover,
     pub track: Track,

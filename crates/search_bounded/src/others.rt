@@ -18,7 +18,7 @@ use search_sums::weight_between;
 use search_tracks::{Reach, reach_of};
 
 // What is looked for: the sums of a piece on its way along a line that are below a bound.
-#[derive(Drop)]
+#[derive(Clone, Copy)]
 pub struct Wanted {
     pub sweep: Sweep,
     pub bound: u32,

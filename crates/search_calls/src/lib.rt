@@ -30,7 +30,7 @@ const SLOTS: usize = 1;
 const NO_BOUND: u32 = 4294967295;
 
 // The least pair sum on a line and the smallest coordinate that has it, or why the search is refused.
-#[derive(Drop)]
+#[derive(Clone, Copy)]
 pub enum SearchAnswer {
     Best(u64, Coordinate),
     Refused(Refusal),

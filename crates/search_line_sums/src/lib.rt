@@ -13,7 +13,7 @@ ghost use Rattle.search_line_sums.specs.Added.{LineAdded};
 const BLOCK: usize = 8;
 
 // The least sum below a bound and the smallest coordinate that has it, if there is one.
-#[derive(Drop)]
+#[derive(Clone, Copy)]
 pub enum Found {
     At(u32, u32),
     Nothing,

@@ -71,14 +71,14 @@ pub const LEAST_LINES: usize = search_line_store::SLOT_BYTES
     + LINE_STRETCH;
 
 // The sizes of a run: its job's, and how many slots its store of lines has.
-#[derive(Drop)]
+#[derive(Clone, Copy)]
 pub struct RunSize {
     pub size: JobSize,
     pub slots: usize,
 }
 
 // Two pieces in their turns, and the standing one's offset across the line: MIDDLE where both corners are on one line.
-#[derive(Drop)]
+#[derive(Clone, Copy)]
 pub struct Two {
     pub moved: usize,
     pub moved_turn: Turn,
@@ -88,7 +88,7 @@ pub struct Two {
 }
 
 // The line of two pieces along a direction, read forwards or backwards.
-#[derive(Drop)]
+#[derive(Clone, Copy)]
 pub struct Source {
     pub two: Two,
     pub direction: Direction,

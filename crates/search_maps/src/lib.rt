@@ -34,7 +34,7 @@ const POINT_SIZE: usize = 5;
 const POINT_WORDS: usize = LEVELS * POINT_SIZE;
 
 // The box sides of two pieces, along the direction and across it.
-#[derive(Drop)]
+#[derive(Clone, Copy)]
 pub struct Sides {
     pub moved_along: usize,
     pub moved_across: usize,

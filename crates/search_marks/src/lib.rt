@@ -12,7 +12,7 @@ use model::StripEntry;
 use whole_numbers::wide;
 
 // A strip in a string of bits: its place and its pixels.
-#[derive(Drop)]
+#[derive(Clone, Copy)]
 pub struct Span {
     pub place: usize,
     pub count: usize,

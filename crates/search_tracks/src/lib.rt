@@ -11,7 +11,7 @@ use model::{Direction, JobSize, Line, PieceEntry, PlaceEntry, Turn};
 use whole_numbers::smaller;
 
 // A piece that moves: its number, its turn and the line that it moves on.
-#[derive(Drop)]
+#[derive(Clone, Copy)]
 pub struct Mover {
     pub piece: usize,
     pub turn: Turn,
@@ -19,7 +19,7 @@ pub struct Mover {
 }
 
 // A moving piece on its line: its grown box's sides along and across, the held coordinate, and how many places the line has for the piece.
-#[derive(Drop)]
+#[derive(Clone, Copy)]
 pub struct Track {
     pub length: usize,
     pub width: usize,
@@ -28,7 +28,7 @@ pub struct Track {
 }
 
 // A standing piece beside the line: its turn, its corner's coordinates along and across, and its grown box's sides along and across.
-#[derive(Drop)]
+#[derive(Clone, Copy)]
 pub struct StandingPiece {
     pub turn: Turn,
     pub along: usize,
@@ -39,7 +39,7 @@ pub struct StandingPiece {
 
 // The places of a line, from `low` up to and without `high`, at which a moving piece's box meets a standing one's, and where they
 // begin in the line of penalties of the two.
-#[derive(Drop)]
+#[derive(Clone, Copy)]
 pub struct Reach {
     pub low: usize,
     pub high: usize,

@@ -15,7 +15,7 @@ mod record;
 
 // What a call on the sheet answers: the reply, and the sheet record after it. On a refusal the record is the one that was passed; a
 // refused fresh sheet has the record where nothing is laid.
-#[derive(Drop)]
+#[derive(Clone, Copy)]
 pub struct SheetAnswer {
     pub reply: DoneAnswer,
     pub sheet: Record,

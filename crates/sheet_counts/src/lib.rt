@@ -16,7 +16,7 @@ use piece_pixels::TurnedPiece;
 const COUNT_BOUND: u8 = 255;
 
 // What becomes of the counts on a piece's pixels: one more where it is laid, one less where it is withdrawn, or the number of an owner.
-#[derive(Drop)]
+#[derive(Clone, Copy)]
 pub enum Change {
     OneMore,
     OneLess,

@@ -12,7 +12,7 @@ ghost use Rattle.strip_check.specs.Check.{ReadOf, as_strip, strip_in, fits_in, s
 use model::{Direction, StripEntry};
 
 // A strip of a buffer.
-#[derive(Drop)]
+#[derive(Clone, Copy)]
 pub struct Strip {
     pub line: usize,
     pub first: usize,

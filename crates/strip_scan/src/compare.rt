@@ -15,7 +15,7 @@ use model::{Direction, PieceEntry, StripEntry, Turn};
 use piece_pixels::{TurnedPiece, turned_piece};
 
 // What a comparison comes to: the strips stand in the store up to a place, or they do not.
-#[derive(Drop)]
+#[derive(Clone, Copy)]
 pub enum Compared {
     Until(usize),
     Unlike,

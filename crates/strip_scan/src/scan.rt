@@ -11,7 +11,7 @@ use model::Direction;
 use piece_pixels::TurnedPiece;
 
 // What reading on finds: a strip, or that there is none.
-#[derive(Drop)]
+#[derive(Clone, Copy)]
 pub enum NextStrip {
     Found {
         line: usize,

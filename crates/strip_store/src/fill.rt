@@ -7,7 +7,7 @@ ghost use Rattle.strip_store.specs.Rooms.{store_fits};
 use model::{Direction, JobSize, PieceEntry, StripEntry};
 
 // How many strips and starts a store has room for.
-#[derive(Drop)]
+#[derive(Clone, Copy)]
 pub struct Room {
     pub strips: usize,
     pub starts: usize,

@@ -8,7 +8,7 @@ pub use reading::{byte_at, field_at, number_at, word_at};
 pub use writing::{put_byte, put_decimal, put_number, put_word};
 
 // A number and the position after it, or wrong form.
-#[derive(Drop)]
+#[derive(Clone, Copy)]
 pub enum Number {
     Got(usize, usize),
     Wrong,

@@ -6,7 +6,7 @@ ghost use Rattle.text_fields.specs.Answers.{digit_run, Reads};
 use crate::Number;
 
 // A run of digits: its value and the position after it.
-#[derive(Drop)]
+#[derive(Clone, Copy)]
 struct DigitRun {
     value: usize,
     next: usize,

@@ -9,14 +9,14 @@ ghost use Rattle.text_numbers.specs.Lines.{end_byte, field_ends, ReadsLine};
 use text_fields::{Number, field_at, word_at};
 
 // The position after a line, or wrong form.
-#[derive(Drop)]
+#[derive(Clone, Copy)]
 pub enum LineForm {
     Right(usize),
     Wrong,
 }
 
 // The numbers of a line, the first at index 0, behind them zeros, and its form. Where the form is wrong the numbers say nothing.
-#[derive(Drop)]
+#[derive(Clone, Copy)]
 pub struct LineNumbers {
     pub numbers: [usize; 8],
     pub form: LineForm,

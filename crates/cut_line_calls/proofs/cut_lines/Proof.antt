@@ -7,7 +7,7 @@ use Rattle.model.specs.Answers.{done_answer, count_answer}
 use Rattle.model.specs.Cut.{cut_lines}
 use Rattle.model.specs.Calls.{check_call, cut_lines_call, lines_after}
 use Rattle.model.specs.declared.DoneAnswer.{DoneAnswer}
-use Rattle.cut_list_lem.specs.Owned.{in_room}
+use Rattle.cut_list.specs.Owned.{in_room}
 use Rattle.cut_line_calls.proofs.Outcomes.{lines_refused, lines_passed, passed_laid, lines_answered}
 use Rattle.cut_line_calls.proofs.cut_lines.Statement.{statement}
 use Rattle.cut_line_calls.proofs.cut_lines.Tie as tie

@@ -1,7 +1,7 @@
 -- `grid_of`: each direction's numbers are the definition's. Assumes nothing.
 use Rattle.list_laws.proofs.Kit.{needs}
-use Rattle.cut_list_lem.proofs.grid_of.Statement.{statement}
-use Rattle.cut_list_lem.proofs.grid_of.Tie as tie
+use Rattle.cut_list.proofs.grid_of.Statement.{statement}
+use Rattle.cut_list.proofs.grid_of.Tie as tie
 
 returns : tie.Need-returns
 returns c = rw c.enum_told.given.1

@@ -6,10 +6,10 @@ use Rattle.model.specs.Buffer.{layout_of}
 use Rattle.model.specs.Cut.{cut_lines}
 use Rattle.list_laws.proofs.Lists.{front_length}
 use Rattle.job_laws.proofs.Checked.{facts}
-use Rattle.cut_list_lem.specs.Owned.{owned_lines}
-use Rattle.cut_list_lem.proofs.Owned.{owned_lines_lem}
-use Rattle.cut_list_lem.proofs.layout_lines.Statement.{statement}
-use Rattle.cut_list_lem.proofs.layout_lines.Tie as tie
+use Rattle.cut_list.specs.Owned.{owned_lines}
+use Rattle.cut_list.proofs.Owned.{owned_lines_lem}
+use Rattle.cut_list.proofs.layout_lines.Statement.{statement}
+use Rattle.cut_list.proofs.layout_lines.Tie as tie
 
 -- the sheet's pixels
 abbrev pixelCount : tie.Start → ℕ

@@ -4,10 +4,10 @@ use Rattle.model.specs.Refusal.{refused, given}
 use Rattle.model.specs.Answers.{count_answer}
 use Rattle.model.specs.Calls.{lines_after}
 use Rattle.list_laws.proofs.Lists.{nothing_left}
-use Rattle.cut_list_lem.specs.Owned.{owned_lines, in_room}
-use Rattle.cut_list_lem.proofs.Listed.{short_room, enough_room, room_filled}
-use Rattle.cut_list_lem.proofs.lines_of.Statement.{statement}
-use Rattle.cut_list_lem.proofs.lines_of.Tie as tie
+use Rattle.cut_list.specs.Owned.{owned_lines, in_room}
+use Rattle.cut_list.proofs.Listed.{short_room, enough_room, room_filled}
+use Rattle.cut_list.proofs.lines_of.Statement.{statement}
+use Rattle.cut_list.proofs.lines_of.Tie as tie
 
 returns : tie.Need-returns
 returns c =

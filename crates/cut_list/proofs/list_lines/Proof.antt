@@ -1,8 +1,8 @@
 -- `list_lines`: the horizontals stand in front, the verticals behind them. Assumes nothing.
 use Rattle.list_laws.proofs.Kit.{arith, needs}
-use Rattle.cut_list_lem.proofs.Listed.{small_rows, small_columns, both_count_lem, both_stored}
-use Rattle.cut_list_lem.proofs.list_lines.Statement.{statement}
-use Rattle.cut_list_lem.proofs.list_lines.Tie as tie
+use Rattle.cut_list.proofs.Listed.{small_rows, small_columns, both_count_lem, both_stored}
+use Rattle.cut_list.proofs.list_lines.Statement.{statement}
+use Rattle.cut_list.proofs.list_lines.Tie as tie
 
 put-lines-requires : tie.Need-put-lines-requires
 put-lines-requires c κs =

@@ -1,8 +1,8 @@
 -- `owner_at_lem`: a sheet's sides are small, so that no index overflows; a byte that is not there counts as no owner. Assumes nothing.
 use Rattle.list_laws.proofs.Kit.{sym, ◌*◌, ◌<◌, ◌≤◌, ℕ, arith, le-ltb, lt-ltb, mul-le-mul, get_or-eq_default, needs}
 use Rattle.cut_scan.specs.Scan.{owner_at}
-use Rattle.cut_scan.proofs.owner_at_lem.Statement.{statement}
-use Rattle.cut_scan.proofs.owner_at_lem.Tie as tie
+use Rattle.cut_scan.proofs.owner_at.Statement.{statement}
+use Rattle.cut_scan.proofs.owner_at.Tie as tie
 
 -- a product of two small numbers
 small : (a b : ℕ) → a ≤ 4096 → b ≤ 4096 → a * b ≤ 16777216

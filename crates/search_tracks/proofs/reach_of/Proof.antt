@@ -1,8 +1,8 @@
 -- `search_tracks::reach_of` meets its contract: boxes apart across meet nowhere, others along a stretch of places. Assumes nothing.
 use Rattle.list_laws.proofs.Kit.{refl, needs}
 use Rattle.search_tracks.proofs.Tracks.{reach_meeting}
-use Rattle.search_tracks.proofs.reach_of_lem.Statement.{statement}
-use Rattle.search_tracks.proofs.reach_of_lem.Tie as tie
+use Rattle.search_tracks.proofs.reach_of.Statement.{statement}
+use Rattle.search_tracks.proofs.reach_of.Tie as tie
 
 returns-3 : tie.Need-returns-3
 returns-3 c =
