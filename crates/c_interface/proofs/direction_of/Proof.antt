@@ -4,11 +4,12 @@ use Rattle.model.specs.Buffer.{direction_of}
 use Rattle.c_interface.proofs.direction_of.Statement.{statement}
 use Rattle.c_interface.proofs.direction_of.Tie as tie
 
-returns : tie.Need-returns
-returns c = rw (eq-eqb c.before.args.vertical 0 c.if1.true, direction_of)
+returns-then-vertical-eq0 : tie.Need-returns-then-vertical-eq0
+returns-then-vertical-eq0 c = rw (eq-eqb c.before.args.vertical 0 c.if-vertical-eq0.true, direction_of)
 
-returns-2 : tie.Need-returns-2
-returns-2 c = rw (ne_eqb c.before.args.vertical 0 c.if1.false, direction_of)
+returns-else-vertical-eq0 : tie.Need-returns-else-vertical-eq0
+returns-else-vertical-eq0 c = rw (ne_eqb c.before.args.vertical 0 c.if-vertical-eq0.false, direction_of)
 
-pub direction-of-spec : {M : Type 1} → statement M
-direction-of-spec = tie.close (tie.spec returns returns-2)
+pub direction_of_spec : {M : Type 1} → statement M
+direction_of_spec = tie.close (tie.spec
+    returns-then-vertical-eq0 returns-else-vertical-eq0)

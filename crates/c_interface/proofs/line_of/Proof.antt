@@ -4,11 +4,12 @@ use Rattle.c_interface.specs.Numbers.{line_of}
 use Rattle.c_interface.proofs.line_of.Statement.{statement}
 use Rattle.c_interface.proofs.line_of.Tie as tie
 
-returns : tie.Need-returns
-returns c = rw (eq-eqb c.before.args.vertical 0 c.if1.true, line_of)
+returns-then-vertical-eq0 : tie.Need-returns-then-vertical-eq0
+returns-then-vertical-eq0 c = rw (eq-eqb c.before.args.vertical 0 c.if-vertical-eq0.true, line_of)
 
-returns-2 : tie.Need-returns-2
-returns-2 c = rw (ne_eqb c.before.args.vertical 0 c.if1.false, line_of)
+returns-else-vertical-eq0 : tie.Need-returns-else-vertical-eq0
+returns-else-vertical-eq0 c = rw (ne_eqb c.before.args.vertical 0 c.if-vertical-eq0.false, line_of)
 
-pub line-of-spec : {M : Type 1} → statement M
-line-of-spec = tie.close (tie.spec returns returns-2)
+pub line_of_spec : {M : Type 1} → statement M
+line_of_spec = tie.close (tie.spec
+    returns-then-vertical-eq0 returns-else-vertical-eq0)

@@ -1,32 +1,33 @@
 -- `c_interface::piece_with_turn` meets its contract by what `turn_of` says of the degrees. Assumes nothing.
-use Rattle.list_laws.proofs.Kit.{◌∙◌, sym, needs}
+use Rattle.list_laws.proofs.Kit.{◌∙◌, sym, rules}
 use Rattle.model.specs.Buffer.{turn_of_degrees, turn_passes, is_turn}
 use Rattle.layout_places.proofs.Places.{unknown_none, known_some}
 use Rattle.c_interface.specs.Numbers.{piece_with_turn}
 use Rattle.c_interface.proofs.piece_with_turn.Statement.{statement}
 use Rattle.c_interface.proofs.piece_with_turn.Tie as tie
 
-returns : tie.Need-returns
+returns-in-Known : tie.Need-returns-in-Known
 unfolding is_turn
-returns c =
+returns-in-Known c =
     let at-start : tie.Start = search in
     rw (
-      known_some (turn_of_degrees at-start.args.turn) _ (sym c.enum_told.given.1 ∙ c.before.before.turn-of.ensures),
+      known_some (turn_of_degrees at-start.args.turn) _ (sym c.enum_told-1.given.1 ∙ c.before.before.turn_of.ensures),
       piece_with_turn,
       is_turn,
       turn_passes,
     )
 
-returns-2 : tie.Need-returns-2
+returns-in-Unknown : tie.Need-returns-in-Unknown
 unfolding is_turn
-returns-2 c =
+returns-in-Unknown c =
     let at-start : tie.Start = search in
     rw (
-      unknown_none (turn_of_degrees at-start.args.turn) (sym c.enum-told2.given.1 ∙ c.before.before.turn-of.ensures),
+      unknown_none (turn_of_degrees at-start.args.turn) (sym c.enum_told-in-Unknown-1.given.1 ∙ c.before.before.turn_of.ensures),
       piece_with_turn,
       is_turn,
       turn_passes,
     )
 
-pub piece-with-turn-spec : {M : Type 1} → statement M
-piece-with-turn-spec = tie.close (tie.spec (search needs) (search needs) (search needs) returns returns-2)
+pub piece_with_turn_spec : {M : Type 1} → statement M
+piece_with_turn_spec = tie.close (tie.spec
+    (search rules) (search rules) (search rules) returns-in-Known returns-in-Unknown)

@@ -1,5 +1,5 @@
 -- `causes::layout_causes` meets its contract: nothing of the call's own is wrong. Assumes nothing.
-use Rattle.list_laws.proofs.Kit.{◌∙◌, ap, needs}
+use Rattle.list_laws.proofs.Kit.{◌∙◌, ap, rules}
 use Rattle.model.specs.Answers.{done_answer}
 use Rattle.model.specs.Lent.{lent_by}
 use Rattle.causes.proofs.Asked.{layout_asked}
@@ -10,7 +10,8 @@ returns : tie.Need-returns
 returns c =
     let start : tie.Start = search in
     let a = start.args in
-    c.call_causes_lem.ensures ∙ ap done_answer (layout_asked (lent_by a.size a.table.now a.pixels.now) a.layout.now tt)
+    c.call_causes.ensures ∙ ap done_answer (layout_asked (lent_by a.size a.table.now a.pixels.now) a.layout.now tt)
 
-pub layout-causes-spec : {M : Type 1} → statement M
-layout-causes-spec = tie.close (tie.spec (search needs) returns)
+pub layout_causes_spec : {M : Type 1} → statement M
+layout_causes_spec = tie.close (tie.spec
+    (search rules) returns)

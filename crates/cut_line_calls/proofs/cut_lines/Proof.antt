@@ -1,5 +1,5 @@
 -- `cut_lines`: the check refuses, or the layout's lines are stored where there is room. Assumes nothing.
-use Rattle.list_laws.proofs.Kit.{◌∙◌, ◌≡◌, ap, sym, length, arith, needs}
+use Rattle.list_laws.proofs.Kit.{◌∙◌, ◌≡◌, ap, sym, length, arith, rules}
 use Rattle.model.specs.Refusal.{refused}
 use Rattle.model.specs.Lent.{Lent, lent_by, job_of}
 use Rattle.model.specs.Buffer.{layout_of}
@@ -17,43 +17,44 @@ abbrev lent : tie.Start → Lent
 lent s = lent_by s.args.size s.args.table.now s.args.pixels.now
 
 -- the check passed
-passed : (p : tie.After-enum-told) → let s : tie.Start = search in DoneAnswer.Done ≡ done_answer (check_call (lent s) s.args.layout.now)
-passed p = let asked : tie.After-check = search in sym p.enum_told.given.1 ∙ asked.check.ensures
+passed : (p : tie.In-Done) → let s : tie.Start = search in DoneAnswer.Done ≡ done_answer (check_call (lent s) s.args.layout.now)
+passed p = let asked : tie.After-check = search in sym p.enum_told-1.given.1 ∙ asked.check.ensures
 
-layout-lines-requires : tie.Need-layout-lines-requires
-layout-lines-requires c κs =
+layout_lines-requires : tie.Need-layout_lines-requires
+layout_lines-requires c κs =
     let s : tie.Start = search in
-    let p : tie.After-enum-told = search in
+    let p : tie.In-Done = search in
     (passed_laid (lent s) s.args.layout.now (passed p), omega arith)
 
-returns : tie.Need-returns
-returns c =
+returns-in-Refused : tie.Need-returns-in-Refused
+returns-in-Refused c =
     let s : tie.Start = search in
     let asked : tie.After-check = search in
-    let how : tie.After-refusal = search in
+    let how : tie.In-Refused-2 = search in
     let a = s.args in
-    let o : cut_lines_call (lent s) a.layout.now (length a.lines.now) ≡ refused how.refusal.given.0.0 =
-    lines_refused (lent s) a.layout.now _ _ (sym how.refusal.given.1 ∙ asked.check.ensures) in
+    let o : cut_lines_call (lent s) a.layout.now (length a.lines-1.now) ≡ refused how.refusal-1.given.0.0 =
+    lines_refused (lent s) a.layout.now _ _ (sym how.refusal-1.given.1 ∙ asked.check.ensures) in
     let answer = sym (ap count_answer o) in
-    (answer, (sym (ap (lines_after a.lines.now) o), lines_answered (lent s) a.layout.now (length a.lines.now) answer))
+    (answer, (sym (ap (lines_after a.lines-1.now) o), lines_answered (lent s) a.layout.now (length a.lines-1.now) answer))
 
-returns-2 : tie.Need-returns-2
-returns-2 c =
+returns-in-Done : tie.Need-returns-in-Done
+returns-in-Done c =
     let s : tie.Start = search in
-    let p : tie.After-enum-told = search in
-    let listed : tie.After-layout-lines = search in
+    let p : tie.In-Done = search in
+    let listed : tie.After-layout_lines = search in
     let a = s.args in
-    let o : cut_lines_call (lent s) a.layout.now (length a.lines.now)
-    ≡ in_room (cut_lines (job_of (lent s)) (layout_of a.layout.now)) (length a.lines.now) =
+    let o : cut_lines_call (lent s) a.layout.now (length a.lines-1.now)
+    ≡ in_room (cut_lines (job_of (lent s)) (layout_of a.layout.now)) (length a.lines-1.now) =
     lines_passed (lent s) a.layout.now _ (passed p) in
-    let answer = listed.layout_lines.ensures.0 ∙ sym (ap count_answer o) in (
+    let answer = listed.layout_lines.ensures.answer ∙ sym (ap count_answer o) in (
       answer,
       (
-        listed.layout_lines.ensures.1 ∙ sym (ap (lines_after a.lines.now) o),
-        lines_answered (lent s) a.layout.now (length a.lines.now) answer,
+        listed.layout_lines.ensures.memory ∙ sym (ap (lines_after a.lines-1.now) o),
+        lines_answered (lent s) a.layout.now (length a.lines-1.now) answer,
       ),
     )
 
-pub cut-lines-spec : {M : Type 1} → statement M
-cut-lines-spec =
-    tie.close (tie.spec (search needs) (search needs) (search needs) (search needs) layout-lines-requires returns (search needs) returns-2)
+pub cut_lines_spec : {M : Type 1} → statement M
+cut_lines_spec =
+    tie.close (tie.spec
+    (search rules) (search rules) (search rules) (search rules) layout_lines-requires returns-in-Refused (search rules) returns-in-Done)

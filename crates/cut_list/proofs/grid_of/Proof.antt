@@ -1,13 +1,14 @@
 -- `grid_of`: each direction's numbers are the definition's. Assumes nothing.
-use Rattle.list_laws.proofs.Kit.{needs}
+use Rattle.list_laws.proofs.Kit.{rules}
 use Rattle.cut_list.proofs.grid_of.Statement.{statement}
 use Rattle.cut_list.proofs.grid_of.Tie as tie
 
-returns : tie.Need-returns
-returns c = rw c.enum_told.given.1
+returns-in-Horizontal : tie.Need-returns-in-Horizontal
+returns-in-Horizontal c = rw c.enum_told-1.given.1
 
-returns-2 : tie.Need-returns-2
-returns-2 c = rw c.enum-told2.given.1
+returns-in-Vertical : tie.Need-returns-in-Vertical
+returns-in-Vertical c = rw c.enum_told-in-Vertical-1.given.1
 
-pub grid-of-spec : {M : Type 1} → statement M
-grid-of-spec = tie.close (tie.spec (search needs) (search needs) returns returns-2)
+pub grid_of_spec : {M : Type 1} → statement M
+grid_of_spec = tie.close (tie.spec
+    (search rules) (search rules) returns-in-Horizontal returns-in-Vertical)

@@ -1,5 +1,5 @@
 -- `paint`: each byte is the owner of its pixel among the pieces passed. Assumes nothing.
-use Rattle.list_laws.proofs.Kit.{◌∙◌, ◌≡◌, ap, sym, ◌*◌, ◌+◌, ◌-◌, ◌≤◌, arith, length, length-replicate, replicate, needs}
+use Rattle.list_laws.proofs.Kit.{◌∙◌, ◌≡◌, ap, sym, ◌*◌, ◌+◌, ◌-◌, ◌≤◌, arith, length, length-replicate, replicate, rules}
 use Rattle.model.specs.Layout.{Job, Layout, place_of}
 use Rattle.model.specs.Buffer.{layout_of}
 use Rattle.model.specs.Lent.{lent_by, job_of}
@@ -10,76 +10,77 @@ use Rattle.cut_owners.proofs.Painting.{PaintedBelow, none_painted, length_painte
 use Rattle.cut_owners.proofs.paint.Statement.{statement}
 use Rattle.cut_owners.proofs.paint.Tie as tie
 
-abbrev invariant-loop : tie.invariant-loop
-invariant-loop size table pixels layout owners₀ count piece₀ owners piece =
+abbrev invariant-loop-piece : tie.invariant-loop-piece
+invariant-loop-piece size table pixels layout owners₀ count piece₀ owners piece =
     (piece ≤ size.count) × (length owners ≡ size.rows * size.columns)
     × PaintedBelow (job_of (lent_by size table pixels)) (layout_of layout) piece owners
 
-abbrev decreases-loop : tie.decreases-loop
-decreases-loop size table pixels layout owners₀ count piece₀ owners piece = size.count - piece
+abbrev decreases-loop-piece : tie.decreases-loop-piece
+decreases-loop-piece size table pixels layout owners₀ count piece₀ owners piece = size.count - piece
 
-clear-requires : tie.Need-clear-requires invariant-loop decreases-loop
+clear-requires : tie.Need-clear-requires invariant-loop-piece decreases-loop-piece
 clear-requires c κs = tt
 
-loop-holds : tie.Need-loop-init invariant-loop decreases-loop
-loop-holds c =
-    let s : tie.Start invariant-loop decreases-loop = search in
+loop-piece-init : tie.Need-loop-piece-init invariant-loop-piece decreases-loop-piece
+loop-piece-init c =
+    let s : tie.Start invariant-loop-piece decreases-loop-piece = search in
     let a = s.args in
-    let zeros : c.before.before.clear.new.0 ≡ replicate (length a.owners.now) 0 = c.before.before.clear.ensures in (
+    let zeros : c.before.before.clear.new.0 ≡ replicate (length a.owners-1.now) 0 = c.before.before.clear.ensures in (
       omega arith,
-      ap length zeros ∙ length-replicate _ 0 ∙ s.pre.1,
-      rw zeros (none_painted (job_of (lent_by a.size a.table.now a.pixels.now)) (layout_of a.layout.now) (length a.owners.now)),
+      ap length zeros ∙ length-replicate _ 0 ∙ s.requires.1,
+      rw zeros (none_painted (job_of (lent_by a.size a.table.now a.pixels.now)) (layout_of a.layout.now) (length a.owners-1.now)),
     )
 
-paint-piece-requires : tie.Need-paint-piece-requires invariant-loop decreases-loop
-paint-piece-requires c κs =
-    let s : tie.Start invariant-loop decreases-loop = search in
-    let at-loop : tie.At-loop invariant-loop decreases-loop = search in
-    let in-loop : tie.In-loop invariant-loop decreases-loop = search in
-    (s.pre.0, in-loop.loop-test.taken, at-loop.loop.inv.1)
+paint_piece-requires : tie.Need-paint_piece-requires invariant-loop-piece decreases-loop-piece
+paint_piece-requires c κs =
+    let s : tie.Start invariant-loop-piece decreases-loop-piece = search in
+    let at-loop : tie.At-loop-piece invariant-loop-piece decreases-loop-piece = search in
+    let in-loop : tie.In-loop-piece invariant-loop-piece decreases-loop-piece = search in
+    (s.requires.0, in-loop.loop-piece-test.true, at-loop.loop-piece.invariant.1)
 
-add-piece : tie.Need-overflow-add-piece invariant-loop decreases-loop
-add-piece c =
-    let in-loop : tie.In-loop invariant-loop decreases-loop = search in
-    let s : tie.Start invariant-loop decreases-loop = search in
-    let few = (facts _ s.pre.0.well).few_pieces in
-    let l = in-loop.loop-test.taken in omega arith
+overflow_add-piece : tie.Need-overflow_add-piece invariant-loop-piece decreases-loop-piece
+overflow_add-piece c =
+    let in-loop : tie.In-loop-piece invariant-loop-piece decreases-loop-piece = search in
+    let s : tie.Start invariant-loop-piece decreases-loop-piece = search in
+    let few = (facts _ s.requires.0.well).few_pieces in
+    let l = in-loop.loop-piece-test.true in omega arith
 
-loop-again : tie.Need-loop-preserved invariant-loop decreases-loop
-loop-again c =
-    let in-loop : tie.In-loop invariant-loop decreases-loop = search in
-    let at-loop : tie.At-loop invariant-loop decreases-loop = search in
-    let s : tie.Start invariant-loop decreases-loop = search in
+loop-piece-preserved : tie.Need-loop-piece-preserved invariant-loop-piece decreases-loop-piece
+loop-piece-preserved c =
+    let in-loop : tie.In-loop-piece invariant-loop-piece decreases-loop-piece = search in
+    let at-loop : tie.At-loop-piece invariant-loop-piece decreases-loop-piece = search in
+    let s : tie.Start invariant-loop-piece decreases-loop-piece = search in
     let a = s.args in
     let j : Job = job_of (lent_by a.size a.table.now a.pixels.now) in
     let v : Layout = layout_of a.layout.now in
-    let now = at-loop.loop in
-    let l = in-loop.loop-test.taken in
-    let after : c.before.before.paint-piece.new.1.1.1.1.1.0
-    ≡ moved_by (OwnedBy (now.piece + 1)) j now.piece (place_of v now.piece) now.owners =
-    c.before.before.paint-piece.ensures in (
+    let now = at-loop.loop-piece in
+    let l = in-loop.loop-piece-test.true in
+    let after : c.before.before.paint_piece.new.1.1.1.1.1.0
+    ≡ moved_by (OwnedBy (now.piece + 1)) j now.piece (place_of v now.piece) now.owners-1 =
+    c.before.before.paint_piece.ensures in (
       omega arith,
-      ap length after ∙ length_painted j v now.piece now.owners ∙ now.inv.1,
-      rw after (piece_painted j v now.piece now.owners now.inv.2),
+      ap length after ∙ length_painted j v now.piece now.owners-1 ∙ now.inv.1,
+      rw after (piece_painted j v now.piece now.owners-1 now.inv.2),
     )
 
-same_length : tie.Need-same-length invariant-loop decreases-loop
-same_length c =
-    let s : tie.Start invariant-loop decreases-loop = search in
-    let at-loop : tie.At-loop invariant-loop decreases-loop = search in
-    at-loop.loop.inv.1 ∙ sym s.pre.1
+shape_of-owners : tie.Need-shape_of-owners invariant-loop-piece decreases-loop-piece
+shape_of-owners c =
+    let s : tie.Start invariant-loop-piece decreases-loop-piece = search in
+    let at-loop : tie.At-loop-piece invariant-loop-piece decreases-loop-piece = search in
+    at-loop.loop-piece.invariant.1 ∙ sym s.requires.1
 
-returns : tie.Need-returns invariant-loop decreases-loop
+returns : tie.Need-returns invariant-loop-piece decreases-loop-piece
 unfolding job_of
 returns c =
-    let s : tie.Start invariant-loop decreases-loop = search in
-    let at-loop : tie.At-loop invariant-loop decreases-loop = search in
-    let now = at-loop.loop in
-    let all : now.piece ≡ s.args.size.count = let out = c.loop-test.false in let most = now.inv.0 in omega arith in
+    let s : tie.Start invariant-loop-piece decreases-loop-piece = search in
+    let at-loop : tie.At-loop-piece invariant-loop-piece decreases-loop-piece = search in
+    let now = at-loop.loop-piece in
+    let all : now.piece ≡ s.args.size.count = let out = c.loop-piece-test.false in let most = now.inv.0 in omega arith in
     let full = now.inv.1 in
     record { full = full; owners = λ k l. (rw all at now.inv.2) k (omega arith) }
 
-pub paint-spec : {M : Type 1} → statement M
-paint-spec =
+pub paint_spec : {M : Type 1} → statement M
+paint_spec =
     tie.close (tie.spec
-    invariant-loop decreases-loop clear-requires loop-holds paint-piece-requires add-piece (search needs) loop-again same_length returns)
+    invariant-loop-piece decreases-loop-piece clear-requires loop-piece-init paint_piece-requires overflow_add-piece (search rules)
+    loop-piece-preserved shape_of-owners returns)

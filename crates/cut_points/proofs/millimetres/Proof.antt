@@ -30,12 +30,12 @@ small s =
     let line : s.args.line < 2 ^ 16 = omega arith in
     let pitch : s.args.pitch < 2 ^ 32 = omega arith in product s.args.line s.args.pitch line pitch
 
-mul-whole : tie.Need-overflow-mul-whole
-mul-whole c = let h = small c in omega arith
+overflow_mul-whole : tie.Need-overflow_mul-whole
+overflow_mul-whole c = let h = small c in omega arith
 
-int-to-float-result : tie.Need-int-to-float-result
+int_to_float-result : tie.Need-int_to_float-result
 unfolding in_float
-int-to-float-result c = le→leb (c.before.args.line * c.before.args.pitch) (2 ^ 53) (let h = small c.before in omega arith)
+int_to_float-result c = le→leb (c.before.args.line * c.before.args.pitch) (2 ^ 53) (let h = small c.before in omega arith)
 
 returns : tie.Need-returns
 returns c =
@@ -44,5 +44,6 @@ returns c =
     divided a.line a.pitch in
     (is, rw is (millimetres_exact a.line a.pitch (let h = small c.before in omega arith)))
 
-pub millimetres-spec : {M : Type 1} → statement M
-millimetres-spec = tie.close (tie.spec mul-whole int-to-float-result returns)
+pub millimetres_spec : {M : Type 1} → statement M
+millimetres_spec = tie.close (tie.spec
+    overflow_mul-whole int_to_float-result returns)

@@ -1,5 +1,5 @@
 -- `pass_unit`: one side more, or the end of a run. Assumes nothing.
-use Rattle.list_laws.proofs.Kit.{◌∙◌, ◌≡◌, sym, subst, false, true, List, [], map, ◌+◌, arith, needs}
+use Rattle.list_laws.proofs.Kit.{◌∙◌, ◌≡◌, sym, subst, false, true, List, [], map, ◌+◌, arith, rules}
 use Rattle.model.specs.Strip.{Strip, strip_of, closing}
 use Rattle.cut_scan.specs.Scan.{side_at, row_from, Left}
 use Rattle.cut_scan.proofs.Storing.{left_append, appended_length}
@@ -7,36 +7,37 @@ use Rattle.cut_scan.proofs.Rows.{row_side, row_gap}
 use Rattle.cut_scan.proofs.pass_unit.Statement.{statement}
 use Rattle.cut_scan.proofs.pass_unit.Tie as tie
 
+returns-then-is_side : tie.Need-returns-then-is_side
+returns-then-is_side c =
+    let s : tie.Start = search in
+    let asked : tie.After-is_side = search in
+    let a = s.args in
+    let side : side_at a.owners.now a.grid a.a a.line ≡ true = sym asked.is_side.ensures ∙ c.if-is_side.true in (
+      λ before from all w.
+          subst (λ (rest : List Strip). Left a.direction before from rest a.lines-1.now a.at all)
+          (row_side a.owners.now a.grid a.line a.a a.run s.requires.1 side) w,
+      (omega arith, omega arith),
+    )
+
+shape_of-lines : tie.Need-shape_of-lines
+shape_of-lines c = appended_length c.before.close_run.ensures.stored
+
 returns : tie.Need-returns
 returns c =
     let s : tie.Start = search in
-    let asked : tie.After-is-side = search in
+    let asked : tie.After-is_side = search in
+    let e : tie.Else-is_side = search in
     let a = s.args in
-    let side : side_at a.owners.now a.grid a.a a.line ≡ true = sym asked.is-side.ensures ∙ c.if1.true in (
-      λ before from all w.
-          subst (λ (rest : List Strip). Left a.direction before from rest a.lines.now a.at all)
-          (row_side a.owners.now a.grid a.line a.a a.run s.pre.1 side) w,
-      (omega arith, omega arith),
-    )
-
-same_length : tie.Need-same-length
-same_length c = appended_length c.before.close-run.ensures.0
-
-returns-2 : tie.Need-returns-2
-returns-2 c =
-    let s : tie.Start = search in
-    let asked : tie.After-is-side = search in
-    let e : tie.Else1 = search in
-    let a = s.args in
-    let gap : side_at a.owners.now a.grid a.a a.line ≡ false = sym asked.is-side.ensures ∙ e.if1.left in
-    let next = c.before.close-run.ensures.1 in (
+    let gap : side_at a.owners.now a.grid a.a a.line ≡ false = sym asked.is_side.ensures ∙ e.if-is_side.false in
+    let next = c.before.close_run.ensures.next in (
       λ before from all w.
           left_append (map (strip_of a.line) (closing a.a a.run [])) (row_from a.owners.now a.grid a.line (a.a + 1) 0)
-          (subst (λ (rest : List Strip). Left a.direction before from rest a.lines.now a.at all)
-          (row_gap a.owners.now a.grid a.line a.a a.run s.pre.1 gap) w)
-          c.before.close-run.ensures.0,
+          (subst (λ (rest : List Strip). Left a.direction before from rest a.lines-1.now a.at all)
+          (row_gap a.owners.now a.grid a.line a.a a.run s.requires.1 gap) w)
+          c.before.close_run.ensures.stored,
       (omega arith, omega arith),
     )
 
-pub pass-unit-spec : {M : Type 1} → statement M
-pass-unit-spec = tie.close (tie.spec (search needs) (search needs) returns (search needs) same_length returns-2)
+pub pass_unit_spec : {M : Type 1} → statement M
+pass_unit_spec = tie.close (tie.spec
+    (search rules) (search rules) returns-then-is_side (search rules) shape_of-lines returns)

@@ -1,5 +1,5 @@
 -- `line_step`: a wrong pitch refuses, else the step is given; of the lines of a layout it is the layout's. Assumes nothing.
-use Rattle.list_laws.proofs.Kit.{◌∙◌, ◌≡◌, ap, subst, sym, map, ℕ, arith, needs}
+use Rattle.list_laws.proofs.Kit.{◌∙◌, ◌≡◌, ap, subst, sym, map, ℕ, arith, rules}
 use Rattle.model.specs.Cut.{entry_line}
 use Rattle.model.specs.Calls.{line_step_call}
 use Rattle.model.specs.declared.CutStep.{CutStep}
@@ -11,26 +11,26 @@ use Rattle.cut_step_calls.proofs.Steps.{line_refused, line_given, same_answer}
 use Rattle.cut_step_calls.proofs.line_step.Statement.{statement}
 use Rattle.cut_step_calls.proofs.line_step.Tie as tie
 
+returns-then-pitch_wrong : tie.Need-returns-then-pitch_wrong
+returns-then-pitch_wrong c =
+    let s : tie.Start = search in
+    let asked : tie.After-pitch_wrong = search in
+    let wrong : tie.Then-pitch_wrong = search in
+    let a = s.args in
+    let answer : StepAnswer.Refused c.plain_refusal.result ≡ step_answer (line_step_call a.lines.now a.pitch a.step) =
+    ap (λ (r : Refusal). StepAnswer.Refused r) c.plain_refusal.ensures
+    ∙ sym (ap step_answer (line_refused a.lines.now a.pitch a.step _ asked.pitch_wrong.ensures wrong.if-pitch_wrong.true)) in
+    (answer, (same_answer a.lines.now a.pitch a.step answer, λ t told. let z : ◌≡◌ {A = ℕ} 0 1 = cc in absurd (omega arith)))
+
 returns : tie.Need-returns
 returns c =
     let s : tie.Start = search in
-    let asked : tie.After-pitch-wrong = search in
-    let wrong : tie.Then1 = search in
-    let a = s.args in
-    let answer : StepAnswer.Refused c.plain-refusal.result ≡ step_answer (line_step_call a.lines.now a.pitch a.step) =
-    ap (λ (r : Refusal). StepAnswer.Refused r) c.plain-refusal.ensures
-    ∙ sym (ap step_answer (line_refused a.lines.now a.pitch a.step _ asked.pitch-wrong.ensures wrong.if1.taken)) in
-    (answer, (same_answer a.lines.now a.pitch a.step answer, λ t told. let z : ◌≡◌ {A = ℕ} 0 1 = cc in absurd (omega arith)))
-
-returns-2 : tie.Need-returns-2
-returns-2 c =
-    let s : tie.Start = search in
-    let asked : tie.After-pitch-wrong = search in
-    let right : tie.Else1 = search in
+    let asked : tie.After-pitch_wrong = search in
+    let right : tie.Else-pitch_wrong = search in
     let a = s.args in
     let answer : StepAnswer.Step c.step_of_lem.result ≡ step_answer (line_step_call a.lines.now a.pitch a.step) =
     ap (λ (t : CutStep). StepAnswer.Step t) c.step_of_lem.ensures.0
-    ∙ sym (ap step_answer (line_given a.lines.now a.pitch a.step _ asked.pitch-wrong.ensures right.if1.left)) in (
+    ∙ sym (ap step_answer (line_given a.lines.now a.pitch a.step _ asked.pitch_wrong.ensures right.if-pitch_wrong.false)) in (
       answer,
       (
         same_answer a.lines.now a.pitch a.step answer,
@@ -39,5 +39,6 @@ returns-2 c =
       ),
     )
 
-pub line-step-spec : {M : Type 1} → statement M
-line-step-spec = tie.close (tie.spec (search needs) (search needs) returns (search needs) returns-2)
+pub line_step_spec : {M : Type 1} → statement M
+line_step_spec = tie.close (tie.spec
+    (search rules) (search rules) returns-then-pitch_wrong (search rules) returns)

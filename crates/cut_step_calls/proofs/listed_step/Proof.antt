@@ -1,5 +1,5 @@
 -- `listed_step`: the lines are refused by 12, or all of them stand in front of the buffer, and the step is read from there. Assumes nothing.
-use Rattle.list_laws.proofs.Kit.{◌∙◌, ◌≡◌, ap, sym, List, map, ◌≤◌, ℕ, arith, length, take, needs}
+use Rattle.list_laws.proofs.Kit.{◌∙◌, ◌≡◌, ap, sym, List, map, ◌≤◌, ℕ, arith, length, take, rules}
 use Rattle.list_laws.proofs.Lists.{front_length}
 use Rattle.model.specs.Lent.{Lent, lent_by, job_of}
 use Rattle.model.specs.Buffer.{layout_of, filled}
@@ -15,58 +15,58 @@ abbrev lent : tie.Start → Lent
 lent s = lent_by s.args.size s.args.table.now s.args.pixels.now
 
 -- what the count tells
-told : (p : tie.After-count) → let s : tie.Start = search in LinesTold (lent s) s.args.layout.now (length s.args.lines.now) p.count.given.0.0
+told : (p : tie.In-Number-2) → let s : tie.Start = search in LinesTold (lent s) s.args.layout.now (length s.args.lines.now) p.count-1.given.0.0
 told p =
     let s : tie.Start = search in
-    let asked : tie.After-cut-lines = search in
-    lines_told (lent s) s.args.layout.now s.pre.0 _ _ s.pre.1 (sym p.count.given.1 ∙ asked.cut-lines.ensures.0)
+    let asked : tie.After-cut_lines = search in
+    lines_told (lent s) s.args.layout.now s.requires.0 _ _ s.requires.1 (sym p.count-1.given.1 ∙ asked.cut_lines.ensures.answer)
 
 -- the buffer after the lines are stored
-abbrev stored : tie.After-cut-lines → List (List ℕ)
-stored p = p.cut-lines.new.1.1.1.1.0
+abbrev stored : tie.After-cut_lines → List (List ℕ)
+stored p = p.cut_lines.new.1.1.1.1.0
 
 -- there are no more lines than entries
-within : (p : tie.After-count) → let asked : tie.After-cut-lines = search in p.count.given.0.0 ≤ length (stored asked)
+within : (p : tie.In-Number-2) → let asked : tie.After-cut_lines = search in p.count-1.given.0.0 ≤ length (stored asked)
 within p =
     let s : tie.Start = search in
-    let asked : tie.After-cut-lines = search in
-    let most = lines_most (lent s) s.args.layout.now s.pre.0 in
-    let count = (told p).count in
-    let same = asked.cut-lines.kept.1.1.1.1.0 in
-    let room = s.pre.1 in omega arith
+    let asked : tie.After-cut_lines = search in
+    let most = lines_most (lent s) s.args.layout.now s.requires.0 in
+    let count = (told p).count-1 in
+    let same = asked.cut_lines.auto.1.1.1.1.0 in
+    let room = s.requires.1 in omega arith
 
-slice-reshare-prefix-step-of : tie.Need-slice-reshare-prefix-step-of
-slice-reshare-prefix-step-of c = let p : tie.After-count = search in within p
+slice_bounds-step_of-end : tie.Need-slice_bounds-step_of-end
+slice_bounds-step_of-end c = let p : tie.In-Number-2 = search in within p
 
-slice-aggregate-step-of : tie.Need-slice-aggregate-step-of
-slice-aggregate-step-of c =
-    let p : tie.After-count = search in
-    let asked : tie.After-cut-lines = search in front_length _ (stored asked) (within p)
+slice_bounds-step_of-end-in-Number : tie.Need-slice_bounds-step_of-end-in-Number
+slice_bounds-step_of-end-in-Number c =
+    let p : tie.In-Number-2 = search in
+    let asked : tie.After-cut_lines = search in front_length _ (stored asked) (within p)
 
-returns : tie.Need-returns
-returns c =
+returns-in-Refused : tie.Need-returns-in-Refused
+returns-in-Refused c =
     let s : tie.Start = search in
-    let asked : tie.After-cut-lines = search in
+    let asked : tie.After-cut_lines = search in
     let a = s.args in
-    let o = lines_left (lent s) a.layout.now s.pre.0 (length a.lines.now) s.pre.1 in
-    let no = count_refused _ _ (sym c.before.refusal.given.1 ∙ asked.cut-lines.ensures.0) in
+    let o = lines_left (lent s) a.layout.now s.requires.0 (length a.lines-1.now) s.requires.1 in
+    let no = count_refused _ _ (sym c.before.refusal-1.given.1 ∙ asked.cut_lines.ensures.answer) in
     sym (ap step_answer (shared_refused (lent s) a.layout.now a.pitch a.step _ (sym o ∙ no)))
 
-returns-2 : tie.Need-returns-2
-returns-2 c =
+returns-in-Number : tie.Need-returns-in-Number
+returns-in-Number c =
     let s : tie.Start = search in
-    let asked : tie.After-cut-lines = search in
-    let p : tie.After-count = search in
+    let asked : tie.After-cut_lines = search in
+    let p : tie.In-Number-2 = search in
     let a = s.args in
     let ls = cut_lines (job_of (lent s)) (layout_of a.layout.now) in
     let t = told p in
-    let after : stored asked ≡ filled (map line_entry ls) a.lines.now = asked.cut-lines.ensures.1.0 ∙ ap (lines_after a.lines.now) t.lines in
-    let read : map entry_line (take p.count.given.0.0 (stored asked)) ≡ ls =
-    ap (λ (l : List (List ℕ)). map entry_line (take p.count.given.0.0 l)) after ∙ lines_back ls a.lines.now _ t.count in
+    let after : stored asked ≡ filled (map line_entry ls) a.lines-1.now = asked.cut_lines.ensures.memory.0 ∙ ap (lines_after a.lines-1.now) t.lines-1 in
+    let read : map entry_line (take p.count-1.given.0.0 (stored asked)) ≡ ls =
+    ap (λ (l : List (List ℕ)). map entry_line (take p.count-1.given.0.0 l)) after ∙ lines_back ls a.lines-1.now _ t.count-1 in
     rw (c.step_of_lem.ensures.0, read) (sym (ap step_answer (t.step a.pitch a.step)))
 
-pub listed-step-spec : {M : Type 1} → statement M
-listed-step-spec =
+pub listed_step_spec : {M : Type 1} → statement M
+listed_step_spec =
     tie.close (tie.spec
-    (search needs) (search needs) (search needs) slice-reshare-prefix-step-of slice-aggregate-step-of (search needs) (search needs) returns
-    (search needs) returns-2)
+    (search rules) (search rules) (search rules) slice_bounds-step_of-end slice_bounds-step_of-end-in-Number (search rules) (search rules)
+    returns-in-Refused (search rules) returns-in-Number)

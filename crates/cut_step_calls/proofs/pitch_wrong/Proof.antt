@@ -3,11 +3,12 @@ use Rattle.cut_step_calls.proofs.Steps.{pitch_above}
 use Rattle.cut_step_calls.proofs.pitch_wrong.Statement.{statement}
 use Rattle.cut_step_calls.proofs.pitch_wrong.Tie as tie
 
+returns-then-pitch-eq0 : tie.Need-returns-then-pitch-eq0
+returns-then-pitch-eq0 c = rw c.if-pitch-eq0.true
+
 returns : tie.Need-returns
-returns c = rw c.if1.true
+returns c = pitch_above c.before.args.pitch c.if-pitch-eq0.false
 
-returns-2 : tie.Need-returns-2
-returns-2 c = pitch_above c.before.args.pitch c.if1.false
-
-pub pitch-wrong-spec : {M : Type 1} → statement M
-pitch-wrong-spec = tie.close (tie.spec returns returns-2)
+pub pitch_wrong_spec : {M : Type 1} → statement M
+pitch_wrong_spec = tie.close (tie.spec
+    returns-then-pitch-eq0 returns)

@@ -4,9 +4,10 @@ use lib.Ieee.{of_bits, neg}
 use Rattle.examples_cut.proofs.whole_part.Statement.{statement}
 use Rattle.examples_cut.proofs.whole_part.Tie as tie
 
-truncating-f64-to-u64-requires : tie.Need-truncating-f64-to-u64-requires
+truncating_f64_to_u64-requires : tie.Need-truncating_f64_to_u64-requires
 unfolding of_bits neg
-truncating-f64-to-u64-requires c κs = (subst T (sym c.before.if1.true) tt, subst T (sym c.if2.true) tt)
+truncating_f64_to_u64-requires c κs = (subst T (sym c.before.if-x.true) tt, subst T (sym c.if-x-2.true) tt)
 
-pub whole-part-spec : {M : Type 1} → statement M
-whole-part-spec = tie.close (tie.spec truncating-f64-to-u64-requires (λ c. search rules) (λ c. search rules) (λ c. search rules))
+pub whole_part_spec : {M : Type 1} → statement M
+whole_part_spec = tie.close (tie.spec
+    truncating_f64_to_u64-requires (λ c. search rules) (λ c. search rules) (λ c. search rules))

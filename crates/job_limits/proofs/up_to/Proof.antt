@@ -3,11 +3,12 @@ use Rattle.list_laws.proofs.Kit.{le-leb, lt-leb}
 use Rattle.job_limits.proofs.up_to.Statement.{statement}
 use Rattle.job_limits.proofs.up_to.Tie as tie
 
+returns-then-k-lt1 : tie.Need-returns-then-k-lt1
+returns-then-k-lt1 c = simp (lt-leb _ _ c.if-k-lt1.true)
+
 returns : tie.Need-returns
-returns c = simp (lt-leb _ _ c.if1.true)
+returns c = simp (le-leb _ _ c.if-k-lt1.false)
 
-returns-2 : tie.Need-returns-2
-returns-2 c = simp (le-leb _ _ c.if1.false)
-
-pub up-to-spec : {M : Type 1} → statement M
-up-to-spec = tie.close (tie.spec returns returns-2)
+pub up_to_spec : {M : Type 1} → statement M
+up_to_spec = tie.close (tie.spec
+    returns-then-k-lt1 returns)

@@ -1,6 +1,6 @@
 -- `job_lines::job_fields`: the line of version 1 where it is of its form, else the line of version 2 where it is of its, and the line of
 -- version 3 else. Assumes nothing.
-use Rattle.list_laws.proofs.Kit.{◌∙◌, ◌≡◌, false, sym, true, List, ℕ, needs}
+use Rattle.list_laws.proofs.Kit.{◌∙◌, ◌≡◌, false, sym, true, List, ℕ, rules}
 use Rattle.model.specs.Text.{Reading, three_fields, four_fields, or_else}
 use Rattle.model.specs.JobText.{JobLine, job_word, gap_word, lock_word, version_line}
 use Rattle.job_lines.specs.Lines.{job_answer, said_by, job_form}
@@ -19,55 +19,55 @@ gapped text = version_line gap_word four_fields false text
 abbrev locked : List ℕ → Reading JobLine
 locked text = version_line lock_word four_fields true text
 
-returns : tie.Need-returns
-returns c =
-    let one : tie.After-version-fields = search in
+returns-in-Line : tie.Need-returns-in-Line
+returns-in-Line c =
+    let one : tie.After-version_fields = search in
     let at-start : tie.Start = search in
     let text = at-start.args.text.now in
-    let j = c.before.j.given.0.0 in
-    let g : job.Line j ≡ one.version-fields.result = sym c.before.j.given.1 in (
-      first_said (plain text) (or_else (gapped text) (locked text)) j (g ∙ one.version-fields.ensures.0),
-      rw (sym g) at one.version-fields.ensures.1,
+    let j = c.before.j-1.given.0.0 in
+    let g : job.Line j ≡ one.version_fields.result = sym c.before.j-1.given.1 in (
+      first_said (plain text) (or_else (gapped text) (locked text)) j (g ∙ one.version_fields.ensures.0),
+      rw (sym g) at one.version_fields.ensures.1,
     )
 
 -- version 1 is none, and so the line is one of the others
-past_first : (p : tie.After-enum-told) →
+past_first : (p : tie.In-Refused) →
     let at-start' : tie.Start = p.before.before.before.before.before in
     let text' : List ℕ = at-start'.args.text.now in
     job_answer (said_by (or_else (gapped text') (locked text'))) ≡ job_answer (job_form text')
 past_first p =
-    let one : tie.After-version-fields = search in
+    let one : tie.After-version_fields = search in
     let at-start : tie.Start = search in
     let text = at-start.args.text.now in
-    other_said (plain text) (or_else (gapped text) (locked text)) _ (sym p.enum_told.given.1 ∙ one.version-fields.ensures.0)
+    other_said (plain text) (or_else (gapped text) (locked text)) _ (sym p.enum_told-1.given.1 ∙ one.version_fields.ensures.0)
 
-returns-2 : tie.Need-returns-2
-returns-2 c =
-    let one : tie.After-enum-told = search in
-    let two : tie.After-version-fields2 = search in
+returns-in-Line-version_fields : tie.Need-returns-in-Line-version_fields
+returns-in-Line-version_fields c =
+    let one : tie.In-Refused = search in
+    let two : tie.After-version_fields-in-Refused = search in
     let at-start : tie.Start = search in
     let text = at-start.args.text.now in
-    let j = c.before.j2.given.0.0 in
-    let g : job.Line j ≡ two.version-fields2.result = sym c.before.j2.given.1 in (
-      first_said (gapped text) (locked text) j (g ∙ two.version-fields2.ensures.0) ∙ past_first one,
-      rw (sym g) at two.version-fields2.ensures.1,
+    let j = c.before.j-in-Line-version_fields-2-1.given.0.0 in
+    let g : job.Line j ≡ two.version_fields-in-Refused.result = sym c.before.j-in-Line-version_fields-2-1.given.1 in (
+      first_said (gapped text) (locked text) j (g ∙ two.version_fields-in-Refused.ensures.0) ∙ past_first one,
+      rw (sym g) at two.version_fields-in-Refused.ensures.1,
     )
 
-returns-3 : tie.Need-returns-3
-returns-3 c =
-    let one : tie.After-enum-told = search in
-    let two : tie.After-version-fields2 = search in
-    let told : tie.After-enum-told2 = search in
+returns-in-Refused-version_fields : tie.Need-returns-in-Refused-version_fields
+returns-in-Refused-version_fields c =
+    let one : tie.In-Refused = search in
+    let two : tie.After-version_fields-in-Refused = search in
+    let told : tie.In-Refused-version_fields = search in
     let at-start : tie.Start = search in
     let text = at-start.args.text.now in (
-      c.version-fields3.ensures.0
-          ∙ other_said (gapped text) (locked text) _ (sym told.enum-told2.given.1 ∙ two.version-fields2.ensures.0)
+      c.version_fields-in-Refused-version_fields.ensures.0
+          ∙ other_said (gapped text) (locked text) _ (sym told.enum_told-in-Refused-version_fields-1.given.1 ∙ two.version_fields-in-Refused.ensures.0)
           ∙ past_first one,
-      c.version-fields3.ensures.1,
+      c.version_fields-in-Refused-version_fields.ensures.1,
     )
 
-pub job-fields-spec : {M : Type 1} → statement M
-job-fields-spec =
+pub job_fields_spec : {M : Type 1} → statement M
+job_fields_spec =
     tie.close (tie.spec
-    (search needs) (search needs) (search needs) (search needs) (search needs) (search needs) (search needs) (search needs) (search needs)
-    (search needs) returns returns-2 returns-3)
+    (search rules) (search rules) (search rules) (search rules) (search rules) (search rules) (search rules) returns-in-Line
+    returns-in-Line-version_fields returns-in-Refused-version_fields)

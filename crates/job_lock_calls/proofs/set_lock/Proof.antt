@@ -1,6 +1,6 @@
 -- `job_lock_calls::set_lock` meets its contract: each test tells whether its cause is there, and where none is the lock is set; either way the
 -- table is the one that the call leaves, of which the claims hold. Assumes nothing.
-use Rattle.list_laws.proofs.Kit.{◌∙◌, ◌≡◌, ap, refl, sym, false, true, List, [], ◌∷◌, ℕ, arith, eqb, ltb, needs, eq-eqb, le-ltb, lt-ltb, ne_eqb}
+use Rattle.list_laws.proofs.Kit.{◌∙◌, ◌≡◌, ap, refl, sym, false, true, List, [], ◌∷◌, ℕ, arith, eqb, ltb, rules, eq-eqb, le-ltb, lt-ltb, ne_eqb}
 use Rattle.model.specs.Answers.{done_answer}
 use Rattle.model.specs.Lent.{Lent, lent_by, lent_well}
 use Rattle.model.specs.Refusal.{Outcome, refused, given, unless, plain_refusal}
@@ -19,90 +19,91 @@ lent s = lent_by s.args.size s.args.table.now s.args.pixels.now
 
 -- what the contract says of an answer and a table, where the call comes to an outcome
 ends : (l : Lent) (i station : ℕ) (o : Outcome (List (List ℕ))) (r : DoneAnswer) (table : List (List ℕ)) → set_lock_call l i station ≡ o
-    → r ≡ done_answer o → table ≡ locked_after l.table o
+    → r ≡ done_answer o → table ≡ locked_after l.table-1 o
     → (r ≡ done_answer (set_lock_call l i station))
-    × ((table ≡ locked_after l.table (set_lock_call l i station))
+    × ((table ≡ locked_after l.table-1 (set_lock_call l i station))
     × LocksClaims l (lock_call i station ∷ []) (lent_by l.size table l.pixels))
 ends l i station o r table e answer memory =
-    let left : table ≡ locked_after l.table (set_lock_call l i station) = memory ∙ sym (ap (locked_after l.table) e) in
+    let left : table ≡ locked_after l.table-1 (set_lock_call l i station) = memory ∙ sym (ap (locked_after l.table-1) e) in
     (answer ∙ sym (ap done_answer e), (left, lock_left l i station table left))
 
 -- the job passes its check behind the first test
-job_well : (c : tie.Else1) → let s : tie.Start = search in lent_well (lent s) ≡ true
-job_well c = said_yes c.before.check-job.ensures c.if1.false
+job_well : (c : tie.Else-not-check_job) → let s : tie.Start = search in lent_well (lent s) ≡ true
+job_well c = said_yes c.before.check_job.ensures c.if-not-check_job.false
 
 -- behind the second the station is the planner's or the cutter's
-station-known : (c : tie.Else2) → let s : tie.Start = search in ltb cutters_station s.args.station ≡ false
+station-known : (c : tie.Else-station-gt-CUTTERS_STATION) → let s : tie.Start = search in ltb cutters_station s.args.station ≡ false
 station-known c =
     let s : tie.Start = search in
-    let few = c.if2.false in
+    let few = c.if-station-gt-CUTTERS_STATION.false in
     le-ltb cutters_station s.args.station (omega arith)
+
+returns-then-not-check_job : tie.Need-returns-then-not-check_job
+unfolding set_lock_call unless
+returns-then-not-check_job c =
+    let s : tie.Start = search in
+    let well : lent_well (lent s) ≡ false = said_no c.before.before.check_job.ensures c.before.if-not-check_job.true in
+    ends (lent s) s.args.piece s.args.station (refused (plain_refusal 8)) c.refused.result s.args.table.now (rw (well, unless))
+    c.refused.ensures refl
+
+returns-then-station-gt-CUTTERS_STATION : tie.Need-returns-then-station-gt-CUTTERS_STATION
+unfolding set_lock_call unless
+returns-then-station-gt-CUTTERS_STATION c =
+    let s : tie.Start = search in
+    let checked : tie.Else-not-check_job = search in
+    let over = c.before.if-station-gt-CUTTERS_STATION.true in
+    let none : ltb cutters_station s.args.station ≡ true = lt-ltb cutters_station s.args.station (omega arith) in
+    ends (lent s) s.args.piece s.args.station (refused (plain_refusal 2)) c.refused-then-station-gt-CUTTERS_STATION.result s.args.table.now
+    (rw (job_well checked, none, unless)) c.refused-then-station-gt-CUTTERS_STATION.ensures refl
+
+returns-then-size-piece : tie.Need-returns-then-size-piece
+unfolding set_lock_call unless
+returns-then-size-piece c =
+    let s : tie.Start = search in
+    let checked : tie.Else-not-check_job = search in
+    let asked : tie.Else-station-gt-CUTTERS_STATION = search in
+    let none : ltb s.args.piece s.args.size.count ≡ false = le-ltb s.args.piece s.args.size.count c.before.if-size-piece.true in
+    ends (lent s) s.args.piece s.args.station (refused (plain_refusal 9)) c.refused-then-size-piece.result s.args.table.now
+    (rw (job_well checked, station-known asked, none, unless)) c.refused-then-size-piece.ensures refl
+
+returns-then-station-eq-PLANNERS_STATION : tie.Need-returns-then-station-eq-PLANNERS_STATION
+unfolding set_lock_call unless
+returns-then-station-eq-PLANNERS_STATION c =
+    let s : tie.Start = search in
+    let checked : tie.Else-not-check_job = search in
+    let asked : tie.Else-station-gt-CUTTERS_STATION = search in
+    let there : tie.Else-size-piece = search in
+    let here : ltb s.args.piece s.args.size.count ≡ true = lt-ltb s.args.piece s.args.size.count there.if-size-piece.false in
+    let planner : eqb s.args.station planners_station ≡ true = eq-eqb s.args.station planners_station c.before.if-station-eq-PLANNERS_STATION.true in
+    ends (lent s) s.args.piece s.args.station (refused (plain_refusal 16)) c.refused-then-station-eq-PLANNERS_STATION.result s.args.table.now
+    (rw (job_well checked, station-known asked, here, planner, unless)) c.refused-then-station-eq-PLANNERS_STATION.ensures refl
+
+lock_piece-requires : tie.Need-lock_piece-requires
+lock_piece-requires c κs =
+    let s : tie.Start = search in
+    let checked : tie.Else-not-check_job = search in
+    let there : tie.Else-size-piece = search in
+    let entries = (facts (lent s) (job_well checked)).entries in
+    let here = there.if-size-piece.false in
+    omega arith
 
 returns : tie.Need-returns
 unfolding set_lock_call unless
 returns c =
     let s : tie.Start = search in
-    let well : lent_well (lent s) ≡ false = said_no c.before.before.check-job.ensures c.before.if1.true in
-    ends (lent s) s.args.piece s.args.station (refused (plain_refusal 8)) c.refused.result s.args.table.now (rw (well, unless))
-    c.refused.ensures refl
-
-returns-2 : tie.Need-returns-2
-unfolding set_lock_call unless
-returns-2 c =
-    let s : tie.Start = search in
-    let checked : tie.Else1 = search in
-    let over = c.before.if2.true in
-    let none : ltb cutters_station s.args.station ≡ true = lt-ltb cutters_station s.args.station (omega arith) in
-    ends (lent s) s.args.piece s.args.station (refused (plain_refusal 2)) c.refused2.result s.args.table.now
-    (rw (job_well checked, none, unless)) c.refused2.ensures refl
-
-returns-3 : tie.Need-returns-3
-unfolding set_lock_call unless
-returns-3 c =
-    let s : tie.Start = search in
-    let checked : tie.Else1 = search in
-    let asked : tie.Else2 = search in
-    let none : ltb s.args.piece s.args.size.count ≡ false = le-ltb s.args.piece s.args.size.count c.before.if3.true in
-    ends (lent s) s.args.piece s.args.station (refused (plain_refusal 9)) c.refused3.result s.args.table.now
-    (rw (job_well checked, station-known asked, none, unless)) c.refused3.ensures refl
-
-returns-4 : tie.Need-returns-4
-unfolding set_lock_call unless
-returns-4 c =
-    let s : tie.Start = search in
-    let checked : tie.Else1 = search in
-    let asked : tie.Else2 = search in
-    let there : tie.Else3 = search in
-    let here : ltb s.args.piece s.args.size.count ≡ true = lt-ltb s.args.piece s.args.size.count there.if3.left in
-    let planner : eqb s.args.station planners_station ≡ true = eq-eqb s.args.station planners_station c.before.if4.true in
-    ends (lent s) s.args.piece s.args.station (refused (plain_refusal 16)) c.refused4.result s.args.table.now
-    (rw (job_well checked, station-known asked, here, planner, unless)) c.refused4.ensures refl
-
-lock-piece-requires : tie.Need-lock-piece-requires
-lock-piece-requires c κs =
-    let s : tie.Start = search in
-    let checked : tie.Else1 = search in
-    let there : tie.Else3 = search in
-    let entries = (facts (lent s) (job_well checked)).entries in
-    let here = there.if3.left in
-    omega arith
-
-returns-5 : tie.Need-returns-5
-unfolding set_lock_call unless
-returns-5 c =
-    let s : tie.Start = search in
-    let checked : tie.Else1 = search in
-    let asked : tie.Else2 = search in
-    let there : tie.Else3 = search in
-    let free : tie.Else4 = search in
-    let locked : tie.After-lock-piece = search in
-    let here : ltb s.args.piece s.args.size.count ≡ true = lt-ltb s.args.piece s.args.size.count there.if3.left in
-    let cutter : eqb s.args.station planners_station ≡ false = ne_eqb s.args.station planners_station free.if4.left in
+    let checked : tie.Else-not-check_job = search in
+    let asked : tie.Else-station-gt-CUTTERS_STATION = search in
+    let there : tie.Else-size-piece = search in
+    let free : tie.Else-station-eq-PLANNERS_STATION = search in
+    let locked : tie.After-lock_piece = search in
+    let here : ltb s.args.piece s.args.size.count ≡ true = lt-ltb s.args.piece s.args.size.count there.if-size-piece.false in
+    let cutter : eqb s.args.station planners_station ≡ false = ne_eqb s.args.station planners_station free.if-station-eq-PLANNERS_STATION.false in
     ends (lent s) s.args.piece s.args.station (given (with_lock s.args.table.now s.args.piece)) DoneAnswer.Done _
-    (rw (job_well checked, station-known asked, here, cutter, unless)) refl locked.lock-piece.ensures
+    (rw (job_well checked, station-known asked, here, cutter, unless)) refl locked.lock_piece.ensures
 
-pub set-lock-spec : {M : Type 1} → statement M
-set-lock-spec =
+pub set_lock_spec : {M : Type 1} → statement M
+set_lock_spec =
     tie.close (tie.spec
-    (search needs) (search needs) (search needs) returns (search needs) (search needs) returns-2 (search needs) (search needs) returns-3
-    (search needs) (search needs) returns-4 lock-piece-requires (search needs) returns-5)
+    (search rules) (search rules) (search rules) returns-then-not-check_job (search rules) (search rules) returns-then-station-gt-CUTTERS_STATION
+    (search rules) (search rules) returns-then-size-piece (search rules) (search rules) returns-then-station-eq-PLANNERS_STATION lock_piece-requires
+    (search rules) returns)

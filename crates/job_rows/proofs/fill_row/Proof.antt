@@ -1,5 +1,5 @@
 -- `job_rows::fill_row`: the word, the marks, the line end. Assumes nothing.
-use Rattle.list_laws.proofs.Kit.{◌≡◌, ap, refl, ◌+◌, ℕ, eqb, needs, not-false, not-true}
+use Rattle.list_laws.proofs.Kit.{◌≡◌, ap, refl, ◌+◌, ℕ, eqb, rules, not-false, not-true}
 use Rattle.model.specs.Text.{wrong}
 use Rattle.model.specs.JobText.{marks_at, row_at}
 use Rattle.list_laws.proofs.Tests.{said_no, said_yes}
@@ -7,52 +7,52 @@ use Rattle.job_rows.proofs.Marks.{row_not, row_none, row_last, stored_kept, stor
 use Rattle.job_rows.proofs.fill_row.Statement.{statement}
 use Rattle.job_rows.proofs.fill_row.Tie as tie
 
+returns-then-not-word_at : tie.Need-returns-then-not-word_at
+returns-then-not-word_at c =
+    let at-start : tie.Start = search in
+    let a = at-start.args in
+    let text = a.text.now in
+    let e : row_at text a.l a.p ≡ wrong = row_not text a.l a.p (said_no c.before.word_at.ensures c.if-not-word_at.true) in
+    rw e refl
+
+shape_of-pixels-then-not-fill_marks : tie.Need-shape_of-pixels-then-not-fill_marks
+shape_of-pixels-then-not-fill_marks c =
+    let at-fill-marks : tie.After-fill_marks = search in
+    at-fill-marks.fill_marks.auto.1.1.1.0
+
+returns-then-not-fill_marks : tie.Need-returns-then-not-fill_marks
+returns-then-not-fill_marks c =
+    let at-fill-marks : tie.After-fill_marks = search in
+    let at-else1 : tie.Else-not-word_at = search in
+    let at-word-at : tie.After-word_at = search in
+    let at-start : tie.Start = search in
+    let a = at-start.args in
+    let text = a.text.now in
+    let m = stored_lost a.at a.pixels-1.now at-fill-marks.fill_marks.new.1.1.1.0 _ (marks_at text a.l (a.p + 4))
+    at-fill-marks.fill_marks.ensures (not-true _ c.if-not-fill_marks.true) in
+    let e : row_at text a.l a.p ≡ wrong = row_none text a.l a.p (said_yes at-word-at.word_at.ensures at-else1.if-not-word_at.false) m in
+    rw e refl
+
+shape_of-pixels : tie.Need-shape_of-pixels
+shape_of-pixels c =
+    let at-fill-marks : tie.After-fill_marks = search in
+    at-fill-marks.fill_marks.auto.1.1.1.0
+
 returns : tie.Need-returns
 returns c =
+    let at-fill-marks : tie.After-fill_marks = search in
+    let at-else1 : tie.Else-not-word_at = search in
+    let at-word-at : tie.After-word_at = search in
     let at-start : tie.Start = search in
     let a = at-start.args in
     let text = a.text.now in
-    let e : row_at text a.l a.p ≡ wrong = row_not text a.l a.p (said_no c.before.word_at.ensures c.if1.true) in
-    rw e refl
-
-same_length : tie.Need-same-length
-same_length c =
-    let at-fill-marks : tie.After-fill-marks = search in
-    at-fill-marks.fill-marks.kept.1.1.1.0
-
-returns-2 : tie.Need-returns-2
-returns-2 c =
-    let at-fill-marks : tie.After-fill-marks = search in
-    let at-else1 : tie.Else1 = search in
-    let at-word-at : tie.After-word-at = search in
-    let at-start : tie.Start = search in
-    let a = at-start.args in
-    let text = a.text.now in
-    let m = stored_lost a.at a.pixels.now at-fill-marks.fill-marks.last.1.1.1.0 _ (marks_at text a.l (a.p + 4))
-    at-fill-marks.fill-marks.ensures (not-true _ c.if2.true) in
-    let e : row_at text a.l a.p ≡ wrong = row_none text a.l a.p (said_yes at-word-at.word_at.ensures at-else1.if1.left) m in
-    rw e refl
-
-same-length-2 : tie.Need-same-length-2
-same-length-2 c =
-    let at-fill-marks : tie.After-fill-marks = search in
-    at-fill-marks.fill-marks.kept.1.1.1.0
-
-returns-3 : tie.Need-returns-3
-returns-3 c =
-    let at-fill-marks : tie.After-fill-marks = search in
-    let at-else1 : tie.Else1 = search in
-    let at-word-at : tie.After-word-at = search in
-    let at-start : tie.Start = search in
-    let a = at-start.args in
-    let text = a.text.now in
-    let k = stored_kept a.at a.pixels.now at-fill-marks.fill-marks.last.1.1.1.0 _ (marks_at text a.l (a.p + 4))
-    at-fill-marks.fill-marks.ensures (not-false _ c.before.if2.false) in
-    row_last text a.l a.p (said_yes at-word-at.word_at.ensures at-else1.if1.left) a.at a.pixels.now _ k _
+    let k = stored_kept a.at a.pixels-1.now at-fill-marks.fill_marks.new.1.1.1.0 _ (marks_at text a.l (a.p + 4))
+    at-fill-marks.fill_marks.ensures (not-false _ c.before.if-not-fill_marks.false) in
+    row_last text a.l a.p (said_yes at-word-at.word_at.ensures at-else1.if-not-word_at.false) a.at a.pixels-1.now _ k _
     (ap (λ (b : ℕ). eqb b 10) c.byte_at.ensures)
 
-pub fill-row-spec : {M : Type 1} → statement M
-fill-row-spec =
+pub fill_row_spec : {M : Type 1} → statement M
+fill_row_spec =
     tie.close (tie.spec
-    (search needs) (search needs) returns (search needs) (search needs) same_length returns-2 (search needs) (search needs) (search needs)
-    same-length-2 returns-3)
+    (search rules) returns-then-not-word_at (search rules) (search rules) shape_of-pixels-then-not-fill_marks returns-then-not-fill_marks
+    (search rules) (search rules) (search rules) shape_of-pixels returns)

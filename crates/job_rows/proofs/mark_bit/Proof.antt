@@ -4,14 +4,15 @@ use Rattle.job_rows.specs.Stores.{mark_bit}
 use Rattle.job_rows.proofs.mark_bit.Statement.{statement}
 use Rattle.job_rows.proofs.mark_bit.Tie as tie
 
+returns-then-b-eq35 : tie.Need-returns-then-b-eq35
+returns-then-b-eq35 c = simp (eq-eqb _ _ c.if-b-eq35.true, mark_bit)
+
+returns-then-b-eq46 : tie.Need-returns-then-b-eq46
+returns-then-b-eq46 c = simp (ne_eqb _ _ c.before.if-b-eq35.false, eq-eqb _ _ c.if-b-eq46.true, mark_bit)
+
 returns : tie.Need-returns
-returns c = simp (eq-eqb _ _ c.if1.true, mark_bit)
+returns c = simp (ne_eqb _ _ c.before.if-b-eq35.false, ne_eqb _ _ c.if-b-eq46.false, mark_bit)
 
-returns-2 : tie.Need-returns-2
-returns-2 c = simp (ne_eqb _ _ c.before.if1.false, eq-eqb _ _ c.if2.true, mark_bit)
-
-returns-3 : tie.Need-returns-3
-returns-3 c = simp (ne_eqb _ _ c.before.if1.false, ne_eqb _ _ c.if2.false, mark_bit)
-
-pub mark-bit-spec : {M : Type 1} → statement M
-mark-bit-spec = tie.close (tie.spec returns returns-2 returns-3)
+pub mark_bit_spec : {M : Type 1} → statement M
+mark_bit_spec = tie.close (tie.spec
+    returns-then-b-eq35 returns-then-b-eq46 returns)

@@ -1,5 +1,5 @@
 -- `layout_compact_calls::compact` meets its contract: the check refuses, or the layout is pushed. Assumes nothing.
-use Rattle.list_laws.proofs.Kit.{◌∙◌, ◌≡◌, ap, sym, needs}
+use Rattle.list_laws.proofs.Kit.{◌∙◌, ◌≡◌, ap, sym, rules}
 use Rattle.model.specs.Refusal.{refused, given}
 use Rattle.model.specs.Lent.{Lent, lent_by, job_of}
 use Rattle.model.specs.Buffer.{layout_of}
@@ -19,38 +19,39 @@ abbrev lent : tie.Start → Lent
 lent s = lent_by s.args.size s.args.table.now s.args.pixels.now
 
 -- the check passed
-passed : (p : tie.After-enum-told) → let s : tie.Start = search in DoneAnswer.Done ≡ done_answer (check_call (lent s) s.args.layout.now)
-passed p = let asked : tie.After-check = search in sym p.enum_told.given.1 ∙ asked.check.ensures
+passed : (p : tie.In-Done) → let s : tie.Start = search in DoneAnswer.Done ≡ done_answer (check_call (lent s) s.args.layout.now)
+passed p = let asked : tie.After-check = search in sym p.enum_told-1.given.1 ∙ asked.check.ensures
 
-push-layout-requires : tie.Need-push-layout-requires
-push-layout-requires c κs =
+push_layout-requires : tie.Need-push_layout-requires
+push_layout-requires c κs =
     let s : tie.Start = search in
-    let p : tie.After-enum-told = search in
+    let p : tie.In-Done = search in
     passed_laid (lent s) s.args.layout.now (passed p)
 
-returns : tie.Need-returns
-returns c =
+returns-in-Refused : tie.Need-returns-in-Refused
+returns-in-Refused c =
     let s : tie.Start = search in
     let asked : tie.After-check = search in
-    let how : tie.After-refusal = search in
+    let how : tie.In-Refused-2 = search in
     let es = s.args.layout.now in
-    let o : compact_call (lent s) es ≡ refused how.refusal.given.0.0 =
-    compact_refused (lent s) es _ (sym how.refusal.given.1 ∙ asked.check.ensures) in
+    let o : compact_call (lent s) es ≡ refused how.refusal-1.given.0.0 =
+    compact_refused (lent s) es _ (sym how.refusal-1.given.1 ∙ asked.check.ensures) in
     (sym (ap slid_answer o), (sym (ap (compact_after es) o), λ n told. impossible (cc)))
 
-returns-2 : tie.Need-returns-2
-returns-2 c =
+returns-in-Done : tie.Need-returns-in-Done
+returns-in-Done c =
     let s : tie.Start = search in
-    let p : tie.After-enum-told = search in
-    let pushed : tie.After-push-layout = search in
+    let p : tie.In-Done = search in
+    let pushed : tie.After-push_layout = search in
     let es = s.args.layout.now in
-    let e = pushed.push-layout.ensures in
+    let e = pushed.push_layout.ensures in
     let o : compact_call (lent s) es ≡ given (compact (job_of (lent s)) (layout_of es)) = compact_passed (lent s) es (passed p) in
-    let answer : NumberAnswer.Number pushed.push-layout.result ≡ slid_answer (compact_call (lent s) es) =
+    let answer : NumberAnswer.Number pushed.push_layout.result ≡ slid_answer (compact_call (lent s) es) =
     ap NumberAnswer.Number e.0 ∙ sym (ap slid_answer o) in
     let memory = e.1 ∙ sym (ap (compact_after es) o) in
     (answer, (memory, λ n told. rw memory (compact_answered (lent s) es answer n told)))
 
-pub compact-spec : {M : Type 1} → statement M
-compact-spec =
-    tie.close (tie.spec (search needs) (search needs) (search needs) push-layout-requires (search needs) returns (search needs) returns-2)
+pub compact_spec : {M : Type 1} → statement M
+compact_spec =
+    tie.close (tie.spec
+    (search rules) (search rules) (search rules) push_layout-requires (search rules) returns-in-Refused (search rules) returns-in-Done)

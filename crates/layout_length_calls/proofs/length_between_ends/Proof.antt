@@ -1,6 +1,6 @@
 -- `layout_length_calls::length_between_ends` meets its contract. The loop's invariant: the largest right end and the smallest corner x of
 -- the pieces passed. Assumes nothing.
-use Rattle.list_laws.proofs.Kit.{◌≡◌, refl, List, [], ◌-◌, ◌<◌, ◌≤◌, ℕ, add-one, arith, needs}
+use Rattle.list_laws.proofs.Kit.{◌≡◌, refl, List, [], ◌-◌, ◌<◌, ◌≤◌, ℕ, add-one, arith, rules}
 use Rattle.model.specs.Layout.{rightmost, leftmost, used_length}
 use Rattle.model.specs.Lent.{lent_by, job_of}
 use Rattle.model.specs.Buffer.{layout_of}
@@ -8,80 +8,81 @@ use Rattle.call_laws.proofs.Lengths.{ends_ordered}
 use Rattle.layout_length_calls.proofs.length_between_ends.Statement.{statement}
 use Rattle.layout_length_calls.proofs.length_between_ends.Tie as tie
 
-abbrev invariant-loop : tie.invariant-loop
-invariant-loop size table layout last₀ first₀ i₀ last first i =
+abbrev invariant-loop-i : tie.invariant-loop-i
+invariant-loop-i size table layout last₀ first₀ i₀ last first i =
     (i ≤ size.count) × ((pixels : List ℕ) → last ≡ rightmost (job_of (lent_by size table pixels)) (layout_of layout) i)
     × (first ≡ leftmost (layout_of layout) i)
 
-abbrev decreases-loop : tie.decreases-loop
-decreases-loop size table layout last₀ first₀ i₀ last first i = size.count - i
+abbrev decreases-loop-i : tie.decreases-loop-i
+decreases-loop-i size table layout last₀ first₀ i₀ last first i = size.count - i
 
-left-end-requires : tie.Need-left-end-requires invariant-loop decreases-loop
-left-end-requires c κs =
-    let at-start : tie.Start invariant-loop decreases-loop = search in
-    let h = at-start.pre in omega arith
+left_end-first-requires : tie.Need-left_end-first-requires invariant-loop-i decreases-loop-i
+left_end-first-requires c κs =
+    let at-start : tie.Start invariant-loop-i decreases-loop-i = search in
+    let h = at-start.requires in omega arith
 
-loop-holds : tie.Need-loop-init invariant-loop decreases-loop
+loop-i-init : tie.Need-loop-i-init invariant-loop-i decreases-loop-i
 unfolding rightmost leftmost
-loop-holds c =
-    let at-left-end : tie.After-left-end invariant-loop decreases-loop = search in (omega arith, λ pixels. refl, at-left-end.left_end_lem.ensures)
+loop-i-init c =
+    let at-left-end : tie.After-left_end-first invariant-loop-i decreases-loop-i = search in (omega arith, λ pixels. refl, at-left-end.left_end-first.ensures)
 
-right-end-requires : tie.Need-right-end-requires invariant-loop decreases-loop
-right-end-requires c κs =
-    let at-start : tie.Start invariant-loop decreases-loop = search in
-    let h = at-start.pre.1 in omega arith
+right_end-right-requires : tie.Need-right_end-right-requires invariant-loop-i decreases-loop-i
+right_end-right-requires c κs =
+    let at-start : tie.Start invariant-loop-i decreases-loop-i = search in
+    let h = at-start.requires.1 in omega arith
 
-left-end-requires-2 : tie.Need-left-end-requires-2 invariant-loop decreases-loop
-left-end-requires-2 c κs =
-    let at-start : tie.Start invariant-loop decreases-loop = search in
-    let h = at-start.pre.1 in omega arith
+left_end-left-requires : tie.Need-left_end-left-requires invariant-loop-i decreases-loop-i
+left_end-left-requires c κs =
+    let at-start : tie.Start invariant-loop-i decreases-loop-i = search in
+    let h = at-start.requires.1 in omega arith
 
-add-i : tie.Need-overflow-add-i invariant-loop decreases-loop
-add-i c =
-    let at-start : tie.Start invariant-loop decreases-loop = search in
-    let h = at-start.pre.1 in omega arith
+overflow_add-i : tie.Need-overflow_add-i invariant-loop-i decreases-loop-i
+overflow_add-i c =
+    let at-start : tie.Start invariant-loop-i decreases-loop-i = search in
+    let h = at-start.requires.1 in omega arith
 
-loop-again : tie.Need-loop-preserved invariant-loop decreases-loop
+loop-i-preserved : tie.Need-loop-i-preserved invariant-loop-i decreases-loop-i
 unfolding rightmost leftmost
-loop-again c =
-    let at-loop : tie.At-loop invariant-loop decreases-loop = search in
-    let at_right : tie.After-right-end invariant-loop decreases-loop = search in
-    let at_left : tie.After-left-end2 invariant-loop decreases-loop = search in
-    let at-larger : tie.After-larger invariant-loop decreases-loop = search in
-    let at-start : tie.Start invariant-loop decreases-loop = search in
+loop-i-preserved c =
+    let at-loop : tie.At-loop-i invariant-loop-i decreases-loop-i = search in
+    let at_right : tie.After-right_end-right invariant-loop-i decreases-loop-i = search in
+    let at_left : tie.After-left_end-left invariant-loop-i decreases-loop-i = search in
+    let at-larger : tie.After-larger-last invariant-loop-i decreases-loop-i = search in
+    let at-start : tie.Start invariant-loop-i decreases-loop-i = search in
     let a = at-start.args in (
       omega arith,
       λ pixels.
-          rw (add-one at-loop.loop.i, at-larger.larger.ensures, at_right.right_end.ensures a.size pixels, at-loop.loop.inv.1 pixels),
-      rw (add-one at-loop.loop.i, c.smaller.ensures, at_left.left-end2.ensures, at-loop.loop.inv.2),
+          rw (add-one at-loop.loop-i.i, at-larger.larger-last.ensures, at_right.right_end-right.ensures a.size pixels, at-loop.loop-i.invariant.1 pixels),
+      rw (add-one at-loop.loop-i.i, c.smaller-first.ensures, at_left.left_end-left.ensures, at-loop.loop-i.invariant.2),
     )
 
 -- all pieces are passed
-at-the-end : (p : tie.Else1 invariant-loop decreases-loop) →
-    let at-loop : tie.At-loop invariant-loop decreases-loop = search in
-    let at-start : tie.Start invariant-loop decreases-loop = search in
-    at-loop.loop.i ≡ at-start.args.size.count
+at-the-end : (p : tie.After-loop-i invariant-loop-i decreases-loop-i) →
+    let at-loop : tie.At-loop-i invariant-loop-i decreases-loop-i = search in
+    let at-start : tie.Start invariant-loop-i decreases-loop-i = search in
+    at-loop.loop-i.i ≡ at-start.args.size.count
 at-the-end p = omega arith
 
-sub-result : tie.Need-overflow-sub-result invariant-loop decreases-loop
-sub-result c =
-    let at-loop : tie.At-loop invariant-loop decreases-loop = search in
-    let at-start : tie.Start invariant-loop decreases-loop = search in
+overflow_sub-result : tie.Need-overflow_sub-result invariant-loop-i decreases-loop-i
+overflow_sub-result c =
+    let at-loop : tie.At-loop-i invariant-loop-i decreases-loop-i = search in
+    let at-start : tie.Start invariant-loop-i decreases-loop-i = search in
     let e = at-the-end c in
-    let h = at-start.pre.0 in
-    let some : 0 < at-loop.loop.i = omega arith in
-    let ordered : at-loop.loop.first ≤ at-loop.loop.last =
-    rw (at-loop.loop.inv.1 [], at-loop.loop.inv.2) (ends_ordered _ _ at-loop.loop.i some) in
+    let h = at-start.requires.0 in
+    let some : 0 < at-loop.loop-i.i = omega arith in
+    let ordered : at-loop.loop-i.first ≤ at-loop.loop-i.new =
+    rw (at-loop.loop-i.invariant.1 [], at-loop.loop-i.invariant.2) (ends_ordered _ _ at-loop.loop-i.i some) in
     omega arith
 
-returns : tie.Need-returns invariant-loop decreases-loop
+returns : tie.Need-returns invariant-loop-i decreases-loop-i
 unfolding used_length job_of
 returns c = λ pixels.
-    let at-loop : tie.At-loop invariant-loop decreases-loop = search in
-    rw (at-loop.loop.inv.1 pixels, at-loop.loop.inv.2, at-the-end c)
+    let at-loop : tie.At-loop-i invariant-loop-i decreases-loop-i = search in
+    rw (at-loop.loop-i.invariant.1 pixels, at-loop.loop-i.invariant.2, at-the-end c)
 
-pub length-between-ends-spec : {M : Type 1} → statement M
-length-between-ends-spec =
+pub length_between_ends_spec : {M : Type 1} → statement M
+length_between_ends_spec =
     tie.close
-    (tie.spec invariant-loop decreases-loop
-    left-end-requires loop-holds right-end-requires left-end-requires-2 (search needs) (search needs) add-i (search needs) loop-again sub-result returns)
+    (tie.spec
+    invariant-loop-i decreases-loop-i left_end-first-requires loop-i-init right_end-right-requires left_end-left-requires (search rules)
+    (search rules) overflow_add-i (search rules) loop-i-preserved overflow_sub-result returns)

@@ -1,6 +1,6 @@
 -- `layout_length_calls::used_length` meets its contract: the causes refuse, or none is there and the length is given; either way the answer
 -- tells the call's outcome, of which the claims hold. Assumes nothing.
-use Rattle.list_laws.proofs.Kit.{◌∙◌, sym, needs}
+use Rattle.list_laws.proofs.Kit.{◌∙◌, sym, rules}
 use Rattle.model.specs.Lent.{Lent, lent_by}
 use Rattle.model.specs.Calls.{layout_causes, used_length_call}
 use Rattle.job_laws.proofs.Checked.{facts}
@@ -17,29 +17,30 @@ abbrev lent : tie.Start → Lent
 lent s = lent_by s.args.size s.args.table.now s.args.pixels.now
 
 -- none of the causes is there
-passed : (p : tie.After-enum-told) → let s : tie.Start = search in NoCause (layout_causes (lent s) s.args.layout.now)
-passed p = let asked : tie.After-layout-causes = search in passed_none _ (sym p.enum_told.given.1 ∙ asked.layout_causes_lem.ensures)
+passed : (p : tie.In-Done) → let s : tie.Start = search in NoCause (layout_causes (lent s) s.args.layout.now)
+passed p = let asked : tie.After-layout_causes = search in passed_none _ (sym p.enum_told-1.given.1 ∙ asked.layout_causes.ensures)
 
-length-between-ends-requires : tie.Need-length-between-ends-requires
-length-between-ends-requires c κs =
+length_between_ends-requires : tie.Need-length_between_ends-requires
+length_between_ends-requires c κs =
     let s : tie.Start = search in
     let laid = layout_laid (lent s) s.args.layout.now (passed c) in
     ((facts (lent s) laid.well).some_pieces, laid_entries (lent s) s.args.layout.now laid, laid.whole)
 
-returns : tie.Need-returns
+returns-in-Refused : tie.Need-returns-in-Refused
 unfolding used_length_call
-returns c =
+returns-in-Refused c =
     let s : tie.Start = search in
-    let asked : tie.After-layout-causes = search in
+    let asked : tie.After-layout_causes = search in
     used_answered (lent s) s.args.layout.now
-    (rw (refused_alone _ _ _ (sym c.before.refusal.given.1 ∙ asked.layout_causes_lem.ensures)))
+    (rw (refused_alone _ _ _ (sym c.before.refusal-1.given.1 ∙ asked.layout_causes.ensures)))
 
-returns-2 : tie.Need-returns-2
+returns-in-Done : tie.Need-returns-in-Done
 unfolding used_length_call
-returns-2 c =
+returns-in-Done c =
     let s : tie.Start = search in
-    let told : tie.After-enum-told = search in
-    used_answered (lent s) s.args.layout.now (rw (unless_given _ _ (passed told), c.length-between-ends.ensures s.args.pixels.now))
+    let told : tie.In-Done = search in
+    used_answered (lent s) s.args.layout.now (rw (unless_given _ _ (passed told), c.length_between_ends.ensures s.args.pixels.now))
 
-pub used-length-spec : {M : Type 1} → statement M
-used-length-spec = tie.close (tie.spec (search needs) (search needs) (search needs) length-between-ends-requires returns returns-2)
+pub used_length_spec : {M : Type 1} → statement M
+used_length_spec = tie.close (tie.spec
+    (search rules) (search rules) (search rules) length_between_ends-requires returns-in-Refused returns-in-Done)

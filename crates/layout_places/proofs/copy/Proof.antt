@@ -1,29 +1,29 @@
 -- `layout_places::copy` meets its contract: the entries passed are copied. Assumes nothing.
-use Rattle.list_laws.proofs.Kit.{[], ◌-◌, arith, length, needs}
+use Rattle.list_laws.proofs.Kit.{[], ◌-◌, arith, length, rules}
 use Rattle.list_laws.proofs.Copying.{Copying, copying_begin, copying_more, copying_end}
 use Rattle.layout_places.proofs.copy.Statement.{statement}
 use Rattle.layout_places.proofs.copy.Tie as tie
 
-abbrev invariant-loop : tie.invariant-loop
-invariant-loop from to₀ k₀ to k = Copying [] from to k
+abbrev invariant-loop-k : tie.invariant-loop-k
+invariant-loop-k from to₀ k₀ to k = Copying [] from to k
 
-abbrev decreases-loop : tie.decreases-loop
-decreases-loop from to₀ k₀ to k = length from - k
+abbrev decreases-loop-k : tie.decreases-loop-k
+decreases-loop-k from to₀ k₀ to k = length from - k
 
-loop-holds : tie.Need-loop-init invariant-loop decreases-loop
-loop-holds c = copying_begin [] _ _ c.requires
+loop-k-init : tie.Need-loop-k-init invariant-loop-k decreases-loop-k
+loop-k-init c = copying_begin [] _ _ c.requires
 
-loop-again : tie.Need-loop-preserved invariant-loop decreases-loop
-loop-again c = copying_more c.before.before.loop.invariant c.before.loop-test.true
+loop-k-preserved : tie.Need-loop-k-preserved invariant-loop-k decreases-loop-k
+loop-k-preserved c = copying_more c.before.before.loop-k.invariant c.before.loop-k-test.true
 
-same_length : tie.Need-same-length invariant-loop decreases-loop
-same_length c = let h = c.before.loop.invariant in omega arith
+shape_of-to : tie.Need-shape_of-to invariant-loop-k decreases-loop-k
+shape_of-to c = let h = c.before.loop-k.invariant in omega arith
 
-returns : tie.Need-returns invariant-loop decreases-loop
-returns c = copying_end c.before.loop.invariant c.loop-test.false
+returns : tie.Need-returns invariant-loop-k decreases-loop-k
+returns c = copying_end c.before.loop-k.invariant c.loop-k-test.false
 
 pub copy_spec : {M : Type 1} → statement M
 copy_spec =
     tie.close (tie.spec
-    invariant-loop decreases-loop loop-holds (search needs) (search needs) (search needs) (search needs) (search needs) (search needs) loop-again
-    same_length returns)
+    invariant-loop-k decreases-loop-k loop-k-init (search rules) (search rules) (search rules) (search rules) (search rules) (search rules)
+    loop-k-preserved shape_of-to returns)

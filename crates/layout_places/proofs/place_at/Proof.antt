@@ -1,5 +1,5 @@
 -- `layout_places::place_at` meets its contract: a placement stands in its entry (`place_of_entry`). Assumes nothing.
-use Rattle.list_laws.proofs.Kit.{sym, needs}
+use Rattle.list_laws.proofs.Kit.{sym, rules}
 use Rattle.layout_places.proofs.Places.{place_of_entry}
 use Rattle.layout_places.proofs.place_at.Statement.{statement}
 use Rattle.layout_places.proofs.place_at.Tie as tie
@@ -7,10 +7,10 @@ use Rattle.layout_places.proofs.place_at.Tie as tie
 returns : tie.Need-returns
 returns c =
     let at-start : tie.Start = search in
-    rw c.before.before.turn-or-zero.ensures (sym (place_of_entry at-start.args.layout.now at-start.args.i))
+    rw c.before.before.turn_or_zero.ensures (sym (place_of_entry at-start.args.layout.now at-start.args.i))
 
-pub place-at-spec : {M : Type 1} → statement M
-place-at-spec =
+pub place_at_spec : {M : Type 1} → statement M
+place_at_spec =
     tie.close (tie.spec
-    (search needs) (search needs) (search needs) (search needs) (search needs) (search needs) (search needs) (search needs) (search needs)
-    (search needs) returns)
+    (search rules) (search rules) (search rules) (search rules) (search rules) (search rules) (search rules) (search rules) (search rules)
+    (search rules) returns)

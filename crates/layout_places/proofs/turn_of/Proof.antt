@@ -4,32 +4,33 @@ use Rattle.model.specs.Buffer.{turn_of_degrees}
 use Rattle.layout_places.proofs.turn_of.Statement.{statement}
 use Rattle.layout_places.proofs.turn_of.Tie as tie
 
-returns : tie.Need-returns
+returns-in-0 : tie.Need-returns-in-0
 unfolding turn_of_degrees
-returns c = rw c.match.keys1
+returns-in-0 c = rw c.in-0.keys1
 
-returns-2 : tie.Need-returns-2
+returns-in-90 : tie.Need-returns-in-90
 unfolding turn_of_degrees
-returns-2 c = rw c.match.keys2
+returns-in-90 c = rw c.in-0.keys2
 
-returns-3 : tie.Need-returns-3
+returns-in-180 : tie.Need-returns-in-180
 unfolding turn_of_degrees
-returns-3 c = rw c.match.keys3
+returns-in-180 c = rw c.in-0.keys3
 
-returns-4 : tie.Need-returns-4
+returns-in-270 : tie.Need-returns-in-270
 unfolding turn_of_degrees
-returns-4 c = rw c.match.keys4
+returns-in-270 c = rw c.in-0.keys4
 
-returns-5 : tie.Need-returns-5
+returns-in_default : tie.Need-returns-in_default
 unfolding turn_of_degrees
-returns-5 c =
+returns-in_default c =
     rw (
-      ne_eqb _ _ c.match.rest.0.0.0.1,
-      ne_eqb _ _ c.match.rest.0.0.1,
-      ne_eqb _ _ c.match.rest.0.1,
-      ne_eqb _ _ c.match.rest.1,
+      ne_eqb _ _ c.in-0.rest.0.0.0.1,
+      ne_eqb _ _ c.in-0.rest.0.0.1,
+      ne_eqb _ _ c.in-0.rest.0.1,
+      ne_eqb _ _ c.in-0.rest.1,
       turn_of_degrees,
     )
 
-pub turn-of-spec : {M : Type 1} → statement M
-turn-of-spec = tie.close (tie.spec returns returns-2 returns-3 returns-4 returns-5)
+pub turn_of_spec : {M : Type 1} → statement M
+turn_of_spec = tie.close (tie.spec
+    returns-in-0 returns-in-90 returns-in-180 returns-in-270 returns-in_default)

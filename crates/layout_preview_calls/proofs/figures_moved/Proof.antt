@@ -8,7 +8,7 @@ use Rattle.layout_preview_calls.proofs.figures_moved.Tie as tie
 
 -- the lent job has at most 64 pieces
 few : (s : tie.Start) → s.args.size.count ≤ 64
-few s = (facts (lent_by s.args.size s.args.table.now s.args.pixels.now) s.requires.0.well).few_pieces
+few s = (facts (lent_by s.args.size s.args.table.now s.args.pixels.now) s.requires.fact_1.well).few_pieces
 
 -- a fresh array, and as much of it as there are pieces
 abbrev fresh : List (List ℕ)
@@ -17,19 +17,20 @@ fresh = replicate 64 (0 ∷ 0 ∷ 0 ∷ [])
 fresh_part : (n : ℕ) → n ≤ 64 → length (take n fresh) ≡ n
 fresh_part n l = repeated_front n 64 (0 ∷ 0 ∷ 0 ∷ []) l
 
-array-borrow-prefix-moved : tie.Need-array-borrow-prefix-moved
-array-borrow-prefix-moved c = let s : tie.Start = search in few s
+slice_bounds-moved-end : tie.Need-slice_bounds-moved-end
+slice_bounds-moved-end c = let s : tie.Start = search in few s
 
-slice-aggregate-figures-on : tie.Need-slice-aggregate-figures-on
-slice-aggregate-figures-on c = let s : tie.Start = search in sym (fresh_part s.args.size.count (few s))
+slice_bounds-figures_on-end : tie.Need-slice_bounds-figures_on-end
+slice_bounds-figures_on-end c = let s : tie.Start = search in sym (fresh_part s.args.size.count (few s))
 
-figures-on-requires : tie.Need-figures-on-requires
-figures-on-requires c κs =
+figures_on-requires : tie.Need-figures_on-requires
+figures_on-requires c κs =
     let s : tie.Start = search in
-    (s.pre.0, (s.pre.1.0, (s.pre.1.1, fresh_part s.args.size.count (few s))))
+    (s.requires.fact_1, (s.requires.fact_2.0, (s.requires.fact_2.1, fresh_part s.args.size.count (few s))))
 
 returns : tie.Need-returns
-returns c = let measured : tie.After-figures-on = search in measured.figures-on.ensures
+returns c = let measured : tie.After-figures_on = search in measured.figures_on.ensures
 
-pub figures-moved-spec : {M : Type 1} → statement M
-figures-moved-spec = tie.close (tie.spec array-borrow-prefix-moved slice-aggregate-figures-on figures-on-requires returns)
+pub figures_moved_spec : {M : Type 1} → statement M
+figures_moved_spec = tie.close (tie.spec
+    slice_bounds-moved-end slice_bounds-figures_on-end figures_on-requires returns)

@@ -1,6 +1,6 @@
 -- `layout_preview_calls::preview_causes` meets its contract: the causes of placing the piece come first, and where none of them is there the new
 -- placement decides. Assumes nothing.
-use Rattle.list_laws.proofs.Kit.{◌∙◌, ◌≡◌, ap, sym, Bool, not, List, [], ◌++◌, ◌∷◌, arith, needs, not-false, not-true}
+use Rattle.list_laws.proofs.Kit.{◌∙◌, ◌≡◌, ap, sym, Bool, not, List, [], ◌++◌, ◌∷◌, arith, rules, not-false, not-true}
 use Rattle.model.specs.Answers.{done_answer, first_cause}
 use Rattle.model.specs.Layout.{inside}
 use Rattle.model.specs.Lent.{Lent, lent_by, job_of}
@@ -24,8 +24,8 @@ abbrev outside : tie.Start → Bool
 outside s = not (inside (job_of (lent s)) s.args.piece s.args.place)
 
 -- none of the former is there
-passed : (p : tie.After-enum-told) → let s : tie.Start = search in NoCause (placing s)
-passed p = let asked : tie.After-placing-causes = search in passed_none _ (sym p.enum_told.given.1 ∙ asked.placing-causes.ensures)
+passed : (p : tie.In-Done) → let s : tie.Start = search in NoCause (placing s)
+passed p = let asked : tie.After-placing_causes = search in passed_none _ (sym p.enum_told-1.given.1 ∙ asked.placing_causes.ensures)
 
 inside-requires : tie.Need-inside-requires
 inside-requires c κs =
@@ -35,37 +35,38 @@ inside-requires c κs =
     let piece = known.piece in omega arith
 
 -- so the new placement decides
-decides : (p : tie.After-enum-told) → let s : tie.Start = search in
+decides : (p : tie.In-Done) → let s : tie.Start = search in
     first_cause (cause outside_sheet (outside s) ∷ []) ≡ first_cause (placing s ++ (cause outside_sheet (outside s) ∷ []))
 decides p =
     let s : tie.Start = search in
     sym (ap done_answer (none_then (placing s) (cause outside_sheet (outside s) ∷ []) tt (passed p)))
 
-returns : tie.Need-returns
-returns c =
+returns-then-not-inside : tie.Need-returns-then-not-inside
+returns-then-not-inside c =
     let s : tie.Start = search in
-    let told : tie.After-enum-told = search in
+    let told : tie.In-Done = search in
     let asked : tie.After-inside = search in
     c.refused.ensures
-    ∙ there outside_sheet (outside s) [] (ap not (sym (asked.inside.ensures s.args.pixels.now) ∙ not-true _ c.before.if1.true))
+    ∙ there outside_sheet (outside s) [] (ap not (sym (asked.inside.ensures s.args.pixels.now) ∙ not-true _ c.before.if-not-inside.true))
     ∙ decides told
 
-returns-2 : tie.Need-returns-2
-returns-2 c =
+returns-in-Refused : tie.Need-returns-in-Refused
+returns-in-Refused c =
     let s : tie.Start = search in
-    let asked : tie.After-placing-causes = search in
+    let asked : tie.After-placing_causes = search in
     sym (ap done_answer
-    (refused_then (placing s) (cause outside_sheet (outside s) ∷ []) tt _ (sym c.before.refusal.given.1 ∙ asked.placing-causes.ensures)))
+    (refused_then (placing s) (cause outside_sheet (outside s) ∷ []) tt _ (sym c.before.refusal-1.given.1 ∙ asked.placing_causes.ensures)))
 
-returns-3 : tie.Need-returns-3
-returns-3 c =
+returns-else-not-inside : tie.Need-returns-else-not-inside
+returns-else-not-inside c =
     let s : tie.Start = search in
-    let told : tie.After-enum-told = search in
+    let told : tie.In-Done = search in
     let asked : tie.After-inside = search in
-    next outside_sheet (outside s) [] (ap not (sym (asked.inside.ensures s.args.pixels.now) ∙ not-false _ c.if1.false)) no_more
+    next outside_sheet (outside s) [] (ap not (sym (asked.inside.ensures s.args.pixels.now) ∙ not-false _ c.if-not-inside.false)) no_more
     ∙ decides told
 
-pub preview-causes-spec : {M : Type 1} → statement M
-preview-causes-spec =
+pub preview_causes_spec : {M : Type 1} → statement M
+preview_causes_spec =
     tie.close
-    (tie.spec (search needs) (search needs) (search needs) inside-requires (search needs) returns returns-2 returns-3)
+    (tie.spec
+    (search rules) (search rules) (search rules) inside-requires (search rules) returns-then-not-inside returns-in-Refused returns-else-not-inside)

@@ -1,5 +1,5 @@
 -- `layout_pushes::left_then_down` meets its contract: two slides, one after the other. Assumes nothing.
-use Rattle.list_laws.proofs.Kit.{arith, needs}
+use Rattle.list_laws.proofs.Kit.{arith, rules}
 use Rattle.model.specs.Compact.{slide, left_then_down}
 use Rattle.model.specs.Lent.{Lent, lent_by, job_of}
 use Rattle.model.specs.Buffer.{layout_of}
@@ -18,47 +18,48 @@ lent s = lent_by s.args.size s.args.table.now s.args.pixels.now
 pushed-left : (s : tie.Start)
     → Pushed (job_of (lent s)) (layout_of s.args.layout.now) (slide Horizontal (job_of (lent s)) s.args.i (layout_of s.args.layout.now))
 unfolding job_of
-pushed-left s = slide_pushed Horizontal (job_of (lent s)) s.args.i _ (whole (lent s) _ _ _ _ _ s.requires.0) s.requires.1.0 s.requires.1.1
+pushed-left s = slide_pushed Horizontal (job_of (lent s)) s.args.i _ (whole (lent s) _ _ _ _ _ s.requires.fact_1) s.requires.fact_2.0 s.requires.fact_2.1
 
-slide-requires : tie.Need-slide-requires
-slide-requires c κs =
+slide-left-requires : tie.Need-slide-left-requires
+slide-left-requires c κs =
     let s : tie.Start = search in
-    let h = s.pre.0 in
-    (record { laid = h.laid; drawn = h.rows_drawn }, (s.pre.1.0, h.written))
+    let h = s.requires.fact_1 in
+    (record { laid = h.laid; drawn = h.rows_drawn }, (s.requires.fact_2.0, h.written))
 
-slide-requires-2 : tie.Need-slide-requires-2
-slide-requires-2 c κs =
+slide-down-requires : tie.Need-slide-down-requires
+slide-down-requires c κs =
     let s : tie.Start = search in
-    let once : tie.After-slide = search in
-    let h = pushable_after (lent s) _ _ _ _ _ s.pre.0 _ (pushed-left s) _ once.slide.ensures.1 in
-    (record { laid = h.laid; drawn = h.columns_drawn }, (s.pre.1.0, h.written))
+    let once : tie.After-slide-left = search in
+    let h = pushable_after (lent s) _ _ _ _ _ s.requires.fact_1 _ (pushed-left s) _ once.slide-left.ensures.layout in
+    (record { laid = h.laid; drawn = h.columns_drawn }, (s.requires.fact_2.0, h.written))
 
-add-result : tie.Need-overflow-add-result
+overflow_add-result : tie.Need-overflow_add-result
 unfolding job_of
-add-result c =
+overflow_add-result c =
     let s : tie.Start = search in
-    let once : tie.After-slide = search in
-    let twice : tie.After-slide2 = search in
+    let once : tie.After-slide-left = search in
+    let twice : tie.After-slide-down = search in
     let l = lent s in
-    let h = pushable_after l _ _ _ _ _ s.pre.0 _ (pushed-left s) _ once.slide.ensures.1 in
-    let left = slid_small l _ _ _ _ _ s.pre.0 _ (pushed-left s) in
-    let down = slid_small l _ _ _ _ _ h _ (slide_pushed Vertical (job_of l) s.args.i _ (whole l _ _ _ _ _ h) s.pre.1.0 s.pre.1.1) in
-    omega (arith, left, down, once.slide.ensures.0, twice.slide2.ensures.0)
+    let h = pushable_after l _ _ _ _ _ s.requires.fact_1 _ (pushed-left s) _ once.slide-left.ensures.layout in
+    let left = slid_small l _ _ _ _ _ s.requires.fact_1 _ (pushed-left s) in
+    let down = slid_small l _ _ _ _ _ h _ (slide_pushed Vertical (job_of l) s.args.i _ (whole l _ _ _ _ _ h) s.requires.fact_2.0 s.requires.fact_2.1) in
+    omega (arith, left, down, once.slide-left.ensures.slid, twice.slide-down.ensures.slid)
 
 returns : tie.Need-returns
 unfolding left_then_down
 returns c =
     let s : tie.Start = search in
-    let once : tie.After-slide = search in
-    let twice : tie.After-slide2 = search in
+    let once : tie.After-slide-left = search in
+    let twice : tie.After-slide-down = search in
     let j = job_of (lent s) in
     let i = s.args.i in
     let v = layout_of s.args.layout.now in
-    let a = once.slide.ensures in
-    let b = twice.slide2.ensures in (
+    let a = once.slide-left.ensures in
+    let b = twice.slide-down.ensures in (
       then_slid (slide Horizontal j i v) (slide Vertical j i) _ _ _ _ a.0 a.1 b.0 b.1,
       then_layout (slide Horizontal j i v) (slide Vertical j i) _ _ _ _ a.0 a.1 b.0 b.1,
     )
 
-pub left-then-down-spec : {M : Type 1} → statement M
-left-then-down-spec = tie.close (tie.spec slide-requires slide-requires-2 add-result (search needs) returns)
+pub left_then_down_spec : {M : Type 1} → statement M
+left_then_down_spec = tie.close (tie.spec
+    slide-left-requires slide-down-requires overflow_add-result (search rules) returns)

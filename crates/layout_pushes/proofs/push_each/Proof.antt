@@ -11,109 +11,111 @@ use Rattle.layout_pushes.proofs.Pushing.{whole, pushable_after, slid_small, then
 use Rattle.layout_pushes.proofs.push_each.Statement.{statement}
 use Rattle.layout_pushes.proofs.push_each.Tie as tie
 
-abbrev invariant-loop : tie.invariant-loop
-invariant-loop size table pixels layout₀ rows row-spans columns column-spans slid₀ i₀ layout slid i =
+abbrev invariant-loop-i : tie.invariant-loop-i
+invariant-loop-i size table pixels layout₀ rows row-spans columns column-spans slid₀ i₀ layout slid i =
     (i ≤ size.count)
     × (Pushable (lent_by size table pixels) layout rows row-spans columns column-spans
     × ((length layout ≡ length layout₀)
     × ((slid ≡ (push_below (job_of (lent_by size table pixels)) i (layout_of layout₀)).slid)
-    × (layout ≡ entries_of (push_below (job_of (lent_by size table pixels)) i (layout_of layout₀)).layout))))
+    × (layout ≡ entries_of (push_below (job_of (lent_by size table pixels)) i (layout_of layout₀)).layout-1))))
 
-abbrev decreases-loop : tie.decreases-loop
-decreases-loop size table pixels layout₀ rows row-spans columns column-spans slid₀ i₀ layout slid i = size.count - i
+abbrev decreases-loop-i : tie.decreases-loop-i
+decreases-loop-i size table pixels layout₀ rows row-spans columns column-spans slid₀ i₀ layout slid i = size.count - i
 
 -- the lent job
-abbrev lent : tie.Start invariant-loop decreases-loop → Lent
+abbrev lent : tie.Start invariant-loop-i decreases-loop-i → Lent
 lent s = lent_by s.args.size s.args.table.now s.args.pixels.now
 
 -- a piece that is pushed
-pushed : (c : tie.Then1 invariant-loop decreases-loop) →
-    let s : tie.Start invariant-loop decreases-loop = search in
-    let l : tie.At-loop invariant-loop decreases-loop = search in
-    Pushed (job_of (lent s)) (layout_of l.loop.layout) (push_piece (job_of (lent s)) l.loop.i (layout_of l.loop.layout))
+pushed : (c : tie.In-loop-i invariant-loop-i decreases-loop-i) →
+    let s : tie.Start invariant-loop-i decreases-loop-i = search in
+    let l : tie.At-loop-i invariant-loop-i decreases-loop-i = search in
+    Pushed (job_of (lent s)) (layout_of l.loop-i.layout) (push_piece (job_of (lent s)) l.loop-i.i (layout_of l.loop-i.layout))
 unfolding job_of
 pushed c =
-    let s : tie.Start invariant-loop decreases-loop = search in
-    let l : tie.At-loop invariant-loop decreases-loop = search in
-    piece_pushed (job_of (lent s)) l.loop.i _ (whole (lent s) _ _ _ _ _ l.loop.inv.1.0) c.if1.true
+    let s : tie.Start invariant-loop-i decreases-loop-i = search in
+    let l : tie.At-loop-i invariant-loop-i decreases-loop-i = search in
+    piece_pushed (job_of (lent s)) l.loop-i.i _ (whole (lent s) _ _ _ _ _ l.loop-i.invariant.1.0) c.loop-i-test.true
 
-loop-holds : tie.Need-loop-init invariant-loop decreases-loop
+loop-i-init : tie.Need-loop-i-init invariant-loop-i decreases-loop-i
 unfolding push_below
-loop-holds c =
-    let s : tie.Start invariant-loop decreases-loop = search in
-    (omega arith, (s.pre, (refl, (refl, sym s.pre.written))))
+loop-i-init c =
+    let s : tie.Start invariant-loop-i decreases-loop-i = search in
+    (omega arith, (s.requires, (refl, (refl, sym s.requires.written))))
 
-push-piece-requires : tie.Need-push-piece-requires invariant-loop decreases-loop
-push-piece-requires c κs =
-    let l : tie.At-loop invariant-loop decreases-loop = search in
-    let t : tie.Then1 invariant-loop decreases-loop = search in
-    (l.loop.inv.1.0, t.if1.taken)
+push_piece-slid-requires : tie.Need-push_piece-slid-requires invariant-loop-i decreases-loop-i
+push_piece-slid-requires c κs =
+    let l : tie.At-loop-i invariant-loop-i decreases-loop-i = search in
+    let t : tie.In-loop-i invariant-loop-i decreases-loop-i = search in
+    (l.loop-i.invariant.1.0, t.loop-i-test.true)
 
-add-slid : tie.Need-overflow-add-slid invariant-loop decreases-loop
+overflow_add-slid : tie.Need-overflow_add-slid invariant-loop-i decreases-loop-i
 unfolding job_of
-add-slid c =
-    let s : tie.Start invariant-loop decreases-loop = search in
-    let l : tie.At-loop invariant-loop decreases-loop = search in
-    let t : tie.Then1 invariant-loop decreases-loop = search in
-    let one : tie.After-push-piece invariant-loop decreases-loop = search in
-    let so_far = slid_small (lent s) _ _ _ _ _ s.pre _ (below_pushed (job_of (lent s)) l.loop.i _ (whole (lent s) _ _ _ _ _ s.pre) l.loop.inv.0) in
-    let more = slid_small (lent s) _ _ _ _ _ l.loop.inv.1.0 _ (pushed t) in
-    omega (arith, so_far, more, l.loop.inv.1.1.1.0, one.push-piece.ensures.0)
+overflow_add-slid c =
+    let s : tie.Start invariant-loop-i decreases-loop-i = search in
+    let l : tie.At-loop-i invariant-loop-i decreases-loop-i = search in
+    let t : tie.In-loop-i invariant-loop-i decreases-loop-i = search in
+    let one : tie.After-push_piece-slid invariant-loop-i decreases-loop-i = search in
+    let so_far = slid_small (lent s) _ _ _ _ _ s.requires _ (below_pushed (job_of (lent s)) l.loop-i.i _ (whole (lent s) _ _ _ _ _ s.requires) l.loop-i.invariant.0) in
+    let more = slid_small (lent s) _ _ _ _ _ l.loop-i.invariant.1.0 _ (pushed t) in
+    omega (arith, so_far, more, l.loop-i.invariant.1.1.1.0, one.push_piece-slid.ensures.slid)
 
-add-i : tie.Need-overflow-add-i invariant-loop decreases-loop
-add-i c =
-    let s : tie.Start invariant-loop decreases-loop = search in
-    let t : tie.Then1 invariant-loop decreases-loop = search in
-    let few = (facts (lent s) s.pre.laid.well).few_pieces in
-    let below = t.if1.taken in
+overflow_add-i : tie.Need-overflow_add-i invariant-loop-i decreases-loop-i
+overflow_add-i c =
+    let s : tie.Start invariant-loop-i decreases-loop-i = search in
+    let t : tie.In-loop-i invariant-loop-i decreases-loop-i = search in
+    let few = (facts (lent s) s.requires.laid.well).few_pieces in
+    let below = t.loop-i-test.true in
     omega arith
 
-loop-less : tie.Need-loop-smaller invariant-loop decreases-loop
-loop-less c = let t : tie.Then1 invariant-loop decreases-loop = search in let below = t.if1.taken in omega arith
+loop-i-smaller : tie.Need-loop-i-smaller invariant-loop-i decreases-loop-i
+loop-i-smaller c = let t : tie.In-loop-i invariant-loop-i decreases-loop-i = search in let below = t.loop-i-test.true in omega arith
 
-loop-again : tie.Need-loop-preserved invariant-loop decreases-loop
-loop-again c =
-    let s : tie.Start invariant-loop decreases-loop = search in
-    let l : tie.At-loop invariant-loop decreases-loop = search in
-    let t : tie.Then1 invariant-loop decreases-loop = search in
-    let one : tie.After-push-piece invariant-loop decreases-loop = search in
+loop-i-preserved : tie.Need-loop-i-preserved invariant-loop-i decreases-loop-i
+loop-i-preserved c =
+    let s : tie.Start invariant-loop-i decreases-loop-i = search in
+    let l : tie.At-loop-i invariant-loop-i decreases-loop-i = search in
+    let t : tie.In-loop-i invariant-loop-i decreases-loop-i = search in
+    let one : tie.After-push_piece-slid invariant-loop-i decreases-loop-i = search in
     let j = job_of (lent s) in
     let v = layout_of s.args.layout.now in
-    let i = l.loop.i in
-    let below = t.if1.taken in
-    let h = l.loop.inv.1 in
-    let e = one.push-piece.ensures in
+    let i = l.loop-i.i in
+    let below = t.loop-i-test.true in
+    let h = l.loop-i.invariant.1 in
+    let e = one.push_piece-slid.ensures in
     let next = below_next j i v in (
       omega arith,
       (
         pushable_after (lent s) _ _ _ _ _ h.0 _ (pushed t) _ e.1,
         (
-          one.push-piece.kept.1.1.1.0 ∙ h.1.0,
+          one.push_piece-slid.auto.1.1.1.0 ∙ h.1.0,
           (
             then_slid (push_below j i v) (push_piece j i) _ _ _ _ h.1.1.0 h.1.1.1 e.0 e.1 ∙ sym (ap (λ (z : Compacted). z.slid) next),
             then_layout (push_below j i v) (push_piece j i) _ _ _ _ h.1.1.0 h.1.1.1 e.0 e.1
-                ∙ sym (ap (λ (z : Compacted). entries_of z.layout) next),
+                ∙ sym (ap (λ (z : Compacted). entries_of z.layout-1) next),
           ),
         ),
       ),
     )
 
-same_length : tie.Need-same-length invariant-loop decreases-loop
-same_length c = let l : tie.At-loop invariant-loop decreases-loop = search in l.loop.inv.1.1.0
+shape_of-layout : tie.Need-shape_of-layout invariant-loop-i decreases-loop-i
+shape_of-layout c = let l : tie.At-loop-i invariant-loop-i decreases-loop-i = search in l.loop-i.invariant.1.1.0
 
-returns : tie.Need-returns invariant-loop decreases-loop
+returns : tie.Need-returns invariant-loop-i decreases-loop-i
 unfolding job_of
 returns c =
-    let s : tie.Start invariant-loop decreases-loop = search in
-    let l : tie.At-loop invariant-loop decreases-loop = search in
+    let s : tie.Start invariant-loop-i decreases-loop-i = search in
+    let l : tie.At-loop-i invariant-loop-i decreases-loop-i = search in
     let j = job_of (lent s) in
     let v = layout_of s.args.layout.now in
-    let all : l.loop.i ≡ s.args.size.count = omega (arith, l.loop.inv.0, c.if1.false) in
-    let h = l.loop.inv.1.1.1 in (
+    let all : l.loop-i.i ≡ s.args.size.count = omega (arith, l.loop-i.invariant.0, c.loop-i-test.false) in
+    let h = l.loop-i.invariant.1.1.1 in (
       h.0 ∙ ap (λ (n : ℕ). (push_below j n v).slid) all,
-      h.1 ∙ ap (λ (n : ℕ). entries_of (push_below j n v).layout) all,
+      h.1 ∙ ap (λ (n : ℕ). entries_of (push_below j n v).layout-1) all,
     )
 
-pub push-each-spec : {M : Type 1} → statement M
-push-each-spec =
-    tie.close (tie.spec invariant-loop decreases-loop loop-holds push-piece-requires add-slid add-i loop-less loop-again same_length returns)
+pub push_each_spec : {M : Type 1} → statement M
+push_each_spec =
+    tie.close (tie.spec
+    invariant-loop-i decreases-loop-i loop-i-init push_piece-slid-requires overflow_add-slid overflow_add-i loop-i-smaller loop-i-preserved
+    shape_of-layout returns)

@@ -1,5 +1,5 @@
 -- `layout_pushes::push_piece` meets its contract: a locked piece stays, a free one is pushed. Assumes nothing.
-use Rattle.list_laws.proofs.Kit.{◌∙◌, ◌≡◌, ap, sym, true, false, Bool, arith, needs}
+use Rattle.list_laws.proofs.Kit.{◌∙◌, ◌≡◌, ap, sym, true, false, Bool, arith, rules}
 use Rattle.model.specs.Layout.{is_locked}
 use Rattle.model.specs.Compact.{Compacted}
 use Rattle.model.specs.Lent.{Lent, lent_by, job_of}
@@ -13,42 +13,43 @@ use Rattle.layout_pushes.proofs.push_piece.Tie as tie
 abbrev lent : tie.Start → Lent
 lent s = lent_by s.args.size s.args.table.now s.args.pixels.now
 
-is-locked-requires : tie.Need-is-locked-requires
-is-locked-requires c κs =
+is_locked-requires : tie.Need-is_locked-requires
+is_locked-requires c κs =
     let s : tie.Start = search in
-    let i = s.pre.1 in
-    let n = (facts (lent s) s.pre.0.laid.well).entries in
+    let i = s.requires.fact_2 in
+    let n = (facts (lent s) s.requires.fact_1.laid.well).entries in
     omega arith
 
 -- what the test tells
-locked : (c : tie.After-is-locked) (b : Bool) → let s : tie.Start = search in c.is-locked.result ≡ b → is_locked (job_of (lent s)) s.args.i ≡ b
+locked : (c : tie.After-is_locked) (b : Bool) → let s : tie.Start = search in c.is_locked.result ≡ b → is_locked (job_of (lent s)) s.args.i ≡ b
 unfolding job_of
-locked c b e = sym c.is-locked.ensures ∙ e
+locked c b e = sym c.is_locked.ensures ∙ e
+
+returns-then-is_locked : tie.Need-returns-then-is_locked
+returns-then-is_locked c =
+    let s : tie.Start = search in
+    let asked : tie.After-is_locked = search in
+    let e = piece_locked_lem (job_of (lent s)) s.args.i (layout_of s.args.layout.now) (locked asked true c.if-is_locked.true) in
+    (sym (ap (λ (z : Compacted). z.slid) e), sym s.requires.fact_1.written ∙ sym (ap (λ (z : Compacted). entries_of z.layout-1) e))
+
+push_free-requires : tie.Need-push_free-requires
+push_free-requires c κs =
+    let s : tie.Start = search in
+    let asked : tie.After-is_locked = search in
+    let split : tie.Else-is_locked = search in
+    (s.requires.fact_1, (s.requires.fact_2, locked asked false split.if-is_locked.false))
 
 returns : tie.Need-returns
 returns c =
     let s : tie.Start = search in
-    let asked : tie.After-is-locked = search in
-    let e = piece_locked_lem (job_of (lent s)) s.args.i (layout_of s.args.layout.now) (locked asked true c.if1.true) in
-    (sym (ap (λ (z : Compacted). z.slid) e), sym s.pre.0.written ∙ sym (ap (λ (z : Compacted). entries_of z.layout) e))
-
-push-free-requires : tie.Need-push-free-requires
-push-free-requires c κs =
-    let s : tie.Start = search in
-    let asked : tie.After-is-locked = search in
-    let split : tie.Else1 = search in
-    (s.pre.0, (s.pre.1, locked asked false split.if1.left))
-
-returns-2 : tie.Need-returns-2
-returns-2 c =
-    let s : tie.Start = search in
-    let asked : tie.After-is-locked = search in
-    let split : tie.Else1 = search in
-    let pushed : tie.After-push-free = search in
-    let e = piece_free_lem (job_of (lent s)) s.args.i (layout_of s.args.layout.now) (locked asked false split.if1.left) in (
-      pushed.push-free.ensures.0 ∙ sym (ap (λ (z : Compacted). z.slid) e),
-      pushed.push-free.ensures.1 ∙ sym (ap (λ (z : Compacted). entries_of z.layout) e),
+    let asked : tie.After-is_locked = search in
+    let split : tie.Else-is_locked = search in
+    let pushed : tie.After-push_free = search in
+    let e = piece_free_lem (job_of (lent s)) s.args.i (layout_of s.args.layout.now) (locked asked false split.if-is_locked.false) in (
+      pushed.push_free.ensures.slid ∙ sym (ap (λ (z : Compacted). z.slid) e),
+      pushed.push_free.ensures.layout ∙ sym (ap (λ (z : Compacted). entries_of z.layout-1) e),
     )
 
-pub push-piece-spec : {M : Type 1} → statement M
-push-piece-spec = tie.close (tie.spec is-locked-requires returns push-free-requires (search needs) returns-2)
+pub push_piece_spec : {M : Type 1} → statement M
+push_piece_spec = tie.close (tie.spec
+    is_locked-requires returns-then-is_locked push_free-requires (search rules) returns)

@@ -1,5 +1,5 @@
 -- `layout_read_calls::fill_layout` meets its contract: the first reading has no buffer, the second fills it whole. Assumes nothing.
-use Rattle.list_laws.proofs.Kit.{◌∙◌, ◌≡◌, ap, sym, [], length, length-map, needs}
+use Rattle.list_laws.proofs.Kit.{◌∙◌, ◌≡◌, ap, sym, [], length, length-map, rules}
 use Rattle.model.specs.Refusal.{refused, given, plain_refusal}
 use Rattle.model.specs.Lent.{lent_by, job_of}
 use Rattle.model.specs.Buffer.{entry_of, entries_of}
@@ -13,62 +13,62 @@ use Rattle.layout_read_calls.proofs.Whole.{layout_refused_lem, ReadGiven, layout
 use Rattle.layout_read_calls.proofs.fill_layout.Statement.{statement}
 use Rattle.layout_read_calls.proofs.fill_layout.Tie as tie
 
-returns : tie.Need-returns
-returns c =
-    let at-read-placements : tie.After-read-placements = search in
+returns-in-Refused : tie.Need-returns-in-Refused
+returns-in-Refused c =
+    let at-read-placements : tie.After-read_placements = search in
     let at-start : tie.Start = search in
     let a = at-start.args in
-    let first = at-read-placements.read-placements in
+    let first = at-read-placements.read_placements in
     let none : first.last.1.1.1.1.0 ≡ [] = nothing_left _ first.kept.1.1.1.1.0 in
     λ pixels.
-    let o : layout_from (job_of (lent_by a.size a.table.now pixels)) a.text.now a.p (length a.layout.now)
-    ≡ refused c.before.refusal.given.0.0 =
+    let o : layout_from (job_of (lent_by a.size a.table.now pixels)) a.text.now a.p (length a.layout-1.now)
+    ≡ refused c.before.refusal-1.given.0.0 =
     from_refused (lent_by a.size a.table.now pixels) a.text.now a.p _ _
     (layout_refused_lem (placements_at (job_of (lent_by a.size a.table.now pixels)) a.text.now a.size.count 0 a.p 2) _
-    (sym c.before.refusal.given.1 ∙ first.ensures.0 pixels)) in
-    (sym (ap done_answer o), rw none (sym (ap (layout_after a.layout.now) o)))
+    (sym c.before.refusal-1.given.1 ∙ first.ensures.0 pixels)) in
+    (sym (ap done_answer o), rw none (sym (ap (layout_after a.layout-1.now) o)))
 
-returns-2 : tie.Need-returns-2
-returns-2 c =
-    let at-enum-told : tie.After-enum-told = search in
-    let at-read-placements : tie.After-read-placements = search in
+returns-then-layout-size : tie.Need-returns-then-layout-size
+returns-then-layout-size c =
+    let at-enum-told : tie.In_default = search in
+    let at-read-placements : tie.After-read_placements = search in
     let at-start : tie.Start = search in
     let a = at-start.args in
-    let first = at-read-placements.read-placements in
+    let first = at-read-placements.read_placements in
     let none : first.last.1.1.1.1.0 ≡ [] = nothing_left _ first.kept.1.1.1.1.0 in
     λ pixels.
     let v : ReadGiven (placements_at (job_of (lent_by a.size a.table.now pixels)) a.text.now a.size.count 0 a.p 2) =
-    layout_given _ (sym at-enum-told.enum_told.given.1 ∙ first.ensures.0 pixels) in
-    let unlike : length a.layout.now ≡ a.size.count → ⊥ = rw none at c.before.if1.true in
-    let o : layout_from (job_of (lent_by a.size a.table.now pixels)) a.text.now a.p (length a.layout.now) ≡ refused (plain_refusal 7) =
-    from_unlike (lent_by a.size a.table.now pixels) a.text.now a.p _ v.layout v.gives unlike in
-    (c.refused.ensures ∙ sym (ap done_answer o), rw none (sym (ap (layout_after a.layout.now) o)))
+    layout_given _ (sym at-enum-told.enum_told-1.given.1 ∙ first.ensures.0 pixels) in
+    let unlike : length a.layout-1.now ≡ a.size.count → ⊥ = rw none at c.before.if-layout-size.true in
+    let o : layout_from (job_of (lent_by a.size a.table.now pixels)) a.text.now a.p (length a.layout-1.now) ≡ refused (plain_refusal 7) =
+    from_unlike (lent_by a.size a.table.now pixels) a.text.now a.p _ v.layout-1 v.gives unlike in
+    (c.refused.ensures ∙ sym (ap done_answer o), rw none (sym (ap (layout_after a.layout-1.now) o)))
 
-returns-3 : tie.Need-returns-3
-returns-3 c =
-    let at-else1 : tie.Else1 = search in
-    let at-enum-told : tie.After-enum-told = search in
-    let at-read-placements : tie.After-read-placements = search in
+returns : tie.Need-returns
+returns c =
+    let at-else1 : tie.Else-layout-size = search in
+    let at-enum-told : tie.In_default = search in
+    let at-read-placements : tie.After-read_placements = search in
     let at-start : tie.Start = search in
     let a = at-start.args in
-    let first = at-read-placements.read-placements in
+    let first = at-read-placements.read_placements in
     let none : first.last.1.1.1.1.0 ≡ [] = nothing_left _ first.kept.1.1.1.1.0 in
     λ pixels.
     let v : ReadGiven (placements_at (job_of (lent_by a.size a.table.now pixels)) a.text.now a.size.count 0 a.p 2) =
-    layout_given _ (sym at-enum-told.enum_told.given.1 ∙ first.ensures.0 pixels) in
-    let like : length a.layout.now ≡ a.size.count = rw none at at-else1.if1.left in
-    let o : layout_from (job_of (lent_by a.size a.table.now pixels)) a.text.now a.p (length a.layout.now) ≡ given v.layout =
-    from_given (lent_by a.size a.table.now pixels) a.text.now a.p _ v.layout v.gives like in
-    let second = c.before.read-placements2.ensures in
-    let long : length (entries_of v.layout) ≡ length a.layout.now =
-    length-map v.layout entry_of ∙ placements_count _ _ _ _ _ _ v.layout v.gives ∙ sym like in (
+    layout_given _ (sym at-enum-told.enum_told-1.given.1 ∙ first.ensures.0 pixels) in
+    let like : length a.layout-1.now ≡ a.size.count = rw none at at-else1.if-layout-size.false in
+    let o : layout_from (job_of (lent_by a.size a.table.now pixels)) a.text.now a.p (length a.layout-1.now) ≡ given v.layout-1 =
+    from_given (lent_by a.size a.table.now pixels) a.text.now a.p _ v.layout-1 v.gives like in
+    let second = c.before.read_placements-2.ensures in
+    let long : length (entries_of v.layout-1) ≡ length a.layout-1.now =
+    length-map v.layout-1 entry_of ∙ placements_count _ _ _ _ _ _ v.layout-1 v.gives ∙ sym like in (
       second.0 pixels ∙ ap done_answer v.gives ∙ sym (ap done_answer o),
-      rw none at (second.1 pixels v.layout v.gives) ∙ sets_whole (entries_of v.layout) a.layout.now long
-          ∙ sym (ap (layout_after a.layout.now) o),
+      rw none at (second.1 pixels v.layout-1 v.gives) ∙ sets_whole (entries_of v.layout-1) a.layout-1.now long
+          ∙ sym (ap (layout_after a.layout-1.now) o),
     )
 
-pub fill-layout-spec : {M : Type 1} → statement M
-fill-layout-spec =
+pub fill_layout_spec : {M : Type 1} → statement M
+fill_layout_spec =
     tie.close (tie.spec
-    (search needs) (search needs) (λ c κs. search needs) (search needs) (search needs) returns (search needs) (search needs) (search needs)
-    returns-2 (λ c κs. search needs) (search needs) returns-3)
+    (search rules) (search rules) (λ c κs. search rules) (search rules) (search rules) returns-in-Refused (search rules) (search rules) (search rules)
+    returns-then-layout-size (λ c κs. search rules) (search rules) returns)

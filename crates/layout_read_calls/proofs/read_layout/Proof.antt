@@ -1,5 +1,5 @@
 -- `layout_read_calls::read_layout` meets its contract, part by part. Assumes nothing.
-use Rattle.list_laws.proofs.Kit.{◌∙◌, ◌≡◌, ap, sym, false, true, length, needs, not-false, not-true}
+use Rattle.list_laws.proofs.Kit.{◌∙◌, ◌≡◌, ap, sym, false, true, length, rules, not-false, not-true}
 use Rattle.model.specs.Refusal.{refused, plain_refusal}
 use Rattle.model.specs.Lent.{Lent, lent_by, job_of, lent_well}
 use Rattle.model.specs.LayoutText.{layout_line}
@@ -11,60 +11,60 @@ use Rattle.layout_read_calls.proofs.Whole.{position_refused, position_given, rea
 use Rattle.layout_read_calls.proofs.read_layout.Statement.{statement}
 use Rattle.layout_read_calls.proofs.read_layout.Tie as tie
 
-returns : tie.Need-returns
-returns c =
+returns-then-not-check_job : tie.Need-returns-then-not-check_job
+returns-then-not-check_job c =
     let at-start : tie.Start = search in
     let a = at-start.args in
     let l : Lent = lent_by a.size a.table.now a.pixels.now in
-    let well : lent_well l ≡ false = sym c.before.before.check-job.ensures ∙ not-true _ c.before.if1.true in
-    let o : read_layout_call l a.text.now (length a.layout.now) ≡ refused (plain_refusal 8) = read_unsound l a.text.now _ well in
-    (c.refused.ensures ∙ sym (ap done_answer o), sym (ap (layout_after a.layout.now) o))
+    let well : lent_well l ≡ false = sym c.before.before.check_job.ensures ∙ not-true _ c.before.if-not-check_job.true in
+    let o : read_layout_call l a.text.now (length a.layout-1.now) ≡ refused (plain_refusal 8) = read_unsound l a.text.now _ well in
+    (c.refused.ensures ∙ sym (ap done_answer o), sym (ap (layout_after a.layout-1.now) o))
 
-fill-layout-requires : tie.Need-fill-layout-requires
-fill-layout-requires c κs =
-    let at-layout-line : tie.After-layout-line = search in
-    let at-else1 : tie.Else1 = search in
-    let at-check-job : tie.After-check-job = search in
+fill_layout-requires : tie.Need-fill_layout-requires
+fill_layout-requires c κs =
+    let at-layout-line : tie.After-layout_line = search in
+    let at-else1 : tie.Else-not-check_job = search in
+    let at-check-job : tie.After-check_job = search in
     let at-start : tie.Start = search in
     let a = at-start.args in
     let l : Lent = lent_by a.size a.table.now a.pixels.now in
-    let well : lent_well l ≡ true = sym at-check-job.check-job.ensures ∙ not-false _ at-else1.if1.left in
-    (fitting a.size a.table.now a.pixels.now well, rw c.before.before.p.given.1 at at-layout-line.layout-line.ensures.1)
+    let well : lent_well l ≡ true = sym at-check-job.check_job.ensures ∙ not-false _ at-else1.if-not-check_job.false in
+    (fitting a.size a.table.now a.pixels.now well, rw c.before.before.p-1.given.1 at at-layout-line.layout_line.ensures.1)
 
-returns-2 : tie.Need-returns-2
-returns-2 c =
-    let at-layout-line : tie.After-layout-line = search in
-    let at-else1 : tie.Else1 = search in
-    let at-check-job : tie.After-check-job = search in
+returns-in-Refused : tie.Need-returns-in-Refused
+returns-in-Refused c =
+    let at-layout-line : tie.After-layout_line = search in
+    let at-else1 : tie.Else-not-check_job = search in
+    let at-check-job : tie.After-check_job = search in
     let at-start : tie.Start = search in
     let a = at-start.args in
     let l : Lent = lent_by a.size a.table.now a.pixels.now in
-    let well : lent_well l ≡ true = sym at-check-job.check-job.ensures ∙ not-false _ at-else1.if1.left in
-    let o : read_layout_call l a.text.now (length a.layout.now) ≡ refused c.before.refusal.given.0.0 =
+    let well : lent_well l ≡ true = sym at-check-job.check_job.ensures ∙ not-false _ at-else1.if-not-check_job.false in
+    let o : read_layout_call l a.text.now (length a.layout-1.now) ≡ refused c.before.refusal-1.given.0.0 =
     read_refused l a.text.now _ _ well
     (position_refused (layout_line (job_of l) a.text.now) _
-    (sym c.before.refusal.given.1 ∙ at-layout-line.layout-line.ensures.0 a.table.now a.pixels.now)) in
-    (sym (ap done_answer o), sym (ap (layout_after a.layout.now) o))
+    (sym c.before.refusal-1.given.1 ∙ at-layout-line.layout_line.ensures.0 a.table.now a.pixels.now)) in
+    (sym (ap done_answer o), sym (ap (layout_after a.layout-1.now) o))
 
-returns-3 : tie.Need-returns-3
-returns-3 c =
-    let at_p : tie.After-p = search in
-    let at-layout-line : tie.After-layout-line = search in
-    let at-else1 : tie.Else1 = search in
-    let at-check-job : tie.After-check-job = search in
+returns-in-After : tie.Need-returns-in-After
+returns-in-After c =
+    let at_p : tie.In-After-2 = search in
+    let at-layout-line : tie.After-layout_line = search in
+    let at-else1 : tie.Else-not-check_job = search in
+    let at-check-job : tie.After-check_job = search in
     let at-start : tie.Start = search in
     let a = at-start.args in
     let l : Lent = lent_by a.size a.table.now a.pixels.now in
-    let well : lent_well l ≡ true = sym at-check-job.check-job.ensures ∙ not-false _ at-else1.if1.left in
-    let p = at_p.p.given in
-    let o : read_layout_call l a.text.now (length a.layout.now) ≡ layout_from (job_of l) a.text.now p.0.0 (length a.layout.now) =
+    let well : lent_well l ≡ true = sym at-check-job.check_job.ensures ∙ not-false _ at-else1.if-not-check_job.false in
+    let p = at_p.p-1.given in
+    let o : read_layout_call l a.text.now (length a.layout-1.now) ≡ layout_from (job_of l) a.text.now p.0.0 (length a.layout-1.now) =
     read_from l a.text.now _ p.0.0 well
-    (position_given (layout_line (job_of l) a.text.now) _ (sym p.1 ∙ at-layout-line.layout-line.ensures.0 a.table.now a.pixels.now)) in
-    let fill = c.before.fill-layout.ensures a.pixels.now in
-    (fill.0 ∙ sym (ap done_answer o), fill.1 ∙ sym (ap (layout_after a.layout.now) o))
+    (position_given (layout_line (job_of l) a.text.now) _ (sym p.1 ∙ at-layout-line.layout_line.ensures.0 a.table.now a.pixels.now)) in
+    let fill = c.before.fill_layout.ensures a.pixels.now in
+    (fill.0 ∙ sym (ap done_answer o), fill.1 ∙ sym (ap (layout_after a.layout-1.now) o))
 
-pub read-layout-spec : {M : Type 1} → statement M
-read-layout-spec =
+pub read_layout_spec : {M : Type 1} → statement M
+read_layout_spec =
     tie.close (tie.spec
-    (search needs) (search needs) returns (search needs) (search needs) (search needs) fill-layout-requires returns-2 (search needs)
-    returns-3)
+    (search rules) (search rules) returns-then-not-check_job (search rules) (search rules) (search rules) fill_layout-requires returns-in-Refused
+    (search rules) returns-in-After)

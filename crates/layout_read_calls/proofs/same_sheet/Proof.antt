@@ -3,16 +3,17 @@ use Rattle.list_laws.proofs.Kit.{eq-eqb, ne_eqb}
 use Rattle.layout_read_calls.proofs.same_sheet.Statement.{statement}
 use Rattle.layout_read_calls.proofs.same_sheet.Tie as tie
 
+returns-then-rows-size : tie.Need-returns-then-rows-size
+returns-then-rows-size c = rw (ne_eqb _ _ c.if-rows-size.true)
+
+returns-then-columns-size : tie.Need-returns-then-columns-size
+returns-then-columns-size c = rw (eq-eqb _ _ c.before.before.if-rows-size.false, ne_eqb _ _ c.if-columns-size.true)
+
 returns : tie.Need-returns
-returns c = rw (ne_eqb _ _ c.if1.true)
+returns c =
+    let at-else1 : tie.Else-rows-size = search in
+    rw (eq-eqb _ _ at-else1.if-rows-size.false, eq-eqb _ _ c.before.if-columns-size.false)
 
-returns-2 : tie.Need-returns-2
-returns-2 c = rw (eq-eqb _ _ c.before.before.if1.false, ne_eqb _ _ c.if2.true)
-
-returns-3 : tie.Need-returns-3
-returns-3 c =
-    let at-else1 : tie.Else1 = search in
-    rw (eq-eqb _ _ at-else1.if1.left, eq-eqb _ _ c.before.if2.false)
-
-pub same-sheet-spec : {M : Type 1} → statement M
-same-sheet-spec = tie.close (tie.spec returns returns-2 returns-3)
+pub same_sheet_spec : {M : Type 1} → statement M
+same_sheet_spec = tie.close (tie.spec
+    returns-then-rows-size returns-then-columns-size returns)

@@ -1,43 +1,45 @@
 -- `layout_slides::moved_back` meets its contract, direction by direction. Assumes nothing.
-use Rattle.list_laws.proofs.Kit.{arith, needs}
+use Rattle.list_laws.proofs.Kit.{arith, rules}
 use Rattle.layout_slides.proofs.moved_back.Statement.{statement}
 use Rattle.layout_slides.proofs.moved_back.Tie as tie
 
-cast-t8 : tie.Need-overflow-cast-t8
-cast-t8 c =
+overflow_cast-result : tie.Need-overflow_cast-result
+overflow_cast-result c =
     let at-start : tie.Start = search in
-    let h = rw c.enum_told.given.1 at at-start.pre in
-    let good = at-start.good in
+    let h = rw c.enum_told-1.given.1 at at-start.requires in
+    let good = at-start.well_formed in
     omega arith
 
-sub-t9 : tie.Need-overflow-sub-t9
-sub-t9 c =
+overflow_sub-result : tie.Need-overflow_sub-result
+overflow_sub-result c =
     let at-start : tie.Start = search in
-    let told : tie.After-enum-told = search in
-    rw told.enum_told.given.1 at at-start.pre
+    let told : tie.In-Horizontal = search in
+    rw told.enum_told-1.given.1 at at-start.requires
 
-cast-t11 : tie.Need-overflow-cast-t11
-cast-t11 c =
+overflow_cast-result-in-Vertical : tie.Need-overflow_cast-result-in-Vertical
+overflow_cast-result-in-Vertical c =
     let at-start : tie.Start = search in
-    let h = rw c.enum-told2.given.1 at at-start.pre in
-    let good = at-start.good in
+    let h = rw c.enum_told-in-Vertical-1.given.1 at at-start.requires in
+    let good = at-start.well_formed in
     omega arith
 
-sub-t12 : tie.Need-overflow-sub-t12
-sub-t12 c =
+overflow_sub-result-in-Vertical : tie.Need-overflow_sub-result-in-Vertical
+overflow_sub-result-in-Vertical c =
     let at-start : tie.Start = search in
-    let told : tie.After-enum-told2 = search in
-    rw told.enum-told2.given.1 at at-start.pre
+    let told : tie.In-Vertical = search in
+    rw told.enum_told-in-Vertical-1.given.1 at at-start.requires
 
-returns : tie.Need-returns
-returns c =
-    let told : tie.After-enum-told = search in
-    rw told.enum_told.given.1
+returns-in-Horizontal : tie.Need-returns-in-Horizontal
+returns-in-Horizontal c =
+    let told : tie.In-Horizontal = search in
+    rw told.enum_told-1.given.1
 
-returns-2 : tie.Need-returns-2
-returns-2 c =
-    let told : tie.After-enum-told2 = search in
-    rw told.enum-told2.given.1
+returns-in-Vertical : tie.Need-returns-in-Vertical
+returns-in-Vertical c =
+    let told : tie.In-Vertical = search in
+    rw told.enum_told-in-Vertical-1.given.1
 
-pub moved-back-spec : {M : Type 1} → statement M
-moved-back-spec = tie.close (tie.spec (search needs) cast-t8 sub-t9 (search needs) cast-t11 sub-t12 returns returns-2)
+pub moved_back_spec : {M : Type 1} → statement M
+moved_back_spec = tie.close (tie.spec
+    (search rules) overflow_cast-result overflow_sub-result (search rules) overflow_cast-result-in-Vertical overflow_sub-result-in-Vertical
+    returns-in-Horizontal returns-in-Vertical)

@@ -1,6 +1,6 @@
 -- `layout_slides::slide` meets its contract: the entry of the piece is that of the placement moved back by the room, and the others stay.
 -- Assumes nothing.
-use Rattle.list_laws.proofs.Kit.{◌∙◌, ◌≡◌, ap, ap₂, sym, List, ◌-◌, ℕ, arith, set, needs}
+use Rattle.list_laws.proofs.Kit.{◌∙◌, ◌≡◌, ap, ap₂, sym, List, ◌-◌, ℕ, arith, set, rules}
 use Rattle.model.specs.Piece.{along, corner}
 use Rattle.model.specs.Layout.{place_of}
 use Rattle.model.specs.Compact.{slid_to, slide_of, slide}
@@ -18,39 +18,39 @@ use Rattle.layout_slides.proofs.slide.Tie as tie
 abbrev lent : tie.Start → Lent
 lent s = lent_by s.args.size s.args.table.now s.args.pixels.now
 
-slide-room-requires : tie.Need-slide-room-requires
-slide-room-requires c κs = let s : tie.Start = search in (s.pre.0, s.pre.1.0)
+slide_room-room-requires : tie.Need-slide_room-room-requires
+slide_room-room-requires c κs = let s : tie.Start = search in (s.requires.fact_1, s.requires.fact_2.0)
 
-place-at-requires : tie.Need-place-at-requires
-place-at-requires c κs = let s : tie.Start = search in entry_there _ (lent s) _ _ _ s.pre.0 _ s.pre.1.0
+place_at-place-requires : tie.Need-place_at-place-requires
+place_at-place-requires c κs = let s : tie.Start = search in entry_there _ (lent s) _ _ _ s.requires.fact_1 _ s.requires.fact_2.0
 
-moved-back-requires : tie.Need-moved-back-requires
-moved-back-requires c κs =
+moved_back-requires : tie.Need-moved_back-requires
+moved_back-requires c κs =
     let s : tie.Start = search in
-    let asked : tie.After-slide-room = search in
-    let placed : tie.After-place-at = search in
+    let asked : tie.After-slide_room-room = search in
+    let placed : tie.After-place_at-place = search in
     let a = s.args in
     let within = (slide_first a.direction (job_of (lent s)) a.i (layout_of a.layout.now)).within in
-    rw (asked.slide_room.ensures, placed.place_at.ensures) within
+    rw (asked.slide_room-room.ensures, placed.place_at-place.ensures) within
 
-mul-t17 : tie.Need-overflow-mul-t17
-mul-t17 c =
+offset_bounds-layout-i : tie.Need-offset_bounds-layout-i
+offset_bounds-layout-i c =
     let s : tie.Start = search in
-    let i = s.pre.1.0 in
-    let few = (facts (lent s) s.pre.0.laid.well).few_pieces in
+    let i = s.requires.fact_2.0 in
+    let few = (facts (lent s) s.requires.fact_1.laid.well).few_pieces in
     omega arith
 
-slice-set-from-layout : tie.Need-slice-set-from-layout
-slice-set-from-layout c = let s : tie.Start = search in entry_there _ (lent s) _ _ _ s.pre.0 _ s.pre.1.0
+bounds-layout-i : tie.Need-bounds-layout-i
+bounds-layout-i c = let s : tie.Start = search in entry_there _ (lent s) _ _ _ s.requires.fact_1 _ s.requires.fact_2.0
 
 returns : tie.Need-returns
 unfolding slide
 returns c =
     let s : tie.Start = search in
-    let asked : tie.After-slide-room = search in
-    let placed : tie.After-place-at = search in
-    let moved : tie.After-moved-back = search in
-    let wrote : tie.After-entry-of = search in
+    let asked : tie.After-slide_room-room = search in
+    let placed : tie.After-place_at-place = search in
+    let moved : tie.After-moved_back = search in
+    let wrote : tie.After-entry_of = search in
     let a = s.args in
     let es : List (List ℕ) = a.layout.now in
     let d = a.direction in
@@ -58,14 +58,14 @@ returns c =
     let q : Placement = slid_to d p (along d (corner p) - slide_of d (job_of (lent s)) a.i (layout_of es)) in
     let e : moved.moved_back.result ≡ q =
     moved.moved_back.ensures
-    ∙ ap₂ (λ (z : Placement) (n : ℕ). slid_to d z (along d (corner z) - n)) placed.place_at.ensures asked.slide_room.ensures in (
-      asked.slide_room.ensures,
+    ∙ ap₂ (λ (z : Placement) (n : ℕ). slid_to d z (along d (corner z) - n)) placed.place_at-place.ensures asked.slide_room-room.ensures in (
+      asked.slide_room-room.ensures,
       ap (set es a.i) (wrote.entry_of.ensures ∙ ap entry_of e)
-          ∙ sym (written_set es a.i q s.pre.1.1)
+          ∙ sym (written_set es a.i q s.requires.fact_2.1)
           ∙ ap entries_of (layout_set es a.i q),
     )
 
-pub slide-spec : {M : Type 1} → statement M
-slide-spec =
+pub slide_spec : {M : Type 1} → statement M
+slide_spec =
     tie.close (tie.spec
-    slide-room-requires place-at-requires moved-back-requires (search needs) mul-t17 slice-set-from-layout (search needs) returns)
+    slide_room-room-requires place_at-place-requires moved_back-requires (search rules) offset_bounds-layout-i bounds-layout-i (search rules) returns)

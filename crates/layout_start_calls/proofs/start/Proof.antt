@@ -1,6 +1,6 @@
 -- `layout_start_calls::start` meets its contract: on a refusal nothing is written, else the free pieces are stacked, and the entry of each locked
 -- one is that of its placement already (`start_laid`). Assumes nothing.
-use Rattle.list_laws.proofs.Kit.{◌∙◌, ◌≡◌, ap, sym, List, ℕ, eqb-true, length, needs, not-false}
+use Rattle.list_laws.proofs.Kit.{◌∙◌, ◌≡◌, ap, sym, List, ℕ, eqb-true, length, rules, not-false}
 use Rattle.model.specs.Start.{start}
 use Rattle.model.specs.Refusal.{refused, given}
 use Rattle.model.specs.Lent.{Lent, lent_by, job_of}
@@ -24,50 +24,50 @@ abbrev lent : tie.Start → Lent
 lent s = lent_by s.args.size s.args.table.now s.args.pixels.now
 
 -- the call begins here
-abbrev begun : tie.After-start-causes → tie.Start
+abbrev begun : tie.After-start_causes → tie.Start
 begun p = search
 
 -- the causes were asked
-abbrev asked : tie.After-enum-told → tie.After-start-causes
+abbrev asked : tie.In_default → tie.After-start_causes
 asked p = search
 
 -- none is there
-passed : (p : tie.After-enum-told) → NoCause (start_causes (lent (begun (asked p))) (begun (asked p)).args.layout.now)
-passed p = passed_none _ (sym p.enum_told.given.1 ∙ (asked p).start-causes.ensures.0)
+passed : (p : tie.In_default) → NoCause (start_causes (lent (begun (asked p))) (begun (asked p)).args.layout.now)
+passed p = passed_none _ (sym p.enum_told-1.given.1 ∙ (asked p).start_causes.ensures.first)
 
 -- the layout has its length
-whole : (p : tie.After-enum-told) → length (begun (asked p)).args.layout.now ≡ (begun (asked p)).args.size.count
+whole : (p : tie.In_default) → length (begun (asked p)).args.layout.now ≡ (begun (asked p)).args.size.count
 whole p = eqb-true _ _ (not-false _ (passed p).1.0)
 
-returns : tie.Need-returns
+returns-in-Refused : tie.Need-returns-in-Refused
 unfolding start_call
-returns c =
-    let causes : tie.After-start-causes = search in
+returns-in-Refused c =
+    let causes : tie.After-start_causes = search in
     let b : tie.Start = begun causes in
     let l : Lent = lent b in
-    let o : start_call l b.args.layout.now ≡ refused c.before.refusal.given.0.0 =
+    let o : start_call l b.args.layout.now ≡ refused c.before.refusal-1.given.0.0 =
     refused_alone (start_causes l b.args.layout.now) (start (job_of l) (layout_of b.args.layout.now)) _
-    (sym c.before.refusal.given.1 ∙ causes.start-causes.ensures.0) in
+    (sym c.before.refusal-1.given.1 ∙ causes.start_causes.ensures.first) in
     (sym (ap done_answer o), (sym (ap (layout_after b.args.layout.now) o), λ e. impossible (cc)))
 
-stack-free-requires : tie.Need-stack-free-requires
-stack-free-requires c κs =
-    let told : tie.After-enum-told = search in
+stack_free-requires : tie.Need-stack_free-requires
+stack_free-requires c κs =
+    let told : tie.In_default = search in
     let b : tie.Start = begun (asked told) in
     (fitting b.args.size b.args.table.now b.args.pixels.now (job_well (lent b) (passed told).0), whole told)
 
-returns-2 : tie.Need-returns-2
+returns : tie.Need-returns
 unfolding start_call job_of
-returns-2 c =
-    let told : tie.After-enum-told = search in
-    let causes : tie.After-start-causes = asked told in
+returns c =
+    let told : tie.In_default = search in
+    let causes : tie.After-start_causes = asked told in
     let b : tie.Start = begun causes in
     let l : Lent = lent b in
     let es : List (List ℕ) = b.args.layout.now in
     let o : start_call l es ≡ given (start (job_of l) (layout_of es)) = unless_given (start_causes l es) (start (job_of l) (layout_of es)) (passed told) in
-    let laid : c.before.stack-free.new.1.1.0 ≡ entries_of (start (job_of l) (layout_of es)) =
-    start_laid (job_of l) es _ (whole told) (causes.start-causes.ensures.1 told.enum_told.given.1)
-    (c.before.stack-free.ensures b.args.pixels.now) in (
+    let laid : c.before.stack_free.new.1.1.0 ≡ entries_of (start (job_of l) (layout_of es)) =
+    start_laid (job_of l) es _ (whole told) (causes.start_causes.ensures.written told.enum_told-1.given.1)
+    (c.before.stack_free.ensures b.args.pixels.now) in (
       sym (ap done_answer o),
       (
         laid ∙ sym (ap (layout_after es) o),
@@ -78,4 +78,5 @@ returns-2 c =
 pub start_spec : {M : Type 1} → statement M
 start_spec =
     tie.close
-    (tie.spec (search needs) (search needs) (search needs) returns (search needs) stack-free-requires (search needs) returns-2)
+    (tie.spec
+    (search rules) (search rules) (search rules) returns-in-Refused (search rules) stack_free-requires (search rules) returns)

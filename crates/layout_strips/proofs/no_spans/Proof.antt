@@ -10,5 +10,6 @@ returns c =
       none = λ i b. ap (λ (s : List ℕ). get_or s 2 0) (get_or-replicate 64 i (0 ∷ 0 ∷ 0 ∷ []) [] b);
     }
 
-pub no-spans-spec : {M : Type 1} → statement M
-no-spans-spec = tie.close (tie.spec returns)
+pub no_spans_spec : {M : Type 1} → statement M
+no_spans_spec = tie.close (tie.spec
+    returns)

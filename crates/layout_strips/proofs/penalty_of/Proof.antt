@@ -1,6 +1,6 @@
 -- `layout_strips::penalty_of` meets its contract: pieces whose boxes are farther apart do not conflict, so that the penalty is 0; where the depth
 -- along the rows is 0 so is the lesser one, and else the second depth is cut off at the first. Assumes nothing.
-use Rattle.list_laws.proofs.Kit.{◌∙◌, ◌≡◌, ◌≢◌, ◌≤◌, min, ℕ, arith, needs, not-true}
+use Rattle.list_laws.proofs.Kit.{◌∙◌, ◌≡◌, ◌≢◌, ◌≤◌, min, ℕ, arith, rules, not-true}
 use Rattle.model.specs.Piece.{Point, Shape}
 use Rattle.model.specs.Overlap.{conflict_depth, conflict_penalty}
 use Rattle.model.specs.Layout.{place_of, corner_in}
@@ -21,26 +21,26 @@ use Rattle.layout_strips.proofs.penalty_of.Tie as tie
 abbrev cost : tie.Start → JobSize → ℕ
 cost s size = penalty_between (job_of (lent_by size s.args.table.now s.args.pixels.now)) (layout_of s.args.layout.now) s.args.i s.args.k
 
-boxes-meet-requires : tie.Need-boxes-meet-requires
-boxes-meet-requires c κs =
+boxes_meet-requires : tie.Need-boxes_meet-requires
+boxes_meet-requires c κs =
     let s : tie.Start = search in (
-      ((s.pre.0.ready s.args.i s.pre.1.0.0).entry.within, (s.pre.0.ready s.args.k s.pre.1.0.1).entry.within),
-      (s.pre.1.0, s.pre.1.1.1.1),
+      ((s.requires.fact_1.ready s.args.i s.requires.fact_2.0.0).entry.within, (s.requires.fact_1.ready s.args.k s.requires.fact_2.0.1).entry.within),
+      (s.requires.fact_2.0, s.requires.fact_2.1.1.1),
     )
 
-returns : tie.Need-returns
-returns c =
+returns-then-not-boxes_meet : tie.Need-returns-then-not-boxes_meet
+returns-then-not-boxes_meet c =
     let s : tie.Start = search in
     let a = s.args in
-    let met : tie.After-boxes-meet = search in (
+    let met : tie.After-boxes_meet = search in (
       λ size same.
           clear_penalty size a.table.now a.pixels.now a.layout.now a.gap a.i a.k same
-          (met.boxes-meet.ensures (not-true _ c.if1.true) size a.pixels.now same),
-      (λ e. omega arith, (s.pre.1.1.0, s.pre.1.1.1.0)),
+          (met.boxes_meet.ensures (not-true _ c.if-not-boxes_meet.true) size a.pixels.now same),
+      (λ e. omega arith, (s.requires.fact_2.1.0, s.requires.fact_2.1.1.0)),
     )
 
-depth-of-requires : tie.Need-depth-of-requires
-depth-of-requires c κs = let s : tie.Start = search in let few = s.pre.1.1.1.1 in (s.pre.0, (s.pre.1.0, (omega arith, s.pre.1.1.0)))
+depth_of-along_rows-requires : tie.Need-depth_of-along_rows-requires
+depth_of-along_rows-requires c κs = let s : tie.Start = search in let few = s.requires.fact_2.1.1.1 in (s.requires.fact_1, (s.requires.fact_2.0, (omega arith, s.requires.fact_2.1.0)))
 
 -- what is measured of the two pieces
 abbrev of-both : {A : Type 0} → (Shape → Point → Shape → Point → A) → tie.Start → JobSize → A
@@ -51,56 +51,56 @@ of-both f s size =
     (drawn_shape size a.table.now a.pixels.now a.layout.now a.k) (corner_in v a.k)
 
 -- a depth cut off at the one along the rows is the penalty by the gap
-least : (c : tie.After-depth-of) (n : ℕ) (size : JobSize) →
+least : (c : tie.After-depth_of-along_rows) (n : ℕ) (size : JobSize) →
     let s : tie.Start = search in
-    n ≡ min (of-both (conflict_depth s.args.gap Vertical) s size) c.depth-of.result → n ≡ of-both (conflict_penalty s.args.gap) s size
+    n ≡ min (of-both (conflict_depth s.args.gap Vertical) s size) c.depth_of-along_rows.result → n ≡ of-both (conflict_penalty s.args.gap) s size
 least c n size e =
     let s : tie.Start = search in
     let a = s.args in
     let v = layout_of a.layout.now in
-    lesser_penalty a.gap s.pre.1.1.1.1 size a.table.now a.pixels.now a.i (place_of v a.i) (s.pre.0.ready a.i s.pre.1.0.0)
-    a.k (place_of v a.k) (s.pre.0.ready a.k s.pre.1.0.1) _ _ (c.depth-of.ensures.0 size) e
+    lesser_penalty a.gap s.requires.fact_2.1.1.1 size a.table.now a.pixels.now a.i (place_of v a.i) (s.requires.fact_1.ready a.i s.requires.fact_2.0.0)
+    a.k (place_of v a.k) (s.requires.fact_1.ready a.k s.requires.fact_2.0.1) _ _ (c.depth_of-along_rows.ensures.depth size) e
 
 -- and, where the gap is the job's, the penalty of the two pieces
-least-cost : (c : tie.After-depth-of) (n : ℕ) (size : JobSize) →
+least-cost : (c : tie.After-depth_of-along_rows) (n : ℕ) (size : JobSize) →
     let s : tie.Start = search in
-    n ≡ min (of-both (conflict_depth s.args.gap Vertical) s size) c.depth-of.result → size.gap ≡ s.args.gap → n ≡ cost s size
+    n ≡ min (of-both (conflict_depth s.args.gap Vertical) s size) c.depth_of-along_rows.result → size.gap ≡ s.args.gap → n ≡ cost s size
 least-cost c n size e same =
     let s : tie.Start = search in
     let a = s.args in
     least c n size e ∙ gap_penalty size a.table.now a.pixels.now a.layout.now a.gap a.i a.k same
 
-returns-2 : tie.Need-returns-2
-returns-2 c =
+returns-then-along_rows-eq0 : tie.Need-returns-then-along_rows-eq0
+returns-then-along_rows-eq0 c =
     let s : tie.Start = search in
-    let along : tie.After-depth-of = search in
-    let none = c.if2.true in
-    (λ size. least-cost along 0 size (omega arith), (λ e. omega arith, (along.depth-of.ensures.1, s.pre.1.1.1.0)))
+    let along : tie.After-depth_of-along_rows = search in
+    let none = c.if-along_rows-eq0.true in
+    (λ size. least-cost along 0 size (omega arith), (λ e. omega arith, (along.depth_of-along_rows.ensures.kept, s.requires.fact_2.1.1.0)))
 
-depth-of-requires-2 : tie.Need-depth-of-requires-2
-depth-of-requires-2 c κs =
+depth_of-requires : tie.Need-depth_of-requires
+depth_of-requires c κs =
     let s : tie.Start = search in
-    let along : tie.After-depth-of = search in
-    (s.pre.0, (s.pre.1.0, ((s.pre.1.1.1.1, depth_cut_low _ _ (along.depth-of.ensures.0 any_size)), s.pre.1.1.1.0)))
+    let along : tie.After-depth_of-along_rows = search in
+    (s.requires.fact_1, (s.requires.fact_2.0, ((s.requires.fact_2.1.1.1, depth_cut_low _ _ (along.depth_of-along_rows.ensures.depth any_size)), s.requires.fact_2.1.1.0)))
 
-returns-3 : tie.Need-returns-3
-returns-3 c =
+returns : tie.Need-returns
+returns c =
     let s : tie.Start = search in
-    let along : tie.After-depth-of = search in
-    let across : tie.After-depth-of2 = search in
+    let along : tie.After-depth_of-along_rows = search in
+    let across : tie.After-depth_of = search in
     let a = s.args in
     let v = layout_of a.layout.now in
-    let is = least along _ any_size (across.depth-of2.ensures.0 any_size) in
+    let is = least along _ any_size (across.depth_of.ensures.depth any_size) in
     let low : a.i ≢ a.k → conflict_penalty a.gap _ _ _ _ ≤ 199 =
-    λ e. ready_penalty a.gap s.pre.1.1.1.1 any_size a.table.now a.pixels.now a.i (place_of v a.i)
-    (s.pre.0.ready a.i s.pre.1.0.0) a.k (place_of v a.k) (s.pre.0.ready a.k s.pre.1.0.1)
-    (both_together a.table.now _ s.pre.0.areas a.i a.k s.pre.1.0.0 s.pre.1.0.1 e) in (
-      λ size. least-cost along _ size (across.depth-of2.ensures.0 size),
-      (λ e. let m = low e in omega arith, (along.depth-of.ensures.1, across.depth-of2.ensures.1)),
+    λ e. ready_penalty a.gap s.requires.fact_2.1.1.1 any_size a.table.now a.pixels.now a.i (place_of v a.i)
+    (s.requires.fact_1.ready a.i s.requires.fact_2.0.0) a.k (place_of v a.k) (s.requires.fact_1.ready a.k s.requires.fact_2.0.1)
+    (both_together a.table.now _ s.requires.fact_1.areas a.i a.k s.requires.fact_2.0.0 s.requires.fact_2.0.1 e) in (
+      λ size. least-cost along _ size (across.depth_of.ensures.depth size),
+      (λ e. let m = low e in omega arith, (along.depth_of-along_rows.ensures.kept, across.depth_of.ensures.kept)),
     )
 
-pub penalty-of-spec : {M : Type 1} → statement M
-penalty-of-spec =
+pub penalty_of_spec : {M : Type 1} → statement M
+penalty_of_spec =
     tie.close (tie.spec
-    boxes-meet-requires returns depth-of-requires (search needs) (search needs) returns-2 depth-of-requires-2
-    (search needs) (search needs) (search needs) (search needs) returns-3)
+    boxes_meet-requires returns-then-not-boxes_meet depth_of-along_rows-requires (search rules) (search rules) returns-then-along_rows-eq0
+    depth_of-requires (search rules) (search rules) (search rules) (search rules) returns)

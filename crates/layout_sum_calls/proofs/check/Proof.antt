@@ -1,5 +1,5 @@
 -- `layout_sum_calls::check` meets its contract: the causes of the layout refuse, or the first pair that conflicts does. Assumes nothing.
-use Rattle.list_laws.proofs.Kit.{◌∙◌, ap, sym, [], ◌∷◌, needs}
+use Rattle.list_laws.proofs.Kit.{◌∙◌, ap, sym, [], ◌∷◌, rules}
 use Rattle.model.specs.Layout.{conflicting_pair}
 use Rattle.model.specs.Lent.{Lent, lent_by, job_of}
 use Rattle.model.specs.Buffer.{layout_of}
@@ -15,40 +15,41 @@ use Rattle.layout_sum_calls.proofs.Checks.{conflict_check}
 use Rattle.layout_sum_calls.proofs.check.Statement.{statement}
 use Rattle.layout_sum_calls.proofs.check.Tie as tie
 
-conflicting-pair-requires : tie.Need-conflicting-pair-requires
-conflicting-pair-requires c κs =
+conflicting_pair-requires : tie.Need-conflicting_pair-requires
+conflicting_pair-requires c κs =
     let at-start : tie.Start = search in
     let a = at-start.args in
     let l : Lent = lent_by a.size a.table.now a.pixels.now in
-    let none : NoCause (layout_causes l a.layout.now) = passed_none _ (sym c.enum_told.given.1 ∙ c.before.before.layout_causes_lem.ensures) in
+    let none : NoCause (layout_causes l a.layout.now) = passed_none _ (sym c.enum_told-1.given.1 ∙ c.before.before.layout_causes.ensures) in
     let laid = layout_laid l a.layout.now none in
     (laid_drawable l a.layout.now laid, (facts l laid.well).small_gap)
 
-returns : tie.Need-returns
+returns-in-Refused : tie.Need-returns-in-Refused
 unfolding check_call
-returns c =
-    let at-layout-causes : tie.After-layout-causes = search in
+returns-in-Refused c =
+    let at-layout-causes : tie.After-layout_causes = search in
     let at-start : tie.Start = search in
     let a = at-start.args in
     let l : Lent = lent_by a.size a.table.now a.pixels.now in
     sym (ap done_answer
     (refused_then (layout_causes l a.layout.now) (conflict_cause (conflicting_pair (job_of l) (layout_of a.layout.now)) ∷ []) tt _
-    (sym c.before.refusal.given.1 ∙ at-layout-causes.layout_causes_lem.ensures)))
+    (sym c.before.refusal-1.given.1 ∙ at-layout-causes.layout_causes.ensures)))
 
-returns-2 : tie.Need-returns-2
+returns-in-Done : tie.Need-returns-in-Done
 unfolding check_call
-returns-2 c =
-    let at-layout-causes : tie.After-layout-causes = search in
+returns-in-Done c =
+    let at-layout-causes : tie.After-layout_causes = search in
     let at-start : tie.Start = search in
     let a = at-start.args in
     let l : Lent = lent_by a.size a.table.now a.pixels.now in
     let none : NoCause (layout_causes l a.layout.now) =
-    passed_none _ (sym c.before.before.enum_told.given.1 ∙ at-layout-causes.layout_causes_lem.ensures) in
+    passed_none _ (sym c.before.before.enum_told-1.given.1 ∙ at-layout-causes.layout_causes.ensures) in
     let pair = conflicting_pair (job_of l) (layout_of a.layout.now) in
-    c.conflict-answer.ensures
-    ∙ ap conflict_answer (c.before.conflicting-pair.ensures (sym (layout_laid l a.layout.now none).whole))
+    c.conflict_answer.ensures
+    ∙ ap conflict_answer (c.before.conflicting_pair.ensures (sym (layout_laid l a.layout.now none).whole))
     ∙ conflict_check pair
     ∙ sym (ap done_answer (none_then (layout_causes l a.layout.now) (conflict_cause pair ∷ []) tt none))
 
-pub check-spec : {M : Type 1} → statement M
-check-spec = tie.close (tie.spec (search needs) (search needs) (search needs) conflicting-pair-requires (search needs) returns returns-2)
+pub check_spec : {M : Type 1} → statement M
+check_spec = tie.close (tie.spec
+    (search rules) (search rules) (search rules) conflicting_pair-requires (search rules) returns-in-Refused returns-in-Done)

@@ -1,5 +1,5 @@
 -- `layout_sum_calls::plain_sum` meets its contract: the causes refuse, or none is there and the sum is given. Assumes nothing.
-use Rattle.list_laws.proofs.Kit.{◌∙◌, refl, sym, needs}
+use Rattle.list_laws.proofs.Kit.{◌∙◌, refl, sym, rules}
 use Rattle.model.specs.Lent.{Lent, lent_by, job_of}
 use Rattle.model.specs.Buffer.{layout_of}
 use Rattle.model.specs.Calls.{layout_causes, plain_sum_call}
@@ -19,48 +19,49 @@ abbrev lent : tie.Start → Lent
 lent s = lent_by s.args.size s.args.table.now s.args.pixels.now
 
 -- none of the causes is there
-passed : (p : tie.After-enum-told) → let s : tie.Start = search in NoCause (layout_causes (lent s) s.args.layout.now)
-passed p = let asked : tie.After-layout-causes = search in passed_none _ (sym p.enum_told.given.1 ∙ asked.layout_causes_lem.ensures)
+passed : (p : tie.In-Done) → let s : tie.Start = search in NoCause (layout_causes (lent s) s.args.layout.now)
+passed p = let asked : tie.After-layout_causes = search in passed_none _ (sym p.enum_told-1.given.1 ∙ asked.layout_causes.ensures)
 
 -- so the layout is one that calls take
-valid : (p : tie.After-enum-told) → let s : tie.Start = search in Laid (lent s) s.args.layout.now
+valid : (p : tie.In-Done) → let s : tie.Start = search in Laid (lent s) s.args.layout.now
 valid p = let s : tie.Start = search in layout_laid (lent s) s.args.layout.now (passed p)
 
-penalties-of-requires : tie.Need-penalties-of-requires
-penalties-of-requires c κs =
+penalties_of-penalties-requires : tie.Need-penalties_of-penalties-requires
+penalties_of-penalties-requires c κs =
     let s : tie.Start = search in
     (laid_drawable (lent s) s.args.layout.now (valid c), (facts (lent s) (valid c).well).small_gap)
 
 -- the table is that of the job's layout
-filled : (c : tie.After-penalties-of) → let s : tie.Start = search in
-    PenaltyTable (job_of (lent s)) (layout_of s.args.layout.now) s.args.size.count c.penalties-of.result
+filled : (c : tie.After-penalties_of-penalties) → let s : tie.Start = search in
+    PenaltyTable (job_of (lent s)) (layout_of s.args.layout.now) s.args.size.count c.penalties_of-penalties.result
 filled c =
     let s : tie.Start = search in
-    let told : tie.After-enum-told = search in
-    c.penalties-of.ensures (sym (valid told).whole)
+    let told : tie.In-Done = search in
+    c.penalties_of-penalties.ensures (sym (valid told).whole)
 
-plain-total-requires : tie.Need-plain-total-requires
-plain-total-requires c κs =
+plain_total-requires : tie.Need-plain_total-requires
+plain_total-requires c κs =
     let s : tie.Start = search in
-    let told : tie.After-enum-told = search in
-    let made : tie.After-penalties-of = search in
+    let told : tie.In-Done = search in
+    let made : tie.After-penalties_of-penalties = search in
     ((facts (lent s) (valid told).well).few_pieces, (filled made).size)
 
-returns : tie.Need-returns
+returns-in-Refused : tie.Need-returns-in-Refused
 unfolding plain_sum_call
-returns c =
-    let asked : tie.After-layout-causes = search in
-    rw (refused_alone _ _ _ (sym c.before.refusal.given.1 ∙ asked.layout_causes_lem.ensures))
+returns-in-Refused c =
+    let asked : tie.After-layout_causes = search in
+    rw (refused_alone _ _ _ (sym c.before.refusal-1.given.1 ∙ asked.layout_causes.ensures))
 
-returns-2 : tie.Need-returns-2
+returns-in-Done : tie.Need-returns-in-Done
 unfolding plain_sum_call job_of
-returns-2 c =
+returns-in-Done c =
     let s : tie.Start = search in
-    let told : tie.After-enum-told = search in
-    let made : tie.After-penalties-of = search in
-    rw (unless_given _ _ (passed told), c.plain-total.ensures (job_of (lent s)) (layout_of s.args.layout.now) refl (filled made))
+    let told : tie.In-Done = search in
+    let made : tie.After-penalties_of-penalties = search in
+    rw (unless_given _ _ (passed told), c.plain_total.ensures (job_of (lent s)) (layout_of s.args.layout.now) refl (filled made))
 
-pub plain-sum-spec : {M : Type 1} → statement M
-plain-sum-spec =
+pub plain_sum_spec : {M : Type 1} → statement M
+plain_sum_spec =
     tie.close (tie.spec
-    (search needs) (search needs) (search needs) penalties-of-requires (search needs) plain-total-requires returns returns-2)
+    (search rules) (search rules) (search rules) penalties_of-penalties-requires (search rules) plain_total-requires returns-in-Refused
+    returns-in-Done)

@@ -1,5 +1,5 @@
 -- `layout_write_calls::put_placement` meets its contract: a word, a field and three fields (`placement_text_lem`). Assumes nothing.
-use Rattle.list_laws.proofs.Kit.{◌∙◌, ap, needs}
+use Rattle.list_laws.proofs.Kit.{◌∙◌, ap, rules}
 use Rattle.model.specs.Layout.{place_of}
 use Rattle.model.specs.Buffer.{entry_of, layout_of}
 use Rattle.model.specs.LayoutText.{at_word}
@@ -9,18 +9,18 @@ use Rattle.layout_write_calls.proofs.put_placement.Tie as tie
 
 returns : tie.Need-returns
 returns c =
-    let at-put-field : tie.After-put-field = search in
-    let at-put-word : tie.After-put-word = search in
-    let at-entry-of : tie.After-entry-of = search in
-    let at-place-at : tie.After-place-at = search in
+    let at-put-field : tie.After-put_field-next = search in
+    let at-put-word : tie.After-put_word-after_word = search in
+    let at-entry-of : tie.After-entry_of-entry = search in
+    let at-place-at : tie.After-place_at = search in
     let at-start : tie.Start = search in
     let a = at-start.args in
-    rw (placement_text_lem a.i (place_of (layout_of a.layout.now) a.i) _ (at-entry-of.entry_of.ensures ∙ ap entry_of at-place-at.place_at.ensures)) at
-    (written_then (written_then (bytes_written a.text.now a.at _ _ at_word at-put-word.put_word.ensures) at-put-field.put-field.ensures)
+    rw (placement_text_lem a.i (place_of (layout_of a.layout.now) a.i) _ (at-entry-of.entry_of-entry.ensures ∙ ap entry_of at-place-at.place_at.ensures)) at
+    (written_then (written_then (bytes_written a.text-1.now a.at _ _ at_word at-put-word.put_word-after_word.ensures) at-put-field.put_field-next.ensures)
     c.before.before.put_three.ensures)
 
-pub put-placement-spec : {M : Type 1} → statement M
-put-placement-spec =
+pub put_placement_spec : {M : Type 1} → statement M
+put_placement_spec =
     tie.close (tie.spec
-    (search needs) (search needs) (search needs) (search needs) (search needs) (search needs) (search needs) (λ c. search needs)
-    (search needs) (λ c. search needs) (search needs) (λ c. search needs) (search needs) (search needs) returns)
+    (search rules) (search rules) (search rules) (search rules) (search rules) (search rules) (search rules) (search rules) (search rules)
+    (search rules) (search rules) (search rules) (search rules) returns)

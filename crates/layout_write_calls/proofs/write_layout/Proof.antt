@@ -1,5 +1,5 @@
 -- `layout_write_calls::write_layout` meets its contract: the first writing has no bytes to write to and tells the length. Assumes nothing.
-use Rattle.list_laws.proofs.Kit.{◌∙◌, ◌≡◌, ap, sym, [], ◌<◌, ◌≤◌, length, needs}
+use Rattle.list_laws.proofs.Kit.{◌∙◌, ◌≡◌, ap, sym, [], ◌<◌, ◌≤◌, length, rules}
 use Rattle.model.specs.Refusal.{refused, given}
 use Rattle.model.specs.Lent.{Lent, lent_by, job_of}
 use Rattle.model.specs.Buffer.{layout_of}
@@ -16,82 +16,82 @@ use Rattle.layout_write_calls.proofs.Writes.{write_refused, write_short, write_g
 use Rattle.layout_write_calls.proofs.write_layout.Statement.{statement}
 use Rattle.layout_write_calls.proofs.write_layout.Tie as tie
 
+returns-in-Refused : tie.Need-returns-in-Refused
+returns-in-Refused c =
+    let at-layout-causes : tie.After-layout_causes = search in
+    let at-start : tie.Start = search in
+    let a = at-start.args in
+    let l : Lent = lent_by a.size a.table.now a.pixels.now in
+    let o : write_layout_call l a.layout.now (length a.text-1.now) ≡ refused c.before.refusal-1.given.0.0 =
+    write_refused l a.layout.now _ _ (sym c.before.refusal-1.given.1 ∙ at-layout-causes.layout_causes.ensures) in
+    (sym (ap count_answer o), sym (ap (text_after a.text-1.now) o))
+
+put_layout-needed-requires : tie.Need-put_layout-needed-requires
+put_layout-needed-requires c κs =
+    let at-layout-causes : tie.After-layout_causes = search in
+    let at-start : tie.Start = search in
+    let a = at-start.args in
+    let l : Lent = lent_by a.size a.table.now a.pixels.now in
+    let e : DoneAnswer.Done ≡ first_cause (layout_causes l a.layout.now) = sym c.before.enum_told-1.given.1 ∙ at-layout-causes.layout_causes.ensures in
+    let s = layout_laid l a.layout.now (passed_none (layout_causes l a.layout.now) e) in
+    let f = fitting a.size a.table.now a.pixels.now s.well in
+    (f.few_rows, f.few_columns, f.few_pieces, s.whole)
+
+returns-then-text-needed : tie.Need-returns-then-text-needed
+returns-then-text-needed c =
+    let at-put-layout : tie.After-put_layout-needed = search in
+    let at-enum-told : tie.In_default = search in
+    let at-layout-causes : tie.After-layout_causes = search in
+    let at-start : tie.Start = search in
+    let a = at-start.args in
+    let l : Lent = lent_by a.size a.table.now a.pixels.now in
+    let e : DoneAnswer.Done ≡ first_cause (layout_causes l a.layout.now) =
+    sym at-enum-told.enum_told-1.given.1 ∙ at-layout-causes.layout_causes.ensures in
+    let part = at-put-layout.put_layout-needed in
+    let none : part.last.1.1.0 ≡ [] = nothing_left _ part.kept.1.1.0 in
+    let long : length a.text-1.now < length (layout_text (job_of l) (layout_of a.layout.now)) =
+    rw (none, (part.ensures a.table.now a.pixels.now).0) at c.before.if-text-needed.true in
+    let o : write_layout_call l a.layout.now (length a.text-1.now) ≡ refused c.plain_refusal.result =
+    write_short l a.layout.now _ e long ∙ sym (ap refused c.plain_refusal.ensures) in
+    (sym (ap count_answer o), rw none (sym (ap (text_after a.text-1.now) o)))
+
+put_layout-requires : tie.Need-put_layout-requires
+put_layout-requires c κs =
+    let at-enum-told : tie.In_default = search in
+    let at-layout-causes : tie.After-layout_causes = search in
+    let at-start : tie.Start = search in
+    let a = at-start.args in
+    let l : Lent = lent_by a.size a.table.now a.pixels.now in
+    let e : DoneAnswer.Done ≡ first_cause (layout_causes l a.layout.now) =
+    sym at-enum-told.enum_told-1.given.1 ∙ at-layout-causes.layout_causes.ensures in
+    let s = layout_laid l a.layout.now (passed_none (layout_causes l a.layout.now) e) in
+    let f = fitting a.size a.table.now a.pixels.now s.well in
+    (f.few_rows, f.few_columns, f.few_pieces, s.whole)
+
 returns : tie.Need-returns
 returns c =
-    let at-layout-causes : tie.After-layout-causes = search in
-    let at-start : tie.Start = search in
-    let a = at-start.args in
-    let l : Lent = lent_by a.size a.table.now a.pixels.now in
-    let o : write_layout_call l a.layout.now (length a.text.now) ≡ refused c.before.refusal.given.0.0 =
-    write_refused l a.layout.now _ _ (sym c.before.refusal.given.1 ∙ at-layout-causes.layout_causes_lem.ensures) in
-    (sym (ap count_answer o), sym (ap (text_after a.text.now) o))
-
-put-layout-requires : tie.Need-put-layout-requires
-put-layout-requires c κs =
-    let at-layout-causes : tie.After-layout-causes = search in
-    let at-start : tie.Start = search in
-    let a = at-start.args in
-    let l : Lent = lent_by a.size a.table.now a.pixels.now in
-    let e : DoneAnswer.Done ≡ first_cause (layout_causes l a.layout.now) = sym c.before.enum_told.given.1 ∙ at-layout-causes.layout_causes_lem.ensures in
-    let s = layout_laid l a.layout.now (passed_none (layout_causes l a.layout.now) e) in
-    let f = fitting a.size a.table.now a.pixels.now s.well in
-    (f.few_rows, f.few_columns, f.few_pieces, s.whole)
-
-returns-2 : tie.Need-returns-2
-returns-2 c =
-    let at-put-layout : tie.After-put-layout = search in
-    let at-enum-told : tie.After-enum-told = search in
-    let at-layout-causes : tie.After-layout-causes = search in
+    let at-else1 : tie.Else-text-needed = search in
+    let at-put-layout : tie.After-put_layout-needed = search in
+    let at-enum-told : tie.In_default = search in
+    let at-layout-causes : tie.After-layout_causes = search in
     let at-start : tie.Start = search in
     let a = at-start.args in
     let l : Lent = lent_by a.size a.table.now a.pixels.now in
     let e : DoneAnswer.Done ≡ first_cause (layout_causes l a.layout.now) =
-    sym at-enum-told.enum_told.given.1 ∙ at-layout-causes.layout_causes_lem.ensures in
-    let part = at-put-layout.put-layout in
+    sym at-enum-told.enum_told-1.given.1 ∙ at-layout-causes.layout_causes.ensures in
+    let part = at-put-layout.put_layout-needed in
     let none : part.last.1.1.0 ≡ [] = nothing_left _ part.kept.1.1.0 in
-    let long : length a.text.now < length (layout_text (job_of l) (layout_of a.layout.now)) =
-    rw (none, (part.ensures a.table.now a.pixels.now).0) at c.before.if1.true in
-    let o : write_layout_call l a.layout.now (length a.text.now) ≡ refused c.plain-refusal.result =
-    write_short l a.layout.now _ e long ∙ sym (ap refused c.plain-refusal.ensures) in
-    (sym (ap count_answer o), rw none (sym (ap (text_after a.text.now) o)))
-
-put-layout-requires-2 : tie.Need-put-layout-requires-2
-put-layout-requires-2 c κs =
-    let at-enum-told : tie.After-enum-told = search in
-    let at-layout-causes : tie.After-layout-causes = search in
-    let at-start : tie.Start = search in
-    let a = at-start.args in
-    let l : Lent = lent_by a.size a.table.now a.pixels.now in
-    let e : DoneAnswer.Done ≡ first_cause (layout_causes l a.layout.now) =
-    sym at-enum-told.enum_told.given.1 ∙ at-layout-causes.layout_causes_lem.ensures in
-    let s = layout_laid l a.layout.now (passed_none (layout_causes l a.layout.now) e) in
-    let f = fitting a.size a.table.now a.pixels.now s.well in
-    (f.few_rows, f.few_columns, f.few_pieces, s.whole)
-
-returns-3 : tie.Need-returns-3
-returns-3 c =
-    let at-else1 : tie.Else1 = search in
-    let at-put-layout : tie.After-put-layout = search in
-    let at-enum-told : tie.After-enum-told = search in
-    let at-layout-causes : tie.After-layout-causes = search in
-    let at-start : tie.Start = search in
-    let a = at-start.args in
-    let l : Lent = lent_by a.size a.table.now a.pixels.now in
-    let e : DoneAnswer.Done ≡ first_cause (layout_causes l a.layout.now) =
-    sym at-enum-told.enum_told.given.1 ∙ at-layout-causes.layout_causes_lem.ensures in
-    let part = at-put-layout.put-layout in
-    let none : part.last.1.1.0 ≡ [] = nothing_left _ part.kept.1.1.0 in
-    let long : length (layout_text (job_of l) (layout_of a.layout.now)) ≤ length a.text.now =
-    rw (none, (part.ensures a.table.now a.pixels.now).0) at at-else1.if1.left in
-    let o : write_layout_call l a.layout.now (length a.text.now) ≡ given (layout_text (job_of l) (layout_of a.layout.now)) =
+    let long : length (layout_text (job_of l) (layout_of a.layout.now)) ≤ length a.text-1.now =
+    rw (none, (part.ensures a.table.now a.pixels.now).0) at at-else1.if-text-needed.false in
+    let o : write_layout_call l a.layout.now (length a.text-1.now) ≡ given (layout_text (job_of l) (layout_of a.layout.now)) =
     write_given l a.layout.now _ e long in (
       rw (part.ensures a.table.now a.pixels.now).0 (sym (ap count_answer o)),
-      rw none at (c.before.before.put-layout2.ensures a.table.now a.pixels.now).1
-          ∙ sets_filled a.text.now (layout_text (job_of l) (layout_of a.layout.now)) long ∙ sym (ap (text_after a.text.now) o),
+      rw none at (c.before.before.put_layout.ensures a.table.now a.pixels.now).1
+          ∙ sets_filled a.text-1.now (layout_text (job_of l) (layout_of a.layout.now)) long ∙ sym (ap (text_after a.text-1.now) o),
     )
 
-pub write-layout-spec : {M : Type 1} → statement M
-write-layout-spec =
+pub write_layout_spec : {M : Type 1} → statement M
+write_layout_spec =
     tie.close (tie.spec
-    (search needs) (search needs) returns (search needs) (search needs) (search needs) put-layout-requires (search needs) (search needs)
-    returns-2 put-layout-requires-2 (search needs) returns-3)
+    (search rules) (search rules) returns-in-Refused (search rules) (search rules) (search rules) put_layout-needed-requires (search rules)
+    (search rules) returns-then-text-needed put_layout-requires (search rules) returns)

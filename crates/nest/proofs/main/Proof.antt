@@ -1,22 +1,22 @@
 -- `nest::main` is safe and ends: `print_sized` answers no more bytes than the output buffer has. Assumes nothing.
-use Rattle.list_laws.proofs.Kit.{sym, ◌≤◌, length-take-le, needs}
+use Rattle.list_laws.proofs.Kit.{sym, ◌≤◌, length-take-le, rules}
 use Rattle.nest.proofs.main.Statement.{statement}
 use Rattle.nest.proofs.main.Tie as tie
 
 -- the text has at most as many bytes as the buffer
-counted : (c : tie.After-known-told) → c.before.written.given.0.0 ≤ 4096
+counted : (c : tie.In-Number) → c.before.written-1.given.0.0 ≤ 4096
 counted c =
-    let printed : tie.After-print-sized = search in
-    printed.print-sized.ensures _ c.before.written.given.1
+    let printed : tie.After-print_sized = search in
+    printed.print_sized.ensures _ c.before.written-1.given.1
 
-array-share-prefix-output : tie.Need-array-share-prefix-output
-array-share-prefix-output c = let h = counted c in search needs
+slice_bounds-output-end : tie.Need-slice_bounds-output-end
+slice_bounds-output-end c = let h = counted c in search rules
 
-slice-aggregate-write-all : tie.Need-slice-aggregate-write-all
-slice-aggregate-write-all c = let h = counted c.before in sym (length-take-le _ _ (search needs))
+slice_bounds-write_all-end : tie.Need-slice_bounds-write_all-end
+slice_bounds-write_all-end c = let h = counted c.before in sym (length-take-le _ _ (search rules))
 
 pub main_spec : {M : Type 1} → statement M
 main_spec =
     tie.close (tie.spec
-    (search needs) (search needs) (search needs) (search needs) (search needs) (search needs) (search needs) (search needs) (search needs)
-    array-share-prefix-output slice-aggregate-write-all (search needs) (search needs) (search needs) (search needs) (search needs))
+    (search rules) (search rules) (search rules) (search rules) (search rules) (search rules) (search rules) (search rules) (search rules)
+    slice_bounds-output-end slice_bounds-write_all-end (search rules) (search rules) (search rules) (search rules))

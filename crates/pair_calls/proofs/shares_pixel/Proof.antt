@@ -1,5 +1,5 @@
 -- `pair_calls::shares_pixel` meets its contract: the causes refuse, or none is there and what is measured is the pair's. Assumes nothing.
-use Rattle.list_laws.proofs.Kit.{◌∙◌, ap, subst, sym, ℕ, arith, eqb, needs}
+use Rattle.list_laws.proofs.Kit.{◌∙◌, ap, subst, sym, ℕ, arith, eqb, rules}
 use Rattle.model.specs.Layout.{place_of, pair_conflicts}
 use Rattle.model.specs.Piece.{corner}
 use Rattle.model.specs.Overlap.{conflict}
@@ -21,62 +21,64 @@ abbrev lent : tie.Start → Lent
 lent s = lent_by s.args.size s.args.table.now s.args.pixels.now
 
 -- none of the causes is there
-passed : (p : tie.After-enum-told) → let s : tie.Start = search in NoCause (pair_causes (lent s) s.args.layout.now s.args.i s.args.k)
-passed p = let asked : tie.After-pair-causes = search in passed_none _ (sym p.enum_told.given.1 ∙ asked.pair-causes.ensures)
+passed : (p : tie.In-Done) → let s : tie.Start = search in NoCause (pair_causes (lent s) s.args.layout.now s.args.i s.args.k)
+passed p = let asked : tie.After-pair_causes = search in passed_none _ (sym p.enum_told-1.given.1 ∙ asked.pair_causes.ensures)
 
 -- so the pair can be measured
-ready : (p : tie.After-enum-told) → let s : tie.Start = search in Measurable (lent s) s.args.layout.now s.args.i s.args.k
+ready : (p : tie.In-Done) → let s : tie.Start = search in Measurable (lent s) s.args.layout.now s.args.i s.args.k
 ready p = let s : tie.Start = search in measurable (lent s) s.args.layout.now s.args.i s.args.k (passed p)
 
 -- as it lies in the layout
-first-ready : (p : tie.After-place-at) → let s : tie.Start = search in MeasureReady s.args.table.now s.args.i p.place_at.result
-first-ready p = let told : tie.After-enum-told = search in subst (MeasureReady _ _) (sym p.place_at.ensures) (ready told).first
+first-ready : (p : tie.After-place_at) → let s : tie.Start = search in MeasureReady s.args.table.now s.args.i p.place_at.result
+first-ready p = let told : tie.In-Done = search in subst (MeasureReady _ _) (sym p.place_at.ensures) (ready told).first
 
-second-ready : (p : tie.After-place-at2) → let s : tie.Start = search in MeasureReady s.args.table.now s.args.k p.place-at2.result
-second-ready p = let told : tie.After-enum-told = search in subst (MeasureReady _ _) (sym p.place-at2.ensures) (ready told).second
+second-ready : (p : tie.After-place_at-in-Done) → let s : tie.Start = search in MeasureReady s.args.table.now s.args.k p.place_at-in-Done.result
+second-ready p = let told : tie.In-Done = search in subst (MeasureReady _ _) (sym p.place_at-in-Done.ensures) (ready told).second
 
-cast-gap : tie.Need-overflow-cast-gap
-cast-gap c = let told : tie.After-enum-told = search in let g = (ready told).gap_small in omega arith
+overflow_cast-gap : tie.Need-overflow_cast-gap
+overflow_cast-gap c = let told : tie.In-Done = search in let g = (ready told).gap_small in omega arith
 
-place-at-requires : tie.Need-place-at-requires
-place-at-requires c κs = let told : tie.After-enum-told = search in (ready told).first_place
+place_at-requires : tie.Need-place_at-requires
+place_at-requires c κs = let told : tie.In-Done = search in (ready told).first_place
 
-place-at-requires-2 : tie.Need-place-at-requires-2
-place-at-requires-2 c κs = let told : tie.After-enum-told = search in (ready told).second_place
+place_at-requires-in-Done : tie.Need-place_at-requires-in-Done
+place_at-requires-in-Done c κs = let told : tie.In-Done = search in (ready told).second_place
 
-placed-depth-requires : tie.Need-placed-depth-requires
-placed-depth-requires c κs =
-    let told : tie.After-enum-told = search in
-    let first : tie.After-place-at = search in
+placed_depth-amount-requires : tie.Need-placed_depth-amount-requires
+placed_depth-amount-requires c κs =
+    let told : tie.In-Done = search in
+    let first : tie.After-place_at = search in
     (first-ready first, (second-ready c, ((ready told).together, ((ready told).gap_small, omega arith))))
 
-returns : tie.Need-returns
+returns-in-Refused : tie.Need-returns-in-Refused
 unfolding share_call
-returns c =
-    let asked : tie.After-pair-causes = search in
-    rw (refused_alone _ _ _ (sym c.before.refusal.given.1 ∙ asked.pair-causes.ensures))
+returns-in-Refused c =
+    let asked : tie.After-pair_causes = search in
+    rw (refused_alone _ _ _ (sym c.before.refusal-1.given.1 ∙ asked.pair_causes.ensures))
 
-returns-2 : tie.Need-returns-2
+returns-in-Done : tie.Need-returns-in-Done
 unfolding share_call pair_conflicts job_of
-returns-2 c =
+returns-in-Done c =
     let s : tie.Start = search in
-    let told : tie.After-enum-told = search in
-    let first : tie.After-place-at = search in
-    let second : tie.After-place-at2 = search in
-    let measured : tie.After-placed-depth = search in
+    let told : tie.In-Done = search in
+    let first : tie.After-place_at = search in
+    let second : tie.After-place_at-in-Done = search in
+    let measured : tie.After-placed_depth-amount = search in
     let a = s.args in
     let p = first.place_at.result in
-    let q = second.place-at2.result in
+    let q = second.place_at-in-Done.result in
     let j = job_of (lent s) in
     let v = layout_of a.layout.now in
     rw (
       unless_given _ _ (passed told),
-      ap (λ (n : ℕ). eqb n 1) (measured.placed-depth.ensures a.size) ∙ depth_conflicts a.size.gap Horizontal _ (corner p) _ (corner q)
+      ap (λ (n : ℕ). eqb n 1) (measured.placed_depth-amount.ensures a.size) ∙ depth_conflicts a.size.gap Horizontal _ (corner p) _ (corner q)
           ∙ placed_at (conflict a.size.gap) j a.i p (place_of v a.i) a.k q (place_of v a.k)
-          first.place_at.ensures second.place-at2.ensures,
+          first.place_at.ensures second.place_at-in-Done.ensures,
     )
 
-pub shares-pixel-spec : {M : Type 1} → statement M
-shares-pixel-spec =
+pub shares_pixel_spec : {M : Type 1} → statement M
+shares_pixel_spec =
     tie.close
-    (tie.spec (search needs) (search needs) (search needs) cast-gap place-at-requires place-at-requires-2 placed-depth-requires returns returns-2)
+    (tie.spec
+    (search rules) (search rules) (search rules) overflow_cast-gap place_at-requires place_at-requires-in-Done placed_depth-amount-requires
+    returns-in-Refused returns-in-Done)

@@ -3,14 +3,15 @@ use Rattle.list_laws.proofs.Kit.{le-ltb, lt-ltb}
 use Rattle.pair_calls.proofs.wrong_pair.Statement.{statement}
 use Rattle.pair_calls.proofs.wrong_pair.Tie as tie
 
+returns-then-count-i : tie.Need-returns-then-count-i
+returns-then-count-i c = rw (le-ltb _ _ c.if-count-i.true)
+
+returns-then-count-k : tie.Need-returns-then-count-k
+returns-then-count-k c = rw (lt-ltb _ _ c.before.if-count-i.false, le-ltb _ _ c.if-count-k.true)
+
 returns : tie.Need-returns
-returns c = rw (le-ltb _ _ c.if1.true)
+returns c = rw (lt-ltb _ _ c.before.if-count-i.false, lt-ltb _ _ c.if-count-k.false)
 
-returns-2 : tie.Need-returns-2
-returns-2 c = rw (lt-ltb _ _ c.before.if1.false, le-ltb _ _ c.if2.true)
-
-returns-3 : tie.Need-returns-3
-returns-3 c = rw (lt-ltb _ _ c.before.if1.false, lt-ltb _ _ c.if2.false)
-
-pub wrong-pair-spec : {M : Type 1} → statement M
-wrong-pair-spec = tie.close (tie.spec returns returns-2 returns-3)
+pub wrong_pair_spec : {M : Type 1} → statement M
+wrong_pair_spec = tie.close (tie.spec
+    returns-then-count-i returns-then-count-k returns)

@@ -1,5 +1,5 @@
 -- `pair_nofit::word_bits`: the bits that neither shift leaves out. Assumes nothing.
-use Rattle.list_laws.proofs.Kit.{arith, needs}
+use Rattle.list_laws.proofs.Kit.{arith, rules}
 use Rattle.pair_nofit.proofs.Words.{word_from}
 use Rattle.pair_nofit.proofs.word_bits.Statement.{statement}
 use Rattle.pair_nofit.proofs.word_bits.Tie as tie
@@ -11,7 +11,7 @@ returns c =
     let a = at-start.args in
     word_from a.low a.high a.start _ _ (omega arith) (omega arith) at-larger.larger.ensures c.smaller.ensures
 
-pub word-bits-spec : {M : Type 1} → statement M
-word-bits-spec =
+pub word_bits_spec : {M : Type 1} → statement M
+word_bits_spec =
     tie.close (tie.spec
-    (search needs) (search needs) (search needs) (search needs) (search needs) (search needs) (search needs) (search needs) returns)
+    (search rules) (search rules) (search rules) (search rules) (search rules) (search rules) (search rules) (search rules) returns)

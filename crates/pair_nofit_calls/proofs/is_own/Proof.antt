@@ -1,5 +1,5 @@
 -- `pair_nofit_calls::is_own`: the comparison ends at the stretch's end exactly where the stretch is the piece's. Assumes nothing.
-use Rattle.list_laws.proofs.Kit.{◌∙◌, sym, needs}
+use Rattle.list_laws.proofs.Kit.{◌∙◌, sym, rules}
 use Rattle.model.specs.Strip.{strips}
 use Rattle.model.specs.Layout.{turned_piece}
 use Rattle.model.specs.Lent.{lent_by, job_of}
@@ -8,22 +8,23 @@ use Rattle.pair_nofit_calls.proofs.Owning.{unlike_own, until_own}
 use Rattle.pair_nofit_calls.proofs.is_own.Statement.{statement}
 use Rattle.pair_nofit_calls.proofs.is_own.Tie as tie
 
-returns : tie.Need-returns
+returns-in_default : tie.Need-returns-in_default
 unfolding stretch_well
-returns c = λ size.
+returns-in_default c = λ size.
     let at-start : tie.Start = search in
     let a = at-start.args in
     unlike_own (strips a.direction (turned_piece (job_of (lent_by size a.table.now a.pixels.now)) a.i a.turn)) a.stretch.now
-    (sym c.enum_told.given.1 ∙ c.before.before.compare-piece.ensures size)
+    (sym c.enum_told-1.given.1 ∙ c.before.before.compare_piece.ensures size)
 
-returns-2 : tie.Need-returns-2
+returns : tie.Need-returns
 unfolding stretch_well
-returns-2 c = λ size.
-    let at-compare-piece : tie.After-compare-piece = search in
+returns c = λ size.
+    let at-compare-piece : tie.After-compare_piece = search in
     let at-start : tie.Start = search in
     let a = at-start.args in
     until_own (strips a.direction (turned_piece (job_of (lent_by size a.table.now a.pixels.now)) a.i a.turn)) a.stretch.now _
-    (sym c.before.end.given.1 ∙ at-compare-piece.compare-piece.ensures size)
+    (sym c.before.end-1.given.1 ∙ at-compare-piece.compare_piece.ensures size)
 
-pub is-own-spec : {M : Type 1} → statement M
-is-own-spec = tie.close (tie.spec (search needs) (search needs) (search needs) (search needs) returns returns-2)
+pub is_own_spec : {M : Type 1} → statement M
+is_own_spec = tie.close (tie.spec
+    (search rules) (search rules) (search rules) (search rules) returns-in_default returns)

@@ -1,5 +1,5 @@
 -- `pair_nofit_calls::no_fit`: the causes refuse, or none is there and the stretches' line is the no-fit line. Assumes nothing.
-use Rattle.list_laws.proofs.Kit.{◌∙◌, ◌≡◌, ap, sym, List, ◌≤◌, arith, length, ℤ, needs}
+use Rattle.list_laws.proofs.Kit.{◌∙◌, ◌≡◌, ap, sym, List, ◌≤◌, arith, length, ℤ, rules}
 use mir.Syntax.{w32}
 use mir.Val.{to_z, of_z}
 use mir.ValLaws.{to_z-of_z}
@@ -27,45 +27,46 @@ abbrev two : tie.Start → LentStretch
 two s = lent_stretch s.args.second.piece s.args.second.turn s.args.b.now
 
 -- none of the causes is there
-passed : (p : tie.After-enum-told) → let s : tie.Start = search in NoCause (stretch_causes s.args.direction (lent s) (one s) (two s))
-passed p = let asked : tie.After-stretch-causes = search in passed_none _ (sym p.enum_told.given.1 ∙ asked.stretch-causes.ensures)
+passed : (p : tie.In-Done) → let s : tie.Start = search in NoCause (stretch_causes s.args.direction (lent s) (one s) (two s))
+passed p = let asked : tie.After-stretch_causes = search in passed_none _ (sym p.enum_told-1.given.1 ∙ asked.stretch_causes.ensures)
 
 -- so the gap is small
-small : (p : tie.After-enum-told) → let s : tie.Start = search in s.args.size.gap ≤ gap_bound
+small : (p : tie.In-Done) → let s : tie.Start = search in s.args.size.gap ≤ gap_bound
 small p = let s : tie.Start = search in gap_small_lem s.args.direction (lent s) (one s) (two s) (passed p)
 
-cast-gap : tie.Need-overflow-cast-gap
-cast-gap c = let told : tie.After-enum-told = search in omega (arith, small told)
+overflow_cast-gap : tie.Need-overflow_cast-gap
+overflow_cast-gap c = let told : tie.In-Done = search in omega (arith, small told)
 
-put-line-requires : tie.Need-put-line-requires
-put-line-requires c κs =
-    let told : tie.After-enum-told = search in
+put_line-requires : tie.Need-put_line-requires
+put_line-requires c κs =
+    let told : tie.In-Done = search in
     let s : tie.Start = search in
     let d = s.args.direction in (
       first_ordered d (lent s) (one s) (two s) (passed told),
       (second_ordered d (lent s) (one s) (two s) (passed told), let g = small told in omega arith),
     )
 
-returns : tie.Need-returns
-returns c =
-    let asked : tie.After-stretch-causes = search in
+returns-in-Refused : tie.Need-returns-in-Refused
+returns-in-Refused c =
+    let asked : tie.After-stretch_causes = search in
     let s : tie.Start = search in
     let a = s.args in
-    let f = refused_called a.direction (lent s) (one s) (two s) a.offset (length a.out.now) _
-    (sym c.before.refusal.given.1 ∙ asked.stretch-causes.ensures) in
-    (ap count_answer (sym f), ap (runs_after a.out.now) (sym f))
+    let f = refused_called a.direction (lent s) (one s) (two s) a.offset (length a.out-1.now) _
+    (sym c.before.refusal-1.given.1 ∙ asked.stretch_causes.ensures) in
+    (ap count_answer (sym f), ap (runs_after a.out-1.now) (sym f))
 
-returns-2 : tie.Need-returns-2
-returns-2 c =
-    let told : tie.After-enum-told = search in
+returns-in-Done : tie.Need-returns-in-Done
+returns-in-Done c =
+    let told : tie.In-Done = search in
     let s : tie.Start = search in
     let a = s.args in
-    let e : to_z w32 (of_z w32 a.offset) ≡ a.offset = to_z-of_z w32 a.offset s.fits.offset in
-    let line : ℤ → Outcome (List Run) = λ z. line_outcome a.size.gap a.a.now a.b.now z (length a.out.now) in
-    let w = line_called a.direction (lent s) (one s) (two s) (passed told) a.offset a.out.now in (
-      c.before.put-line.ensures.0 ∙ ap (λ (z : ℤ). count_answer (line z)) e ∙ w.answer,
-      c.before.put-line.ensures.1 ∙ ap (λ (z : ℤ). line_after a.out.now (line z)) e ∙ w.memory,
+    let e : to_z w32 (of_z w32 a.offset) ≡ a.offset = to_z-of_z w32 a.offset s.ranges.offset in
+    let line : ℤ → Outcome (List Run) = λ z. line_outcome a.size.gap a.a.now a.b.now z (length a.out-1.now) in
+    let w = line_called a.direction (lent s) (one s) (two s) (passed told) a.offset a.out-1.now in (
+      c.before.put_line.ensures.answer ∙ ap (λ (z : ℤ). count_answer (line z)) e ∙ w.answer,
+      c.before.put_line.ensures.memory ∙ ap (λ (z : ℤ). line_after a.out-1.now (line z)) e ∙ w.memory,
     )
 
-pub no-fit-spec : {M : Type 1} → statement M
-no-fit-spec = tie.close (tie.spec (search needs) (search needs) (search needs) cast-gap put-line-requires returns (search needs) returns-2)
+pub no_fit_spec : {M : Type 1} → statement M
+no_fit_spec = tie.close (tie.spec
+    (search rules) (search rules) (search rules) overflow_cast-gap put_line-requires returns-in-Refused (search rules) returns-in-Done)

@@ -8,40 +8,41 @@ use Rattle.pair_runs.proofs.Offsets.{NearOffset, down_none, down_far, down_near}
 use Rattle.pair_runs.proofs.down.Statement.{statement}
 use Rattle.pair_runs.proofs.down.Tie as tie
 
-returns : tie.Need-returns
-returns c =
+returns-then-o-ge0 : tie.Need-returns-then-o-ge0
+returns-then-o-ge0 c =
     let o = c.before.args.o in
     let e : to_z w32 (of_z w32 o) ≡ o = to_z-of_z w32 o c.before.ranges.o in
-    subst (λ (z : ℤ). 0 ≡ min (down z) 263) e (down_none (to_z w32 (of_z w32 o)) c.if1.true)
+    subst (λ (z : ℤ). 0 ≡ min (down z) 263) e (down_none (to_z w32 (of_z w32 o)) c.if-o-ge0.true)
 
-returns-2 : tie.Need-returns-2
-returns-2 c =
+returns-then-o-lt-FARTHEST_DOWN : tie.Need-returns-then-o-lt-FARTHEST_DOWN
+returns-then-o-lt-FARTHEST_DOWN c =
     let o = c.before.before.args.o in
     let e : to_z w32 (of_z w32 o) ≡ o = to_z-of_z w32 o c.before.before.ranges.o in
-    subst (λ (z : ℤ). 263 ≡ min (down z) 263) e (down_far (to_z w32 (of_z w32 o)) c.if2.true)
+    subst (λ (z : ℤ). 263 ≡ min (down z) 263) e (down_far (to_z w32 (of_z w32 o)) c.if-o-lt-FARTHEST_DOWN.true)
 
-sub-result : tie.Need-overflow-sub-result
-sub-result c =
+overflow_sub-result : tie.Need-overflow_sub-result
+overflow_sub-result c =
     let o = c.before.before.args.o in
     let e : to_z w32 (of_z w32 o) ≡ o = to_z-of_z w32 o c.before.before.ranges.o in
-    (down_near (to_z w32 (of_z w32 o)) c.before.if1.false c.if2.false).fits
+    (down_near (to_z w32 (of_z w32 o)) c.before.if-o-ge0.false c.if-o-lt-FARTHEST_DOWN.false).ranges
 
-cast-result : tie.Need-overflow-cast-result
-cast-result c =
+overflow_cast-result : tie.Need-overflow_cast-result
+overflow_cast-result c =
     let o = c.before.before.args.o in
     let e : to_z w32 (of_z w32 o) ≡ o = to_z-of_z w32 o c.before.before.ranges.o in
     let z = to_z w32 (of_z w32 o) in
-    let n : NearOffset z = down_near z c.before.if1.false c.if2.false in
-    let f : to_z w32 (of_z w32 (pos 0 -ℤ z)) ≡ pos 0 -ℤ z = to_z-of_z w32 (pos 0 -ℤ z) n.fits in
+    let n : NearOffset z = down_near z c.before.if-o-ge0.false c.if-o-lt-FARTHEST_DOWN.false in
+    let f : to_z w32 (of_z w32 (pos 0 -ℤ z)) ≡ pos 0 -ℤ z = to_z-of_z w32 (pos 0 -ℤ z) n.ranges in
     (subst (λ (y : ℤ). T (non_neg y)) (sym f) n.not_negative, record { fits = omega (arith, ap nat_abs f, n.is) })
 
-returns-3 : tie.Need-returns-3
-returns-3 c =
+returns : tie.Need-returns
+returns c =
     let o = c.before.before.args.o in
     let e : to_z w32 (of_z w32 o) ≡ o = to_z-of_z w32 o c.before.before.ranges.o in
     let z = to_z w32 (of_z w32 o) in
-    let n : NearOffset z = down_near z c.before.if1.false c.if2.false in
-    ap nat_abs (to_z-of_z w32 (pos 0 -ℤ z) n.fits) ∙ n.is ∙ ap (λ (y : ℤ). min (down y) 263) e
+    let n : NearOffset z = down_near z c.before.if-o-ge0.false c.if-o-lt-FARTHEST_DOWN.false in
+    ap nat_abs (to_z-of_z w32 (pos 0 -ℤ z) n.ranges) ∙ n.is ∙ ap (λ (y : ℤ). min (down y) 263) e
 
-pub down-spec : {M : Type 1} → statement M
-down-spec = tie.close (tie.spec returns returns-2 sub-result cast-result returns-3)
+pub down_spec : {M : Type 1} → statement M
+down_spec = tie.close (tie.spec
+    returns-then-o-ge0 returns-then-o-lt-FARTHEST_DOWN overflow_sub-result overflow_cast-result returns)

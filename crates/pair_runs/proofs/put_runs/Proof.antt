@@ -5,68 +5,69 @@ use Rattle.pair_runs.proofs.Putting.{Putting, putting_start, putting_more, putti
 use Rattle.pair_runs.proofs.put_runs.Statement.{statement}
 use Rattle.pair_runs.proofs.put_runs.Tie as tie
 
-abbrev invariant-loop : tie.invariant-loop
-invariant-loop marks out₀ at₀ k₀ out at k = Putting marks out₀ out at k
+abbrev invariant-loop-k : tie.invariant-loop-k
+invariant-loop-k marks out₀ at₀ k₀ out at k = Putting marks out₀ out at k
 
-abbrev decreases-loop : tie.decreases-loop
-decreases-loop marks out₀ at₀ k₀ out at k = offset_count - k
+abbrev decreases-loop-k : tie.decreases-loop-k
+decreases-loop-k marks out₀ at₀ k₀ out at k = offset_count - k
 
-loop-holds : tie.Need-loop-init invariant-loop decreases-loop
-loop-holds c = putting_start _ _
+loop-k-init : tie.Need-loop-k-init invariant-loop-k decreases-loop-k
+loop-k-init c = putting_start _ _
 
-next-place-requires : tie.Need-next-place-requires invariant-loop decreases-loop
-next-place-requires c κs =
-    let at-start : tie.Start invariant-loop decreases-loop = search in
-    (c.before.loop.invariant.within, at-start.pre)
+next_place-first-requires : tie.Need-next_place-first-requires invariant-loop-k decreases-loop-k
+next_place-first-requires c κs =
+    let at-start : tie.Start invariant-loop-k decreases-loop-k = search in
+    (c.before.loop-k.invariant.within, at-start.requires)
 
-next-place-requires-2 : tie.Need-next-place-requires-2 invariant-loop decreases-loop
-next-place-requires-2 c κs =
-    let at-start : tie.Start invariant-loop decreases-loop = search in
-    (c.next_place.ensures.high, at-start.pre)
+next_place-end-requires : tie.Need-next_place-end-requires invariant-loop-k decreases-loop-k
+next_place-end-requires c κs =
+    let at-start : tie.Start invariant-loop-k decreases-loop-k = search in
+    (c.next_place-first.ensures.high, at-start.requires)
 
-sub-put-run : tie.Need-overflow-sub-put-run invariant-loop decreases-loop
-sub-put-run c = omega (arith, c.before.next-place2.ensures.low)
+overflow_sub-end : tie.Need-overflow_sub-end invariant-loop-k decreases-loop-k
+overflow_sub-end c = omega (arith, c.before.next_place-end.ensures.low)
 
-put-run-requires : tie.Need-put-run-requires invariant-loop decreases-loop
-put-run-requires c κs =
-    let at-loop : tie.At-loop invariant-loop decreases-loop = search in
-    let w = at-loop.loop.inv in
-    (omega arith, c.before.next-place2.ensures.high, omega (arith, w.low, w.within))
+put_run-at-requires : tie.Need-put_run-at-requires invariant-loop-k decreases-loop-k
+put_run-at-requires c κs =
+    let at-loop : tie.At-loop-k invariant-loop-k decreases-loop-k = search in
+    let w = at-loop.loop-k.invariant in
+    (omega arith, c.before.next_place-end.ensures.high, omega (arith, w.low, w.within))
 
-loop-less : tie.Need-loop-smaller invariant-loop decreases-loop
-loop-less c =
-    let in-loop : tie.In-loop invariant-loop decreases-loop = search in
-    let at-loop : tie.At-loop invariant-loop decreases-loop = search in
-    let at-start : tie.Start invariant-loop decreases-loop = search in
-    let at_first : tie.After-next-place invariant-loop decreases-loop = search in
-    let at-end : tie.After-next-place2 invariant-loop decreases-loop = search in
-    let p = at_first.next_place.ensures in
-    let q = at-end.next-place2.ensures in
-    omega (arith, q.high, next_later at-start.args.marks.now at-loop.loop.k _ _ p q in-loop.loop-test.taken)
+loop-k-smaller : tie.Need-loop-k-smaller invariant-loop-k decreases-loop-k
+loop-k-smaller c =
+    let in-loop : tie.In-loop-k invariant-loop-k decreases-loop-k = search in
+    let at-loop : tie.At-loop-k invariant-loop-k decreases-loop-k = search in
+    let at-start : tie.Start invariant-loop-k decreases-loop-k = search in
+    let at_first : tie.After-next_place-first invariant-loop-k decreases-loop-k = search in
+    let at-end : tie.After-next_place-end invariant-loop-k decreases-loop-k = search in
+    let p = at_first.next_place-first.ensures in
+    let q = at-end.next_place-end.ensures in
+    omega (arith, q.high, next_later at-start.args.marks.now at-loop.loop-k.k _ _ p q in-loop.loop-k-test.true)
 
-loop-again : tie.Need-loop-preserved invariant-loop decreases-loop
-loop-again c =
-    let in-loop : tie.In-loop invariant-loop decreases-loop = search in
-    let at-loop : tie.At-loop invariant-loop decreases-loop = search in
-    let at-start : tie.Start invariant-loop decreases-loop = search in
-    let at_first : tie.After-next-place invariant-loop decreases-loop = search in
-    let at-end : tie.After-next-place2 invariant-loop decreases-loop = search in
+loop-k-preserved : tie.Need-loop-k-preserved invariant-loop-k decreases-loop-k
+loop-k-preserved c =
+    let in-loop : tie.In-loop-k invariant-loop-k decreases-loop-k = search in
+    let at-loop : tie.At-loop-k invariant-loop-k decreases-loop-k = search in
+    let at-start : tie.Start invariant-loop-k decreases-loop-k = search in
+    let at_first : tie.After-next_place-first invariant-loop-k decreases-loop-k = search in
+    let at-end : tie.After-next_place-end invariant-loop-k decreases-loop-k = search in
     let a = at-start.args in
-    let w = at-loop.loop in
-    putting_more a.marks.now a.out.now w.out w.at w.k w.inv _ _ in-loop.loop-test.taken
-    at_first.next_place.ensures at-end.next-place2.ensures _ _ c.before.put-run.ensures
+    let w = at-loop.loop-k in
+    putting_more a.marks.now a.out-1.now w.out-1 w.at w.k w.inv _ _ in-loop.loop-k-test.true
+    at_first.next_place-first.ensures at-end.next_place-end.ensures _ _ c.before.put_run-at.ensures
 
-same_length : tie.Need-same-length invariant-loop decreases-loop
-same_length c = c.before.loop.invariant.same
+shape_of-out : tie.Need-shape_of-out invariant-loop-k decreases-loop-k
+shape_of-out c = c.before.loop-k.invariant.same
 
-returns : tie.Need-returns invariant-loop decreases-loop
+returns : tie.Need-returns invariant-loop-k decreases-loop-k
 returns c =
-    let at-start : tie.Start invariant-loop decreases-loop = search in
+    let at-start : tie.Start invariant-loop-k decreases-loop-k = search in
     let a = at-start.args in
-    let w = c.before.loop in
-    putting_end a.marks.now a.out.now w.out w.at w.k w.invariant c.loop-test.false
+    let w = c.before.loop-k in
+    putting_end a.marks.now a.out-1.now w.out-1 w.at w.k w.invariant c.loop-k-test.false
 
-pub put-runs-spec : {M : Type 1} → statement M
-put-runs-spec =
+pub put_runs_spec : {M : Type 1} → statement M
+put_runs_spec =
     tie.close (tie.spec
-    invariant-loop decreases-loop loop-holds next-place-requires next-place-requires-2 sub-put-run put-run-requires loop-less loop-again same_length returns)
+    invariant-loop-k decreases-loop-k loop-k-init next_place-first-requires next_place-end-requires overflow_sub-end put_run-at-requires
+    loop-k-smaller loop-k-preserved shape_of-out returns)

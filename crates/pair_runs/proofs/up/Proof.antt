@@ -8,30 +8,31 @@ use Rattle.pair_runs.proofs.Offsets.{up_none, up_far, up_near, not_negative_lem}
 use Rattle.pair_runs.proofs.up.Statement.{statement}
 use Rattle.pair_runs.proofs.up.Tie as tie
 
-returns : tie.Need-returns
-returns c =
+returns-then-o-lt0 : tie.Need-returns-then-o-lt0
+returns-then-o-lt0 c =
     let o = c.before.args.o in
     let e : to_z w32 (of_z w32 o) ≡ o = to_z-of_z w32 o c.before.ranges.o in
-    subst (λ (z : ℤ). 0 ≡ min (up z) 263) e (up_none (to_z w32 (of_z w32 o)) c.if1.true)
+    subst (λ (z : ℤ). 0 ≡ min (up z) 263) e (up_none (to_z w32 (of_z w32 o)) c.if-o-lt0.true)
 
-returns-2 : tie.Need-returns-2
-returns-2 c =
+returns-then-o-gt-FARTHEST_UP : tie.Need-returns-then-o-gt-FARTHEST_UP
+returns-then-o-gt-FARTHEST_UP c =
     let o = c.before.before.args.o in
     let e : to_z w32 (of_z w32 o) ≡ o = to_z-of_z w32 o c.before.before.ranges.o in
-    subst (λ (z : ℤ). 263 ≡ min (up z) 263) e (up_far (to_z w32 (of_z w32 o)) c.if2.true)
+    subst (λ (z : ℤ). 263 ≡ min (up z) 263) e (up_far (to_z w32 (of_z w32 o)) c.if-o-gt-FARTHEST_UP.true)
 
-cast-result : tie.Need-overflow-cast-result
-cast-result c =
+overflow_cast-result : tie.Need-overflow_cast-result
+overflow_cast-result c =
     let o = c.before.before.args.o in
     let e : to_z w32 (of_z w32 o) ≡ o = to_z-of_z w32 o c.before.before.ranges.o in
     let z = to_z w32 (of_z w32 o) in
-    (not_negative_lem z c.before.if1.false, record { fits = omega (arith, up_near z c.before.if1.false c.if2.false) })
+    (not_negative_lem z c.before.if-o-lt0.false, record { fits = omega (arith, up_near z c.before.if-o-lt0.false c.if-o-gt-FARTHEST_UP.false) })
 
-returns-3 : tie.Need-returns-3
-returns-3 c =
+returns : tie.Need-returns
+returns c =
     let o = c.before.before.args.o in
     let e : to_z w32 (of_z w32 o) ≡ o = to_z-of_z w32 o c.before.before.ranges.o in
-    up_near (to_z w32 (of_z w32 o)) c.before.if1.false c.if2.false ∙ ap (λ (z : ℤ). min (up z) 263) e
+    up_near (to_z w32 (of_z w32 o)) c.before.if-o-lt0.false c.if-o-gt-FARTHEST_UP.false ∙ ap (λ (z : ℤ). min (up z) 263) e
 
-pub up-spec : {M : Type 1} → statement M
-up-spec = tie.close (tie.spec returns returns-2 cast-result returns-3)
+pub up_spec : {M : Type 1} → statement M
+up_spec = tie.close (tie.spec
+    returns-then-o-lt0 returns-then-o-gt-FARTHEST_UP overflow_cast-result returns)

@@ -1,13 +1,14 @@
 -- `pair_slide::spans_meet` meets its contract: each way out follows one of the two tests. Assumes nothing.
-use Rattle.list_laws.proofs.Kit.{needs, le-ltb, lt-ltb}
+use Rattle.list_laws.proofs.Kit.{rules, le-ltb, lt-ltb}
 use Rattle.pair_slide.proofs.spans_meet.Statement.{statement}
 use Rattle.pair_slide.proofs.spans_meet.Tie as tie
 
-returns : tie.Need-returns
-returns c = simp (lt-ltb _ _ c.if1.true)
+returns-then-a-b : tie.Need-returns-then-a-b
+returns-then-a-b c = simp (lt-ltb _ _ c.if-a-b.true)
 
-returns-2 : tie.Need-returns-2
-returns-2 c = simp (le-ltb _ _ c.if1.false)
+returns-else-a-b : tie.Need-returns-else-a-b
+returns-else-a-b c = simp (le-ltb _ _ c.if-a-b.false)
 
-pub spans-meet-spec : {M : Type 1} → statement M
-spans-meet-spec = tie.close (tie.spec (search needs) (search needs) (search needs) (search needs) returns returns-2)
+pub spans_meet_spec : {M : Type 1} → statement M
+spans_meet_spec = tie.close (tie.spec
+    (search rules) (search rules) (search rules) (search rules) returns-then-a-b returns-else-a-b)

@@ -1,12 +1,13 @@
 -- `piece_pixels::stored_pixel` meets its contract: the place lies among the box's pixels, and the store has them. Assumes nothing.
-use Rattle.list_laws.proofs.Kit.{needs}
+use Rattle.list_laws.proofs.Kit.{rules}
 use Rattle.piece_pixels.proofs.stored_pixel.Statement.{statement}
 use Rattle.piece_pixels.proofs.stored_pixel.Tie as tie
 
 returns : tie.Need-returns
 returns c =
     let at-start : tie.Start = search in
-    c.before.cell-index.ensures.0 at-start.args.pixels.now
+    c.before.cell_index.ensures.shows at-start.args.pixels.now
 
-pub stored-pixel-spec : {M : Type 1} → statement M
-stored-pixel-spec = tie.close (tie.spec (search needs) (search needs) returns)
+pub stored_pixel_spec : {M : Type 1} → statement M
+stored_pixel_spec = tie.close (tie.spec
+    (search rules) (search rules) returns)

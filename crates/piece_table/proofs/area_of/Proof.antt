@@ -1,10 +1,10 @@
 -- `piece_table::area_of`: two sides of at most 255 have a product of at most 255 × 255. Assumes nothing.
-use Rattle.list_laws.proofs.Kit.{ap₂, ◌*◌, ◌≤◌, ℕ, mul-le-mul, arith, needs}
+use Rattle.list_laws.proofs.Kit.{ap₂, ◌*◌, ◌≤◌, ℕ, mul-le-mul, arith, rules}
 use Rattle.piece_table.proofs.area_of.Statement.{statement}
 use Rattle.piece_table.proofs.area_of.Tie as tie
 
-mul-result : tie.Need-overflow-mul-result
-mul-result c =
+overflow_mul-result : tie.Need-overflow_mul-result
+overflow_mul-result c =
     let m : c.before.columns_of.result * c.rows_of_lem.result ≤ 255 * 255 =
     mul-le-mul c.before.columns_of.ensures.1 c.rows_of_lem.ensures.1 in
     omega arith
@@ -15,5 +15,6 @@ returns c = (
   mul-le-mul c.before.columns_of.ensures.1 c.rows_of_lem.ensures.1,
 )
 
-pub area-of-spec : {M : Type 1} → statement M
-area-of-spec = tie.close (tie.spec (search needs) (search needs) mul-result returns)
+pub area_of_spec : {M : Type 1} → statement M
+area_of_spec = tie.close (tie.spec
+    (search rules) (search rules) overflow_mul-result returns)

@@ -1,6 +1,6 @@
 -- `program_calls::print_run` meets its contract: the text stands at the front of the local buffer, and is copied where the lent one has room for it.
 -- Assumes nothing.
-use Rattle.list_laws.proofs.Kit.{◌∙◌, ap, sym, ◌≤◌, ℕ, le_of_eq, arith, length, length-replicate, length-take-le, sets, needs}
+use Rattle.list_laws.proofs.Kit.{◌∙◌, ap, sym, ◌≤◌, ℕ, le_of_eq, arith, length, length-replicate, length-take-le, sets, rules}
 use Rattle.model.specs.Program.{program_text}
 use Rattle.list_laws.proofs.Stores.{sets_filled}
 use Rattle.program_text.specs.Output.{output_bound}
@@ -9,59 +9,59 @@ use Rattle.program_calls.proofs.Printing.{TextLeaves, front_written, leaves_shor
 use Rattle.program_calls.proofs.print_run.Statement.{statement}
 use Rattle.program_calls.proofs.print_run.Tie as tie
 
-slice-relend-prefix-print-text : tie.Need-slice-relend-prefix-print-text
-slice-relend-prefix-print-text c =
-    let used : tie.After-words-used = search in
-    used.words-used.ensures.within
+slice_bounds-print_text-end-2 : tie.Need-slice_bounds-print_text-end-2
+slice_bounds-print_text-end-2 c =
+    let used : tie.After-words_used-used = search in
+    used.words_used-used.ensures.within
 
-slice-aggregate-print-text-2 : tie.Need-slice-aggregate-print-text-2
-slice-aggregate-print-text-2 c =
-    let used : tie.After-words-used = search in
-    sym (length-take-le _ _ used.words-used.ensures.within)
+slice_bounds-print_text-end-3 : tie.Need-slice_bounds-print_text-end-3
+slice_bounds-print_text-end-3 c =
+    let used : tie.After-words_used-used = search in
+    sym (length-take-le _ _ used.words_used-used.ensures.within)
+
+returns-then-output-count : tie.Need-returns-then-output-count
+returns-then-output-count c =
+    let used : tie.After-words_used-used = search in
+    let at-print-text : tie.After-print_text-count = search in
+    let at-start : tie.Start = search in
+    let a = at-start.args in
+    let w = at-print-text.print_text-count.ensures in
+    let end = w.end in
+    let long = c.before.if-output-count.true in
+    let t : TextLeaves a.input.now a.output-1.now (NumberAnswer.Refused c.plain_refusal.result) a.output-1.now =
+    rw c.plain_refusal.ensures (leaves_short a.input.now a.output-1.now (omega arith) w.short) in
+    let left = workspace_left a.input.now (length a.output-1.now) a.workspace-1.now at-print-text.print_text-count.new.1.1.0
+    used.words_used-used.result used.words_used-used.ensures
+    at-print-text.print_text-count.auto.1.1.0 w.short in
+    (t.0, (t.1.0, (left, t.1.1)))
+
+slice_bounds-put_word-end : tie.Need-slice_bounds-put_word-end
+slice_bounds-put_word-end c = sym (length-take-le _ _ (search rules))
 
 returns : tie.Need-returns
 returns c =
-    let used : tie.After-words-used = search in
-    let at-print-text : tie.After-print-text = search in
+    let used : tie.After-words_used-used = search in
+    let at-else1 : tie.Else-output-count = search in
+    let at-print-text : tie.After-print_text-count = search in
     let at-start : tie.Start = search in
     let a = at-start.args in
-    let w = at-print-text.print-text.ensures in
-    let end = w.end in
-    let long = c.before.if1.true in
-    let t : TextLeaves a.input.now a.output.now (NumberAnswer.Refused c.plain-refusal.result) a.output.now =
-    rw c.plain-refusal.ensures (leaves_short a.input.now a.output.now (omega arith) w.short) in
-    let left = workspace_left a.input.now (length a.output.now) a.workspace.now at-print-text.print-text.last.1.1.0
-    used.words-used.result used.words-used.ensures
-    at-print-text.print-text.kept.1.1.0 w.short in
-    (t.0, (t.1.0, (left, t.1.1)))
-
-slice-aggregate-put-word : tie.Need-slice-aggregate-put-word
-slice-aggregate-put-word c = sym (length-take-le _ _ (search needs))
-
-returns-2 : tie.Need-returns-2
-returns-2 c =
-    let used : tie.After-words-used = search in
-    let at-else1 : tie.Else1 = search in
-    let at-print-text : tie.After-print-text = search in
-    let at-start : tie.Start = search in
-    let a = at-start.args in
-    let w = at-print-text.print-text.ensures in
+    let w = at-print-text.print_text-count.ensures in
     let end = w.end in
     let short = w.short in
-    let room = at-else1.if1.left in
-    let fits : length (program_text a.input.now) ≤ length a.output.now = omega arith in
+    let room = at-else1.if-output-count.false in
+    let fits : length (program_text a.input.now) ≤ length a.output-1.now = omega arith in
     let front = front_written _ (program_text a.input.now) output_bound _ _ (le_of_eq (sym (length-replicate {A = ℕ} 4096 0))) w in
-    let put : tie.After-put-word = search in
-    let t = leaves_written a.input.now a.output.now at-print-text.print-text.result put.put_word.last.0 (omega arith)
-    (put.put_word.ensures.1 ∙ ap (sets a.output.now 0) front ∙ sets_filled a.output.now (program_text a.input.now) fits)
+    let put : tie.After-put_word = search in
+    let t = leaves_written a.input.now a.output-1.now at-print-text.print_text-count.result put.put_word.new.0 (omega arith)
+    (put.put_word.ensures.1 ∙ ap (sets a.output-1.now 0) front ∙ sets_filled a.output-1.now (program_text a.input.now) fits)
     (omega arith) (omega arith) in
-    let left = workspace_left a.input.now (length a.output.now) a.workspace.now at-print-text.print-text.last.1.1.0
-    used.words-used.result used.words-used.ensures
-    at-print-text.print-text.kept.1.1.0 short in
+    let left = workspace_left a.input.now (length a.output-1.now) a.workspace-1.now at-print-text.print_text-count.new.1.1.0
+    used.words_used-used.result used.words_used-used.ensures
+    at-print-text.print_text-count.auto.1.1.0 short in
     (t.0, (t.1.0, (left, t.1.1)))
 
-pub print-run-spec : {M : Type 1} → statement M
-print-run-spec =
+pub print_run_spec : {M : Type 1} → statement M
+print_run_spec =
     tie.close (tie.spec
-    (search needs) (search needs) slice-relend-prefix-print-text slice-aggregate-print-text-2 (search needs) (search needs) (search needs) returns
-    (search needs) slice-aggregate-put-word (search needs) (search needs) (search needs) returns-2)
+    (search rules) (search rules) slice_bounds-print_text-end-2 slice_bounds-print_text-end-3 (search rules) (search rules) (search rules)
+    returns-then-output-count (search rules) slice_bounds-put_word-end (search rules) (search rules) (search rules) returns)

@@ -1,6 +1,6 @@
 -- `run_descent::descend` meets its contract. The loop's invariant: the descent is under way, what is left of the budget is what was not made,
 -- and the layout, its table and the kept lines fit each other. What is left of the budget falls. Assumes nothing.
-use Rattle.list_laws.proofs.Kit.{◌∙◌, ◌≡◌, ap, refl, subst, subst₂, sym, List, ◌+◌, ◌-◌, ◌<◌, ℕ, arith, get_or, length, length-map, needs}
+use Rattle.list_laws.proofs.Kit.{◌∙◌, ◌≡◌, ap, refl, subst, subst₂, sym, List, ◌+◌, ◌-◌, ◌<◌, ℕ, arith, get_or, length, length-map, rules}
 use Rattle.model.specs.Layout.{Layout, weighted_sum}
 use Rattle.model.specs.Lent.{Lent, lent_by, job_of}
 use Rattle.model.specs.Buffer.{layout_of}
@@ -20,249 +20,249 @@ use Rattle.run_descent.proofs.Passes.{step_made, Going}
 use Rattle.run_descent.proofs.descend.Statement.{statement}
 use Rattle.run_descent.proofs.descend.Tie as tie
 
-abbrev invariant-loop : tie.invariant-loop
-invariant-loop run table pixels strips starts trials weights budget layout₀ penalties₀ lines₀ maps₀ pieces count at₀ layout penalties lines maps at =
+abbrev invariant-loop-at : tie.invariant-loop-at
+invariant-loop-at run table pixels strips starts trials weights budget layout₀ penalties₀ lines₀ maps₀ pieces count at₀ layout penalties lines maps at =
     Going (lent_by run.size table pixels) run strips starts weights budget (layout_of layout₀) at layout penalties lines maps
     × (length layout ≡ length layout₀)
     × (length penalties ≡ length penalties₀)
     × (length lines ≡ length lines₀)
     × (length maps ≡ length maps₀)
 
-abbrev decreases-loop : tie.decreases-loop
-decreases-loop run table pixels strips starts trials weights budget layout₀ penalties₀ lines₀ maps₀ pieces count at₀ layout penalties lines maps at = budget - at.made
+abbrev decreases-loop-at : tie.decreases-loop-at
+decreases-loop-at run table pixels strips starts trials weights budget layout₀ penalties₀ lines₀ maps₀ pieces count at₀ layout penalties lines maps at = budget - at.made
 
 -- the lent job and the given layout
-abbrev lent : tie.Start invariant-loop decreases-loop → Lent
+abbrev lent : tie.Start invariant-loop-at decreases-loop-at → Lent
 lent e = lent_by e.args.run.size e.args.table.now e.args.pixels.now
 
-abbrev given : tie.Start invariant-loop decreases-loop → Layout
+abbrev given : tie.Start invariant-loop-at decreases-loop-at → Layout
 given e = layout_of e.args.layout.now
 
 -- the trials of the lent job, which the lent list holds
-abbrev jobTrials : tie.Start invariant-loop decreases-loop → List Trial
+abbrev jobTrials : tie.Start invariant-loop-at decreases-loop-at → List Trial
 jobTrials e = trials (job_of (lent e))
 
-lists : (e : tie.Start invariant-loop decreases-loop) → trials_of e.args.trials.now ≡ jobTrials e
-lists e = e.requires.1.1.1.1
+lists : (e : tie.Start invariant-loop-at decreases-loop-at) → trials_of e.args.trials.now ≡ jobTrials e
+lists e = e.requires.fact_2.1.1.1
 
 -- T
-count_is : (e : tie.Start invariant-loop decreases-loop) → length e.args.trials.now ≡ length (jobTrials e)
+count_is : (e : tie.Start invariant-loop-at decreases-loop-at) → length e.args.trials.now ≡ length (jobTrials e)
 count_is e = sym (length-map e.args.trials.now trial_of_code) ∙ ap (λ (ks : List Trial). length ks) (lists e)
 
-total-requires : tie.Need-total-requires invariant-loop decreases-loop
+total-requires : tie.Need-total-requires invariant-loop-at decreases-loop-at
 unfolding job_of
 total-requires c κs =
-    let at-start : tie.Start invariant-loop decreases-loop = search in
+    let at-start : tie.Start invariant-loop-at decreases-loop-at = search in
     record {
-      few = (facts (lent at-start) at-start.pre.0.well).few_pieces;
-      size = at-start.pre.1.1.0.table.size;
-      one_per_pair = at-start.pre.1.0.one_per_pair;
+      few = (facts (lent at-start) at-start.requires.fact_1.well).few_pieces;
+      size = at-start.requires.fact_2.1.0.table.size;
+      one_per_pair = at-start.requires.fact_2.0.one_per_pair;
     }
 
-loop-holds : tie.Need-loop-init invariant-loop decreases-loop
+loop-at-init : tie.Need-loop-at-init invariant-loop-at decreases-loop-at
 unfolding job_of
-loop-holds c =
-    let at-start : tie.Start invariant-loop decreases-loop = search in
+loop-at-init c =
+    let at-start : tie.Start invariant-loop-at decreases-loop-at = search in
     let j = job_of (lent at-start) in
     let v = given at-start in
     let ks = jobTrials at-start in
-    let sum : c.before.total.result ≡ weighted_sum j at-start.args.weights.now v = c.before.total.ensures j v refl at-start.pre.1.1.0.table in
+    let sum : c.before.total.result ≡ weighted_sum j at-start.args.weights.now v = c.before.total.ensures j v refl at-start.requires.fact_2.1.0.table in
     let whole : at-start.args.budget ≡ at-start.args.budget - 0 = omega arith in
-    let first = underway_begin j at-start.args.weights.now ks at-start.args.budget v at-start.pre.1.1.0.valid in
+    let first = underway_begin j at-start.args.weights.now ks at-start.args.budget v at-start.requires.fact_2.1.0.valid in
     let here : Underway j at-start.args.weights.now ks at-start.args.budget v (at-start.args.budget - 0) (begin v) c.before.total.result =
     subst₂ (λ (m n : ℕ). Underway j at-start.args.weights.now ks at-start.args.budget v m (begin v) n) whole (sym sum) first in
-    let under : Underway j at-start.args.weights.now ks at-start.args.budget v (at-start.args.budget - c.beginning.result.made)
-    (standing_as v c.beginning.result) c.beginning.result.sum =
+    let under : Underway j at-start.args.weights.now ks at-start.args.budget v (at-start.args.budget - c.beginning-at.result.made)
+    (standing_as v c.beginning-at.result) c.beginning-at.result.sum =
     subst (λ (s : DescentState).
     Underway j at-start.args.weights.now ks at-start.args.budget v (at-start.args.budget - s.made) (standing_as v s) s.sum)
-    (sym c.beginning.ensures) here in
-    (record { underway = under; laid = at-start.pre.1.1.0; ready = at-start.pre.0 }, refl, refl, refl, refl)
+    (sym c.beginning-at.ensures) here in
+    (record { underway = under; laid = at-start.requires.fact_2.1.0; ready = at-start.requires.fact_1 }, refl, refl, refl, refl)
 
 -- the entry, from the loop's head
-abbrev entry : tie.At-loop invariant-loop decreases-loop → tie.Start invariant-loop decreases-loop
+abbrev entry : tie.At-loop-at invariant-loop-at decreases-loop-at → tie.Start invariant-loop-at decreases-loop-at
 entry c = search
 
 -- what the descent is where it ends with e
-abbrev EndsAs : tie.At-loop invariant-loop decreases-loop → End → Type 0
+abbrev EndsAs : tie.At-loop-at invariant-loop-at decreases-loop-at → End → Type 0
 EndsAs c e =
     descend (job_of (lent (entry c))) (entry c).args.weights.now (entry c).args.budget (given (entry c))
-    ≡ descent_of (record { end = e; sum = c.loop.at.sum; made = c.loop.at.made; moves = c.loop.at.moves }) (layout_of c.loop.layout)
+    ≡ descent_of (record { end = e; sum = c.loop-at.at.sum; made = c.loop-at.at.made; moves = c.loop-at.at.moves }) (layout_of c.loop-at.layout)
 
-same_length : tie.Need-same-length invariant-loop decreases-loop
-same_length c = let at-loop : tie.At-loop invariant-loop decreases-loop = search in at-loop.loop.inv.1
+shape_of-layout-then-at-eq0 : tie.Need-shape_of-layout-then-at-eq0 invariant-loop-at decreases-loop-at
+shape_of-layout-then-at-eq0 c = let at-loop : tie.At-loop-at invariant-loop-at decreases-loop-at = search in at-loop.loop-at.invariant.1
 
-same-length-2 : tie.Need-same-length-2 invariant-loop decreases-loop
-same-length-2 c = let at-loop : tie.At-loop invariant-loop decreases-loop = search in at-loop.loop.inv.2
+shape_of-penalties-then-at-eq0 : tie.Need-shape_of-penalties-then-at-eq0 invariant-loop-at decreases-loop-at
+shape_of-penalties-then-at-eq0 c = let at-loop : tie.At-loop-at invariant-loop-at decreases-loop-at = search in at-loop.loop-at.invariant.2
 
-same-length-3 : tie.Need-same-length-3 invariant-loop decreases-loop
-same-length-3 c = let at-loop : tie.At-loop invariant-loop decreases-loop = search in at-loop.loop.inv.3
+shape_of-lines-then-at-eq0 : tie.Need-shape_of-lines-then-at-eq0 invariant-loop-at decreases-loop-at
+shape_of-lines-then-at-eq0 c = let at-loop : tie.At-loop-at invariant-loop-at decreases-loop-at = search in at-loop.loop-at.invariant.3
 
-same-length-4 : tie.Need-same-length-4 invariant-loop decreases-loop
-same-length-4 c = let at-loop : tie.At-loop invariant-loop decreases-loop = search in at-loop.loop.inv.4
+shape_of-maps-then-at-eq0 : tie.Need-shape_of-maps-then-at-eq0 invariant-loop-at decreases-loop-at
+shape_of-maps-then-at-eq0 c = let at-loop : tie.At-loop-at invariant-loop-at decreases-loop-at = search in at-loop.loop-at.invariant.4
 
-returns : tie.Need-returns invariant-loop decreases-loop
+returns-then-at-eq0 : tie.Need-returns-then-at-eq0 invariant-loop-at decreases-loop-at
 unfolding job_of
-returns c =
-    let at-loop : tie.At-loop invariant-loop decreases-loop = search in
+returns-then-at-eq0 c =
+    let at-loop : tie.At-loop-at invariant-loop-at decreases-loop-at = search in
     let e = entry at-loop in
     let j = job_of (lent e) in
     let is : EndsAs at-loop Clear =
     descend_over j e.args.weights.now e.args.budget (given e)
     ∙ underway_clear j e.args.weights.now (jobTrials e) e.args.budget (given e)
-    (e.args.budget - at-loop.loop.at.made) _ at-loop.loop.at.sum at-loop.loop.inv.0.underway
-    c.before.if1.true in (
-      is ∙ ap (λ (x : Ended). descent_of x (layout_of at-loop.loop.layout)) (sym c.end-at.ensures),
-      (at-loop.loop.inv.0.laid, at-loop.loop.inv.0.ready),
+    (e.args.budget - at-loop.loop-at.at.made) _ at-loop.loop-at.at.sum at-loop.loop-at.invariant.0.underway
+    c.before.if-at-eq0.true in (
+      is ∙ ap (λ (x : Ended). descent_of x (layout_of at-loop.loop-at.layout)) (sym c.end_at.ensures),
+      (at-loop.loop-at.invariant.0.laid, at-loop.loop-at.invariant.0.ready),
     )
 
-same-length-5 : tie.Need-same-length-5 invariant-loop decreases-loop
-same-length-5 c = let at-loop : tie.At-loop invariant-loop decreases-loop = search in at-loop.loop.inv.1
+shape_of-layout-then-at-count : tie.Need-shape_of-layout-then-at-count invariant-loop-at decreases-loop-at
+shape_of-layout-then-at-count c = let at-loop : tie.At-loop-at invariant-loop-at decreases-loop-at = search in at-loop.loop-at.invariant.1
 
-same-length-6 : tie.Need-same-length-6 invariant-loop decreases-loop
-same-length-6 c = let at-loop : tie.At-loop invariant-loop decreases-loop = search in at-loop.loop.inv.2
+shape_of-penalties-then-at-count : tie.Need-shape_of-penalties-then-at-count invariant-loop-at decreases-loop-at
+shape_of-penalties-then-at-count c = let at-loop : tie.At-loop-at invariant-loop-at decreases-loop-at = search in at-loop.loop-at.invariant.2
 
-same-length-7 : tie.Need-same-length-7 invariant-loop decreases-loop
-same-length-7 c = let at-loop : tie.At-loop invariant-loop decreases-loop = search in at-loop.loop.inv.3
+shape_of-lines-then-at-count : tie.Need-shape_of-lines-then-at-count invariant-loop-at decreases-loop-at
+shape_of-lines-then-at-count c = let at-loop : tie.At-loop-at invariant-loop-at decreases-loop-at = search in at-loop.loop-at.invariant.3
 
-same-length-8 : tie.Need-same-length-8 invariant-loop decreases-loop
-same-length-8 c = let at-loop : tie.At-loop invariant-loop decreases-loop = search in at-loop.loop.inv.4
+shape_of-maps-then-at-count : tie.Need-shape_of-maps-then-at-count invariant-loop-at decreases-loop-at
+shape_of-maps-then-at-count c = let at-loop : tie.At-loop-at invariant-loop-at decreases-loop-at = search in at-loop.loop-at.invariant.4
 
-returns-2 : tie.Need-returns-2 invariant-loop decreases-loop
+returns-then-at-count : tie.Need-returns-then-at-count invariant-loop-at decreases-loop-at
 unfolding job_of
-returns-2 c =
-    let at-else1 : tie.Else1 invariant-loop decreases-loop = search in
-    let at-loop : tie.At-loop invariant-loop decreases-loop = search in
+returns-then-at-count c =
+    let at-else1 : tie.Else-at-eq0 invariant-loop-at decreases-loop-at = search in
+    let at-loop : tie.At-loop-at invariant-loop-at decreases-loop-at = search in
     let e = entry at-loop in
     let j = job_of (lent e) in
     let is : EndsAs at-loop Settled =
     descend_over j e.args.weights.now e.args.budget (given e)
     ∙ underway_settled j e.args.weights.now (jobTrials e) e.args.budget (given e)
-    (e.args.budget - at-loop.loop.at.made) _ at-loop.loop.at.sum at-loop.loop.inv.0.underway
-    at-else1.if1.left (c.before.if2.true ∙ count_is e) in (
-      is ∙ ap (λ (x : Ended). descent_of x (layout_of at-loop.loop.layout)) (sym c.end-at2.ensures),
-      (at-loop.loop.inv.0.laid, at-loop.loop.inv.0.ready),
+    (e.args.budget - at-loop.loop-at.at.made) _ at-loop.loop-at.at.sum at-loop.loop-at.invariant.0.underway
+    at-else1.if-at-eq0.false (c.before.if-at-count.true ∙ count_is e) in (
+      is ∙ ap (λ (x : Ended). descent_of x (layout_of at-loop.loop-at.layout)) (sym c.end_at-then-at-count.ensures),
+      (at-loop.loop-at.invariant.0.laid, at-loop.loop-at.invariant.0.ready),
     )
 
-same-length-9 : tie.Need-same-length-9 invariant-loop decreases-loop
-same-length-9 c = let at-loop : tie.At-loop invariant-loop decreases-loop = search in at-loop.loop.inv.1
+shape_of-layout-then-at-budget : tie.Need-shape_of-layout-then-at-budget invariant-loop-at decreases-loop-at
+shape_of-layout-then-at-budget c = let at-loop : tie.At-loop-at invariant-loop-at decreases-loop-at = search in at-loop.loop-at.invariant.1
 
-same-length-10 : tie.Need-same-length-10 invariant-loop decreases-loop
-same-length-10 c = let at-loop : tie.At-loop invariant-loop decreases-loop = search in at-loop.loop.inv.2
+shape_of-penalties-then-at-budget : tie.Need-shape_of-penalties-then-at-budget invariant-loop-at decreases-loop-at
+shape_of-penalties-then-at-budget c = let at-loop : tie.At-loop-at invariant-loop-at decreases-loop-at = search in at-loop.loop-at.invariant.2
 
-same-length-11 : tie.Need-same-length-11 invariant-loop decreases-loop
-same-length-11 c = let at-loop : tie.At-loop invariant-loop decreases-loop = search in at-loop.loop.inv.3
+shape_of-lines-then-at-budget : tie.Need-shape_of-lines-then-at-budget invariant-loop-at decreases-loop-at
+shape_of-lines-then-at-budget c = let at-loop : tie.At-loop-at invariant-loop-at decreases-loop-at = search in at-loop.loop-at.invariant.3
 
-same-length-12 : tie.Need-same-length-12 invariant-loop decreases-loop
-same-length-12 c = let at-loop : tie.At-loop invariant-loop decreases-loop = search in at-loop.loop.inv.4
+shape_of-maps-then-at-budget : tie.Need-shape_of-maps-then-at-budget invariant-loop-at decreases-loop-at
+shape_of-maps-then-at-budget c = let at-loop : tie.At-loop-at invariant-loop-at decreases-loop-at = search in at-loop.loop-at.invariant.4
 
-returns-3 : tie.Need-returns-3 invariant-loop decreases-loop
+returns-then-at-budget : tie.Need-returns-then-at-budget invariant-loop-at decreases-loop-at
 unfolding job_of
-returns-3 c =
-    let at-else2 : tie.Else2 invariant-loop decreases-loop = search in
-    let at-else1 : tie.Else1 invariant-loop decreases-loop = search in
-    let at-loop : tie.At-loop invariant-loop decreases-loop = search in
+returns-then-at-budget c =
+    let at-else2 : tie.Else-at-count invariant-loop-at decreases-loop-at = search in
+    let at-else1 : tie.Else-at-eq0 invariant-loop-at decreases-loop-at = search in
+    let at-loop : tie.At-loop-at invariant-loop-at decreases-loop-at = search in
     let e = entry at-loop in
     let j = job_of (lent e) in
     let is : EndsAs at-loop Spent =
     descend_over j e.args.weights.now e.args.budget (given e)
     ∙ underway_spent j e.args.weights.now (jobTrials e) e.args.budget (given e)
-    (e.args.budget - at-loop.loop.at.made) _ at-loop.loop.at.sum at-loop.loop.inv.0.underway
-    at-else1.if1.left (λ z. at-else2.if2.left (z ∙ sym (count_is e))) (let made = c.before.if3.true in omega arith) in (
-      is ∙ ap (λ (x : Ended). descent_of x (layout_of at-loop.loop.layout)) (sym c.end-at3.ensures),
-      (at-loop.loop.inv.0.laid, at-loop.loop.inv.0.ready),
+    (e.args.budget - at-loop.loop-at.at.made) _ at-loop.loop-at.at.sum at-loop.loop-at.invariant.0.underway
+    at-else1.if-at-eq0.false (λ z. at-else2.if-at-count.false (z ∙ sym (count_is e))) (let made = c.before.if-at-budget.true in omega arith) in (
+      is ∙ ap (λ (x : Ended). descent_of x (layout_of at-loop.loop-at.layout)) (sym c.end_at-then-at-budget.ensures),
+      (at-loop.loop-at.invariant.0.laid, at-loop.loop-at.invariant.0.ready),
     )
 
 -- where none of the three ends is reached there is a trial that comes next
-there : (c : tie.Else2 invariant-loop decreases-loop) →
-    let at-loop : tie.At-loop invariant-loop decreases-loop = search in
-    at-loop.loop.at.next < length (jobTrials (entry at-loop))
+there : (c : tie.Else-at-count invariant-loop-at decreases-loop-at) →
+    let at-loop : tie.At-loop-at invariant-loop-at decreases-loop-at = search in
+    at-loop.loop-at.at.next < length (jobTrials (entry at-loop))
 there c =
-    let at-else1 : tie.Else1 invariant-loop decreases-loop = search in
-    let at-loop : tie.At-loop invariant-loop decreases-loop = search in
+    let at-else1 : tie.Else-at-eq0 invariant-loop-at decreases-loop-at = search in
+    let at-loop : tie.At-loop-at invariant-loop-at decreases-loop-at = search in
     let e = entry at-loop in
-    underway_there (job_of (lent e)) e.args.weights.now (jobTrials e) e.args.budget (given e) (e.args.budget - at-loop.loop.at.made) _
-    at-loop.loop.at.sum at-loop.loop.inv.0.underway at-else1.if1.left (λ z. c.if2.false (z ∙ sym (count_is e)))
+    underway_there (job_of (lent e)) e.args.weights.now (jobTrials e) e.args.budget (given e) (e.args.budget - at-loop.loop-at.at.made) _
+    at-loop.loop-at.at.sum at-loop.loop-at.invariant.0.underway at-else1.if-at-eq0.false (λ z. c.if-at-count.false (z ∙ sym (count_is e)))
 
-step-requires : tie.Need-step-requires invariant-loop decreases-loop
+step-at-requires : tie.Need-step-at-requires invariant-loop-at decreases-loop-at
 unfolding job_of
-step-requires c κs =
-    let at-else3 : tie.Else3 invariant-loop decreases-loop = search in
-    let at-else2 : tie.Else2 invariant-loop decreases-loop = search in
-    let at-loop : tie.At-loop invariant-loop decreases-loop = search in
+step-at-requires c κs =
+    let at-else3 : tie.Else-at-budget invariant-loop-at decreases-loop-at = search in
+    let at-else2 : tie.Else-at-count invariant-loop-at decreases-loop-at = search in
+    let at-loop : tie.At-loop-at invariant-loop-at decreases-loop-at = search in
     let e = entry at-loop in
-    let u = at-loop.loop.inv.0.underway in
+    let u = at-loop.loop-at.invariant.0.underway in
     let within = u.counted in
-    let differs = at-else3.if3.left in
-    let most = e.pre.1.1.1.0 in
-    let unsettled = at-else2.if2.left in
+    let differs = at-else3.if-at-budget.false in
+    let most = e.requires.fact_2.1.1.0 in
+    let unsettled = at-else2.if-at-count.false in
     let count = count_is e in
     let quiet = u.quiet_few in
     let next = there at-else2 in
-    let proper = subst (λ (ks : List Trial). Proper (job_of (lent e)) 0 e.args.run.size.count (get_or ks at-loop.loop.at.next no_trial)) (sym (lists e))
-    (trial_proper (job_of (lent e)) at-loop.loop.at.next next) in (
-      at-loop.loop.inv.0.ready,
-      (e.pre.1.0, (at-loop.loop.inv.0.laid, (proper, (u.sum_is, (omega arith, (omega arith, (u.moves_made, omega arith))))))),
+    let proper = subst (λ (ks : List Trial). Proper (job_of (lent e)) 0 e.args.run.size.count (get_or ks at-loop.loop-at.at.next no_trial)) (sym (lists e))
+    (trial_proper (job_of (lent e)) at-loop.loop-at.at.next next) in (
+      at-loop.loop-at.invariant.0.ready,
+      (e.requires.fact_2.0, (at-loop.loop-at.invariant.0.laid, (proper, (u.sum_is, (omega arith, (omega arith, (u.moves_made, omega arith))))))),
     )
 
 -- the loop's head, from where a step was taken
-abbrev head : tie.After-step invariant-loop decreases-loop → tie.At-loop invariant-loop decreases-loop
+abbrev head : tie.After-step-at invariant-loop-at decreases-loop-at → tie.At-loop-at invariant-loop-at decreases-loop-at
 head c = search
 
 -- the step is the one over the job's trials
-stepped : (c : tie.After-step invariant-loop decreases-loop)
-    → standing_as (layout_of c.step.new.1.1.1.1.1.1.1.1.0) c.step.result
+stepped : (c : tie.After-step-at invariant-loop-at decreases-loop-at)
+    → standing_as (layout_of c.step-at.new.1.1.1.1.1.1.1.1.0) c.step-at.result
     ≡ step (weighted_sum (job_of (lent (entry (head c)))) (entry (head c)).args.weights.now)
     (attempt (job_of (lent (entry (head c)))) (entry (head c)).args.weights.now) (jobTrials (entry (head c)))
-    (standing_as (layout_of (head c).loop.layout) (head c).loop.at)
+    (standing_as (layout_of (head c).loop-at.layout) (head c).loop-at.at)
 stepped c =
-    let p = (head c).loop in
+    let p = (head c).loop-at in
     let e = entry (head c) in
-    c.step.ensures.0
+    c.step-at.ensures.passed
     ∙ ap (λ (ks : List Trial). step (weighted_sum (job_of (lent e)) e.args.weights.now) (attempt (job_of (lent e)) e.args.weights.now) ks
-    (standing_as (layout_of p.layout) p.at)) (lists e)
+    (standing_as (layout_of p.layout-1) p.at)) (lists e)
 
 -- a step makes one trial
-made_one : (c : tie.After-step invariant-loop decreases-loop) → c.step.result.made ≡ (head c).loop.at.made + 1
+made_one : (c : tie.After-step-at invariant-loop-at decreases-loop-at) → c.step-at.result.made ≡ (head c).loop-at.at.made + 1
 made_one c =
-    let p = (head c).loop in
+    let p = (head c).loop-at in
     let e = entry (head c) in
     ap (λ (s : Progress). s.made) (stepped c)
     ∙ step_made (weighted_sum (job_of (lent e)) e.args.weights.now) (attempt (job_of (lent e)) e.args.weights.now) (jobTrials e)
-    (standing_as (layout_of p.layout) p.at)
+    (standing_as (layout_of p.layout-1) p.at)
 
-loop-less : tie.Need-loop-smaller invariant-loop decreases-loop
+loop-at-smaller : tie.Need-loop-at-smaller invariant-loop-at decreases-loop-at
 unfolding job_of
-loop-less c =
-    let at-step : tie.After-step invariant-loop decreases-loop = search in
-    let at-else3 : tie.Else3 invariant-loop decreases-loop = search in
-    let at-loop : tie.At-loop invariant-loop decreases-loop = search in
-    let within = at-loop.loop.inv.0.underway.counted in
-    let differs = at-else3.if3.left in
+loop-at-smaller c =
+    let at-step : tie.After-step-at invariant-loop-at decreases-loop-at = search in
+    let at-else3 : tie.Else-at-budget invariant-loop-at decreases-loop-at = search in
+    let at-loop : tie.At-loop-at invariant-loop-at decreases-loop-at = search in
+    let within = at-loop.loop-at.invariant.0.underway.counted in
+    let differs = at-else3.if-at-budget.false in
     let one = made_one (at-step) in
     omega arith
 
-loop-again : tie.Need-loop-preserved invariant-loop decreases-loop
+loop-at-preserved : tie.Need-loop-at-preserved invariant-loop-at decreases-loop-at
 unfolding job_of
-loop-again c =
-    let at-step : tie.After-step invariant-loop decreases-loop = search in
-    let at-else3 : tie.Else3 invariant-loop decreases-loop = search in
-    let at-else2 : tie.Else2 invariant-loop decreases-loop = search in
-    let at-else1 : tie.Else1 invariant-loop decreases-loop = search in
-    let at-loop : tie.At-loop invariant-loop decreases-loop = search in
+loop-at-preserved c =
+    let at-step : tie.After-step-at invariant-loop-at decreases-loop-at = search in
+    let at-else3 : tie.Else-at-budget invariant-loop-at decreases-loop-at = search in
+    let at-else2 : tie.Else-at-count invariant-loop-at decreases-loop-at = search in
+    let at-else1 : tie.Else-at-eq0 invariant-loop-at decreases-loop-at = search in
+    let at-loop : tie.At-loop-at invariant-loop-at decreases-loop-at = search in
     let e = entry at-loop in
     let j = job_of (lent e) in
-    let s = at-step.step in
+    let s = at-step.step-at in
     let new = s.last.1.1.1.1.1.1.1.1.0 in
-    let left = e.args.budget - at-loop.loop.at.made in
-    let within = at-loop.loop.inv.0.underway.counted in
-    let differs = at-else3.if3.left in
+    let left = e.args.budget - at-loop.loop-at.at.made in
+    let within = at-loop.loop-at.invariant.0.underway.counted in
+    let differs = at-else3.if-at-budget.false in
     let one = made_one (at-step) in
     let rest : left - 1 ≡ e.args.budget - s.result.made = omega arith in
     let pass : Underway j e.args.weights.now (jobTrials e) e.args.budget (given e) (left - 1)
     (standing_as (layout_of new) s.result) s.result.sum =
-    underway_pass j e.args.weights.now (jobTrials e) e.args.budget (given e) left _ at-loop.loop.at.sum
-    at-loop.loop.inv.0.underway
-    at-else1.if1.left (λ z. at-else2.if2.left (z ∙ sym (count_is e))) (omega arith) _ s.result.sum (stepped at-step) s.ensures.1.0
+    underway_pass j e.args.weights.now (jobTrials e) e.args.budget (given e) left _ at-loop.loop-at.at.sum
+    at-loop.loop-at.invariant.0.underway
+    at-else1.if-at-eq0.false (λ z. at-else2.if-at-count.false (z ∙ sym (count_is e))) (omega arith) _ s.result.sum (stepped at-step) s.ensures.1.0
     s.ensures.1.1.0.valid in
     let under : Underway j e.args.weights.now (jobTrials e) e.args.budget (given e) (e.args.budget - s.result.made)
     (standing_as (layout_of new) s.result)
@@ -270,15 +270,17 @@ loop-again c =
     subst (λ (n : ℕ). Underway j e.args.weights.now (jobTrials e) e.args.budget (given e) n (standing_as (layout_of new) s.result) s.result.sum)
     rest pass in (
       record { underway = under; laid = s.ensures.1.1.0; ready = s.ensures.1.1.1 },
-      s.kept.1.1.1.1.1.1.1.1.0 ∙ at-loop.loop.inv.1,
-      s.kept.1.1.1.1.1.1.1.1.1.0 ∙ at-loop.loop.inv.2,
-      s.kept.1.1.1.1.1.1.1.1.1.1.0 ∙ at-loop.loop.inv.3,
-      s.kept.1.1.1.1.1.1.1.1.1.1.1.0 ∙ at-loop.loop.inv.4,
+      s.kept.1.1.1.1.1.1.1.1.0 ∙ at-loop.loop-at.invariant.1,
+      s.kept.1.1.1.1.1.1.1.1.1.0 ∙ at-loop.loop-at.invariant.2,
+      s.kept.1.1.1.1.1.1.1.1.1.1.0 ∙ at-loop.loop-at.invariant.3,
+      s.kept.1.1.1.1.1.1.1.1.1.1.1.0 ∙ at-loop.loop-at.invariant.4,
     )
 
-pub descend-spec : {M : Type 1} → statement M
-descend-spec =
+pub descend_spec : {M : Type 1} → statement M
+descend_spec =
     tie.close (tie.spec
-    invariant-loop decreases-loop total-requires (search needs) loop-holds (search needs) same_length same-length-2 same-length-3 same-length-4 returns
-    (search needs) same-length-5 same-length-6 same-length-7 same-length-8 returns-2 (search needs) same-length-9 same-length-10 same-length-11
-    same-length-12 returns-3 step-requires loop-less loop-again)
+    invariant-loop-at decreases-loop-at total-requires (search rules) loop-at-init (search rules) shape_of-layout-then-at-eq0
+    shape_of-penalties-then-at-eq0 shape_of-lines-then-at-eq0 shape_of-maps-then-at-eq0 returns-then-at-eq0 (search rules)
+    shape_of-layout-then-at-count shape_of-penalties-then-at-count shape_of-lines-then-at-count shape_of-maps-then-at-count returns-then-at-count
+    (search rules) shape_of-layout-then-at-budget shape_of-penalties-then-at-budget shape_of-lines-then-at-budget shape_of-maps-then-at-budget
+    returns-then-at-budget step-at-requires loop-at-smaller loop-at-preserved)

@@ -1,6 +1,6 @@
 -- `run_descent_calls::descent` meets its contract: a cause refuses and nothing is written, else the descent is the job's, and demand 3 holds of it.
 -- Assumes nothing.
-use Rattle.list_laws.proofs.Kit.{◌∙◌, ◌≡◌, ap, sym, false, ℕ, arith, ltb, needs}
+use Rattle.list_laws.proofs.Kit.{◌∙◌, ◌≡◌, ap, sym, false, ℕ, arith, ltb, rules}
 use Rattle.model.specs.Lent.{Lent, lent_by}
 use Rattle.model.specs.Calls.{budget_bound, descent_after}
 use Rattle.text_laws.specs.Outcomes.{NoCause}
@@ -18,28 +18,28 @@ abbrev lent : tie.Start → Lent
 lent e = lent_by e.args.size e.args.table.now e.args.pixels.now
 
 -- no cause is there
-none : (c : tie.After-enum-told)
+none : (c : tie.In-Done)
     →
     let at-start : tie.Start = search in
     NoCause (weighted_causes (lent (at-start)) at-start.args.layout.now at-start.args.weights.now (ltb budget_bound at-start.args.budget) false)
-none c = passed_none _ (sym c.enum_told.given.1 ∙ c.before.before.weighted-causes.ensures)
+none c = passed_none _ (sym c.enum_told-1.given.1 ∙ c.before.before.weighted_causes.ensures)
 
-run-alone-requires : tie.Need-run-alone-requires
-run-alone-requires c κs =
-    let at-write-entries : tie.After-write-entries = search in
-    let at-enum-told : tie.After-enum-told = search in
+run_alone-requires : tie.Need-run_alone-requires
+run_alone-requires c κs =
+    let at-write-entries : tie.After-write_entries = search in
+    let at-enum-told : tie.In-Done = search in
     let at-start : tie.Start = search in (
       run_given (lent at-start) at-start.args.layout.now at-start.args.weights.now (ltb budget_bound at-start.args.budget) (none at-enum-told) _
           at-write-entries.write_entries.ensures,
       few_trials (lent at-start) at-start.args.layout.now at-start.args.weights.now at-start.args.budget (none at-enum-told),
     )
 
-returns : tie.Need-returns
-returns c =
-    let at-weighted-causes : tie.After-weighted-causes = search in
+returns-in-Refused : tie.Need-returns-in-Refused
+returns-in-Refused c =
+    let at-weighted-causes : tie.After-weighted_causes = search in
     let at-start : tie.Start = search in
     let no = call_refused (lent at-start) at-start.args.layout.now at-start.args.weights.now at-start.args.budget _
-    (sym c.before.refusal.given.1 ∙ at-weighted-causes.weighted-causes.ensures) in (
+    (sym c.before.refusal-1.given.1 ∙ at-weighted-causes.weighted_causes.ensures) in (
       sym (ap descent_answer no),
       (
         sym (ap (descent_after at-start.args.layout.now) no),
@@ -47,12 +47,12 @@ returns c =
       ),
     )
 
-returns-2 : tie.Need-returns-2
-returns-2 c =
-    let at-write-entries : tie.After-write-entries = search in
-    let at-enum-told : tie.After-enum-told = search in
+returns-in-Done : tie.Need-returns-in-Done
+returns-in-Done c =
+    let at-write-entries : tie.After-write_entries = search in
+    let at-enum-told : tie.In-Done = search in
     let at-start : tie.Start = search in
-    let ran : tie.After-run-alone = search in
+    let ran : tie.After-run_alone = search in
     let r = ran.run_alone in
     let new = r.last.1.1.1.1.1.0 in
     let again = at-write-entries.write_entries.ensures in
@@ -67,7 +67,8 @@ returns-2 c =
       ),
     )
 
-pub descent-spec : {M : Type 1} → statement M
-descent-spec =
+pub descent_spec : {M : Type 1} → statement M
+descent_spec =
     tie.close (tie.spec
-    (search needs) (search needs) (search needs) (search needs) run-alone-requires (search needs) returns (search needs) (search needs) returns-2)
+    (search rules) (search rules) (search rules) (search rules) run_alone-requires (search rules) returns-in-Refused (search rules) (search rules)
+    returns-in-Done)

@@ -1,6 +1,6 @@
 -- `run_guided_calls::guided_run` meets its contract: a cause refuses and nothing is written, else the run is the model's, and demand 3's claims hold of it.
 -- Assumes nothing.
-use Rattle.list_laws.proofs.Kit.{◌∙◌, ◌≡◌, ap, sym, false, ℕ, arith, needs}
+use Rattle.list_laws.proofs.Kit.{◌∙◌, ◌≡◌, ap, sym, false, ℕ, arith, rules}
 use Rattle.model.specs.Lent.{Lent, lent_by}
 use Rattle.model.specs.Calls.{best_after_run, weights_after_run}
 use Rattle.text_laws.specs.Outcomes.{NoCause}
@@ -14,82 +14,82 @@ use Rattle.run_guided_calls.proofs.Calls.{call_refused, few_rounds, few_trials, 
 use Rattle.run_guided_calls.proofs.guided_run.Statement.{statement}
 use Rattle.run_guided_calls.proofs.guided_run.Tie as tie
 
-run-rounds-requires : tie.Need-run-rounds-requires
-run-rounds-requires c κs =
-    let at-write-entries : tie.After-write-entries = search in
-    let at-enum-told : tie.After-enum-told = search in
-    let at-weighted-causes : tie.After-weighted-causes = search in
-    let at-numbers-wrong : tie.After-numbers-wrong = search in
+run_rounds-requires : tie.Need-run_rounds-requires
+run_rounds-requires c κs =
+    let at-write-entries : tie.After-write_entries = search in
+    let at-enum-told : tie.In-Done = search in
+    let at-weighted-causes : tie.After-weighted_causes = search in
+    let at-numbers-wrong : tie.After-numbers_wrong = search in
     let at-start : tie.Start = search in
     let a = at-start.args in
     let l : Lent = lent_by a.size a.table.now a.pixels.now in
-    let none : NoCause (weighted_causes l a.layout.now a.weights.now (numbers_wrong a.rounds a.budget) false) =
+    let none : NoCause (weighted_causes l a.layout-1.now a.weights-1.now (numbers_wrong a.rounds a.budget) false) =
     passed_none _
-    (sym at-enum-told.enum_told.given.1 ∙ at-weighted-causes.weighted-causes.ensures
-    ∙ ap (λ b. first_cause (weighted_causes l a.layout.now a.weights.now b false)) at-numbers-wrong.numbers-wrong.ensures) in (
-      run_given l a.layout.now a.weights.now (numbers_wrong a.rounds a.budget) none at-write-entries.write_entries.last.0
+    (sym at-enum-told.enum_told-1.given.1 ∙ at-weighted-causes.weighted_causes.ensures
+    ∙ ap (λ b. first_cause (weighted_causes l a.layout-1.now a.weights-1.now b false)) at-numbers-wrong.numbers_wrong.ensures) in (
+      run_given l a.layout-1.now a.weights-1.now (numbers_wrong a.rounds a.budget) none at-write-entries.write_entries.new.0
           at-write-entries.write_entries.ensures,
       record {
-        rounds = few_rounds l a.layout.now a.weights.now a.rounds a.budget none;
-        budget = few_trials l a.layout.now a.weights.now a.rounds a.budget none;
+        rounds = few_rounds l a.layout-1.now a.weights-1.now a.rounds a.budget none;
+        budget = few_trials l a.layout-1.now a.weights-1.now a.rounds a.budget none;
       },
     )
 
-returns : tie.Need-returns
-returns c =
-    let at-weighted-causes : tie.After-weighted-causes = search in
-    let at-numbers-wrong : tie.After-numbers-wrong = search in
+returns-in-Refused : tie.Need-returns-in-Refused
+returns-in-Refused c =
+    let at-weighted-causes : tie.After-weighted_causes = search in
+    let at-numbers-wrong : tie.After-numbers_wrong = search in
     let at-start : tie.Start = search in
     let a = at-start.args in
     let l : Lent = lent_by a.size a.table.now a.pixels.now in
     let no =
-    call_refused l a.layout.now a.weights.now a.rounds a.budget _
-    (sym c.before.refusal.given.1 ∙ at-weighted-causes.weighted-causes.ensures
-    ∙ ap (λ b. first_cause (weighted_causes l a.layout.now a.weights.now b false)) at-numbers-wrong.numbers-wrong.ensures) in (
+    call_refused l a.layout-1.now a.weights-1.now a.rounds a.budget _
+    (sym c.before.refusal-1.given.1 ∙ at-weighted-causes.weighted_causes.ensures
+    ∙ ap (λ b. first_cause (weighted_causes l a.layout-1.now a.weights-1.now b false)) at-numbers-wrong.numbers_wrong.ensures) in (
       sym (ap guided_answer no),
       (
-        sym (ap (best_after_run a.layout.now) no),
+        sym (ap (best_after_run a.layout-1.now) no),
         (
-          sym (ap (weights_after_run a.weights.now) no),
-          (left_refused _ _ a.workspace.now no, λ run same. absurd (let z : ◌≡◌ {A = ℕ} 0 1 = cc in omega arith)),
+          sym (ap (weights_after_run a.weights-1.now) no),
+          (left_refused _ _ a.workspace-1.now no, λ run same. absurd (let z : ◌≡◌ {A = ℕ} 0 1 = cc in omega arith)),
         ),
       ),
     )
 
-returns-2 : tie.Need-returns-2
-returns-2 c =
-    let at-run-rounds : tie.After-run-rounds = search in
-    let at-write-entries : tie.After-write-entries = search in
-    let at-enum-told : tie.After-enum-told = search in
-    let at-weighted-causes : tie.After-weighted-causes = search in
-    let at-numbers-wrong : tie.After-numbers-wrong = search in
+returns-in-Done : tie.Need-returns-in-Done
+returns-in-Done c =
+    let at-run-rounds : tie.After-run_rounds = search in
+    let at-write-entries : tie.After-write_entries = search in
+    let at-enum-told : tie.In-Done = search in
+    let at-weighted-causes : tie.After-weighted_causes = search in
+    let at-numbers-wrong : tie.After-numbers_wrong = search in
     let at-start : tie.Start = search in
     let a = at-start.args in
     let l : Lent = lent_by a.size a.table.now a.pixels.now in
-    let none : NoCause (weighted_causes l a.layout.now a.weights.now (numbers_wrong a.rounds a.budget) false) =
+    let none : NoCause (weighted_causes l a.layout-1.now a.weights-1.now (numbers_wrong a.rounds a.budget) false) =
     passed_none _
-    (sym at-enum-told.enum_told.given.1 ∙ at-weighted-causes.weighted-causes.ensures
-    ∙ ap (λ b. first_cause (weighted_causes l a.layout.now a.weights.now b false)) at-numbers-wrong.numbers-wrong.ensures) in
+    (sym at-enum-told.enum_told-1.given.1 ∙ at-weighted-causes.weighted_causes.ensures
+    ∙ ap (λ b. first_cause (weighted_causes l a.layout-1.now a.weights-1.now b false)) at-numbers-wrong.numbers_wrong.ensures) in
     let written = at-write-entries.write_entries in
-    let ran = at-run-rounds.run-rounds in
-    let is = call_given l a.layout.now a.weights.now a.rounds a.budget none written.last.0 written.ensures ran.result
+    let ran = at-run-rounds.run_rounds in
+    let is = call_given l a.layout-1.now a.weights-1.now a.rounds a.budget none written.last.0 written.ensures ran.result
     ran.last.1.1.1.1.0 ran.last.1.1.1.1.1.0 ran.ensures in (
       sym (ap guided_answer is),
       (
-        sym (ap (best_after_run a.layout.now) is ∙ ran.ensures.written),
+        sym (ap (best_after_run a.layout-1.now) is ∙ ran.ensures.written),
         (
-          sym (ap (weights_after_run a.weights.now) is),
+          sym (ap (weights_after_run a.weights-1.now) is),
           (
-            left_given _ _ a.workspace.now ran.last.1.1.1.1.1.1.0 is ran.kept.1.1.1.1.1.1.0,
-            call_claims l a.layout.now a.weights.now a.rounds a.budget none written.last.0 written.ensures ran.result
+            left_given _ _ a.workspace-1.now ran.last.1.1.1.1.1.1.0 is ran.kept.1.1.1.1.1.1.0,
+            call_claims l a.layout-1.now a.weights-1.now a.rounds a.budget none written.last.0 written.ensures ran.result
                 ran.last.1.1.1.1.0 ran.last.1.1.1.1.1.0 ran.ensures,
           ),
         ),
       ),
     )
 
-pub guided-run-spec : {M : Type 1} → statement M
-guided-run-spec =
+pub guided_run_spec : {M : Type 1} → statement M
+guided_run_spec =
     tie.close (tie.spec
-    (search needs) (search needs) (search needs) (search needs) (search needs) run-rounds-requires (search needs) (search needs) returns
-    (search needs) (search needs) (search needs) returns-2)
+    (search rules) (search rules) (search rules) (search rules) (search rules) run_rounds-requires (search rules) (search rules) returns-in-Refused
+    (search rules) (search rules) (search rules) returns-in-Done)

@@ -5,26 +5,27 @@ use Rattle.list_laws.proofs.Tests.{same_tests}
 use Rattle.run_guided_calls.proofs.numbers_wrong.Statement.{statement}
 use Rattle.run_guided_calls.proofs.numbers_wrong.Tie as tie
 
-returns : tie.Need-returns
-returns c = let large : ltb budget_bound c.before.args.budget ≡ true = lt-ltb _ _ c.if1.true in rw large
+returns-then-budget-gt-BUDGET_BOUND : tie.Need-returns-then-budget-gt-BUDGET_BOUND
+returns-then-budget-gt-BUDGET_BOUND c = let large : ltb budget_bound c.before.args.budget ≡ true = lt-ltb _ _ c.if-budget-gt-BUDGET_BOUND.true in rw large
 
-returns-2 : tie.Need-returns-2
-returns-2 c =
+returns-then-rounds-eq0 : tie.Need-returns-then-rounds-eq0
+returns-then-rounds-eq0 c =
     let a = c.before.before.args in
-    let small : ltb budget_bound a.budget ≡ false = le-ltb _ _ c.before.if1.false in
-    let none : leb 1 a.rounds ≡ false = let e = c.if2.true in lt-leb 1 a.rounds (omega arith) in
+    let small : ltb budget_bound a.budget ≡ false = le-ltb _ _ c.before.if-budget-gt-BUDGET_BOUND.false in
+    let none : leb 1 a.rounds ≡ false = let e = c.if-rounds-eq0.true in lt-leb 1 a.rounds (omega arith) in
     rw (small, none)
 
-returns-3 : tie.Need-returns-3
-returns-3 c =
+returns : tie.Need-returns
+returns c =
     let a = c.before.before.args in
-    let small : ltb budget_bound a.budget ≡ false = le-ltb _ _ c.before.if1.false in
-    let other = c.if2.false in
+    let small : ltb budget_bound a.budget ≡ false = le-ltb _ _ c.before.if-budget-gt-BUDGET_BOUND.false in
+    let other = c.if-rounds-eq0.false in
     let some : leb 1 a.rounds ≡ true = le-leb 1 a.rounds (omega arith) in
     rw (small, some)
     (same_tests (ltb round_bound a.rounds) (not (leb a.rounds round_bound))
     (λ e. ap not (lt-leb a.rounds round_bound (ltb-true round_bound a.rounds e)))
     (λ e. lt-ltb round_bound a.rounds (leb-false a.rounds round_bound (not-true _ e))))
 
-pub numbers-wrong-spec : {M : Type 1} → statement M
-numbers-wrong-spec = tie.close (tie.spec returns returns-2 returns-3)
+pub numbers_wrong_spec : {M : Type 1} → statement M
+numbers_wrong_spec = tie.close (tie.spec
+    returns-then-budget-gt-BUDGET_BOUND returns-then-rounds-eq0 returns)

@@ -1,13 +1,14 @@
 -- `run_step::place_on` meets its contract, by the line. Assumes nothing.
-use Rattle.list_laws.proofs.Kit.{needs}
+use Rattle.list_laws.proofs.Kit.{rules}
 use Rattle.run_step.proofs.place_on.Statement.{statement}
 use Rattle.run_step.proofs.place_on.Tie as tie
 
-returns : tie.Need-returns
-returns c = rw c.before.line.given.1
+returns-in-InRow : tie.Need-returns-in-InRow
+returns-in-InRow c = rw c.before.line-1.given.1
 
-returns-2 : tie.Need-returns-2
-returns-2 c = rw c.before.line2.given.1
+returns-in-InColumn : tie.Need-returns-in-InColumn
+returns-in-InColumn c = rw c.before.line-in-InColumn-1.given.1
 
-pub place-on-spec : {M : Type 1} → statement M
-place-on-spec = tie.close (tie.spec (search needs) (search needs) (search needs) returns returns-2)
+pub place_on_spec : {M : Type 1} → statement M
+place_on_spec = tie.close (tie.spec
+    (search rules) (search rules) (search rules) returns-in-InRow returns-in-InColumn)

@@ -5,12 +5,13 @@ use Rattle.run_trials.proofs.Listing.{direction_last}
 use Rattle.run_trials.proofs.direction_at.Statement.{statement}
 use Rattle.run_trials.proofs.direction_at.Tie as tie
 
-returns : tie.Need-returns
+returns-then-place-eq0 : tie.Need-returns-then-place-eq0
 unfolding direction_at
-returns c = rw c.if1.true
+returns-then-place-eq0 c = rw c.if-place-eq0.true
 
-returns-2 : tie.Need-returns-2
-returns-2 c = sym (direction_last _ c.if1.false)
+returns : tie.Need-returns
+returns c = sym (direction_last _ c.if-place-eq0.false)
 
-pub direction-at-spec : {M : Type 1} → statement M
-direction-at-spec = tie.close (tie.spec returns returns-2)
+pub direction_at_spec : {M : Type 1} → statement M
+direction_at_spec = tie.close (tie.spec
+    returns-then-place-eq0 returns)

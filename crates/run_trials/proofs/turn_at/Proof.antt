@@ -4,20 +4,21 @@ use Rattle.run_trials.proofs.Listing.{turn_last}
 use Rattle.run_trials.proofs.turn_at.Statement.{statement}
 use Rattle.run_trials.proofs.turn_at.Tie as tie
 
-returns : tie.Need-returns
+returns-in-0 : tie.Need-returns-in-0
 unfolding turn_at
-returns c = rw c.match.keys1
+returns-in-0 c = rw c.in-0.keys1
 
-returns-2 : tie.Need-returns-2
+returns-in-1 : tie.Need-returns-in-1
 unfolding turn_at
-returns-2 c = rw c.match.keys2
+returns-in-1 c = rw c.in-0.keys2
 
-returns-3 : tie.Need-returns-3
+returns-in-2 : tie.Need-returns-in-2
 unfolding turn_at
-returns-3 c = rw c.match.keys3
+returns-in-2 c = rw c.in-0.keys3
 
-returns-4 : tie.Need-returns-4
-returns-4 c = rw (turn_last _ c.match.rest.0.0.1 c.match.rest.0.1 c.match.rest.1)
+returns-in_default : tie.Need-returns-in_default
+returns-in_default c = rw (turn_last _ c.in-0.rest.0.0.1 c.in-0.rest.0.1 c.in-0.rest.1)
 
-pub turn-at-spec : {M : Type 1} → statement M
-turn-at-spec = tie.close (tie.spec returns returns-2 returns-3 returns-4)
+pub turn_at_spec : {M : Type 1} → statement M
+turn_at_spec = tie.close (tie.spec
+    returns-in-0 returns-in-1 returns-in-2 returns-in_default)

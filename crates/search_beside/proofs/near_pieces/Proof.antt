@@ -8,78 +8,79 @@ use Rattle.search_beside.proofs.Near.{near_none, near_more}
 use Rattle.search_beside.proofs.near_pieces.Statement.{statement}
 use Rattle.search_beside.proofs.near_pieces.Tie as tie
 
-abbrev invariant-loop : tie.invariant-loop
-invariant-loop size table layout mover track near₀ k₀ near k =
+abbrev invariant-loop-k : tie.invariant-loop-k
+invariant-loop-k size table layout mover track near₀ k₀ near k =
     (k ≤ size.count)
     × ((pixels : List ℕ) → OnTrack (lent_by size table pixels) mover track → NearTold (job_of (lent_by size table pixels)) (layout_of layout) mover k near)
 
-abbrev decreases-loop : tie.decreases-loop
-decreases-loop size table layout mover track near₀ k₀ near k = size.count - k
+abbrev decreases-loop-k : tie.decreases-loop-k
+decreases-loop-k size table layout mover track near₀ k₀ near k = size.count - k
 
-loop-holds : tie.Need-loop-init invariant-loop decreases-loop
-loop-holds c = (omega arith, λ pixels on. near_none _ _ _)
+loop-k-init : tie.Need-loop-k-init invariant-loop-k decreases-loop-k
+loop-k-init c = (omega arith, λ pixels on. near_none _ _ _)
 
-near-bit-requires : tie.Need-near-bit-requires invariant-loop decreases-loop
-near-bit-requires c κs =
-    let at-start : tie.Start invariant-loop decreases-loop = search in
-    let at_in : tie.Then1 invariant-loop decreases-loop = search in
-    let p = at-start.pre.1.0 in
-    let t = at_in.if1.taken in
-    (at-start.pre.0, ((omega arith, omega arith), at-start.pre.1.1))
+near_bit-requires : tie.Need-near_bit-requires invariant-loop-k decreases-loop-k
+near_bit-requires c κs =
+    let at-start : tie.Start invariant-loop-k decreases-loop-k = search in
+    let at_in : tie.In-loop-k invariant-loop-k decreases-loop-k = search in
+    let p = at-start.requires.fact_2.0 in
+    let t = at_in.loop-k-test.true in
+    (at-start.requires.fact_1, ((omega arith, omega arith), at-start.requires.fact_2.1))
 
-shl-near : tie.Need-overflow-shl-near invariant-loop decreases-loop
-shl-near c =
-    let at-start : tie.Start invariant-loop decreases-loop = search in
-    let at_in : tie.Then1 invariant-loop decreases-loop = search in
-    let p = at-start.pre.1.0 in
-    let t = at_in.if1.taken in
+overflow_shl-near : tie.Need-overflow_shl-near invariant-loop-k decreases-loop-k
+overflow_shl-near c =
+    let at-start : tie.Start invariant-loop-k decreases-loop-k = search in
+    let at_in : tie.In-loop-k invariant-loop-k decreases-loop-k = search in
+    let p = at-start.requires.fact_2.0 in
+    let t = at_in.loop-k-test.true in
     omega arith
 
-add-k : tie.Need-overflow-add-k invariant-loop decreases-loop
-add-k c =
-    let at-start : tie.Start invariant-loop decreases-loop = search in
-    let at_in : tie.Then1 invariant-loop decreases-loop = search in
-    let p = at-start.pre.1.0 in
-    let t = at_in.if1.taken in
+overflow_add-k : tie.Need-overflow_add-k invariant-loop-k decreases-loop-k
+overflow_add-k c =
+    let at-start : tie.Start invariant-loop-k decreases-loop-k = search in
+    let at_in : tie.In-loop-k invariant-loop-k decreases-loop-k = search in
+    let p = at-start.requires.fact_2.0 in
+    let t = at_in.loop-k-test.true in
     omega arith
 
-loop-less : tie.Need-loop-smaller invariant-loop decreases-loop
-loop-less c =
-    let at_in : tie.Then1 invariant-loop decreases-loop = search in
-    let t = at_in.if1.taken in
+loop-k-smaller : tie.Need-loop-k-smaller invariant-loop-k decreases-loop-k
+loop-k-smaller c =
+    let at_in : tie.In-loop-k invariant-loop-k decreases-loop-k = search in
+    let t = at_in.loop-k-test.true in
     omega arith
 
-loop-again : tie.Need-loop-preserved invariant-loop decreases-loop
-loop-again c =
-    let at-start : tie.Start invariant-loop decreases-loop = search in
-    let at-loop : tie.At-loop invariant-loop decreases-loop = search in
-    let at_in : tie.Then1 invariant-loop decreases-loop = search in
-    let at-near-bit : tie.After-near-bit invariant-loop decreases-loop = search in
+loop-k-preserved : tie.Need-loop-k-preserved invariant-loop-k decreases-loop-k
+loop-k-preserved c =
+    let at-start : tie.Start invariant-loop-k decreases-loop-k = search in
+    let at-loop : tie.At-loop-k invariant-loop-k decreases-loop-k = search in
+    let at_in : tie.In-loop-k invariant-loop-k decreases-loop-k = search in
+    let at-near-bit : tie.After-near_bit invariant-loop-k decreases-loop-k = search in
     let a = at-start.args in
-    let o = at-loop.loop in
-    let t = at_in.if1.taken in
-    let p = at-start.pre.1.0 in
-    let b = at-near-bit.near-bit in (
+    let o = at-loop.loop-k in
+    let t = at_in.loop-k-test.true in
+    let p = at-start.requires.fact_2.0 in
+    let b = at-near-bit.near_bit in (
       omega arith,
       λ pixels on.
           near_more (job_of (lent_by a.size a.table.now pixels)) (layout_of a.layout.now) a.mover o.k o.near b.result (omega arith)
           b.ensures.0 (o.inv.1 pixels on) (b.ensures.1 pixels on),
     )
 
-returns : tie.Need-returns invariant-loop decreases-loop
+returns : tie.Need-returns invariant-loop-k decreases-loop-k
 returns c =
-    let at-start : tie.Start invariant-loop decreases-loop = search in
-    let at-loop : tie.At-loop invariant-loop decreases-loop = search in
-    let at_out : tie.Else1 invariant-loop decreases-loop = search in
+    let at-start : tie.Start invariant-loop-k decreases-loop-k = search in
+    let at-loop : tie.At-loop-k invariant-loop-k decreases-loop-k = search in
+    let at_out : tie.After-loop-k invariant-loop-k decreases-loop-k = search in
     let a = at-start.args in
-    let o = at-loop.loop in
-    let t = at_out.if1.left in
+    let o = at-loop.loop-k in
+    let t = at_out.loop-k-test.false in
     let b = o.inv.0 in
     let done : o.k ≡ a.size.count = omega arith in
     λ pixels on.
     subst (λ (k : ℕ). NearTold (job_of (lent_by a.size a.table.now pixels)) (layout_of a.layout.now) a.mover k o.near) done
     (o.inv.1 pixels on)
 
-pub near-pieces-spec : {M : Type 1} → statement M
-near-pieces-spec =
-    tie.close (tie.spec invariant-loop decreases-loop loop-holds near-bit-requires shl-near add-k loop-less loop-again returns)
+pub near_pieces_spec : {M : Type 1} → statement M
+near_pieces_spec =
+    tie.close (tie.spec
+    invariant-loop-k decreases-loop-k loop-k-init near_bit-requires overflow_shl-near overflow_add-k loop-k-smaller loop-k-preserved returns)

@@ -1,5 +1,5 @@
 -- `search_beside::penalty_at` meets its contract: 0 out of reach, else read from the kept line. Assumes nothing.
-use Rattle.list_laws.proofs.Kit.{◌≡◌, sym, inl, inr, List, ◌+◌, ◌-◌, ◌<◌, ◌≤◌, ℕ, arith, get_or, length, needs}
+use Rattle.list_laws.proofs.Kit.{◌≡◌, sym, inl, inr, List, ◌+◌, ◌-◌, ◌<◌, ◌≤◌, ℕ, arith, get_or, length, rules}
 use Rattle.model.specs.Lent.{lent_by, job_of}
 use Rattle.model.specs.Buffer.{layout_of}
 use Rattle.job_laws.proofs.Checked.{facts}
@@ -9,136 +9,136 @@ use Rattle.search_beside.proofs.Outside.{outside_zero}
 use Rattle.search_beside.proofs.penalty_at.Statement.{statement}
 use Rattle.search_beside.proofs.penalty_at.Tie as tie
 
-beside-requires : tie.Need-beside-requires
-beside-requires c κs =
+beside-standing-requires : tie.Need-beside-standing-requires
+beside-standing-requires c κs =
     let at-start : tie.Start = search in
     let a = at-start.args in
     let l = lent_by a.run.size a.table.now a.pixels.now in
-    (piece_entries l a.layout.now a.k at-start.pre.1.0 at-start.pre.1.1.1.0.0, (facts l at-start.pre.0.well).small_gap)
+    (piece_entries l a.layout.now a.k at-start.requires.fact_2.0 at-start.requires.fact_2.1.1.0.0, (facts l at-start.requires.fact_1.well).small_gap)
 
-reach-of-requires : tie.Need-reach-of-requires
-reach-of-requires c κs =
+reach_of-reach-requires : tie.Need-reach_of-reach-requires
+reach_of-reach-requires c κs =
     let at-start : tie.Start = search in
     let a = at-start.args in
     let l = lent_by a.run.size a.table.now a.pixels.now in
-    let b = c.beside in
-    (at-start.pre.1.1.0.small, ((b.ensures a.pixels.now).small, at-start.pre.1.1.0.some))
+    let b = c.beside-standing in
+    (at-start.requires.fact_2.1.0.small, ((b.ensures a.pixels.now).small, at-start.requires.fact_2.1.0.some))
 
-returns : tie.Need-returns
-returns c =
+returns-then-at-low : tie.Need-returns-then-at-low
+returns-then-at-low c =
     let at-start : tie.Start = search in
     let a = at-start.args in
     let l = lent_by a.run.size a.table.now a.pixels.now in
-    let b = c.before.before.beside in
-    let r = c.before.reach_of_lem in (
+    let b = c.before.before.beside-standing in
+    let r = c.before.reach_of-reach in (
       sym (outside_zero l (layout_of a.layout.now) a.sweep.mover a.sweep.track b.result a.k
-          at-start.pre.1.1.0 (b.ensures a.pixels.now)
-          r.result r.ensures a.at at-start.pre.1.1.1.1 (inl c.if1.true)),
-      at-start.pre.0,
+          at-start.requires.fact_2.1.0 (b.ensures a.pixels.now)
+          r.result r.ensures a.at at-start.requires.fact_2.1.1.1 (inl c.if-at-low.true)),
+      at-start.requires.fact_1,
     )
 
-returns-2 : tie.Need-returns-2
-returns-2 c =
-    let at-beside : tie.After-beside = search in
+returns-then-high-at : tie.Need-returns-then-high-at
+returns-then-high-at c =
+    let at-beside : tie.After-beside-standing = search in
     let at-start : tie.Start = search in
     let a = at-start.args in
     let l = lent_by a.run.size a.table.now a.pixels.now in
-    let b = at-beside.beside in
-    let r = c.before.before.reach_of_lem in (
+    let b = at-beside.beside-standing in
+    let r = c.before.before.reach_of-reach in (
       sym (outside_zero l (layout_of a.layout.now) a.sweep.mover a.sweep.track b.result a.k
-          at-start.pre.1.1.0 (b.ensures a.pixels.now)
-          r.result r.ensures a.at at-start.pre.1.1.1.1 (inr c.if2.true)),
-      at-start.pre.0,
+          at-start.requires.fact_2.1.0 (b.ensures a.pixels.now)
+          r.result r.ensures a.at at-start.requires.fact_2.1.1.1 (inr c.if-high-at.true)),
+      at-start.requires.fact_1,
     )
 
 -- the entry, from where it is known which pieces stand beside the line
-abbrev begun : tie.After-beside → tie.Start
+abbrev begun : tie.After-beside-standing → tie.Start
 begun c = search
 
-line-with-requires : tie.Need-line-with-requires
-line-with-requires c κs =
-    let at-else1 : tie.Else1 = search in
-    let at-reach-of : tie.After-reach-of = search in
-    let at-beside : tie.After-beside = search in
+line_with-slot-requires : tie.Need-line_with-slot-requires
+line_with-slot-requires c κs =
+    let at-else1 : tie.Else-at-low = search in
+    let at-reach-of : tie.After-reach_of-reach = search in
+    let at-beside : tie.After-beside-standing = search in
     let at-start = begun at-beside in
     let a = at-start.args in
     let l = lent_by a.run.size a.table.now a.pixels.now in
-    let b = at-beside.beside in
-    let r = at-reach-of.reach_of_lem in
-    let low = at-else1.if1.left in
-    let at-else2 : tie.Else2 = search in
-    let high = at-else2.if2.left in
+    let b = at-beside.beside-standing in
+    let r = at-reach-of.reach_of-reach in
+    let low = at-else1.if-at-low.false in
+    let at-else2 : tie.Else-high-at = search in
+    let high = at-else2.if-high-at.false in
     let t = r.ensures.touching (omega arith) in
-    (at-start.pre.0, (at-start.pre.1.1.0, ((at-start.pre.1.1.1.0.0, (t.lifted, t.near)), at-start.pre.1.1.1.0.1)))
+    (at-start.requires.fact_1, (at-start.requires.fact_2.1.0, ((at-start.requires.fact_2.1.1.0.0, (t.lifted, t.near)), at-start.requires.fact_2.1.1.0.1)))
 
 -- the entry and the reach, from where the line stands
-abbrev entry : tie.After-line-with → tie.Start
+abbrev entry : tie.After-line_with-slot → tie.Start
 entry c = search
 
-abbrev reached : tie.After-line-with → tie.After-reach-of
+abbrev reached : tie.After-line_with-slot → tie.After-reach_of-reach
 reached c = search
 
 -- the line
-abbrev line : tie.After-line-with → List ℕ
-line c = c.line-with.new.1.1.1.1.1.1.1.1.0
+abbrev line : tie.After-line_with-slot → List ℕ
+line c = c.line_with-slot.new.1.1.1.1.1.1.1.1.0
 
 -- the place asked for lies in it
-within : (c : tie.After-line-with)
-    → (c.line-with.result + (reached c).reach_of_lem.result.from + ((entry c).args.at - (reached c).reach_of_lem.result.low) < length (line c))
+within : (c : tie.After-line_with-slot)
+    → (c.line_with-slot.result + (reached c).reach_of-reach.result.from + ((entry c).args.at - (reached c).reach_of-reach.result.low) < length (line c))
     × (length (line c) ≤ 524288)
 within c =
-    let at-else2 : tie.Else2 = search in
-    let at-else1 : tie.Else1 = search in
-    let at-beside : tie.After-beside = search in
+    let at-else2 : tie.Else-high-at = search in
+    let at-else1 : tie.Else-at-low = search in
+    let at-beside : tie.After-beside-standing = search in
     let e = entry c in
     let a = e.args in
     let l = lent_by a.run.size a.table.now a.pixels.now in
-    let b = at-beside.beside in
-    let r = (reached c).reach_of_lem in
-    let low = at-else1.if1.left in
-    let high = at-else2.if2.left in
+    let b = at-beside.beside-standing in
+    let r = (reached c).reach_of-reach in
+    let low = at-else1.if-at-low.false in
+    let high = at-else2.if-high-at.false in
     let t = r.ensures.touching (omega arith) in
-    let w = c.line-with in
-    let h = reach_within l (layout_of a.layout.now) a.sweep.mover a.sweep.track b.result a.k r.result (line c) w.result e.pre.1.1.0
+    let w = c.line_with-slot in
+    let h = reach_within l (layout_of a.layout.now) a.sweep.mover a.sweep.track b.result a.k r.result (line c) w.result e.requires.fact_2.1.0
     (b.ensures a.pixels.now) t (w.ensures.0 _ (b.ensures a.pixels.now)) in
     (omega arith, w.ensures.1.fit.fits)
 
-add-from : tie.Need-overflow-add-from
-add-from c = let at-line-with : tie.After-line-with = search in let h = within at-line-with in omega arith
+overflow_add-from : tie.Need-overflow_add-from
+overflow_add-from c = let at-line-with : tie.After-line_with-slot = search in let h = within at-line-with in omega arith
 
-add-from-2 : tie.Need-overflow-add-from-2
-add-from-2 c = let at-line-with : tie.After-line-with = search in let h = within at-line-with in omega arith
+overflow_add-from-2 : tie.Need-overflow_add-from-2
+overflow_add-from-2 c = let at-line-with : tie.After-line_with-slot = search in let h = within at-line-with in omega arith
 
-slice-read-result : tie.Need-slice-read-result
-slice-read-result c = let at-line-with : tie.After-line-with = search in let h = within at-line-with in omega arith
+bounds-lines-from : tie.Need-bounds-lines-from
+bounds-lines-from c = let at-line-with : tie.After-line_with-slot = search in let h = within at-line-with in omega arith
 
 -- what the line has there
-read : (c : tie.After-line-with)
+read : (c : tie.After-line_with-slot)
     →
     let a = (entry c).args in
-    get_or (line c) (c.line-with.result + (reached c).reach_of_lem.result.from + (a.at - (reached c).reach_of_lem.result.low)) 0
+    get_or (line c) (c.line_with-slot.result + (reached c).reach_of-reach.result.from + (a.at - (reached c).reach_of-reach.result.low)) 0
     ≡ mover_penalty (job_of (lent_by a.run.size a.table.now a.pixels.now)) (layout_of a.layout.now) a.sweep.mover a.at a.k
 read c =
-    let at-else2 : tie.Else2 = search in
-    let at-else1 : tie.Else1 = search in
-    let at-beside : tie.After-beside = search in
+    let at-else2 : tie.Else-high-at = search in
+    let at-else1 : tie.Else-at-low = search in
+    let at-beside : tie.After-beside-standing = search in
     let e = entry c in
     let a = e.args in
     let l = lent_by a.run.size a.table.now a.pixels.now in
-    let b = at-beside.beside in
-    let r = (reached c).reach_of_lem in
-    let low = at-else1.if1.left in
-    let high = at-else2.if2.left in
+    let b = at-beside.beside-standing in
+    let r = (reached c).reach_of-reach in
+    let low = at-else1.if-at-low.false in
+    let high = at-else2.if-high-at.false in
     let t = r.ensures.touching (omega arith) in
-    let w = c.line-with in
+    let w = c.line_with-slot in
     reach_at l (layout_of a.layout.now) a.sweep.mover a.sweep.track b.result a.k r.result (line c) w.result
-    e.pre.1.1.0 (b.ensures a.pixels.now) t (w.ensures.0 _ (b.ensures a.pixels.now)) a.at low high
+    e.requires.fact_2.1.0 (b.ensures a.pixels.now) t (w.ensures.0 _ (b.ensures a.pixels.now)) a.at low high
 
-returns-3 : tie.Need-returns-3
-returns-3 c = let at-line-with : tie.After-line-with = search in (read at-line-with, at-line-with.line-with.ensures.1)
+returns : tie.Need-returns
+returns c = let at-line-with : tie.After-line_with-slot = search in (read at-line-with, at-line-with.line_with-slot.ensures.ready)
 
-pub penalty-at-spec : {M : Type 1} → statement M
-penalty-at-spec =
+pub penalty_at_spec : {M : Type 1} → statement M
+penalty_at_spec =
     tie.close (tie.spec
-    beside-requires reach-of-requires returns returns-2 line-with-requires add-from add-from-2 slice-read-result (search needs)
-    (search needs) returns-3)
+    beside-standing-requires reach_of-reach-requires returns-then-at-low returns-then-high-at line_with-slot-requires overflow_add-from
+    overflow_add-from-2 bounds-lines-from (search rules) (search rules) returns)

@@ -1,5 +1,5 @@
 -- `search_bounded::search_below` meets its contract: what is looked for stands on the mover's own track. Assumes nothing.
-use Rattle.list_laws.proofs.Kit.{needs}
+use Rattle.list_laws.proofs.Kit.{rules}
 use Rattle.model.specs.Lent.{Lent, lent_by}
 use Rattle.search_beside.specs.Ready.{OnTrack}
 use Rattle.search_beside.proofs.Tracks.{track_asked, on_track}
@@ -10,40 +10,41 @@ use Rattle.search_bounded.proofs.search_below.Tie as tie
 abbrev lent : tie.Start → Lent
 lent e = lent_by e.args.run.size e.args.table.now e.args.pixels.now
 
-track-of-requires : tie.Need-track-of-requires
-track-of-requires c κs = let e : tie.Start = search in track_asked (lent e) e.args.mover.piece e.pre.0.well e.pre.1.1.1
+track_of-track-requires : tie.Need-track_of-track-requires
+track_of-track-requires c κs = let e : tie.Start = search in track_asked (lent e) e.args.mover.piece e.requires.fact_1.well e.requires.fact_2.1.1
 
 -- the entry, from where the track is known
-abbrev entry : tie.After-track-of → tie.Start
+abbrev entry : tie.After-track_of-track → tie.Start
 entry c = search
 
 -- it is the mover's
-tracked : (c : tie.After-track-of) → OnTrack (lent (entry c)) (entry c).args.mover c.track-of.result
+tracked : (c : tie.After-track_of-track) → OnTrack (lent (entry c)) (entry c).args.mover c.track_of-track.result
 tracked c =
     let e = entry c in
-    let t = c.track-of in
-    on_track (lent e) e.args.mover t.result e.pre.0.well e.pre.1.1.1 (t.ensures.0 e.args.pixels.now) t.ensures.1
+    let t = c.track_of-track in
+    on_track (lent e) e.args.mover t.result e.requires.fact_1.well e.requires.fact_2.1.1 (t.ensures.0 e.args.pixels.now) t.ensures.1
 
-search-short-requires : tie.Need-search-short-requires
-search-short-requires c κs =
-    let t : tie.After-track-of = search in
+search_short-requires : tie.Need-search_short-requires
+search_short-requires c κs =
+    let t : tie.After-track_of-track = search in
     let e = entry t in
-    let i : tie.Then1 = search in
-    (e.pre.0, (e.pre.1.0, (e.pre.1.1.0, (tracked t, i.if1.taken))))
+    let i : tie.Then-track-le-SHORT_LINE = search in
+    (e.requires.fact_1, (e.requires.fact_2.0, (e.requires.fact_2.1.0, (tracked t, i.if-track-le-SHORT_LINE.true))))
 
-search-long-requires : tie.Need-search-long-requires
-search-long-requires c κs =
-    let t : tie.After-track-of = search in
+search_long-requires : tie.Need-search_long-requires
+search_long-requires c κs =
+    let t : tie.After-track_of-track = search in
     let e = entry t in
-    (e.pre.0, (e.pre.1.0, (e.pre.1.1.0, tracked t)))
+    (e.requires.fact_1, (e.requires.fact_2.0, (e.requires.fact_2.1.0, tracked t)))
+
+returns-then-track-le-SHORT_LINE : tie.Need-returns-then-track-le-SHORT_LINE
+returns-then-track-le-SHORT_LINE c = let x : tie.After-search_short = search in x.search_short.ensures
 
 returns : tie.Need-returns
-returns c = let x : tie.After-search-short = search in x.search-short.ensures
+returns c = let x : tie.After-search_long = search in x.search_long.ensures
 
-returns-2 : tie.Need-returns-2
-returns-2 c = let x : tie.After-search-long = search in x.search-long.ensures
-
-pub search-below-spec : {M : Type 1} → statement M
-search-below-spec =
+pub search_below_spec : {M : Type 1} → statement M
+search_below_spec =
     tie.close (tie.spec
-    track-of-requires search-short-requires (search needs) (search needs) returns search-long-requires (search needs) (search needs) returns-2)
+    track_of-track-requires search_short-requires (search rules) (search rules) returns-then-track-le-SHORT_LINE search_long-requires (search rules)
+    (search rules) returns)

@@ -1,5 +1,5 @@
 -- `search_bounded::search_long` meets its contract: a cleared array has a sum of 0 for each place. Assumes nothing.
-use Rattle.list_laws.proofs.Kit.{sym, ◌≤◌, needs}
+use Rattle.list_laws.proofs.Kit.{sym, ◌≤◌, rules}
 use Rattle.list_laws.proofs.Lists.{repeated_front}
 use Rattle.model.specs.Lent.{Lent, lent_by}
 use Rattle.search_beside.proofs.Tracks.{places_most}
@@ -13,21 +13,21 @@ lent e = lent_by e.args.run.size e.args.table.now e.args.pixels.now
 
 -- the array has room
 room : (e : tie.Start) → e.args.wanted.sweep.track.places ≤ 4096
-room e = places_most (lent e) e.args.wanted.sweep.mover e.args.wanted.sweep.track e.requires.1.1.1
+room e = places_most (lent e) e.args.wanted.sweep.mover e.args.wanted.sweep.track e.requires.fact_2.1.1
 
-slice-aggregate-search-over : tie.Need-slice-aggregate-search-over
-slice-aggregate-search-over c = let e : tie.Start = search in sym (repeated_front e.args.wanted.sweep.track.places 4096 _ (room e))
+slice_bounds-search_over-end : tie.Need-slice_bounds-search_over-end
+slice_bounds-search_over-end c = let e : tie.Start = search in sym (repeated_front e.args.wanted.sweep.track.places 4096 _ (room e))
 
-search-over-requires : tie.Need-search-over-requires
-search-over-requires c κs =
+search_over-requires : tie.Need-search_over-requires
+search_over-requires c κs =
     let e : tie.Start = search in (
-      e.pre.0,
+      e.requires.fact_1,
       (
-        e.pre.1.0,
+        e.requires.fact_2.0,
         (
-          e.pre.1.1.0,
+          e.requires.fact_2.1.0,
           (
-            e.pre.1.1.1,
+            e.requires.fact_2.1.1,
             (
               repeated_front e.args.wanted.sweep.track.places 4096 _ (room e),
               λ a. cleared_zero e.args.wanted.sweep.track.places 4096 a (room e),
@@ -38,8 +38,9 @@ search-over-requires c κs =
     )
 
 returns : tie.Need-returns
-returns c = let x : tie.After-search-over = search in x.search-over.ensures
+returns c = let x : tie.After-search_over = search in x.search_over.ensures
 
-pub search-long-spec : {M : Type 1} → statement M
-search-long-spec =
-    tie.close (tie.spec (search needs) slice-aggregate-search-over search-over-requires (search needs) (search needs) returns)
+pub search_long_spec : {M : Type 1} → statement M
+search_long_spec =
+    tie.close (tie.spec
+    (search rules) slice_bounds-search_over-end search_over-requires (search rules) (search rules) returns)

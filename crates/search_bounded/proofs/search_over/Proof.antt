@@ -1,5 +1,5 @@
 -- `search_bounded::search_over` meets its contract: the least of the sums of all pieces, which are 0 at first. Assumes nothing.
-use Rattle.list_laws.proofs.Kit.{◌∙◌, ap, arith, needs}
+use Rattle.list_laws.proofs.Kit.{◌∙◌, ap, arith, rules}
 use Rattle.model.specs.Lent.{Lent, lent_by}
 use Rattle.model.specs.Buffer.{layout_of}
 use Rattle.search_line_sums.specs.Answers.{found_answer}
@@ -12,17 +12,17 @@ use Rattle.search_bounded.proofs.search_over.Tie as tie
 abbrev lent : tie.Start → Lent
 lent e = lent_by e.args.run.size e.args.table.now e.args.pixels.now
 
-add-others-requires : tie.Need-add-others-requires
-add-others-requires c κs =
+add_others-requires : tie.Need-add_others-requires
+add_others-requires c κs =
     let e : tie.Start = search in
     let a = e.args in
-    let o = e.pre.1.1.1.0 in
-    let s = e.pre.1.1.1.1 in (
-      e.pre.0,
+    let o = e.requires.fact_2.1.1.0 in
+    let s = e.requires.fact_2.1.1.1 in (
+      e.requires.fact_1,
       (
-        e.pre.1.0,
+        e.requires.fact_2.0,
         (
-          e.pre.1.1.0,
+          e.requires.fact_2.1.0,
           (
             o,
             summed_none (lent e) a.weights.now (layout_of a.layout.now) a.wanted.sweep.mover a.wanted.sweep.track a.wanted.bound _ o
@@ -32,31 +32,32 @@ add-others-requires c κs =
       ),
     )
 
-least-below-requires : tie.Need-least-below-requires
-least-below-requires c κs =
-    let x : tie.After-add-others = search in
+least_below-requires : tie.Need-least_below-requires
+least_below-requires c κs =
+    let x : tie.After-add_others = search in
     let e : tie.Start = search in
-    let added = x.add-others.kept.1.1.1.1.1.1.1.1.1.1.0 in
-    let places = e.pre.1.1.1.1.0 in
-    let most = places_most (lent e) e.args.wanted.sweep.mover e.args.wanted.sweep.track e.pre.1.1.1.0 in
+    let added = x.add_others.auto.1.1.1.1.1.1.1.1.1.1.0 in
+    let places = e.requires.fact_2.1.1.1.0 in
+    let most = places_most (lent e) e.args.wanted.sweep.mover e.args.wanted.sweep.track e.requires.fact_2.1.1.0 in
     omega arith
 
 -- the entry, from where all are added
-abbrev entry : tie.After-add-others → tie.Start
+abbrev entry : tie.After-add_others → tie.Start
 entry c = search
 
 returns : tie.Need-returns
 returns c =
-    let y : tie.After-add-others = search in
+    let y : tie.After-add_others = search in
     let e = entry y in
     let a = e.args in
-    let x = y.add-others in (
+    let x = y.add_others in (
       c.least_below.ensures
           ∙ ap found_answer
           (summed_found (lent e) a.weights.now a.layout.now a.wanted.sweep.mover a.wanted.bound x.last.1.1.1.1.1.1.1.1.1.1.0
-          e.pre.1.0 e.pre.1.1.0 e.pre.1.1.1.0.piece x.ensures.0),
+          e.requires.fact_2.0 e.requires.fact_2.1.0 e.requires.fact_2.1.1.0.piece x.ensures.0),
       x.ensures.1,
     )
 
-pub search-over-spec : {M : Type 1} → statement M
-search-over-spec = tie.close (tie.spec add-others-requires least-below-requires (search needs) (search needs) (search needs) returns)
+pub search_over_spec : {M : Type 1} → statement M
+search_over_spec = tie.close (tie.spec
+    add_others-requires least_below-requires (search rules) (search rules) (search rules) returns)

@@ -1,15 +1,16 @@
 -- `search_calls::coordinate_on` meets its contract, by the line. Assumes nothing.
-use Rattle.list_laws.proofs.Kit.{ap, sym, needs}
+use Rattle.list_laws.proofs.Kit.{ap, sym, rules}
 use Rattle.model.specs.Piece.{coordinate_on}
 use Rattle.model.specs.declared.Line.{Line}
 use Rattle.search_calls.proofs.coordinate_on.Statement.{statement}
 use Rattle.search_calls.proofs.coordinate_on.Tie as tie
 
-returns : tie.Need-returns
-returns c = sym (ap (λ (l : Line). coordinate_on l c.before.before.args.at) c.enum_told.given.1)
+returns-in-InRow : tie.Need-returns-in-InRow
+returns-in-InRow c = sym (ap (λ (l : Line). coordinate_on l c.before.before.args.at) c.enum_told-1.given.1)
 
-returns-2 : tie.Need-returns-2
-returns-2 c = sym (ap (λ (l : Line). coordinate_on l c.before.before.args.at) c.enum-told2.given.1)
+returns-in-InColumn : tie.Need-returns-in-InColumn
+returns-in-InColumn c = sym (ap (λ (l : Line). coordinate_on l c.before.before.args.at) c.enum_told-in-InColumn-1.given.1)
 
-pub coordinate-on-spec : {M : Type 1} → statement M
-coordinate-on-spec = tie.close (tie.spec (search needs) (search needs) returns returns-2)
+pub coordinate_on_spec : {M : Type 1} → statement M
+coordinate_on_spec = tie.close (tie.spec
+    (search rules) (search rules) returns-in-InRow returns-in-InColumn)

@@ -1,5 +1,5 @@
 -- `search_calls::line_search` meets its contract: the causes refuse, or none is there and the search decides. Assumes nothing.
-use Rattle.list_laws.proofs.Kit.{◌∙◌, ap, subst, sym, [], ◌∷◌, eqb, needs}
+use Rattle.list_laws.proofs.Kit.{◌∙◌, ap, subst, sym, [], ◌∷◌, eqb, rules}
 use Rattle.model.specs.Search.{places, search_line}
 use Rattle.model.specs.Refusal.{cause, empty_line}
 use Rattle.model.specs.Lent.{lent_by, job_of}
@@ -13,31 +13,31 @@ use Rattle.search_calls.proofs.Answering.{best_is_lem, best_in_reach}
 use Rattle.search_calls.proofs.line_search.Statement.{statement}
 use Rattle.search_calls.proofs.line_search.Tie as tie
 
-search-alone-requires : tie.Need-search-alone-requires
-search-alone-requires c κs =
+search_alone-requires : tie.Need-search_alone-requires
+search_alone-requires c κs =
     let at-start : tie.Start = search in
     let a = at-start.args in
     let l = lent_by a.size a.table.now a.pixels.now in
     let none : NoCause (placing_causes l a.layout.now a.weights.now a.piece a.turn) =
-    passed_none _ (sym c.enum_told.given.1 ∙ c.before.before.placing-causes.ensures) in
+    passed_none _ (sym c.enum_told-1.given.1 ∙ c.before.before.placing_causes.ensures) in
     let known = placing_passed l a.layout.now a.weights.now a.piece a.turn none in
     (known.laid, (known.weights, known.piece))
 
-best-answer-requires : tie.Need-best-answer-requires
-best-answer-requires c κs =
-    let at-placing-causes : tie.After-placing-causes = search in
+best_answer-requires : tie.Need-best_answer-requires
+best_answer-requires c κs =
+    let at-placing-causes : tie.After-placing_causes = search in
     let at-start : tie.Start = search in
     let a = at-start.args in
     let l = lent_by a.size a.table.now a.pixels.now in
     let none : NoCause (placing_causes l a.layout.now a.weights.now a.piece a.turn) =
-    passed_none _ (sym c.before.enum_told.given.1 ∙ at-placing-causes.placing-causes.ensures) in
+    passed_none _ (sym c.before.enum_told-1.given.1 ∙ at-placing-causes.placing_causes.ensures) in
     let well = (placing_passed l a.layout.now a.weights.now a.piece a.turn none).laid.well in
-    subst InReach (sym c.search-alone.ensures) (best_in_reach l well a.weights.now (layout_of a.layout.now) a.piece a.turn a.line)
+    subst InReach (sym c.search_alone.ensures) (best_in_reach l well a.weights.now (layout_of a.layout.now) a.piece a.turn a.line)
 
-returns : tie.Need-returns
+returns-in-Refused : tie.Need-returns-in-Refused
 unfolding search_call
-returns c =
-    let at-placing-causes : tie.After-placing-causes = search in
+returns-in-Refused c =
+    let at-placing-causes : tie.After-placing_causes = search in
     let at-start : tie.Start = search in
     let a = at-start.args in
     let l = lent_by a.size a.table.now a.pixels.now in
@@ -45,25 +45,26 @@ returns c =
     (refused_then (placing_causes l a.layout.now a.weights.now a.piece a.turn)
     (cause empty_line (eqb (places (job_of l) a.piece a.turn a.line) 0) ∷ [])
     (best_place (search_line (job_of l) a.weights.now (layout_of a.layout.now) a.piece a.turn a.line)) _
-    (sym c.before.refusal.given.1 ∙ at-placing-causes.placing-causes.ensures)))
+    (sym c.before.refusal-1.given.1 ∙ at-placing-causes.placing_causes.ensures)))
 
-returns-2 : tie.Need-returns-2
+returns-in-Done : tie.Need-returns-in-Done
 unfolding search_call
-returns-2 c =
-    let at-placing-causes : tie.After-placing-causes = search in
+returns-in-Done c =
+    let at-placing-causes : tie.After-placing_causes = search in
     let at-start : tie.Start = search in
     let a = at-start.args in
     let l = lent_by a.size a.table.now a.pixels.now in
     let none : NoCause (placing_causes l a.layout.now a.weights.now a.piece a.turn) =
-    passed_none _ (sym c.before.before.enum_told.given.1 ∙ at-placing-causes.placing-causes.ensures) in
-    c.best-answer.ensures
-    ∙ ap (best_answer a.line) c.before.search-alone.ensures
+    passed_none _ (sym c.before.before.enum_told-1.given.1 ∙ at-placing-causes.placing_causes.ensures) in
+    c.best_answer.ensures
+    ∙ ap (best_answer a.line) c.before.search_alone.ensures
     ∙ best_is_lem (job_of l) a.weights.now (layout_of a.layout.now) a.piece a.turn a.line
     ∙ sym (ap (search_answer a.line)
     (none_then (placing_causes l a.layout.now a.weights.now a.piece a.turn)
     (cause empty_line (eqb (places (job_of l) a.piece a.turn a.line) 0) ∷ [])
     (best_place (search_line (job_of l) a.weights.now (layout_of a.layout.now) a.piece a.turn a.line)) none))
 
-pub line-search-spec : {M : Type 1} → statement M
-line-search-spec =
-    tie.close (tie.spec (search needs) (search needs) (search needs) search-alone-requires best-answer-requires returns returns-2)
+pub line_search_spec : {M : Type 1} → statement M
+line_search_spec =
+    tie.close (tie.spec
+    (search rules) (search rules) (search rules) search_alone-requires best_answer-requires returns-in-Refused returns-in-Done)

@@ -1,5 +1,5 @@
 -- `search_classes::put_classes` meets its contract: the words below i are classes. Assumes nothing.
-use Rattle.list_laws.proofs.Kit.{◌≡◌, refl, ◌-◌, ◌≤◌, ℕ, arith, length, needs}
+use Rattle.list_laws.proofs.Kit.{◌≡◌, refl, ◌-◌, ◌≤◌, ℕ, arith, length, rules}
 use Rattle.list_laws.proofs.Passes.{Passing, pass_none, pass_set}
 use Rattle.model.specs.Layout.{Job}
 use Rattle.model.specs.Lent.{Lent, lent_by, job_of}
@@ -11,51 +11,52 @@ use Rattle.search_classes.proofs.put_classes.Tie as tie
 abbrev ClassOf : Job → ℕ → ℕ → Type 0
 ClassOf j i v = (v ≤ i) × Equal j i v
 
-abbrev invariant-loop : tie.invariant-loop
-invariant-loop size table pixels words₀ i₀ words i =
+abbrev invariant-loop-i : tie.invariant-loop-i
+invariant-loop-i size table pixels words₀ i₀ words i =
     (i ≤ size.count) × (length words ≡ length words₀) × Passing (ClassOf (job_of (lent_by size table pixels))) words₀ words i
 
-abbrev decreases-loop : tie.decreases-loop
-decreases-loop size table pixels words₀ i₀ words i = size.count - i
+abbrev decreases-loop-i : tie.decreases-loop-i
+decreases-loop-i size table pixels words₀ i₀ words i = size.count - i
 
 -- the lent job
-abbrev lent : tie.Start invariant-loop decreases-loop → Lent
+abbrev lent : tie.Start invariant-loop-i decreases-loop-i → Lent
 lent c = lent_by c.args.size c.args.table.now c.args.pixels.now
 
-loop-holds : tie.Need-loop-init invariant-loop decreases-loop
-loop-holds c = (omega arith, refl, pass_none _ _)
+loop-i-init : tie.Need-loop-i-init invariant-loop-i decreases-loop-i
+loop-i-init c = (omega arith, refl, pass_none _ _)
 
-class-of-requires : tie.Need-class-of-requires invariant-loop decreases-loop
-class-of-requires c κs = let e : tie.Start invariant-loop decreases-loop = search in (e.pre.0, c.if1.true)
+class_of-requires : tie.Need-class_of-requires invariant-loop-i decreases-loop-i
+class_of-requires c κs = let e : tie.Start invariant-loop-i decreases-loop-i = search in (e.requires.fact_1, c.loop-i-test.true)
 
-slice-write-words : tie.Need-slice-write-words invariant-loop decreases-loop
-slice-write-words c =
-    let e : tie.Start invariant-loop decreases-loop = search in
-    let at : tie.At-loop invariant-loop decreases-loop = search in
-    let n = at.loop.inv.1 in
-    let room = e.pre.1 in
+bounds-words-i : tie.Need-bounds-words-i invariant-loop-i decreases-loop-i
+bounds-words-i c =
+    let e : tie.Start invariant-loop-i decreases-loop-i = search in
+    let at : tie.At-loop-i invariant-loop-i decreases-loop-i = search in
+    let n = at.loop-i.invariant.1 in
+    let room = e.requires.fact_2 in
     omega arith
 
-loop-again : tie.Need-loop-preserved invariant-loop decreases-loop
-loop-again c =
-    let e : tie.Start invariant-loop decreases-loop = search in
-    let at : tie.At-loop invariant-loop decreases-loop = search in
-    let n = at.loop.inv.1 in
-    let room = e.pre.1 in
-    let p = pass_set (ClassOf (job_of (lent e))) _ at.loop.words at.loop.i c.class_of.result
-    (omega arith) c.class_of.ensures at.loop.inv.2 in
+loop-i-preserved : tie.Need-loop-i-preserved invariant-loop-i decreases-loop-i
+loop-i-preserved c =
+    let e : tie.Start invariant-loop-i decreases-loop-i = search in
+    let at : tie.At-loop-i invariant-loop-i decreases-loop-i = search in
+    let n = at.loop-i.invariant.1 in
+    let room = e.requires.fact_2 in
+    let p = pass_set (ClassOf (job_of (lent e))) _ at.loop-i.words at.loop-i.i c.class_of.result
+    (omega arith) c.class_of.ensures at.loop-i.invariant.2 in
     (omega arith, p.same, p)
 
-same_length : tie.Need-same-length invariant-loop decreases-loop
-same_length c = let at : tie.At-loop invariant-loop decreases-loop = search in at.loop.inv.1
+shape_of-words : tie.Need-shape_of-words invariant-loop-i decreases-loop-i
+shape_of-words c = let at : tie.At-loop-i invariant-loop-i decreases-loop-i = search in at.loop-i.invariant.1
 
-returns : tie.Need-returns invariant-loop decreases-loop
+returns : tie.Need-returns invariant-loop-i decreases-loop-i
 unfolding job_of
 returns c =
-    let at : tie.At-loop invariant-loop decreases-loop = search in
-    λ i l. at.loop.inv.2.done i (omega arith)
+    let at : tie.At-loop-i invariant-loop-i decreases-loop-i = search in
+    λ i l. at.loop-i.invariant.2.done i (omega arith)
 
-pub put-classes-spec : {M : Type 1} → statement M
-put-classes-spec =
+pub put_classes_spec : {M : Type 1} → statement M
+put_classes_spec =
     tie.close (tie.spec
-    invariant-loop decreases-loop loop-holds class-of-requires (search needs) slice-write-words (search needs) (search needs) loop-again same_length returns)
+    invariant-loop-i decreases-loop-i loop-i-init class_of-requires (search rules) bounds-words-i (search rules) (search rules) loop-i-preserved
+    shape_of-words returns)

@@ -1,26 +1,27 @@
 -- `search_columns::column_line` meets its contract: three sides of each place, lowered by counts from the last place on. Assumes nothing.
-use Rattle.list_laws.proofs.Kit.{arith, needs}
+use Rattle.list_laws.proofs.Kit.{arith, rules}
 use Rattle.search_columns.proofs.Counts.{column_done}
 use Rattle.search_columns.proofs.column_line.Statement.{statement}
 use Rattle.search_columns.proofs.column_line.Tie as tie
 
-sides-line-requires : tie.Need-sides-line-requires
-sides-line-requires c κs = let at-start : tie.Start = search in let h = at-start.pre in (h.0, (h.1.0, h.1.1.1))
+sides_line-requires : tie.Need-sides_line-requires
+sides_line-requires c κs = let at-start : tie.Start = search in let h = at-start.requires in (h.0, (h.1.0, h.1.1.1))
 
 fall-requires : tie.Need-fall-requires
 fall-requires c κs =
     let at-start : tie.Start = search in
-    let at-sides-line : tie.After-sides-line = search in
-    omega (arith, at-sides-line.sides-line.ensures.same, at-start.pre.1.1.1)
+    let at-sides-line : tie.After-sides_line = search in
+    omega (arith, at-sides-line.sides_line.ensures.same, at-start.requires.fact_2.1.1)
 
 returns : tie.Need-returns
 returns c =
     let at-start : tie.Start = search in
-    let at-sides-line : tie.After-sides-line = search in
+    let at-sides-line : tie.After-sides_line = search in
     let at-fall : tie.After-fall = search in
     let a = at-start.args in
-    let h = at-start.pre in
-    column_done a.ws.now a.w a.p a.line.now _ _ at-sides-line.sides-line.ensures at-fall.fall.ensures h.1.0 h.1.1.0
+    let h = at-start.requires in
+    column_done a.ws.now a.w a.p a.line-1.now _ _ at-sides-line.sides_line.ensures at-fall.fall.ensures h.1.0 h.1.1.0
 
-pub column-line-spec : {M : Type 1} → statement M
-column-line-spec = tie.close (tie.spec sides-line-requires fall-requires (search needs) returns)
+pub column_line_spec : {M : Type 1} → statement M
+column_line_spec = tie.close (tie.spec
+    sides_line-requires fall-requires (search rules) returns)

@@ -5,33 +5,33 @@ use Rattle.search_levels.proofs.Within.{copy_none, copy_more}
 use Rattle.search_levels.proofs.copy_words.Statement.{statement}
 use Rattle.search_levels.proofs.copy_words.Tie as tie
 
-abbrev invariant-loop : tie.invariant-loop
-invariant-loop ws₀ from to count k₀ ws k = (k ≤ count) × (length ws ≡ length ws₀) × (Copied ws₀ from to k ws)
+abbrev invariant-loop-k : tie.invariant-loop-k
+invariant-loop-k ws₀ from to count k₀ ws k = (k ≤ count) × (length ws ≡ length ws₀) × (Copied ws₀ from to k ws)
 
-abbrev decreases-loop : tie.decreases-loop
-decreases-loop ws₀ from to count k₀ ws k = count - k
+abbrev decreases-loop-k : tie.decreases-loop-k
+decreases-loop-k ws₀ from to count k₀ ws k = count - k
 
-loop-holds : tie.Need-loop-init invariant-loop decreases-loop
-loop-holds c = (omega arith, refl, copy_none _ _ _)
+loop-k-init : tie.Need-loop-k-init invariant-loop-k decreases-loop-k
+loop-k-init c = (omega arith, refl, copy_none _ _ _)
 
-loop-again : tie.Need-loop-preserved invariant-loop decreases-loop
-loop-again c =
+loop-k-preserved : tie.Need-loop-k-preserved invariant-loop-k decreases-loop-k
+loop-k-preserved c =
     let a = c.before.before.before.args in
-    let o = c.before.before.loop in
+    let o = c.before.before.loop-k in
     let g = copy_more a.ws.now a.from a.to o.k o.ws (omega arith) (omega arith) o.invariant.2 in
     (omega arith, g.same, g)
 
-same_length : tie.Need-same-length invariant-loop decreases-loop
-same_length c = c.before.loop.invariant.1
+shape_of-ws : tie.Need-shape_of-ws invariant-loop-k decreases-loop-k
+shape_of-ws c = c.before.loop-k.invariant.1
 
-returns : tie.Need-returns invariant-loop decreases-loop
+returns : tie.Need-returns invariant-loop-k decreases-loop-k
 returns c =
     let a = c.before.before.args in
-    let o = c.before.loop in
+    let o = c.before.loop-k in
     subst (λ (n : ℕ). Copied a.ws.now a.from a.to n o.ws) (omega arith) o.invariant.2
 
-pub copy-words-spec : {M : Type 1} → statement M
-copy-words-spec =
-    tie.close (tie.spec invariant-loop decreases-loop loop-holds
-    (omega arith) (omega arith) (omega arith) (omega arith) (omega arith) (omega arith) (omega arith) (omega arith)
-    loop-again same_length returns)
+pub copy_words_spec : {M : Type 1} → statement M
+copy_words_spec =
+    tie.close (tie.spec
+    invariant-loop-k decreases-loop-k loop-k-init (omega arith) (omega arith) (omega arith) (omega arith) (omega arith) (omega arith) (omega arith)
+    (omega arith) loop-k-preserved shape_of-ws returns)

@@ -1,37 +1,37 @@
 -- `search_line_store::claim` meets its contract: the slot's own stretch, or free units that its entry and what is used then tell. Assumes nothing.
-use Rattle.list_laws.proofs.Kit.{arith, needs}
+use Rattle.list_laws.proofs.Kit.{arith, rules}
 use Rattle.search_line_store.proofs.Stretching.{claim_own, claim_free}
 use Rattle.search_line_store.proofs.claim.Statement.{statement}
 use Rattle.search_line_store.proofs.claim.Tie as tie
 
-free-units-requires : tie.Need-free-units-requires
-free-units-requires c κs = let at-start : tie.Start = search in (at-start.pre.0, at-start.pre.1.1)
+free_units-place-requires : tie.Need-free_units-place-requires
+free_units-place-requires c κs = let at-start : tie.Start = search in (at-start.requires.fact_1, at-start.requires.fact_2.1)
+
+returns-then-units-units_of : tie.Need-returns-then-units-units_of
+returns-then-units-units_of c =
+    let at-start : tie.Start = search in
+    let at-units : tie.After-units_of = search in
+    let at-begin : tie.After-begin_of = search in
+    let a = at-start.args in
+    let own : tie.Then-units-units_of = search in
+    let units = at-units.units_of.ensures.0 in
+    rw at-begin.begin_of.ensures (claim_own a.slots a.slot a.units a.bytes-1.now at-start.requires.fact_1 (omega (arith, own.if-units-units_of.true)))
 
 returns : tie.Need-returns
 returns c =
     let at-start : tie.Start = search in
-    let at-units : tie.After-units-of = search in
-    let at-begin : tie.After-begin-of = search in
+    let at-free : tie.After-free_units-place = search in
+    let at_place : tie.After-put_short = search in
+    let at_count : tie.After-put_short-2 = search in
+    let at-used : tie.After-put_short-3 = search in
+    let at_first : tie.After-table_end = search in
     let a = at-start.args in
-    let own : tie.Then1 = search in
-    let units = at-units.units_of.ensures.0 in
-    rw at-begin.begin-of.ensures (claim_own a.slots a.slot a.units a.bytes.now at-start.pre.0 (omega (arith, own.if1.taken)))
+    rw at_first.table_end.ensures
+    (claim_free a.slots a.slot a.units a.bytes-1.now _ _ _ _ at-free.free_units-place.result at-free.free_units-place.ensures at-start.requires.fact_2.0.0
+    at_place.put_short.ensures at_count.put_short-2.ensures at-used.put_short-3.ensures)
 
-returns-2 : tie.Need-returns-2
-returns-2 c =
-    let at-start : tie.Start = search in
-    let at-free : tie.After-free-units = search in
-    let at_place : tie.After-put-short = search in
-    let at_count : tie.After-put-short2 = search in
-    let at-used : tie.After-put-short3 = search in
-    let at_first : tie.After-table-end = search in
-    let a = at-start.args in
-    rw at_first.table-end.ensures
-    (claim_free a.slots a.slot a.units a.bytes.now _ _ _ _ at-free.free-units.result at-free.free-units.ensures at-start.pre.1.0.0
-    at_place.put-short.ensures at_count.put-short2.ensures at-used.put-short3.ensures)
-
-pub claim-spec : {M : Type 1} → statement M
-claim-spec =
+pub claim_spec : {M : Type 1} → statement M
+claim_spec =
     tie.close (tie.spec
-    (search needs) (search needs) (search needs) returns free-units-requires (search needs) (search needs) (search needs) (search needs)
-    (search needs) (search needs) (search needs) (search needs) (search needs) (search needs) (search needs) (search needs) returns-2)
+    (search rules) (search rules) (search rules) returns-then-units-units_of free_units-place-requires (search rules) (search rules) (search rules)
+    (search rules) (search rules) (search rules) (search rules) (search rules) (search rules) (search rules) (search rules) (search rules) returns)

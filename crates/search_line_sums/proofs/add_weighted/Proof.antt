@@ -1,83 +1,83 @@
 -- `search_line_sums::add_weighted` meets its contract. The loop's invariant: the sums passed have their part, the others are as they were.
 -- Assumes nothing.
-use Rattle.list_laws.proofs.Kit.{refl, ◌+◌, ◌-◌, ◌≤◌, arith, get_or, length, needs}
+use Rattle.list_laws.proofs.Kit.{refl, ◌+◌, ◌-◌, ◌≤◌, arith, get_or, length, rules}
 use Rattle.list_laws.proofs.Passes.{Passing}
 use Rattle.search_line_sums.proofs.Scans.{part_small, Raised, raise_begin, raise_step, raise_end}
 use Rattle.search_line_sums.proofs.add_weighted.Statement.{statement}
 use Rattle.search_line_sums.proofs.add_weighted.Tie as tie
 
-abbrev invariant-loop : tie.invariant-loop
-invariant-loop sums₀ low line weight k₀ sums k = (k ≤ length line) × Passing (Raised weight low line sums₀) sums₀ sums (low + k)
+abbrev invariant-loop-k : tie.invariant-loop-k
+invariant-loop-k sums₀ low line weight k₀ sums k = (k ≤ length line) × Passing (Raised weight low line sums₀) sums₀ sums (low + k)
 
-abbrev decreases-loop : tie.decreases-loop
-decreases-loop sums₀ low line weight k₀ sums k = length line - k
+abbrev decreases-loop-k : tie.decreases-loop-k
+decreases-loop-k sums₀ low line weight k₀ sums k = length line - k
 
-loop-holds : tie.Need-loop-init invariant-loop decreases-loop
-loop-holds c = (omega arith, raise_begin _ _ _ _)
+loop-k-init : tie.Need-loop-k-init invariant-loop-k decreases-loop-k
+loop-k-init c = (omega arith, raise_begin _ _ _ _)
 
-cast-sums : tie.Need-overflow-cast-sums invariant-loop decreases-loop
-cast-sums c = omega (arith, c.shared-slice-known.given c.before.before.loop.k)
+overflow_cast-sums : tie.Need-overflow_cast-sums invariant-loop-k decreases-loop-k
+overflow_cast-sums c = omega (arith, c.shared_slice_known-1.given c.before.before.loop-k.k)
 
-mul-sums : tie.Need-overflow-mul-sums invariant-loop decreases-loop
-mul-sums c =
-    let at-start : tie.Start invariant-loop decreases-loop = search in
+overflow_mul-sums : tie.Need-overflow_mul-sums invariant-loop-k decreases-loop-k
+overflow_mul-sums c =
+    let at-start : tie.Start invariant-loop-k decreases-loop-k = search in
     let a = at-start.args in
-    let b = c.shared-slice-known.given c.before.before.loop.k in
-    let m = part_small a.weight (get_or a.line.now c.before.before.loop.k 0) at-start.pre.1.0 (omega arith) in
+    let b = c.shared_slice_known-1.given c.before.before.loop-k.k in
+    let m = part_small a.weight (get_or a.line.now c.before.before.loop-k.k 0) at-start.requires.fact_2.0 (omega arith) in
     omega arith
 
-slice-read-sums : tie.Need-slice-read-sums invariant-loop decreases-loop
-slice-read-sums c =
-    let at-loop : tie.At-loop invariant-loop decreases-loop = search in
-    let at-start : tie.Start invariant-loop decreases-loop = search in
-    let e = at-loop.loop.inv.1.same in
-    let t = c.before.before.loop-test.true in
-    let p = at-start.pre.0 in
+bounds-sums-low : tie.Need-bounds-sums-low invariant-loop-k decreases-loop-k
+bounds-sums-low c =
+    let at-loop : tie.At-loop-k invariant-loop-k decreases-loop-k = search in
+    let at-start : tie.Start invariant-loop-k decreases-loop-k = search in
+    let e = at-loop.loop-k.invariant.1.same in
+    let t = c.before.before.loop-k-test.true in
+    let p = at-start.requires.fact_1 in
     omega arith
 
-add-sums-2 : tie.Need-overflow-add-sums-2 invariant-loop decreases-loop
-add-sums-2 c =
-    let at-loop : tie.At-loop invariant-loop decreases-loop = search in
-    let at-start : tie.Start invariant-loop decreases-loop = search in
+overflow_add-sums-in-loop-k : tie.Need-overflow_add-sums-in-loop-k invariant-loop-k decreases-loop-k
+overflow_add-sums-in-loop-k c =
+    let at-loop : tie.At-loop-k invariant-loop-k decreases-loop-k = search in
+    let at-start : tie.Start invariant-loop-k decreases-loop-k = search in
     let a = at-start.args in
-    let p = at-loop.loop in
-    let b = c.before.shared-slice-known.given p.k in
-    let m = part_small a.weight (get_or a.line.now p.k 0) at-start.pre.1.0 (omega arith) in
+    let p = at-loop.loop-k in
+    let b = c.before.shared_slice_known-1.given p.k in
+    let m = part_small a.weight (get_or a.line.now p.k 0) at-start.requires.fact_2.0 (omega arith) in
     let e = p.inv.1.rest (a.low + p.k) (omega arith) in
-    let s = at-start.pre.1.1 (a.low + p.k) in
+    let s = at-start.requires.fact_2.1 (a.low + p.k) in
     omega arith
 
-slice-write-sums : tie.Need-slice-write-sums invariant-loop decreases-loop
-slice-write-sums c =
-    let at-loop : tie.At-loop invariant-loop decreases-loop = search in
-    let at-start : tie.Start invariant-loop decreases-loop = search in
-    let e = at-loop.loop.inv.1.same in
-    let t = c.before.before.loop-test.true in
-    let p = at-start.pre.0 in
+bounds-sums-low-in-loop-k : tie.Need-bounds-sums-low-in-loop-k invariant-loop-k decreases-loop-k
+bounds-sums-low-in-loop-k c =
+    let at-loop : tie.At-loop-k invariant-loop-k decreases-loop-k = search in
+    let at-start : tie.Start invariant-loop-k decreases-loop-k = search in
+    let e = at-loop.loop-k.invariant.1.same in
+    let t = c.before.before.loop-k-test.true in
+    let p = at-start.requires.fact_1 in
     omega arith
 
-loop-again : tie.Need-loop-preserved invariant-loop decreases-loop
-loop-again c =
-    let at-loop : tie.At-loop invariant-loop decreases-loop = search in
-    let at-start : tie.Start invariant-loop decreases-loop = search in
+loop-k-preserved : tie.Need-loop-k-preserved invariant-loop-k decreases-loop-k
+loop-k-preserved c =
+    let at-loop : tie.At-loop-k invariant-loop-k decreases-loop-k = search in
+    let at-start : tie.Start invariant-loop-k decreases-loop-k = search in
     let a = at-start.args in
-    let p = at-loop.loop in
+    let p = at-loop.loop-k in
     let e = p.inv.1.same in
-    let t = c.before.before.loop-test.true in
-    let r = at-start.pre.0 in
+    let t = c.before.before.loop-k-test.true in
+    let r = at-start.requires.fact_1 in
     (omega arith, raise_step a.weight a.low a.line.now a.sums.now p.sums p.k _ refl (omega arith) p.inv.1)
 
-same_length : tie.Need-same-length invariant-loop decreases-loop
-same_length c = c.before.loop.invariant.1.same
+shape_of-sums : tie.Need-shape_of-sums invariant-loop-k decreases-loop-k
+shape_of-sums c = c.before.loop-k.invariant.1.same
 
-returns : tie.Need-returns invariant-loop decreases-loop
+returns : tie.Need-returns invariant-loop-k decreases-loop-k
 returns c =
     let a = c.before.before.args in
-    let p = c.before.loop in
+    let p = c.before.loop-k in
     raise_end a.weight a.low a.line.now a.sums.now p.sums p.k (omega arith) p.invariant.1
 
-pub add-weighted-spec : {M : Type 1} → statement M
-add-weighted-spec =
+pub add_weighted_spec : {M : Type 1} → statement M
+add_weighted_spec =
     tie.close (tie.spec
-    invariant-loop decreases-loop loop-holds (search needs) cast-sums mul-sums (search needs) (search needs) slice-read-sums add-sums-2 slice-write-sums
-    (search needs) (search needs) loop-again same_length returns)
+    invariant-loop-k decreases-loop-k loop-k-init (search rules) overflow_cast-sums overflow_mul-sums (search rules) (search rules) bounds-sums-low
+    overflow_add-sums-in-loop-k bounds-sums-low-in-loop-k (search rules) (search rules) loop-k-preserved shape_of-sums returns)

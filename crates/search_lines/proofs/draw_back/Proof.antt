@@ -1,5 +1,5 @@
 -- `search_lines::draw_back` meets its contract: the line of the two, drawn beside the store and copied backwards. Assumes nothing.
-use Rattle.list_laws.proofs.Kit.{◌∙◌, ◌≡◌, sym, List, ◌+◌, ◌-◌, ◌≤◌, ℕ, arith, length, length-drop, length-replicate, length-take, length-take-le, needs}
+use Rattle.list_laws.proofs.Kit.{◌∙◌, ◌≡◌, sym, List, ◌+◌, ◌-◌, ◌≤◌, ℕ, arith, length, length-drop, length-replicate, length-take, length-take-le, rules}
 use Rattle.model.specs.Lent.{Lent, lent_by}
 use Rattle.search_laws.specs.Lines.{line_places}
 use Rattle.search_lines.specs.Making.{moved_shape, standing_shape}
@@ -13,75 +13,75 @@ lent c = lent_by c.args.size c.args.table.now c.args.pixels.now
 
 -- the line fits beside the store
 few : (e : tie.Start) → line_places e.args.direction (moved_shape (lent e) e.args.two) (standing_shape (lent e) e.args.two) ≤ 526
-few e = places_few (lent e) e.args.two (asked_named (lent e) _ _ e.args.two e.requires.0) e.args.direction
+few e = places_few (lent e) e.args.two (asked_named (lent e) _ _ e.args.two e.requires.fact_1) e.args.direction
 
-draw-line-requires : tie.Need-draw-line-requires
-draw-line-requires c κs =
+draw_line-count-requires : tie.Need-draw_line-count-requires
+draw_line-count-requires c κs =
     let e : tie.Start = search in
     let n = length-replicate {A = ℕ} 526 0 in
     let h = few e in
-    (e.pre.0, (omega arith, (omega arith, e.pre.1.1.1)))
+    (e.requires.fact_1, (omega arith, (omega arith, e.requires.fact_2.1.1)))
 
 -- the entry, from where the line is drawn
-abbrev entry : tie.After-draw-line → tie.Start
+abbrev entry : tie.After-draw_line-count → tie.Start
 entry c = search
 
 -- the line that was drawn
-abbrev drawn : tie.After-draw-line → List ℕ
-drawn c = c.draw-line.new.1.1.1.1.1.1.1.1.0
+abbrev drawn : tie.After-draw_line-count → List ℕ
+drawn c = c.draw_line-count.new.1.1.1.1.1.1.1.1.0
 
 -- how many places it has, and where they go
-counted : (c : tie.After-draw-line)
+counted : (c : tie.After-draw_line-count)
     →
     let a = (entry c).args in
     let l = lent (entry c) in
-    (c.draw-line.result ≡ line_places a.direction (moved_shape l a.two) (standing_shape l a.two))
-    × (c.draw-line.result ≤ length (drawn c)) × (length (drawn c) ≡ 526) × (a.at + c.draw-line.result ≤ length a.lines.now)
-    × (length a.lines.now ≤ 524288)
+    (c.draw_line-count.result ≡ line_places a.direction (moved_shape l a.two) (standing_shape l a.two))
+    × (c.draw_line-count.result ≤ length (drawn c)) × (length (drawn c) ≡ 526) × (a.at + c.draw_line-count.result ≤ length a.lines-1.now)
+    × (length a.lines-1.now ≤ 524288)
 counted c =
     let e = entry c in
-    let n = c.draw-line.ensures.1.1 in
-    let long : length (drawn c) ≡ 526 = c.draw-line.auto.1.1.1.1.1.1.1.1.0 ∙ length-replicate {A = ℕ} 526 0 in
+    let n = c.draw_line-count.ensures.maps.1 in
+    let long : length (drawn c) ≡ 526 = c.draw_line-count.auto.1.1.1.1.1.1.1.1.0 ∙ length-replicate {A = ℕ} 526 0 in
     let h = few e in
-    let room = e.pre.1.0 in
-    (n, omega arith, long, omega arith, e.pre.1.1.0)
+    let room = e.requires.fact_2.0 in
+    (n, omega arith, long, omega arith, e.requires.fact_2.1.0)
 
-add-end : tie.Need-overflow-add-end
-add-end c = let at-draw-line : tie.After-draw-line = search in let h = counted at-draw-line in omega arith
+overflow_add-end : tie.Need-overflow_add-end
+overflow_add-end c = let at-draw-line : tie.After-draw_line-count = search in let h = counted at-draw-line in omega arith
 
-array-share-prefix-drawn : tie.Need-array-share-prefix-drawn
-array-share-prefix-drawn c = let at-draw-line : tie.After-draw-line = search in let h = counted at-draw-line in omega arith
+slice_bounds-drawn-end : tie.Need-slice_bounds-drawn-end
+slice_bounds-drawn-end c = let at-draw-line : tie.After-draw_line-count = search in let h = counted at-draw-line in omega arith
 
-slice-aggregate-copy-back : tie.Need-slice-aggregate-copy-back
-slice-aggregate-copy-back c =
-    let at-draw-line : tie.After-draw-line = search in
-    sym (length-take-le at-draw-line.draw-line.result (drawn at-draw-line) (counted at-draw-line).1)
+slice_bounds-copy_back-end : tie.Need-slice_bounds-copy_back-end
+slice_bounds-copy_back-end c =
+    let at-draw-line : tie.After-draw_line-count = search in
+    sym (length-take-le at-draw-line.draw_line-count.result (drawn at-draw-line) (counted at-draw-line).1)
 
-part-copy-back-end : tie.Need-slice-bounds-copy-back-end
-part-copy-back-end c = let at-draw-line : tie.After-draw-line = search in let h = counted at-draw-line in omega arith
+slice_bounds-copy_back-end-2 : tie.Need-slice_bounds-copy_back-end-2
+slice_bounds-copy_back-end-2 c = let at-draw-line : tie.After-draw_line-count = search in let h = counted at-draw-line in omega arith
 
-copy-back-requires : tie.Need-copy-back-requires
-copy-back-requires c κs =
-    let at-draw-line : tie.After-draw-line = search in
+copy_back-requires : tie.Need-copy_back-requires
+copy_back-requires c κs =
+    let at-draw-line : tie.After-draw_line-count = search in
     let h = counted at-draw-line in
-    parts_alike (entry at-draw-line).args.lines.now (drawn at-draw-line) (entry at-draw-line).args.at at-draw-line.draw-line.result h.3 h.1
+    parts_alike (entry at-draw-line).args.lines.now (drawn at-draw-line) (entry at-draw-line).args.at at-draw-line.draw_line-count.result h.3 h.1
 
 returns : tie.Need-returns
 returns c =
-    let at-draw-line : tie.After-draw-line = search in
-    let at-copy-back : tie.After-copy-back = search in
+    let at-draw-line : tie.After-draw_line-count = search in
+    let at-copy-back : tie.After-copy_back = search in
     let a = (entry at-draw-line).args in
     let h = counted at-draw-line in
-    let count : ℕ = at-draw-line.draw-line.result in
+    let count : ℕ = at-draw-line.draw_line-count.result in
     let at : ℕ = a.at in (
-      made_back (lent (entry at-draw-line)) a.direction a.two a.lines.now (drawn at-draw-line) _ at count (at + count - at) h.0 (omega arith)
-          (omega arith) h.1 at-draw-line.draw-line.ensures.0.line
-          (at-copy-back.copy-back.kept.1.0 ∙ simp (length-take, length-drop) (omega arith)) at-copy-back.copy-back.ensures,
-      at-draw-line.draw-line.ensures.1.0,
+      made_back (lent (entry at-draw-line)) a.direction a.two a.lines-1.now (drawn at-draw-line) _ at count (at + count - at) h.0 (omega arith)
+          (omega arith) h.1 at-draw-line.draw_line-count.ensures.line.line
+          (at-copy-back.copy_back.auto.1.0 ∙ simp (length-take, length-drop) (omega arith)) at-copy-back.copy_back.ensures,
+      at-draw-line.draw_line-count.ensures.maps.0,
     )
 
-pub draw-back-spec : {M : Type 1} → statement M
-draw-back-spec =
+pub draw_back_spec : {M : Type 1} → statement M
+draw_back_spec =
     tie.close (tie.spec
-    (search needs) draw-line-requires add-end array-share-prefix-drawn slice-aggregate-copy-back (search needs) (search needs)
-    part-copy-back-end copy-back-requires (search needs) (search needs) returns)
+    (search rules) draw_line-count-requires overflow_add-end slice_bounds-drawn-end slice_bounds-copy_back-end (search rules) (search rules)
+    slice_bounds-copy_back-end-2 copy_back-requires (search rules) (search rules) returns)

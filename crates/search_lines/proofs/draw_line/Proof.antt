@@ -1,6 +1,6 @@
 -- `search_lines::draw_line` meets its contract: the part of the store has a byte for each place at which the boxes meet, and gets the penalties of
 -- the two pieces from their map. Assumes nothing.
-use Rattle.list_laws.proofs.Kit.{◌∙◌, ◌≡◌, sym, ◌+◌, ◌-◌, ◌<◌, ◌≤◌, ℕ, arith, drop, length, length-drop, length-take, take, needs}
+use Rattle.list_laws.proofs.Kit.{◌∙◌, ◌≡◌, sym, ◌+◌, ◌-◌, ◌<◌, ◌≤◌, ℕ, arith, drop, length, length-drop, length-take, take, rules}
 use Rattle.model.specs.Lent.{Lent, lent_by}
 use Rattle.model.specs.declared.Direction.TheVariants.{Horizontal}
 use Rattle.search_maps.specs.Map.{sides_of, SidesFit, MapOf}
@@ -14,119 +14,119 @@ use Rattle.search_lines.proofs.draw_line.Tie as tie
 abbrev lent : tie.Start → Lent
 lent c = lent_by c.args.size c.args.table.now c.args.pixels.now
 
-sides-of-requires : tie.Need-sides-of-requires
-sides-of-requires c κs =
+sides_of-sides-requires : tie.Need-sides_of-sides-requires
+sides_of-sides-requires c κs =
     let at-start : tie.Start = search in
     let two = at-start.args.two in
-    let asked = at-start.pre.0 in
+    let asked = at-start.requires.fact_1 in
     (moved_entry (lent at-start) _ _ two asked, standing_entry (lent at-start) _ _ two asked, gap_few (lent at-start) _ _ two asked)
 
 -- the entry, from where the sides are known
-abbrev entry : tie.After-sides-of → tie.Start
+abbrev entry : tie.After-sides_of-sides → tie.Start
 entry c = search
 
 -- the sides are those of the two pieces
-is : (c : tie.After-sides-of)
-    → c.sides_of_lem.result
+is : (c : tie.After-sides_of-sides)
+    → c.sides_of-sides.result
     ≡ sides_of Horizontal (moved_shape (lent (entry c)) (entry c).args.two) (standing_shape (lent (entry c)) (entry c).args.two)
-is c = c.sides_of_lem.ensures (entry c).args.pixels.now
+is c = c.sides_of-sides.ensures (entry c).args.pixels.now
 
 -- such as maps are made for
-fit : (c : tie.After-sides-of) → SidesFit c.sides_of_lem.result
-fit c = sides_made (lent (entry c)) _ _ (entry c).args.two (entry c).requires.0 _ (is c)
+fit : (c : tie.After-sides_of-sides) → SidesFit c.sides_of-sides.result
+fit c = sides_made (lent (entry c)) _ _ (entry c).args.two (entry c).requires.fact_1 _ (is c)
 
-find-map-requires : tie.Need-find-map-requires
-find-map-requires c κs =
-    let at-sides-of : tie.After-sides-of = search in
+find_map-from-requires : tie.Need-find_map-from-requires
+find_map-from-requires c κs =
+    let at-sides-of : tie.After-sides_of-sides = search in
     let e = entry at-sides-of in
-    (e.pre.0, e.pre.1.1.1)
+    (e.requires.fact_1, e.requires.fact_2.1.1)
 
-map-words-requires : tie.Need-map-words-requires
-map-words-requires c κs =
-    let at-sides-of : tie.After-sides-of = search in
+map_words-requires : tie.Need-map_words-requires
+map_words-requires c κs =
+    let at-sides-of : tie.After-sides_of-sides = search in
     fit at-sides-of
 
 -- the map lies in the store
-within : (c : tie.After-map-words)
+within : (c : tie.After-map_words)
     →
-    let at-find-map : tie.After-find-map = search in
-    (at-find-map.find-map.result + c.map-words.result ≤ length at-find-map.find-map.last.1.1.1.1.1.1.0)
-    × (length at-find-map.find-map.last.1.1.1.1.1.1.0 < 1000000000)
+    let at-find-map : tie.After-find_map-from = search in
+    (at-find-map.find_map-from.result + c.map_words.result ≤ length at-find-map.find_map-from.new.1.1.1.1.1.1.0)
+    × (length at-find-map.find_map-from.new.1.1.1.1.1.1.0 < 1000000000)
 within c =
-    let at-sides-of : tie.After-sides-of = search in
-    let at-find-map : tie.After-find-map = search in
+    let at-sides-of : tie.After-sides_of-sides = search in
+    let at-find-map : tie.After-find_map-from = search in
     let e = entry at-sides-of in
-    let f = at-find-map.find-map.ensures in
-    (found_within (lent e) _ _ e.args.two e.pre.0 _ (is at-sides-of) _ _ _ _ f c.map-words.ensures, f.ready.short)
+    let f = at-find-map.find_map-from.ensures in
+    (found_within (lent e) _ _ e.args.two e.requires.fact_1 _ (is at-sides-of) _ _ _ _ f c.map_words.ensures, f.ready.short)
 
-add-to : tie.Need-overflow-add-to
-add-to c =
-    let at-map-words : tie.After-map-words = search in
+overflow_add-to : tie.Need-overflow_add-to
+overflow_add-to c =
+    let at-map-words : tie.After-map_words = search in
     let h = within at-map-words in omega arith
 
-line-places-requires : tie.Need-line-places-requires
-line-places-requires c κs =
-    let at-sides-of : tie.After-sides-of = search in
+line_places-count-requires : tie.Need-line_places-count-requires
+line_places-count-requires c κs =
+    let at-sides-of : tie.After-sides_of-sides = search in
     fit at-sides-of
 
 -- the line lies in the store
-ends : (c : tie.After-line-places)
+ends : (c : tie.After-line_places-count)
     →
     let at-start : tie.Start = search in
-    (at-start.args.at + c.line_places_lem.result ≤ length at-start.args.lines.now) × (length at-start.args.lines.now ≤ 524288)
+    (at-start.args.at + c.line_places-count.result ≤ length at-start.args.lines.now) × (length at-start.args.lines.now ≤ 524288)
 ends c =
     let at-start : tie.Start = search in
-    let at-sides-of : tie.After-sides-of = search in
-    let e = c.line_places_lem.ensures in
-    let p = line_places_lem (lent at-start) _ _ at-start.args.two at-start.pre.0 _ (is at-sides-of) at-start.args.direction in
-    let room = at-start.pre.1.0 in
-    (omega arith, at-start.pre.1.1.0)
+    let at-sides-of : tie.After-sides_of-sides = search in
+    let e = c.line_places-count.ensures in
+    let p = line_places_lem (lent at-start) _ _ at-start.args.two at-start.requires.fact_1 _ (is at-sides-of) at-start.args.direction in
+    let room = at-start.requires.fact_2.0 in
+    (omega arith, at-start.requires.fact_2.1.0)
 
-add-end : tie.Need-overflow-add-end
-add-end c = let at-line-places : tie.After-line-places = search in let h = ends at-line-places in omega arith
+overflow_add-end : tie.Need-overflow_add-end
+overflow_add-end c = let at-line-places : tie.After-line_places-count = search in let h = ends at-line-places in omega arith
 
-part-map-line-end : tie.Need-slice-bounds-map-line-end
-part-map-line-end c = let at-map-words : tie.After-map-words = search in (within at-map-words).0
+slice_bounds-map_line-end : tie.Need-slice_bounds-map_line-end
+slice_bounds-map_line-end c = let at-map-words : tie.After-map_words = search in (within at-map-words).0
 
-part-map-line-end-2 : tie.Need-slice-bounds-map-line-end-2
-part-map-line-end-2 c = let at-line-places : tie.After-line-places = search in (ends at-line-places).0
+slice_bounds-map_line-end-2 : tie.Need-slice_bounds-map_line-end-2
+slice_bounds-map_line-end-2 c = let at-line-places : tie.After-line_places-count = search in (ends at-line-places).0
 
 -- where the map was found, and its words counted
-abbrev found : tie.After-line-places → tie.After-find-map
+abbrev found : tie.After-line_places-count → tie.After-find_map-from
 found c = search
 
-abbrev counted : tie.After-line-places → tie.After-map-words
+abbrev counted : tie.After-line_places-count → tie.After-map_words
 counted c = search
 
 -- the map, as it is lent
-lent_map : (c : tie.After-line-places)
+lent_map : (c : tie.After-line_places-count)
     →
     let at-start : tie.Start = search in
-    let from = (found c).find-map.result in
+    let from = (found c).find_map-from.result in
     MapOf Horizontal (moved_shape (lent at-start) at-start.args.two) (standing_shape (lent at-start) at-start.args.two)
-    (take (from + (counted c).map-words.result - from) (drop from (found c).find-map.new.1.1.1.1.1.1.0))
+    (take (from + (counted c).map_words.result - from) (drop from (found c).find_map-from.new.1.1.1.1.1.1.0))
 lent_map c =
-    let at-sides-of : tie.After-sides-of = search in
+    let at-sides-of : tie.After-sides_of-sides = search in
     let e = entry at-sides-of in
-    found_map (lent e) _ _ e.args.two e.pre.0 _ (is at-sides-of) _ _ _ _ (found c).find-map.ensures (counted c).map-words.ensures
+    found_map (lent e) _ _ e.args.two e.requires.fact_1 _ (is at-sides-of) _ _ _ _ (found c).find_map-from.ensures (counted c).map_words.ensures
 
-map-line-requires : tie.Need-map-line-requires
-map-line-requires c κs =
+map_line-requires : tie.Need-map_line-requires
+map_line-requires c κs =
     let at-start : tie.Start = search in
-    let at-sides-of : tie.After-sides-of = search in
-    let at-map-words : tie.After-map-words = search in
-    let at-line-places : tie.After-line-places = search in
+    let at-sides-of : tie.After-sides_of-sides = search in
+    let at-map-words : tie.After-map_words = search in
+    let at-line-places : tie.After-line_places-count = search in
     let f = fit at-sides-of in
     let w = within at-map-words in
     let h = ends at-line-places in
-    let e = at-line-places.line_places_lem.ensures in
-    let o = at-start.pre.0.offset in (
+    let e = at-line-places.line_places-count.ensures in
+    let o = at-start.requires.fact_1.offset in (
       f,
       (
-        sides_byte (lent at-start) _ _ at-start.args.two at-start.pre.0 _ (is at-sides-of),
+        sides_byte (lent at-start) _ _ at-start.args.two at-start.requires.fact_1 _ (is at-sides-of),
         (
-          found_bordered (lent at-start) _ _ at-start.args.two at-start.pre.0 _ (is at-sides-of) _ _ _ _ (found at-line-places).find-map.ensures
-              (counted at-line-places).map-words.ensures,
+          found_bordered (lent at-start) _ _ at-start.args.two at-start.requires.fact_1 _ (is at-sides-of) _ _ _ _ (found at-line-places).find_map-from.ensures
+              (counted at-line-places).map_words.ensures,
           (omega arith, sym (simp (length-take, length-drop) (omega arith))),
         ),
       ),
@@ -135,24 +135,25 @@ map-line-requires c κs =
 returns : tie.Need-returns
 returns c =
     let at-start : tie.Start = search in
-    let at-sides-of : tie.After-sides-of = search in
-    let at-line-places : tie.After-line-places = search in
-    let at-map-line : tie.After-map-line = search in
+    let at-sides-of : tie.After-sides_of-sides = search in
+    let at-line-places : tie.After-line_places-count = search in
+    let at-map-line : tie.After-map_line = search in
     let d = at-start.args.direction in
     let at = at-start.args.at in
     let h = ends at-line-places in
-    let n : ℕ = at-line-places.line_places_lem.result in (
-      made (lent at-start) _ _ at-start.args.two at-start.pre.0 _ (is at-sides-of) d at-start.args.lines.now _ at (at + n - at)
-          (let e = at-line-places.line_places_lem.ensures in omega arith) (omega arith)
-          (at-map-line.map-line.ensures _ _ (is at-sides-of) (lent_map at-line-places)),
+    let n : ℕ = at-line-places.line_places-count.result in (
+      made (lent at-start) _ _ at-start.args.two at-start.requires.fact_1 _ (is at-sides-of) d at-start.args.lines.now _ at (at + n - at)
+          (let e = at-line-places.line_places-count.ensures in omega arith) (omega arith)
+          (at-map-line.map_line.ensures _ _ (is at-sides-of) (lent_map at-line-places)),
       (
-        (found at-line-places).find-map.ensures.ready,
-        at-line-places.line_places_lem.ensures ∙ line_places_lem (lent at-start) _ _ at-start.args.two at-start.pre.0 _ (is at-sides-of) d,
+        (found at-line-places).find_map-from.ensures.ready,
+        at-line-places.line_places-count.ensures ∙ line_places_lem (lent at-start) _ _ at-start.args.two at-start.requires.fact_1 _ (is at-sides-of) d,
       ),
     )
 
-pub draw-line-spec : {M : Type 1} → statement M
-draw-line-spec =
+pub draw_line_spec : {M : Type 1} → statement M
+draw_line_spec =
     tie.close (tie.spec
-    sides-of-requires find-map-requires map-words-requires add-to line-places-requires add-end (search needs) (search needs) (search needs)
-    part-map-line-end (search needs) (search needs) part-map-line-end-2 map-line-requires (search needs) (search needs) returns)
+    sides_of-sides-requires find_map-from-requires map_words-requires overflow_add-to line_places-count-requires overflow_add-end (search rules)
+    (search rules) (search rules) slice_bounds-map_line-end (search rules) (search rules) slice_bounds-map_line-end-2 map_line-requires (search rules)
+    (search rules) returns)

@@ -1,5 +1,5 @@
 -- `search_lines::draw_source` meets its contract: the line of the two, forwards or backwards. Assumes nothing.
-use Rattle.list_laws.proofs.Kit.{subst, sym, Bool, needs}
+use Rattle.list_laws.proofs.Kit.{subst, sym, Bool, rules}
 use Rattle.model.specs.Lent.{Lent, lent_by}
 use Rattle.search_lines.specs.Sources.{SourceMade}
 use Rattle.search_lines.proofs.Sourcing.{made_plain}
@@ -10,36 +10,36 @@ use Rattle.search_lines.proofs.draw_source.Tie as tie
 abbrev lent : tie.Start → Lent
 lent c = lent_by c.args.size c.args.table.now c.args.pixels.now
 
-draw-back-requires : tie.Need-draw-back-requires
-draw-back-requires c κs = let e : tie.Start = search in e.pre
+draw_back-requires : tie.Need-draw_back-requires
+draw_back-requires c κs = let e : tie.Start = search in e.requires
 
-draw-line-requires : tie.Need-draw-line-requires
-draw-line-requires c κs = let e : tie.Start = search in e.pre
+draw_line-requires : tie.Need-draw_line-requires
+draw_line-requires c κs = let e : tie.Start = search in e.requires
+
+returns-then-source : tie.Need-returns-then-source
+returns-then-source c =
+    let e : tie.Start = search in
+    let b : tie.After-draw_back = search in
+    let t : tie.Then-source = search in
+    let a = e.args.source in (
+      subst (λ (x : Bool). SourceMade (lent e) (record { two = a.two-1; direction = a.direction; back = x }) e.args.lines.now e.args.at
+          b.draw_back.new.1.1.1.1.1.1.1.1.0) (sym t.if-source.true) b.draw_back.ensures.line,
+      b.draw_back.ensures.maps,
+    )
 
 returns : tie.Need-returns
 returns c =
     let e : tie.Start = search in
-    let b : tie.After-draw-back = search in
-    let t : tie.Then1 = search in
+    let b : tie.After-draw_line = search in
+    let t : tie.Else-source = search in
     let a = e.args.source in (
-      subst (λ (x : Bool). SourceMade (lent e) (record { two = a.two; direction = a.direction; back = x }) e.args.lines.now e.args.at
-          b.draw-back.last.1.1.1.1.1.1.1.1.0) (sym t.if1.taken) b.draw-back.ensures.0,
-      b.draw-back.ensures.1,
+      subst (λ (x : Bool). SourceMade (lent e) (record { two = a.two-1; direction = a.direction; back = x }) e.args.lines.now e.args.at
+          b.draw_line.new.1.1.1.1.1.1.1.1.0) (sym t.if-source.false)
+          (made_plain (lent e) a.direction a.two-1 e.args.lines.now e.args.at _ b.draw_line.ensures.line),
+      b.draw_line.ensures.maps.0,
     )
 
-returns-2 : tie.Need-returns-2
-returns-2 c =
-    let e : tie.Start = search in
-    let b : tie.After-draw-line = search in
-    let t : tie.Else1 = search in
-    let a = e.args.source in (
-      subst (λ (x : Bool). SourceMade (lent e) (record { two = a.two; direction = a.direction; back = x }) e.args.lines.now e.args.at
-          b.draw-line.last.1.1.1.1.1.1.1.1.0) (sym t.if1.left)
-          (made_plain (lent e) a.direction a.two e.args.lines.now e.args.at _ b.draw-line.ensures.0),
-      b.draw-line.ensures.1.0,
-    )
-
-pub draw-source-spec : {M : Type 1} → statement M
-draw-source-spec =
+pub draw_source_spec : {M : Type 1} → statement M
+draw_source_spec =
     tie.close (tie.spec
-    draw-back-requires (search needs) (search needs) returns draw-line-requires (search needs) (search needs) returns-2)
+    draw_back-requires (search rules) (search rules) returns-then-source draw_line-requires (search rules) (search rules) returns)

@@ -1,5 +1,5 @@
 -- `search_lines::exchanged` meets its contract. Assumes nothing.
-use Rattle.list_laws.proofs.Kit.{ap, ℕ, needs}
+use Rattle.list_laws.proofs.Kit.{ap, ℕ, rules}
 use Rattle.search_lines.specs.declared.Two.{Two}
 use Rattle.search_lines.proofs.exchanged.Statement.{statement}
 use Rattle.search_lines.proofs.exchanged.Tie as tie
@@ -15,5 +15,6 @@ returns c =
     let at_less : tie.After-less = search in
     ap (with_offset at-start.args.two) at_less.less.ensures
 
-pub exchanged-spec : {M : Type 1} → statement M
-exchanged-spec = tie.close (tie.spec (search needs) returns)
+pub exchanged_spec : {M : Type 1} → statement M
+exchanged_spec = tie.close (tie.spec
+    (search rules) returns)

@@ -1,5 +1,5 @@
 -- `search_lines::grown_sides` meets its contract: the turned boxes' columns and rows, grown. Assumes nothing.
-use Rattle.list_laws.proofs.Kit.{ap₂, ◌+◌, ℕ, needs}
+use Rattle.list_laws.proofs.Kit.{ap₂, ◌+◌, ℕ, rules}
 use Rattle.piece_pixels.specs.declared.Sides as box
 use Rattle.search_maps.specs.declared.Sides.{Sides}
 use Rattle.search_lines.proofs.grown_sides.Statement.{statement}
@@ -18,12 +18,13 @@ in_rows m n a b =
 returns : tie.Need-returns
 returns c =
     let e : tie.Start = search in
-    let at-turned-sides : tie.After-turned-sides = search in
-    let at-turned-sides2 : tie.After-turned-sides2 = search in
+    let at-turned-sides : tie.After-turned_sides-moved = search in
+    let at-turned-sides2 : tie.After-turned_sides-standing = search in
     λ size pixels.
-    ap₂ (in_rows e.args.moved_by e.args.standing_by) (at-turned-sides.turned-sides.ensures.0 size pixels)
-    (at-turned-sides2.turned-sides2.ensures.0 size pixels)
+    ap₂ (in_rows e.args.moved_by e.args.standing_by) (at-turned-sides.turned_sides-moved.ensures.sides size pixels)
+    (at-turned-sides2.turned_sides-standing.ensures.sides size pixels)
 
-pub grown-sides-spec : {M : Type 1} → statement M
-grown-sides-spec =
-    tie.close (tie.spec (search needs) (search needs) (search needs) (search needs) (search needs) (search needs) returns)
+pub grown_sides_spec : {M : Type 1} → statement M
+grown_sides_spec =
+    tie.close (tie.spec
+    (search rules) (search rules) (search rules) (search rules) (search rules) (search rules) returns)

@@ -1,5 +1,5 @@
 -- `search_lines::line_units` meets its contract: a side of the standing piece is at most the longer one, and no side is above 263. Assumes nothing.
-use Rattle.list_laws.proofs.Kit.{◌≡◌, ap, ◌≤◌, arith, needs}
+use Rattle.list_laws.proofs.Kit.{◌≡◌, ap, ◌≤◌, arith, rules}
 use Rattle.model.specs.Lent.{Lent, lent_by}
 use Rattle.model.specs.declared.Direction.TheVariants.{Horizontal, Vertical}
 use Rattle.model.specs.Piece.{extent}
@@ -14,84 +14,85 @@ use Rattle.search_lines.proofs.line_units.Tie as tie
 abbrev lent : tie.Start → Lent
 lent c = lent_by c.args.size c.args.table.now c.args.pixels.now
 
-sides-of-requires : tie.Need-sides-of-requires
-sides-of-requires c κs =
+sides_of-sides-requires : tie.Need-sides_of-sides-requires
+sides_of-sides-requires c κs =
     let e : tie.Start = search in
-    named_entries (lent e) e.args.two e.pre
+    named_entries (lent e) e.args.two e.requires
 
 -- the entry, from where the sides are known
-abbrev entry : tie.After-larger → tie.Start
+abbrev entry : tie.After-larger-longer → tie.Start
 entry c = search
 
-abbrev measured : tie.After-larger → tie.After-sides-of
+abbrev measured : tie.After-larger-longer → tie.After-sides_of-sides
 measured c = search
 
 -- the sides are the two pieces', which are small, and the longer one is above neither
-record SidesKnown (c : tie.After-larger) : Type 0 where
-  along : (measured c).sides_of_lem.result.moved_along ≡ extent Horizontal (moved_shape (lent (entry c)) (entry c).args.two)
-  across : (measured c).sides_of_lem.result.moved_across ≡ extent Vertical (moved_shape (lent (entry c)) (entry c).args.two)
+record SidesKnown (c : tie.After-larger-longer) : Type 0 where
+  along : (measured c).sides_of-sides.result.moved_along ≡ extent Horizontal (moved_shape (lent (entry c)) (entry c).args.two)
+  across : (measured c).sides_of-sides.result.moved_across ≡ extent Vertical (moved_shape (lent (entry c)) (entry c).args.two)
   along-small : extent Horizontal (moved_shape (lent (entry c)) (entry c).args.two) ≤ wide_bound
   across-small : extent Vertical (moved_shape (lent (entry c)) (entry c).args.two) ≤ wide_bound
-  longer-small : c.larger.result ≤ wide_bound
-  columns : extent Horizontal (standing_shape (lent (entry c)) (entry c).args.two) ≤ c.larger.result
-  rows : extent Vertical (standing_shape (lent (entry c)) (entry c).args.two) ≤ c.larger.result
+  longer-small : c.larger-longer.result ≤ wide_bound
+  columns : extent Horizontal (standing_shape (lent (entry c)) (entry c).args.two) ≤ c.larger-longer.result
+  rows : extent Vertical (standing_shape (lent (entry c)) (entry c).args.two) ≤ c.larger-longer.result
 
-known : (c : tie.After-larger) → SidesKnown c
+known : (c : tie.After-larger-longer) → SidesKnown c
 known c =
     let e = entry c in
-    let s = (measured c).sides_of_lem.ensures e.args.pixels.now in
+    let s = (measured c).sides_of-sides.ensures e.args.pixels.now in
     let standing_along = ap (λ (z : Sides). z.standing_along) s in
     let standing_across = ap (λ (z : Sides). z.standing_across) s in
-    let larger = c.larger.ensures in
-    let a = standing_small (lent e) e.args.two e.pre Horizontal in
-    let b = standing_small (lent e) e.args.two e.pre Vertical in
+    let larger = c.larger-longer.ensures in
+    let a = standing_small (lent e) e.args.two e.requires Horizontal in
+    let b = standing_small (lent e) e.args.two e.requires Vertical in
     record {
       along = ap (λ (z : Sides). z.moved_along) s;
       across = ap (λ (z : Sides). z.moved_across) s;
-      along-small = moved_small (lent e) e.args.two e.pre Horizontal;
-      across-small = moved_small (lent e) e.args.two e.pre Vertical;
+      along-small = moved_small (lent e) e.args.two e.requires Horizontal;
+      across-small = moved_small (lent e) e.args.two e.requires Vertical;
       longer-small = omega arith;
       columns = omega arith;
       rows = omega arith;
     }
 
-add-units-for : tie.Need-overflow-add-units-for
-add-units-for c = let l : tie.After-larger = search in let k = known l in omega (arith, k.along, k.along-small, k.longer-small)
+overflow_add-sides : tie.Need-overflow_add-sides
+overflow_add-sides c = let l : tie.After-larger-longer = search in let k = known l in omega (arith, k.along, k.along-small, k.longer-small)
 
-units-for-requires : tie.Need-units-for-requires
-units-for-requires c κs = let l : tie.After-larger = search in let k = known l in omega (arith, k.along, k.along-small, k.longer-small)
+units_for-requires : tie.Need-units_for-requires
+units_for-requires c κs = let l : tie.After-larger-longer = search in let k = known l in omega (arith, k.along, k.along-small, k.longer-small)
 
-add-units-for-2 : tie.Need-overflow-add-units-for-2
-add-units-for-2 c = let l : tie.After-larger = search in let k = known l in omega (arith, k.across, k.across-small, k.longer-small)
+overflow_add-sides-in-Vertical : tie.Need-overflow_add-sides-in-Vertical
+overflow_add-sides-in-Vertical c = let l : tie.After-larger-longer = search in let k = known l in omega (arith, k.across, k.across-small, k.longer-small)
 
-units-for-requires-2 : tie.Need-units-for-requires-2
-units-for-requires-2 c κs = let l : tie.After-larger = search in let k = known l in omega (arith, k.across, k.across-small, k.longer-small)
+units_for-requires-in-Vertical : tie.Need-units_for-requires-in-Vertical
+units_for-requires-in-Vertical c κs = let l : tie.After-larger-longer = search in let k = known l in omega (arith, k.across, k.across-small, k.longer-small)
 
-returns : tie.Need-returns
-returns c =
-    let l : tie.After-larger = search in
+returns-in-Horizontal : tie.Need-returns-in-Horizontal
+returns-in-Horizontal c =
+    let l : tie.After-larger-longer = search in
     let k = known l in
     let e = k.along in
     let a = k.along-small in
     let b = k.longer-small in
     let f = k.columns in
-    let u = c.units-for.ensures in
-    let told : tie.After-enum-told = search in
-    rw told.enum_told.given.1 (record { some = omega arith; enough = omega arith; few = omega arith })
+    let u = c.units_for.ensures in
+    let told : tie.In-Horizontal = search in
+    rw told.enum_told-1.given.1 (record { some = omega arith; enough = omega arith; few = omega arith })
 
-returns-2 : tie.Need-returns-2
-returns-2 c =
-    let l : tie.After-larger = search in
+returns-in-Vertical : tie.Need-returns-in-Vertical
+returns-in-Vertical c =
+    let l : tie.After-larger-longer = search in
     let k = known l in
     let e = k.across in
     let a = k.across-small in
     let b = k.longer-small in
     let f = k.rows in
-    let u = c.units-for2.ensures in
-    let told : tie.After-enum-told2 = search in
-    rw told.enum-told2.given.1 (record { some = omega arith; enough = omega arith; few = omega arith })
+    let u = c.units_for-in-Vertical.ensures in
+    let told : tie.In-Vertical = search in
+    rw told.enum_told-in-Vertical-1.given.1 (record { some = omega arith; enough = omega arith; few = omega arith })
 
-pub line-units-spec : {M : Type 1} → statement M
-line-units-spec =
+pub line_units_spec : {M : Type 1} → statement M
+line_units_spec =
     tie.close (tie.spec
-    sides-of-requires (search needs) (search needs) add-units-for units-for-requires (search needs) add-units-for-2 units-for-requires-2 returns returns-2)
+    sides_of-sides-requires (search rules) (search rules) overflow_add-sides units_for-requires (search rules) overflow_add-sides-in-Vertical
+    units_for-requires-in-Vertical returns-in-Horizontal returns-in-Vertical)

@@ -1,5 +1,5 @@
 -- `search_lines::mirrored_offset` meets its contract: the boxes' sides are small. Assumes nothing.
-use Rattle.list_laws.proofs.Kit.{◌∙◌, ◌≡◌, ap, ap₂, ◌+◌, ◌-◌, ◌≤◌, ℕ, arith, needs}
+use Rattle.list_laws.proofs.Kit.{◌∙◌, ◌≡◌, ap, ap₂, ◌+◌, ◌-◌, ◌≤◌, ℕ, arith, rules}
 use Rattle.model.specs.Lent.{Lent, lent_by}
 use Rattle.model.specs.declared.Direction.TheVariants.{Horizontal}
 use Rattle.overlap_laws.specs.Grown.{wide_bound}
@@ -14,43 +14,44 @@ use Rattle.search_lines.proofs.mirrored_offset.Tie as tie
 abbrev lent : tie.Start → Lent
 lent c = lent_by c.args.size c.args.table.now c.args.pixels.now
 
-sides-of-requires : tie.Need-sides-of-requires
-sides-of-requires c κs =
+sides_of-sides-requires : tie.Need-sides_of-sides-requires
+sides_of-sides-requires c κs =
     let e : tie.Start = search in
-    named_entries (lent e) e.args.two e.pre
+    named_entries (lent e) e.args.two e.requires
 
 -- the sides, which are small
-sides : (c : tie.After-sides-of)
+sides : (c : tie.After-sides_of-sides)
     →
     let e : tie.Start = search in
-    (c.sides_of_lem.result.moved_along ≡ (moved_shape (lent e) e.args.two).columns)
-    × (c.sides_of_lem.result.standing_along ≡ (standing_shape (lent e) e.args.two).columns)
+    (c.sides_of-sides.result.moved_along ≡ (moved_shape (lent e) e.args.two).columns)
+    × (c.sides_of-sides.result.standing_along ≡ (standing_shape (lent e) e.args.two).columns)
     × ((moved_shape (lent e) e.args.two).columns ≤ wide_bound) × ((standing_shape (lent e) e.args.two).columns ≤ wide_bound)
 sides c =
     let e : tie.Start = search in
-    let s = c.sides_of_lem.ensures e.args.pixels.now in (
+    let s = c.sides_of-sides.ensures e.args.pixels.now in (
       ap (λ (z : Sides). z.moved_along) s,
       ap (λ (z : Sides). z.standing_along) s,
-      moved_small (lent e) e.args.two e.pre Horizontal,
-      standing_small (lent e) e.args.two e.pre Horizontal,
+      moved_small (lent e) e.args.two e.requires Horizontal,
+      standing_small (lent e) e.args.two e.requires Horizontal,
     )
 
-add-less : tie.Need-overflow-add-less
-add-less c = let at-sides-of : tie.After-sides-of = search in let h = sides at-sides-of in omega arith
+overflow_add-sides : tie.Need-overflow_add-sides
+overflow_add-sides c = let at-sides-of : tie.After-sides_of-sides = search in let h = sides at-sides-of in omega arith
 
-add-less-2 : tie.Need-overflow-add-less-2
-add-less-2 c =
+overflow_add-sides-2 : tie.Need-overflow_add-sides-2
+overflow_add-sides-2 c =
     let e : tie.Start = search in
-    let at-sides-of : tie.After-sides-of = search in
+    let at-sides-of : tie.After-sides_of-sides = search in
     let h = sides at-sides-of in
-    omega (arith, e.pre.offset)
+    omega (arith, e.requires.offset)
 
 returns : tie.Need-returns
 returns c =
     let e : tie.Start = search in
-    let at-sides-of : tie.After-sides-of = search in
+    let at-sides-of : tie.After-sides_of-sides = search in
     let h = sides at-sides-of in
     c.less.ensures ∙ ap₂ (λ (x y : ℕ). middle + middle + x - (y + e.args.two.offset)) h.0 h.1
 
-pub mirrored-offset-spec : {M : Type 1} → statement M
-mirrored-offset-spec = tie.close (tie.spec sides-of-requires add-less add-less-2 (search needs) returns)
+pub mirrored_offset_spec : {M : Type 1} → statement M
+mirrored_offset_spec = tie.close (tie.spec
+    sides_of-sides-requires overflow_add-sides overflow_add-sides-2 (search rules) returns)

@@ -1,5 +1,5 @@
 -- `search_lines::ready_maps` meets its contract: the classes are written, then all maps past them are forgotten. Assumes nothing.
-use Rattle.list_laws.proofs.Kit.{◌∙◌, ◌≡◌, refl, List, ◌-◌, ℕ, arith, drop, length, length-drop, length-take, take, needs}
+use Rattle.list_laws.proofs.Kit.{◌∙◌, ◌≡◌, refl, List, ◌-◌, ℕ, arith, drop, length, length-drop, length-take, take, rules}
 use Rattle.model.specs.Lent.{Lent, lent_by, job_of}
 use Rattle.job_laws.proofs.Checked.{facts, lent_few}
 use Rattle.search_lines.proofs.Parts.{ready_forgotten}
@@ -10,28 +10,28 @@ use Rattle.search_lines.proofs.ready_maps.Tie as tie
 abbrev lent : tie.Start → Lent
 lent c = lent_by c.args.size c.args.table.now c.args.pixels.now
 
-put-classes-requires : tie.Need-put-classes-requires
-put-classes-requires c κs =
+put_classes-requires : tie.Need-put_classes-requires
+put_classes-requires c κs =
     let e : tie.Start = search in
-    let f = (facts (lent e) e.pre.0).few_pieces in
-    let room = e.pre.1.0 in
-    (e.pre.0, omega arith)
+    let f = (facts (lent e) e.requires.fact_1).few_pieces in
+    let room = e.requires.fact_2.0 in
+    (e.requires.fact_1, omega arith)
 
 returns : tie.Need-returns
 returns c =
     let e : tie.Start = search in
-    let at-put-classes : tie.After-put-classes = search in
-    let at-forget-maps : tie.After-forget-maps = search in
-    let xs : List ℕ = at-put-classes.put-classes.last.1.1.1.0 in
-    let same : length xs ≡ length e.args.maps.now = at-put-classes.put-classes.kept.1.1.1.0 in
-    let room = e.pre.1.0 in
-    let short = e.pre.1.1 in
+    let at-put-classes : tie.After-put_classes = search in
+    let at-forget-maps : tie.After-forget_maps = search in
+    let xs : List ℕ = at-put-classes.put_classes.new.1.1.1.0 in
+    let same : length xs ≡ length e.args.maps.now = at-put-classes.put_classes.auto.1.1.1.0 in
+    let room = e.requires.fact_2.0 in
+    let short = e.requires.fact_2.1 in
     let long : length (take (length xs - 64) (drop 64 xs)) ≡ length xs - 64 = simp (length-take, length-drop) (omega arith) in
-    let g = at-forget-maps.forget-maps.ensures in
-    ready_forgotten (job_of (lent e)) xs _ _ refl (g.same ∙ long) (lent_few (lent e) e.pre.0) at-put-classes.put-classes.ensures (omega arith)
+    let g = at-forget-maps.forget_maps.ensures in
+    ready_forgotten (job_of (lent e)) xs _ _ refl (g.same ∙ long) (lent_few (lent e) e.requires.fact_1) at-put-classes.put_classes.ensures (omega arith)
     (omega arith) _ long g
 
-pub ready-maps-spec : {M : Type 1} → statement M
-ready-maps-spec =
+pub ready_maps_spec : {M : Type 1} → statement M
+ready_maps_spec =
     tie.close (tie.spec
-    put-classes-requires (search needs) (search needs) (search needs) (search needs) (search needs) (search needs) returns)
+    put_classes-requires (search rules) (search rules) (search rules) (search rules) (search rules) (search rules) returns)

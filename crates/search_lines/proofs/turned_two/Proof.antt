@@ -1,5 +1,5 @@
 -- `search_lines::turned_two` meets its contract. Assumes nothing.
-use Rattle.list_laws.proofs.Kit.{ap₂, ℕ, needs}
+use Rattle.list_laws.proofs.Kit.{ap₂, ℕ, rules}
 use Rattle.model.specs.declared.Turn.{Turn}
 use Rattle.search_lines.specs.declared.Two.{Two}
 use Rattle.search_lines.proofs.turned_two.Statement.{statement}
@@ -12,7 +12,8 @@ with_turns two o t u = record { moved = two.moved; moved_turn = t; standing = tw
 returns : tie.Need-returns
 returns c =
     let e : tie.Start = search in
-    ap₂ (with_turns e.args.two e.args.offset) c.before.turn-before.ensures c.turn-before2.ensures
+    ap₂ (with_turns e.args.two e.args.offset) c.before.turn_before.ensures c.turn_before-2.ensures
 
-pub turned-two-spec : {M : Type 1} → statement M
-turned-two-spec = tie.close (tie.spec (search needs) (search needs) returns)
+pub turned_two_spec : {M : Type 1} → statement M
+turned_two_spec = tie.close (tie.spec
+    (search rules) (search rules) returns)

@@ -1,52 +1,53 @@
 -- `search_map_lines::row_line` meets its contract: one block of places after the other. Assumes nothing.
-use Rattle.list_laws.proofs.Kit.{◌≡◌, refl, ◌-◌, ◌≤◌, arith, length, needs}
+use Rattle.list_laws.proofs.Kit.{◌≡◌, refl, ◌-◌, ◌≤◌, arith, length, rules}
 use Rattle.search_map_lines.proofs.Rows.{RowDoing, row_start_lem, block_reaches, row_step, row_end}
 use Rattle.search_map_lines.proofs.row_line.Statement.{statement}
 use Rattle.search_map_lines.proofs.row_line.Tie as tie
 
-abbrev invariant-loop : tie.invariant-loop
-invariant-loop ws w p places line₀ at₀ line at = (at ≤ places) × (length line ≡ length line₀) × (RowDoing ws w p places line₀ line at)
+abbrev invariant-loop-at : tie.invariant-loop-at
+invariant-loop-at ws w p places line₀ at₀ line at = (at ≤ places) × (length line ≡ length line₀) × (RowDoing ws w p places line₀ line at)
 
-abbrev decreases-loop : tie.decreases-loop
-decreases-loop ws w p places line₀ at₀ line at = places - at
+abbrev decreases-loop-at : tie.decreases-loop-at
+decreases-loop-at ws w p places line₀ at₀ line at = places - at
 
-loop-holds : tie.Need-loop-init invariant-loop decreases-loop
-loop-holds c = (omega arith, refl, row_start_lem _ _ _ _ _)
+loop-at-init : tie.Need-loop-at-init invariant-loop-at decreases-loop-at
+loop-at-init c = (omega arith, refl, row_start_lem _ _ _ _ _)
 
-add-peel : tie.Need-overflow-add-peel invariant-loop decreases-loop
-add-peel c =
-    let at-start : tie.Start invariant-loop decreases-loop = search in
-    omega (arith, at-start.pre.0.high, at-start.pre.0.room)
+overflow_add-p : tie.Need-overflow_add-p invariant-loop-at decreases-loop-at
+overflow_add-p c =
+    let at-start : tie.Start invariant-loop-at decreases-loop-at = search in
+    omega (arith, at-start.requires.fact_1.high, at-start.requires.fact_1.room)
 
-peel-requires : tie.Need-peel-requires invariant-loop decreases-loop
+peel-requires : tie.Need-peel-requires invariant-loop-at decreases-loop-at
 peel-requires c κs =
-    let at-start : tie.Start invariant-loop decreases-loop = search in
+    let at-start : tie.Start invariant-loop-at decreases-loop-at = search in
     let a = at-start.args in
-    let o = c.before.before.before.loop in
-    let n = c.before.smaller.ensures in
-    let l = c.before.before.loop-test.true in (
-      block_reaches a.ws.now a.w a.p a.places a.line.now o.at _ at-start.pre.0 (omega arith) (omega arith) (omega arith),
+    let o = c.before.before.before.loop-at in
+    let n = c.before.smaller-count.ensures in
+    let l = c.before.before.loop-at-test.true in (
+      block_reaches a.ws.now a.w a.p a.places a.line-1.now o.at _ at-start.requires.fact_1 (omega arith) (omega arith) (omega arith),
       (omega arith, omega arith),
     )
 
-loop-again : tie.Need-loop-preserved invariant-loop decreases-loop
-loop-again c =
-    let at-start : tie.Start invariant-loop decreases-loop = search in
+loop-at-preserved : tie.Need-loop-at-preserved invariant-loop-at decreases-loop-at
+loop-at-preserved c =
+    let at-start : tie.Start invariant-loop-at decreases-loop-at = search in
     let a = at-start.args in
-    let o = c.before.before.before.before.before.before.loop in
-    let n = c.before.before.before.before.smaller.ensures in
-    let g = row_step a.ws.now a.w a.p a.places a.line.now o.line _ o.at _ o.invariant.2 c.before.before.peel.ensures in
+    let o = c.before.before.before.before.before.before.loop-at in
+    let n = c.before.before.before.before.smaller-count.ensures in
+    let g = row_step a.ws.now a.w a.p a.places a.line-1.now o.line-1 _ o.at _ o.invariant.2 c.before.before.peel.ensures in
     (omega arith, g.same, g)
 
-same_length : tie.Need-same-length invariant-loop decreases-loop
-same_length c = c.before.loop.invariant.1
+shape_of-line : tie.Need-shape_of-line invariant-loop-at decreases-loop-at
+shape_of-line c = c.before.loop-at.invariant.1
 
-returns : tie.Need-returns invariant-loop decreases-loop
+returns : tie.Need-returns invariant-loop-at decreases-loop-at
 returns c =
-    let o = c.before.loop in
+    let o = c.before.loop-at in
     row_end _ _ _ _ _ _ _ (omega arith) o.invariant.2
 
-pub row-line-spec : {M : Type 1} → statement M
-row-line-spec =
-    tie.close (tie.spec invariant-loop decreases-loop loop-holds (omega arith) (search needs) add-peel peel-requires (omega arith) (omega arith)
-    loop-again same_length returns)
+pub row_line_spec : {M : Type 1} → statement M
+row_line_spec =
+    tie.close (tie.spec
+    invariant-loop-at decreases-loop-at loop-at-init (omega arith) (search rules) overflow_add-p peel-requires (omega arith) (omega arith)
+    loop-at-preserved shape_of-line returns)

@@ -5,14 +5,15 @@ use Rattle.search_marks.proofs.Adding.{level_at}
 use Rattle.search_marks.proofs.level_of.Statement.{statement}
 use Rattle.search_marks.proofs.level_of.Tie as tie
 
-cast-result : tie.Need-overflow-cast-result
-cast-result c = omega (arith, leading_le 64 c.args.count)
+overflow_cast-result : tie.Need-overflow_cast-result
+overflow_cast-result c = omega (arith, leading_le 64 c.args.count)
 
-sub-result : tie.Need-overflow-sub-result
-sub-result c = (level_at c.args.count (omega arith) (omega arith)).0
+overflow_sub-result : tie.Need-overflow_sub-result
+overflow_sub-result c = (level_at c.args.count (omega arith) (omega arith)).0
 
 returns : tie.Need-returns
 returns c = (level_at c.args.count (omega arith) (omega arith)).1
 
-pub level-of-spec : {M : Type 1} → statement M
-level-of-spec = tie.close (tie.spec cast-result sub-result returns)
+pub level_of_spec : {M : Type 1} → statement M
+level_of_spec = tie.close (tie.spec
+    overflow_cast-result overflow_sub-result returns)

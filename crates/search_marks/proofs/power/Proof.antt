@@ -1,5 +1,5 @@
 -- `search_marks::power` meets its contract: nothing is shifted out. Assumes nothing.
-use Rattle.list_laws.proofs.Kit.{arith, needs}
+use Rattle.list_laws.proofs.Kit.{arith, rules}
 use Rattle.search_marks.proofs.Adding.{power_of}
 use Rattle.search_marks.proofs.power.Statement.{statement}
 use Rattle.search_marks.proofs.power.Tie as tie
@@ -7,5 +7,6 @@ use Rattle.search_marks.proofs.power.Tie as tie
 returns : tie.Need-returns
 returns c = power_of c.args.k (omega arith)
 
-pub power-spec : {M : Type 1} → statement M
-power-spec = tie.close (tie.spec (search needs) returns)
+pub power_spec : {M : Type 1} → statement M
+power_spec = tie.close (tie.spec
+    (search rules) returns)

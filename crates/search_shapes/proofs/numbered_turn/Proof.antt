@@ -1,11 +1,12 @@
 -- `search_shapes::numbered_turn` meets its contract: the last arm is of the numbers from 3 on. Assumes nothing.
-use Rattle.list_laws.proofs.Kit.{needs}
+use Rattle.list_laws.proofs.Kit.{rules}
 use Rattle.search_shapes.proofs.Numbers.{last_turn}
 use Rattle.search_shapes.proofs.numbered_turn.Statement.{statement}
 use Rattle.search_shapes.proofs.numbered_turn.Tie as tie
 
-returns-4 : tie.Need-returns-4
-returns-4 c = last_turn _ c.match.rest.0.0.1 c.match.rest.0.1 c.match.rest.1
+returns-in_default : tie.Need-returns-in_default
+returns-in_default c = last_turn _ c.in-0.rest.0.0.1 c.in-0.rest.0.1 c.in-0.rest.1
 
-pub numbered-turn-spec : {M : Type 1} → statement M
-numbered-turn-spec = tie.close (tie.spec (λ c. search needs) (λ c. search needs) (λ c. search needs) returns-4)
+pub numbered_turn_spec : {M : Type 1} → statement M
+numbered_turn_spec = tie.close (tie.spec
+    (λ c. search rules) (λ c. search rules) (λ c. search rules) returns-in_default)

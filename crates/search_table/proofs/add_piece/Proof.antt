@@ -12,8 +12,8 @@ use Rattle.layout_strips.specs.Kept.{Kept}
 use Rattle.search_table.proofs.add_piece.Statement.{statement}
 use Rattle.search_table.proofs.add_piece.Tie as tie
 
-abbrev invariant-loop : tie.invariant-loop
-invariant-loop table pixels layout i gap rows₀ row-spans₀ columns₀ column-spans₀ penalties₀ k₀ rows row-spans columns column-spans penalties k =
+abbrev invariant-loop-k : tie.invariant-loop-k
+invariant-loop-k table pixels layout i gap rows₀ row-spans₀ columns₀ column-spans₀ penalties₀ k₀ rows row-spans columns column-spans penalties k =
     (k ≤ i) × (length rows ≡ length rows₀) × (length row-spans ≡ length row-spans₀) × (length columns ≡ length columns₀)
     × (length column-spans ≡ length column-spans₀) × (length penalties ≡ length penalties₀) × Kept Horizontal table pixels layout rows row-spans
     × Kept Vertical table pixels layout columns column-spans
@@ -22,93 +22,93 @@ invariant-loop table pixels layout i gap rows₀ row-spans₀ columns₀ column-
     → PenaltyTable (job_of (lent_by size table pixels)) (layout_of layout) i penalties₀
     → Renewed (job_of (lent_by size table pixels)) (layout_of layout) (i + 1) i (place_of (layout_of layout) i) k penalties)
 
-abbrev decreases-loop : tie.decreases-loop
-decreases-loop table pixels layout i gap rows₀ row-spans₀ columns₀ column-spans₀ penalties₀ k₀ rows row-spans columns column-spans penalties k = i - k
+abbrev decreases-loop-k : tie.decreases-loop-k
+decreases-loop-k table pixels layout i gap rows₀ row-spans₀ columns₀ column-spans₀ penalties₀ k₀ rows row-spans columns column-spans penalties k = i - k
 
-loop-holds : tie.Need-loop-init invariant-loop decreases-loop
-loop-holds c =
-    let s : tie.Start invariant-loop decreases-loop = search in
+loop-k-init : tie.Need-loop-k-init invariant-loop-k decreases-loop-k
+loop-k-init c =
+    let s : tie.Start invariant-loop-k decreases-loop-k = search in
     let a = s.args in
-    (omega arith, refl, refl, refl, refl, refl, s.pre.1.1.0, s.pre.1.1.1.0, λ size g t. added_begin _ _ a.i _ a.penalties.now t)
+    (omega arith, refl, refl, refl, refl, refl, s.requires.fact_2.1.0, s.requires.fact_2.1.1.0, λ size g t. added_begin _ _ a.i _ a.penalties.now t)
 
-penalty-of-requires : tie.Need-penalty-of-requires invariant-loop decreases-loop
-penalty-of-requires c κs =
-    let at-loop : tie.At-loop invariant-loop decreases-loop = search in
-    let s : tie.Start invariant-loop decreases-loop = search in
-    let in-loop : tie.In-loop invariant-loop decreases-loop = search in
-    let b = s.pre.1.0.0 in
-    let taken = in-loop.loop-test.taken in
-    (s.pre.0, ((b, omega arith), (at-loop.loop.inv.6, (at-loop.loop.inv.7, s.pre.1.0.1))))
+penalty_of-p-requires : tie.Need-penalty_of-p-requires invariant-loop-k decreases-loop-k
+penalty_of-p-requires c κs =
+    let at-loop : tie.At-loop-k invariant-loop-k decreases-loop-k = search in
+    let s : tie.Start invariant-loop-k decreases-loop-k = search in
+    let in-loop : tie.In-loop-k invariant-loop-k decreases-loop-k = search in
+    let b = s.requires.fact_2.0.0 in
+    let taken = in-loop.loop-k-test.true in
+    (s.requires.fact_1, ((b, omega arith), (at-loop.loop-k.invariant.6, (at-loop.loop-k.invariant.7, s.requires.fact_2.0.1))))
 
 -- the turn of the loop in which a pair is measured
-abbrev within : tie.After-penalty-of invariant-loop decreases-loop → tie.In-loop invariant-loop decreases-loop
+abbrev within : tie.After-penalty_of-p invariant-loop-k decreases-loop-k → tie.In-loop-k invariant-loop-k decreases-loop-k
 within c = search
 
-cast-p : tie.Need-overflow-cast-p invariant-loop decreases-loop
-cast-p c =
-    let measured : tie.After-penalty-of invariant-loop decreases-loop = search in
-    let in-loop : tie.In-loop invariant-loop decreases-loop = within measured in
-    let taken = in-loop.loop-test.taken in
-    let byte = measured.penalty-of.ensures.1.0 (λ e. omega arith) in omega arith
+overflow_cast-p : tie.Need-overflow_cast-p invariant-loop-k decreases-loop-k
+overflow_cast-p c =
+    let measured : tie.After-penalty_of-p invariant-loop-k decreases-loop-k = search in
+    let in-loop : tie.In-loop-k invariant-loop-k decreases-loop-k = within measured in
+    let taken = in-loop.loop-k-test.true in
+    let byte = measured.penalty_of-p.ensures.small.0 (λ e. omega arith) in omega arith
 
 -- both entries are in the table
-record There (s : tie.Start invariant-loop decreases-loop) (at-loop : tie.At-loop invariant-loop decreases-loop) : Type 0 where
-  row : entry s.args.i at-loop.loop.k < 4096
-  column : entry at-loop.loop.k s.args.i < 4096
-  size : length at-loop.loop.penalties ≡ 4096
+record There (s : tie.Start invariant-loop-k decreases-loop-k) (at-loop : tie.At-loop-k invariant-loop-k decreases-loop-k) : Type 0 where
+  row : entry s.args.i at-loop.loop-k.k < 4096
+  column : entry at-loop.loop-k.k s.args.i < 4096
+  size : length at-loop.loop-k.penalties ≡ 4096
 
-there : (c : tie.In-loop invariant-loop decreases-loop) →
-    let at-loop : tie.At-loop invariant-loop decreases-loop = search in
-    let s : tie.Start invariant-loop decreases-loop = search in
+there : (c : tie.In-loop-k invariant-loop-k decreases-loop-k) →
+    let at-loop : tie.At-loop-k invariant-loop-k decreases-loop-k = search in
+    let s : tie.Start invariant-loop-k decreases-loop-k = search in
     There s at-loop
 there c =
-    let at-loop : tie.At-loop invariant-loop decreases-loop = search in
-    let s : tie.Start invariant-loop decreases-loop = search in
-    let few = s.pre.0.few in
-    let b = s.pre.1.0.0 in
-    let taken = c.loop-test.true in
-    record { row = omega arith; column = omega arith; size = at-loop.loop.inv.5 ∙ s.pre.1.1.1.1 }
+    let at-loop : tie.At-loop-k invariant-loop-k decreases-loop-k = search in
+    let s : tie.Start invariant-loop-k decreases-loop-k = search in
+    let few = s.requires.fact_1.few in
+    let b = s.requires.fact_2.0.0 in
+    let taken = c.loop-k-test.true in
+    record { row = omega arith; column = omega arith; size = at-loop.loop-k.invariant.5 ∙ s.requires.fact_2.1.1.1 }
 
-mul-penalties : tie.Need-overflow-mul-penalties invariant-loop decreases-loop
-mul-penalties c = let in-loop : tie.In-loop invariant-loop decreases-loop = search in let t = there in-loop in omega arith
+overflow_mul-penalties : tie.Need-overflow_mul-penalties invariant-loop-k decreases-loop-k
+overflow_mul-penalties c = let in-loop : tie.In-loop-k invariant-loop-k decreases-loop-k = search in let t = there in-loop in omega arith
 
-add-penalties : tie.Need-overflow-add-penalties invariant-loop decreases-loop
-add-penalties c = let in-loop : tie.In-loop invariant-loop decreases-loop = search in let t = there in-loop in omega arith
+overflow_add-penalties : tie.Need-overflow_add-penalties invariant-loop-k decreases-loop-k
+overflow_add-penalties c = let in-loop : tie.In-loop-k invariant-loop-k decreases-loop-k = search in let t = there in-loop in omega arith
 
-slice-write-penalties : tie.Need-slice-write-penalties invariant-loop decreases-loop
-slice-write-penalties c = let in-loop : tie.In-loop invariant-loop decreases-loop = search in let t = there in-loop in omega arith
+bounds-penalties-i : tie.Need-bounds-penalties-i invariant-loop-k decreases-loop-k
+bounds-penalties-i c = let in-loop : tie.In-loop-k invariant-loop-k decreases-loop-k = search in let t = there in-loop in omega arith
 
-mul-penalties-2 : tie.Need-overflow-mul-penalties-2 invariant-loop decreases-loop
-mul-penalties-2 c = let in-loop : tie.In-loop invariant-loop decreases-loop = search in let t = there in-loop in omega arith
+overflow_mul-penalties-in-loop-k : tie.Need-overflow_mul-penalties-in-loop-k invariant-loop-k decreases-loop-k
+overflow_mul-penalties-in-loop-k c = let in-loop : tie.In-loop-k invariant-loop-k decreases-loop-k = search in let t = there in-loop in omega arith
 
-add-penalties-2 : tie.Need-overflow-add-penalties-2 invariant-loop decreases-loop
-add-penalties-2 c = let in-loop : tie.In-loop invariant-loop decreases-loop = search in let t = there in-loop in omega arith
+overflow_add-penalties-in-loop-k : tie.Need-overflow_add-penalties-in-loop-k invariant-loop-k decreases-loop-k
+overflow_add-penalties-in-loop-k c = let in-loop : tie.In-loop-k invariant-loop-k decreases-loop-k = search in let t = there in-loop in omega arith
 
-slice-write-penalties-2 : tie.Need-slice-write-penalties-2 invariant-loop decreases-loop
-slice-write-penalties-2 c = let in-loop : tie.In-loop invariant-loop decreases-loop = search in let t = there in-loop in simp length-set (omega arith)
+bounds-penalties-k : tie.Need-bounds-penalties-k invariant-loop-k decreases-loop-k
+bounds-penalties-k c = let in-loop : tie.In-loop-k invariant-loop-k decreases-loop-k = search in let t = there in-loop in simp length-set (omega arith)
 
-add-k : tie.Need-overflow-add-k invariant-loop decreases-loop
-add-k c =
-    let in-loop : tie.In-loop invariant-loop decreases-loop = search in
+overflow_add-k : tie.Need-overflow_add-k invariant-loop-k decreases-loop-k
+overflow_add-k c =
+    let in-loop : tie.In-loop-k invariant-loop-k decreases-loop-k = search in
     let t = there in-loop in
     let row = t.row in
     let column = t.column in omega arith
 
-loop-less : tie.Need-loop-smaller invariant-loop decreases-loop
-loop-less c = let in-loop : tie.In-loop invariant-loop decreases-loop = search in let l = in-loop.loop-test.taken in omega arith
+loop-k-smaller : tie.Need-loop-k-smaller invariant-loop-k decreases-loop-k
+loop-k-smaller c = let in-loop : tie.In-loop-k invariant-loop-k decreases-loop-k = search in let l = in-loop.loop-k-test.true in omega arith
 
-loop-again : tie.Need-loop-preserved invariant-loop decreases-loop
-loop-again c =
-    let at-loop : tie.At-loop invariant-loop decreases-loop = search in
-    let s : tie.Start invariant-loop decreases-loop = search in
-    let at-penalty : tie.After-penalty-of invariant-loop decreases-loop = search in
+loop-k-preserved : tie.Need-loop-k-preserved invariant-loop-k decreases-loop-k
+loop-k-preserved c =
+    let at-loop : tie.At-loop-k invariant-loop-k decreases-loop-k = search in
+    let s : tie.Start invariant-loop-k decreases-loop-k = search in
+    let at-penalty : tie.After-penalty_of-p invariant-loop-k decreases-loop-k = search in
     let in-loop = within at-penalty in
     let a = s.args in
-    let l = at-loop.loop in
-    let measured = at-penalty.penalty-of in
-    let few = s.pre.0.few in
-    let b = s.pre.1.0.0 in
-    let taken = in-loop.loop-test.taken in (
+    let l = at-loop.loop-k in
+    let measured = at-penalty.penalty_of-p in
+    let few = s.requires.fact_1.few in
+    let b = s.requires.fact_2.0.0 in
+    let taken = in-loop.loop-k-test.true in (
       omega arith,
       measured.kept.1.1.1.1.1.1.0 ∙ l.inv.1,
       measured.kept.1.1.1.1.1.1.1.0 ∙ l.inv.2,
@@ -123,29 +123,29 @@ loop-again c =
           (measured.ensures.0 size g) (l.inv.8 size g t),
     )
 
-same_length : tie.Need-same-length invariant-loop decreases-loop
-same_length c = let at-loop : tie.At-loop invariant-loop decreases-loop = search in at-loop.loop.inv.1
+shape_of-rows : tie.Need-shape_of-rows invariant-loop-k decreases-loop-k
+shape_of-rows c = let at-loop : tie.At-loop-k invariant-loop-k decreases-loop-k = search in at-loop.loop-k.invariant.1
 
-same-length-2 : tie.Need-same-length-2 invariant-loop decreases-loop
-same-length-2 c = let at-loop : tie.At-loop invariant-loop decreases-loop = search in at-loop.loop.inv.2
+shape_of-row_spans : tie.Need-shape_of-row_spans invariant-loop-k decreases-loop-k
+shape_of-row_spans c = let at-loop : tie.At-loop-k invariant-loop-k decreases-loop-k = search in at-loop.loop-k.invariant.2
 
-same-length-3 : tie.Need-same-length-3 invariant-loop decreases-loop
-same-length-3 c = let at-loop : tie.At-loop invariant-loop decreases-loop = search in at-loop.loop.inv.3
+shape_of-columns : tie.Need-shape_of-columns invariant-loop-k decreases-loop-k
+shape_of-columns c = let at-loop : tie.At-loop-k invariant-loop-k decreases-loop-k = search in at-loop.loop-k.invariant.3
 
-same-length-4 : tie.Need-same-length-4 invariant-loop decreases-loop
-same-length-4 c = let at-loop : tie.At-loop invariant-loop decreases-loop = search in at-loop.loop.inv.4
+shape_of-column_spans : tie.Need-shape_of-column_spans invariant-loop-k decreases-loop-k
+shape_of-column_spans c = let at-loop : tie.At-loop-k invariant-loop-k decreases-loop-k = search in at-loop.loop-k.invariant.4
 
-same-length-5 : tie.Need-same-length-5 invariant-loop decreases-loop
-same-length-5 c = let at-loop : tie.At-loop invariant-loop decreases-loop = search in at-loop.loop.inv.5
+shape_of-penalties : tie.Need-shape_of-penalties invariant-loop-k decreases-loop-k
+shape_of-penalties c = let at-loop : tie.At-loop-k invariant-loop-k decreases-loop-k = search in at-loop.loop-k.invariant.5
 
-returns : tie.Need-returns invariant-loop decreases-loop
+returns : tie.Need-returns invariant-loop-k decreases-loop-k
 returns c =
-    let at-loop : tie.At-loop invariant-loop decreases-loop = search in
-    let s : tie.Start invariant-loop decreases-loop = search in
+    let at-loop : tie.At-loop-k invariant-loop-k decreases-loop-k = search in
+    let s : tie.Start invariant-loop-k decreases-loop-k = search in
     let a = s.args in
-    let l = at-loop.loop in
+    let l = at-loop.loop-k in
     let v = layout_of a.layout.now in
-    let done : l.k ≡ a.i = omega (arith, l.inv.0, c.loop-test.false) in (
+    let done : l.k ≡ a.i = omega (arith, l.inv.0, c.loop-k-test.false) in (
       λ size g t.
           let j = job_of (lent_by size a.table.now a.pixels.now) in
           added_end j v a.i l.penalties
@@ -154,27 +154,10 @@ returns c =
       (l.inv.6, l.inv.7),
     )
 
-pub add-piece-spec : {M : Type 1} → statement M
-add-piece-spec =
+pub add_piece_spec : {M : Type 1} → statement M
+add_piece_spec =
     tie.close
     (tie.spec
-    invariant-loop
-    decreases-loop
-    loop-holds
-    penalty-of-requires
-    cast-p
-    mul-penalties
-    add-penalties
-    slice-write-penalties
-    mul-penalties-2
-    add-penalties-2
-    slice-write-penalties-2
-    add-k
-    loop-less
-    loop-again
-    same_length
-    same-length-2
-    same-length-3
-    same-length-4
-    same-length-5
-    returns)
+    invariant-loop-k decreases-loop-k loop-k-init penalty_of-p-requires overflow_cast-p overflow_mul-penalties overflow_add-penalties
+    bounds-penalties-i overflow_mul-penalties-in-loop-k overflow_add-penalties-in-loop-k bounds-penalties-k overflow_add-k loop-k-smaller
+    loop-k-preserved shape_of-rows shape_of-row_spans shape_of-columns shape_of-column_spans shape_of-penalties returns)

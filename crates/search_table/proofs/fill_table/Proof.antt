@@ -11,47 +11,47 @@ use Rattle.layout_strips.specs.Kept.{Kept}
 use Rattle.search_table.proofs.fill_table.Statement.{statement}
 use Rattle.search_table.proofs.fill_table.Tie as tie
 
-abbrev invariant-loop : tie.invariant-loop
-invariant-loop table pixels layout gap rows₀ row-spans₀ columns₀ column-spans₀ penalties₀ i₀ rows row-spans columns column-spans penalties i =
+abbrev invariant-loop-i : tie.invariant-loop-i
+invariant-loop-i table pixels layout gap rows₀ row-spans₀ columns₀ column-spans₀ penalties₀ i₀ rows row-spans columns column-spans penalties i =
     (i ≤ length layout) × (length rows ≡ length rows₀) × (length row-spans ≡ length row-spans₀) × (length columns ≡ length columns₀)
     × (length column-spans ≡ length column-spans₀) × (length penalties ≡ length penalties₀) × Kept Horizontal table pixels layout rows row-spans
     × Kept Vertical table pixels layout columns column-spans
     × ((size : JobSize) → size.gap ≡ gap → PenaltyTable (job_of (lent_by size table pixels)) (layout_of layout) i penalties)
 
-abbrev decreases-loop : tie.decreases-loop
-decreases-loop table pixels layout gap rows₀ row-spans₀ columns₀ column-spans₀ penalties₀ i₀ rows row-spans columns column-spans penalties i = length layout - i
+abbrev decreases-loop-i : tie.decreases-loop-i
+decreases-loop-i table pixels layout gap rows₀ row-spans₀ columns₀ column-spans₀ penalties₀ i₀ rows row-spans columns column-spans penalties i = length layout - i
 
-loop-holds : tie.Need-loop-init invariant-loop decreases-loop
-loop-holds c =
-    let s : tie.Start invariant-loop decreases-loop = search in
-    (omega arith, refl, refl, refl, refl, refl, s.pre.1.0, s.pre.1.1.0, λ size g. table_empty _ _ _ s.pre.1.1.1.0)
+loop-i-init : tie.Need-loop-i-init invariant-loop-i decreases-loop-i
+loop-i-init c =
+    let s : tie.Start invariant-loop-i decreases-loop-i = search in
+    (omega arith, refl, refl, refl, refl, refl, s.requires.fact_2.0, s.requires.fact_2.1.0, λ size g. table_empty _ _ _ s.requires.fact_2.1.1.0)
 
-add-piece-requires : tie.Need-add-piece-requires invariant-loop decreases-loop
-add-piece-requires c κs =
-    let at-loop : tie.At-loop invariant-loop decreases-loop = search in
-    let s : tie.Start invariant-loop decreases-loop = search in
-    let in-loop : tie.In-loop invariant-loop decreases-loop = search in
-    let l = at-loop.loop in
-    (s.pre.0, ((in-loop.loop-test.taken, s.pre.1.1.1.1), (l.inv.6, (l.inv.7, l.inv.5 ∙ s.pre.1.1.1.0))))
+add_piece-requires : tie.Need-add_piece-requires invariant-loop-i decreases-loop-i
+add_piece-requires c κs =
+    let at-loop : tie.At-loop-i invariant-loop-i decreases-loop-i = search in
+    let s : tie.Start invariant-loop-i decreases-loop-i = search in
+    let in-loop : tie.In-loop-i invariant-loop-i decreases-loop-i = search in
+    let l = at-loop.loop-i in
+    (s.requires.fact_1, ((in-loop.loop-i-test.true, s.requires.fact_2.1.1.1), (l.inv.6, (l.inv.7, l.inv.5 ∙ s.requires.fact_2.1.1.0))))
 
-add-i : tie.Need-overflow-add-i invariant-loop decreases-loop
-add-i c =
-    let s : tie.Start invariant-loop decreases-loop = search in
-    let in-loop : tie.In-loop invariant-loop decreases-loop = search in
-    let few = s.pre.0.few in
-    let taken = in-loop.loop-test.taken in omega arith
+overflow_add-i : tie.Need-overflow_add-i invariant-loop-i decreases-loop-i
+overflow_add-i c =
+    let s : tie.Start invariant-loop-i decreases-loop-i = search in
+    let in-loop : tie.In-loop-i invariant-loop-i decreases-loop-i = search in
+    let few = s.requires.fact_1.few in
+    let taken = in-loop.loop-i-test.true in omega arith
 
-loop-less : tie.Need-loop-smaller invariant-loop decreases-loop
-loop-less c = let in-loop : tie.In-loop invariant-loop decreases-loop = search in let l = in-loop.loop-test.taken in omega arith
+loop-i-smaller : tie.Need-loop-i-smaller invariant-loop-i decreases-loop-i
+loop-i-smaller c = let in-loop : tie.In-loop-i invariant-loop-i decreases-loop-i = search in let l = in-loop.loop-i-test.true in omega arith
 
-loop-again : tie.Need-loop-preserved invariant-loop decreases-loop
-loop-again c =
-    let at-loop : tie.At-loop invariant-loop decreases-loop = search in
-    let in-loop : tie.In-loop invariant-loop decreases-loop = search in
-    let filled : tie.After-add-piece invariant-loop decreases-loop = search in
-    let l = at-loop.loop in
-    let added = filled.add-piece in
-    let taken = in-loop.loop-test.taken in (
+loop-i-preserved : tie.Need-loop-i-preserved invariant-loop-i decreases-loop-i
+loop-i-preserved c =
+    let at-loop : tie.At-loop-i invariant-loop-i decreases-loop-i = search in
+    let in-loop : tie.In-loop-i invariant-loop-i decreases-loop-i = search in
+    let filled : tie.After-add_piece invariant-loop-i decreases-loop-i = search in
+    let l = at-loop.loop-i in
+    let added = filled.add_piece in
+    let taken = in-loop.loop-i-test.true in (
       omega arith,
       added.kept.1.1.1.1.1.0 ∙ l.inv.1,
       added.kept.1.1.1.1.1.1.0 ∙ l.inv.2,
@@ -63,44 +63,33 @@ loop-again c =
       λ size g. added.ensures.0 size g (l.inv.8 size g),
     )
 
-same_length : tie.Need-same-length invariant-loop decreases-loop
-same_length c = let at-loop : tie.At-loop invariant-loop decreases-loop = search in at-loop.loop.inv.1
+shape_of-rows : tie.Need-shape_of-rows invariant-loop-i decreases-loop-i
+shape_of-rows c = let at-loop : tie.At-loop-i invariant-loop-i decreases-loop-i = search in at-loop.loop-i.invariant.1
 
-same-length-2 : tie.Need-same-length-2 invariant-loop decreases-loop
-same-length-2 c = let at-loop : tie.At-loop invariant-loop decreases-loop = search in at-loop.loop.inv.2
+shape_of-row_spans : tie.Need-shape_of-row_spans invariant-loop-i decreases-loop-i
+shape_of-row_spans c = let at-loop : tie.At-loop-i invariant-loop-i decreases-loop-i = search in at-loop.loop-i.invariant.2
 
-same-length-3 : tie.Need-same-length-3 invariant-loop decreases-loop
-same-length-3 c = let at-loop : tie.At-loop invariant-loop decreases-loop = search in at-loop.loop.inv.3
+shape_of-columns : tie.Need-shape_of-columns invariant-loop-i decreases-loop-i
+shape_of-columns c = let at-loop : tie.At-loop-i invariant-loop-i decreases-loop-i = search in at-loop.loop-i.invariant.3
 
-same-length-4 : tie.Need-same-length-4 invariant-loop decreases-loop
-same-length-4 c = let at-loop : tie.At-loop invariant-loop decreases-loop = search in at-loop.loop.inv.4
+shape_of-column_spans : tie.Need-shape_of-column_spans invariant-loop-i decreases-loop-i
+shape_of-column_spans c = let at-loop : tie.At-loop-i invariant-loop-i decreases-loop-i = search in at-loop.loop-i.invariant.4
 
-same-length-5 : tie.Need-same-length-5 invariant-loop decreases-loop
-same-length-5 c = let at-loop : tie.At-loop invariant-loop decreases-loop = search in at-loop.loop.inv.5
+shape_of-penalties : tie.Need-shape_of-penalties invariant-loop-i decreases-loop-i
+shape_of-penalties c = let at-loop : tie.At-loop-i invariant-loop-i decreases-loop-i = search in at-loop.loop-i.invariant.5
 
-returns : tie.Need-returns invariant-loop decreases-loop
+returns : tie.Need-returns invariant-loop-i decreases-loop-i
 returns c = λ size g whole.
-    let at-loop : tie.At-loop invariant-loop decreases-loop = search in
-    let s : tie.Start invariant-loop decreases-loop = search in
+    let at-loop : tie.At-loop-i invariant-loop-i decreases-loop-i = search in
+    let s : tie.Start invariant-loop-i decreases-loop-i = search in
     let a = s.args in
-    let l = at-loop.loop in
-    let done : l.i ≡ size.count = omega (arith, whole, l.inv.0, c.loop-test.false) in
-    subst (λ n. PenaltyTable (job_of (lent_by size a.table.now a.pixels.now)) (layout_of a.layout.now) n l.penalties) done (l.inv.8 size g)
+    let l = at-loop.loop-i in
+    let done : l.i ≡ size.count = omega (arith, whole, l.inv.0, c.loop-i-test.false) in
+    subst (λ n. PenaltyTable (job_of (lent_by size a.table.now a.pixels.now)) (layout_of a.layout.now) n l.penalties-1) done (l.inv.8 size g)
 
-pub fill-table-spec : {M : Type 1} → statement M
-fill-table-spec =
+pub fill_table_spec : {M : Type 1} → statement M
+fill_table_spec =
     tie.close
     (tie.spec
-    invariant-loop
-    decreases-loop
-    loop-holds
-    add-piece-requires
-    add-i
-    loop-less
-    loop-again
-    same_length
-    same-length-2
-    same-length-3
-    same-length-4
-    same-length-5
-    returns)
+    invariant-loop-i decreases-loop-i loop-i-init add_piece-requires overflow_add-i loop-i-smaller loop-i-preserved shape_of-rows shape_of-row_spans
+    shape_of-columns shape_of-column_spans shape_of-penalties returns)

@@ -1,21 +1,21 @@
 -- `search_tracks::reach_of` meets its contract: boxes apart across meet nowhere, others along a stretch of places. Assumes nothing.
-use Rattle.list_laws.proofs.Kit.{refl, needs}
+use Rattle.list_laws.proofs.Kit.{refl, rules}
 use Rattle.search_tracks.proofs.Tracks.{reach_meeting}
 use Rattle.search_tracks.proofs.reach_of.Statement.{statement}
 use Rattle.search_tracks.proofs.reach_of.Tie as tie
 
-returns-3 : tie.Need-returns-3
-returns-3 c =
-    let at-low-of : tie.After-low-of = search in
-    let at-else2 : tie.Else2 = search in
-    let at-else1 : tie.Else1 = search in
+returns : tie.Need-returns
+returns c =
+    let at-low-of : tie.After-low_of-low = search in
+    let at-else2 : tie.Else-track-standing = search in
+    let at-else1 : tie.Else-standing-track = search in
     let at-start : tie.Start = search in
-    reach_meeting at-start.args.track at-start.args.standing at-start.pre.0 at-start.pre.1.0 at-start.pre.1.1 at-else1.if1.left
-    at-else2.if2.left _ _ _
-    at-low-of.low_of.ensures c.before.before.smaller.ensures refl
+    reach_meeting at-start.args.track at-start.args.standing at-start.requires.fact_1 at-start.requires.fact_2.0 at-start.requires.fact_2.1 at-else1.if-standing-track.false
+    at-else2.if-track-standing.false _ _ _
+    at-low-of.low_of-low.ensures c.before.before.smaller-high.ensures refl
 
-pub reach-of-spec : {M : Type 1} → statement M
-reach-of-spec =
+pub reach_of_spec : {M : Type 1} → statement M
+reach_of_spec =
     tie.close (tie.spec
-    (search needs) (search needs) (search needs) (search needs) (search needs) (search needs) (search needs) (search needs) (search needs)
-    (search needs) returns-3)
+    (search rules) (search rules) (search rules) (search rules) (search rules) (search rules) (search rules) (search rules) (search rules)
+    (search rules) returns)

@@ -2,75 +2,76 @@
 use Rattle.model.specs.Lent.{lent_by, job_of}
 use Rattle.model.specs.Buffer.{layout_of}
 use Rattle.search_tracks.proofs.Tracks.{standing_row, standing_column}
-use Rattle.list_laws.proofs.Kit.{arith, needs}
+use Rattle.list_laws.proofs.Kit.{arith, rules}
 use Rattle.search_tracks.proofs.standing_of.Statement.{statement}
 use Rattle.search_tracks.proofs.standing_of.Tie as tie
 
 -- where the sides are known, from where they are read
-abbrev sided : tie.After-struct-known6 → tie.After-turned-sides
+abbrev sided : tie.After-struct_known-6-1 → tie.After-turned_sides-sides
 sided c = c.before.before.before.before.before.before
 
-add-columns : tie.Need-overflow-add-columns
-add-columns c =
-    let at-sides : tie.After-turned-sides = c.before.before in
+overflow_add-columns : tie.Need-overflow_add-columns
+overflow_add-columns c =
+    let at-sides : tie.After-turned_sides-sides = c.before.before in
     let at-start : tie.Start = search in
-    let l = at-sides.turned-sides.ensures.1.0 in
-    let g = at-start.pre.1 in
+    let l = at-sides.turned_sides-sides.ensures.small.0 in
+    let g = at-start.requires.fact_2 in
     omega arith
 
-add-rows : tie.Need-overflow-add-rows
-add-rows c =
-    let at-sides : tie.After-turned-sides = c.before.before.before.before in
+overflow_add-rows : tie.Need-overflow_add-rows
+overflow_add-rows c =
+    let at-sides : tie.After-turned_sides-sides = c.before.before.before.before in
     let at-start : tie.Start = search in
-    let l = at-sides.turned-sides.ensures.1.1 in
-    let g = at-start.pre.1 in
+    let l = at-sides.turned_sides-sides.ensures.small.1 in
+    let g = at-start.requires.fact_2 in
     omega arith
 
-returns : tie.Need-returns
+returns-in-Horizontal : tie.Need-returns-in-Horizontal
 unfolding job_of
-returns c =
-    let told : tie.After-enum-told = search in
-    let known : tie.After-struct-known6 = search in
-    let at-sides : tie.After-turned-sides = sided known in
-    let at_place : tie.After-place-at = search in
+returns-in-Horizontal c =
+    let told : tie.In-Horizontal = search in
+    let known : tie.After-struct_known-6-1 = search in
+    let at-sides : tie.After-turned_sides-sides = sided known in
+    let at_place : tie.After-place_at-place = search in
     let at-start : tie.Start = search in
     let a = at-start.args in
-    let p = at_place.place_at in
-    let s = at-sides.turned-sides in (
+    let p = at_place.place_at-place in
+    let s = at-sides.turned_sides-sides in (
       λ pixels.
           standing_row (job_of (lent_by a.size a.table.now pixels)) (layout_of a.layout.now) a.k p.result s.result p.ensures
-          (s.ensures.0 a.size pixels) a.direction told.enum_told.given.1,
+          (s.ensures.0 a.size pixels) a.direction told.enum_told-1.given.1,
       record {
-        along = let k = known.before.struct-known5.given in search needs;
-        across = let k = known.struct-known6.given.1 in search needs;
-        length = let g = at-start.pre.1 in let l = s.ensures.1.0 in let w = s.ensures.1.1 in omega arith;
-        width = let g = at-start.pre.1 in let l = s.ensures.1.0 in let w = s.ensures.1.1 in omega arith;
+        along = let k = known.before.struct_known-5-1.given in search rules;
+        across = let k = known.struct_known-6-1.given.1 in search rules;
+        length = let g = at-start.requires.fact_2 in let l = s.ensures.1.0 in let w = s.ensures.1.1 in omega arith;
+        width = let g = at-start.requires.fact_2 in let l = s.ensures.1.0 in let w = s.ensures.1.1 in omega arith;
       },
     )
 
-returns-2 : tie.Need-returns-2
+returns-in-Vertical : tie.Need-returns-in-Vertical
 unfolding job_of
-returns-2 c =
-    let told : tie.After-enum-told2 = search in
-    let known : tie.After-struct-known6 = search in
-    let at-sides : tie.After-turned-sides = sided known in
-    let at_place : tie.After-place-at = search in
+returns-in-Vertical c =
+    let told : tie.In-Vertical = search in
+    let known : tie.After-struct_known-6-1 = search in
+    let at-sides : tie.After-turned_sides-sides = sided known in
+    let at_place : tie.After-place_at-place = search in
     let at-start : tie.Start = search in
     let a = at-start.args in
-    let p = at_place.place_at in
-    let s = at-sides.turned-sides in (
+    let p = at_place.place_at-place in
+    let s = at-sides.turned_sides-sides in (
       λ pixels.
           standing_column (job_of (lent_by a.size a.table.now pixels)) (layout_of a.layout.now) a.k p.result s.result p.ensures
-          (s.ensures.0 a.size pixels) a.direction told.enum-told2.given.1,
+          (s.ensures.0 a.size pixels) a.direction told.enum_told-in-Vertical-1.given.1,
       record {
-        along = let k = known.struct-known6.given.1 in search needs;
-        across = let k = known.before.struct-known5.given in search needs;
-        length = let g = at-start.pre.1 in let l = s.ensures.1.0 in let w = s.ensures.1.1 in omega arith;
-        width = let g = at-start.pre.1 in let l = s.ensures.1.0 in let w = s.ensures.1.1 in omega arith;
+        along = let k = known.struct_known-6-1.given.1 in search rules;
+        across = let k = known.before.struct_known-5-1.given in search rules;
+        length = let g = at-start.requires.fact_2 in let l = s.ensures.1.0 in let w = s.ensures.1.1 in omega arith;
+        width = let g = at-start.requires.fact_2 in let l = s.ensures.1.0 in let w = s.ensures.1.1 in omega arith;
       },
     )
 
-pub standing-of-spec : {M : Type 1} → statement M
-standing-of-spec =
+pub standing_of_spec : {M : Type 1} → statement M
+standing_of_spec =
     tie.close (tie.spec
-    (search needs) (search needs) add-columns add-rows (search needs) (search needs) (search needs) (search needs) returns returns-2)
+    (search rules) (search rules) overflow_add-columns overflow_add-rows (search rules) (search rules) (search rules) (search rules)
+    returns-in-Horizontal returns-in-Vertical)

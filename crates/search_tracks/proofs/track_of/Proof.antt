@@ -1,83 +1,84 @@
 -- `search_tracks::track_of` meets its contract, by the line. Assumes nothing.
-use Rattle.list_laws.proofs.Kit.{arith, needs}
+use Rattle.list_laws.proofs.Kit.{arith, rules}
 use Rattle.model.specs.Lent.{lent_by, job_of}
 use Rattle.search_tracks.proofs.Tracks.{track_row, track_column}
 use Rattle.search_tracks.proofs.track_of.Statement.{statement}
 use Rattle.search_tracks.proofs.track_of.Tie as tie
 
 -- where the sides are known, from where they are read
-abbrev sided : tie.After-struct-known4 → tie.After-turned-sides
+abbrev sided : tie.After-struct_known-4-1 → tie.After-turned_sides-sides
 sided c = c.before.before.before.before
 
-add-columns : tie.Need-overflow-add-columns
-add-columns c =
-    let at-sides : tie.After-turned-sides = c.before.before in
+overflow_add-columns : tie.Need-overflow_add-columns
+overflow_add-columns c =
+    let at-sides : tie.After-turned_sides-sides = c.before.before in
     let at-start : tie.Start = search in
-    let l = at-sides.turned-sides.ensures.1.0 in
-    let g = at-start.pre.1 in
+    let l = at-sides.turned_sides-sides.ensures.small.0 in
+    let g = at-start.requires.fact_2 in
     omega arith
 
-add-rows : tie.Need-overflow-add-rows
-add-rows c =
-    let at-sides : tie.After-turned-sides = sided c in
+overflow_add-rows : tie.Need-overflow_add-rows
+overflow_add-rows c =
+    let at-sides : tie.After-turned_sides-sides = sided c in
     let at-start : tie.Start = search in
-    let l = at-sides.turned-sides.ensures.1.1 in
-    let g = at-start.pre.1 in
+    let l = at-sides.turned_sides-sides.ensures.small.1 in
+    let g = at-start.requires.fact_2 in
     omega arith
 
-returns : tie.Need-returns
+returns-in-InRow : tie.Need-returns-in-InRow
 unfolding job_of
-returns c =
-    let at-line : tie.After-line = search in
-    let at-turned-sides : tie.After-turned-sides = sided at-line.before.before in
+returns-in-InRow c =
+    let at-line : tie.In-InRow-2 = search in
+    let at-turned-sides : tie.After-turned_sides-sides = sided at-line.before.before in
     let at-start : tie.Start = search in
     let a = at-start.args in
-    let s = at-turned-sides.turned-sides in
-    let g = at-start.pre.1 in
+    let s = at-turned-sides.turned_sides-sides in
+    let g = at-start.requires.fact_2 in
     let l = s.ensures.1.0 in
     let w = s.ensures.1.1 in
-    let line = at-line.line.given in (
+    let line = at-line.line-1.given in (
       λ pixels.
-          track_row (job_of (lent_by a.size a.table.now pixels)) a.mover s.result c.room-on.result (s.ensures.0 a.size pixels) line.0.0
-          line.1 c.room-on.ensures.0,
-      record { length = omega arith; width = omega arith; held = search needs; places = let m = c.room-on.ensures.1 in omega arith },
+          track_row (job_of (lent_by a.size a.table.now pixels)) a.mover s.result c.room_on.result (s.ensures.0 a.size pixels) line.0.0
+          line.1 c.room_on.ensures.room,
+      record { length = omega arith; width = omega arith; held = search rules; places = let m = c.room_on.ensures.small in omega arith },
     )
 
-returns-2 : tie.Need-returns-2
+returns-in-InColumn : tie.Need-returns-in-InColumn
 unfolding job_of
-returns-2 c =
-    let at-line2 : tie.After-line2 = search in
-    let at-turned-sides : tie.After-turned-sides = sided at-line2.before.before in
+returns-in-InColumn c =
+    let at-line2 : tie.In-InColumn-2 = search in
+    let at-turned-sides : tie.After-turned_sides-sides = sided at-line2.before.before in
     let at-start : tie.Start = search in
     let a = at-start.args in
-    let s = at-turned-sides.turned-sides in
-    let g = at-start.pre.1 in
+    let s = at-turned-sides.turned_sides-sides in
+    let g = at-start.requires.fact_2 in
     let l = s.ensures.1.0 in
     let w = s.ensures.1.1 in
-    let line = at-line2.line2.given in (
+    let line = at-line2.line-in-InColumn-1.given in (
       λ pixels.
-          track_column (job_of (lent_by a.size a.table.now pixels)) a.mover s.result c.room-on2.result (s.ensures.0 a.size pixels)
-          line.0.0 line.1 c.room-on2.ensures.0,
-      record { length = omega arith; width = omega arith; held = search needs; places = let m = c.room-on2.ensures.1 in omega arith },
+          track_column (job_of (lent_by a.size a.table.now pixels)) a.mover s.result c.room_on-in-InColumn.result (s.ensures.0 a.size pixels)
+          line.0.0 line.1 c.room_on-in-InColumn.ensures.room,
+      record { length = omega arith; width = omega arith; held = search rules; places = let m = c.room_on-in-InColumn.ensures.small in omega arith },
     )
 
-room-on-requires : tie.Need-room-on-requires
-room-on-requires c =
-    let at-line : tie.After-line = search in
-    let at-sides : tie.After-turned-sides = sided at-line.before.before in
+room_on-requires : tie.Need-room_on-requires
+room_on-requires c =
+    let at-line : tie.In-InRow-2 = search in
+    let at-sides : tie.After-turned_sides-sides = sided at-line.before.before in
     let at-start : tie.Start = search in
-    let w = at-sides.turned-sides.ensures.1.1 in
-    search needs
+    let w = at-sides.turned_sides-sides.ensures.small.1 in
+    search rules
 
-room-on-requires-2 : tie.Need-room-on-requires-2
-room-on-requires-2 c =
-    let at-line : tie.After-line2 = search in
-    let at-sides : tie.After-turned-sides = sided at-line.before.before in
+room_on-requires-in-InColumn : tie.Need-room_on-requires-in-InColumn
+room_on-requires-in-InColumn c =
+    let at-line : tie.In-InColumn-2 = search in
+    let at-sides : tie.After-turned_sides-sides = sided at-line.before.before in
     let at-start : tie.Start = search in
-    let w = at-sides.turned-sides.ensures.1.0 in
-    search needs
+    let w = at-sides.turned_sides-sides.ensures.small.0 in
+    search rules
 
-pub track-of-spec : {M : Type 1} → statement M
-track-of-spec =
+pub track_of_spec : {M : Type 1} → statement M
+track_of_spec =
     tie.close (tie.spec
-    (search needs) add-columns add-rows (search needs) (search needs) room-on-requires (search needs) (search needs) room-on-requires-2 returns returns-2)
+    (search rules) overflow_add-columns overflow_add-rows (search rules) (search rules) room_on-requires (search rules) (search rules)
+    room_on-requires-in-InColumn returns-in-InRow returns-in-InColumn)

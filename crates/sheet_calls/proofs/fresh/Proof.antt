@@ -1,6 +1,6 @@
 -- `fresh`: the number that the check gave decides the outcome, and clearing the counts is the fresh sheet.
 -- Assumes nothing.
-use Rattle.list_laws.proofs.Kit.{◌∙◌, ap, sym, ℕ, length, replicate, needs}
+use Rattle.list_laws.proofs.Kit.{◌∙◌, ap, sym, ℕ, length, replicate, rules}
 use Rattle.model.specs.Lent.{lent_by, job_of}
 use Rattle.model.specs.Cover.{fresh}
 use Rattle.sheet_calls.proofs.fresh.Statement.{statement}
@@ -9,33 +9,33 @@ use Rattle.sheet_refusals.proofs.Buffers.{buffer_passed}
 use Rattle.sheet_calls.proofs.Outcomes.{fresh_refused, fresh_given, refused_answer, given_answer_lem}
 use Rattle.sheet_calls.proofs.fresh.Tie as tie
 
+returns-then-number-ne0 : tie.Need-returns-then-number-ne0
+returns-then-number-ne0 c =
+    let at-buffer-refusal : tie.After-buffer_refusal-number = search in
+    let at-start : tie.Start = search in
+    let a = at-start.args in
+    let l = lent_by a.size a.table.now a.pixels.now in
+    let number = at-buffer-refusal.buffer_refusal-number in
+    refused_answer _ number.result blank_record a.counts-1.now c.answer.result
+    (fresh_refused l (length a.counts-1.now) number.result number.ensures c.before.before.if-number-ne0.true)
+    (c.answer.ensures ∙ rw c.before.blank_record.ensures) c.before.before.if-number-ne0.true
+
 returns : tie.Need-returns
-returns c =
-    let at-buffer-refusal : tie.After-buffer-refusal = search in
-    let at-start : tie.Start = search in
-    let a = at-start.args in
-    let l = lent_by a.size a.table.now a.pixels.now in
-    let number = at-buffer-refusal.buffer-refusal in
-    refused_answer _ number.result blank_record a.counts.now c.answer.result
-    (fresh_refused l (length a.counts.now) number.result number.ensures c.before.before.if1.true)
-    (c.answer.ensures ∙ rw c.before.blank-record.ensures) c.before.before.if1.true
-
-returns-2 : tie.Need-returns-2
 unfolding fresh job_of
-returns-2 c =
+returns c =
     let at_clear : tie.After-clear = search in
-    let at-else1 : tie.Else1 = search in
-    let at-buffer-refusal : tie.After-buffer-refusal = search in
+    let at-else1 : tie.Else-number-ne0 = search in
+    let at-buffer-refusal : tie.After-buffer_refusal-number = search in
     let at-start : tie.Start = search in
     let a = at-start.args in
     let l = lent_by a.size a.table.now a.pixels.now in
-    let number = at-buffer-refusal.buffer-refusal in
-    let none = sym number.ensures ∙ at-else1.if1.left in
-    given_answer_lem _ (fresh (job_of l)) blank_record a.counts.now _ c.answer2.result (fresh_given l (length a.counts.now) none)
-    (c.answer2.ensures ∙ rw c.before.blank-record2.ensures)
-    (at_clear.clear.ensures ∙ ap (λ (n : ℕ). replicate n 0) (buffer_passed l (length a.counts.now) none).full)
+    let number = at-buffer-refusal.buffer_refusal-number in
+    let none = sym number.ensures ∙ at-else1.if-number-ne0.false in
+    given_answer_lem _ (fresh (job_of l)) blank_record a.counts-1.now _ c.answer-2.result (fresh_given l (length a.counts-1.now) none)
+    (c.answer-2.ensures ∙ rw c.before.blank_record-2.ensures)
+    (at_clear.clear.ensures ∙ ap (λ (n : ℕ). replicate n 0) (buffer_passed l (length a.counts-1.now) none).full)
 
-pub fresh-spec : {M : Type 1} → statement M
-fresh-spec =
+pub fresh_spec : {M : Type 1} → statement M
+fresh_spec =
     tie.close (tie.spec
-    (search needs) (search needs) (search needs) returns (search needs) (search needs) (search needs) (search needs) returns-2)
+    (search rules) (search rules) (search rules) returns-then-number-ne0 (search rules) (search rules) (search rules) (search rules) returns)

@@ -1,7 +1,7 @@
 -- `lay`: the numbers that the checks gave decide the outcome; where none refuses, moving the piece's pixels up is the sheet's lay, since
 -- every count is at most the number of pieces.
 -- Assumes nothing.
-use Rattle.list_laws.proofs.Kit.{◌∙◌, ◌≡◌, sym, ◌<◌, arith, needs}
+use Rattle.list_laws.proofs.Kit.{◌∙◌, ◌≡◌, sym, ◌<◌, arith, rules}
 use Rattle.model.specs.Lent.{Lent, lent_by, job_of}
 use Rattle.model.specs.Calls.{lay_call}
 use Rattle.model.specs.Cover.{Sheet, lay, lay_causes}
@@ -23,94 +23,94 @@ abbrev sheet : tie.Start → Sheet
 sheet c = sheet_of c.args.sheet c.args.counts.now
 
 -- past the first test the sheet is ready
-ready : (c : tie.Else1) →
+ready : (c : tie.Else-common-ne0) →
     let at-start : tie.Start = search in
     SheetReady (job (at-start)) (sheet (at-start))
 ready c =
     let at-start : tie.Start = search in
-    sheet_ready (job at-start) (sheet at-start) (sym c.before.sheet-refusal.ensures ∙ c.if1.false)
+    sheet_ready (job at-start) (sheet at-start) (sym c.before.sheet_refusal-common.ensures ∙ c.if-common-ne0.false)
 
 -- past the second no cause is left
-none : (c : tie.Else2) →
+none : (c : tie.Else-laying-ne0) →
     let at-start : tie.Start = search in
     first_number (lay_causes (job_of (job at-start)) (sheet at-start) at-start.args.piece at-start.args.place) ≡ 0
 none c =
     let at-start : tie.Start = search in
-    sym (c.before.lay-refusal.ensures at-start.args.pixels.now at-start.args.counts.now) ∙ c.if2.false
+    sym (c.before.lay_refusal-laying.ensures at-start.args.pixels.now at-start.args.counts.now) ∙ c.if-laying-ne0.false
 
 -- and the lay is in order
-order : (c : tie.Else2) →
+order : (c : tie.Else-laying-ne0) →
     let at-start : tie.Start = search in
     LayTaken (job_of (job at-start)) (sheet at-start) at-start.args.piece at-start.args.place
 order c =
     let at-start : tie.Start = search in
     lay_order (job_of (job at-start)) (sheet at-start) at-start.args.piece at-start.args.place (none c)
 
-returns : tie.Need-returns
+returns-then-common-ne0 : tie.Need-returns-then-common-ne0
 unfolding lay_call
-returns c =
+returns-then-common-ne0 c =
     let at-start : tie.Start = search in
-    let common = c.before.before.sheet-refusal in
+    let common = c.before.before.sheet_refusal-common in
     refused_answer _ common.result at-start.args.sheet at-start.args.counts.now c.answer.result
     (sheet_refused (job at-start) (sheet at-start) (lay_causes (job_of (job at-start)) (sheet at-start) at-start.args.piece at-start.args.place)
-    (lay (job_of (job at-start)) (sheet at-start) at-start.args.piece at-start.args.place) common.result common.ensures c.before.if1.true)
-    c.answer.ensures c.before.if1.true
+    (lay (job_of (job at-start)) (sheet at-start) at-start.args.piece at-start.args.place) common.result common.ensures c.before.if-common-ne0.true)
+    c.answer.ensures c.before.if-common-ne0.true
 
-lay-refusal-requires : tie.Need-lay-refusal-requires
-lay-refusal-requires c κs = ((facts _ (ready c).well).entries, (facts _ (ready c).well).few_pieces)
+lay_refusal-laying-requires : tie.Need-lay_refusal-laying-requires
+lay_refusal-laying-requires c κs = ((facts _ (ready c).well).entries, (facts _ (ready c).well).few_pieces)
 
-returns-2 : tie.Need-returns-2
+returns-then-laying-ne0 : tie.Need-returns-then-laying-ne0
 unfolding lay_call
-returns-2 c =
-    let at-else1 : tie.Else1 = search in
+returns-then-laying-ne0 c =
+    let at-else1 : tie.Else-common-ne0 = search in
     let at-start : tie.Start = search in
-    let own = c.before.before.lay-refusal in
-    refused_answer _ own.result at-start.args.sheet at-start.args.counts.now c.answer2.result
+    let own = c.before.before.lay_refusal-laying in
+    refused_answer _ own.result at-start.args.sheet at-start.args.counts.now c.answer-then-laying-ne0.result
     (own_refused (job at-start) (sheet at-start) (lay_causes (job_of (job at-start)) (sheet at-start) at-start.args.piece at-start.args.place)
     (lay (job_of (job at-start)) (sheet at-start) at-start.args.piece at-start.args.place) own.result
     (lay_plain (job_of (job at-start)) (sheet at-start) at-start.args.piece at-start.args.place) (ready (at-else1))
-    (own.ensures at-start.args.pixels.now at-start.args.counts.now) c.before.if2.true)
-    c.answer2.ensures c.before.if2.true
+    (own.ensures at-start.args.pixels.now at-start.args.counts.now) c.before.if-laying-ne0.true)
+    c.answer-then-laying-ne0.ensures c.before.if-laying-ne0.true
 
-move-piece-requires : tie.Need-move-piece-requires
+move_piece-requires : tie.Need-move_piece-requires
 unfolding job_of
-move-piece-requires c κs =
-    let at-else1 : tie.Else1 = search in
+move_piece-requires c κs =
+    let at-else1 : tie.Else-common-ne0 = search in
     let sheet-is = ready (at-else1) in
     record { well = sheet-is.well; piece = (order c.before).piece; within = (order c.before).within; full = sheet-is.full }
 
-with-entry-requires : tie.Need-with-entry-requires
+with_entry-requires : tie.Need-with_entry-requires
 unfolding job_of
-with-entry-requires c κs =
-    let at-else2 : tie.Else2 = search in
-    let at-else1 : tie.Else1 = search in
+with_entry-requires c κs =
+    let at-else2 : tie.Else-laying-ne0 = search in
+    let at-else1 : tie.Else-common-ne0 = search in
     let at-start : tie.Start = search in
     let few = (facts _ (ready (at-else1)).well).few_pieces in
     let here : at-start.args.piece < at-start.args.size.count = (order (at-else2)).piece in
     omega arith
 
-returns-3 : tie.Need-returns-3
+returns : tie.Need-returns
 unfolding lay_call lay job_of
-returns-3 c =
-    let at-move-piece : tie.After-move-piece = search in
-    let at-else2 : tie.Else2 = search in
-    let at-else1 : tie.Else1 = search in
+returns c =
+    let at-move-piece : tie.After-move_piece = search in
+    let at-else2 : tie.Else-laying-ne0 = search in
+    let at-else1 : tie.Else-common-ne0 = search in
     let at-start : tie.Start = search in
     let l = job at-start in
     let s = sheet at-start in
     let sheet-is = ready (at-else1) in
     let few = (facts l sheet-is.well).few_pieces in
     given_answer_lem _ (lay (job_of l) s at-start.args.piece at-start.args.place) at-start.args.sheet at-start.args.counts.now _
-    c.answer3.result
+    c.answer-2.result
     (none_given l s (lay_causes (job_of l) s at-start.args.piece at-start.args.place) (lay (job_of l) s at-start.args.piece at-start.args.place)
     (lay_plain (job_of l) s at-start.args.piece at-start.args.place) sheet-is (none (at-else2)))
-    (c.answer3.ensures ∙ rw c.before.with-entry.ensures)
-    (at-move-piece.move-piece.ensures
+    (c.answer-2.ensures ∙ rw c.before.with_entry.ensures)
+    (at-move-piece.move_piece.ensures
     ∙ moved_lays (job_of l) at-start.args.piece at-start.args.place s
     (λ k l₁. let bound = well_bound (job_of l) few s k sheet-is.sheet (let full = sheet-is.full in omega arith) in omega arith))
 
-pub lay-spec : {M : Type 1} → statement M
-lay-spec =
+pub lay_spec : {M : Type 1} → statement M
+lay_spec =
     tie.close (tie.spec
-    (search needs) (search needs) (search needs) returns lay-refusal-requires (search needs) (search needs) returns-2 move-piece-requires
-    with-entry-requires (search needs) (search needs) returns-3)
+    (search rules) (search rules) (search rules) returns-then-common-ne0 lay_refusal-laying-requires (search rules) (search rules)
+    returns-then-laying-ne0 move_piece-requires with_entry-requires (search rules) (search rules) returns)

@@ -1,7 +1,7 @@
 -- `withdraw`: the numbers that the checks gave decide the outcome; where none refuses, moving the pixels of the piece down where its entry
 -- says that it lies is the sheet's withdraw. A laid entry of a sheet that passed its test is inside.
 -- Assumes nothing.
-use Rattle.list_laws.proofs.Kit.{◌∙◌, ◌≡◌, sym, ◌<◌, arith, needs}
+use Rattle.list_laws.proofs.Kit.{◌∙◌, ◌≡◌, sym, ◌<◌, arith, rules}
 use Rattle.model.specs.Lent.{Lent, lent_by, job_of}
 use Rattle.model.specs.Calls.{withdraw_call}
 use Rattle.model.specs.Cover.{Sheet, withdraw, withdraw_causes}
@@ -22,23 +22,23 @@ abbrev sheet : tie.Start → Sheet
 sheet c = sheet_of c.args.sheet c.args.counts.now
 
 -- past the first test the sheet is ready
-ready : (c : tie.Else1) →
+ready : (c : tie.Else-common-ne0) →
     let at-start : tie.Start = search in
     SheetReady (job (at-start)) (sheet (at-start))
 ready c =
     let at-start : tie.Start = search in
-    sheet_ready (job at-start) (sheet at-start) (sym c.before.sheet-refusal.ensures ∙ c.if1.false)
+    sheet_ready (job at-start) (sheet at-start) (sym c.before.sheet_refusal-common.ensures ∙ c.if-common-ne0.false)
 
 -- past the second no cause is left
-none : (c : tie.Else2) →
+none : (c : tie.Else-withdrawing-ne0) →
     let at-start : tie.Start = search in
     first_number (withdraw_causes (job_of (job at-start)) (sheet at-start) at-start.args.piece) ≡ 0
 none c =
     let at-start : tie.Start = search in
-    sym (c.before.withdraw-refusal.ensures at-start.args.pixels.now at-start.args.counts.now) ∙ c.if2.false
+    sym (c.before.withdraw_refusal-withdrawing.ensures at-start.args.pixels.now at-start.args.counts.now) ∙ c.if-withdrawing-ne0.false
 
 -- and the withdraw is in order
-order : (c : tie.Else2) →
+order : (c : tie.Else-withdrawing-ne0) →
     let at-start : tie.Start = search in
     WithdrawTaken (job_of (job at-start)) (sheet at-start) at-start.args.piece
 order c =
@@ -46,7 +46,7 @@ order c =
     withdraw_order (job_of (job at-start)) (sheet at-start) at-start.args.piece (none c)
 
 -- so the record has the piece's entry
-few : (c : tie.Else2) →
+few : (c : tie.Else-withdrawing-ne0) →
     let at-start : tie.Start = search in
     at-start.args.piece < 64
 unfolding job_of
@@ -56,40 +56,40 @@ few c =
     let here : at-start.args.piece < at-start.args.size.count = (order c).lies.piece in
     omega arith
 
-returns : tie.Need-returns
+returns-then-common-ne0 : tie.Need-returns-then-common-ne0
 unfolding withdraw_call
-returns c =
+returns-then-common-ne0 c =
     let at-start : tie.Start = search in
-    let common = c.before.before.sheet-refusal in
+    let common = c.before.before.sheet_refusal-common in
     refused_answer _ common.result at-start.args.sheet at-start.args.counts.now c.answer.result
     (sheet_refused (job at-start) (sheet at-start) (withdraw_causes (job_of (job at-start)) (sheet at-start) at-start.args.piece)
-    (withdraw (job_of (job at-start)) (sheet at-start) at-start.args.piece) common.result common.ensures c.before.if1.true)
-    c.answer.ensures c.before.if1.true
+    (withdraw (job_of (job at-start)) (sheet at-start) at-start.args.piece) common.result common.ensures c.before.if-common-ne0.true)
+    c.answer.ensures c.before.if-common-ne0.true
 
-withdraw-refusal-requires : tie.Need-withdraw-refusal-requires
-withdraw-refusal-requires c κs = ((facts _ (ready c).well).entries, (facts _ (ready c).well).few_pieces)
+withdraw_refusal-withdrawing-requires : tie.Need-withdraw_refusal-withdrawing-requires
+withdraw_refusal-withdrawing-requires c κs = ((facts _ (ready c).well).entries, (facts _ (ready c).well).few_pieces)
 
-returns-2 : tie.Need-returns-2
+returns-then-withdrawing-ne0 : tie.Need-returns-then-withdrawing-ne0
 unfolding withdraw_call
-returns-2 c =
-    let at-else1 : tie.Else1 = search in
+returns-then-withdrawing-ne0 c =
+    let at-else1 : tie.Else-common-ne0 = search in
     let at-start : tie.Start = search in
-    let own = c.before.before.withdraw-refusal in
-    refused_answer _ own.result at-start.args.sheet at-start.args.counts.now c.answer2.result
+    let own = c.before.before.withdraw_refusal-withdrawing in
+    refused_answer _ own.result at-start.args.sheet at-start.args.counts.now c.answer-then-withdrawing-ne0.result
     (own_refused (job at-start) (sheet at-start) (withdraw_causes (job_of (job at-start)) (sheet at-start) at-start.args.piece)
     (withdraw (job_of (job at-start)) (sheet at-start) at-start.args.piece) own.result
     (withdraw_plain (job_of (job at-start)) (sheet at-start) at-start.args.piece) (ready (at-else1))
-    (own.ensures at-start.args.pixels.now at-start.args.counts.now) c.before.if2.true)
-    c.answer2.ensures c.before.if2.true
+    (own.ensures at-start.args.pixels.now at-start.args.counts.now) c.before.if-withdrawing-ne0.true)
+    c.answer-then-withdrawing-ne0.ensures c.before.if-withdrawing-ne0.true
 
-entry-of-requires : tie.Need-entry-of-requires
-entry-of-requires c κs = few c
+entry_of-entry-requires : tie.Need-entry_of-entry-requires
+entry_of-entry-requires c κs = few c
 
-move-piece-requires : tie.Need-move-piece-requires
+move_piece-requires : tie.Need-move_piece-requires
 unfolding job_of
-move-piece-requires c κs =
-    let at-else2 : tie.Else2 = search in
-    let at-else1 : tie.Else1 = search in
+move_piece-requires c κs =
+    let at-else2 : tie.Else-withdrawing-ne0 = search in
+    let at-else1 : tie.Else-common-ne0 = search in
     let at-start : tie.Start = search in
     let sheet-is = ready (at-else1) in
     let own = order (at-else2) in
@@ -97,34 +97,34 @@ move-piece-requires c κs =
       well = sheet-is.well;
       piece = own.lies.piece;
       within =
-          withdrawn_inside (job_of (job at-start)) (sheet at-start) at-start.args.piece _ c.before.before.entry_of.ensures
+          withdrawn_inside (job_of (job at-start)) (sheet at-start) at-start.args.piece _ c.before.before.entry_of-entry.ensures
           sheet-is.sheet own.lies;
       full = sheet-is.full;
     }
 
-with-entry-requires : tie.Need-with-entry-requires
-with-entry-requires c κs =
-    let at-else2 : tie.Else2 = search in
+with_entry-requires : tie.Need-with_entry-requires
+with_entry-requires c κs =
+    let at-else2 : tie.Else-withdrawing-ne0 = search in
     few (at-else2)
 
-returns-3 : tie.Need-returns-3
+returns : tie.Need-returns
 unfolding withdraw_call withdraw job_of
-returns-3 c =
-    let at-move-piece : tie.After-move-piece = search in
-    let at-entry-of : tie.After-entry-of = search in
-    let at-else2 : tie.Else2 = search in
-    let at-else1 : tie.Else1 = search in
+returns c =
+    let at-move-piece : tie.After-move_piece = search in
+    let at-entry-of : tie.After-entry_of-entry = search in
+    let at-else2 : tie.Else-withdrawing-ne0 = search in
+    let at-else1 : tie.Else-common-ne0 = search in
     let at-start : tie.Start = search in
     let l = job at-start in
     let s = sheet at-start in
-    given_answer_lem _ (withdraw (job_of l) s at-start.args.piece) at-start.args.sheet at-start.args.counts.now _ c.answer3.result
+    given_answer_lem _ (withdraw (job_of l) s at-start.args.piece) at-start.args.sheet at-start.args.counts.now _ c.answer-2.result
     (none_given l s (withdraw_causes (job_of l) s at-start.args.piece) (withdraw (job_of l) s at-start.args.piece)
     (withdraw_plain (job_of l) s at-start.args.piece) (ready (at-else1)) (none (at-else2)))
-    (c.answer3.ensures ∙ rw (c.before.with-entry.ensures, c.before.before.origin.ensures))
-    (at-move-piece.move-piece.ensures ∙ moved_withdraws (job_of l) at-start.args.piece s _ at-entry-of.entry_of.ensures)
+    (c.answer-2.ensures ∙ rw (c.before.with_entry.ensures, c.before.before.origin-off.ensures))
+    (at-move-piece.move_piece.ensures ∙ moved_withdraws (job_of l) at-start.args.piece s _ at-entry-of.entry_of-entry.ensures)
 
-pub withdraw-spec : {M : Type 1} → statement M
-withdraw-spec =
+pub withdraw_spec : {M : Type 1} → statement M
+withdraw_spec =
     tie.close (tie.spec
-    (search needs) (search needs) (search needs) returns withdraw-refusal-requires (search needs) (search needs) returns-2
-    entry-of-requires move-piece-requires (search needs) with-entry-requires (search needs) (search needs) returns-3)
+    (search rules) (search rules) (search rules) returns-then-common-ne0 withdraw_refusal-withdrawing-requires (search rules) (search rules)
+    returns-then-withdrawing-ne0 entry_of-entry-requires move_piece-requires (search rules) with_entry-requires (search rules) (search rules) returns)

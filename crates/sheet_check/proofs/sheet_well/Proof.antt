@@ -26,35 +26,36 @@ well-tests : (c : tie.Start)
 unfolding job_of
 well-tests c = sheet_tests _ (sheet c) (many c) c.requires.1
 
-entries-well-requires : tie.Need-entries-well-requires
-entries-well-requires c κs = (facts _ c.before.before.requires.0).entries
+entries_well-requires : tie.Need-entries_well-requires
+entries_well-requires c κs = (facts _ c.before.before.requires.0).entries
+
+returns-then-not-entries_well : tie.Need-returns-then-not-entries_well
+returns-then-not-entries_well c =
+    let at-start : tie.Start = search in
+    let a = at-start.args in
+    let entries : all_below piece_bound (entry_well (job_of (lent_by a.size a.table.now a.pixels.now)) a.sheet.pieces) ≡ false =
+    sym (c.before.entries_well.ensures a.pixels.now) ∙ not-true c.before.entries_well.result c.if-not-entries_well.true in
+    sym (well-tests (at-start) ∙ rw entries)
+
+counts_well-requires : tie.Need-counts_well-requires
+counts_well-requires c κs =
+    let at-start : tie.Start = search in
+    let a = at-start.args in
+    let pre = at-start.requires in
+    record {
+      well = pre.0;
+      entries = sym (c.before.entries_well.ensures a.pixels.now) ∙ not-false c.before.entries_well.result c.if-not-entries_well.false;
+      full = pre.1;
+    }
 
 returns : tie.Need-returns
 returns c =
     let at-start : tie.Start = search in
     let a = at-start.args in
-    let entries : all_below piece_bound (entry_well (job_of (lent_by a.size a.table.now a.pixels.now)) a.sheet.pieces) ≡ false =
-    sym (c.before.entries-well.ensures a.pixels.now) ∙ not-true c.before.entries-well.result c.if1.true in
-    sym (well-tests (at-start) ∙ rw entries)
-
-counts-well-requires : tie.Need-counts-well-requires
-counts-well-requires c κs =
-    let at-start : tie.Start = search in
-    let a = at-start.args in
-    let pre = at-start.pre in
-    record {
-      well = pre.0;
-      entries = sym (c.before.entries-well.ensures a.pixels.now) ∙ not-false c.before.entries-well.result c.if1.false;
-      full = pre.1;
-    }
-
-returns-2 : tie.Need-returns-2
-returns-2 c =
-    let at-start : tie.Start = search in
-    let a = at-start.args in
     let entries : all_below piece_bound (entry_well (job_of (lent_by a.size a.table.now a.pixels.now)) a.sheet.pieces) ≡ true =
-    sym (c.before.before.entries-well.ensures a.pixels.now) ∙ not-false c.before.before.entries-well.result c.before.if1.false in
-    c.counts-well.ensures ∙ sym (well-tests (at-start) ∙ rw entries)
+    sym (c.before.before.entries_well.ensures a.pixels.now) ∙ not-false c.before.before.entries_well.result c.before.if-not-entries_well.false in
+    c.counts_well.ensures ∙ sym (well-tests (at-start) ∙ rw entries)
 
-pub sheet-well-spec : {M : Type 1} → statement M
-sheet-well-spec = tie.close (tie.spec entries-well-requires returns counts-well-requires returns-2)
+pub sheet_well_spec : {M : Type 1} → statement M
+sheet_well_spec = tie.close (tie.spec
+    entries_well-requires returns-then-not-entries_well counts_well-requires returns)

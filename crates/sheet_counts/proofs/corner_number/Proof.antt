@@ -1,22 +1,23 @@
 -- `corner_number`: a coordinate is below 65,536 and the sheet has at most 4,096 columns, so the number fits.
 -- Assumes nothing.
-use Rattle.list_laws.proofs.Kit.{◌*◌, ◌≤◌, mul-le-mul, arith, needs}
+use Rattle.list_laws.proofs.Kit.{◌*◌, ◌≤◌, mul-le-mul, arith, rules}
 use Rattle.sheet_counts.proofs.corner_number.Statement.{statement}
 use Rattle.sheet_counts.proofs.corner_number.Tie as tie
 
-mul-result : tie.Need-overflow-mul-result
-mul-result c =
+overflow_mul-result : tie.Need-overflow_mul-result
+overflow_mul-result c =
     let product : c.wide.result * c.before.args.sheet ≤ 65536 * 4096 = mul-le-mul {n₂ = 65536} {m₂ = 4096} (omega arith) c.before.requires in
     omega arith
 
-add-result : tie.Need-overflow-add-result
-add-result c =
+overflow_add-result : tie.Need-overflow_add-result
+overflow_add-result c =
     let product : c.before.wide.result * c.before.before.args.sheet ≤ 65536 * 4096 =
     mul-le-mul {n₂ = 65536} {m₂ = 4096} (omega arith) c.before.before.requires in
     omega arith
 
 returns : tie.Need-returns
-returns c = rw (c.before.wide.ensures.0, c.wide2.ensures.0)
+returns c = rw (c.before.wide.ensures.0, c.wide-2.ensures.0)
 
-pub corner-number-spec : {M : Type 1} → statement M
-corner-number-spec = tie.close (tie.spec (search needs) mul-result (search needs) add-result returns)
+pub corner_number_spec : {M : Type 1} → statement M
+corner_number_spec = tie.close (tie.spec
+    (search rules) overflow_mul-result (search rules) overflow_add-result returns)

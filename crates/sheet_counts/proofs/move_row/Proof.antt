@@ -1,59 +1,59 @@
 -- `move_row`: what the columns that are left make of the present counts is what all columns make of the first ones.
 -- Assumes nothing.
-use Rattle.list_laws.proofs.Kit.{◌∙◌, ◌≡◌, refl, sym, ◌-◌, ◌≤◌, sub-zero, arith, length, length-set, needs}
+use Rattle.list_laws.proofs.Kit.{◌∙◌, ◌≡◌, refl, sym, ◌-◌, ◌≤◌, sub-zero, arith, length, length-set, rules}
 use Rattle.sheet_counts.proofs.move_row.Statement.{statement}
 use Rattle.sheet_counts.proofs.move_row.Tie as tie
 use Rattle.sheet_counts.specs.Stamp.{moved_run, on_at}
 use Rattle.sheet_counts.proofs.Runs.{run_step, run_end}
 
-abbrev invariant-loop : tie.invariant-loop
-invariant-loop pixels piece y from width change counts₀ x₀ counts x =
+abbrev invariant-loop-x : tie.invariant-loop-x
+invariant-loop-x pixels piece y from width change counts₀ x₀ counts x =
     (x ≤ width) × (length counts ≡ length counts₀)
     × (moved_run change (on_at pixels piece y) from counts x (width - x) ≡ moved_run change (on_at pixels piece y) from counts₀ 0 width)
 
-abbrev decreases-loop : tie.decreases-loop
-decreases-loop pixels piece y from width change counts₀ x₀ counts x = width - x
+abbrev decreases-loop-x : tie.decreases-loop-x
+decreases-loop-x pixels piece y from width change counts₀ x₀ counts x = width - x
 
-loop-holds : tie.Need-loop-init invariant-loop decreases-loop
-loop-holds c = (omega arith, refl, rw sub-zero)
+loop-x-init : tie.Need-loop-x-init invariant-loop-x decreases-loop-x
+loop-x-init c = (omega arith, refl, rw sub-zero)
 
-stored-pixel-requires : tie.Need-stored-pixel-requires invariant-loop decreases-loop
-stored-pixel-requires c κs =
-    let at-start : tie.Start invariant-loop decreases-loop = search in
-    let pre = at-start.pre in
-    (pre.0, pre.1 _ c.loop-test.true)
+stored_pixel-on-requires : tie.Need-stored_pixel-on-requires invariant-loop-x decreases-loop-x
+stored_pixel-on-requires c κs =
+    let at-start : tie.Start invariant-loop-x decreases-loop-x = search in
+    let pre = at-start.requires in
+    (pre.0, pre.1 _ c.loop-x-test.true)
 
-moved-count-requires : tie.Need-moved-count-requires invariant-loop decreases-loop
-moved-count-requires c κs = tt
+moved_count-requires : tie.Need-moved_count-requires invariant-loop-x decreases-loop-x
+moved_count-requires c κs = tt
 
-loop-again : tie.Need-loop-preserved invariant-loop decreases-loop
-loop-again c =
-    let in-loop : tie.In-loop invariant-loop decreases-loop = search in
-    let at-loop : tie.At-loop invariant-loop decreases-loop = search in
-    let at-start : tie.Start invariant-loop decreases-loop = search in
+loop-x-preserved : tie.Need-loop-x-preserved invariant-loop-x decreases-loop-x
+loop-x-preserved c =
+    let in-loop : tie.In-loop-x invariant-loop-x decreases-loop-x = search in
+    let at-loop : tie.At-loop-x invariant-loop-x decreases-loop-x = search in
+    let at-start : tie.Start invariant-loop-x decreases-loop-x = search in
     let a = at-start.args in
-    let now = at-loop.loop in
-    let on = c.before.before.stored-pixel.ensures in
-    let count = c.moved-count.ensures in (
+    let now = at-loop.loop-x in
+    let on = c.before.before.stored_pixel-on.ensures in
+    let count = c.moved_count.ensures in (
       omega arith,
       simp length-set now.inv.1,
       rw (count, on)
-          (sym (run_step a.change (on_at a.pixels.now a.piece a.y) a.from now.counts now.x a.width in-loop.loop-test.taken)
+          (sym (run_step a.change (on_at a.pixels.now a.piece a.y) a.from now.counts now.x a.width in-loop.loop-x-test.true)
           ∙ now.inv.2),
     )
 
-same_length : tie.Need-same-length invariant-loop decreases-loop
-same_length c = c.before.loop.invariant.1
+shape_of-counts : tie.Need-shape_of-counts invariant-loop-x decreases-loop-x
+shape_of-counts c = c.before.loop-x.invariant.1
 
-returns : tie.Need-returns invariant-loop decreases-loop
+returns : tie.Need-returns invariant-loop-x decreases-loop-x
 returns c =
-    let at-start : tie.Start invariant-loop decreases-loop = search in
+    let at-start : tie.Start invariant-loop-x decreases-loop-x = search in
     let a = at-start.args in
-    let now = c.before.loop in
-    sym (run_end a.change (on_at a.pixels.now a.piece a.y) a.from now.counts now.x a.width c.loop-test.false) ∙ now.invariant.2
+    let now = c.before.loop-x in
+    sym (run_end a.change (on_at a.pixels.now a.piece a.y) a.from now.counts now.x a.width c.loop-x-test.false) ∙ now.invariant.2
 
-pub move-row-spec : {M : Type 1} → statement M
-move-row-spec =
+pub move_row_spec : {M : Type 1} → statement M
+move_row_spec =
     tie.close (tie.spec
-    invariant-loop decreases-loop loop-holds stored-pixel-requires (search needs) (search needs) moved-count-requires (search needs) (search needs)
-    (search needs) loop-again same_length returns)
+    invariant-loop-x decreases-loop-x loop-x-init stored_pixel-on-requires (search rules) (search rules) moved_count-requires (search rules)
+    (search rules) (search rules) loop-x-preserved shape_of-counts returns)

@@ -1,83 +1,85 @@
 -- `move_rows`: what the rows that are left make of the present counts is what all rows make of the first ones.
 -- Assumes nothing.
-use Rattle.list_laws.proofs.Kit.{◌∙◌, ◌≡◌, ap, refl, sym, ◌*◌, ◌+◌, ◌-◌, ◌≤◌, ℕ, add-one, sub-zero, suc-mul, zero-mul, arith, length, needs}
+use Rattle.list_laws.proofs.Kit.{◌∙◌, ◌≡◌, ap, refl, sym, ◌*◌, ◌+◌, ◌-◌, ◌≤◌, ℕ, add-one, sub-zero, suc-mul, zero-mul, arith, length, rules}
 use Rattle.sheet_counts.proofs.move_rows.Statement.{statement}
 use Rattle.sheet_counts.proofs.move_rows.Tie as tie
 use Rattle.sheet_counts.specs.Stamp.{moved_run, moved_rows, on_at}
 use Rattle.sheet_counts.proofs.Runs.{length_run}
 use Rattle.sheet_counts.proofs.Rows.{rows_step, rows_end}
 
-abbrev invariant-loop : tie.invariant-loop
-invariant-loop pixels piece first sheet width height change counts₀ from₀ y₀ counts from y =
+abbrev invariant-loop-y : tie.invariant-loop-y
+invariant-loop-y pixels piece first sheet width height change counts₀ from₀ y₀ counts from y =
     (y ≤ height) × (length counts ≡ length counts₀) × (from ≡ first + y * sheet)
     × (moved_rows change (on_at pixels piece) sheet width counts from y (height - y)
     ≡ moved_rows change (on_at pixels piece) sheet width counts₀ first 0 height)
 
-abbrev decreases-loop : tie.decreases-loop
-decreases-loop pixels piece first sheet width height change counts₀ from₀ y₀ counts from y = height - y
+abbrev decreases-loop-y : tie.decreases-loop-y
+decreases-loop-y pixels piece first sheet width height change counts₀ from₀ y₀ counts from y = height - y
 
-loop-holds : tie.Need-loop-init invariant-loop decreases-loop
-loop-holds c = (omega arith, refl, (let none = zero-mul c.before.before.args.sheet in omega arith), rw sub-zero)
+loop-y-init : tie.Need-loop-y-init invariant-loop-y decreases-loop-y
+loop-y-init c = (omega arith, refl, (let none = zero-mul c.before.before.args.sheet in omega arith), rw sub-zero)
 
-move-row-requires : tie.Need-move-row-requires invariant-loop decreases-loop
-move-row-requires c κs =
-    let at-start : tie.Start invariant-loop decreases-loop = search in
-    let pre = at-start.pre in
-    let now = c.before.before.loop in
-    let row = pre.1.rows now.y c.before.loop-test.true in
+move_row-requires : tie.Need-move_row-requires invariant-loop-y decreases-loop-y
+move_row-requires c κs =
+    let at-start : tie.Start invariant-loop-y decreases-loop-y = search in
+    let pre = at-start.requires in
+    let now = c.before.before.loop-y in
+    let row = pre.1.rows now.y c.before.loop-y-test.true in
     let from = now.invariant.2 in
     let same = now.invariant.1 in
-    (pre.0, (λ x l. pre.1.places x now.y l c.before.loop-test.true), omega arith)
+    (pre.0, (λ x l. pre.1.places x now.y l c.before.loop-y-test.true), omega arith)
 
-add-from : tie.Need-overflow-add-from invariant-loop decreases-loop
-add-from c =
-    let at-start : tie.Start invariant-loop decreases-loop = search in
-    let pre = at-start.pre in
-    let now = c.before.before.before.before.before.loop in
-    let row = pre.1.rows now.y c.before.before.before.before.loop-test.true in
+overflow_add-from : tie.Need-overflow_add-from invariant-loop-y decreases-loop-y
+overflow_add-from c =
+    let at-start : tie.Start invariant-loop-y decreases-loop-y = search in
+    let pre = at-start.requires in
+    let now = c.before.before.before.before.before.loop-y in
+    let row = pre.1.rows now.y c.before.before.before.before.loop-y-test.true in
     let from = now.invariant.2 in
     let small = pre.1.sheets in
-    let good = at-start.good in
+    let good = at-start.well_formed in
     omega arith
 
-add-y : tie.Need-overflow-add-y invariant-loop decreases-loop
-add-y c =
-    let in-loop : tie.In-loop invariant-loop decreases-loop = search in
-    let at-start : tie.Start invariant-loop decreases-loop = search in
-    let small = at-start.pre.1.tall in
-    let inside = in-loop.loop-test.taken in
+overflow_add-y : tie.Need-overflow_add-y invariant-loop-y decreases-loop-y
+overflow_add-y c =
+    let in-loop : tie.In-loop-y invariant-loop-y decreases-loop-y = search in
+    let at-start : tie.Start invariant-loop-y decreases-loop-y = search in
+    let small = at-start.requires.1.tall in
+    let inside = in-loop.loop-y-test.true in
     omega arith
 
-loop-again : tie.Need-loop-preserved invariant-loop decreases-loop
-loop-again c =
-    let in-loop : tie.In-loop invariant-loop decreases-loop = search in
-    let at-loop : tie.At-loop invariant-loop decreases-loop = search in
-    let at-start : tie.Start invariant-loop decreases-loop = search in
+loop-y-preserved : tie.Need-loop-y-preserved invariant-loop-y decreases-loop-y
+loop-y-preserved c =
+    let in-loop : tie.In-loop-y invariant-loop-y decreases-loop-y = search in
+    let at-loop : tie.At-loop-y invariant-loop-y decreases-loop-y = search in
+    let at-start : tie.Start invariant-loop-y decreases-loop-y = search in
     let a = at-start.args in
-    let now = at-loop.loop in
+    let now = at-loop.loop-y in
     let f = on_at a.pixels.now a.piece in
-    let inside = in-loop.loop-test.taken in
-    let after : c.before.before.Move-row.new.1.1.1.1.1.1.0 ≡ moved_run a.change (f now.y) now.from now.counts 0 a.width =
+    let inside = in-loop.loop-y-test.true in
+    let after : c.before.before.Move-row.new.1.1.1.1.1.1.0 ≡ moved_run a.change (f now.y) now.from now.counts-1 0 a.width =
     c.before.before.Move-row.ensures in
     let from = now.inv.2 in
     let step : (now.y + 1) * a.sheet ≡ now.y * a.sheet + a.sheet = ap (λ (n : ℕ). n * a.sheet) (add-one now.y) ∙ suc-mul now.y a.sheet in (
       omega arith,
-      ap length after ∙ length_run a.change (f now.y) now.from now.counts 0 a.width ∙ now.inv.1,
+      ap length after ∙ length_run a.change (f now.y) now.from now.counts-1 0 a.width ∙ now.inv.1,
       omega arith,
-      rw after (sym (rows_step a.change f a.sheet a.width now.counts now.from now.y a.height inside) ∙ now.inv.3),
+      rw after (sym (rows_step a.change f a.sheet a.width now.counts-1 now.from now.y a.height inside) ∙ now.inv.3),
     )
 
-same_length : tie.Need-same-length invariant-loop decreases-loop
-same_length c = c.before.loop.invariant.1
+shape_of-counts : tie.Need-shape_of-counts invariant-loop-y decreases-loop-y
+shape_of-counts c = c.before.loop-y.invariant.1
 
-returns : tie.Need-returns invariant-loop decreases-loop
+returns : tie.Need-returns invariant-loop-y decreases-loop-y
 returns c =
-    let at-start : tie.Start invariant-loop decreases-loop = search in
+    let at-start : tie.Start invariant-loop-y decreases-loop-y = search in
     let a = at-start.args in
-    let now = c.before.loop in
-    sym (rows_end a.change (on_at a.pixels.now a.piece) a.sheet a.width now.counts now.from now.y a.height c.loop-test.false)
+    let now = c.before.loop-y in
+    sym (rows_end a.change (on_at a.pixels.now a.piece) a.sheet a.width now.counts-1 now.from now.y a.height c.loop-y-test.false)
     ∙ now.invariant.3
 
-pub move-rows-spec : {M : Type 1} → statement M
-move-rows-spec =
-    tie.close (tie.spec invariant-loop decreases-loop loop-holds move-row-requires add-from add-y (search needs) loop-again same_length returns)
+pub move_rows_spec : {M : Type 1} → statement M
+move_rows_spec =
+    tie.close (tie.spec
+    invariant-loop-y decreases-loop-y loop-y-init move_row-requires overflow_add-from overflow_add-y (search rules) loop-y-preserved shape_of-counts
+    returns)

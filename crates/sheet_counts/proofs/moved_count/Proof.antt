@@ -1,28 +1,30 @@
 -- `moved_count`: each way's test says which clause of `moved` it is. Assumes nothing.
-use Rattle.list_laws.proofs.Kit.{needs, not-false, not-true}
+use Rattle.list_laws.proofs.Kit.{rules, not-false, not-true}
 use Rattle.sheet_counts.proofs.moved_count.Statement.{statement}
 use Rattle.sheet_counts.proofs.moved_count.Tie as tie
 
-returns : tie.Need-returns
-returns c = rw (not-true c.before.args.on c.if1.true)
+returns-then-not-on : tie.Need-returns-then-not-on
+returns-then-not-on c = rw (not-true c.before.args.on c.if-not-on.true)
 
-returns-2 : tie.Need-returns-2
-returns-2 c =
+returns-in-OneMore : tie.Need-returns-in-OneMore
+returns-in-OneMore c =
     let s : tie.Start = search in
-    let at-if : tie.Else1 = search in
-    rw (not-false s.args.on at-if.if1.left, c.before.enum_told.given.1) c.one_more.ensures
+    let at-if : tie.Else-not-on = search in
+    rw (not-false s.args.on at-if.if-not-on.false, c.before.enum_told-1.given.1) c.one_more.ensures
 
-returns-3 : tie.Need-returns-3
-returns-3 c =
+returns-in-OneLess : tie.Need-returns-in-OneLess
+returns-in-OneLess c =
     let s : tie.Start = search in
-    let at-if : tie.Else1 = search in
-    rw (not-false s.args.on at-if.if1.left, c.before.enum-told2.given.1) c.one_less.ensures
+    let at-if : tie.Else-not-on = search in
+    rw (not-false s.args.on at-if.if-not-on.false, c.before.enum_told-in-OneLess-1.given.1) c.one_less.ensures
 
-returns-4 : tie.Need-returns-4
-returns-4 c =
+returns-in-OwnedBy : tie.Need-returns-in-OwnedBy
+returns-in-OwnedBy c =
     let s : tie.Start = search in
-    let at-if : tie.Else1 = search in
-    rw (not-false s.args.on at-if.if1.left, c.before.change.given.1)
+    let at-if : tie.Else-not-on = search in
+    rw (not-false s.args.on at-if.if-not-on.false, c.before.change-1.given.1)
 
-pub moved-count-spec : {M : Type 1} → statement M
-moved-count-spec = tie.close (tie.spec returns (search needs) (search needs) (search needs) (search needs) (search needs) returns-2 returns-3 returns-4)
+pub moved_count_spec : {M : Type 1} → statement M
+moved_count_spec = tie.close (tie.spec
+    returns-then-not-on (search rules) (search rules) (search rules) (search rules) (search rules) returns-in-OneMore returns-in-OneLess
+    returns-in-OwnedBy)

@@ -1,45 +1,46 @@
 -- `buffer_refusal`: each way's tests say which cause is the first.
 -- Assumes nothing.
-use Rattle.list_laws.proofs.Kit.{◌∙◌, ◌≡◌, sym, false, true, ◌*◌, arith, needs, eq-eqb, ne_eqb, not-false, not-true}
+use Rattle.list_laws.proofs.Kit.{◌∙◌, ◌≡◌, sym, false, true, ◌*◌, arith, rules, eq-eqb, ne_eqb, not-false, not-true}
 use Rattle.model.specs.Lent.{lent_by, lent_well}
 use Rattle.job_laws.proofs.Checked.{facts}
 use Rattle.sheet_refusals.specs.Causes.{first_number}
 use Rattle.sheet_refusals.proofs.buffer_refusal.Tie as tie
 use Rattle.sheet_refusals.proofs.buffer_refusal.Statement.{statement}
 
-returns : tie.Need-returns
+returns-then-not-check_job : tie.Need-returns-then-not-check_job
 unfolding first_number
-returns c =
+returns-then-not-check_job c =
     let at-start : tie.Start = search in
     let no-job : lent_well (lent_by at-start.args.size at-start.args.table.now at-start.args.pixels.now) ≡ false =
-    sym c.before.check-job.ensures ∙ not-true c.before.check-job.result c.if1.true in
+    sym c.before.check_job.ensures ∙ not-true c.before.check_job.result c.if-not-check_job.true in
     rw no-job
 
-mul-if2 : tie.Need-overflow-mul-if2
-mul-if2 c =
-    let well = sym c.before.before.check-job.ensures ∙ not-false c.before.before.check-job.result c.before.if1.false in
+overflow_mul-size : tie.Need-overflow_mul-size
+overflow_mul-size c =
+    let well = sym c.before.before.check_job.ensures ∙ not-false c.before.before.check_job.result c.before.if-not-check_job.false in
     let area = (facts _ well).area in
     omega arith
 
-returns-2 : tie.Need-returns-2
+returns-then-room-size : tie.Need-returns-then-room-size
 unfolding first_number
-returns-2 c =
-    let at-check-job : tie.After-check-job = search in
+returns-then-room-size c =
+    let at-check-job : tie.After-check_job = search in
     let at-start : tie.Start = search in
     let a = at-start.args in
     let well : lent_well (lent_by a.size a.table.now a.pixels.now) ≡ true =
-    sym at-check-job.check-job.ensures ∙ not-false at-check-job.check-job.result c.before.before.if1.false in
-    rw (well, ne_eqb a.room (a.size.rows * a.size.columns) c.if2.true)
+    sym at-check-job.check_job.ensures ∙ not-false at-check-job.check_job.result c.before.before.if-not-check_job.false in
+    rw (well, ne_eqb a.room (a.size.rows * a.size.columns) c.if-room-size.true)
 
-returns-3 : tie.Need-returns-3
+returns : tie.Need-returns
 unfolding first_number
-returns-3 c =
-    let at-check-job : tie.After-check-job = search in
+returns c =
+    let at-check-job : tie.After-check_job = search in
     let at-start : tie.Start = search in
     let a = at-start.args in
     let well : lent_well (lent_by a.size a.table.now a.pixels.now) ≡ true =
-    sym at-check-job.check-job.ensures ∙ not-false at-check-job.check-job.result c.before.before.if1.false in
-    rw (well, eq-eqb a.room (a.size.rows * a.size.columns) c.if2.false)
+    sym at-check-job.check_job.ensures ∙ not-false at-check-job.check_job.result c.before.before.if-not-check_job.false in
+    rw (well, eq-eqb a.room (a.size.rows * a.size.columns) c.if-room-size.false)
 
-pub buffer-refusal-spec : {M : Type 1} → statement M
-buffer-refusal-spec = tie.close (tie.spec (search needs) returns mul-if2 returns-2 returns-3)
+pub buffer_refusal_spec : {M : Type 1} → statement M
+buffer_refusal_spec = tie.close (tie.spec
+    (search rules) returns-then-not-check_job overflow_mul-size returns-then-room-size returns)

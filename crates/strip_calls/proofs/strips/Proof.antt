@@ -1,6 +1,6 @@
 -- `strip_calls::strips` meets its contract: each refusal is the call's first cause, and the stores are filled where both have room. Assumes
 -- nothing.
-use Rattle.list_laws.proofs.Kit.{◌∙◌, ◌≡◌, ap, ap₂, sym, false, true, needs, not-false, not-true}
+use Rattle.list_laws.proofs.Kit.{◌∙◌, ◌≡◌, ap, ap₂, sym, false, true, rules, not-false, not-true}
 use Rattle.model.specs.Lent.{Lent, lent_by, lent_well, job_of}
 use Rattle.model.specs.Calls.{Stores, turn_list_wrong, stores_after}
 use Rattle.job_laws.proofs.Checked.{facts}
@@ -21,93 +21,94 @@ job s = lent_by s.args.size s.args.table.now s.args.pixels.now
 abbrev lent : tie.Start → Stores
 lent s = stores_by s.args.row-strips.now s.args.row-starts.now s.args.column-strips.now s.args.column-starts.now
 
-returns : tie.Need-returns
-returns c =
+returns-then-not-check_job : tie.Need-returns-then-not-check_job
+returns-then-not-check_job c =
     let at-start : tie.Start = search in
     let out =
-    strips_job (job at-start) at-start.args.turns.now (lent at-start) (sym c.before.before.check-job.ensures ∙ not-true _ c.before.if1.true) in
+    strips_job (job at-start) at-start.args.turns.now (lent at-start) (sym c.before.before.check_job.ensures ∙ not-true _ c.before.if-not-check_job.true) in
     (c.refused.ensures ∙ ap done_answer (sym out), ap (stores_after (lent at-start)) (sym out))
 
 -- the job passes its check
-well : (c : tie.Else1) →
+well : (c : tie.Else-not-check_job) →
     let at-start : tie.Start = search in
     lent_well (job (at-start)) ≡ true
-well c = sym c.before.check-job.ensures ∙ not-false _ c.if1.false
+well c = sym c.before.check_job.ensures ∙ not-false _ c.if-not-check_job.false
 
 wrong-requires : tie.Need-wrong-requires
 wrong-requires c κs =
     let at-start : tie.Start = search in
     (facts (job (at-start)) (well c)).entries
 
-returns-2 : tie.Need-returns-2
-returns-2 c =
-    let at-else1 : tie.Else1 = search in
+returns-then-wrong : tie.Need-returns-then-wrong
+returns-then-wrong c =
+    let at-else1 : tie.Else-not-check_job = search in
     let at-start : tie.Start = search in
     let out = strips_turns (job at-start) at-start.args.turns.now (lent at-start) (well (at-else1))
-    (sym (c.before.before.wrong.ensures at-start.args.pixels.now) ∙ c.before.if2.true) in
-    (c.refused2.ensures ∙ ap done_answer (sym out), ap (stores_after (lent at-start)) (sym out))
+    (sym (c.before.before.wrong.ensures at-start.args.pixels.now) ∙ c.before.if-wrong.true) in
+    (c.refused-then-wrong.ensures ∙ ap done_answer (sym out), ap (stores_after (lent at-start)) (sym out))
 
 -- the turns are right
-right : (c : tie.Else2) →
+right : (c : tie.Else-wrong) →
     let at-start : tie.Start = search in
     turn_list_wrong (job_of (job (at-start))) at-start.args.turns.now ≡ false
 right c =
     let at-start : tie.Start = search in
-    sym (c.before.wrong.ensures at-start.args.pixels.now) ∙ c.if2.false
+    sym (c.before.wrong.ensures at-start.args.pixels.now) ∙ c.if-wrong.false
 
 -- strips can be made
-ready : (c : tie.Else2) →
+ready : (c : tie.Else-wrong) →
     let at-start : tie.Start = search in
     StoreReady (job (at-start)) at-start.args.turns.now
 ready c =
     let at-start : tie.Start = search in
     made_ready (job (at-start)) at-start.args.turns.now (well c.before.before) (right c)
 
-both-have-room-requires : tie.Need-both-have-room-requires
-both-have-room-requires c κs = ready c.before.before
+both_have_room-requires : tie.Need-both_have_room-requires
+both_have_room-requires c κs = ready c.before.before
 
 -- what is asked is whether the lent stores have room
-asked : (c : tie.After-both-have-room) →
+asked : (c : tie.After-both_have_room) →
     let at-start : tie.Start = search in
-    c.both-have-room.result ≡ has_room (job_of (job (at-start))) at-start.args.turns.now (lent (at-start))
+    c.both_have_room.result ≡ has_room (job_of (job (at-start))) at-start.args.turns.now (lent (at-start))
 asked c =
     let at-start : tie.Start = search in
-    c.both-have-room.ensures
-    ∙ ap₂ (room_for_both (job_of (job (at-start))) at-start.args.turns.now) c.before.before.room_for.ensures c.before.room-for2.ensures
+    c.both_have_room.ensures
+    ∙ ap₂ (room_for_both (job_of (job (at-start))) at-start.args.turns.now) c.before.before.room_for-rows.ensures c.before.room_for-columns.ensures
 
-returns-3 : tie.Need-returns-3
-returns-3 c =
-    let at-else2 : tie.Else2 = search in
-    let at-else1 : tie.Else1 = search in
+returns-then-not-both_have_room : tie.Need-returns-then-not-both_have_room
+returns-then-not-both_have_room c =
+    let at-else2 : tie.Else-wrong = search in
+    let at-else1 : tie.Else-not-check_job = search in
     let at-start : tie.Start = search in
     let out = strips_short (job at-start) at-start.args.turns.now (lent at-start) (well (at-else1)) (right (at-else2))
-    (sym (asked c.before.before) ∙ not-true _ c.before.if3.true) in
-    (c.refused3.ensures ∙ ap done_answer (sym out), ap (stores_after (lent at-start)) (sym out))
+    (sym (asked c.before.before) ∙ not-true _ c.before.if-not-both_have_room.true) in
+    (c.refused-then-not-both_have_room.ensures ∙ ap done_answer (sym out), ap (stores_after (lent at-start)) (sym out))
 
 -- both stores have room
-room : (c : tie.Else3) →
+room : (c : tie.Else-not-both_have_room) →
     let at-start : tie.Start = search in
     has_room (job_of (job (at-start))) at-start.args.turns.now (lent (at-start)) ≡ true
-room c = sym (asked c.before) ∙ not-false _ c.if3.false
+room c = sym (asked c.before) ∙ not-false _ c.if-not-both_have_room.false
 
-fill-both-requires : tie.Need-fill-both-requires
-fill-both-requires c κs =
-    let at-else3 : tie.Else3 = search in
-    let at-else2 : tie.Else2 = search in
+fill_both-requires : tie.Need-fill_both-requires
+fill_both-requires c κs =
+    let at-else3 : tie.Else-not-both_have_room = search in
+    let at-else2 : tie.Else-wrong = search in
     (ready (at-else2), room (at-else3))
 
-returns-4 : tie.Need-returns-4
-returns-4 c =
-    let at-fill-both : tie.After-fill-both = search in
-    let at-else3 : tie.Else3 = search in
-    let at-else2 : tie.Else2 = search in
-    let at-else1 : tie.Else1 = search in
+returns : tie.Need-returns
+returns c =
+    let at-fill-both : tie.After-fill_both = search in
+    let at-else3 : tie.Else-not-both_have_room = search in
+    let at-else2 : tie.Else-wrong = search in
+    let at-else1 : tie.Else-not-check_job = search in
     let at-start : tie.Start = search in
     let out = strips_given (job at-start) at-start.args.turns.now (lent at-start) (well (at-else1)) (right (at-else2)) (room (at-else3)) in
-    (ap done_answer (sym out), at-fill-both.fill-both.ensures ∙ ap (stores_after (lent at-start)) (sym out))
+    (ap done_answer (sym out), at-fill-both.fill_both.ensures ∙ ap (stores_after (lent at-start)) (sym out))
 
-pub strips-spec : {M : Type 1} → statement M
-strips-spec =
+pub strips_spec : {M : Type 1} → statement M
+strips_spec =
     tie.close (tie.spec
-    (search needs) (search needs) returns wrong-requires (search needs) returns-2 (search needs) (search needs) both-have-room-requires
-    (search needs) returns-3 fill-both-requires (search needs) (search needs) (search needs) (search needs) returns-4)
+    (search rules) (search rules) returns-then-not-check_job wrong-requires (search rules) returns-then-wrong (search rules) (search rules)
+    both_have_room-requires (search rules) returns-then-not-both_have_room fill_both-requires (search rules) (search rules) (search rules)
+    (search rules) returns)

@@ -1,5 +1,5 @@
 -- `strip_check::strip_of` meets its contract: an array of three has three numbers. Assumes nothing.
-use Rattle.list_laws.proofs.Kit.{◌∙◌, ◌≡◌, sym, length, needs}
+use Rattle.list_laws.proofs.Kit.{◌∙◌, ◌≡◌, sym, length, rules}
 use Rattle.model.specs.Buffer.{strip_entry}
 use Rattle.strip_check.proofs.Reading.{three_numbers}
 use Rattle.strip_check.proofs.strip_of.Statement.{statement}
@@ -9,10 +9,10 @@ returns : tie.Need-returns
 returns c =
     let at-start : tie.Start = search in
     let e = at-start.args.t1 in
-    let n : length e ≡ 3 = search needs in
+    let n : length e ≡ 3 = search rules in
     let a = c.before.before.wide.ensures in
-    let b = c.before.wide2.ensures in
-    let d = c.wide3.ensures in
+    let b = c.before.wide-2.ensures in
+    let d = c.wide-3.ensures in
     record {
       whole = three_numbers e n ∙ (λ i. strip_entry (record { line = sym a.0 i; first = sym b.0 i; count = sym d.0 i }));
       line = a.1;
@@ -20,5 +20,6 @@ returns c =
       count = d.1;
     }
 
-pub strip-of-spec : {M : Type 1} → statement M
-strip-of-spec = tie.close (tie.spec (search needs) (search needs) (search needs) (search needs) (search needs) (search needs) returns)
+pub strip_of_spec : {M : Type 1} → statement M
+strip_of_spec = tie.close (tie.spec
+    (search rules) (search rules) (search rules) (search rules) (search rules) (search rules) returns)

@@ -3,19 +3,19 @@ use Rattle.strip_check.proofs.Validity.{strip_listed}
 use Rattle.strip_check.proofs.Edges.{well_valid}
 use Rattle.strip_paint.proofs.Painting.{room_again}
 use Rattle.strip_paint.proofs.Written.{written}
-use Rattle.list_laws.proofs.Kit.{needs}
+use Rattle.list_laws.proofs.Kit.{rules}
 use Rattle.strip_paint.proofs.write.Statement.{statement}
 use Rattle.strip_paint.proofs.write.Tie as tie
 
-paint-strips-requires : tie.Need-paint-strips-requires
-paint-strips-requires c κs =
+paint_strips-requires : tie.Need-paint_strips-requires
+paint_strips-requires c κs =
     let at_clear : tie.After-clear = search in
     let at-start : tie.Start = search in
     let a = at-start.args in
-    let p = at-start.pre in
+    let p = at-start.requires in
     let v = well_valid a.direction a.columns a.rows a.strips.now p.1 in (
-      room_again p.0 at_clear.clear.kept.0,
-      λ i h. v.fits _ (strip_listed a.strips.now i h),
+      room_again p.0 at_clear.clear.auto.0,
+      λ i h. v.ranges _ (strip_listed a.strips.now i h),
     )
 
 returns : tie.Need-returns
@@ -23,10 +23,11 @@ returns c =
     let at_clear : tie.After-clear = search in
     let at-start : tie.Start = search in
     let a = at-start.args in
-    let p = at-start.pre in
+    let p = at-start.requires in
     let v = well_valid a.direction a.columns a.rows a.strips.now p.1 in
-    written a.direction a.columns a.rows a.strips.now a.pixels.now _ p.0 v
-    (rw at_clear.clear.ensures at c.before.before.paint-strips.ensures)
+    written a.direction a.columns a.rows a.strips.now a.pixels-1.now _ p.0 v
+    (rw at_clear.clear.ensures at c.before.before.paint_strips.ensures)
 
 pub write_spec : {M : Type 1} → statement M
-write_spec = tie.close (tie.spec (search needs) (search needs) paint-strips-requires (search needs) returns)
+write_spec = tie.close (tie.spec
+    (search rules) (search rules) paint_strips-requires (search rules) returns)

@@ -1,6 +1,6 @@
 -- `text_numbers::fields_at` meets its contract. The loop's invariant: the numbers so far, in front of the fields that are left, are what
 -- the whole reads. Assumes nothing.
-use Rattle.list_laws.proofs.Kit.{◌∙◌, ◌≡◌, refl, sym, [], ◌-◌, ◌<◌, ◌≤◌, ℕ, arith, length, length-set, needs}
+use Rattle.list_laws.proofs.Kit.{◌∙◌, ◌≡◌, refl, sym, [], ◌-◌, ◌<◌, ◌≤◌, ℕ, arith, length, length-set, rules}
 use Rattle.model.specs.Text.{field, field_at, fields_at, got, wrong}
 use Rattle.list_laws.proofs.Lists.{repeat_at}
 use Rattle.text_fields.proofs.Steps.{got_of, wrong_of}
@@ -10,73 +10,73 @@ use Rattle.text_numbers.proofs.Steps.{read_on, read_none, read_more, read_wrong,
 use Rattle.text_numbers.proofs.fields_at.Statement.{statement}
 use Rattle.text_numbers.proofs.fields_at.Tie as tie
 
-abbrev invariant-loop : tie.invariant-loop
-invariant-loop text p count numbers₀ next₀ k₀ numbers next k =
+abbrev invariant-loop-k : tie.invariant-loop-k
+invariant-loop-k text p count numbers₀ next₀ k₀ numbers next k =
     (k ≤ count)
     × (length numbers ≡ 8)
     × (0 < k → next ≤ length text)
     × (read_on numbers k (fields_at (field_ends (count - k)) text next) ≡ fields_at (field_ends count) text p)
     × ((j : ℕ) → k ≤ j → field numbers j ≡ 0)
 
-abbrev decreases-loop : tie.decreases-loop
-decreases-loop text p count numbers₀ next₀ k₀ numbers next k = count - k
+abbrev decreases-loop-k : tie.decreases-loop-k
+decreases-loop-k text p count numbers₀ next₀ k₀ numbers next k = count - k
 
-loop-holds : tie.Need-loop-init invariant-loop decreases-loop
-loop-holds c =
+loop-k-init : tie.Need-loop-k-init invariant-loop-k decreases-loop-k
+loop-k-init c =
     let a = c.before.args in
     (omega arith, refl, (λ h. absurd (omega arith)), read_none a.text.now [] a.p a.count, (λ j h. repeat_at 8 j 0))
 
-field-at-requires : tie.Need-field-at-requires invariant-loop decreases-loop
-field-at-requires c κs = c.end-byte.ensures.1
+field_at-requires : tie.Need-field_at-requires invariant-loop-k decreases-loop-k
+field_at-requires c κs = c.end_byte.ensures.1
 
-returns : tie.Need-returns invariant-loop decreases-loop
-returns c =
-    let at-end-byte : tie.After-end-byte invariant-loop decreases-loop = search in
-    let in-loop : tie.In-loop invariant-loop decreases-loop = search in
-    let at-loop : tie.At-loop invariant-loop decreases-loop = search in
-    let at-start : tie.Start invariant-loop decreases-loop = search in
+returns-in_default : tie.Need-returns-in_default invariant-loop-k decreases-loop-k
+returns-in_default c =
+    let at-end-byte : tie.After-end_byte invariant-loop-k decreases-loop-k = search in
+    let in-loop : tie.In-loop-k invariant-loop-k decreases-loop-k = search in
+    let at-loop : tie.At-loop-k invariant-loop-k decreases-loop-k = search in
+    let at-start : tie.Start invariant-loop-k decreases-loop-k = search in
     let a = at-start.args in
     let text = a.text.now in
-    let l = at-loop.loop in
-    let end = at-end-byte.end-byte.result in
+    let l = at-loop.loop-k in
+    let end = at-end-byte.end_byte.result in
     let e : field_at end text l.next ≡ wrong =
-    wrong_of (field_at end text l.next) (sym c.enum_told.given.1 ∙ c.before.before.field_at.ensures.same) in
+    wrong_of (field_at end text l.next) (sym c.enum_told-1.given.1 ∙ c.before.before.field_at.ensures.same) in
     record {
-      same = sym l.inv.3 ∙ read_wrong text l.numbers l.next l.k a.count end in-loop.loop-test.taken at-end-byte.end-byte.ensures.0 e;
+      same = sym l.inv.3 ∙ read_wrong text l.numbers l.next l.k a.count end in-loop.loop-k-test.true at-end-byte.end_byte.ensures.0 e;
       others = λ j h. l.inv.4 j (omega arith);
       inside = omega arith;
     }
 
-loop-again : tie.Need-loop-preserved invariant-loop decreases-loop
-loop-again c =
-    let at-field-at : tie.After-field-at invariant-loop decreases-loop = search in
-    let at-end-byte : tie.After-end-byte invariant-loop decreases-loop = search in
-    let in-loop : tie.In-loop invariant-loop decreases-loop = search in
-    let at-loop : tie.At-loop invariant-loop decreases-loop = search in
-    let at-start : tie.Start invariant-loop decreases-loop = search in
+loop-k-preserved : tie.Need-loop-k-preserved invariant-loop-k decreases-loop-k
+loop-k-preserved c =
+    let at-field-at : tie.After-field_at invariant-loop-k decreases-loop-k = search in
+    let at-end-byte : tie.After-end_byte invariant-loop-k decreases-loop-k = search in
+    let in-loop : tie.In-loop-k invariant-loop-k decreases-loop-k = search in
+    let at-loop : tie.At-loop-k invariant-loop-k decreases-loop-k = search in
+    let at-start : tie.Start invariant-loop-k decreases-loop-k = search in
     let a = at-start.args in
     let text = a.text.now in
-    let l = at-loop.loop in
-    let end = at-end-byte.end-byte.result in
-    let v = c.before.number.given.0.0 in
-    let q = c.before.number.given.0.1.0 in
-    let g : number.Got v q ≡ at-field-at.field_at.result = sym c.before.number.given.1 in
+    let l = at-loop.loop-k in
+    let end = at-end-byte.end_byte.result in
+    let v = c.before.number-1.given.0.0 in
+    let q = c.before.number-1.given.0.1.0 in
+    let g : number.Got v q ≡ at-field-at.field_at.result = sym c.before.number-1.given.1 in
     let e : field_at end text l.next ≡ got v q = got_of (field_at end text l.next) v q (g ∙ at-field-at.field_at.ensures.same) in
     let i : q ≤ length text = rw (sym g) at at-field-at.field_at.ensures.inside in
-    let below : l.k < a.count = in-loop.loop-test.taken in
+    let below : l.k < a.count = in-loop.loop-k-test.true in
     let room : l.k < length l.numbers = omega arith in (
       omega arith,
       length-set l.numbers l.k _ ∙ l.inv.1,
       (λ h. i),
-      read_more text l.numbers l.next l.k a.count end below at-end-byte.end-byte.ensures.0 v q room e ∙ l.inv.3,
+      read_more text l.numbers l.next l.k a.count end below at-end-byte.end_byte.ensures.0 v q room e ∙ l.inv.3,
       zeros_kept l.numbers l.k v l.inv.4,
     )
 
-returns-2 : tie.Need-returns-2 invariant-loop decreases-loop
-returns-2 c =
-    let at-start : tie.Start invariant-loop decreases-loop = search in
+returns : tie.Need-returns invariant-loop-k decreases-loop-k
+returns c =
+    let at-start : tie.Start invariant-loop-k decreases-loop-k = search in
     let a = at-start.args in
-    let l = c.before.loop in
+    let l = c.before.loop-k in
     let done : l.k ≡ a.count = omega arith in
     record {
       same = sym l.invariant.3 ∙ read_all a.text.now l.numbers l.next a.count l.k done;
@@ -84,8 +84,8 @@ returns-2 c =
       inside = l.invariant.2 (omega arith);
     }
 
-pub fields-at-spec : {M : Type 1} → statement M
-fields-at-spec =
+pub fields_at_spec : {M : Type 1} → statement M
+fields_at_spec =
     tie.close (tie.spec
-    invariant-loop decreases-loop loop-holds (search needs) (search needs) (search needs) field-at-requires (search needs) (search needs) returns
-    (search needs) (search needs) (search needs) (search needs) loop-again returns-2)
+    invariant-loop-k decreases-loop-k loop-k-init (search rules) (search rules) (search rules) field_at-requires (search rules) (search rules)
+    returns-in_default (search rules) (search rules) (search rules) (search rules) loop-k-preserved returns)

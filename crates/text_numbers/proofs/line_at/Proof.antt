@@ -1,5 +1,5 @@
 -- `text_numbers::line_at` meets its contract: wrong where the word does not stand, else what the fields behind it are. Assumes nothing.
-use Rattle.list_laws.proofs.Kit.{◌∙◌, arith, needs}
+use Rattle.list_laws.proofs.Kit.{◌∙◌, arith, rules}
 use Rattle.model.specs.Text.{fields_at}
 use Rattle.list_laws.proofs.Lists.{repeat_at}
 use Rattle.list_laws.proofs.Tests.{said_no, said_yes}
@@ -8,27 +8,28 @@ use Rattle.text_numbers.specs.Lines.{field_ends}
 use Rattle.text_numbers.proofs.line_at.Statement.{statement}
 use Rattle.text_numbers.proofs.line_at.Tie as tie
 
-returns : tie.Need-returns
-returns c =
+returns-then-not-word_at : tie.Need-returns-then-not-word_at
+returns-then-not-word_at c =
     let at-start : tie.Start = search in
     let a = at-start.args in
-    let no = said_no c.before.word_at.ensures c.if1.true in
+    let no = said_no c.before.word_at.ensures c.if-not-word_at.true in
     record {
       same = after_not a.word.now a.text.now a.p (fields_at (field_ends a.count) a.text.now) no;
       others = λ k h. repeat_at 8 k 0;
       inside = omega arith;
     }
 
-returns-2 : tie.Need-returns-2
-returns-2 c =
+returns : tie.Need-returns
+returns c =
     let at-start : tie.Start = search in
     let a = at-start.args in
-    let yes = said_yes c.before.before.word_at.ensures c.before.if1.false in
+    let yes = said_yes c.before.before.word_at.ensures c.before.if-not-word_at.false in
     record {
       same = after_word a.word.now a.text.now a.p (fields_at (field_ends a.count) a.text.now) yes ∙ c.fields_at.ensures.same;
       others = c.fields_at.ensures.others;
       inside = c.fields_at.ensures.inside;
     }
 
-pub line-at-spec : {M : Type 1} → statement M
-line-at-spec = tie.close (tie.spec (search needs) returns (search needs) (search needs) returns-2)
+pub line_at_spec : {M : Type 1} → statement M
+line_at_spec = tie.close (tie.spec
+    (search rules) returns-then-not-word_at (search rules) (search rules) returns)

@@ -1,5 +1,5 @@
 -- `job_calls::reader::read_pieces`: a run over empty buffers writes nothing; with room for both, the second run fills them. Assumes nothing.
-use Rattle.list_laws.proofs.Kit.{◌∙◌, ◌≡◌, ap, refl, subst, sym, ◌||◌, false, true, List, ◌++◌, ◌<◌, ◌≤◌, ℕ, ltb, length, sets, needs, le-ltb, lt-ltb}
+use Rattle.list_laws.proofs.Kit.{◌∙◌, ◌≡◌, ap, refl, subst, sym, ◌||◌, false, true, List, ◌++◌, ◌<◌, ◌≤◌, ℕ, ltb, length, sets, rules, le-ltb, lt-ltb}
 use Rattle.model.specs.Refusal.{given}
 use Rattle.model.specs.JobText.{pieces_at, as_lent}
 use Rattle.list_laws.proofs.Lists.{nothing_before}
@@ -12,125 +12,106 @@ use Rattle.job_calls.proofs.Filling.{pieces_told, pieces_not, pieces_count, room
 use Rattle.job_calls.proofs.reader.read_pieces.Statement.{statement}
 use Rattle.job_calls.proofs.reader.read_pieces.Tie as tie
 
-returns : tie.Need-returns
-returns c =
+returns-then-table-size : tie.Need-returns-then-table-size
+returns-then-table-size c =
     let at-start : tie.Start = search in
-    let first : tie.After-fill-pieces = search in
-    let told : tie.After-area = search in
+    let first : tie.After-fill_pieces = search in
+    let told : tie.In-Read-2 = search in
     let a = at-start.args in
     let text = a.text.now in
     let j = job_line_of a.j in
-    let tl = length a.table.now in
-    let pl = length a.pixels.now in
-    let table = first.fill-pieces.last.1.1.0 in
-    let store = first.fill-pieces.last.1.1.1.0 in
-    let t : table ++ a.table.now ≡ a.table.now = nothing_before table a.table.now first.fill-pieces.kept.1.1.0 in
-    let s : store ++ a.pixels.now ≡ a.pixels.now = nothing_before store a.pixels.now first.fill-pieces.kept.1.1.1.0 in
-    let n = told.area.given.0.0 in
-    let g : pieces.Read n ≡ first.fill-pieces.result = sym told.area.given.1 in
-    let x = pieces_told n (pieces_at text j a.j.size.count 0 0 a.j.next 2) (g ∙ first.fill-pieces.ensures.0) in
-    let l : tl < a.j.size.count = subst (λ (k : List (List ℕ)). length k < a.j.size.count) t c.before.if1.true in
+    let tl = length a.table-1.now in
+    let pl = length a.pixels-1.now in
+    let table = first.fill_pieces.new.1.1.0 in
+    let store = first.fill_pieces.new.1.1.1.0 in
+    let t : table ++ a.table-1.now ≡ a.table-1.now = nothing_before table a.table-1.now first.fill_pieces.auto.1.1.0 in
+    let s : store ++ a.pixels-1.now ≡ a.pixels-1.now = nothing_before store a.pixels-1.now first.fill_pieces.auto.1.1.1.0 in
+    let n = told.area-1.given.0.0 in
+    let g : pieces.Read n ≡ first.fill_pieces.result = sym told.area-1.given.1 in
+    let x = pieces_told n (pieces_at text j a.j.size.count 0 0 a.j.next 2) (g ∙ first.fill_pieces.ensures.0) in
+    let l : tl < a.j.size.count = subst (λ (k : List (List ℕ)). length k < a.j.size.count) t c.before.if-table-size.true in
     let b : (ltb tl a.j.size.count || ltb pl (length x.all.pixels)) ≡ true = rw (lt-ltb _ _ l) refl in
     leaves_refused _ _ _ _ _ _ (roomed text j tl pl) (room_short text j tl pl x.all x.gives b) (ap answer.Refused c.refusal.ensures) t s
 
-returns-2 : tie.Need-returns-2
-returns-2 c =
+returns-then-pixels-area : tie.Need-returns-then-pixels-area
+returns-then-pixels-area c =
     let at-start : tie.Start = search in
-    let first : tie.After-fill-pieces = search in
-    let told : tie.After-area = search in
-    let roomy : tie.Else1 = search in
+    let first : tie.After-fill_pieces = search in
+    let told : tie.In-Read-2 = search in
+    let roomy : tie.Else-table-size = search in
     let a = at-start.args in
     let text = a.text.now in
     let j = job_line_of a.j in
-    let tl = length a.table.now in
-    let pl = length a.pixels.now in
-    let table = first.fill-pieces.last.1.1.0 in
-    let store = first.fill-pieces.last.1.1.1.0 in
-    let t : table ++ a.table.now ≡ a.table.now = nothing_before table a.table.now first.fill-pieces.kept.1.1.0 in
-    let s : store ++ a.pixels.now ≡ a.pixels.now = nothing_before store a.pixels.now first.fill-pieces.kept.1.1.1.0 in
-    let n = told.area.given.0.0 in
-    let g : pieces.Read n ≡ first.fill-pieces.result = sym told.area.given.1 in
-    let x = pieces_told n (pieces_at text j a.j.size.count 0 0 a.j.next 2) (g ∙ first.fill-pieces.ensures.0) in
-    let l : a.j.size.count ≤ tl = subst (λ (k : List (List ℕ)). a.j.size.count ≤ length k) t roomy.if1.left in
-    let m : pl < length x.all.pixels = rw x.size at (subst (λ (k : List ℕ). length k < n) s c.before.if2.true) in
+    let tl = length a.table-1.now in
+    let pl = length a.pixels-1.now in
+    let table = first.fill_pieces.new.1.1.0 in
+    let store = first.fill_pieces.new.1.1.1.0 in
+    let t : table ++ a.table-1.now ≡ a.table-1.now = nothing_before table a.table-1.now first.fill_pieces.auto.1.1.0 in
+    let s : store ++ a.pixels-1.now ≡ a.pixels-1.now = nothing_before store a.pixels-1.now first.fill_pieces.auto.1.1.1.0 in
+    let n = told.area-1.given.0.0 in
+    let g : pieces.Read n ≡ first.fill_pieces.result = sym told.area-1.given.1 in
+    let x = pieces_told n (pieces_at text j a.j.size.count 0 0 a.j.next 2) (g ∙ first.fill_pieces.ensures.0) in
+    let l : a.j.size.count ≤ tl = subst (λ (k : List (List ℕ)). a.j.size.count ≤ length k) t roomy.if-table-size.false in
+    let m : pl < length x.all.pixels = rw x.size-1 at (subst (λ (k : List ℕ). length k < n) s c.before.if-pixels-area.true) in
     let b : (ltb tl a.j.size.count || ltb pl (length x.all.pixels)) ≡ true = rw (le-ltb _ _ l, lt-ltb _ _ m) refl in
-    leaves_refused _ _ _ _ _ _ (roomed text j tl pl) (room_short text j tl pl x.all x.gives b) (ap answer.Refused c.refusal2.ensures) t s
+    leaves_refused _ _ _ _ _ _ (roomed text j tl pl) (room_short text j tl pl x.all x.gives b) (ap answer.Refused c.refusal-then-pixels-area.ensures) t s
 
-returns-3 : tie.Need-returns-3
-returns-3 c =
+returns-in-Refused : tie.Need-returns-in-Refused
+returns-in-Refused c =
     let at-start : tie.Start = search in
-    let first : tie.After-fill-pieces = search in
+    let first : tie.After-fill_pieces = search in
     let a = at-start.args in
     let text = a.text.now in
     let j = job_line_of a.j in
-    let tl = length a.table.now in
-    let pl = length a.pixels.now in
-    let table = first.fill-pieces.last.1.1.0 in
-    let store = first.fill-pieces.last.1.1.1.0 in
-    let t : table ++ a.table.now ≡ a.table.now = nothing_before table a.table.now first.fill-pieces.kept.1.1.0 in
-    let s : store ++ a.pixels.now ≡ a.pixels.now = nothing_before store a.pixels.now first.fill-pieces.kept.1.1.1.0 in
-    let r = c.before.r.given.0.0 in
-    let g : pieces.Refused r ≡ first.fill-pieces.result = sym c.before.r.given.1 in
-    let e = pieces_not r (pieces_at text j a.j.size.count 0 0 a.j.next 2) (g ∙ first.fill-pieces.ensures.0) in
+    let tl = length a.table-1.now in
+    let pl = length a.pixels-1.now in
+    let table = first.fill_pieces.new.1.1.0 in
+    let store = first.fill_pieces.new.1.1.1.0 in
+    let t : table ++ a.table-1.now ≡ a.table-1.now = nothing_before table a.table-1.now first.fill_pieces.auto.1.1.0 in
+    let s : store ++ a.pixels-1.now ≡ a.pixels-1.now = nothing_before store a.pixels-1.now first.fill_pieces.auto.1.1.1.0 in
+    let r = c.before.r-1.given.0.0 in
+    let g : pieces.Refused r ≡ first.fill_pieces.result = sym c.before.r-1.given.1 in
+    let e = pieces_not r (pieces_at text j a.j.size.count 0 0 a.j.next 2) (g ∙ first.fill_pieces.ensures.0) in
     leaves_refused r _ _ _ _ _ (roomed text j tl pl) (room_denied text j tl pl r e) refl t s
 
-returns-4 : tie.Need-returns-4
-returns-4 c =
+returns-else-pixels-area : tie.Need-returns-else-pixels-area
+returns-else-pixels-area c =
     let at-start : tie.Start = search in
-    let first : tie.After-fill-pieces = search in
-    let told : tie.After-area = search in
-    let roomy : tie.Else1 = search in
-    let wide : tie.Else2 = search in
-    let second : tie.After-fill-pieces2 = search in
+    let first : tie.After-fill_pieces = search in
+    let told : tie.In-Read-2 = search in
+    let roomy : tie.Else-table-size = search in
+    let wide : tie.Else-pixels-area = search in
+    let second : tie.After-fill_pieces-in-Read = search in
     let a = at-start.args in
     let text = a.text.now in
     let j = job_line_of a.j in
-    let tl = length a.table.now in
-    let pl = length a.pixels.now in
-    let table = first.fill-pieces.last.1.1.0 in
-    let store = first.fill-pieces.last.1.1.1.0 in
-    let t : table ++ a.table.now ≡ a.table.now = nothing_before table a.table.now first.fill-pieces.kept.1.1.0 in
-    let s : store ++ a.pixels.now ≡ a.pixels.now = nothing_before store a.pixels.now first.fill-pieces.kept.1.1.1.0 in
-    let n = told.area.given.0.0 in
-    let g : pieces.Read n ≡ first.fill-pieces.result = sym told.area.given.1 in
-    let x = pieces_told n (pieces_at text j a.j.size.count 0 0 a.j.next 2) (g ∙ first.fill-pieces.ensures.0) in
-    let l : a.j.size.count ≤ tl = subst (λ (k : List (List ℕ)). a.j.size.count ≤ length k) t roomy.if1.left in
-    let m : length x.all.pixels ≤ pl = rw x.size at (subst (λ (k : List ℕ). n ≤ length k) s wide.if2.left) in
+    let tl = length a.table-1.now in
+    let pl = length a.pixels-1.now in
+    let table = first.fill_pieces.new.1.1.0 in
+    let store = first.fill_pieces.new.1.1.1.0 in
+    let t : table ++ a.table-1.now ≡ a.table-1.now = nothing_before table a.table-1.now first.fill_pieces.auto.1.1.0 in
+    let s : store ++ a.pixels-1.now ≡ a.pixels-1.now = nothing_before store a.pixels-1.now first.fill_pieces.auto.1.1.1.0 in
+    let n = told.area-1.given.0.0 in
+    let g : pieces.Read n ≡ first.fill_pieces.result = sym told.area-1.given.1 in
+    let x = pieces_told n (pieces_at text j a.j.size.count 0 0 a.j.next 2) (g ∙ first.fill_pieces.ensures.0) in
+    let l : a.j.size.count ≤ tl = subst (λ (k : List (List ℕ)). a.j.size.count ≤ length k) t roomy.if-table-size.false in
+    let m : length x.all.pixels ≤ pl = rw x.size-1 at (subst (λ (k : List ℕ). n ≤ length k) s wide.if-pixels-area.false) in
     let b : (ltb tl a.j.size.count || ltb pl (length x.all.pixels)) ≡ false = rw (le-ltb _ _ l, le-ltb _ _ m) refl in
     let e : roomed text j tl pl ≡ given (as_lent j x.all) = room_given text j tl pl x.all x.gives b in
-    let f : JobFilled (table ++ a.table.now) second.fill-pieces2.last.1.1.0 (store ++ a.pixels.now) second.fill-pieces2.last.1.1.1.0
-    x.all = subst (PiecesStored _ _ _ _) x.gives second.fill-pieces2.ensures.1 in
+    let f : JobFilled (table ++ a.table-1.now) second.fill_pieces-in-Read.new.1.1.0 (store ++ a.pixels-1.now) second.fill_pieces-in-Read.new.1.1.1.0
+    x.all = subst (PiecesStored _ _ _ _) x.gives second.fill_pieces-in-Read.ensures.1 in
     let k : length x.all.table ≤ tl = rw (pieces_count text j a.j.size.count 0 0 a.j.next 2 x.all x.gives) l in
     subst (Leaves _ _ _ _ _) (sym e)
     (record {
       answers = refl;
-      entries = f.entries ∙ ap (λ (d : List (List ℕ)). sets d 0 x.all.table) t ∙ sets_filled a.table.now x.all.table k;
-      pixels = f.pixels ∙ ap (λ (d : List ℕ). sets d 0 x.all.pixels) s ∙ sets_filled a.pixels.now x.all.pixels m;
+      entries = f.entries ∙ ap (λ (d : List (List ℕ)). sets d 0 x.all.table) t ∙ sets_filled a.table-1.now x.all.table k;
+      pixels = f.pixels-1 ∙ ap (λ (d : List ℕ). sets d 0 x.all.pixels) s ∙ sets_filled a.pixels-1.now x.all.pixels m;
     })
 
-pub read-pieces-spec : {M : Type 1} → statement M
-read-pieces-spec =
+pub read_pieces_spec : {M : Type 1} → statement M
+read_pieces_spec =
     tie.close
     (tie.spec
-    (search needs)
-    (search needs)
-    (search needs)
-    (search needs)
-    (search needs)
-    (search needs)
-    (search needs)
-    (search needs)
-    (search needs)
-    (search needs)
-    returns
-    (search needs)
-    (search needs)
-    (search needs)
-    returns-2
-    (search needs)
-    (search needs)
-    (search needs)
-    returns-3
-    (search needs)
-    (search needs)
-    returns-4)
+    (search rules) (search rules) (search rules) (search rules) (search rules) (search rules) (search rules) (search rules) (search rules)
+    (search rules) returns-then-table-size (search rules) (search rules) (search rules) returns-then-pixels-area (search rules) (search rules)
+    (search rules) returns-in-Refused (search rules) (search rules) returns-else-pixels-area)

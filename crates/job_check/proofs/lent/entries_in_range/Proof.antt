@@ -1,5 +1,5 @@
 -- `job_check::lent::entries_in_range`: the entries before i are in range. Assumes nothing.
-use Rattle.list_laws.proofs.Kit.{◌≡◌, sym, true, ◌-◌, ◌<◌, ◌≤◌, ℕ, arith, below_more, below_none, needs}
+use Rattle.list_laws.proofs.Kit.{◌≡◌, sym, true, ◌-◌, ◌<◌, ◌≤◌, ℕ, arith, below_more, below_none, rules}
 use Rattle.model.specs.Lent.{entry_in_range}
 use Rattle.list_laws.proofs.Searches.{not_all}
 use Rattle.list_laws.proofs.Tests.{said_no, said_yes}
@@ -7,32 +7,34 @@ use Rattle.list_laws.proofs.Bounded.{all_from}
 use Rattle.job_check.proofs.lent.entries_in_range.Statement.{statement}
 use Rattle.job_check.proofs.lent.entries_in_range.Tie as tie
 
-abbrev invariant-loop : tie.invariant-loop
-invariant-loop table count i₀ i = (i ≤ count) × ((k : ℕ) → k < i → entry_in_range table k ≡ true)
+abbrev invariant-loop-i : tie.invariant-loop-i
+invariant-loop-i table count i₀ i = (i ≤ count) × ((k : ℕ) → k < i → entry_in_range table k ≡ true)
 
-abbrev decreases-loop : tie.decreases-loop
-decreases-loop table count i₀ i = count - i
+abbrev decreases-loop-i : tie.decreases-loop-i
+decreases-loop-i table count i₀ i = count - i
 
-loop-holds : tie.Need-loop-init invariant-loop decreases-loop
-loop-holds c = (omega arith, below_none _)
+loop-i-init : tie.Need-loop-i-init invariant-loop-i decreases-loop-i
+loop-i-init c = (omega arith, below_none _)
 
-returns : tie.Need-returns invariant-loop decreases-loop
-returns c =
-    let at-start : tie.Start invariant-loop decreases-loop = search in
+returns-then-not-entry_in_range : tie.Need-returns-then-not-entry_in_range invariant-loop-i decreases-loop-i
+returns-then-not-entry_in_range c =
+    let at-start : tie.Start invariant-loop-i decreases-loop-i = search in
     let a = at-start.args in
-    sym (not_all a.count _ (entry_in_range a.table.now) c.before.before.loop-test.true
-    (said_no c.before.entry-in-range.ensures c.if1.true))
+    sym (not_all a.count _ (entry_in_range a.table.now) c.before.before.loop-i-test.true
+    (said_no c.before.entry_in_range.ensures c.if-not-entry_in_range.true))
 
-loop-again : tie.Need-loop-preserved invariant-loop decreases-loop
-loop-again c =
-    let at-loop : tie.At-loop invariant-loop decreases-loop = search in
-    (omega arith, below_more _ _ at-loop.loop.inv.1 (said_yes c.before.entry-in-range.ensures c.if1.false))
+loop-i-preserved : tie.Need-loop-i-preserved invariant-loop-i decreases-loop-i
+loop-i-preserved c =
+    let at-loop : tie.At-loop-i invariant-loop-i decreases-loop-i = search in
+    (omega arith, below_more _ _ at-loop.loop-i.invariant.1 (said_yes c.before.entry_in_range.ensures c.if-not-entry_in_range.false))
 
-returns-2 : tie.Need-returns-2 invariant-loop decreases-loop
-returns-2 c =
+returns : tie.Need-returns invariant-loop-i decreases-loop-i
+returns c =
     let a = c.before.before.args in
-    sym (all_from a.count (entry_in_range a.table.now) (λ i l. c.before.loop.invariant.1 i (omega arith)))
+    sym (all_from a.count (entry_in_range a.table.now) (λ i l. c.before.loop-i.invariant.1 i (omega arith)))
 
-pub entries-in-range-spec : {M : Type 1} → statement M
-entries-in-range-spec =
-    tie.close (tie.spec invariant-loop decreases-loop loop-holds (search needs) returns (search needs) (search needs) loop-again returns-2)
+pub entries_in_range_spec : {M : Type 1} → statement M
+entries_in_range_spec =
+    tie.close (tie.spec
+    invariant-loop-i decreases-loop-i loop-i-init (search rules) returns-then-not-entry_in_range (search rules) (search rules) loop-i-preserved
+    returns)

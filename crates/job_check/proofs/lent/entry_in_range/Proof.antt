@@ -1,5 +1,5 @@
 -- `job_check::lent::entry_in_range` takes the four numbers from the table. Assumes nothing.
-use Rattle.list_laws.proofs.Kit.{◌∙◌, ◌≡◌, Bool, needs}
+use Rattle.list_laws.proofs.Kit.{◌∙◌, ◌≡◌, Bool, rules}
 use Rattle.list_laws.proofs.Tests.{said_no, said_yes}
 use Rattle.model.specs.Lent.{entry_columns, entry_rows, entry_turns, entry_in_range, sides_in_range}
 use Rattle.job_check.proofs.lent.entry_in_range.Statement.{statement}
@@ -13,38 +13,30 @@ asked s =
     sides_in_range (entry_columns table i) (entry_rows table i) (entry_turns table i)
 
 -- and what is answered
-told : (c : tie.After-sides-in-range) → c.sides-in-range.result ≡ asked c.before.before.before.before
+told : (c : tie.After-sides_in_range) → c.sides_in_range.result ≡ asked c.before.before.before.before
 told c =
-    let l : tie.After-columns-of = search in
-    let w : tie.After-rows-of = search in
-    let o : tie.After-turns-of = search in
-    c.sides-in-range.ensures ∙ rw (l.columns_of.ensures.0, w.rows_of_lem.ensures.0, o.turns-of.ensures)
+    let l : tie.After-columns_of-columns = search in
+    let w : tie.After-rows_of-rows = search in
+    let o : tie.After-turns_of-turns = search in
+    c.sides_in_range.ensures ∙ rw (l.columns_of-columns.ensures.0, w.rows_of_lem.ensures.0, o.turns_of-turns.ensures)
+
+returns-then-not-sides_in_range : tie.Need-returns-then-not-sides_in_range
+unfolding entry_in_range
+returns-then-not-sides_in_range c =
+    let at : tie.After-sides_in_range = search in
+    rw (said_no (told at) c.if-not-sides_in_range.true)
 
 returns : tie.Need-returns
 unfolding entry_in_range
 returns c =
-    let at : tie.After-sides-in-range = search in
-    rw (said_no (told at) c.if1.true)
+    let at : tie.After-sides_in_range = search in
+    let k : tie.After-lock_of = search in
+    let else : tie.Else-not-sides_in_range = search in
+    rw (c.lock_in_range.ensures, k.lock_of.ensures, said_yes (told at) else.if-not-sides_in_range.false)
 
-returns-2 : tie.Need-returns-2
-unfolding entry_in_range
-returns-2 c =
-    let at : tie.After-sides-in-range = search in
-    let k : tie.After-lock-of = search in
-    let else : tie.Else1 = search in
-    rw (c.lock-in-range.ensures, k.lock-of.ensures, said_yes (told at) else.if1.left)
-
-pub entry-in-range-spec : {M : Type 1} → statement M
-entry-in-range-spec =
+pub entry_in_range_spec : {M : Type 1} → statement M
+entry_in_range_spec =
     tie.close
     (tie.spec
-    (search needs)
-    (search needs)
-    (search needs)
-    (search needs)
-    (search needs)
-    returns
-    (search needs)
-    (search needs)
-    (search needs)
-    returns-2)
+    (search rules) (search rules) (search rules) (search rules) (search rules) returns-then-not-sides_in_range (search rules) (search rules)
+    (search rules) returns)

@@ -1,63 +1,65 @@
 -- `job_check::lent::table_well` makes the tests of its definition in their order. Assumes nothing.
-use Rattle.list_laws.proofs.Kit.{arith, needs, le-leb, lt-leb}
+use Rattle.list_laws.proofs.Kit.{arith, rules, le-leb, lt-leb}
 use Rattle.list_laws.proofs.Tests.{said_no, said_yes}
 use Rattle.job_laws.proofs.Ranges.{sheet_few}
 use Rattle.job_check.proofs.lent.table_well.Statement.{statement}
 use Rattle.job_check.proofs.lent.table_well.Tie as tie
 
-returns : tie.Need-returns
-returns c = simp (said_no c.before.sheet-in-range.ensures c.if1.true)
+returns-then-not-sheet_in_range : tie.Need-returns-then-not-sheet_in_range
+returns-then-not-sheet_in_range c = simp (said_no c.before.sheet_in_range.ensures c.if-not-sheet_in_range.true)
 
-returns-2 : tie.Need-returns-2
-returns-2 c = simp (said_yes c.before.before.sheet-in-range.ensures c.before.if1.false, lt-leb _ _ c.if2.true)
+returns-then-table-count : tie.Need-returns-then-table-count
+returns-then-table-count c = simp (said_yes c.before.before.sheet_in_range.ensures c.before.if-not-sheet_in_range.false, lt-leb _ _ c.if-table-count.true)
 
-returns-3 : tie.Need-returns-3
-returns-3 c =
-    let at-else1 : tie.Else1 = search in
-    let at-sheet-in-range : tie.After-sheet-in-range = search in
+returns-then-not-entries_in_range : tie.Need-returns-then-not-entries_in_range
+returns-then-not-entries_in_range c =
+    let at-else1 : tie.Else-not-sheet_in_range = search in
+    let at-sheet-in-range : tie.After-sheet_in_range = search in
     simp (
-      said_yes at-sheet-in-range.sheet-in-range.ensures at-else1.if1.left,
-      le-leb _ _ c.before.before.if2.false,
-      said_no c.before.entries-in-range.ensures c.if3.true,
+      said_yes at-sheet-in-range.sheet_in_range.ensures at-else1.if-not-sheet_in_range.false,
+      le-leb _ _ c.before.before.if-table-count.false,
+      said_no c.before.entries_in_range.ensures c.if-not-entries_in_range.true,
     )
 
-returns-4 : tie.Need-returns-4
-returns-4 c =
-    let at-entries-in-range : tie.After-entries-in-range = search in
-    let at-else2 : tie.Else2 = search in
-    let at-else1 : tie.Else1 = search in
-    let at-sheet-in-range : tie.After-sheet-in-range = search in
+returns-then-not-entries_fit : tie.Need-returns-then-not-entries_fit
+returns-then-not-entries_fit c =
+    let at-entries-in-range : tie.After-entries_in_range = search in
+    let at-else2 : tie.Else-table-count = search in
+    let at-else1 : tie.Else-not-sheet_in_range = search in
+    let at-sheet-in-range : tie.After-sheet_in_range = search in
     simp (
-      said_yes at-sheet-in-range.sheet-in-range.ensures at-else1.if1.left,
-      le-leb _ _ at-else2.if2.left,
-      said_yes at-entries-in-range.entries-in-range.ensures c.before.before.if3.false,
-      said_no c.before.entries_fit.ensures c.if4.true,
+      said_yes at-sheet-in-range.sheet_in_range.ensures at-else1.if-not-sheet_in_range.false,
+      le-leb _ _ at-else2.if-table-count.false,
+      said_yes at-entries-in-range.entries_in_range.ensures c.before.before.if-not-entries_in_range.false,
+      said_no c.before.entries_fit.ensures c.if-not-entries_fit.true,
     )
 
-pixel-start-requires : tie.Need-pixel-start-requires
-pixel-start-requires c κs =
-    let at-else1 : tie.Else1 = search in
-    let at-sheet-in-range : tie.After-sheet-in-range = search in
+pixel_start-requires : tie.Need-pixel_start-requires
+pixel_start-requires c κs =
+    let at-else1 : tie.Else-not-sheet_in_range = search in
+    let at-sheet-in-range : tie.After-sheet_in_range = search in
     let at-start : tie.Start = search in
     let size = at-start.args.size in
-    let few = sheet_few size (said_yes at-sheet-in-range.sheet-in-range.ensures at-else1.if1.left) in
+    let few = sheet_few size (said_yes at-sheet-in-range.sheet_in_range.ensures at-else1.if-not-sheet_in_range.false) in
     omega arith
 
-returns-5 : tie.Need-returns-5
-returns-5 c =
-    let at-else3 : tie.Else3 = search in
-    let at-entries-in-range : tie.After-entries-in-range = search in
-    let at-else2 : tie.Else2 = search in
-    let at-else1 : tie.Else1 = search in
-    let at-sheet-in-range : tie.After-sheet-in-range = search in
+returns : tie.Need-returns
+returns c =
+    let at-else3 : tie.Else-not-entries_in_range = search in
+    let at-entries-in-range : tie.After-entries_in_range = search in
+    let at-else2 : tie.Else-table-count = search in
+    let at-else1 : tie.Else-not-sheet_in_range = search in
+    let at-sheet-in-range : tie.After-sheet_in_range = search in
     simp (
-      said_yes at-sheet-in-range.sheet-in-range.ensures at-else1.if1.left,
-      le-leb _ _ at-else2.if2.left,
-      said_yes at-entries-in-range.entries-in-range.ensures at-else3.if3.left,
-      said_yes c.before.before.entries_fit.ensures c.before.if4.false,
-      c.pixel-start.ensures,
+      said_yes at-sheet-in-range.sheet_in_range.ensures at-else1.if-not-sheet_in_range.false,
+      le-leb _ _ at-else2.if-table-count.false,
+      said_yes at-entries-in-range.entries_in_range.ensures at-else3.if-not-entries_in_range.false,
+      said_yes c.before.before.entries_fit.ensures c.before.if-not-entries_fit.false,
+      c.pixel_start.ensures,
     )
 
-pub table-well-spec : {M : Type 1} → statement M
-table-well-spec =
-    tie.close (tie.spec (search needs) returns returns-2 (search needs) returns-3 (search needs) returns-4 pixel-start-requires returns-5)
+pub table_well_spec : {M : Type 1} → statement M
+table_well_spec =
+    tie.close (tie.spec
+    (search rules) returns-then-not-sheet_in_range returns-then-table-count (search rules) returns-then-not-entries_in_range (search rules)
+    returns-then-not-entries_fit pixel_start-requires returns)

@@ -1,6 +1,6 @@
 -- `layout_sum_calls::conflicting::conflicting_in_row` meets its contract. The loop's invariant: the row's first pair that conflicts is among those
 -- left, and what is made of strips stands. Assumes nothing.
-use Rattle.list_laws.proofs.Kit.{◌∙◌, ◌≡◌, refl, sym, ◌-◌, length, needs}
+use Rattle.list_laws.proofs.Kit.{◌∙◌, ◌≡◌, refl, sym, ◌-◌, length, rules}
 use Rattle.model.specs.Layout.{pair_conflicts}
 use Rattle.model.specs.Lent.{lent_by, job_of}
 use Rattle.model.specs.Buffer.{layout_of}
@@ -11,51 +11,51 @@ use Rattle.layout_sum_calls.proofs.FirstPair.{LeftInRow, row_begin, row_first, r
 use Rattle.layout_sum_calls.proofs.conflicting.conflicting_in_row.Statement.{statement}
 use Rattle.layout_sum_calls.proofs.conflicting.conflicting_in_row.Tie as tie
 
-abbrev invariant-loop : tie.invariant-loop
-invariant-loop table pixels layout i gap rows₀ row-spans₀ k₀ rows row-spans k =
+abbrev invariant-loop-k : tie.invariant-loop-k
+invariant-loop-k table pixels layout i gap rows₀ row-spans₀ k₀ rows row-spans k =
     ((size : JobSize) → size.gap ≡ gap → LeftInRow (pair_conflicts (job_of (lent_by size table pixels)) (layout_of layout)) (length layout) i k)
     × (length rows ≡ length rows₀) × (length row-spans ≡ length row-spans₀) × Kept Horizontal table pixels layout rows row-spans
 
-abbrev decreases-loop : tie.decreases-loop
-decreases-loop table pixels layout i gap rows₀ row-spans₀ k₀ rows row-spans k = length layout - k
+abbrev decreases-loop-k : tie.decreases-loop-k
+decreases-loop-k table pixels layout i gap rows₀ row-spans₀ k₀ rows row-spans k = length layout - k
 
-loop-holds : tie.Need-loop-init invariant-loop decreases-loop
-loop-holds c = let s : tie.Start invariant-loop decreases-loop = search in (λ size g. row_begin _ _ _, refl, refl, s.pre.1.1.0)
+loop-k-init : tie.Need-loop-k-init invariant-loop-k decreases-loop-k
+loop-k-init c = let s : tie.Start invariant-loop-k decreases-loop-k = search in (λ size g. row_begin _ _ _, refl, refl, s.requires.fact_2.1.0)
 
-conflicts-of-requires : tie.Need-conflicts-of-requires invariant-loop decreases-loop
-conflicts-of-requires c κs =
-    let at-loop : tie.At-loop invariant-loop decreases-loop = search in
-    let in-loop : tie.In-loop invariant-loop decreases-loop = search in
-    let s : tie.Start invariant-loop decreases-loop = search in
-    (s.pre.0, ((s.pre.1.0, in-loop.loop-test.taken), (at-loop.loop.inv.3, s.pre.1.1.1)))
+conflicts_of-requires : tie.Need-conflicts_of-requires invariant-loop-k decreases-loop-k
+conflicts_of-requires c κs =
+    let at-loop : tie.At-loop-k invariant-loop-k decreases-loop-k = search in
+    let in-loop : tie.In-loop-k invariant-loop-k decreases-loop-k = search in
+    let s : tie.Start invariant-loop-k decreases-loop-k = search in
+    (s.requires.fact_1, ((s.requires.fact_2.0, in-loop.loop-k-test.true), (at-loop.loop-k.invariant.3, s.requires.fact_2.1.1)))
 
-returns : tie.Need-returns invariant-loop decreases-loop
+returns-then-conflicts_of : tie.Need-returns-then-conflicts_of invariant-loop-k decreases-loop-k
+returns-then-conflicts_of c =
+    let at-loop : tie.At-loop-k invariant-loop-k decreases-loop-k = search in
+    let in-loop : tie.In-loop-k invariant-loop-k decreases-loop-k = search in
+    let asked : tie.After-conflicts_of invariant-loop-k decreases-loop-k = search in (
+      λ size g. row_first _ _ _ _ in-loop.loop-k-test.true (sym (asked.conflicts_of.ensures.conflicts size g) ∙ c.if-conflicts_of.true) (at-loop.loop-k.invariant.0 size g),
+      asked.conflicts_of.ensures.kept,
+    )
+
+loop-k-preserved : tie.Need-loop-k-preserved invariant-loop-k decreases-loop-k
+loop-k-preserved c =
+    let at-loop : tie.At-loop-k invariant-loop-k decreases-loop-k = search in
+    let in-loop : tie.In-loop-k invariant-loop-k decreases-loop-k = search in
+    let asked : tie.After-conflicts_of invariant-loop-k decreases-loop-k = search in (
+      λ size g. row_next _ _ _ _ in-loop.loop-k-test.true (sym (asked.conflicts_of.ensures.conflicts size g) ∙ c.if-conflicts_of.false) (at-loop.loop-k.invariant.0 size g),
+      asked.conflicts_of.auto.1.1.1.1.1.1.0 ∙ at-loop.loop-k.invariant.1,
+      asked.conflicts_of.auto.1.1.1.1.1.1.1.0 ∙ at-loop.loop-k.invariant.2,
+      asked.conflicts_of.ensures.kept,
+    )
+
+returns : tie.Need-returns invariant-loop-k decreases-loop-k
 returns c =
-    let at-loop : tie.At-loop invariant-loop decreases-loop = search in
-    let in-loop : tie.In-loop invariant-loop decreases-loop = search in
-    let asked : tie.After-conflicts-of invariant-loop decreases-loop = search in (
-      λ size g. row_first _ _ _ _ in-loop.loop-test.taken (sym (asked.conflicts-of.ensures.0 size g) ∙ c.if1.true) (at-loop.loop.inv.0 size g),
-      asked.conflicts-of.ensures.1,
-    )
+    let at-loop : tie.At-loop-k invariant-loop-k decreases-loop-k = search in
+    (λ size g. row_none _ _ _ _ c.loop-k-test.false (at-loop.loop-k.invariant.0 size g), at-loop.loop-k.invariant.3)
 
-loop-again : tie.Need-loop-preserved invariant-loop decreases-loop
-loop-again c =
-    let at-loop : tie.At-loop invariant-loop decreases-loop = search in
-    let in-loop : tie.In-loop invariant-loop decreases-loop = search in
-    let asked : tie.After-conflicts-of invariant-loop decreases-loop = search in (
-      λ size g. row_next _ _ _ _ in-loop.loop-test.taken (sym (asked.conflicts-of.ensures.0 size g) ∙ c.if1.false) (at-loop.loop.inv.0 size g),
-      asked.conflicts-of.kept.1.1.1.1.1.1.0 ∙ at-loop.loop.inv.1,
-      asked.conflicts-of.kept.1.1.1.1.1.1.1.0 ∙ at-loop.loop.inv.2,
-      asked.conflicts-of.ensures.1,
-    )
-
-returns-2 : tie.Need-returns-2 invariant-loop decreases-loop
-returns-2 c =
-    let at-loop : tie.At-loop invariant-loop decreases-loop = search in
-    (λ size g. row_none _ _ _ _ c.loop-test.false (at-loop.loop.inv.0 size g), at-loop.loop.inv.3)
-
-pub conflicting-in-row-spec : {M : Type 1} → statement M
-conflicting-in-row-spec =
+pub conflicting_in_row_spec : {M : Type 1} → statement M
+conflicting_in_row_spec =
     tie.close (tie.spec
-    invariant-loop decreases-loop (search needs) loop-holds conflicts-of-requires (search needs) (search needs) returns (search needs) (search needs) loop-again
-    (search needs) (search needs) returns-2)
+    invariant-loop-k decreases-loop-k (search rules) loop-k-init conflicts_of-requires (search rules) (search rules) returns-then-conflicts_of
+    (search rules) (search rules) loop-k-preserved (search rules) (search rules) returns)

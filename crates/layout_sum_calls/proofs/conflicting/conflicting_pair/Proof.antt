@@ -1,33 +1,34 @@
 -- `layout_sum_calls::conflicting::conflicting_pair` meets its contract: a store of its own, in which nothing is made. Assumes nothing.
-use Rattle.list_laws.proofs.Kit.{refl, sym, arith, needs}
+use Rattle.list_laws.proofs.Kit.{refl, sym, arith, rules}
 use Rattle.layout_strips.proofs.Keeping.{kept_none}
 use Rattle.layout_sum_calls.proofs.conflicting.conflicting_pair.Statement.{statement}
 use Rattle.layout_sum_calls.proofs.conflicting.conflicting_pair.Tie as tie
 
-slice-aggregate-first-conflicting : tie.Need-slice-aggregate-first-conflicting
-slice-aggregate-first-conflicting c = let rows : tie.After-empty-store = search in sym rows.empty-store.ensures
+slice_bounds-first_conflicting-end : tie.Need-slice_bounds-first_conflicting-end
+slice_bounds-first_conflicting-end c = let rows : tie.After-empty_store-rows = search in sym rows.empty_store-rows.ensures
 
-slice-aggregate-first-conflicting-2 : tie.Need-slice-aggregate-first-conflicting-2
-slice-aggregate-first-conflicting-2 c = let spans : tie.After-no-spans = search in sym spans.no-spans.ensures.long
+slice_bounds-first_conflicting-end-2 : tie.Need-slice_bounds-first_conflicting-end-2
+slice_bounds-first_conflicting-end-2 c = let spans : tie.After-no_spans-row_spans = search in sym spans.no_spans-row_spans.ensures.long
 
-first-conflicting-requires : tie.Need-first-conflicting-requires
-first-conflicting-requires c κs =
+first_conflicting-requires : tie.Need-first_conflicting-requires
+first_conflicting-requires c κs =
     let s : tie.Start = search in
-    let rows : tie.After-empty-store = search in
-    let spans : tie.After-no-spans = search in
-    let wide = rows.empty-store.ensures in
-    (s.pre.0, (kept_none _ _ _ _ _ _ s.pre.0 (omega arith) spans.no-spans.ensures, let g = s.pre.1 in omega arith))
+    let rows : tie.After-empty_store-rows = search in
+    let spans : tie.After-no_spans-row_spans = search in
+    let wide = rows.empty_store-rows.ensures in
+    (s.requires.fact_1, (kept_none _ _ _ _ _ _ s.requires.fact_1 (omega arith) spans.no_spans-row_spans.ensures, let g = s.requires.fact_2 in omega arith))
 
 returns : tie.Need-returns
 returns c =
-    let walked : tie.After-first-conflicting = search in
+    let walked : tie.After-first_conflicting = search in
     let s : tie.Start = search in
-    walked.first-conflicting.ensures s.args.size refl
+    walked.first_conflicting.ensures s.args.size refl
 
-cast-gap : tie.Need-overflow-cast-gap
-cast-gap c = let s : tie.Start = search in let g = s.pre.1 in omega arith
+overflow_cast-gap : tie.Need-overflow_cast-gap
+overflow_cast-gap c = let s : tie.Start = search in let g = s.requires.fact_2 in omega arith
 
-pub conflicting-pair-spec : {M : Type 1} → statement M
-conflicting-pair-spec =
+pub conflicting_pair_spec : {M : Type 1} → statement M
+conflicting_pair_spec =
     tie.close (tie.spec
-    cast-gap (search needs) (search needs) slice-aggregate-first-conflicting slice-aggregate-first-conflicting-2 first-conflicting-requires returns)
+    overflow_cast-gap (search rules) (search rules) slice_bounds-first_conflicting-end slice_bounds-first_conflicting-end-2 first_conflicting-requires
+    returns)

@@ -7,5 +7,6 @@ use Rattle.run_memory.proofs.memory.empty_lines.Tie as tie
 returns : tie.Need-returns
 returns c = (length-replicate {A = ℕ} 524288 0, cleared_byte 524288)
 
-pub empty-lines-spec : {M : Type 1} → statement M
-empty-lines-spec = tie.close (tie.spec returns)
+pub empty_lines_spec : {M : Type 1} → statement M
+empty_lines_spec = tie.close (tie.spec
+    returns)

@@ -1,5 +1,5 @@
 -- `run_memory::memory::take_rounds` meets its contract: the layout at hand begins as the given one. Assumes nothing.
-use Rattle.list_laws.proofs.Kit.{◌∙◌, ◌≡◌, ap, subst, sym, List, [], ◌++◌, ◌∷◌, ◌≤◌, ℕ, length, replicate, take, needs}
+use Rattle.list_laws.proofs.Kit.{◌∙◌, ◌≡◌, ap, subst, sym, List, [], ◌++◌, ◌∷◌, ◌≤◌, ℕ, length, replicate, take, rules}
 use Rattle.list_laws.proofs.Lists.{written_front, written_room, repeated_front}
 use Rattle.model.specs.Lent.{Lent, lent_by, piece_bound}
 use Rattle.job_laws.proofs.Checked.{facts}
@@ -14,11 +14,11 @@ job s = lent_by s.args.run.size s.args.table.now s.args.pixels.now
 
 -- it has at most 64 pieces
 few : (s : tie.Start) → s.args.run.size.count ≤ piece_bound
-few s = (facts (job s) s.requires.0.laid.well).few_pieces
+few s = (facts (job s) s.requires.fact_1.laid.well).few_pieces
 
 -- the layout has an entry for each
 whole : (s : tie.Start) → length s.args.layout.now ≡ s.args.run.size.count
-whole s = s.requires.0.laid.whole
+whole s = s.requires.fact_1.laid.whole
 
 -- a fresh array
 abbrev fresh : List (List ℕ)
@@ -37,13 +37,13 @@ copied_part s copied rest e = written_front s.args.run.size.count copied rest s.
 copied_room : (s : tie.Start) (copied rest : List (List ℕ)) → copied ≡ s.args.layout.now → s.args.run.size.count ≤ length (copied ++ rest)
 copied_room s copied rest e = written_room s.args.run.size.count copied rest s.args.layout.now e (whole s)
 
-array-borrow-prefix-present : tie.Need-array-borrow-prefix-present
-array-borrow-prefix-present c =
+slice_bounds-present-end : tie.Need-slice_bounds-present-end
+slice_bounds-present-end c =
     let at-start : tie.Start = search in
     few (at-start)
 
-slice-aggregate-copy : tie.Need-slice-aggregate-copy
-slice-aggregate-copy c =
+slice_bounds-copy-end : tie.Need-slice_bounds-copy-end
+slice_bounds-copy-end c =
     let at-start : tie.Start = search in
     sym (fresh_part at-start.args.run.size.count (few at-start))
 
@@ -52,13 +52,13 @@ copy-requires c κs =
     let at-start : tie.Start = search in
     fresh_part at-start.args.run.size.count (few at-start) ∙ sym (whole at-start)
 
-array-borrow-prefix-present-2 : tie.Need-array-borrow-prefix-present-2
-array-borrow-prefix-present-2 c =
+slice_bounds-present-end-2 : tie.Need-slice_bounds-present-end-2
+slice_bounds-present-end-2 c =
     let at-start : tie.Start = search in
     copied_room (at-start) _ _ c.before.copy.ensures
 
-slice-aggregate-rounds : tie.Need-slice-aggregate-rounds
-slice-aggregate-rounds c =
+slice_bounds-rounds-end : tie.Need-slice_bounds-rounds-end
+slice_bounds-rounds-end c =
     let at-start : tie.Start = search in
     sym (ap (λ es. length es) (copied_part at-start _ _ c.before.before.copy.ensures) ∙ whole at-start)
 
@@ -66,14 +66,14 @@ rounds-requires : tie.Need-rounds-requires
 rounds-requires c κs =
     let at_copy : tie.After-copy = search in
     let at-start : tie.Start = search in
-    let given = at-start.pre.0 in
+    let given = at-start.requires.fact_1 in
     let present = copied_part at-start _ _ at_copy.copy.ensures in (
-      at-start.pre.1.1.0,
+      at-start.requires.fact_2.1.0,
       (
-        given.weights,
+        given.weights-1,
         (
-          subst (λ v. LaidOut (job at-start) v at-start.args.penalties.now) (sym present) at-start.pre.1.1.1.0,
-          (sym present, (at-start.pre.1.0, at-start.pre.1.1.1.1)),
+          subst (λ v. LaidOut (job at-start) v at-start.args.penalties.now) (sym present) at-start.requires.fact_2.1.1.0,
+          (sym present, (at-start.requires.fact_2.0, at-start.requires.fact_2.1.1.1)),
         ),
       ),
     )
@@ -96,8 +96,8 @@ returns c =
     made.last.1.1.1.1.1.1.1.1.0 made.last.1.1.1.1.1.1.1.1.1.0)
     (copied_part at-start _ _ at_copy.copy.ensures) made.ensures
 
-pub take-rounds-spec : {M : Type 1} → statement M
-take-rounds-spec =
+pub take_rounds_spec : {M : Type 1} → statement M
+take_rounds_spec =
     tie.close (tie.spec
-    array-borrow-prefix-present slice-aggregate-copy copy-requires array-borrow-prefix-present-2 slice-aggregate-rounds rounds-requires
-    (search needs) (search needs) (search needs) (search needs) (search needs) returns)
+    slice_bounds-present-end slice_bounds-copy-end copy-requires slice_bounds-present-end-2 slice_bounds-rounds-end rounds-requires (search rules)
+    (search rules) (search rules) (search rules) (search rules) returns)

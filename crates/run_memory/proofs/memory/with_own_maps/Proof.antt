@@ -1,28 +1,29 @@
 -- `run_memory::memory::with_own_maps` meets its contract: a store of the least length is made ready. Assumes nothing.
-use Rattle.list_laws.proofs.Kit.{sym, arith, needs}
+use Rattle.list_laws.proofs.Kit.{sym, arith, rules}
 use Rattle.run_memory.proofs.memory.with_own_maps.Statement.{statement}
 use Rattle.run_memory.proofs.memory.with_own_maps.Tie as tie
 
-slice-aggregate-ready-maps : tie.Need-slice-aggregate-ready-maps
-slice-aggregate-ready-maps c = let made : tie.After-empty-maps = search in sym made.empty-maps.ensures
+slice_bounds-ready_maps-end : tie.Need-slice_bounds-ready_maps-end
+slice_bounds-ready_maps-end c = let made : tie.After-empty_maps-maps = search in sym made.empty_maps-maps.ensures
 
-ready-maps-requires : tie.Need-ready-maps-requires
-ready-maps-requires c κs =
+ready_maps-requires : tie.Need-ready_maps-requires
+ready_maps-requires c κs =
     let s : tie.Start = search in
-    let made : tie.After-empty-maps = search in
-    let long = made.empty-maps.ensures in
-    (s.pre.0.laid.well, (omega arith, omega arith))
+    let made : tie.After-empty_maps-maps = search in
+    let long = made.empty_maps-maps.ensures in
+    (s.requires.fact_1.laid.well, (omega arith, omega arith))
 
-with-lines-requires : tie.Need-with-lines-requires
-with-lines-requires c κs =
+with_lines-requires : tie.Need-with_lines-requires
+with_lines-requires c κs =
     let s : tie.Start = search in
-    let ready : tie.After-ready-maps = search in
-    (s.pre.0, (s.pre.1.0, (s.pre.1.1.0, (s.pre.1.1.1.0, (s.pre.1.1.1.1, ready.ready-maps.ensures)))))
+    let ready : tie.After-ready_maps = search in
+    (s.requires.fact_1, (s.requires.fact_2.0, (s.requires.fact_2.1.0, (s.requires.fact_2.1.1.0, (s.requires.fact_2.1.1.1, ready.ready_maps.ensures)))))
 
 returns : tie.Need-returns
-returns c = let ran : tie.After-with-lines = search in ran.with-lines.ensures
+returns c = let ran : tie.After-with_lines = search in ran.with_lines.ensures
 
-pub with-own-maps-spec : {M : Type 1} → statement M
-with-own-maps-spec =
+pub with_own_maps_spec : {M : Type 1} → statement M
+with_own_maps_spec =
     tie.close (tie.spec
-    (search needs) slice-aggregate-ready-maps ready-maps-requires (search needs) with-lines-requires (search needs) (search needs) (search needs) returns)
+    (search rules) slice_bounds-ready_maps-end ready_maps-requires (search rules) with_lines-requires (search rules) (search rules) (search rules)
+    returns)

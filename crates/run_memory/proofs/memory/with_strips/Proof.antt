@@ -1,6 +1,6 @@
 -- `run_memory::memory::with_strips` meets its contract: the list is the job's trials, the strips are made along rows, and the table is the
 -- layout's. Assumes nothing.
-use Rattle.list_laws.proofs.Kit.{◌≤◌, sym, ℕ, arith, length, length-replicate, needs}
+use Rattle.list_laws.proofs.Kit.{◌≤◌, sym, ℕ, arith, length, length-replicate, rules}
 use Rattle.list_laws.proofs.Lists.{front_length}
 use Rattle.model.specs.Lent.{Lent, lent_by}
 use Rattle.job_laws.proofs.Checked.{facts}
@@ -13,69 +13,69 @@ use Rattle.run_memory.proofs.memory.with_strips.Tie as tie
 abbrev lent : tie.Start → Lent
 lent e = lent_by e.args.size e.args.table.now e.args.pixels.now
 
-penalties-of-requires : tie.Need-penalties-of-requires
-penalties-of-requires c κs =
+penalties_of-penalties-requires : tie.Need-penalties_of-penalties-requires
+penalties_of-penalties-requires c κs =
     let e : tie.Start = search in
-    (laid_drawable (lent e) e.args.layout.now e.pre.0.laid, (facts (lent e) e.pre.0.laid.well).small_gap)
+    (laid_drawable (lent e) e.args.layout.now e.requires.fact_1.laid, (facts (lent e) e.requires.fact_1.laid.well).small_gap)
 
-make-trials-requires : tie.Need-make-trials-requires
-make-trials-requires c κs =
+make_trials-count-requires : tie.Need-make_trials-count-requires
+make_trials-count-requires c κs =
     let e : tie.Start = search in
     let room = length-replicate {A = ℕ} 512 0 in
-    let f = facts (lent e) e.pre.0.laid.well in
+    let f = facts (lent e) e.requires.fact_1.laid.well in
     ((f.entries, f.few_pieces), omega arith)
 
 -- the store is long enough for the list
-enough : (c : tie.After-make-trials) → c.make-trials.result ≤ length c.make-trials.new.1.1.0
+enough : (c : tie.After-make_trials-count) → c.make_trials-count.result ≤ length c.make_trials-count.new.1.1.0
 enough c =
     let room = length-replicate {A = ℕ} 512 0 in
-    let same = c.make-trials.auto.1.1.0 in
-    let few = c.make-trials.ensures.1 in
+    let same = c.make_trials-count.auto.1.1.0 in
+    let few = c.make_trials-count.ensures.few in
     omega arith
 
-slice-aggregate-make-shapes : tie.Need-slice-aggregate-make-shapes
-slice-aggregate-make-shapes c = let made : tie.After-empty-store = search in sym made.empty-store.ensures
+slice_bounds-make_shapes-end : tie.Need-slice_bounds-make_shapes-end
+slice_bounds-make_shapes-end c = let made : tie.After-empty_store-strips = search in sym made.empty_store-strips.ensures
 
-make-shapes-requires : tie.Need-make-shapes-requires
-make-shapes-requires c κs =
+make_shapes-requires : tie.Need-make_shapes-requires
+make_shapes-requires c κs =
     let at-start : tie.Start = search in
-    let made : tie.After-empty-store = search in
-    (at-start.pre.0.laid.well, room_of_lem _ made.empty-store.ensures)
+    let made : tie.After-empty_store-strips = search in
+    (at-start.requires.fact_1.laid.well, room_of_lem _ made.empty_store-strips.ensures)
 
-array-share-prefix-trials : tie.Need-array-share-prefix-trials
-array-share-prefix-trials c = let listed : tie.After-make-trials = search in enough listed
+slice_bounds-trials-end : tie.Need-slice_bounds-trials-end
+slice_bounds-trials-end c = let listed : tie.After-make_trials-count = search in enough listed
 
-slice-aggregate-with-workspace-3 : tie.Need-slice-aggregate-with-workspace-3
-slice-aggregate-with-workspace-3 c =
-    let listed : tie.After-make-trials = search in
-    front_length listed.make-trials.result listed.make-trials.last.1.1.0 (enough listed)
+slice_bounds-with_workspace-end-3 : tie.Need-slice_bounds-with_workspace-end-3
+slice_bounds-with_workspace-end-3 c =
+    let listed : tie.After-make_trials-count = search in
+    front_length listed.make_trials-count.result listed.make_trials-count.new.1.1.0 (enough listed)
 
-with-workspace-requires : tie.Need-with-workspace-requires
-with-workspace-requires c κs =
+with_workspace-requires : tie.Need-with_workspace-requires
+with_workspace-requires c κs =
     let e : tie.Start = search in
-    let in_rows_lem : tie.After-make-shapes = search in
-    let filled : tie.After-penalties-of = search in
-    let listed : tie.After-make-trials = search in
-    let g = e.pre.0 in (
+    let in_rows_lem : tie.After-make_shapes = search in
+    let filled : tie.After-penalties_of-penalties = search in
+    let listed : tie.After-make_trials-count = search in
+    let g = e.requires.fact_1 in (
       g,
       (
-        e.pre.1,
+        e.requires.fact_2,
         (
-          in_rows_lem.make-shapes.ensures,
+          in_rows_lem.make_shapes.ensures,
           (
-            record { valid = g.laid.valid; written = g.written; table = filled.penalties-of.ensures (sym g.laid.whole) },
-            listed.make-trials.ensures.0 e.args.pixels.now,
+            record { valid = g.laid.valid; written = g.written; table = filled.penalties_of-penalties.ensures (sym g.laid.whole) },
+            listed.make_trials-count.ensures.listed e.args.pixels.now,
           ),
         ),
       ),
     )
 
 returns : tie.Need-returns
-returns c = let ran : tie.After-with-workspace = search in ran.with-workspace.ensures
+returns c = let ran : tie.After-with_workspace = search in ran.with_workspace.ensures
 
-pub with-strips-spec : {M : Type 1} → statement M
-with-strips-spec =
+pub with_strips_spec : {M : Type 1} → statement M
+with_strips_spec =
     tie.close (tie.spec
-    penalties-of-requires (search needs) make-trials-requires (search needs) slice-aggregate-make-shapes (search needs) make-shapes-requires
-    (search needs) (search needs) array-share-prefix-trials slice-aggregate-with-workspace-3 (search needs) with-workspace-requires
-    (search needs) (search needs) (search needs) returns)
+    penalties_of-penalties-requires (search rules) make_trials-count-requires (search rules) slice_bounds-make_shapes-end (search rules)
+    make_shapes-requires (search rules) (search rules) slice_bounds-trials-end slice_bounds-with_workspace-end-3 (search rules)
+    with_workspace-requires (search rules) (search rules) (search rules) returns)

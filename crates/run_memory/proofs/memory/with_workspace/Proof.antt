@@ -1,67 +1,67 @@
 -- `run_memory::memory::with_workspace` meets its contract: whatever the workspace holds, so much of it as is used is made ready. Assumes nothing.
-use Rattle.list_laws.proofs.Kit.{◌≡◌, sym, List, ◌≤◌, ℕ, min-le_left, min-le_right, arith, length, take, length-take-le, needs}
+use Rattle.list_laws.proofs.Kit.{◌≡◌, sym, List, ◌≤◌, ℕ, min-le_left, min-le_right, arith, length, take, length-take-le, rules}
 use Rattle.run_memory.proofs.memory.with_workspace.Statement.{statement}
 use Rattle.run_memory.proofs.memory.with_workspace.Tie as tie
 
 -- the words that are lent
-words : tie.After-smaller → List ℕ
+words : tie.After-smaller-used → List ℕ
 words c = let s : tie.Start = search in s.args.workspace.now
 
 -- no more is used than there is, and not too much
-used-within : (c : tie.After-smaller) → c.smaller.result ≤ length (words c)
+used-within : (c : tie.After-smaller-used) → c.smaller-used.result ≤ length (words c)
 unfolding words
 used-within c =
-    let e = c.smaller.ensures in
+    let e = c.smaller-used.ensures in
     let m = min-le_left (length (words c)) 33554432 in
     omega arith
 
-used-few : (c : tie.After-smaller) → c.smaller.result ≤ 33554432
+used-few : (c : tie.After-smaller-used) → c.smaller-used.result ≤ 33554432
 unfolding words
 used-few c =
-    let e = c.smaller.ensures in
+    let e = c.smaller-used.ensures in
     let m = min-le_right (length (words c)) 33554432 in
     omega arith
 
 -- so long is the part that is used
-part-long : (c : tie.After-smaller) → length (take c.smaller.result (words c)) ≡ c.smaller.result
-part-long c = length-take-le c.smaller.result (words c) (used-within c)
+part-long : (c : tie.After-smaller-used) → length (take c.smaller-used.result (words c)) ≡ c.smaller-used.result
+part-long c = length-take-le c.smaller-used.result (words c) (used-within c)
 
-with-own-maps-requires : tie.Need-with-own-maps-requires
-with-own-maps-requires c κs = let s : tie.Start = search in s.pre
+with_own_maps-requires : tie.Need-with_own_maps-requires
+with_own_maps-requires c κs = let s : tie.Start = search in s.requires
 
-returns : tie.Need-returns
-returns c = let ran : tie.After-with-own-maps = search in ran.with-own-maps.ensures
+returns-then-used-lt-LEAST_MAPS : tie.Need-returns-then-used-lt-LEAST_MAPS
+returns-then-used-lt-LEAST_MAPS c = let ran : tie.After-with_own_maps = search in ran.with_own_maps.ensures
 
-slice-relend-prefix-maps : tie.Need-slice-relend-prefix-maps
+slice_bounds-maps-end : tie.Need-slice_bounds-maps-end
 unfolding words
-slice-relend-prefix-maps c = let at : tie.After-smaller = search in used-within at
+slice_bounds-maps-end c = let at : tie.After-smaller-used = search in used-within at
 
-slice-aggregate-maps : tie.Need-slice-aggregate-maps
+slice_bounds-maps-end-2 : tie.Need-slice_bounds-maps-end-2
 unfolding words
-slice-aggregate-maps c = let at : tie.After-smaller = search in sym (part-long at)
+slice_bounds-maps-end-2 c = let at : tie.After-smaller-used = search in sym (part-long at)
 
-ready-maps-requires : tie.Need-ready-maps-requires
+ready_maps-requires : tie.Need-ready_maps-requires
 unfolding words
-ready-maps-requires c κs =
+ready_maps-requires c κs =
     let s : tie.Start = search in
-    let at : tie.After-smaller = search in
-    let enough : tie.Else1 = search in
+    let at : tie.After-smaller-used = search in
+    let enough : tie.Else-used-lt-LEAST_MAPS = search in
     let few = used-few at in
     let long = part-long at in
-    let least = enough.if1.left in
-    (s.pre.0.laid.well, (omega arith, omega arith))
+    let least = enough.if-used-lt-LEAST_MAPS.false in
+    (s.requires.fact_1.laid.well, (omega arith, omega arith))
 
-with-lines-requires : tie.Need-with-lines-requires
-with-lines-requires c κs =
+with_lines-requires : tie.Need-with_lines-requires
+with_lines-requires c κs =
     let s : tie.Start = search in
-    let ready : tie.After-ready-maps = search in
-    (s.pre.0, (s.pre.1.0, (s.pre.1.1.0, (s.pre.1.1.1.0, (s.pre.1.1.1.1, ready.ready-maps.ensures)))))
+    let ready : tie.After-ready_maps = search in
+    (s.requires.fact_1, (s.requires.fact_2.0, (s.requires.fact_2.1.0, (s.requires.fact_2.1.1.0, (s.requires.fact_2.1.1.1, ready.ready_maps.ensures)))))
 
-returns-2 : tie.Need-returns-2
-returns-2 c = let ran : tie.After-with-lines = search in ran.with-lines.ensures
+returns : tie.Need-returns
+returns c = let ran : tie.After-with_lines = search in ran.with_lines.ensures
 
-pub with-workspace-spec : {M : Type 1} → statement M
-with-workspace-spec =
+pub with_workspace_spec : {M : Type 1} → statement M
+with_workspace_spec =
     tie.close (tie.spec
-    (search needs) with-own-maps-requires (search needs) (search needs) (search needs) returns slice-relend-prefix-maps slice-aggregate-maps
-    ready-maps-requires with-lines-requires (search needs) (search needs) (search needs) (search needs) returns-2)
+    (search rules) with_own_maps-requires (search rules) (search rules) (search rules) returns-then-used-lt-LEAST_MAPS slice_bounds-maps-end
+    slice_bounds-maps-end-2 ready_maps-requires with_lines-requires (search rules) (search rules) (search rules) (search rules) returns)

@@ -1,5 +1,5 @@
 -- `sigbrol::cut::sigbrol_cut_lines` meets its contract by what the answer tells. Assumes nothing.
-use Rattle.list_laws.proofs.Kit.{◌∙◌, ◌≡◌, ap, sym, List, length, arith, needs}
+use Rattle.list_laws.proofs.Kit.{◌∙◌, ◌≡◌, ap, sym, List, length, arith, rules}
 use Rattle.model.specs.Answers.{count_answer}
 use Rattle.model.specs.Refusal.{Outcome}
 use Rattle.model.specs.Cut.{CutLine}
@@ -21,52 +21,54 @@ outcome : tie.Start → Outcome (List CutLine)
 outcome s = cut_lines_call (lent s) s.args.layout.now (length s.args.lines.now)
 
 -- its answer tells that outcome
-answered : (c : tie.After-cut-lines) → let at-start : tie.Start = search in c.cut-lines.result ≡ count_answer (outcome at-start)
+answered : (c : tie.After-cut_lines) → let at-start : tie.Start = search in c.cut_lines.result ≡ count_answer (outcome at-start)
 unfolding outcome
-answered c = let sized : tie.After-size-of = search in rw sized.type_size.ensures at c.cut-lines.ensures.0
+answered c = let sized : tie.After-size_of = search in rw sized.type_size.ensures at c.cut_lines.ensures.answer
 
-same_length : tie.Need-same-length
-same_length c = let called : tie.After-cut-lines = search in called.cut-lines.kept.1.1.1.1.0
+shape_of-lines-in-Number : tie.Need-shape_of-lines-in-Number
+shape_of-lines-in-Number c = let called : tie.After-cut_lines = search in called.cut_lines.auto.1.1.1.1.0
 
-returns : tie.Need-returns
+returns-in-Number : tie.Need-returns-in-Number
 unfolding outcome
-returns c =
-    let called : tie.After-cut-lines = search in
-    let sized : tie.After-size-of = search in
+returns-in-Number c =
+    let called : tie.After-cut_lines = search in
+    let sized : tie.After-size_of = search in
     let at-start : tie.Start = search in
     let o = outcome at-start in
-    let t = count_told o (sym c.before.before.length.given.1 ∙ answered called) in (
+    let t = count_told o (sym c.before.before.length-1.given.1 ∙ answered called) in (
       c.done.ensures ∙ reply_by (λ ls. length ls) o t,
       (
-        rw sized.type_size.ensures at called.cut-lines.ensures.1.0,
+        rw sized.type_size.ensures at called.cut_lines.ensures.memory.0,
         (
           leaves_by (λ ls. length ls) (λ k. k) _ o t,
-          λ zero. rw sized.type_size.ensures at (called.cut-lines.ensures.1.1 _ c.before.before.length.given.1),
+          λ zero. rw sized.type_size.ensures at (called.cut_lines.ensures.memory.1 _ c.before.before.length-1.given.1),
         ),
       ),
     )
 
-same-length-2 : tie.Need-same-length-2
-same-length-2 c = let called : tie.After-cut-lines = search in called.cut-lines.kept.1.1.1.1.0
+shape_of-lines-in-Refused : tie.Need-shape_of-lines-in-Refused
+shape_of-lines-in-Refused c = let called : tie.After-cut_lines = search in called.cut_lines.auto.1.1.1.1.0
 
-returns-2 : tie.Need-returns-2
+returns-in-Refused : tie.Need-returns-in-Refused
 unfolding outcome
-returns-2 c =
-    let called : tie.After-cut-lines = search in
-    let sized : tie.After-size-of = search in
+returns-in-Refused c =
+    let called : tie.After-cut_lines = search in
+    let sized : tie.After-size_of = search in
     let at-start : tie.Start = search in
     let o = outcome at-start in
-    let t = count_told o (sym c.before.before.refusal.given.1 ∙ answered called) in
+    let t = count_told o (sym c.before.before.refusal-1.given.1 ∙ answered called) in
     let positive = cut_lines_numbered (lent at-start) at-start.args.layout.now _ _ (refusal_told (λ ls. length ls) o _ t) in
     let number = ap (λ (x : Reply). x.number) c.refused.ensures in (
       c.refused.ensures ∙ reply_by (λ ls. length ls) o t,
       (
-        rw sized.type_size.ensures at called.cut-lines.ensures.1.0,
+        rw sized.type_size.ensures at called.cut_lines.ensures.memory.0,
         (leaves_by (λ ls. length ls) (λ k. k) _ o t, λ zero. absurd (omega (arith, positive, number, zero))),
       ),
     )
 
-pub sigbrol-cut-lines-spec : {M : Type 1} → statement M
-sigbrol-cut-lines-spec =
+pub sigbrol_cut_lines_spec : {M : Type 1} → statement M
+sigbrol_cut_lines_spec =
     tie.close
-    (tie.spec (search needs) (search needs) (search needs) (search needs) (search needs) (search needs) same_length returns same-length-2 returns-2)
+    (tie.spec
+    (search rules) (search rules) (search rules) (search rules) (search rules) (search rules) shape_of-lines-in-Number returns-in-Number
+    shape_of-lines-in-Refused returns-in-Refused)

@@ -1,5 +1,5 @@
 -- `sigbrol::cut::sigbrol_cut_step` meets its contract by what the answer tells. Assumes nothing.
-use Rattle.list_laws.proofs.Kit.{◌∙◌, ◌≡◌, ap, sym, arith, needs}
+use Rattle.list_laws.proofs.Kit.{◌∙◌, ◌≡◌, ap, sym, arith, rules}
 use Rattle.model.specs.Refusal.{Outcome}
 use Rattle.model.specs.Lent.{Lent}
 use Rattle.model.specs.Calls.{cut_step_call}
@@ -22,20 +22,20 @@ outcome : tie.Start → Outcome CutStep
 outcome s = cut_step_call (lent s) s.args.layout.now s.args.pitch s.args.step
 
 -- its answer tells that outcome
-answered : (c : tie.After-cut-step) → let at-start : tie.Start = search in c.cut_step.result ≡ step_answer (outcome at-start)
+answered : (c : tie.After-cut_step) → let at-start : tie.Start = search in c.cut_step.result ≡ step_answer (outcome at-start)
 unfolding outcome
-answered c = let sized : tie.After-size-of = search in rw sized.type_size.ensures at c.cut_step.ensures.0
+answered c = let sized : tie.After-size_of = search in rw sized.type_size.ensures at c.cut_step.ensures.answer
 
-returns : tie.Need-returns
+returns-in-Step : tie.Need-returns-in-Step
 unfolding outcome
-returns c =
-    let handed : tie.After-put-step = search in
-    let how : tie.After-taken = search in
-    let called : tie.After-cut-step = search in
-    let sized : tie.After-size-of = search in
+returns-in-Step c =
+    let handed : tie.After-put_step = search in
+    let how : tie.In-Step-2 = search in
+    let called : tie.After-cut_step = search in
+    let sized : tie.After-size_of = search in
     let at-start : tie.Start = search in
     let o = outcome at-start in
-    let t = step_told_lem o (sym how.taken.given.1 ∙ answered called) in
+    let t = step_told_lem o (sym how.taken-1.given.1 ∙ answered called) in
     let put = handed.put_step.ensures in (
       c.done.ensures ∙ reply_by (λ a. a) o t,
       (
@@ -45,20 +45,20 @@ returns c =
           (
             put.1.1 ∙ leaves_by (λ a. a) (step_y _) _ o t,
             λ zero.
-                let claims = rw sized.type_size.ensures at (called.cut_step.ensures.1 _ how.taken.given.1) in
+                let claims = rw sized.type_size.ensures at (called.cut_step.ensures.claims _ how.taken-1.given.1) in
                 (claims.0, rw (put.0, put.1.0, put.1.1, told_back _ _ _) claims.1),
           ),
         ),
       ),
     )
 
-returns-2 : tie.Need-returns-2
+returns-in-Refused : tie.Need-returns-in-Refused
 unfolding outcome
-returns-2 c =
-    let called : tie.After-cut-step = search in
+returns-in-Refused c =
+    let called : tie.After-cut_step = search in
     let at-start : tie.Start = search in
     let o = outcome at-start in
-    let t = step_told_lem o (sym c.before.before.refusal.given.1 ∙ answered called) in
+    let t = step_told_lem o (sym c.before.before.refusal-1.given.1 ∙ answered called) in
     let positive = cut_step_numbered (lent at-start) at-start.args.layout.now _ _ _ (refusal_told (λ a. a) o _ t) in
     let number = ap (λ (x : Reply). x.number) c.refused.ensures in (
       c.refused.ensures ∙ reply_by (λ a. a) o t,
@@ -71,7 +71,8 @@ returns-2 c =
       ),
     )
 
-pub sigbrol-cut-step-spec : {M : Type 1} → statement M
-sigbrol-cut-step-spec =
+pub sigbrol_cut_step_spec : {M : Type 1} → statement M
+sigbrol_cut_step_spec =
     tie.close
-    (tie.spec (search needs) (search needs) (search needs) (search needs) (search needs) (search needs) (search needs) returns returns-2)
+    (tie.spec
+    (search rules) (search rules) (search rules) (search rules) (search rules) (search rules) (search rules) returns-in-Step returns-in-Refused)

@@ -1,5 +1,5 @@
 -- `sigbrol::cut::sigbrol_line_step` meets its contract by what the answer tells. Assumes nothing.
-use Rattle.list_laws.proofs.Kit.{◌∙◌, ◌≡◌, ap, sym, List, ℕ, arith, length, take, needs}
+use Rattle.list_laws.proofs.Kit.{◌∙◌, ◌≡◌, ap, sym, List, ℕ, arith, length, take, rules}
 use Rattle.model.specs.Lent.{Lent}
 use Rattle.model.specs.Refusal.{Outcome, given}
 use Rattle.model.specs.Cut.{CutLine}
@@ -19,9 +19,9 @@ outcome : tie.Start → Outcome CutStep
 outcome s = line_step_call s.args.lines.now s.args.pitch s.args.step
 
 -- its answer tells that outcome
-answered : (c : tie.After-line-step) → let at-start : tie.Start = search in c.line_step.result ≡ step_answer (outcome at-start)
+answered : (c : tie.After-line_step) → let at-start : tie.Start = search in c.line_step.result ≡ step_answer (outcome at-start)
 unfolding outcome
-answered c = c.line_step.ensures.0
+answered c = c.line_step.ensures.answer
 
 -- of the lines that a layout gave it is the layout's
 layout-steps : (s : tie.Start) (l : Lent) (layout before : List (List ℕ)) (ls : List CutLine) → cut_lines_call l layout (length before) ≡ given ls
@@ -30,15 +30,15 @@ layout-steps : (s : tie.Start) (l : Lent) (layout before : List (List ℕ)) (ls 
 layout-steps s l layout before ls e same =
     ap (λ (xs : List (List ℕ)). line_step_call xs s.args.pitch s.args.step) same ∙ same_steps l layout before ls s.args.pitch s.args.step e
 
-returns : tie.Need-returns
+returns-in-Step : tie.Need-returns-in-Step
 unfolding outcome
-returns c =
-    let handed : tie.After-put-step = search in
-    let how : tie.After-taken = search in
-    let called : tie.After-line-step = search in
+returns-in-Step c =
+    let handed : tie.After-put_step = search in
+    let how : tie.In-Step-2 = search in
+    let called : tie.After-line_step = search in
     let at-start : tie.Start = search in
     let o = outcome at-start in
-    let t = step_told_lem o (sym how.taken.given.1 ∙ answered called) in
+    let t = step_told_lem o (sym how.taken-1.given.1 ∙ answered called) in
     let put = handed.put_step.ensures in (
       c.done.ensures ∙ reply_by (λ a. a) o t,
       (
@@ -50,20 +50,20 @@ returns c =
             (
               layout-steps at-start,
               λ zero.
-                  rw (put.0, put.1.0, put.1.1, told_back _ _ _) (called.line_step.ensures.1.1 _ how.taken.given.1),
+                  rw (put.0, put.1.0, put.1.1, told_back _ _ _) (called.line_step.ensures.same.1 _ how.taken-1.given.1),
             ),
           ),
         ),
       ),
     )
 
-returns-2 : tie.Need-returns-2
+returns-in-Refused : tie.Need-returns-in-Refused
 unfolding outcome
-returns-2 c =
-    let called : tie.After-line-step = search in
+returns-in-Refused c =
+    let called : tie.After-line_step = search in
     let at-start : tie.Start = search in
     let o = outcome at-start in
-    let t = step_told_lem o (sym c.before.before.refusal.given.1 ∙ answered called) in
+    let t = step_told_lem o (sym c.before.before.refusal-1.given.1 ∙ answered called) in
     let positive = line_step_numbered at-start.args.lines.now _ _ _ (refusal_told (λ a. a) o _ t) in
     let number = ap (λ (x : Reply). x.number) c.refused.ensures in (
       c.refused.ensures ∙ reply_by (λ a. a) o t,
@@ -79,7 +79,8 @@ returns-2 c =
       ),
     )
 
-pub sigbrol-line-step-spec : {M : Type 1} → statement M
-sigbrol-line-step-spec =
+pub sigbrol_line_step_spec : {M : Type 1} → statement M
+sigbrol_line_step_spec =
     tie.close
-    (tie.spec (search needs) (search needs) (search needs) (search needs) (search needs) (search needs) returns returns-2)
+    (tie.spec
+    (search rules) (search rules) (search rules) (search rules) (search rules) (search rules) returns-in-Step returns-in-Refused)

@@ -9,48 +9,48 @@ use Rattle.sigbrol.proofs.jobs.sigbrol_read_job.Tie as tie
 
 -- the outcome of the call
 outcome : tie.Start → Outcome Lent
-outcome s = let a = s.args in read_job a.text.now (length a.table.now) (length a.pixels.now)
+outcome s = let a = s.args in read_job a.text.now (length a.table-1.now) (length a.pixels-1.now)
 
-read-job-requires : tie.Need-read-job-requires
-read-job-requires c κs = tt
+read_job-requires : tie.Need-read_job-requires
+read_job-requires c κs = tt
 
-enum-known-size : tie.Need-enum-known-size
-enum-known-size c = c.match.keys1
+enum_known-size : tie.Need-enum_known-size
+enum_known-size c = c.in-Read.keys1
 
-put-size-requires : tie.Need-put-size-requires
-put-size-requires c κs = tt
+put_size-requires : tie.Need-put_size-requires
+put_size-requires c κs = tt
 
 done-requires : tie.Need-done-requires
 done-requires c κs = tt
 
-enum-known-refusal : tie.Need-enum-known-refusal
-enum-known-refusal c = c.match.keys2
+enum_known-refusal : tie.Need-enum_known-refusal
+enum_known-refusal c = c.in-Read.keys2
 
 refused-requires : tie.Need-refused-requires
 refused-requires c κs = tt
 
-same_length : tie.Need-same-length
-same_length c = let read : tie.After-read-job = search in read.read-job.kept.1.0
+shape_of-table-in-Read : tie.Need-shape_of-table-in-Read
+shape_of-table-in-Read c = let read : tie.After-read_job = search in read.read_job.auto.1.0
 
-same-length-2 : tie.Need-same-length-2
-same-length-2 c = let read : tie.After-read-job = search in read.read-job.kept.1.1.0
+shape_of-pixels-in-Read : tie.Need-shape_of-pixels-in-Read
+shape_of-pixels-in-Read c = let read : tie.After-read_job = search in read.read_job.auto.1.1.0
 
-returns : tie.Need-returns
+returns-in-Read : tie.Need-returns-in-Read
 unfolding outcome
-returns c =
-    let put : tie.After-put-size = search in
-    let size : tie.After-size = search in
-    let read : tie.After-read-job = search in
+returns-in-Read c =
+    let put : tie.After-put_size = search in
+    let size : tie.In-Read-2 = search in
+    let read : tie.After-read_job = search in
     let s : tie.Start = search in
     let o = outcome s in
-    let l = read.read-job.ensures in
-    let t = job_told_lem o (sym size.size.given.1 ∙ l.answers) in
-    let numbers = put.put-size.ensures in (
+    let l = read.read_job.ensures in
+    let t = job_told_lem o (sym size.size-1.given.1 ∙ l.answers) in
+    let numbers = put.put_size.ensures in (
       c.done.ensures ∙ reply_by size_in o t,
       (
         l.entries,
         (
-          l.pixels,
+          l.pixels-1,
           (
             numbers.0 ∙ leaves_by size_in (λ s. s.rows) _ o t,
             (
@@ -62,26 +62,26 @@ returns c =
       ),
     )
 
-same-length-3 : tie.Need-same-length-3
-same-length-3 c = let read : tie.After-read-job = search in read.read-job.kept.1.0
+shape_of-table-in-Refused : tie.Need-shape_of-table-in-Refused
+shape_of-table-in-Refused c = let read : tie.After-read_job = search in read.read_job.auto.1.0
 
-same-length-4 : tie.Need-same-length-4
-same-length-4 c = let read : tie.After-read-job = search in read.read-job.kept.1.1.0
+shape_of-pixels-in-Refused : tie.Need-shape_of-pixels-in-Refused
+shape_of-pixels-in-Refused c = let read : tie.After-read_job = search in read.read_job.auto.1.1.0
 
-returns-2 : tie.Need-returns-2
+returns-in-Refused : tie.Need-returns-in-Refused
 unfolding outcome
-returns-2 c =
-    let why : tie.After-refusal = search in
-    let read : tie.After-read-job = search in
+returns-in-Refused c =
+    let why : tie.In-Refused-2 = search in
+    let read : tie.After-read_job = search in
     let s : tie.Start = search in
     let o = outcome s in
-    let l = read.read-job.ensures in
-    let t = job_told_lem o (sym why.refusal.given.1 ∙ l.answers) in (
+    let l = read.read_job.ensures in
+    let t = job_told_lem o (sym why.refusal-1.given.1 ∙ l.answers) in (
       c.refused.ensures ∙ reply_by size_in o t,
       (
         l.entries,
         (
-          l.pixels,
+          l.pixels-1,
           (
             leaves_by size_in (λ s. s.rows) _ o t,
             (leaves_by size_in (λ s. s.columns) _ o t, (leaves_by size_in (λ s. s.count) _ o t, leaves_by size_in (λ s. s.gap) _ o t)),
@@ -90,19 +90,9 @@ returns-2 c =
       ),
     )
 
-pub sigbrol-read-job-spec : {M : Type 1} → statement M
-sigbrol-read-job-spec =
+pub sigbrol_read_job_spec : {M : Type 1} → statement M
+sigbrol_read_job_spec =
     tie.close
     (tie.spec
-    read-job-requires
-    enum-known-size
-    put-size-requires
-    done-requires
-    enum-known-refusal
-    refused-requires
-    same_length
-    same-length-2
-    returns
-    same-length-3
-    same-length-4
-    returns-2)
+    read_job-requires enum_known-size put_size-requires done-requires enum_known-refusal refused-requires shape_of-table-in-Read
+    shape_of-pixels-in-Read returns-in-Read shape_of-table-in-Refused shape_of-pixels-in-Refused returns-in-Refused)

@@ -19,51 +19,44 @@ answered : (c : tie.After-check) →
 unfolding outcome
 answered c = rw c.before.type_size.ensures at c.check.ensures
 
-size-of-requires : tie.Need-size-of-requires
-size-of-requires c κs = tt
+size_of-requires : tie.Need-size_of-requires
+size_of-requires c κs = tt
 
 check-requires : tie.Need-check-requires
 check-requires c κs = tt
 
-enum_told : tie.Need-enum-told
-enum_told c = c.match.keys1
+enum_told-1 : tie.Need-enum_told-1
+enum_told-1 c = c.in-Done.keys1
 
 done-requires : tie.Need-done-requires
 done-requires c κs = tt
 
-enum-known-refusal : tie.Need-enum-known-refusal
-enum-known-refusal c = c.match.keys2
+enum_known-refusal : tie.Need-enum_known-refusal
+enum_known-refusal c = c.in-Done.keys2
 
 refused-requires : tie.Need-refused-requires
 refused-requires c κs = tt
 
-returns : tie.Need-returns
+returns-in-Done : tie.Need-returns-in-Done
 unfolding outcome
-returns c =
+returns-in-Done c =
     let at-check : tie.After-check = search in
     let at-start : tie.Start = search in
     let o = outcome (at-start) in
-    let t = done_told_lem o (sym c.before.enum_told.given.1 ∙ answered (at-check)) in
+    let t = done_told_lem o (sym c.before.enum_told-1.given.1 ∙ answered (at-check)) in
     c.done.ensures ∙ reply_by (λ u. tt) o t
 
-returns-2 : tie.Need-returns-2
+returns-in-Refused : tie.Need-returns-in-Refused
 unfolding outcome
-returns-2 c =
+returns-in-Refused c =
     let at-check : tie.After-check = search in
     let at-start : tie.Start = search in
     let o = outcome (at-start) in
-    let t = done_told_lem o (sym c.before.before.refusal.given.1 ∙ answered (at-check)) in
+    let t = done_told_lem o (sym c.before.before.refusal-1.given.1 ∙ answered (at-check)) in
     c.refused.ensures ∙ reply_by (λ u. tt) o t
 
-pub sigbrol-check-spec : {M : Type 1} → statement M
-sigbrol-check-spec =
+pub sigbrol_check_spec : {M : Type 1} → statement M
+sigbrol_check_spec =
     tie.close
     (tie.spec
-    size-of-requires
-    check-requires
-    enum_told
-    done-requires
-    enum-known-refusal
-    refused-requires
-    returns
-    returns-2)
+    size_of-requires check-requires enum_told-1 done-requires enum_known-refusal refused-requires returns-in-Done returns-in-Refused)

@@ -1,5 +1,5 @@
 -- `sigbrol::layouts::sigbrol_compact` meets its contract by what the answer tells. Assumes nothing.
-use Rattle.list_laws.proofs.Kit.{◌∙◌, ◌≡◌, ap, sym, arith, needs}
+use Rattle.list_laws.proofs.Kit.{◌∙◌, ◌≡◌, ap, sym, arith, rules}
 use Rattle.model.specs.Refusal.{Outcome}
 use Rattle.model.specs.Compact.{Compacted}
 use Rattle.model.specs.Lent.{Lent}
@@ -22,50 +22,52 @@ outcome s = compact_call (lent s) s.args.layout.now
 -- its answer tells that outcome
 answered : (c : tie.After-compact) → let at-start : tie.Start = search in c.compact.result ≡ slid_answer (outcome at-start)
 unfolding outcome
-answered c = let sized : tie.After-size-of = search in rw sized.type_size.ensures at c.compact.ensures.0
+answered c = let sized : tie.After-size_of = search in rw sized.type_size.ensures at c.compact.ensures.answer
 
-same_length : tie.Need-same-length
-same_length c = let called : tie.After-compact = search in called.compact.kept.1.1.1.0
+shape_of-layout-in-Number : tie.Need-shape_of-layout-in-Number
+shape_of-layout-in-Number c = let called : tie.After-compact = search in called.compact.auto.1.1.1.0
 
-returns : tie.Need-returns
+returns-in-Number : tie.Need-returns-in-Number
 unfolding outcome
-returns c =
+returns-in-Number c =
     let called : tie.After-compact = search in
-    let sized : tie.After-size-of = search in
+    let sized : tie.After-size_of = search in
     let at-start : tie.Start = search in
     let o = outcome at-start in
-    let t = slid_told o (sym c.before.before.total.given.1 ∙ answered called) in (
+    let t = slid_told o (sym c.before.before.total-1.given.1 ∙ answered called) in (
       c.done.ensures ∙ reply_by (λ (a : Compacted). a.slid) o t,
       (
-        rw sized.type_size.ensures at called.compact.ensures.1.0,
+        rw sized.type_size.ensures at called.compact.ensures.memory.0,
         (
           leaves_by (λ (a : Compacted). a.slid) (λ k. k) _ o t,
-          λ zero. rw sized.type_size.ensures at (called.compact.ensures.1.1 _ c.before.before.total.given.1),
+          λ zero. rw sized.type_size.ensures at (called.compact.ensures.memory.1 _ c.before.before.total-1.given.1),
         ),
       ),
     )
 
-same-length-2 : tie.Need-same-length-2
-same-length-2 c = let called : tie.After-compact = search in called.compact.kept.1.1.1.0
+shape_of-layout-in-Refused : tie.Need-shape_of-layout-in-Refused
+shape_of-layout-in-Refused c = let called : tie.After-compact = search in called.compact.auto.1.1.1.0
 
-returns-2 : tie.Need-returns-2
+returns-in-Refused : tie.Need-returns-in-Refused
 unfolding outcome
-returns-2 c =
+returns-in-Refused c =
     let called : tie.After-compact = search in
-    let sized : tie.After-size-of = search in
+    let sized : tie.After-size_of = search in
     let at-start : tie.Start = search in
     let o = outcome at-start in
-    let t = slid_told o (sym c.before.before.refusal.given.1 ∙ answered called) in
+    let t = slid_told o (sym c.before.before.refusal-1.given.1 ∙ answered called) in
     let positive = compact_numbered (lent at-start) at-start.args.layout.now _ (refusal_told (λ (a : Compacted). a.slid) o _ t) in
     let number = ap (λ (x : Reply). x.number) c.refused.ensures in (
       c.refused.ensures ∙ reply_by (λ (a : Compacted). a.slid) o t,
       (
-        rw sized.type_size.ensures at called.compact.ensures.1.0,
+        rw sized.type_size.ensures at called.compact.ensures.memory.0,
         (leaves_by (λ (a : Compacted). a.slid) (λ k. k) _ o t, λ zero. absurd (omega (arith, positive, number, zero))),
       ),
     )
 
-pub sigbrol-compact-spec : {M : Type 1} → statement M
-sigbrol-compact-spec =
+pub sigbrol_compact_spec : {M : Type 1} → statement M
+sigbrol_compact_spec =
     tie.close
-    (tie.spec (search needs) (search needs) (search needs) (search needs) (search needs) (search needs) same_length returns same-length-2 returns-2)
+    (tie.spec
+    (search rules) (search rules) (search rules) (search rules) (search rules) (search rules) shape_of-layout-in-Number returns-in-Number
+    shape_of-layout-in-Refused returns-in-Refused)

@@ -13,57 +13,50 @@ outcome : tie.Start → Outcome ℕ
 outcome s = let a = s.args in plain_sum_call (lent_as a.rows a.columns a.count a.gap a.table.now a.pixels.now) a.layout.now
 
 -- its answer tells that outcome
-answered : (c : tie.After-plain-sum) →
+answered : (c : tie.After-plain_sum) →
     let at-start : tie.Start = search in
-    c.plain_sum_lem.result ≡ number_answer (outcome (at-start))
+    c.plain_sum.result ≡ number_answer (outcome (at-start))
 unfolding outcome
-answered c = rw c.before.type_size.ensures at c.plain_sum_lem.ensures
+answered c = rw c.before.type_size.ensures at c.plain_sum.ensures
 
-size-of-requires : tie.Need-size-of-requires
-size-of-requires c κs = tt
+size_of-requires : tie.Need-size_of-requires
+size_of-requires c κs = tt
 
-plain-sum-requires : tie.Need-plain-sum-requires
-plain-sum-requires c κs = tt
+plain_sum-requires : tie.Need-plain_sum-requires
+plain_sum-requires c κs = tt
 
-enum-known-total : tie.Need-enum-known-total
-enum-known-total c = c.match.keys1
+enum_known-total : tie.Need-enum_known-total
+enum_known-total c = c.in-Number.keys1
 
 done-requires : tie.Need-done-requires
 done-requires c κs = tt
 
-enum-known-refusal : tie.Need-enum-known-refusal
-enum-known-refusal c = c.match.keys2
+enum_known-refusal : tie.Need-enum_known-refusal
+enum_known-refusal c = c.in-Number.keys2
 
 refused-requires : tie.Need-refused-requires
 refused-requires c κs = tt
 
-returns : tie.Need-returns
+returns-in-Number : tie.Need-returns-in-Number
 unfolding outcome
-returns c =
-    let at-plain-sum : tie.After-plain-sum = search in
+returns-in-Number c =
+    let at-plain-sum : tie.After-plain_sum = search in
     let at-start : tie.Start = search in
     let o = outcome (at-start) in
-    let t = number_told_lem o (sym c.before.before.total.given.1 ∙ answered (at-plain-sum)) in
+    let t = number_told_lem o (sym c.before.before.total-1.given.1 ∙ answered (at-plain-sum)) in
     (c.done.ensures ∙ reply_by (λ k. k) o t, leaves_by (λ k. k) (λ k. k) _ o t)
 
-returns-2 : tie.Need-returns-2
+returns-in-Refused : tie.Need-returns-in-Refused
 unfolding outcome
-returns-2 c =
-    let at-plain-sum : tie.After-plain-sum = search in
+returns-in-Refused c =
+    let at-plain-sum : tie.After-plain_sum = search in
     let at-start : tie.Start = search in
     let o = outcome (at-start) in
-    let t = number_told_lem o (sym c.before.before.refusal.given.1 ∙ answered (at-plain-sum)) in
+    let t = number_told_lem o (sym c.before.before.refusal-1.given.1 ∙ answered (at-plain-sum)) in
     (c.refused.ensures ∙ reply_by (λ k. k) o t, leaves_by (λ k. k) (λ k. k) _ o t)
 
-pub sigbrol-plain-sum-spec : {M : Type 1} → statement M
-sigbrol-plain-sum-spec =
+pub sigbrol_plain_sum_spec : {M : Type 1} → statement M
+sigbrol_plain_sum_spec =
     tie.close
     (tie.spec
-    size-of-requires
-    plain-sum-requires
-    enum-known-total
-    done-requires
-    enum-known-refusal
-    refused-requires
-    returns
-    returns-2)
+    size_of-requires plain_sum-requires enum_known-total done-requires enum_known-refusal refused-requires returns-in-Number returns-in-Refused)

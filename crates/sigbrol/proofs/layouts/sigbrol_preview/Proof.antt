@@ -1,5 +1,5 @@
 -- `sigbrol::layouts::sigbrol_preview` meets its contract by what the answer tells. Assumes nothing.
-use Rattle.list_laws.proofs.Kit.{◌∙◌, ◌≡◌, ap, sym, arith, needs}
+use Rattle.list_laws.proofs.Kit.{◌∙◌, ◌≡◌, ap, sym, arith, rules}
 use Rattle.model.specs.Buffer.{placement}
 use Rattle.model.specs.Refusal.{Outcome}
 use Rattle.model.specs.Calls.{preview_call}
@@ -24,39 +24,39 @@ answered : (c : tie.After-preview) →
     c.preview.result ≡ preview_answer (outcome at-start)
 unfolding outcome
 answered c =
-    let at-size-of : tie.After-size-of = search in
-    rw (at-size-of.type_size.ensures, c.before.before.piece-with-turn.ensures, c.before.placement-of.ensures) at c.preview.ensures.0
+    let at-size-of : tie.After-size_of = search in
+    rw (at-size-of.type_size.ensures, c.before.before.piece_with_turn.ensures, c.before.placement_of.ensures) at c.preview.ensures.answer
 
-returns : tie.Need-returns
+returns-in-Shown : tie.Need-returns-in-Shown
 unfolding outcome
-returns c =
+returns-in-Shown c =
     let at-start : tie.Start = search in
-    let at-size-of : tie.After-size-of = search in
-    let at_piece : tie.After-piece-with-turn = search in
-    let at_place : tie.After-placement-of = search in
+    let at-size-of : tie.After-size_of = search in
+    let at_piece : tie.After-piece_with_turn = search in
+    let at_place : tie.After-placement_of = search in
     let at-preview : tie.After-preview = search in
-    let at-figures : tie.After-figures = search in
+    let at-figures : tie.In-Shown-2 = search in
     let o = outcome at-start in
-    let t = figures_told_lem o (sym at-figures.figures.given.1 ∙ answered at-preview) in (
+    let t = figures_told_lem o (sym at-figures.figures-1.given.1 ∙ answered at-preview) in (
       c.done.ensures ∙ reply_by (λ f. f) o t,
       (
         leaves_by (λ f. f) (λ f. f.sum) _ o t,
         (
           leaves_by (λ f. f) (λ f. f.length) _ o t,
           λ zero.
-              rw (at-size-of.type_size.ensures, at_piece.piece-with-turn.ensures, at_place.placement-of.ensures) at
-              (at-preview.preview.ensures.1 _ at-figures.figures.given.1),
+              rw (at-size-of.type_size.ensures, at_piece.piece_with_turn.ensures, at_place.placement_of.ensures) at
+              (at-preview.preview.ensures.figures _ at-figures.figures-1.given.1),
         ),
       ),
     )
 
-returns-2 : tie.Need-returns-2
+returns-in-Refused : tie.Need-returns-in-Refused
 unfolding outcome
-returns-2 c =
+returns-in-Refused c =
     let at-start : tie.Start = search in
     let at-preview : tie.After-preview = search in
     let o = outcome at-start in
-    let t = figures_told_lem o (sym c.before.before.refusal.given.1 ∙ answered at-preview) in
+    let t = figures_told_lem o (sym c.before.before.refusal-1.given.1 ∙ answered at-preview) in
     let a = at-start.args in
     let positive =
     preview_numbered (lent_as a.rows a.columns a.count a.gap a.table.now a.pixels.now) a.layout.now a.weights.now
@@ -69,17 +69,9 @@ returns-2 c =
       ),
     )
 
-pub sigbrol-preview-spec : {M : Type 1} → statement M
-sigbrol-preview-spec =
+pub sigbrol_preview_spec : {M : Type 1} → statement M
+sigbrol_preview_spec =
     tie.close
     (tie.spec
-    (search needs)
-    (search needs)
-    (search needs)
-    (search needs)
-    (search needs)
-    (search needs)
-    (search needs)
-    (search needs)
-    returns
-    returns-2)
+    (search rules) (search rules) (search rules) (search rules) (search rules) (search rules) (search rules) (search rules) returns-in-Shown
+    returns-in-Refused)

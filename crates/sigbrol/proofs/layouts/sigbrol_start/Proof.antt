@@ -13,89 +13,81 @@ use Rattle.sigbrol.proofs.layouts.sigbrol_start.Tie as tie
 
 -- the outcome of the call
 outcome : tie.Start → Outcome Layout
-outcome s = let a = s.args in start_call (lent_as a.rows a.columns a.count a.gap a.table.now a.pixels.now) a.layout.now
+outcome s = let a = s.args in start_call (lent_as a.rows a.columns a.count a.gap a.table.now a.pixels.now) a.layout-1.now
 
 -- its answer tells that outcome
 answered : (c : tie.After-start) →
     let at-start : tie.Start = search in
     c.start.result ≡ done_answer (outcome (at-start))
 unfolding outcome
-answered c = rw c.before.before.type_size.ensures at c.start.ensures.0
+answered c = rw c.before.before.type_size.ensures at c.start.ensures.answer
 
-size-of-requires : tie.Need-size-of-requires
-size-of-requires c κs = tt
+size_of-requires : tie.Need-size_of-requires
+size_of-requires c κs = tt
 
 start-requires : tie.Need-start-requires
 start-requires c κs = tt
 
-enum_told : tie.Need-enum-told
-enum_told c = c.match.keys1
+enum_told-1 : tie.Need-enum_told-1
+enum_told-1 c = c.in-Done.keys1
 
 done-requires : tie.Need-done-requires
 done-requires c κs = tt
 
-enum-known-refusal : tie.Need-enum-known-refusal
-enum-known-refusal c = c.match.keys2
+enum_known-refusal : tie.Need-enum_known-refusal
+enum_known-refusal c = c.in-Done.keys2
 
 refused-requires : tie.Need-refused-requires
 refused-requires c κs = tt
 
-same_length : tie.Need-same-length
-same_length c =
+shape_of-layout-in-Done : tie.Need-shape_of-layout-in-Done
+shape_of-layout-in-Done c =
     let at-start : tie.After-start = search in
-    at-start.start.kept.1.1.1.0
+    at-start.start.auto.1.1.1.0
 
-returns : tie.Need-returns
+returns-in-Done : tie.Need-returns-in-Done
 unfolding outcome
-returns c =
+returns-in-Done c =
     let at-after-start : tie.After-start = search in
-    let at-size-of : tie.After-size-of = search in
+    let at-size-of : tie.After-size_of = search in
     let at-start : tie.Start = search in
     let o = outcome (at-start) in
-    let t = done_told_lem o (sym c.before.enum_told.given.1 ∙ answered (at-after-start)) in (
+    let t = done_told_lem o (sym c.before.enum_told-1.given.1 ∙ answered (at-after-start)) in (
       c.done.ensures ∙ reply_by (λ v. tt) o t,
       (
-        rw at-size-of.type_size.ensures at at-after-start.start.ensures.1.0,
-        λ zero. rw at-size-of.type_size.ensures at (at-after-start.start.ensures.1.1 c.before.enum_told.given.1),
+        rw at-size-of.type_size.ensures at at-after-start.start.ensures.memory.0,
+        λ zero. rw at-size-of.type_size.ensures at (at-after-start.start.ensures.memory.1 c.before.enum_told-1.given.1),
       ),
     )
 
-same-length-2 : tie.Need-same-length-2
-same-length-2 c =
+shape_of-layout-in-Refused : tie.Need-shape_of-layout-in-Refused
+shape_of-layout-in-Refused c =
     let at-start : tie.After-start = search in
-    at-start.start.kept.1.1.1.0
+    at-start.start.auto.1.1.1.0
 
-returns-2 : tie.Need-returns-2
+returns-in-Refused : tie.Need-returns-in-Refused
 unfolding outcome
-returns-2 c =
+returns-in-Refused c =
     let at-after-start : tie.After-start = search in
-    let at-size-of : tie.After-size-of = search in
+    let at-size-of : tie.After-size_of = search in
     let at-start : tie.Start = search in
     let o = outcome (at-start) in
-    let t = done_told_lem o (sym c.before.before.refusal.given.1 ∙ answered (at-after-start)) in
+    let t = done_told_lem o (sym c.before.before.refusal-1.given.1 ∙ answered (at-after-start)) in
     let a = at-start.args in
     let positive =
-    start_numbered (lent_as a.rows a.columns a.count a.gap a.table.now a.pixels.now) a.layout.now _
+    start_numbered (lent_as a.rows a.columns a.count a.gap a.table.now a.pixels.now) a.layout-1.now _
     (refusal_told (λ v. tt) o _ t) in
     let number = ap (λ (x : Reply). x.number) c.refused.ensures in (
       c.refused.ensures ∙ reply_by (λ v. tt) o t,
       (
-        rw at-size-of.type_size.ensures at at-after-start.start.ensures.1.0,
+        rw at-size-of.type_size.ensures at at-after-start.start.ensures.memory.0,
         λ zero. absurd (omega (arith, positive, number, zero)),
       ),
     )
 
-pub sigbrol-start-spec : {M : Type 1} → statement M
-sigbrol-start-spec =
+pub sigbrol_start_spec : {M : Type 1} → statement M
+sigbrol_start_spec =
     tie.close
     (tie.spec
-    size-of-requires
-    start-requires
-    enum_told
-    done-requires
-    enum-known-refusal
-    refused-requires
-    same_length
-    returns
-    same-length-2
-    returns-2)
+    size_of-requires start-requires enum_told-1 done-requires enum_known-refusal refused-requires shape_of-layout-in-Done returns-in-Done
+    shape_of-layout-in-Refused returns-in-Refused)

@@ -15,52 +15,52 @@ outcome : tie.Start → Outcome ℕ
 outcome s = let a = s.args in used_length_call (lent_as a.rows a.columns a.count a.gap a.table.now a.pixels.now) a.layout.now
 
 -- its answer tells that outcome
-answered : (c : tie.After-used-length) →
+answered : (c : tie.After-used_length) →
     let at-start : tie.Start = search in
-    c.used-length.result ≡ number_answer (outcome (at-start))
+    c.used_length.result ≡ number_answer (outcome (at-start))
 unfolding outcome
-answered c = rw c.before.type_size.ensures at c.used-length.ensures.0
+answered c = rw c.before.type_size.ensures at c.used_length.ensures.answer
 
-size-of-requires : tie.Need-size-of-requires
-size-of-requires c κs = tt
+size_of-requires : tie.Need-size_of-requires
+size_of-requires c κs = tt
 
-used-length-requires : tie.Need-used-length-requires
-used-length-requires c κs = tt
+used_length-requires : tie.Need-used_length-requires
+used_length-requires c κs = tt
 
-enum-known-length : tie.Need-enum-known-length
-enum-known-length c = c.match.keys1
+enum_known-length : tie.Need-enum_known-length
+enum_known-length c = c.in-Number.keys1
 
 done-requires : tie.Need-done-requires
 done-requires c κs = tt
 
-enum-known-refusal : tie.Need-enum-known-refusal
-enum-known-refusal c = c.match.keys2
+enum_known-refusal : tie.Need-enum_known-refusal
+enum_known-refusal c = c.in-Number.keys2
 
 refused-requires : tie.Need-refused-requires
 refused-requires c κs = tt
 
-returns : tie.Need-returns
+returns-in-Number : tie.Need-returns-in-Number
 unfolding outcome
-returns c =
-    let at-used-length : tie.After-used-length = search in
+returns-in-Number c =
+    let at-used-length : tie.After-used_length = search in
     let at-start : tie.Start = search in
     let o = outcome (at-start) in
-    let t = number_told_lem o (sym c.before.before.length.given.1 ∙ answered (at-used-length)) in
-    let sized : tie.After-size-of = search in (
+    let t = number_told_lem o (sym c.before.before.length-1.given.1 ∙ answered (at-used-length)) in
+    let sized : tie.After-size_of = search in (
       c.done.ensures ∙ reply_by (λ k. k) o t,
       (
         leaves_by (λ k. k) (λ k. k) _ o t,
-        λ zero. rw sized.type_size.ensures at (at-used-length.used-length.ensures.1 _ c.before.before.length.given.1),
+        λ zero. rw sized.type_size.ensures at (at-used-length.used_length.ensures.length _ c.before.before.length-1.given.1),
       ),
     )
 
-returns-2 : tie.Need-returns-2
+returns-in-Refused : tie.Need-returns-in-Refused
 unfolding outcome
-returns-2 c =
-    let at-used-length : tie.After-used-length = search in
+returns-in-Refused c =
+    let at-used-length : tie.After-used_length = search in
     let at-start : tie.Start = search in
     let o = outcome (at-start) in
-    let t = number_told_lem o (sym c.before.before.refusal.given.1 ∙ answered (at-used-length)) in
+    let t = number_told_lem o (sym c.before.before.refusal-1.given.1 ∙ answered (at-used-length)) in
     let a = at-start.args in
     let positive =
     used_numbered (lent_as a.rows a.columns a.count a.gap a.table.now a.pixels.now) a.layout.now _ (refusal_told (λ k. k) o _ t) in
@@ -69,15 +69,8 @@ returns-2 c =
       (leaves_by (λ k. k) (λ k. k) _ o t, λ zero. absurd (omega (arith, positive, number, zero))),
     )
 
-pub sigbrol-used-length-spec : {M : Type 1} → statement M
-sigbrol-used-length-spec =
+pub sigbrol_used_length_spec : {M : Type 1} → statement M
+sigbrol_used_length_spec =
     tie.close
     (tie.spec
-    size-of-requires
-    used-length-requires
-    enum-known-length
-    done-requires
-    enum-known-refusal
-    refused-requires
-    returns
-    returns-2)
+    size_of-requires used_length-requires enum_known-length done-requires enum_known-refusal refused-requires returns-in-Number returns-in-Refused)

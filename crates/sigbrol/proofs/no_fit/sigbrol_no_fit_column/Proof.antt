@@ -25,118 +25,107 @@ outcome s offset =
     let a = s.args in
     no_fit_call Vertical (lent_as a.rows a.columns a.count a.gap a.table.now a.pixels.now)
     (lent_stretch (piece_with_turn a.i-turn a.i) (turn_of a.i-turn) a.i-strips.now)
-    (lent_stretch (piece_with_turn a.k-turn a.k) (turn_of a.k-turn) a.k-strips.now) offset (length a.runs.now)
+    (lent_stretch (piece_with_turn a.k-turn a.k) (turn_of a.k-turn) a.k-strips.now) offset (length a.runs-1.now)
 
 -- answer and runs are those of an outcome, and the offsets lie in their range
-Tells : (c : tie.After-no-fit-column) → Outcome (List OffsetRun) → Type 0
+Tells : (c : tie.After-no_fit_column) → Outcome (List OffsetRun) → Type 0
 Tells c o =
     let at-start : tie.Start = search in
-    let left : List (List ℤ) = c.no-fit-column.new.1.1.1.1.1.1.1.1.0 in
-    (c.no-fit-column.result ≡ count_answer o) × ((left ≡ runs_after at-start.args.runs.now o)
-    × ((n : ℕ) → c.no-fit-column.result ≡ NumberAnswer.Number n → OffsetsWithin at-start.args.gap n left))
+    let left : List (List ℤ) = c.no_fit_column.new.1.1.1.1.1.1.1.1.0 in
+    (c.no_fit_column.result ≡ count_answer o) × ((left ≡ runs_after at-start.args.runs.now o)
+    × ((n : ℕ) → c.no_fit_column.result ≡ NumberAnswer.Number n → OffsetsWithin at-start.args.gap n left))
 
 -- they are the call's, the offset being handed on as it is
-told : (c : tie.After-no-fit-column) →
+told : (c : tie.After-no_fit_column) →
     let at-start : tie.Start = search in
     Tells c (outcome (at-start) at-start.args.offset)
 unfolding outcome Tells
 told c =
-    let at-piece-with-turn2 : tie.After-piece-with-turn2 = search in
-    let at-turn-or-zero : tie.After-turn-or-zero = search in
-    let at-piece-with-turn : tie.After-piece-with-turn = search in
-    let at-size-of : tie.After-size-of = search in
+    let at-piece-with-turn2 : tie.After-piece_with_turn-2 = search in
+    let at-turn-or-zero : tie.After-turn_or_zero = search in
+    let at-piece-with-turn : tie.After-piece_with_turn = search in
+    let at-size-of : tie.After-size_of-size = search in
     let at-start : tie.Start = search in
-    let e : to_z w32 (of_z w32 at-start.args.offset) ≡ at-start.args.offset = to_z-of_z w32 at-start.args.offset at-start.fits.offset in
+    let e : to_z w32 (of_z w32 at-start.args.offset) ≡ at-start.args.offset = to_z-of_z w32 at-start.args.offset at-start.ranges.offset in
     subst (λ (z : ℤ). Tells c (outcome at-start z)) e
     (rw (
       at-size-of.type_size.ensures,
-      at-piece-with-turn.piece-with-turn.ensures,
-      at-turn-or-zero.turn-or-zero.ensures,
-      at-piece-with-turn2.piece-with-turn2.ensures,
-      c.before.before.turn-or-zero2.ensures,
-    ) at c.no-fit-column.ensures)
+      at-piece-with-turn.piece_with_turn.ensures,
+      at-turn-or-zero.turn_or_zero.ensures,
+      at-piece-with-turn2.piece_with_turn-2.ensures,
+      c.before.before.turn_or_zero-2.ensures,
+    ) at c.no_fit_column.ensures)
 
-size-of-requires : tie.Need-size-of-requires
-size-of-requires c κs = tt
+size_of-size-requires : tie.Need-size_of-size-requires
+size_of-size-requires c κs = tt
 
-piece-with-turn-requires : tie.Need-piece-with-turn-requires
-piece-with-turn-requires c κs = tt
+piece_with_turn-requires : tie.Need-piece_with_turn-requires
+piece_with_turn-requires c κs = tt
 
-turn-or-zero-requires : tie.Need-turn-or-zero-requires
-turn-or-zero-requires c κs = tt
+turn_or_zero-requires : tie.Need-turn_or_zero-requires
+turn_or_zero-requires c κs = tt
 
-piece-with-turn-requires-2 : tie.Need-piece-with-turn-requires-2
-piece-with-turn-requires-2 c κs = tt
+piece_with_turn-requires-2 : tie.Need-piece_with_turn-requires-2
+piece_with_turn-requires-2 c κs = tt
 
-turn-or-zero-requires-2 : tie.Need-turn-or-zero-requires-2
-turn-or-zero-requires-2 c κs = tt
+turn_or_zero-requires-2 : tie.Need-turn_or_zero-requires-2
+turn_or_zero-requires-2 c κs = tt
 
-no-fit-column-requires : tie.Need-no-fit-column-requires
-no-fit-column-requires c κs = tt
+no_fit_column-requires : tie.Need-no_fit_column-requires
+no_fit_column-requires c κs = tt
 
-enum-known-found : tie.Need-enum-known-found
-enum-known-found c = c.match.keys1
+enum_known-found : tie.Need-enum_known-found
+enum_known-found c = c.in-Number.keys1
 
 done-requires : tie.Need-done-requires
 done-requires c κs = tt
 
-enum-known-refusal : tie.Need-enum-known-refusal
-enum-known-refusal c = c.match.keys2
+enum_known-refusal : tie.Need-enum_known-refusal
+enum_known-refusal c = c.in-Number.keys2
 
 refused-requires : tie.Need-refused-requires
 refused-requires c κs = tt
 
-same_length : tie.Need-same-length
-same_length c =
-    let at-no-fit-column : tie.After-no-fit-column = search in
-    at-no-fit-column.no-fit-column.kept.1.1.1.1.1.1.1.1.0
+shape_of-runs-in-Number : tie.Need-shape_of-runs-in-Number
+shape_of-runs-in-Number c =
+    let at-no-fit-column : tie.After-no_fit_column = search in
+    at-no-fit-column.no_fit_column.auto.1.1.1.1.1.1.1.1.0
 
-returns : tie.Need-returns
+returns-in-Number : tie.Need-returns-in-Number
 unfolding outcome Tells
-returns c =
-    let at-no-fit-column : tie.After-no-fit-column = search in
+returns-in-Number c =
+    let at-no-fit-column : tie.After-no_fit_column = search in
     let at-start : tie.Start = search in
     let o = outcome (at-start) at-start.args.offset in
     let p = told (at-no-fit-column) in
-    let t = count_told o (sym c.before.before.found.given.1 ∙ p.0) in (
+    let t = count_told o (sym c.before.before.found-1.given.1 ∙ p.0) in (
       c.done.ensures ∙ reply_by (λ rs. length rs) o t,
-      (p.1.0, (leaves_by (λ rs. length rs) (λ n. n) _ o t, λ zero. p.1.1 _ c.before.before.found.given.1)),
+      (p.1.0, (leaves_by (λ rs. length rs) (λ n. n) _ o t, λ zero. p.1.1 _ c.before.before.found-1.given.1)),
     )
 
-same-length-2 : tie.Need-same-length-2
-same-length-2 c =
-    let at-no-fit-column : tie.After-no-fit-column = search in
-    at-no-fit-column.no-fit-column.kept.1.1.1.1.1.1.1.1.0
+shape_of-runs-in-Refused : tie.Need-shape_of-runs-in-Refused
+shape_of-runs-in-Refused c =
+    let at-no-fit-column : tie.After-no_fit_column = search in
+    at-no-fit-column.no_fit_column.auto.1.1.1.1.1.1.1.1.0
 
-returns-2 : tie.Need-returns-2
+returns-in-Refused : tie.Need-returns-in-Refused
 unfolding outcome Tells
-returns-2 c =
-    let at-no-fit-column : tie.After-no-fit-column = search in
+returns-in-Refused c =
+    let at-no-fit-column : tie.After-no_fit_column = search in
     let at-start : tie.Start = search in
     let o = outcome (at-start) at-start.args.offset in
     let p = told (at-no-fit-column) in
-    let t = count_told o (sym c.before.before.refusal.given.1 ∙ p.0) in
+    let t = count_told o (sym c.before.before.refusal-1.given.1 ∙ p.0) in
     let positive = no_fit_numbered Vertical _ _ _ _ _ _ (refusal_told (λ rs. length rs) o _ t) in
     let number = ap (λ (x : Reply). x.number) c.refused.ensures in (
       c.refused.ensures ∙ reply_by (λ rs. length rs) o t,
       (p.1.0, (leaves_by (λ rs. length rs) (λ n. n) _ o t, λ zero. absurd (omega (arith, positive, number, zero)))),
     )
 
-pub sigbrol-no-fit-column-spec : {M : Type 1} → statement M
-sigbrol-no-fit-column-spec =
+pub sigbrol_no_fit_column_spec : {M : Type 1} → statement M
+sigbrol_no_fit_column_spec =
     tie.close
     (tie.spec
-    size-of-requires
-    piece-with-turn-requires
-    turn-or-zero-requires
-    piece-with-turn-requires-2
-    turn-or-zero-requires-2
-    no-fit-column-requires
-    enum-known-found
-    done-requires
-    enum-known-refusal
-    refused-requires
-    same_length
-    returns
-    same-length-2
-    returns-2)
+    size_of-size-requires piece_with_turn-requires turn_or_zero-requires piece_with_turn-requires-2 turn_or_zero-requires-2 no_fit_column-requires
+    enum_known-found done-requires enum_known-refusal refused-requires shape_of-runs-in-Number returns-in-Number shape_of-runs-in-Refused
+    returns-in-Refused)

@@ -1,5 +1,5 @@
 -- `sigbrol::pairs_of::sigbrol_penalty` meets its contract by what the answer tells. Assumes nothing.
-use Rattle.list_laws.proofs.Kit.{◌∙◌, ◌≡◌, sym, ℕ, needs}
+use Rattle.list_laws.proofs.Kit.{◌∙◌, ◌≡◌, sym, ℕ, rules}
 use Rattle.model.specs.Answers.{number_answer}
 use Rattle.model.specs.Refusal.{Outcome}
 use Rattle.model.specs.Calls.{penalty_call}
@@ -17,57 +17,50 @@ answered : (c : tie.After-penalty) →
     let at-start : tie.Start = search in
     c.penalty.result ≡ number_answer (outcome (at-start))
 unfolding outcome
-answered c = rw c.before.type_size.ensures at c.penalty.ensures.0
+answered c = rw c.before.type_size.ensures at c.penalty.ensures.answer
 
-size-of-requires : tie.Need-size-of-requires
-size-of-requires c κs = tt
+size_of-requires : tie.Need-size_of-requires
+size_of-requires c κs = tt
 
 penalty-requires : tie.Need-penalty-requires
 penalty-requires c κs = tt
 
-enum-known-amount : tie.Need-enum-known-amount
-enum-known-amount c = c.match.keys1
+enum_known-amount : tie.Need-enum_known-amount
+enum_known-amount c = c.in-Number.keys1
 
-cast-penalty : tie.Need-overflow-cast-penalty
-cast-penalty c = let called : tie.After-penalty = search in let small = called.penalty.ensures.1 _ c.before.amount.given.1 in search needs
+overflow_cast-penalty : tie.Need-overflow_cast-penalty
+overflow_cast-penalty c = let called : tie.After-penalty = search in let small = called.penalty.ensures.small _ c.before.amount-1.given.1 in search rules
 
 done-requires : tie.Need-done-requires
 done-requires c κs = tt
 
-enum-known-refusal : tie.Need-enum-known-refusal
-enum-known-refusal c = c.match.keys2
+enum_known-refusal : tie.Need-enum_known-refusal
+enum_known-refusal c = c.in-Number.keys2
 
 refused-requires : tie.Need-refused-requires
 refused-requires c κs = tt
 
-returns : tie.Need-returns
+returns-in-Number : tie.Need-returns-in-Number
 unfolding outcome
-returns c =
+returns-in-Number c =
     let at-penalty : tie.After-penalty = search in
     let at-start : tie.Start = search in
     let o = outcome (at-start) in
-    let t = number_told_lem o (sym c.before.before.amount.given.1 ∙ answered (at-penalty)) in
+    let t = number_told_lem o (sym c.before.before.amount-1.given.1 ∙ answered (at-penalty)) in
     (c.done.ensures ∙ reply_by (λ a. a) o t, leaves_by (λ a. a) (λ a. a) _ o t)
 
-returns-2 : tie.Need-returns-2
+returns-in-Refused : tie.Need-returns-in-Refused
 unfolding outcome
-returns-2 c =
+returns-in-Refused c =
     let at-penalty : tie.After-penalty = search in
     let at-start : tie.Start = search in
     let o = outcome (at-start) in
-    let t = number_told_lem o (sym c.before.before.refusal.given.1 ∙ answered (at-penalty)) in
+    let t = number_told_lem o (sym c.before.before.refusal-1.given.1 ∙ answered (at-penalty)) in
     (c.refused.ensures ∙ reply_by (λ a. a) o t, leaves_by (λ a. a) (λ a. a) _ o t)
 
-pub sigbrol-penalty-spec : {M : Type 1} → statement M
-sigbrol-penalty-spec =
+pub sigbrol_penalty_spec : {M : Type 1} → statement M
+sigbrol_penalty_spec =
     tie.close
     (tie.spec
-    size-of-requires
-    penalty-requires
-    enum-known-amount
-    cast-penalty
-    done-requires
-    enum-known-refusal
-    refused-requires
-    returns
-    returns-2)
+    size_of-requires penalty-requires enum_known-amount overflow_cast-penalty done-requires enum_known-refusal refused-requires returns-in-Number
+    returns-in-Refused)

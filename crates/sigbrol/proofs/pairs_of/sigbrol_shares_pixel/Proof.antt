@@ -14,62 +14,55 @@ outcome : tie.Start → Outcome Bool
 outcome s = let a = s.args in share_call (lent_as a.rows a.columns a.count a.gap a.table.now a.pixels.now) a.layout.now a.i a.k
 
 -- its answer tells that outcome
-answered : (c : tie.After-shares-pixel) →
+answered : (c : tie.After-shares_pixel) →
     let at-start : tie.Start = search in
-    c.shares-pixel.result ≡ share_answer (outcome (at-start))
+    c.shares_pixel.result ≡ share_answer (outcome (at-start))
 unfolding outcome
-answered c = rw c.before.type_size.ensures at c.shares-pixel.ensures
+answered c = rw c.before.type_size.ensures at c.shares_pixel.ensures
 
-size-of-requires : tie.Need-size-of-requires
-size-of-requires c κs = tt
+size_of-requires : tie.Need-size_of-requires
+size_of-requires c κs = tt
 
-shares-pixel-requires : tie.Need-shares-pixel-requires
-shares-pixel-requires c κs = tt
+shares_pixel-requires : tie.Need-shares_pixel-requires
+shares_pixel-requires c κs = tt
 
-enum-known-yes : tie.Need-enum-known-yes
-enum-known-yes c = c.match.keys1
+enum_known-yes : tie.Need-enum_known-yes
+enum_known-yes c = c.in-Shares.keys1
 
-bit-of-requires : tie.Need-bit-of-requires
-bit-of-requires c κs = tt
+bit_of-requires : tie.Need-bit_of-requires
+bit_of-requires c κs = tt
 
 done-requires : tie.Need-done-requires
 done-requires c κs = tt
 
-enum-known-refusal : tie.Need-enum-known-refusal
-enum-known-refusal c = c.match.keys2
+enum_known-refusal : tie.Need-enum_known-refusal
+enum_known-refusal c = c.in-Shares.keys2
 
 refused-requires : tie.Need-refused-requires
 refused-requires c κs = tt
 
-returns : tie.Need-returns
+returns-in-Shares : tie.Need-returns-in-Shares
 unfolding outcome
-returns c =
-    let at-yes : tie.After-yes = search in
-    let at-shares-pixel : tie.After-shares-pixel = search in
+returns-in-Shares c =
+    let at-yes : tie.In-Shares-2 = search in
+    let at-shares-pixel : tie.After-shares_pixel = search in
     let at-start : tie.Start = search in
     let o = outcome (at-start) in
-    let t = share_told_lem o (sym at-yes.yes.given.1 ∙ answered (at-shares-pixel)) in
-    (c.done.ensures ∙ reply_by (λ a. a) o t, c.before.bit-of.ensures ∙ leaves_by (λ a. a) (λ a. one_if a) _ o t)
+    let t = share_told_lem o (sym at-yes.yes-1.given.1 ∙ answered (at-shares-pixel)) in
+    (c.done.ensures ∙ reply_by (λ a. a) o t, c.before.bit_of.ensures ∙ leaves_by (λ a. a) (λ a. one_if a) _ o t)
 
-returns-2 : tie.Need-returns-2
+returns-in-Refused : tie.Need-returns-in-Refused
 unfolding outcome
-returns-2 c =
-    let at-shares-pixel : tie.After-shares-pixel = search in
+returns-in-Refused c =
+    let at-shares-pixel : tie.After-shares_pixel = search in
     let at-start : tie.Start = search in
     let o = outcome (at-start) in
-    let t = share_told_lem o (sym c.before.before.refusal.given.1 ∙ answered (at-shares-pixel)) in
+    let t = share_told_lem o (sym c.before.before.refusal-1.given.1 ∙ answered (at-shares-pixel)) in
     (c.refused.ensures ∙ reply_by (λ a. a) o t, leaves_by (λ a. a) (λ a. one_if a) _ o t)
 
-pub sigbrol-shares-pixel-spec : {M : Type 1} → statement M
-sigbrol-shares-pixel-spec =
+pub sigbrol_shares_pixel_spec : {M : Type 1} → statement M
+sigbrol_shares_pixel_spec =
     tie.close
     (tie.spec
-    size-of-requires
-    shares-pixel-requires
-    enum-known-yes
-    bit-of-requires
-    done-requires
-    enum-known-refusal
-    refused-requires
-    returns
-    returns-2)
+    size_of-requires shares_pixel-requires enum_known-yes bit_of-requires done-requires enum_known-refusal refused-requires returns-in-Shares
+    returns-in-Refused)

@@ -1,6 +1,6 @@
 -- `sigbrol::runs::sigbrol_descent` meets its contract by what the answer tells; demand 3 is what the inner call says of the
 -- descent, by the numbers that tell it. Assumes nothing.
-use Rattle.list_laws.proofs.Kit.{◌∙◌, ◌≡◌, ap, sym, arith, needs}
+use Rattle.list_laws.proofs.Kit.{◌∙◌, ◌≡◌, ap, sym, arith, rules}
 use Rattle.model.specs.Descent.{Descent}
 use Rattle.model.specs.Refusal.{Outcome}
 use Rattle.model.specs.Calls.{descent_call}
@@ -16,61 +16,61 @@ use Rattle.sigbrol.proofs.runs.sigbrol_descent.Tie as tie
 -- the outcome of the call
 outcome : tie.Start → Outcome Descent
 outcome s = let a = s.args in
-    descent_call (lent_as a.rows a.columns a.count a.gap a.table.now a.pixels.now) a.layout.now a.weights.now a.budget
+    descent_call (lent_as a.rows a.columns a.count a.gap a.table.now a.pixels.now) a.layout-1.now a.weights.now a.budget
 
 -- its answer tells that outcome
 answered : (c : tie.After-descent) →
     let at-start : tie.Start = search in
     c.descent.result ≡ descent_answer (outcome (at-start))
 unfolding outcome
-answered c = let sized : tie.After-size-of = search in rw sized.type_size.ensures at c.descent.ensures.0
+answered c = let sized : tie.After-size_of = search in rw sized.type_size.ensures at c.descent.ensures.answer
 
-size-of-requires : tie.Need-size-of-requires
-size-of-requires c κs = tt
+size_of-requires : tie.Need-size_of-requires
+size_of-requires c κs = tt
 
 descent-requires : tie.Need-descent-requires
 descent-requires c κs = tt
 
-enum-known-ended : tie.Need-enum-known-ended
-enum-known-ended c = c.match.keys1
+enum_known-ended : tie.Need-enum_known-ended
+enum_known-ended c = c.in-Ended.keys1
 
-end-number-requires : tie.Need-end-number-requires
-end-number-requires c κs = tt
+end_number-requires : tie.Need-end_number-requires
+end_number-requires c κs = tt
 
-put-run-requires : tie.Need-put-run-requires
-put-run-requires c κs = tt
+put_run-requires : tie.Need-put_run-requires
+put_run-requires c κs = tt
 
 done-requires : tie.Need-done-requires
 done-requires c κs = tt
 
-enum-known-refusal : tie.Need-enum-known-refusal
-enum-known-refusal c = c.match.keys2
+enum_known-refusal : tie.Need-enum_known-refusal
+enum_known-refusal c = c.in-Ended.keys2
 
 refused-requires : tie.Need-refused-requires
 refused-requires c κs = tt
 
-same_length : tie.Need-same-length
-same_length c = let called : tie.After-descent = search in called.descent.kept.1.1.1.0
+shape_of-layout-in-Ended : tie.Need-shape_of-layout-in-Ended
+shape_of-layout-in-Ended c = let called : tie.After-descent = search in called.descent.auto.1.1.1.0
 
-returns : tie.Need-returns
+returns-in-Ended : tie.Need-returns-in-Ended
 unfolding outcome
-returns c =
-    let put : tie.After-put-run = search in
-    let number : tie.After-end-number = search in
-    let how : tie.After-ended = search in
+returns-in-Ended c =
+    let put : tie.After-put_run = search in
+    let number : tie.After-end_number = search in
+    let how : tie.In-Ended-2 = search in
     let called : tie.After-descent = search in
-    let sized : tie.After-size-of = search in
+    let sized : tie.After-size_of = search in
     let s : tie.Start = search in
     let o = outcome s in
-    let t = ended_told_lem o (sym how.ended.given.1 ∙ answered called) in
-    let numbers = put.put-run.ensures in (
+    let t = ended_told_lem o (sym how.ended-1.given.1 ∙ answered called) in
+    let numbers = put.put_run.ensures in (
       c.done.ensures ∙ reply_by ended_of o t,
       (
-        rw sized.type_size.ensures at called.descent.ensures.1.0,
+        rw sized.type_size.ensures at called.descent.ensures.memory.0,
         (
-          rw sized.type_size.ensures at called.descent.ensures.1.1.0,
+          rw sized.type_size.ensures at called.descent.ensures.memory.1.0,
           (
-            number.end-number.ensures ∙ leaves_by ended_of (λ e. end_number e.end) _ o t,
+            number.end_number.ensures ∙ leaves_by ended_of (λ e. end_number e.end) _ o t,
             (
               numbers.0 ∙ leaves_by ended_of (λ e. e.sum) _ o t,
               (
@@ -79,8 +79,8 @@ returns c =
                   numbers.1.1 ∙ leaves_by ended_of (λ e. e.moves) _ o t,
                   λ zero.
                       rw (numbers.0, numbers.1.0, numbers.1.1)
-                      (descent_claimed _ _ _ _ _ _ _ number.end-number.ensures
-                      (rw sized.type_size.ensures at (called.descent.ensures.1.1.1 _ how.ended.given.1))),
+                      (descent_claimed _ _ _ _ _ _ _ number.end_number.ensures
+                      (rw sized.type_size.ensures at (called.descent.ensures.memory.1.1 _ how.ended-1.given.1))),
                 ),
               ),
             ),
@@ -89,29 +89,29 @@ returns c =
       ),
     )
 
-same-length-3 : tie.Need-same-length-3
-same-length-3 c =
+shape_of-layout-in-Refused : tie.Need-shape_of-layout-in-Refused
+shape_of-layout-in-Refused c =
     let at-descent : tie.After-descent = search in
-    at-descent.descent.kept.1.1.1.0
+    at-descent.descent.auto.1.1.1.0
 
-returns-2 : tie.Need-returns-2
+returns-in-Refused : tie.Need-returns-in-Refused
 unfolding outcome
-returns-2 c =
+returns-in-Refused c =
     let at-descent : tie.After-descent = search in
-    let at-size-of : tie.After-size-of = search in
+    let at-size-of : tie.After-size_of = search in
     let at-start : tie.Start = search in
     let o = outcome (at-start) in
-    let t = ended_told_lem o (sym c.before.before.refusal.given.1 ∙ answered (at-descent)) in
+    let t = ended_told_lem o (sym c.before.before.refusal-1.given.1 ∙ answered (at-descent)) in
     let a = at-start.args in
     let positive =
-    descent_numbered (lent_as a.rows a.columns a.count a.gap a.table.now a.pixels.now) a.layout.now a.weights.now a.budget _
+    descent_numbered (lent_as a.rows a.columns a.count a.gap a.table.now a.pixels.now) a.layout-1.now a.weights.now a.budget _
     (refusal_told ended_of o _ t) in
     let number = ap (λ (x : Reply). x.number) c.refused.ensures in (
       c.refused.ensures ∙ reply_by ended_of o t,
       (
-        rw at-size-of.type_size.ensures at at-descent.descent.ensures.1.0,
+        rw at-size-of.type_size.ensures at at-descent.descent.ensures.memory.0,
         (
-          rw at-size-of.type_size.ensures at at-descent.descent.ensures.1.1.0,
+          rw at-size-of.type_size.ensures at at-descent.descent.ensures.memory.1.0,
           (
             leaves_by ended_of (λ e. end_number e.end) _ o t,
             (
@@ -123,8 +123,9 @@ returns-2 c =
       ),
     )
 
-pub sigbrol-descent-spec : {M : Type 1} → statement M
-sigbrol-descent-spec =
+pub sigbrol_descent_spec : {M : Type 1} → statement M
+sigbrol_descent_spec =
     tie.close (tie.spec
-    size-of-requires descent-requires enum-known-ended end-number-requires (search needs) (search needs) put-run-requires done-requires
-    enum-known-refusal refused-requires same_length (search needs) returns same-length-3 (search needs) returns-2)
+    size_of-requires descent-requires enum_known-ended end_number-requires (search rules) (search rules) put_run-requires done-requires
+    enum_known-refusal refused-requires shape_of-layout-in-Ended (search rules) returns-in-Ended shape_of-layout-in-Refused (search rules)
+    returns-in-Refused)

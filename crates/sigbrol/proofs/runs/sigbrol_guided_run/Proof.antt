@@ -1,6 +1,6 @@
 -- `sigbrol::runs::sigbrol_guided_run` meets its contract by what the answer tells; demand 3 is what the inner call says of the
 -- run, by the numbers that tell it. Assumes nothing.
-use Rattle.list_laws.proofs.Kit.{◌∙◌, ◌≡◌, ap, sym, arith, needs}
+use Rattle.list_laws.proofs.Kit.{◌∙◌, ◌≡◌, ap, sym, arith, rules}
 use Rattle.model.specs.Guided.{Guided}
 use Rattle.model.specs.Refusal.{Outcome}
 use Rattle.model.specs.Calls.{guided_call}
@@ -15,62 +15,62 @@ use Rattle.sigbrol.proofs.runs.sigbrol_guided_run.Tie as tie
 -- the outcome of the call
 outcome : tie.Start → Outcome Guided
 outcome s = let a = s.args in
-    guided_call (lent_as a.rows a.columns a.count a.gap a.table.now a.pixels.now) a.layout.now a.weights.now a.rounds a.budget
+    guided_call (lent_as a.rows a.columns a.count a.gap a.table.now a.pixels.now) a.layout-1.now a.weights-1.now a.rounds a.budget
 
 -- its answer tells that outcome
-answered : (c : tie.After-guided-run) →
+answered : (c : tie.After-guided_run) →
     let at-start : tie.Start = search in
-    c.guided-run.result ≡ guided_answer (outcome (at-start))
+    c.guided_run.result ≡ guided_answer (outcome (at-start))
 unfolding outcome
 answered c =
-    let at-size-of : tie.After-size-of = search in
-    rw at-size-of.type_size.ensures at c.guided-run.ensures.0
+    let at-size-of : tie.After-size_of-size = search in
+    rw at-size-of.type_size.ensures at c.guided_run.ensures.answer
 
-size-of-requires : tie.Need-size-of-requires
-size-of-requires c κs = tt
+size_of-size-requires : tie.Need-size_of-size-requires
+size_of-size-requires c κs = tt
 
-guided-run-requires : tie.Need-guided-run-requires
-guided-run-requires c κs = tt
+guided_run-requires : tie.Need-guided_run-requires
+guided_run-requires c κs = tt
 
-enum-known-run : tie.Need-enum-known-run
-enum-known-run c = c.match.keys1
+enum_known-run : tie.Need-enum_known-run
+enum_known-run c = c.in-Ran.keys1
 
-put-run-requires : tie.Need-put-run-requires
-put-run-requires c κs = tt
+put_run-requires : tie.Need-put_run-requires
+put_run-requires c κs = tt
 
 done-requires : tie.Need-done-requires
 done-requires c κs = tt
 
-enum-known-refusal : tie.Need-enum-known-refusal
-enum-known-refusal c = c.match.keys2
+enum_known-refusal : tie.Need-enum_known-refusal
+enum_known-refusal c = c.in-Ran.keys2
 
 refused-requires : tie.Need-refused-requires
 refused-requires c κs = tt
 
-same_length : tie.Need-same-length
-same_length c = let called : tie.After-guided-run = search in called.guided-run.kept.1.1.1.0
+shape_of-layout-in-Ran : tie.Need-shape_of-layout-in-Ran
+shape_of-layout-in-Ran c = let called : tie.After-guided_run = search in called.guided_run.auto.1.1.1.0
 
-same-length-2 : tie.Need-same-length-2
-same-length-2 c = let called : tie.After-guided-run = search in called.guided-run.kept.1.1.1.1.0
+shape_of-weights-in-Ran : tie.Need-shape_of-weights-in-Ran
+shape_of-weights-in-Ran c = let called : tie.After-guided_run = search in called.guided_run.auto.1.1.1.1.0
 
-returns : tie.Need-returns
+returns-in-Ran : tie.Need-returns-in-Ran
 unfolding outcome
-returns c =
-    let put : tie.After-put-run = search in
-    let how : tie.After-run = search in
-    let called : tie.After-guided-run = search in
-    let sized : tie.After-size-of = search in
+returns-in-Ran c =
+    let put : tie.After-put_run = search in
+    let how : tie.In-Ran-2 = search in
+    let called : tie.After-guided_run = search in
+    let sized : tie.After-size_of-size = search in
     let s : tie.Start = search in
     let o = outcome s in
-    let t = ran_told_lem o (sym how.run.given.1 ∙ answered called) in
-    let numbers = put.put-run.ensures in (
+    let t = ran_told_lem o (sym how.run-1.given.1 ∙ answered called) in
+    let numbers = put.put_run.ensures in (
       c.done.ensures ∙ reply_by told_run o t,
       (
-        rw sized.type_size.ensures at called.guided-run.ensures.1.0,
+        rw sized.type_size.ensures at called.guided_run.ensures.layout.0,
         (
-          rw sized.type_size.ensures at called.guided-run.ensures.1.1.0,
+          rw sized.type_size.ensures at called.guided_run.ensures.layout.1.0,
           (
-            rw sized.type_size.ensures at called.guided-run.ensures.1.1.1.0,
+            rw sized.type_size.ensures at called.guided_run.ensures.layout.1.1.0,
             (
               numbers.0 ∙ leaves_by told_run (λ r. r.sum) _ o t,
               (
@@ -79,7 +79,7 @@ returns c =
                   numbers.1.1 ∙ leaves_by told_run (λ r. r.moves) _ o t,
                   λ zero.
                       rw (numbers.0, numbers.1.0, numbers.1.1)
-                      (rw sized.type_size.ensures at (called.guided-run.ensures.1.1.1.1 _ how.run.given.1)),
+                      (rw sized.type_size.ensures at (called.guided_run.ensures.layout.1.1.1 _ how.run-1.given.1)),
                 ),
               ),
             ),
@@ -88,36 +88,36 @@ returns c =
       ),
     )
 
-same-length-4 : tie.Need-same-length-4
-same-length-4 c =
-    let at-guided-run : tie.After-guided-run = search in
-    at-guided-run.guided-run.kept.1.1.1.0
+shape_of-layout-in-Refused : tie.Need-shape_of-layout-in-Refused
+shape_of-layout-in-Refused c =
+    let at-guided-run : tie.After-guided_run = search in
+    at-guided-run.guided_run.auto.1.1.1.0
 
-same-length-5 : tie.Need-same-length-5
-same-length-5 c =
-    let at-guided-run : tie.After-guided-run = search in
-    at-guided-run.guided-run.kept.1.1.1.1.0
+shape_of-weights-in-Refused : tie.Need-shape_of-weights-in-Refused
+shape_of-weights-in-Refused c =
+    let at-guided-run : tie.After-guided_run = search in
+    at-guided-run.guided_run.auto.1.1.1.1.0
 
-returns-2 : tie.Need-returns-2
+returns-in-Refused : tie.Need-returns-in-Refused
 unfolding outcome
-returns-2 c =
-    let at-guided-run : tie.After-guided-run = search in
-    let at-size-of : tie.After-size-of = search in
+returns-in-Refused c =
+    let at-guided-run : tie.After-guided_run = search in
+    let at-size-of : tie.After-size_of-size = search in
     let at-start : tie.Start = search in
     let o = outcome (at-start) in
-    let t = ran_told_lem o (sym c.before.before.refusal.given.1 ∙ answered (at-guided-run)) in
+    let t = ran_told_lem o (sym c.before.before.refusal-1.given.1 ∙ answered (at-guided-run)) in
     let a = at-start.args in
     let positive =
-    guided_numbered (lent_as a.rows a.columns a.count a.gap a.table.now a.pixels.now) a.layout.now a.weights.now a.rounds
+    guided_numbered (lent_as a.rows a.columns a.count a.gap a.table.now a.pixels.now) a.layout-1.now a.weights-1.now a.rounds
     a.budget _ (refusal_told told_run o _ t) in
     let number = ap (λ (x : Reply). x.number) c.refused.ensures in (
       c.refused.ensures ∙ reply_by told_run o t,
       (
-        rw at-size-of.type_size.ensures at at-guided-run.guided-run.ensures.1.0,
+        rw at-size-of.type_size.ensures at at-guided-run.guided_run.ensures.layout.0,
         (
-          rw at-size-of.type_size.ensures at at-guided-run.guided-run.ensures.1.1.0,
+          rw at-size-of.type_size.ensures at at-guided-run.guided_run.ensures.layout.1.0,
           (
-            rw at-size-of.type_size.ensures at at-guided-run.guided-run.ensures.1.1.1.0,
+            rw at-size-of.type_size.ensures at at-guided-run.guided_run.ensures.layout.1.1.0,
             (
               leaves_by told_run (λ r. r.sum) _ o t,
               (leaves_by told_run (λ r. r.made) _ o t, (leaves_by told_run (λ r. r.moves) _ o t, λ zero. absurd (omega (arith, positive, number, zero)))),
@@ -127,22 +127,9 @@ returns-2 c =
       ),
     )
 
-pub sigbrol-guided-run-spec : {M : Type 1} → statement M
-sigbrol-guided-run-spec =
+pub sigbrol_guided_run_spec : {M : Type 1} → statement M
+sigbrol_guided_run_spec =
     tie.close
     (tie.spec
-    size-of-requires
-    guided-run-requires
-    enum-known-run
-    put-run-requires
-    done-requires
-    enum-known-refusal
-    refused-requires
-    same_length
-    same-length-2
-    (search needs)
-    returns
-    same-length-4
-    same-length-5
-    (search needs)
-    returns-2)
+    size_of-size-requires guided_run-requires enum_known-run put_run-requires done-requires enum_known-refusal refused-requires shape_of-layout-in-Ran
+    shape_of-weights-in-Ran (search rules) returns-in-Ran shape_of-layout-in-Refused shape_of-weights-in-Refused (search rules) returns-in-Refused)

@@ -22,81 +22,71 @@ line : tie.Start → Line
 line s = line_of s.args.vertical s.args.held
 
 -- its answer tells that outcome
-answered : (c : tie.After-line-search)
+answered : (c : tie.After-line_search)
     →
     let at-start : tie.Start = search in
-    c.line-search.result ≡ search_answer (line (at-start)) (outcome (at-start))
+    c.line_search.result ≡ search_answer (line (at-start)) (outcome (at-start))
 unfolding outcome line
 answered c =
-    let at-piece-with-turn : tie.After-piece-with-turn = search in
-    let at-size-of : tie.After-size-of = search in
-    rw (at-size-of.type_size.ensures, at-piece-with-turn.piece-with-turn.ensures, c.before.before.turn-or-zero.ensures, c.before.Line-of.ensures) at
-    c.line-search.ensures
+    let at-piece-with-turn : tie.After-piece_with_turn = search in
+    let at-size-of : tie.After-size_of-size = search in
+    rw (at-size-of.type_size.ensures, at-piece-with-turn.piece_with_turn.ensures, c.before.before.turn_or_zero.ensures, c.before.Line-of.ensures) at
+    c.line_search.ensures
 
-size-of-requires : tie.Need-size-of-requires
-size-of-requires c κs = tt
+size_of-size-requires : tie.Need-size_of-size-requires
+size_of-size-requires c κs = tt
 
-piece-with-turn-requires : tie.Need-piece-with-turn-requires
-piece-with-turn-requires c κs = tt
+piece_with_turn-requires : tie.Need-piece_with_turn-requires
+piece_with_turn-requires c κs = tt
 
-turn-or-zero-requires : tie.Need-turn-or-zero-requires
-turn-or-zero-requires c κs = tt
+turn_or_zero-requires : tie.Need-turn_or_zero-requires
+turn_or_zero-requires c κs = tt
 
-line-of-requires : tie.Need-line-of-requires
-line-of-requires c κs = tt
+line_of-requires : tie.Need-line_of-requires
+line_of-requires c κs = tt
 
-line-search-requires : tie.Need-line-search-requires
-line-search-requires c κs = tt
+line_search-requires : tie.Need-line_search-requires
+line_search-requires c κs = tt
 
-enum-known-least : tie.Need-enum-known-least
-enum-known-least c = c.match.keys1
+enum_known-least : tie.Need-enum_known-least
+enum_known-least c = c.in-Best.keys1
 
-coordinate-number-requires : tie.Need-coordinate-number-requires
-coordinate-number-requires c κs = tt
+coordinate_number-requires : tie.Need-coordinate_number-requires
+coordinate_number-requires c κs = tt
 
 done-requires : tie.Need-done-requires
 done-requires c κs = tt
 
-enum-known-refusal : tie.Need-enum-known-refusal
-enum-known-refusal c = c.match.keys2
+enum_known-refusal : tie.Need-enum_known-refusal
+enum_known-refusal c = c.in-Best.keys2
 
 refused-requires : tie.Need-refused-requires
 refused-requires c κs = tt
 
-returns : tie.Need-returns
+returns-in-Best : tie.Need-returns-in-Best
 unfolding outcome line
-returns c =
-    let at_least : tie.After-least = search in
-    let at-line-search : tie.After-line-search = search in
+returns-in-Best c =
+    let at_least : tie.In-Best-2 = search in
+    let at-line-search : tie.After-line_search = search in
     let at-start : tie.Start = search in
     let o = outcome at-start in
-    let t = best_told_lem (line at-start) o (sym at_least.least.given.1 ∙ answered (at-line-search)) in (
+    let t = best_told_lem (line at-start) o (sym at_least.least-1.given.1 ∙ answered (at-line-search)) in (
       c.done.ensures ∙ reply_by (λ b. b) o t,
-      (leaves_by (λ b. b) (λ b. b.sum) _ o t, c.before.coordinate-number.ensures ∙ leaves_by (λ b. b) (λ b. b.at) _ o t),
+      (leaves_by (λ b. b) (λ b. b.sum) _ o t, c.before.coordinate_number.ensures ∙ leaves_by (λ b. b) (λ b. b.at) _ o t),
     )
 
-returns-2 : tie.Need-returns-2
+returns-in-Refused : tie.Need-returns-in-Refused
 unfolding outcome line
-returns-2 c =
-    let at-line-search : tie.After-line-search = search in
+returns-in-Refused c =
+    let at-line-search : tie.After-line_search = search in
     let at-start : tie.Start = search in
     let o = outcome at-start in
-    let t = best_told_lem (line at-start) o (sym c.before.before.refusal.given.1 ∙ answered (at-line-search)) in
+    let t = best_told_lem (line at-start) o (sym c.before.before.refusal-1.given.1 ∙ answered (at-line-search)) in
     (c.refused.ensures ∙ reply_by (λ b. b) o t, (leaves_by (λ b. b) (λ b. b.sum) _ o t, leaves_by (λ b. b) (λ b. b.at) _ o t))
 
-pub sigbrol-line-search-spec : {M : Type 1} → statement M
-sigbrol-line-search-spec =
+pub sigbrol_line_search_spec : {M : Type 1} → statement M
+sigbrol_line_search_spec =
     tie.close
     (tie.spec
-    size-of-requires
-    piece-with-turn-requires
-    turn-or-zero-requires
-    line-of-requires
-    line-search-requires
-    enum-known-least
-    coordinate-number-requires
-    done-requires
-    enum-known-refusal
-    refused-requires
-    returns
-    returns-2)
+    size_of-size-requires piece_with_turn-requires turn_or_zero-requires line_of-requires line_search-requires enum_known-least
+    coordinate_number-requires done-requires enum_known-refusal refused-requires returns-in-Best returns-in-Refused)

@@ -1,5 +1,5 @@
 -- `sigbrol_lay` meets its contract by what `lay` answers on the record that the buffer holds. Assumes nothing.
-use Rattle.list_laws.proofs.Kit.{◌∙◌, ◌≡◌, needs}
+use Rattle.list_laws.proofs.Kit.{◌∙◌, ◌≡◌, rules}
 use Rattle.model.specs.Buffer.{placement}
 use Rattle.model.specs.Refusal.{Outcome}
 use Rattle.model.specs.Calls.{lay_call, counts_after}
@@ -13,60 +13,60 @@ use Rattle.sigbrol.proofs.sheet.sigbrol_lay.Statement.{statement}
 use Rattle.sigbrol.proofs.sheet.sigbrol_lay.Tie as tie
 
 -- what the call comes to
-abbrev outcome : tie.After-lay → Outcome Sheet
+abbrev outcome : tie.After-lay-answer → Outcome Sheet
 outcome c =
     let at-start : tie.Start = search in
     let a = at-start.args in
-    lay_call (lent_as a.rows a.columns a.count a.gap a.table.now a.pixels.now) (sheet_of (record_in a.entries.now) a.counts.now)
+    lay_call (lent_as a.rows a.columns a.count a.gap a.table.now a.pixels.now) (sheet_of (record_in a.entries.now) a.counts-1.now)
     (piece_with_turn a.turn a.piece) (placement a.turn a.x a.y)
 
 -- what `lay` answers
-answered : (c : tie.After-lay) →
+answered : (c : tie.After-lay-answer) →
     let at-start : tie.Start = search in
-    c.lay.result ≡ sheet_answer (record_in at-start.args.entries.now) (outcome c)
+    c.lay-answer.result ≡ sheet_answer (record_in at-start.args.entries.now) (outcome c)
 answered c =
-    let at-read-record : tie.After-read-record = search in
-    let at-size-of : tie.After-size-of = search in
+    let at-read-record : tie.After-read_record = search in
+    let at-size-of : tie.After-size_of = search in
     rw (
       at-size-of.type_size.ensures,
-      at-read-record.read-record.ensures,
-      c.before.before.piece-with-turn.ensures,
-      c.before.placement-of.ensures,
-    ) at c.lay.ensures.0
+      at-read-record.read_record.ensures,
+      c.before.before.piece_with_turn.ensures,
+      c.before.placement_of.ensures,
+    ) at c.lay-answer.ensures.value
 
 -- what it leaves in the count buffer
-counted : (c : tie.After-lay) →
+counted : (c : tie.After-lay-answer) →
     let at-start : tie.Start = search in
-    c.lay.new.1.1.1.1.0 ≡ counts_after at-start.args.counts.now (outcome c)
+    c.lay-answer.new.1.1.1.1.0 ≡ counts_after at-start.args.counts.now (outcome c)
 counted c =
-    let at-read-record : tie.After-read-record = search in
-    let at-size-of : tie.After-size-of = search in
+    let at-read-record : tie.After-read_record = search in
+    let at-size-of : tie.After-size_of = search in
     rw (
       at-size-of.type_size.ensures,
-      at-read-record.read-record.ensures,
-      c.before.before.piece-with-turn.ensures,
-      c.before.placement-of.ensures,
-    ) at c.lay.ensures.1
+      at-read-record.read_record.ensures,
+      c.before.before.piece_with_turn.ensures,
+      c.before.placement_of.ensures,
+    ) at c.lay-answer.ensures.counts_after
 
-returns : tie.Need-returns
-returns c =
-    let at-enum-told : tie.After-enum-told = search in
-    let at-lay : tie.After-lay = search in
-    let at-shared-slice-known : tie.After-shared-slice-known = search in
-    let t = taken_up (record_in at-shared-slice-known.before.args.entries.now) (outcome at-lay) at-lay.lay.result
-    at-shared-slice-known.before.args.entries.now (answered at-lay) at-enum-told.enum_told.given.1 in
-    (c.done.ensures ∙ t.0, (c.before.write-record.ensures ∙ t.1, counted at-lay))
+returns-in-Done : tie.Need-returns-in-Done
+returns-in-Done c =
+    let at-enum-told : tie.In-Done = search in
+    let at-lay : tie.After-lay-answer = search in
+    let at-shared-slice-known : tie.After-shared_slice_known-1 = search in
+    let t = taken_up (record_in at-shared-slice-known.before.args.entries.now) (outcome at-lay) at-lay.lay-answer.result
+    at-shared-slice-known.before.args.entries.now (answered at-lay) at-enum-told.enum_told-1.given.1 in
+    (c.done.ensures ∙ t.0, (c.before.write_record.ensures ∙ t.1, counted at-lay))
 
-returns-2 : tie.Need-returns-2
-returns-2 c =
-    let at-lay : tie.After-lay = search in
+returns-in-Refused : tie.Need-returns-in-Refused
+returns-in-Refused c =
+    let at-lay : tie.After-lay-answer = search in
     let at-start : tie.Start = search in
-    let t = turned_down (record_in at-start.args.entries.now) (outcome at-lay) at-lay.lay.result at-start.args.entries.now _ (answered at-lay)
-    c.before.before.reply.given.1 in
+    let t = turned_down (record_in at-start.args.entries.now) (outcome at-lay) at-lay.lay-answer.result at-start.args.entries.now _ (answered at-lay)
+    c.before.before.reply-1.given.1 in
     (c.refused.ensures ∙ t.0, (t.1, counted at-lay))
 
-pub sigbrol-lay-spec : {M : Type 1} → statement M
-sigbrol-lay-spec =
+pub sigbrol_lay_spec : {M : Type 1} → statement M
+sigbrol_lay_spec =
     tie.close (tie.spec
-    (search needs) (search needs) (search needs) (search needs) (search needs) (search needs) (search needs) (search needs) (search needs)
-    (search needs) (search needs) returns (search needs) returns-2)
+    (search rules) (search rules) (search rules) (search rules) (search rules) (search rules) (search rules) (search rules) (search rules)
+    (search rules) (search rules) returns-in-Done (search rules) returns-in-Refused)

@@ -12,88 +12,80 @@ use Rattle.sigbrol.proofs.strips.sigbrol_rebuild.Tie as tie
 
 -- the outcome of the call
 outcome : tie.Start → Outcome Shape
-outcome s = let a = s.args in rebuild_call (direction_of a.vertical) a.columns a.rows a.strips.now (length a.pixels.now)
+outcome s = let a = s.args in rebuild_call (direction_of a.vertical) a.columns a.rows a.strips.now (length a.pixels-1.now)
 
 -- its answer tells that outcome
 answered : (c : tie.After-rebuild) →
     let at-start : tie.Start = search in
     c.rebuild.result ≡ done_answer (outcome (at-start))
 unfolding outcome
-answered c = rw c.before.before.direction-of.ensures at c.rebuild.ensures.0
+answered c = rw c.before.before.direction_of.ensures at c.rebuild.ensures.answer
 
 -- and so do the pixels
 left : (c : tie.After-rebuild) →
     let at-start : tie.Start = search in
     c.rebuild.new.1.1.1.1.0 ≡ pixels_after at-start.args.pixels.now (outcome (at-start))
 unfolding outcome
-left c = rw c.before.before.direction-of.ensures at c.rebuild.ensures.1.0
+left c = rw c.before.before.direction_of.ensures at c.rebuild.ensures.memory.0
 
 -- the pixels of a set stand in the buffer again
 again : (c : tie.After-rebuild) →
     let at-start : tie.Start = search in
     Again (direction_of at-start.args.vertical) at-start.args.columns at-start.args.rows at-start.args.strips.now at-start.args.pixels.now
     c.rebuild.new.1.1.1.1.0
-again c = rw c.before.before.direction-of.ensures at c.rebuild.ensures.1.1
+again c = rw c.before.before.direction_of.ensures at c.rebuild.ensures.memory.1
 
-direction-of-requires : tie.Need-direction-of-requires
-direction-of-requires c κs = tt
+direction_of-requires : tie.Need-direction_of-requires
+direction_of-requires c κs = tt
 
 rebuild-requires : tie.Need-rebuild-requires
 rebuild-requires c κs = tt
 
-enum_told : tie.Need-enum-told
-enum_told c = c.match.keys1
+enum_told-1 : tie.Need-enum_told-1
+enum_told-1 c = c.in-Done.keys1
 
 done-requires : tie.Need-done-requires
 done-requires c κs = tt
 
-enum-known-refusal : tie.Need-enum-known-refusal
-enum-known-refusal c = c.match.keys2
+enum_known-refusal : tie.Need-enum_known-refusal
+enum_known-refusal c = c.in-Done.keys2
 
 refused-requires : tie.Need-refused-requires
 refused-requires c κs = tt
 
-same_length : tie.Need-same-length
-same_length c =
+shape_of-pixels-in-Done : tie.Need-shape_of-pixels-in-Done
+shape_of-pixels-in-Done c =
     let at-rebuild : tie.After-rebuild = search in
-    at-rebuild.rebuild.kept.1.1.1.1.0
+    at-rebuild.rebuild.auto.1.1.1.1.0
 
-returns : tie.Need-returns
+returns-in-Done : tie.Need-returns-in-Done
 unfolding outcome
-returns c =
+returns-in-Done c =
     let at-rebuild : tie.After-rebuild = search in
     let at-start : tie.Start = search in
     let o = outcome (at-start) in (
-      c.done.ensures ∙ reply_by (λ s. tt) o (done_told_lem o (sym c.before.enum_told.given.1 ∙ answered (at-rebuild))),
+      c.done.ensures ∙ reply_by (λ s. tt) o (done_told_lem o (sym c.before.enum_told-1.given.1 ∙ answered (at-rebuild))),
       (left (at-rebuild), again (at-rebuild)),
     )
 
-same-length-2 : tie.Need-same-length-2
-same-length-2 c =
+shape_of-pixels-in-Refused : tie.Need-shape_of-pixels-in-Refused
+shape_of-pixels-in-Refused c =
     let at-rebuild : tie.After-rebuild = search in
-    at-rebuild.rebuild.kept.1.1.1.1.0
+    at-rebuild.rebuild.auto.1.1.1.1.0
 
-returns-2 : tie.Need-returns-2
+returns-in-Refused : tie.Need-returns-in-Refused
 unfolding outcome
-returns-2 c =
+returns-in-Refused c =
     let at-rebuild : tie.After-rebuild = search in
     let at-start : tie.Start = search in
     let o = outcome (at-start) in (
-      c.refused.ensures ∙ reply_by (λ s. tt) o (done_told_lem o (sym c.before.before.refusal.given.1 ∙ answered (at-rebuild))),
+      c.refused.ensures ∙ reply_by (λ s. tt) o (done_told_lem o (sym c.before.before.refusal-1.given.1 ∙ answered (at-rebuild))),
       (left (at-rebuild), again (at-rebuild)),
     )
 
-pub sigbrol-rebuild-spec : {M : Type 1} → statement M
-sigbrol-rebuild-spec =
+pub sigbrol_rebuild_spec : {M : Type 1} → statement M
+sigbrol_rebuild_spec =
     tie.close
     (tie.spec
-    direction-of-requires
-    rebuild-requires
-    enum_told
-    done-requires
-    enum-known-refusal
-    refused-requires
-    same_length
-    returns
-    same-length-2
-    returns-2)
+    direction_of-requires rebuild-requires enum_told-1 done-requires enum_known-refusal refused-requires shape_of-pixels-in-Done returns-in-Done
+    shape_of-pixels-in-Refused returns-in-Refused)

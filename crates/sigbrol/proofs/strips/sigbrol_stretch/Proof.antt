@@ -22,49 +22,44 @@ part : tie.Start → List (List ℕ)
 part s = stretch_given (stretch_call (lentJob s) s.args.turns.now (lentStores s) s.args.piece (direction_of s.args.vertical))
 
 -- the call hands it out
-handed : (c : tie.After-stretch) →
+handed : (c : tie.After-stretch-strips) →
     let at-start : tie.Start = search in
-    c.stretch.result.now ≡ part (at-start)
+    c.stretch-strips.result.now ≡ part (at-start)
 unfolding part
-handed c = rw (c.before.before.type_size.ensures, c.before.direction-of.ensures) at c.stretch.ensures
+handed c = rw (c.before.before.type_size.ensures, c.before.direction_of-direction.ensures) at c.stretch-strips.ensures
 
 -- it is there where it is not empty
-there : (c : tie.Then1) →
+there : (c : tie.Then-length-ne0) →
     let at-start : tie.Start = search in
     StretchPassed (lentJob (at-start)) at-start.args.turns.now (lentStores (at-start)) at-start.args.piece (direction_of at-start.args.vertical)
 unfolding part
-there c = stretch_there _ _ _ _ _ (λ e. c.if1.true (ap length (handed c.before) ∙ e))
+there c = stretch_there _ _ _ _ _ (λ e. c.if-length-ne0.true (ap length (handed c.before) ∙ e))
 
-size-of-requires : tie.Need-size-of-requires
-size-of-requires c κs = tt
+size_of-size-requires : tie.Need-size_of-size-requires
+size_of-size-requires c κs = tt
 
-direction-of-requires : tie.Need-direction-of-requires
-direction-of-requires c κs = tt
+direction_of-direction-requires : tie.Need-direction_of-direction-requires
+direction_of-direction-requires c κs = tt
 
-stretch-requires : tie.Need-stretch-requires
-stretch-requires c κs = tt
+stretch-strips-requires : tie.Need-stretch-strips-requires
+stretch-strips-requires c κs = tt
 
-start-of-requires : tie.Need-start-of-requires
-start-of-requires c κs = let p = there c in (omega (arith, p.rows.there), omega (arith, p.columns.there))
+start_of-requires : tie.Need-start_of-requires
+start_of-requires c κs = let p = there c in (omega (arith, p.rows.there), omega (arith, p.columns.there))
 
-returns : tie.Need-returns
+returns-then-length-ne0 : tie.Need-returns-then-length-ne0
 unfolding part
-returns c =
+returns-then-length-ne0 c =
     (ap length (handed c.before.before), c.start_of_lem.ensures ∙ start_left _ _ _ _ _ _ (there c.before))
 
-returns-2 : tie.Need-returns-2
+returns-else-length-ne0 : tie.Need-returns-else-length-ne0
 unfolding part
-returns-2 c =
+returns-else-length-ne0 c =
     let e = ap length (handed c.before) in
-    (e, start_kept _ _ _ _ _ _ (sym e ∙ c.if1.false))
+    (e, start_kept _ _ _ _ _ _ (sym e ∙ c.if-length-ne0.false))
 
-pub sigbrol-stretch-spec : {M : Type 1} → statement M
-sigbrol-stretch-spec =
+pub sigbrol_stretch_spec : {M : Type 1} → statement M
+sigbrol_stretch_spec =
     tie.close
     (tie.spec
-    size-of-requires
-    direction-of-requires
-    stretch-requires
-    start-of-requires
-    returns
-    returns-2)
+    size_of-size-requires direction_of-direction-requires stretch-strips-requires start_of-requires returns-then-length-ne0 returns-else-length-ne0)

@@ -1,19 +1,20 @@
 -- `sigbrol::strips::sigbrol_stretch_refusal` meets its contract, as the call that it hands on meets its own. Assumes nothing.
-use Rattle.list_laws.proofs.Kit.{needs}
+use Rattle.list_laws.proofs.Kit.{rules}
 use Rattle.sigbrol.proofs.strips.sigbrol_stretch_refusal.Statement.{statement}
 use Rattle.sigbrol.proofs.strips.sigbrol_stretch_refusal.Tie as tie
 
-size-of-requires : tie.Need-size-of-requires
-size-of-requires c κs = tt
+size_of-size-requires : tie.Need-size_of-size-requires
+size_of-size-requires c κs = tt
 
-direction-of-requires : tie.Need-direction-of-requires
-direction-of-requires c κs = tt
+direction_of-direction-requires : tie.Need-direction_of-direction-requires
+direction_of-direction-requires c κs = tt
 
-stretch-refusal-requires : tie.Need-stretch-refusal-requires
-stretch-refusal-requires c κs = tt
+stretch_refusal-requires : tie.Need-stretch_refusal-requires
+stretch_refusal-requires c κs = tt
 
 returns : tie.Need-returns
-returns c = rw (c.before.before.type_size.ensures, c.before.direction-of.ensures) at c.stretch-refusal.ensures
+returns c = rw (c.before.before.type_size.ensures, c.before.direction_of-direction.ensures) at c.stretch_refusal.ensures
 
-pub sigbrol-stretch-refusal-spec : {M : Type 1} → statement M
-sigbrol-stretch-refusal-spec = tie.close (tie.spec size-of-requires direction-of-requires stretch-refusal-requires (search needs) returns)
+pub sigbrol_stretch_refusal_spec : {M : Type 1} → statement M
+sigbrol_stretch_refusal_spec = tie.close (tie.spec
+    size_of-size-requires direction_of-direction-requires stretch_refusal-requires (search rules) returns)

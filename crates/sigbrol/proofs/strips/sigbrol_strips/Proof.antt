@@ -11,7 +11,7 @@ use Rattle.sigbrol.proofs.strips.sigbrol_strips.Tie as tie
 
 -- the lent stores
 lentStores : tie.Start → Stores
-lentStores s = let a = s.args in stores_by a.row-strips.now a.row-starts.now a.column-strips.now a.column-starts.now
+lentStores s = let a = s.args in stores_by a.row_strips-1.now a.row_starts-1.now a.column_strips-1.now a.column_starts-1.now
 
 -- the outcome of the call
 outcome : tie.Start → Outcome Stores
@@ -23,8 +23,8 @@ answered : (c : tie.After-strips) →
     c.strips.result ≡ done_answer (outcome (at-start))
 unfolding outcome lentStores
 answered c =
-    let at-size-of : tie.After-size-of = search in
-    rw at-size-of.type_size.ensures at c.strips.ensures.0
+    let at-size-of : tie.After-size_of-size = search in
+    rw at-size-of.type_size.ensures at c.strips.ensures.answer
 
 -- and so do the stores
 left : (c : tie.After-strips) →
@@ -33,100 +33,87 @@ left : (c : tie.After-strips) →
     c.strips.new.1.1.1.1.1.1.1.0 ≡ stores_after (lentStores (at-start)) (outcome (at-start))
 unfolding outcome lentStores
 left c =
-    let at-size-of : tie.After-size-of = search in
-    rw at-size-of.type_size.ensures at c.strips.ensures.1
+    let at-size-of : tie.After-size_of-size = search in
+    rw at-size-of.type_size.ensures at c.strips.ensures.memory
 
-size-of-requires : tie.Need-size-of-requires
-size-of-requires c κs = tt
+size_of-size-requires : tie.Need-size_of-size-requires
+size_of-size-requires c κs = tt
 
 strips-requires : tie.Need-strips-requires
 strips-requires c κs = tt
 
-enum_told : tie.Need-enum-told
-enum_told c = c.match.keys1
+enum_told-1 : tie.Need-enum_told-1
+enum_told-1 c = c.in-Done.keys1
 
 done-requires : tie.Need-done-requires
 done-requires c κs = tt
 
-enum-known-refusal : tie.Need-enum-known-refusal
-enum-known-refusal c = c.match.keys2
+enum_known-refusal : tie.Need-enum_known-refusal
+enum_known-refusal c = c.in-Done.keys2
 
 refused-requires : tie.Need-refused-requires
 refused-requires c κs = tt
 
-same_length : tie.Need-same-length
-same_length c =
+shape_of-row_strips-in-Done : tie.Need-shape_of-row_strips-in-Done
+shape_of-row_strips-in-Done c =
     let at-strips : tie.After-strips = search in
-    at-strips.strips.kept.1.1.1.1.0
+    at-strips.strips.auto.1.1.1.1.0
 
-same-length-2 : tie.Need-same-length-2
-same-length-2 c =
+shape_of-row_starts-in-Done : tie.Need-shape_of-row_starts-in-Done
+shape_of-row_starts-in-Done c =
     let at-strips : tie.After-strips = search in
-    at-strips.strips.kept.1.1.1.1.1.0
+    at-strips.strips.auto.1.1.1.1.1.0
 
-same-length-3 : tie.Need-same-length-3
-same-length-3 c =
+shape_of-column_strips-in-Done : tie.Need-shape_of-column_strips-in-Done
+shape_of-column_strips-in-Done c =
     let at-strips : tie.After-strips = search in
-    at-strips.strips.kept.1.1.1.1.1.1.0
+    at-strips.strips.auto.1.1.1.1.1.1.0
 
-same-length-4 : tie.Need-same-length-4
-same-length-4 c =
+shape_of-column_starts-in-Done : tie.Need-shape_of-column_starts-in-Done
+shape_of-column_starts-in-Done c =
     let at-strips : tie.After-strips = search in
-    at-strips.strips.kept.1.1.1.1.1.1.1.0
+    at-strips.strips.auto.1.1.1.1.1.1.1.0
 
-returns : tie.Need-returns
+returns-in-Done : tie.Need-returns-in-Done
 unfolding outcome lentStores
-returns c =
+returns-in-Done c =
     let at-strips : tie.After-strips = search in
     let at-start : tie.Start = search in
     let o = outcome (at-start) in
-    (c.done.ensures ∙ reply_by (λ s. tt) o (done_told_lem o (sym c.before.enum_told.given.1 ∙ answered (at-strips))), left (at-strips))
+    (c.done.ensures ∙ reply_by (λ s. tt) o (done_told_lem o (sym c.before.enum_told-1.given.1 ∙ answered (at-strips))), left (at-strips))
 
-same-length-5 : tie.Need-same-length-5
-same-length-5 c =
+shape_of-row_strips-in-Refused : tie.Need-shape_of-row_strips-in-Refused
+shape_of-row_strips-in-Refused c =
     let at-strips : tie.After-strips = search in
-    at-strips.strips.kept.1.1.1.1.0
+    at-strips.strips.auto.1.1.1.1.0
 
-same-length-6 : tie.Need-same-length-6
-same-length-6 c =
+shape_of-row_starts-in-Refused : tie.Need-shape_of-row_starts-in-Refused
+shape_of-row_starts-in-Refused c =
     let at-strips : tie.After-strips = search in
-    at-strips.strips.kept.1.1.1.1.1.0
+    at-strips.strips.auto.1.1.1.1.1.0
 
-same-length-7 : tie.Need-same-length-7
-same-length-7 c =
+shape_of-column_strips-in-Refused : tie.Need-shape_of-column_strips-in-Refused
+shape_of-column_strips-in-Refused c =
     let at-strips : tie.After-strips = search in
-    at-strips.strips.kept.1.1.1.1.1.1.0
+    at-strips.strips.auto.1.1.1.1.1.1.0
 
-same-length-8 : tie.Need-same-length-8
-same-length-8 c =
+shape_of-column_starts-in-Refused : tie.Need-shape_of-column_starts-in-Refused
+shape_of-column_starts-in-Refused c =
     let at-strips : tie.After-strips = search in
-    at-strips.strips.kept.1.1.1.1.1.1.1.0
+    at-strips.strips.auto.1.1.1.1.1.1.1.0
 
-returns-2 : tie.Need-returns-2
+returns-in-Refused : tie.Need-returns-in-Refused
 unfolding outcome lentStores
-returns-2 c =
+returns-in-Refused c =
     let at-strips : tie.After-strips = search in
     let at-start : tie.Start = search in
     let o = outcome (at-start) in
-    (c.refused.ensures ∙ reply_by (λ s. tt) o (done_told_lem o (sym c.before.before.refusal.given.1 ∙ answered (at-strips))), left (at-strips))
+    (c.refused.ensures ∙ reply_by (λ s. tt) o (done_told_lem o (sym c.before.before.refusal-1.given.1 ∙ answered (at-strips))), left (at-strips))
 
-pub sigbrol-strips-spec : {M : Type 1} → statement M
-sigbrol-strips-spec =
+pub sigbrol_strips_spec : {M : Type 1} → statement M
+sigbrol_strips_spec =
     tie.close
     (tie.spec
-    size-of-requires
-    strips-requires
-    enum_told
-    done-requires
-    enum-known-refusal
-    refused-requires
-    same_length
-    same-length-2
-    same-length-3
-    same-length-4
-    returns
-    same-length-5
-    same-length-6
-    same-length-7
-    same-length-8
-    returns-2)
+    size_of-size-requires strips-requires enum_told-1 done-requires enum_known-refusal refused-requires shape_of-row_strips-in-Done
+    shape_of-row_starts-in-Done shape_of-column_strips-in-Done shape_of-column_starts-in-Done returns-in-Done shape_of-row_strips-in-Refused
+    shape_of-row_starts-in-Refused shape_of-column_strips-in-Refused shape_of-column_starts-in-Refused returns-in-Refused)

@@ -12,74 +12,66 @@ use Rattle.sigbrol.proofs.texts.sigbrol_read_layout.Tie as tie
 -- the outcome of the call
 outcome : tie.Start → Outcome Layout
 outcome s = let a = s.args in
-    read_layout_call (lent_as a.rows a.columns a.count a.gap a.table.now a.pixels.now) a.text.now (length a.layout.now)
+    read_layout_call (lent_as a.rows a.columns a.count a.gap a.table.now a.pixels.now) a.text.now (length a.layout-1.now)
 
 -- its answer tells that outcome
-answered : (c : tie.After-read-layout) →
+answered : (c : tie.After-read_layout) →
     let at-start : tie.Start = search in
-    c.read-layout.result ≡ done_answer (outcome (at-start))
+    c.read_layout.result ≡ done_answer (outcome (at-start))
 unfolding outcome
-answered c = rw c.before.before.type_size.ensures at c.read-layout.ensures.0
+answered c = rw c.before.before.type_size.ensures at c.read_layout.ensures.answer
 
-size-of-requires : tie.Need-size-of-requires
-size-of-requires c κs = tt
+size_of-requires : tie.Need-size_of-requires
+size_of-requires c κs = tt
 
-read-layout-requires : tie.Need-read-layout-requires
-read-layout-requires c κs = tt
+read_layout-requires : tie.Need-read_layout-requires
+read_layout-requires c κs = tt
 
-enum_told : tie.Need-enum-told
-enum_told c = c.match.keys1
+enum_told-1 : tie.Need-enum_told-1
+enum_told-1 c = c.in-Done.keys1
 
 done-requires : tie.Need-done-requires
 done-requires c κs = tt
 
-enum-known-refusal : tie.Need-enum-known-refusal
-enum-known-refusal c = c.match.keys2
+enum_known-refusal : tie.Need-enum_known-refusal
+enum_known-refusal c = c.in-Done.keys2
 
 refused-requires : tie.Need-refused-requires
 refused-requires c κs = tt
 
-same_length : tie.Need-same-length
-same_length c =
-    let at-read-layout : tie.After-read-layout = search in
-    at-read-layout.read-layout.kept.1.1.1.1.0
+shape_of-layout-in-Done : tie.Need-shape_of-layout-in-Done
+shape_of-layout-in-Done c =
+    let at-read-layout : tie.After-read_layout = search in
+    at-read-layout.read_layout.auto.1.1.1.1.0
 
-returns : tie.Need-returns
+returns-in-Done : tie.Need-returns-in-Done
 unfolding outcome
-returns c =
-    let at-read-layout : tie.After-read-layout = search in
-    let at-size-of : tie.After-size-of = search in
+returns-in-Done c =
+    let at-read-layout : tie.After-read_layout = search in
+    let at-size-of : tie.After-size_of = search in
     let at-start : tie.Start = search in
     let o = outcome (at-start) in
-    let t = done_told_lem o (sym c.before.enum_told.given.1 ∙ answered (at-read-layout)) in
-    (c.done.ensures ∙ reply_by (λ v. tt) o t, rw at-size-of.type_size.ensures at at-read-layout.read-layout.ensures.1)
+    let t = done_told_lem o (sym c.before.enum_told-1.given.1 ∙ answered (at-read-layout)) in
+    (c.done.ensures ∙ reply_by (λ v. tt) o t, rw at-size-of.type_size.ensures at at-read-layout.read_layout.ensures.memory)
 
-same-length-2 : tie.Need-same-length-2
-same-length-2 c =
-    let at-read-layout : tie.After-read-layout = search in
-    at-read-layout.read-layout.kept.1.1.1.1.0
+shape_of-layout-in-Refused : tie.Need-shape_of-layout-in-Refused
+shape_of-layout-in-Refused c =
+    let at-read-layout : tie.After-read_layout = search in
+    at-read-layout.read_layout.auto.1.1.1.1.0
 
-returns-2 : tie.Need-returns-2
+returns-in-Refused : tie.Need-returns-in-Refused
 unfolding outcome
-returns-2 c =
-    let at-read-layout : tie.After-read-layout = search in
-    let at-size-of : tie.After-size-of = search in
+returns-in-Refused c =
+    let at-read-layout : tie.After-read_layout = search in
+    let at-size-of : tie.After-size_of = search in
     let at-start : tie.Start = search in
     let o = outcome (at-start) in
-    let t = done_told_lem o (sym c.before.before.refusal.given.1 ∙ answered (at-read-layout)) in
-    (c.refused.ensures ∙ reply_by (λ v. tt) o t, rw at-size-of.type_size.ensures at at-read-layout.read-layout.ensures.1)
+    let t = done_told_lem o (sym c.before.before.refusal-1.given.1 ∙ answered (at-read-layout)) in
+    (c.refused.ensures ∙ reply_by (λ v. tt) o t, rw at-size-of.type_size.ensures at at-read-layout.read_layout.ensures.memory)
 
-pub sigbrol-read-layout-spec : {M : Type 1} → statement M
-sigbrol-read-layout-spec =
+pub sigbrol_read_layout_spec : {M : Type 1} → statement M
+sigbrol_read_layout_spec =
     tie.close
     (tie.spec
-    size-of-requires
-    read-layout-requires
-    enum_told
-    done-requires
-    enum-known-refusal
-    refused-requires
-    same_length
-    returns
-    same-length-2
-    returns-2)
+    size_of-requires read_layout-requires enum_told-1 done-requires enum_known-refusal refused-requires shape_of-layout-in-Done returns-in-Done
+    shape_of-layout-in-Refused returns-in-Refused)

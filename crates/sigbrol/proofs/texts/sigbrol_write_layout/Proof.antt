@@ -11,78 +11,70 @@ use Rattle.sigbrol.proofs.texts.sigbrol_write_layout.Tie as tie
 -- the outcome of the call
 outcome : tie.Start → Outcome (List ℕ)
 outcome s = let a = s.args in
-    write_layout_call (lent_as a.rows a.columns a.count a.gap a.table.now a.pixels.now) a.layout.now (length a.text.now)
+    write_layout_call (lent_as a.rows a.columns a.count a.gap a.table.now a.pixels.now) a.layout.now (length a.text-1.now)
 
 -- its answer tells that outcome
-answered : (c : tie.After-write-layout) →
+answered : (c : tie.After-write_layout) →
     let at-start : tie.Start = search in
-    c.write-layout.result ≡ count_answer (outcome (at-start))
+    c.write_layout.result ≡ count_answer (outcome (at-start))
 unfolding outcome
-answered c = rw c.before.before.type_size.ensures at c.write-layout.ensures.0
+answered c = rw c.before.before.type_size.ensures at c.write_layout.ensures.answer
 
-size-of-requires : tie.Need-size-of-requires
-size-of-requires c κs = tt
+size_of-requires : tie.Need-size_of-requires
+size_of-requires c κs = tt
 
-write-layout-requires : tie.Need-write-layout-requires
-write-layout-requires c κs = tt
+write_layout-requires : tie.Need-write_layout-requires
+write_layout-requires c κs = tt
 
-enum-known-length : tie.Need-enum-known-length
-enum-known-length c = c.match.keys1
+enum_known-length : tie.Need-enum_known-length
+enum_known-length c = c.in-Number.keys1
 
 done-requires : tie.Need-done-requires
 done-requires c κs = tt
 
-enum-known-refusal : tie.Need-enum-known-refusal
-enum-known-refusal c = c.match.keys2
+enum_known-refusal : tie.Need-enum_known-refusal
+enum_known-refusal c = c.in-Number.keys2
 
 refused-requires : tie.Need-refused-requires
 refused-requires c κs = tt
 
-same_length : tie.Need-same-length
-same_length c =
-    let at-write-layout : tie.After-write-layout = search in
-    at-write-layout.write-layout.kept.1.1.1.1.0
+shape_of-text-in-Number : tie.Need-shape_of-text-in-Number
+shape_of-text-in-Number c =
+    let at-write-layout : tie.After-write_layout = search in
+    at-write-layout.write_layout.auto.1.1.1.1.0
 
-returns : tie.Need-returns
+returns-in-Number : tie.Need-returns-in-Number
 unfolding outcome
-returns c =
-    let at-write-layout : tie.After-write-layout = search in
-    let at-size-of : tie.After-size-of = search in
+returns-in-Number c =
+    let at-write-layout : tie.After-write_layout = search in
+    let at-size-of : tie.After-size_of = search in
     let at-start : tie.Start = search in
     let o = outcome (at-start) in
-    let t = count_told o (sym c.before.before.length.given.1 ∙ answered (at-write-layout)) in (
+    let t = count_told o (sym c.before.before.length-1.given.1 ∙ answered (at-write-layout)) in (
       c.done.ensures ∙ reply_by (λ text. length text) o t,
-      (rw at-size-of.type_size.ensures at at-write-layout.write-layout.ensures.1, leaves_by (λ text. length text) (λ k. k) _ o t),
+      (rw at-size-of.type_size.ensures at at-write-layout.write_layout.ensures.memory, leaves_by (λ text. length text) (λ k. k) _ o t),
     )
 
-same-length-2 : tie.Need-same-length-2
-same-length-2 c =
-    let at-write-layout : tie.After-write-layout = search in
-    at-write-layout.write-layout.kept.1.1.1.1.0
+shape_of-text-in-Refused : tie.Need-shape_of-text-in-Refused
+shape_of-text-in-Refused c =
+    let at-write-layout : tie.After-write_layout = search in
+    at-write-layout.write_layout.auto.1.1.1.1.0
 
-returns-2 : tie.Need-returns-2
+returns-in-Refused : tie.Need-returns-in-Refused
 unfolding outcome
-returns-2 c =
-    let at-write-layout : tie.After-write-layout = search in
-    let at-size-of : tie.After-size-of = search in
+returns-in-Refused c =
+    let at-write-layout : tie.After-write_layout = search in
+    let at-size-of : tie.After-size_of = search in
     let at-start : tie.Start = search in
     let o = outcome (at-start) in
-    let t = count_told o (sym c.before.before.refusal.given.1 ∙ answered (at-write-layout)) in (
+    let t = count_told o (sym c.before.before.refusal-1.given.1 ∙ answered (at-write-layout)) in (
       c.refused.ensures ∙ reply_by (λ text. length text) o t,
-      (rw at-size-of.type_size.ensures at at-write-layout.write-layout.ensures.1, leaves_by (λ text. length text) (λ k. k) _ o t),
+      (rw at-size-of.type_size.ensures at at-write-layout.write_layout.ensures.memory, leaves_by (λ text. length text) (λ k. k) _ o t),
     )
 
-pub sigbrol-write-layout-spec : {M : Type 1} → statement M
-sigbrol-write-layout-spec =
+pub sigbrol_write_layout_spec : {M : Type 1} → statement M
+sigbrol_write_layout_spec =
     tie.close
     (tie.spec
-    size-of-requires
-    write-layout-requires
-    enum-known-length
-    done-requires
-    enum-known-refusal
-    refused-requires
-    same_length
-    returns
-    same-length-2
-    returns-2)
+    size_of-requires write_layout-requires enum_known-length done-requires enum_known-refusal refused-requires shape_of-text-in-Number
+    returns-in-Number shape_of-text-in-Refused returns-in-Refused)

@@ -1,5 +1,5 @@
 -- `strip_calls::stretch::part` meets its contract. Assumes nothing.
-use Rattle.list_laws.proofs.Kit.{◌≡◌, ◌+◌, ◌≤◌, suc, arith, get_or, length, needs}
+use Rattle.list_laws.proofs.Kit.{◌≡◌, ◌+◌, ◌≤◌, suc, arith, get_or, length, rules}
 use Rattle.model.specs.Store.{stretch_in}
 use Rattle.strip_calls.proofs.stretch.part.Statement.{statement}
 use Rattle.strip_calls.proofs.stretch.part.Tie as tie
@@ -8,17 +8,17 @@ use Rattle.strip_calls.proofs.stretch.part.Tie as tie
 ordered : (c : tie.Start) → get_or c.args.starts.now c.args.piece 0 ≤ get_or c.args.starts.now (c.args.piece + 1) 0
 ordered c = let e : c.args.piece + 1 ≡ suc c.args.piece = omega arith in rw e c.requires.order
 
-cast-to : tie.Need-overflow-cast-to
-cast-to c = omega (arith, c.shared-slice-known2.given (c.before.before.args.piece + 1))
+overflow_cast-to : tie.Need-overflow_cast-to
+overflow_cast-to c = omega (arith, c.shared_slice_known-2-1.given (c.before.before.args.piece + 1))
 
-sub-result : tie.Need-overflow-sub-result
-sub-result c = ordered c.before.before
+slice_bounds-result-count : tie.Need-slice_bounds-result-count
+slice_bounds-result-count c = ordered c.before.before
 
-part-result-start : tie.Need-slice-bounds-result-start
-part-result-start c = ordered c.before.before
+slice_bounds-result-start : tie.Need-slice_bounds-result-start
+slice_bounds-result-start c = ordered c.before.before
 
-part-result-end : tie.Need-slice-bounds-result-end
-part-result-end c =
+slice_bounds-result-end : tie.Need-slice_bounds-result-end
+slice_bounds-result-end c =
     let a = c.before.before.args in
     let e : a.piece + 1 ≡ suc a.piece = omega arith in
     let h : get_or a.starts.now (a.piece + 1) 0 ≤ length a.strips.now = rw e c.before.before.requires.within in
@@ -30,8 +30,8 @@ returns c =
     let at-start : tie.Start = search in
     let e : at-start.args.piece + 1 ≡ suc at-start.args.piece = omega arith in rw e
 
-pub part-spec : {M : Type 1} → statement M
-part-spec =
+pub part_spec : {M : Type 1} → statement M
+part_spec =
     tie.close (tie.spec
-    (search needs) (search needs) (search needs) (search needs) (search needs) (search needs) cast-to (search needs) sub-result
-    part-result-start part-result-end returns)
+    (search rules) (search rules) (search rules) (search rules) (search rules) (search rules) overflow_cast-to (search rules)
+    slice_bounds-result-count slice_bounds-result-start slice_bounds-result-end returns)

@@ -1,5 +1,5 @@
 -- `strip_calls::stretch::stretch` meets its contract: where no number is told the stretch can be cut out of its store. Assumes nothing.
-use Rattle.list_laws.proofs.Kit.{◌∙◌, ap, sym, needs}
+use Rattle.list_laws.proofs.Kit.{◌∙◌, ap, sym, rules}
 use Rattle.model.specs.Lent.{Lent, lent_by}
 use Rattle.model.specs.Calls.{Stores, stretch_call, stretch_of, stretch_given}
 use Rattle.strip_calls.specs.Stores.{stores_by}
@@ -15,42 +15,43 @@ job s = lent_by s.args.size s.args.table.now s.args.pixels.now
 abbrev lent : tie.Start → Stores
 lent s = stores_by s.args.row-strips.now s.args.row-starts.now s.args.column-strips.now s.args.column-starts.now
 
-returns : tie.Need-returns
-returns c =
+returns-then-stretch_refusal-ne0 : tie.Need-returns-then-stretch_refusal-ne0
+returns-then-stretch_refusal-ne0 c =
     let at-start : tie.Start = search in
     stretch_empty (stretch_call (job at-start) at-start.args.turns.now (lent at-start) at-start.args.piece at-start.args.direction)
-    (λ e. c.before.if1.true (c.before.before.stretch-refusal.ensures ∙ e))
+    (λ e. c.before.if-stretch_refusal-ne0.true (c.before.before.stretch_refusal.ensures ∙ e))
 
 -- no number is told
-passed : (c : tie.Else1) →
+passed : (c : tie.Else-stretch_refusal-ne0) →
     let at-start : tie.Start = search in
     StretchPassed (job (at-start)) at-start.args.turns.now (lent (at-start)) at-start.args.piece at-start.args.direction
 passed c =
     let at-start : tie.Start = search in
     stretch_passed (job at-start) at-start.args.turns.now (lent at-start) at-start.args.piece at-start.args.direction
-    (sym c.before.stretch-refusal.ensures ∙ c.if1.false)
+    (sym c.before.stretch_refusal.ensures ∙ c.if-stretch_refusal-ne0.false)
 
 part-requires : tie.Need-part-requires
 part-requires c κs = (passed c.before.before).rows
 
-part-requires-2 : tie.Need-part-requires-2
-part-requires-2 c κs = (passed c.before.before).columns
+part-requires-in-Vertical : tie.Need-part-requires-in-Vertical
+part-requires-in-Vertical c κs = (passed c.before.before).columns
 
-returns-2 : tie.Need-returns-2
-returns-2 c =
-    let at-else1 : tie.Else1 = search in
+returns-in-Horizontal : tie.Need-returns-in-Horizontal
+returns-in-Horizontal c =
+    let at-else1 : tie.Else-stretch_refusal-ne0 = search in
     let at-start : tie.Start = search in
-    c.part.ensures ∙ ap (λ d. stretch_of d (lent at-start) at-start.args.piece) (sym c.before.enum_told.given.1)
+    c.part.ensures ∙ ap (λ d. stretch_of d (lent at-start) at-start.args.piece) (sym c.before.enum_told-1.given.1)
     ∙ ap stretch_given (sym (passed (at-else1)).gives)
 
-returns-3 : tie.Need-returns-3
-returns-3 c =
-    let at-else1 : tie.Else1 = search in
+returns-in-Vertical : tie.Need-returns-in-Vertical
+returns-in-Vertical c =
+    let at-else1 : tie.Else-stretch_refusal-ne0 = search in
     let at-start : tie.Start = search in
-    c.part2.ensures ∙ ap (λ d. stretch_of d (lent at-start) at-start.args.piece) (sym c.before.enum-told2.given.1)
+    c.part-in-Vertical.ensures ∙ ap (λ d. stretch_of d (lent at-start) at-start.args.piece) (sym c.before.enum_told-in-Vertical-1.given.1)
     ∙ ap stretch_given (sym (passed (at-else1)).gives)
 
-pub stretch-spec : {M : Type 1} → statement M
-stretch-spec =
+pub stretch_spec : {M : Type 1} → statement M
+stretch_spec =
     tie.close (tie.spec
-    (search needs) (search needs) returns (search needs) part-requires (search needs) part-requires-2 returns-2 returns-3)
+    (search rules) (search rules) returns-then-stretch_refusal-ne0 (search rules) part-requires (search rules) part-requires-in-Vertical
+    returns-in-Horizontal returns-in-Vertical)

@@ -1,21 +1,22 @@
 -- `strip_scan::scan::line_count` meets its contract: the turned box's sides are those of the turned piece. Assumes nothing.
-use Rattle.list_laws.proofs.Kit.{ap, refl, [], needs}
+use Rattle.list_laws.proofs.Kit.{ap, refl, [], rules}
 use Rattle.piece_pixels.specs.Turned.{stored_by}
 use Rattle.piece_pixels.specs.declared.Sides.{Sides}
 use Rattle.strip_scan.proofs.scan.line_count.Statement.{statement}
 use Rattle.strip_scan.proofs.scan.line_count.Tie as tie
 
-returns : tie.Need-returns
-returns c =
+returns-in-Horizontal : tie.Need-returns-in-Horizontal
+returns-in-Horizontal c =
     let at-start : tie.Start = search in
-    let e = c.before.before.sides-in.ensures.0 (stored_by [] at-start.args.piece) refl refl in
-    rw c.enum_told.given.1 (ap (λ (s : Sides). s.rows) e)
+    let e = c.before.before.sides_in-sides.ensures.sides (stored_by [] at-start.args.piece) refl refl in
+    rw c.enum_told-1.given.1 (ap (λ (s : Sides). s.rows) e)
 
-returns-2 : tie.Need-returns-2
-returns-2 c =
+returns-in-Vertical : tie.Need-returns-in-Vertical
+returns-in-Vertical c =
     let at-start : tie.Start = search in
-    let e = c.before.before.sides-in.ensures.0 (stored_by [] at-start.args.piece) refl refl in
-    rw c.enum-told2.given.1 (ap (λ (s : Sides). s.columns) e)
+    let e = c.before.before.sides_in-sides.ensures.sides (stored_by [] at-start.args.piece) refl refl in
+    rw c.enum_told-in-Vertical-1.given.1 (ap (λ (s : Sides). s.columns) e)
 
-pub line-count-spec : {M : Type 1} → statement M
-line-count-spec = tie.close (tie.spec (search needs) (search needs) (search needs) returns returns-2)
+pub line_count_spec : {M : Type 1} → statement M
+line_count_spec = tie.close (tie.spec
+    (search rules) (search rules) (search rules) returns-in-Horizontal returns-in-Vertical)

@@ -1,6 +1,6 @@
 -- `strip_scan::scan::next_strip` meets its contract. The loop's invariant: the strips from the present cell on are those from the
 -- given cell on, since the lines between have no pixel left. Assumes nothing.
-use Rattle.list_laws.proofs.Kit.{◌∙◌, ◌≡◌, refl, sym, Bool, bool_beq, false, ◌-◌, ◌≤◌, ℕ, arith, needs}
+use Rattle.list_laws.proofs.Kit.{◌∙◌, ◌≡◌, refl, sym, Bool, bool_beq, false, ◌-◌, ◌≤◌, ℕ, arith, rules}
 use Rattle.model.specs.Bounded.{first_from}
 use Rattle.model.specs.Piece.{cell}
 use Rattle.list_laws.proofs.Bounded.{first_from_lem}
@@ -10,84 +10,84 @@ use Rattle.strip_scan.proofs.Scanning.{piece_found, piece_line_done, piece_none_
 use Rattle.strip_scan.proofs.scan.next_strip.Statement.{statement}
 use Rattle.strip_scan.proofs.scan.next_strip.Tie as tie
 
-abbrev invariant-loop : tie.invariant-loop
-invariant-loop pixels piece direction line along length lines line₀ along₀ line' along' =
+abbrev invariant-loop-line : tie.invariant-loop-line
+invariant-loop-line pixels piece direction line along length lines line₀ along₀ line' along' =
     (along' ≤ length) × (strips_at direction (shown_by pixels piece) line' along' ≡ strips_at direction (shown_by pixels piece) line along)
 
-abbrev decreases-loop : tie.decreases-loop
-decreases-loop pixels piece direction line along length lines line₀ along₀ line' along' = lines - line'
+abbrev decreases-loop-line : tie.decreases-loop-line
+decreases-loop-line pixels piece direction line along length lines line₀ along₀ line' along' = lines - line'
 
-loop-holds : tie.Need-loop-init invariant-loop decreases-loop
-loop-holds c = (let e = c.before.line-length.ensures in omega arith, refl)
+loop-line-init : tie.Need-loop-line-init invariant-loop-line decreases-loop-line
+loop-line-init c = (let e = c.before.line_length-length.ensures in omega arith, refl)
 
-find-requires : tie.Need-find-requires invariant-loop decreases-loop
-find-requires c κs =
-    let at-line-length : tie.After-line-length invariant-loop decreases-loop = search in
-    let at-start : tie.Start invariant-loop decreases-loop = search in
-    let n = at-line-length.line-length.ensures in
-    let m = c.before.before.line-count.ensures in
-    (at-start.pre.0, (omega arith, omega arith))
+find-first-requires : tie.Need-find-first-requires invariant-loop-line decreases-loop-line
+find-first-requires c κs =
+    let at-line-length : tie.After-line_length-length invariant-loop-line decreases-loop-line = search in
+    let at-start : tie.Start invariant-loop-line decreases-loop-line = search in
+    let n = at-line-length.line_length-length.ensures in
+    let m = c.before.before.line_count-lines.ensures in
+    (at-start.requires.0, (omega arith, omega arith))
 
-find-requires-2 : tie.Need-find-requires-2 invariant-loop decreases-loop
-find-requires-2 c κs =
-    let at-line-count : tie.After-line-count invariant-loop decreases-loop = search in
-    let at-line-length : tie.After-line-length invariant-loop decreases-loop = search in
-    let at-start : tie.Start invariant-loop decreases-loop = search in
-    let n = at-line-length.line-length.ensures in
-    let m = at-line-count.line-count.ensures in
-    (at-start.pre.0, (omega arith, omega arith))
+find-end-requires : tie.Need-find-end-requires invariant-loop-line decreases-loop-line
+find-end-requires c κs =
+    let at-line-count : tie.After-line_count-lines invariant-loop-line decreases-loop-line = search in
+    let at-line-length : tie.After-line_length-length invariant-loop-line decreases-loop-line = search in
+    let at-start : tie.Start invariant-loop-line decreases-loop-line = search in
+    let n = at-line-length.line_length-length.ensures in
+    let m = at-line-count.line_count-lines.ensures in
+    (at-start.requires.0, (omega arith, omega arith))
 
 -- the first cell that is wanted is none before the given one
 first_low : (f : ℕ → Bool) {stop : ℕ} (t left : ℕ) → stop ≡ first_from f t left → t ≤ stop
 first_low f t left e = rw e (first_from_lem f t left).low
 
-sub-t13 : tie.Need-overflow-sub-t13 invariant-loop decreases-loop
-sub-t13 c =
-    let at-loop : tie.At-loop invariant-loop decreases-loop = search in
-    let at-start : tie.Start invariant-loop decreases-loop = search in
+overflow_sub-result : tie.Need-overflow_sub-result invariant-loop-line decreases-loop-line
+overflow_sub-result c =
+    let at-loop : tie.At-loop-line invariant-loop-line decreases-loop-line = search in
+    let at-start : tie.Start invariant-loop-line decreases-loop-line = search in
     let a = at-start.args in
-    first_low (λ k. bool_beq (cell a.direction (shown_by a.pixels.now a.piece) k at-loop.loop.line) false)
-    c.before.before.find.result (turned_side a.direction a.piece - c.before.before.find.result) c.find2.ensures
+    first_low (λ k. bool_beq (cell a.direction (shown_by a.pixels.now a.piece) k at-loop.loop-line.line) false)
+    c.before.before.find-first.result (turned_side a.direction a.piece - c.before.before.find-first.result) c.find-end.ensures
 
-returns : tie.Need-returns invariant-loop decreases-loop
-returns c =
-    let at-loop : tie.At-loop invariant-loop decreases-loop = search in
-    let at-line-count : tie.After-line-count invariant-loop decreases-loop = search in
-    let at-line-length : tie.After-line-length invariant-loop decreases-loop = search in
-    let at-start : tie.Start invariant-loop decreases-loop = search in
-    let n = at-line-length.line-length.ensures in
-    let m = at-line-count.line-count.ensures in
+returns-then-first-length : tie.Need-returns-then-first-length invariant-loop-line decreases-loop-line
+returns-then-first-length c =
+    let at-loop : tie.At-loop-line invariant-loop-line decreases-loop-line = search in
+    let at-line-count : tie.After-line_count-lines invariant-loop-line decreases-loop-line = search in
+    let at-line-length : tie.After-line_length-length invariant-loop-line decreases-loop-line = search in
+    let at-start : tie.Start invariant-loop-line decreases-loop-line = search in
+    let n = at-line-length.line_length-length.ensures in
+    let m = at-line-count.line_count-lines.ensures in
     let a = at-start.args in
-    let l = at-loop.loop in
-    let found = piece_found a.direction a.pixels.now a.piece l.line l.along c.before.before.find.result c.find2.result (omega arith)
-    (omega arith) c.before.before.find.ensures (omega arith) c.find2.ensures in
-    record { next = sym at-loop.loop.inv.1 ∙ found.next; within = found.within; line = found.line }
+    let l = at-loop.loop-line in
+    let found = piece_found a.direction a.pixels.now a.piece l.line l.along c.before.before.find-first.result c.find-end.result (omega arith)
+    (omega arith) c.before.before.find-first.ensures (omega arith) c.find-end.ensures in
+    record { next = sym at-loop.loop-line.invariant.1 ∙ found.next; within = found.within; line = found.line }
 
-loop-again : tie.Need-loop-preserved invariant-loop decreases-loop
-loop-again c =
-    let at-loop : tie.At-loop invariant-loop decreases-loop = search in
-    let at-line-count : tie.After-line-count invariant-loop decreases-loop = search in
-    let at-line-length : tie.After-line-length invariant-loop decreases-loop = search in
-    let at-start : tie.Start invariant-loop decreases-loop = search in
-    let n = at-line-length.line-length.ensures in
-    let m = at-line-count.line-count.ensures in
+loop-line-preserved : tie.Need-loop-line-preserved invariant-loop-line decreases-loop-line
+loop-line-preserved c =
+    let at-loop : tie.At-loop-line invariant-loop-line decreases-loop-line = search in
+    let at-line-count : tie.After-line_count-lines invariant-loop-line decreases-loop-line = search in
+    let at-line-length : tie.After-line_length-length invariant-loop-line decreases-loop-line = search in
+    let at-start : tie.Start invariant-loop-line decreases-loop-line = search in
+    let n = at-line-length.line_length-length.ensures in
+    let m = at-line-count.line_count-lines.ensures in
     let a = at-start.args in
-    let l = at-loop.loop in (
+    let l = at-loop.loop-line in (
       omega arith,
-      sym (piece_line_done a.direction a.pixels.now a.piece l.line l.along c.before.find.result (omega arith) (omega arith)
-          c.before.find.ensures (omega arith))
-          ∙ at-loop.loop.inv.1,
+      sym (piece_line_done a.direction a.pixels.now a.piece l.line l.along c.before.find-first.result (omega arith) (omega arith)
+          c.before.find-first.ensures (omega arith))
+          ∙ at-loop.loop-line.invariant.1,
     )
 
-returns-2 : tie.Need-returns-2 invariant-loop decreases-loop
-returns-2 c =
-    let at-start : tie.Start invariant-loop decreases-loop = search in
-    let m = c.before.before.line-count.ensures in
+returns : tie.Need-returns invariant-loop-line decreases-loop-line
+returns c =
+    let at-start : tie.Start invariant-loop-line decreases-loop-line = search in
+    let m = c.before.before.line_count-lines.ensures in
     let a = at-start.args in
-    sym c.before.loop.invariant.1 ∙ piece_none_left a.direction a.pixels.now a.piece c.before.loop.line c.before.loop.along (omega arith)
+    sym c.before.loop-line.invariant.1 ∙ piece_none_left a.direction a.pixels.now a.piece c.before.loop-line.line c.before.loop-line.along (omega arith)
 
-pub next-strip-spec : {M : Type 1} → statement M
-next-strip-spec =
+pub next_strip_spec : {M : Type 1} → statement M
+next_strip_spec =
     tie.close (tie.spec
-    invariant-loop decreases-loop (search needs) (search needs) loop-holds find-requires find-requires-2 sub-t13 returns (search needs) (search needs)
-    loop-again returns-2)
+    invariant-loop-line decreases-loop-line (search rules) (search rules) loop-line-init find-first-requires find-end-requires overflow_sub-result
+    returns-then-first-length (search rules) (search rules) loop-line-preserved returns)

@@ -1,16 +1,17 @@
 -- `strip_calls::compare::starts_at` meets its contract. Assumes nothing.
-use Rattle.list_laws.proofs.Kit.{arith, needs, le-ltb, lt-ltb}
+use Rattle.list_laws.proofs.Kit.{arith, rules, le-ltb, lt-ltb}
 use Rattle.strip_store.proofs.compare.starts_at.Statement.{statement}
 use Rattle.strip_store.proofs.compare.starts_at.Tie as tie
 
-cast-result : tie.Need-overflow-cast-result
-cast-result c = omega (arith, c.shared-slice-known.given c.before.before.args.i)
+overflow_cast-result : tie.Need-overflow_cast-result
+overflow_cast-result c = omega (arith, c.shared_slice_known-1.given c.before.before.args.i)
+
+returns-then-i-starts : tie.Need-returns-then-i-starts
+returns-then-i-starts c = simp (lt-ltb _ _ c.before.if-i-starts.true)
 
 returns : tie.Need-returns
-returns c = simp (lt-ltb _ _ c.before.if1.true)
+returns c = simp (le-ltb _ _ c.if-i-starts.false)
 
-returns-2 : tie.Need-returns-2
-returns-2 c = simp (le-ltb _ _ c.if1.false)
-
-pub starts-at-spec : {M : Type 1} → statement M
-starts-at-spec = tie.close (tie.spec (search needs) (search needs) cast-result returns returns-2)
+pub starts_at_spec : {M : Type 1} → statement M
+starts_at_spec = tie.close (tie.spec
+    (search rules) (search rules) overflow_cast-result returns-then-i-starts returns)

@@ -1,144 +1,144 @@
 -- `strip_calls::fill::fill` meets its contract. The loop's invariant: storing the strips and starts of the pieces from `i` on is all that is
 -- left to do. Assumes nothing.
-use Rattle.list_laws.proofs.Kit.{◌∙◌, ◌-◌, ◌≤◌, arith, needs}
+use Rattle.list_laws.proofs.Kit.{◌∙◌, ◌-◌, ◌≤◌, arith, rules}
 use Rattle.model.specs.Lent.{lent_by, job_of}
 use Rattle.job_laws.proofs.Checked.{facts, entry_at}
 use Rattle.strip_store.proofs.Filling.{Filling, fill_start, fill_step, fill_end, fill_lengths, store_small, appended_piece}
 use Rattle.strip_store.proofs.fill.fill.Statement.{statement}
 use Rattle.strip_store.proofs.fill.fill.Tie as tie
 
-abbrev invariant-loop : tie.invariant-loop
-invariant-loop size table pixels turns direction strips₀ starts₀ at₀ i₀ strips starts at i =
+abbrev invariant-loop-i : tie.invariant-loop-i
+invariant-loop-i size table pixels turns direction strips₀ starts₀ at₀ i₀ strips starts at i =
     (i ≤ size.count)
     × Filling direction (job_of (lent_by size table pixels)) turns strips₀ starts₀ strips starts at i (size.count - i)
 
-abbrev decreases-loop : tie.decreases-loop
-decreases-loop size table pixels turns direction strips₀ starts₀ at₀ i₀ strips starts at i = size.count - i
+abbrev decreases-loop-i : tie.decreases-loop-i
+decreases-loop-i size table pixels turns direction strips₀ starts₀ at₀ i₀ strips starts at i = size.count - i
 
-loop-holds : tie.Need-loop-init invariant-loop decreases-loop
+loop-i-init : tie.Need-loop-i-init invariant-loop-i decreases-loop-i
 unfolding job_of
-loop-holds c =
-    let at-start : tie.Start invariant-loop decreases-loop = search in
+loop-i-init c =
+    let at-start : tie.Start invariant-loop-i decreases-loop-i = search in
     let a = at-start.args in
-    (omega arith, fill_start a.direction (job_of (lent_by a.size a.table.now a.pixels.now)) a.turns.now a.strips.now a.starts.now)
+    (omega arith, fill_start a.direction (job_of (lent_by a.size a.table.now a.pixels.now)) a.turns.now a.strips-1.now a.starts-1.now)
 
-put-start-requires : tie.Need-put-start-requires invariant-loop decreases-loop
-put-start-requires c κs =
-    let at-loop : tie.At-loop invariant-loop decreases-loop = search in
-    let at-start : tie.Start invariant-loop decreases-loop = search in
+put_start-requires : tie.Need-put_start-requires invariant-loop-i decreases-loop-i
+put_start-requires c κs =
+    let at-loop : tie.At-loop-i invariant-loop-i decreases-loop-i = search in
+    let at-start : tie.Start invariant-loop-i decreases-loop-i = search in
     let a = at-start.args in
-    let r = at-start.pre in
+    let r = at-start.requires in
     let s = store_small a.direction (lent_by a.size a.table.now a.pixels.now) a.turns.now r.well in
-    let n = at-loop.loop.inv.1.counted in
+    let n = at-loop.loop-i.invariant.1.counted in
     omega arith
 
-pixel-start-requires : tie.Need-pixel-start-requires invariant-loop decreases-loop
-pixel-start-requires c κs =
-    let at-then1 : tie.Then1 invariant-loop decreases-loop = search in
-    let at-start : tie.Start invariant-loop decreases-loop = search in
+pixel_start-start-requires : tie.Need-pixel_start-start-requires invariant-loop-i decreases-loop-i
+pixel_start-start-requires c κs =
+    let at-then1 : tie.In-loop-i invariant-loop-i decreases-loop-i = search in
+    let at-start : tie.Start invariant-loop-i decreases-loop-i = search in
     let a = at-start.args in
-    let r = at-start.pre in
+    let r = at-start.requires in
     let f = facts (lent_by a.size a.table.now a.pixels.now) r.well in
     let n = f.entries in
     let m = f.few_pieces in
-    let t = at-then1.if1.taken in
+    let t = at-then1.loop-i-test.true in
     omega arith
 
-mul-turn-or-zero : tie.Need-overflow-mul-turn-or-zero invariant-loop decreases-loop
-mul-turn-or-zero c =
-    let at-then1 : tie.Then1 invariant-loop decreases-loop = search in
-    let at-start : tie.Start invariant-loop decreases-loop = search in
+offset_bounds-turns-i : tie.Need-offset_bounds-turns-i invariant-loop-i decreases-loop-i
+offset_bounds-turns-i c =
+    let at-then1 : tie.In-loop-i invariant-loop-i decreases-loop-i = search in
+    let at-start : tie.Start invariant-loop-i decreases-loop-i = search in
     let a = at-start.args in
-    let r = at-start.pre in
+    let r = at-start.requires in
     let f = facts (lent_by a.size a.table.now a.pixels.now) r.well in
     let n = f.entries in
     let m = f.few_pieces in
-    let t = at-then1.if1.taken in
+    let t = at-then1.loop-i-test.true in
     omega arith
 
-shared-slice-read-turn-or-zero : tie.Need-shared-slice-read-turn-or-zero invariant-loop decreases-loop
-shared-slice-read-turn-or-zero c =
-    let at-then1 : tie.Then1 invariant-loop decreases-loop = search in
-    let at-start : tie.Start invariant-loop decreases-loop = search in
-    let r = at-start.pre.turns in let t = at-then1.if1.taken in omega arith
+bounds-turns-i : tie.Need-bounds-turns-i invariant-loop-i decreases-loop-i
+bounds-turns-i c =
+    let at-then1 : tie.In-loop-i invariant-loop-i decreases-loop-i = search in
+    let at-start : tie.Start invariant-loop-i decreases-loop-i = search in
+    let r = at-start.requires.turns in let t = at-then1.loop-i-test.true in omega arith
 
-put-piece-requires : tie.Need-put-piece-requires invariant-loop decreases-loop
-put-piece-requires c κs =
-    let at-pixel-start : tie.After-pixel-start invariant-loop decreases-loop = search in
-    let at-then1 : tie.Then1 invariant-loop decreases-loop = search in
-    let at-loop : tie.At-loop invariant-loop decreases-loop = search in
-    let at-start : tie.Start invariant-loop decreases-loop = search in
+put_piece-at-requires : tie.Need-put_piece-at-requires invariant-loop-i decreases-loop-i
+put_piece-at-requires c κs =
+    let at-pixel-start : tie.After-pixel_start-start invariant-loop-i decreases-loop-i = search in
+    let at-then1 : tie.In-loop-i invariant-loop-i decreases-loop-i = search in
+    let at-loop : tie.At-loop-i invariant-loop-i decreases-loop-i = search in
+    let at-start : tie.Start invariant-loop-i decreases-loop-i = search in
     let a = at-start.args in
-    let r = at-start.pre in
+    let r = at-start.requires in
     let s = store_small a.direction (lent_by a.size a.table.now a.pixels.now) a.turns.now r.well in
-    let n = at-loop.loop.inv.1.counted in
+    let n = at-loop.loop-i.invariant.1.counted in
     let l = lent_by a.size a.table.now a.pixels.now in
-    (rw at-pixel-start.pixel-start.ensures (entry_at l at-loop.loop.i r.well at-then1.if1.taken), omega arith)
+    (rw at-pixel-start.pixel_start-start.ensures (entry_at l at-loop.loop-i.i r.well at-then1.loop-i-test.true), omega arith)
 
-add-i : tie.Need-overflow-add-i invariant-loop decreases-loop
-add-i c =
-    let at-then1 : tie.Then1 invariant-loop decreases-loop = search in
-    let at-start : tie.Start invariant-loop decreases-loop = search in
+overflow_add-i : tie.Need-overflow_add-i invariant-loop-i decreases-loop-i
+overflow_add-i c =
+    let at-then1 : tie.In-loop-i invariant-loop-i decreases-loop-i = search in
+    let at-start : tie.Start invariant-loop-i decreases-loop-i = search in
     let a = at-start.args in
-    let r = at-start.pre in
+    let r = at-start.requires in
     let f = facts (lent_by a.size a.table.now a.pixels.now) r.well in
     let n = f.entries in
     let m = f.few_pieces in
-    let t = at-then1.if1.taken in
+    let t = at-then1.loop-i-test.true in
     omega arith
 
-loop-less : tie.Need-loop-smaller invariant-loop decreases-loop
-loop-less c =
-    let at-then1 : tie.Then1 invariant-loop decreases-loop = search in
-    let t = at-then1.if1.taken in omega arith
+loop-i-smaller : tie.Need-loop-i-smaller invariant-loop-i decreases-loop-i
+loop-i-smaller c =
+    let at-then1 : tie.In-loop-i invariant-loop-i decreases-loop-i = search in
+    let t = at-then1.loop-i-test.true in omega arith
 
-loop-again : tie.Need-loop-preserved invariant-loop decreases-loop
-loop-again c =
-    let at-turn-or-zero : tie.After-turn-or-zero invariant-loop decreases-loop = search in
-    let at-put-start : tie.After-put-start invariant-loop decreases-loop = search in
-    let at-then1 : tie.Then1 invariant-loop decreases-loop = search in
-    let at-loop : tie.At-loop invariant-loop decreases-loop = search in
-    let at-start : tie.Start invariant-loop decreases-loop = search in
+loop-i-preserved : tie.Need-loop-i-preserved invariant-loop-i decreases-loop-i
+loop-i-preserved c =
+    let at-turn-or-zero : tie.After-turn_or_zero-turn invariant-loop-i decreases-loop-i = search in
+    let at-put-start : tie.After-put_start invariant-loop-i decreases-loop-i = search in
+    let at-then1 : tie.In-loop-i invariant-loop-i decreases-loop-i = search in
+    let at-loop : tie.At-loop-i invariant-loop-i decreases-loop-i = search in
+    let at-start : tie.Start invariant-loop-i decreases-loop-i = search in
     let a = at-start.args in
-    let t = at-then1.if1.taken in (
+    let t = at-then1.loop-i-test.true in (
       omega arith,
-      rw at-put-start.put-start.ensures
+      rw at-put-start.put_start.ensures
           (fill_step a.size.count t
-          (appended_piece a.direction (job_of (lent_by a.size a.table.now a.pixels.now)) a.turns.now at-loop.loop.i
-          at-turn-or-zero.turn-or-zero.ensures (c.before.put-piece.ensures a.size)) at-loop.loop.inv.1),
+          (appended_piece a.direction (job_of (lent_by a.size a.table.now a.pixels.now)) a.turns.now at-loop.loop-i.i
+          at-turn-or-zero.turn_or_zero-turn.ensures (c.before.put_piece-at.ensures a.size)) at-loop.loop-i.invariant.1),
     )
 
-put-start-requires-2 : tie.Need-put-start-requires-2 invariant-loop decreases-loop
-put-start-requires-2 c κs =
-    let at-loop : tie.At-loop invariant-loop decreases-loop = search in
-    let at-start : tie.Start invariant-loop decreases-loop = search in
+put_start-requires-2 : tie.Need-put_start-requires-2 invariant-loop-i decreases-loop-i
+put_start-requires-2 c κs =
+    let at-loop : tie.At-loop-i invariant-loop-i decreases-loop-i = search in
+    let at-start : tie.Start invariant-loop-i decreases-loop-i = search in
     let a = at-start.args in
-    let r = at-start.pre in
+    let r = at-start.requires in
     let s = store_small a.direction (lent_by a.size a.table.now a.pixels.now) a.turns.now r.well in
-    let n = at-loop.loop.inv.1.counted in
+    let n = at-loop.loop-i.invariant.1.counted in
     omega arith
 
-same_length : tie.Need-same-length invariant-loop decreases-loop
-same_length c =
-    let at-loop : tie.At-loop invariant-loop decreases-loop = search in
-    (fill_lengths at-loop.loop.inv.1).0
+shape_of-strips : tie.Need-shape_of-strips invariant-loop-i decreases-loop-i
+shape_of-strips c =
+    let at-loop : tie.At-loop-i invariant-loop-i decreases-loop-i = search in
+    (fill_lengths at-loop.loop-i.invariant.1).0
 
-same-length-2 : tie.Need-same-length-2 invariant-loop decreases-loop
-same-length-2 c =
-    let at-loop : tie.At-loop invariant-loop decreases-loop = search in
-    c.before.before.put-start2.auto.0 ∙ (fill_lengths at-loop.loop.inv.1).1
+shape_of-starts : tie.Need-shape_of-starts invariant-loop-i decreases-loop-i
+shape_of-starts c =
+    let at-loop : tie.At-loop-i invariant-loop-i decreases-loop-i = search in
+    c.before.before.put_start-2.auto.0 ∙ (fill_lengths at-loop.loop-i.invariant.1).1
 
-returns : tie.Need-returns invariant-loop decreases-loop
+returns : tie.Need-returns invariant-loop-i decreases-loop-i
 returns c =
-    let at-else1 : tie.Else1 invariant-loop decreases-loop = search in
-    let at-loop : tie.At-loop invariant-loop decreases-loop = search in
-    let at-start : tie.Start invariant-loop decreases-loop = search in
-    let l = at-loop.loop.inv.0 in
-    let t = at-else1.if1.left in
-    rw c.before.before.put-start2.ensures (fill_end at-start.args.size.count (omega arith) at-loop.loop.inv.1)
+    let at-else1 : tie.After-loop-i invariant-loop-i decreases-loop-i = search in
+    let at-loop : tie.At-loop-i invariant-loop-i decreases-loop-i = search in
+    let at-start : tie.Start invariant-loop-i decreases-loop-i = search in
+    let l = at-loop.loop-i.invariant.0 in
+    let t = at-else1.loop-i-test.false in
+    rw c.before.before.put_start-2.ensures (fill_end at-start.args.size.count (omega arith) at-loop.loop-i.invariant.1)
 
 pub fill_spec : {M : Type 1} → statement M
 fill_spec =
     tie.close (tie.spec
-    invariant-loop decreases-loop loop-holds put-start-requires pixel-start-requires mul-turn-or-zero shared-slice-read-turn-or-zero (search needs)
-    put-piece-requires add-i loop-less loop-again put-start-requires-2 same_length same-length-2 returns)
+    invariant-loop-i decreases-loop-i loop-i-init put_start-requires pixel_start-start-requires offset_bounds-turns-i bounds-turns-i (search rules)
+    put_piece-at-requires overflow_add-i loop-i-smaller loop-i-preserved put_start-requires-2 shape_of-strips shape_of-starts returns)

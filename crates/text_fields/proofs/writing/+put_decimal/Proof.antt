@@ -35,7 +35,7 @@ put_decimal_returns : (t : ℕ) → put-decimal-lts.Need-returns (
 ) (put_decimal_at t) put-decimal.Post
 put_decimal_returns t c =
     let a = c.before.before.args in
-    let d : decimal a.places a.k ≡ [] = rw c.if1.true (decimal_none a.k) in
+    let d : decimal a.places a.k ≡ [] = rw c.if-places-eq0.true (decimal_none a.k) in
     (rw d (omega arith), rw d)
 
 put_decimal_digit_requires : (t : ℕ) → put-decimal-lts.Need-digit-requires (
@@ -80,7 +80,7 @@ put_decimal_returns_2 t c =
     let a = c.before.before.before.before.before.before.before.before.args in
     let e : a.places ≡ suc (a.places - 1) = omega arith in
     let d : decimal a.places a.k ≡ (48 + a.k) ∷ [] =
-    ap (λ (p : ℕ). decimal p a.k) e ∙ decimal_one (a.places - 1) a.k c.before.before.before.before.before.if2.true in
+    ap (λ (p : ℕ). decimal p a.k) e ∙ decimal_one (a.places - 1) a.k c.before.before.before.before.before.if-k-lt10.true in
     let b : c.before.before.before.digit.result ≡ 48 + a.k = c.before.before.before.digit.ensures in
     (rw d c.before.before.put_byte.ensures.0, rw (d, ← b) c.before.before.put_byte.ensures.1)
 
@@ -128,8 +128,8 @@ put_decimal_put_byte_requires_2 : (t : ℕ) → put-decimal-lts.Need-put-byte-re
 put_decimal_put_byte_requires_2 t c κs =
     let a = c.before.before.before.before.before.before.before.before.before.args in
     let s = decimal_short (a.places - 1) (a.k / 10) in
-    let e : c.before.before.before.before.put-decimal.result ≡ a.at + length (decimal (a.places - 1) (a.k / 10)) =
-    c.before.before.before.before.put-decimal.ensures.0 in
+    let e : c.before.before.before.before.put_decimal-next.result ≡ a.at + length (decimal (a.places - 1) (a.k / 10)) =
+    c.before.before.before.before.put_decimal-next.ensures.0 in
     omega arith
 
 put_decimal_same_length_2 : (t : ℕ) → put-decimal-lts.Need-same-length-2 (
@@ -140,7 +140,7 @@ put_decimal_same_length_2 : (t : ℕ) → put-decimal-lts.Need-same-length-2 (
   put_decimal_below t,
   put-decimal.Post,
 ) (put_decimal_at t) put-decimal.Post
-put_decimal_same_length_2 t c = c.before.before.put-byte2.auto.0 ∙ c.before.before.before.before.before.before.before.put-decimal.auto.0
+put_decimal_same_length_2 t c = c.before.before.put_byte-2.auto.0 ∙ c.before.before.before.before.before.before.before.put_decimal-next.auto.0
 
 put_decimal_returns_3 : (t : ℕ) → put-decimal-lts.Need-returns-3 (
   digit-reads.Asked,
@@ -156,20 +156,20 @@ put_decimal_returns_3 t c =
     let ds = decimal (a.places - 1) (a.k / 10) in
     let d : decimal a.places a.k ≡ ds ++ ((48 + (a.k % 10)) ∷ []) =
     ap (λ (p : ℕ). decimal p a.k) e
-    ∙ decimal_more (a.places - 1) a.k c.before.before.before.before.before.before.before.before.before.if2.false in
-    let b : c.before.before.before.digit2.result ≡ 48 + (a.k % 10) = c.before.before.before.digit2.ensures in
-    let n : c.before.before.before.before.before.before.before.put-decimal.result ≡ a.at + length ds =
-    c.before.before.before.before.before.before.before.put-decimal.ensures.0 in
-    let w : c.before.before.before.before.before.before.before.put-decimal.new.0 ≡ sets a.text.now a.at ds =
-    c.before.before.before.before.before.before.before.put-decimal.ensures.1 in
-    let r : c.before.before.put-byte2.result ≡ c.before.before.before.before.before.before.before.put-decimal.result + 1 =
-    c.before.before.put-byte2.ensures.0 in (
+    ∙ decimal_more (a.places - 1) a.k c.before.before.before.before.before.before.before.before.before.if-k-lt10.false in
+    let b : c.before.before.before.digit-2.result ≡ 48 + (a.k % 10) = c.before.before.before.digit-2.ensures in
+    let n : c.before.before.before.before.before.before.before.put_decimal-next.result ≡ a.at + length ds =
+    c.before.before.before.before.before.before.before.put_decimal-next.ensures.0 in
+    let w : c.before.before.before.before.before.before.before.put_decimal-next.new.0 ≡ sets a.text-1.now a.at ds =
+    c.before.before.before.before.before.before.before.put_decimal-next.ensures.1 in
+    let r : c.before.before.put_byte-2.result ≡ c.before.before.before.before.before.before.before.put_decimal-next.result + 1 =
+    c.before.before.put_byte-2.ensures.0 in (
       rw (d, length-append) (omega arith),
-      c.before.before.put-byte2.ensures.1 ∙ rw (d, sets_append, ← b, ← w, ← n),
+      c.before.before.put_byte-2.ensures.1 ∙ rw (d, sets_append, ← b, ← w, ← n),
     )
 
-pub +put-decimal-spec : {M : Type 1} → statement M
-+put-decimal-spec = close μ_put_decimal λ t. put-decimal-lts.spec (
+pub put_decimal_spec : {M : Type 1} → statement M
+put_decimal_spec = close μ_put_decimal λ t. put-decimal-lts.spec (
   digit-reads.Asked,
   digit-reads.Learnt,
   put-byte-reads.Asked,
