@@ -41,13 +41,13 @@ field_ahead {text} {p} k end rest h e a =
 pub fields_ahead : {text : List ℕ} {p : ℕ} (ends ks rest : List ℕ) → Writable ends ks → Ahead text p (fields_text ends ks ++ rest)
     → FieldReads (fields_at ends text p) ks text rest
 unfolding fields_at fields_text
-fields_ahead {text} {p} [] [] rest w a = record { next = p; reads = refl; ahead = a }
-fields_ahead {text} {p} [] (k ∷ ks) rest w a = absurd w
-fields_ahead {text} {p} (end ∷ ends) [] rest w a = absurd w
-fields_ahead {text} {p} (end ∷ ends) (k ∷ ks) rest w a =
+fields_ahead {text = text} {p = p} [] [] rest w a = record { next = p; reads = refl; ahead = a }
+fields_ahead {text = text} {p = p} [] (k ∷ ks) rest w a = absurd w
+fields_ahead {text = text} {p = p} (end ∷ ends) [] rest w a = absurd w
+fields_ahead {text = text} {p = p} (end ∷ ends) (k ∷ ks) rest w a =
     let a' : Ahead text p (digits k ++ (end ∷ (fields_text ends ks ++ rest))) = rw append_assoc at a in
     let f : FieldReads (field_at end text p) k text (fields_text ends ks ++ rest) = field_ahead k end (fields_text ends ks ++ rest) w.1 w.0 a' in
-    let r : FieldReads (fields_at ends text f.next) ks text rest = fields_ahead ends ks rest w.2 f.ahead in
+    let r : FieldReads (fields_at ends text f.next) ks text rest = fields_ahead {p = f.next} ends ks rest w.2 f.ahead in
     record { next = r.next; reads = rw (f.reads, r.reads, onward); ahead = r.ahead }
 
 -- a line that lies ahead is read

@@ -73,16 +73,16 @@ rows_ahead : {text : List ℕ} {p : ℕ} (pixels : List ℕ) (l s left line : �
     → ((i : ℕ) → i < s + left * l → get_or pixels i 0 ≤ 1) → Ahead text p (rows_text pixels l s left ++ rest)
     → FieldGives (rows_at text l left p line) (λ n. record { pixels = bytes_part pixels s (left * l); next = n }) text rest
 unfolding rows_at rows_text
-rows_ahead {text} {p} pixels l s zero line rest h a =
+rows_ahead {text = text} {p = p} pixels l s zero line rest h a =
     record { next = p; gives = rw zero-mul; ahead = a }
-rows_ahead {text} {p} pixels l s (suc left) line rest h a =
+rows_ahead {text = text} {p = p} pixels l s (suc left) line rest h a =
     let a' : Ahead text p (row_text (bytes_part pixels s l) ++ (rows_text pixels l (s + l) left ++ rest)) =
     rw (append_assoc (row_text (bytes_part pixels s l)) (rows_text pixels l (s + l) left) rest) at a in
     let size : suc left * l ≡ l + left * l = omega (arith, suc-mul left l) in
     let f : FieldReads (row_at text (length (bytes_part pixels s l)) p) (bytes_part pixels s l) text (rows_text pixels l (s + l) left ++ rest) =
     row_ahead (bytes_part pixels s l) (rows_text pixels l (s + l) left ++ rest) (part_bits pixels s l (λ i b. h i (omega arith))) a' in
     let g : FieldGives (rows_at text l left f.next (suc line)) (λ n. record { pixels = bytes_part pixels (s + l) (left * l); next = n }) text rest =
-    rows_ahead pixels l (s + l) left (suc line) rest (λ i b. h i (omega arith)) f.ahead in
+    rows_ahead {p = f.next} pixels l (s + l) left (suc line) rest (λ i b. h i (omega arith)) f.ahead in
     let reads : row_at text l p ≡ got (bytes_part pixels s l) f.next = rw part_length at f.reads in
     let whole : bytes_part pixels s (suc left * l) ≡ bytes_part pixels s l ++ bytes_part pixels (s + l) (left * l) =
     ap (λ (n : ℕ). bytes_part pixels s n) size ∙ part_append pixels s l (left * l) in

@@ -59,8 +59,8 @@ loop-piece-preserved c =
     ≡ moved_by (OwnedBy (now.piece + 1)) j now.piece (place_of v now.piece) now.owners-1 =
     c.before.before.paint_piece.ensures in (
       omega arith,
-      ap length after ∙ length_painted j v now.piece now.owners-1 ∙ now.inv.1,
-      rw after (piece_painted j v now.piece now.owners-1 now.inv.2),
+      ap length after ∙ length_painted j v now.piece now.owners-1 ∙ now.invariant.1,
+      rw after (piece_painted j v now.piece now.owners-1 now.invariant.2),
     )
 
 shape_of-owners : tie.Need-shape_of-owners invariant-loop-piece decreases-loop-piece
@@ -75,9 +75,9 @@ returns c =
     let s : tie.Start invariant-loop-piece decreases-loop-piece = search in
     let at-loop : tie.At-loop-piece invariant-loop-piece decreases-loop-piece = search in
     let now = at-loop.loop-piece in
-    let all : now.piece ≡ s.args.size.count = let out = c.loop-piece-test.false in let most = now.inv.0 in omega arith in
-    let full = now.inv.1 in
-    record { full = full; owners = λ k l. (rw all at now.inv.2) k (omega arith) }
+    let all : now.piece ≡ s.args.size.count = let out = c.loop-piece-test.false in let most = now.invariant.0 in omega arith in
+    let full = now.invariant.1 in
+    record { full = full; owners = λ k l. (rw all at now.invariant.2) k (omega arith) }
 
 pub paint_spec : {M : Type 1} → statement M
 paint_spec =

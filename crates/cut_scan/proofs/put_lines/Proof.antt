@@ -61,14 +61,14 @@ loop-line-preserved c =
     let a = s.args in
     let now = at-loop.loop-line in
     let l = in-loop.loop-line-test.true in
-    let i = now.inv.1 in
+    let i = now.invariant.1 in
     let next = c.before.put_row-next.ensures.next in (
       omega arith,
       omega arith,
       left_append (row_from a.owners.now a.grid now.line 0 0)
           (strips_from a.direction (grid_units a.direction a.owners.now a.grid) (now.line + 1) (suc a.grid.lines - (now.line + 1)))
           (subst (λ (rest : List Strip). Left a.direction a.lines-1.now a.at rest now.lines-1 now.next (all s))
-          (lines_step a.direction a.owners.now a.grid now.line l) now.inv.2)
+          (lines_step a.direction a.owners.now a.grid now.line l) now.invariant.2)
           c.before.put_row-next.ensures.stored,
     )
 
@@ -85,11 +85,11 @@ returns c =
     let now = at-loop.loop-line in
     let o = c.loop-line-test.false in
     let g = s.requires.0.lines in
-    let i = now.inv.1 in
-    let j = now.inv.0 in (
+    let i = now.invariant.1 in
+    let j = now.invariant.0 in (
       left_end_lem
           (subst (λ (rest : List Strip). Left a.direction a.lines-1.now a.at rest now.lines-1 now.next (all s))
-          (lines_end a.direction a.owners.now a.grid now.line (omega arith)) now.inv.2),
+          (lines_end a.direction a.owners.now a.grid now.line (omega arith)) now.invariant.2),
       omega arith,
     )
 

@@ -60,11 +60,11 @@ returns c =
     let out : tie.After-loop-a invariant-loop-a decreases-loop-a = search in
     let a = s.args in
     let now = at-loop.loop-a in
-    let all : now.a ≡ a.grid.length = let o = out.loop-a-test.false in let i = now.inv.0 in omega arith in
+    let all : now.a ≡ a.grid.length = let o = out.loop-a-test.false in let i = now.invariant.0 in omega arith in
     let next = c.before.close_run.ensures.next in
-    let i = now.inv.2 in
+    let i = now.invariant.2 in
     let g = s.requires.0.length in
-    (row_stored a.owners.now a.grid a.line now.a now.run all now.inv.3 c.before.close_run.ensures.stored, omega arith)
+    (row_stored a.owners.now a.grid a.line now.a now.run all now.invariant.3 c.before.close_run.ensures.stored, omega arith)
 
 pub put_row_spec : {M : Type 1} → statement M
 put_row_spec =

@@ -1,5 +1,5 @@
 -- `job_lines::job_ranges` makes the tests of `job_line_causes` in their order. Assumes nothing.
-use Rattle.list_laws.proofs.Kit.{◌∙◌, ◌≡◌, ap, true, ◌*◌, ◌≤◌, arith, rules, le-ltb, lt-ltb}
+use Rattle.list_laws.proofs.Kit.{sym, ◌∙◌, ◌≡◌, ap, true, ◌*◌, ◌≤◌, arith, rules, le-ltb, lt-ltb}
 use Rattle.model.specs.Refusal.{unless}
 use Rattle.model.specs.Lent.{numbers_in_range}
 use Rattle.list_laws.proofs.Tests.{said_no, said_yes}
@@ -12,13 +12,13 @@ returns-then-not-numbers_in_range : tie.Need-returns-then-not-numbers_in_range
 unfolding unless
 returns-then-not-numbers_in_range c =
     let asked : tie.After-numbers_in_range = search in
-    (ap job.Refused c.refusal.ensures ∙ simp (said_no asked.numbers_in_range.ensures c.before.if-not-numbers_in_range.true, unless), omega arith)
+    (ap job.Refused c.refusal.ensures ∙ simp (sym asked.numbers_in_range.ensures ∙ c.before.if-not-numbers_in_range.true, unless), omega arith)
 
 -- the numbers pass where the first test is passed
 ranges : (p : tie.Else-not-numbers_in_range) →
     let at-start' : tie.Start = search in
     numbers_in_range at-start'.args.j.size ≡ true
-ranges p = let asked : tie.After-numbers_in_range = search in said_yes asked.numbers_in_range.ensures p.if-not-numbers_in_range.false
+ranges p = let asked : tie.After-numbers_in_range = search in sym asked.numbers_in_range.ensures ∙ p.if-not-numbers_in_range.false
 
 overflow_mul-size : tie.Need-overflow_mul-size
 overflow_mul-size c =

@@ -1,5 +1,5 @@
 -- `job_lines::piece_ranges` makes the tests of `piece_line_causes` in their order. Assumes nothing.
-use Rattle.list_laws.proofs.Kit.{◌∙◌, ◌≡◌, ap, true, arith, rules, eqb, leb, eq-eqb, le-ltb, leb-true, lt-ltb, ne_eqb}
+use Rattle.list_laws.proofs.Kit.{sym, ◌∙◌, ◌≡◌, ap, true, arith, rules, eqb, leb, eq-eqb, le-ltb, leb-true, lt-ltb, ne_eqb}
 use Rattle.model.specs.Refusal.{unless}
 use Rattle.model.specs.Lent.{lock_bound, sides_in_range}
 use Rattle.job_laws.proofs.Ranges.{area_of}
@@ -25,26 +25,26 @@ number p = eq-eqb _ _ p.if-h-i.false
 returns-then-not-sides_in_range : tie.Need-returns-then-not-sides_in_range
 unfolding unless
 returns-then-not-sides_in_range c =
-    let e2 = said_no c.before.before.sides_in_range.ensures c.before.if-not-sides_in_range.true in
+    let e2 = sym c.before.before.sides_in_range.ensures ∙ c.before.if-not-sides_in_range.true in
     (ap piece.Refused c.refusal-then-not-sides_in_range.ensures ∙ simp (number search, e2, unless), tt)
 
 -- the sides and the turns are in range where the second is passed
 sides : (p : tie.Else-not-sides_in_range) →
     let at-start' : tie.Start = p.before.before.before.before in
     sides_in_range at-start'.args.h.columns at-start'.args.h.rows at-start'.args.h.turns ≡ true
-sides p = let asked : tie.After-sides_in_range = search in said_yes asked.sides_in_range.ensures p.if-not-sides_in_range.false
+sides p = let asked : tie.After-sides_in_range = search in sym asked.sides_in_range.ensures ∙ p.if-not-sides_in_range.false
 
 returns-then-not-lock_in_range : tie.Need-returns-then-not-lock_in_range
 unfolding unless
 returns-then-not-lock_in_range c =
-    let e3 = said_no c.before.before.lock_in_range.ensures c.before.if-not-lock_in_range.true in
+    let e3 = sym c.before.before.lock_in_range.ensures ∙ c.before.if-not-lock_in_range.true in
     (ap piece.Refused c.refusal-then-not-lock_in_range.ensures ∙ simp (number search, sides search, e3, unless), tt)
 
 -- the lock is in range where the third is passed
 lock : (p : tie.Else-not-lock_in_range) →
     let at-start' : tie.Start = p.before.before.before.before.before.before in
     leb at-start'.args.h.lock lock_bound ≡ true
-lock p = let asked : tie.After-lock_in_range = search in said_yes asked.lock_in_range.ensures p.if-not-lock_in_range.false
+lock p = let asked : tie.After-lock_in_range = search in sym asked.lock_in_range.ensures ∙ p.if-not-lock_in_range.false
 
 returns-then-j-h : tie.Need-returns-then-j-h
 unfolding unless

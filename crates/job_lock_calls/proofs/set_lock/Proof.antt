@@ -29,7 +29,7 @@ ends l i station o r table e answer memory =
 
 -- the job passes its check behind the first test
 job_well : (c : tie.Else-not-check_job) → let s : tie.Start = search in lent_well (lent s) ≡ true
-job_well c = said_yes c.before.check_job.ensures c.if-not-check_job.false
+job_well c = sym c.before.check_job.ensures ∙ c.if-not-check_job.false
 
 -- behind the second the station is the planner's or the cutter's
 station-known : (c : tie.Else-station-gt-CUTTERS_STATION) → let s : tie.Start = search in ltb cutters_station s.args.station ≡ false
@@ -42,7 +42,7 @@ returns-then-not-check_job : tie.Need-returns-then-not-check_job
 unfolding set_lock_call unless
 returns-then-not-check_job c =
     let s : tie.Start = search in
-    let well : lent_well (lent s) ≡ false = said_no c.before.before.check_job.ensures c.before.if-not-check_job.true in
+    let well : lent_well (lent s) ≡ false = sym c.before.before.check_job.ensures ∙ c.before.if-not-check_job.true in
     ends (lent s) s.args.piece s.args.station (refused (plain_refusal 8)) c.refused.result s.args.table.now (rw (well, unless))
     c.refused.ensures refl
 

@@ -35,7 +35,7 @@ returns-then-bit-gt1 c =
     let e : a.count - l.k ≡ suc (a.count - (l.k + 1)) = omega arith in
     let n : fill_marks text (a.count - l.k) (a.p + l.k) (a.at + l.k) l.pixels-1 ≡ wrong =
     rw e (marks_none text (a.count - (l.k + 1)) (a.p + l.k) (a.at + l.k) l.pixels-1 m) in
-    stored_no a.at a.pixels-1.now l.pixels-1 (marks_at text a.count a.p) (sym l.inv.1 ∙ n)
+    stored_no a.at a.pixels-1.now l.pixels-1 (marks_at text a.count a.p) (sym l.invariant.1 ∙ n)
 
 loop-k-preserved : tie.Need-loop-k-preserved invariant-loop-k decreases-loop-k
 loop-k-preserved c =
@@ -57,7 +57,7 @@ loop-k-preserved c =
     rw e (marks_more text (a.count - (k + 1)) (a.p + k) (a.at + k) bit (suc (a.p + k)) l.pixels-1 m) in
     let i : a.p + (k + 1) ≡ suc (a.p + k) = omega arith in
     let i' : a.at + (k + 1) ≡ suc (a.at + k) = omega arith in
-    (omega arith, rw (i, i', c.before.before.put_byte.ensures.1) (sym s ∙ l.inv.1), c.before.before.put_byte.auto.0 ∙ l.inv.2)
+    (omega arith, rw (i, i', c.before.before.put_byte.ensures.1) (sym s ∙ l.invariant.1), c.before.before.put_byte.auto.0 ∙ l.invariant.2)
 
 shape_of-pixels : tie.Need-shape_of-pixels invariant-loop-k decreases-loop-k
 shape_of-pixels c = c.before.loop-k.invariant.2

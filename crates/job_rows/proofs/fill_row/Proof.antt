@@ -1,5 +1,5 @@
 -- `job_rows::fill_row`: the word, the marks, the line end. Assumes nothing.
-use Rattle.list_laws.proofs.Kit.{◌≡◌, ap, refl, ◌+◌, ℕ, eqb, rules, not-false, not-true}
+use Rattle.list_laws.proofs.Kit.{◌∙◌, sym, ◌≡◌, ap, refl, ◌+◌, ℕ, eqb, rules, not-false, not-true}
 use Rattle.model.specs.Text.{wrong}
 use Rattle.model.specs.JobText.{marks_at, row_at}
 use Rattle.list_laws.proofs.Tests.{said_no, said_yes}
@@ -12,7 +12,7 @@ returns-then-not-word_at c =
     let at-start : tie.Start = search in
     let a = at-start.args in
     let text = a.text.now in
-    let e : row_at text a.l a.p ≡ wrong = row_not text a.l a.p (said_no c.before.word_at.ensures c.if-not-word_at.true) in
+    let e : row_at text a.l a.p ≡ wrong = row_not text a.l a.p (sym c.before.word_at.ensures ∙ c.if-not-word_at.true) in
     rw e refl
 
 shape_of-pixels-then-not-fill_marks : tie.Need-shape_of-pixels-then-not-fill_marks
@@ -30,7 +30,7 @@ returns-then-not-fill_marks c =
     let text = a.text.now in
     let m = stored_lost a.at a.pixels-1.now at-fill-marks.fill_marks.new.1.1.1.0 _ (marks_at text a.l (a.p + 4))
     at-fill-marks.fill_marks.ensures (not-true _ c.if-not-fill_marks.true) in
-    let e : row_at text a.l a.p ≡ wrong = row_none text a.l a.p (said_yes at-word-at.word_at.ensures at-else1.if-not-word_at.false) m in
+    let e : row_at text a.l a.p ≡ wrong = row_none text a.l a.p (sym at-word-at.word_at.ensures ∙ at-else1.if-not-word_at.false) m in
     rw e refl
 
 shape_of-pixels : tie.Need-shape_of-pixels
@@ -48,7 +48,7 @@ returns c =
     let text = a.text.now in
     let k = stored_kept a.at a.pixels-1.now at-fill-marks.fill_marks.new.1.1.1.0 _ (marks_at text a.l (a.p + 4))
     at-fill-marks.fill_marks.ensures (not-false _ c.before.if-not-fill_marks.false) in
-    row_last text a.l a.p (said_yes at-word-at.word_at.ensures at-else1.if-not-word_at.false) a.at a.pixels-1.now _ k _
+    row_last text a.l a.p (sym at-word-at.word_at.ensures ∙ at-else1.if-not-word_at.false) a.at a.pixels-1.now _ k _
     (ap (λ (b : ℕ). eqb b 10) c.byte_at.ensures)
 
 pub fill_row_spec : {M : Type 1} → statement M

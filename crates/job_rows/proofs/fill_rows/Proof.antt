@@ -76,7 +76,7 @@ returns-then-not-fill_row c =
     ap (λ (k : ℕ). fill_rows text a.l k l.next (a.line + y) (a.at + y * a.l) l.pixels-1) e
     ∙ rows_none text a.l (l.left - 1) l.next (a.line + y) (a.at + y * a.l) l.pixels-1 n in
     let g = rows_refused a.at a.pixels-1.now at-fill-row.fill_row.new.1.1.1.0 (refusal_at wrong_form (a.line + y))
-    (rows_at text a.l a.w a.p a.line) (sym l.inv.2 ∙ f) in
+    (rows_at text a.l a.w a.p a.line) (sym l.invariant.2 ∙ f) in
     (ap rows.Refused c.refusal.ensures ∙ g.0, g.1)
 
 loop-left-preserved : tie.Need-loop-left-preserved invariant-loop-left decreases-loop-left
@@ -100,8 +100,8 @@ loop-left-preserved c =
     ∙ row_step text a.l l.next (a.at + y * a.l) l.pixels-1 _ k (l.left - 1) (a.line + y) in (
       omega arith,
       row_inside text a.l l.next (a.at + y * a.l) l.pixels-1 _ k,
-      rw (i, m, o) (sym s ∙ l.inv.2),
-      at-fill-row.fill_row.auto.1.1.1.0 ∙ l.inv.3,
+      rw (i, m, o) (sym s ∙ l.invariant.2),
+      at-fill-row.fill_row.auto.1.1.1.0 ∙ l.invariant.3,
     )
 
 shape_of-pixels : tie.Need-shape_of-pixels invariant-loop-left decreases-loop-left

@@ -60,7 +60,7 @@ loop-i-preserved c =
     let below = in-loop.loop-i-test.true in
     let wrote : c.entry_of.result ≡ entry_of (place_of (layout_of l.layout) l.i) = c.entry_of.ensures ∙ ap entry_of c.before.place_at.ensures in (
       simp length-set (omega arith),
-      subst (λ (e : List ℕ). Rewritten start (set l.layout l.i e) (l.i + 1)) (sym wrote) (rewritten_step start l.layout l.i below l.inv.1),
+      subst (λ (e : List ℕ). Rewritten start (set l.layout l.i e) (l.i + 1)) (sym wrote) (rewritten_step start l.layout l.i below l.invariant.1),
     )
 
 shape_of-layout : tie.Need-shape_of-layout invariant-loop-i decreases-loop-i

@@ -1,5 +1,5 @@
 -- `layout_read_calls::layout_line` meets its contract: form first, then the three numbers. Assumes nothing.
-use Rattle.list_laws.proofs.Kit.{◌≡◌, [], arith, rules}
+use Rattle.list_laws.proofs.Kit.{◌∙◌, sym, ◌≡◌, [], arith, rules}
 use Rattle.model.specs.Lent.{job_of, lent_by}
 use Rattle.model.specs.Text.{wrong, got, three_fields, line_at}
 use Rattle.model.specs.LayoutText.{layout_word}
@@ -28,7 +28,7 @@ returns-then-not-same_sheet c =
     let ks = in_front read.result.numbers 3 [] in
     let next = at-form.form-1.given.0.0 in
     let e : line_at layout_word three_fields a.text.now 0 ≡ got ks next = rw at-form.form-1.given.1 at read.ensures.same in
-    let unlike = said_no c.before.before.same_sheet.ensures c.before.if-not-same_sheet.true in
+    let unlike = sym c.before.before.same_sheet.ensures ∙ c.before.if-not-same_sheet.true in
     (λ table pixels. rw (c.refused_in-then-not-same_sheet.ensures, layout_line_unlike (job_of (lent_by a.size table pixels)) a.text.now ks next e unlike), omega arith)
 
 returns : tie.Need-returns
@@ -42,7 +42,7 @@ returns c =
     let ks = in_front read.result.numbers 3 [] in
     let next = at-form.form-1.given.0.0 in
     let e : line_at layout_word three_fields a.text.now 0 ≡ got ks next = rw at-form.form-1.given.1 at read.ensures.same in
-    let like = said_yes c.before.same_sheet.ensures c.if-not-same_sheet.false in (
+    let like = sym c.before.same_sheet.ensures ∙ c.if-not-same_sheet.false in (
       λ table pixels. rw (layout_line_given (job_of (lent_by a.size table pixels)) a.text.now ks next e like),
       rw at-form.form-1.given.1 at read.ensures.inside,
     )

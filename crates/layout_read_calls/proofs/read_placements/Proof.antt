@@ -57,7 +57,7 @@ returns-in-Refused c =
     → placements_at (job_of (lent_by a.size a.table.now pixels)) a.text.now a.size.count 0 a.p 2 ≡ refused c.before.refusal-1.given.0.0 =
     λ pixels.
     progress_refused (λ pixels. job_of (lent_by a.size a.table.now pixels)) a.size.count a.text.now a.p a.layout-1.now l.layout-1 l.at
-    l.line l.i l.inv.4 at-then1.loop-i-test.true _ pixels
+    l.line l.i l.invariant.4 at-then1.loop-i-test.true _ pixels
     (line_refused (placement_line (job_of (lent_by a.size a.table.now pixels)) a.text.now l.i l.at l.line) _
     (sym c.before.refusal-1.given.1 ∙ at-placement-line.placement_line.ensures.0 pixels)) in
     (λ pixels. sym (ap done_answer (whole pixels)), λ pixels v e. absurd (refused_given (sym (whole pixels) ∙ e)))
@@ -67,7 +67,7 @@ overflow_add-line c =
     let at-then1 : tie.In-loop-i invariant-loop-i decreases-loop-i = search in
     let at-loop : tie.At-loop-i invariant-loop-i decreases-loop-i = search in
     let at-start : tie.Start invariant-loop-i decreases-loop-i = search in
-    let l = at-loop.loop-i in let e = l.inv.2 in let n = at-start.requires.0.few_pieces in let t = at-then1.loop-i-test.true in omega arith
+    let l = at-loop.loop-i in let e = l.invariant.2 in let n = at-start.requires.0.few_pieces in let t = at-then1.loop-i-test.true in omega arith
 
 overflow_add-i : tie.Need-overflow_add-i invariant-loop-i decreases-loop-i
 overflow_add-i c =
@@ -92,11 +92,11 @@ loop-i-preserved c =
     let g = at_place.place-1.given in (
       let t = at-then1.loop-i-test.true in omega arith,
       rw g.1 at at-placement-line.placement_line.ensures.1,
-      let e = l.inv.2 in omega arith,
-      c.before.set_entry.auto.0 ∙ l.inv.3,
+      let e = l.invariant.2 in omega arith,
+      c.before.set_entry.auto.0 ∙ l.invariant.3,
       rw c.before.set_entry.ensures
           (progress_more (λ pixels. job_of (lent_by a.size a.table.now pixels)) a.size.count a.text.now a.p a.layout-1.now l.layout-1
-          l.at l.line l.i l.inv.4 at-then1.loop-i-test.true g.0.0 g.0.1.0
+          l.at l.line l.i l.invariant.4 at-then1.loop-i-test.true g.0.0 g.0.1.0
           (λ pixels.
           line_read_lem (placement_line (job_of (lent_by a.size a.table.now pixels)) a.text.now l.i l.at l.line) _ _
           (sym g.1 ∙ at-placement-line.placement_line.ensures.0 pixels))),
@@ -118,7 +118,7 @@ returns-then-at-text c =
     λ pixels.
     rw c.refused_in.ensures
     (progress_extra (λ pixels. job_of (lent_by a.size a.table.now pixels)) a.size.count a.text.now a.p a.layout-1.now l.layout-1 l.at
-    l.line l.i l.inv.4 c.before.before.loop-i-test.false c.before.if-at-text.true pixels) in
+    l.line l.i l.invariant.4 c.before.before.loop-i-test.false c.before.if-at-text.true pixels) in
     (λ pixels. sym (ap done_answer (whole pixels)), λ pixels v e. absurd (refused_given (sym (whole pixels) ∙ e)))
 
 shape_of-layout : tie.Need-shape_of-layout invariant-loop-i decreases-loop-i
@@ -133,13 +133,13 @@ returns c =
     let a = at-start.args in
     let l = at-loop.loop-i in
     let whole : (pixels : List ℕ)
-    → placements_at (job_of (lent_by a.size a.table.now pixels)) a.text.now a.size.count 0 a.p 2 ≡ given l.inv.4.front =
+    → placements_at (job_of (lent_by a.size a.table.now pixels)) a.text.now a.size.count 0 a.p 2 ≡ given l.invariant.4.front =
     progress_end (λ pixels. job_of (lent_by a.size a.table.now pixels)) a.size.count a.text.now a.p a.layout-1.now l.layout-1 l.at
-    l.line l.i l.inv.4 c.before.loop-i-test.false c.if-at-text.false in (
+    l.line l.i l.invariant.4 c.before.loop-i-test.false c.if-at-text.false in (
       λ pixels. sym (ap done_answer (whole pixels)),
       λ pixels v e.
-          let same : ◌≡◌ {A = Layout} l.inv.4.front v = given_same (sym (whole pixels) ∙ e) in
-          rw same at l.inv.4.memory,
+          let same : ◌≡◌ {A = Layout} l.invariant.4.front v = given_same (sym (whole pixels) ∙ e) in
+          rw same at l.invariant.4.memory,
     )
 
 pub read_placements_spec : {M : Type 1} → statement M

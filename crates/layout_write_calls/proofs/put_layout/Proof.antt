@@ -55,9 +55,9 @@ loop-i-preserved c =
     ≡ placement_text l.i (place_of (layout_of a.layout.now) l.i) ++ placements_text (l.i + 1) (drop (l.i + 1) (layout_of a.layout.now)) =
     placements_text_lem (layout_of a.layout.now) l.i here in (
       omega arith,
-      c.before.before.put_placement-at.auto.1.1.0 ∙ l.inv.1,
-      let e = w.end in let s = w.short in let k = l.inv.2 in omega arith,
-      left_then (rw step at l.inv.3) (left_after_lem w _),
+      c.before.before.put_placement-at.auto.1.1.0 ∙ l.invariant.1,
+      let e = w.end in let s = w.short in let k = l.invariant.2 in omega arith,
+      left_then (rw step at l.invariant.3) (left_after_lem w _),
     )
 
 shape_of-text : tie.Need-shape_of-text invariant-loop-i decreases-loop-i

@@ -26,9 +26,9 @@ returns-then-line-q c =
     let w = at-loop.loop-j in
     let e = c.before.before.placed_at-q.ensures.line in
     record {
-      low = w.inv.0;
-      within = w.inv.1;
-      before = w.inv.2;
+      low = w.invariant.0;
+      within = w.invariant.1;
+      before = w.invariant.2;
       from = λ l a b. omega (arith, c.if-line-q.true, line_order s.s.now at-start.requires.fact_1 w.j l a b);
     }
 
@@ -41,7 +41,7 @@ loop-j-preserved c =
     let e = c.before.before.placed_at-q.ensures.line in (
       omega arith,
       omega arith,
-      from_more (λ (l : ℕ). (strip_at s.s.now l).line + s.u.across < s.line) s.from w.j w.inv.2 (omega (arith, c.if-line-q.false)),
+      from_more (λ (l : ℕ). (strip_at s.s.now l).line + s.u.across < s.line) s.from w.j w.invariant.2 (omega (arith, c.if-line-q.false)),
     )
 
 returns : tie.Need-returns invariant-loop-j decreases-loop-j

@@ -72,7 +72,7 @@ loop-i-preserved c =
     let at-mark-line : tie.After-mark_line-covered invariant-loop-i decreases-loop-i = search in (
       all_more s.gap s.a.now s.u s.b.now s.v at-start.requires.fact_1 s.marks-1.now w.marks-1
           at-mark-line.mark_line-covered.new.1.1.1.1.1.1.1.1.0 w.i w.j at-line-start.line_start-j.result
-          in-loop.loop-i-test.true at-placed-at.placed_at-p.result.line at-placed-at.placed_at-p.ensures.line w.inv.0
+          in-loop.loop-i-test.true at-placed-at.placed_at-p.result.line at-placed-at.placed_at-p.ensures.line w.invariant.0
           at-line-start.line_start-j.ensures at-mark-line.mark_line-covered.ensures.marked,
       at-mark-line.mark_line-covered.ensures.covers,
     )

@@ -30,7 +30,7 @@ loop-j-preserved c =
     let at-word-bits : tie.After-word_bits invariant-loop-j decreases-loop-j = search in
     let s = at-start.args in
     let w = at-loop.loop-j in
-    marking_step s.low s.high s.marks.now w.marks _ w.j _ (omega arith) at-word-bits.word_bits.ensures refl w.inv
+    marking_step s.low s.high s.marks.now w.marks _ w.j _ (omega arith) at-word-bits.word_bits.ensures refl w.invariant
 
 shape_of-marks : tie.Need-shape_of-marks invariant-loop-j decreases-loop-j
 shape_of-marks c = c.before.loop-j.invariant.same

@@ -49,12 +49,12 @@ returns-then-p-q c =
     let p = at-placed-at.placed_at-p.ensures.line in
     let q = at-placed-at2.placed_at-q.ensures.line in (
       record {
-        grown = w.inv.2;
+        grown = w.invariant.2;
         kept =
-            line_past s.gap s.a.now s.u s.b.now s.v w.marks-1 s.i s.from w.j w.inv.3
+            line_past s.gap s.a.now s.u s.b.now s.v w.marks-1 s.i s.from w.j w.invariant.3
             (λ l a b. omega (arith, c.if-p-q.true, line_order s.b.now at-start.requires.fact_1 w.j l a b));
       },
-      w.inv.4,
+      w.invariant.4,
     )
 
 overflow_add-p : tie.Need-overflow_add-p invariant-loop-j decreases-loop-j
@@ -99,10 +99,10 @@ loop-j-preserved c =
     line_more s.gap s.a.now s.u s.b.now s.v s.marks-1.now w.marks-1 s.i s.from w.j
     at-minus.minus-low.result at-minus2.minus-high.result at-start.requires.fact_2.0.0 l
     at-placed-at.placed_at-p.result at-placed-at2.placed_at-q.result p q
-    (omega (arith, p.line, q.line, at-else1.if-p-q.false, at-start.requires.fact_2.1.1.0 w.j w.inv.0 l)) at-minus.minus-low.ensures
-    at-minus2.minus-high.ensures w.inv.2 w.inv.3
+    (omega (arith, p.line, q.line, at-else1.if-p-q.false, at-start.requires.fact_2.1.1.0 w.j w.invariant.0 l)) at-minus.minus-low.ensures
+    at-minus2.minus-high.ensures w.invariant.2 w.invariant.3
     at-cover.cover-covered.new.0 at-cover.cover-covered.ensures.marked in
-    (omega (arith, w.inv.0), omega arith, more.0, more.1, at-cover.cover-covered.ensures.covers)
+    (omega (arith, w.invariant.0), omega arith, more.0, more.1, at-cover.cover-covered.ensures.covers)
 
 shape_of-marks : tie.Need-shape_of-marks invariant-loop-j decreases-loop-j
 shape_of-marks c = c.before.loop-j.invariant.2.same

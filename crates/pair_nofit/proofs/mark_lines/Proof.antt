@@ -69,7 +69,7 @@ loop-k-preserved c =
     let s = at-start.args in
     let w = at-loop.loop-k in
     let marked = at-mark-all.mark_all-covered.ensures in (
-      gap_more s.gap s.a.now s.u s.b.now s.v s.marks-1.now w.marks-1 _ w.k in-loop.loop-k-test.true w.inv.0 marked.0,
+      gap_more s.gap s.a.now s.u s.b.now s.v s.marks-1.now w.marks-1 _ w.k in-loop.loop-k-test.true w.invariant.0 marked.0,
       marked.1,
     )
 

@@ -98,12 +98,12 @@ returns-then-left-eq0 c =
     let least = at-lesser.lesser-room.ensures in
     let short = at-slide.slide-s.ensures.short in
     let l = in-loop.loop-r-test.true in
-    let some = w.inv.2.some in
+    let some = w.invariant.2.some in
     let last = c.if-left-eq0.true in
     let free =
     free_more s.gap s.a.now s.u s.b.now s.v w.r room
     (lines_done (line_count s.gap) w.k w.left (LineClear s.gap s.a.now s.u s.b.now s.v w.r w.room)
-    (LineClear s.gap s.a.now s.u s.b.now s.v w.r room) w.inv.2
+    (LineClear s.gap s.a.now s.u s.b.now s.v w.r room) w.invariant.2
     (λ m f q n. f q (omega arith))
     (λ q n.
     line_clear s.gap s.a.now s.u s.b.now s.v w.r r.room w.k (at-slide.slide-s.ensures.free at-then1.if-s-eq0.true) q
@@ -111,7 +111,7 @@ returns-then-left-eq0 c =
     (omega arith)) in
     record {
       least =
-          clear_first s.gap s.a.now s.u s.b.now s.v s.bound w.r w.inv.0 w.inv.1 (free w.r (omega arith) (omega arith));
+          clear_first s.gap s.a.now s.u s.b.now s.v s.bound w.r w.invariant.0 w.invariant.1 (free w.r (omega arith) (omega arith));
       some = λ m. omega arith;
       order = omega arith;
       within = omega arith;
@@ -146,12 +146,12 @@ loop-r-preserved-then-s-eq0 c =
     let least = at-lesser.lesser-room.ensures in
     let short = at-slide.slide-s.ensures.short in
     let l = in-loop.loop-r-test.true in
-    let some = w.inv.2.some in
+    let some = w.invariant.2.some in
     let more = pos_of_ne-zero c.before.if-left-eq0.false in (
-      w.inv.0,
-      w.inv.1,
+      w.invariant.0,
+      w.invariant.1,
       lines_next (line_count s.gap) w.k w.left (LineClear s.gap s.a.now s.u s.b.now s.v w.r w.room)
-          (LineClear s.gap s.a.now s.u s.b.now s.v w.r room) w.inv.2
+          (LineClear s.gap s.a.now s.u s.b.now s.v w.r room) w.invariant.2
           (λ m f q n. f q (omega arith))
           (λ q n.
           line_clear s.gap s.a.now s.u s.b.now s.v w.r r.room w.k (at-slide.slide-s.ensures.free at-then1.if-s-eq0.true) q
@@ -182,9 +182,9 @@ loop-r-preserved c =
     let at-start : tie.Start invariant-loop-r decreases-loop-r = search in
     let s = at-start.args in
     let w = at-loop.loop-r in
-    let at = w.inv.2.at in (
+    let at = w.invariant.2.at in (
       omega (arith, at-slide.slide-s.ensures.within),
-      covered_more s.gap s.a.now s.u s.b.now s.v w.r at-slide.slide-s.result.shift w.k at w.inv.1
+      covered_more s.gap s.a.now s.u s.b.now s.v w.r at-slide.slide-s.result.shift w.k at w.invariant.1
           at-slide.slide-s.ensures.covered,
       lines_begun _ w.k _ at,
       λ l. absurd (omega arith),

@@ -87,13 +87,13 @@ loop-i-preserved-then-p-q c =
     let w = at-loop.loop-i in (
       omega arith,
       omega arith,
-      w.inv.2,
+      w.invariant.2,
       λ e m l.
           pass_first s.gap s.a.now at_base.base-x.result s.b.now (at-base2.base-y.result + m) w.i w.j at-start.requires.fact_2.0
-          (w.inv.3 e m l)
+          (w.invariant.3 e m l)
           (omega (arith, c.if-p-q.true)),
-      w.inv.4,
-      w.inv.5,
+      w.invariant.4,
+      w.invariant.5,
     )
 
 overflow_add-j : tie.Need-overflow_add-j invariant-loop-i decreases-loop-i
@@ -124,15 +124,15 @@ loop-i-preserved-then-q-p c =
     let least = c.lesser-room.ensures in
     let apart = at-then3.if-q-p.true in
     let more = at-else1.if-b-j.false in
-    let short = w.inv.5 in (
+    let short = w.invariant.5 in (
       omega arith,
       omega arith,
-      w.inv.2,
+      w.invariant.2,
       λ e m l.
           pass_second s.gap s.a.now at_base.base-x.result s.b.now (at-base2.base-y.result + m) w.i w.j at-start.requires.fact_1
-          (w.inv.3 e m (omega arith))
+          (w.invariant.3 e m (omega arith))
           (omega arith),
-      w.inv.4,
+      w.invariant.4,
       omega arith,
     )
 
@@ -168,7 +168,7 @@ returns-then-limit-t c =
     let found =
     pushed s.gap s.a.now at_base.base-x.result s.b.now at-base2.base-y.result w.t w.i w.j (omega arith) (omega arith) (omega arith)
     (omega arith)
-    (record { first_before = omega (arith, at-else3.if-q-p.false); second_before = omega (arith, at-else2.if-p-q.false) }) w.inv.4 in
+    (record { first_before = omega (arith, at-else3.if-q-p.false); second_before = omega (arith, at-else2.if-p-q.false) }) w.invariant.4 in
     let near = at-start.requires.fact_2.1.0 in
     let few = at-start.requires.fact_2.1.1 in
     record {
@@ -178,7 +178,7 @@ returns-then-limit-t c =
           found_meets s.gap s.a.now s.u s.b.now (shifted k s.v) at_base.base-x.result (at-base2.base-y.result + k) at_base.base-x.ensures
           (omega (arith, at-base2.base-y.ensures)) (omega arith) (omega arith) few.0 (found k (omega (arith, c.if-limit-t.true)));
       free = λ e. absurd (omega arith);
-      short = w.inv.5;
+      short = w.invariant.5;
     }
 
 loop-i-preserved : tie.Need-loop-i-preserved invariant-loop-i decreases-loop-i
@@ -198,13 +198,13 @@ loop-i-preserved c =
     let found =
     pushed s.gap s.a.now at_base.base-x.result s.b.now at-base2.base-y.result w.t w.i w.j (omega arith) (omega arith) (omega arith)
     (omega arith)
-    (record { first_before = omega (arith, at-else3.if-q-p.false); second_before = omega (arith, at-else2.if-p-q.false) }) w.inv.4 in (
+    (record { first_before = omega (arith, at-else3.if-q-p.false); second_before = omega (arith, at-else2.if-p-q.false) }) w.invariant.4 in (
       omega arith,
       omega arith,
       c.if-limit-t.false,
       λ e. absurd (omega (arith, at-else2.if-p-q.false)),
       λ m l. found m (omega arith),
-      w.inv.5,
+      w.invariant.5,
     )
 
 returns : tie.Need-returns invariant-loop-i decreases-loop-i

@@ -33,7 +33,7 @@ returns-then-left-ne0 c =
     let at-sought : tie.After-sought invariant-loop-p decreases-loop-p = search in
     let a = at-start.args in
     let w = at-loop.loop-p in
-    place_found a.marks.now a.bit w.p at-sought.sought.result _ at-sought.sought.ensures refl a.k w.inv
+    place_found a.marks.now a.bit w.p at-sought.sought.result _ at-sought.sought.ensures refl a.k w.invariant
     c.before.if-left-ne0.true in-loop.loop-p-test.true _ c.smaller.ensures
 
 loop-p-preserved : tie.Need-loop-p-preserved invariant-loop-p decreases-loop-p
@@ -43,7 +43,7 @@ loop-p-preserved c =
     let at-sought : tie.After-sought invariant-loop-p decreases-loop-p = search in
     let a = at-start.args in
     let w = at-loop.loop-p in
-    word_passed a.marks.now a.bit w.p at-sought.sought.result _ at-sought.sought.ensures refl a.k w.inv c.if-left-ne0.false
+    word_passed a.marks.now a.bit w.p at-sought.sought.result _ at-sought.sought.ensures refl a.k w.invariant c.if-left-ne0.false
 
 returns : tie.Need-returns invariant-loop-p decreases-loop-p
 returns c =

@@ -53,7 +53,7 @@ loop-k-preserved c =
     let at-end : tie.After-next_place-end invariant-loop-k decreases-loop-k = search in
     let a = at-start.args in
     let w = at-loop.loop-k in
-    putting_more a.marks.now a.out-1.now w.out-1 w.at w.k w.inv _ _ in-loop.loop-k-test.true
+    putting_more a.marks.now a.out-1.now w.out-1 w.at w.k w.invariant _ _ in-loop.loop-k-test.true
     at_first.next_place-first.ensures at-end.next_place-end.ensures _ _ c.before.put_run-at.ensures
 
 shape_of-out : tie.Need-shape_of-out invariant-loop-k decreases-loop-k

@@ -39,7 +39,7 @@ returns-then-s-ne0 c =
     let at-start : tie.Start invariant-loop-r decreases-loop-r = search in
     let s = at-start.args in
     let w = at-loop.loop-r in
-    meets_first s.gap s.a.now s.u s.b.now s.v s.bound w.r w.inv.0 w.inv.1
+    meets_first s.gap s.a.now s.u s.b.now s.v s.bound w.r w.invariant.0 w.invariant.1
     (meets_now s.gap s.a.now s.u s.b.now (shifted w.r s.v) at-lesser.lesser-ahead.result at_clear.clear_stretch-s.result.first
     at_clear.clear_stretch-s.ensures.least c.if-s-ne0.true)
 
@@ -73,7 +73,7 @@ loop-r-preserved c =
     let zero = at-else.if-s-ne0.false in
     let least = at-lesser.lesser-ahead.ensures in (
       omega (arith, found.within),
-      free_on s.gap s.a.now s.u s.b.now s.v w.r at_clear.clear_stretch-s.result.end w.inv.1
+      free_on s.gap s.a.now s.u s.b.now s.v w.r at_clear.clear_stretch-s.result.end w.invariant.1
           (λ k l. found.free k (omega arith) l),
     )
 

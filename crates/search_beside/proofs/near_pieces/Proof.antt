@@ -63,7 +63,7 @@ loop-k-preserved c =
       omega arith,
       λ pixels on.
           near_more (job_of (lent_by a.size a.table.now pixels)) (layout_of a.layout.now) a.mover o.k o.near b.result (omega arith)
-          b.ensures.0 (o.inv.1 pixels on) (b.ensures.1 pixels on),
+          b.ensures.0 (o.invariant.1 pixels on) (b.ensures.1 pixels on),
     )
 
 returns : tie.Need-returns invariant-loop-k decreases-loop-k
@@ -74,11 +74,11 @@ returns c =
     let a = at-start.args in
     let o = at-loop.loop-k in
     let t = at_out.loop-k-test.false in
-    let b = o.inv.0 in
+    let b = o.invariant.0 in
     let done : o.k ≡ a.size.count = omega arith in
     λ pixels on.
     subst (λ (k : ℕ). NearTold (job_of (lent_by a.size a.table.now pixels)) (layout_of a.layout.now) a.mover k o.near) done
-    (o.inv.1 pixels on)
+    (o.invariant.1 pixels on)
 
 pub near_pieces_spec : {M : Type 1} → statement M
 near_pieces_spec =

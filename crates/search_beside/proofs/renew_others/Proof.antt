@@ -31,7 +31,7 @@ renew_other-requires c κs =
     let at-loop : tie.At-loop-k invariant-loop-k decreases-loop-k = search in
     let at-start : tie.Start invariant-loop-k decreases-loop-k = search in
     let p = at-loop.loop-k in
-    (p.inv.5, (at-start.requires.fact_2.0, (at-start.requires.fact_2.1.0, ((at_in.loop-k-test.true, at-start.requires.fact_2.1.1.0), p.inv.4))))
+    (p.invariant.5, (at-start.requires.fact_2.0, (at-start.requires.fact_2.1.0, ((at_in.loop-k-test.true, at-start.requires.fact_2.1.1.0), p.invariant.4))))
 
 overflow_add-k : tie.Need-overflow_add-k invariant-loop-k decreases-loop-k
 overflow_add-k c =
@@ -53,9 +53,9 @@ loop-k-preserved c =
     let t = at_in.loop-k-test.true in
     let x = at-renew-other.renew_other in (
       omega arith,
-      x.kept.1.1.1.1.1.1.1.1.1.0 ∙ p.inv.1,
-      x.kept.1.1.1.1.1.1.1.1.1.1.0 ∙ p.inv.2,
-      x.kept.1.1.1.1.1.1.1.1.1.1.1.0 ∙ p.inv.3,
+      x.kept.1.1.1.1.1.1.1.1.1.0 ∙ p.invariant.1,
+      x.kept.1.1.1.1.1.1.1.1.1.1.0 ∙ p.invariant.2,
+      x.kept.1.1.1.1.1.1.1.1.1.1.1.0 ∙ p.invariant.3,
       x.ensures.0,
       x.ensures.1,
     )

@@ -28,7 +28,7 @@ count_on-n-requires c κs =
     let at-loop : tie.At-loop-k invariant-loop-k decreases-loop-k = search in
     let xs = at-start.args.line.now in
     let w = at-loop.loop-k in
-    let e = w.inv.1 in
+    let e = w.invariant.1 in
     let m = fallen_most xs w.k (length xs - w.k) in
     omega arith
 
@@ -50,15 +50,15 @@ loop-k-preserved c =
     let xs = at-start.args.line.now in
     let w = at-loop.loop-k in
     let l = in-loop.loop-k-test.true in
-    let high = w.inv.0 in
-    let e = w.inv.2.same in
-    let same = w.inv.2.rest (w.k - 1) (omega arith) in
+    let high = w.invariant.0 in
+    let e = w.invariant.2.same in
+    let same = w.invariant.2.rest (w.k - 1) (omega arith) in
     let n = c.before.before.count_on-n.result in
     let v : n ≡ fallen xs (w.k - 1) (length xs - (w.k - 1)) =
-    fallen_value xs w.k (length xs) w.n _ n l high w.inv.1 same c.before.before.count_on-n.ensures in (
+    fallen_value xs w.k (length xs) w.n _ n l high w.invariant.1 same c.before.before.count_on-n.ensures in (
       omega arith,
       v,
-      back_set (height xs) xs w.line (w.k - 1) c.lesser.result (omega arith) (c.lesser.ensures ∙ ap₂ min same v) w.k (omega arith) w.inv.2,
+      back_set (height xs) xs w.line (w.k - 1) c.lesser.result (omega arith) (c.lesser.ensures ∙ ap₂ min same v) w.k (omega arith) w.invariant.2,
     )
 
 shape_of-line : tie.Need-shape_of-line invariant-loop-k decreases-loop-k

@@ -48,7 +48,7 @@ row_gap-v-requires c κs =
     let at-start : tie.Start invariant-loop-y decreases-loop-y = search in
     let at_in : tie.In-loop-y invariant-loop-y decreases-loop-y = search in
     let o = at_in.before.loop-y in
-    subst (Walled at-start.args.ws.now) (sym o.inv.1) (at-start.requires.fact_1.each o.y (omega (arith, few at_in)))
+    subst (Walled at-start.args.ws.now) (sym o.invariant.1) (at-start.requires.fact_1.each o.y (omega (arith, few at_in)))
 
 overflow_cast-v : tie.Need-overflow_cast-v invariant-loop-y decreases-loop-y
 overflow_cast-v c = let at-smaller : tie.After-smaller invariant-loop-y decreases-loop-y = search in omega (arith, c.row_gap-v.ensures.few, at-smaller.smaller.ensures)
@@ -65,7 +65,7 @@ overflow_add-q c =
     let a = at-start.args in
     let l : (o.y + 1) * a.w ≤ length a.line.now * a.w = mul-le-mul_right a.w (few at_in).1 in
     let m : (o.y + 1) * a.w ≡ o.y * a.w + a.w = omega arith in
-    omega (arith, o.inv.1, at-start.requires.fact_1.small)
+    omega (arith, o.invariant.1, at-start.requires.fact_1.small)
 
 overflow_add-y : tie.Need-overflow_add-y invariant-loop-y decreases-loop-y
 overflow_add-y c = let at_in : tie.In-loop-y invariant-loop-y decreases-loop-y = search in omega (arith, few at_in)
@@ -87,15 +87,15 @@ loop-y-preserved c =
     let g = at-row-gap.row_gap-v.ensures in
     let b = at-smaller.smaller.ensures in
     let n = at-count-on.count_on-n.ensures in
-    let q : o.q ≡ a.p + o.y * a.w = o.inv.1 in
+    let q : o.q ≡ a.p + o.y * a.w = o.invariant.1 in
     let m : (o.y + 1) * a.w ≡ o.y * a.w + a.w = omega arith in (
       omega (arith, s),
       omega arith,
       omega (arith, s, n, count_most v o.n),
-      under_next a.ws.now a.w o.q o.n _ v b o.inv.3 g _ n,
+      under_next a.ws.now a.w o.q o.n _ v b o.invariant.3 g _ n,
       pass_set (sides_at a.ws.now a.w a.p) a.line.now o.line o.y _ at_in.loop-y-test.true
           (subst (λ (i : ℕ). FirstWithin (under a.ws.now a.w i) byte_most v) q
-          (under_place a.ws.now a.w o.q o.n _ v b o.inv.3 g)) o.inv.4,
+          (under_place a.ws.now a.w o.q o.n _ v b o.invariant.3 g)) o.invariant.4,
     )
 
 shape_of-line : tie.Need-shape_of-line invariant-loop-y decreases-loop-y

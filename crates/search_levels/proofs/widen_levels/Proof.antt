@@ -51,7 +51,7 @@ loop-k-preserved c =
     let a = at-start.args in
     let o = at_in.before.loop-k in
     let n = c.before.before.widen_next.ensures in
-    let g = grown_more a.ws-1.now a.size o.ws-1 _ o.k o.from o.s o.inv.1 o.inv.2 o.inv.4 n in
+    let g = grown_more a.ws-1.now a.size o.ws-1 _ o.k o.from o.s o.invariant.1 o.invariant.2 o.invariant.4 n in
     (omega arith, omega arith, omega (arith, doubled o.k), g.same, g)
 
 shape_of-ws : tie.Need-shape_of-ws invariant-loop-k decreases-loop-k

@@ -23,7 +23,7 @@ loop-k-preserved c =
     let first = at_first.table_end-end.ensures in
     let room = at-start.requires.0 in
     let l = in-loop.loop-k-test.true in
-    let p = pass_set (λ j v. v ≡ 0) _ o.bytes o.k 0 (omega (arith, o.inv.1)) refl o.inv.2 in
+    let p = pass_set (λ j v. v ≡ 0) _ o.bytes o.k 0 (omega (arith, o.invariant.1)) refl o.invariant.2 in
     (omega arith, p.same, p)
 
 returns : tie.Need-returns invariant-loop-k decreases-loop-k
@@ -34,7 +34,7 @@ returns c =
     let o = at-loop.loop-k in
     let first = at_first.table_end-end.ensures in
     let l = ended.loop-k-test.false in
-    record { same = o.inv.1; clear = λ j b. o.inv.2.done j (omega arith); behind = λ j b. o.inv.2.rest j (omega (arith, o.inv.0)) }
+    record { same = o.invariant.1; clear = λ j b. o.invariant.2.done j (omega arith); behind = λ j b. o.invariant.2.rest j (omega (arith, o.invariant.0)) }
 
 pub give_up_spec : {M : Type 1} → statement M
 give_up_spec =

@@ -34,7 +34,7 @@ overflow_add-sums-in-loop-k c =
     let a = at-start.args in
     let p = at-loop.loop-k in
     let b = c.before.shared_slice_known-1.given p.k in
-    let e = p.inv.1.rest (a.low + p.k) (omega arith) in
+    let e = p.invariant.1.rest (a.low + p.k) (omega arith) in
     let s = at-start.requires.fact_2 (a.low + p.k) in
     omega arith
 
@@ -53,10 +53,10 @@ loop-k-preserved c =
     let at-start : tie.Start invariant-loop-k decreases-loop-k = search in
     let a = at-start.args in
     let p = at-loop.loop-k in
-    let e = p.inv.1.same in
+    let e = p.invariant.1.same in
     let t = c.before.before.loop-k-test.true in
     let r = at-start.requires.fact_1 in
-    (omega arith, raise_step 1 a.low a.line.now a.sums.now p.sums p.k _ (omega arith) (omega arith) p.inv.1)
+    (omega arith, raise_step 1 a.low a.line.now a.sums.now p.sums p.k _ (omega arith) (omega arith) p.invariant.1)
 
 shape_of-sums : tie.Need-shape_of-sums invariant-loop-k decreases-loop-k
 shape_of-sums c = c.before.loop-k.invariant.1.same

@@ -43,7 +43,7 @@ overflow_add-sums-in-loop-k c =
     let p = at-loop.loop-k in
     let b = c.before.shared_slice_known-1.given p.k in
     let m = part_small a.weight (get_or a.line.now p.k 0) at-start.requires.fact_2.0 (omega arith) in
-    let e = p.inv.1.rest (a.low + p.k) (omega arith) in
+    let e = p.invariant.1.rest (a.low + p.k) (omega arith) in
     let s = at-start.requires.fact_2.1 (a.low + p.k) in
     omega arith
 
@@ -62,10 +62,10 @@ loop-k-preserved c =
     let at-start : tie.Start invariant-loop-k decreases-loop-k = search in
     let a = at-start.args in
     let p = at-loop.loop-k in
-    let e = p.inv.1.same in
+    let e = p.invariant.1.same in
     let t = c.before.before.loop-k-test.true in
     let r = at-start.requires.fact_1 in
-    (omega arith, raise_step a.weight a.low a.line.now a.sums.now p.sums p.k _ refl (omega arith) p.inv.1)
+    (omega arith, raise_step a.weight a.low a.line.now a.sums.now p.sums p.k _ refl (omega arith) p.invariant.1)
 
 shape_of-sums : tie.Need-shape_of-sums invariant-loop-k decreases-loop-k
 shape_of-sums c = c.before.loop-k.invariant.1.same

@@ -21,8 +21,8 @@ loop-a-preserved c =
     let a = at-start.args in
     let p = at-loop.loop-a in (
       omega arith,
-      ⊎_elim (λ w. rw (w.2, w.3) (scan_lower a.sums.now a.bound p.low p.at p.a p.inv.1 w.0.taken))
-          (λ w. rw (w.1, w.2) (scan_keep a.sums.now a.bound p.low p.at p.a p.inv.1 w.0.left)) c.if-sums-a.branch,
+      ⊎_elim (λ w. rw (w.2, w.3) (scan_lower a.sums.now a.bound p.low p.at p.a p.invariant.1 w.0.taken))
+          (λ w. rw (w.1, w.2) (scan_keep a.sums.now a.bound p.low p.at p.a p.invariant.1 w.0.left)) c.if-sums-a.branch,
     )
 
 returns-then-low-bound : tie.Need-returns-then-low-bound invariant-loop-a decreases-loop-a

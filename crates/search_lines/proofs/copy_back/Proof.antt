@@ -22,7 +22,7 @@ loop-k-preserved c =
     let from = at-start.args.from.now in
     let same = at-start.requires in
     let p = pass_set (λ (j v : ℕ). v ≡ get_or from (length from - 1 - j) 0) _ o.to o.k (get_or from (length from - 1 - o.k) 0)
-    (omega arith) refl o.inv.2 in
+    (omega arith) refl o.invariant.2 in
     (omega arith, p.same, p)
 
 shape_of-to : tie.Need-shape_of-to invariant-loop-k decreases-loop-k
@@ -35,7 +35,7 @@ returns c =
     let at-start : tie.Start invariant-loop-k decreases-loop-k = search in
     let at-loop : tie.At-loop-k invariant-loop-k decreases-loop-k = search in
     let o = at-loop.loop-k in
-    record { same = o.inv.1 ∙ at-start.requires; each = λ k l. o.inv.2.done k (omega arith) }
+    record { same = o.invariant.1 ∙ at-start.requires; each = λ k l. o.invariant.2.done k (omega arith) }
 
 pub copy_back_spec : {M : Type 1} → statement M
 copy_back_spec =

@@ -19,7 +19,7 @@ loop-k-preserved c =
     let at-loop : tie.At-loop-k invariant-loop-k decreases-loop-k = search in
     let o = at-loop.loop-k in
     let from = at-start.args.from.now in
-    pass_set (λ (j v : ℕ). v ≡ get_or from j 0) _ o.to o.k (get_or from o.k 0) (omega arith) refl o.inv
+    pass_set (λ (j v : ℕ). v ≡ get_or from j 0) _ o.to o.k (get_or from o.k 0) (omega arith) refl o.invariant
 
 shape_of-to : tie.Need-shape_of-to invariant-loop-k decreases-loop-k
 shape_of-to c =
@@ -30,7 +30,7 @@ returns : tie.Need-returns invariant-loop-k decreases-loop-k
 returns c =
     let at-loop : tie.At-loop-k invariant-loop-k decreases-loop-k = search in
     let o = at-loop.loop-k in
-    record { same = o.inv.same; each = λ k l. o.inv.done k (omega arith) }
+    record { same = o.invariant.same; each = λ k l. o.invariant.done k (omega arith) }
 
 pub copy_words_spec : {M : Type 1} → statement M
 copy_words_spec =

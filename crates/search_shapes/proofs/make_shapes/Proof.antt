@@ -139,8 +139,8 @@ loop-k-preserved c =
     let a = at-start.args in
     let l = at-loop.loop-k in
     let r = at-start.requires.fact_2 in
-    let same = l.inv.0 in
-    let starts = l.inv.1 in
+    let same = l.invariant.0 in
+    let starts = l.invariant.1 in
     let first : length (set a.starts.now 0 0) ≡ length a.starts.now = simp length-set in
     let wide = r.wide in
     let long = r.long in
@@ -150,7 +150,7 @@ loop-k-preserved c =
       simp length-set (omega arith),
       omega arith,
       λ size e w.
-          let made = l.inv.3 size e w in
+          let made = l.invariant.3 size e w in
           let below : l.k < size.count * 4 = omega (arith, in-loop.loop-k-test.true) in
           made_more a.direction (lent_by size a.table.now a.pixels.now) l.store-1 _ l.starts l.k l.at _ made
           (fits_next a.direction (lent_by size a.table.now a.pixels.now) l.store-1 l.starts l.k l.at w below made) have (stored c size),

@@ -51,10 +51,10 @@ overflow_add-from c =
     let a = at-start.args in
     let l = at-loop.loop-i in
     let few = at-start.requires.few in
-    let start = l.inv.1 in
+    let start = l.invariant.1 in
     let t = in-loop.loop-i-test.true in
     let most = pairs_at_most a.n few in
-    let below = row_below a.n l.i l.inv.0 in
+    let below = row_below a.n l.i l.invariant.0 in
     omega arith
 
 loop-i-smaller : tie.Need-loop-i-smaller invariant-loop-i decreases-loop-i
@@ -70,17 +70,17 @@ loop-i-preserved c =
     let a = at-start.args in
     let l = at-loop.loop-i in
     let few = at-start.requires.few in
-    let start = l.inv.1 in
+    let start = l.invariant.1 in
     let t = in-loop.loop-i-test.true in
     let most = pairs_at_most a.n few in
-    let below = row_below a.n l.i l.inv.0 in
+    let below = row_below a.n l.i l.invariant.0 in
     let next : l.from + (a.n - (l.i + 1)) ≡ row_start a.n (l.i + 1) = omega (arith, row_next a.n l.i) in (
       omega arith,
       next,
-      c.before.before.raise_row.auto.1.0 ∙ l.inv.2,
+      c.before.before.raise_row.auto.1.0 ∙ l.invariant.2,
       λ j v e t w.
           subst (λ k. Raising j v a.weights-1.now k c.before.before.raise_row.new.1.0) (sym next)
-          (c.before.before.raise_row.ensures j v a.weights-1.now e t w (l.inv.3 j v e t w)),
+          (c.before.before.raise_row.ensures j v a.weights-1.now e t w (l.invariant.3 j v e t w)),
     )
 
 shape_of-weights : tie.Need-shape_of-weights invariant-loop-i decreases-loop-i

@@ -75,7 +75,7 @@ loop-k-preserved c =
     let a = at-start.args in
     let l = at-loop.loop-k in
     let t = turn (in-loop) in
-    let e = l.inv.2 in
+    let e = l.invariant.2 in
     let start = at-start.requires.fact_2.1 in
     let now : c.before.before.raise_pair.new.0 ≡ raised_at l.weights-1 l.at (get_or a.penalties.now (a.i * 64 + l.k) 0) =
     c.before.before.raise_pair.ensures in
@@ -83,11 +83,11 @@ loop-k-preserved c =
       omega arith,
       omega arith,
       omega arith,
-      c.before.before.raise_pair.auto.0 ∙ l.inv.3,
+      c.before.before.raise_pair.auto.0 ∙ l.invariant.3,
       λ j v ws n table valid r.
           subst (λ now. Raising j v ws (l.at + 1) now) (sym now)
           (raise_step j v a.n ws l.weights-1 a.penalties.now a.i l.k l.at n table valid t.above t.below index
-          (l.inv.4 j v ws n table valid r)),
+          (l.invariant.4 j v ws n table valid r)),
     )
 
 shape_of-weights : tie.Need-shape_of-weights invariant-loop-k decreases-loop-k

@@ -104,14 +104,14 @@ loop-k-preserved c =
     let l = at-loop.loop-k in
     let t = turn c.before.before in
     let s = small c in
-    let b = l.inv.0 in
-    let e = l.inv.2 in
-    let sum = l.inv.3 in (
+    let b = l.invariant.0 in
+    let e = l.invariant.2 in
+    let sum = l.invariant.3 in (
       omega arith,
       omega arith,
       omega arith,
       omega arith,
-      part_more (table_cost a.penalties.now a.i) a.weights.now a.i a.from l.k l.at l.sum b e l.inv.4,
+      part_more (table_cost a.penalties.now a.i) a.weights.now a.i a.from l.k l.at l.sum b e l.invariant.4,
     )
 
 returns : tie.Need-returns invariant-loop-k decreases-loop-k

@@ -56,10 +56,10 @@ loop-k-preserved c =
     let a = at-start.args in
     let l = at-loop.loop-k in
     let x = c.cost_between-sum.ensures in
-    let b = l.inv.1 in (
+    let b = l.invariant.1 in (
       omega arith,
       omega (arith, x.1),
-      row_more a.n a.penalties.now a.weights.now a.i l.k l.sum _ l.inv.2 x.0,
+      row_more a.n a.penalties.now a.weights.now a.i l.k l.sum _ l.invariant.2 x.0,
     )
 
 returns : tie.Need-returns invariant-loop-k decreases-loop-k

@@ -110,17 +110,17 @@ loop-k-preserved c =
     let b = s.requires.fact_2.0.0 in
     let taken = in-loop.loop-k-test.true in (
       omega arith,
-      measured.kept.1.1.1.1.1.1.0 ∙ l.inv.1,
-      measured.kept.1.1.1.1.1.1.1.0 ∙ l.inv.2,
-      measured.kept.1.1.1.1.1.1.1.1.0 ∙ l.inv.3,
-      measured.kept.1.1.1.1.1.1.1.1.1.0 ∙ l.inv.4,
-      simp length-set l.inv.5,
+      measured.kept.1.1.1.1.1.1.0 ∙ l.invariant.1,
+      measured.kept.1.1.1.1.1.1.1.0 ∙ l.invariant.2,
+      measured.kept.1.1.1.1.1.1.1.1.0 ∙ l.invariant.3,
+      measured.kept.1.1.1.1.1.1.1.1.1.0 ∙ l.invariant.4,
+      simp length-set l.invariant.5,
       measured.ensures.1.1.0,
       measured.ensures.1.1.1,
       λ size g t.
           renewed_step (job_of (lent_by size a.table.now a.pixels.now)) (layout_of a.layout.now) (a.i + 1) a.i
           (place_of (layout_of a.layout.now) a.i) l.k _ l.penalties (omega arith) (omega arith) (omega arith) (λ e. omega arith)
-          (measured.ensures.0 size g) (l.inv.8 size g t),
+          (measured.ensures.0 size g) (l.invariant.8 size g t),
     )
 
 shape_of-rows : tie.Need-shape_of-rows invariant-loop-k decreases-loop-k
@@ -145,13 +145,13 @@ returns c =
     let a = s.args in
     let l = at-loop.loop-k in
     let v = layout_of a.layout.now in
-    let done : l.k ≡ a.i = omega (arith, l.inv.0, c.loop-k-test.false) in (
+    let done : l.k ≡ a.i = omega (arith, l.invariant.0, c.loop-k-test.false) in (
       λ size g t.
           let j = job_of (lent_by size a.table.now a.pixels.now) in
           added_end j v a.i l.penalties
           (renewed_self j v (a.i + 1) a.i (place_of v a.i) l.penalties
-          (subst (λ k. Renewed j v (a.i + 1) a.i (place_of v a.i) k l.penalties) done (l.inv.8 size g t))),
-      (l.inv.6, l.inv.7),
+          (subst (λ k. Renewed j v (a.i + 1) a.i (place_of v a.i) k l.penalties) done (l.invariant.8 size g t))),
+      (l.invariant.6, l.invariant.7),
     )
 
 pub add_piece_spec : {M : Type 1} → statement M

@@ -32,7 +32,7 @@ add_piece-requires c κs =
     let s : tie.Start invariant-loop-i decreases-loop-i = search in
     let in-loop : tie.In-loop-i invariant-loop-i decreases-loop-i = search in
     let l = at-loop.loop-i in
-    (s.requires.fact_1, ((in-loop.loop-i-test.true, s.requires.fact_2.1.1.1), (l.inv.6, (l.inv.7, l.inv.5 ∙ s.requires.fact_2.1.1.0))))
+    (s.requires.fact_1, ((in-loop.loop-i-test.true, s.requires.fact_2.1.1.1), (l.invariant.6, (l.invariant.7, l.invariant.5 ∙ s.requires.fact_2.1.1.0))))
 
 overflow_add-i : tie.Need-overflow_add-i invariant-loop-i decreases-loop-i
 overflow_add-i c =
@@ -53,14 +53,14 @@ loop-i-preserved c =
     let added = filled.add_piece in
     let taken = in-loop.loop-i-test.true in (
       omega arith,
-      added.kept.1.1.1.1.1.0 ∙ l.inv.1,
-      added.kept.1.1.1.1.1.1.0 ∙ l.inv.2,
-      added.kept.1.1.1.1.1.1.1.0 ∙ l.inv.3,
-      added.kept.1.1.1.1.1.1.1.1.0 ∙ l.inv.4,
-      added.kept.1.1.1.1.1.1.1.1.1.0 ∙ l.inv.5,
+      added.kept.1.1.1.1.1.0 ∙ l.invariant.1,
+      added.kept.1.1.1.1.1.1.0 ∙ l.invariant.2,
+      added.kept.1.1.1.1.1.1.1.0 ∙ l.invariant.3,
+      added.kept.1.1.1.1.1.1.1.1.0 ∙ l.invariant.4,
+      added.kept.1.1.1.1.1.1.1.1.1.0 ∙ l.invariant.5,
       added.ensures.1.0,
       added.ensures.1.1,
-      λ size g. added.ensures.0 size g (l.inv.8 size g),
+      λ size g. added.ensures.0 size g (l.invariant.8 size g),
     )
 
 shape_of-rows : tie.Need-shape_of-rows invariant-loop-i decreases-loop-i
@@ -84,8 +84,8 @@ returns c = λ size g whole.
     let s : tie.Start invariant-loop-i decreases-loop-i = search in
     let a = s.args in
     let l = at-loop.loop-i in
-    let done : l.i ≡ size.count = omega (arith, whole, l.inv.0, c.loop-i-test.false) in
-    subst (λ n. PenaltyTable (job_of (lent_by size a.table.now a.pixels.now)) (layout_of a.layout.now) n l.penalties-1) done (l.inv.8 size g)
+    let done : l.i ≡ size.count = omega (arith, whole, l.invariant.0, c.loop-i-test.false) in
+    subst (λ n. PenaltyTable (job_of (lent_by size a.table.now a.pixels.now)) (layout_of a.layout.now) n l.penalties-1) done (l.invariant.8 size g)
 
 pub fill_table_spec : {M : Type 1} → statement M
 fill_table_spec =

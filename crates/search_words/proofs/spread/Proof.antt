@@ -30,7 +30,7 @@ loop-j-preserved c =
     let o = at-loop.loop-j in
     let g =
     spread_step a.count a.s a.words.now o.words o.a o.j _ (omega arith) (omega arith) refl
-    (omega (arith, c.before.slice_known-in-loop-j-1.given (o.j - a.s / 64 - 1))) o.inv.3 in
+    (omega (arith, c.before.slice_known-in-loop-j-1.given (o.j - a.s / 64 - 1))) o.invariant.3 in
     (g.same, g.high, g.low, g)
 
 shape_of-words : tie.Need-shape_of-words invariant-loop-j decreases-loop-j
@@ -44,7 +44,7 @@ returns c =
     let at-loop : tie.At-loop-j invariant-loop-j decreases-loop-j = search in
     let a = at-start.args in
     let o = at-loop.loop-j in
-    spread_end a.count a.s a.words.now o.words o.a o.j (omega arith) (omega arith) o.inv.3
+    spread_end a.count a.s a.words.now o.words o.a o.j (omega arith) (omega arith) o.invariant.3
 
 pub spread_spec : {M : Type 1} → statement M
 spread_spec =

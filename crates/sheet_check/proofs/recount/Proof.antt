@@ -56,8 +56,8 @@ loop-piece-preserved c =
     let after : c.before.before.add_entry.new.1.1.1.1.1.0 ≡ added_entry j a.sheet.pieces now.piece now.made-1 =
     c.before.before.add_entry.ensures in (
       omega arith,
-      ap length after ∙ length_added j a.sheet.pieces now.piece now.made-1 ∙ now.inv.1,
-      rw after (added_below j a.sheet.pieces now.piece now.made-1 (omega arith) now.inv.2),
+      ap length after ∙ length_added j a.sheet.pieces now.piece now.made-1 ∙ now.invariant.1,
+      rw after (added_below j a.sheet.pieces now.piece now.made-1 (omega arith) now.invariant.2),
     )
 
 shape_of-made : tie.Need-shape_of-made invariant-loop-piece decreases-loop-piece

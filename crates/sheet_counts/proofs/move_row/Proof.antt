@@ -36,10 +36,10 @@ loop-x-preserved c =
     let on = c.before.before.stored_pixel-on.ensures in
     let count = c.moved_count.ensures in (
       omega arith,
-      simp length-set now.inv.1,
+      simp length-set now.invariant.1,
       rw (count, on)
           (sym (run_step a.change (on_at a.pixels.now a.piece a.y) a.from now.counts now.x a.width in-loop.loop-x-test.true)
-          ∙ now.inv.2),
+          ∙ now.invariant.2),
     )
 
 shape_of-counts : tie.Need-shape_of-counts invariant-loop-x decreases-loop-x

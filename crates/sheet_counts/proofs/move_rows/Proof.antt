@@ -59,12 +59,12 @@ loop-y-preserved c =
     let inside = in-loop.loop-y-test.true in
     let after : c.before.before.Move-row.new.1.1.1.1.1.1.0 ≡ moved_run a.change (f now.y) now.from now.counts-1 0 a.width =
     c.before.before.Move-row.ensures in
-    let from = now.inv.2 in
+    let from = now.invariant.2 in
     let step : (now.y + 1) * a.sheet ≡ now.y * a.sheet + a.sheet = ap (λ (n : ℕ). n * a.sheet) (add-one now.y) ∙ suc-mul now.y a.sheet in (
       omega arith,
-      ap length after ∙ length_run a.change (f now.y) now.from now.counts-1 0 a.width ∙ now.inv.1,
+      ap length after ∙ length_run a.change (f now.y) now.from now.counts-1 0 a.width ∙ now.invariant.1,
       omega arith,
-      rw after (sym (rows_step a.change f a.sheet a.width now.counts-1 now.from now.y a.height inside) ∙ now.inv.3),
+      rw after (sym (rows_step a.change f a.sheet a.width now.counts-1 now.from now.y a.height inside) ∙ now.invariant.3),
     )
 
 shape_of-counts : tie.Need-shape_of-counts invariant-loop-y decreases-loop-y

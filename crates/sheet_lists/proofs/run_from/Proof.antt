@@ -63,14 +63,14 @@ loop-k-preserved c =
     let inside = in-loop.loop-k-test.true in
     let after : sheet_of c.before.before.run_call-sheet.result c.before.before.run_call-sheet.new.1.1.1.1.0 ≡ afterwards s (called (job_of l) s call) =
     c.before.before.run_call-sheet.ensures in
-    let ready : SheetReady l (afterwards s (called (job_of l) s call)) = ready_after l s now.inv.2 call in
+    let ready : SheetReady l (afterwards s (called (job_of l) s call)) = ready_after l s now.invariant.2 call in
     let again : SheetReady l (sheet_of c.before.before.run_call-sheet.result c.before.before.run_call-sheet.new.1.1.1.1.0) =
     subst (λ (t : Sheet). SheetReady l t) (sym after) ready in (
       omega arith,
-      again.full ∙ sym now.inv.2.full ∙ now.inv.1,
+      again.full ∙ sym now.invariant.2.full ∙ now.invariant.1,
       again,
       ap (λ (t : Sheet). after_calls (job_of l) t (calls_of (drop (now.k + 1) a.calls.now))) after
-          ∙ sym (calls_step (job_of l) s a.calls.now now.k inside) ∙ now.inv.3,
+          ∙ sym (calls_step (job_of l) s a.calls.now now.k inside) ∙ now.invariant.3,
     )
 
 shape_of-counts : tie.Need-shape_of-counts invariant-loop-k decreases-loop-k

@@ -60,7 +60,7 @@ loop-at-preserved c =
       omega arith,
       omega arith,
       paint_step (part_step a.direction (as_strip a.strip) l.at _ in-loop.loop-at-test.true)
-          c.before.before.mark_cell.ensures l.inv.2,
+          c.before.before.mark_cell.ensures l.invariant.2,
     )
 
 shape_of-pixels : tie.Need-shape_of-pixels invariant-loop-at decreases-loop-at

@@ -48,7 +48,7 @@ loop-i-preserved c =
           (subst (λ t. Painted a.columns (strip_has a.direction t) l.pixels-1 c.before.before.paint_strip.new.0)
           (read_is at-strip-at.strip_at.ensures)
           c.before.before.paint_strip.ensures)
-          l.inv.1,
+          l.invariant.1,
     )
 
 shape_of-pixels : tie.Need-shape_of-pixels invariant-loop-i decreases-loop-i

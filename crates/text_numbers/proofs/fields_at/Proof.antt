@@ -42,8 +42,8 @@ returns-in_default c =
     let e : field_at end text l.next ≡ wrong =
     wrong_of (field_at end text l.next) (sym c.enum_told-1.given.1 ∙ c.before.before.field_at.ensures.same) in
     record {
-      same = sym l.inv.3 ∙ read_wrong text l.numbers l.next l.k a.count end in-loop.loop-k-test.true at-end-byte.end_byte.ensures.0 e;
-      others = λ j h. l.inv.4 j (omega arith);
+      same = sym l.invariant.3 ∙ read_wrong text l.numbers l.next l.k a.count end in-loop.loop-k-test.true at-end-byte.end_byte.ensures.0 e;
+      others = λ j h. l.invariant.4 j (omega arith);
       inside = omega arith;
     }
 
@@ -66,10 +66,10 @@ loop-k-preserved c =
     let below : l.k < a.count = in-loop.loop-k-test.true in
     let room : l.k < length l.numbers = omega arith in (
       omega arith,
-      length-set l.numbers l.k _ ∙ l.inv.1,
+      length-set l.numbers l.k _ ∙ l.invariant.1,
       (λ h. i),
-      read_more text l.numbers l.next l.k a.count end below at-end-byte.end_byte.ensures.0 v q room e ∙ l.inv.3,
-      zeros_kept l.numbers l.k v l.inv.4,
+      read_more text l.numbers l.next l.k a.count end below at-end-byte.end_byte.ensures.0 v q room e ∙ l.invariant.3,
+      zeros_kept l.numbers l.k v l.invariant.4,
     )
 
 returns : tie.Need-returns invariant-loop-k decreases-loop-k

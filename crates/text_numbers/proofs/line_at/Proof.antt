@@ -1,5 +1,5 @@
 -- `text_numbers::line_at` meets its contract: wrong where the word does not stand, else what the fields behind it are. Assumes nothing.
-use Rattle.list_laws.proofs.Kit.{◌∙◌, arith, rules}
+use Rattle.list_laws.proofs.Kit.{sym, ◌∙◌, arith, rules}
 use Rattle.model.specs.Text.{fields_at}
 use Rattle.list_laws.proofs.Lists.{repeat_at}
 use Rattle.list_laws.proofs.Tests.{said_no, said_yes}
@@ -12,7 +12,7 @@ returns-then-not-word_at : tie.Need-returns-then-not-word_at
 returns-then-not-word_at c =
     let at-start : tie.Start = search in
     let a = at-start.args in
-    let no = said_no c.before.word_at.ensures c.if-not-word_at.true in
+    let no = sym c.before.word_at.ensures ∙ c.if-not-word_at.true in
     record {
       same = after_not a.word.now a.text.now a.p (fields_at (field_ends a.count) a.text.now) no;
       others = λ k h. repeat_at 8 k 0;
@@ -23,7 +23,7 @@ returns : tie.Need-returns
 returns c =
     let at-start : tie.Start = search in
     let a = at-start.args in
-    let yes = said_yes c.before.before.word_at.ensures c.before.if-not-word_at.false in
+    let yes = sym c.before.before.word_at.ensures ∙ c.before.if-not-word_at.false in
     record {
       same = after_word a.word.now a.text.now a.p (fields_at (field_ends a.count) a.text.now) yes ∙ c.fields_at.ensures.same;
       others = c.fields_at.ensures.others;

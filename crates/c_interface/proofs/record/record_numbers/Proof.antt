@@ -35,7 +35,7 @@ loop-piece-preserved c =
     let many : length pieces ≡ 64 = sym (length-map pieces _) ∙ at-start.well_formed.0.1.1.0.1.0.1 in
     let l = at-loop.loop-piece in
     let below = c.before.before.loop-piece-test.true in
-    (omega arith, rw c.Numbers-of.ensures (mapped_step entry_numbers pieces l.numbers l.piece blank (omega arith) l.inv.1))
+    (omega arith, rw c.Numbers-of.ensures (mapped_step entry_numbers pieces l.numbers l.piece blank (omega arith) l.invariant.1))
 
 returns : tie.Need-returns invariant-loop-piece decreases-loop-piece
 returns c =

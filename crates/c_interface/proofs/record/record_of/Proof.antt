@@ -33,7 +33,7 @@ loop-i-preserved c =
     let many : length numbers ≡ 64 = at-start.well_formed.0.1.0.1 in
     let l = at-loop.loop-i in
     let below = c.before.before.loop-i-test.true in
-    (omega arith, rw c.entry_of.ensures (mapped_step entry_of_numbers numbers l.pieces l.i [] (omega arith) l.inv.1))
+    (omega arith, rw c.entry_of.ensures (mapped_step entry_of_numbers numbers l.pieces l.i [] (omega arith) l.invariant.1))
 
 returns : tie.Need-returns invariant-loop-i decreases-loop-i
 returns c =

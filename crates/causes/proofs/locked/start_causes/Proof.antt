@@ -20,7 +20,7 @@ start p = search
 
 -- it passes its check
 well : (p : tie.Else-not-check_job) → lent_well (lent (start p)) ≡ true
-well p = let checked : tie.After-check_job = search in said_yes checked.check_job.ensures p.if-not-check_job.false
+well p = let checked : tie.After-check_job = search in sym checked.check_job.ensures ∙ p.if-not-check_job.false
 
 -- the layout has its length
 whole : (p : tie.Else-layout-size) → let first : tie.Else-not-check_job = search in length (start first).args.layout.now ≡ (start first).args.size.count
@@ -37,7 +37,7 @@ returns-then-not-check_job : tie.Need-returns-then-not-check_job
 returns-then-not-check_job c =
     let checked : tie.After-check_job = search in
     let ours : tie.Then-not-check_job = search in (
-      c.refused.ensures ∙ there 8 _ _ (ap not (said_no checked.check_job.ensures ours.if-not-check_job.true)),
+      c.refused.ensures ∙ there 8 _ _ (ap not (sym checked.check_job.ensures ∙ ours.if-not-check_job.true)),
       λ e. impossible (cc),
     )
 

@@ -37,7 +37,7 @@ returns-then-not-box_tight c =
     let r = t.lines in
     let f : tight (box_shape h.columns h.rows r.pixels-1) ≡ false =
     box_same text h.columns h.rows h.next-1 (suc a.line) r at-start.requires.1.low at-start.requires.2.low t.gives
-    ∙ said_no at-box-tight.box_tight.ensures c.before.before.if-not-box_tight.true in
+    ∙ sym at-box-tight.box_tight.ensures ∙ c.before.before.if-not-box_tight.true in
     let e = box_loose text a.line (piece_line_of h) r t.gives f in
     (ap piece.Refused c.refusal.ensures ∙ sym (ap (place_answer a.area a.line) e), tt, rw e tt)
 
@@ -75,7 +75,7 @@ returns-else-not-box_tight c =
     let r = t.lines in
     let f : tight (box_shape h.columns h.rows r.pixels-1) ≡ true =
     box_same text h.columns h.rows h.next-1 (suc a.line) r at-start.requires.1.low at-start.requires.2.low t.gives
-    ∙ said_yes at-box-tight.box_tight.ensures c.before.before.if-not-box_tight.false in
+    ∙ sym at-box-tight.box_tight.ensures ∙ c.before.before.if-not-box_tight.false in
     let e = box_given text a.line (piece_line_of h) r t.gives f in
     let n : next ≤ length text = rw t.after at ((rows_facts text h.columns h.rows h.next-1 (suc a.line) r t.gives).inside at-start.requires.0) in
     (rw (← t.after) (sym (ap (place_answer a.area a.line) e)), (n, at-start.requires.3, omega (arith, at-start.requires.2.high)), rw e t.stores)

@@ -56,7 +56,7 @@ returns-in-Refused c =
     let e : a.j.size.count - l.i ≡ suc (a.j.size.count - (l.i + 1)) = omega arith in
     let f : fill_pieces text j (a.j.size.count - l.i) l.i l.at.area l.at.next l.at.line l.table-1 l.pixels-1 ≡ refused s =
     rw e (pieces_denied text j (a.j.size.count - (l.i + 1)) l.i l.at.area l.at.next l.at.line l.table-1 l.pixels-1 s n) in
-    pieces_refused a.table-1.now _ a.pixels-1.now _ s (pieces_at text j a.j.size.count 0 0 a.j.next 2) (sym l.inv.4 ∙ f)
+    pieces_refused a.table-1.now _ a.pixels-1.now _ s (pieces_at text j a.j.size.count 0 0 a.j.next 2) (sym l.invariant.4 ∙ f)
 
 loop-i-preserved : tie.Need-loop-i-preserved invariant-loop-i decreases-loop-i
 loop-i-preserved c =
@@ -76,21 +76,21 @@ loop-i-preserved c =
     at-fill-piece.fill_piece.new.1.1.1.1.1.0 =
     rw e (pieces_step text j (a.j.size.count - suc l.i) l.i l.at.area l.at.next l.at.line l.table-1 l.pixels-1 q _ _
     (g ∙ at-fill-piece.fill_piece.ensures.0) at-fill-piece.fill_piece.ensures.2) in
-    let m : l.at.line ≤ 2 + 256 * l.i = l.inv.3 in (
+    let m : l.at.line ≤ 2 + 256 * l.i = l.invariant.3 in (
       omega arith,
       w.0,
       w.1,
       omega (arith, w.2),
-      rw (add-one l.i) (sym s ∙ l.inv.4),
-      at-fill-piece.fill_piece.auto.1.1.1.1.0 ∙ l.inv.5,
-      at-fill-piece.fill_piece.auto.1.1.1.1.1.0 ∙ l.inv.6,
+      rw (add-one l.i) (sym s ∙ l.invariant.4),
+      at-fill-piece.fill_piece.auto.1.1.1.1.0 ∙ l.invariant.5,
+      at-fill-piece.fill_piece.auto.1.1.1.1.1.0 ∙ l.invariant.6,
     )
 
 refusal-requires : tie.Need-refusal-requires invariant-loop-i decreases-loop-i
 refusal-requires c κs =
     let at-loop : tie.At-loop-i invariant-loop-i decreases-loop-i = search in
     let l = at-loop.loop-i in
-    omega (arith, l.inv.3)
+    omega (arith, l.invariant.3)
 
 shape_of-table-then-at-text : tie.Need-shape_of-table-then-at-text invariant-loop-i decreases-loop-i
 shape_of-table-then-at-text c =
@@ -115,7 +115,7 @@ returns-then-at-text c =
     ≡ refused (refusal_at wrong_form l.at.line) =
     rw e (pieces_extra text j l.i l.at.area l.at.next l.at.line l.table-1 l.pixels-1 c.before.if-at-text.true) in
     let o = pieces_refused a.table-1.now l.table-1 a.pixels-1.now l.pixels-1 (refusal_at wrong_form l.at.line)
-    (pieces_at text j a.j.size.count 0 0 a.j.next 2) (sym l.inv.4 ∙ f) in
+    (pieces_at text j a.j.size.count 0 0 a.j.next 2) (sym l.invariant.4 ∙ f) in
     (ap pieces.Refused c.refusal.ensures ∙ o.0, o.1)
 
 shape_of-table : tie.Need-shape_of-table invariant-loop-i decreases-loop-i
@@ -141,7 +141,7 @@ returns c =
     ≡ given (record { table = l.table-1; pixels = l.pixels-1; area = l.at.area }) =
     rw e (pieces_end text j l.i l.at.area l.at.next l.at.line l.table-1 l.pixels-1 c.if-at-text.false) in
     pieces_given a.table-1.now l.table-1 a.pixels-1.now l.pixels-1 l.at.area (pieces_at text j a.j.size.count 0 0 a.j.next 2)
-    (sym l.inv.4 ∙ f)
+    (sym l.invariant.4 ∙ f)
 
 pub fill_pieces_spec : {M : Type 1} → statement M
 fill_pieces_spec =

@@ -16,7 +16,7 @@ returns-then-not-some_mark c =
     let s = box_in a.mark a.bytes.now a.start a.stride a.columns a.rows in
     let bottom : holds Horizontal s 0 ≡ false =
     sym (row_marks a.mark a.bytes.now a.start a.stride a.columns a.rows (0) _ (omega arith))
-    ∙ said_no c.before.some_mark.ensures c.if-not-some_mark.true in
+    ∙ sym c.before.some_mark.ensures ∙ c.if-not-some_mark.true in
     simp bottom
 
 overflow_mul-rows : tie.Need-overflow_mul-rows
@@ -49,10 +49,10 @@ returns-then-not-some_mark-2 c =
     let s = box_in a.mark a.bytes.now a.start a.stride a.columns a.rows in
     let bottom : holds Horizontal s 0 ≡ true =
     sym (row_marks a.mark a.bytes.now a.start a.stride a.columns a.rows (0) _ (omega arith))
-    ∙ said_yes at-some-mark.some_mark.ensures c.before.before.if-not-some_mark.false in
+    ∙ sym at-some-mark.some_mark.ensures ∙ c.before.before.if-not-some_mark.false in
     let top : holds Horizontal s (a.rows - 1) ≡ false =
     sym (row_marks a.mark a.bytes.now a.start a.stride a.columns a.rows (a.rows - 1) _ (omega arith))
-    ∙ said_no c.before.some_mark-2.ensures c.if-not-some_mark-2.true in
+    ∙ sym c.before.some_mark-2.ensures ∙ c.if-not-some_mark-2.true in
     simp (bottom, top)
 
 returns-then-not-some_mark-3 : tie.Need-returns-then-not-some_mark-3
@@ -66,13 +66,13 @@ returns-then-not-some_mark-3 c =
     let s = box_in a.mark a.bytes.now a.start a.stride a.columns a.rows in
     let bottom : holds Horizontal s 0 ≡ true =
     sym (row_marks a.mark a.bytes.now a.start a.stride a.columns a.rows (0) _ (omega arith))
-    ∙ said_yes at-some-mark.some_mark.ensures at-else1.if-not-some_mark.false in
+    ∙ sym at-some-mark.some_mark.ensures ∙ at-else1.if-not-some_mark.false in
     let top : holds Horizontal s (a.rows - 1) ≡ true =
     sym (row_marks a.mark a.bytes.now a.start a.stride a.columns a.rows (a.rows - 1) _ (omega arith))
-    ∙ said_yes at-some-mark2.some_mark-2.ensures c.before.before.if-not-some_mark-2.false in
+    ∙ sym at-some-mark2.some_mark-2.ensures ∙ c.before.before.if-not-some_mark-2.false in
     let left : holds Vertical s 0 ≡ false =
     sym (column_marks a.mark a.bytes.now a.start a.stride a.columns a.rows (0) _ (omega arith))
-    ∙ said_no c.before.some_mark-3.ensures c.if-not-some_mark-3.true in
+    ∙ sym c.before.some_mark-3.ensures ∙ c.if-not-some_mark-3.true in
     simp (bottom, top, left)
 
 returns : tie.Need-returns
@@ -87,13 +87,13 @@ returns c =
     let s = box_in a.mark a.bytes.now a.start a.stride a.columns a.rows in
     let bottom : holds Horizontal s 0 ≡ true =
     sym (row_marks a.mark a.bytes.now a.start a.stride a.columns a.rows (0) _ (omega arith))
-    ∙ said_yes at-some-mark.some_mark.ensures at-else1.if-not-some_mark.false in
+    ∙ sym at-some-mark.some_mark.ensures ∙ at-else1.if-not-some_mark.false in
     let top : holds Horizontal s (a.rows - 1) ≡ true =
     sym (row_marks a.mark a.bytes.now a.start a.stride a.columns a.rows (a.rows - 1) _ (omega arith))
-    ∙ said_yes at-some-mark2.some_mark-2.ensures at-else2.if-not-some_mark-2.false in
+    ∙ sym at-some-mark2.some_mark-2.ensures ∙ at-else2.if-not-some_mark-2.false in
     let left : holds Vertical s 0 ≡ true =
     sym (column_marks a.mark a.bytes.now a.start a.stride a.columns a.rows (0) _ (omega arith))
-    ∙ said_yes c.before.before.some_mark-3.ensures c.before.if-not-some_mark-3.false in
+    ∙ sym c.before.before.some_mark-3.ensures ∙ c.before.if-not-some_mark-3.false in
     let right : c.some_mark-4.result ≡ holds Vertical s (a.columns - 1) =
     c.some_mark-4.ensures ∙ column_marks a.mark a.bytes.now a.start a.stride a.columns a.rows (a.columns - 1) _ (omega arith) in
     simp (bottom, top, left, right)

@@ -1,5 +1,5 @@
 -- `job_check::lent::boxes_tight`: the boxes before i are tight, and the pixels of piece i begin at `start`. Assumes nothing.
-use Rattle.list_laws.proofs.Kit.{◌≡◌, refl, sym, Bool, true, ◌*◌, ◌-◌, ◌<◌, ◌≤◌, ℕ, add-one, arith, below_more, below_none, rules}
+use Rattle.list_laws.proofs.Kit.{◌∙◌, ◌≡◌, refl, sym, Bool, true, ◌*◌, ◌-◌, ◌<◌, ◌≤◌, ℕ, add-one, arith, below_more, below_none, rules}
 use Rattle.model.specs.Piece.{tight}
 use Rattle.model.specs.Lent.{pixel_start, entry_area}
 use Rattle.list_laws.proofs.Searches.{not_all}
@@ -32,7 +32,7 @@ returns-then-not-stored_box_tight c =
     let at-start' : tie.Start invariant-loop-i decreases-loop-i = search in
     let a = at-start'.args in
     let f : ℕ → Bool = λ k. tight (stored_box a.table.now a.pixels.now k) in
-    sym (not_all a.count at-loop.loop-i.i f c.before.before.loop-i-test.true (said_no c.before.stored_box_tight.ensures c.if-not-stored_box_tight.true))
+    sym (not_all a.count at-loop.loop-i.i f c.before.before.loop-i-test.true (sym c.before.stored_box_tight.ensures ∙ c.if-not-stored_box_tight.true))
 
 loop-i-preserved : tie.Need-loop-i-preserved invariant-loop-i decreases-loop-i
 unfolding pixel_start
@@ -44,8 +44,8 @@ loop-i-preserved c =
     let table = at-start.args.table.now in
     let l = at.loop-i in
     let e : c.area_of-start.result ≡ entry_area table l.i = c.area_of-start.ensures.0 in
-    let s : l.start ≡ pixel_start table l.i = l.inv.1 in
-    (omega arith, rw add-one (omega arith), omega arith, below_more _ _ l.inv.3 (said_yes tested.stored_box_tight.ensures passed.if-not-stored_box_tight.false))
+    let s : l.start ≡ pixel_start table l.i = l.invariant.1 in
+    (omega arith, rw add-one (omega arith), omega arith, below_more _ _ l.invariant.3 (sym tested.stored_box_tight.ensures ∙ passed.if-not-stored_box_tight.false))
 
 returns : tie.Need-returns invariant-loop-i decreases-loop-i
 returns c =

@@ -1,6 +1,6 @@
 -- `job_check::lent::check_job` checks table, store, bytes and boxes in the order of `lent_well`, whose first five parts are those of a table.
 -- Assumes nothing.
-use Rattle.list_laws.proofs.Kit.{rules, le-leb, lt-leb}
+use Rattle.list_laws.proofs.Kit.{◌∙◌, sym, rules, le-leb, lt-leb}
 use Rattle.model.specs.Lent.{lent_well}
 use Rattle.list_laws.proofs.Tests.{said_no, said_yes}
 use Rattle.job_check.proofs.Boxes.{table_facts}
@@ -9,20 +9,20 @@ use Rattle.job_check.proofs.lent.check_job.Tie as tie
 
 returns-then-not-table_well : tie.Need-returns-then-not-table_well
 unfolding lent_well
-returns-then-not-table_well c = simp (said_no c.before.table_well.ensures c.if-not-table_well.true)
+returns-then-not-table_well c = simp (sym c.before.table_well.ensures ∙ c.if-not-table_well.true)
 
 pixel_start-total-requires : tie.Need-pixel_start-total-requires
 pixel_start-total-requires c κs =
     let at-start : tie.Start = search in
     let a = at-start.args in
-    let f = table_facts a.size a.table.now (said_yes c.before.table_well.ensures c.if-not-table_well.false) in
+    let f = table_facts a.size a.table.now (sym c.before.table_well.ensures ∙ c.if-not-table_well.false) in
     (f.entries, f.few)
 
 returns-then-pixels-total : tie.Need-returns-then-pixels-total
 unfolding lent_well
 returns-then-pixels-total c =
     let at-table-well : tie.After-table_well = search in
-    simp (said_yes at-table-well.table_well.ensures c.before.before.if-not-table_well.false, ← c.before.pixel_start-total.ensures, lt-leb _ _ c.if-pixels-total.true)
+    simp (sym at-table-well.table_well.ensures ∙ c.before.before.if-not-table_well.false, ← c.before.pixel_start-total.ensures, lt-leb _ _ c.if-pixels-total.true)
 
 returns-then-not-all_bits : tie.Need-returns-then-not-all_bits
 unfolding lent_well
@@ -31,10 +31,10 @@ returns-then-not-all_bits c =
     let at-else1 : tie.Else-not-table_well = search in
     let at-table-well : tie.After-table_well = search in
     simp (
-      said_yes at-table-well.table_well.ensures at-else1.if-not-table_well.false,
+      sym at-table-well.table_well.ensures ∙ at-else1.if-not-table_well.false,
       ← at-pixel-start.pixel_start-total.ensures,
       le-leb _ _ c.before.before.if-pixels-total.false,
-      said_no c.before.all_bits.ensures c.if-not-all_bits.true,
+      sym c.before.all_bits.ensures ∙ c.if-not-all_bits.true,
     )
 
 boxes_tight-requires : tie.Need-boxes_tight-requires
@@ -43,7 +43,7 @@ boxes_tight-requires c κs =
     let at-table-well : tie.After-table_well = search in
     let at-start : tie.Start = search in
     let a = at-start.args in
-    let f = table_facts a.size a.table.now (said_yes at-table-well.table_well.ensures at-else1.if-not-table_well.false) in
+    let f = table_facts a.size a.table.now (sym at-table-well.table_well.ensures ∙ at-else1.if-not-table_well.false) in
     (f.entries, f.few, f.ranges)
 
 returns : tie.Need-returns
@@ -54,10 +54,10 @@ returns c =
     let at-else1 : tie.Else-not-table_well = search in
     let at-table-well : tie.After-table_well = search in
     simp (
-      said_yes at-table-well.table_well.ensures at-else1.if-not-table_well.false,
+      sym at-table-well.table_well.ensures ∙ at-else1.if-not-table_well.false,
       ← at-pixel-start.pixel_start-total.ensures,
       le-leb _ _ at-else2.if-pixels-total.false,
-      said_yes c.before.before.all_bits.ensures c.before.if-not-all_bits.false,
+      sym c.before.before.all_bits.ensures ∙ c.before.if-not-all_bits.false,
       c.boxes_tight.ensures,
     )
 

@@ -1,5 +1,5 @@
 -- `job_check::lent::entries_fit`: the boxes before i fit. Assumes nothing.
-use Rattle.list_laws.proofs.Kit.{◌≡◌, sym, true, ◌-◌, ◌<◌, ◌≤◌, ℕ, arith, below_more, below_none, rules}
+use Rattle.list_laws.proofs.Kit.{◌∙◌, ◌≡◌, sym, true, ◌-◌, ◌<◌, ◌≤◌, ℕ, arith, below_more, below_none, rules}
 use Rattle.model.specs.Lent.{entry_fits}
 use Rattle.list_laws.proofs.Searches.{not_all}
 use Rattle.list_laws.proofs.Bounded.{all_from}
@@ -20,12 +20,12 @@ returns-then-not-entry_fits : tie.Need-returns-then-not-entry_fits invariant-loo
 returns-then-not-entry_fits c =
     let at-start : tie.Start invariant-loop-i decreases-loop-i = search in
     let a = at-start.args in
-    sym (not_all a.size.count _ (entry_fits a.size a.table.now) (omega arith) (said_no c.before.entry_fits.ensures c.if-not-entry_fits.true))
+    sym (not_all a.size.count _ (entry_fits a.size a.table.now) (omega arith) (sym c.before.entry_fits.ensures ∙ c.if-not-entry_fits.true))
 
 loop-i-preserved : tie.Need-loop-i-preserved invariant-loop-i decreases-loop-i
 loop-i-preserved c =
     let at : tie.At-loop-i invariant-loop-i decreases-loop-i = search in
-    (omega arith, below_more _ _ at.loop-i.invariant.1 (said_yes c.before.entry_fits.ensures c.if-not-entry_fits.false))
+    (omega arith, below_more _ _ at.loop-i.invariant.1 (sym c.before.entry_fits.ensures ∙ c.if-not-entry_fits.false))
 
 returns : tie.Need-returns invariant-loop-i decreases-loop-i
 returns c =

@@ -1,5 +1,5 @@
 -- `job_check::lent::entries_in_range`: the entries before i are in range. Assumes nothing.
-use Rattle.list_laws.proofs.Kit.{◌≡◌, sym, true, ◌-◌, ◌<◌, ◌≤◌, ℕ, arith, below_more, below_none, rules}
+use Rattle.list_laws.proofs.Kit.{◌∙◌, ◌≡◌, sym, true, ◌-◌, ◌<◌, ◌≤◌, ℕ, arith, below_more, below_none, rules}
 use Rattle.model.specs.Lent.{entry_in_range}
 use Rattle.list_laws.proofs.Searches.{not_all}
 use Rattle.list_laws.proofs.Tests.{said_no, said_yes}
@@ -21,12 +21,12 @@ returns-then-not-entry_in_range c =
     let at-start : tie.Start invariant-loop-i decreases-loop-i = search in
     let a = at-start.args in
     sym (not_all a.count _ (entry_in_range a.table.now) c.before.before.loop-i-test.true
-    (said_no c.before.entry_in_range.ensures c.if-not-entry_in_range.true))
+    (sym c.before.entry_in_range.ensures ∙ c.if-not-entry_in_range.true))
 
 loop-i-preserved : tie.Need-loop-i-preserved invariant-loop-i decreases-loop-i
 loop-i-preserved c =
     let at-loop : tie.At-loop-i invariant-loop-i decreases-loop-i = search in
-    (omega arith, below_more _ _ at-loop.loop-i.invariant.1 (said_yes c.before.entry_in_range.ensures c.if-not-entry_in_range.false))
+    (omega arith, below_more _ _ at-loop.loop-i.invariant.1 (sym c.before.entry_in_range.ensures ∙ c.if-not-entry_in_range.false))
 
 returns : tie.Need-returns invariant-loop-i decreases-loop-i
 returns c =

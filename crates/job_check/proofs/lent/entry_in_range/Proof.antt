@@ -1,5 +1,5 @@
 -- `job_check::lent::entry_in_range` takes the four numbers from the table. Assumes nothing.
-use Rattle.list_laws.proofs.Kit.{◌∙◌, ◌≡◌, Bool, rules}
+use Rattle.list_laws.proofs.Kit.{sym, ◌∙◌, ◌≡◌, Bool, rules}
 use Rattle.list_laws.proofs.Tests.{said_no, said_yes}
 use Rattle.model.specs.Lent.{entry_columns, entry_rows, entry_turns, entry_in_range, sides_in_range}
 use Rattle.job_check.proofs.lent.entry_in_range.Statement.{statement}
@@ -24,7 +24,7 @@ returns-then-not-sides_in_range : tie.Need-returns-then-not-sides_in_range
 unfolding entry_in_range
 returns-then-not-sides_in_range c =
     let at : tie.After-sides_in_range = search in
-    rw (said_no (told at) c.if-not-sides_in_range.true)
+    rw (sym (told at) ∙ c.if-not-sides_in_range.true)
 
 returns : tie.Need-returns
 unfolding entry_in_range
@@ -32,7 +32,7 @@ returns c =
     let at : tie.After-sides_in_range = search in
     let k : tie.After-lock_of = search in
     let else : tie.Else-not-sides_in_range = search in
-    rw (c.lock_in_range.ensures, k.lock_of.ensures, said_yes (told at) else.if-not-sides_in_range.false)
+    rw (c.lock_in_range.ensures, k.lock_of.ensures, sym (told at) ∙ else.if-not-sides_in_range.false)
 
 pub entry_in_range_spec : {M : Type 1} → statement M
 entry_in_range_spec =

@@ -23,7 +23,7 @@ returns-then-byte_at-mark c =
     let a = at-start.args in
     let l = at-loop.loop-k in
     let f : ℕ → Bool = λ i. eqb (get_or a.bytes.now (a.first + i * a.step) 0) a.mark in
-    let h : f l.k ≡ true = rw (← l.inv.1) (eq-eqb _ _ (sym c.before.byte_at.ensures ∙ c.if-byte_at-mark.true)) in
+    let h : f l.k ≡ true = rw (← l.invariant.1) (eq-eqb _ _ (sym c.before.byte_at.ensures ∙ c.if-byte_at-mark.true)) in
     sym (any_from a.count l.k f c.before.before.loop-k-test.true h)
 
 loop-k-preserved : tie.Need-loop-k-preserved invariant-loop-k decreases-loop-k
@@ -33,9 +33,9 @@ loop-k-preserved c =
     let a = at-start.args in
     let l = at-loop.loop-k in
     let f : ℕ → Bool = λ i. eqb (get_or a.bytes.now (a.first + i * a.step) 0) a.mark in
-    let h : f l.k ≡ false = rw (← l.inv.1) (ne_eqb _ _ (λ e. c.if-byte_at-mark.false (c.before.byte_at.ensures ∙ e))) in
-    let e : l.at ≡ a.first + l.k * a.step = l.inv.1 in
-    (omega arith, rw (add-one l.k, suc-mul l.k a.step) (omega arith), omega arith, below_more _ _ l.inv.3 h)
+    let h : f l.k ≡ false = rw (← l.invariant.1) (ne_eqb _ _ (λ e. c.if-byte_at-mark.false (c.before.byte_at.ensures ∙ e))) in
+    let e : l.at ≡ a.first + l.k * a.step = l.invariant.1 in
+    (omega arith, rw (add-one l.k, suc-mul l.k a.step) (omega arith), omega arith, below_more _ _ l.invariant.3 h)
 
 returns : tie.Need-returns invariant-loop-k decreases-loop-k
 returns c =

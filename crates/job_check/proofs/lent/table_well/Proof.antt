@@ -1,24 +1,24 @@
 -- `job_check::lent::table_well` makes the tests of its definition in their order. Assumes nothing.
-use Rattle.list_laws.proofs.Kit.{arith, rules, le-leb, lt-leb}
+use Rattle.list_laws.proofs.Kit.{◌∙◌, sym, arith, rules, le-leb, lt-leb}
 use Rattle.list_laws.proofs.Tests.{said_no, said_yes}
 use Rattle.job_laws.proofs.Ranges.{sheet_few}
 use Rattle.job_check.proofs.lent.table_well.Statement.{statement}
 use Rattle.job_check.proofs.lent.table_well.Tie as tie
 
 returns-then-not-sheet_in_range : tie.Need-returns-then-not-sheet_in_range
-returns-then-not-sheet_in_range c = simp (said_no c.before.sheet_in_range.ensures c.if-not-sheet_in_range.true)
+returns-then-not-sheet_in_range c = simp (sym c.before.sheet_in_range.ensures ∙ c.if-not-sheet_in_range.true)
 
 returns-then-table-count : tie.Need-returns-then-table-count
-returns-then-table-count c = simp (said_yes c.before.before.sheet_in_range.ensures c.before.if-not-sheet_in_range.false, lt-leb _ _ c.if-table-count.true)
+returns-then-table-count c = simp (sym c.before.before.sheet_in_range.ensures ∙ c.before.if-not-sheet_in_range.false, lt-leb _ _ c.if-table-count.true)
 
 returns-then-not-entries_in_range : tie.Need-returns-then-not-entries_in_range
 returns-then-not-entries_in_range c =
     let at-else1 : tie.Else-not-sheet_in_range = search in
     let at-sheet-in-range : tie.After-sheet_in_range = search in
     simp (
-      said_yes at-sheet-in-range.sheet_in_range.ensures at-else1.if-not-sheet_in_range.false,
+      sym at-sheet-in-range.sheet_in_range.ensures ∙ at-else1.if-not-sheet_in_range.false,
       le-leb _ _ c.before.before.if-table-count.false,
-      said_no c.before.entries_in_range.ensures c.if-not-entries_in_range.true,
+      sym c.before.entries_in_range.ensures ∙ c.if-not-entries_in_range.true,
     )
 
 returns-then-not-entries_fit : tie.Need-returns-then-not-entries_fit
@@ -28,10 +28,10 @@ returns-then-not-entries_fit c =
     let at-else1 : tie.Else-not-sheet_in_range = search in
     let at-sheet-in-range : tie.After-sheet_in_range = search in
     simp (
-      said_yes at-sheet-in-range.sheet_in_range.ensures at-else1.if-not-sheet_in_range.false,
+      sym at-sheet-in-range.sheet_in_range.ensures ∙ at-else1.if-not-sheet_in_range.false,
       le-leb _ _ at-else2.if-table-count.false,
-      said_yes at-entries-in-range.entries_in_range.ensures c.before.before.if-not-entries_in_range.false,
-      said_no c.before.entries_fit.ensures c.if-not-entries_fit.true,
+      sym at-entries-in-range.entries_in_range.ensures ∙ c.before.before.if-not-entries_in_range.false,
+      sym c.before.entries_fit.ensures ∙ c.if-not-entries_fit.true,
     )
 
 pixel_start-requires : tie.Need-pixel_start-requires
@@ -40,7 +40,7 @@ pixel_start-requires c κs =
     let at-sheet-in-range : tie.After-sheet_in_range = search in
     let at-start : tie.Start = search in
     let size = at-start.args.size in
-    let few = sheet_few size (said_yes at-sheet-in-range.sheet_in_range.ensures at-else1.if-not-sheet_in_range.false) in
+    let few = sheet_few size (sym at-sheet-in-range.sheet_in_range.ensures ∙ at-else1.if-not-sheet_in_range.false) in
     omega arith
 
 returns : tie.Need-returns
@@ -51,10 +51,10 @@ returns c =
     let at-else1 : tie.Else-not-sheet_in_range = search in
     let at-sheet-in-range : tie.After-sheet_in_range = search in
     simp (
-      said_yes at-sheet-in-range.sheet_in_range.ensures at-else1.if-not-sheet_in_range.false,
+      sym at-sheet-in-range.sheet_in_range.ensures ∙ at-else1.if-not-sheet_in_range.false,
       le-leb _ _ at-else2.if-table-count.false,
-      said_yes at-entries-in-range.entries_in_range.ensures at-else3.if-not-entries_in_range.false,
-      said_yes c.before.before.entries_fit.ensures c.before.if-not-entries_fit.false,
+      sym at-entries-in-range.entries_in_range.ensures ∙ at-else3.if-not-entries_in_range.false,
+      sym c.before.before.entries_fit.ensures ∙ c.before.if-not-entries_fit.false,
       c.pixel_start.ensures,
     )
 

@@ -111,15 +111,15 @@ loop-k-preserved c =
     let long : length order ≡ a.count =
     length-take-le a.count a.order.now (let n = at-start.requires.3 in let f = at-start.requires.2 in omega arith) in (
       omega arith,
-      length-set l.layout _ c.before.entry_of.result ∙ l.inv.1,
+      length-set l.layout _ c.before.entry_of.result ∙ l.invariant.1,
       top.height,
-      let e = l.inv.3 in let r = room.end in let t = top.end in omega arith,
+      let e = l.invariant.3 in let r = room.end in let t = top.end in omega arith,
       λ pixels.
           stack_step (job_of (lent_by a.size a.table.now pixels)) order l.k (get_or a.order.now l.k 0) (stack_of l.pile)
           (stack_of at-room-for.room_for-pile.result) (stack_of c.piled-pile.result) c.before.entry_of.result l.layout
           (let t = in-loop.loop-k-test.true in omega arith) here (room.same pixels)
           (c.before.entry_of.ensures ∙ ap entry_of (c.before.before.on_top.ensures pixels)) (top.same pixels)
-          ∙ l.inv.4 pixels,
+          ∙ l.invariant.4 pixels,
     )
 
 shape_of-layout : tie.Need-shape_of-layout invariant-loop-k decreases-loop-k

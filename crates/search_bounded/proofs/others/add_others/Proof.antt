@@ -52,8 +52,8 @@ add_other-requires c κs =
     let at-loop : tie.At-loop-left invariant-loop-left decreases-loop-left = search in
     let at-start : tie.Start invariant-loop-left decreases-loop-left = search in
     let p = at-loop.loop-left in
-    let x = adding_at _ _ _ _ _ _ p.left p.sums-1 at_in.loop-left-test.true p.inv.3 in
-    (p.inv.4, (at-start.requires.fact_2.0, (at-start.requires.fact_2.1.0, (at-start.requires.fact_2.1.1.0, (x.0, x.1)))))
+    let x = adding_at _ _ _ _ _ _ p.left p.sums-1 at_in.loop-left-test.true p.invariant.3 in
+    (p.invariant.4, (at-start.requires.fact_2.0, (at-start.requires.fact_2.1.0, (at-start.requires.fact_2.1.1.0, (x.0, x.1)))))
 
 loop-left-smaller : tie.Need-loop-left-smaller invariant-loop-left decreases-loop-left
 loop-left-smaller c =
@@ -69,10 +69,10 @@ loop-left-preserved c =
     let at-loop : tie.At-loop-left invariant-loop-left decreases-loop-left = search in
     let p = at-loop.loop-left in
     let x = at-add-other.add_other in (
-      x.kept.1.1.1.1.1.1.1.1.1.0 ∙ p.inv.0,
-      x.kept.1.1.1.1.1.1.1.1.1.1.0 ∙ p.inv.1,
-      x.kept.1.1.1.1.1.1.1.1.1.1.1.0 ∙ p.inv.2,
-      adding_step _ _ _ _ _ _ p.left p.sums-1 at_in.loop-left-test.true p.inv.3 _ x.ensures.0,
+      x.kept.1.1.1.1.1.1.1.1.1.0 ∙ p.invariant.0,
+      x.kept.1.1.1.1.1.1.1.1.1.1.0 ∙ p.invariant.1,
+      x.kept.1.1.1.1.1.1.1.1.1.1.1.0 ∙ p.invariant.2,
+      adding_step _ _ _ _ _ _ p.left p.sums-1 at_in.loop-left-test.true p.invariant.3 _ x.ensures.0,
       x.ensures.1,
     )
 
@@ -89,7 +89,7 @@ returns : tie.Need-returns invariant-loop-left decreases-loop-left
 returns c =
     let at-loop : tie.At-loop-left invariant-loop-left decreases-loop-left = search in
     let p = at-loop.loop-left in
-    (adding_end _ _ _ _ _ _ p.left p.sums-1 c.loop-left-test.false p.inv.3, p.inv.4)
+    (adding_end _ _ _ _ _ _ p.left p.sums-1 c.loop-left-test.false p.invariant.3, p.invariant.4)
 
 pub add_others_spec : {M : Type 1} → statement M
 add_others_spec =

@@ -32,7 +32,7 @@ returns-in-Done c =
     let l = at-loop.loop-found in
     compare_end
     (subst (NextIs a.direction a.pixels.now a.piece l.line l.along) c.enum_told-1.given.1 c.before.before.next_strip.ensures)
-    l.inv.1
+    l.invariant.1
 
 -- the strip that was found is the next one
 found-next : (c : tie.In-Found-2 invariant-loop-found decreases-loop-found)

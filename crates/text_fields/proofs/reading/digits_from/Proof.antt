@@ -25,10 +25,10 @@ returns-then-not-is_digit c =
     let text = at-start.args.text.now in
     let l = at-loop.loop-left in
     let e : l.left ≡ suc (l.left - 1) = omega arith in
-    let d : is_digit (byte text l.next) ≡ false = rw c.before.before.byte_at-b.ensures at (said_no c.before.is_digit.ensures c.if-not-is_digit.true) in (
-      ap digit_run (sym (digits_end text l.next l.value (l.left - 1) d) ∙ (rw e at l.inv.0)),
-      l.inv.1,
-      le_trans (largest_above l.left l.value) l.inv.2,
+    let d : is_digit (byte text l.next) ≡ false = rw c.before.before.byte_at-b.ensures at (sym c.before.is_digit.ensures ∙ c.if-not-is_digit.true) in (
+      ap digit_run (sym (digits_end text l.next l.value (l.left - 1) d) ∙ (rw e at l.invariant.0)),
+      l.invariant.1,
+      le_trans (largest_above l.left l.value) l.invariant.2,
     )
 
 overflow_mul-value : tie.Need-overflow_mul-value invariant-loop-left decreases-loop-left
@@ -36,23 +36,23 @@ overflow_mul-value c =
     let at-loop : tie.At-loop-left invariant-loop-left decreases-loop-left = search in
     let l = at-loop.loop-left in
     let h = largest_above l.left l.value in
-    omega (arith, l.inv.2)
+    omega (arith, l.invariant.2)
 
 digit_value-requires : tie.Need-digit_value-requires invariant-loop-left decreases-loop-left
-digit_value-requires c κs = said_yes c.before.is_digit.ensures c.if-not-is_digit.false
+digit_value-requires c κs = sym c.before.is_digit.ensures ∙ c.if-not-is_digit.false
 
 overflow_add-value : tie.Need-overflow_add-value invariant-loop-left decreases-loop-left
 overflow_add-value c =
     let at-loop : tie.At-loop-left invariant-loop-left decreases-loop-left = search in
     let l = at-loop.loop-left in
     let h = largest_above l.left l.value in
-    omega (arith, l.inv.2, c.digit_value.ensures.1)
+    omega (arith, l.invariant.2, c.digit_value.ensures.1)
 
 overflow_add-next : tie.Need-overflow_add-next invariant-loop-left decreases-loop-left
 overflow_add-next c =
     let at-loop : tie.At-loop-left invariant-loop-left decreases-loop-left = search in
     let l = at-loop.loop-left in
-    omega (arith, l.inv.1)
+    omega (arith, l.invariant.1)
 
 loop-left-preserved : tie.Need-loop-left-preserved invariant-loop-left decreases-loop-left
 loop-left-preserved c =
@@ -63,10 +63,10 @@ loop-left-preserved c =
     let l = at-loop.loop-left in
     let e : l.left ≡ suc (l.left - 1) = omega arith in
     let b : at-byte-at.byte_at-b.result ≡ byte text l.next = at-byte-at.byte_at-b.ensures in
-    let d : is_digit (byte text l.next) ≡ true = rw b at (said_yes c.before.before.is_digit.ensures c.before.if-not-is_digit.false) in
+    let d : is_digit (byte text l.next) ≡ true = rw b at (sym c.before.before.is_digit.ensures ∙ c.before.if-not-is_digit.false) in
     let v : c.digit_value.result ≡ byte text l.next - 48 = rw b at c.digit_value.ensures.0 in
-    let m : largest (l.value * 10 + 9) (l.left - 1) ≤ 99999 = rw e at l.inv.2 in (
-      rw (add-one, v) (sym (digits_more text l.next l.value (l.left - 1) d) ∙ (rw e at l.inv.0)),
+    let m : largest (l.value * 10 + 9) (l.left - 1) ≤ 99999 = rw e at l.invariant.2 in (
+      rw (add-one, v) (sym (digits_more text l.next l.value (l.left - 1) d) ∙ (rw e at l.invariant.0)),
       let i = digit_inside text l.next d in omega arith,
       le_trans (largest_grows (l.left - 1) (l.value * 10 + c.digit_value.result) (l.value * 10 + 9) (omega (arith, c.digit_value.ensures.1))) m,
     )

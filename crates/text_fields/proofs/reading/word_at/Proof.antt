@@ -22,7 +22,7 @@ returns-then-byte_at-word c =
     let a = at-start.args in
     let l = at-loop.loop-k in
     sym (stands_not a.word.now a.text.now l.k (a.p + l.k) in-loop.loop-k-test.true
-    (λ e. c.if-byte_at-word.true (c.before.before.byte_at.ensures ∙ e))) ∙ l.inv.1
+    (λ e. c.if-byte_at-word.true (c.before.before.byte_at.ensures ∙ e))) ∙ l.invariant.1
 
 loop-k-preserved : tie.Need-loop-k-preserved invariant-loop-k decreases-loop-k
 loop-k-preserved c =
@@ -35,7 +35,7 @@ loop-k-preserved c =
       omega arith,
       rw (e, add-one)
           (sym (stands_more a.word.now a.text.now l.k (a.p + l.k) in-loop.loop-k-test.true
-          (sym c.before.before.byte_at.ensures ∙ c.if-byte_at-word.false)) ∙ l.inv.1),
+          (sym c.before.before.byte_at.ensures ∙ c.if-byte_at-word.false)) ∙ l.invariant.1),
     )
 
 returns : tie.Need-returns invariant-loop-k decreases-loop-k
