@@ -239,13 +239,13 @@ pieces_ahead : {text : List ℕ} {p : ℕ} (k : Lent) → Facts k → k.size.cou
     → pieces_at text (sheet_line locks k m) left i (pixel_start k.table i) p line
     ≡ given (record { table = entries_from k.table i left; pixels = pixels_from k i left })
 unfolding pieces_at pieces_text pixel_start
-pieces_ahead {text} {p} k facts hn locks free m zero i line e a = unless_given _ no_pieces (ap not (eq-eqb p (length text) (ahead_end a)), tt)
-pieces_ahead {text} {p} k facts hn locks free m (suc left) i line e a =
+pieces_ahead {text = text} {p = p} k facts hn locks free m zero i line e a = unless_given _ no_pieces (ap not (eq-eqb p (length text) (ahead_end a)), tt)
+pieces_ahead {text = text} {p = p} k facts hn locks free m (suc left) i line e a =
     let below : i < k.size.count = omega arith in
     let rest : List ℕ = pieces_text locks k (suc i) left in
     let g : FieldGives (piece_at text (sheet_line locks k m) i (pixel_start k.table i) p line) (piece_content k i) text rest =
     piece_ahead k facts i below locks m line rest hn (λ none. free none i below) a in
-    let later = pieces_ahead k facts hn locks free m left (suc i) (suc (line + entry_rows k.table i)) (omega arith) g.ahead in
+    let later = pieces_ahead {p = g.next} k facts hn locks free m left (suc i) (suc (line + entry_rows k.table i)) (omega arith) g.ahead in
     rw (g.gives, later, and_then)
 
 -- the pixel bytes of pieces one after the other are a part of the store

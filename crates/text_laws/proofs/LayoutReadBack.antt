@@ -65,14 +65,14 @@ placements_ahead : {text : List ℕ} {p : ℕ} (j : Job) (i line : ℕ) (v : Lay
     → i + length v ≤ piece_bound → ((k : ℕ) → k < length v → Placed j (i + k) (place_of v k)) → Ahead text p (placements_text i v)
     → placements_at j text (length v) i p line ≡ given v
 unfolding placements_at placements_text
-placements_ahead {text} {p} j i line [] hr hc hn h a =
+placements_ahead {text = text} {p = p} j i line [] hr hc hn h a =
     unless_given _ [] (ap not (eq-eqb p (length text) (ahead_end a)), tt)
-placements_ahead {text} {p} j i line (q ∷ v) hr hc hn h a =
+placements_ahead {text = text} {p = p} j i line (q ∷ v) hr hc hn h a =
     let first : Placed j i q = rw add-zero at (h 0 (omega arith)) in
     let g : FieldGives (placement_line j text i p line) (λ n. record { place = q; next = n }) text (placements_text (suc i) v) =
     placement_ahead j i line q (placements_text (suc i) v) hr hc (omega arith) first a in
     let later : placements_at j text (length v) (suc i) g.next (suc line) ≡ given v =
-    placements_ahead j (suc i) (suc line) v hr hc (omega arith)
+    placements_ahead {p = g.next} j (suc i) (suc line) v hr hc (omega arith)
     (λ k l. let s : suc i + k ≡ i + suc k = omega arith in rw s (h (suc k) (omega arith)))
     g.ahead in
     rw (g.gives, later, and_then)

@@ -32,10 +32,10 @@ returns-in-Refused c =
     let asked : tie.After-check = search in
     let how : tie.In-Refused-2 = search in
     let a = s.args in
-    let o : cut_lines_call (lent s) a.layout.now (length a.lines-1.now) ≡ refused how.refusal-1.given.0.0 =
+    let o : cut_lines_call (lent s) a.layout.now (length a.lines.now) ≡ refused how.refusal-1.given.0.0 =
     lines_refused (lent s) a.layout.now _ _ (sym how.refusal-1.given.1 ∙ asked.check.ensures) in
     let answer = sym (ap count_answer o) in
-    (answer, (sym (ap (lines_after a.lines-1.now) o), lines_answered (lent s) a.layout.now (length a.lines-1.now) answer))
+    (answer, (sym (ap (lines_after a.lines.now) o), lines_answered (lent s) a.layout.now (length a.lines.now) answer))
 
 returns-in-Done : tie.Need-returns-in-Done
 returns-in-Done c =
@@ -43,14 +43,14 @@ returns-in-Done c =
     let p : tie.In-Done = search in
     let listed : tie.After-layout_lines = search in
     let a = s.args in
-    let o : cut_lines_call (lent s) a.layout.now (length a.lines-1.now)
-    ≡ in_room (cut_lines (job_of (lent s)) (layout_of a.layout.now)) (length a.lines-1.now) =
+    let o : cut_lines_call (lent s) a.layout.now (length a.lines.now)
+    ≡ in_room (cut_lines (job_of (lent s)) (layout_of a.layout.now)) (length a.lines.now) =
     lines_passed (lent s) a.layout.now _ (passed p) in
-    let answer = listed.layout_lines.ensures.answer ∙ sym (ap count_answer o) in (
+    let answer = listed.layout_lines.ensures.0 ∙ sym (ap count_answer o) in (
       answer,
       (
-        listed.layout_lines.ensures.memory ∙ sym (ap (lines_after a.lines-1.now) o),
-        lines_answered (lent s) a.layout.now (length a.lines-1.now) answer,
+        listed.layout_lines.ensures.1 ∙ sym (ap (lines_after a.lines.now) o),
+        lines_answered (lent s) a.layout.now (length a.lines.now) answer,
       ),
     )
 

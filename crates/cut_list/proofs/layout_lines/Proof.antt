@@ -73,8 +73,8 @@ returns c =
     let s : tie.Start = search in
     let p : tie.After-paint = search in
     let a = s.args in
-    let front : take (pixelCount s) (made p ++ drop (pixelCount s) a.owners-1.now) ≡ made p =
-    take_at (made p) (drop (pixelCount s) a.owners-1.now) (pixelCount s) (made-full p) in
+    let front : take (pixelCount s) (made p ++ drop (pixelCount s) a.owners.now) ≡ made p =
+    take_at (made p) (drop (pixelCount s) a.owners.now) (pixelCount s) (made-full p) in
     let j = job_of (lent_by a.size a.table.now a.pixels.now) in
     let owned : owned_lines a.size (made p) ≡ cut_lines j (layout_of a.layout.now) =
     owned_lines_lem j (layout_of a.layout.now) (made p) p.paint.ensures s.requires.0.laid.valid s.requires.0.apart in

@@ -32,7 +32,7 @@ returns c =
     let long : length ls ≤ length s.args.lines.now = rw (none, part.ensures.0) at e.if-lines-needed.false in
     let o : in_room ls (length s.args.lines.now) ≡ given ls = enough_room ls _ long in (
       rw part.ensures.0 (sym (ap count_answer o)),
-      rw none at c.before.list_lines.ensures.stored ∙ room_filled ls s.args.lines.now long ∙ sym (ap (lines_after s.args.lines.now) o),
+      rw none at c.before.list_lines.ensures.1 ∙ room_filled ls s.args.lines.now long ∙ sym (ap (lines_after s.args.lines.now) o),
     )
 
 pub lines_of_spec : {M : Type 1} → statement M

@@ -15,7 +15,7 @@ put_lines-requires c κs =
     let s : tie.Start = search in
     let grid : tie.After-grid_of-columns = search in
     let first : tie.After-put_lines-next = search in
-    let next = first.put_lines-next.ensures.next in
+    let next = first.put_lines-next.ensures.1 in
     (rw grid.grid_of-columns.ensures (small_columns s.args.size s.requires), omega arith)
 
 returns : tie.Need-returns
@@ -24,8 +24,8 @@ returns c =
     let rows : tie.After-grid_of-rows = search in
     let columns : tie.After-grid_of-columns = search in
     let first : tie.After-put_lines-next = search in
-    let a = rw rows.grid_of-rows.ensures at first.put_lines-next.ensures.stored in
-    let b = rw columns.grid_of-columns.ensures at c.before.put_lines.ensures.stored in
+    let a = rw rows.grid_of-rows.ensures at first.put_lines-next.ensures.0 in
+    let b = rw columns.grid_of-columns.ensures at c.before.put_lines.ensures.0 in
     (both_count_lem s.args.size s.args.owners.now a b, both_stored s.args.size s.args.owners.now a b)
 
 pub list_lines_spec : {M : Type 1} → statement M

@@ -7,7 +7,7 @@ use Rattle.cut_scan.proofs.close_run.Tie as tie
 returns-then-run-eq0 : tie.Need-returns-then-run-eq0
 returns-then-run-eq0 c =
     let a = c.before.args in
-    (closed_none a.direction a.line a.end a.run a.lines-1.now a.at c.if-run-eq0.true, omega arith)
+    (closed_none a.direction a.line a.end a.run a.lines.now a.at c.if-run-eq0.true, omega arith)
 
 shape_of-lines : tie.Need-shape_of-lines
 shape_of-lines c = ap length c.before.put.ensures ∙ simp length-set
@@ -19,7 +19,7 @@ returns c =
     let number : tie.After-direction_number = search in
     let a = s.args in (
       rw (c.before.put.ensures, number.direction_number.ensures)
-          (closed_one a.direction a.line a.end a.run a.lines-1.now a.at e.if-run-eq0.false s.requires.2),
+          (closed_one a.direction a.line a.end a.run a.lines.now a.at e.if-run-eq0.false s.requires.2),
       omega arith,
     )
 

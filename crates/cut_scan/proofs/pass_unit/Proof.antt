@@ -14,13 +14,13 @@ returns-then-is_side c =
     let a = s.args in
     let side : side_at a.owners.now a.grid a.a a.line ≡ true = sym asked.is_side.ensures ∙ c.if-is_side.true in (
       λ before from all w.
-          subst (λ (rest : List Strip). Left a.direction before from rest a.lines-1.now a.at all)
+          subst (λ (rest : List Strip). Left a.direction before from rest a.lines.now a.at all)
           (row_side a.owners.now a.grid a.line a.a a.run s.requires.1 side) w,
       (omega arith, omega arith),
     )
 
 shape_of-lines : tie.Need-shape_of-lines
-shape_of-lines c = appended_length c.before.close_run.ensures.stored
+shape_of-lines c = appended_length c.before.close_run.ensures.0
 
 returns : tie.Need-returns
 returns c =
@@ -29,12 +29,12 @@ returns c =
     let e : tie.Else-is_side = search in
     let a = s.args in
     let gap : side_at a.owners.now a.grid a.a a.line ≡ false = sym asked.is_side.ensures ∙ e.if-is_side.false in
-    let next = c.before.close_run.ensures.next in (
+    let next = c.before.close_run.ensures.1 in (
       λ before from all w.
           left_append (map (strip_of a.line) (closing a.a a.run [])) (row_from a.owners.now a.grid a.line (a.a + 1) 0)
-          (subst (λ (rest : List Strip). Left a.direction before from rest a.lines-1.now a.at all)
+          (subst (λ (rest : List Strip). Left a.direction before from rest a.lines.now a.at all)
           (row_gap a.owners.now a.grid a.line a.a a.run s.requires.1 gap) w)
-          c.before.close_run.ensures.stored,
+          c.before.close_run.ensures.0,
       (omega arith, omega arith),
     )
 

@@ -9,12 +9,12 @@ use Rattle.cut_scan.proofs.put_lines.Tie as tie
 
 abbrev invariant-loop-line : tie.invariant-loop-line
 invariant-loop-line owners grid direction lines₀ at count next₀ line₀ lines next line =
-    (line ≤ grid.lines-1 + 1) × (next ≤ at + line * 4097)
-    × Left direction lines₀ at (strips_from direction (grid_units direction owners grid) line (suc grid.lines-1 - line)) lines next
+    (line ≤ grid.lines + 1) × (next ≤ at + line * 4097)
+    × Left direction lines₀ at (strips_from direction (grid_units direction owners grid) line (suc grid.lines - line)) lines next
     (strips direction (grid_units direction owners grid))
 
 abbrev decreases-loop-line : tie.decreases-loop-line
-decreases-loop-line owners grid direction lines₀ at count next₀ line₀ lines next line = suc grid.lines-1 - line
+decreases-loop-line owners grid direction lines₀ at count next₀ line₀ lines next line = suc grid.lines - line
 
 -- all strips
 abbrev all : tie.Start invariant-loop-line decreases-loop-line → List Strip
@@ -26,7 +26,7 @@ loop-line-init c =
     let a = s.args in (
       omega arith,
       omega arith,
-      subst (λ (rest : List Strip). Left a.direction a.lines-1.now a.at rest a.lines-1.now a.at (all s))
+      subst (λ (rest : List Strip). Left a.direction a.lines.now a.at rest a.lines.now a.at (all s))
           (lines_all a.direction a.owners.now a.grid) (left_start _ _ _ _),
     )
 
@@ -62,14 +62,14 @@ loop-line-preserved c =
     let now = at-loop.loop-line in
     let l = in-loop.loop-line-test.true in
     let i = now.invariant.1 in
-    let next = c.before.put_row-next.ensures.next in (
+    let next = c.before.put_row-next.ensures.1 in (
       omega arith,
       omega arith,
       left_append (row_from a.owners.now a.grid now.line 0 0)
           (strips_from a.direction (grid_units a.direction a.owners.now a.grid) (now.line + 1) (suc a.grid.lines - (now.line + 1)))
-          (subst (λ (rest : List Strip). Left a.direction a.lines-1.now a.at rest now.lines-1 now.next (all s))
+          (subst (λ (rest : List Strip). Left a.direction a.lines.now a.at rest now.lines now.next (all s))
           (lines_step a.direction a.owners.now a.grid now.line l) now.invariant.2)
-          c.before.put_row-next.ensures.stored,
+          c.before.put_row-next.ensures.0,
     )
 
 shape_of-lines : tie.Need-shape_of-lines invariant-loop-line decreases-loop-line
@@ -88,7 +88,7 @@ returns c =
     let i = now.invariant.1 in
     let j = now.invariant.0 in (
       left_end_lem
-          (subst (λ (rest : List Strip). Left a.direction a.lines-1.now a.at rest now.lines-1 now.next (all s))
+          (subst (λ (rest : List Strip). Left a.direction a.lines.now a.at rest now.lines now.next (all s))
           (lines_end a.direction a.owners.now a.grid now.line (omega arith)) now.invariant.2),
       omega arith,
     )

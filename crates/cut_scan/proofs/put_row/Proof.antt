@@ -51,7 +51,7 @@ close_run-requires c κs =
 shape_of-lines : tie.Need-shape_of-lines invariant-loop-a decreases-loop-a
 shape_of-lines c =
     let at-loop : tie.At-loop-a invariant-loop-a decreases-loop-a = search in
-    appended_length c.before.close_run.ensures.stored ∙ left_length at-loop.loop-a.invariant.3
+    appended_length c.before.close_run.ensures.0 ∙ left_length at-loop.loop-a.invariant.3
 
 returns : tie.Need-returns invariant-loop-a decreases-loop-a
 returns c =
@@ -61,10 +61,10 @@ returns c =
     let a = s.args in
     let now = at-loop.loop-a in
     let all : now.a ≡ a.grid.length = let o = out.loop-a-test.false in let i = now.invariant.0 in omega arith in
-    let next = c.before.close_run.ensures.next in
+    let next = c.before.close_run.ensures.1 in
     let i = now.invariant.2 in
     let g = s.requires.0.length in
-    (row_stored a.owners.now a.grid a.line now.a now.run all now.invariant.3 c.before.close_run.ensures.stored, omega arith)
+    (row_stored a.owners.now a.grid a.line now.a now.run all now.invariant.3 c.before.close_run.ensures.0, omega arith)
 
 pub put_row_spec : {M : Type 1} → statement M
 put_row_spec =

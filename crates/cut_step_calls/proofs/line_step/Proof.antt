@@ -28,14 +28,14 @@ returns c =
     let asked : tie.After-pitch_wrong = search in
     let right : tie.Else-pitch_wrong = search in
     let a = s.args in
-    let answer : StepAnswer.Step c.step_of_lem.result ≡ step_answer (line_step_call a.lines.now a.pitch a.step) =
-    ap (λ (t : CutStep). StepAnswer.Step t) c.step_of_lem.ensures.0
+    let answer : StepAnswer.Step c.step_of.result ≡ step_answer (line_step_call a.lines.now a.pitch a.step) =
+    ap (λ (t : CutStep). StepAnswer.Step t) c.step_of.ensures.0
     ∙ sym (ap step_answer (line_given a.lines.now a.pitch a.step _ asked.pitch_wrong.ensures right.if-pitch_wrong.false)) in (
       answer,
       (
         same_answer a.lines.now a.pitch a.step answer,
-        λ t told. let same : c.step_of_lem.result ≡ t = cc in
-            subst (StepExact (map entry_line a.lines.now) a.pitch a.step) same c.step_of_lem.ensures.1,
+        λ t told. let same : c.step_of.result ≡ t = cc in
+            subst (StepExact (map entry_line a.lines.now) a.pitch a.step) same c.step_of.ensures.1,
       ),
     )
 

@@ -19,7 +19,7 @@ told : (p : tie.In-Number-2) → let s : tie.Start = search in LinesTold (lent s
 told p =
     let s : tie.Start = search in
     let asked : tie.After-cut_lines = search in
-    lines_told (lent s) s.args.layout.now s.requires.0 _ _ s.requires.1 (sym p.count-1.given.1 ∙ asked.cut_lines.ensures.answer)
+    lines_told (lent s) s.args.layout.now s.requires.0 _ _ s.requires.1 (sym p.count-1.given.1 ∙ asked.cut_lines.ensures.0)
 
 -- the buffer after the lines are stored
 abbrev stored : tie.After-cut_lines → List (List ℕ)
@@ -48,8 +48,8 @@ returns-in-Refused c =
     let s : tie.Start = search in
     let asked : tie.After-cut_lines = search in
     let a = s.args in
-    let o = lines_left (lent s) a.layout.now s.requires.0 (length a.lines-1.now) s.requires.1 in
-    let no = count_refused _ _ (sym c.before.refusal-1.given.1 ∙ asked.cut_lines.ensures.answer) in
+    let o = lines_left (lent s) a.layout.now s.requires.0 (length a.lines.now) s.requires.1 in
+    let no = count_refused _ _ (sym c.before.refusal-1.given.1 ∙ asked.cut_lines.ensures.0) in
     sym (ap step_answer (shared_refused (lent s) a.layout.now a.pitch a.step _ (sym o ∙ no)))
 
 returns-in-Number : tie.Need-returns-in-Number
@@ -60,10 +60,10 @@ returns-in-Number c =
     let a = s.args in
     let ls = cut_lines (job_of (lent s)) (layout_of a.layout.now) in
     let t = told p in
-    let after : stored asked ≡ filled (map line_entry ls) a.lines-1.now = asked.cut_lines.ensures.memory.0 ∙ ap (lines_after a.lines-1.now) t.lines-1 in
+    let after : stored asked ≡ filled (map line_entry ls) a.lines.now = asked.cut_lines.ensures.1.0 ∙ ap (lines_after a.lines.now) t.lines in
     let read : map entry_line (take p.count-1.given.0.0 (stored asked)) ≡ ls =
-    ap (λ (l : List (List ℕ)). map entry_line (take p.count-1.given.0.0 l)) after ∙ lines_back ls a.lines-1.now _ t.count-1 in
-    rw (c.step_of_lem.ensures.0, read) (sym (ap step_answer (t.step a.pitch a.step)))
+    ap (λ (l : List (List ℕ)). map entry_line (take p.count-1.given.0.0 l)) after ∙ lines_back ls a.lines.now _ t.count in
+    rw (c.step_of.ensures.0, read) (sym (ap step_answer (t.step a.pitch a.step)))
 
 pub listed_step_spec : {M : Type 1} → statement M
 listed_step_spec =

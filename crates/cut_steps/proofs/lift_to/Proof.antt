@@ -8,8 +8,8 @@ returns c =
     let x : tie.After-x_at = search in
     let first : tie.After-millimetres-x = search in
     let y : tie.After-y_at = search in (
-      rw (c.millimetres-y.ensures.is, y.y_at.ensures, first.millimetres-x.ensures.is, x.x_at.ensures),
-      (rw x.x_at.ensures at first.millimetres-x.ensures.exact, rw y.y_at.ensures at c.millimetres-y.ensures.exact),
+      rw (c.millimetres-y.ensures.0, y.y_at.ensures, first.millimetres-x.ensures.0, x.x_at.ensures),
+      (rw x.x_at.ensures at first.millimetres-x.ensures.1, rw y.y_at.ensures at c.millimetres-y.ensures.1),
     )
 
 pub lift_to_spec : {M : Type 1} → statement M

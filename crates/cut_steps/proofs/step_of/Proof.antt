@@ -21,8 +21,8 @@ returns-then-step-eq0 c =
     let e : tie.Else-lines-line = search in
     let even : tie.Then-step-eq0 = search in
     let a = s.args in (
-      c.lift_to.ensures.is ∙ sym (ap (step_in a.pitch) (even_step a.lines.now a.step (below e) even.if-step-eq0.true)),
-      even_exact a.lines.now a.pitch a.step (below e) even.if-step-eq0.true c.lift_to.ensures.exact,
+      c.lift_to.ensures.0 ∙ sym (ap (step_in a.pitch) (even_step a.lines.now a.step (below e) even.if-step-eq0.true)),
+      even_exact a.lines.now a.pitch a.step (below e) even.if-step-eq0.true c.lift_to.ensures.1,
     )
 
 returns : tie.Need-returns
@@ -31,8 +31,8 @@ returns c =
     let e : tie.Else-lines-line = search in
     let odd : tie.Else-step-eq0 = search in
     let a = s.args in (
-      c.cut_to.ensures.is ∙ sym (ap (step_in a.pitch) (odd_step a.lines.now a.step (below e) odd.if-step-eq0.false)),
-      odd_exact a.lines.now a.pitch a.step (below e) odd.if-step-eq0.false c.cut_to.ensures.exact,
+      c.cut_to.ensures.0 ∙ sym (ap (step_in a.pitch) (odd_step a.lines.now a.step (below e) odd.if-step-eq0.false)),
+      odd_exact a.lines.now a.pitch a.step (below e) odd.if-step-eq0.false c.cut_to.ensures.1,
     )
 
 pub step_of_spec : {M : Type 1} → statement M

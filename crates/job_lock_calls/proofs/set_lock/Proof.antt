@@ -19,12 +19,12 @@ lent s = lent_by s.args.size s.args.table.now s.args.pixels.now
 
 -- what the contract says of an answer and a table, where the call comes to an outcome
 ends : (l : Lent) (i station : ℕ) (o : Outcome (List (List ℕ))) (r : DoneAnswer) (table : List (List ℕ)) → set_lock_call l i station ≡ o
-    → r ≡ done_answer o → table ≡ locked_after l.table-1 o
+    → r ≡ done_answer o → table ≡ locked_after l.table o
     → (r ≡ done_answer (set_lock_call l i station))
-    × ((table ≡ locked_after l.table-1 (set_lock_call l i station))
+    × ((table ≡ locked_after l.table (set_lock_call l i station))
     × LocksClaims l (lock_call i station ∷ []) (lent_by l.size table l.pixels))
 ends l i station o r table e answer memory =
-    let left : table ≡ locked_after l.table-1 (set_lock_call l i station) = memory ∙ sym (ap (locked_after l.table-1) e) in
+    let left : table ≡ locked_after l.table (set_lock_call l i station) = memory ∙ sym (ap (locked_after l.table) e) in
     (answer ∙ sym (ap done_answer e), (left, lock_left l i station table left))
 
 -- the job passes its check behind the first test

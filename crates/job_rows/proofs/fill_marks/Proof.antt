@@ -33,9 +33,9 @@ returns-then-bit-gt1 c =
     let b : c.before.mark_bit-bit.result ≡ mark_bit (byte text (a.p + l.k)) = c.before.mark_bit-bit.ensures ∙ ap mark_bit c.before.before.byte_at.ensures in
     let m : mark_at text (a.p + l.k) ≡ wrong = mark_none text (a.p + l.k) (rw (← b) c.if-bit-gt1.true) in
     let e : a.count - l.k ≡ suc (a.count - (l.k + 1)) = omega arith in
-    let n : fill_marks text (a.count - l.k) (a.p + l.k) (a.at + l.k) l.pixels-1 ≡ wrong =
-    rw e (marks_none text (a.count - (l.k + 1)) (a.p + l.k) (a.at + l.k) l.pixels-1 m) in
-    stored_no a.at a.pixels-1.now l.pixels-1 (marks_at text a.count a.p) (sym l.invariant.1 ∙ n)
+    let n : fill_marks text (a.count - l.k) (a.p + l.k) (a.at + l.k) l.pixels ≡ wrong =
+    rw e (marks_none text (a.count - (l.k + 1)) (a.p + l.k) (a.at + l.k) l.pixels m) in
+    stored_no a.at a.pixels.now l.pixels (marks_at text a.count a.p) (sym l.invariant.1 ∙ n)
 
 loop-k-preserved : tie.Need-loop-k-preserved invariant-loop-k decreases-loop-k
 loop-k-preserved c =
@@ -52,9 +52,9 @@ loop-k-preserved c =
     let b : bit ≡ mark_bit (byte text (a.p + k)) = at-mark-bit.mark_bit-bit.ensures ∙ ap mark_bit at-byte-at.byte_at.ensures in
     let m : mark_at text (a.p + k) ≡ got bit (suc (a.p + k)) = rw b (mark_read text (a.p + k) (rw (← b) at-else1.if-bit-gt1.false)) in
     let e : a.count - k ≡ suc (a.count - (k + 1)) = omega arith in
-    let s : fill_marks text (a.count - k) (a.p + k) (a.at + k) l.pixels-1
-    ≡ fill_marks text (a.count - (k + 1)) (suc (a.p + k)) (suc (a.at + k)) (set l.pixels-1 (a.at + k) bit) =
-    rw e (marks_more text (a.count - (k + 1)) (a.p + k) (a.at + k) bit (suc (a.p + k)) l.pixels-1 m) in
+    let s : fill_marks text (a.count - k) (a.p + k) (a.at + k) l.pixels
+    ≡ fill_marks text (a.count - (k + 1)) (suc (a.p + k)) (suc (a.at + k)) (set l.pixels (a.at + k) bit) =
+    rw e (marks_more text (a.count - (k + 1)) (a.p + k) (a.at + k) bit (suc (a.p + k)) l.pixels m) in
     let i : a.p + (k + 1) ≡ suc (a.p + k) = omega arith in
     let i' : a.at + (k + 1) ≡ suc (a.at + k) = omega arith in
     (omega arith, rw (i, i', c.before.before.put_byte.ensures.1) (sym s ∙ l.invariant.1), c.before.before.put_byte.auto.0 ∙ l.invariant.2)
@@ -69,9 +69,9 @@ returns c =
     let text = a.text.now in
     let l = c.before.loop-k in
     let e : a.count - l.k ≡ 0 = omega arith in
-    let n : fill_marks text (a.count - l.k) (a.p + l.k) (a.at + l.k) l.pixels-1 ≡ got l.pixels-1 (a.p + l.k) =
-    rw e (marks_end text (a.p + l.k) (a.at + l.k) l.pixels-1) in
-    stored_yes a.at a.pixels-1.now l.pixels-1 (a.p + l.k) (marks_at text a.count a.p) (sym l.invariant.1 ∙ n)
+    let n : fill_marks text (a.count - l.k) (a.p + l.k) (a.at + l.k) l.pixels ≡ got l.pixels (a.p + l.k) =
+    rw e (marks_end text (a.p + l.k) (a.at + l.k) l.pixels) in
+    stored_yes a.at a.pixels.now l.pixels (a.p + l.k) (marks_at text a.count a.p) (sym l.invariant.1 ∙ n)
 
 pub fill_marks_spec : {M : Type 1} → statement M
 fill_marks_spec =

@@ -28,7 +28,7 @@ returns-then-not-fill_marks c =
     let at-start : tie.Start = search in
     let a = at-start.args in
     let text = a.text.now in
-    let m = stored_lost a.at a.pixels-1.now at-fill-marks.fill_marks.new.1.1.1.0 _ (marks_at text a.l (a.p + 4))
+    let m = stored_lost a.at a.pixels.now at-fill-marks.fill_marks.new.1.1.1.0 _ (marks_at text a.l (a.p + 4))
     at-fill-marks.fill_marks.ensures (not-true _ c.if-not-fill_marks.true) in
     let e : row_at text a.l a.p ≡ wrong = row_none text a.l a.p (sym at-word-at.word_at.ensures ∙ at-else1.if-not-word_at.false) m in
     rw e refl
@@ -46,9 +46,9 @@ returns c =
     let at-start : tie.Start = search in
     let a = at-start.args in
     let text = a.text.now in
-    let k = stored_kept a.at a.pixels-1.now at-fill-marks.fill_marks.new.1.1.1.0 _ (marks_at text a.l (a.p + 4))
+    let k = stored_kept a.at a.pixels.now at-fill-marks.fill_marks.new.1.1.1.0 _ (marks_at text a.l (a.p + 4))
     at-fill-marks.fill_marks.ensures (not-false _ c.before.if-not-fill_marks.false) in
-    row_last text a.l a.p (sym at-word-at.word_at.ensures ∙ at-else1.if-not-word_at.false) a.at a.pixels-1.now _ k _
+    row_last text a.l a.p (sym at-word-at.word_at.ensures ∙ at-else1.if-not-word_at.false) a.at a.pixels.now _ k _
     (ap (λ (b : ℕ). eqb b 10) c.byte_at.ensures)
 
 pub fill_row_spec : {M : Type 1} → statement M

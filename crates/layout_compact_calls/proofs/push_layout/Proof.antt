@@ -79,8 +79,8 @@ returns c =
     let s = begun rows in
     let same = same_layout_lem (lent s) _ _ s.requires (wrote rows).write_entries.ensures in
     let j = job_of (lent s) in (
-      pushed.push_all.ensures.slid ∙ ap (λ (v : Layout). (compact j v).slid) same,
-      pushed.push_all.ensures.layout ∙ ap (λ (v : Layout). entries_of (compact j v).layout-1) same,
+      pushed.push_all.ensures.0 ∙ ap (λ (v : Layout). (compact j v).slid) same,
+      pushed.push_all.ensures.1 ∙ ap (λ (v : Layout). entries_of (compact j v).layout-1) same,
     )
 
 pub push_layout_spec : {M : Type 1} → statement M

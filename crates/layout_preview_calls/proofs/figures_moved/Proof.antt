@@ -8,7 +8,7 @@ use Rattle.layout_preview_calls.proofs.figures_moved.Tie as tie
 
 -- the lent job has at most 64 pieces
 few : (s : tie.Start) → s.args.size.count ≤ 64
-few s = (facts (lent_by s.args.size s.args.table.now s.args.pixels.now) s.requires.fact_1.well).few_pieces
+few s = (facts (lent_by s.args.size s.args.table.now s.args.pixels.now) s.requires.0.well).few_pieces
 
 -- a fresh array, and as much of it as there are pieces
 abbrev fresh : List (List ℕ)
@@ -26,7 +26,7 @@ slice_bounds-figures_on-end c = let s : tie.Start = search in sym (fresh_part s.
 figures_on-requires : tie.Need-figures_on-requires
 figures_on-requires c κs =
     let s : tie.Start = search in
-    (s.requires.fact_1, (s.requires.fact_2.0, (s.requires.fact_2.1, fresh_part s.args.size.count (few s))))
+    (s.requires.0, (s.requires.1.0, (s.requires.1.1, fresh_part s.args.size.count (few s))))
 
 returns : tie.Need-returns
 returns c = let measured : tie.After-figures_on = search in measured.figures_on.ensures

@@ -24,14 +24,14 @@ after s = entries_with s.args.layout.now s.args.piece s.args.place
 
 after_laid : (s : tie.Start) → Laid (lent s) (after s)
 after_laid s =
-    let m = s.requires.fact_2.1.0 in moved_laid (lent s) s.args.layout.now s.args.piece s.args.place s.requires.fact_1 m.piece m.turn m.within
+    let m = s.requires.1.1.0 in moved_laid (lent s) s.args.layout.now s.args.piece s.args.place s.requires.0 m.piece m.turn m.within
 
 put_moved-requires : tie.Need-put_moved-requires
 put_moved-requires c κs =
     let s : tie.Start = search in
-    let whole = s.requires.fact_1.whole in
-    let room = s.requires.fact_2.1.1 in
-    let piece = s.requires.fact_2.1.0.piece in (omega arith, omega arith)
+    let whole = s.requires.0.whole in
+    let room = s.requires.1.1.1 in
+    let piece = s.requires.1.1.0.piece in (omega arith, omega arith)
 
 -- the copy holds it
 copied : (c : tie.After-put_moved) → let s : tie.Start = search in Laid (lent s) c.put_moved.new.1.1.1.0
@@ -42,8 +42,8 @@ penalties_of-penalties-requires c κs =
     let s : tie.Start = search in
     let put : tie.After-put_moved = search in
     let new = laid_drawable (lent s) _ (copied put) in
-    let old = laid_drawable (lent s) _ s.requires.fact_1 in
-    (search, (facts (lent s) s.requires.fact_1.well).small_gap)
+    let old = laid_drawable (lent s) _ s.requires.0 in
+    (search, (facts (lent s) s.requires.0.well).small_gap)
 
 -- as which a reader sees the copy
 moved-is : (c : tie.After-put_moved) → let s : tie.Start = search in
@@ -60,7 +60,7 @@ filled c =
     let s : tie.Start = search in
     let put : tie.After-put_moved = search in
     let new-whole = sym (copied put).whole in
-    let old-whole = sym s.requires.fact_1.whole in
+    let old-whole = sym s.requires.0.whole in
     subst (λ v. PenaltyTable (job_of (lent s)) v s.args.size.count c.penalties_of-penalties.result) (moved-is put)
     (c.penalties_of-penalties.ensures search)
 
@@ -69,15 +69,15 @@ unfolding job_of
 total-sum-requires c κs =
     let s : tie.Start = search in
     let made : tie.After-penalties_of-penalties = search in
-    record { few = (facts (lent s) s.requires.fact_1.well).few_pieces; size = (filled made).size; one_per_pair = s.requires.fact_2.0.one_per_pair }
+    record { few = (facts (lent s) s.requires.0.well).few_pieces; size = (filled made).size; one_per_pair = s.requires.1.0.one_per_pair }
 
 length_between_ends-length-requires : tie.Need-length_between_ends-length-requires
 length_between_ends-length-requires c κs =
     let s : tie.Start = search in
     let put : tie.After-put_moved = search in
-    let known = facts (lent s) s.requires.fact_1.well in
+    let known = facts (lent s) s.requires.0.well in
     let new = (copied put).whole in
-    let old = s.requires.fact_1.whole in (known.some_pieces, known.entries, search)
+    let old = s.requires.0.whole in (known.some_pieces, known.entries, search)
 
 returns : tie.Need-returns
 unfolding figures job_of

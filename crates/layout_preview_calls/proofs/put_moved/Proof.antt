@@ -8,13 +8,13 @@ bounds-moved-piece c =
     let s : tie.Start = search in
     let copied : tie.After-copy = search in
     let same = ap length copied.copy.ensures in
-    let b = s.requires.fact_2 in omega arith
+    let b = s.requires.1 in omega arith
 
 shape_of-moved : tie.Need-shape_of-moved
 shape_of-moved c =
     let s : tie.Start = search in
     let copied : tie.After-copy = search in
-    rw length-set (ap length copied.copy.ensures ∙ sym s.requires.fact_1)
+    rw length-set (ap length copied.copy.ensures ∙ sym s.requires.0)
 
 returns : tie.Need-returns
 returns c =

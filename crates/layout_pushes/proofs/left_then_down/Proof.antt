@@ -18,20 +18,20 @@ lent s = lent_by s.args.size s.args.table.now s.args.pixels.now
 pushed-left : (s : tie.Start)
     → Pushed (job_of (lent s)) (layout_of s.args.layout.now) (slide Horizontal (job_of (lent s)) s.args.i (layout_of s.args.layout.now))
 unfolding job_of
-pushed-left s = slide_pushed Horizontal (job_of (lent s)) s.args.i _ (whole (lent s) _ _ _ _ _ s.requires.fact_1) s.requires.fact_2.0 s.requires.fact_2.1
+pushed-left s = slide_pushed Horizontal (job_of (lent s)) s.args.i _ (whole (lent s) _ _ _ _ _ s.requires.0) s.requires.1.0 s.requires.1.1
 
 slide-left-requires : tie.Need-slide-left-requires
 slide-left-requires c κs =
     let s : tie.Start = search in
-    let h = s.requires.fact_1 in
-    (record { laid = h.laid; drawn = h.rows_drawn }, (s.requires.fact_2.0, h.written))
+    let h = s.requires.0 in
+    (record { laid = h.laid; drawn = h.rows_drawn }, (s.requires.1.0, h.written))
 
 slide-down-requires : tie.Need-slide-down-requires
 slide-down-requires c κs =
     let s : tie.Start = search in
     let once : tie.After-slide-left = search in
-    let h = pushable_after (lent s) _ _ _ _ _ s.requires.fact_1 _ (pushed-left s) _ once.slide-left.ensures.layout in
-    (record { laid = h.laid; drawn = h.columns_drawn }, (s.requires.fact_2.0, h.written))
+    let h = pushable_after (lent s) _ _ _ _ _ s.requires.0 _ (pushed-left s) _ once.slide-left.ensures.1 in
+    (record { laid = h.laid; drawn = h.columns_drawn }, (s.requires.1.0, h.written))
 
 overflow_add-result : tie.Need-overflow_add-result
 unfolding job_of
@@ -40,10 +40,10 @@ overflow_add-result c =
     let once : tie.After-slide-left = search in
     let twice : tie.After-slide-down = search in
     let l = lent s in
-    let h = pushable_after l _ _ _ _ _ s.requires.fact_1 _ (pushed-left s) _ once.slide-left.ensures.layout in
-    let left = slid_small l _ _ _ _ _ s.requires.fact_1 _ (pushed-left s) in
-    let down = slid_small l _ _ _ _ _ h _ (slide_pushed Vertical (job_of l) s.args.i _ (whole l _ _ _ _ _ h) s.requires.fact_2.0 s.requires.fact_2.1) in
-    omega (arith, left, down, once.slide-left.ensures.slid, twice.slide-down.ensures.slid)
+    let h = pushable_after l _ _ _ _ _ s.requires.0 _ (pushed-left s) _ once.slide-left.ensures.1 in
+    let left = slid_small l _ _ _ _ _ s.requires.0 _ (pushed-left s) in
+    let down = slid_small l _ _ _ _ _ h _ (slide_pushed Vertical (job_of l) s.args.i _ (whole l _ _ _ _ _ h) s.requires.1.0 s.requires.1.1) in
+    omega (arith, left, down, once.slide-left.ensures.0, twice.slide-down.ensures.0)
 
 returns : tie.Need-returns
 unfolding left_then_down

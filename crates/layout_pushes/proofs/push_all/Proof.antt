@@ -68,7 +68,7 @@ overflow_add-slid c =
     let first = sum_small (lent s) _ _ _ _ _ s.requires in
     let fall = (each s (layout_of l.loop-size.layout) (whole (lent s) _ _ _ _ _ l.loop-size.invariant.0)).slid_is_fall in
     let so_far = l.loop-size.invariant.1.1.falls in
-    omega (arith, first, fall, so_far, round.push_each-moved.ensures.slid)
+    omega (arith, first, fall, so_far, round.push_each-moved.ensures.0)
 
 loop-size-smaller : tie.Need-loop-size-smaller invariant-loop-size decreases-loop-size
 loop-size-smaller c =

@@ -58,7 +58,7 @@ overflow_add-slid c =
     let one : tie.After-push_piece-slid invariant-loop-i decreases-loop-i = search in
     let so_far = slid_small (lent s) _ _ _ _ _ s.requires _ (below_pushed (job_of (lent s)) l.loop-i.i _ (whole (lent s) _ _ _ _ _ s.requires) l.loop-i.invariant.0) in
     let more = slid_small (lent s) _ _ _ _ _ l.loop-i.invariant.1.0 _ (pushed t) in
-    omega (arith, so_far, more, l.loop-i.invariant.1.1.1.0, one.push_piece-slid.ensures.slid)
+    omega (arith, so_far, more, l.loop-i.invariant.1.1.1.0, one.push_piece-slid.ensures.0)
 
 overflow_add-i : tie.Need-overflow_add-i invariant-loop-i decreases-loop-i
 overflow_add-i c =
@@ -92,7 +92,7 @@ loop-i-preserved c =
           (
             then_slid (push_below j i v) (push_piece j i) _ _ _ _ h.1.1.0 h.1.1.1 e.0 e.1 ∙ sym (ap (λ (z : Compacted). z.slid) next),
             then_layout (push_below j i v) (push_piece j i) _ _ _ _ h.1.1.0 h.1.1.1 e.0 e.1
-                ∙ sym (ap (λ (z : Compacted). entries_of z.layout-1) next),
+                ∙ sym (ap (λ (z : Compacted). entries_of z.layout) next),
           ),
         ),
       ),

@@ -29,18 +29,18 @@ lent s = lent_by s.args.size s.args.table.now s.args.pixels.now
 each : (s : tie.Start invariant-loop-size decreases-loop-size) (w : Layout) → length w ≡ (job_of (lent s)).size.count
     → Pushed (job_of (lent s)) w (left_then_down (job_of (lent s)) s.args.i w)
 unfolding job_of
-each s w long = left_down_pushed (job_of (lent s)) s.args.i w long s.requires.fact_2.0 s.requires.fact_2.1
+each s w long = left_down_pushed (job_of (lent s)) s.args.i w long s.requires.1.0 s.requires.1.1
 
 loop-size-init : tie.Need-loop-size-init invariant-loop-size decreases-loop-size
 loop-size-init c =
     let s : tie.Start invariant-loop-size decreases-loop-size = search in
-    (s.requires.fact_1, (refl, pushing_begin _ _))
+    (s.requires.0, (refl, pushing_begin _ _))
 
 left_then_down-more-requires : tie.Need-left_then_down-more-requires invariant-loop-size decreases-loop-size
 left_then_down-more-requires c κs =
     let s : tie.Start invariant-loop-size decreases-loop-size = search in
     let l : tie.At-loop-size invariant-loop-size decreases-loop-size = search in
-    (l.loop-size.invariant.0, (s.requires.fact_2.0, s.requires.fact_2.1))
+    (l.loop-size.invariant.0, (s.requires.1.0, s.requires.1.1))
 
 shape_of-layout-then-more-eq0 : tie.Need-shape_of-layout-then-more-eq0 invariant-loop-size decreases-loop-size
 shape_of-layout-then-more-eq0 c =
@@ -66,10 +66,10 @@ overflow_add-slid c =
     let s : tie.Start invariant-loop-size decreases-loop-size = search in
     let l : tie.At-loop-size invariant-loop-size decreases-loop-size = search in
     let round : tie.After-left_then_down-more invariant-loop-size decreases-loop-size = search in
-    let first = sum_small (lent s) _ _ _ _ _ s.requires.fact_1 in
+    let first = sum_small (lent s) _ _ _ _ _ s.requires.0 in
     let fall = (each s (layout_of l.loop-size.layout) (whole (lent s) _ _ _ _ _ l.loop-size.invariant.0)).slid_is_fall in
     let so_far = l.loop-size.invariant.1.1.falls in
-    omega (arith, first, fall, so_far, round.left_then_down-more.ensures.slid)
+    omega (arith, first, fall, so_far, round.left_then_down-more.ensures.0)
 
 loop-size-smaller : tie.Need-loop-size-smaller invariant-loop-size decreases-loop-size
 loop-size-smaller c =

@@ -16,8 +16,8 @@ lent s = lent_by s.args.size s.args.table.now s.args.pixels.now
 is_locked-requires : tie.Need-is_locked-requires
 is_locked-requires c κs =
     let s : tie.Start = search in
-    let i = s.requires.fact_2 in
-    let n = (facts (lent s) s.requires.fact_1.laid.well).entries in
+    let i = s.requires.1 in
+    let n = (facts (lent s) s.requires.0.laid.well).entries in
     omega arith
 
 -- what the test tells
@@ -30,14 +30,14 @@ returns-then-is_locked c =
     let s : tie.Start = search in
     let asked : tie.After-is_locked = search in
     let e = piece_locked_lem (job_of (lent s)) s.args.i (layout_of s.args.layout.now) (locked asked true c.if-is_locked.true) in
-    (sym (ap (λ (z : Compacted). z.slid) e), sym s.requires.fact_1.written ∙ sym (ap (λ (z : Compacted). entries_of z.layout-1) e))
+    (sym (ap (λ (z : Compacted). z.slid) e), sym s.requires.0.written ∙ sym (ap (λ (z : Compacted). entries_of z.layout) e))
 
 push_free-requires : tie.Need-push_free-requires
 push_free-requires c κs =
     let s : tie.Start = search in
     let asked : tie.After-is_locked = search in
     let split : tie.Else-is_locked = search in
-    (s.requires.fact_1, (s.requires.fact_2, locked asked false split.if-is_locked.false))
+    (s.requires.0, (s.requires.1, locked asked false split.if-is_locked.false))
 
 returns : tie.Need-returns
 returns c =
@@ -46,8 +46,8 @@ returns c =
     let split : tie.Else-is_locked = search in
     let pushed : tie.After-push_free = search in
     let e = piece_free_lem (job_of (lent s)) s.args.i (layout_of s.args.layout.now) (locked asked false split.if-is_locked.false) in (
-      pushed.push_free.ensures.slid ∙ sym (ap (λ (z : Compacted). z.slid) e),
-      pushed.push_free.ensures.layout ∙ sym (ap (λ (z : Compacted). entries_of z.layout-1) e),
+      pushed.push_free.ensures.0 ∙ sym (ap (λ (z : Compacted). z.slid) e),
+      pushed.push_free.ensures.1 ∙ sym (ap (λ (z : Compacted). entries_of z.layout) e),
     )
 
 pub push_piece_spec : {M : Type 1} → statement M

@@ -21,12 +21,12 @@ returns-in-Refused c =
     let first = at-read-placements.read_placements in
     let none : first.last.1.1.1.1.0 ≡ [] = nothing_left _ first.kept.1.1.1.1.0 in
     λ pixels.
-    let o : layout_from (job_of (lent_by a.size a.table.now pixels)) a.text.now a.p (length a.layout-1.now)
+    let o : layout_from (job_of (lent_by a.size a.table.now pixels)) a.text.now a.p (length a.layout.now)
     ≡ refused c.before.refusal-1.given.0.0 =
     from_refused (lent_by a.size a.table.now pixels) a.text.now a.p _ _
     (layout_refused_lem (placements_at (job_of (lent_by a.size a.table.now pixels)) a.text.now a.size.count 0 a.p 2) _
     (sym c.before.refusal-1.given.1 ∙ first.ensures.0 pixels)) in
-    (sym (ap done_answer o), rw none (sym (ap (layout_after a.layout-1.now) o)))
+    (sym (ap done_answer o), rw none (sym (ap (layout_after a.layout.now) o)))
 
 returns-then-layout-size : tie.Need-returns-then-layout-size
 returns-then-layout-size c =
@@ -39,10 +39,10 @@ returns-then-layout-size c =
     λ pixels.
     let v : ReadGiven (placements_at (job_of (lent_by a.size a.table.now pixels)) a.text.now a.size.count 0 a.p 2) =
     layout_given _ (sym at-enum-told.enum_told-1.given.1 ∙ first.ensures.0 pixels) in
-    let unlike : length a.layout-1.now ≡ a.size.count → ⊥ = rw none at c.before.if-layout-size.true in
-    let o : layout_from (job_of (lent_by a.size a.table.now pixels)) a.text.now a.p (length a.layout-1.now) ≡ refused (plain_refusal 7) =
-    from_unlike (lent_by a.size a.table.now pixels) a.text.now a.p _ v.layout-1 v.gives unlike in
-    (c.refused.ensures ∙ sym (ap done_answer o), rw none (sym (ap (layout_after a.layout-1.now) o)))
+    let unlike : length a.layout.now ≡ a.size.count → ⊥ = rw none at c.before.if-layout-size.true in
+    let o : layout_from (job_of (lent_by a.size a.table.now pixels)) a.text.now a.p (length a.layout.now) ≡ refused (plain_refusal 7) =
+    from_unlike (lent_by a.size a.table.now pixels) a.text.now a.p _ v.layout v.gives unlike in
+    (c.refused.ensures ∙ sym (ap done_answer o), rw none (sym (ap (layout_after a.layout.now) o)))
 
 returns : tie.Need-returns
 returns c =
@@ -56,15 +56,15 @@ returns c =
     λ pixels.
     let v : ReadGiven (placements_at (job_of (lent_by a.size a.table.now pixels)) a.text.now a.size.count 0 a.p 2) =
     layout_given _ (sym at-enum-told.enum_told-1.given.1 ∙ first.ensures.0 pixels) in
-    let like : length a.layout-1.now ≡ a.size.count = rw none at at-else1.if-layout-size.false in
-    let o : layout_from (job_of (lent_by a.size a.table.now pixels)) a.text.now a.p (length a.layout-1.now) ≡ given v.layout-1 =
-    from_given (lent_by a.size a.table.now pixels) a.text.now a.p _ v.layout-1 v.gives like in
+    let like : length a.layout.now ≡ a.size.count = rw none at at-else1.if-layout-size.false in
+    let o : layout_from (job_of (lent_by a.size a.table.now pixels)) a.text.now a.p (length a.layout.now) ≡ given v.layout =
+    from_given (lent_by a.size a.table.now pixels) a.text.now a.p _ v.layout v.gives like in
     let second = c.before.read_placements-2.ensures in
-    let long : length (entries_of v.layout-1) ≡ length a.layout-1.now =
-    length-map v.layout-1 entry_of ∙ placements_count _ _ _ _ _ _ v.layout-1 v.gives ∙ sym like in (
+    let long : length (entries_of v.layout) ≡ length a.layout.now =
+    length-map v.layout entry_of ∙ placements_count _ _ _ _ _ _ v.layout v.gives ∙ sym like in (
       second.0 pixels ∙ ap done_answer v.gives ∙ sym (ap done_answer o),
-      rw none at (second.1 pixels v.layout-1 v.gives) ∙ sets_whole (entries_of v.layout-1) a.layout-1.now long
-          ∙ sym (ap (layout_after a.layout-1.now) o),
+      rw none at (second.1 pixels v.layout v.gives) ∙ sets_whole (entries_of v.layout) a.layout.now long
+          ∙ sym (ap (layout_after a.layout.now) o),
     )
 
 pub fill_layout_spec : {M : Type 1} → statement M

@@ -14,7 +14,7 @@ returns-in_default c =
     let at-line-at : tie.After-line_at-line = search in
     let at-start : tie.Start = search in
     let a = at-start.args in
-    let e : line_at layout_word three_fields a.text.now 0 ≡ wrong = rw c.before.enum_told-1.given.1 at at-line-at.line_at_lem.ensures.same in
+    let e : line_at layout_word three_fields a.text.now 0 ≡ wrong = rw c.before.enum_told-1.given.1 at at-line-at.line_at-line.ensures.same in
     (λ table pixels. rw (c.refused_in.ensures, layout_line_wrong (job_of (lent_by a.size table pixels)) a.text.now e), omega arith)
 
 returns-then-not-same_sheet : tie.Need-returns-then-not-same_sheet
@@ -24,7 +24,7 @@ returns-then-not-same_sheet c =
     let at-line-at : tie.After-line_at-line = search in
     let at-start : tie.Start = search in
     let a = at-start.args in
-    let read = at-line-at.line_at_lem in
+    let read = at-line-at.line_at-line in
     let ks = in_front read.result.numbers 3 [] in
     let next = at-form.form-1.given.0.0 in
     let e : line_at layout_word three_fields a.text.now 0 ≡ got ks next = rw at-form.form-1.given.1 at read.ensures.same in
@@ -38,7 +38,7 @@ returns c =
     let at-line-at : tie.After-line_at-line = search in
     let at-start : tie.Start = search in
     let a = at-start.args in
-    let read = at-line-at.line_at_lem in
+    let read = at-line-at.line_at-line in
     let ks = in_front read.result.numbers 3 [] in
     let next = at-form.form-1.given.0.0 in
     let e : line_at layout_word three_fields a.text.now 0 ≡ got ks next = rw at-form.form-1.given.1 at read.ensures.same in

@@ -14,7 +14,7 @@ returns-in_default c =
     let at-line-at : tie.After-line_at-read = search in
     let at-start : tie.Start = search in
     let a = at-start.args in
-    let e : line_at at_word four_fields a.text.now a.p ≡ wrong = rw c.before.enum_told-1.given.1 at at-line-at.line_at_lem.ensures.same in
+    let e : line_at at_word four_fields a.text.now a.p ≡ wrong = rw c.before.enum_told-1.given.1 at at-line-at.line_at-read.ensures.same in
     (λ pixels. rw (c.refused_in.ensures, line_wrong (job_of (lent_by a.size a.table.now pixels)) a.text.now a.i a.p a.line e), omega arith)
 
 placement_of-requires : tie.Need-placement_of-requires
@@ -30,7 +30,7 @@ returns-in-Refused c =
     let at-line-at : tie.After-line_at-read = search in
     let at-start : tie.Start = search in
     let a = at-start.args in
-    let read = at-line-at.line_at_lem in
+    let read = at-line-at.line_at-read in
     let ks = in_front read.result.numbers 4 [] in
     let next = at-form.form-1.given.0.0 in
     let e : line_at at_word four_fields a.text.now a.p ≡ got ks next = rw at-form.form-1.given.1 at read.ensures.same in (
@@ -51,7 +51,7 @@ returns-in-Placed c =
     let at-line-at : tie.After-line_at-read = search in
     let at-start : tie.Start = search in
     let a = at-start.args in
-    let read = at-line-at.line_at_lem in
+    let read = at-line-at.line_at-read in
     let ks = in_front read.result.numbers 4 [] in
     let next = at-form.form-1.given.0.0 in
     let e : line_at at_word four_fields a.text.now a.p ≡ got ks next = rw at-form.form-1.given.1 at read.ensures.same in (

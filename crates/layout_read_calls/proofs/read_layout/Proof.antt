@@ -17,8 +17,8 @@ returns-then-not-check_job c =
     let a = at-start.args in
     let l : Lent = lent_by a.size a.table.now a.pixels.now in
     let well : lent_well l ≡ false = sym c.before.before.check_job.ensures ∙ not-true _ c.before.if-not-check_job.true in
-    let o : read_layout_call l a.text.now (length a.layout-1.now) ≡ refused (plain_refusal 8) = read_unsound l a.text.now _ well in
-    (c.refused.ensures ∙ sym (ap done_answer o), sym (ap (layout_after a.layout-1.now) o))
+    let o : read_layout_call l a.text.now (length a.layout.now) ≡ refused (plain_refusal 8) = read_unsound l a.text.now _ well in
+    (c.refused.ensures ∙ sym (ap done_answer o), sym (ap (layout_after a.layout.now) o))
 
 fill_layout-requires : tie.Need-fill_layout-requires
 fill_layout-requires c κs =
@@ -40,11 +40,11 @@ returns-in-Refused c =
     let a = at-start.args in
     let l : Lent = lent_by a.size a.table.now a.pixels.now in
     let well : lent_well l ≡ true = sym at-check-job.check_job.ensures ∙ not-false _ at-else1.if-not-check_job.false in
-    let o : read_layout_call l a.text.now (length a.layout-1.now) ≡ refused c.before.refusal-1.given.0.0 =
+    let o : read_layout_call l a.text.now (length a.layout.now) ≡ refused c.before.refusal-1.given.0.0 =
     read_refused l a.text.now _ _ well
     (position_refused (layout_line (job_of l) a.text.now) _
     (sym c.before.refusal-1.given.1 ∙ at-layout-line.layout_line.ensures.0 a.table.now a.pixels.now)) in
-    (sym (ap done_answer o), sym (ap (layout_after a.layout-1.now) o))
+    (sym (ap done_answer o), sym (ap (layout_after a.layout.now) o))
 
 returns-in-After : tie.Need-returns-in-After
 returns-in-After c =
@@ -57,11 +57,11 @@ returns-in-After c =
     let l : Lent = lent_by a.size a.table.now a.pixels.now in
     let well : lent_well l ≡ true = sym at-check-job.check_job.ensures ∙ not-false _ at-else1.if-not-check_job.false in
     let p = at_p.p-1.given in
-    let o : read_layout_call l a.text.now (length a.layout-1.now) ≡ layout_from (job_of l) a.text.now p.0.0 (length a.layout-1.now) =
+    let o : read_layout_call l a.text.now (length a.layout.now) ≡ layout_from (job_of l) a.text.now p.0.0 (length a.layout.now) =
     read_from l a.text.now _ p.0.0 well
     (position_given (layout_line (job_of l) a.text.now) _ (sym p.1 ∙ at-layout-line.layout_line.ensures.0 a.table.now a.pixels.now)) in
     let fill = c.before.fill_layout.ensures a.pixels.now in
-    (fill.0 ∙ sym (ap done_answer o), fill.1 ∙ sym (ap (layout_after a.layout-1.now) o))
+    (fill.0 ∙ sym (ap done_answer o), fill.1 ∙ sym (ap (layout_after a.layout.now) o))
 
 pub read_layout_spec : {M : Type 1} → statement M
 read_layout_spec =

@@ -30,7 +30,7 @@ loop-i-init c =
       c.before.requires.1,
       refl,
       refl,
-      progress_begin (λ pixels. job_of (lent_by a.size a.table.now pixels)) a.size.count a.text.now a.p a.layout-1.now,
+      progress_begin (λ pixels. job_of (lent_by a.size a.table.now pixels)) a.size.count a.text.now a.p a.layout.now,
     )
 
 placement_line-requires : tie.Need-placement_line-requires invariant-loop-i decreases-loop-i
@@ -56,7 +56,7 @@ returns-in-Refused c =
     let whole : (pixels : List ℕ)
     → placements_at (job_of (lent_by a.size a.table.now pixels)) a.text.now a.size.count 0 a.p 2 ≡ refused c.before.refusal-1.given.0.0 =
     λ pixels.
-    progress_refused (λ pixels. job_of (lent_by a.size a.table.now pixels)) a.size.count a.text.now a.p a.layout-1.now l.layout-1 l.at
+    progress_refused (λ pixels. job_of (lent_by a.size a.table.now pixels)) a.size.count a.text.now a.p a.layout.now l.layout l.at
     l.line l.i l.invariant.4 at-then1.loop-i-test.true _ pixels
     (line_refused (placement_line (job_of (lent_by a.size a.table.now pixels)) a.text.now l.i l.at l.line) _
     (sym c.before.refusal-1.given.1 ∙ at-placement-line.placement_line.ensures.0 pixels)) in
@@ -95,7 +95,7 @@ loop-i-preserved c =
       let e = l.invariant.2 in omega arith,
       c.before.set_entry.auto.0 ∙ l.invariant.3,
       rw c.before.set_entry.ensures
-          (progress_more (λ pixels. job_of (lent_by a.size a.table.now pixels)) a.size.count a.text.now a.p a.layout-1.now l.layout-1
+          (progress_more (λ pixels. job_of (lent_by a.size a.table.now pixels)) a.size.count a.text.now a.p a.layout.now l.layout
           l.at l.line l.i l.invariant.4 at-then1.loop-i-test.true g.0.0 g.0.1.0
           (λ pixels.
           line_read_lem (placement_line (job_of (lent_by a.size a.table.now pixels)) a.text.now l.i l.at l.line) _ _
@@ -117,7 +117,7 @@ returns-then-at-text c =
     → placements_at (job_of (lent_by a.size a.table.now pixels)) a.text.now a.size.count 0 a.p 2 ≡ refused c.refused_in.result =
     λ pixels.
     rw c.refused_in.ensures
-    (progress_extra (λ pixels. job_of (lent_by a.size a.table.now pixels)) a.size.count a.text.now a.p a.layout-1.now l.layout-1 l.at
+    (progress_extra (λ pixels. job_of (lent_by a.size a.table.now pixels)) a.size.count a.text.now a.p a.layout.now l.layout l.at
     l.line l.i l.invariant.4 c.before.before.loop-i-test.false c.before.if-at-text.true pixels) in
     (λ pixels. sym (ap done_answer (whole pixels)), λ pixels v e. absurd (refused_given (sym (whole pixels) ∙ e)))
 
@@ -134,7 +134,7 @@ returns c =
     let l = at-loop.loop-i in
     let whole : (pixels : List ℕ)
     → placements_at (job_of (lent_by a.size a.table.now pixels)) a.text.now a.size.count 0 a.p 2 ≡ given l.invariant.4.front =
-    progress_end (λ pixels. job_of (lent_by a.size a.table.now pixels)) a.size.count a.text.now a.p a.layout-1.now l.layout-1 l.at
+    progress_end (λ pixels. job_of (lent_by a.size a.table.now pixels)) a.size.count a.text.now a.p a.layout.now l.layout l.at
     l.line l.i l.invariant.4 c.before.loop-i-test.false c.if-at-text.false in (
       λ pixels. sym (ap done_answer (whole pixels)),
       λ pixels v e.

@@ -15,11 +15,11 @@ returns-in-Horizontal c =
     let sided : tie.After-turned_sides-sides = search in
     let told : tie.In-Horizontal = search in
     let a = at-start.args in
-    let small = sided.turned_sides-sides.ensures.small in (
+    let small = sided.turned_sides-sides.ensures.1 in (
       λ size pixels.
           box_rows_lem (job_of (lent_by size a.table.now pixels)) (layout_of a.layout.now) a.i a.direction placed.place_at-place.result
           seen_at.corner_along-corner.result sided.turned_sides-sides.result placed.place_at-place.ensures seen_at.corner_along-corner.ensures
-          (sided.turned_sides-sides.ensures.sides size pixels) told.enum_told-1.given.1,
+          (sided.turned_sides-sides.ensures.0 size pixels) told.enum_told-1.given.1,
       (small.0, small.1),
     )
 
@@ -31,11 +31,11 @@ returns-in-Vertical c =
     let sided : tie.After-turned_sides-sides = search in
     let told : tie.In-Vertical = search in
     let a = at-start.args in
-    let small = sided.turned_sides-sides.ensures.small in (
+    let small = sided.turned_sides-sides.ensures.1 in (
       λ size pixels.
           box_columns_lem (job_of (lent_by size a.table.now pixels)) (layout_of a.layout.now) a.i a.direction placed.place_at-place.result
           seen_at.corner_along-corner.result sided.turned_sides-sides.result placed.place_at-place.ensures seen_at.corner_along-corner.ensures
-          (sided.turned_sides-sides.ensures.sides size pixels) told.enum_told-in-Vertical-1.given.1,
+          (sided.turned_sides-sides.ensures.0 size pixels) told.enum_told-in-Vertical-1.given.1,
       (small.1, small.0),
     )
 

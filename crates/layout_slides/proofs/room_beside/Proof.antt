@@ -25,25 +25,25 @@ returns-then-k-i c =
 box_at-mover-requires : tie.Need-box_at-mover-requires
 box_at-mover-requires c κs =
     let s : tie.Start = search in
-    let h = s.requires.fact_1 in
-    let i = s.requires.fact_2.0.0 in
+    let h = s.requires.0 in
+    let i = s.requires.1.0.0 in
     (row_there _ (lent s) _ _ _ h _ i, entry_there _ (lent s) _ _ _ h _ i)
 
 box_at-standing-requires : tie.Need-box_at-standing-requires
 box_at-standing-requires c κs =
     let s : tie.Start = search in
-    let h = s.requires.fact_1 in
-    let k = s.requires.fact_2.0.1 in
+    let h = s.requires.0 in
+    let k = s.requires.1.0.1 in
     (row_there _ (lent s) _ _ _ h _ k, entry_there _ (lent s) _ _ _ h _ k)
 
 strips_of-requires : tie.Need-strips_of-requires
-strips_of-requires c κs = let s : tie.Start = search in span_there _ (lent s) _ _ _ s.requires.fact_1 _ s.requires.fact_2.0.0
+strips_of-requires c κs = let s : tie.Start = search in span_there _ (lent s) _ _ _ s.requires.0 _ s.requires.1.0.0
 
 strips_of-requires-2 : tie.Need-strips_of-requires-2
-strips_of-requires-2 c κs = let s : tie.Start = search in span_there _ (lent s) _ _ _ s.requires.fact_1 _ s.requires.fact_2.0.1
+strips_of-requires-2 c κs = let s : tie.Start = search in span_there _ (lent s) _ _ _ s.requires.0 _ s.requires.1.0.1
 
 overflow_cast-size : tie.Need-overflow_cast-size
-overflow_cast-size c = let s : tie.Start = search in let few = (facts (lent s) s.requires.fact_1.laid.well).small_gap in omega arith
+overflow_cast-size c = let s : tie.Start = search in let few = (facts (lent s) s.requires.0.laid.well).small_gap in omega arith
 
 room_before-requires : tie.Need-room_before-requires
 room_before-requires c κs =
@@ -54,9 +54,9 @@ room_before-requires c κs =
     let other : tie.After-strips_of-2 = search in
     let a = s.args in
     let l = lent s in
-    let h = s.requires.fact_1 in
-    let i = s.requires.fact_2.0.0 in
-    let k = s.requires.fact_2.0.1 in
+    let h = s.requires.0 in
+    let i = s.requires.1.0.0 in
+    let k = s.requires.1.0.1 in
     let p = first.box_at-mover.ensures in
     let q = second.box_at-standing.ensures in
     let shown = p.0 a.size a.pixels.now in
@@ -70,7 +70,7 @@ room_before-requires c κs =
             box_near _ l _ _ _ h _ i _ shown p.1.0 p.1.1,
             box_near _ l _ _ _ h _ k _ (q.0 a.size a.pixels.now) q.1.0 q.1.1,
           ),
-          ((facts l h.laid.well).small_gap, rw e s.requires.fact_2.1),
+          ((facts l h.laid.well).small_gap, rw e s.requires.1.1),
         ),
       ),
     )
@@ -86,14 +86,14 @@ returns c =
     let split : tie.Else-k-i = search in
     let a = s.args in
     let l = lent s in
-    let h = s.requires.fact_1 in
-    let i = s.requires.fact_2.0.0 in
-    let k = s.requires.fact_2.0.1 in
+    let h = s.requires.0 in
+    let i = s.requires.1.0.0 in
+    let k = s.requires.1.0.1 in
     let v = layout_of a.layout.now in
     let n = h.laid.whole in
     c.room_before.ensures a.direction (shape_in (job_of l) v a.i) (corner_in v a.i) (shape_in (job_of l) v a.k) (corner_in v a.k)
     (own.strips_of.ensures ∙ strips_stand _ l _ _ _ h _ i) (other.strips_of-2.ensures ∙ strips_stand _ l _ _ _ h _ k)
-    (first.box_at-mover.ensures.shown a.size a.pixels.now) (second.box_at-standing.ensures.shown a.size a.pixels.now)
+    (first.box_at-mover.ensures.0 a.size a.pixels.now) (second.box_at-standing.ensures.0 a.size a.pixels.now)
     ∙ blocked_first a.direction (job_of l) v a.i a.k (simp length-map (omega arith)) split.if-k-i.false a.bound
 
 pub room_beside_spec : {M : Type 1} → statement M

@@ -19,10 +19,10 @@ abbrev lent : tie.Start → Lent
 lent s = lent_by s.args.size s.args.table.now s.args.pixels.now
 
 slide_room-room-requires : tie.Need-slide_room-room-requires
-slide_room-room-requires c κs = let s : tie.Start = search in (s.requires.fact_1, s.requires.fact_2.0)
+slide_room-room-requires c κs = let s : tie.Start = search in (s.requires.0, s.requires.1.0)
 
 place_at-place-requires : tie.Need-place_at-place-requires
-place_at-place-requires c κs = let s : tie.Start = search in entry_there _ (lent s) _ _ _ s.requires.fact_1 _ s.requires.fact_2.0
+place_at-place-requires c κs = let s : tie.Start = search in entry_there _ (lent s) _ _ _ s.requires.0 _ s.requires.1.0
 
 moved_back-requires : tie.Need-moved_back-requires
 moved_back-requires c κs =
@@ -36,12 +36,12 @@ moved_back-requires c κs =
 offset_bounds-layout-i : tie.Need-offset_bounds-layout-i
 offset_bounds-layout-i c =
     let s : tie.Start = search in
-    let i = s.requires.fact_2.0 in
-    let few = (facts (lent s) s.requires.fact_1.laid.well).few_pieces in
+    let i = s.requires.1.0 in
+    let few = (facts (lent s) s.requires.0.laid.well).few_pieces in
     omega arith
 
 bounds-layout-i : tie.Need-bounds-layout-i
-bounds-layout-i c = let s : tie.Start = search in entry_there _ (lent s) _ _ _ s.requires.fact_1 _ s.requires.fact_2.0
+bounds-layout-i c = let s : tie.Start = search in entry_there _ (lent s) _ _ _ s.requires.0 _ s.requires.1.0
 
 returns : tie.Need-returns
 unfolding slide
@@ -61,7 +61,7 @@ returns c =
     ∙ ap₂ (λ (z : Placement) (n : ℕ). slid_to d z (along d (corner z) - n)) placed.place_at-place.ensures asked.slide_room-room.ensures in (
       asked.slide_room-room.ensures,
       ap (set es a.i) (wrote.entry_of.ensures ∙ ap entry_of e)
-          ∙ sym (written_set es a.i q s.requires.fact_2.1)
+          ∙ sym (written_set es a.i q s.requires.1.1)
           ∙ ap entries_of (layout_set es a.i q),
     )
 

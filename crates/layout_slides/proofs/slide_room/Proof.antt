@@ -32,7 +32,7 @@ lent s = lent_by s.args.size s.args.table.now s.args.pixels.now
 place_at-requires : tie.Need-place_at-requires invariant-loop-k decreases-loop-k
 place_at-requires c κs =
     let s : tie.Start invariant-loop-k decreases-loop-k = search in
-    entry_there _ (lent s) _ _ _ s.requires.fact_1 _ s.requires.fact_2
+    entry_there _ (lent s) _ _ _ s.requires.0 _ s.requires.1
 
 loop-k-init : tie.Need-loop-k-init invariant-loop-k decreases-loop-k
 loop-k-init c =
@@ -48,16 +48,16 @@ room_beside-room-requires c κs =
     let s : tie.Start invariant-loop-k decreases-loop-k = search in
     let l : tie.At-loop-k invariant-loop-k decreases-loop-k = search in
     let t : tie.In-loop-k invariant-loop-k decreases-loop-k = search in
-    let n = s.requires.fact_1.laid.whole in
+    let n = s.requires.0.laid.whole in
     let below = t.loop-k-test.true in
-    (s.requires.fact_1, ((s.requires.fact_2, omega arith), l.loop-k.invariant.1.within))
+    (s.requires.0, ((s.requires.1, omega arith), l.loop-k.invariant.1.within))
 
 overflow_add-k : tie.Need-overflow_add-k invariant-loop-k decreases-loop-k
 overflow_add-k c =
     let s : tie.Start invariant-loop-k decreases-loop-k = search in
     let t : tie.In-loop-k invariant-loop-k decreases-loop-k = search in
-    let n = s.requires.fact_1.laid.whole in
-    let few = (facts (lent s) s.requires.fact_1.laid.well).few_pieces in
+    let n = s.requires.0.laid.whole in
+    let few = (facts (lent s) s.requires.0.laid.well).few_pieces in
     let below = t.loop-k-test.true in
     omega arith
 
@@ -82,10 +82,10 @@ returns c =
     let s : tie.Start invariant-loop-k decreases-loop-k = search in
     let l : tie.At-loop-k invariant-loop-k decreases-loop-k = search in
     let a = s.args in
-    let n = s.requires.fact_1.laid.whole in
+    let n = s.requires.0.laid.whole in
     let all : l.loop-k.k ≡ a.size.count = omega (arith, l.loop-k.invariant.0, c.loop-k-test.false) in
     slide_room a.direction (job_of (lent s)) (layout_of a.layout.now) a.i l.loop-k.room
-    (s.requires.fact_1.laid.valid.inside_sheet a.i s.requires.fact_2)
+    (s.requires.0.laid.valid.inside_sheet a.i s.requires.1)
     (subst
     (λ (k : ℕ).
     FirstBelow (λ m. any_below k (λ q. blocked_by a.direction (job_of (lent s)) (layout_of a.layout.now) a.i q m))

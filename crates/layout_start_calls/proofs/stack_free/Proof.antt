@@ -37,7 +37,7 @@ free : (c : tie.After-free_only-count) (pixels : List ℕ)
 free c pixels =
     let at-start : tie.Start = search in
     let at-order : tie.After-falling_order-order = search in
-    c.free_only-count.ensures.listed pixels
+    c.free_only-count.ensures.0 pixels
     ∙ ap (free_only (job_of (lent_by at-start.args.size at-start.args.table.now pixels))) (at-order.falling_order-order.ensures.1 pixels)
 
 stack_all-requires : tie.Need-stack_all-requires
@@ -47,8 +47,8 @@ stack_all-requires c κs =
     let at-free : tie.After-free_only-count = search in
     let f = at-start.requires.0 in
     let a = at-start.args in
-    let few = at-free.free_only-count.ensures.few.0 in
-    let whole = at-free.free_only-count.ensures.few.1 in
+    let few = at-free.free_only-count.ensures.1.0 in
+    let whole = at-free.free_only-count.ensures.1.1 in
     let p = f.few_pieces in (
       f,
       free_below_at (job_of (lent_by a.size a.table.now [])) at-free.free_only-count.new.1.1.1.0 at-free.free_only-count.result (omega arith)

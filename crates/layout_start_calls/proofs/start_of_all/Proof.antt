@@ -30,7 +30,7 @@ returns c = λ pixels.
     let at-order : tie.After-falling_order-order = search in
     let at-stacked : tie.After-stack_all = search in
     let a = at-start.args in
-    all_laid (job_of (lent_by a.size a.table.now pixels)) _ a.layout-1.now _ at-start.requires.1 (at-order.falling_order-order.ensures.1 pixels)
+    all_laid (job_of (lent_by a.size a.table.now pixels)) _ a.layout.now _ at-start.requires.1 (at-order.falling_order-order.ensures.1 pixels)
     (at-stacked.stack_all.ensures pixels)
 
 pub start_of_all_spec : {M : Type 1} → statement M

@@ -10,18 +10,18 @@ use Rattle.layout_strips.proofs.conflicts_of.Tie as tie
 boxes_meet-requires : tie.Need-boxes_meet-requires
 boxes_meet-requires c κs =
     let s : tie.Start = search in (
-      ((s.requires.fact_1.ready s.args.i s.requires.fact_2.0.0).entry.within, (s.requires.fact_1.ready s.args.k s.requires.fact_2.0.1).entry.within),
-      (s.requires.fact_2.0, s.requires.fact_2.1.1),
+      ((s.requires.0.ready s.args.i s.requires.1.0.0).entry.within, (s.requires.0.ready s.args.k s.requires.1.0.1).entry.within),
+      (s.requires.1.0, s.requires.1.1.1),
     )
 
 returns-then-not-boxes_meet : tie.Need-returns-then-not-boxes_meet
 returns-then-not-boxes_meet c =
     let s : tie.Start = search in
     let met : tie.After-boxes_meet = search in
-    (λ size same. sym (met.boxes_meet.ensures (not-true _ c.if-not-boxes_meet.true) size s.args.pixels.now same), s.requires.fact_2.1.0)
+    (λ size same. sym (met.boxes_meet.ensures (not-true _ c.if-not-boxes_meet.true) size s.args.pixels.now same), s.requires.1.1.0)
 
 depth_of-requires : tie.Need-depth_of-requires
-depth_of-requires c κs = let s : tie.Start = search in let few = s.requires.fact_2.1.1 in (s.requires.fact_1, (s.requires.fact_2.0, (omega arith, s.requires.fact_2.1.0)))
+depth_of-requires c κs = let s : tie.Start = search in let few = s.requires.1.1.1 in (s.requires.0, (s.requires.1.0, (omega arith, s.requires.1.1.0)))
 
 returns : tie.Need-returns
 returns c =
@@ -29,9 +29,9 @@ returns c =
     let a = s.args in
     let measured : tie.After-depth_of = search in (
       λ size same.
-          ap (λ (n : ℕ). eqb n 1) (measured.depth_of.ensures.depth size) ∙ depth_conflicts a.gap Horizontal _ _ _ _
+          ap (λ (n : ℕ). eqb n 1) (measured.depth_of.ensures.0 size) ∙ depth_conflicts a.gap Horizontal _ _ _ _
           ∙ gap_conflicts size a.table.now a.pixels.now a.layout.now a.gap a.i a.k same,
-      measured.depth_of.ensures.kept,
+      measured.depth_of.ensures.1,
     )
 
 pub conflicts_of_spec : {M : Type 1} → statement M

@@ -35,14 +35,14 @@ first : (c : tie.After-draw-2) →
 first c =
     let s : tie.Start = search in
     let drawn : tie.After-draw = search in
-    c.draw-2.ensures.kept.made s.args.i s.requires.fact_2.0.0 (c.draw-2.ensures.made.1 s.args.i drawn.draw.ensures.made.0)
+    c.draw-2.ensures.0.made s.args.i s.requires.1.0.0 (c.draw-2.ensures.1.1 s.args.i drawn.draw.ensures.1.0)
 
 second : (c : tie.After-draw-2) →
     let s = (entry c).args in
     Stands s.direction s.table.now s.pixels.now s.layout.now (store c) (spans c) s.k
 second c =
     let s : tie.Start = search in
-    c.draw-2.ensures.kept.made s.args.k s.requires.fact_2.0.1 c.draw-2.ensures.made.0
+    c.draw-2.ensures.0.made s.args.k s.requires.1.0.1 c.draw-2.ensures.1.0
 
 -- each has a span, which ends in the store
 bounded : (c : tie.After-draw-2) (m : ℕ) →
@@ -52,10 +52,10 @@ bounded : (c : tie.After-draw-2) (m : ℕ) →
 bounded c m b made =
     let s : tie.Start = search in
     let a = s.args in
-    let kept = c.draw-2.ensures.kept in
-    let few = s.requires.fact_1.few in
+    let kept = c.draw-2.ensures.0 in
+    let few = s.requires.0.few in
     let long = kept.long in
-    (omega arith, made_within a.direction a.table.now a.pixels.now a.layout.now s.requires.fact_1 (store c) (spans c) kept m b made)
+    (omega arith, made_within a.direction a.table.now a.pixels.now a.layout.now s.requires.0 (store c) (spans c) kept m b made)
 
 -- the corners that are measured
 first-corner : (c : tie.After-corner_along-u) →
@@ -79,31 +79,31 @@ second-corner c =
     c.corner_along-v.ensures ∙ ap (λ p. seen s.args.direction (corner p)) placed.place_at-2.ensures
 
 draw-requires : tie.Need-draw-requires
-draw-requires c κs = let s : tie.Start = search in (s.requires.fact_1, (s.requires.fact_2.0.0, s.requires.fact_2.1.1))
+draw-requires c κs = let s : tie.Start = search in (s.requires.0, (s.requires.1.0.0, s.requires.1.1.1))
 
 draw-requires-2 : tie.Need-draw-requires-2
 draw-requires-2 c κs =
     let s : tie.Start = search in
     let drawn : tie.After-draw = search in
-    (s.requires.fact_1, (s.requires.fact_2.0.1, drawn.draw.ensures.kept))
+    (s.requires.0, (s.requires.1.0.1, drawn.draw.ensures.0))
 
 place_at-requires : tie.Need-place_at-requires
-place_at-requires c κs = let both : tie.After-draw-2 = search in (entry both).requires.fact_2.0.0
+place_at-requires c κs = let both : tie.After-draw-2 = search in (entry both).requires.1.0.0
 
 place_at-requires-2 : tie.Need-place_at-requires-2
-place_at-requires-2 c κs = let both : tie.After-draw-2 = search in (entry both).requires.fact_2.0.1
+place_at-requires-2 c κs = let both : tie.After-draw-2 = search in (entry both).requires.1.0.1
 
 strips_of-requires : tie.Need-strips_of-requires
 strips_of-requires c κs =
     let both : tie.After-draw-2 = search in
     let s = entry both in
-    bounded both s.args.i s.requires.fact_2.0.0 (both.draw-2.ensures.made.1 s.args.i (once both).draw.ensures.made.0)
+    bounded both s.args.i s.requires.1.0.0 (both.draw-2.ensures.1.1 s.args.i (once both).draw.ensures.1.0)
 
 strips_of-requires-2 : tie.Need-strips_of-requires-2
 strips_of-requires-2 c κs =
     let both : tie.After-draw-2 = search in
     let s = entry both in
-    bounded both s.args.k s.requires.fact_2.0.1 both.draw-2.ensures.made.0
+    bounded both s.args.k s.requires.1.0.1 both.draw-2.ensures.1.0
 
 depth_below-requires : tie.Need-depth_below-requires
 depth_below-requires c κs =
@@ -116,8 +116,8 @@ depth_below-requires c κs =
     let a = s.args in
     let p = place_of (layout_of a.layout.now) a.i in
     let q = place_of (layout_of a.layout.now) a.k in
-    let m = s.requires.fact_1.ready a.i s.requires.fact_2.0.0 in
-    let n = s.requires.fact_1.ready a.k s.requires.fact_2.0.1 in (
+    let m = s.requires.0.ready a.i s.requires.1.0.0 in
+    let n = s.requires.0.ready a.k s.requires.1.0.1 in (
       subst Ordered (sym (one.strips_of.ensures ∙ (first both).holds any_size))
           (piece_ordered any_size a.table.now a.pixels.now a.i m.entry p.turn a.direction),
       (
@@ -128,7 +128,7 @@ depth_below-requires c κs =
             seen_near a.direction p _ (first-corner u) m.x m.y,
             seen_near a.direction q _ (second-corner v) n.x n.y,
           ),
-          omega (arith, s.requires.fact_2.1.0),
+          omega (arith, s.requires.1.1.0),
         ),
       ),
     )
@@ -160,7 +160,7 @@ returns c =
           (two.strips_of-2.ensures ∙ (second both).holds size) (second-corner v)
           ∙ entries_depth a.gap a.direction (drawn_shape size a.table.now a.pixels.now a.layout.now a.i) (corner p)
           (drawn_shape size a.table.now a.pixels.now a.layout.now a.k) (corner q) a.bound,
-      both.draw-2.ensures.kept,
+      both.draw-2.ensures.0,
     )
 
 pub depth_of_spec : {M : Type 1} → statement M

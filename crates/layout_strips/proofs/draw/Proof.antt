@@ -13,9 +13,9 @@ use Rattle.layout_strips.proofs.draw.Tie as tie
 -- the piece is one of at most 64, so that it has a span
 span_there : (s : tie.Start) → (s.args.i < length s.args.spans.now) × (s.args.i < 64)
 span_there s =
-    let b = s.requires.fact_2.0 in
-    let few = s.requires.fact_1.few in
-    let long = s.requires.fact_2.1.long in (omega arith, omega arith)
+    let b = s.requires.1.0 in
+    let few = s.requires.0.few in
+    let long = s.requires.1.1.long in (omega arith, omega arith)
 
 offset_bounds-spans-i : tie.Need-offset_bounds-spans-i
 offset_bounds-spans-i c = let s : tie.Start = search in let b = (span_there s).1 in omega arith
@@ -26,12 +26,12 @@ bounds-spans-i c = let s : tie.Start = search in (span_there s).0
 returns-then-spans-i-ne0 : tie.Need-returns-then-spans-i-ne0
 returns-then-spans-i-ne0 c =
     let s : tie.Start = search in
-    (s.requires.fact_2.1, (c.if-spans-i-ne0.true, λ m q. q))
+    (s.requires.1.1, (c.if-spans-i-ne0.true, λ m q. q))
 
 pixel_start-start-requires : tie.Need-pixel_start-start-requires
 pixel_start-start-requires c κs =
     let s : tie.Start = search in
-    let r = s.requires.fact_1.ready s.args.i s.requires.fact_2.0 in
+    let r = s.requires.0.ready s.args.i s.requires.1.0 in
     let within = r.entry.within in
     let few = r.few in (omega arith, omega arith)
 
@@ -39,7 +39,7 @@ put_piece-end-requires : tie.Need-put_piece-end-requires
 put_piece-end-requires c κs =
     let s : tie.Start = search in
     let began : tie.After-pixel_start-start = search in
-    let r = s.requires.fact_1.ready s.args.i s.requires.fact_2.0 in
+    let r = s.requires.0.ready s.args.i s.requires.1.0 in
     let e = began.pixel_start-start.ensures in
     let small = r.entry.small in
     (subst (EntryAt s.args.table.now s.args.i) (sym e) r.entry, omega arith)
@@ -54,7 +54,7 @@ bounds-spans-i-2 c = let s : tie.Start = search in (span_there s).0
 put : (c : tie.After-put_piece-end) (size : JobSize) →
     let s : tie.Start = search in
     let a = s.args in
-    Appended (strips a.direction (drawn_shape size a.table.now a.pixels.now a.layout.now a.i)) a.store-1.now
+    Appended (strips a.direction (drawn_shape size a.table.now a.pixels.now a.layout.now a.i)) a.store.now
     (pixel_start a.table.now a.i) c.put_piece-end.new.1.1.1.1.1.1.0 c.put_piece-end.result
 put c size =
     let s : tie.Start = search in
@@ -69,13 +69,13 @@ returns c =
     let filled : tie.After-put_piece-end = search in
     let a = s.args in
     rw began.pixel_start-start.ensures (
-      kept_more a.direction a.table.now a.pixels.now a.layout.now s.requires.fact_1 a.store-1.now a.spans.now s.requires.fact_2.1 a.i
-          s.requires.fact_2.0 _ _ (put filled),
+      kept_more a.direction a.table.now a.pixels.now a.layout.now s.requires.0 a.store.now a.spans.now s.requires.1.1 a.i
+          s.requires.1.0 _ _ (put filled),
       (
-        made_now a.direction a.table.now a.pixels.now a.layout.now s.requires.fact_1 a.store-1.now a.spans.now s.requires.fact_2.1 a.i
-            s.requires.fact_2.0 _ _ (put filled),
-        made_still a.direction a.table.now a.pixels.now a.layout.now s.requires.fact_1 a.store-1.now a.spans.now s.requires.fact_2.1 a.i
-            s.requires.fact_2.0 _ _ (put filled),
+        made_now a.direction a.table.now a.pixels.now a.layout.now s.requires.0 a.store.now a.spans.now s.requires.1.1 a.i
+            s.requires.1.0 _ _ (put filled),
+        made_still a.direction a.table.now a.pixels.now a.layout.now s.requires.0 a.store.now a.spans.now s.requires.1.1 a.i
+            s.requires.1.0 _ _ (put filled),
       ),
     )
 

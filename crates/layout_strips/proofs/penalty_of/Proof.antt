@@ -24,8 +24,8 @@ cost s size = penalty_between (job_of (lent_by size s.args.table.now s.args.pixe
 boxes_meet-requires : tie.Need-boxes_meet-requires
 boxes_meet-requires c κs =
     let s : tie.Start = search in (
-      ((s.requires.fact_1.ready s.args.i s.requires.fact_2.0.0).entry.within, (s.requires.fact_1.ready s.args.k s.requires.fact_2.0.1).entry.within),
-      (s.requires.fact_2.0, s.requires.fact_2.1.1.1),
+      ((s.requires.0.ready s.args.i s.requires.1.0.0).entry.within, (s.requires.0.ready s.args.k s.requires.1.0.1).entry.within),
+      (s.requires.1.0, s.requires.1.1.1.1),
     )
 
 returns-then-not-boxes_meet : tie.Need-returns-then-not-boxes_meet
@@ -36,11 +36,11 @@ returns-then-not-boxes_meet c =
       λ size same.
           clear_penalty size a.table.now a.pixels.now a.layout.now a.gap a.i a.k same
           (met.boxes_meet.ensures (not-true _ c.if-not-boxes_meet.true) size a.pixels.now same),
-      (λ e. omega arith, (s.requires.fact_2.1.0, s.requires.fact_2.1.1.0)),
+      (λ e. omega arith, (s.requires.1.1.0, s.requires.1.1.1.0)),
     )
 
 depth_of-along_rows-requires : tie.Need-depth_of-along_rows-requires
-depth_of-along_rows-requires c κs = let s : tie.Start = search in let few = s.requires.fact_2.1.1.1 in (s.requires.fact_1, (s.requires.fact_2.0, (omega arith, s.requires.fact_2.1.0)))
+depth_of-along_rows-requires c κs = let s : tie.Start = search in let few = s.requires.1.1.1.1 in (s.requires.0, (s.requires.1.0, (omega arith, s.requires.1.1.0)))
 
 -- what is measured of the two pieces
 abbrev of-both : {A : Type 0} → (Shape → Point → Shape → Point → A) → tie.Start → JobSize → A
@@ -58,8 +58,8 @@ least c n size e =
     let s : tie.Start = search in
     let a = s.args in
     let v = layout_of a.layout.now in
-    lesser_penalty a.gap s.requires.fact_2.1.1.1 size a.table.now a.pixels.now a.i (place_of v a.i) (s.requires.fact_1.ready a.i s.requires.fact_2.0.0)
-    a.k (place_of v a.k) (s.requires.fact_1.ready a.k s.requires.fact_2.0.1) _ _ (c.depth_of-along_rows.ensures.depth size) e
+    lesser_penalty a.gap s.requires.1.1.1.1 size a.table.now a.pixels.now a.i (place_of v a.i) (s.requires.0.ready a.i s.requires.1.0.0)
+    a.k (place_of v a.k) (s.requires.0.ready a.k s.requires.1.0.1) _ _ (c.depth_of-along_rows.ensures.0 size) e
 
 -- and, where the gap is the job's, the penalty of the two pieces
 least-cost : (c : tie.After-depth_of-along_rows) (n : ℕ) (size : JobSize) →
@@ -75,13 +75,13 @@ returns-then-along_rows-eq0 c =
     let s : tie.Start = search in
     let along : tie.After-depth_of-along_rows = search in
     let none = c.if-along_rows-eq0.true in
-    (λ size. least-cost along 0 size (omega arith), (λ e. omega arith, (along.depth_of-along_rows.ensures.kept, s.requires.fact_2.1.1.0)))
+    (λ size. least-cost along 0 size (omega arith), (λ e. omega arith, (along.depth_of-along_rows.ensures.1, s.requires.1.1.1.0)))
 
 depth_of-requires : tie.Need-depth_of-requires
 depth_of-requires c κs =
     let s : tie.Start = search in
     let along : tie.After-depth_of-along_rows = search in
-    (s.requires.fact_1, (s.requires.fact_2.0, ((s.requires.fact_2.1.1.1, depth_cut_low _ _ (along.depth_of-along_rows.ensures.depth any_size)), s.requires.fact_2.1.1.0)))
+    (s.requires.0, (s.requires.1.0, ((s.requires.1.1.1.1, depth_cut_low _ _ (along.depth_of-along_rows.ensures.0 any_size)), s.requires.1.1.1.0)))
 
 returns : tie.Need-returns
 returns c =
@@ -90,13 +90,13 @@ returns c =
     let across : tie.After-depth_of = search in
     let a = s.args in
     let v = layout_of a.layout.now in
-    let is = least along _ any_size (across.depth_of.ensures.depth any_size) in
+    let is = least along _ any_size (across.depth_of.ensures.0 any_size) in
     let low : a.i ≢ a.k → conflict_penalty a.gap _ _ _ _ ≤ 199 =
-    λ e. ready_penalty a.gap s.requires.fact_2.1.1.1 any_size a.table.now a.pixels.now a.i (place_of v a.i)
-    (s.requires.fact_1.ready a.i s.requires.fact_2.0.0) a.k (place_of v a.k) (s.requires.fact_1.ready a.k s.requires.fact_2.0.1)
-    (both_together a.table.now _ s.requires.fact_1.areas a.i a.k s.requires.fact_2.0.0 s.requires.fact_2.0.1 e) in (
-      λ size. least-cost along _ size (across.depth_of.ensures.depth size),
-      (λ e. let m = low e in omega arith, (along.depth_of-along_rows.ensures.kept, across.depth_of.ensures.kept)),
+    λ e. ready_penalty a.gap s.requires.1.1.1.1 any_size a.table.now a.pixels.now a.i (place_of v a.i)
+    (s.requires.0.ready a.i s.requires.1.0.0) a.k (place_of v a.k) (s.requires.0.ready a.k s.requires.1.0.1)
+    (both_together a.table.now _ s.requires.0.areas a.i a.k s.requires.1.0.0 s.requires.1.0.1 e) in (
+      λ size. least-cost along _ size (across.depth_of.ensures.0 size),
+      (λ e. let m = low e in omega arith, (along.depth_of-along_rows.ensures.1, across.depth_of.ensures.1)),
     )
 
 pub penalty_of_spec : {M : Type 1} → statement M

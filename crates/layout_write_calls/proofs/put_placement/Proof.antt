@@ -16,7 +16,7 @@ returns c =
     let at-start : tie.Start = search in
     let a = at-start.args in
     rw (placement_text_lem a.i (place_of (layout_of a.layout.now) a.i) _ (at-entry-of.entry_of-entry.ensures ∙ ap entry_of at-place-at.place_at.ensures)) at
-    (written_then (written_then (bytes_written a.text-1.now a.at _ _ at_word at-put-word.put_word-after_word.ensures) at-put-field.put_field-next.ensures)
+    (written_then (written_then (bytes_written a.text.now a.at _ _ at_word at-put-word.put_word-after_word.ensures) at-put-field.put_field-next.ensures)
     c.before.before.put_three.ensures)
 
 pub put_placement_spec : {M : Type 1} → statement M

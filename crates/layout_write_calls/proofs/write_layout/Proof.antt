@@ -22,9 +22,9 @@ returns-in-Refused c =
     let at-start : tie.Start = search in
     let a = at-start.args in
     let l : Lent = lent_by a.size a.table.now a.pixels.now in
-    let o : write_layout_call l a.layout.now (length a.text-1.now) ≡ refused c.before.refusal-1.given.0.0 =
+    let o : write_layout_call l a.layout.now (length a.text.now) ≡ refused c.before.refusal-1.given.0.0 =
     write_refused l a.layout.now _ _ (sym c.before.refusal-1.given.1 ∙ at-layout-causes.layout_causes.ensures) in
-    (sym (ap count_answer o), sym (ap (text_after a.text-1.now) o))
+    (sym (ap count_answer o), sym (ap (text_after a.text.now) o))
 
 put_layout-needed-requires : tie.Need-put_layout-needed-requires
 put_layout-needed-requires c κs =
@@ -49,11 +49,11 @@ returns-then-text-needed c =
     sym at-enum-told.enum_told-1.given.1 ∙ at-layout-causes.layout_causes.ensures in
     let part = at-put-layout.put_layout-needed in
     let none : part.last.1.1.0 ≡ [] = nothing_left _ part.kept.1.1.0 in
-    let long : length a.text-1.now < length (layout_text (job_of l) (layout_of a.layout.now)) =
+    let long : length a.text.now < length (layout_text (job_of l) (layout_of a.layout.now)) =
     rw (none, (part.ensures a.table.now a.pixels.now).0) at c.before.if-text-needed.true in
-    let o : write_layout_call l a.layout.now (length a.text-1.now) ≡ refused c.plain_refusal.result =
+    let o : write_layout_call l a.layout.now (length a.text.now) ≡ refused c.plain_refusal.result =
     write_short l a.layout.now _ e long ∙ sym (ap refused c.plain_refusal.ensures) in
-    (sym (ap count_answer o), rw none (sym (ap (text_after a.text-1.now) o)))
+    (sym (ap count_answer o), rw none (sym (ap (text_after a.text.now) o)))
 
 put_layout-requires : tie.Need-put_layout-requires
 put_layout-requires c κs =
@@ -81,13 +81,13 @@ returns c =
     sym at-enum-told.enum_told-1.given.1 ∙ at-layout-causes.layout_causes.ensures in
     let part = at-put-layout.put_layout-needed in
     let none : part.last.1.1.0 ≡ [] = nothing_left _ part.kept.1.1.0 in
-    let long : length (layout_text (job_of l) (layout_of a.layout.now)) ≤ length a.text-1.now =
+    let long : length (layout_text (job_of l) (layout_of a.layout.now)) ≤ length a.text.now =
     rw (none, (part.ensures a.table.now a.pixels.now).0) at at-else1.if-text-needed.false in
-    let o : write_layout_call l a.layout.now (length a.text-1.now) ≡ given (layout_text (job_of l) (layout_of a.layout.now)) =
+    let o : write_layout_call l a.layout.now (length a.text.now) ≡ given (layout_text (job_of l) (layout_of a.layout.now)) =
     write_given l a.layout.now _ e long in (
       rw (part.ensures a.table.now a.pixels.now).0 (sym (ap count_answer o)),
       rw none at (c.before.before.put_layout.ensures a.table.now a.pixels.now).1
-          ∙ sets_filled a.text-1.now (layout_text (job_of l) (layout_of a.layout.now)) long ∙ sym (ap (text_after a.text-1.now) o),
+          ∙ sets_filled a.text.now (layout_text (job_of l) (layout_of a.layout.now)) long ∙ sym (ap (text_after a.text.now) o),
     )
 
 pub write_layout_spec : {M : Type 1} → statement M

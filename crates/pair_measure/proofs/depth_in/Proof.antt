@@ -41,13 +41,13 @@ behind size c =
     let s = (entry c).args in
     let r = (entry c).requires in
     both_behind size s.table.now s.pixels.now s.i s.k r.0.entry r.1.0.entry _ r.1.1.1 s.p.turn s.q.turn s.direction
-    s.store-1.now at_fill.fill-middle.new.1.1.1.1.1.0 c.before.fill-end.new.1.1.1.1.1.0 (middle c) (end c)
+    s.store.now at_fill.fill-middle.new.1.1.1.1.1.0 c.before.fill-end.new.1.1.1.1.1.0 (middle c) (end c)
     refl (at_fill.fill-middle.ensures size) (c.before.fill-end.ensures size)
 
 -- the first piece has at most 65,536 strips
 first-few : (c : tie.After-store-2-1) → length (strips (entry c).args.direction (one any_size c)) ≤ 65536
 first-few c =
-    let s = (entry c).args in piece_most any_size s.table.now s.pixels.now s.i (entry c).requires.fact_1.entry s.p.turn s.direction
+    let s = (entry c).args in piece_most any_size s.table.now s.pixels.now s.i (entry c).requires.0.entry s.p.turn s.direction
 
 fill-end-requires : tie.Need-fill-end-requires
 fill-end-requires c κs =

@@ -9,7 +9,7 @@ returns-then-high-covered c =
     let at-start : tie.Start = search in
     let begins : tie.Then-covered-low = search in
     let a = at-start.args in
-    (covered_marked a.covered a.low a.high a.marks-1.now at-start.requires begins.if-covered-low.true c.if-high-covered.true, at-start.requires)
+    (covered_marked a.covered a.low a.high a.marks.now at-start.requires begins.if-covered-low.true c.if-high-covered.true, at-start.requires)
 
 returns : tie.Need-returns
 returns c =
@@ -18,7 +18,7 @@ returns c =
     let at_joined : tie.After-joined = search in
     let a = at-start.args in
     let marked = at-marked.mark_interval.ensures in
-    (marked, joined_covers a.covered _ a.low a.high a.marks-1.now _ at-start.requires at_joined.joined.ensures marked)
+    (marked, joined_covers a.covered _ a.low a.high a.marks.now _ at-start.requires at_joined.joined.ensures marked)
 
 pub cover_spec : {M : Type 1} → statement M
 cover_spec = tie.close (tie.spec

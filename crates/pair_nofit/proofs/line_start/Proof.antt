@@ -16,7 +16,7 @@ loop-j-init : tie.Need-loop-j-init invariant-loop-j decreases-loop-j
 loop-j-init c = (omega arith, omega arith, λ l a b. absurd (omega arith))
 
 placed_at-q-requires : tie.Need-placed_at-q-requires invariant-loop-j decreases-loop-j
-placed_at-q-requires c κs = (omega arith, c.before.before.requires.fact_2.0, omega arith)
+placed_at-q-requires c κs = (omega arith, c.before.before.requires.1.0, omega arith)
 
 returns-then-line-q : tie.Need-returns-then-line-q invariant-loop-j decreases-loop-j
 returns-then-line-q c =
@@ -29,7 +29,7 @@ returns-then-line-q c =
       low = w.invariant.0;
       within = w.invariant.1;
       before = w.invariant.2;
-      from = λ l a b. omega (arith, c.if-line-q.true, line_order s.s.now at-start.requires.fact_1 w.j l a b);
+      from = λ l a b. omega (arith, c.if-line-q.true, line_order s.s.now at-start.requires.0 w.j l a b);
     }
 
 loop-j-preserved : tie.Need-loop-j-preserved invariant-loop-j decreases-loop-j

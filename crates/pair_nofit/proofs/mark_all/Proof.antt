@@ -18,22 +18,22 @@ loop-i-init c =
       record {
         first = omega arith;
         second = omega arith;
-        grown = grown_none s.gap s.a.now s.u s.b.now s.v s.marks-1.now;
+        grown = grown_none s.gap s.a.now s.u s.b.now s.v s.marks.now;
         kept = λ k l a b. absurd (omega arith);
         passed = λ k l a b d. absurd (omega arith);
       },
-      c.before.requires.fact_2.1.1,
+      c.before.requires.1.1.1,
     )
 
 placed_at-p-requires : tie.Need-placed_at-p-requires invariant-loop-i decreases-loop-i
 placed_at-p-requires c κs =
     let at-start : tie.Start invariant-loop-i decreases-loop-i = search in
-    (c.loop-i-test.true, at-start.requires.fact_2.1.0.0, omega arith)
+    (c.loop-i-test.true, at-start.requires.1.1.0.0, omega arith)
 
 line_start-j-requires : tie.Need-line_start-j-requires invariant-loop-i decreases-loop-i
 line_start-j-requires c κs =
     let at-start : tie.Start invariant-loop-i decreases-loop-i = search in
-    (at-start.requires.fact_2.0, (at-start.requires.fact_2.1.0.1, c.before.before.loop-i.invariant.0.second))
+    (at-start.requires.1.0, (at-start.requires.1.1.0.1, c.before.before.loop-i.invariant.0.second))
 
 mark_line-covered-requires : tie.Need-mark_line-covered-requires invariant-loop-i decreases-loop-i
 mark_line-covered-requires c κs =
@@ -42,10 +42,10 @@ mark_line-covered-requires c κs =
     let at-start : tie.Start invariant-loop-i decreases-loop-i = search in
     let e = c.before.before.placed_at-p.ensures.line in
     let r = c.before.line_start-j.ensures in (
-      at-start.requires.fact_2.0,
+      at-start.requires.1.0,
       (
         (in-loop.loop-i-test.true, r.within),
-        (at-start.requires.fact_2.1.0, (λ l a b. omega (arith, r.from l a b), at-loop.loop-i.invariant.1)),
+        (at-start.requires.1.1.0, (λ l a b. omega (arith, r.from l a b), at-loop.loop-i.invariant.1)),
       ),
     )
 
@@ -70,11 +70,11 @@ loop-i-preserved c =
     let s = at-start.args in
     let w = at-loop.loop-i in
     let at-mark-line : tie.After-mark_line-covered invariant-loop-i decreases-loop-i = search in (
-      all_more s.gap s.a.now s.u s.b.now s.v at-start.requires.fact_1 s.marks-1.now w.marks-1
+      all_more s.gap s.a.now s.u s.b.now s.v at-start.requires.0 s.marks.now w.marks
           at-mark-line.mark_line-covered.new.1.1.1.1.1.1.1.1.0 w.i w.j at-line-start.line_start-j.result
           in-loop.loop-i-test.true at-placed-at.placed_at-p.result.line at-placed-at.placed_at-p.ensures.line w.invariant.0
-          at-line-start.line_start-j.ensures at-mark-line.mark_line-covered.ensures.marked,
-      at-mark-line.mark_line-covered.ensures.covers,
+          at-line-start.line_start-j.ensures at-mark-line.mark_line-covered.ensures.0,
+      at-mark-line.mark_line-covered.ensures.1,
     )
 
 shape_of-marks : tie.Need-shape_of-marks invariant-loop-i decreases-loop-i

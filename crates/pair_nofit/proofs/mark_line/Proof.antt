@@ -17,10 +17,10 @@ loop-j-init : tie.Need-loop-j-init invariant-loop-j decreases-loop-j
 loop-j-init c =
     let s = c.before.args in (
       omega arith,
-      c.before.requires.fact_2.0.1,
-      grown_none s.gap s.a.now s.u s.b.now s.v s.marks-1.now,
+      c.before.requires.1.0.1,
+      grown_none s.gap s.a.now s.u s.b.now s.v s.marks.now,
       λ l a b. absurd (omega arith),
-      c.before.requires.fact_2.1.1.1,
+      c.before.requires.1.1.1.1,
     )
 
 placed_at-p-requires : tie.Need-placed_at-p-requires invariant-loop-j decreases-loop-j
@@ -51,8 +51,8 @@ returns-then-p-q c =
       record {
         grown = w.invariant.2;
         kept =
-            line_past s.gap s.a.now s.u s.b.now s.v w.marks-1 s.i s.from w.j w.invariant.3
-            (λ l a b. omega (arith, c.if-p-q.true, line_order s.b.now at-start.requires.fact_1 w.j l a b));
+            line_past s.gap s.a.now s.u s.b.now s.v w.marks s.i s.from w.j w.invariant.3
+            (λ l a b. omega (arith, c.if-p-q.true, line_order s.b.now at-start.requires.0 w.j l a b));
       },
       w.invariant.4,
     )
@@ -61,7 +61,7 @@ overflow_add-p : tie.Need-overflow_add-p invariant-loop-j decreases-loop-j
 overflow_add-p c =
     let at-placed-at : tie.After-placed_at-p invariant-loop-j decreases-loop-j = search in
     let at-start : tie.Start invariant-loop-j decreases-loop-j = search in
-    let p = at-placed-at.placed_at-p.ensures in omega (arith, at-start.requires.fact_2.1.0)
+    let p = at-placed-at.placed_at-p.ensures in omega (arith, at-start.requires.1.1.0)
 
 cover-covered-requires : tie.Need-cover-covered-requires invariant-loop-j decreases-loop-j
 cover-covered-requires c κs =
@@ -96,13 +96,13 @@ loop-j-preserved c =
     let q = at-placed-at2.placed_at-q.ensures in
     let l = in-loop.loop-j-test.true in
     let more =
-    line_more s.gap s.a.now s.u s.b.now s.v s.marks-1.now w.marks-1 s.i s.from w.j
-    at-minus.minus-low.result at-minus2.minus-high.result at-start.requires.fact_2.0.0 l
+    line_more s.gap s.a.now s.u s.b.now s.v s.marks.now w.marks s.i s.from w.j
+    at-minus.minus-low.result at-minus2.minus-high.result at-start.requires.1.0.0 l
     at-placed-at.placed_at-p.result at-placed-at2.placed_at-q.result p q
-    (omega (arith, p.line, q.line, at-else1.if-p-q.false, at-start.requires.fact_2.1.1.0 w.j w.invariant.0 l)) at-minus.minus-low.ensures
+    (omega (arith, p.line, q.line, at-else1.if-p-q.false, at-start.requires.1.1.1.0 w.j w.invariant.0 l)) at-minus.minus-low.ensures
     at-minus2.minus-high.ensures w.invariant.2 w.invariant.3
-    at-cover.cover-covered.new.0 at-cover.cover-covered.ensures.marked in
-    (omega (arith, w.invariant.0), omega arith, more.0, more.1, at-cover.cover-covered.ensures.covers)
+    at-cover.cover-covered.new.0 at-cover.cover-covered.ensures.0 in
+    (omega (arith, w.invariant.0), omega arith, more.0, more.1, at-cover.cover-covered.ensures.1)
 
 shape_of-marks : tie.Need-shape_of-marks invariant-loop-j decreases-loop-j
 shape_of-marks c = c.before.loop-j.invariant.2.same

@@ -16,28 +16,28 @@ decreases-loop-k a u b v gap marks₀ lines covered₀ k₀ marks covered k = li
 overflow_mul-lines : tie.Need-overflow_mul-lines invariant-loop-k decreases-loop-k
 overflow_mul-lines c =
     let at-start : tie.Start invariant-loop-k decreases-loop-k = search in
-    omega (arith, at-start.requires.fact_2.1)
+    omega (arith, at-start.requires.1.1)
 
 overflow_add-lines : tie.Need-overflow_add-lines invariant-loop-k decreases-loop-k
 overflow_add-lines c =
     let at-start : tie.Start invariant-loop-k decreases-loop-k = search in
-    omega (arith, at-start.requires.fact_2.1)
+    omega (arith, at-start.requires.1.1)
 
 loop-k-init : tie.Need-loop-k-init invariant-loop-k decreases-loop-k
 loop-k-init c =
     let s = c.before.args in
-    (gap_none s.gap s.a.now s.u s.b.now s.v s.marks-1.now, λ m l a b. absurd (omega arith))
+    (gap_none s.gap s.a.now s.u s.b.now s.v s.marks.now, λ m l a b. absurd (omega arith))
 
 overflow_add-p : tie.Need-overflow_add-p invariant-loop-k decreases-loop-k
 overflow_add-p c =
     let at-start : tie.Start invariant-loop-k decreases-loop-k = search in
-    omega (arith, at-start.requires.fact_2.1)
+    omega (arith, at-start.requires.1.1)
 
 overflow_add-q : tie.Need-overflow_add-q invariant-loop-k decreases-loop-k
 overflow_add-q c =
     let at-start : tie.Start invariant-loop-k decreases-loop-k = search in
     let in-loop : tie.In-loop-k invariant-loop-k decreases-loop-k = search in
-    omega (arith, in-loop.loop-k-test.true, at-start.requires.fact_2.1)
+    omega (arith, in-loop.loop-k-test.true, at-start.requires.1.1)
 
 mark_all-covered-requires : tie.Need-mark_all-covered-requires invariant-loop-k decreases-loop-k
 mark_all-covered-requires c κs =
@@ -53,7 +53,7 @@ overflow_add-k : tie.Need-overflow_add-k invariant-loop-k decreases-loop-k
 overflow_add-k c =
     let at-start : tie.Start invariant-loop-k decreases-loop-k = search in
     let in-loop : tie.In-loop-k invariant-loop-k decreases-loop-k = search in
-    omega (arith, in-loop.loop-k-test.true, at-start.requires.fact_2.1)
+    omega (arith, in-loop.loop-k-test.true, at-start.requires.1.1)
 
 loop-k-smaller : tie.Need-loop-k-smaller invariant-loop-k decreases-loop-k
 loop-k-smaller c =
@@ -69,7 +69,7 @@ loop-k-preserved c =
     let s = at-start.args in
     let w = at-loop.loop-k in
     let marked = at-mark-all.mark_all-covered.ensures in (
-      gap_more s.gap s.a.now s.u s.b.now s.v s.marks-1.now w.marks-1 _ w.k in-loop.loop-k-test.true w.invariant.0 marked.0,
+      gap_more s.gap s.a.now s.u s.b.now s.v s.marks.now w.marks _ w.k in-loop.loop-k-test.true w.invariant.0 marked.0,
       marked.1,
     )
 
@@ -81,7 +81,7 @@ returns c =
     let at-start : tie.Start invariant-loop-k decreases-loop-k = search in
     let s = at-start.args in
     let w = c.before.loop-k in
-    gap_done s.gap s.a.now s.u s.b.now s.v s.marks-1.now w.marks-1 w.k c.loop-k-test.false w.invariant.0
+    gap_done s.gap s.a.now s.u s.b.now s.v s.marks.now w.marks w.k c.loop-k-test.false w.invariant.0
 
 pub mark_lines_spec : {M : Type 1} → statement M
 mark_lines_spec =

@@ -10,7 +10,7 @@ returns c =
     let at_clear : tie.After-clear = search in
     let at-start : tie.Start = search in
     let s = at-start.args in
-    marks_made s.gap s.a.now s.u s.b.now s.v s.marks-1.now _ _ at_clear.clear.ensures
+    marks_made s.gap s.a.now s.u s.b.now s.v s.marks.now _ _ at_clear.clear.ensures
     at-mark-lines.mark_lines.ensures
 
 pub mark_shifts_spec : {M : Type 1} → statement M

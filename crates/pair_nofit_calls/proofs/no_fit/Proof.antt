@@ -51,9 +51,9 @@ returns-in-Refused c =
     let asked : tie.After-stretch_causes = search in
     let s : tie.Start = search in
     let a = s.args in
-    let f = refused_called a.direction (lent s) (one s) (two s) a.offset (length a.out-1.now) _
+    let f = refused_called a.direction (lent s) (one s) (two s) a.offset (length a.out.now) _
     (sym c.before.refusal-1.given.1 ∙ asked.stretch_causes.ensures) in
-    (ap count_answer (sym f), ap (runs_after a.out-1.now) (sym f))
+    (ap count_answer (sym f), ap (runs_after a.out.now) (sym f))
 
 returns-in-Done : tie.Need-returns-in-Done
 returns-in-Done c =
@@ -61,10 +61,10 @@ returns-in-Done c =
     let s : tie.Start = search in
     let a = s.args in
     let e : to_z w32 (of_z w32 a.offset) ≡ a.offset = to_z-of_z w32 a.offset s.ranges.offset in
-    let line : ℤ → Outcome (List Run) = λ z. line_outcome a.size.gap a.a.now a.b.now z (length a.out-1.now) in
-    let w = line_called a.direction (lent s) (one s) (two s) (passed told) a.offset a.out-1.now in (
-      c.before.put_line.ensures.answer ∙ ap (λ (z : ℤ). count_answer (line z)) e ∙ w.answer,
-      c.before.put_line.ensures.memory ∙ ap (λ (z : ℤ). line_after a.out-1.now (line z)) e ∙ w.memory,
+    let line : ℤ → Outcome (List Run) = λ z. line_outcome a.size.gap a.a.now a.b.now z (length a.out.now) in
+    let w = line_called a.direction (lent s) (one s) (two s) (passed told) a.offset a.out.now in (
+      c.before.put_line.ensures.0 ∙ ap (λ (z : ℤ). count_answer (line z)) e ∙ w.answer,
+      c.before.put_line.ensures.1 ∙ ap (λ (z : ℤ). line_after a.out.now (line z)) e ∙ w.memory,
     )
 
 pub no_fit_spec : {M : Type 1} → statement M

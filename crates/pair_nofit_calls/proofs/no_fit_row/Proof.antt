@@ -23,9 +23,9 @@ returns c =
     let q : LentStretch = lent_stretch a.second.piece a.second.turn a.b.now in
     let o = a.offset.0 in
     let e : to_z w32 (of_z w32 o) ≡ o = to_z-of_z w32 o (record { sfits = c.before.before.struct_told-1.given.0.1 }) in
-    let call : ℤ → Outcome (List OffsetRun) = λ z. no_fit_call Horizontal l p q z (length a.out-1.now) in
-    offsets_answered Horizontal l p q o a.out-1.now (c.before.no_fit.ensures.answer ∙ ap (λ (z : ℤ). count_answer (call z)) e)
-    (c.before.no_fit.ensures.memory ∙ ap (λ (z : ℤ). runs_after a.out-1.now (call z)) e)
+    let call : ℤ → Outcome (List OffsetRun) = λ z. no_fit_call Horizontal l p q z (length a.out.now) in
+    offsets_answered Horizontal l p q o a.out.now (c.before.no_fit.ensures.0 ∙ ap (λ (z : ℤ). count_answer (call z)) e)
+    (c.before.no_fit.ensures.1 ∙ ap (λ (z : ℤ). runs_after a.out.now (call z)) e)
 
 pub no_fit_row_spec : {M : Type 1} → statement M
 no_fit_row_spec = tie.close (tie.spec

@@ -14,7 +14,7 @@ mark_shifts-requires c κs =
     let at-start : tie.Start = search in
     let down-small = c.before.before.down.ensures in
     let up_small = c.before.up.ensures in
-    (at-start.requires.fact_1, (at-start.requires.fact_2.0, ((omega arith, omega arith), (omega arith, omega arith), at-start.requires.fact_2.1)))
+    (at-start.requires.0, (at-start.requires.1.0, ((omega arith, omega arith), (omega arith, omega arith), at-start.requires.1.1)))
 
 put_runs-needed-requires : tie.Need-put_runs-needed-requires
 put_runs-needed-requires c κs =
@@ -37,7 +37,7 @@ returns-then-out-needed c =
     let e : to_z w32 (of_z w32 s.offset) ≡ s.offset = to_z-of_z w32 s.offset at-start.ranges.offset in
     line_short s.gap s.a.now s.b.now s.offset _
     (marks_line s.gap s.a.now s.b.now s.offset _ _ _ _ (at-down.down.ensures ∙ ap (λ (z : ℤ). min (down z) farthest) e)
-    (at_up.up.ensures ∙ ap (λ (z : ℤ). min (up z) farthest) e) at-mark-shifts.mark_shifts.ensures (omega arith)) s.out-1.now
+    (at_up.up.ensures ∙ ap (λ (z : ℤ). min (up z) farthest) e) at-mark-shifts.mark_shifts.ensures (omega arith)) s.out.now
     at-put-runs.put_runs-needed.new.1.0 at-put-runs.put_runs-needed.result at-put-runs.put_runs-needed.ensures
     c.before.if-out-needed.true c.plain_refusal.result c.plain_refusal.ensures
 
@@ -53,7 +53,7 @@ returns c =
     let e : to_z w32 (of_z w32 s.offset) ≡ s.offset = to_z-of_z w32 s.offset at-start.ranges.offset in
     line_room s.gap s.a.now s.b.now s.offset _
     (marks_line s.gap s.a.now s.b.now s.offset _ _ _ _ (at-down.down.ensures ∙ ap (λ (z : ℤ). min (down z) farthest) e)
-    (at_up.up.ensures ∙ ap (λ (z : ℤ). min (up z) farthest) e) at-mark-shifts.mark_shifts.ensures (omega arith)) s.out-1.now
+    (at_up.up.ensures ∙ ap (λ (z : ℤ). min (up z) farthest) e) at-mark-shifts.mark_shifts.ensures (omega arith)) s.out.now
     at-put-runs.put_runs-needed.new.1.0 at-put-runs.put_runs-needed.result at-put-runs.put_runs-needed.ensures
     at-else1.if-out-needed.false c.before.put_runs.new.1.0 c.before.put_runs.result c.before.put_runs.ensures
 

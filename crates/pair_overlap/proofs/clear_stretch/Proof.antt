@@ -18,10 +18,10 @@ abbrev decreases-loop-r : tie.decreases-loop-r
 decreases-loop-r a u b v gap bound lines r₀ room₀ k₀ left₀ r room k left = (bound - r) * 18 + left
 
 overflow_mul-lines : tie.Need-overflow_mul-lines invariant-loop-r decreases-loop-r
-overflow_mul-lines c = let few = c.requires.fact_2.1.1 in omega arith
+overflow_mul-lines c = let few = c.requires.1.1.1 in omega arith
 
 overflow_add-lines : tie.Need-overflow_add-lines invariant-loop-r decreases-loop-r
-overflow_add-lines c = let few = c.requires.fact_2.1.1 in omega arith
+overflow_add-lines c = let few = c.requires.1.1.1 in omega arith
 
 loop-r-init : tie.Need-loop-r-init invariant-loop-r decreases-loop-r
 loop-r-init c = (omega arith, λ k l. absurd (omega arith), lines_begun _ 0 _ (omega arith), λ l. absurd (omega arith))
@@ -67,7 +67,7 @@ overflow_add-result c =
     let at-start : tie.Start invariant-loop-r decreases-loop-r = search in
     let short = at-slide.slide-s.ensures.short in
     let least = at-lesser.lesser-room.ensures in
-    let few = at-start.requires.fact_2.1.1 in
+    let few = at-start.requires.1.1.1 in
     let l = in-loop.loop-r-test.true in
     omega arith
 
@@ -79,7 +79,7 @@ overflow_add-result-then-left-eq0 c =
     let at-start : tie.Start invariant-loop-r decreases-loop-r = search in
     let short = at-slide.slide-s.ensures.short in
     let least = at-lesser.lesser-room.ensures in
-    let few = at-start.requires.fact_2.1.1 in
+    let few = at-start.requires.1.1.1 in
     let l = in-loop.loop-r-test.true in
     omega arith
 
@@ -122,7 +122,7 @@ next_line-k-requires : tie.Need-next_line-k-requires invariant-loop-r decreases-
 next_line-k-requires c κs =
     let at-loop : tie.At-loop-r invariant-loop-r decreases-loop-r = search in
     let at-start : tie.Start invariant-loop-r decreases-loop-r = search in
-    let few = at-start.requires.fact_2.1.1 in
+    let few = at-start.requires.1.1.1 in
     let at = at-loop.loop-r.invariant.2.at in
     omega arith
 
@@ -164,14 +164,14 @@ overflow_add-r : tie.Need-overflow_add-r invariant-loop-r decreases-loop-r
 overflow_add-r c =
     let at-slide : tie.After-slide-s invariant-loop-r decreases-loop-r = search in
     let at-start : tie.Start invariant-loop-r decreases-loop-r = search in
-    omega (arith, at-slide.slide-s.ensures.within, at-start.requires.fact_2.1.1)
+    omega (arith, at-slide.slide-s.ensures.within, at-start.requires.1.1.1)
 
 loop-r-smaller : tie.Need-loop-r-smaller invariant-loop-r decreases-loop-r
 loop-r-smaller c =
     let at-slide : tie.After-slide-s invariant-loop-r decreases-loop-r = search in
     let at-loop : tie.At-loop-r invariant-loop-r decreases-loop-r = search in
     let at-start : tie.Start invariant-loop-r decreases-loop-r = search in
-    let few = at-start.requires.fact_2.1.1 in
+    let few = at-start.requires.1.1.1 in
     let some = at-loop.loop-r.invariant.2.some in
     let z = pos_of_ne-zero c.before.if-s-eq0.false in omega (arith, at-slide.slide-s.ensures.within)
 

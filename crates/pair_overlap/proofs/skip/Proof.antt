@@ -60,7 +60,7 @@ loop-i-preserved c =
     let q = c.before.before.span_at-q.ensures in
     let z = pos_of_ne-zero at-else2.if-lines-eq0.false in
     let lines = (s.place - at-span-at.span_at-p.result.begin) / 65536 in
-    skip_to s.s.now s.from s.place (w.i + lines - 1) (w.i + lines) at-start.requires.fact_1 (omega arith) (omega arith)
+    skip_to s.s.now s.from s.place (w.i + lines - 1) (w.i + lines) at-start.requires.0 (omega arith) (omega arith)
     (omega (arith, c.if-place-q.false, q.begins))
 
 returns : tie.Need-returns invariant-loop-i decreases-loop-i

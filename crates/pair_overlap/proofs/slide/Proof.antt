@@ -18,18 +18,18 @@ decreases-loop-i a b gap limit x y t₀ room₀ i₀ j₀ t room i j = (length a
 walk_start-start-requires : tie.Need-walk_start-start-requires invariant-loop-i decreases-loop-i
 walk_start-start-requires c κs =
     let p = c.before.before.requires in
-    (p.0, (p.1.0, omega (arith, c.before.base-x.ensures, c.base-y.ensures, c.before.before.requires.fact_2.1.0)))
+    (p.0, (p.1.0, omega (arith, c.before.base-x.ensures, c.base-y.ensures, c.before.before.requires.1.1.0)))
 
 overflow_sub-room : tie.Need-overflow_sub-room invariant-loop-i decreases-loop-i
 overflow_sub-room c =
     let at-start : tie.Start invariant-loop-i decreases-loop-i = search in
-    let few = at-start.requires.fact_2.1.1 in omega arith
+    let few = at-start.requires.1.1.1 in omega arith
 
 loop-i-init : tie.Need-loop-i-init invariant-loop-i decreases-loop-i
 loop-i-init c =
     let at-start : tie.Start invariant-loop-i decreases-loop-i = search in
     let w = c.walk_start-start.ensures in
-    let few = at-start.requires.fact_2.1.1 in
+    let few = at-start.requires.1.1.1 in
     let gap = at-start.args.gap in
     (w.first, w.second, omega arith, λ e m l. w.onwards gap m few.0 (omega arith), λ m l. absurd (omega arith), omega arith)
 
@@ -39,8 +39,8 @@ returns-then-b-j c =
     let at_base : tie.After-base-x invariant-loop-i decreases-loop-i = search in
     let at-start : tie.Start invariant-loop-i decreases-loop-i = search in
     let s = at-start.args in
-    let near = at-start.requires.fact_2.1.0 in
-    let few = at-start.requires.fact_2.1.1 in
+    let near = at-start.requires.1.1.0 in
+    let few = at-start.requires.1.1.1 in
     let inv = c.before.before.loop-i.invariant in
     record {
       within = omega arith;
@@ -59,19 +59,19 @@ span_at-p-requires : tie.Need-span_at-p-requires invariant-loop-i decreases-loop
 span_at-p-requires c κs =
     let at_base : tie.After-base-x invariant-loop-i decreases-loop-i = search in
     let at-start : tie.Start invariant-loop-i decreases-loop-i = search in
-    omega (arith, at_base.base-x.ensures, at-start.requires.fact_2.1.0)
+    omega (arith, at_base.base-x.ensures, at-start.requires.1.1.0)
 
 overflow_add-y : tie.Need-overflow_add-y invariant-loop-i decreases-loop-i
 overflow_add-y c =
     let at-base2 : tie.After-base-y invariant-loop-i decreases-loop-i = search in
     let at-start : tie.Start invariant-loop-i decreases-loop-i = search in
-    omega (arith, at-base2.base-y.ensures, at-start.requires.fact_2.1)
+    omega (arith, at-base2.base-y.ensures, at-start.requires.1.1)
 
 span_at-q-requires : tie.Need-span_at-q-requires invariant-loop-i decreases-loop-i
 span_at-q-requires c κs =
     let at-base2 : tie.After-base-y invariant-loop-i decreases-loop-i = search in
     let at-start : tie.Start invariant-loop-i decreases-loop-i = search in
-    omega (arith, at-base2.base-y.ensures, at-start.requires.fact_2.1)
+    omega (arith, at-base2.base-y.ensures, at-start.requires.1.1)
 
 loop-i-preserved-then-p-q : tie.Need-loop-i-preserved-then-p-q invariant-loop-i decreases-loop-i
 loop-i-preserved-then-p-q c =
@@ -89,7 +89,7 @@ loop-i-preserved-then-p-q c =
       omega arith,
       w.invariant.2,
       λ e m l.
-          pass_first s.gap s.a.now at_base.base-x.result s.b.now (at-base2.base-y.result + m) w.i w.j at-start.requires.fact_2.0
+          pass_first s.gap s.a.now at_base.base-x.result s.b.now (at-base2.base-y.result + m) w.i w.j at-start.requires.1.0
           (w.invariant.3 e m l)
           (omega (arith, c.if-p-q.true)),
       w.invariant.4,
@@ -129,7 +129,7 @@ loop-i-preserved-then-q-p c =
       omega arith,
       w.invariant.2,
       λ e m l.
-          pass_second s.gap s.a.now at_base.base-x.result s.b.now (at-base2.base-y.result + m) w.i w.j at-start.requires.fact_1
+          pass_second s.gap s.a.now at_base.base-x.result s.b.now (at-base2.base-y.result + m) w.i w.j at-start.requires.0
           (w.invariant.3 e m (omega arith))
           (omega arith),
       w.invariant.4,
@@ -149,7 +149,7 @@ overflow_add-t c =
     let at-start : tie.Start invariant-loop-i decreases-loop-i = search in
     let p = at-span-at.span_at-p.ensures in
     let q = at-span-at2.span_at-q.ensures in
-    omega (arith, at_base.base-x.ensures, at-start.requires.fact_2.1.0)
+    omega (arith, at_base.base-x.ensures, at-start.requires.1.1.0)
 
 returns-then-limit-t : tie.Need-returns-then-limit-t invariant-loop-i decreases-loop-i
 returns-then-limit-t c =
@@ -169,8 +169,8 @@ returns-then-limit-t c =
     pushed s.gap s.a.now at_base.base-x.result s.b.now at-base2.base-y.result w.t w.i w.j (omega arith) (omega arith) (omega arith)
     (omega arith)
     (record { first_before = omega (arith, at-else3.if-q-p.false); second_before = omega (arith, at-else2.if-p-q.false) }) w.invariant.4 in
-    let near = at-start.requires.fact_2.1.0 in
-    let few = at-start.requires.fact_2.1.1 in
+    let near = at-start.requires.1.1.0 in
+    let few = at-start.requires.1.1.1 in
     record {
       within = omega arith;
       covered =
@@ -213,8 +213,8 @@ returns c =
     let at_base : tie.After-base-x invariant-loop-i decreases-loop-i = search in
     let at-start : tie.Start invariant-loop-i decreases-loop-i = search in
     let s = at-start.args in
-    let near = at-start.requires.fact_2.1.0 in
-    let few = at-start.requires.fact_2.1.1 in
+    let near = at-start.requires.1.1.0 in
+    let few = at-start.requires.1.1.1 in
     let inv = c.before.loop-i.invariant in
     record {
       within = omega arith;

@@ -11,7 +11,7 @@ returns-then-a-first c =
     let at-start : tie.Start = search in
     let s = at-start.args in
     let i = c.before.skip-first.result in
-    let o = at-start.requires.fact_2.0 in
+    let o = at-start.requires.1.0 in
     let w = subst (λ (p : ℕ). Skipped s.a.now s.x p i) c.before.before.span_at-q.ensures.begins c.before.skip-first.ensures in
     record {
       first = c.before.skip-first.ensures.within;
@@ -27,8 +27,8 @@ returns c =
     let s = at-start.args in
     let i = at-skip.skip-first.result in
     let j = c.skip-second.result in
-    let o = at-start.requires.fact_1 in
-    let o' = at-start.requires.fact_2.0 in
+    let o = at-start.requires.0 in
+    let o' = at-start.requires.1.0 in
     let w = subst (λ (p : ℕ). Skipped s.a.now s.x p i) at-span-at.span_at-q.ensures.begins at-skip.skip-first.ensures in
     let v = subst (λ (p : ℕ). Skipped s.b.now s.y p j) c.before.span_at-p.ensures.begins c.skip-second.ensures in
     record {

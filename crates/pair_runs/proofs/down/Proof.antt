@@ -32,7 +32,7 @@ overflow_cast-result c =
     let e : to_z w32 (of_z w32 o) ≡ o = to_z-of_z w32 o c.before.before.ranges.o in
     let z = to_z w32 (of_z w32 o) in
     let n : NearOffset z = down_near z c.before.if-o-ge0.false c.if-o-lt-FARTHEST_DOWN.false in
-    let f : to_z w32 (of_z w32 (pos 0 -ℤ z)) ≡ pos 0 -ℤ z = to_z-of_z w32 (pos 0 -ℤ z) n.ranges in
+    let f : to_z w32 (of_z w32 (pos 0 -ℤ z)) ≡ pos 0 -ℤ z = to_z-of_z w32 (pos 0 -ℤ z) n.fits in
     (subst (λ (y : ℤ). T (non_neg y)) (sym f) n.not_negative, record { fits = omega (arith, ap nat_abs f, n.is) })
 
 returns : tie.Need-returns
@@ -41,7 +41,7 @@ returns c =
     let e : to_z w32 (of_z w32 o) ≡ o = to_z-of_z w32 o c.before.before.ranges.o in
     let z = to_z w32 (of_z w32 o) in
     let n : NearOffset z = down_near z c.before.if-o-ge0.false c.if-o-lt-FARTHEST_DOWN.false in
-    ap nat_abs (to_z-of_z w32 (pos 0 -ℤ z) n.ranges) ∙ n.is ∙ ap (λ (y : ℤ). min (down y) 263) e
+    ap nat_abs (to_z-of_z w32 (pos 0 -ℤ z) n.fits) ∙ n.is ∙ ap (λ (y : ℤ). min (down y) 263) e
 
 pub down_spec : {M : Type 1} → statement M
 down_spec = tie.close (tie.spec

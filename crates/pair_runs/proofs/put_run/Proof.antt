@@ -18,7 +18,7 @@ returns c =
     let at-start : tie.Start = search in
     let a = at-start.args in
     put_one a.end a.count a.at a.out.now _ _ (pos_of_ne-zero c.before.before.if-count-eq0.false)
-    (to_z-of_z w32 c.unbiased.result (record { sfits = c.unbiased.type-inv }) ∙ c.unbiased.ensures)
+    (to_z-of_z w32 c.unbiased.result (record { sfits = c.unbiased.type_inv }) ∙ c.unbiased.ensures)
     (small_signed a.count (omega (arith, at-start.requires)))
 
 pub put_run_spec : {M : Type 1} → statement M

@@ -53,7 +53,7 @@ loop-k-preserved c =
     let at-end : tie.After-next_place-end invariant-loop-k decreases-loop-k = search in
     let a = at-start.args in
     let w = at-loop.loop-k in
-    putting_more a.marks.now a.out-1.now w.out-1 w.at w.k w.invariant _ _ in-loop.loop-k-test.true
+    putting_more a.marks.now a.out.now w.out w.at w.k w.invariant _ _ in-loop.loop-k-test.true
     at_first.next_place-first.ensures at-end.next_place-end.ensures _ _ c.before.put_run-at.ensures
 
 shape_of-out : tie.Need-shape_of-out invariant-loop-k decreases-loop-k
@@ -64,7 +64,7 @@ returns c =
     let at-start : tie.Start invariant-loop-k decreases-loop-k = search in
     let a = at-start.args in
     let w = c.before.loop-k in
-    putting_end a.marks.now a.out-1.now w.out-1 w.at w.k w.invariant c.loop-k-test.false
+    putting_end a.marks.now a.out.now w.out w.at w.k w.invariant c.loop-k-test.false
 
 pub put_runs_spec : {M : Type 1} → statement M
 put_runs_spec =

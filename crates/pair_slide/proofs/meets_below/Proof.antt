@@ -19,7 +19,7 @@ loop-r-init c = (omega arith, λ m l. absurd (omega arith))
 overflow_add-w : tie.Need-overflow_add-w invariant-loop-r decreases-loop-r
 overflow_add-w c =
     let at-start : tie.Start invariant-loop-r decreases-loop-r = search in
-    omega (arith, at-start.requires.fact_2.1.0)
+    omega (arith, at-start.requires.1.1.0)
 
 clear_stretch-s-requires : tie.Need-clear_stretch-s-requires invariant-loop-r decreases-loop-r
 clear_stretch-s-requires c κs =

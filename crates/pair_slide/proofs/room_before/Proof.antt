@@ -10,7 +10,7 @@ returns-then-not-spans_meet c = λ d s u t v a b first second.
     let at-start : tie.Start = search in
     let told : tie.After-spans_meet = search in
     let x = at-start.args in
-    boxes_across x.gap d s u t v x.p x.q first second x.bound at-start.requires.fact_2.1.1.1
+    boxes_across x.gap d s u t v x.p x.q first second x.bound at-start.requires.1.1.1.1
     (sym told.spans_meet.ensures ∙ not-true _ c.if-not-spans_meet.true)
 
 returns-then-not-spans_meet-2 : tie.Need-returns-then-not-spans_meet-2
@@ -18,7 +18,7 @@ returns-then-not-spans_meet-2 c = λ d s u t v a b first second.
     let at-start : tie.Start = search in
     let told : tie.After-spans_meet-2 = search in
     let x = at-start.args in
-    boxes_along x.gap d s u t v x.p x.q first second x.bound at-start.requires.fact_2.1.1.1
+    boxes_along x.gap d s u t v x.p x.q first second x.bound at-start.requires.1.1.1.1
     (sym told.spans_meet-2.ensures ∙ not-true _ c.if-not-spans_meet-2.true)
 
 meets_below-requires : tie.Need-meets_below-requires
@@ -39,7 +39,7 @@ returns c = λ d s u t v a b first second.
     let at-start : tie.Start = search in
     let x = at-start.args in
     c.meets_below.ensures
-    ∙ boxes_slid x.gap d s u t v x.p x.q first second x.bound at-start.requires.fact_2.1.1.1 x.a.now x.b.now a b
+    ∙ boxes_slid x.gap d s u t v x.p x.q first second x.bound at-start.requires.1.1.1.1 x.a.now x.b.now a b
 
 pub room_before_spec : {M : Type 1} → statement M
 room_before_spec =

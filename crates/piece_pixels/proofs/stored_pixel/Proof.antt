@@ -6,7 +6,7 @@ use Rattle.piece_pixels.proofs.stored_pixel.Tie as tie
 returns : tie.Need-returns
 returns c =
     let at-start : tie.Start = search in
-    c.before.cell_index.ensures.shows at-start.args.pixels.now
+    c.before.cell_index.ensures.0 at-start.args.pixels.now
 
 pub stored_pixel_spec : {M : Type 1} → statement M
 stored_pixel_spec = tie.close (tie.spec

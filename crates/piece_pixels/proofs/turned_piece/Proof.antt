@@ -6,7 +6,7 @@ use Rattle.piece_pixels.proofs.turned_piece.Tie as tie
 returns : tie.Need-returns
 returns c =
     let at-columns-of : tie.After-columns_of = search in
-    rw (at-columns-of.columns_of.ensures.0, c.rows_of_lem.ensures.0)
+    rw (at-columns-of.columns_of.ensures.0, c.rows_of.ensures.0)
 
 pub turned_piece_spec : {M : Type 1} → statement M
 turned_piece_spec =

@@ -12,7 +12,7 @@ returns c =
     let at-rows-of : tie.After-rows_of-rows = search in
     let a = at-start.args in
     let l = at-columns-of.columns_of-columns.ensures in
-    let w = at-rows-of.rows_of_lem.ensures in
+    let w = at-rows-of.rows_of-rows.ensures in
     let s = c.sides_in.ensures in
     (λ size pixels. s.0 (lent_shape (lent_by size a.table.now pixels) a.i) l.0 w.0, s.1 255 l.1 w.1)
 

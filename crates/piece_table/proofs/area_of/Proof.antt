@@ -5,14 +5,14 @@ use Rattle.piece_table.proofs.area_of.Tie as tie
 
 overflow_mul-result : tie.Need-overflow_mul-result
 overflow_mul-result c =
-    let m : c.before.columns_of.result * c.rows_of_lem.result ≤ 255 * 255 =
-    mul-le-mul c.before.columns_of.ensures.1 c.rows_of_lem.ensures.1 in
+    let m : c.before.columns_of.result * c.rows_of.result ≤ 255 * 255 =
+    mul-le-mul c.before.columns_of.ensures.1 c.rows_of.ensures.1 in
     omega arith
 
 returns : tie.Need-returns
 returns c = (
-  ap₂ (λ (l w : ℕ). l * w) c.before.columns_of.ensures.0 c.rows_of_lem.ensures.0,
-  mul-le-mul c.before.columns_of.ensures.1 c.rows_of_lem.ensures.1,
+  ap₂ (λ (l w : ℕ). l * w) c.before.columns_of.ensures.0 c.rows_of.ensures.0,
+  mul-le-mul c.before.columns_of.ensures.1 c.rows_of.ensures.1,
 )
 
 pub area_of_spec : {M : Type 1} → statement M

@@ -39,8 +39,8 @@ returns-in-Ran c =
     let o = run_given l _ _ at-start.requires.0 at-after-start.start_job.ensures
     (ones a.size.count _ (fitting at-start.args.size at-start.args.table.now at-start.args.pixels.now at-start.requires.0).few_pieces
     at-pair-count.pair_count-pairs.ensures) in
-    run_gives _ (program_run (job_of l)) o _ _ _ (sym c.before.run-1.given.1 ∙ at-guided-run.guided_run.ensures.answer)
-    at-guided-run.guided_run.ensures.layout.0
+    run_gives _ (program_run (job_of l)) o _ _ _ (sym c.before.run-1.given.1 ∙ at-guided-run.guided_run.ensures.0)
+    at-guided-run.guided_run.ensures.1.0
 
 returns-in-Refused : tie.Need-returns-in-Refused
 returns-in-Refused c =
@@ -53,7 +53,7 @@ returns-in-Refused c =
     let o = run_given l _ _ at-start.requires.0 at-after-start.start_job.ensures
     (ones a.size.count _ (fitting at-start.args.size at-start.args.table.now at-start.args.pixels.now at-start.requires.0).few_pieces
     at-pair-count.pair_count-pairs.ensures) in
-    absurd (run_not_refused _ (program_run (job_of l)) o _ (sym c.enum_told-1.given.1 ∙ at-guided-run.guided_run.ensures.answer))
+    absurd (run_not_refused _ (program_run (job_of l)) o _ (sym c.enum_told-1.given.1 ∙ at-guided-run.guided_run.ensures.0))
 
 pub run_job_spec : {M : Type 1} → statement M
 run_job_spec =

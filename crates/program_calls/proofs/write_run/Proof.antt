@@ -13,7 +13,7 @@ returns-in_default c =
     let a = at-start.args in
     let l : Lent = lent_by a.size a.table.now a.pixels.now in
     let p = at-start.requires in
-    absurd (used_not_refused l a.layout.now p.0 _ (sym c.enum_told-1.given.1 ∙ c.before.before.used_length.ensures.answer))
+    absurd (used_not_refused l a.layout.now p.0 _ (sym c.enum_told-1.given.1 ∙ c.before.before.used_length.ensures.0))
 
 returns-in_default-write_layout : tie.Need-returns-in_default-write_layout
 returns-in_default-write_layout c =
@@ -23,8 +23,8 @@ returns-in_default-write_layout c =
     let l : Lent = lent_by a.size a.table.now a.pixels.now in
     let p = at-start.requires in
     let long = p.1 in
-    absurd (text_not_refused l a.layout.now p.0 a.text-1.now (omega arith) _
-    (sym c.enum_told-in_default-write_layout-1.given.1 ∙ at-write-layout.write_layout.ensures.answer))
+    absurd (text_not_refused l a.layout.now p.0 a.text.now (omega arith) _
+    (sym c.enum_told-in_default-write_layout-1.given.1 ∙ at-write-layout.write_layout.ensures.0))
 
 put_end_line-requires : tie.Need-put_end_line-requires
 put_end_line-requires c κs =
@@ -34,8 +34,8 @@ put_end_line-requires c κs =
     let l : Lent = lent_by a.size a.table.now a.pixels.now in
     let p = at-start.requires in
     let long = p.1 in
-    let w = text_taken l a.layout.now p.0 a.text-1.now (omega arith) _ _
-    (sym c.before.before.next-1.given.1 ∙ at-write-layout.write_layout.ensures.answer) at-write-layout.write_layout.ensures.memory in
+    let w = text_taken l a.layout.now p.0 a.text.now (omega arith) _ _
+    (sym c.before.before.next-1.given.1 ∙ at-write-layout.write_layout.ensures.0) at-write-layout.write_layout.ensures.1 in
     let end = w.end in
     let short = w.short in
     omega arith
@@ -51,9 +51,9 @@ returns c =
     let l : Lent = lent_by a.size a.table.now a.pixels.now in
     let p = at-start.requires in
     let long = p.1 in
-    let w = text_taken l a.layout.now p.0 a.text-1.now (omega arith) _ _ (sym at_next.next-1.given.1 ∙ at-write-layout.write_layout.ensures.answer)
-    at-write-layout.write_layout.ensures.memory in
-    let used = used_taken l a.layout.now p.0 _ (sym at-used.used-1.given.1 ∙ at-used-length.used_length.ensures.answer) in
+    let w = text_taken l a.layout.now p.0 a.text.now (omega arith) _ _ (sym at_next.next-1.given.1 ∙ at-write-layout.write_layout.ensures.0)
+    at-write-layout.write_layout.ensures.1 in
+    let used = used_taken l a.layout.now p.0 _ (sym at-used.used-1.given.1 ∙ at-used-length.used_length.ensures.0) in
     run_written (job_of l) a.run (layout_of a.layout.now) _ _ _ _ _ _ used w c.before.before.put_end_line.ensures
 
 pub write_run_spec : {M : Type 1} → statement M

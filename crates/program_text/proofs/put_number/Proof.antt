@@ -11,7 +11,7 @@ returns c =
     let at-put-byte : tie.After-put_byte-next = search in
     let at-start : tie.Start = search in
     let a = at-start.args in
-    written_then (byte_written a.text-1.now a.at _ _ comma at-put-byte.put_byte-next.ensures)
+    written_then (byte_written a.text.now a.at _ _ comma at-put-byte.put_byte-next.ensures)
     (decimal_written _ _ _ _ a.k c.before.before.put_decimal.ensures)
 
 pub put_number_spec : {M : Type 1} → statement M

@@ -43,7 +43,7 @@ abbrev jobTrials : tie.Start invariant-loop-at decreases-loop-at → List Trial
 jobTrials e = trials (job_of (lent e))
 
 lists : (e : tie.Start invariant-loop-at decreases-loop-at) → trials_of e.args.trials.now ≡ jobTrials e
-lists e = e.requires.fact_2.1.1.1
+lists e = e.requires.1.1.1.1
 
 -- T
 count_is : (e : tie.Start invariant-loop-at decreases-loop-at) → length e.args.trials.now ≡ length (jobTrials e)
@@ -54,9 +54,9 @@ unfolding job_of
 total-requires c κs =
     let at-start : tie.Start invariant-loop-at decreases-loop-at = search in
     record {
-      few = (facts (lent at-start) at-start.requires.fact_1.well).few_pieces;
-      size = at-start.requires.fact_2.1.0.table.size;
-      one_per_pair = at-start.requires.fact_2.0.one_per_pair;
+      few = (facts (lent at-start) at-start.requires.0.well).few_pieces;
+      size = at-start.requires.1.1.0.table.size;
+      one_per_pair = at-start.requires.1.0.one_per_pair;
     }
 
 loop-at-init : tie.Need-loop-at-init invariant-loop-at decreases-loop-at
@@ -66,9 +66,9 @@ loop-at-init c =
     let j = job_of (lent at-start) in
     let v = given at-start in
     let ks = jobTrials at-start in
-    let sum : c.before.total.result ≡ weighted_sum j at-start.args.weights.now v = c.before.total.ensures j v refl at-start.requires.fact_2.1.0.table in
+    let sum : c.before.total.result ≡ weighted_sum j at-start.args.weights.now v = c.before.total.ensures j v refl at-start.requires.1.1.0.table in
     let whole : at-start.args.budget ≡ at-start.args.budget - 0 = omega arith in
-    let first = underway_begin j at-start.args.weights.now ks at-start.args.budget v at-start.requires.fact_2.1.0.valid in
+    let first = underway_begin j at-start.args.weights.now ks at-start.args.budget v at-start.requires.1.1.0.valid in
     let here : Underway j at-start.args.weights.now ks at-start.args.budget v (at-start.args.budget - 0) (begin v) c.before.total.result =
     subst₂ (λ (m n : ℕ). Underway j at-start.args.weights.now ks at-start.args.budget v m (begin v) n) whole (sym sum) first in
     let under : Underway j at-start.args.weights.now ks at-start.args.budget v (at-start.args.budget - c.beginning-at.result.made)
@@ -76,7 +76,7 @@ loop-at-init c =
     subst (λ (s : DescentState).
     Underway j at-start.args.weights.now ks at-start.args.budget v (at-start.args.budget - s.made) (standing_as v s) s.sum)
     (sym c.beginning-at.ensures) here in
-    (record { underway = under; laid = at-start.requires.fact_2.1.0; ready = at-start.requires.fact_1 }, refl, refl, refl, refl)
+    (record { underway = under; laid = at-start.requires.1.1.0; ready = at-start.requires.0 }, refl, refl, refl, refl)
 
 -- the entry, from the loop's head
 abbrev entry : tie.At-loop-at invariant-loop-at decreases-loop-at → tie.Start invariant-loop-at decreases-loop-at
@@ -193,7 +193,7 @@ step-at-requires c κs =
     let u = at-loop.loop-at.invariant.0.underway in
     let within = u.counted in
     let differs = at-else3.if-at-budget.false in
-    let most = e.requires.fact_2.1.1.0 in
+    let most = e.requires.1.1.1.0 in
     let unsettled = at-else2.if-at-count.false in
     let count = count_is e in
     let quiet = u.quiet_few in
@@ -201,7 +201,7 @@ step-at-requires c κs =
     let proper = subst (λ (ks : List Trial). Proper (job_of (lent e)) 0 e.args.run.size.count (get_or ks at-loop.loop-at.at.next no_trial)) (sym (lists e))
     (trial_proper (job_of (lent e)) at-loop.loop-at.at.next next) in (
       at-loop.loop-at.invariant.0.ready,
-      (e.requires.fact_2.0, (at-loop.loop-at.invariant.0.laid, (proper, (u.sum_is, (omega arith, (omega arith, (u.moves_made, omega arith))))))),
+      (e.requires.1.0, (at-loop.loop-at.invariant.0.laid, (proper, (u.sum_is, (omega arith, (omega arith, (u.moves_made, omega arith))))))),
     )
 
 -- the loop's head, from where a step was taken
@@ -217,9 +217,9 @@ stepped : (c : tie.After-step-at invariant-loop-at decreases-loop-at)
 stepped c =
     let p = (head c).loop-at in
     let e = entry (head c) in
-    c.step-at.ensures.passed
+    c.step-at.ensures.0
     ∙ ap (λ (ks : List Trial). step (weighted_sum (job_of (lent e)) e.args.weights.now) (attempt (job_of (lent e)) e.args.weights.now) ks
-    (standing_as (layout_of p.layout-1) p.at)) (lists e)
+    (standing_as (layout_of p.layout) p.at)) (lists e)
 
 -- a step makes one trial
 made_one : (c : tie.After-step-at invariant-loop-at decreases-loop-at) → c.step-at.result.made ≡ (head c).loop-at.at.made + 1
@@ -228,7 +228,7 @@ made_one c =
     let e = entry (head c) in
     ap (λ (s : Progress). s.made) (stepped c)
     ∙ step_made (weighted_sum (job_of (lent e)) e.args.weights.now) (attempt (job_of (lent e)) e.args.weights.now) (jobTrials e)
-    (standing_as (layout_of p.layout-1) p.at)
+    (standing_as (layout_of p.layout) p.at)
 
 loop-at-smaller : tie.Need-loop-at-smaller invariant-loop-at decreases-loop-at
 unfolding job_of

@@ -19,7 +19,7 @@ lent e = lent_by e.args.size e.args.table.now e.args.pixels.now
 few : (e : tie.Start) → length e.args.weights.now ≤ 2016
 unfolding job_of
 few e =
-    let g = e.requires.fact_1 in
+    let g = e.requires.0 in
     let one = g.weights.one_per_pair in
     let most = pairs_at_most e.args.size.count (facts (lent e) g.laid.well).few_pieces in
     omega arith
@@ -66,8 +66,8 @@ with_strips-requires c κs =
     let at-copy-weights : tie.After-copy_weights = search in
     let at-start : tie.Start = search in (
       subst (λ ws. Given (lent at-start) at-start.args.layout.now ws)
-          (sym (copied_part at-start.args.weights.now _ _ at-copy-weights.copy_weights.ensures)) at-start.requires.fact_1,
-      at-start.requires.fact_2,
+          (sym (copied_part at-start.args.weights.now _ _ at-copy-weights.copy_weights.ensures)) at-start.requires.0,
+      at-start.requires.1,
     )
 
 -- what was done with weights that are the lent ones, by what the run came to

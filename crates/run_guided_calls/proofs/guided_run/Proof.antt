@@ -23,15 +23,15 @@ run_rounds-requires c κs =
     let at-start : tie.Start = search in
     let a = at-start.args in
     let l : Lent = lent_by a.size a.table.now a.pixels.now in
-    let none : NoCause (weighted_causes l a.layout-1.now a.weights-1.now (numbers_wrong a.rounds a.budget) false) =
+    let none : NoCause (weighted_causes l a.layout.now a.weights.now (numbers_wrong a.rounds a.budget) false) =
     passed_none _
     (sym at-enum-told.enum_told-1.given.1 ∙ at-weighted-causes.weighted_causes.ensures
-    ∙ ap (λ b. first_cause (weighted_causes l a.layout-1.now a.weights-1.now b false)) at-numbers-wrong.numbers_wrong.ensures) in (
-      run_given l a.layout-1.now a.weights-1.now (numbers_wrong a.rounds a.budget) none at-write-entries.write_entries.new.0
+    ∙ ap (λ b. first_cause (weighted_causes l a.layout.now a.weights.now b false)) at-numbers-wrong.numbers_wrong.ensures) in (
+      run_given l a.layout.now a.weights.now (numbers_wrong a.rounds a.budget) none at-write-entries.write_entries.new.0
           at-write-entries.write_entries.ensures,
       record {
-        rounds = few_rounds l a.layout-1.now a.weights-1.now a.rounds a.budget none;
-        budget = few_trials l a.layout-1.now a.weights-1.now a.rounds a.budget none;
+        rounds = few_rounds l a.layout.now a.weights.now a.rounds a.budget none;
+        budget = few_trials l a.layout.now a.weights.now a.rounds a.budget none;
       },
     )
 
@@ -43,15 +43,15 @@ returns-in-Refused c =
     let a = at-start.args in
     let l : Lent = lent_by a.size a.table.now a.pixels.now in
     let no =
-    call_refused l a.layout-1.now a.weights-1.now a.rounds a.budget _
+    call_refused l a.layout.now a.weights.now a.rounds a.budget _
     (sym c.before.refusal-1.given.1 ∙ at-weighted-causes.weighted_causes.ensures
-    ∙ ap (λ b. first_cause (weighted_causes l a.layout-1.now a.weights-1.now b false)) at-numbers-wrong.numbers_wrong.ensures) in (
+    ∙ ap (λ b. first_cause (weighted_causes l a.layout.now a.weights.now b false)) at-numbers-wrong.numbers_wrong.ensures) in (
       sym (ap guided_answer no),
       (
-        sym (ap (best_after_run a.layout-1.now) no),
+        sym (ap (best_after_run a.layout.now) no),
         (
-          sym (ap (weights_after_run a.weights-1.now) no),
-          (left_refused _ _ a.workspace-1.now no, λ run same. absurd (let z : ◌≡◌ {A = ℕ} 0 1 = cc in omega arith)),
+          sym (ap (weights_after_run a.weights.now) no),
+          (left_refused _ _ a.workspace.now no, λ run same. absurd (let z : ◌≡◌ {A = ℕ} 0 1 = cc in omega arith)),
         ),
       ),
     )
@@ -66,22 +66,22 @@ returns-in-Done c =
     let at-start : tie.Start = search in
     let a = at-start.args in
     let l : Lent = lent_by a.size a.table.now a.pixels.now in
-    let none : NoCause (weighted_causes l a.layout-1.now a.weights-1.now (numbers_wrong a.rounds a.budget) false) =
+    let none : NoCause (weighted_causes l a.layout.now a.weights.now (numbers_wrong a.rounds a.budget) false) =
     passed_none _
     (sym at-enum-told.enum_told-1.given.1 ∙ at-weighted-causes.weighted_causes.ensures
-    ∙ ap (λ b. first_cause (weighted_causes l a.layout-1.now a.weights-1.now b false)) at-numbers-wrong.numbers_wrong.ensures) in
+    ∙ ap (λ b. first_cause (weighted_causes l a.layout.now a.weights.now b false)) at-numbers-wrong.numbers_wrong.ensures) in
     let written = at-write-entries.write_entries in
     let ran = at-run-rounds.run_rounds in
-    let is = call_given l a.layout-1.now a.weights-1.now a.rounds a.budget none written.last.0 written.ensures ran.result
+    let is = call_given l a.layout.now a.weights.now a.rounds a.budget none written.last.0 written.ensures ran.result
     ran.last.1.1.1.1.0 ran.last.1.1.1.1.1.0 ran.ensures in (
       sym (ap guided_answer is),
       (
-        sym (ap (best_after_run a.layout-1.now) is ∙ ran.ensures.written),
+        sym (ap (best_after_run a.layout.now) is ∙ ran.ensures.written),
         (
-          sym (ap (weights_after_run a.weights-1.now) is),
+          sym (ap (weights_after_run a.weights.now) is),
           (
-            left_given _ _ a.workspace-1.now ran.last.1.1.1.1.1.1.0 is ran.kept.1.1.1.1.1.1.0,
-            call_claims l a.layout-1.now a.weights-1.now a.rounds a.budget none written.last.0 written.ensures ran.result
+            left_given _ _ a.workspace.now ran.last.1.1.1.1.1.1.0 is ran.kept.1.1.1.1.1.1.0,
+            call_claims l a.layout.now a.weights.now a.rounds a.budget none written.last.0 written.ensures ran.result
                 ran.last.1.1.1.1.0 ran.last.1.1.1.1.1.0 ran.ensures,
           ),
         ),

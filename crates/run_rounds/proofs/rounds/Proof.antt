@@ -60,8 +60,8 @@ rounded c =
       ready = said.1.1;
       plain_is = at-plain-total2.plain_total-plain.ensures (job_of l) (layout_of (descended c).descend-round.new.1.1.1.1.1.1.1.1.0) (job_count l)
           said.1.0.table;
-      best_is = c.keep_better-sum.ensures.layout;
-      sum_is = c.keep_better-sum.ensures.sum;
+      best_is = c.keep_better-sum.ensures.0;
+      sum_is = c.keep_better-sum.ensures.1;
     }
 
 -- ── the needs ──
@@ -69,14 +69,14 @@ rounded c =
 plain_total-sum-requires : tie.Need-plain_total-sum-requires invariant-loop-left decreases-loop-left
 plain_total-sum-requires c κs =
     let at-start : tie.Start invariant-loop-left decreases-loop-left = search in
-    ((facts (job at-start) at-start.requires.lines_ready_1.well).few_pieces, at-start.requires.lines_ready_2.1.0.table.size)
+    ((facts (job at-start) at-start.requires.0.well).few_pieces, at-start.requires.1.1.0.table.size)
 
 loop-left-init : tie.Need-loop-left-init invariant-loop-left decreases-loop-left
 loop-left-init c =
     let at-start : tie.Start invariant-loop-left decreases-loop-left = search in
-    let laid = at-start.requires.lines_ready_2.1.0 in (
-      rounding_begin at-start.args.terms.count at-start.args.terms.budget laid at-start.requires.lines_ready_1 at-start.requires.lines_ready_2.0
-          at-start.requires.lines_ready_2.1.1.0
+    let laid = at-start.requires.1.1.0 in (
+      rounding_begin at-start.args.terms.count at-start.args.terms.budget laid at-start.requires.0 at-start.requires.1.0
+          at-start.requires.1.1.1.0
           (c.plain_total-sum.ensures (job_of (job at-start)) (layout_of at-start.args.present.now) (job_count (job at-start)) laid.table),
       record {
         same_layout = refl;
@@ -92,19 +92,19 @@ descend-round-requires : tie.Need-descend-round-requires invariant-loop-left dec
 descend-round-requires c κs =
     let at-loop : tie.At-loop-left invariant-loop-left decreases-loop-left = search in
     let stands = at-loop.loop-left.invariant.0 in
-    (stands.ready, (stands.underway.valid_weights, (stands.laid, ((entry at-loop).requires.lines_ready_2.1.1.1.0.budget, (entry at-loop).requires.lines_ready_2.1.1.1.1))))
+    (stands.ready, (stands.underway.valid_weights, (stands.laid, ((entry at-loop).requires.1.1.1.1.0.budget, (entry at-loop).requires.1.1.1.1.1))))
 
 overflow_add-made : tie.Need-overflow_add-made invariant-loop-left decreases-loop-left
 overflow_add-made c =
     let at-loop : tie.At-loop-left invariant-loop-left decreases-loop-left = search in
-    let bounds = (entry at-loop).requires.lines_ready_2.1.1.1.0 in
+    let bounds = (entry at-loop).requires.1.1.1.1.0 in
     let few = rounding_few at-loop.loop-left.invariant.0 bounds.rounds bounds.budget in
     omega arith
 
 overflow_add-moves : tie.Need-overflow_add-moves invariant-loop-left decreases-loop-left
 overflow_add-moves c =
     let at-loop : tie.At-loop-left invariant-loop-left decreases-loop-left = search in
-    let bounds = (entry at-loop).requires.lines_ready_2.1.1.1.0 in
+    let bounds = (entry at-loop).requires.1.1.1.1.0 in
     let few = rounding_few at-loop.loop-left.invariant.0 bounds.rounds bounds.budget in
     omega arith
 
@@ -113,21 +113,21 @@ plain_total-plain-requires c κs =
     let at-descend : tie.After-descend-round invariant-loop-left decreases-loop-left = search in
     let at-loop : tie.At-loop-left invariant-loop-left decreases-loop-left = search in
     let s = entry (at-loop) in
-    ((facts (job s) s.requires.lines_ready_1.well).few_pieces, at-descend.descend-round.ensures.laid.0.table.size)
+    ((facts (job s) s.requires.0.well).few_pieces, at-descend.descend-round.ensures.1.0.table.size)
 
 keep_better-sum-requires : tie.Need-keep_better-sum-requires invariant-loop-left decreases-loop-left
 keep_better-sum-requires c κs =
     let at-descend : tie.After-descend-round invariant-loop-left decreases-loop-left = search in
     let at-loop : tie.At-loop-left invariant-loop-left decreases-loop-left = search in
     let before = at-loop.loop-left.invariant.1 in
-    before.same_best ∙ ap (λ b. length b) (entry at-loop).requires.lines_ready_2.1.1.0 ∙ sym before.same_layout
+    before.same_best ∙ ap (λ b. length b) (entry at-loop).requires.1.1.1.0 ∙ sym before.same_layout
     ∙ sym at-descend.descend-round.auto.1.1.1.1.1.1.1.1.0
 
 after_round-left-requires : tie.Need-after_round-left-requires invariant-loop-left decreases-loop-left
 after_round-left-requires c κs =
     let at-keep-better : tie.After-keep_better-sum invariant-loop-left decreases-loop-left = search in
     let s = entry (head at-keep-better) in (
-      weighed (job s) s.requires.lines_ready_1.well (rounded at-keep-better).laid (head at-keep-better).loop-left.invariant.0.underway.valid_weights,
+      weighed (job s) s.requires.0.well (rounded at-keep-better).laid (head at-keep-better).loop-left.invariant.0.underway.valid_weights,
       (inside (descended at-keep-better)).loop-left-test.true,
     )
 
@@ -136,7 +136,7 @@ loop-left-smaller c =
     let at-keep-better : tie.After-keep_better-sum invariant-loop-left decreases-loop-left = search in
     let falls = left_falls (descended at-keep-better).descend-round.result.end (head at-keep-better).loop-left.left
     (inside (descended at-keep-better)).loop-left-test.true in
-    let left = c.before.before.after_round-left.ensures.left in
+    let left = c.before.before.after_round-left.ensures.0 in
     omega arith
 
 loop-left-preserved : tie.Need-loop-left-preserved invariant-loop-left decreases-loop-left

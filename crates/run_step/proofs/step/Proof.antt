@@ -38,21 +38,21 @@ start c = search
 proper : (c : tie.After-trial_at-trial) → Proper (job_of (lent (start c))) 0 (start c).args.run.size.count (readTrial c)
 proper c =
     let e = start c in
-    subst (λ (k : model.Trial). Proper (job_of (lent e)) 0 e.args.run.size.count k) (sym c.trial_at-trial.ensures) e.requires.lines_ready_2.1.1.0
+    subst (λ (k : model.Trial). Proper (job_of (lent e)) 0 e.args.run.size.count k) (sym c.trial_at-trial.ensures) e.requires.1.1.1.0
 
 trial_at-trial-requires : tie.Need-trial_at-trial-requires
-trial_at-trial-requires c κs = let at-start : tie.Start = search in at-start.requires.lines_ready_2.1.1.1.1.1.1.1
+trial_at-trial-requires c κs = let at-start : tie.Start = search in at-start.requires.1.1.1.1.1.1.1.1
 
 next_place-next-requires : tie.Need-next_place-next-requires
-next_place-next-requires c κs = let at-start : tie.Start = search in at-start.requires.lines_ready_2.1.1.1.1.1.1.1
+next_place-next-requires c κs = let at-start : tie.Start = search in at-start.requires.1.1.1.1.1.1.1.1
 
 row_sum-present-requires : tie.Need-row_sum-present-requires
 unfolding job_of
 row_sum-present-requires c κs =
     let at-start : tie.Start = search in
     let at-trial-at : tie.After-trial_at-trial = search in
-    let t = at-start.requires.lines_ready_2.1.0.table in (
-      record { few = (facts (lent at-start) at-start.requires.lines_ready_1.well).few_pieces; size = t.size; one_per_pair = at-start.requires.lines_ready_2.0.one_per_pair },
+    let t = at-start.requires.1.1.0.table in (
+      record { few = (facts (lent at-start) at-start.requires.0.well).few_pieces; size = t.size; one_per_pair = at-start.requires.1.0.one_per_pair },
       (proper at-trial-at).below,
     )
 
@@ -74,7 +74,7 @@ sought c = trial_search (job_of (lent (entry c))) (entry c).args.weights.now (la
 present : (c : tie.After-row_sum-present)
     → c.row_sum-present.result ≡ piece_sum (job_of (lent (entry c))) (entry c).args.weights.now (layoutAt (entry c)) (trial_at c).piece
 unfolding job_of
-present c = let e = entry c in c.row_sum-present.ensures (job_of (lent e)) (layoutAt e) refl e.requires.lines_ready_2.1.0.table
+present c = let e = entry c in c.row_sum-present.ensures (job_of (lent e)) (layoutAt e) refl e.requires.1.1.0.table
 
 -- the place that comes next, from where it is known
 abbrev placed : tie.After-row_sum-present → tie.After-next_place-next
@@ -83,14 +83,14 @@ placed c = search
 -- one more quiet trial is still a number: there are as many trials at least
 counted : (e : tie.Start) → e.args.at.quiet + 1 < 2 ^ 64
 counted e =
-    let few = e.requires.lines_ready_2.1.1.1.1.0 in
+    let few = e.requires.1.1.1.1.1.0 in
     let fits : length e.args.trials.now < 2 ^ 64 = e.well-formed.1.1.1.1.1.0.0 in
     omega arith
 
 after_quiet-requires : tie.Need-after_quiet-requires
 after_quiet-requires c κs =
     let at-start : tie.Start = search in
-    (counted at-start, at-start.requires.lines_ready_2.1.1.1.1.1.0)
+    (counted at-start, at-start.requires.1.1.1.1.1.1.0)
 
 returns-then-present-eq0 : tie.Need-returns-then-present-eq0
 returns-then-present-eq0 c =
@@ -101,7 +101,7 @@ returns-then-present-eq0 c =
     let still = zero_quiet j e.args.weights.now (layoutAt e) (trial_at b) (sym (present b) ∙ c.before.if-present-eq0.true) in (
       quiet_passed e.args.trials.now (layoutAt e) e.args.at _ (placed b).next_place-next.ensures j e.args.weights.now (trial_at b)
           (reading b).trial_at-trial.ensures r.result r.ensures still,
-      (ap (λ (s : DescentState). s.sum) r.ensures ∙ e.requires.lines_ready_2.1.1.1.0, (e.requires.lines_ready_2.1.0, e.requires.lines_ready_1)),
+      (ap (λ (s : DescentState). s.sum) r.ensures ∙ e.requires.1.1.1.1.0, (e.requires.1.1.0, e.requires.0)),
     )
 
 overflow_cast-present : tie.Need-overflow_cast-present
@@ -110,14 +110,14 @@ overflow_cast-present c =
     let e = entry b in
     let is = present b in
     let small =
-    present_small (lent e) e.requires.lines_ready_1.well e.args.weights.now e.requires.lines_ready_2.0 (layoutAt e) (trial_at b).piece (proper (reading b)).below in
+    present_small (lent e) e.requires.0.well e.args.weights.now e.requires.1.0 (layoutAt e) (trial_at b).piece (proper (reading b)).below in
     omega arith
 
 try_trial-requires : tie.Need-try_trial-requires
 try_trial-requires c κs =
     let at-row-sum : tie.After-row_sum-present = search in
     let e = entry at-row-sum in
-    (e.requires.lines_ready_1, (e.requires.lines_ready_2.0, (e.requires.lines_ready_2.1.0, (proper (reading at-row-sum), present at-row-sum))))
+    (e.requires.0, (e.requires.1.0, (e.requires.1.1.0, (proper (reading at-row-sum), present at-row-sum))))
 
 -- the present pair sum, from where the trial was taken
 abbrev summed : tie.After-try_trial → tie.After-row_sum-present
@@ -135,14 +135,14 @@ after : (c : tie.After-try_trial) (o : Option Best) → sought (summed c) ≡ o
 after c o found =
     let e = entry (summed c) in
     let k = trial_at (summed c) in
-    c.try_trial.ensures.memory.0
+    c.try_trial.ensures.1.0
     ∙ ap (entries_after e.args.layout.now k.piece k.turn (trial_line (layoutAt e) k)) found
 
 after_quiet-requires-in_default : tie.Need-after_quiet-requires-in_default
 after_quiet-requires-in_default c κs =
     let at-try-trial : tie.After-try_trial = search in
     let e = entry (summed at-try-trial) in
-    (counted e, e.requires.lines_ready_2.1.1.1.1.1.0)
+    (counted e, e.requires.1.1.1.1.1.1.0)
 
 -- ── the buffers are as long as before ──
 
@@ -180,14 +180,14 @@ returns-in_default c =
     let j = job_of (lent e) in
     let ws = e.args.weights.now in
     let r = c.after_quiet-in_default in
-    let nothing : sought b ≡ none = tried_quiet (sought b) (sym c.before.enum_told-1.given.1 ∙ at-try-trial.try_trial.ensures.answer) in
+    let nothing : sought b ≡ none = tried_quiet (sought b) (sym c.before.enum_told-1.given.1 ∙ at-try-trial.try_trial.ensures.0) in
     let same : left at-try-trial ≡ layoutAt e = ap layout_of (after at-try-trial none nothing) in
     let passed = quiet_passed e.args.trials.now (layoutAt e) e.args.at _ (placed b).next_place-next.ensures j ws (trial_at b)
     (reading b).trial_at-trial.ensures r.result r.ensures (trial_quiet j ws (layoutAt e) (trial_at b) nothing) in (
       ap (λ (w : Layout). standing_as w r.result) same ∙ passed,
       (
-        ap (λ (s : DescentState). s.sum) r.ensures ∙ e.requires.lines_ready_2.1.1.1.0 ∙ sym (ap (weighted_sum j ws) same),
-        (at-try-trial.try_trial.ensures.memory.1.0, at-try-trial.try_trial.ensures.memory.1.1),
+        ap (λ (s : DescentState). s.sum) r.ensures ∙ e.requires.1.1.1.1.0 ∙ sym (ap (weighted_sum j ws) same),
+        (at-try-trial.try_trial.ensures.1.1.0, at-try-trial.try_trial.ensures.1.1.1),
       ),
     )
 
@@ -197,7 +197,7 @@ place : (c : tie.In-Moved-2) →
     MovedTo (sought (summed (at-try-trial))) c.found-1.given.0.0
 place c =
     let at-try-trial : tie.After-try_trial = search in
-    tried_moved _ _ (sym c.found-1.given.1 ∙ at-try-trial.try_trial.ensures.answer)
+    tried_moved _ _ (sym c.found-1.given.1 ∙ at-try-trial.try_trial.ensures.0)
 
 overflow_sub-sum : tie.Need-overflow_sub-sum
 overflow_sub-sum c =
@@ -205,7 +205,7 @@ overflow_sub-sum c =
     let e = entry at-row-sum in
     let is = present at-row-sum in
     let most = piece_at_most (job_of (lent e)) e.args.weights.now (layoutAt e) (trial_at at-row-sum).piece in
-    let sum = e.requires.lines_ready_2.1.1.1.0 in
+    let sum = e.requires.1.1.1.1.0 in
     omega arith
 
 overflow_add-sum : tie.Need-overflow_add-sum
@@ -216,16 +216,16 @@ overflow_add-sum c =
     let m = place c.before in
     let is = present at-row-sum in
     let most = piece_at_most j e.args.weights.now (layoutAt e) (trial_at at-row-sum).piece in
-    let small = total_small (lent e) e.requires.lines_ready_1.well e.args.weights.now e.requires.lines_ready_2.0 (layoutAt e) in
-    let less = (trial_place j e.args.weights.now (layoutAt e) (trial_at at-row-sum) m.best m.found-1).1 in
-    let sum = e.requires.lines_ready_2.1.1.1.0 in
+    let small = total_small (lent e) e.requires.0.well e.args.weights.now e.requires.1.0 (layoutAt e) in
+    let less = (trial_place j e.args.weights.now (layoutAt e) (trial_at at-row-sum) m.best m.found).1 in
+    let sum = e.requires.1.1.1.1.0 in
     let least = m.sum in
     omega arith
 
 after_move-requires : tie.Need-after_move-requires
 after_move-requires c κs =
     let at-try-trial : tie.After-try_trial = search in
-    let n = (entry (summed at-try-trial)).requires.lines_ready_2.1.1.1.1 in (n.1.0, n.1.1.0)
+    let n = (entry (summed at-try-trial)).requires.1.1.1.1.1 in (n.1.0, n.1.1.0)
 
 returns : tie.Need-returns
 returns c =
@@ -237,18 +237,18 @@ returns c =
     let m = place c.before.before in
     let r = c.after_move in
     let there : left at-try-trial ≡ trial_moved (layoutAt e) (trial_at b) m.best.at =
-    moved_layout e.args.layout.now _ (trial_at b) m.best (after at-try-trial _ m.found-1) in
+    moved_layout e.args.layout.now _ (trial_at b) m.best (after at-try-trial _ m.found) in
     let took : attempt j ws (layoutAt e) (trial_at b) ≡ moved (left at-try-trial) =
-    trial_moved_lem j ws (layoutAt e) (trial_at b) m.best m.found-1 ∙ ap moved (sym there) in
+    trial_moved_lem j ws (layoutAt e) (trial_at b) m.best m.found ∙ ap moved (sym there) in
     let lowered : weighted_sum j ws (left at-try-trial) ≡ weighted_sum j ws (layoutAt e) - piece_sum j ws (layoutAt e) (trial_at b).piece + m.best.sum =
-    ap (weighted_sum j ws) there ∙ trial_sum j ws (layoutAt e) (trial_at b) m.best m.found-1 in
+    ap (weighted_sum j ws) there ∙ trial_sum j ws (layoutAt e) (trial_at b) m.best m.found in
     let now : r.result.sum ≡ e.args.at.sum - b.row_sum-present.result + c.before.before.found-1.given.0.0 = ap (λ (s : DescentState). s.sum) r.ensures in
     let is = present b in
-    let sum = e.requires.lines_ready_2.1.1.1.0 in
+    let sum = e.requires.1.1.1.1.0 in
     let least = m.sum in (
       moved_passed e.args.trials.now (layoutAt e) e.args.at _ (placed b).next_place-next.ensures j ws (trial_at b) (reading b).trial_at-trial.ensures
           (left at-try-trial) r.result _ r.ensures took,
-      (omega arith, (at-try-trial.try_trial.ensures.memory.1.0, at-try-trial.try_trial.ensures.memory.1.1)),
+      (omega arith, (at-try-trial.try_trial.ensures.1.1.0, at-try-trial.try_trial.ensures.1.1.1)),
     )
 
 pub step_spec : {M : Type 1} → statement M

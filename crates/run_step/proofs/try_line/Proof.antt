@@ -29,14 +29,14 @@ entriesBy e o = entries_after e.args.layout.now e.args.mover.piece e.args.mover.
 search_below-requires : tie.Need-search_below-requires
 search_below-requires c κs =
     let at-start : tie.Start = search in
-    (at-start.requires.fact_1, (at-start.requires.fact_2.1.0, (at-start.requires.fact_2.0, at-start.requires.fact_2.1.1.0)))
+    (at-start.requires.0, (at-start.requires.1.1.0, (at-start.requires.1.0, at-start.requires.1.1.1.0)))
 
 returns-in_default : tie.Need-returns-in_default
 returns-in_default c =
     let at-search-below : tie.After-search_below = search in
     let at-start : tie.Start = search in
-    let nothing : sought at-start ≡ none = found_nothing (sought at-start) (sym c.enum_told-1.given.1 ∙ at-search-below.search_below.ensures.found) in
-    (ap tried_answer (sym nothing), (ap (entriesBy at-start) (sym nothing), (at-start.requires.fact_2.1.1.1, at-search-below.search_below.ensures.ready)))
+    let nothing : sought at-start ≡ none = found_nothing (sought at-start) (sym c.enum_told-1.given.1 ∙ at-search-below.search_below.ensures.0) in
+    (ap tried_answer (sym nothing), (ap (entriesBy at-start) (sym nothing), (at-start.requires.1.1.1.1, at-search-below.search_below.ensures.1)))
 
 -- the entry, from where a place was found
 abbrev entry : tie.In-At-2 → tie.Start
@@ -50,7 +50,7 @@ coordinate c = c.sum-1.given.0.1.0
 found : (c : tie.In-At-2) → sought (entry c) ≡ some (best_at c.sum-1.given.0.0 (coordinate c))
 found c =
     let at-search-below : tie.After-search_below = search in
-    found_at (sought (entry c)) _ _ (sym c.sum-1.given.1 ∙ at-search-below.search_below.ensures.found)
+    found_at (sought (entry c)) _ _ (sym c.sum-1.given.1 ∙ at-search-below.search_below.ensures.0)
 
 -- it is one of the line's
 there : (c : tie.In-At-2)
@@ -62,14 +62,14 @@ renew_placed-requires c κs =
     let at_sum : tie.In-At-2 = search in
     let at-search-below : tie.After-search_below = search in
     let e = entry at_sum in
-    (at-search-below.search_below.ensures.ready, (e.requires.fact_2.1.0, ((e.requires.fact_2.1.1.0, there at_sum), e.requires.fact_2.1.1.1)))
+    (at-search-below.search_below.ensures.1, (e.requires.1.1.0, ((e.requires.1.1.1.0, there at_sum), e.requires.1.1.1.1)))
 
 place_on-requires : tie.Need-place_on-requires
 place_on-requires c κs =
     let at_sum : tie.In-At-2 = search in
     let e = entry at_sum in
     let below = there at_sum in
-    let few = places_few (lent e) e.requires.fact_1.well e.args.mover.piece e.args.mover.turn e.args.mover.line in
+    let few = places_few (lent e) e.requires.0.well e.args.mover.piece e.args.mover.turn e.args.mover.line in
     omega arith
 
 offset_bounds-layout-piece : tie.Need-offset_bounds-layout-piece
@@ -78,8 +78,8 @@ offset_bounds-layout-piece c =
     let at-search-below : tie.After-search_below = search in
     let at-shared-slice-known3 : tie.After-shared_slice_known-3-1 = search in
     let at-start : tie.Start = search in
-    let few = (facts (lent at-start) at-start.requires.fact_1.well).few_pieces in
-    let below = at-start.requires.fact_2.1.1.0 in
+    let few = (facts (lent at-start) at-start.requires.0.well).few_pieces in
+    let below = at-start.requires.1.1.1.0 in
     omega arith
 
 bounds-layout-piece : tie.Need-bounds-layout-piece
@@ -88,8 +88,8 @@ bounds-layout-piece c =
     let at-search-below : tie.After-search_below = search in
     let at-shared-slice-known3 : tie.After-shared_slice_known-3-1 = search in
     let at-start : tie.Start = search in
-    let whole = at-start.requires.fact_2.1.0.whole in
-    let below = at-start.requires.fact_2.1.1.0 in
+    let whole = at-start.requires.1.1.0.whole in
+    let below = at-start.requires.1.1.1.0 in
     omega arith
 
 -- the search, from where the table is renewed

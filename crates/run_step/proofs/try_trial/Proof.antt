@@ -14,19 +14,19 @@ lent e = lent_by e.args.run.size e.args.table.now e.args.pixels.now
 line_of-line-requires : tie.Need-line_of-line-requires
 line_of-line-requires c κs =
     let e : tie.Start = search in
-    let whole = laid_length (lent e) e.args.layout.now e.args.penalties.now e.requires.fact_2.1.0 in
-    let below = e.requires.fact_2.1.1.0.below in
+    let whole = laid_length (lent e) e.args.layout.now e.args.penalties.now e.requires.1.1.0 in
+    let below = e.requires.1.1.1.0.below in
     omega arith
 
 try_line-requires : tie.Need-try_line-requires
 try_line-requires c κs =
     let e : tie.Start = search in (
-      e.requires.fact_1,
+      e.requires.0,
       (
-        e.requires.fact_2.0,
+        e.requires.1.0,
         (
-          laid_of (lent e) e.args.layout.now e.args.penalties.now e.requires.fact_1.well e.requires.fact_2.1.0,
-          (e.requires.fact_2.1.1.0.below, e.requires.fact_2.1.0.table),
+          laid_of (lent e) e.args.layout.now e.args.penalties.now e.requires.0.well e.requires.1.1.0,
+          (e.requires.1.1.1.0.below, e.requires.1.1.0.table),
         ),
       ),
     )
@@ -43,13 +43,13 @@ returns c =
     let k = trial_as e.args.trial in
     let t = x.try_line in
     let f = y.Line-of in
-    let sum = e.requires.fact_2.1.1.1 in
+    let sum = e.requires.1.1.1.1 in
     let wrote = entries_same j ws es k f.result e.args.present f.ensures sum _ t.ensures.1.0 in (
       t.ensures.0 ∙ ap tried_answer (search_same j ws es k f.result e.args.present f.ensures sum),
       (
         wrote,
         (
-          after_laid (lent e) ws es e.args.penalties.now k e.requires.fact_2.1.1.0 e.requires.fact_2.1.0 _ _ wrote t.ensures.1.1.0,
+          after_laid (lent e) ws es e.args.penalties.now k e.requires.1.1.1.0 e.requires.1.1.0 _ _ wrote t.ensures.1.1.0,
           t.ensures.1.1.1,
         ),
       ),

@@ -47,14 +47,14 @@ returns c =
     let other : tie.Else-is_locked = free zero in
     let asked : tie.After-is_locked = other.before in
     let at-start : tie.Start = begun asked in
-    let a = zero.add_turn-zero.ensures.few in
-    let b = quarter.add_turn-quarter.ensures.few in
-    let d = half.add_turn-half.ensures.few in
-    let e = last.add_turn.ensures.few in (
+    let a = zero.add_turn-zero.ensures.1 in
+    let b = quarter.add_turn-quarter.ensures.1 in
+    let d = half.add_turn-half.ensures.1 in
+    let e = last.add_turn.ensures.1 in (
       λ size pixels. piece_added (job_of (lent_by size at-start.args.table.now pixels)) at-start.args.i
           (trials_of (take at-start.args.at at-start.args.store.now)) _ _ _ _ (sym asked.is_locked.ensures ∙ other.if-is_locked.false)
-          (zero.add_turn-zero.ensures.listed size pixels) (quarter.add_turn-quarter.ensures.listed size pixels) (half.add_turn-half.ensures.listed size pixels)
-          (last.add_turn.ensures.listed size pixels),
+          (zero.add_turn-zero.ensures.0 size pixels) (quarter.add_turn-quarter.ensures.0 size pixels) (half.add_turn-half.ensures.0 size pixels)
+          (last.add_turn.ensures.0 size pixels),
       omega arith,
     )
 

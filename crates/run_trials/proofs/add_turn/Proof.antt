@@ -23,7 +23,7 @@ asked c size pixels =
 bounds-store-at-then-allowed : tie.Need-bounds-store-at-then-allowed
 bounds-store-at-then-allowed c =
     let at-start : tie.Start = search in
-    let room = at-start.requires.fact_2 in
+    let room = at-start.requires.1 in
     rw length-set (omega arith)
 
 returns-then-allowed : tie.Need-returns-then-allowed
@@ -34,8 +34,8 @@ returns-then-allowed c =
     let at-code-of : tie.After-code_of = search in
     let at-start : tie.Start = search in (
       λ size pixels. turn_added (job_of (lent_by size at-start.args.table.now pixels)) at-start.args.i (turn_at at-start.args.turn)
-          at-start.args.store.now at-start.args.at _ _ at-start.requires.fact_2 (sym (asked at-allowed size pixels) ∙ at-then1.if-allowed.true)
-          at-code-of.code_of_lem.ensures c.code_of-then-allowed.ensures,
+          at-start.args.store.now at-start.args.at _ _ at-start.requires.1 (sym (asked at-allowed size pixels) ∙ at-then1.if-allowed.true)
+          at-code-of.code_of.ensures c.code_of-then-allowed.ensures,
       omega arith,
     )
 

@@ -28,9 +28,9 @@ add_piece-count-requires c κs =
     let below = inside.loop-i-test.true in
     let most = at-loop.loop-i.invariant.1 in
     let same = at-loop.loop-i.invariant.2 in
-    let whole = at-start.requires.fact_1.0 in
-    let pieces = at-start.requires.fact_1.1 in
-    let room = at-start.requires.fact_2 in
+    let whole = at-start.requires.0.0 in
+    let pieces = at-start.requires.0.1 in
+    let room = at-start.requires.1 in
     ((omega arith, omega arith), omega arith)
 
 overflow_add-i : tie.Need-overflow_add-i invariant-loop-i decreases-loop-i
@@ -38,7 +38,7 @@ overflow_add-i c =
     let at-start : tie.Start invariant-loop-i decreases-loop-i = search in
     let inside : tie.In-loop-i invariant-loop-i decreases-loop-i = search in
     let below = inside.loop-i-test.true in
-    let pieces = at-start.requires.fact_1.1 in
+    let pieces = at-start.requires.0.1 in
     omega arith
 
 loop-i-smaller : tie.Need-loop-i-smaller invariant-loop-i decreases-loop-i
@@ -56,12 +56,12 @@ loop-i-preserved c =
     let added : tie.After-add_piece-count invariant-loop-i decreases-loop-i = search in
     let below = inside.loop-i-test.true in
     let most = at-loop.loop-i.invariant.1 in
-    let few = added.add_piece-count.ensures.few in (
+    let few = added.add_piece-count.ensures.1 in (
       omega arith,
       omega arith,
       added.add_piece-count.auto.1.1.0 ∙ at-loop.loop-i.invariant.2,
       λ pixels. growing_more _ (trials_of (take at-loop.loop-i.count at-loop.loop-i.store)) _ at-loop.loop-i.i below (at-loop.loop-i.invariant.3 pixels)
-          (added.add_piece-count.ensures.listed at-start.args.size pixels),
+          (added.add_piece-count.ensures.0 at-start.args.size pixels),
     )
 
 shape_of-store : tie.Need-shape_of-store invariant-loop-i decreases-loop-i
@@ -75,7 +75,7 @@ returns c =
     let inside = at-loop.loop-i.invariant.0 in
     let most = at-loop.loop-i.invariant.1 in
     let over = c.loop-i-test.false in
-    let pieces = at-start.requires.fact_1.1 in
+    let pieces = at-start.requires.0.1 in
     let done : at-loop.loop-i.i ≡ at-start.args.size.count = omega arith in
     (λ pixels. growing_end _ _ at-loop.loop-i.i done (at-loop.loop-i.invariant.3 pixels), omega arith)
 

@@ -13,9 +13,9 @@ keep_line-requires : tie.Need-keep_line-requires
 keep_line-requires c κs =
     let e : tie.Start = search in
     let a = e.args in (
-      line_asked (lent e) a.run a.strips.now a.starts.now a.lines-1.now a.maps-1.now a.sweep.mover a.sweep.track a.standing a.k
-          e.requires.fact_1 e.requires.fact_2.0 e.requires.fact_2.1.0.0 e.requires.fact_2.1.0.1.1 e.requires.fact_2.1.1,
-      (e.requires.fact_1.fit, e.requires.fact_1.kept),
+      line_asked (lent e) a.run a.strips.now a.starts.now a.lines.now a.maps.now a.sweep.mover a.sweep.track a.standing a.k
+          e.requires.0 e.requires.1.0 e.requires.1.1.0.0 e.requires.1.1.0.1.1 e.requires.1.1.1,
+      (e.requires.0.fit, e.requires.0.kept),
     )
 
 returns : tie.Need-returns
@@ -25,12 +25,12 @@ returns c =
     let e : tie.Start = search in
     let a = e.args in
     let x = k.keep_line in (
-      line_read_lem (lent e) a.run a.strips.now a.starts.now a.lines-1.now a.maps-1.now a.sweep.mover a.sweep.track a.standing a.k
-          e.requires.fact_1 e.requires.fact_2.0 e.requires.fact_2.1.0.0 d.direction_of.result d.direction_of.ensures e.requires.fact_2.1.0.1.0 _
+      line_read_lem (lent e) a.run a.strips.now a.starts.now a.lines.now a.maps.now a.sweep.mover a.sweep.track a.standing a.k
+          e.requires.0 e.requires.1.0 e.requires.1.1.0.0 d.direction_of.result d.direction_of.ensures e.requires.1.1.0.1.0 _
           x.result x.ensures.0
           x.ensures.1.0,
-      line_ready (lent e) a.run a.strips.now a.starts.now a.lines-1.now a.maps-1.now a.sweep.mover a.sweep.track a.standing a.k
-          e.requires.fact_1 e.requires.fact_2.0 e.requires.fact_2.1.0.0 _ _ x.ensures.1.1.0 x.ensures.1.1.1,
+      line_ready (lent e) a.run a.strips.now a.starts.now a.lines.now a.maps.now a.sweep.mover a.sweep.track a.standing a.k
+          e.requires.0 e.requires.1.0 e.requires.1.1.0.0 _ _ x.ensures.1.1.0 x.ensures.1.1.1,
     )
 
 pub line_with_spec : {M : Type 1} → statement M

@@ -11,7 +11,7 @@ use Rattle.search_beside.proofs.near_bit.Tie as tie
 meets_across-requires : tie.Need-meets_across-requires
 meets_across-requires c κs =
     let at-start : tie.Start = search in
-    (at-start.requires.fact_1, (c.beside-standing.ensures []).small)
+    (at-start.requires.0, (c.beside-standing.ensures []).small)
 
 returns-then-meets_across : tie.Need-returns-then-meets_across
 returns-then-meets_across c = (omega arith, λ pixels track e. absurd (omega arith))

@@ -23,15 +23,15 @@ near_bit-requires : tie.Need-near_bit-requires invariant-loop-k decreases-loop-k
 near_bit-requires c κs =
     let at-start : tie.Start invariant-loop-k decreases-loop-k = search in
     let at_in : tie.In-loop-k invariant-loop-k decreases-loop-k = search in
-    let p = at-start.requires.fact_2.0 in
+    let p = at-start.requires.1.0 in
     let t = at_in.loop-k-test.true in
-    (at-start.requires.fact_1, ((omega arith, omega arith), at-start.requires.fact_2.1))
+    (at-start.requires.0, ((omega arith, omega arith), at-start.requires.1.1))
 
 overflow_shl-near : tie.Need-overflow_shl-near invariant-loop-k decreases-loop-k
 overflow_shl-near c =
     let at-start : tie.Start invariant-loop-k decreases-loop-k = search in
     let at_in : tie.In-loop-k invariant-loop-k decreases-loop-k = search in
-    let p = at-start.requires.fact_2.0 in
+    let p = at-start.requires.1.0 in
     let t = at_in.loop-k-test.true in
     omega arith
 
@@ -39,7 +39,7 @@ overflow_add-k : tie.Need-overflow_add-k invariant-loop-k decreases-loop-k
 overflow_add-k c =
     let at-start : tie.Start invariant-loop-k decreases-loop-k = search in
     let at_in : tie.In-loop-k invariant-loop-k decreases-loop-k = search in
-    let p = at-start.requires.fact_2.0 in
+    let p = at-start.requires.1.0 in
     let t = at_in.loop-k-test.true in
     omega arith
 
@@ -58,7 +58,7 @@ loop-k-preserved c =
     let a = at-start.args in
     let o = at-loop.loop-k in
     let t = at_in.loop-k-test.true in
-    let p = at-start.requires.fact_2.0 in
+    let p = at-start.requires.1.0 in
     let b = at-near-bit.near_bit in (
       omega arith,
       λ pixels on.

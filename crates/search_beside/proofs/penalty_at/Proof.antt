@@ -14,7 +14,7 @@ beside-standing-requires c κs =
     let at-start : tie.Start = search in
     let a = at-start.args in
     let l = lent_by a.run.size a.table.now a.pixels.now in
-    (piece_entries l a.layout.now a.k at-start.requires.fact_2.0 at-start.requires.fact_2.1.1.0.0, (facts l at-start.requires.fact_1.well).small_gap)
+    (piece_entries l a.layout.now a.k at-start.requires.1.0 at-start.requires.1.1.1.0.0, (facts l at-start.requires.0.well).small_gap)
 
 reach_of-reach-requires : tie.Need-reach_of-reach-requires
 reach_of-reach-requires c κs =
@@ -22,7 +22,7 @@ reach_of-reach-requires c κs =
     let a = at-start.args in
     let l = lent_by a.run.size a.table.now a.pixels.now in
     let b = c.beside-standing in
-    (at-start.requires.fact_2.1.0.small, ((b.ensures a.pixels.now).small, at-start.requires.fact_2.1.0.some))
+    (at-start.requires.1.1.0.small, ((b.ensures a.pixels.now).small, at-start.requires.1.1.0.some))
 
 returns-then-at-low : tie.Need-returns-then-at-low
 returns-then-at-low c =
@@ -32,9 +32,9 @@ returns-then-at-low c =
     let b = c.before.before.beside-standing in
     let r = c.before.reach_of-reach in (
       sym (outside_zero l (layout_of a.layout.now) a.sweep.mover a.sweep.track b.result a.k
-          at-start.requires.fact_2.1.0 (b.ensures a.pixels.now)
-          r.result r.ensures a.at at-start.requires.fact_2.1.1.1 (inl c.if-at-low.true)),
-      at-start.requires.fact_1,
+          at-start.requires.1.1.0 (b.ensures a.pixels.now)
+          r.result r.ensures a.at at-start.requires.1.1.1.1 (inl c.if-at-low.true)),
+      at-start.requires.0,
     )
 
 returns-then-high-at : tie.Need-returns-then-high-at
@@ -46,9 +46,9 @@ returns-then-high-at c =
     let b = at-beside.beside-standing in
     let r = c.before.before.reach_of-reach in (
       sym (outside_zero l (layout_of a.layout.now) a.sweep.mover a.sweep.track b.result a.k
-          at-start.requires.fact_2.1.0 (b.ensures a.pixels.now)
-          r.result r.ensures a.at at-start.requires.fact_2.1.1.1 (inr c.if-high-at.true)),
-      at-start.requires.fact_1,
+          at-start.requires.1.1.0 (b.ensures a.pixels.now)
+          r.result r.ensures a.at at-start.requires.1.1.1.1 (inr c.if-high-at.true)),
+      at-start.requires.0,
     )
 
 -- the entry, from where it is known which pieces stand beside the line
@@ -69,7 +69,7 @@ line_with-slot-requires c κs =
     let at-else2 : tie.Else-high-at = search in
     let high = at-else2.if-high-at.false in
     let t = r.ensures.touching (omega arith) in
-    (at-start.requires.fact_1, (at-start.requires.fact_2.1.0, ((at-start.requires.fact_2.1.1.0.0, (t.lifted, t.near)), at-start.requires.fact_2.1.1.0.1)))
+    (at-start.requires.0, (at-start.requires.1.1.0, ((at-start.requires.1.1.1.0.0, (t.lifted, t.near)), at-start.requires.1.1.1.0.1)))
 
 -- the entry and the reach, from where the line stands
 abbrev entry : tie.After-line_with-slot → tie.Start
@@ -99,7 +99,7 @@ within c =
     let high = at-else2.if-high-at.false in
     let t = r.ensures.touching (omega arith) in
     let w = c.line_with-slot in
-    let h = reach_within l (layout_of a.layout.now) a.sweep.mover a.sweep.track b.result a.k r.result (line c) w.result e.requires.fact_2.1.0
+    let h = reach_within l (layout_of a.layout.now) a.sweep.mover a.sweep.track b.result a.k r.result (line c) w.result e.pre.1.1.0
     (b.ensures a.pixels.now) t (w.ensures.0 _ (b.ensures a.pixels.now)) in
     (omega arith, w.ensures.1.fit.fits)
 
@@ -132,10 +132,10 @@ read c =
     let t = r.ensures.touching (omega arith) in
     let w = c.line_with-slot in
     reach_at l (layout_of a.layout.now) a.sweep.mover a.sweep.track b.result a.k r.result (line c) w.result
-    e.requires.fact_2.1.0 (b.ensures a.pixels.now) t (w.ensures.0 _ (b.ensures a.pixels.now)) a.at low high
+    e.pre.1.1.0 (b.ensures a.pixels.now) t (w.ensures.0 _ (b.ensures a.pixels.now)) a.at low high
 
 returns : tie.Need-returns
-returns c = let at-line-with : tie.After-line_with-slot = search in (read at-line-with, at-line-with.line_with-slot.ensures.ready)
+returns c = let at-line-with : tie.After-line_with-slot = search in (read at-line-with, at-line-with.line_with-slot.ensures.1)
 
 pub penalty_at_spec : {M : Type 1} → statement M
 penalty_at_spec =

@@ -23,7 +23,7 @@ decreases-loop-k run table pixels strips starts layout sweep at lines₀ maps₀
 loop-k-init : tie.Need-loop-k-init invariant-loop-k decreases-loop-k
 loop-k-init c =
     let at-start : tie.Start invariant-loop-k decreases-loop-k = search in
-    (omega arith, refl, refl, refl, at-start.requires.fact_2.1.1.1, at-start.requires.fact_1)
+    (omega arith, refl, refl, refl, at-start.requires.1.1.1.1, at-start.requires.0)
 
 renew_other-requires : tie.Need-renew_other-requires invariant-loop-k decreases-loop-k
 renew_other-requires c κs =
@@ -31,13 +31,13 @@ renew_other-requires c κs =
     let at-loop : tie.At-loop-k invariant-loop-k decreases-loop-k = search in
     let at-start : tie.Start invariant-loop-k decreases-loop-k = search in
     let p = at-loop.loop-k in
-    (p.invariant.5, (at-start.requires.fact_2.0, (at-start.requires.fact_2.1.0, ((at_in.loop-k-test.true, at-start.requires.fact_2.1.1.0), p.invariant.4))))
+    (p.invariant.5, (at-start.requires.1.0, (at-start.requires.1.1.0, ((at_in.loop-k-test.true, at-start.requires.1.1.1.0), p.invariant.4))))
 
 overflow_add-k : tie.Need-overflow_add-k invariant-loop-k decreases-loop-k
 overflow_add-k c =
     let at_in : tie.In-loop-k invariant-loop-k decreases-loop-k = search in
     let at-start : tie.Start invariant-loop-k decreases-loop-k = search in
-    let t = at_in.loop-k-test.true in omega (arith, (facts _ at-start.requires.fact_1.well).few_pieces)
+    let t = at_in.loop-k-test.true in omega (arith, (facts _ at-start.requires.0.well).few_pieces)
 
 loop-k-smaller : tie.Need-loop-k-smaller invariant-loop-k decreases-loop-k
 loop-k-smaller c =
@@ -77,7 +77,7 @@ returns c =
     let done : p.k ≡ a.run.size.count = (let t = c.loop-k-test.false in let b = p.invariant.0 in omega arith) in (
       subst (λ k.
           Renewed (job_of (lent_by a.run.size a.table.now a.pixels.now)) (layout_of a.layout.now) a.run.size.count a.sweep.mover.piece
-          (on_line a.sweep.mover.line a.sweep.mover.turn a.at) k p.penalties-1) done p.invariant.4,
+          (on_line a.sweep.mover.line a.sweep.mover.turn a.at) k p.penalties) done p.invariant.4,
       p.invariant.5,
     )
 

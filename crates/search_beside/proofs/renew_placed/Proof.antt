@@ -15,7 +15,7 @@ track_of-track-requires c κs =
     let at-start : tie.Start = search in
     let a = at-start.args in
     let l = lent_by a.run.size a.table.now a.pixels.now in
-    track_asked l a.mover.piece at-start.requires.fact_1.well at-start.requires.fact_2.1.0.0
+    track_asked l a.mover.piece at-start.requires.0.well at-start.requires.1.1.0.0
 
 renew_others-requires : tie.Need-renew_others-requires
 renew_others-requires c κs =
@@ -24,17 +24,17 @@ renew_others-requires c κs =
     let a = at-start.args in
     let l = lent_by a.run.size a.table.now a.pixels.now in
     let t = at-track-of.track_of-track in
-    let o = on_track l a.mover t.result at-start.requires.fact_1.well at-start.requires.fact_2.1.0.0 (t.ensures.0 a.pixels.now) t.ensures.1 in
+    let o = on_track l a.mover t.result at-start.requires.0.well at-start.requires.1.1.0.0 (t.ensures.0 a.pixels.now) t.ensures.1 in
     let p = ap (λ (z : Track). z.places) o.is in (
-      at-start.requires.fact_1,
+      at-start.requires.0,
       (
-        at-start.requires.fact_2.0,
+        at-start.requires.1.0,
         (
           o,
           (
-            subst (λ (n : ℕ). a.at < n) (sym p) at-start.requires.fact_2.1.0.1,
+            subst (λ (n : ℕ). a.at < n) (sym p) at-start.requires.1.1.0.1,
             renewed_begin (job_of l) (layout_of a.layout.now) a.run.size.count a.mover.piece (on_line a.mover.line a.mover.turn a.at)
-                a.penalties-1.now at-start.requires.fact_2.1.1,
+                a.penalties.now at-start.requires.1.1.1,
           ),
         ),
       ),
@@ -49,7 +49,7 @@ returns c =
     let x = at-renew-others.renew_others in (
       renewed_end (job_of l) (layout_of a.layout.now) a.run.size.count a.mover.piece (on_line a.mover.line a.mover.turn a.at)
           x.last.1.1.1.1.1.1.1.1.1.1.0
-          (mover_placed l a.layout.now a.mover.piece at-start.requires.fact_2.0 at-start.requires.fact_2.1.0.0) x.ensures.0,
+          (mover_placed l a.layout.now a.mover.piece at-start.requires.1.0 at-start.requires.1.1.0.0) x.ensures.0,
       x.ensures.1,
     )
 

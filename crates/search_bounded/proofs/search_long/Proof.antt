@@ -13,7 +13,7 @@ lent e = lent_by e.args.run.size e.args.table.now e.args.pixels.now
 
 -- the array has room
 room : (e : tie.Start) → e.args.wanted.sweep.track.places ≤ 4096
-room e = places_most (lent e) e.args.wanted.sweep.mover e.args.wanted.sweep.track e.requires.fact_2.1.1
+room e = places_most (lent e) e.args.wanted.sweep.mover e.args.wanted.sweep.track e.requires.1.1.1
 
 slice_bounds-search_over-end : tie.Need-slice_bounds-search_over-end
 slice_bounds-search_over-end c = let e : tie.Start = search in sym (repeated_front e.args.wanted.sweep.track.places 4096 _ (room e))
@@ -21,13 +21,13 @@ slice_bounds-search_over-end c = let e : tie.Start = search in sym (repeated_fro
 search_over-requires : tie.Need-search_over-requires
 search_over-requires c κs =
     let e : tie.Start = search in (
-      e.requires.fact_1,
+      e.requires.0,
       (
-        e.requires.fact_2.0,
+        e.requires.1.0,
         (
-          e.requires.fact_2.1.0,
+          e.requires.1.1.0,
           (
-            e.requires.fact_2.1.1,
+            e.requires.1.1.1,
             (
               repeated_front e.args.wanted.sweep.track.places 4096 _ (room e),
               λ a. cleared_zero e.args.wanted.sweep.track.places 4096 a (room e),

@@ -16,13 +16,13 @@ add_others-requires : tie.Need-add_others-requires
 add_others-requires c κs =
     let e : tie.Start = search in
     let a = e.args in
-    let o = e.requires.fact_2.1.1.0 in
-    let s = e.requires.fact_2.1.1.1 in (
-      e.requires.fact_1,
+    let o = e.requires.1.1.1.0 in
+    let s = e.requires.1.1.1.1 in (
+      e.requires.0,
       (
-        e.requires.fact_2.0,
+        e.requires.1.0,
         (
-          e.requires.fact_2.1.0,
+          e.requires.1.1.0,
           (
             o,
             summed_none (lent e) a.weights.now (layout_of a.layout.now) a.wanted.sweep.mover a.wanted.sweep.track a.wanted.bound _ o
@@ -37,8 +37,8 @@ least_below-requires c κs =
     let x : tie.After-add_others = search in
     let e : tie.Start = search in
     let added = x.add_others.auto.1.1.1.1.1.1.1.1.1.1.0 in
-    let places = e.requires.fact_2.1.1.1.0 in
-    let most = places_most (lent e) e.args.wanted.sweep.mover e.args.wanted.sweep.track e.requires.fact_2.1.1.0 in
+    let places = e.requires.1.1.1.1.0 in
+    let most = places_most (lent e) e.args.wanted.sweep.mover e.args.wanted.sweep.track e.requires.1.1.1.0 in
     omega arith
 
 -- the entry, from where all are added
@@ -54,7 +54,7 @@ returns c =
       c.least_below.ensures
           ∙ ap found_answer
           (summed_found (lent e) a.weights.now a.layout.now a.wanted.sweep.mover a.wanted.bound x.last.1.1.1.1.1.1.1.1.1.1.0
-          e.requires.fact_2.0 e.requires.fact_2.1.0 e.requires.fact_2.1.1.0.piece x.ensures.0),
+          e.requires.1.0 e.requires.1.1.0 e.requires.1.1.1.0.piece x.ensures.0),
       x.ensures.1,
     )
 

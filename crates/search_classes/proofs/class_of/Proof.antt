@@ -14,8 +14,8 @@ decreases-loop-k size table pixels i k₀ k = i - k
 equal_pieces-requires : tie.Need-equal_pieces-requires invariant-loop-k decreases-loop-k
 equal_pieces-requires c κs =
     let e : tie.Start invariant-loop-k decreases-loop-k = search in
-    let n = e.requires.fact_2 in
-    (e.requires.fact_1, (n, omega arith))
+    let n = e.requires.1 in
+    (e.requires.0, (n, omega arith))
 
 returns-then-equal_pieces : tie.Need-returns-then-equal_pieces invariant-loop-k decreases-loop-k
 returns-then-equal_pieces c =

@@ -11,10 +11,10 @@ lent c = lent_by c.args.size c.args.table.now c.args.pixels.now
 
 -- both pieces are there
 first : (e : tie.Start) → Stored (lent e) e.args.i
-first e = stored (lent e) e.args.i e.requires.fact_1 e.requires.fact_2.0
+first e = stored (lent e) e.args.i e.requires.0 e.requires.1.0
 
 second : (e : tie.Start) → Stored (lent e) e.args.k
-second e = stored (lent e) e.args.k e.requires.fact_1 e.requires.fact_2.1
+second e = stored (lent e) e.args.k e.requires.0 e.requires.1.1
 
 columns_of-requires : tie.Need-columns_of-requires
 columns_of-requires c κs = let e : tie.Start = search in let f = (first e).entry in let s = (second e).entry in omega arith
@@ -59,7 +59,7 @@ rows : (c : tie.Else-rows_of) → entry_rows (entry c).args.table.now (entry c).
 rows c =
     let a : tie.After-rows_of = search in
     let b : tie.After-rows_of-2 = search in
-    sym a.rows_of_lem.ensures.0 ∙ c.if-rows_of.false ∙ b.rows_of-2.ensures.0
+    sym a.rows_of.ensures.0 ∙ c.if-rows_of.false ∙ b.rows_of-2.ensures.0
 
 -- so do the areas
 areas : (c : tie.Else-rows_of) → entry_area (entry c).args.table.now (entry c).args.i ≡ entry_area (entry c).args.table.now (entry c).args.k

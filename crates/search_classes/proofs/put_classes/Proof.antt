@@ -26,14 +26,14 @@ loop-i-init : tie.Need-loop-i-init invariant-loop-i decreases-loop-i
 loop-i-init c = (omega arith, refl, pass_none _ _)
 
 class_of-requires : tie.Need-class_of-requires invariant-loop-i decreases-loop-i
-class_of-requires c κs = let e : tie.Start invariant-loop-i decreases-loop-i = search in (e.requires.fact_1, c.loop-i-test.true)
+class_of-requires c κs = let e : tie.Start invariant-loop-i decreases-loop-i = search in (e.requires.0, c.loop-i-test.true)
 
 bounds-words-i : tie.Need-bounds-words-i invariant-loop-i decreases-loop-i
 bounds-words-i c =
     let e : tie.Start invariant-loop-i decreases-loop-i = search in
     let at : tie.At-loop-i invariant-loop-i decreases-loop-i = search in
     let n = at.loop-i.invariant.1 in
-    let room = e.requires.fact_2 in
+    let room = e.requires.1 in
     omega arith
 
 loop-i-preserved : tie.Need-loop-i-preserved invariant-loop-i decreases-loop-i
@@ -41,7 +41,7 @@ loop-i-preserved c =
     let e : tie.Start invariant-loop-i decreases-loop-i = search in
     let at : tie.At-loop-i invariant-loop-i decreases-loop-i = search in
     let n = at.loop-i.invariant.1 in
-    let room = e.requires.fact_2 in
+    let room = e.requires.1 in
     let p = pass_set (ClassOf (job_of (lent e))) _ at.loop-i.words at.loop-i.i c.class_of.result
     (omega arith) c.class_of.ensures at.loop-i.invariant.2 in
     (omega arith, p.same, p)

@@ -11,7 +11,7 @@ fall-requires : tie.Need-fall-requires
 fall-requires c κs =
     let at-start : tie.Start = search in
     let at-sides-line : tie.After-sides_line = search in
-    omega (arith, at-sides-line.sides_line.ensures.same, at-start.requires.fact_2.1.1)
+    omega (arith, at-sides-line.sides_line.ensures.same, at-start.requires.1.1.1)
 
 returns : tie.Need-returns
 returns c =
@@ -20,7 +20,7 @@ returns c =
     let at-fall : tie.After-fall = search in
     let a = at-start.args in
     let h = at-start.requires in
-    column_done a.ws.now a.w a.p a.line-1.now _ _ at-sides-line.sides_line.ensures at-fall.fall.ensures h.1.0 h.1.1.0
+    column_done a.ws.now a.w a.p a.line.now _ _ at-sides-line.sides_line.ensures at-fall.fall.ensures h.1.0 h.1.1.0
 
 pub column_line_spec : {M : Type 1} → statement M
 column_line_spec = tie.close (tie.spec

@@ -24,7 +24,7 @@ loop-y-init c =
       omega arith,
       omega arith,
       omega arith,
-      under_start a.ws.now a.w a.p at-start.requires.fact_2.0.floor,
+      under_start a.ws.now a.w a.p at-start.requires.1.0.floor,
       pass_none (sides_at a.ws.now a.w a.p) a.line.now,
     )
 
@@ -38,7 +38,7 @@ few c =
     let at-start : tie.Start invariant-loop-y decreases-loop-y = search in
     let o = c.before.loop-y in
     let e = o.invariant.4.same in
-    (o.invariant.2, omega (arith, c.loop-y-test.true), omega (arith, at-start.requires.fact_2.1))
+    (o.invariant.2, omega (arith, c.loop-y-test.true), omega (arith, at-start.requires.1.1))
 
 overflow_add-n : tie.Need-overflow_add-n invariant-loop-y decreases-loop-y
 overflow_add-n c = let at_in : tie.In-loop-y invariant-loop-y decreases-loop-y = search in omega (arith, few at_in)
@@ -48,7 +48,7 @@ row_gap-v-requires c κs =
     let at-start : tie.Start invariant-loop-y decreases-loop-y = search in
     let at_in : tie.In-loop-y invariant-loop-y decreases-loop-y = search in
     let o = at_in.before.loop-y in
-    subst (Walled at-start.args.ws.now) (sym o.invariant.1) (at-start.requires.fact_1.each o.y (omega (arith, few at_in)))
+    subst (Walled at-start.args.ws.now) (sym o.invariant.1) (at-start.requires.0.each o.y (omega (arith, few at_in)))
 
 overflow_cast-v : tie.Need-overflow_cast-v invariant-loop-y decreases-loop-y
 overflow_cast-v c = let at-smaller : tie.After-smaller invariant-loop-y decreases-loop-y = search in omega (arith, c.row_gap-v.ensures.few, at-smaller.smaller.ensures)
@@ -65,7 +65,7 @@ overflow_add-q c =
     let a = at-start.args in
     let l : (o.y + 1) * a.w ≤ length a.line.now * a.w = mul-le-mul_right a.w (few at_in).1 in
     let m : (o.y + 1) * a.w ≡ o.y * a.w + a.w = omega arith in
-    omega (arith, o.invariant.1, at-start.requires.fact_1.small)
+    omega (arith, o.invariant.1, at-start.requires.0.small)
 
 overflow_add-y : tie.Need-overflow_add-y invariant-loop-y decreases-loop-y
 overflow_add-y c = let at_in : tie.In-loop-y invariant-loop-y decreases-loop-y = search in omega (arith, few at_in)

@@ -51,7 +51,7 @@ loop-k-preserved c =
     let a = at-start.args in
     let o = at_in.before.loop-k in
     let n = c.before.before.widen_next.ensures in
-    let g = grown_more a.ws-1.now a.size o.ws-1 _ o.k o.from o.s o.invariant.1 o.invariant.2 o.invariant.4 n in
+    let g = grown_more a.ws.now a.size o.ws _ o.k o.from o.s o.invariant.1 o.invariant.2 o.invariant.4 n in
     (omega arith, omega arith, omega (arith, doubled o.k), g.same, g)
 
 shape_of-ws : tie.Need-shape_of-ws invariant-loop-k decreases-loop-k
@@ -63,7 +63,7 @@ returns c =
     let a = at-start.args in
     let o = c.before.loop-k in
     let l = at-start.requires.some in
-    subst (λ (n : ℕ). Grown a.ws-1.now a.size n o.ws-1) (omega arith) o.invariant.4
+    subst (λ (n : ℕ). Grown a.ws.now a.size n o.ws) (omega arith) o.invariant.4
 
 pub widen_levels_spec : {M : Type 1} → statement M
 widen_levels_spec =

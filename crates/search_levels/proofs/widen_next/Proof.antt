@@ -9,7 +9,7 @@ returns c =
     let at-start : tie.Start = search in
     let at-copy-words : tie.After-copy_words = search in
     let a = at-start.args in
-    next_from a.ws-1.now _ _ a.from a.size a.s at-copy-words.copy_words.ensures c.before.before.or_within.ensures
+    next_from a.ws.now _ _ a.from a.size a.s at-copy-words.copy_words.ensures c.before.before.or_within.ensures
 
 pub widen_next_spec : {M : Type 1} → statement M
 widen_next_spec = tie.close (tie.spec

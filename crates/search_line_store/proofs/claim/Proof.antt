@@ -5,7 +5,7 @@ use Rattle.search_line_store.proofs.claim.Statement.{statement}
 use Rattle.search_line_store.proofs.claim.Tie as tie
 
 free_units-place-requires : tie.Need-free_units-place-requires
-free_units-place-requires c κs = let at-start : tie.Start = search in (at-start.requires.fact_1, at-start.requires.fact_2.1)
+free_units-place-requires c κs = let at-start : tie.Start = search in (at-start.requires.0, at-start.requires.1.1)
 
 returns-then-units-units_of : tie.Need-returns-then-units-units_of
 returns-then-units-units_of c =
@@ -15,7 +15,7 @@ returns-then-units-units_of c =
     let a = at-start.args in
     let own : tie.Then-units-units_of = search in
     let units = at-units.units_of.ensures.0 in
-    rw at-begin.begin_of.ensures (claim_own a.slots a.slot a.units a.bytes-1.now at-start.requires.fact_1 (omega (arith, own.if-units-units_of.true)))
+    rw at-begin.begin_of.ensures (claim_own a.slots a.slot a.units a.bytes.now at-start.requires.0 (omega (arith, own.if-units-units_of.true)))
 
 returns : tie.Need-returns
 returns c =
@@ -27,7 +27,7 @@ returns c =
     let at_first : tie.After-table_end = search in
     let a = at-start.args in
     rw at_first.table_end.ensures
-    (claim_free a.slots a.slot a.units a.bytes-1.now _ _ _ _ at-free.free_units-place.result at-free.free_units-place.ensures at-start.requires.fact_2.0.0
+    (claim_free a.slots a.slot a.units a.bytes.now _ _ _ _ at-free.free_units-place.result at-free.free_units-place.ensures at-start.requires.1.0.0
     at_place.put_short.ensures at_count.put_short-2.ensures at-used.put_short-3.ensures)
 
 pub claim_spec : {M : Type 1} → statement M

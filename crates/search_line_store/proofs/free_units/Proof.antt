@@ -12,14 +12,14 @@ returns-then-table_end-used c =
     let at_first : tie.After-table_end = search in
     let used = at-short.short_at-used.ensures.0 in
     let first = at_first.table_end.ensures in
-    rw used (free_behind a.slots a.units a.bytes-1.now at-start.requires.fact_1 (omega (arith, c.if-table_end-used.true)))
+    rw used (free_behind a.slots a.units a.bytes.now at-start.requires.0 (omega (arith, c.if-table_end-used.true)))
 
 returns : tie.Need-returns
 returns c =
     let at-start : tie.Start = search in
     let gone : tie.After-give_up = search in
     let a = at-start.args in
-    free_first a.slots a.units a.bytes-1.now _ gone.give_up.ensures at-start.requires.fact_2.0
+    free_first a.slots a.units a.bytes.now _ gone.give_up.ensures at-start.requires.1.0
 
 pub free_units_spec : {M : Type 1} → statement M
 free_units_spec =

@@ -24,7 +24,7 @@ bounds-sums-low c =
     let at-start : tie.Start invariant-loop-k decreases-loop-k = search in
     let e = at-loop.loop-k.invariant.1.same in
     let t = c.before.before.loop-k-test.true in
-    let p = at-start.requires.fact_1 in
+    let p = at-start.requires.0 in
     omega arith
 
 overflow_add-sums-in-loop-k : tie.Need-overflow_add-sums-in-loop-k invariant-loop-k decreases-loop-k
@@ -35,7 +35,7 @@ overflow_add-sums-in-loop-k c =
     let p = at-loop.loop-k in
     let b = c.before.shared_slice_known-1.given p.k in
     let e = p.invariant.1.rest (a.low + p.k) (omega arith) in
-    let s = at-start.requires.fact_2 (a.low + p.k) in
+    let s = at-start.requires.1 (a.low + p.k) in
     omega arith
 
 bounds-sums-low-in-loop-k : tie.Need-bounds-sums-low-in-loop-k invariant-loop-k decreases-loop-k
@@ -44,7 +44,7 @@ bounds-sums-low-in-loop-k c =
     let at-start : tie.Start invariant-loop-k decreases-loop-k = search in
     let e = at-loop.loop-k.invariant.1.same in
     let t = c.before.before.loop-k-test.true in
-    let p = at-start.requires.fact_1 in
+    let p = at-start.requires.0 in
     omega arith
 
 loop-k-preserved : tie.Need-loop-k-preserved invariant-loop-k decreases-loop-k
@@ -55,7 +55,7 @@ loop-k-preserved c =
     let p = at-loop.loop-k in
     let e = p.invariant.1.same in
     let t = c.before.before.loop-k-test.true in
-    let r = at-start.requires.fact_1 in
+    let r = at-start.requires.0 in
     (omega arith, raise_step 1 a.low a.line.now a.sums.now p.sums p.k _ (omega arith) (omega arith) p.invariant.1)
 
 shape_of-sums : tie.Need-shape_of-sums invariant-loop-k decreases-loop-k

@@ -13,14 +13,14 @@ lent c = lent_by c.args.size c.args.table.now c.args.pixels.now
 
 -- the line fits beside the store
 few : (e : tie.Start) → line_places e.args.direction (moved_shape (lent e) e.args.two) (standing_shape (lent e) e.args.two) ≤ 526
-few e = places_few (lent e) e.args.two (asked_named (lent e) _ _ e.args.two e.requires.fact_1) e.args.direction
+few e = places_few (lent e) e.args.two (asked_named (lent e) _ _ e.args.two e.requires.0) e.args.direction
 
 draw_line-count-requires : tie.Need-draw_line-count-requires
 draw_line-count-requires c κs =
     let e : tie.Start = search in
     let n = length-replicate {A = ℕ} 526 0 in
     let h = few e in
-    (e.requires.fact_1, (omega arith, (omega arith, e.requires.fact_2.1.1)))
+    (e.requires.0, (omega arith, (omega arith, e.requires.1.1.1)))
 
 -- the entry, from where the line is drawn
 abbrev entry : tie.After-draw_line-count → tie.Start
@@ -36,15 +36,15 @@ counted : (c : tie.After-draw_line-count)
     let a = (entry c).args in
     let l = lent (entry c) in
     (c.draw_line-count.result ≡ line_places a.direction (moved_shape l a.two) (standing_shape l a.two))
-    × (c.draw_line-count.result ≤ length (drawn c)) × (length (drawn c) ≡ 526) × (a.at + c.draw_line-count.result ≤ length a.lines-1.now)
-    × (length a.lines-1.now ≤ 524288)
+    × (c.draw_line-count.result ≤ length (drawn c)) × (length (drawn c) ≡ 526) × (a.at + c.draw_line-count.result ≤ length a.lines.now)
+    × (length a.lines.now ≤ 524288)
 counted c =
     let e = entry c in
-    let n = c.draw_line-count.ensures.maps.1 in
+    let n = c.draw_line-count.ensures.1.1 in
     let long : length (drawn c) ≡ 526 = c.draw_line-count.auto.1.1.1.1.1.1.1.1.0 ∙ length-replicate {A = ℕ} 526 0 in
     let h = few e in
-    let room = e.requires.fact_2.0 in
-    (n, omega arith, long, omega arith, e.requires.fact_2.1.0)
+    let room = e.requires.1.0 in
+    (n, omega arith, long, omega arith, e.requires.1.1.0)
 
 overflow_add-end : tie.Need-overflow_add-end
 overflow_add-end c = let at-draw-line : tie.After-draw_line-count = search in let h = counted at-draw-line in omega arith
@@ -74,10 +74,10 @@ returns c =
     let h = counted at-draw-line in
     let count : ℕ = at-draw-line.draw_line-count.result in
     let at : ℕ = a.at in (
-      made_back (lent (entry at-draw-line)) a.direction a.two a.lines-1.now (drawn at-draw-line) _ at count (at + count - at) h.0 (omega arith)
-          (omega arith) h.1 at-draw-line.draw_line-count.ensures.line.line
+      made_back (lent (entry at-draw-line)) a.direction a.two a.lines.now (drawn at-draw-line) _ at count (at + count - at) h.0 (omega arith)
+          (omega arith) h.1 at-draw-line.draw_line-count.ensures.0.line
           (at-copy-back.copy_back.auto.1.0 ∙ simp (length-take, length-drop) (omega arith)) at-copy-back.copy_back.ensures,
-      at-draw-line.draw_line-count.ensures.maps.0,
+      at-draw-line.draw_line-count.ensures.1.0,
     )
 
 pub draw_back_spec : {M : Type 1} → statement M

@@ -18,7 +18,7 @@ sides_of-sides-requires : tie.Need-sides_of-sides-requires
 sides_of-sides-requires c κs =
     let at-start : tie.Start = search in
     let two = at-start.args.two in
-    let asked = at-start.requires.fact_1 in
+    let asked = at-start.requires.0 in
     (moved_entry (lent at-start) _ _ two asked, standing_entry (lent at-start) _ _ two asked, gap_few (lent at-start) _ _ two asked)
 
 -- the entry, from where the sides are known
@@ -33,13 +33,13 @@ is c = c.sides_of-sides.ensures (entry c).args.pixels.now
 
 -- such as maps are made for
 fit : (c : tie.After-sides_of-sides) → SidesFit c.sides_of-sides.result
-fit c = sides_made (lent (entry c)) _ _ (entry c).args.two (entry c).requires.fact_1 _ (is c)
+fit c = sides_made (lent (entry c)) _ _ (entry c).args.two (entry c).requires.0 _ (is c)
 
 find_map-from-requires : tie.Need-find_map-from-requires
 find_map-from-requires c κs =
     let at-sides-of : tie.After-sides_of-sides = search in
     let e = entry at-sides-of in
-    (e.requires.fact_1, e.requires.fact_2.1.1)
+    (e.pre.0, e.pre.1.1.1)
 
 map_words-requires : tie.Need-map_words-requires
 map_words-requires c κs =
@@ -57,7 +57,7 @@ within c =
     let at-find-map : tie.After-find_map-from = search in
     let e = entry at-sides-of in
     let f = at-find-map.find_map-from.ensures in
-    (found_within (lent e) _ _ e.args.two e.requires.fact_1 _ (is at-sides-of) _ _ _ _ f c.map_words.ensures, f.ready.short)
+    (found_within (lent e) _ _ e.args.two e.pre.0 _ (is at-sides-of) _ _ _ _ f c.map_words.ensures, f.ready.short)
 
 overflow_add-to : tie.Need-overflow_add-to
 overflow_add-to c =
@@ -78,9 +78,9 @@ ends c =
     let at-start : tie.Start = search in
     let at-sides-of : tie.After-sides_of-sides = search in
     let e = c.line_places-count.ensures in
-    let p = line_places_lem (lent at-start) _ _ at-start.args.two at-start.requires.fact_1 _ (is at-sides-of) at-start.args.direction in
-    let room = at-start.requires.fact_2.0 in
-    (omega arith, at-start.requires.fact_2.1.0)
+    let p = line_places_lem (lent at-start) _ _ at-start.args.two at-start.requires.0 _ (is at-sides-of) at-start.args.direction in
+    let room = at-start.requires.1.0 in
+    (omega arith, at-start.requires.1.1.0)
 
 overflow_add-end : tie.Need-overflow_add-end
 overflow_add-end c = let at-line-places : tie.After-line_places-count = search in let h = ends at-line-places in omega arith
@@ -108,7 +108,7 @@ lent_map : (c : tie.After-line_places-count)
 lent_map c =
     let at-sides-of : tie.After-sides_of-sides = search in
     let e = entry at-sides-of in
-    found_map (lent e) _ _ e.args.two e.requires.fact_1 _ (is at-sides-of) _ _ _ _ (found c).find_map-from.ensures (counted c).map_words.ensures
+    found_map (lent e) _ _ e.args.two e.pre.0 _ (is at-sides-of) _ _ _ _ (found c).find_map-from.ensures (counted c).map_words.ensures
 
 map_line-requires : tie.Need-map_line-requires
 map_line-requires c κs =
@@ -120,12 +120,12 @@ map_line-requires c κs =
     let w = within at-map-words in
     let h = ends at-line-places in
     let e = at-line-places.line_places-count.ensures in
-    let o = at-start.requires.fact_1.offset in (
+    let o = at-start.requires.0.offset in (
       f,
       (
-        sides_byte (lent at-start) _ _ at-start.args.two at-start.requires.fact_1 _ (is at-sides-of),
+        sides_byte (lent at-start) _ _ at-start.args.two at-start.requires.0 _ (is at-sides-of),
         (
-          found_bordered (lent at-start) _ _ at-start.args.two at-start.requires.fact_1 _ (is at-sides-of) _ _ _ _ (found at-line-places).find_map-from.ensures
+          found_bordered (lent at-start) _ _ at-start.args.two at-start.requires.0 _ (is at-sides-of) _ _ _ _ (found at-line-places).find_map-from.ensures
               (counted at-line-places).map_words.ensures,
           (omega arith, sym (simp (length-take, length-drop) (omega arith))),
         ),
@@ -142,12 +142,12 @@ returns c =
     let at = at-start.args.at in
     let h = ends at-line-places in
     let n : ℕ = at-line-places.line_places-count.result in (
-      made (lent at-start) _ _ at-start.args.two at-start.requires.fact_1 _ (is at-sides-of) d at-start.args.lines.now _ at (at + n - at)
+      made (lent at-start) _ _ at-start.args.two at-start.requires.0 _ (is at-sides-of) d at-start.args.lines.now _ at (at + n - at)
           (let e = at-line-places.line_places-count.ensures in omega arith) (omega arith)
           (at-map-line.map_line.ensures _ _ (is at-sides-of) (lent_map at-line-places)),
       (
         (found at-line-places).find_map-from.ensures.ready,
-        at-line-places.line_places-count.ensures ∙ line_places_lem (lent at-start) _ _ at-start.args.two at-start.requires.fact_1 _ (is at-sides-of) d,
+        at-line-places.line_places-count.ensures ∙ line_places_lem (lent at-start) _ _ at-start.args.two at-start.requires.0 _ (is at-sides-of) d,
       ),
     )
 

@@ -22,9 +22,9 @@ returns-then-source c =
     let b : tie.After-draw_back = search in
     let t : tie.Then-source = search in
     let a = e.args.source in (
-      subst (λ (x : Bool). SourceMade (lent e) (record { two = a.two-1; direction = a.direction; back = x }) e.args.lines.now e.args.at
-          b.draw_back.new.1.1.1.1.1.1.1.1.0) (sym t.if-source.true) b.draw_back.ensures.line,
-      b.draw_back.ensures.maps,
+      subst (λ (x : Bool). SourceMade (lent e) (record { two = a.two; direction = a.direction; back = x }) e.args.lines.now e.args.at
+          b.draw_back.new.1.1.1.1.1.1.1.1.0) (sym t.if-source.true) b.draw_back.ensures.0,
+      b.draw_back.ensures.1,
     )
 
 returns : tie.Need-returns
@@ -33,10 +33,10 @@ returns c =
     let b : tie.After-draw_line = search in
     let t : tie.Else-source = search in
     let a = e.args.source in (
-      subst (λ (x : Bool). SourceMade (lent e) (record { two = a.two-1; direction = a.direction; back = x }) e.args.lines.now e.args.at
+      subst (λ (x : Bool). SourceMade (lent e) (record { two = a.two; direction = a.direction; back = x }) e.args.lines.now e.args.at
           b.draw_line.new.1.1.1.1.1.1.1.1.0) (sym t.if-source.false)
-          (made_plain (lent e) a.direction a.two-1 e.args.lines.now e.args.at _ b.draw_line.ensures.line),
-      b.draw_line.ensures.maps.0,
+          (made_plain (lent e) a.direction a.two e.args.lines.now e.args.at _ b.draw_line.ensures.0),
+      b.draw_line.ensures.1.0,
     )
 
 pub draw_source_spec : {M : Type 1} → statement M

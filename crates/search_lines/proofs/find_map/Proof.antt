@@ -22,32 +22,32 @@ shape_strips-a-requires : tie.Need-shape_strips-a-requires
 shape_strips-a-requires c κs =
     let at-start : tie.Start = search in
     let at-opposite-turn : tie.After-opposite_turn-opposite = search in
-    moved_held (lent at-start) _ _ at-start.args.two at-start.requires.fact_1 at-opposite-turn.opposite_turn-opposite.result
+    moved_held (lent at-start) _ _ at-start.args.two at-start.requires.0 at-opposite-turn.opposite_turn-opposite.result
 
 shape_strips-b-requires : tie.Need-shape_strips-b-requires
 shape_strips-b-requires c κs =
     let at-start : tie.Start = search in
-    standing_held (lent at-start) _ _ at-start.args.two at-start.requires.fact_1
+    standing_held (lent at-start) _ _ at-start.args.two at-start.requires.0
 
 map_key-key-requires : tie.Need-map_key-key-requires
 map_key-key-requires c κs =
     let at-start : tie.Start = search in
-    small_two (lent at-start) _ _ at-start.args.two at-start.requires.fact_1
+    small_two (lent at-start) _ _ at-start.args.two at-start.requires.0
 
 map_slot-slot-requires : tie.Need-map_slot-slot-requires
 map_slot-slot-requires c κs =
     let at-start : tie.Start = search in
-    small_two (lent at-start) _ _ at-start.args.two at-start.requires.fact_1
+    small_two (lent at-start) _ _ at-start.args.two at-start.requires.0
 
 overflow_add-extra : tie.Need-overflow_add-extra
-overflow_add-extra c = let e : tie.Start = search in let g = gap_few (lent e) _ _ e.args.two e.requires.fact_1 in omega arith
+overflow_add-extra c = let e : tie.Start = search in let g = gap_few (lent e) _ _ e.args.two e.requires.0 in omega arith
 
 grown_sides-sides-requires : tie.Need-grown_sides-sides-requires
 grown_sides-sides-requires c κs =
     let e : tie.Start = search in
     let two = e.args.two in
-    let g = gap_few (lent e) _ _ two e.requires.fact_1 in
-    ((moved_entry (lent e) _ _ two e.requires.fact_1, standing_entry (lent e) _ _ two e.requires.fact_1), (omega arith, omega arith))
+    let g = gap_few (lent e) _ _ two e.requires.0 in
+    ((moved_entry (lent e) _ _ two e.requires.0, standing_entry (lent e) _ _ two e.requires.0), (omega arith, omega arith))
 
 -- the entry, from where the sides are known
 abbrev start : tie.After-grown_sides-sides → tie.Start
@@ -82,14 +82,14 @@ keep_map-at-requires c κs =
     let l = lent at-start in
     let two = at-start.args.two in
     let z = at-grown-sides.grown_sides-sides.result in
-    let asked = at-start.requires.fact_1 in
+    let asked = at-start.requires.0 in
     let e = is at-grown-sides in (
       making_made l _ _ two asked z e,
       (
         (moved_asked l _ _ two asked z e _ at-opposite-turn.opposite_turn-opposite.ensures _ at-shape-strips.shape_strips-a.ensures).0,
         (
           (standing_asked l _ _ two asked z e _ at-shape-strips2.shape_strips-b.ensures).0,
-          store_fits_lem l _ _ two asked z e _ _ at-map-key.map_key-key.ensures.1 at-map-slot.map_slot-slot.ensures _ _ refl at-start.requires.fact_2,
+          store_fits_lem l _ _ two asked z e _ _ at-map-key.map_key-key.ensures.1 at-map-slot.map_slot-slot.ensures _ _ refl at-start.requires.1,
         ),
       ),
     )
@@ -121,12 +121,12 @@ found c =
     let l = lent e in
     let two = e.args.two in
     let z = at-grown-sides.grown_sides-sides.result in
-    let asked = e.requires.fact_1 in
+    let asked = e.requires.0 in
     let sides = is at-grown-sides in
     map_found l _ _ two asked z sides _ _ _
     (moved_asked l _ _ two asked z sides _ at-opposite-turn.opposite_turn-opposite.ensures _ at-shape-strips.shape_strips-a.ensures).1
     (standing_asked l _ _ two asked z sides _ at-shape-strips2.shape_strips-b.ensures).1
-    at-map-key.map_key-key.ensures.0 _ _ _ _ e.requires.fact_2 refl c.keep_map-at.ensures
+    at-map-key.map_key-key.ensures.0 _ _ _ _ e.requires.1 refl c.keep_map-at.ensures
 
 overflow_add-result : tie.Need-overflow_add-result
 overflow_add-result c =

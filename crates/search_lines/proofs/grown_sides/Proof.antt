@@ -21,8 +21,8 @@ returns c =
     let at-turned-sides : tie.After-turned_sides-moved = search in
     let at-turned-sides2 : tie.After-turned_sides-standing = search in
     λ size pixels.
-    ap₂ (in_rows e.args.moved_by e.args.standing_by) (at-turned-sides.turned_sides-moved.ensures.sides size pixels)
-    (at-turned-sides2.turned_sides-standing.ensures.sides size pixels)
+    ap₂ (in_rows e.args.moved_by e.args.standing_by) (at-turned-sides.turned_sides-moved.ensures.0 size pixels)
+    (at-turned-sides2.turned_sides-standing.ensures.0 size pixels)
 
 pub grown_sides_spec : {M : Type 1} → statement M
 grown_sides_spec =

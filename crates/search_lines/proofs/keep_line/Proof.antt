@@ -18,14 +18,14 @@ lent c = lent_by c.args.run.size c.args.table.now c.args.pixels.now
 
 -- the numbers of the two pieces
 small : (e : tie.Start) → SmallTwo e.args.two
-small e = small_two (lent e) _ _ e.args.two e.requires.fact_1
+small e = small_two (lent e) _ _ e.args.two e.requires.0
 
 -- the table of slots lies in the store, which is not too long
 table-in : (e : tie.Start) → (table_end e.args.run.slots ≤ length e.args.lines.now) × (length e.args.lines.now ≤ 524288)
-table-in e = let f = e.requires.fact_2.0 in (omega (arith, f.room), f.ranges)
+table-in e = let f = e.requires.1.0 in (omega (arith, f.room), f.fits)
 
 slot_of-slot-requires : tie.Need-slot_of-slot-requires
-slot_of-slot-requires c κs = let e : tie.Start = search in (small e, e.requires.fact_2.1.some)
+slot_of-slot-requires c κs = let e : tie.Start = search in (small e, e.requires.1.1.some)
 
 key_of-key-requires : tie.Need-key_of-key-requires
 key_of-key-requires c κs = let e : tie.Start = search in small e
@@ -51,10 +51,10 @@ held-within : (c : tie.After-units_of) → 0 < c.units_of.result
     → (begun c).begin_of-held.result + 8 ≤ length (entry c).args.lines.now
 held-within c some =
     let e = entry c in
-    let w = e.requires.fact_2.1.stretches in
+    let w = e.requires.1.1.stretches in
     let b = (begun c).begin_of-held.ensures in
     let u = c.units_of.ensures.0 in
-    omega (arith, w.ranges, w.within (slotted c).slot_of-slot.result (slotted c).slot_of-slot.ensures)
+    omega (arith, w.fits, w.within (slotted c).slot_of-slot.result (slotted c).slot_of-slot.ensures)
 
 key_at-requires : tie.Need-key_at-requires
 key_at-requires c κs =
@@ -79,8 +79,8 @@ returns-then-key_at-key c =
     let e = entry u in
     let s = slotted u in
     let two = e.args.two in
-    let asked = e.requires.fact_1 in
-    let kept = e.requires.fact_2.1 in
+    let asked = e.requires.0 in
+    let kept = e.requires.1.1 in
     let b = (begun u).begin_of-held.ensures in
     let some = pos_of_ne-zero t.if-units_of-ne0.true in
     let line = kept.holds s.slot_of-slot.result two.moved two.standing two.moved_turn two.standing_turn e.args.direction two.offset
@@ -89,19 +89,19 @@ returns-then-key_at-key c =
     (rw (sym b) (sym a.key_at.ensures ∙ c.if-key_at-key.true ∙ k.key_of-key.ensures)) in
     let w = kept.stretches in
     let room = line.0 in
-    (rw b line.1, (omega (arith, w.ranges, w.within s.slot_of-slot.result s.slot_of-slot.ensures), (kept, refl)))
+    (rw b line.1, (omega (arith, w.fits, w.within s.slot_of-slot.result s.slot_of-slot.ensures), (kept, refl)))
 
 line_units-units-requires : tie.Need-line_units-units-requires
-line_units-units-requires c κs = let e : tie.Start = search in asked_named (lent e) _ _ e.args.two e.requires.fact_1
+line_units-units-requires c κs = let e : tie.Start = search in asked_named (lent e) _ _ e.args.two e.requires.0
 
 claim-at-requires : tie.Need-claim-at-requires
 claim-at-requires c κs =
     let e : tie.Start = search in
     let s : tie.After-slot_of-slot = search in
     let n : tie.After-line_units-units = search in
-    let f = e.requires.fact_2.0 in
+    let f = e.requires.1.0 in
     let fit = n.line_units-units.ensures in
-    (e.requires.fact_2.1.stretches, ((s.slot_of-slot.ensures, fit.some), (omega (arith, f.room, fit.few), f.ranges)))
+    (e.requires.1.1.stretches, ((s.slot_of-slot.ensures, fit.some), (omega (arith, f.room, fit.few), f.fits)))
 
 -- the stretch, from where it is claimed: it lies in the store and holds the key and the line
 abbrev claimant : tie.After-claim-at → tie.Start
@@ -131,7 +131,7 @@ make_line-requires c κs =
     let w = claimed-in k in
     let same = k.claim-at.ensures.same in
     let enough = (counted k).line_units-units.ensures.enough in
-    (e.requires.fact_1, (omega arith, (omega arith, e.requires.fact_2.1.ready)))
+    (e.requires.0, (omega arith, (omega arith, e.requires.1.1.ready)))
 
 put_key-requires : tie.Need-put_key-requires
 put_key-requires c κs =
@@ -139,7 +139,7 @@ put_key-requires c κs =
     let m : tie.After-make_line = search in
     let w = claimed-in k in
     let same = k.claim-at.ensures.same in
-    let still = m.make_line.ensures.line.same in
+    let still = m.make_line.ensures.0.same in
     let enough = (counted k).line_units-units.ensures.enough in
     (omega arith, omega arith)
 
@@ -158,19 +158,19 @@ returns c =
     let e = claimant k in
     let s = slot-claimed k in
     let two = e.args.two in
-    let asked = e.requires.fact_1 in
-    let kept = e.requires.fact_2.1 in
+    let asked = e.requires.0 in
+    let kept = e.requires.1.1 in
     let fit = (counted k).line_units-units.ensures in
-    let made = m.make_line.ensures.line in
+    let made = m.make_line.ensures.0 in
     let put = p.put_key.ensures in
     let line = line_put (job_of (lent e)) e.args.run e.args.lines.now e.args.maps.now kept s.slot_of-slot.result two.moved two.standing
     two.moved_turn two.standing_turn e.args.direction two.offset _ _ _ _ _ _ (lent_few (lent e) asked.well) s.slot_of-slot.ensures
     (moved_there (lent e) _ _ two asked) (standing_there (lent e) _ _ two asked) asked.offset fit k.claim-at.ensures made
-    m.make_line.ensures.maps _ (keyed m).key_of-key.ensures put in
+    m.make_line.ensures.1 _ (keyed m).key_of-key.ensures put in
     let again = renewed (job_of (lent e)) e.args.run e.args.lines.now e.args.maps.now kept s.slot_of-slot.result two.moved two.standing
     two.moved_turn two.standing_turn e.args.direction two.offset _ _ _ _ _ _ (lent_few (lent e) asked.well) s.slot_of-slot.ensures
     (moved_there (lent e) _ _ two asked) (standing_there (lent e) _ _ two asked) asked.offset fit k.claim-at.ensures made
-    m.make_line.ensures.maps _ (keyed m).key_of-key.ensures put in
+    m.make_line.ensures.1 _ (keyed m).key_of-key.ensures put in
     let w = claimed-in k in
     let same = k.claim-at.ensures.same in
     let x = made.same in

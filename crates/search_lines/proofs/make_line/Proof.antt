@@ -15,10 +15,10 @@ lent c = lent_by c.args.size c.args.table.now c.args.pixels.now
 classed-equal-requires : tie.Need-classed-equal-requires
 classed-equal-requires c κs =
     let e : tie.Start = search in
-    let s = small_two (lent e) _ _ e.args.two e.requires.fact_1 in
+    let s = small_two (lent e) _ _ e.args.two e.requires.0 in
     let m = s.moved in
     let n = s.standing in
-    let room = e.requires.fact_2.1.1.room in
+    let room = e.requires.1.1.1.room in
     (omega arith, omega arith)
 
 -- the entry, from where the classes are known
@@ -32,7 +32,7 @@ equal c =
     let e = start c in
     let d = e.args.direction in
     subst (λ (x : Two). SameLine (lent e) (plain_source d e.args.two) (plain_source d x)) (sym c.classed-equal.ensures)
-    (classed_same (lent e) e.args.two (asked_named (lent e) _ _ e.args.two e.requires.fact_1) e.args.maps.now e.requires.fact_2.1.1.classes d)
+    (classed_same (lent e) e.args.two (asked_named (lent e) _ _ e.args.two e.requires.0) e.args.maps.now e.requires.1.1.1.classes d)
 
 ordered-first-requires : tie.Need-ordered-first-requires
 ordered-first-requires c κs = let b : tie.After-classed-equal = search in (equal b).named
@@ -57,15 +57,15 @@ draw_source-requires c κs =
     let e = entry b in
     let s = same b in
     let n = s.places in
-    (asked_source (lent e) e.args.direction _ _ e.args.two _ e.requires.fact_1 s, (omega (arith, e.requires.fact_2.0), (e.requires.fact_2.1.0, e.requires.fact_2.1.1)))
+    (asked_source (lent e) e.args.direction _ _ e.args.two _ e.requires.0 s, (omega (arith, e.requires.1.0), (e.requires.1.1.0, e.requires.1.1.1)))
 
 returns : tie.Need-returns
 returns c =
     let b : tie.After-straight-source = search in
     let d : tie.After-draw_source = search in
     let e = entry b in (
-      made_same (lent e) e.args.direction e.args.two _ e.args.lines.now e.args.at _ (same b) d.draw_source.ensures.line,
-      d.draw_source.ensures.maps,
+      made_same (lent e) e.args.direction e.args.two _ e.args.lines.now e.args.at _ (same b) d.draw_source.ensures.0,
+      d.draw_source.ensures.1,
     )
 
 pub make_line_spec : {M : Type 1} → statement M

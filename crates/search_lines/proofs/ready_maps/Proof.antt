@@ -13,9 +13,9 @@ lent c = lent_by c.args.size c.args.table.now c.args.pixels.now
 put_classes-requires : tie.Need-put_classes-requires
 put_classes-requires c κs =
     let e : tie.Start = search in
-    let f = (facts (lent e) e.requires.fact_1).few_pieces in
-    let room = e.requires.fact_2.0 in
-    (e.requires.fact_1, omega arith)
+    let f = (facts (lent e) e.requires.0).few_pieces in
+    let room = e.requires.1.0 in
+    (e.requires.0, omega arith)
 
 returns : tie.Need-returns
 returns c =
@@ -24,11 +24,11 @@ returns c =
     let at-forget-maps : tie.After-forget_maps = search in
     let xs : List ℕ = at-put-classes.put_classes.new.1.1.1.0 in
     let same : length xs ≡ length e.args.maps.now = at-put-classes.put_classes.auto.1.1.1.0 in
-    let room = e.requires.fact_2.0 in
-    let short = e.requires.fact_2.1 in
+    let room = e.requires.1.0 in
+    let short = e.requires.1.1 in
     let long : length (take (length xs - 64) (drop 64 xs)) ≡ length xs - 64 = simp (length-take, length-drop) (omega arith) in
     let g = at-forget-maps.forget_maps.ensures in
-    ready_forgotten (job_of (lent e)) xs _ _ refl (g.same ∙ long) (lent_few (lent e) e.requires.fact_1) at-put-classes.put_classes.ensures (omega arith)
+    ready_forgotten (job_of (lent e)) xs _ _ refl (g.same ∙ long) (lent_few (lent e) e.requires.0) at-put-classes.put_classes.ensures (omega arith)
     (omega arith) _ long g
 
 pub ready_maps_spec : {M : Type 1} → statement M

@@ -12,7 +12,7 @@ returns-then-offset-sides c =
     let at-clear-line : tie.After-clear_line = search in
     let a = at-start.args in
     λ s t e m.
-    far_column s t a.sides a.offset a.line-1.now _ e at-start.requires.fact_2.1.1.1 at-clear-line.clear_line.ensures (inl (omega arith))
+    far_column s t a.sides a.offset a.line.now _ e at-start.requires.1.1.1.1 at-clear-line.clear_line.ensures (inl (omega arith))
 
 returns-then-offset-sides-le-MIDDLE : tie.Need-returns-then-offset-sides-le-MIDDLE
 returns-then-offset-sides-le-MIDDLE c =
@@ -20,7 +20,7 @@ returns-then-offset-sides-le-MIDDLE c =
     let at-clear-line : tie.After-clear_line = search in
     let a = at-start.args in
     λ s t e m.
-    far_column s t a.sides a.offset a.line-1.now _ e at-start.requires.fact_2.1.1.1 at-clear-line.clear_line.ensures (inr (omega arith))
+    far_column s t a.sides a.offset a.line.now _ e at-start.requires.1.1.1.1 at-clear-line.clear_line.ensures (inr (omega arith))
 
 -- the place after the line was cleared
 abbrev cleared : tie.Else-offset-sides-le-MIDDLE → tie.After-clear_line
@@ -36,7 +36,7 @@ inside : (c : tie.Else-offset-sides-le-MIDDLE)
 inside c =
     let at-start : tie.Start = search in
     let at-else1 : tie.Else-offset-sides = search in
-    let f = at-start.requires.fact_1 in
+    let f = at-start.requires.0 in
     let x = at-else1.if-offset-sides.false in
     let y = c.if-offset-sides-le-MIDDLE.false in
     (omega (arith, f.moved_along.low), omega (arith, f.moved_along.low))
@@ -66,8 +66,8 @@ returns c =
     let a = at-start.args in
     let i = inside at-else2 in
     λ s t e m.
-    near_column s t a.sides a.words.now a.offset _ _ a.line-1.now _ _ e at-row-width.row_width-w.ensures at-start.requires.fact_1 m i.0 i.1
-    at-start.requires.fact_2.1.1.1 at-clear-line.clear_line.ensures.same at-column-line.column_line.ensures
+    near_column s t a.sides a.words.now a.offset _ _ a.line.now _ _ e at-row-width.row_width-w.ensures at-start.requires.0 m i.0 i.1
+    at-start.requires.1.1.1.1 at-clear-line.clear_line.ensures.same at-column-line.column_line.ensures
 
 pub map_column_spec : {M : Type 1} → statement M
 map_column_spec =

@@ -29,7 +29,7 @@ returns-in-Horizontal c =
     let at-map-row : tie.After-map_row = search in
     let a = at-start.args in
     λ s t e m.
-    subst (λ (d : Direction). LineOf d s t a.offset a.line-1.now at-map-row.map_row.new.1.1.1.0)
+    subst (λ (d : Direction). LineOf d s t a.offset a.line.now at-map-row.map_row.new.1.1.1.0)
     (sym at_told.enum_told-1.given.1) (at-map-row.map_row.ensures _ s t e m)
 
 returns-in-Vertical : tie.Need-returns-in-Vertical
@@ -39,7 +39,7 @@ returns-in-Vertical c =
     let at-map-column : tie.After-map_column = search in
     let a = at-start.args in
     λ s t e m.
-    subst (λ (d : Direction). LineOf d s t a.offset a.line-1.now at-map-column.map_column.new.1.1.1.0)
+    subst (λ (d : Direction). LineOf d s t a.offset a.line.now at-map-column.map_column.new.1.1.1.0)
     (sym at_told.enum_told-in-Vertical-1.given.1) (at-map-column.map_column.ensures s t e m)
 
 pub map_line_spec : {M : Type 1} → statement M

@@ -13,7 +13,7 @@ returns-then-offset-sides c =
     let at-clear-line : tie.After-clear_line = search in
     let a = at-start.args in
     λ d s t e m.
-    far_line d s t a.sides a.offset _ a.line-1.now _ e at-row-width.row_width-w.ensures at-clear-line.clear_line.ensures (inl (omega arith))
+    far_line d s t a.sides a.offset _ a.line.now _ e at-row-width.row_width-w.ensures at-clear-line.clear_line.ensures (inl (omega arith))
 
 returns-then-offset-sides-le-MIDDLE : tie.Need-returns-then-offset-sides-le-MIDDLE
 returns-then-offset-sides-le-MIDDLE c =
@@ -22,7 +22,7 @@ returns-then-offset-sides-le-MIDDLE c =
     let at-clear-line : tie.After-clear_line = search in
     let a = at-start.args in
     λ d s t e m.
-    far_line d s t a.sides a.offset _ a.line-1.now _ e at-row-width.row_width-w.ensures at-clear-line.clear_line.ensures (inr (omega arith))
+    far_line d s t a.sides a.offset _ a.line.now _ e at-row-width.row_width-w.ensures at-clear-line.clear_line.ensures (inr (omega arith))
 
 -- the place after the line was cleared
 abbrev cleared : tie.Else-offset-sides-le-MIDDLE → tie.After-clear_line
@@ -38,7 +38,7 @@ inside : (c : tie.Else-offset-sides-le-MIDDLE)
 inside c =
     let at-start : tie.Start = search in
     let at-else1 : tie.Else-offset-sides = search in
-    let f = at-start.requires.fact_1 in
+    let f = at-start.requires.0 in
     let x = at-else1.if-offset-sides.false in
     let y = c.if-offset-sides-le-MIDDLE.false in
     (omega arith, omega (arith, f.moved_across.low), omega arith)
@@ -49,7 +49,7 @@ overflow_mul-row c =
     let at-row-width : tie.After-row_width-w = search in
     let at-else2 : tie.Else-offset-sides-le-MIDDLE = search in
     let i = inside at-else2 in
-    let h = row_small at-start.args.sides _ _ at-start.requires.fact_1 at-row-width.row_width-w.ensures i.1 in
+    let h = row_small at-start.args.sides _ _ at-start.requires.0 at-row-width.row_width-w.ensures i.1 in
     omega arith
 
 row_line-requires : tie.Need-row_line-requires
@@ -73,12 +73,12 @@ returns c =
     let at-start : tie.Start = search in
     let at-row-width : tie.After-row_width-w = search in
     let a = at-start.args in
-    let f = at-start.requires.fact_1 in
+    let f = at-start.requires.0 in
     let at-else2 : tie.Else-offset-sides-le-MIDDLE = search in
     let at-clear-line = cleared at-else2 in
     let i = inside at-else2 in
     λ d s t e m.
-    near_line d s t a.sides a.words.now a.offset _ _ a.line-1.now _ _ e at-row-width.row_width-w.ensures f m i.0 i.1
+    near_line d s t a.sides a.words.now a.offset _ _ a.line.now _ _ e at-row-width.row_width-w.ensures f m i.0 i.1
     i.2 at-clear-line.clear_line.ensures c.before.before.row_Line.ensures
 
 pub map_row_spec : {M : Type 1} → statement M

@@ -16,7 +16,7 @@ loop-at-init c = (omega arith, refl, row_start_lem _ _ _ _ _)
 overflow_add-p : tie.Need-overflow_add-p invariant-loop-at decreases-loop-at
 overflow_add-p c =
     let at-start : tie.Start invariant-loop-at decreases-loop-at = search in
-    omega (arith, at-start.requires.fact_1.high, at-start.requires.fact_1.room)
+    omega (arith, at-start.requires.0.high, at-start.requires.0.room)
 
 peel-requires : tie.Need-peel-requires invariant-loop-at decreases-loop-at
 peel-requires c κs =
@@ -25,7 +25,7 @@ peel-requires c κs =
     let o = c.before.before.before.loop-at in
     let n = c.before.smaller-count.ensures in
     let l = c.before.before.loop-at-test.true in (
-      block_reaches a.ws.now a.w a.p a.places a.line-1.now o.at _ at-start.requires.fact_1 (omega arith) (omega arith) (omega arith),
+      block_reaches a.ws.now a.w a.p a.places a.line.now o.at _ at-start.requires.0 (omega arith) (omega arith) (omega arith),
       (omega arith, omega arith),
     )
 
@@ -35,7 +35,7 @@ loop-at-preserved c =
     let a = at-start.args in
     let o = c.before.before.before.before.before.before.loop-at in
     let n = c.before.before.before.before.smaller-count.ensures in
-    let g = row_step a.ws.now a.w a.p a.places a.line-1.now o.line-1 _ o.at _ o.invariant.2 c.before.before.peel.ensures in
+    let g = row_step a.ws.now a.w a.p a.places a.line.now o.line _ o.at _ o.invariant.2 c.before.before.peel.ensures in
     (omega arith, g.same, g)
 
 shape_of-line : tie.Need-shape_of-line invariant-loop-at decreases-loop-at

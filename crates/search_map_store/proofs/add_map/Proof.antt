@@ -36,7 +36,7 @@ overflow_add-end c =
     let n = at-room-words.room_words-room.ensures in
     let m = c.map_words.ensures in
     let f = at-room-for.room_for-at.ensures.fits in
-    let short = at-start.requires.fact_2.1.1.short in
+    let short = at-start.requires.1.1.1.short in
     omega arith
 
 bounds-words-slots : tie.Need-bounds-words-slots
@@ -44,9 +44,9 @@ bounds-words-slots c =
     let at-start : tie.Start = search in
     let at-room-for : tie.After-room_for-at = search in
     let at-make-sized : tie.After-make_sized = search in
-    let p = at-start.requires.fact_2.1.1 in
+    let p = at-start.requires.1.1.1 in
     let fits = at-room-for.room_for-at.ensures in
-    let f = fits.ranges in
+    let f = fits.fits in
     let e = fits.same in
     let room = p.room in
     let full = at-make-sized.make_sized.auto.1.1.1.1.0 in
@@ -57,7 +57,7 @@ shape_of-words c =
     let at-room-for : tie.After-room_for-at = search in
     let at-make-sized : tie.After-make_sized = search in
     let fits = at-room-for.room_for-at.ensures in
-    let f = fits.ranges in
+    let f = fits.fits in
     let e = fits.same in
     let full = at-make-sized.make_sized.auto.1.1.1.1.0 in
     simp (length-set, length-append, length-drop, length-take, full) (omega arith)
@@ -70,19 +70,19 @@ returns c =
     let at-make-sized : tie.After-make_sized = search in
     let a = at-start.args in
     let fits = at-room-for.room_for-at.ensures in
-    let f = fits.ranges in
+    let f = fits.fits in
     let e = fits.same in
-    let short = at-start.requires.fact_2.1.1.short in
+    let short = at-start.requires.1.1.1.short in
     let at = at-room-for.room_for-at.result in
     let k = at-room-words.room_words-room.result in
     let wide = at-room-words.room_words-room.ensures in
     let size = c.map_words.ensures in
     let made = at-make-sized.make_sized in
     λ d s t ez em et.
-    added a.slots d (all_grown a.extra s) t a.sides a.key a.slot a.words-1.now _ _ at c.map_words.result k (at + k - at) ez
+    added a.slots d (all_grown a.extra s) t a.sides a.key a.slot a.words.now _ _ at c.map_words.result k (at + k - at) ez
     (made.ensures (d a.key) (s a.key) (t a.key) ez em et) size (omega arith) (omega arith)
     (made.kept.1.1.1.1.0 ∙ simp (length-take, length-drop) (omega arith)) fits
-    at-start.requires.fact_2.1.1.slot_in (omega arith)
+    at-start.requires.1.1.1.slot_in (omega arith)
 
 pub add_map_spec : {M : Type 1} → statement M
 add_map_spec =

@@ -9,7 +9,7 @@ returns-then-held-key : tie.Need-returns-then-held-key
 returns-then-held-key c =
     let at-start : tie.Start = search in
     let a = at-start.args in
-    λ d s t ez em et. found a.slots d (all_grown a.extra s) t a.key a.slot a.words-1.now at-start.requires.fact_2.1.1.slot_in c.if-held-key.true
+    λ d s t ez em et. found a.slots d (all_grown a.extra s) t a.key a.slot a.words.now at-start.requires.1.1.1.slot_in c.if-held-key.true
 
 add_map-requires : tie.Need-add_map-requires
 add_map-requires c κs =

@@ -17,9 +17,9 @@ copy_words-requires c κs =
     let at-start : tie.Start = search in
     let at-make-map : tie.After-make_map = search in
     let at-map-words : tie.After-map_words = search in
-    let m = map_most at-start.args.sides at-start.requires.fact_1 in
+    let m = map_most at-start.args.sides at-start.requires.0 in
     let e = at-map-words.map_words.ensures in
-    let r = at-start.requires.fact_2.1.1.1.enough in
+    let r = at-start.requires.1.1.1.1.enough in
     let kept = at-make-map.make_map.auto.1.1.1.1 in
     let words : length at-make-map.make_map.new.1.1.1.1.0 ≡ length at-start.args.words.now = kept.0 in
     let map : length at-make-map.make_map.new.1.1.1.1.1.0 ≡ map_bound = kept.1.0 in
@@ -31,7 +31,7 @@ returns c =
     let at-make-map : tie.After-make_map = search in
     let at-map-words : tie.After-map_words = search in
     let at-copy-words : tie.After-copy_words = search in
-    let r = at-start.requires.fact_2.1.1.1.enough in
+    let r = at-start.requires.1.1.1.1.enough in
     let words : length at-make-map.make_map.new.1.1.1.1.0 ≡ length at-start.args.words.now = at-make-map.make_map.auto.1.1.1.1.0 in
     λ d s t ez em et.
     map_copied at-start.args.sides _ _ _ _ at-map-words.map_words.ensures (omega arith)

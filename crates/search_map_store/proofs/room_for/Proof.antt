@@ -10,14 +10,14 @@ returns-then-end-left c =
     let a = at-start.args in
     let p = at-start.requires in
     let l = c.if-end-left.true in
-    room_after a.slots a.n a.words-1.now p.0 (omega arith)
+    room_after a.slots a.n a.words.now p.0 (omega arith)
 
 returns : tie.Need-returns
 returns c =
     let at-start : tie.Start = search in
     let at-forget-maps : tie.After-forget_maps = search in
     let a = at-start.args in
-    room_first a.slots a.n a.words-1.now _ at-start.requires.1 at-forget-maps.forget_maps.ensures
+    room_first a.slots a.n a.words.now _ at-start.requires.1 at-forget-maps.forget_maps.ensures
 
 pub room_for_spec : {M : Type 1} → statement M
 room_for_spec =

@@ -28,7 +28,7 @@ returns c =
     let at-map-words : tie.After-map_words = search in
     let at-clear-words : tie.After-clear_words = search in
     let a = at-start.args in
-    filled_from a.standing.now a.sides a.marks.now _ _ _ a.words-1.now _ _ at-row-width.row_width-w.ensures
+    filled_from a.standing.now a.sides a.marks.now _ _ _ a.words.now _ _ at-row-width.row_width-w.ensures
     at-mark-words.mark_words-size.ensures at-map-words.map_words.ensures at-clear-words.clear_words.ensures c.before.before.add_strips.ensures
 
 pub fill_map_spec : {M : Type 1} → statement M

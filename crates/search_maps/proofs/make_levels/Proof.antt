@@ -13,8 +13,8 @@ make_marks-requires c κs =
     let at-mark-words : tie.After-mark_words-size = search in
     let a = at-start.args in
     let f =
-    marks_fit a.sides at-start.requires.fact_1 _ _ _ at-row-width.row_width-w.ensures at-mark-words.mark_words-size.ensures
-    at-start.requires.fact_2.1.0 a.extra a.moved.now at-start.requires.fact_2.0 in
+    marks_fit a.sides at-start.requires.0 _ _ _ at-row-width.row_width-w.ensures at-mark-words.mark_words-size.ensures
+    at-start.requires.1.1.0 a.extra a.moved.now at-start.requires.1.0 in
     (f.0, (f.1, f.2))
 
 grow_marks-requires : tie.Need-grow_marks-requires
@@ -25,9 +25,9 @@ grow_marks-requires c κs =
     let at-mark-words : tie.After-mark_words-size = search in
     let a = at-start.args in
     let f =
-    marks_fit a.sides at-start.requires.fact_1 _ _ _ at-row-width.row_width-w.ensures at-mark-words.mark_words-size.ensures
-    at-start.requires.fact_2.1.0 a.extra a.moved.now at-start.requires.fact_2.0 in
-    (rw at-make-marks.make_marks.ensures.same f.0, f.2, at-start.requires.fact_2.0.few)
+    marks_fit a.sides at-start.requires.0 _ _ _ at-row-width.row_width-w.ensures at-mark-words.mark_words-size.ensures
+    at-start.requires.1.1.0 a.extra a.moved.now at-start.requires.1.0 in
+    (rw at-make-marks.make_marks.ensures.same f.0, f.2, at-start.requires.1.0.few)
 
 widen_levels-requires : tie.Need-widen_levels-requires
 widen_levels-requires c κs =
@@ -36,8 +36,8 @@ widen_levels-requires c κs =
     let at-mark-words : tie.After-mark_words-size = search in
     let at-start : tie.Start = search in
     let a = at-start.args in
-    level_room a.sides at-start.requires.fact_1 _ _ a.levels at-mark-words.mark_words-size.ensures at-start.requires.fact_2.1.1 a.scratch-1.now _
-    (grown_length _ _ _ _ _ at-grow-marks.grow_marks.ensures ∙ at-make-marks.make_marks.ensures.same) at-start.requires.fact_2.1.0
+    level_room a.sides at-start.requires.0 _ _ a.levels at-mark-words.mark_words-size.ensures at-start.requires.1.1.1 a.scratch.now _
+    (grown_length _ _ _ _ _ at-grow-marks.grow_marks.ensures ∙ at-make-marks.make_marks.ensures.same) at-start.requires.1.1.0
 
 returns : tie.Need-returns
 returns c =
@@ -51,10 +51,10 @@ returns c =
     let marks = at-make-marks.make_marks.ensures in
     let grown = at-grow-marks.grow_marks.ensures in
     let room =
-    level_room a.sides at-start.requires.fact_1 _ _ a.levels size at-start.requires.fact_2.1.1 a.scratch-1.now _
-    (grown_length _ _ _ _ _ grown ∙ marks.same) at-start.requires.fact_2.1.0 in
-    levels_from a.moved.now a.sides a.extra a.levels _ _ a.scratch-1.now _ _ _ at-start.requires.fact_1 at-start.requires.fact_2.0
-    at-start.requires.fact_2.1.1 at-row-width.row_width-w.ensures size room marks grown c.before.before.widen_levels.ensures
+    level_room a.sides at-start.requires.0 _ _ a.levels size at-start.requires.1.1.1 a.scratch.now _
+    (grown_length _ _ _ _ _ grown ∙ marks.same) at-start.requires.1.1.0 in
+    levels_from a.moved.now a.sides a.extra a.levels _ _ a.scratch.now _ _ _ at-start.requires.0 at-start.requires.1.0
+    at-start.requires.1.1.1 at-row-width.row_width-w.ensures size room marks grown c.before.before.widen_levels.ensures
 
 pub make_levels_spec : {M : Type 1} → statement M
 make_levels_spec =

@@ -27,8 +27,8 @@ returns c =
     let at-make-levels : tie.After-make_levels = search in
     let a = at-start.args in
     λ d s t ez em et.
-    map_from_lem d s t a.sides a.moved.now a.standing.now a.extra _ _ a.words-1.now _ ez em et at-make-levels.make_levels.ensures
-    at-start.requires.fact_2.1.1.1.enough c.before.before.fill_map.ensures
+    map_from_lem d s t a.sides a.moved.now a.standing.now a.extra _ _ a.words.now _ ez em et at-make-levels.make_levels.ensures
+    at-start.requires.1.1.1.1.enough c.before.before.fill_map.ensures
 
 pub make_map_spec : {M : Type 1} → statement M
 make_map_spec =

@@ -10,7 +10,7 @@ add_strips-requires c κs =
     let at-point-levels : tie.After-point_levels-points = search in
     let at-clear-words : tie.After-clear_words = search in
     let e = at-clear-words.clear_words.ensures.same in
-    (at-point-levels.point_levels-points.ensures.levels, (rw e at-start.requires.fact_2.0, (at-start.requires.fact_2.1, omega arith)))
+    (at-point-levels.point_levels-points.ensures.levels, (rw e at-start.requires.1.0, (at-start.requires.1.1, omega arith)))
 
 returns : tie.Need-returns
 returns c =
@@ -18,7 +18,7 @@ returns c =
     let at-point-levels : tie.After-point_levels-points = search in
     let at-clear-words : tie.After-clear_words = search in
     let a = at-start.args in
-    marks_made _ at-point-levels.point_levels-points.ensures a.es.now a.w a.size a.scratch-1.now _ _ at-clear-words.clear_words.ensures
+    marks_made _ at-point-levels.point_levels-points.ensures a.es.now a.w a.size a.scratch.now _ _ at-clear-words.clear_words.ensures
     c.before.before.add_strips.ensures
 
 pub make_marks_spec : {M : Type 1} → statement M

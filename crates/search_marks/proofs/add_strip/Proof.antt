@@ -10,15 +10,15 @@ level_of-k-requires : tie.Need-level_of-k-requires
 level_of-k-requires c κs =
     let at-start : tie.Start = search in
     let a = at-start.args in
-    let f = at-start.requires.fact_2 in
-    (f.some, few_count a.span.count a.levels at-start.requires.fact_1.few f.few)
+    let f = at-start.requires.1 in
+    (f.some, few_count a.span.count a.levels at-start.requires.0.few f.few)
 
 -- the level is one of the levels
 there : (c : tie.After-level_of-k) → let at-start : tie.Start = search in c.level_of-k.result < at-start.args.levels
 there c =
     let at-start : tie.Start = search in
     let a = at-start.args in
-    level_below a.span.count a.levels c.level_of-k.result at-start.requires.fact_2.few c.level_of-k.ensures
+    level_below a.span.count a.levels c.level_of-k.result at-start.requires.1.few c.level_of-k.ensures
 
 -- and it lies in the slice
 within : (c : tie.After-level_of-k)
@@ -29,7 +29,7 @@ within : (c : tie.After-level_of-k)
 within c =
     let at-start : tie.Start = search in
     let a = at-start.args in
-    (level_in a.marks.now a.size a.levels c.level_of-k.result a.size (λ i. a.size) at-start.requires.fact_1 (there c), at-start.requires.fact_1.short)
+    (level_in a.marks.now a.size a.levels c.level_of-k.result a.size (λ i. a.size) at-start.requires.0 (there c), at-start.requires.0.short)
 
 overflow_mul-from : tie.Need-overflow_mul-from
 overflow_mul-from c = let at-level-of : tie.After-level_of-k = search in let h = within at-level-of in omega arith
@@ -49,14 +49,14 @@ or_strip-requires c κs =
     let at-level-of : tie.After-level_of-k = search in
     let at-power : tie.After-power-n = search in
     let a = at-start.args in
-    let f = at-start.requires.fact_2 in
+    let f = at-start.requires.1 in
     let v = at-level-of.level_of-k in
     let k = v.result in
     let n = at-power.power-n in
     let e : k * a.size + a.size - k * a.size ≡ a.size = omega arith in
-    let l = length_as a.marks.now a.size a.levels k _ e at-start.requires.fact_1 (there at-level-of) in (
+    let l = length_as a.marks.now a.size a.levels k _ e at-start.requires.0 (there at-level-of) in (
       omega (arith, f.within),
-      spare_as a.marks.now a.size a.levels k _ e at-start.requires.fact_1 (there at-level-of),
+      spare_as a.marks.now a.size a.levels k _ e at-start.requires.0 (there at-level-of),
       omega (arith, n.ensures, v.ensures.low),
       omega (arith, n.ensures, v.ensures.high),
       f.below,
@@ -72,7 +72,7 @@ returns c =
     let n = at-power.power-n in
     let e : k * a.size + a.size - k * a.size ≡ a.size = omega arith in
     c.before.before.or_strip.ensures _
-    (wide_as a.marks.now a.size a.levels k _ e at-start.requires.fact_1 (there at-level-of) n.result n.ensures)
+    (wide_as a.marks.now a.size a.levels k _ e at-start.requires.0 (there at-level-of) n.result n.ensures)
 
 pub add_strip_spec : {M : Type 1} → statement M
 add_strip_spec =

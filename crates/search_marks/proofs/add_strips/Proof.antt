@@ -20,11 +20,11 @@ add_strip-requires : tie.Need-add_strip-requires invariant-loop-i decreases-loop
 add_strip-requires c κs =
     let at-start : tie.Start invariant-loop-i decreases-loop-i = search in
     let o = c.before.before.before.loop-i in
-    let f = at-start.requires.fact_2.0 o.i c.before.before.loop-i-test.true in
+    let f = at-start.requires.1.0 o.i c.before.before.loop-i-test.true in
     let r = c.before.span_at-span.ensures in
     let place = r.place_is in
     let count = r.count_is in (
-      at-start.requires.fact_1,
+      at-start.requires.0,
       record { some = omega (arith, f.some); few = omega (arith, f.few); within = omega (arith, f.within); below = omega (arith, f.below) },
     )
 
@@ -35,7 +35,7 @@ loop-i-preserved c =
     let a = at-start.args in
     let o = c.before.before.before.before.before.before.loop-i in
     let g =
-    made_more a.to-1.now _ a.es.now a.w a.up o.i o.to-1 _ _ at-span-at.span_at-span.ensures o.invariant.2
+    made_more a.to.now _ a.es.now a.w a.up o.i o.to _ _ at-span-at.span_at-span.ensures o.invariant.2
     c.before.before.add_strip.ensures in
     (omega arith, g.same, g)
 
@@ -47,7 +47,7 @@ returns c =
     let at-start : tie.Start invariant-loop-i decreases-loop-i = search in
     let a = at-start.args in
     let o = c.before.loop-i in
-    subst (λ (k : ℕ). Made a.to-1.now (level_of a.marks.now a.size 0) a.es.now a.w a.up k o.to-1) (omega arith) o.invariant.2
+    subst (λ (k : ℕ). Made a.to.now (level_of a.marks.now a.size 0) a.es.now a.w a.up k o.to) (omega arith) o.invariant.2
 
 pub add_strips_spec : {M : Type 1} → statement M
 add_strips_spec =

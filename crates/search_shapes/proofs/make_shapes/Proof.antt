@@ -24,17 +24,17 @@ decreases-loop-k table pixels direction store₀ starts₀ last at₀ k₀ store
 overflow_mul-last : tie.Need-overflow_mul-last invariant-loop-k decreases-loop-k
 overflow_mul-last c =
     let at-start : tie.Start invariant-loop-k decreases-loop-k = search in
-    let s = (facts _ at-start.requires.fact_1).few_pieces in omega arith
+    let s = (facts _ at-start.requires.0).few_pieces in omega arith
 
 bounds-starts-0 : tie.Need-bounds-starts-0 invariant-loop-k decreases-loop-k
 bounds-starts-0 c =
     let at-start : tie.Start invariant-loop-k decreases-loop-k = search in
-    let r = at-start.requires.fact_2.long in omega arith
+    let r = at-start.requires.1.long in omega arith
 
 loop-k-init : tie.Need-loop-k-init invariant-loop-k decreases-loop-k
 loop-k-init c =
     let at-start : tie.Start invariant-loop-k decreases-loop-k = search in
-    let r = at-start.requires.fact_2.long in
+    let r = at-start.requires.1.long in
     (refl, refl, omega arith, λ size e w. made_none _ _ _ at-start.args.starts.now (omega arith))
 
 -- there is room for the shape of a turn of the loop
@@ -47,8 +47,8 @@ room : (c : tie.In-loop-k invariant-loop-k decreases-loop-k)
 room c =
     let at-start : tie.Start invariant-loop-k decreases-loop-k = search in
     let a = at-start.args in
-    fits_next _ _ c.before.loop-k.store c.before.loop-k.starts _ _ at-start.requires.fact_1 c.loop-k-test.true
-    (c.before.loop-k.invariant.3 a.size refl at-start.requires.fact_1)
+    fits_next _ _ c.before.loop-k.store c.before.loop-k.starts _ _ at-start.requires.0 c.loop-k-test.true
+    (c.before.loop-k.invariant.3 a.size refl at-start.requires.0)
 
 pixel_start-start-requires : tie.Need-pixel_start-start-requires invariant-loop-k decreases-loop-k
 pixel_start-start-requires c κs =
@@ -67,7 +67,7 @@ put_piece-at-requires c κs =
     let f = room in-loop in
     let w = f.strips in (
       subst (λ start. EntryAt a.table.now (at-loop.loop-k.k / 4) start) (sym c.before.before.pixel_start-start.ensures)
-          (entry_at (lent_by a.size a.table.now a.pixels.now) (at-loop.loop-k.k / 4) at-start.requires.fact_1 f.piece),
+          (entry_at (lent_by a.size a.table.now a.pixels.now) (at-loop.loop-k.k / 4) at-start.requires.0 f.piece),
       omega arith,
     )
 
@@ -126,7 +126,7 @@ bounds-starts-k c =
     let f = room in-loop in
     let p = f.piece in
     let few = f.few in
-    let r = at-start.requires.fact_2.long in
+    let r = at-start.requires.1.long in
     let q = at-loop.loop-k.invariant.1 in
     let s : length (set at-start.args.starts.now 0 0) ≡ length at-start.args.starts.now = simp length-set in
     omega arith
@@ -138,22 +138,22 @@ loop-k-preserved c =
     let at-start : tie.Start invariant-loop-k decreases-loop-k = search in
     let a = at-start.args in
     let l = at-loop.loop-k in
-    let r = at-start.requires.fact_2 in
+    let r = at-start.requires.1 in
     let same = l.invariant.0 in
     let starts = l.invariant.1 in
     let first : length (set a.starts.now 0 0) ≡ length a.starts.now = simp length-set in
     let wide = r.wide in
     let long = r.long in
-    let kept : length c.before.put_piece-at.new.1.1.1.1.1.1.0 ≡ length l.store-1 = c.before.put_piece-at.auto.1.1.1.1.1.1.0 in
-    let have : ShapesRoom l.store-1 l.starts = record { wide = omega arith; long = omega arith } in (
+    let kept : length c.before.put_piece-at.new.1.1.1.1.1.1.0 ≡ length l.store = c.before.put_piece-at.auto.1.1.1.1.1.1.0 in
+    let have : ShapesRoom l.store l.starts = record { wide = omega arith; long = omega arith } in (
       kept ∙ same,
       simp length-set (omega arith),
       omega arith,
       λ size e w.
           let made = l.invariant.3 size e w in
           let below : l.k < size.count * 4 = omega (arith, in-loop.loop-k-test.true) in
-          made_more a.direction (lent_by size a.table.now a.pixels.now) l.store-1 _ l.starts l.k l.at _ made
-          (fits_next a.direction (lent_by size a.table.now a.pixels.now) l.store-1 l.starts l.k l.at w below made) have (stored c size),
+          made_more a.direction (lent_by size a.table.now a.pixels.now) l.store _ l.starts l.k l.at _ made
+          (fits_next a.direction (lent_by size a.table.now a.pixels.now) l.store l.starts l.k l.at w below made) have (stored c size),
     )
 
 shape_of-store : tie.Need-shape_of-store invariant-loop-k decreases-loop-k
@@ -168,7 +168,7 @@ returns c =
     let at-start : tie.Start invariant-loop-k decreases-loop-k = search in
     let a = at-start.args in
     made_all a.direction (lent_by a.size a.table.now a.pixels.now) _ _ _ _ c.loop-k-test.false
-    (c.before.loop-k.invariant.3 a.size refl at-start.requires.fact_1)
+    (c.before.loop-k.invariant.3 a.size refl at-start.requires.0)
 
 pub make_shapes_spec : {M : Type 1} → statement M
 make_shapes_spec =

@@ -15,7 +15,7 @@ returns-then-penalty-eq0 c =
 overflow_mul-result : tie.Need-overflow_mul-result
 overflow_mul-result c =
     let at-start : tie.Start = search in
-    let m = term_small c.weight_between.result at-start.args.penalty (omega (arith, c.weight_between.ensures.small)) (omega arith) in
+    let m = term_small c.weight_between.result at-start.args.penalty (omega (arith, c.weight_between.ensures.1)) (omega arith) in
     omega arith
 
 returns : tie.Need-returns

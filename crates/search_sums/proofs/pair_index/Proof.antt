@@ -10,7 +10,7 @@ overflow_mul-result c = let a = c.args in
     let x = few_times a.n a.i p.0 (omega arith) in
     let y = few_times a.i (a.i + 1) (omega arith) (omega arith) in
     let r = row_closed a.n a.i (omega arith) in
-    let f = r.ranges in
+    let f = r.fits in
     let s = r.start in
     omega arith
 
@@ -20,7 +20,7 @@ overflow_mul-result-2 c = let a = c.args in
     let x = few_times a.n a.i p.0 (omega arith) in
     let y = few_times a.i (a.i + 1) (omega arith) (omega arith) in
     let r = row_closed a.n a.i (omega arith) in
-    let f = r.ranges in
+    let f = r.fits in
     let s = r.start in
     omega arith
 
@@ -30,7 +30,7 @@ overflow_sub-result c = let a = c.args in
     let x = few_times a.n a.i p.0 (omega arith) in
     let y = few_times a.i (a.i + 1) (omega arith) (omega arith) in
     let r = row_closed a.n a.i (omega arith) in
-    let f = r.ranges in
+    let f = r.fits in
     let s = r.start in
     omega arith
 
@@ -40,7 +40,7 @@ overflow_add-result-3 c = let a = c.args in
     let x = few_times a.n a.i p.0 (omega arith) in
     let y = few_times a.i (a.i + 1) (omega arith) (omega arith) in
     let r = row_closed a.n a.i (omega arith) in
-    let f = r.ranges in
+    let f = r.fits in
     let s = r.start in
     omega arith
 
@@ -50,7 +50,7 @@ returns c = let a = c.args in
     let x = few_times a.n a.i p.0 (omega arith) in
     let y = few_times a.i (a.i + 1) (omega arith) (omega arith) in
     let r = row_closed a.n a.i (omega arith) in
-    let f = r.ranges in
+    let f = r.fits in
     let s = r.start in
     omega arith
 

@@ -79,8 +79,8 @@ loop-i-preserved c =
       next,
       c.before.before.raise_row.auto.1.0 ∙ l.invariant.2,
       λ j v e t w.
-          subst (λ k. Raising j v a.weights-1.now k c.before.before.raise_row.new.1.0) (sym next)
-          (c.before.before.raise_row.ensures j v a.weights-1.now e t w (l.invariant.3 j v e t w)),
+          subst (λ k. Raising j v a.weights.now k c.before.before.raise_row.new.1.0) (sym next)
+          (c.before.before.raise_row.ensures j v a.weights.now e t w (l.invariant.3 j v e t w)),
     )
 
 shape_of-weights : tie.Need-shape_of-weights invariant-loop-i decreases-loop-i
@@ -92,7 +92,7 @@ returns c = λ j v e t w.
     let a = at-start.args in
     let l = c.before.loop-i in
     let done : l.i ≡ a.n = omega (arith, l.invariant.0, c.loop-i-test.false) in
-    raise_end j v a.n a.weights-1.now l.weights-1 l.from e w (l.invariant.1 ∙ ap (row_start a.n) done) (l.invariant.3 j v e t w)
+    raise_end j v a.n a.weights.now l.weights l.from e w (l.invariant.1 ∙ ap (row_start a.n) done) (l.invariant.3 j v e t w)
 
 pub raise_spec : {M : Type 1} → statement M
 raise_spec =

@@ -35,10 +35,10 @@ turn c =
     c.loop-k-test.true l.invariant.2
 
 overflow_add-k : tie.Need-overflow_add-k invariant-loop-k decreases-loop-k
-overflow_add-k c = let f = c.before.before.requires.fact_1.few in let b = c.before.before.requires.fact_2.0 in omega arith
+overflow_add-k c = let f = c.before.before.requires.0.few in let b = c.before.before.requires.1.0 in omega arith
 
 loop-k-init : tie.Need-loop-k-init invariant-loop-k decreases-loop-k
-loop-k-init c = let b = c.before.before.requires.fact_2.0 in (omega arith, omega arith, omega arith, refl, λ j v ws e t w r. r)
+loop-k-init c = let b = c.before.before.requires.1.0 in (omega arith, omega arith, omega arith, refl, λ j v ws e t w r. r)
 
 overflow_mul-i : tie.Need-overflow_mul-i invariant-loop-k decreases-loop-k
 overflow_mul-i c = let t = turn c.before in omega arith
@@ -76,8 +76,8 @@ loop-k-preserved c =
     let l = at-loop.loop-k in
     let t = turn (in-loop) in
     let e = l.invariant.2 in
-    let start = at-start.requires.fact_2.1 in
-    let now : c.before.before.raise_pair.new.0 ≡ raised_at l.weights-1 l.at (get_or a.penalties.now (a.i * 64 + l.k) 0) =
+    let start = at-start.requires.1.1 in
+    let now : c.before.before.raise_pair.new.0 ≡ raised_at l.weights l.at (get_or a.penalties.now (a.i * 64 + l.k) 0) =
     c.before.before.raise_pair.ensures in
     let index : pair_index a.n a.i l.k ≡ l.at = omega arith in (
       omega arith,
@@ -86,7 +86,7 @@ loop-k-preserved c =
       c.before.before.raise_pair.auto.0 ∙ l.invariant.3,
       λ j v ws n table valid r.
           subst (λ now. Raising j v ws (l.at + 1) now) (sym now)
-          (raise_step j v a.n ws l.weights-1 a.penalties.now a.i l.k l.at n table valid t.above t.below index
+          (raise_step j v a.n ws l.weights a.penalties.now a.i l.k l.at n table valid t.above t.below index
           (l.invariant.4 j v ws n table valid r)),
     )
 
@@ -98,13 +98,13 @@ returns c = λ j v ws n t valid r.
     let at-start : tie.Start invariant-loop-k decreases-loop-k = search in
     let a = at-start.args in
     let l = c.before.loop-k in
-    let b = at-start.requires.fact_2.0 in
-    let start = at-start.requires.fact_2.1 in
+    let b = at-start.requires.1.0 in
+    let start = at-start.requires.1.1 in
     let e = l.invariant.2 in
     let end = l.invariant.1 in
     let done = c.loop-k-test.false in
     let here : l.at ≡ row_start a.n (a.i + 1) = omega (arith, row_next a.n a.i) in
-    subst (λ k. Raising j v ws k l.weights-1) here (l.invariant.4 j v ws n t valid r)
+    subst (λ k. Raising j v ws k l.weights) here (l.invariant.4 j v ws n t valid r)
 
 pub raise_row_spec : {M : Type 1} → statement M
 raise_row_spec =

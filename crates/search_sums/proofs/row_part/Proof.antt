@@ -44,11 +44,11 @@ small c =
     term_small (get_or a.weights.now l.at 0) (get_or a.penalties.now (a.i * 64 + l.k) 0) (omega arith) (omega arith)
 
 overflow_add-k : tie.Need-overflow_add-k invariant-loop-k decreases-loop-k
-overflow_add-k c = let f = c.requires.fact_1.few in let b = c.requires.fact_2.0 in omega arith
+overflow_add-k c = let f = c.requires.0.few in let b = c.requires.1.0 in omega arith
 
 loop-k-init : tie.Need-loop-k-init invariant-loop-k decreases-loop-k
 loop-k-init c =
-    let b = c.requires.fact_2.0 in
+    let b = c.requires.1.0 in
     let z : c.args.i + 1 - (c.args.i + 1) ≡ 0 = omega arith in
     (omega arith, omega arith, omega arith, omega arith, rw z)
 
@@ -118,7 +118,7 @@ returns : tie.Need-returns invariant-loop-k decreases-loop-k
 returns c =
     let a = c.before.before.args in
     let l = c.before.loop-k in
-    let few = c.before.before.requires.fact_1.few in
+    let few = c.before.before.requires.0.few in
     let sum = l.invariant.3 in
     let done : l.k ≡ a.n = omega (arith, l.invariant.1, c.loop-k-test.false) in
     (part_all a.n (table_cost a.penalties.now a.i) a.weights.now a.i a.from l.k l.sum done l.invariant.4, omega arith)

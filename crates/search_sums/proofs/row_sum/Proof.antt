@@ -42,7 +42,7 @@ overflow_add-sum c =
     let at-loop : tie.At-loop-k invariant-loop-k decreases-loop-k = search in
     let at-start : tie.Start invariant-loop-k decreases-loop-k = search in
     let p = at-start.requires in
-    omega (arith, c.cost_between-sum.ensures.small, at-loop.loop-k.invariant.1)
+    omega (arith, c.cost_between-sum.ensures.1, at-loop.loop-k.invariant.1)
 
 overflow_add-k : tie.Need-overflow_add-k invariant-loop-k decreases-loop-k
 overflow_add-k c =

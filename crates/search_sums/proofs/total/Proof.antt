@@ -34,7 +34,7 @@ overflow_add-sum c =
     let l = c.before.before.loop-i in
     let few = at-start.requires.few in
     let sum = l.invariant.2 in
-    let part = c.row_part-sum.ensures.small in
+    let part = c.row_part-sum.ensures.1 in
     let start = l.invariant.1 in
     let t = c.before.loop-i-test.true in
     let most = pairs_at_most a.n few in
@@ -56,7 +56,7 @@ overflow_add-from c =
     let l = c.before.before.loop-i in
     let few = at-start.requires.few in
     let sum = l.invariant.2 in
-    let part = c.row_part-sum.ensures.small in
+    let part = c.row_part-sum.ensures.1 in
     let start = l.invariant.1 in
     let t = c.before.loop-i-test.true in
     let most = pairs_at_most a.n few in
@@ -73,7 +73,7 @@ loop-i-preserved c =
     let l = c.before.before.loop-i in
     let few = at-start.requires.few in
     let sum = l.invariant.2 in
-    let part = c.row_part-sum.ensures.small in
+    let part = c.row_part-sum.ensures.1 in
     let start = l.invariant.1 in
     let t = c.before.loop-i-test.true in
     let most = pairs_at_most a.n few in
@@ -81,7 +81,7 @@ loop-i-preserved c =
       omega arith,
       omega (arith, row_next a.n l.i),
       omega arith,
-      parts_more a.n (table_cost a.penalties.now) a.weights.now l.i l.from l.sum _ l.invariant.1 l.invariant.3 c.row_part-sum.ensures.part,
+      parts_more a.n (table_cost a.penalties.now) a.weights.now l.i l.from l.sum _ l.invariant.1 l.invariant.3 c.row_part-sum.ensures.0,
     )
 
 returns : tie.Need-returns invariant-loop-i decreases-loop-i

@@ -13,8 +13,8 @@ offset_bounds-weights-pair_index : tie.Need-offset_bounds-weights-pair_index
 offset_bounds-weights-pair_index c =
     let at-start : tie.Start = search in
     let a = at-start.args in
-    let p = at-start.requires.fact_1 in
-    let q = at-start.requires.fact_2 in
+    let p = at-start.requires.0 in
+    let q = at-start.requires.1 in
     let e = c.pair_index.ensures in
     let b = pair_below a.n a.i a.k (omega arith) (omega arith) in
     omega arith
@@ -23,8 +23,8 @@ bounds-weights-pair_index : tie.Need-bounds-weights-pair_index
 bounds-weights-pair_index c =
     let at-start : tie.Start = search in
     let a = at-start.args in
-    let p = at-start.requires.fact_1 in
-    let q = at-start.requires.fact_2 in
+    let p = at-start.requires.0 in
+    let q = at-start.requires.1 in
     let e = c.before.pair_index.ensures in
     let b = pair_below a.n a.i a.k (omega arith) (omega arith) in
     omega arith
@@ -44,8 +44,8 @@ offset_bounds-weights-pair_index-2 : tie.Need-offset_bounds-weights-pair_index-2
 offset_bounds-weights-pair_index-2 c =
     let at-start : tie.Start = search in
     let a = at-start.args in
-    let p = at-start.requires.fact_1 in
-    let q = at-start.requires.fact_2 in
+    let p = at-start.requires.0 in
+    let q = at-start.requires.1 in
     let e = c.pair_index-2.ensures in
     let b = pair_below a.n a.k a.i (omega arith) (omega arith) in
     omega arith
@@ -54,8 +54,8 @@ bounds-weights-pair_index-2 : tie.Need-bounds-weights-pair_index-2
 bounds-weights-pair_index-2 c =
     let at-start : tie.Start = search in
     let a = at-start.args in
-    let p = at-start.requires.fact_1 in
-    let q = at-start.requires.fact_2 in
+    let p = at-start.requires.0 in
+    let q = at-start.requires.1 in
     let e = c.before.pair_index-2.ensures in
     let b = pair_below a.n a.k a.i (omega arith) (omega arith) in
     omega arith

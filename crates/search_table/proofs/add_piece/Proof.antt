@@ -29,16 +29,16 @@ loop-k-init : tie.Need-loop-k-init invariant-loop-k decreases-loop-k
 loop-k-init c =
     let s : tie.Start invariant-loop-k decreases-loop-k = search in
     let a = s.args in
-    (omega arith, refl, refl, refl, refl, refl, s.requires.fact_2.1.0, s.requires.fact_2.1.1.0, λ size g t. added_begin _ _ a.i _ a.penalties.now t)
+    (omega arith, refl, refl, refl, refl, refl, s.requires.1.1.0, s.requires.1.1.1.0, λ size g t. added_begin _ _ a.i _ a.penalties.now t)
 
 penalty_of-p-requires : tie.Need-penalty_of-p-requires invariant-loop-k decreases-loop-k
 penalty_of-p-requires c κs =
     let at-loop : tie.At-loop-k invariant-loop-k decreases-loop-k = search in
     let s : tie.Start invariant-loop-k decreases-loop-k = search in
     let in-loop : tie.In-loop-k invariant-loop-k decreases-loop-k = search in
-    let b = s.requires.fact_2.0.0 in
+    let b = s.requires.1.0.0 in
     let taken = in-loop.loop-k-test.true in
-    (s.requires.fact_1, ((b, omega arith), (at-loop.loop-k.invariant.6, (at-loop.loop-k.invariant.7, s.requires.fact_2.0.1))))
+    (s.requires.0, ((b, omega arith), (at-loop.loop-k.invariant.6, (at-loop.loop-k.invariant.7, s.requires.1.0.1))))
 
 -- the turn of the loop in which a pair is measured
 abbrev within : tie.After-penalty_of-p invariant-loop-k decreases-loop-k → tie.In-loop-k invariant-loop-k decreases-loop-k
@@ -49,7 +49,7 @@ overflow_cast-p c =
     let measured : tie.After-penalty_of-p invariant-loop-k decreases-loop-k = search in
     let in-loop : tie.In-loop-k invariant-loop-k decreases-loop-k = within measured in
     let taken = in-loop.loop-k-test.true in
-    let byte = measured.penalty_of-p.ensures.small.0 (λ e. omega arith) in omega arith
+    let byte = measured.penalty_of-p.ensures.1.0 (λ e. omega arith) in omega arith
 
 -- both entries are in the table
 record There (s : tie.Start invariant-loop-k decreases-loop-k) (at-loop : tie.At-loop-k invariant-loop-k decreases-loop-k) : Type 0 where
@@ -64,10 +64,10 @@ there : (c : tie.In-loop-k invariant-loop-k decreases-loop-k) →
 there c =
     let at-loop : tie.At-loop-k invariant-loop-k decreases-loop-k = search in
     let s : tie.Start invariant-loop-k decreases-loop-k = search in
-    let few = s.requires.fact_1.few in
-    let b = s.requires.fact_2.0.0 in
+    let few = s.requires.0.few in
+    let b = s.requires.1.0.0 in
     let taken = c.loop-k-test.true in
-    record { row = omega arith; column = omega arith; size = at-loop.loop-k.invariant.5 ∙ s.requires.fact_2.1.1.1 }
+    record { row = omega arith; column = omega arith; size = at-loop.loop-k.invariant.5 ∙ s.requires.1.1.1.1 }
 
 overflow_mul-penalties : tie.Need-overflow_mul-penalties invariant-loop-k decreases-loop-k
 overflow_mul-penalties c = let in-loop : tie.In-loop-k invariant-loop-k decreases-loop-k = search in let t = there in-loop in omega arith
@@ -106,8 +106,8 @@ loop-k-preserved c =
     let a = s.args in
     let l = at-loop.loop-k in
     let measured = at-penalty.penalty_of-p in
-    let few = s.requires.fact_1.few in
-    let b = s.requires.fact_2.0.0 in
+    let few = s.requires.0.few in
+    let b = s.requires.1.0.0 in
     let taken = in-loop.loop-k-test.true in (
       omega arith,
       measured.kept.1.1.1.1.1.1.0 ∙ l.invariant.1,

@@ -24,7 +24,7 @@ decreases-loop-i table pixels layout gap rows₀ row-spans₀ columns₀ column-
 loop-i-init : tie.Need-loop-i-init invariant-loop-i decreases-loop-i
 loop-i-init c =
     let s : tie.Start invariant-loop-i decreases-loop-i = search in
-    (omega arith, refl, refl, refl, refl, refl, s.requires.fact_2.0, s.requires.fact_2.1.0, λ size g. table_empty _ _ _ s.requires.fact_2.1.1.0)
+    (omega arith, refl, refl, refl, refl, refl, s.requires.1.0, s.requires.1.1.0, λ size g. table_empty _ _ _ s.requires.1.1.1.0)
 
 add_piece-requires : tie.Need-add_piece-requires invariant-loop-i decreases-loop-i
 add_piece-requires c κs =
@@ -32,13 +32,13 @@ add_piece-requires c κs =
     let s : tie.Start invariant-loop-i decreases-loop-i = search in
     let in-loop : tie.In-loop-i invariant-loop-i decreases-loop-i = search in
     let l = at-loop.loop-i in
-    (s.requires.fact_1, ((in-loop.loop-i-test.true, s.requires.fact_2.1.1.1), (l.invariant.6, (l.invariant.7, l.invariant.5 ∙ s.requires.fact_2.1.1.0))))
+    (s.requires.0, ((in-loop.loop-i-test.true, s.requires.1.1.1.1), (l.invariant.6, (l.invariant.7, l.invariant.5 ∙ s.requires.1.1.1.0))))
 
 overflow_add-i : tie.Need-overflow_add-i invariant-loop-i decreases-loop-i
 overflow_add-i c =
     let s : tie.Start invariant-loop-i decreases-loop-i = search in
     let in-loop : tie.In-loop-i invariant-loop-i decreases-loop-i = search in
-    let few = s.requires.fact_1.few in
+    let few = s.requires.0.few in
     let taken = in-loop.loop-i-test.true in omega arith
 
 loop-i-smaller : tie.Need-loop-i-smaller invariant-loop-i decreases-loop-i
@@ -85,7 +85,7 @@ returns c = λ size g whole.
     let a = s.args in
     let l = at-loop.loop-i in
     let done : l.i ≡ size.count = omega (arith, whole, l.invariant.0, c.loop-i-test.false) in
-    subst (λ n. PenaltyTable (job_of (lent_by size a.table.now a.pixels.now)) (layout_of a.layout.now) n l.penalties-1) done (l.invariant.8 size g)
+    subst (λ n. PenaltyTable (job_of (lent_by size a.table.now a.pixels.now)) (layout_of a.layout.now) n l.penalties) done (l.invariant.8 size g)
 
 pub fill_table_spec : {M : Type 1} → statement M
 fill_table_spec =

@@ -25,10 +25,10 @@ fill_table-requires c κs =
     let column-spans : tie.After-no_spans-column_spans = search in
     let wide = rows.empty_store-rows.ensures in
     let wide2 = columns.empty_store-columns.ensures in (
-      s.requires.fact_1,
+      s.requires.0,
       (
-        kept_none _ _ _ _ _ _ s.requires.fact_1 (omega arith) row-spans.no_spans-row_spans.ensures,
-        (kept_none _ _ _ _ _ _ s.requires.fact_1 (omega arith) column-spans.no_spans-column_spans.ensures, (refl, let g = s.requires.fact_2 in omega arith)),
+        kept_none _ _ _ _ _ _ s.requires.0 (omega arith) row-spans.no_spans-row_spans.ensures,
+        (kept_none _ _ _ _ _ _ s.requires.0 (omega arith) column-spans.no_spans-column_spans.ensures, (refl, let g = s.requires.1 in omega arith)),
       ),
     )
 
@@ -39,7 +39,7 @@ returns c =
     filled.fill_table.ensures s.args.size refl
 
 overflow_cast-gap : tie.Need-overflow_cast-gap
-overflow_cast-gap c = let s : tie.Start = search in let g = s.requires.fact_2 in omega arith
+overflow_cast-gap c = let s : tie.Start = search in let g = s.requires.1 in omega arith
 
 pub penalties_of_spec : {M : Type 1} → statement M
 penalties_of_spec =

@@ -10,7 +10,7 @@ returns c =
     let at-else2 : tie.Else-track-standing = search in
     let at-else1 : tie.Else-standing-track = search in
     let at-start : tie.Start = search in
-    reach_meeting at-start.args.track at-start.args.standing at-start.requires.fact_1 at-start.requires.fact_2.0 at-start.requires.fact_2.1 at-else1.if-standing-track.false
+    reach_meeting at-start.args.track at-start.args.standing at-start.requires.0 at-start.requires.1.0 at-start.requires.1.1 at-else1.if-standing-track.false
     at-else2.if-track-standing.false _ _ _
     at-low-of.low_of-low.ensures c.before.before.smaller-high.ensures refl
 

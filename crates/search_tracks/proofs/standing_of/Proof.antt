@@ -14,16 +14,16 @@ overflow_add-columns : tie.Need-overflow_add-columns
 overflow_add-columns c =
     let at-sides : tie.After-turned_sides-sides = c.before.before in
     let at-start : tie.Start = search in
-    let l = at-sides.turned_sides-sides.ensures.small.0 in
-    let g = at-start.requires.fact_2 in
+    let l = at-sides.turned_sides-sides.ensures.1.0 in
+    let g = at-start.requires.1 in
     omega arith
 
 overflow_add-rows : tie.Need-overflow_add-rows
 overflow_add-rows c =
     let at-sides : tie.After-turned_sides-sides = c.before.before.before.before in
     let at-start : tie.Start = search in
-    let l = at-sides.turned_sides-sides.ensures.small.1 in
-    let g = at-start.requires.fact_2 in
+    let l = at-sides.turned_sides-sides.ensures.1.1 in
+    let g = at-start.requires.1 in
     omega arith
 
 returns-in-Horizontal : tie.Need-returns-in-Horizontal
@@ -43,8 +43,8 @@ returns-in-Horizontal c =
       record {
         along = let k = known.before.struct_known-5-1.given in search rules;
         across = let k = known.struct_known-6-1.given.1 in search rules;
-        length = let g = at-start.requires.fact_2 in let l = s.ensures.1.0 in let w = s.ensures.1.1 in omega arith;
-        width = let g = at-start.requires.fact_2 in let l = s.ensures.1.0 in let w = s.ensures.1.1 in omega arith;
+        length = let g = at-start.requires.1 in let l = s.ensures.1.0 in let w = s.ensures.1.1 in omega arith;
+        width = let g = at-start.requires.1 in let l = s.ensures.1.0 in let w = s.ensures.1.1 in omega arith;
       },
     )
 
@@ -65,8 +65,8 @@ returns-in-Vertical c =
       record {
         along = let k = known.struct_known-6-1.given.1 in search rules;
         across = let k = known.before.struct_known-5-1.given in search rules;
-        length = let g = at-start.requires.fact_2 in let l = s.ensures.1.0 in let w = s.ensures.1.1 in omega arith;
-        width = let g = at-start.requires.fact_2 in let l = s.ensures.1.0 in let w = s.ensures.1.1 in omega arith;
+        length = let g = at-start.requires.1 in let l = s.ensures.1.0 in let w = s.ensures.1.1 in omega arith;
+        width = let g = at-start.requires.1 in let l = s.ensures.1.0 in let w = s.ensures.1.1 in omega arith;
       },
     )
 

@@ -13,16 +13,16 @@ overflow_add-columns : tie.Need-overflow_add-columns
 overflow_add-columns c =
     let at-sides : tie.After-turned_sides-sides = c.before.before in
     let at-start : tie.Start = search in
-    let l = at-sides.turned_sides-sides.ensures.small.0 in
-    let g = at-start.requires.fact_2 in
+    let l = at-sides.turned_sides-sides.ensures.1.0 in
+    let g = at-start.requires.1 in
     omega arith
 
 overflow_add-rows : tie.Need-overflow_add-rows
 overflow_add-rows c =
     let at-sides : tie.After-turned_sides-sides = sided c in
     let at-start : tie.Start = search in
-    let l = at-sides.turned_sides-sides.ensures.small.1 in
-    let g = at-start.requires.fact_2 in
+    let l = at-sides.turned_sides-sides.ensures.1.1 in
+    let g = at-start.requires.1 in
     omega arith
 
 returns-in-InRow : tie.Need-returns-in-InRow
@@ -33,14 +33,14 @@ returns-in-InRow c =
     let at-start : tie.Start = search in
     let a = at-start.args in
     let s = at-turned-sides.turned_sides-sides in
-    let g = at-start.requires.fact_2 in
+    let g = at-start.requires.1 in
     let l = s.ensures.1.0 in
     let w = s.ensures.1.1 in
     let line = at-line.line-1.given in (
       λ pixels.
           track_row (job_of (lent_by a.size a.table.now pixels)) a.mover s.result c.room_on.result (s.ensures.0 a.size pixels) line.0.0
-          line.1 c.room_on.ensures.room,
-      record { length = omega arith; width = omega arith; held = search rules; places = let m = c.room_on.ensures.small in omega arith },
+          line.1 c.room_on.ensures.0,
+      record { length = omega arith; width = omega arith; held = search rules; places = let m = c.room_on.ensures.1 in omega arith },
     )
 
 returns-in-InColumn : tie.Need-returns-in-InColumn
@@ -51,14 +51,14 @@ returns-in-InColumn c =
     let at-start : tie.Start = search in
     let a = at-start.args in
     let s = at-turned-sides.turned_sides-sides in
-    let g = at-start.requires.fact_2 in
+    let g = at-start.requires.1 in
     let l = s.ensures.1.0 in
     let w = s.ensures.1.1 in
     let line = at-line2.line-in-InColumn-1.given in (
       λ pixels.
           track_column (job_of (lent_by a.size a.table.now pixels)) a.mover s.result c.room_on-in-InColumn.result (s.ensures.0 a.size pixels)
-          line.0.0 line.1 c.room_on-in-InColumn.ensures.room,
-      record { length = omega arith; width = omega arith; held = search rules; places = let m = c.room_on-in-InColumn.ensures.small in omega arith },
+          line.0.0 line.1 c.room_on-in-InColumn.ensures.0,
+      record { length = omega arith; width = omega arith; held = search rules; places = let m = c.room_on-in-InColumn.ensures.1 in omega arith },
     )
 
 room_on-requires : tie.Need-room_on-requires
@@ -66,7 +66,7 @@ room_on-requires c =
     let at-line : tie.In-InRow-2 = search in
     let at-sides : tie.After-turned_sides-sides = sided at-line.before.before in
     let at-start : tie.Start = search in
-    let w = at-sides.turned_sides-sides.ensures.small.1 in
+    let w = at-sides.turned_sides-sides.ensures.1.1 in
     search rules
 
 room_on-requires-in-InColumn : tie.Need-room_on-requires-in-InColumn
@@ -74,7 +74,7 @@ room_on-requires-in-InColumn c =
     let at-line : tie.In-InColumn-2 = search in
     let at-sides : tie.After-turned_sides-sides = sided at-line.before.before in
     let at-start : tie.Start = search in
-    let w = at-sides.turned_sides-sides.ensures.small.0 in
+    let w = at-sides.turned_sides-sides.ensures.1.0 in
     search rules
 
 pub track_of_spec : {M : Type 1} → statement M

@@ -15,7 +15,7 @@ loop-done-init : tie.Need-loop-done-init invariant-loop-done decreases-loop-done
 loop-done-init c =
     let at-start : tie.Start invariant-loop-done decreases-loop-done = search in
     let a = at-start.args in
-    (omega arith, omega arith, refl, repeated_one a.count a.unit a.words-1.now)
+    (omega arith, omega arith, refl, repeated_one a.count a.unit a.words.now)
 
 overflow_mul-step : tie.Need-overflow_mul-step invariant-loop-done decreases-loop-done
 overflow_mul-step c =
@@ -39,7 +39,7 @@ loop-done-preserved c =
     let o = at-loop.loop-done in
     let e = at-smaller.smaller-step.ensures in
     let g =
-    repeated_more a.count a.unit a.words-1.now o.words-1 _ o.done at-smaller.smaller-step.result (omega arith) o.invariant.3
+    repeated_more a.count a.unit a.words.now o.words _ o.done at-smaller.smaller-step.result (omega arith) o.invariant.3
     at-spread.spread.ensures in
     (omega arith, omega arith, g.same, g)
 
@@ -54,7 +54,7 @@ returns c =
     let at-loop : tie.At-loop-done invariant-loop-done decreases-loop-done = search in
     let a = at-start.args in
     let o = at-loop.loop-done in
-    subst (λ (k : ℕ). Repeated a.count a.unit k a.words-1.now o.words-1) (omega arith) o.invariant.3
+    subst (λ (k : ℕ). Repeated a.count a.unit k a.words.now o.words) (omega arith) o.invariant.3
 
 pub grow_spec : {M : Type 1} → statement M
 grow_spec =

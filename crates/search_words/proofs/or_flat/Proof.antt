@@ -8,7 +8,7 @@ returns : tie.Need-returns
 returns c =
     let at-start : tie.Start = search in
     let a = at-start.args in
-    flat_from_row a.to-1.now a.from.now a.s _ at-start.requires.1 c.before.before.or_row.ensures
+    flat_from_row a.to.now a.from.now a.s _ at-start.requires.1 c.before.before.or_row.ensures
 
 pub or_flat_spec : {M : Type 1} → statement M
 or_flat_spec = tie.close (tie.spec

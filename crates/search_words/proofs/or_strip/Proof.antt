@@ -16,7 +16,7 @@ returns-then-count-n c =
     let at-or-flat : tie.After-or_flat = search in
     let at-then1 : tie.Then-count-n = search in
     let a = at-start.args in
-    strip_one a.to-1.now _ a.wide.now a.n a.place a.count at-then1.if-count-n.true at-or-flat.or_flat.ensures
+    strip_one a.to.now _ a.wide.now a.n a.place a.count at-then1.if-count-n.true at-or-flat.or_flat.ensures
 
 or_flat-requires-2 : tie.Need-or_flat-requires-2
 or_flat-requires-2 c κs =
@@ -28,7 +28,7 @@ returns c =
     let at-start : tie.Start = search in
     let at-or-flat : tie.After-or_flat = search in
     let a = at-start.args in
-    strip_from a.to-1.now _ _ a.wide.now a.n a.place a.count (omega arith) (omega arith) at-or-flat.or_flat.ensures
+    strip_from a.to.now _ _ a.wide.now a.n a.place a.count (omega arith) (omega arith) at-or-flat.or_flat.ensures
     c.before.before.or_flat-2.ensures
 
 pub or_strip_spec : {M : Type 1} → statement M

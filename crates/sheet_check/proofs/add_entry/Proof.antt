@@ -18,7 +18,7 @@ returns-then-not-entry : tie.Need-returns-then-not-entry
 returns-then-not-entry c =
     let at-start : tie.Start = search in
     let a = at-start.args in
-    free_added (job_of (lent_by a.size a.table.now a.pixels.now)) a.sheet.pieces a.i _ a.made-1.now c.before.before.entry_of-entry.ensures
+    free_added (job_of (lent_by a.size a.table.now a.pixels.now)) a.sheet.pieces a.i _ a.made.now c.before.before.entry_of-entry.ensures
     (not-true _ c.if-not-entry.true)
 
 move_piece-requires : tie.Need-move_piece-requires
@@ -45,7 +45,7 @@ returns c =
     let at-start : tie.Start = search in
     let a = at-start.args in
     c.before.before.move_piece.ensures
-    ∙ laid_added (job_of (lent_by a.size a.table.now a.pixels.now)) a.sheet.pieces a.i _ a.made-1.now
+    ∙ laid_added (job_of (lent_by a.size a.table.now a.pixels.now)) a.sheet.pieces a.i _ a.made.now
     at-entry-of.entry_of-entry.ensures (not-false _ at-else1.if-not-entry.false)
 
 pub add_entry_spec : {M : Type 1} → statement M

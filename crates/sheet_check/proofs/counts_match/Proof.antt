@@ -20,7 +20,7 @@ recount-requires c κs =
     record {
       well = pre.0.well;
       entries = pre.0.entries;
-      full = length-take-le (length a.counts.now) a.made-1.now pre.1 ∙ pre.0.full;
+      full = length-take-le (length a.counts.now) a.made.now pre.1 ∙ pre.0.full;
     }
 
 slice_bounds-same-end-2 : tie.Need-slice_bounds-same-end-2
@@ -32,7 +32,7 @@ slice_bounds-same-end-2 c =
     let pre = at-start.requires in
     let made = at-recount.recount.new.1.1.1.1.0 in
     let full : length made ≡ length a.counts.now = at-recount.recount.ensures.full ∙ sym pre.0.full in
-    front_length _ (made ++ drop (length a.counts.now) a.made-1.now) (simp length-append (omega arith))
+    front_length _ (made ++ drop (length a.counts.now) a.made.now) (simp length-append (omega arith))
 
 slice_bounds-same-end-3 : tie.Need-slice_bounds-same-end-3
 slice_bounds-same-end-3 c =
@@ -48,8 +48,8 @@ returns c =
     let pre = at-start.requires in
     let made = at-recount.recount.new.1.1.1.1.0 in
     let full : length made ≡ length a.counts.now = at-recount.recount.ensures.full ∙ sym pre.0.full in
-    let front : take (length a.counts.now) (made ++ drop (length a.counts.now) a.made-1.now) ≡ made =
-    take_at made (drop (length a.counts.now) a.made-1.now) (length a.counts.now) full in
+    let front : take (length a.counts.now) (made ++ drop (length a.counts.now) a.made.now) ≡ made =
+    take_at made (drop (length a.counts.now) a.made.now) (length a.counts.now) full in
     let all : take (length a.counts.now) a.counts.now ≡ a.counts.now = take-length a.counts.now in
     same_counted (job_of (lent_by a.size a.table.now a.pixels.now)) a.sheet.pieces made a.counts.now c.same.result
     at-recount.recount.ensures pre.0.full (λ t. sym front ∙ c.same.ensures.0 t ∙ all) (λ e. c.same.ensures.1 (front ∙ e ∙ sym all))

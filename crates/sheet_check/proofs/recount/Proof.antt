@@ -23,10 +23,10 @@ loop-piece-init : tie.Need-loop-piece-init invariant-loop-piece decreases-loop-p
 loop-piece-init c =
     let at-start : tie.Start invariant-loop-piece decreases-loop-piece = search in
     let a = at-start.args in
-    let zeros : c.before.before.clear.new.0 ≡ replicate (length a.made-1.now) 0 = c.before.before.clear.ensures in (
+    let zeros : c.before.before.clear.new.0 ≡ replicate (length a.made.now) 0 = c.before.before.clear.ensures in (
       omega arith,
       ap length zeros ∙ length-replicate _ 0 ∙ at-start.requires.full,
-      rw zeros (none_counted (job_of (lent_by a.size a.table.now a.pixels.now)) a.sheet.pieces (length a.made-1.now)),
+      rw zeros (none_counted (job_of (lent_by a.size a.table.now a.pixels.now)) a.sheet.pieces (length a.made.now)),
     )
 
 add_entry-requires : tie.Need-add_entry-requires invariant-loop-piece decreases-loop-piece
@@ -53,11 +53,11 @@ loop-piece-preserved c =
     let now = at-loop.loop-piece in
     let few = (facts _ at-start.requires.well).few_pieces in
     let l = in-loop.loop-piece-test.true in
-    let after : c.before.before.add_entry.new.1.1.1.1.1.0 ≡ added_entry j a.sheet.pieces now.piece now.made-1 =
+    let after : c.before.before.add_entry.new.1.1.1.1.1.0 ≡ added_entry j a.sheet.pieces now.piece now.made =
     c.before.before.add_entry.ensures in (
       omega arith,
-      ap length after ∙ length_added j a.sheet.pieces now.piece now.made-1 ∙ now.invariant.1,
-      rw after (added_below j a.sheet.pieces now.piece now.made-1 (omega arith) now.invariant.2),
+      ap length after ∙ length_added j a.sheet.pieces now.piece now.made ∙ now.invariant.1,
+      rw after (added_below j a.sheet.pieces now.piece now.made (omega arith) now.invariant.2),
     )
 
 shape_of-made : tie.Need-shape_of-made invariant-loop-piece decreases-loop-piece
@@ -72,7 +72,7 @@ returns c =
     let a = at-start.args in
     let now = c.before.loop-piece in
     let all : now.piece ≡ a.size.count = let out = c.loop-piece-test.false in let most = now.invariant.0 in omega arith in
-    all_counted (job_of (lent_by a.size a.table.now a.pixels.now)) a.sheet.pieces now.made-1 now.invariant.1 (rw all at now.invariant.2)
+    all_counted (job_of (lent_by a.size a.table.now a.pixels.now)) a.sheet.pieces now.made now.invariant.1 (rw all at now.invariant.2)
 
 pub recount_spec : {M : Type 1} → statement M
 recount_spec =

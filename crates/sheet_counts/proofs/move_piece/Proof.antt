@@ -59,7 +59,7 @@ returns c =
     let box = at-turned-piece.turned_piece-piece.ensures in
     let first = at-corner-number.corner_number-first.ensures in
     let moved = rw (box, start, first, sides.0 a.size a.pixels.now) at c.before.before.move_rows.ensures in
-    moved ∙ piece_moved l a.i a.place _ ready a.change a.counts-1.now refl
+    moved ∙ piece_moved l a.i a.place _ ready a.change a.counts.now refl
 
 pub move_piece_spec : {M : Type 1} → statement M
 move_piece_spec =

@@ -57,14 +57,14 @@ loop-y-preserved c =
     let now = at-loop.loop-y in
     let f = on_at a.pixels.now a.piece in
     let inside = in-loop.loop-y-test.true in
-    let after : c.before.before.Move-row.new.1.1.1.1.1.1.0 ≡ moved_run a.change (f now.y) now.from now.counts-1 0 a.width =
+    let after : c.before.before.Move-row.new.1.1.1.1.1.1.0 ≡ moved_run a.change (f now.y) now.from now.counts 0 a.width =
     c.before.before.Move-row.ensures in
     let from = now.invariant.2 in
     let step : (now.y + 1) * a.sheet ≡ now.y * a.sheet + a.sheet = ap (λ (n : ℕ). n * a.sheet) (add-one now.y) ∙ suc-mul now.y a.sheet in (
       omega arith,
-      ap length after ∙ length_run a.change (f now.y) now.from now.counts-1 0 a.width ∙ now.invariant.1,
+      ap length after ∙ length_run a.change (f now.y) now.from now.counts 0 a.width ∙ now.invariant.1,
       omega arith,
-      rw after (sym (rows_step a.change f a.sheet a.width now.counts-1 now.from now.y a.height inside) ∙ now.invariant.3),
+      rw after (sym (rows_step a.change f a.sheet a.width now.counts now.from now.y a.height inside) ∙ now.invariant.3),
     )
 
 shape_of-counts : tie.Need-shape_of-counts invariant-loop-y decreases-loop-y
@@ -75,7 +75,7 @@ returns c =
     let at-start : tie.Start invariant-loop-y decreases-loop-y = search in
     let a = at-start.args in
     let now = c.before.loop-y in
-    sym (rows_end a.change (on_at a.pixels.now a.piece) a.sheet a.width now.counts-1 now.from now.y a.height c.loop-y-test.false)
+    sym (rows_end a.change (on_at a.pixels.now a.piece) a.sheet a.width now.counts now.from now.y a.height c.loop-y-test.false)
     ∙ now.invariant.3
 
 pub move_rows_spec : {M : Type 1} → statement M

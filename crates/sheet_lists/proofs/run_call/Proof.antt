@@ -16,10 +16,10 @@ returns-then-call-ne0 c =
     let at-start : tie.Start = search in
     let a = at-start.args in
     let l = lent_by a.size a.table.now a.pixels.now in
-    let s = sheet_of a.sheet a.counts-1.now in
+    let s = sheet_of a.sheet a.counts.now in
     let answer = at-withdraw.withdraw-answer.ensures in
     rw (answer.0, answer.1, call_withdraws a.t6 at-then1.if-call-ne0.true)
-    (answer_after (withdraw_call l s _) a.sheet a.counts-1.now ∙ ap (afterwards s) (withdraw_called l s at-start.requires _))
+    (answer_after (withdraw_call l s _) a.sheet a.counts.now ∙ ap (afterwards s) (withdraw_called l s at-start.requires _))
 
 returns : tie.Need-returns
 returns c =
@@ -30,7 +30,7 @@ returns c =
     let at-start : tie.Start = search in
     let a = at-start.args in
     let l = lent_by a.size a.table.now a.pixels.now in
-    let s = sheet_of a.sheet a.counts-1.now in
+    let s = sheet_of a.sheet a.counts.now in
     let answer = at-lay.lay-answer.ensures in
     rw (
       answer.0,
@@ -39,7 +39,7 @@ returns c =
       ← at-placement-of.placement_of-place.ensures,
       ← at-piece-with-turn.piece_with_turn-known.ensures,
     )
-    (answer_after (lay_call l s _ _) a.sheet a.counts-1.now ∙ ap (afterwards s) (lay_called l s at-start.requires _ _))
+    (answer_after (lay_call l s _ _) a.sheet a.counts.now ∙ ap (afterwards s) (lay_called l s at-start.requires _ _))
 
 pub run_call_spec : {M : Type 1} → statement M
 run_call_spec =

@@ -58,7 +58,7 @@ loop-k-preserved c =
     let a = at-start.args in
     let l = lent_by a.size a.table.now a.pixels.now in
     let now = at-loop.loop-k in
-    let s = sheet_of now.sheet now.counts-1 in
+    let s = sheet_of now.sheet now.counts in
     let call = call_of (get_or a.calls.now now.k []) in
     let inside = in-loop.loop-k-test.true in
     let after : sheet_of c.before.before.run_call-sheet.result c.before.before.run_call-sheet.new.1.1.1.1.0 ≡ afterwards s (called (job_of l) s call) =
@@ -82,7 +82,7 @@ returns c =
     let a = at-start.args in
     let l = lent_by a.size a.table.now a.pixels.now in
     let now = c.before.loop-k in
-    sym (calls_end (job_of l) (sheet_of now.sheet now.counts-1) a.calls.now now.k c.loop-k-test.false) ∙ now.invariant.3
+    sym (calls_end (job_of l) (sheet_of now.sheet now.counts) a.calls.now now.k c.loop-k-test.false) ∙ now.invariant.3
 
 pub run_from_spec : {M : Type 1} → statement M
 run_from_spec =

@@ -16,7 +16,7 @@ returns-then-not-valid c =
     let a = at-start.args in
     not_well_here a.direction a.columns a.rows a.strips.now at-line-length.line_length-length.result c.before.before.line_count-lines.result
     at-line-length.line_length-length.ensures c.before.before.line_count-lines.ensures
-    (sym (not-true _ c.if-not-valid.true) ∙ c.before.valid.ensures.tested)
+    (sym (not-true _ c.if-not-valid.true) ∙ c.before.valid.ensures.0)
 
 -- the strips are valid: they are a piece's exactly where they reach the outer lines
 passed : (c : tie.Else-not-valid)
@@ -32,7 +32,7 @@ passed c =
     let a = at-start.args in
     let v = not-false _ c.if-not-valid.false in
     well_here a.direction a.columns a.rows a.strips.now at-line-length.line_length-length.result c.before.before.line_count-lines.result
-    at-line-length.line_length-length.ensures c.before.before.line_count-lines.ensures (sym v ∙ c.before.valid.ensures.tested) (c.before.valid.ensures.whole v)
+    at-line-length.line_length-length.ensures c.before.before.line_count-lines.ensures (sym v ∙ c.before.valid.ensures.0) (c.before.valid.ensures.1 v)
 
 -- three tests that pass leave the fourth
 three_pass : (a b d e : Bool) → a ≡ true → b ≡ true → d ≡ true → ((a && b) && (d && e)) ≡ e

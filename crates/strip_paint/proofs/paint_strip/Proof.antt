@@ -24,7 +24,7 @@ overflow_add-end c =
     omega arith
 
 loop-at-init : tie.Need-loop-at-init invariant-loop-at decreases-loop-at
-loop-at-init c = let a = c.before.before.args in (omega arith, omega arith, paint_start a.pixels-1.now (part_whole a.direction (as_strip a.strip)))
+loop-at-init c = let a = c.before.before.args in (omega arith, omega arith, paint_start a.pixels.now (part_whole a.direction (as_strip a.strip)))
 
 mark_cell-requires : tie.Need-mark_cell-requires invariant-loop-at decreases-loop-at
 mark_cell-requires c κs =

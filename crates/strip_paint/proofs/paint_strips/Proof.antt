@@ -45,7 +45,7 @@ loop-i-preserved c =
     let l = at-loop.loop-i in (
       omega arith,
       paint_step (strips_step a.direction a.strips.now l.i in-loop.loop-i-test.true)
-          (subst (λ t. Painted a.columns (strip_has a.direction t) l.pixels-1 c.before.before.paint_strip.new.0)
+          (subst (λ t. Painted a.columns (strip_has a.direction t) l.pixels c.before.before.paint_strip.new.0)
           (read_is at-strip-at.strip_at.ensures)
           c.before.before.paint_strip.ensures)
           l.invariant.1,

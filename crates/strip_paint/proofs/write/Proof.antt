@@ -15,7 +15,7 @@ paint_strips-requires c κs =
     let p = at-start.requires in
     let v = well_valid a.direction a.columns a.rows a.strips.now p.1 in (
       room_again p.0 at_clear.clear.auto.0,
-      λ i h. v.ranges _ (strip_listed a.strips.now i h),
+      λ i h. v.fits _ (strip_listed a.strips.now i h),
     )
 
 returns : tie.Need-returns
@@ -25,7 +25,7 @@ returns c =
     let a = at-start.args in
     let p = at-start.requires in
     let v = well_valid a.direction a.columns a.rows a.strips.now p.1 in
-    written a.direction a.columns a.rows a.strips.now a.pixels-1.now _ p.0 v
+    written a.direction a.columns a.rows a.strips.now a.pixels.now _ p.0 v
     (rw at_clear.clear.ensures at c.before.before.paint_strips.ensures)
 
 pub write_spec : {M : Type 1} → statement M

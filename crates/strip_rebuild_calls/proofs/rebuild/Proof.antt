@@ -14,18 +14,18 @@ returns-then-not-side_in_range : tie.Need-returns-then-not-side_in_range
 returns-then-not-side_in_range c =
     let at-start : tie.Start = search in
     let a = at-start.args in
-    let out = refused_columns a.direction a.columns a.rows a.strips.now (length a.pixels-1.now)
+    let out = refused_columns a.direction a.columns a.rows a.strips.now (length a.pixels.now)
     (sym c.before.before.side_in_range.ensures ∙ not-true _ c.before.if-not-side_in_range.true) in
-    let left = ap (pixels_after a.pixels-1.now) (sym out) in
+    let left = ap (pixels_after a.pixels.now) (sym out) in
     (c.refused.ensures ∙ ap done_answer (sym out), (left, after_again _ _ _ _ _ _ left))
 
 returns-then-not-side_in_range-2 : tie.Need-returns-then-not-side_in_range-2
 returns-then-not-side_in_range-2 c =
     let at-start : tie.Start = search in
     let a = at-start.args in
-    let out = refused_rows a.direction a.columns a.rows a.strips.now (length a.pixels-1.now)
+    let out = refused_rows a.direction a.columns a.rows a.strips.now (length a.pixels.now)
     (sym c.before.before.side_in_range-2.ensures ∙ not-true _ c.before.if-not-side_in_range-2.true) in
-    let left = ap (pixels_after a.pixels-1.now) (sym out) in
+    let left = ap (pixels_after a.pixels.now) (sym out) in
     (c.refused-then-not-side_in_range-2.ensures ∙ ap done_answer (sym out), (left, after_again _ _ _ _ _ _ left))
 
 -- both sides are in range
@@ -48,9 +48,9 @@ returns-then-not-strips_well c =
     let at-else2 : tie.Else-not-side_in_range-2 = search in
     let at-start : tie.Start = search in
     let a = at-start.args in
-    let out = refused_strips a.direction a.columns a.rows a.strips.now (length a.pixels-1.now) (sides (at-else2)).0 (sides (at-else2)).1
+    let out = refused_strips a.direction a.columns a.rows a.strips.now (length a.pixels.now) (sides (at-else2)).0 (sides (at-else2)).1
     (sym c.before.before.strips_well.ensures ∙ not-true _ c.before.if-not-strips_well.true) in
-    let left = ap (pixels_after a.pixels-1.now) (sym out) in
+    let left = ap (pixels_after a.pixels.now) (sym out) in
     (c.refused-then-not-strips_well.ensures ∙ ap done_answer (sym out), (left, after_again _ _ _ _ _ _ left))
 
 -- some piece of the box has just these strips
@@ -75,9 +75,9 @@ returns-then-pixels-columns c =
     let at-else2 : tie.Else-not-side_in_range-2 = search in
     let at-start : tie.Start = search in
     let a = at-start.args in
-    let out = refused_room a.direction a.columns a.rows a.strips.now (length a.pixels-1.now) (sides (at-else2)).0 (sides (at-else2)).1
+    let out = refused_room a.direction a.columns a.rows a.strips.now (length a.pixels.now) (sides (at-else2)).0 (sides (at-else2)).1
     (well c.before.before) c.before.if-pixels-columns.true in
-    let left = ap (pixels_after a.pixels-1.now) (sym out) in
+    let left = ap (pixels_after a.pixels.now) (sym out) in
     (c.refused-then-pixels-columns.ensures ∙ ap done_answer (sym out), (left, after_again _ _ _ _ _ _ left))
 
 write-requires : tie.Need-write-requires
@@ -103,8 +103,8 @@ returns c =
     let a = at-start.args in
     let s = sides (at-else2) in
     let out =
-    given_set a.direction a.columns a.rows a.strips.now (length a.pixels-1.now) s.0 s.1 (well (at-else3)) at-else4.if-pixels-columns.false in
-    let left = c.before.before.write.ensures ∙ ap (pixels_after a.pixels-1.now) (sym out) in
+    given_set a.direction a.columns a.rows a.strips.now (length a.pixels.now) s.0 s.1 (well (at-else3)) at-else4.if-pixels-columns.false in
+    let left = c.before.before.write.ensures ∙ ap (pixels_after a.pixels.now) (sym out) in
     (ap done_answer (sym out), (left, after_again _ _ _ _ _ _ left))
 
 pub rebuild_spec : {M : Type 1} → statement M

@@ -31,7 +31,7 @@ right : (p : tie.Else-some_turn_wrong) → let first : tie.Else-not-check_job = 
 right p =
     let first : tie.Else-not-check_job = search in
     let asked : tie.After-some_turn_wrong = search in
-    sym (asked.some_turn_wrong.ensures.wrong (start first).args.pixels.now) ∙ p.if-some_turn_wrong.false
+    sym (asked.some_turn_wrong.ensures.0 (start first).args.pixels.now) ∙ p.if-some_turn_wrong.false
 
 returns-then-not-check_job : tie.Need-returns-then-not-check_job
 returns-then-not-check_job c =
@@ -64,7 +64,7 @@ returns-then-some_turn_wrong c =
       c.refused-then-some_turn_wrong.ensures
           ∙ next 8 _ _ (ap not (well first))
           (next 7 _ _ (ap not (eq-eqb _ _ (whole second)))
-          (there 9 _ _ (sym (asked.some_turn_wrong.ensures.wrong (start first).args.pixels.now) ∙ ours.if-some_turn_wrong.true))),
+          (there 9 _ _ (sym (asked.some_turn_wrong.ensures.0 (start first).args.pixels.now) ∙ ours.if-some_turn_wrong.true))),
       λ e. impossible (cc),
     )
 
@@ -101,7 +101,7 @@ returns c =
           (next 10 _ _ (sym (asked.some_outside.ensures (start first).args.pixels.now) ∙ c.if-some_outside.false) no_more))),
       λ e i l locked.
           locked_written (job_of (lent (start first))) (start first).args.layout.now (right third) i l locked
-          (turns.some_turn_wrong.ensures.whole third.if-some_turn_wrong.false (start first).args.pixels.now i l locked),
+          (turns.some_turn_wrong.ensures.1 third.if-some_turn_wrong.false (start first).args.pixels.now i l locked),
     )
 
 pub start_causes_spec : {M : Type 1} → statement M

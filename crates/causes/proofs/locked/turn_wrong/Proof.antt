@@ -18,8 +18,8 @@ returns c =
     let asked : tie.After-is_locked = search in
     let other : tie.Else-not-is_locked = search in
     let turned : tie.After-entry_wrong = search in (
-      λ size pixels. rw (sym asked.is_locked.ensures ∙ other.if-not-is_locked.false) (turned.entry_wrong.ensures.wrong size pixels),
-      λ size pixels locked. turned.entry_wrong.ensures.whole,
+      λ size pixels. rw (sym asked.is_locked.ensures ∙ other.if-not-is_locked.false) (turned.entry_wrong.ensures.0 size pixels),
+      λ size pixels locked. turned.entry_wrong.ensures.1,
     )
 
 pub turn_wrong_spec : {M : Type 1} → statement M

@@ -27,16 +27,16 @@ returns-then-not-box_tight c =
     let a = at-start.args in
     let text = a.text.now in
     let h = a.h in
-    let i : rows_at text h.columns h.rows h.next-1 (a.line + 1) ≡ rows_at text h.columns h.rows h.next-1 (suc a.line) =
-    ap (rows_at text h.columns h.rows h.next-1) (add-one a.line) in
+    let i : rows_at text h.columns h.rows h.next (a.line + 1) ≡ rows_at text h.columns h.rows h.next (suc a.line) =
+    ap (rows_at text h.columns h.rows h.next) (add-one a.line) in
     let next = at_next.next-1.given.0.0 in
     let g : rows.Next next ≡ at-fill-rows.fill_rows.result = sym at_next.next-1.given.1 in
-    let t = rows_told a.area a.pixels-1.now at-fill-rows.fill_rows.new.1.1.1.1.1.0 next
-    (rows_at text h.columns h.rows h.next-1 (suc a.line)) (g ∙ at-fill-rows.fill_rows.ensures.0 ∙ ap rows_answer i)
+    let t = rows_told a.area a.pixels.now at-fill-rows.fill_rows.new.1.1.1.1.1.0 next
+    (rows_at text h.columns h.rows h.next (suc a.line)) (g ∙ at-fill-rows.fill_rows.ensures.0 ∙ ap rows_answer i)
     (subst (RowsStored _ _ _) i at-fill-rows.fill_rows.ensures.1) in
     let r = t.lines in
-    let f : tight (box_shape h.columns h.rows r.pixels-1) ≡ false =
-    box_same text h.columns h.rows h.next-1 (suc a.line) r at-start.requires.1.low at-start.requires.2.low t.gives
+    let f : tight (box_shape h.columns h.rows r.pixels) ≡ false =
+    box_same text h.columns h.rows h.next (suc a.line) r at-start.requires.1.low at-start.requires.2.low t.gives
     ∙ sym at-box-tight.box_tight.ensures ∙ c.before.before.if-not-box_tight.true in
     let e = box_loose text a.line (piece_line_of h) r t.gives f in
     (ap piece.Refused c.refusal.ensures ∙ sym (ap (place_answer a.area a.line) e), tt, rw e tt)
@@ -48,11 +48,11 @@ returns-in-Refused c =
     let a = at-start.args in
     let text = a.text.now in
     let h = a.h in
-    let i : rows_at text h.columns h.rows h.next-1 (a.line + 1) ≡ rows_at text h.columns h.rows h.next-1 (suc a.line) =
-    ap (rows_at text h.columns h.rows h.next-1) (add-one a.line) in
+    let i : rows_at text h.columns h.rows h.next (a.line + 1) ≡ rows_at text h.columns h.rows h.next (suc a.line) =
+    ap (rows_at text h.columns h.rows h.next) (add-one a.line) in
     let s = c.before.r-1.given.0.0 in
     let g : rows.Refused s ≡ at-fill-rows.fill_rows.result = sym c.before.r-1.given.1 in
-    let n = rows_denied s (rows_at text h.columns h.rows h.next-1 (suc a.line)) (g ∙ at-fill-rows.fill_rows.ensures.0 ∙ ap rows_answer i) in
+    let n = rows_denied s (rows_at text h.columns h.rows h.next (suc a.line)) (g ∙ at-fill-rows.fill_rows.ensures.0 ∙ ap rows_answer i) in
     let e = box_denied text a.line (piece_line_of h) s n in
     (sym (ap (place_answer a.area a.line) e), tt, rw e tt)
 
@@ -65,19 +65,19 @@ returns-else-not-box_tight c =
     let a = at-start.args in
     let text = a.text.now in
     let h = a.h in
-    let i : rows_at text h.columns h.rows h.next-1 (a.line + 1) ≡ rows_at text h.columns h.rows h.next-1 (suc a.line) =
-    ap (rows_at text h.columns h.rows h.next-1) (add-one a.line) in
+    let i : rows_at text h.columns h.rows h.next (a.line + 1) ≡ rows_at text h.columns h.rows h.next (suc a.line) =
+    ap (rows_at text h.columns h.rows h.next) (add-one a.line) in
     let next = at_next.next-1.given.0.0 in
     let g : rows.Next next ≡ at-fill-rows.fill_rows.result = sym at_next.next-1.given.1 in
-    let t = rows_told a.area a.pixels-1.now at-fill-rows.fill_rows.new.1.1.1.1.1.0 next
-    (rows_at text h.columns h.rows h.next-1 (suc a.line)) (g ∙ at-fill-rows.fill_rows.ensures.0 ∙ ap rows_answer i)
+    let t = rows_told a.area a.pixels.now at-fill-rows.fill_rows.new.1.1.1.1.1.0 next
+    (rows_at text h.columns h.rows h.next (suc a.line)) (g ∙ at-fill-rows.fill_rows.ensures.0 ∙ ap rows_answer i)
     (subst (RowsStored _ _ _) i at-fill-rows.fill_rows.ensures.1) in
     let r = t.lines in
-    let f : tight (box_shape h.columns h.rows r.pixels-1) ≡ true =
-    box_same text h.columns h.rows h.next-1 (suc a.line) r at-start.requires.1.low at-start.requires.2.low t.gives
+    let f : tight (box_shape h.columns h.rows r.pixels) ≡ true =
+    box_same text h.columns h.rows h.next (suc a.line) r at-start.requires.1.low at-start.requires.2.low t.gives
     ∙ sym at-box-tight.box_tight.ensures ∙ c.before.before.if-not-box_tight.false in
     let e = box_given text a.line (piece_line_of h) r t.gives f in
-    let n : next ≤ length text = rw t.after at ((rows_facts text h.columns h.rows h.next-1 (suc a.line) r t.gives).inside at-start.requires.0) in
+    let n : next ≤ length text = rw t.after at ((rows_facts text h.columns h.rows h.next (suc a.line) r t.gives).inside at-start.requires.0) in
     (rw (← t.after) (sym (ap (place_answer a.area a.line) e)), (n, at-start.requires.3, omega (arith, at-start.requires.2.high)), rw e t.stores)
 
 pub fill_box_spec : {M : Type 1} → statement M

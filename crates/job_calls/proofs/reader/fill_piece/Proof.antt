@@ -74,11 +74,11 @@ returns-in-Line c =
     (line_told h (piece_line text (job_line_of a.j) a.i a.at.area a.at.next a.at.line) (said p ∙ (asked p).piece_line.ensures.0)) in
     let x = box_at text a.at.line (piece_line_of h) in
     let b = filled.fill_box.ensures in
-    let entered = stored.put_entry.ensures ∙ ap (set a.table-1.now a.i) made.piece_entry.ensures in (
+    let entered = stored.put_entry.ensures ∙ ap (set a.table.now a.i) made.piece_entry.ensures in (
       b.0 ∙ sym (ap (place_answer a.at.area a.at.line) e),
       b.1,
-      subst (PieceStored a.i a.at.area a.table-1.now _ a.pixels-1.now _) (sym e)
-          (box_entered text a.at.line a.i a.at.area (piece_line_of h) a.table-1.now _ a.pixels-1.now _ x refl entered b.2),
+      subst (PieceStored a.i a.at.area a.table.now _ a.pixels.now _) (sym e)
+          (box_entered text a.at.line a.i a.at.area (piece_line_of h) a.table.now _ a.pixels.now _ x refl entered b.2),
     )
 
 pub fill_piece_spec : {M : Type 1} → statement M

@@ -54,9 +54,9 @@ returns-in-Refused c =
     let x = piece_at text j l.i l.at.area l.at.next l.at.line in
     let n : x ≡ refused s = place_denied l.at.area l.at.line s x (g ∙ at-fill-piece.fill_piece.ensures.0) in
     let e : a.j.size.count - l.i ≡ suc (a.j.size.count - (l.i + 1)) = omega arith in
-    let f : fill_pieces text j (a.j.size.count - l.i) l.i l.at.area l.at.next l.at.line l.table-1 l.pixels-1 ≡ refused s =
-    rw e (pieces_denied text j (a.j.size.count - (l.i + 1)) l.i l.at.area l.at.next l.at.line l.table-1 l.pixels-1 s n) in
-    pieces_refused a.table-1.now _ a.pixels-1.now _ s (pieces_at text j a.j.size.count 0 0 a.j.next 2) (sym l.invariant.4 ∙ f)
+    let f : fill_pieces text j (a.j.size.count - l.i) l.i l.at.area l.at.next l.at.line l.table l.pixels ≡ refused s =
+    rw e (pieces_denied text j (a.j.size.count - (l.i + 1)) l.i l.at.area l.at.next l.at.line l.table l.pixels s n) in
+    pieces_refused a.table.now _ a.pixels.now _ s (pieces_at text j a.j.size.count 0 0 a.j.next 2) (sym l.invariant.4 ∙ f)
 
 loop-i-preserved : tie.Need-loop-i-preserved invariant-loop-i decreases-loop-i
 loop-i-preserved c =
@@ -71,10 +71,10 @@ loop-i-preserved c =
     let g : place.Read q ≡ at-fill-piece.fill_piece.result = sym c.before.place-1.given.1 in
     let w : PlaceWithin text l.at.line (place.Read q) = subst (PlaceWithin text l.at.line) (sym g) at-fill-piece.fill_piece.ensures.1 in
     let e : a.j.size.count - l.i ≡ suc (a.j.size.count - suc l.i) = omega arith in
-    let s : fill_pieces text j (a.j.size.count - l.i) l.i l.at.area l.at.next l.at.line l.table-1 l.pixels-1
+    let s : fill_pieces text j (a.j.size.count - l.i) l.i l.at.area l.at.next l.at.line l.table l.pixels
     ≡ fill_pieces text j (a.j.size.count - suc l.i) (suc l.i) q.area q.next q.line at-fill-piece.fill_piece.new.1.1.1.1.0
     at-fill-piece.fill_piece.new.1.1.1.1.1.0 =
-    rw e (pieces_step text j (a.j.size.count - suc l.i) l.i l.at.area l.at.next l.at.line l.table-1 l.pixels-1 q _ _
+    rw e (pieces_step text j (a.j.size.count - suc l.i) l.i l.at.area l.at.next l.at.line l.table l.pixels q _ _
     (g ∙ at-fill-piece.fill_piece.ensures.0) at-fill-piece.fill_piece.ensures.2) in
     let m : l.at.line ≤ 2 + 256 * l.i = l.invariant.3 in (
       omega arith,
@@ -111,10 +111,10 @@ returns-then-at-text c =
     let j = job_line_of a.j in
     let l = at-loop.loop-i in
     let e : a.j.size.count - l.i ≡ 0 = omega arith in
-    let f : fill_pieces text j (a.j.size.count - l.i) l.i l.at.area l.at.next l.at.line l.table-1 l.pixels-1
+    let f : fill_pieces text j (a.j.size.count - l.i) l.i l.at.area l.at.next l.at.line l.table l.pixels
     ≡ refused (refusal_at wrong_form l.at.line) =
-    rw e (pieces_extra text j l.i l.at.area l.at.next l.at.line l.table-1 l.pixels-1 c.before.if-at-text.true) in
-    let o = pieces_refused a.table-1.now l.table-1 a.pixels-1.now l.pixels-1 (refusal_at wrong_form l.at.line)
+    rw e (pieces_extra text j l.i l.at.area l.at.next l.at.line l.table l.pixels c.before.if-at-text.true) in
+    let o = pieces_refused a.table.now l.table a.pixels.now l.pixels (refusal_at wrong_form l.at.line)
     (pieces_at text j a.j.size.count 0 0 a.j.next 2) (sym l.invariant.4 ∙ f) in
     (ap pieces.Refused c.refusal.ensures ∙ o.0, o.1)
 
@@ -137,10 +137,10 @@ returns c =
     let j = job_line_of a.j in
     let l = at-loop.loop-i in
     let e : a.j.size.count - l.i ≡ 0 = omega arith in
-    let f : fill_pieces text j (a.j.size.count - l.i) l.i l.at.area l.at.next l.at.line l.table-1 l.pixels-1
-    ≡ given (record { table = l.table-1; pixels = l.pixels-1; area = l.at.area }) =
-    rw e (pieces_end text j l.i l.at.area l.at.next l.at.line l.table-1 l.pixels-1 c.if-at-text.false) in
-    pieces_given a.table-1.now l.table-1 a.pixels-1.now l.pixels-1 l.at.area (pieces_at text j a.j.size.count 0 0 a.j.next 2)
+    let f : fill_pieces text j (a.j.size.count - l.i) l.i l.at.area l.at.next l.at.line l.table l.pixels
+    ≡ given (record { table = l.table; pixels = l.pixels; area = l.at.area }) =
+    rw e (pieces_end text j l.i l.at.area l.at.next l.at.line l.table l.pixels c.if-at-text.false) in
+    pieces_given a.table.now l.table a.pixels.now l.pixels l.at.area (pieces_at text j a.j.size.count 0 0 a.j.next 2)
     (sym l.invariant.4 ∙ f)
 
 pub fill_pieces_spec : {M : Type 1} → statement M

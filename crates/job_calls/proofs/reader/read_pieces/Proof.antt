@@ -20,12 +20,12 @@ returns-then-table-size c =
     let a = at-start.args in
     let text = a.text.now in
     let j = job_line_of a.j in
-    let tl = length a.table-1.now in
-    let pl = length a.pixels-1.now in
+    let tl = length a.table.now in
+    let pl = length a.pixels.now in
     let table = first.fill_pieces.new.1.1.0 in
     let store = first.fill_pieces.new.1.1.1.0 in
-    let t : table ++ a.table-1.now ≡ a.table-1.now = nothing_before table a.table-1.now first.fill_pieces.auto.1.1.0 in
-    let s : store ++ a.pixels-1.now ≡ a.pixels-1.now = nothing_before store a.pixels-1.now first.fill_pieces.auto.1.1.1.0 in
+    let t : table ++ a.table.now ≡ a.table.now = nothing_before table a.table.now first.fill_pieces.auto.1.1.0 in
+    let s : store ++ a.pixels.now ≡ a.pixels.now = nothing_before store a.pixels.now first.fill_pieces.auto.1.1.1.0 in
     let n = told.area-1.given.0.0 in
     let g : pieces.Read n ≡ first.fill_pieces.result = sym told.area-1.given.1 in
     let x = pieces_told n (pieces_at text j a.j.size.count 0 0 a.j.next 2) (g ∙ first.fill_pieces.ensures.0) in
@@ -42,17 +42,17 @@ returns-then-pixels-area c =
     let a = at-start.args in
     let text = a.text.now in
     let j = job_line_of a.j in
-    let tl = length a.table-1.now in
-    let pl = length a.pixels-1.now in
+    let tl = length a.table.now in
+    let pl = length a.pixels.now in
     let table = first.fill_pieces.new.1.1.0 in
     let store = first.fill_pieces.new.1.1.1.0 in
-    let t : table ++ a.table-1.now ≡ a.table-1.now = nothing_before table a.table-1.now first.fill_pieces.auto.1.1.0 in
-    let s : store ++ a.pixels-1.now ≡ a.pixels-1.now = nothing_before store a.pixels-1.now first.fill_pieces.auto.1.1.1.0 in
+    let t : table ++ a.table.now ≡ a.table.now = nothing_before table a.table.now first.fill_pieces.auto.1.1.0 in
+    let s : store ++ a.pixels.now ≡ a.pixels.now = nothing_before store a.pixels.now first.fill_pieces.auto.1.1.1.0 in
     let n = told.area-1.given.0.0 in
     let g : pieces.Read n ≡ first.fill_pieces.result = sym told.area-1.given.1 in
     let x = pieces_told n (pieces_at text j a.j.size.count 0 0 a.j.next 2) (g ∙ first.fill_pieces.ensures.0) in
     let l : a.j.size.count ≤ tl = subst (λ (k : List (List ℕ)). a.j.size.count ≤ length k) t roomy.if-table-size.false in
-    let m : pl < length x.all.pixels = rw x.size-1 at (subst (λ (k : List ℕ). length k < n) s c.before.if-pixels-area.true) in
+    let m : pl < length x.all.pixels = rw x.size at (subst (λ (k : List ℕ). length k < n) s c.before.if-pixels-area.true) in
     let b : (ltb tl a.j.size.count || ltb pl (length x.all.pixels)) ≡ true = rw (le-ltb _ _ l, lt-ltb _ _ m) refl in
     leaves_refused _ _ _ _ _ _ (roomed text j tl pl) (room_short text j tl pl x.all x.gives b) (ap answer.Refused c.refusal-then-pixels-area.ensures) t s
 
@@ -63,12 +63,12 @@ returns-in-Refused c =
     let a = at-start.args in
     let text = a.text.now in
     let j = job_line_of a.j in
-    let tl = length a.table-1.now in
-    let pl = length a.pixels-1.now in
+    let tl = length a.table.now in
+    let pl = length a.pixels.now in
     let table = first.fill_pieces.new.1.1.0 in
     let store = first.fill_pieces.new.1.1.1.0 in
-    let t : table ++ a.table-1.now ≡ a.table-1.now = nothing_before table a.table-1.now first.fill_pieces.auto.1.1.0 in
-    let s : store ++ a.pixels-1.now ≡ a.pixels-1.now = nothing_before store a.pixels-1.now first.fill_pieces.auto.1.1.1.0 in
+    let t : table ++ a.table.now ≡ a.table.now = nothing_before table a.table.now first.fill_pieces.auto.1.1.0 in
+    let s : store ++ a.pixels.now ≡ a.pixels.now = nothing_before store a.pixels.now first.fill_pieces.auto.1.1.1.0 in
     let r = c.before.r-1.given.0.0 in
     let g : pieces.Refused r ≡ first.fill_pieces.result = sym c.before.r-1.given.1 in
     let e = pieces_not r (pieces_at text j a.j.size.count 0 0 a.j.next 2) (g ∙ first.fill_pieces.ensures.0) in
@@ -85,27 +85,27 @@ returns-else-pixels-area c =
     let a = at-start.args in
     let text = a.text.now in
     let j = job_line_of a.j in
-    let tl = length a.table-1.now in
-    let pl = length a.pixels-1.now in
+    let tl = length a.table.now in
+    let pl = length a.pixels.now in
     let table = first.fill_pieces.new.1.1.0 in
     let store = first.fill_pieces.new.1.1.1.0 in
-    let t : table ++ a.table-1.now ≡ a.table-1.now = nothing_before table a.table-1.now first.fill_pieces.auto.1.1.0 in
-    let s : store ++ a.pixels-1.now ≡ a.pixels-1.now = nothing_before store a.pixels-1.now first.fill_pieces.auto.1.1.1.0 in
+    let t : table ++ a.table.now ≡ a.table.now = nothing_before table a.table.now first.fill_pieces.auto.1.1.0 in
+    let s : store ++ a.pixels.now ≡ a.pixels.now = nothing_before store a.pixels.now first.fill_pieces.auto.1.1.1.0 in
     let n = told.area-1.given.0.0 in
     let g : pieces.Read n ≡ first.fill_pieces.result = sym told.area-1.given.1 in
     let x = pieces_told n (pieces_at text j a.j.size.count 0 0 a.j.next 2) (g ∙ first.fill_pieces.ensures.0) in
     let l : a.j.size.count ≤ tl = subst (λ (k : List (List ℕ)). a.j.size.count ≤ length k) t roomy.if-table-size.false in
-    let m : length x.all.pixels ≤ pl = rw x.size-1 at (subst (λ (k : List ℕ). n ≤ length k) s wide.if-pixels-area.false) in
+    let m : length x.all.pixels ≤ pl = rw x.size at (subst (λ (k : List ℕ). n ≤ length k) s wide.if-pixels-area.false) in
     let b : (ltb tl a.j.size.count || ltb pl (length x.all.pixels)) ≡ false = rw (le-ltb _ _ l, le-ltb _ _ m) refl in
     let e : roomed text j tl pl ≡ given (as_lent j x.all) = room_given text j tl pl x.all x.gives b in
-    let f : JobFilled (table ++ a.table-1.now) second.fill_pieces-in-Read.new.1.1.0 (store ++ a.pixels-1.now) second.fill_pieces-in-Read.new.1.1.1.0
+    let f : JobFilled (table ++ a.table.now) second.fill_pieces-in-Read.new.1.1.0 (store ++ a.pixels.now) second.fill_pieces-in-Read.new.1.1.1.0
     x.all = subst (PiecesStored _ _ _ _) x.gives second.fill_pieces-in-Read.ensures.1 in
     let k : length x.all.table ≤ tl = rw (pieces_count text j a.j.size.count 0 0 a.j.next 2 x.all x.gives) l in
     subst (Leaves _ _ _ _ _) (sym e)
     (record {
       answers = refl;
-      entries = f.entries ∙ ap (λ (d : List (List ℕ)). sets d 0 x.all.table) t ∙ sets_filled a.table-1.now x.all.table k;
-      pixels = f.pixels-1 ∙ ap (λ (d : List ℕ). sets d 0 x.all.pixels) s ∙ sets_filled a.pixels-1.now x.all.pixels m;
+      entries = f.entries ∙ ap (λ (d : List (List ℕ)). sets d 0 x.all.table) t ∙ sets_filled a.table.now x.all.table k;
+      pixels = f.pixels ∙ ap (λ (d : List ℕ). sets d 0 x.all.pixels) s ∙ sets_filled a.pixels.now x.all.pixels m;
     })
 
 pub read_pieces_spec : {M : Type 1} → statement M

@@ -22,7 +22,7 @@ returns c =
     let short : tie.Else-size-columns_of = search in
     let high : tie.After-rows_of = search in
     let fits : entry_columns a.table.now a.i ≤ a.size.columns = rw asked.columns_of.ensures.0 at short.if-size-columns_of.false in
-    simp (le-leb _ _ fits, high.rows_of_lem.ensures.0)
+    simp (le-leb _ _ fits, high.rows_of.ensures.0)
 
 pub entry_fits_spec : {M : Type 1} → statement M
 entry_fits_spec = tie.close (tie.spec

@@ -18,7 +18,7 @@ told c =
     let l : tie.After-columns_of-columns = search in
     let w : tie.After-rows_of-rows = search in
     let o : tie.After-turns_of-turns = search in
-    c.sides_in_range.ensures ∙ rw (l.columns_of-columns.ensures.0, w.rows_of_lem.ensures.0, o.turns_of-turns.ensures)
+    c.sides_in_range.ensures ∙ rw (l.columns_of-columns.ensures.0, w.rows_of-rows.ensures.0, o.turns_of-turns.ensures)
 
 returns-then-not-sides_in_range : tie.Need-returns-then-not-sides_in_range
 unfolding entry_in_range

@@ -10,14 +10,14 @@ box_tight-requires c κs =
     let l : tie.After-columns_of-columns = search in
     let s = sides at-start.args.table.now at-start.args.i at-start.requires.2 in
     let small = l.columns_of-columns.ensures.1 in
-    (omega arith, omega arith, rw l.columns_of-columns.ensures.0 s.0, rw c.rows_of_lem.ensures.0 s.1)
+    (omega arith, omega arith, rw l.columns_of-columns.ensures.0 s.0, rw c.rows_of-rows.ensures.0 s.1)
 
 returns : tie.Need-returns
 returns c =
     let at-start : tie.Start = search in
     let l : tie.After-columns_of-columns = search in
     let w : tie.After-rows_of-rows = search in
-    rw (l.columns_of-columns.ensures.0, w.rows_of_lem.ensures.0, at-start.requires.3) at c.box_tight.ensures
+    rw (l.columns_of-columns.ensures.0, w.rows_of-rows.ensures.0, at-start.requires.3) at c.box_tight.ensures
 
 pub stored_box_tight_spec : {M : Type 1} → statement M
 stored_box_tight_spec = tie.close (tie.spec

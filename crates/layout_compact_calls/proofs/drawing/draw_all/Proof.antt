@@ -15,20 +15,20 @@ abbrev decreases-loop-i : tie.decreases-loop-i
 decreases-loop-i table pixels layout direction store₀ spans₀ i₀ store spans i = length layout - i
 
 loop-i-init : tie.Need-loop-i-init invariant-loop-i decreases-loop-i
-loop-i-init c = let s : tie.Start invariant-loop-i decreases-loop-i = search in (omega arith, refl, refl, s.requires.fact_2, λ m l. absurd (omega arith))
+loop-i-init c = let s : tie.Start invariant-loop-i decreases-loop-i = search in (omega arith, refl, refl, s.requires.1, λ m l. absurd (omega arith))
 
 draw-requires : tie.Need-draw-requires invariant-loop-i decreases-loop-i
 draw-requires c κs =
     let s : tie.Start invariant-loop-i decreases-loop-i = search in
     let at-loop : tie.At-loop-i invariant-loop-i decreases-loop-i = search in
     let in-loop : tie.In-loop-i invariant-loop-i decreases-loop-i = search in
-    (s.requires.fact_1, (in-loop.loop-i-test.true, at-loop.loop-i.invariant.3))
+    (s.requires.0, (in-loop.loop-i-test.true, at-loop.loop-i.invariant.3))
 
 overflow_add-i : tie.Need-overflow_add-i invariant-loop-i decreases-loop-i
 overflow_add-i c =
     let s : tie.Start invariant-loop-i decreases-loop-i = search in
     let in-loop : tie.In-loop-i invariant-loop-i decreases-loop-i = search in
-    let few = s.requires.fact_1.few in
+    let few = s.requires.0.few in
     let taken = in-loop.loop-i-test.true in omega arith
 
 loop-i-smaller : tie.Need-loop-i-smaller invariant-loop-i decreases-loop-i
@@ -41,11 +41,11 @@ loop-i-preserved c =
     let drawn : tie.After-draw invariant-loop-i decreases-loop-i = search in
     let taken = in-loop.loop-i-test.true in
     let inv = at-loop.loop-i.invariant in
-    let made = drawn.draw.ensures.made in (
+    let made = drawn.draw.ensures.1 in (
       omega arith,
       drawn.draw.auto.1.1.1.1.1.0 ∙ inv.1,
       drawn.draw.auto.1.1.1.1.1.1.0 ∙ inv.2,
-      drawn.draw.ensures.kept,
+      drawn.draw.ensures.0,
       λ m l. ⊎_elim (λ (e : m ≡ at-loop.loop-i.i). rw e made.0) (λ (b : m < at-loop.loop-i.i). made.1 m (inv.4 m b)) (below_more l),
     )
 

@@ -7,7 +7,7 @@ use Rattle.layout_start_calls.proofs.stack.piled.Tie as tie
 overflow_cast-result : tie.Need-overflow_cast-result
 overflow_cast-result c =
     let at-start : tie.Start = search in
-    let e = c.rows_of_lem.ensures.0 in let p = at-start.requires.1 in let r = at-start.requires.2 in omega arith
+    let e = c.rows_of.ensures.0 in let p = at-start.requires.1 in let r = at-start.requires.2 in omega arith
 
 returns : tie.Need-returns
 unfolding job_of
@@ -16,8 +16,8 @@ returns c =
     let at-columns-of : tie.After-columns_of = search in
     let at-start : tie.Start = search in
     record {
-      same = λ pixels. rw (c.larger.ensures, at-rows-of.rows_of_lem.ensures.0, at-columns-of.columns_of.ensures.0);
-      height = let e = at-rows-of.rows_of_lem.ensures.0 in let p = at-start.requires.1 in omega arith;
+      same = λ pixels. rw (c.larger.ensures, at-rows-of.rows_of.ensures.0, at-columns-of.columns_of.ensures.0);
+      height = let e = at-rows-of.rows_of.ensures.0 in let p = at-start.requires.1 in omega arith;
       end = let m = c.larger.ensures in let s = at-columns-of.columns_of.ensures.1 in omega arith;
     }
 

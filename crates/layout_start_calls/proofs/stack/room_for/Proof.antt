@@ -18,7 +18,7 @@ returns-then-size-pile c =
     let at-rows-of : tie.After-rows_of-rows = search in
     let taken1 : tie.Then-size-pile = search in
     let a = at-start.args in
-    let over : a.size.rows < a.pile.height.0 + entry_rows a.table.now a.i = rw at-rows-of.rows_of_lem.ensures.0 at taken1.if-size-pile.true in
+    let over : a.size.rows < a.pile.height.0 + entry_rows a.table.now a.i = rw at-rows-of.rows_of-rows.ensures.0 at taken1.if-size-pile.true in
     record {
       same = λ pixels. sym (room_new (job_of (lent_by a.size a.table.now pixels)) a.i (stack_of a.pile) over);
       on_top = let h = at-start.requires.1 in omega arith;
@@ -31,7 +31,7 @@ returns c =
     let at-start : tie.Start = search in
     let at-rows-of : tie.After-rows_of-rows = search in
     let a = at-start.args in
-    let under : a.pile.height.0 + entry_rows a.table.now a.i ≤ a.size.rows = rw at-rows-of.rows_of_lem.ensures.0 at c.if-size-pile.false in
+    let under : a.pile.height.0 + entry_rows a.table.now a.i ≤ a.size.rows = rw at-rows-of.rows_of-rows.ensures.0 at c.if-size-pile.false in
     record {
       same = λ pixels. sym (room_same (job_of (lent_by a.size a.table.now pixels)) a.i (stack_of a.pile) under);
       on_top = under;

@@ -40,12 +40,12 @@ returns-then-not-spans_meet c = λ e size pixels same.
     let one : tie.After-turned_sides-a = search in
     let two : tie.After-turned_sides-b = search in
     let m = sym c.before.spans_meet.ensures ∙ not-true _ c.if-not-spans_meet.true in
-    apart two Horizontal size pixels same (rw (one.turned_sides-a.ensures.sides size pixels, two.turned_sides-b.ensures.sides size pixels) at m)
+    apart two Horizontal size pixels same (rw (one.turned_sides-a.ensures.0 size pixels, two.turned_sides-b.ensures.0 size pixels) at m)
 
 spans_meet-requires-2 : tie.Need-spans_meet-requires-2
 spans_meet-requires-2 c κs =
     let s : tie.Start = search in
-    let few = s.requires.fact_2.1 in
+    let few = s.requires.1.1 in
     (search rules, few)
 
 returns : tie.Need-returns
@@ -53,7 +53,7 @@ returns c = λ e size pixels same.
     let one : tie.After-turned_sides-a = search in
     let two : tie.After-turned_sides-b = search in
     let m = sym c.spans_meet-2.ensures ∙ e in
-    apart two Vertical size pixels same (rw (one.turned_sides-a.ensures.sides size pixels, two.turned_sides-b.ensures.sides size pixels) at m)
+    apart two Vertical size pixels same (rw (one.turned_sides-a.ensures.0 size pixels, two.turned_sides-b.ensures.0 size pixels) at m)
 
 pub boxes_meet_spec : {M : Type 1} → statement M
 boxes_meet_spec =

@@ -20,22 +20,22 @@ abbrev decreases-loop-k : tie.decreases-loop-k
 decreases-loop-k table pixels layout i gap rows₀ row-spans₀ k₀ rows row-spans k = length layout - k
 
 loop-k-init : tie.Need-loop-k-init invariant-loop-k decreases-loop-k
-loop-k-init c = let s : tie.Start invariant-loop-k decreases-loop-k = search in (λ size g. row_begin _ _ _, refl, refl, s.requires.fact_2.1.0)
+loop-k-init c = let s : tie.Start invariant-loop-k decreases-loop-k = search in (λ size g. row_begin _ _ _, refl, refl, s.requires.1.1.0)
 
 conflicts_of-requires : tie.Need-conflicts_of-requires invariant-loop-k decreases-loop-k
 conflicts_of-requires c κs =
     let at-loop : tie.At-loop-k invariant-loop-k decreases-loop-k = search in
     let in-loop : tie.In-loop-k invariant-loop-k decreases-loop-k = search in
     let s : tie.Start invariant-loop-k decreases-loop-k = search in
-    (s.requires.fact_1, ((s.requires.fact_2.0, in-loop.loop-k-test.true), (at-loop.loop-k.invariant.3, s.requires.fact_2.1.1)))
+    (s.requires.0, ((s.requires.1.0, in-loop.loop-k-test.true), (at-loop.loop-k.invariant.3, s.requires.1.1.1)))
 
 returns-then-conflicts_of : tie.Need-returns-then-conflicts_of invariant-loop-k decreases-loop-k
 returns-then-conflicts_of c =
     let at-loop : tie.At-loop-k invariant-loop-k decreases-loop-k = search in
     let in-loop : tie.In-loop-k invariant-loop-k decreases-loop-k = search in
     let asked : tie.After-conflicts_of invariant-loop-k decreases-loop-k = search in (
-      λ size g. row_first _ _ _ _ in-loop.loop-k-test.true (sym (asked.conflicts_of.ensures.conflicts size g) ∙ c.if-conflicts_of.true) (at-loop.loop-k.invariant.0 size g),
-      asked.conflicts_of.ensures.kept,
+      λ size g. row_first _ _ _ _ in-loop.loop-k-test.true (sym (asked.conflicts_of.ensures.0 size g) ∙ c.if-conflicts_of.true) (at-loop.loop-k.invariant.0 size g),
+      asked.conflicts_of.ensures.1,
     )
 
 loop-k-preserved : tie.Need-loop-k-preserved invariant-loop-k decreases-loop-k
@@ -43,10 +43,10 @@ loop-k-preserved c =
     let at-loop : tie.At-loop-k invariant-loop-k decreases-loop-k = search in
     let in-loop : tie.In-loop-k invariant-loop-k decreases-loop-k = search in
     let asked : tie.After-conflicts_of invariant-loop-k decreases-loop-k = search in (
-      λ size g. row_next _ _ _ _ in-loop.loop-k-test.true (sym (asked.conflicts_of.ensures.conflicts size g) ∙ c.if-conflicts_of.false) (at-loop.loop-k.invariant.0 size g),
+      λ size g. row_next _ _ _ _ in-loop.loop-k-test.true (sym (asked.conflicts_of.ensures.0 size g) ∙ c.if-conflicts_of.false) (at-loop.loop-k.invariant.0 size g),
       asked.conflicts_of.auto.1.1.1.1.1.1.0 ∙ at-loop.loop-k.invariant.1,
       asked.conflicts_of.auto.1.1.1.1.1.1.1.0 ∙ at-loop.loop-k.invariant.2,
-      asked.conflicts_of.ensures.kept,
+      asked.conflicts_of.ensures.1,
     )
 
 returns : tie.Need-returns invariant-loop-k decreases-loop-k

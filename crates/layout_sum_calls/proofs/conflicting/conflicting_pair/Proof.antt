@@ -16,7 +16,7 @@ first_conflicting-requires c κs =
     let rows : tie.After-empty_store-rows = search in
     let spans : tie.After-no_spans-row_spans = search in
     let wide = rows.empty_store-rows.ensures in
-    (s.requires.fact_1, (kept_none _ _ _ _ _ _ s.requires.fact_1 (omega arith) spans.no_spans-row_spans.ensures, let g = s.requires.fact_2 in omega arith))
+    (s.requires.0, (kept_none _ _ _ _ _ _ s.requires.0 (omega arith) spans.no_spans-row_spans.ensures, let g = s.requires.1 in omega arith))
 
 returns : tie.Need-returns
 returns c =
@@ -25,7 +25,7 @@ returns c =
     walked.first_conflicting.ensures s.args.size refl
 
 overflow_cast-gap : tie.Need-overflow_cast-gap
-overflow_cast-gap c = let s : tie.Start = search in let g = s.requires.fact_2 in omega arith
+overflow_cast-gap c = let s : tie.Start = search in let g = s.requires.1 in omega arith
 
 pub conflicting_pair_spec : {M : Type 1} → statement M
 conflicting_pair_spec =

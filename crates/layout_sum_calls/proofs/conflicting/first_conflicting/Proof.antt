@@ -25,26 +25,26 @@ decreases-loop-i table pixels layout gap rows₀ row-spans₀ i₀ rows row-span
 loop-i-init : tie.Need-loop-i-init invariant-loop-i decreases-loop-i
 loop-i-init c =
     let s : tie.Start invariant-loop-i decreases-loop-i = search in
-    (λ size g whole. rows_begin (lent_by size s.args.table.now s.args.pixels.now) s.args.layout.now whole, refl, refl, s.requires.fact_2.0)
+    (λ size g whole. rows_begin (lent_by size s.args.table.now s.args.pixels.now) s.args.layout.now whole, refl, refl, s.requires.1.0)
 
 conflicting_in_row-k-requires : tie.Need-conflicting_in_row-k-requires invariant-loop-i decreases-loop-i
 conflicting_in_row-k-requires c κs =
     let at-loop : tie.At-loop-i invariant-loop-i decreases-loop-i = search in
     let in-loop : tie.In-loop-i invariant-loop-i decreases-loop-i = search in
     let s : tie.Start invariant-loop-i decreases-loop-i = search in
-    (s.requires.fact_1, (in-loop.loop-i-test.true, (at-loop.loop-i.invariant.3, s.requires.fact_2.1)))
+    (s.requires.0, (in-loop.loop-i-test.true, (at-loop.loop-i.invariant.3, s.requires.1.1)))
 
 overflow_cast-result : tie.Need-overflow_cast-result invariant-loop-i decreases-loop-i
 overflow_cast-result c =
     let s : tie.Start invariant-loop-i decreases-loop-i = search in
     let in-loop : tie.In-loop-i invariant-loop-i decreases-loop-i = search in
-    let few = s.requires.fact_1.few in
+    let few = s.requires.0.few in
     let taken = in-loop.loop-i-test.true in omega arith
 
 overflow_cast-result-then-k-layout : tie.Need-overflow_cast-result-then-k-layout invariant-loop-i decreases-loop-i
 overflow_cast-result-then-k-layout c =
     let s : tie.Start invariant-loop-i decreases-loop-i = search in
-    let few = s.requires.fact_1.few in omega (arith, c.if-k-layout.true)
+    let few = s.requires.0.few in omega (arith, c.if-k-layout.true)
 
 returns-then-k-layout : tie.Need-returns-then-k-layout invariant-loop-i decreases-loop-i
 returns-then-k-layout c = λ size g whole.
@@ -54,13 +54,13 @@ returns-then-k-layout c = λ size g whole.
     sym
     (ap conflicting_answer
     (at-loop.loop-i.invariant.0 size g whole ∙ rows_left _ _ _ in-loop.loop-i-test.true
-    ∙ (walked.conflicting_in_row-k.ensures.first size g).found c.if-k-layout.true _))
+    ∙ (walked.conflicting_in_row-k.ensures.0 size g).found c.if-k-layout.true _))
 
 overflow_add-i : tie.Need-overflow_add-i invariant-loop-i decreases-loop-i
 overflow_add-i c =
     let s : tie.Start invariant-loop-i decreases-loop-i = search in
     let in-loop : tie.In-loop-i invariant-loop-i decreases-loop-i = search in
-    let few = s.requires.fact_1.few in
+    let few = s.requires.0.few in
     let taken = in-loop.loop-i-test.true in omega arith
 
 loop-i-smaller : tie.Need-loop-i-smaller invariant-loop-i decreases-loop-i
@@ -73,10 +73,10 @@ loop-i-preserved c =
     let walked : tie.After-conflicting_in_row-k invariant-loop-i decreases-loop-i = search in (
       λ size g whole.
           at-loop.loop-i.invariant.0 size g whole ∙ rows_left _ _ _ in-loop.loop-i-test.true
-          ∙ (walked.conflicting_in_row-k.ensures.first size g).none c.if-k-layout.false _,
+          ∙ (walked.conflicting_in_row-k.ensures.0 size g).none c.if-k-layout.false _,
       walked.conflicting_in_row-k.auto.1.1.1.1.1.0 ∙ at-loop.loop-i.invariant.1,
       walked.conflicting_in_row-k.auto.1.1.1.1.1.1.0 ∙ at-loop.loop-i.invariant.2,
-      walked.conflicting_in_row-k.ensures.kept,
+      walked.conflicting_in_row-k.ensures.1,
     )
 
 returns : tie.Need-returns invariant-loop-i decreases-loop-i

@@ -15,12 +15,12 @@ descend-requires : tie.Need-descend-requires
 descend-requires c κs =
     let at-plan : tie.In-Alone-2 = search in
     let at-start : tie.Start = search in (
-      at-start.requires.fact_2.1.0,
+      at-start.requires.1.1.0,
       (
-        at-start.requires.fact_1.weights,
+        at-start.requires.0.weights,
         (
-          at-start.requires.fact_2.1.1.0,
-          (subst PlanInRange at-plan.plan-1.given.1 at-start.requires.fact_2.0, at-start.requires.fact_2.1.1.1),
+          at-start.requires.1.1.1.0,
+          (subst PlanInRange at-plan.plan-1.given.1 at-start.requires.1.0, at-start.requires.1.1.1.1),
         ),
       ),
     )
@@ -29,8 +29,8 @@ take_rounds-requires : tie.Need-take_rounds-requires
 take_rounds-requires c κs =
     let at-plan2 : tie.In-Rounds-2 = search in
     let at-start : tie.Start = search in (
-      at-start.requires.fact_1,
-      (subst PlanInRange at-plan2.plan-in-Rounds-1.given.1 at-start.requires.fact_2.0, (at-start.requires.fact_2.1.0, (at-start.requires.fact_2.1.1.0, at-start.requires.fact_2.1.1.1))),
+      at-start.requires.0,
+      (subst PlanInRange at-plan2.plan-in-Rounds-1.given.1 at-start.requires.1.0, (at-start.requires.1.1.0, (at-start.requires.1.1.1.0, at-start.requires.1.1.1.1))),
     )
 
 -- the plan and the entry, from where it is done

@@ -14,11 +14,11 @@ job s = lent_by s.args.run.size s.args.table.now s.args.pixels.now
 
 -- it has at most 64 pieces
 few : (s : tie.Start) → s.args.run.size.count ≤ piece_bound
-few s = (facts (job s) s.requires.fact_1.laid.well).few_pieces
+few s = (facts (job s) s.requires.0.laid.well).few_pieces
 
 -- the layout has an entry for each
 whole : (s : tie.Start) → length s.args.layout.now ≡ s.args.run.size.count
-whole s = s.requires.fact_1.laid.whole
+whole s = s.requires.0.laid.whole
 
 -- a fresh array
 abbrev fresh : List (List ℕ)
@@ -66,14 +66,14 @@ rounds-requires : tie.Need-rounds-requires
 rounds-requires c κs =
     let at_copy : tie.After-copy = search in
     let at-start : tie.Start = search in
-    let given = at-start.requires.fact_1 in
+    let given = at-start.requires.0 in
     let present = copied_part at-start _ _ at_copy.copy.ensures in (
-      at-start.requires.fact_2.1.0,
+      at-start.requires.1.1.0,
       (
-        given.weights-1,
+        given.weights,
         (
-          subst (λ v. LaidOut (job at-start) v at-start.args.penalties.now) (sym present) at-start.requires.fact_2.1.1.0,
-          (sym present, (at-start.requires.fact_2.0, at-start.requires.fact_2.1.1.1)),
+          subst (λ v. LaidOut (job at-start) v at-start.args.penalties.now) (sym present) at-start.requires.1.1.1.0,
+          (sym present, (at-start.requires.1.0, at-start.requires.1.1.1.1)),
         ),
       ),
     )

@@ -17,20 +17,20 @@ run_plan-requires c κs =
     let e : tie.Start = search in
     let made : tie.After-empty_lines-lines = search in
     let long = made.empty_lines-lines.ensures.0 in
-    let well = e.requires.given_1.laid.well in (
-      e.requires.given_1,
+    let well = e.requires.0.laid.well in (
+      e.requires.0,
       (
-        e.requires.given_2.0,
+        e.requires.1.0,
         (
           record {
             well = well;
-            shapes = e.requires.given_2.1.0;
+            shapes = e.requires.1.1.0;
             fit = record { room = omega arith; fits = omega arith };
             kept =
                 none_kept (job_of (lent e)) (record { size = e.args.size; slots = 32768 }) made.empty_lines-lines.result
-                e.args.maps.now e.requires.given_2.1.1.1.1 (omega arith) (omega arith) made.empty_lines-lines.ensures.1;
+                e.args.maps.now e.requires.1.1.1.1.1 (omega arith) (omega arith) made.empty_lines-lines.ensures.1;
           },
-          (e.requires.given_2.1.1.0, e.requires.given_2.1.1.1.0),
+          (e.requires.1.1.1.0, e.requires.1.1.1.1.0),
         ),
       ),
     )

@@ -16,13 +16,13 @@ lent e = lent_by e.args.size e.args.table.now e.args.pixels.now
 penalties_of-penalties-requires : tie.Need-penalties_of-penalties-requires
 penalties_of-penalties-requires c κs =
     let e : tie.Start = search in
-    (laid_drawable (lent e) e.args.layout.now e.requires.fact_1.laid, (facts (lent e) e.requires.fact_1.laid.well).small_gap)
+    (laid_drawable (lent e) e.args.layout.now e.requires.0.laid, (facts (lent e) e.requires.0.laid.well).small_gap)
 
 make_trials-count-requires : tie.Need-make_trials-count-requires
 make_trials-count-requires c κs =
     let e : tie.Start = search in
     let room = length-replicate {A = ℕ} 512 0 in
-    let f = facts (lent e) e.requires.fact_1.laid.well in
+    let f = facts (lent e) e.requires.0.laid.well in
     ((f.entries, f.few_pieces), omega arith)
 
 -- the store is long enough for the list
@@ -30,7 +30,7 @@ enough : (c : tie.After-make_trials-count) → c.make_trials-count.result ≤ le
 enough c =
     let room = length-replicate {A = ℕ} 512 0 in
     let same = c.make_trials-count.auto.1.1.0 in
-    let few = c.make_trials-count.ensures.few in
+    let few = c.make_trials-count.ensures.1 in
     omega arith
 
 slice_bounds-make_shapes-end : tie.Need-slice_bounds-make_shapes-end
@@ -40,7 +40,7 @@ make_shapes-requires : tie.Need-make_shapes-requires
 make_shapes-requires c κs =
     let at-start : tie.Start = search in
     let made : tie.After-empty_store-strips = search in
-    (at-start.requires.fact_1.laid.well, room_of_lem _ made.empty_store-strips.ensures)
+    (at-start.requires.0.laid.well, room_of_lem _ made.empty_store-strips.ensures)
 
 slice_bounds-trials-end : tie.Need-slice_bounds-trials-end
 slice_bounds-trials-end c = let listed : tie.After-make_trials-count = search in enough listed
@@ -56,15 +56,15 @@ with_workspace-requires c κs =
     let in_rows_lem : tie.After-make_shapes = search in
     let filled : tie.After-penalties_of-penalties = search in
     let listed : tie.After-make_trials-count = search in
-    let g = e.requires.fact_1 in (
+    let g = e.requires.0 in (
       g,
       (
-        e.requires.fact_2,
+        e.requires.1,
         (
-          in_rows_lem.make_shapes.ensures,
+          in_rows_lem.make-shapes.ensures,
           (
             record { valid = g.laid.valid; written = g.written; table = filled.penalties_of-penalties.ensures (sym g.laid.whole) },
-            listed.make_trials-count.ensures.listed e.args.pixels.now,
+            listed.make_trials-count.ensures.0 e.args.pixels.now,
           ),
         ),
       ),

@@ -49,13 +49,13 @@ ready_maps-requires c κs =
     let few = used-few at in
     let long = part-long at in
     let least = enough.if-used-lt-LEAST_MAPS.false in
-    (s.requires.fact_1.laid.well, (omega arith, omega arith))
+    (s.requires.0.laid.well, (omega arith, omega arith))
 
 with_lines-requires : tie.Need-with_lines-requires
 with_lines-requires c κs =
     let s : tie.Start = search in
     let ready : tie.After-ready_maps = search in
-    (s.requires.fact_1, (s.requires.fact_2.0, (s.requires.fact_2.1.0, (s.requires.fact_2.1.1.0, (s.requires.fact_2.1.1.1, ready.ready_maps.ensures)))))
+    (s.requires.0, (s.requires.1.0, (s.requires.1.1.0, (s.requires.1.1.1.0, (s.requires.1.1.1.1, ready.ready_maps.ensures)))))
 
 returns : tie.Need-returns
 returns c = let ran : tie.After-with_lines = search in ran.with_lines.ensures

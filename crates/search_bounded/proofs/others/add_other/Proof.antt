@@ -23,20 +23,20 @@ returns-then-k-mover : tie.Need-returns-then-k-mover
 returns-then-k-mover c =
     let e : tie.Start = search in
     let a = e.args in (
-      summed_self (job_of (lent e)) a.weights.now (laidOut e) a.wanted.sweep.mover a.wanted.bound a.k a.sums-1.now e.requires.fact_2.1.1.1.1
+      summed_self (job_of (lent e)) a.weights.now (laidOut e) a.wanted.sweep.mover a.wanted.bound a.k a.sums.now e.requires.1.1.1.1.1
           c.if-k-mover.true,
-      e.requires.fact_1,
+      e.requires.0,
     )
 
 beside-standing-requires : tie.Need-beside-standing-requires
 beside-standing-requires c κs =
     let e : tie.Start = search in
-    (piece_entries (lent e) e.args.layout.now e.args.k e.requires.fact_2.0 e.requires.fact_2.1.1.1.0, (facts (lent e) e.requires.fact_1.well).small_gap)
+    (piece_entries (lent e) e.args.layout.now e.args.k e.requires.1.0 e.requires.1.1.1.1.0, (facts (lent e) e.requires.0.well).small_gap)
 
 reach_of-reach-requires : tie.Need-reach_of-reach-requires
 reach_of-reach-requires c κs =
     let e : tie.Start = search in
-    (e.requires.fact_2.1.1.0.small, ((c.beside-standing.ensures e.args.pixels.now).small, e.requires.fact_2.1.1.0.some))
+    (e.requires.1.1.1.0.small, ((c.beside-standing.ensures e.args.pixels.now).small, e.requires.1.1.1.0.some))
 
 -- the entry and the standing piece, from where the reach is known
 abbrev entry : tie.After-reach_of-reach → tie.Start
@@ -56,7 +56,7 @@ within c =
     let a = e.args in
     let b = (stood c).beside-standing in
     sums_within (lent e) a.weights.now (laidOut e) a.wanted.sweep.mover a.wanted.sweep.track b.result a.wanted.bound a.k
-    c.reach_of-reach.result a.sums-1.now e.requires.fact_2.1.1.0 (b.ensures a.pixels.now) c.reach_of-reach.ensures e.requires.fact_2.1.1.1.1
+    c.reach_of-reach.result a.sums.now e.requires.1.1.1.0 (b.ensures a.pixels.now) c.reach_of-reach.ensures e.requires.1.1.1.1.1
 
 returns-then-high-low : tie.Need-returns-then-high-low
 returns-then-high-low c =
@@ -66,16 +66,16 @@ returns-then-high-low c =
     let b = (stood r).beside-standing in
     let o = c.if-high-low.true in (
       summed_left (lent e) a.weights.now (laidOut e) a.wanted.sweep.mover a.wanted.sweep.track b.result a.wanted.bound a.k
-          r.reach_of-reach.result a.sums-1.now e.requires.fact_2.1.1.0 (b.ensures a.pixels.now) r.reach_of-reach.ensures e.requires.fact_2.1.1.1.1
+          r.reach_of-reach.result a.sums.now e.requires.1.1.1.0 (b.ensures a.pixels.now) r.reach_of-reach.ensures e.requires.1.1.1.1.1
           (λ x low high. absurd (omega arith)),
-      e.requires.fact_1,
+      e.requires.0,
     )
 
 offset_bounds-sums-low : tie.Need-offset_bounds-sums-low
 offset_bounds-sums-low c =
     let r : tie.After-reach_of-reach = search in
     let w = r.reach_of-reach.ensures.within in
-    let p = (entry r).requires.fact_2.1.1.0.small.places in
+    let p = (entry r).requires.1.1.1.0.small.places in
     let i = c.if-high-low.false in
     omega arith
 
@@ -94,17 +94,17 @@ returns-then-not-any_below c =
     let a = e.args in
     let b = (stood r).beside-standing in (
       summed_unread (lent e) a.weights.now (laidOut e) a.wanted.sweep.mover a.wanted.sweep.track b.result a.wanted.bound a.k
-          r.reach_of-reach.result a.sums-1.now e.requires.fact_2.1.1.0 (b.ensures a.pixels.now) r.reach_of-reach.ensures e.requires.fact_2.1.1.1.1
+          r.reach_of-reach.result a.sums.now e.requires.1.1.1.0 (b.ensures a.pixels.now) r.reach_of-reach.ensures e.requires.1.1.1.1.1
           (r.reach_of-reach.result.high - r.reach_of-reach.result.low) refl (within r) (sym (not-true _ c.if-not-any_below.true) ∙ c.before.any_below.ensures),
-      e.requires.fact_1,
+      e.requires.0,
     )
 
 weight_between-weight-requires : tie.Need-weight_between-weight-requires
 weight_between-weight-requires c κs =
     let e : tie.Start = search in
-    let i = e.requires.fact_2.1.1.0.piece in
-    let k = e.requires.fact_2.1.1.1.0 in
-    (((facts (lent e) e.requires.fact_1.well).few_pieces, (omega arith, omega arith)), weight_pairs (lent e) e.args.weights.now e.requires.fact_2.1.0)
+    let i = e.requires.1.1.1.0.piece in
+    let k = e.requires.1.1.1.1.0 in
+    (((facts (lent e) e.requires.0.well).few_pieces, (omega arith, omega arith)), weight_pairs (lent e) e.args.weights.now e.requires.1.1.0)
 
 line_with-slot-requires : tie.Need-line_with-slot-requires
 line_with-slot-requires c κs =
@@ -113,7 +113,7 @@ line_with-slot-requires c κs =
     let e = entry r in
     let some = o.if-high-low.false in
     let t = r.reach_of-reach.ensures.touching (omega arith) in
-    (e.requires.fact_1, (e.requires.fact_2.1.1.0, ((e.requires.fact_2.1.1.1.0, (t.lifted, t.near)), others r)))
+    (e.requires.0, (e.requires.1.1.1.0, ((e.requires.1.1.1.1.0, (t.lifted, t.near)), others r)))
 
 -- where the places in reach are known, from where the line is
 abbrev reached : tie.After-line_with-slot → tie.After-reach_of-reach
@@ -129,7 +129,7 @@ line : (c : tie.After-line_with-slot)
     c.line_with-slot.new.1.1.1.1.1.1.1.1.0 c.line_with-slot.result
 line c =
     let e = entry (reached c) in
-    c.line_with-slot.ensures.line (laidOut e) ((stood (reached c)).beside-standing.ensures e.args.pixels.now)
+    c.line_with-slot.ensures.0 (laidOut e) ((stood (reached c)).beside-standing.ensures e.args.pixels.now)
 
 add_reached-requires : tie.Need-add_reached-requires
 add_reached-requires c κs =
@@ -139,21 +139,21 @@ add_reached-requires c κs =
     let e = entry r in
     let a = e.args in
     let b = (stood r).beside-standing in
-    let few = (facts (lent e) e.requires.fact_1.well).few_pieces in
-    let k = e.requires.fact_2.1.1.1.0 in (
+    let few = (facts (lent e) e.requires.0.well).few_pieces in
+    let k = e.requires.1.1.1.1.0 in (
       (
         reach_within (lent e) (laidOut e) a.wanted.sweep.mover a.wanted.sweep.track b.result a.k r.reach_of-reach.result _ x.line_with-slot.result
-            e.requires.fact_2.1.1.0 (b.ensures a.pixels.now) (r.reach_of-reach.ensures.touching (some-place x)) (line x),
-        x.line_with-slot.ensures.ready.fit.fits,
+            e.requires.1.1.1.0 (b.ensures a.pixels.now) (r.reach_of-reach.ensures.touching (some-place x)) (line x),
+        x.line_with-slot.ensures.1.fit.fits,
       ),
       (
         (some-place x, within r),
         (
           weight_small (lent e) a.weights.now a.wanted.sweep.mover.piece a.k w.weight_between-weight.result
-              e.requires.fact_2.1.0 w.weight_between-weight.ensures.weight,
+              e.requires.1.1.0 w.weight_between-weight.ensures.0,
           sums_small (lent e) a.weights.now (laidOut e) a.wanted.sweep.mover a.wanted.sweep.track b.result a.wanted.bound a.k
-              r.reach_of-reach.result a.sums-1.now e.requires.fact_2.1.1.0 (b.ensures a.pixels.now)
-              r.reach_of-reach.ensures e.requires.fact_2.1.1.1.1
+              r.reach_of-reach.result a.sums.now e.requires.1.1.1.0 (b.ensures a.pixels.now)
+              r.reach_of-reach.ensures e.requires.1.1.1.1.1
               (omega arith),
         ),
       ),
@@ -170,14 +170,14 @@ returns c =
     let b = (stood r).beside-standing in
     let part = reach_added (lent e) (laidOut e) a.wanted.sweep.mover a.wanted.sweep.track b.result a.k
     r.reach_of-reach.result _ x.line_with-slot.result
-    e.requires.fact_2.1.1.0 (b.ensures a.pixels.now) (r.reach_of-reach.ensures.touching (some-place x)) (line x)
-    a.weights.now w.weight_between-weight.result a.sums-1.now _ w.weight_between-weight.ensures.weight (some-place x) y.add_reached.ensures in (
+    e.requires.1.1.1.0 (b.ensures a.pixels.now) (r.reach_of-reach.ensures.touching (some-place x)) (line x)
+    a.weights.now w.weight_between-weight.result a.sums.now _ w.weight_between-weight.ensures.0 (some-place x) y.add_reached.ensures in (
       summed_added (lent e) a.weights.now (laidOut e) a.wanted.sweep.mover a.wanted.sweep.track b.result a.wanted.bound a.k
-          r.reach_of-reach.result a.sums-1.now e.requires.fact_2.1.1.0 (b.ensures a.pixels.now) r.reach_of-reach.ensures e.requires.fact_2.1.1.1.1
+          r.reach_of-reach.result a.sums.now e.requires.1.1.1.0 (b.ensures a.pixels.now) r.reach_of-reach.ensures e.requires.1.1.1.1.1
           y.add_reached.new.0
-          (part_most (lent e) a.weights.now (laidOut e) a.wanted.sweep.mover a.k e.requires.fact_1.well e.requires.fact_2.1.0 e.requires.fact_2.1.1.0.piece
-          e.requires.fact_2.1.1.1.0 (others r)) part,
-      x.line_with-slot.ensures.ready,
+          (part_most (lent e) a.weights.now (laidOut e) a.wanted.sweep.mover a.k e.requires.0.well e.requires.1.1.0 e.requires.1.1.1.0.piece
+          e.requires.1.1.1.1.0 (others r)) part,
+      x.line_with-slot.ensures.1,
     )
 
 pub add_other_spec : {M : Type 1} → statement M

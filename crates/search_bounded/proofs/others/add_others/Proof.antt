@@ -26,8 +26,8 @@ near_pieces-left-requires c κs =
     let at-start : tie.Start invariant-loop-left decreases-loop-left = search in
     let a = at-start.args in
     let l = lent_by a.run.size a.table.now a.pixels.now in
-    let e = entries_all l a.layout.now at-start.requires.fact_2.0 in
-    (at-start.requires.fact_2.1.1.0.small, (((facts l at-start.requires.fact_1.well).few_pieces, e), (facts l at-start.requires.fact_1.well).small_gap))
+    let e = entries_all l a.layout.now at-start.requires.1.0 in
+    (at-start.requires.1.1.1.0.small, (((facts l at-start.requires.0.well).few_pieces, e), (facts l at-start.requires.0.well).small_gap))
 
 loop-left-init : tie.Need-loop-left-init invariant-loop-left decreases-loop-left
 loop-left-init c =
@@ -36,9 +36,9 @@ loop-left-init c =
       refl,
       refl,
       refl,
-      adding_start _ a.weights.now _ _ a.wanted.bound _ _ a.sums-1.now (c.near_pieces-left.ensures a.pixels.now at-start.requires.fact_2.1.1.0)
-          at-start.requires.fact_2.1.1.1,
-      at-start.requires.fact_1,
+      adding_start _ a.weights.now _ _ a.wanted.bound _ _ a.sums.now (c.near_pieces-left.ensures a.pixels.now at-start.requires.1.1.1.0)
+          at-start.requires.1.1.1.1,
+      at-start.requires.0,
     )
 
 overflow_cast-k : tie.Need-overflow_cast-k invariant-loop-left decreases-loop-left
@@ -52,8 +52,8 @@ add_other-requires c κs =
     let at-loop : tie.At-loop-left invariant-loop-left decreases-loop-left = search in
     let at-start : tie.Start invariant-loop-left decreases-loop-left = search in
     let p = at-loop.loop-left in
-    let x = adding_at _ _ _ _ _ _ p.left p.sums-1 at_in.loop-left-test.true p.invariant.3 in
-    (p.invariant.4, (at-start.requires.fact_2.0, (at-start.requires.fact_2.1.0, (at-start.requires.fact_2.1.1.0, (x.0, x.1)))))
+    let x = adding_at _ _ _ _ _ _ p.left p.sums at_in.loop-left-test.true p.invariant.3 in
+    (p.invariant.4, (at-start.requires.1.0, (at-start.requires.1.1.0, (at-start.requires.1.1.1.0, (x.0, x.1)))))
 
 loop-left-smaller : tie.Need-loop-left-smaller invariant-loop-left decreases-loop-left
 loop-left-smaller c =
@@ -72,7 +72,7 @@ loop-left-preserved c =
       x.kept.1.1.1.1.1.1.1.1.1.0 ∙ p.invariant.0,
       x.kept.1.1.1.1.1.1.1.1.1.1.0 ∙ p.invariant.1,
       x.kept.1.1.1.1.1.1.1.1.1.1.1.0 ∙ p.invariant.2,
-      adding_step _ _ _ _ _ _ p.left p.sums-1 at_in.loop-left-test.true p.invariant.3 _ x.ensures.0,
+      adding_step _ _ _ _ _ _ p.left p.sums at_in.loop-left-test.true p.invariant.3 _ x.ensures.0,
       x.ensures.1,
     )
 
@@ -89,7 +89,7 @@ returns : tie.Need-returns invariant-loop-left decreases-loop-left
 returns c =
     let at-loop : tie.At-loop-left invariant-loop-left decreases-loop-left = search in
     let p = at-loop.loop-left in
-    (adding_end _ _ _ _ _ _ p.left p.sums-1 c.loop-left-test.false p.invariant.3, p.invariant.4)
+    (adding_end _ _ _ _ _ _ p.left p.sums c.loop-left-test.false p.invariant.3, p.invariant.4)
 
 pub add_others_spec : {M : Type 1} → statement M
 add_others_spec =

@@ -21,7 +21,7 @@ outcome s = line_step_call s.args.lines.now s.args.pitch s.args.step
 -- its answer tells that outcome
 answered : (c : tie.After-line_step) → let at-start : tie.Start = search in c.line_step.result ≡ step_answer (outcome at-start)
 unfolding outcome
-answered c = c.line_step.ensures.answer
+answered c = c.line_step.ensures.0
 
 -- of the lines that a layout gave it is the layout's
 layout-steps : (s : tie.Start) (l : Lent) (layout before : List (List ℕ)) (ls : List CutLine) → cut_lines_call l layout (length before) ≡ given ls
@@ -50,7 +50,7 @@ returns-in-Step c =
             (
               layout-steps at-start,
               λ zero.
-                  rw (put.0, put.1.0, put.1.1, told_back _ _ _) (called.line_step.ensures.same.1 _ how.taken-1.given.1),
+                  rw (put.0, put.1.0, put.1.1, told_back _ _ _) (called.line_step.ensures.1.1 _ how.taken-1.given.1),
             ),
           ),
         ),

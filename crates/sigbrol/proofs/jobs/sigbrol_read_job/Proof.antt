@@ -9,7 +9,7 @@ use Rattle.sigbrol.proofs.jobs.sigbrol_read_job.Tie as tie
 
 -- the outcome of the call
 outcome : tie.Start → Outcome Lent
-outcome s = let a = s.args in read_job a.text.now (length a.table-1.now) (length a.pixels-1.now)
+outcome s = let a = s.args in read_job a.text.now (length a.table.now) (length a.pixels.now)
 
 read_job-requires : tie.Need-read_job-requires
 read_job-requires c κs = tt
@@ -50,7 +50,7 @@ returns-in-Read c =
       (
         l.entries,
         (
-          l.pixels-1,
+          l.pixels,
           (
             numbers.0 ∙ leaves_by size_in (λ s. s.rows) _ o t,
             (
@@ -81,7 +81,7 @@ returns-in-Refused c =
       (
         l.entries,
         (
-          l.pixels-1,
+          l.pixels,
           (
             leaves_by size_in (λ s. s.rows) _ o t,
             (leaves_by size_in (λ s. s.columns) _ o t, (leaves_by size_in (λ s. s.count) _ o t, leaves_by size_in (λ s. s.gap) _ o t)),

@@ -25,7 +25,7 @@ answered : (c : tie.After-preview) →
 unfolding outcome
 answered c =
     let at-size-of : tie.After-size_of = search in
-    rw (at-size-of.type_size.ensures, c.before.before.piece_with_turn.ensures, c.before.placement_of.ensures) at c.preview.ensures.answer
+    rw (at-size-of.type_size.ensures, c.before.before.piece_with_turn.ensures, c.before.placement_of.ensures) at c.preview.ensures.0
 
 returns-in-Shown : tie.Need-returns-in-Shown
 unfolding outcome
@@ -45,7 +45,7 @@ returns-in-Shown c =
           leaves_by (λ f. f) (λ f. f.length) _ o t,
           λ zero.
               rw (at-size-of.type_size.ensures, at_piece.piece_with_turn.ensures, at_place.placement_of.ensures) at
-              (at-preview.preview.ensures.figures _ at-figures.figures-1.given.1),
+              (at-preview.preview.ensures.1 _ at-figures.figures-1.given.1),
         ),
       ),
     )

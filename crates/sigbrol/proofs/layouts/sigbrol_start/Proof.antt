@@ -13,14 +13,14 @@ use Rattle.sigbrol.proofs.layouts.sigbrol_start.Tie as tie
 
 -- the outcome of the call
 outcome : tie.Start → Outcome Layout
-outcome s = let a = s.args in start_call (lent_as a.rows a.columns a.count a.gap a.table.now a.pixels.now) a.layout-1.now
+outcome s = let a = s.args in start_call (lent_as a.rows a.columns a.count a.gap a.table.now a.pixels.now) a.layout.now
 
 -- its answer tells that outcome
 answered : (c : tie.After-start) →
     let at-start : tie.Start = search in
     c.start.result ≡ done_answer (outcome (at-start))
 unfolding outcome
-answered c = rw c.before.before.type_size.ensures at c.start.ensures.answer
+answered c = rw c.before.before.type_size.ensures at c.start.ensures.0
 
 size_of-requires : tie.Need-size_of-requires
 size_of-requires c κs = tt
@@ -55,8 +55,8 @@ returns-in-Done c =
     let t = done_told_lem o (sym c.before.enum_told-1.given.1 ∙ answered (at-after-start)) in (
       c.done.ensures ∙ reply_by (λ v. tt) o t,
       (
-        rw at-size-of.type_size.ensures at at-after-start.start.ensures.memory.0,
-        λ zero. rw at-size-of.type_size.ensures at (at-after-start.start.ensures.memory.1 c.before.enum_told-1.given.1),
+        rw at-size-of.type_size.ensures at at-after-start.start.ensures.1.0,
+        λ zero. rw at-size-of.type_size.ensures at (at-after-start.start.ensures.1.1 c.before.enum_told-1.given.1),
       ),
     )
 
@@ -75,12 +75,12 @@ returns-in-Refused c =
     let t = done_told_lem o (sym c.before.before.refusal-1.given.1 ∙ answered (at-after-start)) in
     let a = at-start.args in
     let positive =
-    start_numbered (lent_as a.rows a.columns a.count a.gap a.table.now a.pixels.now) a.layout-1.now _
+    start_numbered (lent_as a.rows a.columns a.count a.gap a.table.now a.pixels.now) a.layout.now _
     (refusal_told (λ v. tt) o _ t) in
     let number = ap (λ (x : Reply). x.number) c.refused.ensures in (
       c.refused.ensures ∙ reply_by (λ v. tt) o t,
       (
-        rw at-size-of.type_size.ensures at at-after-start.start.ensures.memory.0,
+        rw at-size-of.type_size.ensures at at-after-start.start.ensures.1.0,
         λ zero. absurd (omega (arith, positive, number, zero)),
       ),
     )

@@ -25,7 +25,7 @@ outcome s offset =
     let a = s.args in
     no_fit_call Vertical (lent_as a.rows a.columns a.count a.gap a.table.now a.pixels.now)
     (lent_stretch (piece_with_turn a.i-turn a.i) (turn_of a.i-turn) a.i-strips.now)
-    (lent_stretch (piece_with_turn a.k-turn a.k) (turn_of a.k-turn) a.k-strips.now) offset (length a.runs-1.now)
+    (lent_stretch (piece_with_turn a.k-turn a.k) (turn_of a.k-turn) a.k-strips.now) offset (length a.runs.now)
 
 -- answer and runs are those of an outcome, and the offsets lie in their range
 Tells : (c : tie.After-no_fit_column) → Outcome (List OffsetRun) → Type 0

@@ -19,7 +19,7 @@ answered : (c : tie.After-depth) →
     let at-start : tie.Start = search in
     c.depth.result ≡ number_answer (outcome (at-start))
 unfolding outcome
-answered c = rw (c.before.before.type_size.ensures, c.before.direction_of.ensures) at c.depth.ensures.answer
+answered c = rw (c.before.before.type_size.ensures, c.before.direction_of.ensures) at c.depth.ensures.0
 
 size_of-size-requires : tie.Need-size_of-size-requires
 size_of-size-requires c κs = tt
@@ -34,7 +34,7 @@ enum_known-amount : tie.Need-enum_known-amount
 enum_known-amount c = c.in-Number.keys1
 
 overflow_cast-depth : tie.Need-overflow_cast-depth
-overflow_cast-depth c = let called : tie.After-depth = search in let small = called.depth.ensures.small _ c.before.amount-1.given.1 in search rules
+overflow_cast-depth c = let called : tie.After-depth = search in let small = called.depth.ensures.1 _ c.before.amount-1.given.1 in search rules
 
 done-requires : tie.Need-done-requires
 done-requires c κs = tt

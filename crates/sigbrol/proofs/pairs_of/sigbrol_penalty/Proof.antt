@@ -17,7 +17,7 @@ answered : (c : tie.After-penalty) →
     let at-start : tie.Start = search in
     c.penalty.result ≡ number_answer (outcome (at-start))
 unfolding outcome
-answered c = rw c.before.type_size.ensures at c.penalty.ensures.answer
+answered c = rw c.before.type_size.ensures at c.penalty.ensures.0
 
 size_of-requires : tie.Need-size_of-requires
 size_of-requires c κs = tt
@@ -29,7 +29,7 @@ enum_known-amount : tie.Need-enum_known-amount
 enum_known-amount c = c.in-Number.keys1
 
 overflow_cast-penalty : tie.Need-overflow_cast-penalty
-overflow_cast-penalty c = let called : tie.After-penalty = search in let small = called.penalty.ensures.small _ c.before.amount-1.given.1 in search rules
+overflow_cast-penalty c = let called : tie.After-penalty = search in let small = called.penalty.ensures.1 _ c.before.amount-1.given.1 in search rules
 
 done-requires : tie.Need-done-requires
 done-requires c κs = tt

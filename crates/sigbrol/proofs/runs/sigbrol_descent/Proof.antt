@@ -16,14 +16,14 @@ use Rattle.sigbrol.proofs.runs.sigbrol_descent.Tie as tie
 -- the outcome of the call
 outcome : tie.Start → Outcome Descent
 outcome s = let a = s.args in
-    descent_call (lent_as a.rows a.columns a.count a.gap a.table.now a.pixels.now) a.layout-1.now a.weights.now a.budget
+    descent_call (lent_as a.rows a.columns a.count a.gap a.table.now a.pixels.now) a.layout.now a.weights.now a.budget
 
 -- its answer tells that outcome
 answered : (c : tie.After-descent) →
     let at-start : tie.Start = search in
     c.descent.result ≡ descent_answer (outcome (at-start))
 unfolding outcome
-answered c = let sized : tie.After-size_of = search in rw sized.type_size.ensures at c.descent.ensures.answer
+answered c = let sized : tie.After-size_of = search in rw sized.type_size.ensures at c.descent.ensures.0
 
 size_of-requires : tie.Need-size_of-requires
 size_of-requires c κs = tt
@@ -66,9 +66,9 @@ returns-in-Ended c =
     let numbers = put.put_run.ensures in (
       c.done.ensures ∙ reply_by ended_of o t,
       (
-        rw sized.type_size.ensures at called.descent.ensures.memory.0,
+        rw sized.type_size.ensures at called.descent.ensures.1.0,
         (
-          rw sized.type_size.ensures at called.descent.ensures.memory.1.0,
+          rw sized.type_size.ensures at called.descent.ensures.1.1.0,
           (
             number.end_number.ensures ∙ leaves_by ended_of (λ e. end_number e.end) _ o t,
             (
@@ -80,7 +80,7 @@ returns-in-Ended c =
                   λ zero.
                       rw (numbers.0, numbers.1.0, numbers.1.1)
                       (descent_claimed _ _ _ _ _ _ _ number.end_number.ensures
-                      (rw sized.type_size.ensures at (called.descent.ensures.memory.1.1 _ how.ended-1.given.1))),
+                      (rw sized.type_size.ensures at (called.descent.ensures.1.1.1 _ how.ended-1.given.1))),
                 ),
               ),
             ),
@@ -104,14 +104,14 @@ returns-in-Refused c =
     let t = ended_told_lem o (sym c.before.before.refusal-1.given.1 ∙ answered (at-descent)) in
     let a = at-start.args in
     let positive =
-    descent_numbered (lent_as a.rows a.columns a.count a.gap a.table.now a.pixels.now) a.layout-1.now a.weights.now a.budget _
+    descent_numbered (lent_as a.rows a.columns a.count a.gap a.table.now a.pixels.now) a.layout.now a.weights.now a.budget _
     (refusal_told ended_of o _ t) in
     let number = ap (λ (x : Reply). x.number) c.refused.ensures in (
       c.refused.ensures ∙ reply_by ended_of o t,
       (
-        rw at-size-of.type_size.ensures at at-descent.descent.ensures.memory.0,
+        rw at-size-of.type_size.ensures at at-descent.descent.ensures.1.0,
         (
-          rw at-size-of.type_size.ensures at at-descent.descent.ensures.memory.1.0,
+          rw at-size-of.type_size.ensures at at-descent.descent.ensures.1.1.0,
           (
             leaves_by ended_of (λ e. end_number e.end) _ o t,
             (

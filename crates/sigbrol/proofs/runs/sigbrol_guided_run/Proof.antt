@@ -15,7 +15,7 @@ use Rattle.sigbrol.proofs.runs.sigbrol_guided_run.Tie as tie
 -- the outcome of the call
 outcome : tie.Start → Outcome Guided
 outcome s = let a = s.args in
-    guided_call (lent_as a.rows a.columns a.count a.gap a.table.now a.pixels.now) a.layout-1.now a.weights-1.now a.rounds a.budget
+    guided_call (lent_as a.rows a.columns a.count a.gap a.table.now a.pixels.now) a.layout.now a.weights.now a.rounds a.budget
 
 -- its answer tells that outcome
 answered : (c : tie.After-guided_run) →
@@ -24,7 +24,7 @@ answered : (c : tie.After-guided_run) →
 unfolding outcome
 answered c =
     let at-size-of : tie.After-size_of-size = search in
-    rw at-size-of.type_size.ensures at c.guided_run.ensures.answer
+    rw at-size-of.type_size.ensures at c.guided_run.ensures.0
 
 size_of-size-requires : tie.Need-size_of-size-requires
 size_of-size-requires c κs = tt
@@ -66,11 +66,11 @@ returns-in-Ran c =
     let numbers = put.put_run.ensures in (
       c.done.ensures ∙ reply_by told_run o t,
       (
-        rw sized.type_size.ensures at called.guided_run.ensures.layout.0,
+        rw sized.type_size.ensures at called.guided_run.ensures.1.0,
         (
-          rw sized.type_size.ensures at called.guided_run.ensures.layout.1.0,
+          rw sized.type_size.ensures at called.guided_run.ensures.1.1.0,
           (
-            rw sized.type_size.ensures at called.guided_run.ensures.layout.1.1.0,
+            rw sized.type_size.ensures at called.guided_run.ensures.1.1.1.0,
             (
               numbers.0 ∙ leaves_by told_run (λ r. r.sum) _ o t,
               (
@@ -79,7 +79,7 @@ returns-in-Ran c =
                   numbers.1.1 ∙ leaves_by told_run (λ r. r.moves) _ o t,
                   λ zero.
                       rw (numbers.0, numbers.1.0, numbers.1.1)
-                      (rw sized.type_size.ensures at (called.guided_run.ensures.layout.1.1.1 _ how.run-1.given.1)),
+                      (rw sized.type_size.ensures at (called.guided_run.ensures.1.1.1.1 _ how.run-1.given.1)),
                 ),
               ),
             ),
@@ -108,16 +108,16 @@ returns-in-Refused c =
     let t = ran_told_lem o (sym c.before.before.refusal-1.given.1 ∙ answered (at-guided-run)) in
     let a = at-start.args in
     let positive =
-    guided_numbered (lent_as a.rows a.columns a.count a.gap a.table.now a.pixels.now) a.layout-1.now a.weights-1.now a.rounds
+    guided_numbered (lent_as a.rows a.columns a.count a.gap a.table.now a.pixels.now) a.layout.now a.weights.now a.rounds
     a.budget _ (refusal_told told_run o _ t) in
     let number = ap (λ (x : Reply). x.number) c.refused.ensures in (
       c.refused.ensures ∙ reply_by told_run o t,
       (
-        rw at-size-of.type_size.ensures at at-guided-run.guided_run.ensures.layout.0,
+        rw at-size-of.type_size.ensures at at-guided-run.guided_run.ensures.1.0,
         (
-          rw at-size-of.type_size.ensures at at-guided-run.guided_run.ensures.layout.1.0,
+          rw at-size-of.type_size.ensures at at-guided-run.guided_run.ensures.1.1.0,
           (
-            rw at-size-of.type_size.ensures at at-guided-run.guided_run.ensures.layout.1.1.0,
+            rw at-size-of.type_size.ensures at at-guided-run.guided_run.ensures.1.1.1.0,
             (
               leaves_by told_run (λ r. r.sum) _ o t,
               (leaves_by told_run (λ r. r.made) _ o t, (leaves_by told_run (λ r. r.moves) _ o t, λ zero. absurd (omega (arith, positive, number, zero)))),

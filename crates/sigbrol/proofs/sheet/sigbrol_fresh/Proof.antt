@@ -14,17 +14,17 @@ abbrev outcome : tie.After-fresh-answer → Outcome Sheet
 outcome c =
     let at-start : tie.Start = search in
     let a = at-start.args in
-    fresh_call (lent_as a.rows a.columns a.count a.gap a.table.now a.pixels.now) (length a.counts-1.now)
+    fresh_call (lent_as a.rows a.columns a.count a.gap a.table.now a.pixels.now) (length a.counts.now)
 
 -- what `fresh` answers
 answered : (c : tie.After-fresh-answer) → c.fresh-answer.result ≡ sheet_answer blank_record (outcome c)
-answered c = rw c.before.before.type_size.ensures at c.fresh-answer.ensures.value
+answered c = rw c.before.before.type_size.ensures at c.fresh-answer.ensures.0
 
 -- what it leaves in the count buffer
 counted : (c : tie.After-fresh-answer) →
     let at-start : tie.Start = search in
     c.fresh-answer.new.1.1.1.0 ≡ counts_after at-start.args.counts.now (outcome c)
-counted c = rw c.before.before.type_size.ensures at c.fresh-answer.ensures.counts_after
+counted c = rw c.before.before.type_size.ensures at c.fresh-answer.ensures.1
 
 returns-in-Done : tie.Need-returns-in-Done
 returns-in-Done c =

@@ -17,7 +17,7 @@ abbrev outcome : tie.After-lay-answer → Outcome Sheet
 outcome c =
     let at-start : tie.Start = search in
     let a = at-start.args in
-    lay_call (lent_as a.rows a.columns a.count a.gap a.table.now a.pixels.now) (sheet_of (record_in a.entries.now) a.counts-1.now)
+    lay_call (lent_as a.rows a.columns a.count a.gap a.table.now a.pixels.now) (sheet_of (record_in a.entries.now) a.counts.now)
     (piece_with_turn a.turn a.piece) (placement a.turn a.x a.y)
 
 -- what `lay` answers
@@ -32,7 +32,7 @@ answered c =
       at-read-record.read_record.ensures,
       c.before.before.piece_with_turn.ensures,
       c.before.placement_of.ensures,
-    ) at c.lay-answer.ensures.value
+    ) at c.lay-answer.ensures.0
 
 -- what it leaves in the count buffer
 counted : (c : tie.After-lay-answer) →
@@ -46,7 +46,7 @@ counted c =
       at-read-record.read_record.ensures,
       c.before.before.piece_with_turn.ensures,
       c.before.placement_of.ensures,
-    ) at c.lay-answer.ensures.counts_after
+    ) at c.lay-answer.ensures.1
 
 returns-in-Done : tie.Need-returns-in-Done
 returns-in-Done c =

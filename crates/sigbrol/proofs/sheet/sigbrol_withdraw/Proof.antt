@@ -17,7 +17,7 @@ outcome c =
     let at-start : tie.Start = search in
     let a = at-start.args in
     withdraw_call (lent_as a.rows a.columns a.count a.gap a.table.now a.pixels.now)
-    (sheet_of (record_in a.entries.now) a.counts-1.now) a.piece
+    (sheet_of (record_in a.entries.now) a.counts.now) a.piece
 
 -- what `withdraw` answers
 answered : (c : tie.After-withdraw-answer) →
@@ -28,7 +28,7 @@ answered c =
     rw (
       c.before.before.type_size.ensures,
       at-read-record.read_record-sheet.ensures,
-    ) at c.withdraw-answer.ensures.value
+    ) at c.withdraw-answer.ensures.0
 
 -- what it leaves in the count buffer
 counted : (c : tie.After-withdraw-answer) →
@@ -39,7 +39,7 @@ counted c =
     rw (
       c.before.before.type_size.ensures,
       at-read-record.read_record-sheet.ensures,
-    ) at c.withdraw-answer.ensures.counts_after
+    ) at c.withdraw-answer.ensures.1
 
 returns-in-Done : tie.Need-returns-in-Done
 returns-in-Done c =

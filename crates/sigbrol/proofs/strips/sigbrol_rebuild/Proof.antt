@@ -12,28 +12,28 @@ use Rattle.sigbrol.proofs.strips.sigbrol_rebuild.Tie as tie
 
 -- the outcome of the call
 outcome : tie.Start → Outcome Shape
-outcome s = let a = s.args in rebuild_call (direction_of a.vertical) a.columns a.rows a.strips.now (length a.pixels-1.now)
+outcome s = let a = s.args in rebuild_call (direction_of a.vertical) a.columns a.rows a.strips.now (length a.pixels.now)
 
 -- its answer tells that outcome
 answered : (c : tie.After-rebuild) →
     let at-start : tie.Start = search in
     c.rebuild.result ≡ done_answer (outcome (at-start))
 unfolding outcome
-answered c = rw c.before.before.direction_of.ensures at c.rebuild.ensures.answer
+answered c = rw c.before.before.direction_of.ensures at c.rebuild.ensures.0
 
 -- and so do the pixels
 left : (c : tie.After-rebuild) →
     let at-start : tie.Start = search in
     c.rebuild.new.1.1.1.1.0 ≡ pixels_after at-start.args.pixels.now (outcome (at-start))
 unfolding outcome
-left c = rw c.before.before.direction_of.ensures at c.rebuild.ensures.memory.0
+left c = rw c.before.before.direction_of.ensures at c.rebuild.ensures.1.0
 
 -- the pixels of a set stand in the buffer again
 again : (c : tie.After-rebuild) →
     let at-start : tie.Start = search in
     Again (direction_of at-start.args.vertical) at-start.args.columns at-start.args.rows at-start.args.strips.now at-start.args.pixels.now
     c.rebuild.new.1.1.1.1.0
-again c = rw c.before.before.direction_of.ensures at c.rebuild.ensures.memory.1
+again c = rw c.before.before.direction_of.ensures at c.rebuild.ensures.1.1
 
 direction_of-requires : tie.Need-direction_of-requires
 direction_of-requires c κs = tt

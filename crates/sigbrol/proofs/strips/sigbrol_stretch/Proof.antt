@@ -50,7 +50,7 @@ start_of-requires c κs = let p = there c in (omega (arith, p.rows.there), omega
 returns-then-length-ne0 : tie.Need-returns-then-length-ne0
 unfolding part
 returns-then-length-ne0 c =
-    (ap length (handed c.before.before), c.start_of_lem.ensures ∙ start_left _ _ _ _ _ _ (there c.before))
+    (ap length (handed c.before.before), c.start_of.ensures ∙ start_left _ _ _ _ _ _ (there c.before))
 
 returns-else-length-ne0 : tie.Need-returns-else-length-ne0
 unfolding part

@@ -11,7 +11,7 @@ use Rattle.sigbrol.proofs.strips.sigbrol_strips.Tie as tie
 
 -- the lent stores
 lentStores : tie.Start → Stores
-lentStores s = let a = s.args in stores_by a.row_strips-1.now a.row_starts-1.now a.column_strips-1.now a.column_starts-1.now
+lentStores s = let a = s.args in stores_by a.row-strips.now a.row-starts.now a.column-strips.now a.column-starts.now
 
 -- the outcome of the call
 outcome : tie.Start → Outcome Stores
@@ -24,7 +24,7 @@ answered : (c : tie.After-strips) →
 unfolding outcome lentStores
 answered c =
     let at-size-of : tie.After-size_of-size = search in
-    rw at-size-of.type_size.ensures at c.strips.ensures.answer
+    rw at-size-of.type_size.ensures at c.strips.ensures.0
 
 -- and so do the stores
 left : (c : tie.After-strips) →
@@ -34,7 +34,7 @@ left : (c : tie.After-strips) →
 unfolding outcome lentStores
 left c =
     let at-size-of : tie.After-size_of-size = search in
-    rw at-size-of.type_size.ensures at c.strips.ensures.memory
+    rw at-size-of.type_size.ensures at c.strips.ensures.1
 
 size_of-size-requires : tie.Need-size_of-size-requires
 size_of-size-requires c κs = tt

@@ -9,14 +9,14 @@ use Rattle.sigbrol.proofs.texts.sigbrol_program.Tie as tie
 
 -- the outcome of the call
 outcome : tie.Start → Outcome (List ℕ)
-outcome s = let a = s.args in program_call a.input.now (length a.output-1.now)
+outcome s = let a = s.args in program_call a.input.now (length a.output.now)
 
 -- its answer tells that outcome
 answered : (c : tie.After-print_run) →
     let at-start : tie.Start = search in
     c.print_run.result ≡ count_answer (outcome (at-start))
 unfolding outcome
-answered c = c.print_run.ensures.answer
+answered c = c.print_run.ensures.0
 
 print_run-requires : tie.Need-print_run-requires
 print_run-requires c κs = tt
@@ -47,8 +47,8 @@ returns-in-Number c =
     let t = count_told o (sym c.before.before.count-1.given.1 ∙ answered (at-print-run)) in (
       c.done.ensures ∙ reply_by (λ text. length text) o t,
       (
-        at-print-run.print_run.ensures.memory.0,
-        (at-print-run.print_run.ensures.memory.1.0, (leaves_by (λ text. length text) (λ k. k) _ o t, at-print-run.print_run.ensures.memory.1.1)),
+        at-print-run.print_run.ensures.1.0,
+        (at-print-run.print_run.ensures.1.1.0, (leaves_by (λ text. length text) (λ k. k) _ o t, at-print-run.print_run.ensures.1.1.1)),
       ),
     )
 
@@ -66,8 +66,8 @@ returns-in-Refused c =
     let t = count_told o (sym c.before.before.refusal-1.given.1 ∙ answered (at-print-run)) in (
       c.refused.ensures ∙ reply_by (λ text. length text) o t,
       (
-        at-print-run.print_run.ensures.memory.0,
-        (at-print-run.print_run.ensures.memory.1.0, (leaves_by (λ text. length text) (λ k. k) _ o t, at-print-run.print_run.ensures.memory.1.1)),
+        at-print-run.print_run.ensures.1.0,
+        (at-print-run.print_run.ensures.1.1.0, (leaves_by (λ text. length text) (λ k. k) _ o t, at-print-run.print_run.ensures.1.1.1)),
       ),
     )
 

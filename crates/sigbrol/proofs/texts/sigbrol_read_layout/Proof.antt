@@ -12,14 +12,14 @@ use Rattle.sigbrol.proofs.texts.sigbrol_read_layout.Tie as tie
 -- the outcome of the call
 outcome : tie.Start → Outcome Layout
 outcome s = let a = s.args in
-    read_layout_call (lent_as a.rows a.columns a.count a.gap a.table.now a.pixels.now) a.text.now (length a.layout-1.now)
+    read_layout_call (lent_as a.rows a.columns a.count a.gap a.table.now a.pixels.now) a.text.now (length a.layout.now)
 
 -- its answer tells that outcome
 answered : (c : tie.After-read_layout) →
     let at-start : tie.Start = search in
     c.read_layout.result ≡ done_answer (outcome (at-start))
 unfolding outcome
-answered c = rw c.before.before.type_size.ensures at c.read_layout.ensures.answer
+answered c = rw c.before.before.type_size.ensures at c.read_layout.ensures.0
 
 size_of-requires : tie.Need-size_of-requires
 size_of-requires c κs = tt
@@ -52,7 +52,7 @@ returns-in-Done c =
     let at-start : tie.Start = search in
     let o = outcome (at-start) in
     let t = done_told_lem o (sym c.before.enum_told-1.given.1 ∙ answered (at-read-layout)) in
-    (c.done.ensures ∙ reply_by (λ v. tt) o t, rw at-size-of.type_size.ensures at at-read-layout.read_layout.ensures.memory)
+    (c.done.ensures ∙ reply_by (λ v. tt) o t, rw at-size-of.type_size.ensures at at-read-layout.read_layout.ensures.1)
 
 shape_of-layout-in-Refused : tie.Need-shape_of-layout-in-Refused
 shape_of-layout-in-Refused c =
@@ -67,7 +67,7 @@ returns-in-Refused c =
     let at-start : tie.Start = search in
     let o = outcome (at-start) in
     let t = done_told_lem o (sym c.before.before.refusal-1.given.1 ∙ answered (at-read-layout)) in
-    (c.refused.ensures ∙ reply_by (λ v. tt) o t, rw at-size-of.type_size.ensures at at-read-layout.read_layout.ensures.memory)
+    (c.refused.ensures ∙ reply_by (λ v. tt) o t, rw at-size-of.type_size.ensures at at-read-layout.read_layout.ensures.1)
 
 pub sigbrol_read_layout_spec : {M : Type 1} → statement M
 sigbrol_read_layout_spec =

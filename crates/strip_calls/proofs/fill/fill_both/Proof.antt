@@ -11,7 +11,7 @@ returns c =
     let at_fill : tie.After-fill = search in
     let at-start : tie.Start = search in
     stores_filled (job_of (lent_by at-start.args.size at-start.args.table.now at-start.args.pixels.now)) at-start.args.turns.now
-    at-start.requires.fact_2 at_fill.fill.ensures at-fill2.fill-2.ensures
+    at-start.requires.1 at_fill.fill.ensures at-fill2.fill-2.ensures
 
 pub fill_both_spec : {M : Type 1} → statement M
 fill_both_spec =

@@ -24,7 +24,7 @@ returns c = λ size.
     let at-start : tie.Start = search in
     let a = at-start.args in
     let p = at-start.requires in
-    subst (λ s. Appended (strips a.direction s) a.store-1.now a.at c.before.put_strips.new.1.1.1.0 c.before.put_strips.result)
+    subst (λ s. Appended (strips a.direction s) a.store.now a.at c.before.put_strips.new.1.1.1.0 c.before.put_strips.result)
     (ap (shown_by a.pixels.now) at-turned-piece.turned_piece.ensures
     ∙ shown_piece size a.table.now a.pixels.now a.piece a.start a.turn p.0.begins)
     c.before.put_strips.ensures

@@ -8,13 +8,13 @@ use Rattle.strip_scan.proofs.scan.line_count.Tie as tie
 returns-in-Horizontal : tie.Need-returns-in-Horizontal
 returns-in-Horizontal c =
     let at-start : tie.Start = search in
-    let e = c.before.before.sides_in-sides.ensures.sides (stored_by [] at-start.args.piece) refl refl in
+    let e = c.before.before.sides_in-sides.ensures.0 (stored_by [] at-start.args.piece) refl refl in
     rw c.enum_told-1.given.1 (ap (λ (s : Sides). s.rows) e)
 
 returns-in-Vertical : tie.Need-returns-in-Vertical
 returns-in-Vertical c =
     let at-start : tie.Start = search in
-    let e = c.before.before.sides_in-sides.ensures.sides (stored_by [] at-start.args.piece) refl refl in
+    let e = c.before.before.sides_in-sides.ensures.0 (stored_by [] at-start.args.piece) refl refl in
     rw c.enum_told-in-Vertical-1.given.1 (ap (λ (s : Sides). s.columns) e)
 
 pub line_count_spec : {M : Type 1} → statement M

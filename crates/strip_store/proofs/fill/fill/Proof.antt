@@ -20,7 +20,7 @@ unfolding job_of
 loop-i-init c =
     let at-start : tie.Start invariant-loop-i decreases-loop-i = search in
     let a = at-start.args in
-    (omega arith, fill_start a.direction (job_of (lent_by a.size a.table.now a.pixels.now)) a.turns.now a.strips-1.now a.starts-1.now)
+    (omega arith, fill_start a.direction (job_of (lent_by a.size a.table.now a.pixels.now)) a.turns.now a.strips.now a.starts.now)
 
 put_start-requires : tie.Need-put_start-requires invariant-loop-i decreases-loop-i
 put_start-requires c κs =

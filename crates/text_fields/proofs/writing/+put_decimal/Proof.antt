@@ -160,7 +160,7 @@ put_decimal_returns_3 t c =
     let b : c.before.before.before.digit-2.result ≡ 48 + (a.k % 10) = c.before.before.before.digit-2.ensures in
     let n : c.before.before.before.before.before.before.before.put_decimal-next.result ≡ a.at + length ds =
     c.before.before.before.before.before.before.before.put_decimal-next.ensures.0 in
-    let w : c.before.before.before.before.before.before.before.put_decimal-next.new.0 ≡ sets a.text-1.now a.at ds =
+    let w : c.before.before.before.before.before.before.before.put_decimal-next.new.0 ≡ sets a.text.now a.at ds =
     c.before.before.before.before.before.before.before.put_decimal-next.ensures.1 in
     let r : c.before.before.put_byte-2.result ≡ c.before.before.before.before.before.before.before.put_decimal-next.result + 1 =
     c.before.before.put_byte-2.ensures.0 in (

@@ -21,9 +21,9 @@ loop-k-preserved c =
     let a = at-start.args in
     let l = at-loop.loop-k in
     let i : a.at + (l.k + 1) ≡ suc (a.at + l.k) = omega arith in
-    let e : c.before.before.put_byte.new.0 ≡ set l.text-1 (a.at + l.k) (get_or a.word.now l.k 0) = c.before.before.put_byte.ensures.1 in (
+    let e : c.before.before.put_byte.new.0 ≡ set l.text (a.at + l.k) (get_or a.word.now l.k 0) = c.before.before.put_byte.ensures.1 in (
       omega arith,
-      rw (i, add-one l.k, e) (sym (sets_first l.text-1 (a.at + l.k) a.word.now l.k in-loop.loop-k-test.true) ∙ l.invariant.1),
+      rw (i, add-one l.k, e) (sym (sets_first l.text (a.at + l.k) a.word.now l.k in-loop.loop-k-test.true) ∙ l.invariant.1),
       c.before.before.put_byte.auto.0 ∙ l.invariant.2,
     )
 
@@ -36,7 +36,7 @@ returns c =
     let a = at-start.args in
     let l = c.before.loop-k in
     let e : l.k ≡ length a.word.now = omega arith in
-    (ap (λ (i : ℕ). a.at + i) e, sym (sets_none l.text-1 (a.at + l.k) a.word.now l.k c.loop-k-test.false) ∙ l.invariant.1)
+    (ap (λ (i : ℕ). a.at + i) e, sym (sets_none l.text (a.at + l.k) a.word.now l.k c.loop-k-test.false) ∙ l.invariant.1)
 
 pub put_word_spec : {M : Type 1} → statement M
 put_word_spec =
