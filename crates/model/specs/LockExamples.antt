@@ -20,25 +20,25 @@ use Rattle.model.specs.Cover.{Sheet, covers_pixel, map_from, fresh, lay, withdra
 use Rattle.model.specs.Calls.{allowed_degrees, locked_turn_wrong, locked_outside, layout_after, start_call, with_lock, set_lock_call, locked_after}
 
 -- three full 2 × 2 pieces, o = 1, with their locks, lent for a sheet of 2 rows and so many columns
-three_squares : ℕ → ℕ → ℕ → ℕ → Lent
+unfoldable pub three_squares : ℕ → ℕ → ℕ → ℕ → Lent
 three_squares columns a b c =
     lent_by (record { rows = 2; columns = columns; count = 3; gap = 0 })
     ((2 ∷ 2 ∷ 1 ∷ a ∷ []) ∷ (2 ∷ 2 ∷ 1 ∷ b ∷ []) ∷ (2 ∷ 2 ∷ 1 ∷ c ∷ []) ∷ []) (replicate 12 1)
 
 -- a lock of a lent table is 0 or 1
-lent_locks : Bool
+unfoldable pub lent_locks : Bool
 lent_locks = lent_well (three_squares 9 0 1 1) && not (lent_well (three_squares 9 0 2 1)) && not (lent_well (three_squares 9 255 0 0))
 
 -- ── setting a lock ──
 
 -- what is told of setting one: a refusal's number, or the table
-table_told : Outcome (List (List ℕ)) → List (List ℕ)
+unfoldable pub table_told : Outcome (List (List ℕ)) → List (List ℕ)
 table_told (refused r) = (r.number ∷ []) ∷ []
 table_told (given table) = table
 
 -- from the cutter's station it is set, and stays set; from the planner's 16; a station that is none is 2, before 9; no such piece is 9, before 16;
 -- a table that is none is 8, before all
-lock_set : Bool
+unfoldable pub lock_set : Bool
 lock_set =
     same_entries (table_told (set_lock_call (three_squares 9 0 0 1) 1 1)) ((2 ∷ 2 ∷ 1 ∷ 0 ∷ []) ∷ (2 ∷ 2 ∷ 1 ∷ 1 ∷ []) ∷ (2 ∷ 2 ∷ 1 ∷ 1 ∷ []) ∷ [])
     && same_entries (table_told (set_lock_call (three_squares 9 0 0 1) 2 1)) ((2 ∷ 2 ∷ 1 ∷ 0 ∷ []) ∷ (2 ∷ 2 ∷ 1 ∷ 0 ∷ []) ∷ (2 ∷ 2 ∷ 1 ∷ 1 ∷ []) ∷ [])
@@ -51,20 +51,20 @@ lock_set =
     && same_entries (table_told (set_lock_call (three_squares 9 0 0 2) 3 2)) ((8 ∷ []) ∷ [])
 
 -- the pieces of a list of trials
-piece_numbers : List Trial → List ℕ
+unfoldable pub piece_numbers : List Trial → List ℕ
 piece_numbers [] = []
 piece_numbers (k ∷ ks) = k.piece ∷ piece_numbers ks
 
 -- two squares, with a third entry beyond them that is none
-long_table : List (List ℕ)
+unfoldable pub long_table : List (List ℕ)
 long_table = (2 ∷ 2 ∷ 1 ∷ 0 ∷ []) ∷ (2 ∷ 2 ∷ 1 ∷ 0 ∷ []) ∷ (0 ∷ 0 ∷ 0 ∷ 255 ∷ []) ∷ []
 
 -- they are lent for a sheet of 2 rows and 9 columns
-with_more : Lent
+unfoldable pub with_more : Lent
 with_more = lent_by (record { rows = 2; columns = 9; count = 2; gap = 0 }) long_table (replicate 8 1)
 
 -- entries beyond the job's play no part and stay; a refusal leaves the table
-lock_beyond : Bool
+unfoldable pub lock_beyond : Bool
 lock_beyond =
     lent_well with_more && same_entries (table_told (set_lock_call with_more 2 1)) ((9 ∷ []) ∷ [])
     && same_entries (locked_after long_table (set_lock_call with_more 1 1)) ((2 ∷ 2 ∷ 1 ∷ 0 ∷ []) ∷ (2 ∷ 2 ∷ 1 ∷ 1 ∷ []) ∷ (0 ∷ 0 ∷ 0 ∷ 255 ∷ []) ∷ [])
@@ -74,26 +74,26 @@ lock_beyond =
 -- ── runs ──
 
 -- how a descent ended, its sum, trials and moves, and degrees, x and y of each piece
-descent_told : Descent → List (List ℕ)
+unfoldable pub descent_told : Descent → List (List ℕ)
 descent_told d = (end_number d.end ∷ d.sum ∷ d.made ∷ d.moves ∷ []) ∷ entries_of d.layout
 
 -- squares in turn 0 with corners at three columns
-in_a_row : ℕ → ℕ → ℕ → List (List ℕ)
+unfoldable pub in_a_row : ℕ → ℕ → ℕ → List (List ℕ)
 in_a_row a b c = (0 ∷ a ∷ 0 ∷ []) ∷ (0 ∷ b ∷ 0 ∷ []) ∷ (0 ∷ c ∷ 0 ∷ []) ∷ []
 
 -- the descent of the squares from three columns, by weights 1, with a budget
-descended : Lent → List (List ℕ) → ℕ → List (List ℕ)
+unfoldable pub descended : Lent → List (List ℕ) → ℕ → List (List ℕ)
 descended l es budget = descent_told (descend (job_of l) (1 ∷ 1 ∷ 1 ∷ []) budget (layout_of es))
 
 -- each square has two trials, a locked one none
-trials_left : Bool
+unfoldable pub trials_left : Bool
 trials_left =
     same_numbers (piece_numbers (trials (job_of (three_squares 9 0 0 0)))) (0 ∷ 0 ∷ 1 ∷ 1 ∷ 2 ∷ 2 ∷ [])
     && same_numbers (piece_numbers (trials (job_of (three_squares 9 0 1 0)))) (0 ∷ 0 ∷ 2 ∷ 2 ∷ [])
     && same_numbers (piece_numbers (trials (job_of (three_squares 9 1 1 1)))) []
 
 -- a guided run of so many rounds from three columns, by weights 1: sum, trials, moves, and the weights
-guided_told : Lent → List (List ℕ) → ℕ → ℕ → List ℕ
+unfoldable pub guided_told : Lent → List (List ℕ) → ℕ → ℕ → List ℕ
 guided_told l es count budget =
     let g : Guided = guide (job_of l) count budget (1 ∷ 1 ∷ 1 ∷ []) (layout_of es) in
     g.sum ∷ g.made ∷ g.moves ∷ g.weights
@@ -101,7 +101,7 @@ guided_told l es count budget =
 -- from columns 0, 1 and 4 the first square moves if none is locked; if it is, the second one does; with the first two locked the third has two
 -- quiet trials, for which a budget of 2 does and one of 1 is spent; with all locked none, and the budget may be 0; a guided run has all its rounds
 -- then, and raises the weight of the pair that conflicts
-locked_runs : Bool
+unfoldable pub locked_runs : Bool
 locked_runs =
     same_entries (descended (three_squares 9 0 0 0) (in_a_row 0 1 4) 9) ((0 ∷ 0 ∷ 1 ∷ 1 ∷ []) ∷ in_a_row 6 1 4)
     && same_entries (descended (three_squares 9 1 0 0) (in_a_row 0 1 4) 9) ((0 ∷ 0 ∷ 1 ∷ 1 ∷ []) ∷ in_a_row 0 2 4)
@@ -116,12 +116,12 @@ locked_runs =
 -- ── the start ──
 
 -- the start of the squares from a layout buffer: a refusal's number, or the layout
-started_from : Lent → List (List ℕ) → List (List ℕ)
+unfoldable pub started_from : Lent → List (List ℕ) → List (List ℕ)
 started_from l es = elim (start_call l es) [ refused r ↦ (r.number ∷ []) ∷ [] | given v ↦ entries_of v ]
 
 -- the free squares are stacked from the left, the locked second one stays at column 5; what stands for free pieces plays no part; a locked one in
 -- a turn not allowed is 9, one outside 10, 9 before 10; a buffer of another length is 7
-starts_locked : Bool
+unfoldable pub starts_locked : Bool
 starts_locked =
     same_entries (started_from (three_squares 9 0 1 0) (in_a_row 7 5 7)) (in_a_row 0 5 2)
     && same_entries (started_from (three_squares 9 0 1 0) ((45 ∷ 9999 ∷ 9999 ∷ []) ∷ (0 ∷ 5 ∷ 0 ∷ []) ∷ (90 ∷ 8 ∷ 1 ∷ []) ∷ [])) (in_a_row 0 5 2)
@@ -135,7 +135,7 @@ starts_locked =
     && same_entries (started_from (three_squares 9 0 2 0) []) ((8 ∷ []) ∷ [])
 
 -- what the layout buffer holds after a start that is refused: what it held before
-start_refused : Bool
+unfoldable pub start_refused : Bool
 start_refused =
     same_entries (layout_after (junk 9) (start_call (three_squares 9 0 1 0) (junk 9))) (junk 9)
     && same_entries (layout_after (junk 5) (start_call (three_squares 9 0 1 0) (junk 5))) (in_a_row 0 5 2)
@@ -144,7 +144,7 @@ start_refused =
     junk x = (45 ∷ 9999 ∷ 9999 ∷ []) ∷ (0 ∷ x ∷ 0 ∷ []) ∷ (7 ∷ 7 ∷ 7 ∷ []) ∷ []
 
 -- a bar of 3 columns, locked upright in the last column of a sheet of 3 rows and 4 columns, stays so
-turned_stays : Bool
+unfoldable pub turned_stays : Bool
 turned_stays = same_entries (started_from bar ((90 ∷ 3 ∷ 0 ∷ []) ∷ [])) ((90 ∷ 3 ∷ 0 ∷ []) ∷ [])
   where
     bar : Lent
@@ -152,7 +152,7 @@ turned_stays = same_entries (started_from bar ((90 ∷ 3 ∷ 0 ∷ []) ∷ [])) 
 
 -- full boxes of 2 × 2, 3 × 2, 2 × 2 and 1 × 4 on a sheet of 4 rows and 6 columns, the longest locked: the others are stacked by falling length as if
 -- they were alone, 2 on 0, and 3 beside them
-others_stacked : Bool
+unfoldable pub others_stacked : Bool
 others_stacked =
     same_entries (started_from boxes (in_a_row 5 3 5 ++ ((0 ∷ 0 ∷ 0 ∷ []) ∷ [])))
     ((0 ∷ 0 ∷ 0 ∷ []) ∷ (0 ∷ 3 ∷ 0 ∷ []) ∷ (0 ∷ 0 ∷ 2 ∷ []) ∷ (0 ∷ 2 ∷ 0 ∷ []) ∷ [])
@@ -164,7 +164,7 @@ others_stacked =
 
 -- two squares, the second locked, on 4 columns: it lies at column 2, where the start of all pieces has it; on 3 columns they lie at columns 0 and 1,
 -- and the first has 2 trials a round; both locked there, none; with the first one locked the second begins on it, and is moved off, on 3 columns in part
-prints_locked : Bool
+unfoldable pub prints_locked : Bool
 prints_locked =
     same_numbers (program_text (bytes "job,3,2,4,2,0\npiece,0,2,2,1,0\nrow,##\nrow,##\npiece,1,2,2,1,1\nrow,##\nrow,##\n"))
     (bytes "layout,1,2,4,2\nat,0,0,0,0\nat,1,0,2,0\nend,clear,0,0,0,4\n")
@@ -180,12 +180,12 @@ prints_locked =
 -- ── the sheet ──
 
 -- what is told of a call on a sheet: a refusal's number, or the counts
-sheet_told : Outcome Sheet → List ℕ
+unfoldable pub sheet_told : Outcome Sheet → List ℕ
 sheet_told (refused r) = r.number ∷ []
 sheet_told (given s) = s.counts
 
 -- a locked square is laid, and not withdrawn: 15; before it is laid 14; a piece that is not there 9; a free one is withdrawn
-sheet_locked : Bool
+unfoldable pub sheet_locked : Bool
 sheet_locked =
     same_numbers (sheet_told (called (job_of (three_squares 3 0 1 0)) laid (withdrawing 1))) (15 ∷ [])
     && same_numbers (sheet_told (called (job_of (three_squares 3 0 1 0)) (fresh (job_of (three_squares 3 0 1 0))) (withdrawing 1))) (14 ∷ [])
@@ -198,19 +198,7 @@ sheet_locked =
         (laying 0 (placement 0 0 0) ∷ laying 1 (placement 0 1 0) ∷ [])
 
 -- all of them
-pub lock_examples : Bool
+unfoldable pub lock_examples : Bool
 lock_examples =
     lent_locks && lock_set && lock_beyond && trials_left && locked_runs && starts_locked && start_refused && turned_stays && others_stacked && prints_locked
     && sheet_locked
-
--- locked pieces are as document 02 says
-pub lock_examples_hold : lock_examples ≡ true
-unfolding lock_examples lent_locks lock_set long_table with_more lock_beyond trials_left guided_told locked_runs starts_locked start_refused turned_stays
-    others_stacked prints_locked sheet_locked three_squares table_told piece_numbers descent_told in_a_row descended started_from sheet_told same_entries same_numbers
-    turn_of_degrees turn_of covers_pixel map_from fresh lay withdraw lay_causes withdraw_causes called after_calls word_line run_text program_run program_text near_to
-    conflict free_at conflict_depth conflict_penalty pairs_with pairs_from pair_conflicts pair_penalty sum_over weighted_sum plain_sum piece_sum unit_weights
-    rightmost leftmost used_length lent_well entry_in_range entry_fits sheet_in_range allowed_degrees locked_turn_wrong locked_outside start_call with_lock set_lock_call
-    places sum_at least search_line turn_trials piece_trials trials_from trials attempt descend_from descend raised_over raised rounds best_after last_weights
-    made_in moves_in outcome guide insert falling_order free_only stack_all start start_of_all allows tight inside unless job_of pixel_start stands_at digits_from
-    number_at field_at fields_at decimal fields_text job_line piece_line mark_at marks_at row_at rows_at piece_at pieces_at read_job placements_text layout_text
-lock_examples_hold = refl
