@@ -34,10 +34,10 @@ module _ {K L Answer : Type 0} (line : ℕ) (say : K → ℕ → L) (causes : L 
 pub unless_at_most : {L : Type 0} (f : Outcome L → ℕ) (n : ℕ) (l : L) → ((s : Refusal) → f (refused s) ≤ n) → f (given l) ≤ n → (cs : List Cause)
     → f (unless cs l) ≤ n
 unfolding unless
-unless_at_most f n l h k [] = k
-unless_at_most f n l h k (c ∷ cs) = go c.there (unless_at_most f n l h k cs)
+unless_at_most {L = L} f n l h k [] = k
+unless_at_most {L = L} f n l h k (c ∷ cs) = go c.there (unless_at_most {L = L} f n l h k cs)
   where
-    go : (b : Bool) → f (unless cs l) ≤ n → f (elim b as (λ _. Outcome _) [ true ↦ refused (refusal_of c) | false ↦ unless cs l ]) ≤ n
+    go : (b : Bool) → f (unless cs l) ≤ n → f (elim b as (λ _. Outcome L) [ true ↦ refused (refusal_of c) | false ↦ unless cs l ]) ≤ n
     go true e = h (refusal_of c)
     go false e = e
 

@@ -24,10 +24,10 @@ returns-in-Line c =
     let one : tie.After-version_fields = search in
     let at-start : tie.Start = search in
     let text = at-start.args.text.now in
-    let j = c.before.j-1.given.0.0 in
-    let g : job.Line j ≡ one.version_fields.result = sym c.before.j-1.given.1 in (
-      first_said (plain text) (or_else (gapped text) (locked text)) j (g ∙ one.version_fields.ensures.0),
-      rw (sym g) at one.version_fields.ensures.1,
+    let j = c.in-Line.j in
+    (
+      first_said (plain text) (or_else (gapped text) (locked text)) j c.in-Line.ensures.0,
+      c.in-Line.ensures.1,
     )
 
 -- version 1 is none, and so the line is one of the others
@@ -39,7 +39,7 @@ past_first p =
     let one : tie.After-version_fields = search in
     let at-start : tie.Start = search in
     let text = at-start.args.text.now in
-    other_said (plain text) (or_else (gapped text) (locked text)) _ (sym p.enum_told-1.given.1 ∙ one.version_fields.ensures.0)
+    other_said (plain text) (or_else (gapped text) (locked text)) _ p.in-Refused.ensures.0
 
 returns-in-Line-version_fields : tie.Need-returns-in-Line-version_fields
 returns-in-Line-version_fields c =
@@ -47,10 +47,10 @@ returns-in-Line-version_fields c =
     let two : tie.After-version_fields-in-Refused = search in
     let at-start : tie.Start = search in
     let text = at-start.args.text.now in
-    let j = c.before.j-in-Line-version_fields-2-1.given.0.0 in
-    let g : job.Line j ≡ two.version_fields-in-Refused.result = sym c.before.j-in-Line-version_fields-2-1.given.1 in (
-      first_said (gapped text) (locked text) j (g ∙ two.version_fields-in-Refused.ensures.0) ∙ past_first one,
-      rw (sym g) at two.version_fields-in-Refused.ensures.1,
+    let j = c.in-Line-version_fields.j in
+    (
+      first_said (gapped text) (locked text) j c.in-Line-version_fields.ensures.0 ∙ past_first one,
+      c.in-Line-version_fields.ensures.1,
     )
 
 returns-in-Refused-version_fields : tie.Need-returns-in-Refused-version_fields
@@ -61,7 +61,7 @@ returns-in-Refused-version_fields c =
     let at-start : tie.Start = search in
     let text = at-start.args.text.now in (
       c.version_fields-in-Refused-version_fields.ensures.0
-          ∙ other_said (gapped text) (locked text) _ (sym told.enum_told-in-Refused-version_fields-1.given.1 ∙ two.version_fields-in-Refused.ensures.0)
+          ∙ other_said (gapped text) (locked text) _ told.in-Refused-version_fields.ensures.0
           ∙ past_first one,
       c.version_fields-in-Refused-version_fields.ensures.1,
     )

@@ -11,7 +11,7 @@ returns-in_default c =
     let at-job-fields : tie.After-job_fields = search in
     let at-start : tie.Start = search in
     let text = at-start.args.text.now in (
-      ap job.Refused c.refusal.ensures ∙ sym (job_line_refused text _ (sym c.before.enum_told-1.given.1 ∙ at-job-fields.job_fields.ensures.0)),
+      ap job.Refused c.refusal.ensures ∙ sym (job_line_refused text _ c.in_default.ensures.0),
       omega arith,
       omega arith,
     )
@@ -21,10 +21,9 @@ returns c =
     let at-job-fields : tie.After-job_fields = search in
     let at-start : tie.Start = search in
     let text = at-start.args.text.now in
-    let j = c.before.before.j-1.given.0.0 in
-    let g : job.Line j ≡ at-job-fields.job_fields.result = sym c.before.before.j-1.given.1 in
-    let n : j.next ≤ length text = rw (sym g) at at-job-fields.job_fields.ensures.1 in (
-      c.job_ranges.ensures.0 ∙ sym (job_line_ranged text j (g ∙ at-job-fields.job_fields.ensures.0)),
+    let j = c.in-Line.j in
+    let n : j.next ≤ length text = c.in-Line.ensures.1 in (
+      c.job_ranges.ensures.0 ∙ sym (job_line_ranged text j c.in-Line.ensures.0),
       rw c.job_ranges.ensures.0 (le_trans (job_next (job_line_of j)) n),
       c.job_ranges.ensures.1,
     )

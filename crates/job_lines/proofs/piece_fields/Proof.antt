@@ -19,7 +19,7 @@ returns-in_default c =
     let at-start : tie.Start = search in
     let a = at-start.args in
     let e : line_at piece_word (piece_ends a.locks) a.text.now a.p ≡ wrong =
-    rw (c.before.enum_told-1.given.1, at_count.piece_count-count.ensures.0) at at-line-at.line_at-read.ensures.same in (
+    rw (c.in_default.is, at_count.piece_count-count.ensures.0) at at-line-at.line_at-read.ensures.same in (
       ap piece.Refused c.refusal.ensures ∙ sym (ap (λ (r : Reading (List ℕ)). piece_answer (formed a.line r (λ ks next. given (as_piece_line ks next)))) e),
       omega arith,
     )
@@ -31,12 +31,12 @@ returns c =
     let at-start : tie.Start = search in
     let a = at-start.args in
     let read = at-line-at.line_at-read in
-    let next = c.before.before.form-1.given.0.0 in
+    let next = c.in-Right.next in
     let count = at_count.piece_count-count.result in
     let ks = in_front read.result.numbers count [] in
     let e : line_at piece_word (piece_ends a.locks) a.text.now a.p ≡ got ks next =
-    rw (c.before.before.form-1.given.1, at_count.piece_count-count.ensures.0) at read.ensures.same in
-    let i : next ≤ length a.text.now = rw c.before.before.form-1.given.1 at read.ensures.inside in
+    rw (c.in-Right.is, at_count.piece_count-count.ensures.0) at read.ensures.same in
+    let i : next ≤ length a.text.now = rw c.in-Right.is at read.ensures.inside in
     let said = piece_numbers_lem ks read.result.numbers next (front_same read.result.numbers count read.ensures.others) in
     (sym (ap (λ (r : Reading (List ℕ)). piece_answer (formed a.line r (λ ns n. given (as_piece_line ns n)))) e ∙ said), i)
 

@@ -14,7 +14,7 @@ returns-in_default c =
     let text = a.text.now in (
       ap piece.Refused c.refusal.ensures
           ∙ sym (piece_line_refused text (job_line_of a.j) a.i a.area a.p a.line _
-          (sym c.before.enum_told-1.given.1 ∙ at-piece-fields.piece_fields.ensures.0)),
+          c.in_default.ensures.0),
       omega arith,
       tt,
     )
@@ -25,11 +25,10 @@ returns c =
     let at-start : tie.Start = search in
     let a = at-start.args in
     let text = a.text.now in
-    let h = c.before.before.h-1.given.0.0 in
-    let g : piece.Line h ≡ at-piece-fields.piece_fields.result = sym c.before.before.h-1.given.1 in
-    let n : h.next ≤ length text = rw (sym g) at at-piece-fields.piece_fields.ensures.1 in (
+    let h = c.in-Line.h in
+    let n : h.next ≤ length text = c.in-Line.ensures.1 in (
       c.piece_ranges.ensures.0
-          ∙ sym (piece_line_ranged text (job_line_of a.j) a.i a.area a.p a.line h (g ∙ at-piece-fields.piece_fields.ensures.0)),
+          ∙ sym (piece_line_ranged text (job_line_of a.j) a.i a.area a.p a.line h c.in-Line.ensures.0),
       rw c.piece_ranges.ensures.0 (le_trans (piece_next_lem _ (piece_line_of h)) n),
       c.piece_ranges.ensures.1,
     )

@@ -17,7 +17,7 @@ returns-in_default c =
     let at-start : tie.Start = search in
     let a = at-start.args in
     let e : line_at a.word.now (field_ends a.count) a.text.now 0 ≡ wrong =
-    rw c.before.enum_told-1.given.1 at at-line-at.line_at-line.ensures.same in (
+    rw c.in_default.is at at-line-at.line_at-line.ensures.same in (
       ap job.Refused c.refusal.ensures
           ∙ sym (ap (λ (r : Reading (List ℕ)). job_answer (said_by (onward r (λ ks next. got (as_job_line a.locks ks next) next)))) e),
       omega arith,
@@ -29,10 +29,10 @@ returns c =
     let at-start : tie.Start = search in
     let a = at-start.args in
     let read = at-line-at.line_at-line in
-    let next = c.before.before.form-1.given.0.0 in
+    let next = c.in-Right.next in
     let ks = in_front read.result.numbers a.count [] in
-    let e : line_at a.word.now (field_ends a.count) a.text.now 0 ≡ got ks next = rw c.before.before.form-1.given.1 at read.ensures.same in
-    let i : next ≤ length a.text.now = rw c.before.before.form-1.given.1 at read.ensures.inside in
+    let e : line_at a.word.now (field_ends a.count) a.text.now 0 ≡ got ks next = rw c.in-Right.is at read.ensures.same in
+    let i : next ≤ length a.text.now = rw c.in-Right.is at read.ensures.inside in
     let said = said_numbers a.locks ks read.result.numbers next (front_same read.result.numbers a.count read.ensures.others) in
     (sym (ap (λ (r : Reading (List ℕ)). job_answer (said_by (onward r (λ ns n. got (as_job_line a.locks ns n) n)))) e ∙ said), i)
 

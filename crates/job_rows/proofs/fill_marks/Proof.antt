@@ -57,7 +57,7 @@ loop-k-preserved c =
     rw e (marks_more text (a.count - (k + 1)) (a.p + k) (a.at + k) bit (suc (a.p + k)) l.pixels m) in
     let i : a.p + (k + 1) ≡ suc (a.p + k) = omega arith in
     let i' : a.at + (k + 1) ≡ suc (a.at + k) = omega arith in
-    (omega arith, rw (i, i', c.before.before.put_byte.ensures.1) (sym s ∙ l.invariant.1), c.before.before.put_byte.auto.0 ∙ l.invariant.2)
+    (omega arith, rw (i, i', c.before.before.put_byte.ensures.1) (sym s ∙ l.invariant.1), c.before.before.put_byte.auto.text ∙ l.invariant.2)
 
 shape_of-pixels : tie.Need-shape_of-pixels invariant-loop-k decreases-loop-k
 shape_of-pixels c = c.before.loop-k.invariant.2

@@ -18,7 +18,7 @@ returns-then-not-word_at c =
 shape_of-pixels-then-not-fill_marks : tie.Need-shape_of-pixels-then-not-fill_marks
 shape_of-pixels-then-not-fill_marks c =
     let at-fill-marks : tie.After-fill_marks = search in
-    at-fill-marks.fill_marks.auto.1.1.1.0
+    at-fill-marks.fill_marks.auto.pixels
 
 returns-then-not-fill_marks : tie.Need-returns-then-not-fill_marks
 returns-then-not-fill_marks c =
@@ -28,15 +28,15 @@ returns-then-not-fill_marks c =
     let at-start : tie.Start = search in
     let a = at-start.args in
     let text = a.text.now in
-    let m = stored_lost a.at a.pixels.now at-fill-marks.fill_marks.new.1.1.1.0 _ (marks_at text a.l (a.p + 4))
-    at-fill-marks.fill_marks.ensures (not-true _ c.if-not-fill_marks.true) in
+    let m = stored_lost a.at a.pixels.now at-fill-marks.fill_marks.new.pixels _ (marks_at text a.l (a.p + 4))
+    at-fill-marks.fill_marks.ensures c.if-not-fill_marks.true in
     let e : row_at text a.l a.p ≡ wrong = row_none text a.l a.p (sym at-word-at.word_at.ensures ∙ at-else1.if-not-word_at.false) m in
     rw e refl
 
 shape_of-pixels : tie.Need-shape_of-pixels
 shape_of-pixels c =
     let at-fill-marks : tie.After-fill_marks = search in
-    at-fill-marks.fill_marks.auto.1.1.1.0
+    at-fill-marks.fill_marks.auto.pixels
 
 returns : tie.Need-returns
 returns c =
@@ -46,8 +46,8 @@ returns c =
     let at-start : tie.Start = search in
     let a = at-start.args in
     let text = a.text.now in
-    let k = stored_kept a.at a.pixels.now at-fill-marks.fill_marks.new.1.1.1.0 _ (marks_at text a.l (a.p + 4))
-    at-fill-marks.fill_marks.ensures (not-false _ c.before.if-not-fill_marks.false) in
+    let k = stored_kept a.at a.pixels.now at-fill-marks.fill_marks.new.pixels _ (marks_at text a.l (a.p + 4))
+    at-fill-marks.fill_marks.ensures c.before.if-not-fill_marks.false in
     row_last text a.l a.p (sym at-word-at.word_at.ensures ∙ at-else1.if-not-word_at.false) a.at a.pixels.now _ k _
     (ap (λ (b : ℕ). eqb b 10) c.byte_at.ensures)
 

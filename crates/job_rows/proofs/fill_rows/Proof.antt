@@ -58,7 +58,7 @@ shape_of-pixels-then-not-fill_row : tie.Need-shape_of-pixels-then-not-fill_row i
 shape_of-pixels-then-not-fill_row c =
     let at-fill-row : tie.After-fill_row invariant-loop-left decreases-loop-left = search in
     let at-loop : tie.At-loop-left invariant-loop-left decreases-loop-left = search in
-    at-fill-row.fill_row.auto.1.1.1.0 ∙ at-loop.loop-left.invariant.3
+    at-fill-row.fill_row.auto.pixels ∙ at-loop.loop-left.invariant.3
 
 returns-then-not-fill_row : tie.Need-returns-then-not-fill_row invariant-loop-left decreases-loop-left
 returns-then-not-fill_row c =
@@ -70,12 +70,12 @@ returns-then-not-fill_row c =
     let l = at-loop.loop-left in
     let y = a.w - l.left in
     let n : row_at text a.l l.next ≡ wrong =
-    stored_lost (a.at + y * a.l) l.pixels _ _ (row_at text a.l l.next) at-fill-row.fill_row.ensures (not-true _ c.before.if-not-fill_row.true) in
+    stored_lost (a.at + y * a.l) l.pixels _ _ (row_at text a.l l.next) at-fill-row.fill_row.ensures c.before.if-not-fill_row.true in
     let e : l.left ≡ suc (l.left - 1) = omega arith in
     let f : fill_rows text a.l l.left l.next (a.line + y) (a.at + y * a.l) l.pixels ≡ refused (refusal_at wrong_form (a.line + y)) =
     ap (λ (k : ℕ). fill_rows text a.l k l.next (a.line + y) (a.at + y * a.l) l.pixels) e
     ∙ rows_none text a.l (l.left - 1) l.next (a.line + y) (a.at + y * a.l) l.pixels n in
-    let g = rows_refused a.at a.pixels.now at-fill-row.fill_row.new.1.1.1.0 (refusal_at wrong_form (a.line + y))
+    let g = rows_refused a.at a.pixels.now at-fill-row.fill_row.new.pixels (refusal_at wrong_form (a.line + y))
     (rows_at text a.l a.w a.p a.line) (sym l.invariant.2 ∙ f) in
     (ap rows.Refused c.refusal.ensures ∙ g.0, g.1)
 
@@ -88,20 +88,20 @@ loop-left-preserved c =
     let text = a.text.now in
     let l = at-loop.loop-left in
     let y = a.w - l.left in
-    let k = stored_kept (a.at + y * a.l) l.pixels at-fill-row.fill_row.new.1.1.1.0 _ (row_at text a.l l.next)
-    at-fill-row.fill_row.ensures (not-false _ c.if-not-fill_row.false) in
+    let k = stored_kept (a.at + y * a.l) l.pixels at-fill-row.fill_row.new.pixels _ (row_at text a.l l.next)
+    at-fill-row.fill_row.ensures c.if-not-fill_row.false in
     let e : l.left ≡ suc (l.left - 1) = omega arith in
     let i : a.w - (l.left - 1) ≡ suc y = omega arith in
     let m : a.line + suc y ≡ suc (a.line + y) = omega arith in
     let o : a.at + suc y * a.l ≡ a.at + y * a.l + a.l = omega (arith, suc-mul y a.l) in
     let s : fill_rows text a.l l.left l.next (a.line + y) (a.at + y * a.l) l.pixels
-    ≡ fill_rows text a.l (l.left - 1) (l.next + (a.l + 5)) (suc (a.line + y)) (a.at + y * a.l + a.l) at-fill-row.fill_row.new.1.1.1.0 =
+    ≡ fill_rows text a.l (l.left - 1) (l.next + (a.l + 5)) (suc (a.line + y)) (a.at + y * a.l + a.l) at-fill-row.fill_row.new.pixels =
     ap (λ (k : ℕ). fill_rows text a.l k l.next (a.line + y) (a.at + y * a.l) l.pixels) e
     ∙ row_step text a.l l.next (a.at + y * a.l) l.pixels _ k (l.left - 1) (a.line + y) in (
       omega arith,
       row_inside text a.l l.next (a.at + y * a.l) l.pixels _ k,
       rw (i, m, o) (sym s ∙ l.invariant.2),
-      at-fill-row.fill_row.auto.1.1.1.0 ∙ l.invariant.3,
+      at-fill-row.fill_row.auto.pixels ∙ l.invariant.3,
     )
 
 shape_of-pixels : tie.Need-shape_of-pixels invariant-loop-left decreases-loop-left

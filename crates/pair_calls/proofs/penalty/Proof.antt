@@ -20,7 +20,7 @@ lent s = lent_by s.args.size s.args.table.now s.args.pixels.now
 
 -- none of the causes is there
 passed : (p : tie.In-Done) → let s : tie.Start = search in NoCause (pair_causes (lent s) s.args.layout.now s.args.i s.args.k)
-passed p = let asked : tie.After-pair_causes = search in passed_none _ (sym p.enum_told-1.given.1 ∙ asked.pair_causes.ensures)
+passed p = let asked : tie.After-pair_causes = search in passed_none _ p.in-Done.ensures
 
 -- so the pair can be measured
 ready : (p : tie.In-Done) → let s : tie.Start = search in Measurable (lent s) s.args.layout.now s.args.i s.args.k
@@ -52,7 +52,7 @@ returns-in-Refused : tie.Need-returns-in-Refused
 unfolding penalty_call
 returns-in-Refused c =
     let asked : tie.After-pair_causes = search in (
-      rw (refused_alone _ _ _ (sym c.before.refusal-1.given.1 ∙ asked.pair_causes.ensures)),
+      rw (refused_alone _ _ _ c.in-Refused.ensures),
       λ k e. absurd (let z : ◌≡◌ {A = ℕ} 0 1 = cc in omega arith),
     )
 

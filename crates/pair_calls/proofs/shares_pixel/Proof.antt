@@ -22,7 +22,7 @@ lent s = lent_by s.args.size s.args.table.now s.args.pixels.now
 
 -- none of the causes is there
 passed : (p : tie.In-Done) → let s : tie.Start = search in NoCause (pair_causes (lent s) s.args.layout.now s.args.i s.args.k)
-passed p = let asked : tie.After-pair_causes = search in passed_none _ (sym p.enum_told-1.given.1 ∙ asked.pair_causes.ensures)
+passed p = let asked : tie.After-pair_causes = search in passed_none _ p.in-Done.ensures
 
 -- so the pair can be measured
 ready : (p : tie.In-Done) → let s : tie.Start = search in Measurable (lent s) s.args.layout.now s.args.i s.args.k
@@ -54,7 +54,7 @@ returns-in-Refused : tie.Need-returns-in-Refused
 unfolding share_call
 returns-in-Refused c =
     let asked : tie.After-pair_causes = search in
-    rw (refused_alone _ _ _ (sym c.before.refusal-1.given.1 ∙ asked.pair_causes.ensures))
+    rw (refused_alone _ _ _ c.in-Refused.ensures)
 
 returns-in-Done : tie.Need-returns-in-Done
 unfolding share_call pair_conflicts job_of

@@ -4,11 +4,11 @@ use Rattle.pair_measure.proofs.corner_along.Tie as tie
 
 -- src/lib.rt:54:1
 returns-in-Horizontal : tie.Need-returns-in-Horizontal
-returns-in-Horizontal c = rw c.enum_told-1.given.1
+returns-in-Horizontal c = search rules
 
 -- src/lib.rt:54:1
 returns-in-Vertical : tie.Need-returns-in-Vertical
-returns-in-Vertical c = rw c.enum_told-in-Vertical-1.given.1
+returns-in-Vertical c = search rules
 
 pub corner_along_spec : {M : Type 1} → statement M
 corner_along_spec = tie.close (tie.spec

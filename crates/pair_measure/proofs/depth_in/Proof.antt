@@ -35,13 +35,13 @@ end c = c.before.fill-end.result
 -- both stand in the store
 behind : (size : JobSize) (c : tie.After-store-2-1)
     → StretchBehind (strips (entry c).args.direction (one size c)) (strips (entry c).args.direction (two size c))
-    c.before.fill-end.new.1.1.1.1.1.0 (middle c) (end c)
+    c.before.fill-end.new.store (middle c) (end c)
 behind size c =
     let at_fill : tie.After-fill-middle = search in
     let s = (entry c).args in
     let r = (entry c).requires in
     both_behind size s.table.now s.pixels.now s.i s.k r.0.entry r.1.0.entry _ r.1.1.1 s.p.turn s.q.turn s.direction
-    s.store.now at_fill.fill-middle.new.1.1.1.1.1.0 c.before.fill-end.new.1.1.1.1.1.0 (middle c) (end c)
+    s.store.now at_fill.fill-middle.new.store c.before.fill-end.new.store (middle c) (end c)
     refl (at_fill.fill-middle.ensures size) (c.before.fill-end.ensures size)
 
 -- the first piece has at most 65,536 strips

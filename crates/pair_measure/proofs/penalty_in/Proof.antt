@@ -22,7 +22,7 @@ depth_in-requires c κs =
     let r = at-start.requires in
     let room = r.1.1.1 in
     let few = r.1.1.0 in
-    let kept = at-depth-in.depth_in-along_rows.auto.1.1.1.1.1.1.1.1.1.0 in
+    let kept = at-depth-in.depth_in-along_rows.auto.store in
     (r.0, (r.1.0, ((few, depth_cut_low _ _ (at-depth-in.depth_in-along_rows.ensures any_size)), omega arith)))
 
 returns : tie.Need-returns

@@ -71,7 +71,7 @@ loop-i-preserved c =
     let w = at-loop.loop-i in
     let at-mark-line : tie.After-mark_line-covered invariant-loop-i decreases-loop-i = search in (
       all_more s.gap s.a.now s.u s.b.now s.v at-start.requires.0 s.marks.now w.marks
-          at-mark-line.mark_line-covered.new.1.1.1.1.1.1.1.1.0 w.i w.j at-line-start.line_start-j.result
+          at-mark-line.mark_line-covered.new.marks w.i w.j at-line-start.line_start-j.result
           in-loop.loop-i-test.true at-placed-at.placed_at-p.result.line at-placed-at.placed_at-p.ensures.line w.invariant.0
           at-line-start.line_start-j.ensures at-mark-line.mark_line-covered.ensures.0,
       at-mark-line.mark_line-covered.ensures.1,

@@ -101,7 +101,7 @@ loop-j-preserved c =
     at-placed-at.placed_at-p.result at-placed-at2.placed_at-q.result p q
     (omega (arith, p.line, q.line, at-else1.if-p-q.false, at-start.requires.1.1.1.0 w.j w.invariant.0 l)) at-minus.minus-low.ensures
     at-minus2.minus-high.ensures w.invariant.2 w.invariant.3
-    at-cover.cover-covered.new.0 at-cover.cover-covered.ensures.0 in
+    at-cover.cover-covered.new.marks at-cover.cover-covered.ensures.0 in
     (omega (arith, w.invariant.0), omega arith, more.0, more.1, at-cover.cover-covered.ensures.1)
 
 shape_of-marks : tie.Need-shape_of-marks invariant-loop-j decreases-loop-j

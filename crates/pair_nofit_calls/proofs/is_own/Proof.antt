@@ -14,7 +14,7 @@ returns-in_default c = λ size.
     let at-start : tie.Start = search in
     let a = at-start.args in
     unlike_own (strips a.direction (turned_piece (job_of (lent_by size a.table.now a.pixels.now)) a.i a.turn)) a.stretch.now
-    (sym c.enum_told-1.given.1 ∙ c.before.before.compare_piece.ensures size)
+    (c.in_default.ensures size)
 
 returns : tie.Need-returns
 unfolding stretch_well
@@ -23,7 +23,7 @@ returns c = λ size.
     let at-start : tie.Start = search in
     let a = at-start.args in
     until_own (strips a.direction (turned_piece (job_of (lent_by size a.table.now a.pixels.now)) a.i a.turn)) a.stretch.now _
-    (sym c.before.end-1.given.1 ∙ at-compare-piece.compare_piece.ensures size)
+    (c.in-Until.ensures size)
 
 pub is_own_spec : {M : Type 1} → statement M
 is_own_spec = tie.close (tie.spec

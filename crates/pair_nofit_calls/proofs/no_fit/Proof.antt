@@ -28,7 +28,7 @@ two s = lent_stretch s.args.second.piece s.args.second.turn s.args.b.now
 
 -- none of the causes is there
 passed : (p : tie.In-Done) → let s : tie.Start = search in NoCause (stretch_causes s.args.direction (lent s) (one s) (two s))
-passed p = let asked : tie.After-stretch_causes = search in passed_none _ (sym p.enum_told-1.given.1 ∙ asked.stretch_causes.ensures)
+passed p = let asked : tie.After-stretch_causes = search in passed_none _ p.in-Done.ensures
 
 -- so the gap is small
 small : (p : tie.In-Done) → let s : tie.Start = search in s.args.size.gap ≤ gap_bound
@@ -52,7 +52,7 @@ returns-in-Refused c =
     let s : tie.Start = search in
     let a = s.args in
     let f = refused_called a.direction (lent s) (one s) (two s) a.offset (length a.out.now) _
-    (sym c.before.refusal-1.given.1 ∙ asked.stretch_causes.ensures) in
+    c.in-Refused.ensures in
     (ap count_answer (sym f), ap (runs_after a.out.now) (sym f))
 
 returns-in-Done : tie.Need-returns-in-Done

@@ -38,7 +38,7 @@ returns-then-out-needed c =
     line_short s.gap s.a.now s.b.now s.offset _
     (marks_line s.gap s.a.now s.b.now s.offset _ _ _ _ (at-down.down.ensures ∙ ap (λ (z : ℤ). min (down z) farthest) e)
     (at_up.up.ensures ∙ ap (λ (z : ℤ). min (up z) farthest) e) at-mark-shifts.mark_shifts.ensures (omega arith)) s.out.now
-    at-put-runs.put_runs-needed.new.1.0 at-put-runs.put_runs-needed.result at-put-runs.put_runs-needed.ensures
+    at-put-runs.put_runs-needed.new.out at-put-runs.put_runs-needed.result at-put-runs.put_runs-needed.ensures
     c.before.if-out-needed.true c.plain_refusal.result c.plain_refusal.ensures
 
 returns : tie.Need-returns
@@ -54,8 +54,8 @@ returns c =
     line_room s.gap s.a.now s.b.now s.offset _
     (marks_line s.gap s.a.now s.b.now s.offset _ _ _ _ (at-down.down.ensures ∙ ap (λ (z : ℤ). min (down z) farthest) e)
     (at_up.up.ensures ∙ ap (λ (z : ℤ). min (up z) farthest) e) at-mark-shifts.mark_shifts.ensures (omega arith)) s.out.now
-    at-put-runs.put_runs-needed.new.1.0 at-put-runs.put_runs-needed.result at-put-runs.put_runs-needed.ensures
-    at-else1.if-out-needed.false c.before.put_runs.new.1.0 c.before.put_runs.result c.before.put_runs.ensures
+    at-put-runs.put_runs-needed.new.out at-put-runs.put_runs-needed.result at-put-runs.put_runs-needed.ensures
+    at-else1.if-out-needed.false c.before.put_runs.new.out c.before.put_runs.result c.before.put_runs.ensures
 
 pub put_line_spec : {M : Type 1} → statement M
 put_line_spec =

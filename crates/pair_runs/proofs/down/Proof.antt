@@ -24,7 +24,7 @@ overflow_sub-result : tie.Need-overflow_sub-result
 overflow_sub-result c =
     let o = c.before.before.args.o in
     let e : to_z w32 (of_z w32 o) ≡ o = to_z-of_z w32 o c.before.before.ranges.o in
-    (down_near (to_z w32 (of_z w32 o)) c.before.if-o-ge0.false c.if-o-lt-FARTHEST_DOWN.false).ranges
+    (down_near (to_z w32 (of_z w32 o)) c.before.if-o-ge0.false c.if-o-lt-FARTHEST_DOWN.false).fits
 
 overflow_cast-result : tie.Need-overflow_cast-result
 overflow_cast-result c =

@@ -1,6 +1,6 @@
 -- `pair_slide::room_before` meets its contract: boxes that stay farther apart than the gap do not conflict on the way, and else the slide over the
 -- strips tells where they do first. Assumes nothing.
-use Rattle.list_laws.proofs.Kit.{◌∙◌, sym, arith, rules, not-true}
+use Rattle.list_laws.proofs.Kit.{◌∙◌, sym, arith, rules}
 use Rattle.pair_slide.proofs.Rooms.{boxes_across, boxes_along, boxes_slid}
 use Rattle.pair_slide.proofs.room_before.Statement.{statement}
 use Rattle.pair_slide.proofs.room_before.Tie as tie
@@ -11,7 +11,7 @@ returns-then-not-spans_meet c = λ d s u t v a b first second.
     let told : tie.After-spans_meet = search in
     let x = at-start.args in
     boxes_across x.gap d s u t v x.p x.q first second x.bound at-start.requires.1.1.1.1
-    (sym told.spans_meet.ensures ∙ not-true _ c.if-not-spans_meet.true)
+    (sym told.spans_meet.ensures ∙ c.if-not-spans_meet.true)
 
 returns-then-not-spans_meet-2 : tie.Need-returns-then-not-spans_meet-2
 returns-then-not-spans_meet-2 c = λ d s u t v a b first second.
@@ -19,7 +19,7 @@ returns-then-not-spans_meet-2 c = λ d s u t v a b first second.
     let told : tie.After-spans_meet-2 = search in
     let x = at-start.args in
     boxes_along x.gap d s u t v x.p x.q first second x.bound at-start.requires.1.1.1.1
-    (sym told.spans_meet-2.ensures ∙ not-true _ c.if-not-spans_meet-2.true)
+    (sym told.spans_meet-2.ensures ∙ c.if-not-spans_meet-2.true)
 
 meets_below-requires : tie.Need-meets_below-requires
 meets_below-requires c κs =

@@ -40,7 +40,7 @@ returns-in_default c =
     let l = at-loop.loop-k in
     let end = at-end-byte.end_byte.result in
     let e : field_at end text l.next ≡ wrong =
-    wrong_of (field_at end text l.next) (sym c.enum_told-1.given.1 ∙ c.before.before.field_at.ensures.same) in
+    wrong_of (field_at end text l.next) c.in_default.ensures.same in
     record {
       same = sym l.invariant.3 ∙ read_wrong text l.numbers l.next l.k a.count end in-loop.loop-k-test.true at-end-byte.end_byte.ensures.0 e;
       others = λ j h. l.invariant.4 j (omega arith);
@@ -58,11 +58,10 @@ loop-k-preserved c =
     let text = a.text.now in
     let l = at-loop.loop-k in
     let end = at-end-byte.end_byte.result in
-    let v = c.before.number-1.given.0.0 in
-    let q = c.before.number-1.given.0.1.0 in
-    let g : number.Got v q ≡ at-field-at.field_at.result = sym c.before.number-1.given.1 in
-    let e : field_at end text l.next ≡ got v q = got_of (field_at end text l.next) v q (g ∙ at-field-at.field_at.ensures.same) in
-    let i : q ≤ length text = rw (sym g) at at-field-at.field_at.ensures.inside in
+    let v = c.in-Got.number in
+    let q = c.in-Got.after in
+    let e : field_at end text l.next ≡ got v q = got_of (field_at end text l.next) v q c.in-Got.ensures.same in
+    let i : q ≤ length text = c.in-Got.ensures.inside in
     let below : l.k < a.count = in-loop.loop-k-test.true in
     let room : l.k < length l.numbers = omega arith in (
       omega arith,

@@ -21,10 +21,10 @@ loop-k-preserved c =
     let a = at-start.args in
     let l = at-loop.loop-k in
     let i : a.at + (l.k + 1) ≡ suc (a.at + l.k) = omega arith in
-    let e : c.before.before.put_byte.new.0 ≡ set l.text (a.at + l.k) (get_or a.word.now l.k 0) = c.before.before.put_byte.ensures.1 in (
+    let e : c.before.before.put_byte.new.text ≡ set l.text (a.at + l.k) (get_or a.word.now l.k 0) = c.before.before.put_byte.ensures.1 in (
       omega arith,
       rw (i, add-one l.k, e) (sym (sets_first l.text (a.at + l.k) a.word.now l.k in-loop.loop-k-test.true) ∙ l.invariant.1),
-      c.before.before.put_byte.auto.0 ∙ l.invariant.2,
+      c.before.before.put_byte.auto.text ∙ l.invariant.2,
     )
 
 shape_of-text : tie.Need-shape_of-text invariant-loop-k decreases-loop-k
