@@ -1,5 +1,5 @@
 -- `causes::call_causes` meets its contract: at each place the causes before it are not there, so that its own decides. Assumes nothing.
-use Rattle.list_laws.proofs.Kit.{◌∙◌, ◌≡◌, ap, sym, not, true, length, rules, eq-eqb, ne_eqb, not-false, not-true}
+use Rattle.list_laws.proofs.Kit.{◌∙◌, ◌≡◌, ap, sym, not, true, length, rules, eq-eqb, ne_eqb}
 use Rattle.model.specs.Lent.{Lent, lent_by, lent_well}
 use Rattle.job_laws.proofs.Checked.{facts}
 use Rattle.text_laws.proofs.Causes.{there, next}
@@ -16,7 +16,7 @@ start p = search
 
 -- it passes its check
 well : (p : tie.Else-not-check_job) → lent_well (lent (start p)) ≡ true
-well p = let checked : tie.After-check_job = search in sym checked.check_job.ensures ∙ not-false _ p.if-not-check_job.false
+well p = let checked : tie.After-check_job = search in sym checked.check_job.ensures ∙ p.if-not-check_job.false
 
 -- the layout has its length
 whole : (p : tie.Else-layout-size) → let first : tie.Else-not-check_job = search in length (start first).args.layout.now ≡ (start first).args.size.count
@@ -26,7 +26,7 @@ returns-then-not-check_job : tie.Need-returns-then-not-check_job
 returns-then-not-check_job c =
     let checked : tie.After-check_job = search in
     let ours : tie.Then-not-check_job = search in
-    c.refused.ensures ∙ there 8 _ _ (ap not (sym checked.check_job.ensures ∙ not-true _ ours.if-not-check_job.true))
+    c.refused.ensures ∙ there 8 _ _ (ap not (sym checked.check_job.ensures ∙ ours.if-not-check_job.true))
 
 returns-then-layout-size : tie.Need-returns-then-layout-size
 returns-then-layout-size c =

@@ -1,5 +1,5 @@
 -- `causes::some_outside` meets its contract. The loop's invariant: the placements of the pieces passed are inside. Assumes nothing.
-use Rattle.list_laws.proofs.Kit.{◌∙◌, ◌≡◌, sym, true, List, ◌-◌, ◌<◌, ◌≤◌, ℕ, arith, below_more, rules, not-false, not-true}
+use Rattle.list_laws.proofs.Kit.{◌∙◌, ◌≡◌, sym, true, List, ◌-◌, ◌<◌, ◌≤◌, ℕ, arith, below_more, rules}
 use Rattle.model.specs.Layout.{inside, place_of}
 use Rattle.model.specs.Lent.{lent_by, job_of}
 use Rattle.model.specs.Buffer.{layout_of}
@@ -31,7 +31,7 @@ returns-then-not-inside c = λ pixels.
     let at-start : tie.Start invariant-loop-i decreases-loop-i = search in
     let a = at-start.args in
     one_fails a.size.count at-loop.loop-i.i (λ k. inside (job_of (lent_by a.size a.table.now pixels)) k (place_of (layout_of a.layout.now) k))
-    (omega arith) (sym (rw c.before.before.place_at.ensures at (c.before.inside.ensures pixels)) ∙ not-true _ c.if-not-inside.true)
+    (omega arith) (sym (rw c.place_at.ensures at (c.inside.ensures pixels)) ∙ c.if-not-inside.true)
 
 overflow_add-i : tie.Need-overflow_add-i invariant-loop-i decreases-loop-i
 overflow_add-i c =
@@ -43,7 +43,7 @@ loop-i-preserved c =
     let at-loop : tie.At-loop-i invariant-loop-i decreases-loop-i = search in (
       omega arith,
       below_more _ _ at-loop.loop-i.invariant.1
-          (λ pixels. sym (rw c.before.before.place_at.ensures at (c.before.inside.ensures pixels)) ∙ not-false _ c.if-not-inside.false),
+          (λ pixels. sym (rw c.place_at.ensures at (c.inside.ensures pixels)) ∙ c.if-not-inside.false),
     )
 
 returns : tie.Need-returns invariant-loop-i decreases-loop-i
@@ -51,9 +51,9 @@ unfolding some_outside job_of
 returns c = λ pixels.
     let at-start : tie.Start invariant-loop-i decreases-loop-i = search in
     let a = at-start.args in
-    none_fails a.size.count c.before.before.loop-i.i
+    none_fails a.size.count c.loop-i.i
     (λ k. inside (job_of (lent_by a.size a.table.now pixels)) k (place_of (layout_of a.layout.now) k)) c.loop-i-test.false
-    (λ k l. c.before.before.loop-i.invariant.1 k l pixels)
+    (λ k l. c.loop-i.invariant.1 k l pixels)
 
 pub some_outside_spec : {M : Type 1} → statement M
 some_outside_spec =

@@ -1,5 +1,5 @@
 -- `causes::some_turn_wrong` meets its contract. The loop's invariant: the turns of the pieces passed are allowed. Assumes nothing.
-use Rattle.list_laws.proofs.Kit.{◌∙◌, ◌≡◌, sym, true, List, [], ◌-◌, ◌<◌, ◌≤◌, ℕ, arith, get_or, below_more, rules, not-false, not-true}
+use Rattle.list_laws.proofs.Kit.{◌∙◌, ◌≡◌, sym, true, List, [], ◌-◌, ◌<◌, ◌≤◌, ℕ, arith, get_or, below_more, rules}
 use Rattle.model.specs.Lent.{lent_by, job_of}
 use Rattle.model.specs.Calls.{allowed_degrees, some_turn_wrong}
 use Rattle.list_laws.proofs.Searches.{one_fails, none_fails}
@@ -30,7 +30,7 @@ returns-then-not-allowed_degrees c = λ pixels.
     let a = at-start.args in
     one_fails a.size.count at-loop.loop-i.i
     (λ k. allowed_degrees (job_of (lent_by a.size a.table.now pixels)) k (get_or (get_or a.layout.now k []) 0 0)) (omega arith)
-    (sym (c.before.allowed_degrees.ensures a.size pixels) ∙ not-true _ c.if-not-allowed_degrees.true)
+    (sym (c.allowed_degrees.ensures a.size pixels) ∙ c.if-not-allowed_degrees.true)
 
 overflow_add-i : tie.Need-overflow_add-i invariant-loop-i decreases-loop-i
 overflow_add-i c =
@@ -42,7 +42,7 @@ loop-i-preserved c =
     let at-loop : tie.At-loop-i invariant-loop-i decreases-loop-i = search in
     let at-start : tie.Start invariant-loop-i decreases-loop-i = search in (
       omega arith,
-      below_more _ _ at-loop.loop-i.invariant.1 (λ pixels. sym (c.before.allowed_degrees.ensures at-start.args.size pixels) ∙ not-false _ c.if-not-allowed_degrees.false),
+      below_more _ _ at-loop.loop-i.invariant.1 (λ pixels. sym (c.allowed_degrees.ensures at-start.args.size pixels) ∙ c.if-not-allowed_degrees.false),
     )
 
 returns : tie.Need-returns invariant-loop-i decreases-loop-i
@@ -50,9 +50,9 @@ unfolding some_turn_wrong job_of
 returns c = λ pixels.
     let at-start : tie.Start invariant-loop-i decreases-loop-i = search in
     let a = at-start.args in
-    none_fails a.size.count c.before.before.loop-i.i
+    none_fails a.size.count c.loop-i.i
     (λ k. allowed_degrees (job_of (lent_by a.size a.table.now pixels)) k (get_or (get_or a.layout.now k []) 0 0)) c.loop-i-test.false
-    (λ k l. c.before.before.loop-i.invariant.1 k l pixels)
+    (λ k l. c.loop-i.invariant.1 k l pixels)
 
 pub some_turn_wrong_spec : {M : Type 1} → statement M
 some_turn_wrong_spec =

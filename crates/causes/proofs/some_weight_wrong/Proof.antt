@@ -18,7 +18,7 @@ returns-then-weights-k-eq0 : tie.Need-returns-then-weights-k-eq0 invariant-loop-
 returns-then-weights-k-eq0 c =
     let at-loop : tie.At-loop-k invariant-loop-k decreases-loop-k = search in
     let at-start : tie.Start invariant-loop-k decreases-loop-k = search in
-    sym (at-loop.loop-k.invariant.1 ∙ weight_zero at-start.args.weights.now at-loop.loop-k.k c.before.before.loop-k-test.true c.if-weights-k-eq0.true)
+    sym (at-loop.loop-k.invariant.1 ∙ weight_zero at-start.args.weights.now at-loop.loop-k.k c.loop-k-test.true c.if-weights-k-eq0.true)
 
 returns-then-weights-k-gt-WEIGHT_BOUND : tie.Need-returns-then-weights-k-gt-WEIGHT_BOUND invariant-loop-k decreases-loop-k
 returns-then-weights-k-gt-WEIGHT_BOUND c =
@@ -26,7 +26,7 @@ returns-then-weights-k-gt-WEIGHT_BOUND c =
     let at-loop : tie.At-loop-k invariant-loop-k decreases-loop-k = search in
     let at-start : tie.Start invariant-loop-k decreases-loop-k = search in
     sym (at-loop.loop-k.invariant.1
-    ∙ weight_large at-start.args.weights.now at-loop.loop-k.k in-loop.loop-k-test.true c.before.before.if-weights-k-eq0.false (omega (arith, c.if-weights-k-gt-WEIGHT_BOUND.true)))
+    ∙ weight_large at-start.args.weights.now at-loop.loop-k.k in-loop.loop-k-test.true c.if-weights-k-eq0.false (omega (arith, c.if-weights-k-gt-WEIGHT_BOUND.true)))
 
 loop-k-preserved : tie.Need-loop-k-preserved invariant-loop-k decreases-loop-k
 loop-k-preserved c =
@@ -35,13 +35,13 @@ loop-k-preserved c =
     let at-start : tie.Start invariant-loop-k decreases-loop-k = search in (
       omega (arith, in-loop.loop-k-test.true),
       at-loop.loop-k.invariant.1
-          ∙ weight_right at-start.args.weights.now at-loop.loop-k.k in-loop.loop-k-test.true c.before.before.if-weights-k-eq0.false
+          ∙ weight_right at-start.args.weights.now at-loop.loop-k.k in-loop.loop-k-test.true c.if-weights-k-eq0.false
           (omega (arith, c.if-weights-k-gt-WEIGHT_BOUND.false)),
     )
 
 returns : tie.Need-returns invariant-loop-k decreases-loop-k
-returns c = let done : c.before.loop-k.k ≡ length c.before.before.args.weights.now = omega (arith, c.before.loop-k.invariant.0, c.loop-k-test.false) in
-    sym (c.before.loop-k.invariant.1 ∙ weights_end c.before.before.args.weights.now c.before.loop-k.k done)
+returns c = let done : c.loop-k.k ≡ length c.args.weights.now = omega (arith, c.loop-k.invariant.0, c.loop-k-test.false) in
+    sym (c.loop-k.invariant.1 ∙ weights_end c.args.weights.now c.loop-k.k done)
 
 pub some_weight_wrong_spec : {M : Type 1} → statement M
 some_weight_wrong_spec =

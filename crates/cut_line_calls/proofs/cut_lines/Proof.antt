@@ -18,7 +18,7 @@ lent s = lent_by s.args.size s.args.table.now s.args.pixels.now
 
 -- the check passed
 passed : (p : tie.In-Done) → let s : tie.Start = search in DoneAnswer.Done ≡ done_answer (check_call (lent s) s.args.layout.now)
-passed p = let asked : tie.After-check = search in sym p.enum_told-1.given.1 ∙ asked.check.ensures
+passed p = let asked : tie.After-check = search in p.in-Done.ensures
 
 layout_lines-requires : tie.Need-layout_lines-requires
 layout_lines-requires c κs =
@@ -30,10 +30,10 @@ returns-in-Refused : tie.Need-returns-in-Refused
 returns-in-Refused c =
     let s : tie.Start = search in
     let asked : tie.After-check = search in
-    let how : tie.In-Refused-2 = search in
+    let how : tie.In-Refused = search in
     let a = s.args in
-    let o : cut_lines_call (lent s) a.layout.now (length a.lines.now) ≡ refused how.refusal-1.given.0.0 =
-    lines_refused (lent s) a.layout.now _ _ (sym how.refusal-1.given.1 ∙ asked.check.ensures) in
+    let o : cut_lines_call (lent s) a.layout.now (length a.lines.now) ≡ refused how.in-Refused.refusal =
+    lines_refused (lent s) a.layout.now _ _ how.in-Refused.ensures in
     let answer = sym (ap count_answer o) in
     (answer, (sym (ap (lines_after a.lines.now) o), lines_answered (lent s) a.layout.now (length a.lines.now) answer))
 

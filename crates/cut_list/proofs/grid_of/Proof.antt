@@ -4,10 +4,10 @@ use Rattle.cut_list.proofs.grid_of.Statement.{statement}
 use Rattle.cut_list.proofs.grid_of.Tie as tie
 
 returns-in-Horizontal : tie.Need-returns-in-Horizontal
-returns-in-Horizontal c = rw c.enum_told-1.given.1
+returns-in-Horizontal c = search rules
 
 returns-in-Vertical : tie.Need-returns-in-Vertical
-returns-in-Vertical c = rw c.enum_told-in-Vertical-1.given.1
+returns-in-Vertical c = search rules
 
 pub grid_of_spec : {M : Type 1} → statement M
 grid_of_spec = tie.close (tie.spec

@@ -41,7 +41,7 @@ paint-requires c κs =
 
 -- the owners
 abbrev made : tie.After-paint → List ℕ
-made p = p.paint.new.1.1.1.1.0
+made p = p.paint.new.owners
 
 made-full : (p : tie.After-paint) → let s : tie.Start = search in length (made p) ≡ pixelCount s
 unfolding job_of

@@ -25,7 +25,7 @@ loop-piece-init : tie.Need-loop-piece-init invariant-loop-piece decreases-loop-p
 loop-piece-init c =
     let s : tie.Start invariant-loop-piece decreases-loop-piece = search in
     let a = s.args in
-    let zeros : c.before.before.clear.new.0 ≡ replicate (length a.owners.now) 0 = c.before.before.clear.ensures in (
+    let zeros : c.before.before.clear.new.counts ≡ replicate (length a.owners.now) 0 = c.before.before.clear.ensures in (
       omega arith,
       ap length zeros ∙ length-replicate _ 0 ∙ s.requires.1,
       rw zeros (none_painted (job_of (lent_by a.size a.table.now a.pixels.now)) (layout_of a.layout.now) (length a.owners.now)),
@@ -55,7 +55,7 @@ loop-piece-preserved c =
     let v : Layout = layout_of a.layout.now in
     let now = at-loop.loop-piece in
     let l = in-loop.loop-piece-test.true in
-    let after : c.before.before.paint_piece.new.1.1.1.1.1.0
+    let after : c.before.before.paint_piece.new.owners
     ≡ moved_by (OwnedBy (now.piece + 1)) j now.piece (place_of v now.piece) now.owners =
     c.before.before.paint_piece.ensures in (
       omega arith,

@@ -17,7 +17,7 @@ passed : (p : tie.In-Done) →
     let s : tie.Start = search in
     let b : tie.After-pitch_wrong = search in
     DoneAnswer.Done ≡ first_cause (asked (lent s) s.args.layout.now s.args.pitch s.args.step b.pitch_wrong.result)
-passed p = let causes : tie.After-call_causes = search in sym p.enum_told-1.given.1 ∙ causes.call_causes.ensures
+passed p = let causes : tie.After-call_causes = search in p.in-Done.ensures
 
 listed_step-requires : tie.Need-listed_step-requires
 listed_step-requires c κs =
@@ -36,7 +36,7 @@ returns-in-Refused c =
     let answer =
     sym (ap step_answer
     (step_refused (lent s) a.layout.now a.pitch a.step _ _ b.pitch_wrong.ensures
-    (sym c.before.refusal-1.given.1 ∙ causes.call_causes.ensures))) in
+    c.in-Refused.ensures)) in
     (answer, step_answered (lent s) a.layout.now a.pitch a.step answer)
 
 returns-in-Done : tie.Need-returns-in-Done

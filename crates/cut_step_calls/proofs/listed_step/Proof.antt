@@ -15,32 +15,32 @@ abbrev lent : tie.Start → Lent
 lent s = lent_by s.args.size s.args.table.now s.args.pixels.now
 
 -- what the count tells
-told : (p : tie.In-Number-2) → let s : tie.Start = search in LinesTold (lent s) s.args.layout.now (length s.args.lines.now) p.count-1.given.0.0
+told : (p : tie.In-Number) → let s : tie.Start = search in LinesTold (lent s) s.args.layout.now (length s.args.lines.now) p.in-Number.count
 told p =
     let s : tie.Start = search in
     let asked : tie.After-cut_lines = search in
-    lines_told (lent s) s.args.layout.now s.requires.0 _ _ s.requires.1 (sym p.count-1.given.1 ∙ asked.cut_lines.ensures.0)
+    lines_told (lent s) s.args.layout.now s.requires.0 _ _ s.requires.1 p.in-Number.ensures.0
 
 -- the buffer after the lines are stored
 abbrev stored : tie.After-cut_lines → List (List ℕ)
-stored p = p.cut_lines.new.1.1.1.1.0
+stored p = p.cut_lines.new.lines
 
 -- there are no more lines than entries
-within : (p : tie.In-Number-2) → let asked : tie.After-cut_lines = search in p.count-1.given.0.0 ≤ length (stored asked)
+within : (p : tie.In-Number) → let asked : tie.After-cut_lines = search in p.in-Number.count ≤ length (stored asked)
 within p =
     let s : tie.Start = search in
     let asked : tie.After-cut_lines = search in
     let most = lines_most (lent s) s.args.layout.now s.requires.0 in
     let count = (told p).count-1 in
-    let same = asked.cut_lines.auto.1.1.1.1.0 in
+    let same = asked.cut_lines.auto.lines in
     let room = s.requires.1 in omega arith
 
 slice_bounds-step_of-end : tie.Need-slice_bounds-step_of-end
-slice_bounds-step_of-end c = let p : tie.In-Number-2 = search in within p
+slice_bounds-step_of-end c = let p : tie.In-Number = search in within p
 
 slice_bounds-step_of-end-in-Number : tie.Need-slice_bounds-step_of-end-in-Number
 slice_bounds-step_of-end-in-Number c =
-    let p : tie.In-Number-2 = search in
+    let p : tie.In-Number = search in
     let asked : tie.After-cut_lines = search in front_length _ (stored asked) (within p)
 
 returns-in-Refused : tie.Need-returns-in-Refused
@@ -49,20 +49,20 @@ returns-in-Refused c =
     let asked : tie.After-cut_lines = search in
     let a = s.args in
     let o = lines_left (lent s) a.layout.now s.requires.0 (length a.lines.now) s.requires.1 in
-    let no = count_refused _ _ (sym c.before.refusal-1.given.1 ∙ asked.cut_lines.ensures.0) in
+    let no = count_refused _ _ c.in-Refused.ensures.0 in
     sym (ap step_answer (shared_refused (lent s) a.layout.now a.pitch a.step _ (sym o ∙ no)))
 
 returns-in-Number : tie.Need-returns-in-Number
 returns-in-Number c =
     let s : tie.Start = search in
     let asked : tie.After-cut_lines = search in
-    let p : tie.In-Number-2 = search in
+    let p : tie.In-Number = search in
     let a = s.args in
     let ls = cut_lines (job_of (lent s)) (layout_of a.layout.now) in
     let t = told p in
     let after : stored asked ≡ filled (map line_entry ls) a.lines.now = asked.cut_lines.ensures.1.0 ∙ ap (lines_after a.lines.now) t.lines in
-    let read : map entry_line (take p.count-1.given.0.0 (stored asked)) ≡ ls =
-    ap (λ (l : List (List ℕ)). map entry_line (take p.count-1.given.0.0 l)) after ∙ lines_back ls a.lines.now _ t.count in
+    let read : map entry_line (take p.in-Number.count (stored asked)) ≡ ls =
+    ap (λ (l : List (List ℕ)). map entry_line (take p.in-Number.count l)) after ∙ lines_back ls a.lines.now _ t.count in
     rw (c.step_of.ensures.0, read) (sym (ap step_answer (t.step a.pitch a.step)))
 
 pub listed_step_spec : {M : Type 1} → statement M

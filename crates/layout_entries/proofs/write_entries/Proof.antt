@@ -17,7 +17,7 @@ loop-i-init : tie.Need-loop-i-init invariant-loop-i decreases-loop-i
 loop-i-init c = (omega arith, rewritten_begin _)
 
 place_at-requires : tie.Need-place_at-requires invariant-loop-i decreases-loop-i
-place_at-requires c κs = c.before.loop-i-test.true
+place_at-requires c κs = c.loop-i-test.true
 
 offset_bounds-layout-i : tie.Need-offset_bounds-layout-i invariant-loop-i decreases-loop-i
 offset_bounds-layout-i c =
@@ -58,18 +58,18 @@ loop-i-preserved c =
     let start = at-start.args.layout.now in
     let l = at-loop.loop-i in
     let below = in-loop.loop-i-test.true in
-    let wrote : c.entry_of.result ≡ entry_of (place_of (layout_of l.layout) l.i) = c.entry_of.ensures ∙ ap entry_of c.before.place_at.ensures in (
+    let wrote : c.entry_of.result ≡ entry_of (place_of (layout_of l.layout) l.i) = c.entry_of.ensures ∙ ap entry_of c.place_at.ensures in (
       simp length-set (omega arith),
       subst (λ (e : List ℕ). Rewritten start (set l.layout l.i e) (l.i + 1)) (sym wrote) (rewritten_step start l.layout l.i below l.invariant.1),
     )
 
 shape_of-layout : tie.Need-shape_of-layout invariant-loop-i decreases-loop-i
-shape_of-layout c = c.before.loop-i.invariant.1.same
+shape_of-layout c = c.loop-i.invariant.1.same
 
 returns : tie.Need-returns invariant-loop-i decreases-loop-i
 returns c =
-    let start = c.before.before.args.layout.now in
-    let l = c.before.loop-i in
+    let start = c.args.layout.now in
+    let l = c.loop-i in
     let done : l.i ≡ length l.layout = omega (arith, l.invariant.0, c.loop-i-test.false) in
     rewritten_end start l.layout (subst (λ (n : ℕ). Rewritten start l.layout n) done l.invariant.1)
 

@@ -70,7 +70,7 @@ overflow_sub-result c =
     let e = at-the-end c in
     let h = at-start.requires.0 in
     let some : 0 < at-loop.loop-i.i = omega arith in
-    let ordered : at-loop.loop-i.first ≤ at-loop.loop-i.new =
+    let ordered : at-loop.loop-i.first ≤ at-loop.loop-i.last =
     rw (at-loop.loop-i.invariant.1 [], at-loop.loop-i.invariant.2) (ends_ordered _ _ at-loop.loop-i.i some) in
     omega arith
 

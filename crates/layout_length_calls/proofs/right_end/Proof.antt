@@ -6,7 +6,7 @@ use Rattle.layout_length_calls.proofs.right_end.Tie as tie
 returns : tie.Need-returns
 returns c = λ size pixels.
     let at-place-at : tie.After-place_at-place = search in
-    rw (c.before.before.turned_sides-sides.ensures.0 size pixels, at-place-at.place_at-place.ensures)
+    rw (c.turned_sides-sides.ensures.0 size pixels, at-place-at.place_at-place.ensures)
 
 pub right_end_spec : {M : Type 1} → statement M
 right_end_spec = tie.close (tie.spec

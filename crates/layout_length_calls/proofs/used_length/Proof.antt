@@ -18,7 +18,7 @@ lent s = lent_by s.args.size s.args.table.now s.args.pixels.now
 
 -- none of the causes is there
 passed : (p : tie.In-Done) → let s : tie.Start = search in NoCause (layout_causes (lent s) s.args.layout.now)
-passed p = let asked : tie.After-layout_causes = search in passed_none _ (sym p.enum_told-1.given.1 ∙ asked.layout_causes.ensures)
+passed p = let asked : tie.After-layout_causes = search in passed_none _ (sym p.in-Done.is ∙ asked.layout_causes.ensures)
 
 length_between_ends-requires : tie.Need-length_between_ends-requires
 length_between_ends-requires c κs =
@@ -32,7 +32,7 @@ returns-in-Refused c =
     let s : tie.Start = search in
     let asked : tie.After-layout_causes = search in
     used_answered (lent s) s.args.layout.now
-    (rw (refused_alone _ _ _ (sym c.before.refusal-1.given.1 ∙ asked.layout_causes.ensures)))
+    (rw (refused_alone _ _ _ (sym c.in-Refused.is ∙ asked.layout_causes.ensures)))
 
 returns-in-Done : tie.Need-returns-in-Done
 unfolding used_length_call

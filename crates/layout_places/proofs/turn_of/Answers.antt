@@ -1,6 +1,5 @@
 -- Each arm's number is one of the four, and the last arm's is none of them.
-use Rattle.list_laws.proofs.Kit.{ne_eqb, arith}
-use Rattle.std.proofs.lemmas.Grind.{common_steps}
+use Rattle.list_laws.proofs.Kit.{◌≡◌, ne_eqb, arith}
 use Rattle.model.specs.Buffer.{turn_of_degrees}
 use Rattle.layout_places.proofs.turn_of.Goals as goal
 
@@ -22,4 +21,9 @@ returns-in-270 c = rw c.in-270.is
 
 pub returns-in_default : goal.returns-in_default
 unfolding turn_of_degrees
-returns-in_default c = let h = c.in_default in ?
+returns-in_default c =
+    let a : c.args.degrees ≡ 0 → ⊥ = λ e. omega arith in
+    let b : c.args.degrees ≡ 90 → ⊥ = λ e. omega arith in
+    let d : c.args.degrees ≡ 180 → ⊥ = λ e. omega arith in
+    let t : c.args.degrees ≡ 270 → ⊥ = λ e. omega arith in
+    rw (ne_eqb _ _ a, ne_eqb _ _ b, ne_eqb _ _ d, ne_eqb _ _ t, turn_of_degrees)

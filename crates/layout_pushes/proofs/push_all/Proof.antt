@@ -44,7 +44,7 @@ shape_of-layout-then-moved-eq0 : tie.Need-shape_of-layout-then-moved-eq0 invaria
 shape_of-layout-then-moved-eq0 c =
     let l : tie.At-loop-size invariant-loop-size decreases-loop-size = search in
     let round : tie.After-push_each-moved invariant-loop-size decreases-loop-size = search in
-    round.push_each-moved.auto.1.1.1.0 ∙ l.loop-size.invariant.1.0
+    round.push_each-moved.auto.layout ∙ l.loop-size.invariant.1.0
 
 returns-then-moved-eq0 : tie.Need-returns-then-moved-eq0 invariant-loop-size decreases-loop-size
 unfolding compact
@@ -92,7 +92,7 @@ loop-size-preserved c =
     let long = whole (lent s) _ _ _ _ _ l.loop-size.invariant.0 in (
       pushable_after (lent s) _ _ _ _ _ l.loop-size.invariant.0 _ (each s _ long) _ e.1,
       (
-        round.push_each-moved.auto.1.1.1.0 ∙ l.loop-size.invariant.1.0,
+        round.push_each-moved.auto.layout ∙ l.loop-size.invariant.1.0,
         pushing_more j _ (pass j) (each s) _ _ _ l.loop-size.invariant.1.1 long _ _ e.0 e.1 on.if-moved-eq0.false,
       ),
     )

@@ -88,7 +88,7 @@ loop-i-preserved c =
       (
         pushable_after (lent s) _ _ _ _ _ h.0 _ (pushed t) _ e.1,
         (
-          one.push_piece-slid.auto.1.1.1.0 ∙ h.1.0,
+          one.push_piece-slid.auto.layout ∙ h.1.0,
           (
             then_slid (push_below j i v) (push_piece j i) _ _ _ _ h.1.1.0 h.1.1.1 e.0 e.1 ∙ sym (ap (λ (z : Compacted). z.slid) next),
             then_layout (push_below j i v) (push_piece j i) _ _ _ _ h.1.1.0 h.1.1.1 e.0 e.1

@@ -46,7 +46,7 @@ shape_of-layout-then-more-eq0 : tie.Need-shape_of-layout-then-more-eq0 invariant
 shape_of-layout-then-more-eq0 c =
     let l : tie.At-loop-size invariant-loop-size decreases-loop-size = search in
     let round : tie.After-left_then_down-more invariant-loop-size decreases-loop-size = search in
-    round.left_then_down-more.auto.1.1.1.0 ∙ l.loop-size.invariant.1.0
+    round.left_then_down-more.auto.layout ∙ l.loop-size.invariant.1.0
 
 returns-then-more-eq0 : tie.Need-returns-then-more-eq0 invariant-loop-size decreases-loop-size
 returns-then-more-eq0 c =
@@ -93,7 +93,7 @@ loop-size-preserved c =
     let long = whole (lent s) _ _ _ _ _ l.loop-size.invariant.0 in (
       pushable_after (lent s) _ _ _ _ _ l.loop-size.invariant.0 _ (each s _ long) _ e.1,
       (
-        round.left_then_down-more.auto.1.1.1.0 ∙ l.loop-size.invariant.1.0,
+        round.left_then_down-more.auto.layout ∙ l.loop-size.invariant.1.0,
         pushing_more j _ (left_then_down j s.args.i) (each s) _ _ _ l.loop-size.invariant.1.1 long _ _ e.0 e.1 on.if-more-eq0.false,
       ),
     )

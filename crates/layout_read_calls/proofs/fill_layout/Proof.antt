@@ -19,26 +19,25 @@ returns-in-Refused c =
     let at-start : tie.Start = search in
     let a = at-start.args in
     let first = at-read-placements.read_placements in
-    let none : first.last.1.1.1.1.0 ≡ [] = nothing_left _ first.kept.1.1.1.1.0 in
+    let none : first.new.layout ≡ [] = nothing_left _ first.auto.layout in
     λ pixels.
     let o : layout_from (job_of (lent_by a.size a.table.now pixels)) a.text.now a.p (length a.layout.now)
-    ≡ refused c.before.refusal-1.given.0.0 =
+    ≡ refused c.in-Refused.refusal =
     from_refused (lent_by a.size a.table.now pixels) a.text.now a.p _ _
     (layout_refused_lem (placements_at (job_of (lent_by a.size a.table.now pixels)) a.text.now a.size.count 0 a.p 2) _
-    (sym c.before.refusal-1.given.1 ∙ first.ensures.0 pixels)) in
+    (sym c.in-Refused.is ∙ first.ensures.0 pixels)) in
     (sym (ap done_answer o), rw none (sym (ap (layout_after a.layout.now) o)))
 
 returns-then-layout-size : tie.Need-returns-then-layout-size
 returns-then-layout-size c =
-    let at-enum-told : tie.In_default = search in
     let at-read-placements : tie.After-read_placements = search in
     let at-start : tie.Start = search in
     let a = at-start.args in
     let first = at-read-placements.read_placements in
-    let none : first.last.1.1.1.1.0 ≡ [] = nothing_left _ first.kept.1.1.1.1.0 in
+    let none : first.new.layout ≡ [] = nothing_left _ first.auto.layout in
     λ pixels.
     let v : ReadGiven (placements_at (job_of (lent_by a.size a.table.now pixels)) a.text.now a.size.count 0 a.p 2) =
-    layout_given _ (sym at-enum-told.enum_told-1.given.1 ∙ first.ensures.0 pixels) in
+    layout_given _ (sym c.in_default.is ∙ first.ensures.0 pixels) in
     let unlike : length a.layout.now ≡ a.size.count → ⊥ = rw none at c.before.if-layout-size.true in
     let o : layout_from (job_of (lent_by a.size a.table.now pixels)) a.text.now a.p (length a.layout.now) ≡ refused (plain_refusal 7) =
     from_unlike (lent_by a.size a.table.now pixels) a.text.now a.p _ v.layout v.gives unlike in
@@ -47,15 +46,14 @@ returns-then-layout-size c =
 returns : tie.Need-returns
 returns c =
     let at-else1 : tie.Else-layout-size = search in
-    let at-enum-told : tie.In_default = search in
     let at-read-placements : tie.After-read_placements = search in
     let at-start : tie.Start = search in
     let a = at-start.args in
     let first = at-read-placements.read_placements in
-    let none : first.last.1.1.1.1.0 ≡ [] = nothing_left _ first.kept.1.1.1.1.0 in
+    let none : first.new.layout ≡ [] = nothing_left _ first.auto.layout in
     λ pixels.
     let v : ReadGiven (placements_at (job_of (lent_by a.size a.table.now pixels)) a.text.now a.size.count 0 a.p 2) =
-    layout_given _ (sym at-enum-told.enum_told-1.given.1 ∙ first.ensures.0 pixels) in
+    layout_given _ (sym c.in_default.is ∙ first.ensures.0 pixels) in
     let like : length a.layout.now ≡ a.size.count = rw none at at-else1.if-layout-size.false in
     let o : layout_from (job_of (lent_by a.size a.table.now pixels)) a.text.now a.p (length a.layout.now) ≡ given v.layout =
     from_given (lent_by a.size a.table.now pixels) a.text.now a.p _ v.layout v.gives like in

@@ -14,37 +14,35 @@ returns-in_default c =
     let at-line-at : tie.After-line_at-line = search in
     let at-start : tie.Start = search in
     let a = at-start.args in
-    let e : line_at layout_word three_fields a.text.now 0 ≡ wrong = rw c.before.enum_told-1.given.1 at at-line-at.line_at-line.ensures.same in
+    let e : line_at layout_word three_fields a.text.now 0 ≡ wrong = rw c.in_default.is at at-line-at.line_at-line.ensures.same in
     (λ table pixels. rw (c.refused_in.ensures, layout_line_wrong (job_of (lent_by a.size table pixels)) a.text.now e), omega arith)
 
 returns-then-not-same_sheet : tie.Need-returns-then-not-same_sheet
 unfolding job_of
 returns-then-not-same_sheet c =
-    let at-form : tie.In-Right-2 = search in
     let at-line-at : tie.After-line_at-line = search in
     let at-start : tie.Start = search in
     let a = at-start.args in
     let read = at-line-at.line_at-line in
     let ks = in_front read.result.numbers 3 [] in
-    let next = at-form.form-1.given.0.0 in
-    let e : line_at layout_word three_fields a.text.now 0 ≡ got ks next = rw at-form.form-1.given.1 at read.ensures.same in
+    let next = c.in-Right.next in
+    let e : line_at layout_word three_fields a.text.now 0 ≡ got ks next = rw c.in-Right.is at read.ensures.same in
     let unlike = sym c.before.before.same_sheet.ensures ∙ c.before.if-not-same_sheet.true in
     (λ table pixels. rw (c.refused_in-then-not-same_sheet.ensures, layout_line_unlike (job_of (lent_by a.size table pixels)) a.text.now ks next e unlike), omega arith)
 
 returns : tie.Need-returns
 unfolding job_of
 returns c =
-    let at-form : tie.In-Right-2 = search in
     let at-line-at : tie.After-line_at-line = search in
     let at-start : tie.Start = search in
     let a = at-start.args in
     let read = at-line-at.line_at-line in
     let ks = in_front read.result.numbers 3 [] in
-    let next = at-form.form-1.given.0.0 in
-    let e : line_at layout_word three_fields a.text.now 0 ≡ got ks next = rw at-form.form-1.given.1 at read.ensures.same in
+    let next = c.in-Right.next in
+    let e : line_at layout_word three_fields a.text.now 0 ≡ got ks next = rw c.in-Right.is at read.ensures.same in
     let like = sym c.before.same_sheet.ensures ∙ c.if-not-same_sheet.false in (
       λ table pixels. rw (layout_line_given (job_of (lent_by a.size table pixels)) a.text.now ks next e like),
-      rw at-form.form-1.given.1 at read.ensures.inside,
+      rw c.in-Right.is at read.ensures.inside,
     )
 
 pub layout_line_spec : {M : Type 1} → statement M

@@ -14,7 +14,7 @@ returns-in_default c =
     let at-line-at : tie.After-line_at-read = search in
     let at-start : tie.Start = search in
     let a = at-start.args in
-    let e : line_at at_word four_fields a.text.now a.p ≡ wrong = rw c.before.enum_told-1.given.1 at at-line-at.line_at-read.ensures.same in
+    let e : line_at at_word four_fields a.text.now a.p ≡ wrong = rw c.in_default.is at at-line-at.line_at-read.ensures.same in
     (λ pixels. rw (c.refused_in.ensures, line_wrong (job_of (lent_by a.size a.table.now pixels)) a.text.now a.i a.p a.line e), omega arith)
 
 placement_of-requires : tie.Need-placement_of-requires
@@ -26,19 +26,18 @@ placement_of-requires c κs =
 returns-in-Refused : tie.Need-returns-in-Refused
 returns-in-Refused c =
     let at-placement-of : tie.After-placement_of = search in
-    let at-form : tie.In-Right-2 = search in
     let at-line-at : tie.After-line_at-read = search in
     let at-start : tie.Start = search in
     let a = at-start.args in
     let read = at-line-at.line_at-read in
     let ks = in_front read.result.numbers 4 [] in
-    let next = at-form.form-1.given.0.0 in
-    let e : line_at at_word four_fields a.text.now a.p ≡ got ks next = rw at-form.form-1.given.1 at read.ensures.same in (
+    let next = c.in-Right.next in
+    let e : line_at at_word four_fields a.text.now a.p ≡ got ks next = rw c.in-Right.is at read.ensures.same in (
       λ pixels.
           rw (
             line_placed (job_of (lent_by a.size a.table.now pixels)) a.text.now a.i a.p a.line ks next e,
             place_refused (place_on_line (job_of (lent_by a.size a.table.now pixels)) a.i a.line ks) _
-                (sym c.before.refusal-1.given.1 ∙ at-placement-of.placement_of.ensures pixels),
+                (sym c.in-Refused.is ∙ at-placement-of.placement_of.ensures pixels),
             and_then,
           ),
       omega arith,
@@ -47,22 +46,21 @@ returns-in-Refused c =
 returns-in-Placed : tie.Need-returns-in-Placed
 returns-in-Placed c =
     let at-placement-of : tie.After-placement_of = search in
-    let at-form : tie.In-Right-2 = search in
     let at-line-at : tie.After-line_at-read = search in
     let at-start : tie.Start = search in
     let a = at-start.args in
     let read = at-line-at.line_at-read in
     let ks = in_front read.result.numbers 4 [] in
-    let next = at-form.form-1.given.0.0 in
-    let e : line_at at_word four_fields a.text.now a.p ≡ got ks next = rw at-form.form-1.given.1 at read.ensures.same in (
+    let next = c.in-Right.next in
+    let e : line_at at_word four_fields a.text.now a.p ≡ got ks next = rw c.in-Right.is at read.ensures.same in (
       λ pixels.
           rw (
             line_placed (job_of (lent_by a.size a.table.now pixels)) a.text.now a.i a.p a.line ks next e,
             place_placed (place_on_line (job_of (lent_by a.size a.table.now pixels)) a.i a.line ks) _
-                (sym c.before.place-1.given.1 ∙ at-placement-of.placement_of.ensures pixels),
+                (sym c.in-Placed.is ∙ at-placement-of.placement_of.ensures pixels),
             and_then,
           ),
-      rw at-form.form-1.given.1 at read.ensures.inside,
+      rw c.in-Right.is at read.ensures.inside,
     )
 
 pub placement_line_spec : {M : Type 1} → statement M

@@ -15,7 +15,7 @@ returns-in_default c =
     let a = at-start.args in
     let f = a.fields in
     let unknown : turn_on_line a.i f.number f.degrees ≡ none =
-    unknown_none _ (sym c.before.enum_told-1.given.1 ∙ at-turn-on-line.turn_on_line.ensures) in
+    unknown_none _ (sym c.in_default.is ∙ at-turn-on-line.turn_on_line.ensures) in
     λ pixels.
     rw (c.refused_in.ensures, place_unknown (job_of (lent_by a.size a.table.now pixels)) a.i a.line f.number f.degrees f.x f.y unknown)
 
@@ -23,26 +23,24 @@ returns-then-not-allowed : tie.Need-returns-then-not-allowed
 unfolding job_of
 returns-then-not-allowed c =
     let at-start : tie.Start = search in
-    let at_turn : tie.In-Known-2 = search in
     let at-turn-on-line : tie.After-turn_on_line = search in
     let at-allowed : tie.After-allowed = search in
     let taken1 : tie.Then-not-allowed = search in
     let a = at-start.args in
     let f = a.fields in
-    let t = at_turn.turn-1.given.0.0 in
-    let known : turn_on_line a.i f.number f.degrees ≡ some t = known_some _ t (sym at_turn.turn-1.given.1 ∙ at-turn-on-line.turn_on_line.ensures) in
+    let t = c.in-Known.turn in
+    let known : turn_on_line a.i f.number f.degrees ≡ some t = known_some _ t (sym c.in-Known.is ∙ at-turn-on-line.turn_on_line.ensures) in
     λ pixels.
     rw (
       c.refused_in-then-not-allowed.ensures,
       place_forbidden (job_of (lent_by a.size a.table.now pixels)) a.i a.line f.number f.degrees f.x f.y t known
-          (sym (at-allowed.allowed.ensures a.size pixels) ∙ not-true _ taken1.if-not-allowed.true),
+          (sym (at-allowed.allowed.ensures a.size pixels) ∙ taken1.if-not-allowed.true),
     )
 
 returns-then-not-inside_at : tie.Need-returns-then-not-inside_at
 unfolding job_of
 returns-then-not-inside_at c =
     let at-start : tie.Start = search in
-    let at_turn : tie.In-Known-2 = search in
     let at-turn-on-line : tie.After-turn_on_line = search in
     let at-clipped : tie.After-clipped = search in
     let at-clipped2 : tie.After-clipped-2 = search in
@@ -53,8 +51,8 @@ returns-then-not-inside_at c =
     let a = at-start.args in
     let p = at-start.requires in
     let f = a.fields in
-    let t = at_turn.turn-1.given.0.0 in
-    let known : turn_on_line a.i f.number f.degrees ≡ some t = known_some _ t (sym at_turn.turn-1.given.1 ∙ at-turn-on-line.turn_on_line.ensures) in
+    let t = c.in-Known.turn in
+    let known : turn_on_line a.i f.number f.degrees ≡ some t = known_some _ t (sym c.in-Known.is ∙ at-turn-on-line.turn_on_line.ensures) in
     λ pixels.
     let j = job_of (lent_by a.size a.table.now pixels) in
     let clip = clipped_inside j a.i t f.x f.y at-clipped.clipped.result at-clipped2.clipped-2.result p.1 p.2
@@ -62,15 +60,14 @@ returns-then-not-inside_at c =
     rw (
       c.refused_in-then-not-inside_at.ensures,
       place_outside j a.i a.line f.number f.degrees f.x f.y t known
-          (sym (at-allowed.allowed.ensures a.size pixels) ∙ not-false _ passed1.if-not-allowed.false)
-          (sym clip ∙ sym (at-inside-at.inside_at.ensures pixels) ∙ not-true _ taken2.if-not-inside_at.true),
+          (sym (at-allowed.allowed.ensures a.size pixels) ∙ passed1.if-not-allowed.false)
+          (sym clip ∙ sym (at-inside-at.inside_at.ensures pixels) ∙ taken2.if-not-inside_at.true),
     )
 
 returns : tie.Need-returns
 unfolding job_of
 returns c =
     let at-start : tie.Start = search in
-    let at_turn : tie.In-Known-2 = search in
     let at-turn-on-line : tie.After-turn_on_line = search in
     let at-clipped : tie.After-clipped = search in
     let at-clipped2 : tie.After-clipped-2 = search in
@@ -80,19 +77,19 @@ returns c =
     let a = at-start.args in
     let p = at-start.requires in
     let f = a.fields in
-    let t = at_turn.turn-1.given.0.0 in
-    let known : turn_on_line a.i f.number f.degrees ≡ some t = known_some _ t (sym at_turn.turn-1.given.1 ∙ at-turn-on-line.turn_on_line.ensures) in
+    let t = c.in-Known.turn in
+    let known : turn_on_line a.i f.number f.degrees ≡ some t = known_some _ t (sym c.in-Known.is ∙ at-turn-on-line.turn_on_line.ensures) in
     λ pixels.
     let j = job_of (lent_by a.size a.table.now pixels) in
     let clip = clipped_inside j a.i t f.x f.y at-clipped.clipped.result at-clipped2.clipped-2.result p.1 p.2
     at-clipped.clipped.ensures at-clipped2.clipped-2.ensures in
-    let in-sheet = sym clip ∙ sym (at-inside-at.inside_at.ensures pixels) ∙ not-false _ c.if-not-inside_at.false in
+    let in-sheet = sym clip ∙ sym (at-inside-at.inside_at.ensures pixels) ∙ c.if-not-inside_at.false in
     ap PlaceAnswer.Placed
     (clipped_same j a.i t f.x f.y at-clipped.clipped.result at-clipped2.clipped-2.result p.1 p.2 at-clipped.clipped.ensures
     at-clipped2.clipped-2.ensures in-sheet)
     ∙ sym (ap place_answer
     (place_given j a.i a.line f.number f.degrees f.x f.y t known
-    (sym (at-allowed.allowed.ensures a.size pixels) ∙ not-false _ passed1.if-not-allowed.false) in-sheet))
+    (sym (at-allowed.allowed.ensures a.size pixels) ∙ passed1.if-not-allowed.false) in-sheet))
 
 pub placement_of_spec : {M : Type 1} → statement M
 placement_of_spec =

@@ -16,7 +16,7 @@ returns-then-not-check_job c =
     let at-start : tie.Start = search in
     let a = at-start.args in
     let l : Lent = lent_by a.size a.table.now a.pixels.now in
-    let well : lent_well l ≡ false = sym c.before.before.check_job.ensures ∙ not-true _ c.before.if-not-check_job.true in
+    let well : lent_well l ≡ false = sym c.before.before.check_job.ensures ∙ c.before.if-not-check_job.true in
     let o : read_layout_call l a.text.now (length a.layout.now) ≡ refused (plain_refusal 8) = read_unsound l a.text.now _ well in
     (c.refused.ensures ∙ sym (ap done_answer o), sym (ap (layout_after a.layout.now) o))
 
@@ -28,8 +28,8 @@ fill_layout-requires c κs =
     let at-start : tie.Start = search in
     let a = at-start.args in
     let l : Lent = lent_by a.size a.table.now a.pixels.now in
-    let well : lent_well l ≡ true = sym at-check-job.check_job.ensures ∙ not-false _ at-else1.if-not-check_job.false in
-    (fitting a.size a.table.now a.pixels.now well, rw c.before.before.p-1.given.1 at at-layout-line.layout_line.ensures.1)
+    let well : lent_well l ≡ true = sym at-check-job.check_job.ensures ∙ at-else1.if-not-check_job.false in
+    (fitting a.size a.table.now a.pixels.now well, rw c.in-After.is at at-layout-line.layout_line.ensures.1)
 
 returns-in-Refused : tie.Need-returns-in-Refused
 returns-in-Refused c =
@@ -39,27 +39,25 @@ returns-in-Refused c =
     let at-start : tie.Start = search in
     let a = at-start.args in
     let l : Lent = lent_by a.size a.table.now a.pixels.now in
-    let well : lent_well l ≡ true = sym at-check-job.check_job.ensures ∙ not-false _ at-else1.if-not-check_job.false in
-    let o : read_layout_call l a.text.now (length a.layout.now) ≡ refused c.before.refusal-1.given.0.0 =
+    let well : lent_well l ≡ true = sym at-check-job.check_job.ensures ∙ at-else1.if-not-check_job.false in
+    let o : read_layout_call l a.text.now (length a.layout.now) ≡ refused c.in-Refused.refusal =
     read_refused l a.text.now _ _ well
     (position_refused (layout_line (job_of l) a.text.now) _
-    (sym c.before.refusal-1.given.1 ∙ at-layout-line.layout_line.ensures.0 a.table.now a.pixels.now)) in
+    (sym c.in-Refused.is ∙ at-layout-line.layout_line.ensures.0 a.table.now a.pixels.now)) in
     (sym (ap done_answer o), sym (ap (layout_after a.layout.now) o))
 
 returns-in-After : tie.Need-returns-in-After
 returns-in-After c =
-    let at_p : tie.In-After-2 = search in
     let at-layout-line : tie.After-layout_line = search in
     let at-else1 : tie.Else-not-check_job = search in
     let at-check-job : tie.After-check_job = search in
     let at-start : tie.Start = search in
     let a = at-start.args in
     let l : Lent = lent_by a.size a.table.now a.pixels.now in
-    let well : lent_well l ≡ true = sym at-check-job.check_job.ensures ∙ not-false _ at-else1.if-not-check_job.false in
-    let p = at_p.p-1.given in
-    let o : read_layout_call l a.text.now (length a.layout.now) ≡ layout_from (job_of l) a.text.now p.0.0 (length a.layout.now) =
-    read_from l a.text.now _ p.0.0 well
-    (position_given (layout_line (job_of l) a.text.now) _ (sym p.1 ∙ at-layout-line.layout_line.ensures.0 a.table.now a.pixels.now)) in
+    let well : lent_well l ≡ true = sym at-check-job.check_job.ensures ∙ at-else1.if-not-check_job.false in
+    let o : read_layout_call l a.text.now (length a.layout.now) ≡ layout_from (job_of l) a.text.now c.in-After.p (length a.layout.now) =
+    read_from l a.text.now _ c.in-After.p well
+    (position_given (layout_line (job_of l) a.text.now) _ (sym c.in-After.is ∙ at-layout-line.layout_line.ensures.0 a.table.now a.pixels.now)) in
     let fill = c.before.fill_layout.ensures a.pixels.now in
     (fill.0 ∙ sym (ap done_answer o), fill.1 ∙ sym (ap (layout_after a.layout.now) o))
 

@@ -54,12 +54,12 @@ returns-in-Refused c =
     let a = at-start.args in
     let l = at-loop.loop-i in
     let whole : (pixels : List ℕ)
-    → placements_at (job_of (lent_by a.size a.table.now pixels)) a.text.now a.size.count 0 a.p 2 ≡ refused c.before.refusal-1.given.0.0 =
+    → placements_at (job_of (lent_by a.size a.table.now pixels)) a.text.now a.size.count 0 a.p 2 ≡ refused c.in-Refused.refusal =
     λ pixels.
     progress_refused (λ pixels. job_of (lent_by a.size a.table.now pixels)) a.size.count a.text.now a.p a.layout.now l.layout l.at
     l.line l.i l.invariant.4 at-then1.loop-i-test.true _ pixels
     (line_refused (placement_line (job_of (lent_by a.size a.table.now pixels)) a.text.now l.i l.at l.line) _
-    (sym c.before.refusal-1.given.1 ∙ at-placement-line.placement_line.ensures.0 pixels)) in
+    (sym c.in-Refused.is ∙ at-placement-line.placement_line.ensures.0 pixels)) in
     (λ pixels. sym (ap done_answer (whole pixels)), λ pixels v e. absurd (refused_given (sym (whole pixels) ∙ e)))
 
 overflow_add-line : tie.Need-overflow_add-line invariant-loop-i decreases-loop-i
@@ -82,24 +82,23 @@ loop-i-smaller c =
 
 loop-i-preserved : tie.Need-loop-i-preserved invariant-loop-i decreases-loop-i
 loop-i-preserved c =
-    let at_place : tie.In-Read-2 invariant-loop-i decreases-loop-i = search in
     let at-placement-line : tie.After-placement_line invariant-loop-i decreases-loop-i = search in
     let at-then1 : tie.In-loop-i invariant-loop-i decreases-loop-i = search in
     let at-loop : tie.At-loop-i invariant-loop-i decreases-loop-i = search in
     let at-start : tie.Start invariant-loop-i decreases-loop-i = search in
     let a = at-start.args in
     let l = at-loop.loop-i in
-    let g = at_place.place-1.given in (
+    (
       let t = at-then1.loop-i-test.true in omega arith,
-      rw g.1 at at-placement-line.placement_line.ensures.1,
+      rw c.in-Read.is at at-placement-line.placement_line.ensures.1,
       let e = l.invariant.2 in omega arith,
-      c.before.set_entry.auto.0 ∙ l.invariant.3,
+      c.before.set_entry.auto.layout ∙ l.invariant.3,
       rw c.before.set_entry.ensures
           (progress_more (λ pixels. job_of (lent_by a.size a.table.now pixels)) a.size.count a.text.now a.p a.layout.now l.layout
-          l.at l.line l.i l.invariant.4 at-then1.loop-i-test.true g.0.0 g.0.1.0
+          l.at l.line l.i l.invariant.4 at-then1.loop-i-test.true c.in-Read.place c.in-Read.next
           (λ pixels.
           line_read_lem (placement_line (job_of (lent_by a.size a.table.now pixels)) a.text.now l.i l.at l.line) _ _
-          (sym g.1 ∙ at-placement-line.placement_line.ensures.0 pixels))),
+          (sym c.in-Read.is ∙ at-placement-line.placement_line.ensures.0 pixels))),
     )
 
 shape_of-layout-then-at-text : tie.Need-shape_of-layout-then-at-text invariant-loop-i decreases-loop-i

@@ -19,7 +19,7 @@ returns-in-Horizontal c =
       λ size pixels.
           box_rows_lem (job_of (lent_by size a.table.now pixels)) (layout_of a.layout.now) a.i a.direction placed.place_at-place.result
           seen_at.corner_along-corner.result sided.turned_sides-sides.result placed.place_at-place.ensures seen_at.corner_along-corner.ensures
-          (sided.turned_sides-sides.ensures.0 size pixels) told.enum_told-1.given.1,
+          (sided.turned_sides-sides.ensures.0 size pixels) told.in-Horizontal.is,
       (small.0, small.1),
     )
 
@@ -35,7 +35,7 @@ returns-in-Vertical c =
       λ size pixels.
           box_columns_lem (job_of (lent_by size a.table.now pixels)) (layout_of a.layout.now) a.i a.direction placed.place_at-place.result
           seen_at.corner_along-corner.result sided.turned_sides-sides.result placed.place_at-place.ensures seen_at.corner_along-corner.ensures
-          (sided.turned_sides-sides.ensures.0 size pixels) told.enum_told-in-Vertical-1.given.1,
+          (sided.turned_sides-sides.ensures.0 size pixels) told.in-Vertical.is,
       (small.1, small.0),
     )
 

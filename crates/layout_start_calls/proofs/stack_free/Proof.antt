@@ -31,7 +31,7 @@ free_only-count-requires c κs =
 free : (c : tie.After-free_only-count) (pixels : List ℕ)
     →
     let at-start : tie.Start = search in
-    take c.free_only-count.result c.free_only-count.new.1.1.1.0
+    take c.free_only-count.result c.free_only-count.new.free
     ≡ free_only (job_of (lent_by at-start.args.size at-start.args.table.now pixels))
     (falling_order (job_of (lent_by at-start.args.size at-start.args.table.now pixels)) at-start.args.size.count)
 free c pixels =
@@ -51,7 +51,7 @@ stack_all-requires c κs =
     let whole = at-free.free_only-count.ensures.1.1 in
     let p = f.few_pieces in (
       f,
-      free_below_at (job_of (lent_by a.size a.table.now [])) at-free.free_only-count.new.1.1.1.0 at-free.free_only-count.result (omega arith)
+      free_below_at (job_of (lent_by a.size a.table.now [])) at-free.free_only-count.new.free at-free.free_only-count.result (omega arith)
           (free at-free []),
       omega arith,
       whole,

@@ -33,7 +33,7 @@ asked p = search
 
 -- none is there
 passed : (p : tie.In_default) → NoCause (start_causes (lent (begun (asked p))) (begun (asked p)).args.layout.now)
-passed p = passed_none _ (sym p.enum_told-1.given.1 ∙ (asked p).start_causes.ensures.0)
+passed p = passed_none _ (sym p.in_default.is ∙ (asked p).start_causes.ensures.0)
 
 -- the layout has its length
 whole : (p : tie.In_default) → length (begun (asked p)).args.layout.now ≡ (begun (asked p)).args.size.count
@@ -45,9 +45,9 @@ returns-in-Refused c =
     let causes : tie.After-start_causes = search in
     let b : tie.Start = begun causes in
     let l : Lent = lent b in
-    let o : start_call l b.args.layout.now ≡ refused c.before.refusal-1.given.0.0 =
+    let o : start_call l b.args.layout.now ≡ refused c.in-Refused.refusal =
     refused_alone (start_causes l b.args.layout.now) (start (job_of l) (layout_of b.args.layout.now)) _
-    (sym c.before.refusal-1.given.1 ∙ causes.start_causes.ensures.0) in
+    (sym c.in-Refused.is ∙ causes.start_causes.ensures.0) in
     (sym (ap done_answer o), (sym (ap (layout_after b.args.layout.now) o), λ e. impossible (cc)))
 
 stack_free-requires : tie.Need-stack_free-requires
@@ -65,9 +65,9 @@ returns c =
     let l : Lent = lent b in
     let es : List (List ℕ) = b.args.layout.now in
     let o : start_call l es ≡ given (start (job_of l) (layout_of es)) = unless_given (start_causes l es) (start (job_of l) (layout_of es)) (passed told) in
-    let laid : c.before.stack_free.new.1.1.0 ≡ entries_of (start (job_of l) (layout_of es)) =
-    start_laid (job_of l) es _ (whole told) (causes.start_causes.ensures.1 told.enum_told-1.given.1)
-    (c.before.stack_free.ensures b.args.pixels.now) in (
+    let laid : c.stack_free.new.layout ≡ entries_of (start (job_of l) (layout_of es)) =
+    start_laid (job_of l) es _ (whole told) (causes.start_causes.ensures.1 told.in_default.is)
+    (c.stack_free.ensures b.args.pixels.now) in (
       sym (ap done_answer o),
       (
         laid ∙ sym (ap (layout_after es) o),

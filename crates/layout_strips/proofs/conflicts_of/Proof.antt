@@ -1,6 +1,6 @@
 -- `layout_strips::conflicts_of` meets its contract: pieces whose boxes are farther apart do not conflict, and the depth, cut off at 1, is 1 exactly
 -- where they do. Assumes nothing.
-use Rattle.list_laws.proofs.Kit.{◌∙◌, ap, sym, ℕ, arith, eqb, rules, not-true}
+use Rattle.list_laws.proofs.Kit.{◌∙◌, ap, sym, ℕ, arith, eqb, rules}
 use Rattle.model.specs.declared.Direction.TheVariants.{Horizontal}
 use Rattle.pair_measure.proofs.Amounts.{depth_conflicts}
 use Rattle.layout_strips.proofs.Measured.{gap_conflicts}
@@ -18,7 +18,7 @@ returns-then-not-boxes_meet : tie.Need-returns-then-not-boxes_meet
 returns-then-not-boxes_meet c =
     let s : tie.Start = search in
     let met : tie.After-boxes_meet = search in
-    (λ size same. sym (met.boxes_meet.ensures (not-true _ c.if-not-boxes_meet.true) size s.args.pixels.now same), s.requires.1.1.0)
+    (λ size same. sym (met.boxes_meet.ensures c.if-not-boxes_meet.true size s.args.pixels.now same), s.requires.1.1.0)
 
 depth_of-requires : tie.Need-depth_of-requires
 depth_of-requires c κs = let s : tie.Start = search in let few = s.requires.1.1.1 in (s.requires.0, (s.requires.1.0, (omega arith, s.requires.1.1.0)))

@@ -23,10 +23,10 @@ once c = search
 
 -- the store and the spans then
 abbrev store : tie.After-draw-2 → List (List ℕ)
-store c = c.draw-2.new.1.1.1.1.1.0
+store c = c.draw-2.new.store
 
 abbrev spans : tie.After-draw-2 → List (List ℕ)
-spans c = c.draw-2.new.1.1.1.1.1.1.0
+spans c = c.draw-2.new.spans
 
 -- the first piece's strips stand, and the second's
 first : (c : tie.After-draw-2) →
@@ -136,12 +136,12 @@ depth_below-requires c κs =
 shape_of-store : tie.Need-shape_of-store
 shape_of-store c =
     let both : tie.After-draw-2 = search in
-    both.draw-2.auto.1.1.1.1.1.0 ∙ (once both).draw.auto.1.1.1.1.1.0
+    both.draw-2.auto.store ∙ (once both).draw.auto.store
 
 shape_of-spans : tie.Need-shape_of-spans
 shape_of-spans c =
     let both : tie.After-draw-2 = search in
-    both.draw-2.auto.1.1.1.1.1.1.0 ∙ (once both).draw.auto.1.1.1.1.1.1.0
+    both.draw-2.auto.spans ∙ (once both).draw.auto.spans
 
 returns : tie.Need-returns
 returns c =

@@ -55,7 +55,7 @@ put : (c : tie.After-put_piece-end) (size : JobSize) →
     let s : tie.Start = search in
     let a = s.args in
     Appended (strips a.direction (drawn_shape size a.table.now a.pixels.now a.layout.now a.i)) a.store.now
-    (pixel_start a.table.now a.i) c.put_piece-end.new.1.1.1.1.1.1.0 c.put_piece-end.result
+    (pixel_start a.table.now a.i) c.put_piece-end.new.store c.put_piece-end.result
 put c size =
     let s : tie.Start = search in
     let placed : tie.After-place_at-turn = search in

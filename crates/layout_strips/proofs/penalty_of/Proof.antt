@@ -1,6 +1,6 @@
 -- `layout_strips::penalty_of` meets its contract: pieces whose boxes are farther apart do not conflict, so that the penalty is 0; where the depth
 -- along the rows is 0 so is the lesser one, and else the second depth is cut off at the first. Assumes nothing.
-use Rattle.list_laws.proofs.Kit.{◌∙◌, ◌≡◌, ◌≢◌, ◌≤◌, min, ℕ, arith, rules, not-true}
+use Rattle.list_laws.proofs.Kit.{◌∙◌, ◌≡◌, ◌≢◌, ◌≤◌, min, ℕ, arith, rules}
 use Rattle.model.specs.Piece.{Point, Shape}
 use Rattle.model.specs.Overlap.{conflict_depth, conflict_penalty}
 use Rattle.model.specs.Layout.{place_of, corner_in}
@@ -35,7 +35,7 @@ returns-then-not-boxes_meet c =
     let met : tie.After-boxes_meet = search in (
       λ size same.
           clear_penalty size a.table.now a.pixels.now a.layout.now a.gap a.i a.k same
-          (met.boxes_meet.ensures (not-true _ c.if-not-boxes_meet.true) size a.pixels.now same),
+          (met.boxes_meet.ensures c.if-not-boxes_meet.true size a.pixels.now same),
       (λ e. omega arith, (s.requires.1.1.0, s.requires.1.1.1.0)),
     )
 

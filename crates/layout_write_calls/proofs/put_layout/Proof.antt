@@ -55,7 +55,7 @@ loop-i-preserved c =
     ≡ placement_text l.i (place_of (layout_of a.layout.now) l.i) ++ placements_text (l.i + 1) (drop (l.i + 1) (layout_of a.layout.now)) =
     placements_text_lem (layout_of a.layout.now) l.i here in (
       omega arith,
-      c.before.before.put_placement-at.auto.1.1.0 ∙ l.invariant.1,
+      c.before.before.put_placement-at.auto.text ∙ l.invariant.1,
       let e = w.end in let s = w.short in let k = l.invariant.2 in omega arith,
       left_then (rw step at l.invariant.3) (left_after_lem w _),
     )
@@ -63,7 +63,7 @@ loop-i-preserved c =
 shape_of-text : tie.Need-shape_of-text invariant-loop-i decreases-loop-i
 shape_of-text c =
     let at-put-layout-line : tie.After-put_layout_line-at invariant-loop-i decreases-loop-i = search in
-    c.before.before.loop-i.invariant.1 ∙ at-put-layout-line.put_layout_line-at.auto.1.0
+    c.before.before.loop-i.invariant.1 ∙ at-put-layout-line.put_layout_line-at.auto.text
 
 returns : tie.Need-returns invariant-loop-i decreases-loop-i
 unfolding layout_text job_of

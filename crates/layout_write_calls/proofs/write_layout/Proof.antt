@@ -22,8 +22,8 @@ returns-in-Refused c =
     let at-start : tie.Start = search in
     let a = at-start.args in
     let l : Lent = lent_by a.size a.table.now a.pixels.now in
-    let o : write_layout_call l a.layout.now (length a.text.now) ≡ refused c.before.refusal-1.given.0.0 =
-    write_refused l a.layout.now _ _ (sym c.before.refusal-1.given.1 ∙ at-layout-causes.layout_causes.ensures) in
+    let o : write_layout_call l a.layout.now (length a.text.now) ≡ refused c.in-Refused.refusal =
+    write_refused l a.layout.now _ _ (sym c.in-Refused.is ∙ at-layout-causes.layout_causes.ensures) in
     (sym (ap count_answer o), sym (ap (text_after a.text.now) o))
 
 put_layout-needed-requires : tie.Need-put_layout-needed-requires
@@ -32,7 +32,7 @@ put_layout-needed-requires c κs =
     let at-start : tie.Start = search in
     let a = at-start.args in
     let l : Lent = lent_by a.size a.table.now a.pixels.now in
-    let e : DoneAnswer.Done ≡ first_cause (layout_causes l a.layout.now) = sym c.before.enum_told-1.given.1 ∙ at-layout-causes.layout_causes.ensures in
+    let e : DoneAnswer.Done ≡ first_cause (layout_causes l a.layout.now) = sym c.in_default.is ∙ at-layout-causes.layout_causes.ensures in
     let s = layout_laid l a.layout.now (passed_none (layout_causes l a.layout.now) e) in
     let f = fitting a.size a.table.now a.pixels.now s.well in
     (f.few_rows, f.few_columns, f.few_pieces, s.whole)
@@ -40,15 +40,14 @@ put_layout-needed-requires c κs =
 returns-then-text-needed : tie.Need-returns-then-text-needed
 returns-then-text-needed c =
     let at-put-layout : tie.After-put_layout-needed = search in
-    let at-enum-told : tie.In_default = search in
     let at-layout-causes : tie.After-layout_causes = search in
     let at-start : tie.Start = search in
     let a = at-start.args in
     let l : Lent = lent_by a.size a.table.now a.pixels.now in
     let e : DoneAnswer.Done ≡ first_cause (layout_causes l a.layout.now) =
-    sym at-enum-told.enum_told-1.given.1 ∙ at-layout-causes.layout_causes.ensures in
+    sym c.in_default.is ∙ at-layout-causes.layout_causes.ensures in
     let part = at-put-layout.put_layout-needed in
-    let none : part.last.1.1.0 ≡ [] = nothing_left _ part.kept.1.1.0 in
+    let none : part.new.text ≡ [] = nothing_left _ part.auto.text in
     let long : length a.text.now < length (layout_text (job_of l) (layout_of a.layout.now)) =
     rw (none, (part.ensures a.table.now a.pixels.now).0) at c.before.if-text-needed.true in
     let o : write_layout_call l a.layout.now (length a.text.now) ≡ refused c.plain_refusal.result =
@@ -57,13 +56,12 @@ returns-then-text-needed c =
 
 put_layout-requires : tie.Need-put_layout-requires
 put_layout-requires c κs =
-    let at-enum-told : tie.In_default = search in
     let at-layout-causes : tie.After-layout_causes = search in
     let at-start : tie.Start = search in
     let a = at-start.args in
     let l : Lent = lent_by a.size a.table.now a.pixels.now in
     let e : DoneAnswer.Done ≡ first_cause (layout_causes l a.layout.now) =
-    sym at-enum-told.enum_told-1.given.1 ∙ at-layout-causes.layout_causes.ensures in
+    sym c.in_default.is ∙ at-layout-causes.layout_causes.ensures in
     let s = layout_laid l a.layout.now (passed_none (layout_causes l a.layout.now) e) in
     let f = fitting a.size a.table.now a.pixels.now s.well in
     (f.few_rows, f.few_columns, f.few_pieces, s.whole)
@@ -72,15 +70,14 @@ returns : tie.Need-returns
 returns c =
     let at-else1 : tie.Else-text-needed = search in
     let at-put-layout : tie.After-put_layout-needed = search in
-    let at-enum-told : tie.In_default = search in
     let at-layout-causes : tie.After-layout_causes = search in
     let at-start : tie.Start = search in
     let a = at-start.args in
     let l : Lent = lent_by a.size a.table.now a.pixels.now in
     let e : DoneAnswer.Done ≡ first_cause (layout_causes l a.layout.now) =
-    sym at-enum-told.enum_told-1.given.1 ∙ at-layout-causes.layout_causes.ensures in
+    sym c.in_default.is ∙ at-layout-causes.layout_causes.ensures in
     let part = at-put-layout.put_layout-needed in
-    let none : part.last.1.1.0 ≡ [] = nothing_left _ part.kept.1.1.0 in
+    let none : part.new.text ≡ [] = nothing_left _ part.auto.text in
     let long : length (layout_text (job_of l) (layout_of a.layout.now)) ≤ length a.text.now =
     rw (none, (part.ensures a.table.now a.pixels.now).0) at at-else1.if-text-needed.false in
     let o : write_layout_call l a.layout.now (length a.text.now) ≡ given (layout_text (job_of l) (layout_of a.layout.now)) =

@@ -1,3 +1,4 @@
+-- `pair_measure::corner_along`: the corner of each direction is the definition's. Assumes nothing.
 use Rattle.list_laws.proofs.Kit.{rules}
 use Rattle.pair_measure.proofs.corner_along.Statement.{statement}
 use Rattle.pair_measure.proofs.corner_along.Tie as tie

@@ -1,6 +1,6 @@
 -- `pair_nofit_calls::stretch_causes` meets its contract: at each place the causes before it are not there, so that its own decides.
 -- Assumes nothing.
-use Rattle.list_laws.proofs.Kit.{◌∙◌, ◌≡◌, ap, ap₂, sym, Bool, ◌&&◌, false, not, true, arith, rules, not-false, not-true}
+use Rattle.list_laws.proofs.Kit.{◌∙◌, ◌≡◌, ap, ap₂, sym, Bool, ◌&&◌, false, not, true, arith, rules}
 use Rattle.model.specs.Lent.{Lent, lent_by, lent_well, job_of}
 use Rattle.model.specs.Calls.{LentStretch, known, stretch_well}
 use Rattle.job_laws.proofs.Checked.{facts, entry_at}
@@ -27,7 +27,7 @@ start p = search
 
 -- the job passes its check
 well : (p : tie.Else-not-check_job) → lent_well (lent (start p.before)) ≡ true
-well p = let checked : tie.After-check_job = search in sym checked.check_job.ensures ∙ not-false _ p.if-not-check_job.false
+well p = let checked : tie.After-check_job = search in sym checked.check_job.ensures ∙ p.if-not-check_job.false
 
 -- the first piece is known
 first_known : (p : tie.Else-not-known) → let checked : tie.After-check_job = search in known (job_of (lent (start checked))) (one (start checked)) ≡ true
@@ -35,7 +35,7 @@ unfolding known job_of
 first_known p =
     let s : tie.Start = search in
     let asked : tie.After-known = search in
-    sym (asked.known.ensures s.args.pixels.now) ∙ not-false _ p.if-not-known.false
+    sym (asked.known.ensures s.args.pixels.now) ∙ p.if-not-known.false
 
 -- so is the second
 second_known : (p : tie.Else-not-known-2) → let checked : tie.After-check_job = search in known (job_of (lent (start checked))) (two (start checked)) ≡ true
@@ -43,7 +43,7 @@ unfolding known job_of
 second_known p =
     let s : tie.Start = search in
     let asked : tie.After-known-2 = search in
-    sym (asked.known-2.ensures s.args.pixels.now) ∙ not-false _ p.if-not-known-2.false
+    sym (asked.known-2.ensures s.args.pixels.now) ∙ p.if-not-known-2.false
 
 -- the first stretch is its piece's
 first-own : (p : tie.Else-not-is_own) → let checked : tie.After-check_job = search in
@@ -51,7 +51,7 @@ first-own : (p : tie.Else-not-is_own) → let checked : tie.After-check_job = se
 first-own p =
     let s : tie.Start = search in
     let asked : tie.After-is_own = search in
-    sym (asked.is_own.ensures s.args.size) ∙ not-false _ p.if-not-is_own.false
+    sym (asked.is_own.ensures s.args.size) ∙ p.if-not-is_own.false
 
 -- a test that the first of two fails, that the second fails, and that both pass
 first_fails : {a : Bool} (b : Bool) → a ≡ false → not (a && b) ≡ true
@@ -68,7 +68,7 @@ unfolding stretch_causes
 returns-then-not-check_job c =
     let checked : tie.After-check_job = search in
     let ours : tie.Then-not-check_job = search in
-    c.refused.ensures ∙ there 8 _ _ (ap not (sym checked.check_job.ensures ∙ not-true _ ours.if-not-check_job.true))
+    c.refused.ensures ∙ there 8 _ _ (ap not (sym checked.check_job.ensures ∙ ours.if-not-check_job.true))
 
 returns-then-not-known : tie.Need-returns-then-not-known
 unfolding stretch_causes known job_of
@@ -79,7 +79,7 @@ returns-then-not-known c =
     let ours : tie.Then-not-known = search in
     c.refused-then-not-known.ensures
     ∙ next 8 _ _ (ap not (well first))
-    (there 9 _ _ (first_fails (known (job_of (lent s)) (two s)) (sym (asked.known.ensures s.args.pixels.now) ∙ not-true _ ours.if-not-known.true)))
+    (there 9 _ _ (first_fails (known (job_of (lent s)) (two s)) (sym (asked.known.ensures s.args.pixels.now) ∙ ours.if-not-known.true)))
 
 returns-then-not-known-2 : tie.Need-returns-then-not-known-2
 unfolding stretch_causes known job_of
@@ -91,7 +91,7 @@ returns-then-not-known-2 c =
     let ours : tie.Then-not-known-2 = search in
     c.refused-then-not-known-2.ensures
     ∙ next 8 _ _ (ap not (well first))
-    (there 9 _ _ (second_fails (first_known second) (sym (asked.known-2.ensures s.args.pixels.now) ∙ not-true _ ours.if-not-known-2.true)))
+    (there 9 _ _ (second_fails (first_known second) (sym (asked.known-2.ensures s.args.pixels.now) ∙ ours.if-not-known-2.true)))
 
 is_own-requires : tie.Need-is_own-requires
 is_own-requires c κs =
@@ -114,7 +114,7 @@ returns-then-not-is_own c =
     c.refused-then-not-is_own.ensures
     ∙ next 8 _ _ (ap not (well first))
     (next 9 _ _ (both_pass (first_known second) (second_known third))
-    (there 8 _ _ (first_fails other (sym (asked.is_own.ensures s.args.size) ∙ not-true _ ours.if-not-is_own.true))))
+    (there 8 _ _ (first_fails other (sym (asked.is_own.ensures s.args.size) ∙ ours.if-not-is_own.true))))
 
 is_own-requires-2 : tie.Need-is_own-requires-2
 is_own-requires-2 c κs =
@@ -137,7 +137,7 @@ returns-then-not-is_own-2 c =
     c.refused-then-not-is_own-2.ensures
     ∙ next 8 _ _ (ap not (well first))
     (next 9 _ _ (both_pass (first_known second) (second_known third))
-    (there 8 _ _ (second_fails (first-own fourth) (sym (asked.is_own-2.ensures s.args.size) ∙ not-true _ ours.if-not-is_own-2.true))))
+    (there 8 _ _ (second_fails (first-own fourth) (sym (asked.is_own-2.ensures s.args.size) ∙ ours.if-not-is_own-2.true))))
 
 returns : tie.Need-returns
 unfolding stretch_causes
@@ -150,7 +150,7 @@ returns c =
     let asked : tie.After-is_own-2 = search in
     next 8 _ _ (ap not (well first))
     (next 9 _ _ (both_pass (first_known second) (second_known third))
-    (next 8 _ _ (both_pass (first-own fourth) (sym (asked.is_own-2.ensures s.args.size) ∙ not-false _ c.if-not-is_own-2.false)) no_more))
+    (next 8 _ _ (both_pass (first-own fourth) (sym (asked.is_own-2.ensures s.args.size) ∙ c.if-not-is_own-2.false)) no_more))
 
 pub stretch_causes_spec : {M : Type 1} → statement M
 stretch_causes_spec =

@@ -6,12 +6,12 @@ use Rattle.run_trials.proofs.line_of.Tie as tie
 returns-in-Horizontal : tie.Need-returns-in-Horizontal
 returns-in-Horizontal c =
     let at-place-at : tie.After-place_at-place = search in
-    rw (at-place-at.place_at-place.ensures, c.enum_told-1.given.1)
+    rw (at-place-at.place_at-place.ensures, c.in-Horizontal.is)
 
 returns-in-Vertical : tie.Need-returns-in-Vertical
 returns-in-Vertical c =
     let at-place-at : tie.After-place_at-place = search in
-    rw (at-place-at.place_at-place.ensures, c.enum_told-in-Vertical-1.given.1)
+    rw (at-place-at.place_at-place.ensures, c.in-Vertical.is)
 
 pub line_of_spec : {M : Type 1} → statement M
 line_of_spec = tie.close (tie.spec

@@ -59,7 +59,7 @@ loop-i-preserved c =
     let few = added.add_piece-count.ensures.1 in (
       omega arith,
       omega arith,
-      added.add_piece-count.auto.1.1.0 ∙ at-loop.loop-i.invariant.2,
+      added.add_piece-count.auto.store ∙ at-loop.loop-i.invariant.2,
       λ pixels. growing_more _ (trials_of (take at-loop.loop-i.count at-loop.loop-i.store)) _ at-loop.loop-i.i below (at-loop.loop-i.invariant.3 pixels)
           (added.add_piece-count.ensures.0 at-start.args.size pixels),
     )

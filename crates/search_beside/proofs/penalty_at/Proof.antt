@@ -80,7 +80,7 @@ reached c = search
 
 -- the line
 abbrev line : tie.After-line_with-slot → List ℕ
-line c = c.line_with-slot.new.1.1.1.1.1.1.1.1.0
+line c = c.line_with-slot.new.lines
 
 -- the place asked for lies in it
 within : (c : tie.After-line_with-slot)

@@ -36,7 +36,7 @@ least_below-requires : tie.Need-least_below-requires
 least_below-requires c κs =
     let x : tie.After-add_others = search in
     let e : tie.Start = search in
-    let added = x.add_others.auto.1.1.1.1.1.1.1.1.1.1.0 in
+    let added = x.add_others.auto.sums in
     let places = e.requires.1.1.1.1.0 in
     let most = places_most (lent e) e.args.wanted.sweep.mover e.args.wanted.sweep.track e.requires.1.1.1.0 in
     omega arith

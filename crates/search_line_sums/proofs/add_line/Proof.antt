@@ -10,7 +10,7 @@ returns-then-weight-eq1 c =
     let at-then : tie.Then-weight-eq1 = search in
     let at-add-once : tie.After-add_once = search in
     let a = at-start.args in
-    subst (λ (w : ℕ). LineAdded w a.low a.line.now a.sums.now at-add-once.add_once.new.0)
+    subst (λ (w : ℕ). LineAdded w a.low a.line.now a.sums.now at-add-once.add_once.new.sums)
     (sym at-then.if-weight-eq1.true) at-add-once.add_once.ensures
 
 pub add_line_spec : {M : Type 1} → statement M

@@ -28,7 +28,7 @@ entry c = search
 
 -- the line that was drawn
 abbrev drawn : tie.After-draw_line-count → List ℕ
-drawn c = c.draw_line-count.new.1.1.1.1.1.1.1.1.0
+drawn c = c.draw_line-count.new.lines
 
 -- how many places it has, and where they go
 counted : (c : tie.After-draw_line-count)
@@ -41,7 +41,7 @@ counted : (c : tie.After-draw_line-count)
 counted c =
     let e = entry c in
     let n = c.draw_line-count.ensures.1.1 in
-    let long : length (drawn c) ≡ 526 = c.draw_line-count.auto.1.1.1.1.1.1.1.1.0 ∙ length-replicate {A = ℕ} 526 0 in
+    let long : length (drawn c) ≡ 526 = c.draw_line-count.auto.lines ∙ length-replicate {A = ℕ} 526 0 in
     let h = few e in
     let room = e.requires.1.0 in
     (n, omega arith, long, omega arith, e.requires.1.1.0)
@@ -76,7 +76,7 @@ returns c =
     let at : ℕ = a.at in (
       made_back (lent (entry at-draw-line)) a.direction a.two a.lines.now (drawn at-draw-line) _ at count (at + count - at) h.0 (omega arith)
           (omega arith) h.1 at-draw-line.draw_line-count.ensures.0.line
-          (at-copy-back.copy_back.auto.1.0 ∙ simp (length-take, length-drop) (omega arith)) at-copy-back.copy_back.ensures,
+          (at-copy-back.copy_back.auto.to ∙ simp (length-take, length-drop) (omega arith)) at-copy-back.copy_back.ensures,
       at-draw-line.draw_line-count.ensures.1.0,
     )
 

@@ -50,8 +50,8 @@ map_words-requires c κs =
 within : (c : tie.After-map_words)
     →
     let at-find-map : tie.After-find_map-from = search in
-    (at-find-map.find_map-from.result + c.map_words.result ≤ length at-find-map.find_map-from.new.1.1.1.1.1.1.0)
-    × (length at-find-map.find_map-from.new.1.1.1.1.1.1.0 < 1000000000)
+    (at-find-map.find_map-from.result + c.map_words.result ≤ length at-find-map.find_map-from.new.maps)
+    × (length at-find-map.find_map-from.new.maps < 1000000000)
 within c =
     let at-sides-of : tie.After-sides_of-sides = search in
     let at-find-map : tie.After-find_map-from = search in
@@ -104,7 +104,7 @@ lent_map : (c : tie.After-line_places-count)
     let at-start : tie.Start = search in
     let from = (found c).find_map-from.result in
     MapOf Horizontal (moved_shape (lent at-start) at-start.args.two) (standing_shape (lent at-start) at-start.args.two)
-    (take (from + (counted c).map_words.result - from) (drop from (found c).find_map-from.new.1.1.1.1.1.1.0))
+    (take (from + (counted c).map_words.result - from) (drop from (found c).find_map-from.new.maps))
 lent_map c =
     let at-sides-of : tie.After-sides_of-sides = search in
     let e = entry at-sides-of in

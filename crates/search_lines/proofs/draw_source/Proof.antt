@@ -23,7 +23,7 @@ returns-then-source c =
     let t : tie.Then-source = search in
     let a = e.args.source in (
       subst (λ (x : Bool). SourceMade (lent e) (record { two = a.two; direction = a.direction; back = x }) e.args.lines.now e.args.at
-          b.draw_back.new.1.1.1.1.1.1.1.1.0) (sym t.if-source.true) b.draw_back.ensures.0,
+          b.draw_back.new.lines) (sym t.if-source.true) b.draw_back.ensures.0,
       b.draw_back.ensures.1,
     )
 
@@ -34,7 +34,7 @@ returns c =
     let t : tie.Else-source = search in
     let a = e.args.source in (
       subst (λ (x : Bool). SourceMade (lent e) (record { two = a.two; direction = a.direction; back = x }) e.args.lines.now e.args.at
-          b.draw_line.new.1.1.1.1.1.1.1.1.0) (sym t.if-source.false)
+          b.draw_line.new.lines) (sym t.if-source.false)
           (made_plain (lent e) a.direction a.two e.args.lines.now e.args.at _ b.draw_line.ensures.0),
       b.draw_line.ensures.1.0,
     )

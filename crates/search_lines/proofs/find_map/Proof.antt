@@ -100,7 +100,7 @@ entry c = search
 
 -- the words past the classes, with the map
 abbrev part : tie.After-keep_map-at → List ℕ
-part c = c.keep_map-at.new.1.1.1.1.1.1.1.0
+part c = c.keep_map-at.new.words
 
 -- the map that is found
 found : (c : tie.After-keep_map-at)

@@ -4,10 +4,10 @@ use Rattle.search_map_lines.proofs.line_places.Statement.{statement}
 use Rattle.search_map_lines.proofs.line_places.Tie as tie
 
 returns-in-Horizontal : tie.Need-returns-in-Horizontal
-returns-in-Horizontal c = rw c.before.enum_told-1.given.1 refl
+returns-in-Horizontal c = rw c.before.in-Horizontal.is refl
 
 returns-in-Vertical : tie.Need-returns-in-Vertical
-returns-in-Vertical c = rw c.before.enum_told-in-Vertical-1.given.1 refl
+returns-in-Vertical c = rw c.before.in-Vertical.is refl
 
 pub line_places_spec : {M : Type 1} → statement M
 line_places_spec =

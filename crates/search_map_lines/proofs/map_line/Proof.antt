@@ -10,7 +10,7 @@ map_row-requires c κs =
     let at-start : tie.Start = search in
     let p = at-start.requires in
     let z = at-start.args.sides in
-    let n = ap (λ (d : Direction). places_of d z) (sym c.before.enum_told-1.given.1) in
+    let n = ap (λ (d : Direction). places_of d z) (sym c.before.in-Horizontal.is) in
     let f = p.0 in
     (f, (p.1.0, (p.1.1.0, (p.1.1.1.0, omega (arith, p.1.1.1.1), omega (arith, p.1.1.1.1, f.moved_along.high, f.standing_along.high)))))
 
@@ -19,7 +19,7 @@ map_column-requires c κs =
     let at-start : tie.Start = search in
     let p = at-start.requires in
     let z = at-start.args.sides in
-    let n = ap (λ (d : Direction). places_of d z) (sym c.before.enum_told-in-Vertical-1.given.1) in
+    let n = ap (λ (d : Direction). places_of d z) (sym c.before.in-Vertical.is) in
     (p.0, (p.1.0, (p.1.1.0, (p.1.1.1.0, n ∙ p.1.1.1.1))))
 
 returns-in-Horizontal : tie.Need-returns-in-Horizontal
@@ -29,8 +29,8 @@ returns-in-Horizontal c =
     let at-map-row : tie.After-map_row = search in
     let a = at-start.args in
     λ s t e m.
-    subst (λ (d : Direction). LineOf d s t a.offset a.line.now at-map-row.map_row.new.1.1.1.0)
-    (sym at_told.enum_told-1.given.1) (at-map-row.map_row.ensures _ s t e m)
+    subst (λ (d : Direction). LineOf d s t a.offset a.line.now at-map-row.map_row.new.line)
+    (sym at_told.in-Horizontal.is) (at-map-row.map_row.ensures _ s t e m)
 
 returns-in-Vertical : tie.Need-returns-in-Vertical
 returns-in-Vertical c =
@@ -39,8 +39,8 @@ returns-in-Vertical c =
     let at-map-column : tie.After-map_column = search in
     let a = at-start.args in
     λ s t e m.
-    subst (λ (d : Direction). LineOf d s t a.offset a.line.now at-map-column.map_column.new.1.1.1.0)
-    (sym at_told.enum_told-in-Vertical-1.given.1) (at-map-column.map_column.ensures s t e m)
+    subst (λ (d : Direction). LineOf d s t a.offset a.line.now at-map-column.map_column.new.line)
+    (sym at_told.in-Vertical.is) (at-map-column.map_column.ensures s t e m)
 
 pub map_line_spec : {M : Type 1} → statement M
 map_line_spec =

@@ -79,7 +79,7 @@ returns c =
     let i = inside at-else2 in
     λ d s t e m.
     near_line d s t a.sides a.words.now a.offset _ _ a.line.now _ _ e at-row-width.row_width-w.ensures f m i.0 i.1
-    i.2 at-clear-line.clear_line.ensures c.before.before.row_Line.ensures
+    i.2 at-clear-line.clear_line.ensures c.before.before.row_line.ensures
 
 pub map_row_spec : {M : Type 1} → statement M
 map_row_spec =

@@ -49,7 +49,7 @@ bounds-words-slots c =
     let f = fits.fits in
     let e = fits.same in
     let room = p.room in
-    let full = at-make-sized.make_sized.auto.1.1.1.1.0 in
+    let full = at-make-sized.make_sized.auto.words in
     simp (length-set, length-append, length-drop, length-take, full) (omega arith)
 
 shape_of-words : tie.Need-shape_of-words
@@ -59,7 +59,7 @@ shape_of-words c =
     let fits = at-room-for.room_for-at.ensures in
     let f = fits.fits in
     let e = fits.same in
-    let full = at-make-sized.make_sized.auto.1.1.1.1.0 in
+    let full = at-make-sized.make_sized.auto.words in
     simp (length-set, length-append, length-drop, length-take, full) (omega arith)
 
 returns : tie.Need-returns

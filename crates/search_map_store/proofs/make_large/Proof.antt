@@ -21,8 +21,8 @@ copy_words-requires c κs =
     let e = at-map-words.map_words.ensures in
     let r = at-start.requires.1.1.1.1.enough in
     let kept = at-make-map.make_map.auto.1.1.1.1 in
-    let words : length at-make-map.make_map.new.1.1.1.1.0 ≡ length at-start.args.words.now = kept.0 in
-    let map : length at-make-map.make_map.new.1.1.1.1.1.0 ≡ map_bound = kept.1.0 in
+    let words : length at-make-map.make_map.new.scratch ≡ length at-start.args.words.now = kept.0 in
+    let map : length at-make-map.make_map.new.words ≡ map_bound = kept.1.0 in
     (omega arith, omega arith)
 
 returns : tie.Need-returns
@@ -32,7 +32,7 @@ returns c =
     let at-map-words : tie.After-map_words = search in
     let at-copy-words : tie.After-copy_words = search in
     let r = at-start.requires.1.1.1.1.enough in
-    let words : length at-make-map.make_map.new.1.1.1.1.0 ≡ length at-start.args.words.now = at-make-map.make_map.auto.1.1.1.1.0 in
+    let words : length at-make-map.make_map.new.scratch ≡ length at-start.args.words.now = at-make-map.make_map.auto.scratch in
     λ d s t ez em et.
     map_copied at-start.args.sides _ _ _ _ at-map-words.map_words.ensures (omega arith)
     at-copy-words.copy_words.ensures d (grown at-start.args.extra s) t ez (at-make-map.make_map.ensures d s t ez em et)

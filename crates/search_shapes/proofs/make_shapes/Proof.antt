@@ -81,7 +81,7 @@ stored : (c : tie.After-store-1 invariant-loop-k decreases-loop-k) (size : JobSi
     (numbered_shape (job_of (lent_by size at-start.args.table.now at-start.args.pixels.now))
     at-loop.loop-k.k))
     at-loop.loop-k.store at-loop.loop-k.at
-    c.before.put_piece-at.new.1.1.1.1.1.1.0 c.before.put_piece-at.result
+    c.before.put_piece-at.new.store c.before.put_piece-at.result
 stored c size =
     let at-numbered-turn : tie.After-numbered_turn-turn invariant-loop-k decreases-loop-k = search in
     let in-loop : tie.In-loop-k invariant-loop-k decreases-loop-k = search in
@@ -91,7 +91,7 @@ stored c size =
     let j = job_of (lent_by size a.table.now a.pixels.now) in
     subst (λ t.
     Appended (strips a.direction (turned_piece j (at-loop.loop-k.k / 4) t)) at-loop.loop-k.store at-loop.loop-k.at
-    c.before.put_piece-at.new.1.1.1.1.1.1.0 c.before.put_piece-at.result)
+    c.before.put_piece-at.new.store c.before.put_piece-at.result)
     at-numbered-turn.numbered_turn-turn.ensures (c.before.put_piece-at.ensures size)
 
 overflow_add-k : tie.Need-overflow_add-k invariant-loop-k decreases-loop-k
@@ -144,7 +144,7 @@ loop-k-preserved c =
     let first : length (set a.starts.now 0 0) ≡ length a.starts.now = simp length-set in
     let wide = r.wide in
     let long = r.long in
-    let kept : length c.before.put_piece-at.new.1.1.1.1.1.1.0 ≡ length l.store = c.before.put_piece-at.auto.1.1.1.1.1.1.0 in
+    let kept : length c.before.put_piece-at.new.store ≡ length l.store = c.before.put_piece-at.auto.store in
     let have : ShapesRoom l.store l.starts = record { wide = omega arith; long = omega arith } in (
       kept ∙ same,
       simp length-set (omega arith),

@@ -77,9 +77,9 @@ loop-i-preserved c =
     let next : l.from + (a.n - (l.i + 1)) ≡ row_start a.n (l.i + 1) = omega (arith, row_next a.n l.i) in (
       omega arith,
       next,
-      c.before.before.raise_row.auto.1.0 ∙ l.invariant.2,
+      c.before.before.raise_row.auto.weights ∙ l.invariant.2,
       λ j v e t w.
-          subst (λ k. Raising j v a.weights.now k c.before.before.raise_row.new.1.0) (sym next)
+          subst (λ k. Raising j v a.weights.now k c.before.before.raise_row.new.weights) (sym next)
           (c.before.before.raise_row.ensures j v a.weights.now e t w (l.invariant.3 j v e t w)),
     )
 

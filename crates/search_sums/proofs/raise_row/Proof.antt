@@ -77,13 +77,13 @@ loop-k-preserved c =
     let t = turn (in-loop) in
     let e = l.invariant.2 in
     let start = at-start.requires.1.1 in
-    let now : c.before.before.raise_pair.new.0 ≡ raised_at l.weights l.at (get_or a.penalties.now (a.i * 64 + l.k) 0) =
+    let now : c.before.before.raise_pair.new.weights ≡ raised_at l.weights l.at (get_or a.penalties.now (a.i * 64 + l.k) 0) =
     c.before.before.raise_pair.ensures in
     let index : pair_index a.n a.i l.k ≡ l.at = omega arith in (
       omega arith,
       omega arith,
       omega arith,
-      c.before.before.raise_pair.auto.0 ∙ l.invariant.3,
+      c.before.before.raise_pair.auto.weights ∙ l.invariant.3,
       λ j v ws n table valid r.
           subst (λ now. Raising j v ws (l.at + 1) now) (sym now)
           (raise_step j v a.n ws l.weights a.penalties.now a.i l.k l.at n table valid t.above t.below index

@@ -17,8 +17,8 @@ returns-then-number-ne0 c =
     let l = lent_by a.size a.table.now a.pixels.now in
     let number = at-buffer-refusal.buffer_refusal-number in
     refused_answer _ number.result blank_record a.counts.now c.answer.result
-    (fresh_refused l (length a.counts.now) number.result number.ensures c.before.before.if-number-ne0.true)
-    (c.answer.ensures ∙ rw c.before.blank_record.ensures) c.before.before.if-number-ne0.true
+    (fresh_refused l (length a.counts.now) number.result number.ensures c.if-number-ne0.true)
+    (c.answer.ensures ∙ rw c.blank_record.ensures) c.if-number-ne0.true
 
 returns : tie.Need-returns
 unfolding fresh job_of
@@ -32,7 +32,7 @@ returns c =
     let number = at-buffer-refusal.buffer_refusal-number in
     let none = sym number.ensures ∙ at-else1.if-number-ne0.false in
     given_answer_lem _ (fresh (job_of l)) blank_record a.counts.now _ c.answer-2.result (fresh_given l (length a.counts.now) none)
-    (c.answer-2.ensures ∙ rw c.before.blank_record-2.ensures)
+    (c.answer-2.ensures ∙ rw c.blank_record-2.ensures)
     (at_clear.clear.ensures ∙ ap (λ (n : ℕ). replicate n 0) (buffer_passed l (length a.counts.now) none).full)
 
 pub fresh_spec : {M : Type 1} → statement M

@@ -28,7 +28,7 @@ ready : (c : tie.Else-common-ne0) →
     SheetReady (job (at-start)) (sheet (at-start))
 ready c =
     let at-start : tie.Start = search in
-    sheet_ready (job at-start) (sheet at-start) (sym c.before.sheet_refusal-common.ensures ∙ c.if-common-ne0.false)
+    sheet_ready (job at-start) (sheet at-start) (sym c.sheet_refusal-common.ensures ∙ c.if-common-ne0.false)
 
 -- past the second no cause is left
 none : (c : tie.Else-laying-ne0) →
@@ -36,7 +36,7 @@ none : (c : tie.Else-laying-ne0) →
     first_number (lay_causes (job_of (job at-start)) (sheet at-start) at-start.args.piece at-start.args.place) ≡ 0
 none c =
     let at-start : tie.Start = search in
-    sym (c.before.lay_refusal-laying.ensures at-start.args.pixels.now at-start.args.counts.now) ∙ c.if-laying-ne0.false
+    sym (c.lay_refusal-laying.ensures at-start.args.pixels.now at-start.args.counts.now) ∙ c.if-laying-ne0.false
 
 -- and the lay is in order
 order : (c : tie.Else-laying-ne0) →
@@ -50,11 +50,11 @@ returns-then-common-ne0 : tie.Need-returns-then-common-ne0
 unfolding lay_call
 returns-then-common-ne0 c =
     let at-start : tie.Start = search in
-    let common = c.before.before.sheet_refusal-common in
+    let common = c.sheet_refusal-common in
     refused_answer _ common.result at-start.args.sheet at-start.args.counts.now c.answer.result
     (sheet_refused (job at-start) (sheet at-start) (lay_causes (job_of (job at-start)) (sheet at-start) at-start.args.piece at-start.args.place)
-    (lay (job_of (job at-start)) (sheet at-start) at-start.args.piece at-start.args.place) common.result common.ensures c.before.if-common-ne0.true)
-    c.answer.ensures c.before.if-common-ne0.true
+    (lay (job_of (job at-start)) (sheet at-start) at-start.args.piece at-start.args.place) common.result common.ensures c.if-common-ne0.true)
+    c.answer.ensures c.if-common-ne0.true
 
 lay_refusal-laying-requires : tie.Need-lay_refusal-laying-requires
 lay_refusal-laying-requires c κs = ((facts _ (ready c).well).entries, (facts _ (ready c).well).few_pieces)
@@ -64,13 +64,13 @@ unfolding lay_call
 returns-then-laying-ne0 c =
     let at-else1 : tie.Else-common-ne0 = search in
     let at-start : tie.Start = search in
-    let own = c.before.before.lay_refusal-laying in
+    let own = c.lay_refusal-laying in
     refused_answer _ own.result at-start.args.sheet at-start.args.counts.now c.answer-then-laying-ne0.result
     (own_refused (job at-start) (sheet at-start) (lay_causes (job_of (job at-start)) (sheet at-start) at-start.args.piece at-start.args.place)
     (lay (job_of (job at-start)) (sheet at-start) at-start.args.piece at-start.args.place) own.result
     (lay_plain (job_of (job at-start)) (sheet at-start) at-start.args.piece at-start.args.place) (ready (at-else1))
-    (own.ensures at-start.args.pixels.now at-start.args.counts.now) c.before.if-laying-ne0.true)
-    c.answer-then-laying-ne0.ensures c.before.if-laying-ne0.true
+    (own.ensures at-start.args.pixels.now at-start.args.counts.now) c.if-laying-ne0.true)
+    c.answer-then-laying-ne0.ensures c.if-laying-ne0.true
 
 move_piece-requires : tie.Need-move_piece-requires
 unfolding job_of
@@ -104,7 +104,7 @@ returns c =
     c.answer-2.result
     (none_given l s (lay_causes (job_of l) s at-start.args.piece at-start.args.place) (lay (job_of l) s at-start.args.piece at-start.args.place)
     (lay_plain (job_of l) s at-start.args.piece at-start.args.place) sheet-is (none (at-else2)))
-    (c.answer-2.ensures ∙ rw c.before.with_entry.ensures)
+    (c.answer-2.ensures ∙ rw c.with_entry.ensures)
     (at-move-piece.move_piece.ensures
     ∙ moved_lays (job_of l) at-start.args.piece at-start.args.place s
     (λ k l₁. let bound = well_bound (job_of l) few s k sheet-is.sheet (let full = sheet-is.full in omega arith) in omega arith))

@@ -27,7 +27,7 @@ ready : (c : tie.Else-common-ne0) →
     SheetReady (job (at-start)) (sheet (at-start))
 ready c =
     let at-start : tie.Start = search in
-    sheet_ready (job at-start) (sheet at-start) (sym c.before.sheet_refusal-common.ensures ∙ c.if-common-ne0.false)
+    sheet_ready (job at-start) (sheet at-start) (sym c.sheet_refusal-common.ensures ∙ c.if-common-ne0.false)
 
 -- past the second no cause is left
 none : (c : tie.Else-withdrawing-ne0) →
@@ -35,7 +35,7 @@ none : (c : tie.Else-withdrawing-ne0) →
     first_number (withdraw_causes (job_of (job at-start)) (sheet at-start) at-start.args.piece) ≡ 0
 none c =
     let at-start : tie.Start = search in
-    sym (c.before.withdraw_refusal-withdrawing.ensures at-start.args.pixels.now at-start.args.counts.now) ∙ c.if-withdrawing-ne0.false
+    sym (c.withdraw_refusal-withdrawing.ensures at-start.args.pixels.now at-start.args.counts.now) ∙ c.if-withdrawing-ne0.false
 
 -- and the withdraw is in order
 order : (c : tie.Else-withdrawing-ne0) →
@@ -60,11 +60,11 @@ returns-then-common-ne0 : tie.Need-returns-then-common-ne0
 unfolding withdraw_call
 returns-then-common-ne0 c =
     let at-start : tie.Start = search in
-    let common = c.before.before.sheet_refusal-common in
+    let common = c.sheet_refusal-common in
     refused_answer _ common.result at-start.args.sheet at-start.args.counts.now c.answer.result
     (sheet_refused (job at-start) (sheet at-start) (withdraw_causes (job_of (job at-start)) (sheet at-start) at-start.args.piece)
-    (withdraw (job_of (job at-start)) (sheet at-start) at-start.args.piece) common.result common.ensures c.before.if-common-ne0.true)
-    c.answer.ensures c.before.if-common-ne0.true
+    (withdraw (job_of (job at-start)) (sheet at-start) at-start.args.piece) common.result common.ensures c.if-common-ne0.true)
+    c.answer.ensures c.if-common-ne0.true
 
 withdraw_refusal-withdrawing-requires : tie.Need-withdraw_refusal-withdrawing-requires
 withdraw_refusal-withdrawing-requires c κs = ((facts _ (ready c).well).entries, (facts _ (ready c).well).few_pieces)
@@ -74,13 +74,13 @@ unfolding withdraw_call
 returns-then-withdrawing-ne0 c =
     let at-else1 : tie.Else-common-ne0 = search in
     let at-start : tie.Start = search in
-    let own = c.before.before.withdraw_refusal-withdrawing in
+    let own = c.withdraw_refusal-withdrawing in
     refused_answer _ own.result at-start.args.sheet at-start.args.counts.now c.answer-then-withdrawing-ne0.result
     (own_refused (job at-start) (sheet at-start) (withdraw_causes (job_of (job at-start)) (sheet at-start) at-start.args.piece)
     (withdraw (job_of (job at-start)) (sheet at-start) at-start.args.piece) own.result
     (withdraw_plain (job_of (job at-start)) (sheet at-start) at-start.args.piece) (ready (at-else1))
-    (own.ensures at-start.args.pixels.now at-start.args.counts.now) c.before.if-withdrawing-ne0.true)
-    c.answer-then-withdrawing-ne0.ensures c.before.if-withdrawing-ne0.true
+    (own.ensures at-start.args.pixels.now at-start.args.counts.now) c.if-withdrawing-ne0.true)
+    c.answer-then-withdrawing-ne0.ensures c.if-withdrawing-ne0.true
 
 entry_of-entry-requires : tie.Need-entry_of-entry-requires
 entry_of-entry-requires c κs = few c
@@ -97,7 +97,7 @@ move_piece-requires c κs =
       well = sheet-is.well;
       piece = own.lies.piece;
       within =
-          withdrawn_inside (job_of (job at-start)) (sheet at-start) at-start.args.piece _ c.before.before.entry_of-entry.ensures
+          withdrawn_inside (job_of (job at-start)) (sheet at-start) at-start.args.piece _ c.entry_of-entry.ensures
           sheet-is.sheet own.lies;
       full = sheet-is.full;
     }
@@ -120,7 +120,7 @@ returns c =
     given_answer_lem _ (withdraw (job_of l) s at-start.args.piece) at-start.args.sheet at-start.args.counts.now _ c.answer-2.result
     (none_given l s (withdraw_causes (job_of l) s at-start.args.piece) (withdraw (job_of l) s at-start.args.piece)
     (withdraw_plain (job_of l) s at-start.args.piece) (ready (at-else1)) (none (at-else2)))
-    (c.answer-2.ensures ∙ rw (c.before.with_entry.ensures, c.before.before.origin-off.ensures))
+    (c.answer-2.ensures ∙ rw (c.with_entry.ensures, c.origin-off.ensures))
     (at-move-piece.move_piece.ensures ∙ moved_withdraws (job_of l) at-start.args.piece s _ at-entry-of.entry_of-entry.ensures)
 
 pub withdraw_spec : {M : Type 1} → statement M

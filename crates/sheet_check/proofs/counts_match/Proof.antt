@@ -30,7 +30,7 @@ slice_bounds-same-end-2 c =
     let at-start : tie.Start = search in
     let a = at-start.args in
     let pre = at-start.requires in
-    let made = at-recount.recount.new.1.1.1.1.0 in
+    let made = at-recount.recount.new.made in
     let full : length made ≡ length a.counts.now = at-recount.recount.ensures.full ∙ sym pre.0.full in
     front_length _ (made ++ drop (length a.counts.now) a.made.now) (simp length-append (omega arith))
 
@@ -46,7 +46,7 @@ returns c =
     let at-start : tie.Start = search in
     let a = at-start.args in
     let pre = at-start.requires in
-    let made = at-recount.recount.new.1.1.1.1.0 in
+    let made = at-recount.recount.new.made in
     let full : length made ≡ length a.counts.now = at-recount.recount.ensures.full ∙ sym pre.0.full in
     let front : take (length a.counts.now) (made ++ drop (length a.counts.now) a.made.now) ≡ made =
     take_at made (drop (length a.counts.now) a.made.now) (length a.counts.now) full in

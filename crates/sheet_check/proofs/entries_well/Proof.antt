@@ -1,6 +1,6 @@
 -- `entries_well`: every entry that the loop has passed is well.
 -- Assumes nothing.
-use Rattle.list_laws.proofs.Kit.{◌∙◌, ◌≡◌, sym, true, List, ◌-◌, ◌<◌, ◌≤◌, ℕ, arith, below_more, rules, not-false, not-true}
+use Rattle.list_laws.proofs.Kit.{◌∙◌, ◌≡◌, sym, true, List, ◌-◌, ◌<◌, ◌≤◌, ℕ, arith, below_more, rules}
 use Rattle.model.specs.Lent.{lent_by, job_of}
 use Rattle.model.specs.Cover.{entry_well}
 use Rattle.list_laws.proofs.Bounded.{all_at, all_from}
@@ -24,11 +24,11 @@ returns-then-not-entry_well c = λ pixels.
     let at-loop : tie.At-loop-i invariant-loop-i decreases-loop-i = search in
     let at-start : tie.Start invariant-loop-i decreases-loop-i = search in
     let a = at-start.args in
-    let here = c.before.entry_well.ensures pixels in
+    let here = c.entry_well.ensures pixels in
     sym (fails _
     (λ t. clash
-    (all_at 64 (entry_well (job_of (lent_by a.size a.table.now pixels)) a.sheet.pieces) t at-loop.loop-i.i c.before.before.loop-i-test.true)
-    (sym here ∙ not-true _ c.if-not-entry_well.true)))
+    (all_at 64 (entry_well (job_of (lent_by a.size a.table.now pixels)) a.sheet.pieces) t at-loop.loop-i.i c.loop-i-test.true)
+    (sym here ∙ c.if-not-entry_well.true)))
 
 loop-i-preserved : tie.Need-loop-i-preserved invariant-loop-i decreases-loop-i
 loop-i-preserved c =
@@ -36,11 +36,11 @@ loop-i-preserved c =
       omega arith,
       λ pixels.
           below_more _ at-loop.loop-i.i (at-loop.loop-i.invariant.1 pixels)
-          (sym (c.before.entry_well.ensures pixels) ∙ not-false c.before.entry_well.result c.if-not-entry_well.false),
+          (sym (c.entry_well.ensures pixels) ∙ c.if-not-entry_well.false),
     )
 
 returns : tie.Need-returns invariant-loop-i decreases-loop-i
-returns c = λ pixels. sym (all_from 64 _ (λ k l. c.before.loop-i.invariant.1 pixels k (let out = c.loop-i-test.false in omega arith)))
+returns c = λ pixels. sym (all_from 64 _ (λ k l. c.loop-i.invariant.1 pixels k (let out = c.loop-i-test.false in omega arith)))
 
 pub entries_well_spec : {M : Type 1} → statement M
 entries_well_spec =

@@ -16,7 +16,7 @@ returns-then-degrees_of-ne0 c =
     let at-else1 : tie.Else-entry = search in
     let at-start : tie.Start = search in
     let e = at-start.args.entry in
-    let turned : eqb (degrees e.place.turn) 0 ≡ false = ne_eqb (degrees e.place.turn) 0 (λ q. c.if-degrees_of-ne0.true (c.before.degrees_of.ensures ∙ q)) in
+    let turned : eqb (degrees e.place.turn) 0 ≡ false = ne_eqb (degrees e.place.turn) 0 (λ q. c.if-degrees_of-ne0.true (c.degrees_of.ensures ∙ q)) in
     rw (at-else1.if-entry.false, turned)
 
 returns-then-place-ne0 : tie.Need-returns-then-place-ne0
@@ -26,7 +26,7 @@ returns-then-place-ne0 c =
     let at-else1 : tie.Else-entry = search in
     let at-start : tie.Start = search in
     let e = at-start.args.entry in
-    let turn : eqb (degrees e.place.turn) 0 ≡ true = rw (← at-degrees-of.degrees_of.ensures) (eq-eqb _ 0 c.before.before.if-degrees_of-ne0.false) in
+    let turn : eqb (degrees e.place.turn) 0 ≡ true = rw (← at-degrees-of.degrees_of.ensures) (eq-eqb _ 0 c.if-degrees_of-ne0.false) in
     let moved : eqb e.place.x.0 0 ≡ false = ne_eqb e.place.x.0 0 c.if-place-ne0.true in
     rw (at-else1.if-entry.false, turn, moved)
 
@@ -39,7 +39,7 @@ returns c =
     let at-start : tie.Start = search in
     let e = at-start.args.entry in
     let turn : eqb (degrees e.place.turn) 0 ≡ true = rw (← at-degrees-of.degrees_of.ensures) (eq-eqb _ 0 at-else2.if-degrees_of-ne0.false) in
-    let column : eqb e.place.x.0 0 ≡ true = eq-eqb e.place.x.0 0 c.before.if-place-ne0.false in
+    let column : eqb e.place.x.0 0 ≡ true = eq-eqb e.place.x.0 0 c.if-place-ne0.false in
     rw (at-else1.if-entry.false, turn, column)
 
 pub is_blank_spec : {M : Type 1} → statement M

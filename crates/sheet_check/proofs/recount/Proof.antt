@@ -23,7 +23,7 @@ loop-piece-init : tie.Need-loop-piece-init invariant-loop-piece decreases-loop-p
 loop-piece-init c =
     let at-start : tie.Start invariant-loop-piece decreases-loop-piece = search in
     let a = at-start.args in
-    let zeros : c.before.before.clear.new.0 ≡ replicate (length a.made.now) 0 = c.before.before.clear.ensures in (
+    let zeros : c.clear.new.counts ≡ replicate (length a.made.now) 0 = c.clear.ensures in (
       omega arith,
       ap length zeros ∙ length-replicate _ 0 ∙ at-start.requires.full,
       rw zeros (none_counted (job_of (lent_by a.size a.table.now a.pixels.now)) a.sheet.pieces (length a.made.now)),
@@ -33,7 +33,7 @@ add_entry-requires : tie.Need-add_entry-requires invariant-loop-piece decreases-
 add_entry-requires c κs =
     let at-start : tie.Start invariant-loop-piece decreases-loop-piece = search in
     let pre = at-start.requires in
-    (record { well = pre.well; entries = pre.entries; full = c.before.before.loop-piece.invariant.1 }, c.before.loop-piece-test.true)
+    (record { well = pre.well; entries = pre.entries; full = c.loop-piece.invariant.1 }, c.loop-piece-test.true)
 
 overflow_add-piece : tie.Need-overflow_add-piece invariant-loop-piece decreases-loop-piece
 overflow_add-piece c =
@@ -53,8 +53,8 @@ loop-piece-preserved c =
     let now = at-loop.loop-piece in
     let few = (facts _ at-start.requires.well).few_pieces in
     let l = in-loop.loop-piece-test.true in
-    let after : c.before.before.add_entry.new.1.1.1.1.1.0 ≡ added_entry j a.sheet.pieces now.piece now.made =
-    c.before.before.add_entry.ensures in (
+    let after : c.add_entry.new.made ≡ added_entry j a.sheet.pieces now.piece now.made =
+    c.add_entry.ensures in (
       omega arith,
       ap length after ∙ length_added j a.sheet.pieces now.piece now.made ∙ now.invariant.1,
       rw after (added_below j a.sheet.pieces now.piece now.made (omega arith) now.invariant.2),
@@ -63,14 +63,14 @@ loop-piece-preserved c =
 shape_of-made : tie.Need-shape_of-made invariant-loop-piece decreases-loop-piece
 shape_of-made c =
     let at-start : tie.Start invariant-loop-piece decreases-loop-piece = search in
-    c.before.loop-piece.invariant.1 ∙ sym at-start.requires.full
+    c.loop-piece.invariant.1 ∙ sym at-start.requires.full
 
 returns : tie.Need-returns invariant-loop-piece decreases-loop-piece
 unfolding job_of
 returns c =
     let at-start : tie.Start invariant-loop-piece decreases-loop-piece = search in
     let a = at-start.args in
-    let now = c.before.loop-piece in
+    let now = c.loop-piece in
     let all : now.piece ≡ a.size.count = let out = c.loop-piece-test.false in let most = now.invariant.0 in omega arith in
     all_counted (job_of (lent_by a.size a.table.now a.pixels.now)) a.sheet.pieces now.made now.invariant.1 (rw all at now.invariant.2)
 

@@ -22,18 +22,18 @@ loop-k-smaller c = let l = c.loop-k-test.true in omega arith
 
 loop-k-preserved : tie.Need-loop-k-preserved invariant-loop-k decreases-loop-k
 loop-k-preserved c =
-    let inside : c.before.loop-k.k < length c.before.before.args.counts.now = let l = c.loop-k-test.true in omega arith in
-    let more = fill_more c.before.loop-k.k 0 c.before.before.args.counts.now inside in
-    (omega arith, simp length-set c.before.loop-k.invariant.1, rw c.before.loop-k.invariant.2 more)
+    let inside : c.loop-k.k < length c.args.counts.now = let l = c.loop-k-test.true in omega arith in
+    let more = fill_more c.loop-k.k 0 c.args.counts.now inside in
+    (omega arith, simp length-set c.loop-k.invariant.1, rw c.loop-k.invariant.2 more)
 
 shape_of-counts : tie.Need-shape_of-counts invariant-loop-k decreases-loop-k
-shape_of-counts c = c.before.loop-k.invariant.1
+shape_of-counts c = c.loop-k.invariant.1
 
 returns : tie.Need-returns invariant-loop-k decreases-loop-k
 returns c =
-    let d = c.before.before.args.counts.now in
-    let all : c.before.loop-k.k ≡ length d = let out = c.loop-k-test.false in omega arith in
-    c.before.loop-k.invariant.2 ∙ rw (all, drop-length, append-nil)
+    let d = c.args.counts.now in
+    let all : c.loop-k.k ≡ length d = let out = c.loop-k-test.false in omega arith in
+    c.loop-k.invariant.2 ∙ rw (all, drop-length, append-nil)
 
 pub clear_spec : {M : Type 1} → statement M
 clear_spec = tie.close (tie.spec

@@ -6,17 +6,17 @@ use Rattle.sheet_counts.proofs.corner_number.Tie as tie
 
 overflow_mul-result : tie.Need-overflow_mul-result
 overflow_mul-result c =
-    let product : c.wide.result * c.before.args.sheet ≤ 65536 * 4096 = mul-le-mul {n₂ = 65536} {m₂ = 4096} (omega arith) c.before.requires in
+    let product : c.wide.result * c.args.sheet ≤ 65536 * 4096 = mul-le-mul {n₂ = 65536} {m₂ = 4096} (omega arith) c.requires in
     omega arith
 
 overflow_add-result : tie.Need-overflow_add-result
 overflow_add-result c =
-    let product : c.before.wide.result * c.before.before.args.sheet ≤ 65536 * 4096 =
-    mul-le-mul {n₂ = 65536} {m₂ = 4096} (omega arith) c.before.before.requires in
+    let product : c.wide.result * c.args.sheet ≤ 65536 * 4096 =
+    mul-le-mul {n₂ = 65536} {m₂ = 4096} (omega arith) c.requires in
     omega arith
 
 returns : tie.Need-returns
-returns c = rw (c.before.wide.ensures.0, c.wide-2.ensures.0)
+returns c = rw (c.wide.ensures.0, c.wide-2.ensures.0)
 
 pub corner_number_spec : {M : Type 1} → statement M
 corner_number_spec = tie.close (tie.spec

@@ -9,7 +9,7 @@ use Rattle.sheet_counts.proofs.move_piece.Tie as tie
 use Rattle.sheet_counts.proofs.Pieces.{entry_there, piece_few, rows_room, piece_moved}
 
 turned_sides-sides-requires : tie.Need-turned_sides-sides-requires
-turned_sides-sides-requires c κs = entry_there _ _ _ _ c.before.before.requires
+turned_sides-sides-requires c κs = entry_there _ _ _ _ c.requires
 
 pixel_start-start-requires : tie.Need-pixel_start-start-requires
 pixel_start-start-requires c κs =
@@ -38,8 +38,8 @@ move_rows-requires c κs =
     let ready = at-start.requires in
     let sides = at-turned-sides.turned_sides-sides.ensures in
     let start = at-pixel-start.pixel_start-start.ensures in
-    let box = c.before.before.turned_piece-piece.ensures in
-    let first = c.before.corner_number-first.ensures in
+    let box = c.turned_piece-piece.ensures in
+    let first = c.corner_number-first.ensures in
     let small = rw (sides.0 a.size a.pixels.now) at sides.1.1 in
     rw (box, start, first, sides.0 a.size a.pixels.now)
     (entry_stored l a.i a.place.turn ready.well ready.piece, rows_room l a.i a.place _ ready small)
@@ -58,7 +58,7 @@ returns c =
     let start = at-pixel-start.pixel_start-start.ensures in
     let box = at-turned-piece.turned_piece-piece.ensures in
     let first = at-corner-number.corner_number-first.ensures in
-    let moved = rw (box, start, first, sides.0 a.size a.pixels.now) at c.before.before.move_rows.ensures in
+    let moved = rw (box, start, first, sides.0 a.size a.pixels.now) at c.move_rows.ensures in
     moved ∙ piece_moved l a.i a.place _ ready a.change a.counts.now refl
 
 pub move_piece_spec : {M : Type 1} → statement M

@@ -33,7 +33,7 @@ loop-x-preserved c =
     let at-start : tie.Start invariant-loop-x decreases-loop-x = search in
     let a = at-start.args in
     let now = at-loop.loop-x in
-    let on = c.before.before.stored_pixel-on.ensures in
+    let on = c.stored_pixel-on.ensures in
     let count = c.moved_count.ensures in (
       omega arith,
       simp length-set now.invariant.1,
@@ -43,13 +43,13 @@ loop-x-preserved c =
     )
 
 shape_of-counts : tie.Need-shape_of-counts invariant-loop-x decreases-loop-x
-shape_of-counts c = c.before.loop-x.invariant.1
+shape_of-counts c = c.loop-x.invariant.1
 
 returns : tie.Need-returns invariant-loop-x decreases-loop-x
 returns c =
     let at-start : tie.Start invariant-loop-x decreases-loop-x = search in
     let a = at-start.args in
-    let now = c.before.loop-x in
+    let now = c.loop-x in
     sym (run_end a.change (on_at a.pixels.now a.piece a.y) a.from now.counts now.x a.width c.loop-x-test.false) ∙ now.invariant.2
 
 pub move_row_spec : {M : Type 1} → statement M

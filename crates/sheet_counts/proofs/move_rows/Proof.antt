@@ -17,24 +17,24 @@ abbrev decreases-loop-y : tie.decreases-loop-y
 decreases-loop-y pixels piece first sheet width height change counts₀ from₀ y₀ counts from y = height - y
 
 loop-y-init : tie.Need-loop-y-init invariant-loop-y decreases-loop-y
-loop-y-init c = (omega arith, refl, (let none = zero-mul c.before.before.args.sheet in omega arith), rw sub-zero)
+loop-y-init c = (omega arith, refl, (let none = zero-mul c.args.sheet in omega arith), rw sub-zero)
 
 move_row-requires : tie.Need-move_row-requires invariant-loop-y decreases-loop-y
 move_row-requires c κs =
     let at-start : tie.Start invariant-loop-y decreases-loop-y = search in
     let pre = at-start.requires in
-    let now = c.before.before.loop-y in
-    let row = pre.1.rows now.y c.before.loop-y-test.true in
+    let now = c.loop-y in
+    let row = pre.1.rows now.y c.loop-y-test.true in
     let from = now.invariant.2 in
     let same = now.invariant.1 in
-    (pre.0, (λ x l. pre.1.places x now.y l c.before.loop-y-test.true), omega arith)
+    (pre.0, (λ x l. pre.1.places x now.y l c.loop-y-test.true), omega arith)
 
 overflow_add-from : tie.Need-overflow_add-from invariant-loop-y decreases-loop-y
 overflow_add-from c =
     let at-start : tie.Start invariant-loop-y decreases-loop-y = search in
     let pre = at-start.requires in
-    let now = c.before.before.before.before.before.loop-y in
-    let row = pre.1.rows now.y c.before.before.before.before.loop-y-test.true in
+    let now = c.loop-y in
+    let row = pre.1.rows now.y c.loop-y-test.true in
     let from = now.invariant.2 in
     let small = pre.1.sheets in
     let good = at-start.well_formed in
@@ -57,8 +57,8 @@ loop-y-preserved c =
     let now = at-loop.loop-y in
     let f = on_at a.pixels.now a.piece in
     let inside = in-loop.loop-y-test.true in
-    let after : c.before.before.Move-row.new.1.1.1.1.1.1.0 ≡ moved_run a.change (f now.y) now.from now.counts 0 a.width =
-    c.before.before.Move-row.ensures in
+    let after : c.move_row.new.counts ≡ moved_run a.change (f now.y) now.from now.counts 0 a.width =
+    c.move_row.ensures in
     let from = now.invariant.2 in
     let step : (now.y + 1) * a.sheet ≡ now.y * a.sheet + a.sheet = ap (λ (n : ℕ). n * a.sheet) (add-one now.y) ∙ suc-mul now.y a.sheet in (
       omega arith,
@@ -68,13 +68,13 @@ loop-y-preserved c =
     )
 
 shape_of-counts : tie.Need-shape_of-counts invariant-loop-y decreases-loop-y
-shape_of-counts c = c.before.loop-y.invariant.1
+shape_of-counts c = c.loop-y.invariant.1
 
 returns : tie.Need-returns invariant-loop-y decreases-loop-y
 returns c =
     let at-start : tie.Start invariant-loop-y decreases-loop-y = search in
     let a = at-start.args in
-    let now = c.before.loop-y in
+    let now = c.loop-y in
     sym (rows_end a.change (on_at a.pixels.now a.piece) a.sheet a.width now.counts now.from now.y a.height c.loop-y-test.false)
     ∙ now.invariant.3
 

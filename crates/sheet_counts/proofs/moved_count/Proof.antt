@@ -1,28 +1,28 @@
 -- `moved_count`: each way's test says which clause of `moved` it is. Assumes nothing.
-use Rattle.list_laws.proofs.Kit.{rules, not-false, not-true}
+use Rattle.list_laws.proofs.Kit.{rules}
 use Rattle.sheet_counts.proofs.moved_count.Statement.{statement}
 use Rattle.sheet_counts.proofs.moved_count.Tie as tie
 
 returns-then-not-on : tie.Need-returns-then-not-on
-returns-then-not-on c = rw (not-true c.before.args.on c.if-not-on.true)
+returns-then-not-on c = rw c.if-not-on.true
 
 returns-in-OneMore : tie.Need-returns-in-OneMore
 returns-in-OneMore c =
     let s : tie.Start = search in
     let at-if : tie.Else-not-on = search in
-    rw (not-false s.args.on at-if.if-not-on.false, c.before.enum_told-1.given.1) c.one_more.ensures
+    rw (at-if.if-not-on.false, c.in-OneMore.is) c.one_more.ensures
 
 returns-in-OneLess : tie.Need-returns-in-OneLess
 returns-in-OneLess c =
     let s : tie.Start = search in
     let at-if : tie.Else-not-on = search in
-    rw (not-false s.args.on at-if.if-not-on.false, c.before.enum_told-in-OneLess-1.given.1) c.one_less.ensures
+    rw (at-if.if-not-on.false, c.in-OneLess.is) c.one_less.ensures
 
 returns-in-OwnedBy : tie.Need-returns-in-OwnedBy
 returns-in-OwnedBy c =
     let s : tie.Start = search in
     let at-if : tie.Else-not-on = search in
-    rw (not-false s.args.on at-if.if-not-on.false, c.before.change-1.given.1)
+    rw (at-if.if-not-on.false, c.in-OwnedBy.is)
 
 pub moved_count_spec : {M : Type 1} → statement M
 moved_count_spec = tie.close (tie.spec

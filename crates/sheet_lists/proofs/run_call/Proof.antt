@@ -18,7 +18,7 @@ returns-then-call-ne0 c =
     let l = lent_by a.size a.table.now a.pixels.now in
     let s = sheet_of a.sheet a.counts.now in
     let answer = at-withdraw.withdraw-answer.ensures in
-    rw (answer.0, answer.1, call_withdraws a.t6 at-then1.if-call-ne0.true)
+    rw (answer.0, answer.1, call_withdraws a.call at-then1.if-call-ne0.true)
     (answer_after (withdraw_call l s _) a.sheet a.counts.now ∙ ap (afterwards s) (withdraw_called l s at-start.requires _))
 
 returns : tie.Need-returns
@@ -35,7 +35,7 @@ returns c =
     rw (
       answer.0,
       answer.1,
-      call_lays a.t6 at-else1.if-call-ne0.false,
+      call_lays a.call at-else1.if-call-ne0.false,
       ← at-placement-of.placement_of-place.ensures,
       ← at-piece-with-turn.piece_with_turn-known.ensures,
     )

@@ -22,7 +22,7 @@ returns-in-Refused c =
     let a = at-start.args in
     let l = lent_by a.size a.table.now a.pixels.now in
     let start = at-fresh.fresh-start in
-    let no = c.enum_told-1.given.1 in
+    let no = c.in-Refused.is in
     let run = refused_run l a.calls.now a.counts.now _ start.result start.ensures.0 start.ensures.1 _ no in
     (run.0, (run.1, λ so. let z : ◌≡◌ {A = ℕ} 0 1 = cc in absurd (omega arith)))
 
@@ -34,7 +34,7 @@ run_from-sheet-requires c κs =
     let l = lent_by a.size a.table.now a.pixels.now in
     let start = at-fresh.fresh-start in
     let run =
-    given_run l a.calls.now a.counts.now _ start.result start.ensures.0 start.ensures.1 c.before.before.enum_told-in_default-1.given.1 in
+    given_run l a.calls.now a.counts.now _ start.result start.ensures.0 start.ensures.1 c.in_default.is in
     subst (λ (t : Sheet). SheetReady l t) (sym run.1) (fresh_ready l run.0.well)
 
 returns : tie.Need-returns
@@ -47,12 +47,12 @@ returns c =
     let l = lent_by a.size a.table.now a.pixels.now in
     let start = at-fresh.fresh-start in
     let calls = calls_of a.calls.now in
-    let run = given_run l a.calls.now a.counts.now _ start.result start.ensures.0 start.ensures.1 at-enum-told2.enum_told-in_default-1.given.1 in
-    let left = c.before.before.run_from-sheet.new.1.1.1.1.1.0 in
-    let after : sheet_of c.before.before.run_from-sheet.result left ≡ after_calls (job_of l) (fresh (job_of l)) calls =
-    c.before.before.run_from-sheet.ensures ∙ ap (λ (t : Sheet). after_calls (job_of l) t calls) run.1 in
+    let run = given_run l a.calls.now a.counts.now _ start.result start.ensures.0 start.ensures.1 at-enum-told2.in_default.is in
+    let left = c.run_from-sheet.new.counts in
+    let after : sheet_of c.run_from-sheet.result left ≡ after_calls (job_of l) (fresh (job_of l)) calls =
+    c.run_from-sheet.ensures ∙ ap (λ (t : Sheet). after_calls (job_of l) t calls) run.1 in
     let answer =
-    given_answer_lem _ (after_calls (job_of l) (fresh (job_of l)) calls) blank_record a.counts.now left (given_answer c.before.before.run_from-sheet.result)
+    given_answer_lem _ (after_calls (job_of l) (fresh (job_of l)) calls) blank_record a.counts.now left (given_answer c.run_from-sheet.result)
     run.0.run
     (ap (λ (t : Sheet). given_answer (record_of t)) after) (ap (λ (t : Sheet). t.counts) after) in
     let holds : CoverHolds (job_of l) calls (after_calls (job_of l) (fresh (job_of l)) calls) = demand2_cover (job_of l) (facts l run.0.well).few_pieces calls in

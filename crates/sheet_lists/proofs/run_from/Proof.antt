@@ -20,17 +20,17 @@ abbrev decreases-loop-k : tie.decreases-loop-k
 decreases-loop-k size table pixels calls counts₀ sheet₀ k₀ counts sheet k = length calls - k
 
 loop-k-init : tie.Need-loop-k-init invariant-loop-k decreases-loop-k
-loop-k-init c = (omega arith, refl, c.before.before.requires, refl)
+loop-k-init c = (omega arith, refl, c.requires, refl)
 
 offset_bounds-calls-k : tie.Need-offset_bounds-calls-k invariant-loop-k decreases-loop-k
 offset_bounds-calls-k c =
     let at-start : tie.Start invariant-loop-k decreases-loop-k = search in
-    let l = c.before.loop-k-test.true in
+    let l = c.loop-k-test.true in
     let good = at-start.well_formed in
     omega arith
 
 bounds-calls-k : tie.Need-bounds-calls-k invariant-loop-k decreases-loop-k
-bounds-calls-k c = c.before.loop-k-test.true
+bounds-calls-k c = c.loop-k-test.true
 
 run_call-sheet-requires : tie.Need-run_call-sheet-requires invariant-loop-k decreases-loop-k
 run_call-sheet-requires c κs =
@@ -61,10 +61,10 @@ loop-k-preserved c =
     let s = sheet_of now.sheet now.counts in
     let call = call_of (get_or a.calls.now now.k []) in
     let inside = in-loop.loop-k-test.true in
-    let after : sheet_of c.before.before.run_call-sheet.result c.before.before.run_call-sheet.new.1.1.1.1.0 ≡ afterwards s (called (job_of l) s call) =
-    c.before.before.run_call-sheet.ensures in
+    let after : sheet_of c.run_call-sheet.result c.run_call-sheet.new.counts ≡ afterwards s (called (job_of l) s call) =
+    c.run_call-sheet.ensures in
     let ready : SheetReady l (afterwards s (called (job_of l) s call)) = ready_after l s now.invariant.2 call in
-    let again : SheetReady l (sheet_of c.before.before.run_call-sheet.result c.before.before.run_call-sheet.new.1.1.1.1.0) =
+    let again : SheetReady l (sheet_of c.run_call-sheet.result c.run_call-sheet.new.counts) =
     subst (λ (t : Sheet). SheetReady l t) (sym after) ready in (
       omega arith,
       again.full ∙ sym now.invariant.2.full ∙ now.invariant.1,
@@ -74,14 +74,14 @@ loop-k-preserved c =
     )
 
 shape_of-counts : tie.Need-shape_of-counts invariant-loop-k decreases-loop-k
-shape_of-counts c = c.before.loop-k.invariant.1
+shape_of-counts c = c.loop-k.invariant.1
 
 returns : tie.Need-returns invariant-loop-k decreases-loop-k
 returns c =
     let at-start : tie.Start invariant-loop-k decreases-loop-k = search in
     let a = at-start.args in
     let l = lent_by a.size a.table.now a.pixels.now in
-    let now = c.before.loop-k in
+    let now = c.loop-k in
     sym (calls_end (job_of l) (sheet_of now.sheet now.counts) a.calls.now now.k c.loop-k-test.false) ∙ now.invariant.3
 
 pub run_from_spec : {M : Type 1} → statement M

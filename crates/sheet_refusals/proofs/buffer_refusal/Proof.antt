@@ -1,6 +1,6 @@
 -- `buffer_refusal`: each way's tests say which cause is the first.
 -- Assumes nothing.
-use Rattle.list_laws.proofs.Kit.{◌∙◌, ◌≡◌, sym, false, true, ◌*◌, arith, rules, eq-eqb, ne_eqb, not-false, not-true}
+use Rattle.list_laws.proofs.Kit.{◌∙◌, ◌≡◌, sym, false, true, ◌*◌, arith, rules, eq-eqb, ne_eqb}
 use Rattle.model.specs.Lent.{lent_by, lent_well}
 use Rattle.job_laws.proofs.Checked.{facts}
 use Rattle.sheet_refusals.specs.Causes.{first_number}
@@ -12,12 +12,12 @@ unfolding first_number
 returns-then-not-check_job c =
     let at-start : tie.Start = search in
     let no-job : lent_well (lent_by at-start.args.size at-start.args.table.now at-start.args.pixels.now) ≡ false =
-    sym c.before.check_job.ensures ∙ not-true c.before.check_job.result c.if-not-check_job.true in
+    sym c.check_job.ensures ∙ c.if-not-check_job.true in
     rw no-job
 
 overflow_mul-size : tie.Need-overflow_mul-size
 overflow_mul-size c =
-    let well = sym c.before.before.check_job.ensures ∙ not-false c.before.before.check_job.result c.before.if-not-check_job.false in
+    let well = sym c.check_job.ensures ∙ c.if-not-check_job.false in
     let area = (facts _ well).area in
     omega arith
 
@@ -28,7 +28,7 @@ returns-then-room-size c =
     let at-start : tie.Start = search in
     let a = at-start.args in
     let well : lent_well (lent_by a.size a.table.now a.pixels.now) ≡ true =
-    sym at-check-job.check_job.ensures ∙ not-false at-check-job.check_job.result c.before.before.if-not-check_job.false in
+    sym at-check-job.check_job.ensures ∙ c.if-not-check_job.false in
     rw (well, ne_eqb a.room (a.size.rows * a.size.columns) c.if-room-size.true)
 
 returns : tie.Need-returns
@@ -38,7 +38,7 @@ returns c =
     let at-start : tie.Start = search in
     let a = at-start.args in
     let well : lent_well (lent_by a.size a.table.now a.pixels.now) ≡ true =
-    sym at-check-job.check_job.ensures ∙ not-false at-check-job.check_job.result c.before.before.if-not-check_job.false in
+    sym at-check-job.check_job.ensures ∙ c.if-not-check_job.false in
     rw (well, eq-eqb a.room (a.size.rows * a.size.columns) c.if-room-size.false)
 
 pub buffer_refusal_spec : {M : Type 1} → statement M

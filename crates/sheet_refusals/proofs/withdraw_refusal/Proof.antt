@@ -1,6 +1,6 @@
 -- `withdraw_refusal`: each way's tests say which cause is the first.
 -- Assumes nothing.
-use Rattle.list_laws.proofs.Kit.{rules, le-ltb, lt-ltb, not-false, not-true}
+use Rattle.list_laws.proofs.Kit.{rules, le-ltb, lt-ltb}
 use Rattle.model.specs.Cover.{withdraw_causes}
 use Rattle.model.specs.Lent.{job_of}
 use Rattle.sheet_refusals.specs.Causes.{first_number}
@@ -9,7 +9,7 @@ use Rattle.sheet_refusals.proofs.withdraw_refusal.Tie as tie
 
 returns-then-size-piece : tie.Need-returns-then-size-piece
 unfolding first_number withdraw_causes job_of
-returns-then-size-piece c = λ pixels counts. rw (le-ltb c.before.before.args.piece c.before.before.args.size.count c.if-size-piece.true)
+returns-then-size-piece c = λ pixels counts. rw (le-ltb c.args.piece c.args.size.count c.if-size-piece.true)
 
 returns-then-not-entry : tie.Need-returns-then-not-entry
 unfolding first_number withdraw_causes job_of
@@ -21,7 +21,7 @@ returns-then-not-entry c = λ pixels counts.
     rw (
       lt-ltb a.piece a.size.count at-else1.if-size-piece.false,
       ← at-entry-of.entry_of-entry.ensures,
-      not-true at-entry-of.entry_of-entry.result.laid c.if-not-entry.true,
+      c.if-not-entry.true,
     )
 
 returns-then-locked : tie.Need-returns-then-locked
@@ -36,7 +36,7 @@ returns-then-locked c = λ pixels counts.
     rw (
       lt-ltb a.piece a.size.count at-else1.if-size-piece.false,
       ← at-entry-of.entry_of-entry.ensures,
-      not-false at-entry-of.entry_of-entry.result.laid at-else2.if-not-entry.false,
+      at-else2.if-not-entry.false,
       ← at-is-locked.is_locked-locked.ensures,
       c.if-locked.true,
     )
@@ -53,7 +53,7 @@ returns c = λ pixels counts.
     rw (
       lt-ltb a.piece a.size.count at-else1.if-size-piece.false,
       ← at-entry-of.entry_of-entry.ensures,
-      not-false at-entry-of.entry_of-entry.result.laid at-else2.if-not-entry.false,
+      at-else2.if-not-entry.false,
       ← at-is-locked.is_locked-locked.ensures,
       c.if-locked.false,
     )

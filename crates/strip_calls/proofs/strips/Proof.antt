@@ -1,6 +1,6 @@
 -- `strip_calls::strips` meets its contract: each refusal is the call's first cause, and the stores are filled where both have room. Assumes
 -- nothing.
-use Rattle.list_laws.proofs.Kit.{◌∙◌, ◌≡◌, ap, ap₂, sym, false, true, rules, not-false, not-true}
+use Rattle.list_laws.proofs.Kit.{◌∙◌, ◌≡◌, ap, ap₂, sym, false, true, rules}
 use Rattle.model.specs.Lent.{Lent, lent_by, lent_well, job_of}
 use Rattle.model.specs.Calls.{Stores, turn_list_wrong, stores_after}
 use Rattle.job_laws.proofs.Checked.{facts}
@@ -19,20 +19,20 @@ job s = lent_by s.args.size s.args.table.now s.args.pixels.now
 
 -- the lent stores
 abbrev lent : tie.Start → Stores
-lent s = stores_by s.args.row-strips.now s.args.row-starts.now s.args.column-strips.now s.args.column-starts.now
+lent s = stores_by s.args.row_strips.now s.args.row_starts.now s.args.column_strips.now s.args.column_starts.now
 
 returns-then-not-check_job : tie.Need-returns-then-not-check_job
 returns-then-not-check_job c =
     let at-start : tie.Start = search in
     let out =
-    strips_job (job at-start) at-start.args.turns.now (lent at-start) (sym c.before.before.check_job.ensures ∙ not-true _ c.before.if-not-check_job.true) in
+    strips_job (job at-start) at-start.args.turns.now (lent at-start) (sym c.check_job.ensures ∙ c.if-not-check_job.true) in
     (c.refused.ensures ∙ ap done_answer (sym out), ap (stores_after (lent at-start)) (sym out))
 
 -- the job passes its check
 well : (c : tie.Else-not-check_job) →
     let at-start : tie.Start = search in
     lent_well (job (at-start)) ≡ true
-well c = sym c.before.check_job.ensures ∙ not-false _ c.if-not-check_job.false
+well c = sym c.check_job.ensures ∙ c.if-not-check_job.false
 
 wrong-requires : tie.Need-wrong-requires
 wrong-requires c κs =
@@ -44,7 +44,7 @@ returns-then-wrong c =
     let at-else1 : tie.Else-not-check_job = search in
     let at-start : tie.Start = search in
     let out = strips_turns (job at-start) at-start.args.turns.now (lent at-start) (well (at-else1))
-    (sym (c.before.before.wrong.ensures at-start.args.pixels.now) ∙ c.before.if-wrong.true) in
+    (sym (c.wrong.ensures at-start.args.pixels.now) ∙ c.if-wrong.true) in
     (c.refused-then-wrong.ensures ∙ ap done_answer (sym out), ap (stores_after (lent at-start)) (sym out))
 
 -- the turns are right
@@ -53,7 +53,7 @@ right : (c : tie.Else-wrong) →
     turn_list_wrong (job_of (job (at-start))) at-start.args.turns.now ≡ false
 right c =
     let at-start : tie.Start = search in
-    sym (c.before.wrong.ensures at-start.args.pixels.now) ∙ c.if-wrong.false
+    sym (c.wrong.ensures at-start.args.pixels.now) ∙ c.if-wrong.false
 
 -- strips can be made
 ready : (c : tie.Else-wrong) →
@@ -73,7 +73,7 @@ asked : (c : tie.After-both_have_room) →
 asked c =
     let at-start : tie.Start = search in
     c.both_have_room.ensures
-    ∙ ap₂ (room_for_both (job_of (job (at-start))) at-start.args.turns.now) c.before.before.room_for-rows.ensures c.before.room_for-columns.ensures
+    ∙ ap₂ (room_for_both (job_of (job (at-start))) at-start.args.turns.now) c.room_for-rows.ensures c.room_for-columns.ensures
 
 returns-then-not-both_have_room : tie.Need-returns-then-not-both_have_room
 returns-then-not-both_have_room c =
@@ -81,14 +81,14 @@ returns-then-not-both_have_room c =
     let at-else1 : tie.Else-not-check_job = search in
     let at-start : tie.Start = search in
     let out = strips_short (job at-start) at-start.args.turns.now (lent at-start) (well (at-else1)) (right (at-else2))
-    (sym (asked c.before.before) ∙ not-true _ c.before.if-not-both_have_room.true) in
+    (sym (asked c.before.before) ∙ c.if-not-both_have_room.true) in
     (c.refused-then-not-both_have_room.ensures ∙ ap done_answer (sym out), ap (stores_after (lent at-start)) (sym out))
 
 -- both stores have room
 room : (c : tie.Else-not-both_have_room) →
     let at-start : tie.Start = search in
     has_room (job_of (job (at-start))) at-start.args.turns.now (lent (at-start)) ≡ true
-room c = sym (asked c.before) ∙ not-false _ c.if-not-both_have_room.false
+room c = sym (asked c.before) ∙ c.if-not-both_have_room.false
 
 fill_both-requires : tie.Need-fill_both-requires
 fill_both-requires c κs =

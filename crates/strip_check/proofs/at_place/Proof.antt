@@ -30,7 +30,7 @@ reaching : (c : tie.After-reaches_place invariant-loop-i decreases-loop-i)
     (strip_in at-start.args.strips.now at-loop.loop-i.i)
 reaching c =
     let at-start : tie.Start invariant-loop-i decreases-loop-i = search in
-    c.reaches_place.ensures ∙ ap (reaches at-start.args.place) (read_is c.before.strip_at.ensures)
+    c.reaches_place.ensures ∙ ap (reaches at-start.args.place) (read_is c.strip_at.ensures)
 
 returns-then-reaches_place : tie.Need-returns-then-reaches_place invariant-loop-i decreases-loop-i
 returns-then-reaches_place c =
@@ -47,8 +47,8 @@ loop-i-preserved c =
 
 returns : tie.Need-returns invariant-loop-i decreases-loop-i
 returns c =
-    let a = c.before.before.args in
-    any_missed _ _ (λ i. reaches a.place (strip_in a.strips.now i)) c.loop-i-test.false c.before.loop-i.invariant.1
+    let a = c.args in
+    any_missed _ _ (λ i. reaches a.place (strip_in a.strips.now i)) c.loop-i-test.false c.loop-i.invariant.1
 
 pub at_place_spec : {M : Type 1} → statement M
 at_place_spec =

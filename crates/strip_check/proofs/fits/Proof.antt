@@ -4,7 +4,7 @@ use Rattle.strip_check.proofs.fits.Statement.{statement}
 use Rattle.strip_check.proofs.fits.Tie as tie
 
 returns-then-strip-eq0 : tie.Need-returns-then-strip-eq0
-returns-then-strip-eq0 c = let h : c.before.before.args.strip.count ≤ 0 = omega arith in simp (le-ltb 0 _ h)
+returns-then-strip-eq0 c = let h : c.args.strip.count ≤ 0 = omega arith in simp (le-ltb 0 _ h)
 
 returns-then-lines-strip : tie.Need-returns-then-lines-strip
 returns-then-lines-strip c =
@@ -16,7 +16,7 @@ returns : tie.Need-returns
 returns c =
     let at-start : tie.Start = search in
     let a = at-start.args in
-    let h : 0 < a.strip.count = omega arith in simp (lt-ltb 0 _ h, lt-ltb a.strip.line a.lines c.before.if-lines-strip.false)
+    let h : 0 < a.strip.count = omega arith in simp (lt-ltb 0 _ h, lt-ltb a.strip.line a.lines c.if-lines-strip.false)
 
 pub fits_spec : {M : Type 1} → statement M
 fits_spec = tie.close (tie.spec

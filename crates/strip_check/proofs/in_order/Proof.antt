@@ -16,7 +16,7 @@ returns c =
     let at-start : tie.Start = search in
     let a = at-start.args in
     c.stands_before.ensures
-    ∙ ap₂ stands_before (read_is c.before.before.strip_at.ensures) (read_is c.before.strip_at-2.ensures)
+    ∙ ap₂ stands_before (read_is c.strip_at.ensures) (read_is c.strip_at-2.ensures)
     ∙ simp (ne_eqb a.i 0 at-else1.if-i-eq0.false)
 
 pub in_order_spec : {M : Type 1} → statement M

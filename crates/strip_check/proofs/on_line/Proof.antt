@@ -24,20 +24,20 @@ returns-then-strip-line c =
     let in-loop : tie.In-loop-i invariant-loop-i decreases-loop-i = search in
     let at-start : tie.Start invariant-loop-i decreases-loop-i = search in
     let a = at-start.args in
-    let e = ap (λ (t : Strip). t.line) (read_is c.before.before.strip_at-strip.ensures) in
+    let e = ap (λ (t : Strip). t.line) (read_is c.strip_at-strip.ensures) in
     any_found _ _ (λ i. eqb (strip_in a.strips.now i).line a.line) in-loop.loop-i-test.true
     (eq-eqb _ _ (sym e ∙ c.if-strip-line.true))
 
 loop-i-preserved : tie.Need-loop-i-preserved invariant-loop-i decreases-loop-i
 loop-i-preserved c =
     let at-loop : tie.At-loop-i invariant-loop-i decreases-loop-i = search in
-    let e = ap (λ (t : Strip). t.line) (read_is c.before.before.strip_at-strip.ensures) in
+    let e = ap (λ (t : Strip). t.line) (read_is c.strip_at-strip.ensures) in
     (omega arith, below_more _ _ at-loop.loop-i.invariant.1 (ne_eqb _ _ (λ h. c.if-strip-line.false (e ∙ h))))
 
 returns : tie.Need-returns invariant-loop-i decreases-loop-i
 returns c =
-    let a = c.before.before.args in
-    any_missed _ _ (λ i. eqb (strip_in a.strips.now i).line a.line) c.loop-i-test.false c.before.loop-i.invariant.1
+    let a = c.args in
+    any_missed _ _ (λ i. eqb (strip_in a.strips.now i).line a.line) c.loop-i-test.false c.loop-i.invariant.1
 
 pub on_line_spec : {M : Type 1} → statement M
 on_line_spec = tie.close (tie.spec

@@ -7,7 +7,7 @@ returns-then-place-strip : tie.Need-returns-then-place-strip
 returns-then-place-strip c = simp (lt-leb _ _ c.if-place-strip.true)
 
 returns : tie.Need-returns
-returns c = simp (le-leb _ _ c.before.if-place-strip.false)
+returns c = simp (le-leb _ _ c.if-place-strip.false)
 
 pub reaches_place_spec : {M : Type 1} → statement M
 reaches_place_spec = tie.close (tie.spec

@@ -19,7 +19,7 @@ returns : tie.Need-returns
 returns c =
     let at-start : tie.Start = search in
     let a = at-start.args in
-    let l : a.strip.line ≤ a.next.line = c.before.before.if-next-strip.false in
+    let l : a.strip.line ≤ a.next.line = c.if-next-strip.false in
     let h : a.next.line ≤ a.strip.line = omega arith in
     let n : a.strip.line ≡ a.next.line = omega arith in
     simp (le-ltb _ _ h, eq-eqb _ _ n)

@@ -8,10 +8,10 @@ use Rattle.strip_check.proofs.strip_of.Tie as tie
 returns : tie.Need-returns
 returns c =
     let at-start : tie.Start = search in
-    let e = at-start.args.t1 in
+    let e = at-start.args.entry in
     let n : length e ≡ 3 = search rules in
-    let a = c.before.before.wide.ensures in
-    let b = c.before.wide-2.ensures in
+    let a = c.wide.ensures in
+    let b = c.wide-2.ensures in
     let d = c.wide-3.ensures in
     record {
       whole = three_numbers e n ∙ (λ i. strip_entry (record { line = sym a.0 i; first = sym b.0 i; count = sym d.0 i }));

@@ -1,5 +1,5 @@
 -- `strip_check::strips_well` meets its contract: valid strips are a piece's exactly where they reach the outer lines. Assumes nothing.
-use Rattle.list_laws.proofs.Kit.{◌∙◌, ◌≡◌, sym, Bool, ◌&&◌, true, ◌-◌, arith, eqb, length, rules, not-false, not-true}
+use Rattle.list_laws.proofs.Kit.{◌∙◌, ◌≡◌, sym, Bool, ◌&&◌, true, ◌-◌, arith, eqb, length, rules}
 use Rattle.model.specs.Bounded.{any_below}
 use Rattle.model.specs.Piece.{other}
 use Rattle.model.specs.Calls.{strips_well}
@@ -14,9 +14,9 @@ returns-then-not-valid c =
     let at-line-length : tie.After-line_length-length = search in
     let at-start : tie.Start = search in
     let a = at-start.args in
-    not_well_here a.direction a.columns a.rows a.strips.now at-line-length.line_length-length.result c.before.before.line_count-lines.result
-    at-line-length.line_length-length.ensures c.before.before.line_count-lines.ensures
-    (sym (not-true _ c.if-not-valid.true) ∙ c.before.valid.ensures.0)
+    not_well_here a.direction a.columns a.rows a.strips.now at-line-length.line_length-length.result c.line_count-lines.result
+    at-line-length.line_length-length.ensures c.line_count-lines.ensures
+    (sym c.if-not-valid.true ∙ c.valid.ensures.0)
 
 -- the strips are valid: they are a piece's exactly where they reach the outer lines
 passed : (c : tie.Else-not-valid)
@@ -25,14 +25,14 @@ passed : (c : tie.Else-not-valid)
     let at-start : tie.Start = search in
     strips_well at-start.args.direction at-start.args.columns
     at-start.args.rows at-start.args.strips.now
-    ≡ touches at-start.args.strips.now at-line-length.line_length-length.result c.before.before.line_count-lines.result
+    ≡ touches at-start.args.strips.now at-line-length.line_length-length.result c.line_count-lines.result
 passed c =
     let at-line-length : tie.After-line_length-length = search in
     let at-start : tie.Start = search in
     let a = at-start.args in
-    let v = not-false _ c.if-not-valid.false in
-    well_here a.direction a.columns a.rows a.strips.now at-line-length.line_length-length.result c.before.before.line_count-lines.result
-    at-line-length.line_length-length.ensures c.before.before.line_count-lines.ensures (sym v ∙ c.before.valid.ensures.0) (c.before.valid.ensures.1 v)
+    let v = c.if-not-valid.false in
+    well_here a.direction a.columns a.rows a.strips.now at-line-length.line_length-length.result c.line_count-lines.result
+    at-line-length.line_length-length.ensures c.line_count-lines.ensures (sym v ∙ c.valid.ensures.0) (c.valid.ensures.1 v)
 
 -- three tests that pass leave the fourth
 three_pass : (a b d e : Bool) → a ≡ true → b ≡ true → d ≡ true → ((a && b) && (d && e)) ≡ e
@@ -41,7 +41,7 @@ three_pass a b d e p q r = rw (p, q, r)
 returns-then-not-on_line : tie.Need-returns-then-not-on_line
 returns-then-not-on_line c =
     sym (passed c.before.before
-    ∙ first_fails _ (first_fails _ (sym c.before.on_line.ensures ∙ not-true _ c.if-not-on_line.true)))
+    ∙ first_fails _ (first_fails _ (sym c.on_line.ensures ∙ c.if-not-on_line.true)))
 
 overflow_sub-lines : tie.Need-overflow_sub-lines
 overflow_sub-lines c =
@@ -60,7 +60,7 @@ returns-then-not-on_line-2 c =
     let a = at-start.args in
     sym (passed (at-else1)
     ∙ first_fails _ (second_fails (any_below (length a.strips.now) (λ i. eqb (strip_in a.strips.now i).line 0))
-    (sym c.before.on_line-2.ensures ∙ not-true _ c.if-not-on_line-2.true)))
+    (sym c.on_line-2.ensures ∙ c.if-not-on_line-2.true)))
 
 returns-then-not-at_place : tie.Need-returns-then-not-at_place
 returns-then-not-at_place c =
@@ -73,7 +73,7 @@ returns-then-not-at_place c =
     ∙ second_fails
     (any_below (length a.strips.now) (λ i. eqb (strip_in a.strips.now i).line 0)
     && any_below (length a.strips.now) (λ i. eqb (strip_in a.strips.now i).line (m - 1)))
-    (first_fails _ (sym c.before.at_place.ensures ∙ not-true _ c.if-not-at_place.true)))
+    (first_fails _ (sym c.at_place.ensures ∙ c.if-not-at_place.true)))
 
 overflow_sub-length : tie.Need-overflow_sub-length
 overflow_sub-length c =
@@ -93,9 +93,9 @@ returns c =
     let at-on-line : tie.After-on_line = search in
     let at-else1 : tie.Else-not-valid = search in
     sym (passed (at-else1)
-    ∙ three_pass _ _ _ _ (sym at-on-line.on_line.ensures ∙ not-false _ at-else2.if-not-on_line.false)
-    (sym at-on-line2.on_line-2.ensures ∙ not-false _ at-else3.if-not-on_line-2.false)
-    (sym c.before.before.at_place.ensures ∙ not-false _ c.before.if-not-at_place.false)
+    ∙ three_pass _ _ _ _ (sym at-on-line.on_line.ensures ∙ at-else2.if-not-on_line.false)
+    (sym at-on-line2.on_line-2.ensures ∙ at-else3.if-not-on_line-2.false)
+    (sym c.at_place.ensures ∙ c.if-not-at_place.false)
     ∙ sym c.at_place-2.ensures)
 
 pub strips_well_spec : {M : Type 1} → statement M

@@ -14,30 +14,30 @@ loop-k-init : tie.Need-loop-k-init invariant-loop-k decreases-loop-k
 loop-k-init c = (omega arith, fill_none _ 0)
 
 -- the buffer keeps its length
-long : (c : tie.At-loop-k invariant-loop-k decreases-loop-k) → length c.loop-k.pixels ≡ length c.before.args.pixels.now
+long : (c : tie.At-loop-k invariant-loop-k decreases-loop-k) → length c.loop-k.pixels ≡ length c.args.pixels.now
 long c =
-    let p = c.before.requires in
+    let p = c.requires in
     let l = c.loop-k.invariant.0 in
     ap length c.loop-k.invariant.1 ∙ simp (length-append, length-replicate, length-drop) (omega arith)
 
 bounds-pixels-k : tie.Need-bounds-pixels-k invariant-loop-k decreases-loop-k
-bounds-pixels-k c = let e = long c.before in let p = c.before.before.requires in omega arith
+bounds-pixels-k c = let e = long c.before in let p = c.requires in omega arith
 
 overflow_add-k : tie.Need-overflow_add-k invariant-loop-k decreases-loop-k
-overflow_add-k c = let p = c.before.before.requires in omega arith
+overflow_add-k c = let p = c.requires in omega arith
 
 loop-k-preserved : tie.Need-loop-k-preserved invariant-loop-k decreases-loop-k
 loop-k-preserved c =
-    let p = c.before.before.requires in
-    (omega arith, rw c.before.loop-k.invariant.1 (fill_more c.before.loop-k.k 0 c.before.before.args.pixels.now (omega arith)))
+    let p = c.requires in
+    (omega arith, rw c.loop-k.invariant.1 (fill_more c.loop-k.k 0 c.args.pixels.now (omega arith)))
 
 shape_of-pixels : tie.Need-shape_of-pixels invariant-loop-k decreases-loop-k
 shape_of-pixels c = long c.before
 
 returns : tie.Need-returns invariant-loop-k decreases-loop-k
 returns c =
-    let e : c.before.loop-k.k ≡ c.before.before.args.area = omega arith in
-    rw e at c.before.loop-k.invariant.1
+    let e : c.loop-k.k ≡ c.args.area = omega arith in
+    rw e at c.loop-k.invariant.1
 
 pub clear_spec : {M : Type 1} → statement M
 clear_spec = tie.close (tie.spec

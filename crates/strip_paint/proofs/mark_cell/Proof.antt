@@ -6,22 +6,22 @@ use Rattle.strip_paint.proofs.mark_cell.Tie as tie
 mark-requires : tie.Need-mark-requires
 mark-requires c κs =
     let at-start : tie.Start = search in
-    rw c.before.enum_told-1.given.1 at at-start.requires
+    rw c.in-Horizontal.is at at-start.requires
 
 mark-requires-in-Vertical : tie.Need-mark-requires-in-Vertical
 mark-requires-in-Vertical c κs =
     let at-start : tie.Start = search in
-    rw c.before.enum_told-in-Vertical-1.given.1 at at-start.requires
+    rw c.in-Vertical.is at at-start.requires
 
 returns-in-Horizontal : tie.Need-returns-in-Horizontal
 returns-in-Horizontal c =
     let at-enum-told : tie.In-Horizontal = search in
-    rw at-enum-told.enum_told-1.given.1 c.before.before.mark.ensures
+    rw at-enum-told.in-Horizontal.is c.mark.ensures
 
 returns-in-Vertical : tie.Need-returns-in-Vertical
 returns-in-Vertical c =
     let at-enum-told2 : tie.In-Vertical = search in
-    rw at-enum-told2.enum_told-in-Vertical-1.given.1 c.before.before.mark-in-Vertical.ensures
+    rw at-enum-told2.in-Vertical.is c.mark-in-Vertical.ensures
 
 pub mark_cell_spec : {M : Type 1} → statement M
 mark_cell_spec =

@@ -17,14 +17,14 @@ decreases-loop-at pixels₀ columns rows direction strip end at₀ pixels at = e
 
 overflow_add-end : tie.Need-overflow_add-end invariant-loop-at decreases-loop-at
 overflow_add-end c =
-    let a = c.before.before.args in
-    let r = c.before.before.requires.0 in
-    let f = c.before.before.requires.1.within in
+    let a = c.args in
+    let r = c.requires.0 in
+    let f = c.requires.1.within in
     let s = side_small a.direction a.columns a.rows r.columns_small r.rows_small in
     omega arith
 
 loop-at-init : tie.Need-loop-at-init invariant-loop-at decreases-loop-at
-loop-at-init c = let a = c.before.before.args in (omega arith, omega arith, paint_start a.pixels.now (part_whole a.direction (as_strip a.strip)))
+loop-at-init c = let a = c.args in (omega arith, omega arith, paint_start a.pixels.now (part_whole a.direction (as_strip a.strip)))
 
 mark_cell-requires : tie.Need-mark_cell-requires invariant-loop-at decreases-loop-at
 mark_cell-requires c κs =
@@ -33,10 +33,10 @@ mark_cell-requires c κs =
     let r = at-start.requires.0 in
     let f = at-start.requires.1 in
     let room = r.long in
-    let long = c.before.before.loop-at.invariant.2.long in
+    let long = c.loop-at.invariant.2.long in
     let within = f.within in
     let line = f.line in
-    cell_room a.direction a.columns a.rows c.before.before.loop-at.at a.strip.line c.before.before.loop-at.pixels (omega arith)
+    cell_room a.direction a.columns a.rows c.loop-at.at a.strip.line c.loop-at.pixels (omega arith)
     (omega arith) (omega arith)
 
 overflow_add-at : tie.Need-overflow_add-at invariant-loop-at decreases-loop-at
@@ -60,17 +60,17 @@ loop-at-preserved c =
       omega arith,
       omega arith,
       paint_step (part_step a.direction (as_strip a.strip) l.at _ in-loop.loop-at-test.true)
-          c.before.before.mark_cell.ensures l.invariant.2,
+          c.mark_cell.ensures l.invariant.2,
     )
 
 shape_of-pixels : tie.Need-shape_of-pixels invariant-loop-at decreases-loop-at
-shape_of-pixels c = c.before.loop-at.invariant.2.long
+shape_of-pixels c = c.loop-at.invariant.2.long
 
 returns : tie.Need-returns invariant-loop-at decreases-loop-at
 returns c =
     let at-start : tie.Start invariant-loop-at decreases-loop-at = search in
     let a = at-start.args in
-    paint_end (part_none a.direction (as_strip a.strip) c.before.loop-at.at _ c.loop-at-test.false) c.before.loop-at.invariant.2
+    paint_end (part_none a.direction (as_strip a.strip) c.loop-at.at _ c.loop-at-test.false) c.loop-at.invariant.2
 
 pub paint_strip_spec : {M : Type 1} → statement M
 paint_strip_spec =

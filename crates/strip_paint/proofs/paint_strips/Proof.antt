@@ -22,7 +22,7 @@ loop-i-init : tie.Need-loop-i-init invariant-loop-i decreases-loop-i
 loop-i-init c = (omega arith, paint_start _ (λ p. refl))
 
 strip_at-requires : tie.Need-strip_at-requires invariant-loop-i decreases-loop-i
-strip_at-requires c κs = c.before.loop-i-test.true
+strip_at-requires c κs = c.loop-i-test.true
 
 paint_strip-requires : tie.Need-paint_strip-requires invariant-loop-i decreases-loop-i
 paint_strip-requires c κs =
@@ -32,7 +32,7 @@ paint_strip-requires c κs =
     let p = at-start.requires in (
       room_again p.0 at-loop.loop-i.invariant.1.long,
       subst (StripFits a.direction a.columns a.rows) (sym (read_is c.strip_at.ensures))
-          (p.1 at-loop.loop-i.i c.before.before.loop-i-test.true),
+          (p.1 at-loop.loop-i.i c.loop-i-test.true),
     )
 
 loop-i-preserved : tie.Need-loop-i-preserved invariant-loop-i decreases-loop-i
@@ -45,20 +45,20 @@ loop-i-preserved c =
     let l = at-loop.loop-i in (
       omega arith,
       paint_step (strips_step a.direction a.strips.now l.i in-loop.loop-i-test.true)
-          (subst (λ t. Painted a.columns (strip_has a.direction t) l.pixels c.before.before.paint_strip.new.0)
+          (subst (λ t. Painted a.columns (strip_has a.direction t) l.pixels c.paint_strip.new.pixels)
           (read_is at-strip-at.strip_at.ensures)
-          c.before.before.paint_strip.ensures)
+          c.paint_strip.ensures)
           l.invariant.1,
     )
 
 shape_of-pixels : tie.Need-shape_of-pixels invariant-loop-i decreases-loop-i
-shape_of-pixels c = c.before.loop-i.invariant.1.long
+shape_of-pixels c = c.loop-i.invariant.1.long
 
 returns : tie.Need-returns invariant-loop-i decreases-loop-i
 returns c =
     let at-start : tie.Start invariant-loop-i decreases-loop-i = search in
     let a = at-start.args in
-    paint_end (strips_none a.direction a.strips.now c.before.loop-i.i c.loop-i-test.false) c.before.loop-i.invariant.1
+    paint_end (strips_none a.direction a.strips.now c.loop-i.i c.loop-i-test.false) c.loop-i.invariant.1
 
 pub paint_strips_spec : {M : Type 1} → statement M
 paint_strips_spec =

@@ -14,7 +14,7 @@ paint_strips-requires c κs =
     let a = at-start.args in
     let p = at-start.requires in
     let v = well_valid a.direction a.columns a.rows a.strips.now p.1 in (
-      room_again p.0 at_clear.clear.auto.0,
+      room_again p.0 at_clear.clear.auto.pixels,
       λ i h. v.fits _ (strip_listed a.strips.now i h),
     )
 
@@ -26,7 +26,7 @@ returns c =
     let p = at-start.requires in
     let v = well_valid a.direction a.columns a.rows a.strips.now p.1 in
     written a.direction a.columns a.rows a.strips.now a.pixels.now _ p.0 v
-    (rw at_clear.clear.ensures at c.before.before.paint_strips.ensures)
+    (rw at_clear.clear.ensures at c.paint_strips.ensures)
 
 pub write_spec : {M : Type 1} → statement M
 write_spec = tie.close (tie.spec

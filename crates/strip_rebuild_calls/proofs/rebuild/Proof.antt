@@ -1,6 +1,6 @@
 -- `strip_rebuild_calls::rebuild` meets its contract: each refusal is the call's first cause, and nothing is written before the last of them.
 -- Assumes nothing.
-use Rattle.list_laws.proofs.Kit.{◌∙◌, ◌≡◌, ap, sym, true, ◌*◌, ◌≤◌, mul-le-mul, arith, length, rules, not-false, not-true}
+use Rattle.list_laws.proofs.Kit.{◌∙◌, ◌≡◌, ap, sym, true, ◌*◌, ◌≤◌, mul-le-mul, arith, length, rules}
 use Rattle.model.specs.Lent.{up_to}
 use Rattle.model.specs.Piece.{side_bound}
 use Rattle.model.specs.Calls.{strips_well, pixels_after}
@@ -15,7 +15,7 @@ returns-then-not-side_in_range c =
     let at-start : tie.Start = search in
     let a = at-start.args in
     let out = refused_columns a.direction a.columns a.rows a.strips.now (length a.pixels.now)
-    (sym c.before.before.side_in_range.ensures ∙ not-true _ c.before.if-not-side_in_range.true) in
+    (sym c.side_in_range.ensures ∙ c.if-not-side_in_range.true) in
     let left = ap (pixels_after a.pixels.now) (sym out) in
     (c.refused.ensures ∙ ap done_answer (sym out), (left, after_again _ _ _ _ _ _ left))
 
@@ -24,7 +24,7 @@ returns-then-not-side_in_range-2 c =
     let at-start : tie.Start = search in
     let a = at-start.args in
     let out = refused_rows a.direction a.columns a.rows a.strips.now (length a.pixels.now)
-    (sym c.before.before.side_in_range-2.ensures ∙ not-true _ c.before.if-not-side_in_range-2.true) in
+    (sym c.side_in_range-2.ensures ∙ c.if-not-side_in_range-2.true) in
     let left = ap (pixels_after a.pixels.now) (sym out) in
     (c.refused-then-not-side_in_range-2.ensures ∙ ap done_answer (sym out), (left, after_again _ _ _ _ _ _ left))
 
@@ -36,8 +36,8 @@ sides : (c : tie.Else-not-side_in_range-2)
     × (up_to side_bound at-start.args.rows ≡ true)
 sides c =
     let at-side-in-range : tie.After-side_in_range = search in (
-      sym at-side-in-range.side_in_range.ensures ∙ not-false _ c.before.before.if-not-side_in_range.false,
-      sym c.before.side_in_range-2.ensures ∙ not-false _ c.if-not-side_in_range-2.false,
+      sym at-side-in-range.side_in_range.ensures ∙ c.if-not-side_in_range.false,
+      sym c.side_in_range-2.ensures ∙ c.if-not-side_in_range-2.false,
     )
 
 strips_well-requires : tie.Need-strips_well-requires
@@ -49,7 +49,7 @@ returns-then-not-strips_well c =
     let at-start : tie.Start = search in
     let a = at-start.args in
     let out = refused_strips a.direction a.columns a.rows a.strips.now (length a.pixels.now) (sides (at-else2)).0 (sides (at-else2)).1
-    (sym c.before.before.strips_well.ensures ∙ not-true _ c.before.if-not-strips_well.true) in
+    (sym c.strips_well.ensures ∙ c.if-not-strips_well.true) in
     let left = ap (pixels_after a.pixels.now) (sym out) in
     (c.refused-then-not-strips_well.ensures ∙ ap done_answer (sym out), (left, after_again _ _ _ _ _ _ left))
 
@@ -59,7 +59,7 @@ well : (c : tie.Else-not-strips_well)
     let at-start : tie.Start = search in
     strips_well at-start.args.direction at-start.args.columns
     at-start.args.rows at-start.args.strips.now ≡ true
-well c = sym c.before.strips_well.ensures ∙ not-false _ c.if-not-strips_well.false
+well c = sym c.strips_well.ensures ∙ c.if-not-strips_well.false
 
 overflow_mul-columns : tie.Need-overflow_mul-columns
 overflow_mul-columns c =
@@ -76,7 +76,7 @@ returns-then-pixels-columns c =
     let at-start : tie.Start = search in
     let a = at-start.args in
     let out = refused_room a.direction a.columns a.rows a.strips.now (length a.pixels.now) (sides (at-else2)).0 (sides (at-else2)).1
-    (well c.before.before) c.before.if-pixels-columns.true in
+    (well c.before.before) c.if-pixels-columns.true in
     let left = ap (pixels_after a.pixels.now) (sym out) in
     (c.refused-then-pixels-columns.ensures ∙ ap done_answer (sym out), (left, after_again _ _ _ _ _ _ left))
 
@@ -89,7 +89,7 @@ write-requires c κs =
         high = (side_range _ s.1).0;
         columns_small = (side_range _ s.0).1;
         rows_small = (side_range _ s.1).1;
-        long = c.before.if-pixels-columns.false;
+        long = c.if-pixels-columns.false;
       },
       well c.before.before,
     )
@@ -104,7 +104,7 @@ returns c =
     let s = sides (at-else2) in
     let out =
     given_set a.direction a.columns a.rows a.strips.now (length a.pixels.now) s.0 s.1 (well (at-else3)) at-else4.if-pixels-columns.false in
-    let left = c.before.before.write.ensures ∙ ap (pixels_after a.pixels.now) (sym out) in
+    let left = c.write.ensures ∙ ap (pixels_after a.pixels.now) (sym out) in
     (ap done_answer (sym out), (left, after_again _ _ _ _ _ _ left))
 
 pub rebuild_spec : {M : Type 1} → statement M

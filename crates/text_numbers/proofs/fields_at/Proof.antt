@@ -4,7 +4,6 @@ use Rattle.list_laws.proofs.Kit.{◌∙◌, ◌≡◌, refl, sym, [], ◌-◌, �
 use Rattle.model.specs.Text.{field, field_at, fields_at, got, wrong}
 use Rattle.list_laws.proofs.Lists.{repeat_at}
 use Rattle.text_fields.proofs.Steps.{got_of, wrong_of}
-use Rattle.text_fields.specs.declared.Number.TheVariants as number
 use Rattle.text_numbers.specs.Lines.{field_ends}
 use Rattle.text_numbers.proofs.Steps.{read_on, read_none, read_more, read_wrong, read_all, zeros_kept}
 use Rattle.text_numbers.proofs.fields_at.Statement.{statement}

@@ -2,7 +2,6 @@
 use Rattle.list_laws.proofs.Kit.{sym, ◌∙◌, arith, rules}
 use Rattle.model.specs.Text.{fields_at}
 use Rattle.list_laws.proofs.Lists.{repeat_at}
-use Rattle.list_laws.proofs.Tests.{said_no, said_yes}
 use Rattle.text_fields.proofs.Steps.{after_not, after_word}
 use Rattle.text_numbers.specs.Lines.{field_ends}
 use Rattle.text_numbers.proofs.line_at.Statement.{statement}

@@ -14,7 +14,7 @@ returns-in_default c =
     let at-turn-of : tie.After-turn_of = search in
     let at-start : tie.Start = search in
     let ks = at-start.args.t1 in
-    let none_there = unknown_none (turn_of_degrees (get_or ks 1 0)) (sym c.before.enum_told-in_default-1.given.1 ∙ at-turn-of.turn_of.ensures) in
+    let none_there = unknown_none (turn_of_degrees (get_or ks 1 0)) (sym c.in_default.is ∙ at-turn-of.turn_of.ensures) in
     c.stray_entry-in_default.ensures ∙ sym (turn_wrong ks (omega arith) none_there)
 
 returns : tie.Need-returns
@@ -22,7 +22,7 @@ returns c =
     let at-turn-of : tie.After-turn_of = search in
     let at-start : tie.Start = search in
     let ks = at-start.args.t1 in
-    let there = known_some (turn_of_degrees (get_or ks 1 0)) _ (sym c.before.enum_told-1.given.1 ∙ at-turn-of.turn_of.ensures) in
+    let there = known_some (turn_of_degrees (get_or ks 1 0)) _ (sym c.in-Known.is ∙ at-turn-of.turn_of.ensures) in
     rw c.placement_of-place.ensures (sym (numbers_right ks _ (omega arith) there))
 
 pub entry_of_spec : {M : Type 1} → statement M

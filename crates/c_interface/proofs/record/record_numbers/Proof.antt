@@ -15,7 +15,7 @@ decreases-loop-piece pieces numbers₀ piece₀ numbers piece = 64 - piece
 loop-piece-init : tie.Need-loop-piece-init invariant-loop-piece decreases-loop-piece
 loop-piece-init c =
     let pieces = c.before.args.sheet.pieces in
-    let many : length pieces ≡ 64 = sym (length-map pieces _) ∙ c.before.well-formed.0.1.1.0.1.0.1 in
+    let many : length pieces ≡ 64 = sym (length-map pieces _) ∙ c.before.well_formed.0.1.1.0.1.0.1 in
     (omega arith, mapped_begin entry_numbers pieces _ (sym many))
 
 bounds-pieces-piece : tie.Need-bounds-pieces-piece invariant-loop-piece decreases-loop-piece

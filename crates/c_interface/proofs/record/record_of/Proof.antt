@@ -13,7 +13,7 @@ decreases-loop-i numbers pieces₀ i₀ pieces i = 64 - i
 
 loop-i-init : tie.Need-loop-i-init invariant-loop-i decreases-loop-i
 loop-i-init c =
-    let many : length c.before.args.t1 ≡ 64 = c.before.well-formed.0.1.0.1 in
+    let many : length c.before.args.t1 ≡ 64 = c.before.well_formed.0.1.0.1 in
     (omega arith, mapped_begin entry_of_numbers c.before.args.t1 _ (sym many))
 
 bounds-numbers-i : tie.Need-bounds-numbers-i invariant-loop-i decreases-loop-i

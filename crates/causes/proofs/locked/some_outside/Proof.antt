@@ -38,7 +38,7 @@ returns-then-outside c = λ pixels.
     let at-start : tie.Start invariant-loop-i decreases-loop-i = search in
     let a = at-start.args in
     sym (any_from a.size.count at-loop.loop-i.i (Wrong a.size a.table.now pixels a.layout.now) (omega arith)
-    (sym (c.before.outside.ensures pixels) ∙ c.if-outside.true))
+    (sym (c.outside.ensures pixels) ∙ c.if-outside.true))
 
 overflow_add-i : tie.Need-overflow_add-i invariant-loop-i decreases-loop-i
 overflow_add-i c =
@@ -50,7 +50,7 @@ loop-i-preserved c =
     let at-loop : tie.At-loop-i invariant-loop-i decreases-loop-i = search in
     let at-start : tie.Start invariant-loop-i decreases-loop-i = search in (
       omega arith,
-      below_more _ _ at-loop.loop-i.invariant.1 (λ pixels. sym (c.before.outside.ensures pixels) ∙ c.if-outside.false),
+      below_more _ _ at-loop.loop-i.invariant.1 (λ pixels. sym (c.outside.ensures pixels) ∙ c.if-outside.false),
     )
 
 returns : tie.Need-returns invariant-loop-i decreases-loop-i
@@ -59,7 +59,7 @@ returns c = λ pixels.
     let at-start : tie.Start invariant-loop-i decreases-loop-i = search in
     let a = at-start.args in
     sym (none_any a.size.count (Wrong a.size a.table.now pixels a.layout.now)
-    (λ k l. c.before.before.loop-i.invariant.1 k (omega (arith, c.loop-i-test.false)) pixels))
+    (λ k l. c.loop-i.invariant.1 k (omega (arith, c.loop-i-test.false)) pixels))
 
 pub some_outside_spec : {M : Type 1} → statement M
 some_outside_spec = tie.close (tie.spec

@@ -40,7 +40,7 @@ returns-then-turn_wrong c =
     let at-start : tie.Start invariant-loop-i decreases-loop-i = search in
     let a = at-start.args in (
       λ pixels. sym (any_from a.size.count at-loop.loop-i.i (Wrong a.size a.table.now pixels a.layout.now) (omega arith)
-          (sym (c.before.turn_wrong.ensures.0 a.size pixels) ∙ c.if-turn_wrong.true)),
+          (sym (c.turn_wrong.ensures.0 a.size pixels) ∙ c.if-turn_wrong.true)),
       λ e. absurd (true≢false e),
     )
 
@@ -54,8 +54,8 @@ loop-i-preserved c =
     let at-loop : tie.At-loop-i invariant-loop-i decreases-loop-i = search in
     let at-start : tie.Start invariant-loop-i decreases-loop-i = search in (
       omega arith,
-      below_more _ _ at-loop.loop-i.invariant.1 (λ pixels. sym (c.before.turn_wrong.ensures.0 at-start.args.size pixels) ∙ c.if-turn_wrong.false),
-      below_more _ _ at-loop.loop-i.invariant.2 (λ pixels. c.before.turn_wrong.ensures.1 at-start.args.size pixels),
+      below_more _ _ at-loop.loop-i.invariant.1 (λ pixels. sym (c.turn_wrong.ensures.0 at-start.args.size pixels) ∙ c.if-turn_wrong.false),
+      below_more _ _ at-loop.loop-i.invariant.2 (λ pixels. c.turn_wrong.ensures.1 at-start.args.size pixels),
     )
 
 returns : tie.Need-returns invariant-loop-i decreases-loop-i

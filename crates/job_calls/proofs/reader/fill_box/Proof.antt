@@ -21,7 +21,6 @@ box_tight-requires c κs =
 returns-then-not-box_tight : tie.Need-returns-then-not-box_tight
 returns-then-not-box_tight c =
     let at-box-tight : tie.After-box_tight = search in
-    let at_next : tie.In-Next-2 = search in
     let at-fill-rows : tie.After-fill_rows = search in
     let at-start : tie.Start = search in
     let a = at-start.args in
@@ -29,9 +28,9 @@ returns-then-not-box_tight c =
     let h = a.h in
     let i : rows_at text h.columns h.rows h.next (a.line + 1) ≡ rows_at text h.columns h.rows h.next (suc a.line) =
     ap (rows_at text h.columns h.rows h.next) (add-one a.line) in
-    let next = at_next.next-1.given.0.0 in
-    let g : rows.Next next ≡ at-fill-rows.fill_rows.result = sym at_next.next-1.given.1 in
-    let t = rows_told a.area a.pixels.now at-fill-rows.fill_rows.new.1.1.1.1.1.0 next
+    let next = c.in-Next.next in
+    let g : rows.Next next ≡ at-fill-rows.fill_rows.result = sym c.in-Next.is in
+    let t = rows_told a.area a.pixels.now at-fill-rows.fill_rows.new.pixels next
     (rows_at text h.columns h.rows h.next (suc a.line)) (g ∙ at-fill-rows.fill_rows.ensures.0 ∙ ap rows_answer i)
     (subst (RowsStored _ _ _) i at-fill-rows.fill_rows.ensures.1) in
     let r = t.lines in
@@ -50,8 +49,8 @@ returns-in-Refused c =
     let h = a.h in
     let i : rows_at text h.columns h.rows h.next (a.line + 1) ≡ rows_at text h.columns h.rows h.next (suc a.line) =
     ap (rows_at text h.columns h.rows h.next) (add-one a.line) in
-    let s = c.before.r-1.given.0.0 in
-    let g : rows.Refused s ≡ at-fill-rows.fill_rows.result = sym c.before.r-1.given.1 in
+    let s = c.in-Refused.r in
+    let g : rows.Refused s ≡ at-fill-rows.fill_rows.result = sym c.in-Refused.is in
     let n = rows_denied s (rows_at text h.columns h.rows h.next (suc a.line)) (g ∙ at-fill-rows.fill_rows.ensures.0 ∙ ap rows_answer i) in
     let e = box_denied text a.line (piece_line_of h) s n in
     (sym (ap (place_answer a.area a.line) e), tt, rw e tt)
@@ -59,7 +58,6 @@ returns-in-Refused c =
 returns-else-not-box_tight : tie.Need-returns-else-not-box_tight
 returns-else-not-box_tight c =
     let at-box-tight : tie.After-box_tight = search in
-    let at_next : tie.In-Next-2 = search in
     let at-fill-rows : tie.After-fill_rows = search in
     let at-start : tie.Start = search in
     let a = at-start.args in
@@ -67,9 +65,9 @@ returns-else-not-box_tight c =
     let h = a.h in
     let i : rows_at text h.columns h.rows h.next (a.line + 1) ≡ rows_at text h.columns h.rows h.next (suc a.line) =
     ap (rows_at text h.columns h.rows h.next) (add-one a.line) in
-    let next = at_next.next-1.given.0.0 in
-    let g : rows.Next next ≡ at-fill-rows.fill_rows.result = sym at_next.next-1.given.1 in
-    let t = rows_told a.area a.pixels.now at-fill-rows.fill_rows.new.1.1.1.1.1.0 next
+    let next = c.in-Next.next in
+    let g : rows.Next next ≡ at-fill-rows.fill_rows.result = sym c.in-Next.is in
+    let t = rows_told a.area a.pixels.now at-fill-rows.fill_rows.new.pixels next
     (rows_at text h.columns h.rows h.next (suc a.line)) (g ∙ at-fill-rows.fill_rows.ensures.0 ∙ ap rows_answer i)
     (subst (RowsStored _ _ _) i at-fill-rows.fill_rows.ensures.1) in
     let r = t.lines in

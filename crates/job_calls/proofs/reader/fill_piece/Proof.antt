@@ -13,40 +13,40 @@ use Rattle.job_calls.proofs.reader.fill_piece.Statement.{statement}
 use Rattle.job_calls.proofs.reader.fill_piece.Tie as tie
 
 -- the places before a line that is read
-abbrev start : tie.In-Line-2 → tie.Start
+abbrev start : tie.In-Line → tie.Start
 start p = search
 
-abbrev asked : tie.In-Line-2 → tie.After-piece_line
-asked p = p.before.before
+abbrev asked : tie.In-Line → tie.After-piece_line
+asked p = search
 
 -- the line that is read
-said : (p : tie.In-Line-2) → piece.Line p.h-1.given.0.0 ≡ (asked p).piece_line.result
-said p = sym p.h-1.given.1
+said : (p : tie.In-Line) → piece.Line p.in-Line.h ≡ (asked p).piece_line.result
+said p = sym p.in-Line.is
 
 -- its numbers are in range
-ranged : (p : tie.In-Line-2) → Ranged (start p).args.at.area (piece.Line p.h-1.given.0.0)
+ranged : (p : tie.In-Line) → Ranged (start p).args.at.area (piece.Line p.in-Line.h)
 ranged p = subst (Ranged (start p).args.at.area) (sym (said p)) (asked p).piece_line.ensures.2
 
 -- its sides are
-sided : (p : tie.In-Line-2) → Side p.h-1.given.0.0.columns × Side p.h-1.given.0.0.rows
-sided p = let h = p.h-1.given.0.0 in sides_of_lem h.columns h.rows h.turns (ranged p).0
+sided : (p : tie.In-Line) → Side p.in-Line.h.columns × Side p.in-Line.h.rows
+sided p = let h = p.in-Line.h in sides_of_lem h.columns h.rows h.turns (ranged p).0
 
 -- and it ends in the text
-onward : (p : tie.In-Line-2) → p.h-1.given.0.0.next ≤ length (start p).args.text.now
+onward : (p : tie.In-Line) → p.in-Line.h.next ≤ length (start p).args.text.now
 onward p =
     subst (λ (r : PieceLineAnswer). piece_next r ≤ length (start p).args.text.now) (sym (said p)) (asked p).piece_line.ensures.1
 
 piece_entry-requires : tie.Need-piece_entry-requires
 piece_entry-requires c κs =
-    let p : tie.In-Line-2 = search in
-    let h = p.h-1.given.0.0 in
+    let p : tie.In-Line = search in
+    let h = p.in-Line.h in
     let o = few_turns h.columns h.rows h.turns (ranged p).0 in
     let k = (ranged p).1 in
     ((sided p).0.high, (sided p).1.high, omega arith, omega arith)
 
 fill_box-requires : tie.Need-fill_box-requires
 fill_box-requires c κs =
-    let p : tie.In-Line-2 = search in
+    let p : tie.In-Line = search in
     (onward p, (sided p).0, (sided p).1, (ranged p).2, (start p).requires.2)
 
 returns-in-Refused : tie.Need-returns-in-Refused
@@ -55,21 +55,21 @@ returns-in-Refused c =
     let asked : tie.After-piece_line = search in
     let a = at-start.args in
     let text = a.text.now in
-    let s = c.before.r-1.given.0.0 in
-    let g : piece.Refused s ≡ asked.piece_line.result = sym c.before.r-1.given.1 in
+    let s = c.in-Refused.r in
+    let g : piece.Refused s ≡ asked.piece_line.result = sym c.in-Refused.is in
     let e = piece_denied text (job_line_of a.j) a.i a.at.area a.at.next a.at.line s
     (line_denied s (piece_line text (job_line_of a.j) a.i a.at.area a.at.next a.at.line) (g ∙ asked.piece_line.ensures.0)) in
     (sym (ap (place_answer a.at.area a.at.line) e), tt, rw e tt)
 
 returns-in-Line : tie.Need-returns-in-Line
 returns-in-Line c =
-    let p : tie.In-Line-2 = search in
+    let p : tie.In-Line = search in
     let made : tie.After-piece_entry = search in
     let stored : tie.After-put_entry = search in
     let filled : tie.After-fill_box = search in
     let a = (start p).args in
     let text = a.text.now in
-    let h = p.h-1.given.0.0 in
+    let h = p.in-Line.h in
     let e = piece_boxed text (job_line_of a.j) a.i a.at.area a.at.next a.at.line (piece_line_of h)
     (line_told h (piece_line text (job_line_of a.j) a.i a.at.area a.at.next a.at.line) (said p ∙ (asked p).piece_line.ensures.0)) in
     let x = box_at text a.at.line (piece_line_of h) in

@@ -32,13 +32,13 @@ shape_of-table-in-Refused : tie.Need-shape_of-table-in-Refused invariant-loop-i 
 shape_of-table-in-Refused c =
     let at-fill-piece : tie.After-fill_piece invariant-loop-i decreases-loop-i = search in
     let at-loop : tie.At-loop-i invariant-loop-i decreases-loop-i = search in
-    at-fill-piece.fill_piece.auto.1.1.1.1.0 ∙ at-loop.loop-i.invariant.5
+    at-fill-piece.fill_piece.auto.table ∙ at-loop.loop-i.invariant.5
 
 shape_of-pixels-in-Refused : tie.Need-shape_of-pixels-in-Refused invariant-loop-i decreases-loop-i
 shape_of-pixels-in-Refused c =
     let at-fill-piece : tie.After-fill_piece invariant-loop-i decreases-loop-i = search in
     let at-loop : tie.At-loop-i invariant-loop-i decreases-loop-i = search in
-    at-fill-piece.fill_piece.auto.1.1.1.1.1.0 ∙ at-loop.loop-i.invariant.6
+    at-fill-piece.fill_piece.auto.pixels ∙ at-loop.loop-i.invariant.6
 
 returns-in-Refused : tie.Need-returns-in-Refused invariant-loop-i decreases-loop-i
 returns-in-Refused c =
@@ -49,8 +49,8 @@ returns-in-Refused c =
     let text = a.text.now in
     let j = job_line_of a.j in
     let l = at-loop.loop-i in
-    let s = c.before.r-1.given.0.0 in
-    let g : place.Refused s ≡ at-fill-piece.fill_piece.result = sym c.before.r-1.given.1 in
+    let s = c.in-Refused.r in
+    let g : place.Refused s ≡ at-fill-piece.fill_piece.result = sym c.in-Refused.is in
     let x = piece_at text j l.i l.at.area l.at.next l.at.line in
     let n : x ≡ refused s = place_denied l.at.area l.at.line s x (g ∙ at-fill-piece.fill_piece.ensures.0) in
     let e : a.j.size.count - l.i ≡ suc (a.j.size.count - (l.i + 1)) = omega arith in
@@ -67,13 +67,13 @@ loop-i-preserved c =
     let text = a.text.now in
     let j = job_line_of a.j in
     let l = at-loop.loop-i in
-    let q = c.before.place-1.given.0.0 in
-    let g : place.Read q ≡ at-fill-piece.fill_piece.result = sym c.before.place-1.given.1 in
+    let q = c.in-Read.place in
+    let g : place.Read q ≡ at-fill-piece.fill_piece.result = sym c.in-Read.is in
     let w : PlaceWithin text l.at.line (place.Read q) = subst (PlaceWithin text l.at.line) (sym g) at-fill-piece.fill_piece.ensures.1 in
     let e : a.j.size.count - l.i ≡ suc (a.j.size.count - suc l.i) = omega arith in
     let s : fill_pieces text j (a.j.size.count - l.i) l.i l.at.area l.at.next l.at.line l.table l.pixels
-    ≡ fill_pieces text j (a.j.size.count - suc l.i) (suc l.i) q.area q.next q.line at-fill-piece.fill_piece.new.1.1.1.1.0
-    at-fill-piece.fill_piece.new.1.1.1.1.1.0 =
+    ≡ fill_pieces text j (a.j.size.count - suc l.i) (suc l.i) q.area q.next q.line at-fill-piece.fill_piece.new.table
+    at-fill-piece.fill_piece.new.pixels =
     rw e (pieces_step text j (a.j.size.count - suc l.i) l.i l.at.area l.at.next l.at.line l.table l.pixels q _ _
     (g ∙ at-fill-piece.fill_piece.ensures.0) at-fill-piece.fill_piece.ensures.2) in
     let m : l.at.line ≤ 2 + 256 * l.i = l.invariant.3 in (
@@ -82,8 +82,8 @@ loop-i-preserved c =
       w.1,
       omega (arith, w.2),
       rw (add-one l.i) (sym s ∙ l.invariant.4),
-      at-fill-piece.fill_piece.auto.1.1.1.1.0 ∙ l.invariant.5,
-      at-fill-piece.fill_piece.auto.1.1.1.1.1.0 ∙ l.invariant.6,
+      at-fill-piece.fill_piece.auto.table ∙ l.invariant.5,
+      at-fill-piece.fill_piece.auto.pixels ∙ l.invariant.6,
     )
 
 refusal-requires : tie.Need-refusal-requires invariant-loop-i decreases-loop-i

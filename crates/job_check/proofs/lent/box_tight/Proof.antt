@@ -2,7 +2,6 @@
 use Rattle.list_laws.proofs.Kit.{◌∙◌, ◌≡◌, sym, false, true, ◌-◌, arith, rules}
 use Rattle.model.specs.Piece.{tight, holds}
 use Rattle.model.specs.declared.Direction.TheVariants.{Horizontal, Vertical}
-use Rattle.list_laws.proofs.Tests.{said_no, said_yes}
 use Rattle.job_check.specs.Boxes.{box_in}
 use Rattle.job_check.proofs.Boxes.{row_marks, column_marks, last_row}
 use Rattle.job_check.proofs.lent.box_tight.Statement.{statement}

@@ -3,7 +3,6 @@ use Rattle.list_laws.proofs.Kit.{◌∙◌, ◌≡◌, refl, sym, Bool, true, �
 use Rattle.model.specs.Piece.{tight}
 use Rattle.model.specs.Lent.{pixel_start, entry_area}
 use Rattle.list_laws.proofs.Searches.{not_all}
-use Rattle.list_laws.proofs.Tests.{said_no, said_yes}
 use Rattle.list_laws.proofs.Bounded.{all_from}
 use Rattle.job_check.specs.Boxes.{stored_box}
 use Rattle.job_check.proofs.lent.boxes_tight.Statement.{statement}

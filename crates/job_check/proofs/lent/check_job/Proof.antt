@@ -2,7 +2,6 @@
 -- Assumes nothing.
 use Rattle.list_laws.proofs.Kit.{◌∙◌, sym, rules, le-leb, lt-leb}
 use Rattle.model.specs.Lent.{lent_well}
-use Rattle.list_laws.proofs.Tests.{said_no, said_yes}
 use Rattle.job_check.proofs.Boxes.{table_facts}
 use Rattle.job_check.proofs.lent.check_job.Statement.{statement}
 use Rattle.job_check.proofs.lent.check_job.Tie as tie

@@ -3,7 +3,6 @@ use Rattle.list_laws.proofs.Kit.{◌∙◌, ◌≡◌, sym, true, ◌-◌, ◌<�
 use Rattle.model.specs.Lent.{entry_fits}
 use Rattle.list_laws.proofs.Searches.{not_all}
 use Rattle.list_laws.proofs.Bounded.{all_from}
-use Rattle.list_laws.proofs.Tests.{said_no, said_yes}
 use Rattle.job_check.proofs.lent.entries_fit.Statement.{statement}
 use Rattle.job_check.proofs.lent.entries_fit.Tie as tie
 

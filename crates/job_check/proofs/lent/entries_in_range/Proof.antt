@@ -2,7 +2,6 @@
 use Rattle.list_laws.proofs.Kit.{◌∙◌, ◌≡◌, sym, true, ◌-◌, ◌<◌, ◌≤◌, ℕ, arith, below_more, below_none, rules}
 use Rattle.model.specs.Lent.{entry_in_range}
 use Rattle.list_laws.proofs.Searches.{not_all}
-use Rattle.list_laws.proofs.Tests.{said_no, said_yes}
 use Rattle.list_laws.proofs.Bounded.{all_from}
 use Rattle.job_check.proofs.lent.entries_in_range.Statement.{statement}
 use Rattle.job_check.proofs.lent.entries_in_range.Tie as tie

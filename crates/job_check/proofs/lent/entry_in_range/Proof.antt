@@ -1,6 +1,5 @@
 -- `job_check::lent::entry_in_range` takes the four numbers from the table. Assumes nothing.
 use Rattle.list_laws.proofs.Kit.{sym, ◌∙◌, ◌≡◌, Bool, rules}
-use Rattle.list_laws.proofs.Tests.{said_no, said_yes}
 use Rattle.model.specs.Lent.{entry_columns, entry_rows, entry_turns, entry_in_range, sides_in_range}
 use Rattle.job_check.proofs.lent.entry_in_range.Statement.{statement}
 use Rattle.job_check.proofs.lent.entry_in_range.Tie as tie

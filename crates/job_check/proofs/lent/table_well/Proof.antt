@@ -1,6 +1,5 @@
 -- `job_check::lent::table_well` makes the tests of its definition in their order. Assumes nothing.
 use Rattle.list_laws.proofs.Kit.{◌∙◌, sym, arith, rules, le-leb, lt-leb}
-use Rattle.list_laws.proofs.Tests.{said_no, said_yes}
 use Rattle.job_laws.proofs.Ranges.{sheet_few}
 use Rattle.job_check.proofs.lent.table_well.Statement.{statement}
 use Rattle.job_check.proofs.lent.table_well.Tie as tie

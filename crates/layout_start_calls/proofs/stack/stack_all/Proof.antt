@@ -32,7 +32,7 @@ listed : (c : tie.After-i-1 invariant-loop-k decreases-loop-k)
 listed c =
     let at-loop : tie.At-loop-k invariant-loop-k decreases-loop-k = search in
     let at-start : tie.Start invariant-loop-k decreases-loop-k = search in
-    at-start.requires.1 at-loop.loop-k.k c.before.loop-k-test.true
+    at-start.requires.1 at-loop.loop-k.k c.loop-k-test.true
 
 loop-k-init : tie.Need-loop-k-init invariant-loop-k decreases-loop-k
 loop-k-init c = (omega arith, c.requires.4, omega arith, omega arith, λ pixels. refl)
@@ -57,7 +57,7 @@ room_for-pile-requires c κs =
       let e = f.entries in omega arith,
       f.rows_fit _ i,
       let r = f.few_rows in let h = l.2 in omega arith,
-      let n = at-start.requires.2 in let e = l.3 in let t = c.before.loop-k-test.true in omega arith,
+      let n = at-start.requires.2 in let e = l.3 in let t = c.loop-k-test.true in omega arith,
     )
 
 on_top-requires : tie.Need-on_top-requires invariant-loop-k decreases-loop-k
@@ -88,7 +88,7 @@ piled-pile-requires c κs =
     let at-start : tie.Start invariant-loop-k decreases-loop-k = search in
     let f = at-start.requires.0 in
     let i = listed (at_i) in
-    (let e = f.entries in omega arith, c.before.before.room_for-pile.ensures.on_top, f.few_rows)
+    (let e = f.entries in omega arith, c.room_for-pile.ensures.on_top, f.few_rows)
 
 overflow_add-k : tie.Need-overflow_add-k invariant-loop-k decreases-loop-k
 overflow_add-k c =
@@ -111,28 +111,28 @@ loop-k-preserved c =
     let long : length order ≡ a.count =
     length-take-le a.count a.order.now (let n = at-start.requires.3 in let f = at-start.requires.2 in omega arith) in (
       omega arith,
-      length-set l.layout _ c.before.entry_of.result ∙ l.invariant.1,
+      length-set l.layout _ c.entry_of.result ∙ l.invariant.1,
       top.height,
       let e = l.invariant.3 in let r = room.end in let t = top.end in omega arith,
       λ pixels.
           stack_step (job_of (lent_by a.size a.table.now pixels)) order l.k (get_or a.order.now l.k 0) (stack_of l.pile)
-          (stack_of at-room-for.room_for-pile.result) (stack_of c.piled-pile.result) c.before.entry_of.result l.layout
+          (stack_of at-room-for.room_for-pile.result) (stack_of c.piled-pile.result) c.entry_of.result l.layout
           (let t = in-loop.loop-k-test.true in omega arith) here (room.same pixels)
-          (c.before.entry_of.ensures ∙ ap entry_of (c.before.before.on_top.ensures pixels)) (top.same pixels)
+          (c.entry_of.ensures ∙ ap entry_of (c.on_top.ensures pixels)) (top.same pixels)
           ∙ l.invariant.4 pixels,
     )
 
 shape_of-layout : tie.Need-shape_of-layout invariant-loop-k decreases-loop-k
 shape_of-layout c =
     let at-start : tie.Start invariant-loop-k decreases-loop-k = search in
-    c.before.loop-k.invariant.1 ∙ sym at-start.requires.4
+    c.loop-k.invariant.1 ∙ sym at-start.requires.4
 
 returns : tie.Need-returns invariant-loop-k decreases-loop-k
 unfolding stack_entries
 returns c =
     let at-start : tie.Start invariant-loop-k decreases-loop-k = search in
     let a = at-start.args in
-    let l = c.before.loop-k in
+    let l = c.loop-k in
     let order : List ℕ = take a.count a.order.now in
     let end : drop l.k order ≡ [] =
     drop_of_length-le order {i = l.k} (let t = length-take a.count a.order.now in let h = c.loop-k-test.false in omega arith) in

@@ -1,5 +1,5 @@
 -- `layout_strips::boxes::boxes_meet` meets its contract: boxes that are farther apart than the gap along rows or columns do not conflict. Assumes nothing.
-use Rattle.list_laws.proofs.Kit.{◌∙◌, ◌≡◌, ◌&&◌, false, sym, List, ◌+◌, ℕ, ltb, rules, not-true}
+use Rattle.list_laws.proofs.Kit.{◌∙◌, ◌≡◌, ◌&&◌, false, sym, List, ◌+◌, ℕ, ltb, rules}
 use Rattle.model.specs.Piece.{corner, along, extent}
 use Rattle.model.specs.Layout.{turned_piece, pair_of, pair_conflicts}
 use Rattle.model.specs.Lent.{lent_by, job_of}
@@ -39,7 +39,7 @@ returns-then-not-spans_meet : tie.Need-returns-then-not-spans_meet
 returns-then-not-spans_meet c = λ e size pixels same.
     let one : tie.After-turned_sides-a = search in
     let two : tie.After-turned_sides-b = search in
-    let m = sym c.before.spans_meet.ensures ∙ not-true _ c.if-not-spans_meet.true in
+    let m = sym c.before.spans_meet.ensures ∙ c.if-not-spans_meet.true in
     apart two Horizontal size pixels same (rw (one.turned_sides-a.ensures.0 size pixels, two.turned_sides-b.ensures.0 size pixels) at m)
 
 spans_meet-requires-2 : tie.Need-spans_meet-requires-2

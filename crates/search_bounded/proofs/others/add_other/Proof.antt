@@ -126,7 +126,7 @@ some-place c = let o : tie.Else-high-low = search in let l = o.if-high-low.false
 -- the line has the penalties of the mover and the piece
 line : (c : tie.After-line_with-slot)
     → LineRead (job_of (lent (entry (reached c)))) (laidOut (entry (reached c))) (entry (reached c)).args.wanted.sweep.mover (entry (reached c)).args.k
-    c.line_with-slot.new.1.1.1.1.1.1.1.1.0 c.line_with-slot.result
+    c.line_with-slot.new.lines c.line_with-slot.result
 line c =
     let e = entry (reached c) in
     c.line_with-slot.ensures.0 (laidOut e) ((stood (reached c)).beside-standing.ensures e.args.pixels.now)
@@ -174,7 +174,7 @@ returns c =
     a.weights.now w.weight_between-weight.result a.sums.now _ w.weight_between-weight.ensures.0 (some-place x) y.add_reached.ensures in (
       summed_added (lent e) a.weights.now (laidOut e) a.wanted.sweep.mover a.wanted.sweep.track b.result a.wanted.bound a.k
           r.reach_of-reach.result a.sums.now e.requires.1.1.1.0 (b.ensures a.pixels.now) r.reach_of-reach.ensures e.requires.1.1.1.1.1
-          y.add_reached.new.0
+          y.add_reached.new.sums
           (part_most (lent e) a.weights.now (laidOut e) a.wanted.sweep.mover a.k e.requires.0.well e.requires.1.1.0 e.requires.1.1.1.0.piece
           e.requires.1.1.1.1.0 (others r)) part,
       x.line_with-slot.ensures.1,

@@ -6,10 +6,10 @@ use Rattle.sheet_calls.specs.Answers.{answer_by}
 use Rattle.sheet_calls.proofs.record.answer.Tie as tie
 
 returns-then-number-eq0 : tie.Need-returns-then-number-eq0
-returns-then-number-eq0 c = rw (eq-eqb c.before.args.number 0 c.if-number-eq0.true, answer_by)
+returns-then-number-eq0 c = rw (eq-eqb c.args.number 0 c.if-number-eq0.true, answer_by)
 
 returns : tie.Need-returns
-returns c = rw (ne_eqb c.before.before.args.number 0 c.before.if-number-eq0.false, answer_by, c.refused-reply.ensures)
+returns c = rw (ne_eqb c.args.number 0 c.if-number-eq0.false, answer_by, c.refused-reply.ensures)
 
 pub answer_spec : {M : Type 1} → statement M
 answer_spec = tie.close (tie.spec

@@ -1,5 +1,5 @@
 -- `strip_calls::compare::same_stores` meets its contract: one store after the other. Assumes nothing.
-use Rattle.list_laws.proofs.Kit.{◌∙◌, ap, ap₂, sym, ◌&&◌, rules, not-false, not-true}
+use Rattle.list_laws.proofs.Kit.{◌∙◌, ap, ap₂, sym, ◌&&◌, rules}
 use Rattle.model.specs.Lent.{lent_by, job_of}
 use Rattle.model.specs.Store.{store_well}
 use Rattle.model.specs.Calls.{stores_well}
@@ -14,11 +14,11 @@ returns-then-not-same_store c =
     let a = at-start.args in
     ap (λ b.
     b && store_well Vertical (job_of (lent_by a.size a.table.now a.pixels.now)) a.turns.now a.column-strips.now a.column-starts.now)
-    (sym (not-true _ c.if-not-same_store.true) ∙ c.before.same_Store.ensures)
+    (sym c.if-not-same_store.true ∙ c.same_store.ensures)
 
 returns : tie.Need-returns
 unfolding stores_well
-returns c = ap₂ ◌&&◌ (sym (not-false _ c.before.if-not-same_store.false) ∙ c.before.before.same_Store.ensures) c.same_store-2.ensures
+returns c = ap₂ ◌&&◌ (sym c.if-not-same_store.false ∙ c.same_store.ensures) c.same_store-2.ensures
 
 pub same_stores_spec : {M : Type 1} → statement M
 same_stores_spec = tie.close (tie.spec

@@ -9,7 +9,7 @@ ordered : (c : tie.Start) → get_or c.args.starts.now c.args.piece 0 ≤ get_or
 ordered c = let e : c.args.piece + 1 ≡ suc c.args.piece = omega arith in rw e c.requires.order
 
 overflow_cast-to : tie.Need-overflow_cast-to
-overflow_cast-to c = omega (arith, c.shared_slice_known-2-1.given (c.before.before.args.piece + 1))
+overflow_cast-to c = omega (arith, c.told-starts (c.args.piece + 1))
 
 slice_bounds-result-count : tie.Need-slice_bounds-result-count
 slice_bounds-result-count c = ordered c.before.before
@@ -19,9 +19,9 @@ slice_bounds-result-start c = ordered c.before.before
 
 slice_bounds-result-end : tie.Need-slice_bounds-result-end
 slice_bounds-result-end c =
-    let a = c.before.before.args in
+    let a = c.args in
     let e : a.piece + 1 ≡ suc a.piece = omega arith in
-    let h : get_or a.starts.now (a.piece + 1) 0 ≤ length a.strips.now = rw e c.before.before.requires.within in
+    let h : get_or a.starts.now (a.piece + 1) 0 ≤ length a.strips.now = rw e c.requires.within in
     h
 
 returns : tie.Need-returns

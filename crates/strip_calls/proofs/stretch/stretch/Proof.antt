@@ -13,13 +13,13 @@ job s = lent_by s.args.size s.args.table.now s.args.pixels.now
 
 -- the lent stores
 abbrev lent : tie.Start → Stores
-lent s = stores_by s.args.row-strips.now s.args.row-starts.now s.args.column-strips.now s.args.column-starts.now
+lent s = stores_by s.args.row_strips.now s.args.row_starts.now s.args.column_strips.now s.args.column_starts.now
 
 returns-then-stretch_refusal-ne0 : tie.Need-returns-then-stretch_refusal-ne0
 returns-then-stretch_refusal-ne0 c =
     let at-start : tie.Start = search in
     stretch_empty (stretch_call (job at-start) at-start.args.turns.now (lent at-start) at-start.args.piece at-start.args.direction)
-    (λ e. c.before.if-stretch_refusal-ne0.true (c.before.before.stretch_refusal.ensures ∙ e))
+    (λ e. c.if-stretch_refusal-ne0.true (c.stretch_refusal.ensures ∙ e))
 
 -- no number is told
 passed : (c : tie.Else-stretch_refusal-ne0) →
@@ -28,7 +28,7 @@ passed : (c : tie.Else-stretch_refusal-ne0) →
 passed c =
     let at-start : tie.Start = search in
     stretch_passed (job at-start) at-start.args.turns.now (lent at-start) at-start.args.piece at-start.args.direction
-    (sym c.before.stretch_refusal.ensures ∙ c.if-stretch_refusal-ne0.false)
+    (sym c.stretch_refusal.ensures ∙ c.if-stretch_refusal-ne0.false)
 
 part-requires : tie.Need-part-requires
 part-requires c κs = (passed c.before.before).rows
@@ -40,14 +40,14 @@ returns-in-Horizontal : tie.Need-returns-in-Horizontal
 returns-in-Horizontal c =
     let at-else1 : tie.Else-stretch_refusal-ne0 = search in
     let at-start : tie.Start = search in
-    c.part.ensures ∙ ap (λ d. stretch_of d (lent at-start) at-start.args.piece) (sym c.before.enum_told-1.given.1)
+    c.part.ensures ∙ ap (λ d. stretch_of d (lent at-start) at-start.args.piece) (sym c.in-Horizontal.is)
     ∙ ap stretch_given (sym (passed (at-else1)).gives)
 
 returns-in-Vertical : tie.Need-returns-in-Vertical
 returns-in-Vertical c =
     let at-else1 : tie.Else-stretch_refusal-ne0 = search in
     let at-start : tie.Start = search in
-    c.part-in-Vertical.ensures ∙ ap (λ d. stretch_of d (lent at-start) at-start.args.piece) (sym c.before.enum_told-in-Vertical-1.given.1)
+    c.part-in-Vertical.ensures ∙ ap (λ d. stretch_of d (lent at-start) at-start.args.piece) (sym c.in-Vertical.is)
     ∙ ap stretch_given (sym (passed (at-else1)).gives)
 
 pub stretch_spec : {M : Type 1} → statement M

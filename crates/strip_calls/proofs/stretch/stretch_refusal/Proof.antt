@@ -1,5 +1,5 @@
 -- `strip_calls::stretch::stretch_refusal` meets its contract: each number is that of the call's first cause. Assumes nothing.
-use Rattle.list_laws.proofs.Kit.{◌∙◌, ◌≡◌, ap, sym, false, true, rules, not-false, not-true}
+use Rattle.list_laws.proofs.Kit.{◌∙◌, ◌≡◌, ap, sym, false, true, rules}
 use Rattle.model.specs.Lent.{Lent, lent_by, lent_well, job_of}
 use Rattle.model.specs.Calls.{Stores, turn_list_wrong, stretch_number}
 use Rattle.job_laws.proofs.Checked.{facts}
@@ -15,20 +15,20 @@ job s = lent_by s.args.size s.args.table.now s.args.pixels.now
 
 -- the lent stores
 abbrev lent : tie.Start → Stores
-lent s = stores_by s.args.row-strips.now s.args.row-starts.now s.args.column-strips.now s.args.column-starts.now
+lent s = stores_by s.args.row_strips.now s.args.row_starts.now s.args.column_strips.now s.args.column_starts.now
 
 returns-then-not-check_job : tie.Need-returns-then-not-check_job
 returns-then-not-check_job c =
     let at-start : tie.Start = search in
     ap stretch_number
     (sym (stretch_job (job at-start) at-start.args.turns.now (lent at-start) at-start.args.piece at-start.args.direction
-    (sym c.before.check_job.ensures ∙ not-true _ c.if-not-check_job.true)))
+    (sym c.check_job.ensures ∙ c.if-not-check_job.true)))
 
 -- the job passes its check
 well : (c : tie.Else-not-check_job) →
     let at-start : tie.Start = search in
     lent_well (job (at-start)) ≡ true
-well c = sym c.before.check_job.ensures ∙ not-false _ c.if-not-check_job.false
+well c = sym c.check_job.ensures ∙ c.if-not-check_job.false
 
 wrong-requires : tie.Need-wrong-requires
 wrong-requires c κs =
@@ -40,7 +40,7 @@ returns-then-wrong c =
     let at-start : tie.Start = search in
     ap stretch_number
     (sym (stretch_turns (job at-start) at-start.args.turns.now (lent at-start) at-start.args.piece at-start.args.direction
-    (well c.before.before) (sym (c.before.wrong.ensures at-start.args.pixels.now) ∙ c.if-wrong.true)))
+    (well c.before.before) (sym (c.wrong.ensures at-start.args.pixels.now) ∙ c.if-wrong.true)))
 
 -- the turns are right
 right : (c : tie.Else-wrong) →
@@ -48,7 +48,7 @@ right : (c : tie.Else-wrong) →
     turn_list_wrong (job_of (job (at-start))) at-start.args.turns.now ≡ false
 right c =
     let at-start : tie.Start = search in
-    sym (c.before.wrong.ensures at-start.args.pixels.now) ∙ c.if-wrong.false
+    sym (c.wrong.ensures at-start.args.pixels.now) ∙ c.if-wrong.false
 
 returns-then-size-piece : tie.Need-returns-then-size-piece
 returns-then-size-piece c =
@@ -71,7 +71,7 @@ returns-then-not-same_stores c =
     let at-start : tie.Start = search in
     ap stretch_number
     (sym (stretch_store (job at-start) at-start.args.turns.now (lent at-start) at-start.args.piece at-start.args.direction (well (at-else1))
-    (right (at-else2)) c.before.before.if-size-piece.false (sym c.before.same_stores.ensures ∙ not-true _ c.if-not-same_stores.true)))
+    (right (at-else2)) c.if-size-piece.false (sym c.same_stores.ensures ∙ c.if-not-same_stores.true)))
 
 returns : tie.Need-returns
 returns c =
@@ -80,7 +80,7 @@ returns c =
     let at-start : tie.Start = search in
     ap stretch_number
     (sym (stretch_given_lem (job at-start) at-start.args.turns.now (lent at-start) at-start.args.piece at-start.args.direction (well (at-else1))
-    (right (at-else2)) c.before.before.if-size-piece.false (sym c.before.same_stores.ensures ∙ not-false _ c.if-not-same_stores.false)))
+    (right (at-else2)) c.if-size-piece.false (sym c.same_stores.ensures ∙ c.if-not-same_stores.false)))
 
 pub stretch_refusal_spec : {M : Type 1} → statement M
 stretch_refusal_spec =

@@ -1,6 +1,5 @@
 -- `strip_calls::turns::wrong` meets its contract. The loop's invariant: the turns passed are allowed. Assumes nothing.
 use Rattle.list_laws.proofs.Kit.{◌∙◌, ◌≡◌, ap, sym, ◌||◌, not, true, List, ◌-◌, ◌<◌, ◌≤◌, ℕ, arith, eqb, get_or, length, below_more, rules, eq-eqb, ne_eqb}
-use Rattle.list_laws.proofs.Kit.{not-false, not-true}
 use Rattle.model.specs.Bounded.{any_below}
 use Rattle.model.specs.Lent.{lent_by, job_of}
 use Rattle.model.specs.Calls.{allowed_degrees, turn_list_wrong}
@@ -50,7 +49,7 @@ returns-then-not-allowed_degrees c = λ pixels.
     let a = at-start.args in
     let e : eqb (length a.turns.now) a.size.count ≡ true = eq-eqb _ _ at-else1.if-turns-size.false in
     one_fails a.size.count at-loop.loop-i.i (λ k. allowed_degrees (job_of (lent_by a.size a.table.now pixels)) k (get_or a.turns.now k 0))
-    at-then2.loop-i-test.true (sym (c.before.allowed_degrees.ensures a.size pixels) ∙ not-true _ c.if-not-allowed_degrees.true)
+    at-then2.loop-i-test.true (sym (c.allowed_degrees.ensures a.size pixels) ∙ c.if-not-allowed_degrees.true)
     ∙ ap (λ b. not b || any_below a.size.count (λ k. not (allowed_degrees (job_of (lent_by a.size a.table.now pixels)) k (get_or a.turns.now k 0))))
     (sym e)
 
@@ -71,7 +70,7 @@ loop-i-preserved c =
     let at-start : tie.Start invariant-loop-i decreases-loop-i = search in
     let t = at-then2.loop-i-test.true in (
       omega arith,
-      below_more _ _ at-loop.loop-i.invariant.1 (λ pixels. sym (c.before.allowed_degrees.ensures at-start.args.size pixels) ∙ not-false _ c.if-not-allowed_degrees.false),
+      below_more _ _ at-loop.loop-i.invariant.1 (λ pixels. sym (c.allowed_degrees.ensures at-start.args.size pixels) ∙ c.if-not-allowed_degrees.false),
     )
 
 returns : tie.Need-returns invariant-loop-i decreases-loop-i
@@ -81,9 +80,9 @@ returns c = λ pixels.
     let at-start : tie.Start invariant-loop-i decreases-loop-i = search in
     let a = at-start.args in
     let e : eqb (length a.turns.now) a.size.count ≡ true = eq-eqb _ _ at-else1.if-turns-size.false in
-    none_fails a.size.count c.before.before.loop-i.i
+    none_fails a.size.count c.loop-i.i
     (λ k. allowed_degrees (job_of (lent_by a.size a.table.now pixels)) k (get_or a.turns.now k 0)) c.loop-i-test.false
-    (λ k l. c.before.before.loop-i.invariant.1 k l pixels)
+    (λ k l. c.loop-i.invariant.1 k l pixels)
     ∙ ap (λ b. not b || any_below a.size.count (λ k. not (allowed_degrees (job_of (lent_by a.size a.table.now pixels)) k (get_or a.turns.now k 0))))
     (sym e)
 

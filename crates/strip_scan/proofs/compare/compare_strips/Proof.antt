@@ -1,6 +1,6 @@
 -- `strip_scan::compare::compare_strips` meets its contract. The loop's invariant: comparing the strips from the present cell on decides
 -- it. Assumes nothing.
-use Rattle.list_laws.proofs.Kit.{◌∙◌, ap, subst, sym, ◌^◌, ◌≤◌, arith, length, rules, not-false, not-true}
+use Rattle.list_laws.proofs.Kit.{◌∙◌, ap, subst, sym, ◌^◌, ◌≤◌, arith, length, rules}
 use Rattle.model.specs.Strip.{strips}
 use Rattle.piece_pixels.specs.Turned.{shown_by}
 use Rattle.strip_scan.specs.Scan.{turned_side, strips_at, NextIs, NextStripIs}
@@ -22,7 +22,7 @@ loop-found-init : tie.Need-loop-found-init invariant-loop-found decreases-loop-f
 loop-found-init c = (omega arith, compare_start _ _ (all_strips _ _))
 
 next_strip-requires : tie.Need-next_strip-requires invariant-loop-found decreases-loop-found
-next_strip-requires c κs = (c.before.before.requires.0, c.loop-found.invariant.0)
+next_strip-requires c κs = (c.requires.0, c.loop-found.invariant.0)
 
 returns-in-Done : tie.Need-returns-in-Done invariant-loop-found decreases-loop-found
 returns-in-Done c =
@@ -31,29 +31,29 @@ returns-in-Done c =
     let a = at-start.args in
     let l = at-loop.loop-found in
     compare_end
-    (subst (NextIs a.direction a.pixels.now a.piece l.line l.along) c.enum_told-1.given.1 c.before.before.next_strip.ensures)
+    (subst (NextIs a.direction a.pixels.now a.piece l.line l.along) c.in-Done.is c.next_strip.ensures)
     l.invariant.1
 
 -- the strip that was found is the next one
-found-next : (c : tie.In-Found-2 invariant-loop-found decreases-loop-found)
+found-next : (c : tie.In-Found invariant-loop-found decreases-loop-found)
     →
     let at-loop : tie.At-loop-found invariant-loop-found decreases-loop-found = search in
     let at-start : tie.Start invariant-loop-found decreases-loop-found = search in
     NextStripIs at-start.args.direction (shown_by at-start.args.pixels.now at-start.args.piece)
     at-loop.loop-found.line at-loop.loop-found.along
-    (record { line = c.found-1.given.0.0; first = c.found-1.given.0.1.0; count = c.found-1.given.0.1.1.0 })
+    (record { line = c.in-Found.found; first = c.in-Found.first; count = c.in-Found.count })
 found-next c =
     let at-loop : tie.At-loop-found invariant-loop-found decreases-loop-found = search in
     let at-start : tie.Start invariant-loop-found decreases-loop-found = search in
     let a = at-start.args in
     let l = at-loop.loop-found in
-    subst (NextIs a.direction a.pixels.now a.piece l.line l.along) c.found-1.given.1 c.before.before.next_strip.ensures
+    subst (NextIs a.direction a.pixels.now a.piece l.line l.along) c.in-Found.is c.next_strip.ensures
 
 returns-then-not-stands_at : tie.Need-returns-then-not-stands_at invariant-loop-found decreases-loop-found
 returns-then-not-stands_at c =
-    let at-found : tie.In-Found-2 invariant-loop-found decreases-loop-found = search in
+    let at-found : tie.In-Found invariant-loop-found decreases-loop-found = search in
     let at-loop : tie.At-loop-found invariant-loop-found decreases-loop-found = search in
-    compare_unlike (found-next (at-found)).next (sym c.before.stands_at.ensures ∙ not-true _ c.if-not-stands_at.true)
+    compare_unlike (found-next (at-found)).next (sym c.stands_at.ensures ∙ c.if-not-stands_at.true)
     at-loop.loop-found.invariant.1
 
 overflow_add-at : tie.Need-overflow_add-at invariant-loop-found decreases-loop-found
@@ -69,7 +69,7 @@ overflow_add-at c =
 
 overflow_add-along : tie.Need-overflow_add-along invariant-loop-found decreases-loop-found
 overflow_add-along c =
-    let at-found : tie.In-Found-2 invariant-loop-found decreases-loop-found = search in
+    let at-found : tie.In-Found invariant-loop-found decreases-loop-found = search in
     let at-start : tie.Start invariant-loop-found decreases-loop-found = search in
     let a = at-start.args in
     let p = at-start.requires.0 in
@@ -80,12 +80,12 @@ overflow_add-along c =
 
 loop-found-smaller : tie.Need-loop-found-smaller invariant-loop-found decreases-loop-found
 loop-found-smaller c =
-    let at-found : tie.In-Found-2 invariant-loop-found decreases-loop-found = search in
+    let at-found : tie.In-Found invariant-loop-found decreases-loop-found = search in
     let n = ap length (found-next (at-found)).next in omega arith
 
 loop-found-preserved : tie.Need-loop-found-preserved invariant-loop-found decreases-loop-found
 loop-found-preserved c =
-    let at-found : tie.In-Found-2 invariant-loop-found decreases-loop-found = search in
+    let at-found : tie.In-Found invariant-loop-found decreases-loop-found = search in
     let at-loop : tie.At-loop-found invariant-loop-found decreases-loop-found = search in
     let at-start : tie.Start invariant-loop-found decreases-loop-found = search in
     let a = at-start.args in
@@ -93,7 +93,7 @@ loop-found-preserved c =
     let w = n.within in
     let u = side_of_lem a.direction a.pixels.now a.piece in (
       omega arith,
-      compare_step n.next (sym c.before.stands_at.ensures ∙ not-false _ c.if-not-stands_at.false) at-loop.loop-found.invariant.1,
+      compare_step n.next (sym c.stands_at.ensures ∙ c.if-not-stands_at.false) at-loop.loop-found.invariant.1,
     )
 
 pub compare_strips_spec : {M : Type 1} → statement M

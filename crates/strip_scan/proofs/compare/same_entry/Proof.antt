@@ -12,20 +12,20 @@ third_left a b false e f = rw (e, f)
 returns-then-entry-line : tie.Need-returns-then-entry-line
 returns-then-entry-line c =
     let a = c.before.args in
-    let n : length a.t1 ≡ 3 = search rules in
-    sym (same_three a.t1 a.line a.first a.count n ∙ simp (ne_eqb _ _ c.if-entry-line.true))
+    let n : length a.entry ≡ 3 = search rules in
+    sym (same_three a.entry a.line a.first a.count n ∙ simp (ne_eqb _ _ c.if-entry-line.true))
 
 returns-then-entry-first : tie.Need-returns-then-entry-first
 returns-then-entry-first c =
     let a = c.before.before.args in
-    let n : length a.t1 ≡ 3 = search rules in
-    sym (same_three a.t1 a.line a.first a.count n ∙ simp (eq-eqb _ _ c.before.if-entry-line.false, ne_eqb _ _ c.if-entry-first.true))
+    let n : length a.entry ≡ 3 = search rules in
+    sym (same_three a.entry a.line a.first a.count n ∙ simp (eq-eqb _ _ c.before.if-entry-line.false, ne_eqb _ _ c.if-entry-first.true))
 
 returns : tie.Need-returns
 returns c =
     let a = c.before.before.args in
-    let n : length a.t1 ≡ 3 = search rules in
-    sym (same_three a.t1 a.line a.first a.count n ∙ third_left _ _ _ (eq-eqb _ _ c.before.if-entry-line.false) (eq-eqb _ _ c.if-entry-first.false))
+    let n : length a.entry ≡ 3 = search rules in
+    sym (same_three a.entry a.line a.first a.count n ∙ third_left _ _ _ (eq-eqb _ _ c.before.if-entry-line.false) (eq-eqb _ _ c.if-entry-first.false))
 
 pub same_entry_spec : {M : Type 1} → statement M
 same_entry_spec =

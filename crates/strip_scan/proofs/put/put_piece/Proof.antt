@@ -9,14 +9,14 @@ use Rattle.strip_scan.proofs.put.put_piece.Statement.{statement}
 use Rattle.strip_scan.proofs.put.put_piece.Tie as tie
 
 turned_piece-requires : tie.Need-turned_piece-requires
-turned_piece-requires c κs = c.before.requires.0.within
+turned_piece-requires c κs = c.requires.0.within
 
 put_strips-requires : tie.Need-put_strips-requires
 put_strips-requires c κs =
     let at-start : tie.Start = search in
     let a = at-start.args in
     let p = at-start.requires in
-    (rw c.before.turned_piece.ensures (made_small a.table.now a.piece a.start a.turn p.0), p.1)
+    (rw c.turned_piece.ensures (made_small a.table.now a.piece a.start a.turn p.0), p.1)
 
 returns : tie.Need-returns
 returns c = λ size.
@@ -24,10 +24,10 @@ returns c = λ size.
     let at-start : tie.Start = search in
     let a = at-start.args in
     let p = at-start.requires in
-    subst (λ s. Appended (strips a.direction s) a.store.now a.at c.before.put_strips.new.1.1.1.0 c.before.put_strips.result)
+    subst (λ s. Appended (strips a.direction s) a.store.now a.at c.put_strips.new.store c.put_strips.result)
     (ap (shown_by a.pixels.now) at-turned-piece.turned_piece.ensures
     ∙ shown_piece size a.table.now a.pixels.now a.piece a.start a.turn p.0.begins)
-    c.before.put_strips.ensures
+    c.put_strips.ensures
 
 pub put_piece_spec : {M : Type 1} → statement M
 put_piece_spec = tie.close (tie.spec

@@ -23,7 +23,7 @@ loop-found-init : tie.Need-loop-found-init invariant-loop-found decreases-loop-f
 loop-found-init c = (omega arith, append_start _ _ (all_strips _ _))
 
 next_strip-requires : tie.Need-next_strip-requires invariant-loop-found decreases-loop-found
-next_strip-requires c κs = (c.before.before.requires.0, c.loop-found.invariant.0)
+next_strip-requires c κs = (c.requires.0, c.loop-found.invariant.0)
 
 shape_of-store-in-Done : tie.Need-shape_of-store-in-Done invariant-loop-found decreases-loop-found
 shape_of-store-in-Done c =
@@ -37,30 +37,31 @@ returns-in-Done c =
     let a = at-start.args in
     let l = at-loop.loop-found in
     append_end
-    (subst (NextIs a.direction a.pixels.now a.piece l.line l.along) c.enum_told-1.given.1 c.before.before.next_strip.ensures)
+    (subst (NextIs a.direction a.pixels.now a.piece l.line l.along) c.in-Done.is c.next_strip.ensures)
     l.invariant.1
 
 -- the strip that was found is the next one
-found-next : (c : tie.In-Found-2 invariant-loop-found decreases-loop-found)
+found-next : (c : tie.In-Found invariant-loop-found decreases-loop-found)
     →
     let at-loop : tie.At-loop-found invariant-loop-found decreases-loop-found = search in
     let at-start : tie.Start invariant-loop-found decreases-loop-found = search in
     NextStripIs at-start.args.direction (shown_by at-start.args.pixels.now at-start.args.piece)
     at-loop.loop-found.line at-loop.loop-found.along
-    (record { line = c.found-1.given.0.0; first = c.found-1.given.0.1.0; count = c.found-1.given.0.1.1.0 })
+    (record { line = c.in-Found.found; first = c.in-Found.first; count = c.in-Found.count })
 found-next c =
     let at-loop : tie.At-loop-found invariant-loop-found decreases-loop-found = search in
     let at-start : tie.Start invariant-loop-found decreases-loop-found = search in
     let a = at-start.args in
     let l = at-loop.loop-found in
-    subst (NextIs a.direction a.pixels.now a.piece l.line l.along) c.found-1.given.1 c.before.before.next_strip.ensures
+    subst (NextIs a.direction a.pixels.now a.piece l.line l.along) c.in-Found.is c.next_strip.ensures
 
 put-requires : tie.Need-put-requires invariant-loop-found decreases-loop-found
 put-requires c κs =
     let at-start : tie.Start invariant-loop-found decreases-loop-found = search in
     let a = at-start.args in
     let p = at-start.requires.0 in
-    let n = found-next c.before.before in
+    let at-found : tie.In-Found invariant-loop-found decreases-loop-found = search in
+    let n = found-next at-found in
     let w = n.within in
     let l = n.line in
     let u = side_of_lem a.direction a.pixels.now a.piece in
@@ -82,7 +83,7 @@ overflow_add-at c =
 
 overflow_add-along : tie.Need-overflow_add-along invariant-loop-found decreases-loop-found
 overflow_add-along c =
-    let at-found : tie.In-Found-2 invariant-loop-found decreases-loop-found = search in
+    let at-found : tie.In-Found invariant-loop-found decreases-loop-found = search in
     let at-start : tie.Start invariant-loop-found decreases-loop-found = search in
     let a = at-start.args in
     let p = at-start.requires.0 in
@@ -93,19 +94,19 @@ overflow_add-along c =
 
 loop-found-smaller : tie.Need-loop-found-smaller invariant-loop-found decreases-loop-found
 loop-found-smaller c =
-    let at-found : tie.In-Found-2 invariant-loop-found decreases-loop-found = search in
+    let at-found : tie.In-Found invariant-loop-found decreases-loop-found = search in
     let n = ap length (found-next (at-found)).next in omega arith
 
 loop-found-preserved : tie.Need-loop-found-preserved invariant-loop-found decreases-loop-found
 loop-found-preserved c =
-    let at-found : tie.In-Found-2 invariant-loop-found decreases-loop-found = search in
+    let at-found : tie.In-Found invariant-loop-found decreases-loop-found = search in
     let at-loop : tie.At-loop-found invariant-loop-found decreases-loop-found = search in
     let at-start : tie.Start invariant-loop-found decreases-loop-found = search in
     let a = at-start.args in
     let n = found-next (at-found) in
     let w = n.within in
     let u = side_of_lem a.direction a.pixels.now a.piece in
-    (omega arith, rw c.before.put.ensures (append_step n.next at-loop.loop-found.invariant.1))
+    (omega arith, rw c.put.ensures (append_step n.next at-loop.loop-found.invariant.1))
 
 pub put_strips_spec : {M : Type 1} → statement M
 put_strips_spec =

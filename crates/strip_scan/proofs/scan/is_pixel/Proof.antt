@@ -6,18 +6,18 @@ use Rattle.strip_scan.proofs.scan.is_pixel.Tie as tie
 has_pixel-requires : tie.Need-has_pixel-requires
 has_pixel-requires c κs =
     let at-start : tie.Start = search in
-    (at-start.requires.0, rw c.enum_told-1.given.1 at at-start.requires.1)
+    (at-start.requires.0, rw c.in-Horizontal.is at at-start.requires.1)
 
 has_pixel-requires-in-Vertical : tie.Need-has_pixel-requires-in-Vertical
 has_pixel-requires-in-Vertical c κs =
     let at-start : tie.Start = search in
-    let h = rw c.enum_told-in-Vertical-1.given.1 at at-start.requires.1 in (at-start.requires.0, (h.1, h.0))
+    let h = rw c.in-Vertical.is at at-start.requires.1 in (at-start.requires.0, (h.1, h.0))
 
 returns-in-Horizontal : tie.Need-returns-in-Horizontal
-returns-in-Horizontal c = rw c.before.enum_told-1.given.1 c.has_pixel.ensures
+returns-in-Horizontal c = rw c.in-Horizontal.is c.has_pixel.ensures
 
 returns-in-Vertical : tie.Need-returns-in-Vertical
-returns-in-Vertical c = rw c.before.enum_told-in-Vertical-1.given.1 c.has_pixel-in-Vertical.ensures
+returns-in-Vertical c = rw c.in-Vertical.is c.has_pixel-in-Vertical.ensures
 
 pub is_pixel_spec : {M : Type 1} → statement M
 is_pixel_spec = tie.close (tie.spec

@@ -8,14 +8,14 @@ use Rattle.strip_scan.proofs.scan.line_length.Tie as tie
 returns-in-Horizontal : tie.Need-returns-in-Horizontal
 returns-in-Horizontal c =
     let at-start : tie.Start = search in
-    let e = c.before.before.sides_in-sides.ensures.0 (stored_by [] at-start.args.piece) refl refl in
-    rw c.enum_told-1.given.1 (ap (λ (s : Sides). s.columns) e)
+    let e = c.sides_in-sides.ensures.0 (stored_by [] at-start.args.piece) refl refl in
+    rw c.in-Horizontal.is (ap (λ (s : Sides). s.columns) e)
 
 returns-in-Vertical : tie.Need-returns-in-Vertical
 returns-in-Vertical c =
     let at-start : tie.Start = search in
-    let e = c.before.before.sides_in-sides.ensures.0 (stored_by [] at-start.args.piece) refl refl in
-    rw c.enum_told-in-Vertical-1.given.1 (ap (λ (s : Sides). s.rows) e)
+    let e = c.sides_in-sides.ensures.0 (stored_by [] at-start.args.piece) refl refl in
+    rw c.in-Vertical.is (ap (λ (s : Sides). s.rows) e)
 
 pub line_length_spec : {M : Type 1} → statement M
 line_length_spec = tie.close (tie.spec

@@ -1,5 +1,5 @@
 -- `strip_calls::compare::same_store` meets its contract. The loop's invariant: comparing the pieces from `i` on decides it. Assumes nothing.
-use Rattle.list_laws.proofs.Kit.{◌∙◌, sym, ◌-◌, ◌≤◌, arith, rules, not-false, not-true}
+use Rattle.list_laws.proofs.Kit.{◌∙◌, sym, ◌-◌, ◌≤◌, arith, rules}
 use Rattle.model.specs.Lent.{lent_by, job_of}
 use Rattle.job_laws.proofs.Checked.{facts, entry_at}
 use Rattle.strip_store.proofs.Filling.{store_small}
@@ -26,7 +26,7 @@ returns-then-not-starts_at : tie.Need-returns-then-not-starts_at invariant-loop-
 returns-then-not-starts_at c =
     let at-loop : tie.At-loop-i invariant-loop-i decreases-loop-i = search in
     let at-start : tie.Start invariant-loop-i decreases-loop-i = search in
-    check_start_wrong at-start.args.size.count c.before.before.loop-i-test.true (sym c.before.starts_at.ensures ∙ not-true _ c.if-not-starts_at.true)
+    check_start_wrong at-start.args.size.count c.loop-i-test.true (sym c.starts_at.ensures ∙ c.if-not-starts_at.true)
     at-loop.loop-i.invariant.1
 
 pixel_start-start-requires : tie.Need-pixel_start-start-requires invariant-loop-i decreases-loop-i
@@ -37,7 +37,7 @@ pixel_start-start-requires c κs =
     let f = facts (lent_by a.size a.table.now a.pixels.now) r.well in
     let n = f.entries in
     let m = f.few_pieces in
-    let t = c.before.before.loop-i-test.true in
+    let t = c.loop-i-test.true in
     omega arith
 
 offset_bounds-turns-i : tie.Need-offset_bounds-turns-i invariant-loop-i decreases-loop-i
@@ -68,7 +68,7 @@ compare_piece-requires c κs =
     let s = store_small a.direction (lent_by a.size a.table.now a.pixels.now) a.turns.now r.well in
     let n = at-loop.loop-i.invariant.1.counted in
     let l = lent_by a.size a.table.now a.pixels.now in
-    (rw c.before.before.pixel_start-start.ensures (entry_at l at-loop.loop-i.i r.well at-then1.loop-i-test.true), omega arith)
+    (rw c.pixel_start-start.ensures (entry_at l at-loop.loop-i.i r.well at-then1.loop-i-test.true), omega arith)
 
 returns-in_default : tie.Need-returns-in_default invariant-loop-i decreases-loop-i
 returns-in_default c =
@@ -79,11 +79,11 @@ returns-in_default c =
     let at-loop : tie.At-loop-i invariant-loop-i decreases-loop-i = search in
     let at-start : tie.Start invariant-loop-i decreases-loop-i = search in
     let a = at-start.args in
-    check_unlike a.size.count at-then1.loop-i-test.true (sym at-starts-at.starts_at.ensures ∙ not-false _ at-else2.if-not-starts_at.false)
+    check_unlike a.size.count at-then1.loop-i-test.true (sym at-starts-at.starts_at.ensures ∙ at-else2.if-not-starts_at.false)
     (unlike_from _ _ _
-    (sym c.enum_told-1.given.1
+    (sym c.in_default.is
     ∙ stretch_compared a.direction (job_of (lent_by a.size a.table.now a.pixels.now)) a.turns.now at-loop.loop-i.i at-loop.loop-i.at
-    a.strips.now at-turn-or-zero.turn_or_zero-turn.ensures (c.before.before.compare_piece.ensures a.size))) at-loop.loop-i.invariant.1
+    a.strips.now at-turn-or-zero.turn_or_zero-turn.ensures (c.compare_piece.ensures a.size))) at-loop.loop-i.invariant.1
 
 overflow_add-i : tie.Need-overflow_add-i invariant-loop-i decreases-loop-i
 overflow_add-i c =
@@ -114,11 +114,11 @@ loop-i-preserved c =
     let a = at-start.args in
     let t = at-then1.loop-i-test.true in
     let u = until_from _ _ _ _
-    (sym c.before.end-1.given.1
+    (sym c.in-Until.is
     ∙ stretch_compared a.direction (job_of (lent_by a.size a.table.now a.pixels.now)) a.turns.now at-loop.loop-i.i at-loop.loop-i.at
     a.strips.now at-turn-or-zero.turn_or_zero-turn.ensures (at-compare-piece.compare_piece.ensures a.size)) in (
       omega arith,
-      check_step a.size.count t (sym at-starts-at.starts_at.ensures ∙ not-false _ at-else2.if-not-starts_at.false) u.0 u.1 at-loop.loop-i.invariant.1,
+      check_step a.size.count t (sym at-starts-at.starts_at.ensures ∙ at-else2.if-not-starts_at.false) u.0 u.1 at-loop.loop-i.invariant.1,
     )
 
 returns : tie.Need-returns invariant-loop-i decreases-loop-i
@@ -126,7 +126,7 @@ returns c =
     let at-loop : tie.At-loop-i invariant-loop-i decreases-loop-i = search in
     let at-start : tie.Start invariant-loop-i decreases-loop-i = search in
     let l = at-loop.loop-i.invariant.0 in
-    let t = c.before.loop-i-test.false in
+    let t = c.loop-i-test.false in
     c.starts_at-2.ensures ∙ check_end at-start.args.size.count (omega arith) at-loop.loop-i.invariant.1
 
 pub same_store_spec : {M : Type 1} → statement M

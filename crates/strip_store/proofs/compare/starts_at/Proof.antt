@@ -4,10 +4,10 @@ use Rattle.strip_store.proofs.compare.starts_at.Statement.{statement}
 use Rattle.strip_store.proofs.compare.starts_at.Tie as tie
 
 overflow_cast-result : tie.Need-overflow_cast-result
-overflow_cast-result c = omega (arith, c.shared_slice_known-1.given c.before.before.args.i)
+overflow_cast-result c = omega (arith, c.told-starts c.args.i)
 
 returns-then-i-starts : tie.Need-returns-then-i-starts
-returns-then-i-starts c = simp (lt-ltb _ _ c.before.if-i-starts.true)
+returns-then-i-starts c = simp (lt-ltb _ _ c.if-i-starts.true)
 
 returns : tie.Need-returns
 returns c = simp (le-ltb _ _ c.if-i-starts.false)

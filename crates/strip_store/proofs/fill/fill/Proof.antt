@@ -105,7 +105,7 @@ loop-i-preserved c =
       rw at-put-start.put_start.ensures
           (fill_step a.size.count t
           (appended_piece a.direction (job_of (lent_by a.size a.table.now a.pixels.now)) a.turns.now at-loop.loop-i.i
-          at-turn-or-zero.turn_or_zero-turn.ensures (c.before.put_piece-at.ensures a.size)) at-loop.loop-i.invariant.1),
+          at-turn-or-zero.turn_or_zero-turn.ensures (c.put_piece-at.ensures a.size)) at-loop.loop-i.invariant.1),
     )
 
 put_start-requires-2 : tie.Need-put_start-requires-2 invariant-loop-i decreases-loop-i
@@ -126,7 +126,7 @@ shape_of-strips c =
 shape_of-starts : tie.Need-shape_of-starts invariant-loop-i decreases-loop-i
 shape_of-starts c =
     let at-loop : tie.At-loop-i invariant-loop-i decreases-loop-i = search in
-    c.before.before.put_start-2.auto.0 ∙ (fill_lengths at-loop.loop-i.invariant.1).1
+    c.put_start-2.auto.starts ∙ (fill_lengths at-loop.loop-i.invariant.1).1
 
 returns : tie.Need-returns invariant-loop-i decreases-loop-i
 returns c =
@@ -135,7 +135,7 @@ returns c =
     let at-start : tie.Start invariant-loop-i decreases-loop-i = search in
     let l = at-loop.loop-i.invariant.0 in
     let t = at-else1.loop-i-test.false in
-    rw c.before.before.put_start-2.ensures (fill_end at-start.args.size.count (omega arith) at-loop.loop-i.invariant.1)
+    rw c.put_start-2.ensures (fill_end at-start.args.size.count (omega arith) at-loop.loop-i.invariant.1)
 
 pub fill_spec : {M : Type 1} → statement M
 fill_spec =

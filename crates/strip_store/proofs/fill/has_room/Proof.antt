@@ -19,7 +19,7 @@ returns c =
     let at-start : tie.Start = search in
     let a = at-start.args in
     room_by_starts a.direction (job_of (lent_by a.size a.table.now a.pixels.now)) a.turns.now a.room at_fill.fill-needed.ensures.all
-    c.before.before.if-room-needed.false
+    c.if-room-needed.false
 
 pub has_room_spec : {M : Type 1} → statement M
 has_room_spec = tie.close (tie.spec

@@ -2,7 +2,6 @@
 -- of it. Assumes nothing.
 use Rattle.list_laws.proofs.Kit.{◌∙◌, ◌≡◌, ap, refl, sym, false, true, ◌*◌, ◌+◌, ◌-◌, ◌≤◌, suc, add-one, le_trans, arith, length, rules}
 use Rattle.model.specs.Text.{byte, is_digit, digits_from}
-use Rattle.list_laws.proofs.Tests.{said_no, said_yes}
 use Rattle.text_fields.specs.Answers.{digit_run}
 use Rattle.text_fields.proofs.Steps.{digit_inside, digits_more, digits_end, digits_none, largest, largest_grows, largest_above}
 use Rattle.text_fields.proofs.reading.digits_from.Statement.{statement}

@@ -1,5 +1,5 @@
 -- `text_fields::reading::field_at`: wrong where there is no number or another byte behind it.
-use Rattle.list_laws.proofs.Kit.{◌∙◌, ◌≡◌, sym, ◌≤◌, arith, length, rules}
+use Rattle.list_laws.proofs.Kit.{◌∙◌, ◌≡◌, sym, ◌≤◌, arith, length}
 use Rattle.model.specs.Text.{byte, number_at, got, wrong}
 use Rattle.text_fields.proofs.Steps.{byte_inside, got_of, wrong_of, field_none, field_wrong, field_got}
 use Rattle.text_fields.proofs.reading.field_at.Goals as goal

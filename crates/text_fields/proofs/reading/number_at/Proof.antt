@@ -1,7 +1,6 @@
 -- `text_fields::reading::number_at` makes the tests of `is_number` on the run of digits. Assumes nothing.
 use Rattle.list_laws.proofs.Kit.{◌∙◌, ◌≡◌, sym, false, true, suc, add-one, arith, rules, eq-eqb, ne_eqb}
 use Rattle.model.specs.Text.{byte, is_digit, is_number}
-use Rattle.list_laws.proofs.Tests.{said_no, said_yes}
 use Rattle.text_fields.proofs.Steps.{digit_inside, number_none, number_got, number_wrong}
 use Rattle.text_fields.proofs.reading.number_at.Statement.{statement}
 use Rattle.text_fields.proofs.reading.number_at.Tie as tie

@@ -1,5 +1,5 @@
 -- `text_fields::writing::put_decimal`: the digits in front are those of a tenth of the number, in one place less.
-use Rattle.list_laws.proofs.Kit.{◌∙◌, ◌≡◌, ap, [], ◌++◌, ◌∷◌, ◌%◌, ◌+◌, ◌-◌, ◌/◌, ◌<◌, suc, ℕ, arith, length, length-append, sets}
+use Rattle.list_laws.proofs.Kit.{◌∙◌, ◌≡◌, ap, [], ◌++◌, ◌∷◌, ◌%◌, ◌+◌, ◌-◌, ◌/◌, suc, ℕ, arith, length, length-append, sets}
 use Rattle.model.specs.Text.{decimal}
 use Rattle.list_laws.proofs.Stores.{sets_append}
 use Rattle.text_fields.proofs.Steps.{decimal_none, decimal_one, decimal_more, decimal_short}
