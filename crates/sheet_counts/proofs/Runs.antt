@@ -23,7 +23,8 @@ run_end change f from cs x n l =
 pub length_run : (change : Change) (f : ℕ → Bool) (from : ℕ) (cs : List ℕ) (x left : ℕ) → length (moved_run change f from cs x left) ≡ length cs
 unfolding moved_run
 length_run change f from cs x zero = refl
-length_run change f from cs x (suc left) = length_run change f from _ (suc x) left ∙ length-set cs (from + x) _
+length_run change f from cs x (suc left) =
+    length_run change f from (set cs (from + x) (moved change (f x) (get_or cs (from + x) 0))) (suc x) left ∙ length-set cs (from + x) _
 
 -- a count outside the columns that are left stays
 pub run_outside : (change : Change) (f : ℕ → Bool) (from : ℕ) (cs : List ℕ) (x left m : ℕ) → (m < from + x) ⊎ (from + x + left ≤ m)
@@ -32,7 +33,8 @@ unfolding moved_run
 run_outside change f from cs x zero m h = refl
 run_outside change f from cs x (suc left) m h =
     let apart : m ≢ from + x = ⊎_elim (λ l. omega arith) (λ l. omega arith) h in
-    run_outside change f from _ (suc x) left m (⊎_elim (λ l. inl (omega arith)) (λ l. inr (omega arith)) h)
+    run_outside change f from (set cs (from + x) (moved change (f x) (get_or cs (from + x) 0))) (suc x) left m
+    (⊎_elim (λ l. inl (omega arith)) (λ l. inr (omega arith)) h)
     ∙ get_or-set_other cs (from + x) m _ 0 apart
 
 -- the count of a column that is left moves by its pixel
@@ -42,11 +44,11 @@ unfolding moved_run
 run_inside change f from cs x zero d l h = absurd (omega arith)
 run_inside change f from cs x (suc left) zero l h =
     rw add-zero
-    (run_outside change f from _ (suc x) left (from + x) (inl (omega arith))
+    (run_outside change f from (set cs (from + x) (moved change (f x) (get_or cs (from + x) 0))) (suc x) left (from + x) (inl (omega arith))
     ∙ get_or-set_same cs (from + x) _ 0 (omega arith))
 run_inside change f from cs x (suc left) (suc d) l h =
     let shifted : x + suc d ≡ suc x + d = omega arith in
     let apart : from + (suc x + d) ≢ from + x = omega arith in
     rw shifted
-    (run_inside change f from _ (suc x) left d (omega arith) (simp length-set (omega arith))
+    (run_inside change f from (set cs (from + x) (moved change (f x) (get_or cs (from + x) 0))) (suc x) left d (omega arith) (simp length-set (omega arith))
     ∙ ap (moved change (f (suc x + d))) (get_or-set_other cs (from + x) (from + (suc x + d)) _ 0 apart))

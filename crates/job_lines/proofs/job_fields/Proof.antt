@@ -1,10 +1,9 @@
 -- `job_lines::job_fields`: the line of version 1 where it is of its form, else the line of version 2 where it is of its, and the line of
 -- version 3 else. Assumes nothing.
-use Rattle.list_laws.proofs.Kit.{◌∙◌, ◌≡◌, false, sym, true, List, ℕ, rules}
+use Rattle.list_laws.proofs.Kit.{◌∙◌, ◌≡◌, false, true, List, ℕ, rules}
 use Rattle.model.specs.Text.{Reading, three_fields, four_fields, or_else}
 use Rattle.model.specs.JobText.{JobLine, job_word, gap_word, lock_word, version_line}
 use Rattle.job_lines.specs.Lines.{job_answer, said_by, job_form}
-use Rattle.job_lines.specs.declared.JobLineAnswer.TheVariants as job
 use Rattle.job_lines.proofs.Forms.{first_said, other_said}
 use Rattle.job_lines.proofs.job_fields.Statement.{statement}
 use Rattle.job_lines.proofs.job_fields.Tie as tie
@@ -24,8 +23,7 @@ returns-in-Line c =
     let one : tie.After-version_fields = search in
     let at-start : tie.Start = search in
     let text = at-start.args.text.now in
-    let j = c.in-Line.j in
-    (
+    let j = c.in-Line.j in (
       first_said (plain text) (or_else (gapped text) (locked text)) j c.in-Line.ensures.0,
       c.in-Line.ensures.1,
     )
@@ -47,8 +45,7 @@ returns-in-Line-version_fields c =
     let two : tie.After-version_fields-in-Refused = search in
     let at-start : tie.Start = search in
     let text = at-start.args.text.now in
-    let j = c.in-Line-version_fields.j in
-    (
+    let j = c.in-Line-version_fields.j in (
       first_said (gapped text) (locked text) j c.in-Line-version_fields.ensures.0 ∙ past_first one,
       c.in-Line-version_fields.ensures.1,
     )

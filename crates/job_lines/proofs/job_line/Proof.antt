@@ -1,5 +1,5 @@
 -- `job_lines::job_line`: form, then ranges. Assumes nothing.
-use Rattle.list_laws.proofs.Kit.{◌∙◌, ◌≡◌, ap, sym, ◌≤◌, le_trans, arith, length, rules}
+use Rattle.list_laws.proofs.Kit.{◌∙◌, ap, sym, ◌≤◌, le_trans, arith, length, rules}
 use Rattle.job_lines.specs.Lines.{job_line_of}
 use Rattle.job_lines.specs.declared.JobLineAnswer.TheVariants as job
 use Rattle.job_lines.proofs.Forms.{job_line_refused, job_line_ranged, job_next}

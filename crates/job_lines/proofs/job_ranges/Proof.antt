@@ -2,7 +2,6 @@
 use Rattle.list_laws.proofs.Kit.{sym, ◌∙◌, ◌≡◌, ap, true, ◌*◌, ◌≤◌, arith, rules, le-ltb, lt-ltb}
 use Rattle.model.specs.Refusal.{unless}
 use Rattle.model.specs.Lent.{numbers_in_range}
-use Rattle.list_laws.proofs.Tests.{said_no, said_yes}
 use Rattle.job_lines.specs.declared.JobLineAnswer.TheVariants as job
 use Rattle.job_limits.proofs.Ranges.{sheet_small, few_count}
 use Rattle.job_lines.proofs.job_ranges.Statement.{statement}

@@ -1,5 +1,5 @@
 -- `job_lines::piece_line`: form, then ranges. Assumes nothing.
-use Rattle.list_laws.proofs.Kit.{◌∙◌, ◌≡◌, ap, sym, ◌≤◌, le_trans, arith, length, rules}
+use Rattle.list_laws.proofs.Kit.{◌∙◌, ap, sym, ◌≤◌, le_trans, arith, length, rules}
 use Rattle.job_lines.specs.Lines.{job_line_of, piece_line_of}
 use Rattle.job_lines.specs.declared.PieceLineAnswer.TheVariants as piece
 use Rattle.job_lines.proofs.Forms.{piece_line_refused, piece_line_ranged, piece_next_lem}

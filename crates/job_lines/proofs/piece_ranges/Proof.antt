@@ -3,7 +3,6 @@ use Rattle.list_laws.proofs.Kit.{sym, ◌∙◌, ◌≡◌, ap, true, arith, rul
 use Rattle.model.specs.Refusal.{unless}
 use Rattle.model.specs.Lent.{lock_bound, sides_in_range}
 use Rattle.job_laws.proofs.Ranges.{area_of}
-use Rattle.list_laws.proofs.Tests.{said_no, said_yes}
 use Rattle.job_lines.specs.declared.PieceLineAnswer.TheVariants as piece
 use Rattle.job_lines.proofs.piece_ranges.Statement.{statement}
 use Rattle.job_lines.proofs.piece_ranges.Tie as tie

@@ -1,8 +1,7 @@
 -- `job_rows::fill_row`: the word, the marks, the line end. Assumes nothing.
-use Rattle.list_laws.proofs.Kit.{◌∙◌, sym, ◌≡◌, ap, refl, ◌+◌, ℕ, eqb, rules, not-false, not-true}
+use Rattle.list_laws.proofs.Kit.{◌∙◌, sym, ◌≡◌, ap, refl, ◌+◌, ℕ, eqb, rules}
 use Rattle.model.specs.Text.{wrong}
 use Rattle.model.specs.JobText.{marks_at, row_at}
-use Rattle.list_laws.proofs.Tests.{said_no, said_yes}
 use Rattle.job_rows.proofs.Marks.{row_not, row_none, row_last, stored_kept, stored_lost}
 use Rattle.job_rows.proofs.fill_row.Statement.{statement}
 use Rattle.job_rows.proofs.fill_row.Tie as tie

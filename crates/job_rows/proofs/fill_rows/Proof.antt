@@ -1,5 +1,5 @@
 -- `job_rows::fill_rows`: storing the rows that are left, behind those that are stored, is what is left of storing all. Assumes nothing.
-use Rattle.list_laws.proofs.Kit.{◌∙◌, ◌≡◌, ap, refl, sym, ◌*◌, ◌+◌, ◌-◌, ◌≤◌, suc, ℕ, mul-le-mul, suc-mul, arith, length, rules, not-false, not-true}
+use Rattle.list_laws.proofs.Kit.{◌∙◌, ◌≡◌, ap, refl, sym, ◌*◌, ◌+◌, ◌-◌, ◌≤◌, suc, ℕ, mul-le-mul, suc-mul, arith, length, rules}
 use Rattle.model.specs.Refusal.{refused, wrong_form}
 use Rattle.model.specs.Text.{wrong}
 use Rattle.model.specs.JobText.{row_at, rows_at}

@@ -20,7 +20,7 @@ lent s = lent_by s.args.size s.args.table.now s.args.pixels.now
 
 -- the check passed
 passed : (p : tie.In-Done) → let s : tie.Start = search in DoneAnswer.Done ≡ done_answer (check_call (lent s) s.args.layout.now)
-passed p = let asked : tie.After-check = search in sym p.enum_told-1.given.1 ∙ asked.check.ensures
+passed p = let asked : tie.After-check = search in sym p.in-Done.is ∙ asked.check.ensures
 
 push_layout-requires : tie.Need-push_layout-requires
 push_layout-requires c κs =
@@ -32,10 +32,10 @@ returns-in-Refused : tie.Need-returns-in-Refused
 returns-in-Refused c =
     let s : tie.Start = search in
     let asked : tie.After-check = search in
-    let how : tie.In-Refused-2 = search in
+    let how : tie.In-Refused = search in
     let es = s.args.layout.now in
-    let o : compact_call (lent s) es ≡ refused how.refusal-1.given.0.0 =
-    compact_refused (lent s) es _ (sym how.refusal-1.given.1 ∙ asked.check.ensures) in
+    let o : compact_call (lent s) es ≡ refused how.in-Refused.refusal =
+    compact_refused (lent s) es _ (sym how.in-Refused.is ∙ asked.check.ensures) in
     (sym (ap slid_answer o), (sym (ap (compact_after es) o), λ n told. impossible (cc)))
 
 returns-in-Done : tie.Need-returns-in-Done

@@ -34,7 +34,7 @@ put_moved-requires c κs =
     let piece = s.requires.1.1.0.piece in (omega arith, omega arith)
 
 -- the copy holds it
-copied : (c : tie.After-put_moved) → let s : tie.Start = search in Laid (lent s) c.put_moved.new.1.1.1.0
+copied : (c : tie.After-put_moved) → let s : tie.Start = search in Laid (lent s) c.put_moved.new.moved
 copied c = let s : tie.Start = search in subst (Laid (lent s)) (sym c.put_moved.ensures) (after_laid s)
 
 penalties_of-penalties-requires : tie.Need-penalties_of-penalties-requires
@@ -47,7 +47,7 @@ penalties_of-penalties-requires c κs =
 
 -- as which a reader sees the copy
 moved-is : (c : tie.After-put_moved) → let s : tie.Start = search in
-    layout_of c.put_moved.new.1.1.1.0 ≡ with_place (layout_of s.args.layout.now) s.args.piece s.args.place
+    layout_of c.put_moved.new.moved ≡ with_place (layout_of s.args.layout.now) s.args.piece s.args.place
 moved-is c =
     let s : tie.Start = search in
     ap layout_of c.put_moved.ensures ∙ layout_set s.args.layout.now s.args.piece s.args.place

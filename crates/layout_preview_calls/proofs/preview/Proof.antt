@@ -19,7 +19,7 @@ lent s = lent_by s.args.size s.args.table.now s.args.pixels.now
 -- none of the causes is there
 passed : (p : tie.In-Done) → let s : tie.Start = search in
     NoCause (preview_causes (lent s) s.args.layout.now s.args.weights.now s.args.piece s.args.place)
-passed p = let asked : tie.After-preview_causes = search in passed_none _ (sym p.enum_told-1.given.1 ∙ asked.preview_causes.ensures)
+passed p = let asked : tie.After-preview_causes = search in passed_none _ (sym p.in-Done.is ∙ asked.preview_causes.ensures)
 
 -- so the piece can be placed in its new turn
 known : (p : tie.In-Done) → let s : tie.Start = search in
@@ -42,7 +42,7 @@ returns-in-Refused c =
     let s : tie.Start = search in
     let asked : tie.After-preview_causes = search in
     preview_answered (lent s) s.args.layout.now s.args.weights.now s.args.piece s.args.place
-    (rw (refused_alone _ _ _ (sym c.before.refusal-1.given.1 ∙ asked.preview_causes.ensures)))
+    (rw (refused_alone _ _ _ (sym c.in-Refused.is ∙ asked.preview_causes.ensures)))
 
 returns-in-Done : tie.Need-returns-in-Done
 unfolding preview_call

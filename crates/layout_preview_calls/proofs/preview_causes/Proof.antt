@@ -25,7 +25,7 @@ outside s = not (inside (job_of (lent s)) s.args.piece s.args.place)
 
 -- none of the former is there
 passed : (p : tie.In-Done) → let s : tie.Start = search in NoCause (placing s)
-passed p = let asked : tie.After-placing_causes = search in passed_none _ (sym p.enum_told-1.given.1 ∙ asked.placing_causes.ensures)
+passed p = let asked : tie.After-placing_causes = search in passed_none _ (sym p.in-Done.is ∙ asked.placing_causes.ensures)
 
 inside-requires : tie.Need-inside-requires
 inside-requires c κs =
@@ -47,7 +47,7 @@ returns-then-not-inside c =
     let told : tie.In-Done = search in
     let asked : tie.After-inside = search in
     c.refused.ensures
-    ∙ there outside_sheet (outside s) [] (ap not (sym (asked.inside.ensures s.args.pixels.now) ∙ not-true _ c.before.if-not-inside.true))
+    ∙ there outside_sheet (outside s) [] (ap not (sym (asked.inside.ensures s.args.pixels.now) ∙ c.if-not-inside.true))
     ∙ decides told
 
 returns-in-Refused : tie.Need-returns-in-Refused
@@ -55,14 +55,14 @@ returns-in-Refused c =
     let s : tie.Start = search in
     let asked : tie.After-placing_causes = search in
     sym (ap done_answer
-    (refused_then (placing s) (cause outside_sheet (outside s) ∷ []) tt _ (sym c.before.refusal-1.given.1 ∙ asked.placing_causes.ensures)))
+    (refused_then (placing s) (cause outside_sheet (outside s) ∷ []) tt _ (sym c.in-Refused.is ∙ asked.placing_causes.ensures)))
 
 returns-else-not-inside : tie.Need-returns-else-not-inside
 returns-else-not-inside c =
     let s : tie.Start = search in
     let told : tie.In-Done = search in
     let asked : tie.After-inside = search in
-    next outside_sheet (outside s) [] (ap not (sym (asked.inside.ensures s.args.pixels.now) ∙ not-false _ c.if-not-inside.false)) no_more
+    next outside_sheet (outside s) [] (ap not (sym (asked.inside.ensures s.args.pixels.now) ∙ c.if-not-inside.false)) no_more
     ∙ decides told
 
 pub preview_causes_spec : {M : Type 1} → statement M

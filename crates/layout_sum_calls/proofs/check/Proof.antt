@@ -20,7 +20,7 @@ conflicting_pair-requires c κs =
     let at-start : tie.Start = search in
     let a = at-start.args in
     let l : Lent = lent_by a.size a.table.now a.pixels.now in
-    let none : NoCause (layout_causes l a.layout.now) = passed_none _ (sym c.enum_told-1.given.1 ∙ c.before.before.layout_causes.ensures) in
+    let none : NoCause (layout_causes l a.layout.now) = passed_none _ (sym c.in-Done.is ∙ c.layout_causes.ensures) in
     let laid = layout_laid l a.layout.now none in
     (laid_drawable l a.layout.now laid, (facts l laid.well).small_gap)
 
@@ -33,7 +33,7 @@ returns-in-Refused c =
     let l : Lent = lent_by a.size a.table.now a.pixels.now in
     sym (ap done_answer
     (refused_then (layout_causes l a.layout.now) (conflict_cause (conflicting_pair (job_of l) (layout_of a.layout.now)) ∷ []) tt _
-    (sym c.before.refusal-1.given.1 ∙ at-layout-causes.layout_causes.ensures)))
+    (sym c.in-Refused.is ∙ at-layout-causes.layout_causes.ensures)))
 
 returns-in-Done : tie.Need-returns-in-Done
 unfolding check_call
@@ -43,10 +43,10 @@ returns-in-Done c =
     let a = at-start.args in
     let l : Lent = lent_by a.size a.table.now a.pixels.now in
     let none : NoCause (layout_causes l a.layout.now) =
-    passed_none _ (sym c.before.before.enum_told-1.given.1 ∙ at-layout-causes.layout_causes.ensures) in
+    passed_none _ (sym c.in-Done.is ∙ at-layout-causes.layout_causes.ensures) in
     let pair = conflicting_pair (job_of l) (layout_of a.layout.now) in
     c.conflict_answer.ensures
-    ∙ ap conflict_answer (c.before.conflicting_pair.ensures (sym (layout_laid l a.layout.now none).whole))
+    ∙ ap conflict_answer (c.conflicting_pair.ensures (sym (layout_laid l a.layout.now none).whole))
     ∙ conflict_check pair
     ∙ sym (ap done_answer (none_then (layout_causes l a.layout.now) (conflict_cause pair ∷ []) tt none))
 

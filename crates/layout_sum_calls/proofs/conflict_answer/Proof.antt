@@ -6,7 +6,7 @@ use Rattle.layout_sum_calls.proofs.conflict_answer.Tie as tie
 
 returns-in-Conflicting : tie.Need-returns-in-Conflicting
 returns-in-Conflicting c =
-    sym (ap conflict_answer c.before.pair-1.given.1)
+    sym (ap conflict_answer c.in-Conflicting.is)
 
 pub conflict_answer_spec : {M : Type 1} → statement M
 conflict_answer_spec = tie.close (tie.spec

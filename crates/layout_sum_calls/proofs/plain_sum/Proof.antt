@@ -20,7 +20,7 @@ lent s = lent_by s.args.size s.args.table.now s.args.pixels.now
 
 -- none of the causes is there
 passed : (p : tie.In-Done) → let s : tie.Start = search in NoCause (layout_causes (lent s) s.args.layout.now)
-passed p = let asked : tie.After-layout_causes = search in passed_none _ (sym p.enum_told-1.given.1 ∙ asked.layout_causes.ensures)
+passed p = let asked : tie.After-layout_causes = search in passed_none _ (sym p.in-Done.is ∙ asked.layout_causes.ensures)
 
 -- so the layout is one that calls take
 valid : (p : tie.In-Done) → let s : tie.Start = search in Laid (lent s) s.args.layout.now
@@ -50,7 +50,7 @@ returns-in-Refused : tie.Need-returns-in-Refused
 unfolding plain_sum_call
 returns-in-Refused c =
     let asked : tie.After-layout_causes = search in
-    rw (refused_alone _ _ _ (sym c.before.refusal-1.given.1 ∙ asked.layout_causes.ensures))
+    rw (refused_alone _ _ _ (sym c.in-Refused.is ∙ asked.layout_causes.ensures))
 
 returns-in-Done : tie.Need-returns-in-Done
 unfolding plain_sum_call job_of

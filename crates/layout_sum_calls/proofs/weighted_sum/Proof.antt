@@ -25,7 +25,7 @@ lent s = lent_by s.args.size s.args.table.now s.args.pixels.now
 -- none of the causes is there
 passed : (p : tie.In-Done) → let s : tie.Start = search in
     NoCause (weighted_causes (lent s) s.args.layout.now s.args.weights.now false false)
-passed p = let asked : tie.After-weighted_causes = search in passed_none _ (sym p.enum_told-1.given.1 ∙ asked.weighted_causes.ensures)
+passed p = let asked : tie.After-weighted_causes = search in passed_none _ (sym p.in-Done.is ∙ asked.weighted_causes.ensures)
 
 -- so the layout and the weights are valid
 valid : (p : tie.In-Done) → let s : tie.Start = search in Weighable (lent s) s.args.layout.now s.args.weights.now false false
@@ -59,7 +59,7 @@ returns-in-Refused c =
     let asked : tie.After-weighted_causes = search in
     sym (ap number_answer
     (sym (sum_asked (lent s) s.args.layout.now _ s.args.weights.now)
-    ∙ refused_alone _ _ _ (sym c.before.refusal-1.given.1 ∙ asked.weighted_causes.ensures)))
+    ∙ refused_alone _ _ _ (sym c.in-Refused.is ∙ asked.weighted_causes.ensures)))
 
 returns-in-Done : tie.Need-returns-in-Done
 unfolding weighted_sum_call job_of

@@ -46,8 +46,8 @@ returns c =
     let a = at-start.args in
     let l : Lent = lent_by a.size a.table.now a.pixels.now in
     let p = at-start.requires in
-    subst (λ (t : List ℕ). Written a.text.now 0 t output_bound at-write-run.write_run.result at-write-run.write_run.new.1.1.1.1.1.0)
-    (run_text_lem (job_of l) at-run-job.run_job-run.result at-run-job.run_job-run.new.1.1.1.0 (program_run (job_of l)) at-run-job.run_job-run.ensures)
+    subst (λ (t : List ℕ). Written a.text.now 0 t output_bound at-write-run.write_run.result at-write-run.write_run.new.text)
+    (run_text_lem (job_of l) at-run-job.run_job-run.result at-run-job.run_job-run.new.layout (program_run (job_of l)) at-run-job.run_job-run.ensures)
     at-write-run.write_run.ensures
 
 pub print_job_spec : {M : Type 1} → statement M

@@ -27,12 +27,12 @@ returns-then-output-count c =
     let a = at-start.args in
     let w = at-print-text.print_text-count.ensures in
     let end = w.end in
-    let long = c.before.if-output-count.true in
+    let long = c.if-output-count.true in
     let t : TextLeaves a.input.now a.output.now (NumberAnswer.Refused c.plain_refusal.result) a.output.now =
     rw c.plain_refusal.ensures (leaves_short a.input.now a.output.now (omega arith) w.short) in
-    let left = workspace_left a.input.now (length a.output.now) a.workspace.now at-print-text.print_text-count.new.1.1.0
+    let left = workspace_left a.input.now (length a.output.now) a.workspace.now at-print-text.print_text-count.new.workspace
     used.words_used-used.result used.words_used-used.ensures
-    at-print-text.print_text-count.auto.1.1.0 w.short in
+    at-print-text.print_text-count.auto.workspace w.short in
     (t.0, (t.1.0, (left, t.1.1)))
 
 slice_bounds-put_word-end : tie.Need-slice_bounds-put_word-end
@@ -52,12 +52,12 @@ returns c =
     let fits : length (program_text a.input.now) ≤ length a.output.now = omega arith in
     let front = front_written _ (program_text a.input.now) output_bound _ _ (le_of_eq (sym (length-replicate {A = ℕ} 4096 0))) w in
     let put : tie.After-put_word = search in
-    let t = leaves_written a.input.now a.output.now at-print-text.print_text-count.result put.put_word.new.0 (omega arith)
+    let t = leaves_written a.input.now a.output.now at-print-text.print_text-count.result put.put_word.new.text (omega arith)
     (put.put_word.ensures.1 ∙ ap (sets a.output.now 0) front ∙ sets_filled a.output.now (program_text a.input.now) fits)
     (omega arith) (omega arith) in
-    let left = workspace_left a.input.now (length a.output.now) a.workspace.now at-print-text.print_text-count.new.1.1.0
+    let left = workspace_left a.input.now (length a.output.now) a.workspace.now at-print-text.print_text-count.new.workspace
     used.words_used-used.result used.words_used-used.ensures
-    at-print-text.print_text-count.auto.1.1.0 short in
+    at-print-text.print_text-count.auto.workspace short in
     (t.0, (t.1.0, (left, t.1.1)))
 
 pub print_run_spec : {M : Type 1} → statement M

@@ -13,7 +13,7 @@ returns-then-input-gt-INPUT_BOUND c =
     let at-start : tie.Start = search in
     let a = at-start.args in
     text_printed a.input.now _ (program_too_long a.input.now at-then1.if-input-gt-INPUT_BOUND.true ∙ ap refusal_text (sym at-plain-refusal.plain_refusal.ensures))
-    c.before.before.put_refusal_line.ensures (omega arith)
+    c.put_refusal_line.ensures (omega arith)
 
 returns : tie.Need-returns
 returns c =

@@ -12,38 +12,42 @@ use Rattle.program_calls.proofs.read_and_print.Tie as tie
 read-front : (c : tie.In-Read) →
     let at-read-job : tie.After-read_job = search in
     let at-start : tie.Start = search in
-    Front (read_job at-start.args.input.now piece_bound area_bound) c.before.size-1.given.0.0 at-read-job.read_job.new.1.0
-    at-read-job.read_job.new.1.1.0
+    Front (read_job at-start.args.input.now piece_bound area_bound) c.in-Read.size at-read-job.read_job.new.table
+    at-read-job.read_job.new.pixels
 read-front c =
     let at-read-job : tie.After-read_job = search in
     let at-start : tie.Start = search in
     front_read at-start.args.input.now _ _ _ _ _ (length-replicate {A = List ℕ} 64 (0 ∷ 0 ∷ 0 ∷ [])) (length-replicate {A = ℕ} 65536 0)
-    at-read-job.read_job.auto.1.0
-    at-read-job.read_job.auto.1.1.0 at-read-job.read_job.ensures _ c.before.size-1.given.1
+    at-read-job.read_job.auto.table
+    at-read-job.read_job.auto.pixels at-read-job.read_job.ensures _ c.in-Read.is
 
 -- and so are the parts that are lent
 read-lends : (c : tie.After-pixel_start-area) →
-    let at_size : tie.In-Read-2 = search in
+    let at_size : tie.In-Read = search in
     let at-read-job : tie.After-read_job = search in
     let at-start : tie.Start = search in
-    Lends (read_job at-start.args.input.now piece_bound area_bound) at_size.size-1.given.0.0 at-read-job.read_job.new.1.0
-    at-read-job.read_job.new.1.1.0 c.pixel_start-area.result
-read-lends c = front_lends _ _ _ _ _ c.pixel_start-area.ensures (read-front c.before.before)
+    Lends (read_job at-start.args.input.now piece_bound area_bound) at_size.in-Read.size at-read-job.read_job.new.table
+    at-read-job.read_job.new.pixels c.pixel_start-area.result
+read-lends c =
+    let at_size : tie.In-Read = search in
+    front_lends _ _ _ _ _ c.pixel_start-area.ensures (read-front at_size)
 
 slice_bounds-table-end : tie.Need-slice_bounds-table-end
-slice_bounds-table-end c = (read-front c).entries_room
+slice_bounds-table-end c = let at_size : tie.In-Read = search in (read-front at_size).entries_room
 
 slice_bounds-entries-end : tie.Need-slice_bounds-entries-end
-slice_bounds-entries-end c = sym (length-take-le _ _ (read-front c.before).entries_room)
+slice_bounds-entries-end c = let at_size : tie.In-Read = search in sym (length-take-le _ _ (read-front at_size).entries_room)
 
 pixel_start-area-requires : tie.Need-pixel_start-area-requires
-pixel_start-area-requires c κs = (le_of_eq (sym (length-take-le _ _ (read-front c.before).entries_room)), (read-front c.before).few)
+pixel_start-area-requires c κs =
+    let at_size : tie.In-Read = search in
+    (le_of_eq (sym (length-take-le _ _ (read-front at_size).entries_room)), (read-front at_size).few)
 
 slice_bounds-pixels-end : tie.Need-slice_bounds-pixels-end
-slice_bounds-pixels-end c = (read-lends c).bytes_room
+slice_bounds-pixels-end c = let lends : tie.After-pixel_start-area = search in (read-lends lends).bytes_room
 
 slice_bounds-print_job-end : tie.Need-slice_bounds-print_job-end
-slice_bounds-print_job-end c = sym (length-take-le _ _ (read-lends c.before).bytes_room)
+slice_bounds-print_job-end c = let lends : tie.After-pixel_start-area = search in sym (length-take-le _ _ (read-lends lends).bytes_room)
 
 print_job-requires : tie.Need-print_job-requires
 print_job-requires c κs =
@@ -53,13 +57,13 @@ print_job-requires c κs =
 
 returns-in-Refused : tie.Need-returns-in-Refused
 returns-in-Refused c =
-    let at-refusal : tie.In-Refused-2 = search in
+    let at-refusal : tie.In-Refused = search in
     let at-read-job : tie.After-read_job = search in
     let at-start : tie.Start = search in
     let o = front_refused at-start.args.input.now _ _ _ _ _ (length-replicate {A = List ℕ} 64 (0 ∷ 0 ∷ 0 ∷ [])) (length-replicate {A = ℕ} 65536 0)
-    at-read-job.read_job.auto.1.0
-    at-read-job.read_job.auto.1.1.0 at-read-job.read_job.ensures _ at-refusal.refusal-1.given.1 in
-    written_printed _ (refused at-refusal.refusal-1.given.0.0) o c.before.before.put_refusal_line.ensures (omega arith)
+    at-read-job.read_job.auto.table
+    at-read-job.read_job.auto.pixels at-read-job.read_job.ensures _ at-refusal.in-Refused.is in
+    written_printed _ (refused at-refusal.in-Refused.refusal) o c.put_refusal_line.ensures (omega arith)
 
 returns-in-Read : tie.Need-returns-in-Read
 returns-in-Read c =

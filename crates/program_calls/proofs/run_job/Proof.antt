@@ -19,14 +19,14 @@ slice_bounds-weights-end : tie.Need-slice_bounds-weights-end
 slice_bounds-weights-end c =
     let at-start : tie.Start = search in
     pairs_few _ _ (fitting at-start.args.size at-start.args.table.now at-start.args.pixels.now at-start.requires.0).few_pieces
-    c.before.pair_count-pairs.ensures
+    c.pair_count-pairs.ensures
 
 slice_bounds-guided_run-end : tie.Need-slice_bounds-guided_run-end
 slice_bounds-guided_run-end c =
     let at-start : tie.Start = search in
     front_length _ 2016 _
     (pairs_few _ _ (fitting at-start.args.size at-start.args.table.now at-start.args.pixels.now at-start.requires.0).few_pieces
-    c.before.before.pair_count-pairs.ensures)
+    c.pair_count-pairs.ensures)
 
 returns-in-Ran : tie.Need-returns-in-Ran
 returns-in-Ran c =
@@ -39,7 +39,7 @@ returns-in-Ran c =
     let o = run_given l _ _ at-start.requires.0 at-after-start.start_job.ensures
     (ones a.size.count _ (fitting at-start.args.size at-start.args.table.now at-start.args.pixels.now at-start.requires.0).few_pieces
     at-pair-count.pair_count-pairs.ensures) in
-    run_gives _ (program_run (job_of l)) o _ _ _ (sym c.before.run-1.given.1 ∙ at-guided-run.guided_run.ensures.0)
+    run_gives _ (program_run (job_of l)) o _ _ _ (sym c.in-Ran.is ∙ at-guided-run.guided_run.ensures.0)
     at-guided-run.guided_run.ensures.1.0
 
 returns-in-Refused : tie.Need-returns-in-Refused
@@ -53,7 +53,7 @@ returns-in-Refused c =
     let o = run_given l _ _ at-start.requires.0 at-after-start.start_job.ensures
     (ones a.size.count _ (fitting at-start.args.size at-start.args.table.now at-start.args.pixels.now at-start.requires.0).few_pieces
     at-pair-count.pair_count-pairs.ensures) in
-    absurd (run_not_refused _ (program_run (job_of l)) o _ (sym c.enum_told-1.given.1 ∙ at-guided-run.guided_run.ensures.0))
+    absurd (run_not_refused _ (program_run (job_of l)) o _ (sym c.in-Refused.is ∙ at-guided-run.guided_run.ensures.0))
 
 pub run_job_spec : {M : Type 1} → statement M
 run_job_spec =

@@ -24,10 +24,10 @@ returns c =
     let at-given : tie.After-start = search in
     let a = at-start.args in
     let l : Lent = lent_by a.size a.table.now a.pixels.now in
-    let all : at_all.start_of_all.new.1.1.0 ≡ entries_of (start_of_all (job_of l)) = at_all.start_of_all.ensures a.pixels.now in
-    let o : start_call l at_all.start_of_all.new.1.1.0 ≡ given (program_start (job_of l)) =
+    let all : at_all.start_of_all.new.layout ≡ entries_of (start_of_all (job_of l)) = at_all.start_of_all.ensures a.pixels.now in
+    let o : start_call l at_all.start_of_all.new.layout ≡ given (program_start (job_of l)) =
     rw all (start_taken l at-start.requires.0 (start_of_all (job_of l)) (lent_start_of_all_valid l at-start.requires.0)) in
-    at-given.start.ensures.1.0 ∙ ap (layout_after at_all.start_of_all.new.1.1.0) o
+    at-given.start.ensures.1.0 ∙ ap (layout_after at_all.start_of_all.new.layout) o
 
 pub start_job_spec : {M : Type 1} → statement M
 start_job_spec = tie.close (tie.spec

@@ -66,10 +66,10 @@ loop-at-init c =
     let j = job_of (lent at-start) in
     let v = given at-start in
     let ks = jobTrials at-start in
-    let sum : c.before.total.result ≡ weighted_sum j at-start.args.weights.now v = c.before.total.ensures j v refl at-start.requires.1.1.0.table in
+    let sum : c.total.result ≡ weighted_sum j at-start.args.weights.now v = c.total.ensures j v refl at-start.requires.1.1.0.table in
     let whole : at-start.args.budget ≡ at-start.args.budget - 0 = omega arith in
     let first = underway_begin j at-start.args.weights.now ks at-start.args.budget v at-start.requires.1.1.0.valid in
-    let here : Underway j at-start.args.weights.now ks at-start.args.budget v (at-start.args.budget - 0) (begin v) c.before.total.result =
+    let here : Underway j at-start.args.weights.now ks at-start.args.budget v (at-start.args.budget - 0) (begin v) c.total.result =
     subst₂ (λ (m n : ℕ). Underway j at-start.args.weights.now ks at-start.args.budget v m (begin v) n) whole (sym sum) first in
     let under : Underway j at-start.args.weights.now ks at-start.args.budget v (at-start.args.budget - c.beginning-at.result.made)
     (standing_as v c.beginning-at.result) c.beginning-at.result.sum =
@@ -110,7 +110,7 @@ returns-then-at-eq0 c =
     descend_over j e.args.weights.now e.args.budget (given e)
     ∙ underway_clear j e.args.weights.now (jobTrials e) e.args.budget (given e)
     (e.args.budget - at-loop.loop-at.at.made) _ at-loop.loop-at.at.sum at-loop.loop-at.invariant.0.underway
-    c.before.if-at-eq0.true in (
+    c.if-at-eq0.true in (
       is ∙ ap (λ (x : Ended). descent_of x (layout_of at-loop.loop-at.layout)) (sym c.end_at.ensures),
       (at-loop.loop-at.invariant.0.laid, at-loop.loop-at.invariant.0.ready),
     )
@@ -138,7 +138,7 @@ returns-then-at-count c =
     descend_over j e.args.weights.now e.args.budget (given e)
     ∙ underway_settled j e.args.weights.now (jobTrials e) e.args.budget (given e)
     (e.args.budget - at-loop.loop-at.at.made) _ at-loop.loop-at.at.sum at-loop.loop-at.invariant.0.underway
-    at-else1.if-at-eq0.false (c.before.if-at-count.true ∙ count_is e) in (
+    at-else1.if-at-eq0.false (c.if-at-count.true ∙ count_is e) in (
       is ∙ ap (λ (x : Ended). descent_of x (layout_of at-loop.loop-at.layout)) (sym c.end_at-then-at-count.ensures),
       (at-loop.loop-at.invariant.0.laid, at-loop.loop-at.invariant.0.ready),
     )
@@ -167,7 +167,7 @@ returns-then-at-budget c =
     descend_over j e.args.weights.now e.args.budget (given e)
     ∙ underway_spent j e.args.weights.now (jobTrials e) e.args.budget (given e)
     (e.args.budget - at-loop.loop-at.at.made) _ at-loop.loop-at.at.sum at-loop.loop-at.invariant.0.underway
-    at-else1.if-at-eq0.false (λ z. at-else2.if-at-count.false (z ∙ sym (count_is e))) (let made = c.before.if-at-budget.true in omega arith) in (
+    at-else1.if-at-eq0.false (λ z. at-else2.if-at-count.false (z ∙ sym (count_is e))) (let made = c.if-at-budget.true in omega arith) in (
       is ∙ ap (λ (x : Ended). descent_of x (layout_of at-loop.loop-at.layout)) (sym c.end_at-then-at-budget.ensures),
       (at-loop.loop-at.invariant.0.laid, at-loop.loop-at.invariant.0.ready),
     )
@@ -210,7 +210,7 @@ head c = search
 
 -- the step is the one over the job's trials
 stepped : (c : tie.After-step-at invariant-loop-at decreases-loop-at)
-    → standing_as (layout_of c.step-at.new.1.1.1.1.1.1.1.1.0) c.step-at.result
+    → standing_as (layout_of c.step-at.new.layout) c.step-at.result
     ≡ step (weighted_sum (job_of (lent (entry (head c)))) (entry (head c)).args.weights.now)
     (attempt (job_of (lent (entry (head c)))) (entry (head c)).args.weights.now) (jobTrials (entry (head c)))
     (standing_as (layout_of (head c).loop-at.layout) (head c).loop-at.at)
@@ -252,7 +252,7 @@ loop-at-preserved c =
     let e = entry at-loop in
     let j = job_of (lent e) in
     let s = at-step.step-at in
-    let new = s.last.1.1.1.1.1.1.1.1.0 in
+    let new = s.new.layout in
     let left = e.args.budget - at-loop.loop-at.at.made in
     let within = at-loop.loop-at.invariant.0.underway.counted in
     let differs = at-else3.if-at-budget.false in
@@ -270,10 +270,10 @@ loop-at-preserved c =
     subst (λ (n : ℕ). Underway j e.args.weights.now (jobTrials e) e.args.budget (given e) n (standing_as (layout_of new) s.result) s.result.sum)
     rest pass in (
       record { underway = under; laid = s.ensures.1.1.0; ready = s.ensures.1.1.1 },
-      s.kept.1.1.1.1.1.1.1.1.0 ∙ at-loop.loop-at.invariant.1,
-      s.kept.1.1.1.1.1.1.1.1.1.0 ∙ at-loop.loop-at.invariant.2,
-      s.kept.1.1.1.1.1.1.1.1.1.1.0 ∙ at-loop.loop-at.invariant.3,
-      s.kept.1.1.1.1.1.1.1.1.1.1.1.0 ∙ at-loop.loop-at.invariant.4,
+      s.auto.layout ∙ at-loop.loop-at.invariant.1,
+      s.auto.penalties ∙ at-loop.loop-at.invariant.2,
+      s.auto.lines ∙ at-loop.loop-at.invariant.3,
+      s.auto.maps ∙ at-loop.loop-at.invariant.4,
     )
 
 pub descend_spec : {M : Type 1} → statement M

@@ -14,13 +14,13 @@ loop-k-init : tie.Need-loop-k-init invariant-loop-k decreases-loop-k
 loop-k-init c = copying_begin 0 _ _ c.requires
 
 loop-k-preserved : tie.Need-loop-k-preserved invariant-loop-k decreases-loop-k
-loop-k-preserved c = copying_more c.before.before.loop-k.invariant c.before.loop-k-test.true
+loop-k-preserved c = copying_more c.loop-k.invariant c.loop-k-test.true
 
 shape_of-to : tie.Need-shape_of-to invariant-loop-k decreases-loop-k
-shape_of-to c = let h = c.before.loop-k.invariant in omega arith
+shape_of-to c = let h = c.loop-k.invariant in omega arith
 
 returns : tie.Need-returns invariant-loop-k decreases-loop-k
-returns c = copying_end c.before.loop-k.invariant c.loop-k-test.false
+returns c = copying_end c.loop-k.invariant c.loop-k-test.false
 
 pub copy_weights_spec : {M : Type 1} → statement M
 copy_weights_spec =

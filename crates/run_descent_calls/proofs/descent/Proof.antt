@@ -22,7 +22,7 @@ none : (c : tie.In-Done)
     →
     let at-start : tie.Start = search in
     NoCause (weighted_causes (lent (at-start)) at-start.args.layout.now at-start.args.weights.now (ltb budget_bound at-start.args.budget) false)
-none c = passed_none _ (sym c.enum_told-1.given.1 ∙ c.before.before.weighted_causes.ensures)
+none c = passed_none _ (sym c.in-Done.is ∙ c.weighted_causes.ensures)
 
 run_alone-requires : tie.Need-run_alone-requires
 run_alone-requires c κs =
@@ -39,7 +39,7 @@ returns-in-Refused c =
     let at-weighted-causes : tie.After-weighted_causes = search in
     let at-start : tie.Start = search in
     let no = call_refused (lent at-start) at-start.args.layout.now at-start.args.weights.now at-start.args.budget _
-    (sym c.before.refusal-1.given.1 ∙ at-weighted-causes.weighted_causes.ensures) in (
+    (sym c.in-Refused.is ∙ at-weighted-causes.weighted_causes.ensures) in (
       sym (ap descent_answer no),
       (
         sym (ap (descent_after at-start.args.layout.now) no),
@@ -54,7 +54,7 @@ returns-in-Done c =
     let at-start : tie.Start = search in
     let ran : tie.After-run_alone = search in
     let r = ran.run_alone in
-    let new = r.last.1.1.1.1.1.0 in
+    let new = r.new.layout in
     let again = at-write-entries.write_entries.ensures in
     let is = call_given (lent at-start) at-start.args.layout.now at-start.args.weights.now at-start.args.budget (none (at-enum-told)) _ again
     r.result new r.ensures in
@@ -63,7 +63,7 @@ returns-in-Done c =
       sym (ap descent_answer is),
       (
         sym (ap (descent_after at-start.args.layout.now) is ∙ r.ensures.written),
-        (left_given _ _ at-start.args.workspace.now r.last.1.1.1.1.1.1.0 is r.kept.1.1.1.1.1.1.0, claims),
+        (left_given _ _ at-start.args.workspace.now r.new.workspace is r.auto.workspace, claims),
       ),
     )
 

@@ -82,8 +82,8 @@ returns-in-Alone c =
     let at-copy-weights : tie.After-copy_weights = search in
     let at-start : tie.Start = search in
     let w = at-with-strips.with_strips in
-    done (lent at-start) at-start.args.layout.now at-start.args.budget w.last.1.1.1.1.0 w.last.1.1.1.1.1.0
-    (copied_part at-start.args.weights.now _ _ at-copy-weights.copy_weights.ensures) c.before.ended-1.given.1 w.ensures
+    done (lent at-start) at-start.args.layout.now at-start.args.budget w.new.layout w.new.weights
+    (copied_part at-start.args.weights.now _ _ at-copy-weights.copy_weights.ensures) c.in-Alone.is w.ensures
 
 returns-in-Rounds : tie.Need-returns-in-Rounds
 returns-in-Rounds c =
@@ -91,8 +91,8 @@ returns-in-Rounds c =
     let at-copy-weights : tie.After-copy_weights = search in
     let at-start : tie.Start = search in
     let w = at-with-strips.with_strips in
-    absurd (done (lent at-start) at-start.args.layout.now at-start.args.budget w.last.1.1.1.1.0 w.last.1.1.1.1.1.0
-    (copied_part at-start.args.weights.now _ _ at-copy-weights.copy_weights.ensures) c.enum_told-1.given.1 w.ensures)
+    absurd (done (lent at-start) at-start.args.layout.now at-start.args.budget w.new.layout w.new.weights
+    (copied_part at-start.args.weights.now _ _ at-copy-weights.copy_weights.ensures) c.in-Rounds.is w.ensures)
 
 pub run_alone_spec : {M : Type 1} → statement M
 run_alone_spec =

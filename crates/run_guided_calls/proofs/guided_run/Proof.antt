@@ -25,9 +25,9 @@ run_rounds-requires c κs =
     let l : Lent = lent_by a.size a.table.now a.pixels.now in
     let none : NoCause (weighted_causes l a.layout.now a.weights.now (numbers_wrong a.rounds a.budget) false) =
     passed_none _
-    (sym at-enum-told.enum_told-1.given.1 ∙ at-weighted-causes.weighted_causes.ensures
+    (sym at-enum-told.in-Done.is ∙ at-weighted-causes.weighted_causes.ensures
     ∙ ap (λ b. first_cause (weighted_causes l a.layout.now a.weights.now b false)) at-numbers-wrong.numbers_wrong.ensures) in (
-      run_given l a.layout.now a.weights.now (numbers_wrong a.rounds a.budget) none at-write-entries.write_entries.new.0
+      run_given l a.layout.now a.weights.now (numbers_wrong a.rounds a.budget) none at-write-entries.write_entries.new.layout
           at-write-entries.write_entries.ensures,
       record {
         rounds = few_rounds l a.layout.now a.weights.now a.rounds a.budget none;
@@ -44,7 +44,7 @@ returns-in-Refused c =
     let l : Lent = lent_by a.size a.table.now a.pixels.now in
     let no =
     call_refused l a.layout.now a.weights.now a.rounds a.budget _
-    (sym c.before.refusal-1.given.1 ∙ at-weighted-causes.weighted_causes.ensures
+    (sym c.in-Refused.is ∙ at-weighted-causes.weighted_causes.ensures
     ∙ ap (λ b. first_cause (weighted_causes l a.layout.now a.weights.now b false)) at-numbers-wrong.numbers_wrong.ensures) in (
       sym (ap guided_answer no),
       (
@@ -68,21 +68,21 @@ returns-in-Done c =
     let l : Lent = lent_by a.size a.table.now a.pixels.now in
     let none : NoCause (weighted_causes l a.layout.now a.weights.now (numbers_wrong a.rounds a.budget) false) =
     passed_none _
-    (sym at-enum-told.enum_told-1.given.1 ∙ at-weighted-causes.weighted_causes.ensures
+    (sym at-enum-told.in-Done.is ∙ at-weighted-causes.weighted_causes.ensures
     ∙ ap (λ b. first_cause (weighted_causes l a.layout.now a.weights.now b false)) at-numbers-wrong.numbers_wrong.ensures) in
     let written = at-write-entries.write_entries in
     let ran = at-run-rounds.run_rounds in
-    let is = call_given l a.layout.now a.weights.now a.rounds a.budget none written.last.0 written.ensures ran.result
-    ran.last.1.1.1.1.0 ran.last.1.1.1.1.1.0 ran.ensures in (
+    let is = call_given l a.layout.now a.weights.now a.rounds a.budget none written.new.layout written.ensures ran.result
+    ran.new.layout ran.new.weights ran.ensures in (
       sym (ap guided_answer is),
       (
         sym (ap (best_after_run a.layout.now) is ∙ ran.ensures.written),
         (
           sym (ap (weights_after_run a.weights.now) is),
           (
-            left_given _ _ a.workspace.now ran.last.1.1.1.1.1.1.0 is ran.kept.1.1.1.1.1.1.0,
-            call_claims l a.layout.now a.weights.now a.rounds a.budget none written.last.0 written.ensures ran.result
-                ran.last.1.1.1.1.0 ran.last.1.1.1.1.1.0 ran.ensures,
+            left_given _ _ a.workspace.now ran.new.workspace is ran.auto.workspace,
+            call_claims l a.layout.now a.weights.now a.rounds a.budget none written.new.layout written.ensures ran.result
+                ran.new.layout ran.new.weights ran.ensures,
           ),
         ),
       ),

@@ -6,19 +6,19 @@ use Rattle.run_guided_calls.proofs.numbers_wrong.Statement.{statement}
 use Rattle.run_guided_calls.proofs.numbers_wrong.Tie as tie
 
 returns-then-budget-gt-BUDGET_BOUND : tie.Need-returns-then-budget-gt-BUDGET_BOUND
-returns-then-budget-gt-BUDGET_BOUND c = let large : ltb budget_bound c.before.args.budget ≡ true = lt-ltb _ _ c.if-budget-gt-BUDGET_BOUND.true in rw large
+returns-then-budget-gt-BUDGET_BOUND c = let large : ltb budget_bound c.args.budget ≡ true = lt-ltb _ _ c.if-budget-gt-BUDGET_BOUND.true in rw large
 
 returns-then-rounds-eq0 : tie.Need-returns-then-rounds-eq0
 returns-then-rounds-eq0 c =
-    let a = c.before.before.args in
-    let small : ltb budget_bound a.budget ≡ false = le-ltb _ _ c.before.if-budget-gt-BUDGET_BOUND.false in
+    let a = c.args in
+    let small : ltb budget_bound a.budget ≡ false = le-ltb _ _ c.if-budget-gt-BUDGET_BOUND.false in
     let none : leb 1 a.rounds ≡ false = let e = c.if-rounds-eq0.true in lt-leb 1 a.rounds (omega arith) in
     rw (small, none)
 
 returns : tie.Need-returns
 returns c =
-    let a = c.before.before.args in
-    let small : ltb budget_bound a.budget ≡ false = le-ltb _ _ c.before.if-budget-gt-BUDGET_BOUND.false in
+    let a = c.args in
+    let small : ltb budget_bound a.budget ≡ false = le-ltb _ _ c.if-budget-gt-BUDGET_BOUND.false in
     let other = c.if-rounds-eq0.false in
     let some : leb 1 a.rounds ≡ true = le-leb 1 a.rounds (omega arith) in
     rw (small, some)

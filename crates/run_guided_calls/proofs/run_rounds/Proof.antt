@@ -21,23 +21,23 @@ done : (c : tie.After-with_strips) (o : PlanOutcome) →
     let at-start : tie.Start = search in
     c.with_strips.result ≡ o
     → Done (lent (at-start)) at-start.args.layout.now at-start.args.weights.now (Plan.Rounds at-start.args.terms) o
-    c.with_strips.new.1.1.1.1.0 c.with_strips.new.1.1.1.1.1.0
+    c.with_strips.new.layout c.with_strips.new.weights
 done c o is =
     let at-start : tie.Start = search in
     let w = c.with_strips in
     subst (λ (x : PlanOutcome).
     Done (lent at-start) at-start.args.layout.now at-start.args.weights.now (Plan.Rounds at-start.args.terms) x
-    w.new.1.1.1.1.0 w.new.1.1.1.1.1.0) is w.ensures
+    w.new.layout w.new.weights) is w.ensures
 
 returns-in-Rounds : tie.Need-returns-in-Rounds
 returns-in-Rounds c =
     let at-with-strips : tie.After-with_strips = search in
-    done (at-with-strips) _ c.before.told-1.given.1
+    done (at-with-strips) _ c.in-Rounds.is
 
 returns-in-Alone : tie.Need-returns-in-Alone
 returns-in-Alone c =
     let at-with-strips : tie.After-with_strips = search in
-    absurd (done (at-with-strips) _ c.enum_told-1.given.1)
+    absurd (done (at-with-strips) _ c.in-Alone.is)
 
 pub run_rounds_spec : {M : Type 1} → statement M
 run_rounds_spec =

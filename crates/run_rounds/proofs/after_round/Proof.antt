@@ -8,7 +8,7 @@ use Rattle.run_rounds.proofs.after_round.Tie as tie
 returns-then-clear : tie.Need-returns-then-clear
 returns-then-clear c =
     let at-start : tie.Start = search in
-    let clear : is_clear at-start.args.end ≡ true = sym c.before.is_clear-clear.ensures ∙ c.if-clear.true in
+    let clear : is_clear at-start.args.end ≡ true = sym c.is_clear-clear.ensures ∙ c.if-clear.true in
     (rw (clear, left_after), λ j v e t w. rw (clear, raised_after))
 
 returns : tie.Need-returns
@@ -17,7 +17,7 @@ returns c =
     let at-is-clear : tie.After-is_clear-clear = search in
     let at-start : tie.Start = search in
     let unclear : is_clear at-start.args.end ≡ false = sym at-is-clear.is_clear-clear.ensures ∙ at-else1.if-clear.false in
-    (rw (unclear, left_after), λ j v e t w. rw (unclear, raised_after) (c.before.before.raise.ensures j v e t w))
+    (rw (unclear, left_after), λ j v e t w. rw (unclear, raised_after) (c.raise.ensures j v e t w))
 
 pub after_round_spec : {M : Type 1} → statement M
 after_round_spec = tie.close (tie.spec

@@ -8,7 +8,7 @@ returns-then-sum-best_sum : tie.Need-returns-then-sum-best_sum
 returns-then-sum-best_sum c =
     let at-then1 : tie.Then-sum-best_sum = search in
     let e = lt-ltb _ _ at-then1.if-sum-best_sum.true in
-    (rw (e, better_round) c.before.copy.ensures, rw (e, better_sum))
+    (rw (e, better_round) c.copy.ensures, rw (e, better_sum))
 
 returns : tie.Need-returns
 returns c = let e = le-ltb _ _ c.if-sum-best_sum.false in (rw (e, better_round), rw (e, better_sum))

@@ -47,9 +47,9 @@ inside c = search
 rounded : (c : tie.After-keep_better-sum invariant-loop-left decreases-loop-left)
     → Rounded (job (entry (head c))) (entry (head c)).args.run (entry (head c)).args.strips.now (entry (head c)).args.starts.now
     (entry (head c)).args.terms.budget (head c).loop-left.present (head c).loop-left.best (head c).loop-left.weights (head c).loop-left.sum
-    (descended c).descend-round.result (descended c).descend-round.new.1.1.1.1.1.1.1.1.0 c.keep_better-sum.new.1.1.0
-    (descended c).descend-round.new.1.1.1.1.1.1.1.1.1.0 (descended c).descend-round.new.1.1.1.1.1.1.1.1.1.1.0
-    (descended c).descend-round.new.1.1.1.1.1.1.1.1.1.1.1.0 c.before.before.before.plain_total-plain.result c.keep_better-sum.result
+    (descended c).descend-round.result (descended c).descend-round.new.layout c.keep_better-sum.new.best
+    (descended c).descend-round.new.penalties (descended c).descend-round.new.lines
+    (descended c).descend-round.new.maps c.plain_total-plain.result c.keep_better-sum.result
 rounded c =
     let at-plain-total2 : tie.After-plain_total-plain invariant-loop-left decreases-loop-left = search in
     let said = (descended c).descend-round.ensures in
@@ -58,7 +58,7 @@ rounded c =
       result = said.0;
       laid = said.1.0;
       ready = said.1.1;
-      plain_is = at-plain-total2.plain_total-plain.ensures (job_of l) (layout_of (descended c).descend-round.new.1.1.1.1.1.1.1.1.0) (job_count l)
+      plain_is = at-plain-total2.plain_total-plain.ensures (job_of l) (layout_of (descended c).descend-round.new.layout) (job_count l)
           said.1.0.table;
       best_is = c.keep_better-sum.ensures.0;
       sum_is = c.keep_better-sum.ensures.1;
@@ -121,7 +121,7 @@ keep_better-sum-requires c κs =
     let at-loop : tie.At-loop-left invariant-loop-left decreases-loop-left = search in
     let before = at-loop.loop-left.invariant.1 in
     before.same_best ∙ ap (λ b. length b) (entry at-loop).requires.1.1.1.0 ∙ sym before.same_layout
-    ∙ sym at-descend.descend-round.auto.1.1.1.1.1.1.1.1.0
+    ∙ sym at-descend.descend-round.auto.layout
 
 after_round-left-requires : tie.Need-after_round-left-requires invariant-loop-left decreases-loop-left
 after_round-left-requires c κs =
@@ -136,7 +136,7 @@ loop-left-smaller c =
     let at-keep-better : tie.After-keep_better-sum invariant-loop-left decreases-loop-left = search in
     let falls = left_falls (descended at-keep-better).descend-round.result.end (head at-keep-better).loop-left.left
     (inside (descended at-keep-better)).loop-left-test.true in
-    let left = c.before.before.after_round-left.ensures.0 in
+    let left = c.after_round-left.ensures.0 in
     omega arith
 
 loop-left-preserved : tie.Need-loop-left-preserved invariant-loop-left decreases-loop-left
@@ -146,42 +146,42 @@ loop-left-preserved c =
     let stands = (head at-keep-better).loop-left.invariant.0 in
     let before = (head at-keep-better).loop-left.invariant.1 in
     let round = rounded at-keep-better in
-    let after = c.before.before.after_round-left in
-    let kept = (descended at-keep-better).descend-round.auto in (
+    let after = c.after_round-left in
+    let kept = (descended at-keep-better).descend-round in (
       round_next stands
           (inside (descended at-keep-better)).loop-left-test.true round
           (after.ensures.1 (job_of (job s)) _ (job_count (job s)) round.laid.table stands.underway.valid_weights) after.ensures.0,
       record {
-        same_layout = kept.1.1.1.1.1.1.1.1.0 ∙ before.same_layout;
-        same_best = at-keep-better.keep_better-sum.auto.1.1.0 ∙ before.same_best;
-        same_weights = after.auto.1.1.1.0 ∙ before.same_weights;
-        same_penalties = kept.1.1.1.1.1.1.1.1.1.0 ∙ before.same_penalties;
-        same_lines = kept.1.1.1.1.1.1.1.1.1.1.0 ∙ before.same_lines;
-        same_maps = kept.1.1.1.1.1.1.1.1.1.1.1.0 ∙ before.same_maps;
+        same_layout = kept.auto.layout ∙ before.same_layout;
+        same_best = at-keep-better.keep_better-sum.auto.best ∙ before.same_best;
+        same_weights = after.auto.weights ∙ before.same_weights;
+        same_penalties = kept.auto.penalties ∙ before.same_penalties;
+        same_lines = kept.auto.lines ∙ before.same_lines;
+        same_maps = kept.auto.maps ∙ before.same_maps;
       },
     )
 
 shape_of-present : tie.Need-shape_of-present invariant-loop-left decreases-loop-left
-shape_of-present c = c.before.loop-left.invariant.1.same_layout
+shape_of-present c = c.loop-left.invariant.1.same_layout
 
 shape_of-best : tie.Need-shape_of-best invariant-loop-left decreases-loop-left
-shape_of-best c = c.before.loop-left.invariant.1.same_best
+shape_of-best c = c.loop-left.invariant.1.same_best
 
 shape_of-weights : tie.Need-shape_of-weights invariant-loop-left decreases-loop-left
-shape_of-weights c = c.before.loop-left.invariant.1.same_weights
+shape_of-weights c = c.loop-left.invariant.1.same_weights
 
 shape_of-penalties : tie.Need-shape_of-penalties invariant-loop-left decreases-loop-left
-shape_of-penalties c = c.before.loop-left.invariant.1.same_penalties
+shape_of-penalties c = c.loop-left.invariant.1.same_penalties
 
 shape_of-lines : tie.Need-shape_of-lines invariant-loop-left decreases-loop-left
-shape_of-lines c = c.before.loop-left.invariant.1.same_lines
+shape_of-lines c = c.loop-left.invariant.1.same_lines
 
 shape_of-maps : tie.Need-shape_of-maps invariant-loop-left decreases-loop-left
-shape_of-maps c = c.before.loop-left.invariant.1.same_maps
+shape_of-maps c = c.loop-left.invariant.1.same_maps
 
 returns : tie.Need-returns invariant-loop-left decreases-loop-left
 returns c =
-    let h = c.before in
+    let h = c in
     let none = c.loop-left-test.false in
     record { result = rounding_done h.loop-left.invariant.0 (omega arith); written = h.loop-left.invariant.0.written }
 

@@ -4,10 +4,10 @@ use Rattle.run_step.proofs.place_on.Statement.{statement}
 use Rattle.run_step.proofs.place_on.Tie as tie
 
 returns-in-InRow : tie.Need-returns-in-InRow
-returns-in-InRow c = rw c.before.line-1.given.1
+returns-in-InRow c = rw c.in-InRow.is
 
 returns-in-InColumn : tie.Need-returns-in-InColumn
-returns-in-InColumn c = rw c.before.line-in-InColumn-1.given.1
+returns-in-InColumn c = rw c.in-InColumn.is
 
 pub place_on_spec : {M : Type 1} → statement M
 place_on_spec = tie.close (tie.spec

@@ -84,7 +84,7 @@ placed c = search
 counted : (e : tie.Start) → e.args.at.quiet + 1 < 2 ^ 64
 counted e =
     let few = e.requires.1.1.1.1.1.0 in
-    let fits : length e.args.trials.now < 2 ^ 64 = e.well-formed.1.1.1.1.1.0.0 in
+    let fits : length e.args.trials.now < 2 ^ 64 = e.well_formed.1.1.1.1.1.0.0 in
     omega arith
 
 after_quiet-requires : tie.Need-after_quiet-requires
@@ -94,11 +94,11 @@ after_quiet-requires c κs =
 
 returns-then-present-eq0 : tie.Need-returns-then-present-eq0
 returns-then-present-eq0 c =
-    let b = c.before.before in
+    let b : tie.After-row_sum-present = search in
     let e = entry b in
     let j = job_of (lent e) in
     let r = c.after_quiet in
-    let still = zero_quiet j e.args.weights.now (layoutAt e) (trial_at b) (sym (present b) ∙ c.before.if-present-eq0.true) in (
+    let still = zero_quiet j e.args.weights.now (layoutAt e) (trial_at b) (sym (present b) ∙ c.if-present-eq0.true) in (
       quiet_passed e.args.trials.now (layoutAt e) e.args.at _ (placed b).next_place-next.ensures j e.args.weights.now (trial_at b)
           (reading b).trial_at-trial.ensures r.result r.ensures still,
       (ap (λ (s : DescentState). s.sum) r.ensures ∙ e.requires.1.1.1.1.0, (e.requires.1.1.0, e.requires.0)),
@@ -106,7 +106,7 @@ returns-then-present-eq0 c =
 
 overflow_cast-present : tie.Need-overflow_cast-present
 overflow_cast-present c =
-    let b = c.before in
+    let b : tie.After-row_sum-present = search in
     let e = entry b in
     let is = present b in
     let small =
@@ -125,11 +125,11 @@ summed c = search
 
 -- what the layout buffer holds after the trial
 abbrev left : tie.After-try_trial → Layout
-left c = layout_of c.try_trial.new.1.1.1.1.1.1.1.1.0
+left c = layout_of c.try_trial.new.layout
 
 -- and what it is by the search
 after : (c : tie.After-try_trial) (o : Option Best) → sought (summed c) ≡ o
-    → c.try_trial.new.1.1.1.1.1.1.1.1.0
+    → c.try_trial.new.layout
     ≡ entries_after (entry (summed c)).args.layout.now (trial_at (summed c)).piece (trial_at (summed c)).turn
     (trial_line (layoutAt (entry (summed c))) (trial_at (summed c))) o
 after c o found =
@@ -147,28 +147,28 @@ after_quiet-requires-in_default c κs =
 -- ── the buffers are as long as before ──
 
 shape_of-layout-in_default : tie.Need-shape_of-layout-in_default
-shape_of-layout-in_default c = let at-try-trial : tie.After-try_trial = search in at-try-trial.try_trial.auto.1.1.1.1.1.1.1.1.0
+shape_of-layout-in_default c = let at-try-trial : tie.After-try_trial = search in at-try-trial.try_trial.auto.layout
 
 shape_of-penalties-in_default : tie.Need-shape_of-penalties-in_default
-shape_of-penalties-in_default c = let at-try-trial : tie.After-try_trial = search in at-try-trial.try_trial.auto.1.1.1.1.1.1.1.1.1.0
+shape_of-penalties-in_default c = let at-try-trial : tie.After-try_trial = search in at-try-trial.try_trial.auto.penalties
 
 shape_of-lines-in_default : tie.Need-shape_of-lines-in_default
-shape_of-lines-in_default c = let at-try-trial : tie.After-try_trial = search in at-try-trial.try_trial.auto.1.1.1.1.1.1.1.1.1.1.0
+shape_of-lines-in_default c = let at-try-trial : tie.After-try_trial = search in at-try-trial.try_trial.auto.lines
 
 shape_of-maps-in_default : tie.Need-shape_of-maps-in_default
-shape_of-maps-in_default c = let at-try-trial : tie.After-try_trial = search in at-try-trial.try_trial.auto.1.1.1.1.1.1.1.1.1.1.1.0
+shape_of-maps-in_default c = let at-try-trial : tie.After-try_trial = search in at-try-trial.try_trial.auto.maps
 
 shape_of-layout : tie.Need-shape_of-layout
-shape_of-layout c = let at-try-trial : tie.After-try_trial = search in at-try-trial.try_trial.auto.1.1.1.1.1.1.1.1.0
+shape_of-layout c = let at-try-trial : tie.After-try_trial = search in at-try-trial.try_trial.auto.layout
 
 shape_of-penalties : tie.Need-shape_of-penalties
-shape_of-penalties c = let at-try-trial : tie.After-try_trial = search in at-try-trial.try_trial.auto.1.1.1.1.1.1.1.1.1.0
+shape_of-penalties c = let at-try-trial : tie.After-try_trial = search in at-try-trial.try_trial.auto.penalties
 
 shape_of-lines : tie.Need-shape_of-lines
-shape_of-lines c = let at-try-trial : tie.After-try_trial = search in at-try-trial.try_trial.auto.1.1.1.1.1.1.1.1.1.1.0
+shape_of-lines c = let at-try-trial : tie.After-try_trial = search in at-try-trial.try_trial.auto.lines
 
 shape_of-maps : tie.Need-shape_of-maps
-shape_of-maps c = let at-try-trial : tie.After-try_trial = search in at-try-trial.try_trial.auto.1.1.1.1.1.1.1.1.1.1.1.0
+shape_of-maps c = let at-try-trial : tie.After-try_trial = search in at-try-trial.try_trial.auto.maps
 
 -- ── what a trial comes to ──
 
@@ -180,7 +180,7 @@ returns-in_default c =
     let j = job_of (lent e) in
     let ws = e.args.weights.now in
     let r = c.after_quiet-in_default in
-    let nothing : sought b ≡ none = tried_quiet (sought b) (sym c.before.enum_told-1.given.1 ∙ at-try-trial.try_trial.ensures.0) in
+    let nothing : sought b ≡ none = tried_quiet (sought b) (sym c.in_default.is ∙ at-try-trial.try_trial.ensures.0) in
     let same : left at-try-trial ≡ layoutAt e = ap layout_of (after at-try-trial none nothing) in
     let passed = quiet_passed e.args.trials.now (layoutAt e) e.args.at _ (placed b).next_place-next.ensures j ws (trial_at b)
     (reading b).trial_at-trial.ensures r.result r.ensures (trial_quiet j ws (layoutAt e) (trial_at b) nothing) in (
@@ -192,12 +192,12 @@ returns-in_default c =
     )
 
 -- the place that was found
-place : (c : tie.In-Moved-2) →
+place : (c : tie.In-Moved) →
     let at-try-trial : tie.After-try_trial = search in
-    MovedTo (sought (summed (at-try-trial))) c.found-1.given.0.0
+    MovedTo (sought (summed (at-try-trial))) c.in-Moved.found
 place c =
     let at-try-trial : tie.After-try_trial = search in
-    tried_moved _ _ (sym c.found-1.given.1 ∙ at-try-trial.try_trial.ensures.0)
+    tried_moved _ _ (sym c.in-Moved.is ∙ at-try-trial.try_trial.ensures.0)
 
 overflow_sub-sum : tie.Need-overflow_sub-sum
 overflow_sub-sum c =
@@ -213,7 +213,8 @@ overflow_add-sum c =
     let at-row-sum : tie.After-row_sum-present = search in
     let e = entry at-row-sum in
     let j = job_of (lent e) in
-    let m = place c.before in
+    let told : tie.In-Moved = search in
+    let m = place told in
     let is = present at-row-sum in
     let most = piece_at_most j e.args.weights.now (layoutAt e) (trial_at at-row-sum).piece in
     let small = total_small (lent e) e.requires.0.well e.args.weights.now e.requires.1.0 (layoutAt e) in
@@ -234,7 +235,8 @@ returns c =
     let e = entry b in
     let j = job_of (lent e) in
     let ws = e.args.weights.now in
-    let m = place c.before.before in
+    let told : tie.In-Moved = search in
+    let m = place told in
     let r = c.after_move in
     let there : left at-try-trial ≡ trial_moved (layoutAt e) (trial_at b) m.best.at =
     moved_layout e.args.layout.now _ (trial_at b) m.best (after at-try-trial _ m.found) in
@@ -242,7 +244,7 @@ returns c =
     trial_moved_lem j ws (layoutAt e) (trial_at b) m.best m.found ∙ ap moved (sym there) in
     let lowered : weighted_sum j ws (left at-try-trial) ≡ weighted_sum j ws (layoutAt e) - piece_sum j ws (layoutAt e) (trial_at b).piece + m.best.sum =
     ap (weighted_sum j ws) there ∙ trial_sum j ws (layoutAt e) (trial_at b) m.best m.found in
-    let now : r.result.sum ≡ e.args.at.sum - b.row_sum-present.result + c.before.before.found-1.given.0.0 = ap (λ (s : DescentState). s.sum) r.ensures in
+    let now : r.result.sum ≡ e.args.at.sum - b.row_sum-present.result + c.in-Moved.found = ap (λ (s : DescentState). s.sum) r.ensures in
     let is = present b in
     let sum = e.requires.1.1.1.1.0 in
     let least = m.sum in (

@@ -35,38 +35,38 @@ returns-in_default : tie.Need-returns-in_default
 returns-in_default c =
     let at-search-below : tie.After-search_below = search in
     let at-start : tie.Start = search in
-    let nothing : sought at-start ≡ none = found_nothing (sought at-start) (sym c.enum_told-1.given.1 ∙ at-search-below.search_below.ensures.0) in
+    let nothing : sought at-start ≡ none = found_nothing (sought at-start) (sym c.in_default.is ∙ at-search-below.search_below.ensures.0) in
     (ap tried_answer (sym nothing), (ap (entriesBy at-start) (sym nothing), (at-start.requires.1.1.1.1, at-search-below.search_below.ensures.1)))
 
 -- the entry, from where a place was found
-abbrev entry : tie.In-At-2 → tie.Start
+abbrev entry : tie.In-At → tie.Start
 entry c = search
 
 -- the coordinate
-abbrev coordinate : tie.In-At-2 → ℕ
-coordinate c = c.sum-1.given.0.1.0
+abbrev coordinate : tie.In-At → ℕ
+coordinate c = c.in-At.at
 
 -- the place that was found
-found : (c : tie.In-At-2) → sought (entry c) ≡ some (best_at c.sum-1.given.0.0 (coordinate c))
+found : (c : tie.In-At) → sought (entry c) ≡ some (best_at c.in-At.sum (coordinate c))
 found c =
     let at-search-below : tie.After-search_below = search in
-    found_at (sought (entry c)) _ _ (sym c.sum-1.given.1 ∙ at-search-below.search_below.ensures.0)
+    found_at (sought (entry c)) _ _ (sym c.in-At.is ∙ at-search-below.search_below.ensures.0)
 
 -- it is one of the line's
-there : (c : tie.In-At-2)
+there : (c : tie.In-At)
     → coordinate c < places (job_of (lent (entry c))) (entry c).args.mover.piece (entry c).args.mover.turn (entry c).args.mover.line
 there c = found_there _ _ (entry c).args.bound _ (found c)
 
 renew_placed-requires : tie.Need-renew_placed-requires
 renew_placed-requires c κs =
-    let at_sum : tie.In-At-2 = search in
+    let at_sum : tie.In-At = search in
     let at-search-below : tie.After-search_below = search in
     let e = entry at_sum in
     (at-search-below.search_below.ensures.1, (e.requires.1.1.0, ((e.requires.1.1.1.0, there at_sum), e.requires.1.1.1.1)))
 
 place_on-requires : tie.Need-place_on-requires
 place_on-requires c κs =
-    let at_sum : tie.In-At-2 = search in
+    let at_sum : tie.In-At = search in
     let e = entry at_sum in
     let below = there at_sum in
     let few = places_few (lent e) e.requires.0.well e.args.mover.piece e.args.mover.turn e.args.mover.line in
@@ -74,9 +74,6 @@ place_on-requires c κs =
 
 offset_bounds-layout-piece : tie.Need-offset_bounds-layout-piece
 offset_bounds-layout-piece c =
-    let at-known-told : tie.In-At = search in
-    let at-search-below : tie.After-search_below = search in
-    let at-shared-slice-known3 : tie.After-shared_slice_known-3-1 = search in
     let at-start : tie.Start = search in
     let few = (facts (lent at-start) at-start.requires.0.well).few_pieces in
     let below = at-start.requires.1.1.1.0 in
@@ -84,9 +81,6 @@ offset_bounds-layout-piece c =
 
 bounds-layout-piece : tie.Need-bounds-layout-piece
 bounds-layout-piece c =
-    let at-known-told : tie.In-At = search in
-    let at-search-below : tie.After-search_below = search in
-    let at-shared-slice-known3 : tie.After-shared_slice_known-3-1 = search in
     let at-start : tie.Start = search in
     let whole = at-start.requires.1.1.0.whole in
     let below = at-start.requires.1.1.1.0 in
@@ -94,31 +88,31 @@ bounds-layout-piece c =
 
 -- the search, from where the table is renewed
 abbrev searched : tie.After-renew_placed → tie.After-search_below
-searched c = let at_sum : tie.In-At-2 = search in search
+searched c = let at_sum : tie.In-At = search in search
 
 shape_of-penalties : tie.Need-shape_of-penalties
-shape_of-penalties c = let x : tie.After-renew_placed = search in x.renew_placed.auto.1.1.1.1.1.1.1.1.1.1.0
+shape_of-penalties c = let x : tie.After-renew_placed = search in x.renew_placed.auto.penalties
 
 shape_of-lines : tie.Need-shape_of-lines
 shape_of-lines c =
     let x : tie.After-renew_placed = search in
-    x.renew_placed.auto.1.1.1.1.1.1.1.1.0 ∙ (searched x).search_below.auto.1.1.1.1.1.1.1.1.1.0
+    x.renew_placed.auto.lines ∙ (searched x).search_below.auto.lines
 
 shape_of-maps : tie.Need-shape_of-maps
 shape_of-maps c =
     let x : tie.After-renew_placed = search in
-    x.renew_placed.auto.1.1.1.1.1.1.1.1.1.0 ∙ (searched x).search_below.auto.1.1.1.1.1.1.1.1.1.1.0
+    x.renew_placed.auto.maps ∙ (searched x).search_below.auto.maps
 
 returns : tie.Need-returns
 returns c =
     let at-renew-placed : tie.After-renew_placed = search in
-    let at_sum : tie.In-At-2 = search in
+    let at_sum : tie.In-At = search in
     let e = entry at_sum in
     let m = e.args.mover in
     let es = e.args.layout.now in
     let r = at-renew-placed.renew_placed in
     let wrote : c.entry_of.result ≡ entry_of (on_line m.line m.turn (coordinate at_sum)) =
-    c.entry_of.ensures ∙ ap entry_of c.before.place_on.ensures in
+    c.entry_of.ensures ∙ ap entry_of c.place_on.ensures in
     let stored : set es m.piece c.entry_of.result ≡ set es m.piece (entry_of (on_line m.line m.turn (coordinate at_sum))) =
     ap (set es m.piece) wrote in
     let placed : layout_of (set es m.piece c.entry_of.result) ≡ set (layout_of es) m.piece (on_line m.line m.turn (coordinate at_sum)) =
@@ -127,7 +121,7 @@ returns c =
       (
         stored ∙ ap (entriesBy e) (sym (found at_sum)),
         (
-          subst (λ (w : Layout). PenaltyTable (job_of (lent e)) w e.args.run.size.count r.last.1.1.1.1.1.1.1.1.1.1.0) (sym placed)
+          subst (λ (w : Layout). PenaltyTable (job_of (lent e)) w e.args.run.size.count r.new.penalties) (sym placed)
               r.ensures.0,
           r.ensures.1,
         ),

@@ -42,7 +42,7 @@ returns c =
     let es = e.args.layout.now in
     let k = trial_as e.args.trial in
     let t = x.try_line in
-    let f = y.Line-of in
+    let f = y.line_of-line in
     let sum = e.requires.1.1.1.1 in
     let wrote = entries_same j ws es k f.result e.args.present f.ensures sum _ t.ensures.1.0 in (
       t.ensures.0 ∙ ap tried_answer (search_same j ws es k f.result e.args.present f.ensures sum),

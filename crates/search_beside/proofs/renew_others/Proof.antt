@@ -53,9 +53,9 @@ loop-k-preserved c =
     let t = at_in.loop-k-test.true in
     let x = at-renew-other.renew_other in (
       omega arith,
-      x.kept.1.1.1.1.1.1.1.1.1.0 ∙ p.invariant.1,
-      x.kept.1.1.1.1.1.1.1.1.1.1.0 ∙ p.invariant.2,
-      x.kept.1.1.1.1.1.1.1.1.1.1.1.0 ∙ p.invariant.3,
+      x.auto.lines ∙ p.invariant.1,
+      x.auto.maps ∙ p.invariant.2,
+      x.auto.penalties ∙ p.invariant.3,
       x.ensures.0,
       x.ensures.1,
     )

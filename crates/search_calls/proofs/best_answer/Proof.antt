@@ -9,20 +9,20 @@ use Rattle.search_calls.proofs.best_answer.Tie as tie
 overflow_cast-at : tie.Need-overflow_cast-at
 overflow_cast-at c =
     let at-start : tie.Start = search in
-    let h = subst InReach c.before.found-1.given.1 at-start.requires in omega arith
+    let h = subst InReach c.in-At.is at-start.requires in omega arith
 
 returns-in-At : tie.Need-returns-in-At
 returns-in-At c =
     let at-start : tie.Start = search in
     let line = at-start.args.line in
-    ap (λ (place : Coordinate). Best c.before.before.found-1.given.0.0 place) c.coordinate_on.ensures
-    ∙ sym (ap (best_answer line) c.before.before.found-1.given.1)
+    ap (λ (place : Coordinate). Best c.in-At.sum place) c.coordinate_on.ensures
+    ∙ sym (ap (best_answer line) c.in-At.is)
 
 returns-in-Nothing : tie.Need-returns-in-Nothing
 returns-in-Nothing c =
     let at-start : tie.Start = search in
     let line = at-start.args.line in
-    ap Refused c.plain_refusal.ensures ∙ sym (ap (best_answer line) c.before.enum_told-1.given.1)
+    ap Refused c.plain_refusal.ensures ∙ sym (ap (best_answer line) c.in-Nothing.is)
 
 pub best_answer_spec : {M : Type 1} → statement M
 best_answer_spec =

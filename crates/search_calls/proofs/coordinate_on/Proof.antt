@@ -6,10 +6,10 @@ use Rattle.search_calls.proofs.coordinate_on.Statement.{statement}
 use Rattle.search_calls.proofs.coordinate_on.Tie as tie
 
 returns-in-InRow : tie.Need-returns-in-InRow
-returns-in-InRow c = sym (ap (λ (l : Line). coordinate_on l c.before.before.args.at) c.enum_told-1.given.1)
+returns-in-InRow c = sym (ap (λ (l : Line). coordinate_on l c.args.at) c.in-InRow.is)
 
 returns-in-InColumn : tie.Need-returns-in-InColumn
-returns-in-InColumn c = sym (ap (λ (l : Line). coordinate_on l c.before.before.args.at) c.enum_told-in-InColumn-1.given.1)
+returns-in-InColumn c = sym (ap (λ (l : Line). coordinate_on l c.args.at) c.in-InColumn.is)
 
 pub coordinate_on_spec : {M : Type 1} → statement M
 coordinate_on_spec = tie.close (tie.spec

@@ -19,7 +19,7 @@ search_alone-requires c κs =
     let a = at-start.args in
     let l = lent_by a.size a.table.now a.pixels.now in
     let none : NoCause (placing_causes l a.layout.now a.weights.now a.piece a.turn) =
-    passed_none _ (sym c.enum_told-1.given.1 ∙ c.before.before.placing_causes.ensures) in
+    passed_none _ (sym c.in-Done.is ∙ c.placing_causes.ensures) in
     let known = placing_passed l a.layout.now a.weights.now a.piece a.turn none in
     (known.laid, (known.weights, known.piece))
 
@@ -30,7 +30,7 @@ best_answer-requires c κs =
     let a = at-start.args in
     let l = lent_by a.size a.table.now a.pixels.now in
     let none : NoCause (placing_causes l a.layout.now a.weights.now a.piece a.turn) =
-    passed_none _ (sym c.before.enum_told-1.given.1 ∙ at-placing-causes.placing_causes.ensures) in
+    passed_none _ (sym c.in-Done.is ∙ at-placing-causes.placing_causes.ensures) in
     let well = (placing_passed l a.layout.now a.weights.now a.piece a.turn none).laid.well in
     subst InReach (sym c.search_alone.ensures) (best_in_reach l well a.weights.now (layout_of a.layout.now) a.piece a.turn a.line)
 
@@ -45,7 +45,7 @@ returns-in-Refused c =
     (refused_then (placing_causes l a.layout.now a.weights.now a.piece a.turn)
     (cause empty_line (eqb (places (job_of l) a.piece a.turn a.line) 0) ∷ [])
     (best_place (search_line (job_of l) a.weights.now (layout_of a.layout.now) a.piece a.turn a.line)) _
-    (sym c.before.refusal-1.given.1 ∙ at-placing-causes.placing_causes.ensures)))
+    (sym c.in-Refused.is ∙ at-placing-causes.placing_causes.ensures)))
 
 returns-in-Done : tie.Need-returns-in-Done
 unfolding search_call
@@ -55,9 +55,9 @@ returns-in-Done c =
     let a = at-start.args in
     let l = lent_by a.size a.table.now a.pixels.now in
     let none : NoCause (placing_causes l a.layout.now a.weights.now a.piece a.turn) =
-    passed_none _ (sym c.before.before.enum_told-1.given.1 ∙ at-placing-causes.placing_causes.ensures) in
+    passed_none _ (sym c.in-Done.is ∙ at-placing-causes.placing_causes.ensures) in
     c.best_answer.ensures
-    ∙ ap (best_answer a.line) c.before.search_alone.ensures
+    ∙ ap (best_answer a.line) c.search_alone.ensures
     ∙ best_is_lem (job_of l) a.weights.now (layout_of a.layout.now) a.piece a.turn a.line
     ∙ sym (ap (search_answer a.line)
     (none_then (placing_causes l a.layout.now a.weights.now a.piece a.turn)

@@ -77,7 +77,7 @@ returns-in-Horizontal c =
     let f = k.columns in
     let u = c.units_for.ensures in
     let told : tie.In-Horizontal = search in
-    rw told.enum_told-1.given.1 (record { some = omega arith; enough = omega arith; few = omega arith })
+    rw told.in-Horizontal.is (record { some = omega arith; enough = omega arith; few = omega arith })
 
 returns-in-Vertical : tie.Need-returns-in-Vertical
 returns-in-Vertical c =
@@ -89,7 +89,7 @@ returns-in-Vertical c =
     let f = k.rows in
     let u = c.units_for-in-Vertical.ensures in
     let told : tie.In-Vertical = search in
-    rw told.enum_told-in-Vertical-1.given.1 (record { some = omega arith; enough = omega arith; few = omega arith })
+    rw told.in-Vertical.is (record { some = omega arith; enough = omega arith; few = omega arith })
 
 pub line_units_spec : {M : Type 1} → statement M
 line_units_spec =

@@ -13,14 +13,14 @@ returns-in-Horizontal : tie.Need-returns-in-Horizontal
 returns-in-Horizontal c =
     let e : tie.Start = search in
     let told : tie.In-Horizontal = search in
-    rw told.enum_told-1.given.1
+    rw told.in-Horizontal.is
     (ap (λ (x : Two). record { two = x; direction = Vertical; back = not e.args.source.back }) c.before.turned_two.ensures)
 
 returns-in-Vertical : tie.Need-returns-in-Vertical
 returns-in-Vertical c =
     let e : tie.Start = search in
     let told : tie.In-Vertical = search in
-    rw told.enum_told-in-Vertical-1.given.1
+    rw told.in-Vertical.is
     (ap (λ (x : Two). record { two = x; direction = Horizontal; back = e.args.source.back })
     (c.turned_two-in-Vertical.ensures ∙ ap (turned_two e.args.source.two) c.before.mirrored_offset.ensures))
 

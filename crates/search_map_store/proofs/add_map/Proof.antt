@@ -81,7 +81,7 @@ returns c =
     λ d s t ez em et.
     added a.slots d (all_grown a.extra s) t a.sides a.key a.slot a.words.now _ _ at c.map_words.result k (at + k - at) ez
     (made.ensures (d a.key) (s a.key) (t a.key) ez em et) size (omega arith) (omega arith)
-    (made.kept.1.1.1.1.0 ∙ simp (length-take, length-drop) (omega arith)) fits
+    (made.auto.words ∙ simp (length-take, length-drop) (omega arith)) fits
     at-start.requires.1.1.1.slot_in (omega arith)
 
 pub add_map_spec : {M : Type 1} → statement M

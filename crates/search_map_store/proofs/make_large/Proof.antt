@@ -20,9 +20,9 @@ copy_words-requires c κs =
     let m = map_most at-start.args.sides at-start.requires.0 in
     let e = at-map-words.map_words.ensures in
     let r = at-start.requires.1.1.1.1.enough in
-    let kept = at-make-map.make_map.auto.1.1.1.1 in
-    let words : length at-make-map.make_map.new.scratch ≡ length at-start.args.words.now = kept.0 in
-    let map : length at-make-map.make_map.new.words ≡ map_bound = kept.1.0 in
+    let kept = at-make-map.make_map.auto in
+    let words : length at-make-map.make_map.new.scratch ≡ length at-start.args.words.now = kept.scratch in
+    let map : length at-make-map.make_map.new.words ≡ map_bound = kept.words in
     (omega arith, omega arith)
 
 returns : tie.Need-returns

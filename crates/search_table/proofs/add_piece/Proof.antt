@@ -110,10 +110,10 @@ loop-k-preserved c =
     let b = s.requires.1.0.0 in
     let taken = in-loop.loop-k-test.true in (
       omega arith,
-      measured.kept.1.1.1.1.1.1.0 ∙ l.invariant.1,
-      measured.kept.1.1.1.1.1.1.1.0 ∙ l.invariant.2,
-      measured.kept.1.1.1.1.1.1.1.1.0 ∙ l.invariant.3,
-      measured.kept.1.1.1.1.1.1.1.1.1.0 ∙ l.invariant.4,
+      measured.auto.rows ∙ l.invariant.1,
+      measured.auto.row_spans ∙ l.invariant.2,
+      measured.auto.columns ∙ l.invariant.3,
+      measured.auto.column_spans ∙ l.invariant.4,
       simp length-set l.invariant.5,
       measured.ensures.1.1.0,
       measured.ensures.1.1.1,

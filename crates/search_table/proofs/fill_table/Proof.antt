@@ -53,11 +53,11 @@ loop-i-preserved c =
     let added = filled.add_piece in
     let taken = in-loop.loop-i-test.true in (
       omega arith,
-      added.kept.1.1.1.1.1.0 ∙ l.invariant.1,
-      added.kept.1.1.1.1.1.1.0 ∙ l.invariant.2,
-      added.kept.1.1.1.1.1.1.1.0 ∙ l.invariant.3,
-      added.kept.1.1.1.1.1.1.1.1.0 ∙ l.invariant.4,
-      added.kept.1.1.1.1.1.1.1.1.1.0 ∙ l.invariant.5,
+      added.auto.rows ∙ l.invariant.1,
+      added.auto.row_spans ∙ l.invariant.2,
+      added.auto.columns ∙ l.invariant.3,
+      added.auto.column_spans ∙ l.invariant.4,
+      added.auto.penalties ∙ l.invariant.5,
       added.ensures.1.0,
       added.ensures.1.1,
       λ size g. added.ensures.0 size g (l.invariant.8 size g),

@@ -39,7 +39,7 @@ returns-in-Horizontal c =
     let s = at-sides.turned_sides-sides in (
       λ pixels.
           standing_row (job_of (lent_by a.size a.table.now pixels)) (layout_of a.layout.now) a.k p.result s.result p.ensures
-          (s.ensures.0 a.size pixels) a.direction told.enum_told-1.given.1,
+          (s.ensures.0 a.size pixels) a.direction told.in-Horizontal.is,
       record {
         along = let k = known.before.struct_known-5-1.given in search rules;
         across = let k = known.struct_known-6-1.given.1 in search rules;
@@ -61,7 +61,7 @@ returns-in-Vertical c =
     let s = at-sides.turned_sides-sides in (
       λ pixels.
           standing_column (job_of (lent_by a.size a.table.now pixels)) (layout_of a.layout.now) a.k p.result s.result p.ensures
-          (s.ensures.0 a.size pixels) a.direction told.enum_told-in-Vertical-1.given.1,
+          (s.ensures.0 a.size pixels) a.direction told.in-Vertical.is,
       record {
         along = let k = known.struct_known-6-1.given.1 in search rules;
         across = let k = known.before.struct_known-5-1.given in search rules;

@@ -2,7 +2,6 @@
 use Rattle.list_laws.proofs.Kit.{◌∙◌, ◌≡◌, ap, subst, sym, false, true, ◌+◌, ◌≤◌, suc, add-one, arith, length, rules}
 use Rattle.model.specs.Piece.{tight}
 use Rattle.model.specs.JobText.{rows_at, box_shape}
-use Rattle.list_laws.proofs.Tests.{said_no, said_yes}
 use Rattle.job_lines.specs.Lines.{piece_line_of}
 use Rattle.job_rows.specs.Stores.{rows_answer, RowsStored}
 use Rattle.job_calls.specs.Reading.{place_answer}

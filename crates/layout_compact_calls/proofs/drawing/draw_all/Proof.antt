@@ -43,8 +43,8 @@ loop-i-preserved c =
     let inv = at-loop.loop-i.invariant in
     let made = drawn.draw.ensures.1 in (
       omega arith,
-      drawn.draw.auto.1.1.1.1.1.0 ∙ inv.1,
-      drawn.draw.auto.1.1.1.1.1.1.0 ∙ inv.2,
+      drawn.draw.auto.store ∙ inv.1,
+      drawn.draw.auto.spans ∙ inv.2,
       drawn.draw.ensures.0,
       λ m l. ⊎_elim (λ (e : m ≡ at-loop.loop-i.i). rw e made.0) (λ (b : m < at-loop.loop-i.i). made.1 m (inv.4 m b)) (below_more l),
     )

@@ -44,8 +44,8 @@ loop-k-preserved c =
     let in-loop : tie.In-loop-k invariant-loop-k decreases-loop-k = search in
     let asked : tie.After-conflicts_of invariant-loop-k decreases-loop-k = search in (
       λ size g. row_next _ _ _ _ in-loop.loop-k-test.true (sym (asked.conflicts_of.ensures.0 size g) ∙ c.if-conflicts_of.false) (at-loop.loop-k.invariant.0 size g),
-      asked.conflicts_of.auto.1.1.1.1.1.1.0 ∙ at-loop.loop-k.invariant.1,
-      asked.conflicts_of.auto.1.1.1.1.1.1.1.0 ∙ at-loop.loop-k.invariant.2,
+      asked.conflicts_of.auto.rows ∙ at-loop.loop-k.invariant.1,
+      asked.conflicts_of.auto.row_spans ∙ at-loop.loop-k.invariant.2,
       asked.conflicts_of.ensures.1,
     )
 

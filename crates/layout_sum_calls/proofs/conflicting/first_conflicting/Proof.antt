@@ -74,8 +74,8 @@ loop-i-preserved c =
       λ size g whole.
           at-loop.loop-i.invariant.0 size g whole ∙ rows_left _ _ _ in-loop.loop-i-test.true
           ∙ (walked.conflicting_in_row-k.ensures.0 size g).none c.if-k-layout.false _,
-      walked.conflicting_in_row-k.auto.1.1.1.1.1.0 ∙ at-loop.loop-i.invariant.1,
-      walked.conflicting_in_row-k.auto.1.1.1.1.1.1.0 ∙ at-loop.loop-i.invariant.2,
+      walked.conflicting_in_row-k.auto.rows ∙ at-loop.loop-i.invariant.1,
+      walked.conflicting_in_row-k.auto.row_spans ∙ at-loop.loop-i.invariant.2,
       walked.conflicting_in_row-k.ensures.1,
     )
 

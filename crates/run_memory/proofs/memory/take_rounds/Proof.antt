@@ -55,12 +55,12 @@ copy-requires c κs =
 slice_bounds-present-end-2 : tie.Need-slice_bounds-present-end-2
 slice_bounds-present-end-2 c =
     let at-start : tie.Start = search in
-    copied_room (at-start) _ _ c.before.copy.ensures
+    copied_room (at-start) _ _ c.copy.ensures
 
 slice_bounds-rounds-end : tie.Need-slice_bounds-rounds-end
 slice_bounds-rounds-end c =
     let at-start : tie.Start = search in
-    sym (ap (λ es. length es) (copied_part at-start _ _ c.before.before.copy.ensures) ∙ whole at-start)
+    sym (ap (λ es. length es) (copied_part at-start _ _ c.copy.ensures) ∙ whole at-start)
 
 rounds-requires : tie.Need-rounds-requires
 rounds-requires c κs =
@@ -93,7 +93,7 @@ returns c =
     let made = at-rounds.rounds in
     subst
     (λ v. Ran (job at-start) v at-start.args.weights.now at-start.args.terms.count at-start.args.terms.budget made.result
-    made.last.1.1.1.1.1.1.1.1.0 made.last.1.1.1.1.1.1.1.1.1.0)
+    made.new.best made.new.weights)
     (copied_part at-start _ _ at_copy.copy.ensures) made.ensures
 
 pub take_rounds_spec : {M : Type 1} → statement M

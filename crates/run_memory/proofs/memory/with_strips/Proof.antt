@@ -26,10 +26,10 @@ make_trials-count-requires c κs =
     ((f.entries, f.few_pieces), omega arith)
 
 -- the store is long enough for the list
-enough : (c : tie.After-make_trials-count) → c.make_trials-count.result ≤ length c.make_trials-count.new.1.1.0
+enough : (c : tie.After-make_trials-count) → c.make_trials-count.result ≤ length c.make_trials-count.new.store
 enough c =
     let room = length-replicate {A = ℕ} 512 0 in
-    let same = c.make_trials-count.auto.1.1.0 in
+    let same = c.make_trials-count.auto.store in
     let few = c.make_trials-count.ensures.1 in
     omega arith
 
@@ -48,7 +48,7 @@ slice_bounds-trials-end c = let listed : tie.After-make_trials-count = search in
 slice_bounds-with_workspace-end-3 : tie.Need-slice_bounds-with_workspace-end-3
 slice_bounds-with_workspace-end-3 c =
     let listed : tie.After-make_trials-count = search in
-    front_length listed.make_trials-count.result listed.make_trials-count.new.1.1.0 (enough listed)
+    front_length listed.make_trials-count.result listed.make_trials-count.new.store (enough listed)
 
 with_workspace-requires : tie.Need-with_workspace-requires
 with_workspace-requires c κs =
@@ -61,7 +61,7 @@ with_workspace-requires c κs =
       (
         e.requires.1,
         (
-          in_rows_lem.make-shapes.ensures,
+          in_rows_lem.make_shapes.ensures,
           (
             record { valid = g.laid.valid; written = g.written; table = filled.penalties_of-penalties.ensures (sym g.laid.whole) },
             listed.make_trials-count.ensures.0 e.args.pixels.now,

@@ -69,9 +69,9 @@ loop-left-preserved c =
     let at-loop : tie.At-loop-left invariant-loop-left decreases-loop-left = search in
     let p = at-loop.loop-left in
     let x = at-add-other.add_other in (
-      x.kept.1.1.1.1.1.1.1.1.1.0 ∙ p.invariant.0,
-      x.kept.1.1.1.1.1.1.1.1.1.1.0 ∙ p.invariant.1,
-      x.kept.1.1.1.1.1.1.1.1.1.1.1.0 ∙ p.invariant.2,
+      x.auto.lines ∙ p.invariant.0,
+      x.auto.maps ∙ p.invariant.1,
+      x.auto.sums ∙ p.invariant.2,
       adding_step _ _ _ _ _ _ p.left p.sums at_in.loop-left-test.true p.invariant.3 _ x.ensures.0,
       x.ensures.1,
     )

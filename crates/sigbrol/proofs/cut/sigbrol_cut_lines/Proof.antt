@@ -26,7 +26,7 @@ unfolding outcome
 answered c = let sized : tie.After-size_of = search in rw sized.type_size.ensures at c.cut_lines.ensures.0
 
 shape_of-lines-in-Number : tie.Need-shape_of-lines-in-Number
-shape_of-lines-in-Number c = let called : tie.After-cut_lines = search in called.cut_lines.auto.1.1.1.1.0
+shape_of-lines-in-Number c = let called : tie.After-cut_lines = search in called.cut_lines.auto.lines
 
 returns-in-Number : tie.Need-returns-in-Number
 unfolding outcome
@@ -35,19 +35,19 @@ returns-in-Number c =
     let sized : tie.After-size_of = search in
     let at-start : tie.Start = search in
     let o = outcome at-start in
-    let t = count_told o (sym c.before.before.length-1.given.1 ∙ answered called) in (
+    let t = count_told o (sym c.in-Number.is ∙ answered called) in (
       c.done.ensures ∙ reply_by (λ ls. length ls) o t,
       (
         rw sized.type_size.ensures at called.cut_lines.ensures.1.0,
         (
           leaves_by (λ ls. length ls) (λ k. k) _ o t,
-          λ zero. rw sized.type_size.ensures at (called.cut_lines.ensures.1.1 _ c.before.before.length-1.given.1),
+          λ zero. rw sized.type_size.ensures at (called.cut_lines.ensures.1.1 _ c.in-Number.is),
         ),
       ),
     )
 
 shape_of-lines-in-Refused : tie.Need-shape_of-lines-in-Refused
-shape_of-lines-in-Refused c = let called : tie.After-cut_lines = search in called.cut_lines.auto.1.1.1.1.0
+shape_of-lines-in-Refused c = let called : tie.After-cut_lines = search in called.cut_lines.auto.lines
 
 returns-in-Refused : tie.Need-returns-in-Refused
 unfolding outcome
@@ -56,7 +56,7 @@ returns-in-Refused c =
     let sized : tie.After-size_of = search in
     let at-start : tie.Start = search in
     let o = outcome at-start in
-    let t = count_told o (sym c.before.before.refusal-1.given.1 ∙ answered called) in
+    let t = count_told o (sym c.in-Refused.is ∙ answered called) in
     let positive = cut_lines_numbered (lent at-start) at-start.args.layout.now _ _ (refusal_told (λ ls. length ls) o _ t) in
     let number = ap (λ (x : Reply). x.number) c.refused.ensures in (
       c.refused.ensures ∙ reply_by (λ ls. length ls) o t,

@@ -30,12 +30,12 @@ returns-in-Step : tie.Need-returns-in-Step
 unfolding outcome
 returns-in-Step c =
     let handed : tie.After-put_step = search in
-    let how : tie.In-Step-2 = search in
+    let how : tie.In-Step = search in
     let called : tie.After-cut_step = search in
     let sized : tie.After-size_of = search in
     let at-start : tie.Start = search in
     let o = outcome at-start in
-    let t = step_told_lem o (sym how.taken-1.given.1 ∙ answered called) in
+    let t = step_told_lem o (sym how.in-Step.is ∙ answered called) in
     let put = handed.put_step.ensures in (
       c.done.ensures ∙ reply_by (λ a. a) o t,
       (
@@ -45,7 +45,7 @@ returns-in-Step c =
           (
             put.1.1 ∙ leaves_by (λ a. a) (step_y _) _ o t,
             λ zero.
-                let claims = rw sized.type_size.ensures at (called.cut_step.ensures.1 _ how.taken-1.given.1) in
+                let claims = rw sized.type_size.ensures at (called.cut_step.ensures.1 _ how.in-Step.is) in
                 (claims.0, rw (put.0, put.1.0, put.1.1, told_back _ _ _) claims.1),
           ),
         ),
@@ -58,7 +58,7 @@ returns-in-Refused c =
     let called : tie.After-cut_step = search in
     let at-start : tie.Start = search in
     let o = outcome at-start in
-    let t = step_told_lem o (sym c.before.before.refusal-1.given.1 ∙ answered called) in
+    let t = step_told_lem o (sym c.in-Refused.is ∙ answered called) in
     let positive = cut_step_numbered (lent at-start) at-start.args.layout.now _ _ _ (refusal_told (λ a. a) o _ t) in
     let number = ap (λ (x : Reply). x.number) c.refused.ensures in (
       c.refused.ensures ∙ reply_by (λ a. a) o t,

@@ -34,11 +34,11 @@ returns-in-Step : tie.Need-returns-in-Step
 unfolding outcome
 returns-in-Step c =
     let handed : tie.After-put_step = search in
-    let how : tie.In-Step-2 = search in
+    let how : tie.In-Step = search in
     let called : tie.After-line_step = search in
     let at-start : tie.Start = search in
     let o = outcome at-start in
-    let t = step_told_lem o (sym how.taken-1.given.1 ∙ answered called) in
+    let t = step_told_lem o (sym how.in-Step.is ∙ answered called) in
     let put = handed.put_step.ensures in (
       c.done.ensures ∙ reply_by (λ a. a) o t,
       (
@@ -50,7 +50,7 @@ returns-in-Step c =
             (
               layout-steps at-start,
               λ zero.
-                  rw (put.0, put.1.0, put.1.1, told_back _ _ _) (called.line_step.ensures.1.1 _ how.taken-1.given.1),
+                  rw (put.0, put.1.0, put.1.1, told_back _ _ _) (called.line_step.ensures.1.1 _ how.in-Step.is),
             ),
           ),
         ),
@@ -63,7 +63,7 @@ returns-in-Refused c =
     let called : tie.After-line_step = search in
     let at-start : tie.Start = search in
     let o = outcome at-start in
-    let t = step_told_lem o (sym c.before.before.refusal-1.given.1 ∙ answered called) in
+    let t = step_told_lem o (sym c.in-Refused.is ∙ answered called) in
     let positive = line_step_numbered at-start.args.lines.now _ _ _ (refusal_told (λ a. a) o _ t) in
     let number = ap (λ (x : Reply). x.number) c.refused.ensures in (
       c.refused.ensures ∙ reply_by (λ a. a) o t,

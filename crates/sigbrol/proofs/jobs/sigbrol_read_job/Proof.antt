@@ -1,5 +1,5 @@
 -- `sigbrol::jobs::sigbrol_read_job` meets its contract by what the answer tells. Assumes nothing.
-use Rattle.list_laws.proofs.Kit.{◌∙◌, sym, length}
+use Rattle.list_laws.proofs.Kit.{◌∙◌, sym, length, rules}
 use Rattle.model.specs.Lent.{Lent}
 use Rattle.model.specs.Refusal.{Outcome}
 use Rattle.model.specs.JobText.{read_job}
@@ -15,7 +15,7 @@ read_job-requires : tie.Need-read_job-requires
 read_job-requires c κs = tt
 
 enum_known-size : tie.Need-enum_known-size
-enum_known-size c = c.in-Read.keys1
+enum_known-size c = search rules
 
 put_size-requires : tie.Need-put_size-requires
 put_size-requires c κs = tt
@@ -24,27 +24,27 @@ done-requires : tie.Need-done-requires
 done-requires c κs = tt
 
 enum_known-refusal : tie.Need-enum_known-refusal
-enum_known-refusal c = c.in-Read.keys2
+enum_known-refusal c = search rules
 
 refused-requires : tie.Need-refused-requires
 refused-requires c κs = tt
 
 shape_of-table-in-Read : tie.Need-shape_of-table-in-Read
-shape_of-table-in-Read c = let read : tie.After-read_job = search in read.read_job.auto.1.0
+shape_of-table-in-Read c = let read : tie.After-read_job = search in read.read_job.auto.table
 
 shape_of-pixels-in-Read : tie.Need-shape_of-pixels-in-Read
-shape_of-pixels-in-Read c = let read : tie.After-read_job = search in read.read_job.auto.1.1.0
+shape_of-pixels-in-Read c = let read : tie.After-read_job = search in read.read_job.auto.pixels
 
 returns-in-Read : tie.Need-returns-in-Read
 unfolding outcome
 returns-in-Read c =
     let put : tie.After-put_size = search in
-    let size : tie.In-Read-2 = search in
+    let size : tie.In-Read = search in
     let read : tie.After-read_job = search in
     let s : tie.Start = search in
     let o = outcome s in
     let l = read.read_job.ensures in
-    let t = job_told_lem o (sym size.size-1.given.1 ∙ l.answers) in
+    let t = job_told_lem o (sym size.in-Read.is ∙ l.answers) in
     let numbers = put.put_size.ensures in (
       c.done.ensures ∙ reply_by size_in o t,
       (
@@ -63,20 +63,20 @@ returns-in-Read c =
     )
 
 shape_of-table-in-Refused : tie.Need-shape_of-table-in-Refused
-shape_of-table-in-Refused c = let read : tie.After-read_job = search in read.read_job.auto.1.0
+shape_of-table-in-Refused c = let read : tie.After-read_job = search in read.read_job.auto.table
 
 shape_of-pixels-in-Refused : tie.Need-shape_of-pixels-in-Refused
-shape_of-pixels-in-Refused c = let read : tie.After-read_job = search in read.read_job.auto.1.1.0
+shape_of-pixels-in-Refused c = let read : tie.After-read_job = search in read.read_job.auto.pixels
 
 returns-in-Refused : tie.Need-returns-in-Refused
 unfolding outcome
 returns-in-Refused c =
-    let why : tie.In-Refused-2 = search in
+    let why : tie.In-Refused = search in
     let read : tie.After-read_job = search in
     let s : tie.Start = search in
     let o = outcome s in
     let l = read.read_job.ensures in
-    let t = job_told_lem o (sym why.refusal-1.given.1 ∙ l.answers) in (
+    let t = job_told_lem o (sym why.in-Refused.is ∙ l.answers) in (
       c.refused.ensures ∙ reply_by size_in o t,
       (
         l.entries,

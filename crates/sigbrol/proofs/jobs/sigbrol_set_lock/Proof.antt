@@ -26,7 +26,7 @@ answered c =
 shape_of-table-in-Done : tie.Need-shape_of-table-in-Done
 shape_of-table-in-Done c =
     let at-set-lock : tie.After-set_lock = search in
-    at-set-lock.set_lock.auto.1.0
+    at-set-lock.set_lock.auto.table
 
 returns-in-Done : tie.Need-returns-in-Done
 unfolding outcome
@@ -35,13 +35,13 @@ returns-in-Done c =
     let at-size-of : tie.After-size_of = search in
     let at-start : tie.Start = search in
     let o = outcome (at-start) in
-    let t = done_told_lem o (sym c.before.enum_told-1.given.1 ∙ answered (at-set-lock)) in
+    let t = done_told_lem o (sym c.in-Done.is ∙ answered (at-set-lock)) in
     (c.done.ensures ∙ reply_by (λ v. tt) o t, rw at-size-of.type_size.ensures at at-set-lock.set_lock.ensures.1)
 
 shape_of-table-in-Refused : tie.Need-shape_of-table-in-Refused
 shape_of-table-in-Refused c =
     let at-set-lock : tie.After-set_lock = search in
-    at-set-lock.set_lock.auto.1.0
+    at-set-lock.set_lock.auto.table
 
 returns-in-Refused : tie.Need-returns-in-Refused
 unfolding outcome
@@ -50,7 +50,7 @@ returns-in-Refused c =
     let at-size-of : tie.After-size_of = search in
     let at-start : tie.Start = search in
     let o = outcome (at-start) in
-    let t = done_told_lem o (sym c.before.before.refusal-1.given.1 ∙ answered (at-set-lock)) in
+    let t = done_told_lem o (sym c.in-Refused.is ∙ answered (at-set-lock)) in
     (c.refused.ensures ∙ reply_by (λ v. tt) o t, rw at-size-of.type_size.ensures at at-set-lock.set_lock.ensures.1)
 
 pub sigbrol_set_lock_spec : {M : Type 1} → statement M

@@ -1,5 +1,5 @@
 -- `sigbrol::layouts::sigbrol_check` meets its contract by what the answer tells. Assumes nothing.
-use Rattle.list_laws.proofs.Kit.{◌∙◌, ◌≡◌, sym}
+use Rattle.list_laws.proofs.Kit.{◌∙◌, ◌≡◌, sym, rules}
 use Rattle.model.specs.Answers.{done_answer}
 use Rattle.model.specs.Refusal.{Outcome}
 use Rattle.model.specs.Calls.{check_call}
@@ -17,7 +17,7 @@ answered : (c : tie.After-check) →
     let at-start : tie.Start = search in
     c.check.result ≡ done_answer (outcome (at-start))
 unfolding outcome
-answered c = rw c.before.type_size.ensures at c.check.ensures
+answered c = rw c.type_size.ensures at c.check.ensures
 
 size_of-requires : tie.Need-size_of-requires
 size_of-requires c κs = tt
@@ -26,13 +26,13 @@ check-requires : tie.Need-check-requires
 check-requires c κs = tt
 
 enum_told-1 : tie.Need-enum_told-1
-enum_told-1 c = c.in-Done.keys1
+enum_told-1 c = search rules
 
 done-requires : tie.Need-done-requires
 done-requires c κs = tt
 
 enum_known-refusal : tie.Need-enum_known-refusal
-enum_known-refusal c = c.in-Done.keys2
+enum_known-refusal c = search rules
 
 refused-requires : tie.Need-refused-requires
 refused-requires c κs = tt
@@ -43,7 +43,7 @@ returns-in-Done c =
     let at-check : tie.After-check = search in
     let at-start : tie.Start = search in
     let o = outcome (at-start) in
-    let t = done_told_lem o (sym c.before.enum_told-1.given.1 ∙ answered (at-check)) in
+    let t = done_told_lem o (sym c.in-Done.is ∙ answered (at-check)) in
     c.done.ensures ∙ reply_by (λ u. tt) o t
 
 returns-in-Refused : tie.Need-returns-in-Refused
@@ -52,7 +52,7 @@ returns-in-Refused c =
     let at-check : tie.After-check = search in
     let at-start : tie.Start = search in
     let o = outcome (at-start) in
-    let t = done_told_lem o (sym c.before.before.refusal-1.given.1 ∙ answered (at-check)) in
+    let t = done_told_lem o (sym c.in-Refused.is ∙ answered (at-check)) in
     c.refused.ensures ∙ reply_by (λ u. tt) o t
 
 pub sigbrol_check_spec : {M : Type 1} → statement M

@@ -25,7 +25,7 @@ unfolding outcome
 answered c = let sized : tie.After-size_of = search in rw sized.type_size.ensures at c.compact.ensures.0
 
 shape_of-layout-in-Number : tie.Need-shape_of-layout-in-Number
-shape_of-layout-in-Number c = let called : tie.After-compact = search in called.compact.auto.1.1.1.0
+shape_of-layout-in-Number c = let called : tie.After-compact = search in called.compact.auto.layout
 
 returns-in-Number : tie.Need-returns-in-Number
 unfolding outcome
@@ -34,19 +34,19 @@ returns-in-Number c =
     let sized : tie.After-size_of = search in
     let at-start : tie.Start = search in
     let o = outcome at-start in
-    let t = slid_told o (sym c.before.before.total-1.given.1 ∙ answered called) in (
+    let t = slid_told o (sym c.in-Number.is ∙ answered called) in (
       c.done.ensures ∙ reply_by (λ (a : Compacted). a.slid) o t,
       (
         rw sized.type_size.ensures at called.compact.ensures.1.0,
         (
           leaves_by (λ (a : Compacted). a.slid) (λ k. k) _ o t,
-          λ zero. rw sized.type_size.ensures at (called.compact.ensures.1.1 _ c.before.before.total-1.given.1),
+          λ zero. rw sized.type_size.ensures at (called.compact.ensures.1.1 _ c.in-Number.is),
         ),
       ),
     )
 
 shape_of-layout-in-Refused : tie.Need-shape_of-layout-in-Refused
-shape_of-layout-in-Refused c = let called : tie.After-compact = search in called.compact.auto.1.1.1.0
+shape_of-layout-in-Refused c = let called : tie.After-compact = search in called.compact.auto.layout
 
 returns-in-Refused : tie.Need-returns-in-Refused
 unfolding outcome
@@ -55,7 +55,7 @@ returns-in-Refused c =
     let sized : tie.After-size_of = search in
     let at-start : tie.Start = search in
     let o = outcome at-start in
-    let t = slid_told o (sym c.before.before.refusal-1.given.1 ∙ answered called) in
+    let t = slid_told o (sym c.in-Refused.is ∙ answered called) in
     let positive = compact_numbered (lent at-start) at-start.args.layout.now _ (refusal_told (λ (a : Compacted). a.slid) o _ t) in
     let number = ap (λ (x : Reply). x.number) c.refused.ensures in (
       c.refused.ensures ∙ reply_by (λ (a : Compacted). a.slid) o t,

@@ -1,5 +1,5 @@
 -- `sigbrol::layouts::sigbrol_plain_sum` meets its contract by what the answer tells. Assumes nothing.
-use Rattle.list_laws.proofs.Kit.{◌∙◌, ◌≡◌, sym, ℕ}
+use Rattle.list_laws.proofs.Kit.{◌∙◌, ◌≡◌, sym, ℕ, rules}
 use Rattle.model.specs.Answers.{number_answer}
 use Rattle.model.specs.Refusal.{Outcome}
 use Rattle.model.specs.Calls.{plain_sum_call}
@@ -17,7 +17,7 @@ answered : (c : tie.After-plain_sum) →
     let at-start : tie.Start = search in
     c.plain_sum.result ≡ number_answer (outcome (at-start))
 unfolding outcome
-answered c = rw c.before.type_size.ensures at c.plain_sum.ensures
+answered c = rw c.type_size.ensures at c.plain_sum.ensures
 
 size_of-requires : tie.Need-size_of-requires
 size_of-requires c κs = tt
@@ -26,13 +26,13 @@ plain_sum-requires : tie.Need-plain_sum-requires
 plain_sum-requires c κs = tt
 
 enum_known-total : tie.Need-enum_known-total
-enum_known-total c = c.in-Number.keys1
+enum_known-total c = search rules
 
 done-requires : tie.Need-done-requires
 done-requires c κs = tt
 
 enum_known-refusal : tie.Need-enum_known-refusal
-enum_known-refusal c = c.in-Number.keys2
+enum_known-refusal c = search rules
 
 refused-requires : tie.Need-refused-requires
 refused-requires c κs = tt
@@ -43,7 +43,7 @@ returns-in-Number c =
     let at-plain-sum : tie.After-plain_sum = search in
     let at-start : tie.Start = search in
     let o = outcome (at-start) in
-    let t = number_told_lem o (sym c.before.before.total-1.given.1 ∙ answered (at-plain-sum)) in
+    let t = number_told_lem o (sym c.in-Number.is ∙ answered (at-plain-sum)) in
     (c.done.ensures ∙ reply_by (λ k. k) o t, leaves_by (λ k. k) (λ k. k) _ o t)
 
 returns-in-Refused : tie.Need-returns-in-Refused
@@ -52,7 +52,7 @@ returns-in-Refused c =
     let at-plain-sum : tie.After-plain_sum = search in
     let at-start : tie.Start = search in
     let o = outcome (at-start) in
-    let t = number_told_lem o (sym c.before.before.refusal-1.given.1 ∙ answered (at-plain-sum)) in
+    let t = number_told_lem o (sym c.in-Refused.is ∙ answered (at-plain-sum)) in
     (c.refused.ensures ∙ reply_by (λ k. k) o t, leaves_by (λ k. k) (λ k. k) _ o t)
 
 pub sigbrol_plain_sum_spec : {M : Type 1} → statement M

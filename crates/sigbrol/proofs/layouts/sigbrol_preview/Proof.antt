@@ -25,7 +25,7 @@ answered : (c : tie.After-preview) →
 unfolding outcome
 answered c =
     let at-size-of : tie.After-size_of = search in
-    rw (at-size-of.type_size.ensures, c.before.before.piece_with_turn.ensures, c.before.placement_of.ensures) at c.preview.ensures.0
+    rw (at-size-of.type_size.ensures, c.piece_with_turn.ensures, c.placement_of.ensures) at c.preview.ensures.0
 
 returns-in-Shown : tie.Need-returns-in-Shown
 unfolding outcome
@@ -35,9 +35,9 @@ returns-in-Shown c =
     let at_piece : tie.After-piece_with_turn = search in
     let at_place : tie.After-placement_of = search in
     let at-preview : tie.After-preview = search in
-    let at-figures : tie.In-Shown-2 = search in
+    let at-figures : tie.In-Shown = search in
     let o = outcome at-start in
-    let t = figures_told_lem o (sym at-figures.figures-1.given.1 ∙ answered at-preview) in (
+    let t = figures_told_lem o (sym at-figures.in-Shown.is ∙ answered at-preview) in (
       c.done.ensures ∙ reply_by (λ f. f) o t,
       (
         leaves_by (λ f. f) (λ f. f.sum) _ o t,
@@ -45,7 +45,7 @@ returns-in-Shown c =
           leaves_by (λ f. f) (λ f. f.length) _ o t,
           λ zero.
               rw (at-size-of.type_size.ensures, at_piece.piece_with_turn.ensures, at_place.placement_of.ensures) at
-              (at-preview.preview.ensures.1 _ at-figures.figures-1.given.1),
+              (at-preview.preview.ensures.1 _ at-figures.in-Shown.is),
         ),
       ),
     )
@@ -56,7 +56,7 @@ returns-in-Refused c =
     let at-start : tie.Start = search in
     let at-preview : tie.After-preview = search in
     let o = outcome at-start in
-    let t = figures_told_lem o (sym c.before.before.refusal-1.given.1 ∙ answered at-preview) in
+    let t = figures_told_lem o (sym c.in-Refused.is ∙ answered at-preview) in
     let a = at-start.args in
     let positive =
     preview_numbered (lent_as a.rows a.columns a.count a.gap a.table.now a.pixels.now) a.layout.now a.weights.now

@@ -1,5 +1,5 @@
 -- `sigbrol::layouts::sigbrol_start` meets its contract by what the answer tells. Assumes nothing.
-use Rattle.list_laws.proofs.Kit.{◌∙◌, ◌≡◌, ap, sym, arith}
+use Rattle.list_laws.proofs.Kit.{◌∙◌, ◌≡◌, ap, sym, arith, rules}
 use Rattle.model.specs.Layout.{Layout}
 use Rattle.model.specs.Answers.{done_answer}
 use Rattle.model.specs.Refusal.{Outcome}
@@ -20,7 +20,7 @@ answered : (c : tie.After-start) →
     let at-start : tie.Start = search in
     c.start.result ≡ done_answer (outcome (at-start))
 unfolding outcome
-answered c = rw c.before.before.type_size.ensures at c.start.ensures.0
+answered c = rw c.type_size.ensures at c.start.ensures.0
 
 size_of-requires : tie.Need-size_of-requires
 size_of-requires c κs = tt
@@ -29,13 +29,13 @@ start-requires : tie.Need-start-requires
 start-requires c κs = tt
 
 enum_told-1 : tie.Need-enum_told-1
-enum_told-1 c = c.in-Done.keys1
+enum_told-1 c = search rules
 
 done-requires : tie.Need-done-requires
 done-requires c κs = tt
 
 enum_known-refusal : tie.Need-enum_known-refusal
-enum_known-refusal c = c.in-Done.keys2
+enum_known-refusal c = search rules
 
 refused-requires : tie.Need-refused-requires
 refused-requires c κs = tt
@@ -43,7 +43,7 @@ refused-requires c κs = tt
 shape_of-layout-in-Done : tie.Need-shape_of-layout-in-Done
 shape_of-layout-in-Done c =
     let at-start : tie.After-start = search in
-    at-start.start.auto.1.1.1.0
+    at-start.start.auto.layout
 
 returns-in-Done : tie.Need-returns-in-Done
 unfolding outcome
@@ -52,18 +52,18 @@ returns-in-Done c =
     let at-size-of : tie.After-size_of = search in
     let at-start : tie.Start = search in
     let o = outcome (at-start) in
-    let t = done_told_lem o (sym c.before.enum_told-1.given.1 ∙ answered (at-after-start)) in (
+    let t = done_told_lem o (sym c.in-Done.is ∙ answered (at-after-start)) in (
       c.done.ensures ∙ reply_by (λ v. tt) o t,
       (
         rw at-size-of.type_size.ensures at at-after-start.start.ensures.1.0,
-        λ zero. rw at-size-of.type_size.ensures at (at-after-start.start.ensures.1.1 c.before.enum_told-1.given.1),
+        λ zero. rw at-size-of.type_size.ensures at (at-after-start.start.ensures.1.1 c.in-Done.is),
       ),
     )
 
 shape_of-layout-in-Refused : tie.Need-shape_of-layout-in-Refused
 shape_of-layout-in-Refused c =
     let at-start : tie.After-start = search in
-    at-start.start.auto.1.1.1.0
+    at-start.start.auto.layout
 
 returns-in-Refused : tie.Need-returns-in-Refused
 unfolding outcome
@@ -72,7 +72,7 @@ returns-in-Refused c =
     let at-size-of : tie.After-size_of = search in
     let at-start : tie.Start = search in
     let o = outcome (at-start) in
-    let t = done_told_lem o (sym c.before.before.refusal-1.given.1 ∙ answered (at-after-start)) in
+    let t = done_told_lem o (sym c.in-Refused.is ∙ answered (at-after-start)) in
     let a = at-start.args in
     let positive =
     start_numbered (lent_as a.rows a.columns a.count a.gap a.table.now a.pixels.now) a.layout.now _

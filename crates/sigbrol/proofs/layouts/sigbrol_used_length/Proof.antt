@@ -1,5 +1,5 @@
 -- `sigbrol::layouts::sigbrol_used_length` meets its contract by what the answer tells. Assumes nothing.
-use Rattle.list_laws.proofs.Kit.{◌∙◌, ◌≡◌, ap, sym, ℕ, arith}
+use Rattle.list_laws.proofs.Kit.{◌∙◌, ◌≡◌, ap, sym, ℕ, arith, rules}
 use Rattle.model.specs.Answers.{number_answer}
 use Rattle.model.specs.Refusal.{Outcome}
 use Rattle.model.specs.Calls.{used_length_call}
@@ -19,7 +19,7 @@ answered : (c : tie.After-used_length) →
     let at-start : tie.Start = search in
     c.used_length.result ≡ number_answer (outcome (at-start))
 unfolding outcome
-answered c = rw c.before.type_size.ensures at c.used_length.ensures.0
+answered c = rw c.type_size.ensures at c.used_length.ensures.0
 
 size_of-requires : tie.Need-size_of-requires
 size_of-requires c κs = tt
@@ -28,13 +28,13 @@ used_length-requires : tie.Need-used_length-requires
 used_length-requires c κs = tt
 
 enum_known-length : tie.Need-enum_known-length
-enum_known-length c = c.in-Number.keys1
+enum_known-length c = search rules
 
 done-requires : tie.Need-done-requires
 done-requires c κs = tt
 
 enum_known-refusal : tie.Need-enum_known-refusal
-enum_known-refusal c = c.in-Number.keys2
+enum_known-refusal c = search rules
 
 refused-requires : tie.Need-refused-requires
 refused-requires c κs = tt
@@ -45,12 +45,12 @@ returns-in-Number c =
     let at-used-length : tie.After-used_length = search in
     let at-start : tie.Start = search in
     let o = outcome (at-start) in
-    let t = number_told_lem o (sym c.before.before.length-1.given.1 ∙ answered (at-used-length)) in
+    let t = number_told_lem o (sym c.in-Number.is ∙ answered (at-used-length)) in
     let sized : tie.After-size_of = search in (
       c.done.ensures ∙ reply_by (λ k. k) o t,
       (
         leaves_by (λ k. k) (λ k. k) _ o t,
-        λ zero. rw sized.type_size.ensures at (at-used-length.used_length.ensures.1 _ c.before.before.length-1.given.1),
+        λ zero. rw sized.type_size.ensures at (at-used-length.used_length.ensures.1 _ c.in-Number.is),
       ),
     )
 
@@ -60,7 +60,7 @@ returns-in-Refused c =
     let at-used-length : tie.After-used_length = search in
     let at-start : tie.Start = search in
     let o = outcome (at-start) in
-    let t = number_told_lem o (sym c.before.before.refusal-1.given.1 ∙ answered (at-used-length)) in
+    let t = number_told_lem o (sym c.in-Refused.is ∙ answered (at-used-length)) in
     let a = at-start.args in
     let positive =
     used_numbered (lent_as a.rows a.columns a.count a.gap a.table.now a.pixels.now) a.layout.now _ (refusal_told (λ k. k) o _ t) in

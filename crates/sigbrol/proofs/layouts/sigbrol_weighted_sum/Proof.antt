@@ -1,5 +1,5 @@
 -- `sigbrol::layouts::sigbrol_weighted_sum` meets its contract by what the answer tells. Assumes nothing.
-use Rattle.list_laws.proofs.Kit.{◌∙◌, ◌≡◌, sym, ℕ}
+use Rattle.list_laws.proofs.Kit.{◌∙◌, ◌≡◌, sym, ℕ, rules}
 use Rattle.model.specs.Answers.{number_answer}
 use Rattle.model.specs.Refusal.{Outcome}
 use Rattle.model.specs.Calls.{weighted_sum_call}
@@ -19,7 +19,7 @@ answered : (c : tie.After-weighted_sum) →
     let at-start : tie.Start = search in
     c.weighted_sum.result ≡ number_answer (outcome (at-start))
 unfolding outcome
-answered c = rw c.before.type_size.ensures at c.weighted_sum.ensures
+answered c = rw c.type_size.ensures at c.weighted_sum.ensures
 
 size_of-requires : tie.Need-size_of-requires
 size_of-requires c κs = tt
@@ -28,13 +28,13 @@ weighted_sum-requires : tie.Need-weighted_sum-requires
 weighted_sum-requires c κs = tt
 
 enum_known-total : tie.Need-enum_known-total
-enum_known-total c = c.in-Number.keys1
+enum_known-total c = search rules
 
 done-requires : tie.Need-done-requires
 done-requires c κs = tt
 
 enum_known-refusal : tie.Need-enum_known-refusal
-enum_known-refusal c = c.in-Number.keys2
+enum_known-refusal c = search rules
 
 refused-requires : tie.Need-refused-requires
 refused-requires c κs = tt
@@ -45,7 +45,7 @@ returns-in-Number c =
     let at-weighted-sum : tie.After-weighted_sum = search in
     let at-start : tie.Start = search in
     let o = outcome (at-start) in
-    let t = number_told_lem o (sym c.before.before.total-1.given.1 ∙ answered (at-weighted-sum)) in
+    let t = number_told_lem o (sym c.in-Number.is ∙ answered (at-weighted-sum)) in
     (c.done.ensures ∙ reply_by (λ k. k) o t, leaves_by (λ k. k) (λ k. k) _ o t)
 
 returns-in-Refused : tie.Need-returns-in-Refused
@@ -54,7 +54,7 @@ returns-in-Refused c =
     let at-weighted-sum : tie.After-weighted_sum = search in
     let at-start : tie.Start = search in
     let o = outcome (at-start) in
-    let t = number_told_lem o (sym c.before.before.refusal-1.given.1 ∙ answered (at-weighted-sum)) in
+    let t = number_told_lem o (sym c.in-Refused.is ∙ answered (at-weighted-sum)) in
     (c.refused.ensures ∙ reply_by (λ k. k) o t, leaves_by (λ k. k) (λ k. k) _ o t)
 
 pub sigbrol_weighted_sum_spec : {M : Type 1} → statement M

@@ -1,5 +1,5 @@
 -- `sigbrol::no_fit::sigbrol_no_fit_column` meets its contract by what the answer tells. Assumes nothing.
-use Rattle.list_laws.proofs.Kit.{◌∙◌, ◌≡◌, ap, subst, sym, List, ℕ, arith, length, ℤ}
+use Rattle.list_laws.proofs.Kit.{◌∙◌, ◌≡◌, ap, subst, sym, List, ℕ, arith, length, ℤ, rules}
 use mir.Syntax.{w32}
 use mir.Val.{to_z, of_z}
 use mir.ValLaws.{to_z-of_z}
@@ -24,14 +24,14 @@ outcome : tie.Start → ℤ → Outcome (List OffsetRun)
 outcome s offset =
     let a = s.args in
     no_fit_call Vertical (lent_as a.rows a.columns a.count a.gap a.table.now a.pixels.now)
-    (lent_stretch (piece_with_turn a.i-turn a.i) (turn_of a.i-turn) a.i-strips.now)
-    (lent_stretch (piece_with_turn a.k-turn a.k) (turn_of a.k-turn) a.k-strips.now) offset (length a.runs.now)
+    (lent_stretch (piece_with_turn a.i_turn a.i) (turn_of a.i_turn) a.i_strips.now)
+    (lent_stretch (piece_with_turn a.k_turn a.k) (turn_of a.k_turn) a.k_strips.now) offset (length a.runs.now)
 
 -- answer and runs are those of an outcome, and the offsets lie in their range
 Tells : (c : tie.After-no_fit_column) → Outcome (List OffsetRun) → Type 0
 Tells c o =
     let at-start : tie.Start = search in
-    let left : List (List ℤ) = c.no_fit_column.new.1.1.1.1.1.1.1.1.0 in
+    let left : List (List ℤ) = c.no_fit_column.new.out in
     (c.no_fit_column.result ≡ count_answer o) × ((left ≡ runs_after at-start.args.runs.now o)
     × ((n : ℕ) → c.no_fit_column.result ≡ NumberAnswer.Number n → OffsetsWithin at-start.args.gap n left))
 
@@ -53,7 +53,7 @@ told c =
       at-piece-with-turn.piece_with_turn.ensures,
       at-turn-or-zero.turn_or_zero.ensures,
       at-piece-with-turn2.piece_with_turn-2.ensures,
-      c.before.before.turn_or_zero-2.ensures,
+      c.turn_or_zero-2.ensures,
     ) at c.no_fit_column.ensures)
 
 size_of-size-requires : tie.Need-size_of-size-requires
@@ -75,13 +75,13 @@ no_fit_column-requires : tie.Need-no_fit_column-requires
 no_fit_column-requires c κs = tt
 
 enum_known-found : tie.Need-enum_known-found
-enum_known-found c = c.in-Number.keys1
+enum_known-found c = search rules
 
 done-requires : tie.Need-done-requires
 done-requires c κs = tt
 
 enum_known-refusal : tie.Need-enum_known-refusal
-enum_known-refusal c = c.in-Number.keys2
+enum_known-refusal c = search rules
 
 refused-requires : tie.Need-refused-requires
 refused-requires c κs = tt
@@ -89,7 +89,7 @@ refused-requires c κs = tt
 shape_of-runs-in-Number : tie.Need-shape_of-runs-in-Number
 shape_of-runs-in-Number c =
     let at-no-fit-column : tie.After-no_fit_column = search in
-    at-no-fit-column.no_fit_column.auto.1.1.1.1.1.1.1.1.0
+    at-no-fit-column.no_fit_column.auto.out
 
 returns-in-Number : tie.Need-returns-in-Number
 unfolding outcome Tells
@@ -98,15 +98,15 @@ returns-in-Number c =
     let at-start : tie.Start = search in
     let o = outcome (at-start) at-start.args.offset in
     let p = told (at-no-fit-column) in
-    let t = count_told o (sym c.before.before.found-1.given.1 ∙ p.0) in (
+    let t = count_told o (sym c.in-Number.is ∙ p.0) in (
       c.done.ensures ∙ reply_by (λ rs. length rs) o t,
-      (p.1.0, (leaves_by (λ rs. length rs) (λ n. n) _ o t, λ zero. p.1.1 _ c.before.before.found-1.given.1)),
+      (p.1.0, (leaves_by (λ rs. length rs) (λ n. n) _ o t, λ zero. p.1.1 _ c.in-Number.is)),
     )
 
 shape_of-runs-in-Refused : tie.Need-shape_of-runs-in-Refused
 shape_of-runs-in-Refused c =
     let at-no-fit-column : tie.After-no_fit_column = search in
-    at-no-fit-column.no_fit_column.auto.1.1.1.1.1.1.1.1.0
+    at-no-fit-column.no_fit_column.auto.out
 
 returns-in-Refused : tie.Need-returns-in-Refused
 unfolding outcome Tells
@@ -115,7 +115,7 @@ returns-in-Refused c =
     let at-start : tie.Start = search in
     let o = outcome (at-start) at-start.args.offset in
     let p = told (at-no-fit-column) in
-    let t = count_told o (sym c.before.before.refusal-1.given.1 ∙ p.0) in
+    let t = count_told o (sym c.in-Refused.is ∙ p.0) in
     let positive = no_fit_numbered Vertical _ _ _ _ _ _ (refusal_told (λ rs. length rs) o _ t) in
     let number = ap (λ (x : Reply). x.number) c.refused.ensures in (
       c.refused.ensures ∙ reply_by (λ rs. length rs) o t,

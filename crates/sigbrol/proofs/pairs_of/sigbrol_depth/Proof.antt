@@ -19,7 +19,7 @@ answered : (c : tie.After-depth) →
     let at-start : tie.Start = search in
     c.depth.result ≡ number_answer (outcome (at-start))
 unfolding outcome
-answered c = rw (c.before.before.type_size.ensures, c.before.direction_of.ensures) at c.depth.ensures.0
+answered c = rw (c.type_size.ensures, c.direction_of.ensures) at c.depth.ensures.0
 
 size_of-size-requires : tie.Need-size_of-size-requires
 size_of-size-requires c κs = tt
@@ -31,16 +31,16 @@ depth-requires : tie.Need-depth-requires
 depth-requires c κs = tt
 
 enum_known-amount : tie.Need-enum_known-amount
-enum_known-amount c = c.in-Number.keys1
+enum_known-amount c = search rules
 
 overflow_cast-depth : tie.Need-overflow_cast-depth
-overflow_cast-depth c = let called : tie.After-depth = search in let small = called.depth.ensures.1 _ c.before.amount-1.given.1 in search rules
+overflow_cast-depth c = let called : tie.After-depth = search in let small = called.depth.ensures.1 _ c.in-Number.is in search rules
 
 done-requires : tie.Need-done-requires
 done-requires c κs = tt
 
 enum_known-refusal : tie.Need-enum_known-refusal
-enum_known-refusal c = c.in-Number.keys2
+enum_known-refusal c = search rules
 
 refused-requires : tie.Need-refused-requires
 refused-requires c κs = tt
@@ -51,7 +51,7 @@ returns-in-Number c =
     let at-depth : tie.After-depth = search in
     let at-start : tie.Start = search in
     let o = outcome (at-start) in
-    let t = number_told_lem o (sym c.before.before.amount-1.given.1 ∙ answered (at-depth)) in
+    let t = number_told_lem o (sym c.in-Number.is ∙ answered (at-depth)) in
     (c.done.ensures ∙ reply_by (λ a. a) o t, leaves_by (λ a. a) (λ a. a) _ o t)
 
 returns-in-Refused : tie.Need-returns-in-Refused
@@ -60,7 +60,7 @@ returns-in-Refused c =
     let at-depth : tie.After-depth = search in
     let at-start : tie.Start = search in
     let o = outcome (at-start) in
-    let t = number_told_lem o (sym c.before.before.refusal-1.given.1 ∙ answered (at-depth)) in
+    let t = number_told_lem o (sym c.in-Refused.is ∙ answered (at-depth)) in
     (c.refused.ensures ∙ reply_by (λ a. a) o t, leaves_by (λ a. a) (λ a. a) _ o t)
 
 pub sigbrol_depth_spec : {M : Type 1} → statement M

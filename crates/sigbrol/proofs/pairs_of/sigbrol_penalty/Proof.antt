@@ -17,7 +17,7 @@ answered : (c : tie.After-penalty) →
     let at-start : tie.Start = search in
     c.penalty.result ≡ number_answer (outcome (at-start))
 unfolding outcome
-answered c = rw c.before.type_size.ensures at c.penalty.ensures.0
+answered c = rw c.type_size.ensures at c.penalty.ensures.0
 
 size_of-requires : tie.Need-size_of-requires
 size_of-requires c κs = tt
@@ -26,16 +26,16 @@ penalty-requires : tie.Need-penalty-requires
 penalty-requires c κs = tt
 
 enum_known-amount : tie.Need-enum_known-amount
-enum_known-amount c = c.in-Number.keys1
+enum_known-amount c = search rules
 
 overflow_cast-penalty : tie.Need-overflow_cast-penalty
-overflow_cast-penalty c = let called : tie.After-penalty = search in let small = called.penalty.ensures.1 _ c.before.amount-1.given.1 in search rules
+overflow_cast-penalty c = let called : tie.After-penalty = search in let small = called.penalty.ensures.1 _ c.in-Number.is in search rules
 
 done-requires : tie.Need-done-requires
 done-requires c κs = tt
 
 enum_known-refusal : tie.Need-enum_known-refusal
-enum_known-refusal c = c.in-Number.keys2
+enum_known-refusal c = search rules
 
 refused-requires : tie.Need-refused-requires
 refused-requires c κs = tt
@@ -46,7 +46,7 @@ returns-in-Number c =
     let at-penalty : tie.After-penalty = search in
     let at-start : tie.Start = search in
     let o = outcome (at-start) in
-    let t = number_told_lem o (sym c.before.before.amount-1.given.1 ∙ answered (at-penalty)) in
+    let t = number_told_lem o (sym c.in-Number.is ∙ answered (at-penalty)) in
     (c.done.ensures ∙ reply_by (λ a. a) o t, leaves_by (λ a. a) (λ a. a) _ o t)
 
 returns-in-Refused : tie.Need-returns-in-Refused
@@ -55,7 +55,7 @@ returns-in-Refused c =
     let at-penalty : tie.After-penalty = search in
     let at-start : tie.Start = search in
     let o = outcome (at-start) in
-    let t = number_told_lem o (sym c.before.before.refusal-1.given.1 ∙ answered (at-penalty)) in
+    let t = number_told_lem o (sym c.in-Refused.is ∙ answered (at-penalty)) in
     (c.refused.ensures ∙ reply_by (λ a. a) o t, leaves_by (λ a. a) (λ a. a) _ o t)
 
 pub sigbrol_penalty_spec : {M : Type 1} → statement M

@@ -1,5 +1,5 @@
 -- `sigbrol::pairs_of::sigbrol_shares_pixel` meets its contract by what the answer tells. Assumes nothing.
-use Rattle.list_laws.proofs.Kit.{◌∙◌, ◌≡◌, sym, Bool}
+use Rattle.list_laws.proofs.Kit.{◌∙◌, ◌≡◌, sym, Bool, rules}
 use Rattle.model.specs.Bounded.{one_if}
 use Rattle.model.specs.Refusal.{Outcome}
 use Rattle.model.specs.Calls.{share_call}
@@ -18,7 +18,7 @@ answered : (c : tie.After-shares_pixel) →
     let at-start : tie.Start = search in
     c.shares_pixel.result ≡ share_answer (outcome (at-start))
 unfolding outcome
-answered c = rw c.before.type_size.ensures at c.shares_pixel.ensures
+answered c = rw c.type_size.ensures at c.shares_pixel.ensures
 
 size_of-requires : tie.Need-size_of-requires
 size_of-requires c κs = tt
@@ -27,7 +27,7 @@ shares_pixel-requires : tie.Need-shares_pixel-requires
 shares_pixel-requires c κs = tt
 
 enum_known-yes : tie.Need-enum_known-yes
-enum_known-yes c = c.in-Shares.keys1
+enum_known-yes c = search rules
 
 bit_of-requires : tie.Need-bit_of-requires
 bit_of-requires c κs = tt
@@ -36,7 +36,7 @@ done-requires : tie.Need-done-requires
 done-requires c κs = tt
 
 enum_known-refusal : tie.Need-enum_known-refusal
-enum_known-refusal c = c.in-Shares.keys2
+enum_known-refusal c = search rules
 
 refused-requires : tie.Need-refused-requires
 refused-requires c κs = tt
@@ -44,12 +44,12 @@ refused-requires c κs = tt
 returns-in-Shares : tie.Need-returns-in-Shares
 unfolding outcome
 returns-in-Shares c =
-    let at-yes : tie.In-Shares-2 = search in
+    let at-yes : tie.In-Shares = search in
     let at-shares-pixel : tie.After-shares_pixel = search in
     let at-start : tie.Start = search in
     let o = outcome (at-start) in
-    let t = share_told_lem o (sym at-yes.yes-1.given.1 ∙ answered (at-shares-pixel)) in
-    (c.done.ensures ∙ reply_by (λ a. a) o t, c.before.bit_of.ensures ∙ leaves_by (λ a. a) (λ a. one_if a) _ o t)
+    let t = share_told_lem o (sym at-yes.in-Shares.is ∙ answered (at-shares-pixel)) in
+    (c.done.ensures ∙ reply_by (λ a. a) o t, c.bit_of.ensures ∙ leaves_by (λ a. a) (λ a. one_if a) _ o t)
 
 returns-in-Refused : tie.Need-returns-in-Refused
 unfolding outcome
@@ -57,7 +57,7 @@ returns-in-Refused c =
     let at-shares-pixel : tie.After-shares_pixel = search in
     let at-start : tie.Start = search in
     let o = outcome (at-start) in
-    let t = share_told_lem o (sym c.before.before.refusal-1.given.1 ∙ answered (at-shares-pixel)) in
+    let t = share_told_lem o (sym c.in-Refused.is ∙ answered (at-shares-pixel)) in
     (c.refused.ensures ∙ reply_by (λ a. a) o t, leaves_by (λ a. a) (λ a. one_if a) _ o t)
 
 pub sigbrol_shares_pixel_spec : {M : Type 1} → statement M

@@ -32,7 +32,7 @@ descent-requires : tie.Need-descent-requires
 descent-requires c κs = tt
 
 enum_known-ended : tie.Need-enum_known-ended
-enum_known-ended c = c.in-Ended.keys1
+enum_known-ended c = search rules
 
 end_number-requires : tie.Need-end_number-requires
 end_number-requires c κs = tt
@@ -44,25 +44,25 @@ done-requires : tie.Need-done-requires
 done-requires c κs = tt
 
 enum_known-refusal : tie.Need-enum_known-refusal
-enum_known-refusal c = c.in-Ended.keys2
+enum_known-refusal c = search rules
 
 refused-requires : tie.Need-refused-requires
 refused-requires c κs = tt
 
 shape_of-layout-in-Ended : tie.Need-shape_of-layout-in-Ended
-shape_of-layout-in-Ended c = let called : tie.After-descent = search in called.descent.auto.1.1.1.0
+shape_of-layout-in-Ended c = let called : tie.After-descent = search in called.descent.auto.layout
 
 returns-in-Ended : tie.Need-returns-in-Ended
 unfolding outcome
 returns-in-Ended c =
     let put : tie.After-put_run = search in
     let number : tie.After-end_number = search in
-    let how : tie.In-Ended-2 = search in
+    let how : tie.In-Ended = search in
     let called : tie.After-descent = search in
     let sized : tie.After-size_of = search in
     let s : tie.Start = search in
     let o = outcome s in
-    let t = ended_told_lem o (sym how.ended-1.given.1 ∙ answered called) in
+    let t = ended_told_lem o (sym how.in-Ended.is ∙ answered called) in
     let numbers = put.put_run.ensures in (
       c.done.ensures ∙ reply_by ended_of o t,
       (
@@ -80,7 +80,7 @@ returns-in-Ended c =
                   λ zero.
                       rw (numbers.0, numbers.1.0, numbers.1.1)
                       (descent_claimed _ _ _ _ _ _ _ number.end_number.ensures
-                      (rw sized.type_size.ensures at (called.descent.ensures.1.1.1 _ how.ended-1.given.1))),
+                      (rw sized.type_size.ensures at (called.descent.ensures.1.1.1 _ how.in-Ended.is))),
                 ),
               ),
             ),
@@ -92,7 +92,7 @@ returns-in-Ended c =
 shape_of-layout-in-Refused : tie.Need-shape_of-layout-in-Refused
 shape_of-layout-in-Refused c =
     let at-descent : tie.After-descent = search in
-    at-descent.descent.auto.1.1.1.0
+    at-descent.descent.auto.layout
 
 returns-in-Refused : tie.Need-returns-in-Refused
 unfolding outcome
@@ -101,7 +101,7 @@ returns-in-Refused c =
     let at-size-of : tie.After-size_of = search in
     let at-start : tie.Start = search in
     let o = outcome (at-start) in
-    let t = ended_told_lem o (sym c.before.before.refusal-1.given.1 ∙ answered (at-descent)) in
+    let t = ended_told_lem o (sym c.in-Refused.is ∙ answered (at-descent)) in
     let a = at-start.args in
     let positive =
     descent_numbered (lent_as a.rows a.columns a.count a.gap a.table.now a.pixels.now) a.layout.now a.weights.now a.budget _

@@ -33,7 +33,7 @@ guided_run-requires : tie.Need-guided_run-requires
 guided_run-requires c κs = tt
 
 enum_known-run : tie.Need-enum_known-run
-enum_known-run c = c.in-Ran.keys1
+enum_known-run c = search rules
 
 put_run-requires : tie.Need-put_run-requires
 put_run-requires c κs = tt
@@ -42,27 +42,27 @@ done-requires : tie.Need-done-requires
 done-requires c κs = tt
 
 enum_known-refusal : tie.Need-enum_known-refusal
-enum_known-refusal c = c.in-Ran.keys2
+enum_known-refusal c = search rules
 
 refused-requires : tie.Need-refused-requires
 refused-requires c κs = tt
 
 shape_of-layout-in-Ran : tie.Need-shape_of-layout-in-Ran
-shape_of-layout-in-Ran c = let called : tie.After-guided_run = search in called.guided_run.auto.1.1.1.0
+shape_of-layout-in-Ran c = let called : tie.After-guided_run = search in called.guided_run.auto.layout
 
 shape_of-weights-in-Ran : tie.Need-shape_of-weights-in-Ran
-shape_of-weights-in-Ran c = let called : tie.After-guided_run = search in called.guided_run.auto.1.1.1.1.0
+shape_of-weights-in-Ran c = let called : tie.After-guided_run = search in called.guided_run.auto.weights
 
 returns-in-Ran : tie.Need-returns-in-Ran
 unfolding outcome
 returns-in-Ran c =
     let put : tie.After-put_run = search in
-    let how : tie.In-Ran-2 = search in
+    let how : tie.In-Ran = search in
     let called : tie.After-guided_run = search in
     let sized : tie.After-size_of-size = search in
     let s : tie.Start = search in
     let o = outcome s in
-    let t = ran_told_lem o (sym how.run-1.given.1 ∙ answered called) in
+    let t = ran_told_lem o (sym how.in-Ran.is ∙ answered called) in
     let numbers = put.put_run.ensures in (
       c.done.ensures ∙ reply_by told_run o t,
       (
@@ -79,7 +79,7 @@ returns-in-Ran c =
                   numbers.1.1 ∙ leaves_by told_run (λ r. r.moves) _ o t,
                   λ zero.
                       rw (numbers.0, numbers.1.0, numbers.1.1)
-                      (rw sized.type_size.ensures at (called.guided_run.ensures.1.1.1.1 _ how.run-1.given.1)),
+                      (rw sized.type_size.ensures at (called.guided_run.ensures.1.1.1.1 _ how.in-Ran.is)),
                 ),
               ),
             ),
@@ -91,12 +91,12 @@ returns-in-Ran c =
 shape_of-layout-in-Refused : tie.Need-shape_of-layout-in-Refused
 shape_of-layout-in-Refused c =
     let at-guided-run : tie.After-guided_run = search in
-    at-guided-run.guided_run.auto.1.1.1.0
+    at-guided-run.guided_run.auto.layout
 
 shape_of-weights-in-Refused : tie.Need-shape_of-weights-in-Refused
 shape_of-weights-in-Refused c =
     let at-guided-run : tie.After-guided_run = search in
-    at-guided-run.guided_run.auto.1.1.1.1.0
+    at-guided-run.guided_run.auto.weights
 
 returns-in-Refused : tie.Need-returns-in-Refused
 unfolding outcome
@@ -105,7 +105,7 @@ returns-in-Refused c =
     let at-size-of : tie.After-size_of-size = search in
     let at-start : tie.Start = search in
     let o = outcome (at-start) in
-    let t = ran_told_lem o (sym c.before.before.refusal-1.given.1 ∙ answered (at-guided-run)) in
+    let t = ran_told_lem o (sym c.in-Refused.is ∙ answered (at-guided-run)) in
     let a = at-start.args in
     let positive =
     guided_numbered (lent_as a.rows a.columns a.count a.gap a.table.now a.pixels.now) a.layout.now a.weights.now a.rounds

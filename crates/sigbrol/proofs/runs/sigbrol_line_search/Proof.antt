@@ -1,5 +1,5 @@
 -- `sigbrol::runs::sigbrol_line_search` meets its contract by what the answer tells. Assumes nothing.
-use Rattle.list_laws.proofs.Kit.{◌∙◌, ◌≡◌, sym}
+use Rattle.list_laws.proofs.Kit.{◌∙◌, ◌≡◌, sym, rules}
 use Rattle.model.specs.Buffer.{turn_of}
 use Rattle.model.specs.Search.{Best}
 use Rattle.model.specs.Refusal.{Outcome}
@@ -30,7 +30,7 @@ unfolding outcome line
 answered c =
     let at-piece-with-turn : tie.After-piece_with_turn = search in
     let at-size-of : tie.After-size_of-size = search in
-    rw (at-size-of.type_size.ensures, at-piece-with-turn.piece_with_turn.ensures, c.before.before.turn_or_zero.ensures, c.before.Line-of.ensures) at
+    rw (at-size-of.type_size.ensures, at-piece-with-turn.piece_with_turn.ensures, c.turn_or_zero.ensures, c.Line-of.ensures) at
     c.line_search.ensures
 
 size_of-size-requires : tie.Need-size_of-size-requires
@@ -49,7 +49,7 @@ line_search-requires : tie.Need-line_search-requires
 line_search-requires c κs = tt
 
 enum_known-least : tie.Need-enum_known-least
-enum_known-least c = c.in-Best.keys1
+enum_known-least c = search rules
 
 coordinate_number-requires : tie.Need-coordinate_number-requires
 coordinate_number-requires c κs = tt
@@ -58,7 +58,7 @@ done-requires : tie.Need-done-requires
 done-requires c κs = tt
 
 enum_known-refusal : tie.Need-enum_known-refusal
-enum_known-refusal c = c.in-Best.keys2
+enum_known-refusal c = search rules
 
 refused-requires : tie.Need-refused-requires
 refused-requires c κs = tt
@@ -66,13 +66,13 @@ refused-requires c κs = tt
 returns-in-Best : tie.Need-returns-in-Best
 unfolding outcome line
 returns-in-Best c =
-    let at_least : tie.In-Best-2 = search in
+    let at_least : tie.In-Best = search in
     let at-line-search : tie.After-line_search = search in
     let at-start : tie.Start = search in
     let o = outcome at-start in
-    let t = best_told_lem (line at-start) o (sym at_least.least-1.given.1 ∙ answered (at-line-search)) in (
+    let t = best_told_lem (line at-start) o (sym at_least.in-Best.is ∙ answered (at-line-search)) in (
       c.done.ensures ∙ reply_by (λ b. b) o t,
-      (leaves_by (λ b. b) (λ b. b.sum) _ o t, c.before.coordinate_number.ensures ∙ leaves_by (λ b. b) (λ b. b.at) _ o t),
+      (leaves_by (λ b. b) (λ b. b.sum) _ o t, c.coordinate_number.ensures ∙ leaves_by (λ b. b) (λ b. b.at) _ o t),
     )
 
 returns-in-Refused : tie.Need-returns-in-Refused
@@ -81,7 +81,7 @@ returns-in-Refused c =
     let at-line-search : tie.After-line_search = search in
     let at-start : tie.Start = search in
     let o = outcome at-start in
-    let t = best_told_lem (line at-start) o (sym c.before.before.refusal-1.given.1 ∙ answered (at-line-search)) in
+    let t = best_told_lem (line at-start) o (sym c.in-Refused.is ∙ answered (at-line-search)) in
     (c.refused.ensures ∙ reply_by (λ b. b) o t, (leaves_by (λ b. b) (λ b. b.sum) _ o t, leaves_by (λ b. b) (λ b. b.at) _ o t))
 
 pub sigbrol_line_search_spec : {M : Type 1} → statement M

@@ -18,13 +18,13 @@ outcome c =
 
 -- what `fresh` answers
 answered : (c : tie.After-fresh-answer) → c.fresh-answer.result ≡ sheet_answer blank_record (outcome c)
-answered c = rw c.before.before.type_size.ensures at c.fresh-answer.ensures.0
+answered c = rw c.type_size.ensures at c.fresh-answer.ensures.0
 
 -- what it leaves in the count buffer
 counted : (c : tie.After-fresh-answer) →
     let at-start : tie.Start = search in
-    c.fresh-answer.new.1.1.1.0 ≡ counts_after at-start.args.counts.now (outcome c)
-counted c = rw c.before.before.type_size.ensures at c.fresh-answer.ensures.1
+    c.fresh-answer.new.counts ≡ counts_after at-start.args.counts.now (outcome c)
+counted c = rw c.type_size.ensures at c.fresh-answer.ensures.1
 
 returns-in-Done : tie.Need-returns-in-Done
 returns-in-Done c =
@@ -32,15 +32,15 @@ returns-in-Done c =
     let at-fresh : tie.After-fresh-answer = search in
     let at-start : tie.Start = search in
     let t = taken_up blank_record (outcome at-fresh) at-fresh.fresh-answer.result at-start.args.entries.now (answered at-fresh)
-    at-enum-told.enum_told-1.given.1 in
-    (c.done.ensures ∙ t.0, (c.before.write_record.ensures ∙ t.1, counted at-fresh))
+    at-enum-told.in-Done.is in
+    (c.done.ensures ∙ t.0, (c.write_record.ensures ∙ t.1, counted at-fresh))
 
 returns-in-Refused : tie.Need-returns-in-Refused
 returns-in-Refused c =
     let at-fresh : tie.After-fresh-answer = search in
     let at-start : tie.Start = search in
     let t = turned_down blank_record (outcome at-fresh) at-fresh.fresh-answer.result at-start.args.entries.now _ (answered at-fresh)
-    c.before.before.reply-1.given.1 in
+    c.in-Refused.is in
     (c.refused.ensures ∙ t.0, (t.1, counted at-fresh))
 
 pub sigbrol_fresh_spec : {M : Type 1} → statement M

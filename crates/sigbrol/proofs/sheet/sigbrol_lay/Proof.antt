@@ -30,39 +30,39 @@ answered c =
     rw (
       at-size-of.type_size.ensures,
       at-read-record.read_record.ensures,
-      c.before.before.piece_with_turn.ensures,
-      c.before.placement_of.ensures,
+      c.piece_with_turn.ensures,
+      c.placement_of.ensures,
     ) at c.lay-answer.ensures.0
 
 -- what it leaves in the count buffer
 counted : (c : tie.After-lay-answer) →
     let at-start : tie.Start = search in
-    c.lay-answer.new.1.1.1.1.0 ≡ counts_after at-start.args.counts.now (outcome c)
+    c.lay-answer.new.counts ≡ counts_after at-start.args.counts.now (outcome c)
 counted c =
     let at-read-record : tie.After-read_record = search in
     let at-size-of : tie.After-size_of = search in
     rw (
       at-size-of.type_size.ensures,
       at-read-record.read_record.ensures,
-      c.before.before.piece_with_turn.ensures,
-      c.before.placement_of.ensures,
+      c.piece_with_turn.ensures,
+      c.placement_of.ensures,
     ) at c.lay-answer.ensures.1
 
 returns-in-Done : tie.Need-returns-in-Done
 returns-in-Done c =
     let at-enum-told : tie.In-Done = search in
     let at-lay : tie.After-lay-answer = search in
-    let at-shared-slice-known : tie.After-shared_slice_known-1 = search in
-    let t = taken_up (record_in at-shared-slice-known.before.args.entries.now) (outcome at-lay) at-lay.lay-answer.result
-    at-shared-slice-known.before.args.entries.now (answered at-lay) at-enum-told.enum_told-1.given.1 in
-    (c.done.ensures ∙ t.0, (c.before.write_record.ensures ∙ t.1, counted at-lay))
+    let at-start : tie.Start = search in
+    let t = taken_up (record_in at-start.args.entries.now) (outcome at-lay) at-lay.lay-answer.result
+    at-start.args.entries.now (answered at-lay) at-enum-told.in-Done.is in
+    (c.done.ensures ∙ t.0, (c.write_record.ensures ∙ t.1, counted at-lay))
 
 returns-in-Refused : tie.Need-returns-in-Refused
 returns-in-Refused c =
     let at-lay : tie.After-lay-answer = search in
     let at-start : tie.Start = search in
     let t = turned_down (record_in at-start.args.entries.now) (outcome at-lay) at-lay.lay-answer.result at-start.args.entries.now _ (answered at-lay)
-    c.before.before.reply-1.given.1 in
+    c.in-Refused.is in
     (c.refused.ensures ∙ t.0, (t.1, counted at-lay))
 
 pub sigbrol_lay_spec : {M : Type 1} → statement M

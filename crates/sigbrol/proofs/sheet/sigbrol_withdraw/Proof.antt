@@ -26,18 +26,18 @@ answered : (c : tie.After-withdraw-answer) →
 answered c =
     let at-read-record : tie.After-read_record-sheet = search in
     rw (
-      c.before.before.type_size.ensures,
+      c.type_size.ensures,
       at-read-record.read_record-sheet.ensures,
     ) at c.withdraw-answer.ensures.0
 
 -- what it leaves in the count buffer
 counted : (c : tie.After-withdraw-answer) →
     let at-start : tie.Start = search in
-    c.withdraw-answer.new.1.1.1.1.0 ≡ counts_after at-start.args.counts.now (outcome c)
+    c.withdraw-answer.new.counts ≡ counts_after at-start.args.counts.now (outcome c)
 counted c =
     let at-read-record : tie.After-read_record-sheet = search in
     rw (
-      c.before.before.type_size.ensures,
+      c.type_size.ensures,
       at-read-record.read_record-sheet.ensures,
     ) at c.withdraw-answer.ensures.1
 
@@ -47,15 +47,15 @@ returns-in-Done c =
     let at-withdraw : tie.After-withdraw-answer = search in
     let at-start : tie.Start = search in
     let t = taken_up (record_in at-start.args.entries.now) (outcome at-withdraw) at-withdraw.withdraw-answer.result at-start.args.entries.now
-    (answered at-withdraw) at-enum-told.enum_told-1.given.1 in
-    (c.done.ensures ∙ t.0, (c.before.write_record.ensures ∙ t.1, counted at-withdraw))
+    (answered at-withdraw) at-enum-told.in-Done.is in
+    (c.done.ensures ∙ t.0, (c.write_record.ensures ∙ t.1, counted at-withdraw))
 
 returns-in-Refused : tie.Need-returns-in-Refused
 returns-in-Refused c =
     let at-withdraw : tie.After-withdraw-answer = search in
     let at-start : tie.Start = search in
     let t = turned_down (record_in at-start.args.entries.now) (outcome at-withdraw) at-withdraw.withdraw-answer.result at-start.args.entries.now _
-    (answered at-withdraw) c.before.before.reply-1.given.1 in
+    (answered at-withdraw) c.in-Refused.is in
     (c.refused.ensures ∙ t.0, (t.1, counted at-withdraw))
 
 pub sigbrol_withdraw_spec : {M : Type 1} → statement M

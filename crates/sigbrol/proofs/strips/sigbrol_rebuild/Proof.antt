@@ -1,5 +1,5 @@
 -- `sigbrol::strips::sigbrol_rebuild` meets its contract by what the answer tells. Assumes nothing.
-use Rattle.list_laws.proofs.Kit.{◌∙◌, ◌≡◌, sym, length}
+use Rattle.list_laws.proofs.Kit.{◌∙◌, ◌≡◌, sym, length, rules}
 use Rattle.model.specs.Piece.{Shape}
 use Rattle.model.specs.Answers.{done_answer}
 use Rattle.model.specs.Refusal.{Outcome}
@@ -19,21 +19,21 @@ answered : (c : tie.After-rebuild) →
     let at-start : tie.Start = search in
     c.rebuild.result ≡ done_answer (outcome (at-start))
 unfolding outcome
-answered c = rw c.before.before.direction_of.ensures at c.rebuild.ensures.0
+answered c = rw c.direction_of.ensures at c.rebuild.ensures.0
 
 -- and so do the pixels
 left : (c : tie.After-rebuild) →
     let at-start : tie.Start = search in
-    c.rebuild.new.1.1.1.1.0 ≡ pixels_after at-start.args.pixels.now (outcome (at-start))
+    c.rebuild.new.pixels ≡ pixels_after at-start.args.pixels.now (outcome (at-start))
 unfolding outcome
-left c = rw c.before.before.direction_of.ensures at c.rebuild.ensures.1.0
+left c = rw c.direction_of.ensures at c.rebuild.ensures.1.0
 
 -- the pixels of a set stand in the buffer again
 again : (c : tie.After-rebuild) →
     let at-start : tie.Start = search in
     Again (direction_of at-start.args.vertical) at-start.args.columns at-start.args.rows at-start.args.strips.now at-start.args.pixels.now
-    c.rebuild.new.1.1.1.1.0
-again c = rw c.before.before.direction_of.ensures at c.rebuild.ensures.1.1
+    c.rebuild.new.pixels
+again c = rw c.direction_of.ensures at c.rebuild.ensures.1.1
 
 direction_of-requires : tie.Need-direction_of-requires
 direction_of-requires c κs = tt
@@ -42,13 +42,13 @@ rebuild-requires : tie.Need-rebuild-requires
 rebuild-requires c κs = tt
 
 enum_told-1 : tie.Need-enum_told-1
-enum_told-1 c = c.in-Done.keys1
+enum_told-1 c = search rules
 
 done-requires : tie.Need-done-requires
 done-requires c κs = tt
 
 enum_known-refusal : tie.Need-enum_known-refusal
-enum_known-refusal c = c.in-Done.keys2
+enum_known-refusal c = search rules
 
 refused-requires : tie.Need-refused-requires
 refused-requires c κs = tt
@@ -56,7 +56,7 @@ refused-requires c κs = tt
 shape_of-pixels-in-Done : tie.Need-shape_of-pixels-in-Done
 shape_of-pixels-in-Done c =
     let at-rebuild : tie.After-rebuild = search in
-    at-rebuild.rebuild.auto.1.1.1.1.0
+    at-rebuild.rebuild.auto.pixels
 
 returns-in-Done : tie.Need-returns-in-Done
 unfolding outcome
@@ -64,14 +64,14 @@ returns-in-Done c =
     let at-rebuild : tie.After-rebuild = search in
     let at-start : tie.Start = search in
     let o = outcome (at-start) in (
-      c.done.ensures ∙ reply_by (λ s. tt) o (done_told_lem o (sym c.before.enum_told-1.given.1 ∙ answered (at-rebuild))),
+      c.done.ensures ∙ reply_by (λ s. tt) o (done_told_lem o (sym c.in-Done.is ∙ answered (at-rebuild))),
       (left (at-rebuild), again (at-rebuild)),
     )
 
 shape_of-pixels-in-Refused : tie.Need-shape_of-pixels-in-Refused
 shape_of-pixels-in-Refused c =
     let at-rebuild : tie.After-rebuild = search in
-    at-rebuild.rebuild.auto.1.1.1.1.0
+    at-rebuild.rebuild.auto.pixels
 
 returns-in-Refused : tie.Need-returns-in-Refused
 unfolding outcome
@@ -79,7 +79,7 @@ returns-in-Refused c =
     let at-rebuild : tie.After-rebuild = search in
     let at-start : tie.Start = search in
     let o = outcome (at-start) in (
-      c.refused.ensures ∙ reply_by (λ s. tt) o (done_told_lem o (sym c.before.before.refusal-1.given.1 ∙ answered (at-rebuild))),
+      c.refused.ensures ∙ reply_by (λ s. tt) o (done_told_lem o (sym c.in-Refused.is ∙ answered (at-rebuild))),
       (left (at-rebuild), again (at-rebuild)),
     )
 

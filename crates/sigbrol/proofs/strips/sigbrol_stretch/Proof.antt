@@ -15,7 +15,7 @@ abbrev lentJob : tie.Start → Lent
 lentJob s = let a = s.args in lent_as a.rows a.columns a.count a.gap a.table.now a.pixels.now
 
 abbrev lentStores : tie.Start → Stores
-lentStores s = let a = s.args in stores_by a.row-strips.now a.row-starts.now a.column-strips.now a.column-starts.now
+lentStores s = let a = s.args in stores_by a.row_strips.now a.row_starts.now a.column_strips.now a.column_starts.now
 
 -- the stretch that is given
 part : tie.Start → List (List ℕ)
@@ -26,7 +26,7 @@ handed : (c : tie.After-stretch-strips) →
     let at-start : tie.Start = search in
     c.stretch-strips.result.now ≡ part (at-start)
 unfolding part
-handed c = rw (c.before.before.type_size.ensures, c.before.direction_of-direction.ensures) at c.stretch-strips.ensures
+handed c = rw (c.type_size.ensures, c.direction_of-direction.ensures) at c.stretch-strips.ensures
 
 -- it is there where it is not empty
 there : (c : tie.Then-length-ne0) →

@@ -1,5 +1,5 @@
 -- `sigbrol::strips::sigbrol_strips` meets its contract by what the answer tells. Assumes nothing.
-use Rattle.list_laws.proofs.Kit.{◌∙◌, ◌≡◌, sym}
+use Rattle.list_laws.proofs.Kit.{◌∙◌, ◌≡◌, sym, rules}
 use Rattle.model.specs.Answers.{done_answer}
 use Rattle.model.specs.Refusal.{Outcome}
 use Rattle.model.specs.Calls.{Stores, strips_call, stores_after}
@@ -11,7 +11,7 @@ use Rattle.sigbrol.proofs.strips.sigbrol_strips.Tie as tie
 
 -- the lent stores
 lentStores : tie.Start → Stores
-lentStores s = let a = s.args in stores_by a.row-strips.now a.row-starts.now a.column-strips.now a.column-starts.now
+lentStores s = let a = s.args in stores_by a.row_strips.now a.row_starts.now a.column_strips.now a.column_starts.now
 
 -- the outcome of the call
 outcome : tie.Start → Outcome Stores
@@ -29,8 +29,8 @@ answered c =
 -- and so do the stores
 left : (c : tie.After-strips) →
     let at-start : tie.Start = search in
-    stores_by c.strips.new.1.1.1.1.0 c.strips.new.1.1.1.1.1.0 c.strips.new.1.1.1.1.1.1.0
-    c.strips.new.1.1.1.1.1.1.1.0 ≡ stores_after (lentStores (at-start)) (outcome (at-start))
+    stores_by c.strips.new.row_strips c.strips.new.row_starts c.strips.new.column_strips
+    c.strips.new.column_starts ≡ stores_after (lentStores (at-start)) (outcome (at-start))
 unfolding outcome lentStores
 left c =
     let at-size-of : tie.After-size_of-size = search in
@@ -43,13 +43,13 @@ strips-requires : tie.Need-strips-requires
 strips-requires c κs = tt
 
 enum_told-1 : tie.Need-enum_told-1
-enum_told-1 c = c.in-Done.keys1
+enum_told-1 c = search rules
 
 done-requires : tie.Need-done-requires
 done-requires c κs = tt
 
 enum_known-refusal : tie.Need-enum_known-refusal
-enum_known-refusal c = c.in-Done.keys2
+enum_known-refusal c = search rules
 
 refused-requires : tie.Need-refused-requires
 refused-requires c κs = tt
@@ -57,22 +57,22 @@ refused-requires c κs = tt
 shape_of-row_strips-in-Done : tie.Need-shape_of-row_strips-in-Done
 shape_of-row_strips-in-Done c =
     let at-strips : tie.After-strips = search in
-    at-strips.strips.auto.1.1.1.1.0
+    at-strips.strips.auto.row_strips
 
 shape_of-row_starts-in-Done : tie.Need-shape_of-row_starts-in-Done
 shape_of-row_starts-in-Done c =
     let at-strips : tie.After-strips = search in
-    at-strips.strips.auto.1.1.1.1.1.0
+    at-strips.strips.auto.row_starts
 
 shape_of-column_strips-in-Done : tie.Need-shape_of-column_strips-in-Done
 shape_of-column_strips-in-Done c =
     let at-strips : tie.After-strips = search in
-    at-strips.strips.auto.1.1.1.1.1.1.0
+    at-strips.strips.auto.column_strips
 
 shape_of-column_starts-in-Done : tie.Need-shape_of-column_starts-in-Done
 shape_of-column_starts-in-Done c =
     let at-strips : tie.After-strips = search in
-    at-strips.strips.auto.1.1.1.1.1.1.1.0
+    at-strips.strips.auto.column_starts
 
 returns-in-Done : tie.Need-returns-in-Done
 unfolding outcome lentStores
@@ -80,27 +80,27 @@ returns-in-Done c =
     let at-strips : tie.After-strips = search in
     let at-start : tie.Start = search in
     let o = outcome (at-start) in
-    (c.done.ensures ∙ reply_by (λ s. tt) o (done_told_lem o (sym c.before.enum_told-1.given.1 ∙ answered (at-strips))), left (at-strips))
+    (c.done.ensures ∙ reply_by (λ s. tt) o (done_told_lem o (sym c.in-Done.is ∙ answered (at-strips))), left (at-strips))
 
 shape_of-row_strips-in-Refused : tie.Need-shape_of-row_strips-in-Refused
 shape_of-row_strips-in-Refused c =
     let at-strips : tie.After-strips = search in
-    at-strips.strips.auto.1.1.1.1.0
+    at-strips.strips.auto.row_strips
 
 shape_of-row_starts-in-Refused : tie.Need-shape_of-row_starts-in-Refused
 shape_of-row_starts-in-Refused c =
     let at-strips : tie.After-strips = search in
-    at-strips.strips.auto.1.1.1.1.1.0
+    at-strips.strips.auto.row_starts
 
 shape_of-column_strips-in-Refused : tie.Need-shape_of-column_strips-in-Refused
 shape_of-column_strips-in-Refused c =
     let at-strips : tie.After-strips = search in
-    at-strips.strips.auto.1.1.1.1.1.1.0
+    at-strips.strips.auto.column_strips
 
 shape_of-column_starts-in-Refused : tie.Need-shape_of-column_starts-in-Refused
 shape_of-column_starts-in-Refused c =
     let at-strips : tie.After-strips = search in
-    at-strips.strips.auto.1.1.1.1.1.1.1.0
+    at-strips.strips.auto.column_starts
 
 returns-in-Refused : tie.Need-returns-in-Refused
 unfolding outcome lentStores
@@ -108,7 +108,7 @@ returns-in-Refused c =
     let at-strips : tie.After-strips = search in
     let at-start : tie.Start = search in
     let o = outcome (at-start) in
-    (c.refused.ensures ∙ reply_by (λ s. tt) o (done_told_lem o (sym c.before.before.refusal-1.given.1 ∙ answered (at-strips))), left (at-strips))
+    (c.refused.ensures ∙ reply_by (λ s. tt) o (done_told_lem o (sym c.in-Refused.is ∙ answered (at-strips))), left (at-strips))
 
 pub sigbrol_strips_spec : {M : Type 1} → statement M
 sigbrol_strips_spec =

@@ -5,22 +5,22 @@ use Rattle.sigbrol.proofs.strips.start_of.Statement.{statement}
 use Rattle.sigbrol.proofs.strips.start_of.Tie as tie
 
 bounds-row_starts-piece : tie.Need-bounds-row_starts-piece
-bounds-row_starts-piece c = c.before.before.requires.0
+bounds-row_starts-piece c = c.requires.0
 
 overflow_cast-result : tie.Need-overflow_cast-result
-overflow_cast-result c = omega (arith, c.shared_slice_known-1.given c.before.before.args.piece)
+overflow_cast-result c = omega (arith, c.shared_slice_known-1.given c.args.piece)
 
 bounds-column_starts-piece : tie.Need-bounds-column_starts-piece
-bounds-column_starts-piece c = c.before.before.requires.1
+bounds-column_starts-piece c = c.requires.1
 
 overflow_cast-result-else-vertical-eq0 : tie.Need-overflow_cast-result-else-vertical-eq0
-overflow_cast-result-else-vertical-eq0 c = omega (arith, c.shared_slice_known-else-vertical-eq0-1.given c.before.before.args.piece)
+overflow_cast-result-else-vertical-eq0 c = omega (arith, c.shared_slice_known-else-vertical-eq0-1.given c.args.piece)
 
 returns-then-vertical-eq0 : tie.Need-returns-then-vertical-eq0
-returns-then-vertical-eq0 c = rw (eq-eqb c.before.before.args.vertical 0 c.before.if-vertical-eq0.true, start_in)
+returns-then-vertical-eq0 c = rw (eq-eqb c.args.vertical 0 c.if-vertical-eq0.true, start_in)
 
 returns-else-vertical-eq0 : tie.Need-returns-else-vertical-eq0
-returns-else-vertical-eq0 c = rw (ne_eqb c.before.before.args.vertical 0 c.before.if-vertical-eq0.false, start_in)
+returns-else-vertical-eq0 c = rw (ne_eqb c.args.vertical 0 c.if-vertical-eq0.false, start_in)
 
 pub start_of_spec : {M : Type 1} → statement M
 start_of_spec =

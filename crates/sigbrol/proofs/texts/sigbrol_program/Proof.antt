@@ -22,13 +22,13 @@ print_run-requires : tie.Need-print_run-requires
 print_run-requires c κs = tt
 
 enum_known-count : tie.Need-enum_known-count
-enum_known-count c = c.in-Number.keys1
+enum_known-count c = search rules
 
 done-requires : tie.Need-done-requires
 done-requires c κs = tt
 
 enum_known-refusal : tie.Need-enum_known-refusal
-enum_known-refusal c = c.in-Number.keys2
+enum_known-refusal c = search rules
 
 refused-requires : tie.Need-refused-requires
 refused-requires c κs = tt
@@ -36,7 +36,7 @@ refused-requires c κs = tt
 shape_of-output-in-Number : tie.Need-shape_of-output-in-Number
 shape_of-output-in-Number c =
     let at-print-run : tie.After-print_run = search in
-    at-print-run.print_run.auto.1.0
+    at-print-run.print_run.auto.output
 
 returns-in-Number : tie.Need-returns-in-Number
 unfolding outcome
@@ -44,7 +44,7 @@ returns-in-Number c =
     let at-print-run : tie.After-print_run = search in
     let at-start : tie.Start = search in
     let o = outcome (at-start) in
-    let t = count_told o (sym c.before.before.count-1.given.1 ∙ answered (at-print-run)) in (
+    let t = count_told o (sym c.in-Number.is ∙ answered (at-print-run)) in (
       c.done.ensures ∙ reply_by (λ text. length text) o t,
       (
         at-print-run.print_run.ensures.1.0,
@@ -55,7 +55,7 @@ returns-in-Number c =
 shape_of-output-in-Refused : tie.Need-shape_of-output-in-Refused
 shape_of-output-in-Refused c =
     let at-print-run : tie.After-print_run = search in
-    at-print-run.print_run.auto.1.0
+    at-print-run.print_run.auto.output
 
 returns-in-Refused : tie.Need-returns-in-Refused
 unfolding outcome
@@ -63,7 +63,7 @@ returns-in-Refused c =
     let at-print-run : tie.After-print_run = search in
     let at-start : tie.Start = search in
     let o = outcome (at-start) in
-    let t = count_told o (sym c.before.before.refusal-1.given.1 ∙ answered (at-print-run)) in (
+    let t = count_told o (sym c.in-Refused.is ∙ answered (at-print-run)) in (
       c.refused.ensures ∙ reply_by (λ text. length text) o t,
       (
         at-print-run.print_run.ensures.1.0,

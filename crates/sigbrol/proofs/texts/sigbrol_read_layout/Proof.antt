@@ -1,5 +1,5 @@
 -- `sigbrol::texts::sigbrol_read_layout` meets its contract by what the answer tells. Assumes nothing.
-use Rattle.list_laws.proofs.Kit.{◌∙◌, ◌≡◌, sym, length}
+use Rattle.list_laws.proofs.Kit.{◌∙◌, ◌≡◌, sym, length, rules}
 use Rattle.model.specs.Layout.{Layout}
 use Rattle.model.specs.Answers.{done_answer}
 use Rattle.model.specs.Refusal.{Outcome}
@@ -19,7 +19,7 @@ answered : (c : tie.After-read_layout) →
     let at-start : tie.Start = search in
     c.read_layout.result ≡ done_answer (outcome (at-start))
 unfolding outcome
-answered c = rw c.before.before.type_size.ensures at c.read_layout.ensures.0
+answered c = rw c.type_size.ensures at c.read_layout.ensures.0
 
 size_of-requires : tie.Need-size_of-requires
 size_of-requires c κs = tt
@@ -28,13 +28,13 @@ read_layout-requires : tie.Need-read_layout-requires
 read_layout-requires c κs = tt
 
 enum_told-1 : tie.Need-enum_told-1
-enum_told-1 c = c.in-Done.keys1
+enum_told-1 c = search rules
 
 done-requires : tie.Need-done-requires
 done-requires c κs = tt
 
 enum_known-refusal : tie.Need-enum_known-refusal
-enum_known-refusal c = c.in-Done.keys2
+enum_known-refusal c = search rules
 
 refused-requires : tie.Need-refused-requires
 refused-requires c κs = tt
@@ -42,7 +42,7 @@ refused-requires c κs = tt
 shape_of-layout-in-Done : tie.Need-shape_of-layout-in-Done
 shape_of-layout-in-Done c =
     let at-read-layout : tie.After-read_layout = search in
-    at-read-layout.read_layout.auto.1.1.1.1.0
+    at-read-layout.read_layout.auto.layout
 
 returns-in-Done : tie.Need-returns-in-Done
 unfolding outcome
@@ -51,13 +51,13 @@ returns-in-Done c =
     let at-size-of : tie.After-size_of = search in
     let at-start : tie.Start = search in
     let o = outcome (at-start) in
-    let t = done_told_lem o (sym c.before.enum_told-1.given.1 ∙ answered (at-read-layout)) in
+    let t = done_told_lem o (sym c.in-Done.is ∙ answered (at-read-layout)) in
     (c.done.ensures ∙ reply_by (λ v. tt) o t, rw at-size-of.type_size.ensures at at-read-layout.read_layout.ensures.1)
 
 shape_of-layout-in-Refused : tie.Need-shape_of-layout-in-Refused
 shape_of-layout-in-Refused c =
     let at-read-layout : tie.After-read_layout = search in
-    at-read-layout.read_layout.auto.1.1.1.1.0
+    at-read-layout.read_layout.auto.layout
 
 returns-in-Refused : tie.Need-returns-in-Refused
 unfolding outcome
@@ -66,7 +66,7 @@ returns-in-Refused c =
     let at-size-of : tie.After-size_of = search in
     let at-start : tie.Start = search in
     let o = outcome (at-start) in
-    let t = done_told_lem o (sym c.before.before.refusal-1.given.1 ∙ answered (at-read-layout)) in
+    let t = done_told_lem o (sym c.in-Refused.is ∙ answered (at-read-layout)) in
     (c.refused.ensures ∙ reply_by (λ v. tt) o t, rw at-size-of.type_size.ensures at at-read-layout.read_layout.ensures.1)
 
 pub sigbrol_read_layout_spec : {M : Type 1} → statement M

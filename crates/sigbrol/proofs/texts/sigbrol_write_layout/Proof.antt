@@ -1,5 +1,5 @@
 -- `sigbrol::texts::sigbrol_write_layout` meets its contract by what the answer tells. Assumes nothing.
-use Rattle.list_laws.proofs.Kit.{◌∙◌, ◌≡◌, sym, List, ℕ, length}
+use Rattle.list_laws.proofs.Kit.{◌∙◌, ◌≡◌, sym, List, ℕ, length, rules}
 use Rattle.model.specs.Answers.{count_answer}
 use Rattle.model.specs.Refusal.{Outcome}
 use Rattle.model.specs.Calls.{write_layout_call}
@@ -18,7 +18,7 @@ answered : (c : tie.After-write_layout) →
     let at-start : tie.Start = search in
     c.write_layout.result ≡ count_answer (outcome (at-start))
 unfolding outcome
-answered c = rw c.before.before.type_size.ensures at c.write_layout.ensures.0
+answered c = rw c.type_size.ensures at c.write_layout.ensures.0
 
 size_of-requires : tie.Need-size_of-requires
 size_of-requires c κs = tt
@@ -27,13 +27,13 @@ write_layout-requires : tie.Need-write_layout-requires
 write_layout-requires c κs = tt
 
 enum_known-length : tie.Need-enum_known-length
-enum_known-length c = c.in-Number.keys1
+enum_known-length c = search rules
 
 done-requires : tie.Need-done-requires
 done-requires c κs = tt
 
 enum_known-refusal : tie.Need-enum_known-refusal
-enum_known-refusal c = c.in-Number.keys2
+enum_known-refusal c = search rules
 
 refused-requires : tie.Need-refused-requires
 refused-requires c κs = tt
@@ -41,7 +41,7 @@ refused-requires c κs = tt
 shape_of-text-in-Number : tie.Need-shape_of-text-in-Number
 shape_of-text-in-Number c =
     let at-write-layout : tie.After-write_layout = search in
-    at-write-layout.write_layout.auto.1.1.1.1.0
+    at-write-layout.write_layout.auto.text
 
 returns-in-Number : tie.Need-returns-in-Number
 unfolding outcome
@@ -50,7 +50,7 @@ returns-in-Number c =
     let at-size-of : tie.After-size_of = search in
     let at-start : tie.Start = search in
     let o = outcome (at-start) in
-    let t = count_told o (sym c.before.before.length-1.given.1 ∙ answered (at-write-layout)) in (
+    let t = count_told o (sym c.in-Number.is ∙ answered (at-write-layout)) in (
       c.done.ensures ∙ reply_by (λ text. length text) o t,
       (rw at-size-of.type_size.ensures at at-write-layout.write_layout.ensures.1, leaves_by (λ text. length text) (λ k. k) _ o t),
     )
@@ -58,7 +58,7 @@ returns-in-Number c =
 shape_of-text-in-Refused : tie.Need-shape_of-text-in-Refused
 shape_of-text-in-Refused c =
     let at-write-layout : tie.After-write_layout = search in
-    at-write-layout.write_layout.auto.1.1.1.1.0
+    at-write-layout.write_layout.auto.text
 
 returns-in-Refused : tie.Need-returns-in-Refused
 unfolding outcome
@@ -67,7 +67,7 @@ returns-in-Refused c =
     let at-size-of : tie.After-size_of = search in
     let at-start : tie.Start = search in
     let o = outcome (at-start) in
-    let t = count_told o (sym c.before.before.refusal-1.given.1 ∙ answered (at-write-layout)) in (
+    let t = count_told o (sym c.in-Refused.is ∙ answered (at-write-layout)) in (
       c.refused.ensures ∙ reply_by (λ text. length text) o t,
       (rw at-size-of.type_size.ensures at at-write-layout.write_layout.ensures.1, leaves_by (λ text. length text) (λ k. k) _ o t),
     )

@@ -9,7 +9,7 @@ ordered : (c : tie.Start) → get_or c.args.starts.now c.args.piece 0 ≤ get_or
 ordered c = let e : c.args.piece + 1 ≡ suc c.args.piece = omega arith in rw e c.requires.order
 
 overflow_cast-to : tie.Need-overflow_cast-to
-overflow_cast-to c = omega (arith, c.told-starts (c.args.piece + 1))
+overflow_cast-to c = omega (arith, c.shared_slice_known-2-1.given (c.args.piece + 1))
 
 slice_bounds-result-count : tie.Need-slice_bounds-result-count
 slice_bounds-result-count c = ordered c.before.before

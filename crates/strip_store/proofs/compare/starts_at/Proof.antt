@@ -4,7 +4,7 @@ use Rattle.strip_store.proofs.compare.starts_at.Statement.{statement}
 use Rattle.strip_store.proofs.compare.starts_at.Tie as tie
 
 overflow_cast-result : tie.Need-overflow_cast-result
-overflow_cast-result c = omega (arith, c.told-starts c.args.i)
+overflow_cast-result c = omega (arith, c.shared_slice_known-1.given c.args.i)
 
 returns-then-i-starts : tie.Need-returns-then-i-starts
 returns-then-i-starts c = simp (lt-ltb _ _ c.if-i-starts.true)
