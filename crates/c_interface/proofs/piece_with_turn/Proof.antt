@@ -11,7 +11,7 @@ unfolding is_turn
 returns-in-Known c =
     let at-start : tie.Start = search in
     rw (
-      known_some (turn_of_degrees at-start.args.turn) _ (sym c.in-Known.is ∙ c.before.before.turn_of.ensures),
+      known_some (turn_of_degrees at-start.args.turn) _ (sym c.in-Known.is ∙ c.turn_of.ensures),
       piece_with_turn,
       is_turn,
       turn_passes,
@@ -22,7 +22,7 @@ unfolding is_turn
 returns-in-Unknown c =
     let at-start : tie.Start = search in
     rw (
-      unknown_none (turn_of_degrees at-start.args.turn) (sym c.in-Unknown.is ∙ c.before.before.turn_of.ensures),
+      unknown_none (turn_of_degrees at-start.args.turn) (sym c.in-Unknown.is ∙ c.turn_of.ensures),
       piece_with_turn,
       is_turn,
       turn_passes,

@@ -15,7 +15,7 @@ returns-then-lines-needed c =
     let first : tie.After-list_lines-needed = search in
     let ls = owned_lines s.args.size s.args.owners.now in
     let part = first.list_lines-needed in
-    let none : part.last.lines ≡ [] = nothing_left _ part.kept.lines in
+    let none : part.new.lines ≡ [] = nothing_left _ part.auto.lines in
     let short : length s.args.lines.now < length ls = rw (none, part.ensures.0) at c.before.if-lines-needed.true in
     let o : in_room ls (length s.args.lines.now) ≡ refused c.plain_refusal.result =
     short_room ls _ short ∙ sym (ap refused c.plain_refusal.ensures) in
@@ -28,7 +28,7 @@ returns c =
     let first : tie.After-list_lines-needed = search in
     let ls = owned_lines s.args.size s.args.owners.now in
     let part = first.list_lines-needed in
-    let none : part.last.lines ≡ [] = nothing_left _ part.kept.lines in
+    let none : part.new.lines ≡ [] = nothing_left _ part.auto.lines in
     let long : length ls ≤ length s.args.lines.now = rw (none, part.ensures.0) at e.if-lines-needed.false in
     let o : in_room ls (length s.args.lines.now) ≡ given ls = enough_room ls _ long in (
       rw part.ensures.0 (sym (ap count_answer o)),

@@ -31,7 +31,7 @@ within p =
     let s : tie.Start = search in
     let asked : tie.After-cut_lines = search in
     let most = lines_most (lent s) s.args.layout.now s.requires.0 in
-    let count = (told p).count-1 in
+    let count = (told p).count in
     let same = asked.cut_lines.auto.lines in
     let room = s.requires.1 in omega arith
 

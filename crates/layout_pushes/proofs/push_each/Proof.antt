@@ -17,7 +17,7 @@ invariant-loop-i size table pixels layout₀ rows row-spans columns column-spans
     × (Pushable (lent_by size table pixels) layout rows row-spans columns column-spans
     × ((length layout ≡ length layout₀)
     × ((slid ≡ (push_below (job_of (lent_by size table pixels)) i (layout_of layout₀)).slid)
-    × (layout ≡ entries_of (push_below (job_of (lent_by size table pixels)) i (layout_of layout₀)).layout-1))))
+    × (layout ≡ entries_of (push_below (job_of (lent_by size table pixels)) i (layout_of layout₀)).layout))))
 
 abbrev decreases-loop-i : tie.decreases-loop-i
 decreases-loop-i size table pixels layout₀ rows row-spans columns column-spans slid₀ i₀ layout slid i = size.count - i
@@ -111,7 +111,7 @@ returns c =
     let all : l.loop-i.i ≡ s.args.size.count = omega (arith, l.loop-i.invariant.0, c.loop-i-test.false) in
     let h = l.loop-i.invariant.1.1.1 in (
       h.0 ∙ ap (λ (n : ℕ). (push_below j n v).slid) all,
-      h.1 ∙ ap (λ (n : ℕ). entries_of (push_below j n v).layout-1) all,
+      h.1 ∙ ap (λ (n : ℕ). entries_of (push_below j n v).layout) all,
     )
 
 pub push_each_spec : {M : Type 1} → statement M

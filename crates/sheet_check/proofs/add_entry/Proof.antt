@@ -1,6 +1,6 @@
 -- `add_entry`: a piece that is not laid changes nothing; a laid one is inside, by the test of its entry.
 -- Assumes nothing.
-use Rattle.list_laws.proofs.Kit.{◌∙◌, arith, rules}
+use Rattle.list_laws.proofs.Kit.{◌∙◌, arith, rules, not-false, not-true}
 use Rattle.model.specs.Lent.{lent_by, job_of}
 use Rattle.job_laws.proofs.Checked.{facts}
 use Rattle.sheet_check.proofs.add_entry.Tie as tie
@@ -19,7 +19,7 @@ returns-then-not-entry c =
     let at-start : tie.Start = search in
     let a = at-start.args in
     free_added (job_of (lent_by a.size a.table.now a.pixels.now)) a.sheet.pieces a.i _ a.made.now c.entry_of-entry.ensures
-    c.if-not-entry.true
+    (not-true _ c.if-not-entry.true)
 
 move_piece-requires : tie.Need-move_piece-requires
 move_piece-requires c κs =
@@ -34,7 +34,7 @@ move_piece-requires c κs =
       within =
           laid_inside (job_of (lent_by a.size a.table.now a.pixels.now)) a.sheet.pieces a.i _
           at-entry-of.entry_of-entry.ensures pre.0.entries (let here = pre.1 in omega arith)
-          c.if-not-entry.false;
+          (not-false _ c.if-not-entry.false);
       full = pre.0.full;
     }
 
@@ -46,7 +46,7 @@ returns c =
     let a = at-start.args in
     c.move_piece.ensures
     ∙ laid_added (job_of (lent_by a.size a.table.now a.pixels.now)) a.sheet.pieces a.i _ a.made.now
-    at-entry-of.entry_of-entry.ensures at-else1.if-not-entry.false
+    at-entry-of.entry_of-entry.ensures (not-false _ at-else1.if-not-entry.false)
 
 pub add_entry_spec : {M : Type 1} → statement M
 add_entry_spec = tie.close (tie.spec

@@ -1,6 +1,6 @@
 -- `entry_well`: the entry passes as blank, or the parts of the other test fail one after another.
 -- Assumes nothing.
-use Rattle.list_laws.proofs.Kit.{◌∙◌, ◌≡◌, sym, true, [], arith, ltb, rules, ltb-true}
+use Rattle.list_laws.proofs.Kit.{◌∙◌, ◌≡◌, sym, true, [], arith, ltb, rules, ltb-true, not-false, not-true}
 use Rattle.model.specs.Lent.{job_of}
 use Rattle.list_laws.proofs.Tests.{and_left}
 use Rattle.sheet_check.proofs.Entries.{blank_passes, free_fails, unknown_fails, inside_passes}
@@ -15,7 +15,7 @@ returns-then-not-entry c = λ pixels.
     let at-is-blank : tie.After-is_blank = search in
     let at-entry-of : tie.After-entry_of-entry = search in
     free_fails _ _ _ _ at-entry-of.entry_of-entry.ensures
-    (sym at-is-blank.is_blank.ensures ∙ c.if-is_blank.false) c.if-not-entry.true
+    (sym at-is-blank.is_blank.ensures ∙ c.if-is_blank.false) (not-true _ c.if-not-entry.true)
 
 returns-then-not-known : tie.Need-returns-then-not-known
 unfolding job_of
@@ -26,7 +26,7 @@ returns-then-not-known c = λ pixels.
     let at-entry-of : tie.After-entry_of-entry = search in
     unknown_fails _ _ _ _ at-entry-of.entry_of-entry.ensures
     (sym at-is-blank.is_blank.ensures ∙ at-else1.if-is_blank.false)
-    at-else2.if-not-entry.false (sym (c.known.ensures pixels) ∙ c.if-not-known.true)
+    (not-false _ at-else2.if-not-entry.false) (sym (c.known.ensures pixels) ∙ c.if-not-known.true)
 
 inside-requires : tie.Need-inside-requires
 inside-requires c κs =
@@ -48,7 +48,7 @@ returns c = λ pixels.
     c.inside.ensures pixels
     ∙ inside_passes _ _ _ _ at-entry-of.entry_of-entry.ensures
     (sym at-is-blank.is_blank.ensures ∙ at-else1.if-is_blank.false)
-    at-else2.if-not-entry.false
+    (not-false _ at-else2.if-not-entry.false)
     (sym (c.known.ensures pixels) ∙ c.if-not-known.false)
 
 pub entry_well_spec : {M : Type 1} → statement M

@@ -1,6 +1,6 @@
 -- `sheet_well`: the record has 64 entries by its type and the counts their length by the check before, so the two tests are left.
 -- Assumes nothing.
-use Rattle.list_laws.proofs.Kit.{◌∙◌, ◌≡◌, sym, ◌&&◌, false, true, length, length-map}
+use Rattle.list_laws.proofs.Kit.{◌∙◌, ◌≡◌, sym, ◌&&◌, false, true, length}
 use Rattle.model.specs.Lent.{lent_by, job_of, piece_bound}
 use Rattle.model.specs.Cover.{Sheet, entry_well, sheet_well}
 use Rattle.model.specs.Bounded.{all_below}
@@ -12,7 +12,7 @@ use Rattle.sheet_check.proofs.sheet_well.Statement.{statement}
 
 -- the record has 64 entries: what holds of every value of its type
 many : (c : tie.Start) → length c.args.sheet.pieces ≡ piece_bound
-many c = sym (length-map c.args.sheet.pieces _) ∙ c.well_formed.1.1.1.0.1.1.0.1.0.1
+many c = c.well_formed.1.1.1.0.1.1.0.1.0.1
 
 -- the sheet that is lent
 abbrev sheet : tie.Start → Sheet

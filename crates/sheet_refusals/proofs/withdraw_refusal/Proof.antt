@@ -1,6 +1,6 @@
 -- `withdraw_refusal`: each way's tests say which cause is the first.
 -- Assumes nothing.
-use Rattle.list_laws.proofs.Kit.{rules, le-ltb, lt-ltb}
+use Rattle.list_laws.proofs.Kit.{rules, le-ltb, lt-ltb, not-false, not-true}
 use Rattle.model.specs.Cover.{withdraw_causes}
 use Rattle.model.specs.Lent.{job_of}
 use Rattle.sheet_refusals.specs.Causes.{first_number}
@@ -21,7 +21,7 @@ returns-then-not-entry c = λ pixels counts.
     rw (
       lt-ltb a.piece a.size.count at-else1.if-size-piece.false,
       ← at-entry-of.entry_of-entry.ensures,
-      c.if-not-entry.true,
+      (not-true _ c.if-not-entry.true),
     )
 
 returns-then-locked : tie.Need-returns-then-locked
@@ -36,7 +36,7 @@ returns-then-locked c = λ pixels counts.
     rw (
       lt-ltb a.piece a.size.count at-else1.if-size-piece.false,
       ← at-entry-of.entry_of-entry.ensures,
-      at-else2.if-not-entry.false,
+      (not-false _ at-else2.if-not-entry.false),
       ← at-is-locked.is_locked-locked.ensures,
       c.if-locked.true,
     )
@@ -53,7 +53,7 @@ returns c = λ pixels counts.
     rw (
       lt-ltb a.piece a.size.count at-else1.if-size-piece.false,
       ← at-entry-of.entry_of-entry.ensures,
-      at-else2.if-not-entry.false,
+      (not-false _ at-else2.if-not-entry.false),
       ← at-is-locked.is_locked-locked.ensures,
       c.if-locked.false,
     )

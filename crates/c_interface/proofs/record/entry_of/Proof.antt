@@ -7,13 +7,13 @@ use Rattle.c_interface.proofs.record.entry_of.Statement.{statement}
 use Rattle.c_interface.proofs.record.entry_of.Tie as tie
 
 returns-then-laid-gt1 : tie.Need-returns-then-laid-gt1
-returns-then-laid-gt1 c = c.stray_entry.ensures ∙ sym (laid_wrong c.before.before.args.t1 (omega arith))
+returns-then-laid-gt1 c = c.stray_entry.ensures ∙ sym (laid_wrong c.before.before.args.numbers (omega arith))
 
 returns-in_default : tie.Need-returns-in_default
 returns-in_default c =
     let at-turn-of : tie.After-turn_of = search in
     let at-start : tie.Start = search in
-    let ks = at-start.args.t1 in
+    let ks = at-start.args.numbers in
     let none_there = unknown_none (turn_of_degrees (get_or ks 1 0)) (sym c.in_default.is ∙ at-turn-of.turn_of.ensures) in
     c.stray_entry-in_default.ensures ∙ sym (turn_wrong ks (omega arith) none_there)
 
@@ -21,7 +21,7 @@ returns : tie.Need-returns
 returns c =
     let at-turn-of : tie.After-turn_of = search in
     let at-start : tie.Start = search in
-    let ks = at-start.args.t1 in
+    let ks = at-start.args.numbers in
     let there = known_some (turn_of_degrees (get_or ks 1 0)) _ (sym c.in-Known.is ∙ at-turn-of.turn_of.ensures) in
     rw c.placement_of-place.ensures (sym (numbers_right ks _ (omega arith) there))
 

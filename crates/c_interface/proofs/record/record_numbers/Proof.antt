@@ -15,7 +15,7 @@ decreases-loop-piece pieces numbers₀ piece₀ numbers piece = 64 - piece
 loop-piece-init : tie.Need-loop-piece-init invariant-loop-piece decreases-loop-piece
 loop-piece-init c =
     let pieces = c.before.args.sheet.pieces in
-    let many : length pieces ≡ 64 = sym (length-map pieces _) ∙ c.before.well_formed.0.1.1.0.1.0.1 in
+    let many : length pieces ≡ 64 = c.before.well_formed.0.1.1.0.1.0.1 in
     (omega arith, mapped_begin entry_numbers pieces _ (sym many))
 
 bounds-pieces-piece : tie.Need-bounds-pieces-piece invariant-loop-piece decreases-loop-piece
@@ -32,16 +32,16 @@ loop-piece-preserved c =
     let at-loop : tie.At-loop-piece invariant-loop-piece decreases-loop-piece = search in
     let at-start : tie.Start invariant-loop-piece decreases-loop-piece = search in
     let pieces = at-start.args.sheet.pieces in
-    let many : length pieces ≡ 64 = sym (length-map pieces _) ∙ at-start.well_formed.0.1.1.0.1.0.1 in
+    let many : length pieces ≡ 64 = at-start.well_formed.0.1.1.0.1.0.1 in
     let l = at-loop.loop-piece in
     let below = c.before.before.loop-piece-test.true in
-    (omega arith, rw c.Numbers-of.ensures (mapped_step entry_numbers pieces l.numbers l.piece blank (omega arith) l.invariant.1))
+    (omega arith, rw c.numbers_of.ensures (mapped_step entry_numbers pieces l.numbers l.piece blank (omega arith) l.invariant.1))
 
 returns : tie.Need-returns invariant-loop-piece decreases-loop-piece
 returns c =
     let at-start : tie.Start invariant-loop-piece decreases-loop-piece = search in
     let pieces = at-start.args.sheet.pieces in
-    let many : length pieces ≡ 64 = sym (length-map pieces _) ∙ at-start.well_formed.0.1.1.0.1.0.1 in
+    let many : length pieces ≡ 64 = at-start.well_formed.0.1.1.0.1.0.1 in
     let l = c.before.loop-piece in
     let end = c.loop-piece-test.false in
     mapped_end entry_numbers pieces l.numbers l.piece (omega arith) l.invariant.1

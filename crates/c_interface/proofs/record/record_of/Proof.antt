@@ -13,8 +13,8 @@ decreases-loop-i numbers pieces₀ i₀ pieces i = 64 - i
 
 loop-i-init : tie.Need-loop-i-init invariant-loop-i decreases-loop-i
 loop-i-init c =
-    let many : length c.before.args.t1 ≡ 64 = c.before.well_formed.0.1.0.1 in
-    (omega arith, mapped_begin entry_of_numbers c.before.args.t1 _ (sym many))
+    let many : length c.before.args.numbers ≡ 64 = c.before.well_formed.0.1.0.1 in
+    (omega arith, mapped_begin entry_of_numbers c.before.args.numbers _ (sym many))
 
 bounds-numbers-i : tie.Need-bounds-numbers-i invariant-loop-i decreases-loop-i
 bounds-numbers-i c = let below = c.loop-i-test.true in omega arith
@@ -29,7 +29,7 @@ loop-i-preserved : tie.Need-loop-i-preserved invariant-loop-i decreases-loop-i
 loop-i-preserved c =
     let at-loop : tie.At-loop-i invariant-loop-i decreases-loop-i = search in
     let at-start : tie.Start invariant-loop-i decreases-loop-i = search in
-    let numbers = at-start.args.t1 in
+    let numbers = at-start.args.numbers in
     let many : length numbers ≡ 64 = at-start.well_formed.0.1.0.1 in
     let l = at-loop.loop-i in
     let below = c.before.before.loop-i-test.true in
@@ -38,7 +38,7 @@ loop-i-preserved c =
 returns : tie.Need-returns invariant-loop-i decreases-loop-i
 returns c =
     let at-start : tie.Start invariant-loop-i decreases-loop-i = search in
-    let numbers = at-start.args.t1 in
+    let numbers = at-start.args.numbers in
     let many : length numbers ≡ 64 = at-start.well_formed.0.1.0.1 in
     let l = c.before.loop-i in
     let end = c.loop-i-test.false in

@@ -33,7 +33,9 @@ there : (c : tie.Then-length-ne0) →
     let at-start : tie.Start = search in
     StretchPassed (lentJob (at-start)) at-start.args.turns.now (lentStores (at-start)) at-start.args.piece (direction_of at-start.args.vertical)
 unfolding part
-there c = stretch_there _ _ _ _ _ (λ e. c.if-length-ne0.true (ap length (handed c.before) ∙ e))
+there c =
+    let called : tie.After-stretch-strips = search in
+    stretch_there _ _ _ _ _ (λ e. c.if-length-ne0.true (ap length (handed called) ∙ e))
 
 size_of-size-requires : tie.Need-size_of-size-requires
 size_of-size-requires c κs = tt
@@ -50,12 +52,15 @@ start_of-requires c κs = let p = there c in (omega (arith, p.rows.there), omega
 returns-then-length-ne0 : tie.Need-returns-then-length-ne0
 unfolding part
 returns-then-length-ne0 c =
-    (ap length (handed c.before.before), c.start_of.ensures ∙ start_left _ _ _ _ _ _ (there c.before))
+    let called : tie.After-stretch-strips = search in
+    let longer : tie.Then-length-ne0 = search in
+    (ap length (handed called), c.start_of.ensures ∙ start_left _ _ _ _ _ _ (there longer))
 
 returns-else-length-ne0 : tie.Need-returns-else-length-ne0
 unfolding part
 returns-else-length-ne0 c =
-    let e = ap length (handed c.before) in
+    let called : tie.After-stretch-strips = search in
+    let e = ap length (handed called) in
     (e, start_kept _ _ _ _ _ _ (sym e ∙ c.if-length-ne0.false))
 
 pub sigbrol_stretch_spec : {M : Type 1} → statement M

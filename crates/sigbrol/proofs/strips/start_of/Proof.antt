@@ -8,13 +8,13 @@ bounds-row_starts-piece : tie.Need-bounds-row_starts-piece
 bounds-row_starts-piece c = c.requires.0
 
 overflow_cast-result : tie.Need-overflow_cast-result
-overflow_cast-result c = omega (arith, c.shared_slice_known-1.given c.args.piece)
+overflow_cast-result c = search rules
 
 bounds-column_starts-piece : tie.Need-bounds-column_starts-piece
 bounds-column_starts-piece c = c.requires.1
 
 overflow_cast-result-else-vertical-eq0 : tie.Need-overflow_cast-result-else-vertical-eq0
-overflow_cast-result-else-vertical-eq0 c = omega (arith, c.shared_slice_known-else-vertical-eq0-1.given c.args.piece)
+overflow_cast-result-else-vertical-eq0 c = search rules
 
 returns-then-vertical-eq0 : tie.Need-returns-then-vertical-eq0
 returns-then-vertical-eq0 c = rw (eq-eqb c.args.vertical 0 c.if-vertical-eq0.true, start_in)
