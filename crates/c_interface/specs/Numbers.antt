@@ -4,8 +4,6 @@ use Rattle.std.specs.Prelude.{true, false, List, ℕ, eqb}
 use Rattle.model.specs.Lent.{Lent, lent_by, piece_bound}
 use Rattle.model.specs.Buffer.{is_turn}
 use Rattle.model.specs.declared.JobSize.{JobSize}
-use Rattle.model.specs.declared.Direction.{Direction}
-use Rattle.model.specs.declared.Direction.TheVariants.{Horizontal, Vertical}
 use Rattle.model.specs.declared.Line.{Line}
 use Rattle.model.specs.declared.Line.TheVariants.{InRow, InColumn}
 

@@ -80,7 +80,7 @@ returns c =
     let same = same_layout_lem (lent s) _ _ s.requires (wrote rows).write_entries.ensures in
     let j = job_of (lent s) in (
       pushed.push_all.ensures.0 ∙ ap (λ (v : Layout). (compact j v).slid) same,
-      pushed.push_all.ensures.1 ∙ ap (λ (v : Layout). entries_of (compact j v).layout-1) same,
+      pushed.push_all.ensures.1 ∙ ap (λ (v : Layout). entries_of (compact j v).layout) same,
     )
 
 pub push_layout_spec : {M : Type 1} → statement M

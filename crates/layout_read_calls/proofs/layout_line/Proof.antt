@@ -3,7 +3,6 @@ use Rattle.list_laws.proofs.Kit.{◌∙◌, sym, ◌≡◌, [], arith, rules}
 use Rattle.model.specs.Lent.{job_of, lent_by}
 use Rattle.model.specs.Text.{wrong, got, three_fields, line_at}
 use Rattle.model.specs.LayoutText.{layout_word}
-use Rattle.list_laws.proofs.Tests.{said_no, said_yes}
 use Rattle.text_numbers.specs.Lines.{in_front}
 use Rattle.layout_read_calls.proofs.Lines.{layout_line_wrong, layout_line_unlike, layout_line_given}
 use Rattle.layout_read_calls.proofs.layout_line.Statement.{statement}

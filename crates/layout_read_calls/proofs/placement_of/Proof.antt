@@ -1,5 +1,5 @@
 -- `layout_read_calls::placement_of` meets its contract, cause by cause; a corner inside is that of its clipped fields. Assumes nothing.
-use Rattle.list_laws.proofs.Kit.{◌∙◌, ◌≡◌, ap, sym, none, some, rules, not-false, not-true}
+use Rattle.list_laws.proofs.Kit.{◌∙◌, ◌≡◌, ap, sym, none, some, rules}
 use Rattle.model.specs.Lent.{job_of, lent_by}
 use Rattle.layout_places.proofs.Places.{unknown_none, known_some}
 use Rattle.layout_read_calls.specs.Readings.{turn_on_line, place_answer}

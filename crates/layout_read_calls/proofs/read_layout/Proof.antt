@@ -1,5 +1,5 @@
 -- `layout_read_calls::read_layout` meets its contract, part by part. Assumes nothing.
-use Rattle.list_laws.proofs.Kit.{◌∙◌, ◌≡◌, ap, sym, false, true, length, rules, not-false, not-true}
+use Rattle.list_laws.proofs.Kit.{◌∙◌, ◌≡◌, ap, sym, false, true, length, rules}
 use Rattle.model.specs.Refusal.{refused, plain_refusal}
 use Rattle.model.specs.Lent.{Lent, lent_by, job_of, lent_well}
 use Rattle.model.specs.LayoutText.{layout_line}

@@ -87,8 +87,7 @@ loop-i-preserved c =
     let at-loop : tie.At-loop-i invariant-loop-i decreases-loop-i = search in
     let at-start : tie.Start invariant-loop-i decreases-loop-i = search in
     let a = at-start.args in
-    let l = at-loop.loop-i in
-    (
+    let l = at-loop.loop-i in (
       let t = at-then1.loop-i-test.true in omega arith,
       rw c.in-Read.is at at-placement-line.placement_line.ensures.1,
       let e = l.invariant.2 in omega arith,

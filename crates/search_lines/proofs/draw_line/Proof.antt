@@ -39,7 +39,7 @@ find_map-from-requires : tie.Need-find_map-from-requires
 find_map-from-requires c κs =
     let at-sides-of : tie.After-sides_of-sides = search in
     let e = entry at-sides-of in
-    (e.pre.0, e.pre.1.1.1)
+    (e.requires.0, e.requires.1.1.1)
 
 map_words-requires : tie.Need-map_words-requires
 map_words-requires c κs =
@@ -57,7 +57,7 @@ within c =
     let at-find-map : tie.After-find_map-from = search in
     let e = entry at-sides-of in
     let f = at-find-map.find_map-from.ensures in
-    (found_within (lent e) _ _ e.args.two e.pre.0 _ (is at-sides-of) _ _ _ _ f c.map_words.ensures, f.ready.short)
+    (found_within (lent e) _ _ e.args.two e.requires.0 _ (is at-sides-of) _ _ _ _ f c.map_words.ensures, f.ready.short)
 
 overflow_add-to : tie.Need-overflow_add-to
 overflow_add-to c =
@@ -108,7 +108,7 @@ lent_map : (c : tie.After-line_places-count)
 lent_map c =
     let at-sides-of : tie.After-sides_of-sides = search in
     let e = entry at-sides-of in
-    found_map (lent e) _ _ e.args.two e.pre.0 _ (is at-sides-of) _ _ _ _ (found c).find_map-from.ensures (counted c).map_words.ensures
+    found_map (lent e) _ _ e.args.two e.requires.0 _ (is at-sides-of) _ _ _ _ (found c).find_map-from.ensures (counted c).map_words.ensures
 
 map_line-requires : tie.Need-map_line-requires
 map_line-requires c κs =

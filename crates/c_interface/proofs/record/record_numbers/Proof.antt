@@ -1,5 +1,5 @@
 -- `c_interface::record::record_numbers` meets its contract. The loop's invariant: the entries passed are written as their numbers. Assumes nothing.
-use Rattle.list_laws.proofs.Kit.{◌∙◌, ◌≡◌, sym, ◌-◌, ◌≤◌, arith, length, length-map, rules}
+use Rattle.list_laws.proofs.Kit.{◌≡◌, sym, ◌-◌, ◌≤◌, arith, length, rules}
 use Rattle.model.specs.Cover.{blank}
 use Rattle.c_interface.specs.Records.{entry_numbers}
 use Rattle.c_interface.proofs.Mapped.{Mapped, mapped_begin, mapped_step, mapped_end}

@@ -13,7 +13,7 @@ returns-then-not-same_store c =
     let at-start : tie.Start = search in
     let a = at-start.args in
     ap (λ b.
-    b && store_well Vertical (job_of (lent_by a.size a.table.now a.pixels.now)) a.turns.now a.column-strips.now a.column-starts.now)
+    b && store_well Vertical (job_of (lent_by a.size a.table.now a.pixels.now)) a.turns.now a.column_strips.now a.column_starts.now)
     (sym c.if-not-same_store.true ∙ c.same_store.ensures)
 
 returns : tie.Need-returns

@@ -31,10 +31,14 @@ passed c =
     (sym c.stretch_refusal.ensures ∙ c.if-stretch_refusal-ne0.false)
 
 part-requires : tie.Need-part-requires
-part-requires c κs = (passed c.before.before).rows
+part-requires c κs =
+    let at-else1 : tie.Else-stretch_refusal-ne0 = search in
+    (passed (at-else1)).rows
 
 part-requires-in-Vertical : tie.Need-part-requires-in-Vertical
-part-requires-in-Vertical c κs = (passed c.before.before).columns
+part-requires-in-Vertical c κs =
+    let at-else1 : tie.Else-stretch_refusal-ne0 = search in
+    (passed (at-else1)).columns
 
 returns-in-Horizontal : tie.Need-returns-in-Horizontal
 returns-in-Horizontal c =
