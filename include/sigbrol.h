@@ -1,6 +1,6 @@
 /* Sigbrol: pieces given as pixels, shifted along the rows and columns of a sheet until no two share a pixel, or come within a gap.
  *
- * Link with target/staticlib/libsigbrol.a, which `rt staticlib sigbrol` makes. Every function is proved to do what its comment says
+ * Link with crates/sigbrol/out/libsigbrol.a, which `rt lib` makes in crates/sigbrol. Every function is proved to do what its comment says
  * for every content and every length of what it is lent: it trusts no byte.
  *
  * Words.

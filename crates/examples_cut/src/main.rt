@@ -6,6 +6,8 @@
 use cut_line_calls::cut_lines;
 use cut_step_calls::{StepAnswer, cut_step, line_step};
 use model::{CutStep, JobSize, LineEntry, NumberAnswer, PieceEntry, PlaceEntry, Refusal};
+use std::io;
+use std::io::Stdout;
 
 const TWO: JobSize = JobSize {
     rows: 2,
@@ -43,64 +45,69 @@ const RING_ALONE: JobSize = JobSize {
 };
 
 // A number behind a blank.
-fn put(n: u64) {
-    io::write_all(1, b" ");
-    io::print_decimal(1, n);
+fn put(out: Stdout, n: u64) -> io::Result<()> {
+    print!(out; " {n}")
 }
 
 // A small number behind a blank.
-fn put_small(n: u16) {
-    put(n as u64);
+fn put_small(out: Stdout, n: u16) -> io::Result<()> {
+    put(out, n as u64)
 }
 
 // The end of a line.
-fn end_line() {
-    io::write_all(1, b"\n");
+fn end_line(out: Stdout) -> io::Result<()> {
+    println!(out)
 }
 
 // A refusal: its number and its places.
-fn put_refusal(refusal: Refusal) {
-    io::write_all(1, b"refused");
-    put(refusal.number as u64);
-    put(refusal.first as u64);
-    put(refusal.second as u64);
-    end_line();
+fn put_refusal(out: Stdout, refusal: Refusal) -> io::Result<()> {
+    print!(out; "refused")?;
+    put(out, refusal.number as u64)?;
+    put(out, refusal.first as u64)?;
+    put(out, refusal.second as u64)?;
+    end_line(out)
 }
 
 // The line with number k, if there is one.
-fn put_line(lines: &[LineEntry], count: u64, k: usize) {
+fn put_line(out: Stdout, lines: &[LineEntry], count: u64, k: usize) -> io::Result<()> {
     if count <= k as u64 {
-        return;
+        return Ok(());
     }
     if lines.len() <= k {
-        return;
+        return Ok(());
     }
     let entry = lines[k];
-    io::write_all(1, b"line");
-    put_small(entry[0]);
-    put_small(entry[1]);
-    put_small(entry[2]);
-    put_small(entry[3]);
-    end_line();
+    print!(out; "line")?;
+    put_small(out, entry[0])?;
+    put_small(out, entry[1])?;
+    put_small(out, entry[2])?;
+    put_small(out, entry[3])?;
+    end_line(out)
 }
 
 // The first eight lines of a layout, and how many there are.
-fn show_lines(size: JobSize, table: &[PieceEntry], pixels: &[u8], layout: &[PlaceEntry]) {
+fn show_lines(
+    out: Stdout,
+    size: JobSize,
+    table: &[PieceEntry],
+    pixels: &[u8],
+    layout: &[PlaceEntry],
+) -> io::Result<()> {
     let mut lines = [[0u16; 4]; 8];
     match cut_lines(size, table, pixels, layout, &mut lines) {
-        NumberAnswer::Refused(refusal) => put_refusal(refusal),
+        NumberAnswer::Refused(refusal) => put_refusal(out, refusal),
         NumberAnswer::Number(count) => {
-            io::write_all(1, b"lines");
-            put(count);
-            end_line();
-            put_line(&lines, count, 0);
-            put_line(&lines, count, 1);
-            put_line(&lines, count, 2);
-            put_line(&lines, count, 3);
-            put_line(&lines, count, 4);
-            put_line(&lines, count, 5);
-            put_line(&lines, count, 6);
-            put_line(&lines, count, 7);
+            print!(out; "lines")?;
+            put(out, count)?;
+            end_line(out)?;
+            put_line(out, &lines, count, 0)?;
+            put_line(out, &lines, count, 1)?;
+            put_line(out, &lines, count, 2)?;
+            put_line(out, &lines, count, 3)?;
+            put_line(out, &lines, count, 4)?;
+            put_line(out, &lines, count, 5)?;
+            put_line(out, &lines, count, 6)?;
+            put_line(out, &lines, count, 7)
         }
     }
 }
@@ -116,58 +123,61 @@ fn whole_part(x: f64) -> u64 {
 }
 
 // A point in thousandths of a millimetre.
-fn put_point(x: f64, y: f64) {
-    put(whole_part(x * 1000.0));
-    put(whole_part(y * 1000.0));
-    end_line();
+fn put_point(out: Stdout, x: f64, y: f64) -> io::Result<()> {
+    put(out, whole_part(x * 1000.0))?;
+    put(out, whole_part(y * 1000.0))?;
+    end_line(out)
 }
 
 // A step.
-fn put_step(step: CutStep) {
+fn put_step(out: Stdout, step: CutStep) -> io::Result<()> {
     match step {
         CutStep::Lift(x, y) => {
-            io::write_all(1, b"lift");
-            put_point(x, y);
+            print!(out; "lift")?;
+            put_point(out, x, y)
         }
         CutStep::Cut(x, y) => {
-            io::write_all(1, b"cut");
-            put_point(x, y);
+            print!(out; "cut")?;
+            put_point(out, x, y)
         }
-        CutStep::Done => {
-            io::write_all(1, b"done\n");
-        }
+        CutStep::Done => println!(out; "done"),
     }
 }
 
 // An answer for a step.
-fn put_answer(answer: StepAnswer) {
+fn put_answer(out: Stdout, answer: StepAnswer) -> io::Result<()> {
     match answer {
-        StepAnswer::Refused(refusal) => put_refusal(refusal),
-        StepAnswer::Step(step) => put_step(step),
+        StepAnswer::Refused(refusal) => put_refusal(out, refusal),
+        StepAnswer::Step(step) => put_step(out, step),
     }
 }
 
 // A step of the two pieces side by side.
-fn show_step(step: u64) {
-    put_answer(cut_step(TWO, &TWO_TABLE, &TWO_PIXELS, &SIDE_BY_SIDE, 96, step));
+fn show_step(out: Stdout, step: u64) -> io::Result<()> {
+    put_answer(
+        out,
+        cut_step(TWO, &TWO_TABLE, &TWO_PIXELS, &SIDE_BY_SIDE, 96, step),
+    )
 }
 
-fn main() {
-    show_lines(TWO, &TWO_TABLE, &TWO_PIXELS, &SIDE_BY_SIDE);
-    show_step(0);
-    show_step(1);
-    show_step(6);
-    show_step(9);
-    show_step(10);
-    show_step(18446744073709551615);
-    show_lines(TWO, &TWO_TABLE, &TWO_PIXELS, &OVER);
-    show_lines(RING, &RING_TABLE, &RING_PIXELS, &IN_THE_HOLE);
+fn main(rt: HostRuntime) -> io::Result<()> {
+    let out = rt.stdout();
+    show_lines(out, TWO, &TWO_TABLE, &TWO_PIXELS, &SIDE_BY_SIDE)?;
+    show_step(out, 0)?;
+    show_step(out, 1)?;
+    show_step(out, 6)?;
+    show_step(out, 9)?;
+    show_step(out, 10)?;
+    show_step(out, 18446744073709551615)?;
+    show_lines(out, TWO, &TWO_TABLE, &TWO_PIXELS, &OVER)?;
+    show_lines(out, RING, &RING_TABLE, &RING_PIXELS, &IN_THE_HOLE)?;
     show_lines(
+        out,
         RING_ALONE,
         &RING_TABLE[..1],
         &RING_PIXELS[..9],
         &IN_THE_HOLE[..1],
-    );
-    put_answer(line_step(&[[1, 3, 1, 2]], 1, 1));
-    put_answer(line_step(&[[1, 3, 1, 2]], 4097, 1));
+    )?;
+    put_answer(out, line_step(&[[1, 3, 1, 2]], 1, 1))?;
+    put_answer(out, line_step(&[[1, 3, 1, 2]], 4097, 1))
 }

@@ -6,9 +6,10 @@
 ghost use Rattle.std.specs.Prelude.{◌<◌};
 
 use job_lock_calls::{CUTTERS_STATION, PLANNERS_STATION};
-use libc::STDOUT_FILENO;
 use model::{Column, DoneAnswer, JobSize, PieceEntry, Placement, Record, Row, Turn};
 use sheet_calls::SheetAnswer;
+use std::io;
+use std::io::Stdout;
 
 // The job's numbers, its table and its pixels.
 const SIZE: JobSize = JobSize {
@@ -44,7 +45,7 @@ fn laid(sheet: Record, i: usize) -> u8
 }
 
 // One line.
-fn show(answer: SheetAnswer, counts: &[u8; 8]) {
+fn show(out: Stdout, answer: SheetAnswer, counts: &[u8; 8]) -> io::Result<()> {
     let reply = answer.reply;
     let sheet = answer.sheet;
     let refusal = number(reply);
@@ -65,11 +66,17 @@ fn show(answer: SheetAnswer, counts: &[u8; 8]) {
         digit(counts[7]),
         10,
     ];
-    io::write_all(STDOUT_FILENO, &line);
+    out.write_all(&line)
 }
 
 // A lay of a piece in turn 0 at a column of row 0.
-fn lay(sheet: Record, counts: &mut [u8; 8], piece: usize, x: u16) -> Record {
+fn lay(
+    out: Stdout,
+    sheet: Record,
+    counts: &mut [u8; 8],
+    piece: usize,
+    x: u16,
+) -> io::Result<Record> {
     let table = TABLE;
     let pixels = PIXELS;
     let place = Placement {
@@ -78,31 +85,32 @@ fn lay(sheet: Record, counts: &mut [u8; 8], piece: usize, x: u16) -> Record {
         y: Row(0),
     };
     let answer = sheet_calls::lay(SIZE, &table, &pixels, sheet, counts, piece, place);
-    show(answer, counts);
-    answer.sheet
+    show(out, answer, counts)?;
+    Ok(answer.sheet)
 }
 
 // A withdraw of a piece, with the locks of a table.
 fn withdraw_from(
+    out: Stdout,
     table: &[PieceEntry; 2],
     sheet: Record,
     counts: &mut [u8; 8],
     piece: usize,
-) -> Record {
+) -> io::Result<Record> {
     let pixels = PIXELS;
     let answer = sheet_calls::withdraw(SIZE, table, &pixels, sheet, counts, piece);
-    show(answer, counts);
-    answer.sheet
+    show(out, answer, counts)?;
+    Ok(answer.sheet)
 }
 
 // A withdraw of a piece, none locked.
-fn withdraw(sheet: Record, counts: &mut [u8; 8], piece: usize) -> Record {
+fn withdraw(out: Stdout, sheet: Record, counts: &mut [u8; 8], piece: usize) -> io::Result<Record> {
     let table = TABLE;
-    withdraw_from(&table, sheet, counts, piece)
+    withdraw_from(out, &table, sheet, counts, piece)
 }
 
 // The lock of a piece, asked for from a station.
-fn lock(table: &mut [PieceEntry; 2], piece: usize, station: usize) {
+fn lock(out: Stdout, table: &mut [PieceEntry; 2], piece: usize, station: usize) -> io::Result<()> {
     let pixels = PIXELS;
     let refusal = number(job_lock_calls::set_lock(SIZE, table, &pixels, piece, station));
     let line = [
@@ -118,20 +126,20 @@ fn lock(table: &mut [PieceEntry; 2], piece: usize, station: usize) {
         digit(table[1][3]),
         10,
     ];
-    io::write_all(STDOUT_FILENO, &line);
+    out.write_all(&line)
 }
 
 // A fresh sheet.
-fn fresh(counts: &mut [u8; 8]) -> Record {
+fn fresh(out: Stdout, counts: &mut [u8; 8]) -> io::Result<Record> {
     let table = TABLE;
     let pixels = PIXELS;
     let answer = sheet_calls::fresh(SIZE, &table, &pixels, counts);
-    show(answer, counts);
-    answer.sheet
+    show(out, answer, counts)?;
+    Ok(answer.sheet)
 }
 
 // The same calls as one list, and after them a lay by degrees of no turn, which is refused like a turn that is not allowed.
-fn run(counts: &mut [u8; 8]) {
+fn run(out: Stdout, counts: &mut [u8; 8]) -> io::Result<()> {
     let table = TABLE;
     let pixels = PIXELS;
     let calls = [
@@ -143,36 +151,38 @@ fn run(counts: &mut [u8; 8]) {
         [0, 0, 45, 0, 0],
     ];
     show(
+        out,
         sheet_lists::run_calls(SIZE, &table, &pixels, &calls, counts),
         counts,
-    );
+    )
 }
 
-fn main() {
+fn main(rt: HostRuntime) -> io::Result<()> {
+    let out = rt.stdout();
     let mut counts = [7u8; 8];
-    let blank = fresh(&mut counts);
-    let one = lay(blank, &mut counts, 0, 0);
+    let blank = fresh(out, &mut counts)?;
+    let one = lay(out, blank, &mut counts, 0, 0)?;
     // laid already: 13
-    let still = lay(one, &mut counts, 0, 2);
-    let two = lay(still, &mut counts, 1, 1);
-    let free = withdraw(two, &mut counts, 0);
+    let still = lay(out, one, &mut counts, 0, 2)?;
+    let two = lay(out, still, &mut counts, 1, 1)?;
+    let free = withdraw(out, two, &mut counts, 0)?;
     // not laid: 14
-    let again = withdraw(free, &mut counts, 0);
+    let again = withdraw(out, free, &mut counts, 0)?;
     // outside: 10
-    let outside = lay(again, &mut counts, 0, 3);
+    let outside = lay(out, again, &mut counts, 0, 3)?;
     // no such piece: 9
-    let unknown = lay(outside, &mut counts, 2, 0);
+    let unknown = lay(out, outside, &mut counts, 2, 0)?;
     // from the planner's station: 16; from the cutter's the lock is set, and stays
     let mut table = TABLE;
-    lock(&mut table, 1, PLANNERS_STATION);
-    lock(&mut table, 1, CUTTERS_STATION);
-    lock(&mut table, 1, CUTTERS_STATION);
+    lock(out, &mut table, 1, PLANNERS_STATION)?;
+    lock(out, &mut table, 1, CUTTERS_STATION)?;
+    lock(out, &mut table, 1, CUTTERS_STATION)?;
     // no such piece: 9, before 16
-    lock(&mut table, 2, PLANNERS_STATION);
+    lock(out, &mut table, 2, PLANNERS_STATION)?;
     // locked: 15
-    let locked = withdraw_from(&table, unknown, &mut counts, 1);
+    let locked = withdraw_from(out, &table, unknown, &mut counts, 1)?;
     // counts that no list of calls gives: 8
     counts[7] = 5;
-    let _last = withdraw(locked, &mut counts, 1);
-    run(&mut counts);
+    let _last = withdraw(out, locked, &mut counts, 1)?;
+    run(out, &mut counts)
 }

@@ -10,6 +10,8 @@ use model::{
 use pair_nofit_calls::PieceInTurn;
 use run_descent_calls::DescentAnswer;
 use search_calls::SearchAnswer;
+use std::io;
+use std::io::Stdout;
 
 // The job's numbers, its table and its pixels.
 const SIZE: JobSize = JobSize {
@@ -38,130 +40,115 @@ const TWO_TABLE: [PieceEntry; 2] = [[2, 2, 1, 0], [2, 2, 1, 0]];
 const TWO_PIXELS: [u8; 8] = [1, 1, 1, 1, 1, 1, 1, 1];
 
 // A number behind a blank.
-fn put(n: u64) {
-    io::write_all(1, b" ");
-    io::print_decimal(1, n);
+fn put(out: Stdout, n: u64) -> io::Result<()> {
+    print!(out; " {n}")
 }
 
 // A byte behind a blank.
-fn put_byte(b: u8) {
-    put(b as u64);
+fn put_byte(out: Stdout, b: u8) -> io::Result<()> {
+    put(out, b as u64)
 }
 
 // The end of a line.
-fn end_line() {
-    io::write_all(1, b"\n");
+fn end_line(out: Stdout) -> io::Result<()> {
+    println!(out)
 }
 
 // A refusal's number.
-fn put_refused(number: u8) {
-    io::write_all(1, b" refused");
-    put_byte(number);
+fn put_refused(out: Stdout, number: u8) -> io::Result<()> {
+    print!(out; " refused")?;
+    put_byte(out, number)
 }
 
 // The strip at a place of a stretch, where there is one: its line, first and count.
-fn put_strip(strips: &[StripEntry], k: usize) {
+fn put_strip(out: Stdout, strips: &[StripEntry], k: usize) -> io::Result<()> {
     if k < strips.len() {
         let strip = strips[k];
-        io::write_all(1, b" ");
-        put_byte(strip[0]);
-        put_byte(strip[1]);
-        put_byte(strip[2]);
+        print!(out; " ")?;
+        put_byte(out, strip[0])?;
+        put_byte(out, strip[1])?;
+        put_byte(out, strip[2])?;
     }
+    Ok(())
 }
 
 // Up to five strips of a stretch.
-fn put_strips(strips: &[StripEntry]) {
-    put_strip(strips, 0);
-    put_strip(strips, 1);
-    put_strip(strips, 2);
-    put_strip(strips, 3);
-    put_strip(strips, 4);
+fn put_strips(out: Stdout, strips: &[StripEntry]) -> io::Result<()> {
+    put_strip(out, strips, 0)?;
+    put_strip(out, strips, 1)?;
+    put_strip(out, strips, 2)?;
+    put_strip(out, strips, 3)?;
+    put_strip(out, strips, 4)
 }
 
 // Nine bytes of pixels.
-fn put_pixels(pixels: &[u8; 9]) {
-    io::write_all(1, b" ");
-    put_byte(pixels[0]);
-    put_byte(pixels[1]);
-    put_byte(pixels[2]);
-    put_byte(pixels[3]);
-    put_byte(pixels[4]);
-    put_byte(pixels[5]);
-    put_byte(pixels[6]);
-    put_byte(pixels[7]);
-    put_byte(pixels[8]);
+fn put_pixels(out: Stdout, pixels: &[u8; 9]) -> io::Result<()> {
+    print!(out; " ")?;
+    put_byte(out, pixels[0])?;
+    put_byte(out, pixels[1])?;
+    put_byte(out, pixels[2])?;
+    put_byte(out, pixels[3])?;
+    put_byte(out, pixels[4])?;
+    put_byte(out, pixels[5])?;
+    put_byte(out, pixels[6])?;
+    put_byte(out, pixels[7])?;
+    put_byte(out, pixels[8])
 }
 
 // A small signed number behind a blank.
-fn put_signed(n: i32) {
-    if n == -2 {
-        io::write_all(1, b" -2");
-    } else if n == -1 {
-        io::write_all(1, b" -1");
-    } else if n == 0 {
-        io::write_all(1, b" 0");
-    } else if n == 1 {
-        io::write_all(1, b" 1");
-    } else if n == 2 {
-        io::write_all(1, b" 2");
-    } else if n == 3 {
-        io::write_all(1, b" 3");
-    } else {
-        io::write_all(1, b" far");
+fn put_signed(out: Stdout, n: i32) -> io::Result<()> {
+    if n < -2 || 3 < n {
+        return print!(out; " far");
     }
+    print!(out; " {n}")
 }
 
 // The run at a place: its first and count.
-fn put_run(runs: &[[i32; 2]; 8], k: usize) {
+fn put_run(out: Stdout, runs: &[[i32; 2]; 8], k: usize) -> io::Result<()> {
     if k < 8 {
         let run = runs[k];
-        put_signed(run[0]);
-        put_signed(run[1]);
+        put_signed(out, run[0])?;
+        put_signed(out, run[1])?;
     }
+    Ok(())
 }
 
 // How many runs there are, and up to two of them.
-fn put_runs(answer: NumberAnswer, runs: &[[i32; 2]; 8]) {
+fn put_runs(out: Stdout, answer: NumberAnswer, runs: &[[i32; 2]; 8]) -> io::Result<()> {
     match answer {
-        NumberAnswer::Refused(refusal) => put_refused(refusal.number),
+        NumberAnswer::Refused(refusal) => put_refused(out, refusal.number),
         NumberAnswer::Number(count) => {
-            put(count);
+            put(out, count)?;
             if 0 < count {
-                put_run(runs, 0);
+                put_run(out, runs, 0)?;
             }
             if 1 < count {
-                put_run(runs, 1);
+                put_run(out, runs, 1)?;
             }
+            Ok(())
         }
     }
 }
 
 // A depth or a penalty.
-fn put_amount(answer: NumberAnswer) {
+fn put_amount(out: Stdout, answer: NumberAnswer) -> io::Result<()> {
     match answer {
-        NumberAnswer::Refused(refusal) => put_refused(refusal.number),
-        NumberAnswer::Number(n) => put(n),
+        NumberAnswer::Refused(refusal) => put_refused(out, refusal.number),
+        NumberAnswer::Number(n) => put(out, n),
     }
 }
 
 // The word of an end.
-fn put_end(end: End) {
+fn put_end(out: Stdout, end: End) -> io::Result<()> {
     match end {
-        End::Clear => {
-            io::write_all(1, b" clear");
-        }
-        End::Settled => {
-            io::write_all(1, b" settled");
-        }
-        End::Spent => {
-            io::write_all(1, b" spent");
-        }
+        End::Clear => print!(out; " clear"),
+        End::Settled => print!(out; " settled"),
+        End::Spent => print!(out; " spent"),
     }
 }
 
 // The row strips of a piece in these turns, and the pixels that they give again in a box of the side. The buffer holds nine 2s before.
-fn show_rows(turns: [u16; 6], piece: usize, side: u16) {
+fn show_rows(out: Stdout, turns: [u16; 6], piece: usize, side: u16) -> io::Result<()> {
     let table = TABLE;
     let pixels = PIXELS;
     let mut rows = [[0u8; 3]; 26];
@@ -190,16 +177,17 @@ fn show_rows(turns: [u16; 6], piece: usize, side: u16) {
         piece,
         Direction::Horizontal,
     );
-    put_strips(stretch);
+    put_strips(out, stretch)?;
     let mut again = [2u8; 9];
     strip_rebuild_calls::rebuild(side, side, Direction::Horizontal, stretch, &mut again);
-    put_pixels(&again);
-    end_line();
+    put_pixels(out, &again)?;
+    end_line(out)
 }
 
 // The no-fit row (the no-fit column if vertical) of two pieces at an offset, from their stretches: parts of the row store (the column
 // store), which do not begin at its front but for piece 0. The second piece lies in turn 0.
 fn put_no_fit<'a>(
+    out: Stdout,
     turns: &[u16],
     row_strips: &'a [StripEntry],
     row_starts: &[u32],
@@ -210,7 +198,7 @@ fn put_no_fit<'a>(
     k: usize,
     direction: Direction,
     offset: i32,
-) {
+) -> io::Result<()> {
     let table = TABLE;
     let pixels = PIXELS;
     let a = strip_calls::stretch::stretch(
@@ -252,28 +240,29 @@ fn put_no_fit<'a>(
             let answer = pair_nofit_calls::no_fit_row(
                 SIZE, &table, &pixels, turned, a, other, b, row, &mut runs,
             );
-            put_runs(answer, &runs);
+            put_runs(out, answer, &runs)?;
         }
         Direction::Vertical => {
             let column = ColumnOffset(offset);
             let answer = pair_nofit_calls::no_fit_column(
                 SIZE, &table, &pixels, turned, a, other, b, column, &mut runs,
             );
-            put_runs(answer, &runs);
+            put_runs(out, answer, &runs)?;
         }
     }
-    end_line();
+    end_line(out)
 }
 
 // The no-fit row or column of two pieces in these turns, with the stores that the strips call fills.
 fn show_no_fit(
+    out: Stdout,
     turns: [u16; 6],
     i: usize,
     first: Turn,
     k: usize,
     direction: Direction,
     offset: i32,
-) {
+) -> io::Result<()> {
     let table = TABLE;
     let pixels = PIXELS;
     let mut rows = [[0u8; 3]; 26];
@@ -291,6 +280,7 @@ fn show_no_fit(
         &mut column_starts,
     );
     put_no_fit(
+        out,
         &turns,
         &rows,
         &row_starts,
@@ -301,17 +291,26 @@ fn show_no_fit(
         k,
         direction,
         offset,
-    );
+    )
 }
 
 // The depths and the penalty of two pieces of a layout.
-fn show_pair(layout: [PlaceEntry; 6], i: usize, k: usize) {
+fn show_pair(out: Stdout, layout: [PlaceEntry; 6], i: usize, k: usize) -> io::Result<()> {
     let table = TABLE;
     let pixels = PIXELS;
-    put_amount(pair_calls::depth(SIZE, &table, &pixels, &layout, i, k, Direction::Horizontal));
-    put_amount(pair_calls::depth(SIZE, &table, &pixels, &layout, i, k, Direction::Vertical));
-    put_amount(pair_calls::penalty(SIZE, &table, &pixels, &layout, i, k));
-    end_line();
+    put_amount(
+        out,
+        pair_calls::depth(SIZE, &table, &pixels, &layout, i, k, Direction::Horizontal),
+    )?;
+    put_amount(
+        out,
+        pair_calls::depth(SIZE, &table, &pixels, &layout, i, k, Direction::Vertical),
+    )?;
+    put_amount(
+        out,
+        pair_calls::penalty(SIZE, &table, &pixels, &layout, i, k),
+    )?;
+    end_line(out)
 }
 
 // The job's numbers for a sheet of so many columns.
@@ -325,21 +324,21 @@ fn sheet(columns: usize) -> JobSize {
 }
 
 // A coordinate: its axis and its number.
-fn put_coordinate(place: Coordinate) {
+fn put_coordinate(out: Stdout, place: Coordinate) -> io::Result<()> {
     match place {
         Coordinate::AtColumn(x) => {
-            io::write_all(1, b" x");
-            put(x.0 as u64);
+            print!(out; " x")?;
+            put(out, x.0 as u64)
         }
         Coordinate::AtRow(y) => {
-            io::write_all(1, b" y");
-            put(y.0 as u64);
+            print!(out; " y")?;
+            put(out, y.0 as u64)
         }
     }
 }
 
 // P10: the line search along row 0 past a piece at column 1, by weight 3.
-fn show_search() {
+fn show_search(out: Stdout) -> io::Result<()> {
     let table = TWO_TABLE;
     let pixels = TWO_PIXELS;
     let layout = [[0u16, 1, 0], [0, 0, 0]];
@@ -355,17 +354,17 @@ fn show_search() {
         Line::InRow(Row(0)),
     );
     match answer {
-        SearchAnswer::Refused(refusal) => put_refused(refusal.number),
+        SearchAnswer::Refused(refusal) => put_refused(out, refusal.number)?,
         SearchAnswer::Best(sum, place) => {
-            put_coordinate(place);
-            put(sum as u64);
+            put_coordinate(out, place)?;
+            put(out, sum as u64)?;
         }
     }
-    end_line();
+    end_line(out)
 }
 
 // P11 and P12: a descent of two pieces at (0, 0), by weight 1.
-fn show_descent(columns: usize, budget: u32) {
+fn show_descent(out: Stdout, columns: usize, budget: u32) -> io::Result<()> {
     let table = TWO_TABLE;
     let pixels = TWO_PIXELS;
     let mut layout = [[0u16, 0, 0], [0, 0, 0]];
@@ -380,88 +379,95 @@ fn show_descent(columns: usize, budget: u32) {
         budget,
         &mut workspace,
     ) {
-        DescentAnswer::Refused(refusal) => put_refused(refusal.number),
+        DescentAnswer::Refused(refusal) => put_refused(out, refusal.number)?,
         DescentAnswer::Ended(ended) => {
             let end = ended.end;
-            put_end(end);
-            put(ended.sum);
-            put(ended.made as u64);
-            put(ended.moves as u64);
+            put_end(out, end)?;
+            put(out, ended.sum)?;
+            put(out, ended.made as u64)?;
+            put(out, ended.moves as u64)?;
         }
     }
-    end_line();
+    end_line(out)
 }
 
 // P10 to P12.
-fn show_two() {
-    io::write_all(1, b"P10");
-    show_search();
-    io::write_all(1, b"P11");
-    show_descent(4, 5);
-    io::write_all(1, b"P12");
-    show_descent(3, 5);
-    io::write_all(1, b"P12");
-    show_descent(3, 4);
+fn show_two(out: Stdout) -> io::Result<()> {
+    print!(out; "P10")?;
+    show_search(out)?;
+    print!(out; "P11")?;
+    show_descent(out, 4, 5)?;
+    print!(out; "P12")?;
+    show_descent(out, 3, 5)?;
+    print!(out; "P12")?;
+    show_descent(out, 3, 4)
 }
 
 // P3 and P4; the row of D and E at row offset 1, where E fits into D's hole; the column of B at 90 and E at column offset 1, where B has
 // both pixels, and at 0, where it has the lower one.
-fn show_no_fits() {
-    io::write_all(1, b"P3");
+fn show_no_fits(out: Stdout) -> io::Result<()> {
+    print!(out; "P3")?;
     show_no_fit(
+        out,
         [0, 0, 0, 0, 0, 0],
         0,
         Turn::Zero,
         1,
         Direction::Horizontal,
         1,
-    );
-    io::write_all(1, b"P4");
+    )?;
+    print!(out; "P4")?;
     show_no_fit(
+        out,
         [0, 0, 0, 0, 0, 0],
         0,
         Turn::Zero,
         1,
         Direction::Horizontal,
         2,
-    );
-    io::write_all(1, b"D E");
+    )?;
+    print!(out; "D E")?;
     show_no_fit(
+        out,
         [0, 0, 0, 0, 0, 0],
         4,
         Turn::Zero,
         5,
         Direction::Horizontal,
         1,
-    );
-    io::write_all(1, b"B E");
+    )?;
+    print!(out; "B E")?;
     show_no_fit(
+        out,
         [0, 0, 90, 0, 0, 0],
         2,
         Turn::Quarter,
         5,
         Direction::Vertical,
         1,
-    );
-    io::write_all(1, b"B E");
+    )?;
+    print!(out; "B E")?;
     show_no_fit(
+        out,
         [0, 0, 90, 0, 0, 0],
         2,
         Turn::Quarter,
         5,
         Direction::Vertical,
         0,
-    );
+    )
 }
 
-fn main() {
-    io::write_all(1, b"P1");
-    show_rows([0, 0, 0, 0, 0, 0], 4, 3);
-    io::write_all(1, b"P2");
-    show_rows([0, 0, 90, 0, 0, 0], 2, 2);
-    show_no_fits();
-    io::write_all(1, b"P5");
+fn main(rt: HostRuntime) -> io::Result<()> {
+    let out = rt.stdout();
+    print!(out; "P1")?;
+    show_rows(out, [0, 0, 0, 0, 0, 0], 4, 3)?;
+    print!(out; "P2")?;
+    show_rows(out, [0, 0, 90, 0, 0, 0], 2, 2)?;
+    show_no_fits(out)?;
+    print!(out; "P5")?;
     show_pair(
+        out,
         [
             [0, 0, 0],
             [0, 1, 0],
@@ -472,9 +478,10 @@ fn main() {
         ],
         0,
         1,
-    );
-    io::write_all(1, b"P6");
+    )?;
+    print!(out; "P6")?;
     show_pair(
+        out,
         [
             [0, 0, 0],
             [0, 0, 0],
@@ -485,9 +492,10 @@ fn main() {
         ],
         0,
         1,
-    );
-    io::write_all(1, b"P7");
+    )?;
+    print!(out; "P7")?;
     show_pair(
+        out,
         [
             [0, 0, 0],
             [0, 0, 0],
@@ -498,9 +506,10 @@ fn main() {
         ],
         4,
         5,
-    );
-    io::write_all(1, b"P8");
+    )?;
+    print!(out; "P8")?;
     show_pair(
+        out,
         [
             [0, 0, 0],
             [0, 0, 0],
@@ -511,9 +520,10 @@ fn main() {
         ],
         4,
         5,
-    );
-    io::write_all(1, b"P9");
+    )?;
+    print!(out; "P9")?;
     show_pair(
+        out,
         [
             [0, 0, 0],
             [0, 0, 0],
@@ -524,6 +534,6 @@ fn main() {
         ],
         2,
         3,
-    );
-    show_two();
+    )?;
+    show_two(out)
 }

@@ -1,11 +1,12 @@
 // The program: standard input in, what document 01 says of it out. What is printed is decided and proved in `program_calls`.
 #![tactic(auto)]
 
-ghost use Rattle.std.specs.Prelude.{◌≡◌, ℕ, ◌≤◌};
+ghost use Rattle.std.specs.Prelude.{◌≡◌, ℕ, ◌≤◌, length};
 
-use libc::{STDERR_FILENO, STDIN_FILENO, STDOUT_FILENO};
 use model::NumberAnswer;
-use program_calls::{OUTPUT_BOUND, print_run};
+use program_calls::{INPUT_BOUND, OUTPUT_BOUND, print_run};
+use std::io;
+use std::io::Read;
 
 // An input with fewer bytes is a small job.
 const SMALL_INPUT: usize = 2048;
@@ -42,18 +43,30 @@ fn print_sized(input: &[u8], output: &mut [u8]) -> NumberAnswer
     print_large(input, output)
 }
 
+// Reads until the buffer is full, the input ends or a read fails, and how many bytes were read.
+fn read_full<R: Read>(input: &mut R, buffer: &mut [u8]) -> usize
+    ensures { result ≤ length buffer.new }
+{
+    let mut filled = 0;
+    while filled < buffer.len() {
+        match input.read(&mut buffer[filled..]) {
+            Ok(0) | Err(_) => break,
+            Ok(count) => filled += count,
+        }
+    }
+    filled
+}
+
 // One byte above those that an input may have tells that it is too long. A read that fails counts as the end of the input; a job
-// that has lost its end is refused. A program has no exit status of its own, so that a write that fails is told on standard error.
-fn main() {
-    let mut input = [0u8; program_calls::INPUT_BOUND + 1];
-    let read = io::read_full(STDIN_FILENO, &mut input);
+// that has lost its end is refused. A write that fails is told on standard error, and then the exit status is 1.
+fn main(rt: HostRuntime) -> io::Result<()> {
+    let mut input = [0u8; INPUT_BOUND + 1];
+    let read = read_full(&mut rt.stdin(), &mut input);
     let mut output = [0u8; OUTPUT_BOUND];
     // No output has more bytes than this buffer, so that it is not refused.
     let NumberAnswer::Number(written) = print_sized(&input[..read], &mut output) else {
-        return;
+        return Ok(());
     };
     let count = written as usize;
-    if !io::write_all(STDOUT_FILENO, &output[..count]) {
-        io::write_all(STDERR_FILENO, b"nest: the output could not be written\n");
-    }
+    rt.stdout().write_all(&output[..count])
 }

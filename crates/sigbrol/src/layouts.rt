@@ -121,7 +121,7 @@ pub extern "C" fn sigbrol_preview(
     ensures answer { result ≡ reply_to (preview_call (lent_as rows columns count gap table.now pixels.now) layout.now weights.now (piece_with_turn turn piece) (placement turn x y)) }
     ensures sum { sum.new ≡ leaving (λ a. a.sum) sum.old (preview_call (lent_as rows columns count gap table.now pixels.now) layout.now weights.now (piece_with_turn turn piece) (placement turn x y)) }
     ensures used { used.new ≡ leaving (λ a. a.length) used.old (preview_call (lent_as rows columns count gap table.now pixels.now) layout.now weights.now (piece_with_turn turn piece) (placement turn x y)) }
-    ensures figures { result.number ≡ 0 → PreviewClaims (lent_as rows columns count gap table.now pixels.now) layout.now weights.now (piece_with_turn turn piece) (placement turn x y) (record { sum = sum.exit.now; length = used.new }) }
+    ensures figures { result.number ≡ 0 → PreviewClaims (lent_as rows columns count gap table.now pixels.now) layout.now weights.now (piece_with_turn turn piece) (placement turn x y) (record { sum = sum.new; length = used.new }) }
 {
     match preview(
         size_of(rows, columns, count, gap),

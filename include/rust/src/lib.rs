@@ -1,6 +1,6 @@
 //! The functions of include/sigbrol.h, declared for Rust: first those that are lent no job or write its table, then the others, in the
 //! header's order. What each does and refuses stands there. `safe` is a safe layer over some of them. A program that calls them links the
-//! archive that `rt staticlib sigbrol` makes (examples/rust/build.rs shows how).
+//! archive that `rt lib` makes in crates/sigbrol (examples/rust/build.rs shows how).
 
 #![no_std]
 

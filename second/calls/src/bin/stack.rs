@@ -1,6 +1,6 @@
 //! Tells how much stack each call of the archive takes, in KB, the most over the job files that are named.
 //!
-//!     SIGBROL_ARCHIVE=$PWD/target/staticlib/libsigbrol.a cargo run --release --offline --quiet \
+//!     SIGBROL_ARCHIVE=$PWD/crates/sigbrol/out/libsigbrol.a cargo run --release --offline --quiet \
 //!         --manifest-path second/calls/Cargo.toml --bin stack jobs/real-*.job jobs/piece-255.job jobs/pixel-one.job
 
 #[path = "../archive.rs"]

@@ -12,7 +12,7 @@
 //! length, the pixels slid, the passes that slid a piece, the used length before and after, and means of CPU time, milliseconds of a compaction
 //! and of the second program's.
 //!
-//!     SIGBROL_ARCHIVE=$PWD/target/staticlib/libsigbrol.a cargo run --release --offline --quiet \
+//!     SIGBROL_ARCHIVE=$PWD/crates/sigbrol/out/libsigbrol.a cargo run --release --offline --quiet \
 //!         --manifest-path second/calls/Cargo.toml --bin times jobs/real-*.job jobs/sheet-columns-4096.job jobs/cut-dust.job
 
 #[path = "../archive.rs"]
