@@ -66,11 +66,13 @@ module _ {A : Type 0} (l : Lent) (es : List (List ℕ)) (a : A) where
   -- the length of the weights is asked behind the job
   pub weights_asked : (ws : List ℕ) (missing : Bool) (rest : List Cause)
       → (l.size.count ≤ piece_bound → missing ≡ not (eqb (length ws) (length (pairs l.size.count))))
-      → unless (job_cause l ∷ layout_length l es ∷ cause wrong_length missing ∷ rest) a ≡ unless (job_cause l ∷ layout_length l es ∷ weights_length l ws ∷ rest) a
+      → unless (job_cause l ∷ layout_length l es ∷ cause wrong_length missing ∷ rest) a
+      ≡ unless (job_cause l ∷ layout_length l es ∷ weights_length l ws ∷ rest) a
   weights_asked ws missing rest h = by_check (lent_well l) refl
     where
       by_check : (b : Bool) → lent_well l ≡ b
-          → unless (job_cause l ∷ layout_length l es ∷ cause wrong_length missing ∷ rest) a ≡ unless (job_cause l ∷ layout_length l es ∷ weights_length l ws ∷ rest) a
+          → unless (job_cause l ∷ layout_length l es ∷ cause wrong_length missing ∷ rest) a
+          ≡ unless (job_cause l ∷ layout_length l es ∷ weights_length l ws ∷ rest) a
       by_check true e = ap (λ b. unless (job_cause l ∷ layout_length l es ∷ cause wrong_length b ∷ rest) a) (h (facts l e).few_pieces)
       by_check false e =
           here_refused not_ours (not (lent_well l)) (layout_length l es ∷ cause wrong_length missing ∷ rest) a (ap not e)

@@ -81,7 +81,8 @@ withdraw_plain j s i = (refl, omega arith, (refl, omega arith, (refl, omega arit
 -- a lay and a withdraw without a cause are in order
 pub lay_order : (j : Job) (s : Sheet) (i : ℕ) (p : Placement) → first_number (lay_causes j s i p) ≡ 0 → LayTaken j s i p
 unfolding called
-lay_order j s i p e = (lay_given j s (lay j s i p) i p (unless_given (lay_causes j s i p) (lay j s i p) (none_there (lay_causes j s i p) (lay_plain j s i p) e))).0
+lay_order j s i p e =
+    (lay_given j s (lay j s i p) i p (unless_given (lay_causes j s i p) (lay j s i p) (none_there (lay_causes j s i p) (lay_plain j s i p) e))).0
 
 pub withdraw_order : (j : Job) (s : Sheet) (i : ℕ) → first_number (withdraw_causes j s i) ≡ 0 → WithdrawTaken j s i
 unfolding called

@@ -68,7 +68,8 @@ pub none_counted : (j : Job) (es : List Entry) (n : ℕ) → CountedBelow j es 0
 none_counted j es n k l = get_or-replicate n k 0 0 (rw (length-replicate {A = ℕ} n 0) at l)
 
 -- one piece more
-pub added_below : (j : Job) (es : List Entry) (i : ℕ) (cs : List ℕ) → i < piece_bound → CountedBelow j es i cs → CountedBelow j es (i + 1) (added_entry j es i cs)
+pub added_below : (j : Job) (es : List Entry) (i : ℕ) (cs : List ℕ) → i < piece_bound → CountedBelow j es i cs
+    → CountedBelow j es (i + 1) (added_entry j es i cs)
 added_below j es i cs few counted k l =
     let l' : k < length cs = rw (length_added j es i cs) at l in
     let so : get_or cs k 0 ≡ sum_below i (λ m. one_if (laid_on j es k m)) = counted k l' in

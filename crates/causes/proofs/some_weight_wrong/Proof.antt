@@ -26,7 +26,8 @@ returns-then-weights-k-gt-WEIGHT_BOUND c =
     let at-loop : tie.At-loop-k invariant-loop-k decreases-loop-k = search in
     let at-start : tie.Start invariant-loop-k decreases-loop-k = search in
     sym (at-loop.loop-k.invariant.1
-    ∙ weight_large at-start.args.weights.now at-loop.loop-k.k in-loop.loop-k-test.true c.if-weights-k-eq0.false (omega (arith, c.if-weights-k-gt-WEIGHT_BOUND.true)))
+    ∙ weight_large at-start.args.weights.now at-loop.loop-k.k in-loop.loop-k-test.true c.if-weights-k-eq0.false
+    (omega (arith, c.if-weights-k-gt-WEIGHT_BOUND.true)))
 
 loop-k-preserved : tie.Need-loop-k-preserved invariant-loop-k decreases-loop-k
 loop-k-preserved c =

@@ -99,7 +99,7 @@ within c =
     let high = at-else2.if-high-at.false in
     let t = r.ensures.touching (omega arith) in
     let w = c.line_with-slot in
-    let h = reach_within l (layout_of a.layout.now) a.sweep.mover a.sweep.track b.result a.k r.result (line c) w.result e.pre.1.1.0
+    let h = reach_within l (layout_of a.layout.now) a.sweep.mover a.sweep.track b.result a.k r.result (line c) w.result e.requires.1.1.0
     (b.ensures a.pixels.now) t (w.ensures.0 _ (b.ensures a.pixels.now)) in
     (omega arith, w.ensures.1.fit.fits)
 
@@ -132,7 +132,7 @@ read c =
     let t = r.ensures.touching (omega arith) in
     let w = c.line_with-slot in
     reach_at l (layout_of a.layout.now) a.sweep.mover a.sweep.track b.result a.k r.result (line c) w.result
-    e.pre.1.1.0 (b.ensures a.pixels.now) t (w.ensures.0 _ (b.ensures a.pixels.now)) a.at low high
+    e.requires.1.1.0 (b.ensures a.pixels.now) t (w.ensures.0 _ (b.ensures a.pixels.now)) a.at low high
 
 returns : tie.Need-returns
 returns c = let at-line-with : tie.After-line_with-slot = search in (read at-line-with, at-line-with.line_with-slot.ensures.1)

@@ -48,7 +48,7 @@ returns c =
     let l = lent_by a.run.size a.table.now a.pixels.now in
     let x = at-renew-others.renew_others in (
       renewed_end (job_of l) (layout_of a.layout.now) a.run.size.count a.mover.piece (on_line a.mover.line a.mover.turn a.at)
-          x.last.1.1.1.1.1.1.1.1.1.1.0
+          x.new.penalties
           (mover_placed l a.layout.now a.mover.piece at-start.requires.1.0 at-start.requires.1.1.0.0) x.ensures.0,
       x.ensures.1,
     )

@@ -53,7 +53,7 @@ returns c =
     let x = y.add_others in (
       c.least_below.ensures
           ∙ ap found_answer
-          (summed_found (lent e) a.weights.now a.layout.now a.wanted.sweep.mover a.wanted.bound x.last.1.1.1.1.1.1.1.1.1.1.0
+          (summed_found (lent e) a.weights.now a.layout.now a.wanted.sweep.mover a.wanted.bound x.new.sums
           e.requires.1.0 e.requires.1.1.0 e.requires.1.1.1.0.piece x.ensures.0),
       x.ensures.1,
     )

@@ -55,7 +55,8 @@ returns c =
     given_answer_lem _ (after_calls (job_of l) (fresh (job_of l)) calls) blank_record a.counts.now left (given_answer c.run_from-sheet.result)
     run.0.run
     (ap (λ (t : Sheet). given_answer (record_of t)) after) (ap (λ (t : Sheet). t.counts) after) in
-    let holds : CoverHolds (job_of l) calls (after_calls (job_of l) (fresh (job_of l)) calls) = demand2_cover (job_of l) (facts l run.0.well).few_pieces calls in
+    let holds : CoverHolds (job_of l) calls (after_calls (job_of l) (fresh (job_of l)) calls) =
+    demand2_cover (job_of l) (facts l run.0.well).few_pieces calls in
     (answer.0, (answer.1, λ so. subst (λ (t : Sheet). CoverHolds (job_of l) calls t) (sym after) holds))
 
 pub run_calls_spec : {M : Type 1} → statement M

@@ -1,8 +1,8 @@
+-- `strip_check::valid` meets its contract. The loop's invariant: every strip passed is well. Assumes nothing.
 use Rattle.list_laws.proofs.Kit.{◌∙◌, ◌≡◌, ap, sym, false≢true, true, ◌-◌, ◌<◌, ◌≤◌, ℕ, arith, below_more, rules}
 use Rattle.list_laws.proofs.Searches.{all_passed, not_all}
 use Rattle.list_laws.proofs.Tests.{and_both, first_fails, second_fails}
 use Rattle.strip_check.proofs.Reading.{read_is, read_whole}
--- `strip_check::valid` meets its contract. The loop's invariant: every strip passed is well. Assumes nothing.
 use Rattle.strip_check.specs.Check.{strip_in, fits_in, well_at, Whole}
 use Rattle.strip_check.proofs.valid.Statement.{statement}
 use Rattle.strip_check.proofs.valid.Tie as tie

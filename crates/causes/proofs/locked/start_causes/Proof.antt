@@ -27,7 +27,9 @@ whole : (p : tie.Else-layout-size) → let first : tie.Else-not-check_job = sear
 whole p = p.if-layout-size.false
 
 -- no locked turn is wrong
-right : (p : tie.Else-some_turn_wrong) → let first : tie.Else-not-check_job = search in locked_turn_wrong (job_of (lent (start first))) (start first).args.layout.now ≡ false
+right : (p : tie.Else-some_turn_wrong) →
+    let first : tie.Else-not-check_job = search in
+    locked_turn_wrong (job_of (lent (start first))) (start first).args.layout.now ≡ false
 right p =
     let first : tie.Else-not-check_job = search in
     let asked : tie.After-some_turn_wrong = search in

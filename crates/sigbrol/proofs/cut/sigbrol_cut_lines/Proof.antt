@@ -23,7 +23,7 @@ outcome s = cut_lines_call (lent s) s.args.layout.now (length s.args.lines.now)
 -- its answer tells that outcome
 answered : (c : tie.After-cut_lines) → let at-start : tie.Start = search in c.cut_lines.result ≡ count_answer (outcome at-start)
 unfolding outcome
-answered c = let sized : tie.After-size_of = search in rw sized.type_size.ensures at c.cut_lines.ensures.0
+answered c = let sized : tie.After-size_of = search in rw sized.size_of.ensures at c.cut_lines.ensures.0
 
 shape_of-lines-in-Number : tie.Need-shape_of-lines-in-Number
 shape_of-lines-in-Number c = let called : tie.After-cut_lines = search in called.cut_lines.auto.lines
@@ -38,10 +38,10 @@ returns-in-Number c =
     let t = count_told o (sym c.in-Number.is ∙ answered called) in (
       c.done.ensures ∙ reply_by (λ ls. length ls) o t,
       (
-        rw sized.type_size.ensures at called.cut_lines.ensures.1.0,
+        rw sized.size_of.ensures at called.cut_lines.ensures.1.0,
         (
           leaves_by (λ ls. length ls) (λ k. k) _ o t,
-          λ zero. rw sized.type_size.ensures at (called.cut_lines.ensures.1.1 _ c.in-Number.is),
+          λ zero. rw sized.size_of.ensures at (called.cut_lines.ensures.1.1 _ c.in-Number.is),
         ),
       ),
     )
@@ -61,7 +61,7 @@ returns-in-Refused c =
     let number = ap (λ (x : Reply). x.number) c.refused.ensures in (
       c.refused.ensures ∙ reply_by (λ ls. length ls) o t,
       (
-        rw sized.type_size.ensures at called.cut_lines.ensures.1.0,
+        rw sized.size_of.ensures at called.cut_lines.ensures.1.0,
         (leaves_by (λ ls. length ls) (λ k. k) _ o t, λ zero. absurd (omega (arith, positive, number, zero))),
       ),
     )

@@ -24,7 +24,7 @@ outcome s = cut_step_call (lent s) s.args.layout.now s.args.pitch s.args.step
 -- its answer tells that outcome
 answered : (c : tie.After-cut_step) → let at-start : tie.Start = search in c.cut_step.result ≡ step_answer (outcome at-start)
 unfolding outcome
-answered c = let sized : tie.After-size_of = search in rw sized.type_size.ensures at c.cut_step.ensures.0
+answered c = let sized : tie.After-size_of = search in rw sized.size_of.ensures at c.cut_step.ensures.0
 
 returns-in-Step : tie.Need-returns-in-Step
 unfolding outcome
@@ -45,7 +45,7 @@ returns-in-Step c =
           (
             put.1.1 ∙ leaves_by (λ a. a) (step_y _) _ o t,
             λ zero.
-                let claims = rw sized.type_size.ensures at (called.cut_step.ensures.1 _ how.in-Step.is) in
+                let claims = rw sized.size_of.ensures at (called.cut_step.ensures.1 _ how.in-Step.is) in
                 (claims.0, rw (put.0, put.1.0, put.1.1, told_back _ _ _) claims.1),
           ),
         ),

@@ -21,7 +21,7 @@ answered : (c : tie.After-set_lock) →
 unfolding outcome
 answered c =
     let at-size-of : tie.After-size_of = search in
-    rw at-size-of.type_size.ensures at c.set_lock.ensures.0
+    rw at-size-of.size_of.ensures at c.set_lock.ensures.0
 
 shape_of-table-in-Done : tie.Need-shape_of-table-in-Done
 shape_of-table-in-Done c =
@@ -36,7 +36,7 @@ returns-in-Done c =
     let at-start : tie.Start = search in
     let o = outcome (at-start) in
     let t = done_told_lem o (sym c.in-Done.is ∙ answered (at-set-lock)) in
-    (c.done.ensures ∙ reply_by (λ v. tt) o t, rw at-size-of.type_size.ensures at at-set-lock.set_lock.ensures.1)
+    (c.done.ensures ∙ reply_by (λ v. tt) o t, rw at-size-of.size_of.ensures at at-set-lock.set_lock.ensures.1)
 
 shape_of-table-in-Refused : tie.Need-shape_of-table-in-Refused
 shape_of-table-in-Refused c =
@@ -51,7 +51,7 @@ returns-in-Refused c =
     let at-start : tie.Start = search in
     let o = outcome (at-start) in
     let t = done_told_lem o (sym c.in-Refused.is ∙ answered (at-set-lock)) in
-    (c.refused.ensures ∙ reply_by (λ v. tt) o t, rw at-size-of.type_size.ensures at at-set-lock.set_lock.ensures.1)
+    (c.refused.ensures ∙ reply_by (λ v. tt) o t, rw at-size-of.size_of.ensures at at-set-lock.set_lock.ensures.1)
 
 pub sigbrol_set_lock_spec : {M : Type 1} → statement M
 sigbrol_set_lock_spec =

@@ -17,7 +17,7 @@ answered : (c : tie.After-check) →
     let at-start : tie.Start = search in
     c.check.result ≡ done_answer (outcome (at-start))
 unfolding outcome
-answered c = rw c.type_size.ensures at c.check.ensures
+answered c = rw c.size_of.ensures at c.check.ensures
 
 size_of-requires : tie.Need-size_of-requires
 size_of-requires c κs = tt

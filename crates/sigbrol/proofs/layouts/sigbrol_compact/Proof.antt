@@ -22,7 +22,7 @@ outcome s = compact_call (lent s) s.args.layout.now
 -- its answer tells that outcome
 answered : (c : tie.After-compact) → let at-start : tie.Start = search in c.compact.result ≡ slid_answer (outcome at-start)
 unfolding outcome
-answered c = let sized : tie.After-size_of = search in rw sized.type_size.ensures at c.compact.ensures.0
+answered c = let sized : tie.After-size_of = search in rw sized.size_of.ensures at c.compact.ensures.0
 
 shape_of-layout-in-Number : tie.Need-shape_of-layout-in-Number
 shape_of-layout-in-Number c = let called : tie.After-compact = search in called.compact.auto.layout
@@ -37,10 +37,10 @@ returns-in-Number c =
     let t = slid_told o (sym c.in-Number.is ∙ answered called) in (
       c.done.ensures ∙ reply_by (λ (a : Compacted). a.slid) o t,
       (
-        rw sized.type_size.ensures at called.compact.ensures.1.0,
+        rw sized.size_of.ensures at called.compact.ensures.1.0,
         (
           leaves_by (λ (a : Compacted). a.slid) (λ k. k) _ o t,
-          λ zero. rw sized.type_size.ensures at (called.compact.ensures.1.1 _ c.in-Number.is),
+          λ zero. rw sized.size_of.ensures at (called.compact.ensures.1.1 _ c.in-Number.is),
         ),
       ),
     )
@@ -60,7 +60,7 @@ returns-in-Refused c =
     let number = ap (λ (x : Reply). x.number) c.refused.ensures in (
       c.refused.ensures ∙ reply_by (λ (a : Compacted). a.slid) o t,
       (
-        rw sized.type_size.ensures at called.compact.ensures.1.0,
+        rw sized.size_of.ensures at called.compact.ensures.1.0,
         (leaves_by (λ (a : Compacted). a.slid) (λ k. k) _ o t, λ zero. absurd (omega (arith, positive, number, zero))),
       ),
     )

@@ -17,7 +17,7 @@ answered : (c : tie.After-plain_sum) →
     let at-start : tie.Start = search in
     c.plain_sum.result ≡ number_answer (outcome (at-start))
 unfolding outcome
-answered c = rw c.type_size.ensures at c.plain_sum.ensures
+answered c = rw c.size_of.ensures at c.plain_sum.ensures
 
 size_of-requires : tie.Need-size_of-requires
 size_of-requires c κs = tt

@@ -25,7 +25,7 @@ answered : (c : tie.After-preview) →
 unfolding outcome
 answered c =
     let at-size-of : tie.After-size_of = search in
-    rw (at-size-of.type_size.ensures, c.piece_with_turn.ensures, c.placement_of.ensures) at c.preview.ensures.0
+    rw (at-size-of.size_of.ensures, c.piece_with_turn.ensures, c.placement_of.ensures) at c.preview.ensures.0
 
 returns-in-Shown : tie.Need-returns-in-Shown
 unfolding outcome
@@ -44,7 +44,7 @@ returns-in-Shown c =
         (
           leaves_by (λ f. f) (λ f. f.length) _ o t,
           λ zero.
-              rw (at-size-of.type_size.ensures, at_piece.piece_with_turn.ensures, at_place.placement_of.ensures) at
+              rw (at-size-of.size_of.ensures, at_piece.piece_with_turn.ensures, at_place.placement_of.ensures) at
               (at-preview.preview.ensures.1 _ at-figures.in-Shown.is),
         ),
       ),

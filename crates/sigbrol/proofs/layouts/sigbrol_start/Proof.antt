@@ -20,7 +20,7 @@ answered : (c : tie.After-start) →
     let at-start : tie.Start = search in
     c.start.result ≡ done_answer (outcome (at-start))
 unfolding outcome
-answered c = rw c.type_size.ensures at c.start.ensures.0
+answered c = rw c.size_of.ensures at c.start.ensures.0
 
 size_of-requires : tie.Need-size_of-requires
 size_of-requires c κs = tt
@@ -55,8 +55,8 @@ returns-in-Done c =
     let t = done_told_lem o (sym c.in-Done.is ∙ answered (at-after-start)) in (
       c.done.ensures ∙ reply_by (λ v. tt) o t,
       (
-        rw at-size-of.type_size.ensures at at-after-start.start.ensures.1.0,
-        λ zero. rw at-size-of.type_size.ensures at (at-after-start.start.ensures.1.1 c.in-Done.is),
+        rw at-size-of.size_of.ensures at at-after-start.start.ensures.1.0,
+        λ zero. rw at-size-of.size_of.ensures at (at-after-start.start.ensures.1.1 c.in-Done.is),
       ),
     )
 
@@ -80,7 +80,7 @@ returns-in-Refused c =
     let number = ap (λ (x : Reply). x.number) c.refused.ensures in (
       c.refused.ensures ∙ reply_by (λ v. tt) o t,
       (
-        rw at-size-of.type_size.ensures at at-after-start.start.ensures.1.0,
+        rw at-size-of.size_of.ensures at at-after-start.start.ensures.1.0,
         λ zero. absurd (omega (arith, positive, number, zero)),
       ),
     )

@@ -19,7 +19,7 @@ answered : (c : tie.After-used_length) →
     let at-start : tie.Start = search in
     c.used_length.result ≡ number_answer (outcome (at-start))
 unfolding outcome
-answered c = rw c.type_size.ensures at c.used_length.ensures.0
+answered c = rw c.size_of.ensures at c.used_length.ensures.0
 
 size_of-requires : tie.Need-size_of-requires
 size_of-requires c κs = tt
@@ -50,7 +50,7 @@ returns-in-Number c =
       c.done.ensures ∙ reply_by (λ k. k) o t,
       (
         leaves_by (λ k. k) (λ k. k) _ o t,
-        λ zero. rw sized.type_size.ensures at (at-used-length.used_length.ensures.1 _ c.in-Number.is),
+        λ zero. rw sized.size_of.ensures at (at-used-length.used_length.ensures.1 _ c.in-Number.is),
       ),
     )
 

@@ -49,7 +49,7 @@ told c =
     let e : to_z w32 (of_z w32 at-start.args.offset) ≡ at-start.args.offset = to_z-of_z w32 at-start.args.offset at-start.ranges.offset in
     subst (λ (z : ℤ). Tells c (outcome at-start z)) e
     (rw (
-      at-size-of.type_size.ensures,
+      at-size-of.size_of-size.ensures,
       at-piece-with-turn.piece_with_turn.ensures,
       at-turn-or-zero.turn_or_zero.ensures,
       at-piece-with-turn2.piece_with_turn-2.ensures,

@@ -19,7 +19,7 @@ answered : (c : tie.After-depth) →
     let at-start : tie.Start = search in
     c.depth.result ≡ number_answer (outcome (at-start))
 unfolding outcome
-answered c = rw (c.type_size.ensures, c.direction_of.ensures) at c.depth.ensures.0
+answered c = rw (c.size_of-size.ensures, c.direction_of.ensures) at c.depth.ensures.0
 
 size_of-size-requires : tie.Need-size_of-size-requires
 size_of-size-requires c κs = tt

@@ -17,7 +17,7 @@ answered : (c : tie.After-penalty) →
     let at-start : tie.Start = search in
     c.penalty.result ≡ number_answer (outcome (at-start))
 unfolding outcome
-answered c = rw c.type_size.ensures at c.penalty.ensures.0
+answered c = rw c.size_of.ensures at c.penalty.ensures.0
 
 size_of-requires : tie.Need-size_of-requires
 size_of-requires c κs = tt

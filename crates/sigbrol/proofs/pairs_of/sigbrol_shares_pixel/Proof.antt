@@ -18,7 +18,7 @@ answered : (c : tie.After-shares_pixel) →
     let at-start : tie.Start = search in
     c.shares_pixel.result ≡ share_answer (outcome (at-start))
 unfolding outcome
-answered c = rw c.type_size.ensures at c.shares_pixel.ensures
+answered c = rw c.size_of.ensures at c.shares_pixel.ensures
 
 size_of-requires : tie.Need-size_of-requires
 size_of-requires c κs = tt

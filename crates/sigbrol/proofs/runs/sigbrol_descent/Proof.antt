@@ -23,7 +23,7 @@ answered : (c : tie.After-descent) →
     let at-start : tie.Start = search in
     c.descent.result ≡ descent_answer (outcome (at-start))
 unfolding outcome
-answered c = let sized : tie.After-size_of = search in rw sized.type_size.ensures at c.descent.ensures.0
+answered c = let sized : tie.After-size_of = search in rw sized.size_of.ensures at c.descent.ensures.0
 
 size_of-requires : tie.Need-size_of-requires
 size_of-requires c κs = tt
@@ -66,9 +66,9 @@ returns-in-Ended c =
     let numbers = put.put_run.ensures in (
       c.done.ensures ∙ reply_by ended_of o t,
       (
-        rw sized.type_size.ensures at called.descent.ensures.1.0,
+        rw sized.size_of.ensures at called.descent.ensures.1.0,
         (
-          rw sized.type_size.ensures at called.descent.ensures.1.1.0,
+          rw sized.size_of.ensures at called.descent.ensures.1.1.0,
           (
             number.end_number.ensures ∙ leaves_by ended_of (λ e. end_number e.end) _ o t,
             (
@@ -80,7 +80,7 @@ returns-in-Ended c =
                   λ zero.
                       rw (numbers.0, numbers.1.0, numbers.1.1)
                       (descent_claimed _ _ _ _ _ _ _ number.end_number.ensures
-                      (rw sized.type_size.ensures at (called.descent.ensures.1.1.1 _ how.in-Ended.is))),
+                      (rw sized.size_of.ensures at (called.descent.ensures.1.1.1 _ how.in-Ended.is))),
                 ),
               ),
             ),
@@ -109,9 +109,9 @@ returns-in-Refused c =
     let number = ap (λ (x : Reply). x.number) c.refused.ensures in (
       c.refused.ensures ∙ reply_by ended_of o t,
       (
-        rw at-size-of.type_size.ensures at at-descent.descent.ensures.1.0,
+        rw at-size-of.size_of.ensures at at-descent.descent.ensures.1.0,
         (
-          rw at-size-of.type_size.ensures at at-descent.descent.ensures.1.1.0,
+          rw at-size-of.size_of.ensures at at-descent.descent.ensures.1.1.0,
           (
             leaves_by ended_of (λ e. end_number e.end) _ o t,
             (

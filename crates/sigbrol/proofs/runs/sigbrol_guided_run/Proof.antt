@@ -24,7 +24,7 @@ answered : (c : tie.After-guided_run) →
 unfolding outcome
 answered c =
     let at-size-of : tie.After-size_of-size = search in
-    rw at-size-of.type_size.ensures at c.guided_run.ensures.0
+    rw at-size-of.size_of-size.ensures at c.guided_run.ensures.0
 
 size_of-size-requires : tie.Need-size_of-size-requires
 size_of-size-requires c κs = tt
@@ -66,11 +66,11 @@ returns-in-Ran c =
     let numbers = put.put_run.ensures in (
       c.done.ensures ∙ reply_by told_run o t,
       (
-        rw sized.type_size.ensures at called.guided_run.ensures.1.0,
+        rw sized.size_of-size.ensures at called.guided_run.ensures.1.0,
         (
-          rw sized.type_size.ensures at called.guided_run.ensures.1.1.0,
+          rw sized.size_of-size.ensures at called.guided_run.ensures.1.1.0,
           (
-            rw sized.type_size.ensures at called.guided_run.ensures.1.1.1.0,
+            rw sized.size_of-size.ensures at called.guided_run.ensures.1.1.1.0,
             (
               numbers.0 ∙ leaves_by told_run (λ r. r.sum) _ o t,
               (
@@ -79,7 +79,7 @@ returns-in-Ran c =
                   numbers.1.1 ∙ leaves_by told_run (λ r. r.moves) _ o t,
                   λ zero.
                       rw (numbers.0, numbers.1.0, numbers.1.1)
-                      (rw sized.type_size.ensures at (called.guided_run.ensures.1.1.1.1 _ how.in-Ran.is)),
+                      (rw sized.size_of-size.ensures at (called.guided_run.ensures.1.1.1.1 _ how.in-Ran.is)),
                 ),
               ),
             ),
@@ -113,11 +113,11 @@ returns-in-Refused c =
     let number = ap (λ (x : Reply). x.number) c.refused.ensures in (
       c.refused.ensures ∙ reply_by told_run o t,
       (
-        rw at-size-of.type_size.ensures at at-guided-run.guided_run.ensures.1.0,
+        rw at-size-of.size_of-size.ensures at at-guided-run.guided_run.ensures.1.0,
         (
-          rw at-size-of.type_size.ensures at at-guided-run.guided_run.ensures.1.1.0,
+          rw at-size-of.size_of-size.ensures at at-guided-run.guided_run.ensures.1.1.0,
           (
-            rw at-size-of.type_size.ensures at at-guided-run.guided_run.ensures.1.1.1.0,
+            rw at-size-of.size_of-size.ensures at at-guided-run.guided_run.ensures.1.1.1.0,
             (
               leaves_by told_run (λ r. r.sum) _ o t,
               (leaves_by told_run (λ r. r.made) _ o t, (leaves_by told_run (λ r. r.moves) _ o t, λ zero. absurd (omega (arith, positive, number, zero)))),

@@ -18,13 +18,13 @@ outcome c =
 
 -- what `fresh` answers
 answered : (c : tie.After-fresh-answer) → c.fresh-answer.result ≡ sheet_answer blank_record (outcome c)
-answered c = rw c.type_size.ensures at c.fresh-answer.ensures.0
+answered c = rw c.size_of.ensures at c.fresh-answer.ensures.0
 
 -- what it leaves in the count buffer
 counted : (c : tie.After-fresh-answer) →
     let at-start : tie.Start = search in
     c.fresh-answer.new.counts ≡ counts_after at-start.args.counts.now (outcome c)
-counted c = rw c.type_size.ensures at c.fresh-answer.ensures.1
+counted c = rw c.size_of.ensures at c.fresh-answer.ensures.1
 
 returns-in-Done : tie.Need-returns-in-Done
 returns-in-Done c =

@@ -28,7 +28,7 @@ answered c =
     let at-read-record : tie.After-read_record = search in
     let at-size-of : tie.After-size_of = search in
     rw (
-      at-size-of.type_size.ensures,
+      at-size-of.size_of.ensures,
       at-read-record.read_record.ensures,
       c.piece_with_turn.ensures,
       c.placement_of.ensures,
@@ -42,7 +42,7 @@ counted c =
     let at-read-record : tie.After-read_record = search in
     let at-size-of : tie.After-size_of = search in
     rw (
-      at-size-of.type_size.ensures,
+      at-size-of.size_of.ensures,
       at-read-record.read_record.ensures,
       c.piece_with_turn.ensures,
       c.placement_of.ensures,

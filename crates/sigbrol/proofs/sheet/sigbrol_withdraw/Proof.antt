@@ -26,7 +26,7 @@ answered : (c : tie.After-withdraw-answer) →
 answered c =
     let at-read-record : tie.After-read_record-sheet = search in
     rw (
-      c.type_size.ensures,
+      c.size_of.ensures,
       at-read-record.read_record-sheet.ensures,
     ) at c.withdraw-answer.ensures.0
 
@@ -37,7 +37,7 @@ counted : (c : tie.After-withdraw-answer) →
 counted c =
     let at-read-record : tie.After-read_record-sheet = search in
     rw (
-      c.type_size.ensures,
+      c.size_of.ensures,
       at-read-record.read_record-sheet.ensures,
     ) at c.withdraw-answer.ensures.1
 

@@ -26,7 +26,7 @@ handed : (c : tie.After-stretch-strips) →
     let at-start : tie.Start = search in
     c.stretch-strips.result.now ≡ part (at-start)
 unfolding part
-handed c = rw (c.type_size.ensures, c.direction_of-direction.ensures) at c.stretch-strips.ensures
+handed c = rw (c.size_of-size.ensures, c.direction_of-direction.ensures) at c.stretch-strips.ensures
 
 -- it is there where it is not empty
 there : (c : tie.Then-length-ne0) →

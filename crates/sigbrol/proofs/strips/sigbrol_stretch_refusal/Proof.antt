@@ -13,7 +13,7 @@ stretch_refusal-requires : tie.Need-stretch_refusal-requires
 stretch_refusal-requires c κs = tt
 
 returns : tie.Need-returns
-returns c = rw (c.type_size.ensures, c.direction_of-direction.ensures) at c.stretch_refusal.ensures
+returns c = rw (c.size_of-size.ensures, c.direction_of-direction.ensures) at c.stretch_refusal.ensures
 
 pub sigbrol_stretch_refusal_spec : {M : Type 1} → statement M
 sigbrol_stretch_refusal_spec = tie.close (tie.spec

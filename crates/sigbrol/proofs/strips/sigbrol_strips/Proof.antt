@@ -24,7 +24,7 @@ answered : (c : tie.After-strips) →
 unfolding outcome lentStores
 answered c =
     let at-size-of : tie.After-size_of-size = search in
-    rw at-size-of.type_size.ensures at c.strips.ensures.0
+    rw at-size-of.size_of-size.ensures at c.strips.ensures.0
 
 -- and so do the stores
 left : (c : tie.After-strips) →
@@ -34,7 +34,7 @@ left : (c : tie.After-strips) →
 unfolding outcome lentStores
 left c =
     let at-size-of : tie.After-size_of-size = search in
-    rw at-size-of.type_size.ensures at c.strips.ensures.1
+    rw at-size-of.size_of-size.ensures at c.strips.ensures.1
 
 size_of-size-requires : tie.Need-size_of-size-requires
 size_of-size-requires c κs = tt

@@ -19,7 +19,7 @@ answered : (c : tie.After-read_layout) →
     let at-start : tie.Start = search in
     c.read_layout.result ≡ done_answer (outcome (at-start))
 unfolding outcome
-answered c = rw c.type_size.ensures at c.read_layout.ensures.0
+answered c = rw c.size_of.ensures at c.read_layout.ensures.0
 
 size_of-requires : tie.Need-size_of-requires
 size_of-requires c κs = tt
@@ -52,7 +52,7 @@ returns-in-Done c =
     let at-start : tie.Start = search in
     let o = outcome (at-start) in
     let t = done_told_lem o (sym c.in-Done.is ∙ answered (at-read-layout)) in
-    (c.done.ensures ∙ reply_by (λ v. tt) o t, rw at-size-of.type_size.ensures at at-read-layout.read_layout.ensures.1)
+    (c.done.ensures ∙ reply_by (λ v. tt) o t, rw at-size-of.size_of.ensures at at-read-layout.read_layout.ensures.1)
 
 shape_of-layout-in-Refused : tie.Need-shape_of-layout-in-Refused
 shape_of-layout-in-Refused c =
@@ -67,7 +67,7 @@ returns-in-Refused c =
     let at-start : tie.Start = search in
     let o = outcome (at-start) in
     let t = done_told_lem o (sym c.in-Refused.is ∙ answered (at-read-layout)) in
-    (c.refused.ensures ∙ reply_by (λ v. tt) o t, rw at-size-of.type_size.ensures at at-read-layout.read_layout.ensures.1)
+    (c.refused.ensures ∙ reply_by (λ v. tt) o t, rw at-size-of.size_of.ensures at at-read-layout.read_layout.ensures.1)
 
 pub sigbrol_read_layout_spec : {M : Type 1} → statement M
 sigbrol_read_layout_spec =

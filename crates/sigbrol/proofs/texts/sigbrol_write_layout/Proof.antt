@@ -18,7 +18,7 @@ answered : (c : tie.After-write_layout) →
     let at-start : tie.Start = search in
     c.write_layout.result ≡ count_answer (outcome (at-start))
 unfolding outcome
-answered c = rw c.type_size.ensures at c.write_layout.ensures.0
+answered c = rw c.size_of.ensures at c.write_layout.ensures.0
 
 size_of-requires : tie.Need-size_of-requires
 size_of-requires c κs = tt
@@ -52,7 +52,7 @@ returns-in-Number c =
     let o = outcome (at-start) in
     let t = count_told o (sym c.in-Number.is ∙ answered (at-write-layout)) in (
       c.done.ensures ∙ reply_by (λ text. length text) o t,
-      (rw at-size-of.type_size.ensures at at-write-layout.write_layout.ensures.1, leaves_by (λ text. length text) (λ k. k) _ o t),
+      (rw at-size-of.size_of.ensures at at-write-layout.write_layout.ensures.1, leaves_by (λ text. length text) (λ k. k) _ o t),
     )
 
 shape_of-text-in-Refused : tie.Need-shape_of-text-in-Refused
@@ -69,7 +69,7 @@ returns-in-Refused c =
     let o = outcome (at-start) in
     let t = count_told o (sym c.in-Refused.is ∙ answered (at-write-layout)) in (
       c.refused.ensures ∙ reply_by (λ text. length text) o t,
-      (rw at-size-of.type_size.ensures at at-write-layout.write_layout.ensures.1, leaves_by (λ text. length text) (λ k. k) _ o t),
+      (rw at-size-of.size_of.ensures at at-write-layout.write_layout.ensures.1, leaves_by (λ text. length text) (λ k. k) _ o t),
     )
 
 pub sigbrol_write_layout_spec : {M : Type 1} → statement M
