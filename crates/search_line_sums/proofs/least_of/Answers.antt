@@ -13,7 +13,7 @@ loop-a-preserved c =
     let p = c.loop-a in (
       omega arith,
       elim c.if-sums-a.branch [
-        then-sums-a w ↦ rw (w.low-is, w.at-is) (scan_lower a.sums.now a.bound p.low p.at p.a p.invariant.1 w.if-sums-a.true)
+        | then-sums-a w ↦ rw (w.low-is, w.at-is) (scan_lower a.sums.now a.bound p.low p.at p.a p.invariant.1 w.if-sums-a.true)
         | else-sums-a w ↦ rw (w.low-is, w.at-is) (scan_keep a.sums.now a.bound p.low p.at p.a p.invariant.1 w.if-sums-a.false)
       ],
     )

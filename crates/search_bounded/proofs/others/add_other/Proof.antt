@@ -1,6 +1,6 @@
 -- `search_bounded::others::add_other` meets its contract: the piece itself has no part, one that reaches no place below the bound may be left out, and
 -- another's part is added. Assumes nothing.
-use Rattle.list_laws.proofs.Kit.{◌∙◌, ◌≢◌, refl, sym, ◌-◌, ◌<◌, ◌≤◌, arith, length, rules, not-true}
+use Rattle.list_laws.proofs.Kit.{◌∙◌, ◌≢◌, refl, sym, ◌-◌, ◌<◌, ◌≤◌, arith, length, rules}
 use Rattle.model.specs.Layout.{Layout}
 use Rattle.model.specs.Lent.{Lent, lent_by, job_of}
 use Rattle.model.specs.Buffer.{layout_of}
@@ -95,7 +95,7 @@ returns-then-not-any_below c =
     let b = (stood r).beside-standing in (
       summed_unread (lent e) a.weights.now (laidOut e) a.wanted.sweep.mover a.wanted.sweep.track b.result a.wanted.bound a.k
           r.reach_of-reach.result a.sums.now e.requires.1.1.1.0 (b.ensures a.pixels.now) r.reach_of-reach.ensures e.requires.1.1.1.1.1
-          (r.reach_of-reach.result.high - r.reach_of-reach.result.low) refl (within r) (sym (not-true _ c.if-not-any_below.true) ∙ c.before.any_below.ensures),
+          (r.reach_of-reach.result.high - r.reach_of-reach.result.low) refl (within r) (sym c.if-not-any_below.true ∙ c.before.any_below.ensures),
       e.requires.0,
     )
 

@@ -15,8 +15,8 @@ use Rattle.search_bounded.proofs.others.add_others.Tie as tie
 abbrev invariant-loop-left : tie.invariant-loop-left
 invariant-loop-left run table pixels strips starts layout weights wanted lines₀ maps₀ sums₀ left₀ lines maps sums left =
     (length lines ≡ length lines₀) × (length maps ≡ length maps₀) × (length sums ≡ length sums₀)
-    × Adding (job_of (lent_by run.size-1 table pixels)) weights (layout_of layout) wanted.sweep.mover wanted.bound run.size-1.count left sums
-    × LinesReady (lent_by run.size-1 table pixels) run strips starts lines maps
+    × Adding (job_of (lent_by run.size table pixels)) weights (layout_of layout) wanted.sweep.mover wanted.bound run.size.count left sums
+    × LinesReady (lent_by run.size table pixels) run strips starts lines maps
 
 abbrev decreases-loop-left : tie.decreases-loop-left
 decreases-loop-left run table pixels strips starts layout weights wanted lines₀ maps₀ sums₀ left₀ lines maps sums left = left
