@@ -30,7 +30,7 @@ unfolding outcome line
 answered c =
     let at-piece-with-turn : tie.After-piece_with_turn = search in
     let at-size-of : tie.After-size_of-size = search in
-    rw (at-size-of.size_of-size.ensures, at-piece-with-turn.piece_with_turn.ensures, c.turn_or_zero.ensures, c.Line-of.ensures) at
+    rw (at-size-of.size_of-size.ensures, at-piece-with-turn.piece_with_turn.ensures, c.turn_or_zero.ensures, c.line_of.ensures) at
     c.line_search.ensures
 
 size_of-size-requires : tie.Need-size_of-size-requires
